@@ -1,0 +1,65 @@
+-- Whatever follows a message isn't looked at, in either form.
+use Rattle.std.proofs.Common.{◌≡◌, ℕ, ◌+◌, ◌*◌, ◌/◌, leb, ltb, List, [], ◌∷◌, ◌++◌, take, sum, Ok, ap, sym, ◌∙◌}
+use Rattle.std.proofs.lemmas.List.{append_cancel_right}
+use Rattle.capnp_model.specs.Kinds.{InvalidNumberOfSegments, MessageTooLarge}
+use Rattle.capnp_model.specs.Chains.{guard}
+use Rattle.capnp_model.specs.Segments.{Segments}
+use Rattle.capnp_model.specs.Bytes.{taken}
+use Rattle.capnp_model.specs.Packing.{first, unpacked}
+use Rattle.capnp_model.specs.Messages.{Reader, plain_words, halves, behind_lengths, behind_first, message_at, frame_at, packed_at}
+use Rattle.capnp_model.specs.Spelling.{Spells}
+use Rattle.capnp_model.proofs.Chaining.{ok_then, ok_is, bind_ok}
+use Rattle.capnp_model.proofs.PackedPrefixes.{taken_more, unpacked_from_more}
+
+-- A reader that doesn't look behind what it reads.
+abbrev pub LooksNoFurther : Reader → Type 0
+LooksNoFurther read = (n : ℕ) (b : List ℕ) (r : List ℕ × List ℕ) (x : List ℕ) → read n b ≡ Ok r → read n (b ++ x) ≡ Ok (r.0, r.1 ++ x)
+
+plain_words_more : LooksNoFurther plain_words
+plain_words_more n b r x e =
+    let t = bind_ok (taken (8 * n) b) _ r e in
+    ok_then _ _ _ _ (taken_more (8 * n) b t.0 x t.1) (ap (λ (p : List ℕ × List ℕ). Ok (p.0, p.1 ++ x)) (ok_is _ r t.2))
+
+unpacked_more : LooksNoFurther unpacked
+unpacked_more n b r x e = unpacked_from_more n x first b r e
+
+module _ (read : Reader) (h : LooksNoFurther read) (limit : ℕ) (x : List ℕ) where
+  lengths_more : (ns b : List ℕ) (r : Segments × List ℕ) → behind_lengths read limit ns b ≡ Ok r → behind_lengths read limit ns (b ++ x) ≡ Ok (r.0, r.1 ++ x)
+  lengths_more ns b r e =
+      let g = bind_ok (guard (leb (sum ns) limit) MessageTooLarge) _ r e in
+      let t = bind_ok (read (sum ns) b) _ r g.2 in
+      ok_then _ _ g.0 _ g.1 (ok_then _ _ _ _ (h (sum ns) b t.0 x t.1) (ap (λ (p : Segments × List ℕ). Ok (p.0, p.1 ++ x)) (ok_is _ r t.2)))
+
+  first_more : (w b : List ℕ) (r : Segments × List ℕ) → behind_first read limit w b ≡ Ok r → behind_first read limit w (b ++ x) ≡ Ok (r.0, r.1 ++ x)
+  first_more [] b r e = absurd cc
+  first_more (n ∷ l) b r e =
+      let g = bind_ok (guard (ltb n 511) InvalidNumberOfSegments) _ r e in
+      let t = bind_ok (read ((n + 1) / 2) b) _ r g.2 in
+      ok_then _ _ g.0 _ g.1 (ok_then _ _ _ _ (h ((n + 1) / 2) b t.0 x t.1) (lengths_more (take (n + 1) (l ++ halves t.0.0)) t.0.1 r t.2))
+
+  message_more : (b : List ℕ) (r : Segments × List ℕ) → message_at read limit b ≡ Ok r → message_at read limit (b ++ x) ≡ Ok (r.0, r.1 ++ x)
+  unfolding message_at
+  message_more b r e =
+      let t = bind_ok (read 1 b) _ r e in
+      ok_then _ _ _ _ (h 1 b t.0 x t.1) (first_more (halves t.0.0) t.0.1 r t.2)
+
+pub framed_at_more : (limit : ℕ) (b : List ℕ) (r : Segments × List ℕ) (x : List ℕ) → frame_at limit b ≡ Ok r → frame_at limit (b ++ x) ≡ Ok (r.0, r.1 ++ x)
+framed_at_more limit b r x e = message_more plain_words plain_words_more limit x b r e
+
+pub packed_at_more : (limit : ℕ) (b : List ℕ) (r : Segments × List ℕ) (x : List ℕ) → packed_at limit b ≡ Ok r → packed_at limit (b ++ x) ≡ Ok (r.0, r.1 ++ x)
+packed_at_more limit b r x e = message_more unpacked unpacked_more limit x b r e
+
+one_text : (read : Reader) → LooksNoFurther read → (limit : ℕ) (b c : List ℕ) (s u : Segments) (x y : List ℕ) → Spells read limit b s → Spells read limit c u → b ++ x ≡ c ++ y → (b ≡ c) × (s ≡ u)
+one_text read h limit b c s u x y eb ec e =
+    let one : message_at read limit (b ++ x) ≡ Ok (s, x) = message_more read h limit x b (s, []) eb in
+    let two : message_at read limit (c ++ y) ≡ Ok (u, y) = message_more read h limit y c (u, []) ec in
+    let both : (s, x) ≡ (u, y) = ok_is (s, x) (u, y) (sym one ∙ ap (message_at read limit) e ∙ two) in
+    let same : x ≡ y = ap (λ (p : Segments × List ℕ). p.1) both in
+    (append_cancel_right b c x (e ∙ ap (λ (z : List ℕ). c ++ z) (sym same)), ap (λ (p : Segments × List ℕ). p.0) both)
+
+-- THE LAWS: no framed text begins another, no packed text another.
+pub one_framed_text : (limit : ℕ) (b c : List ℕ) (s u : Segments) (x y : List ℕ) → Spells plain_words limit b s → Spells plain_words limit c u → b ++ x ≡ c ++ y → (b ≡ c) × (s ≡ u)
+one_framed_text = one_text plain_words plain_words_more
+
+pub one_packed_text : (limit : ℕ) (b c : List ℕ) (s u : Segments) (x y : List ℕ) → Spells unpacked limit b s → Spells unpacked limit c u → b ++ x ≡ c ++ y → (b ≡ c) × (s ≡ u)
+one_packed_text = one_text unpacked unpacked_more

@@ -1,0 +1,64 @@
+-- Messages on a stream, in both forms: what differs is how words are read from bytes. (Encoding, "Serialization Over a Stream")
+use Rattle.std.specs.Prelude.{ℕ, ◌+◌, ◌*◌, ◌/◌, ◌%◌, ◌^◌, nat_lt, nat_le, List, [], ◌∷◌, ◌++◌, length, map, take, drop, sum, Result, Ok, Err}
+use Rattle.std.specs.List.{flat_map}
+use Rattle.capnp_model.specs.Kinds.{Kind, InvalidNumberOfSegments, MessageTooLarge}
+use Rattle.capnp_model.specs.Chains.{◌and_then◌, guard}
+use Rattle.capnp_model.specs.Segments.{Segments}
+use Rattle.capnp_model.specs.Bytes.{words_in_bytes, taken}
+use Rattle.capnp_model.specs.Packing.{unpacked}
+
+-- Reads so many words, a piece, from the front of bytes, and gives the bytes behind.
+abbrev pub Reader : Type 0
+Reader = ℕ → List ℕ → Result (List ℕ × List ℕ) Kind
+
+-- Words as they are.
+abbrev pub plain_words : Reader
+plain_words n bytes = taken (8 * n) bytes and_then λ x. Ok (words_in_bytes n x.0, x.1)
+
+-- The numbers of 32 bits that words hold.
+abbrev pub halves : List ℕ → List ℕ
+halves [] = []
+halves (w ∷ ws) = w % 2 ^ 32 ∷ w / 2 ^ 32 ∷ halves ws
+
+-- Segments of these lengths, one after the other.
+abbrev pub cut : List ℕ → List ℕ → Segments
+cut [] words = []
+cut (n ∷ ns) words = take n words ∷ cut ns (drop n words)
+
+-- What lies behind the table: segments of these lengths.
+abbrev pub behind_lengths : Reader → ℕ → List ℕ → List ℕ → Result (Segments × List ℕ) Kind
+behind_lengths read limit lengths bytes =
+    guard (nat_le (sum lengths) limit) MessageTooLarge and_then λ _. read (sum lengths) bytes and_then λ x. Ok (cut lengths x.0, x.1)
+
+-- What lies behind the first word, which holds the count less one and the first length.
+abbrev pub behind_first : Reader → ℕ → List ℕ → List ℕ → Result (Segments × List ℕ) Kind
+behind_first read limit [] bytes = Err InvalidNumberOfSegments
+behind_first read limit (less_one ∷ first_length) bytes =
+    guard (nat_lt less_one 511) InvalidNumberOfSegments and_then λ _. read ((less_one + 1) / 2) bytes and_then λ others. behind_lengths read limit (take (less_one + 1) (first_length ++ halves others.0)) others.1
+
+-- The segments of the message at the front of bytes, and the bytes behind it; else the kind of the first part that can't be read.
+unfoldable pub message_at : Reader → ℕ → List ℕ → Result (Segments × List ℕ) Kind
+message_at read limit bytes = read 1 bytes and_then λ first. behind_first read limit (halves first.0) first.1
+
+-- A framed message.
+abbrev pub frame_at : ℕ → List ℕ → Result (Segments × List ℕ) Kind
+frame_at limit = message_at plain_words limit
+
+-- A packed message.
+abbrev pub packed_at : ℕ → List ℕ → Result (Segments × List ℕ) Kind
+packed_at limit = message_at unpacked limit
+
+-- Writes words, a piece.
+abbrev pub Writer : Type 0
+Writer = List ℕ → List ℕ
+
+-- Numbers of 32 bits, two in a word, the last with a zero.
+abbrev pub paired : List ℕ → List ℕ
+paired [] = []
+paired (a ∷ []) = a ∷ []
+paired (a ∷ b ∷ ns) = (a + 2 ^ 32 * b) ∷ paired ns
+
+-- The written message, piece by piece: the table's first word, the rest of the table, each segment.
+abbrev pub spelled : Writer → Segments → List ℕ
+spelled write [] = []
+spelled write (x ∷ xs) = write ((length xs + 2 ^ 32 * length x) ∷ []) ++ (write (paired (map length xs)) ++ flat_map write (x ∷ xs))

@@ -1,0 +1,62 @@
+-- What a relay makes of a stream of messages.
+use Rattle.std.specs.Prelude.{ℕ, ◌+◌, ◌≡◌, List, [], ◌∷◌, ◌++◌, Ok, Err, codes, decimal}
+use Rattle.std.specs.List.{flat_map}
+use Rattle.capnp_model.specs.Kinds.{Kind, kind_name}
+use Rattle.capnp_model.specs.Segments.{Segments}
+use Rattle.capnp_model.specs.Messages.{Reader, Writer, message_at, spelled}
+use Rattle.capnp_model.specs.Answers.{Reply, reply_text, reply_done, reply_refused, Answer, refused_value, refused_root, refused_depth, written}
+
+-- The text of a reply.
+abbrev pub reply_words : Reply → List ℕ
+reply_words (reply_text t) = t
+reply_words reply_done = codes "done"
+reply_words (reply_refused k) = codes "refused " ++ kind_name k
+
+-- What a log line says of an answer.
+abbrev pub answer_words : Answer → List ℕ
+answer_words refused_value = codes "refused: value"
+answer_words refused_root = codes "refused: root"
+answer_words refused_depth = codes "refused: depth"
+answer_words (written words replies) = codes "written" ++ flat_map (λ r. codes "; " ++ reply_words r) replies
+
+-- The log line of the answer to message n.
+abbrev pub line_of : ℕ → Answer → List ℕ
+line_of n a = codes "message " ++ (decimal n ++ (codes " " ++ (answer_words a ++ codes "\n")))
+
+-- What goes out for an answer: the written segment as one message, in the form of the writer.
+abbrev pub output_of : Writer → Answer → List ℕ
+output_of write (written words replies) = spelled write (words ∷ [])
+output_of write _ = []
+
+-- What goes out for messages.
+abbrev pub outputs_of : Writer → (Segments → Answer) → List Segments → List ℕ
+outputs_of write answers messages = flat_map (λ s. output_of write (answers s)) messages
+
+-- What is logged of messages, the first of which is message n.
+abbrev pub lines_of : (Segments → Answer) → ℕ → List Segments → List ℕ
+lines_of answers n [] = []
+lines_of answers n (s ∷ messages) = line_of n (answers s) ++ lines_of answers (n + 1) messages
+
+-- Bytes begin with these messages, whose lengths keep the limit, and then the rest.
+abbrev pub BeginWith : Reader → ℕ → List ℕ → List Segments → List ℕ → Type 0
+BeginWith read limit bytes [] rest = bytes ≡ rest
+BeginWith read limit bytes (s ∷ messages) rest = (more : List ℕ) × (message_at read limit bytes ≡ Ok (s, more)) × BeginWith read limit more messages rest
+
+-- How a run ends.
+pub data End : Type 0 where
+  finished : End
+  broken : Kind → End
+
+-- The bytes behind the answered messages end a run.
+abbrev pub EndsBy : Reader → ℕ → List ℕ → End → Type 0
+EndsBy read limit rest finished = rest ≡ []
+EndsBy read limit rest (broken kind) = (rest ≡ [] → ⊥) × (message_at read limit rest ≡ Err kind)
+
+-- Bytes go to what is written, what is logged and how the run ends.
+pub record IsRun (read : Reader) (write : Writer) (limit : ℕ) (answers : Segments → Answer) (bytes output log : List ℕ) (end : End) : Type 0 where
+  pub messages : List Segments
+  pub rest : List ℕ
+  pub begins : BeginWith read limit bytes messages rest
+  pub writes : output ≡ outputs_of write answers messages
+  pub logs : log ≡ lines_of answers 1 messages
+  pub ends : EndsBy read limit rest end

@@ -1,0 +1,113 @@
+//! Laws of the definitions, each the contract of a function that does nothing.
+
+ghost use Rattle.std.specs.Prelude.{◌≡◌, ℕ, ◌+◌, ◌*◌, ◌^◌, ◌<◌, ◌≤◌, ◌⊎◌, Bool, true, false, List, [], ◌∷◌, ◌++◌, length, Some, Ok, bit_xor};
+ghost use Rattle.std.specs.List.{AllByRecursion};
+ghost use Rattle.capnp_model.specs.Sections.{bits_at, with_bits, words_of, section_of};
+ghost use Rattle.capnp_model.specs.Segments.{Segments, Place, root};
+ghost use Rattle.capnp_model.specs.Trees.{Tree, depth};
+ghost use Rattle.capnp_model.specs.Trimming.{trim};
+ghost use Rattle.capnp_model.specs.Traversal.{tree_at, cost_at};
+ghost use Rattle.capnp_model.specs.Coverage.{covered, Keeps};
+ghost use Rattle.capnp_model.specs.Encoding.{body, canonical_words};
+ghost use Rattle.capnp_model.specs.Fits.{Fits};
+ghost use Rattle.capnp_model.specs.Bytes.{bytes_of_words};
+ghost use Rattle.capnp_model.specs.Packing.{packed, unpacked};
+ghost use Rattle.capnp_model.specs.Messages.{plain_words, frame_at, packed_at, spelled};
+ghost use Rattle.capnp_model.specs.Schemas.{struct, Node, Schema};
+ghost use Rattle.capnp_model.specs.Readings.{Record, record_of};
+ghost use Rattle.capnp_model.specs.Printing.{fields_in};
+ghost use Rattle.capnp_model.specs.Steps.{done, step};
+ghost use Rattle.capnp_model.specs.Edits.{edit};
+ghost use Rattle.capnp_model.specs.NamedPaths.{IsInRange, IsOpen, GoesByNames};
+ghost use Rattle.capnp_model.specs.Accepted.{IsAccepted, schema_of};
+ghost use Rattle.capnp_model.specs.Compatible.{IsCompatible};
+ghost use Rattle.capnp_model.specs.Projection.{projected};
+ghost use Rattle.capnp_model.specs.InKind.{in_kind};
+ghost use Rattle.capnp_model.specs.Calls.{Call};
+ghost use Rattle.capnp_model.specs.Answers.{Limits, value_within, answer};
+ghost use Rattle.capnp_model.specs.Spelling.{AreWords, CanSpell, Spells};
+
+/// A number written into a data section is read back, and numbers that share no bit with it stay.
+pub fn numbers_in_sections()
+    ensures same { (at width value section : ℕ) → value < 2 ^ width → bits_at at width (with_bits at width value section) ≡ value }
+    ensures beside { (at width value section a n : ℕ) → value < 2 ^ width → ((at + width ≤ a) ⊎ (a + n ≤ at)) → bits_at a n (with_bits at width value section) ≡ bits_at a n section }
+    ensures within { (at width value section size : ℕ) → value < 2 ^ width → at + width ≤ size → section < 2 ^ size → with_bits at width value section < 2 ^ size }
+    ensures masked { (n d : ℕ) → bit_xor (bit_xor n d) d ≡ n }
+{}
+
+/// A section is the one of its words.
+pub fn sections_are_words()
+    ensures { (n section : ℕ) → section < 2 ^ (64 * n) → section_of (words_of n section) ≡ section }
+{}
+
+/// What is read keeps the nesting limit, is the same under any other that its depth keeps, and fits its spelling.
+pub fn values_that_are_read()
+    ensures deep { (n : ℕ) (s : Segments) (p : Place) (t : Tree) → tree_at n s p ≡ Some t → depth t ≤ n }
+    ensures levels { (n m : ℕ) (s : Segments) (p : Place) (t : Tree) → tree_at n s p ≡ Some t → depth t ≤ m → tree_at m s p ≡ Some t }
+    ensures fits { (n : ℕ) (s : Segments) (p : Place) (t : Tree) → tree_at n s p ≡ Some t → Fits t }
+{}
+
+/// Segments that keep what a value covers keep the value.
+pub fn values_stay_where_their_words_stay()
+    ensures { (n : ℕ) (s u : Segments) (p : Place) (t : Tree) → AllByRecursion (Keeps s u) (covered n s p) → tree_at n s p ≡ Some t → tree_at n u p ≡ Some t }
+{}
+
+/// Trimming twice is trimming once; a trimmed value fits and is no deeper.
+pub fn trimmed_values()
+    ensures again { (t : Tree) → trim (trim t) ≡ trim t }
+    ensures fits { (t : Tree) → Fits t → Fits (trim t) }
+    ensures depth { (t : Tree) → depth (trim t) ≤ depth t }
+{}
+
+/// The words of a value mean the value, so equal words are those of equal values.
+pub fn words_mean_their_value()
+    ensures means { (t : Tree) (n : ℕ) → Fits t → depth t ≤ n → length (canonical_words t) ≤ 2 ^ 29 → tree_at n (canonical_words t ∷ []) root ≡ Some t }
+    ensures equal { (t u : Tree) → Fits t → Fits u → length (canonical_words t) ≤ 2 ^ 29 → canonical_words t ≡ canonical_words u → t ≡ u }
+{}
+
+/// A value has no more words than following it costs, and its canonical words mean the trimmed value.
+pub fn canonical_messages()
+    ensures size { (n : ℕ) (s : Segments) (p : Place) (t : Tree) → tree_at n s p ≡ Some t → length (body t) ≤ cost_at n s p }
+    ensures trimmed_size { (n : ℕ) (s : Segments) (p : Place) (t : Tree) → tree_at n s p ≡ Some t → length (canonical_words (trim t)) ≤ cost_at n s p + 1 }
+    ensures means { (n : ℕ) (s : Segments) (p : Place) (t : Tree) → tree_at n s p ≡ Some t → cost_at n s p < 2 ^ 29 → tree_at n (canonical_words (trim t) ∷ []) root ≡ Some (trim t) }
+    ensures equal { (n : ℕ) (s u : Segments) (p q : Place) (t v : Tree) → tree_at n s p ≡ Some t → tree_at n u q ≡ Some v → cost_at n s p < 2 ^ 29 → canonical_words (trim t) ≡ canonical_words (trim v) → trim t ≡ trim v }
+{}
+
+/// Unpacking what is packed gives the words, and takes just their bytes.
+pub fn packed_words()
+    ensures { (ws rest : List ℕ) → AreWords ws → unpacked (length ws) (packed ws ++ rest) ≡ Ok (ws, rest) }
+{}
+
+/// A written message is read, whatever follows it.
+pub fn written_messages()
+    ensures framed { (limit : ℕ) (s : Segments) (rest : List ℕ) → CanSpell limit s → frame_at limit (spelled bytes_of_words s ++ rest) ≡ Ok (s, rest) }
+    ensures packed { (limit : ℕ) (s : Segments) (rest : List ℕ) → CanSpell limit s → packed_at limit (spelled packed s ++ rest) ≡ Ok (s, rest) }
+{}
+
+/// Bytes behind a message change nothing of it, and no message begins another.
+pub fn texts_of_messages()
+    ensures framed_more { (limit : ℕ) (b : List ℕ) (r : Segments × List ℕ) (x : List ℕ) → frame_at limit b ≡ Ok r → frame_at limit (b ++ x) ≡ Ok (r.0, r.1 ++ x) }
+    ensures packed_more { (limit : ℕ) (b : List ℕ) (r : Segments × List ℕ) (x : List ℕ) → packed_at limit b ≡ Ok r → packed_at limit (b ++ x) ≡ Ok (r.0, r.1 ++ x) }
+    ensures one_framed { (limit : ℕ) (b c : List ℕ) (s u : Segments) (x y : List ℕ) → Spells plain_words limit b s → Spells plain_words limit c u → b ++ x ≡ c ++ y → (b ≡ c) × (s ≡ u) }
+    ensures one_packed { (limit : ℕ) (b c : List ℕ) (s u : Segments) (x y : List ℕ) → Spells unpacked limit b s → Spells unpacked limit c u → b ++ x ≡ c ++ y → (b ≡ c) × (s ≡ u) }
+{}
+
+/// The record under an older schema is the older view of the record under a compatible newer one.
+pub fn older_records()
+    ensures { (nodes newer_nodes : List Node) (older newer : ℕ) (t : Tree) → IsAccepted nodes → IsCompatible (schema_of nodes) (schema_of newer_nodes) older newer → record_of (schema_of nodes) older t ≡ projected (schema_of nodes) older (record_of (schema_of newer_nodes) newer t) }
+{}
+
+/// A trimmed value has the record of the value, where lists are in kind.
+pub fn records_of_trimmed_values()
+    ensures { (s : Schema) (id : ℕ) (t : Tree) → in_kind s t (struct id) ≡ true → record_of s id (trim t) ≡ record_of s id t }
+{}
+
+/// Messages within the limits with equal trimmed values are answered alike.
+pub fn answers_to_equal_values()
+    ensures { (s : Schema) (quoted : List ℕ → List ℕ) (id : ℕ) (calls : List Call) (limits : Limits) (a b : Segments) (t u : Tree) → value_within limits a ≡ Some t → value_within limits b ≡ Some u → trim t ≡ trim u → answer s quoted id calls limits a ≡ answer s quoted id calls limits b }
+{}
+
+/// The record of an edited value is what the record machine makes of the record, for calls along names that end at a slot.
+pub fn records_of_edited_values()
+    ensures { (nodes : List Node) → IsAccepted nodes → (id : ℕ) → (schema_of nodes).is_group id ≡ false → (c : Call) → IsInRange c.verb → GoesByNames (schema_of nodes) (fields_in ((schema_of nodes).shape_of id)) c.path → (t : Tree) → IsOpen t → (r : Record) → step (schema_of nodes) id c (record_of (schema_of nodes) id t) ≡ done r → record_of (schema_of nodes) id (edit (schema_of nodes) id c t) ≡ r }
+{}
