@@ -37,7 +37,7 @@ module _ (o n : Schema) (R : ℕ → ℕ → Type 0) where
 
   mutual
     pub data KeptShape : Shape → Shape → Type 0 where
-      kept : {w p w' p' : ℕ} {u u' : Option ℕ} {fs fs' : Fields} → KeptFields u u' fs fs' → KeptShape (shape w p u fs) (shape w' p' u' fs')
+      kept : {nid nid' w p w' p' : ℕ} {u u' : Option ℕ} {fs fs' : Fields} → KeptFields u u' fs fs' → KeptShape (shape nid w p u fs) (shape nid' w' p' u' fs')
 
     pub data KeptFields : Option ℕ → Option ℕ → Fields → Fields → Type 0 where
       kept_all : {u u' : Option ℕ} → KeptFields u u' no_fields no_fields
@@ -45,7 +45,7 @@ module _ (o n : Schema) (R : ℕ → ℕ → Type 0) where
       kept_field : {u u' : Option ℕ} {fs fs' : Fields} {l l' : List ℕ} {m : Option ℕ} {b b' : Body} → bytes_eq l l' ≡ true → SameActive u u' m → KeptBody b b' → KeptFields u u' fs fs' → KeptFields u u' (field l m b fs) (field l' m b' fs')
 
     pub data KeptBody : Body → Body → Type 0 where
-      kept_void : KeptBody void_slot void_slot
+      kept_void : {j : ℕ} → KeptBody (void_slot j) (void_slot j)
       kept_plain : {p q : PlainType} {at d : ℕ} → SamePlain p q → KeptBody (plain_slot p at d) (plain_slot q at d)
       kept_pointer : {i : ℕ} {ty ty' : Ty} {d d' : Option Tree} → Related ty ty' → KeptBody (pointer_slot i ty d) (pointer_slot i ty' d')
       kept_group : {g g' : Shape} → KeptShape g g' → KeptBody (group_slot g) (group_slot g')

@@ -28,7 +28,7 @@ mutual
   unfolding shape_record shape_in_kind
 
   shape_record-alike : (g : Shape) (section : ℕ) (k : Kinds) (a b : Children) → Alike k a b → shape_in_kind g section k ≡ true → shape_record g whole_words section a ≡ shape_record g whole_words section b
-  shape_record-alike (shape w p u fs) section k a b same h = fields_of-alike fs (discriminant u whole_words section) section k a b same h
+  shape_record-alike (shape nid w p u fs) section k a b same h = fields_of-alike fs (discriminant u whole_words section) section k a b same h
 
   fields_of-alike : (fs : Fields) (d : Option ℕ) (section : ℕ) (k : Kinds) (a b : Children) → Alike k a b → fields_in_kind fs d section k ≡ true → fields_of fs d whole_words section a ≡ fields_of fs d whole_words section b
   fields_of-alike no_fields d section k a b same h = refl
@@ -39,7 +39,7 @@ mutual
       ap (λ r. entry n r (fields_of fs d whole_words section a)) one ∙ ap (entry n (only_if (is_active m d) (body_of body whole_words section b))) rest
 
   body_of-alike : (body : Body) (section : ℕ) (k : Kinds) (a b : Children) → Alike k a b → body_in_kind body section k ≡ true → body_of body whole_words section a ≡ body_of body whole_words section b
-  body_of-alike void_slot section k a b same h = refl
+  body_of-alike (void_slot j) section k a b same h = refl
   body_of-alike (plain_slot p at d) section k a b same h = refl
   body_of-alike (pointer_slot i ty d) section k a b same h = same i ty h
   body_of-alike (group_slot g) section k a b same h = ap record_as (shape_record-alike g section k a b same h)

@@ -35,7 +35,7 @@ mutual
   unfolding shape_record areas_of
 
   pub shape_record-same : (g : Shape) (v v' : View) → SameAll (areas_of g) v v' → shape_record g v.size v.section v.kids ≡ shape_record g v'.size v'.section v'.kids
-  shape_record-same (shape words pointers union fs) v v' h =
+  shape_record-same (shape nid words pointers union fs) v v' h =
       let e = discriminant-same union v v' (SameAll-left (union_area union) (areas_of_fields fs) v v' h) in
       fields_of-same fs _ v v' (SameAll-right (union_area union) (areas_of_fields fs) v v' h) ∙ ap (λ d. fields_of fs d v'.size v'.section v'.kids) e
 
@@ -47,7 +47,7 @@ mutual
       ap (λ r. entry n (only_if (is_active member d) r) (fields_of fs d v.size v.section v.kids)) e ∙ ap (λ r. entry n (only_if (is_active member d) (body_of body v'.size v'.section v'.kids)) r) e'
 
   pub body_of-same : (body : Body) (v v' : View) → SameAll (areas_of_body body) v v' → body_of body v.size v.section v.kids ≡ body_of body v'.size v'.section v'.kids
-  body_of-same void_slot v v' h = refl
+  body_of-same (void_slot j) v v' h = refl
   body_of-same (plain_slot p at d) v v' h = ap (λ b. number (bit_xor b d)) h.0
   body_of-same (pointer_slot i ty d) v v' h = h.0 ty
   body_of-same (group_slot g) v v' h = ap record_as (shape_record-same g v v' h)

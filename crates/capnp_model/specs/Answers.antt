@@ -43,7 +43,7 @@ edits s id (c ∷ cs) t = edits s id cs (edit s id c t)
 
 -- The root with at least its schema's sizes; a null as the empty struct.
 abbrev pub widened_root : Shape → Tree → Tree
-widened_root (shape words pointers u fs) t = widened words pointers t
+widened_root (shape nid words pointers u fs) t = widened words pointers t
 
 -- The answer to a message: why it is refused, or the words of the one segment that is written and the replies.
 pub data Answer : Type 0 where

@@ -54,7 +54,7 @@ edit_if false f c = c
 unfoldable mutual
   -- A cleared group: its member 0 and its fields that are no members.
   pub cleared : Shape → Edit
-  cleared (shape words pointers union fs) c = cleared_fields fs (mark union (Some 0) c)
+  cleared (shape nid words pointers union fs) c = cleared_fields fs (mark union (Some 0) c)
 
   -- The same of its fields.
   pub cleared_fields : Fields → Edit
@@ -63,7 +63,7 @@ unfoldable mutual
 
   -- A cleared field.
   pub cleared_body : Body → Edit
-  cleared_body void_slot c = c
+  cleared_body (void_slot j) c = c
   cleared_body (plain_slot p at d) c = put_bits at (width p) 0 c
   cleared_body (pointer_slot i ty d) c = put_child i null c
   cleared_body (group_slot g) c = cleared g c
@@ -78,7 +78,7 @@ copied_pointer s member i ty d t c = put_child i (source_tree s ty d t) c
 unfoldable mutual
   -- A group is copied from another struct's data and children.
   pub copied : Schema → Shape → Cell → Edit
-  copied s (shape words pointers union fs) from c = copied_fields s fs union (discriminant union whole_words from.section) from c
+  copied s (shape nid words pointers union fs) from c = copied_fields s fs union (discriminant union whole_words from.section) from c
 
   -- The same of its fields.
   pub copied_fields : Schema → Fields → Option ℕ → Option ℕ → Cell → Edit
@@ -88,7 +88,7 @@ unfoldable mutual
 
   -- A field is copied.
   pub copied_body : Schema → Body → Option ℕ → Cell → Edit
-  copied_body s void_slot member from c = c
+  copied_body s (void_slot j) member from c = c
   copied_body s (plain_slot p at d) member from c = put_bits at (width p) (field_bits whole_words from.section at (width p)) c
   copied_body s (pointer_slot i ty d) member from c = copied_pointer s member i ty (default_or_null d) (child from.kids i) c
   copied_body s (group_slot g) member from c = copied s g from c
@@ -138,7 +138,7 @@ in_struct words f t = t
 
 -- A struct is widened to the schema's sizes.
 abbrev pub edit_struct : (Option ℕ → Option ℕ → Body → Edit) → List ℕ → Shape → Tree → Tree
-edit_struct f n (shape words pointers union fs) t = in_struct words (edit_named f n union fs) (widened words pointers t)
+edit_struct f n (shape nid words pointers union fs) t = in_struct words (edit_named f n union fs) (widened words pointers t)
 
 -- A list that stands on the path for structs becomes one of structs, with at least the schema's sizes.
 abbrev pub elements_of_plain : ℕ → List ℕ → Elements
@@ -162,9 +162,9 @@ least_words (suc size) = 1
 
 -- A list as one of structs of at least the shape's sizes.
 abbrev pub widened_list : Shape → Tree → Tree
-widened_list (shape words pointers u fs) (plain_list size n section) = struct_list (max words (least_words size)) pointers (elements_of_plain pointers (plain_elements size n section))
-widened_list (shape words pointers u fs) (pointer_list ts) = struct_list words (max pointers 1) (elements_of_pointers pointers ts)
-widened_list (shape words pointers u fs) (struct_list w p es) = struct_list (max words w) (max pointers p) (padded_elements pointers es)
+widened_list (shape nid words pointers u fs) (plain_list size n section) = struct_list (max words (least_words size)) pointers (elements_of_plain pointers (plain_elements size n section))
+widened_list (shape nid words pointers u fs) (pointer_list ts) = struct_list words (max pointers 1) (elements_of_pointers pointers ts)
+widened_list (shape nid words pointers u fs) (struct_list w p es) = struct_list (max words w) (max pointers p) (padded_elements pointers es)
 widened_list g t = t
 
 -- A list on the path, widened where its type is of structs.
@@ -205,14 +205,14 @@ edit_value s step f e ty t = t
 
 -- The change behind a step through a field.
 abbrev pub edit_through : Schema → Step → (Option ℕ → Option ℕ → Body → Edit) → (Ty → ℕ → ℕ → Edit) → Body → Edit
-edit_through s (name n) f e (group_slot (shape w p union fs)) c = edit_named f n union fs c
+edit_through s (name n) f e (group_slot (shape nid w p union fs)) c = edit_named f n union fs c
 edit_through s step f e (pointer_slot i ty d) c = put_child i (edit_value s step f e ty (opened_tree ty (default_or_null d) (child c.kids i))) c
 edit_through s step f e body c = c
 
 -- The change behind a step through an element.
 abbrev pub edit_through_element : Schema → Step → (Option ℕ → Option ℕ → Body → Edit) → (Ty → ℕ → ℕ → Edit) → Ty → Edit
 edit_through_element s (name n) f e (struct id) c =
-    elim (s.shape_of id) [ shape w p union fs ↦ edit_named f n union fs c ]
+    elim (s.shape_of id) [ shape nid w p union fs ↦ edit_named f n union fs c ]
 edit_through_element s step f e ty c = put_child 0 (edit_value s step f e ty (child c.kids 0)) c
 
 unfoldable mutual

@@ -109,7 +109,7 @@ pub data As : Type 0 where
 
 -- How a field's reading is to be understood.
 abbrev pub as_body : Body → As
-as_body void_slot = as_type void null
+as_body (void_slot j) = as_type void null
 as_body (plain_slot p at d) = as_type (plain p) null
 as_body (pointer_slot i ty d) = as_type ty (default_or_null d)
 as_body (group_slot g) = as_group g
@@ -131,7 +131,7 @@ element_type _ = void
 
 -- The fields of a shape.
 abbrev pub fields_in : Shape → Fields
-fields_in (shape w p u fs) = fs
+fields_in (shape nid w p u fs) = fs
 
 -- The fields of what is understood as a struct or a group.
 abbrev pub shape_as : Schema → As → Fields

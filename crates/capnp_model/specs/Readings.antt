@@ -82,7 +82,7 @@ only_if false r = inactive
 unfoldable mutual
   -- The record of a struct or a group: its extent, section and children.
   pub shape_record : Shape → Extent → ℕ → Children → Record
-  shape_record (shape words pointers union fs) size section kids = fields_of fs (discriminant union size section) size section kids
+  shape_record (shape nid words pointers union fs) size section kids = fields_of fs (discriminant union size section) size section kids
 
   -- The record of fields under a discriminant.
   pub fields_of : Fields → Option ℕ → Extent → ℕ → Children → Record
@@ -92,7 +92,7 @@ unfoldable mutual
 
   -- What a field reads as.
   pub body_of : Body → Extent → ℕ → Children → Reading
-  body_of void_slot size section kids = number 0
+  body_of (void_slot j) size section kids = number 0
   body_of (plain_slot p at default) size section kids = number (bit_xor (field_bits size section at (width p)) default)
   body_of (pointer_slot i ty default) size section kids = kids i ty
   body_of (group_slot g) size section kids = record_as (shape_record g size section kids)

@@ -83,7 +83,7 @@ on_index f (suc k) (r ▹ rs) = outcome_map (λ xs. r ▹ xs) (on_index f k rs)
 
 -- The type of a slot.
 abbrev pub slot_type : Body → Ty
-slot_type void_slot = void
+slot_type (void_slot j) = void
 slot_type (plain_slot p at d) = plain p
 slot_type (pointer_slot i ty d) = ty
 slot_type (group_slot g) = void
