@@ -86,9 +86,10 @@ abbrev pub closing : Style → List ℕ
 closing on_one_line = []
 closing (indented n) = line_at n
 
--- Items between two signs.
+-- Items between two signs; without an item nothing stands behind the opening sign.
 abbrev pub enclosed : Style → List ℕ → List ℕ → List (List ℕ) → List ℕ
-enclosed style sign sign' items = sign ++ opening style ++ joined (between style) items ++ closing style ++ sign'
+enclosed style sign sign' [] = sign ++ closing style ++ sign'
+enclosed style sign sign' (x ∷ xs) = sign ++ opening style ++ joined (between style) (x ∷ xs) ++ closing style ++ sign'
 
 -- A list.
 abbrev pub list_text : Style → List (List ℕ) → List ℕ
