@@ -2,7 +2,7 @@
 use Rattle.std.proofs.Common.{◌≡◌, ℕ, true, false, Some, None, List, [], ◌∷◌, codes, refl}
 use Rattle.capnp_model.specs.Trees.{structure, none}
 use Rattle.capnp_model.specs.Encoding.{canonical_words}
-use Rattle.capnp_model.specs.Schemas.{uint, BaseType, bits, struct_segment, Node, Schema}
+use Rattle.capnp_model.specs.Schemas.{uint, BaseType, bits, struct_segment, Field, Node, Schema}
 use Rattle.capnp_model.specs.Calls.{Step, name, index, message, Verb, get, set_to, init, Call}
 use Rattle.capnp_model.specs.Decoding.{decode}
 use Rattle.capnp_model.specs.Traversal.{tree_at}
@@ -11,7 +11,7 @@ use Rattle.capnp_model.specs.Trimming.{trim}
 use Rattle.capnp_model.specs.Accepted.{fault_of, shape_in, has_no_overlap, areas_of, schema_of}
 use Rattle.capnp_model.specs.Compatible.{IsCompatible, keeps}
 use Rattle.capnp_model.specs.Admitted.{is_admitted, is_admitted_from, is_extended}
-use Rattle.capnp_model.proofs.ExampleSchemas.{one, slot_field, u16_field, u8_field, text_field, node, pair_with, union_with, group_holder, group_node, example_nodes, newer_nodes}
+use Rattle.capnp_model.proofs.ExampleSchemas.{one, slot_field, u16_field, u8_field, text_field, group_field, node, pair_with, union_with, group_holder, group_node, example_nodes, newer_nodes}
 
 twice : fault_of (pair_with [] ∷ pair_with [] ∷ []) ≡ Some (1, 1)
 unfolding shape_in has_no_overlap areas_of
@@ -124,3 +124,17 @@ extended = schema_of (group_holder ∷ node 6 1 0 true 0 0 (u16_field (codes "x"
 extended_group_is_not_cleared : is_admitted (schema_of example_nodes) extended 5 5 (call (name (codes "g") ∷ []) init) ≡ false
 unfolding is_admitted_from schema_of shape_in call extended is_extended
 extended_group_is_not_cleared = refl
+
+-- ---- more groups
+
+-- a group, by its id and the groups in it
+group_of : ℕ → List Field → Node
+group_of id fs = node id 0 0 true 0 0 fs
+
+first_group_in_a_cycle : fault_of (group_of 1 [] ∷ group_of 2 (group_field (codes "x") 3 ∷ group_field (codes "y") 1 ∷ []) ∷ group_of 3 (group_field (codes "z") 2 ∷ []) ∷ []) ≡ Some (6, 1)
+unfolding shape_in has_no_overlap areas_of group_of
+first_group_in_a_cycle = refl
+
+group_in_a_cycle_with_one_user : fault_of (node 3 0 0 false 0 0 (group_field (codes "x") 2 ∷ []) ∷ group_of 1 (group_field (codes "y") 2 ∷ []) ∷ group_of 2 (group_field (codes "z") 1 ∷ []) ∷ []) ≡ Some (6, 1)
+unfolding shape_in has_no_overlap areas_of group_of
+group_in_a_cycle_with_one_user = refl
