@@ -13,13 +13,14 @@ ghost use Rattle.capnp_model.specs.Fits.{Fits};
 ghost use Rattle.capnp_model.specs.Bytes.{bytes_of_words};
 ghost use Rattle.capnp_model.specs.Packing.{packed, unpacked};
 ghost use Rattle.capnp_model.specs.Messages.{plain_words, frame_at, packed_at, spelled};
-ghost use Rattle.capnp_model.specs.Schemas.{struct, Node, Schema};
-ghost use Rattle.capnp_model.specs.Readings.{Record, record_of};
+ghost use Rattle.capnp_model.specs.Schemas.{struct, Node, Shape, Schema};
+ghost use Rattle.capnp_model.specs.Readings.{Record, record_of, shape_record};
 ghost use Rattle.capnp_model.specs.Printing.{fields_in};
 ghost use Rattle.capnp_model.specs.Steps.{done, step};
 ghost use Rattle.capnp_model.specs.Edits.{edit};
 ghost use Rattle.capnp_model.specs.NamedPaths.{IsInRange, IsOpen, GoesByNames};
-ghost use Rattle.capnp_model.specs.Accepted.{IsAccepted, schema_of};
+ghost use Rattle.capnp_model.specs.Accepted.{IsAccepted, areas_of, schema_of};
+ghost use Rattle.capnp_model.specs.Views.{View, SameAll};
 ghost use Rattle.capnp_model.specs.Compatible.{IsCompatible};
 ghost use Rattle.capnp_model.specs.Projection.{projected};
 ghost use Rattle.capnp_model.specs.InKind.{in_kind};
@@ -90,6 +91,11 @@ pub fn texts_of_messages()
     ensures packed_more { (limit : ℕ) (b : List ℕ) (r : Segments × List ℕ) (x : List ℕ) → packed_at limit b ≡ Ok r → packed_at limit (b ++ x) ≡ Ok (r.0, r.1 ++ x) }
     ensures one_framed { (limit : ℕ) (b c : List ℕ) (s u : Segments) (x y : List ℕ) → Spells plain_words limit b s → Spells plain_words limit c u → b ++ x ≡ c ++ y → (b ≡ c) × (s ≡ u) }
     ensures one_packed { (limit : ℕ) (b c : List ℕ) (s u : Segments) (x y : List ℕ) → Spells unpacked limit b s → Spells unpacked limit c u → b ++ x ≡ c ++ y → (b ≡ c) × (s ≡ u) }
+{}
+
+/// The record of a struct depends on nothing but the bits and the pointers of its schema's slots and discriminants.
+pub fn records_of_own_bits()
+    ensures { (g : Shape) (v w : View) → SameAll (areas_of g) v w → shape_record g v.size v.section v.kids ≡ shape_record g w.size w.section w.kids }
 {}
 
 /// The record under an older schema is the older view of the record under a compatible newer one.
