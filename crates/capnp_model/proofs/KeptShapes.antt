@@ -105,7 +105,7 @@ module _ (o n : Schema) (pairs : Pairs) where
     body_is_kept (pointer_slot i ty d) (group_slot g') h own = absurd (cc h)
 
   -- a pair among them is kept
-  pair_is_kept : (qs : Pairs) (i j : ℕ) → list_all (λ p. keeps o n pairs (o.shape_of p.0) (n.shape_of p.1)) qs ≡ true → has_pair qs i j ≡ true → keeps o n pairs (o.shape_of i) (n.shape_of j) ≡ true
+  pub pair_is_kept : (qs : Pairs) (i j : ℕ) → list_all (λ p. keeps o n pairs (o.shape_of p.0) (n.shape_of p.1)) qs ≡ true → has_pair qs i j ≡ true → keeps o n pairs (o.shape_of i) (n.shape_of j) ≡ true
   pair_is_kept [] i j h k = absurd (cc k)
   pair_is_kept (q ∷ qs) i j h k = by (q.0 == i) (q.1 == j) refl refl (pair_is_kept qs i j (and_right (keeps o n pairs (o.shape_of q.0) (n.shape_of q.1)) _ h)) k
     where
