@@ -51,8 +51,8 @@ only_child r (suc i) ty = null_pointer
 
 -- ---- the fields of a struct
 
--- Behind the words of a struct there are zeros, since the section is a number. An element of a plain
--- List has just its bits.
+-- How far a data section goes. Behind the words of a struct there are zeros, since the section is a number; an element of a
+-- plain list has just its bits.
 pub data Extent : Type 0 where
   whole_words : Extent
   just_bits : ℕ → Extent
@@ -78,7 +78,6 @@ abbrev pub only_if : Bool → Reading → Reading
 only_if true r = r
 only_if false r = inactive
 
--- The extent of the data section, the section and the children.
 unfoldable mutual
   -- The record of a struct or a group: its extent, section and children.
   pub shape_record : Shape → Extent → ℕ → Children → Record
