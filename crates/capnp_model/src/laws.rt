@@ -111,3 +111,8 @@ pub fn answers_to_equal_values()
 pub fn records_of_edited_values()
     ensures { (nodes : List Node) → IsAccepted nodes → (id : ℕ) → (schema_of nodes).is_group id ≡ false → (c : Call) → IsInRange c.verb → GoesByNames (schema_of nodes) (fields_in ((schema_of nodes).shape_of id)) c.path → (t : Tree) → IsOpen t → (r : Record) → step (schema_of nodes) id c (record_of (schema_of nodes) id t) ≡ done r → record_of (schema_of nodes) id (edit (schema_of nodes) id c t) ≡ r }
 {}
+
+/// Every schema is compatible with itself.
+pub fn compatible_with_itself()
+    ensures { (nodes : List Node) (id : ℕ) → IsCompatible (schema_of nodes) (schema_of nodes) id id }
+{}
