@@ -2,7 +2,8 @@
 use Rattle.std.proofs.Common.{◌≡◌, ℕ, zero, suc, Bool, true, false, ◌&&◌, ◌||◌, ◌==◌, nat_le, Option, Some, None, List, [], ◌∷◌, ◌++◌, map, length, refl, sym, ◌∙◌, ap, arith}
 use Rattle.std.specs.List.{list_all, list_any, flat_map}
 use Rattle.std.specs.Str.{bytes_eq}
-use Rattle.std.proofs.lemmas.Bool.{and_from, or_left, or_right, eq-eqb, le-leb}
+use Rattle.std.specs.Cmp.Derive.{both_true}
+use Rattle.std.proofs.lemmas.Bool.{or_left, or_right, eq-eqb, le-leb}
 use Rattle.std.proofs.lemmas.Slice.Eq.{bytes_eq-Decides}
 use Rattle.std.proofs.lemmas.List.Folds.{list_all-append}
 use Rattle.capnp_model.specs.Trees.{Tree}
@@ -12,9 +13,6 @@ use Rattle.capnp_model.specs.Accepted.{find_node, fields_of_kind, default_bits, 
 use Rattle.capnp_model.specs.Compatible.{Pairs, has_pair, same_names, related_plain, related, same_option, member_count, keeps_union, same_default, keeps, keeps_fields, keeps_body, IsCompatible}
 use Rattle.capnp_model.specs.InKindCalls.{struct_ids}
 use Rattle.capnp_model.proofs.KeptRules.{and_left, and_right, found_passes}
-
-both : {a b : Bool} → a ≡ true → b ≡ true → (a && b) ≡ true
-both {a = a} {b = b} h k = and_from a b h k
 
 same : (n : ℕ) → (n == n) ≡ true
 same n = eq-eqb n n refl
@@ -44,7 +42,7 @@ is_own pairs i = has_pair pairs i i
 module _ (s : Schema) (pairs : Pairs) where
   names_self : (xs : List (List ℕ)) → same_names xs xs ≡ true
   names_self [] = refl
-  names_self (x ∷ xs) = both ((bytes_eq-Decides x x).1 refl) (names_self xs)
+  names_self (x ∷ xs) = both_true ((bytes_eq-Decides x x).1 refl) (names_self xs)
 
   plain_self : (p : PlainType) → related_plain s s p p ≡ true
   plain_self bool = refl
@@ -77,13 +75,13 @@ module _ (s : Schema) (pairs : Pairs) where
   slot_self : (offset : ℕ) (ty : Ty) (d : Option Value) → related s s pairs ty ty ≡ true → keeps_body s s pairs (slot_body offset ty d) (slot_body offset ty d) ≡ true
   unfolding keeps
   slot_self offset void d h = same offset
-  slot_self offset (plain p) d h = both (both h (same _)) (same (default_bits d))
-  slot_self offset text d h = both (both (same offset) h) (default_self (default_tree d))
-  slot_self offset blob d h = both (both (same offset) h) (default_self (default_tree d))
-  slot_self offset untyped d h = both (both (same offset) h) (default_self (default_tree d))
-  slot_self offset interface d h = both (both (same offset) h) (default_self (default_tree d))
-  slot_self offset (struct i) d h = both (both (same offset) h) (default_self (default_tree d))
-  slot_self offset (list ty) d h = both (both (same offset) h) (default_self (default_tree d))
+  slot_self offset (plain p) d h = both_true (both_true h (same _)) (same (default_bits d))
+  slot_self offset text d h = both_true (both_true (same offset) h) (default_self (default_tree d))
+  slot_self offset blob d h = both_true (both_true (same offset) h) (default_self (default_tree d))
+  slot_self offset untyped d h = both_true (both_true (same offset) h) (default_self (default_tree d))
+  slot_self offset interface d h = both_true (both_true (same offset) h) (default_self (default_tree d))
+  slot_self offset (struct i) d h = both_true (both_true (same offset) h) (default_self (default_tree d))
+  slot_self offset (list ty) d h = both_true (both_true (same offset) h) (default_self (default_tree d))
 
   -- ---- fields, by the shapes of groups
 
@@ -96,7 +94,7 @@ module _ (s : Schema) (pairs : Pairs) where
     fields_self : (count : ℕ) (fs : List Field) → list_all (is_own pairs) (ids_of_fields fs) ≡ true → keeps_fields s s pairs count (fields_from groups fs) (fields_from groups fs) ≡ true
     unfolding keeps ids_of_fields
     fields_self count [] h = refl
-    fields_self count (f ∷ fs) h = by _ _ (bytes_eq f.name f.name) ((bytes_eq-Decides f.name f.name).1 refl) (both (both (option_self f.member) (kind_self f.kind here)) (fields_self count fs more))
+    fields_self count (f ∷ fs) h = by _ _ (bytes_eq f.name f.name) ((bytes_eq-Decides f.name f.name).1 refl) (both_true (both_true (option_self f.member) (kind_self f.kind here)) (fields_self count fs more))
       where
         split : (list_all (is_own pairs) (ids_of_field f.kind) && list_all (is_own pairs) (flat_map (λ (g : Field). ids_of_field g.kind) fs)) ≡ true
         split = sym (list_all-append (is_own pairs) (ids_of_field f.kind) (flat_map (λ (g : Field). ids_of_field g.kind) fs)) ∙ h
@@ -119,7 +117,7 @@ module _ (nodes : List Node) (pairs : Pairs) (own : list_all (λ n. list_all (is
       → let g : Shape = elim k as (λ (x : NodeKind). Shape) [ struct_node s ↦ shape nid s.words s.pointers (union_place s) (fields_from groups s.fields) | enum_node es ↦ no_shape ] in keeps (schema_of nodes) (schema_of nodes) pairs g g ≡ true
   unfolding keeps
   kind_of_node_self groups kept nid (struct_node s) h =
-      both (both (both (le-leb s.words s.words (omega arith)) (le-leb s.pointers s.pointers (omega arith))) (union_self (schema_of nodes) pairs (union_place s)))
+      both_true (both_true (both_true (le-leb s.words s.words (omega arith)) (le-leb s.pointers s.pointers (omega arith))) (union_self (schema_of nodes) pairs (union_place s)))
       (fields_self (schema_of nodes) pairs groups kept (member_count (fields_from groups s.fields)) s.fields h)
   kind_of_node_self groups kept nid (enum_node es) h = refl
 
@@ -138,18 +136,18 @@ module _ (nodes : List Node) (pairs : Pairs) (own : list_all (λ n. list_all (is
 own_ids : (pairs : Pairs) (ids : List ℕ) → ((i : ℕ) → has_pair (twice ids) i i ≡ true → has_pair pairs i i ≡ true) → list_all (is_own pairs) ids ≡ true
 unfolding twice
 own_ids pairs [] h = refl
-own_ids pairs (x ∷ xs) h = both (h x (or_left (x == x && x == x) _ (both (same x) (same x)))) (own_ids pairs xs (λ i k. h i (or_right (x == i && x == i) _ k)))
+own_ids pairs (x ∷ xs) h = both_true (h x (or_left (x == x && x == x) _ (both_true (same x) (same x)))) (own_ids pairs xs (λ i k. h i (or_right (x == i && x == i) _ k)))
 
 each_own : (test : ℕ → Bool) (nodes : List Node) → list_all test (flat_map ids_of nodes) ≡ true → list_all (λ n. list_all test (ids_of n)) nodes ≡ true
 each_own test [] h = refl
 each_own test (n ∷ nodes) h =
     let split : (list_all test (ids_of n) && list_all test (flat_map ids_of nodes)) ≡ true = sym (list_all-append test (ids_of n) (flat_map ids_of nodes)) ∙ h in
-    both (and_left (list_all test (ids_of n)) _ split) (each_own test nodes (and_right (list_all test (ids_of n)) _ split))
+    both_true (and_left (list_all test (ids_of n)) _ split) (each_own test nodes (and_right (list_all test (ids_of n)) _ split))
 
 all_twice : (test : ℕ × ℕ → Bool) → ((i : ℕ) → test (i, i) ≡ true) → (ids : List ℕ) → list_all test (twice ids) ≡ true
 unfolding twice
 all_twice test h [] = refl
-all_twice test h (x ∷ xs) = both (h x) (all_twice test h xs)
+all_twice test h (x ∷ xs) = both_true (h x) (all_twice test h xs)
 
 -- THE LAW
 pub compatible_with_itself : (nodes : List Node) (id : ℕ) → IsCompatible (schema_of nodes) (schema_of nodes) id id
@@ -157,8 +155,8 @@ unfolding schema_of
 compatible_with_itself nodes id = record {
   pairs = all;
   same_sort = refl;
-  has_roots = or_left (id == id && id == id) _ (both (same id) (same id));
-  are_kept = both (kept id) (all_twice (λ p. keeps (schema_of nodes) (schema_of nodes) all ((schema_of nodes).shape_of p.0) ((schema_of nodes).shape_of p.1)) kept (flat_map ids_of nodes));
+  has_roots = or_left (id == id && id == id) _ (both_true (same id) (same id));
+  are_kept = both_true (kept id) (all_twice (λ p. keeps (schema_of nodes) (schema_of nodes) all ((schema_of nodes).shape_of p.0) ((schema_of nodes).shape_of p.1)) kept (flat_map ids_of nodes));
 }
   where
     all : Pairs
