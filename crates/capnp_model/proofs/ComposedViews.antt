@@ -1,7 +1,7 @@
 -- Along versions the older view of a record may be taken in two steps.
 use Rattle.std.proofs.Common.{◌≡◌, ℕ, List, sym, ◌∙◌, ap}
 use Rattle.capnp_model.specs.Trees.{Tree}
-use Rattle.capnp_model.specs.Schemas.{Node, Schema}
+use Rattle.capnp_model.specs.Schemas.{Node}
 use Rattle.capnp_model.specs.Readings.{record_of}
 use Rattle.capnp_model.specs.Accepted.{schema_of, IsAccepted}
 use Rattle.capnp_model.specs.Compatible.{IsCompatible}

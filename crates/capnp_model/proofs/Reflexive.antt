@@ -1,6 +1,6 @@
 -- Every schema is compatible with itself: the pairs are the roots and the structs that fields name.
-use Rattle.std.proofs.Common.{◌≡◌, ℕ, zero, suc, Bool, true, false, ◌&&◌, ◌||◌, ◌==◌, nat_le, Option, Some, None, List, [], ◌∷◌, ◌++◌, map, length, refl, sym, ◌∙◌, ap, arith}
-use Rattle.std.specs.List.{list_all, list_any, flat_map}
+use Rattle.std.proofs.Common.{◌≡◌, ℕ, zero, suc, Bool, true, false, ◌&&◌, ◌==◌, Option, Some, None, List, [], ◌∷◌, map, length, refl, sym, ◌∙◌, arith}
+use Rattle.std.specs.List.{list_all, flat_map}
 use Rattle.std.specs.Str.{bytes_eq}
 use Rattle.std.specs.Cmp.Derive.{both_true}
 use Rattle.std.proofs.lemmas.Bool.{or_left, or_right, eq-eqb, le-leb}
@@ -8,7 +8,7 @@ use Rattle.std.proofs.lemmas.Slice.Eq.{bytes_eq-Decides}
 use Rattle.std.proofs.lemmas.List.Folds.{list_all-append}
 use Rattle.capnp_model.specs.Trees.{Tree}
 use Rattle.capnp_model.specs.Encoding.{canonical_words}
-use Rattle.capnp_model.specs.Schemas.{PlainType, bool, int, uint, «enum», width, Ty, void, plain, text, blob, untyped, interface, struct, list, type_of, Value, FieldKind, slot, group, Field, StructNode, NodeKind, struct_node, enum_node, Node, Shape, shape, Fields, no_fields, field, Body, Schema}
+use Rattle.capnp_model.specs.Schemas.{PlainType, bool, int, uint, «enum», Ty, void, plain, text, blob, untyped, interface, struct, list, type_of, Value, FieldKind, slot, group, Field, NodeKind, struct_node, enum_node, Node, Shape, shape, Schema}
 use Rattle.capnp_model.specs.Accepted.{find_node, fields_of_kind, default_bits, default_tree, slot_body, field_body, fields_from, union_place, no_shape, shape_of_node, shape_in, schema_of}
 use Rattle.capnp_model.specs.Compatible.{Pairs, has_pair, same_names, related_plain, related, same_option, member_count, keeps_union, same_default, keeps, keeps_fields, keeps_body, IsCompatible}
 use Rattle.capnp_model.specs.InKindCalls.{struct_ids}

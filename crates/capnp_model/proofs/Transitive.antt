@@ -1,6 +1,6 @@
 -- Compatibility goes along versions: the pairs are those that meet in the middle.
-use Rattle.std.proofs.Common.{◌≡◌, ℕ, zero, suc, ◌≤◌, Bool, true, false, ◌&&◌, ◌||◌, ◌==◌, nat_le, if◌then◌else◌, Option, Some, None, List, [], ◌∷◌, ◌++◌, length, refl, sym, ◌∙◌, ap, subst, arith}
-use Rattle.std.specs.List.{list_all, list_any}
+use Rattle.std.proofs.Common.{◌≡◌, ℕ, ◌≤◌, Bool, true, false, ◌&&◌, ◌||◌, ◌==◌, nat_le, if◌then◌else◌, Option, Some, None, List, [], ◌∷◌, ◌++◌, length, refl, sym, ◌∙◌, ap, subst, arith}
+use Rattle.std.specs.List.{list_all}
 use Rattle.std.specs.Str.{bytes_eq}
 use Rattle.std.specs.Cmp.Derive.{both_true}
 use Rattle.std.proofs.lemmas.Bool.{or_left, or_right, eqb-true, eq-eqb, le-leb, leb-true}
@@ -9,8 +9,8 @@ use Rattle.std.proofs.lemmas.List.Folds.{list_all-append, list_any-append}
 use Rattle.capnp_model.specs.Trees.{Tree}
 use Rattle.capnp_model.specs.Encoding.{canonical_words}
 use Rattle.capnp_model.specs.Schemas.{PlainType, bool, int, uint, «enum», Ty, void, plain, text, blob, untyped, interface, struct, list, Node, Shape, shape, Fields, no_fields, field, Body, void_slot, plain_slot, pointer_slot, group_slot, Schema}
-use Rattle.capnp_model.specs.Accepted.{shape_in, schema_of, IsAccepted}
-use Rattle.capnp_model.specs.Compatible.{Pairs, has_pair, same_names, related_plain, related, same_option, member_count, is_new, keeps_union, is_no_fields, same_default, keeps, keeps_fields, keeps_body, IsCompatible}
+use Rattle.capnp_model.specs.Accepted.{schema_of, IsAccepted}
+use Rattle.capnp_model.specs.Compatible.{Pairs, has_pair, same_names, related_plain, related, same_option, member_count, is_new, keeps_union, same_default, keeps, keeps_fields, keeps_body, IsCompatible}
 use Rattle.capnp_model.proofs.KeptRules.{and_left, and_right, and_three, and_four}
 use Rattle.capnp_model.proofs.KeptShapes.{option_is}
 use Rattle.capnp_model.proofs.FineShapes.{IsNewName, IsGood, AreGood, IsGoodBody}
