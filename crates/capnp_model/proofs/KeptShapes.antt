@@ -15,7 +15,7 @@ use Rattle.capnp_model.proofs.OlderReading.{SamePlain, same_bool, same_int, same
 same_number : (a b : ℕ) → (a == b) ≡ true → a ≡ b
 same_number a b h = grind arith
 
-option_is : (a b : Option ℕ) → same_option a b ≡ true → a ≡ b
+pub option_is : (a b : Option ℕ) → same_option a b ≡ true → a ≡ b
 option_is None None h = refl
 option_is (Some a) (Some b) h = ap Some (same_number a b h)
 option_is None (Some b) h = absurd (cc h)

@@ -117,3 +117,18 @@ pub fn answers_to_equal_values()
 pub fn records_of_edited_values()
     ensures { (nodes : List Node) → IsAccepted nodes → (id : ℕ) → (schema_of nodes).is_group id ≡ false → (c : Call) → IsInRange c.verb → GoesByNames (schema_of nodes) (fields_in ((schema_of nodes).shape_of id)) c.path → (t : Tree) → IsOpen t → (r : Record) → step (schema_of nodes) id c (record_of (schema_of nodes) id t) ≡ done r → record_of (schema_of nodes) id (edit (schema_of nodes) id c t) ≡ r }
 {}
+
+/// Every schema is compatible with itself.
+pub fn compatible_with_itself()
+    ensures { (nodes : List Node) (id : ℕ) → IsCompatible (schema_of nodes) (schema_of nodes) id id }
+{}
+
+/// Compatibility goes along versions, where the newest schema is accepted.
+pub fn compatible_along_versions()
+    ensures { (oldest middle : Schema) (nodes : List Node) (x y z : ℕ) → IsAccepted nodes → IsCompatible oldest middle x y → IsCompatible middle (schema_of nodes) y z → IsCompatible oldest (schema_of nodes) x z }
+{}
+
+/// Along versions the oldest view of a record is the oldest view of its middle view.
+pub fn views_along_versions()
+    ensures { (a b c : List Node) (x y z : ℕ) (t : Tree) → IsAccepted a → IsAccepted b → IsAccepted c → IsCompatible (schema_of a) (schema_of b) x y → IsCompatible (schema_of b) (schema_of c) y z → projected (schema_of a) x (projected (schema_of b) y (record_of (schema_of c) z t)) ≡ projected (schema_of a) x (record_of (schema_of c) z t) }
+{}
