@@ -8,5 +8,5 @@ abbrev pub as_it_is : List ℕ → List ℕ
 as_it_is bs = flat_map escaped bs
 
 -- Bytes in decimal, with a comma and a blank between each two.
-abbrev pub number_list : List ℕ → List ℕ
+unfoldable pub number_list : List ℕ → List ℕ
 number_list bs = joined (codes ", ") (map decimal bs)
