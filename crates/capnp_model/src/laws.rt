@@ -1,6 +1,6 @@
 //! Laws of the definitions, each the contract of a function that does nothing.
 
-ghost use Rattle.std.specs.Prelude.{◌≡◌, ℕ, ◌+◌, ◌*◌, ◌^◌, ◌<◌, ◌≤◌, ◌⊎◌, Bool, true, false, List, [], ◌∷◌, ◌++◌, length, Some, Ok, bit_xor};
+ghost use Rattle.std.specs.Prelude.{◌≡◌, ℕ, ◌+◌, ◌*◌, ◌^◌, ◌<◌, ◌≤◌, ◌⊎◌, Bool, true, false, List, [], ◌∷◌, ◌++◌, length, slice_index, slice_set, Some, Ok, bit_xor};
 ghost use Rattle.std.specs.List.{AllByRecursion};
 ghost use Rattle.capnp_model.specs.Sections.{bits_at, with_bits, words_of, section_of};
 ghost use Rattle.capnp_model.specs.Segments.{Segments, Place, root};
@@ -39,6 +39,12 @@ pub fn numbers_in_sections()
 /// A section is the one of its words.
 pub fn sections_are_words()
     ensures { (n section : ℕ) → section < 2 ^ (64 * n) → section_of (words_of n section) ≡ section }
+{}
+
+/// Bits that lie in one word of a section are those of the word, in reading and in writing.
+pub fn bits_in_words()
+    ensures read { (words : List ℕ) (i j width : ℕ) → i < length words → j + width ≤ 64 → bits_at (64 * i + j) width (section_of words) ≡ bits_at j width (slice_index words i) }
+    ensures written { (words : List ℕ) (i j width value : ℕ) → value < 2 ^ width → i < length words → j + width ≤ 64 → slice_index words i < 2 ^ 64 → section_of (slice_set words i (with_bits j width value (slice_index words i))) ≡ with_bits (64 * i + j) width value (section_of words) }
 {}
 
 /// What is read keeps the nesting limit, is the same under any other that its depth keeps, and fits its spelling.
