@@ -2,6 +2,7 @@
 #![tactic(auto)]
 
 mod call;
+mod section;
 mod text;
 
 pub use call::{Call, CallFault, CallValue, Step, Verb};
