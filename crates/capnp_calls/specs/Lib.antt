@@ -1,2 +1,5 @@
 pub mod CallViews
 pub mod Texts
+pub mod Contents
+pub mod SlotViews
+pub mod Replies

@@ -3,7 +3,11 @@
 
 mod bytes;
 mod call;
+mod number;
+pub mod reply;
+pub mod root;
 mod section;
+pub mod slot;
 mod text;
 
 pub use call::{Call, CallFault, CallValue, Step, Verb};
