@@ -1,22 +1,33 @@
 //! The bytes of lists of bytes, which lie in words.
 
-ghost use Rattle.std.specs.Prelude.{◌≡◌, ◌+◌, ◌*◌, ◌/◌, ◌^◌, ◌<◌, ◌≤◌, IfOk, length, vec_len};
-ghost use Rattle.capnp_model.specs.Sections.{numbers_in, number_of, section_of, words_for};
+ghost use Rattle.std.specs.Prelude.{◌≡◌, ◌*◌, ◌^◌, ◌<◌, IfOk, length, vec_len};
+ghost use Rattle.capnp_model.specs.Sections.{bits_at, numbers_in, number_of, section_of, words_for};
 
-use crate::section::{bits_in, put_bits};
+use crate::section::{field_of, put_bits};
 use capnp_model::laws;
 use std::alloc::{AllocError, Global};
 
+/// The byte at a place in words, zero behind them.
+fn byte_in(words: &[u64], place: u32) -> u8
+    ensures { result ≡ bits_at (8 * place) 8 (section_of words.now) }
+{
+    laws::bits_in_words();
+    let i = (place / 8) as usize;
+    if i < words.len() {
+        field_of(words[i], 8 * (place % 8), 8) as u8
+    } else {
+        0
+    }
+}
+
 /// So many bytes that lie in words.
 pub fn bytes_in(alloc: Global, words: &[u64], count: u32) -> Result<Vec<u8>, AllocError>
-    requires short { count < 2 ^ 29 }
-    requires inside { 8 * count ≤ 64 * length words.now }
     ensures { IfOk result (λ v. v.items ≡ numbers_in 8 count (section_of words.now)) }
 {
     laws::numbers_one_by_one();
     let mut bytes = Vec::new(alloc);
     for i in 0..count {
-        bytes.push(bits_in(words, 8 * i, 8) as u8)?;
+        bytes.push(byte_in(words, i))?;
     }
     Ok(bytes)
 }

@@ -7,6 +7,7 @@ mod number;
 pub mod reply;
 pub mod root;
 mod section;
+mod shown;
 pub mod slot;
 mod text;
 

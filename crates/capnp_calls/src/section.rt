@@ -6,7 +6,7 @@ ghost use Rattle.capnp_model.specs.Sections.{bits_at, with_bits, section_of};
 use capnp_model::laws;
 
 /// The number in so many bits of a word.
-fn field_of(word: u64, at: u32, width: u32) -> u64
+pub fn field_of(word: u64, at: u32, width: u32) -> u64
     requires some { 0 < width }
     requires inside { at + width ≤ 64 }
     ensures value { result ≡ bits_at at width word }

@@ -1,12 +1,13 @@
 -- Bits that lie in one word of a section are those of the word.
 use Rattle.std.proofs.Common.{◌≡◌, ℕ, zero, suc, ◌+◌, ◌-◌, ◌*◌, ◌/◌, ◌%◌, ◌^◌, ◌<◌, ◌≤◌, List, [], ◌∷◌, length, ap, sym, ◌∙◌, subst, add_comm, arith}
 use Rattle.std.specs.Prelude.{slice_index, slice_set}
-use Rattle.std.proofs.Math.Nat.{mod-lt, mod-eq_of_lt}
+use Rattle.std.proofs.Math.Nat.{mod-lt, mod-eq_of_lt, div-eq_of_lt}
 use Rattle.std.proofs.lemmas.Nat.{pow_pos}
 use lib.Pow as pow
 use Rattle.capnp_model.specs.Sections.{bits_at, with_bits, section_of}
 use Rattle.capnp_model.proofs.Bits.{above}
 use Rattle.capnp_model.proofs.Bounds.{joined_lt, with_bits_lt}
+use Rattle.capnp_model.proofs.Numbers.{number_of_lt, wider}
 
 -- ---- the first word
 
@@ -111,3 +112,12 @@ section_of-put (x ∷ xs) (suc i) j width value fits h l small =
     let e : 64 * suc i + j ≡ 64 + (64 * i + j) = omega arith in
     ap (λ z. z * 2 ^ 64 + x % 2 ^ 64) (section_of-put xs i j width value fits (omega arith) l small)
     ∙ sym (put_in_rest (section_of xs) (x % 2 ^ 64) (64 * i + j) width value (mod-lt x (pow_pos 64))) ∙ ap (λ z. with_bits z width value (section_of (x ∷ xs))) (sym e)
+
+-- ---- behind the words
+
+-- behind the words of a section there are zeros
+pub bits_at-behind : (words : List ℕ) (i j width : ℕ) → length words ≤ i → bits_at (64 * i + j) width (section_of words) ≡ 0
+bits_at-behind words i j width h =
+    let small : section_of words < 2 ^ (64 * i + j) = wider (section_of words) (64 * length words) (64 * i + j) (omega arith) (number_of_lt 64 words) in
+    let none : section_of words / 2 ^ (64 * i + j) ≡ 0 = div-eq_of_lt small in
+    ap (λ z. z % 2 ^ width) none ∙ mod-eq_of_lt (pow_pos width)

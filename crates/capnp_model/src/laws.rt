@@ -41,9 +41,10 @@ pub fn sections_are_words()
     ensures { (n section : ℕ) → section < 2 ^ (64 * n) → section_of (words_of n section) ≡ section }
 {}
 
-/// Bits that lie in one word of a section are those of the word, in reading and in writing.
+/// Bits that lie in one word of a section are those of the word, in reading and in writing; behind the words there are zeros.
 pub fn bits_in_words()
     ensures read { (words : List ℕ) (i j width : ℕ) → i < length words → j + width ≤ 64 → bits_at (64 * i + j) width (section_of words) ≡ bits_at j width (slice_index words i) }
+    ensures behind { (words : List ℕ) (i j width : ℕ) → length words ≤ i → bits_at (64 * i + j) width (section_of words) ≡ 0 }
     ensures written { (words : List ℕ) (i j width value : ℕ) → value < 2 ^ width → i < length words → j + width ≤ 64 → slice_index words i < 2 ^ 64 → section_of (slice_set words i (with_bits j width value (slice_index words i))) ≡ with_bits (64 * i + j) width value (section_of words) }
 {}
 
