@@ -1,2 +1,3 @@
 pub mod TextLemmas
 pub mod Children
+pub mod PointerTextLemmas

@@ -3,3 +3,4 @@ pub mod Texts
 pub mod Contents
 pub mod SlotViews
 pub mod Replies
+pub mod PointerTexts

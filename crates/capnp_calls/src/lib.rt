@@ -4,6 +4,7 @@
 mod bytes;
 mod call;
 mod number;
+mod pointer_text;
 pub mod reply;
 pub mod root;
 mod section;
