@@ -4,3 +4,4 @@ pub mod Contents
 pub mod SlotViews
 pub mod Replies
 pub mod PointerTexts
+pub mod SlotTexts

@@ -3,6 +3,7 @@
 
 mod bytes;
 mod call;
+mod get;
 mod number;
 mod pointer_text;
 pub mod reply;

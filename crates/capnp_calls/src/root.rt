@@ -36,6 +36,14 @@ pub fn set_bits(root: &mut StructValue, first: u32, width: u32, value: u64)
     section::put_bits(&mut root.words, first, width, value);
 }
 
+/// The value of a pointer.
+pub fn pointer(root: &StructValue, index: u32) -> &Value
+    requires { index < vec_len root.now.children }
+    ensures { tree_of_value result.now ≡ child (cell_of root.now).kids index }
+{
+    &root.children[index as usize]
+}
+
 /// Puts a value into a pointer.
 pub fn set_pointer(root: &mut StructValue, index: u32, value: Value)
     requires { index < vec_len root.old.children }

@@ -1,14 +1,13 @@
 //! What a `get` shows of a slot.
 
 ghost use Rattle.std.specs.Prelude.{◌≡◌, ◌^◌, ◌<◌, ◌≤◌, IfOk, codes, decimal};
-ghost use Rattle.capnp_model.specs.Schemas.{bool, int, plain, Schema};
-ghost use Rattle.capnp_model.specs.Printing.{number_text};
+ghost use Rattle.capnp_calls.specs.SlotTexts.{bool_text, signed_text};
 
 use std::alloc::{AllocError, Global};
 
 /// `true` or `false`.
 pub fn shown_bool(alloc: Global, bits: u64) -> Result<Vec<u8>, AllocError>
-    ensures { IfOk result (λ v. (s : Schema) → v.items ≡ number_text s (plain bool) bits) }
+    ensures { IfOk result (λ v. v.items ≡ bool_text bits) }
 {
     if bits == 0 {
         b"false".to_vec(alloc)
@@ -29,7 +28,7 @@ pub fn shown_signed(alloc: Global, bits: u64, width: u32) -> Result<Vec<u8>, All
     requires some { 0 < width }
     requires most { width ≤ 64 }
     requires fits { bits < 2 ^ width }
-    ensures { IfOk result (λ v. (s : Schema) → v.items ≡ number_text s (plain (int width)) bits) }
+    ensures { IfOk result (λ v. v.items ≡ signed_text width bits) }
 {
     if bits < (1 << (width - 1)) {
         return shown_unsigned(alloc, bits);
