@@ -3,5 +3,6 @@ pub mod Texts
 pub mod Contents
 pub mod SlotViews
 pub mod Replies
+pub mod Changes
 pub mod PointerTexts
 pub mod SlotTexts

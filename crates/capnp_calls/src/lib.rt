@@ -3,6 +3,7 @@
 
 mod bytes;
 mod call;
+mod change;
 mod get;
 mod number;
 mod pointer_text;

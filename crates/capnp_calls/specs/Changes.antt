@@ -1,0 +1,54 @@
+-- What calls put into slots, as the code has it.
+use Rattle.std.specs.Prelude.{◌≡◌, ℕ, ◌^◌, ◌<◌, ◌≤◌, Option, Some, None, string_len}
+use Rattle.capnp_units.specs.declared.kinds.ErrorKind.{ErrorKind}
+use Rattle.capnp_units.specs.declared.kinds.ErrorKind.TheVariants as kind
+use Rattle.capnp_units.specs.Errors.{kind_of}
+use Rattle.capnp_model.specs.Calls.{Content, refused_by, bits_of, object}
+use Rattle.capnp_value.specs.Values.{tree_of_value}
+use Rattle.capnp_calls.specs.declared.slot.Slot.{Slot}
+use Rattle.capnp_calls.specs.declared.slot.Slot.TheVariants as slot
+use Rattle.capnp_calls.specs.declared.call.SlotValue.{SlotValue}
+use Rattle.capnp_calls.specs.declared.call.SlotValue.TheVariants as value
+use Rattle.capnp_calls.specs.declared.change.Change.{Change}
+use Rattle.capnp_calls.specs.declared.change.Change.TheVariants as change
+
+-- What is put into a slot.
+abbrev pub change_view : Change → Content
+change_view (change.Refused k) = refused_by (kind_of k)
+change_view (change.Bits n) = bits_of n
+change_view (change.Pointer v) = object (tree_of_value v)
+
+-- The bits that a value has, or a refusal.
+abbrev pub change_of_bits : Option ℕ → Change
+change_of_bits None = change.Refused kind.TypeMismatch
+change_of_bits (Some n) = change.Bits n
+
+-- The bits of a slot.
+abbrev pub width_of : Slot → ℕ
+width_of (slot.Void offset) = 64
+width_of (slot.Bool bit) = 1
+width_of (slot.Int width first) = width
+width_of (slot.UInt width first) = width
+width_of (slot.Text pointer) = 64
+
+-- Bits are within those of the slot.
+abbrev pub FitsInto : Slot → Change → Type 0
+FitsInto s (change.Bits n) = n < 2 ^ width_of s
+FitsInto s _ = Unit {0}
+
+-- A list of so many elements is refused where it has too many, or where memory is wanted.
+abbrev pub IsLong : ℕ → ErrorKind → Type 0
+IsLong n kind.SizeOverflow = 2 ^ 29 ≤ n
+IsLong n kind.OutOfMemory = Unit {0}
+IsLong n _ = ⊥
+
+-- A number has bits, and at most 64.
+abbrev pub HasWidth : Slot → Type 0
+HasWidth (slot.Int width first) = (0 < width) × (width ≤ 64)
+HasWidth (slot.UInt width first) = (0 < width) × (width ≤ 64)
+HasWidth _ = Unit {0}
+
+-- The bytes of a text that is set.
+abbrev pub text_len : SlotValue → ℕ
+text_len (value.Text t) = string_len t
+text_len _ = 0
