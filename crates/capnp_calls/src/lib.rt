@@ -9,6 +9,7 @@ mod number;
 mod pointer_text;
 pub mod reply;
 pub mod root;
+mod put;
 mod section;
 mod shown;
 pub mod slot;
