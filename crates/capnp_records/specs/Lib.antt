@@ -1,2 +1,3 @@
 pub mod NodeViews
 pub mod Taken
+pub mod Storage

@@ -2,4 +2,5 @@
 #![tactic(auto)]
 
 pub mod node;
+mod storage;
 mod taken;
