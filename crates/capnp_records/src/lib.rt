@@ -2,5 +2,6 @@
 #![tactic(auto)]
 
 pub mod node;
+mod rules;
 mod storage;
 mod taken;
