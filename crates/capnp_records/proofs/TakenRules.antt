@@ -56,7 +56,7 @@ apart_alone : (areas : List Area) (fs : List Field) → is_apart_from None areas
 apart_alone areas [] = refl
 apart_alone areas (f ∷ fs) = ap (λ b. are_apart areas (areas_of_body (field_body (λ id. no_shape) f.kind)) && b) (apart_alone areas fs)
 
-and_true : (b : Bool) → (b && true) ≡ b
+pub and_true : (b : Bool) → (b && true) ≡ b
 and_true true = refl
 and_true false = refl
 

@@ -1,20 +1,20 @@
 //! The schema rules, a test each, for the node records that are taken so far.
 
-ghost use Rattle.std.specs.Prelude.{◌≡◌, ◌&&◌, nat_le, not, true, length, map, option_map, Some, string_bytes};
+ghost use Rattle.std.specs.Prelude.{◌≡◌, ◌&&◌, nat_le, not, true, length, map, option_map, Some, [], ◌∷◌};
 ghost use Rattle.std.specs.List.{list_all, list_any, flat_map};
 ghost use Rattle.std.specs.Str.{bytes_eq};
 ghost use Rattle.capnp_model.specs.Schemas.{base_type};
-ghost use Rattle.capnp_model.specs.Accepted.{slot_types, are_distinct, is_empty_name, is_float, no_shape, field_body, fields_from, areas_of_body, are_apart, fields_are_apart, has_places, has_good_default, is_default_of};
-ghost use Rattle.capnp_records.specs.NodeViews.{base_of, value_of, kind_of_field, field_of, struct_of};
-ghost use Rattle.capnp_records.specs.Taken.{is_zero, is_taken_kind, is_taken_field};
+ghost use Rattle.capnp_model.specs.Accepted.{slot_types, are_distinct, is_empty_name, is_float, no_shape, field_body, fields_from, areas_of_body, are_apart, fields_are_apart, has_places, has_good_default, is_default_of, fault_of};
+ghost use Rattle.capnp_records.specs.NodeViews.{base_of, value_of, kind_of_field, field_of, struct_of, node_of};
+ghost use Rattle.capnp_records.specs.Taken.{is_zero, is_taken_kind, is_taken_field, is_taken_node};
 
-use crate::node::{BaseType, FieldBody, FieldRecord, StructRecord, Value};
+use crate::node::{BaseType, FieldBody, FieldRecord, NodeBody, NodeRecord, StructRecord, Value};
 use crate::storage::{Storage, are_apart, has_its_place, storage_of};
 
 // ---- 2. At most 65535 fields.
 
 fn has_few_fields(fields: &[FieldRecord]) -> bool
-    ensures { result ≡ nat_le (length fields.now) 65535 }
+    ensures { result ≡ nat_le (length (map field_of fields.now)) 65535 }
 {
     fields.len() <= 65535
 }
@@ -147,4 +147,42 @@ fn have_good_defaults(fields: &[FieldRecord]) -> bool
         rest = others;
     }
     true
+}
+
+// ---- all rules
+
+fn has_good_names(fields: &[FieldRecord]) -> bool
+    ensures { result ≡ (are_distinct (map (λ f. f.name) (map field_of fields.now)) && list_all (λ m. not (is_empty_name m)) (map (λ f. f.name) (map field_of fields.now))) }
+{
+    are_distinct(fields) && are_named(fields)
+}
+
+/// The first rule that the node breaks as the only one of its set.
+pub(crate) fn first_broken_rule(node: &NodeRecord) -> Option<u32>
+    requires { is_taken_node (node_of node.now) ≡ true }
+    ensures { fault_of (node_of node.now ∷ []) ≡ option_map (λ rule. (rule, 0)) result }
+{
+    let NodeBody::Struct(record) = &node.body else {
+        unreachable!()
+    };
+    let fields = record.fields.as_slice();
+    if !has_few_fields(fields) {
+        return Some(2);
+    }
+    if !has_good_names(fields) {
+        return Some(3);
+    }
+    if !have_no_float(fields) {
+        return Some(4);
+    }
+    if !have_places(record) {
+        return Some(8);
+    }
+    if !have_no_overlap(fields) {
+        return Some(9);
+    }
+    if !have_good_defaults(fields) {
+        return Some(10);
+    }
+    None
 }
