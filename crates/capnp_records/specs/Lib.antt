@@ -1,3 +1,5 @@
 pub mod NodeViews
 pub mod Taken
+pub mod Faults
+pub mod Sets
 pub mod Storage

@@ -1,7 +1,8 @@
 -- The node records that are taken so far: one struct that is no group, without a union, whose fields are slots of Void, Bool, numbers or Text.
-use Rattle.std.specs.Prelude.{ℕ, Bool, true, false, not, ◌&&◌, ◌==◌, Option, Some, None, is_some, List, [], ◌∷◌}
+use Rattle.std.specs.Prelude.{ℕ, Bool, true, false, not, ◌&&◌, ◌==◌, Option, Some, None, is_some, if◌then◌else◌, List, [], ◌∷◌}
 use Rattle.std.specs.List.{list_all}
 use Rattle.capnp_model.specs.Schemas.{bool, int, uint, «enum», BaseType, TypeRecord, Value, no_value, bits, Annotation, FieldKind, slot, group, Field, StructNode, NodeKind, struct_node, enum_node, Node}
+use Rattle.capnp_model.specs.Accepted.{fault_of}
 
 -- A base that is taken; floats are, and break a rule.
 abbrev pub is_taken_base : BaseType → Bool
@@ -57,3 +58,7 @@ is_taken _ = false
 abbrev pub untaken_place : List Node → ℕ
 untaken_place (n ∷ m ∷ more) = 1
 untaken_place _ = 0
+
+-- The rule and the place that are named where nodes are refused: the rule 0 where they are not taken, else the first broken one.
+abbrev pub refusal_of : List Node → Option (ℕ × ℕ)
+refusal_of nodes = if is_taken nodes then fault_of nodes else Some (0, untaken_place nodes)

@@ -1,7 +1,11 @@
 //! The schema layer of Cap'n Proto: node records as a caller writes them, and sets of them that keep the schema rules.
 #![tactic(auto)]
 
+mod check;
+pub mod fault;
 pub mod node;
+pub mod raw;
 mod rules;
+pub mod set;
 mod storage;
 mod taken;
