@@ -1,3 +1,4 @@
 pub mod Stored
 pub mod TakenRules
 pub mod PlainNodes
+pub mod OneStruct
