@@ -2,3 +2,4 @@ pub mod Stored
 pub mod TakenRules
 pub mod PlainNodes
 pub mod OneStruct
+pub mod SlotBodies

@@ -3,3 +3,4 @@ pub mod Taken
 pub mod Faults
 pub mod Sets
 pub mod Storage
+pub mod Slots

@@ -7,5 +7,6 @@ pub mod node;
 pub mod raw;
 mod rules;
 pub mod set;
+pub mod slot;
 mod storage;
 mod taken;
