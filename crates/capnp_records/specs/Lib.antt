@@ -4,3 +4,4 @@ pub mod Faults
 pub mod Sets
 pub mod Storage
 pub mod Slots
+pub mod Structs

@@ -9,4 +9,5 @@ mod rules;
 pub mod set;
 pub mod slot;
 mod storage;
+pub mod structs;
 mod taken;
