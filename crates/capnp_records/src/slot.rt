@@ -1,9 +1,11 @@
 //! Where a field lies in its struct, and how it is read.
 
-ghost use Rattle.std.specs.Prelude.{◌≡◌, true, false};
-ghost use Rattle.capnp_model.specs.Accepted.{no_shape, field_body, has_its_place};
-ghost use Rattle.capnp_records.specs.NodeViews.{kind_of_field, struct_of};
-ghost use Rattle.capnp_records.specs.Taken.{is_taken_kind};
+ghost use Rattle.std.specs.Prelude.{◌≡◌, true, map, None, IfSome, IfNone};
+ghost use Rattle.std.specs.List.{list_all};
+ghost use Rattle.capnp_model.specs.Accepted.{no_shape, field_body, fields_from, has_its_place, has_places};
+ghost use Rattle.capnp_model.specs.Steps.{target_of, no_target, target};
+ghost use Rattle.capnp_records.specs.NodeViews.{kind_of_field, field_of, struct_of};
+ghost use Rattle.capnp_records.specs.Taken.{is_taken_kind, is_taken_field};
 ghost use Rattle.capnp_records.specs.Slots.{bits_of_width, body_of_slot, IsInside};
 
 use crate::node::{BaseType, FieldBody, StructRecord};
@@ -85,4 +87,22 @@ pub(crate) fn slot_of(record: &StructRecord, body: &FieldBody) -> Slot
         | BaseType::AnyPointer
         | BaseType::Capability => unreachable!(),
     }
+}
+
+/// The slot of the first field of a name.
+pub(crate) fn find(record: &StructRecord, name: &str) -> Option<Slot>
+    requires taken { list_all is_taken_field (map field_of record.now.fields.items) ≡ true }
+    requires places { has_places (struct_of record.now) ≡ true }
+    ensures missing { IfNone result (target_of name.now (fields_from (λ id. no_shape) (map field_of record.now.fields.items)) ≡ no_target) }
+    ensures found { IfSome result (λ slot. target_of name.now (fields_from (λ id. no_shape) (map field_of record.now.fields.items)) ≡ target None (body_of_slot slot)) }
+    ensures inside { IfSome result (IsInside record.now.data_word_count record.now.pointer_count) }
+{
+    let mut rest = record.fields.as_slice();
+    while let [first, others @ ..] = rest {
+        if first.name.as_str() == name {
+            return Some(slot_of(record, &first.body));
+        }
+        rest = others;
+    }
+    None
 }

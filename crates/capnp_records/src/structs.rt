@@ -5,7 +5,7 @@ ghost use Rattle.capnp_records.specs.Sets.{nodes_of, IsStructOf};
 use crate::node::StructRecord;
 use crate::raw::RawBrandedStructSchema;
 use crate::set::SchemaSet;
-use crate::slot::{Slot, slot_of};
+use crate::slot::{Slot, find};
 
 /// The schema of a struct of a set.
 #[derive(Clone, Copy, Debug)]
@@ -62,5 +62,14 @@ impl<'a> StructSchema<'a> {
         ensures { result ≡ pointers_in (shape_of_struct self.now) }
     {
         self.record().pointer_count
+    }
+
+    /// The slot of the field of a name.
+    pub fn find_slot(&self, name: &str) -> Option<Slot>
+        ensures missing { IfNone result (target_of name.now (fields_of_struct self.now) ≡ no_target) }
+        ensures found { IfSome result (λ slot. target_of name.now (fields_of_struct self.now) ≡ target None (body_of_slot slot)) }
+        ensures inside { IfSome result (IsInside (words_in (shape_of_struct self.now)) (pointers_in (shape_of_struct self.now))) }
+    {
+        find(self.record(), name)
     }
 }
