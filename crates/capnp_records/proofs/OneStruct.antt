@@ -17,12 +17,15 @@ places_kept n s p h = by_few (few s.fields) refl
     by_places : (b : Bool) → has_places s ≡ b → few s.fields ≡ true → good_names s.fields ≡ true → no_floats s.fields ≡ true → has_places s ≡ true
     by_places true e a b c = e
     by_places false e a b c = absurd (cc (sym h ∙ breaks_8 n s p a b c e))
+
     by_floats : (b : Bool) → no_floats s.fields ≡ b → few s.fields ≡ true → good_names s.fields ≡ true → has_places s ≡ true
     by_floats true e a b = by_places (has_places s) refl a b e
     by_floats false e a b = absurd (cc (sym h ∙ breaks_4 n s p a b e))
+
     by_names : (b : Bool) → good_names s.fields ≡ b → few s.fields ≡ true → has_places s ≡ true
     by_names true e a = by_floats (no_floats s.fields) refl a e
     by_names false e a = absurd (cc (sym h ∙ breaks_3 n s p a e))
+
     by_few : (b : Bool) → few s.fields ≡ b → has_places s ≡ true
     by_few true e = by_names (good_names s.fields) refl e
     by_few false e = absurd (cc (sym h ∙ breaks_2 n s p e))

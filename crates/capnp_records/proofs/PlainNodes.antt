@@ -210,8 +210,8 @@ module _ (id : ℕ) (name : List ℕ) (words pointers at : ℕ) (fs : List Field
   kept_5 =
       ap (λ ts. list_all (λ (t : TypeRecord). names_its_sort (whole ∷ []) t.base) ts && list_all (names_a is_group_node (whole ∷ [])) (flat_map (λ (f : Field). groups_of_field f.kind) fs)) types_plain
       ∙ ap (λ b. b && list_all (names_a is_group_node (whole ∷ [])) (flat_map (λ (f : Field). groups_of_field f.kind) fs))
-          (list_all-flat_map (λ (t : TypeRecord). names_its_sort (whole ∷ []) t.base) (λ (f : Field). slot_types f.kind) fs
-            ∙ all_of_taken (λ k. list_all (λ t. names_its_sort (whole ∷ []) t.base) (slot_types k)) (kind_names_nothing (whole ∷ [])) fs taken)
+      (list_all-flat_map (λ (t : TypeRecord). names_its_sort (whole ∷ []) t.base) (λ (f : Field). slot_types f.kind) fs
+      ∙ all_of_taken (λ k. list_all (λ t. names_its_sort (whole ∷ []) t.base) (slot_types k)) (kind_names_nothing (whole ∷ [])) fs taken)
       ∙ ap (list_all (names_a is_group_node (whole ∷ []))) (no_groups fs taken)
 
   kept_6 : kept whole 6 ≡ true

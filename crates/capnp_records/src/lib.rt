@@ -11,3 +11,5 @@ pub mod slot;
 mod storage;
 pub mod structs;
 mod taken;
+#[cfg(test)]
+mod tests;

@@ -74,7 +74,10 @@ fn have_no_float(fields: &[FieldRecord]) -> bool
 fn have_places(record: &StructRecord) -> bool
     ensures { result ≡ has_places (struct_of record.now) }
 {
-    record.fields.iter().all(|field| has_its_place(record, &field.body))
+    record
+        .fields
+        .iter()
+        .all(|field| has_its_place(record, &field.body))
 }
 
 // ---- 9. Two fields share no bit and no pointer.

@@ -72,14 +72,38 @@ pub(crate) fn slot_of(record: &StructRecord, body: &FieldBody) -> Slot
     match ty.base {
         BaseType::Void | BaseType::Float32 | BaseType::Float64 => Slot::Void { offset },
         BaseType::Bool => Slot::Bool { bit: offset },
-        BaseType::Int8 => Slot::Int { width: Width::Eight, first_bit: 8 * offset },
-        BaseType::Int16 => Slot::Int { width: Width::Sixteen, first_bit: 16 * offset },
-        BaseType::Int32 => Slot::Int { width: Width::ThirtyTwo, first_bit: 32 * offset },
-        BaseType::Int64 => Slot::Int { width: Width::SixtyFour, first_bit: 64 * offset },
-        BaseType::UInt8 => Slot::UInt { width: Width::Eight, first_bit: 8 * offset },
-        BaseType::UInt16 => Slot::UInt { width: Width::Sixteen, first_bit: 16 * offset },
-        BaseType::UInt32 => Slot::UInt { width: Width::ThirtyTwo, first_bit: 32 * offset },
-        BaseType::UInt64 => Slot::UInt { width: Width::SixtyFour, first_bit: 64 * offset },
+        BaseType::Int8 => Slot::Int {
+            width: Width::Eight,
+            first_bit: 8 * offset,
+        },
+        BaseType::Int16 => Slot::Int {
+            width: Width::Sixteen,
+            first_bit: 16 * offset,
+        },
+        BaseType::Int32 => Slot::Int {
+            width: Width::ThirtyTwo,
+            first_bit: 32 * offset,
+        },
+        BaseType::Int64 => Slot::Int {
+            width: Width::SixtyFour,
+            first_bit: 64 * offset,
+        },
+        BaseType::UInt8 => Slot::UInt {
+            width: Width::Eight,
+            first_bit: 8 * offset,
+        },
+        BaseType::UInt16 => Slot::UInt {
+            width: Width::Sixteen,
+            first_bit: 16 * offset,
+        },
+        BaseType::UInt32 => Slot::UInt {
+            width: Width::ThirtyTwo,
+            first_bit: 32 * offset,
+        },
+        BaseType::UInt64 => Slot::UInt {
+            width: Width::SixtyFour,
+            first_bit: 64 * offset,
+        },
         BaseType::Text => Slot::Text { pointer: offset },
         BaseType::Data
         | BaseType::Enum(_)

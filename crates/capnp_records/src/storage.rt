@@ -98,9 +98,13 @@ pub(crate) fn are_apart(a: &FieldBody, b: &FieldBody) -> bool
     ensures { result ≡ are_apart (areas_of_body (field_body (λ id. no_shape) (kind_of_field a.now))) (areas_of_body (field_body (λ id. no_shape) (kind_of_field b.now))) }
 {
     match (area_of(a), area_of(b)) {
-        (Area::Bits { first, count }, Area::Bits { first: second, count: more }) => {
-            !(first < second + more && second < first + count)
-        }
+        (
+            Area::Bits { first, count },
+            Area::Bits {
+                first: second,
+                count: more,
+            },
+        ) => { !(first < second + more && second < first + count) }
         (Area::Pointer { place }, Area::Pointer { place: other }) => place != other,
         _ => true,
     }

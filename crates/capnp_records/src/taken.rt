@@ -5,7 +5,10 @@ ghost use Rattle.std.specs.List.{list_all};
 ghost use Rattle.capnp_records.specs.NodeViews.{base_of, value_of, kind_of_field, field_of, struct_of, kind_of, node_of, annotation_of};
 ghost use Rattle.capnp_records.specs.Taken.{is_taken_base, is_zero, is_taken_default, is_taken_kind, has_none, is_taken_field, is_taken_body, is_taken_node};
 
-use crate::node::{AnnotationRecord, BaseType, FieldBody, FieldRecord, NO_DISCRIMINANT, NodeBody, NodeRecord, Value};
+use crate::node::{
+    AnnotationRecord, BaseType, FieldBody, FieldRecord, NO_DISCRIMINANT, NodeBody, NodeRecord,
+    Value,
+};
 
 fn is_taken_base(base: BaseType) -> bool
     ensures { result ≡ is_taken_base (base_of base) }
@@ -83,9 +86,7 @@ fn is_taken_body(body: &NodeBody) -> bool
 {
     match body {
         NodeBody::Struct(record) => {
-            !record.is_group
-                && record.discriminant_count == 0
-                && are_taken_fields(&record.fields)
+            !record.is_group && record.discriminant_count == 0 && are_taken_fields(&record.fields)
         }
         NodeBody::Enum(_) => false,
     }
