@@ -1,0 +1,37 @@
+-- How the slots of a struct are stored. (Encoding, "Structs")
+use Rattle.std.specs.Prelude.{ℕ, ◌+◌, List, [], ◌∷◌}
+use Rattle.capnp_model.specs.Schemas.{width, Ty, void, plain, text, blob, untyped, interface, struct, list}
+use Rattle.capnp_model.specs.Accepted.{Area as ModelArea, bit_area, pointer_area}
+use Rattle.capnp_records.specs.declared.storage.Storage.{Storage}
+use Rattle.capnp_records.specs.declared.storage.Storage.TheVariants.{Nothing, Bits, Pointer}
+use Rattle.capnp_records.specs.declared.storage.Area.{Area}
+use Rattle.capnp_records.specs.declared.storage.Area.TheVariants as A
+
+-- How a type is stored.
+abbrev pub storage_of : Ty → Storage
+storage_of void = Nothing
+storage_of (plain p) = Bits (width p)
+storage_of text = Pointer
+storage_of blob = Pointer
+storage_of untyped = Pointer
+storage_of interface = Pointer
+storage_of (struct id) = Pointer
+storage_of (list ty) = Pointer
+
+-- The bits of a value in the data section.
+abbrev pub bits_in : Storage → ℕ
+bits_in Nothing = 0
+bits_in (Bits n) = n
+bits_in Pointer = 0
+
+-- An area as the model lists it.
+abbrev pub areas_in : Area → List ModelArea
+areas_in A.Empty = []
+areas_in (A.Bits first count) = bit_area first count ∷ []
+areas_in (A.Pointer place) = pointer_area place ∷ []
+
+-- The first bit behind an area.
+abbrev pub end_of : Area → ℕ
+end_of A.Empty = 0
+end_of (A.Bits first count) = first + count
+end_of (A.Pointer place) = 0

@@ -1,0 +1,64 @@
+-- The node records that are taken so far: one struct that is no group, without a union, whose fields are slots of Void, Bool, numbers or Text.
+use Rattle.std.specs.Prelude.{ℕ, Bool, true, false, not, ◌&&◌, ◌==◌, Option, Some, None, is_some, if◌then◌else◌, List, [], ◌∷◌}
+use Rattle.std.specs.List.{list_all}
+use Rattle.capnp_model.specs.Schemas.{bool, int, uint, «enum», BaseType, TypeRecord, Value, no_value, bits, Annotation, FieldKind, slot, group, Field, StructNode, NodeKind, struct_node, enum_node, Node}
+use Rattle.capnp_model.specs.Accepted.{fault_of}
+
+-- A base that is taken; floats are, and break a rule.
+abbrev pub is_taken_base : BaseType → Bool
+is_taken_base BaseType.Data = false
+is_taken_base (BaseType.Enum id) = false
+is_taken_base (BaseType.Struct id) = false
+is_taken_base BaseType.AnyPointer = false
+is_taken_base BaseType.Capability = false
+is_taken_base _ = true
+
+-- Void, false, or 0 of a number type.
+abbrev pub is_zero : Value → Bool
+is_zero no_value = true
+is_zero (bits bool n) = n == 0
+is_zero (bits (int width) n) = n == 0
+is_zero (bits (uint width) n) = n == 0
+is_zero _ = false
+
+-- A default that is taken: none, or zero.
+abbrev pub is_taken_default : Option Value → Bool
+is_taken_default None = true
+is_taken_default (Some v) = is_zero v
+
+-- A slot that is taken; no group is.
+abbrev pub is_taken_kind : FieldKind → Bool
+is_taken_kind (slot offset ty default) = ty.list_count == 0 && is_taken_base ty.base && is_taken_default default
+is_taken_kind (group id) = false
+
+-- No annotations.
+abbrev pub has_none : List Annotation → Bool
+has_none [] = true
+has_none (a ∷ as') = false
+
+-- A field that is taken.
+abbrev pub is_taken_field : Field → Bool
+is_taken_field f = not (is_some f.member) && has_none f.annotations && is_taken_kind f.kind
+
+-- A struct that is taken; no enum is.
+abbrev pub is_taken_body : NodeKind → Bool
+is_taken_body (struct_node s) = not s.is_group && s.discriminant_count == 0 && list_all is_taken_field s.fields
+is_taken_body (enum_node es) = false
+
+-- A node that is taken.
+abbrev pub is_taken_node : Node → Bool
+is_taken_node n = has_none n.annotations && is_taken_body n.kind
+
+-- The nodes are taken: exactly one, which is taken.
+abbrev pub is_taken : List Node → Bool
+is_taken (n ∷ []) = is_taken_node n
+is_taken _ = false
+
+-- The place that is named where nodes are not taken: that of the second node, where there is one.
+abbrev pub untaken_place : List Node → ℕ
+untaken_place (n ∷ m ∷ more) = 1
+untaken_place _ = 0
+
+-- The rule and the place that are named where nodes are refused: the rule 0 where they are not taken, else the first broken one.
+abbrev pub refusal_of : List Node → Option (ℕ × ℕ)
+refusal_of nodes = if is_taken nodes then fault_of nodes else Some (0, untaken_place nodes)

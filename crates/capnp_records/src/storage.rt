@@ -1,0 +1,111 @@
+//! What fields take of the sections of their struct.
+
+ghost use Rattle.std.specs.Prelude.{◌≡◌, ◌+◌, ◌≤◌, ◌<◌, ◌^◌};
+ghost use Rattle.capnp_model.specs.Schemas.{base_type, type_of};
+ghost use Rattle.capnp_model.specs.Accepted.{no_shape, field_body, areas_of_body, are_apart, has_its_place};
+ghost use Rattle.capnp_records.specs.NodeViews.{base_of, type_record_of, kind_of_field, struct_of};
+ghost use Rattle.capnp_records.specs.Storage.{storage_of, bits_in, areas_in, end_of};
+
+use crate::node::{BaseType, FieldBody, StructRecord, TypeRecord};
+
+/// How a type is stored in a struct.
+#[derive(Clone, Copy)]
+pub(crate) enum Storage {
+    Nothing,
+    /// So many bits of the data section.
+    Bits(u32),
+    Pointer,
+}
+
+/// What a field takes of its struct's sections.
+#[derive(Clone, Copy)]
+pub(crate) enum Area {
+    Empty,
+    Bits { first: u64, count: u64 },
+    Pointer { place: u32 },
+}
+
+// A float, which no accepted schema names, counts as Void.
+fn storage_of_base(base: BaseType) -> Storage
+    ensures same { result ≡ storage_of (base_type (base_of base)) }
+    ensures narrow { bits_in result ≤ 64 }
+{
+    match base {
+        BaseType::Void | BaseType::Float32 | BaseType::Float64 => Storage::Nothing,
+        BaseType::Bool => Storage::Bits(1),
+        BaseType::Int8 | BaseType::UInt8 => Storage::Bits(8),
+        BaseType::Int16 | BaseType::UInt16 | BaseType::Enum(_) => Storage::Bits(16),
+        BaseType::Int32 | BaseType::UInt32 => Storage::Bits(32),
+        BaseType::Int64 | BaseType::UInt64 => Storage::Bits(64),
+        BaseType::Text
+        | BaseType::Data
+        | BaseType::Struct(_)
+        | BaseType::AnyPointer
+        | BaseType::Capability => Storage::Pointer,
+    }
+}
+
+#[tactic(auto, using(crate::proofs::Stored::types))]
+pub(crate) fn storage_of(ty: TypeRecord) -> Storage
+    ensures same { result ≡ storage_of (type_of (type_record_of ty)) }
+    ensures narrow { bits_in result ≤ 64 }
+{
+    if ty.list_count > 0 {
+        return Storage::Pointer;
+    }
+    storage_of_base(ty.base)
+}
+
+/// Whether the field lies in the sections of its struct. A group has its place elsewhere.
+#[tactic(auto, using(crate::proofs::Stored::places))]
+pub(crate) fn has_its_place(record: &StructRecord, body: &FieldBody) -> bool
+    ensures { result ≡ has_its_place (struct_of record.now) (kind_of_field body.now) }
+{
+    match body {
+        FieldBody::Slot { offset, ty, .. } => match storage_of(*ty) {
+            Storage::Nothing => true,
+            Storage::Bits(count) => {
+                let words = record.data_word_count;
+                u64::from(count) * (u64::from(*offset) + 1) <= 64 * u64::from(words)
+            }
+            Storage::Pointer => *offset < u32::from(record.pointer_count),
+        },
+        FieldBody::Group { .. } => true,
+    }
+}
+
+// What the field itself takes; what a group's fields take is left out.
+#[tactic(auto, using(crate::proofs::Stored::areas))]
+fn area_of(body: &FieldBody) -> Area
+    ensures same { areas_in result ≡ areas_of_body (field_body (λ id. no_shape) (kind_of_field body.now)) }
+    ensures narrow { end_of result ≤ 2 ^ 40 }
+{
+    match body {
+        FieldBody::Slot { offset, ty, .. } => match storage_of(*ty) {
+            Storage::Nothing => Area::Empty,
+            Storage::Bits(count) => Area::Bits {
+                first: u64::from(count) * u64::from(*offset),
+                count: u64::from(count),
+            },
+            Storage::Pointer => Area::Pointer { place: *offset },
+        },
+        FieldBody::Group { .. } => Area::Empty,
+    }
+}
+
+/// Whether two fields share no bit and no pointer.
+pub(crate) fn are_apart(a: &FieldBody, b: &FieldBody) -> bool
+    ensures { result ≡ are_apart (areas_of_body (field_body (λ id. no_shape) (kind_of_field a.now))) (areas_of_body (field_body (λ id. no_shape) (kind_of_field b.now))) }
+{
+    match (area_of(a), area_of(b)) {
+        (
+            Area::Bits { first, count },
+            Area::Bits {
+                first: second,
+                count: more,
+            },
+        ) => { !(first < second + more && second < first + count) }
+        (Area::Pointer { place }, Area::Pointer { place: other }) => place != other,
+        _ => true,
+    }
+}
