@@ -5,8 +5,9 @@ use Rattle.capnp_units.specs.declared.kinds.ErrorKind.TheVariants as kind
 use Rattle.capnp_units.specs.Errors.{kind_of}
 use Rattle.capnp_model.specs.Calls.{Content, refused_by, bits_of, object}
 use Rattle.capnp_value.specs.Values.{tree_of_value}
-use Rattle.capnp_calls.specs.declared.slot.Slot.{Slot}
-use Rattle.capnp_calls.specs.declared.slot.Slot.TheVariants as slot
+use Rattle.capnp_records.specs.Slots.{bits_of_width}
+use Rattle.capnp_records.specs.declared.slot.Slot.{Slot}
+use Rattle.capnp_records.specs.declared.slot.Slot.TheVariants as slot
 use Rattle.capnp_calls.specs.declared.call.SlotValue.{SlotValue}
 use Rattle.capnp_calls.specs.declared.call.SlotValue.TheVariants as value
 use Rattle.capnp_calls.specs.declared.change.Change.{Change}
@@ -27,8 +28,8 @@ change_of_bits (Some n) = change.Bits n
 abbrev pub width_of : Slot → ℕ
 width_of (slot.Void offset) = 64
 width_of (slot.Bool bit) = 1
-width_of (slot.Int width first) = width
-width_of (slot.UInt width first) = width
+width_of (slot.Int width first) = bits_of_width width
+width_of (slot.UInt width first) = bits_of_width width
 width_of (slot.Text pointer) = 64
 
 -- Bits are within those of the slot.
@@ -41,12 +42,6 @@ abbrev pub IsLong : ℕ → ErrorKind → Type 0
 IsLong n kind.SizeOverflow = 2 ^ 29 ≤ n
 IsLong n kind.OutOfMemory = Unit {0}
 IsLong n _ = ⊥
-
--- A number has bits, and at most 64.
-abbrev pub HasWidth : Slot → Type 0
-HasWidth (slot.Int width first) = (0 < width) × (width ≤ 64)
-HasWidth (slot.UInt width first) = (0 < width) × (width ≤ 64)
-HasWidth _ = Unit {0}
 
 -- The bytes of a text that is set.
 abbrev pub text_len : SlotValue → ℕ

@@ -1,7 +1,7 @@
 pub mod CallViews
 pub mod Texts
 pub mod Contents
-pub mod SlotViews
+pub mod RootViews
 pub mod Replies
 pub mod Changes
 pub mod PointerTexts

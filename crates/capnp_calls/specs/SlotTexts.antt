@@ -3,8 +3,9 @@ use Rattle.std.specs.Prelude.{ℕ, ◌-◌, ◌^◌, ◌==◌, nat_lt, if◌then
 use Rattle.capnp_model.specs.Sections.{bits_at}
 use Rattle.capnp_model.specs.Trees.{child}
 use Rattle.capnp_model.specs.Edits.{Cell}
-use Rattle.capnp_calls.specs.declared.slot.Slot.{Slot}
-use Rattle.capnp_calls.specs.declared.slot.Slot.TheVariants as slot
+use Rattle.capnp_records.specs.Slots.{bits_of_width}
+use Rattle.capnp_records.specs.declared.slot.Slot.{Slot}
+use Rattle.capnp_records.specs.declared.slot.Slot.TheVariants as slot
 use Rattle.capnp_calls.specs.PointerTexts.{pointer_text}
 
 -- A truth value.
@@ -19,6 +20,6 @@ signed_text width n = if nat_lt n (2 ^ (width - 1)) then decimal n else codes "-
 abbrev pub slot_text : Slot → Cell → Option (List ℕ)
 slot_text (slot.Void offset) c = Some (codes "()")
 slot_text (slot.Bool bit) c = Some (bool_text (bits_at bit 1 c.section))
-slot_text (slot.Int width first) c = Some (signed_text width (bits_at first width c.section))
-slot_text (slot.UInt width first) c = Some (decimal (bits_at first width c.section))
+slot_text (slot.Int width first) c = Some (signed_text (bits_of_width width) (bits_at first (bits_of_width width) c.section))
+slot_text (slot.UInt width first) c = Some (decimal (bits_at first (bits_of_width width) c.section))
 slot_text (slot.Text pointer) c = pointer_text (child c.kids pointer)

@@ -7,13 +7,13 @@ ghost use Rattle.capnp_model.specs.Calls.{set_to, initn, clear, text_tree, slot_
 ghost use Rattle.capnp_units.specs.declared.kinds.ErrorKind.{ErrorKind};
 ghost use Rattle.capnp_value.specs.Values.{tree_of_value};
 ghost use Rattle.capnp_calls.specs.CallViews.{slot_value_view};
-ghost use Rattle.capnp_calls.specs.SlotViews.{body_of_slot};
-ghost use Rattle.capnp_calls.specs.Changes.{change_of_bits, change_view, FitsInto, HasWidth, IsLong, text_len};
+ghost use Rattle.capnp_records.specs.Slots.{body_of_slot};
+ghost use Rattle.capnp_calls.specs.Changes.{change_of_bits, change_view, FitsInto, IsLong, text_len};
 
 use crate::bytes::words_of_bytes;
 use crate::call::SlotValue;
 use crate::number::{signed_bits, unsigned_bits};
-use crate::slot::Slot;
+use capnp_records::slot::Slot;
 use capnp_model::laws;
 use capnp_units::errors::{Error, Result};
 use capnp_units::kinds::ErrorKind;
@@ -73,7 +73,6 @@ fn blank_text(alloc: Global, len: u32) -> Result<Value>
 
 /// What `set` puts into a slot. `SizeOverflow`: a text that is too long.
 pub fn set_change(alloc: Global, slot: Slot, value: &SlotValue) -> Result<Change>
-    requires { HasWidth slot }
     ensures content { IfOk result (λ c. (s : Schema) → change_view c ≡ slot_content s (set_to (slot_value_view value.now)) (body_of_slot slot)) }
     ensures fits { IfOk result (FitsInto slot) }
     ensures refusal { IfErr result (λ e. IsLong (text_len value.now + 1) e.kind) }
@@ -81,9 +80,11 @@ pub fn set_change(alloc: Global, slot: Slot, value: &SlotValue) -> Result<Change
     match (slot, value) {
         (Slot::Void { .. }, _) => Ok(Change::Bits(0)),
         (Slot::Bool { .. }, SlotValue::Bool(b)) => Ok(Change::Bits(if *b { 1 } else { 0 })),
-        (Slot::Int { bits, .. }, SlotValue::Number(n)) => Ok(bits_or_mismatch(signed_bits(*n, bits))),
-        (Slot::UInt { bits, .. }, SlotValue::Number(n)) => {
-            Ok(bits_or_mismatch(unsigned_bits(*n, bits)))
+        (Slot::Int { width, .. }, SlotValue::Number(n)) => {
+            Ok(bits_or_mismatch(signed_bits(*n, width.bits())))
+        }
+        (Slot::UInt { width, .. }, SlotValue::Number(n)) => {
+            Ok(bits_or_mismatch(unsigned_bits(*n, width.bits())))
         }
         (Slot::Text { .. }, SlotValue::Text(text)) => {
             Ok(Change::Pointer(text_value(alloc, text.as_bytes())?))

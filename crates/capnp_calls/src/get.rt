@@ -2,7 +2,8 @@
 
 ghost use Rattle.std.specs.Prelude.{◌≡◌, IfOk, option_map, vec_len};
 ghost use Rattle.capnp_model.specs.Answers.{text_reply};
-ghost use Rattle.capnp_calls.specs.SlotViews.{IsInside, cell_of};
+ghost use Rattle.capnp_records.specs.Slots.{IsInside};
+ghost use Rattle.capnp_calls.specs.RootViews.{cell_of};
 ghost use Rattle.capnp_calls.specs.Replies.{reply_view};
 ghost use Rattle.capnp_calls.specs.SlotTexts.{slot_text};
 
@@ -10,7 +11,7 @@ use crate::pointer_text::shown_pointer;
 use crate::reply::Reply;
 use crate::root::{StructValue, bits, pointer};
 use crate::shown::{shown_bool, shown_signed, shown_unsigned};
-use crate::slot::Slot;
+use capnp_records::slot::Slot;
 use capnp_units::kinds::ErrorKind;
 use std::alloc::{AllocError, Global};
 
@@ -26,18 +27,14 @@ fn shown_slot(
     match slot {
         Slot::Void { .. } => Ok(Some(b"()".to_vec(alloc)?)),
         Slot::Bool { bit } => Ok(Some(shown_bool(alloc, bits(root, bit, 1))?)),
-        Slot::Int {
-            bits: width,
-            first_bit,
-        } => Ok(Some(shown_signed(
-            alloc,
-            bits(root, first_bit, width),
-            width,
-        )?)),
-        Slot::UInt {
-            bits: width,
-            first_bit,
-        } => Ok(Some(shown_unsigned(alloc, bits(root, first_bit, width))?)),
+        Slot::Int { width, first_bit } => {
+            let number = bits(root, first_bit, width.bits());
+            Ok(Some(shown_signed(alloc, number, width.bits())?))
+        }
+        Slot::UInt { width, first_bit } => {
+            let number = bits(root, first_bit, width.bits());
+            Ok(Some(shown_unsigned(alloc, number)?))
+        }
         Slot::Text { pointer: index } => shown_pointer(alloc, pointer(root, index)),
     }
 }

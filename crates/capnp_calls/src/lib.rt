@@ -12,7 +12,6 @@ pub mod root;
 mod put;
 mod section;
 mod shown;
-pub mod slot;
 mod text;
 
 pub use call::{Call, CallFault, CallValue, Step, Verb};

@@ -2,14 +2,15 @@
 
 ghost use Rattle.std.specs.Prelude.{◌≡◌, vec_len};
 ghost use Rattle.capnp_model.specs.Edits.{put_content};
-ghost use Rattle.capnp_calls.specs.SlotViews.{IsInside, body_of_slot, cell_of, SameSizes};
+ghost use Rattle.capnp_records.specs.Slots.{IsInside, body_of_slot};
+ghost use Rattle.capnp_calls.specs.RootViews.{cell_of, SameSizes};
 ghost use Rattle.capnp_calls.specs.Changes.{change_view, FitsInto};
 ghost use Rattle.capnp_calls.specs.Replies.{reply_view, content_reply};
 
 use crate::change::Change;
 use crate::reply::Reply;
 use crate::root::{StructValue, set_bits, set_pointer};
-use crate::slot::Slot;
+use capnp_records::slot::Slot;
 
 /// Writes a change into a slot. A refusal leaves the struct as it was.
 pub fn put_change(root: &mut StructValue, slot: Slot, change: Change) -> Reply
@@ -22,17 +23,9 @@ pub fn put_change(root: &mut StructValue, slot: Slot, change: Change) -> Reply
     match (slot, change) {
         (_, Change::Refused(kind)) => return Reply::Refused(kind),
         (Slot::Bool { bit }, Change::Bits(bits)) => set_bits(root, bit, 1, bits),
-        (
-            Slot::Int {
-                bits: width,
-                first_bit,
-            }
-            | Slot::UInt {
-                bits: width,
-                first_bit,
-            },
-            Change::Bits(bits),
-        ) => set_bits(root, first_bit, width, bits),
+        (Slot::Int { width, first_bit } | Slot::UInt { width, first_bit }, Change::Bits(bits)) => {
+            set_bits(root, first_bit, width.bits(), bits)
+        }
         (Slot::Text { pointer }, Change::Pointer(value)) => set_pointer(root, pointer, value),
         _ => {}
     }

@@ -5,7 +5,7 @@ ghost use Rattle.capnp_model.specs.Sections.{bits_at};
 ghost use Rattle.capnp_model.specs.Trees.{with_child, child};
 ghost use Rattle.capnp_model.specs.Edits.{put_bits, put_child};
 ghost use Rattle.capnp_value.specs.Values.{tree_of_value};
-ghost use Rattle.capnp_calls.specs.SlotViews.{LiesIn, cell_of, SameSizes};
+ghost use Rattle.capnp_calls.specs.RootViews.{LiesIn, cell_of, SameSizes};
 
 use crate::section;
 use capnp_value::value::Value;

@@ -1,7 +1,7 @@
 use Rattle.std.proofs.Common.{◌<◌, length, ap, rules}
 use Rattle.capnp_model.specs.Edits.{Cell}
 use Rattle.capnp_model.specs.Trees.{Trees}
-use Rattle.capnp_calls.specs.SlotViews.{cell_of}
+use Rattle.capnp_calls.specs.RootViews.{cell_of}
 use Rattle.capnp_calls.proofs.Children.{trees_of-set}
 use Rattle.capnp_calls.proofs.root.set_pointer.Goals as goal
 

@@ -1,0 +1,26 @@
+-- What contracts see of the struct that calls edit.
+use Rattle.std.specs.Prelude.{◌≡◌, ℕ, ◌+◌, ◌*◌, ◌%◌, ◌≤◌, ◌<◌, vec_len}
+use Rattle.capnp_model.specs.Sections.{section_of}
+use Rattle.capnp_model.specs.Trees.{Tree, structure}
+use Rattle.capnp_model.specs.Edits.{Cell}
+use Rattle.capnp_value.specs.Values.{trees_of, trees_view}
+use Rattle.capnp_calls.specs.declared.root.StructValue.{StructValue}
+
+-- The bits of a number lie in one word of a section of so many words.
+pub record LiesIn (words first width : ℕ) : Type 0 where
+  pub some : 0 < width
+  pub one_word : first % 64 + width ≤ 64
+  pub inside : first + width ≤ 64 * words
+
+-- The data section and the children of a struct.
+abbrev pub cell_of : StructValue → Cell
+cell_of r = record { section = section_of r.words.items; kids = trees_of (trees_view r.children.items) }
+
+-- The tree of a struct.
+abbrev pub struct_tree : StructValue → Tree
+struct_tree r = structure (vec_len r.words) (cell_of r).section (cell_of r).kids
+
+-- The sizes of a struct stay.
+pub record SameSizes (old new : StructValue) : Type 0 where
+  pub words : vec_len new.words ≡ vec_len old.words
+  pub pointers : vec_len new.children ≡ vec_len old.children
