@@ -1,3 +1,4 @@
 pub mod TextLemmas
 pub mod Children
 pub mod PointerTextLemmas
+pub mod OneStep

@@ -1,6 +1,6 @@
 //! Laws of the definitions, each the contract of a function that does nothing.
 
-ghost use Rattle.std.specs.Prelude.{◌≡◌, ℕ, ◌+◌, ◌*◌, ◌^◌, ◌<◌, ◌≤◌, ◌⊎◌, Bool, true, false, List, [], ◌∷◌, ◌++◌, length, slice_index, slice_set, replicate, Some, Ok, bit_xor};
+ghost use Rattle.std.specs.Prelude.{◌≡◌, ℕ, ◌+◌, ◌*◌, ◌^◌, ◌<◌, ◌≤◌, ◌⊎◌, Bool, true, false, List, [], ◌∷◌, ◌++◌, length, slice_index, slice_set, replicate, Option, Some, Ok, bit_xor};
 ghost use Rattle.std.specs.List.{AllByRecursion};
 ghost use Rattle.capnp_model.specs.Sections.{bits_at, with_bits, numbers_in, number_of, words_of, section_of};
 ghost use Rattle.capnp_model.specs.Segments.{Segments, Place, root};
@@ -13,10 +13,10 @@ ghost use Rattle.capnp_model.specs.Fits.{Fits};
 ghost use Rattle.capnp_model.specs.Bytes.{bytes_of_words};
 ghost use Rattle.capnp_model.specs.Packing.{packed, unpacked};
 ghost use Rattle.capnp_model.specs.Messages.{plain_words, frame_at, packed_at, spelled};
-ghost use Rattle.capnp_model.specs.Schemas.{struct, Node, Shape, Schema};
-ghost use Rattle.capnp_model.specs.Readings.{Record, record_of, shape_record};
+ghost use Rattle.capnp_model.specs.Schemas.{struct, Node, Shape, Fields, Body, Schema};
+ghost use Rattle.capnp_model.specs.Readings.{Record, Extent, Children, record_of, shape_record, fields_of, body_of, is_active, only_if};
 ghost use Rattle.capnp_model.specs.Printing.{fields_in};
-ghost use Rattle.capnp_model.specs.Steps.{done, step};
+ghost use Rattle.capnp_model.specs.Steps.{done, step, target, target_of, entry_of};
 ghost use Rattle.capnp_model.specs.Edits.{edit};
 ghost use Rattle.capnp_model.specs.NamedPaths.{IsInRange, IsOpen, GoesByNames};
 ghost use Rattle.capnp_model.specs.Accepted.{IsAccepted, areas_of, schema_of};
@@ -110,6 +110,11 @@ pub fn texts_of_messages()
 /// The record of a struct depends on nothing but the bits and the pointers of its schema's slots and discriminants.
 pub fn records_of_own_bits()
     ensures { (g : Shape) (v w : View) → SameAll (areas_of g) v w → shape_record g v.size v.section v.kids ≡ shape_record g w.size w.section w.kids }
+{}
+
+/// The field of a name reads as its slot does, where no other member of its union is active.
+pub fn fields_by_name()
+    ensures { (n : List ℕ) (fs : Fields) (member : Option ℕ) (body : Body) (active : Option ℕ) (size : Extent) (section : ℕ) (kids : Children) → target_of n fs ≡ target member body → entry_of n (fields_of fs active size section kids) ≡ only_if (is_active member active) (body_of body size section kids) }
 {}
 
 /// The record under an older schema is the older view of the record under a compatible newer one.
