@@ -226,3 +226,5 @@ module _ (law : FieldsByName) (s : Schema) (id nid w p : ℕ) (fs : Fields) (is_
       ap (λ o. if_done o new (structure words section kids)) (outcome_is verb words section kids)
       ∙ edited s (λ x. replaced n None x fs (fields_of fs None whole_words section (read_child s kids))) verb body is_slot words (record { section = section; kids = kids }) (body_of body whole_words section (read_child s kids)) new
         (written verb words section kids wide long)
+
+pub ruleset slot_rules = (slot_shown)

@@ -3,6 +3,7 @@ pub mod Texts
 pub mod Contents
 pub mod RootViews
 pub mod Replies
+pub mod Taken
 pub mod Changes
 pub mod PointerTexts
 pub mod SlotTexts

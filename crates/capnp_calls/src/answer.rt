@@ -1,0 +1,56 @@
+//! One call at a struct.
+
+ghost use Rattle.std.specs.Prelude.{◌≡◌, ◌≤◌, IfOk, OnOk, IfErr, vec_len};
+ghost use Rattle.capnp_model.specs.Schemas.{Schema};
+ghost use Rattle.capnp_model.specs.Accepted.{schema_of};
+ghost use Rattle.capnp_model.specs.Readings.{record_of};
+ghost use Rattle.capnp_model.specs.Steps.{step};
+ghost use Rattle.capnp_model.specs.Edits.{edit};
+ghost use Rattle.capnp_model.specs.Answers.{reply_of};
+ghost use Rattle.capnp_records.specs.Slots.{body_of_slot, IsInside};
+ghost use Rattle.capnp_records.specs.Structs.{words_in, pointers_in, nodes_around, id_of, shape_of_struct};
+ghost use Rattle.capnp_calls.specs.CallViews.{action_view, call_view};
+ghost use Rattle.capnp_calls.specs.RootViews.{cell_of, struct_tree, SameSizes};
+ghost use Rattle.capnp_calls.specs.Changes.{IsWant};
+ghost use Rattle.capnp_calls.specs.Texts.{as_it_is};
+ghost use Rattle.capnp_calls.specs.Replies.{reply_view, slot_reply, slot_edit};
+ghost use Rattle.capnp_calls.specs.Taken.{taken_call};
+
+use crate::call::{Action, Call, Step};
+use crate::change::{clear_change, initn_change, set_change};
+use crate::get::get_slot;
+use crate::put::put_change;
+use crate::reply::Reply;
+use crate::root::StructValue;
+use capnp_model::laws;
+use capnp_records::slot::Slot;
+use capnp_records::structs::StructSchema;
+use capnp_units::errors::Result;
+use capnp_units::kinds::ErrorKind;
+use std::alloc::Global;
+
+/// Does what an action says at a slot.
+#[tactic(auto, using(crate::proofs::OneStep::slot_rules))]
+fn answer_slot(alloc: Global, root: &mut StructValue, slot: Slot, action: &Action) -> Result<Reply>
+    requires { IsInside (vec_len root.old.words) (vec_len root.old.children) slot }
+    ensures reply { IfOk result (λ r. (s : Schema) → reply_view r ≡ slot_reply s (action_view action.now) (body_of_slot slot) (cell_of root.old)) }
+    ensures cell { OnOk result ((s : Schema) → cell_of root.new ≡ slot_edit s (action_view action.now) (body_of_slot slot) (cell_of root.old)) }
+    ensures sizes { SameSizes root.old root.new }
+    ensures refusal { IfErr result (λ e. IsWant action.now e.kind) }
+{
+    match action {
+        Action::Get => Ok(get_slot(alloc, root, slot)?),
+        Action::Set(value) => {
+            let change = set_change(alloc, slot, value)?;
+            Ok(put_change(root, slot, change))
+        }
+        Action::Init => Ok(Reply::Refused(
+            ErrorKind::InitIsOnlyValidForStructAndAnyPointerFields,
+        )),
+        Action::Initn(len) => {
+            let change = initn_change(alloc, slot, *len)?;
+            Ok(put_change(root, slot, change))
+        }
+        Action::Clear => Ok(put_change(root, slot, clear_change(slot))),
+    }
+}
