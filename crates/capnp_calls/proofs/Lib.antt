@@ -2,3 +2,4 @@ pub mod TextLemmas
 pub mod Children
 pub mod PointerTextLemmas
 pub mod OneStep
+pub mod AtAStruct

@@ -1,7 +1,7 @@
 -- A call of one step is what it does at its slot.
 use Rattle.std.proofs.Common.{◌≡◌, ℕ, zero, suc, ◌≤◌, max, Bool, true, false, Option, Some, None, List, [], ◌∷◌, refl, ap, sym, ◌∙◌, subst, arith}
 use lib.Bits.{bit_xor, xor_zero_r}
-use Rattle.capnp_records.specs.Slots.{bits_of_width, body_of_slot}
+use Rattle.capnp_records.specs.Slots.{bits_of_width, body_of_slot, IsInside}
 use Rattle.capnp_records.specs.declared.slot.Slot.{Slot}
 use Rattle.capnp_records.specs.declared.slot.Slot.TheVariants as slot
 use Rattle.std.specs.Prelude.{◌==◌, if◌then◌else◌, length, take, slice_index, decimal}
@@ -94,7 +94,7 @@ pub data IsSlot : Body → Type 0 where
   is_plain : (p : PlainType) (at d : ℕ) → IsSlot (plain_slot p at d)
   is_pointer : (i : ℕ) (ty : Ty) (d : Option Tree) → IsSlot (pointer_slot i ty d)
 
-slot_is : (at : Slot) → IsSlot (body_of_slot at)
+pub slot_is : (at : Slot) → IsSlot (body_of_slot at)
 slot_is (slot.Void offset) = is_void offset
 slot_is (slot.Bool bit) = is_plain bool bit 0
 slot_is (slot.Int width first) = is_plain (int (bits_of_width width)) first 0
@@ -152,7 +152,7 @@ not_done h how (record_as r) new old = refl
 not_done h how (opaque t) new old = refl
 
 -- the struct of a cell
-abbrev of_cell : ℕ → Cell → Tree
+abbrev pub of_cell : ℕ → Cell → Tree
 of_cell words c = structure words c.section c.kids
 
 -- a write stands where its content is no refusal, and a refused one changes nothing
@@ -228,3 +228,11 @@ module _ (law : FieldsByName) (s : Schema) (id nid w p : ℕ) (fs : Fields) (is_
         (written verb words section kids wide long)
 
 pub ruleset slot_rules = (slot_shown)
+
+-- a slot that lies in a shape lies in a struct that is at least as large
+pub inside_more : (w p words pointers : ℕ) (at : Slot) → w ≤ words → p ≤ pointers → IsInside w p at → IsInside words pointers at
+inside_more w p words pointers (slot.Void offset) wide long h = tt
+inside_more w p words pointers (slot.Bool bit) wide long h = omega arith
+inside_more w p words pointers (slot.Int width first) wide long h = record { fits = let f = h.fits in omega arith; aligned = h.aligned }
+inside_more w p words pointers (slot.UInt width first) wide long h = record { fits = let f = h.fits in omega arith; aligned = h.aligned }
+inside_more w p words pointers (slot.Text pointer) wide long h = omega arith

@@ -1,7 +1,50 @@
 -- The calls that this stage takes: paths of one step.
-use Rattle.std.specs.Prelude.{[], ◌∷◌}
-use Rattle.capnp_model.specs.Calls.{name, Call}
+use Rattle.std.specs.Prelude.{ℕ, Option, Some, None, List, [], ◌∷◌}
+use Rattle.capnp_model.specs.Trees.{Tree}
+use Rattle.capnp_model.specs.Schemas.{Schema}
+use Rattle.capnp_model.specs.Accepted.{schema_of}
+use Rattle.capnp_model.specs.Readings.{Record, record_of}
+use Rattle.capnp_model.specs.Calls.{Step, name, index, Call}
+use Rattle.capnp_model.specs.Steps.{Outcome, step}
+use Rattle.capnp_model.specs.Edits.{edit}
+use Rattle.capnp_model.specs.Answers.{Reply, reply_of}
+use Rattle.capnp_records.specs.Structs.{nodes_around, id_of}
+use Rattle.capnp_records.specs.declared.structs.StructSchema.{StructSchema}
+use Rattle.capnp_calls.specs.Texts.{as_it_is}
 
--- A call along a path of another length is taken as one along no step, which no struct takes.
+-- The name of which a path of one step consists.
+abbrev pub name_in : Step → Option (List ℕ)
+name_in (name n) = Some n
+name_in (index i) = None
+
+-- The one name of a path.
+abbrev pub only_name : List Step → Option (List ℕ)
+only_name [] = None
+only_name (s ∷ []) = name_in s
+only_name (s ∷ s' ∷ path) = None
+
+-- The path as this stage takes it: one of more steps is taken as one along no step, which no struct takes.
+abbrev pub taken_path : List Step → List Step
+taken_path [] = []
+taken_path (s ∷ []) = s ∷ []
+taken_path (s ∷ s' ∷ path) = []
+
+-- The call as this stage takes it.
 abbrev pub taken_call : Call → Call
-taken_call c = elim c.path [ [] ↦ c | s ∷ path ↦ elim path [ [] ↦ c | s' ∷ path' ↦ record { path = []; verb = c.verb } ] ]
+taken_call c = record { path = taken_path c.path; verb = c.verb }
+
+-- The schema of a struct's set.
+abbrev pub schema_around : StructSchema → Schema
+schema_around root = schema_of (nodes_around root)
+
+-- What the record machine makes of a call that is taken, at a struct of this tree.
+abbrev pub outcome_of : StructSchema → Call → Tree → Outcome Record
+outcome_of root c t = step (schema_around root) (id_of root) (taken_call c) (record_of (schema_around root) (id_of root) t)
+
+-- The tree after a call that is taken.
+abbrev pub tree_after : StructSchema → Call → Tree → Tree
+tree_after root c t = edit (schema_around root) (id_of root) (taken_call c) t
+
+-- The reply to a call that is taken.
+abbrev pub reply_to : StructSchema → Call → Tree → Reply
+reply_to root c t = reply_of (schema_around root) as_it_is (outcome_of root c t)

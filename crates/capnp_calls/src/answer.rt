@@ -1,20 +1,15 @@
 //! One call at a struct.
 
 ghost use Rattle.std.specs.Prelude.{◌≡◌, ◌≤◌, IfOk, OnOk, IfErr, vec_len};
+ghost use Rattle.std.specs.Option.{option_copied};
 ghost use Rattle.capnp_model.specs.Schemas.{Schema};
-ghost use Rattle.capnp_model.specs.Accepted.{schema_of};
-ghost use Rattle.capnp_model.specs.Readings.{record_of};
-ghost use Rattle.capnp_model.specs.Steps.{step};
-ghost use Rattle.capnp_model.specs.Edits.{edit};
-ghost use Rattle.capnp_model.specs.Answers.{reply_of};
 ghost use Rattle.capnp_records.specs.Slots.{body_of_slot, IsInside};
-ghost use Rattle.capnp_records.specs.Structs.{words_in, pointers_in, nodes_around, id_of, shape_of_struct};
+ghost use Rattle.capnp_records.specs.Structs.{words_in, pointers_in, shape_of_struct};
 ghost use Rattle.capnp_calls.specs.CallViews.{action_view, call_view};
 ghost use Rattle.capnp_calls.specs.RootViews.{cell_of, struct_tree, SameSizes};
 ghost use Rattle.capnp_calls.specs.Changes.{IsWant};
-ghost use Rattle.capnp_calls.specs.Texts.{as_it_is};
 ghost use Rattle.capnp_calls.specs.Replies.{reply_view, slot_reply, slot_edit};
-ghost use Rattle.capnp_calls.specs.Taken.{taken_call};
+ghost use Rattle.capnp_calls.specs.Taken.{only_name, reply_to, tree_after};
 
 use crate::call::{Action, Call, Step};
 use crate::change::{clear_change, initn_change, set_change};
@@ -53,4 +48,40 @@ fn answer_slot(alloc: Global, root: &mut StructValue, slot: Slot, action: &Actio
         }
         Action::Clear => Ok(put_change(root, slot, clear_change(slot))),
     }
+}
+
+/// The name of which the call's path consists, where it is one name.
+fn field_name(call: &Call) -> Option<&str>
+    ensures { option_copied result ≡ only_name (call_view call.now).path }
+{
+    match call.path.as_slice() {
+        [Step::Name(name)] => Some(name.as_str()),
+        _ => None,
+    }
+}
+
+/// Answers a call. A refused call and a `get` leave the struct as it was.
+/// `SizeOverflow`: the call sets a text of 2^29 - 1 bytes or more.
+pub fn answer_call(
+    alloc: Global,
+    schema: StructSchema<'_>,
+    root: &mut StructValue,
+    call: &Call,
+) -> Result<Reply>
+    requires words { words_in (shape_of_struct schema) ≤ vec_len root.old.words }
+    requires pointers { pointers_in (shape_of_struct schema) ≤ vec_len root.old.children }
+    ensures reply { IfOk result (λ r. reply_view r ≡ reply_to schema.entry (call_view call.now) (struct_tree root.old)) }
+    ensures tree { OnOk result (struct_tree root.new ≡ tree_after schema.entry (call_view call.now) (struct_tree root.old)) }
+    ensures sizes { SameSizes root.old root.new }
+    ensures refusal { IfErr result (λ e. IsWant call.now.action e.kind) }
+{
+    laws::fields_by_name();
+    let _id = schema.id();
+    let Some(name) = field_name(call) else {
+        return Ok(Reply::Refused(ErrorKind::WrongStep));
+    };
+    let Some(slot) = schema.find_slot(name) else {
+        return Ok(Reply::Refused(ErrorKind::FieldNotFound));
+    };
+    answer_slot(alloc, root, slot, &call.action)
 }
