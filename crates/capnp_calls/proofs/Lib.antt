@@ -3,3 +3,4 @@ pub mod Children
 pub mod PointerTextLemmas
 pub mod OneStep
 pub mod AtAStruct
+pub mod InTurn

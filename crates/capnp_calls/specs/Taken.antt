@@ -1,5 +1,5 @@
 -- The calls that this stage takes: paths of one step.
-use Rattle.std.specs.Prelude.{ℕ, Option, Some, None, List, [], ◌∷◌}
+use Rattle.std.specs.Prelude.{ℕ, Option, Some, None, List, [], ◌∷◌, map}
 use Rattle.capnp_model.specs.Trees.{Tree}
 use Rattle.capnp_model.specs.Schemas.{Schema}
 use Rattle.capnp_model.specs.Accepted.{schema_of}
@@ -7,7 +7,7 @@ use Rattle.capnp_model.specs.Readings.{Record, record_of}
 use Rattle.capnp_model.specs.Calls.{Step, name, index, Call}
 use Rattle.capnp_model.specs.Steps.{Outcome, step}
 use Rattle.capnp_model.specs.Edits.{edit}
-use Rattle.capnp_model.specs.Answers.{Reply, reply_of}
+use Rattle.capnp_model.specs.Answers.{Reply, reply_of, replies, edits}
 use Rattle.capnp_records.specs.Structs.{nodes_around, id_of}
 use Rattle.capnp_records.specs.declared.structs.StructSchema.{StructSchema}
 use Rattle.capnp_calls.specs.Texts.{as_it_is}
@@ -48,3 +48,11 @@ tree_after root c t = edit (schema_around root) (id_of root) (taken_call c) t
 -- The reply to a call that is taken.
 abbrev pub reply_to : StructSchema → Call → Tree → Reply
 reply_to root c t = reply_of (schema_around root) as_it_is (outcome_of root c t)
+
+-- The replies to calls that are taken, one after the other.
+abbrev pub replies_to : StructSchema → List Call → Tree → List Reply
+replies_to root calls t = replies (schema_around root) as_it_is (id_of root) (map taken_call calls) t
+
+-- The tree after calls that are taken.
+abbrev pub tree_after_all : StructSchema → List Call → Tree → Tree
+tree_after_all root calls t = edits (schema_around root) (id_of root) (map taken_call calls) t

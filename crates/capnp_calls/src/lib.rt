@@ -11,6 +11,7 @@ mod pointer_text;
 pub mod reply;
 pub mod root;
 mod put;
+pub mod run;
 mod section;
 mod shown;
 mod text;
