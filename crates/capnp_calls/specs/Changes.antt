@@ -1,5 +1,5 @@
 -- What calls put into slots, as the code has it.
-use Rattle.std.specs.Prelude.{◌≡◌, ℕ, ◌+◌, ◌^◌, ◌<◌, ◌≤◌, Option, Some, None, string_len}
+use Rattle.std.specs.Prelude.{◌≡◌, ℕ, ◌+◌, ◌^◌, ◌<◌, ◌≤◌, ◌⊎◌, Option, Some, None, List, Any, string_len}
 use Rattle.capnp_units.specs.declared.kinds.ErrorKind.{ErrorKind}
 use Rattle.capnp_units.specs.declared.kinds.ErrorKind.TheVariants as kind
 use Rattle.capnp_units.specs.Errors.{kind_of}
@@ -10,6 +10,7 @@ use Rattle.capnp_records.specs.declared.slot.Slot.{Slot}
 use Rattle.capnp_records.specs.declared.slot.Slot.TheVariants as slot
 use Rattle.capnp_calls.specs.declared.call.SlotValue.{SlotValue}
 use Rattle.capnp_calls.specs.declared.call.SlotValue.TheVariants as value
+use Rattle.capnp_calls.specs.declared.call.Call.{Call}
 use Rattle.capnp_calls.specs.declared.call.Action.{Action}
 use Rattle.capnp_calls.specs.declared.call.Action.TheVariants as action
 use Rattle.capnp_calls.specs.declared.change.Change.{Change}
@@ -55,3 +56,7 @@ abbrev pub IsWant : Action → ErrorKind → Type 0
 IsWant (action.Set v) k = IsLong (text_len v + 1) k
 IsWant (action.Initn n) k = IsLong (n + 1) k
 IsWant _ k = k ≡ kind.OutOfMemory
+
+-- Why calls end their run: memory was wanted, or one of them sets a text that is too long.
+abbrev pub EndsRun : List Call → ErrorKind → Type 0
+EndsRun calls k = (k ≡ kind.OutOfMemory) ⊎ Any (λ c. IsWant c.action k) calls

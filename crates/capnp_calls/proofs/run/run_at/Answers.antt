@@ -1,7 +1,8 @@
-use Rattle.std.proofs.Common.{◌≡◌, ℕ, suc, ◌+◌, List, ◌∷◌, [], ◌++◌, drop, length, refl, ap, sym, ◌∙◌, add-one, rules, arith}
+use Rattle.std.proofs.Common.{◌≡◌, ℕ, suc, ◌+◌, List, ◌∷◌, [], ◌++◌, drop, length, refl, ap, sym, ◌∙◌, add-one, inr}
 use Rattle.std.specs.Prelude.{map}
 use Rattle.std.proofs.Math.Seq.{drop-cons}
 use Rattle.std.proofs.lemmas.List.{map-append, drop_all}
+use Rattle.std.proofs.lemmas.Result.{err_from_is_err_and}
 use Rattle.capnp_model.specs.Trees.{Tree}
 use Rattle.capnp_calls.specs.declared.call.Call.{Call}
 use Rattle.capnp_calls.specs.CallViews.{call_view}
@@ -46,3 +47,8 @@ pub returns-clause-tree : goal.returns-clause-tree
 returns-clause-tree c =
     let none : drop c.loop-call.call-index c.args.calls.now ≡ [] = drop_all c.loop-call.call-index c.args.calls.now c.loop-call-test.false in
     sym (tree_after_all-nil c.args.schema (struct_tree c.loop-call.root)) ∙ ap (λ x. tree_after_all c.args.schema (map call_view x) (struct_tree c.loop-call.root)) (sym none) ∙ c.loop-call.invariant.tree
+
+pub returns-in_err-answer_call-clause-refusal : goal.returns-in_err-answer_call-clause-refusal
+returns-in_err-answer_call-clause-refusal c =
+    let p = err_from_is_err_and c.from_residual.result c.from_residual.ensures.1 in
+    rw (p.1, p.2) (inr (c.loop-call.call-index, c.call-item.result, c.loop-call-test.true, sym c.call-item.is, c.in_err-answer_call.ensures.refusal))
