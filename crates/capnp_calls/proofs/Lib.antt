@@ -4,3 +4,4 @@ pub mod PointerTextLemmas
 pub mod OneStep
 pub mod AtAStruct
 pub mod InTurn
+pub mod Padding

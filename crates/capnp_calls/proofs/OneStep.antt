@@ -118,7 +118,7 @@ replied s clear body (is_pointer i ty d) c = content_is_replied s ty (slot_conte
 
 -- ---- the tree after it
 
-padded_enough : (p : ℕ) (ts : Trees) → p ≤ tree_count ts → padded_to p ts ≡ ts
+pub padded_enough : (p : ℕ) (ts : Trees) → p ≤ tree_count ts → padded_to p ts ≡ ts
 padded_enough zero ts h = refl
 padded_enough (suc p) none h = absurd (omega arith)
 padded_enough (suc p) (t ▸ ts) h = ap (λ us. t ▸ us) (padded_enough p ts (omega arith))

@@ -1,7 +1,7 @@
 -- What contracts see of the struct that calls edit.
-use Rattle.std.specs.Prelude.{◌≡◌, ℕ, ◌+◌, ◌*◌, ◌%◌, ◌≤◌, ◌<◌, vec_len}
+use Rattle.std.specs.Prelude.{◌≡◌, ℕ, ◌+◌, ◌*◌, ◌%◌, ◌≤◌, ◌<◌, Option, Some, None, vec_len}
 use Rattle.capnp_model.specs.Sections.{section_of}
-use Rattle.capnp_model.specs.Trees.{Tree, structure}
+use Rattle.capnp_model.specs.Trees.{Tree, null, structure, widened}
 use Rattle.capnp_model.specs.Edits.{Cell}
 use Rattle.capnp_value.specs.Values.{trees_of, trees_view}
 use Rattle.capnp_calls.specs.declared.root.StructValue.{StructValue}
@@ -24,3 +24,9 @@ struct_tree r = structure (vec_len r.words) (cell_of r).section (cell_of r).kids
 pub record SameSizes (old new : StructValue) : Type 0 where
   pub words : vec_len new.words ≡ vec_len old.words
   pub pointers : vec_len new.children ≡ vec_len old.children
+
+-- A value as a struct of at least these sizes: null as the empty one; a list is none.
+abbrev pub struct_from : ℕ → ℕ → Tree → Option Tree
+struct_from words pointers null = Some (widened words pointers null)
+struct_from words pointers (structure w section kids) = Some (widened words pointers (structure w section kids))
+struct_from words pointers _ = None

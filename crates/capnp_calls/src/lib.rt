@@ -10,6 +10,7 @@ mod number;
 mod pointer_text;
 pub mod reply;
 pub mod root;
+pub mod open;
 mod put;
 pub mod run;
 mod section;
