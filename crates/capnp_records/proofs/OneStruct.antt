@@ -1,14 +1,13 @@
 -- What is known of the one node of a set.
 use Rattle.std.proofs.Common.{◌≡◌, ◌≤◌, ◌<◌, ℕ, zero, suc, Bool, true, false, ◌&&◌, ◌==◌, if◌then◌else◌, Option, Some, None, List, [], ◌∷◌, map, length, get_or, slice_get, refl, sym, ◌∙◌, ap, arith}
-use Rattle.std.specs.List.{list_all}
-use Rattle.capnp_model.specs.Schemas.{Field, StructNode, NodeKind, struct_node, Node, Shape, shape}
+use Rattle.capnp_model.specs.Schemas.{StructNode, struct_node, Node, shape}
 use Rattle.capnp_model.specs.Accepted.{is_group_node, is_struct_node, schema_of, shape_in, shape_of_node, no_shape, fields_from, has_places, fault_of}
-use Rattle.capnp_records.specs.NodeViews.{node_of, field_of, struct_of}
-use Rattle.capnp_records.specs.Taken.{is_taken_field, is_taken_node}
+use Rattle.capnp_records.specs.NodeViews.{field_of, struct_of}
+use Rattle.capnp_records.specs.Taken.{is_taken_node}
 use Rattle.capnp_records.specs.declared.node.StructRecord.{StructRecord}
 use Rattle.capnp_records.specs.Sets.{IsStructOf, IsRecordOf}
 use Rattle.capnp_records.specs.declared.raw.RawBrandedStructSchema.{RawBrandedStructSchema}
-use Rattle.capnp_records.proofs.PlainNodes.{plain_node, IsPlain, plain_if_taken, few, good_names, no_floats, no_overlaps, breaks_2, breaks_3, breaks_4, breaks_8}
+use Rattle.capnp_records.proofs.PlainNodes.{IsPlain, plain_if_taken, few, good_names, no_floats, breaks_2, breaks_3, breaks_4, breaks_8}
 
 -- a name for the places test, by cases on the tests before it
 places_kept : (n : Node) (s : StructNode) (p : IsPlain n s) → fault_of (n ∷ []) ≡ None → has_places s ≡ true

@@ -1,10 +1,10 @@
 -- The first broken rule of a node that is taken so far, as its only node.
-use Rattle.std.proofs.Common.{◌≡◌, ℕ, suc, Bool, true, false, not, ◌&&◌, ◌||◌, ◌==◌, nat_le, nat_lt, ◌^◌, if◌then◌else◌, Option, Some, None, is_some, List, [], ◌∷◌, ◌++◌, map, length, refl, sym, ◌∙◌, ap, arith}
-use Rattle.std.specs.List.{list_all, list_any, flat_map, filter_map, cons_option, find}
+use Rattle.std.proofs.Common.{◌≡◌, ℕ, suc, Bool, true, false, not, ◌&&◌, ◌==◌, nat_le, nat_lt, ◌^◌, if◌then◌else◌, Option, Some, None, is_some, List, [], ◌∷◌, ◌++◌, map, length, refl, sym, ◌∙◌, ap, arith}
+use Rattle.std.specs.List.{list_all, flat_map, filter_map, cons_option}
 use Rattle.std.proofs.lemmas.List.{length-map}
-use Rattle.capnp_model.specs.Schemas.{Ty, void, plain, text, blob, untyped, interface, struct, list, BaseType, TypeRecord, type_of, base_type, Value, no_value, bits, text_bytes, blob_bytes, list_segment, struct_segment, untyped_value, interface_value, PlainType, Annotation, FieldKind, slot, group, Field, StructNode, NodeKind, struct_node, enum_node, Node, Shape, shape}
+use Rattle.capnp_model.specs.Schemas.{Ty, void, plain, text, blob, untyped, interface, struct, list, BaseType, TypeRecord, type_of, Value, no_value, bits, text_bytes, blob_bytes, list_segment, struct_segment, untyped_value, interface_value, Annotation, FieldKind, slot, group, Field, StructNode, NodeKind, struct_node, Node}
 use Rattle.capnp_model.specs.Trees.{Tree}
-use Rattle.capnp_model.specs.Accepted.{slot_types, groups_of_field, types_in, annotation_lists, annotations_in, is_short, are_distinct, is_empty_name, is_float, has_no_float, names_its_sort, names_a, is_group_node, has_good_ids, has_places, has_its_place, is_inside, shape_of_node, are_once, has_good_union, members_of, no_shape, shape_in, find_node, fields_from, has_no_overlap, fields_are_apart, areas_of, has_good_default, default_reads, is_good_value, opens_as, is_kept_by, first_fault_from, fault_of}
+use Rattle.capnp_model.specs.Accepted.{slot_types, groups_of_field, types_in, are_distinct, is_empty_name, is_float, names_its_sort, names_a, is_group_node, has_places, has_its_place, is_inside, shape_of_node, are_once, no_shape, shape_in, fields_from, has_no_overlap, fields_are_apart, has_good_default, default_reads, is_good_value, opens_as, is_kept_by, first_fault_from, fault_of}
 use Rattle.capnp_records.specs.Taken.{has_none, is_taken_base, is_zero, is_taken_default, is_taken_kind, is_taken_field, is_taken_body, is_taken_node}
 use Rattle.capnp_records.proofs.TakenRules.{and_true, and_left, and_right, no_member, taken_kind, list_all-flat_map}
 

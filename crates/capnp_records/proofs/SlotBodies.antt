@@ -1,6 +1,6 @@
 -- Slots that are taken so far.
-use Rattle.std.proofs.Common.{◌≡◌, ℕ, zero, suc, ◌+◌, ◌*◌, ◌%◌, ◌<◌, ◌≤◌, Bool, true, false, ◌&&◌, ◌==◌, nat_le, nat_lt, Option, Some, None, refl, arith}
-use Rattle.capnp_model.specs.Schemas.{PlainType, bool, int, uint, «enum», Value, no_value, bits, text_bytes, blob_bytes, list_segment, struct_segment, untyped_value, interface_value, lists_of, Ty}
+use Rattle.std.proofs.Common.{◌≡◌, ℕ, true, Option, Some, None, refl, arith}
+use Rattle.capnp_model.specs.Schemas.{PlainType, bool, int, uint, «enum», Value, no_value, bits, text_bytes, blob_bytes, list_segment, struct_segment, untyped_value, interface_value}
 use Rattle.capnp_model.specs.Accepted.{default_bits, default_tree}
 use Rattle.capnp_records.specs.Taken.{is_zero, is_taken_default}
 

@@ -1,6 +1,6 @@
 -- What the model says of places and areas, by the storage of a slot's type.
 use Rattle.std.proofs.Common.{◌≡◌, ℕ, zero, suc, ◌+◌, ◌*◌, ◌<◌, ◌≤◌, Bool, true, nat_le, nat_lt, Option, List, [], ◌∷◌, refl, arith}
-use Rattle.capnp_model.specs.Schemas.{width, Ty, void, plain, text, blob, untyped, interface, struct, list, lists_of, Value, StructNode, group_slot}
+use Rattle.capnp_model.specs.Schemas.{Ty, void, plain, text, blob, untyped, interface, struct, list, lists_of, Value, StructNode, group_slot}
 use Rattle.capnp_model.specs.Accepted.{is_inside, no_shape, slot_body, Area, bit_area, pointer_area, areas_of_body, areas_of}
 use Rattle.capnp_records.specs.declared.storage.Storage.{Storage}
 use Rattle.capnp_records.specs.declared.storage.Storage.TheVariants.{Nothing, Bits, Pointer}

@@ -1,11 +1,11 @@
 -- What the rules say of node records that are taken so far.
-use Rattle.std.proofs.Common.{◌≡◌, ℕ, zero, suc, ◌+◌, ◌*◌, ◌^◌, ◌<◌, ◌≤◌, Bool, true, false, not, ◌&&◌, ◌||◌, ◌==◌, nat_le, nat_lt, Option, Some, None, is_some, List, [], ◌∷◌, ◌++◌, map, length, take, drop, get_or, ◌-◌, refl, sym, ◌∙◌, ap, arith}
+use Rattle.std.proofs.Common.{◌≡◌, ℕ, ◌^◌, ◌<◌, ◌≤◌, Bool, true, false, not, ◌&&◌, ◌||◌, ◌==◌, nat_lt, Option, Some, None, is_some, List, [], ◌∷◌, map, length, take, drop, get_or, ◌-◌, refl, sym, ◌∙◌, ap, arith}
 use Rattle.std.specs.List.{list_all, list_any, flat_map}
 use Rattle.std.proofs.lemmas.List.Folds.{list_all-append}
 use Rattle.std.proofs.lemmas.Nat.{pow_pos}
 use Rattle.std.proofs.lemmas.Grind.{common_steps}
-use Rattle.capnp_model.specs.Schemas.{Ty, void, plain, text, blob, untyped, interface, struct, list, type_of, Value, FieldKind, slot, group, Field, Body, Fields}
-use Rattle.capnp_model.specs.Accepted.{Area, no_shape, slot_body, field_body, fields_from, areas_of, areas_of_body, are_apart, is_apart_from, has_no_overlap, body_has_no_overlap, fields_are_apart}
+use Rattle.capnp_model.specs.Schemas.{Ty, void, plain, text, blob, untyped, interface, struct, list, type_of, Value, FieldKind, slot, group, Field}
+use Rattle.capnp_model.specs.Accepted.{Area, no_shape, slot_body, field_body, fields_from, areas_of_body, are_apart, is_apart_from, has_no_overlap, body_has_no_overlap, fields_are_apart}
 use Rattle.capnp_records.specs.Taken.{has_none, is_taken_kind, is_taken_field}
 
 pub list_any-map : {A B : Type 0} (p : B → Bool) (f : A → B) (xs : List A) → list_any p (map f xs) ≡ list_any (λ x. p (f x)) xs

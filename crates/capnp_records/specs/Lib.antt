@@ -5,3 +5,7 @@ pub mod Sets
 pub mod Storage
 pub mod Slots
 pub mod Structs
+pub use Rattle.capnp_model.specs.Schemas
+pub use Rattle.capnp_model.specs.Printing
+pub use Rattle.capnp_model.specs.Steps
+pub use Rattle.capnp_model.specs.Accepted

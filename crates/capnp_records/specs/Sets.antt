@@ -1,5 +1,5 @@
 -- What contracts see of schema sets.
-use Rattle.std.specs.Prelude.{ℕ, ◌≡◌, Bool, true, false, ◌&&◌, ◌==◌, Some, None, slice_get, List, map}
+use Rattle.std.specs.Prelude.{ℕ, ◌≡◌, true, false, ◌&&◌, ◌==◌, Some, None, slice_get, List, map}
 use Rattle.std.specs.List.{list_all}
 use Rattle.capnp_model.specs.Schemas.{Node, shape}
 use Rattle.capnp_model.specs.Accepted.{is_struct_node, schema_of, no_shape, fields_from, has_places}

@@ -1,7 +1,7 @@
 -- The node records that are taken so far: one struct that is no group, without a union, whose fields are slots of Void, Bool, numbers or Text.
 use Rattle.std.specs.Prelude.{ℕ, Bool, true, false, not, ◌&&◌, ◌==◌, Option, Some, None, is_some, if◌then◌else◌, List, [], ◌∷◌}
 use Rattle.std.specs.List.{list_all}
-use Rattle.capnp_model.specs.Schemas.{bool, int, uint, «enum», BaseType, TypeRecord, Value, no_value, bits, Annotation, FieldKind, slot, group, Field, StructNode, NodeKind, struct_node, enum_node, Node}
+use Rattle.capnp_model.specs.Schemas.{bool, int, uint, BaseType, Value, no_value, bits, Annotation, FieldKind, slot, group, Field, NodeKind, struct_node, enum_node, Node}
 use Rattle.capnp_model.specs.Accepted.{fault_of}
 
 -- A base that is taken; floats are, and break a rule.

@@ -71,13 +71,13 @@ fn have_no_float(fields: &[FieldRecord]) -> bool
 
 // ---- 8. Slots lie in their sections.
 
-fn have_places(record: &StructRecord) -> bool
-    ensures { result ≡ has_places (struct_of record.now) }
+fn have_places(holder: &StructRecord) -> bool
+    ensures { result ≡ has_places (struct_of holder.now) }
 {
-    record
+    holder
         .fields
         .iter()
-        .all(|field| has_its_place(record, &field.body))
+        .all(|field| has_its_place(holder, &field.body))
 }
 
 // ---- 9. Two fields share no bit and no pointer.

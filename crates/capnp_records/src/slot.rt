@@ -58,17 +58,17 @@ pub enum Slot {
 
 /// The slot of a field. A float, which no accepted schema names, counts as Void.
 #[tactic(auto, using(crate::proofs::SlotBodies::slots))]
-pub(crate) fn slot_of(record: &StructRecord, body: &FieldBody) -> Slot
+pub(crate) fn slot_of(holder: &StructRecord, body: &FieldBody) -> Slot
     requires taken { is_taken_kind (kind_of_field body.now) ≡ true }
-    requires place { has_its_place (struct_of record.now) (kind_of_field body.now) ≡ true }
+    requires place { has_its_place (struct_of holder.now) (kind_of_field body.now) ≡ true }
     ensures body { body_of_slot result ≡ field_body (λ id. no_shape) (kind_of_field body.now) }
-    ensures inside { IsInside record.now.data_word_count record.now.pointer_count result }
+    ensures inside { IsInside holder.now.data_word_count holder.now.pointer_count result }
 {
     let FieldBody::Slot { offset, ty, .. } = body else {
         unreachable!()
     };
     let offset = *offset;
-    let words = record.data_word_count;
+    let words = holder.data_word_count;
     match ty.base {
         BaseType::Void | BaseType::Float32 | BaseType::Float64 => Slot::Void { offset },
         BaseType::Bool => Slot::Bool { bit: offset },
@@ -114,17 +114,17 @@ pub(crate) fn slot_of(record: &StructRecord, body: &FieldBody) -> Slot
 }
 
 /// The slot of the first field of a name.
-pub(crate) fn find(record: &StructRecord, name: &str) -> Option<Slot>
-    requires taken { list_all is_taken_field (map field_of record.now.fields.items) ≡ true }
-    requires places { has_places (struct_of record.now) ≡ true }
-    ensures missing { IfNone result (target_of name.now (fields_from (λ id. no_shape) (map field_of record.now.fields.items)) ≡ no_target) }
-    ensures found { IfSome result (λ slot. target_of name.now (fields_from (λ id. no_shape) (map field_of record.now.fields.items)) ≡ target None (body_of_slot slot)) }
-    ensures inside { IfSome result (IsInside record.now.data_word_count record.now.pointer_count) }
+pub(crate) fn find(holder: &StructRecord, name: &str) -> Option<Slot>
+    requires taken { list_all is_taken_field (map field_of holder.now.fields.items) ≡ true }
+    requires places { has_places (struct_of holder.now) ≡ true }
+    ensures missing { IfNone result (target_of name.now (fields_from (λ id. no_shape) (map field_of holder.now.fields.items)) ≡ no_target) }
+    ensures found { IfSome result (λ slot. target_of name.now (fields_from (λ id. no_shape) (map field_of holder.now.fields.items)) ≡ target None (body_of_slot slot)) }
+    ensures inside { IfSome result (IsInside holder.now.data_word_count holder.now.pointer_count) }
 {
-    let mut rest = record.fields.as_slice();
+    let mut rest = holder.fields.as_slice();
     while let [first, others @ ..] = rest {
         if first.name.as_str() == name {
-            return Some(slot_of(record, &first.body));
+            return Some(slot_of(holder, &first.body));
         }
         rest = others;
     }

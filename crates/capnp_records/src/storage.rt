@@ -58,17 +58,17 @@ pub(crate) fn storage_of(ty: TypeRecord) -> Storage
 
 /// Whether the field lies in the sections of its struct. A group has its place elsewhere.
 #[tactic(auto, using(crate::proofs::Stored::places))]
-pub(crate) fn has_its_place(record: &StructRecord, body: &FieldBody) -> bool
-    ensures { result ≡ has_its_place (struct_of record.now) (kind_of_field body.now) }
+pub(crate) fn has_its_place(holder: &StructRecord, body: &FieldBody) -> bool
+    ensures { result ≡ has_its_place (struct_of holder.now) (kind_of_field body.now) }
 {
     match body {
         FieldBody::Slot { offset, ty, .. } => match storage_of(*ty) {
             Storage::Nothing => true,
             Storage::Bits(count) => {
-                let words = record.data_word_count;
+                let words = holder.data_word_count;
                 u64::from(count) * (u64::from(*offset) + 1) <= 64 * u64::from(words)
             }
-            Storage::Pointer => *offset < u32::from(record.pointer_count),
+            Storage::Pointer => *offset < u32::from(holder.pointer_count),
         },
         FieldBody::Group { .. } => true,
     }
@@ -101,11 +101,11 @@ pub(crate) fn are_apart(a: &FieldBody, b: &FieldBody) -> bool
         (
             Area::Bits { first, count },
             Area::Bits {
-                first: second,
-                count: more,
+                first: other_first,
+                count: other_count,
             },
-        ) => { !(first < second + more && second < first + count) }
-        (Area::Pointer { place }, Area::Pointer { place: other }) => place != other,
+        ) => first + count <= other_first || other_first + other_count <= first,
+        (Area::Pointer { place }, Area::Pointer { place: other_place }) => place != other_place,
         _ => true,
     }
 }

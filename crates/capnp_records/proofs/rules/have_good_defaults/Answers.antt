@@ -1,4 +1,4 @@
-use Rattle.std.proofs.Common.{◌≡◌, true, ◌-◌, ◌∷◌, ◌&&◌, List, map, length, take, drop, refl, sym, ◌∙◌, ap}
+use Rattle.std.proofs.Common.{◌≡◌, true, ◌-◌, ◌∷◌, ◌&&◌, List, map, length, take, drop, sym, ◌∙◌, ap}
 use Rattle.std.specs.List.{list_all}
 use Rattle.capnp_model.specs.Accepted.{has_good_default}
 use Rattle.capnp_records.specs.NodeViews.{field_of}

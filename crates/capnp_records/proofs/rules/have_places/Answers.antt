@@ -10,5 +10,5 @@ use Rattle.capnp_records.proofs.rules.have_places.Goals as goal
 
 pub returns : goal.returns
 returns c =
-    all_from_yields_List (λ f. has_its_place (struct_of c.args.record.now) (field_of f).kind) _ _ _ c.all.ensures.ran (YieldsList-from_slice c.args.record.now.fields.items cc) (λ x b q k. search rules)
-    ∙ sym (list_all-map (λ (f : Field). has_its_place (struct_of c.args.record.now) f.kind) field_of c.args.record.now.fields.items)
+    all_from_yields_List (λ f. has_its_place (struct_of c.args.holder.now) (field_of f).kind) _ _ _ c.all.ensures.ran (YieldsList-from_slice c.args.holder.now.fields.items cc) (λ x b q k. search rules)
+    ∙ sym (list_all-map (λ (f : Field). has_its_place (struct_of c.args.holder.now) f.kind) field_of c.args.holder.now.fields.items)

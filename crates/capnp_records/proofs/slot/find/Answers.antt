@@ -27,7 +27,7 @@ loop-rest-preserved c =
     let split : rest ≡ first ∷ others = first_and_rest rest first c.in-len1-up.len_at_least c.first-item.is in
     let other_name : bytes_eq (string_bytes first.name) name ≡ false = ap (λ bs. bytes_eq bs name) (sym c.as_str.ensures.value) ∙ sym c.eq.ensures ∙ c.if-eq.false in
     let taken : list_all is_taken_field (map field_of (first ∷ others)) ≡ true = ap (λ xs. list_all is_taken_field (map field_of xs)) (sym split) ∙ c.loop-rest.invariant.taken in
-    let places : list_all (λ f. has_its_place (struct_of c.args.record.now) f.kind) (map field_of (first ∷ others)) ≡ true = ap (λ (xs : List FieldRecord). list_all (λ f. has_its_place (struct_of c.args.record.now) f.kind) (map field_of xs)) (sym split) ∙ c.loop-rest.invariant.places in
+    let places : list_all (λ f. has_its_place (struct_of c.args.holder.now) f.kind) (map field_of (first ∷ others)) ≡ true = ap (λ (xs : List FieldRecord). list_all (λ f. has_its_place (struct_of c.args.holder.now) f.kind) (map field_of xs)) (sym split) ∙ c.loop-rest.invariant.places in
     let found : Target = target (field_of first).member (field_body (λ id. no_shape) (field_of first).kind) in
     record {
       decides =
@@ -35,5 +35,5 @@ loop-rest-preserved c =
           ∙ ap (λ (xs : List FieldRecord). target_of name (fields_from (λ id. no_shape) (map field_of xs))) (sym split)
           ∙ c.loop-rest.invariant.decides;
       taken = and_right (is_taken_field (field_of first)) (list_all is_taken_field (map field_of others)) taken;
-      places = and_right (has_its_place (struct_of c.args.record.now) (field_of first).kind) (list_all (λ f. has_its_place (struct_of c.args.record.now) f.kind) (map field_of others)) places;
+      places = and_right (has_its_place (struct_of c.args.holder.now) (field_of first).kind) (list_all (λ f. has_its_place (struct_of c.args.holder.now) f.kind) (map field_of others)) places;
     }

@@ -9,9 +9,9 @@ use Rattle.capnp_records.proofs.slot.find.Given as goal
 -- the rest decides, is taken and has its places
 abbrev pub invariant-loop-rest : goal.invariant-loop-rest
 invariant-loop-rest l = record {
-  decides : target_of l.name (fields_from (λ id. no_shape) (map field_of l.rest)) ≡ target_of l.name (fields_from (λ id. no_shape) (map field_of l.record.fields.items));
+  decides : target_of l.name (fields_from (λ id. no_shape) (map field_of l.rest)) ≡ target_of l.name (fields_from (λ id. no_shape) (map field_of l.holder.fields.items));
   taken : list_all is_taken_field (map field_of l.rest) ≡ true;
-  places : list_all (λ f. has_its_place (struct_of l.record) f.kind) (map field_of l.rest) ≡ true;
+  places : list_all (λ f. has_its_place (struct_of l.holder) f.kind) (map field_of l.rest) ≡ true;
 }
 
 abbrev pub decreases-loop-rest : goal.decreases-loop-rest

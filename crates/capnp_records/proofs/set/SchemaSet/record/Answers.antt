@@ -1,5 +1,5 @@
 -- The set's one node is the struct of the id.
-use Rattle.std.proofs.Common.{◌≡◌, true, None, List, [], ◌∷◌, map, sym, ◌∙◌, ap, subst}
+use Rattle.std.proofs.Common.{◌≡◌, List, [], ◌∷◌, map, sym, ◌∙◌, ap, subst}
 use Rattle.capnp_model.specs.Schemas.{Node}
 use Rattle.capnp_model.specs.Accepted.{fault_of}
 use Rattle.capnp_records.specs.NodeViews.{node_of, kind_of}
