@@ -1,0 +1,2 @@
+pub mod Errors
+pub use Rattle.capnp_model.specs.Kinds

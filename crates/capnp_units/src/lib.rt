@@ -1,0 +1,5 @@
+//! The kinds of refusals and the error that carries one.
+#![tactic(auto)]
+
+pub mod errors;
+pub mod kinds;
