@@ -1,0 +1,5 @@
+//! Sources and sinks of bytes, and framed messages over them.
+#![tactic(auto)]
+
+pub mod memory;
+pub mod traits;
