@@ -1,11 +1,11 @@
 -- What the calls of a source and a sink do to the bytes that they tell.
-use Rattle.std.specs.Prelude.{◌≡◌, ◌≢◌, ℕ, ◌+◌, ◌<◌, ◌≤◌, List, ◌++◌, length, drop, ⊤, Some, None, IfOk, IsSomeAnd}
+use Rattle.std.specs.Prelude.{◌≡◌, ℕ, ◌+◌, ◌<◌, ◌≤◌, List, ◌++◌, length, drop, ⊤, Some, None, IfOk, IsSomeAnd}
 use Rattle.std.specs.declared.result.Result.{Result}
 use Rattle.std.specs.declared.option.Option.{Option}
 use Rattle.std.specs.Io.KnownBytes.{Keeps, Consumes, Appends, IsAtEnd}
 use Rattle.capnp_units.specs.declared.errors.Error.{Error}
 use Rattle.capnp_units.specs.declared.kinds.ErrorKind.{ErrorKind}
-use Rattle.capnp_units.specs.declared.kinds.ErrorKind.TheVariants.{OutOfMemory, FailedToFillTheWholeBuffer, BufferNotLargeEnough, Device}
+use Rattle.capnp_units.specs.declared.kinds.ErrorKind.TheVariants.{OutOfMemory, BufferNotLargeEnough, Device}
 use Rattle.capnp_stream.specs.Counting.{Counts}
 use denote.Ref.{Bor}
 
