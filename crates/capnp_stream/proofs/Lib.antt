@@ -1,2 +1,3 @@
 pub mod Filling
 pub mod KnownLemmas
+pub mod WordLemmas

@@ -2,6 +2,7 @@
 #![tactic(auto)]
 
 pub mod adapters;
-pub mod devices;
+mod devices;
 pub mod memory;
+pub mod segments;
 pub mod traits;

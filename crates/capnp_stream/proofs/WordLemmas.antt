@@ -1,0 +1,81 @@
+-- Words in bytes, and the segments that they are cut into.
+use Rattle.std.proofs.Common.{◌≡◌, ℕ, zero, suc, ◌+◌, ◌-◌, ◌*◌, ◌/◌, ◌%◌, ◌≤◌, List, [], ◌∷◌, ◌++◌, length, take, drop, map, sum, refl, sym, ap, ◌∙◌, arith, length-drop, length-take-le, take-append-drop}
+use Rattle.std.specs.Prelude.{All}
+use Rattle.std.specs.List.{slice_range}
+use Rattle.std.specs.Int.{from_le_bytes, w64}
+use Rattle.std.proofs.lemmas.List.{drop-take, drop-drop}
+use Rattle.std.proofs.lemmas.List.Elements.{All-cons, All-nil}
+use Rattle.std.proofs.lemmas.List.Sums.{sum_by-cons}
+use Rattle.capnp_model.specs.Bytes.{words_in_bytes}
+use Rattle.capnp_model.specs.Messages.{cut}
+use Rattle.capnp_stream.specs.declared.segments.Bounds.{Bounds}
+use Rattle.capnp_stream.specs.Segments.{whole_words, bounds_from}
+
+-- what follows eight bytes changes nothing of their word
+from_le_bytes-front : (a b : List ℕ) → 8 ≤ length a → from_le_bytes w64 (a ++ b) ≡ from_le_bytes w64 a
+from_le_bytes-front (x ∷ x1 ∷ x2 ∷ x3 ∷ x4 ∷ x5 ∷ x6 ∷ x7 ∷ a) b h = refl
+from_le_bytes-front [] b h = absurd (omega arith)
+from_le_bytes-front (x ∷ []) b h = absurd (omega arith)
+from_le_bytes-front (x ∷ x1 ∷ []) b h = absurd (omega arith)
+from_le_bytes-front (x ∷ x1 ∷ x2 ∷ []) b h = absurd (omega arith)
+from_le_bytes-front (x ∷ x1 ∷ x2 ∷ x3 ∷ []) b h = absurd (omega arith)
+from_le_bytes-front (x ∷ x1 ∷ x2 ∷ x3 ∷ x4 ∷ []) b h = absurd (omega arith)
+from_le_bytes-front (x ∷ x1 ∷ x2 ∷ x3 ∷ x4 ∷ x5 ∷ []) b h = absurd (omega arith)
+from_le_bytes-front (x ∷ x1 ∷ x2 ∷ x3 ∷ x4 ∷ x5 ∷ x6 ∷ []) b h = absurd (omega arith)
+
+pub from_le_bytes-take : (n : ℕ) (bytes : List ℕ) → 8 ≤ n → n ≤ length bytes → from_le_bytes w64 (take n bytes) ≡ from_le_bytes w64 bytes
+from_le_bytes-take n bytes wide fits =
+    let f : List ℕ → ℕ = from_le_bytes w64 in
+    sym (from_le_bytes-front (take n bytes) (drop n bytes) (omega (arith, length-take-le n bytes fits))) ∙ ap f (take-append-drop n bytes)
+
+pub words_in_bytes-take : (n m : ℕ) (bytes : List ℕ) → 8 * (n + m) ≤ length bytes → take n (words_in_bytes (n + m) bytes) ≡ words_in_bytes n (take (8 * n) bytes)
+words_in_bytes-take zero m bytes fits = refl
+words_in_bytes-take (suc n) m bytes fits =
+    let next : suc n + m ≡ suc (n + m) = omega arith in
+    let wide : 8 * suc n ≡ 8 + 8 * n = omega arith in
+    let first : from_le_bytes w64 (take (8 + 8 * n) bytes) ≡ from_le_bytes w64 bytes = from_le_bytes-take (8 + 8 * n) bytes (omega arith) (omega arith) in
+    let rest : take n (words_in_bytes (n + m) (drop 8 bytes)) ≡ words_in_bytes n (take (8 * n) (drop 8 bytes)) = words_in_bytes-take n m (drop 8 bytes) (omega (arith, length-drop 8 bytes)) in
+    rw (next, wide, drop-take 8 (8 * n) bytes, first, rest) refl
+
+pub words_in_bytes-drop : (n m : ℕ) (bytes : List ℕ) → drop n (words_in_bytes (n + m) bytes) ≡ words_in_bytes m (drop (8 * n) bytes)
+words_in_bytes-drop zero m bytes = let same : zero + m ≡ m = omega arith in rw same refl
+words_in_bytes-drop (suc n) m bytes =
+    let next : suc n + m ≡ suc (n + m) = omega arith in
+    let wide : 8 * suc n ≡ 8 + 8 * n = omega arith in
+    rw (next, wide) (words_in_bytes-drop n m (drop 8 bytes) ∙ ap (words_in_bytes m) (drop-drop (8 * n) 8 bytes))
+
+-- so many bytes hold so many words
+pub whole_words-of_length : (n : ℕ) (bytes : List ℕ) → length bytes ≡ 8 * n → whole_words bytes ≡ words_in_bytes n bytes
+whole_words-of_length n bytes e = let count : length bytes / 8 ≡ n = omega arith in ap (λ k. words_in_bytes k bytes) count
+
+pub sum-cons : (n : ℕ) (ns : List ℕ) → sum (n ∷ ns) ≡ n + sum ns
+sum-cons n ns = sum_by-cons (λ k. k) n ns
+
+-- segments that lie one after the other are those that the words are cut into
+pub segments-of_bounds : (bytes : List ℕ) (at : ℕ) (ns : List ℕ) → at + 8 * sum ns ≤ length bytes
+    → map whole_words (map (λ (b : Bounds). slice_range bytes b.start b.end) (bounds_from at ns)) ≡ cut ns (words_in_bytes (sum ns) (drop at bytes))
+segments-of_bounds bytes at [] fits = refl
+segments-of_bounds bytes at (n ∷ ns) fits =
+    let total = sum-cons n ns in
+    let rest = drop at bytes in
+    let long : 8 * (n + sum ns) ≤ length rest = omega (arith, length-drop at bytes) in
+    let width : at + 8 * n - at ≡ 8 * n = omega arith in
+    let size : length (take (8 * n) rest) ≡ 8 * n = length-take-le (8 * n) rest (omega arith) in
+    let one : whole_words (slice_range bytes at (at + 8 * n)) ≡ take n (words_in_bytes (n + sum ns) rest) =
+    ap (λ k. whole_words (take k rest)) width ∙ whole_words-of_length n (take (8 * n) rest) size ∙ sym (words_in_bytes-take n (sum ns) rest long) in
+    let behind : words_in_bytes (sum ns) (drop (at + 8 * n) bytes) ≡ drop n (words_in_bytes (n + sum ns) rest) =
+    ap (words_in_bytes (sum ns)) (sym (drop-drop (8 * n) at bytes)) ∙ sym (words_in_bytes-drop n (sum ns) rest) in
+    let others = segments-of_bounds bytes (at + 8 * n) ns (omega (arith, total)) ∙ ap (cut ns) behind in
+    rw (total, one, others) refl
+
+-- The bounds lie within so many bytes and hold whole words.
+abbrev pub AreWithin : ℕ → Bounds → Type 0
+AreWithin size b = (b.start ≤ b.end) × ((b.end - b.start) % 8 ≡ 0) × (b.end ≤ size)
+
+pub bounds_from-within : (size at : ℕ) (ns : List ℕ) → at + 8 * sum ns ≤ size → All (AreWithin size) (bounds_from at ns)
+bounds_from-within size at [] fits = All-nil (AreWithin size)
+bounds_from-within size at (n ∷ ns) fits =
+    let total = sum-cons n ns in
+    let first : Bounds = record { start = at; end = at + 8 * n } in
+    let one : AreWithin size first = (omega arith, omega arith, omega (arith, total)) in
+    All-cons (AreWithin size) first (bounds_from (at + 8 * n) ns) one (bounds_from-within size (at + 8 * n) ns (omega (arith, total)))
