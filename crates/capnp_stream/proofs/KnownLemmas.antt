@@ -1,5 +1,5 @@
 -- What several calls do to the known bytes together.
-use Rattle.std.proofs.Common.{◌≡◌, ℕ, ◌+◌, ◌-◌, ◌≤◌, ◌<◌, List, [], ◌++◌, None, Some, Result, Ok, Err, sym, ap, ◌∙◌, arith, length, take, drop, append_assoc, take-append-drop, min, subst, take_at, length-take-le, length-drop}
+use Rattle.std.proofs.Common.{◌≡◌, ℕ, ◌+◌, ◌-◌, ◌≤◌, ◌<◌, List, [], ◌++◌, None, Some, IfSome, Result, Ok, Err, sym, ap, ◌∙◌, arith, length, take, drop, append_assoc, take-append-drop, min, subst, take_at, length-take-le, length-drop}
 use Rattle.std.proofs.lemmas.List.{drop-take, drop-drop, nil_from_length, take_rest}
 use Rattle.std.proofs.Math.Seq.{take-add}
 use Rattle.std.specs.List.{slice_range}
@@ -69,3 +69,15 @@ Consumes-of_window a b window left buf rest old n kept end count copied same are
     let nothing : left ≡ [] = nil_from_length left (omega (arith, ap length are, length-drop n window)) in
     subst (λ l. IsAtEnd (prepend_known l b)) (sym nothing) (subst IsAtEnd (sym (prepend_known-nil b)) (end empty)) in
     (subst (Consumes a (prepend_known left b)) (sym front) taken.0, ended)
+
+-- what holds of a front whatever follows it holds of the known bytes
+pub IfSome-of_front : (a b : Option (List ℕ)) (front : List ℕ) (P : List ℕ → Type 0) → Consumes a b front → ((more : List ℕ) → P (front ++ more)) → IfSome a P
+IfSome-of_front None b front P taken holds = tt
+IfSome-of_front (Some x) None front P taken holds = absurd taken
+IfSome-of_front (Some x) (Some y) front P taken holds = subst P (sym taken) (holds y)
+
+-- what holds of bytes that were kept held before
+pub IfSome-of_kept : (a b : Option (List ℕ)) (P : List ℕ → Type 0) → Keeps a b → IfSome b P → IfSome a P
+IfSome-of_kept None b P kept holds = tt
+IfSome-of_kept (Some x) None P kept holds = absurd kept
+IfSome-of_kept (Some x) (Some y) P kept holds = subst P kept holds

@@ -1,5 +1,5 @@
 -- Words in bytes, and the segments that they are cut into.
-use Rattle.std.proofs.Common.{◌≡◌, ℕ, zero, suc, ◌+◌, ◌-◌, ◌*◌, ◌/◌, ◌%◌, ◌≤◌, List, [], ◌∷◌, ◌++◌, length, take, drop, map, sum, refl, sym, ap, ◌∙◌, arith, length-drop, length-take-le, take-append-drop}
+use Rattle.std.proofs.Common.{◌≡◌, ℕ, zero, suc, ◌+◌, ◌-◌, ◌*◌, ◌/◌, ◌%◌, ◌^◌, ◌≤◌, append_assoc, List, [], ◌∷◌, ◌++◌, length, take, drop, map, sum, refl, sym, ap, ◌∙◌, arith, length-drop, length-take-le, take-append-drop}
 use Rattle.std.specs.Prelude.{All}
 use Rattle.std.specs.List.{slice_range}
 use Rattle.std.specs.Int.{from_le_bytes, w64}
@@ -7,7 +7,7 @@ use Rattle.std.proofs.lemmas.List.{drop-take, drop-drop}
 use Rattle.std.proofs.lemmas.List.Elements.{All-cons, All-nil}
 use Rattle.std.proofs.lemmas.List.Sums.{sum_by-cons}
 use Rattle.capnp_model.specs.Bytes.{words_in_bytes}
-use Rattle.capnp_model.specs.Messages.{cut}
+use Rattle.capnp_model.specs.Messages.{cut, halves}
 use Rattle.capnp_stream.specs.declared.segments.Bounds.{Bounds}
 use Rattle.capnp_stream.specs.Segments.{whole_words, bounds_from}
 
@@ -79,3 +79,21 @@ bounds_from-within size at (n ∷ ns) fits =
     let first : Bounds = record { start = at; end = at + 8 * n } in
     let one : AreWithin size first = (omega arith, omega arith, omega (arith, total)) in
     All-cons (AreWithin size) first (bounds_from (at + 8 * n) ns) one (bounds_from-within size (at + 8 * n) ns (omega (arith, total)))
+
+-- eight bytes are a word
+pub whole_words-step : (bytes : List ℕ) → 8 ≤ length bytes → whole_words bytes ≡ from_le_bytes w64 (take 8 bytes) ∷ whole_words (drop 8 bytes)
+whole_words-step bytes long =
+    let rest : length (drop 8 bytes) + 8 ≡ length bytes = omega (arith, length-drop 8 bytes) in
+    let count : length bytes / 8 ≡ suc (length (drop 8 bytes) / 8) = omega arith in
+    rw (count, sym (from_le_bytes-take 8 bytes (omega arith) long)) refl
+
+-- the lengths read so far and those that are left
+pub lengths-step : (lengths once twice : List ℕ) (bytes behind : List ℕ) (word : ℕ) (all : List ℕ) → 8 ≤ length bytes → behind ≡ drop 8 bytes → word ≡ from_le_bytes w64 (take 8 bytes)
+    → once ≡ lengths ++ word % 2 ^ 32 ∷ [] → twice ≡ once ++ word / 2 ^ 32 ∷ [] → lengths ++ halves (whole_words bytes) ≡ all → twice ++ halves (whole_words behind) ≡ all
+lengths-step lengths once twice bytes behind word all long left reads one two before =
+    let a = word % 2 ^ 32 in
+    let b = word / 2 ^ 32 in
+    let now : whole_words bytes ≡ word ∷ whole_words behind = whole_words-step bytes long ∙ ap (λ w. w ∷ whole_words (drop 8 bytes)) (sym reads) ∙ ap (λ l. word ∷ whole_words l) (sym left) in
+    let whole : lengths ++ a ∷ b ∷ halves (whole_words behind) ≡ all = ap (λ ws. lengths ++ halves ws) (sym now) ∙ before in
+    ap (λ l. l ++ halves (whole_words behind)) (two ∙ ap (λ l. l ++ b ∷ []) one)
+    ∙ append_assoc (lengths ++ a ∷ []) (b ∷ []) (halves (whole_words behind)) ∙ append_assoc lengths (a ∷ []) (b ∷ halves (whole_words behind)) ∙ whole

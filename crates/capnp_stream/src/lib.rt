@@ -3,6 +3,7 @@
 
 pub mod adapters;
 mod devices;
+pub mod frames;
 pub mod memory;
 pub mod segments;
 pub mod traits;
