@@ -1,12 +1,14 @@
 -- Words in bytes, and the segments that they are cut into.
-use Rattle.std.proofs.Common.{◌≡◌, ℕ, zero, suc, ◌+◌, ◌-◌, ◌*◌, ◌/◌, ◌%◌, ◌^◌, ◌≤◌, append_assoc, List, [], ◌∷◌, ◌++◌, length, take, drop, map, sum, refl, sym, ap, ◌∙◌, arith, length-drop, length-take-le, take-append-drop}
+use Rattle.std.proofs.Common.{◌≡◌, ℕ, zero, suc, ◌+◌, ◌-◌, ◌*◌, ◌/◌, ◌%◌, ◌^◌, ◌≤◌, ◌<◌, append_assoc, append-nil, get_or, List, [], ◌∷◌, ◌++◌, length, take, drop, map, sum, refl, sym, ap, ◌∙◌, arith, length-drop, length-take-le, take-append-drop}
 use Rattle.std.specs.Prelude.{All}
 use Rattle.std.specs.List.{slice_range}
-use Rattle.std.specs.Int.{from_le_bytes, w64}
-use Rattle.std.proofs.lemmas.List.{drop-take, drop-drop}
+use Rattle.std.specs.Int.{from_le_bytes, to_le_bytes, w64}
+use Rattle.std.proofs.lemmas.Nat.{le_bytes_8}
+use Rattle.capnp_stream.specs.Frames.{frame_of}
+use Rattle.std.proofs.lemmas.List.{drop-take, drop-drop, get_or-drop, nil_from_length}
 use Rattle.std.proofs.lemmas.List.Elements.{All-cons, All-nil}
 use Rattle.std.proofs.lemmas.List.Sums.{sum_by-cons}
-use Rattle.capnp_model.specs.Bytes.{words_in_bytes}
+use Rattle.capnp_model.specs.Bytes.{words_in_bytes, bytes_of_words}
 use Rattle.capnp_model.specs.Messages.{cut, halves}
 use Rattle.capnp_stream.specs.declared.segments.Bounds.{Bounds}
 use Rattle.capnp_stream.specs.Segments.{whole_words, bounds_from}
@@ -97,3 +99,37 @@ lengths-step lengths once twice bytes behind word all long left reads one two be
     let whole : lengths ++ a ∷ b ∷ halves (whole_words behind) ≡ all = ap (λ ws. lengths ++ halves ws) (sym now) ∙ before in
     ap (λ l. l ++ halves (whole_words behind)) (two ∙ ap (λ l. l ++ b ∷ []) one)
     ∙ append_assoc (lengths ++ a ∷ []) (b ∷ []) (halves (whole_words behind)) ∙ append_assoc lengths (a ∷ []) (b ∷ halves (whole_words behind)) ∙ whole
+
+-- ---- words that were read of bytes, written as bytes
+
+-- Numbers that a byte holds.
+abbrev pub AreBytes : List ℕ → Type 0
+AreBytes bytes = (i : ℕ) → get_or bytes i 0 < 256
+
+AreBytes-take : (n : ℕ) (bytes : List ℕ) → AreBytes bytes → AreBytes (take n bytes)
+AreBytes-take zero bytes small i = omega arith
+AreBytes-take (suc n) [] small i = omega arith
+AreBytes-take (suc n) (b ∷ bytes) small zero = small zero
+AreBytes-take (suc n) (b ∷ bytes) small (suc i) = AreBytes-take n bytes (λ j. small (suc j)) i
+
+AreBytes-drop : (n : ℕ) (bytes : List ℕ) → AreBytes bytes → AreBytes (drop n bytes)
+AreBytes-drop n bytes small i = rw (get_or-drop n bytes i 0) (small (n + i))
+
+words_in_bytes-length : (n : ℕ) (bytes : List ℕ) → length (words_in_bytes n bytes) ≡ n
+words_in_bytes-length zero bytes = refl
+words_in_bytes-length (suc n) bytes = let rest = words_in_bytes-length n (drop 8 bytes) in omega arith
+
+bytes_of_words-back : (n : ℕ) (bytes : List ℕ) → length bytes ≡ 8 * n → AreBytes bytes → bytes_of_words (words_in_bytes n bytes) ≡ bytes
+bytes_of_words-back zero bytes long small = sym (nil_from_length bytes (omega arith))
+bytes_of_words-back (suc n) bytes long small =
+    let wide : 8 ≤ length bytes = omega arith in
+    let first : to_le_bytes w64 (from_le_bytes w64 bytes) ≡ take 8 bytes = le_bytes_8 (take 8 bytes) (from_le_bytes w64 bytes) (length-take-le 8 bytes wide) (AreBytes-take 8 bytes small) (sym (from_le_bytes-take 8 bytes (omega arith) wide)) in
+    let rest : bytes_of_words (words_in_bytes n (drop 8 bytes)) ≡ drop 8 bytes = bytes_of_words-back n (drop 8 bytes) (omega (arith, length-drop 8 bytes)) (AreBytes-drop 8 bytes small) in
+    ap (λ l. l ++ bytes_of_words (words_in_bytes n (drop 8 bytes))) first ∙ ap (λ l. take 8 bytes ++ l) rest ∙ take-append-drop 8 bytes
+
+pub frame_of-bytes : (bytes : List ℕ) → length bytes % 8 ≡ 0 → AreBytes bytes → frame_of (whole_words bytes) ≡ to_le_bytes w64 (length bytes / 8 * 2 ^ 32) ++ bytes
+frame_of-bytes bytes whole small =
+    let n = length bytes / 8 in
+    let words : bytes_of_words (whole_words bytes) ≡ bytes = bytes_of_words-back n bytes (omega arith) small in
+    let first : 0 + 2 ^ 32 * length (whole_words bytes) ≡ n * 2 ^ 32 = omega (arith, words_in_bytes-length n bytes) in
+    rw (first, words) (ap (λ l. l ++ (bytes ++ [])) (append-nil (to_le_bytes w64 (n * 2 ^ 32))) ∙ ap (λ l. to_le_bytes w64 (n * 2 ^ 32) ++ l) (append-nil bytes))

@@ -33,7 +33,7 @@ AppendsPart old new bs = (front back : List ℕ) × (bs ≡ front ++ back) × Ap
 
 -- Known room for bytes falls by n.
 abbrev pub RoomFalls : Option ℕ → Option ℕ → ℕ → Type 0
-RoomFalls None new n = ⊤
+RoomFalls None new n = new ≡ None
 RoomFalls (Some old) None n = ⊥
 RoomFalls (Some old) (Some new) n = old ≡ new + n
 

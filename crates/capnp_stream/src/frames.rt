@@ -1,14 +1,15 @@
 //! Framed messages of any number of segments.
-ghost use Rattle.std.specs.Prelude.{◌≡◌, ◌≢◌, ◌≤◌, ℕ, ◌*◌, ◌/◌, ◌^◌, ◌<◌, ◌↔◌, [], ◌∷◌, length, take, sum, IfSome, IfNone, IfOk, IfErr, OnOk, OnErr, IsTrue, MatchBool};
-ghost use Rattle.std.specs.Io.KnownBytes.{Keeps, Consumes, IsAtEnd};
+ghost use Rattle.std.specs.Prelude.{◌≡◌, ◌≢◌, ◌≤◌, ℕ, ◌+◌, ◌*◌, ◌/◌, ◌%◌, ◌^◌, ◌<◌, ◌↔◌, [], ◌∷◌, length, take, sum, IfSome, IfNone, IfOk, IfErr, OnOk, OnErr, IsTrue, MatchBool};
+ghost use Rattle.std.specs.Io.KnownBytes.{Keeps, Consumes, Appends, IsAtEnd};
 ghost use Rattle.capnp_units.specs.declared.kinds.ErrorKind.{ErrorKind};
 ghost use Rattle.capnp_model.specs.Messages.{halves};
 ghost use Rattle.capnp_stream.specs.Counting.{Counts};
 ghost use Rattle.capnp_stream.specs.Segments.{whole_words, segments_of};
-ghost use Rattle.capnp_stream.specs.Frames.{word_limit, IsFrameFault, TakesMessage, TakesPart, TakesTable, IsFramingKind, IsReadKind, IsCut};
+ghost use Rattle.capnp_stream.specs.Frames.{word_limit, IsFrameFault, TakesMessage, TakesPart, TakesTable, IsFramingKind, IsReadKind, IsCut, frame_of};
+ghost use Rattle.capnp_stream.specs.Streams.{AppendsPart, RoomFalls, IsWriteRefusal};
 
 use crate::segments::OwnedSegments;
-use crate::traits::{BufRead, Read};
+use crate::traits::{BufRead, Read, Write};
 use capnp_units::errors::{Error, Result};
 use capnp_units::kinds::ErrorKind;
 use std::alloc::Global;
@@ -181,4 +182,19 @@ pub fn read_message<R: BufRead>(
         Some(message) => Ok(message),
         None => Err(Error::from(ErrorKind::PrematureEndOfFile)),
     }
+}
+
+/// Writes a message of one segment, which these bytes hold. After a refusal a beginning of it was written.
+pub fn write_segment<W: Write>(out: &mut W, bytes: &[u8]) -> Result<()>
+    requires whole { length bytes.now % 8 ≡ 0 }
+    requires small { length bytes.now < 8 * 2 ^ 32 }
+    ensures ok { OnOk result (Appends (W.contents out.old) (W.contents out.new) (frame_of (whole_words bytes.now))) }
+    ensures falls { OnOk result (RoomFalls (W.room out.old) (W.room out.new) (8 + length bytes.now)) }
+    ensures err { OnErr result (AppendsPart (W.contents out.old) (W.contents out.new) (frame_of (whole_words bytes.now))) }
+    ensures refusal { IfErr result (λ e. IsWriteRefusal W.may_grow (W.room out.old) (8 + length bytes.now) e.kind) }
+    ensures count { Counts result (W.failures out.old) (W.failures out.new) }
+{
+    let first = (bytes.len() / 8) as u64 * HALF;
+    out.write_all(&first.to_le_bytes())?;
+    out.write_all(bytes)
 }
