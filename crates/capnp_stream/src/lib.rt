@@ -6,4 +6,6 @@ mod devices;
 pub mod frames;
 pub mod memory;
 pub mod segments;
+#[cfg(test)]
+mod tests;
 pub mod traits;
