@@ -112,7 +112,7 @@ fn read_table<R: BufRead>(alloc: Global, source: &mut R, limit: Option<usize>) -
     fill(source, &mut first)?;
     let word = u64::from_le_bytes(first);
     let less_one = (word % HALF) as usize;
-    if less_one >= 511 {
+    if less_one + 1 >= SEGMENTS_COUNT_LIMIT {
         return Err(Error::from(ErrorKind::InvalidNumberOfSegments));
     }
     let others = take_bytes(alloc, source, (less_one + 1) / 2 * 8)?;
