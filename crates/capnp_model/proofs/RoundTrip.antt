@@ -1,5 +1,5 @@
 -- The words of a value mean the value.
-use Rattle.std.proofs.Common.{◌≡◌, ℕ, zero, suc, ◌+◌, ◌-◌, ◌*◌, ◌^◌, ◌≤◌, ◌<◌, max, true, false, eqb, leb, List, [], ◌∷◌, ◌++◌, length, take, drop, Some, refl, ap, subst, sym, ◌∙◌, append_assoc, arith}
+use Rattle.std.proofs.Common.{◌≡◌, ℕ, zero, suc, ◌+◌, ◌-◌, ◌*◌, ◌^◌, ◌≤◌, ◌<◌, max, true, false, eqb, leb, List, [], ◌∷◌, ◌++◌, length, take, drop, Some, Ok, refl, ap, subst, sym, ◌∙◌, append_assoc, arith}
 use Rattle.std.proofs.lemmas.Bool.{le-leb, ne_eqb}
 use Rattle.std.proofs.lemmas.List.{length-append, drop_at, take_at, append-nil}
 use Rattle.capnp_model.specs.Sections.{words_of, section_of, words_for}
@@ -23,20 +23,20 @@ links_length (t ▸ ts) behind before = ap suc (links_length ts behind (before +
 abbrev at : Object → Found
 at o = record { pads = 0; object = o }
 
-found_struct : (x : List ℕ) (k w gap d c : ℕ) → word_at (x ∷ []) (place 0 k) ≡ Some w → (w ≡ 0 → ⊥) → pointer_of w ≡ to_struct gap d c → gap < 2 ^ 29 → found_at (x ∷ []) (place 0 k) ≡ Some (at (a_struct (place 0 (k + 1 + gap)) d c))
+found_struct : (x : List ℕ) (k w gap d c : ℕ) → word_at (x ∷ []) (place 0 k) ≡ Some w → (w ≡ 0 → ⊥) → pointer_of w ≡ to_struct gap d c → gap < 2 ^ 29 → found_at (x ∷ []) (place 0 k) ≡ Ok (at (a_struct (place 0 (k + 1 + gap)) d c))
 found_struct x k w gap d c e some says lt =
     let test : eqb w 0 ≡ false = ne_eqb _ _ some in
     rw (e, test, says, begins_behind (place 0 (k + 1)) gap lt) refl
 
-found_list : (x : List ℕ) (k w gap size n : ℕ) → word_at (x ∷ []) (place 0 k) ≡ Some w → (w ≡ 0 → ⊥) → pointer_of w ≡ to_list gap size n → gap < 2 ^ 29 → found_at (x ∷ []) (place 0 k) ≡ Some (at (a_list (place 0 (k + 1 + gap)) size n))
+found_list : (x : List ℕ) (k w gap size n : ℕ) → word_at (x ∷ []) (place 0 k) ≡ Some w → (w ≡ 0 → ⊥) → pointer_of w ≡ to_list gap size n → gap < 2 ^ 29 → found_at (x ∷ []) (place 0 k) ≡ Ok (at (a_list (place 0 (k + 1 + gap)) size n))
 found_list x k w gap size n e some says lt =
     let test : eqb w 0 ≡ false = ne_eqb _ _ some in
     rw (e, test, says, begins_behind (place 0 (k + 1)) gap lt) refl
 
-found_null : (x : List ℕ) (k : ℕ) → word_at (x ∷ []) (place 0 k) ≡ Some 0 → found_at (x ∷ []) (place 0 k) ≡ Some (at nothing)
+found_null : (x : List ℕ) (k : ℕ) → word_at (x ∷ []) (place 0 k) ≡ Some 0 → found_at (x ∷ []) (place 0 k) ≡ Ok (at nothing)
 found_null x k e = rw e refl
 
-found_capability : (x : List ℕ) (k i : ℕ) → i < 2 ^ 32 → word_at (x ∷ []) (place 0 k) ≡ Some (3 + 2 ^ 32 * i) → found_at (x ∷ []) (place 0 k) ≡ Some (at (a_capability i))
+found_capability : (x : List ℕ) (k i : ℕ) → i < 2 ^ 32 → word_at (x ∷ []) (place 0 k) ≡ Some (3 + 2 ^ 32 * i) → found_at (x ∷ []) (place 0 k) ≡ Ok (at (a_capability i))
 found_capability x k i lt e =
     let test : eqb (3 + 2 ^ 32 * i) 0 ≡ false = ne_eqb _ _ (omega arith) in
     rw (e, test, capability_says i lt) refl
@@ -53,7 +53,7 @@ cells_length (element section ts es) before d k f =
 -- Where a struct stands, by the word that points at it.
 record Stands (x : List ℕ) (k : ℕ) (d section : ℕ) (ts : Trees) : Type 0 where
   start : ℕ
-  found : found_at (x ∷ []) (place 0 k) ≡ Some (at (a_struct (place 0 start) d (tree_count ts)))
+  found : found_at (x ∷ []) (place 0 k) ≡ Ok (at (a_struct (place 0 start) d (tree_count ts)))
   words : Holds x start (words_of d section ++ (links 0 0 ts ++ bodies ts))
 
 module _ (x : List ℕ) (small : length x ≤ 2 ^ 29) where
