@@ -1,6 +1,8 @@
 -- Values of worked messages: their trees, costs, depths and canonical words.
 use Rattle.std.proofs.Common.{◌≡◌, refl, ◌+◌, ◌-◌, ◌*◌, ◌^◌, [], ◌∷◌, ◌++◌, Some, None, length, replicate}
 use Rattle.std.specs.Option.{option_map}
+use Rattle.capnp_model.specs.Kinds.{OutOfBounds, MalformedFarPointer, WrongPointerKind, UnknownPointerType, NestingLimitExceeded}
+use Rattle.capnp_model.specs.Faults.{faults_at}
 use Rattle.capnp_model.specs.Segments.{root}
 use Rattle.capnp_model.specs.Trees.{null, structure, plain_list, struct_list, capability, none, ◌▸◌, no_elements, element, depth}
 use Rattle.capnp_model.specs.Traversal.{tree_at, cost_at}
@@ -50,9 +52,17 @@ far_pointer_in_pad : tree_at 64 ((4294967302 ∷ []) ∷ (8589934594 ∷ 2 ∷ [
 unfolding tree_at
 far_pointer_in_pad = refl
 
+far_pointer_in_pad_kind : faults_at 64 ((4294967302 ∷ []) ∷ (8589934594 ∷ 2 ∷ []) ∷ (7 ∷ []) ∷ []) root ≡ MalformedFarPointer ∷ []
+unfolding faults_at
+far_pointer_in_pad_kind = refl
+
 segment_not_there : tree_at 64 ((21474836482 ∷ []) ∷ []) root ≡ None
 unfolding tree_at
 segment_not_there = refl
+
+segment_not_there_kind : faults_at 64 ((21474836482 ∷ []) ∷ []) root ≡ OutOfBounds ∷ []
+unfolding faults_at
+segment_not_there_kind = refl
 
 byte_list : tree_at 64 ((77309411329 ∷ 16961 ∷ []) ∷ []) root ≡ Some (plain_list 2 2 16961)
 unfolding tree_at
@@ -119,6 +129,10 @@ canonical_message_words = refl
 no_root_word : tree_at 64 ([] ∷ []) root ≡ None
 unfolding tree_at
 no_root_word = refl
+
+no_root_word_kind : faults_at 64 ([] ∷ []) root ≡ OutOfBounds ∷ []
+unfolding faults_at
+no_root_word_kind = refl
 
 list_as_root : tree_at 64 ((1 ∷ []) ∷ []) root ≡ Some (plain_list 0 0 0)
 unfolding tree_at
@@ -187,6 +201,46 @@ one_empty_struct_more_cost = refl
 many_empty_structs_stay : option_map (λ t. canonical_words (trim t)) (tree_at 64 ((281474976710656 ∷ 30064771073 ∷ 3992 ∷ []) ∷ []) root) ≡ Some (281474976710656 ∷ 30064771073 ∷ 3992 ∷ [])
 unfolding tree_at canonical_words trim
 many_empty_structs_stay = refl
+
+object_in_front_of_its_segment : faults_at 64 ((8589934584 ∷ []) ∷ []) root ≡ OutOfBounds ∷ []
+unfolding faults_at
+object_in_front_of_its_segment = refl
+
+tag_of_another_form : faults_at 64 ((64424509441 ∷ 4294967297 ∷ 0 ∷ []) ∷ []) root ≡ WrongPointerKind ∷ []
+unfolding faults_at
+tag_of_another_form = refl
+
+elements_past_their_words : faults_at 64 ((64424509441 ∷ 4294967304 ∷ 0 ∷ []) ∷ []) root ≡ OutOfBounds ∷ []
+unfolding faults_at
+elements_past_their_words = refl
+
+too_deep_kind : faults_at 1 ((281474976710656 ∷ 111669149697 ∷ 26984 ∷ []) ∷ []) root ≡ NestingLimitExceeded ∷ []
+unfolding faults_at
+too_deep_kind = refl
+
+cycle_kind : faults_at 64 ((281474976710656 ∷ 281479271677948 ∷ []) ∷ []) root ≡ NestingLimitExceeded ∷ []
+unfolding faults_at
+cycle_kind = refl
+
+capability_with_a_further_bit : faults_at 64 ((7 ∷ []) ∷ []) root ≡ UnknownPointerType ∷ []
+unfolding faults_at
+capability_with_a_further_bit = refl
+
+capability_with_a_further_bit_in_a_pad : faults_at 64 ((4294967298 ∷ []) ∷ (7 ∷ []) ∷ []) root ≡ UnknownPointerType ∷ []
+unfolding faults_at
+capability_with_a_further_bit_in_a_pad = refl
+
+capability_with_a_further_bit_in_a_long_pad : faults_at 64 ((4294967302 ∷ []) ∷ (8589934594 ∷ 7 ∷ []) ∷ (7 ∷ []) ∷ []) root ≡ UnknownPointerType ∷ []
+unfolding faults_at
+capability_with_a_further_bit_in_a_long_pad = refl
+
+faults_in_the_order_of_reading : faults_at 64 ((844424930131968 ∷ 21474836482 ∷ 0 ∷ 7 ∷ []) ∷ []) root ≡ OutOfBounds ∷ UnknownPointerType ∷ []
+unfolding faults_at
+faults_in_the_order_of_reading = refl
+
+no_fault : faults_at 64 ((562949953421312 ∷ 4294967300 ∷ 4294967296 ∷ 7 ∷ []) ∷ []) root ≡ []
+unfolding faults_at
+no_fault = refl
 
 tag_without_room : tree_at 64 ((281474976710656 ∷ 30064771073 ∷ 9 ∷ []) ∷ []) root ≡ None
 unfolding tree_at

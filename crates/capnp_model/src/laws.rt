@@ -1,6 +1,6 @@
 //! Laws of the definitions, each the contract of a function that does nothing.
 
-ghost use Rattle.std.specs.Prelude.{◌≡◌, ℕ, ◌+◌, ◌*◌, ◌^◌, ◌<◌, ◌≤◌, ◌⊎◌, Bool, true, false, List, [], ◌∷◌, ◌++◌, length, Some, Ok, bit_xor};
+ghost use Rattle.std.specs.Prelude.{◌≡◌, ℕ, ◌+◌, ◌*◌, ◌^◌, ◌<◌, ◌≤◌, ◌⊎◌, Bool, true, false, List, [], ◌∷◌, ◌++◌, length, Some, IsSome, Ok, bit_xor};
 ghost use Rattle.std.specs.List.{AllByRecursion};
 ghost use Rattle.capnp_model.specs.Sections.{bits_at, with_bits, words_of, section_of};
 ghost use Rattle.capnp_model.specs.Segments.{Segments, Place, root};
@@ -8,6 +8,7 @@ ghost use Rattle.capnp_model.specs.Trees.{Tree, depth};
 ghost use Rattle.capnp_model.specs.Trimming.{trim};
 ghost use Rattle.capnp_model.specs.Traversal.{tree_at, cost_at};
 ghost use Rattle.capnp_model.specs.Coverage.{covered, Keeps};
+ghost use Rattle.capnp_model.specs.Faults.{faults_at};
 ghost use Rattle.capnp_model.specs.Encoding.{body, canonical_words};
 ghost use Rattle.capnp_model.specs.Fits.{Fits};
 ghost use Rattle.capnp_model.specs.Bytes.{bytes_of_words};
@@ -45,6 +46,12 @@ pub fn values_that_are_read()
     ensures deep { (n : ℕ) (s : Segments) (p : Place) (t : Tree) → tree_at n s p ≡ Some t → depth t ≤ n }
     ensures levels { (n m : ℕ) (s : Segments) (p : Place) (t : Tree) → tree_at n s p ≡ Some t → depth t ≤ m → tree_at m s p ≡ Some t }
     ensures fits { (n : ℕ) (s : Segments) (p : Place) (t : Tree) → tree_at n s p ≡ Some t → Fits t }
+{}
+
+/// A value is read just where no fault is met.
+pub fn faults_of_values()
+    ensures read { (n : ℕ) (s : Segments) (p : Place) (t : Tree) → tree_at n s p ≡ Some t → faults_at n s p ≡ [] }
+    ensures none { (n : ℕ) (s : Segments) (p : Place) → faults_at n s p ≡ [] → IsSome (tree_at n s p) }
 {}
 
 /// Segments that keep what a value covers keep the value.

@@ -1,5 +1,6 @@
-"""Writes the worked examples as lemmas that computing proves."""
-OUT='model/crates/capnp_model/proofs/'
+"""Writes the worked examples as lemmas that computing proves: python3 crates/capnp_model/tools/rows.py, then rt tidy in the crate."""
+from pathlib import Path
+OUT=Path(__file__).resolve().parent.parent/'proofs'
 def by(t):
     out=[]
     for tok in t.replace('/',' ').split():
@@ -20,7 +21,7 @@ class F:
     def decl(self,name,unf,typ,proof='refl'):
         u=f'unfolding {unf}\n' if unf else ''
         self.rows.append(f'{name} : {typ}\n{u}{name} = {proof}\n')
-    def save(self): open(OUT+self.file,'w').write(self.head+'\n'+'\n'.join(self.rows))
+    def save(self): (OUT/self.file).write_text(self.head+'\n'+'\n'.join(self.rows))
 # ---- trees: sections are numbers
 def num(ws): return sum(x<<(64*i) for i,x in enumerate(ws))
 def kids(ts):
@@ -36,6 +37,8 @@ def R(d,k,rws):
 head='''-- Values of worked messages: their trees, costs, depths and canonical words.
 use Rattle.std.proofs.Common.{◌≡◌, ℕ, refl, ◌+◌, ◌-◌, ◌*◌, ◌^◌, List, [], ◌∷◌, ◌++◌, Option, Some, None, length, replicate}
 use Rattle.std.specs.Option.{option_map}
+use Rattle.capnp_model.specs.Kinds.{OutOfBounds, MalformedFarPointer, WrongPointerKind, UnknownPointerType, NestingLimitExceeded}
+use Rattle.capnp_model.specs.Faults.{faults_at}
 use Rattle.capnp_model.specs.Segments.{Segments, root}
 use Rattle.capnp_model.specs.Trees.{Tree, Trees, null, structure, plain_list, pointer_list, struct_list, capability, none, ◌▸◌, no_elements, element, depth}
 use Rattle.capnp_model.specs.Traversal.{tree_at, cost_at}
@@ -46,6 +49,7 @@ V=F('ValueExamples.antt',head)
 def tree(name,s,n,t): V.decl(name,'tree_at',f'tree_at {n} {s} root ≡ {t}')
 def cost(name,s,n,c): V.decl(name,'cost_at',f'cost_at {n} {s} root ≡ {c}')
 def canonical_words(name,t,words): V.decl(name,'canonical_words trim',f'canonical_words (trim {t}) ≡ {L(w(words))}')
+def faults(name,s,n,*kinds): V.decl(name,'faults_at',f'faults_at {n} {s} root ≡ {L(kinds)}')
 def dep(name,t,d): V.decl(name,None,f'depth {t} ≡ {d}')
 tree('null_root',seg('00*8'),64,'Some null')
 canonical_words('empty_struct_words','(structure 0 0 none)','fc ff ff ff 00 00 00 00')
@@ -57,7 +61,8 @@ r2=seg('06 00 00 00 01 00 00 00','02 00 00 00 02 00 00 00 / 00 00 00 00 01 00 00
 tree('double_far',r2,64,'Some '+t2); cost('double_far_cost',r2,64,3); dep('struct_depth',t2,1)
 tree('empty_struct_in_pad',seg('06 00 00 00 01 00 00 00','02 00 00 00 02 00 00 00 / 00*8','07 00*7'),64,'Some '+S([]))
 tree('far_pointer_in_pad',seg('06 00 00 00 01 00 00 00','02 00 00 00 02 00 00 00 / 02 00*7','07 00*7'),64,'None')
-tree('segment_not_there',seg('02 00 00 00 05 00 00 00'),64,'None')
+faults('far_pointer_in_pad_kind',seg('06 00 00 00 01 00 00 00','02 00 00 00 02 00 00 00 / 02 00*7','07 00*7'),64,'MalformedFarPointer')
+tree('segment_not_there',seg('02 00 00 00 05 00 00 00'),64,'None'); faults('segment_not_there_kind',seg('02 00 00 00 05 00 00 00'),64,'OutOfBounds')
 tree('byte_list',seg('01 00 00 00 12 00 00 00 / 41 42 00*6'),64,'Some '+PL(2,2,0x4241))
 tree('byte_list_with_more_bits',seg('01 00 00 00 12 00 00 00 / 41 42 43 00*5'),64,'Some '+PL(2,2,0x4241))
 t7=S([],PL(2,3,0x6968))
@@ -75,7 +80,7 @@ tree('trailing_zero_word',seg('00 00 00 00 03 00 00 00 / 11*8 / 00*7 80 / 00*8')
 t16b=S([],S(w('ee*8')),S([]))
 tree('canonical_message',seg('00 00 00 00 00 00 02 00 / 04 00 00 00 01 00 00 00 / fc ff ff ff 00 00 00 00 / ee*8'),64,'Some '+t16b)
 canonical_words('canonical_message_words',t16b,'00 00 00 00 00 00 02 00 / 04 00 00 00 01 00 00 00 / fc ff ff ff 00 00 00 00 / ee*8')
-tree('no_root_word','([] ∷ [])',64,'None'); tree('list_as_root',seg('01 00*7'),64,'Some '+PL(0,0,0))
+tree('no_root_word','([] ∷ [])',64,'None'); faults('no_root_word_kind','([] ∷ [])',64,'OutOfBounds'); tree('list_as_root',seg('01 00*7'),64,'Some '+PL(0,0,0))
 tree('capability_as_root',seg('03 00*7'),64,'Some (capability 0)')
 r20=seg('00 00 00 00 00 00 01 00 / 01 00 00 00 37 00 00 00 / 08 00 00 00 03 00 00 00 / 01 00*7 / 00*16 / 02 00*7 / 00*16')
 t20=S([],R(3,0,[([1,0,0],[]),([2,0,0],[])]))
@@ -94,6 +99,16 @@ e998='00 00 00 00 00 00 01 00 / 01 00 00 00 07 00 00 00 / 98 0f 00*6'
 cost('many_empty_structs_cost',seg(e998),64,1000)
 cost('one_empty_struct_more_cost',seg('00 00 00 00 00 00 01 00 / 01 00 00 00 07 00 00 00 / 9c 0f 00*6'),64,1001)
 V.decl('many_empty_structs_stay','tree_at canonical_words trim',f'option_map (λ t. canonical_words (trim t)) (tree_at 64 {seg(e998)} root) ≡ Some ({L(w(e998))})')
+faults('object_in_front_of_its_segment',seg('f8 ff ff ff 01 00 00 00'),64,'OutOfBounds')
+faults('tag_of_another_form',seg('01 00 00 00 0f 00 00 00 / 01 00 00 00 01 00 00 00 / 00*8'),64,'WrongPointerKind')
+faults('elements_past_their_words',seg('01 00 00 00 0f 00 00 00 / 08 00 00 00 01 00 00 00 / 00*8'),64,'OutOfBounds')
+faults('too_deep_kind',seg('00 00 00 00 00 00 01 00 / 01 00 00 00 1a 00 00 00 / 68 69 00*6'),1,'NestingLimitExceeded')
+faults('cycle_kind',cyc,64,'NestingLimitExceeded')
+faults('capability_with_a_further_bit',seg('07 00*7'),64,'UnknownPointerType')
+faults('capability_with_a_further_bit_in_a_pad',seg('02 00 00 00 01 00 00 00','07 00*7'),64,'UnknownPointerType')
+faults('capability_with_a_further_bit_in_a_long_pad',seg('06 00 00 00 01 00 00 00','02 00 00 00 02 00 00 00 / 07 00*7','07 00*7'),64,'UnknownPointerType')
+faults('faults_in_the_order_of_reading',seg('00 00 00 00 00 00 03 00 / 02 00 00 00 05 00 00 00 / 00*8 / 07 00*7'),64,'OutOfBounds','UnknownPointerType')
+faults('no_fault',sh,64)
 tree('tag_without_room',seg('00 00 00 00 00 00 01 00 / 01 00 00 00 07 00 00 00 / 09 00*7'),64,'None')
 for n,s in [('pointers',6),('words',5),('structs',7)]:
     V.decl(f'claimed_{n}','tree_at',f'tree_at 64 (((1 + 2 ^ 32 * {s} + 2 ^ 35 * (2 ^ 29 - 1)) ∷ []) ∷ []) root ≡ None')
@@ -113,13 +128,13 @@ use Rattle.capnp_model.specs.Messages.{message_at, frame_at, packed_at, spelled}
 T=F('StreamExamples.antt',head)
 FF='Err FailedToFillTheWholeBuffer'; PE='Err PrematureEndOfPackedInput'
 def m(name,form,limit,t,ans): T.decl(name,'message_at unpacked_from',f'{form}_at {limit} {B(t)} ≡ {ans}')
-m('half_a_word','framed',1000,'00*4',FF)
-m('too_many_segments','framed',1000,'ff 01 00 00 00 00 00 00','Err InvalidNumberOfSegments')
-m('too_many_words','framed',1,'F2','Err MessageTooLarge')
-m('more_words_than_the_limit','framed',3,'F4','Err MessageTooLarge')
-m('one_message_and_a_byte','framed',1000,'F1 / 00*8 / 09','Ok ((0 ∷ []) ∷ [], 9 ∷ [])')
+m('half_a_word','frame',1000,'00*4',FF)
+m('too_many_segments','frame',1000,'ff 01 00 00 00 00 00 00','Err InvalidNumberOfSegments')
+m('too_many_words','frame',1,'F2','Err MessageTooLarge')
+m('more_words_than_the_limit','frame',3,'F4','Err MessageTooLarge')
+m('one_message_and_a_byte','frame',1000,'F1 / 00*8 / 09','Ok ((0 ∷ []) ∷ [], 9 ∷ [])')
 m4='01 00 00 00 01 00 00 00 / 02 00 00 00 00 00 00 00 / 02 00 00 00 01 00 00 00 / 00 00 00 00 01 00 00 00 / 07 00*7'
-m('two_segments','framed',1000,m4,'Ok ('+LL([w('02 00 00 00 01 00 00 00'),w('00 00 00 00 01 00 00 00 / 07 00*7')])+', [])')
+m('two_segments','frame',1000,m4,'Ok ('+LL([w('02 00 00 00 01 00 00 00'),w('00 00 00 00 01 00 00 00 / 07 00*7')])+', [])')
 b4=by(m4)
 for k in range(0,40): T.decl(f'cut_after_{k}','message_at',f'frame_at 1000 ({L(b4[:k])}) ≡ {FF}')
 T.decl('three_segments_table',None,f'take 16 (spelled bytes_of_words ((1 ∷ []) ∷ [] ∷ (2 ∷ 3 ∷ []) ∷ [])) ≡ {L(by("02 00 00 00 01 00 00 00 / 00 00 00 00 02 00 00 00"))}')
