@@ -1,5 +1,5 @@
 -- What a relay makes of a stream of messages.
-use Rattle.std.specs.Prelude.{ℕ, ◌+◌, ◌≡◌, List, [], ◌∷◌, ◌++◌, Ok, Err, codes, decimal}
+use Rattle.std.specs.Prelude.{ℕ, ◌+◌, ◌≡◌, List, [], ◌∷◌, ◌++◌, Some, Ok, Err, codes, decimal}
 use Rattle.std.specs.List.{flat_map}
 use Rattle.capnp_model.specs.Kinds.{Kind, kind_name}
 use Rattle.capnp_model.specs.Segments.{Segments}
@@ -40,7 +40,7 @@ lines_of answers n (s ∷ messages) = line_of n (answers s) ++ lines_of answers 
 -- Bytes begin with these messages, whose lengths keep the limit, and then the rest.
 abbrev pub BeginWith : Reader → ℕ → List ℕ → List Segments → List ℕ → Type 0
 BeginWith read limit bytes [] rest = bytes ≡ rest
-BeginWith read limit bytes (s ∷ messages) rest = (more : List ℕ) × (message_at read limit bytes ≡ Ok (s, more)) × BeginWith read limit more messages rest
+BeginWith read limit bytes (s ∷ messages) rest = (more : List ℕ) × (message_at read (Some limit) bytes ≡ Ok (s, more)) × BeginWith read limit more messages rest
 
 -- How a run ends.
 pub data End : Type 0 where
@@ -50,7 +50,7 @@ pub data End : Type 0 where
 -- The bytes behind the answered messages end a run.
 abbrev pub EndsBy : Reader → ℕ → List ℕ → End → Type 0
 EndsBy read limit rest finished = rest ≡ []
-EndsBy read limit rest (broken kind) = (rest ≡ [] → ⊥) × (message_at read limit rest ≡ Err kind)
+EndsBy read limit rest (broken kind) = (rest ≡ [] → ⊥) × (message_at read (Some limit) rest ≡ Err kind)
 
 -- Bytes go to what is written, what is logged and how the run ends.
 pub record IsRun (read : Reader) (write : Writer) (limit : ℕ) (answers : Segments → Answer) (bytes output log : List ℕ) (end : End) : Type 0 where

@@ -1,6 +1,6 @@
 //! Laws of the definitions, each the contract of a function that does nothing.
 
-ghost use Rattle.std.specs.Prelude.{◌≡◌, ℕ, ◌+◌, ◌*◌, ◌^◌, ◌<◌, ◌≤◌, ◌⊎◌, Bool, true, false, List, [], ◌∷◌, ◌++◌, length, Some, IsSome, Ok, bit_xor};
+ghost use Rattle.std.specs.Prelude.{◌≡◌, ℕ, ◌+◌, ◌*◌, ◌^◌, ◌<◌, ◌≤◌, ◌⊎◌, Bool, true, false, List, [], ◌∷◌, ◌++◌, length, Option, Some, IsSome, Ok, bit_xor};
 ghost use Rattle.std.specs.List.{AllByRecursion};
 ghost use Rattle.capnp_model.specs.Sections.{bits_at, with_bits, words_of, section_of};
 ghost use Rattle.capnp_model.specs.Segments.{Segments, Place, root};
@@ -11,9 +11,8 @@ ghost use Rattle.capnp_model.specs.Coverage.{covered, Keeps};
 ghost use Rattle.capnp_model.specs.Faults.{faults_at};
 ghost use Rattle.capnp_model.specs.Encoding.{body, canonical_words};
 ghost use Rattle.capnp_model.specs.Fits.{Fits};
-ghost use Rattle.capnp_model.specs.Bytes.{bytes_of_words};
 ghost use Rattle.capnp_model.specs.Packing.{packed, unpacked};
-ghost use Rattle.capnp_model.specs.Messages.{plain_words, frame_at, packed_at, spelled};
+ghost use Rattle.capnp_model.specs.Messages.{frame_at, packed_at, flat_at, frame, packed_message};
 ghost use Rattle.capnp_model.specs.Schemas.{struct, Node, Schema};
 ghost use Rattle.capnp_model.specs.Readings.{Record, record_of};
 ghost use Rattle.capnp_model.specs.Printing.{fields_in};
@@ -26,7 +25,7 @@ ghost use Rattle.capnp_model.specs.Projection.{projected};
 ghost use Rattle.capnp_model.specs.InKind.{in_kind};
 ghost use Rattle.capnp_model.specs.Calls.{Call};
 ghost use Rattle.capnp_model.specs.Answers.{Limits, value_within, answer};
-ghost use Rattle.capnp_model.specs.Spelling.{AreWords, CanSpell, Spells};
+ghost use Rattle.capnp_model.specs.Spelling.{AreWords, CanSpell, Frames, Packs};
 
 /// A number written into a data section is read back, and numbers that share no bit with it stay.
 pub fn numbers_in_sections()
@@ -87,16 +86,18 @@ pub fn packed_words()
 
 /// A written message is read, whatever follows it.
 pub fn written_messages()
-    ensures framed { (limit : ℕ) (s : Segments) (rest : List ℕ) → CanSpell limit s → frame_at limit (spelled bytes_of_words s ++ rest) ≡ Ok (s, rest) }
-    ensures packed { (limit : ℕ) (s : Segments) (rest : List ℕ) → CanSpell limit s → packed_at limit (spelled packed s ++ rest) ≡ Ok (s, rest) }
+    ensures framed { (limit : Option ℕ) (s : Segments) (rest : List ℕ) → CanSpell limit s → frame_at limit (frame s ++ rest) ≡ Ok (s, rest) }
+    ensures packed { (limit : Option ℕ) (s : Segments) (rest : List ℕ) → CanSpell limit s → packed_at limit (packed_message s ++ rest) ≡ Ok (s, rest) }
 {}
 
-/// Bytes behind a message change nothing of it, and no message begins another.
+/// Bytes behind a message change nothing of it, no message begins another, and a slice is read as a stream is.
 pub fn texts_of_messages()
-    ensures framed_more { (limit : ℕ) (b : List ℕ) (r : Segments × List ℕ) (x : List ℕ) → frame_at limit b ≡ Ok r → frame_at limit (b ++ x) ≡ Ok (r.0, r.1 ++ x) }
-    ensures packed_more { (limit : ℕ) (b : List ℕ) (r : Segments × List ℕ) (x : List ℕ) → packed_at limit b ≡ Ok r → packed_at limit (b ++ x) ≡ Ok (r.0, r.1 ++ x) }
-    ensures one_framed { (limit : ℕ) (b c : List ℕ) (s u : Segments) (x y : List ℕ) → Spells plain_words limit b s → Spells plain_words limit c u → b ++ x ≡ c ++ y → (b ≡ c) × (s ≡ u) }
-    ensures one_packed { (limit : ℕ) (b c : List ℕ) (s u : Segments) (x y : List ℕ) → Spells unpacked limit b s → Spells unpacked limit c u → b ++ x ≡ c ++ y → (b ≡ c) × (s ≡ u) }
+    ensures framed_more { (limit : Option ℕ) (b : List ℕ) (r : Segments × List ℕ) (x : List ℕ) → frame_at limit b ≡ Ok r → frame_at limit (b ++ x) ≡ Ok (r.0, r.1 ++ x) }
+    ensures packed_more { (limit : Option ℕ) (b : List ℕ) (r : Segments × List ℕ) (x : List ℕ) → packed_at limit b ≡ Ok r → packed_at limit (b ++ x) ≡ Ok (r.0, r.1 ++ x) }
+    ensures in_slice { (limit : Option ℕ) (b : List ℕ) (r : Segments × List ℕ) → frame_at limit b ≡ Ok r → flat_at limit b ≡ Ok r }
+    ensures of_slice { (limit : Option ℕ) (b : List ℕ) (r : Segments × List ℕ) → flat_at limit b ≡ Ok r → frame_at limit b ≡ Ok r }
+    ensures one_framed { (limit : Option ℕ) (b c : List ℕ) (s u : Segments) (x y : List ℕ) → Frames limit b s → Frames limit c u → b ++ x ≡ c ++ y → (b ≡ c) × (s ≡ u) }
+    ensures one_packed { (limit : Option ℕ) (b c : List ℕ) (s u : Segments) (x y : List ℕ) → Packs limit b s → Packs limit c u → b ++ x ≡ c ++ y → (b ≡ c) × (s ≡ u) }
 {}
 
 /// The record under an older schema is the older view of the record under a compatible newer one.

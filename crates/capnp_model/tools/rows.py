@@ -119,15 +119,16 @@ V.decl('chain_of_structs_words','tree_at canonical_words','option_map (λ t. len
 V.save()
 # ---- streams
 head='''-- Worked messages on streams, framed and packed.
-use Rattle.std.proofs.Common.{◌≡◌, ℕ, refl, ◌-◌, ◌^◌, List, [], ◌∷◌, ◌++◌, Ok, Err, length, take, replicate}
-use Rattle.capnp_model.specs.Kinds.{Kind, InvalidNumberOfSegments, MessageTooLarge, FailedToFillTheWholeBuffer, PrematureEndOfPackedInput, PackedInputDidNotEndCleanlyOnASegmentBoundary}
+use Rattle.std.proofs.Common.{◌≡◌, ℕ, refl, ◌-◌, ◌^◌, List, [], ◌∷◌, ◌++◌, Some, None, Ok, Err, length, take, replicate}
+use Rattle.capnp_model.specs.Kinds.{Kind, InvalidNumberOfSegments, MessageTooLarge, FailedToFillTheWholeBuffer, MessageEndsPrematurely, PrematureEndOfPackedInput, PackedInputDidNotEndCleanlyOnASegmentBoundary}
 use Rattle.capnp_model.specs.Bytes.{bytes_of_words}
 use Rattle.capnp_model.specs.Packing.{packed, unpacked, unpacked_from}
-use Rattle.capnp_model.specs.Messages.{message_at, frame_at, packed_at, spelled}
+use Rattle.capnp_model.specs.Messages.{message_at, frame_at, packed_at, flat_at, frame, packed_message}
 '''
 T=F('StreamExamples.antt',head)
 FF='Err FailedToFillTheWholeBuffer'; PE='Err PrematureEndOfPackedInput'
-def m(name,form,limit,t,ans): T.decl(name,'message_at unpacked_from',f'{form}_at {limit} {B(t)} ≡ {ans}')
+def limit_of(limit): return 'None' if limit is None else f'(Some {limit})'
+def m(name,form,limit,t,ans): T.decl(name,'message_at unpacked_from flat_at',f'{form}_at {limit_of(limit)} {B(t)} ≡ {ans}')
 m('half_a_word','frame',1000,'00*4',FF)
 m('too_many_segments','frame',1000,'ff 01 00 00 00 00 00 00','Err InvalidNumberOfSegments')
 m('too_many_words','frame',1,'F2','Err MessageTooLarge')
@@ -136,11 +137,11 @@ m('one_message_and_a_byte','frame',1000,'F1 / 00*8 / 09','Ok ((0 ∷ []) ∷ [],
 m4='01 00 00 00 01 00 00 00 / 02 00 00 00 00 00 00 00 / 02 00 00 00 01 00 00 00 / 00 00 00 00 01 00 00 00 / 07 00*7'
 m('two_segments','frame',1000,m4,'Ok ('+LL([w('02 00 00 00 01 00 00 00'),w('00 00 00 00 01 00 00 00 / 07 00*7')])+', [])')
 b4=by(m4)
-for k in range(0,40): T.decl(f'cut_after_{k}','message_at',f'frame_at 1000 ({L(b4[:k])}) ≡ {FF}')
-T.decl('three_segments_table',None,f'take 16 (spelled bytes_of_words ((1 ∷ []) ∷ [] ∷ (2 ∷ 3 ∷ []) ∷ [])) ≡ {L(by("02 00 00 00 01 00 00 00 / 00 00 00 00 02 00 00 00"))}')
-T.decl('three_segments_length',None,'length (spelled bytes_of_words ((1 ∷ []) ∷ [] ∷ (2 ∷ 3 ∷ []) ∷ [])) ≡ 40')
-T.decl('most_segments','message_at','frame_at 1000 (spelled bytes_of_words (replicate 511 [])) ≡ Ok (replicate 511 [], [])')
-T.decl('one_segment_too_many','message_at','frame_at 1000 (spelled bytes_of_words (replicate 512 [])) ≡ Err InvalidNumberOfSegments')
+for k in range(0,40): T.decl(f'cut_after_{k}','message_at',f'frame_at (Some 1000) ({L(b4[:k])}) ≡ {FF}')
+T.decl('three_segments_table',None,f'take 16 (frame ((1 ∷ []) ∷ [] ∷ (2 ∷ 3 ∷ []) ∷ [])) ≡ {L(by("02 00 00 00 01 00 00 00 / 00 00 00 00 02 00 00 00"))}')
+T.decl('three_segments_length',None,'length (frame ((1 ∷ []) ∷ [] ∷ (2 ∷ 3 ∷ []) ∷ [])) ≡ 40')
+T.decl('most_segments','message_at','frame_at (Some 1000) (frame (replicate 511 [])) ≡ Ok (replicate 511 [], [])')
+T.decl('one_segment_too_many','message_at','frame_at (Some 1000) (frame (replicate 512 [])) ≡ Err InvalidNumberOfSegments')
 def pk(name,words,t): T.decl(name,'packed',f'packed ({L(words)}) ≡ {L(by(t))}')
 pk('packed_word',w('00 00 0c 00 00 22 00 00'),'24 0c 22')
 T.decl('packed_zero_words','packed',f'packed (replicate 258 0) ≡ {L(by("00 ff 00 01"))}')
@@ -153,7 +154,17 @@ m('run_past_its_piece','packed',1000,'00 01','Err PackedInputDidNotEndCleanlyOnA
 m('marked_zero_byte','packed',1000,'30 02 00 10 01 01 07','Ok ('+LL([w('00 00 00 00 01 00 00 00 / 07 00*7')])+', [])')
 full='10 02 10 01 01 07'.split()
 for k,a in [(1,PE),(2,FF),(3,PE),(4,PE),(5,PE)]: m(f'packed_cut_after_{k}','packed',1000,' '.join(full[:k]),a)
-T.decl('packed_two_segments','packed message_at unpacked_from','packed_at 10 (spelled packed ((0 ∷ 0 ∷ []) ∷ (0 ∷ 7 ∷ []) ∷ [])) ≡ Ok ((0 ∷ 0 ∷ []) ∷ (0 ∷ 7 ∷ []) ∷ [], [])')
+T.decl('packed_two_segments','packed message_at unpacked_from','packed_at (Some 10) (packed_message ((0 ∷ 0 ∷ []) ∷ (0 ∷ 7 ∷ []) ∷ [])) ≡ Ok ((0 ∷ 0 ∷ []) ∷ (0 ∷ 7 ∷ []) ∷ [], [])')
+m('any_number_of_words','frame',None,'F2 / 09 00*7 / 08 00*7','Ok ((9 ∷ 8 ∷ []) ∷ [], [])')
+# flat slices
+ME='Err MessageEndsPrematurely'
+m('no_byte_at_all','flat',1000,'',ME)
+m('half_a_table','flat',1000,'00*4',FF)
+m('second_half_of_a_table_missing','flat',1000,'01 00 00 00 01 00 00 00',FF)
+m('segments_missing','flat',1000,'F2',ME)
+m('segments_cut_short','flat',None,'F2 / 00*15',ME)
+m('too_many_words_in_a_slice','flat',1,'F2','Err MessageTooLarge')
+m('a_message_and_a_byte_in_a_slice','flat',1000,'F1 / 00*8 / 09','Ok ((0 ∷ []) ∷ [], 9 ∷ [])')
 T.save()
 # ---- relays
 def unpack_words(b,n,i):
