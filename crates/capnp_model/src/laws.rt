@@ -7,6 +7,7 @@ ghost use Rattle.capnp_model.specs.Segments.{Segments, Place, root};
 ghost use Rattle.capnp_model.specs.Trees.{Tree, depth};
 ghost use Rattle.capnp_model.specs.Trimming.{trim};
 ghost use Rattle.capnp_model.specs.Traversal.{tree_at, cost_at};
+ghost use Rattle.capnp_model.specs.Means.{Means};
 ghost use Rattle.capnp_model.specs.Coverage.{covered, Keeps};
 ghost use Rattle.capnp_model.specs.Faults.{faults_at};
 ghost use Rattle.capnp_model.specs.Encoding.{body, canonical_words};
@@ -45,6 +46,13 @@ pub fn values_that_are_read()
     ensures deep { (n : ℕ) (s : Segments) (p : Place) (t : Tree) → tree_at n s p ≡ Some t → depth t ≤ n }
     ensures levels { (n m : ℕ) (s : Segments) (p : Place) (t : Tree) → tree_at n s p ≡ Some t → depth t ≤ m → tree_at m s p ≡ Some t }
     ensures fits { (n : ℕ) (s : Segments) (p : Place) (t : Tree) → tree_at n s p ≡ Some t → Fits t }
+{}
+
+/// What the function reads is what the relation by cases says, and that is at most one value for a place.
+pub fn values_as_a_relation()
+    ensures read { (n : ℕ) (s : Segments) (p : Place) (t : Tree) → Means n s p t → tree_at n s p ≡ Some t }
+    ensures meant { (n : ℕ) (s : Segments) (p : Place) (t : Tree) → tree_at n s p ≡ Some t → Means n s p t }
+    ensures one { (n m : ℕ) (s : Segments) (p : Place) (t u : Tree) → Means n s p t → Means m s p u → t ≡ u }
 {}
 
 /// A value is read just where no fault is met.
