@@ -3,7 +3,8 @@ use Rattle.std.proofs.Common.{◌≡◌, refl, ◌+◌, ◌-◌, ◌*◌, ◌^�
 use Rattle.std.specs.Option.{option_map}
 use Rattle.capnp_model.specs.Kinds.{OutOfBounds, MalformedFarPointer, WrongPointerKind, UnknownPointerType, NestingLimitExceeded}
 use Rattle.capnp_model.specs.Faults.{faults_at}
-use Rattle.capnp_model.specs.Segments.{root}
+use Rattle.capnp_model.specs.Segments.{root, place}
+use Rattle.capnp_model.specs.Coverage.{covered, cover}
 use Rattle.capnp_model.specs.Trees.{null, structure, plain_list, struct_list, capability, none, ◌▸◌, no_elements, element, depth}
 use Rattle.capnp_model.specs.Traversal.{tree_at, cost_at}
 use Rattle.capnp_model.specs.Trimming.{trim}
@@ -241,6 +242,18 @@ faults_in_the_order_of_reading = refl
 no_fault : faults_at 64 ((562949953421312 ∷ 4294967300 ∷ 4294967296 ∷ 7 ∷ []) ∷ []) root ≡ []
 unfolding faults_at
 no_fault = refl
+
+shared_word_is_covered_twice : cover 64 ((562949953421312 ∷ 4294967300 ∷ 4294967296 ∷ 7 ∷ []) ∷ []) root (place 0 3) ≡ 2
+unfolding covered
+shared_word_is_covered_twice = refl
+
+root_word_is_covered_once : cover 64 ((562949953421312 ∷ 4294967300 ∷ 4294967296 ∷ 7 ∷ []) ∷ []) root (place 0 0) ≡ 1
+unfolding covered
+root_word_is_covered_once = refl
+
+word_that_nothing_names : cover 64 ((4294967296 ∷ 7 ∷ 99 ∷ []) ∷ []) root (place 0 2) ≡ 0
+unfolding covered
+word_that_nothing_names = refl
 
 tag_without_room : tree_at 64 ((281474976710656 ∷ 30064771073 ∷ 9 ∷ []) ∷ []) root ≡ None
 unfolding tree_at

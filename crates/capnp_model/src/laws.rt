@@ -1,14 +1,14 @@
 //! Laws of the definitions, each the contract of a function that does nothing.
 
-ghost use Rattle.std.specs.Prelude.{◌≡◌, ℕ, ◌+◌, ◌*◌, ◌^◌, ◌<◌, ◌≤◌, ◌⊎◌, Bool, true, false, List, [], ◌∷◌, ◌++◌, length, Option, Some, IsSome, Ok, bit_xor};
+ghost use Rattle.std.specs.Prelude.{◌≡◌, ℕ, ◌+◌, ◌*◌, ◌^◌, ◌<◌, ◌≤◌, ◌⊎◌, Bool, true, false, List, [], ◌∷◌, ◌++◌, length, map, Option, Some, IsSome, Ok, bit_xor};
 ghost use Rattle.std.specs.List.{AllByRecursion};
 ghost use Rattle.capnp_model.specs.Sections.{bits_at, with_bits, words_of, section_of};
-ghost use Rattle.capnp_model.specs.Segments.{Segments, Place, root};
+ghost use Rattle.capnp_model.specs.Segments.{Segments, Place, root, word_at};
 ghost use Rattle.capnp_model.specs.Trees.{Tree, depth};
 ghost use Rattle.capnp_model.specs.Trimming.{trim};
 ghost use Rattle.capnp_model.specs.Traversal.{tree_at, cost_at};
 ghost use Rattle.capnp_model.specs.Means.{Means};
-ghost use Rattle.capnp_model.specs.Coverage.{covered, Keeps};
+ghost use Rattle.capnp_model.specs.Coverage.{covered, cover, Keeps};
 ghost use Rattle.capnp_model.specs.Faults.{faults_at};
 ghost use Rattle.capnp_model.specs.Encoding.{body, canonical_words};
 ghost use Rattle.capnp_model.specs.Fits.{Fits};
@@ -63,7 +63,8 @@ pub fn faults_of_values()
 
 /// Segments that keep what a value covers keep the value.
 pub fn values_stay_where_their_words_stay()
-    ensures { (n : ℕ) (s u : Segments) (p : Place) (t : Tree) → AllByRecursion (Keeps s u) (covered n s p) → tree_at n s p ≡ Some t → tree_at n u p ≡ Some t }
+    ensures by_spans { (n : ℕ) (s u : Segments) (p : Place) (t : Tree) → AllByRecursion (Keeps s u) (covered n s p) → tree_at n s p ≡ Some t → tree_at n u p ≡ Some t }
+    ensures by_words { (n : ℕ) (s u : Segments) (p : Place) (t : Tree) → map length s ≡ map length u → ((q : Place) → 0 < cover n s p q → word_at u q ≡ word_at s q) → tree_at n s p ≡ Some t → tree_at n u p ≡ Some t }
 {}
 
 /// Trimming twice is trimming once; a trimmed value fits and is no deeper.

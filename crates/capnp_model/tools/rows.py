@@ -39,7 +39,8 @@ use Rattle.std.proofs.Common.{◌≡◌, ℕ, refl, ◌+◌, ◌-◌, ◌*◌, �
 use Rattle.std.specs.Option.{option_map}
 use Rattle.capnp_model.specs.Kinds.{OutOfBounds, MalformedFarPointer, WrongPointerKind, UnknownPointerType, NestingLimitExceeded}
 use Rattle.capnp_model.specs.Faults.{faults_at}
-use Rattle.capnp_model.specs.Segments.{Segments, root}
+use Rattle.capnp_model.specs.Segments.{Segments, root, place}
+use Rattle.capnp_model.specs.Coverage.{covered, cover}
 use Rattle.capnp_model.specs.Trees.{Tree, Trees, null, structure, plain_list, pointer_list, struct_list, capability, none, ◌▸◌, no_elements, element, depth}
 use Rattle.capnp_model.specs.Traversal.{tree_at, cost_at}
 use Rattle.capnp_model.specs.Trimming.{trim}
@@ -109,6 +110,9 @@ faults('capability_with_a_further_bit_in_a_pad',seg('02 00 00 00 01 00 00 00','0
 faults('capability_with_a_further_bit_in_a_long_pad',seg('06 00 00 00 01 00 00 00','02 00 00 00 02 00 00 00 / 07 00*7','07 00*7'),64,'UnknownPointerType')
 faults('faults_in_the_order_of_reading',seg('00 00 00 00 00 00 03 00 / 02 00 00 00 05 00 00 00 / 00*8 / 07 00*7'),64,'OutOfBounds','UnknownPointerType')
 faults('no_fault',sh,64)
+def covers(name,s,k,times): V.decl(name,'covered',f'cover 64 {s} root (place 0 {k}) ≡ {times}')
+covers('shared_word_is_covered_twice',sh,3,2); covers('root_word_is_covered_once',sh,0,1)
+covers('word_that_nothing_names',seg('00 00 00 00 01 00 00 00 / 07 00*7 / 63 00*7'),2,0)
 tree('tag_without_room',seg('00 00 00 00 00 00 01 00 / 01 00 00 00 07 00 00 00 / 09 00*7'),64,'None')
 for n,s in [('pointers',6),('words',5),('structs',7)]:
     V.decl(f'claimed_{n}','tree_at',f'tree_at 64 (((1 + 2 ^ 32 * {s} + 2 ^ 35 * (2 ^ 29 - 1)) ∷ []) ∷ []) root ≡ None')
