@@ -1,14 +1,16 @@
 -- Values of worked messages: their trees, costs, depths and canonical words.
-use Rattle.std.proofs.Common.{◌≡◌, refl, ◌+◌, ◌-◌, ◌*◌, ◌^◌, [], ◌∷◌, ◌++◌, Some, None, length, replicate}
+use Rattle.std.proofs.Common.{◌≡◌, refl, ◌+◌, ◌-◌, ◌*◌, ◌^◌, [], ◌∷◌, ◌++◌, Some, None, true, false, length, replicate}
 use Rattle.std.specs.Option.{option_map}
 use Rattle.capnp_model.specs.Kinds.{OutOfBounds, MalformedFarPointer, WrongPointerKind, UnknownPointerType, NestingLimitExceeded}
 use Rattle.capnp_model.specs.Faults.{faults_at}
 use Rattle.capnp_model.specs.Segments.{root, place}
 use Rattle.capnp_model.specs.Coverage.{covered, cover}
-use Rattle.capnp_model.specs.Trees.{null, structure, plain_list, struct_list, capability, none, ◌▸◌, no_elements, element, depth}
+use Rattle.capnp_model.specs.Trees.{null, structure, plain_list, struct_list, capability, none, ◌▸◌, no_elements, element, depth, has_capability}
 use Rattle.capnp_model.specs.Traversal.{tree_at, cost_at}
 use Rattle.capnp_model.specs.Trimming.{trim}
 use Rattle.capnp_model.specs.Encoding.{canonical_words}
+use Rattle.capnp_model.specs.Canonical.{is_canonical_at, is_canonical_message}
+use Rattle.capnp_model.specs.Sizes.{object_words, capability_count}
 
 null_root : tree_at 64 ((0 ∷ []) ∷ []) root ≡ Some null
 unfolding tree_at
@@ -242,6 +244,74 @@ faults_in_the_order_of_reading = refl
 no_fault : faults_at 64 ((562949953421312 ∷ 4294967300 ∷ 4294967296 ∷ 7 ∷ []) ∷ []) root ≡ []
 unfolding faults_at
 no_fault = refl
+
+trailing_zero_word_is_not_canonical : is_canonical_message 64 ((12884901888 ∷ 1229782938247303441 ∷ 9223372036854775808 ∷ 0 ∷ []) ∷ []) ≡ false
+unfolding is_canonical_message tree_at has_capability canonical_words trim
+trailing_zero_word_is_not_canonical = refl
+
+message_is_canonical : is_canonical_message 64 ((562949953421312 ∷ 4294967300 ∷ 4294967292 ∷ 17216961135462248174 ∷ []) ∷ []) ≡ true
+unfolding is_canonical_message tree_at has_capability canonical_words trim
+message_is_canonical = refl
+
+root_is_canonical : is_canonical_at 64 ((562949953421312 ∷ 4294967300 ∷ 4294967292 ∷ 17216961135462248174 ∷ []) ∷ []) root ≡ true
+unfolding is_canonical_at tree_at has_capability canonical_words trim
+root_is_canonical = refl
+
+child_is_canonical : is_canonical_at 64 ((562949953421312 ∷ 4294967300 ∷ 4294967292 ∷ 17216961135462248174 ∷ []) ∷ []) (place 0 2) ≡ true
+unfolding is_canonical_at tree_at has_capability canonical_words trim
+child_is_canonical = refl
+
+child_with_a_gap_is_not_canonical : is_canonical_at 64 ((562949953421312 ∷ 4294967300 ∷ 4294967292 ∷ 17216961135462248174 ∷ []) ∷ []) (place 0 1) ≡ false
+unfolding is_canonical_at tree_at has_capability canonical_words trim
+child_with_a_gap_is_not_canonical = refl
+
+trailing_zero_word_at_root_is_not_canonical : is_canonical_at 64 ((12884901888 ∷ 1229782938247303441 ∷ 9223372036854775808 ∷ 0 ∷ []) ∷ []) root ≡ false
+unfolding is_canonical_at tree_at has_capability canonical_words trim
+trailing_zero_word_at_root_is_not_canonical = refl
+
+value_in_second_segment_is_not_canonical : is_canonical_message 64 ((4294967298 ∷ []) ∷ (4294967296 ∷ 506097522914230528 ∷ []) ∷ []) ≡ false
+unfolding is_canonical_message tree_at has_capability canonical_words trim
+value_in_second_segment_is_not_canonical = refl
+
+second_segment_is_canonical : is_canonical_at 64 ((4294967298 ∷ []) ∷ (4294967296 ∷ 506097522914230528 ∷ []) ∷ []) (place 1 0) ≡ true
+unfolding is_canonical_at tree_at has_capability canonical_words trim
+second_segment_is_canonical = refl
+
+further_word_is_not_canonical : is_canonical_message 64 ((4294967296 ∷ 7 ∷ 99 ∷ []) ∷ []) ≡ false
+unfolding is_canonical_message tree_at has_capability canonical_words trim
+further_word_is_not_canonical = refl
+
+further_word_stays_out : is_canonical_at 64 ((4294967296 ∷ 7 ∷ 99 ∷ []) ∷ []) root ≡ true
+unfolding is_canonical_at tree_at has_capability canonical_words trim
+further_word_stays_out = refl
+
+capability_is_not_canonical : is_canonical_message 64 ((3 ∷ []) ∷ []) ≡ false
+unfolding is_canonical_message tree_at has_capability canonical_words trim
+capability_is_not_canonical = refl
+
+text_words : option_map object_words (tree_at 64 ((281474976710656 ∷ 111669149697 ∷ 26984 ∷ []) ∷ []) root) ≡ Some 2
+unfolding tree_at object_words
+text_words = refl
+
+text_capabilities : option_map capability_count (tree_at 64 ((281474976710656 ∷ 111669149697 ∷ 26984 ∷ []) ∷ []) root) ≡ Some 0
+unfolding tree_at capability_count
+text_capabilities = refl
+
+wide_elements_words : option_map object_words (tree_at 64 ((281474976710656 ∷ 236223201281 ∷ 12884901896 ∷ 1 ∷ 0 ∷ 0 ∷ 2 ∷ 0 ∷ 0 ∷ []) ∷ []) root) ≡ Some 8
+unfolding tree_at object_words
+wide_elements_words = refl
+
+shared_target_object_words : option_map object_words (tree_at 64 ((562949953421312 ∷ 4294967300 ∷ 4294967296 ∷ 7 ∷ []) ∷ []) root) ≡ Some 4
+unfolding tree_at object_words
+shared_target_object_words = refl
+
+claimed_words_of_no_element : option_map object_words (tree_at 64 ((98784247809 ∷ 4294967300 ∷ 5 ∷ 6 ∷ []) ∷ []) root) ≡ Some 2
+unfolding tree_at object_words
+claimed_words_of_no_element = refl
+
+two_capabilities : option_map capability_count (tree_at 64 ((562949953421312 ∷ 3 ∷ 4294967299 ∷ []) ∷ []) root) ≡ Some 2
+unfolding tree_at capability_count
+two_capabilities = refl
 
 shared_word_is_covered_twice : cover 64 ((562949953421312 ∷ 4294967300 ∷ 4294967296 ∷ 7 ∷ []) ∷ []) root (place 0 3) ≡ 2
 unfolding covered

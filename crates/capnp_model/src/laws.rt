@@ -3,14 +3,16 @@
 ghost use Rattle.std.specs.Prelude.{◌≡◌, ℕ, ◌+◌, ◌*◌, ◌^◌, ◌<◌, ◌≤◌, ◌⊎◌, Bool, true, false, List, [], ◌∷◌, ◌++◌, length, map, Option, Some, IsSome, Ok, bit_xor};
 ghost use Rattle.std.specs.List.{AllByRecursion};
 ghost use Rattle.capnp_model.specs.Sections.{bits_at, with_bits, words_of, section_of};
-ghost use Rattle.capnp_model.specs.Segments.{Segments, Place, root, word_at};
-ghost use Rattle.capnp_model.specs.Trees.{Tree, depth};
+ghost use Rattle.capnp_model.specs.Segments.{Segments, Place, root, word_at, words_at};
+ghost use Rattle.capnp_model.specs.Trees.{Tree, depth, has_capability};
 ghost use Rattle.capnp_model.specs.Trimming.{trim};
 ghost use Rattle.capnp_model.specs.Traversal.{tree_at, cost_at};
 ghost use Rattle.capnp_model.specs.Means.{Means};
 ghost use Rattle.capnp_model.specs.Coverage.{covered, cover, Keeps};
 ghost use Rattle.capnp_model.specs.Faults.{faults_at};
 ghost use Rattle.capnp_model.specs.Encoding.{body, canonical_words};
+ghost use Rattle.capnp_model.specs.Canonical.{is_canonical_at, is_canonical_message};
+ghost use Rattle.capnp_model.specs.Sizes.{object_words, capability_count};
 ghost use Rattle.capnp_model.specs.Fits.{Fits};
 ghost use Rattle.capnp_model.specs.Packing.{packed, unpacked};
 ghost use Rattle.capnp_model.specs.Messages.{frame_at, packed_at, flat_at, frame, packed_message};
@@ -86,6 +88,21 @@ pub fn canonical_messages()
     ensures trimmed_size { (n : ℕ) (s : Segments) (p : Place) (t : Tree) → tree_at n s p ≡ Some t → length (canonical_words (trim t)) ≤ cost_at n s p + 1 }
     ensures means { (n : ℕ) (s : Segments) (p : Place) (t : Tree) → tree_at n s p ≡ Some t → cost_at n s p < 2 ^ 29 → tree_at n (canonical_words (trim t) ∷ []) root ≡ Some (trim t) }
     ensures equal { (n : ℕ) (s u : Segments) (p q : Place) (t v : Tree) → tree_at n s p ≡ Some t → tree_at n u q ≡ Some v → cost_at n s p < 2 ^ 29 → canonical_words (trim t) ≡ canonical_words (trim v) → trim t ≡ trim v }
+{}
+
+/// The test for canonical words holds just where they stand, and that for a message just where they are its one segment.
+pub fn canonical_tests()
+    ensures holds_at { (n : ℕ) (s : Segments) (p : Place) → is_canonical_at n s p ≡ true → (t : Tree) × (tree_at n s p ≡ Some t) × (has_capability t ≡ false) × (words_at s p (length (canonical_words (trim t))) ≡ Some (canonical_words (trim t))) }
+    ensures at { (n : ℕ) (s : Segments) (p : Place) (t : Tree) → tree_at n s p ≡ Some t → has_capability t ≡ false → words_at s p (length (canonical_words (trim t))) ≡ Some (canonical_words (trim t)) → is_canonical_at n s p ≡ true }
+    ensures holds_of { (n : ℕ) (s : Segments) → is_canonical_message n s ≡ true → (t : Tree) × (tree_at n s root ≡ Some t) × (has_capability t ≡ false) × (s ≡ canonical_words (trim t) ∷ []) }
+    ensures message { (n : ℕ) (s : Segments) (t : Tree) → tree_at n s root ≡ Some t → has_capability t ≡ false → s ≡ canonical_words (trim t) ∷ [] → is_canonical_message n s ≡ true }
+{}
+
+/// The words of a value's objects are those behind its pointer, and it has a capability just where some are counted.
+pub fn sizes_of_values()
+    ensures words { (t : Tree) → object_words t ≡ length (body t) }
+    ensures none { (t : Tree) → capability_count t ≡ 0 → has_capability t ≡ false }
+    ensures no_count { (t : Tree) → has_capability t ≡ false → capability_count t ≡ 0 }
 {}
 
 /// Unpacking what is packed gives the words, and takes just their bytes.

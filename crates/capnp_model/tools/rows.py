@@ -35,16 +35,18 @@ def R(d,k,rws):
     for (ws,ts) in reversed(rws): r=f'(element {num(ws)} {kids(ts)} {r})'
     return f'(struct_list {d} {k} {r})'
 head='''-- Values of worked messages: their trees, costs, depths and canonical words.
-use Rattle.std.proofs.Common.{◌≡◌, ℕ, refl, ◌+◌, ◌-◌, ◌*◌, ◌^◌, List, [], ◌∷◌, ◌++◌, Option, Some, None, length, replicate}
+use Rattle.std.proofs.Common.{◌≡◌, ℕ, refl, ◌+◌, ◌-◌, ◌*◌, ◌^◌, List, [], ◌∷◌, ◌++◌, Option, Some, None, true, false, length, replicate}
 use Rattle.std.specs.Option.{option_map}
 use Rattle.capnp_model.specs.Kinds.{OutOfBounds, MalformedFarPointer, WrongPointerKind, UnknownPointerType, NestingLimitExceeded}
 use Rattle.capnp_model.specs.Faults.{faults_at}
 use Rattle.capnp_model.specs.Segments.{Segments, root, place}
 use Rattle.capnp_model.specs.Coverage.{covered, cover}
-use Rattle.capnp_model.specs.Trees.{Tree, Trees, null, structure, plain_list, pointer_list, struct_list, capability, none, ◌▸◌, no_elements, element, depth}
+use Rattle.capnp_model.specs.Trees.{Tree, Trees, null, structure, plain_list, pointer_list, struct_list, capability, none, ◌▸◌, no_elements, element, depth, has_capability}
 use Rattle.capnp_model.specs.Traversal.{tree_at, cost_at}
 use Rattle.capnp_model.specs.Trimming.{trim}
 use Rattle.capnp_model.specs.Encoding.{canonical_words}
+use Rattle.capnp_model.specs.Canonical.{is_canonical_at, is_canonical_message}
+use Rattle.capnp_model.specs.Sizes.{object_words, capability_count}
 '''
 V=F('ValueExamples.antt',head)
 def tree(name,s,n,t): V.decl(name,'tree_at',f'tree_at {n} {s} root ≡ {t}')
@@ -110,6 +112,22 @@ faults('capability_with_a_further_bit_in_a_pad',seg('02 00 00 00 01 00 00 00','0
 faults('capability_with_a_further_bit_in_a_long_pad',seg('06 00 00 00 01 00 00 00','02 00 00 00 02 00 00 00 / 07 00*7','07 00*7'),64,'UnknownPointerType')
 faults('faults_in_the_order_of_reading',seg('00 00 00 00 00 00 03 00 / 02 00 00 00 05 00 00 00 / 00*8 / 07 00*7'),64,'OutOfBounds','UnknownPointerType')
 faults('no_fault',sh,64)
+def canonical(name,s,answer,what='message',at=''): V.decl(name,f'is_canonical_{what} tree_at has_capability canonical_words trim',f'is_canonical_{what} 64 {s}{at} ≡ {answer}')
+canonical('trailing_zero_word_is_not_canonical',seg('00 00 00 00 03 00 00 00 / 11*8 / 00*7 80 / 00*8'),'false')
+cm=seg('00 00 00 00 00 00 02 00 / 04 00 00 00 01 00 00 00 / fc ff ff ff 00 00 00 00 / ee*8')
+canonical('message_is_canonical',cm,'true'); canonical('root_is_canonical',cm,'true','at',' root'); canonical('child_is_canonical',cm,'true','at',' (place 0 2)'); canonical('child_with_a_gap_is_not_canonical',cm,'false','at',' (place 0 1)')
+canonical('trailing_zero_word_at_root_is_not_canonical',seg('00 00 00 00 03 00 00 00 / 11*8 / 00*7 80 / 00*8'),'false','at',' root')
+second=seg('02 00 00 00 01 00 00 00','00 00 00 00 01 00 00 00 / 00 01 02 03 04 05 06 07')
+canonical('value_in_second_segment_is_not_canonical',second,'false'); canonical('second_segment_is_canonical',second,'true','at',' (place 1 0)')
+canonical('further_word_is_not_canonical',seg('00 00 00 00 01 00 00 00 / 07 00*7 / 63 00*7'),'false'); canonical('further_word_stays_out',seg('00 00 00 00 01 00 00 00 / 07 00*7 / 63 00*7'),'true','at',' root')
+canonical('capability_is_not_canonical',seg('03 00*7'),'false')
+text=seg('00 00 00 00 00 00 01 00 / 01 00 00 00 1a 00 00 00 / 68 69 00*6')
+def measured(name,f,s,size): V.decl(name,f'tree_at {f}',f'option_map {f} (tree_at 64 {s} root) ≡ Some {size}')
+measured('text_words','object_words',text,2); measured('text_capabilities','capability_count',text,0)
+measured('wide_elements_words','object_words',r20,8); measured('shared_target_object_words','object_words',sh,4)
+measured('claimed_words_of_no_element','object_words',seg('01 00 00 00 17 00 00 00 / 04 00 00 00 01 00 00 00 / 05 00*7 / 06 00*7'),2)
+caps=seg('00 00 00 00 00 00 02 00 / 03 00*7 / 03 00 00 00 01 00 00 00')
+measured('two_capabilities','capability_count',caps,2)
 def covers(name,s,k,times): V.decl(name,'covered',f'cover 64 {s} root (place 0 {k}) ≡ {times}')
 covers('shared_word_is_covered_twice',sh,3,2); covers('root_word_is_covered_once',sh,0,1)
 covers('word_that_nothing_names',seg('00 00 00 00 01 00 00 00 / 07 00*7 / 63 00*7'),2,0)
