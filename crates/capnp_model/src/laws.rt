@@ -36,6 +36,7 @@ pub fn numbers_in_sections()
     ensures beside { (at width value section a n : ℕ) → value < 2 ^ width → ((at + width ≤ a) ⊎ (a + n ≤ at)) → bits_at a n (with_bits at width value section) ≡ bits_at a n section }
     ensures within { (at width value section size : ℕ) → value < 2 ^ width → at + width ≤ size → section < 2 ^ size → with_bits at width value section < 2 ^ size }
     ensures masked { (n d : ℕ) → bit_xor (bit_xor n d) d ≡ n }
+    ensures masked_back { (at width value mask section : ℕ) → value < 2 ^ width → mask < 2 ^ width → bit_xor (bits_at at width (with_bits at width (bit_xor value mask) section)) mask ≡ value }
 {}
 
 /// A section is the one of its words.
@@ -82,12 +83,14 @@ pub fn words_mean_their_value()
     ensures equal { (t u : Tree) → Fits t → Fits u → length (canonical_words t) ≤ 2 ^ 29 → canonical_words t ≡ canonical_words u → t ≡ u }
 {}
 
-/// A value has no more words than following it costs, and its canonical words mean the trimmed value.
+/// A value has no more words than following it costs; its canonical words mean the trimmed value, are equal just for equal trimmed values, and are their own canonical words.
 pub fn canonical_messages()
     ensures size { (n : ℕ) (s : Segments) (p : Place) (t : Tree) → tree_at n s p ≡ Some t → length (body t) ≤ cost_at n s p }
     ensures trimmed_size { (n : ℕ) (s : Segments) (p : Place) (t : Tree) → tree_at n s p ≡ Some t → length (canonical_words (trim t)) ≤ cost_at n s p + 1 }
     ensures means { (n : ℕ) (s : Segments) (p : Place) (t : Tree) → tree_at n s p ≡ Some t → cost_at n s p < 2 ^ 29 → tree_at n (canonical_words (trim t) ∷ []) root ≡ Some (trim t) }
     ensures equal { (n : ℕ) (s u : Segments) (p q : Place) (t v : Tree) → tree_at n s p ≡ Some t → tree_at n u q ≡ Some v → cost_at n s p < 2 ^ 29 → canonical_words (trim t) ≡ canonical_words (trim v) → trim t ≡ trim v }
+    ensures same { (t u : Tree) → trim t ≡ trim u → canonical_words (trim t) ≡ canonical_words (trim u) }
+    ensures again { (n : ℕ) (s : Segments) (p : Place) (t u : Tree) → tree_at n s p ≡ Some t → cost_at n s p < 2 ^ 29 → tree_at n (canonical_words (trim t) ∷ []) root ≡ Some u → canonical_words (trim u) ≡ canonical_words (trim t) }
 {}
 
 /// The test for canonical words holds just where they stand, and that for a message just where they are its one segment.
