@@ -35,7 +35,7 @@ mutual
       let rest = words_length_elements es (before + length (bodies ts)) d k in
       omega (arith, length-append (words_of d section) (l ++ c), length-append l c, length-append (bodies ts) (element_bodies es), length-numbers_in 64 d section, links_length ts (element_count es * (d + k)) before)
 
-neither : (a b : Bool) → (a || b) ≡ false → (a ≡ false) × (b ≡ false)
+pub neither : (a b : Bool) → (a || b) ≡ false → (a ≡ false) × (b ≡ false)
 neither true b e = absurd cc
 neither false b e = (refl, e)
 

@@ -217,6 +217,22 @@ elements_past_their_words : faults_at 64 ((64424509441 ∷ 4294967304 ∷ 0 ∷ 
 unfolding faults_at
 elements_past_their_words = refl
 
+object_not_there : faults_at 64 ((4294967296 ∷ []) ∷ []) root ≡ OutOfBounds ∷ []
+unfolding faults_at
+object_not_there = refl
+
+pad_not_there : faults_at 64 ((18 ∷ 0 ∷ []) ∷ []) root ≡ OutOfBounds ∷ []
+unfolding faults_at
+pad_not_there = refl
+
+segment_of_a_long_pad_not_there : faults_at 64 ((4294967302 ∷ []) ∷ (38654705666 ∷ 4294967296 ∷ []) ∷ []) root ≡ OutOfBounds ∷ []
+unfolding faults_at
+segment_of_a_long_pad_not_there = refl
+
+nothing_is_walked_below_an_object_not_there : faults_at 64 ((281483566645248 ∷ 0 ∷ 7 ∷ []) ∷ []) root ≡ OutOfBounds ∷ []
+unfolding faults_at
+nothing_is_walked_below_an_object_not_there = refl
+
 too_deep_kind : faults_at 1 ((281474976710656 ∷ 111669149697 ∷ 26984 ∷ []) ∷ []) root ≡ NestingLimitExceeded ∷ []
 unfolding faults_at
 too_deep_kind = refl

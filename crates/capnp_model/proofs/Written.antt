@@ -1,5 +1,5 @@
 -- What is written of a message is read, in either form.
-use Rattle.std.proofs.Common.{◌≡◌, ℕ, Option, ◌+◌, ◌*◌, ◌/◌, ◌%◌, ◌^◌, List, [], ◌∷◌, ◌++◌, length, map, take, sum, Ok, refl, ap, sym, ◌∙◌, append_assoc, add-one, arith}
+use Rattle.std.proofs.Common.{◌≡◌, ℕ, Option, ◌+◌, ◌*◌, ◌/◌, ◌%◌, ◌^◌, List, [], ◌∷◌, ◌++◌, length, map, take, sum, Ok, refl, ap, subst, sym, ◌∙◌, append_assoc, add-one, arith}
 use Rattle.std.specs.List.{flat_map, AllByRecursion}
 use Rattle.std.proofs.lemmas.Bool.{lt-ltb}
 use Rattle.std.proofs.lemmas.List.{length-append, length-map, take_at, drop_at, append-nil}
@@ -8,7 +8,7 @@ use Rattle.capnp_model.specs.Segments.{Segments}
 use Rattle.capnp_model.specs.Bytes.{bytes_of_words, words_in_bytes}
 use Rattle.capnp_model.specs.Packing.{packed, unpacked}
 use Rattle.capnp_model.specs.Messages.{Reader, Writer, plain_words, halves, cut, paired, behind_lengths, behind_first, message_at, frame_at, packed_at, spelled, frame, packed_message}
-use Rattle.capnp_model.specs.Spelling.{AreWords, AreShort, CanSpell}
+use Rattle.capnp_model.specs.Spelling.{AreWords, AreShort, CanSpell, Frames, Packs}
 use Rattle.capnp_model.proofs.Chaining.{ok_then, guard_then}
 use Rattle.capnp_model.proofs.ByteWords.{taken_front, words_back, bytes_length, bytes_append}
 use Rattle.capnp_model.proofs.Packing.{all_words, unpacked-pieces}
@@ -105,3 +105,10 @@ framed_back limit s rest can = message_back plain_words bytes_of_words limit s r
 
 pub packed_message_back : (limit : Option ℕ) (s : Segments) (rest : List ℕ) → CanSpell limit s → packed_at limit (packed_message s ++ rest) ≡ Ok (s, rest)
 packed_message_back limit s rest can = message_back unpacked packed limit s rest packed_back can
+
+-- and is just that of its message
+pub framed_text : (limit : Option ℕ) (s : Segments) → CanSpell limit s → Frames limit (frame s) s
+framed_text limit s can = subst (λ (b : List ℕ). frame_at limit b ≡ Ok (s, [])) (append-nil (frame s)) (framed_back limit s [] can)
+
+pub packed_text : (limit : Option ℕ) (s : Segments) → CanSpell limit s → Packs limit (packed_message s) s
+packed_text limit s can = subst (λ (b : List ℕ). packed_at limit b ≡ Ok (s, [])) (append-nil (packed_message s)) (packed_message_back limit s [] can)

@@ -2,11 +2,10 @@
 use Rattle.std.specs.Prelude.{ℕ, zero, suc, ◌+◌, List, [], ◌∷◌, Result, Ok, Err}
 use Rattle.std.specs.Option.{ok_or}
 use Rattle.capnp_model.specs.Kinds.{Kind, OutOfBounds, NestingLimitExceeded}
-use Rattle.capnp_model.specs.Segments.{Segments, Place, words_at}
+use Rattle.capnp_model.specs.Segments.{Segments, Place, after, words_at}
 use Rattle.capnp_model.specs.Pointers.{Object, nothing, a_struct, a_list, a_capability, found_at}
 use Rattle.capnp_model.specs.Traversal.{tag_in, ListKind, of_bits, of_pointers, of_structs, list_kind, list_words}
 use Rattle.capnp_model.specs.Coverage.{from_each, from_elements}
-use Rattle.capnp_model.specs.Segments.{after}
 
 -- The kind of a refused step, or the kinds that are met behind what it gives.
 abbrev pub faults_of : {A : Type 0} → (A → List Kind) → Result A Kind → List Kind

@@ -93,12 +93,13 @@ pub fn canonical_messages()
     ensures again { (n : ℕ) (s : Segments) (p : Place) (t u : Tree) → tree_at n s p ≡ Some t → cost_at n s p < 2 ^ 29 → tree_at n (canonical_words (trim t) ∷ []) root ≡ Some u → canonical_words (trim u) ≡ canonical_words (trim t) }
 {}
 
-/// The test for canonical words holds just where they stand, and that for a message just where they are its one segment.
+/// The test for canonical words holds just where they stand, that for a message just where they are its one segment, and so of each canonical copy.
 pub fn canonical_tests()
     ensures holds_at { (n : ℕ) (s : Segments) (p : Place) → is_canonical_at n s p ≡ true → (t : Tree) × (tree_at n s p ≡ Some t) × (has_capability t ≡ false) × (words_at s p (length (canonical_words (trim t))) ≡ Some (canonical_words (trim t))) }
     ensures at { (n : ℕ) (s : Segments) (p : Place) (t : Tree) → tree_at n s p ≡ Some t → has_capability t ≡ false → words_at s p (length (canonical_words (trim t))) ≡ Some (canonical_words (trim t)) → is_canonical_at n s p ≡ true }
     ensures holds_of { (n : ℕ) (s : Segments) → is_canonical_message n s ≡ true → (t : Tree) × (tree_at n s root ≡ Some t) × (has_capability t ≡ false) × (s ≡ canonical_words (trim t) ∷ []) }
     ensures message { (n : ℕ) (s : Segments) (t : Tree) → tree_at n s root ≡ Some t → has_capability t ≡ false → s ≡ canonical_words (trim t) ∷ [] → is_canonical_message n s ≡ true }
+    ensures copy { (n : ℕ) (s : Segments) (p : Place) (t : Tree) → tree_at n s p ≡ Some t → cost_at n s p < 2 ^ 29 → has_capability t ≡ false → is_canonical_message n (canonical_words (trim t) ∷ []) ≡ true }
 {}
 
 /// The words of a value's objects are those behind its pointer, and it has a capability just where some are counted.
@@ -113,10 +114,12 @@ pub fn packed_words()
     ensures { (ws rest : List ℕ) → AreWords ws → unpacked (length ws) (packed ws ++ rest) ≡ Ok (ws, rest) }
 {}
 
-/// A written message is read, whatever follows it.
+/// A written message is read, whatever follows it, and is a text of its segments.
 pub fn written_messages()
     ensures framed { (limit : Option ℕ) (s : Segments) (rest : List ℕ) → CanSpell limit s → frame_at limit (frame s ++ rest) ≡ Ok (s, rest) }
     ensures packed { (limit : Option ℕ) (s : Segments) (rest : List ℕ) → CanSpell limit s → packed_at limit (packed_message s ++ rest) ≡ Ok (s, rest) }
+    ensures framed_text { (limit : Option ℕ) (s : Segments) → CanSpell limit s → Frames limit (frame s) s }
+    ensures packed_text { (limit : Option ℕ) (s : Segments) → CanSpell limit s → Packs limit (packed_message s) s }
 {}
 
 /// Bytes behind a message change nothing of it, no message begins another, and a slice is read as a stream is.
