@@ -1,15 +1,20 @@
 -- The canonical copy of a value passes the test for canonical messages.
-use Rattle.std.proofs.Common.{◌≡◌, ℕ, zero, suc, ◌^◌, ◌<◌, true, false, [], ◌∷◌, Some, refl, ap, sym}
-use Rattle.capnp_model.specs.Segments.{Segments, Place}
-use Rattle.capnp_model.specs.Trees.{Tree, Trees, Elements, null, capability, structure, plain_list, pointer_list, struct_list, none, ◌▸◌, no_elements, element, resized, has_capability, have_capability, elements_have_capability}
+use Rattle.std.proofs.Common.{◌≡◌, ℕ, zero, suc, ◌^◌, ◌<◌, ◌≤◌, true, false, List, [], ◌∷◌, ◌++◌, length, Some, refl, ap, subst, sym, arith}
+use Rattle.std.specs.List.{slice_get}
+use Rattle.std.proofs.lemmas.List.{append-nil}
+use Rattle.capnp_model.specs.Segments.{Segments, Place, root, words_at}
+use Rattle.capnp_model.specs.Trees.{Tree, Trees, Elements, null, capability, structure, plain_list, pointer_list, struct_list, none, ◌▸◌, no_elements, element, resized, depth, has_capability, have_capability, elements_have_capability}
 use Rattle.capnp_model.specs.Trimming.{after_stripping, stripped, common_pointers, with_pointers, trim, trim_each, trim_elements}
 use Rattle.capnp_model.specs.Traversal.{tree_at, cost_at}
 use Rattle.capnp_model.specs.Encoding.{canonical_words}
-use Rattle.capnp_model.specs.Canonical.{is_canonical_message}
+use Rattle.capnp_model.specs.Fits.{Fits}
+use Rattle.capnp_model.specs.Canonical.{is_canonical_at, is_canonical_message}
+use Rattle.capnp_model.proofs.Holding.{holds_words}
+use Rattle.capnp_model.proofs.RoundTrip.{enc_means_first}
 use Rattle.capnp_model.proofs.SizesOfValues.{neither}
 use Rattle.capnp_model.proofs.TrimTwice.{trim-trim}
 use Rattle.capnp_model.proofs.Canonical.{canonical_means}
-use Rattle.capnp_model.proofs.CanonicalTests.{test_message}
+use Rattle.capnp_model.proofs.CanonicalTests.{test_canonical, test_message}
 
 free_after : (t : Tree) (ts : Trees) → has_capability t ≡ false → have_capability ts ≡ false → have_capability (after_stripping t ts) ≡ false
 unfolding has_capability
@@ -60,3 +65,10 @@ mutual
 -- THE LAW
 pub copy_is_canonical : (n : ℕ) (s : Segments) (p : Place) (t : Tree) → tree_at n s p ≡ Some t → cost_at n s p < 2 ^ 29 → has_capability t ≡ false → is_canonical_message n (canonical_words (trim t) ∷ []) ≡ true
 copy_is_canonical n s p t e l h = test_message n (canonical_words (trim t) ∷ []) (trim t) (canonical_means n s p t e l) (free_trim t h) (ap (λ (x : Tree). canonical_words x ∷ []) (sym (trim-trim t)))
+
+-- a first segment that begins with the words of a trimmed value passes the test
+pub begins_canonical : (n : ℕ) (s : Segments) (t : Tree) (more : List ℕ) → Fits t → depth t ≤ n → length (canonical_words t) ≤ 2 ^ 29 → has_capability t ≡ false → trim t ≡ t → slice_get s 0 ≡ Some (canonical_words t ++ more) → is_canonical_at n s root ≡ true
+begins_canonical n s t more f l small h e there =
+    let is : canonical_words (trim t) ≡ canonical_words t = ap canonical_words e in
+    let own : words_at s root (length (canonical_words t)) ≡ Some (canonical_words t) = holds_words s more (canonical_words t) (length (canonical_words t)) there (record { rest = []; parts = sym (append-nil (canonical_words t)); within = omega arith }) refl in
+    test_canonical n s root t (enc_means_first t n s more f l small there) h (subst (λ (ws : List ℕ). words_at s root (length ws) ≡ Some ws) (sym is) own)

@@ -1,6 +1,6 @@
 //! Laws of the definitions, each the contract of a function that does nothing.
 
-ghost use Rattle.std.specs.Prelude.{◌≡◌, ℕ, ◌+◌, ◌*◌, ◌^◌, ◌<◌, ◌≤◌, ◌⊎◌, Bool, true, false, List, [], ◌∷◌, ◌++◌, length, map, Option, Some, IsSome, Ok, bit_xor};
+ghost use Rattle.std.specs.Prelude.{◌≡◌, ℕ, ◌+◌, ◌*◌, ◌^◌, ◌<◌, ◌≤◌, ◌⊎◌, Bool, true, false, List, [], ◌∷◌, ◌++◌, length, map, Option, Some, IsSome, Ok, slice_get, bit_xor};
 ghost use Rattle.std.specs.List.{AllByRecursion};
 ghost use Rattle.capnp_model.specs.Sections.{bits_at, with_bits, words_of, section_of};
 ghost use Rattle.capnp_model.specs.Segments.{Segments, Place, root, word_at, words_at};
@@ -77,9 +77,10 @@ pub fn trimmed_values()
     ensures depth { (t : Tree) → depth (trim t) ≤ depth t }
 {}
 
-/// The words of a value mean the value, so equal words are those of equal values.
+/// The words of a value mean the value, also where a first segment goes on behind them; so equal words are those of equal values.
 pub fn words_mean_their_value()
     ensures means { (t : Tree) (n : ℕ) → Fits t → depth t ≤ n → length (canonical_words t) ≤ 2 ^ 29 → tree_at n (canonical_words t ∷ []) root ≡ Some t }
+    ensures first { (t : Tree) (n : ℕ) (s : Segments) (more : List ℕ) → Fits t → depth t ≤ n → length (canonical_words t) ≤ 2 ^ 29 → slice_get s 0 ≡ Some (canonical_words t ++ more) → tree_at n s root ≡ Some t }
     ensures equal { (t u : Tree) → Fits t → Fits u → length (canonical_words t) ≤ 2 ^ 29 → canonical_words t ≡ canonical_words u → t ≡ u }
 {}
 
@@ -97,6 +98,7 @@ pub fn canonical_messages()
 pub fn canonical_tests()
     ensures holds_at { (n : ℕ) (s : Segments) (p : Place) → is_canonical_at n s p ≡ true → (t : Tree) × (tree_at n s p ≡ Some t) × (has_capability t ≡ false) × (words_at s p (length (canonical_words (trim t))) ≡ Some (canonical_words (trim t))) }
     ensures at { (n : ℕ) (s : Segments) (p : Place) (t : Tree) → tree_at n s p ≡ Some t → has_capability t ≡ false → words_at s p (length (canonical_words (trim t))) ≡ Some (canonical_words (trim t)) → is_canonical_at n s p ≡ true }
+    ensures begins { (n : ℕ) (s : Segments) (t : Tree) (more : List ℕ) → Fits t → depth t ≤ n → length (canonical_words t) ≤ 2 ^ 29 → has_capability t ≡ false → trim t ≡ t → slice_get s 0 ≡ Some (canonical_words t ++ more) → is_canonical_at n s root ≡ true }
     ensures holds_of { (n : ℕ) (s : Segments) → is_canonical_message n s ≡ true → (t : Tree) × (tree_at n s root ≡ Some t) × (has_capability t ≡ false) × (s ≡ canonical_words (trim t) ∷ []) }
     ensures message { (n : ℕ) (s : Segments) (t : Tree) → tree_at n s root ≡ Some t → has_capability t ≡ false → s ≡ canonical_words (trim t) ∷ [] → is_canonical_message n s ≡ true }
     ensures copy { (n : ℕ) (s : Segments) (p : Place) (t : Tree) → tree_at n s p ≡ Some t → cost_at n s p < 2 ^ 29 → has_capability t ≡ false → is_canonical_message n (canonical_words (trim t) ∷ []) ≡ true }
