@@ -15,12 +15,12 @@ use Rattle.capnp_model.proofs.PackedPrefixes.{taken_more, unpacked_from_more}
 abbrev pub LooksNoFurther : Reader → Type 0
 LooksNoFurther read = (n : ℕ) (b : List ℕ) (r : List ℕ × List ℕ) (x : List ℕ) → read n b ≡ Ok r → read n (b ++ x) ≡ Ok (r.0, r.1 ++ x)
 
-plain_words_more : LooksNoFurther plain_words
+pub plain_words_more : LooksNoFurther plain_words
 plain_words_more n b r x e =
     let t = bind_ok (taken (8 * n) b) _ r e in
     ok_then _ _ _ _ (taken_more (8 * n) b t.0 x t.1) (ap (λ (p : List ℕ × List ℕ). Ok (p.0, p.1 ++ x)) (ok_is _ r t.2))
 
-unpacked_more : LooksNoFurther unpacked
+pub unpacked_more : LooksNoFurther unpacked
 unpacked_more n b r x e = unpacked_from_more n x first b r e
 
 module _ (table read : Reader) (k : LooksNoFurther table) (h : LooksNoFurther read) (limit : Option ℕ) (x : List ℕ) where

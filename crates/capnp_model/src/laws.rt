@@ -124,8 +124,10 @@ pub fn written_messages()
     ensures packed_text { (limit : Option ℕ) (s : Segments) → CanSpell limit s → Packs limit (packed_message s) s }
 {}
 
-/// Bytes behind a message change nothing of it, no message begins another, and a slice is read as a stream is.
+/// Bytes at whose front a message is read begin with its text, bytes behind a text change nothing, no text begins another, and a slice is read as a stream is.
 pub fn texts_of_messages()
+    ensures framed_front { (limit : Option ℕ) (b : List ℕ) (s : Segments) (rest : List ℕ) → frame_at limit b ≡ Ok (s, rest) → (x : List ℕ) × (b ≡ x ++ rest) × Frames limit x s }
+    ensures packed_front { (limit : Option ℕ) (b : List ℕ) (s : Segments) (rest : List ℕ) → packed_at limit b ≡ Ok (s, rest) → (x : List ℕ) × (b ≡ x ++ rest) × Packs limit x s }
     ensures framed_more { (limit : Option ℕ) (b : List ℕ) (r : Segments × List ℕ) (x : List ℕ) → frame_at limit b ≡ Ok r → frame_at limit (b ++ x) ≡ Ok (r.0, r.1 ++ x) }
     ensures packed_more { (limit : Option ℕ) (b : List ℕ) (r : Segments × List ℕ) (x : List ℕ) → packed_at limit b ≡ Ok r → packed_at limit (b ++ x) ≡ Ok (r.0, r.1 ++ x) }
     ensures in_slice { (limit : Option ℕ) (b : List ℕ) (r : Segments × List ℕ) → frame_at limit b ≡ Ok r → flat_at limit b ≡ Ok r }
