@@ -3,6 +3,7 @@ use Rattle.std.proofs.Common.{◌≡◌, refl, ◌-◌, ◌^◌, [], ◌∷◌, 
 use Rattle.capnp_model.specs.Kinds.{InvalidNumberOfSegments, MessageTooLarge, FailedToFillTheWholeBuffer, MessageEndsPrematurely, PrematureEndOfPackedInput, PackedInputDidNotEndCleanlyOnASegmentBoundary}
 use Rattle.capnp_model.specs.Packing.{packed, unpacked, unpacked_from}
 use Rattle.capnp_model.specs.Messages.{message_at, frame_at, packed_at, flat_at, frame, packed_message}
+use Rattle.capnp_model.specs.Spelling.{Frames, Packs}
 
 half_a_word : frame_at (Some 1000) (0 ∷ 0 ∷ 0 ∷ 0 ∷ []) ≡ Err FailedToFillTheWholeBuffer
 unfolding message_at unpacked_from flat_at
@@ -24,9 +25,13 @@ one_message_and_a_byte : frame_at (Some 1000) (0 ∷ 0 ∷ 0 ∷ 0 ∷ 1 ∷ 0 �
 unfolding message_at unpacked_from flat_at
 one_message_and_a_byte = refl
 
-two_segments : frame_at (Some 1000) (1 ∷ 0 ∷ 0 ∷ 0 ∷ 1 ∷ 0 ∷ 0 ∷ 0 ∷ 2 ∷ 0 ∷ 0 ∷ 0 ∷ 0 ∷ 0 ∷ 0 ∷ 0 ∷ 2 ∷ 0 ∷ 0 ∷ 0 ∷ 1 ∷ 0 ∷ 0 ∷ 0 ∷ 0 ∷ 0 ∷ 0 ∷ 0 ∷ 1 ∷ 0 ∷ 0 ∷ 0 ∷ 7 ∷ 0 ∷ 0 ∷ 0 ∷ 0 ∷ 0 ∷ 0 ∷ 0 ∷ []) ≡ Ok ((4294967298 ∷ []) ∷ (4294967296 ∷ 7 ∷ []) ∷ [], [])
-unfolding message_at unpacked_from flat_at
+two_segments : Frames (Some 1000) (1 ∷ 0 ∷ 0 ∷ 0 ∷ 1 ∷ 0 ∷ 0 ∷ 0 ∷ 2 ∷ 0 ∷ 0 ∷ 0 ∷ 0 ∷ 0 ∷ 0 ∷ 0 ∷ 2 ∷ 0 ∷ 0 ∷ 0 ∷ 1 ∷ 0 ∷ 0 ∷ 0 ∷ 0 ∷ 0 ∷ 0 ∷ 0 ∷ 1 ∷ 0 ∷ 0 ∷ 0 ∷ 7 ∷ 0 ∷ 0 ∷ 0 ∷ 0 ∷ 0 ∷ 0 ∷ 0 ∷ []) ((4294967298 ∷ []) ∷ (4294967296 ∷ 7 ∷ []) ∷ [])
+unfolding message_at unpacked_from
 two_segments = refl
+
+filling_of_any_bytes : Frames (Some 1000) (1 ∷ 0 ∷ 0 ∷ 0 ∷ 1 ∷ 0 ∷ 0 ∷ 0 ∷ 0 ∷ 0 ∷ 0 ∷ 0 ∷ 9 ∷ 8 ∷ 7 ∷ 6 ∷ 0 ∷ 0 ∷ 0 ∷ 0 ∷ 0 ∷ 0 ∷ 0 ∷ 0 ∷ []) ((0 ∷ []) ∷ ([]) ∷ [])
+unfolding message_at unpacked_from
+filling_of_any_bytes = refl
 
 cut_after_0 : frame_at (Some 1000) ([]) ≡ Err FailedToFillTheWholeBuffer
 unfolding message_at
@@ -222,8 +227,8 @@ packed_run_of_full_words : packed (578437695752307201 ∷ 1976943448883713 ∷ [
 unfolding packed
 packed_run_of_full_words = refl
 
-packed_null : packed_at (Some 1000) (16 ∷ 1 ∷ 0 ∷ 0 ∷ []) ≡ Ok ((0 ∷ []) ∷ [], [])
-unfolding message_at unpacked_from flat_at
+packed_null : Packs (Some 1000) (16 ∷ 1 ∷ 0 ∷ 0 ∷ []) ((0 ∷ []) ∷ [])
+unfolding message_at unpacked_from
 packed_null = refl
 
 group_cut_short : packed_at (Some 1000) (240 ∷ 1 ∷ 2 ∷ []) ≡ Err PrematureEndOfPackedInput
@@ -234,9 +239,13 @@ run_past_its_piece : packed_at (Some 1000) (0 ∷ 1 ∷ []) ≡ Err PackedInputD
 unfolding message_at unpacked_from flat_at
 run_past_its_piece = refl
 
-marked_zero_byte : packed_at (Some 1000) (48 ∷ 2 ∷ 0 ∷ 16 ∷ 1 ∷ 1 ∷ 7 ∷ []) ≡ Ok ((4294967296 ∷ 7 ∷ []) ∷ [], [])
-unfolding message_at unpacked_from flat_at
+marked_zero_byte : Packs (Some 1000) (48 ∷ 2 ∷ 0 ∷ 16 ∷ 1 ∷ 1 ∷ 7 ∷ []) ((4294967296 ∷ 7 ∷ []) ∷ [])
+unfolding message_at unpacked_from
 marked_zero_byte = refl
+
+packed_null_and_a_byte : packed_at (Some 1000) (16 ∷ 1 ∷ 0 ∷ 0 ∷ 9 ∷ []) ≡ Ok ((0 ∷ []) ∷ [], 9 ∷ [])
+unfolding message_at unpacked_from flat_at
+packed_null_and_a_byte = refl
 
 packed_cut_after_1 : packed_at (Some 1000) (16 ∷ []) ≡ Err PrematureEndOfPackedInput
 unfolding message_at unpacked_from flat_at
@@ -262,8 +271,8 @@ packed_two_segments : packed_at (Some 10) (packed_message ((0 ∷ 0 ∷ []) ∷ 
 unfolding packed message_at unpacked_from
 packed_two_segments = refl
 
-any_number_of_words : frame_at None (0 ∷ 0 ∷ 0 ∷ 0 ∷ 2 ∷ 0 ∷ 0 ∷ 0 ∷ 9 ∷ 0 ∷ 0 ∷ 0 ∷ 0 ∷ 0 ∷ 0 ∷ 0 ∷ 8 ∷ 0 ∷ 0 ∷ 0 ∷ 0 ∷ 0 ∷ 0 ∷ 0 ∷ []) ≡ Ok ((9 ∷ 8 ∷ []) ∷ [], [])
-unfolding message_at unpacked_from flat_at
+any_number_of_words : Frames None (0 ∷ 0 ∷ 0 ∷ 0 ∷ 2 ∷ 0 ∷ 0 ∷ 0 ∷ 9 ∷ 0 ∷ 0 ∷ 0 ∷ 0 ∷ 0 ∷ 0 ∷ 0 ∷ 8 ∷ 0 ∷ 0 ∷ 0 ∷ 0 ∷ 0 ∷ 0 ∷ 0 ∷ []) ((9 ∷ 8 ∷ []) ∷ [])
+unfolding message_at unpacked_from
 any_number_of_words = refl
 
 no_byte_at_all : flat_at (Some 1000) ([]) ≡ Err MessageEndsPrematurely

@@ -217,6 +217,26 @@ elements_past_their_words : faults_at 64 ((64424509441 ∷ 4294967304 ∷ 0 ∷ 
 unfolding faults_at
 elements_past_their_words = refl
 
+far_pointer_in_a_short_pad : faults_at 64 ((4294967298 ∷ []) ∷ (2 ∷ []) ∷ []) root ≡ MalformedFarPointer ∷ []
+unfolding faults_at
+far_pointer_in_a_short_pad = refl
+
+empty_struct_in_a_short_pad : tree_at 64 ((4294967298 ∷ []) ∷ (0 ∷ []) ∷ []) root ≡ Some (structure 0 0 none)
+unfolding tree_at
+empty_struct_in_a_short_pad = refl
+
+struct_with_no_level : faults_at 0 ((4294967296 ∷ 7 ∷ []) ∷ []) root ≡ NestingLimitExceeded ∷ []
+unfolding faults_at
+struct_with_no_level = refl
+
+list_with_no_level : faults_at 0 ((1 ∷ []) ∷ []) root ≡ NestingLimitExceeded ∷ []
+unfolding faults_at
+list_with_no_level = refl
+
+null_with_no_level : faults_at 0 ((0 ∷ []) ∷ []) root ≡ []
+unfolding faults_at
+null_with_no_level = refl
+
 object_not_there : faults_at 64 ((4294967296 ∷ []) ∷ []) root ≡ OutOfBounds ∷ []
 unfolding faults_at
 object_not_there = refl

@@ -1,5 +1,5 @@
 -- Messages on a stream, in both forms: what differs is how words are read from bytes. (Encoding, "Serialization Over a Stream")
-use Rattle.std.specs.Prelude.{ℕ, ◌+◌, ◌*◌, ◌/◌, ◌%◌, ◌^◌, nat_lt, nat_le, List, [], ◌∷◌, ◌++◌, length, map, take, drop, sum, Option, Some, None, Bool, true, Result, Ok, Err}
+use Rattle.std.specs.Prelude.{ℕ, ◌+◌, ◌*◌, ◌/◌, ◌%◌, ◌^◌, nat_lt, nat_le, Bool, true, List, [], ◌∷◌, ◌++◌, length, map, take, drop, sum, Option, Some, None, Result, Ok, Err}
 use Rattle.std.specs.List.{flat_map}
 use Rattle.capnp_model.specs.Kinds.{Kind, InvalidNumberOfSegments, MessageTooLarge, MessageEndsPrematurely}
 use Rattle.capnp_model.specs.Chains.{◌and_then◌, guard}

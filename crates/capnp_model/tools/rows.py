@@ -105,6 +105,9 @@ V.decl('many_empty_structs_stay','tree_at canonical_words trim',f'option_map (λ
 faults('object_in_front_of_its_segment',seg('f8 ff ff ff 01 00 00 00'),64,'OutOfBounds')
 faults('tag_of_another_form',seg('01 00 00 00 0f 00 00 00 / 01 00 00 00 01 00 00 00 / 00*8'),64,'WrongPointerKind')
 faults('elements_past_their_words',seg('01 00 00 00 0f 00 00 00 / 08 00 00 00 01 00 00 00 / 00*8'),64,'OutOfBounds')
+faults('far_pointer_in_a_short_pad',seg('02 00 00 00 01 00 00 00','02 00*7'),64,'MalformedFarPointer')
+tree('empty_struct_in_a_short_pad',seg('02 00 00 00 01 00 00 00','00*8'),64,'Some '+S([]))
+faults('struct_with_no_level',seg('00 00 00 00 01 00 00 00 / 07 00*7'),0,'NestingLimitExceeded'); faults('list_with_no_level',seg('01 00*7'),0,'NestingLimitExceeded'); faults('null_with_no_level',seg('00*8'),0)
 faults('object_not_there',seg('00 00 00 00 01 00 00 00'),64,'OutOfBounds')
 faults('pad_not_there',seg('12 00 00 00 00 00 00 00 / 00*8'),64,'OutOfBounds')
 faults('segment_of_a_long_pad_not_there',seg('06 00 00 00 01 00 00 00','02 00 00 00 09 00 00 00 / 00 00 00 00 01 00 00 00'),64,'OutOfBounds')
@@ -150,18 +153,21 @@ use Rattle.capnp_model.specs.Kinds.{Kind, InvalidNumberOfSegments, MessageTooLar
 use Rattle.capnp_model.specs.Bytes.{bytes_of_words}
 use Rattle.capnp_model.specs.Packing.{packed, unpacked, unpacked_from}
 use Rattle.capnp_model.specs.Messages.{message_at, frame_at, packed_at, flat_at, frame, packed_message}
+use Rattle.capnp_model.specs.Spelling.{Frames, Packs}
 '''
 T=F('StreamExamples.antt',head)
 FF='Err FailedToFillTheWholeBuffer'; PE='Err PrematureEndOfPackedInput'
 def limit_of(limit): return 'None' if limit is None else f'(Some {limit})'
 def m(name,form,limit,t,ans): T.decl(name,'message_at unpacked_from flat_at',f'{form}_at {limit_of(limit)} {B(t)} ≡ {ans}')
+def text(name,relation,limit,t,segments): T.decl(name,'message_at unpacked_from',f'{relation} {limit_of(limit)} {B(t)} ({LL(segments)})')
 m('half_a_word','frame',1000,'00*4',FF)
 m('too_many_segments','frame',1000,'ff 01 00 00 00 00 00 00','Err InvalidNumberOfSegments')
 m('too_many_words','frame',1,'F2','Err MessageTooLarge')
 m('more_words_than_the_limit','frame',3,'F4','Err MessageTooLarge')
 m('one_message_and_a_byte','frame',1000,'F1 / 00*8 / 09','Ok ((0 ∷ []) ∷ [], 9 ∷ [])')
 m4='01 00 00 00 01 00 00 00 / 02 00 00 00 00 00 00 00 / 02 00 00 00 01 00 00 00 / 00 00 00 00 01 00 00 00 / 07 00*7'
-m('two_segments','frame',1000,m4,'Ok ('+LL([w('02 00 00 00 01 00 00 00'),w('00 00 00 00 01 00 00 00 / 07 00*7')])+', [])')
+text('two_segments','Frames',1000,m4,[w('02 00 00 00 01 00 00 00'),w('00 00 00 00 01 00 00 00 / 07 00*7')])
+text('filling_of_any_bytes','Frames',1000,'01 00 00 00 01 00 00 00 / 00 00 00 00 09 08 07 06 / 00*8',[[0],[]])
 b4=by(m4)
 for k in range(0,40): T.decl(f'cut_after_{k}','message_at',f'frame_at (Some 1000) ({L(b4[:k])}) ≡ {FF}')
 T.decl('three_segments_table',None,f'take 16 (frame ((1 ∷ []) ∷ [] ∷ (2 ∷ 3 ∷ []) ∷ [])) ≡ {L(by("02 00 00 00 01 00 00 00 / 00 00 00 00 02 00 00 00"))}')
@@ -174,14 +180,15 @@ T.decl('packed_zero_words','packed',f'packed (replicate 258 0) ≡ {L(by("00 ff 
 T.decl('unpacked_zero_words','unpacked_from',f'unpacked 258 {B("00 ff 00 01")} ≡ Ok (replicate 258 0, [])')
 T.decl('packed_full_words','packed','packed (replicate 256 (2 ^ 64 - 1)) ≡ 255 ∷ (replicate 8 255 ++ 255 ∷ replicate 2040 255)')
 pk('packed_run_of_full_words',w('01 02 03 04 05 06 07 08 / 01 02 03 04 05 06 07 00'),'ff 01 02 03 04 05 06 07 08 01 01 02 03 04 05 06 07 00')
-m('packed_null','packed',1000,'10 01 00 00','Ok ((0 ∷ []) ∷ [], [])')
+text('packed_null','Packs',1000,'10 01 00 00',[[0]])
 m('group_cut_short','packed',1000,'f0 01 02',PE)
 m('run_past_its_piece','packed',1000,'00 01','Err PackedInputDidNotEndCleanlyOnASegmentBoundary')
-m('marked_zero_byte','packed',1000,'30 02 00 10 01 01 07','Ok ('+LL([w('00 00 00 00 01 00 00 00 / 07 00*7')])+', [])')
+text('marked_zero_byte','Packs',1000,'30 02 00 10 01 01 07',[w('00 00 00 00 01 00 00 00 / 07 00*7')])
+m('packed_null_and_a_byte','packed',1000,'10 01 00 00 09','Ok ((0 ∷ []) ∷ [], 9 ∷ [])')
 full='10 02 10 01 01 07'.split()
 for k,a in [(1,PE),(2,FF),(3,PE),(4,PE),(5,PE)]: m(f'packed_cut_after_{k}','packed',1000,' '.join(full[:k]),a)
 T.decl('packed_two_segments','packed message_at unpacked_from','packed_at (Some 10) (packed_message ((0 ∷ 0 ∷ []) ∷ (0 ∷ 7 ∷ []) ∷ [])) ≡ Ok ((0 ∷ 0 ∷ []) ∷ (0 ∷ 7 ∷ []) ∷ [], [])')
-m('any_number_of_words','frame',None,'F2 / 09 00*7 / 08 00*7','Ok ((9 ∷ 8 ∷ []) ∷ [], [])')
+text('any_number_of_words','Frames',None,'F2 / 09 00*7 / 08 00*7',[[9,8]])
 # flat slices
 ME='Err MessageEndsPrematurely'
 m('no_byte_at_all','flat',1000,'',ME)
