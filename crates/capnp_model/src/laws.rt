@@ -8,7 +8,7 @@ ghost use Rattle.capnp_model.specs.Trees.{Tree, depth, has_capability};
 ghost use Rattle.capnp_model.specs.Trimming.{trim};
 ghost use Rattle.capnp_model.specs.Traversal.{tree_at, cost_at};
 ghost use Rattle.capnp_model.specs.Means.{Means};
-ghost use Rattle.capnp_model.specs.Coverage.{covered, cover, Keeps};
+ghost use Rattle.capnp_model.specs.Coverage.{covered, cover, Keeps, Grows};
 ghost use Rattle.capnp_model.specs.Faults.{faults_at};
 ghost use Rattle.capnp_model.specs.Encoding.{body, canonical_words};
 ghost use Rattle.capnp_model.specs.Canonical.{is_canonical_at, is_canonical_message};
@@ -67,6 +67,7 @@ pub fn faults_of_values()
 /// Segments that keep what a value covers keep the value.
 pub fn values_stay_where_their_words_stay()
     ensures by_spans { (n : ℕ) (s u : Segments) (p : Place) (t : Tree) → AllByRecursion (Keeps s u) (covered n s p) → tree_at n s p ≡ Some t → tree_at n u p ≡ Some t }
+    ensures by_grown_words { (n : ℕ) (s u : Segments) (p : Place) (t : Tree) → Grows s u → ((q : Place) (w : ℕ) → 0 < cover n s p q → word_at s q ≡ Some w → word_at u q ≡ Some w) → tree_at n s p ≡ Some t → tree_at n u p ≡ Some t }
     ensures by_words { (n : ℕ) (s u : Segments) (p : Place) (t : Tree) → map length s ≡ map length u → ((q : Place) → 0 < cover n s p q → word_at u q ≡ word_at s q) → tree_at n s p ≡ Some t → tree_at n u p ≡ Some t }
 {}
 
