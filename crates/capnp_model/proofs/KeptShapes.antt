@@ -15,7 +15,7 @@ use Rattle.capnp_model.proofs.OlderReading.{SamePlain, same_bool, same_int, same
 same_number : (a b : ℕ) → (a == b) ≡ true → a ≡ b
 same_number a b h = grind arith
 
-option_is : (a b : Option ℕ) → same_option a b ≡ true → a ≡ b
+pub option_is : (a b : Option ℕ) → same_option a b ≡ true → a ≡ b
 option_is None None h = refl
 option_is (Some a) (Some b) h = ap Some (same_number a b h)
 option_is None (Some b) h = absurd (cc h)
@@ -60,7 +60,7 @@ module _ (o n : Schema) (pairs : Pairs) where
     unfolding keeps
 
     pub shape_is_kept : (g g' : Shape) → keeps o n pairs g g' ≡ true → OwnsMembers g → KeptShape o n HasPair g g'
-    shape_is_kept (shape w p u fs) (shape w' p' u' fs') h own =
+    shape_is_kept (shape nid w p u fs) (shape nid' w' p' u' fs') h own =
         let all = and_four (nat_le w w') (nat_le p p') (keeps_union u u') (keeps_fields o n pairs (member_count fs) fs fs') h in
         kept (fields_are_kept u u' fs fs' (member_count fs) all.2 own.0 own.1 all.3)
 
@@ -82,30 +82,30 @@ module _ (o n : Schema) (pairs : Pairs) where
         by false e rest added body x = kept_added e (added (and_right (is_new count m') (keeps_fields o n pairs count (field l m b fs) fs') x))
 
     body_is_kept : (b b' : Body) → keeps_body o n pairs b b' ≡ true → OwnBody b → KeptBody o n HasPair b b'
-    body_is_kept void_slot void_slot h own = kept_void
-    body_is_kept (plain_slot p at d) void_slot h own = absurd (cc h)
-    body_is_kept (pointer_slot i ty d) void_slot h own = absurd (cc h)
-    body_is_kept (group_slot g) void_slot h own = absurd (cc h)
+    body_is_kept (void_slot i) (void_slot j) h own = subst (λ z. KeptBody o n HasPair (void_slot i) (void_slot z)) (same_number i j h) kept_void
+    body_is_kept (plain_slot p at d) (void_slot j) h own = absurd (cc h)
+    body_is_kept (pointer_slot i ty d) (void_slot j) h own = absurd (cc h)
+    body_is_kept (group_slot g) (void_slot j) h own = absurd (cc h)
     body_is_kept (plain_slot p at d) (plain_slot q at' d') h own =
         let three = and_three (related_plain o n p q) (at == at') (d == d') h in
         subst (λ z. KeptBody o n HasPair (plain_slot p at d) (plain_slot q z d')) (same_number at at' three.1)
         (subst (λ z. KeptBody o n HasPair (plain_slot p at d) (plain_slot q at z)) (same_number d d' three.2) (kept_plain (plain_is p q three.0)))
-    body_is_kept void_slot (plain_slot q at' d') h own = absurd (cc h)
+    body_is_kept (void_slot j) (plain_slot q at' d') h own = absurd (cc h)
     body_is_kept (pointer_slot i ty d) (plain_slot q at' d') h own = absurd (cc h)
     body_is_kept (group_slot g) (plain_slot q at' d') h own = absurd (cc h)
     body_is_kept (pointer_slot i ty d) (pointer_slot j ty' d') h own =
         let three = and_three (i == j) (related o n pairs ty ty') (same_default d d') h in
         subst (λ z. KeptBody o n HasPair (pointer_slot i ty d) (pointer_slot z ty' d')) (same_number i j three.0) (kept_pointer (related_is ty ty' three.1))
-    body_is_kept void_slot (pointer_slot j ty' d') h own = absurd (cc h)
+    body_is_kept (void_slot i) (pointer_slot j ty' d') h own = absurd (cc h)
     body_is_kept (plain_slot p at d) (pointer_slot j ty' d') h own = absurd (cc h)
     body_is_kept (group_slot g) (pointer_slot j ty' d') h own = absurd (cc h)
     body_is_kept (group_slot g) (group_slot g') h own = kept_group (shape_is_kept g g' h own)
-    body_is_kept void_slot (group_slot g') h own = absurd (cc h)
+    body_is_kept (void_slot j) (group_slot g') h own = absurd (cc h)
     body_is_kept (plain_slot p at d) (group_slot g') h own = absurd (cc h)
     body_is_kept (pointer_slot i ty d) (group_slot g') h own = absurd (cc h)
 
   -- a pair among them is kept
-  pair_is_kept : (qs : Pairs) (i j : ℕ) → list_all (λ p. keeps o n pairs (o.shape_of p.0) (n.shape_of p.1)) qs ≡ true → has_pair qs i j ≡ true → keeps o n pairs (o.shape_of i) (n.shape_of j) ≡ true
+  pub pair_is_kept : (qs : Pairs) (i j : ℕ) → list_all (λ p. keeps o n pairs (o.shape_of p.0) (n.shape_of p.1)) qs ≡ true → has_pair qs i j ≡ true → keeps o n pairs (o.shape_of i) (n.shape_of j) ≡ true
   pair_is_kept [] i j h k = absurd (cc k)
   pair_is_kept (q ∷ qs) i j h k = by (q.0 == i) (q.1 == j) refl refl (pair_is_kept qs i j (and_right (keeps o n pairs (o.shape_of q.0) (n.shape_of q.1)) _ h)) k
     where

@@ -5,7 +5,7 @@ use lib.Bits.{bit_xor}
 use Rattle.capnp_model.specs.Trees.{Tree, null, capability, structure, plain_list, pointer_list, struct_list, Trees, none, ◌▸◌, Elements, no_elements, element, plain_elements, size_bits}
 use Rattle.capnp_model.specs.Sections.{bits_at}
 use Rattle.capnp_model.specs.Schemas.{PlainType, bool, int, uint, «enum», width, Ty, void, plain, text, blob, untyped, interface, struct, list, Shape, shape, Fields, no_fields, field, Body, void_slot, plain_slot, pointer_slot, group_slot, Schema, default_or_null}
-use Rattle.capnp_model.specs.Readings.{Reading, fault, number, record_as, Readings, ◌▹◌, Record, entry, Children, no_children, only_child, Extent, whole_words, just_bits, field_bits, discriminant, is_active, only_if, shape_record, fields_of, body_of, is_list_of, element_as, list_reading, read, read_child, pointer_elements, struct_elements, text_reading, text_of, blob_of, capability_reading, struct_reading, plain_list_reading, other_list_reading, plain_readings}
+use Rattle.capnp_model.specs.Readings.{expected_size, is_accepted_as, Reading, fault, number, record_as, Readings, ◌▹◌, Record, entry, Children, no_children, only_child, Extent, whole_words, just_bits, field_bits, discriminant, is_active, only_if, shape_record, fields_of, body_of, is_list_of, element_as, list_reading, read, read_child, pointer_elements, struct_elements, text_reading, text_of, blob_of, capability_reading, struct_reading, plain_list_reading, other_list_reading, plain_readings}
 use Rattle.capnp_model.specs.Kinds.{WrongElementSize, TextWithoutZeroByte}
 use Rattle.capnp_model.specs.Printing.{As, as_type, as_body, fields_in}
 use Rattle.capnp_model.specs.Projection.{project, project_items, project_fields}
@@ -37,7 +37,7 @@ module _ (o n : Schema) (R : ℕ → ℕ → Type 0) where
 
   mutual
     pub data KeptShape : Shape → Shape → Type 0 where
-      kept : {w p w' p' : ℕ} {u u' : Option ℕ} {fs fs' : Fields} → KeptFields u u' fs fs' → KeptShape (shape w p u fs) (shape w' p' u' fs')
+      kept : {nid nid' w p w' p' : ℕ} {u u' : Option ℕ} {fs fs' : Fields} → KeptFields u u' fs fs' → KeptShape (shape nid w p u fs) (shape nid' w' p' u' fs')
 
     pub data KeptFields : Option ℕ → Option ℕ → Fields → Fields → Type 0 where
       kept_all : {u u' : Option ℕ} → KeptFields u u' no_fields no_fields
@@ -45,7 +45,7 @@ module _ (o n : Schema) (R : ℕ → ℕ → Type 0) where
       kept_field : {u u' : Option ℕ} {fs fs' : Fields} {l l' : List ℕ} {m : Option ℕ} {b b' : Body} → bytes_eq l l' ≡ true → SameActive u u' m → KeptBody b b' → KeptFields u u' fs fs' → KeptFields u u' (field l m b fs) (field l' m b' fs')
 
     pub data KeptBody : Body → Body → Type 0 where
-      kept_void : KeptBody void_slot void_slot
+      kept_void : {j : ℕ} → KeptBody (void_slot j) (void_slot j)
       kept_plain : {p q : PlainType} {at d : ℕ} → SamePlain p q → KeptBody (plain_slot p at d) (plain_slot q at d)
       kept_pointer : {i : ℕ} {ty ty' : Ty} {d d' : Option Tree} → Related ty ty' → KeptBody (pointer_slot i ty d) (pointer_slot i ty' d')
       kept_group : {g g' : Shape} → KeptShape g g' → KeptBody (group_slot g) (group_slot g')
@@ -134,42 +134,21 @@ module _ (o n : Schema) (R : ℕ → ℕ → Type 0) where
         ap (λ r. r ▹ plain_readings o size xs ty) (element_as-project ty ty' null (just_bits size) x no_children no_children no_children_agree h)
         ∙ ap (λ rs. project o (as_type ty null) (element_as n ty' (just_bits size) x no_children) ▹ rs) (plain_readings-project size xs ty ty' h)
 
+    same_sizes : (ty ty' : Ty) → Related ty ty' → expected_size ty ≡ expected_size ty'
+    same_sizes ty ty' related_void = refl
+    same_sizes ty ty' (related_plain' same_bool) = refl
+    same_sizes ty ty' (related_plain' (same_int w)) = refl
+    same_sizes ty ty' (related_plain' (same_uint w)) = refl
+    same_sizes ty ty' (related_plain' (same_enum i j)) = refl
+    same_sizes ty ty' related_text = refl
+    same_sizes ty ty' related_blob = refl
+    same_sizes ty ty' related_untyped = refl
+    same_sizes ty ty' related_interface = refl
+    same_sizes ty ty' (related_struct r) = refl
+    same_sizes ty ty' (related_list h) = refl
+
     same_lists : (t : Tree) (ty ty' : Ty) → Related ty ty' → is_list_of t ty ≡ is_list_of t ty'
-    same_lists t ty ty' related_void = refl
-    same_lists t ty ty' (related_plain' same_bool) = refl
-    same_lists t ty ty' (related_plain' (same_int w)) = refl
-    same_lists t ty ty' (related_plain' (same_uint w)) = refl
-    same_lists t ty ty' (related_plain' (same_enum i j)) = by_tree t
-      where
-        by_tree : (t : Tree) → is_list_of t (plain («enum» i)) ≡ is_list_of t (plain («enum» j))
-        by_tree null = refl
-        by_tree (capability k) = refl
-        by_tree (structure w s k) = refl
-        by_tree (plain_list s count k) = refl
-        by_tree (pointer_list k) = refl
-        by_tree (struct_list w p k) = refl
-    same_lists t ty ty' related_text = refl
-    same_lists t ty ty' related_blob = refl
-    same_lists t ty ty' related_untyped = refl
-    same_lists t ty ty' related_interface = refl
-    same_lists t ty ty' (related_struct {i = i} {j = j} r) = by_tree t
-      where
-        by_tree : (t : Tree) → is_list_of t (struct i) ≡ is_list_of t (struct j)
-        by_tree null = refl
-        by_tree (capability k) = refl
-        by_tree (structure w s k) = refl
-        by_tree (plain_list s count k) = refl
-        by_tree (pointer_list k) = refl
-        by_tree (struct_list w p k) = refl
-    same_lists t ty ty' (related_list {a = a} {b = b} h) = by_tree t
-      where
-        by_tree : (t : Tree) → is_list_of t (list a) ≡ is_list_of t (list b)
-        by_tree null = refl
-        by_tree (capability k) = refl
-        by_tree (structure w s k) = refl
-        by_tree (plain_list s count k) = refl
-        by_tree (pointer_list k) = refl
-        by_tree (struct_list w p k) = refl
+    same_lists t ty ty' h = ap (λ n. is_accepted_as n t) (same_sizes ty ty' h)
 
     list_reading-project : (b : Bool) (ty : Ty) (d : Tree) (rs : Readings) → list_reading b (project_items o (as_type ty null) rs) ≡ project o (as_type (list ty) d) (list_reading b rs)
     unfolding project

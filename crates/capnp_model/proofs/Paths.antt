@@ -12,7 +12,8 @@ use Rattle.capnp_model.specs.Accepted.{Area, bit_area, pointer_area, union_area,
 use Rattle.capnp_model.specs.Calls.{Step, name, index, Verb, get, set_to, init, initn, clear, Content, refused_by, bits_of, object, slot_content}
 use Rattle.capnp_model.specs.Steps.{Outcome, refused, shown, done, outcome_map, Target, no_target, target, target_if, target_of, choose, entry_of, replaced, at_target, on_name, reading_after, slot_type, at_field, got, through_field, through_value, opened, or_empty, step_field, step_element, step_path}
 use Rattle.capnp_model.specs.Edits.{Cell, Edit, edit_field, edit_element, edit_target, edit_struct, edit_value, edit_through, put_field, write_path, mark, put_bits, put_child, put_content, opened_tree}
-use Rattle.capnp_model.proofs.Views.{SameAll, discriminant-same}
+use Rattle.capnp_model.specs.Views.{SameAll}
+use Rattle.capnp_model.proofs.Views.{discriminant-same}
 use Rattle.capnp_model.proofs.Bits.{xor_twice}
 use Rattle.capnp_model.proofs.Writes.{discriminant_after, IsOther, AtField, IsWritten, fields_of-replaced, same_all_if_apart}
 use Rattle.capnp_model.proofs.Marks.{view_of, same_after_mark, marked_view, SameAll-trans, read_back, same_everywhere, read_child-padded_to}
@@ -76,10 +77,10 @@ module _ (s : Schema) (u member : Option ℕ) (body : Body) (c c' : Cell) (r : R
   is_written n (field l m other fs) h = (at_name (bytes_eq l n) m other h.0, is_written n fs h.1)
 
   -- the record of the struct, with the field replaced
-  pub struct-replaced : (n : List ℕ) (words pointers : ℕ) (fs : Fields) → IsAlone n u member body fs
-      → shape_record (shape words pointers u fs) whole_words c'.section (read_child s c'.kids) ≡ replaced n member r fs (shape_record (shape words pointers u fs) whole_words c.section (read_child s c.kids))
+  pub struct-replaced : (n : List ℕ) (nid words pointers : ℕ) (fs : Fields) → IsAlone n u member body fs
+      → shape_record (shape nid words pointers u fs) whole_words c'.section (read_child s c'.kids) ≡ replaced n member r fs (shape_record (shape nid words pointers u fs) whole_words c.section (read_child s c.kids))
   unfolding shape_record
-  struct-replaced n words pointers fs h =
+  struct-replaced n nid words pointers fs h =
       ap (λ e. fields_of fs e whole_words c'.section (read_child s c'.kids)) d.marks
       ∙ fields_of-replaced n member (discriminant u whole_words c.section) r fs (view_of s c) (view_of s c') (is_written n fs h)
 
@@ -149,8 +150,8 @@ leaf : (s : Schema) (u member : Option ℕ) (body : Body) (content : Content) (c
     → IsSlot body → FitsSlot body content → reading_after s (slot_type body) content ≡ done r → IsDone s u member body c (put_content body content (mark u member c)) r
 unfolding body_of areas_of_body
 leaf s u member body (refused_by k) c r place off slot fits h = absurd (cc h)
-leaf s u member void_slot (bits_of m) c r place off slot fits h =
-    behind_mark s u member void_slot c (mark u member c) r place (ap number (sym fits) ∙ done_is _ _ h) (λ ys k. same_everywhere ys _ _ refl refl (λ i ty. refl)) off
+leaf s u member (void_slot j) (bits_of m) c r place off slot fits h =
+    behind_mark s u member (void_slot j) c (mark u member c) r place (ap number (sym fits) ∙ done_is _ _ h) (λ ys k. same_everywhere ys _ _ refl refl (λ i ty. refl)) off
 leaf s u member (plain_slot p at d) (bits_of m) c r place off slot fits h =
     let small : bit_xor m d < 2 ^ width p = xor_lt (width p) m d fits.0 fits.1 in
     behind_mark s u member (plain_slot p at d) c (put_bits at (width p) (bit_xor m d) (mark u member c)) r place
@@ -160,7 +161,7 @@ leaf s u member (pointer_slot i ty d) (object t) c r place off slot fits h =
     behind_mark s u member (pointer_slot i ty d) c (put_child i t (mark u member c)) r place
     (read_child-with_child s (mark u member c).kids i t ty ∙ done_is _ _ h)
     (λ ys k. same_if_put s (mark u member c) i t ys k.0) off
-leaf s u member void_slot (object t) c r place off slot fits h = absurd fits
+leaf s u member (void_slot j) (object t) c r place off slot fits h = absurd fits
 leaf s u member (plain_slot p at d) (object t) c r place off slot fits h = absurd fits
 leaf s u member (pointer_slot i ty d) (bits_of m) c r place off slot fits h = absurd fits
 leaf s u member (group_slot g) (bits_of m) c r place off slot fits h = absurd slot
@@ -234,44 +235,44 @@ unmap f (done x) y h = mapped x refl (done_is _ _ h)
 
 module _ (s : Schema) (path : List Step) (verb : Verb) (meets : Meets s path verb) (n : List ℕ) where
   -- at the cell of a struct: its record, and all that stands apart from it
-  in_cell : (words pointers : ℕ) (u : Option ℕ) (fs : Fields) (c : Cell) (r : Record) → IsFineShape s (shape words pointers u fs) → EndsBehind s n path fs → (t : Target) → target_of n fs ≡ t
-      → at_target (step_field s path verb) n fs (shape_record (shape words pointers u fs) whole_words c.section (read_child s c.kids)) t ≡ done r
+  in_cell : (nid words pointers : ℕ) (u : Option ℕ) (fs : Fields) (c : Cell) (r : Record) → IsFineShape s (shape nid words pointers u fs) → EndsBehind s n path fs → (t : Target) → target_of n fs ≡ t
+      → at_target (step_field s path verb) n fs (shape_record (shape nid words pointers u fs) whole_words c.section (read_child s c.kids)) t ≡ done r
       → let c' = edit_target (edit_field s path verb) u t c in
-      (shape_record (shape words pointers u fs) whole_words c'.section (read_child s c'.kids) ≡ r) × ((ys : List Area) → Apart (areas_of (shape words pointers u fs)) ys → SameAll ys (view_of s c) (view_of s c'))
+      (shape_record (shape nid words pointers u fs) whole_words c'.section (read_child s c'.kids) ≡ r) × ((ys : List Area) → Apart (areas_of (shape nid words pointers u fs)) ys → SameAll ys (view_of s c) (view_of s c'))
   unfolding shape_record areas_of
-  in_cell words pointers u fs c r fine ends no_target e h = absurd (cc h)
-  in_cell words pointers u fs c r fine ends (target member body) e h = by_field (unmap _ _ _ h)
+  in_cell nid words pointers u fs c r fine ends no_target e h = absurd (cc h)
+  in_cell nid words pointers u fs c r fine ends (target member body) e h = by_field (unmap _ _ _ h)
     where
-      by_field : IsMapped (λ x. replaced n member x fs (shape_record (shape words pointers u fs) whole_words c.section (read_child s c.kids)))
-          (step_field s path verb body (entry_of n (shape_record (shape words pointers u fs) whole_words c.section (read_child s c.kids)))) r
+      by_field : IsMapped (λ x. replaced n member x fs (shape_record (shape nid words pointers u fs) whole_words c.section (read_child s c.kids)))
+          (step_field s path verb body (entry_of n (shape_record (shape nid words pointers u fs) whole_words c.section (read_child s c.kids)))) r
           → let c' = edit_field s path verb u member body c in
-          (shape_record (shape words pointers u fs) whole_words c'.section (read_child s c'.kids) ≡ r) × ((ys : List Area) → Apart (areas_of (shape words pointers u fs)) ys → SameAll ys (view_of s c) (view_of s c'))
+          (shape_record (shape nid words pointers u fs) whole_words c'.section (read_child s c'.kids) ≡ r) × ((ys : List Area) → Apart (areas_of (shape nid words pointers u fs)) ys → SameAll ys (view_of s c) (view_of s c'))
       by_field (mapped x k l) =
           let read_as = entry_of-fields_of n fs member body (discriminant u whole_words c.section) whole_words c.section (read_child s c.kids) e in
           let f = fine.0 n member body e in
           let d : IsDone s u member body c (edit_field s path verb u member body c) x = meets n u member body fs c x f (fine_group s n fs member body e fine.1) (ends member body e) (ap (step_field s path verb body) (sym read_as) ∙ k) in (
-            struct-replaced s u member body c (edit_field s path verb u member body c) x d n words pointers fs f.alone ∙ l,
+            struct-replaced s u member body c (edit_field s path verb u member body c) x d n nid words pointers fs f.alone ∙ l,
             (λ ys apart. d.keeps ys (mark_apart u member ys (Apart-left (union_area u) (areas_of_fields fs) ys apart)) (field_apart n fs member body ys e (Apart-right (union_area u) (areas_of_fields fs) ys apart))),
           )
 
   -- null children behind the others, or a struct made of a null
-  same_padded : (words pointers : ℕ) (u : Option ℕ) (fs : Fields) (section p : ℕ) (ts : Trees) → shape_record (shape words pointers u fs) whole_words section (read_child s (padded_to p ts)) ≡ shape_record (shape words pointers u fs) whole_words section (read_child s ts)
-  same_padded words pointers u fs section p ts = ap (shape_record (shape words pointers u fs) whole_words section) (λ k i ty. read_child-padded_to s p ts i ty k)
+  same_padded : (nid words pointers : ℕ) (u : Option ℕ) (fs : Fields) (section p : ℕ) (ts : Trees) → shape_record (shape nid words pointers u fs) whole_words section (read_child s (padded_to p ts)) ≡ shape_record (shape nid words pointers u fs) whole_words section (read_child s ts)
+  same_padded nid words pointers u fs section p ts = ap (shape_record (shape nid words pointers u fs) whole_words section) (λ k i ty. read_child-padded_to s p ts i ty k)
 
-  same_resized : (words pointers : ℕ) (u : Option ℕ) (fs : Fields) (p : ℕ) → shape_record (shape words pointers u fs) whole_words 0 (read_child s (resized p none)) ≡ record_by_shape s (shape words pointers u fs) null
+  same_resized : (nid words pointers : ℕ) (u : Option ℕ) (fs : Fields) (p : ℕ) → shape_record (shape nid words pointers u fs) whole_words 0 (read_child s (resized p none)) ≡ record_by_shape s (shape nid words pointers u fs) null
   unfolding record_by_shape
-  same_resized words pointers u fs p = ap (shape_record (shape words pointers u fs) whole_words 0) (λ k i ty. nothing_in s p i ty k)
+  same_resized nid words pointers u fs p = ap (shape_record (shape nid words pointers u fs) whole_words 0) (λ k i ty. nothing_in s p i ty k)
 
   -- at an opened pointer
   in_tree : (g : Shape) (t : Tree) (r : Record) → IsFineShape s g → EndsBehind s n path (fields_in g) → IsOpen t → on_name (step_field s path verb) n (fields_in g) (record_by_shape s g t) ≡ done r
       → record_by_shape s g (edit_struct (edit_field s path verb) n g t) ≡ r
   unfolding record_by_shape
-  in_tree (shape words pointers u fs) null r fine ends is_open h =
-      (in_cell words pointers u fs (record { section = 0; kids = resized pointers none }) r fine ends (target_of n fs) refl
-      (ap (λ z. at_target (step_field s path verb) n fs z (target_of n fs)) (same_resized words pointers u fs pointers) ∙ h)).0
-  in_tree (shape words pointers u fs) (structure w section ts) r fine ends is_open h =
-      (in_cell words pointers u fs (record { section = section; kids = padded_to pointers ts }) r fine ends (target_of n fs) refl
-      (ap (λ z. at_target (step_field s path verb) n fs z (target_of n fs)) (same_padded words pointers u fs section pointers ts) ∙ h)).0
+  in_tree (shape nid words pointers u fs) null r fine ends is_open h =
+      (in_cell nid words pointers u fs (record { section = 0; kids = resized pointers none }) r fine ends (target_of n fs) refl
+      (ap (λ z. at_target (step_field s path verb) n fs z (target_of n fs)) (same_resized nid words pointers u fs pointers) ∙ h)).0
+  in_tree (shape nid words pointers u fs) (structure w section ts) r fine ends is_open h =
+      (in_cell nid words pointers u fs (record { section = section; kids = padded_to pointers ts }) r fine ends (target_of n fs) refl
+      (ap (λ z. at_target (step_field s path verb) n fs z (target_of n fs)) (same_padded nid words pointers u fs section pointers ts) ∙ h)).0
   in_tree g (capability k) r fine ends is_open h = absurd is_open
   in_tree g (plain_list k count xs) r fine ends is_open h = absurd is_open
   in_tree g (pointer_list ts) r fine ends is_open h = absurd is_open
@@ -292,24 +293,24 @@ shown_not_done how (opaque k) r h = cc
 
 after_call : (s : Schema) (verb : Verb) (body : Body) (x r : Reading) → IsSlot body → at_field s verb body x ≡ done r → reading_after s (slot_type body) (slot_content s verb body) ≡ done r
 after_call s verb (group_slot g) x r slot h = absurd slot
-after_call s get void_slot x r yes' h = absurd (shown_not_done _ x r h)
+after_call s get (void_slot j) x r yes' h = absurd (shown_not_done _ x r h)
 after_call s get (plain_slot p at d) x r yes' h = absurd (shown_not_done _ x r h)
 after_call s get (pointer_slot i ty d) x r yes' h = absurd (shown_not_done _ x r h)
-after_call s (set_to v) void_slot x r yes' h = h
+after_call s (set_to v) (void_slot j) x r yes' h = h
 after_call s (set_to v) (plain_slot p at d) x r yes' h = h
 after_call s (set_to v) (pointer_slot i ty d) x r yes' h = h
-after_call s init void_slot x r yes' h = h
+after_call s init (void_slot j) x r yes' h = h
 after_call s init (plain_slot p at d) x r yes' h = h
 after_call s init (pointer_slot i ty d) x r yes' h = h
-after_call s (initn k) void_slot x r yes' h = h
+after_call s (initn k) (void_slot j) x r yes' h = h
 after_call s (initn k) (plain_slot p at d) x r yes' h = h
 after_call s (initn k) (pointer_slot i ty d) x r yes' h = h
-after_call s clear void_slot x r yes' h = h
+after_call s clear (void_slot j) x r yes' h = h
 after_call s clear (plain_slot p at d) x r yes' h = h
 after_call s clear (pointer_slot i ty d) x r yes' h = h
 
 put_is : (s : Schema) (verb : Verb) (body : Body) (c : Cell) → IsSlot body → put_content body (slot_content s verb body) c ≡ put_field s verb body c
-put_is s verb void_slot c h = refl
+put_is s verb (void_slot j) c h = refl
 put_is s verb (plain_slot p at d) c h = refl
 put_is s verb (pointer_slot i ty d) c h = refl
 put_is s verb (group_slot g) c h = absurd h
@@ -347,8 +348,8 @@ no_longer_inactive s l f e i ty d (opaque k) r h = h
 
 read_edited : (s : Schema) (id : ℕ) (f : Option ℕ → Option ℕ → Body → Edit) (l : List ℕ) (g : Shape) (t : Tree) → IsOpen t → read s (edit_struct f l g t) (struct id) ≡ record_as (record_by_shape s (s.shape_of id) (edit_struct f l g t))
 unfolding read record_by_shape
-read_edited s id f l (shape w p u fs) null h = refl
-read_edited s id f l (shape w p u fs) (structure words n ts) h = refl
+read_edited s id f l (shape nid w p u fs) null h = refl
+read_edited s id f l (shape nid w p u fs) (structure words n ts) h = refl
 read_edited s id f l g (capability k) h = absurd h
 read_edited s id f l g (plain_list k count xs) h = absurd h
 read_edited s id f l g (pointer_list ts) h = absurd h
@@ -382,19 +383,19 @@ module _ (s : Schema) (fine_schema : IsFineSchema s) (verb : Verb) (range : IsIn
       → IsDone s u member body c (edit_through s (name l) (edit_field s path verb) (edit_element s path verb) body c) r
   unfolding body_of areas_of areas_of_body
   at_path path l meets n u member body fs c r fine inner ends false active h = absurd (cc h)
-  at_path path l meets n u member void_slot fs c r fine inner ends true active h = absurd (cc h)
+  at_path path l meets n u member (void_slot j) fs c r fine inner ends true active h = absurd (cc h)
   at_path path l meets n u member (plain_slot p at d) fs c r fine inner ends true active h = absurd (cc h)
   at_path path l meets n u member (pointer_slot i ty d) fs c r fine inner ends true active h =
       through_pointer path l meets n u member i ty d fs c r inner ends active
       (to_through s l (step_field s path verb) (step_element s path verb) ty _ r (no_longer_inactive s l (step_field s path verb) (step_element s path verb) i ty d (read_child s c.kids i ty) r h))
-  at_path path l meets n u member (group_slot (shape w p v gs)) fs c r fine inner ends true active h = by (unmap _ _ _ h)
+  at_path path l meets n u member (group_slot (shape nid w p v gs)) fs c r fine inner ends true active h = by (unmap _ _ _ h)
     where
       c' : Cell
       c' = edit_target (edit_field s path verb) v (target_of l gs) c
 
-      by : IsMapped record_as (on_name (step_field s path verb) l gs (shape_record (shape w p v gs) whole_words c.section (read_child s c.kids))) r → IsDone s u member (group_slot (shape w p v gs)) c c' r
+      by : IsMapped record_as (on_name (step_field s path verb) l gs (shape_record (shape nid w p v gs) whole_words c.section (read_child s c.kids))) r → IsDone s u member (group_slot (shape nid w p v gs)) c c' r
       by (mapped x k gives) =
-          let both = in_cell s path verb meets l w p v gs c x inner ends (target_of l gs) refl k in
+          let both = in_cell s path verb meets l nid w p v gs c x inner ends (target_of l gs) refl k in
           record {
             reads = ap record_as both.0 ∙ gives;
             keeps = λ ys h k. both.1 ys k;

@@ -1,5 +1,5 @@
 -- The record of a trimmed value, and answers, which know no more of a value than what trimming leaves.
-use Rattle.std.proofs.Common.{◌≡◌, ℕ, true, List, Option, Some, refl, sym, ◌∙◌, ap}
+use Rattle.std.proofs.Common.{ℤ, ◌≡◌, ℕ, true, List, Option, Some, refl, sym, ◌∙◌, ap}
 use Rattle.capnp_model.specs.Segments.{Segments}
 use Rattle.capnp_model.specs.Trees.{Tree, null, capability, structure, plain_list, pointer_list, struct_list}
 use Rattle.capnp_model.specs.Trimming.{trim}
@@ -25,7 +25,7 @@ trimmed_record s id (pointer_list ts) h = refl
 trimmed_record s id (struct_list w p es) h = refl
 
 -- THE LAW: messages within the limits with equal trimmed values are answered alike.
-module _ (s : Schema) (quoted : List ℕ → List ℕ) (id : ℕ) (calls : List Call) (nesting : ℕ) where
+module _ (s : Schema) (quoted : List ℕ → List ℕ) (id : ℕ) (calls : List Call) (nesting : ℤ) where
   abbrev at : Tree → Answer
   at t = answer_value s quoted id calls nesting (Some t)
 

@@ -5,8 +5,8 @@ use Rattle.std.proofs.Common.{◌≡◌, ℕ, zero, suc, ◌*◌, ◌≤◌, ◌
 use Rattle.capnp_model.specs.Trees.{Tree, null, capability, structure, plain_list, pointer_list, struct_list, Trees, none, ◌▸◌, Elements, no_elements, element, tree_count, resized}
 use Rattle.capnp_model.specs.Trimming.{stripped, after_stripping, common_pointers, with_pointers, common_words, trim, trim_each, trim_elements}
 use Rattle.capnp_model.specs.Schemas.{width, Ty, void, plain, text, blob, untyped, interface, struct, list, Shape, shape, Fields, no_fields, field, Body, void_slot, plain_slot, pointer_slot, group_slot, Schema}
-use Rattle.capnp_model.specs.Readings.{Reading, null_pointer, record_as, opaque, Readings, ◌▹◌, entry, Children, only_child, whole_words, just_bits, discriminant, is_active, only_if, shape_record, fields_of, body_of, is_list_of, have_room, element_as, list_reading, struct_reading, other_list_reading, read, read_child, pointer_elements, struct_elements}
-use Rattle.capnp_model.specs.InKind.{Kinds, fields_in_kind, body_in_kind, shape_in_kind, size_of, element_kinds, struct_kinds, list_kinds, one_kind, in_kind, child_in_kind, children_in_kind, elements_in_kind}
+use Rattle.capnp_model.specs.Readings.{expected_size, Reading, null_pointer, record_as, opaque, Readings, ◌▹◌, entry, Children, only_child, whole_words, just_bits, discriminant, is_active, only_if, shape_record, fields_of, body_of, is_list_of, have_room, element_as, list_reading, struct_reading, other_list_reading, read, read_child, pointer_elements, struct_elements}
+use Rattle.capnp_model.specs.InKind.{Kinds, fields_in_kind, body_in_kind, shape_in_kind, element_kinds, struct_kinds, list_kinds, one_kind, in_kind, child_in_kind, children_in_kind, elements_in_kind}
 
 and_left : (a b : Bool) → (a && b) ≡ true → a ≡ true
 and_left true b h = refl
@@ -28,7 +28,7 @@ mutual
   unfolding shape_record shape_in_kind
 
   shape_record-alike : (g : Shape) (section : ℕ) (k : Kinds) (a b : Children) → Alike k a b → shape_in_kind g section k ≡ true → shape_record g whole_words section a ≡ shape_record g whole_words section b
-  shape_record-alike (shape w p u fs) section k a b same h = fields_of-alike fs (discriminant u whole_words section) section k a b same h
+  shape_record-alike (shape nid w p u fs) section k a b same h = fields_of-alike fs (discriminant u whole_words section) section k a b same h
 
   fields_of-alike : (fs : Fields) (d : Option ℕ) (section : ℕ) (k : Kinds) (a b : Children) → Alike k a b → fields_in_kind fs d section k ≡ true → fields_of fs d whole_words section a ≡ fields_of fs d whole_words section b
   fields_of-alike no_fields d section k a b same h = refl
@@ -39,7 +39,7 @@ mutual
       ap (λ r. entry n r (fields_of fs d whole_words section a)) one ∙ ap (entry n (only_if (is_active m d) (body_of body whole_words section b))) rest
 
   body_of-alike : (body : Body) (section : ℕ) (k : Kinds) (a b : Children) → Alike k a b → body_in_kind body section k ≡ true → body_of body whole_words section a ≡ body_of body whole_words section b
-  body_of-alike void_slot section k a b same h = refl
+  body_of-alike (void_slot j) section k a b same h = refl
   body_of-alike (plain_slot p at d) section k a b same h = refl
   body_of-alike (pointer_slot i ty d) section k a b same h = same i ty h
   body_of-alike (group_slot g) section k a b same h = ap record_as (shape_record-alike g section k a b same h)
@@ -103,7 +103,7 @@ element_as-alike s (struct id) section k a b same h = ap record_as (shape_record
 element_as-alike s (list ty) section k a b same h = same 0 (list ty) h
 
 -- an element of a pointer list in kind is a pointer
-pointer_as-alike : (s : Schema) (ty : Ty) (k : Kinds) (a b : Children) → Alike k a b → (size_of ty == 6) ≡ true → element_kinds s ty 0 k ≡ true → element_as s ty (just_bits 0) 0 a ≡ element_as s ty (just_bits 0) 0 b
+pointer_as-alike : (s : Schema) (ty : Ty) (k : Kinds) (a b : Children) → Alike k a b → (expected_size ty == 6) ≡ true → element_kinds s ty 0 k ≡ true → element_as s ty (just_bits 0) 0 a ≡ element_as s ty (just_bits 0) 0 b
 pointer_as-alike s void k a b same six h = refl
 pointer_as-alike s (plain p) k a b same six h = refl
 pointer_as-alike s text k a b same six h = same 0 text h
@@ -124,7 +124,7 @@ no_plain_size false false false true h = cc
 no_plain_size false false false false h = cc
 
 -- a list of structs in kind is one of a struct type
-seven : (ty : Ty) → (size_of ty == 7) ≡ true → IsStruct ty
+seven : (ty : Ty) → (expected_size ty == 7) ≡ true → IsStruct ty
 seven void h = absurd (cc h)
 seven (plain p) h = absurd (no_plain_size (width p == 1) (width p == 8) (width p == 16) (width p == 32) h)
 seven text h = absurd (cc h)
@@ -134,11 +134,11 @@ seven interface h = absurd (cc h)
 seven (struct id) h = is_struct id
 seven (list ty) h = absurd (cc h)
 
-room_for_struct : (w p id : ℕ) → have_room w p (struct id) ≡ true
-room_for_struct w p id = grind arith
+room_for_struct : (w p : ℕ) → have_room w p 7 ≡ true
+room_for_struct w p = grind arith
 
 struct_lists : (w p w' p' id : ℕ) (es es' : Elements) → is_list_of (struct_list w p es) (struct id) ≡ is_list_of (struct_list w' p' es') (struct id)
-struct_lists w p w' p' id es es' = room_for_struct (64 * w) p id ∙ sym (room_for_struct (64 * w') p' id)
+struct_lists w p w' p' id es es' = room_for_struct (64 * w) p ∙ sym (room_for_struct (64 * w') p')
 
 same_room : (ts us : Trees) (ty : Ty) → is_list_of (pointer_list ts) ty ≡ is_list_of (pointer_list us) ty
 same_room ts us ty = refl
@@ -164,7 +164,7 @@ module _ (s : Schema) where
   other_reading-trim t t' ea eb (struct id) e h = refl
   other_reading-trim t t' ea eb (list ty) e h = h ty refl
 
-  lists_by : (size : ℕ) (elements : Ty → Bool) (ty e : Ty) → ty ≡ list e → list_kinds size elements ty ≡ true → ((size_of e == size) && elements e) ≡ true
+  lists_by : (size : ℕ) (elements : Ty → Bool) (ty e : Ty) → ty ≡ list e → list_kinds size elements ty ≡ true → ((expected_size e == size) && elements e) ≡ true
   lists_by size elements ty e is h = subst (λ z. list_kinds size elements z ≡ true) is h
 
   alike_one : (t : Tree) → ((ty : Ty) → in_kind s t ty ≡ true → read s (trim t) ty ≡ read s t ty) → Alike (one_kind (in_kind s t)) (only_child (read s (trim t))) (only_child (read s t))
@@ -188,21 +188,21 @@ module _ (s : Schema) where
     read-trim (pointer_list ts) ty h =
         other_reading-trim (pointer_list (trim_each ts)) (pointer_list ts) (pointer_elements s (trim_each ts)) (pointer_elements s ts) ty (trim-trim (pointer_list ts))
         (λ e is. let both = lists_by 6 (children_in_kind s ts) ty e is h in
-        ap (list_reading (is_list_of (pointer_list ts) e)) (pointer_elements-trim ts e (and_left _ (children_in_kind s ts e) both) (and_right (size_of e == 6) _ both)))
+        ap (list_reading (is_list_of (pointer_list ts) e)) (pointer_elements-trim ts e (and_left _ (children_in_kind s ts e) both) (and_right (expected_size e == 6) _ both)))
     read-trim (struct_list w p es) ty h =
         let pointers : ℕ = common_pointers (trim_elements es) in
         let es' : Elements = with_pointers pointers (trim_elements es) in
         other_reading-trim (trim (struct_list w p es)) (struct_list w p es) (struct_elements s es') (struct_elements s es) ty (trim-trim (struct_list w p es))
         (λ e is. let both = lists_by 7 (elements_in_kind s es) ty e is h in
-        in_a_struct_list w p (common_words w (trim_elements es)) pointers es es' e (seven e (and_left (size_of e == 7) (elements_in_kind s es e) both))
-        (struct_elements-trim es pointers e (omega arith) (and_right (size_of e == 7) (elements_in_kind s es e) both)))
+        in_a_struct_list w p (common_words w (trim_elements es)) pointers es es' e (seven e (and_left (expected_size e == 7) (elements_in_kind s es e) both))
+        (struct_elements-trim es pointers e (omega arith) (and_right (expected_size e == 7) (elements_in_kind s es e) both)))
 
     pub read_child-trim : (ts : Trees) (i : ℕ) (ty : Ty) → child_in_kind s ts i ty ≡ true → read_child s (trim_each ts) i ty ≡ read_child s ts i ty
     read_child-trim none i ty h = refl
     read_child-trim (t ▸ ts) zero ty h = read-trim t ty h
     read_child-trim (t ▸ ts) (suc i) ty h = read_child-trim ts i ty h
 
-    pub pointer_elements-trim : (ts : Trees) (ty : Ty) → (size_of ty == 6) ≡ true → children_in_kind s ts ty ≡ true → pointer_elements s (trim_each ts) ty ≡ pointer_elements s ts ty
+    pub pointer_elements-trim : (ts : Trees) (ty : Ty) → (expected_size ty == 6) ≡ true → children_in_kind s ts ty ≡ true → pointer_elements s (trim_each ts) ty ≡ pointer_elements s ts ty
     pointer_elements-trim none ty six h = refl
     pointer_elements-trim (t ▸ ts) ty six h =
         ap (λ r. r ▹ pointer_elements s (trim_each ts) ty)

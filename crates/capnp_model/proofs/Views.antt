@@ -3,21 +3,8 @@ use Rattle.std.proofs.Common.{◌≡◌, ℕ, List, [], ◌∷◌, ◌++◌, Opt
 use lib.Bits.{bit_xor}
 use Rattle.capnp_model.specs.Schemas.{Ty, Shape, shape, Fields, no_fields, field, Body, void_slot, plain_slot, pointer_slot, group_slot}
 use Rattle.capnp_model.specs.Readings.{number, record_as, entry, Children, Extent, field_bits, discriminant, is_active, only_if, shape_record, fields_of, body_of}
+use Rattle.capnp_model.specs.Views.{View, SameAt, SameAll}
 use Rattle.capnp_model.specs.Accepted.{Area, bit_area, pointer_area, union_area, areas_of, areas_of_fields, areas_of_body}
-
--- what a struct's fields read
-pub record View : Type 0 where
-  pub size : Extent
-  pub section : ℕ
-  pub kids : Children
-
-abbrev pub SameAt : Area → View → View → Type 0
-SameAt (bit_area a n) v v' = field_bits v.size v.section a n ≡ field_bits v'.size v'.section a n
-SameAt (pointer_area i) v v' = (ty : Ty) → v.kids i ty ≡ v'.kids i ty
-
-abbrev pub SameAll : List Area → View → View → Type 0
-SameAll [] v v' = Unit {0}
-SameAll (x ∷ xs) v v' = SameAt x v v' × SameAll xs v v'
 
 pub SameAll-left : (xs ys : List Area) (v v' : View) → SameAll (xs ++ ys) v v' → SameAll xs v v'
 SameAll-left [] ys v v' h = tt
@@ -35,7 +22,7 @@ mutual
   unfolding shape_record areas_of
 
   pub shape_record-same : (g : Shape) (v v' : View) → SameAll (areas_of g) v v' → shape_record g v.size v.section v.kids ≡ shape_record g v'.size v'.section v'.kids
-  shape_record-same (shape words pointers union fs) v v' h =
+  shape_record-same (shape nid words pointers union fs) v v' h =
       let e = discriminant-same union v v' (SameAll-left (union_area union) (areas_of_fields fs) v v' h) in
       fields_of-same fs _ v v' (SameAll-right (union_area union) (areas_of_fields fs) v v' h) ∙ ap (λ d. fields_of fs d v'.size v'.section v'.kids) e
 
@@ -47,7 +34,7 @@ mutual
       ap (λ r. entry n (only_if (is_active member d) r) (fields_of fs d v.size v.section v.kids)) e ∙ ap (λ r. entry n (only_if (is_active member d) (body_of body v'.size v'.section v'.kids)) r) e'
 
   pub body_of-same : (body : Body) (v v' : View) → SameAll (areas_of_body body) v v' → body_of body v.size v.section v.kids ≡ body_of body v'.size v'.section v'.kids
-  body_of-same void_slot v v' h = refl
+  body_of-same (void_slot j) v v' h = refl
   body_of-same (plain_slot p at d) v v' h = ap (λ b. number (bit_xor b d)) h.0
   body_of-same (pointer_slot i ty d) v v' h = h.0 ty
   body_of-same (group_slot g) v v' h = ap record_as (shape_record-same g v v' h)

@@ -1,5 +1,5 @@
 -- What is answered to one message.
-use Rattle.std.specs.Prelude.{ℕ, not, ◌&&◌, nat_le, if◌then◌else◌, Option, Some, None, List, [], ◌∷◌}
+use Rattle.std.specs.Prelude.{◌≡◌, ℕ, ℤ, pos, negsuc, Bool, true, false, not, ◌&&◌, nat_le, if◌then◌else◌, Option, Some, None, List, [], ◌∷◌}
 use Rattle.capnp_model.specs.Chains.{◌>>=◌, ◌provided◌}
 use Rattle.capnp_model.specs.Kinds.{Kind, UnreadablePointer}
 use Rattle.capnp_model.specs.Segments.{Segments, root}
@@ -43,35 +43,50 @@ edits s id (c ∷ cs) t = edits s id cs (edit s id c t)
 
 -- The root with at least its schema's sizes; a null as the empty struct.
 abbrev pub widened_root : Shape → Tree → Tree
-widened_root (shape words pointers u fs) t = widened words pointers t
+widened_root (shape nid words pointers u fs) t = widened words pointers t
 
--- The answer to a message: why it is refused, or the words of the one segment that is written and the replies.
+-- The answer to a message: why it is refused, or the segments that are written and the replies.
 pub data Answer : Type 0 where
   refused_value refused_root refused_depth : Answer
-  written : List ℕ → List Reply → Answer
+  written : Segments → List Reply → Answer
 
--- The most words that following a message may cost, and the most levels of pointers.
+-- The most words that following a message may cost, none where any number may, and the most levels of pointers.
 pub record Limits : Type 0 where
-  pub words : ℕ
-  pub nesting : ℕ
+  pub words : Option ℕ
+  pub nesting : ℤ
+
+-- The levels of a nesting limit. No value keeps a negative one.
+abbrev pub levels : ℤ → Option ℕ
+levels (pos n) = Some n
+levels (negsuc n) = None
+
+-- So many levels are within a nesting limit.
+abbrev pub keeps_nesting : ℕ → ℤ → Bool
+keeps_nesting n (pos limit) = nat_le n limit
+keeps_nesting n (negsuc k) = false
+
+-- So many words are within a limit, if there is one.
+abbrev pub keeps_words : ℕ → Option ℕ → Bool
+keeps_words n None = true
+keeps_words n (Some limit) = nat_le n limit
 
 -- The value of a message, where it is within the limits and has no capability.
 unfoldable pub value_within : Limits → Segments → Option Tree
 value_within limits s =
-    tree_at limits.nesting s root >>= λ t. t provided (not (has_capability t) && nat_le (cost_at limits.nesting s root) limits.words)
+    levels limits.nesting >>= λ n. tree_at n s root >>= λ t. t provided (not (has_capability t) && keeps_words (cost_at n s root) limits.words)
 
 -- The tree that the calls start from: the trimmed value, a null as the empty struct, with at least the schema's sizes.
 unfoldable pub opened_root : Schema → ℕ → Tree → Tree
 opened_root s id t = widened_root (s.shape_of id) (trim t)
 
 -- The answer where the calls start from a struct.
-abbrev pub answer_struct : Schema → (List ℕ → List ℕ) → ℕ → List Call → ℕ → Tree → Answer
+abbrev pub answer_struct : Schema → (List ℕ → List ℕ) → ℕ → List Call → ℤ → Tree → Answer
 answer_struct s quoted id calls nesting t =
     let e : Tree = edits s id calls t in
-    if nat_le (depth e) nesting then written (canonical_words (trim e)) (replies s quoted id calls t) else refused_depth
+    if keeps_nesting (depth e) nesting then written (canonical_words (trim e) ∷ []) (replies s quoted id calls t) else refused_depth
 
 -- The answer to a value.
-abbrev pub answer_value : Schema → (List ℕ → List ℕ) → ℕ → List Call → ℕ → Option Tree → Answer
+abbrev pub answer_value : Schema → (List ℕ → List ℕ) → ℕ → List Call → ℤ → Option Tree → Answer
 answer_value s quoted id calls nesting None = refused_value
 answer_value s quoted id calls nesting (Some null) = answer_struct s quoted id calls nesting (opened_root s id null)
 answer_value s quoted id calls nesting (Some (structure words section kids)) = answer_struct s quoted id calls nesting (opened_root s id (structure words section kids))
@@ -80,3 +95,7 @@ answer_value s quoted id calls nesting (Some _) = refused_root
 -- The answer to a message of these segments, under the schema of the root's id.
 unfoldable pub answer : Schema → (List ℕ → List ℕ) → ℕ → List Call → Limits → Segments → Answer
 answer s quoted id calls limits segments = answer_value s quoted id calls limits.nesting (value_within limits segments)
+
+-- The answer that a relay gives, in the canonical form: just the one above.
+abbrev pub IsAnswer : Schema → (List ℕ → List ℕ) → ℕ → List Call → Limits → Segments → Answer → Type 0
+IsAnswer s quoted id calls limits segments a = a ≡ answer s quoted id calls limits segments

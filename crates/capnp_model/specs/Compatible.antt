@@ -76,7 +76,7 @@ same_default _ _ = false
 unfoldable mutual
   -- The newer struct keeps the older.
   pub keeps : Schema → Schema → Pairs → Shape → Shape → Bool
-  keeps o n pairs (shape w p u fs) (shape w' p' u' fs') =
+  keeps o n pairs (shape nid w p u fs) (shape nid' w' p' u' fs') =
       nat_le w w' && nat_le p p' && keeps_union u u' && keeps_fields o n pairs (member_count fs) fs fs'
 
   -- The older's fields in the order of the newer's, each with the same place, value and default.
@@ -91,7 +91,7 @@ unfoldable mutual
 
   -- The newer field keeps the older.
   pub keeps_body : Schema → Schema → Pairs → Body → Body → Bool
-  keeps_body o n pairs b void_slot = elim b [ void_slot ↦ true | _ ↦ false ]
+  keeps_body o n pairs b (void_slot j) = elim b [ void_slot i ↦ i == j | _ ↦ false ]
   keeps_body o n pairs b (plain_slot q at' d') = elim b [ plain_slot p at d ↦ related_plain o n p q && at == at' && d == d' | _ ↦ false ]
   keeps_body o n pairs b (pointer_slot j ty' d') = elim b [ pointer_slot i ty d ↦ i == j && related o n pairs ty ty' && same_default d d' | _ ↦ false ]
   keeps_body o n pairs (group_slot g) (group_slot g') = keeps o n pairs g g'

@@ -1,5 +1,5 @@
 -- The same calls on trees.
-use Rattle.std.specs.Prelude.{ℕ, zero, suc, ◌*◌, ◌%◌, ◌^◌, max, Bool, true, false, bit_xor, Option, Some, None, List, [], ◌∷◌}
+use Rattle.std.specs.Prelude.{◌≡◌, ℕ, zero, suc, ◌*◌, ◌%◌, ◌^◌, max, Bool, true, false, bit_xor, Option, Some, None, List, [], ◌∷◌, ◌++◌}
 use Rattle.capnp_model.specs.Sections.{number_of, with_bits}
 use Rattle.capnp_model.specs.Trees.{Tree, null, structure, plain_list, pointer_list, struct_list, Trees, none, ◌▸◌, Elements, no_elements, element, child, with_child, resized, padded_to, widened, size_bits, plain_elements}
 use Rattle.capnp_model.specs.Schemas.{width, Ty, plain, struct, list, Shape, shape, Fields, no_fields, field, Body, void_slot, plain_slot, pointer_slot, group_slot, Schema, default_or_null}
@@ -54,7 +54,7 @@ edit_if false f c = c
 unfoldable mutual
   -- A cleared group: its member 0 and its fields that are no members.
   pub cleared : Shape → Edit
-  cleared (shape words pointers union fs) c = cleared_fields fs (mark union (Some 0) c)
+  cleared (shape nid words pointers union fs) c = cleared_fields fs (mark union (Some 0) c)
 
   -- The same of its fields.
   pub cleared_fields : Fields → Edit
@@ -63,39 +63,61 @@ unfoldable mutual
 
   -- A cleared field.
   pub cleared_body : Body → Edit
-  cleared_body void_slot c = c
+  cleared_body (void_slot j) c = c
   cleared_body (plain_slot p at d) c = put_bits at (width p) 0 c
   cleared_body (pointer_slot i ty d) c = put_child i null c
   cleared_body (group_slot g) c = cleared g c
 
 -- ---- the end of a path
 
--- Slot by slot: the fields that the source has, and its active member.
-abbrev pub copied_pointer : Schema → Option ℕ → ℕ → Ty → Tree → Tree → Edit
-copied_pointer s None i ty d null c = c
-copied_pointer s member i ty d t c = put_child i (source_tree s ty d t) c
+-- A pointer of the source is put into its slot, where it is a member's or no null.
+abbrev pub pointer_writes : Schema → Option ℕ → ℕ → Ty → Tree → Edit → Tree → List Edit
+pointer_writes s None i ty d before null = []
+pointer_writes s member i ty d before t = (λ c. put_child i (source_tree s ty d t) (before c)) ∷ []
+
+-- Whether it is a field's turn: first the source's active member, then the fields that are no members.
+abbrev pub has_turn : Bool → Option ℕ → Option ℕ → Bool
+has_turn true None active = false
+has_turn true (Some m) active = is_active (Some m) active
+has_turn false None active = true
+has_turn false (Some m) active = false
 
 unfoldable mutual
-  -- A group is copied from another struct's data and children.
-  pub copied : Schema → Shape → Cell → Edit
-  copied s (shape words pointers union fs) from c = copied_fields s fs union (discriminant union whole_words from.section) from c
+  -- The writes that set a group from another struct's data and children, in their order: it is cleared, then its active
+  -- member is set, then its other fields by index. `before` marks the union of which the group is a member.
+  pub group_writes : Schema → Shape → Edit → Cell → List Edit
+  group_writes s (shape nid words pointers union fs) before from =
+      let active : Option ℕ = discriminant union whole_words from.section in
+      (λ c. cleared (shape nid words pointers union fs) (before c)) ∷ (field_writes s true fs union active from ++ field_writes s false fs union active from)
 
-  -- The same of its fields.
-  pub copied_fields : Schema → Fields → Option ℕ → Option ℕ → Cell → Edit
-  copied_fields s no_fields union active from c = c
-  copied_fields s (field n member body fs) union active from c =
-      copied_fields s fs union active from (elim (is_active member active) [ true ↦ copied_body s body member from (mark union member c) | false ↦ c ])
+  -- The writes of the fields that have their turn.
+  pub field_writes : Schema → Bool → Fields → Option ℕ → Option ℕ → Cell → List Edit
+  field_writes s members no_fields union active from = []
+  field_writes s members (field n member body fs) union active from =
+      elim (has_turn members member active) [
+        | true ↦ body_writes s body member (mark union member) from ++ field_writes s members fs union active from
+        | false ↦ field_writes s members fs union active from
+      ]
 
-  -- A field is copied.
-  pub copied_body : Schema → Body → Option ℕ → Cell → Edit
-  copied_body s void_slot member from c = c
-  copied_body s (plain_slot p at d) member from c = put_bits at (width p) (field_bits whole_words from.section at (width p)) c
-  copied_body s (pointer_slot i ty d) member from c = copied_pointer s member i ty (default_or_null d) (child from.kids i) c
-  copied_body s (group_slot g) member from c = copied s g from c
+  -- The writes of a field.
+  pub body_writes : Schema → Body → Option ℕ → Edit → Cell → List Edit
+  body_writes s (void_slot j) member before from = before ∷ []
+  body_writes s (plain_slot p at d) member before from = (λ c. put_bits at (width p) (field_bits whole_words from.section at (width p)) (before c)) ∷ []
+  body_writes s (pointer_slot i ty d) member before from = pointer_writes s member i ty (default_or_null d) before (child from.kids i)
+  body_writes s (group_slot g) member before from = group_writes s g before from
 
--- A group is cleared and copied from a message.
+-- One write after the other.
+abbrev pub after_writes : List Edit → Edit
+after_writes [] c = c
+after_writes (f ∷ fs) c = after_writes fs (f c)
+
+-- What a refused `set` of a group leaves: a beginning of its writes.
+abbrev pub IsBegun : Schema → Shape → Cell → Cell → Cell → Type 0
+IsBegun s g from old new = (front : List Edit) × (back : List Edit) × (group_writes s g (λ c. c) from ≡ front ++ back) × (new ≡ after_writes front old)
+
+-- A group is set from a message.
 abbrev pub from_message : Schema → Shape → Tree → Edit
-from_message s g (structure words section kids) c = copied s g (record { section = section; kids = kids }) (cleared g c)
+from_message s g (structure words section kids) c = after_writes (group_writes s g (λ c. c) (record { section = section; kids = kids })) c
 from_message s g t c = c
 
 -- A group is set, initialised or cleared.
@@ -138,7 +160,7 @@ in_struct words f t = t
 
 -- A struct is widened to the schema's sizes.
 abbrev pub edit_struct : (Option ℕ → Option ℕ → Body → Edit) → List ℕ → Shape → Tree → Tree
-edit_struct f n (shape words pointers union fs) t = in_struct words (edit_named f n union fs) (widened words pointers t)
+edit_struct f n (shape nid words pointers union fs) t = in_struct words (edit_named f n union fs) (widened words pointers t)
 
 -- A list that stands on the path for structs becomes one of structs, with at least the schema's sizes.
 abbrev pub elements_of_plain : ℕ → List ℕ → Elements
@@ -162,9 +184,9 @@ least_words (suc size) = 1
 
 -- A list as one of structs of at least the shape's sizes.
 abbrev pub widened_list : Shape → Tree → Tree
-widened_list (shape words pointers u fs) (plain_list size n section) = struct_list (max words (least_words size)) pointers (elements_of_plain pointers (plain_elements size n section))
-widened_list (shape words pointers u fs) (pointer_list ts) = struct_list words (max pointers 1) (elements_of_pointers pointers ts)
-widened_list (shape words pointers u fs) (struct_list w p es) = struct_list (max words w) (max pointers p) (padded_elements pointers es)
+widened_list (shape nid words pointers u fs) (plain_list size n section) = struct_list (max words (least_words size)) pointers (elements_of_plain pointers (plain_elements size n section))
+widened_list (shape nid words pointers u fs) (pointer_list ts) = struct_list words (max pointers 1) (elements_of_pointers pointers ts)
+widened_list (shape nid words pointers u fs) (struct_list w p es) = struct_list (max words w) (max pointers p) (padded_elements pointers es)
 widened_list g t = t
 
 -- A list on the path, widened where its type is of structs.
@@ -205,14 +227,14 @@ edit_value s step f e ty t = t
 
 -- The change behind a step through a field.
 abbrev pub edit_through : Schema → Step → (Option ℕ → Option ℕ → Body → Edit) → (Ty → ℕ → ℕ → Edit) → Body → Edit
-edit_through s (name n) f e (group_slot (shape w p union fs)) c = edit_named f n union fs c
+edit_through s (name n) f e (group_slot (shape nid w p union fs)) c = edit_named f n union fs c
 edit_through s step f e (pointer_slot i ty d) c = put_child i (edit_value s step f e ty (opened_tree ty (default_or_null d) (child c.kids i))) c
 edit_through s step f e body c = c
 
 -- The change behind a step through an element.
 abbrev pub edit_through_element : Schema → Step → (Option ℕ → Option ℕ → Body → Edit) → (Ty → ℕ → ℕ → Edit) → Ty → Edit
 edit_through_element s (name n) f e (struct id) c =
-    elim (s.shape_of id) [ shape w p union fs ↦ edit_named f n union fs c ]
+    elim (s.shape_of id) [ shape nid w p union fs ↦ edit_named f n union fs c ]
 edit_through_element s step f e ty c = put_child 0 (edit_value s step f e ty (child c.kids 0)) c
 
 unfoldable mutual

@@ -27,7 +27,7 @@ joined sep [] = []
 joined sep (x ∷ []) = x
 joined sep (x ∷ y ∷ ys) = x ++ sep ++ joined sep (y ∷ ys)
 
--- `quoted` is what stands between the quotes of a text past ASCII, which is left open
+-- A text; `quoted` is what stands between the quotes of one past ASCII, which is left open.
 abbrev pub text_text : (List ℕ → List ℕ) → List ℕ → List ℕ
 text_text quoted bs =
     if is_utf8 bs then codes "\"" ++ (if list_all (λ b. nat_lt b 128) bs then flat_map escaped bs else quoted bs) ++ codes "\""
@@ -86,9 +86,10 @@ abbrev pub closing : Style → List ℕ
 closing on_one_line = []
 closing (indented n) = line_at n
 
--- Items between two signs.
+-- Items between two signs; without an item nothing stands behind the opening sign.
 abbrev pub enclosed : Style → List ℕ → List ℕ → List (List ℕ) → List ℕ
-enclosed style sign sign' items = sign ++ opening style ++ joined (between style) items ++ closing style ++ sign'
+enclosed style sign sign' [] = sign ++ closing style ++ sign'
+enclosed style sign sign' (x ∷ xs) = sign ++ opening style ++ joined (between style) (x ∷ xs) ++ closing style ++ sign'
 
 -- A list.
 abbrev pub list_text : Style → List (List ℕ) → List ℕ
@@ -109,7 +110,7 @@ pub data As : Type 0 where
 
 -- How a field's reading is to be understood.
 abbrev pub as_body : Body → As
-as_body void_slot = as_type void null
+as_body (void_slot j) = as_type void null
 as_body (plain_slot p at d) = as_type (plain p) null
 as_body (pointer_slot i ty d) = as_type ty (default_or_null d)
 as_body (group_slot g) = as_group g
@@ -131,7 +132,7 @@ element_type _ = void
 
 -- The fields of a shape.
 abbrev pub fields_in : Shape → Fields
-fields_in (shape w p u fs) = fs
+fields_in (shape nid w p u fs) = fs
 
 -- The fields of what is understood as a struct or a group.
 abbrev pub shape_as : Schema → As → Fields
@@ -140,7 +141,7 @@ shape_as s (as_type (struct id) d) = fields_in (s.shape_of id)
 shape_as s (as_type _ d) = no_fields
 
 -- A union member is shown where it is active, with discriminant 0 only where it is no null pointer;
--- Another field only where it is no null pointer.
+-- another field only where it is no null pointer.
 abbrev pub is_shown : Option ℕ → Reading → Bool
 is_shown m inactive = false
 is_shown (Some (suc m)) null_pointer = true

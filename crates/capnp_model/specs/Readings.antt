@@ -1,8 +1,8 @@
 -- What a tree reads as under a schema.
-use Rattle.std.specs.Prelude.{ℕ, zero, suc, ◌+◌, ◌*◌, Bool, true, false, not, ◌&&◌, ◌==◌, nat_le, if◌then◌else◌, bit_xor, Option, Some, None, List, [], ◌∷◌, length, take, slice_index}
+use Rattle.std.specs.Prelude.{ℕ, zero, suc, ◌+◌, ◌*◌, Bool, true, false, not, ◌&&◌, ◌==◌, nat_lt, nat_le, if◌then◌else◌, bit_xor, Option, Some, None, List, [], ◌∷◌, length, take, slice_index}
 use Rattle.capnp_model.specs.Kinds.{Kind, WrongPointerKind, WrongElementSize, TextWithoutZeroByte}
 use Rattle.capnp_model.specs.Sections.{bits_at}
-use Rattle.capnp_model.specs.Trees.{Tree, null, capability, structure, plain_list, pointer_list, struct_list, Trees, none, ◌▸◌, Elements, no_elements, element, size_bits, plain_elements}
+use Rattle.capnp_model.specs.Trees.{Tree, null, capability, structure, plain_list, pointer_list, struct_list, Trees, none, ◌▸◌, Elements, no_elements, element, size_bits, size_of_width, plain_elements}
 use Rattle.capnp_model.specs.Trimming.{trim}
 use Rattle.capnp_model.specs.Schemas.{bool, width, Ty, void, plain, text, blob, untyped, interface, struct, list, Shape, shape, Fields, no_fields, field, Body, void_slot, plain_slot, pointer_slot, group_slot, Schema}
 
@@ -51,8 +51,8 @@ only_child r (suc i) ty = null_pointer
 
 -- ---- the fields of a struct
 
--- Behind the words of a struct there are zeros, since the section is a number. An element of a plain
--- List has just its bits.
+-- How far a data section goes. Behind the words of a struct there are zeros, since the section is a number; an element of a
+-- plain list has just its bits.
 pub data Extent : Type 0 where
   whole_words : Extent
   just_bits : ℕ → Extent
@@ -78,11 +78,10 @@ abbrev pub only_if : Bool → Reading → Reading
 only_if true r = r
 only_if false r = inactive
 
--- The extent of the data section, the section and the children.
 unfoldable mutual
   -- The record of a struct or a group: its extent, section and children.
   pub shape_record : Shape → Extent → ℕ → Children → Record
-  shape_record (shape words pointers union fs) size section kids = fields_of fs (discriminant union size section) size section kids
+  shape_record (shape nid words pointers union fs) size section kids = fields_of fs (discriminant union size section) size section kids
 
   -- The record of fields under a discriminant.
   pub fields_of : Fields → Option ℕ → Extent → ℕ → Children → Record
@@ -92,40 +91,35 @@ unfoldable mutual
 
   -- What a field reads as.
   pub body_of : Body → Extent → ℕ → Children → Reading
-  body_of void_slot size section kids = number 0
+  body_of (void_slot j) size section kids = number 0
   body_of (plain_slot p at default) size section kids = number (bit_xor (field_bits size section at (width p)) default)
   body_of (pointer_slot i ty default) size section kids = kids i ty
   body_of (group_slot g) size section kids = record_as (shape_record g size section kids)
 
 -- ---- lists
 
--- The bits and the pointers that an element of the type needs.
-abbrev pub bits_needed : Ty → ℕ
-bits_needed (plain p) = width p
-bits_needed _ = 0
+-- The element size that lists of the type are written with: 0 to 5 of plain bits, 6 of pointers, 7 of structs. (Encoding, "Lists")
+abbrev pub expected_size : Ty → ℕ
+expected_size void = 0
+expected_size (plain p) = size_of_width (width p)
+expected_size (struct id) = 7
+expected_size _ = 6
 
--- The pointers that an element of the type needs.
-abbrev pub pointers_needed : Ty → ℕ
-pointers_needed void = 0
-pointers_needed (plain p) = 0
-pointers_needed (struct id) = 0
-pointers_needed _ = 1
+-- Elements of so many bits and pointers can be read as elements of the expected size; those of structs need nothing.
+abbrev pub have_room : ℕ → ℕ → ℕ → Bool
+have_room bits pointers expected = nat_le (if nat_lt expected 6 then size_bits expected else 0) bits && nat_le (if expected == 6 then 1 else 0) pointers
 
--- The type Bool.
-abbrev pub is_bool : Ty → Bool
-is_bool (plain bool) = true
-is_bool _ = false
-
--- So many bits and pointers hold an element of the type.
-abbrev pub have_room : ℕ → ℕ → Ty → Bool
-have_room size pointers ty = nat_le (bits_needed ty) size && nat_le (pointers_needed ty) pointers
+-- The list is accepted where elements of the size are expected. Only single bits are read from a list of single bits,
+-- and never from structs.
+abbrev pub is_accepted_as : ℕ → Tree → Bool
+is_accepted_as expected (plain_list size n section) = if size == 1 then expected == 1 else have_room (size_bits size) 0 expected
+is_accepted_as expected (pointer_list ts) = have_room 0 1 expected
+is_accepted_as expected (struct_list words pointers es) = not (expected == 1) && have_room (64 * words) pointers expected
+is_accepted_as expected _ = false
 
 -- The elements of the list can be read as the type.
 abbrev pub is_list_of : Tree → Ty → Bool
-is_list_of (plain_list size n section) ty = if size == 1 then is_bool ty else have_room (size_bits size) 0 ty
-is_list_of (pointer_list ts) ty = have_room 0 1 ty
-is_list_of (struct_list words pointers es) ty = not (is_bool ty) && have_room (64 * words) pointers ty
-is_list_of _ ty = false
+is_list_of t ty = is_accepted_as (expected_size ty) t
 
 -- ---- pointers
 

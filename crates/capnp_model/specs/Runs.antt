@@ -23,19 +23,25 @@ answer_words (written words replies) = codes "written" ++ flat_map (λ r. codes 
 abbrev pub line_of : ℕ → Answer → List ℕ
 line_of n a = codes "message " ++ (decimal n ++ (codes " " ++ (answer_words a ++ codes "\n")))
 
--- What goes out for an answer: the written segment as one message, in the form of the writer.
+-- What goes out for an answer: the written segments as one message, in the form of the writer.
 abbrev pub output_of : Writer → Answer → List ℕ
-output_of write (written words replies) = spelled write (words ∷ [])
+output_of write (written segments replies) = spelled write segments
 output_of write _ = []
 
--- What goes out for messages.
-abbrev pub outputs_of : Writer → (Segments → Answer) → List Segments → List ℕ
-outputs_of write answers messages = flat_map (λ s. output_of write (answers s)) messages
+-- What goes out for answers.
+abbrev pub outputs_of : Writer → List Answer → List ℕ
+outputs_of write answers = flat_map (output_of write) answers
 
--- What is logged of messages, the first of which is message n.
-abbrev pub lines_of : (Segments → Answer) → ℕ → List Segments → List ℕ
-lines_of answers n [] = []
-lines_of answers n (s ∷ messages) = line_of n (answers s) ++ lines_of answers (n + 1) messages
+-- What is logged of answers, the first of which is that to message n.
+abbrev pub lines_of : ℕ → List Answer → List ℕ
+lines_of n [] = []
+lines_of n (a ∷ answers) = line_of n a ++ lines_of (n + 1) answers
+
+-- The answers are those to the messages, one each.
+abbrev pub AnswerEach : (Segments → Answer → Type 0) → List Segments → List Answer → Type 0
+AnswerEach is_answer [] [] = Unit {0}
+AnswerEach is_answer (s ∷ messages) (a ∷ answers) = is_answer s a × AnswerEach is_answer messages answers
+AnswerEach is_answer _ _ = ⊥
 
 -- Bytes begin with these messages, whose lengths keep the limit, and then the rest.
 abbrev pub BeginWith : Reader → ℕ → List ℕ → List Segments → List ℕ → Type 0
@@ -52,11 +58,13 @@ abbrev pub EndsBy : Reader → ℕ → List ℕ → End → Type 0
 EndsBy read limit rest finished = rest ≡ []
 EndsBy read limit rest (broken kind) = (rest ≡ [] → ⊥) × (message_at read (Some limit) rest ≡ Err kind)
 
--- Bytes go to what is written, what is logged and how the run ends.
-pub record IsRun (read : Reader) (write : Writer) (limit : ℕ) (answers : Segments → Answer) (bytes output log : List ℕ) (end : End) : Type 0 where
+-- A run over bytes: the messages that they begin with are answered in order, what is written and logged is that of the answers, and the rest ends the run.
+pub record IsRun (read : Reader) (write : Writer) (limit : ℕ) (is_answer : Segments → Answer → Type 0) (bytes output log : List ℕ) (end : End) : Type 0 where
   pub messages : List Segments
+  pub answers : List Answer
   pub rest : List ℕ
   pub begins : BeginWith read limit bytes messages rest
-  pub writes : output ≡ outputs_of write answers messages
-  pub logs : log ≡ lines_of answers 1 messages
+  pub answered : AnswerEach is_answer messages answers
+  pub writes : output ≡ outputs_of write answers
+  pub logs : log ≡ lines_of 1 answers
   pub ends : EndsBy read limit rest end

@@ -83,7 +83,7 @@ on_index f (suc k) (r ▹ rs) = outcome_map (λ xs. r ▹ xs) (on_index f k rs)
 
 -- The type of a slot.
 abbrev pub slot_type : Body → Ty
-slot_type void_slot = void
+slot_type (void_slot j) = void
 slot_type (plain_slot p at d) = plain p
 slot_type (pointer_slot i ty d) = ty
 slot_type (group_slot g) = void
@@ -103,7 +103,7 @@ reading_after s ty (object t) = done (read s t ty)
 abbrev pub cleared_group : Shape → Reading
 cleared_group g = record_as (shape_record g whole_words 0 no_children)
 
--- `set` of a group from a message with a struct
+-- `set` of a group from what its source reads as, unless that has a fault.
 abbrev pub copied_or_refused : Schema → Shape → Record → Option Kind → Outcome Reading
 copied_or_refused s g r (Some k) = refused k
 copied_or_refused s g r None = done (record_as (copied_record s g r))

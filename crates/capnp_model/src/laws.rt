@@ -1,6 +1,6 @@
 //! Laws of the definitions, each the contract of a function that does nothing.
 
-ghost use Rattle.std.specs.Prelude.{◌≡◌, ℕ, ◌+◌, ◌*◌, ◌^◌, ◌<◌, ◌≤◌, ◌⊎◌, Bool, true, false, List, [], ◌∷◌, ◌++◌, length, map, Option, Some, IsSome, Ok, slice_get, bit_xor};
+ghost use Rattle.std.specs.Prelude.{◌≡◌, ℕ, ◌+◌, ◌*◌, ◌^◌, ◌<◌, ◌≤◌, ◌⊎◌, Bool, true, false, List, [], ◌∷◌, ◌++◌, length, map, slice_get, slice_index, slice_set, Option, Some, IsSome, Ok, bit_xor};
 ghost use Rattle.std.specs.List.{AllByRecursion};
 ghost use Rattle.capnp_model.specs.Sections.{bits_at, with_bits, words_of, section_of};
 ghost use Rattle.capnp_model.specs.Segments.{Segments, Place, root, word_at, words_at};
@@ -16,13 +16,14 @@ ghost use Rattle.capnp_model.specs.Sizes.{object_words, capability_count};
 ghost use Rattle.capnp_model.specs.Fits.{Fits};
 ghost use Rattle.capnp_model.specs.Packing.{packed, unpacked};
 ghost use Rattle.capnp_model.specs.Messages.{frame_at, packed_at, flat_at, frame, packed_message};
-ghost use Rattle.capnp_model.specs.Schemas.{struct, Node, Schema};
-ghost use Rattle.capnp_model.specs.Readings.{Record, record_of};
+ghost use Rattle.capnp_model.specs.Schemas.{struct, Node, Shape, Schema};
+ghost use Rattle.capnp_model.specs.Readings.{Record, record_of, shape_record};
 ghost use Rattle.capnp_model.specs.Printing.{fields_in};
 ghost use Rattle.capnp_model.specs.Steps.{done, step};
 ghost use Rattle.capnp_model.specs.Edits.{edit};
 ghost use Rattle.capnp_model.specs.NamedPaths.{IsInRange, IsOpen, GoesByNames};
-ghost use Rattle.capnp_model.specs.Accepted.{IsAccepted, schema_of};
+ghost use Rattle.capnp_model.specs.Accepted.{IsAccepted, areas_of, schema_of};
+ghost use Rattle.capnp_model.specs.Views.{View, SameAll};
 ghost use Rattle.capnp_model.specs.Compatible.{IsCompatible};
 ghost use Rattle.capnp_model.specs.Projection.{projected};
 ghost use Rattle.capnp_model.specs.InKind.{in_kind};
@@ -42,6 +43,12 @@ pub fn numbers_in_sections()
 /// A section is the one of its words.
 pub fn sections_are_words()
     ensures { (n section : ℕ) → section < 2 ^ (64 * n) → section_of (words_of n section) ≡ section }
+{}
+
+/// Bits that lie in one word of a section are those of the word, in reading and in writing.
+pub fn bits_in_words()
+    ensures read { (words : List ℕ) (i j width : ℕ) → i < length words → j + width ≤ 64 → bits_at (64 * i + j) width (section_of words) ≡ bits_at j width (slice_index words i) }
+    ensures written { (words : List ℕ) (i j width value : ℕ) → value < 2 ^ width → i < length words → j + width ≤ 64 → slice_index words i < 2 ^ 64 → section_of (slice_set words i (with_bits j width value (slice_index words i))) ≡ with_bits (64 * i + j) width value (section_of words) }
 {}
 
 /// What is read keeps the nesting limit, is the same under any other that its depth keeps, and fits its spelling.
@@ -137,6 +144,11 @@ pub fn texts_of_messages()
     ensures one_packed { (limit : Option ℕ) (b c : List ℕ) (s u : Segments) (x y : List ℕ) → Packs limit b s → Packs limit c u → b ++ x ≡ c ++ y → (b ≡ c) × (s ≡ u) }
 {}
 
+/// The record of a struct depends on nothing but the bits and the pointers of its schema's slots and discriminants.
+pub fn records_of_own_bits()
+    ensures { (g : Shape) (v w : View) → SameAll (areas_of g) v w → shape_record g v.size v.section v.kids ≡ shape_record g w.size w.section w.kids }
+{}
+
 /// The record under an older schema is the older view of the record under a compatible newer one.
 pub fn older_records()
     ensures { (nodes newer_nodes : List Node) (older newer : ℕ) (t : Tree) → IsAccepted nodes → IsCompatible (schema_of nodes) (schema_of newer_nodes) older newer → record_of (schema_of nodes) older t ≡ projected (schema_of nodes) older (record_of (schema_of newer_nodes) newer t) }
@@ -155,4 +167,19 @@ pub fn answers_to_equal_values()
 /// The record of an edited value is what the record machine makes of the record, for calls along names that end at a slot.
 pub fn records_of_edited_values()
     ensures { (nodes : List Node) → IsAccepted nodes → (id : ℕ) → (schema_of nodes).is_group id ≡ false → (c : Call) → IsInRange c.verb → GoesByNames (schema_of nodes) (fields_in ((schema_of nodes).shape_of id)) c.path → (t : Tree) → IsOpen t → (r : Record) → step (schema_of nodes) id c (record_of (schema_of nodes) id t) ≡ done r → record_of (schema_of nodes) id (edit (schema_of nodes) id c t) ≡ r }
+{}
+
+/// Every schema is compatible with itself.
+pub fn compatible_with_itself()
+    ensures { (nodes : List Node) (id : ℕ) → IsCompatible (schema_of nodes) (schema_of nodes) id id }
+{}
+
+/// Compatibility goes along versions, where the newest schema is accepted.
+pub fn compatible_along_versions()
+    ensures { (oldest middle : Schema) (nodes : List Node) (x y z : ℕ) → IsAccepted nodes → IsCompatible oldest middle x y → IsCompatible middle (schema_of nodes) y z → IsCompatible oldest (schema_of nodes) x z }
+{}
+
+/// Along versions the oldest view of a record is the oldest view of its middle view.
+pub fn views_along_versions()
+    ensures { (a b c : List Node) (x y z : ℕ) (t : Tree) → IsAccepted a → IsAccepted b → IsAccepted c → IsCompatible (schema_of a) (schema_of b) x y → IsCompatible (schema_of b) (schema_of c) y z → projected (schema_of a) x (projected (schema_of b) y (record_of (schema_of c) z t)) ≡ projected (schema_of a) x (record_of (schema_of c) z t) }
 {}

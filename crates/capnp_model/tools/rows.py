@@ -228,7 +228,7 @@ def parse(b,packed):
         msgs.append((s,b[i:]))
     return msgs
 head='''-- Worked runs of a relay, from the bytes that come in to those that go out and the lines of the log.
-use Rattle.std.proofs.Common.{◌≡◌, ℕ, refl, List, [], ◌∷◌, Ok, Err, Some, None, codes}
+use Rattle.std.proofs.Common.{◌≡◌, ℕ, refl, List, [], ◌∷◌, map, Ok, Err, Some, None, codes}
 use Rattle.std.specs.Prelude.{pos}
 use Rattle.std.specs.Fmt.{digits}
 use Rattle.std.specs.Str.{is_utf8, chars}
@@ -247,9 +247,9 @@ use Rattle.capnp_model.specs.Printing.{print, record_text, on_one_line, indented
 use Rattle.capnp_model.specs.Calls.{Step, name, index, whole_number, text_value, message, Verb, get, set_to, init, initn, clear, Call}
 use Rattle.capnp_model.specs.Groups.{group_fault, copied_record}
 use Rattle.capnp_model.specs.Steps.{step, step_field}
-use Rattle.capnp_model.specs.Edits.{edit, edit_field, cleared, copied}
+use Rattle.capnp_model.specs.Edits.{edit, edit_field, cleared, group_writes}
 use Rattle.capnp_model.specs.Accepted.{shape_in, schema_of}
-use Rattle.capnp_model.specs.Answers.{Limits, edits, replies, value_within, opened_root, answer}
+use Rattle.capnp_model.specs.Answers.{Answer, Limits, edits, replies, value_within, opened_root, answer, IsAnswer}
 use Rattle.capnp_model.specs.Runs.{End, finished, broken, IsRun}
 use Rattle.capnp_model.proofs.ExampleSchemas.{example_nodes, newer_nodes}
 
@@ -265,13 +265,20 @@ examples = schema_of example_nodes
 newer_examples : Schema
 newer_examples = schema_of newer_nodes
 
+abbrev limits : ℕ → ℕ → Limits
+limits words nesting = record { words = Some words; nesting = pos nesting }
+
 -- A run under the example schemas, with limits of words and levels.
 Relays : Reader → Writer → ℕ → ℕ → ℕ → List Call → List ℕ → List ℕ → List ℕ → End → Type 0
 Relays read write words nesting id calls bytes output log end =
-    IsRun read write words (answer examples (λ x. x) id calls (record { words = words; nesting = nesting })) bytes output log end
+    IsRun read write words (IsAnswer examples (λ x. x) id calls (limits words nesting)) bytes output log end
+
+-- The answers to messages under the example schemas.
+abbrev answers_to : ℕ → ℕ → ℕ → List Call → List Segments → List Answer
+answers_to words nesting id calls messages = map (answer examples (λ x. x) id calls (limits words nesting)) messages
 '''.replace('call : List','abbrev call : List').replace('set_number : ℕ','abbrev set_number : ℕ').replace('examples : Schema\nex','abbrev examples : Schema\nex').replace('newer_examples : Schema','abbrev newer_examples : Schema').replace('Relays : Reader','abbrev Relays : Reader').replace('newer_abbrev examples','newer_examples')
 G=F('RelayExamples.antt',head)
-UNF='message_at unpacked_from packed answer value_within opened_root tree_at cost_at canonical_words trim has_capability edits replies edit step record_of record_by_shape shape_record read_child read step_field edit_field digits is_utf8 chars lib.Utf8.encode print cleared copied group_fault copied_record schema_of shape_in'
+UNF='message_at unpacked_from packed answer value_within opened_root tree_at cost_at canonical_words trim has_capability edits replies edit step record_of record_by_shape shape_record read_child read step_field edit_field digits is_utf8 chars lib.Utf8.encode print cleared group_writes group_fault copied_record schema_of shape_in'
 def calls(cs): return '('+' ∷ '.join([f'call ({p}) ({v})' for p,v in cs]+['[]'])+')' if cs else '[]'
 def nm(*ps): return ' ∷ '.join([(f'name (codes "{p}")' if isinstance(p,str) else f'index {p}') for p in ps]+['[]'])
 def st(text): return '(codes "'+text.replace('\\','\\\\').replace('"','\\"').replace('\n','\\n')+'")'
@@ -282,9 +289,12 @@ def relay(name,id,cs,inp,out,log,form='ff',words=1000,nesting=64,end='finished',
     ms=' ∷ '.join(['('+LL(s)+')' for s,_ in msgs]+['[]'])
     begins='refl'
     for s,r in reversed(msgs): begins=f'({L(r+rest)}, refl, {begins})'
+    answers=f'answers_to {words} {nesting} {id} {calls(cs)} ({ms})'
+    answered='tt'
+    for _ in msgs: answered=f'(refl, {answered})'
     ends='refl' if end=='finished' else '((λ e. absurd (cc e)), refl)'
     G.decl(name,UNF,f'Relays {rd} {wr} {words} {nesting} {id} {calls(cs)} ({L(b)}) ({L(by(out))}) {st(log) if log else "[]"} {end if end=="finished" else "("+end+")"}',
-      f'record {{ messages = {ms}; rest = {L(rest)}; begins = {begins}; writes = refl; logs = refl; ends = {ends} }}')
+      f'record {{ messages = {ms}; rest = {L(rest)}; begins = {begins}; answers = {answers}; answered = {answered}; writes = refl; logs = refl; ends = {ends} }}')
 I1='F1 / 00*8'; O1='F1 / fc ff ff ff 00 00 00 00'; O2='F2 / 00 00 00 00 01 00 00 00 / 07 00*7'
 seta7=[(nm('a'),'set_number 7')]
 def wr(more=''): return f'message 1 written{more}\n'
