@@ -1,8 +1,8 @@
 //! Laws of the definitions, each the contract of a function that does nothing.
 
-ghost use Rattle.std.specs.Prelude.{◌≡◌, ℕ, ◌+◌, ◌*◌, ◌^◌, ◌<◌, ◌≤◌, ◌⊎◌, Bool, true, false, List, [], ◌∷◌, ◌++◌, length, map, slice_get, slice_index, slice_set, Option, Some, IsSome, Ok, bit_xor};
+ghost use Rattle.std.specs.Prelude.{◌≡◌, ℕ, ◌+◌, ◌*◌, ◌^◌, ◌<◌, ◌≤◌, ◌⊎◌, Bool, true, false, List, [], ◌∷◌, ◌++◌, length, map, slice_get, slice_index, slice_set, replicate, Option, Some, IsSome, Ok, bit_xor};
 ghost use Rattle.std.specs.List.{AllByRecursion};
-ghost use Rattle.capnp_model.specs.Sections.{bits_at, with_bits, words_of, section_of};
+ghost use Rattle.capnp_model.specs.Sections.{bits_at, with_bits, numbers_in, number_of, words_of, section_of};
 ghost use Rattle.capnp_model.specs.Segments.{Segments, Place, root, word_at, words_at};
 ghost use Rattle.capnp_model.specs.Trees.{Tree, depth, has_capability};
 ghost use Rattle.capnp_model.specs.Trimming.{trim};
@@ -49,6 +49,13 @@ pub fn sections_are_words()
 pub fn bits_in_words()
     ensures read { (words : List ℕ) (i j width : ℕ) → i < length words → j + width ≤ 64 → bits_at (64 * i + j) width (section_of words) ≡ bits_at j width (slice_index words i) }
     ensures written { (words : List ℕ) (i j width value : ℕ) → value < 2 ^ width → i < length words → j + width ≤ 64 → slice_index words i < 2 ^ 64 → section_of (slice_set words i (with_bits j width value (slice_index words i))) ≡ with_bits (64 * i + j) width value (section_of words) }
+{}
+
+/// Numbers side by side in a section are read and written one at a time, from the first on.
+pub fn numbers_one_by_one()
+    ensures read { (w n s : ℕ) → numbers_in w (n + 1) s ≡ numbers_in w n s ++ bits_at (w * n) w s ∷ [] }
+    ensures written { (w : ℕ) (xs : List ℕ) (x : ℕ) → x < 2 ^ w → number_of w (xs ++ x ∷ []) ≡ with_bits (w * length xs) w x (number_of w xs) }
+    ensures zeros { (n : ℕ) → section_of (replicate n 0) ≡ 0 }
 {}
 
 /// What is read keeps the nesting limit, is the same under any other that its depth keeps, and fits its spelling.
