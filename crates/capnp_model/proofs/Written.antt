@@ -21,7 +21,7 @@ plain_pieces : (s : Segments) → flat_map bytes_of_words s ≡ bytes_of_words (
 plain_pieces [] = refl
 plain_pieces (ws ∷ s) = ap (λ (bs : List ℕ). bytes_of_words ws ++ bs) (plain_pieces s) ∙ sym (bytes_append ws (all_words s))
 
-all_append : (xs ys : List ℕ) → AreWords xs → AreWords ys → AreWords (xs ++ ys)
+pub all_append : (xs ys : List ℕ) → AreWords xs → AreWords ys → AreWords (xs ++ ys)
 all_append [] ys h k = k
 all_append (x ∷ xs) ys h k = (h.0, all_append xs ys h.1 k)
 

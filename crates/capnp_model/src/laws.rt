@@ -15,7 +15,7 @@ ghost use Rattle.capnp_model.specs.Canonical.{is_canonical_at, is_canonical_mess
 ghost use Rattle.capnp_model.specs.Sizes.{object_words, capability_count};
 ghost use Rattle.capnp_model.specs.Fits.{Fits};
 ghost use Rattle.capnp_model.specs.Packing.{packed, unpacked};
-ghost use Rattle.capnp_model.specs.Messages.{frame_at, packed_at, flat_at, frame, packed_message};
+ghost use Rattle.capnp_model.specs.Messages.{frame_at, packed_at, flat_at, frame, packed_message, within};
 ghost use Rattle.capnp_model.specs.Schemas.{struct, Node, Shape, Schema};
 ghost use Rattle.capnp_model.specs.Readings.{Record, record_of, shape_record};
 ghost use Rattle.capnp_model.specs.Printing.{fields_in};
@@ -97,6 +97,7 @@ pub fn words_mean_their_value()
     ensures means { (t : Tree) (n : ℕ) → Fits t → depth t ≤ n → length (canonical_words t) ≤ 2 ^ 29 → tree_at n (canonical_words t ∷ []) root ≡ Some t }
     ensures first { (t : Tree) (n : ℕ) (s : Segments) (more : List ℕ) → Fits t → depth t ≤ n → length (canonical_words t) ≤ 2 ^ 29 → slice_get s 0 ≡ Some (canonical_words t ++ more) → tree_at n s root ≡ Some t }
     ensures equal { (t u : Tree) → Fits t → Fits u → length (canonical_words t) ≤ 2 ^ 29 → canonical_words t ≡ canonical_words u → t ≡ u }
+    ensures words { (t : Tree) → Fits t → length (canonical_words t) ≤ 2 ^ 29 → AreWords (canonical_words t) }
 {}
 
 /// A value has no more words than following it costs; its canonical words mean the trimmed value, are equal just for equal trimmed values, and are their own canonical words.
@@ -131,10 +132,11 @@ pub fn packed_words()
     ensures { (ws rest : List ℕ) → AreWords ws → unpacked (length ws) (packed ws ++ rest) ≡ Ok (ws, rest) }
 {}
 
-/// A written message is read, whatever follows it, and is a text of its segments.
+/// A written message is read, whatever follows it, and is a text of its segments; canonical words can be written.
 pub fn written_messages()
     ensures framed { (limit : Option ℕ) (s : Segments) (rest : List ℕ) → CanSpell limit s → frame_at limit (frame s ++ rest) ≡ Ok (s, rest) }
     ensures packed { (limit : Option ℕ) (s : Segments) (rest : List ℕ) → CanSpell limit s → packed_at limit (packed_message s ++ rest) ≡ Ok (s, rest) }
+    ensures canonical { (limit : Option ℕ) (t : Tree) → Fits t → length (canonical_words t) ≤ 2 ^ 29 → within (length (canonical_words t)) limit ≡ true → CanSpell limit (canonical_words t ∷ []) }
     ensures framed_text { (limit : Option ℕ) (s : Segments) → CanSpell limit s → Frames limit (frame s) s }
     ensures packed_text { (limit : Option ℕ) (s : Segments) → CanSpell limit s → Packs limit (packed_message s) s }
 {}
