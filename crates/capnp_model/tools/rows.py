@@ -271,7 +271,7 @@ limits words nesting = record { words = Some words; nesting = pos nesting }
 -- A run under the example schemas, with limits of words and levels.
 Relays : Reader → Writer → ℕ → ℕ → ℕ → List Call → List ℕ → List ℕ → List ℕ → End → Type 0
 Relays read write words nesting id calls bytes output log end =
-    IsRun read write words (IsAnswer examples (λ x. x) id calls (limits words nesting)) bytes output log end
+    IsRun read write (Some words) (IsAnswer examples (λ x. x) id calls (limits words nesting)) bytes output log end
 
 -- The answers to messages under the example schemas.
 abbrev answers_to : ℕ → ℕ → ℕ → List Call → List Segments → List Answer
