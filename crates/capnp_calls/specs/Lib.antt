@@ -1,5 +1,0 @@
-pub mod CallViews
-pub mod Texts
-pub mod Contents
-pub mod SlotViews
-pub mod Replies
