@@ -15,7 +15,7 @@ use Rattle.capnp_model.proofs.OlderReading.{SamePlain, same_bool, same_int, same
 same_number : (a b : ℕ) → (a == b) ≡ true → a ≡ b
 same_number a b h = grind arith
 
-option_is : (a b : Option ℕ) → same_option a b ≡ true → a ≡ b
+pub option_is : (a b : Option ℕ) → same_option a b ≡ true → a ≡ b
 option_is None None h = refl
 option_is (Some a) (Some b) h = ap Some (same_number a b h)
 option_is None (Some b) h = absurd (cc h)
@@ -105,7 +105,7 @@ module _ (o n : Schema) (pairs : Pairs) where
     body_is_kept (pointer_slot i ty d) (group_slot g') h own = absurd (cc h)
 
   -- a pair among them is kept
-  pair_is_kept : (qs : Pairs) (i j : ℕ) → list_all (λ p. keeps o n pairs (o.shape_of p.0) (n.shape_of p.1)) qs ≡ true → has_pair qs i j ≡ true → keeps o n pairs (o.shape_of i) (n.shape_of j) ≡ true
+  pub pair_is_kept : (qs : Pairs) (i j : ℕ) → list_all (λ p. keeps o n pairs (o.shape_of p.0) (n.shape_of p.1)) qs ≡ true → has_pair qs i j ≡ true → keeps o n pairs (o.shape_of i) (n.shape_of j) ≡ true
   pair_is_kept [] i j h k = absurd (cc k)
   pair_is_kept (q ∷ qs) i j h k = by (q.0 == i) (q.1 == j) refl refl (pair_is_kept qs i j (and_right (keeps o n pairs (o.shape_of q.0) (n.shape_of q.1)) _ h)) k
     where

@@ -12,7 +12,8 @@ use Rattle.capnp_model.specs.Accepted.{Area, bit_area, pointer_area, union_area,
 use Rattle.capnp_model.specs.Calls.{Step, name, index, Verb, get, set_to, init, initn, clear, Content, refused_by, bits_of, object, slot_content}
 use Rattle.capnp_model.specs.Steps.{Outcome, refused, shown, done, outcome_map, Target, no_target, target, target_if, target_of, choose, entry_of, replaced, at_target, on_name, reading_after, slot_type, at_field, got, through_field, through_value, opened, or_empty, step_field, step_element, step_path}
 use Rattle.capnp_model.specs.Edits.{Cell, Edit, edit_field, edit_element, edit_target, edit_struct, edit_value, edit_through, put_field, write_path, mark, put_bits, put_child, put_content, opened_tree}
-use Rattle.capnp_model.proofs.Views.{SameAll, discriminant-same}
+use Rattle.capnp_model.specs.Views.{SameAll}
+use Rattle.capnp_model.proofs.Views.{discriminant-same}
 use Rattle.capnp_model.proofs.Bits.{xor_twice}
 use Rattle.capnp_model.proofs.Writes.{discriminant_after, IsOther, AtField, IsWritten, fields_of-replaced, same_all_if_apart}
 use Rattle.capnp_model.proofs.Marks.{view_of, same_after_mark, marked_view, SameAll-trans, read_back, same_everywhere, read_child-padded_to}

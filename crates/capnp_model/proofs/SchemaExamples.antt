@@ -9,7 +9,8 @@ use Rattle.capnp_model.specs.Traversal.{tree_at}
 use Rattle.capnp_model.specs.Trees.{has_capability}
 use Rattle.capnp_model.specs.Trimming.{trim}
 use Rattle.capnp_model.specs.Accepted.{fault_of, shape_in, has_no_overlap, areas_of, schema_of}
-use Rattle.capnp_model.specs.Compatible.{IsCompatible, keeps}
+use Rattle.capnp_model.specs.Compatible.{Pairs, IsCompatible, keeps}
+use Rattle.capnp_model.proofs.KeptShapes.{pair_is_kept}
 use Rattle.capnp_model.specs.Admitted.{is_admitted, is_admitted_from, is_extended}
 use Rattle.capnp_model.proofs.ExampleSchemas.{one, slot_field, u16_field, u8_field, text_field, group_field, node, pair_with, union_with, group_holder, group_node, example_nodes, newer_nodes}
 
@@ -83,9 +84,9 @@ newer_keeps_the_list : IsCompatible (schema_of example_nodes) (schema_of newer_n
 unfolding keeps schema_of shape_in
 newer_keeps_the_list = record { pairs = (2, 2) ∷ (1, 1) ∷ []; same_sort = refl; has_roots = refl; are_kept = refl }
 
-older_does_not_keep_the_newer : keeps (schema_of newer_nodes) (schema_of example_nodes) ((1, 1) ∷ []) ((schema_of newer_nodes).shape_of 1) ((schema_of example_nodes).shape_of 1) ≡ false
+older_does_not_keep : (pairs : Pairs) → keeps (schema_of newer_nodes) (schema_of example_nodes) pairs ((schema_of newer_nodes).shape_of 1) ((schema_of example_nodes).shape_of 1) ≡ false
 unfolding keeps schema_of shape_in
-older_does_not_keep_the_newer = refl
+older_does_not_keep pairs = refl
 
 renamed : Schema
 renamed = schema_of (node 1 1 1 false 0 0 (u16_field (codes "c") 0 None ∷ text_field (codes "t") 0 ∷ []) ∷ [])
@@ -93,13 +94,26 @@ renamed = schema_of (node 1 1 1 false 0 0 (u16_field (codes "c") 0 None ∷ text
 other_default : Schema
 other_default = schema_of (node 1 1 1 false 0 0 (slot_field (codes "a") 0 None (one BaseType.UInt16) (Some (bits (uint 16) 1)) ∷ text_field (codes "t") 0 ∷ []) ∷ [])
 
-renamed_field_is_not_kept : keeps (schema_of example_nodes) renamed ((1, 1) ∷ []) ((schema_of example_nodes).shape_of 1) (renamed.shape_of 1) ≡ false
+renamed_is_not_kept : (pairs : Pairs) → keeps (schema_of example_nodes) renamed pairs ((schema_of example_nodes).shape_of 1) (renamed.shape_of 1) ≡ false
 unfolding keeps schema_of shape_in renamed
-renamed_field_is_not_kept = refl
+renamed_is_not_kept pairs = refl
 
-other_default_is_not_kept : keeps (schema_of example_nodes) other_default ((1, 1) ∷ []) ((schema_of example_nodes).shape_of 1) (other_default.shape_of 1) ≡ false
+other_default_is_not_kept : (pairs : Pairs) → keeps (schema_of example_nodes) other_default pairs ((schema_of example_nodes).shape_of 1) (other_default.shape_of 1) ≡ false
 unfolding keeps schema_of shape_in other_default
-other_default_is_not_kept = refl
+other_default_is_not_kept pairs = refl
+
+-- schemas whose two shapes are kept by no pairs are not compatible
+not_compatible : (o n : Schema) (i j : ℕ) → ((pairs : Pairs) → keeps o n pairs (o.shape_of i) (n.shape_of j) ≡ false) → IsCompatible o n i j → ⊥
+not_compatible o n i j broken c = let kept : keeps o n c.pairs (o.shape_of i) (n.shape_of j) ≡ true = pair_is_kept o n c.pairs c.pairs i j c.are_kept c.has_roots in cc (broken c.pairs)
+
+newer_is_no_older : IsCompatible (schema_of newer_nodes) (schema_of example_nodes) 1 1 → ⊥
+newer_is_no_older = not_compatible (schema_of newer_nodes) (schema_of example_nodes) 1 1 older_does_not_keep
+
+renamed_field : IsCompatible (schema_of example_nodes) renamed 1 1 → ⊥
+renamed_field = not_compatible (schema_of example_nodes) renamed 1 1 renamed_is_not_kept
+
+other_default_differs : IsCompatible (schema_of example_nodes) other_default 1 1 → ⊥
+other_default_differs = not_compatible (schema_of example_nodes) other_default 1 1 other_default_is_not_kept
 
 -- ---- calls
 

@@ -1,23 +1,10 @@
 -- A struct's record depends on nothing but the bits and the pointers of its slots and discriminants.
 use Rattle.std.proofs.Common.{◌≡◌, ℕ, List, [], ◌∷◌, ◌++◌, Option, Some, None, refl, ◌∙◌, ap}
 use lib.Bits.{bit_xor}
-use Rattle.capnp_model.specs.Schemas.{Ty, Shape, shape, Fields, no_fields, field, Body, void_slot, plain_slot, pointer_slot, group_slot}
-use Rattle.capnp_model.specs.Readings.{number, record_as, entry, Children, Extent, field_bits, discriminant, is_active, only_if, shape_record, fields_of, body_of}
-use Rattle.capnp_model.specs.Accepted.{Area, bit_area, pointer_area, union_area, areas_of, areas_of_fields, areas_of_body}
-
--- what a struct's fields read
-pub record View : Type 0 where
-  pub size : Extent
-  pub section : ℕ
-  pub kids : Children
-
-abbrev pub SameAt : Area → View → View → Type 0
-SameAt (bit_area a n) v v' = field_bits v.size v.section a n ≡ field_bits v'.size v'.section a n
-SameAt (pointer_area i) v v' = (ty : Ty) → v.kids i ty ≡ v'.kids i ty
-
-abbrev pub SameAll : List Area → View → View → Type 0
-SameAll [] v v' = Unit {0}
-SameAll (x ∷ xs) v v' = SameAt x v v' × SameAll xs v v'
+use Rattle.capnp_model.specs.Schemas.{Shape, shape, Fields, no_fields, field, Body, void_slot, plain_slot, pointer_slot, group_slot}
+use Rattle.capnp_model.specs.Readings.{number, record_as, entry, discriminant, is_active, only_if, shape_record, fields_of, body_of}
+use Rattle.capnp_model.specs.Views.{View, SameAll}
+use Rattle.capnp_model.specs.Accepted.{Area, union_area, areas_of, areas_of_fields, areas_of_body}
 
 pub SameAll-left : (xs ys : List Area) (v v' : View) → SameAll (xs ++ ys) v v' → SameAll xs v v'
 SameAll-left [] ys v v' h = tt

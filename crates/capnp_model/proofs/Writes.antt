@@ -7,7 +7,8 @@ use Rattle.capnp_model.specs.Schemas.{Fields, no_fields, field, Body}
 use Rattle.capnp_model.specs.Readings.{Reading, entry, Extent, whole_words, just_bits, field_bits, is_active, only_if, shape_record, fields_of, body_of}
 use Rattle.capnp_model.specs.Accepted.{Area, bit_area, pointer_area, share, areas_of_body}
 use Rattle.capnp_model.specs.Steps.{choose, unless_member, replaced}
-use Rattle.capnp_model.proofs.Views.{View, SameAt, SameAll, body_of-same}
+use Rattle.capnp_model.specs.Views.{View, SameAt, SameAll}
+use Rattle.capnp_model.proofs.Views.{body_of-same}
 use Rattle.capnp_model.proofs.Bits.{bits_at-with_bits_below, bits_at-with_bits_above}
 
 -- ---- one field is written: the others read as before

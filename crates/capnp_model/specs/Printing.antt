@@ -27,7 +27,7 @@ joined sep [] = []
 joined sep (x ∷ []) = x
 joined sep (x ∷ y ∷ ys) = x ++ sep ++ joined sep (y ∷ ys)
 
--- `quoted` is what stands between the quotes of a text past ASCII, which is left open
+-- A text; `quoted` is what stands between the quotes of one past ASCII, which is left open.
 abbrev pub text_text : (List ℕ → List ℕ) → List ℕ → List ℕ
 text_text quoted bs =
     if is_utf8 bs then codes "\"" ++ (if list_all (λ b. nat_lt b 128) bs then flat_map escaped bs else quoted bs) ++ codes "\""
@@ -141,7 +141,7 @@ shape_as s (as_type (struct id) d) = fields_in (s.shape_of id)
 shape_as s (as_type _ d) = no_fields
 
 -- A union member is shown where it is active, with discriminant 0 only where it is no null pointer;
--- Another field only where it is no null pointer.
+-- another field only where it is no null pointer.
 abbrev pub is_shown : Option ℕ → Reading → Bool
 is_shown m inactive = false
 is_shown (Some (suc m)) null_pointer = true

@@ -1,4 +1,5 @@
--- The older view of a record.
+-- The older view of a record: fields that the older lacks are dropped at every depth; a union whose active member is
+-- dropped is unknown.
 use Rattle.std.specs.Prelude.{ℕ, true, false}
 use Rattle.std.specs.Str.{bytes_eq}
 use Rattle.capnp_model.specs.Trees.{null}
@@ -6,7 +7,6 @@ use Rattle.capnp_model.specs.Schemas.{Fields, no_fields, field, Schema}
 use Rattle.capnp_model.specs.Readings.{Reading, inactive, null_pointer, fault, number, text_of, blob_of, list_of, record_as, opaque, Readings, no_readings, ◌▹◌, Record, no_more, entry}
 use Rattle.capnp_model.specs.Printing.{As, as_type, as_body, fields_in, shape_as, element_type, type_of_as}
 
--- Fields that the older lacks are dropped at every depth. A union whose active member is dropped is unknown.
 unfoldable mutual
   -- The older view of a reading.
   pub project : Schema → As → Reading → Reading
@@ -25,7 +25,7 @@ unfoldable mutual
   project_items o how no_readings = no_readings
   project_items o how (r ▹ rs) = project o how r ▹ project_items o how rs
 
-  -- The shared fields stand in the same order.
+  -- The older view of fields; those of both versions stand in the same order.
   pub project_fields : Schema → Fields → Record → Record
   project_fields o no_fields r = no_more
   project_fields o (field l m b fs) no_more = no_more

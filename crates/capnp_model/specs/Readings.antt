@@ -4,7 +4,7 @@ use Rattle.capnp_model.specs.Kinds.{Kind, WrongPointerKind, WrongElementSize, Te
 use Rattle.capnp_model.specs.Sections.{bits_at}
 use Rattle.capnp_model.specs.Trees.{Tree, null, capability, structure, plain_list, pointer_list, struct_list, Trees, none, ◌▸◌, Elements, no_elements, element, size_bits, size_of_width, plain_elements}
 use Rattle.capnp_model.specs.Trimming.{trim}
-use Rattle.capnp_model.specs.Schemas.{bool, width, Ty, void, plain, text, blob, untyped, interface, struct, list, Shape, shape, Fields, no_fields, field, Body, void_slot, plain_slot, pointer_slot, group_slot, Schema}
+use Rattle.capnp_model.specs.Schemas.{width, Ty, void, plain, text, blob, untyped, interface, struct, list, Shape, shape, Fields, no_fields, field, Body, void_slot, plain_slot, pointer_slot, group_slot, Schema}
 
 -- ---- records
 
@@ -51,8 +51,8 @@ only_child r (suc i) ty = null_pointer
 
 -- ---- the fields of a struct
 
--- Behind the words of a struct there are zeros, since the section is a number. An element of a plain
--- List has just its bits.
+-- How far a data section goes. Behind the words of a struct there are zeros, since the section is a number; an element of a
+-- plain list has just its bits.
 pub data Extent : Type 0 where
   whole_words : Extent
   just_bits : ℕ → Extent
@@ -78,7 +78,6 @@ abbrev pub only_if : Bool → Reading → Reading
 only_if true r = r
 only_if false r = inactive
 
--- The extent of the data section, the section and the children.
 unfoldable mutual
   -- The record of a struct or a group: its extent, section and children.
   pub shape_record : Shape → Extent → ℕ → Children → Record

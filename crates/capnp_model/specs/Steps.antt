@@ -103,7 +103,7 @@ reading_after s ty (object t) = done (read s t ty)
 abbrev pub cleared_group : Shape → Reading
 cleared_group g = record_as (shape_record g whole_words 0 no_children)
 
--- `set` of a group from a message with a struct
+-- `set` of a group from what its source reads as, unless that has a fault.
 abbrev pub copied_or_refused : Schema → Shape → Record → Option Kind → Outcome Reading
 copied_or_refused s g r (Some k) = refused k
 copied_or_refused s g r None = done (record_as (copied_record s g r))

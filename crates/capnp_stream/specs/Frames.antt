@@ -1,36 +1,26 @@
 -- Framed messages on streams. (Encoding, "Serialization Over a Stream")
-use Rattle.std.specs.Prelude.{[], ◌∷◌, ◌≡◌, ℕ, ◌^◌, ◌<◌, List, ◌++◌, length, take, ⊤, Some, None, Err}
+use Rattle.std.specs.Prelude.{[], ◌∷◌, ◌≡◌, ℕ, ◌<◌, List, ◌++◌, length, take, ⊤, Err}
 use Rattle.std.specs.declared.option.Option.{Option}
 use Rattle.std.specs.Io.KnownBytes.{Keeps, Consumes}
 use Rattle.capnp_units.specs.Errors.{kind_of}
 use Rattle.capnp_units.specs.declared.kinds.ErrorKind.{ErrorKind}
 use Rattle.capnp_units.specs.declared.kinds.ErrorKind.TheVariants.{OutOfMemory, InvalidNumberOfSegments, FailedToFillTheWholeBuffer, MessageTooLarge, Device}
 use Rattle.capnp_model.specs.Segments.{Segments}
-use Rattle.capnp_model.specs.Bytes.{bytes_of_words}
-use Rattle.capnp_model.specs.Messages.{plain_words, behind_lengths, frame_at, spelled}
-use Rattle.capnp_model.specs.Spelling.{Spells}
+use Rattle.capnp_model.specs.Messages.{plain_words, behind_lengths, frame_at, frame}
+use Rattle.capnp_model.specs.Spelling.{Frames}
 use Rattle.capnp_stream.specs.Streams.{ConsumesFewer, EndsBefore}
-
--- The limit of words as a number: without one, more words than any message has.
-abbrev pub word_limit : Option ℕ → ℕ
-word_limit None = 2 ^ 41
-word_limit (Some n) = n
-
--- The text is just that of a framed message of these segments, within the limit of words.
-abbrev pub IsFrame : Option ℕ → List ℕ → Segments → Type 0
-IsFrame limit text s = Spells plain_words (word_limit limit) text s
 
 -- The bytes begin with no framed message within the limit, and this is the kind of the first part that can't be read.
 abbrev pub IsFrameFault : Option ℕ → List ℕ → ErrorKind → Type 0
-IsFrameFault limit bytes kind = frame_at (word_limit limit) bytes ≡ Err (kind_of kind)
+IsFrameFault limit bytes kind = frame_at limit bytes ≡ Err (kind_of kind)
 
 -- No proper beginning is a message.
 abbrev pub HasNoMessage : Option ℕ → List ℕ → Type 0
-HasNoMessage limit part = (n : ℕ) (s : Segments) → n < length part → IsFrame limit (take n part) s → ⊥
+HasNoMessage limit part = (n : ℕ) (s : Segments) → n < length part → Frames limit (take n part) s → ⊥
 
 -- One message was taken, whatever follows it.
 abbrev pub TakesMessage : Option ℕ → Option (List ℕ) → Option (List ℕ) → Segments → Type 0
-TakesMessage limit old new s = (text : List ℕ) × IsFrame limit text s × Consumes old new text
+TakesMessage limit old new s = (text : List ℕ) × Frames limit text s × Consumes old new text
 
 -- No more than one message was taken.
 abbrev pub TakesPart : Option ℕ → Option (List ℕ) → Option (List ℕ) → Type 0
@@ -38,7 +28,7 @@ TakesPart limit old new = (part : List ℕ) × HasNoMessage limit part × Consum
 
 -- A table with these lengths was taken, and what follows are the segments.
 abbrev pub TakesTable : Option ℕ → Option (List ℕ) → Option (List ℕ) → List ℕ → Type 0
-TakesTable limit old new lengths = (table : List ℕ) × Consumes old new table × ((more : List ℕ) → frame_at (word_limit limit) (table ++ more) ≡ behind_lengths plain_words (word_limit limit) lengths more)
+TakesTable limit old new lengths = (table : List ℕ) × Consumes old new table × ((more : List ℕ) → frame_at limit (table ++ more) ≡ behind_lengths plain_words limit lengths more)
 
 -- The kinds of bytes that are no message.
 abbrev pub IsFramingKind : ErrorKind → Type 0
@@ -62,4 +52,4 @@ IsCut _ old new n = ⊥
 
 -- The text that is written of a message of one segment.
 abbrev pub frame_of : List ℕ → List ℕ
-frame_of words = spelled bytes_of_words (words ∷ [])
+frame_of words = frame (words ∷ [])

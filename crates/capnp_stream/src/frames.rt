@@ -1,11 +1,11 @@
 //! Framed messages of any number of segments.
-ghost use Rattle.std.specs.Prelude.{◌≡◌, ◌≢◌, ◌≤◌, ℕ, ◌+◌, ◌*◌, ◌/◌, ◌%◌, ◌^◌, ◌<◌, ◌↔◌, [], ◌∷◌, length, take, sum, IfSome, IfNone, IfOk, IfErr, OnOk, OnErr, IsTrue, MatchBool};
+ghost use Rattle.std.specs.Prelude.{◌≡◌, ◌≢◌, ◌≤◌, ℕ, ◌+◌, ◌*◌, ◌/◌, ◌%◌, ◌^◌, ◌<◌, ◌↔◌, [], ◌∷◌, length, take, sum, IfSome, IfNone, IfOk, IfErr, OnOk, OnErr, IsTrue};
 ghost use Rattle.std.specs.Io.KnownBytes.{Keeps, Consumes, Appends, IsAtEnd};
 ghost use Rattle.capnp_units.specs.declared.kinds.ErrorKind.{ErrorKind};
-ghost use Rattle.capnp_model.specs.Messages.{halves};
+ghost use Rattle.capnp_model.specs.Messages.{halves, within};
 ghost use Rattle.capnp_stream.specs.Counting.{Counts};
 ghost use Rattle.capnp_stream.specs.Segments.{whole_words, segments_of};
-ghost use Rattle.capnp_stream.specs.Frames.{word_limit, IsFrameFault, TakesMessage, TakesPart, TakesTable, IsFramingKind, IsReadKind, IsCut, frame_of};
+ghost use Rattle.capnp_stream.specs.Frames.{IsFrameFault, TakesMessage, TakesPart, TakesTable, IsFramingKind, IsReadKind, IsCut, frame_of};
 ghost use Rattle.capnp_stream.specs.Streams.{AppendsPart, RoomFalls, IsWriteRefusal};
 
 use crate::segments::OwnedSegments;
@@ -86,14 +86,13 @@ fn total_of(lengths: &[u32]) -> usize
     total
 }
 
-/// Whether so many words pass the limit.
-fn exceeds(total: usize, limit: Option<usize>) -> bool
-    requires { total < 2 ^ 41 }
-    ensures { MatchBool result (word_limit limit < total) (total ≤ word_limit limit) }
+/// Whether so many words keep the limit.
+fn is_within(total: usize, limit: Option<usize>) -> bool
+    ensures { result ≡ within total limit }
 {
     match limit {
-        Some(most) => most < total,
-        None => false,
+        Some(most) => total <= most,
+        None => true,
     }
 }
 
@@ -133,7 +132,7 @@ fn read_segments<R: BufRead>(
 {
     let lengths = read_table(alloc, source, limit)?;
     let total = total_of(&lengths);
-    if exceeds(total, limit) {
+    if !is_within(total, limit) {
         return Err(Error::from(ErrorKind::MessageTooLarge));
     }
     let bytes = take_bytes(alloc, source, total * 8)?;
