@@ -4,12 +4,11 @@ use Rattle.std.specs.Prelude.{All}
 use Rattle.std.specs.List.{slice_range}
 use Rattle.std.specs.Int.{from_le_bytes, to_le_bytes, w64}
 use Rattle.std.proofs.lemmas.Nat.{le_bytes_8}
-use Rattle.capnp_stream.specs.Frames.{frame_of}
 use Rattle.std.proofs.lemmas.List.{drop-take, drop-drop, get_or-drop, nil_from_length}
 use Rattle.std.proofs.lemmas.List.Elements.{All-cons, All-nil}
 use Rattle.std.proofs.lemmas.List.Sums.{sum_by-cons}
 use Rattle.capnp_model.specs.Bytes.{words_in_bytes, bytes_of_words}
-use Rattle.capnp_model.specs.Messages.{cut, halves}
+use Rattle.capnp_model.specs.Messages.{frame, cut, halves}
 use Rattle.capnp_stream.specs.declared.segments.Bounds.{Bounds}
 use Rattle.capnp_stream.specs.Segments.{whole_words, bounds_from}
 
@@ -127,8 +126,8 @@ bytes_of_words-back (suc n) bytes long small =
     let rest : bytes_of_words (words_in_bytes n (drop 8 bytes)) ≡ drop 8 bytes = bytes_of_words-back n (drop 8 bytes) (omega (arith, length-drop 8 bytes)) (AreBytes-drop 8 bytes small) in
     ap (λ l. l ++ bytes_of_words (words_in_bytes n (drop 8 bytes))) first ∙ ap (λ l. take 8 bytes ++ l) rest ∙ take-append-drop 8 bytes
 
-pub frame_of-bytes : (bytes : List ℕ) → length bytes % 8 ≡ 0 → AreBytes bytes → frame_of (whole_words bytes) ≡ to_le_bytes w64 (length bytes / 8 * 2 ^ 32) ++ bytes
-frame_of-bytes bytes whole small =
+pub frame-bytes : (bytes : List ℕ) → length bytes % 8 ≡ 0 → AreBytes bytes → frame (whole_words bytes ∷ []) ≡ to_le_bytes w64 (length bytes / 8 * 2 ^ 32) ++ bytes
+frame-bytes bytes whole small =
     let n = length bytes / 8 in
     let words : bytes_of_words (whole_words bytes) ≡ bytes = bytes_of_words-back n bytes (omega arith) small in
     let first : 0 + 2 ^ 32 * length (whole_words bytes) ≡ n * 2 ^ 32 = omega (arith, words_in_bytes-length n bytes) in

@@ -1,12 +1,12 @@
 -- Framed messages on streams. (Encoding, "Serialization Over a Stream")
-use Rattle.std.specs.Prelude.{[], ◌∷◌, ◌≡◌, ℕ, ◌<◌, List, ◌++◌, length, take, ⊤, Err}
+use Rattle.std.specs.Prelude.{◌≡◌, ℕ, ◌<◌, List, ◌++◌, length, take, ⊤, Err}
 use Rattle.std.specs.declared.option.Option.{Option}
 use Rattle.std.specs.Io.KnownBytes.{Keeps, Consumes}
 use Rattle.capnp_units.specs.Errors.{kind_of}
 use Rattle.capnp_units.specs.declared.kinds.ErrorKind.{ErrorKind}
 use Rattle.capnp_units.specs.declared.kinds.ErrorKind.TheVariants.{OutOfMemory, InvalidNumberOfSegments, FailedToFillTheWholeBuffer, MessageTooLarge, Device}
 use Rattle.capnp_model.specs.Segments.{Segments}
-use Rattle.capnp_model.specs.Messages.{plain_words, behind_lengths, frame_at, frame}
+use Rattle.capnp_model.specs.Messages.{plain_words, behind_lengths, frame_at}
 use Rattle.capnp_model.specs.Spelling.{Frames}
 use Rattle.capnp_stream.specs.Streams.{ConsumesFewer, EndsBefore}
 
@@ -49,7 +49,3 @@ IsCut Device old new n = ConsumesFewer old new n
 IsCut FailedToFillTheWholeBuffer old new n = EndsBefore old new n
 IsCut OutOfMemory old new n = Keeps old new
 IsCut _ old new n = ⊥
-
--- The text that is written of a message of one segment.
-abbrev pub frame_of : List ℕ → List ℕ
-frame_of words = frame (words ∷ [])

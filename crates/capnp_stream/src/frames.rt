@@ -2,10 +2,10 @@
 ghost use Rattle.std.specs.Prelude.{◌≡◌, ◌≢◌, ◌≤◌, ℕ, ◌+◌, ◌*◌, ◌/◌, ◌%◌, ◌^◌, ◌<◌, ◌↔◌, [], ◌∷◌, length, take, sum, IfSome, IfNone, IfOk, IfErr, OnOk, OnErr, IsTrue};
 ghost use Rattle.std.specs.Io.KnownBytes.{Keeps, Consumes, Appends, IsAtEnd};
 ghost use Rattle.capnp_units.specs.declared.kinds.ErrorKind.{ErrorKind};
-ghost use Rattle.capnp_model.specs.Messages.{halves, within};
+ghost use Rattle.capnp_model.specs.Messages.{frame, halves, within};
 ghost use Rattle.capnp_stream.specs.Counting.{Counts};
 ghost use Rattle.capnp_stream.specs.Segments.{whole_words, segments_of};
-ghost use Rattle.capnp_stream.specs.Frames.{IsFrameFault, TakesMessage, TakesPart, TakesTable, IsFramingKind, IsReadKind, IsCut, frame_of};
+ghost use Rattle.capnp_stream.specs.Frames.{IsFrameFault, TakesMessage, TakesPart, TakesTable, IsFramingKind, IsReadKind, IsCut};
 ghost use Rattle.capnp_stream.specs.Streams.{AppendsPart, RoomFalls, IsWriteRefusal};
 
 use crate::segments::OwnedSegments;
@@ -187,9 +187,9 @@ pub fn read_message<R: BufRead>(
 pub fn write_segment<W: Write>(out: &mut W, bytes: &[u8]) -> Result<()>
     requires whole { length bytes.now % 8 ≡ 0 }
     requires small { length bytes.now < 8 * 2 ^ 32 }
-    ensures ok { OnOk result (Appends (W.contents out.old) (W.contents out.new) (frame_of (whole_words bytes.now))) }
+    ensures ok { OnOk result (Appends (W.contents out.old) (W.contents out.new) (frame (whole_words bytes.now ∷ []))) }
     ensures falls { OnOk result (RoomFalls (W.room out.old) (W.room out.new) (8 + length bytes.now)) }
-    ensures err { OnErr result (AppendsPart (W.contents out.old) (W.contents out.new) (frame_of (whole_words bytes.now))) }
+    ensures err { OnErr result (AppendsPart (W.contents out.old) (W.contents out.new) (frame (whole_words bytes.now ∷ []))) }
     ensures refusal { IfErr result (λ e. IsWriteRefusal W.may_grow (W.room out.old) (8 + length bytes.now) e.kind) }
     ensures count { Counts result (W.failures out.old) (W.failures out.new) }
 {
