@@ -1,5 +1,5 @@
 -- The canonical words of a value that was read.
-use Rattle.std.proofs.Common.{◌≡◌, ℕ, zero, suc, ◌+◌, ◌*◌, ◌^◌, ◌≤◌, ◌<◌, [], ◌∷◌, ◌++◌, length, Some, ap, ◌∙◌, arith}
+use Rattle.std.proofs.Common.{◌≡◌, ℕ, zero, suc, ◌+◌, ◌*◌, ◌^◌, ◌≤◌, ◌<◌, [], ◌∷◌, ◌++◌, length, Some, ap, sym, ◌∙◌, arith}
 use Rattle.std.proofs.lemmas.List.{length-append}
 use Rattle.std.proofs.Math.Nat.{mul-le-mul_left}
 use Rattle.capnp_model.specs.Sections.{words_of, needed_words}
@@ -9,9 +9,10 @@ use Rattle.capnp_model.specs.Traversal.{tree_at, cost_at}
 use Rattle.capnp_model.specs.Fits.{Fits, FitEach, FitElements}
 use Rattle.capnp_model.specs.Encoding.{body, links, bodies, cells, element_bodies, canonical_words}
 use Rattle.capnp_model.specs.Trimming.{after_stripping, stripped, common_words, common_pointers, with_pointers, trim, trim_each, trim_elements}
+use Rattle.capnp_model.proofs.Chaining.{some_is}
 use Rattle.capnp_model.proofs.Numbers.{length-numbers_in, needed_words_le}
 use Rattle.capnp_model.proofs.Stripping.{count-stripped}
-use Rattle.capnp_model.proofs.TrimTwice.{common_words_le}
+use Rattle.capnp_model.proofs.TrimTwice.{common_words_le, trim-trim}
 use Rattle.capnp_model.proofs.TrimFits.{count-trim_each, count-with_pointers, count-trim_elements, common_pointers_le, FitElements-least, Fits-trim, FitElements-trim_elements, depth-trim}
 use Rattle.capnp_model.proofs.RoundTrip.{links_length, cells_length, enc_means, enc_is}
 use Rattle.capnp_model.proofs.Size.{tree_at_size}
@@ -98,5 +99,11 @@ canonical_is n s u p q t v e f l h =
     enc_is (trim t) (trim v) (Fits-trim t (tree_at_fits n s p t e)) (Fits-trim v (tree_at_fits n u q v f)) (omega arith) h
 
 -- equal canonical words exactly for equal trimmed values
-pub canonical_same : (n : ℕ) (s u : Segments) (p q : Place) (t v : Tree) → tree_at n s p ≡ Some t → tree_at n u q ≡ Some v → trim t ≡ trim v → canonical_words (trim t) ≡ canonical_words (trim v)
-canonical_same n s u p q t v e f h = ap canonical_words h
+pub canonical_same : (t u : Tree) → trim t ≡ trim u → canonical_words (trim t) ≡ canonical_words (trim u)
+canonical_same t u h = ap canonical_words h
+
+-- the canonical words of canonical words are these again
+pub canonical_again : (n : ℕ) (s : Segments) (p : Place) (t u : Tree) → tree_at n s p ≡ Some t → cost_at n s p < 2 ^ 29 → tree_at n (canonical_words (trim t) ∷ []) (place 0 0) ≡ Some u → canonical_words (trim u) ≡ canonical_words (trim t)
+canonical_again n s p t u e l f =
+    let is : u ≡ trim t = some_is _ _ (sym f ∙ canonical_means n s p t e l) in
+    ap (λ (x : Tree). canonical_words (trim x)) is ∙ ap canonical_words (trim-trim t)

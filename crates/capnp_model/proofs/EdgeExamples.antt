@@ -1,18 +1,17 @@
 -- Worked cases at the edge of a rule.
-use Rattle.std.proofs.Common.{◌≡◌, ℕ, ◌+◌, ◌*◌, ◌^◌, ◌==◌, Bool, true, false, Option, Some, None, List, [], ◌∷◌, codes, refl}
+use Rattle.std.proofs.Common.{◌≡◌, ℕ, ◌+◌, ◌*◌, ◌^◌, true, false, Option, Some, None, List, [], ◌∷◌, codes, refl}
 use Rattle.std.specs.Prelude.{pos, negsuc}
 use Rattle.std.specs.Fmt.{digits}
 use Rattle.std.specs.Str.{is_utf8, chars}
 use Rattle.capnp_model.specs.Kinds.{TypeMismatch, WrongElementSize}
-use Rattle.capnp_model.specs.Segments.{root}
-use Rattle.capnp_model.specs.Trees.{Tree, null, capability, structure, plain_list, pointer_list, struct_list, none, ◌▸◌, no_elements, element, has_capability}
-use Rattle.capnp_model.specs.Traversal.{tree_at, cost_at}
+use Rattle.capnp_model.specs.Trees.{null, structure, plain_list, struct_list, none, ◌▸◌, no_elements, element, has_capability}
+use Rattle.capnp_model.specs.Traversal.{tree_at}
 use Rattle.capnp_model.specs.Trimming.{trim}
 use Rattle.capnp_model.specs.Encoding.{canonical_words}
 use Rattle.capnp_model.specs.Packing.{packed}
 use Rattle.capnp_model.specs.Messages.{spelled}
 use Rattle.capnp_model.specs.Schemas.{bool, int, uint, «enum», void, plain, struct, list, BaseType, TypeRecord, Value, no_value, list_segment, struct_segment, Field, enum_node, Node, Schema}
-use Rattle.capnp_model.specs.Readings.{fault, number, list_of, record_as, no_readings, ◌▹◌, null_pointer, entry, no_more, expected_size, is_accepted_as, record_of, record_by_shape, shape_record, read_child, read}
+use Rattle.capnp_model.specs.Readings.{fault, number, list_of, record_as, no_readings, ◌▹◌, null_pointer, entry, no_more, is_accepted_as, record_of, record_by_shape, shape_record, read_child, read}
 use Rattle.capnp_model.specs.Printing.{print, record_text, on_one_line, indented}
 use Rattle.capnp_model.specs.Calls.{Step, name, index, whole_number, message, Verb, set_to, Call}
 use Rattle.capnp_model.specs.Groups.{group_fault, copied_record}
@@ -23,7 +22,7 @@ use Rattle.capnp_model.specs.Accepted.{fault_of, shape_in, has_no_overlap, areas
 use Rattle.capnp_model.specs.Compatible.{keeps}
 use Rattle.capnp_model.specs.InKind.{in_kind, shape_in_kind}
 use Rattle.capnp_model.specs.InKindCalls.{defaults_in_kind, named_structs}
-use Rattle.capnp_model.specs.Answers.{Limits, Answer, refused_value, written, reply_refused, replies, edits, value_within, opened_root, answer}
+use Rattle.capnp_model.specs.Answers.{refused_value, reply_refused, replies, value_within, answer}
 use Rattle.capnp_model.proofs.ExampleSchemas.{one, slot_field, u16_field, group_field, pair_with, node, example_nodes}
 
 abbrev examples : Schema
@@ -110,10 +109,10 @@ structs_without_a_word_are_no_numbers = refl
 -- a group whose member l is a list of structs
 abbrev with_list_member : Schema
 with_list_member = schema_of (
-  pair_with []
-  ∷ node 8 1 1 false 0 0 (group_field (codes "g") 9 ∷ [])
-  ∷ node 9 1 1 true 2 0 (slot_field (codes "v") 0 (Some 0) (one BaseType.Void) (Some no_value) ∷ slot_field (codes "l") 0 (Some 1) (record { list_count = 1; base = BaseType.Struct 1 }) None ∷ [])
-  ∷ [])
+    pair_with []
+    ∷ node 8 1 1 false 0 0 (group_field (codes "g") 9 ∷ [])
+    ∷ node 9 1 1 true 2 0 (slot_field (codes "v") 0 (Some 0) (one BaseType.Void) (Some no_value) ∷ slot_field (codes "l") 0 (Some 1) (record { list_count = 1; base = BaseType.Struct 1 }) None ∷ [])
+    ∷ [])
 
 null_list_member_is_set_to_an_empty_list : edit with_list_member 8 (call (name (codes "g") ∷ []) (set_to (message (structure 1 1 none)))) (structure 1 0 (null ▸ none)) ≡ structure 1 1 (struct_list 0 0 no_elements ▸ none)
 unfolding edit edit_field step step_field record_of record_by_shape shape_record read_child read cleared group_writes group_fault copied_record schema_of shape_in
@@ -122,10 +121,10 @@ null_list_member_is_set_to_an_empty_list = refl
 -- a group with a member that is a group with a text
 abbrev with_group_member : Schema
 with_group_member = schema_of (
-  node 8 1 1 false 0 0 (group_field (codes "g") 9 ∷ [])
-  ∷ node 9 1 1 true 2 0 (slot_field (codes "v") 0 (Some 0) (one BaseType.Void) (Some no_value) ∷ record { name = codes "h"; member = Some 1; annotations = []; kind = Rattle.capnp_model.specs.Schemas.group 10 } ∷ [])
-  ∷ node 10 1 1 true 0 0 (slot_field (codes "t") 0 None (one BaseType.Text) None ∷ [])
-  ∷ [])
+    node 8 1 1 false 0 0 (group_field (codes "g") 9 ∷ [])
+    ∷ node 9 1 1 true 2 0 (slot_field (codes "v") 0 (Some 0) (one BaseType.Void) (Some no_value) ∷ record { name = codes "h"; member = Some 1; annotations = []; kind = Rattle.capnp_model.specs.Schemas.group 10 } ∷ [])
+    ∷ node 10 1 1 true 0 0 (slot_field (codes "t") 0 None (one BaseType.Text) None ∷ [])
+    ∷ [])
 
 -- the text that stood there is gone, for the source's is null
 group_member_is_cleared_before_it_is_set : edit with_group_member 8 (call (name (codes "g") ∷ []) (set_to (message (structure 1 1 none)))) (structure 1 1 (plain_list 2 3 0x6968 ▸ none)) ≡ structure 1 1 (null ▸ none)

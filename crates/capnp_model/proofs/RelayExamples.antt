@@ -1,11 +1,11 @@
 -- Worked runs of a relay, from the bytes that come in to those that go out and the lines of the log.
-use Rattle.std.proofs.Common.{◌≡◌, ℕ, refl, List, [], ◌∷◌, map, Ok, Err, Some, None, codes}
+use Rattle.std.proofs.Common.{◌≡◌, ℕ, refl, List, [], ◌∷◌, map, Some, codes}
 use Rattle.std.specs.Prelude.{pos}
 use Rattle.std.specs.Fmt.{digits}
 use Rattle.std.specs.Str.{is_utf8, chars}
 use Rattle.capnp_model.specs.Kinds.{FailedToFillTheWholeBuffer, PrematureEndOfPackedInput, PackedInputDidNotEndCleanlyOnASegmentBoundary, InvalidNumberOfSegments, MessageTooLarge}
-use Rattle.capnp_model.specs.Segments.{Segments, root}
-use Rattle.capnp_model.specs.Trees.{Tree, null, structure, plain_list, struct_list, none, ◌▸◌, no_elements, element, has_capability}
+use Rattle.capnp_model.specs.Segments.{Segments}
+use Rattle.capnp_model.specs.Trees.{null, structure, plain_list, struct_list, none, ◌▸◌, no_elements, element, has_capability}
 use Rattle.capnp_model.specs.Traversal.{tree_at, cost_at}
 use Rattle.capnp_model.specs.Trimming.{trim}
 use Rattle.capnp_model.specs.Encoding.{canonical_words}
@@ -15,7 +15,7 @@ use Rattle.capnp_model.specs.Messages.{Reader, Writer, plain_words, message_at}
 use Rattle.capnp_model.specs.Schemas.{Schema}
 use Rattle.capnp_model.specs.Readings.{shape_record, read_child, read, record_of, record_by_shape}
 use Rattle.capnp_model.specs.Printing.{print, record_text, on_one_line, indented}
-use Rattle.capnp_model.specs.Calls.{Step, name, index, whole_number, text_value, message, Verb, get, set_to, init, initn, clear, Call}
+use Rattle.capnp_model.specs.Calls.{Step, name, index, whole_number, text_value, message, Verb, get, set_to, initn, clear, Call}
 use Rattle.capnp_model.specs.Groups.{group_fault, copied_record}
 use Rattle.capnp_model.specs.Steps.{step, step_field}
 use Rattle.capnp_model.specs.Edits.{edit, edit_field, cleared, group_writes}
@@ -42,7 +42,7 @@ limits words nesting = record { words = Some words; nesting = pos nesting }
 -- A run under the example schemas, with limits of words and levels.
 abbrev Relays : Reader → Writer → ℕ → ℕ → ℕ → List Call → List ℕ → List ℕ → List ℕ → End → Type 0
 Relays read write words nesting id calls bytes output log end =
-    IsRun read write words (IsAnswer examples (λ x. x) id calls (limits words nesting)) bytes output log end
+    IsRun read write (Some words) (IsAnswer examples (λ x. x) id calls (limits words nesting)) bytes output log end
 
 -- The answers to messages under the example schemas.
 abbrev answers_to : ℕ → ℕ → ℕ → List Call → List Segments → List Answer

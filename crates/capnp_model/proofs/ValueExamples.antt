@@ -1,11 +1,16 @@
 -- Values of worked messages: their trees, costs, depths and canonical words.
-use Rattle.std.proofs.Common.{◌≡◌, refl, ◌+◌, ◌-◌, ◌*◌, ◌^◌, [], ◌∷◌, ◌++◌, Some, None, length, replicate}
+use Rattle.std.proofs.Common.{◌≡◌, refl, ◌+◌, ◌-◌, ◌*◌, ◌^◌, [], ◌∷◌, ◌++◌, Some, None, true, false, length, replicate}
 use Rattle.std.specs.Option.{option_map}
-use Rattle.capnp_model.specs.Segments.{root}
-use Rattle.capnp_model.specs.Trees.{null, structure, plain_list, struct_list, capability, none, ◌▸◌, no_elements, element, depth}
+use Rattle.capnp_model.specs.Kinds.{OutOfBounds, MalformedFarPointer, WrongPointerKind, UnknownPointerType, NestingLimitExceeded}
+use Rattle.capnp_model.specs.Faults.{faults_at}
+use Rattle.capnp_model.specs.Segments.{root, place}
+use Rattle.capnp_model.specs.Coverage.{covered, cover}
+use Rattle.capnp_model.specs.Trees.{null, structure, plain_list, struct_list, capability, none, ◌▸◌, no_elements, element, depth, has_capability}
 use Rattle.capnp_model.specs.Traversal.{tree_at, cost_at}
 use Rattle.capnp_model.specs.Trimming.{trim}
 use Rattle.capnp_model.specs.Encoding.{canonical_words}
+use Rattle.capnp_model.specs.Canonical.{is_canonical_at, is_canonical_message}
+use Rattle.capnp_model.specs.Sizes.{object_words, capability_count}
 
 null_root : tree_at 64 ((0 ∷ []) ∷ []) root ≡ Some null
 unfolding tree_at
@@ -50,9 +55,17 @@ far_pointer_in_pad : tree_at 64 ((4294967302 ∷ []) ∷ (8589934594 ∷ 2 ∷ [
 unfolding tree_at
 far_pointer_in_pad = refl
 
+far_pointer_in_pad_kind : faults_at 64 ((4294967302 ∷ []) ∷ (8589934594 ∷ 2 ∷ []) ∷ (7 ∷ []) ∷ []) root ≡ MalformedFarPointer ∷ []
+unfolding faults_at
+far_pointer_in_pad_kind = refl
+
 segment_not_there : tree_at 64 ((21474836482 ∷ []) ∷ []) root ≡ None
 unfolding tree_at
 segment_not_there = refl
+
+segment_not_there_kind : faults_at 64 ((21474836482 ∷ []) ∷ []) root ≡ OutOfBounds ∷ []
+unfolding faults_at
+segment_not_there_kind = refl
 
 byte_list : tree_at 64 ((77309411329 ∷ 16961 ∷ []) ∷ []) root ≡ Some (plain_list 2 2 16961)
 unfolding tree_at
@@ -119,6 +132,10 @@ canonical_message_words = refl
 no_root_word : tree_at 64 ([] ∷ []) root ≡ None
 unfolding tree_at
 no_root_word = refl
+
+no_root_word_kind : faults_at 64 ([] ∷ []) root ≡ OutOfBounds ∷ []
+unfolding faults_at
+no_root_word_kind = refl
 
 list_as_root : tree_at 64 ((1 ∷ []) ∷ []) root ≡ Some (plain_list 0 0 0)
 unfolding tree_at
@@ -187,6 +204,162 @@ one_empty_struct_more_cost = refl
 many_empty_structs_stay : option_map (λ t. canonical_words (trim t)) (tree_at 64 ((281474976710656 ∷ 30064771073 ∷ 3992 ∷ []) ∷ []) root) ≡ Some (281474976710656 ∷ 30064771073 ∷ 3992 ∷ [])
 unfolding tree_at canonical_words trim
 many_empty_structs_stay = refl
+
+object_in_front_of_its_segment : faults_at 64 ((8589934584 ∷ []) ∷ []) root ≡ OutOfBounds ∷ []
+unfolding faults_at
+object_in_front_of_its_segment = refl
+
+tag_of_another_form : faults_at 64 ((64424509441 ∷ 4294967297 ∷ 0 ∷ []) ∷ []) root ≡ WrongPointerKind ∷ []
+unfolding faults_at
+tag_of_another_form = refl
+
+elements_past_their_words : faults_at 64 ((64424509441 ∷ 4294967304 ∷ 0 ∷ []) ∷ []) root ≡ OutOfBounds ∷ []
+unfolding faults_at
+elements_past_their_words = refl
+
+far_pointer_in_a_short_pad : faults_at 64 ((4294967298 ∷ []) ∷ (2 ∷ []) ∷ []) root ≡ MalformedFarPointer ∷ []
+unfolding faults_at
+far_pointer_in_a_short_pad = refl
+
+empty_struct_in_a_short_pad : tree_at 64 ((4294967298 ∷ []) ∷ (0 ∷ []) ∷ []) root ≡ Some (structure 0 0 none)
+unfolding tree_at
+empty_struct_in_a_short_pad = refl
+
+struct_with_no_level : faults_at 0 ((4294967296 ∷ 7 ∷ []) ∷ []) root ≡ NestingLimitExceeded ∷ []
+unfolding faults_at
+struct_with_no_level = refl
+
+list_with_no_level : faults_at 0 ((1 ∷ []) ∷ []) root ≡ NestingLimitExceeded ∷ []
+unfolding faults_at
+list_with_no_level = refl
+
+null_with_no_level : faults_at 0 ((0 ∷ []) ∷ []) root ≡ []
+unfolding faults_at
+null_with_no_level = refl
+
+object_not_there : faults_at 64 ((4294967296 ∷ []) ∷ []) root ≡ OutOfBounds ∷ []
+unfolding faults_at
+object_not_there = refl
+
+pad_not_there : faults_at 64 ((18 ∷ 0 ∷ []) ∷ []) root ≡ OutOfBounds ∷ []
+unfolding faults_at
+pad_not_there = refl
+
+segment_of_a_long_pad_not_there : faults_at 64 ((4294967302 ∷ []) ∷ (38654705666 ∷ 4294967296 ∷ []) ∷ []) root ≡ OutOfBounds ∷ []
+unfolding faults_at
+segment_of_a_long_pad_not_there = refl
+
+nothing_is_walked_below_an_object_not_there : faults_at 64 ((281483566645248 ∷ 0 ∷ 7 ∷ []) ∷ []) root ≡ OutOfBounds ∷ []
+unfolding faults_at
+nothing_is_walked_below_an_object_not_there = refl
+
+too_deep_kind : faults_at 1 ((281474976710656 ∷ 111669149697 ∷ 26984 ∷ []) ∷ []) root ≡ NestingLimitExceeded ∷ []
+unfolding faults_at
+too_deep_kind = refl
+
+cycle_kind : faults_at 64 ((281474976710656 ∷ 281479271677948 ∷ []) ∷ []) root ≡ NestingLimitExceeded ∷ []
+unfolding faults_at
+cycle_kind = refl
+
+capability_with_a_further_bit : faults_at 64 ((7 ∷ []) ∷ []) root ≡ UnknownPointerType ∷ []
+unfolding faults_at
+capability_with_a_further_bit = refl
+
+capability_with_a_further_bit_in_a_pad : faults_at 64 ((4294967298 ∷ []) ∷ (7 ∷ []) ∷ []) root ≡ UnknownPointerType ∷ []
+unfolding faults_at
+capability_with_a_further_bit_in_a_pad = refl
+
+capability_with_a_further_bit_in_a_long_pad : faults_at 64 ((4294967302 ∷ []) ∷ (8589934594 ∷ 7 ∷ []) ∷ (7 ∷ []) ∷ []) root ≡ UnknownPointerType ∷ []
+unfolding faults_at
+capability_with_a_further_bit_in_a_long_pad = refl
+
+faults_in_the_order_of_reading : faults_at 64 ((844424930131968 ∷ 21474836482 ∷ 0 ∷ 7 ∷ []) ∷ []) root ≡ OutOfBounds ∷ UnknownPointerType ∷ []
+unfolding faults_at
+faults_in_the_order_of_reading = refl
+
+no_fault : faults_at 64 ((562949953421312 ∷ 4294967300 ∷ 4294967296 ∷ 7 ∷ []) ∷ []) root ≡ []
+unfolding faults_at
+no_fault = refl
+
+trailing_zero_word_is_not_canonical : is_canonical_message 64 ((12884901888 ∷ 1229782938247303441 ∷ 9223372036854775808 ∷ 0 ∷ []) ∷ []) ≡ false
+unfolding is_canonical_message tree_at has_capability canonical_words trim
+trailing_zero_word_is_not_canonical = refl
+
+message_is_canonical : is_canonical_message 64 ((562949953421312 ∷ 4294967300 ∷ 4294967292 ∷ 17216961135462248174 ∷ []) ∷ []) ≡ true
+unfolding is_canonical_message tree_at has_capability canonical_words trim
+message_is_canonical = refl
+
+root_is_canonical : is_canonical_at 64 ((562949953421312 ∷ 4294967300 ∷ 4294967292 ∷ 17216961135462248174 ∷ []) ∷ []) root ≡ true
+unfolding is_canonical_at tree_at has_capability canonical_words trim
+root_is_canonical = refl
+
+child_is_canonical : is_canonical_at 64 ((562949953421312 ∷ 4294967300 ∷ 4294967292 ∷ 17216961135462248174 ∷ []) ∷ []) (place 0 2) ≡ true
+unfolding is_canonical_at tree_at has_capability canonical_words trim
+child_is_canonical = refl
+
+child_with_a_gap_is_not_canonical : is_canonical_at 64 ((562949953421312 ∷ 4294967300 ∷ 4294967292 ∷ 17216961135462248174 ∷ []) ∷ []) (place 0 1) ≡ false
+unfolding is_canonical_at tree_at has_capability canonical_words trim
+child_with_a_gap_is_not_canonical = refl
+
+trailing_zero_word_at_root_is_not_canonical : is_canonical_at 64 ((12884901888 ∷ 1229782938247303441 ∷ 9223372036854775808 ∷ 0 ∷ []) ∷ []) root ≡ false
+unfolding is_canonical_at tree_at has_capability canonical_words trim
+trailing_zero_word_at_root_is_not_canonical = refl
+
+value_in_second_segment_is_not_canonical : is_canonical_message 64 ((4294967298 ∷ []) ∷ (4294967296 ∷ 506097522914230528 ∷ []) ∷ []) ≡ false
+unfolding is_canonical_message tree_at has_capability canonical_words trim
+value_in_second_segment_is_not_canonical = refl
+
+second_segment_is_canonical : is_canonical_at 64 ((4294967298 ∷ []) ∷ (4294967296 ∷ 506097522914230528 ∷ []) ∷ []) (place 1 0) ≡ true
+unfolding is_canonical_at tree_at has_capability canonical_words trim
+second_segment_is_canonical = refl
+
+further_word_is_not_canonical : is_canonical_message 64 ((4294967296 ∷ 7 ∷ 99 ∷ []) ∷ []) ≡ false
+unfolding is_canonical_message tree_at has_capability canonical_words trim
+further_word_is_not_canonical = refl
+
+further_word_stays_out : is_canonical_at 64 ((4294967296 ∷ 7 ∷ 99 ∷ []) ∷ []) root ≡ true
+unfolding is_canonical_at tree_at has_capability canonical_words trim
+further_word_stays_out = refl
+
+capability_is_not_canonical : is_canonical_message 64 ((3 ∷ []) ∷ []) ≡ false
+unfolding is_canonical_message tree_at has_capability canonical_words trim
+capability_is_not_canonical = refl
+
+text_words : option_map object_words (tree_at 64 ((281474976710656 ∷ 111669149697 ∷ 26984 ∷ []) ∷ []) root) ≡ Some 2
+unfolding tree_at object_words
+text_words = refl
+
+text_capabilities : option_map capability_count (tree_at 64 ((281474976710656 ∷ 111669149697 ∷ 26984 ∷ []) ∷ []) root) ≡ Some 0
+unfolding tree_at capability_count
+text_capabilities = refl
+
+wide_elements_words : option_map object_words (tree_at 64 ((281474976710656 ∷ 236223201281 ∷ 12884901896 ∷ 1 ∷ 0 ∷ 0 ∷ 2 ∷ 0 ∷ 0 ∷ []) ∷ []) root) ≡ Some 8
+unfolding tree_at object_words
+wide_elements_words = refl
+
+shared_target_object_words : option_map object_words (tree_at 64 ((562949953421312 ∷ 4294967300 ∷ 4294967296 ∷ 7 ∷ []) ∷ []) root) ≡ Some 4
+unfolding tree_at object_words
+shared_target_object_words = refl
+
+claimed_words_of_no_element : option_map object_words (tree_at 64 ((98784247809 ∷ 4294967300 ∷ 5 ∷ 6 ∷ []) ∷ []) root) ≡ Some 2
+unfolding tree_at object_words
+claimed_words_of_no_element = refl
+
+two_capabilities : option_map capability_count (tree_at 64 ((562949953421312 ∷ 3 ∷ 4294967299 ∷ []) ∷ []) root) ≡ Some 2
+unfolding tree_at capability_count
+two_capabilities = refl
+
+shared_word_is_covered_twice : cover 64 ((562949953421312 ∷ 4294967300 ∷ 4294967296 ∷ 7 ∷ []) ∷ []) root (place 0 3) ≡ 2
+unfolding covered
+shared_word_is_covered_twice = refl
+
+root_word_is_covered_once : cover 64 ((562949953421312 ∷ 4294967300 ∷ 4294967296 ∷ 7 ∷ []) ∷ []) root (place 0 0) ≡ 1
+unfolding covered
+root_word_is_covered_once = refl
+
+word_that_nothing_names : cover 64 ((4294967296 ∷ 7 ∷ 99 ∷ []) ∷ []) root (place 0 2) ≡ 0
+unfolding covered
+word_that_nothing_names = refl
 
 tag_without_room : tree_at 64 ((281474976710656 ∷ 30064771073 ∷ 9 ∷ []) ∷ []) root ≡ None
 unfolding tree_at

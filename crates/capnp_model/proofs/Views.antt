@@ -1,10 +1,10 @@
 -- A struct's record depends on nothing but the bits and the pointers of its slots and discriminants.
 use Rattle.std.proofs.Common.{◌≡◌, ℕ, List, [], ◌∷◌, ◌++◌, Option, Some, None, refl, ◌∙◌, ap}
 use lib.Bits.{bit_xor}
-use Rattle.capnp_model.specs.Schemas.{Ty, Shape, shape, Fields, no_fields, field, Body, void_slot, plain_slot, pointer_slot, group_slot}
-use Rattle.capnp_model.specs.Readings.{number, record_as, entry, Children, Extent, field_bits, discriminant, is_active, only_if, shape_record, fields_of, body_of}
-use Rattle.capnp_model.specs.Views.{View, SameAt, SameAll}
-use Rattle.capnp_model.specs.Accepted.{Area, bit_area, pointer_area, union_area, areas_of, areas_of_fields, areas_of_body}
+use Rattle.capnp_model.specs.Schemas.{Shape, shape, Fields, no_fields, field, Body, void_slot, plain_slot, pointer_slot, group_slot}
+use Rattle.capnp_model.specs.Readings.{number, record_as, entry, discriminant, is_active, only_if, shape_record, fields_of, body_of}
+use Rattle.capnp_model.specs.Views.{View, SameAll}
+use Rattle.capnp_model.specs.Accepted.{Area, union_area, areas_of, areas_of_fields, areas_of_body}
 
 pub SameAll-left : (xs ys : List Area) (v v' : View) → SameAll (xs ++ ys) v v' → SameAll xs v v'
 SameAll-left [] ys v v' h = tt

@@ -1,14 +1,14 @@
 -- What is written of a message is read, in either form.
-use Rattle.std.proofs.Common.{◌≡◌, ℕ, ◌+◌, ◌*◌, ◌/◌, ◌%◌, ◌^◌, List, [], ◌∷◌, ◌++◌, length, map, take, sum, Ok, refl, ap, sym, ◌∙◌, append_assoc, add-one, arith}
+use Rattle.std.proofs.Common.{◌≡◌, ℕ, Option, ◌+◌, ◌*◌, ◌/◌, ◌%◌, ◌^◌, List, [], ◌∷◌, ◌++◌, length, map, take, sum, Ok, refl, ap, subst, sym, ◌∙◌, append_assoc, add-one, arith}
 use Rattle.std.specs.List.{flat_map, AllByRecursion}
-use Rattle.std.proofs.lemmas.Bool.{le-leb, lt-ltb}
+use Rattle.std.proofs.lemmas.Bool.{lt-ltb}
 use Rattle.std.proofs.lemmas.List.{length-append, length-map, take_at, drop_at, append-nil}
 use Rattle.std.proofs.lemmas.List.Sums.{sum_by-cons}
 use Rattle.capnp_model.specs.Segments.{Segments}
 use Rattle.capnp_model.specs.Bytes.{bytes_of_words, words_in_bytes}
 use Rattle.capnp_model.specs.Packing.{packed, unpacked}
-use Rattle.capnp_model.specs.Messages.{Reader, Writer, plain_words, halves, cut, paired, behind_lengths, behind_first, message_at, frame_at, packed_at, spelled}
-use Rattle.capnp_model.specs.Spelling.{AreWords, AreShort, CanSpell}
+use Rattle.capnp_model.specs.Messages.{Reader, Writer, plain_words, halves, cut, paired, behind_lengths, behind_first, message_at, frame_at, packed_at, spelled, frame, packed_message}
+use Rattle.capnp_model.specs.Spelling.{AreWords, AreShort, CanSpell, Frames, Packs}
 use Rattle.capnp_model.proofs.Chaining.{ok_then, guard_then}
 use Rattle.capnp_model.proofs.ByteWords.{taken_front, words_back, bytes_length, bytes_append}
 use Rattle.capnp_model.proofs.Packing.{all_words, unpacked-pieces}
@@ -21,7 +21,7 @@ plain_pieces : (s : Segments) → flat_map bytes_of_words s ≡ bytes_of_words (
 plain_pieces [] = refl
 plain_pieces (ws ∷ s) = ap (λ (bs : List ℕ). bytes_of_words ws ++ bs) (plain_pieces s) ∙ sym (bytes_append ws (all_words s))
 
-all_append : (xs ys : List ℕ) → AreWords xs → AreWords ys → AreWords (xs ++ ys)
+pub all_append : (xs ys : List ℕ) → AreWords xs → AreWords ys → AreWords (xs ++ ys)
 all_append [] ys h k = k
 all_append (x ∷ xs) ys h k = (h.0, all_append xs ys h.1 k)
 
@@ -74,7 +74,7 @@ cut-all_words [] = refl
 cut-all_words (ws ∷ s) = rw (take_at ws (all_words s) (length ws) refl, drop_at ws (all_words s) (length ws) refl, cut-all_words s) refl
 
 -- THE LAW, for both forms
-pub message_back : (read : Reader) (write : Writer) (limit : ℕ) (s : Segments) (rest : List ℕ) → ReadsBack read write → CanSpell limit s → message_at read limit (spelled write s ++ rest) ≡ Ok (s, rest)
+pub message_back : (read : Reader) (write : Writer) (limit : Option ℕ) (s : Segments) (rest : List ℕ) → ReadsBack read write → CanSpell limit s → message_at read limit (spelled write s ++ rest) ≡ Ok (s, rest)
 unfolding message_at
 message_back read write limit [] rest back can = absurd (let some = can.some in omega arith)
 message_back read write limit (x ∷ xs) rest back can =
@@ -95,13 +95,20 @@ message_back read write limit (x ∷ xs) rest back can =
     let tail : take (length xs) (halves (paired ns)) ≡ ns = ap (λ (n : ℕ). take n (halves (paired ns))) (sym (length-map xs length)) ∙ halves-paired ns can.sizes.1 in
     let lengths : take (length xs + 1) (length x ∷ halves (paired ns)) ≡ map length s = ap (λ (n : ℕ). take n (length x ∷ halves (paired ns))) (add-one (length xs)) ∙ ap (λ (l : List ℕ). length x ∷ l) tail in
     let whole : read (sum (map length s)) (three ++ rest) ≡ Ok (all_words s, rest) = ap (λ (n : ℕ). read n (three ++ rest)) (sym (all_words_length s)) ∙ back s rest can.words in
-    let last : behind_lengths read limit (map length s) (three ++ rest) ≡ Ok (s, rest) = guard_then _ _ _ _ (le-leb _ _ can.total) (ok_then _ _ (all_words s, rest) _ whole (ap (λ (u : Segments). Ok (u, rest)) (cut-all_words s))) in
-    let middle : behind_first read limit (length xs ∷ length x ∷ []) (two ++ (three ++ rest)) ≡ Ok (s, rest) = guard_then _ _ _ _ (lt-ltb _ _ (omega arith)) (ok_then _ _ (paired ns, three ++ rest) _ others (ap (λ (l : List ℕ). behind_lengths read limit l (three ++ rest)) lengths ∙ last)) in
+    let last : behind_lengths read limit (map length s) (three ++ rest) ≡ Ok (s, rest) = guard_then _ _ _ _ can.total (ok_then _ _ (all_words s, rest) _ whole (ap (λ (u : Segments). Ok (u, rest)) (cut-all_words s))) in
+    let middle : behind_first read read limit (length xs ∷ length x ∷ []) (two ++ (three ++ rest)) ≡ Ok (s, rest) = guard_then _ _ _ _ (lt-ltb _ _ (omega arith)) (ok_then _ _ (paired ns, three ++ rest) _ others (ap (λ (l : List ℕ). behind_lengths read limit l (three ++ rest)) lengths ∙ last)) in
     let head : halves (w ∷ []) ≡ length xs ∷ length x ∷ [] = rw (low, high) refl in
-    ok_then (read 1 ((one ++ (two ++ three)) ++ rest)) (λ x. behind_first read limit (halves x.0) x.1) (w ∷ [], two ++ (three ++ rest)) (Ok (s, rest)) first (ap (λ (l : List ℕ). behind_first read limit l (two ++ (three ++ rest))) head ∙ middle)
+    ok_then (read 1 ((one ++ (two ++ three)) ++ rest)) (λ x. behind_first read read limit (halves x.0) x.1) (w ∷ [], two ++ (three ++ rest)) (Ok (s, rest)) first (ap (λ (l : List ℕ). behind_first read read limit l (two ++ (three ++ rest))) head ∙ middle)
 
-pub framed_back : (limit : ℕ) (s : Segments) (rest : List ℕ) → CanSpell limit s → frame_at limit (spelled bytes_of_words s ++ rest) ≡ Ok (s, rest)
+pub framed_back : (limit : Option ℕ) (s : Segments) (rest : List ℕ) → CanSpell limit s → frame_at limit (frame s ++ rest) ≡ Ok (s, rest)
 framed_back limit s rest can = message_back plain_words bytes_of_words limit s rest plain_back can
 
-pub packed_message_back : (limit : ℕ) (s : Segments) (rest : List ℕ) → CanSpell limit s → packed_at limit (spelled packed s ++ rest) ≡ Ok (s, rest)
+pub packed_message_back : (limit : Option ℕ) (s : Segments) (rest : List ℕ) → CanSpell limit s → packed_at limit (packed_message s ++ rest) ≡ Ok (s, rest)
 packed_message_back limit s rest can = message_back unpacked packed limit s rest packed_back can
+
+-- and is just that of its message
+pub framed_text : (limit : Option ℕ) (s : Segments) → CanSpell limit s → Frames limit (frame s) s
+framed_text limit s can = subst (λ (b : List ℕ). frame_at limit b ≡ Ok (s, [])) (append-nil (frame s)) (framed_back limit s [] can)
+
+pub packed_text : (limit : Option ℕ) (s : Segments) → CanSpell limit s → Packs limit (packed_message s) s
+packed_text limit s can = subst (λ (b : List ℕ). packed_at limit b ≡ Ok (s, [])) (append-nil (packed_message s)) (packed_message_back limit s [] can)

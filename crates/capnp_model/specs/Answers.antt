@@ -1,10 +1,11 @@
 -- What is answered to one message.
-use Rattle.std.specs.Prelude.{◌≡◌, ℕ, ℤ, pos, negsuc, Bool, true, false, not, ◌&&◌, nat_le, if◌then◌else◌, Option, Some, None, List, [], ◌∷◌}
+use Rattle.std.specs.Prelude.{◌≡◌, ℕ, ℤ, pos, negsuc, Bool, false, not, ◌&&◌, nat_le, if◌then◌else◌, Option, Some, None, List, [], ◌∷◌}
 use Rattle.capnp_model.specs.Chains.{◌>>=◌, ◌provided◌}
 use Rattle.capnp_model.specs.Kinds.{Kind, UnreadablePointer}
 use Rattle.capnp_model.specs.Segments.{Segments, root}
 use Rattle.capnp_model.specs.Trees.{Tree, null, structure, widened, depth, has_capability}
 use Rattle.capnp_model.specs.Trimming.{trim}
+use Rattle.capnp_model.specs.Messages.{within}
 use Rattle.capnp_model.specs.Traversal.{tree_at, cost_at}
 use Rattle.capnp_model.specs.Encoding.{canonical_words}
 use Rattle.capnp_model.specs.Schemas.{Shape, shape, Schema}
@@ -65,15 +66,10 @@ abbrev pub keeps_nesting : ℕ → ℤ → Bool
 keeps_nesting n (pos limit) = nat_le n limit
 keeps_nesting n (negsuc k) = false
 
--- So many words are within a limit, if there is one.
-abbrev pub keeps_words : ℕ → Option ℕ → Bool
-keeps_words n None = true
-keeps_words n (Some limit) = nat_le n limit
-
 -- The value of a message, where it is within the limits and has no capability.
 unfoldable pub value_within : Limits → Segments → Option Tree
 value_within limits s =
-    levels limits.nesting >>= λ n. tree_at n s root >>= λ t. t provided (not (has_capability t) && keeps_words (cost_at n s root) limits.words)
+    levels limits.nesting >>= λ n. tree_at n s root >>= λ t. t provided (not (has_capability t) && within (cost_at n s root) limits.words)
 
 -- The tree that the calls start from: the trimmed value, a null as the empty struct, with at least the schema's sizes.
 unfoldable pub opened_root : Schema → ℕ → Tree → Tree

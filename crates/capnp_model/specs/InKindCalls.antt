@@ -4,7 +4,7 @@ use Rattle.std.specs.List.{AllByRecursion, list_all, list_any}
 use Rattle.capnp_model.specs.Trees.{Tree, structure}
 use Rattle.capnp_model.specs.Schemas.{Ty, struct, list, Shape, shape, Fields, no_fields, field, Body, void_slot, plain_slot, pointer_slot, group_slot, Schema, default_or_null}
 use Rattle.capnp_model.specs.Printing.{fields_in}
-use Rattle.capnp_model.specs.Calls.{Step, name, index, Verb, set_to, CallValue, message, message_root, Call}
+use Rattle.capnp_model.specs.Calls.{Step, name, index, set_to, message, message_root, Call}
 use Rattle.capnp_model.specs.Steps.{Target, no_target, target, target_of}
 use Rattle.capnp_model.specs.InKind.{in_kind, shape_in_kind, child_in_kind}
 

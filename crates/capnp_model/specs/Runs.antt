@@ -1,5 +1,5 @@
 -- What a relay makes of a stream of messages.
-use Rattle.std.specs.Prelude.{ℕ, ◌+◌, ◌≡◌, List, [], ◌∷◌, ◌++◌, Ok, Err, codes, decimal}
+use Rattle.std.specs.Prelude.{ℕ, ◌+◌, ◌≡◌, List, [], ◌∷◌, ◌++◌, Option, Ok, Err, codes, decimal}
 use Rattle.std.specs.List.{flat_map}
 use Rattle.capnp_model.specs.Kinds.{Kind, kind_name}
 use Rattle.capnp_model.specs.Segments.{Segments}
@@ -44,7 +44,7 @@ AnswerEach is_answer (s ∷ messages) (a ∷ answers) = is_answer s a × AnswerE
 AnswerEach is_answer _ _ = ⊥
 
 -- Bytes begin with these messages, whose lengths keep the limit, and then the rest.
-abbrev pub BeginWith : Reader → ℕ → List ℕ → List Segments → List ℕ → Type 0
+abbrev pub BeginWith : Reader → Option ℕ → List ℕ → List Segments → List ℕ → Type 0
 BeginWith read limit bytes [] rest = bytes ≡ rest
 BeginWith read limit bytes (s ∷ messages) rest = (more : List ℕ) × (message_at read limit bytes ≡ Ok (s, more)) × BeginWith read limit more messages rest
 
@@ -54,12 +54,12 @@ pub data End : Type 0 where
   broken : Kind → End
 
 -- The bytes behind the answered messages end a run.
-abbrev pub EndsBy : Reader → ℕ → List ℕ → End → Type 0
+abbrev pub EndsBy : Reader → Option ℕ → List ℕ → End → Type 0
 EndsBy read limit rest finished = rest ≡ []
 EndsBy read limit rest (broken kind) = (rest ≡ [] → ⊥) × (message_at read limit rest ≡ Err kind)
 
 -- A run over bytes: the messages that they begin with are answered in order, what is written and logged is that of the answers, and the rest ends the run.
-pub record IsRun (read : Reader) (write : Writer) (limit : ℕ) (is_answer : Segments → Answer → Type 0) (bytes output log : List ℕ) (end : End) : Type 0 where
+pub record IsRun (read : Reader) (write : Writer) (limit : Option ℕ) (is_answer : Segments → Answer → Type 0) (bytes output log : List ℕ) (end : End) : Type 0 where
   pub messages : List Segments
   pub answers : List Answer
   pub rest : List ℕ

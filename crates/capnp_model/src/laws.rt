@@ -1,32 +1,35 @@
 //! Laws of the definitions, each the contract of a function that does nothing.
 
-ghost use Rattle.std.specs.Prelude.{◌≡◌, ℕ, ◌+◌, ◌*◌, ◌^◌, ◌<◌, ◌≤◌, ◌⊎◌, Bool, true, false, List, [], ◌∷◌, ◌++◌, length, slice_index, slice_set, replicate, Option, Some, Ok, bit_xor};
+ghost use Rattle.std.specs.Prelude.{◌≡◌, ℕ, ◌+◌, ◌*◌, ◌^◌, ◌<◌, ◌≤◌, ◌⊎◌, Bool, true, false, List, [], ◌∷◌, ◌++◌, length, map, slice_get, slice_index, slice_set, replicate, Option, Some, IsSome, Ok, bit_xor};
 ghost use Rattle.std.specs.List.{AllByRecursion};
 ghost use Rattle.capnp_model.specs.Sections.{bits_at, with_bits, numbers_in, number_of, words_of, section_of};
-ghost use Rattle.capnp_model.specs.Segments.{Segments, Place, root};
-ghost use Rattle.capnp_model.specs.Trees.{Tree, depth};
+ghost use Rattle.capnp_model.specs.Segments.{Segments, Place, root, word_at, words_at};
+ghost use Rattle.capnp_model.specs.Trees.{Tree, structure, plain_list, Trees, tree_count, padded_to, depth, has_capability};
 ghost use Rattle.capnp_model.specs.Trimming.{trim};
 ghost use Rattle.capnp_model.specs.Traversal.{tree_at, cost_at};
-ghost use Rattle.capnp_model.specs.Coverage.{covered, Keeps};
+ghost use Rattle.capnp_model.specs.Means.{Means};
+ghost use Rattle.capnp_model.specs.Coverage.{covered, cover, Keeps, Grows};
+ghost use Rattle.capnp_model.specs.Faults.{faults_at};
 ghost use Rattle.capnp_model.specs.Encoding.{body, canonical_words};
-ghost use Rattle.capnp_model.specs.Fits.{Fits};
-ghost use Rattle.capnp_model.specs.Bytes.{bytes_of_words};
+ghost use Rattle.capnp_model.specs.Canonical.{is_canonical_at, is_canonical_message};
+ghost use Rattle.capnp_model.specs.Sizes.{object_words, capability_count};
+ghost use Rattle.capnp_model.specs.Fits.{Fits, FitEach};
 ghost use Rattle.capnp_model.specs.Packing.{packed, unpacked};
-ghost use Rattle.capnp_model.specs.Messages.{plain_words, frame_at, packed_at, spelled};
+ghost use Rattle.capnp_model.specs.Messages.{frame_at, packed_at, flat_at, frame, packed_message, within};
 ghost use Rattle.capnp_model.specs.Schemas.{struct, Node, Shape, Fields, Body, Schema};
 ghost use Rattle.capnp_model.specs.Readings.{Record, Extent, Children, record_of, shape_record, fields_of, body_of, is_active, only_if};
 ghost use Rattle.capnp_model.specs.Printing.{fields_in};
 ghost use Rattle.capnp_model.specs.Steps.{done, step, target, target_of, entry_of};
-ghost use Rattle.capnp_model.specs.Edits.{edit};
+ghost use Rattle.capnp_model.specs.Edits.{Cell, put_content, edit};
 ghost use Rattle.capnp_model.specs.NamedPaths.{IsInRange, IsOpen, GoesByNames};
 ghost use Rattle.capnp_model.specs.Accepted.{IsAccepted, areas_of, schema_of};
 ghost use Rattle.capnp_model.specs.Views.{View, SameAll};
 ghost use Rattle.capnp_model.specs.Compatible.{IsCompatible};
 ghost use Rattle.capnp_model.specs.Projection.{projected};
 ghost use Rattle.capnp_model.specs.InKind.{in_kind};
-ghost use Rattle.capnp_model.specs.Calls.{Call};
+ghost use Rattle.capnp_model.specs.Calls.{Content, object, blob_tree, Call};
 ghost use Rattle.capnp_model.specs.Answers.{Limits, value_within, answer};
-ghost use Rattle.capnp_model.specs.Spelling.{AreWords, CanSpell, Spells};
+ghost use Rattle.capnp_model.specs.Spelling.{AreWords, CanSpell, Frames, Packs};
 
 /// A number written into a data section is read back, and numbers that share no bit with it stay.
 pub fn numbers_in_sections()
@@ -34,6 +37,7 @@ pub fn numbers_in_sections()
     ensures beside { (at width value section a n : ℕ) → value < 2 ^ width → ((at + width ≤ a) ⊎ (a + n ≤ at)) → bits_at a n (with_bits at width value section) ≡ bits_at a n section }
     ensures within { (at width value section size : ℕ) → value < 2 ^ width → at + width ≤ size → section < 2 ^ size → with_bits at width value section < 2 ^ size }
     ensures masked { (n d : ℕ) → bit_xor (bit_xor n d) d ≡ n }
+    ensures masked_back { (at width value mask section : ℕ) → value < 2 ^ width → mask < 2 ^ width → bit_xor (bits_at at width (with_bits at width (bit_xor value mask) section)) mask ≡ value }
 {}
 
 /// A section is the one of its words.
@@ -62,9 +66,24 @@ pub fn values_that_are_read()
     ensures fits { (n : ℕ) (s : Segments) (p : Place) (t : Tree) → tree_at n s p ≡ Some t → Fits t }
 {}
 
+/// What the function reads is what the relation by cases says, and that is at most one value for a place.
+pub fn values_as_a_relation()
+    ensures read { (n : ℕ) (s : Segments) (p : Place) (t : Tree) → Means n s p t → tree_at n s p ≡ Some t }
+    ensures meant { (n : ℕ) (s : Segments) (p : Place) (t : Tree) → tree_at n s p ≡ Some t → Means n s p t }
+    ensures one { (n m : ℕ) (s : Segments) (p : Place) (t u : Tree) → Means n s p t → Means m s p u → t ≡ u }
+{}
+
+/// A value is read just where no fault is met.
+pub fn faults_of_values()
+    ensures read { (n : ℕ) (s : Segments) (p : Place) (t : Tree) → tree_at n s p ≡ Some t → faults_at n s p ≡ [] }
+    ensures none { (n : ℕ) (s : Segments) (p : Place) → faults_at n s p ≡ [] → IsSome (tree_at n s p) }
+{}
+
 /// Segments that keep what a value covers keep the value.
 pub fn values_stay_where_their_words_stay()
-    ensures { (n : ℕ) (s u : Segments) (p : Place) (t : Tree) → AllByRecursion (Keeps s u) (covered n s p) → tree_at n s p ≡ Some t → tree_at n u p ≡ Some t }
+    ensures by_spans { (n : ℕ) (s u : Segments) (p : Place) (t : Tree) → AllByRecursion (Keeps s u) (covered n s p) → tree_at n s p ≡ Some t → tree_at n u p ≡ Some t }
+    ensures by_grown_words { (n : ℕ) (s u : Segments) (p : Place) (t : Tree) → Grows s u → ((q : Place) (w : ℕ) → 0 < cover n s p q → word_at s q ≡ Some w → word_at u q ≡ Some w) → tree_at n s p ≡ Some t → tree_at n u p ≡ Some t }
+    ensures by_words { (n : ℕ) (s u : Segments) (p : Place) (t : Tree) → map length s ≡ map length u → ((q : Place) → 0 < cover n s p q → word_at u q ≡ word_at s q) → tree_at n s p ≡ Some t → tree_at n u p ≡ Some t }
 {}
 
 /// Trimming twice is trimming once; a trimmed value fits and is no deeper.
@@ -74,18 +93,48 @@ pub fn trimmed_values()
     ensures depth { (t : Tree) → depth (trim t) ≤ depth t }
 {}
 
-/// The words of a value mean the value, so equal words are those of equal values.
-pub fn words_mean_their_value()
-    ensures means { (t : Tree) (n : ℕ) → Fits t → depth t ≤ n → length (canonical_words t) ≤ 2 ^ 29 → tree_at n (canonical_words t ∷ []) root ≡ Some t }
-    ensures equal { (t u : Tree) → Fits t → Fits u → length (canonical_words t) ≤ 2 ^ 29 → canonical_words t ≡ canonical_words u → t ≡ u }
+/// What a slot is changed into, children that are filled up, structs of words, and texts fit their pointers and lists.
+pub fn fitting_values()
+    ensures put { (b : Body) (x : Content) (c : Cell) → FitEach c.kids → ((t : Tree) → x ≡ object t → Fits t) → FitEach (put_content b x c).kids }
+    ensures padded { (n : ℕ) (ts : Trees) → FitEach ts → FitEach (padded_to n ts) }
+    ensures words { (ws : List ℕ) (kids : Trees) → length ws < 2 ^ 16 → tree_count kids < 2 ^ 16 → FitEach kids → Fits (structure (length ws) (section_of ws) kids) }
+    ensures bytes { (bs : List ℕ) → length bs < 2 ^ 29 → Fits (blob_tree bs) }
+    ensures zeros { (n : ℕ) → n < 2 ^ 29 → Fits (plain_list 2 n 0) }
 {}
 
-/// A value has no more words than following it costs, and its canonical words mean the trimmed value.
+/// The words of a value mean the value, also where a first segment goes on behind them; so equal words are those of equal values.
+pub fn words_mean_their_value()
+    ensures means { (t : Tree) (n : ℕ) → Fits t → depth t ≤ n → length (canonical_words t) ≤ 2 ^ 29 → tree_at n (canonical_words t ∷ []) root ≡ Some t }
+    ensures first { (t : Tree) (n : ℕ) (s : Segments) (more : List ℕ) → Fits t → depth t ≤ n → length (canonical_words t) ≤ 2 ^ 29 → slice_get s 0 ≡ Some (canonical_words t ++ more) → tree_at n s root ≡ Some t }
+    ensures equal { (t u : Tree) → Fits t → Fits u → length (canonical_words t) ≤ 2 ^ 29 → canonical_words t ≡ canonical_words u → t ≡ u }
+    ensures words { (t : Tree) → Fits t → length (canonical_words t) ≤ 2 ^ 29 → AreWords (canonical_words t) }
+{}
+
+/// A value has no more words than following it costs; its canonical words mean the trimmed value, are equal just for equal trimmed values, and are their own canonical words.
 pub fn canonical_messages()
     ensures size { (n : ℕ) (s : Segments) (p : Place) (t : Tree) → tree_at n s p ≡ Some t → length (body t) ≤ cost_at n s p }
     ensures trimmed_size { (n : ℕ) (s : Segments) (p : Place) (t : Tree) → tree_at n s p ≡ Some t → length (canonical_words (trim t)) ≤ cost_at n s p + 1 }
     ensures means { (n : ℕ) (s : Segments) (p : Place) (t : Tree) → tree_at n s p ≡ Some t → cost_at n s p < 2 ^ 29 → tree_at n (canonical_words (trim t) ∷ []) root ≡ Some (trim t) }
     ensures equal { (n : ℕ) (s u : Segments) (p q : Place) (t v : Tree) → tree_at n s p ≡ Some t → tree_at n u q ≡ Some v → cost_at n s p < 2 ^ 29 → canonical_words (trim t) ≡ canonical_words (trim v) → trim t ≡ trim v }
+    ensures same { (t u : Tree) → trim t ≡ trim u → canonical_words (trim t) ≡ canonical_words (trim u) }
+    ensures again { (n : ℕ) (s : Segments) (p : Place) (t u : Tree) → tree_at n s p ≡ Some t → cost_at n s p < 2 ^ 29 → tree_at n (canonical_words (trim t) ∷ []) root ≡ Some u → canonical_words (trim u) ≡ canonical_words (trim t) }
+{}
+
+/// The test for canonical words holds just where they stand, that for a message just where they are its one segment, and so of each canonical copy.
+pub fn canonical_tests()
+    ensures holds_at { (n : ℕ) (s : Segments) (p : Place) → is_canonical_at n s p ≡ true → (t : Tree) × (tree_at n s p ≡ Some t) × (has_capability t ≡ false) × (words_at s p (length (canonical_words (trim t))) ≡ Some (canonical_words (trim t))) }
+    ensures at { (n : ℕ) (s : Segments) (p : Place) (t : Tree) → tree_at n s p ≡ Some t → has_capability t ≡ false → words_at s p (length (canonical_words (trim t))) ≡ Some (canonical_words (trim t)) → is_canonical_at n s p ≡ true }
+    ensures begins { (n : ℕ) (s : Segments) (t : Tree) (more : List ℕ) → Fits t → depth t ≤ n → length (canonical_words t) ≤ 2 ^ 29 → has_capability t ≡ false → trim t ≡ t → slice_get s 0 ≡ Some (canonical_words t ++ more) → is_canonical_at n s root ≡ true }
+    ensures holds_of { (n : ℕ) (s : Segments) → is_canonical_message n s ≡ true → (t : Tree) × (tree_at n s root ≡ Some t) × (has_capability t ≡ false) × (s ≡ canonical_words (trim t) ∷ []) }
+    ensures message { (n : ℕ) (s : Segments) (t : Tree) → tree_at n s root ≡ Some t → has_capability t ≡ false → s ≡ canonical_words (trim t) ∷ [] → is_canonical_message n s ≡ true }
+    ensures copy { (n : ℕ) (s : Segments) (p : Place) (t : Tree) → tree_at n s p ≡ Some t → cost_at n s p < 2 ^ 29 → has_capability t ≡ false → is_canonical_message n (canonical_words (trim t) ∷ []) ≡ true }
+{}
+
+/// The words of a value's objects are those behind its pointer, and it has a capability just where some are counted.
+pub fn sizes_of_values()
+    ensures words { (t : Tree) → object_words t ≡ length (body t) }
+    ensures none { (t : Tree) → capability_count t ≡ 0 → has_capability t ≡ false }
+    ensures no_count { (t : Tree) → has_capability t ≡ false → capability_count t ≡ 0 }
 {}
 
 /// Unpacking what is packed gives the words, and takes just their bytes.
@@ -93,18 +142,25 @@ pub fn packed_words()
     ensures { (ws rest : List ℕ) → AreWords ws → unpacked (length ws) (packed ws ++ rest) ≡ Ok (ws, rest) }
 {}
 
-/// A written message is read, whatever follows it.
+/// A written message is read, whatever follows it, and is a text of its segments; canonical words can be written.
 pub fn written_messages()
-    ensures framed { (limit : ℕ) (s : Segments) (rest : List ℕ) → CanSpell limit s → frame_at limit (spelled bytes_of_words s ++ rest) ≡ Ok (s, rest) }
-    ensures packed { (limit : ℕ) (s : Segments) (rest : List ℕ) → CanSpell limit s → packed_at limit (spelled packed s ++ rest) ≡ Ok (s, rest) }
+    ensures framed { (limit : Option ℕ) (s : Segments) (rest : List ℕ) → CanSpell limit s → frame_at limit (frame s ++ rest) ≡ Ok (s, rest) }
+    ensures packed { (limit : Option ℕ) (s : Segments) (rest : List ℕ) → CanSpell limit s → packed_at limit (packed_message s ++ rest) ≡ Ok (s, rest) }
+    ensures canonical { (limit : Option ℕ) (t : Tree) → Fits t → length (canonical_words t) ≤ 2 ^ 29 → within (length (canonical_words t)) limit ≡ true → CanSpell limit (canonical_words t ∷ []) }
+    ensures framed_text { (limit : Option ℕ) (s : Segments) → CanSpell limit s → Frames limit (frame s) s }
+    ensures packed_text { (limit : Option ℕ) (s : Segments) → CanSpell limit s → Packs limit (packed_message s) s }
 {}
 
-/// Bytes behind a message change nothing of it, and no message begins another.
+/// Bytes at whose front a message is read begin with its text, bytes behind a text change nothing, no text begins another, and a slice is read as a stream is.
 pub fn texts_of_messages()
-    ensures framed_more { (limit : ℕ) (b : List ℕ) (r : Segments × List ℕ) (x : List ℕ) → frame_at limit b ≡ Ok r → frame_at limit (b ++ x) ≡ Ok (r.0, r.1 ++ x) }
-    ensures packed_more { (limit : ℕ) (b : List ℕ) (r : Segments × List ℕ) (x : List ℕ) → packed_at limit b ≡ Ok r → packed_at limit (b ++ x) ≡ Ok (r.0, r.1 ++ x) }
-    ensures one_framed { (limit : ℕ) (b c : List ℕ) (s u : Segments) (x y : List ℕ) → Spells plain_words limit b s → Spells plain_words limit c u → b ++ x ≡ c ++ y → (b ≡ c) × (s ≡ u) }
-    ensures one_packed { (limit : ℕ) (b c : List ℕ) (s u : Segments) (x y : List ℕ) → Spells unpacked limit b s → Spells unpacked limit c u → b ++ x ≡ c ++ y → (b ≡ c) × (s ≡ u) }
+    ensures framed_front { (limit : Option ℕ) (b : List ℕ) (s : Segments) (rest : List ℕ) → frame_at limit b ≡ Ok (s, rest) → (x : List ℕ) × (b ≡ x ++ rest) × Frames limit x s }
+    ensures packed_front { (limit : Option ℕ) (b : List ℕ) (s : Segments) (rest : List ℕ) → packed_at limit b ≡ Ok (s, rest) → (x : List ℕ) × (b ≡ x ++ rest) × Packs limit x s }
+    ensures framed_more { (limit : Option ℕ) (b : List ℕ) (r : Segments × List ℕ) (x : List ℕ) → frame_at limit b ≡ Ok r → frame_at limit (b ++ x) ≡ Ok (r.0, r.1 ++ x) }
+    ensures packed_more { (limit : Option ℕ) (b : List ℕ) (r : Segments × List ℕ) (x : List ℕ) → packed_at limit b ≡ Ok r → packed_at limit (b ++ x) ≡ Ok (r.0, r.1 ++ x) }
+    ensures in_slice { (limit : Option ℕ) (b : List ℕ) (r : Segments × List ℕ) → frame_at limit b ≡ Ok r → flat_at limit b ≡ Ok r }
+    ensures of_slice { (limit : Option ℕ) (b : List ℕ) (r : Segments × List ℕ) → flat_at limit b ≡ Ok r → frame_at limit b ≡ Ok r }
+    ensures one_framed { (limit : Option ℕ) (b c : List ℕ) (s u : Segments) (x y : List ℕ) → Frames limit b s → Frames limit c u → b ++ x ≡ c ++ y → (b ≡ c) × (s ≡ u) }
+    ensures one_packed { (limit : Option ℕ) (b c : List ℕ) (s u : Segments) (x y : List ℕ) → Packs limit b s → Packs limit c u → b ++ x ≡ c ++ y → (b ≡ c) × (s ≡ u) }
 {}
 
 /// The record of a struct depends on nothing but the bits and the pointers of its schema's slots and discriminants.

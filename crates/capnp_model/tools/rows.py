@@ -1,5 +1,6 @@
-"""Writes the worked examples as lemmas that computing proves."""
-OUT='model/crates/capnp_model/proofs/'
+"""Writes the worked examples as lemmas that computing proves: python3 crates/capnp_model/tools/rows.py, then rt tidy in the crate."""
+from pathlib import Path
+OUT=Path(__file__).resolve().parent.parent/'proofs'
 def by(t):
     out=[]
     for tok in t.replace('/',' ').split():
@@ -20,7 +21,7 @@ class F:
     def decl(self,name,unf,typ,proof='refl'):
         u=f'unfolding {unf}\n' if unf else ''
         self.rows.append(f'{name} : {typ}\n{u}{name} = {proof}\n')
-    def save(self): open(OUT+self.file,'w').write(self.head+'\n'+'\n'.join(self.rows))
+    def save(self): (OUT/self.file).write_text(self.head+'\n'+'\n'.join(self.rows))
 # ---- trees: sections are numbers
 def num(ws): return sum(x<<(64*i) for i,x in enumerate(ws))
 def kids(ts):
@@ -34,18 +35,24 @@ def R(d,k,rws):
     for (ws,ts) in reversed(rws): r=f'(element {num(ws)} {kids(ts)} {r})'
     return f'(struct_list {d} {k} {r})'
 head='''-- Values of worked messages: their trees, costs, depths and canonical words.
-use Rattle.std.proofs.Common.{◌≡◌, ℕ, refl, ◌+◌, ◌-◌, ◌*◌, ◌^◌, List, [], ◌∷◌, ◌++◌, Option, Some, None, length, replicate}
+use Rattle.std.proofs.Common.{◌≡◌, ℕ, refl, ◌+◌, ◌-◌, ◌*◌, ◌^◌, List, [], ◌∷◌, ◌++◌, Option, Some, None, true, false, length, replicate}
 use Rattle.std.specs.Option.{option_map}
-use Rattle.capnp_model.specs.Segments.{Segments, root}
-use Rattle.capnp_model.specs.Trees.{Tree, Trees, null, structure, plain_list, pointer_list, struct_list, capability, none, ◌▸◌, no_elements, element, depth}
+use Rattle.capnp_model.specs.Kinds.{OutOfBounds, MalformedFarPointer, WrongPointerKind, UnknownPointerType, NestingLimitExceeded}
+use Rattle.capnp_model.specs.Faults.{faults_at}
+use Rattle.capnp_model.specs.Segments.{Segments, root, place}
+use Rattle.capnp_model.specs.Coverage.{covered, cover}
+use Rattle.capnp_model.specs.Trees.{Tree, Trees, null, structure, plain_list, pointer_list, struct_list, capability, none, ◌▸◌, no_elements, element, depth, has_capability}
 use Rattle.capnp_model.specs.Traversal.{tree_at, cost_at}
 use Rattle.capnp_model.specs.Trimming.{trim}
 use Rattle.capnp_model.specs.Encoding.{canonical_words}
+use Rattle.capnp_model.specs.Canonical.{is_canonical_at, is_canonical_message}
+use Rattle.capnp_model.specs.Sizes.{object_words, capability_count}
 '''
 V=F('ValueExamples.antt',head)
 def tree(name,s,n,t): V.decl(name,'tree_at',f'tree_at {n} {s} root ≡ {t}')
 def cost(name,s,n,c): V.decl(name,'cost_at',f'cost_at {n} {s} root ≡ {c}')
 def canonical_words(name,t,words): V.decl(name,'canonical_words trim',f'canonical_words (trim {t}) ≡ {L(w(words))}')
+def faults(name,s,n,*kinds): V.decl(name,'faults_at',f'faults_at {n} {s} root ≡ {L(kinds)}')
 def dep(name,t,d): V.decl(name,None,f'depth {t} ≡ {d}')
 tree('null_root',seg('00*8'),64,'Some null')
 canonical_words('empty_struct_words','(structure 0 0 none)','fc ff ff ff 00 00 00 00')
@@ -57,7 +64,8 @@ r2=seg('06 00 00 00 01 00 00 00','02 00 00 00 02 00 00 00 / 00 00 00 00 01 00 00
 tree('double_far',r2,64,'Some '+t2); cost('double_far_cost',r2,64,3); dep('struct_depth',t2,1)
 tree('empty_struct_in_pad',seg('06 00 00 00 01 00 00 00','02 00 00 00 02 00 00 00 / 00*8','07 00*7'),64,'Some '+S([]))
 tree('far_pointer_in_pad',seg('06 00 00 00 01 00 00 00','02 00 00 00 02 00 00 00 / 02 00*7','07 00*7'),64,'None')
-tree('segment_not_there',seg('02 00 00 00 05 00 00 00'),64,'None')
+faults('far_pointer_in_pad_kind',seg('06 00 00 00 01 00 00 00','02 00 00 00 02 00 00 00 / 02 00*7','07 00*7'),64,'MalformedFarPointer')
+tree('segment_not_there',seg('02 00 00 00 05 00 00 00'),64,'None'); faults('segment_not_there_kind',seg('02 00 00 00 05 00 00 00'),64,'OutOfBounds')
 tree('byte_list',seg('01 00 00 00 12 00 00 00 / 41 42 00*6'),64,'Some '+PL(2,2,0x4241))
 tree('byte_list_with_more_bits',seg('01 00 00 00 12 00 00 00 / 41 42 43 00*5'),64,'Some '+PL(2,2,0x4241))
 t7=S([],PL(2,3,0x6968))
@@ -75,7 +83,7 @@ tree('trailing_zero_word',seg('00 00 00 00 03 00 00 00 / 11*8 / 00*7 80 / 00*8')
 t16b=S([],S(w('ee*8')),S([]))
 tree('canonical_message',seg('00 00 00 00 00 00 02 00 / 04 00 00 00 01 00 00 00 / fc ff ff ff 00 00 00 00 / ee*8'),64,'Some '+t16b)
 canonical_words('canonical_message_words',t16b,'00 00 00 00 00 00 02 00 / 04 00 00 00 01 00 00 00 / fc ff ff ff 00 00 00 00 / ee*8')
-tree('no_root_word','([] ∷ [])',64,'None'); tree('list_as_root',seg('01 00*7'),64,'Some '+PL(0,0,0))
+tree('no_root_word','([] ∷ [])',64,'None'); faults('no_root_word_kind','([] ∷ [])',64,'OutOfBounds'); tree('list_as_root',seg('01 00*7'),64,'Some '+PL(0,0,0))
 tree('capability_as_root',seg('03 00*7'),64,'Some (capability 0)')
 r20=seg('00 00 00 00 00 00 01 00 / 01 00 00 00 37 00 00 00 / 08 00 00 00 03 00 00 00 / 01 00*7 / 00*16 / 02 00*7 / 00*16')
 t20=S([],R(3,0,[([1,0,0],[]),([2,0,0],[])]))
@@ -94,6 +102,42 @@ e998='00 00 00 00 00 00 01 00 / 01 00 00 00 07 00 00 00 / 98 0f 00*6'
 cost('many_empty_structs_cost',seg(e998),64,1000)
 cost('one_empty_struct_more_cost',seg('00 00 00 00 00 00 01 00 / 01 00 00 00 07 00 00 00 / 9c 0f 00*6'),64,1001)
 V.decl('many_empty_structs_stay','tree_at canonical_words trim',f'option_map (λ t. canonical_words (trim t)) (tree_at 64 {seg(e998)} root) ≡ Some ({L(w(e998))})')
+faults('object_in_front_of_its_segment',seg('f8 ff ff ff 01 00 00 00'),64,'OutOfBounds')
+faults('tag_of_another_form',seg('01 00 00 00 0f 00 00 00 / 01 00 00 00 01 00 00 00 / 00*8'),64,'WrongPointerKind')
+faults('elements_past_their_words',seg('01 00 00 00 0f 00 00 00 / 08 00 00 00 01 00 00 00 / 00*8'),64,'OutOfBounds')
+faults('far_pointer_in_a_short_pad',seg('02 00 00 00 01 00 00 00','02 00*7'),64,'MalformedFarPointer')
+tree('empty_struct_in_a_short_pad',seg('02 00 00 00 01 00 00 00','00*8'),64,'Some '+S([]))
+faults('struct_with_no_level',seg('00 00 00 00 01 00 00 00 / 07 00*7'),0,'NestingLimitExceeded'); faults('list_with_no_level',seg('01 00*7'),0,'NestingLimitExceeded'); faults('null_with_no_level',seg('00*8'),0)
+faults('object_not_there',seg('00 00 00 00 01 00 00 00'),64,'OutOfBounds')
+faults('pad_not_there',seg('12 00 00 00 00 00 00 00 / 00*8'),64,'OutOfBounds')
+faults('segment_of_a_long_pad_not_there',seg('06 00 00 00 01 00 00 00','02 00 00 00 09 00 00 00 / 00 00 00 00 01 00 00 00'),64,'OutOfBounds')
+faults('nothing_is_walked_below_an_object_not_there',seg('00 00 00 00 02 00 01 00 / 00*8 / 07 00*7'),64,'OutOfBounds')
+faults('too_deep_kind',seg('00 00 00 00 00 00 01 00 / 01 00 00 00 1a 00 00 00 / 68 69 00*6'),1,'NestingLimitExceeded')
+faults('cycle_kind',cyc,64,'NestingLimitExceeded')
+faults('capability_with_a_further_bit',seg('07 00*7'),64,'UnknownPointerType')
+faults('capability_with_a_further_bit_in_a_pad',seg('02 00 00 00 01 00 00 00','07 00*7'),64,'UnknownPointerType')
+faults('capability_with_a_further_bit_in_a_long_pad',seg('06 00 00 00 01 00 00 00','02 00 00 00 02 00 00 00 / 07 00*7','07 00*7'),64,'UnknownPointerType')
+faults('faults_in_the_order_of_reading',seg('00 00 00 00 00 00 03 00 / 02 00 00 00 05 00 00 00 / 00*8 / 07 00*7'),64,'OutOfBounds','UnknownPointerType')
+faults('no_fault',sh,64)
+def canonical(name,s,answer,what='message',at=''): V.decl(name,f'is_canonical_{what} tree_at has_capability canonical_words trim',f'is_canonical_{what} 64 {s}{at} ≡ {answer}')
+canonical('trailing_zero_word_is_not_canonical',seg('00 00 00 00 03 00 00 00 / 11*8 / 00*7 80 / 00*8'),'false')
+cm=seg('00 00 00 00 00 00 02 00 / 04 00 00 00 01 00 00 00 / fc ff ff ff 00 00 00 00 / ee*8')
+canonical('message_is_canonical',cm,'true'); canonical('root_is_canonical',cm,'true','at',' root'); canonical('child_is_canonical',cm,'true','at',' (place 0 2)'); canonical('child_with_a_gap_is_not_canonical',cm,'false','at',' (place 0 1)')
+canonical('trailing_zero_word_at_root_is_not_canonical',seg('00 00 00 00 03 00 00 00 / 11*8 / 00*7 80 / 00*8'),'false','at',' root')
+second=seg('02 00 00 00 01 00 00 00','00 00 00 00 01 00 00 00 / 00 01 02 03 04 05 06 07')
+canonical('value_in_second_segment_is_not_canonical',second,'false'); canonical('second_segment_is_canonical',second,'true','at',' (place 1 0)')
+canonical('further_word_is_not_canonical',seg('00 00 00 00 01 00 00 00 / 07 00*7 / 63 00*7'),'false'); canonical('further_word_stays_out',seg('00 00 00 00 01 00 00 00 / 07 00*7 / 63 00*7'),'true','at',' root')
+canonical('capability_is_not_canonical',seg('03 00*7'),'false')
+text=seg('00 00 00 00 00 00 01 00 / 01 00 00 00 1a 00 00 00 / 68 69 00*6')
+def measured(name,f,s,size): V.decl(name,f'tree_at {f}',f'option_map {f} (tree_at 64 {s} root) ≡ Some {size}')
+measured('text_words','object_words',text,2); measured('text_capabilities','capability_count',text,0)
+measured('wide_elements_words','object_words',r20,8); measured('shared_target_object_words','object_words',sh,4)
+measured('claimed_words_of_no_element','object_words',seg('01 00 00 00 17 00 00 00 / 04 00 00 00 01 00 00 00 / 05 00*7 / 06 00*7'),2)
+caps=seg('00 00 00 00 00 00 02 00 / 03 00*7 / 03 00 00 00 01 00 00 00')
+measured('two_capabilities','capability_count',caps,2)
+def covers(name,s,k,times): V.decl(name,'covered',f'cover 64 {s} root (place 0 {k}) ≡ {times}')
+covers('shared_word_is_covered_twice',sh,3,2); covers('root_word_is_covered_once',sh,0,1)
+covers('word_that_nothing_names',seg('00 00 00 00 01 00 00 00 / 07 00*7 / 63 00*7'),2,0)
 tree('tag_without_room',seg('00 00 00 00 00 00 01 00 / 01 00 00 00 07 00 00 00 / 09 00*7'),64,'None')
 for n,s in [('pointers',6),('words',5),('structs',7)]:
     V.decl(f'claimed_{n}','tree_at',f'tree_at 64 (((1 + 2 ^ 32 * {s} + 2 ^ 35 * (2 ^ 29 - 1)) ∷ []) ∷ []) root ≡ None')
@@ -104,41 +148,56 @@ V.decl('chain_of_structs_words','tree_at canonical_words','option_map (λ t. len
 V.save()
 # ---- streams
 head='''-- Worked messages on streams, framed and packed.
-use Rattle.std.proofs.Common.{◌≡◌, ℕ, refl, ◌-◌, ◌^◌, List, [], ◌∷◌, ◌++◌, Ok, Err, length, take, replicate}
-use Rattle.capnp_model.specs.Kinds.{Kind, InvalidNumberOfSegments, MessageTooLarge, FailedToFillTheWholeBuffer, PrematureEndOfPackedInput, PackedInputDidNotEndCleanlyOnASegmentBoundary}
+use Rattle.std.proofs.Common.{◌≡◌, ℕ, refl, ◌-◌, ◌^◌, List, [], ◌∷◌, ◌++◌, Some, None, Ok, Err, length, take, replicate}
+use Rattle.capnp_model.specs.Kinds.{Kind, InvalidNumberOfSegments, MessageTooLarge, FailedToFillTheWholeBuffer, MessageEndsPrematurely, PrematureEndOfPackedInput, PackedInputDidNotEndCleanlyOnASegmentBoundary}
 use Rattle.capnp_model.specs.Bytes.{bytes_of_words}
 use Rattle.capnp_model.specs.Packing.{packed, unpacked, unpacked_from}
-use Rattle.capnp_model.specs.Messages.{message_at, frame_at, packed_at, spelled}
+use Rattle.capnp_model.specs.Messages.{message_at, frame_at, packed_at, flat_at, frame, packed_message}
+use Rattle.capnp_model.specs.Spelling.{Frames, Packs}
 '''
 T=F('StreamExamples.antt',head)
 FF='Err FailedToFillTheWholeBuffer'; PE='Err PrematureEndOfPackedInput'
-def m(name,form,limit,t,ans): T.decl(name,'message_at unpacked_from',f'{form}_at {limit} {B(t)} ≡ {ans}')
-m('half_a_word','framed',1000,'00*4',FF)
-m('too_many_segments','framed',1000,'ff 01 00 00 00 00 00 00','Err InvalidNumberOfSegments')
-m('too_many_words','framed',1,'F2','Err MessageTooLarge')
-m('more_words_than_the_limit','framed',3,'F4','Err MessageTooLarge')
-m('one_message_and_a_byte','framed',1000,'F1 / 00*8 / 09','Ok ((0 ∷ []) ∷ [], 9 ∷ [])')
+def limit_of(limit): return 'None' if limit is None else f'(Some {limit})'
+def m(name,form,limit,t,ans): T.decl(name,'message_at unpacked_from flat_at',f'{form}_at {limit_of(limit)} {B(t)} ≡ {ans}')
+def text(name,relation,limit,t,segments): T.decl(name,'message_at unpacked_from',f'{relation} {limit_of(limit)} {B(t)} ({LL(segments)})')
+m('half_a_word','frame',1000,'00*4',FF)
+m('too_many_segments','frame',1000,'ff 01 00 00 00 00 00 00','Err InvalidNumberOfSegments')
+m('too_many_words','frame',1,'F2','Err MessageTooLarge')
+m('more_words_than_the_limit','frame',3,'F4','Err MessageTooLarge')
+m('one_message_and_a_byte','frame',1000,'F1 / 00*8 / 09','Ok ((0 ∷ []) ∷ [], 9 ∷ [])')
 m4='01 00 00 00 01 00 00 00 / 02 00 00 00 00 00 00 00 / 02 00 00 00 01 00 00 00 / 00 00 00 00 01 00 00 00 / 07 00*7'
-m('two_segments','framed',1000,m4,'Ok ('+LL([w('02 00 00 00 01 00 00 00'),w('00 00 00 00 01 00 00 00 / 07 00*7')])+', [])')
+text('two_segments','Frames',1000,m4,[w('02 00 00 00 01 00 00 00'),w('00 00 00 00 01 00 00 00 / 07 00*7')])
+text('filling_of_any_bytes','Frames',1000,'01 00 00 00 01 00 00 00 / 00 00 00 00 09 08 07 06 / 00*8',[[0],[]])
 b4=by(m4)
-for k in range(0,40): T.decl(f'cut_after_{k}','message_at',f'frame_at 1000 ({L(b4[:k])}) ≡ {FF}')
-T.decl('three_segments_table',None,f'take 16 (spelled bytes_of_words ((1 ∷ []) ∷ [] ∷ (2 ∷ 3 ∷ []) ∷ [])) ≡ {L(by("02 00 00 00 01 00 00 00 / 00 00 00 00 02 00 00 00"))}')
-T.decl('three_segments_length',None,'length (spelled bytes_of_words ((1 ∷ []) ∷ [] ∷ (2 ∷ 3 ∷ []) ∷ [])) ≡ 40')
-T.decl('most_segments','message_at','frame_at 1000 (spelled bytes_of_words (replicate 511 [])) ≡ Ok (replicate 511 [], [])')
-T.decl('one_segment_too_many','message_at','frame_at 1000 (spelled bytes_of_words (replicate 512 [])) ≡ Err InvalidNumberOfSegments')
+for k in range(0,40): T.decl(f'cut_after_{k}','message_at',f'frame_at (Some 1000) ({L(b4[:k])}) ≡ {FF}')
+T.decl('three_segments_table',None,f'take 16 (frame ((1 ∷ []) ∷ [] ∷ (2 ∷ 3 ∷ []) ∷ [])) ≡ {L(by("02 00 00 00 01 00 00 00 / 00 00 00 00 02 00 00 00"))}')
+T.decl('three_segments_length',None,'length (frame ((1 ∷ []) ∷ [] ∷ (2 ∷ 3 ∷ []) ∷ [])) ≡ 40')
+T.decl('most_segments','message_at','frame_at (Some 1000) (frame (replicate 511 [])) ≡ Ok (replicate 511 [], [])')
+T.decl('one_segment_too_many','message_at','frame_at (Some 1000) (frame (replicate 512 [])) ≡ Err InvalidNumberOfSegments')
 def pk(name,words,t): T.decl(name,'packed',f'packed ({L(words)}) ≡ {L(by(t))}')
 pk('packed_word',w('00 00 0c 00 00 22 00 00'),'24 0c 22')
 T.decl('packed_zero_words','packed',f'packed (replicate 258 0) ≡ {L(by("00 ff 00 01"))}')
 T.decl('unpacked_zero_words','unpacked_from',f'unpacked 258 {B("00 ff 00 01")} ≡ Ok (replicate 258 0, [])')
 T.decl('packed_full_words','packed','packed (replicate 256 (2 ^ 64 - 1)) ≡ 255 ∷ (replicate 8 255 ++ 255 ∷ replicate 2040 255)')
 pk('packed_run_of_full_words',w('01 02 03 04 05 06 07 08 / 01 02 03 04 05 06 07 00'),'ff 01 02 03 04 05 06 07 08 01 01 02 03 04 05 06 07 00')
-m('packed_null','packed',1000,'10 01 00 00','Ok ((0 ∷ []) ∷ [], [])')
+text('packed_null','Packs',1000,'10 01 00 00',[[0]])
 m('group_cut_short','packed',1000,'f0 01 02',PE)
 m('run_past_its_piece','packed',1000,'00 01','Err PackedInputDidNotEndCleanlyOnASegmentBoundary')
-m('marked_zero_byte','packed',1000,'30 02 00 10 01 01 07','Ok ('+LL([w('00 00 00 00 01 00 00 00 / 07 00*7')])+', [])')
+text('marked_zero_byte','Packs',1000,'30 02 00 10 01 01 07',[w('00 00 00 00 01 00 00 00 / 07 00*7')])
+m('packed_null_and_a_byte','packed',1000,'10 01 00 00 09','Ok ((0 ∷ []) ∷ [], 9 ∷ [])')
 full='10 02 10 01 01 07'.split()
 for k,a in [(1,PE),(2,FF),(3,PE),(4,PE),(5,PE)]: m(f'packed_cut_after_{k}','packed',1000,' '.join(full[:k]),a)
-T.decl('packed_two_segments','packed message_at unpacked_from','packed_at 10 (spelled packed ((0 ∷ 0 ∷ []) ∷ (0 ∷ 7 ∷ []) ∷ [])) ≡ Ok ((0 ∷ 0 ∷ []) ∷ (0 ∷ 7 ∷ []) ∷ [], [])')
+T.decl('packed_two_segments','packed message_at unpacked_from','packed_at (Some 10) (packed_message ((0 ∷ 0 ∷ []) ∷ (0 ∷ 7 ∷ []) ∷ [])) ≡ Ok ((0 ∷ 0 ∷ []) ∷ (0 ∷ 7 ∷ []) ∷ [], [])')
+text('any_number_of_words','Frames',None,'F2 / 09 00*7 / 08 00*7',[[9,8]])
+# flat slices
+ME='Err MessageEndsPrematurely'
+m('no_byte_at_all','flat',1000,'',ME)
+m('half_a_table','flat',1000,'00*4',FF)
+m('second_half_of_a_table_missing','flat',1000,'01 00 00 00 01 00 00 00',FF)
+m('segments_missing','flat',1000,'F2',ME)
+m('segments_cut_short','flat',None,'F2 / 00*15',ME)
+m('too_many_words_in_a_slice','flat',1,'F2','Err MessageTooLarge')
+m('a_message_and_a_byte_in_a_slice','flat',1000,'F1 / 00*8 / 09','Ok ((0 ∷ []) ∷ [], 9 ∷ [])')
 T.save()
 # ---- relays
 def unpack_words(b,n,i):
@@ -212,7 +271,7 @@ limits words nesting = record { words = Some words; nesting = pos nesting }
 -- A run under the example schemas, with limits of words and levels.
 Relays : Reader → Writer → ℕ → ℕ → ℕ → List Call → List ℕ → List ℕ → List ℕ → End → Type 0
 Relays read write words nesting id calls bytes output log end =
-    IsRun read write words (IsAnswer examples (λ x. x) id calls (limits words nesting)) bytes output log end
+    IsRun read write (Some words) (IsAnswer examples (λ x. x) id calls (limits words nesting)) bytes output log end
 
 -- The answers to messages under the example schemas.
 abbrev answers_to : ℕ → ℕ → ℕ → List Call → List Segments → List Answer

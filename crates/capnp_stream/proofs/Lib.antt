@@ -1,0 +1,4 @@
+pub mod Filling
+pub mod KnownLemmas
+pub mod WordLemmas
+pub mod FrameLemmas

@@ -1,0 +1,134 @@
+-- Words in bytes, and the segments that they are cut into.
+use Rattle.std.proofs.Common.{◌≡◌, ℕ, zero, suc, ◌+◌, ◌-◌, ◌*◌, ◌/◌, ◌%◌, ◌^◌, ◌≤◌, ◌<◌, append_assoc, append-nil, get_or, List, [], ◌∷◌, ◌++◌, length, take, drop, map, sum, refl, sym, ap, ◌∙◌, arith, length-drop, length-take-le, take-append-drop}
+use Rattle.std.specs.Prelude.{All}
+use Rattle.std.specs.List.{slice_range}
+use Rattle.std.specs.Int.{from_le_bytes, to_le_bytes, w64}
+use Rattle.std.proofs.lemmas.Nat.{le_bytes_8}
+use Rattle.std.proofs.lemmas.List.{drop-take, drop-drop, get_or-drop, nil_from_length}
+use Rattle.std.proofs.lemmas.List.Elements.{All-cons, All-nil}
+use Rattle.std.proofs.lemmas.List.Sums.{sum_by-cons}
+use Rattle.capnp_model.specs.Bytes.{words_in_bytes, bytes_of_words}
+use Rattle.capnp_model.specs.Messages.{frame, cut, halves}
+use Rattle.capnp_stream.specs.declared.segments.Bounds.{Bounds}
+use Rattle.capnp_stream.specs.Segments.{whole_words, bounds_from}
+
+-- what follows eight bytes changes nothing of their word
+from_le_bytes-front : (a b : List ℕ) → 8 ≤ length a → from_le_bytes w64 (a ++ b) ≡ from_le_bytes w64 a
+from_le_bytes-front (x ∷ x1 ∷ x2 ∷ x3 ∷ x4 ∷ x5 ∷ x6 ∷ x7 ∷ a) b h = refl
+from_le_bytes-front [] b h = absurd (omega arith)
+from_le_bytes-front (x ∷ []) b h = absurd (omega arith)
+from_le_bytes-front (x ∷ x1 ∷ []) b h = absurd (omega arith)
+from_le_bytes-front (x ∷ x1 ∷ x2 ∷ []) b h = absurd (omega arith)
+from_le_bytes-front (x ∷ x1 ∷ x2 ∷ x3 ∷ []) b h = absurd (omega arith)
+from_le_bytes-front (x ∷ x1 ∷ x2 ∷ x3 ∷ x4 ∷ []) b h = absurd (omega arith)
+from_le_bytes-front (x ∷ x1 ∷ x2 ∷ x3 ∷ x4 ∷ x5 ∷ []) b h = absurd (omega arith)
+from_le_bytes-front (x ∷ x1 ∷ x2 ∷ x3 ∷ x4 ∷ x5 ∷ x6 ∷ []) b h = absurd (omega arith)
+
+pub from_le_bytes-take : (n : ℕ) (bytes : List ℕ) → 8 ≤ n → n ≤ length bytes → from_le_bytes w64 (take n bytes) ≡ from_le_bytes w64 bytes
+from_le_bytes-take n bytes wide fits =
+    let f : List ℕ → ℕ = from_le_bytes w64 in
+    sym (from_le_bytes-front (take n bytes) (drop n bytes) (omega (arith, length-take-le n bytes fits))) ∙ ap f (take-append-drop n bytes)
+
+pub words_in_bytes-take : (n m : ℕ) (bytes : List ℕ) → 8 * (n + m) ≤ length bytes → take n (words_in_bytes (n + m) bytes) ≡ words_in_bytes n (take (8 * n) bytes)
+words_in_bytes-take zero m bytes fits = refl
+words_in_bytes-take (suc n) m bytes fits =
+    let next : suc n + m ≡ suc (n + m) = omega arith in
+    let wide : 8 * suc n ≡ 8 + 8 * n = omega arith in
+    let first : from_le_bytes w64 (take (8 + 8 * n) bytes) ≡ from_le_bytes w64 bytes = from_le_bytes-take (8 + 8 * n) bytes (omega arith) (omega arith) in
+    let rest : take n (words_in_bytes (n + m) (drop 8 bytes)) ≡ words_in_bytes n (take (8 * n) (drop 8 bytes)) = words_in_bytes-take n m (drop 8 bytes) (omega (arith, length-drop 8 bytes)) in
+    rw (next, wide, drop-take 8 (8 * n) bytes, first, rest) refl
+
+pub words_in_bytes-drop : (n m : ℕ) (bytes : List ℕ) → drop n (words_in_bytes (n + m) bytes) ≡ words_in_bytes m (drop (8 * n) bytes)
+words_in_bytes-drop zero m bytes = let same : zero + m ≡ m = omega arith in rw same refl
+words_in_bytes-drop (suc n) m bytes =
+    let next : suc n + m ≡ suc (n + m) = omega arith in
+    let wide : 8 * suc n ≡ 8 + 8 * n = omega arith in
+    rw (next, wide) (words_in_bytes-drop n m (drop 8 bytes) ∙ ap (words_in_bytes m) (drop-drop (8 * n) 8 bytes))
+
+-- so many bytes hold so many words
+pub whole_words-of_length : (n : ℕ) (bytes : List ℕ) → length bytes ≡ 8 * n → whole_words bytes ≡ words_in_bytes n bytes
+whole_words-of_length n bytes e = let count : length bytes / 8 ≡ n = omega arith in ap (λ k. words_in_bytes k bytes) count
+
+pub sum-cons : (n : ℕ) (ns : List ℕ) → sum (n ∷ ns) ≡ n + sum ns
+sum-cons n ns = sum_by-cons (λ k. k) n ns
+
+-- segments that lie one after the other are those that the words are cut into
+pub segments-of_bounds : (bytes : List ℕ) (at : ℕ) (ns : List ℕ) → at + 8 * sum ns ≤ length bytes
+    → map whole_words (map (λ (b : Bounds). slice_range bytes b.start b.end) (bounds_from at ns)) ≡ cut ns (words_in_bytes (sum ns) (drop at bytes))
+segments-of_bounds bytes at [] fits = refl
+segments-of_bounds bytes at (n ∷ ns) fits =
+    let total = sum-cons n ns in
+    let rest = drop at bytes in
+    let long : 8 * (n + sum ns) ≤ length rest = omega (arith, length-drop at bytes) in
+    let width : at + 8 * n - at ≡ 8 * n = omega arith in
+    let size : length (take (8 * n) rest) ≡ 8 * n = length-take-le (8 * n) rest (omega arith) in
+    let one : whole_words (slice_range bytes at (at + 8 * n)) ≡ take n (words_in_bytes (n + sum ns) rest) =
+    ap (λ k. whole_words (take k rest)) width ∙ whole_words-of_length n (take (8 * n) rest) size ∙ sym (words_in_bytes-take n (sum ns) rest long) in
+    let behind : words_in_bytes (sum ns) (drop (at + 8 * n) bytes) ≡ drop n (words_in_bytes (n + sum ns) rest) =
+    ap (words_in_bytes (sum ns)) (sym (drop-drop (8 * n) at bytes)) ∙ sym (words_in_bytes-drop n (sum ns) rest) in
+    let others = segments-of_bounds bytes (at + 8 * n) ns (omega (arith, total)) ∙ ap (cut ns) behind in
+    rw (total, one, others) refl
+
+-- The bounds lie within so many bytes and hold whole words.
+abbrev pub AreWithin : ℕ → Bounds → Type 0
+AreWithin size b = (b.start ≤ b.end) × ((b.end - b.start) % 8 ≡ 0) × (b.end ≤ size)
+
+pub bounds_from-within : (size at : ℕ) (ns : List ℕ) → at + 8 * sum ns ≤ size → All (AreWithin size) (bounds_from at ns)
+bounds_from-within size at [] fits = All-nil (AreWithin size)
+bounds_from-within size at (n ∷ ns) fits =
+    let total = sum-cons n ns in
+    let first : Bounds = record { start = at; end = at + 8 * n } in
+    let one : AreWithin size first = (omega arith, omega arith, omega (arith, total)) in
+    All-cons (AreWithin size) first (bounds_from (at + 8 * n) ns) one (bounds_from-within size (at + 8 * n) ns (omega (arith, total)))
+
+-- eight bytes are a word
+pub whole_words-step : (bytes : List ℕ) → 8 ≤ length bytes → whole_words bytes ≡ from_le_bytes w64 (take 8 bytes) ∷ whole_words (drop 8 bytes)
+whole_words-step bytes long =
+    let rest : length (drop 8 bytes) + 8 ≡ length bytes = omega (arith, length-drop 8 bytes) in
+    let count : length bytes / 8 ≡ suc (length (drop 8 bytes) / 8) = omega arith in
+    rw (count, sym (from_le_bytes-take 8 bytes (omega arith) long)) refl
+
+-- the lengths read so far and those that are left
+pub lengths-step : (lengths once twice : List ℕ) (bytes behind : List ℕ) (word : ℕ) (all : List ℕ) → 8 ≤ length bytes → behind ≡ drop 8 bytes → word ≡ from_le_bytes w64 (take 8 bytes)
+    → once ≡ lengths ++ word % 2 ^ 32 ∷ [] → twice ≡ once ++ word / 2 ^ 32 ∷ [] → lengths ++ halves (whole_words bytes) ≡ all → twice ++ halves (whole_words behind) ≡ all
+lengths-step lengths once twice bytes behind word all long left reads one two before =
+    let a = word % 2 ^ 32 in
+    let b = word / 2 ^ 32 in
+    let now : whole_words bytes ≡ word ∷ whole_words behind = whole_words-step bytes long ∙ ap (λ w. w ∷ whole_words (drop 8 bytes)) (sym reads) ∙ ap (λ l. word ∷ whole_words l) (sym left) in
+    let whole : lengths ++ a ∷ b ∷ halves (whole_words behind) ≡ all = ap (λ ws. lengths ++ halves ws) (sym now) ∙ before in
+    ap (λ l. l ++ halves (whole_words behind)) (two ∙ ap (λ l. l ++ b ∷ []) one)
+    ∙ append_assoc (lengths ++ a ∷ []) (b ∷ []) (halves (whole_words behind)) ∙ append_assoc lengths (a ∷ []) (b ∷ halves (whole_words behind)) ∙ whole
+
+-- ---- words that were read of bytes, written as bytes
+
+-- Numbers that a byte holds.
+abbrev pub AreBytes : List ℕ → Type 0
+AreBytes bytes = (i : ℕ) → get_or bytes i 0 < 256
+
+AreBytes-take : (n : ℕ) (bytes : List ℕ) → AreBytes bytes → AreBytes (take n bytes)
+AreBytes-take zero bytes small i = omega arith
+AreBytes-take (suc n) [] small i = omega arith
+AreBytes-take (suc n) (b ∷ bytes) small zero = small zero
+AreBytes-take (suc n) (b ∷ bytes) small (suc i) = AreBytes-take n bytes (λ j. small (suc j)) i
+
+AreBytes-drop : (n : ℕ) (bytes : List ℕ) → AreBytes bytes → AreBytes (drop n bytes)
+AreBytes-drop n bytes small i = rw (get_or-drop n bytes i 0) (small (n + i))
+
+words_in_bytes-length : (n : ℕ) (bytes : List ℕ) → length (words_in_bytes n bytes) ≡ n
+words_in_bytes-length zero bytes = refl
+words_in_bytes-length (suc n) bytes = let rest = words_in_bytes-length n (drop 8 bytes) in omega arith
+
+bytes_of_words-back : (n : ℕ) (bytes : List ℕ) → length bytes ≡ 8 * n → AreBytes bytes → bytes_of_words (words_in_bytes n bytes) ≡ bytes
+bytes_of_words-back zero bytes long small = sym (nil_from_length bytes (omega arith))
+bytes_of_words-back (suc n) bytes long small =
+    let wide : 8 ≤ length bytes = omega arith in
+    let first : to_le_bytes w64 (from_le_bytes w64 bytes) ≡ take 8 bytes = le_bytes_8 (take 8 bytes) (from_le_bytes w64 bytes) (length-take-le 8 bytes wide) (AreBytes-take 8 bytes small) (sym (from_le_bytes-take 8 bytes (omega arith) wide)) in
+    let rest : bytes_of_words (words_in_bytes n (drop 8 bytes)) ≡ drop 8 bytes = bytes_of_words-back n (drop 8 bytes) (omega (arith, length-drop 8 bytes)) (AreBytes-drop 8 bytes small) in
+    ap (λ l. l ++ bytes_of_words (words_in_bytes n (drop 8 bytes))) first ∙ ap (λ l. take 8 bytes ++ l) rest ∙ take-append-drop 8 bytes
+
+pub frame-bytes : (bytes : List ℕ) → length bytes % 8 ≡ 0 → AreBytes bytes → frame (whole_words bytes ∷ []) ≡ to_le_bytes w64 (length bytes / 8 * 2 ^ 32) ++ bytes
+frame-bytes bytes whole small =
+    let n = length bytes / 8 in
+    let words : bytes_of_words (whole_words bytes) ≡ bytes = bytes_of_words-back n bytes (omega arith) small in
+    let first : 0 + 2 ^ 32 * length (whole_words bytes) ≡ n * 2 ^ 32 = omega (arith, words_in_bytes-length n bytes) in
+    rw (first, words) (ap (λ l. l ++ (bytes ++ [])) (append-nil (to_le_bytes w64 (n * 2 ^ 32))) ∙ ap (λ l. to_le_bytes w64 (n * 2 ^ 32) ++ l) (append-nil bytes))

@@ -1,0 +1,6 @@
+pub mod Counting
+pub mod Streams
+pub mod Adapters
+pub mod Segments
+pub mod Frames
+pub use Rattle.capnp_units.specs.Errors

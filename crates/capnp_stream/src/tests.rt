@@ -1,0 +1,319 @@
+//! Streams that are cut, fail or are too short, and the frames that are read and written over them.
+ghost use Rattle.std.specs.Prelude.{◌≡◌, ◌≤◌, length};
+ghost use Rattle.capnp_units.specs.declared.kinds.ErrorKind.{ErrorKind};
+
+use crate::adapters::{Sink, Source};
+use crate::frames::{read_message, try_read_message, write_segment};
+use crate::traits::{BufRead, Read, Write};
+use capnp_units::errors::{Error, Result};
+use capnp_units::kinds::ErrorKind;
+use std::alloc::Global;
+use std::io;
+use std::process::Abort;
+use std::test::Fail;
+
+/// A source that shows one byte at a time, and fails after some.
+#[derive(Drop)]
+struct Drip<'a> {
+    bytes: &'a [u8],
+    left: usize,
+    failures: u64,
+}
+
+impl<'a> Drip<'a> {
+    fn new(bytes: &'a [u8], left: usize) -> Drip<'a> {
+        Drip {
+            bytes,
+            left,
+            failures: 0,
+        }
+    }
+
+    fn shown(&self) -> &[u8]
+        ensures { length result.now ≤ 1 }
+    {
+        let n = self.bytes.len().min(1);
+        &self.bytes[..n]
+    }
+
+    fn consume_one(&mut self)
+        ensures { self.new.failures ≡ self.old.failures }
+    {
+        let bytes = self.bytes;
+        let n = bytes.len().min(1);
+        self.bytes = &bytes[n..];
+        self.left = self.left.saturating_sub(1);
+    }
+}
+
+impl Read for Drip<'_> {
+    ghost failures = { λ d. d.failures };
+
+    ghost refuses = { λ k. k ≡ ErrorKind.Device };
+
+    fn read(&mut self, buf: &mut [u8]) -> Result<usize> {
+        let byte = match self.fill_buf()?.first() {
+            Some(b) => *b,
+            None => return Ok(0),
+        };
+        if buf.is_empty() {
+            return Ok(0);
+        }
+        buf[0] = byte;
+        self.consume_one();
+        Ok(1)
+    }
+
+    fn failures(&self) -> u64 {
+        self.failures
+    }
+}
+
+impl BufRead for Drip<'_> {
+    ghost shown = { λ _. 1 };
+
+    fn fill_buf(&mut self) -> Result<&[u8]> {
+        if self.left == 0 {
+            self.failures = self.failures.saturating_add(1);
+            return Err(Error::from(ErrorKind::Device));
+        }
+        Ok(self.shown())
+    }
+
+    fn consume(&mut self, amount: usize) {
+        if amount == 1 {
+            self.consume_one();
+        }
+    }
+
+    ghost device_alone = { λ _ e. e };
+}
+
+/// A sink that takes some bytes and then fails.
+#[derive(Drop)]
+struct Short {
+    held: Vec<u8>,
+    left: usize,
+    failures: u64,
+}
+
+impl Write for Short {
+    ghost failures = { λ s. s.failures };
+
+    ghost may_grow = { Unit {0} };
+
+    fn write_all(&mut self, buf: &[u8]) -> Result<()> {
+        let n = buf.len().min(self.left);
+        self.held.extend_from_slice(&buf[..n])?;
+        self.left -= n;
+        if n < buf.len() {
+            self.failures = self.failures.saturating_add(1);
+            return Err(Error::from(ErrorKind::Device));
+        }
+        Ok(())
+    }
+
+    fn failures(&self) -> u64 {
+        self.failures
+    }
+}
+
+/// A reader that gives some bytes, one at a call, and fails once between two of them.
+#[derive(Drop)]
+struct Stumbling<'a> {
+    bytes: &'a [u8],
+    steps: usize,
+}
+
+impl io::Read for Stumbling<'_> {
+    fn read(&mut self, buf: &mut [u8]) -> io::Result<usize> {
+        if self.steps == 0 {
+            self.steps = usize::MAX;
+            return Err(io::Error::from(io::ErrorKind::Other));
+        }
+        self.steps -= 1;
+        let bytes = self.bytes;
+        match (bytes.split_first(), buf.first_mut()) {
+            (Some((byte, behind)), Some(place)) => {
+                *place = *byte;
+                self.bytes = behind;
+                Ok(1)
+            }
+            _ => Ok(0),
+        }
+    }
+}
+
+/// One segment of one zero word, and two bytes behind.
+const ONE: [u8; 18] = [0, 0, 0, 0, 1, 0, 0, 0, 0, 0, 0, 0, 0, 0, 0, 0, 5, 6];
+
+/// Two segments, of one word and of two.
+const TWO: [u8; 40] = [
+    1, 0, 0, 0, 1, 0, 0, 0, 2, 0, 0, 0, 0, 0, 0, 0, 2, 0, 0, 0, 1, 0, 0, 0, 0, 0, 0, 0, 1, 0, 0, 0,
+    7, 0, 0, 0, 0, 0, 0, 0,
+];
+
+/// One segment of two words.
+const WRITTEN: [u8; 24] = [
+    0, 0, 0, 0, 2, 0, 0, 0, 0, 0, 0, 0, 1, 0, 0, 0, 7, 0, 0, 0, 0, 0, 0, 0,
+];
+
+/// Reads the message of two segments.
+fn expect_two<R: BufRead>(rt: &impl Abort, alloc: Global, source: &mut R) -> Result<()> {
+    let message = read_message(alloc, source, Some(3))?;
+    assert_eq!(rt; message.len(), 2);
+    assert_eq!(rt; message.get_segment(0), Some(&TWO[16..24]));
+    assert_eq!(rt; message.get_segment(1), Some(&TWO[24..40]));
+    assert_eq!(rt; message.get_segment(2), None);
+    Ok(())
+}
+
+/// The kind by which these bytes are refused.
+fn refusal(alloc: Global, mut bytes: &[u8], limit: Option<usize>) -> Option<ErrorKind> {
+    match try_read_message(alloc, &mut bytes, limit) {
+        Ok(_) => None,
+        Err(e) => Some(e.kind),
+    }
+}
+
+#[test]
+fn bytes_behind_a_message_are_left(rt: HostRuntime) -> std::result::Result<(), Fail> {
+    let mut source = ONE.as_slice();
+    let message = read_message(rt.alloc(), &mut source, None)?;
+    assert_eq!(rt; message.len(), 1);
+    assert_eq!(rt; message.get_segment(0), Some([0u8; 8].as_slice()));
+    assert_eq!(rt; source, [5, 6].as_slice());
+    Ok(())
+}
+
+#[test]
+fn messages_are_read_however_they_are_cut(rt: HostRuntime) -> std::result::Result<(), Fail> {
+    let alloc = rt.alloc();
+    expect_two(&rt, alloc, &mut TWO.as_slice())?;
+    expect_two(&rt, alloc, &mut Drip::new(&TWO, 40))?;
+    expect_two(&rt, alloc, &mut Source::new(alloc, TWO.as_slice())?)?;
+    Ok(())
+}
+
+#[test]
+fn cut_and_failing_input_is_refused(rt: HostRuntime) -> std::result::Result<(), Fail> {
+    let alloc = rt.alloc();
+    let mut nothing: &[u8] = &[];
+    assert!(rt; try_read_message(alloc, &mut nothing, None)?.is_none());
+    let end = read_message(alloc, &mut nothing, None).err();
+    assert!(rt; end == Some(Error::from(ErrorKind::PrematureEndOfFile)));
+    for n in 1..40 {
+        let kind = refusal(alloc, &TWO[..n], None);
+        assert!(rt;
+            kind == Some(ErrorKind::FailedToFillTheWholeBuffer),
+            "at {n}"
+        );
+    }
+    for n in 0..40 {
+        let mut source = Drip::new(&TWO, n);
+        let failed = try_read_message(alloc, &mut source, None).err();
+        assert!(rt; failed == Some(Error::from(ErrorKind::Device)), "at {n}");
+        assert_eq!(rt; source.failures(), 1, "at {n}");
+        assert_eq!(rt; source.bytes.len(), 40 - n, "at {n}");
+    }
+    Ok(())
+}
+
+#[test]
+fn counts_and_sizes_are_limited(rt: HostRuntime) -> std::result::Result<(), Fail> {
+    let alloc = rt.alloc();
+    let many = Some(ErrorKind::InvalidNumberOfSegments);
+    assert!(rt; refusal(alloc, &[255, 1, 0, 0, 0, 0, 0, 0], None) == many);
+    let large = Some(ErrorKind::MessageTooLarge);
+    assert!(rt; refusal(alloc, &WRITTEN[..8], Some(1)) == large);
+    assert!(rt; refusal(alloc, &WRITTEN, Some(1)) == large);
+    assert!(rt; refusal(alloc, &WRITTEN, Some(2)).is_none());
+    let mut empty = [0u8; 2048];
+    empty[0] = 254;
+    empty[1] = 1;
+    let message = read_message(alloc, &mut empty.as_slice(), Some(0))?;
+    assert_eq!(rt; message.len(), 511);
+    assert_eq!(rt; message.get_segment(510), Some([].as_slice()));
+    empty[0] = 255;
+    assert!(rt; refusal(alloc, &empty, Some(0)) == many);
+    Ok(())
+}
+
+#[test]
+fn a_failed_read_is_no_end(rt: HostRuntime) -> std::result::Result<(), Fail> {
+    let alloc = rt.alloc();
+    for n in 0..40 {
+        let reader = Stumbling {
+            bytes: &TWO,
+            steps: n,
+        };
+        let mut source = Source::new(alloc, reader)?;
+        let failed = try_read_message(alloc, &mut source, None).err();
+        assert!(rt; failed == Some(Error::from(ErrorKind::Device)), "at {n}");
+        assert_eq!(rt; source.failures(), 1, "at {n}");
+    }
+    let mut source = Source::new(
+        alloc,
+        Stumbling {
+            bytes: &TWO,
+            steps: 0,
+        },
+    )?;
+    assert!(rt; source.fill_buf().is_err());
+    expect_two(&rt, alloc, &mut source)?;
+    assert_eq!(rt; source.failures(), 1);
+    Ok(())
+}
+
+#[test]
+fn messages_are_written(rt: HostRuntime) -> std::result::Result<(), Fail> {
+    let alloc = rt.alloc();
+    let mut out = Vec::new(alloc);
+    write_segment(&mut out, &WRITTEN[8..])?;
+    assert_eq!(rt; out.as_slice(), WRITTEN.as_slice());
+
+    let mut place = [1u8; 25];
+    let mut rest = place.as_mut_slice();
+    write_segment(&mut rest, &WRITTEN[8..])?;
+    assert_eq!(rt; rest.len(), 1);
+    let full = write_segment(&mut rest, &[]).err();
+    assert!(rt; full == Some(Error::from(ErrorKind::BufferNotLargeEnough)));
+    assert!(rt; place.starts_with(&WRITTEN));
+    assert_eq!(rt; place.last(), Some(&1));
+    Ok(())
+}
+
+#[test]
+fn a_short_write_is_no_whole_one(rt: HostRuntime) -> std::result::Result<(), Fail> {
+    let alloc = rt.alloc();
+    for n in 0..24 {
+        let mut out = Short {
+            held: Vec::new(alloc),
+            left: n,
+            failures: 0,
+        };
+        let failed = write_segment(&mut out, &WRITTEN[8..]).err();
+        assert!(rt; failed == Some(Error::from(ErrorKind::Device)), "at {n}");
+        assert_eq!(rt; out.failures(), 1, "at {n}");
+        assert_eq!(rt; out.held.as_slice(), &WRITTEN[..n], "at {n}");
+    }
+    Ok(())
+}
+
+#[test]
+fn buffered_bytes_keep_their_order(rt: HostRuntime) -> std::result::Result<(), Fail> {
+    let alloc = rt.alloc();
+    let mut held = Vec::new(alloc);
+    let mut out = Sink::buffered(alloc, &mut held)?;
+    let large = vec![in alloc; 7u8; 70000]?;
+    out.write_all(&[1, 2])?;
+    out.write_all(&large)?;
+    out.write_all(&[3])?;
+    out.flush()?;
+    assert_eq!(rt; out.failures(), 0);
+    drop(out);
+    assert_eq!(rt; held.len(), 70003);
+    assert_eq!(rt; held.first(), Some(&1));
+    assert_eq!(rt; held.last(), Some(&3));
+    Ok(())
+}
