@@ -1,23 +1,19 @@
 -- Calls at a struct: a path that is no name, a name that no field has, and a slot.
-use Rattle.std.proofs.Common.{◌≡◌, ℕ, ◌≤◌, Option, Some, None, List, [], ◌∷◌, length, refl, ap, sym, ◌∙◌, subst, arith}
-use Rattle.std.specs.declared.result.Result.{Result}
-use Rattle.std.specs.Prelude.{IfOk, OnOk, Ok, Err}
-use Rattle.capnp_units.specs.declared.errors.Error.{Error}
+use Rattle.std.proofs.Common.{◌≡◌, ℕ, ◌≤◌, Some, None, List, [], ◌∷◌, refl, ap, sym, subst}
 use Rattle.capnp_model.specs.Kinds.{WrongStep, FieldNotFound}
 use Rattle.capnp_model.specs.Trees.{Tree, structure, Trees, tree_count}
-use Rattle.capnp_model.specs.Schemas.{shape, Schema, Body}
+use Rattle.capnp_model.specs.Schemas.{shape, Schema}
 use Rattle.capnp_model.specs.Readings.{Record, record_of}
-use Rattle.capnp_model.specs.Printing.{fields_in}
-use Rattle.capnp_model.specs.Calls.{Step, name, index, Verb, Call}
+use Rattle.capnp_model.specs.Calls.{Step, name, index, Verb}
 use Rattle.capnp_model.specs.Steps.{target_of, no_target, target, at_target, step, step_field}
-use Rattle.capnp_model.specs.Edits.{Cell, edit, if_done, write_path}
+use Rattle.capnp_model.specs.Edits.{edit, if_done, write_path}
 use Rattle.capnp_model.specs.Answers.{reply_refused, reply_of}
 use Rattle.capnp_records.specs.Slots.{body_of_slot}
-use Rattle.capnp_records.specs.Structs.{words_in, pointers_in, nodes_around, id_of, shape_of_struct, fields_of_struct}
+use Rattle.capnp_records.specs.Structs.{words_in, pointers_in, id_of, shape_of_struct, fields_of_struct}
 use Rattle.capnp_records.specs.declared.slot.Slot.{Slot}
 use Rattle.capnp_records.specs.declared.structs.StructSchema.{StructSchema}
 use Rattle.capnp_calls.specs.Texts.{as_it_is}
-use Rattle.capnp_calls.specs.Taken.{only_name, schema_around, outcome_of, reply_to, tree_after}
+use Rattle.capnp_calls.specs.Taken.{only_name, schema_around, reply_to, tree_after}
 use Rattle.capnp_calls.specs.Replies.{slot_reply, slot_edit}
 use Rattle.capnp_calls.proofs.OneStep.{FieldsByName, slot_is, one_step_reply, one_step_edit, of_cell}
 

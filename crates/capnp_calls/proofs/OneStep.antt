@@ -1,5 +1,5 @@
 -- A call of one step is what it does at its slot.
-use Rattle.std.proofs.Common.{◌≡◌, ℕ, zero, suc, ◌≤◌, max, Bool, true, false, Option, Some, None, List, [], ◌∷◌, refl, ap, sym, ◌∙◌, subst, arith}
+use Rattle.std.proofs.Common.{◌≡◌, ℕ, zero, suc, ◌≤◌, max, Bool, true, false, Option, Some, None, List, [], ◌∷◌, refl, ap, sym, ◌∙◌, arith}
 use lib.Bits.{bit_xor, xor_zero_r}
 use Rattle.capnp_records.specs.Slots.{bits_of_width, body_of_slot, IsInside}
 use Rattle.capnp_records.specs.declared.slot.Slot.{Slot}
@@ -8,15 +8,14 @@ use Rattle.std.specs.Prelude.{◌==◌, if◌then◌else◌, length, take, slice
 use Rattle.capnp_model.specs.Kinds.{Kind, WrongElementSize, TextWithoutZeroByte}
 use Rattle.capnp_model.specs.Sections.{bits_at, numbers_in}
 use Rattle.capnp_model.specs.Trees.{Tree, null, capability, structure, plain_list, pointer_list, struct_list, Trees, none, ◌▸◌, tree_count, child, padded_to, size_bits, widened}
-use Rattle.capnp_model.specs.Schemas.{PlainType, bool, int, uint, Ty, void, plain, text, struct, Shape, shape, Fields, Body, plain_slot, pointer_slot, void_slot, Schema}
+use Rattle.capnp_model.specs.Schemas.{PlainType, bool, int, uint, Ty, void, plain, text, shape, Fields, Body, plain_slot, pointer_slot, void_slot, Schema}
 use Rattle.capnp_model.specs.Readings.{Reading, inactive, null_pointer, fault, number, text_of, blob_of, list_of, record_as, opaque, Record, Children, Extent, whole_words, is_active, only_if, fields_of, body_of, text_reading, read, read_child, record_of, record_by_shape, shape_record}
-use Rattle.capnp_model.specs.Printing.{As, as_type, as_body, print, nulls_as, on_one_line, fields_in}
-use Rattle.capnp_model.specs.Calls.{Step, name, Verb, get, set_to, init, initn, clear, Call, Content, refused_by, bits_of, object, slot_content}
-use Rattle.capnp_model.specs.Steps.{Outcome, refused, shown, done, outcome_map, Target, no_target, target, target_of, entry_of, replaced, at_target, got, reading_after, slot_type, at_field, step, step_field, step_path}
+use Rattle.capnp_model.specs.Printing.{As, as_type, as_body, print, fields_in}
+use Rattle.capnp_model.specs.Calls.{name, Verb, get, set_to, init, initn, clear, Call, Content, refused_by, bits_of, object, slot_content}
+use Rattle.capnp_model.specs.Steps.{Outcome, refused, shown, done, outcome_map, target, target_of, entry_of, replaced, at_target, got, reading_after, at_field, step, step_field, step_path}
 use Rattle.capnp_model.specs.Edits.{Cell, Edit, put_content, put_field, edit, edit_field, edit_struct, edit_named, edit_target, in_struct, if_done, write_path}
-use Rattle.capnp_model.specs.Answers.{Reply, reply_refused, text_reply, reply_of}
+use Rattle.capnp_model.specs.Answers.{text_reply, reply_of}
 use Rattle.capnp_calls.specs.Texts.{as_it_is}
-use Rattle.capnp_calls.specs.PointerTexts.{pointer_text}
 use Rattle.capnp_calls.specs.SlotTexts.{bool_text, signed_text, slot_text}
 use Rattle.capnp_calls.specs.Replies.{content_reply, slot_reply, slot_edit}
 use Rattle.capnp_calls.proofs.PointerTextLemmas.{pointer_printed}
@@ -225,7 +224,7 @@ module _ (law : FieldsByName) (s : Schema) (id nid w p : ℕ) (fs : Fields) (is_
       let new : Tree = write_path s (s.shape_of id) (name n ∷ []) verb (structure words section kids) in
       ap (λ o. if_done o new (structure words section kids)) (outcome_is verb words section kids)
       ∙ edited s (λ x. replaced n None x fs (fields_of fs None whole_words section (read_child s kids))) verb body is_slot words (record { section = section; kids = kids }) (body_of body whole_words section (read_child s kids)) new
-        (written verb words section kids wide long)
+      (written verb words section kids wide long)
 
 pub ruleset slot_rules = (slot_shown)
 

@@ -1,7 +1,7 @@
 -- Zeros and nulls behind what a struct has.
 use Rattle.std.proofs.Common.{◌≡◌, ℕ, zero, suc, ◌+◌, ◌*◌, ◌%◌, ◌^◌, ◌<◌, List, [], ◌∷◌, ◌++◌, length, refl, ap, rules, arith}
 use Rattle.capnp_model.specs.Sections.{section_of}
-use Rattle.capnp_model.specs.Trees.{Trees, none, ◌▸◌, padded_to, resized, null}
+use Rattle.capnp_model.specs.Trees.{none, ◌▸◌, padded_to, resized, null}
 use Rattle.capnp_value.specs.declared.value.Value.{Value, Null, the_lemmas}
 use Rattle.capnp_value.specs.Values.{tree_of_value, trees_of, trees_view}
 

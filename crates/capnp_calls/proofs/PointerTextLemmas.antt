@@ -1,7 +1,7 @@
 -- What printing makes of a pointer that is read as a Text.
-use Rattle.std.proofs.Common.{◌≡◌, ℕ, zero, suc, ◌==◌, Bool, true, false, if◌then◌else◌, List, [], ◌∷◌, length, take, refl, ap, ◌∙◌, arith, Option, Some, None}
+use Rattle.std.proofs.Common.{◌≡◌, ℕ, ◌==◌, Bool, true, false, if◌then◌else◌, List, [], ◌∷◌, length, take, refl, ap, ◌∙◌, arith, Option, Some, None}
 use Rattle.std.specs.Prelude.{slice_index}
-use Rattle.capnp_model.specs.Kinds.{Kind, WrongElementSize, TextWithoutZeroByte}
+use Rattle.capnp_model.specs.Kinds.{WrongElementSize, TextWithoutZeroByte}
 use Rattle.capnp_model.specs.Sections.{numbers_in}
 use Rattle.capnp_model.specs.Trees.{Tree, null, capability, structure, plain_list, pointer_list, struct_list, size_bits}
 use Rattle.capnp_model.specs.Schemas.{text, Schema}

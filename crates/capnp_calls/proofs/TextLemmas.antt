@@ -1,10 +1,9 @@
 -- Texts between quotes, and bytes by their numbers.
-use Rattle.std.proofs.Common.{◌≡◌, ℕ, ◌+◌, ◌<◌, Bool, true, false, cond, if◌then◌else◌, List, [], ◌∷◌, ◌++◌, length, get_or, take, refl, ap, sym, ◌∙◌, append_assoc, append-nil}
+use Rattle.std.proofs.Common.{◌≡◌, ℕ, Bool, true, false, if◌then◌else◌, List, [], ◌∷◌, ◌++◌, refl, ap, sym, ◌∙◌, append_assoc, append-nil}
 use Rattle.std.specs.Prelude.{codes}
 use Rattle.std.specs.Prelude.{map, decimal, nat_lt}
 use Rattle.std.specs.List.{flat_map, list_all}
 use Rattle.std.specs.Str.{is_utf8, IsUtf8}
-use Rattle.std.proofs.lemmas.List.{take_more, map-append, length-take}
 use Rattle.std.proofs.lemmas.Str.{is_utf8-from_IsUtf8, IsUtf8-from_is_utf8}
 use Rattle.capnp_model.specs.Printing.{escaped, joined, text_text}
 use Rattle.capnp_calls.specs.Texts.{as_it_is, number_list}
@@ -43,6 +42,7 @@ text_text-invalid bs h = by (is_utf8 bs) refl (λ e. ap (λ b. text_by b bs) e)
     by false e shown = shown e
 
 pub ruleset text_text_rules = (text_text-utf8, text_text-invalid)
+
 pub number_list-nil : number_list [] ≡ []
 unfolding number_list
 number_list-nil = refl

@@ -1,5 +1,5 @@
 -- What contracts see of calls.
-use Rattle.std.specs.Prelude.{ℕ, ◌^◌, nat_lt, if◌then◌else◌, Option, Some, None, Result, Ok, Err, List, [], ◌∷◌, map, string_bytes}
+use Rattle.std.specs.Prelude.{◌^◌, nat_lt, if◌then◌else◌, Option, Some, None, Result, Ok, Err, List, [], ◌∷◌, map, string_bytes}
 use Rattle.capnp_model.specs.Calls.{Step as ModelStep, name, index, CallValue as ModelValue, whole_number, truth, enumerant, text_value, blob_value, Verb as ModelVerb, get, set_to, init, initn, clear, Call as ModelCall}
 use Rattle.capnp_calls.specs.declared.call.Step.{Step}
 use Rattle.capnp_calls.specs.declared.call.Step.TheVariants as step

@@ -3,6 +3,7 @@ use Rattle.std.specs.Prelude.{◌≡◌, ℕ, ◌+◌, ◌^◌, ◌<◌, ◌≤�
 use Rattle.capnp_units.specs.declared.kinds.ErrorKind.{ErrorKind}
 use Rattle.capnp_units.specs.declared.kinds.ErrorKind.TheVariants as kind
 use Rattle.capnp_units.specs.Errors.{kind_of}
+use Rattle.capnp_model.specs.Fits.{Fits}
 use Rattle.capnp_model.specs.Calls.{Content, refused_by, bits_of, object}
 use Rattle.capnp_value.specs.Values.{tree_of_value}
 use Rattle.capnp_records.specs.Slots.{bits_of_width}
@@ -35,10 +36,11 @@ width_of (slot.Int width first) = bits_of_width width
 width_of (slot.UInt width first) = bits_of_width width
 width_of (slot.Text pointer) = 64
 
--- Bits are within those of the slot.
+-- Bits are within those of the slot, and a value fits.
 abbrev pub FitsInto : Slot → Change → Type 0
+FitsInto s (change.Refused k) = Unit {0}
 FitsInto s (change.Bits n) = n < 2 ^ width_of s
-FitsInto s _ = Unit {0}
+FitsInto s (change.Pointer v) = Fits (tree_of_value v)
 
 -- A list of so many elements is refused where it has too many, or where memory is wanted.
 abbrev pub IsLong : ℕ → ErrorKind → Type 0

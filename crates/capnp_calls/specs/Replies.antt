@@ -1,5 +1,4 @@
 -- What calls reply, and what they do to one slot.
-use Rattle.std.specs.Prelude.{◌≡◌, ℕ, List}
 use Rattle.capnp_units.specs.Errors.{kind_of}
 use Rattle.capnp_model.specs.Schemas.{Body, Schema}
 use Rattle.capnp_model.specs.Readings.{whole_words, body_of, read_child}

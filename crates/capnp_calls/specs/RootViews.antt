@@ -2,6 +2,7 @@
 use Rattle.std.specs.Prelude.{◌≡◌, ℕ, ◌+◌, ◌*◌, ◌%◌, ◌≤◌, ◌<◌, Option, Some, None, vec_len}
 use Rattle.capnp_model.specs.Sections.{section_of}
 use Rattle.capnp_model.specs.Trees.{Tree, null, structure, widened}
+use Rattle.capnp_model.specs.Fits.{FitEach}
 use Rattle.capnp_model.specs.Edits.{Cell}
 use Rattle.capnp_value.specs.Values.{trees_of, trees_view}
 use Rattle.capnp_calls.specs.declared.root.StructValue.{StructValue}
@@ -19,6 +20,10 @@ cell_of r = record { section = section_of r.words.items; kids = trees_of (trees_
 -- The tree of a struct.
 abbrev pub struct_tree : StructValue → Tree
 struct_tree r = structure (vec_len r.words) (cell_of r).section (cell_of r).kids
+
+-- The values of a struct's pointers fit.
+abbrev pub HasFitting : StructValue → Type 0
+HasFitting r = FitEach (cell_of r).kids
 
 -- The sizes of a struct stay.
 pub record SameSizes (old new : StructValue) : Type 0 where

@@ -6,7 +6,7 @@ ghost use Rattle.capnp_model.specs.Schemas.{Schema};
 ghost use Rattle.capnp_records.specs.Slots.{body_of_slot, IsInside};
 ghost use Rattle.capnp_records.specs.Structs.{words_in, pointers_in, shape_of_struct};
 ghost use Rattle.capnp_calls.specs.CallViews.{action_view, call_view};
-ghost use Rattle.capnp_calls.specs.RootViews.{cell_of, struct_tree, SameSizes};
+ghost use Rattle.capnp_calls.specs.RootViews.{cell_of, struct_tree, HasFitting, SameSizes};
 ghost use Rattle.capnp_calls.specs.Changes.{IsWant};
 ghost use Rattle.capnp_calls.specs.Replies.{reply_view, slot_reply, slot_edit};
 ghost use Rattle.capnp_calls.specs.Taken.{only_name, reply_to, tree_after};
@@ -31,6 +31,7 @@ fn answer_slot(alloc: Global, root: &mut StructValue, slot: Slot, action: &Actio
     ensures reply { IfOk result (λ r. (s : Schema) → reply_view r ≡ slot_reply s (action_view action.now) (body_of_slot slot) (cell_of root.old)) }
     ensures cell { OnOk result ((s : Schema) → cell_of root.new ≡ slot_edit s (action_view action.now) (body_of_slot slot) (cell_of root.old)) }
     ensures sizes { SameSizes root.old root.new }
+    ensures fitting { HasFitting root.old → HasFitting root.new }
     ensures refusal { IfErr result (λ e. IsWant action.now e.kind) }
 {
     match action {
@@ -39,9 +40,7 @@ fn answer_slot(alloc: Global, root: &mut StructValue, slot: Slot, action: &Actio
             let change = set_change(alloc, slot, value)?;
             Ok(put_change(root, slot, change))
         }
-        Action::Init => Ok(Reply::Refused(
-            ErrorKind::InitIsOnlyValidForStructAndAnyPointerFields,
-        )),
+        Action::Init => Ok(Reply::Refused(ErrorKind::InitIsOnlyValidForStructAndAnyPointerFields)),
         Action::Initn(len) => {
             let change = initn_change(alloc, slot, *len)?;
             Ok(put_change(root, slot, change))
@@ -73,6 +72,7 @@ pub fn answer_call(
     ensures reply { IfOk result (λ r. reply_view r ≡ reply_to schema.entry (call_view call.now) (struct_tree root.old)) }
     ensures tree { OnOk result (struct_tree root.new ≡ tree_after schema.entry (call_view call.now) (struct_tree root.old)) }
     ensures sizes { SameSizes root.old root.new }
+    ensures fitting { HasFitting root.old → HasFitting root.new }
     ensures refusal { IfErr result (λ e. IsWant call.now.action e.kind) }
 {
     laws::fields_by_name();

@@ -2,6 +2,7 @@
 
 ghost use Rattle.std.specs.Prelude.{◌≡◌, ◌≢◌, ◌≤◌, ◌+◌, ◌^◌, IfOk, IfErr, length};
 ghost use Rattle.capnp_model.specs.Trees.{plain_list};
+ghost use Rattle.capnp_model.specs.Fits.{Fits};
 ghost use Rattle.capnp_model.specs.Schemas.{Schema};
 ghost use Rattle.capnp_model.specs.Calls.{set_to, initn, clear, text_tree, slot_content};
 ghost use Rattle.capnp_units.specs.declared.kinds.ErrorKind.{ErrorKind};
@@ -13,8 +14,8 @@ ghost use Rattle.capnp_calls.specs.Changes.{change_of_bits, change_view, FitsInt
 use crate::bytes::words_of_bytes;
 use crate::call::SlotValue;
 use crate::number::{signed_bits, unsigned_bits};
-use capnp_records::slot::Slot;
 use capnp_model::laws;
+use capnp_records::slot::Slot;
 use capnp_units::errors::{Error, Result};
 use capnp_units::kinds::ErrorKind;
 use capnp_value::value::Value;
@@ -41,11 +42,13 @@ fn bits_or_mismatch(bits: Option<u64>) -> Change
 /// A text and the zero byte behind it. `SizeOverflow`: both together have 2^29 bytes or more.
 fn text_value(alloc: Global, text: &[u8]) -> Result<Value>
     ensures value { IfOk result (λ v. tree_of_value v ≡ text_tree text.now) }
+    ensures fits { IfOk result (λ v. Fits (tree_of_value v)) }
     ensures refusal { IfErr result (λ e. IsLong (length text.now + 1) e.kind) }
 {
     if text.len() >= 0x1fff_ffff {
         return Err(Error::from(ErrorKind::SizeOverflow));
     }
+    laws::fitting_values();
     let mut bytes = text.to_vec(alloc)?;
     bytes.push(0)?;
     Ok(Value::List {
@@ -58,12 +61,14 @@ fn text_value(alloc: Global, text: &[u8]) -> Result<Value>
 /// A text of so many zero bytes. `SizeOverflow`: with the one behind them they are 2^29 or more.
 fn blank_text(alloc: Global, len: u32) -> Result<Value>
     ensures value { IfOk result (λ v. tree_of_value v ≡ plain_list 2 (len + 1) 0) }
+    ensures fits { IfOk result (λ v. Fits (tree_of_value v)) }
     ensures refusal { IfErr result (λ e. IsLong (len + 1) e.kind) }
 {
     if len >= 0x1fff_ffff {
         return Err(Error::from(ErrorKind::SizeOverflow));
     }
     laws::numbers_one_by_one();
+    laws::fitting_values();
     Ok(Value::List {
         size: 2,
         count: len + 1,
@@ -101,9 +106,7 @@ pub fn initn_change(alloc: Global, slot: Slot, len: u32) -> Result<Change>
 {
     match slot {
         Slot::Text { .. } => Ok(Change::Pointer(blank_text(alloc, len)?)),
-        _ => Ok(Change::Refused(
-            ErrorKind::InitnIsOnlyValidForListTextOrDataFields,
-        )),
+        _ => Ok(Change::Refused(ErrorKind::InitnIsOnlyValidForListTextOrDataFields)),
     }
 }
 

@@ -16,11 +16,7 @@ use capnp_units::kinds::ErrorKind;
 use std::alloc::{AllocError, Global};
 
 /// The text of a slot's value; none where it is a pointer that can't be read.
-fn shown_slot(
-    alloc: Global,
-    root: &StructValue,
-    slot: Slot,
-) -> Result<Option<Vec<u8>>, AllocError>
+fn shown_slot(alloc: Global, root: &StructValue, slot: Slot) -> Result<Option<Vec<u8>>, AllocError>
     requires { IsInside (vec_len root.now.words) (vec_len root.now.children) slot }
     ensures { IfOk result (λ o. option_map (λ v. v.items) o ≡ slot_text slot (cell_of root.now)) }
 {

@@ -26,7 +26,11 @@ pub fn signed_bits(number: i128, width: u32) -> Option<u64>
     let half = 1i128 << (width - 1);
     if number < 0 {
         let below = -(number + 1);
-        if below < half { Some(all_ones(width) - below as u64) } else { None }
+        if below < half {
+            Some(all_ones(width) - below as u64)
+        } else {
+            None
+        }
     } else if number < half {
         Some(number as u64)
     } else {

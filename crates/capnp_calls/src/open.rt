@@ -2,6 +2,7 @@
 
 ghost use Rattle.std.specs.Prelude.{◌≡◌, ◌≤◌, max, IfOk, IfSome, option_map, vec_len};
 ghost use Rattle.capnp_model.specs.Sections.{section_of};
+ghost use Rattle.capnp_model.specs.Fits.{Fits};
 ghost use Rattle.capnp_model.specs.Trees.{structure, padded_to};
 ghost use Rattle.capnp_value.specs.Values.{tree_of_value, trees_of, trees_view};
 ghost use Rattle.capnp_calls.specs.RootViews.{struct_tree, struct_from};
@@ -44,7 +45,9 @@ fn padded(
     ensures tree { IfOk result (λ r. struct_tree r ≡ structure (max data_words (vec_len words)) (section_of words.items) (padded_to pointers (trees_of (trees_view children.items)))) }
     ensures words { IfOk result (λ r. data_words ≤ vec_len r.words) }
     ensures pointers { IfOk result (λ r. pointers ≤ vec_len r.children) }
+    ensures fits { Fits (structure (vec_len words) (section_of words.items) (trees_of (trees_view children.items))) → IfOk result (λ r. Fits (struct_tree r)) }
 {
+    laws::fitting_values();
     Ok(StructValue {
         words: padded_words(words, data_words as usize)?,
         children: padded_children(children, pointers as usize)?,
@@ -62,6 +65,7 @@ pub fn open_struct(
     ensures tree { IfOk result (λ o. option_map struct_tree o ≡ struct_from data_words pointers (tree_of_value value)) }
     ensures words { IfOk result (λ o. IfSome o (λ r. data_words ≤ vec_len r.words)) }
     ensures pointers { IfOk result (λ o. IfSome o (λ r. pointers ≤ vec_len r.children)) }
+    ensures fits { Fits (tree_of_value value) → IfOk result (λ o. IfSome o (λ r. Fits (struct_tree r))) }
 {
     match value {
         Value::Null => {

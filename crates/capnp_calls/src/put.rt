@@ -3,7 +3,7 @@
 ghost use Rattle.std.specs.Prelude.{◌≡◌, vec_len};
 ghost use Rattle.capnp_model.specs.Edits.{put_content};
 ghost use Rattle.capnp_records.specs.Slots.{IsInside, body_of_slot};
-ghost use Rattle.capnp_calls.specs.RootViews.{cell_of, SameSizes};
+ghost use Rattle.capnp_calls.specs.RootViews.{cell_of, HasFitting, SameSizes};
 ghost use Rattle.capnp_calls.specs.Changes.{change_view, FitsInto};
 ghost use Rattle.capnp_calls.specs.Replies.{reply_view, content_reply};
 
@@ -18,6 +18,7 @@ pub fn put_change(root: &mut StructValue, slot: Slot, change: Change) -> Reply
     requires fits { FitsInto slot change }
     ensures cell { cell_of root.new ≡ put_content (body_of_slot slot) (change_view change) (cell_of root.old) }
     ensures sizes { SameSizes root.old root.new }
+    ensures fitting { HasFitting root.old → HasFitting root.new }
     ensures reply { reply_view result ≡ content_reply (change_view change) }
 {
     match (slot, change) {

@@ -3,11 +3,13 @@
 ghost use Rattle.std.specs.Prelude.{◌≡◌, ◌+◌, ◌*◌, ◌%◌, ◌^◌, ◌<◌, ◌≤◌, vec_len};
 ghost use Rattle.capnp_model.specs.Sections.{bits_at};
 ghost use Rattle.capnp_model.specs.Trees.{with_child, child};
+ghost use Rattle.capnp_model.specs.Fits.{Fits};
 ghost use Rattle.capnp_model.specs.Edits.{put_bits, put_child};
 ghost use Rattle.capnp_value.specs.Values.{tree_of_value};
-ghost use Rattle.capnp_calls.specs.RootViews.{LiesIn, cell_of, SameSizes};
+ghost use Rattle.capnp_calls.specs.RootViews.{LiesIn, cell_of, HasFitting, SameSizes};
 
 use crate::section;
+use capnp_model::laws;
 use capnp_value::value::Value;
 
 /// A struct: the words of its data section, and the values of its pointers.
@@ -49,6 +51,8 @@ pub fn set_pointer(root: &mut StructValue, index: u32, value: Value)
     requires { index < vec_len root.old.children }
     ensures cell { cell_of root.new ≡ put_child index (tree_of_value value) (cell_of root.old) }
     ensures sizes { SameSizes root.old root.new }
+    ensures fitting { HasFitting root.old → Fits (tree_of_value value) → HasFitting root.new }
 {
+    laws::fitting_values();
     root.children[index as usize] = value;
 }

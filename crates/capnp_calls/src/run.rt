@@ -3,7 +3,7 @@
 ghost use Rattle.std.specs.Prelude.{◌≡◌, ◌≤◌, IfOk, OnOk, IfErr, map, vec_len};
 ghost use Rattle.capnp_records.specs.Structs.{words_in, pointers_in, shape_of_struct};
 ghost use Rattle.capnp_calls.specs.CallViews.{call_view};
-ghost use Rattle.capnp_calls.specs.RootViews.{struct_tree, SameSizes};
+ghost use Rattle.capnp_calls.specs.RootViews.{struct_tree, HasFitting, SameSizes};
 ghost use Rattle.capnp_calls.specs.Replies.{reply_view};
 ghost use Rattle.capnp_calls.specs.Taken.{replies_to, tree_after_all};
 ghost use Rattle.capnp_calls.specs.Changes.{EndsRun};
@@ -28,6 +28,7 @@ pub fn run_at(
     ensures replies { IfOk result (λ v. map reply_view v.items ≡ replies_to schema.entry (map call_view calls.now) (struct_tree root.old)) }
     ensures tree { OnOk result (struct_tree root.new ≡ tree_after_all schema.entry (map call_view calls.now) (struct_tree root.old)) }
     ensures sizes { SameSizes root.old root.new }
+    ensures fitting { HasFitting root.old → HasFitting root.new }
     ensures refusal { IfErr result (λ e. EndsRun calls.now e.kind) }
 {
     let mut replies = Vec::new(alloc);

@@ -48,7 +48,11 @@ fn with_field(word: u64, at: u32, width: u32, value: u64) -> u64
     }
     laws::numbers_in_sections();
     let below = word % (1 << at);
-    joined(joined(bits_above(word, at + width), value, width), below, at)
+    joined(
+        joined(bits_above(word, at + width), value, width),
+        below,
+        at,
+    )
 }
 
 /// The number in so many bits of a section, from `at` on, which lie in one word.

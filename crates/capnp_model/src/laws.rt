@@ -4,7 +4,7 @@ ghost use Rattle.std.specs.Prelude.{◌≡◌, ℕ, ◌+◌, ◌*◌, ◌^◌, �
 ghost use Rattle.std.specs.List.{AllByRecursion};
 ghost use Rattle.capnp_model.specs.Sections.{bits_at, with_bits, numbers_in, number_of, words_of, section_of};
 ghost use Rattle.capnp_model.specs.Segments.{Segments, Place, root, word_at, words_at};
-ghost use Rattle.capnp_model.specs.Trees.{Tree, structure, plain_list, Trees, tree_count, padded_to, depth, has_capability};
+ghost use Rattle.capnp_model.specs.Trees.{Tree, structure, plain_list, Trees, tree_count, with_child, widened, depth, has_capability};
 ghost use Rattle.capnp_model.specs.Trimming.{trim};
 ghost use Rattle.capnp_model.specs.Traversal.{tree_at, cost_at};
 ghost use Rattle.capnp_model.specs.Means.{Means};
@@ -20,14 +20,14 @@ ghost use Rattle.capnp_model.specs.Schemas.{struct, Node, Shape, Fields, Body, S
 ghost use Rattle.capnp_model.specs.Readings.{Record, Extent, Children, record_of, shape_record, fields_of, body_of, is_active, only_if};
 ghost use Rattle.capnp_model.specs.Printing.{fields_in};
 ghost use Rattle.capnp_model.specs.Steps.{done, step, target, target_of, entry_of};
-ghost use Rattle.capnp_model.specs.Edits.{Cell, put_content, edit};
+ghost use Rattle.capnp_model.specs.Edits.{edit};
 ghost use Rattle.capnp_model.specs.NamedPaths.{IsInRange, IsOpen, GoesByNames};
 ghost use Rattle.capnp_model.specs.Accepted.{IsAccepted, areas_of, schema_of};
 ghost use Rattle.capnp_model.specs.Views.{View, SameAll};
 ghost use Rattle.capnp_model.specs.Compatible.{IsCompatible};
 ghost use Rattle.capnp_model.specs.Projection.{projected};
 ghost use Rattle.capnp_model.specs.InKind.{in_kind};
-ghost use Rattle.capnp_model.specs.Calls.{Content, object, blob_tree, Call};
+ghost use Rattle.capnp_model.specs.Calls.{blob_tree, Call};
 ghost use Rattle.capnp_model.specs.Answers.{Limits, value_within, answer};
 ghost use Rattle.capnp_model.specs.Spelling.{AreWords, CanSpell, Frames, Packs};
 
@@ -93,10 +93,10 @@ pub fn trimmed_values()
     ensures depth { (t : Tree) → depth (trim t) ≤ depth t }
 {}
 
-/// What a slot is changed into, children that are filled up, structs of words, and texts fit their pointers and lists.
+/// Values with another child, widened structs, structs of words, and texts fit.
 pub fn fitting_values()
-    ensures put { (b : Body) (x : Content) (c : Cell) → FitEach c.kids → ((t : Tree) → x ≡ object t → Fits t) → FitEach (put_content b x c).kids }
-    ensures padded { (n : ℕ) (ts : Trees) → FitEach ts → FitEach (padded_to n ts) }
+    ensures child { (ts : Trees) (i : ℕ) (t : Tree) → FitEach ts → Fits t → FitEach (with_child ts i t) }
+    ensures widened { (words pointers : ℕ) (t : Tree) → words < 2 ^ 16 → pointers < 2 ^ 16 → Fits t → Fits (widened words pointers t) }
     ensures words { (ws : List ℕ) (kids : Trees) → length ws < 2 ^ 16 → tree_count kids < 2 ^ 16 → FitEach kids → Fits (structure (length ws) (section_of ws) kids) }
     ensures bytes { (bs : List ℕ) → length bs < 2 ^ 29 → Fits (blob_tree bs) }
     ensures zeros { (n : ℕ) → n < 2 ^ 29 → Fits (plain_list 2 n 0) }

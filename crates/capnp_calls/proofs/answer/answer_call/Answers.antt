@@ -1,4 +1,4 @@
-use Rattle.std.proofs.Common.{◌≡◌, ◌≤◌, length, vec_len, ap, sym, ◌∙◌, subst, rules, arith}
+use Rattle.std.proofs.Common.{◌≡◌, ◌≤◌, length, vec_len, ap, ◌∙◌, rules, arith}
 use Rattle.std.proofs.lemmas.Result.{IfOk-weaker, on_ok_weaker}
 use Rattle.capnp_model.specs.Trees.{tree_count}
 use Rattle.capnp_model.specs.Schemas.{Schema}
@@ -31,7 +31,7 @@ pub returns-clause-reply : goal.returns-clause-reply
 returns-clause-reply c =
     let old = c.args.root.now in
     IfOk-weaker c.answer_slot.result _ _ (λ r h. h (schema_around c.args.schema) ∙ found_reply c.fields_by_name.ensures c.args.schema c.id-id.result c.id-id.ensures.shape (action_view c.args.call.now.action) c.in-Some-find_slot.slot
-      (call_view c.args.call.now).path c.in-Some.name.now c.in-Some.ensures c.in-Some-find_slot.ensures.found (vec_len old.words) (cell_of old).section (cell_of old).kids) c.answer_slot.ensures.reply
+    (call_view c.args.call.now).path c.in-Some.name.now c.in-Some.ensures c.in-Some-find_slot.ensures.found (vec_len old.words) (cell_of old).section (cell_of old).kids) c.answer_slot.ensures.reply
 
 pub returns-clause-tree : goal.returns-clause-tree
 returns-clause-tree c =
@@ -39,7 +39,7 @@ returns-clause-tree c =
     let count = tree_count-trees_of old.children.items in
     let long : pointers_in (shape_of_struct c.args.schema) ≤ tree_count (cell_of old).kids = let bound : pointers_in (shape_of_struct c.args.schema) ≤ length old.children.items = search rules in omega (arith, bound, count) in
     on_ok_weaker c.answer_slot.result (λ (h : (s : Schema) → cell_of c.answer_slot.new.root ≡ slot_edit s (action_view c.args.call.now.action) (body_of_slot c.in-Some-find_slot.slot) (cell_of old)).
-      ap (λ n. of_cell n (cell_of c.answer_slot.new.root)) c.answer_slot.ensures.sizes.words
-      ∙ ap (of_cell (vec_len old.words)) (h (schema_around c.args.schema))
-      ∙ found_tree c.fields_by_name.ensures c.args.schema c.id-id.result c.id-id.ensures.shape (action_view c.args.call.now.action) c.in-Some-find_slot.slot
-        (call_view c.args.call.now).path c.in-Some.name.now c.in-Some.ensures c.in-Some-find_slot.ensures.found (vec_len old.words) (cell_of old).section (cell_of old).kids c.requires.words long) c.answer_slot.ensures.cell
+    ap (λ n. of_cell n (cell_of c.answer_slot.new.root)) c.answer_slot.ensures.sizes.words
+    ∙ ap (of_cell (vec_len old.words)) (h (schema_around c.args.schema))
+    ∙ found_tree c.fields_by_name.ensures c.args.schema c.id-id.result c.id-id.ensures.shape (action_view c.args.call.now.action) c.in-Some-find_slot.slot
+    (call_view c.args.call.now).path c.in-Some.name.now c.in-Some.ensures c.in-Some-find_slot.ensures.found (vec_len old.words) (cell_of old).section (cell_of old).kids c.requires.words long) c.answer_slot.ensures.cell

@@ -1,4 +1,4 @@
-use Rattle.std.proofs.Common.{◌≡◌, sym, ap, ◌∙◌}
+use Rattle.std.proofs.Common.{sym, ap, ◌∙◌}
 use Rattle.capnp_model.specs.Edits.{put_content}
 use Rattle.capnp_records.specs.Slots.{body_of_slot}
 use Rattle.capnp_calls.specs.RootViews.{cell_of}

@@ -1,4 +1,4 @@
-use Rattle.std.proofs.Common.{◌≡◌, ℕ, ◌+◌, ◌*◌, ◌/◌, ◌%◌, ◌≤◌, ap, sym, ◌∙◌, arith}
+use Rattle.std.proofs.Common.{◌≡◌, ◌+◌, ◌*◌, ◌/◌, ◌%◌, ◌≤◌, ap, sym, ◌∙◌, arith}
 use Rattle.capnp_model.specs.Sections.{bits_at, section_of}
 use Rattle.capnp_calls.proofs.bytes.byte_in.Goals as goal
 

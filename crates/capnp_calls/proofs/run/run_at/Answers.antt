@@ -1,4 +1,4 @@
-use Rattle.std.proofs.Common.{◌≡◌, ℕ, suc, ◌+◌, List, ◌∷◌, [], ◌++◌, drop, length, refl, ap, sym, ◌∙◌, add-one, inr}
+use Rattle.std.proofs.Common.{◌≡◌, ℕ, suc, ◌+◌, List, ◌∷◌, [], ◌++◌, drop, ap, sym, ◌∙◌, add-one, inr}
 use Rattle.std.specs.Prelude.{map}
 use Rattle.std.proofs.Math.Seq.{drop-cons}
 use Rattle.std.proofs.lemmas.List.{map-append, drop_all}
@@ -28,13 +28,14 @@ loop-call-preserved c =
     let new : Tree = struct_tree c.answer_call.new.root in
     record {
       replies =
-        ap (λ x. x ++ replies_to c.args.schema (map call_view behind) new) pushed
-        ∙ replies_to-more c.args.schema before (call_view this) (map call_view behind) old new (reply_view c.in_ok-answer_call.field-0) c.in_ok-answer_call.ensures.reply c.in_ok-answer_call.ensures.tree
-        ∙ ap (λ x. before ++ replies_to c.args.schema x old) (sym seen) ∙ c.loop-call.invariant.replies;
+          ap (λ x. x ++ replies_to c.args.schema (map call_view behind) new) pushed
+          ∙ replies_to-more c.args.schema before (call_view this) (map call_view behind) old new (reply_view c.in_ok-answer_call.field-0) c.in_ok-answer_call.ensures.reply c.in_ok-answer_call.ensures.tree
+          ∙ ap (λ x. before ++ replies_to c.args.schema x old) (sym seen) ∙ c.loop-call.invariant.replies;
       tree =
-        tree_after_all-more c.args.schema (call_view this) (map call_view behind) old new c.in_ok-answer_call.ensures.tree
-        ∙ ap (λ x. tree_after_all c.args.schema x old) (sym seen) ∙ c.loop-call.invariant.tree;
+          tree_after_all-more c.args.schema (call_view this) (map call_view behind) old new c.in_ok-answer_call.ensures.tree
+          ∙ ap (λ x. tree_after_all c.args.schema x old) (sym seen) ∙ c.loop-call.invariant.tree;
       sizes = record { words = c.answer_call.ensures.sizes.words ∙ c.loop-call.invariant.sizes.words; pointers = c.answer_call.ensures.sizes.pointers ∙ c.loop-call.invariant.sizes.pointers };
+      fitting = λ f. c.answer_call.ensures.fitting (c.loop-call.invariant.fitting f);
     }
 
 pub returns-clause-replies : goal.returns-clause-replies
@@ -52,3 +53,12 @@ pub returns-in_err-answer_call-clause-refusal : goal.returns-in_err-answer_call-
 returns-in_err-answer_call-clause-refusal c =
     let p = err_from_is_err_and c.from_residual.result c.from_residual.ensures.1 in
     rw (p.1, p.2) (inr (c.loop-call.call-index, c.call-item.result, c.loop-call-test.true, sym c.call-item.is, c.in_err-answer_call.ensures.refusal))
+
+pub returns-clause-fitting : goal.returns-clause-fitting
+returns-clause-fitting c = c.loop-call.invariant.fitting
+
+pub returns-in_err-push-clause-fitting : goal.returns-in_err-push-clause-fitting
+returns-in_err-push-clause-fitting c = λ f. c.answer_call.ensures.fitting (c.loop-call.invariant.fitting f)
+
+pub returns-in_err-answer_call-clause-fitting : goal.returns-in_err-answer_call-clause-fitting
+returns-in_err-answer_call-clause-fitting c = λ f. c.answer_call.ensures.fitting (c.loop-call.invariant.fitting f)

@@ -1,4 +1,4 @@
-use Rattle.std.proofs.Common.{◌≡◌, ℕ, ◌+◌, ◌*◌, ◌/◌, ◌%◌, ◌^◌, ◌≤◌, ◌<◌, length, get_or, ap, sym, ◌∙◌, rules, arith}
+use Rattle.std.proofs.Common.{◌≡◌, ◌+◌, ◌*◌, ◌/◌, ◌%◌, ◌^◌, ◌<◌, length, get_or, ap, ◌∙◌, rules, arith}
 use Rattle.std.specs.Prelude.{slice_set}
 use Rattle.capnp_model.specs.Sections.{with_bits, section_of}
 use Rattle.capnp_calls.proofs.section.put_bits.Goals as goal
