@@ -1,6 +1,7 @@
 -- The values without a capability.
-use Rattle.std.proofs.Common.{◌≡◌, ℕ, zero, suc, ◌+◌, ◌<◌, ◌≤◌, Bool, true, false, not, ◌&&◌, ◌||◌, leb, List, length, drop, take, Option, Some, None, Result, Ok, Err, refl, ap, sym, ◌∙◌, arith}
+use Rattle.std.proofs.Common.{◌≡◌, ℕ, pos, zero, suc, ◌+◌, ◌<◌, ◌≤◌, Bool, true, false, not, ◌&&◌, ◌||◌, leb, List, length, drop, take, Option, Some, None, Result, Ok, Err, refl, ap, sym, ◌∙◌, arith}
 use Rattle.std.specs.Option.{option_map, IfSome}
+use Rattle.std.specs.Result.{result_ok}
 use Rattle.std.specs.Prelude.{IfOk}
 use Rattle.std.specs.declared.alloc.AllocError.{AllocError}
 use Rattle.std.proofs.lemmas.Bool.{le-leb, leb-true}
@@ -99,7 +100,7 @@ module _ (f c : Place → Option Tree) (h : (q : Place) → c q ≡ cleaned (f q
   unfolding has_capability
   list_clean p of_bits size n ws = refl
   list_clean p of_pointers size n ws = rw (each_clean p n) (wrap_row (λ ts. Tree.pointer_list ts) (each f p n) (λ ts. refl))
-  list_clean p of_structs size n ws = behind (tag_in ws) _ _ (λ t. rw (elements_clean (after p 1) (drop 1 ws) t.data_words t.pointers t.count) (wrap_elements (λ es. struct_list t.data_words t.pointers es) (each_element f (after p 1) (drop 1 ws) t.data_words t.pointers t.count) (λ es. refl)))
+  list_clean p of_structs size n ws = behind (result_ok (tag_in ws)) _ _ (λ t. rw (elements_clean (after p 1) (drop 1 ws) t.data_words t.pointers t.count) (wrap_elements (λ es. struct_list t.data_words t.pointers es) (each_element f (after p 1) (drop 1 ws) t.data_words t.pointers t.count) (λ es. refl)))
 
   object_clean : (s : Segments) (o : Object) → clean_of s c o ≡ cleaned (tree_of s f o)
   unfolding has_capability
@@ -118,20 +119,24 @@ leaf_clean (a_list p size n) = refl
 -- THE LAW: what is read is the model's value, where it has no capability.
 pub clean_is : (n : ℕ) (s : Segments) (p : Place) → clean_at n s p ≡ (tree_at n s p >>= λ t. t provided not (has_capability t))
 unfolding clean_at tree_at
-clean_is zero s p = behind (found_at s p) _ _ (λ f. leaf_clean f.object)
-clean_is (suc n) s p = behind (found_at s p) _ _ (λ f. object_clean (tree_at n s) (clean_at n s) (λ q. clean_is n s q) s f.object)
+clean_is zero s p = behind (result_ok (found_at s p)) _ _ (λ f. leaf_clean f.object)
+clean_is (suc n) s p = behind (result_ok (found_at s p)) _ _ (λ f. object_clean (tree_at n s) (clean_at n s) (λ q. clean_is n s q) s f.object)
 
 -- ---- within the limits
 
-module _ (limits : Limits) (s : Segments) where
-  within_some : (t : Tree) → clean_at limits.nesting s root ≡ Some t → cost_at limits.nesting s root ≤ limits.words → Some t ≡ value_within limits s
+-- the limits that so many words and levels are
+abbrev bounds : ℕ → ℕ → Limits
+bounds words nesting = record { words = Some words; nesting = pos nesting }
+
+module _ (words nesting : ℕ) (s : Segments) where
+  within_some : (t : Tree) → clean_at nesting s root ≡ Some t → cost_at nesting s root ≤ words → Some t ≡ value_within (bounds words nesting) s
   unfolding value_within
-  within_some t e le = by (tree_at limits.nesting s root) (sym (clean_is limits.nesting s root) ∙ e)
+  within_some t e le = by (tree_at nesting s root) (sym (clean_is nesting s root) ∙ e)
     where
-      fits : leb (cost_at limits.nesting s root) limits.words ≡ true
+      fits : leb (cost_at nesting s root) words ≡ true
       fits = le-leb _ _ le
 
-      by : (o : Option Tree) → cleaned o ≡ Some t → Some t ≡ (o >>= λ u. u provided (not (has_capability u) && leb (cost_at limits.nesting s root) limits.words))
+      by : (o : Option Tree) → cleaned o ≡ Some t → Some t ≡ (o >>= λ u. u provided (not (has_capability u) && leb (cost_at nesting s root) words))
       by None h = absurd cc
       by (Some u) h = rw fits (case (has_capability u) h)
         where
@@ -139,59 +144,59 @@ module _ (limits : Limits) (s : Segments) where
           case true g = absurd cc
           case false g = sym g
 
-  within_none : ((t : Tree) → clean_at limits.nesting s root ≡ Some t → limits.words < cost_at limits.nesting s root) → None ≡ value_within limits s
+  within_none : ((t : Tree) → clean_at nesting s root ≡ Some t → words < cost_at nesting s root) → None ≡ value_within (bounds words nesting) s
   unfolding value_within
-  within_none h = by (tree_at limits.nesting s root) (λ t g. h t (clean_is limits.nesting s root ∙ g))
+  within_none h = by (tree_at nesting s root) (λ t g. h t (clean_is nesting s root ∙ g))
     where
-      by : (o : Option Tree) → ((t : Tree) → cleaned o ≡ Some t → limits.words < cost_at limits.nesting s root) → None ≡ (o >>= λ u. u provided (not (has_capability u) && leb (cost_at limits.nesting s root) limits.words))
+      by : (o : Option Tree) → ((t : Tree) → cleaned o ≡ Some t → words < cost_at nesting s root) → None ≡ (o >>= λ u. u provided (not (has_capability u) && leb (cost_at nesting s root) words))
       by None g = refl
       by (Some u) g = case (has_capability u) (g u)
         where
-          dear : limits.words < cost_at limits.nesting s root → leb (cost_at limits.nesting s root) limits.words ≡ false
+          dear : words < cost_at nesting s root → leb (cost_at nesting s root) words ≡ false
           dear lt = grind (arith, nat_tests)
 
-          case : (b : Bool) → ((u provided not b) ≡ Some u → limits.words < cost_at limits.nesting s root) → None ≡ (u provided (not b && leb (cost_at limits.nesting s root) limits.words))
+          case : (b : Bool) → ((u provided not b) ≡ Some u → words < cost_at nesting s root) → None ≡ (u provided (not b && leb (cost_at nesting s root) words))
           case true k = refl
           case false k = let far = dear (k refl) in rw far refl
 
   -- what reading the root gives is the value within the limits
-  pub within_is : (found : Option Value) (left : ℕ) → Reads tree_of_value (clean_at limits.nesting s root) (cost_at limits.nesting s root) limits.words (Ok found) left → option_map tree_of_value found ≡ value_within limits s
+  pub within_is : (found : Option Value) (left : ℕ) → Reads tree_of_value (clean_at nesting s root) (cost_at nesting s root) words (Ok found) left → option_map tree_of_value found ≡ value_within (bounds words nesting) s
   within_is None left r = within_none r
   within_is (Some v) left r = let paid = r.1 in within_some (tree_of_value v) r.0 (omega arith)
 
-  pub within_gives : (r : Result (Option Value) AllocError) (left : ℕ) → Reads tree_of_value (clean_at limits.nesting s root) (cost_at limits.nesting s root) limits.words r left → IfOk r (λ found. option_map tree_of_value found ≡ value_within limits s)
+  pub within_gives : (r : Result (Option Value) AllocError) (left : ℕ) → Reads tree_of_value (clean_at nesting s root) (cost_at nesting s root) words r left → IfOk r (λ found. option_map tree_of_value found ≡ value_within (bounds words nesting) s)
   within_gives (Ok found) left r = within_is found left r
   within_gives (Err e) left r = tt
 
-  within_cost : (t : Tree) → value_within limits s ≡ Some t → (tree_at limits.nesting s root ≡ Some t) × (cost_at limits.nesting s root ≤ limits.words)
+  within_cost : (t : Tree) → value_within (bounds words nesting) s ≡ Some t → (tree_at nesting s root ≡ Some t) × (cost_at nesting s root ≤ words)
   unfolding value_within
   within_cost t e =
-      let a = bind_some (tree_at limits.nesting s root) _ t e in
+      let a = bind_some (tree_at nesting s root) _ t e in
       let b = provided_some a.0 t _ a.2 in
-      let fits : leb (cost_at limits.nesting s root) limits.words ≡ true = and_second (not (has_capability a.0)) _ b.0 in
+      let fits : leb (cost_at nesting s root) words ≡ true = and_second (not (has_capability a.0)) _ b.0 in
       (a.1 ∙ ap (λ (u : Tree). Some u) b.1, leb-true _ _ fits)
     where
       and_second : (x y : Bool) → (x && y) ≡ true → y ≡ true
       and_second true y h = h
       and_second false y h = absurd cc
 
-  fits_found : (found : Option Value) → option_map tree_of_value found ≡ value_within limits s → IfSome found (λ v. Fits (tree_of_value v))
+  fits_found : (found : Option Value) → option_map tree_of_value found ≡ value_within (bounds words nesting) s → IfSome found (λ v. Fits (tree_of_value v))
   fits_found None e = tt
-  fits_found (Some v) e = let w = within_cost (tree_of_value v) (sym e) in tree_at_fits limits.nesting s root (tree_of_value v) w.0
+  fits_found (Some v) e = let w = within_cost (tree_of_value v) (sym e) in tree_at_fits nesting s root (tree_of_value v) w.0
 
-  small_found : (found : Option Value) → option_map tree_of_value found ≡ value_within limits s → IfSome found (λ v. length (canonical_words (tree_of_value v)) ≤ limits.words + 1)
+  small_found : (found : Option Value) → option_map tree_of_value found ≡ value_within (bounds words nesting) s → IfSome found (λ v. length (canonical_words (tree_of_value v)) ≤ words + 1)
   unfolding canonical_words
   small_found None e = tt
   small_found (Some v) e =
       let w = within_cost (tree_of_value v) (sym e) in
-      let size = tree_at_size limits.nesting s root (tree_of_value v) w.0 in
+      let size = tree_at_size nesting s root (tree_of_value v) w.0 in
       let cost = w.1 in
       omega arith
 
-  pub found_fits : (r : Result (Option Value) AllocError) → IfOk r (λ found. option_map tree_of_value found ≡ value_within limits s) → IfOk r (λ found. IfSome found (λ v. Fits (tree_of_value v)))
+  pub found_fits : (r : Result (Option Value) AllocError) → IfOk r (λ found. option_map tree_of_value found ≡ value_within (bounds words nesting) s) → IfOk r (λ found. IfSome found (λ v. Fits (tree_of_value v)))
   found_fits (Ok found) h = fits_found found h
   found_fits (Err e) h = tt
 
-  pub found_small : (r : Result (Option Value) AllocError) → IfOk r (λ found. option_map tree_of_value found ≡ value_within limits s) → IfOk r (λ found. IfSome found (λ v. length (canonical_words (tree_of_value v)) ≤ limits.words + 1))
+  pub found_small : (r : Result (Option Value) AllocError) → IfOk r (λ found. option_map tree_of_value found ≡ value_within (bounds words nesting) s) → IfOk r (λ found. IfSome found (λ v. length (canonical_words (tree_of_value v)) ≤ words + 1))
   found_small (Ok found) h = small_found found h
   found_small (Err e) h = tt

@@ -1,10 +1,12 @@
 -- Values that are read, level by level.
-use Rattle.std.proofs.Common.{◌≡◌, ℕ, zero, suc, ◌+◌, ◌*◌, ◌%◌, ◌^◌, ◌<◌, ◌≤◌, Bool, true, false, eqb, leb, List, [], ◌∷◌, length, take, drop, Option, Some, None, Result, Ok, Vec, Global, refl, ap, sym, ◌∙◌, arith, rules, add-one, ◌++◌, if◌then◌else◌}
+use Rattle.std.proofs.Common.{◌≡◌, ℕ, zero, suc, ◌+◌, ◌*◌, ◌%◌, ◌^◌, ◌<◌, ◌≤◌, Bool, true, false, eqb, leb, List, [], ◌∷◌, length, take, drop, Option, Some, None, Result, Ok, Err, Vec, Global, refl, ap, sym, ◌∙◌, arith, rules, add-one, ◌++◌, if◌then◌else◌}
 use Rattle.std.specs.List.{slice_get}
 use Rattle.std.specs.Option.{is_some}
+use Rattle.std.specs.Result.{result_ok}
 use Rattle.std.specs.declared.alloc.AllocError.{AllocError}
 use Rattle.std.proofs.lemmas.List.{take-take}
 use Rattle.std.proofs.lemmas.Bool.{ne_eqb, leb-true, le-leb}
+use Rattle.capnp_model.specs.Kinds.{Kind}
 use Rattle.capnp_model.specs.Chains.{◌>>=◌, ◌provided◌}
 use Rattle.capnp_model.specs.Sections.{section_of, words_for}
 use Rattle.capnp_model.specs.Segments.{Segments, Place, place, after, words_at}
@@ -35,28 +37,32 @@ tree-Pointers children = search (rules, the_lemmas)
 
 -- ---- what a pointer leads to
 
-pub clean_found : (n : ℕ) (s : Segments) (p : Place) (f : Found) → found_at s p ≡ Some f → clean_at n s p ≡ clean_below n s f.object
+pub clean_found : (n : ℕ) (s : Segments) (p : Place) (f : Found) → result_ok (found_at s p) ≡ Some f → clean_at n s p ≡ clean_below n s f.object
 unfolding clean_at
 clean_found zero s p f e = rw e refl
 clean_found (suc n) s p f e = rw e refl
 
-pub clean_unfound : (n : ℕ) (s : Segments) (p : Place) → found_at s p ≡ None → clean_at n s p ≡ None
+pub clean_unfound : (n : ℕ) (s : Segments) (p : Place) → result_ok (found_at s p) ≡ None → clean_at n s p ≡ None
 unfolding clean_at
 clean_unfound zero s p e = rw e refl
 clean_unfound (suc n) s p e = rw e refl
 
-pub cost_found : (n : ℕ) (s : Segments) (p : Place) (f : Found) → found_at s p ≡ Some f → cost_at n s p ≡ f.pads + cost_below n s f.object
-unfolding cost_at
-cost_found zero s p f e = rw e refl
-cost_found (suc n) s p f e = rw e refl
+found_ok : {A : Type 0} (r : Result A Kind) (x : A) → result_ok r ≡ Some x → r ≡ Ok x
+found_ok (Ok y) x e = cc
+found_ok (Err k) x e = absurd cc
 
-pub found_reads : (n : ℕ) (s : Segments) (p : Place) (f : Found) (old mid new : ℕ) (r : Result (Option Value) AllocError) → found_at s p ≡ Some f → old ≡ f.pads + mid
+pub cost_found : (n : ℕ) (s : Segments) (p : Place) (f : Found) → result_ok (found_at s p) ≡ Some f → cost_at n s p ≡ f.pads + cost_below n s f.object
+unfolding cost_at
+cost_found zero s p f e = let there = found_ok (found_at s p) f e in rw there refl
+cost_found (suc n) s p f e = let there = found_ok (found_at s p) f e in rw there refl
+
+pub found_reads : (n : ℕ) (s : Segments) (p : Place) (f : Found) (old mid new : ℕ) (r : Result (Option Value) AllocError) → result_ok (found_at s p) ≡ Some f → old ≡ f.pads + mid
     → Reads tree_of_value (clean_below n s f.object) (cost_below n s f.object) mid r new → Reads tree_of_value (clean_at n s p) (cost_at n s p) old r new
 found_reads n s p f old mid new r e paid h =
     let tree = clean_found n s p f e in
     rw tree (paid_before tree_of_value (clean_below n s f.object) (cost_below n s f.object) f.pads (cost_at n s p) old mid new r paid (cost_found n s p f e) h)
 
-pub pads_too_dear : (n : ℕ) (s : Segments) (p : Place) (f : Found) (old new : ℕ) → found_at s p ≡ Some f → old < f.pads → Reads tree_of_value (clean_at n s p) (cost_at n s p) old (Ok None) new
+pub pads_too_dear : (n : ℕ) (s : Segments) (p : Place) (f : Found) (old new : ℕ) → result_ok (found_at s p) ≡ Some f → old < f.pads → Reads tree_of_value (clean_at n s p) (cost_at n s p) old (Ok None) new
 pads_too_dear n s p f old new e h = let c = cost_found n s p f e in too_dear tree_of_value (clean_at n s p) (cost_at n s p) old new (omega arith)
 
 -- ---- words

@@ -1,12 +1,14 @@
 -- Lists of structs that are read.
-use Rattle.std.proofs.Common.{◌≡◌, ℕ, zero, suc, ◌+◌, ◌-◌, ◌*◌, ◌<◌, ◌≤◌, true, false, eqb, leb, List, [], ◌∷◌, length, take, drop, Option, Some, None, Ok, Vec, Global, refl, ap, subst, sym, ◌∙◌, arith, rules, if◌then◌else◌}
+use Rattle.std.proofs.Common.{◌≡◌, ℕ, zero, suc, ◌+◌, ◌-◌, ◌*◌, ◌<◌, ◌≤◌, Bool, true, false, eqb, leb, List, [], ◌∷◌, length, take, drop, Option, Some, None, Result, Ok, Err, Vec, Global, refl, ap, subst, sym, ◌∙◌, arith, rules, if◌then◌else◌}
 use Rattle.std.specs.List.{slice_get}
 use Rattle.std.specs.Option.{is_some}
+use Rattle.std.specs.Result.{result_ok}
 use Rattle.std.proofs.lemmas.Bool.{le-leb, leb-true}
 use Rattle.std.proofs.lemmas.Bool.Decides.{nat_tests}
 use Rattle.std.proofs.lemmas.List.{length-take, length-drop, take-take, drop-take, drop-drop}
 use Rattle.std.proofs.Math.Nat.{mul-le-mul_right}
-use Rattle.capnp_model.specs.Chains.{◌>>=◌, ◌provided◌}
+use Rattle.capnp_model.specs.Kinds.{Kind, OutOfBounds}
+use Rattle.capnp_model.specs.Chains.{◌>>=◌, ◌provided◌, ◌and_then◌, guard}
 use Rattle.capnp_model.specs.Sections.{section_of}
 use Rattle.capnp_model.specs.Segments.{Segments, Place, place, after, word_at, words_at}
 use Rattle.capnp_model.specs.Pointers.{Pointer, to_struct, pointer_of, a_list}
@@ -51,24 +53,33 @@ tag_words s p n w h e =
     let one : 1 + n ≡ suc n = omega arith in
     (take n (drop (suc p.position) a.0), words_are s p (1 + n) a.0 a.1 bound ∙ ap (λ (j : ℕ). Some (take j (drop p.position a.0))) one ∙ ap (λ (ws : List ℕ). Some (take (suc n) ws)) (drop_from a.0 p.position w first), omega (arith, length-take n (drop (suc p.position) a.0), length-drop (suc p.position) a.0))
 
-pub tag_is : (s : Segments) (p : Place) (n w : ℕ) → is_some (words_at s p (1 + n)) ≡ true → word_at s p ≡ Some w → tag_there s p n ≡ (tag_of (pointer_of w) >>= λ t. t provided leb (t.count * (t.data_words + t.pointers)) n)
+-- a tag whose elements fit
+tag_then : (r : Result Tag Kind) (n : ℕ) → result_ok (r and_then λ t. guard (leb (t.count * (t.data_words + t.pointers)) n) OutOfBounds and_then λ _. Ok t) ≡ (result_ok r >>= λ t. t provided leb (t.count * (t.data_words + t.pointers)) n)
+tag_then (Err k) n = refl
+tag_then (Ok t) n = by (leb (t.count * (t.data_words + t.pointers)) n)
+  where
+    by : (b : Bool) → result_ok (guard b OutOfBounds and_then λ _. Ok t) ≡ (t provided b)
+    by true = refl
+    by false = refl
+
+pub tag_is : (s : Segments) (p : Place) (n w : ℕ) → is_some (words_at s p (1 + n)) ≡ true → word_at s p ≡ Some w → tag_there s p n ≡ (result_ok (tag_of (pointer_of w)) >>= λ t. t provided leb (t.count * (t.data_words + t.pointers)) n)
 tag_is s p n w h e =
     let a = tag_words s p n w h e in
     let there : words_at s p (1 + n) ≡ Some (w ∷ a.0) = a.1 in
     let long : length a.0 ≡ n = a.2 in
-    rw there (ap (λ (m : ℕ). tag_of (pointer_of w) >>= λ t. t provided leb (t.count * (t.data_words + t.pointers)) m) long)
+    rw there (tag_then (tag_of (pointer_of w)) (length a.0) ∙ ap (λ (m : ℕ). result_ok (tag_of (pointer_of w)) >>= λ t. t provided leb (t.count * (t.data_words + t.pointers)) m) long)
 
 pub tag_found : (s : Segments) (p : Place) (n w o d k : ℕ) → is_some (words_at s p (1 + n)) ≡ true → word_at s p ≡ Some w → to_struct o d k ≡ pointer_of w → o * (d + k) ≤ n → Some (record { count = o; data_words = d; pointers = k }) ≡ tag_there s p n
 tag_found s p n w o d k h e says le =
     let fits : leb (o * (d + k)) n ≡ true = le-leb _ _ le in
-    sym (tag_is s p n w h e ∙ ap (λ (q : Pointer). tag_of q >>= λ t. t provided leb (t.count * (t.data_words + t.pointers)) n) (sym says) ∙ rw fits refl)
+    sym (tag_is s p n w h e ∙ ap (λ (q : Pointer). result_ok (tag_of q) >>= λ t. t provided leb (t.count * (t.data_words + t.pointers)) n) (sym says) ∙ rw fits refl)
 
 pub tag_short : (s : Segments) (p : Place) (n w o d k : ℕ) → is_some (words_at s p (1 + n)) ≡ true → word_at s p ≡ Some w → to_struct o d k ≡ pointer_of w → n < o * (d + k) → None ≡ tag_there s p n
 tag_short s p n w o d k h e says lt =
     let fits : leb (o * (d + k)) n ≡ false = grind (arith, nat_tests) in
-    sym (tag_is s p n w h e ∙ ap (λ (q : Pointer). tag_of q >>= λ t. t provided leb (t.count * (t.data_words + t.pointers)) n) (sym says) ∙ rw fits refl)
+    sym (tag_is s p n w h e ∙ ap (λ (q : Pointer). result_ok (tag_of q) >>= λ t. t provided leb (t.count * (t.data_words + t.pointers)) n) (sym says) ∙ rw fits refl)
 
-no_tag : (r : WordPointer) → ((o d k : ℕ) → r ≡ word.Struct o d k → ⊥) → tag_of (pointer_view r) ≡ None
+no_tag : (r : WordPointer) → ((o d k : ℕ) → r ≡ word.Struct o d k → ⊥) → result_ok (tag_of (pointer_view r)) ≡ None
 no_tag (word.Struct o d k) h = absurd (h o d k refl)
 no_tag (word.List o size n) h = refl
 no_tag (word.Far words i j) h = refl
@@ -77,13 +88,13 @@ no_tag word.Unknown h = refl
 
 pub tag_unfit : (s : Segments) (p : Place) (n w : ℕ) (r : WordPointer) → is_some (words_at s p (1 + n)) ≡ true → word_at s p ≡ Some w → pointer_view r ≡ pointer_of w → ((o d k : ℕ) → r ≡ word.Struct o d k → ⊥) → None ≡ tag_there s p n
 tag_unfit s p n w r h e says not =
-    let none_here : tag_of (pointer_of w) ≡ None = ap tag_of (sym says) ∙ no_tag r not in
+    let none_here : result_ok (tag_of (pointer_of w)) ≡ None = ap (λ (q : Pointer). result_ok (tag_of q)) (sym says) ∙ no_tag r not in
     sym (tag_is s p n w h e ∙ ap (λ (o : Option Tag). o >>= λ t. t provided leb (t.count * (t.data_words + t.pointers)) n) none_here)
 
 pub no_tag_words : (s : Segments) (p : Place) (n : ℕ) → is_some (words_at s p (1 + n)) ≡ false → None ≡ tag_there s p n
 no_tag_words s p n h = by (words_at s p (1 + n)) h
   where
-    by : (o : Option (List ℕ)) → is_some o ≡ false → None ≡ (o >>= λ ws. tag_in ws)
+    by : (o : Option (List ℕ)) → is_some o ≡ false → None ≡ (o >>= λ ws. result_ok (tag_in ws))
     by None g = refl
     by (Some x) g = absurd cc
 
@@ -137,17 +148,17 @@ cost_of_elements g p d k i (suc n) =
 -- ---- the list
 
 -- the words of a list whose tag is there
-words_of_tag : (s : Segments) (p : Place) (n : ℕ) (t : Tag) → tag_there s p n ≡ Some t → (all : List ℕ) × (slice_get s p.segment ≡ Some all) × (p.position + (1 + n) ≤ length all) × (tag_in (take (1 + n) (drop p.position all)) ≡ Some t)
+words_of_tag : (s : Segments) (p : Place) (n : ℕ) (t : Tag) → tag_there s p n ≡ Some t → (all : List ℕ) × (slice_get s p.segment ≡ Some all) × (p.position + (1 + n) ≤ length all) × (result_ok (tag_in (take (1 + n) (drop p.position all))) ≡ Some t)
 words_of_tag s p n t e =
     let a = bind_some (words_at s p (1 + n)) _ t e in
     let b = words_from (slice_get s p.segment) p.position (1 + n) (ap is_some a.1) in
     let same : a.0 ≡ take (1 + n) (drop p.position b.0) = some_is _ _ (sym a.1 ∙ words_are s p (1 + n) b.0 b.1 b.2) in
-    (b.0, b.1, b.2, ap tag_in (sym same) ∙ a.2)
+    (b.0, b.1, b.2, ap (λ (ws : List ℕ). result_ok (tag_in ws)) (sym same) ∙ a.2)
 
-tag_bound : (ws : List ℕ) (t : Tag) → tag_in ws ≡ Some t → t.count * (t.data_words + t.pointers) + 1 ≤ length ws
+tag_bound : (ws : List ℕ) (t : Tag) → result_ok (tag_in ws) ≡ Some t → t.count * (t.data_words + t.pointers) + 1 ≤ length ws
 tag_bound [] t e = absurd cc
 tag_bound (w ∷ ws) t e =
-    let a = bind_some (tag_of (pointer_of w)) _ t e in
+    let a = bind_some (result_ok (tag_of (pointer_of w))) _ t (sym (tag_then (tag_of (pointer_of w)) (length ws)) ∙ e) in
     let b = provided_some a.0 t _ a.2 in
     let fits : a.0.count * (a.0.data_words + a.0.pointers) ≤ length ws = leb-true _ _ b.0 in
     let is : a.0 ≡ t = b.1 in
@@ -164,7 +175,7 @@ structs_are s f p n t e =
     let d = t.data_words in
     let k = t.pointers in
     let words : words_at s p (1 + n) ≡ Some (take (1 + n) (drop p.position all)) = words_are s p (1 + n) all here within in
-    let tag : tag_in (take (1 + n) (drop p.position all)) ≡ Some t = a.3 in
+    let tag : result_ok (tag_in (take (1 + n) (drop p.position all))) ≡ Some t = a.3 in
     let bound = tag_bound (take (1 + n) (drop p.position all)) t tag in
     let room : t.count * (d + k) ≤ n = omega (arith, length-take (1 + n) (drop p.position all), length-drop p.position all) in
     let behind : drop 1 (take (1 + n) (drop p.position all)) ≡ take n (drop (p.position + 1 + 0 * (d + k)) all) = drop-take 1 n (drop p.position all) ∙ ap (take n) (drop-drop 1 p.position all) ∙ ap (λ (j : ℕ). take n (drop j all)) (let j : p.position + 1 ≡ p.position + 1 + 0 * (d + k) = omega arith in j) in

@@ -2,6 +2,7 @@
 use Rattle.std.specs.Prelude.{ℕ, ◌≤◌, ◌^◌, List, length, map, Option, Vec}
 use Rattle.std.specs.declared.alloc.Global.{Global}
 use Rattle.std.specs.List.{AllByRecursion}
+use Rattle.std.specs.Result.{result_ok}
 use Rattle.capnp_model.specs.Chains.{◌>>=◌}
 use Rattle.capnp_model.specs.Segments.{Segments, Place, place, words_at}
 use Rattle.capnp_model.specs.Pointers.{Pointer, to_struct, to_list, to_pad, to_capability, to_nothing_known, Object, nothing, a_struct, a_list, a_capability, in_pad, Found}
@@ -41,7 +42,7 @@ object_view (named.Capability i) = a_capability i
 
 -- The object behind a pad of so many words.
 abbrev pub pad_object : Segments → Place → ℕ → Option Object
-pad_object s p n = words_at s p n >>= λ ws. in_pad p ws
+pad_object s p n = words_at s p n >>= λ ws. result_ok (in_pad p ws)
 
 -- What is found.
 abbrev pub found_view : WordFound → Found

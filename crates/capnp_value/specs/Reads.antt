@@ -1,5 +1,6 @@
 -- The values that are read: those without a capability.
-use Rattle.std.specs.Prelude.{ℕ, zero, suc, ◌+◌, ◌*◌, Option, Some, None}
+use Rattle.std.specs.Prelude.{ℕ, zero, suc, pos, ◌+◌, ◌*◌, Option, Some, None}
+use Rattle.std.specs.Result.{result_ok}
 use Rattle.capnp_model.specs.Chains.{◌>>=◌}
 use Rattle.capnp_model.specs.Segments.{Segments, Place, after, words_at}
 use Rattle.capnp_model.specs.Pointers.{Object, nothing, a_struct, a_list, a_capability, found_at}
@@ -23,8 +24,8 @@ clean_leaf _ = None
 
 -- The value of the pointer at a place, followed at most n levels deep, where it has no capability.
 unfoldable pub clean_at : ℕ → Segments → Place → Option Tree
-clean_at zero s p = found_at s p >>= λ f. clean_leaf f.object
-clean_at (suc n) s p = found_at s p >>= λ f. clean_of s (clean_at n s) f.object
+clean_at zero s p = result_ok (found_at s p) >>= λ f. clean_leaf f.object
+clean_at (suc n) s p = result_ok (found_at s p) >>= λ f. clean_of s (clean_at n s) f.object
 
 -- The same of an object that is found.
 abbrev pub clean_below : ℕ → Segments → Object → Option Tree
@@ -50,8 +51,8 @@ tag_view t = record { count = t.count; data_words = t.data_words; pointers = t.p
 
 -- The tag of a list of structs of so many words behind it.
 abbrev pub tag_there : Segments → Place → ℕ → Option Tag
-tag_there s p words = words_at s p (1 + words) >>= λ ws. tag_in ws
+tag_there s p words = words_at s p (1 + words) >>= λ ws. result_ok (tag_in ws)
 
 -- The limits.
 abbrev pub limits_view : Bounds → Limits
-limits_view b = record { words = b.words; nesting = b.nesting }
+limits_view b = record { words = Some b.words; nesting = pos b.nesting }

@@ -1,7 +1,8 @@
 //! The object that the pointer at a place names.
 
-ghost use Rattle.std.specs.Prelude.{◌≡◌, ◌+◌, ◌≤◌, ◌<◌, ◌^◌, Option, Some, None};
+ghost use Rattle.std.specs.Prelude.{◌≡◌, ◌+◌, ◌≤◌, ◌<◌, ◌^◌, Ok};
 ghost use Rattle.std.specs.Option.{option_map, is_some};
+ghost use Rattle.std.specs.Result.{result_ok};
 ghost use Rattle.std.specs.Bool.{OnTrue};
 ghost use Rattle.capnp_model.specs.Segments.{word_at, words_at};
 ghost use Rattle.capnp_model.specs.Pointers.{begins, described, found_at};
@@ -39,7 +40,7 @@ pub fn are_words(segments: &[Vec<u64>], place: WordPlace, count: u32) -> bool
 /// Where an object begins whose pointer ends at a place.
 pub fn begins_at(end: WordPlace, offset: u32) -> Option<WordPlace>
     requires { end.position ≤ 2 ^ 29 }
-    ensures { option_map place_view result ≡ begins (place_view end) offset }
+    ensures { option_map place_view result ≡ result_ok (begins (place_view end) offset) }
 {
     let there = end.position as u64 + offset as u64;
     if offset < 0x2000_0000 {
@@ -86,7 +87,7 @@ pub struct WordFound {
 /// The object of a describing word that ends at a place.
 pub fn described_behind(end: WordPlace, pointer: WordPointer) -> Option<WordObject>
     requires { end.position ≤ 2 ^ 29 }
-    ensures { option_map object_view result ≡ described (begins (place_view end)) (pointer_view pointer) }
+    ensures { option_map object_view result ≡ result_ok (described (begins (place_view end)) (pointer_view pointer)) }
 {
     match pointer {
         WordPointer::Struct {
@@ -116,7 +117,7 @@ pub fn described_behind(end: WordPlace, pointer: WordPointer) -> Option<WordObje
 
 /// The object of a describing word, where its place is told.
 pub fn described_at(start: WordPlace, pointer: WordPointer) -> Option<WordObject>
-    ensures { option_map object_view result ≡ described (λ _. Some (place_view start)) (pointer_view pointer) }
+    ensures { option_map object_view result ≡ result_ok (described (λ _. Ok (place_view start)) (pointer_view pointer)) }
 {
     match pointer {
         WordPointer::Struct {
@@ -168,7 +169,7 @@ pub fn in_long_pad(segments: &[Vec<u64>], pad: WordPlace) -> Option<WordObject>
 /// The object that the pointer at a place names.
 pub fn object_at(segments: &[Vec<u64>], place: WordPlace) -> Option<WordFound>
     requires { place.position < 2 ^ 29 }
-    ensures { option_map found_view result ≡ found_at (segments_view segments.now) (place_view place) }
+    ensures { option_map found_view result ≡ result_ok (found_at (segments_view segments.now) (place_view place)) }
 {
     let word = word_at_place(segments, place)?;
     if word == 0 {
