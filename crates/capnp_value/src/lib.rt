@@ -1,4 +1,4 @@
-//! The relay: values are read from messages, edited, and written as canonical messages.
+//! Owned value trees: a value is read from the segments of a message within bounds, trimmed to what a canonical message keeps, and written as canonical words.
 #![tactic(auto)]
 
 pub mod value;

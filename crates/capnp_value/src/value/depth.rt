@@ -7,7 +7,7 @@ ghost use Rattle.capnp_value.specs.Values.{tree_of_value, trees_of, trees_view, 
 
 use crate::value::Value;
 
-/// Whether a value has at most so many levels of pointers.
+/// Whether a value has at most so many levels of pointers. Null has none; any other value has one more than the deepest value that it holds. An element of a list of structs is no level of its own.
 #[cycle(depth)]
 pub fn is_within(value: &Value, nesting: u32) -> bool
     ensures { MatchBool result (depth (tree_of_value value.now) ≤ nesting) (nesting < depth (tree_of_value value.now)) }

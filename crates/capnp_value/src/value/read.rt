@@ -415,7 +415,18 @@ fn read_plain(
     Ok(Some(Value::List { size, count, words }))
 }
 
-/// The value of a message, where it is within the limits and has no capability.
+/// How far a message is followed.
+#[derive(Clone, Copy)]
+pub struct Bounds {
+    /// The most words that following it may cost: those of each object, as often as a pointer leads to it, and of the pads on the way. A list of voids costs a word for each element, and so does a list of structs without a word, beside its tag.
+    pub words: u32,
+    /// The most levels of pointers, the root's the first; a null pointer is none.
+    pub nesting: u32,
+}
+
+/// The value of a message's root, read from its segments, of at most 2^29 words each.
+///
+/// There is none where a pointer is malformed or leads out of the segments, where a capability is met, or where following the message passes one of the bounds. The error is want of memory. What is read fits its spelling, with at most a word more than the bounds allow. The segments stay as they are, and the value depends on them no more.
 pub fn read_value(
     alloc: Global,
     segments: &[Vec<u64>],
@@ -432,11 +443,4 @@ pub fn read_value(
     };
     let mut left = bounds.words;
     read_at(alloc, segments, root, bounds.nesting, &mut left)
-}
-
-/// The most words that following a message may cost, and the most levels of pointers.
-#[derive(Clone, Copy)]
-pub struct Bounds {
-    pub words: u32,
-    pub nesting: u32,
 }

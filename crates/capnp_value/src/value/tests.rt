@@ -3,10 +3,7 @@
 ghost use Rattle.std.specs.Prelude.{◌≤◌, ◌<◌, ◌^◌, length};
 ghost use Rattle.capnp_value.specs.Places.{AreShort};
 
-use crate::value::depth::is_within;
-use crate::value::read::{Bounds, read_value};
-use crate::value::trim::trim_whole;
-use crate::value::write::canonical;
+use crate::value::{Bounds, canonical, is_within, read_value, trim_whole};
 use std::alloc::{AllocError, Global};
 use std::process::Abort;
 use std::test::Fail;

@@ -52,7 +52,7 @@ fn is_null(value: &Value) -> bool
     }
 }
 
-/// Leaves out of a value what a canonical message leaves out, at every depth. A value that fits its spelling still does, and has no more words.
+/// Leaves out of a value what a canonical message leaves out, at every depth: zero words at the end of a struct's data, nulls at the end of its pointers, and of a list of structs the last words and pointers that no element needs. It takes no memory and can't fail. A value that fits its spelling still does, and has no more words.
 pub fn trim_whole(value: &mut Value)
     ensures value { tree_of_value value.new ≡ trim (tree_of_value value.old) }
     ensures fits { Fits (tree_of_value value.old) → Fits (tree_of_value value.new) }

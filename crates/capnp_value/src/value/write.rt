@@ -12,7 +12,9 @@ use crate::value::Value;
 use crate::value::read::bits_of;
 use std::alloc::{AllocError, Global};
 
-/// The canonical words of a value.
+/// The words of a message of one segment with this value: the pointer to it, and what it points to behind that, each object before those below it and nothing between them. They are canonical where the value is trimmed; of another value they keep its zeros and nulls too.
+///
+/// There may be 2^29 words at most, as many as pointers reach. The error is want of memory. The value stays as it is.
 pub fn canonical(alloc: Global, value: &Value) -> Result<Vec<u64>, AllocError>
     requires fits { Fits (tree_of_value value.now) }
     requires short { length (canonical_words (tree_of_value value.now)) ≤ 2 ^ 29 }
