@@ -1,0 +1,17 @@
+pub mod Pads
+pub mod InSegments
+pub mod Masks
+pub mod Rows
+pub mod Reading
+pub mod Structs
+pub mod Clean
+pub mod Writing
+pub mod Linking
+pub mod Cells
+pub mod Trimming
+pub mod Trimmed
+pub mod Depths
+pub mod Elements
+pub mod Sizes
+pub mod Bodies
+pub mod Fitting

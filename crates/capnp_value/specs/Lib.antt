@@ -1,0 +1,5 @@
+pub mod Places
+pub mod Values
+pub mod Rows
+pub mod Reads
+pub mod Writes
