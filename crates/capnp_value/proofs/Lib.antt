@@ -15,3 +15,4 @@ pub mod Elements
 pub mod Sizes
 pub mod Bodies
 pub mod Fitting
+pub mod SizeBudgets

@@ -6,12 +6,14 @@ mod depth;
 mod find;
 mod pointer;
 mod read;
+mod size;
 #[cfg(test)]
 mod tests;
 mod trim;
 mod write;
 
 pub use depth::is_within;
+pub use size::is_short;
 pub use read::{Bounds, read_value};
 pub use trim::trim_whole;
 pub use write::canonical;
