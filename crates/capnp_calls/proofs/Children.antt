@@ -1,7 +1,11 @@
 -- The children of a struct by their places.
-use Rattle.std.proofs.Common.{◌≡◌, ℕ, zero, suc, ◌<◌, List, [], ◌∷◌, length, get_or, refl, ap, arith}
+use Rattle.std.proofs.Common.{◌≡◌, ℕ, zero, suc, ◌^◌, ◌<◌, List, [], ◌∷◌, length, get_or, refl, ap, arith}
 use Rattle.std.specs.Prelude.{slice_set}
-use Rattle.capnp_model.specs.Trees.{◌▸◌, child, tree_count, with_child}
+use Rattle.capnp_model.specs.Sections.{section_of}
+use Rattle.capnp_model.specs.Trees.{structure, Trees, ◌▸◌, child, tree_count, with_child}
+use Rattle.capnp_model.specs.Fits.{Fits, FitEach}
+use Rattle.capnp_calls.specs.declared.root.StructValue.{StructValue}
+use Rattle.capnp_calls.specs.RootViews.{cell_of, struct_tree, HasFitting, SameSizes}
 use Rattle.capnp_value.specs.declared.value.Value.{Value}
 use Rattle.capnp_value.specs.Values.{tree_of_value, trees_of, trees_view}
 
@@ -18,3 +22,13 @@ trees_of-child (x ∷ xs) (suc i) v h = trees_of-child xs i v (omega arith)
 pub tree_count-trees_of : (xs : List Value) → tree_count (trees_of (trees_view xs)) ≡ length xs
 tree_count-trees_of [] = refl
 tree_count-trees_of (x ∷ xs) = ap suc (tree_count-trees_of xs)
+
+-- a struct of the same sizes whose children still fit still fits
+pub Fits-kept : (old new : StructValue)
+    → ((ws : List ℕ) (kids : Trees) → length ws < 2 ^ 16 → tree_count kids < 2 ^ 16 → FitEach kids → Fits (structure (length ws) (section_of ws) kids))
+    → SameSizes old new → (HasFitting old → HasFitting new) → Fits (struct_tree old) → Fits (struct_tree new)
+Fits-kept old new words_fit same keep f =
+    let words : length new.words.items < 2 ^ 16 = omega (arith, new.words.ok.0, same.words, f.0) in
+    let kids : tree_count (cell_of new).kids < 2 ^ 16 =
+      omega (arith, tree_count-trees_of new.children.items, new.children.ok.0, same.pointers, old.children.ok.0, tree_count-trees_of old.children.items, f.1) in
+    rw (new.words.ok.0) (words_fit new.words.items (cell_of new).kids words kids (keep f.3))

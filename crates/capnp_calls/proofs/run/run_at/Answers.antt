@@ -9,6 +9,7 @@ use Rattle.capnp_calls.specs.CallViews.{call_view}
 use Rattle.capnp_calls.specs.RootViews.{struct_tree}
 use Rattle.capnp_calls.specs.Replies.{reply_view}
 use Rattle.capnp_calls.specs.Taken.{replies_to, tree_after_all}
+use Rattle.capnp_calls.proofs.Children.{Fits-kept}
 use Rattle.capnp_calls.proofs.InTurn.{replies_to-more, tree_after_all-more, replies_to-nil, tree_after_all-nil}
 use Rattle.capnp_calls.proofs.run.run_at.Goals as goal
 
@@ -54,11 +55,5 @@ returns-in_err-answer_call-clause-refusal c =
     let p = err_from_is_err_and c.from_residual.result c.from_residual.ensures.1 in
     rw (p.1, p.2) (inr (c.loop-call.call-index, c.call-item.result, c.loop-call-test.true, sym c.call-item.is, c.in_err-answer_call.ensures.refusal))
 
-pub returns-clause-fitting : goal.returns-clause-fitting
-returns-clause-fitting c = c.loop-call.invariant.fitting
-
-pub returns-in_err-push-clause-fitting : goal.returns-in_err-push-clause-fitting
-returns-in_err-push-clause-fitting c = λ f. c.answer_call.ensures.fitting (c.loop-call.invariant.fitting f)
-
-pub returns-in_err-answer_call-clause-fitting : goal.returns-in_err-answer_call-clause-fitting
-returns-in_err-answer_call-clause-fitting c = λ f. c.answer_call.ensures.fitting (c.loop-call.invariant.fitting f)
+pub returns-clause-fits : goal.returns-clause-fits
+returns-clause-fits c = Fits-kept c.args.root.now c.loop-call.root c.fitting_values.ensures.words c.loop-call.invariant.sizes c.loop-call.invariant.fitting
