@@ -1,0 +1,8 @@
+//! A relay of framed messages: each message of a source is answered, and its answer written and logged.
+#![tactic(auto)]
+
+mod answers;
+mod logging;
+mod reply;
+mod run;
+mod step;
