@@ -14,10 +14,10 @@ use Rattle.capnp_model.specs.Messages.{frame, frame_at}
 use Rattle.capnp_model.specs.Answers.{Answer, Reply, written}
 use Rattle.capnp_model.specs.Runs.{line_of, output_of}
 use Rattle.capnp_model.proofs.Chaining.{ok_is}
-use Rattle.capnp_relay.specs.declared.answers.Counts.{Counts}
+use Rattle.capnp_relay.specs.declared.ends.Counts.{Counts}
 use Rattle.capnp_relay.specs.Answers.{written_one}
-use Rattle.capnp_relay.specs.declared.step.Fault.{Fault}
-use Rattle.capnp_relay.specs.declared.step.Fault.TheVariants as faults
+use Rattle.capnp_relay.specs.declared.ends.Fault.{Fault}
+use Rattle.capnp_relay.specs.declared.ends.Fault.TheVariants as faults
 use Rattle.capnp_relay.specs.Streams.{Seen, SinkSeen, SinkStays, SinkTakes, SinkTakesPart, SinkFails}
 use Rattle.capnp_relay.specs.Stops.{SinkRefused, Stops}
 

@@ -10,9 +10,9 @@ use Rattle.capnp_model.specs.Messages.{plain_words}
 use Rattle.capnp_model.specs.Answers.{Answer}
 use Rattle.capnp_model.specs.Runs.{BeginWith, finished, broken}
 use Rattle.capnp_stream.specs.Frames.{IsFrameFault}
-use Rattle.capnp_relay.specs.declared.answers.Counts.{Counts}
-use Rattle.capnp_relay.specs.declared.step.Fault.{Fault}
-use Rattle.capnp_relay.specs.declared.step.Fault.TheVariants as faults
+use Rattle.capnp_relay.specs.declared.ends.Counts.{Counts}
+use Rattle.capnp_relay.specs.declared.ends.Fault.{Fault}
+use Rattle.capnp_relay.specs.declared.ends.Fault.TheVariants as faults
 use Rattle.capnp_relay.specs.Streams.{Seen}
 use Rattle.capnp_relay.specs.Run.{RunsOut, RunStops, GoesTo, IfFraming}
 use Rattle.capnp_relay.proofs.RunLemmas.{BeginWith-more}

@@ -8,9 +8,9 @@ use Rattle.capnp_model.specs.Bytes.{bytes_of_words}
 use Rattle.capnp_model.specs.Messages.{plain_words}
 use Rattle.capnp_model.specs.Answers.{Answer}
 use Rattle.capnp_model.specs.Runs.{BeginWith, AnswerEach, outputs_of, lines_of, End, IsRun}
-use Rattle.capnp_relay.specs.declared.answers.Counts.{Counts}
-use Rattle.capnp_relay.specs.declared.step.Fault.{Fault}
-use Rattle.capnp_relay.specs.declared.step.Fault.TheVariants as faults
+use Rattle.capnp_relay.specs.declared.ends.Counts.{Counts}
+use Rattle.capnp_relay.specs.declared.ends.Fault.{Fault}
+use Rattle.capnp_relay.specs.declared.ends.Fault.TheVariants as faults
 use Rattle.capnp_relay.specs.Answers.{written_one, refused_one}
 use Rattle.capnp_relay.specs.Streams.{Seen, SourceStays, SinkStays, SinkTakes}
 use Rattle.capnp_relay.specs.Stops.{Stops}

@@ -8,9 +8,9 @@ use Rattle.capnp_model.specs.Answers.{Answer, Reply, written}
 use Rattle.capnp_model.specs.Runs.{line_of, output_of}
 use Rattle.capnp_stream.specs.Counting.{Rose}
 use Rattle.capnp_stream.specs.Frames.{IsFrameFault, IsFramingKind, TakesMessage, TakesPart}
-use Rattle.capnp_relay.specs.declared.answers.Counts.{Counts}
-use Rattle.capnp_relay.specs.declared.step.Fault.{Fault}
-use Rattle.capnp_relay.specs.declared.step.Fault.TheVariants as faults
+use Rattle.capnp_relay.specs.declared.ends.Counts.{Counts}
+use Rattle.capnp_relay.specs.declared.ends.Fault.{Fault}
+use Rattle.capnp_relay.specs.declared.ends.Fault.TheVariants as faults
 use Rattle.capnp_relay.specs.Answers.{CountsOne, written_one}
 use Rattle.capnp_relay.specs.Streams.{Seen, SinkSeen, SinkStays, SinkTakes, SinkTakesPart, SinkFails}
 

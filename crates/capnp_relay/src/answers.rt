@@ -11,7 +11,7 @@ use std::alloc::Global;
 
 /// Why a message is skipped.
 #[derive(Clone, Copy, Debug, PartialEq, Eq)]
-pub enum Reason {
+pub(crate) enum Reason {
     /// It has no value within the limits, or one with a capability.
     Value,
     /// Its root is a list.
@@ -22,7 +22,7 @@ pub enum Reason {
 
 impl Reason {
     /// The word that the log has for it.
-    pub fn name(self) -> &'static str
+    pub(crate) fn name(self) -> &'static str
         ensures { result.now ≡ reason_name self }
     {
         match self {
@@ -35,25 +35,21 @@ impl Reason {
 
 /// The words of the one segment that is written, and the replies of the calls; or why there is none.
 #[derive(Debug, Drop)]
-pub enum MessageAnswer {
-    Written { words: Vec<u64>, replies: Vec<Reply> },
+pub(crate) enum MessageAnswer {
+    Written {
+        words: Vec<u64>,
+        replies: Vec<Reply>,
+    },
     Refused(Reason),
 }
 
 /// Why no answer was made.
 #[derive(Clone, Copy, Debug, PartialEq, Eq)]
-pub enum Want {
+pub(crate) enum Want {
     /// A growth was refused.
     Memory,
     /// A size would pass its bound.
     Size,
-}
-
-/// The messages that were answered: the frames that were written whole, and the refusals that were logged whole.
-#[derive(Clone, Copy, Debug, PartialEq, Eq)]
-pub struct Counts {
-    pub written: u64,
-    pub refused: u64,
 }
 
 /// What answers a message.
@@ -64,11 +60,7 @@ pub(crate) trait Answers {
     /// Whether a size met on the way to an answer would pass its bound.
     ghost passes_size: { Self → Segments → Type 0 };
 
-    fn answer(
-        &self,
-        alloc: Global,
-        message: &OwnedSegments,
-    ) -> Result<MessageAnswer, Want>
+    fn answer(&self, alloc: Global, message: &OwnedSegments) -> Result<MessageAnswer, Want>
         ensures value { IfOk result (λ a. is_answer self.now (segments_of message.now) (answer_view a)) }
         ensures size { result ≡ Err Want.Size → passes_size self.now (segments_of message.now) }
         ensures writable { IfOk result (λ a. HasFewWords (answer_view a)) };

@@ -2,7 +2,10 @@
 #![tactic(auto)]
 
 mod answers;
+pub mod ends;
 mod logging;
 mod reply;
 mod run;
 mod step;
+#[cfg(test)]
+mod tests;

@@ -5,18 +5,11 @@ ghost use Rattle.capnp_model.specs.Runs.{finished, broken};
 ghost use Rattle.capnp_relay.specs.Streams.{source_seen, sink_seen, seen};
 ghost use Rattle.capnp_relay.specs.Run.{RunsOut, RunStops, GoesTo, IfFraming};
 
-use crate::answers::{Answers, Counts};
-use crate::step::{Fault, step};
+use crate::answers::Answers;
+use crate::ends::{Counts, RelayFault};
+use crate::step::step;
 use capnp_stream::traits::{BufRead, Read, Write};
 use std::alloc::Global;
-
-/// Why a run ended before the end of input, and what it did until then.
-#[derive(Clone, Copy, Debug, PartialEq, Eq, thiserror::Error)]
-#[error("fault: {fault}")]
-pub struct RelayFault {
-    pub fault: Fault,
-    pub counts: Counts,
-}
 
 /// Answers each message of the source in turn: a frame for each written answer, and a line for each.
 pub(crate) fn run_messages<R: BufRead, W: Write, L: Write, A: Answers>(
@@ -29,23 +22,23 @@ pub(crate) fn run_messages<R: BufRead, W: Write, L: Write, A: Answers>(
 ) -> Result<Counts, RelayFault>
     // The whole input, where the source tells it.
     ensures goes { OnOk result (IfSome (R.remaining source.old) (GoesTo (Some limit) (A.is_answer answers.now)
-            (seen (source_seen R.remaining R.failures source.old) (sink_seen W.contents W.failures W.room out.old) (sink_seen L.contents L.failures L.room log.old))
-            (seen (source_seen R.remaining R.failures source.new) (sink_seen W.contents W.failures W.room out.new) (sink_seen L.contents L.failures L.room log.new))
-            finished)) }
+        (seen (source_seen R.remaining R.failures source.old) (sink_seen W.contents W.failures W.room out.old) (sink_seen L.contents L.failures L.room log.old))
+        (seen (source_seen R.remaining R.failures source.new) (sink_seen W.contents W.failures W.room out.new) (sink_seen L.contents L.failures L.room log.new))
+        finished)) }
     ensures framing { IfErr result (λ e. IfFraming e.fault (λ kind. IfSome (R.remaining source.old) (GoesTo (Some limit) (A.is_answer answers.now)
-            (seen (source_seen R.remaining R.failures source.old) (sink_seen W.contents W.failures W.room out.old) (sink_seen L.contents L.failures L.room log.old))
-            (seen (source_seen R.remaining R.failures source.new) (sink_seen W.contents W.failures W.room out.new) (sink_seen L.contents L.failures L.room log.new))
-            (broken (kind_of kind))))) }
+        (seen (source_seen R.remaining R.failures source.old) (sink_seen W.contents W.failures W.room out.old) (sink_seen L.contents L.failures L.room log.old))
+        (seen (source_seen R.remaining R.failures source.new) (sink_seen W.contents W.failures W.room out.new) (sink_seen L.contents L.failures L.room log.new))
+        (broken (kind_of kind))))) }
 
     // What was taken, written, logged and counted.
     ensures all { IfOk result (λ counts. RunsOut (Some limit) (A.is_answer answers.now)
-            (seen (source_seen R.remaining R.failures source.old) (sink_seen W.contents W.failures W.room out.old) (sink_seen L.contents L.failures L.room log.old))
-            (seen (source_seen R.remaining R.failures source.new) (sink_seen W.contents W.failures W.room out.new) (sink_seen L.contents L.failures L.room log.new))
-            counts) }
+        (seen (source_seen R.remaining R.failures source.old) (sink_seen W.contents W.failures W.room out.old) (sink_seen L.contents L.failures L.room log.old))
+        (seen (source_seen R.remaining R.failures source.new) (sink_seen W.contents W.failures W.room out.new) (sink_seen L.contents L.failures L.room log.new))
+        counts) }
     ensures fault { IfErr result (λ e. RunStops (Some limit) (A.is_answer answers.now) (A.passes_size answers.now) W.may_grow L.may_grow e.fault
-            (seen (source_seen R.remaining R.failures source.old) (sink_seen W.contents W.failures W.room out.old) (sink_seen L.contents L.failures L.room log.old))
-            (seen (source_seen R.remaining R.failures source.new) (sink_seen W.contents W.failures W.room out.new) (sink_seen L.contents L.failures L.room log.new))
-            e.counts) }
+        (seen (source_seen R.remaining R.failures source.old) (sink_seen W.contents W.failures W.room out.old) (sink_seen L.contents L.failures L.room log.old))
+        (seen (source_seen R.remaining R.failures source.new) (sink_seen W.contents W.failures W.room out.new) (sink_seen L.contents L.failures L.room log.new))
+        e.counts) }
 {
     answer_all(alloc, source, out, log, answers, limit)
 }
@@ -60,13 +53,13 @@ fn answer_all<R: BufRead, W: Write, L: Write, A: Answers>(
     limit: usize,
 ) -> Result<Counts, RelayFault>
     ensures all { IfOk result (λ counts. RunsOut (Some limit) (A.is_answer answers.now)
-            (seen (source_seen R.remaining R.failures source.old) (sink_seen W.contents W.failures W.room out.old) (sink_seen L.contents L.failures L.room log.old))
-            (seen (source_seen R.remaining R.failures source.new) (sink_seen W.contents W.failures W.room out.new) (sink_seen L.contents L.failures L.room log.new))
-            counts) }
+        (seen (source_seen R.remaining R.failures source.old) (sink_seen W.contents W.failures W.room out.old) (sink_seen L.contents L.failures L.room log.old))
+        (seen (source_seen R.remaining R.failures source.new) (sink_seen W.contents W.failures W.room out.new) (sink_seen L.contents L.failures L.room log.new))
+        counts) }
     ensures fault { IfErr result (λ e. RunStops (Some limit) (A.is_answer answers.now) (A.passes_size answers.now) W.may_grow L.may_grow e.fault
-            (seen (source_seen R.remaining R.failures source.old) (sink_seen W.contents W.failures W.room out.old) (sink_seen L.contents L.failures L.room log.old))
-            (seen (source_seen R.remaining R.failures source.new) (sink_seen W.contents W.failures W.room out.new) (sink_seen L.contents L.failures L.room log.new))
-            e.counts) }
+        (seen (source_seen R.remaining R.failures source.old) (sink_seen W.contents W.failures W.room out.old) (sink_seen L.contents L.failures L.room log.old))
+        (seen (source_seen R.remaining R.failures source.new) (sink_seen W.contents W.failures W.room out.new) (sink_seen L.contents L.failures L.room log.new))
+        e.counts) }
 {
     let mut counts = Counts {
         written: 0,

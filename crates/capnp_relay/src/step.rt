@@ -13,7 +13,8 @@ ghost use Rattle.capnp_relay.specs.Answers.{answer_view, HasFewWords, HoldsSegme
 ghost use Rattle.capnp_relay.specs.Streams.{SourceStays, SinkStays, SinkTakes, SinkTakesPart, SinkFails, source_seen, sink_seen, seen};
 ghost use Rattle.capnp_relay.specs.Stops.{AnswersOne, Stops, SinkRefused};
 
-use crate::answers::{Answers, Counts, MessageAnswer, Want};
+use crate::answers::{Answers, MessageAnswer, Want};
+use crate::ends::{Counts, Fault};
 use crate::logging::log_line;
 use capnp_stream::frames::{try_read_message, write_segment};
 use capnp_stream::segments::OwnedSegments;
@@ -21,29 +22,6 @@ use capnp_stream::traits::{BufRead, Read, Write};
 use capnp_units::errors::Error;
 use capnp_units::kinds::ErrorKind;
 use std::alloc::{AllocError, Global};
-
-/// Why a run ends before the end of input.
-#[derive(Clone, Copy, Debug, PartialEq, Eq, thiserror::Error)]
-pub enum Fault {
-    /// The source's device failed.
-    #[error("source")]
-    Source,
-    /// The bytes that are left begin with no message.
-    #[error("framing {0}")]
-    Framing(ErrorKind),
-    /// The output refused a frame.
-    #[error("out")]
-    Out,
-    /// The log refused a line.
-    #[error("log")]
-    Log,
-    /// A growth was refused.
-    #[error("memory")]
-    Memory,
-    /// A size or the number of a message would pass its bound.
-    #[error("size")]
-    Size,
-}
 
 /// The bytes of words.
 fn bytes_of(alloc: Global, words: &[u64]) -> Result<Vec<u8>, AllocError>
@@ -206,13 +184,13 @@ pub(crate) fn step<R: BufRead, W: Write, L: Write, A: Answers>(
         × (counts.new ≡ counts.old) }
     ensures one { result ≡ Ok true → (answered < 2 ^ 64 - 1)
         × AnswersOne (Some limit) (A.is_answer answers.now) (answered + 1)
-            (seen (source_seen R.remaining R.failures source.old) (sink_seen W.contents W.failures W.room out.old) (sink_seen L.contents L.failures L.room log.old))
-            (seen (source_seen R.remaining R.failures source.new) (sink_seen W.contents W.failures W.room out.new) (sink_seen L.contents L.failures L.room log.new))
-            counts.old counts.new }
+        (seen (source_seen R.remaining R.failures source.old) (sink_seen W.contents W.failures W.room out.old) (sink_seen L.contents L.failures L.room log.old))
+        (seen (source_seen R.remaining R.failures source.new) (sink_seen W.contents W.failures W.room out.new) (sink_seen L.contents L.failures L.room log.new))
+        counts.old counts.new }
     ensures fault { IfErr result (λ f. Stops (Some limit) (A.is_answer answers.now) (A.passes_size answers.now) W.may_grow L.may_grow (answered + 1) f
-            (seen (source_seen R.remaining R.failures source.old) (sink_seen W.contents W.failures W.room out.old) (sink_seen L.contents L.failures L.room log.old))
-            (seen (source_seen R.remaining R.failures source.new) (sink_seen W.contents W.failures W.room out.new) (sink_seen L.contents L.failures L.room log.new))
-            counts.old counts.new) }
+        (seen (source_seen R.remaining R.failures source.old) (sink_seen W.contents W.failures W.room out.old) (sink_seen L.contents L.failures L.room log.old))
+        (seen (source_seen R.remaining R.failures source.new) (sink_seen W.contents W.failures W.room out.new) (sink_seen L.contents L.failures L.room log.new))
+        counts.old counts.new) }
 {
     let message = match try_read_message(alloc, source, Some(limit)) {
         Ok(Some(message)) => message,

@@ -6,7 +6,7 @@ use Rattle.capnp_stream.specs.Segments.{segments_of}
 use Rattle.capnp_relay.specs.Answers.{answer_view}
 use Rattle.capnp_relay.specs.Streams.{source_seen, sink_seen, seen}
 use Rattle.capnp_relay.specs.Stops.{SinkRefused}
-use Rattle.capnp_relay.specs.declared.step.Fault.TheVariants as faults
+use Rattle.capnp_relay.specs.declared.ends.Fault.TheVariants as faults
 use Rattle.capnp_relay.proofs.StepLemmas.{Stops-of_want, Stops-of_log, number-after}
 use Rattle.capnp_relay.proofs.step.step.Goals as goal
 
