@@ -135,24 +135,13 @@ impl Write for Short {
     }
 }
 
-/// The words of the one segment, where the first word isn't of a capability.
-fn one_segment(alloc: Global, message: &OwnedSegments) -> Result<Option<Vec<u64>>> {
-    let mut words = Vec::new(alloc);
-    let mut rest = match (message.len(), message.get_segment(0)) {
-        (1, Some(bytes)) => bytes,
-        _ => return Ok(None),
-    };
-    while let Some((bytes, behind)) = rest.split_first_chunk::<8>() {
-        words.push(u64::from_le_bytes(*bytes))?;
-        rest = behind;
-    }
-    match words.first() {
-        Some(3) => Ok(None),
-        _ => Ok(Some(words)),
-    }
+/// The first word of a message.
+fn first_word(message: &OwnedSegments) -> Option<u64> {
+    let bytes = message.get_segment(0)?.first_chunk::<8>()?;
+    Some(u64::from_le_bytes(*bytes))
 }
 
-/// Answers a message of one segment by itself, and refuses others as value.
+/// Answers a message by its first word, and refuses that of a capability as value.
 #[derive(Drop)]
 struct Echo;
 
@@ -166,17 +155,15 @@ impl Answers for Echo {
         alloc: Global,
         message: &OwnedSegments,
     ) -> std::result::Result<MessageAnswer, Want> {
-        match one_segment(alloc, message) {
-            Ok(Some(words)) => {
-                if words.len() >= 1 << 29 {
-                    return Err(Want::Size);
-                }
-                Ok(MessageAnswer::Written {
-                    words,
-                    replies: Vec::new(alloc),
-                })
-            }
-            Ok(None) => Ok(MessageAnswer::Refused(Reason::Value)),
+        let word = match first_word(message) {
+            None | Some(3) => return Ok(MessageAnswer::Refused(Reason::Value)),
+            Some(word) => word,
+        };
+        match vec![in alloc; word; 1] {
+            Ok(words) => Ok(MessageAnswer::Written {
+                words,
+                replies: Vec::new(alloc),
+            }),
             Err(_) => Err(Want::Memory),
         }
     }
