@@ -1,0 +1,24 @@
+-- Words and the bytes that are written of them.
+use Rattle.std.proofs.Common.{◌≡◌, ℕ, zero, suc, ◌+◌, ◌*◌, ◌/◌, ◌%◌, ◌^◌, ◌<◌, List, [], ◌∷◌, ◌++◌, length, get_or, sym, ap, ◌∙◌, arith, append-nil, length-append}
+use Rattle.std.specs.Int.{to_le_bytes, w64}
+use Rattle.capnp_model.specs.Messages.{frame}
+use Rattle.capnp_stream.proofs.WordLemmas.{AreBytes, frame-bytes}
+use Rattle.capnp_model.specs.Bytes.{bytes_of_words, words_in_bytes}
+use Rattle.capnp_model.specs.Spelling.{AreWords}
+use Rattle.capnp_model.proofs.ByteWords.{words_back, bytes_length}
+use Rattle.capnp_stream.specs.Segments.{whole_words}
+
+pub AreWords-of_items : (ws : List ℕ) → ((i : ℕ) → get_or ws i 0 < 2 ^ 64) → AreWords ws
+AreWords-of_items [] small = tt
+AreWords-of_items (w ∷ ws) small = (small 0, AreWords-of_items ws (λ i. small (suc i)))
+
+-- what is written of words is read back
+pub words-of_bytes : (ws bytes : List ℕ) → AreWords ws → bytes ≡ bytes_of_words ws → (whole_words bytes ≡ ws) × (length bytes ≡ 8 * length ws)
+words-of_bytes ws bytes small same =
+    let long : length bytes ≡ 8 * length ws = ap length same ∙ bytes_length ws in
+    let count : length bytes / 8 ≡ length ws = omega arith in
+    let back : words_in_bytes (length ws) (bytes_of_words ws) ≡ ws = ap (words_in_bytes (length ws)) (sym (append-nil (bytes_of_words ws))) ∙ words_back ws [] small in
+    (ap (λ n. words_in_bytes n bytes) count ∙ ap (words_in_bytes (length ws)) same ∙ back, long)
+
+pub frame-length : (bytes : List ℕ) → length bytes % 8 ≡ 0 → AreBytes bytes → length (frame (whole_words bytes ∷ [])) ≡ 8 + length bytes
+frame-length bytes whole small = ap length (frame-bytes bytes whole small) ∙ length-append (to_le_bytes w64 (length bytes / 8 * 2 ^ 32)) bytes

@@ -1,0 +1,11 @@
+//! A relay of framed messages: each message of a source is answered, and its answer written and logged.
+#![tactic(auto)]
+
+mod answers;
+pub mod ends;
+mod logging;
+mod reply;
+mod run;
+mod step;
+#[cfg(test)]
+mod tests;

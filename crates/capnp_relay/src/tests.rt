@@ -1,0 +1,363 @@
+//! Runs over streams that are whole, cut, fail or are too short.
+ghost use Rattle.std.specs.Prelude.{◌≡◌, ◌≤◌, length, ⊤};
+ghost use Rattle.capnp_units.specs.declared.kinds.ErrorKind.{ErrorKind};
+
+use crate::answers::{Answers, MessageAnswer, Reason, Want};
+use crate::ends::{Counts, Fault, RelayFault};
+use crate::logging::log_line;
+use crate::reply::Reply;
+use crate::run::run_messages;
+use capnp_stream::segments::OwnedSegments;
+use capnp_stream::traits::{BufRead, Read, Write};
+use capnp_units::errors::{Error, Result};
+use capnp_units::kinds::ErrorKind;
+use std::alloc::Global;
+use std::test::Fail;
+
+/// A source that shows one byte at a time, and fails after some.
+#[derive(Drop)]
+struct Drip<'a> {
+    bytes: &'a [u8],
+    left: usize,
+    failures: u64,
+}
+
+impl<'a> Drip<'a> {
+    fn new(bytes: &'a [u8], left: usize) -> Drip<'a> {
+        Drip {
+            bytes,
+            left,
+            failures: 0,
+        }
+    }
+
+    fn shown(&self) -> &[u8]
+        ensures { length result.now ≤ 1 }
+    {
+        let n = self.bytes.len().min(1);
+        &self.bytes[..n]
+    }
+
+    fn consume_one(&mut self)
+        ensures { self.new.failures ≡ self.old.failures }
+    {
+        let bytes = self.bytes;
+        let n = bytes.len().min(1);
+        self.bytes = &bytes[n..];
+        self.left = self.left.saturating_sub(1);
+    }
+}
+
+impl Read for Drip<'_> {
+    ghost failures = { λ d. d.failures };
+
+    ghost refuses = { λ k. k ≡ ErrorKind.Device };
+
+    fn read(&mut self, buf: &mut [u8]) -> Result<usize> {
+        let byte = match self.fill_buf()?.first() {
+            Some(b) => *b,
+            None => return Ok(0),
+        };
+        if buf.is_empty() {
+            return Ok(0);
+        }
+        buf[0] = byte;
+        self.consume_one();
+        Ok(1)
+    }
+
+    fn failures(&self) -> u64 {
+        self.failures
+    }
+}
+
+impl BufRead for Drip<'_> {
+    ghost shown = { λ _. 1 };
+
+    fn fill_buf(&mut self) -> Result<&[u8]> {
+        if self.left == 0 {
+            self.failures = self.failures.saturating_add(1);
+            return Err(Error::from(ErrorKind::Device));
+        }
+        Ok(self.shown())
+    }
+
+    fn consume(&mut self, amount: usize) {
+        if amount == 1 {
+            self.consume_one();
+        }
+    }
+
+    ghost device_alone = { λ _ e. e };
+}
+
+/// A sink that takes some bytes and then fails, or wants memory.
+#[derive(Drop)]
+struct Short {
+    held: Vec<u8>,
+    left: usize,
+    wants_memory: bool,
+    failures: u64,
+}
+
+impl Short {
+    fn new(alloc: Global, left: usize, wants_memory: bool) -> Short {
+        Short {
+            held: Vec::new(alloc),
+            left,
+            wants_memory,
+            failures: 0,
+        }
+    }
+}
+
+impl Write for Short {
+    ghost failures = { λ s. s.failures };
+
+    ghost may_grow = { Unit {0} };
+
+    fn write_all(&mut self, buf: &[u8]) -> Result<()> {
+        let n = buf.len().min(self.left);
+        if n < buf.len() && self.wants_memory {
+            return Err(Error::from(ErrorKind::OutOfMemory));
+        }
+        self.held.extend_from_slice(&buf[..n])?;
+        self.left -= n;
+        if n < buf.len() {
+            self.failures = self.failures.saturating_add(1);
+            return Err(Error::from(ErrorKind::Device));
+        }
+        Ok(())
+    }
+
+    fn failures(&self) -> u64 {
+        self.failures
+    }
+}
+
+/// The first word of a message.
+fn first_word(message: &OwnedSegments) -> Option<u64> {
+    let bytes = message.get_segment(0)?.first_chunk::<8>()?;
+    Some(u64::from_le_bytes(*bytes))
+}
+
+/// Answers a message by its first word, and refuses that of a capability as value.
+#[derive(Drop)]
+struct Echo;
+
+impl Answers for Echo {
+    ghost is_answer = { λ _ _ _. ⊤ };
+
+    ghost passes_size = { λ _ _. ⊤ };
+
+    fn answer(
+        &self,
+        alloc: Global,
+        message: &OwnedSegments,
+    ) -> std::result::Result<MessageAnswer, Want> {
+        let word = match first_word(message) {
+            None | Some(3) => return Ok(MessageAnswer::Refused(Reason::Value)),
+            Some(word) => word,
+        };
+        match vec![in alloc; word; 1] {
+            Ok(words) => Ok(MessageAnswer::Written {
+                words,
+                replies: Vec::new(alloc),
+            }),
+            Err(_) => Err(Want::Memory),
+        }
+    }
+}
+
+/// Has an answer to no message.
+#[derive(Drop)]
+struct Wanting(Want);
+
+impl Answers for Wanting {
+    ghost is_answer = { λ _ _ _. ⊤ };
+
+    ghost passes_size = { λ _ _. ⊤ };
+
+    fn answer(
+        &self,
+        _alloc: Global,
+        _message: &OwnedSegments,
+    ) -> std::result::Result<MessageAnswer, Want> {
+        Err(self.0)
+    }
+}
+
+/// A message of a capability, then one of the empty struct.
+const TWO: [u8; 32] = [
+    0, 0, 0, 0, 1, 0, 0, 0, 3, 0, 0, 0, 0, 0, 0, 0, 0, 0, 0, 0, 1, 0, 0, 0, 0xfc, 0xff, 0xff, 0xff,
+    0, 0, 0, 0,
+];
+
+/// Why the run over these bytes ends, and what it counted.
+fn ends(alloc: Global, bytes: &[u8], limit: usize) -> std::result::Result<Counts, RelayFault> {
+    let mut out = Vec::new(alloc);
+    let mut log = Vec::new(alloc);
+    run_messages(alloc, &mut &*bytes, &mut out, &mut log, &Echo, limit)
+}
+
+fn fault(fault: Fault, written: u64, refused: u64) -> std::result::Result<Counts, RelayFault> {
+    Err(RelayFault {
+        fault,
+        counts: Counts { written, refused },
+    })
+}
+
+#[test]
+fn each_message_is_answered(rt: HostRuntime) -> std::result::Result<(), Fail> {
+    let alloc = rt.alloc();
+    let mut out = Vec::new(alloc);
+    let mut log = Vec::new(alloc);
+    let mut source = TWO.as_slice();
+    let end = run_messages(alloc, &mut source, &mut out, &mut log, &Echo, 1000);
+    assert_eq!(rt;
+        end,
+        Ok(Counts {
+            written: 1,
+            refused: 1
+        })
+    );
+    assert_eq!(rt; out.as_slice(), &TWO[16..]);
+    assert_eq!(rt;
+        log.as_slice(),
+        b"message 1 refused: value\nmessage 2 written\n".as_slice()
+    );
+    Ok(())
+}
+
+#[test]
+fn lines_have_the_replies(rt: HostRuntime) -> std::result::Result<(), Fail> {
+    let alloc = rt.alloc();
+    let mut text = Vec::new(alloc);
+    text.extend_from_slice(b"\"hi\"")?;
+    let mut replies = Vec::new(alloc);
+    replies.push(Reply::Done)?;
+    replies.push(Reply::Text(text))?;
+    replies.push(Reply::Refused(ErrorKind::InactiveMember))?;
+    let answer = MessageAnswer::Written {
+        words: Vec::new(alloc),
+        replies,
+    };
+    assert_eq!(rt;
+        log_line(alloc, 10, &answer)?.as_slice(),
+        b"message 10 written; done; \"hi\"; refused InactiveMember\n".as_slice()
+    );
+    assert_eq!(rt;
+        log_line(alloc, 1, &MessageAnswer::Refused(Reason::Root))?.as_slice(),
+        b"message 1 refused: root\n".as_slice()
+    );
+    assert_eq!(rt;
+        log_line(alloc, 1, &MessageAnswer::Refused(Reason::Depth))?.as_slice(),
+        b"message 1 refused: depth\n".as_slice()
+    );
+    Ok(())
+}
+
+#[test]
+fn bytes_that_are_no_message_end_a_run(rt: HostRuntime) -> std::result::Result<(), Fail> {
+    let alloc = rt.alloc();
+    let none = Counts {
+        written: 0,
+        refused: 0,
+    };
+    assert_eq!(rt; ends(alloc, &[], 1000), Ok(none));
+    let cut = ErrorKind::FailedToFillTheWholeBuffer;
+    assert_eq!(rt;
+        ends(alloc, &[0, 0, 0, 0], 1000),
+        fault(Fault::Framing(cut), 0, 0)
+    );
+    assert_eq!(rt;
+        ends(alloc, &TWO[..31], 1000),
+        fault(Fault::Framing(cut), 0, 1)
+    );
+    let many = ErrorKind::InvalidNumberOfSegments;
+    assert_eq!(rt;
+        ends(alloc, &[0xff, 1, 0, 0, 0, 0, 0, 0], 1000),
+        fault(Fault::Framing(many), 0, 0)
+    );
+    let large = ErrorKind::MessageTooLarge;
+    assert_eq!(rt;
+        ends(alloc, &[0, 0, 0, 0, 2, 0, 0, 0], 1),
+        fault(Fault::Framing(large), 0, 0)
+    );
+    let end = fault(Fault::Framing(large), 0, 0);
+    assert_eq!(rt;
+        format!(in alloc; "{}", end.err().ok_or("no fault")?)?.as_str(),
+        "fault: framing MessageTooLarge"
+    );
+    Ok(())
+}
+
+#[test]
+fn a_failed_read_is_no_end(rt: HostRuntime) -> std::result::Result<(), Fail> {
+    let alloc = rt.alloc();
+    for n in 0..=TWO.len() {
+        let mut out = Vec::new(alloc);
+        let mut log = Vec::new(alloc);
+        let mut source = Drip::new(&TWO, n);
+        let end = run_messages(alloc, &mut source, &mut out, &mut log, &Echo, 1000);
+        let (written, refused) = ((n / 32) as u64, (n.min(16) / 16) as u64);
+        assert_eq!(rt; end, fault(Fault::Source, written, refused));
+        assert_eq!(rt; out.len(), n / 32 * 16);
+    }
+    Ok(())
+}
+
+#[test]
+fn a_failed_write_ends_a_run(rt: HostRuntime) -> std::result::Result<(), Fail> {
+    let alloc = rt.alloc();
+    for n in 0..16 {
+        let mut out = Short::new(alloc, n, false);
+        let mut log = Vec::new(alloc);
+        let mut source = TWO.as_slice();
+        let end = run_messages(alloc, &mut source, &mut out, &mut log, &Echo, 1000);
+        assert_eq!(rt; end, fault(Fault::Out, 0, 1));
+        assert_eq!(rt; out.held.as_slice(), &TWO[16..16 + n]);
+        assert_eq!(rt; log.as_slice(), b"message 1 refused: value\n".as_slice());
+    }
+    let mut out = Vec::new(alloc);
+    let mut log = Short::new(alloc, 30, false);
+    let end = run_messages(alloc, &mut TWO.as_slice(), &mut out, &mut log, &Echo, 1000);
+    assert_eq!(rt; end, fault(Fault::Log, 1, 1));
+    assert_eq!(rt; out.as_slice(), &TWO[16..]);
+    assert_eq!(rt;
+        log.held.as_slice(),
+        b"message 1 refused: value\nmessa".as_slice()
+    );
+    Ok(())
+}
+
+#[test]
+fn other_faults_end_a_run(rt: HostRuntime) -> std::result::Result<(), Fail> {
+    let alloc = rt.alloc();
+    let mut out = Short::new(alloc, 8, true);
+    let mut log = Vec::new(alloc);
+    let end = run_messages(alloc, &mut TWO.as_slice(), &mut out, &mut log, &Echo, 1000);
+    assert_eq!(rt; end, fault(Fault::Memory, 0, 1));
+    let mut room = [0u8; 15];
+    let end = run_messages(
+        alloc,
+        &mut TWO.as_slice(),
+        &mut room.as_mut_slice(),
+        &mut log,
+        &Echo,
+        1000,
+    );
+    assert_eq!(rt; end, fault(Fault::Out, 0, 1));
+    for (want, told) in [(Want::Memory, Fault::Memory), (Want::Size, Fault::Size)] {
+        let end = run_messages(
+            alloc,
+            &mut TWO.as_slice(),
+            &mut out,
+            &mut log,
+            &Wanting(want),
+            1000,
+        );
+        assert_eq!(rt; end, fault(told, 0, 0));
+    }
+    Ok(())
+}
