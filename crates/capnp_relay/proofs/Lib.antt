@@ -2,3 +2,5 @@ pub mod WordLemmas
 pub mod StepLemmas
 pub mod RunLemmas
 pub mod Whole
+pub mod Opening
+pub mod SegmentWords

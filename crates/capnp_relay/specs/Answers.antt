@@ -7,7 +7,7 @@ use Rattle.capnp_relay.specs.declared.answers.Reason.TheVariants as reasons
 use Rattle.capnp_relay.specs.declared.answers.MessageAnswer.{MessageAnswer}
 use Rattle.capnp_relay.specs.declared.answers.MessageAnswer.TheVariants as answers
 use Rattle.capnp_relay.specs.declared.ends.Counts.{Counts}
-use Rattle.capnp_relay.specs.Replies.{reply_view}
+use Rattle.capnp_calls.specs.Replies.{reply_view}
 
 -- The word that the log has for a reason.
 abbrev pub reason_name : Reason → List ℕ

@@ -1,5 +1,5 @@
-pub mod Replies
 pub mod Answers
 pub mod Streams
 pub mod Stops
 pub mod Run
+pub mod Messages

@@ -5,7 +5,7 @@ ghost use Rattle.capnp_model.specs.Answers.{Answer};
 ghost use Rattle.capnp_stream.specs.Segments.{segments_of};
 ghost use Rattle.capnp_relay.specs.Answers.{answer_view, HasFewWords, reason_name};
 
-use crate::reply::Reply;
+use capnp_calls::reply::Reply;
 use capnp_stream::segments::OwnedSegments;
 use std::alloc::Global;
 

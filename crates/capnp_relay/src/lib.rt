@@ -4,7 +4,7 @@
 mod answers;
 pub mod ends;
 mod logging;
-mod reply;
+mod message;
 mod run;
 mod step;
 #[cfg(test)]

@@ -2,11 +2,11 @@
 ghost use Rattle.std.specs.Prelude.{◌≡◌, ◌++◌, codes, IfOk, OnOk};
 ghost use Rattle.std.specs.List.{flat_map};
 ghost use Rattle.capnp_model.specs.Runs.{reply_words, answer_words, line_of};
-ghost use Rattle.capnp_relay.specs.Replies.{reply_view};
+ghost use Rattle.capnp_calls.specs.Replies.{reply_view};
 ghost use Rattle.capnp_relay.specs.Answers.{answer_view};
 
 use crate::answers::MessageAnswer;
-use crate::reply::Reply;
+use capnp_calls::reply::Reply;
 use std::alloc::{AllocError, Global};
 
 /// Appends a reply.

@@ -4,8 +4,8 @@ use Rattle.std.proofs.lemmas.Result.{IfOk-weaker}
 use Rattle.std.proofs.lemmas.List.Folds.{flat_map-map}
 use Rattle.capnp_model.specs.Runs.{reply_words}
 use Rattle.capnp_model.specs.Answers.{Reply as ModelReply}
-use Rattle.capnp_relay.specs.Replies.{reply_view}
-use Rattle.capnp_relay.specs.declared.reply.Reply.{Reply}
+use Rattle.capnp_calls.specs.Replies.{reply_view}
+use Rattle.capnp_calls.specs.declared.reply.Reply.{Reply}
 use Rattle.capnp_relay.proofs.logging.push_answer.Goals as goal
 
 pub returns-in_ok-extend_from_slice-in-Written : goal.returns-in_ok-extend_from_slice-in-Written

@@ -1,7 +1,7 @@
 use Rattle.std.proofs.Common.{◌≡◌, ◌++◌, codes, take}
 use Rattle.std.specs.List.{flat_map}
 use Rattle.capnp_model.specs.Runs.{reply_words}
-use Rattle.capnp_relay.specs.Replies.{reply_view}
+use Rattle.capnp_calls.specs.Replies.{reply_view}
 use Rattle.capnp_relay.proofs.logging.push_replies.Given as goal
 
 abbrev pub invariant-loop-reply : goal.invariant-loop-reply

@@ -5,7 +5,7 @@ use Rattle.capnp_model.specs.Messages.{frame}
 use Rattle.capnp_model.specs.Answers.{written}
 use Rattle.capnp_stream.specs.Segments.{whole_words}
 use Rattle.capnp_stream.specs.Streams.{RoomFalls}
-use Rattle.capnp_relay.specs.Replies.{reply_view}
+use Rattle.capnp_calls.specs.Replies.{reply_view}
 use Rattle.capnp_relay.specs.Answers.{answer_view}
 use Rattle.capnp_relay.specs.Streams.{sink_seen}
 use Rattle.capnp_relay.specs.declared.ends.Fault.TheVariants as faults

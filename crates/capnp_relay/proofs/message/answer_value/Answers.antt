@@ -1,0 +1,30 @@
+use Rattle.std.proofs.Common.{◌≡◌, ℤ, pos, Some, ap, sym, subst, ◌∙◌}
+use Rattle.std.specs.Prelude.{IfOk, option_map}
+use Rattle.capnp_model.specs.Trees.{Tree}
+use Rattle.capnp_value.specs.Values.{tree_of_value}
+use Rattle.capnp_calls.specs.RootViews.{struct_tree}
+use Rattle.capnp_relay.specs.Answers.{answer_view}
+use Rattle.capnp_relay.specs.Messages.{answer_to, IsLongAfter}
+use Rattle.capnp_relay.proofs.Opening.{opened-some, opened-none}
+use Rattle.capnp_relay.proofs.message.answer_value.Goals as goal
+
+pub returns-in-Ok-Some-clause-answer : goal.returns-in-Ok-Some-clause-answer
+returns-in-Ok-Some-clause-answer c =
+    let t : Tree = tree_of_value c.in-Some.value in
+    let n : ℤ = pos c.args.nesting in
+    let opened = opened-some c.args.schema c.args.calls.now n c.data_words.result c.pointers.result t (tree_of_value c.trim_whole.new.value) c.data_words.ensures c.pointers.ensures c.trim_whole.ensures.value (struct_tree c.in-Ok-Some.root) (ap (option_map struct_tree) (sym c.in-Ok-Some.field-0-is) ∙ c.in-Ok-Some.ensures.tree) in
+    subst (λ a'. IfOk c.answer_struct.result (λ a. answer_view a ≡ a')) (sym (ap (λ o. answer_to c.args.schema c.args.calls.now n (option_map tree_of_value o)) c.in-Some.is ∙ opened.0)) c.answer_struct.ensures.answer
+
+pub returns-in-Ok-Some-clause-size : goal.returns-in-Ok-Some-clause-size
+returns-in-Ok-Some-clause-size c = λ e.
+    let t : Tree = tree_of_value c.in-Some.value in
+    let n : ℤ = pos c.args.nesting in
+    let opened = opened-some c.args.schema c.args.calls.now n c.data_words.result c.pointers.result t (tree_of_value c.trim_whole.new.value) c.data_words.ensures c.pointers.ensures c.trim_whole.ensures.value (struct_tree c.in-Ok-Some.root) (ap (option_map struct_tree) (sym c.in-Ok-Some.field-0-is) ∙ c.in-Ok-Some.ensures.tree) in
+    (t, ap (option_map tree_of_value) c.in-Some.is, subst (IsLongAfter c.args.schema c.args.calls.now) opened.1 (c.answer_struct.ensures.size e))
+
+pub returns-in-Ok-None-clause-answer : goal.returns-in-Ok-None-clause-answer
+returns-in-Ok-None-clause-answer c =
+    let t : Tree = tree_of_value c.in-Some.value in
+    let n : ℤ = pos c.args.nesting in
+    opened-none c.args.schema c.args.calls.now n c.data_words.result c.pointers.result t (tree_of_value c.trim_whole.new.value) c.data_words.ensures c.pointers.ensures c.trim_whole.ensures.value (ap (option_map struct_tree) (sym c.in-Ok-None.field-0-is) ∙ c.in-Ok-None.ensures.tree)
+    ∙ ap (λ o. answer_to c.args.schema c.args.calls.now n (option_map tree_of_value o)) (sym c.in-Some.is)

@@ -1,0 +1,45 @@
+-- The answer of calls to a message, and the sizes that would pass their bounds on the way.
+use Rattle.std.specs.Prelude.{◌≡◌, ℕ, ℤ, ◌^◌, ◌<◌, ◌≤◌, ◌⊎◌, Option, Some, List, length, map, Any}
+use Rattle.capnp_units.specs.declared.kinds.ErrorKind.TheVariants as kind
+use Rattle.capnp_model.specs.Segments.{Segments}
+use Rattle.capnp_model.specs.Trees.{Tree}
+use Rattle.capnp_model.specs.Trimming.{trim}
+use Rattle.capnp_model.specs.Encoding.{canonical_words}
+use Rattle.capnp_model.specs.Answers.{Answer, answer_struct, answer_value, opened_root, value_within, Limits, IsAnswer}
+use Rattle.capnp_records.specs.Structs.{id_of}
+use Rattle.capnp_records.specs.declared.structs.StructSchema.{StructSchema}
+use Rattle.capnp_calls.specs.declared.call.Call.{Call}
+use Rattle.capnp_calls.specs.CallViews.{call_view}
+use Rattle.capnp_calls.specs.Texts.{as_it_is}
+use Rattle.capnp_calls.specs.Changes.{EndsRun}
+use Rattle.capnp_calls.specs.Taken.{taken_call, schema_around, tree_after_all}
+use Rattle.capnp_value.specs.Reads.{limits_view}
+use Rattle.capnp_relay.specs.declared.message.CallsAtRoot.{CallsAtRoot}
+
+-- The answer of calls that start from a struct.
+abbrev pub answer_from : StructSchema → List Call → ℤ → Tree → Answer
+answer_from root calls nesting t = answer_struct (schema_around root) as_it_is (id_of root) (map taken_call (map call_view calls)) nesting t
+
+-- The answer of calls to a value.
+abbrev pub answer_to : StructSchema → List Call → ℤ → Option Tree → Answer
+answer_to root calls nesting t = answer_value (schema_around root) as_it_is (id_of root) (map taken_call (map call_view calls)) nesting t
+
+-- This is the answer of calls to a message.
+abbrev pub IsAnswerOf : CallsAtRoot → Segments → Answer → Type 0
+IsAnswerOf c s a = IsAnswer (schema_around c.schema) as_it_is (id_of c.schema) (map taken_call (map call_view c.calls.now)) (limits_view c.bounds) s a
+
+-- A text that a call sets is too long, or the canonical segment after the calls would be.
+abbrev pub IsLongAfter : StructSchema → List Call → Tree → Type 0
+IsLongAfter root calls t = EndsRun calls kind.SizeOverflow ⊎ (2 ^ 29 ≤ length (canonical_words (trim (tree_after_all root (map call_view calls) t))))
+
+-- The calls at a value make what is too long.
+abbrev pub IsLongAt : StructSchema → List Call → Option Tree → Type 0
+IsLongAt root calls value = (t : Tree) × (value ≡ Some t) × IsLongAfter root calls (opened_root (schema_around root) (id_of root) t)
+
+-- There are too many segments, or one is longer than offsets reach.
+abbrev pub AreLong : Segments → Type 0
+AreLong s = (2 ^ 32 ≤ length s) ⊎ Any (λ ws. 2 ^ 29 < length ws) s
+
+-- A size would pass its bound on the way to the answer.
+abbrev pub PassesSize : CallsAtRoot → Segments → Type 0
+PassesSize c s = AreLong s ⊎ IsLongAt c.schema c.calls.now (value_within (limits_view c.bounds) s)

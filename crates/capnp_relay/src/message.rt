@@ -1,0 +1,157 @@
+//! The answer of calls to a message.
+ghost use Rattle.std.specs.Prelude.{◌≡◌, ◌^◌, ◌<◌, ◌≤◌, pos, map, length, vec_len, IfOk, IfSome, option_map};
+ghost use Rattle.capnp_units.specs.declared.kinds.ErrorKind.{ErrorKind};
+ghost use Rattle.capnp_model.specs.Fits.{Fits};
+ghost use Rattle.capnp_model.specs.Segments.{Segments};
+ghost use Rattle.capnp_stream.specs.Segments.{whole_words, segments_of};
+ghost use Rattle.capnp_records.specs.Structs.{words_in, pointers_in, shape_of_struct};
+ghost use Rattle.capnp_value.specs.Values.{tree_of_value};
+ghost use Rattle.capnp_value.specs.Places.{segments_view, AreShort};
+ghost use Rattle.capnp_calls.specs.RootViews.{struct_tree};
+ghost use Rattle.capnp_relay.specs.Answers.{answer_view, HasFewWords};
+ghost use Rattle.capnp_relay.specs.Messages.{answer_from, answer_to, IsAnswerOf, IsLongAfter, IsLongAt, AreLong, PassesSize};
+
+use crate::answers::{Answers, MessageAnswer, Reason, Want};
+use capnp_calls::Call;
+use capnp_calls::open::{close_struct, open_struct};
+use capnp_calls::root::StructValue;
+use capnp_calls::run::run_at;
+use capnp_records::structs::StructSchema;
+use capnp_stream::segments::OwnedSegments;
+use capnp_units::errors::Error;
+use capnp_units::kinds::ErrorKind;
+use capnp_value::value::{Bounds, Value, canonical, is_short, is_within, read_value, trim_whole};
+use std::alloc::Global;
+
+/// Why calls gave no replies, as the want of an answer.
+fn want_of(e: Error) -> Want
+    ensures { result ≡ Want.Size → e.kind ≡ ErrorKind.SizeOverflow }
+{
+    match e.kind {
+        ErrorKind::SizeOverflow => Want::Size,
+        _ => Want::Memory,
+    }
+}
+
+/// The answer of calls that start from this struct.
+fn answer_struct(
+    alloc: Global,
+    schema: StructSchema<'_>,
+    calls: &[Call],
+    nesting: u32,
+    mut root: StructValue,
+) -> Result<MessageAnswer, Want>
+    requires words { words_in (shape_of_struct schema) ≤ vec_len root.words }
+    requires pointers { pointers_in (shape_of_struct schema) ≤ vec_len root.children }
+    requires fits { Fits (struct_tree root) }
+    ensures answer { IfOk result (λ a. answer_view a ≡ answer_from schema.entry calls.now (pos nesting) (struct_tree root)) }
+    ensures few { IfOk result (λ a. HasFewWords (answer_view a)) }
+    ensures size { result ≡ Err Want.Size → IsLongAfter schema.entry calls.now (struct_tree root) }
+{
+    let replies = match run_at(alloc, schema, &mut root, calls) {
+        Ok(replies) => replies,
+        Err(e) => return Err(want_of(e)),
+    };
+    let mut value = close_struct(root);
+    if !is_within(&value, nesting) {
+        return Ok(MessageAnswer::Refused(Reason::Depth));
+    }
+    trim_whole(&mut value);
+    if !is_short(&value) {
+        return Err(Want::Size);
+    }
+    match canonical(alloc, &value) {
+        Ok(words) => Ok(MessageAnswer::Written { words, replies }),
+        Err(_) => Err(Want::Memory),
+    }
+}
+
+/// The answer of calls to a value that was read.
+fn answer_value(
+    alloc: Global,
+    schema: StructSchema<'_>,
+    calls: &[Call],
+    nesting: u32,
+    value: Option<Value>,
+) -> Result<MessageAnswer, Want>
+    requires fits { IfSome value (λ v. Fits (tree_of_value v)) }
+    ensures answer { IfOk result (λ a. answer_view a ≡ answer_to schema.entry calls.now (pos nesting) (option_map tree_of_value value)) }
+    ensures few { IfOk result (λ a. HasFewWords (answer_view a)) }
+    ensures size { result ≡ Err Want.Size → IsLongAt schema.entry calls.now (option_map tree_of_value value) }
+{
+    let Some(mut value) = value else {
+        return Ok(MessageAnswer::Refused(Reason::Value));
+    };
+    trim_whole(&mut value);
+    match open_struct(alloc, value, schema.data_words(), schema.pointers()) {
+        Ok(Some(root)) => answer_struct(alloc, schema, calls, nesting, root),
+        Ok(None) => Ok(MessageAnswer::Refused(Reason::Root)),
+        Err(_) => Err(Want::Memory),
+    }
+}
+
+/// The words of bytes, the lowest byte of each word first.
+fn words_of(alloc: Global, bytes: &[u8]) -> Result<Vec<u64>, Want>
+    ensures words { IfOk result (λ v. v.items ≡ whole_words bytes.now) }
+    ensures short { IfOk result (λ v. length v.items ≤ 2 ^ 29) }
+    ensures size { result ≡ Err Want.Size → 2 ^ 29 < length (whole_words bytes.now) }
+{
+    if bytes.len() / 8 > 0x2000_0000 {
+        return Err(Want::Size);
+    }
+    let mut words = Vec::new(alloc);
+    let mut left = bytes;
+    while let Some((first, rest)) = left.split_first_chunk::<8>() {
+        let word = u64::from_le_bytes(*first);
+        if let Err(_) = words.push(word) {
+            return Err(Want::Memory);
+        }
+        left = rest;
+    }
+    Ok(words)
+}
+
+/// The words of each segment of a message.
+fn words_of_segments(alloc: Global, message: &OwnedSegments) -> Result<Vec<Vec<u64>>, Want>
+    ensures segments { IfOk result (λ v. segments_view v.items ≡ segments_of message.now) }
+    ensures short { IfOk result (λ v. AreShort v.items) }
+    ensures size { result ≡ Err Want.Size → AreLong (segments_of message.now) }
+{
+    let mut segments = Vec::new(alloc);
+    let mut id = 0;
+    while let Some(bytes) = message.get_segment(id) {
+        let words = words_of(alloc, bytes)?;
+        if let Err(_) = segments.push(words) {
+            return Err(Want::Memory);
+        }
+        if id == u32::MAX {
+            return Err(Want::Size);
+        }
+        id += 1;
+    }
+    Ok(segments)
+}
+
+/// Calls at the roots of messages: the schema of a root, the calls, and how far a message is followed.
+#[derive(Clone, Copy)]
+pub(crate) struct CallsAtRoot<'a> {
+    pub(crate) schema: StructSchema<'a>,
+    pub(crate) calls: &'a [Call],
+    pub(crate) bounds: Bounds,
+}
+
+impl<'a> Answers for CallsAtRoot<'a> {
+    ghost is_answer = { IsAnswerOf };
+
+    ghost passes_size = { PassesSize };
+
+    fn answer(&self, alloc: Global, message: &OwnedSegments) -> Result<MessageAnswer, Want> {
+        let segments = words_of_segments(alloc, message)?;
+        match read_value(alloc, &segments, self.bounds) {
+            Ok(value) => {
+                answer_value(alloc, self.schema, self.calls, self.bounds.nesting, value)
+            }
+            Err(_) => Err(Want::Memory),
+        }
+    }
+}
