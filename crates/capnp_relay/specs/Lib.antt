@@ -3,3 +3,4 @@ pub mod Streams
 pub mod Stops
 pub mod Run
 pub mod Messages
+pub mod Options

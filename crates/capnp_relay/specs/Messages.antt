@@ -14,6 +14,7 @@ use Rattle.capnp_calls.specs.Texts.{as_it_is}
 use Rattle.capnp_calls.specs.Changes.{EndsRun}
 use Rattle.capnp_calls.specs.Taken.{taken_call, schema_around, tree_after_all}
 use Rattle.capnp_value.specs.Reads.{limits_view}
+use Rattle.capnp_value.specs.declared.value.read.Bounds.{Bounds}
 use Rattle.capnp_relay.specs.declared.message.CallsAtRoot.{CallsAtRoot}
 
 -- The answer of calls that start from a struct.
@@ -25,8 +26,12 @@ abbrev pub answer_to : StructSchema → List Call → ℤ → Option Tree → An
 answer_to root calls nesting t = answer_value (schema_around root) as_it_is (id_of root) (map taken_call (map call_view calls)) nesting t
 
 -- This is the answer of calls to a message.
+abbrev pub IsAnswerBy : StructSchema → List Call → Bounds → Segments → Answer → Type 0
+IsAnswerBy root calls bounds s a = IsAnswer (schema_around root) as_it_is (id_of root) (map taken_call (map call_view calls)) (limits_view bounds) s a
+
+-- The same of the calls at a root.
 abbrev pub IsAnswerOf : CallsAtRoot → Segments → Answer → Type 0
-IsAnswerOf c s a = IsAnswer (schema_around c.schema) as_it_is (id_of c.schema) (map taken_call (map call_view c.calls.now)) (limits_view c.bounds) s a
+IsAnswerOf c s a = IsAnswerBy c.schema c.calls.now c.bounds s a
 
 -- A text that a call sets is too long, or the canonical segment after the calls would be.
 abbrev pub IsLongAfter : StructSchema → List Call → Tree → Type 0
@@ -41,5 +46,9 @@ abbrev pub AreLong : Segments → Type 0
 AreLong s = (2 ^ 32 ≤ length s) ⊎ Any (λ ws. 2 ^ 29 < length ws) s
 
 -- A size would pass its bound on the way to the answer.
+abbrev pub PassesSizeBy : StructSchema → List Call → Bounds → Segments → Type 0
+PassesSizeBy root calls bounds s = AreLong s ⊎ IsLongAt root calls (value_within (limits_view bounds) s)
+
+-- The same of the calls at a root.
 abbrev pub PassesSize : CallsAtRoot → Segments → Type 0
-PassesSize c s = AreLong s ⊎ IsLongAt c.schema c.calls.now (value_within (limits_view c.bounds) s)
+PassesSize c s = PassesSizeBy c.schema c.calls.now c.bounds s

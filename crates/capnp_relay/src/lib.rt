@@ -5,6 +5,8 @@ mod answers;
 pub mod ends;
 mod logging;
 mod message;
+pub mod options;
+pub mod relay;
 mod run;
 mod step;
 #[cfg(test)]

@@ -1,0 +1,75 @@
+//! The options of a relay.
+ghost use Rattle.std.specs.Prelude.{IfOk, IfErr};
+ghost use Rattle.capnp_relay.specs.Options.{IsOf, IsRefusalOf};
+
+use capnp_value::value::Bounds;
+
+/// How messages are spelled.
+#[derive(Clone, Copy, Debug, PartialEq, Eq)]
+pub enum Form {
+    /// A table of the segments' lengths, and the segments.
+    Framed,
+    /// The same, packed. No relay takes it yet.
+    Packed,
+}
+
+/// How far messages are followed when they are read.
+#[derive(Clone, Copy, Debug, PartialEq, Eq)]
+pub struct ReaderOptions {
+    /// The most words of a message and of what is followed in it; `None`: any number.
+    pub traversal_limit_in_words: Option<usize>,
+    /// The most levels of pointers.
+    pub nesting_limit: i32,
+}
+
+/// Why options are refused.
+#[derive(Clone, Copy, Debug, PartialEq, Eq, thiserror::Error)]
+pub enum OptionsFault {
+    /// There is no limit of words.
+    #[error("no limit of words")]
+    NoWordLimit,
+    /// The limit of words is 2^29 - 1 or more.
+    #[error("the limit of words is too large")]
+    WordLimitTooLarge,
+    /// The limit of levels is negative.
+    #[error("the limit of levels is negative")]
+    NegativeNesting,
+}
+
+/// The forms of a relay's input and output, and how far it follows messages.
+#[derive(Clone, Copy)]
+pub struct RelayOptions {
+    pub(crate) input: Form,
+    pub(crate) output: Form,
+    pub(crate) bounds: Bounds,
+}
+
+impl RelayOptions {
+    /// The options of these forms and limits.
+    pub fn new(
+        input: Form,
+        output: Form,
+        options: ReaderOptions,
+    ) -> Result<RelayOptions, OptionsFault>
+        ensures options { IfOk result (IsOf input output options) }
+        ensures refused { IfErr result (IsRefusalOf options) }
+    {
+        let Some(words) = options.traversal_limit_in_words else {
+            return Err(OptionsFault::NoWordLimit);
+        };
+        if words >= 0x1fff_ffff {
+            return Err(OptionsFault::WordLimitTooLarge);
+        }
+        if options.nesting_limit < 0 {
+            return Err(OptionsFault::NegativeNesting);
+        }
+        Ok(RelayOptions {
+            input,
+            output,
+            bounds: Bounds {
+                words: words as u32,
+                nesting: options.nesting_limit as u32,
+            },
+        })
+    }
+}
