@@ -1,5 +1,5 @@
 -- Words and the bytes that are written of them.
-use Rattle.std.proofs.Common.{◌≡◌, ℕ, zero, suc, ◌+◌, ◌*◌, ◌/◌, ◌%◌, ◌^◌, ◌<◌, List, [], ◌∷◌, ◌++◌, length, get_or, sym, ap, ◌∙◌, arith, append-nil, length-append}
+use Rattle.std.proofs.Common.{◌≡◌, ℕ, suc, ◌+◌, ◌*◌, ◌/◌, ◌%◌, ◌^◌, ◌<◌, List, [], ◌∷◌, length, get_or, sym, ap, ◌∙◌, arith, append-nil, length-append}
 use Rattle.std.specs.Int.{to_le_bytes, w64}
 use Rattle.capnp_model.specs.Messages.{frame}
 use Rattle.capnp_stream.proofs.WordLemmas.{AreBytes, frame-bytes}

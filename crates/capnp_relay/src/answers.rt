@@ -1,5 +1,5 @@
 //! What a message is answered by.
-ghost use Rattle.std.specs.Prelude.{◌≡◌, ◌<◌, ◌^◌, IfOk};
+ghost use Rattle.std.specs.Prelude.{◌≡◌, ◌<◌, IfOk};
 ghost use Rattle.capnp_model.specs.Segments.{Segments};
 ghost use Rattle.capnp_model.specs.Answers.{Answer};
 ghost use Rattle.capnp_stream.specs.Segments.{segments_of};

@@ -1,5 +1,5 @@
 //! The loop of the relay.
-ghost use Rattle.std.specs.Prelude.{◌≡◌, ℕ, List, Some, IfOk, IfErr, OnOk, IfSome};
+ghost use Rattle.std.specs.Prelude.{Some, IfOk, IfErr, OnOk, IfSome};
 ghost use Rattle.capnp_units.specs.Errors.{kind_of};
 ghost use Rattle.capnp_model.specs.Runs.{finished, broken};
 ghost use Rattle.capnp_relay.specs.Streams.{source_seen, sink_seen, seen};

@@ -1,5 +1,5 @@
 //! One message of a run.
-ghost use Rattle.std.specs.Prelude.{◌≡◌, ◌≢◌, true, false, ℕ, List, ◌+◌, ◌-◌, ◌*◌, ◌^◌, ◌<◌, ◌%◌, ◌⊎◌, [], ◌∷◌, ⊤, Some, IfOk, IfErr, OnOk, length};
+ghost use Rattle.std.specs.Prelude.{◌≡◌, ◌≢◌, true, false, List, ◌+◌, ◌-◌, ◌*◌, ◌^◌, ◌<◌, ◌⊎◌, Some, IfOk, IfErr, OnOk, length};
 ghost use Rattle.std.specs.Io.KnownBytes.{IsAtEnd};
 ghost use Rattle.capnp_units.specs.declared.kinds.ErrorKind.{ErrorKind};
 ghost use Rattle.capnp_model.specs.Segments.{Segments};
@@ -7,10 +7,9 @@ ghost use Rattle.capnp_model.specs.Bytes.{bytes_of_words};
 ghost use Rattle.capnp_model.specs.Messages.{frame};
 ghost use Rattle.capnp_model.specs.Answers.{Reply as ModelReply, written};
 ghost use Rattle.capnp_model.specs.Runs.{line_of, output_of};
-ghost use Rattle.capnp_stream.specs.Streams.{IsWriteRefusal};
 ghost use Rattle.capnp_stream.specs.Segments.{whole_words, segments_of};
 ghost use Rattle.capnp_relay.specs.Answers.{answer_view, HasFewWords, HoldsSegment, written_one, refused_one};
-ghost use Rattle.capnp_relay.specs.Streams.{SourceStays, SinkStays, SinkTakes, SinkTakesPart, SinkFails, source_seen, sink_seen, seen};
+ghost use Rattle.capnp_relay.specs.Streams.{SourceStays, SinkStays, SinkTakes, source_seen, sink_seen, seen};
 ghost use Rattle.capnp_relay.specs.Stops.{AnswersOne, Stops, SinkRefused};
 
 use crate::answers::{Answers, MessageAnswer, Want};

@@ -1,4 +1,4 @@
-use Rattle.std.proofs.Common.{◌≡◌, ℕ, List, ◌+◌, ◌^◌, ◌-◌, length, Some}
+use Rattle.std.proofs.Common.{◌≡◌, List, ◌+◌, ◌^◌, ◌-◌, length, Some}
 use Rattle.capnp_model.specs.Segments.{Segments}
 use Rattle.capnp_model.specs.Answers.{Answer}
 use Rattle.capnp_relay.specs.Streams.{source_seen, sink_seen, seen}

@@ -1,4 +1,4 @@
-use Rattle.std.proofs.Common.{◌≡◌, ℕ, List, ap, ◌∙◌, arith, take, take_all}
+use Rattle.std.proofs.Common.{◌≡◌, ap, ◌∙◌, arith, take, take_all}
 use Rattle.capnp_model.specs.Bytes.{bytes_of_words}
 use Rattle.capnp_relay.proofs.WordLemmas.{AreWords-of_items, words-of_bytes}
 use Rattle.capnp_relay.proofs.step.bytes_of.Goals as goal
