@@ -1,5 +1,5 @@
 //! The options of a relay.
-ghost use Rattle.std.specs.Prelude.{IfOk, IfErr};
+ghost use Rattle.std.specs.Prelude.{◌≡◌, ◌+◌, ◌*◌, IfOk, IfErr};
 ghost use Rattle.capnp_relay.specs.Options.{IsOf, IsRefusalOf};
 
 use capnp_value::value::Bounds;
@@ -71,5 +71,12 @@ impl RelayOptions {
                 nesting: options.nesting_limit as u32,
             },
         })
+    }
+
+    /// How many bytes the region of a relay has: 8 for each word of the word limit, and 8 more.
+    pub fn region_len(&self) -> usize
+        ensures { result ≡ 8 * (self.now.bounds.words + 1) }
+    {
+        8 * (self.bounds.words as usize + 1)
     }
 }

@@ -1,0 +1,117 @@
+//! The settings that are built in.
+
+use capnp_calls::{Call, CallFault, CallValue, Step, Verb};
+use capnp_records::fault::SchemaFault;
+use capnp_records::node::{
+    BaseType, FieldBody, FieldRecord, NO_DISCRIMINANT, NodeBody, NodeRecord, StructRecord,
+    TypeRecord, Value,
+};
+use capnp_records::set::SchemaSet;
+use capnp_relay::ends::Fault;
+use capnp_relay::options::{Form, ReaderOptions, RelayOptions};
+use std::alloc::{AllocError, AllocFailed, Global};
+
+/// The id of the root's node.
+pub const ROOT: u64 = 1;
+
+/// Why the program ends with status 1.
+#[derive(Clone, Copy, Debug, thiserror::Error)]
+pub enum Stop {
+    /// A rule of schemas is broken, by the node of this number.
+    #[error("schema rule {rule} node {node}")]
+    Schema { rule: u32, node: u32 },
+    /// The call of this number is none.
+    #[error("call {0}")]
+    Call(u32),
+    /// The options are refused.
+    #[error("options")]
+    Options,
+    /// There is no struct node of the root's id.
+    #[error("root")]
+    Root,
+    /// The relay met a fault.
+    #[error("{0}")]
+    Relay(Fault),
+}
+
+impl From<AllocError> for Stop {
+    fn from(_e: AllocError) -> Stop {
+        Stop::Relay(Fault::Memory)
+    }
+}
+
+impl<T: Drop> From<AllocFailed<T>> for Stop {
+    fn from(_e: AllocFailed<T>) -> Stop {
+        Stop::Relay(Fault::Memory)
+    }
+}
+
+/// A field that is a slot, in no union.
+fn slot(
+    alloc: Global,
+    name: &str,
+    base: BaseType,
+    default: Option<Value>,
+) -> Result<FieldRecord, AllocError> {
+    Ok(FieldRecord {
+        name: String::from_str(alloc, name)?,
+        discriminant_value: NO_DISCRIMINANT,
+        annotations: Vec::new(alloc),
+        body: FieldBody::Slot {
+            offset: 0,
+            ty: TypeRecord {
+                list_count: 0,
+                base,
+            },
+            default,
+        },
+    })
+}
+
+/// The schema: one struct of one data word and one pointer, with the number `a` and the text `t`.
+pub fn schema(alloc: Global) -> Result<SchemaSet, Stop> {
+    let fields = vec![in alloc;
+        slot(alloc, "a", BaseType::UInt16, Some(Value::UInt16(0)))?,
+        slot(alloc, "t", BaseType::Text, None)?,
+    ]?;
+    let node = NodeRecord {
+        id: ROOT,
+        display_name: String::from_str(alloc, "P")?,
+        annotations: Vec::new(alloc),
+        body: NodeBody::Struct(StructRecord {
+            data_word_count: 1,
+            pointer_count: 1,
+            is_group: false,
+            discriminant_count: 0,
+            discriminant_offset: 0,
+            fields,
+        }),
+    };
+    match SchemaSet::new(vec![in alloc; node]?) {
+        Ok(set) => Ok(set),
+        Err(SchemaFault::Rule { rule, node }) => Err(Stop::Schema { rule, node }),
+        Err(SchemaFault::Memory) => Err(Stop::Relay(Fault::Memory)),
+    }
+}
+
+/// The one call: `set a = 7`.
+pub fn calls(alloc: Global) -> Result<Vec<Call>, Stop> {
+    let path = vec![in alloc; Step::Name(String::from_str(alloc, "a")?)]?;
+    match Call::new(path, Verb::Set, Some(CallValue::Number(7))) {
+        Ok(call) => Ok(vec![in alloc; call]?),
+        Err(CallFault::Memory) => Err(Stop::Relay(Fault::Memory)),
+        Err(_) => Err(Stop::Call(1)),
+    }
+}
+
+/// Both forms framed, 1000 words and 64 levels.
+pub fn options() -> Result<RelayOptions, Stop> {
+    let limits = ReaderOptions {
+        traversal_limit_in_words: Some(1000),
+        nesting_limit: 64,
+    };
+    match RelayOptions::new(Form::Framed, Form::Framed, limits) {
+        Ok(options) => Ok(options),
+        Err(_) => Err(Stop::Options),
+    }
+}
