@@ -1,8 +1,8 @@
 -- The words of bytes, one after the other.
-use Rattle.std.proofs.Common.{◌≡◌, ℕ, zero, suc, ◌+◌, ◌*◌, ◌/◌, ◌<◌, ◌≤◌, List, [], ◌∷◌, ◌++◌, length, take, drop, refl, ap, sym, subst, ◌^◌, ◌∙◌, append_assoc, append-nil, arith}
+use Rattle.std.proofs.Common.{◌≡◌, ℕ, zero, suc, ◌/◌, ◌<◌, ◌≤◌, List, [], ◌∷◌, ◌++◌, length, take, drop, refl, ap, sym, subst, ◌^◌, ◌∙◌, append_assoc, arith}
 use Rattle.std.specs.Int.{from_le_bytes, w64}
 use Rattle.capnp_model.specs.Bytes.{words_in_bytes}
-use Rattle.std.specs.Prelude.{Option, Some, IfSome, Vec, slice_get}
+use Rattle.std.specs.Prelude.{Some, IfSome, Vec, slice_get}
 use Rattle.std.specs.declared.alloc.Global.{Global}
 use Rattle.capnp_model.specs.Segments.{Segments}
 use Rattle.capnp_value.specs.Places.{segments_view, AreShort}

@@ -1,11 +1,11 @@
 -- The answer of calls to a message, and the sizes that would pass their bounds on the way.
-use Rattle.std.specs.Prelude.{◌≡◌, ℕ, ℤ, ◌^◌, ◌<◌, ◌≤◌, ◌⊎◌, Option, Some, List, length, map, Any}
+use Rattle.std.specs.Prelude.{◌≡◌, ℤ, ◌^◌, ◌<◌, ◌≤◌, ◌⊎◌, Option, Some, List, length, map, Any}
 use Rattle.capnp_units.specs.declared.kinds.ErrorKind.TheVariants as kind
 use Rattle.capnp_model.specs.Segments.{Segments}
 use Rattle.capnp_model.specs.Trees.{Tree}
 use Rattle.capnp_model.specs.Trimming.{trim}
 use Rattle.capnp_model.specs.Encoding.{canonical_words}
-use Rattle.capnp_model.specs.Answers.{Answer, answer_struct, answer_value, opened_root, value_within, Limits, IsAnswer}
+use Rattle.capnp_model.specs.Answers.{Answer, answer_struct, answer_value, opened_root, value_within, IsAnswer}
 use Rattle.capnp_records.specs.Structs.{id_of}
 use Rattle.capnp_records.specs.declared.structs.StructSchema.{StructSchema}
 use Rattle.capnp_calls.specs.declared.call.Call.{Call}

@@ -1,5 +1,5 @@
 -- What a clause reads of the options of a relay.
-use Rattle.std.specs.Prelude.{◌≡◌, ℕ, ℤ, pos, ◌-◌, ◌^◌, ◌<◌, ◌≤◌, ◌<ℤ◌, Option, Some, None}
+use Rattle.std.specs.Prelude.{◌≡◌, ℕ, pos, ◌-◌, ◌^◌, ◌<◌, ◌≤◌, ◌<ℤ◌, Some, None}
 use Rattle.capnp_relay.specs.declared.options.Form.{Form}
 use Rattle.capnp_relay.specs.declared.options.Form.TheVariants as form
 use Rattle.capnp_relay.specs.declared.options.ReaderOptions.{ReaderOptions}

@@ -13,8 +13,8 @@ mod trim;
 mod write;
 
 pub use depth::is_within;
-pub use size::is_short;
 pub use read::{Bounds, read_value};
+pub use size::is_short;
 pub use trim::trim_whole;
 pub use write::canonical;
 

@@ -1,6 +1,5 @@
 use Rattle.std.proofs.Common.{◌≡◌, refl, subst, inl}
-use Rattle.std.specs.Prelude.{IfErr, Result}
-use Rattle.capnp_relay.specs.declared.answers.Want.{Want}
+use Rattle.std.specs.Prelude.{IfErr}
 use Rattle.capnp_relay.specs.declared.answers.Want.TheVariants as want
 use Rattle.capnp_calls.specs.Changes.{EndsRun}
 use Rattle.capnp_relay.proofs.message.answer_struct.Goals as goal

@@ -1,7 +1,7 @@
-use Rattle.std.proofs.Common.{◌≡◌, ◌≤◌, ◌<◌, ◌^◌, ℕ, List, length, ap, ◌∙◌, arith, length-append}
+use Rattle.std.proofs.Common.{◌≤◌, ℕ, List, length, ap, ◌∙◌, arith, length-append}
 use Rattle.std.specs.Int.{from_le_bytes, w64}
 use Rattle.capnp_stream.specs.Segments.{whole_words}
-use Rattle.capnp_relay.proofs.SegmentWords.{words-step, no_words, length-whole_words}
+use Rattle.capnp_relay.proofs.SegmentWords.{words-step, length-whole_words}
 use Rattle.capnp_relay.proofs.message.words_of.Goals as goal
 
 pub loop-first-preserved : goal.loop-first-preserved

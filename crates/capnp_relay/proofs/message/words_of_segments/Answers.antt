@@ -1,4 +1,4 @@
-use Rattle.std.proofs.Common.{◌≡◌, ◌+◌, ◌≤◌, ap, sym, subst, ◌∙◌, take, ◌++◌, ◌∷◌, [], length, add-one, refl, rules, arith}
+use Rattle.std.proofs.Common.{ap, sym, subst, ◌∙◌, take, ◌++◌, ◌∷◌, [], add-one, refl, arith}
 use Rattle.capnp_stream.specs.Segments.{segments_of}
 use Rattle.capnp_value.specs.Places.{segments_view, AreShort}
 use Rattle.capnp_relay.proofs.SegmentWords.{take-found, segments_view-more, short-more}

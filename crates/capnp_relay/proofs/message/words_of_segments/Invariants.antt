@@ -1,4 +1,4 @@
-use Rattle.std.proofs.Common.{◌≡◌, ℕ, ◌^◌, ◌-◌, ◌≤◌, take, length}
+use Rattle.std.proofs.Common.{◌≡◌, ◌^◌, ◌-◌, ◌≤◌, take, length}
 use Rattle.capnp_stream.specs.Segments.{segments_of}
 use Rattle.capnp_value.specs.Places.{segments_view, AreShort}
 use Rattle.capnp_relay.proofs.message.words_of_segments.Given as goal
