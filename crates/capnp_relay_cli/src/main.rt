@@ -4,6 +4,8 @@
 #![tactic(auto)]
 
 mod settings;
+#[cfg(test)]
+mod tests;
 
 use capnp_records::structs::StructSchema;
 use capnp_relay::ends::Fault;
