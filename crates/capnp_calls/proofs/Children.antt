@@ -30,5 +30,5 @@ pub Fits-kept : (old new : StructValue)
 Fits-kept old new words_fit same keep f =
     let words : length new.words.items < 2 ^ 16 = omega (arith, new.words.ok.0, same.words, f.0) in
     let kids : tree_count (cell_of new).kids < 2 ^ 16 =
-      omega (arith, tree_count-trees_of new.children.items, new.children.ok.0, same.pointers, old.children.ok.0, tree_count-trees_of old.children.items, f.1) in
+    omega (arith, tree_count-trees_of new.children.items, new.children.ok.0, same.pointers, old.children.ok.0, tree_count-trees_of old.children.items, f.1) in
     rw (new.words.ok.0) (words_fit new.words.items (cell_of new).kids words kids (keep f.3))
