@@ -15,6 +15,8 @@ pub mod root;
 pub mod run;
 mod section;
 mod shown;
+#[cfg(test)]
+mod tests;
 mod text;
 
 pub use call::{Call, CallFault, CallValue, Step, Verb};
