@@ -1,5 +1,5 @@
 -- What a clause reads of the options of a relay.
-use Rattle.std.specs.Prelude.{◌≡◌, ℕ, pos, ◌-◌, ◌^◌, ◌<◌, ◌≤◌, ◌<ℤ◌, Some, None}
+use Rattle.std.specs.Prelude.{◌≡◌, ℕ, pos, ◌-◌, ◌^◌, ◌<◌, ◌≤◌, ◌<ℤ◌, Some, None, ⊤}
 use Rattle.capnp_relay.specs.declared.options.Form.{Form}
 use Rattle.capnp_relay.specs.declared.options.Form.TheVariants as form
 use Rattle.capnp_relay.specs.declared.options.ReaderOptions.{ReaderOptions}
@@ -20,6 +20,11 @@ abbrev pub IsRefusalOf : ReaderOptions → OptionsFault → Type 0
 IsRefusalOf options fault.NoWordLimit = options.traversal_limit_in_words ≡ None
 IsRefusalOf options fault.WordLimitTooLarge = (n : ℕ) × (options.traversal_limit_in_words ≡ Some n) × (2 ^ 29 - 1 ≤ n)
 IsRefusalOf options fault.NegativeNesting = (n : ℕ) × (options.traversal_limit_in_words ≡ Some n) × (n < 2 ^ 29 - 1) × (options.nesting_limit <ℤ pos 0)
+
+-- What holds where the input or the output is packed.
+abbrev pub IfPacked : Form → Form → Type 0 → Type 0
+IfPacked form.Framed form.Framed holds = ⊤
+IfPacked _ _ holds = holds
 
 -- Input and output are framed.
 abbrev pub IsFramed : RelayOptions → Type 0

@@ -25,7 +25,8 @@ use std::alloc::Global;
 
 /// Why calls gave no replies, as the want of an answer.
 fn want_of(e: Error) -> Want
-    ensures { result ≡ Want.Size → e.kind ≡ ErrorKind.SizeOverflow }
+    ensures size { result ≡ Want.Size → e.kind ≡ ErrorKind.SizeOverflow }
+    ensures overflow { e.kind ≡ ErrorKind.SizeOverflow → result ≡ Want.Size }
 {
     match e.kind {
         ErrorKind::SizeOverflow => Want::Size,

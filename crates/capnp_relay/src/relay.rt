@@ -1,11 +1,12 @@
 //! The relay.
 ghost use Rattle.std.specs.Prelude.{◌≡◌, ◌+◌, ◌*◌, Some, IfOk, IfErr, OnOk, IfSome, length, replicate};
+ghost use Rattle.capnp_units.specs.declared.kinds.ErrorKind.{ErrorKind};
 ghost use Rattle.capnp_units.specs.Errors.{kind_of};
 ghost use Rattle.capnp_model.specs.Runs.{finished, broken};
 ghost use Rattle.capnp_relay.specs.Streams.{source_seen, sink_seen, seen};
 ghost use Rattle.capnp_relay.specs.Run.{RunsOut, RunStops, GoesTo, IfFraming};
 ghost use Rattle.capnp_relay.specs.Messages.{IsAnswerBy, PassesSizeBy};
-ghost use Rattle.capnp_relay.specs.Options.{IsFramed};
+ghost use Rattle.capnp_relay.specs.Options.{IsFramed, IfPacked};
 
 use crate::ends::{Counts, Fault, RelayFault};
 use crate::message::CallsAtRoot;
@@ -52,6 +53,9 @@ pub fn relay<R: BufRead, W: Write, L: Write>(
         (seen (source_seen R.remaining R.failures source.old) (sink_seen W.contents W.failures W.room out.old) (sink_seen L.contents L.failures L.room log.old))
         (seen (source_seen R.remaining R.failures source.new) (sink_seen W.contents W.failures W.room out.new) (sink_seen L.contents L.failures L.room log.new))
         e.counts) }
+    // A packed form is refused, and nothing is touched.
+    ensures packed { IfPacked options.input options.output ((result ≡ Err (record { fault = Fault.Framing ErrorKind.FailedToFillTheWholeBuffer; counts = record { written = 0; refused = 0 } }))
+        × (source.new ≡ source.old) × (out.new ≡ out.old) × (log.new ≡ log.old)) }
     ensures zeros { region.new ≡ replicate (length region.old) 0 }
 {
     region.fill(0);
