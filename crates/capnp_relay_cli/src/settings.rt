@@ -1,4 +1,7 @@
 //! The settings that are built in.
+ghost use Rattle.std.specs.Prelude.{pos, Some, IfOk, IsOk};
+ghost use Rattle.capnp_relay.specs.declared.options.Form.{Form};
+ghost use Rattle.capnp_relay.specs.Options.{IsOf};
 
 use capnp_calls::{Call, CallFault, CallValue, Step, Verb};
 use capnp_records::fault::SchemaFault;
@@ -105,7 +108,10 @@ pub fn calls(alloc: Global) -> Result<Vec<Call>, Stop> {
 }
 
 /// Both forms framed, 1000 words and 64 levels.
-pub fn options() -> Result<RelayOptions, Stop> {
+pub fn options() -> Result<RelayOptions, Stop>
+    ensures limits { IfOk result (IsOf Form.Framed Form.Framed (record { traversal_limit_in_words = Some 1000; nesting_limit = pos 64 })) }
+    ensures taken { IsOk result }
+{
     let limits = ReaderOptions {
         traversal_limit_in_words: Some(1000),
         nesting_limit: 64,
