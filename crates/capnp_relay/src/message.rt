@@ -13,9 +13,10 @@ ghost use Rattle.capnp_relay.specs.Messages.{answer_from, answer_to, IsAnswerOf,
 
 use crate::answers::{Answers, MessageAnswer, Reason, Want};
 use capnp_calls::Call;
+use capnp_calls::dynamic_struct::Builder;
 use capnp_calls::open::{close_struct, open_struct};
 use capnp_calls::root::StructValue;
-use capnp_calls::run::run_at;
+use capnp_calls::run::run;
 use capnp_records::structs::StructSchema;
 use capnp_stream::segments::OwnedSegments;
 use capnp_units::errors::Error;
@@ -49,7 +50,7 @@ fn answer_struct(
     ensures few { IfOk result (λ a. HasFewWords (answer_view a)) }
     ensures size { result ≡ Err Want.Size → IsLongAfter schema.entry calls.now (struct_tree root) }
 {
-    let replies = match run_at(alloc, schema, &mut root, calls) {
+    let replies = match run(alloc, Builder::new(schema, &mut root), calls) {
         Ok(replies) => replies,
         Err(e) => return Err(want_of(e)),
     };
