@@ -1,2 +1,5 @@
 pub mod Errors
+pub mod Sizes
+pub mod Limits
+pub mod Segments
 pub use Rattle.capnp_model.specs.Kinds
