@@ -3,6 +3,7 @@
 
 pub mod adapters;
 mod devices;
+pub mod forms;
 pub mod frames;
 pub mod memory;
 pub mod segments;
