@@ -9,7 +9,7 @@ use Rattle.capnp_model.specs.Messages.{Reader, Writer, message_at}
 use Rattle.capnp_model.specs.Answers.{Answer, refused_value, refused_root, refused_depth, written}
 use Rattle.capnp_model.specs.Runs.{BeginWith, AnswerEach, output_of, outputs_of, line_of, lines_of}
 use Rattle.capnp_stream.specs.Pieces.{ReadsFronts}
-use Rattle.capnp_stream.proofs.FrameLemmas.{message_at-more}
+use Rattle.capnp_stream.proofs.PieceLemmas.{message_more}
 use Rattle.capnp_stream.specs.Streams.{RoomFalls}
 use Rattle.capnp_relay.specs.declared.ends.Counts.{Counts}
 use Rattle.capnp_relay.specs.Answers.{written_one, refused_one}
@@ -21,7 +21,7 @@ use Rattle.capnp_relay.specs.Run.{Answered}
 pub BeginWith-more : (read : Reader) → ReadsFronts read → (limit : Option ℕ) (bytes : List ℕ) (messages : List Segments) (rest more : List ℕ) → BeginWith read limit bytes messages rest → BeginWith read limit (bytes ++ more) messages (rest ++ more)
 BeginWith-more read fronts limit bytes [] rest more begins = ap (λ l. l ++ more) begins
 BeginWith-more read fronts limit bytes (s ∷ messages) rest more begins =
-    (begins.0 ++ more, message_at-more read fronts limit bytes (s, begins.0) more begins.1, BeginWith-more read fronts limit begins.0 messages rest more begins.2)
+    (begins.0 ++ more, message_more read fronts limit more bytes (s, begins.0) begins.1, BeginWith-more read fronts limit begins.0 messages rest more begins.2)
 
 -- one more message behind those
 pub BeginWith-next : (read : Reader) (limit : Option ℕ) (bytes : List ℕ) (messages : List Segments) (text rest : List ℕ) (s : Segments) → BeginWith read limit bytes messages text

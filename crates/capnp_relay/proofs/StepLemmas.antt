@@ -6,14 +6,13 @@ use Rattle.capnp_units.specs.declared.kinds.ErrorKind.{ErrorKind}
 use Rattle.capnp_units.specs.declared.kinds.ErrorKind.TheVariants.{OutOfMemory, BufferNotLargeEnough, Device}
 use Rattle.capnp_stream.specs.Counting.{KindCounts}
 use Rattle.capnp_stream.specs.Streams.{IsWriteRefusal}
-use Rattle.capnp_stream.specs.Frames.{TakesMessage, TakesPart}
-use Rattle.capnp_stream.proofs.FrameLemmas.{HasNoMessage-of}
+use Rattle.capnp_stream.specs.Frames.{TakesMessage}
+use Rattle.capnp_stream.proofs.FrameLemmas.{TakesPart-of_message}
 use Rattle.capnp_model.specs.Segments.{Segments}
-use Rattle.capnp_model.specs.Messages.{Reader, Writer, message_at, spelled}
+use Rattle.capnp_model.specs.Messages.{Reader, Writer, spelled}
 use Rattle.capnp_stream.specs.Pieces.{ReadsFronts}
 use Rattle.capnp_model.specs.Answers.{Answer, Reply, written}
 use Rattle.capnp_model.specs.Runs.{line_of, output_of}
-use Rattle.capnp_model.proofs.Chaining.{ok_is}
 use Rattle.capnp_relay.specs.declared.ends.Counts.{Counts}
 use Rattle.capnp_relay.specs.Answers.{written_one}
 use Rattle.capnp_relay.specs.declared.ends.Fault.{Fault}
@@ -32,14 +31,6 @@ SinkRefused-of_write own grows fault old new bytes n BufferNotLargeEnough size p
     (part, inl (other (λ e. absurd cc), inr (subst P (sym size) refusal)))
 SinkRefused-of_write own grows fault old new bytes n _ size part refusal counts memory other = absurd refusal
 
-pub TakesPart-of_message : (read : Reader) → ReadsFronts read → (limit : Option ℕ) (a b : Option (List ℕ)) (s : Segments) → TakesMessage read limit a b s → TakesPart read limit a b
-TakesPart-of_message read fronts limit a b s taken =
-    let text = taken.0 in
-    let ends : (r : Segments × List ℕ) → message_at read limit text ≡ Ok r → r.1 ≡ [] = λ r e.
-    let same : (s, []) ≡ r = ok_is (s, []) r (sym taken.1 ∙ e) in
-    sym (ap (λ (p : Segments × List ℕ). p.1) same) in
-    (text, HasNoMessage-of read fronts limit text ends, taken.2)
-
 module _ (read : Reader) (fronts : ReadsFronts read) (write : Writer) (limit : Option ℕ) (is_answer : Segments → Answer → Type 0) (passes_size : Segments → Type 0) (out_grows log_grows : Type 0)
     (n : ℕ) (old new : Seen) (before after : Counts) (s : Segments) (taken : TakesMessage read limit old.source.remaining new.source.remaining s)
     (same : new.source.failures ≡ old.source.failures) where
@@ -50,9 +41,9 @@ module _ (read : Reader) (fronts : ReadsFronts read) (write : Writer) (limit : O
   pub Stops-of_want : (f : Fault) → (f ≡ faults.Memory) ⊎ (f ≡ faults.Size) → (f ≡ faults.Size → (n ≡ 2 ^ 64) ⊎ passes_size s)
       → SinkStays old.out new.out → SinkStays old.log new.log → after ≡ before → Stops read write limit is_answer passes_size out_grows log_grows n f old new before after
   Stops-of_want f (inl e) size out log counts =
-      subst End (sym e) (same, out.1, log.1, inl (TakesPart-of_message read fronts _ _ _ s taken, out, log, counts))
+      subst End (sym e) (same, out.1, log.1, inl (TakesPart-of_message read fronts limit _ _ s taken, out, log, counts))
   Stops-of_want f (inr e) size out log counts =
-      subst End (sym e) ((TakesPart-of_message read fronts _ _ _ s taken, out, log, counts), same, too_large (size e))
+      subst End (sym e) ((TakesPart-of_message read fronts limit _ _ s taken, out, log, counts), same, too_large (size e))
     where
       too_large : (n ≡ 2 ^ 64) ⊎ passes_size s → (n ≡ 2 ^ 64) ⊎ ((m : Segments) × TakesMessage read limit old.source.remaining new.source.remaining m × passes_size m)
       too_large (inl many) = inl many
