@@ -1,0 +1,6 @@
+//! Packed streams of messages.
+#![tactic(auto)]
+
+mod bytes;
+mod runs;
+mod unpacking;
