@@ -1,4 +1,6 @@
 pub mod Filling
 pub mod KnownLemmas
 pub mod WordLemmas
+pub mod PieceLemmas
 pub mod FrameLemmas
+pub mod SpellLemmas

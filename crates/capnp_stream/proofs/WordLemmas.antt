@@ -1,5 +1,5 @@
 -- Words in bytes, and the segments that they are cut into.
-use Rattle.std.proofs.Common.{◌≡◌, ℕ, zero, suc, ◌+◌, ◌-◌, ◌*◌, ◌/◌, ◌%◌, ◌^◌, ◌≤◌, ◌<◌, append_assoc, append-nil, get_or, List, [], ◌∷◌, ◌++◌, length, take, drop, map, sum, refl, sym, ap, ◌∙◌, arith, length-drop, length-take-le, take-append-drop}
+use Rattle.std.proofs.Common.{◌≡◌, ℕ, zero, suc, ◌+◌, ◌-◌, ◌*◌, ◌/◌, ◌%◌, ◌^◌, ◌≤◌, append_assoc, append-nil, List, [], ◌∷◌, ◌++◌, length, take, drop, map, sum, refl, sym, ap, ◌∙◌, arith, length-drop, length-take-le, take-append-drop}
 use Rattle.std.specs.Prelude.{All}
 use Rattle.std.specs.List.{slice_range}
 use Rattle.std.specs.Int.{from_le_bytes, to_le_bytes, w64}
@@ -10,6 +10,7 @@ use Rattle.std.proofs.lemmas.List.Sums.{sum_by-cons}
 use Rattle.capnp_model.specs.Bytes.{words_in_bytes, bytes_of_words}
 use Rattle.capnp_model.specs.Messages.{frame, cut, halves}
 use Rattle.capnp_stream.specs.declared.segments.Bounds.{Bounds}
+pub use Rattle.capnp_stream.specs.Segments.{AreBytes}
 use Rattle.capnp_stream.specs.Segments.{whole_words, bounds_from}
 
 -- what follows eight bytes changes nothing of their word
@@ -101,24 +102,20 @@ lengths-step lengths once twice bytes behind word all long left reads one two be
 
 -- ---- words that were read of bytes, written as bytes
 
--- Numbers that a byte holds.
-abbrev pub AreBytes : List ℕ → Type 0
-AreBytes bytes = (i : ℕ) → get_or bytes i 0 < 256
-
 AreBytes-take : (n : ℕ) (bytes : List ℕ) → AreBytes bytes → AreBytes (take n bytes)
 AreBytes-take zero bytes small i = omega arith
 AreBytes-take (suc n) [] small i = omega arith
 AreBytes-take (suc n) (b ∷ bytes) small zero = small zero
 AreBytes-take (suc n) (b ∷ bytes) small (suc i) = AreBytes-take n bytes (λ j. small (suc j)) i
 
-AreBytes-drop : (n : ℕ) (bytes : List ℕ) → AreBytes bytes → AreBytes (drop n bytes)
+pub AreBytes-drop : (n : ℕ) (bytes : List ℕ) → AreBytes bytes → AreBytes (drop n bytes)
 AreBytes-drop n bytes small i = rw (get_or-drop n bytes i 0) (small (n + i))
 
-words_in_bytes-length : (n : ℕ) (bytes : List ℕ) → length (words_in_bytes n bytes) ≡ n
+pub words_in_bytes-length : (n : ℕ) (bytes : List ℕ) → length (words_in_bytes n bytes) ≡ n
 words_in_bytes-length zero bytes = refl
 words_in_bytes-length (suc n) bytes = let rest = words_in_bytes-length n (drop 8 bytes) in omega arith
 
-bytes_of_words-back : (n : ℕ) (bytes : List ℕ) → length bytes ≡ 8 * n → AreBytes bytes → bytes_of_words (words_in_bytes n bytes) ≡ bytes
+pub bytes_of_words-back : (n : ℕ) (bytes : List ℕ) → length bytes ≡ 8 * n → AreBytes bytes → bytes_of_words (words_in_bytes n bytes) ≡ bytes
 bytes_of_words-back zero bytes long small = sym (nil_from_length bytes (omega arith))
 bytes_of_words-back (suc n) bytes long small =
     let wide : 8 ≤ length bytes = omega arith in

@@ -1,9 +1,13 @@
 -- What a clause reads of the segments of a message that was read.
-use Rattle.std.specs.Prelude.{ℕ, ◌+◌, ◌*◌, ◌/◌, List, [], ◌∷◌, length, map, slice_range}
+use Rattle.std.specs.Prelude.{ℕ, ◌<◌, ◌+◌, ◌*◌, ◌/◌, List, [], ◌∷◌, length, map, slice_index, slice_range}
 use Rattle.capnp_model.specs.Bytes.{words_in_bytes}
 use Rattle.capnp_model.specs.Segments.{Segments}
 use Rattle.capnp_stream.specs.declared.segments.Bounds.{Bounds}
 use Rattle.capnp_stream.specs.declared.segments.OwnedSegments.{OwnedSegments}
+
+-- Numbers that a byte holds.
+abbrev pub AreBytes : List ℕ → Type 0
+AreBytes bytes = (i : ℕ) → slice_index bytes i < 256
 
 -- The words of bytes; those past the last whole word aren't looked at.
 abbrev pub whole_words : List ℕ → List ℕ

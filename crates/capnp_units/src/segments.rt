@@ -1,0 +1,68 @@
+//! The segments of a message, as a caller lends them.
+ghost use Rattle.std.specs.Prelude.{◌≡◌, ◌==◌, ℕ, List, length, map, slice_get, option_copied};
+
+use crate::sizes::SegmentId;
+use std::convert::AsSlice;
+
+/// Segments of bytes, which readers read as words of eight; what is past a segment's last whole word isn't looked at.
+pub trait ReaderSegments {
+    /// The bytes of each segment.
+    ghost segments: { Self → List (List ℕ) };
+
+    /// The bytes of a segment, or none past the last.
+    fn get_segment(&self, id: SegmentId) -> Option<&[u8]>
+        ensures { option_copied result ≡ slice_get (segments self.now) id };
+
+    /// How many segments there are.
+    fn len(&self) -> usize
+        ensures { result ≡ length (segments self.now) };
+
+    /// Whether there is no segment.
+    fn is_empty(&self) -> bool
+        ensures { result ≡ (length (segments self.now) == 0) }
+    {
+        self.len() == 0
+    }
+}
+
+impl<S: ReaderSegments> ReaderSegments for &S {
+    ghost segments = { λ s. S.segments s.now };
+
+    fn get_segment(&self, id: SegmentId) -> Option<&[u8]> {
+        S::get_segment(*self, id)
+    }
+
+    fn len(&self) -> usize {
+        S::len(*self)
+    }
+}
+
+impl<I: AsSlice<u8>> ReaderSegments for &[I] {
+    ghost segments = { λ s. map I.items s.now };
+
+    fn get_segment(&self, id: SegmentId) -> Option<&[u8]> {
+        match self.get(id as usize) {
+            None => None,
+            Some(segment) => Some(segment.as_slice()),
+        }
+    }
+
+    fn len(&self) -> usize {
+        (*self).len()
+    }
+}
+
+impl<I: AsSlice<u8>> ReaderSegments for Vec<I> {
+    ghost segments = { λ s. map I.items s.items };
+
+    fn get_segment(&self, id: SegmentId) -> Option<&[u8]> {
+        match self.get(id as usize) {
+            None => None,
+            Some(segment) => Some(segment.as_slice()),
+        }
+    }
+
+    fn len(&self) -> usize {
+        Vec::len(self)
+    }
+}
