@@ -1,3 +1,4 @@
 pub mod PartLemmas
 pub mod GroupLemmas
 pub mod PieceLemmas
+pub mod RunLemmas

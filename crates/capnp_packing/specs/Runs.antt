@@ -1,5 +1,5 @@
 -- What comes next in a piece, as the code holds it. (Encoding, "Packing")
-use Rattle.std.specs.Prelude.{◌≡◌, ⊤}
+use Rattle.std.specs.Prelude.{◌≡◌, ℕ, ◌*◌, List, [], take, ⊤}
 use Rattle.capnp_units.specs.declared.kinds.ErrorKind.{ErrorKind}
 use Rattle.capnp_units.specs.declared.kinds.ErrorKind.TheVariants.{FailedToFillTheWholeBuffer, PrematureEndOfPackedInput}
 use Rattle.capnp_model.specs.Packing as model
@@ -23,3 +23,14 @@ IsOver _ = ⊤
 abbrev pub end_kind : Run → ErrorKind
 end_kind First = FailedToFillTheWholeBuffer
 end_kind _ = PrematureEndOfPackedInput
+
+-- How many words a run has.
+abbrev pub run_words : Run → ℕ
+run_words (Zeros k) = k
+run_words (Verbatim k) = k
+run_words _ = 0
+
+-- The bytes of a run, at the front of these, as they are written.
+abbrev pub run_bytes : Run → List ℕ → List ℕ
+run_bytes (Verbatim k) bytes = take (8 * k) bytes
+run_bytes _ bytes = []

@@ -2,5 +2,6 @@
 #![tactic(auto)]
 
 mod bytes;
+mod groups;
 mod runs;
 mod unpacking;
