@@ -1,3 +1,4 @@
 pub mod Parts
 pub mod Runs
 pub mod Groups
+pub mod Written

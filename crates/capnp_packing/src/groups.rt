@@ -11,6 +11,7 @@ use crate::runs::Run;
 const GROUP_LEN: usize = 10;
 
 /// The bytes of a group.
+#[derive(Drop)]
 pub(crate) struct Group {
     bytes: [u8; GROUP_LEN],
     len: usize,
@@ -74,7 +75,7 @@ pub(crate) fn tag_of(word: &[u8; 8]) -> u8
 }
 
 /// A slice of bytes holds numbers of a byte.
-fn are_bytes(bytes: &[u8])
+pub(crate) fn are_bytes(bytes: &[u8])
     ensures { AreBytes bytes.now }
 {}
 

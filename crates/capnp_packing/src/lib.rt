@@ -3,5 +3,6 @@
 
 mod bytes;
 mod groups;
+mod packing;
 mod runs;
 mod unpacking;

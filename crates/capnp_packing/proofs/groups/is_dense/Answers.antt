@@ -13,12 +13,14 @@ loop-byte-preserved c =
     let i = c.loop-byte.byte-index in
     let b = get_or word i 0 in
     let more : zero_bytes (take (i + 1) word) ≡ zero_bytes (take i word) + zero_bytes (b ∷ []) = zero_bytes-more word i (omega arith) in
-    elim c.if-byte-eq0.branch [ then-byte-eq0 w ↦
-      let one = ap (λ (t : Bool). cond t 1 0 + 0) (eq-eqb b 0 w.if-byte-eq0.true) in
-      record { count = omega arith; few = omega arith }
-    | else-byte-eq0 w ↦
-      let one = ap (λ (t : Bool). cond t 1 0 + 0) (ne_eqb b 0 w.if-byte-eq0.false) in
-      record { count = omega arith; few = omega arith } ]
+    elim c.if-byte-eq0.branch [
+      | then-byte-eq0 w ↦
+          let one = ap (λ (t : Bool). cond t 1 0 + 0) (eq-eqb b 0 w.if-byte-eq0.true) in
+          record { count = omega arith; few = omega arith }
+      | else-byte-eq0 w ↦
+          let one = ap (λ (t : Bool). cond t 1 0 + 0) (ne_eqb b 0 w.if-byte-eq0.false) in
+          record { count = omega arith; few = omega arith }
+    ]
 
 pub returns : goal.returns
 returns c =

@@ -13,8 +13,10 @@ returns-then-count-clause-count c =
     let parts = c.in-Some.ensures.cases in
     let long : 8 ≤ length l.left.now = omega (arith, parts.2) in
     let front = words-front l.left.now c.in-Some.word.now c.in-Some.behind.now long parts.0 parts.1 in
-    elim c.then-count.branch [ then-count-via-then-count w ↦ run-full is_zero _ l.count (255 - l.count) (whole_words l.left.now) (omega arith) l.invariant.counted
-    | then-count-via-else-count+then-from_le_bytes-ne0 w ↦ run-stops is_zero _ l.count (255 - l.count) (whole_words l.left.now) _ _ front (ne_eqb _ 0 (λ e. w.if-from_le_bytes-ne0.true (w.from_le_bytes.ensures ∙ e))) l.invariant.counted ]
+    elim c.then-count.branch [
+      | then-count-via-then-count w ↦ run-full is_zero _ l.count (255 - l.count) (whole_words l.left.now) (omega arith) l.invariant.counted
+      | then-count-via-else-count+then-from_le_bytes-ne0 w ↦ run-stops is_zero _ l.count (255 - l.count) (whole_words l.left.now) _ _ front (ne_eqb _ 0 (λ e. w.if-from_le_bytes-ne0.true (w.from_le_bytes.ensures ∙ e))) l.invariant.counted
+    ]
 
 pub loop-word-preserved : goal.loop-word-preserved
 loop-word-preserved c =

@@ -19,15 +19,17 @@ loop-byte-preserved c =
     let b = get_or word i 0 in
     let more : nonzero (take (i + 1) word) ≡ nonzero (take i word) ++ nonzero (b ∷ []) = nonzero-more word i (omega arith) in
     let tagged : List ℕ → List ℕ = λ l. c.args.tag ∷ l in
-    elim c.if-byte-ne0.branch [ then-byte-ne0 w ↦
-      let pushed : group_bytes c.if-byte-ne0.group ≡ group_bytes c.loop-byte.group ++ b ∷ [] = ap group_bytes w.group-is ∙ w.push-then-byte-ne0.ensures in
-      record {
-        made = pushed ∙ ap (λ (l : List ℕ). l ++ b ∷ []) c.loop-byte.invariant.made ∙ sym (ap tagged (more ∙ ap (λ (l : List ℕ). nonzero (take i word) ++ l) (kept b w.if-byte-ne0.true)));
-        few = omega (arith, ap length pushed, length-append (group_bytes c.loop-byte.group) (b ∷ []), c.loop-byte.invariant.few);
-      }
-    | else-byte-ne0 w ↦
-      let same : group_bytes c.if-byte-ne0.group ≡ group_bytes c.loop-byte.group = ap group_bytes w.group-is in
-      record {
-        made = same ∙ c.loop-byte.invariant.made ∙ sym (ap tagged (more ∙ ap (λ (l : List ℕ). nonzero (take i word) ++ l) (left_out b w.if-byte-ne0.false) ∙ append-nil (nonzero (take i word))));
-        few = omega (arith, ap length same, c.loop-byte.invariant.few);
-      } ]
+    elim c.if-byte-ne0.branch [
+      | then-byte-ne0 w ↦
+          let pushed : group_bytes c.if-byte-ne0.group ≡ group_bytes c.loop-byte.group ++ b ∷ [] = ap group_bytes w.group-is ∙ w.push-then-byte-ne0.ensures in
+          record {
+            made = pushed ∙ ap (λ (l : List ℕ). l ++ b ∷ []) c.loop-byte.invariant.made ∙ sym (ap tagged (more ∙ ap (λ (l : List ℕ). nonzero (take i word) ++ l) (kept b w.if-byte-ne0.true)));
+            few = omega (arith, ap length pushed, length-append (group_bytes c.loop-byte.group) (b ∷ []), c.loop-byte.invariant.few);
+          }
+      | else-byte-ne0 w ↦
+          let same : group_bytes c.if-byte-ne0.group ≡ group_bytes c.loop-byte.group = ap group_bytes w.group-is in
+          record {
+            made = same ∙ c.loop-byte.invariant.made ∙ sym (ap tagged (more ∙ ap (λ (l : List ℕ). nonzero (take i word) ++ l) (left_out b w.if-byte-ne0.false) ∙ append-nil (nonzero (take i word))));
+            few = omega (arith, ap length same, c.loop-byte.invariant.few);
+          }
+    ]
