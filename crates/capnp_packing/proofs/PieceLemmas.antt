@@ -7,8 +7,9 @@ use Rattle.capnp_units.specs.declared.kinds.ErrorKind.{ErrorKind}
 use Rattle.capnp_model.specs.Kinds.{Kind}
 use Rattle.capnp_model.specs.Bytes.{words_in_bytes}
 use Rattle.capnp_model.specs.Packing.{Run, first, with_word, unpacked_from, unpacked}
+use Rattle.capnp_stream.specs.Pieces.{TakesPiece}
 use Rattle.capnp_stream.specs.Segments.{whole_words}
-use Rattle.capnp_stream.proofs.WordLemmas.{words_in_bytes-take, words_in_bytes-drop, whole_words-of_length}
+use Rattle.capnp_stream.proofs.WordLemmas.{words_in_bytes-take, words_in_bytes-drop, words_in_bytes-length, whole_words-of_length}
 use Rattle.capnp_packing.specs.Parts.{Rule, Leads, Takes, Refuses, with_front}
 use Rattle.capnp_packing.proofs.PartLemmas.{with_front-nil, Leads-by, Leads-trans, Leads-front, Refuses-behind, Refuses-front}
 
@@ -74,3 +75,9 @@ module _ (f : Rule (List ℕ)) (a b : Option (List ℕ)) (buf : List ℕ) (at : 
       let last : (more : List ℕ) → with_front (words_in_bytes (at / 8) (take at buf)) (unpacked_from ((length buf - at) / 8) run more) ≡ Ok (whole_words buf, more) = λ more.
       ap (λ (k : ℕ). with_front (words_in_bytes (at / 8) (take at buf)) (unpacked_from k run more)) none ∙ ap (λ (ws : List ℕ). Ok (ws, more)) (append-nil (words_in_bytes (at / 8) (take at buf)) ∙ words) in
       Leads-trans f _ (λ more. Ok (whole_words buf, more)) a b b before (Leads-by _ _ b last)
+
+-- the words that a buffer was filled with are a piece
+pub piece-taken : (a b : Option (List ℕ)) (buf : List ℕ) → Takes (unpacked (length buf / 8)) a b (whole_words buf) → TakesPiece unpacked a b (whole_words buf)
+piece-taken a b buf p =
+    let Reads : ℕ → Type 0 = λ n. (more : List ℕ) → unpacked n (p.part ++ more) ≡ Ok (whole_words buf, more) in
+    (p.part, subst Reads (sym (words_in_bytes-length (length buf / 8) buf)) p.says, p.taken)

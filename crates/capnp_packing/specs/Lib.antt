@@ -2,3 +2,4 @@ pub mod Parts
 pub mod Runs
 pub mod Groups
 pub mod Written
+pub mod Fronts

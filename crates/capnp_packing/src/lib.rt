@@ -2,6 +2,7 @@
 #![tactic(auto)]
 
 mod bytes;
+pub mod form;
 mod groups;
 mod packing;
 mod runs;
