@@ -1,0 +1,5 @@
+pub mod Parts
+pub mod Runs
+pub mod Groups
+pub mod Written
+pub mod Fronts
