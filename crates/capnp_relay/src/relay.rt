@@ -14,6 +14,7 @@ use crate::options::{Form, RelayOptions};
 use crate::run::run_messages;
 use capnp_calls::Call;
 use capnp_records::structs::StructSchema;
+use capnp_packing::form::Packed;
 use capnp_stream::forms::Framed;
 use capnp_stream::traits::{BufRead, Read, Write};
 use capnp_units::kinds::ErrorKind;
@@ -70,17 +71,17 @@ pub fn relay<R: BufRead, W: Write, L: Write>(
             )
         }
         (Form::Framed, Form::Packed) => {
-            run_messages::<Framed, Framed, R, W, L, CallsAtRoot<'_>>(
+            run_messages::<Framed, Packed, R, W, L, CallsAtRoot<'_>>(
                 alloc, source, out, log, &answers, limit,
             )
         }
         (Form::Packed, Form::Framed) => {
-            run_messages::<Framed, Framed, R, W, L, CallsAtRoot<'_>>(
+            run_messages::<Packed, Framed, R, W, L, CallsAtRoot<'_>>(
                 alloc, source, out, log, &answers, limit,
             )
         }
         (Form::Packed, Form::Packed) => {
-            run_messages::<Framed, Framed, R, W, L, CallsAtRoot<'_>>(
+            run_messages::<Packed, Packed, R, W, L, CallsAtRoot<'_>>(
                 alloc, source, out, log, &answers, limit,
             )
         }
