@@ -1,5 +1,5 @@
 -- From the calls of one step to what it did.
-use Rattle.std.proofs.Common.{◌≡◌, ◌≢◌, ℕ, ◌+◌, ◌-◌, ◌^◌, List, [], arith, Ok, length, inl, inr, refl, sym, ap, subst, ◌∙◌}
+use Rattle.std.proofs.Common.{◌≡◌, ◌≢◌, ℕ, ◌+◌, ◌-◌, ◌^◌, List, arith, length, inl, inr, refl, sym, subst}
 use Rattle.std.specs.Prelude.{◌⊎◌}
 use Rattle.std.specs.declared.option.Option.{Option}
 use Rattle.capnp_units.specs.declared.kinds.ErrorKind.{ErrorKind}

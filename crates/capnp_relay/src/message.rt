@@ -21,6 +21,7 @@ use capnp_records::structs::StructSchema;
 use capnp_stream::segments::OwnedSegments;
 use capnp_units::errors::Error;
 use capnp_units::kinds::ErrorKind;
+use capnp_units::segments::ReaderSegments;
 use capnp_value::value::{Bounds, Value, canonical, is_short, is_within, read_value, trim_whole};
 use std::alloc::Global;
 

@@ -13,7 +13,14 @@ use capnp_stream::traits::{BufRead, Read, Write};
 use std::alloc::Global;
 
 /// Answers each message of the source in turn, in one form: a message in the other for each written answer, and a line for each.
-pub(crate) fn run_messages<I: MessageForm, O: MessageForm, R: BufRead, W: Write, L: Write, A: Answers>(
+pub(crate) fn run_messages<
+    I: MessageForm,
+    O: MessageForm,
+    R: BufRead,
+    W: Write,
+    L: Write,
+    A: Answers,
+>(
     alloc: Global,
     source: &mut R,
     out: &mut W,

@@ -1,8 +1,6 @@
 //! One message of a run.
-ghost use Rattle.std.specs.Prelude.{◌≡◌, ◌≢◌, true, false, List, ◌+◌, ◌-◌, ◌*◌, ◌^◌, ◌<◌, ◌⊎◌, ◌%◌, [], ◌∷◌, Some, IfOk, IfErr, OnOk, OnErr, length};
-ghost use Rattle.std.specs.Io.KnownBytes.{IsAtEnd, Appends};
-ghost use Rattle.capnp_stream.specs.Streams.{AppendsPart, RoomFalls, IsWriteRefusal};
-ghost use Rattle.capnp_stream.specs.Counting.{Counts as DeviceCounts};
+ghost use Rattle.std.specs.Prelude.{◌≡◌, ◌≢◌, true, false, List, ◌+◌, ◌-◌, ◌*◌, ◌^◌, ◌<◌, ◌⊎◌, Some, IfOk, IfErr, OnOk, length};
+ghost use Rattle.std.specs.Io.KnownBytes.{IsAtEnd};
 ghost use Rattle.capnp_units.specs.declared.kinds.ErrorKind.{ErrorKind};
 ghost use Rattle.capnp_model.specs.Segments.{Segments};
 ghost use Rattle.capnp_model.specs.Messages.{spelled};
@@ -20,6 +18,7 @@ use capnp_stream::forms::MessageForm;
 use capnp_stream::frames::try_read_message_in;
 use capnp_stream::segments::OwnedSegments;
 use capnp_stream::traits::{BufRead, Read, Write};
+use capnp_stream::writing::write_segment_in;
 use capnp_units::errors::Error;
 use capnp_units::kinds::ErrorKind;
 use std::alloc::{AllocError, Global};
@@ -114,22 +113,6 @@ fn sink_fault(e: Error, sink: Fault) -> Fault
     }
 }
 
-/// Writes a message of one segment.
-fn write_one<O: MessageForm, W: Write>(
-    out: &mut W,
-    bytes: &[u8],
-) -> std::result::Result<(), Error>
-    requires whole { length bytes.now % 8 ≡ 0 }
-    requires small { length bytes.now < 8 * 2 ^ 32 }
-    ensures ok { OnOk result (Appends (W.contents out.old) (W.contents out.new) (spelled O.writer (whole_words bytes.now ∷ []))) }
-    ensures falls { OnOk result (RoomFalls (W.room out.old) (W.room out.new) (length (spelled O.writer (whole_words bytes.now ∷ [])))) }
-    ensures err { OnErr result (AppendsPart (W.contents out.old) (W.contents out.new) (spelled O.writer (whole_words bytes.now ∷ []))) }
-    ensures refusal { IfErr result (λ e. IsWriteRefusal W.may_grow (W.room out.old) (length (spelled O.writer (whole_words bytes.now ∷ []))) e.kind) }
-    ensures count { DeviceCounts result (W.failures out.old) (W.failures out.new) }
-{
-    O::write_piece(out, bytes)
-}
-
 /// Writes a written answer as one message, and counts it.
 fn put_out<O: MessageForm, W: Write>(
     out: &mut W,
@@ -151,7 +134,7 @@ fn put_out<O: MessageForm, W: Write>(
         replies: _,
     } = answer
     {
-        if let Err(e) = write_one::<O, W>(out, segment) {
+        if let Err(e) = write_segment_in::<O, W>(out, segment) {
             return Err(sink_fault(e, Fault::Out));
         }
         counts.written += 1;

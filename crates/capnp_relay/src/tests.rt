@@ -12,6 +12,7 @@ use capnp_stream::segments::OwnedSegments;
 use capnp_stream::traits::{BufRead, Read, Write};
 use capnp_units::errors::{Error, Result};
 use capnp_units::kinds::ErrorKind;
+use capnp_units::segments::ReaderSegments;
 use std::alloc::Global;
 use std::test::Fail;
 

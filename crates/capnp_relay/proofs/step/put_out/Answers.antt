@@ -1,10 +1,8 @@
-use Rattle.std.proofs.Common.{ℕ, ◌+◌, [], ◌∷◌, List, length, map, refl, sym, ap, subst, ◌∙◌, arith}
-use Rattle.std.specs.Io.KnownBytes.{Appends}
+use Rattle.std.proofs.Common.{[], ◌∷◌, length, map, refl, sym, ap, subst, ◌∙◌}
 use Rattle.capnp_model.specs.Segments.{Segments}
 use Rattle.capnp_model.specs.Messages.{spelled}
 use Rattle.capnp_model.specs.Answers.{written}
 use Rattle.capnp_stream.specs.Segments.{whole_words}
-use Rattle.capnp_stream.specs.Streams.{RoomFalls}
 use Rattle.capnp_calls.specs.Replies.{reply_view}
 use Rattle.capnp_relay.specs.Answers.{answer_view}
 use Rattle.capnp_relay.specs.Streams.{sink_seen, SinkTakes}
@@ -23,14 +21,14 @@ returns-in-Err-clause-err g c =
       segments,
       replies,
       ap answer_view c.in-Written.is ∙ ap (λ s. written s replies) holds.0,
-      SinkRefused-of_write faults.Out g.W.Write.may_grow c.sink_fault.result (sink_seen g.W.Write.contents g.W.Write.failures g.W.Write.room c.args.out.now) (sink_seen g.W.Write.contents g.W.Write.failures g.W.Write.room c.write_one.new.out) text (length text) c.in-Err.e.kind refl
+      SinkRefused-of_write faults.Out g.W.Write.may_grow c.sink_fault.result (sink_seen g.W.Write.contents g.W.Write.failures g.W.Write.room c.args.out.now) (sink_seen g.W.Write.contents g.W.Write.failures g.W.Write.room c.write_segment_in.new.out) text (length text) c.in-Err.e.kind refl
           failed.err failed.refusal failed.count c.sink_fault.ensures.memory c.sink_fault.ensures.other,
       refl,
     )
 
-pub returns-in_default-write_one-clause-ok : goal.returns-in_default-write_one-clause-ok
-returns-in_default-write_one-clause-ok g c =
+pub returns-in_default-write_segment_in-clause-ok : goal.returns-in_default-write_segment_in-clause-ok
+returns-in_default-write_segment_in-clause-ok g c =
     let holds = rw c.in-Written.is at c.requires.holds in
-    let done = c.in_default-write_one.ensures in
-    let P : Segments → Type 0 = λ s. SinkTakes (sink_seen g.W.Write.contents g.W.Write.failures g.W.Write.room c.args.out.now) (sink_seen g.W.Write.contents g.W.Write.failures g.W.Write.room c.write_one.new.out) (spelled g.O.MessageForm.writer s) in
+    let done = c.in_default-write_segment_in.ensures in
+    let P : Segments → Type 0 = λ s. SinkTakes (sink_seen g.W.Write.contents g.W.Write.failures g.W.Write.room c.args.out.now) (sink_seen g.W.Write.contents g.W.Write.failures g.W.Write.room c.write_segment_in.new.out) (spelled g.O.MessageForm.writer s) in
     rw c.in-Written.is (subst P (sym holds.0) (record { appends = done.ok; falls = done.falls; failures = done.count }), refl)
