@@ -37,14 +37,21 @@ impl<S: ReaderSegments> ReaderSegments for &S {
     }
 }
 
+/// The bytes of the owner at an index.
+fn bytes_at<I: AsSlice<u8>>(owners: &[I], index: SegmentId) -> Option<&[u8]>
+    ensures { option_copied result ≡ slice_get (map I.items owners.now) index }
+{
+    match owners.get(index as usize) {
+        None => None,
+        Some(owner) => Some(owner.as_slice()),
+    }
+}
+
 impl<I: AsSlice<u8>> ReaderSegments for &[I] {
     ghost segments = { λ s. map I.items s.now };
 
     fn get_segment(&self, id: SegmentId) -> Option<&[u8]> {
-        match self.get(id as usize) {
-            None => None,
-            Some(segment) => Some(segment.as_slice()),
-        }
+        bytes_at(*self, id)
     }
 
     fn len(&self) -> usize {
@@ -56,10 +63,7 @@ impl<I: AsSlice<u8>> ReaderSegments for Vec<I> {
     ghost segments = { λ s. map I.items s.items };
 
     fn get_segment(&self, id: SegmentId) -> Option<&[u8]> {
-        match self.get(id as usize) {
-            None => None,
-            Some(segment) => Some(segment.as_slice()),
-        }
+        bytes_at(self.as_slice(), id)
     }
 
     fn len(&self) -> usize {
