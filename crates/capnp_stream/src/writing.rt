@@ -10,14 +10,13 @@ ghost use Rattle.capnp_stream.specs.Streams.{AppendsPart, RoomFalls, IsWriteRefu
 ghost use Rattle.capnp_stream.specs.Writing.{IsSegment, AreWritable};
 
 use crate::forms::{Framed, MessageForm};
+use crate::frames::HALF;
 use crate::traits::Write;
 use capnp_units::errors::Result;
 use capnp_units::segments::ReaderSegments;
 use capnp_units::sizes::SegmentId;
 use std::alloc::Global;
 
-/// How many numbers a half of a word holds.
-const HALF: u64 = 1 << 32;
 
 /// How many words a segment has; none where there is no such segment.
 fn length_of<S: ReaderSegments>(segments: &S, id: SegmentId) -> u64
