@@ -5,3 +5,4 @@ pub mod PieceLemmas
 pub mod FrameLemmas
 pub mod SpellLemmas
 pub mod WriteLemmas
+pub mod FlatLemmas

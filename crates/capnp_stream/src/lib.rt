@@ -6,6 +6,7 @@
 pub mod adapters;
 mod devices;
 pub mod forms;
+pub mod flat;
 pub mod frames;
 pub mod memory;
 pub mod segments;

@@ -1,5 +1,5 @@
 //! The segments of a message that was read, and the table of their lengths.
-ghost use Rattle.std.specs.Prelude.{◌≡◌, ◌≢◌, ◌≤◌, ◌<◌, ◌↔◌, ◌+◌, ◌*◌, ◌%◌, ◌^◌, ℕ, [], ◌∷◌, ◌++◌, length, slice_get, sum, option_copied, All, Some, None, OnOk, OnErr, IfOk, IfSome, IfNone, IsSome, IfErr};
+ghost use Rattle.std.specs.Prelude.{◌≡◌, ◌≢◌, ◌≤◌, ◌<◌, ◌↔◌, ◌+◌, ◌*◌, ◌%◌, ◌^◌, ℕ, [], ◌∷◌, ◌++◌, length, slice_get, sum, option_copied, replicate, All, Some, None, OnOk, OnErr, IfOk, IfSome, IfNone, IsSome, IfErr};
 ghost use Rattle.capnp_units.specs.declared.kinds.ErrorKind.{ErrorKind};
 ghost use Rattle.capnp_model.specs.Spelling.{AreShort};
 ghost use Rattle.capnp_units.specs.Segments.{whole_words};
@@ -21,7 +21,7 @@ pub struct SegmentLengthsBuilder {
 }
 
 impl SegmentLengthsBuilder {
-    ghost use Rattle.capnp_stream.specs.Segments.{lengths_of};
+    ghost use Rattle.capnp_stream.specs.Segments.{lengths_of, owned_bytes, owned_ranges};
 
     /// The table of these lengths in words.
     pub(crate) fn of_lengths(alloc: Global, lengths: &[u32]) -> Result<SegmentLengthsBuilder>
@@ -72,6 +72,19 @@ impl SegmentLengthsBuilder {
         self.total_words
     }
 
+    /// Zeroed segments of these lengths. `OutOfMemory`: their bytes were refused, or pass `usize`.
+    pub fn into_owned_segments(self, alloc: Global) -> Result<OwnedSegments>
+        ensures ranges { IfOk result (λ s. owned_ranges s ≡ ranges_from 0 (lengths_of self)) }
+        ensures zeros { IfOk result (λ s. owned_bytes s ≡ replicate (8 * sum (lengths_of self)) 0) }
+        ensures refusal { IfErr result (λ e. e.kind ≡ ErrorKind.OutOfMemory) }
+    {
+        let Some(len) = self.total_words.checked_mul(8) else {
+            return Err(Error::from(ErrorKind::OutOfMemory));
+        };
+        let bytes = vec![in alloc; 0u8; len]?;
+        Ok(OwnedSegments::new(bytes, self))
+    }
+
     /// Where each segment begins and ends, in words.
     pub fn to_segment_indices(self) -> Vec<(usize, usize)>
         ensures { result.items ≡ ranges_from 0 (lengths_of self) }
@@ -120,6 +133,13 @@ impl OwnedSegments {
         ensures { result.now ≡ owned_bytes self.now }
     {
         &self.bytes
+    }
+
+    /// The bytes of all segments, one behind the other.
+    pub fn as_mut_slice(&mut self) -> &mut [u8]
+        ensures { result.now ≡ owned_bytes self.old }
+    {
+        &mut self.bytes
     }
 
     /// The words of a segment, or none past the last.
