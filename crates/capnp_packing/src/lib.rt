@@ -6,4 +6,6 @@ pub mod form;
 mod groups;
 mod packing;
 mod runs;
+pub mod serialize_packed;
+pub mod streams;
 mod unpacking;
