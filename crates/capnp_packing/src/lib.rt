@@ -4,6 +4,7 @@
 mod bytes;
 pub mod form;
 mod groups;
+pub mod laws;
 mod packing;
 mod runs;
 pub mod serialize_packed;
