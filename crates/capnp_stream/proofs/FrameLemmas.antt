@@ -201,6 +201,9 @@ module _ (read : Reader) (fronts : ReadsFronts read) (limit : Option ℕ) where
           λ more. ap f (append_assoc taken.0 second.0 more) ∙ leads (second.0 ++ more) ∙ first-others read limit (word % 2 ^ 32) (word / 2 ^ 32 ∷ []) (second.0 ++ more) others more few (piece more) in
           (taken.0 ++ second.0, Consumes-trans a b c taken.0 second.0 taken.2 second.2, table)
 
+  pub TakesTable-of_lengths : (a b : Option (List ℕ)) (ns ms : List ℕ) → ms ≡ ns → TakesTable read limit a b ns → TakesTable read limit a b ms
+  TakesTable-of_lengths a b ns ms e table = subst (TakesTable read limit a b) (sym e) table
+
   -- behind the table
   module _ (ns : List ℕ) (a b : Option (List ℕ)) (table : TakesTable read limit a b ns) where
     pub table-part : TakesPart read limit a b

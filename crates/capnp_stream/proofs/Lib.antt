@@ -4,3 +4,4 @@ pub mod WordLemmas
 pub mod PieceLemmas
 pub mod FrameLemmas
 pub mod SpellLemmas
+pub mod WriteLemmas

@@ -1,5 +1,5 @@
 -- Segments that were read are such as a message can have.
-use Rattle.std.proofs.Common.{◌≡◌, ℕ, zero, suc, ◌^◌, ◌≤◌, ◌<◌, true, get_or, List, [], ◌∷◌, length, take, drop, map, sum, refl, ap, arith, length-drop, length-take-le}
+use Rattle.std.proofs.Common.{◌≡◌, ℕ, zero, suc, ◌*◌, ◌^◌, ◌≤◌, ◌<◌, true, get_or, List, [], ◌∷◌, length, take, drop, map, sum, refl, ap, arith, length-drop, length-take-le}
 use Rattle.std.specs.List.{AllByRecursion}
 use Rattle.std.specs.Int.{from_le_bytes, w64}
 use Rattle.std.specs.declared.option.Option.{Option}
@@ -45,6 +45,10 @@ lengths-cut (n ∷ ns) ws fits =
 pub AreShort-of : (ns : List ℕ) → ((i : ℕ) → get_or ns i 0 < 2 ^ 32) → AreShort ns
 AreShort-of [] small = tt
 AreShort-of (n ∷ ns) small = (small 0, AreShort-of ns (λ i. small (suc i)))
+
+pub sum-short : (ns : List ℕ) → AreShort ns → sum ns ≤ length ns * 2 ^ 32
+sum-short [] short = omega arith
+sum-short (n ∷ ns) short = let one : n < 2 ^ 32 = short.0 in omega (arith, sum-cons n ns, sum-short ns short.1)
 
 -- words that were read, cut by a table within the limits
 pub CanSpell-of_cut : (limit : Option ℕ) (ns bytes : List ℕ) → 0 < length ns → length ns ≤ 511 → AreShort ns → within (sum ns) limit ≡ true → AreBytes bytes → CanSpell limit (cut ns (words_in_bytes (sum ns) bytes))

@@ -1,4 +1,4 @@
-//! Messages of any number of segments, framed and in other forms.
+//! Messages of any number of segments, read in their forms.
 ghost use Rattle.std.specs.Prelude.{◌≡◌, ◌≢◌, ◌≤◌, ℕ, ◌+◌, ◌*◌, ◌/◌, ◌%◌, ◌^◌, ◌<◌, ◌↔◌, [], ◌∷◌, length, take, sum, IfSome, IfNone, IfOk, IfErr, OnOk, OnErr, IsTrue};
 ghost use Rattle.std.specs.Io.KnownBytes.{Keeps, Consumes, Appends, IsAtEnd};
 ghost use Rattle.capnp_units.specs.declared.kinds.ErrorKind.{ErrorKind};
@@ -6,13 +6,13 @@ ghost use Rattle.capnp_model.specs.Messages.{frame, halves, plain_words, within}
 ghost use Rattle.capnp_model.specs.Spelling.{AreShort, CanSpell};
 ghost use Rattle.capnp_stream.specs.Counting.{Counts};
 ghost use Rattle.capnp_stream.specs.Pieces.{TakesPiece};
-ghost use Rattle.capnp_stream.specs.Segments.{AreBytes, whole_words, segments_of};
+ghost use Rattle.capnp_stream.specs.Segments.{AreBytes, whole_words, lengths_of, segments_of};
 ghost use Rattle.capnp_stream.specs.Frames.{IsFrameFault, TakesMessage, TakesPart, TakesTable, IsFramingKind, IsReadKind, IsCut};
 ghost use Rattle.capnp_stream.specs.Streams.{AppendsPart, RoomFalls, IsWriteRefusal};
 
 use crate::forms::{Framed, MessageForm};
-use crate::segments::OwnedSegments;
-use crate::traits::{BufRead, Read, Write};
+use crate::segments::{OwnedSegments, SegmentLengthsBuilder};
+use crate::traits::{BufRead, Read};
 use capnp_units::errors::{Error, Result};
 use capnp_units::kinds::ErrorKind;
 use std::alloc::Global;
@@ -72,20 +72,6 @@ fn lengths_in(alloc: Global, first: u32, others: &[u8], count: usize) -> Result<
     Ok(lengths)
 }
 
-/// How many words segments of these lengths have.
-fn total_of(lengths: &[u32]) -> usize
-    requires { length lengths.now ≤ 511 }
-    ensures total { result ≡ sum lengths.now }
-    ensures short { AreShort lengths.now }
-    ensures bound { result < 2 ^ 41 }
-{
-    let mut total = 0;
-    for n in lengths {
-        total += *n as usize;
-    }
-    total
-}
-
 /// A slice of bytes holds numbers of a byte.
 fn are_bytes(bytes: &[u8])
     ensures { AreBytes bytes.now }
@@ -101,15 +87,17 @@ fn is_within(total: usize, limit: Option<usize>) -> bool
     }
 }
 
-/// The lengths in words of the segments of the next message, from 1 to 511.
+/// The lengths of the segments of the next message, from 1 to 511.
 fn read_table<F: MessageForm, R: BufRead>(
     alloc: Global,
     source: &mut R,
     limit: Option<usize>,
-) -> Result<Vec<u32>>
-    ensures some { IfOk result (λ v. 0 < length v.items) }
-    ensures few { IfOk result (λ v. length v.items ≤ 511) }
-    ensures table { IfOk result (λ v. TakesTable F.reader limit (R.remaining source.old) (R.remaining source.new) v.items) }
+) -> Result<SegmentLengthsBuilder>
+    ensures some { IfOk result (λ t. 0 < length (lengths_of t)) }
+    ensures few { IfOk result (λ t. length (lengths_of t) ≤ 511) }
+    ensures short { IfOk result (λ t. AreShort (lengths_of t)) }
+    ensures bound { IfOk result (λ t. sum (lengths_of t) < 2 ^ 41) }
+    ensures table { IfOk result (λ t. TakesTable F.reader limit (R.remaining source.old) (R.remaining source.new) (lengths_of t)) }
 
     // Whatever follows.
     ensures refused { IfErr result (λ e. IsFramingKind e.kind → IfSome (R.remaining source.old) (λ xs. IsFrameFault F.reader limit xs e.kind)) }
@@ -125,7 +113,8 @@ fn read_table<F: MessageForm, R: BufRead>(
         return Err(Error::from(ErrorKind::InvalidNumberOfSegments));
     }
     let others = take_piece::<F, R>(alloc, source, (less_one + 1) / 2)?;
-    lengths_in(alloc, (word / HALF) as u32, &others, less_one + 1)
+    let lengths = lengths_in(alloc, (word / HALF) as u32, &others, less_one + 1)?;
+    SegmentLengthsBuilder::of_lengths(alloc, &lengths)
 }
 
 /// The segments of the next message, where some byte is left.
@@ -141,14 +130,14 @@ fn read_segments<F: MessageForm, R: BufRead>(
     ensures part { OnErr result (TakesPart F.reader limit (R.remaining source.old) (R.remaining source.new)) }
     ensures count { Counts result (R.failures source.old) (R.failures source.new) }
 {
-    let lengths = read_table::<F, R>(alloc, source, limit)?;
-    let total = total_of(&lengths);
+    let table = read_table::<F, R>(alloc, source, limit)?;
+    let total = table.total_words();
     if !is_within(total, limit) {
         return Err(Error::from(ErrorKind::MessageTooLarge));
     }
     let bytes = take_piece::<F, R>(alloc, source, total)?;
     are_bytes(&bytes);
-    OwnedSegments::new(alloc, bytes, &lengths)
+    Ok(OwnedSegments::new(bytes, table))
 }
 
 /// The segments of the next message in a form, or `None` where no byte is left.
@@ -234,19 +223,4 @@ pub fn read_message<R: BufRead>(
     ensures count { Counts result (R.failures source.old) (R.failures source.new) }
 {
     read_message_in::<Framed, R>(alloc, source, limit)
-}
-
-/// Writes a message of one segment, which these bytes hold. After a refusal a beginning of it was written.
-pub fn write_segment<W: Write>(out: &mut W, bytes: &[u8]) -> Result<()>
-    requires whole { length bytes.now % 8 ≡ 0 }
-    requires small { length bytes.now < 8 * 2 ^ 32 }
-    ensures ok { OnOk result (Appends (W.contents out.old) (W.contents out.new) (frame (whole_words bytes.now ∷ []))) }
-    ensures falls { OnOk result (RoomFalls (W.room out.old) (W.room out.new) (8 + length bytes.now)) }
-    ensures err { OnErr result (AppendsPart (W.contents out.old) (W.contents out.new) (frame (whole_words bytes.now ∷ []))) }
-    ensures refusal { IfErr result (λ e. IsWriteRefusal W.may_grow (W.room out.old) (8 + length bytes.now) e.kind) }
-    ensures count { Counts result (W.failures out.old) (W.failures out.new) }
-{
-    let first = (bytes.len() / 8) as u64 * HALF;
-    out.write_all(&first.to_le_bytes())?;
-    out.write_all(bytes)
 }
