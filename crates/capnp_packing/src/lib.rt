@@ -9,4 +9,6 @@ mod packing;
 mod runs;
 pub mod serialize_packed;
 pub mod streams;
+#[cfg(test)]
+mod tests;
 mod unpacking;
