@@ -1,14 +1,17 @@
 -- The words of a piece, one behind the other.
-use Rattle.std.proofs.Common.{◌≡◌, ℕ, ◌+◌, ◌-◌, ◌*◌, ◌/◌, ◌%◌, ◌<◌, ◌≤◌, List, [], ◌∷◌, ◌++◌, length, take, drop, Result, Ok, Err, refl, sym, ap, subst, ◌∙◌, append_assoc, append-nil, arith, take-append-drop, take_at, drop_at, length-append, length-take-le}
+use Rattle.std.proofs.Common.{◌≡◌, ℕ, zero, suc, ◌+◌, ◌-◌, ◌*◌, ◌/◌, ◌%◌, ◌<◌, ◌≤◌, List, [], ◌∷◌, ◌++◌, length, take, drop, Result, Ok, Err, refl, sym, ap, subst, ◌∙◌, append_assoc, append-nil, arith, take-append-drop, take_at, drop_at, length-append, length-take-le}
 use Rattle.std.specs.declared.option.Option.{Option}
 use Rattle.std.specs.Int.{w64, from_le_bytes}
 use Rattle.std.proofs.lemmas.List.{take_all}
+use Rattle.std.specs.Io.KnownBytes.{Keeps}
+use Rattle.std.proofs.KnownBytes.{Consumes-nil, Consumes-kept}
 use Rattle.capnp_units.specs.declared.kinds.ErrorKind.{ErrorKind}
 use Rattle.capnp_model.specs.Kinds.{Kind}
 use Rattle.capnp_model.specs.Bytes.{words_in_bytes}
 use Rattle.capnp_model.specs.Packing.{Run, first, with_word, unpacked_from, unpacked}
-use Rattle.capnp_stream.specs.Pieces.{TakesPiece}
+use Rattle.capnp_stream.specs.Pieces.{TakesPiece, TakesPieceStart}
 use Rattle.capnp_stream.specs.Segments.{whole_words}
+use Rattle.capnp_stream.proofs.KnownLemmas.{Consumes-of_kept}
 use Rattle.capnp_stream.proofs.WordLemmas.{words_in_bytes-take, words_in_bytes-drop, words_in_bytes-length, whole_words-of_length}
 use Rattle.capnp_packing.specs.Parts.{Rule, Leads, Takes, Refuses, with_front}
 use Rattle.capnp_packing.proofs.PartLemmas.{with_front-nil, Leads-by, Leads-trans, Leads-front, Refuses-behind, Refuses-front}
@@ -81,3 +84,28 @@ pub piece-taken : (a b : Option (List ℕ)) (buf : List ℕ) → Takes (unpacked
 piece-taken a b buf p =
     let Reads : ℕ → Type 0 = λ n. (more : List ℕ) → unpacked n (p.part ++ more) ≡ Ok (whole_words buf, more) in
     (p.part, subst Reads (sym (words_in_bytes-length (length buf / 8) buf)) p.says, p.taken)
+
+-- where nothing was taken no piece with a word was
+no-piece : (n : ℕ) → 0 < n → (r : List ℕ × List ℕ) → unpacked n [] ≡ Ok r → ⊥
+unfolding unpacked_from
+no-piece zero some r e = absurd (omega arith)
+no-piece (suc n) some r e = absurd cc
+
+pub nothing-taken : (n : ℕ) (a b : Option (List ℕ)) → 0 < n → Keeps a b → TakesPieceStart unpacked n a b
+nothing-taken n a b some kept = ([], no-piece n some, Consumes-kept a a b [] (Consumes-nil a) kept)
+
+-- a piece behind a look at the bytes to come
+pub piece-of_kept : (a b c : Option (List ℕ)) (ws : List ℕ) → Keeps a b → TakesPiece unpacked b c ws → TakesPiece unpacked a c ws
+piece-of_kept a b c ws kept p = (p.0, p.1, Consumes-of_kept a b c p.0 kept p.2)
+
+-- the words of bytes are those of the whole words in front
+pub whole-front : (bytes : List ℕ) → whole_words (take (length bytes / 8 * 8) bytes) ≡ whole_words bytes
+whole-front bytes =
+    let n = length bytes / 8 in
+    let size : length (take (n * 8) bytes) ≡ 8 * n = omega (arith, length-take-le (n * 8) bytes (omega arith)) in
+    let front : take (8 * n) (take (n * 8) bytes) ≡ take (n * 8) bytes = take_all (8 * n) (take (n * 8) bytes) (omega arith) in
+    let wide : n * 8 ≡ 8 * n = omega arith in
+    let all : take n (words_in_bytes (n + 0) bytes) ≡ words_in_bytes n (take (8 * n) bytes) = words_in_bytes-take n 0 bytes (omega arith) in
+    let none : n + 0 ≡ n = omega arith in
+    whole_words-of_length n (take (n * 8) bytes) size ∙ ap (λ (k : ℕ). words_in_bytes n (take k bytes)) wide ∙ sym all ∙ ap (λ (k : ℕ). take n (words_in_bytes k bytes)) none
+    ∙ take_all n (words_in_bytes n bytes) (omega (arith, words_in_bytes-length n bytes))

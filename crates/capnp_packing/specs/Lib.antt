@@ -3,3 +3,4 @@ pub mod Runs
 pub mod Groups
 pub mod Written
 pub mod Fronts
+pub mod Streams

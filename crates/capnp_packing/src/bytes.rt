@@ -1,5 +1,5 @@
 //! Single bytes of a source.
-ghost use Rattle.std.specs.Prelude.{◌≡◌, IfOk, IfErr, OnErr};
+ghost use Rattle.std.specs.Prelude.{◌≡◌, ◌↔◌, [], IfSome, IfOk, IfErr, OnErr, IsTrue};
 ghost use Rattle.std.specs.Io.KnownBytes.{Keeps};
 ghost use Rattle.capnp_units.specs.Errors.{kind_of};
 ghost use Rattle.capnp_units.specs.declared.kinds.ErrorKind.{ErrorKind};
@@ -9,6 +9,17 @@ ghost use Rattle.capnp_packing.specs.Parts.{Takes, Refuses, TakesByte, IsEndKind
 use capnp_stream::traits::{BufRead, Read};
 use capnp_units::errors::{Error, Result};
 use capnp_units::kinds::ErrorKind;
+
+/// Whether no byte is left. Nothing is taken.
+pub(crate) fn is_at_end<R: BufRead>(source: &mut R) -> Result<bool>
+    ensures at { IfOk result (λ b. IfSome (R.remaining source.old) (λ xs. IsTrue b ↔ (xs ≡ []))) }
+    ensures kept { Keeps (R.remaining source.old) (R.remaining source.new) }
+    ensures refusal { IfErr result (λ e. e.kind ≡ ErrorKind.Device) }
+    ensures count { Counts result (R.failures source.old) (R.failures source.new) }
+{
+    let shown = source.fill_buf()?;
+    Ok(shown.is_empty())
+}
 
 /// The next byte, or `None` where none is left.
 pub(crate) fn next_byte<R: BufRead>(source: &mut R) -> Result<Option<u8>>

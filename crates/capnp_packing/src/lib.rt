@@ -4,6 +4,11 @@
 mod bytes;
 pub mod form;
 mod groups;
+pub mod laws;
 mod packing;
 mod runs;
+pub mod serialize_packed;
+pub mod streams;
+#[cfg(test)]
+mod tests;
 mod unpacking;
