@@ -1,0 +1,10 @@
+//! Readers of segments that nobody vouches for: what pointers name, and the structs, lists, texts and data behind them, lent in place.
+//!
+//! Numbers lie in words of eight bytes, the lowest byte first. A reader stands over an arena of segments or over a default value, and what it follows is paid for from a `ReadLimiter`.
+#![tactic(auto)]
+
+pub mod arena;
+mod named;
+pub mod object;
+pub mod place;
+mod word_pointer;
