@@ -5,6 +5,7 @@ use Rattle.capnp_model.specs.Kinds.{Kind, OutOfBounds}
 use Rattle.capnp_model.specs.Chains.{◌and_then◌}
 use Rattle.capnp_model.specs.Segments.{Segments, Place, words_at}
 use Rattle.capnp_model.specs.Pointers as model
+use Rattle.capnp_units.specs.Sizes.{size_number}
 use Rattle.capnp_wire.specs.declared.named.NamedObject.{NamedObject}
 use Rattle.capnp_wire.specs.declared.named.NamedObject.TheVariants as named
 use Rattle.capnp_wire.specs.declared.named.FoundObject.{FoundObject}
@@ -14,7 +15,7 @@ use Rattle.capnp_wire.specs.Places.{place_view}
 abbrev pub named_view : NamedObject → model.Object
 named_view named.Null = model.nothing
 named_view (named.Struct p d k) = model.a_struct (place_view p) d k
-named_view (named.List p size n) = model.a_list (place_view p) size n
+named_view (named.List p size n) = model.a_list (place_view p) (size_number size) n
 named_view (named.Capability i) = model.a_capability i
 
 -- What is found.

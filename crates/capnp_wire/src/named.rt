@@ -1,5 +1,5 @@
 //! What pointers name, far pointers followed.
-ghost use Rattle.std.specs.Prelude.{◌≡◌, ◌+◌, ◌≤◌, ◌<◌, ◌^◌, Ok, Err};
+ghost use Rattle.std.specs.Prelude.{◌≡◌, ◌+◌, ◌≤◌, ◌<◌, ◌^◌, Ok, Err, IfOk};
 ghost use Rattle.std.specs.Option.{ok_or};
 ghost use Rattle.capnp_model.specs.Kinds.{OutOfBounds};
 ghost use Rattle.capnp_model.specs.Chains.{◌and_then◌};
@@ -14,6 +14,7 @@ use crate::place::{Place, begins_at, place_in_word, word_at};
 use crate::word_pointer::{WordPointer, pointer_of_word};
 use capnp_units::errors::{Error, Result};
 use capnp_units::kinds::ErrorKind;
+use capnp_units::sizes::ElementSize;
 
 /// An object that a pointer names, whether its words are there or not.
 #[derive(Clone, Copy)]
@@ -26,7 +27,7 @@ pub enum NamedObject {
     },
     List {
         start: Place,
-        size: u8,
+        size: ElementSize,
         count: u32,
     },
     Capability {
@@ -125,7 +126,8 @@ fn in_long_pad<A: ReaderArena>(arena: &A, pad: Place) -> Result<NamedObject>
 
 /// The object that the pointer at a place names, with the words of the pads that lead to it.
 pub fn found_at<A: ReaderArena>(arena: &A, place: Place) -> Result<FoundObject>
-    ensures { seen found_view result ≡ found_at (words_in (A.segments arena.now)) (place_view place) }
+    ensures found { seen found_view result ≡ found_at (words_in (A.segments arena.now)) (place_view place) }
+    ensures pads { IfOk result (λ f. f.pads ≤ 2) }
 {
     let word = word_at(arena, place).ok_or(Error::from(ErrorKind::OutOfBounds))?;
     if word == 0 {

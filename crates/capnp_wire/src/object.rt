@@ -90,3 +90,107 @@ fn whole_struct<A: ReaderArena>(
         pointers,
     })
 }
+
+/// A list of plain elements, where its words are there.
+fn whole_list<A: ReaderArena>(
+    arena: &A,
+    start: Place,
+    size: ElementSize,
+    count: u32,
+) -> Result<Object>
+    requires { size_number size < 6 }
+    ensures object { seen (λ o. o) result ≡ whole (words_in (A.segments arena.now)) (a_list (place_view start) (size_number size) count) }
+    ensures inside { IfOk result (IsInside (words_in (A.segments arena.now))) }
+{
+    if !has_words(arena, start, words_of_elements(size, count) as usize) {
+        return Err(Error::from(ErrorKind::OutOfBounds));
+    }
+    Ok(Object::List { start, size, count })
+}
+
+/// A list of pointers, where they are there.
+fn whole_pointers<A: ReaderArena>(arena: &A, start: Place, count: u32) -> Result<Object>
+    ensures object { seen (λ o. o) result ≡ whole (words_in (A.segments arena.now)) (a_list (place_view start) 6 count) }
+    ensures inside { IfOk result (IsInside (words_in (A.segments arena.now))) }
+{
+    if !has_words(arena, start, count as usize) {
+        return Err(Error::from(ErrorKind::OutOfBounds));
+    }
+    Ok(Object::PointerList { start, count })
+}
+
+/// A list of structs, where its tag and the words behind it are there, the tag has the form of a struct pointer, and its elements fit into those words.
+fn whole_structs<A: ReaderArena>(arena: &A, start: Place, words: u32) -> Result<Object>
+    ensures object { seen (λ o. o) result ≡ whole (words_in (A.segments arena.now)) (a_list (place_view start) 7 words) }
+    ensures inside { IfOk result (IsInside (words_in (A.segments arena.now))) }
+{
+    if !has_words(arena, start, 1 + words as usize) {
+        return Err(Error::from(ErrorKind::OutOfBounds));
+    }
+    let tag = word_at(arena, start).ok_or(Error::from(ErrorKind::OutOfBounds))?;
+    let WordPointer::Struct {
+        offset: count,
+        data_words,
+        pointers,
+    } = pointer_of_word(tag)
+    else {
+        return Err(Error::from(ErrorKind::WrongPointerKind));
+    };
+    let width = data_words as u64 + pointers as u64;
+    if count as u64 * width > words as u64 {
+        return Err(Error::from(ErrorKind::OutOfBounds));
+    }
+    Ok(Object::StructList {
+        start: Place {
+            segment: start.segment,
+            position: start.position + 1,
+        },
+        words,
+        count,
+        data_words,
+        pointers,
+    })
+}
+
+/// An object that a pointer names, where its words are there.
+fn whole<A: ReaderArena>(arena: &A, named: NamedObject) -> Result<Object>
+    ensures object { seen (λ o. o) result ≡ whole (words_in (A.segments arena.now)) (named_view named) }
+    ensures inside { IfOk result (IsInside (words_in (A.segments arena.now))) }
+{
+    match named {
+        NamedObject::Null => Ok(Object::Null),
+        NamedObject::Capability { index } => Ok(Object::Capability { index }),
+        NamedObject::Struct {
+            start,
+            data_words,
+            pointers,
+        } => whole_struct(arena, start, data_words, pointers),
+        NamedObject::List { start, size, count } => match size {
+            ElementSize::Void
+            | ElementSize::Bit
+            | ElementSize::Byte
+            | ElementSize::TwoBytes
+            | ElementSize::FourBytes
+            | ElementSize::EightBytes => whole_list(arena, start, size, count),
+            ElementSize::Pointer => whole_pointers(arena, start, count),
+            ElementSize::InlineComposite => whole_structs(arena, start, count),
+        },
+    }
+}
+
+/// What the pointer at a place names, one level deep, and the words of the pads that lead to it.
+///
+/// It is refused with `OutOfBounds` where the pointer, a pad or a word of the object isn't there, or where a list of structs has more elements than words for them; with `MalformedFarPointer` where a pad describes its object by a far pointer; with `WrongPointerKind` where a list's tag isn't of struct form; and with `UnknownPointerType` where a pointer of the fourth form is no capability.
+#[tactic(auto, unfolding(crate::specs::Objects::object_at))]
+pub fn object_at<A: ReaderArena>(arena: &A, place: Place) -> Result<Found>
+    ensures object { seen (λ f. f) result ≡ object_at (words_in (A.segments arena.now)) (place_view place) }
+    ensures inside { IfOk result (λ f. IsInside (words_in (A.segments arena.now)) f.object) }
+    ensures pads { IfOk result (λ f. f.pads ≤ 2) }
+{
+    let found = found_at(arena, place)?;
+    let object = whole(arena, found.object)?;
+    Ok(Found {
+        pads: found.pads,
+        object,
+    })
+}

@@ -4,6 +4,7 @@ ghost use Rattle.capnp_model.specs.Pointers.{pointer_of};
 ghost use Rattle.capnp_wire.specs.Places.{pointer_view};
 
 use crate::place::{Place, place_in_word};
+use capnp_units::sizes::ElementSize;
 
 /// What a pointer word says by itself. An offset is the thirty bits as they stand.
 #[derive(Clone, Copy)]
@@ -15,7 +16,7 @@ pub enum WordPointer {
     },
     List {
         offset: u32,
-        size: u8,
+        size: ElementSize,
         count: u32,
     },
     /// To a landing pad of one word.
@@ -45,7 +46,7 @@ pub fn pointer_of_word(word: u64) -> WordPointer
         },
         1 => WordPointer::List {
             offset,
-            size: (word / 0x1_0000_0000 % 8) as u8,
+            size: ElementSize::from_number(word / 0x1_0000_0000 % 8),
             count: (word / 0x8_0000_0000 % 0x2000_0000) as u32,
         },
         2 => {
