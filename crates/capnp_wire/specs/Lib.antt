@@ -1,6 +1,8 @@
 pub mod Places
 pub mod Named
 pub mod Objects
+pub mod Follow
+pub mod Levels
 pub use Rattle.capnp_units.specs.Errors
 pub use Rattle.capnp_units.specs.Limits
 pub use Rattle.capnp_units.specs.Segments

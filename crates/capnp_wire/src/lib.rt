@@ -4,6 +4,8 @@
 #![tactic(auto)]
 
 pub mod arena;
+pub mod follow;
+pub mod levels;
 mod named;
 pub mod object;
 pub mod place;
