@@ -2,8 +2,10 @@
 #![tactic(auto)]
 
 pub mod errors;
+pub mod iter;
 pub mod kinds;
 pub mod limiter;
+pub mod primitive;
 pub mod segments;
 pub mod sizes;
 pub mod units;
