@@ -1,3 +1,4 @@
 pub mod Words
 pub mod Pads
 pub mod Tags
+pub mod Bytes

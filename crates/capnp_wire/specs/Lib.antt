@@ -3,6 +3,7 @@ pub mod Named
 pub mod Objects
 pub mod Follow
 pub mod Levels
+pub mod Views
 pub use Rattle.capnp_units.specs.Errors
 pub use Rattle.capnp_units.specs.Limits
 pub use Rattle.capnp_units.specs.Segments

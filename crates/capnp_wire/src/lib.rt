@@ -4,6 +4,7 @@
 #![tactic(auto)]
 
 pub mod arena;
+pub mod backing;
 pub mod follow;
 pub mod levels;
 mod named;

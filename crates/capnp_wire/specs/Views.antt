@@ -1,0 +1,44 @@
+-- Readers as their callers see them.
+use Rattle.std.specs.Prelude.{ℕ, ◌+◌, ◌*◌, ◌%◌, ◌^◌, ◌==◌, ◌&&◌, nat_lt, if◌then◌else◌, Bool, true, false, not, List, [], ◌∷◌, length, Option, Some, None}
+use Rattle.std.specs.List.{flat_map}
+use Rattle.capnp_model.specs.Sections.{number_of, section_of}
+use Rattle.capnp_model.specs.Segments.{Segments, Place, place, after, word_at, words_at}
+use Rattle.capnp_units.specs.declared.sizes.ElementSize.{ElementSize}
+use Rattle.capnp_units.specs.declared.sizes.ElementSize.TheVariants.{InlineComposite, Pointer}
+use Rattle.capnp_units.specs.Segments.{words_in}
+use Rattle.capnp_units.specs.Sizes.{size_number, data_bits}
+use Rattle.capnp_wire.specs.declared.backing.Backing.{Backing}
+use Rattle.capnp_wire.specs.declared.backing.Backing.TheVariants as backing
+use Rattle.capnp_wire.specs.Places.{place_view}
+
+-- The bytes of the segments that a reader sees.
+abbrev pub backing_bytes : {A : Type 0} → (A → List (List ℕ)) → Backing A → List (List ℕ)
+backing_bytes bytes (backing.Arena a) = bytes a.now
+backing_bytes bytes (backing.Default words) = words.now ∷ []
+
+-- Whether what is followed there is paid for.
+abbrev pub is_paid : {A : Type 0} → Backing A → Bool
+is_paid (backing.Arena a) = true
+is_paid (backing.Default words) = false
+
+-- The segments that a reader sees, and whether what is followed there is paid for, as it is but in a default.
+pub record Ground : Type 0 where
+  pub segments : Segments
+  pub paid : Bool
+
+-- What a reader stands on.
+abbrev pub ground_of : {A : Type 0} → (A → List (List ℕ)) → Backing A → Ground
+ground_of bytes b = record { segments = words_in (backing_bytes bytes b); paid = is_paid b }
+
+-- A default whose words have these bytes.
+abbrev pub default_ground : List (List ℕ) → Ground
+default_ground words = record { segments = words_in (flat_map (λ word. word) words ∷ []); paid = false }
+
+-- The section of words that may be there.
+abbrev pub section_in : Option (List ℕ) → ℕ
+section_in None = 0
+section_in (Some words) = section_of words
+
+-- The section of so many words from a place on.
+unfoldable pub section_at : Segments → Place → ℕ → ℕ
+section_at s p n = section_in (words_at s p n)
