@@ -1,9 +1,62 @@
 -- Readings in a row, one more at the end.
-use Rattle.std.proofs.Common.{◌≡◌, ℕ, zero, suc, ◌+◌, ◌<◌, ◌≤◌, List, [], ◌∷◌, ◌++◌, Option, Some, None, Result, Ok, Err, refl, ap, sym, ◌∙◌, arith, add-zero}
+use Rattle.std.proofs.Common.{◌≡◌, ℕ, zero, suc, ◌+◌, ◌-◌, ◌<◌, ◌≤◌, ◌^◌, List, [], ◌∷◌, ◌++◌, Option, Some, None, Result, Ok, Err, refl, ap, subst, sym, ◌∙◌, arith, add-zero}
 use Rattle.std.specs.declared.alloc.AllocError.{AllocError}
 use Rattle.capnp_model.specs.Chains.{◌>>=◌}
 use Rattle.capnp_model.proofs.Chaining.{bind_some, some_is}
+use Rattle.capnp_units.specs.declared.limiter.ReadLimiter.{ReadLimiter}
+use Rattle.capnp_units.specs.Limits.{less, left_of, granted_of, Allows, IsPassed, Spends}
 use Rattle.capnp_value.specs.Rows.{row, total, Reads}
+
+-- ---- words of a budget
+
+allows_both : (o : Option ℕ) (a b : ℕ) → Allows o a → Allows (less o a) b → Allows o (a + b)
+allows_both None a b h k = tt
+allows_both (Some left) a b h k = omega arith
+
+less_both : (o : Option ℕ) (a b : ℕ) → less (less o a) b ≡ less o (a + b)
+less_both None a b = refl
+less_both (Some left) a b = let e : left - a - b ≡ left - (a + b) = omega arith in ap (λ (n : ℕ). Some n) e
+
+pub spends_both : (old mid new : ReadLimiter) (a b all : ℕ) → Spends old mid a → Spends mid new b → all ≡ a + b → Spends old new all
+spends_both old mid new a b all x y is =
+    let first = x.granted in
+    let second = y.granted in
+    rw is record {
+      allowed = allows_both (left_of old) a b x.allowed (subst (λ (o : Option ℕ). Allows o b) x.left y.allowed);
+      limit = y.limit ∙ x.limit;
+      left = y.left ∙ ap (λ (o : Option ℕ). less o b) x.left ∙ less_both (left_of old) a b;
+      granted = omega arith;
+    }
+
+allows_nothing : (o : Option ℕ) → Allows o 0
+allows_nothing None = tt
+allows_nothing (Some left) = omega arith
+
+less_nothing : (o : Option ℕ) → o ≡ less o 0
+less_nothing None = refl
+less_nothing (Some left) = let e : left ≡ left - 0 = omega arith in ap (λ (n : ℕ). Some n) e
+
+pub spends_nothing : (l : ReadLimiter) → Spends l l 0
+spends_nothing l = let same : granted_of l ≡ granted_of l + 0 = omega arith in record {
+  allowed = allows_nothing (left_of l);
+  limit = refl;
+  left = less_nothing (left_of l);
+  granted = omega arith;
+}
+
+pub passed_more : (o : Option ℕ) (a b : ℕ) → a ≤ b → IsPassed o a → IsPassed o b
+passed_more None a b h p = p
+passed_more (Some left) a b h p = omega arith
+
+passed_behind : (o : Option ℕ) (a b : ℕ) → Allows o a → IsPassed (less o a) b → IsPassed o (a + b)
+passed_behind None a b h p = p
+passed_behind (Some left) a b h p = omega arith
+
+-- what passes what is left, with what was paid before
+pub passed_both : (old mid : ReadLimiter) (a b all : ℕ) → Spends old mid a → IsPassed (left_of mid) b → a + b ≤ all → IsPassed (left_of old) all
+passed_both old mid a b all x p h = passed_more (left_of old) (a + b) all h (passed_behind (left_of old) a b x.allowed (subst (λ (o : Option ℕ). IsPassed o b) x.left p))
+
+-- ---- rows
 
 pub row_more : {T : Type 0} (read : ℕ → Option T) (i n : ℕ) (xs : List T) (x : T) → row read i n ≡ Some xs → read (i + n) ≡ Some x → row read i (suc n) ≡ Some (xs ++ x ∷ [])
 row_more read i zero xs x e h =
@@ -50,26 +103,22 @@ total_within cost i (suc n) (suc k) h =
 -- ---- readings that may cost so much
 
 -- nothing is there
-pub nothing_there : {X T : Type 0} (view : X → T) (there : Option T) (cost old new : ℕ) → there ≡ None → Reads view there cost old (Ok None) new
+pub nothing_there : {X T : Type 0} (view : X → T) (there : Option T) (cost : ℕ) (old new : ReadLimiter) → there ≡ None → Reads view there cost old (Ok None) new
 nothing_there view there cost old new e t h = absurd cc
 
--- its cost passes what is left
-pub too_dear : {X T : Type 0} (view : X → T) (there : Option T) (cost old new : ℕ) → old < cost → Reads view there cost old (Ok None) new
-too_dear view there cost old new h t e = h
-
 -- something else was paid before
-pub paid_before : {X T : Type 0} (view : X → T) (there : Option T) (cost paid all old mid new : ℕ) (r : Result (Option X) AllocError) → old ≡ paid + mid → all ≡ paid + cost → Reads view there cost mid r new → Reads view there all old r new
-paid_before view there cost paid all old mid new (Ok (Some x)) p e h = let left = h.1 in (h.0, omega arith)
-paid_before view there cost paid all old mid new (Ok None) p e h = λ t is. let less = h t is in omega arith
+pub paid_before : {X T : Type 0} (view : X → T) (there : Option T) (cost paid all : ℕ) (old mid new : ReadLimiter) (r : Result (Option X) AllocError) → Spends old mid paid
+    → ((t : T) → there ≡ Some t → all ≡ paid + cost) → Reads view there cost mid r new → Reads view there all old r new
+paid_before view there cost paid all old mid new (Ok (Some x)) p e h = (h.0, spends_both old mid new paid cost all p h.1 (e (view x) h.0))
+paid_before view there cost paid all old mid new (Ok None) p e h = λ t is. let sum = e t is in passed_both old mid paid cost all p (h t is) (omega arith)
 paid_before view there cost paid all old mid new (Err x) p e h = tt
 
 -- one refused, all refused
-pub row_refused : {X Y T : Type 0} (view : X → T) (views : Y → List T) (read : ℕ → Option T) (cost : ℕ → ℕ) (n k old mid new last : ℕ) → k < n → old ≡ total cost 0 k + mid
+pub row_refused : {X Y T : Type 0} (view : X → T) (views : Y → List T) (read : ℕ → Option T) (cost : ℕ → ℕ) (n k : ℕ) (old mid new last : ReadLimiter) → k < n → Spends old mid (total cost 0 k)
     → Reads view (read k) (cost k) mid (Ok None) new → Reads views (row read 0 n) (total cost 0 n) old (Ok None) last
 row_refused view views read cost n k old mid new last h e f = λ all is.
     let x = row_within read 0 n k all is h in
     let here : 0 + k ≡ k = omega arith in
-    let less : mid < cost k = f x.0 (ap read (sym here) ∙ x.1) in
     let same = ap cost here in
     let within = total_within cost 0 n k h in
-    omega arith
+    passed_both old mid (total cost 0 k) (cost k) (total cost 0 n) e (f x.0 (ap read (sym here) ∙ x.1)) (omega arith)
