@@ -85,13 +85,14 @@ words_of_part p n bytes h =
     ap (λ (k : ℕ). take n (drop p (words_in_bytes k bytes))) all ∙ ap (take n) (words_in_bytes-drop p (n + r) bytes) ∙ words_in_bytes-take n r (drop (8 * p) bytes)
 
 -- the bytes of words are their section
-pub section_of_part : (s : List (List ℕ)) (i p n : ℕ) (bytes : List ℕ) → Some bytes ≡ slice_get s i → AreBytes bytes → p + n ≤ length bytes / 8
-    → number_of 8 (take (8 * n) (drop (8 * p) bytes)) ≡ section_at (words_in s) (place i p) n
-unfolding section_at
-section_of_part s i p n bytes e small h =
-    let there = segment_there s i bytes e in
-    let here = words_are (words_in s) (place i p) n (whole_words bytes) there (let len = whole_words-length bytes in omega arith) in
+pub section_of_part : (p n : ℕ) (bytes : List ℕ) → AreBytes bytes → p + n ≤ length bytes / 8 → number_of 8 (take (8 * n) (drop (8 * p) bytes)) ≡ section_of (take n (drop p (whole_words bytes)))
+section_of_part p n bytes small h =
     let bits : 8 * (8 * n) ≡ 64 * n = omega arith in
     number_of-take 8 (8 * n) (drop (8 * p) bytes) ∙ ap (λ (k : ℕ). number_of 8 (drop (8 * p) bytes) % 2 ^ k) bits
-    ∙ sym (words_are_bits n (drop (8 * p) bytes) (omega (arith, length-drop (8 * p) bytes)) (AreBytes-drop (8 * p) bytes small))
-    ∙ ap section_of (sym (words_of_part p n bytes h)) ∙ ap section_in (sym here)
+    ∙ sym (words_are_bits n (drop (8 * p) bytes) (omega (arith, length-drop (8 * p) bytes)) (AreBytes-drop (8 * p) bytes small)) ∙ ap section_of (sym (words_of_part p n bytes h))
+
+pub section_there : (s : List (List ℕ)) (i p n : ℕ) (bytes : List ℕ) → Some bytes ≡ slice_get s i → p + n ≤ length bytes / 8 → section_of (take n (drop p (whole_words bytes))) ≡ section_at (words_in s) (place i p) n
+unfolding section_at
+section_there s i p n bytes e h =
+    let there = segment_there s i bytes e in
+    sym (ap section_in (words_are (words_in s) (place i p) n (whole_words bytes) there (let len = whole_words-length bytes in omega arith)))

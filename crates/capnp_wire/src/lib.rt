@@ -10,4 +10,6 @@ pub mod levels;
 mod named;
 pub mod object;
 pub mod place;
+pub mod pointer;
+pub mod structs;
 mod word_pointer;

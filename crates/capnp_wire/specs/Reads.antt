@@ -1,0 +1,118 @@
+-- What pointers read as.
+use Rattle.std.specs.Prelude.{◌≡◌, ℕ, ◌+◌, ◌-◌, ◌*◌, ◌%◌, ◌^◌, ◌==◌, ◌&&◌, ◌<◌, ◌⊎◌, nat_lt, if◌then◌else◌, Bool, true, false, not, List, [], ◌∷◌, length, take, slice_index, Option, Some, None, Result, Ok, Err}
+use Rattle.capnp_model.specs.Kinds.{Kind, WrongPointerKind, WrongElementSize, TextWithoutZeroByte}
+use Rattle.capnp_model.specs.Chains.{◌and_then◌, passes}
+use Rattle.capnp_model.specs.Sections.{words_for}
+use Rattle.capnp_model.specs.Segments.{Segments, Place, place, root, after, word_at}
+use Rattle.capnp_model.specs.Trees.{plain_elements}
+use Rattle.capnp_units.specs.declared.sizes.ElementSize.TheVariants.{Byte}
+use Rattle.capnp_units.specs.declared.errors.Error.{Error}
+use Rattle.capnp_units.specs.declared.kinds.ErrorKind.TheVariants.{ReadLimitExceeded}
+use Rattle.capnp_units.specs.declared.limiter.ReadLimiter.{ReadLimiter}
+use Rattle.capnp_units.specs.Errors.{kind_of}
+use Rattle.capnp_units.specs.Limits.{left_of, Spends, IsPassed, Follows}
+use Rattle.capnp_wire.specs.declared.object.Object.{Object}
+use Rattle.capnp_wire.specs.declared.object.Object.TheVariants as object
+use Rattle.capnp_wire.specs.declared.object.Found.{Found}
+use Rattle.capnp_wire.specs.Places.{place_view, placed}
+use Rattle.capnp_wire.specs.Objects.{object_at}
+use Rattle.capnp_wire.specs.Follow.{found_cost, KeepsBudget}
+use Rattle.capnp_wire.specs.Levels.{level_below}
+use Rattle.capnp_wire.specs.Views.{Ground, default_ground, section_at, PointerView, StructView}
+
+-- ---- null, and defaults
+
+-- There is no pointer, or all its bits are zero.
+abbrev pub is_null_at : Segments → Option Place → Bool
+is_null_at s None = true
+is_null_at s (Some p) = passes (λ w. w == 0) (word_at s p)
+
+-- The pointer is null.
+abbrev pub is_null : PointerView → Bool
+is_null p = is_null_at p.ground.segments p.place
+
+-- The root of a default, with the levels that are left.
+abbrev pub default_root : List (List ℕ) → Option ℕ → PointerView
+default_root words levels = record { ground = default_ground words; place = Some root; levels = levels }
+
+-- What is read in place of a null pointer: the default, unless its root is null too.
+abbrev pub unless_null : PointerView → PointerView → PointerView
+unless_null p d = if is_null d then p else d
+
+-- What is read of a pointer that may have a default.
+abbrev pub with_default : PointerView → Option (List (List ℕ)) → PointerView
+with_default p None = p
+with_default p (Some words) = if is_null p then unless_null p (default_root words p.levels) else p
+
+-- ---- what a pointer is followed to
+
+-- What a pointer names that may be none.
+abbrev pub found_behind : Segments → Option Place → Result Found Kind
+found_behind s None = Ok (record { pads = 0; object = object.Null })
+found_behind s (Some p) = object_at s p
+
+-- What the pointer names, else the kind of its fault.
+abbrev pub object_behind : PointerView → Result Found Kind
+object_behind p = found_behind p.ground.segments p.place
+
+-- The budget is asked: the pointer isn't null and no default's.
+abbrev pub is_charged : PointerView → Bool
+is_charged p = p.ground.paid && not (is_null p)
+
+-- So many words were paid for a followed pointer; what isn't charged changes nothing.
+abbrev pub PaysFor : Bool → ReadLimiter → ReadLimiter → ℕ → Type 0
+PaysFor true old new words = Spends old new words × Follows old new 1
+PaysFor false old new words = new ≡ old
+
+-- A pointer was followed, and no word was paid.
+abbrev pub PaysNothing : Bool → ReadLimiter → ReadLimiter → Type 0
+PaysNothing true old new = KeepsBudget old new × Follows old new 1
+PaysNothing false old new = new ≡ old
+
+-- So many words can't be paid.
+abbrev pub IsTooDear : Bool → ReadLimiter → ℕ → Type 0
+IsTooDear true old words = IsPassed (left_of old) words
+IsTooDear false old words = ⊥
+
+-- What a get of a pointer answers: what its object reads as. It is refused by the kind of the fault there, just where the budget doesn't suffice, or by the kind of what doesn't read so.
+abbrev pub GetGives : {X Y : Type 0} → (X → Y) → (Object → Result Y Kind) → PointerView → ReadLimiter → Result X Error → ReadLimiter → Type 0
+GetGives view read p old (Ok x) new = (f : Found) × (object_behind p ≡ Ok f) × PaysFor (is_charged p) old new (found_cost f) × (read f.object ≡ Ok (view x))
+GetGives view read p old (Err e) new =
+    ((object_behind p ≡ Err (kind_of e.kind)) × PaysNothing (is_charged p) old new)
+    ⊎ ((f : Found) × (object_behind p ≡ Ok f) × (e.kind ≡ ReadLimitExceeded) × IsTooDear (is_charged p) old (found_cost f) × PaysNothing (is_charged p) old new)
+    ⊎ ((f : Found) × (object_behind p ≡ Ok f) × PaysFor (is_charged p) old new (found_cost f) × (read f.object ≡ Err (kind_of e.kind)))
+
+-- ---- structs
+
+-- A struct without sections, as which null reads.
+abbrev pub empty_struct : Ground → Option ℕ → StructView
+empty_struct g levels = record { ground = g; section = 0; bits = 0; first = root; pointers = 0; levels = levels }
+
+-- An object as a struct. (Encoding, "Structs")
+abbrev pub read_struct : Ground → Option ℕ → Object → Result StructView Kind
+read_struct g levels object.Null = Ok (empty_struct g levels)
+read_struct g levels (object.Struct p d k) =
+    level_below levels and_then λ l. Ok (record { ground = g; section = section_at g.segments (place_view p) d; bits = 64 * d; first = after (place_view p) d; pointers = k; levels = l })
+read_struct g levels _ = Err WrongPointerKind
+
+-- ---- data and text
+
+-- An object as the bytes of a list, where there is one. (Encoding, "Blobs")
+abbrev pub read_bytes : Ground → Option ℕ → Object → Result (Option (List ℕ)) Kind
+read_bytes g levels object.Null = Ok None
+read_bytes g levels (object.List p Byte n) = level_below levels and_then λ _. Ok (Some (plain_elements 2 n (section_at g.segments (place_view p) (words_for (8 * n)))))
+read_bytes g levels (object.List p size n) = Err WrongElementSize
+read_bytes g levels (object.PointerList p n) = Err WrongElementSize
+read_bytes g levels (object.StructList p words n d k) = Err WrongElementSize
+read_bytes g levels _ = Err WrongPointerKind
+
+-- Data are the bytes; null is none.
+abbrev pub as_blob : Option (List ℕ) → Result (List ℕ) Kind
+as_blob None = Ok []
+as_blob (Some bytes) = Ok bytes
+
+-- A text is what stands before the last byte, which is zero; null is none.
+abbrev pub as_text : Option (List ℕ) → Result (List ℕ) Kind
+as_text None = Ok []
+as_text (Some []) = Err TextWithoutZeroByte
+as_text (Some (b ∷ bs)) = if slice_index (b ∷ bs) (length bs) == 0 then Ok (take (length bs) (b ∷ bs)) else Err TextWithoutZeroByte

@@ -1,0 +1,82 @@
+//! Pointers to read.
+ghost use Rattle.std.specs.Prelude.{◌≡◌, ◌+◌, ◌*◌, ◌<◌, ◌≤◌, ◌^◌, ◌%◌, length, Ok, IfOk, option_copied};
+ghost use Rattle.capnp_model.specs.Chains.{◌and_then◌};
+ghost use Rattle.capnp_units.specs.Segments.{words_in};
+ghost use Rattle.capnp_units.specs.Limits.{left_of};
+ghost use Rattle.capnp_wire.specs.Views.{backing_bytes, ground_of, seen_pointer, seen_struct, arena_root};
+ghost use Rattle.capnp_wire.specs.Reads.{is_null, with_default, GetGives, read_struct, read_bytes, as_blob, as_text};
+ghost use Rattle.capnp_wire.specs.Objects.{IsInside};
+
+use crate::arena::ReaderArena;
+use crate::backing::{Backing, default_backing};
+use crate::follow::follow;
+use crate::levels::{level_below, levels_of};
+use crate::object::{Object, object_at};
+use crate::place::{Place, word_at};
+use crate::structs::StructReader;
+use capnp_units::errors::{Error, Result};
+use capnp_units::kinds::ErrorKind;
+use capnp_units::limiter::ReadLimiter;
+use capnp_units::sizes::{ElementSize, Word};
+
+/// A pointer to read: at a place, or null. What it leads to is lent from what it stands on.
+#[derive_where(Clone, Copy)]
+pub struct PointerReader<'a, A> {
+    pub(crate) backing: Backing<'a, A>,
+    pub(crate) place: Option<Place>,
+    pub(crate) levels: Option<u32>,
+}
+
+impl<'a, A: ReaderArena> PointerReader<'a, A> {
+    /// The root pointer of an arena, the first word of its first segment. Where that isn't there, every get is refused with `OutOfBounds`.
+    pub fn get_root_from_arena(arena: &'a A) -> Self
+        ensures { seen_pointer A.segments result ≡ arena_root (A.segments arena.now) (A.nesting arena.now) }
+    {
+        PointerReader {
+            backing: Backing::Arena(arena),
+            place: Some(Place {
+                segment: 0,
+                position: 0,
+            }),
+            levels: levels_of(arena.nesting_limit()),
+        }
+    }
+
+    /// The same pointer.
+    pub fn reborrow(&self) -> Self
+        ensures { result ≡ self.now }
+    {
+        *self
+    }
+
+    /// Whether there is no pointer here, or a word of zeros.
+    pub fn is_null(&self) -> bool
+        ensures { result ≡ is_null (seen_pointer A.segments self.now) }
+    {
+        match self.place {
+            None => true,
+            Some(place) => word_at(&self.backing, place) == Some(0),
+        }
+    }
+
+    /// The root of a default, or the pointer itself where it isn't null or the default's root is.
+    fn with_default(&self, default: Option<&'a [Word]>) -> Self
+        ensures { seen_pointer A.segments result ≡ with_default (seen_pointer A.segments self.now) (option_copied default.entry) }
+    {
+        let Some(words) = default else {
+            return *self;
+        };
+        if !self.is_null() {
+            return *self;
+        }
+        let root = PointerReader {
+            backing: default_backing(words),
+            place: Some(Place {
+                segment: 0,
+                position: 0,
+            }),
+            levels: self.levels,
+        };
+        if root.is_null() { *self } else { root }
+    }
+}
