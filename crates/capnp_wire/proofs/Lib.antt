@@ -2,3 +2,4 @@ pub mod Words
 pub mod Pads
 pub mod Tags
 pub mod Bytes
+pub mod Gets

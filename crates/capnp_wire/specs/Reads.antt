@@ -18,7 +18,7 @@ use Rattle.capnp_wire.specs.Places.{place_view, placed}
 use Rattle.capnp_wire.specs.Objects.{object_at}
 use Rattle.capnp_wire.specs.Follow.{found_cost, KeepsBudget}
 use Rattle.capnp_wire.specs.Levels.{level_below}
-use Rattle.capnp_wire.specs.Views.{Ground, default_ground, section_at, PointerView, StructView}
+use Rattle.capnp_wire.specs.Views.{Ground, default_ground, section_at, PointerView, StructView, struct_view}
 
 -- ---- null, and defaults
 
@@ -86,13 +86,13 @@ GetGives view read p old (Err e) new =
 
 -- A struct without sections, as which null reads.
 abbrev pub empty_struct : Ground → Option ℕ → StructView
-empty_struct g levels = record { ground = g; section = 0; bits = 0; first = root; pointers = 0; levels = levels }
+empty_struct g levels = struct_view g 0 0 root 0 levels
 
 -- An object as a struct. (Encoding, "Structs")
 abbrev pub read_struct : Ground → Option ℕ → Object → Result StructView Kind
 read_struct g levels object.Null = Ok (empty_struct g levels)
 read_struct g levels (object.Struct p d k) =
-    level_below levels and_then λ l. Ok (record { ground = g; section = section_at g.segments (place_view p) d; bits = 64 * d; first = after (place_view p) d; pointers = k; levels = l })
+    level_below levels and_then λ l. Ok (struct_view g (section_at g.segments (place_view p) d) (64 * d) (after (place_view p) d) k l)
 read_struct g levels _ = Err WrongPointerKind
 
 -- ---- data and text

@@ -62,6 +62,10 @@ pub record StructView : Type 0 where
   pub pointers : ℕ
   pub levels : Option ℕ
 
+-- A struct of these parts.
+abbrev pub struct_view : Ground → ℕ → ℕ → Place → ℕ → Option ℕ → StructView
+struct_view g section bits first pointers levels = record { ground = g; section = section; bits = bits; first = first; pointers = pointers; levels = levels }
+
 -- The place that may be there.
 abbrev pub place_seen : Option wire.Place → Option Place
 place_seen None = None
@@ -74,7 +78,7 @@ seen_pointer bytes r = record { ground = ground_of bytes r.backing; place = plac
 -- The struct.
 abbrev pub seen_struct : {A : Type 0} → (A → List (List ℕ)) → StructReader A → StructView
 seen_struct bytes r =
-    record { ground = ground_of bytes r.backing; section = number_of 8 r.section.now; bits = 8 * length r.section.now; first = place_view r.first; pointers = r.pointers; levels = r.levels }
+    struct_view (ground_of bytes r.backing) (number_of 8 r.section.now) (8 * length r.section.now) (place_view r.first) r.pointers r.levels
 
 -- The root pointer of an arena.
 abbrev pub arena_root : List (List ℕ) → ℤ → PointerView

@@ -79,4 +79,71 @@ impl<'a, A: ReaderArena> PointerReader<'a, A> {
         };
         if root.is_null() { *self } else { root }
     }
+
+    /// What the pointer names, paid for; null is followed to nothing, and a default costs nothing.
+    fn reach(&self, limiter: &mut ReadLimiter) -> Result<Object>
+        ensures object { GetGives (λ o. o) (λ o. Ok o) (seen_pointer A.segments self.now) limiter.old result limiter.new }
+        ensures inside { IfOk result (IsInside (words_in (backing_bytes A.segments self.now.backing))) }
+    {
+        let Some(place) = self.place else {
+            return Ok(Object::Null);
+        };
+        if self.is_null() {
+            return Ok(Object::Null);
+        }
+        match self.backing {
+            Backing::Arena(arena) => follow(arena, limiter, place),
+            Backing::Default(_) => {
+                let found = object_at(&self.backing, place)?;
+                Ok(found.object)
+            }
+        }
+    }
+
+    /// The struct behind the pointer; null is the empty struct.
+    fn struct_here(&self, limiter: &mut ReadLimiter) -> Result<StructReader<'a, A>>
+        ensures { GetGives (seen_struct A.segments) (read_struct (ground_of A.segments self.now.backing) self.now.levels) (seen_pointer A.segments self.now) limiter.old result limiter.new }
+    {
+        match self.reach(limiter)? {
+            Object::Null => Ok(StructReader::empty(self.backing, self.levels)),
+            Object::Struct {
+                start,
+                data_words,
+                pointers,
+            } => {
+                let levels = level_below(self.levels)?;
+                let section = self.backing.lend(start, data_words as usize);
+                let first = Place {
+                    segment: start.segment,
+                    position: start.position + data_words as usize,
+                };
+                Ok(StructReader::of_parts(self.backing, section, first, pointers, levels))
+            }
+            _ => Err(Error::from(ErrorKind::WrongPointerKind)),
+        }
+    }
+
+    /// The bytes of the byte list behind the pointer, and none of null.
+    fn bytes_here(&self, limiter: &mut ReadLimiter) -> Result<Option<&'a [u8]>>
+        ensures { GetGives option_copied (read_bytes (ground_of A.segments self.now.backing) self.now.levels) (seen_pointer A.segments self.now) limiter.old result limiter.new }
+    {
+        match self.reach(limiter)? {
+            Object::Null => Ok(None),
+            Object::List {
+                start,
+                size: ElementSize::Byte,
+                count,
+            } => {
+                level_below(self.levels)?;
+                let words = self.backing.lend(start, (count as usize + 7) / 8);
+                Ok(Some(&words[..count as usize]))
+            }
+            Object::List { .. } | Object::PointerList { .. } | Object::StructList { .. } => {
+                Err(Error::from(ErrorKind::WrongElementSize))
+            }
+            Object::Struct { .. } | Object::Capability { .. } => {
+                Err(Error::from(ErrorKind::WrongPointerKind))
+            }
+        }
+    }
 }

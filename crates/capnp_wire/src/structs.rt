@@ -1,5 +1,6 @@
 //! Structs to read.
-ghost use Rattle.std.specs.Prelude.{◌≡◌, ◌+◌, ◌*◌, ◌<◌, ◌^◌, ◌==◌, bit_xor};
+ghost use Rattle.std.specs.Prelude.{◌≡◌, ◌+◌, ◌*◌, ◌<◌, ◌^◌, ◌==◌, bit_xor, length};
+ghost use Rattle.capnp_model.specs.Sections.{number_of};
 
 use crate::arena::ReaderArena;
 use crate::backing::Backing;
@@ -27,3 +28,45 @@ impl<A> Clone for StructReader<'_, A> {
 }
 
 impl<A> Copy for StructReader<'_, A> {}
+
+impl<'a, A: ReaderArena> StructReader<'a, A> {
+    ghost use Rattle.capnp_wire.specs.Places.{place_view};
+    ghost use Rattle.capnp_wire.specs.Views.{ground_of, seen_struct, struct_view};
+    ghost use Rattle.capnp_wire.specs.Reads.{empty_struct};
+
+    /// A struct of these parts.
+    pub(crate) fn of_parts(
+        backing: Backing<'a, A>,
+        section: &'a [u8],
+        first: Place,
+        pointers: u16,
+        levels: Option<u32>,
+    ) -> Self
+        requires { first.position + pointers < 2 ^ 62 }
+        ensures { seen_struct A.segments result ≡ struct_view (ground_of A.segments backing.entry) (number_of 8 section.now) (8 * length section.now) (place_view first) pointers levels }
+    {
+        StructReader {
+            backing,
+            section,
+            first,
+            pointers,
+            levels,
+        }
+    }
+
+    /// The struct without sections.
+    pub(crate) fn empty(backing: Backing<'a, A>, levels: Option<u32>) -> Self
+        ensures { seen_struct A.segments result ≡ empty_struct (ground_of A.segments backing.entry) levels }
+    {
+        StructReader {
+            backing,
+            section: &[],
+            first: Place {
+                segment: 0,
+                position: 0,
+            },
+            pointers: 0,
+            levels,
+        }
+    }
+}
