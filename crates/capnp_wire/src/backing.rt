@@ -1,7 +1,7 @@
 //! What readers stand on.
 ghost use Rattle.std.specs.Prelude.{◌≡◌, ◌+◌, ◌*◌, ◌<◌, ◌^◌, ◌/◌, ◌≤◌, pos, length, take, drop, slice_get, option_copied};
 ghost use Rattle.std.specs.List.{flat_map};
-ghost use Rattle.capnp_model.specs.Sections.{number_of, section_of};
+ghost use Rattle.capnp_model.specs.Sections.{numbers_in, number_of, section_of};
 ghost use Rattle.capnp_units.specs.Segments.{whole_words, words_in};
 ghost use Rattle.capnp_wire.specs.Places.{place_view};
 ghost use Rattle.capnp_wire.specs.Objects.{AreThere};
@@ -35,6 +35,14 @@ fn words_of(bytes: &[u8], position: usize, words: usize) -> &[u8]
     ensures section { number_of 8 result.now ≡ section_of (take words (drop position (whole_words bytes.now))) }
 {
     &bytes[8 * position..8 * (position + words)]
+}
+
+/// So many bytes at the front of others.
+pub(crate) fn front_of(bytes: &[u8], count: usize) -> &[u8]
+    requires { count ≤ length bytes.now }
+    ensures { result.now ≡ numbers_in 8 count (number_of 8 bytes.now) }
+{
+    &bytes[..count]
 }
 
 impl<'a, A: ReaderArena> Backing<'a, A> {

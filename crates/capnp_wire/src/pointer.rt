@@ -8,7 +8,7 @@ ghost use Rattle.capnp_wire.specs.Reads.{is_null, with_default, GetGives, read_s
 ghost use Rattle.capnp_wire.specs.Objects.{IsInside};
 
 use crate::arena::ReaderArena;
-use crate::backing::{Backing, default_backing};
+use crate::backing::{Backing, default_backing, front_of};
 use crate::follow::follow;
 use crate::levels::{level_below, levels_of};
 use crate::object::{Object, object_at};
@@ -136,7 +136,7 @@ impl<'a, A: ReaderArena> PointerReader<'a, A> {
             } => {
                 level_below(self.levels)?;
                 let words = self.backing.lend(start, (count as usize + 7) / 8);
-                Ok(Some(&words[..count as usize]))
+                Ok(Some(front_of(words, count as usize)))
             }
             Object::List { .. } | Object::PointerList { .. } | Object::StructList { .. } => {
                 Err(Error::from(ErrorKind::WrongElementSize))
