@@ -1,15 +1,18 @@
 -- What pointers read as.
 use Rattle.std.specs.Prelude.{◌≡◌, ℕ, ◌+◌, ◌-◌, ◌*◌, ◌%◌, ◌^◌, ◌==◌, ◌&&◌, ◌<◌, ◌⊎◌, nat_lt, if◌then◌else◌, Bool, true, false, not, List, [], ◌∷◌, length, take, slice_index, Option, Some, None, Result, Ok, Err}
 use Rattle.capnp_model.specs.Kinds.{Kind, WrongPointerKind, WrongElementSize, TextWithoutZeroByte}
-use Rattle.capnp_model.specs.Chains.{◌and_then◌, passes}
+use Rattle.capnp_model.specs.Chains.{◌and_then◌, guard, passes}
 use Rattle.capnp_model.specs.Sections.{words_for}
 use Rattle.capnp_model.specs.Segments.{Segments, Place, place, root, after, word_at}
-use Rattle.capnp_model.specs.Trees.{plain_elements}
-use Rattle.capnp_units.specs.declared.sizes.ElementSize.TheVariants.{Byte}
+use Rattle.capnp_model.specs.Trees.{Tree, plain_list, pointer_list, struct_list, none, no_elements, plain_elements}
+use Rattle.capnp_model.specs.Readings.{is_accepted_as}
+use Rattle.capnp_units.specs.declared.sizes.ElementSize.{ElementSize}
+use Rattle.capnp_units.specs.declared.sizes.ElementSize.TheVariants.{Byte, Pointer, InlineComposite}
 use Rattle.capnp_units.specs.declared.errors.Error.{Error}
 use Rattle.capnp_units.specs.declared.kinds.ErrorKind.TheVariants.{ReadLimitExceeded}
 use Rattle.capnp_units.specs.declared.limiter.ReadLimiter.{ReadLimiter}
 use Rattle.capnp_units.specs.Errors.{kind_of}
+use Rattle.capnp_units.specs.Sizes.{size_number, data_bits}
 use Rattle.capnp_units.specs.Limits.{left_of, Spends, IsPassed, Follows}
 use Rattle.capnp_wire.specs.declared.object.Object.{Object}
 use Rattle.capnp_wire.specs.declared.object.Object.TheVariants as object
@@ -18,7 +21,7 @@ use Rattle.capnp_wire.specs.Places.{place_view, placed}
 use Rattle.capnp_wire.specs.Objects.{object_at}
 use Rattle.capnp_wire.specs.Follow.{found_cost, KeepsBudget}
 use Rattle.capnp_wire.specs.Levels.{level_below}
-use Rattle.capnp_wire.specs.Views.{Ground, default_ground, section_at, PointerView, StructView, struct_view}
+use Rattle.capnp_wire.specs.Views.{Ground, default_ground, section_at, PointerView, StructView, struct_view, ListView, list_view}
 
 -- ---- null, and defaults
 
@@ -116,3 +119,22 @@ abbrev pub as_text : Option (List ℕ) → Result (List ℕ) Kind
 as_text None = Ok []
 as_text (Some []) = Err TextWithoutZeroByte
 as_text (Some (b ∷ bs)) = if slice_index (b ∷ bs) (length bs) == 0 then Ok (take (length bs) (b ∷ bs)) else Err TextWithoutZeroByte
+
+-- ---- lists
+
+-- A list of elements of these sizes, as far as its elements are asked for.
+abbrev pub list_head : ElementSize → ℕ → ℕ → Tree
+list_head size d k = if size_number size == 7 then struct_list d k no_elements else (if size_number size == 6 then pointer_list none else plain_list (size_number size) 0 0)
+
+-- A list that takes a level, where its elements can be read as ones of the expected size.
+abbrev pub read_elements : Option ℕ → ElementSize → (Option ℕ → ListView) → ElementSize → ℕ → ℕ → Result ListView Kind
+read_elements levels expected view size d k = level_below levels and_then λ l. guard (is_accepted_as (size_number expected) (list_head size d k)) WrongElementSize and_then λ _. Ok (view l)
+
+-- An object as a list with elements of an expected size; null is the empty list of them. (Encoding, "Lists")
+abbrev pub read_list : Ground → Option ℕ → ElementSize → Object → Result ListView Kind
+read_list g levels expected object.Null = Ok (list_view g expected 0 0 root 0 0 levels)
+read_list g levels expected (object.List p size n) =
+    read_elements levels expected (list_view g size n (section_at g.segments (place_view p) (words_for (data_bits (size_number size) * n))) (place_view p) 0 0) size 0 0
+read_list g levels expected (object.PointerList p n) = read_elements levels expected (list_view g Pointer n 0 (place_view p) 0 0) Pointer 0 0
+read_list g levels expected (object.StructList p words n d k) = read_elements levels expected (list_view g InlineComposite n (section_at g.segments (place_view p) (n * (d + k))) (place_view p) d k) InlineComposite d k
+read_list g levels expected _ = Err WrongPointerKind

@@ -7,6 +7,7 @@ pub mod arena;
 pub mod backing;
 pub mod follow;
 pub mod levels;
+pub mod list;
 mod named;
 pub mod object;
 pub mod place;
