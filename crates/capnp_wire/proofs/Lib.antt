@@ -3,3 +3,4 @@ pub mod Pads
 pub mod Tags
 pub mod Bytes
 pub mod Gets
+pub mod Elements

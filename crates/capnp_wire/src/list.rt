@@ -127,14 +127,26 @@ impl<'a, A: ReaderArena> ListReader<'a, A> {
         }
     }
 
+    /// The bytes of an element's data.
+    fn element_section(&self, index: u32) -> &'a [u8]
+        requires index { index < self.now.count }
+        requires bytes { size_number self.now.size ≢ 1 }
+        ensures len { 8 * length result.now ≡ element_bits (size_number self.now.size) self.now.data_words }
+        ensures section { number_of 8 result.now ≡ bits_at (step_bits (size_number self.now.size) self.now.data_words self.now.pointers * index) (element_bits (size_number self.now.size) self.now.data_words) (seen_list A.segments self.now).section }
+    {
+        let step = self.step_bits() / 8;
+        let width = self.element_bits() / 8;
+        let at = step * index as usize;
+        &self.bytes[at..at + width]
+    }
+
     /// An element as a struct: a plain one has just its bits, a pointer is its only pointer. Elements of one bit can't be read so.
     pub fn get_struct_element(&self, index: u32) -> StructReader<'a, A>
         requires index { index < (seen_list A.segments self.now).count }
         requires bytes { size_number (seen_list A.segments self.now).size ≢ 1 }
         ensures { seen_struct A.segments result ≡ element_of (seen_list A.segments self.now) index }
     {
-        let at = self.step_bits() / 8 * index as usize;
-        let section = &self.bytes[at..at + self.element_bits() / 8];
+        let section = self.element_section(index);
         let first = Place {
             segment: self.start.segment,
             position: self.start.position

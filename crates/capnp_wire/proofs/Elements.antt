@@ -1,0 +1,70 @@
+-- The elements of a list in its bytes.
+use Rattle.std.proofs.Common.{◌≡◌, ℕ, zero, suc, ◌+◌, ◌-◌, ◌*◌, ◌/◌, ◌%◌, ◌^◌, ◌<◌, ◌≤◌, List, [], ◌∷◌, length, take, drop, refl, ap, sym, ◌∙◌, subst, arith}
+use Rattle.std.proofs.Math.Nat.{mul-le-mul_left}
+use lib.Pow as pow
+use Rattle.capnp_model.specs.Sections.{bits_at, number_of}
+use Rattle.capnp_units.specs.declared.sizes.ElementSize.{ElementSize}
+use Rattle.capnp_units.specs.declared.sizes.ElementSize.TheVariants.{Void, Bit, Byte, TwoBytes, FourBytes, EightBytes, Pointer, InlineComposite}
+use Rattle.capnp_units.specs.Sizes.{size_number}
+use Rattle.capnp_wire.specs.Elements.{step_bits, element_bits}
+use Rattle.capnp_wire.proofs.Bytes.{number_of-drop, number_of-take}
+
+-- Elements of whole bytes.
+pub record AreBytewise (step bits : ℕ) : Type 0 where
+  pub steps : step % 8 ≡ 0
+  pub widths : bits % 8 ≡ 0
+  pub within : bits ≤ step
+
+pub bytewise : (size : ElementSize) (d k : ℕ) → (size_number size ≡ 1 → ⊥) → AreBytewise (step_bits (size_number size) d k) (element_bits (size_number size) d)
+bytewise Void d k h = record { steps = refl; widths = refl; within = omega arith }
+bytewise Bit d k h = absurd (h refl)
+bytewise Byte d k h = record { steps = refl; widths = refl; within = omega arith }
+bytewise TwoBytes d k h = record { steps = refl; widths = refl; within = omega arith }
+bytewise FourBytes d k h = record { steps = refl; widths = refl; within = omega arith }
+bytewise EightBytes d k h = record { steps = refl; widths = refl; within = omega arith }
+bytewise Pointer d k h = record { steps = refl; widths = refl; within = omega arith }
+bytewise InlineComposite d k h = record { steps = omega arith; widths = omega arith; within = omega arith }
+
+-- the bits of an element lie among those of all
+pub bits_inside : (step bits index count : ℕ) → bits ≤ step → index < count → step * index + bits ≤ step * count
+bits_inside step bits index count w h =
+    let next : step * (index + 1) ≤ step * count = mul-le-mul_left step (omega arith) in
+    omega arith
+
+element_fits : (step bits index count size : ℕ) → AreBytewise step bits → index < count → step * count ≤ 8 * size → step / 8 * index + bits / 8 ≤ size
+element_fits step bits index count size b h inside =
+    let q = step / 8 in
+    let whole : step ≡ 8 * q = let e = b.steps in omega arith in
+    let next : q * (index + 1) ≤ q * count = mul-le-mul_left q (omega arith) in
+    let all : 8 * (q * count) ≤ 8 * size = subst (λ (s : ℕ). s * count ≤ 8 * size → 8 * (q * count) ≤ 8 * size) (sym whole) (λ g. omega arith) inside in
+    let e = b.widths in
+    let w = b.within in
+    omega arith
+
+pub element_inside : (x y step bits index count size : ℕ) → x ≡ step → y ≡ bits → AreBytewise step bits → index < count → step * count ≤ 8 * size → x / 8 * index + y / 8 ≤ size
+element_inside x y step bits index count size e f b h inside = rw (e, f) (element_fits step bits index count size b h inside)
+
+-- ---- bits below a bound
+
+low_bits : (s k m : ℕ) → k ≤ m → s % 2 ^ m % 2 ^ k ≡ s % 2 ^ k
+low_bits s k m h = let e : (m - k) + k ≡ m = omega arith in subst (λ (z : ℕ). s % 2 ^ z % 2 ^ k ≡ s % 2 ^ k) e (pow.mod-mod-pow s (m - k) k)
+
+pub bits_of_low : (s j width m : ℕ) → j + width ≤ m → bits_at j width (s % 2 ^ m) ≡ bits_at j width s
+bits_of_low s j width m h =
+    sym (pow.field (s % 2 ^ m) width j) ∙ ap (λ (z : ℕ). z / 2 ^ j) (low_bits s (width + j) m (omega arith)) ∙ pow.field s width j
+
+-- the bytes of an element are its bits
+element_bytes : (step bits index count : ℕ) (bytes : List ℕ) → AreBytewise step bits → index < count
+    → number_of 8 (take (bits / 8) (drop (step / 8 * index) bytes)) ≡ bits_at (step * index) bits (number_of 8 bytes % 2 ^ (step * count))
+element_bytes step bits index count bytes b h =
+    let q = step / 8 in
+    let whole : step ≡ 8 * q = let e = b.steps in omega arith in
+    let at : 8 * (q * index) ≡ step * index = subst (λ (s : ℕ). 8 * (q * index) ≡ s * index) (sym whole) (omega arith) in
+    let width : 8 * (bits / 8) ≡ bits = let e = b.widths in omega arith in
+    number_of-take 8 (bits / 8) (drop (q * index) bytes) ∙ ap (λ (n : ℕ). n % 2 ^ (8 * (bits / 8))) (number_of-drop 8 (q * index) bytes)
+    ∙ ap (λ (n : ℕ). number_of 8 bytes / 2 ^ n % 2 ^ (8 * (bits / 8))) at ∙ ap (λ (n : ℕ). number_of 8 bytes / 2 ^ (step * index) % 2 ^ n) width
+    ∙ sym (bits_of_low (number_of 8 bytes) (step * index) bits (step * count) (bits_inside step bits index count b.within h))
+
+pub element_is : (x y n step bits index count : ℕ) (bytes : List ℕ) → x ≡ step → y ≡ bits → n ≡ y / 8 → AreBytewise step bits → index < count
+    → number_of 8 (take n (drop (x / 8 * index) bytes)) ≡ bits_at (step * index) bits (number_of 8 bytes % 2 ^ (step * count))
+element_is x y n step bits index count bytes e f w b h = rw (w, e, f) (element_bytes step bits index count bytes b h)
