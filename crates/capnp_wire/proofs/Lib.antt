@@ -4,3 +4,4 @@ pub mod Tags
 pub mod Bytes
 pub mod Gets
 pub mod Elements
+pub mod Fields

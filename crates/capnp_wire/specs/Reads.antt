@@ -1,17 +1,22 @@
 -- What pointers read as.
-use Rattle.std.specs.Prelude.{◌≡◌, ℕ, ◌+◌, ◌-◌, ◌*◌, ◌%◌, ◌^◌, ◌==◌, ◌&&◌, ◌<◌, ◌⊎◌, nat_lt, if◌then◌else◌, Bool, true, false, not, List, [], ◌∷◌, length, take, slice_index, Option, Some, None, Result, Ok, Err}
-use Rattle.capnp_model.specs.Kinds.{Kind, WrongPointerKind, WrongElementSize, TextWithoutZeroByte}
+use Rattle.std.specs.Prelude.{◌≡◌, ℕ, ℤ, ◌+◌, ◌-◌, ◌*◌, ◌%◌, ◌^◌, ◌==◌, ◌&&◌, ◌<◌, ◌⊎◌, nat_lt, if◌then◌else◌, Bool, true, false, not, List, [], ◌∷◌, length, take, slice_index, Option, Some, None, Result, Ok, Err}
+use Rattle.std.specs.Option.{ok_or}
+use Rattle.capnp_model.specs.Kinds.{Kind, OutOfBounds, WrongPointerKind, WrongElementSize, TextWithoutZeroByte}
 use Rattle.capnp_model.specs.Chains.{◌and_then◌, guard, passes}
 use Rattle.capnp_model.specs.Sections.{words_for}
 use Rattle.capnp_model.specs.Segments.{Segments, Place, place, root, after, word_at}
+use Rattle.capnp_model.specs.Pointers as model
 use Rattle.capnp_model.specs.Trees.{Tree, plain_list, pointer_list, struct_list, none, no_elements, plain_elements}
 use Rattle.capnp_model.specs.Readings.{is_accepted_as}
 use Rattle.capnp_units.specs.declared.sizes.ElementSize.{ElementSize}
 use Rattle.capnp_units.specs.declared.sizes.ElementSize.TheVariants.{Byte, Pointer, InlineComposite}
+use Rattle.capnp_units.specs.declared.sizes.PointerType.{PointerType}
+use Rattle.capnp_units.specs.declared.sizes.PointerType.TheVariants as sort
 use Rattle.capnp_units.specs.declared.errors.Error.{Error}
 use Rattle.capnp_units.specs.declared.kinds.ErrorKind.TheVariants.{ReadLimitExceeded}
 use Rattle.capnp_units.specs.declared.limiter.ReadLimiter.{ReadLimiter}
 use Rattle.capnp_units.specs.Errors.{kind_of}
+use Rattle.capnp_units.specs.Segments.{words_in}
 use Rattle.capnp_units.specs.Sizes.{size_number, data_bits}
 use Rattle.capnp_units.specs.Limits.{left_of, Spends, IsPassed, Follows}
 use Rattle.capnp_wire.specs.declared.object.Object.{Object}
@@ -21,7 +26,7 @@ use Rattle.capnp_wire.specs.Places.{place_view, placed}
 use Rattle.capnp_wire.specs.Objects.{object_at}
 use Rattle.capnp_wire.specs.Follow.{found_cost, KeepsBudget}
 use Rattle.capnp_wire.specs.Levels.{level_below}
-use Rattle.capnp_wire.specs.Views.{Ground, default_ground, section_at, PointerView, StructView, struct_view, ListView, list_view}
+use Rattle.capnp_wire.specs.Views.{Ground, default_ground, section_at, arena_root, PointerView, StructView, struct_view, ListView, list_view}
 
 -- ---- null, and defaults
 
@@ -46,6 +51,10 @@ unless_null p d = if is_null d then p else d
 abbrev pub with_default : PointerView → Option (List (List ℕ)) → PointerView
 with_default p None = p
 with_default p (Some words) = if is_null p then unless_null p (default_root words p.levels) else p
+
+-- The root pointer of an arena, where there is one. (Encoding, "Messages")
+abbrev pub root_of : List (List ℕ) → ℤ → Result PointerView Kind
+root_of bytes nesting = ok_or (word_at (words_in bytes) root) OutOfBounds and_then λ _. Ok (arena_root bytes nesting)
 
 -- ---- what a pointer is followed to
 
@@ -120,6 +129,14 @@ as_text None = Ok []
 as_text (Some []) = Err TextWithoutZeroByte
 as_text (Some (b ∷ bs)) = if slice_index (b ∷ bs) (length bs) == 0 then Ok (take (length bs) (b ∷ bs)) else Err TextWithoutZeroByte
 
+-- An object as data.
+abbrev pub read_blob : Ground → Option ℕ → Object → Result (List ℕ) Kind
+read_blob g levels o = read_bytes g levels o and_then as_blob
+
+-- An object as a text.
+abbrev pub read_text : Ground → Option ℕ → Object → Result (List ℕ) Kind
+read_text g levels o = read_bytes g levels o and_then as_text
+
 -- ---- lists
 
 -- A list of elements of these sizes, as far as its elements are asked for.
@@ -138,3 +155,21 @@ read_list g levels expected (object.List p size n) =
 read_list g levels expected (object.PointerList p n) = read_elements levels expected (list_view g Pointer n 0 (place_view p) 0 0) Pointer 0 0
 read_list g levels expected (object.StructList p words n d k) = read_elements levels expected (list_view g InlineComposite n (section_at g.segments (place_view p) (n * (d + k))) (place_view p) d k) InlineComposite d k
 read_list g levels expected _ = Err WrongPointerKind
+
+-- ---- the sort of object
+
+-- The sort of the object that a pointer names, whether its words are there or not.
+abbrev pub type_of : model.Object → PointerType
+type_of model.nothing = sort.Null
+type_of (model.a_struct p d k) = sort.Struct
+type_of (model.a_list p size n) = sort.List
+type_of (model.a_capability i) = sort.Capability
+
+-- The sort of object at a place, if there is one.
+abbrev pub type_at : Segments → Option Place → Result PointerType Kind
+type_at s None = Ok sort.Null
+type_at s (Some p) = model.found_at s p and_then λ f. Ok (type_of f.object)
+
+-- The sort of object behind a pointer that may be none.
+abbrev pub type_behind : PointerView → Result PointerType Kind
+type_behind p = type_at p.ground.segments p.place

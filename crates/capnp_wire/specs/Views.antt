@@ -102,6 +102,11 @@ list_view g size count section start d k levels =
 abbrev pub seen_list : {A : Type 0} → (A → List (List ℕ)) → ListReader A → ListView
 seen_list bytes r = list_view (ground_of bytes r.backing) r.size r.count (number_of 8 r.bytes.now) (place_view r.start) r.data_words r.pointers r.levels
 
+-- The bit of a truth value.
+abbrev pub bit_of_bool : Bool → ℕ
+bit_of_bool true = 1
+bit_of_bool false = 0
+
 -- The pointer of a struct at an index; past the last it is null.
 abbrev pub pointer_field : StructView → ℕ → PointerView
 pointer_field s i = record { ground = s.ground; place = (if nat_lt i s.pointers then Some (after s.first i) else None); levels = s.levels }

@@ -12,5 +12,6 @@ mod named;
 pub mod object;
 pub mod place;
 pub mod pointer;
+mod section;
 pub mod structs;
 mod word_pointer;

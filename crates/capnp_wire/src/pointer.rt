@@ -3,21 +3,23 @@ ghost use Rattle.std.specs.Prelude.{◌≡◌, ◌+◌, ◌*◌, ◌<◌, ◌≤
 ghost use Rattle.capnp_model.specs.Chains.{◌and_then◌};
 ghost use Rattle.capnp_units.specs.Segments.{words_in};
 ghost use Rattle.capnp_units.specs.Limits.{left_of};
-ghost use Rattle.capnp_wire.specs.Views.{backing_bytes, ground_of, seen_pointer, seen_struct, arena_root};
-ghost use Rattle.capnp_wire.specs.Reads.{is_null, with_default, GetGives, read_struct, read_bytes, as_blob, as_text};
+ghost use Rattle.capnp_wire.specs.Views.{backing_bytes, ground_of, seen_pointer, seen_struct, seen_list};
+ghost use Rattle.capnp_wire.specs.Reads.{root_of, is_null, with_default, GetGives, read_struct, read_bytes, read_blob, read_text, read_list, type_behind};
+ghost use Rattle.capnp_wire.specs.Places.{seen};
 ghost use Rattle.capnp_wire.specs.Objects.{IsInside};
 
 use crate::arena::ReaderArena;
 use crate::backing::{Backing, default_backing, front_of};
 use crate::follow::follow;
 use crate::levels::{level_below, levels_of};
+use crate::named::{NamedObject, found_at};
 use crate::object::{Object, object_at};
 use crate::place::{Place, word_at};
 use crate::structs::StructReader;
 use capnp_units::errors::{Error, Result};
 use capnp_units::kinds::ErrorKind;
 use capnp_units::limiter::ReadLimiter;
-use capnp_units::sizes::{ElementSize, Word};
+use capnp_units::sizes::{ElementSize, PointerType, Word};
 
 /// A pointer to read: at a place, or null. What it leads to is lent from what it stands on.
 #[derive_where(Clone, Copy)]
@@ -28,18 +30,22 @@ pub struct PointerReader<'a, A> {
 }
 
 impl<'a, A: ReaderArena> PointerReader<'a, A> {
-    /// The root pointer of an arena, the first word of its first segment. Where that isn't there, every get is refused with `OutOfBounds`.
-    pub fn get_root_from_arena(arena: &'a A) -> Self
-        ensures { seen_pointer A.segments result ≡ arena_root (A.segments arena.now) (A.nesting arena.now) }
+    /// The root pointer of an arena, the first word of its first segment. It is refused with `OutOfBounds` where that isn't there.
+    pub fn get_root_from_arena(arena: &'a A) -> Result<Self>
+        ensures { seen (seen_pointer A.segments) result ≡ root_of (A.segments arena.now) (A.nesting arena.now) }
     {
-        PointerReader {
-            backing: Backing::Arena(arena),
-            place: Some(Place {
-                segment: 0,
-                position: 0,
-            }),
-            levels: levels_of(arena.nesting_limit()),
+        let place = Place {
+            segment: 0,
+            position: 0,
+        };
+        if word_at(arena, place).is_none() {
+            return Err(Error::from(ErrorKind::OutOfBounds));
         }
+        Ok(PointerReader {
+            backing: Backing::Arena(arena),
+            place: Some(place),
+            levels: levels_of(arena.nesting_limit()),
+        })
     }
 
     /// The same pointer.
@@ -144,6 +150,87 @@ impl<'a, A: ReaderArena> PointerReader<'a, A> {
             Object::Struct { .. } | Object::Capability { .. } => {
                 Err(Error::from(ErrorKind::WrongPointerKind))
             }
+        }
+    }
+
+    /// The data behind the pointer; null is none.
+    fn data_here(&self, limiter: &mut ReadLimiter) -> Result<&'a [u8]>
+        ensures { GetGives (λ r. r.now) (read_blob (ground_of A.segments self.now.backing) self.now.levels) (seen_pointer A.segments self.now) limiter.old result limiter.new }
+    {
+        match self.bytes_here(limiter)? {
+            None => Ok(&[]),
+            Some(bytes) => Ok(bytes),
+        }
+    }
+
+    /// The text behind the pointer without its zero byte; null is the empty text.
+    fn text_here(&self, limiter: &mut ReadLimiter) -> Result<&'a [u8]>
+        ensures { GetGives (λ r. r.now) (read_text (ground_of A.segments self.now.backing) self.now.levels) (seen_pointer A.segments self.now) limiter.old result limiter.new }
+    {
+        match self.bytes_here(limiter)? {
+            None => Ok(&[]),
+            Some(bytes) => {
+                if bytes.is_empty() || bytes[bytes.len() - 1] != 0 {
+                    return Err(Error::from(ErrorKind::TextWithoutZeroByte));
+                }
+                Ok(&bytes[..bytes.len() - 1])
+            }
+        }
+    }
+
+    /// The struct behind the pointer, its sections lent in place. A null pointer reads as the default's root, which costs nothing and takes the same levels, and without one as the empty struct.
+    ///
+    /// It is refused by the kind of the fault there, with `ReadLimitExceeded` just where the pads and the struct's words pass what is left, with `WrongPointerKind` where something else is there, and with `NestingLimitExceeded` where no level is left. The words are granted where they don't pass what is left, also where the get is refused then.
+    pub fn get_struct(
+        &self,
+        limiter: &mut ReadLimiter,
+        default: Option<&'a [Word]>,
+    ) -> Result<StructReader<'a, A>>
+        ensures { let p = with_default (seen_pointer A.segments self.now) (option_copied default.entry) in GetGives (seen_struct A.segments) (read_struct p.ground p.levels) p limiter.old result limiter.new }
+    {
+        self.with_default(default).struct_here(limiter)
+    }
+
+    /// The data behind the pointer, lent in place. A null pointer reads as the default's root, and without one as no byte.
+    ///
+    /// It is refused as a struct is; with `WrongElementSize` where a list of other elements than bytes is there.
+    pub fn get_data(
+        &self,
+        limiter: &mut ReadLimiter,
+        default: Option<&'a [Word]>,
+    ) -> Result<&'a [u8]>
+        ensures { let p = with_default (seen_pointer A.segments self.now) (option_copied default.entry) in GetGives (λ r. r.now) (read_blob p.ground p.levels) p limiter.old result limiter.new }
+    {
+        self.with_default(default).data_here(limiter)
+    }
+
+    /// The text behind the pointer, lent in place without the zero byte at its end; it may be no UTF-8. A null pointer reads as the default's root, and without one as the empty text.
+    ///
+    /// It is refused as data are, and with `TextWithoutZeroByte` where the last byte isn't zero or there is none.
+    pub fn get_text(
+        &self,
+        limiter: &mut ReadLimiter,
+        default: Option<&'a [Word]>,
+    ) -> Result<&'a [u8]>
+        ensures { let p = with_default (seen_pointer A.segments self.now) (option_copied default.entry) in GetGives (λ r. r.now) (read_text p.ground p.levels) p limiter.old result limiter.new }
+    {
+        self.with_default(default).text_here(limiter)
+    }
+
+    /// The sort of object that the pointer names, whether its words are there or not. It costs nothing.
+    ///
+    /// It is refused with `OutOfBounds` where the pointer or a pad isn't there, with `MalformedFarPointer` and with `UnknownPointerType`.
+    pub fn get_pointer_type(&self) -> Result<PointerType>
+        ensures { seen (λ t. t) result ≡ type_behind (seen_pointer A.segments self.now) }
+    {
+        let Some(place) = self.place else {
+            return Ok(PointerType::Null);
+        };
+        match found_at(&self.backing, place)?.object {
+            NamedObject::Null => Ok(PointerType::Null),
+            NamedObject::Struct { .. } => Ok(PointerType::Struct),
+            NamedObject::List { .. } => Ok(PointerType::List),
+            NamedObject::Capability { .. } => Ok(PointerType::Capability),
         }
     }
 }
