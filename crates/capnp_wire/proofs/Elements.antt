@@ -6,7 +6,7 @@ use Rattle.capnp_model.specs.Sections.{bits_at, number_of}
 use Rattle.capnp_units.specs.declared.sizes.ElementSize.{ElementSize}
 use Rattle.capnp_units.specs.declared.sizes.ElementSize.TheVariants.{Void, Bit, Byte, TwoBytes, FourBytes, EightBytes, Pointer, InlineComposite}
 use Rattle.capnp_units.specs.Sizes.{size_number}
-use Rattle.capnp_wire.specs.Elements.{step_bits, element_bits}
+use Rattle.capnp_wire.specs.Elements.{step_bits, element_bits, step_words}
 use Rattle.capnp_wire.proofs.Bytes.{number_of-drop, number_of-take}
 
 -- Elements of whole bytes.
@@ -24,6 +24,17 @@ bytewise FourBytes d k h = record { steps = refl; widths = refl; within = omega 
 bytewise EightBytes d k h = record { steps = refl; widths = refl; within = omega arith }
 bytewise Pointer d k h = record { steps = refl; widths = refl; within = omega arith }
 bytewise InlineComposite d k h = record { steps = omega arith; widths = omega arith; within = omega arith }
+
+-- plain elements have no pointers
+pub no_step_words : (size : ElementSize) (d k count : ℕ) → size_number size < 6 → step_words (size_number size) d k * count ≡ 0
+no_step_words Void d k count h = omega arith
+no_step_words Bit d k count h = omega arith
+no_step_words Byte d k count h = omega arith
+no_step_words TwoBytes d k count h = omega arith
+no_step_words FourBytes d k count h = omega arith
+no_step_words EightBytes d k count h = omega arith
+no_step_words Pointer d k count h = absurd (omega arith)
+no_step_words InlineComposite d k count h = absurd (omega arith)
 
 -- the bits of an element lie among those of all
 pub bits_inside : (step bits index count : ℕ) → bits ≤ step → index < count → step * index + bits ≤ step * count

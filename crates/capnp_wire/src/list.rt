@@ -40,6 +40,7 @@ impl<A> Clone for ListReader<'_, A> {
 impl<A> Copy for ListReader<'_, A> {}
 
 impl<'a, A: ReaderArena> ListReader<'a, A> {
+    ghost use Rattle.capnp_model.specs.Segments.{root};
     ghost use Rattle.capnp_wire.specs.Places.{place_view};
     ghost use Rattle.capnp_wire.specs.Views.{ground_of, seen_pointer, seen_struct, seen_list, list_view, element_of, pointer_field};
 
@@ -66,6 +67,25 @@ impl<'a, A: ReaderArena> ListReader<'a, A> {
             size,
             data_words,
             pointers,
+            levels,
+        }
+    }
+
+    /// The empty list of elements of a size.
+    pub(crate) fn empty(backing: Backing<'a, A>, size: ElementSize, levels: Option<u32>) -> Self
+        ensures { seen_list A.segments result ≡ list_view (ground_of A.segments backing.entry) size 0 0 root 0 0 levels }
+    {
+        ListReader {
+            backing,
+            bytes: &[],
+            start: Place {
+                segment: 0,
+                position: 0,
+            },
+            count: 0,
+            size,
+            data_words: 0,
+            pointers: 0,
             levels,
         }
     }
