@@ -1,8 +1,11 @@
 -- The elements of a list in its bytes.
-use Rattle.std.proofs.Common.{◌≡◌, ℕ, zero, suc, ◌+◌, ◌-◌, ◌*◌, ◌/◌, ◌%◌, ◌^◌, ◌<◌, ◌≤◌, List, [], ◌∷◌, length, take, drop, refl, ap, sym, ◌∙◌, subst, arith}
+use Rattle.std.proofs.Common.{◌≡◌, ℕ, zero, suc, ◌+◌, ◌-◌, ◌*◌, ◌/◌, ◌%◌, ◌^◌, ◌<◌, ◌≤◌, nat_le, if◌then◌else◌, Bool, true, false, List, [], ◌∷◌, length, take, drop, refl, ap, sym, ◌∙◌, subst, arith}
 use Rattle.std.proofs.Math.Nat.{mul-le-mul_left}
+use Rattle.std.proofs.lemmas.Bool.{leb-true}
+use Rattle.std.proofs.lemmas.Bool.Decides.{nat_tests}
 use lib.Pow as pow
 use Rattle.capnp_model.specs.Sections.{bits_at, number_of}
+use Rattle.capnp_model.specs.Readings.{field_bits, just_bits}
 use Rattle.capnp_units.specs.declared.sizes.ElementSize.{ElementSize}
 use Rattle.capnp_units.specs.declared.sizes.ElementSize.TheVariants.{Void, Bit, Byte, TwoBytes, FourBytes, EightBytes, Pointer, InlineComposite}
 use Rattle.capnp_units.specs.Sizes.{size_number}
@@ -79,3 +82,31 @@ element_bytes step bits index count bytes b h =
 pub element_is : (x y n step bits index count : ℕ) (bytes : List ℕ) → x ≡ step → y ≡ bits → n ≡ y / 8 → AreBytewise step bits → index < count
     → number_of 8 (take n (drop (x / 8 * index) bytes)) ≡ bits_at (step * index) bits (number_of 8 bytes % 2 ^ (step * count))
 element_is x y n step bits index count bytes e f w b h = rw (w, e, f) (element_bytes step bits index count bytes b h)
+
+-- ---- the number at the front of an element
+
+front_of_bits : (a e w s : ℕ) → w ≤ e → bits_at 0 w (bits_at a e s) ≡ bits_at a w s
+front_of_bits a e w s h =
+    let one : s / 2 ^ a % 2 ^ e / 2 ^ 0 ≡ s / 2 ^ a % 2 ^ e = omega arith in
+    ap (λ (n : ℕ). n % 2 ^ w) one ∙ low_bits (s / 2 ^ a) w e h
+
+pub element_field : (at a e w s : ℕ) → at ≡ 0 → field_bits (just_bits e) (bits_at a e s) at w ≡ (if nat_le w e then bits_at a w s else 0)
+element_field at a e w s z = ap (λ (n : ℕ). field_bits (just_bits e) (bits_at a e s) n w) z ∙ ap (λ (n : ℕ). if nat_le n e then bits_at 0 w (bits_at a e s) else 0) sum ∙ by (nat_le w e) refl
+  where
+    sum : 0 + w ≡ w
+    sum = omega arith
+
+    by : (b : Bool) → nat_le w e ≡ b → (if b then bits_at 0 w (bits_at a e s) else 0) ≡ (if b then bits_at a w s else 0)
+    by true h = front_of_bits a e w s (leb-true w e h)
+    by false h = refl
+
+-- a single bit is no number of bytes
+pub no_number : (n a s : ℕ) → 0 ≡ (if nat_le (8 * n) 1 then bits_at a (8 * n) s else 0)
+no_number zero a s = let e : 0 ≡ s / 2 ^ a % 2 ^ 0 = omega arith in e
+no_number (suc n) a s = let no : nat_le (8 * suc n) 1 ≡ false = grind (arith, nat_tests) in rw no refl
+
+-- a single bit of those of all
+pub bit_element : (i count n : ℕ) → i < count → bits_at i 1 n ≡ bits_at (1 * i) 1 (n % 2 ^ (1 * count))
+bit_element i count n h =
+    let one : 1 * i ≡ i = omega arith in
+    sym (ap (λ (m : ℕ). bits_at m 1 (n % 2 ^ (1 * count))) one ∙ bits_of_low n i 1 (1 * count) (omega arith))

@@ -5,6 +5,7 @@
 
 pub mod arena;
 pub mod backing;
+pub mod element;
 pub mod follow;
 pub mod levels;
 pub mod list;

@@ -9,7 +9,9 @@ use crate::arena::ReaderArena;
 use crate::backing::Backing;
 use crate::place::Place;
 use crate::pointer::PointerReader;
+use crate::section::bit_of;
 use crate::structs::StructReader;
+use capnp_units::primitive::{Primitive, Zero};
 use capnp_units::sizes::{ElementSize, data_bits_per_element, pointers_per_element};
 use std::alloc::AllocError;
 
@@ -42,7 +44,7 @@ impl<A> Copy for ListReader<'_, A> {}
 impl<'a, A: ReaderArena> ListReader<'a, A> {
     ghost use Rattle.capnp_model.specs.Segments.{root};
     ghost use Rattle.capnp_wire.specs.Places.{place_view};
-    ghost use Rattle.capnp_wire.specs.Views.{ground_of, seen_pointer, seen_struct, seen_list, list_view, element_of, pointer_field};
+    ghost use Rattle.capnp_wire.specs.Views.{ground_of, seen_pointer, seen_struct, seen_list, list_view, element_of, element_number, pointer_field};
 
     /// A list of these parts.
     pub(crate) fn of_parts(
@@ -202,5 +204,27 @@ impl<'a, A: ReaderArena> ListReader<'a, A> {
             place,
             levels: self.levels,
         }
+    }
+
+    /// The number at the front of an element, 0 where the element is narrower.
+    pub(crate) fn number<T: Primitive + Zero>(&self, index: u32) -> T
+        requires { index < (seen_list A.segments self.now).count }
+        ensures { result ≡ T.from_bits (element_number (seen_list A.segments self.now) index (8 * T.BYTES)) }
+    {
+        if self.size == ElementSize::Bit {
+            return T::zero();
+        }
+        self.get_struct_element(index).get_data_field::<T>(0)
+    }
+
+    /// The lowest bit of an element, false where it has none.
+    pub(crate) fn bit(&self, index: u32) -> bool
+        requires { index < (seen_list A.segments self.now).count }
+        ensures { result ≡ (element_number (seen_list A.segments self.now) index 1 == 1) }
+    {
+        if self.size == ElementSize::Bit {
+            return bit_of(self.bytes, index as usize);
+        }
+        self.get_struct_element(index).get_bool_field(0)
     }
 }
