@@ -17,7 +17,8 @@ use Rattle.capnp_model.proofs.ReadFits.{tree_at_fits}
 use Rattle.capnp_units.specs.declared.errors.Error.{Error}
 use Rattle.capnp_units.specs.declared.limiter.ReadLimiter.{ReadLimiter}
 use Rattle.capnp_units.specs.Limits.{left_of, IsPassed, Spends}
-use Rattle.capnp_units.specs.Sizes.{size_number, data_bits}
+use Rattle.capnp_units.proofs.Spending.{spends_nothing, passed_by_more}
+use Rattle.capnp_units.specs.Sizes.{size_number}
 use Rattle.capnp_wire.specs.declared.object.Object.{Object}
 use Rattle.capnp_wire.specs.declared.object.Object.TheVariants as object
 use Rattle.capnp_wire.specs.declared.object.Found.{Found}
@@ -28,8 +29,8 @@ use Rattle.capnp_value.specs.declared.value.Value.{Value, Null}
 use Rattle.capnp_value.specs.Values.{tree_of_value}
 use Rattle.capnp_value.specs.Rows.{Reads}
 use Rattle.capnp_value.specs.Reads.{clean_of, clean_leaf, clean_at, clean_whole, cost_inside}
-use Rattle.capnp_value.proofs.Rows.{spends_nothing, nothing_there, paid_before, passed_more}
-use Rattle.capnp_value.proofs.Reading.{tree-Null}
+use Rattle.capnp_value.proofs.Rows.{nothing_there, paid_before}
+use Rattle.capnp_value.proofs.Reading.{tree-Null, plain_bits, plain_kind}
 use Rattle.capnp_value.proofs.Structs.{structs_are}
 
 -- ---- sizes of plain elements
@@ -42,15 +43,6 @@ plain_number (suc (suc (suc zero))) h = refl
 plain_number (suc (suc (suc (suc zero)))) h = refl
 plain_number (suc (suc (suc (suc (suc zero))))) h = refl
 plain_number (suc (suc (suc (suc (suc (suc n)))))) h = absurd (omega arith)
-
-plain_bits : (size : ℕ) → size < 6 → data_bits size ≡ size_bits size
-plain_bits zero h = refl
-plain_bits (suc zero) h = refl
-plain_bits (suc (suc zero)) h = refl
-plain_bits (suc (suc (suc zero))) h = refl
-plain_bits (suc (suc (suc (suc zero)))) h = refl
-plain_bits (suc (suc (suc (suc (suc zero))))) h = refl
-plain_bits (suc (suc (suc (suc (suc (suc n)))))) h = absurd (omega arith)
 
 -- ---- an object whose words are there
 
@@ -98,10 +90,7 @@ module _ (s : Segments) (f : Place → Option Tree) (g : Place → ℕ) where
       let within = size_within p q pads size n a.0 found kind there in
       let number = plain_number size within in
       let bits = plain_bits size within in
-      subst (λ (x : Object). IsSame s f g (model.a_list q size n) x) (ok_is _ _ a.2) (rw (kind, number, bits, there) refl, rw (kind, number, bits) (omega arith))
-
-  kind_of_plain : (size : ℕ) → (size ≡ 6 → ⊥) → (size ≡ 7 → ⊥) → list_kind size ≡ of_bits
-  kind_of_plain size six seven = let a : eqb size 6 ≡ false = ne_eqb _ _ six in let b : eqb size 7 ≡ false = ne_eqb _ _ seven in rw (a, b) refl
+      subst (λ (x : Object). IsSame s f g (model.a_list q size n) x) (ok_is _ _ a.2) (rw number refl, rw (kind, number, bits) (omega arith))
 
   list_whole : (p q : Place) (pads size n : ℕ) (o : Object) → model.found_at s p ≡ Ok (record { pads = pads; object = model.a_list q size n }) → whole s (model.a_list q size n) ≡ Ok o → IsSame s f g (model.a_list q size n) o
   list_whole p q pads size n o found e = by (eqb size 6) (eqb size 7) refl refl
@@ -114,7 +103,7 @@ module _ (s : Segments) (f : Place → Option Tree) (g : Place → ℕ) where
           let is : size ≡ 7 = eqb-true _ _ seven in
           subst (λ (z : ℕ). IsSame s f g (model.a_list q z n) o) (sym is) (structs_whole q n o (subst (λ (z : ℕ). whole s (model.a_list q z n) ≡ Ok o) is e))
       by false false six seven =
-          let kind = kind_of_plain size (eqb-false _ _ six) (eqb-false _ _ seven) in
+          let kind = plain_kind size (eqb-false _ _ six) (eqb-false _ _ seven) in
           plain_whole p q pads size n o found kind (rw kind at e)
 
   found_whole : (p : Place) (pads : ℕ) (m : model.Object) (o : Object) → model.found_at s p ≡ Ok (record { pads = pads; object = m }) → whole s m ≡ Ok o → IsSame s f g m o
@@ -262,7 +251,7 @@ module _ (n : ℕ) (s : Segments) (p : Place) (old : ReadLimiter) where
     | inr x ↦
         let found = found_tree n s p x.1 x.2 in
         let cost = cost_of_found n s p x.1 t x.2 (sym found ∙ is) in
-        passed_more (left_of old) (found_cost x.1) (cost_at n s p) (omega arith) x.3
+        passed_by_more (left_of old) (found_cost x.1) (cost_at n s p) x.3 (omega arith)
   ]
 
   follow_reads : (o : Object) (mid new : ReadLimiter) (r : Result (Option Value) AllocError) → Pays s p old o mid → Reads tree_of_value (below n s o) (inside n s o) mid r new → Reads tree_of_value (clean_at n s p) (cost_at n s p) old r new

@@ -1,26 +1,27 @@
 -- Values that are read, level by level.
-use Rattle.std.proofs.Common.{◌≡◌, ℕ, zero, suc, ◌+◌, ◌*◌, ◌%◌, ◌^◌, ◌≤◌, true, List, [], ◌∷◌, length, take, drop, Option, Some, None, Result, Ok, Err, Vec, Global, refl, ap, sym, ◌∙◌, arith, rules, add-one, ◌++◌}
+use Rattle.std.proofs.Common.{◌≡◌, ℕ, zero, suc, ◌+◌, ◌*◌, ◌%◌, ◌^◌, ◌≤◌, ◌<◌, true, false, eqb, List, [], ◌∷◌, length, take, drop, Option, Some, None, Result, Ok, Err, Vec, Global, refl, ap, sym, ◌∙◌, arith, rules, add-one, ◌++◌}
 use Rattle.std.specs.List.{slice_get}
 use Rattle.std.specs.Option.{is_some}
 use Rattle.std.specs.declared.alloc.AllocError.{AllocError}
+use Rattle.std.proofs.lemmas.Bool.{ne_eqb}
 use Rattle.std.proofs.lemmas.List.{take-take}
 use Rattle.capnp_model.specs.Chains.{◌>>=◌}
 use Rattle.capnp_model.specs.Sections.{section_of, words_for}
 use Rattle.capnp_model.specs.Segments.{Segments, Place, place, after, words_at}
-use Rattle.capnp_model.specs.Pointers.{a_struct}
-use Rattle.capnp_model.specs.Trees.{Tree, null, structure, plain_list, pointer_list, Trees, ◌▸◌}
-use Rattle.capnp_model.specs.Traversal.{each, tree_of, cost_each}
+use Rattle.capnp_model.specs.Pointers.{a_struct, a_list}
+use Rattle.capnp_model.specs.Trees.{Tree, null, structure, plain_list, pointer_list, Trees, ◌▸◌, size_bits}
+use Rattle.capnp_model.specs.Traversal.{each, tree_of, cost_each, list_kind, of_bits}
 use Rattle.capnp_model.proofs.Chaining.{bind_some, some_is}
 use Rattle.capnp_model.proofs.ReadFits.{words_length}
 use Rattle.capnp_units.specs.declared.limiter.ReadLimiter.{ReadLimiter}
 use Rattle.capnp_units.specs.Limits.{left_of, IsPassed, Spends}
+use Rattle.capnp_units.proofs.Spending.{spends_both}
 use Rattle.capnp_units.specs.Sizes.{data_bits}
 use Rattle.capnp_wire.proofs.Tags.{words_from, words_are}
 use Rattle.capnp_value.specs.declared.value.Value.{Value, Null, Struct, List as PlainList, Pointers, the_lemmas}
 use Rattle.capnp_value.specs.Values.{tree_of_value, trees_of, trees_view}
 use Rattle.capnp_value.specs.Rows.{row, total, Reads}
-use Rattle.capnp_value.specs.Reads.{plain_at}
-use Rattle.capnp_value.proofs.Rows.{row_more, total_more, spends_both}
+use Rattle.capnp_value.proofs.Rows.{row_more, total_more}
 
 -- ---- the trees of values
 
@@ -126,12 +127,17 @@ pointers_refused f g p n old last new r = λ t e.
 
 -- ---- a list of plain elements
 
-pub plain_reads : (s : Segments) (p : Place) (size n bits all : ℕ) (words : Vec ℕ Global) (ws : List ℕ) → bits ≡ data_bits size * n → all ≡ words_for (data_bits size * n) → words_at s p all ≡ Some ws
-    → section_of words.items ≡ section_of ws % 2 ^ bits → plain_at s p size n ≡ Some (tree_of_value (PlainList size n words))
-plain_reads s p size n bits all words ws b a e m =
-    let there : words_at s p (words_for (data_bits size * n)) ≡ Some ws = ap (words_at s p) (sym a) ∙ e in
-    let masked : section_of ws % 2 ^ (data_bits size * n) ≡ section_of words.items = ap (λ (k : ℕ). section_of ws % 2 ^ k) (sym b) ∙ sym m in
-    rw there (ap (λ (z : ℕ). Some (plain_list size n z)) masked ∙ ap (λ (t : Tree). Some t) (sym (tree-List size n words)))
+pub plain_bits : (size : ℕ) → size < 6 → data_bits size ≡ size_bits size
+plain_bits zero h = refl
+plain_bits (suc zero) h = refl
+plain_bits (suc (suc zero)) h = refl
+plain_bits (suc (suc (suc zero))) h = refl
+plain_bits (suc (suc (suc (suc zero)))) h = refl
+plain_bits (suc (suc (suc (suc (suc zero))))) h = refl
+plain_bits (suc (suc (suc (suc (suc (suc n)))))) h = absurd (omega arith)
+
+pub plain_kind : (size : ℕ) → (size ≡ 6 → ⊥) → (size ≡ 7 → ⊥) → list_kind size ≡ of_bits
+plain_kind size six seven = let a : eqb size 6 ≡ false = ne_eqb _ _ six in let b : eqb size 7 ≡ false = ne_eqb _ _ seven in rw (a, b) refl
 
 -- ---- one more of a row
 
@@ -145,7 +151,7 @@ row_step read cost i vs us v old mid new r paid one price is =
     let zero_is : 0 + i ≡ i = omega arith in
     let more : row read 0 (suc i) ≡ Some (trees_view vs ++ tree_of_value v ∷ []) = row_more read 0 i (trees_view vs) (tree_of_value v) r (ap read zero_is ∙ one) in
     let items : trees_view us ≡ trees_view vs ++ tree_of_value v ∷ [] = ap trees_view is ∙ trees_view-more vs v in
-    let all = total_more cost 0 i in
-    let here = ap cost zero_is in
-    let sum : Spends old new (total cost 0 (suc i)) = spends_both old mid new (total cost 0 i) (cost i) (total cost 0 (suc i)) paid price (omega arith) in
+    let both = spends_both old mid new (total cost 0 i) (cost i) paid price in
+    let all : total cost 0 i + cost i ≡ total cost 0 (suc i) = omega (arith, total_more cost 0 i, ap cost zero_is) in
+    let sum : Spends old new (total cost 0 (suc i)) = rw all at both in
     (rw add-one (rw items more), rw add-one sum)

@@ -4,57 +4,9 @@ use Rattle.std.specs.declared.alloc.AllocError.{AllocError}
 use Rattle.capnp_model.specs.Chains.{◌>>=◌}
 use Rattle.capnp_model.proofs.Chaining.{bind_some, some_is}
 use Rattle.capnp_units.specs.declared.limiter.ReadLimiter.{ReadLimiter}
-use Rattle.capnp_units.specs.Limits.{less, left_of, granted_of, Allows, IsPassed, Spends}
+use Rattle.capnp_units.specs.Limits.{left_of, IsPassed, Spends}
+use Rattle.capnp_units.proofs.Spending.{spends_both, passed_by_more, passed_after}
 use Rattle.capnp_value.specs.Rows.{row, total, Reads}
-
--- ---- words of a budget
-
-allows_both : (o : Option ℕ) (a b : ℕ) → Allows o a → Allows (less o a) b → Allows o (a + b)
-allows_both None a b h k = tt
-allows_both (Some left) a b h k = omega arith
-
-less_both : (o : Option ℕ) (a b : ℕ) → less (less o a) b ≡ less o (a + b)
-less_both None a b = refl
-less_both (Some left) a b = let e : left - a - b ≡ left - (a + b) = omega arith in ap (λ (n : ℕ). Some n) e
-
-pub spends_both : (old mid new : ReadLimiter) (a b all : ℕ) → Spends old mid a → Spends mid new b → all ≡ a + b → Spends old new all
-spends_both old mid new a b all x y is =
-    let first = x.granted in
-    let second = y.granted in
-    rw is record {
-      allowed = allows_both (left_of old) a b x.allowed (subst (λ (o : Option ℕ). Allows o b) x.left y.allowed);
-      limit = y.limit ∙ x.limit;
-      left = y.left ∙ ap (λ (o : Option ℕ). less o b) x.left ∙ less_both (left_of old) a b;
-      granted = omega arith;
-    }
-
-allows_nothing : (o : Option ℕ) → Allows o 0
-allows_nothing None = tt
-allows_nothing (Some left) = omega arith
-
-less_nothing : (o : Option ℕ) → o ≡ less o 0
-less_nothing None = refl
-less_nothing (Some left) = let e : left ≡ left - 0 = omega arith in ap (λ (n : ℕ). Some n) e
-
-pub spends_nothing : (l : ReadLimiter) → Spends l l 0
-spends_nothing l = let same : granted_of l ≡ granted_of l + 0 = omega arith in record {
-  allowed = allows_nothing (left_of l);
-  limit = refl;
-  left = less_nothing (left_of l);
-  granted = omega arith;
-}
-
-pub passed_more : (o : Option ℕ) (a b : ℕ) → a ≤ b → IsPassed o a → IsPassed o b
-passed_more None a b h p = p
-passed_more (Some left) a b h p = omega arith
-
-passed_behind : (o : Option ℕ) (a b : ℕ) → Allows o a → IsPassed (less o a) b → IsPassed o (a + b)
-passed_behind None a b h p = p
-passed_behind (Some left) a b h p = omega arith
-
--- what passes what is left, with what was paid before
-pub passed_both : (old mid : ReadLimiter) (a b all : ℕ) → Spends old mid a → IsPassed (left_of mid) b → a + b ≤ all → IsPassed (left_of old) all
-passed_both old mid a b all x p h = passed_more (left_of old) (a + b) all h (passed_behind (left_of old) a b x.allowed (subst (λ (o : Option ℕ). IsPassed o b) x.left p))
 
 -- ---- rows
 
@@ -109,8 +61,8 @@ nothing_there view there cost old new e t h = absurd cc
 -- something else was paid before
 pub paid_before : {X T : Type 0} (view : X → T) (there : Option T) (cost paid all : ℕ) (old mid new : ReadLimiter) (r : Result (Option X) AllocError) → Spends old mid paid
     → ((t : T) → there ≡ Some t → all ≡ paid + cost) → Reads view there cost mid r new → Reads view there all old r new
-paid_before view there cost paid all old mid new (Ok (Some x)) p e h = (h.0, spends_both old mid new paid cost all p h.1 (e (view x) h.0))
-paid_before view there cost paid all old mid new (Ok None) p e h = λ t is. let sum = e t is in passed_both old mid paid cost all p (h t is) (omega arith)
+paid_before view there cost paid all old mid new (Ok (Some x)) p e h = let sum = e (view x) h.0 in (h.0, rw sum (spends_both old mid new paid cost p h.1))
+paid_before view there cost paid all old mid new (Ok None) p e h = λ t is. let sum = e t is in rw sum (passed_after old mid paid cost p (h t is))
 paid_before view there cost paid all old mid new (Err x) p e h = tt
 
 -- one refused, all refused
@@ -121,4 +73,4 @@ row_refused view views read cost n k old mid new last h e f = λ all is.
     let here : 0 + k ≡ k = omega arith in
     let same = ap cost here in
     let within = total_within cost 0 n k h in
-    passed_both old mid (total cost 0 k) (cost k) (total cost 0 n) e (f x.0 (ap read (sym here) ∙ x.1)) (omega arith)
+    passed_by_more (left_of old) (total cost 0 k + cost k) (total cost 0 n) (passed_after old mid (total cost 0 k) (cost k) e (f x.0 (ap read (sym here) ∙ x.1))) (omega arith)

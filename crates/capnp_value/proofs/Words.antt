@@ -1,15 +1,13 @@
 -- The words of bytes, one after the other and part by part.
-use Rattle.std.proofs.Common.{◌≡◌, ℕ, zero, suc, ◌+◌, ◌-◌, ◌*◌, ◌/◌, ◌<◌, ◌≤◌, List, [], ◌∷◌, ◌++◌, length, take, drop, true, Some, None, refl, ap, sym, ◌∙◌, append_assoc, arith, length-drop, length-take-le}
+use Rattle.std.proofs.Common.{◌≡◌, ℕ, zero, suc, ◌+◌, ◌-◌, ◌*◌, ◌/◌, ◌<◌, ◌≤◌, List, [], ◌∷◌, ◌++◌, length, take, drop, Some, refl, ap, sym, ◌∙◌, append_assoc, arith, length-drop, length-take-le}
 use Rattle.std.specs.Int.{from_le_bytes, w64}
 use Rattle.std.specs.List.{slice_get}
-use Rattle.std.specs.Option.{is_some}
-use Rattle.std.proofs.lemmas.Bool.{leb-true}
 use Rattle.std.proofs.lemmas.List.{drop-drop, drop-take}
 use Rattle.capnp_model.specs.Bytes.{words_in_bytes}
 use Rattle.capnp_model.specs.Segments.{place, words_at}
 use Rattle.capnp_units.specs.Segments.{whole_words, words_in}
 use Rattle.capnp_wire.proofs.Tags.{words_are}
-use Rattle.capnp_wire.proofs.Words.{word_of_eight, word_of_front, whole_words-length, segment_there, words_where, no_words as no_words_at}
+use Rattle.capnp_wire.proofs.Words.{word_of_eight, word_of_front, whole_words-length, segment_there}
 
 -- ---- one after the other
 
@@ -72,11 +70,3 @@ pub words_there : (s : List (List ℕ)) (i p n : ℕ) (bytes : List ℕ) → Som
 words_there s i p n bytes e h =
     let there = segment_there s i bytes e in
     words_are (words_in s) (place i p) n (whole_words bytes) there (let len = whole_words-length bytes in omega arith) ∙ ap (λ (ws : List ℕ). Some ws) (sym (words_of_part p n bytes h))
-
--- what is there lies inside its segment
-pub words_end : (s : List (List ℕ)) (i p n : ℕ) (bytes : List ℕ) → Some bytes ≡ slice_get s i → is_some (words_at (words_in s) (place i p) n) ≡ true → p + n ≤ length bytes / 8
-words_end s i p n bytes e h = leb-true (p + n) (length bytes / 8) (sym (words_where s i p n bytes e) ∙ h)
-
--- without a segment no word is there
-pub none_there : {X : Type 0} (s : List (List ℕ)) (i p n : ℕ) → None ≡ slice_get s i → is_some (words_at (words_in s) (place i p) n) ≡ true → X
-none_there s i p n e h = absurd (let none = no_words_at s i p n e in cc)

@@ -1,14 +1,13 @@
 -- The values that are read: those without a capability.
-use Rattle.std.specs.Prelude.{ℕ, zero, suc, pos, ◌+◌, ◌*◌, ◌%◌, ◌^◌, Option, Some, None}
+use Rattle.std.specs.Prelude.{ℕ, zero, suc, pos, ◌+◌, ◌*◌, Option, Some, None}
 use Rattle.std.specs.Result.{result_ok}
 use Rattle.capnp_model.specs.Chains.{◌>>=◌}
-use Rattle.capnp_model.specs.Sections.{section_of, words_for}
-use Rattle.capnp_model.specs.Segments.{Segments, Place, after, words_at}
+use Rattle.capnp_model.specs.Segments.{Segments, Place, after}
 use Rattle.capnp_model.specs.Pointers as model
-use Rattle.capnp_model.specs.Trees.{Tree, null, plain_list, pointer_list, struct_list}
+use Rattle.capnp_model.specs.Trees.{Tree, null, pointer_list, struct_list}
 use Rattle.capnp_model.specs.Traversal.{each, tree_of, cost_each, cost_elements}
 use Rattle.capnp_model.specs.Answers.{Limits}
-use Rattle.capnp_units.specs.Sizes.{size_number, data_bits}
+use Rattle.capnp_units.specs.Sizes.{size_number}
 use Rattle.capnp_wire.specs.declared.object.Object.{Object}
 use Rattle.capnp_wire.specs.declared.object.Object.TheVariants as object
 use Rattle.capnp_wire.specs.Places.{place_view}
@@ -41,10 +40,6 @@ element_at s below p d k i = clean_of s below (model.a_struct (after p (i * (d +
 abbrev pub element_cost : (Place → ℕ) → Place → ℕ → ℕ → ℕ → ℕ
 element_cost below p d k i = cost_each below (after (after p (i * (d + k))) d) k
 
--- So many plain elements of a size's number, whose words begin there. (Encoding, "Lists")
-abbrev pub plain_at : Segments → Place → ℕ → ℕ → Option Tree
-plain_at s p size n = words_at s p (words_for (data_bits size * n)) >>= λ ws. Some (plain_list size n (section_of ws % 2 ^ (data_bits size * n)))
-
 -- So many structs of a list, the first of which begins there.
 abbrev pub structs_at : Segments → (Place → Option Tree) → Place → ℕ → ℕ → ℕ → Option Tree
 structs_at s below p d k n = row (element_at s below p d k) 0 n >>= λ ts. Some (struct_list d k (elements_of k ts))
@@ -53,7 +48,7 @@ structs_at s below p d k n = row (element_at s below p d k) 0 n >>= λ ts. Some 
 abbrev pub clean_whole : Segments → (Place → Option Tree) → Object → Option Tree
 clean_whole s below object.Null = Some null
 clean_whole s below (object.Struct p d k) = tree_of s below (model.a_struct (place_view p) d k)
-clean_whole s below (object.List p size n) = plain_at s (place_view p) (size_number size) n
+clean_whole s below (object.List p size n) = tree_of s below (model.a_list (place_view p) (size_number size) n)
 clean_whole s below (object.PointerList p n) = each below (place_view p) n >>= λ ts. Some (pointer_list ts)
 clean_whole s below (object.StructList p words n d k) = structs_at s below (place_view p) d k n
 clean_whole s below (object.Capability i) = None

@@ -1,11 +1,11 @@
 //! Reading a value within limits.
 
-ghost use Rattle.std.specs.Prelude.{◌≡◌, ◌+◌, ◌*◌, ◌≤◌, ◌<◌, ◌^◌, ◌%◌, IfOk, vec_len, length};
+ghost use Rattle.std.specs.Prelude.{◌≡◌, ◌+◌, ◌*◌, ◌≤◌, ◌<◌, ◌^◌, ◌%◌, ℕ, IfOk, vec_len, length};
 ghost use Rattle.std.specs.Option.{option_map, IfSome};
 ghost use Rattle.capnp_model.specs.Sections.{section_of, words_for};
 ghost use Rattle.capnp_model.specs.Segments.{after, words_at};
-ghost use Rattle.capnp_model.specs.Pointers.{a_struct};
-ghost use Rattle.capnp_model.specs.Traversal.{each, tree_of, cost_at, cost_each, cost_elements};
+ghost use Rattle.capnp_model.specs.Pointers.{a_struct, a_list};
+ghost use Rattle.capnp_model.specs.Traversal.{tree_of, cost_at, cost_each, cost_elements};
 ghost use Rattle.capnp_model.specs.Encoding.{canonical_words};
 ghost use Rattle.capnp_model.specs.Fits.{Fits};
 ghost use Rattle.capnp_model.specs.Answers.{value_within};
@@ -15,7 +15,7 @@ ghost use Rattle.capnp_wire.specs.Objects.{AreThere, IsInside};
 ghost use Rattle.capnp_wire.specs.Places.{place_view};
 ghost use Rattle.capnp_value.specs.Values.{tree_of_value, trees_view};
 ghost use Rattle.capnp_value.specs.Rows.{row, total, Reads};
-ghost use Rattle.capnp_value.specs.Reads.{clean_at, element_at, element_cost, plain_at, structs_at, clean_whole, cost_inside, limits_view};
+ghost use Rattle.capnp_value.specs.Reads.{clean_at, element_at, element_cost, structs_at, clean_whole, cost_inside, limits_view};
 
 use crate::value::Value;
 use capnp_units::limiter::ReadLimiter;
@@ -258,8 +258,9 @@ fn read_plain<A: ReaderArena>(
     size: ElementSize,
     count: u32,
 ) -> Result<Value, AllocError>
-    requires { AreThere (words_in (A.segments arena.now)) (place_view start) (words_for (data_bits (size_number size) * count)) }
-    ensures { IfOk result (λ v. plain_at (words_in (A.segments arena.now)) (place_view start) (size_number size) count ≡ Some (tree_of_value v)) }
+    requires size { size_number size < 6 }
+    requires there { AreThere (words_in (A.segments arena.now)) (place_view start) (words_for (data_bits (size_number size) * count)) }
+    ensures { IfOk result (λ v. (levels : ℕ) → tree_of (words_in (A.segments arena.now)) (clean_at levels (words_in (A.segments arena.now))) (a_list (place_view start) (size_number size) count) ≡ Some (tree_of_value v)) }
 {
     let all = words_of_elements(size, count) as usize;
     let mut words = copied_words(alloc, arena, start, all)?;

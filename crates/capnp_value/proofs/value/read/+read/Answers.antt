@@ -3,6 +3,7 @@ use Rattle.std.proofs.Common.{ℕ, suc, ◌≡◌, ◌+◌, ◌-◌, ◌*◌, �
 use Rattle.capnp_model.specs.Segments.{Segments, after}
 use Rattle.capnp_model.specs.Traversal.{cost_at}
 use Rattle.capnp_units.specs.Segments.{words_in}
+use Rattle.capnp_units.proofs.Spending.{spends_nothing}
 use Rattle.capnp_wire.specs.Places.{place_view}
 use Rattle.capnp_value.specs.Values.{tree_of_value}
 use Rattle.capnp_value.specs.Reads.{clean_at, element_at, element_cost}
@@ -33,6 +34,9 @@ read_at-returns g t c =
     let some = c.if-levels-eq0.false in
     let level : c.args.levels ≡ suc (c.args.levels - 1) = omega (arith, some) in
     follow_object c.args.levels (c.args.levels - 1) s (place_view c.args.at) c.args.limiter.now c.follow.new.limiter c.read_object.new.limiter c.in-Ok.object c.read_object.result level c.in-Ok.ensures c.read_object.ensures
+
+pub read_object-returns-in_ok-list-in-List : goal.read_object-returns-in_ok-list-in-List
+read_object-returns-in_ok-list-in-List g t c = rw c.in-List.is (c.in_ok-list-in-List.ensures c.args.levels, spends_nothing c.args.limiter.now)
 
 pub read_object-returns-in-Some : goal.read_object-returns-in-Some
 read_object-returns-in-Some g t c =

@@ -2,7 +2,8 @@
 use Rattle.std.proofs.Common.{◌≡◌, ◌+◌, ◌-◌, ◌*◌, ◌/◌, ◌≤◌, ℕ, List, take, drop, length, Option, Some, Result, Ok, Err, IfOk, Vec, Global, ap, sym, ◌∙◌, arith}
 use Rattle.std.specs.declared.alloc.AllocError.{AllocError}
 use Rattle.capnp_units.specs.Segments.{whole_words}
-use Rattle.capnp_value.proofs.Words.{words_end, words_there, none_there}
+use Rattle.capnp_wire.proofs.Words.{words_end, none_there}
+use Rattle.capnp_value.proofs.Words.{words_there}
 use Rattle.capnp_value.proofs.value.read.copied_words.Goals as goal
 
 pub slice_bounds-words_of-end : goal.slice_bounds-words_of-end
@@ -24,4 +25,4 @@ returns-in-Some g c =
     copied c.words_of.result _ _ (there ∙ ap (λ (n : ℕ). Some (whole_words (take n (drop (8 * start.position) bytes)))) size) c.words_of.ensures
 
 pub returns-in-None : goal.returns-in-None
-returns-in-None g c = none_there (g.A.ReaderArena.segments c.args.arena.now) c.args.start.segment c.args.start.position c.args.count c.in-None.ensures c.requires.0
+returns-in-None g c = absurd (none_there (g.A.ReaderArena.segments c.args.arena.now) c.args.start.segment c.args.start.position c.args.count c.in-None.ensures c.requires.0)
