@@ -1,8 +1,8 @@
 -- Objects whose words are there, in place of the model's objects that they are.
-use Rattle.std.proofs.Common.{◌≡◌, ℕ, zero, suc, ◌+◌, ◌*◌, ◌%◌, ◌^◌, ◌<◌, ◌≤◌, Bool, true, false, eqb, List, take, Option, Some, None, Result, Ok, Err, inl, inr, refl, ap, subst, sym, ◌∙◌, arith, if◌then◌else◌}
+use Rattle.std.proofs.Common.{◌≡◌, ℕ, zero, suc, ◌+◌, ◌*◌, ◌%◌, ◌^◌, ◌<◌, Bool, true, false, eqb, List, take, Option, Some, None, Result, Ok, Err, inl, inr, refl, ap, subst, sym, ◌∙◌, arith, if◌then◌else◌}
 use Rattle.std.specs.Result.{result_ok}
 use Rattle.std.specs.Option.{ok_or}
-use Rattle.std.proofs.lemmas.Bool.{eqb-true, eqb-false, ne_eqb}
+use Rattle.std.proofs.lemmas.Bool.{eqb-true, eqb-false}
 use Rattle.std.specs.declared.alloc.AllocError.{AllocError}
 use Rattle.capnp_model.specs.Kinds.{Kind, OutOfBounds}
 use Rattle.capnp_model.specs.Chains.{◌>>=◌, ◌and_then◌}
@@ -10,13 +10,12 @@ use Rattle.capnp_model.specs.Sections.{section_of, words_for}
 use Rattle.capnp_model.specs.Segments.{Segments, Place, after, words_at}
 use Rattle.capnp_model.specs.Pointers as model
 use Rattle.capnp_model.specs.Trees.{Tree, null, structure, plain_list, size_bits}
-use Rattle.capnp_model.specs.Traversal.{Tag, each, tag_in, ListKind, of_bits, of_pointers, of_structs, list_kind, list_words, list_tree, tree_of, tree_at, cost_at, cost_elements, tag_cost, object_cost}
-use Rattle.capnp_model.specs.Fits.{Fits}
+use Rattle.capnp_model.specs.Traversal.{Tag, each, tag_in, ListKind, of_bits, of_pointers, of_structs, list_kind, list_words, list_tree, tree_at, cost_at, cost_elements, tag_cost, object_cost}
 use Rattle.capnp_model.proofs.Chaining.{bind_ok, ok_is, ok_or_some}
 use Rattle.capnp_model.proofs.ReadFits.{tree_at_fits}
 use Rattle.capnp_units.specs.declared.errors.Error.{Error}
 use Rattle.capnp_units.specs.declared.limiter.ReadLimiter.{ReadLimiter}
-use Rattle.capnp_units.specs.Limits.{left_of, IsPassed, Spends}
+use Rattle.capnp_units.specs.Limits.{left_of}
 use Rattle.capnp_units.proofs.Spending.{spends_nothing, passed_by_more}
 use Rattle.capnp_units.specs.Sizes.{size_number}
 use Rattle.capnp_wire.specs.declared.object.Object.{Object}

@@ -1,20 +1,19 @@
 -- Values that are read, level by level.
-use Rattle.std.proofs.Common.{◌≡◌, ℕ, zero, suc, ◌+◌, ◌*◌, ◌%◌, ◌^◌, ◌≤◌, ◌<◌, true, false, eqb, List, [], ◌∷◌, length, take, drop, Option, Some, None, Result, Ok, Err, Vec, Global, refl, ap, sym, ◌∙◌, arith, rules, add-one, ◌++◌}
+use Rattle.std.proofs.Common.{◌≡◌, ℕ, zero, suc, ◌+◌, ◌≤◌, ◌<◌, true, false, eqb, List, [], ◌∷◌, length, take, drop, Option, Some, None, Ok, Vec, Global, refl, ap, sym, ◌∙◌, arith, rules, add-one, ◌++◌}
 use Rattle.std.specs.List.{slice_get}
 use Rattle.std.specs.Option.{is_some}
-use Rattle.std.specs.declared.alloc.AllocError.{AllocError}
 use Rattle.std.proofs.lemmas.Bool.{ne_eqb}
 use Rattle.std.proofs.lemmas.List.{take-take}
 use Rattle.capnp_model.specs.Chains.{◌>>=◌}
-use Rattle.capnp_model.specs.Sections.{section_of, words_for}
+use Rattle.capnp_model.specs.Sections.{section_of}
 use Rattle.capnp_model.specs.Segments.{Segments, Place, place, after, words_at}
-use Rattle.capnp_model.specs.Pointers.{a_struct, a_list}
+use Rattle.capnp_model.specs.Pointers.{a_struct}
 use Rattle.capnp_model.specs.Trees.{Tree, null, structure, plain_list, pointer_list, Trees, ◌▸◌, size_bits}
 use Rattle.capnp_model.specs.Traversal.{each, tree_of, cost_each, list_kind, of_bits}
 use Rattle.capnp_model.proofs.Chaining.{bind_some, some_is}
 use Rattle.capnp_model.proofs.ReadFits.{words_length}
 use Rattle.capnp_units.specs.declared.limiter.ReadLimiter.{ReadLimiter}
-use Rattle.capnp_units.specs.Limits.{left_of, IsPassed, Spends}
+use Rattle.capnp_units.specs.Limits.{Spends}
 use Rattle.capnp_units.proofs.Spending.{spends_both}
 use Rattle.capnp_units.specs.Sizes.{data_bits}
 use Rattle.capnp_wire.proofs.Tags.{words_from, words_are}

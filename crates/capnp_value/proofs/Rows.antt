@@ -1,10 +1,10 @@
 -- Readings in a row, one more at the end.
-use Rattle.std.proofs.Common.{◌≡◌, ℕ, zero, suc, ◌+◌, ◌-◌, ◌<◌, ◌≤◌, ◌^◌, List, [], ◌∷◌, ◌++◌, Option, Some, None, Result, Ok, Err, refl, ap, subst, sym, ◌∙◌, arith, add-zero}
+use Rattle.std.proofs.Common.{◌≡◌, ℕ, zero, suc, ◌+◌, ◌<◌, ◌≤◌, List, [], ◌∷◌, ◌++◌, Option, Some, None, Result, Ok, Err, refl, ap, sym, ◌∙◌, arith, add-zero}
 use Rattle.std.specs.declared.alloc.AllocError.{AllocError}
 use Rattle.capnp_model.specs.Chains.{◌>>=◌}
 use Rattle.capnp_model.proofs.Chaining.{bind_some, some_is}
 use Rattle.capnp_units.specs.declared.limiter.ReadLimiter.{ReadLimiter}
-use Rattle.capnp_units.specs.Limits.{left_of, IsPassed, Spends}
+use Rattle.capnp_units.specs.Limits.{left_of, Spends}
 use Rattle.capnp_units.proofs.Spending.{spends_both, passed_by_more, passed_after}
 use Rattle.capnp_value.specs.Rows.{row, total, Reads}
 

@@ -13,7 +13,7 @@ use Rattle.capnp_wire.specs.declared.object.Object.TheVariants as object
 use Rattle.capnp_wire.specs.Places.{place_view}
 use Rattle.capnp_value.specs.declared.value.read.Bounds.{Bounds}
 use Rattle.capnp_value.specs.Rows.{row}
-use Rattle.capnp_value.specs.Values.{trees_of, elements_of}
+use Rattle.capnp_value.specs.Values.{elements_of}
 
 -- The tree of an object, unless it is a capability.
 abbrev pub clean_of : Segments → (Place → Option Tree) → model.Object → Option Tree

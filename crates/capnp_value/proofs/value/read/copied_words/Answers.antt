@@ -1,5 +1,5 @@
 -- The words of a part of a segment.
-use Rattle.std.proofs.Common.{◌≡◌, ◌+◌, ◌-◌, ◌*◌, ◌/◌, ◌≤◌, ℕ, List, take, drop, length, Option, Some, Result, Ok, Err, IfOk, Vec, Global, ap, sym, ◌∙◌, arith}
+use Rattle.std.proofs.Common.{◌≡◌, ◌+◌, ◌-◌, ◌*◌, ℕ, List, take, drop, Option, Some, Result, Ok, Err, IfOk, Vec, Global, ap, sym, ◌∙◌, arith}
 use Rattle.std.specs.declared.alloc.AllocError.{AllocError}
 use Rattle.capnp_units.specs.Segments.{whole_words}
 use Rattle.capnp_wire.proofs.Words.{words_end, none_there}
