@@ -1,0 +1,85 @@
+-- The words of segments of bytes.
+use Rattle.std.proofs.Common.{◌≡◌, ℕ, zero, suc, ◌+◌, ◌-◌, ◌*◌, ◌/◌, ◌≤◌, ◌<◌, Bool, true, false, leb, List, [], ◌∷◌, length, take, drop, Option, Some, None, refl, ap, sym, ◌∙◌, arith}
+use Rattle.std.specs.List.{slice_get}
+use Rattle.std.specs.Int.{from_le_bytes, w64}
+use Rattle.std.specs.Option.{option_map, is_some}
+use Rattle.std.proofs.lemmas.List.{drop-drop, take-take, get_or-take}
+use Rattle.std.proofs.lemmas.Bool.{leb-true, le-leb}
+use Rattle.std.proofs.lemmas.Bool.Decides.{nat_tests}
+use Rattle.std.proofs.lemmas.Option.{slice_get-map, slice_get_past}
+use Rattle.capnp_model.specs.Bytes.{words_in_bytes}
+use Rattle.capnp_model.specs.Chains.{◌provided◌}
+use Rattle.capnp_model.specs.Segments.{place, words_at}
+use Rattle.capnp_units.specs.Segments.{whole_words, words_in}
+
+words_in_bytes-length : (n : ℕ) (bytes : List ℕ) → length (words_in_bytes n bytes) ≡ n
+words_in_bytes-length zero bytes = refl
+words_in_bytes-length (suc n) bytes = let rest = words_in_bytes-length n (drop 8 bytes) in omega arith
+
+pub whole_words-length : (bytes : List ℕ) → length (whole_words bytes) ≡ length bytes / 8
+whole_words-length bytes = words_in_bytes-length (length bytes / 8) bytes
+
+words_in_bytes-at : (n i : ℕ) (bytes : List ℕ) → i < n → slice_get (words_in_bytes n bytes) i ≡ Some (from_le_bytes w64 (drop (8 * i) bytes))
+words_in_bytes-at zero i bytes h = absurd (omega arith)
+words_in_bytes-at (suc n) zero bytes h = refl
+words_in_bytes-at (suc n) (suc i) bytes h =
+    let sum : 8 + 8 * i ≡ 8 * suc i = omega arith in
+    words_in_bytes-at n i (drop 8 bytes) (omega arith) ∙ ap (λ (xs : List ℕ). Some (from_le_bytes w64 xs)) (drop-drop (8 * i) 8 bytes) ∙ ap (λ (k : ℕ). Some (from_le_bytes w64 (drop k bytes))) sum
+
+pub word_there : (i : ℕ) (bytes : List ℕ) → i < length bytes / 8 → slice_get (whole_words bytes) i ≡ Some (from_le_bytes w64 (drop (8 * i) bytes))
+word_there i bytes h = words_in_bytes-at (length bytes / 8) i bytes h
+
+pub word_past : (i : ℕ) (bytes : List ℕ) → length bytes / 8 ≤ i → slice_get (whole_words bytes) i ≡ None
+word_past i bytes h = slice_get_past (whole_words bytes) i (let e = whole_words-length bytes in omega arith)
+
+pub segment_there : (s : List (List ℕ)) (i : ℕ) (bytes : List ℕ) → Some bytes ≡ slice_get s i → slice_get (words_in s) i ≡ Some (whole_words bytes)
+segment_there s i bytes e = slice_get-map whole_words s i ∙ ap (option_map whole_words) (sym e)
+
+pub segment_past : (s : List (List ℕ)) (i : ℕ) → None ≡ slice_get s i → slice_get (words_in s) i ≡ None
+segment_past s i e = slice_get-map whole_words s i ∙ ap (option_map whole_words) (sym e)
+
+-- ---- so many words
+
+is_some-provided : {A : Type 0} (x : A) (b : Bool) → is_some (x provided b) ≡ b
+is_some-provided x true = refl
+is_some-provided x false = refl
+
+pub words_where : (s : List (List ℕ)) (i k n : ℕ) (bytes : List ℕ) → Some bytes ≡ slice_get s i → is_some (words_at (words_in s) (place i k) n) ≡ leb (k + n) (length bytes / 8)
+words_where s i k n bytes e =
+    let there = segment_there s i bytes e in
+    rw there (is_some-provided (take n (drop k (whole_words bytes))) (leb (k + n) (length (whole_words bytes))) ∙ ap (leb (k + n)) (whole_words-length bytes))
+
+pub words_within : (s : List (List ℕ)) (i k n : ℕ) (bytes : List ℕ) → Some bytes ≡ slice_get s i → k ≤ length bytes / 8 → leb n (length bytes / 8 - k) ≡ is_some (words_at (words_in s) (place i k) n)
+words_within s i k n bytes e h = grind (arith, nat_tests) ∙ sym (words_where s i k n bytes e)
+
+pub words_behind : (s : List (List ℕ)) (i k n : ℕ) (bytes : List ℕ) → Some bytes ≡ slice_get s i → length bytes / 8 < k → leb k (length bytes / 8) ≡ is_some (words_at (words_in s) (place i k) n)
+words_behind s i k n bytes e h = grind (arith, nat_tests) ∙ sym (words_where s i k n bytes e)
+
+pub no_words : (s : List (List ℕ)) (i k n : ℕ) → None ≡ slice_get s i → false ≡ is_some (words_at (words_in s) (place i k) n)
+no_words s i k n e = let past = segment_past s i e in rw past refl
+
+-- ---- the bytes of a word
+
+-- a word is that of its first eight bytes
+pub word_of_eight : (bytes : List ℕ) → from_le_bytes w64 (take 8 bytes) ≡ from_le_bytes w64 bytes
+word_of_eight bytes =
+    let at0 = get_or-take 8 bytes 0 0 (omega arith) in
+    let at1 = get_or-take 8 bytes 1 0 (omega arith) in
+    let at2 = get_or-take 8 bytes 2 0 (omega arith) in
+    let at3 = get_or-take 8 bytes 3 0 (omega arith) in
+    let at4 = get_or-take 8 bytes 4 0 (omega arith) in
+    let at5 = get_or-take 8 bytes 5 0 (omega arith) in
+    let at6 = get_or-take 8 bytes 6 0 (omega arith) in
+    let at7 = get_or-take 8 bytes 7 0 (omega arith) in
+    omega arith
+
+pub word_of_front : (n : ℕ) (bytes first : List ℕ) → 8 ≤ n → first ≡ take 8 (take n bytes) → from_le_bytes w64 first ≡ from_le_bytes w64 bytes
+word_of_front n bytes first h e = let f : List ℕ → ℕ = from_le_bytes w64 in ap f (e ∙ take-take 8 n bytes h) ∙ word_of_eight bytes
+
+-- what is there lies inside its segment
+pub words_end : (s : List (List ℕ)) (i k n : ℕ) (bytes : List ℕ) → Some bytes ≡ slice_get s i → is_some (words_at (words_in s) (place i k) n) ≡ true → k + n ≤ length bytes / 8
+words_end s i k n bytes e h = leb-true (k + n) (length bytes / 8) (sym (words_where s i k n bytes e) ∙ h)
+
+-- no word is there without a segment
+pub none_there : (s : List (List ℕ)) (i k n : ℕ) → None ≡ slice_get s i → is_some (words_at (words_in s) (place i k) n) ≡ true → ⊥
+none_there s i k n e h = let none = no_words s i k n e in absurd cc

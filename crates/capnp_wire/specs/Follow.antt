@@ -1,0 +1,46 @@
+-- Following a pointer against a budget.
+use Rattle.std.specs.Prelude.{◌≡◌, ℕ, ◌+◌, ◌*◌, ◌==◌, if◌then◌else◌, ◌⊎◌, Result, Ok, Err}
+use Rattle.capnp_model.specs.Sections.{words_for}
+use Rattle.capnp_model.specs.Segments.{Segments, Place}
+use Rattle.capnp_units.specs.declared.errors.Error.{Error}
+use Rattle.capnp_units.specs.declared.kinds.ErrorKind.TheVariants.{ReadLimitExceeded}
+use Rattle.capnp_units.specs.declared.limiter.ReadLimiter.{ReadLimiter}
+use Rattle.capnp_units.specs.Errors.{kind_of}
+use Rattle.capnp_units.specs.Limits.{limit_of, granted_of, left_of, Spends, IsPassed, Follows}
+use Rattle.capnp_units.specs.Sizes.{size_number, data_bits}
+use Rattle.capnp_wire.specs.declared.object.Object.{Object}
+use Rattle.capnp_wire.specs.declared.object.Object.TheVariants as object
+use Rattle.capnp_wire.specs.declared.object.Found.{Found}
+use Rattle.capnp_wire.specs.Objects.{object_at, IsInside}
+
+-- What following an object costs by itself: its words, a list of voids its count, a list of structs its tag too, and its count where an element has no word.
+abbrev pub own_cost : Object → ℕ
+own_cost object.Null = 0
+own_cost (object.Struct p d k) = d + k
+own_cost (object.List p size n) = if size_number size == 0 then n else words_for (data_bits (size_number size) * n)
+own_cost (object.PointerList p n) = n
+own_cost (object.StructList p words n d k) = words + 1 + (if d + k == 0 then n else 0)
+own_cost (object.Capability i) = 0
+
+-- What following the pointer to it costs, with the pads on the way.
+abbrev pub found_cost : Found → ℕ
+found_cost f = f.pads + own_cost f.object
+
+-- No word was granted.
+abbrev pub KeepsBudget : ReadLimiter → ReadLimiter → Type 0
+KeepsBudget old new = (limit_of new ≡ limit_of old) × (granted_of new ≡ granted_of old)
+
+-- A pointer was followed to this object, which was paid for.
+pub record Pays (s : Segments) (p : Place) (old : ReadLimiter) (o : Object) (new : ReadLimiter) : Type 0 where
+  pub pads : ℕ
+  pub is : object_at s p ≡ Ok (record { pads = pads; object = o })
+  pub inside : IsInside s o
+  pub spends : Spends old new (pads + own_cost o)
+  pub follows : Follows old new 1
+
+-- It is refused by the kind of the fault there, or just where its cost passes what is left; then no word was granted.
+abbrev pub FollowGives : Segments → Place → ReadLimiter → Result Object Error → ReadLimiter → Type 0
+FollowGives s p old (Ok o) new = Pays s p old o new
+FollowGives s p old (Err e) new =
+    KeepsBudget old new × Follows old new 1
+    × ((object_at s p ≡ Err (kind_of e.kind)) ⊎ ((e.kind ≡ ReadLimitExceeded) × (f : Found) × (object_at s p ≡ Ok f) × IsPassed (left_of old) (found_cost f)))

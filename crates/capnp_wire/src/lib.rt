@@ -1,0 +1,18 @@
+//! Readers of segments that nobody vouches for: what pointers name, and the structs, lists, texts and data behind them, lent in place.
+//!
+//! Numbers lie in words of eight bytes, the lowest byte first. A reader stands over an arena of segments or over a default value, and what it follows is paid for from a `ReadLimiter`.
+#![tactic(auto)]
+
+pub mod arena;
+pub mod backing;
+pub mod element;
+pub mod follow;
+pub mod levels;
+pub mod list;
+mod named;
+pub mod object;
+pub mod place;
+pub mod pointer;
+mod section;
+pub mod structs;
+mod word_pointer;
