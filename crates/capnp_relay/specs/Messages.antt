@@ -1,5 +1,5 @@
 -- The answer of calls to a message, and the sizes that would pass their bounds on the way.
-use Rattle.std.specs.Prelude.{◌≡◌, ℤ, ◌^◌, ◌<◌, ◌≤◌, ◌⊎◌, Option, Some, List, length, map, Any}
+use Rattle.std.specs.Prelude.{◌≡◌, ℤ, ◌^◌, ◌≤◌, ◌⊎◌, Option, Some, List, length, map}
 use Rattle.capnp_units.specs.declared.kinds.ErrorKind.TheVariants as kind
 use Rattle.capnp_model.specs.Segments.{Segments}
 use Rattle.capnp_model.specs.Trees.{Tree}
