@@ -96,12 +96,14 @@ table-holds n bytes fits =
     let all = halves (whole_words bytes) in
     length-take-le n (drop 1 all) (omega (arith, length-drop 1 all, length-halves (whole_words bytes), words_in_bytes-length (length bytes / 8) bytes))
 
-pub table-more : (n : ℕ) (bytes : List ℕ) → table_bytes (n + 1) ≤ length bytes → sum (table_lengths (n + 1) bytes) ≡ sum (table_lengths n bytes) + get_or (drop 1 (halves (whole_words bytes))) n 0
-table-more n bytes fits =
+pub table-next : (n : ℕ) (bytes : List ℕ) → table_bytes (n + 1) ≤ length bytes → table_lengths (n + 1) bytes ≡ table_lengths n bytes ++ get_or (drop 1 (halves (whole_words bytes))) n 0 ∷ []
+table-next n bytes fits =
     let all = halves (whole_words bytes) in
     let inside : n < length (drop 1 all) = omega (arith, length-drop 1 all, length-halves (whole_words bytes), words_in_bytes-length (length bytes / 8) bytes) in
-    let one : take (n + 1) (drop 1 all) ≡ take n (drop 1 all) ++ get_or (drop 1 all) n 0 ∷ [] = ap (λ k. take k (drop 1 all)) (add-one n) ∙ take-suc (drop 1 all) n 0 inside in
-    ap sum one ∙ sum-snoc (take n (drop 1 all)) (get_or (drop 1 all) n 0)
+    ap (λ k. take k (drop 1 all)) (add-one n) ∙ take-suc (drop 1 all) n 0 inside
+
+pub table-more : (n : ℕ) (bytes : List ℕ) → table_bytes (n + 1) ≤ length bytes → sum (table_lengths (n + 1) bytes) ≡ sum (table_lengths n bytes) + get_or (drop 1 (halves (whole_words bytes))) n 0
+table-more n bytes fits = ap sum (table-next n bytes fits) ∙ sum-snoc (table_lengths n bytes) (get_or (drop 1 (halves (whole_words bytes))) n 0)
 
 -- ---- the message at the front of a buffer
 

@@ -9,3 +9,4 @@ pub mod Frames
 pub use Rattle.capnp_units.specs.Errors
 pub mod Writing
 pub mod Flat
+pub mod Buffers

@@ -4,12 +4,14 @@
 #![tactic(auto)]
 
 pub mod adapters;
+pub mod buffers;
 mod devices;
 pub mod forms;
 pub mod flat;
 pub mod frames;
 pub mod memory;
 pub mod segments;
+pub mod slices;
 #[cfg(test)]
 mod tests;
 pub mod traits;
