@@ -147,7 +147,10 @@ impl<'a> NoAllocBufferSegments<&'a [u8]> {
     /// The segments of the framed message at the front of the slice, which then begins behind it.
     ///
     /// Refused by the kind of the first part that can't be read; the slice is then as it was.
-    pub fn from_slice(slice: &mut &'a [u8], limit: Option<usize>) -> Result<NoAllocSliceSegments<'a>>
+    pub fn from_slice(
+        slice: &mut &'a [u8],
+        limit: Option<usize>,
+    ) -> Result<NoAllocSliceSegments<'a>>
         ensures message { IfOk result (λ s. flat_at limit slice.old.now ≡ Ok (words_in (found_segments s), slice.new.now)) }
         ensures refused { IfErr result (λ e. flat_at limit slice.old.now ≡ Err (kind_of e.kind)) }
         ensures kept { OnErr result (slice.new.now ≡ slice.old.now) }

@@ -6,10 +6,12 @@
 pub mod adapters;
 pub mod buffers;
 mod devices;
-pub mod forms;
 pub mod flat;
+pub mod forms;
 pub mod frames;
 pub mod memory;
+#[cfg(test)]
+mod segment_tests;
 pub mod segments;
 pub mod slices;
 #[cfg(test)]
