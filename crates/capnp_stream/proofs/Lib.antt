@@ -6,3 +6,4 @@ pub mod FrameLemmas
 pub mod SpellLemmas
 pub mod WriteLemmas
 pub mod FlatLemmas
+pub mod BufferLemmas

@@ -5,7 +5,7 @@ use Rattle.std.specs.Int.{from_le_bytes, to_le_bytes, w64}
 use Rattle.std.specs.declared.option.Option.{Option}
 use Rattle.std.specs.Io.KnownBytes.{Appends}
 use Rattle.std.proofs.KnownBytes.{Appends-trans}
-use Rattle.std.proofs.lemmas.List.{length-append, length-map, take_at, drop_at, get_or_past}
+use Rattle.std.proofs.lemmas.List.{length-append, length-map, length-replicate, take_at, drop_at, get_or_past}
 use Rattle.std.proofs.lemmas.Nat.{from_le_bytes-to_le_bytes_8}
 use Rattle.capnp_units.specs.declared.kinds.ErrorKind.{ErrorKind}
 use Rattle.capnp_units.specs.declared.kinds.ErrorKind.TheVariants.{OutOfMemory, BufferNotLargeEnough, Device}
@@ -16,6 +16,8 @@ use Rattle.capnp_stream.specs.Writing.{IsSegment, AreWritable}
 use Rattle.capnp_model.specs.Segments.{Segments}
 use Rattle.capnp_model.specs.Messages.{Writer, paired, spelled, frame}
 use Rattle.capnp_stream.specs.Streams.{AppendsPart, RoomFalls, IsWriteRefusal}
+use Rattle.std.proofs.lemmas.List.Elements.{All-map, All-replicate}
+use Rattle.std.specs.Prelude.{All, replicate}
 use Rattle.std.proofs.lemmas.Grind.{flat_map-append}
 use Rattle.capnp_model.specs.Bytes.{words_in_bytes, bytes_of_words}
 use Rattle.capnp_model.proofs.ByteWords.{bytes_length}
@@ -168,3 +170,13 @@ length-frame (x ∷ s) some =
     let c : length all ≡ 8 * sum (map length (x ∷ s)) = segments_length (x ∷ s) in
     let d : length (frame (x ∷ s)) ≡ length (bytes_of_words word) + (length (bytes_of_words rest) + length all) = length-append (bytes_of_words word) (bytes_of_words rest ++ all) ∙ ap (λ n. length (bytes_of_words word) + n) (length-append (bytes_of_words rest) all) in
     omega arith
+
+-- copies of one segment can be written
+pub copies-writable : {X : Type 0} (f : X → List ℕ) (n : ℕ) (x : X) (xs : List X) → xs ≡ replicate n x → 0 < n → n < 2 ^ 32 → IsSegment (f x) → AreWritable (map f xs)
+copies-writable f n x xs copies some few fits =
+    let count : length (map f xs) ≡ n = length-map xs f ∙ ap length copies ∙ length-replicate n x in
+    record {
+      some = omega (arith, count, some);
+      few = omega (arith, count, few);
+      words = All-map IsSegment f xs (subst (All (λ y. IsSegment (f y))) (sym copies) (All-replicate (λ y. IsSegment (f y)) n x fits));
+    }

@@ -9,3 +9,5 @@ pub mod Frames
 pub use Rattle.capnp_units.specs.Errors
 pub mod Writing
 pub mod Flat
+pub mod Buffers
+pub mod Lent

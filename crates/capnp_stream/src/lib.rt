@@ -4,12 +4,17 @@
 #![tactic(auto)]
 
 pub mod adapters;
+pub mod buffers;
 mod devices;
-pub mod forms;
 pub mod flat;
+pub mod forms;
 pub mod frames;
+pub mod lent;
 pub mod memory;
+#[cfg(test)]
+mod segment_tests;
 pub mod segments;
+pub mod slices;
 #[cfg(test)]
 mod tests;
 pub mod traits;

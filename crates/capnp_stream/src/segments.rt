@@ -4,7 +4,9 @@ ghost use Rattle.capnp_units.specs.declared.kinds.ErrorKind.{ErrorKind};
 ghost use Rattle.capnp_model.specs.Spelling.{AreShort};
 ghost use Rattle.capnp_units.specs.Segments.{whole_words};
 ghost use Rattle.capnp_stream.specs.Ranges.{ranges_from, range_lengths};
+ghost use Rattle.capnp_stream.specs.Flat.{table_lengths, table_bytes};
 
+use crate::flat::length_in;
 use capnp_units::errors::{Error, Result};
 use capnp_units::kinds::ErrorKind;
 use capnp_units::segments::ReaderSegments;
@@ -34,6 +36,24 @@ impl SegmentLengthsBuilder {
         let mut table = SegmentLengthsBuilder::with_capacity(alloc, lengths.len())?;
         for n in lengths {
             table.try_push_segment(*n as usize)?;
+        }
+        Ok(table)
+    }
+
+    /// The table of the first `count` segments at the front of bytes.
+    pub(crate) fn in_table(
+        alloc: Global,
+        bytes: &[u8],
+        count: usize,
+    ) -> Result<SegmentLengthsBuilder>
+        requires few { count ≤ 511 }
+        requires there { table_bytes count ≤ length bytes.now }
+        ensures lengths { IfOk result (λ t. lengths_of t ≡ table_lengths count bytes.now) }
+        ensures refusal { IfErr result (λ e. e.kind ≡ ErrorKind.OutOfMemory) }
+    {
+        let mut table = SegmentLengthsBuilder::with_capacity(alloc, count)?;
+        for id in 0..count {
+            table.try_push_segment(length_in(bytes, id))?;
         }
         Ok(table)
     }

@@ -17,7 +17,6 @@ use capnp_units::segments::ReaderSegments;
 use capnp_units::sizes::SegmentId;
 use std::alloc::Global;
 
-
 /// How many words a segment has; none where there is no such segment.
 fn length_of<S: ReaderSegments>(segments: &S, id: SegmentId) -> u64
     requires { AreWritable (S.segments segments.now) }

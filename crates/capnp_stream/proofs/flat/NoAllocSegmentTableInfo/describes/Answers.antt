@@ -6,7 +6,10 @@ use Rattle.capnp_stream.proofs.FlatLemmas.{described-reads}
 use Rattle.capnp_stream.proofs.flat.NoAllocSegmentTableInfo.describes.Goals as goal
 
 pub returns-in-Err : goal.returns-in-Err
-returns-in-Err c = ((λ e. absurd cc), λ d.
-    let read = described-reads c.args.self.now c.args.buffer.now d in
-    let no : ◌≡◌ {A = Result (Segments × List ℕ) Kind} (Err (kind_of c.in-Err.field-0.kind)) (Ok read.0) = sym c.in-Err.ensures.refused ∙ read.1 in
-    absurd cc)
+returns-in-Err c = (
+  (λ e. absurd cc),
+  λ d.
+      let read = described-reads c.args.self.now c.args.buffer.now d in
+      let no : ◌≡◌ {A = Result (Segments × List ℕ) Kind} (Err (kind_of c.in-Err.field-0.kind)) (Ok read.0) = sym c.in-Err.ensures.refused ∙ read.1 in
+      absurd cc,
+)
