@@ -63,7 +63,7 @@ impl<R: BufRead> Read for PackedRead<R> {
     }
 
     fn failures(&self) -> u64 {
-        self.inner.failures()
+        Read::failures(&self.inner)
     }
 }
 
@@ -129,6 +129,6 @@ impl<W: Endless> Write for PackedWrite<W> {
     }
 
     fn failures(&self) -> u64 {
-        self.inner.failures()
+        Write::failures(&self.inner)
     }
 }

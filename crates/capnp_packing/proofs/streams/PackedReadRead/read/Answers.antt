@@ -1,4 +1,4 @@
-use Rattle.std.proofs.Common.{◌≡◌, ◌/◌, ◌*◌, ◌<◌, ◌++◌, ℕ, List, length, take, drop, sym, ap, subst, arith, take_at, length-take-le}
+use Rattle.std.proofs.Common.{◌≡◌, ◌/◌, ◌*◌, ◌++◌, ℕ, List, length, take, drop, sym, subst, arith, take_at, length-take-le}
 use Rattle.std.proofs.lemmas.Result.{err_from_is_err_and}
 use Rattle.capnp_model.specs.Packing.{unpacked}
 use Rattle.capnp_stream.specs.Pieces.{TakesPiece}
