@@ -43,7 +43,7 @@ impl<R: BufRead> Read for PackedRead<R> {
         ensures count { Counts result (R.failures self.old.inner) (R.failures self.new.inner) }
         ensures piece { IfOk result (λ n. n ≢ 0 → (n ≡ 8 * (length buf.old / 8)) × TakesPiece unpacked (R.remaining self.old.inner) (R.remaining self.new.inner) (whole_words (take n buf.new))) }
         ensures end { IfOk result (λ n. n ≡ 0 → Keeps (R.remaining self.old.inner) (R.remaining self.new.inner) × (0 < length buf.old → IsAtEnd (R.remaining self.old.inner))) }
-        ensures small { IfErr result (λ e. e.kind ≡ ErrorKind.BufferNotLargeEnough → (length buf.old < 8) × Keeps (R.remaining self.old.inner) (R.remaining self.new.inner)) }
+        ensures small { IfErr result (λ e. e.kind ≡ ErrorKind.BufferNotLargeEnough → (0 < length buf.old) × (length buf.old < 8) × Keeps (R.remaining self.old.inner) (R.remaining self.new.inner)) }
         ensures fault { IfErr result (λ e. e.kind ≢ ErrorKind.BufferNotLargeEnough → IsPieceFault unpacked (length buf.old / 8) (R.remaining self.old.inner) e.kind) }
         ensures some { IfErr result (λ e. e.kind ≢ ErrorKind.Device → 8 ≤ length buf.old → IfSome (R.remaining self.old.inner) (λ xs. xs ≢ [])) }
         ensures part { IfErr result (λ e. e.kind ≢ ErrorKind.BufferNotLargeEnough → TakesPieceStart unpacked (length buf.old / 8) (R.remaining self.old.inner) (R.remaining self.new.inner)) }
