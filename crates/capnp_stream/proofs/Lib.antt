@@ -5,3 +5,5 @@ pub mod PieceLemmas
 pub mod FrameLemmas
 pub mod SpellLemmas
 pub mod WriteLemmas
+pub mod FlatLemmas
+pub mod BufferLemmas

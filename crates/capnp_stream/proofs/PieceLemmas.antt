@@ -35,7 +35,7 @@ guard_err false k r e = refl
 taken_short : (n : ℕ) (b : List ℕ) → length b < n → taken n b ≡ Err kinds.FailedToFillTheWholeBuffer
 taken_short n b short = let no : leb n (length b) ≡ false = grind (arith, short) in rw no refl
 
-plain_short : (n : ℕ) (b : List ℕ) → length b < 8 * n → plain_words n b ≡ Err kinds.FailedToFillTheWholeBuffer
+pub plain_short : (n : ℕ) (b : List ℕ) → length b < 8 * n → plain_words n b ≡ Err kinds.FailedToFillTheWholeBuffer
 plain_short n b short = err_then (taken (8 * n) b) _ _ (taken_short (8 * n) b short)
 
 plain_front : (n : ℕ) (b more : List ℕ) → length b ≡ 8 * n → plain_words n (b ++ more) ≡ Ok (words_in_bytes n b, more)

@@ -98,7 +98,7 @@ ranges_from-snoc at (m ∷ ns) n =
     let total : at + m + sum ns ≡ at + sum (m ∷ ns) = omega (arith, sum-cons m ns) in
     ap (λ l. (at, at + m) ∷ l) (ranges_from-snoc (at + m) ns n ∙ ap (λ k. ranges_from (at + m) ns ++ (k, k + n) ∷ []) total)
 
-sum-snoc : (ns : List ℕ) (n : ℕ) → sum (ns ++ n ∷ []) ≡ sum ns + n
+pub sum-snoc : (ns : List ℕ) (n : ℕ) → sum (ns ++ n ∷ []) ≡ sum ns + n
 sum-snoc [] n = omega (arith, sum-cons n [])
 sum-snoc (m ∷ ns) n = omega (arith, sum-cons m (ns ++ n ∷ []), sum-cons m ns, sum-snoc ns n)
 

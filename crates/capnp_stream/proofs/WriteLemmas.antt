@@ -1,11 +1,11 @@
 -- Texts that are written a piece after the other.
-use Rattle.std.proofs.Common.{◌≡◌, ◌⊎◌, inl, ℕ, zero, suc, ◌+◌, ◌-◌, ◌*◌, ◌/◌, ◌%◌, ◌^◌, ◌<◌, ◌≤◌, List, [], ◌∷◌, ◌++◌, get_or, None, Some, refl, sym, ap, subst, ◌∙◌, arith, length, take, drop, map, append-nil, append_assoc, take-append-drop}
+use Rattle.std.proofs.Common.{◌≡◌, ◌⊎◌, inl, ℕ, zero, suc, ◌+◌, ◌-◌, ◌*◌, ◌/◌, ◌%◌, ◌^◌, ◌<◌, ◌≤◌, List, [], ◌∷◌, ◌++◌, get_or, None, Some, refl, sym, ap, subst, ◌∙◌, arith, length, take, drop, map, sum, append-nil, append_assoc, take-append-drop}
 use Rattle.std.specs.List.{flat_map, slice_get}
 use Rattle.std.specs.Int.{from_le_bytes, to_le_bytes, w64}
 use Rattle.std.specs.declared.option.Option.{Option}
 use Rattle.std.specs.Io.KnownBytes.{Appends}
 use Rattle.std.proofs.KnownBytes.{Appends-trans}
-use Rattle.std.proofs.lemmas.List.{length-append, length-map, take_at, drop_at, get_or_past}
+use Rattle.std.proofs.lemmas.List.{length-append, length-map, length-replicate, take_at, drop_at, get_or_past}
 use Rattle.std.proofs.lemmas.Nat.{from_le_bytes-to_le_bytes_8}
 use Rattle.capnp_units.specs.declared.kinds.ErrorKind.{ErrorKind}
 use Rattle.capnp_units.specs.declared.kinds.ErrorKind.TheVariants.{OutOfMemory, BufferNotLargeEnough, Device}
@@ -14,11 +14,14 @@ use Rattle.std.proofs.lemmas.Option.{slice_get-map, slice_get_within, get_or_fro
 use Rattle.capnp_units.specs.Segments.{whole_words, words_in}
 use Rattle.capnp_stream.specs.Writing.{IsSegment, AreWritable}
 use Rattle.capnp_model.specs.Segments.{Segments}
-use Rattle.capnp_model.specs.Messages.{Writer, paired, spelled}
+use Rattle.capnp_model.specs.Messages.{Writer, paired, spelled, frame}
 use Rattle.capnp_stream.specs.Streams.{AppendsPart, RoomFalls, IsWriteRefusal}
+use Rattle.std.proofs.lemmas.List.Elements.{All-map, All-replicate}
+use Rattle.std.specs.Prelude.{All, replicate}
 use Rattle.std.proofs.lemmas.Grind.{flat_map-append}
-use Rattle.capnp_model.specs.Bytes.{words_in_bytes}
-use Rattle.capnp_stream.proofs.WordLemmas.{whole_words-of_length, words_in_bytes-length, words_in_bytes-take, words_in_bytes-drop}
+use Rattle.capnp_model.specs.Bytes.{words_in_bytes, bytes_of_words}
+use Rattle.capnp_model.proofs.ByteWords.{bytes_length}
+use Rattle.capnp_stream.proofs.WordLemmas.{whole_words-of_length, sum-cons, words_in_bytes-length, words_in_bytes-take, words_in_bytes-drop}
 
 -- the bytes of a word are that word
 pub word-bytes : (word : ℕ) (bytes : List ℕ) → word < 2 ^ 64 → bytes ≡ to_le_bytes w64 word → whole_words bytes ≡ word ∷ []
@@ -144,3 +147,36 @@ pub is-segment : (segments : List (List ℕ)) (id : ℕ) (bytes : List ℕ) → 
 is-segment segments id bytes fit here =
     let inside = slice_get_within segments id bytes here in
     subst IsSegment (get_or_from_slice_get segments id bytes [] here) (fit.words id [] inside)
+
+-- ---- the length of a message
+
+paired_length : (ns : List ℕ) → length (paired ns) ≡ (length ns + 1) / 2
+paired_length [] = omega arith
+paired_length (a ∷ []) = omega arith
+paired_length (a ∷ b ∷ ns) = let rest = paired_length ns in omega arith
+
+segments_length : (s : Segments) → length (flat_map bytes_of_words s) ≡ 8 * sum (map length s)
+segments_length [] = refl
+segments_length (x ∷ s) = omega (arith, length-append (bytes_of_words x) (flat_map bytes_of_words s), bytes_length x, segments_length s, sum-cons (length x) (map length s))
+
+pub length-frame : (s : Segments) → 0 < length s → length (frame s) ≡ 8 * (length s / 2 + 1 + sum (map length s))
+length-frame [] some = absurd (omega (arith, some))
+length-frame (x ∷ s) some =
+    let word = (length s + 2 ^ 32 * length x) ∷ [] in
+    let rest = paired (map length s) in
+    let all = flat_map bytes_of_words (x ∷ s) in
+    let a : length (bytes_of_words word) ≡ 8 = bytes_length word in
+    let b : length (bytes_of_words rest) ≡ 8 * ((length s + 1) / 2) = bytes_length rest ∙ ap (λ n. 8 * n) (paired_length (map length s) ∙ ap (λ n. (n + 1) / 2) (length-map s length)) in
+    let c : length all ≡ 8 * sum (map length (x ∷ s)) = segments_length (x ∷ s) in
+    let d : length (frame (x ∷ s)) ≡ length (bytes_of_words word) + (length (bytes_of_words rest) + length all) = length-append (bytes_of_words word) (bytes_of_words rest ++ all) ∙ ap (λ n. length (bytes_of_words word) + n) (length-append (bytes_of_words rest) all) in
+    omega arith
+
+-- copies of one segment can be written
+pub copies-writable : {X : Type 0} (f : X → List ℕ) (n : ℕ) (x : X) (xs : List X) → xs ≡ replicate n x → 0 < n → n < 2 ^ 32 → IsSegment (f x) → AreWritable (map f xs)
+copies-writable f n x xs copies some few fits =
+    let count : length (map f xs) ≡ n = length-map xs f ∙ ap length copies ∙ length-replicate n x in
+    record {
+      some = omega (arith, count, some);
+      few = omega (arith, count, few);
+      words = All-map IsSegment f xs (subst (All (λ y. IsSegment (f y))) (sym copies) (All-replicate (λ y. IsSegment (f y)) n x fits));
+    }

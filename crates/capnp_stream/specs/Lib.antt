@@ -8,3 +8,5 @@ pub mod Fronts
 pub mod Frames
 pub use Rattle.capnp_units.specs.Errors
 pub mod Writing
+pub mod Flat
+pub mod Buffers

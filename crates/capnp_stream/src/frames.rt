@@ -21,7 +21,7 @@ use std::alloc::Global;
 pub const SEGMENTS_COUNT_LIMIT: usize = 512;
 
 /// How many numbers a half of a word holds.
-const HALF: u64 = 1 << 32;
+pub(crate) const HALF: u64 = 1 << 32;
 
 /// Whether no byte is left. Nothing is taken.
 fn is_at_end<R: BufRead>(source: &mut R) -> Result<bool>
@@ -78,7 +78,7 @@ fn are_bytes(bytes: &[u8])
 {}
 
 /// Whether so many words keep the limit.
-fn is_within(total: usize, limit: Option<usize>) -> bool
+pub(crate) fn is_within(total: usize, limit: Option<usize>) -> bool
     ensures { result ≡ within total limit }
 {
     match limit {

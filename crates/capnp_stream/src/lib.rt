@@ -4,11 +4,16 @@
 #![tactic(auto)]
 
 pub mod adapters;
+pub mod buffers;
 mod devices;
+pub mod flat;
 pub mod forms;
 pub mod frames;
 pub mod memory;
+#[cfg(test)]
+mod segment_tests;
 pub mod segments;
+pub mod slices;
 #[cfg(test)]
 mod tests;
 pub mod traits;

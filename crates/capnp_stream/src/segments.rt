@@ -1,10 +1,12 @@
 //! The segments of a message that was read, and the table of their lengths.
-ghost use Rattle.std.specs.Prelude.{◌≡◌, ◌≢◌, ◌≤◌, ◌<◌, ◌↔◌, ◌+◌, ◌*◌, ◌%◌, ◌^◌, ℕ, [], ◌∷◌, ◌++◌, length, slice_get, sum, option_copied, All, Some, None, OnOk, OnErr, IfOk, IfSome, IfNone, IsSome, IfErr};
+ghost use Rattle.std.specs.Prelude.{◌≡◌, ◌≢◌, ◌≤◌, ◌<◌, ◌↔◌, ◌+◌, ◌*◌, ◌%◌, ◌^◌, ℕ, [], ◌∷◌, ◌++◌, length, slice_get, sum, option_copied, replicate, All, Some, None, OnOk, OnErr, IfOk, IfSome, IfNone, IsSome, IfErr};
 ghost use Rattle.capnp_units.specs.declared.kinds.ErrorKind.{ErrorKind};
 ghost use Rattle.capnp_model.specs.Spelling.{AreShort};
 ghost use Rattle.capnp_units.specs.Segments.{whole_words};
 ghost use Rattle.capnp_stream.specs.Ranges.{ranges_from, range_lengths};
+ghost use Rattle.capnp_stream.specs.Flat.{table_lengths, table_bytes};
 
+use crate::flat::length_in;
 use capnp_units::errors::{Error, Result};
 use capnp_units::kinds::ErrorKind;
 use capnp_units::segments::ReaderSegments;
@@ -21,7 +23,7 @@ pub struct SegmentLengthsBuilder {
 }
 
 impl SegmentLengthsBuilder {
-    ghost use Rattle.capnp_stream.specs.Segments.{lengths_of};
+    ghost use Rattle.capnp_stream.specs.Segments.{lengths_of, owned_bytes, owned_ranges};
 
     /// The table of these lengths in words.
     pub(crate) fn of_lengths(alloc: Global, lengths: &[u32]) -> Result<SegmentLengthsBuilder>
@@ -34,6 +36,24 @@ impl SegmentLengthsBuilder {
         let mut table = SegmentLengthsBuilder::with_capacity(alloc, lengths.len())?;
         for n in lengths {
             table.try_push_segment(*n as usize)?;
+        }
+        Ok(table)
+    }
+
+    /// The table of the first `count` segments at the front of bytes.
+    pub(crate) fn in_table(
+        alloc: Global,
+        bytes: &[u8],
+        count: usize,
+    ) -> Result<SegmentLengthsBuilder>
+        requires few { count ≤ 511 }
+        requires there { table_bytes count ≤ length bytes.now }
+        ensures lengths { IfOk result (λ t. lengths_of t ≡ table_lengths count bytes.now) }
+        ensures refusal { IfErr result (λ e. e.kind ≡ ErrorKind.OutOfMemory) }
+    {
+        let mut table = SegmentLengthsBuilder::with_capacity(alloc, count)?;
+        for id in 0..count {
+            table.try_push_segment(length_in(bytes, id))?;
         }
         Ok(table)
     }
@@ -70,6 +90,19 @@ impl SegmentLengthsBuilder {
         ensures { result ≡ sum (lengths_of self.now) }
     {
         self.total_words
+    }
+
+    /// Zeroed segments of these lengths. `OutOfMemory`: their bytes were refused, or pass `usize`.
+    pub fn into_owned_segments(self, alloc: Global) -> Result<OwnedSegments>
+        ensures ranges { IfOk result (λ s. owned_ranges s ≡ ranges_from 0 (lengths_of self)) }
+        ensures zeros { IfOk result (λ s. owned_bytes s ≡ replicate (8 * sum (lengths_of self)) 0) }
+        ensures refusal { IfErr result (λ e. e.kind ≡ ErrorKind.OutOfMemory) }
+    {
+        let Some(len) = self.total_words.checked_mul(8) else {
+            return Err(Error::from(ErrorKind::OutOfMemory));
+        };
+        let bytes = vec![in alloc; 0u8; len]?;
+        Ok(OwnedSegments::new(bytes, self))
     }
 
     /// Where each segment begins and ends, in words.
@@ -120,6 +153,13 @@ impl OwnedSegments {
         ensures { result.now ≡ owned_bytes self.now }
     {
         &self.bytes
+    }
+
+    /// The bytes of all segments, one behind the other.
+    pub fn as_mut_slice(&mut self) -> &mut [u8]
+        ensures { result.now ≡ owned_bytes self.old }
+    {
+        &mut self.bytes
     }
 
     /// The words of a segment, or none past the last.

@@ -10,14 +10,12 @@ ghost use Rattle.capnp_stream.specs.Streams.{AppendsPart, RoomFalls, IsWriteRefu
 ghost use Rattle.capnp_stream.specs.Writing.{IsSegment, AreWritable};
 
 use crate::forms::{Framed, MessageForm};
+use crate::frames::HALF;
 use crate::traits::Write;
 use capnp_units::errors::Result;
 use capnp_units::segments::ReaderSegments;
 use capnp_units::sizes::SegmentId;
 use std::alloc::Global;
-
-/// How many numbers a half of a word holds.
-const HALF: u64 = 1 << 32;
 
 /// How many words a segment has; none where there is no such segment.
 fn length_of<S: ReaderSegments>(segments: &S, id: SegmentId) -> u64
@@ -140,4 +138,32 @@ pub fn write_segment<W: Write>(out: &mut W, bytes: &[u8]) -> Result<()>
     ensures count { Counts result (W.failures out.old) (W.failures out.new) }
 {
     write_segment_in::<Framed, W>(out, bytes)
+}
+
+/// The framed message of these segments, as bytes. `OutOfMemory`: they, or the table of more than one segment, want memory.
+pub fn write_message_segments_to_words<S: ReaderSegments>(
+    alloc: Global,
+    segments: &S,
+) -> Result<Vec<u8>>
+    requires { AreWritable (S.segments segments.now) }
+    ensures text { IfOk result (λ v. v.items ≡ frame (words_in (S.segments segments.now))) }
+    ensures refusal { IfErr result (λ e. e.kind ≡ ErrorKind.OutOfMemory) }
+{
+    let mut words = Vec::new(alloc);
+    write_message_segments(alloc, &mut words, segments)?;
+    Ok(words)
+}
+
+/// How many words the framed message of these segments has, its table included.
+pub fn compute_serialized_size_in_words<S: ReaderSegments>(segments: &S) -> usize
+    requires { AreWritable (S.segments segments.now) }
+    ensures { 8 * result ≡ length (frame (words_in (S.segments segments.now))) }
+{
+    let mut total = segments.len() / 2 + 1;
+    let mut id = 0;
+    while (id as usize) < segments.len() {
+        total += length_of(segments, id) as usize;
+        id += 1;
+    }
+    total
 }
