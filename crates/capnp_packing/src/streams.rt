@@ -109,7 +109,9 @@ pub struct PackedWrite<W> {
 }
 
 impl<W: Write> PackedWrite<W> {
-    /// Writes these bytes, which are whole words, as one piece. After a refusal a beginning of it was written.
+    /// Writes these bytes, which are whole words, as one piece, of at most 8 n + (n + 3) / 2 bytes for n words.
+    ///
+    /// After a refusal a beginning of it was written. `BufferNotLargeEnough`: the sink has an end, and less room than the piece has bytes. `OutOfMemory`: the sink wants memory. `Device`: it failed.
     pub fn write_piece(&mut self, bytes: &[u8]) -> Result<()>
         requires { length bytes.now % 8 ≡ 0 }
         ensures ok { OnOk result (Appends (W.contents self.old.inner) (W.contents self.new.inner) (packed (whole_words bytes.now))) }
@@ -130,7 +132,7 @@ impl<W: Endless> Write for PackedWrite<W> {
 
     ghost may_grow = { W.may_grow };
 
-    /// Writes the whole words of `buf` as one piece. After a refusal a beginning of it was written.
+    /// Writes the whole words of `buf` as one piece. After a refusal a beginning of it was written. `OutOfMemory`: the sink wants memory. `Device`: it failed.
     fn write_all(&mut self, buf: &[u8]) -> Result<()>
         ensures ok { OnOk result (Appends None None buf.now) }
         ensures falls { OnOk result (RoomFalls None None (length buf.now)) }
