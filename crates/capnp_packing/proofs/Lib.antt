@@ -3,3 +3,4 @@ pub mod GroupLemmas
 pub mod PieceLemmas
 pub mod RunLemmas
 pub mod WriteLemmas
+pub mod SizeLemmas

@@ -1,19 +1,22 @@
 -- The words of a piece, one behind the other.
-use Rattle.std.proofs.Common.{◌≡◌, ℕ, zero, suc, ◌+◌, ◌-◌, ◌*◌, ◌/◌, ◌%◌, ◌<◌, ◌≤◌, List, [], ◌∷◌, ◌++◌, length, take, drop, Result, Ok, Err, refl, sym, ap, subst, ◌∙◌, append_assoc, append-nil, arith, take-append-drop, take_at, drop_at, length-append, length-take-le}
+use Rattle.std.proofs.Common.{◌≡◌, ℕ, zero, suc, ◌+◌, ◌-◌, ◌*◌, ◌/◌, ◌%◌, ◌<◌, ◌≤◌, List, [], ◌∷◌, ◌++◌, length, take, drop, None, Result, Ok, Err, refl, sym, ap, subst, ◌∙◌, append_assoc, append-nil, arith, take-append-drop, take_at, drop_at, length-append, length-take-le}
 use Rattle.std.specs.declared.option.Option.{Option}
 use Rattle.std.specs.Int.{w64, from_le_bytes}
 use Rattle.std.proofs.lemmas.List.{take_all}
 use Rattle.std.specs.Io.KnownBytes.{Keeps}
 use Rattle.std.proofs.KnownBytes.{Consumes-nil, Consumes-kept}
 use Rattle.capnp_units.specs.declared.kinds.ErrorKind.{ErrorKind}
+use Rattle.capnp_units.specs.declared.kinds.ErrorKind.TheVariants.{FailedToFillTheWholeBuffer, PrematureEndOfPackedInput, PackedInputDidNotEndCleanlyOnASegmentBoundary, Device}
 use Rattle.capnp_model.specs.Kinds.{Kind}
 use Rattle.capnp_model.specs.Bytes.{words_in_bytes}
 use Rattle.capnp_model.specs.Packing.{Run, first, with_word, unpacked_from, unpacked}
 use Rattle.capnp_stream.specs.Pieces.{TakesPiece, TakesPieceStart}
 use Rattle.capnp_stream.specs.Segments.{whole_words}
+use Rattle.capnp_stream.specs.Streams.{ConsumesFewer}
 use Rattle.capnp_stream.proofs.KnownLemmas.{Consumes-of_kept}
 use Rattle.capnp_stream.proofs.WordLemmas.{words_in_bytes-take, words_in_bytes-drop, words_in_bytes-length, whole_words-of_length}
-use Rattle.capnp_packing.specs.Parts.{Rule, Leads, Takes, Refuses, with_front}
+use Rattle.capnp_packing.specs.Parts.{Rule, Leads, Takes, IsFault, Refuses, with_front}
+use Rattle.capnp_packing.specs.Streams.{IsUnpackingKind}
 use Rattle.capnp_packing.proofs.PartLemmas.{with_front-nil, Leads-by, Leads-trans, Leads-front, Refuses-behind, Refuses-front}
 
 with_front-word : (xs : List ℕ) (w : ℕ) (r : Result (List ℕ × List ℕ) Kind) → with_front xs (with_word w r) ≡ with_front (xs ++ w ∷ []) r
@@ -109,3 +112,21 @@ whole-front bytes =
     let none : n + 0 ≡ n = omega arith in
     whole_words-of_length n (take (n * 8) bytes) size ∙ ap (λ (k : ℕ). words_in_bytes n (take k bytes)) wide ∙ sym all ∙ ap (λ (k : ℕ). take n (words_in_bytes k bytes)) none
     ∙ take_all n (words_in_bytes n bytes) (omega (arith, words_in_bytes-length n bytes))
+
+-- ---- a buffer that is filled as a whole
+
+fault-kind : (f : Rule (List ℕ)) (a : Option (List ℕ)) (k : ErrorKind) → IsFault f a k → IsUnpackingKind k
+fault-kind f a Device h = tt
+fault-kind f a FailedToFillTheWholeBuffer h = tt
+fault-kind f a PrematureEndOfPackedInput h = tt
+fault-kind f a PackedInputDidNotEndCleanlyOnASegmentBoundary h = tt
+fault-kind f a _ h = absurd h
+
+-- no piece without a word is refused
+refused-some : (n : ℕ) (a b : Option (List ℕ)) (k : ErrorKind) → Refuses (unpacked n) a b k → 0 < n
+unfolding unpacked_from
+refused-some zero a b k p = absurd (p.none ([], p.part) refl)
+refused-some (suc n) a b k p = omega arith
+
+pub exact-refused : (len : ℕ) (a b : Option (List ℕ)) (k : ErrorKind) → Refuses (unpacked (len / 8)) a b k → IsUnpackingKind k × ConsumesFewer None None len
+exact-refused len a b k p = (fault-kind (unpacked (len / 8)) a k p.fault, ([], omega (arith, refused-some (len / 8) a b k p), tt))

@@ -1,7 +1,7 @@
 //! Written groups.
-ghost use Rattle.std.specs.Prelude.{◌≡◌, ◌+◌, ◌*◌, ◌≤◌, ◌<◌, ℕ, [], ◌∷◌, ◌++◌, length, nat_le, IsTrue, ◌↔◌};
+ghost use Rattle.std.specs.Prelude.{◌≡◌, ◌*◌, ◌≤◌, ◌<◌, [], ◌∷◌, ◌++◌, length};
 ghost use Rattle.std.specs.Int.{w64, from_le_bytes};
-ghost use Rattle.capnp_model.specs.Packing.{byte_tag, nonzero, count_byte, is_zero, is_dense, run_of, longest_run, zero_bytes};
+ghost use Rattle.capnp_model.specs.Packing.{byte_tag, nonzero, count_byte, is_zero, is_dense, run_of, longest_run};
 ghost use Rattle.capnp_stream.specs.Segments.{AreBytes, whole_words};
 ghost use Rattle.capnp_packing.specs.Runs.{run_view, run_words};
 

@@ -1,5 +1,5 @@
 //! Laws of packed streams, each the contract of a function that does nothing.
-ghost use Rattle.std.specs.Prelude.{◌≡◌, ℕ, List, ◌++◌, length, Option, Some};
+ghost use Rattle.std.specs.Prelude.{◌≡◌, ◌≤◌, ℕ, ◌+◌, ◌*◌, ◌/◌, List, [], ◌++◌, length, Option, Some};
 ghost use Rattle.capnp_units.specs.declared.kinds.ErrorKind.{ErrorKind};
 ghost use Rattle.capnp_model.specs.Segments.{Segments};
 ghost use Rattle.capnp_model.specs.Packing.{packed, unpacked};
@@ -26,3 +26,9 @@ pub fn written_messages_are_read()
     texts_of_messages();
     written_messages();
 }
+
+/// A packed piece of n words has at most 8 n + (n + 3) / 2 bytes, and none where n is 0.
+pub fn sizes_of_pieces()
+    ensures none { packed [] ≡ [] }
+    ensures most { (ws : List ℕ) → length (packed ws) ≤ 8 * length ws + (length ws + 3) / 2 }
+{}

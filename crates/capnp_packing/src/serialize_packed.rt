@@ -22,9 +22,9 @@ use capnp_units::kinds::ErrorKind;
 use capnp_units::segments::ReaderSegments;
 use std::alloc::Global;
 
-/// The segments of the next packed message, or `None` where no byte is left.
+/// The segments of the next packed message, or `None` where no byte is left. `limit` is in words, all segments together.
 ///
-/// A message of more words than the limit is refused. After a refusal no more than a part of a message was taken.
+/// `InvalidNumberOfSegments`: its table counts more than 511. `MessageTooLarge`: it has more words than the limit. `PrematureEndOfPackedInput`, `FailedToFillTheWholeBuffer` and `PackedInputDidNotEndCleanlyOnASegmentBoundary`: a piece of it can't be read, as `Packed` says. `Device`: the source failed. `OutOfMemory`: there is none for the segments. After a refusal no more than a part of a message was taken.
 pub fn try_read_message<R: BufRead>(
     alloc: Global,
     source: &mut R,
@@ -44,7 +44,7 @@ pub fn try_read_message<R: BufRead>(
     try_read_message_in::<Packed, R>(alloc, source, limit)
 }
 
-/// The segments of the next packed message. `PrematureEndOfFile`: no byte is left.
+/// The segments of the next packed message. `PrematureEndOfFile`: no byte is left. Else it refuses as `try_read_message` does.
 pub fn read_message<R: BufRead>(
     alloc: Global,
     source: &mut R,
@@ -63,7 +63,7 @@ pub fn read_message<R: BufRead>(
 
 /// Writes the packed message of these segments: the table's first word, its rest and each segment, each as a piece.
 ///
-/// After a refusal a beginning of it was written. `OutOfMemory`: the sink wants memory, or the table of more than one segment does.
+/// There are 1 to 2^32 - 1 segments, each of whole words, fewer than 2^32. After a refusal a beginning of it was written. `OutOfMemory`: the sink wants memory, or the table of more than one segment does. `BufferNotLargeEnough`: the sink has an end, and less room than the message has bytes. `Device`: the sink failed.
 pub fn write_message_segments<W: Write, S: ReaderSegments>(
     alloc: Global,
     out: &mut W,
@@ -79,7 +79,7 @@ pub fn write_message_segments<W: Write, S: ReaderSegments>(
     write_message_segments_in::<Packed, W, S>(alloc, out, segments)
 }
 
-/// Writes the packed message of one segment, which these bytes hold. After a refusal a beginning of it was written.
+/// Writes the packed message of one segment, whose whole words these bytes are, fewer than 2^32. After a refusal a beginning of it was written, and the kind is one that `write_message_segments` gives; `OutOfMemory` where the sink wants memory.
 pub fn write_segment<W: Write>(out: &mut W, bytes: &[u8]) -> Result<()>
     requires { IsSegment bytes.now }
     ensures ok { OnOk result (Appends (W.contents out.old) (W.contents out.new) (packed_message (whole_words bytes.now ∷ []))) }

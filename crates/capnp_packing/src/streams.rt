@@ -1,13 +1,13 @@
 //! Packed bytes as streams of words.
-ghost use Rattle.std.specs.Prelude.{◌≡◌, ◌≢◌, ◌≤◌, ◌*◌, ◌/◌, ◌%◌, ◌<◌, ℕ, Option, [], length, take, None, refl, IfSome, IfOk, IfErr, OnOk, OnErr};
+ghost use Rattle.std.specs.Prelude.{◌≡◌, ◌≢◌, ◌⊎◌, ◌≤◌, ◌*◌, ◌/◌, ◌%◌, ◌<◌, ℕ, Option, [], length, take, None, refl, IfSome, IfOk, IfErr, OnOk, OnErr};
 ghost use Rattle.std.specs.Io.{ReadsAtMost};
-ghost use Rattle.std.specs.Io.KnownBytes.{Keeps, Appends, ReadConsumes, IsAtEnd};
+ghost use Rattle.std.specs.Io.KnownBytes.{Keeps, Consumes, Appends, ReadConsumes, IsAtEnd};
 ghost use Rattle.capnp_units.specs.declared.kinds.ErrorKind.{ErrorKind};
 ghost use Rattle.capnp_model.specs.Packing.{packed, unpacked};
 ghost use Rattle.capnp_stream.specs.Counting.{Counts};
 ghost use Rattle.capnp_stream.specs.Pieces.{TakesPiece, TakesPieceStart, IsPieceFault};
 ghost use Rattle.capnp_stream.specs.Segments.{whole_words};
-ghost use Rattle.capnp_stream.specs.Streams.{AppendsPart, RoomFalls, IsWriteRefusal};
+ghost use Rattle.capnp_stream.specs.Streams.{AppendsPart, ConsumesFewer, EndsBefore, RoomFalls, IsWriteRefusal};
 ghost use Rattle.capnp_packing.specs.Streams.{IsUnpackingKind};
 
 use crate::bytes::is_at_end;
@@ -33,37 +33,54 @@ impl<R: BufRead> Read for PackedRead<R> {
 
     ghost refuses = { IsUnpackingKind };
 
-    /// Reads one piece, as many whole words as `buf` holds, and answers its length in bytes; 0 where `buf` is empty, or no byte is left.
+    /// Fills `buf`, which has whole words, with one piece, and answers its length in bytes; 0 where it is empty, or no byte is left.
     ///
-    /// `BufferNotLargeEnough`: `buf` is smaller than a word; nothing is taken. `Device`: the source failed; any other kind says why the bytes that are left begin with no such piece. Then less than the piece was taken.
+    /// `BufferNotLargeEnough`: `buf` ends in a part of a word; nothing is taken. `Device`: the source failed; any other kind says why the bytes that are left begin with no such piece. Then less than the piece was taken.
     fn read(&mut self, buf: &mut [u8]) -> Result<usize>
         ensures bound { ReadsAtMost result buf.new }
         ensures bytes { ReadConsumes None None result buf.new }
         ensures refusal { IfErr result (λ e. IsUnpackingKind e.kind) }
         ensures count { Counts result (R.failures self.old.inner) (R.failures self.new.inner) }
-        ensures piece { IfOk result (λ n. n ≢ 0 → (n ≡ 8 * (length buf.old / 8)) × TakesPiece unpacked (R.remaining self.old.inner) (R.remaining self.new.inner) (whole_words (take n buf.new))) }
+        ensures whole { IfOk result (λ _. length buf.old % 8 ≡ 0) }
+        ensures piece { IfOk result (λ n. n ≢ 0 → (n ≡ length buf.old) × TakesPiece unpacked (R.remaining self.old.inner) (R.remaining self.new.inner) (whole_words buf.new)) }
         ensures end { IfOk result (λ n. n ≡ 0 → Keeps (R.remaining self.old.inner) (R.remaining self.new.inner) × (0 < length buf.old → IsAtEnd (R.remaining self.old.inner))) }
-        ensures small { IfErr result (λ e. e.kind ≡ ErrorKind.BufferNotLargeEnough → (length buf.old < 8) × Keeps (R.remaining self.old.inner) (R.remaining self.new.inner)) }
+        ensures ragged { IfErr result (λ e. e.kind ≡ ErrorKind.BufferNotLargeEnough → (length buf.old % 8 ≢ 0) × Keeps (R.remaining self.old.inner) (R.remaining self.new.inner)) }
         ensures fault { IfErr result (λ e. e.kind ≢ ErrorKind.BufferNotLargeEnough → IsPieceFault unpacked (length buf.old / 8) (R.remaining self.old.inner) e.kind) }
-        ensures some { IfErr result (λ e. e.kind ≢ ErrorKind.Device → 8 ≤ length buf.old → IfSome (R.remaining self.old.inner) (λ xs. xs ≢ [])) }
+        ensures some { IfErr result (λ e. e.kind ≢ ErrorKind.Device → length buf.old % 8 ≡ 0 → IfSome (R.remaining self.old.inner) (λ xs. xs ≢ [])) }
         ensures part { IfErr result (λ e. e.kind ≢ ErrorKind.BufferNotLargeEnough → TakesPieceStart unpacked (length buf.old / 8) (R.remaining self.old.inner) (R.remaining self.new.inner)) }
     {
-        if buf.is_empty() {
-            return Ok(0);
-        }
-        let len = buf.len() / 8 * 8;
-        if len == 0 {
+        if buf.len() % 8 != 0 {
             return Err(Error::from(ErrorKind::BufferNotLargeEnough));
         }
-        if is_at_end(&mut self.inner)? {
+        if buf.is_empty() || is_at_end(&mut self.inner)? {
             return Ok(0);
         }
-        read_words(&mut self.inner, &mut buf[..len])?;
-        Ok(len)
+        read_words(&mut self.inner, buf)?;
+        Ok(buf.len())
+    }
+
+    /// Fills `buf`, which has whole words, with one piece.
+    ///
+    /// `BufferNotLargeEnough`: `buf` ends in a part of a word; nothing is taken. `Device`: the source failed; any other kind says why the bytes that are left begin with no such piece. Then less than the piece was taken.
+    fn read_exact(&mut self, buf: &mut [u8]) -> Result<()>
+        ensures ok { OnOk result (Consumes None None buf.new) }
+        ensures part { IfErr result (λ e. (IsUnpackingKind e.kind × ConsumesFewer None None (length buf.old))
+            ⊎ ((e.kind ≡ ErrorKind.FailedToFillTheWholeBuffer) × EndsBefore None None (length buf.old))) }
+        ensures count { Counts result (R.failures self.old.inner) (R.failures self.new.inner) }
+        ensures whole { OnOk result (length buf.old % 8 ≡ 0) }
+        ensures piece { OnOk result (TakesPiece unpacked (R.remaining self.old.inner) (R.remaining self.new.inner) (whole_words buf.new)) }
+        ensures ragged { IfErr result (λ e. e.kind ≡ ErrorKind.BufferNotLargeEnough → (length buf.old % 8 ≢ 0) × Keeps (R.remaining self.old.inner) (R.remaining self.new.inner)) }
+        ensures fault { IfErr result (λ e. e.kind ≢ ErrorKind.BufferNotLargeEnough → IsPieceFault unpacked (length buf.old / 8) (R.remaining self.old.inner) e.kind) }
+        ensures start { IfErr result (λ e. e.kind ≢ ErrorKind.BufferNotLargeEnough → TakesPieceStart unpacked (length buf.old / 8) (R.remaining self.old.inner) (R.remaining self.new.inner)) }
+    {
+        if buf.len() % 8 != 0 {
+            return Err(Error::from(ErrorKind::BufferNotLargeEnough));
+        }
+        read_words(&mut self.inner, buf)
     }
 
     fn failures(&self) -> u64 {
-        self.inner.failures()
+        Read::failures(&self.inner)
     }
 }
 
@@ -92,7 +109,9 @@ pub struct PackedWrite<W> {
 }
 
 impl<W: Write> PackedWrite<W> {
-    /// Writes these bytes, which are whole words, as one piece. After a refusal a beginning of it was written.
+    /// Writes these bytes, which are whole words, as one piece, of at most 8 n + (n + 3) / 2 bytes for n words.
+    ///
+    /// After a refusal a beginning of it was written. `BufferNotLargeEnough`: the sink has an end, and less room than the piece has bytes. `OutOfMemory`: the sink wants memory. `Device`: it failed.
     pub fn write_piece(&mut self, bytes: &[u8]) -> Result<()>
         requires { length bytes.now % 8 ≡ 0 }
         ensures ok { OnOk result (Appends (W.contents self.old.inner) (W.contents self.new.inner) (packed (whole_words bytes.now))) }
@@ -113,7 +132,7 @@ impl<W: Endless> Write for PackedWrite<W> {
 
     ghost may_grow = { W.may_grow };
 
-    /// Writes the whole words of `buf` as one piece. After a refusal a beginning of it was written.
+    /// Writes the whole words of `buf` as one piece. After a refusal a beginning of it was written. `OutOfMemory`: the sink wants memory. `Device`: it failed.
     fn write_all(&mut self, buf: &[u8]) -> Result<()>
         ensures ok { OnOk result (Appends None None buf.now) }
         ensures falls { OnOk result (RoomFalls None None (length buf.now)) }
@@ -129,6 +148,6 @@ impl<W: Endless> Write for PackedWrite<W> {
     }
 
     fn failures(&self) -> u64 {
-        self.inner.failures()
+        Write::failures(&self.inner)
     }
 }

@@ -1,6 +1,4 @@
-use Rattle.std.proofs.Common.{arith, sym, ap, ◌∙◌, ◌≡◌, ◌+◌, ◌-◌, ◌*◌, ◌≤◌, ◌∷◌, ℕ, List, length, Bool, true, false, eqb}
-use Rattle.std.specs.Int.{w64, from_le_bytes}
-use Rattle.std.proofs.lemmas.Bool.{ne_eqb, eq-eqb}
+use Rattle.std.proofs.Common.{arith, sym, ◌∙◌, ◌+◌, ◌-◌, ◌≤◌, length}
 use Rattle.capnp_model.specs.Packing.{is_dense}
 use Rattle.capnp_stream.specs.Segments.{whole_words}
 use Rattle.capnp_packing.proofs.RunLemmas.{run-none, run-full, run-stops, run-goes, words-front, no-words}

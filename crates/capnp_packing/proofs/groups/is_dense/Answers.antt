@@ -1,7 +1,6 @@
-use Rattle.std.proofs.Common.{arith, sym, ap, ◌∙◌, ◌≡◌, ◌+◌, ◌*◌, ℕ, List, [], ◌∷◌, leb, get_or, take, cond, Bool, eqb}
+use Rattle.std.proofs.Common.{arith, sym, ap, ◌∙◌, ◌≡◌, ◌+◌, ℕ, [], ◌∷◌, leb, get_or, take, cond, Bool}
 use Rattle.std.proofs.lemmas.Bool.{ne_eqb, eq-eqb}
 use Rattle.std.proofs.lemmas.List.{take_all}
-use Rattle.std.specs.Int.{w64, from_le_bytes}
 use Rattle.capnp_model.specs.Packing.{zero_bytes}
 use Rattle.capnp_packing.proofs.RunLemmas.{zero_bytes-more, bytes-again}
 use Rattle.capnp_packing.proofs.groups.is_dense.Goals as goal

@@ -1,4 +1,4 @@
-use Rattle.std.proofs.Common.{arith, ap, ◌∙◌, drop, get_or, eqb, not, length-drop, ◌-◌}
+use Rattle.std.proofs.Common.{arith, drop, get_or, eqb, not, length-drop, ◌-◌}
 use Rattle.capnp_packing.proofs.RunLemmas.{tag-small, mark-small}
 use Rattle.capnp_packing.proofs.groups.tag_of.Goals as goal
 

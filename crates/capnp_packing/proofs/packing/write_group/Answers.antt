@@ -1,4 +1,4 @@
-use Rattle.std.proofs.Common.{◌*◌, ◌<◌, drop, refl, ◌∙◌, arith}
+use Rattle.std.proofs.Common.{◌*◌, drop, refl, ◌∙◌, arith}
 use Rattle.std.proofs.lemmas.Result.{err_from_is_err_and}
 use Rattle.capnp_stream.specs.Segments.{whole_words}
 use Rattle.capnp_packing.specs.Runs.{run_words, run_bytes}

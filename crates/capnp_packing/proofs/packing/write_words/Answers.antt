@@ -1,4 +1,4 @@
-use Rattle.std.proofs.Common.{◌≡◌, ◌≤◌, ◌<◌, ◌+◌, ◌%◌, List, ℕ, length, refl, sym, subst, ◌∙◌, arith, rules}
+use Rattle.std.proofs.Common.{List, ℕ, length, sym, subst, arith, rules}
 use Rattle.std.proofs.lemmas.Result.{err_from_is_err_and}
 use Rattle.capnp_stream.specs.Segments.{whole_words}
 use Rattle.capnp_stream.specs.Streams.{AppendsPart, IsWriteRefusal}

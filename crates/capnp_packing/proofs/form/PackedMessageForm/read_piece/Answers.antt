@@ -1,4 +1,4 @@
-use Rattle.std.proofs.Common.{◌≡◌, ◌/◌, ℕ, length, sym, subst}
+use Rattle.std.proofs.Common.{◌/◌, ℕ, sym, subst}
 use Rattle.std.proofs.lemmas.Result.{IfOk-weaker}
 use Rattle.capnp_model.specs.Packing.{unpacked}
 use Rattle.capnp_stream.specs.Segments.{whole_words}

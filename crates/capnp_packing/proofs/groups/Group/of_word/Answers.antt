@@ -1,4 +1,4 @@
-use Rattle.std.proofs.Common.{arith, sym, ap, ◌∙◌, ◌≡◌, ◌+◌, ◌≤◌, ◌≢◌, ℕ, List, [], ◌∷◌, ◌++◌, length, get_or, take, append-nil, eqb, cond, Bool, true, false, subst, length-append}
+use Rattle.std.proofs.Common.{arith, sym, ap, ◌∙◌, ◌≡◌, ◌+◌, ◌≢◌, ℕ, List, [], ◌∷◌, ◌++◌, length, get_or, take, append-nil, cond, Bool, length-append}
 use Rattle.std.proofs.lemmas.Bool.{ne_eqb, eq-eqb}
 use Rattle.capnp_model.specs.Packing.{nonzero}
 use Rattle.capnp_packing.specs.Groups.{group_bytes}
