@@ -5,3 +5,4 @@ pub mod Bytes
 pub mod Gets
 pub mod Elements
 pub mod Fields
+pub mod Linking

@@ -14,5 +14,6 @@ pub mod object;
 pub mod place;
 pub mod pointer;
 mod section;
+pub mod size;
 pub mod structs;
 mod word_pointer;
