@@ -6,3 +6,5 @@ pub mod Gets
 pub mod Elements
 pub mod Fields
 pub mod Linking
+pub mod Walking
+pub mod Paying

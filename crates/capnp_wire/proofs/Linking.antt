@@ -135,7 +135,7 @@ module _ (s : Segments) (p : Place) (size n : ℕ) (ws : List ℕ) (o : Object) 
       let tag : tag_in ws ≡ Ok a.0 = a.1 in
       rw tag (ap (faults_in h) (ok_is _ _ a.2))
 
-tree_whole : (s : Segments) (f : Place → Option Tree) (m : model.Object) (o : Object) → IsSized m → whole s m ≡ Ok o → tree_of s f m ≡ tree_in s f o
+pub tree_whole : (s : Segments) (f : Place → Option Tree) (m : model.Object) (o : Object) → IsSized m → whole s m ≡ Ok o → tree_of s f m ≡ tree_in s f o
 tree_whole s f model.nothing o h e = ap (tree_in s f) (ok_is _ _ e)
 tree_whole s f (model.a_capability i) o h e = ap (tree_in s f) (ok_is _ _ e)
 tree_whole s f (model.a_struct p d k) o h e =
@@ -148,7 +148,7 @@ tree_whole s f (model.a_list p size n) o h e =
     let there : words_at s p (list_words (list_kind size) size n) ≡ Some a.0 = ok_or_some _ _ _ a.1 in
     ap (λ (x : Option (List ℕ)). x >>= λ ws. list_tree f p (list_kind size) size n ws) there ∙ list_trees s p size n a.0 o f (list_kind size) h there a.2
 
-cost_whole : (s : Segments) (g : Place → ℕ) (m : model.Object) (o : Object) → IsSized m → whole s m ≡ Ok o → object_cost s g m ≡ own_cost o + cost_in g o
+pub cost_whole : (s : Segments) (g : Place → ℕ) (m : model.Object) (o : Object) → IsSized m → whole s m ≡ Ok o → object_cost s g m ≡ own_cost o + cost_in g o
 cost_whole s g model.nothing o h e = ap (λ (x : Object). own_cost x + cost_in g x) (ok_is _ _ e)
 cost_whole s g (model.a_capability i) o h e = ap (λ (x : Object). own_cost x + cost_in g x) (ok_is _ _ e)
 cost_whole s g (model.a_struct p d k) o h e =
@@ -158,7 +158,7 @@ cost_whole s g (model.a_list p size n) o h e =
     let a = bind_ok (ok_or (words_at s p (list_words (list_kind size) size n)) OutOfBounds) _ o e in
     list_costs s p size n a.0 o g (list_kind size) h (ok_or_some _ _ _ a.1) a.2
 
-faults_whole : (s : Segments) (h : Place → List Kind) (m : model.Object) (o : Object) → whole s m ≡ Ok o → object_faults s h m ≡ faults_in h o
+pub faults_whole : (s : Segments) (h : Place → List Kind) (m : model.Object) (o : Object) → whole s m ≡ Ok o → object_faults s h m ≡ faults_in h o
 faults_whole s h model.nothing o e = ap (faults_in h) (ok_is _ _ e)
 faults_whole s h (model.a_capability i) o e = ap (faults_in h) (ok_is _ _ e)
 faults_whole s h (model.a_struct p d k) o e =
