@@ -8,3 +8,4 @@ pub mod Fields
 pub mod Linking
 pub mod Walking
 pub mod Paying
+pub mod Walks

@@ -6,6 +6,8 @@ use Rattle.capnp_units.specs.declared.kinds.ErrorKind.TheVariants.{ReadLimitExce
 use Rattle.capnp_units.specs.declared.limiter.ReadLimiter.{ReadLimiter}
 use Rattle.capnp_units.specs.declared.sizes.MessageSize.{MessageSize}
 use Rattle.capnp_units.specs.Errors.{kind_of}
+use Rattle.capnp_wire.specs.declared.object.Object.{Object}
+use Rattle.capnp_wire.specs.declared.object.Object.TheVariants as object
 use Rattle.capnp_units.specs.Limits.{left_of, Spends, IsPassed, Follows}
 
 -- So many words were paid, and no more than so many pointers followed.
@@ -19,6 +21,11 @@ pub record Walks (old new : ReadLimiter) (words pointers : ℕ) : Type 0 where
 pub record Counts (words capabilities : ℕ) (size : MessageSize) : Type 0 where
   pub words_is : size.word_count ≡ min words (2 ^ 64 - 1)
   pub capabilities_is : size.cap_count ≡ min capabilities (2 ^ 32 - 1)
+
+-- The capabilities of an object that takes no level.
+abbrev pub leaf_capabilities : Object → ℕ
+leaf_capabilities (object.Capability i) = 1
+leaf_capabilities _ = 0
 
 -- A walk is refused by the kind of one of the faults on it, or just where its cost passes what was left. It follows no more pointers than it began with and words that it paid.
 abbrev pub WalkRefused : List Kind → ℕ → ℕ → ReadLimiter → Error → ReadLimiter → Type 0
