@@ -9,3 +9,4 @@ pub mod Linking
 pub mod Walking
 pub mod Paying
 pub mod Walks
+pub mod Rows
