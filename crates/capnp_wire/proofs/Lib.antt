@@ -10,3 +10,4 @@ pub mod Walking
 pub mod Paying
 pub mod Walks
 pub mod Rows
+pub mod Measuring

@@ -150,7 +150,7 @@ module _ (s : Segments) (p : Place) where
       unfolding faults_at
       link_faults n = rw e (faults_whole s (faults_at n s) g.object o w)
 
-      leaf_cost_at : suffice_for 0 g.object ≡ true → cost_at 0 s p ≡ g.pads + own_cost o
+      pub leaf_cost_at : suffice_for 0 g.object ≡ true → cost_at 0 s p ≡ g.pads + own_cost o
       unfolding cost_at
       leaf_cost_at h = let none = leaf_cost s g.object o h w in rw e (omega arith)
 
