@@ -1,6 +1,6 @@
 -- The sizes of objects and of what their pointers lead to.
 use Rattle.std.proofs.Common.{◌≡◌, ℕ, zero, suc, ◌+◌, ◌-◌, ◌*◌, ◌%◌, ◌^◌, ◌<◌, ◌≤◌, nat_lt, eqb, min, Bool, true, false, List, [], Option, Some, None, Result, Ok, Err, refl, ap, sym, ◌∙◌, subst, inl, inr, arith, if◌then◌else◌}
-use Rattle.std.specs.Prelude.{Contains, ◌⊎◌}
+use Rattle.std.specs.Prelude.{Contains, ◌⊎◌, MatchOption}
 use Rattle.std.specs.Option.{ok_or}
 use Rattle.std.proofs.lemmas.Bool.Decides.{nat_tests}
 use Rattle.std.proofs.Math.Nat.{mul-le-mul_left}
@@ -27,9 +27,9 @@ use Rattle.capnp_wire.specs.declared.object.Object.TheVariants as object
 use Rattle.capnp_wire.specs.Places.{place_view}
 use Rattle.capnp_wire.specs.Objects.{whole_list, whole, IsInside}
 use Rattle.capnp_wire.specs.Follow.{own_cost, suffice_for, is_within, Pays, FollowsWithin}
-use Rattle.capnp_wire.specs.Views.{section_at}
+use Rattle.capnp_wire.specs.Views.{section_at, PointerView, StructView}
 use Rattle.capnp_wire.specs.Inside.{words_there, tree_in, cost_in, faults_in}
-use Rattle.capnp_wire.specs.Walks.{Walks, leaf_capabilities, Counts, WalkRefused, SizeGives}
+use Rattle.capnp_wire.specs.Walks.{Walks, leaf_capabilities, Counts, WalkRefused, SizeGives, SizeOn, NoLevels, tree_behind, faults_behind, cost_behind, PointerSize, StructSizeOf}
 use Rattle.capnp_wire.proofs.Walking.{object_found, link_tree, link_cost, link_faults, leaf_cost_at}
 use Rattle.capnp_wire.proofs.Paying.{spends_later}
 use Rattle.capnp_wire.proofs.Rows.{each_count}
@@ -184,3 +184,32 @@ nothing_counted = record { words_is = refl; capabilities_is = refl }
 pub refused_is : {X : Type 0} (words caps : X → ℕ) (there : Option X) (faults : List Kind) (cost n : ℕ) (old new : ReadLimiter) (r : Result MessageSize Error) (x e : Error) → r ≡ Err x → x ≡ e → WalkRefused faults cost n old e new → SizeGives words caps there faults cost n old r new
 refused_is words caps there faults cost n old new r x e a b w =
     subst (λ (y : Result MessageSize Error). SizeGives words caps there faults cost n old y new) (sym (a ∙ ap (λ (y : Error). Err y) b)) w
+
+-- ---- on a ground where nothing may be paid
+
+size_nothing : (paid : Bool) (l : ReadLimiter) → SizeOn paid object_words capability_count (Some null) [] 0 1 l (Ok (wordless 0)) l
+unfolding object_words capability_count
+size_nothing true l = (null, refl, nothing_counted, stays l 1)
+size_nothing false l = (null, refl, nothing_counted, refl)
+
+pub null_size : (p : PointerView) (n : ℕ) (l : ReadLimiter) → p.levels ≡ Some n → p.place ≡ None → PointerSize p l (Ok (wordless 0)) l
+null_size p n l e f =
+    let s = p.ground.segments in
+    let here : SizeOn p.ground.paid object_words capability_count (tree_behind n s p.place) (faults_behind n s p.place) (cost_behind n s p.place) 1 l (Ok (wordless 0)) l =
+        subst (λ (o : Option Place). SizeOn p.ground.paid object_words capability_count (tree_behind n s o) (faults_behind n s o) (cost_behind n s o) 1 l (Ok (wordless 0)) l) (sym f) (size_nothing p.ground.paid l) in
+    subst (λ (o : Option ℕ). MatchOption o (NoLevels l (Ok (wordless 0)) l) (λ m. SizeOn p.ground.paid object_words capability_count (tree_behind m s p.place) (faults_behind m s p.place) (cost_behind m s p.place) 1 l (Ok (wordless 0)) l)) (sym e) here
+
+sized_more : {X : Type 0} (paid : Bool) (words caps : X → ℕ) (there : Option X) (faults : List Kind) (cost n more : ℕ) (old new : ReadLimiter) (size size' : MessageSize) → ((w c : ℕ) → Counts w c size → Counts (w + more) c size')
+    → SizeOn paid words caps there faults cost n old (Ok size) new → SizeOn paid (λ x. words x + more) caps there faults cost n old (Ok size') new
+sized_more true words caps there faults cost n more old new size size' h g = (g.0, g.1, h (words g.0) (caps g.0) g.2, g.3)
+sized_more false words caps there faults cost n more old new size size' h g = (g.0, g.1, h (words g.0) (caps g.0) g.2, g.3)
+
+pub struct_size : (v : StructView) (n more : ℕ) (old new : ReadLimiter) (size size' : MessageSize) → v.levels ≡ Some n → more ≡ words_for v.bits + v.pointers → ((w c : ℕ) → Counts w c size → Counts (w + more) c size')
+    → SizeOn v.ground.paid each_object_words each_capability_count (each (tree_at n v.ground.segments) v.first v.pointers) (from_each (faults_at n v.ground.segments) v.first v.pointers) (cost_each (cost_at n v.ground.segments) v.first v.pointers) v.pointers old (Ok size) new
+    → StructSizeOf v old (Ok size') new
+struct_size v n more old new size size' e m h g =
+    let s = v.ground.segments in
+    let count : (w c : ℕ) → Counts w c size → Counts (w + (words_for v.bits + v.pointers)) c size' = λ w c k. subst (λ (x : ℕ). Counts (w + x) c size') m (h w c k) in
+    let here = sized_more v.ground.paid each_object_words each_capability_count (each (tree_at n s) v.first v.pointers) (from_each (faults_at n s) v.first v.pointers) (cost_each (cost_at n s) v.first v.pointers) v.pointers (words_for v.bits + v.pointers) old new size size' count g in
+    subst (λ (o : Option ℕ). MatchOption o (NoLevels old (Ok size') new)
+    (λ m. SizeOn v.ground.paid (λ ts. each_object_words ts + (words_for v.bits + v.pointers)) each_capability_count (each (tree_at m s) v.first v.pointers) (from_each (faults_at m s) v.first v.pointers) (cost_each (cost_at m s) v.first v.pointers) v.pointers old (Ok size') new)) (sym e) here

@@ -22,7 +22,7 @@ use capnp_units::limiter::ReadLimiter;
 use capnp_units::sizes::MessageSize;
 
 /// The size of what has neither a word nor a capability.
-const NOTHING: MessageSize = MessageSize {
+pub(crate) const NOTHING: MessageSize = MessageSize {
     word_count: 0,
     cap_count: 0,
 };
