@@ -11,3 +11,4 @@ pub mod Paying
 pub mod Walks
 pub mod Rows
 pub mod Measuring
+pub mod LevelLaws

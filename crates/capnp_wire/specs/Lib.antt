@@ -8,6 +8,7 @@ pub mod Views
 pub mod Reads
 pub mod Inside
 pub mod Walks
+pub mod Laws
 pub use Rattle.capnp_units.specs.Errors
 pub use Rattle.capnp_units.specs.Limits
 pub use Rattle.capnp_units.specs.Segments

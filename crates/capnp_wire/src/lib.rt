@@ -7,6 +7,7 @@ pub mod arena;
 pub mod backing;
 pub mod element;
 pub mod follow;
+pub mod laws;
 pub mod levels;
 pub mod list;
 mod named;
@@ -17,3 +18,6 @@ mod section;
 pub mod size;
 pub mod structs;
 mod word_pointer;
+
+#[cfg(test)]
+mod tests;

@@ -1,5 +1,5 @@
 //! Pointers to read.
-ghost use Rattle.std.specs.Prelude.{◌≡◌, ◌+◌, ◌*◌, ◌<◌, ◌≤◌, ◌^◌, ◌%◌, length, Ok, IfOk, option_copied};
+ghost use Rattle.std.specs.Prelude.{◌≡◌, ◌≢◌, ◌+◌, ◌*◌, ◌<◌, ◌≤◌, ◌^◌, ◌%◌, length, Ok, IfOk, option_copied};
 ghost use Rattle.capnp_model.specs.Chains.{◌and_then◌};
 ghost use Rattle.capnp_units.specs.Segments.{words_in};
 ghost use Rattle.capnp_units.specs.Limits.{left_of};
@@ -256,8 +256,9 @@ impl<'a, A: ReaderArena> PointerReader<'a, A> {
     ) -> Result<ListReader<'a, A>>
         requires inside { step_bits (size_number size) data_words pointers * count ≤ 8 * length bytes.now }
         requires near { start.position + step_words (size_number size) data_words pointers * count < 2 ^ 61 }
-        ensures { seen (seen_list A.segments) result
+        ensures list { seen (seen_list A.segments) result
             ≡ read_elements self.now.levels expected (list_view (ground_of A.segments self.now.backing) size count (number_of 8 bytes.now) (place_view start) data_words pointers) size data_words pointers }
+        ensures bytewise { size_number expected ≢ 1 → IfOk result (λ l. size_number (seen_list A.segments l).size ≢ 1) }
     {
         let levels = level_below(self.levels)?;
         if !is_accepted(expected, size, data_words, pointers) {
@@ -281,7 +282,8 @@ impl<'a, A: ReaderArena> PointerReader<'a, A> {
         limiter: &mut ReadLimiter,
         expected: ElementSize,
     ) -> Result<ListReader<'a, A>>
-        ensures { GetGives (seen_list A.segments) (read_list (ground_of A.segments self.now.backing) self.now.levels expected) (seen_pointer A.segments self.now) limiter.old result limiter.new }
+        ensures list { GetGives (seen_list A.segments) (read_list (ground_of A.segments self.now.backing) self.now.levels expected) (seen_pointer A.segments self.now) limiter.old result limiter.new }
+        ensures bytewise { size_number expected ≢ 1 → IfOk result (λ l. size_number (seen_list A.segments l).size ≢ 1) }
     {
         match self.reach(limiter)? {
             Object::Null => Ok(ListReader::empty(self.backing, expected, self.levels)),
@@ -320,7 +322,10 @@ impl<'a, A: ReaderArena> PointerReader<'a, A> {
         expected: ElementSize,
         default: Option<&'a [Word]>,
     ) -> Result<ListReader<'a, A>>
-        ensures { let p = with_default (seen_pointer A.segments self.now) (option_copied default.entry) in GetGives (seen_list A.segments) (read_list p.ground p.levels expected) p limiter.old result limiter.new }
+        ensures list { let p = with_default (seen_pointer A.segments self.now) (option_copied default.entry) in GetGives (seen_list A.segments) (read_list p.ground p.levels expected) p limiter.old result limiter.new }
+
+        // Where no single bits are expected, none are given.
+        ensures bytewise { size_number expected ≢ 1 → IfOk result (λ l. size_number (seen_list A.segments l).size ≢ 1) }
     {
         self.with_default(default).list_here(limiter, expected)
     }
