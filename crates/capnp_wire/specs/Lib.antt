@@ -1,4 +1,5 @@
 pub mod Places
+pub mod Arenas
 pub mod Named
 pub mod Objects
 pub mod Follow

@@ -17,6 +17,7 @@ pub mod pointer;
 mod section;
 pub mod size;
 pub mod structs;
+pub mod traits;
 mod word_pointer;
 
 #[cfg(test)]
