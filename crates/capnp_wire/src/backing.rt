@@ -87,4 +87,11 @@ impl<A: ReaderArena> ReaderArena for Backing<'_, A> {
     fn nesting_limit(&self) -> i32 {
         i32::MAX
     }
+
+    fn size_in_words(&self) -> usize {
+        match self {
+            Backing::Arena(arena) => arena.size_in_words(),
+            Backing::Default(bytes) => bytes.len() / 8,
+        }
+    }
 }
