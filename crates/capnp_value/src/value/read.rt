@@ -31,7 +31,7 @@ use std::alloc::{AllocError, Global};
 fn words_of(alloc: Global, bytes: &[u8]) -> Result<Vec<u64>, AllocError>
     ensures { IfOk result (λ v. v.items ≡ whole_words bytes.now) }
 {
-    let mut words = Vec::new(alloc);
+    let mut words = Vec::with_capacity(alloc, bytes.len() / 8)?;
     let mut left = bytes;
     while let Some((first, rest)) = left.split_first_chunk::<8>() {
         words.push(u64::from_le_bytes(*first))?;
@@ -109,8 +109,7 @@ fn read_object<A: ReaderArena>(
             read_struct(alloc, arena, limiter, start, size, levels)
         }
         Object::List { start, size, count } => {
-            let list = read_plain(alloc, arena, start, size, count)?;
-            Ok(Some(list))
+            Ok(Some(read_plain(alloc, arena, start, size, count)?))
         }
         Object::PointerList { start, count } => {
             match read_row(alloc, arena, limiter, start, count, levels)? {
@@ -284,7 +283,7 @@ pub struct Bounds {
     pub nesting: u32,
 }
 
-/// The value of a message's root, read from its segments.
+/// The value of a message's root, read from the whole words of its segments. What is past a segment's last whole word isn't looked at.
 ///
 /// There is none where a pointer is malformed or leads out of the segments, where a capability is met, or where following the message passes one of the bounds. The error is want of memory. What is read fits its spelling, with at most a word more than the bounds allow. The segments stay as they are, and the value depends on them no more.
 pub fn read_value<S: ReaderSegments>(
@@ -296,6 +295,7 @@ pub fn read_value<S: ReaderSegments>(
     ensures fits { IfOk result (λ found. IfSome found (λ v. Fits (tree_of_value v))) }
     ensures small { IfOk result (λ found. IfSome found (λ v. length (canonical_words (tree_of_value v)) ≤ bounds.words + 1)) }
 {
+    // The walk counts levels by itself.
     let arena = ReaderArenaImpl::new(segments, i32::MAX);
     let mut limiter = ReadLimiter::new(Some(bounds.words as u64));
     let root = Place {

@@ -35,8 +35,8 @@ read_at-returns g t c =
     let level : c.args.levels ≡ suc (c.args.levels - 1) = omega (arith, some) in
     follow_object c.args.levels (c.args.levels - 1) s (place_view c.args.at) c.args.limiter.now c.follow.new.limiter c.read_object.new.limiter c.in-Ok.object c.read_object.result level c.in-Ok.ensures c.read_object.ensures
 
-pub read_object-returns-in_ok-list-in-List : goal.read_object-returns-in_ok-list-in-List
-read_object-returns-in_ok-list-in-List g t c = rw c.in-List.is (c.in_ok-list-in-List.ensures c.args.levels, spends_nothing c.args.limiter.now)
+pub read_object-returns-in_ok-read_plain-in-List : goal.read_object-returns-in_ok-read_plain-in-List
+read_object-returns-in_ok-read_plain-in-List g t c = rw c.in-List.is (c.in_ok-read_plain-in-List.ensures c.args.levels, spends_nothing c.args.limiter.now)
 
 pub read_object-returns-in-Some : goal.read_object-returns-in-Some
 read_object-returns-in-Some g t c =
