@@ -5,6 +5,7 @@ mod answer;
 mod bytes;
 mod call;
 mod change;
+pub mod dynamic_struct;
 mod get;
 mod number;
 pub mod open;

@@ -11,6 +11,7 @@ ghost use Rattle.capnp_calls.specs.Changes.{EndsRun};
 
 use crate::answer::answer_call;
 use crate::call::Call;
+use crate::dynamic_struct::Builder;
 use crate::reply::Reply;
 use crate::root::StructValue;
 use capnp_model::laws;
@@ -19,7 +20,7 @@ use capnp_units::errors::Result;
 use std::alloc::Global;
 
 /// Answers the calls in turn.
-pub fn run_at(
+fn run_at(
     alloc: Global,
     schema: StructSchema<'_>,
     root: &mut StructValue,
@@ -39,4 +40,18 @@ pub fn run_at(
         replies.push(answer_call(alloc, schema, root, call)?)?;
     }
     Ok(replies)
+}
+
+/// Answers the calls in turn at a struct, each at the struct that the calls before it left.
+///
+/// A refused call and a `get` change nothing, and don't stop the next. The error is want of memory, or `SizeOverflow` for a text of 2^29 - 1 bytes or more; then the calls before have their effect, and the one that failed perhaps a part of it.
+pub fn run(alloc: Global, root: Builder<'_>, calls: &[Call]) -> Result<Vec<Reply>>
+    ensures replies { IfOk result (λ v. map reply_view v.items ≡ replies_to root.entry.schema (map call_view calls.now) (struct_tree root.entry.root.now)) }
+    ensures tree { OnOk result (struct_tree root.exit.0.now ≡ tree_after_all root.entry.schema (map call_view calls.now) (struct_tree root.entry.root.now)) }
+    ensures sizes { SameSizes root.entry.root.now root.exit.0.now }
+    ensures fits { OnOk result (Fits (struct_tree root.entry.root.now) → Fits (struct_tree root.exit.0.now)) }
+    ensures refusal { IfErr result (λ e. EndsRun calls.now e.kind) }
+{
+    let Builder { root, schema } = root;
+    run_at(alloc, schema, root, calls)
 }

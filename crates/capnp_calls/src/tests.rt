@@ -1,9 +1,10 @@
 //! Calls at the fields of a small struct, and what they reply.
 
 use crate::call::{Call, CallValue, Step, Verb};
+use crate::dynamic_struct::Builder;
 use crate::open::open_struct;
 use crate::reply::Reply;
-use crate::run::run_at;
+use crate::run::run;
 use capnp_records::node::{
     BaseType, FieldBody, FieldRecord, NO_DISCRIMINANT, NodeBody, NodeRecord, StructRecord,
     TypeRecord, Value as DefaultValue,
@@ -70,7 +71,7 @@ fn replies_to(alloc: Global, calls: &[Call]) -> Result<Vec<Reply>, Fail> {
     let Some(mut root) = opened else {
         return Err(Fail::from("null is no struct"));
     };
-    Ok(run_at(alloc, schema, &mut root, calls)?)
+    Ok(run(alloc, Builder::new(schema, &mut root), calls)?)
 }
 
 /// A call at the field of a name.

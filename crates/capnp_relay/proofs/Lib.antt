@@ -3,4 +3,3 @@ pub mod StepLemmas
 pub mod RunLemmas
 pub mod Whole
 pub mod Opening
-pub mod SegmentWords

@@ -5,11 +5,11 @@ use Rattle.std.proofs.KnownBytes.{Consumes-trans, Consumes-nil, Appends-trans, A
 use Rattle.std.proofs.lemmas.Grind.{flat_map-append}
 use Rattle.std.proofs.lemmas.List.Sums.{sum_by-append}
 use Rattle.capnp_model.specs.Segments.{Segments}
-use Rattle.capnp_model.specs.Bytes.{bytes_of_words}
-use Rattle.capnp_model.specs.Messages.{plain_words, frame_at}
+use Rattle.capnp_model.specs.Messages.{Reader, Writer, message_at}
 use Rattle.capnp_model.specs.Answers.{Answer, refused_value, refused_root, refused_depth, written}
 use Rattle.capnp_model.specs.Runs.{BeginWith, AnswerEach, output_of, outputs_of, line_of, lines_of}
-use Rattle.capnp_model.proofs.MessagePrefixes.{framed_at_more}
+use Rattle.capnp_stream.specs.Pieces.{ReadsFronts}
+use Rattle.capnp_stream.proofs.PieceLemmas.{message_more}
 use Rattle.capnp_stream.specs.Streams.{RoomFalls}
 use Rattle.capnp_relay.specs.declared.ends.Counts.{Counts}
 use Rattle.capnp_relay.specs.Answers.{written_one, refused_one}
@@ -18,16 +18,16 @@ use Rattle.capnp_relay.specs.Stops.{AnswersOne}
 use Rattle.capnp_relay.specs.Run.{Answered}
 
 -- bytes that follow are left
-pub BeginWith-more : (limit : Option ℕ) (bytes : List ℕ) (messages : List Segments) (rest more : List ℕ) → BeginWith plain_words limit bytes messages rest → BeginWith plain_words limit (bytes ++ more) messages (rest ++ more)
-BeginWith-more limit bytes [] rest more begins = ap (λ l. l ++ more) begins
-BeginWith-more limit bytes (s ∷ messages) rest more begins =
-    (begins.0 ++ more, framed_at_more limit bytes (s, begins.0) more begins.1, BeginWith-more limit begins.0 messages rest more begins.2)
+pub BeginWith-more : (read : Reader) → ReadsFronts read → (limit : Option ℕ) (bytes : List ℕ) (messages : List Segments) (rest more : List ℕ) → BeginWith read limit bytes messages rest → BeginWith read limit (bytes ++ more) messages (rest ++ more)
+BeginWith-more read fronts limit bytes [] rest more begins = ap (λ l. l ++ more) begins
+BeginWith-more read fronts limit bytes (s ∷ messages) rest more begins =
+    (begins.0 ++ more, message_more read fronts limit more bytes (s, begins.0) begins.1, BeginWith-more read fronts limit begins.0 messages rest more begins.2)
 
 -- one more message behind those
-pub BeginWith-next : (limit : Option ℕ) (bytes : List ℕ) (messages : List Segments) (text rest : List ℕ) (s : Segments) → BeginWith plain_words limit bytes messages text
-    → frame_at limit text ≡ Ok (s, rest) → BeginWith plain_words limit bytes (messages ++ s ∷ []) rest
-BeginWith-next limit bytes [] text rest s begins found = (rest, ap (frame_at limit) begins ∙ found, refl)
-BeginWith-next limit bytes (first ∷ messages) text rest s begins found = (begins.0, begins.1, BeginWith-next limit begins.0 messages text rest s begins.2 found)
+pub BeginWith-next : (read : Reader) (limit : Option ℕ) (bytes : List ℕ) (messages : List Segments) (text rest : List ℕ) (s : Segments) → BeginWith read limit bytes messages text
+    → message_at read limit text ≡ Ok (s, rest) → BeginWith read limit bytes (messages ++ s ∷ []) rest
+BeginWith-next read limit bytes [] text rest s begins found = (rest, ap (message_at read limit) begins ∙ found, refl)
+BeginWith-next read limit bytes (first ∷ messages) text rest s begins found = (begins.0, begins.1, BeginWith-next read limit begins.0 messages text rest s begins.2 found)
 
 pub AnswerEach-more : (is_answer : Segments → Answer → Type 0) (messages : List Segments) (answers : List Answer) (s : Segments) (a : Answer)
     → AnswerEach is_answer messages answers → is_answer s a → AnswerEach is_answer (messages ++ s ∷ []) (answers ++ a ∷ [])
@@ -36,9 +36,9 @@ AnswerEach-more is_answer [] (b ∷ answers) s a all one = absurd all
 AnswerEach-more is_answer (m ∷ messages) [] s a all one = absurd all
 AnswerEach-more is_answer (m ∷ messages) (b ∷ answers) s a all one = (all.0, AnswerEach-more is_answer messages answers s a all.1 one)
 
-outputs_of-more : (answers : List Answer) (a : Answer) → outputs_of bytes_of_words (answers ++ a ∷ []) ≡ outputs_of bytes_of_words answers ++ output_of bytes_of_words a
-outputs_of-more answers a =
-    flat_map-append (output_of bytes_of_words) answers (a ∷ []) ∙ ap (λ l. outputs_of bytes_of_words answers ++ l) (append-nil (output_of bytes_of_words a))
+outputs_of-more : (write : Writer) (answers : List Answer) (a : Answer) → outputs_of write (answers ++ a ∷ []) ≡ outputs_of write answers ++ output_of write a
+outputs_of-more write answers a =
+    flat_map-append (output_of write) answers (a ∷ []) ∙ ap (λ l. outputs_of write answers ++ l) (append-nil (output_of write a))
 
 lines_of-more : (n : ℕ) (answers : List Answer) (a : Answer) → lines_of n (answers ++ a ∷ []) ≡ lines_of n answers ++ line_of (length answers + n) a
 lines_of-more n [] a = append-nil (line_of n a) ∙ ap (λ k. line_of k a) {y = 0 + n} (omega arith)
@@ -69,9 +69,9 @@ SinkTakes-trans a b c bs cs p q = record {
   failures = q.failures ∙ p.failures;
 }
 
-module _ (limit : Option ℕ) (is_answer : Segments → Answer → Type 0) where
+module _ (read : Reader) (fronts : ReadsFronts read) (write : Writer) (limit : Option ℕ) (is_answer : Segments → Answer → Type 0) where
   -- no message is answered yet
-  pub Answered-nil : (old : Seen) (counts : Counts) → counts.written ≡ 0 → counts.refused ≡ 0 → Answered limit is_answer [] [] old old counts
+  pub Answered-nil : (old : Seen) (counts : Counts) → counts.written ≡ 0 → counts.refused ≡ 0 → Answered read write limit is_answer [] [] old old counts
   Answered-nil old counts frames refusals = record {
     taken = [];
     begins = refl;
@@ -86,18 +86,18 @@ module _ (limit : Option ℕ) (is_answer : Segments → Answer → Type 0) where
 
   -- one more
   pub Answered-more : (messages : List Segments) (answers : List Answer) (old mid new : Seen) (before after : Counts) (n : ℕ) → length answers + 1 ≡ n
-      → Answered limit is_answer messages answers old mid before → (one : AnswersOne limit is_answer n mid new before after)
-      → Answered limit is_answer (messages ++ one.0 ∷ []) (answers ++ one.1 ∷ []) old new after
+      → Answered read write limit is_answer messages answers old mid before → (one : AnswersOne read write limit is_answer n mid new before after)
+      → Answered read write limit is_answer (messages ++ one.0 ∷ []) (answers ++ one.1 ∷ []) old new after
   Answered-more messages answers old mid new before after n number run one =
       let s = one.0 in
       let a = one.1 in
       let text = one.2.0 in
       let line : SinkTakes mid.log new.log (line_of (length answers + 1) a) = (let P : ℕ → Type 0 = λ k. SinkTakes mid.log new.log (line_of k a) in subst P (sym number) one.5) in record {
         taken = run.taken ++ text;
-        begins = BeginWith-next limit (run.taken ++ text) messages text [] s (BeginWith-more limit run.taken messages [] text run.begins) one.2.1;
+        begins = BeginWith-next read limit (run.taken ++ text) messages text [] s (BeginWith-more read fronts limit run.taken messages [] text run.begins) one.2.1;
         consumed = Consumes-trans _ _ _ _ _ run.consumed one.2.2;
         answered = AnswerEach-more is_answer messages answers s a run.answered one.3;
-        out = subst (SinkTakes old.out new.out) (sym (outputs_of-more answers a)) (SinkTakes-trans old.out mid.out new.out _ _ run.out one.4);
+        out = subst (SinkTakes old.out new.out) (sym (outputs_of-more write answers a)) (SinkTakes-trans old.out mid.out new.out _ _ run.out one.4);
         log = subst (SinkTakes old.log new.log) (sym (lines_of-more 1 answers a)) (SinkTakes-trans old.log mid.log new.log _ _ run.log line);
         written = let more = sum_by-append written_one answers (a ∷ []) in omega (arith, more, run.written, one.6.written);
         refused = let more = sum_by-append refused_one answers (a ∷ []) in omega (arith, more, run.refused, one.6.refused);

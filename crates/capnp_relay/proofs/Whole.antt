@@ -6,7 +6,8 @@ use Rattle.std.proofs.KnownBytes.{Appends-kept}
 use Rattle.capnp_units.specs.Errors.{kind_of}
 use Rattle.capnp_units.specs.declared.kinds.ErrorKind.{ErrorKind}
 use Rattle.capnp_model.specs.Segments.{Segments}
-use Rattle.capnp_model.specs.Messages.{plain_words}
+use Rattle.capnp_model.specs.Messages.{Reader, Writer}
+use Rattle.capnp_stream.specs.Pieces.{ReadsFronts}
 use Rattle.capnp_model.specs.Answers.{Answer}
 use Rattle.capnp_model.specs.Runs.{BeginWith, finished, broken}
 use Rattle.capnp_stream.specs.Frames.{IsFrameFault}
@@ -26,13 +27,13 @@ rest_of None b bs taken = tt
 rest_of (Some x) None bs taken = absurd taken
 rest_of (Some x) (Some y) bs taken = (y, refl, taken)
 
-begins_whole : (limit : Option ℕ) (bytes taken rest : List ℕ) (messages : List Segments) → bytes ≡ taken ++ rest → BeginWith plain_words limit taken messages [] → BeginWith plain_words limit bytes messages rest
-begins_whole limit bytes taken rest messages split begins =
-    let P : List ℕ → Type 0 = λ l. BeginWith plain_words limit l messages rest in
-    subst P (sym split) (BeginWith-more limit taken messages [] rest begins)
+begins_whole : (read : Reader) → ReadsFronts read → (limit : Option ℕ) (bytes taken rest : List ℕ) (messages : List Segments) → bytes ≡ taken ++ rest → BeginWith read limit taken messages [] → BeginWith read limit bytes messages rest
+begins_whole read fronts limit bytes taken rest messages split begins =
+    let P : List ℕ → Type 0 = λ l. BeginWith read limit l messages rest in
+    subst P (sym split) (BeginWith-more read fronts limit taken messages [] rest begins)
 
-module _ (limit : Option ℕ) (is_answer : Segments → Answer → Type 0) (old new : Seen) (counts : Counts) where
-  pub GoesTo-of_all : RunsOut limit is_answer old new counts → IfSome old.source.remaining (GoesTo limit is_answer old new finished)
+module _ (read : Reader) (fronts : ReadsFronts read) (write : Writer) (limit : Option ℕ) (is_answer : Segments → Answer → Type 0) (old new : Seen) (counts : Counts) where
+  pub GoesTo-of_all : RunsOut read write limit is_answer old new counts → IfSome old.source.remaining (GoesTo read write limit is_answer old new finished)
   GoesTo-of_all all =
       let last = all.2 in
       let run = all.3 in
@@ -43,7 +44,7 @@ module _ (limit : Option ℕ) (is_answer : Segments → Answer → Type 0) (old 
           messages = all.0;
           answers = all.1;
           rest = known.0;
-          begins = begins_whole limit bytes run.taken known.0 all.0 known.2 run.begins;
+          begins = begins_whole read fronts limit bytes run.taken known.0 all.0 known.2 run.begins;
           answered = run.answered;
           writes = refl;
           logs = refl;
@@ -54,8 +55,8 @@ module _ (limit : Option ℕ) (is_answer : Segments → Answer → Type 0) (old 
       )) (rest_of old.source.remaining last.source.remaining run.taken run.consumed)
 
   module _ (passes_size : Segments → Type 0) (out_grows log_grows : Type 0) where
-    pub GoesTo-of_framing : (kind : ErrorKind) → RunStops limit is_answer passes_size out_grows log_grows (faults.Framing kind) old new counts
-        → IfSome old.source.remaining (GoesTo limit is_answer old new (broken (kind_of kind)))
+    pub GoesTo-of_framing : (kind : ErrorKind) → RunStops read write limit is_answer passes_size out_grows log_grows (faults.Framing kind) old new counts
+        → IfSome old.source.remaining (GoesTo read write limit is_answer old new (broken (kind_of kind)))
     GoesTo-of_framing kind stops =
         let last = stops.2 in
         let run = stops.4 in
@@ -68,17 +69,17 @@ module _ (limit : Option ℕ) (is_answer : Segments → Answer → Type 0) (old 
             messages = stops.0;
             answers = stops.1;
             rest = known.0;
-            begins = begins_whole limit bytes run.taken known.0 stops.0 known.2 run.begins;
+            begins = begins_whole read fronts limit bytes run.taken known.0 stops.0 known.2 run.begins;
             answered = run.answered;
             writes = refl;
             logs = refl;
-            ends = let P : Option (List ℕ) → Type 0 = λ o. IfSome o (λ xs. (xs ≡ [] → ⊥) × IsFrameFault limit xs kind) in subst P known.1 refused;
+            ends = let P : Option (List ℕ) → Type 0 = λ o. IfSome o (λ xs. (xs ≡ [] → ⊥) × IsFrameFault read limit xs kind) in subst P known.1 refused;
           },
           Appends-kept _ _ _ _ run.out.appends stop.1.0,
           Appends-kept _ _ _ _ run.log.appends stop.2.0,
         )) (rest_of old.source.remaining last.source.remaining run.taken run.consumed)
 
-    pub GoesTo-of_fault : (f : Fault) → RunStops limit is_answer passes_size out_grows log_grows f old new counts
-        → IfFraming f (λ kind. IfSome old.source.remaining (GoesTo limit is_answer old new (broken (kind_of kind))))
+    pub GoesTo-of_fault : (f : Fault) → RunStops read write limit is_answer passes_size out_grows log_grows f old new counts
+        → IfFraming f (λ kind. IfSome old.source.remaining (GoesTo read write limit is_answer old new (broken (kind_of kind))))
     GoesTo-of_fault (faults.Framing kind) stops = GoesTo-of_framing kind stops
     GoesTo-of_fault _ stops = tt

@@ -1,8 +1,5 @@
 -- Words and the bytes that are written of them.
-use Rattle.std.proofs.Common.{◌≡◌, ℕ, suc, ◌+◌, ◌*◌, ◌/◌, ◌%◌, ◌^◌, ◌<◌, List, [], ◌∷◌, length, get_or, sym, ap, ◌∙◌, arith, append-nil, length-append}
-use Rattle.std.specs.Int.{to_le_bytes, w64}
-use Rattle.capnp_model.specs.Messages.{frame}
-use Rattle.capnp_stream.proofs.WordLemmas.{AreBytes, frame-bytes}
+use Rattle.std.proofs.Common.{◌≡◌, ℕ, suc, ◌*◌, ◌/◌, ◌^◌, ◌<◌, List, [], ◌∷◌, length, get_or, sym, ap, ◌∙◌, arith, append-nil}
 use Rattle.capnp_model.specs.Bytes.{bytes_of_words, words_in_bytes}
 use Rattle.capnp_model.specs.Spelling.{AreWords}
 use Rattle.capnp_model.proofs.ByteWords.{words_back, bytes_length}
@@ -19,6 +16,3 @@ words-of_bytes ws bytes small same =
     let count : length bytes / 8 ≡ length ws = omega arith in
     let back : words_in_bytes (length ws) (bytes_of_words ws) ≡ ws = ap (words_in_bytes (length ws)) (sym (append-nil (bytes_of_words ws))) ∙ words_back ws [] small in
     (ap (λ n. words_in_bytes n bytes) count ∙ ap (words_in_bytes (length ws)) same ∙ back, long)
-
-pub frame-length : (bytes : List ℕ) → length bytes % 8 ≡ 0 → AreBytes bytes → length (frame (whole_words bytes ∷ [])) ≡ 8 + length bytes
-frame-length bytes whole small = ap length (frame-bytes bytes whole small) ∙ length-append (to_le_bytes w64 (length bytes / 8 * 2 ^ 32)) bytes

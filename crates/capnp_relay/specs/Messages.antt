@@ -41,13 +41,9 @@ IsLongAfter root calls t = EndsRun calls kind.SizeOverflow ⊎ (2 ^ 29 ≤ lengt
 abbrev pub IsLongAt : StructSchema → List Call → Option Tree → Type 0
 IsLongAt root calls value = (t : Tree) × (value ≡ Some t) × IsLongAfter root calls (opened_root (schema_around root) (id_of root) t)
 
--- There are too many segments, or one is longer than offsets reach.
-abbrev pub AreLong : Segments → Type 0
-AreLong s = (2 ^ 32 ≤ length s) ⊎ Any (λ ws. 2 ^ 29 < length ws) s
-
 -- A size would pass its bound on the way to the answer.
 abbrev pub PassesSizeBy : StructSchema → List Call → Bounds → Segments → Type 0
-PassesSizeBy root calls bounds s = AreLong s ⊎ IsLongAt root calls (value_within (limits_view bounds) s)
+PassesSizeBy root calls bounds s = IsLongAt root calls (value_within (limits_view bounds) s)
 
 -- The same of the calls at a root.
 abbrev pub PassesSize : CallsAtRoot → Segments → Type 0

@@ -1,5 +1,8 @@
 -- What a clause reads of the options of a relay.
-use Rattle.std.specs.Prelude.{◌≡◌, ℕ, pos, ◌-◌, ◌^◌, ◌<◌, ◌≤◌, ◌<ℤ◌, Some, None, ⊤}
+use Rattle.std.specs.Prelude.{◌≡◌, ℕ, pos, ◌-◌, ◌^◌, ◌<◌, ◌≤◌, ◌<ℤ◌, Some, None}
+use Rattle.capnp_model.specs.Bytes.{bytes_of_words}
+use Rattle.capnp_model.specs.Packing.{packed, unpacked}
+use Rattle.capnp_model.specs.Messages.{Reader, Writer, plain_words}
 use Rattle.capnp_relay.specs.declared.options.Form.{Form}
 use Rattle.capnp_relay.specs.declared.options.Form.TheVariants as form
 use Rattle.capnp_relay.specs.declared.options.ReaderOptions.{ReaderOptions}
@@ -21,11 +24,12 @@ IsRefusalOf options fault.NoWordLimit = options.traversal_limit_in_words ≡ Non
 IsRefusalOf options fault.WordLimitTooLarge = (n : ℕ) × (options.traversal_limit_in_words ≡ Some n) × (2 ^ 29 - 1 ≤ n)
 IsRefusalOf options fault.NegativeNesting = (n : ℕ) × (options.traversal_limit_in_words ≡ Some n) × (n < 2 ^ 29 - 1) × (options.nesting_limit <ℤ pos 0)
 
--- What holds where the input or the output is packed.
-abbrev pub IfPacked : Form → Form → Type 0 → Type 0
-IfPacked form.Framed form.Framed holds = ⊤
-IfPacked _ _ holds = holds
+-- How words are read in a form.
+abbrev pub reader_of : Form → Reader
+reader_of form.Framed = plain_words
+reader_of form.Packed = unpacked
 
--- Input and output are framed.
-abbrev pub IsFramed : RelayOptions → Type 0
-IsFramed o = (o.input ≡ form.Framed) × (o.output ≡ form.Framed)
+-- How words are written in a form.
+abbrev pub writer_of : Form → Writer
+writer_of form.Framed = bytes_of_words
+writer_of form.Packed = packed

@@ -2,20 +2,18 @@
 ghost use Rattle.std.specs.Prelude.{◌≡◌, ◌^◌, ◌<◌, ◌≤◌, pos, map, length, vec_len, IfOk, IfSome, option_map};
 ghost use Rattle.capnp_units.specs.declared.kinds.ErrorKind.{ErrorKind};
 ghost use Rattle.capnp_model.specs.Fits.{Fits};
-ghost use Rattle.capnp_model.specs.Segments.{Segments};
-ghost use Rattle.capnp_stream.specs.Segments.{whole_words, segments_of};
 ghost use Rattle.capnp_records.specs.Structs.{words_in, pointers_in, shape_of_struct};
 ghost use Rattle.capnp_value.specs.Values.{tree_of_value};
-ghost use Rattle.capnp_value.specs.Places.{segments_view, AreShort};
 ghost use Rattle.capnp_calls.specs.RootViews.{struct_tree};
 ghost use Rattle.capnp_relay.specs.Answers.{answer_view, HasFewWords};
-ghost use Rattle.capnp_relay.specs.Messages.{answer_from, answer_to, IsAnswerOf, IsLongAfter, IsLongAt, AreLong, PassesSize};
+ghost use Rattle.capnp_relay.specs.Messages.{answer_from, answer_to, IsAnswerOf, IsLongAfter, IsLongAt, PassesSize};
 
 use crate::answers::{Answers, MessageAnswer, Reason, Want};
 use capnp_calls::Call;
+use capnp_calls::dynamic_struct::Builder;
 use capnp_calls::open::{close_struct, open_struct};
 use capnp_calls::root::StructValue;
-use capnp_calls::run::run_at;
+use capnp_calls::run::run;
 use capnp_records::structs::StructSchema;
 use capnp_stream::segments::OwnedSegments;
 use capnp_units::errors::Error;
@@ -49,7 +47,7 @@ fn answer_struct(
     ensures few { IfOk result (λ a. HasFewWords (answer_view a)) }
     ensures size { result ≡ Err Want.Size → IsLongAfter schema.entry calls.now (struct_tree root) }
 {
-    let replies = match run_at(alloc, schema, &mut root, calls) {
+    let replies = match run(alloc, Builder::new(schema, &mut root), calls) {
         Ok(replies) => replies,
         Err(e) => return Err(want_of(e)),
     };
@@ -91,48 +89,6 @@ fn answer_value(
     }
 }
 
-/// The words of bytes, the lowest byte of each word first.
-fn words_of(alloc: Global, bytes: &[u8]) -> Result<Vec<u64>, Want>
-    ensures words { IfOk result (λ v. v.items ≡ whole_words bytes.now) }
-    ensures short { IfOk result (λ v. length v.items ≤ 2 ^ 29) }
-    ensures size { result ≡ Err Want.Size → 2 ^ 29 < length (whole_words bytes.now) }
-{
-    if bytes.len() / 8 > 0x2000_0000 {
-        return Err(Want::Size);
-    }
-    let mut words = Vec::new(alloc);
-    let mut left = bytes;
-    while let Some((first, rest)) = left.split_first_chunk::<8>() {
-        let word = u64::from_le_bytes(*first);
-        if let Err(_) = words.push(word) {
-            return Err(Want::Memory);
-        }
-        left = rest;
-    }
-    Ok(words)
-}
-
-/// The words of each segment of a message.
-fn words_of_segments(alloc: Global, message: &OwnedSegments) -> Result<Vec<Vec<u64>>, Want>
-    ensures segments { IfOk result (λ v. segments_view v.items ≡ segments_of message.now) }
-    ensures short { IfOk result (λ v. AreShort v.items) }
-    ensures size { result ≡ Err Want.Size → AreLong (segments_of message.now) }
-{
-    let mut segments = Vec::new(alloc);
-    let mut id = 0;
-    while let Some(bytes) = message.get_segment(id) {
-        let words = words_of(alloc, bytes)?;
-        if let Err(_) = segments.push(words) {
-            return Err(Want::Memory);
-        }
-        if id == u32::MAX {
-            return Err(Want::Size);
-        }
-        id += 1;
-    }
-    Ok(segments)
-}
-
 /// Calls at the roots of messages: the schema of a root, the calls, and how far a message is followed.
 #[derive(Clone, Copy)]
 pub(crate) struct CallsAtRoot<'a> {
@@ -147,8 +103,7 @@ impl<'a> Answers for CallsAtRoot<'a> {
     ghost passes_size = { PassesSize };
 
     fn answer(&self, alloc: Global, message: &OwnedSegments) -> Result<MessageAnswer, Want> {
-        let segments = words_of_segments(alloc, message)?;
-        match read_value(alloc, &segments, self.bounds) {
+        match read_value(alloc, message, self.bounds) {
             Ok(value) => {
                 answer_value(alloc, self.schema, self.calls, self.bounds.nesting, value)
             }

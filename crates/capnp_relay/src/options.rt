@@ -9,7 +9,7 @@ use capnp_value::value::Bounds;
 pub enum Form {
     /// A table of the segments' lengths, and the segments.
     Framed,
-    /// The same, packed. No relay takes it yet.
+    /// The same, packed.
     Packed,
 }
 

@@ -6,23 +6,25 @@ ghost use Rattle.capnp_model.specs.Runs.{finished, broken};
 ghost use Rattle.capnp_relay.specs.Streams.{source_seen, sink_seen, seen};
 ghost use Rattle.capnp_relay.specs.Run.{RunsOut, RunStops, GoesTo, IfFraming};
 ghost use Rattle.capnp_relay.specs.Messages.{IsAnswerBy, PassesSizeBy};
-ghost use Rattle.capnp_relay.specs.Options.{IsFramed, IfPacked};
+ghost use Rattle.capnp_relay.specs.Options.{reader_of, writer_of};
 
 use crate::ends::{Counts, Fault, RelayFault};
 use crate::message::CallsAtRoot;
 use crate::options::{Form, RelayOptions};
 use crate::run::run_messages;
 use capnp_calls::Call;
+use capnp_packing::form::Packed;
 use capnp_records::structs::StructSchema;
+use capnp_stream::forms::Framed;
 use capnp_stream::traits::{BufRead, Read, Write};
 use capnp_units::kinds::ErrorKind;
 use std::alloc::Global;
 
 /// Answers each message of the source, to the end of input or the first bytes that begin with no message.
 ///
-/// A message is read within the options' limits. The calls run at its trimmed root, a null root as the empty struct, and the edited value is written as one canonical frame. A message without a value within the limits, or with a capability, is skipped as `value`, one whose root is a list as `root`, one that the calls nest too deep as `depth`. Either way the log gets one line.
+/// A message is read within the options' limits. The calls run at its trimmed root, a null root as the empty struct, and the edited value is written as one canonical message, in the output form. A message without a value within the limits, or with a capability, is skipped as `value`, one whose root is a list as `root`, one that the calls nest too deep as `depth`. Either way the log gets one line.
 ///
-/// The region has 8 bytes for each word of the word limit and 8 more; at every exit it is all zeros. `Framing`: what is left of the source begins with no message. `Source`, `Out`, `Log`: the device failed, or a slice was too short. `Memory`: a growth was refused. `Size`: a size or the number of a message would pass its bound. What was written before stands. A packed form ends with `Framing(FailedToFillTheWholeBuffer)` before anything is read.
+/// The region has 8 bytes for each word of the word limit and 8 more; at every exit it is all zeros. `Framing`: what is left of the source begins with no message. `Source`, `Out`, `Log`: the device failed, or a slice was too short. `Memory`: a growth was refused. `Size`: a size or the number of a message would pass its bound. What was written before stands.
 pub fn relay<R: BufRead, W: Write, L: Write>(
     alloc: Global,
     source: &mut R,
@@ -35,47 +37,53 @@ pub fn relay<R: BufRead, W: Write, L: Write>(
 ) -> Result<Counts, RelayFault>
     requires { length region.old ≡ 8 * (options.bounds.words + 1) }
     // The whole input, where the source tells it.
-    ensures goes { IsFramed options → OnOk result (IfSome (R.remaining source.old) (GoesTo (Some options.bounds.words) (IsAnswerBy root.entry calls.now options.bounds)
+    ensures goes { OnOk result (IfSome (R.remaining source.old) (GoesTo (reader_of options.input) (writer_of options.output) (Some options.bounds.words) (IsAnswerBy root.entry calls.now options.bounds)
         (seen (source_seen R.remaining R.failures source.old) (sink_seen W.contents W.failures W.room out.old) (sink_seen L.contents L.failures L.room log.old))
         (seen (source_seen R.remaining R.failures source.new) (sink_seen W.contents W.failures W.room out.new) (sink_seen L.contents L.failures L.room log.new))
         finished)) }
-    ensures framing { IsFramed options → IfErr result (λ e. IfFraming e.fault (λ kind. IfSome (R.remaining source.old) (GoesTo (Some options.bounds.words) (IsAnswerBy root.entry calls.now options.bounds)
+    ensures framing { IfErr result (λ e. IfFraming e.fault (λ kind. IfSome (R.remaining source.old) (GoesTo (reader_of options.input) (writer_of options.output) (Some options.bounds.words) (IsAnswerBy root.entry calls.now options.bounds)
         (seen (source_seen R.remaining R.failures source.old) (sink_seen W.contents W.failures W.room out.old) (sink_seen L.contents L.failures L.room log.old))
         (seen (source_seen R.remaining R.failures source.new) (sink_seen W.contents W.failures W.room out.new) (sink_seen L.contents L.failures L.room log.new))
         (broken (kind_of kind))))) }
 
     // What was taken, written, logged and counted.
-    ensures all { IsFramed options → IfOk result (λ counts. RunsOut (Some options.bounds.words) (IsAnswerBy root.entry calls.now options.bounds)
+    ensures all { IfOk result (λ counts. RunsOut (reader_of options.input) (writer_of options.output) (Some options.bounds.words) (IsAnswerBy root.entry calls.now options.bounds)
         (seen (source_seen R.remaining R.failures source.old) (sink_seen W.contents W.failures W.room out.old) (sink_seen L.contents L.failures L.room log.old))
         (seen (source_seen R.remaining R.failures source.new) (sink_seen W.contents W.failures W.room out.new) (sink_seen L.contents L.failures L.room log.new))
         counts) }
-    ensures fault { IsFramed options → IfErr result (λ e. RunStops (Some options.bounds.words) (IsAnswerBy root.entry calls.now options.bounds) (PassesSizeBy root.entry calls.now options.bounds) W.may_grow L.may_grow e.fault
+    ensures fault { IfErr result (λ e. RunStops (reader_of options.input) (writer_of options.output) (Some options.bounds.words) (IsAnswerBy root.entry calls.now options.bounds) (PassesSizeBy root.entry calls.now options.bounds) W.may_grow L.may_grow e.fault
         (seen (source_seen R.remaining R.failures source.old) (sink_seen W.contents W.failures W.room out.old) (sink_seen L.contents L.failures L.room log.old))
         (seen (source_seen R.remaining R.failures source.new) (sink_seen W.contents W.failures W.room out.new) (sink_seen L.contents L.failures L.room log.new))
         e.counts) }
-    // A packed form is refused, and nothing is touched.
-    ensures packed { IfPacked options.input options.output ((result ≡ Err (record { fault = Fault.Framing ErrorKind.FailedToFillTheWholeBuffer; counts = record { written = 0; refused = 0 } }))
-        × (source.new ≡ source.old) × (out.new ≡ out.old) × (log.new ≡ log.old)) }
     ensures zeros { region.new ≡ replicate (length region.old) 0 }
 {
     region.fill(0);
+    let limit = options.bounds.words as usize;
+    let answers = CallsAtRoot {
+        schema: root,
+        calls,
+        bounds: options.bounds,
+    };
     match (options.input, options.output) {
         (Form::Framed, Form::Framed) => {
-            let bounds = options.bounds;
-            let limit = bounds.words as usize;
-            let answers = CallsAtRoot {
-                schema: root,
-                calls,
-                bounds,
-            };
-            run_messages(alloc, source, out, log, &answers, limit)
+            run_messages::<Framed, Framed, R, W, L, CallsAtRoot<'_>>(
+                alloc, source, out, log, &answers, limit,
+            )
         }
-        _ => Err(RelayFault {
-            fault: Fault::Framing(ErrorKind::FailedToFillTheWholeBuffer),
-            counts: Counts {
-                written: 0,
-                refused: 0,
-            },
-        }),
+        (Form::Framed, Form::Packed) => {
+            run_messages::<Framed, Packed, R, W, L, CallsAtRoot<'_>>(
+                alloc, source, out, log, &answers, limit,
+            )
+        }
+        (Form::Packed, Form::Framed) => {
+            run_messages::<Packed, Framed, R, W, L, CallsAtRoot<'_>>(
+                alloc, source, out, log, &answers, limit,
+            )
+        }
+        (Form::Packed, Form::Packed) => {
+            run_messages::<Packed, Packed, R, W, L, CallsAtRoot<'_>>(
+                alloc, source, out, log, &answers, limit,
+            )
+        }
     }
 }

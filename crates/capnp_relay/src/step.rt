@@ -3,8 +3,7 @@ ghost use Rattle.std.specs.Prelude.{◌≡◌, ◌≢◌, true, false, List, ◌
 ghost use Rattle.std.specs.Io.KnownBytes.{IsAtEnd};
 ghost use Rattle.capnp_units.specs.declared.kinds.ErrorKind.{ErrorKind};
 ghost use Rattle.capnp_model.specs.Segments.{Segments};
-ghost use Rattle.capnp_model.specs.Bytes.{bytes_of_words};
-ghost use Rattle.capnp_model.specs.Messages.{frame};
+ghost use Rattle.capnp_model.specs.Messages.{spelled};
 ghost use Rattle.capnp_model.specs.Answers.{Reply as ModelReply, written};
 ghost use Rattle.capnp_model.specs.Runs.{line_of, output_of};
 ghost use Rattle.capnp_stream.specs.Segments.{whole_words, segments_of};
@@ -15,9 +14,11 @@ ghost use Rattle.capnp_relay.specs.Stops.{AnswersOne, Stops, SinkRefused};
 use crate::answers::{Answers, MessageAnswer, Want};
 use crate::ends::{Counts, Fault};
 use crate::logging::log_line;
-use capnp_stream::frames::{try_read_message, write_segment};
+use capnp_stream::forms::MessageForm;
+use capnp_stream::frames::try_read_message_in;
 use capnp_stream::segments::OwnedSegments;
 use capnp_stream::traits::{BufRead, Read, Write};
+use capnp_stream::writing::write_segment_in;
 use capnp_units::errors::Error;
 use capnp_units::kinds::ErrorKind;
 use std::alloc::{AllocError, Global};
@@ -112,8 +113,8 @@ fn sink_fault(e: Error, sink: Fault) -> Fault
     }
 }
 
-/// Writes the frame of a written answer, and counts it.
-fn put_out<W: Write>(
+/// Writes a written answer as one message, and counts it.
+fn put_out<O: MessageForm, W: Write>(
     out: &mut W,
     answer: &MessageAnswer,
     segment: &[u8],
@@ -121,11 +122,11 @@ fn put_out<W: Write>(
 ) -> Result<(), Fault>
     requires holds { HoldsSegment (answer_view answer.now) segment.now }
     requires room { counts.old.written < 2 ^ 64 - 1 }
-    ensures ok { OnOk result (SinkTakes (sink_seen W.contents W.failures W.room out.old) (sink_seen W.contents W.failures W.room out.new) (output_of bytes_of_words (answer_view answer.now))
+    ensures ok { OnOk result (SinkTakes (sink_seen W.contents W.failures W.room out.old) (sink_seen W.contents W.failures W.room out.new) (output_of O.writer (answer_view answer.now))
         × (counts.new.written ≡ counts.old.written + written_one (answer_view answer.now))) }
     ensures refused { counts.new.refused ≡ counts.old.refused }
     ensures err { IfErr result (λ f. (segments : Segments) × (replies : List ModelReply) × (answer_view answer.now ≡ written segments replies)
-        × SinkRefused Fault.Out W.may_grow f (sink_seen W.contents W.failures W.room out.old) (sink_seen W.contents W.failures W.room out.new) (frame segments)
+        × SinkRefused Fault.Out W.may_grow f (sink_seen W.contents W.failures W.room out.old) (sink_seen W.contents W.failures W.room out.new) (spelled O.writer segments)
         × (counts.new ≡ counts.old)) }
 {
     if let MessageAnswer::Written {
@@ -133,7 +134,7 @@ fn put_out<W: Write>(
         replies: _,
     } = answer
     {
-        if let Err(e) = write_segment(out, segment) {
+        if let Err(e) = write_segment_in::<O, W>(out, segment) {
             return Err(sink_fault(e, Fault::Out));
         }
         counts.written += 1;
@@ -165,7 +166,7 @@ fn put_log<L: Write>(
 }
 
 /// Whether a message came; it is answered then.
-pub(crate) fn step<R: BufRead, W: Write, L: Write, A: Answers>(
+pub(crate) fn step<I: MessageForm, O: MessageForm, R: BufRead, W: Write, L: Write, A: Answers>(
     alloc: Global,
     source: &mut R,
     out: &mut W,
@@ -182,22 +183,22 @@ pub(crate) fn step<R: BufRead, W: Write, L: Write, A: Answers>(
         × SinkStays (sink_seen L.contents L.failures L.room log.old) (sink_seen L.contents L.failures L.room log.new)
         × (counts.new ≡ counts.old) }
     ensures one { result ≡ Ok true → (answered < 2 ^ 64 - 1)
-        × AnswersOne (Some limit) (A.is_answer answers.now) (answered + 1)
+        × AnswersOne I.reader O.writer (Some limit) (A.is_answer answers.now) (answered + 1)
         (seen (source_seen R.remaining R.failures source.old) (sink_seen W.contents W.failures W.room out.old) (sink_seen L.contents L.failures L.room log.old))
         (seen (source_seen R.remaining R.failures source.new) (sink_seen W.contents W.failures W.room out.new) (sink_seen L.contents L.failures L.room log.new))
         counts.old counts.new }
-    ensures fault { IfErr result (λ f. Stops (Some limit) (A.is_answer answers.now) (A.passes_size answers.now) W.may_grow L.may_grow (answered + 1) f
+    ensures fault { IfErr result (λ f. Stops I.reader O.writer (Some limit) (A.is_answer answers.now) (A.passes_size answers.now) W.may_grow L.may_grow (answered + 1) f
         (seen (source_seen R.remaining R.failures source.old) (sink_seen W.contents W.failures W.room out.old) (sink_seen L.contents L.failures L.room log.old))
         (seen (source_seen R.remaining R.failures source.new) (sink_seen W.contents W.failures W.room out.new) (sink_seen L.contents L.failures L.room log.new))
         counts.old counts.new) }
 {
-    let message = match try_read_message(alloc, source, Some(limit)) {
+    let message = match try_read_message_in::<I, R>(alloc, source, Some(limit)) {
         Ok(Some(message)) => message,
         Ok(None) => return Ok(false),
         Err(e) => return Err(source_fault(e)),
     };
     let prepared = prepare(alloc, answers, answered, &message)?;
-    put_out(out, &prepared.answer, &prepared.segment, counts)?;
+    put_out::<O, W>(out, &prepared.answer, &prepared.segment, counts)?;
     put_log(log, &prepared.answer, &prepared.line, counts)?;
     Ok(true)
 }

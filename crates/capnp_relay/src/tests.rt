@@ -7,10 +7,12 @@ use crate::ends::{Counts, Fault, RelayFault};
 use crate::logging::log_line;
 use crate::run::run_messages;
 use capnp_calls::reply::Reply;
+use capnp_stream::forms::Framed;
 use capnp_stream::segments::OwnedSegments;
 use capnp_stream::traits::{BufRead, Read, Write};
 use capnp_units::errors::{Error, Result};
 use capnp_units::kinds::ErrorKind;
+use capnp_units::segments::ReaderSegments;
 use std::alloc::Global;
 use std::test::Fail;
 
@@ -193,11 +195,23 @@ const TWO: [u8; 32] = [
     0, 0, 0, 0,
 ];
 
+/// A run in the framed form.
+fn run_framed<R: BufRead, W: Write, L: Write, A: Answers>(
+    alloc: Global,
+    source: &mut R,
+    out: &mut W,
+    log: &mut L,
+    answers: &A,
+    limit: usize,
+) -> std::result::Result<Counts, RelayFault> {
+    run_messages::<Framed, Framed, R, W, L, A>(alloc, source, out, log, answers, limit)
+}
+
 /// Why the run over these bytes ends, and what it counted.
 fn ends(alloc: Global, bytes: &[u8], limit: usize) -> std::result::Result<Counts, RelayFault> {
     let mut out = Vec::new(alloc);
     let mut log = Vec::new(alloc);
-    run_messages(alloc, &mut &*bytes, &mut out, &mut log, &Echo, limit)
+    run_framed(alloc, &mut &*bytes, &mut out, &mut log, &Echo, limit)
 }
 
 fn fault(fault: Fault, written: u64, refused: u64) -> std::result::Result<Counts, RelayFault> {
@@ -213,7 +227,7 @@ fn each_message_is_answered(rt: HostRuntime) -> std::result::Result<(), Fail> {
     let mut out = Vec::new(alloc);
     let mut log = Vec::new(alloc);
     let mut source = TWO.as_slice();
-    let end = run_messages(alloc, &mut source, &mut out, &mut log, &Echo, 1000);
+    let end = run_framed(alloc, &mut source, &mut out, &mut log, &Echo, 1000);
     assert_eq!(rt;
         end,
         Ok(Counts {
@@ -299,7 +313,7 @@ fn a_failed_read_is_no_end(rt: HostRuntime) -> std::result::Result<(), Fail> {
         let mut out = Vec::new(alloc);
         let mut log = Vec::new(alloc);
         let mut source = Drip::new(&TWO, n);
-        let end = run_messages(alloc, &mut source, &mut out, &mut log, &Echo, 1000);
+        let end = run_framed(alloc, &mut source, &mut out, &mut log, &Echo, 1000);
         let (written, refused) = ((n / 32) as u64, (n.min(16) / 16) as u64);
         assert_eq!(rt; end, fault(Fault::Source, written, refused));
         assert_eq!(rt; out.len(), n / 32 * 16);
@@ -314,14 +328,14 @@ fn a_failed_write_ends_a_run(rt: HostRuntime) -> std::result::Result<(), Fail> {
         let mut out = Short::new(alloc, n, false);
         let mut log = Vec::new(alloc);
         let mut source = TWO.as_slice();
-        let end = run_messages(alloc, &mut source, &mut out, &mut log, &Echo, 1000);
+        let end = run_framed(alloc, &mut source, &mut out, &mut log, &Echo, 1000);
         assert_eq!(rt; end, fault(Fault::Out, 0, 1));
         assert_eq!(rt; out.held.as_slice(), &TWO[16..16 + n]);
         assert_eq!(rt; log.as_slice(), b"message 1 refused: value\n".as_slice());
     }
     let mut out = Vec::new(alloc);
     let mut log = Short::new(alloc, 30, false);
-    let end = run_messages(alloc, &mut TWO.as_slice(), &mut out, &mut log, &Echo, 1000);
+    let end = run_framed(alloc, &mut TWO.as_slice(), &mut out, &mut log, &Echo, 1000);
     assert_eq!(rt; end, fault(Fault::Log, 1, 1));
     assert_eq!(rt; out.as_slice(), &TWO[16..]);
     assert_eq!(rt;
@@ -336,10 +350,10 @@ fn other_faults_end_a_run(rt: HostRuntime) -> std::result::Result<(), Fail> {
     let alloc = rt.alloc();
     let mut out = Short::new(alloc, 8, true);
     let mut log = Vec::new(alloc);
-    let end = run_messages(alloc, &mut TWO.as_slice(), &mut out, &mut log, &Echo, 1000);
+    let end = run_framed(alloc, &mut TWO.as_slice(), &mut out, &mut log, &Echo, 1000);
     assert_eq!(rt; end, fault(Fault::Memory, 0, 1));
     let mut room = [0u8; 15];
-    let end = run_messages(
+    let end = run_framed(
         alloc,
         &mut TWO.as_slice(),
         &mut room.as_mut_slice(),
@@ -349,7 +363,7 @@ fn other_faults_end_a_run(rt: HostRuntime) -> std::result::Result<(), Fail> {
     );
     assert_eq!(rt; end, fault(Fault::Out, 0, 1));
     for (want, told) in [(Want::Memory, Fault::Memory), (Want::Size, Fault::Size)] {
-        let end = run_messages(
+        let end = run_framed(
             alloc,
             &mut TWO.as_slice(),
             &mut out,

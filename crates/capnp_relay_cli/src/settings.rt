@@ -1,5 +1,11 @@
 //! The settings that are built in.
-ghost use Rattle.std.specs.Prelude.{pos, Some, IfOk, IsOk};
+ghost use Rattle.std.specs.Prelude.{◌≡◌, pos, ℕ, List, [], ◌∷◌, map, Some, option_map, string_bytes, IfOk, IfErr, IsOk};
+ghost use Rattle.capnp_records.specs.NodeViews.{base_of, field_of, value_of};
+ghost use Rattle.capnp_records.specs.Sets.{nodes_of};
+ghost use Rattle.capnp_calls.specs.CallViews.{call_view};
+ghost use Rattle.capnp_relay.specs.declared.ends.Fault.{Fault};
+ghost use Rattle.capnp_relay_cli.specs.declared.settings.Stop.{Stop};
+ghost use Rattle.capnp_relay_cli.specs.BuiltIn.{slot_at_zero, built_in_node, built_in_call};
 ghost use Rattle.capnp_relay.specs.declared.options.Form.{Form};
 ghost use Rattle.capnp_relay.specs.Options.{IsOf};
 
@@ -38,12 +44,16 @@ pub enum Stop {
 }
 
 impl From<AllocError> for Stop {
+    ghost from_gives = { λ _ stop. stop ≡ Stop.Relay Fault.Memory };
+
     fn from(_e: AllocError) -> Stop {
         Stop::Relay(Fault::Memory)
     }
 }
 
 impl<T: Drop> From<AllocFailed<T>> for Stop {
+    ghost from_gives = { λ _ stop. stop ≡ Stop.Relay Fault.Memory };
+
     fn from(_e: AllocFailed<T>) -> Stop {
         Stop::Relay(Fault::Memory)
     }
@@ -55,7 +65,9 @@ fn slot(
     name: &str,
     base: BaseType,
     default: Option<Value>,
-) -> Result<FieldRecord, AllocError> {
+) -> Result<FieldRecord, AllocError>
+    ensures { IfOk result (λ f. field_of f ≡ slot_at_zero name.now (base_of base) (option_map value_of default)) }
+{
     Ok(FieldRecord {
         name: String::from_str(alloc, name)?,
         discriminant_value: NO_DISCRIMINANT,
@@ -72,7 +84,10 @@ fn slot(
 }
 
 /// The schema: one struct of one data word and one pointer, with the number `a` and the text `t`.
-pub fn schema(alloc: Global) -> Result<SchemaSet, Stop> {
+pub fn schema(alloc: Global) -> Result<SchemaSet, Stop>
+    ensures nodes { IfOk result (λ set. nodes_of set ≡ built_in_node ∷ []) }
+    ensures refused { IfErr result (λ stop. stop ≡ Stop.Relay Fault.Memory) }
+{
     let fields = vec![in alloc;
         slot(alloc, "a", BaseType::UInt16, Some(Value::UInt16(0)))?,
         slot(alloc, "t", BaseType::Text, None)?,
@@ -98,7 +113,10 @@ pub fn schema(alloc: Global) -> Result<SchemaSet, Stop> {
 }
 
 /// The one call: `set a = 7`.
-pub fn calls(alloc: Global) -> Result<Vec<Call>, Stop> {
+pub fn calls(alloc: Global) -> Result<Vec<Call>, Stop>
+    ensures calls { IfOk result (λ calls. map call_view calls.items ≡ built_in_call ∷ []) }
+    ensures refused { IfErr result (λ stop. stop ≡ Stop.Relay Fault.Memory) }
+{
     let path = vec![in alloc; Step::Name(String::from_str(alloc, "a")?)]?;
     match Call::new(path, Verb::Set, Some(CallValue::Number(7))) {
         Ok(call) => Ok(vec![in alloc; call]?),

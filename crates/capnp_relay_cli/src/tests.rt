@@ -53,6 +53,17 @@ fn call(
 }
 
 fn relay_bytes(alloc: Global, input: &[u8], calls: &[Call], nesting: i32) -> Result<Relayed, Stop> {
+    relay_in(alloc, (Form::Framed, Form::Framed), input, calls, nesting)
+}
+
+/// A run from the first form to the second.
+fn relay_in(
+    alloc: Global,
+    forms: (Form, Form),
+    input: &[u8],
+    calls: &[Call],
+    nesting: i32,
+) -> Result<Relayed, Stop> {
     let set = schema(alloc)?;
     let Some(raw) = set.struct_by_id(ROOT) else {
         return Err(Stop::Root);
@@ -61,7 +72,7 @@ fn relay_bytes(alloc: Global, input: &[u8], calls: &[Call], nesting: i32) -> Res
         traversal_limit_in_words: Some(1000),
         nesting_limit: nesting,
     };
-    let Ok(options) = RelayOptions::new(Form::Framed, Form::Framed, limits) else {
+    let Ok(options) = RelayOptions::new(forms.0, forms.1, limits) else {
         return Err(Stop::Options);
     };
     let mut region = vec![in alloc; 0u8; options.region_len()]?;
@@ -291,5 +302,75 @@ fn ends_of_input(rt: HostRuntime) -> Result<(), Fail> {
                 counts: counts(0, 0)
             })
     );
+    Ok(())
+}
+
+/// What is written where `a` is set to 7 in a message whose root is null: as it is, and packed.
+const SEVEN: [u8; 24] = [
+    0, 0, 0, 0, 2, 0, 0, 0, 0, 0, 0, 0, 1, 0, 0, 0, 7, 0, 0, 0, 0, 0, 0, 0,
+];
+
+const SEVEN_PACKED: [u8; 6] = [0x10, 2, 0x10, 1, 1, 7];
+
+#[test]
+fn messages_go_from_form_to_form(rt: HostRuntime) -> Result<(), Fail> {
+    let alloc = rt.alloc();
+    let calls = call(alloc, "a", Verb::Set, Some(CallValue::Number(7)))?;
+    let framed: &[u8] = &[0, 0, 0, 0, 1, 0, 0, 0, 0, 0, 0, 0, 0, 0, 0, 0];
+    let packed: &[u8] = &[0x10, 1, 0, 0];
+    for (from, input) in [(Form::Framed, framed), (Form::Packed, packed)] {
+        let run = relay_in(alloc, (from, Form::Framed), input, &calls, 64)?;
+        assert_eq!(rt; run.ended, Ok(counts(1, 0)));
+        assert_eq!(rt; run.out.as_slice(), SEVEN.as_slice());
+        assert_eq!(rt; run.log.as_slice(), b"message 1 written; done\n".as_slice());
+        let run = relay_in(alloc, (from, Form::Packed), input, &calls, 64)?;
+        assert_eq!(rt; run.ended, Ok(counts(1, 0)));
+        assert_eq!(rt; run.out.as_slice(), SEVEN_PACKED.as_slice());
+    }
+    Ok(())
+}
+
+#[test]
+fn packed_messages_stand_one_behind_the_other(rt: HostRuntime) -> Result<(), Fail> {
+    let alloc = rt.alloc();
+    let none = Vec::new(alloc);
+    // The second one has a zero byte that is marked.
+    let input: &[u8] = &[
+        0x10, 2, 0x10, 1, 1, 7, 0x30, 2, 0, 0x10, 1, 1, 7, 0x10, 2, 0x10, 1, 1, 7,
+    ];
+    let run = relay_in(alloc, (Form::Packed, Form::Packed), input, &none, 64)?;
+    assert_eq!(rt; run.ended, Ok(counts(3, 0)));
+    assert_eq!(rt;
+        run.out.as_slice(),
+        [
+            0x10, 2, 0x10, 1, 1, 7, 0x10, 2, 0x10, 1, 1, 7, 0x10, 2, 0x10, 1, 1, 7
+        ]
+        .as_slice()
+    );
+    Ok(())
+}
+
+#[test]
+fn packed_bytes_that_are_no_message_end_a_run(rt: HostRuntime) -> Result<(), Fail> {
+    let alloc = rt.alloc();
+    let none = Vec::new(alloc);
+    let cut: &[u8] = &[0xf0, 1, 2];
+    let long: &[u8] = &[0, 1];
+    for (input, kind) in [
+        (cut, ErrorKind::PrematureEndOfPackedInput),
+        (
+            long,
+            ErrorKind::PackedInputDidNotEndCleanlyOnASegmentBoundary,
+        ),
+    ] {
+        let run = relay_in(alloc, (Form::Packed, Form::Packed), input, &none, 64)?;
+        assert_eq!(rt;
+            run.ended,
+            Err(RelayFault {
+                fault: Fault::Framing(kind),
+                counts: counts(0, 0)
+            })
+        );
+    }
     Ok(())
 }

@@ -1,246 +1,248 @@
--- From the reads of a message to the message.
-use Rattle.std.proofs.Common.{◌≡◌, ℕ, ◌+◌, ◌*◌, ◌/◌, ◌%◌, ◌^◌, ◌<◌, ◌≤◌, ◌≢◌, ◌↔◌, IsTrue, List, [], ◌∷◌, ◌++◌, Bool, true, false, leb, ltb, None, Some, Ok, Err, Result, IfSome, refl, sym, ap, subst, ◌∙◌, arith, length, take, drop, sum, length-drop, take-append-drop, append-nil, append_assoc}
-use Rattle.std.proofs.Math.Seq.{drop-nil}
+-- From the pieces of a message to the message.
+use Rattle.std.proofs.Common.{◌≡◌, ℕ, ◌+◌, ◌/◌, ◌%◌, ◌^◌, ◌<◌, ◌≤◌, ◌≢◌, ◌↔◌, IsTrue, List, [], ◌∷◌, ◌++◌, Bool, true, false, ltb, None, Some, Ok, Err, Result, IfSome, refl, sym, ap, subst, ◌∙◌, arith, length, take, drop, sum, length-drop, take-append-drop, append-nil, append_assoc}
 use Rattle.std.proofs.lemmas.Bool.{lt-ltb}
-use Rattle.std.specs.Int.{from_le_bytes, w64}
 use Rattle.std.specs.declared.option.Option.{Option}
 use Rattle.std.specs.Io.KnownBytes.{Keeps, Consumes}
-use Rattle.std.proofs.KnownBytes.{Consumes-trans, Consumes-nil, Consumes-kept, Consumes-whole}
+use Rattle.std.proofs.KnownBytes.{Consumes-trans, Consumes-nil, Consumes-kept}
 use Rattle.capnp_units.specs.Errors.{kind_of}
 use Rattle.capnp_units.specs.declared.kinds.ErrorKind.{ErrorKind}
-use Rattle.capnp_units.specs.declared.kinds.ErrorKind.TheVariants.{OutOfMemory, InvalidNumberOfSegments, FailedToFillTheWholeBuffer, MessageTooLarge, Device}
+use Rattle.capnp_units.specs.declared.kinds.ErrorKind.TheVariants.{OutOfMemory, InvalidNumberOfSegments, FailedToFillTheWholeBuffer, PrematureEndOfPackedInput, PackedInputDidNotEndCleanlyOnASegmentBoundary, MessageTooLarge, Device}
 use Rattle.capnp_model.specs.Kinds as kinds
 use Rattle.capnp_model.specs.Kinds.{Kind}
-use Rattle.capnp_model.specs.Chains.{◌and_then◌, guard}
+use Rattle.capnp_model.specs.Chains.{guard}
 use Rattle.capnp_model.specs.Segments.{Segments}
-use Rattle.capnp_model.specs.Bytes.{words_in_bytes, taken}
-use Rattle.capnp_model.specs.Messages.{within, plain_words, halves, cut, behind_lengths, behind_first, message_at, frame_at}
-use Rattle.capnp_model.proofs.Chaining.{ok_is, ok_then, guard_then, bind_ok, cond_ok}
-use Rattle.capnp_model.proofs.ByteWords.{taken_front}
-use Rattle.capnp_model.proofs.MessagePrefixes.{framed_at_more}
+use Rattle.capnp_model.specs.Messages.{Reader, within, halves, cut, behind_lengths, behind_first, message_at}
+use Rattle.capnp_model.proofs.Chaining.{ok_is, ok_then, guard_then, bind_ok}
+use Rattle.capnp_stream.specs.Pieces.{ReadsFronts, TakesPiece, TakesPieceStart}
 use Rattle.capnp_stream.specs.Frames.{IsFrameFault, HasNoMessage, TakesMessage, TakesPart, TakesTable, IsFramingKind, IsCut}
-use Rattle.capnp_stream.proofs.KnownLemmas.{IfSome-of_front, Consumes-of_kept}
-use Rattle.capnp_stream.specs.Segments.{whole_words}
-use Rattle.capnp_stream.proofs.WordLemmas.{whole_words-of_length}
+use Rattle.capnp_stream.proofs.KnownLemmas.{IfSome-of_front, IfSome-of_behind, Consumes-of_kept}
+use Rattle.capnp_stream.proofs.PieceLemmas.{err_then, guard_err, message_more}
 
--- ---- steps that refuse
+-- ---- what a piece says of the message, and what the message says of the piece
 
-err_then : {A B : Type 0} (r : Result A Kind) (f : A → Result B Kind) (k : Kind) → r ≡ Err k → (r and_then f) ≡ Err k
-err_then (Ok x) f k e = absurd cc
-err_then (Err d) f k e = let same : d ≡ k = cc in ap Err same
+module _ (read : Reader) (limit : Option ℕ) where
+  Found : Type 0
+  Found = Result (Segments × List ℕ) Kind
 
-guard_err : {B : Type 0} (b : Bool) (k : Kind) (r : Result B Kind) → b ≡ false → (guard b k and_then λ _. r) ≡ Err k
-guard_err true k r e = absurd cc
-guard_err false k r e = refl
-
--- ---- the parts of a message, whatever follows
-
-taken_short : (n : ℕ) (b : List ℕ) → length b < n → taken n b ≡ Err kinds.FailedToFillTheWholeBuffer
-taken_short n b short = let no : leb n (length b) ≡ false = grind (arith, short) in rw no refl
-
-plain_short : (n : ℕ) (b : List ℕ) → length b < 8 * n → plain_words n b ≡ Err kinds.FailedToFillTheWholeBuffer
-plain_short n b short = err_then (taken (8 * n) b) _ _ (taken_short (8 * n) b short)
-
-plain_front : (n : ℕ) (b more : List ℕ) → length b ≡ 8 * n → plain_words n (b ++ more) ≡ Ok (words_in_bytes n b, more)
-plain_front n b more e = ok_then _ _ _ _ (taken_front (8 * n) b more e) refl
-
-plain_none : (n : ℕ) (r : List ℕ × List ℕ) → plain_words n [] ≡ Ok r → r.1 ≡ []
-plain_none n r e =
-    let t = bind_ok (taken (8 * n) []) _ r e in
-    let c = cond_ok (leb (8 * n) 0) _ _ t.0 t.1 in
-    let last : t.0.1 ≡ r.1 = ap (λ (p : List ℕ × List ℕ). p.1) (ok_is (words_in_bytes n t.0.0, t.0.1) r t.2) in
-    sym last ∙ sym (ap (λ (p : List ℕ × List ℕ). p.1) c.1) ∙ drop-nil (8 * n)
-
-module _ (limit : Option ℕ) where
-  pub message-wants : (b : List ℕ) → length b < 8 → frame_at limit b ≡ Err kinds.FailedToFillTheWholeBuffer
+  message-wants : (b : List ℕ) (k : Kind) → read 1 b ≡ Err k → message_at read limit b ≡ Err k
   unfolding message_at
-  message-wants b short = err_then (plain_words 1 b) _ _ (plain_short 1 b short)
+  message-wants b k e = err_then (read 1 b) _ k e
 
-  pub message-first : (first more : List ℕ) → length first ≡ 8 → frame_at limit (first ++ more) ≡ behind_first plain_words plain_words limit (halves (from_le_bytes w64 first ∷ [])) more
+  message-reads : (b : List ℕ) (r : Segments × List ℕ) → message_at read limit b ≡ Ok r → (x : List ℕ × List ℕ) × (read 1 b ≡ Ok x)
   unfolding message_at
-  message-first first more e = ok_then (plain_words 1 (first ++ more)) _ _ _ (plain_front 1 first more e) refl
+  message-reads b r e = let t = bind_ok (read 1 b) _ r e in (t.0, t.1)
 
-  pub first-refuses : (n : ℕ) (ns more : List ℕ) → 511 ≤ n → behind_first plain_words plain_words limit (n ∷ ns) more ≡ Err kinds.InvalidNumberOfSegments
+  message-first : (words b rest : List ℕ) → read 1 b ≡ Ok (words, rest) → message_at read limit b ≡ behind_first read read limit (halves words) rest
+  unfolding message_at
+  message-first words b rest e = ok_then (read 1 b) _ (words, rest) _ e refl
+
+  first-refuses : (n : ℕ) (ns more : List ℕ) → 511 ≤ n → behind_first read read limit (n ∷ ns) more ≡ Err kinds.InvalidNumberOfSegments
   first-refuses n ns more many = let no : ltb n 511 ≡ false = grind (arith, many) in guard_err _ _ _ no
 
-  pub first-wants : (n : ℕ) (ns b : List ℕ) → n < 511 → length b < 8 * ((n + 1) / 2) → behind_first plain_words plain_words limit (n ∷ ns) b ≡ Err kinds.FailedToFillTheWholeBuffer
-  first-wants n ns b few short = guard_then _ _ _ _ (lt-ltb n 511 few) (err_then (plain_words ((n + 1) / 2) b) _ _ (plain_short _ b short))
+  first-wants : (n : ℕ) (ns b : List ℕ) (k : Kind) → n < 511 → read ((n + 1) / 2) b ≡ Err k → behind_first read read limit (n ∷ ns) b ≡ Err k
+  first-wants n ns b k few e = guard_then _ _ _ _ (lt-ltb n 511 few) (err_then (read ((n + 1) / 2) b) _ k e)
 
-  pub first-others : (n : ℕ) (ns others more : List ℕ) → n < 511 → length others ≡ 8 * ((n + 1) / 2)
-      → behind_first plain_words plain_words limit (n ∷ ns) (others ++ more) ≡ behind_lengths plain_words limit (take (n + 1) (ns ++ halves (words_in_bytes ((n + 1) / 2) others))) more
-  first-others n ns others more few e = guard_then _ _ _ _ (lt-ltb n 511 few) (ok_then (plain_words ((n + 1) / 2) (others ++ more)) _ _ _ (plain_front _ others more e) refl)
+  first-reads : (n : ℕ) (ns b : List ℕ) (r : Segments × List ℕ) → behind_first read read limit (n ∷ ns) b ≡ Ok r → (x : List ℕ × List ℕ) × (read ((n + 1) / 2) b ≡ Ok x)
+  first-reads n ns b r e =
+      let g = bind_ok (guard (ltb n 511) kinds.InvalidNumberOfSegments) _ r e in
+      let t = bind_ok (read ((n + 1) / 2) b) _ r g.2 in
+      (t.0, t.1)
 
-  pub lengths-refuse : (ns more : List ℕ) → within (sum ns) limit ≡ false → behind_lengths plain_words limit ns more ≡ Err kinds.MessageTooLarge
+  first-others : (n : ℕ) (ns b words rest : List ℕ) → n < 511 → read ((n + 1) / 2) b ≡ Ok (words, rest) → behind_first read read limit (n ∷ ns) b ≡ behind_lengths read limit (take (n + 1) (ns ++ halves words)) rest
+  first-others n ns b words rest few e = guard_then _ _ _ _ (lt-ltb n 511 few) (ok_then (read ((n + 1) / 2) b) _ (words, rest) _ e refl)
+
+  lengths-refuse : (ns more : List ℕ) → within (sum ns) limit ≡ false → behind_lengths read limit ns more ≡ Err kinds.MessageTooLarge
   lengths-refuse ns more large = guard_err _ _ _ large
 
-  pub lengths-want : (ns b : List ℕ) → within (sum ns) limit ≡ true → length b < 8 * sum ns → behind_lengths plain_words limit ns b ≡ Err kinds.FailedToFillTheWholeBuffer
-  lengths-want ns b kept short = guard_then _ _ _ _ kept (err_then (plain_words (sum ns) b) _ _ (plain_short _ b short))
+  lengths-want : (ns b : List ℕ) (k : Kind) → within (sum ns) limit ≡ true → read (sum ns) b ≡ Err k → behind_lengths read limit ns b ≡ Err k
+  lengths-want ns b k kept e = guard_then _ _ _ _ kept (err_then (read (sum ns) b) _ k e)
 
-  pub lengths-body : (ns body more : List ℕ) → within (sum ns) limit ≡ true → length body ≡ 8 * sum ns → behind_lengths plain_words limit ns (body ++ more) ≡ Ok (cut ns (words_in_bytes (sum ns) body), more)
-  lengths-body ns body more kept e = guard_then _ _ _ _ kept (ok_then (plain_words (sum ns) (body ++ more)) _ _ _ (plain_front _ body more e) refl)
+  lengths-read : (ns b : List ℕ) (r : Segments × List ℕ) → behind_lengths read limit ns b ≡ Ok r → (x : List ℕ × List ℕ) × (read (sum ns) b ≡ Ok x)
+  lengths-read ns b r e =
+      let g = bind_ok (guard (within (sum ns) limit) kinds.MessageTooLarge) _ r e in
+      let t = bind_ok (read (sum ns) b) _ r g.2 in
+      (t.0, t.1)
+
+  lengths-body : (ns b words rest : List ℕ) → within (sum ns) limit ≡ true → read (sum ns) b ≡ Ok (words, rest) → behind_lengths read limit ns b ≡ Ok (cut ns words, rest)
+  lengths-body ns b words rest kept e = guard_then _ _ _ _ kept (ok_then (read (sum ns) b) _ (words, rest) _ e refl)
 
   -- where nothing follows nothing is left
-  pub lengths-stop : (ns : List ℕ) (r : Segments × List ℕ) → behind_lengths plain_words limit ns [] ≡ Ok r → r.1 ≡ []
-  lengths-stop ns r e =
-      let g = bind_ok (guard (within (sum ns) limit) kinds.MessageTooLarge) _ r e in
-      let t = bind_ok (plain_words (sum ns) []) _ r g.2 in
-      let last : t.0.1 ≡ r.1 = ap (λ (p : Segments × List ℕ). p.1) (ok_is (cut ns t.0.0, t.0.1) r t.2) in
-      sym last ∙ plain_none (sum ns) t.0 t.1
+  module _ (fronts : ReadsFronts read) where
+    lengths-stop : (ns : List ℕ) (r : Segments × List ℕ) → behind_lengths read limit ns [] ≡ Ok r → r.1 ≡ []
+    lengths-stop ns r e =
+        let g = bind_ok (guard (within (sum ns) limit) kinds.MessageTooLarge) _ r e in
+        let t = bind_ok (read (sum ns) []) _ r g.2 in
+        let last : t.0.1 ≡ r.1 = ap (λ (p : Segments × List ℕ). p.1) (ok_is (cut ns t.0.0, t.0.1) r t.2) in
+        sym last ∙ fronts.none_left (sum ns) t.0 t.1
 
-  pub first-stops : (ns : List ℕ) (r : Segments × List ℕ) → behind_first plain_words plain_words limit ns [] ≡ Ok r → r.1 ≡ []
-  first-stops [] r e = absurd cc
-  first-stops (n ∷ ns) r e =
-      let g = bind_ok (guard (ltb n 511) kinds.InvalidNumberOfSegments) _ r e in
-      let t = bind_ok (plain_words ((n + 1) / 2) []) _ r g.2 in
-      let P : List ℕ → Type 0 = λ l. behind_lengths plain_words limit (take (n + 1) (ns ++ halves t.0.0)) l ≡ Ok r in
-      lengths-stop (take (n + 1) (ns ++ halves t.0.0)) r (subst P (plain_none ((n + 1) / 2) t.0 t.1) t.2)
+    first-stops : (ns : List ℕ) (r : Segments × List ℕ) → behind_first read read limit ns [] ≡ Ok r → r.1 ≡ []
+    first-stops [] r e = absurd cc
+    first-stops (n ∷ ns) r e =
+        let g = bind_ok (guard (ltb n 511) kinds.InvalidNumberOfSegments) _ r e in
+        let t = bind_ok (read ((n + 1) / 2) []) _ r g.2 in
+        let P : List ℕ → Type 0 = λ l. behind_lengths read limit (take (n + 1) (ns ++ halves t.0.0)) l ≡ Ok r in
+        lengths-stop (take (n + 1) (ns ++ halves t.0.0)) r (subst P (fronts.none_left ((n + 1) / 2) t.0 t.1) t.2)
+
+    message-stops : (r : Segments × List ℕ) → message_at read limit [] ≡ Ok r → r.1 ≡ []
+    unfolding message_at
+    message-stops r e =
+        let t = bind_ok (read 1 []) _ r e in
+        let P : List ℕ → Type 0 = λ l. behind_first read read limit (halves t.0.0) l ≡ Ok r in
+        first-stops (halves t.0.0) r (subst P (fronts.none_left 1 t.0 t.1) t.2)
 
 -- ---- what was taken
 
--- bytes behind which a message leaves none have no message as a proper beginning
-pub HasNoMessage-of : (limit : Option ℕ) (part : List ℕ) → ((r : Segments × List ℕ) → frame_at limit part ≡ Ok r → r.1 ≡ []) → HasNoMessage limit part
-HasNoMessage-of limit part ends n s below found =
-    let behind = drop n part in
-    let more : frame_at limit (take n part ++ behind) ≡ Ok (s, behind) = framed_at_more limit (take n part) (s, []) behind found in
-    let P : List ℕ → Type 0 = λ l. frame_at limit l ≡ Ok (s, behind) in
-    let none : behind ≡ [] = ends (s, behind) (subst P (take-append-drop n part) more) in
-    absurd (omega (arith, ap length none, length-drop n part))
+module _ (read : Reader) (fronts : ReadsFronts read) (limit : Option ℕ) where
+  -- bytes behind which a message leaves none have no message as a proper beginning
+  pub HasNoMessage-of : (part : List ℕ) → ((r : Segments × List ℕ) → message_at read limit part ≡ Ok r → r.1 ≡ []) → HasNoMessage read limit part
+  HasNoMessage-of part ends n s below found =
+      let behind = drop n part in
+      let more : message_at read limit (take n part ++ behind) ≡ Ok (s, behind) = message_more read fronts limit behind (take n part) (s, []) found in
+      let P : List ℕ → Type 0 = λ l. message_at read limit l ≡ Ok (s, behind) in
+      let none : behind ≡ [] = ends (s, behind) (subst P (take-append-drop n part) more) in
+      absurd (omega (arith, ap length none, length-drop n part))
 
-HasNoMessage-of_fault : (limit : Option ℕ) (part : List ℕ) (k : Kind) → frame_at limit part ≡ Err k → HasNoMessage limit part
-HasNoMessage-of_fault limit part k fault = HasNoMessage-of limit part (λ r e. let no : ◌≡◌ {A = Result (Segments × List ℕ) Kind} (Err k) (Ok r) = sym fault ∙ e in absurd cc)
+  -- a whole message has no message as a proper beginning
+  pub TakesPart-of_message : (a b : Option (List ℕ)) (s : Segments) → TakesMessage read limit a b s → TakesPart read limit a b
+  TakesPart-of_message a b s m =
+      (m.0, HasNoMessage-of m.0 (λ r e. ap (λ (p : Segments × List ℕ). p.1) (sym (ok_is (s, []) r (sym m.1 ∙ e)))), m.2)
 
--- part was taken, and what the bytes then say is said by those behind it
-module _ (limit : Option ℕ) (part : List ℕ) (says : List ℕ → Result (Segments × List ℕ) Kind)
-    (leads : (more : List ℕ) → frame_at limit (part ++ more) ≡ says more)
-    (a b : Option (List ℕ)) (first : Consumes a b part) where
-  pub TakesPart-of_stop : ((r : Segments × List ℕ) → says [] ≡ Ok r → r.1 ≡ []) → TakesPart limit a b
-  TakesPart-of_stop stops =
-      let f : List ℕ → Result (Segments × List ℕ) Kind = frame_at limit in
-      (part, HasNoMessage-of limit part (λ r e. stops r (sym (leads []) ∙ ap f (append-nil part) ∙ e)), first)
+  -- part was taken, and what the bytes then say is said by those behind it
+  module _ (part : List ℕ) (says : List ℕ → Result (Segments × List ℕ) Kind)
+      (leads : (more : List ℕ) → message_at read limit (part ++ more) ≡ says more) (stops : (r : Segments × List ℕ) → says [] ≡ Ok r → r.1 ≡ [])
+      (a b : Option (List ℕ)) (first : Consumes a b part) where
+    part-taken : TakesPart read limit a b
+    part-taken =
+        let f : List ℕ → Result (Segments × List ℕ) Kind = message_at read limit in
+        (part, HasNoMessage-of part (λ r e. stops r (sym (leads []) ∙ ap f (append-nil part) ∙ e)), first)
 
-  pub TakesPart-of_fault : (k : Kind) → ((more : List ℕ) → says more ≡ Err k) → TakesPart limit a b
-  TakesPart-of_fault k fault = TakesPart-of_stop (λ r e. let no : ◌≡◌ {A = Result (Segments × List ℕ) Kind} (Err k) (Ok r) = sym (fault []) ∙ e in absurd cc)
+    fault-said : (k : ErrorKind) → ((more : List ℕ) → says more ≡ Err (kind_of k)) → IfSome a (λ xs. IsFrameFault read limit xs k)
+    fault-said k fault = IfSome-of_front a b part (λ xs. IsFrameFault read limit xs k) first (λ more. leads more ∙ fault more)
 
-  pub fault-of_part : (k : ErrorKind) → ((more : List ℕ) → says more ≡ Err (kind_of k)) → IfSome a (λ xs. IsFrameFault limit xs k)
-  fault-of_part k fault = IfSome-of_front a b part (λ xs. IsFrameFault limit xs k) first (λ more. leads more ∙ fault more)
+    -- no further piece was taken
+    module _ (n : ℕ) (wants : (q : List ℕ) (k : Kind) → read n q ≡ Err k → says q ≡ Err k)
+        (reads : (q : List ℕ) (r : Segments × List ℕ) → says q ≡ Ok r → (x : List ℕ × List ℕ) × (read n q ≡ Ok x)) (c : Option (List ℕ)) where
+      start-taken : TakesPieceStart read n b c → TakesPart read limit a c
+      start-taken p =
+          (part ++ p.0, HasNoMessage-of (part ++ p.0) (λ r e. let x = reads p.0 r (sym (leads p.0) ∙ e) in absurd (p.1 x.0 x.1)), Consumes-trans a b c part p.0 first p.2)
 
-  module _ (n : ℕ) (wants : (q : List ℕ) → length q < n → says q ≡ Err kinds.FailedToFillTheWholeBuffer) (c : Option (List ℕ)) where
-    TakesPart-of_short : (q : List ℕ) → length q < n → Consumes b c q → TakesPart limit a c
-    TakesPart-of_short q short second = (part ++ q, HasNoMessage-of_fault limit (part ++ q) _ (leads q ∙ wants q short), Consumes-trans a b c part q first second)
+      part-of_cut : (k : ErrorKind) → IsCut read n b c k → TakesPart read limit a c
+      part-of_cut OutOfMemory cut = let p = part-taken in (p.0, p.1, Consumes-kept a b c p.0 p.2 cut)
+      part-of_cut Device cut = start-taken cut.1
+      part-of_cut FailedToFillTheWholeBuffer cut = start-taken cut.1
+      part-of_cut PrematureEndOfPackedInput cut = start-taken cut.1
+      part-of_cut PackedInputDidNotEndCleanlyOnASegmentBoundary cut = start-taken cut.1
+      part-of_cut _ cut = absurd cut.0
 
-    pub TakesPart-of_cut : ((r : Segments × List ℕ) → says [] ≡ Ok r → r.1 ≡ []) → (k : ErrorKind) → IsCut k b c n → TakesPart limit a c
-    TakesPart-of_cut stops Device cut = TakesPart-of_short cut.0 cut.1 cut.2
-    TakesPart-of_cut stops FailedToFillTheWholeBuffer cut = TakesPart-of_short cut.0 cut.1 cut.2
-    TakesPart-of_cut stops OutOfMemory cut = let p = TakesPart-of_stop stops in (p.0, p.1, Consumes-kept a b c p.0 p.2 cut)
-    TakesPart-of_cut stops _ cut = absurd cut
+      fault-behind : (k : ErrorKind) → IfSome b (λ xs. read n xs ≡ Err (kind_of k)) → IfSome a (λ xs. IsFrameFault read limit xs k)
+      fault-behind k fault = IfSome-of_behind a b part _ (λ xs. IsFrameFault read limit xs k) first fault (λ more e. leads more ∙ wants more (kind_of k) e)
 
-    pub fault-of_cut : (k : ErrorKind) → IsCut k b c n → IsFramingKind k → IfSome a (λ xs. IsFrameFault limit xs k)
-    fault-of_cut FailedToFillTheWholeBuffer cut framing =
-        Consumes-whole a c (part ++ cut.0) (λ xs. IsFrameFault limit xs FailedToFillTheWholeBuffer) (Consumes-trans a b c part cut.0 first cut.2) cut.3 (leads cut.0 ∙ wants cut.0 cut.1)
-    fault-of_cut Device cut framing = absurd framing
-    fault-of_cut OutOfMemory cut framing = absurd framing
-    fault-of_cut _ cut framing = absurd cut
+      fault-of_cut : (k : ErrorKind) → IsCut read n b c k → IsFramingKind k → IfSome a (λ xs. IsFrameFault read limit xs k)
+      fault-of_cut FailedToFillTheWholeBuffer cut framing = fault-behind FailedToFillTheWholeBuffer cut.0
+      fault-of_cut PrematureEndOfPackedInput cut framing = fault-behind PrematureEndOfPackedInput cut.0
+      fault-of_cut PackedInputDidNotEndCleanlyOnASegmentBoundary cut framing = fault-behind PackedInputDidNotEndCleanlyOnASegmentBoundary cut.0
+      fault-of_cut OutOfMemory cut framing = absurd framing
+      fault-of_cut Device cut framing = absurd framing
+      fault-of_cut _ cut framing = absurd cut.0
 
--- ---- the reads of a message, one after the other
+-- ---- the pieces of a message, one after the other
 
-module _ (limit : Option ℕ) (a c : Option (List ℕ)) (k : ErrorKind) (cut : IsCut k a c 8) where
-  pub start-fault : IsFramingKind k → IfSome a (λ xs. IsFrameFault limit xs k)
-  start-fault framing = fault-of_cut limit [] (frame_at limit) (λ more. refl) a a (Consumes-nil a) 8 (message-wants limit) c k cut framing
+module _ (read : Reader) (fronts : ReadsFronts read) (limit : Option ℕ) where
+  module _ (a c : Option (List ℕ)) (k : ErrorKind) (cut : IsCut read 1 a c k) where
+    pub start-fault : IsFramingKind k → IfSome a (λ xs. IsFrameFault read limit xs k)
+    start-fault framing = fault-of_cut read fronts limit [] (message_at read limit) (λ more. refl) (message-stops read limit fronts) a a (Consumes-nil a) 1 (message-wants read limit) (message-reads read limit) c k cut framing
 
-  pub start-part : TakesPart limit a c
-  start-part =
-      let wants = message-wants limit in
-      TakesPart-of_cut limit [] (frame_at limit) (λ more. refl) a a (Consumes-nil a) 8 wants c
-      (λ r e. let no : ◌≡◌ {A = Result (Segments × List ℕ) Kind} (Err kinds.FailedToFillTheWholeBuffer) (Ok r) = sym (wants [] (omega arith)) ∙ e in absurd cc) k cut
+    pub start-part : TakesPart read limit a c
+    start-part = part-of_cut read fronts limit [] (message_at read limit) (λ more. refl) (message-stops read limit fronts) a a (Consumes-nil a) 1 (message-wants read limit) (message-reads read limit) c k cut
 
--- behind the first word
-module _ (limit : Option ℕ) (first : List ℕ) (word : ℕ) (size : length first ≡ 8) (reads : word ≡ from_le_bytes w64 first)
-    (a b : Option (List ℕ)) (taken : Consumes a b first) where
-  says : List ℕ → Result (Segments × List ℕ) Kind
-  says more = behind_first plain_words plain_words limit (word % 2 ^ 32 ∷ word / 2 ^ 32 ∷ []) more
+  -- behind the first word
+  module _ (word : ℕ) (a b : Option (List ℕ)) (taken : TakesPiece read a b (word ∷ [])) where
+    says : List ℕ → Result (Segments × List ℕ) Kind
+    says more = behind_first read read limit (word % 2 ^ 32 ∷ word / 2 ^ 32 ∷ []) more
 
-  leads : (more : List ℕ) → frame_at limit (first ++ more) ≡ says more
-  unfolding says
-  leads more = message-first limit first more size ∙ ap (λ w. behind_first plain_words plain_words limit (halves (w ∷ [])) more) (sym reads)
-
-  stops : (r : Segments × List ℕ) → says [] ≡ Ok r → r.1 ≡ []
-  unfolding says
-  stops = first-stops limit (word % 2 ^ 32 ∷ word / 2 ^ 32 ∷ [])
-
-  pub many-part : 511 ≤ word % 2 ^ 32 → TakesPart limit a b
-  many-part many = TakesPart-of_stop limit first says leads a b taken stops
-
-  pub many-fault : 511 ≤ word % 2 ^ 32 → IfSome a (λ xs. IsFrameFault limit xs InvalidNumberOfSegments)
-  unfolding says
-  many-fault many = fault-of_part limit first says leads a b taken InvalidNumberOfSegments (λ more. first-refuses limit (word % 2 ^ 32) (word / 2 ^ 32 ∷ []) more many)
-
-  module _ (few : word % 2 ^ 32 < 511) (c : Option (List ℕ)) where
-    wants : (q : List ℕ) → length q < (word % 2 ^ 32 + 1) / 2 * 8 → says q ≡ Err kinds.FailedToFillTheWholeBuffer
+    leads : (more : List ℕ) → message_at read limit (taken.0 ++ more) ≡ says more
     unfolding says
-    wants q short = first-wants limit (word % 2 ^ 32) (word / 2 ^ 32 ∷ []) q few (omega arith)
+    leads more = message-first read limit (word ∷ []) (taken.0 ++ more) more (taken.1 more)
 
-    pub others-fault : (k : ErrorKind) → IsCut k b c ((word % 2 ^ 32 + 1) / 2 * 8) → IsFramingKind k → IfSome a (λ xs. IsFrameFault limit xs k)
-    others-fault k cut framing = fault-of_cut limit first says leads a b taken _ wants c k cut framing
-
-    pub others-part : (k : ErrorKind) → IsCut k b c ((word % 2 ^ 32 + 1) / 2 * 8) → TakesPart limit a c
-    others-part k cut = TakesPart-of_cut limit first says leads a b taken _ wants c stops k cut
-
-    pub table-of_reads : (others : List ℕ) → length others ≡ (word % 2 ^ 32 + 1) / 2 * 8 → Consumes b c others
-        → TakesTable limit a c (take (word % 2 ^ 32 + 1) (word / 2 ^ 32 ∷ halves (whole_words others)))
+    stops : (r : Segments × List ℕ) → says [] ≡ Ok r → r.1 ≡ []
     unfolding says
-    table-of_reads others long second =
-        let n = (word % 2 ^ 32 + 1) / 2 in
-        let wide : length others ≡ 8 * n = omega arith in
-        let same : words_in_bytes n others ≡ whole_words others = sym (whole_words-of_length n others wide) in
-        let f : List ℕ → Result (Segments × List ℕ) Kind = frame_at limit in
-        let table : (more : List ℕ) → f ((first ++ others) ++ more) ≡ behind_lengths plain_words limit (take (word % 2 ^ 32 + 1) (word / 2 ^ 32 ∷ halves (whole_words others))) more =
-        λ more. ap f (append_assoc first others more) ∙ leads (others ++ more) ∙ first-others limit (word % 2 ^ 32) (word / 2 ^ 32 ∷ []) others more few wide
-        ∙ ap (λ ws. behind_lengths plain_words limit (take (word % 2 ^ 32 + 1) (word / 2 ^ 32 ∷ halves ws)) more) same in
-        (first ++ others, Consumes-trans a b c first others taken second, table)
+    stops = first-stops read limit fronts (word % 2 ^ 32 ∷ word / 2 ^ 32 ∷ [])
 
--- behind the table
-module _ (limit : Option ℕ) (ns : List ℕ) (a b : Option (List ℕ)) (table : TakesTable limit a b ns) where
-  pub table-part : TakesPart limit a b
-  table-part = TakesPart-of_stop limit table.0 (behind_lengths plain_words limit ns) table.2 a b table.1 (lengths-stop limit ns)
+    pub many-part : TakesPart read limit a b
+    many-part = part-taken read fronts limit taken.0 says leads stops a b taken.2
 
-  pub large-fault : within (sum ns) limit ≡ false → IfSome a (λ xs. IsFrameFault limit xs MessageTooLarge)
-  large-fault large = fault-of_part limit table.0 (behind_lengths plain_words limit ns) table.2 a b table.1 MessageTooLarge (λ more. lengths-refuse limit ns more large)
+    pub many-fault : 511 ≤ word % 2 ^ 32 → IfSome a (λ xs. IsFrameFault read limit xs InvalidNumberOfSegments)
+    unfolding says
+    many-fault many = fault-said read fronts limit taken.0 says leads stops a b taken.2 InvalidNumberOfSegments (λ more. first-refuses read limit (word % 2 ^ 32) (word / 2 ^ 32 ∷ []) more many)
 
-  module _ (kept : within (sum ns) limit ≡ true) (c : Option (List ℕ)) where
-    pub body-fault : (k : ErrorKind) → IsCut k b c (sum ns * 8) → IsFramingKind k → IfSome a (λ xs. IsFrameFault limit xs k)
-    body-fault k cut framing =
-        fault-of_cut limit table.0 (behind_lengths plain_words limit ns) table.2 a b table.1 (sum ns * 8) (λ q short. lengths-want limit ns q kept (omega arith)) c k cut framing
+    module _ (few : word % 2 ^ 32 < 511) (c : Option (List ℕ)) where
+      wants : (q : List ℕ) (k : Kind) → read ((word % 2 ^ 32 + 1) / 2) q ≡ Err k → says q ≡ Err k
+      unfolding says
+      wants q k e = first-wants read limit (word % 2 ^ 32) (word / 2 ^ 32 ∷ []) q k few e
 
-    pub body-part : (k : ErrorKind) → IsCut k b c (sum ns * 8) → TakesPart limit a c
-    body-part k cut =
-        TakesPart-of_cut limit table.0 (behind_lengths plain_words limit ns) table.2 a b table.1 (sum ns * 8) (λ q short. lengths-want limit ns q kept (omega arith)) c
-        (lengths-stop limit ns) k cut
+      reads : (q : List ℕ) (r : Segments × List ℕ) → says q ≡ Ok r → (x : List ℕ × List ℕ) × (read ((word % 2 ^ 32 + 1) / 2) q ≡ Ok x)
+      unfolding says
+      reads q r e = first-reads read limit (word % 2 ^ 32) (word / 2 ^ 32 ∷ []) q r e
 
-    pub message-of_reads : (body : List ℕ) → length body ≡ sum ns * 8 → Consumes b c body → TakesMessage limit a c (cut ns (words_in_bytes (sum ns) body))
-    message-of_reads body long second =
-        let whole : behind_lengths plain_words limit ns (body ++ []) ≡ Ok (cut ns (words_in_bytes (sum ns) body), []) = lengths-body limit ns body [] kept (omega arith) in
-        let says : List ℕ → Result (Segments × List ℕ) Kind = behind_lengths plain_words limit ns in
-        (table.0 ++ body, table.2 body ∙ ap says (sym (append-nil body)) ∙ whole, Consumes-trans a b c table.0 body table.1 second)
+      pub others-fault : (k : ErrorKind) → IsCut read ((word % 2 ^ 32 + 1) / 2) b c k → IsFramingKind k → IfSome a (λ xs. IsFrameFault read limit xs k)
+      others-fault k cut framing = fault-of_cut read fronts limit taken.0 says leads stops a b taken.2 _ wants reads c k cut framing
 
--- a whole message has no message as a proper beginning
-pub TakesPart-of_message : (limit : Option ℕ) (a b : Option (List ℕ)) (s : Segments) → TakesMessage limit a b s → TakesPart limit a b
-TakesPart-of_message limit a b s m =
-    (m.0, HasNoMessage-of limit m.0 (λ r e. ap (λ (p : Segments × List ℕ). p.1) (sym (ok_is (s, []) r (sym m.1 ∙ e)))), m.2)
+      pub others-part : (k : ErrorKind) → IsCut read ((word % 2 ^ 32 + 1) / 2) b c k → TakesPart read limit a c
+      others-part k cut = part-of_cut read fronts limit taken.0 says leads stops a b taken.2 _ wants reads c k cut
+
+      pub table-of_pieces : (others : List ℕ) → length others ≡ (word % 2 ^ 32 + 1) / 2 → TakesPiece read b c others
+          → TakesTable read limit a c (take (word % 2 ^ 32 + 1) (word / 2 ^ 32 ∷ halves others))
+      unfolding says
+      table-of_pieces others long second =
+          let f : List ℕ → Result (Segments × List ℕ) Kind = message_at read limit in
+          let Reads : ℕ → Type 0 = λ n. (more : List ℕ) → read n (second.0 ++ more) ≡ Ok (others, more) in
+          let piece = subst Reads long second.1 in
+          let table : (more : List ℕ) → f ((taken.0 ++ second.0) ++ more) ≡ behind_lengths read limit (take (word % 2 ^ 32 + 1) (word / 2 ^ 32 ∷ halves others)) more =
+          λ more. ap f (append_assoc taken.0 second.0 more) ∙ leads (second.0 ++ more) ∙ first-others read limit (word % 2 ^ 32) (word / 2 ^ 32 ∷ []) (second.0 ++ more) others more few (piece more) in
+          (taken.0 ++ second.0, Consumes-trans a b c taken.0 second.0 taken.2 second.2, table)
+
+  pub TakesTable-of_lengths : (a b : Option (List ℕ)) (ns ms : List ℕ) → ms ≡ ns → TakesTable read limit a b ns → TakesTable read limit a b ms
+  TakesTable-of_lengths a b ns ms e table = subst (TakesTable read limit a b) (sym e) table
+
+  -- behind the table
+  module _ (ns : List ℕ) (a b : Option (List ℕ)) (table : TakesTable read limit a b ns) where
+    pub table-part : TakesPart read limit a b
+    table-part = part-taken read fronts limit table.0 (behind_lengths read limit ns) table.2 (lengths-stop read limit fronts ns) a b table.1
+
+    pub large-fault : within (sum ns) limit ≡ false → IfSome a (λ xs. IsFrameFault read limit xs MessageTooLarge)
+    large-fault large = fault-said read fronts limit table.0 (behind_lengths read limit ns) table.2 (lengths-stop read limit fronts ns) a b table.1 MessageTooLarge (λ more. lengths-refuse read limit ns more large)
+
+    module _ (kept : within (sum ns) limit ≡ true) (c : Option (List ℕ)) where
+      pub body-fault : (k : ErrorKind) → IsCut read (sum ns) b c k → IsFramingKind k → IfSome a (λ xs. IsFrameFault read limit xs k)
+      body-fault k cut framing =
+          fault-of_cut read fronts limit table.0 (behind_lengths read limit ns) table.2 (lengths-stop read limit fronts ns) a b table.1 (sum ns) (λ q k e. lengths-want read limit ns q k kept e) (lengths-read read limit ns) c k cut framing
+
+      pub body-part : (k : ErrorKind) → IsCut read (sum ns) b c k → TakesPart read limit a c
+      body-part k cut =
+          part-of_cut read fronts limit table.0 (behind_lengths read limit ns) table.2 (lengths-stop read limit fronts ns) a b table.1 (sum ns) (λ q k e. lengths-want read limit ns q k kept e) (lengths-read read limit ns) c k cut
+
+      pub message-of_pieces : (words : List ℕ) → length words ≡ sum ns → TakesPiece read b c words → TakesMessage read limit a c (cut ns words)
+      message-of_pieces words long second =
+          let says : List ℕ → Result (Segments × List ℕ) Kind = behind_lengths read limit ns in
+          let Reads : ℕ → Type 0 = λ n. (more : List ℕ) → read n (second.0 ++ more) ≡ Ok (words, more) in
+          let whole : says (second.0 ++ []) ≡ Ok (cut ns words, []) = lengths-body read limit ns (second.0 ++ []) words [] kept (subst Reads long second.1 []) in
+          (table.0 ++ second.0, table.2 second.0 ∙ ap says (sym (append-nil second.0)) ∙ whole, Consumes-trans a b c table.0 second.0 table.1 second.2)
 
 -- ---- behind a look at the bytes to come
 
-pub TakesPart-of_kept : (limit : Option ℕ) (a b c : Option (List ℕ)) → Keeps a b → TakesPart limit b c → TakesPart limit a c
-TakesPart-of_kept limit a b c kept p = (p.0, p.1, Consumes-of_kept a b c p.0 kept p.2)
+module _ (read : Reader) (limit : Option ℕ) where
+  pub TakesPart-of_kept : (a b c : Option (List ℕ)) → Keeps a b → TakesPart read limit b c → TakesPart read limit a c
+  TakesPart-of_kept a b c kept p = (p.0, p.1, Consumes-of_kept a b c p.0 kept p.2)
 
-pub TakesMessage-of_kept : (limit : Option ℕ) (a b c : Option (List ℕ)) (s : Segments) → Keeps a b → TakesMessage limit b c s → TakesMessage limit a c s
-TakesMessage-of_kept limit a b c s kept m = (m.0, m.1, Consumes-of_kept a b c m.0 kept m.2)
+  pub TakesMessage-of_kept : (a b c : Option (List ℕ)) (s : Segments) → Keeps a b → TakesMessage read limit b c s → TakesMessage read limit a c s
+  TakesMessage-of_kept a b c s kept m = (m.0, m.1, Consumes-of_kept a b c m.0 kept m.2)
 
--- the bytes to come were looked at, and some are left
-pub fault-of_kept : (limit : Option ℕ) (a b : Option (List ℕ)) (k : ErrorKind) (look : Bool) → IfSome a (λ xs. IsTrue look ↔ (xs ≡ [])) → look ≡ false → Keeps a b
-    → IfSome b (λ xs. IsFrameFault limit xs k) → IfSome a (λ xs. (xs ≢ []) × IsFrameFault limit xs k)
-fault-of_kept limit None b k look at unseen kept fault = tt
-fault-of_kept limit (Some x) None k look at unseen kept fault = absurd kept
-fault-of_kept limit (Some x) (Some y) k look at unseen kept fault =
-    let same : y ≡ x = kept in
-    let some : x ≢ [] = λ e. let yes : look ≡ true = at.1 e in absurd cc in
-    (some, subst (λ xs. IsFrameFault limit xs k) same fault)
+  -- the bytes to come were looked at, and some are left
+  pub fault-of_kept : (a b : Option (List ℕ)) (k : ErrorKind) (look : Bool) → IfSome a (λ xs. IsTrue look ↔ (xs ≡ [])) → look ≡ false → Keeps a b
+      → IfSome b (λ xs. IsFrameFault read limit xs k) → IfSome a (λ xs. (xs ≢ []) × IsFrameFault read limit xs k)
+  fault-of_kept None b k look at unseen kept fault = tt
+  fault-of_kept (Some x) None k look at unseen kept fault = absurd kept
+  fault-of_kept (Some x) (Some y) k look at unseen kept fault =
+      let same : y ≡ x = kept in
+      let some : x ≢ [] = λ e. let yes : look ≡ true = at.1 e in absurd cc in
+      (some, subst (λ xs. IsFrameFault read limit xs k) same fault)

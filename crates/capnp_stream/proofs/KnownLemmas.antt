@@ -81,3 +81,9 @@ pub IfSome-of_kept : (a b : Option (List ℕ)) (P : List ℕ → Type 0) → Kee
 IfSome-of_kept None b P kept holds = tt
 IfSome-of_kept (Some x) None P kept holds = absurd kept
 IfSome-of_kept (Some x) (Some y) P kept holds = subst P kept holds
+
+-- what is known of the bytes behind a front is known of all
+pub IfSome-of_behind : (a b : Option (List ℕ)) (front : List ℕ) (P Q : List ℕ → Type 0) → Consumes a b front → IfSome b P → ((more : List ℕ) → P more → Q (front ++ more)) → IfSome a Q
+IfSome-of_behind None b front P Q taken holds leads = tt
+IfSome-of_behind (Some x) None front P Q taken holds leads = absurd taken
+IfSome-of_behind (Some x) (Some y) front P Q taken holds leads = subst Q (sym taken) (leads y holds)

@@ -1,16 +1,17 @@
 -- Words in bytes, and the segments that they are cut into.
-use Rattle.std.proofs.Common.{◌≡◌, ℕ, zero, suc, ◌+◌, ◌-◌, ◌*◌, ◌/◌, ◌%◌, ◌^◌, ◌≤◌, ◌<◌, append_assoc, append-nil, get_or, List, [], ◌∷◌, ◌++◌, length, take, drop, map, sum, refl, sym, ap, ◌∙◌, arith, length-drop, length-take-le, take-append-drop}
+use Rattle.std.proofs.Common.{◌≡◌, ℕ, zero, suc, ◌+◌, ◌-◌, ◌*◌, ◌/◌, ◌%◌, ◌^◌, ◌≤◌, append_assoc, append-nil, List, [], ◌∷◌, ◌++◌, length, take, drop, map, sum, refl, sym, ap, ◌∙◌, arith, length-drop, length-take-le, take-append-drop}
 use Rattle.std.specs.Prelude.{All}
 use Rattle.std.specs.List.{slice_range}
 use Rattle.std.specs.Int.{from_le_bytes, to_le_bytes, w64}
 use Rattle.std.proofs.lemmas.Nat.{le_bytes_8}
-use Rattle.std.proofs.lemmas.List.{drop-take, drop-drop, get_or-drop, nil_from_length}
+use Rattle.std.proofs.lemmas.List.{drop-take, drop-drop, get_or-drop, nil_from_length, map-append, length-append}
 use Rattle.std.proofs.lemmas.List.Elements.{All-cons, All-nil}
 use Rattle.std.proofs.lemmas.List.Sums.{sum_by-cons}
 use Rattle.capnp_model.specs.Bytes.{words_in_bytes, bytes_of_words}
 use Rattle.capnp_model.specs.Messages.{frame, cut, halves}
-use Rattle.capnp_stream.specs.declared.segments.Bounds.{Bounds}
-use Rattle.capnp_stream.specs.Segments.{whole_words, bounds_from}
+pub use Rattle.capnp_stream.specs.Ranges.{AreBytes}
+use Rattle.capnp_units.specs.Segments.{whole_words, words_in}
+use Rattle.capnp_stream.specs.Ranges.{ranges_from, range_lengths, bytes_at}
 
 -- what follows eight bytes changes nothing of their word
 from_le_bytes-front : (a b : List ℕ) → 8 ≤ length a → from_le_bytes w64 (a ++ b) ≡ from_le_bytes w64 a
@@ -53,33 +54,65 @@ pub sum-cons : (n : ℕ) (ns : List ℕ) → sum (n ∷ ns) ≡ n + sum ns
 sum-cons n ns = sum_by-cons (λ k. k) n ns
 
 -- segments that lie one after the other are those that the words are cut into
-pub segments-of_bounds : (bytes : List ℕ) (at : ℕ) (ns : List ℕ) → at + 8 * sum ns ≤ length bytes
-    → map whole_words (map (λ (b : Bounds). slice_range bytes b.start b.end) (bounds_from at ns)) ≡ cut ns (words_in_bytes (sum ns) (drop at bytes))
-segments-of_bounds bytes at [] fits = refl
-segments-of_bounds bytes at (n ∷ ns) fits =
+pub segments-of_ranges : (bytes : List ℕ) (at : ℕ) (ns : List ℕ) → 8 * (at + sum ns) ≤ length bytes
+    → words_in (bytes_at bytes (ranges_from at ns)) ≡ cut ns (words_in_bytes (sum ns) (drop (8 * at) bytes))
+segments-of_ranges bytes at [] fits = refl
+segments-of_ranges bytes at (n ∷ ns) fits =
     let total = sum-cons n ns in
-    let rest = drop at bytes in
-    let long : 8 * (n + sum ns) ≤ length rest = omega (arith, length-drop at bytes) in
-    let width : at + 8 * n - at ≡ 8 * n = omega arith in
+    let rest = drop (8 * at) bytes in
+    let long : 8 * (n + sum ns) ≤ length rest = omega (arith, length-drop (8 * at) bytes) in
+    let width : 8 * (at + n) - 8 * at ≡ 8 * n = omega arith in
     let size : length (take (8 * n) rest) ≡ 8 * n = length-take-le (8 * n) rest (omega arith) in
-    let one : whole_words (slice_range bytes at (at + 8 * n)) ≡ take n (words_in_bytes (n + sum ns) rest) =
+    let one : whole_words (slice_range bytes (8 * at) (8 * (at + n))) ≡ take n (words_in_bytes (n + sum ns) rest) =
     ap (λ k. whole_words (take k rest)) width ∙ whole_words-of_length n (take (8 * n) rest) size ∙ sym (words_in_bytes-take n (sum ns) rest long) in
-    let behind : words_in_bytes (sum ns) (drop (at + 8 * n) bytes) ≡ drop n (words_in_bytes (n + sum ns) rest) =
-    ap (words_in_bytes (sum ns)) (sym (drop-drop (8 * n) at bytes)) ∙ sym (words_in_bytes-drop n (sum ns) rest) in
-    let others = segments-of_bounds bytes (at + 8 * n) ns (omega (arith, total)) ∙ ap (cut ns) behind in
+    let next : 8 * (at + n) ≡ 8 * at + 8 * n = omega arith in
+    let behind : words_in_bytes (sum ns) (drop (8 * (at + n)) bytes) ≡ drop n (words_in_bytes (n + sum ns) rest) =
+    ap (λ k. words_in_bytes (sum ns) (drop k bytes)) next ∙ ap (words_in_bytes (sum ns)) (sym (drop-drop (8 * n) (8 * at) bytes)) ∙ sym (words_in_bytes-drop n (sum ns) rest) in
+    let others = segments-of_ranges bytes (at + n) ns (omega (arith, total)) ∙ ap (cut ns) behind in
     rw (total, one, others) refl
 
--- The bounds lie within so many bytes and hold whole words.
-abbrev pub AreWithin : ℕ → Bounds → Type 0
-AreWithin size b = (b.start ≤ b.end) × ((b.end - b.start) % 8 ≡ 0) × (b.end ≤ size)
+pub cut-of_joined : (bytes body : List ℕ) (ranges : List (ℕ × ℕ)) (ns : List ℕ) → bytes ≡ body → ranges ≡ ranges_from 0 ns → 8 * sum ns ≤ length body
+    → words_in (bytes_at bytes ranges) ≡ cut ns (words_in_bytes (sum ns) body)
+cut-of_joined bytes body ranges ns same joined fits =
+    ap (λ b. words_in (bytes_at b ranges)) same ∙ ap (λ r. words_in (bytes_at body r)) joined ∙ segments-of_ranges body 0 ns (omega arith)
 
-pub bounds_from-within : (size at : ℕ) (ns : List ℕ) → at + 8 * sum ns ≤ size → All (AreWithin size) (bounds_from at ns)
-bounds_from-within size at [] fits = All-nil (AreWithin size)
-bounds_from-within size at (n ∷ ns) fits =
+-- The range lies within so many bytes.
+abbrev pub IsWithin : ℕ → ℕ × ℕ → Type 0
+IsWithin size r = (r.0 ≤ r.1) × (8 * r.1 ≤ size)
+
+pub ranges_from-within : (size at : ℕ) (ns : List ℕ) → 8 * (at + sum ns) ≤ size → All (IsWithin size) (ranges_from at ns)
+ranges_from-within size at [] fits = All-nil (IsWithin size)
+ranges_from-within size at (n ∷ ns) fits =
     let total = sum-cons n ns in
-    let first : Bounds = record { start = at; end = at + 8 * n } in
-    let one : AreWithin size first = (omega arith, omega arith, omega (arith, total)) in
-    All-cons (AreWithin size) first (bounds_from (at + 8 * n) ns) one (bounds_from-within size (at + 8 * n) ns (omega (arith, total)))
+    let one : IsWithin size (at, at + n) = (omega arith, omega (arith, total)) in
+    All-cons (IsWithin size) (at, at + n) (ranges_from (at + n) ns) one (ranges_from-within size (at + n) ns (omega (arith, total)))
+
+pub ranges_from-lengths : (at : ℕ) (ns : List ℕ) → range_lengths (ranges_from at ns) ≡ ns
+ranges_from-lengths at [] = refl
+ranges_from-lengths at (n ∷ ns) = let one : at + n - at ≡ n = omega arith in rw (one, ranges_from-lengths (at + n) ns) refl
+
+-- one more segment behind the others
+pub ranges_from-snoc : (at : ℕ) (ns : List ℕ) (n : ℕ) → ranges_from at (ns ++ n ∷ []) ≡ ranges_from at ns ++ (at + sum ns, at + sum ns + n) ∷ []
+ranges_from-snoc at [] n = let same : at + 0 ≡ at = omega arith in rw same refl
+ranges_from-snoc at (m ∷ ns) n =
+    let total : at + m + sum ns ≡ at + sum (m ∷ ns) = omega (arith, sum-cons m ns) in
+    ap (λ l. (at, at + m) ∷ l) (ranges_from-snoc (at + m) ns n ∙ ap (λ k. ranges_from (at + m) ns ++ (k, k + n) ∷ []) total)
+
+pub sum-snoc : (ns : List ℕ) (n : ℕ) → sum (ns ++ n ∷ []) ≡ sum ns + n
+sum-snoc [] n = omega (arith, sum-cons n [])
+sum-snoc (m ∷ ns) n = omega (arith, sum-cons m (ns ++ n ∷ []), sum-cons m ns, sum-snoc ns n)
+
+lengths-push : (rs : List (ℕ × ℕ)) (at n : ℕ) → range_lengths (rs ++ (at, at + n) ∷ []) ≡ range_lengths rs ++ n ∷ []
+lengths-push rs at n = let one : at + n - at ≡ n = omega arith in map-append (λ (r : ℕ × ℕ). r.1 - r.0) rs ((at, at + n) ∷ []) ∙ ap (λ k. range_lengths rs ++ k ∷ []) one
+
+pub joined-push : (rs : List (ℕ × ℕ)) (at n : ℕ) → at ≡ sum (range_lengths rs) → rs ≡ ranges_from 0 (range_lengths rs) → rs ++ (at, at + n) ∷ [] ≡ ranges_from 0 (range_lengths (rs ++ (at, at + n) ∷ []))
+joined-push rs at n total joined =
+    let behind : 0 + sum (range_lengths rs) ≡ at = omega arith in
+    ap (λ l. l ++ (at, at + n) ∷ []) joined ∙ ap (λ k. ranges_from 0 (range_lengths rs) ++ (k, k + n) ∷ []) (sym behind)
+    ∙ sym (ranges_from-snoc 0 (range_lengths rs) n) ∙ ap (ranges_from 0) (sym (lengths-push rs at n))
+
+pub total-push : (rs : List (ℕ × ℕ)) (at n : ℕ) → at ≡ sum (range_lengths rs) → at + n ≡ sum (range_lengths (rs ++ (at, at + n) ∷ []))
+total-push rs at n total = omega (arith, ap sum (lengths-push rs at n), sum-snoc (range_lengths rs) n)
 
 -- eight bytes are a word
 pub whole_words-step : (bytes : List ℕ) → 8 ≤ length bytes → whole_words bytes ≡ from_le_bytes w64 (take 8 bytes) ∷ whole_words (drop 8 bytes)
@@ -101,24 +134,20 @@ lengths-step lengths once twice bytes behind word all long left reads one two be
 
 -- ---- words that were read of bytes, written as bytes
 
--- Numbers that a byte holds.
-abbrev pub AreBytes : List ℕ → Type 0
-AreBytes bytes = (i : ℕ) → get_or bytes i 0 < 256
-
 AreBytes-take : (n : ℕ) (bytes : List ℕ) → AreBytes bytes → AreBytes (take n bytes)
 AreBytes-take zero bytes small i = omega arith
 AreBytes-take (suc n) [] small i = omega arith
 AreBytes-take (suc n) (b ∷ bytes) small zero = small zero
 AreBytes-take (suc n) (b ∷ bytes) small (suc i) = AreBytes-take n bytes (λ j. small (suc j)) i
 
-AreBytes-drop : (n : ℕ) (bytes : List ℕ) → AreBytes bytes → AreBytes (drop n bytes)
+pub AreBytes-drop : (n : ℕ) (bytes : List ℕ) → AreBytes bytes → AreBytes (drop n bytes)
 AreBytes-drop n bytes small i = rw (get_or-drop n bytes i 0) (small (n + i))
 
-words_in_bytes-length : (n : ℕ) (bytes : List ℕ) → length (words_in_bytes n bytes) ≡ n
+pub words_in_bytes-length : (n : ℕ) (bytes : List ℕ) → length (words_in_bytes n bytes) ≡ n
 words_in_bytes-length zero bytes = refl
 words_in_bytes-length (suc n) bytes = let rest = words_in_bytes-length n (drop 8 bytes) in omega arith
 
-bytes_of_words-back : (n : ℕ) (bytes : List ℕ) → length bytes ≡ 8 * n → AreBytes bytes → bytes_of_words (words_in_bytes n bytes) ≡ bytes
+pub bytes_of_words-back : (n : ℕ) (bytes : List ℕ) → length bytes ≡ 8 * n → AreBytes bytes → bytes_of_words (words_in_bytes n bytes) ≡ bytes
 bytes_of_words-back zero bytes long small = sym (nil_from_length bytes (omega arith))
 bytes_of_words-back (suc n) bytes long small =
     let wide : 8 ≤ length bytes = omega arith in
@@ -132,3 +161,14 @@ frame-bytes bytes whole small =
     let words : bytes_of_words (whole_words bytes) ≡ bytes = bytes_of_words-back n bytes (omega arith) small in
     let first : 0 + 2 ^ 32 * length (whole_words bytes) ≡ n * 2 ^ 32 = omega (arith, words_in_bytes-length n bytes) in
     rw (first, words) (ap (λ l. l ++ (bytes ++ [])) (append-nil (to_le_bytes w64 (n * 2 ^ 32))) ∙ ap (λ l. to_le_bytes w64 (n * 2 ^ 32) ++ l) (append-nil bytes))
+
+pub frame-length : (bytes : List ℕ) → length bytes % 8 ≡ 0 → AreBytes bytes → length (frame (whole_words bytes ∷ [])) ≡ 8 + length bytes
+frame-length bytes whole small = ap length (frame-bytes bytes whole small) ∙ length-append (to_le_bytes w64 (length bytes / 8 * 2 ^ 32)) bytes
+
+-- ---- a loop over the words of bytes
+
+pub words-step : (words more : List ℕ) (bytes rest : List ℕ) (word : ℕ) (all : List ℕ) → 8 ≤ length bytes → rest ≡ drop 8 bytes → word ≡ from_le_bytes w64 (take 8 bytes)
+    → more ≡ words ++ word ∷ [] → words ++ whole_words bytes ≡ all → more ++ whole_words rest ≡ all
+words-step words more bytes rest word all long left reads one before =
+    let now : whole_words bytes ≡ word ∷ whole_words rest = whole_words-step bytes long ∙ ap (λ w. w ∷ whole_words (drop 8 bytes)) (sym reads) ∙ ap (λ l. word ∷ whole_words l) (sym left) in
+    ap (λ l. l ++ whole_words rest) one ∙ append_assoc words (word ∷ []) (whole_words rest) ∙ ap (λ l. words ++ l) (sym now) ∙ before

@@ -1,39 +1,41 @@
--- Framed messages on streams. (Encoding, "Serialization Over a Stream")
+-- Messages on streams, in a form that a reader of words gives. (Encoding, "Serialization Over a Stream")
 use Rattle.std.specs.Prelude.{◌≡◌, ℕ, ◌<◌, List, ◌++◌, length, take, ⊤, Err}
 use Rattle.std.specs.declared.option.Option.{Option}
 use Rattle.std.specs.Io.KnownBytes.{Keeps, Consumes}
 use Rattle.capnp_units.specs.Errors.{kind_of}
 use Rattle.capnp_units.specs.declared.kinds.ErrorKind.{ErrorKind}
-use Rattle.capnp_units.specs.declared.kinds.ErrorKind.TheVariants.{OutOfMemory, InvalidNumberOfSegments, FailedToFillTheWholeBuffer, MessageTooLarge, Device}
+use Rattle.capnp_units.specs.declared.kinds.ErrorKind.TheVariants.{OutOfMemory, InvalidNumberOfSegments, FailedToFillTheWholeBuffer, PrematureEndOfPackedInput, PackedInputDidNotEndCleanlyOnASegmentBoundary, MessageTooLarge, Device}
 use Rattle.capnp_model.specs.Segments.{Segments}
-use Rattle.capnp_model.specs.Messages.{plain_words, behind_lengths, frame_at}
-use Rattle.capnp_model.specs.Spelling.{Frames}
-use Rattle.capnp_stream.specs.Streams.{ConsumesFewer, EndsBefore}
+use Rattle.capnp_model.specs.Messages.{Reader, behind_lengths, message_at}
+use Rattle.capnp_model.specs.Spelling.{Spells}
+use Rattle.capnp_stream.specs.Pieces.{TakesPieceStart, IsPieceFault}
 
--- The bytes begin with no framed message within the limit, and this is the kind of the first part that can't be read.
-abbrev pub IsFrameFault : Option ℕ → List ℕ → ErrorKind → Type 0
-IsFrameFault limit bytes kind = frame_at limit bytes ≡ Err (kind_of kind)
+-- The bytes begin with no message within the limit, and this is the kind of the first part that can't be read.
+abbrev pub IsFrameFault : Reader → Option ℕ → List ℕ → ErrorKind → Type 0
+IsFrameFault read limit bytes kind = message_at read limit bytes ≡ Err (kind_of kind)
 
 -- No proper beginning is a message.
-abbrev pub HasNoMessage : Option ℕ → List ℕ → Type 0
-HasNoMessage limit part = (n : ℕ) (s : Segments) → n < length part → Frames limit (take n part) s → ⊥
+abbrev pub HasNoMessage : Reader → Option ℕ → List ℕ → Type 0
+HasNoMessage read limit part = (n : ℕ) (s : Segments) → n < length part → Spells read limit (take n part) s → ⊥
 
 -- One message was taken, whatever follows it.
-abbrev pub TakesMessage : Option ℕ → Option (List ℕ) → Option (List ℕ) → Segments → Type 0
-TakesMessage limit old new s = (text : List ℕ) × Frames limit text s × Consumes old new text
+abbrev pub TakesMessage : Reader → Option ℕ → Option (List ℕ) → Option (List ℕ) → Segments → Type 0
+TakesMessage read limit old new s = (text : List ℕ) × Spells read limit text s × Consumes old new text
 
 -- No more than one message was taken.
-abbrev pub TakesPart : Option ℕ → Option (List ℕ) → Option (List ℕ) → Type 0
-TakesPart limit old new = (part : List ℕ) × HasNoMessage limit part × Consumes old new part
+abbrev pub TakesPart : Reader → Option ℕ → Option (List ℕ) → Option (List ℕ) → Type 0
+TakesPart read limit old new = (part : List ℕ) × HasNoMessage read limit part × Consumes old new part
 
 -- A table with these lengths was taken, and what follows are the segments.
-abbrev pub TakesTable : Option ℕ → Option (List ℕ) → Option (List ℕ) → List ℕ → Type 0
-TakesTable limit old new lengths = (table : List ℕ) × Consumes old new table × ((more : List ℕ) → frame_at limit (table ++ more) ≡ behind_lengths plain_words limit lengths more)
+abbrev pub TakesTable : Reader → Option ℕ → Option (List ℕ) → Option (List ℕ) → List ℕ → Type 0
+TakesTable read limit old new lengths = (table : List ℕ) × Consumes old new table × ((more : List ℕ) → message_at read limit (table ++ more) ≡ behind_lengths read limit lengths more)
 
 -- The kinds of bytes that are no message.
 abbrev pub IsFramingKind : ErrorKind → Type 0
 IsFramingKind InvalidNumberOfSegments = ⊤
 IsFramingKind FailedToFillTheWholeBuffer = ⊤
+IsFramingKind PrematureEndOfPackedInput = ⊤
+IsFramingKind PackedInputDidNotEndCleanlyOnASegmentBoundary = ⊤
 IsFramingKind MessageTooLarge = ⊤
 IsFramingKind _ = ⊥
 
@@ -43,9 +45,7 @@ IsReadKind Device = ⊤
 IsReadKind OutOfMemory = ⊤
 IsReadKind kind = IsFramingKind kind
 
--- Why n bytes were not taken, and what was.
-abbrev pub IsCut : ErrorKind → Option (List ℕ) → Option (List ℕ) → ℕ → Type 0
-IsCut Device old new n = ConsumesFewer old new n
-IsCut FailedToFillTheWholeBuffer old new n = EndsBefore old new n
-IsCut OutOfMemory old new n = Keeps old new
-IsCut _ old new n = ⊥
+-- Why no piece of n words was taken, and what was.
+abbrev pub IsCut : Reader → ℕ → Option (List ℕ) → Option (List ℕ) → ErrorKind → Type 0
+IsCut read n old new OutOfMemory = Keeps old new
+IsCut read n old new kind = IsPieceFault read n old kind × TakesPieceStart read n old new

@@ -1,9 +1,6 @@
 -- Pieces are fronts of the bytes.
-use Rattle.std.proofs.Common.{◌≡◌, ℕ, ◌*◌, ◌/◌, ◌<◌, leb, List, [], ◌++◌, Ok, Err, Result, IfSome, sym, ap, ◌∙◌, arith, length, take, append-nil}
+use Rattle.std.proofs.Common.{◌≡◌, ℕ, ◌*◌, leb, List, [], Ok, sym, ap, ◌∙◌}
 use Rattle.std.proofs.Math.Seq.{drop-nil}
-use Rattle.std.specs.declared.option.Option.{Option}
-use Rattle.std.specs.Io.KnownBytes.{Consumes}
-use Rattle.capnp_model.specs.Kinds.{Kind, FailedToFillTheWholeBuffer}
 use Rattle.capnp_model.specs.Bytes.{words_in_bytes, taken}
 use Rattle.capnp_model.specs.Messages.{plain_words}
 use Rattle.capnp_model.proofs.Chaining.{ok_is, bind_ok, cond_ok}

@@ -1,23 +1,28 @@
--- What a clause reads of the segments of a message that was read.
-use Rattle.std.specs.Prelude.{ℕ, ◌+◌, ◌*◌, ◌/◌, List, [], ◌∷◌, length, map, slice_range}
-use Rattle.capnp_model.specs.Bytes.{words_in_bytes}
+-- What a clause reads of the segments of a message. (Encoding, "Serialization Over a Stream")
+use Rattle.std.specs.Prelude.{ℕ, List}
+pub use Rattle.capnp_units.specs.Segments.{whole_words, words_in}
+pub use Rattle.capnp_stream.specs.Ranges.{AreBytes}
 use Rattle.capnp_model.specs.Segments.{Segments}
-use Rattle.capnp_stream.specs.declared.segments.Bounds.{Bounds}
+use Rattle.capnp_stream.specs.Ranges.{range_lengths, bytes_at}
+use Rattle.capnp_stream.specs.declared.segments.SegmentLengthsBuilder.{SegmentLengthsBuilder}
 use Rattle.capnp_stream.specs.declared.segments.OwnedSegments.{OwnedSegments}
 
--- The words of bytes; those past the last whole word aren't looked at.
-abbrev pub whole_words : List ℕ → List ℕ
-whole_words bytes = words_in_bytes (length bytes / 8) bytes
+-- The lengths that a table was given.
+abbrev pub lengths_of : SegmentLengthsBuilder → List ℕ
+lengths_of table = range_lengths table.indices.items
 
 -- The bytes of each segment.
 abbrev pub segment_bytes : OwnedSegments → List (List ℕ)
-segment_bytes s = map (λ b. slice_range s.bytes.items b.start b.end) s.bounds.items
+segment_bytes s = bytes_at s.bytes.items s.indices.items
 
 -- The segments of a message.
 abbrev pub segments_of : OwnedSegments → Segments
-segments_of s = map whole_words (segment_bytes s)
+segments_of s = words_in (segment_bytes s)
 
--- Where segments of these lengths in words lie, from a byte on.
-abbrev pub bounds_from : ℕ → List ℕ → List Bounds
-bounds_from at [] = []
-bounds_from at (n ∷ ns) = record { start = at; end = at + 8 * n } ∷ bounds_from (at + 8 * n) ns
+-- The bytes of all segments together.
+abbrev pub owned_bytes : OwnedSegments → List ℕ
+owned_bytes s = s.bytes.items
+
+-- Where the segments lie.
+abbrev pub owned_ranges : OwnedSegments → List (ℕ × ℕ)
+owned_ranges s = s.indices.items

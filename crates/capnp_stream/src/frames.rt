@@ -1,15 +1,18 @@
-//! Framed messages of any number of segments.
+//! Messages of any number of segments, read in their forms.
 ghost use Rattle.std.specs.Prelude.{◌≡◌, ◌≢◌, ◌≤◌, ℕ, ◌+◌, ◌*◌, ◌/◌, ◌%◌, ◌^◌, ◌<◌, ◌↔◌, [], ◌∷◌, length, take, sum, IfSome, IfNone, IfOk, IfErr, OnOk, OnErr, IsTrue};
 ghost use Rattle.std.specs.Io.KnownBytes.{Keeps, Consumes, Appends, IsAtEnd};
 ghost use Rattle.capnp_units.specs.declared.kinds.ErrorKind.{ErrorKind};
-ghost use Rattle.capnp_model.specs.Messages.{frame, halves, within};
+ghost use Rattle.capnp_model.specs.Messages.{frame, halves, plain_words, within};
+ghost use Rattle.capnp_model.specs.Spelling.{AreShort, CanSpell};
 ghost use Rattle.capnp_stream.specs.Counting.{Counts};
-ghost use Rattle.capnp_stream.specs.Segments.{whole_words, segments_of};
+ghost use Rattle.capnp_stream.specs.Pieces.{TakesPiece};
+ghost use Rattle.capnp_stream.specs.Segments.{AreBytes, whole_words, lengths_of, segments_of};
 ghost use Rattle.capnp_stream.specs.Frames.{IsFrameFault, TakesMessage, TakesPart, TakesTable, IsFramingKind, IsReadKind, IsCut};
 ghost use Rattle.capnp_stream.specs.Streams.{AppendsPart, RoomFalls, IsWriteRefusal};
 
-use crate::segments::OwnedSegments;
-use crate::traits::{BufRead, Read, Write};
+use crate::forms::{Framed, MessageForm};
+use crate::segments::{OwnedSegments, SegmentLengthsBuilder};
+use crate::traits::{BufRead, Read};
 use capnp_units::errors::{Error, Result};
 use capnp_units::kinds::ErrorKind;
 use std::alloc::Global;
@@ -18,7 +21,7 @@ use std::alloc::Global;
 pub const SEGMENTS_COUNT_LIMIT: usize = 512;
 
 /// How many numbers a half of a word holds.
-const HALF: u64 = 1 << 32;
+pub(crate) const HALF: u64 = 1 << 32;
 
 /// Whether no byte is left. Nothing is taken.
 fn is_at_end<R: BufRead>(source: &mut R) -> Result<bool>
@@ -31,27 +34,23 @@ fn is_at_end<R: BufRead>(source: &mut R) -> Result<bool>
     Ok(shown.is_empty())
 }
 
-/// Fills the buffer.
-fn fill<R: BufRead>(source: &mut R, buf: &mut [u8]) -> Result<()>
-    ensures ok { OnOk result (Consumes (R.remaining source.old) (R.remaining source.new) buf.new) }
-    ensures cut { IfErr result (λ e. IsCut e.kind (R.remaining source.old) (R.remaining source.new) (length buf.old)) }
+/// The next piece of so many words, as bytes.
+fn take_piece<F: MessageForm, R: BufRead>(
+    alloc: Global,
+    source: &mut R,
+    words: usize,
+) -> Result<Vec<u8>>
+    requires { 8 * words < 2 ^ 64 }
+    ensures len { IfOk result (λ v. length v.items ≡ 8 * words) }
+    ensures ok { IfOk result (λ v. TakesPiece F.reader (R.remaining source.old) (R.remaining source.new) (whole_words v.items)) }
+    ensures cut { IfErr result (λ e. IsCut F.reader words (R.remaining source.old) (R.remaining source.new) e.kind) }
     ensures count { Counts result (R.failures source.old) (R.failures source.new) }
 {
-    source.read_exact(buf)
-}
-
-/// The next bytes, as many as `len`.
-fn take_bytes<R: BufRead>(alloc: Global, source: &mut R, len: usize) -> Result<Vec<u8>>
-    ensures len { IfOk result (λ v. length v.items ≡ len) }
-    ensures ok { IfOk result (λ v. Consumes (R.remaining source.old) (R.remaining source.new) v.items) }
-    ensures cut { IfErr result (λ e. IsCut e.kind (R.remaining source.old) (R.remaining source.new) len) }
-    ensures count { Counts result (R.failures source.old) (R.failures source.new) }
-{
-    let mut bytes = match vec![in alloc; 0u8; len] {
+    let mut bytes = match vec![in alloc; 0u8; 8 * words] {
         Ok(v) => v,
         Err(_) => return Err(Error::from(ErrorKind::OutOfMemory)),
     };
-    fill(source, &mut bytes)?;
+    F::read_piece(source, &mut bytes)?;
     Ok(bytes)
 }
 
@@ -73,21 +72,13 @@ fn lengths_in(alloc: Global, first: u32, others: &[u8], count: usize) -> Result<
     Ok(lengths)
 }
 
-/// How many words segments of these lengths have.
-fn total_of(lengths: &[u32]) -> usize
-    requires { length lengths.now ≤ 511 }
-    ensures total { result ≡ sum lengths.now }
-    ensures bound { result < 2 ^ 41 }
-{
-    let mut total = 0;
-    for n in lengths {
-        total += *n as usize;
-    }
-    total
-}
+/// A slice of bytes holds numbers of a byte.
+fn are_bytes(bytes: &[u8])
+    ensures { AreBytes bytes.now }
+{}
 
 /// Whether so many words keep the limit.
-fn is_within(total: usize, limit: Option<usize>) -> bool
+pub(crate) fn is_within(total: usize, limit: Option<usize>) -> bool
     ensures { result ≡ within total limit }
 {
     match limit {
@@ -96,50 +87,106 @@ fn is_within(total: usize, limit: Option<usize>) -> bool
     }
 }
 
-/// The lengths of the segments of the next message.
-fn read_table<R: BufRead>(alloc: Global, source: &mut R, limit: Option<usize>) -> Result<Vec<u32>>
-    ensures few { IfOk result (λ v. length v.items ≤ 511) }
-    ensures table { IfOk result (λ v. TakesTable limit (R.remaining source.old) (R.remaining source.new) v.items) }
+/// The lengths of the segments of the next message, from 1 to 511.
+fn read_table<F: MessageForm, R: BufRead>(
+    alloc: Global,
+    source: &mut R,
+    limit: Option<usize>,
+) -> Result<SegmentLengthsBuilder>
+    ensures some { IfOk result (λ t. 0 < length (lengths_of t)) }
+    ensures few { IfOk result (λ t. length (lengths_of t) ≤ 511) }
+    ensures short { IfOk result (λ t. AreShort (lengths_of t)) }
+    ensures bound { IfOk result (λ t. sum (lengths_of t) < 2 ^ 41) }
+    ensures table { IfOk result (λ t. TakesTable F.reader limit (R.remaining source.old) (R.remaining source.new) (lengths_of t)) }
 
     // Whatever follows.
-    ensures refused { IfErr result (λ e. IsFramingKind e.kind → IfSome (R.remaining source.old) (λ xs. IsFrameFault limit xs e.kind)) }
+    ensures refused { IfErr result (λ e. IsFramingKind e.kind → IfSome (R.remaining source.old) (λ xs. IsFrameFault F.reader limit xs e.kind)) }
     ensures kind { IfErr result (λ e. IsReadKind e.kind) }
-    ensures part { OnErr result (TakesPart limit (R.remaining source.old) (R.remaining source.new)) }
+    ensures part { OnErr result (TakesPart F.reader limit (R.remaining source.old) (R.remaining source.new)) }
     ensures count { Counts result (R.failures source.old) (R.failures source.new) }
 {
     let mut first = [0u8; 8];
-    fill(source, &mut first)?;
+    F::read_piece(source, &mut first)?;
     let word = u64::from_le_bytes(first);
     let less_one = (word % HALF) as usize;
     if less_one + 1 >= SEGMENTS_COUNT_LIMIT {
         return Err(Error::from(ErrorKind::InvalidNumberOfSegments));
     }
-    let others = take_bytes(alloc, source, (less_one + 1) / 2 * 8)?;
-    lengths_in(alloc, (word / HALF) as u32, &others, less_one + 1)
+    let others = take_piece::<F, R>(alloc, source, (less_one + 1) / 2)?;
+    let lengths = lengths_in(alloc, (word / HALF) as u32, &others, less_one + 1)?;
+    SegmentLengthsBuilder::of_lengths(alloc, &lengths)
 }
 
 /// The segments of the next message, where some byte is left.
-fn read_segments<R: BufRead>(
+fn read_segments<F: MessageForm, R: BufRead>(
     alloc: Global,
     source: &mut R,
     limit: Option<usize>,
 ) -> Result<OwnedSegments>
-    ensures message { IfOk result (λ m. TakesMessage limit (R.remaining source.old) (R.remaining source.new) (segments_of m)) }
-    ensures refused { IfErr result (λ e. IsFramingKind e.kind → IfSome (R.remaining source.old) (λ xs. IsFrameFault limit xs e.kind)) }
+    ensures message { IfOk result (λ m. TakesMessage F.reader limit (R.remaining source.old) (R.remaining source.new) (segments_of m)) }
+    ensures kept { IfOk result (λ m. CanSpell limit (segments_of m)) }
+    ensures refused { IfErr result (λ e. IsFramingKind e.kind → IfSome (R.remaining source.old) (λ xs. IsFrameFault F.reader limit xs e.kind)) }
     ensures kind { IfErr result (λ e. IsReadKind e.kind) }
-    ensures part { OnErr result (TakesPart limit (R.remaining source.old) (R.remaining source.new)) }
+    ensures part { OnErr result (TakesPart F.reader limit (R.remaining source.old) (R.remaining source.new)) }
     ensures count { Counts result (R.failures source.old) (R.failures source.new) }
 {
-    let lengths = read_table(alloc, source, limit)?;
-    let total = total_of(&lengths);
+    let table = read_table::<F, R>(alloc, source, limit)?;
+    let total = table.total_words();
     if !is_within(total, limit) {
         return Err(Error::from(ErrorKind::MessageTooLarge));
     }
-    let bytes = take_bytes(alloc, source, total * 8)?;
-    OwnedSegments::new(alloc, bytes, &lengths)
+    let bytes = take_piece::<F, R>(alloc, source, total)?;
+    are_bytes(&bytes);
+    Ok(OwnedSegments::new(bytes, table))
 }
 
-/// The segments of the next message, or `None` where no byte is left.
+/// The segments of the next message in a form, or `None` where no byte is left.
+///
+/// A message of more words than the limit is refused. After a refusal no more than a part of a message was taken.
+pub fn try_read_message_in<F: MessageForm, R: BufRead>(
+    alloc: Global,
+    source: &mut R,
+    limit: Option<usize>,
+) -> Result<Option<OwnedSegments>>
+    // One message is taken, whatever follows it.
+    ensures message { IfOk result (λ o. IfSome o (λ m. TakesMessage F.reader limit (R.remaining source.old) (R.remaining source.new) (segments_of m))) }
+    ensures kept { IfOk result (λ o. IfSome o (λ m. CanSpell limit (segments_of m))) }
+    ensures none { IfOk result (λ o. IfNone o (IsAtEnd (R.remaining source.old) × Keeps (R.remaining source.old) (R.remaining source.new))) }
+
+    // The bytes that are left begin with no message, and the kind says why.
+    ensures refused { IfErr result (λ e. IsFramingKind e.kind → IfSome (R.remaining source.old) (λ xs. (xs ≢ []) × IsFrameFault F.reader limit xs e.kind)) }
+    ensures kind { IfErr result (λ e. IsReadKind e.kind) }
+    ensures part { OnErr result (TakesPart F.reader limit (R.remaining source.old) (R.remaining source.new)) }
+    ensures count { Counts result (R.failures source.old) (R.failures source.new) }
+{
+    if is_at_end(source)? {
+        return Ok(None);
+    }
+    let segments = read_segments::<F, R>(alloc, source, limit)?;
+    Ok(Some(segments))
+}
+
+/// The segments of the next message in a form. `PrematureEndOfFile`: no byte is left.
+pub fn read_message_in<F: MessageForm, R: BufRead>(
+    alloc: Global,
+    source: &mut R,
+    limit: Option<usize>,
+) -> Result<OwnedSegments>
+    ensures message { IfOk result (λ m. TakesMessage F.reader limit (R.remaining source.old) (R.remaining source.new) (segments_of m)) }
+    ensures kept { IfOk result (λ m. CanSpell limit (segments_of m)) }
+    ensures no_byte { IfErr result (λ e. e.kind ≡ ErrorKind.PrematureEndOfFile → IsAtEnd (R.remaining source.old) × Keeps (R.remaining source.old) (R.remaining source.new)) }
+    ensures refused { IfErr result (λ e. IsFramingKind e.kind → IfSome (R.remaining source.old) (λ xs. (xs ≢ []) × IsFrameFault F.reader limit xs e.kind)) }
+    ensures kind { IfErr result (λ e. e.kind ≢ ErrorKind.PrematureEndOfFile → IsReadKind e.kind) }
+    ensures part { OnErr result (TakesPart F.reader limit (R.remaining source.old) (R.remaining source.new)) }
+    ensures count { Counts result (R.failures source.old) (R.failures source.new) }
+{
+    match try_read_message_in::<F, R>(alloc, source, limit)? {
+        Some(message) => Ok(message),
+        None => Err(Error::from(ErrorKind::PrematureEndOfFile)),
+    }
+}
+
+/// The segments of the next framed message, or `None` where no byte is left.
 ///
 /// A message of more words than the limit is refused. After a refusal no more than a part of a message was taken.
 pub fn try_read_message<R: BufRead>(
@@ -148,52 +195,32 @@ pub fn try_read_message<R: BufRead>(
     limit: Option<usize>,
 ) -> Result<Option<OwnedSegments>>
     // One message is taken, whatever follows it.
-    ensures message { IfOk result (λ o. IfSome o (λ m. TakesMessage limit (R.remaining source.old) (R.remaining source.new) (segments_of m))) }
+    ensures message { IfOk result (λ o. IfSome o (λ m. TakesMessage plain_words limit (R.remaining source.old) (R.remaining source.new) (segments_of m))) }
+    ensures kept { IfOk result (λ o. IfSome o (λ m. CanSpell limit (segments_of m))) }
     ensures none { IfOk result (λ o. IfNone o (IsAtEnd (R.remaining source.old) × Keeps (R.remaining source.old) (R.remaining source.new))) }
 
     // The bytes that are left begin with no message, and the kind says why.
-    ensures refused { IfErr result (λ e. IsFramingKind e.kind → IfSome (R.remaining source.old) (λ xs. (xs ≢ []) × IsFrameFault limit xs e.kind)) }
+    ensures refused { IfErr result (λ e. IsFramingKind e.kind → IfSome (R.remaining source.old) (λ xs. (xs ≢ []) × IsFrameFault plain_words limit xs e.kind)) }
     ensures kind { IfErr result (λ e. IsReadKind e.kind) }
-    ensures part { OnErr result (TakesPart limit (R.remaining source.old) (R.remaining source.new)) }
+    ensures part { OnErr result (TakesPart plain_words limit (R.remaining source.old) (R.remaining source.new)) }
     ensures count { Counts result (R.failures source.old) (R.failures source.new) }
 {
-    if is_at_end(source)? {
-        return Ok(None);
-    }
-    let segments = read_segments(alloc, source, limit)?;
-    Ok(Some(segments))
+    try_read_message_in::<Framed, R>(alloc, source, limit)
 }
 
-/// The segments of the next message.
+/// The segments of the next framed message. `PrematureEndOfFile`: no byte is left.
 pub fn read_message<R: BufRead>(
     alloc: Global,
     source: &mut R,
     limit: Option<usize>,
 ) -> Result<OwnedSegments>
-    ensures message { IfOk result (λ m. TakesMessage limit (R.remaining source.old) (R.remaining source.new) (segments_of m)) }
+    ensures message { IfOk result (λ m. TakesMessage plain_words limit (R.remaining source.old) (R.remaining source.new) (segments_of m)) }
+    ensures kept { IfOk result (λ m. CanSpell limit (segments_of m)) }
     ensures no_byte { IfErr result (λ e. e.kind ≡ ErrorKind.PrematureEndOfFile → IsAtEnd (R.remaining source.old) × Keeps (R.remaining source.old) (R.remaining source.new)) }
-    ensures refused { IfErr result (λ e. IsFramingKind e.kind → IfSome (R.remaining source.old) (λ xs. (xs ≢ []) × IsFrameFault limit xs e.kind)) }
+    ensures refused { IfErr result (λ e. IsFramingKind e.kind → IfSome (R.remaining source.old) (λ xs. (xs ≢ []) × IsFrameFault plain_words limit xs e.kind)) }
     ensures kind { IfErr result (λ e. e.kind ≢ ErrorKind.PrematureEndOfFile → IsReadKind e.kind) }
-    ensures part { OnErr result (TakesPart limit (R.remaining source.old) (R.remaining source.new)) }
+    ensures part { OnErr result (TakesPart plain_words limit (R.remaining source.old) (R.remaining source.new)) }
     ensures count { Counts result (R.failures source.old) (R.failures source.new) }
 {
-    match try_read_message(alloc, source, limit)? {
-        Some(message) => Ok(message),
-        None => Err(Error::from(ErrorKind::PrematureEndOfFile)),
-    }
-}
-
-/// Writes a message of one segment, which these bytes hold. After a refusal a beginning of it was written.
-pub fn write_segment<W: Write>(out: &mut W, bytes: &[u8]) -> Result<()>
-    requires whole { length bytes.now % 8 ≡ 0 }
-    requires small { length bytes.now < 8 * 2 ^ 32 }
-    ensures ok { OnOk result (Appends (W.contents out.old) (W.contents out.new) (frame (whole_words bytes.now ∷ []))) }
-    ensures falls { OnOk result (RoomFalls (W.room out.old) (W.room out.new) (8 + length bytes.now)) }
-    ensures err { OnErr result (AppendsPart (W.contents out.old) (W.contents out.new) (frame (whole_words bytes.now ∷ []))) }
-    ensures refusal { IfErr result (λ e. IsWriteRefusal W.may_grow (W.room out.old) (8 + length bytes.now) e.kind) }
-    ensures count { Counts result (W.failures out.old) (W.failures out.new) }
-{
-    let first = (bytes.len() / 8) as u64 * HALF;
-    out.write_all(&first.to_le_bytes())?;
-    out.write_all(bytes)
+    read_message_in::<Framed, R>(alloc, source, limit)
 }

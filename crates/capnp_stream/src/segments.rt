@@ -1,81 +1,177 @@
-//! The segments of a message that was read.
-ghost use Rattle.std.specs.Prelude.{◌≡◌, ◌≤◌, ◌<◌, ◌-◌, ◌*◌, ◌%◌, ◌^◌, ◌↔◌, ℕ, length, slice_get, vec_len, sum, Some, All, IfOk, IfSome, IsSome, IsTrue, IfErr};
+//! The segments of a message that was read, and the table of their lengths.
+ghost use Rattle.std.specs.Prelude.{◌≡◌, ◌≢◌, ◌≤◌, ◌<◌, ◌↔◌, ◌+◌, ◌*◌, ◌%◌, ◌^◌, ℕ, [], ◌∷◌, ◌++◌, length, slice_get, sum, option_copied, replicate, All, Some, None, OnOk, OnErr, IfOk, IfSome, IfNone, IsSome, IfErr};
 ghost use Rattle.capnp_units.specs.declared.kinds.ErrorKind.{ErrorKind};
-ghost use Rattle.capnp_model.specs.Bytes.{words_in_bytes};
-ghost use Rattle.capnp_model.specs.Messages.{cut};
+ghost use Rattle.capnp_model.specs.Spelling.{AreShort};
+ghost use Rattle.capnp_units.specs.Segments.{whole_words};
+ghost use Rattle.capnp_stream.specs.Ranges.{ranges_from, range_lengths};
 
-use capnp_units::errors::Result;
+use capnp_units::errors::{Error, Result};
+use capnp_units::kinds::ErrorKind;
+use capnp_units::segments::ReaderSegments;
+use capnp_units::sizes::SegmentId;
 use std::alloc::Global;
 
-/// Where a segment's bytes lie.
-#[derive(Clone, Copy)]
-pub(crate) struct Bounds {
-    pub(crate) start: usize,
-    pub(crate) end: usize,
+/// The lengths in words of segments that lie one after the other.
+#[derive(Drop)]
+pub struct SegmentLengthsBuilder {
+    indices: Vec<(usize, usize)>,
+    total_words: usize,
+    ghost joined: { indices.items ≡ ranges_from 0 (range_lengths indices.items) },
+    ghost total: { total_words ≡ sum (range_lengths indices.items) },
 }
 
-impl Bounds {
-    ghost use Rattle.capnp_stream.specs.Segments.{bounds_from};
+impl SegmentLengthsBuilder {
+    ghost use Rattle.capnp_stream.specs.Segments.{lengths_of, owned_bytes, owned_ranges};
 
-    /// Where segments of these lengths in words lie, one after the other.
-    fn for_lengths(alloc: Global, lengths: &[u32]) -> Result<Vec<Bounds>>
-        requires { 8 * sum lengths.now < 2 ^ 64 }
-        ensures bounds { IfOk result (λ v. v.items ≡ bounds_from 0 lengths.now) }
+    /// The table of these lengths in words.
+    pub(crate) fn of_lengths(alloc: Global, lengths: &[u32]) -> Result<SegmentLengthsBuilder>
+        requires { length lengths.now ≤ 511 }
+        ensures lengths { IfOk result (λ t. lengths_of t ≡ lengths.now) }
+        ensures short { AreShort lengths.now }
+        ensures bound { sum lengths.now < 2 ^ 41 }
         ensures refusal { IfErr result (λ e. e.kind ≡ ErrorKind.OutOfMemory) }
     {
-        let mut bounds = Vec::with_capacity(alloc, lengths.len())?;
-        let mut at = 0;
+        let mut table = SegmentLengthsBuilder::with_capacity(alloc, lengths.len())?;
         for n in lengths {
-            let end = at + 8 * *n as usize;
-            bounds.push(Bounds { start: at, end })?;
-            at = end;
+            table.try_push_segment(*n as usize)?;
         }
-        Ok(bounds)
+        Ok(table)
+    }
+
+    /// No segment yet, and memory for so many.
+    pub fn with_capacity(alloc: Global, capacity: usize) -> Result<SegmentLengthsBuilder>
+        ensures empty { IfOk result (λ t. lengths_of t ≡ []) }
+        ensures refusal { IfErr result (λ e. e.kind ≡ ErrorKind.OutOfMemory) }
+    {
+        let indices = Vec::with_capacity(alloc, capacity)?;
+        Ok(SegmentLengthsBuilder {
+            indices,
+            total_words: 0,
+        })
+    }
+
+    /// Adds a segment of so many words behind the others. `MessageTooLarge`: the words of all pass `usize`. After a refusal the table is as it was.
+    pub fn try_push_segment(&mut self, length_in_words: usize) -> Result<()>
+        ensures pushed { OnOk result (lengths_of self.new ≡ lengths_of self.old ++ length_in_words ∷ []) }
+        ensures large { IfErr result (λ e. e.kind ≢ ErrorKind.OutOfMemory → (e.kind ≡ ErrorKind.MessageTooLarge) × (2 ^ 64 ≤ sum (lengths_of self.old) + length_in_words)) }
+        ensures kept { OnErr result (lengths_of self.new ≡ lengths_of self.old) }
+    {
+        let start = self.total_words;
+        let Some(end) = start.checked_add(length_in_words) else {
+            return Err(Error::from(ErrorKind::MessageTooLarge));
+        };
+        self.indices.push((start, end))?;
+        self.total_words = end;
+        Ok(())
+    }
+
+    /// How many words the segments have together.
+    pub fn total_words(&self) -> usize
+        ensures { result ≡ sum (lengths_of self.now) }
+    {
+        self.total_words
+    }
+
+    /// Zeroed segments of these lengths. `OutOfMemory`: their bytes were refused, or pass `usize`.
+    pub fn into_owned_segments(self, alloc: Global) -> Result<OwnedSegments>
+        ensures ranges { IfOk result (λ s. owned_ranges s ≡ ranges_from 0 (lengths_of self)) }
+        ensures zeros { IfOk result (λ s. owned_bytes s ≡ replicate (8 * sum (lengths_of self)) 0) }
+        ensures refusal { IfErr result (λ e. e.kind ≡ ErrorKind.OutOfMemory) }
+    {
+        let Some(len) = self.total_words.checked_mul(8) else {
+            return Err(Error::from(ErrorKind::OutOfMemory));
+        };
+        let bytes = vec![in alloc; 0u8; len]?;
+        Ok(OwnedSegments::new(bytes, self))
+    }
+
+    /// Where each segment begins and ends, in words.
+    pub fn to_segment_indices(self) -> Vec<(usize, usize)>
+        ensures { result.items ≡ ranges_from 0 (lengths_of self) }
+    {
+        self.indices
     }
 }
 
-/// The segments of a message: the bytes of all, and where each one's lie.
+/// The words of bytes, the lowest byte of each first; those past the last whole word aren't looked at.
+pub fn words_of(alloc: Global, bytes: &[u8]) -> Result<Vec<u64>>
+    ensures words { IfOk result (λ v. v.items ≡ whole_words bytes.now) }
+    ensures refusal { IfErr result (λ e. e.kind ≡ ErrorKind.OutOfMemory) }
+{
+    let mut words = Vec::new(alloc);
+    let mut left = bytes;
+    while let Some((first, rest)) = left.split_first_chunk::<8>() {
+        words.push(u64::from_le_bytes(*first))?;
+        left = rest;
+    }
+    Ok(words)
+}
+
+/// The segments of a message: the bytes of all, and where each one's words lie in them.
 #[derive(Drop)]
 pub struct OwnedSegments {
     bytes: Vec<u8>,
-    bounds: Vec<Bounds>,
-    ghost within: { All (λ b. (b.start ≤ b.end) × ((b.end - b.start) % 8 ≡ 0) × (b.end ≤ length bytes.items)) bounds.items },
+    indices: Vec<(usize, usize)>,
+    ghost within: { All (λ r. (r.0 ≤ r.1) × (8 * r.1 ≤ length bytes.items)) indices.items },
 }
 
 impl OwnedSegments {
-    ghost use Rattle.capnp_stream.specs.Segments.{whole_words, segments_of};
+    ghost use Rattle.capnp_stream.specs.Segments.{lengths_of, owned_bytes, owned_ranges, segments_of};
 
-    /// The segments of these lengths in words, one after the other in the bytes.
-    pub(crate) fn new(alloc: Global, bytes: Vec<u8>, lengths: &[u32]) -> Result<OwnedSegments>
-        requires whole { length bytes.items ≡ 8 * sum lengths.now }
-        ensures segments { IfOk result (λ s. segments_of s ≡ cut lengths.now (words_in_bytes (sum lengths.now) bytes.items)) }
+    /// The segments of a table, one after the other in the bytes.
+    pub(crate) fn new(bytes: Vec<u8>, table: SegmentLengthsBuilder) -> OwnedSegments
+        requires { 8 * sum (lengths_of table) ≤ length bytes.items }
+        ensures bytes { owned_bytes result ≡ bytes.items }
+        ensures ranges { owned_ranges result ≡ ranges_from 0 (lengths_of table) }
+    {
+        let indices = table.to_segment_indices();
+        OwnedSegments { bytes, indices }
+    }
+
+    /// The bytes of all segments, one behind the other.
+    pub fn as_slice(&self) -> &[u8]
+        ensures { result.now ≡ owned_bytes self.now }
+    {
+        &self.bytes
+    }
+
+    /// The bytes of all segments, one behind the other.
+    pub fn as_mut_slice(&mut self) -> &mut [u8]
+        ensures { result.now ≡ owned_bytes self.old }
+    {
+        &mut self.bytes
+    }
+
+    /// The words of a segment, or none past the last.
+    pub fn segment_words(&self, alloc: Global, id: SegmentId) -> Result<Option<Vec<u64>>>
+        ensures words { IfOk result (λ o. IfSome o (λ v. slice_get (segments_of self.now) id ≡ Some v.items)) }
+        ensures none { IfOk result (λ o. IfNone o (slice_get (segments_of self.now) id ≡ None)) }
         ensures refusal { IfErr result (λ e. e.kind ≡ ErrorKind.OutOfMemory) }
     {
-        let bounds = Bounds::for_lengths(alloc, lengths)?;
-        Ok(OwnedSegments { bytes, bounds })
+        match self.get_segment(id) {
+            Some(bytes) => Ok(Some(words_of(alloc, bytes)?)),
+            None => Ok(None),
+        }
     }
+}
 
-    /// How many segments there are.
-    pub fn len(&self) -> usize
-        ensures { result ≡ length (segments_of self.now) }
-    {
-        self.bounds.len()
-    }
+impl ReaderSegments for OwnedSegments {
+    ghost use Rattle.capnp_stream.specs.Segments.{segment_bytes, segments_of};
 
-    /// Whether there is no segment.
-    pub fn is_empty(&self) -> bool
-        ensures { IsTrue result ↔ (length (segments_of self.now) ≡ 0) }
-    {
-        self.bounds.is_empty()
-    }
+    ghost segments = { segment_bytes };
 
-    /// The bytes of a segment, each word's lowest first.
-    pub fn get_segment(&self, id: u32) -> Option<&[u8]>
-        ensures there { IsSome result ↔ (id < length (segments_of self.now)) }
+    /// The bytes of a segment, each word's lowest first, or none past the last.
+    fn get_segment(&self, id: SegmentId) -> Option<&[u8]>
+        ensures bytes { option_copied result ≡ slice_get (segment_bytes self.now) id }
         ensures words { IfSome result (λ bytes. slice_get (segments_of self.now) id ≡ Some (whole_words bytes.now)) }
         ensures whole { IfSome result (λ bytes. length bytes.now % 8 ≡ 0) }
+        ensures there { IsSome result ↔ (id < length (segments_of self.now)) }
     {
-        let bounds = *self.bounds.get(id as usize)?;
-        Some(&self.bytes[bounds.start..bounds.end])
+        let (start, end) = *self.indices.get(id as usize)?;
+        Some(&self.bytes[8 * start..8 * end])
+    }
+
+    fn len(&self) -> usize {
+        self.indices.len()
     }
 }

@@ -3,10 +3,12 @@ ghost use Rattle.std.specs.Prelude.{◌≡◌, ◌≤◌, length};
 ghost use Rattle.capnp_units.specs.declared.kinds.ErrorKind.{ErrorKind};
 
 use crate::adapters::{Sink, Source};
-use crate::frames::{read_message, try_read_message, write_segment};
+use crate::frames::{read_message, try_read_message};
 use crate::traits::{BufRead, Read, Write};
+use crate::writing::write_segment;
 use capnp_units::errors::{Error, Result};
 use capnp_units::kinds::ErrorKind;
+use capnp_units::segments::ReaderSegments;
 use std::alloc::Global;
 use std::io;
 use std::process::Abort;

@@ -1,7 +1,7 @@
 -- The items of a list by index.
 use Rattle.std.specs.Prelude.{ℕ, zero, suc, ◌+◌, ◌-◌, List, [], ◌∷◌}
 use Rattle.capnp_units.specs.declared.iter.ListIter.{ListIter}
-use Rattle.capnp_units.specs.declared.iter.ShortListIter.{ShortListIter}
+use Rattle.capnp_units.specs.declared.short_iter.ShortListIter.{ShortListIter}
 
 -- So many items from an index on.
 abbrev pub items_from : {T : Type 0} → (ℕ → T) → ℕ → ℕ → List T

@@ -1,9 +1,10 @@
 //! Iterators over lists whose items are made at each call.
-ghost use Rattle.std.specs.Prelude.{◌≡◌, ℕ, ◌+◌, ◌-◌, ◌<◌, ◌≤◌, Some, IfSome, length, drop, slice_get};
+ghost use Rattle.std.specs.Prelude.{◌≡◌, ℕ, ◌+◌, ◌-◌, ◌<◌, ◌≤◌, Some, IfSome, length, drop, slice_get, slice_index};
 ghost use Rattle.std.specs.Option.{option_map};
-ghost use Rattle.std.specs.Iterator.{YieldsFirstBy, YieldsLastBy, item_count, UpTo};
+ghost use Rattle.std.specs.Iterator.{YieldsFirstBy, YieldsLastBy, item_count, UpTo, IsFinite};
 ghost use Rattle.std.specs.Iterator.SizeHint.{IsWithinCount};
 
+pub use crate::short_iter::ShortListIter;
 use std::marker::PhantomData;
 
 /// A number by which a list is asked for its items.
@@ -98,9 +99,9 @@ impl<L: IndexMove<u32, T> + Drop, T: Drop> Iterator for ListIter<L, T> {
         if self.index == self.size {
             return None;
         }
-        let item = self.list.index_move(self.index);
+        let first = self.list.index_move(self.index);
         self.index += 1;
-        Some(item)
+        Some(first)
     }
 
     /// How many items are left, twice.
@@ -137,99 +138,75 @@ impl<L: IndexMove<u32, T> + Drop, T: Drop> DoubleEndedIterator for ListIter<L, T
     }
 }
 
-/// The items of a list at 0 to a size less one, from both ends. Indices are of type `u16`.
-#[derive(Drop)]
-pub struct ShortListIter<L: IndexMove<u16, T>, T> {
-    marker: PhantomData<T>,
-    list: L,
-    index: u16,
-    size: u16,
-    ghost ordered: { index ≤ size },
-    ghost inside: { size ≤ L.count list },
-}
+#[cfg(test)]
+mod tests {
+    use super::*;
+    use std::alloc::{AllocError, Global};
+    use std::test::Fail;
 
-impl<L: IndexMove<u16, T> + Drop, T: Drop> ShortListIter<L, T> {
-    ghost use Rattle.capnp_units.specs.Items.{items_from, short_items_left};
+    /// Some bytes as a list.
+    #[derive(Drop)]
+    struct Bytes<'a>(&'a [u8]);
 
-    /// The items at 0 to `size` less one, which the list has.
-    pub fn new(list: L, size: u16) -> ShortListIter<L, T>
-        requires { size ≤ L.count list }
-        ensures { short_items_left L.at result ≡ items_from (L.at list) 0 size }
+    impl IndexMove<u32, u8> for Bytes<'_> {
+        ghost Shown = { ℕ };
+
+        ghost shown = { λ n. n };
+
+        ghost count = { λ b. length b.0.now };
+
+        ghost at = { λ b i. slice_index b.0.now i };
+
+        fn index_move(&self, index: u32) -> u8 {
+            let bytes = self.0;
+            bytes[index as usize]
+        }
+    }
+
+    impl IndexMove<u16, u8> for Bytes<'_> {
+        ghost Shown = { ℕ };
+
+        ghost shown = { λ n. n };
+
+        ghost count = { λ b. length b.0.now };
+
+        ghost at = { λ b i. slice_index b.0.now i };
+
+        fn index_move(&self, index: u16) -> u8 {
+            let bytes = self.0;
+            bytes[index as usize]
+        }
+    }
+
+    fn gathered<I: Iterator<Item = u8> + Drop>(
+        alloc: Global,
+        items: I,
+    ) -> Result<Vec<u8>, AllocError>
+        requires can { I.can_next items }
+        requires ends { IsFinite (I.remaining items) }
     {
-        ShortListIter {
-            marker: PhantomData,
-            list,
-            index: 0,
-            size,
+        let mut bytes = Vec::new(alloc);
+        for item in items {
+            bytes.push(item)?;
         }
+        Ok(bytes)
     }
 
-    /// Passes over `n` items, or all where fewer are left, and gives the next. It makes that one alone.
-    #[tactic(auto, using(crate::proofs::ItemsLemmas::item_at, crate::proofs::ItemsLemmas::no_item_at, crate::proofs::ItemsLemmas::items_behind, crate::proofs::ItemsLemmas::none_behind))]
-    pub fn nth(&mut self, n: usize) -> Option<T>
-        ensures item { option_map L.shown result ≡ slice_get (short_items_left L.at self.old) n }
-        ensures rest { short_items_left L.at self.new ≡ drop (n + 1) (short_items_left L.at self.old) }
-    {
-        let left = (self.size - self.index) as usize;
-        if left <= n {
-            self.index = self.size;
-            return None;
-        }
-        self.index += n as u16;
-        let item = self.list.index_move(self.index);
-        self.index += 1;
-        Some(item)
-    }
-}
-
-impl<L: IndexMove<u16, T> + Drop, T: Drop> Iterator for ShortListIter<L, T> {
-    ghost use Rattle.capnp_units.specs.Items.{short_items_left};
-
-    type Item = T;
-
-    ghost next_gives = { YieldsFirstBy L.shown (short_items_left L.at) };
-
-    ghost remaining = { item_count (short_items_left L.at) };
-
-    fn next(&mut self) -> Option<T> {
-        if self.index == self.size {
-            return None;
-        }
-        let item = self.list.index_move(self.index);
-        self.index += 1;
-        Some(item)
-    }
-
-    /// How many items are left, twice.
-    #[tactic(auto, using(crate::proofs::ItemsLemmas::length_items))]
-    fn size_hint(&self) -> (usize, Option<usize>)
-        ensures exact { result ≡ (length (short_items_left L.at self.now), Some (length (short_items_left L.at self.now))) }
-        ensures lower { IsWithinCount result.0 (item_count (short_items_left L.at) self.now) }
-        ensures upper { IfSome result.1 (UpTo (item_count (short_items_left L.at) self.now)) }
-    {
-        let left = (self.size - self.index) as usize;
-        (left, Some(left))
-    }
-}
-
-impl<L: IndexMove<u16, T> + Drop, T: Drop> ExactSizeIterator for ShortListIter<L, T> {
-    #[tactic(auto, using(crate::proofs::ItemsLemmas::length_items))]
-    fn len(&self) -> usize {
-        (self.size - self.index) as usize
-    }
-}
-
-impl<L: IndexMove<u16, T> + Drop, T: Drop> DoubleEndedIterator for ShortListIter<L, T> {
-    ghost use Rattle.capnp_units.specs.Items.{short_items_left};
-
-    ghost next_back_gives = { YieldsLastBy L.shown (short_items_left L.at) };
-
-    #[tactic(auto, using(crate::proofs::ItemsLemmas::length_items, crate::proofs::ItemsLemmas::items_back))]
-    fn next_back(&mut self) -> Option<T> {
-        if self.index == self.size {
-            return None;
-        }
-        self.size -= 1;
-        Some(self.list.index_move(self.size))
+    #[test]
+    fn items_come_from_both_ends(rt: HostRuntime) -> Result<(), Fail> {
+        let mut items = ListIter::new(Bytes(b"abcdef"), 5);
+        assert_eq!(rt; items.size_hint(), (5, Some(5)));
+        assert_eq!(rt; items.next(), Some(b'a'));
+        assert_eq!(rt; items.next_back(), Some(b'e'));
+        assert_eq!(rt; items.len(), 3);
+        assert_eq!(rt; items.nth(1), Some(b'c'));
+        assert_eq!(rt; gathered(rt.alloc(), items)?.as_slice(), b"d".as_slice());
+        let mut short = ShortListIter::new(Bytes(b"abcdef"), 4);
+        assert_eq!(rt; short.next_back(), Some(b'd'));
+        assert_eq!(rt; short.next(), Some(b'a'));
+        assert_eq!(rt; short.len(), 2);
+        assert_eq!(rt; short.nth(2), None);
+        assert_eq!(rt; gathered(rt.alloc(), short)?.as_slice(), b"".as_slice());
+        Ok(())
     }
 }

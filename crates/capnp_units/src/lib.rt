@@ -7,5 +7,6 @@ pub mod kinds;
 pub mod limiter;
 pub mod primitive;
 pub mod segments;
+pub mod short_iter;
 pub mod sizes;
 pub mod units;

@@ -37,14 +37,21 @@ impl<S: ReaderSegments> ReaderSegments for &S {
     }
 }
 
+/// The bytes of the owner at an index.
+fn bytes_at<I: AsSlice<u8>>(owners: &[I], index: SegmentId) -> Option<&[u8]>
+    ensures { option_copied result ≡ slice_get (map I.items owners.now) index }
+{
+    match owners.get(index as usize) {
+        None => None,
+        Some(owner) => Some(owner.as_slice()),
+    }
+}
+
 impl<I: AsSlice<u8>> ReaderSegments for &[I] {
     ghost segments = { λ s. map I.items s.now };
 
     fn get_segment(&self, id: SegmentId) -> Option<&[u8]> {
-        match self.get(id as usize) {
-            None => None,
-            Some(segment) => Some(segment.as_slice()),
-        }
+        bytes_at(*self, id)
     }
 
     fn len(&self) -> usize {
@@ -56,13 +63,42 @@ impl<I: AsSlice<u8>> ReaderSegments for Vec<I> {
     ghost segments = { λ s. map I.items s.items };
 
     fn get_segment(&self, id: SegmentId) -> Option<&[u8]> {
-        match self.get(id as usize) {
-            None => None,
-            Some(segment) => Some(segment.as_slice()),
-        }
+        bytes_at(self.as_slice(), id)
     }
 
     fn len(&self) -> usize {
         Vec::len(self)
+    }
+}
+
+#[cfg(test)]
+mod tests {
+    use super::*;
+    use std::test::Fail;
+
+    fn last_byte<S: ReaderSegments>(segments: &S, id: SegmentId) -> Option<u8> {
+        segments.get_segment(id)?.last().copied()
+    }
+
+    fn is_one<S: ReaderSegments>(segments: S) -> bool
+    where
+        S: Drop,
+    {
+        !segments.is_empty() && segments.len() == 1
+    }
+
+    #[test]
+    fn segments_are_lent(rt: HostRuntime) -> Result<(), Fail> {
+        let bytes: [&[u8]; 2] = [b"ab", b"cde"];
+        let lent = &bytes[..];
+        assert_eq!(rt; last_byte(&lent, 1), Some(b'e'));
+        assert_eq!(rt; last_byte(&lent, 2), None);
+        assert!(rt; !is_one(lent));
+        let mut owned = Vec::new(rt.alloc());
+        owned.push(Vec::from_slice(rt.alloc(), b"abc")?)?;
+        assert_eq!(rt; last_byte(&owned, 0), Some(b'c'));
+        assert_eq!(rt; last_byte(&&owned, 0), Some(b'c'));
+        assert!(rt; is_one(&owned));
+        Ok(())
     }
 }

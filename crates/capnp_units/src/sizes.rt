@@ -99,15 +99,17 @@ pub fn pointers_per_element(size: ElementSize) -> WirePointerCount32
     }
 }
 
-/// The two sizes of a struct, in words of data and in pointers of a word each.
+/// The two sizes of a struct.
 #[derive(Clone, Copy, Debug, PartialEq, Eq)]
 pub struct StructSize {
+    /// Words of the data section.
     pub data_words: u16,
+    /// Pointers, which stand behind the data.
     pub pointers: u16,
 }
 
 impl StructSize {
-    /// The words of the struct, 0 to 2^17 - 2.
+    /// The words of the struct, 0 to 131,070; a pointer takes one.
     pub fn total(&self) -> WordCount32
         ensures { result ≡ self.now.data_words + self.now.pointers }
     {
@@ -118,24 +120,57 @@ impl StructSize {
 /// The form of a pointer that isn't null, 0 to 3 in its lowest two bits.
 #[derive(Clone, Copy, Debug, PartialEq, Eq)]
 pub enum WirePointerKind {
+    /// Of a struct.
     Struct,
+    /// Of a list.
     List,
+    /// To a landing pad, maybe in another segment.
     Far,
+    /// Of a capability, or unknown.
     Other,
 }
 
 /// What a pointer names, far pointers followed.
 #[derive(Clone, Copy, Debug, PartialEq, Eq)]
 pub enum PointerType {
+    /// Nothing: the pointer's word is zero.
     Null,
+    /// A struct.
     Struct,
+    /// A list of any kind, a text or data.
     List,
+    /// A capability, by its index.
     Capability,
 }
 
 /// What a value takes: words of its objects, and capabilities. Each count stops at the greatest number of its type.
 #[derive(Clone, Copy, Debug, PartialEq, Eq)]
 pub struct MessageSize {
+    /// Words of eight bytes.
     pub word_count: u64,
+    /// Capabilities.
     pub cap_count: u32,
+}
+
+#[cfg(test)]
+mod tests {
+    use super::*;
+    use std::test::Fail;
+
+    #[test]
+    fn sizes_are_counted(rt: HostRuntime) -> Result<(), Fail> {
+        let words: [Word; 2] = [[1, 2, 3, 4, 5, 6, 7, 8], [9, 0, 0, 0, 0, 0, 0, 0]];
+        let bytes = [1, 2, 3, 4, 5, 6, 7, 8, 9, 0, 0, 0, 0, 0, 0, 0];
+        assert_eq!(rt; words_as_bytes(&words), bytes.as_slice());
+        let size = StructSize {
+            data_words: 65535,
+            pointers: 65535,
+        };
+        assert_eq!(rt; size.total(), 131070);
+        assert_eq!(rt; ElementSize::from_number(3), ElementSize::TwoBytes);
+        assert_eq!(rt; ElementSize::InlineComposite.number(), 7);
+        assert_eq!(rt; data_bits_per_element(ElementSize::FourBytes), 32);
+        assert_eq!(rt; pointers_per_element(ElementSize::Pointer), 1);
+        Ok(())
+    }
 }

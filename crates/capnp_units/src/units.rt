@@ -1,4 +1,8 @@
 //! The unit types of the layout, and how many of one unit another has.
+ghost use Rattle.std.specs.Prelude.{◌≡◌, ◌*◌, ◌^◌, ◌<◌};
+ghost use Rattle.std.specs.Mem.{type_size};
+
+use std::mem::size_of;
 
 /// A count of bits.
 pub type BitCount0 = usize;
@@ -69,3 +73,35 @@ pub const _BYTES_PER_POINTER: ByteCount = 8;
 pub const WORDS_PER_POINTER: WordCount = 1;
 /// A pointer is one word.
 pub const POINTER_SIZE_IN_WORDS: WordCount = 1;
+
+/// The bytes that a value of a type takes, fewer than 2^64. An element of a list of whole numbers takes as many.
+pub fn _bytes_per_element<T>() -> ByteCount
+    requires { type_size T.row < 2 ^ 64 }
+    ensures { result ≡ type_size T.row }
+{
+    // The size of a type parameter stands only in products.
+    1 * size_of::<T>()
+}
+
+/// The bits that a value of a type takes, fewer than 2^64.
+pub fn bits_per_element<T>() -> BitCount0
+    requires { 8 * type_size T.row < 2 ^ 64 }
+    ensures { result ≡ 8 * type_size T.row }
+{
+    BITS_PER_BYTE * size_of::<T>()
+}
+
+#[cfg(test)]
+mod tests {
+    use super::*;
+    use std::test::Fail;
+
+    #[test]
+    fn elements_have_their_bits(rt: HostRuntime) -> Result<(), Fail> {
+        assert_eq!(rt; bits_per_element::<u16>(), 16);
+        assert_eq!(rt; bits_per_element::<i64>(), BITS_PER_WORD);
+        assert_eq!(rt; _bytes_per_element::<u32>(), 4);
+        assert_eq!(rt; _bytes_per_element::<i8>(), 1);
+        Ok(())
+    }
+}

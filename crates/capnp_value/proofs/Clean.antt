@@ -1,5 +1,5 @@
 -- The values without a capability.
-use Rattle.std.proofs.Common.{◌≡◌, ℕ, pos, zero, suc, ◌+◌, ◌<◌, ◌≤◌, Bool, true, false, not, ◌&&◌, ◌||◌, leb, List, length, drop, take, Option, Some, None, Result, Ok, Err, refl, ap, sym, ◌∙◌, arith}
+use Rattle.std.proofs.Common.{◌≡◌, ℕ, pos, zero, suc, ◌+◌, ◌<◌, ◌≤◌, Bool, true, false, not, ◌&&◌, ◌||◌, leb, List, length, drop, take, Option, Some, None, Result, Ok, Err, refl, ap, subst, sym, ◌∙◌, arith}
 use Rattle.std.specs.Option.{option_map, IfSome}
 use Rattle.std.specs.Result.{result_ok}
 use Rattle.std.specs.Prelude.{IfOk}
@@ -18,6 +18,8 @@ use Rattle.capnp_model.proofs.Chaining.{bind_some, provided_some}
 use Rattle.capnp_model.proofs.ReadFits.{tree_at_fits}
 use Rattle.capnp_model.proofs.Size.{tree_at_size}
 use Rattle.capnp_model.specs.Answers.{Limits, value_within}
+use Rattle.capnp_units.specs.declared.limiter.ReadLimiter.{ReadLimiter}
+use Rattle.capnp_units.specs.Limits.{left_of, Allows, IsPassed}
 use Rattle.capnp_value.specs.declared.value.Value.{Value}
 use Rattle.capnp_value.specs.Values.{tree_of_value}
 use Rattle.capnp_value.specs.Rows.{Reads}
@@ -159,14 +161,14 @@ module _ (words nesting : ℕ) (s : Segments) where
           case true k = refl
           case false k = let far = dear (k refl) in rw far refl
 
-  -- what reading the root gives is the value within the limits
-  pub within_is : (found : Option Value) (left : ℕ) → Reads tree_of_value (clean_at nesting s root) (cost_at nesting s root) words (Ok found) left → option_map tree_of_value found ≡ value_within (bounds words nesting) s
-  within_is None left r = within_none r
-  within_is (Some v) left r = let paid = r.1 in within_some (tree_of_value v) r.0 (omega arith)
+  -- what reading the root by a budget of so many words gives is the value within the limits
+  within_is : (found : Option Value) (old new : ReadLimiter) → left_of old ≡ Some words → Reads tree_of_value (clean_at nesting s root) (cost_at nesting s root) old (Ok found) new → option_map tree_of_value found ≡ value_within (bounds words nesting) s
+  within_is None old new is r = within_none (λ t e. subst (λ (o : Option ℕ). IsPassed o (cost_at nesting s root)) is (r t e))
+  within_is (Some v) old new is r = let paid = r.1 in within_some (tree_of_value v) r.0 (subst (λ (o : Option ℕ). Allows o (cost_at nesting s root)) is paid.allowed)
 
-  pub within_gives : (r : Result (Option Value) AllocError) (left : ℕ) → Reads tree_of_value (clean_at nesting s root) (cost_at nesting s root) words r left → IfOk r (λ found. option_map tree_of_value found ≡ value_within (bounds words nesting) s)
-  within_gives (Ok found) left r = within_is found left r
-  within_gives (Err e) left r = tt
+  pub within_gives : (r : Result (Option Value) AllocError) (old new : ReadLimiter) → left_of old ≡ Some words → Reads tree_of_value (clean_at nesting s root) (cost_at nesting s root) old r new → IfOk r (λ found. option_map tree_of_value found ≡ value_within (bounds words nesting) s)
+  within_gives (Ok found) old new is r = within_is found old new is r
+  within_gives (Err e) old new is r = tt
 
   within_cost : (t : Tree) → value_within (bounds words nesting) s ≡ Some t → (tree_at nesting s root ≡ Some t) × (cost_at nesting s root ≤ words)
   unfolding value_within

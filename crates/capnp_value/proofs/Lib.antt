@@ -1,5 +1,5 @@
-pub mod Pads
-pub mod InSegments
+pub mod Words
+pub mod Objects
 pub mod Masks
 pub mod Rows
 pub mod Reading

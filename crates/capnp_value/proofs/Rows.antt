@@ -3,7 +3,12 @@ use Rattle.std.proofs.Common.{◌≡◌, ℕ, zero, suc, ◌+◌, ◌<◌, ◌�
 use Rattle.std.specs.declared.alloc.AllocError.{AllocError}
 use Rattle.capnp_model.specs.Chains.{◌>>=◌}
 use Rattle.capnp_model.proofs.Chaining.{bind_some, some_is}
+use Rattle.capnp_units.specs.declared.limiter.ReadLimiter.{ReadLimiter}
+use Rattle.capnp_units.specs.Limits.{left_of, Spends}
+use Rattle.capnp_units.proofs.Spending.{spends_both, passed_by_more, passed_after}
 use Rattle.capnp_value.specs.Rows.{row, total, Reads}
+
+-- ---- rows
 
 pub row_more : {T : Type 0} (read : ℕ → Option T) (i n : ℕ) (xs : List T) (x : T) → row read i n ≡ Some xs → read (i + n) ≡ Some x → row read i (suc n) ≡ Some (xs ++ x ∷ [])
 row_more read i zero xs x e h =
@@ -50,26 +55,22 @@ total_within cost i (suc n) (suc k) h =
 -- ---- readings that may cost so much
 
 -- nothing is there
-pub nothing_there : {X T : Type 0} (view : X → T) (there : Option T) (cost old new : ℕ) → there ≡ None → Reads view there cost old (Ok None) new
+pub nothing_there : {X T : Type 0} (view : X → T) (there : Option T) (cost : ℕ) (old new : ReadLimiter) → there ≡ None → Reads view there cost old (Ok None) new
 nothing_there view there cost old new e t h = absurd cc
 
--- its cost passes what is left
-pub too_dear : {X T : Type 0} (view : X → T) (there : Option T) (cost old new : ℕ) → old < cost → Reads view there cost old (Ok None) new
-too_dear view there cost old new h t e = h
-
 -- something else was paid before
-pub paid_before : {X T : Type 0} (view : X → T) (there : Option T) (cost paid all old mid new : ℕ) (r : Result (Option X) AllocError) → old ≡ paid + mid → all ≡ paid + cost → Reads view there cost mid r new → Reads view there all old r new
-paid_before view there cost paid all old mid new (Ok (Some x)) p e h = let left = h.1 in (h.0, omega arith)
-paid_before view there cost paid all old mid new (Ok None) p e h = λ t is. let less = h t is in omega arith
+pub paid_before : {X T : Type 0} (view : X → T) (there : Option T) (cost paid all : ℕ) (old mid new : ReadLimiter) (r : Result (Option X) AllocError) → Spends old mid paid
+    → ((t : T) → there ≡ Some t → all ≡ paid + cost) → Reads view there cost mid r new → Reads view there all old r new
+paid_before view there cost paid all old mid new (Ok (Some x)) p e h = let sum = e (view x) h.0 in (h.0, rw sum (spends_both old mid new paid cost p h.1))
+paid_before view there cost paid all old mid new (Ok None) p e h = λ t is. let sum = e t is in rw sum (passed_after old mid paid cost p (h t is))
 paid_before view there cost paid all old mid new (Err x) p e h = tt
 
 -- one refused, all refused
-pub row_refused : {X Y T : Type 0} (view : X → T) (views : Y → List T) (read : ℕ → Option T) (cost : ℕ → ℕ) (n k old mid new last : ℕ) → k < n → old ≡ total cost 0 k + mid
+pub row_refused : {X Y T : Type 0} (view : X → T) (views : Y → List T) (read : ℕ → Option T) (cost : ℕ → ℕ) (n k : ℕ) (old mid new last : ReadLimiter) → k < n → Spends old mid (total cost 0 k)
     → Reads view (read k) (cost k) mid (Ok None) new → Reads views (row read 0 n) (total cost 0 n) old (Ok None) last
 row_refused view views read cost n k old mid new last h e f = λ all is.
     let x = row_within read 0 n k all is h in
     let here : 0 + k ≡ k = omega arith in
-    let less : mid < cost k = f x.0 (ap read (sym here) ∙ x.1) in
     let same = ap cost here in
     let within = total_within cost 0 n k h in
-    omega arith
+    passed_by_more (left_of old) (total cost 0 k + cost k) (total cost 0 n) (passed_after old mid (total cost 0 k) (cost k) e (f x.0 (ap read (sym here) ∙ x.1))) (omega arith)

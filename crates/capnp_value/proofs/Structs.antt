@@ -1,39 +1,30 @@
 -- Lists of structs that are read.
-use Rattle.std.proofs.Common.{◌≡◌, ℕ, zero, suc, ◌+◌, ◌-◌, ◌*◌, ◌<◌, ◌≤◌, Bool, true, false, eqb, leb, List, [], ◌∷◌, length, take, drop, Option, Some, None, Result, Ok, Err, Vec, Global, refl, ap, subst, sym, ◌∙◌, arith, rules, if◌then◌else◌}
+use Rattle.std.proofs.Common.{◌≡◌, ℕ, zero, suc, ◌+◌, ◌-◌, ◌*◌, ◌<◌, ◌≤◌, Bool, true, false, leb, List, [], ◌∷◌, length, take, drop, Option, Some, None, Result, Ok, Err, Vec, Global, refl, ap, subst, sym, ◌∙◌, arith, rules}
 use Rattle.std.specs.List.{slice_get}
 use Rattle.std.specs.Option.{is_some}
 use Rattle.std.specs.Result.{result_ok}
-use Rattle.std.proofs.lemmas.Bool.{le-leb, leb-true}
-use Rattle.std.proofs.lemmas.Bool.Decides.{nat_tests}
+use Rattle.std.proofs.lemmas.Bool.{leb-true}
 use Rattle.std.proofs.lemmas.List.{length-take, length-drop, take-take, drop-take, drop-drop}
 use Rattle.std.proofs.Math.Nat.{mul-le-mul_right}
 use Rattle.capnp_model.specs.Kinds.{Kind, OutOfBounds}
 use Rattle.capnp_model.specs.Chains.{◌>>=◌, ◌provided◌, ◌and_then◌, guard}
 use Rattle.capnp_model.specs.Sections.{section_of}
-use Rattle.capnp_model.specs.Segments.{Segments, Place, place, after, word_at, words_at}
-use Rattle.capnp_model.specs.Pointers.{Pointer, to_struct, pointer_of, a_list}
+use Rattle.capnp_model.specs.Segments.{Segments, Place, place, after, words_at}
+use Rattle.capnp_model.specs.Pointers.{pointer_of, a_list}
 use Rattle.capnp_model.specs.Trees.{Tree, structure, struct_list, Trees, none, ◌▸◌, Elements, element, resized}
-use Rattle.capnp_model.specs.Traversal.{Tag, tag_of, tag_in, each, each_element, tree_of, cost_each, cost_elements, tag_cost, object_cost}
+use Rattle.capnp_model.specs.Traversal.{Tag, tag_of, tag_in, each, each_element, tree_of, cost_each, cost_elements}
 use Rattle.capnp_model.proofs.Chaining.{bind_some, some_is, provided_some}
-use Rattle.capnp_value.proofs.Rows.{too_dear}
+use Rattle.capnp_units.specs.declared.limiter.ReadLimiter.{ReadLimiter}
+use Rattle.capnp_wire.proofs.Tags.{words_from, words_are}
 use Rattle.capnp_value.specs.declared.value.Value.{Value, Structs, the_lemmas}
-use Rattle.capnp_value.specs.declared.value.pointer.WordPointer.{WordPointer}
-use Rattle.capnp_value.specs.declared.value.pointer.WordPointer.TheVariants as word
-use Rattle.capnp_value.specs.Places.{pointer_view}
 use Rattle.capnp_value.specs.Values.{tree_of_value, elements_of, trees_view}
 use Rattle.capnp_value.specs.Rows.{row, total, Reads}
-use Rattle.capnp_value.specs.Reads.{clean_of, element_at, element_cost, tag_there}
-use Rattle.capnp_value.proofs.Reading.{words_from, words_are}
+use Rattle.capnp_value.specs.Reads.{element_at, element_cost, structs_at}
 
 pub tree-Structs : (d k : ℕ) (elements : Vec Value Global) → tree_of_value (Structs d k elements) ≡ struct_list d k (elements_of k (trees_view elements.items))
 tree-Structs d k elements = search (rules, the_lemmas)
 
 -- ---- words
-
-drop_from : (xs : List ℕ) (k w : ℕ) → slice_get xs k ≡ Some w → drop k xs ≡ w ∷ drop (suc k) xs
-drop_from [] k w e = absurd cc
-drop_from (x ∷ xs) zero w e = cc
-drop_from (x ∷ xs) (suc k) w e = drop_from xs k w e
 
 pub words_inside : (s : Segments) (p : Place) (n i m : ℕ) → is_some (words_at s p n) ≡ true → i + m ≤ n → is_some (words_at s (after p i) m) ≡ true
 words_inside s p n i m h le =
@@ -43,15 +34,9 @@ words_inside s p n i m h le =
 
 -- ---- the tag
 
-tag_words : (s : Segments) (p : Place) (n w : ℕ) → is_some (words_at s p (1 + n)) ≡ true → word_at s p ≡ Some w → (ws : List ℕ) × (words_at s p (1 + n) ≡ Some (w ∷ ws)) × (length ws ≡ n)
-tag_words s p n w h e =
-    let a = words_from (slice_get s p.segment) p.position (1 + n) h in
-    let bound = a.2 in
-    let b = bind_some (slice_get s p.segment) _ w e in
-    let same : b.0 ≡ a.0 = some_is _ _ (sym b.1 ∙ a.1) in
-    let first : slice_get a.0 p.position ≡ Some w = ap (λ (ws : List ℕ). slice_get ws p.position) (sym same) ∙ b.2 in
-    let one : 1 + n ≡ suc n = omega arith in
-    (take n (drop (suc p.position) a.0), words_are s p (1 + n) a.0 a.1 bound ∙ ap (λ (j : ℕ). Some (take j (drop p.position a.0))) one ∙ ap (λ (ws : List ℕ). Some (take (suc n) ws)) (drop_from a.0 p.position w first), omega (arith, length-take n (drop (suc p.position) a.0), length-drop (suc p.position) a.0))
+-- The tag of a list of structs of so many words behind it.
+abbrev pub tag_there : Segments → Place → ℕ → Option Tag
+tag_there s p words = words_at s p (1 + words) >>= λ ws. result_ok (tag_in ws)
 
 -- a tag whose elements fit
 tag_then : (r : Result Tag Kind) (n : ℕ) → result_ok (r and_then λ t. guard (leb (t.count * (t.data_words + t.pointers)) n) OutOfBounds and_then λ _. Ok t) ≡ (result_ok r >>= λ t. t provided leb (t.count * (t.data_words + t.pointers)) n)
@@ -61,42 +46,6 @@ tag_then (Ok t) n = by (leb (t.count * (t.data_words + t.pointers)) n)
     by : (b : Bool) → result_ok (guard b OutOfBounds and_then λ _. Ok t) ≡ (t provided b)
     by true = refl
     by false = refl
-
-pub tag_is : (s : Segments) (p : Place) (n w : ℕ) → is_some (words_at s p (1 + n)) ≡ true → word_at s p ≡ Some w → tag_there s p n ≡ (result_ok (tag_of (pointer_of w)) >>= λ t. t provided leb (t.count * (t.data_words + t.pointers)) n)
-tag_is s p n w h e =
-    let a = tag_words s p n w h e in
-    let there : words_at s p (1 + n) ≡ Some (w ∷ a.0) = a.1 in
-    let long : length a.0 ≡ n = a.2 in
-    rw there (tag_then (tag_of (pointer_of w)) (length a.0) ∙ ap (λ (m : ℕ). result_ok (tag_of (pointer_of w)) >>= λ t. t provided leb (t.count * (t.data_words + t.pointers)) m) long)
-
-pub tag_found : (s : Segments) (p : Place) (n w o d k : ℕ) → is_some (words_at s p (1 + n)) ≡ true → word_at s p ≡ Some w → to_struct o d k ≡ pointer_of w → o * (d + k) ≤ n → Some (record { count = o; data_words = d; pointers = k }) ≡ tag_there s p n
-tag_found s p n w o d k h e says le =
-    let fits : leb (o * (d + k)) n ≡ true = le-leb _ _ le in
-    sym (tag_is s p n w h e ∙ ap (λ (q : Pointer). result_ok (tag_of q) >>= λ t. t provided leb (t.count * (t.data_words + t.pointers)) n) (sym says) ∙ rw fits refl)
-
-pub tag_short : (s : Segments) (p : Place) (n w o d k : ℕ) → is_some (words_at s p (1 + n)) ≡ true → word_at s p ≡ Some w → to_struct o d k ≡ pointer_of w → n < o * (d + k) → None ≡ tag_there s p n
-tag_short s p n w o d k h e says lt =
-    let fits : leb (o * (d + k)) n ≡ false = grind (arith, nat_tests) in
-    sym (tag_is s p n w h e ∙ ap (λ (q : Pointer). result_ok (tag_of q) >>= λ t. t provided leb (t.count * (t.data_words + t.pointers)) n) (sym says) ∙ rw fits refl)
-
-no_tag : (r : WordPointer) → ((o d k : ℕ) → r ≡ word.Struct o d k → ⊥) → result_ok (tag_of (pointer_view r)) ≡ None
-no_tag (word.Struct o d k) h = absurd (h o d k refl)
-no_tag (word.List o size n) h = refl
-no_tag (word.Far words i j) h = refl
-no_tag (word.Capability i) h = refl
-no_tag word.Unknown h = refl
-
-pub tag_unfit : (s : Segments) (p : Place) (n w : ℕ) (r : WordPointer) → is_some (words_at s p (1 + n)) ≡ true → word_at s p ≡ Some w → pointer_view r ≡ pointer_of w → ((o d k : ℕ) → r ≡ word.Struct o d k → ⊥) → None ≡ tag_there s p n
-tag_unfit s p n w r h e says not =
-    let none_here : result_ok (tag_of (pointer_of w)) ≡ None = ap (λ (q : Pointer). result_ok (tag_of q)) (sym says) ∙ no_tag r not in
-    sym (tag_is s p n w h e ∙ ap (λ (o : Option Tag). o >>= λ t. t provided leb (t.count * (t.data_words + t.pointers)) n) none_here)
-
-pub no_tag_words : (s : Segments) (p : Place) (n : ℕ) → is_some (words_at s p (1 + n)) ≡ false → None ≡ tag_there s p n
-no_tag_words s p n h = by (words_at s p (1 + n)) h
-  where
-    by : (o : Option (List ℕ)) → is_some o ≡ false → None ≡ (o >>= λ ws. result_ok (tag_in ws))
-    by None g = refl
-    by (Some x) g = absurd cc
 
 -- ---- the elements
 
@@ -165,7 +114,7 @@ tag_bound (w ∷ ws) t e =
     let here : t.count * (t.data_words + t.pointers) ≤ length ws = subst (λ (u : Tag). u.count * (u.data_words + u.pointers) ≤ length ws) is fits in
     omega arith
 
-structs_are : (s : Segments) (f : Place → Option Tree) (p : Place) (n : ℕ) (t : Tag) → tag_there s p n ≡ Some t
+pub structs_are : (s : Segments) (f : Place → Option Tree) (p : Place) (n : ℕ) (t : Tag) → tag_there s p n ≡ Some t
     → tree_of s f (a_list p 7 n) ≡ (row (element_at s f (after p 1) t.data_words t.pointers) 0 t.count >>= λ ts. Some (struct_list t.data_words t.pointers (elements_of t.pointers ts)))
 structs_are s f p n t e =
     let a = words_of_tag s p n t e in
@@ -191,38 +140,21 @@ structs_are s f p n t e =
     regroup None = refl
     regroup (Some ts) = refl
 
-structs_cost : (s : Segments) (g : Place → ℕ) (p : Place) (n : ℕ) (t : Tag) → tag_there s p n ≡ Some t
-    → object_cost s g (a_list p 7 n) ≡ n + 1 + ((if eqb (t.data_words + t.pointers) 0 then t.count else 0) + total (element_cost g (after p 1) t.data_words t.pointers) 0 t.count)
-structs_cost s g p n t e =
-    let d = t.data_words in
-    let k = t.pointers in
-    let first : p.position + 1 ≡ p.position + 1 + 0 * (d + k) = omega arith in
-    let sum = ap (λ (j : ℕ). cost_elements g (place p.segment j) d k t.count) first ∙ cost_of_elements g (after p 1) d k 0 t.count in
-    ap (λ (o : Option Tag). n + 1 + tag_cost g p o) e ∙ ap (λ (c : ℕ). n + 1 + ((if eqb (d + k) 0 then t.count else 0) + c)) sum
+elements_cost : (g : Place → ℕ) (p : Place) (d k n : ℕ) → cost_elements g p d k n ≡ total (element_cost g p d k) 0 n
+elements_cost g p d k n = let first : p.position ≡ p.position + 0 * (d + k) = omega arith in ap (λ (j : ℕ). cost_elements g (place p.segment j) d k n) first ∙ cost_of_elements g p d k 0 n
 
-pub structs_read : (s : Segments) (f : Place → Option Tree) (g : Place → ℕ) (p : Place) (n : ℕ) (t : Tag) (elements : Vec Value Global) (own old mid new : ℕ) → tag_there s p n ≡ Some t
-    → own ≡ (if eqb (t.data_words + t.pointers) 0 then t.count else 0) → old ≡ n + 1 + own + mid
-    → Reads {X = Vec Value Global} (λ v. trees_view v.items) (row (element_at s f (after p 1) t.data_words t.pointers) 0 t.count) (total (element_cost g (after p 1) t.data_words t.pointers) 0 t.count) mid (Ok (Some elements)) new
-    → Reads tree_of_value (clean_of s f (a_list p 7 n)) (object_cost s g (a_list p 7 n)) old (Ok (Some (Structs t.data_words t.pointers elements))) new
-structs_read s f g p n t elements own old mid new e voids paid r =
-    let cost = structs_cost s g p n t e in
-    let left = r.1 in
-    (structs_are s f p n t e ∙ ap (λ (o : Option (List Tree)). o >>= λ ts. Some (struct_list t.data_words t.pointers (elements_of t.pointers ts))) r.0 ∙ ap (λ (u : Tree). Some u) (sym (tree-Structs t.data_words t.pointers elements)), omega arith)
+pub structs_read : (s : Segments) (f : Place → Option Tree) (g : Place → ℕ) (p : Place) (d k n : ℕ) (elements : Vec Value Global) (old new : ReadLimiter)
+    → Reads {X = Vec Value Global} (λ v. trees_view v.items) (row (element_at s f p d k) 0 n) (total (element_cost g p d k) 0 n) old (Ok (Some elements)) new
+    → Reads tree_of_value (structs_at s f p d k n) (cost_elements g p d k n) old (Ok (Some (Structs d k elements))) new
+structs_read s f g p d k n elements old new r =
+    (ap (λ (o : Option (List Tree)). o >>= λ ts. Some (struct_list d k (elements_of k ts))) r.0 ∙ ap (λ (u : Tree). Some u) (sym (tree-Structs d k elements)), rw (elements_cost g p d k n) r.1)
 
-pub structs_refused : (s : Segments) (f : Place → Option Tree) (g : Place → ℕ) (p : Place) (n : ℕ) (t : Tag) (own old mid last new : ℕ) → tag_there s p n ≡ Some t
-    → own ≡ (if eqb (t.data_words + t.pointers) 0 then t.count else 0) → old ≡ n + 1 + own + mid
-    → Reads {X = Vec Value Global} (λ v. trees_view v.items) (row (element_at s f (after p 1) t.data_words t.pointers) 0 t.count) (total (element_cost g (after p 1) t.data_words t.pointers) 0 t.count) mid (Ok None) last
-    → Reads tree_of_value (clean_of s f (a_list p 7 n)) (object_cost s g (a_list p 7 n)) old (Ok None) new
-structs_refused s f g p n t own old mid last new e voids paid r = λ u is.
-    let a = bind_some (row (element_at s f (after p 1) t.data_words t.pointers) 0 t.count) _ u (sym (structs_are s f p n t e) ∙ is) in
-    let less : mid < total (element_cost g (after p 1) t.data_words t.pointers) 0 t.count = r a.0 a.1 in
-    let cost = structs_cost s g p n t e in
-    omega arith
-
-pub structs_too_dear : (s : Segments) (f : Place → Option Tree) (g : Place → ℕ) (p : Place) (n : ℕ) (t : Tag) (own old new : ℕ) → tag_there s p n ≡ Some t
-    → own ≡ (if eqb (t.data_words + t.pointers) 0 then t.count else 0) → old < n + 1 + own
-    → Reads tree_of_value (clean_of s f (a_list p 7 n)) (object_cost s g (a_list p 7 n)) old (Ok None) new
-structs_too_dear s f g p n t own old new e voids less = let cost = structs_cost s g p n t e in too_dear tree_of_value _ _ old new (omega arith)
+pub structs_refused : (s : Segments) (f : Place → Option Tree) (g : Place → ℕ) (p : Place) (d k n : ℕ) (old last new : ReadLimiter)
+    → Reads {X = Vec Value Global} (λ v. trees_view v.items) (row (element_at s f p d k) 0 n) (total (element_cost g p d k) 0 n) old (Ok None) last
+    → Reads tree_of_value (structs_at s f p d k n) (cost_elements g p d k n) old (Ok None) new
+structs_refused s f g p d k n old last new r = λ u is.
+    let a = bind_some (row (element_at s f p d k) 0 n) _ u is in
+    rw (elements_cost g p d k n) (r a.0 a.1)
 
 -- an element below the count lies within the list
 pub element_within : (i count width : ℕ) → i < count → i * width + width ≤ count * width

@@ -1,4 +1,3 @@
-pub mod Places
 pub mod Values
 pub mod Rows
 pub mod Reads

@@ -3,8 +3,6 @@
 //! `read_value` makes a value of a message's root, `trim_whole` leaves out of it what a canonical message leaves out, `canonical` writes its words, and `is_within` bounds its levels. A word is 64 bits.
 
 mod depth;
-mod find;
-mod pointer;
 mod read;
 mod size;
 #[cfg(test)]

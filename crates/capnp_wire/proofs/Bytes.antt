@@ -8,7 +8,7 @@ use Rattle.std.proofs.lemmas.List.{drop-drop, length-drop, get_or-drop}
 use Rattle.std.proofs.Math.Nat.{mod-lt, mod-mod}
 use lib.Pow as pow
 use Rattle.capnp_model.specs.Bytes.{words_in_bytes}
-use Rattle.capnp_model.specs.Sections.{bits_at, number_of, section_of}
+use Rattle.capnp_model.specs.Sections.{bits_at, numbers_in, number_of, section_of}
 use Rattle.capnp_model.specs.Segments.{place, words_at}
 use Rattle.capnp_units.specs.Segments.{whole_words, words_in}
 use Rattle.capnp_units.proofs.FirstBytes.{first_eight}
@@ -85,13 +85,27 @@ words_of_part p n bytes h =
     ap (λ (k : ℕ). take n (drop p (words_in_bytes k bytes))) all ∙ ap (take n) (words_in_bytes-drop p (n + r) bytes) ∙ words_in_bytes-take n r (drop (8 * p) bytes)
 
 -- the bytes of words are their section
-pub section_of_part : (s : List (List ℕ)) (i p n : ℕ) (bytes : List ℕ) → Some bytes ≡ slice_get s i → AreBytes bytes → p + n ≤ length bytes / 8
-    → number_of 8 (take (8 * n) (drop (8 * p) bytes)) ≡ section_at (words_in s) (place i p) n
-unfolding section_at
-section_of_part s i p n bytes e small h =
-    let there = segment_there s i bytes e in
-    let here = words_are (words_in s) (place i p) n (whole_words bytes) there (let len = whole_words-length bytes in omega arith) in
+pub section_of_part : (p n : ℕ) (bytes : List ℕ) → AreBytes bytes → p + n ≤ length bytes / 8 → number_of 8 (take (8 * n) (drop (8 * p) bytes)) ≡ section_of (take n (drop p (whole_words bytes)))
+section_of_part p n bytes small h =
     let bits : 8 * (8 * n) ≡ 64 * n = omega arith in
     number_of-take 8 (8 * n) (drop (8 * p) bytes) ∙ ap (λ (k : ℕ). number_of 8 (drop (8 * p) bytes) % 2 ^ k) bits
-    ∙ sym (words_are_bits n (drop (8 * p) bytes) (omega (arith, length-drop (8 * p) bytes)) (AreBytes-drop (8 * p) bytes small))
-    ∙ ap section_of (sym (words_of_part p n bytes h)) ∙ ap section_in (sym here)
+    ∙ sym (words_are_bits n (drop (8 * p) bytes) (omega (arith, length-drop (8 * p) bytes)) (AreBytes-drop (8 * p) bytes small)) ∙ ap section_of (sym (words_of_part p n bytes h))
+
+pub section_there : (s : List (List ℕ)) (i p n : ℕ) (bytes : List ℕ) → Some bytes ≡ slice_get s i → p + n ≤ length bytes / 8 → section_of (take n (drop p (whole_words bytes))) ≡ section_at (words_in s) (place i p) n
+unfolding section_at
+section_there s i p n bytes e h =
+    let there = segment_there s i bytes e in
+    sym (ap section_in (words_are (words_in s) (place i p) n (whole_words bytes) there (let len = whole_words-length bytes in omega arith)))
+
+-- ---- bytes one by one
+
+pub bytes_of_front : (n : ℕ) (bytes : List ℕ) → n ≤ length bytes → AreBytes bytes → numbers_in 8 n (number_of 8 bytes) ≡ take n bytes
+bytes_of_front zero bytes h small = refl
+bytes_of_front (suc n) [] h small = absurd (omega arith)
+bytes_of_front (suc n) (b ∷ bytes) h small =
+    let r = mod-lt b (pow_pos 8) in
+    let byte : b < 256 = small 0 in
+    let first : (number_of 8 bytes * 2 ^ 8 + b % 2 ^ 8) % 2 ^ 8 ≡ b = pow.low (number_of 8 bytes) 8 r ∙ omega arith in
+    let rest : (number_of 8 bytes * 2 ^ 8 + b % 2 ^ 8) / 2 ^ 8 ≡ number_of 8 bytes = pow.high (number_of 8 bytes) 8 r in
+    ap (λ (m : ℕ). m ∷ numbers_in 8 n ((number_of 8 bytes * 2 ^ 8 + b % 2 ^ 8) / 2 ^ 8)) first ∙ ap (λ (m : ℕ). b ∷ numbers_in 8 n m) rest
+    ∙ ap (λ (xs : List ℕ). b ∷ xs) (bytes_of_front n bytes (omega arith) (λ i. small (suc i)))

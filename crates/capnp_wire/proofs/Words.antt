@@ -75,3 +75,11 @@ word_of_eight bytes =
 
 pub word_of_front : (n : ℕ) (bytes first : List ℕ) → 8 ≤ n → first ≡ take 8 (take n bytes) → from_le_bytes w64 first ≡ from_le_bytes w64 bytes
 word_of_front n bytes first h e = let f : List ℕ → ℕ = from_le_bytes w64 in ap f (e ∙ take-take 8 n bytes h) ∙ word_of_eight bytes
+
+-- what is there lies inside its segment
+pub words_end : (s : List (List ℕ)) (i k n : ℕ) (bytes : List ℕ) → Some bytes ≡ slice_get s i → is_some (words_at (words_in s) (place i k) n) ≡ true → k + n ≤ length bytes / 8
+words_end s i k n bytes e h = leb-true (k + n) (length bytes / 8) (sym (words_where s i k n bytes e) ∙ h)
+
+-- no word is there without a segment
+pub none_there : (s : List (List ℕ)) (i k n : ℕ) → None ≡ slice_get s i → is_some (words_at (words_in s) (place i k) n) ≡ true → ⊥
+none_there s i k n e h = let none = no_words s i k n e in absurd cc

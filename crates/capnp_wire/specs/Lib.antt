@@ -3,7 +3,9 @@ pub mod Named
 pub mod Objects
 pub mod Follow
 pub mod Levels
+pub mod Elements
 pub mod Views
+pub mod Reads
 pub use Rattle.capnp_units.specs.Errors
 pub use Rattle.capnp_units.specs.Limits
 pub use Rattle.capnp_units.specs.Segments

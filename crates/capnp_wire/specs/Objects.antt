@@ -44,7 +44,7 @@ AreThere s p n = (is_some (words_at s p n) ≡ true) × (p.position + n < 2 ^ 61
 abbrev pub IsInside : Segments → Object → Type 0
 IsInside s object.Null = Unit {0}
 IsInside s (object.Struct p d k) = AreThere s (place_view p) (d + k)
-IsInside s (object.List p size n) = AreThere s (place_view p) (words_for (data_bits (size_number size) * n))
+IsInside s (object.List p size n) = (size_number size < 6) × AreThere s (place_view p) (words_for (data_bits (size_number size) * n))
 IsInside s (object.PointerList p n) = AreThere s (place_view p) n
 IsInside s (object.StructList p words n d k) = AreThere s (place_view p) words × (n * (d + k) ≤ words)
 IsInside s (object.Capability i) = Unit {0}

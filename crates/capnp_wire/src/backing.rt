@@ -1,8 +1,8 @@
 //! What readers stand on.
-ghost use Rattle.std.specs.Prelude.{◌≡◌, ◌+◌, ◌*◌, ◌<◌, ◌^◌, pos, length, slice_get, option_copied};
+ghost use Rattle.std.specs.Prelude.{◌≡◌, ◌+◌, ◌*◌, ◌<◌, ◌^◌, ◌/◌, ◌≤◌, pos, length, take, drop, slice_get, option_copied};
 ghost use Rattle.std.specs.List.{flat_map};
-ghost use Rattle.capnp_model.specs.Sections.{number_of};
-ghost use Rattle.capnp_units.specs.Segments.{words_in};
+ghost use Rattle.capnp_model.specs.Sections.{numbers_in, number_of, section_of};
+ghost use Rattle.capnp_units.specs.Segments.{whole_words, words_in};
 ghost use Rattle.capnp_wire.specs.Places.{place_view};
 ghost use Rattle.capnp_wire.specs.Objects.{AreThere};
 ghost use Rattle.capnp_wire.specs.Views.{backing_bytes, ground_of, default_ground, section_at};
@@ -26,6 +26,23 @@ pub fn default_backing<'a, A: ReaderArena>(words: &'a [Word]) -> Backing<'a, A>
     ensures { ground_of A.segments result ≡ default_ground words.now }
 {
     Backing::Default(words_as_bytes(words))
+}
+
+/// So many words of bytes, from a position on.
+fn words_of(bytes: &[u8], position: usize, words: usize) -> &[u8]
+    requires { position + words ≤ length bytes.now / 8 }
+    ensures len { length result.now ≡ 8 * words }
+    ensures section { number_of 8 result.now ≡ section_of (take words (drop position (whole_words bytes.now))) }
+{
+    &bytes[8 * position..8 * (position + words)]
+}
+
+/// So many bytes at the front of others.
+pub(crate) fn front_of(bytes: &[u8], count: usize) -> &[u8]
+    requires { count ≤ length bytes.now }
+    ensures { result.now ≡ numbers_in 8 count (number_of 8 bytes.now) }
+{
+    &bytes[..count]
 }
 
 impl<'a, A: ReaderArena> Backing<'a, A> {
@@ -52,7 +69,7 @@ impl<'a, A: ReaderArena> Backing<'a, A> {
         ensures section { number_of 8 result.now ≡ section_at (words_in (backing_bytes A.segments self.entry)) (place_view start) words }
     {
         match self.segment(start.segment) {
-            Some(bytes) => &bytes[8 * start.position..8 * (start.position + words)],
+            Some(bytes) => words_of(bytes, start.position, words),
             None => &[],
         }
     }

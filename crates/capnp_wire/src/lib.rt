@@ -5,9 +5,14 @@
 
 pub mod arena;
 pub mod backing;
+pub mod element;
 pub mod follow;
 pub mod levels;
+pub mod list;
 mod named;
 pub mod object;
 pub mod place;
+pub mod pointer;
+mod section;
+pub mod structs;
 mod word_pointer;

@@ -9,7 +9,6 @@ ghost use Rattle.capnp_model.specs.Sizes.{object_words, each_object_words, eleme
 ghost use Rattle.capnp_value.specs.Values.{tree_of_value, trees_of, trees_view, element_of, elements_of};
 
 use crate::value::Value;
-use crate::value::read::bits_of;
 use capnp_model::laws;
 
 /// The most words that a canonical segment may have. One of them is the root word.
@@ -33,6 +32,21 @@ fn take(left: &mut usize, words: usize) -> bool
         true
     } else {
         false
+    }
+}
+
+/// The bits of an element of a plain list.
+pub fn bits_of(size: u8) -> u32
+    ensures same { result ≡ size_bits size }
+    ensures most { result ≤ 64 }
+{
+    match size {
+        0 => 0,
+        1 => 1,
+        2 => 8,
+        3 => 16,
+        4 => 32,
+        _ => 64,
     }
 }
 

@@ -1,12 +1,20 @@
 //! Worked messages: their words, and the canonical words of their trimmed values.
 
-ghost use Rattle.std.specs.Prelude.{◌≤◌, ◌<◌, ◌^◌, length};
-ghost use Rattle.capnp_value.specs.Places.{AreShort};
+ghost use Rattle.std.specs.Prelude.{◌<◌, ◌^◌};
 
 use crate::value::{Bounds, canonical, is_within, read_value, trim_whole};
 use std::alloc::{AllocError, Global};
 use std::process::Abort;
 use std::test::Fail;
+
+/// The bytes of words, the lowest byte of each first.
+fn bytes_of(alloc: Global, words: &[u64]) -> Result<Vec<u8>, AllocError> {
+    let mut bytes = Vec::new(alloc);
+    for word in words {
+        bytes.extend_from_slice(&word.to_le_bytes())?;
+    }
+    Ok(bytes)
+}
 
 /// Asserts that a message of one segment has a value of these canonical words when it is trimmed.
 fn expect_words(
@@ -16,10 +24,9 @@ fn expect_words(
     words: u32,
     expected: &[u64],
 ) -> Result<(), Fail>
-    requires short { length message.now ≤ 16 }
-    requires words { words < 2 ^ 29 }
+    requires { words < 2 ^ 29 }
 {
-    let segments = vec![in alloc; message.to_vec(alloc)?]?;
+    let segments = vec![in alloc; bytes_of(alloc, message)?]?;
     expect_written(rt, alloc, &segments, words, expected)
 }
 
@@ -27,12 +34,11 @@ fn expect_words(
 fn expect_written(
     rt: &impl Abort,
     alloc: Global,
-    segments: &[Vec<u64>],
+    segments: &Vec<Vec<u8>>,
     words: u32,
     expected: &[u64],
 ) -> Result<(), Fail>
-    requires short { AreShort segments.now }
-    requires words { words < 2 ^ 29 }
+    requires { words < 2 ^ 29 }
 {
     let bounds = Bounds { words, nesting: 64 };
     let mut value = read_value(alloc, segments, bounds)?.ok_or("no value")?;
@@ -44,10 +50,9 @@ fn expect_written(
 
 /// Asserts that a message of one segment has a value of just so many levels.
 fn expect_depth(rt: &impl Abort, alloc: Global, message: &[u64], levels: u32) -> Result<(), Fail>
-    requires short { length message.now ≤ 16 }
-    requires levels { 0 < levels }
+    requires { 0 < levels }
 {
-    let segments = vec![in alloc; message.to_vec(alloc)?]?;
+    let segments = vec![in alloc; bytes_of(alloc, message)?]?;
     let bounds = Bounds {
         words: 1000,
         nesting: 64,
@@ -65,10 +70,8 @@ fn expect_refused(
     message: &[u64],
     words: u32,
     nesting: u32,
-) -> Result<(), Fail>
-    requires { length message.now ≤ 16 }
-{
-    let segments = vec![in alloc; message.to_vec(alloc)?]?;
+) -> Result<(), Fail> {
+    let segments = vec![in alloc; bytes_of(alloc, message)?]?;
     let found = read_value(alloc, &segments, Bounds { words, nesting })?;
     assert!(rt; found.is_none());
     Ok(())
@@ -81,6 +84,20 @@ fn null_and_empty_struct(rt: HostRuntime) -> Result<(), Fail> {
 }
 
 #[test]
+fn bytes_past_the_last_word(rt: HostRuntime) -> Result<(), Fail> {
+    let alloc = rt.alloc();
+    let whole = vec![in alloc; [0, 0, 0, 0, 1, 0, 0, 0, 7, 0, 0, 0, 0, 0, 0, 0, 9].to_vec(alloc)?]?;
+    expect_written(&rt, alloc, &whole, 1, &[0x1_0000_0000, 7])?;
+    let cut = vec![in alloc; [0, 0, 0, 0, 1, 0, 0, 0, 7, 0, 0, 0, 0, 0, 0].to_vec(alloc)?]?;
+    let bounds = Bounds {
+        words: 1000,
+        nesting: 64,
+    };
+    assert!(&rt; read_value(alloc, &cut, bounds)?.is_none());
+    Ok(())
+}
+
+#[test]
 fn one_word(rt: HostRuntime) -> Result<(), Fail> {
     let message = [0x1_0000_0000, 7];
     expect_words(&rt, rt.alloc(), &message, 1000, &message)
@@ -90,14 +107,14 @@ fn one_word(rt: HostRuntime) -> Result<(), Fail> {
 fn far_pointers(rt: HostRuntime) -> Result<(), Fail> {
     let alloc = rt.alloc();
     let far = vec![in alloc;
-        [0x1_0000_0002].to_vec(alloc)?,
-        [0x1_0000_0000, 7].to_vec(alloc)?,
+        bytes_of(alloc, &[0x1_0000_0002])?,
+        bytes_of(alloc, &[0x1_0000_0000, 7])?,
     ]?;
     expect_written(&rt, alloc, &far, 2, &[0x1_0000_0000, 7])?;
     let double = vec![in alloc;
-        [0x1_0000_0006].to_vec(alloc)?,
-        [0x2_0000_0002, 0x1_0000_0000].to_vec(alloc)?,
-        [7].to_vec(alloc)?,
+        bytes_of(alloc, &[0x1_0000_0006])?,
+        bytes_of(alloc, &[0x2_0000_0002, 0x1_0000_0000])?,
+        bytes_of(alloc, &[7])?,
     ]?;
     expect_written(&rt, alloc, &double, 3, &[0x1_0000_0000, 7])
 }

@@ -9,7 +9,7 @@ ghost use Rattle.capnp_value.specs.Values.{tree_of_value, trees_of, trees_view, 
 ghost use Rattle.capnp_value.specs.Writes.{with_words, with_links, with_cells};
 
 use crate::value::Value;
-use crate::value::read::bits_of;
+use crate::value::size::bits_of;
 use std::alloc::{AllocError, Global};
 
 /// The words of a message of one segment with this value: the pointer to it, and what it points to behind that, each object before those below it and nothing between them. They are canonical where the value is trimmed; of another value they keep its zeros and nulls too.

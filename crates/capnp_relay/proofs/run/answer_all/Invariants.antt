@@ -9,7 +9,7 @@ abbrev pub invariant-loop-answered : goal.invariant-loop-answered
 invariant-loop-answered g l = record {
   together : l.counts.written + l.counts.refused ≡ l.answered;
   run : (messages : List Segments) × (answers : List Answer) × (length answers ≡ l.answered)
-      × Answered (Some l.limit) (g.A.Answers.is_answer l.answers) messages answers
+      × Answered g.I.MessageForm.reader g.O.MessageForm.writer (Some l.limit) (g.A.Answers.is_answer l.answers) messages answers
       (seen (source_seen g.R.Read.remaining g.R.Read.failures l.initial.source) (sink_seen g.W.Write.contents g.W.Write.failures g.W.Write.room l.initial.out) (sink_seen g.L.Write.contents g.L.Write.failures g.L.Write.room l.initial.log))
       (seen (source_seen g.R.Read.remaining g.R.Read.failures l.source) (sink_seen g.W.Write.contents g.W.Write.failures g.W.Write.room l.out) (sink_seen g.L.Write.contents g.L.Write.failures g.L.Write.room l.log))
       l.counts;

@@ -1,13 +1,14 @@
 use Rattle.std.proofs.Common.{◌≡◌, ◌+◌, List, ℕ, Some, Err, refl, ap, subst, ◌∙◌}
 use Rattle.std.proofs.KnownBytes.{Keeps-refl}
 use Rattle.std.proofs.lemmas.Result.{err_from_is_err_and}
+use Rattle.capnp_model.specs.Answers.{written}
 use Rattle.capnp_model.specs.Runs.{line_of}
 use Rattle.capnp_stream.specs.Segments.{segments_of}
 use Rattle.capnp_relay.specs.Answers.{answer_view}
 use Rattle.capnp_relay.specs.Streams.{source_seen, sink_seen, seen}
 use Rattle.capnp_relay.specs.Stops.{SinkRefused}
 use Rattle.capnp_relay.specs.declared.ends.Fault.TheVariants as faults
-use Rattle.capnp_relay.proofs.StepLemmas.{Stops-of_want, Stops-of_log, number-after}
+use Rattle.capnp_relay.proofs.StepLemmas.{Stops-of_want, Stops-of_out, Stops-of_log, number-after}
 use Rattle.capnp_relay.proofs.step.step.Goals as goal
 
 pub returns-in_err-prepared-clause-fault : goal.returns-in_err-prepared-clause-fault
@@ -16,10 +17,23 @@ returns-in_err-prepared-clause-fault g c =
     let taken = rw c.in-Ok-Some.field-0-is at c.in-Ok-Some.ensures.message in
     let failed = c.in_err-prepared.ensures in
     let old = seen (source_seen g.R.Read.remaining g.R.Read.failures c.args.source.now) (sink_seen g.W.Write.contents g.W.Write.failures g.W.Write.room c.args.out.now) (sink_seen g.L.Write.contents g.L.Write.failures g.L.Write.room c.args.log.now) in
-    let new = seen (source_seen g.R.Read.remaining g.R.Read.failures c.try_read_message.new.source) (sink_seen g.W.Write.contents g.W.Write.failures g.W.Write.room c.args.out.now) (sink_seen g.L.Write.contents g.L.Write.failures g.L.Write.room c.args.log.now) in
-    rw (p.1, p.2) (Stops-of_want (Some c.args.limit) (g.A.Answers.is_answer c.args.answers.now) (g.A.Answers.passes_size c.args.answers.now) g.W.Write.may_grow g.L.Write.may_grow (c.args.answered + 1) old new c.args.counts.now c.args.counts.now
+    let new = seen (source_seen g.R.Read.remaining g.R.Read.failures c.try_read_message_in.new.source) (sink_seen g.W.Write.contents g.W.Write.failures g.W.Write.room c.args.out.now) (sink_seen g.L.Write.contents g.L.Write.failures g.L.Write.room c.args.log.now) in
+    rw (p.1, p.2) (Stops-of_want g.I.MessageForm.reader g.met.I.MessageForm.fronts g.O.MessageForm.writer (Some c.args.limit) (g.A.Answers.is_answer c.args.answers.now) (g.A.Answers.passes_size c.args.answers.now) g.W.Write.may_grow g.L.Write.may_grow (c.args.answered + 1) old new c.args.counts.now c.args.counts.now
     (segments_of c.in-Ok-Some.message) taken c.in-Ok-Some.ensures.count _ failed.err
     (λ e. number-after _ _ (failed.size (ap Err e))) (Keeps-refl _, refl) (Keeps-refl _, refl) refl)
+
+pub returns-in_err-put_out-clause-fault : goal.returns-in_err-put_out-clause-fault
+returns-in_err-put_out-clause-fault g c =
+    let p = err_from_is_err_and c.from_residual-in_err-put_out.result c.from_residual-in_err-put_out.ensures.1 in
+    let taken = rw c.in-Ok-Some.field-0-is at c.in-Ok-Some.ensures.message in
+    let s = segments_of c.in-Ok-Some.message in
+    let is_answer = g.A.Answers.is_answer c.args.answers.now in
+    let refused = c.in_err-put_out.ensures.err in
+    let answers : is_answer s (written refused.0 refused.1) = subst (is_answer s) refused.2 c.in_ok-prepared.ensures.answer in
+    let old = seen (source_seen g.R.Read.remaining g.R.Read.failures c.args.source.now) (sink_seen g.W.Write.contents g.W.Write.failures g.W.Write.room c.args.out.now) (sink_seen g.L.Write.contents g.L.Write.failures g.L.Write.room c.args.log.now) in
+    let new = seen (source_seen g.R.Read.remaining g.R.Read.failures c.try_read_message_in.new.source) (sink_seen g.W.Write.contents g.W.Write.failures g.W.Write.room c.put_out.new.out) (sink_seen g.L.Write.contents g.L.Write.failures g.L.Write.room c.args.log.now) in
+    rw (p.1, p.2) (Stops-of_out g.I.MessageForm.reader g.met.I.MessageForm.fronts g.O.MessageForm.writer (Some c.args.limit) is_answer (g.A.Answers.passes_size c.args.answers.now) g.W.Write.may_grow g.L.Write.may_grow (c.args.answered + 1) old new c.args.counts.now c.put_out.new.counts
+    s taken c.in-Ok-Some.ensures.count _ refused.0 refused.1 answers refused.3 (Keeps-refl _, refl) refused.4)
 
 pub returns-in_err-put_log-clause-fault : goal.returns-in_err-put_log-clause-fault
 returns-in_err-put_log-clause-fault g c =
@@ -32,8 +46,8 @@ returns-in_err-put_log-clause-fault g c =
     let P : List ℕ → Type 0 = λ bytes. SinkRefused faults.Log g.L.Write.may_grow c.in_err-put_log.field-0.0
     (sink_seen g.L.Write.contents g.L.Write.failures g.L.Write.room c.args.log.now) (sink_seen g.L.Write.contents g.L.Write.failures g.L.Write.room c.put_log.new.log) bytes in
     let old = seen (source_seen g.R.Read.remaining g.R.Read.failures c.args.source.now) (sink_seen g.W.Write.contents g.W.Write.failures g.W.Write.room c.args.out.now) (sink_seen g.L.Write.contents g.L.Write.failures g.L.Write.room c.args.log.now) in
-    let new = seen (source_seen g.R.Read.remaining g.R.Read.failures c.try_read_message.new.source) (sink_seen g.W.Write.contents g.W.Write.failures g.W.Write.room c.put_out.new.out) (sink_seen g.L.Write.contents g.L.Write.failures g.L.Write.room c.put_log.new.log) in
-    rw (p.1, p.2) (Stops-of_log (Some c.args.limit) (g.A.Answers.is_answer c.args.answers.now) (g.A.Answers.passes_size c.args.answers.now) g.W.Write.may_grow g.L.Write.may_grow (c.args.answered + 1) old new c.args.counts.now c.put_log.new.counts
+    let new = seen (source_seen g.R.Read.remaining g.R.Read.failures c.try_read_message_in.new.source) (sink_seen g.W.Write.contents g.W.Write.failures g.W.Write.room c.put_out.new.out) (sink_seen g.L.Write.contents g.L.Write.failures g.L.Write.room c.put_log.new.log) in
+    rw (p.1, p.2) (Stops-of_log g.I.MessageForm.reader g.met.I.MessageForm.fronts g.O.MessageForm.writer (Some c.args.limit) (g.A.Answers.is_answer c.args.answers.now) (g.A.Answers.passes_size c.args.answers.now) g.W.Write.may_grow g.L.Write.may_grow (c.args.answered + 1) old new c.args.counts.now c.put_log.new.counts
     (segments_of c.in-Ok-Some.message) taken c.in-Ok-Some.ensures.count _ a c.in_ok-prepared.ensures.answer
     c.in_ok-put_out.ensures.ok.0 (subst P line stops.0)
     (c.in_err-put_log.ensures.written ∙ c.in_ok-put_out.ensures.ok.1) (stops.1 ∙ c.in_ok-put_out.ensures.refused))

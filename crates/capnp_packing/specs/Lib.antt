@@ -1,0 +1,6 @@
+pub mod Parts
+pub mod Runs
+pub mod Groups
+pub mod Written
+pub mod Fronts
+pub mod Streams

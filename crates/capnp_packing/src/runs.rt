@@ -1,0 +1,39 @@
+//! Runs of words in packed pieces.
+ghost use Rattle.std.specs.Prelude.{◌≡◌, ◌≤◌, ◌*◌, length, drop};
+ghost use Rattle.capnp_packing.specs.Runs.{end_kind, run_words, run_bytes};
+
+use capnp_units::kinds::ErrorKind;
+
+/// What comes next in a piece: its first group, a further group, or so many words of a run, behind which a group comes.
+#[derive(Clone, Copy)]
+pub(crate) enum Run {
+    First,
+    Next,
+    Zeros(u8),
+    Verbatim(u8),
+}
+
+impl Run {
+    /// The kind of an end where a group should begin.
+    pub(crate) fn end_kind(self) -> ErrorKind
+        ensures { result ≡ end_kind self }
+    {
+        match self {
+            Run::First => ErrorKind::FailedToFillTheWholeBuffer,
+            _ => ErrorKind::PrematureEndOfPackedInput,
+        }
+    }
+
+    /// The bytes of this run as they are written, and those behind it.
+    pub(crate) fn split(self, bytes: &[u8]) -> (&[u8], &[u8])
+        requires { 8 * run_words self ≤ length bytes.now }
+        ensures written { result.0.now ≡ run_bytes self bytes.now }
+        ensures rest { result.1.now ≡ drop (8 * run_words self) bytes.now }
+    {
+        match self {
+            Run::Zeros(count) => (&[], &bytes[8 * count as usize..]),
+            Run::Verbatim(count) => bytes.split_at(8 * count as usize),
+            _ => (&[], bytes),
+        }
+    }
+}

@@ -1,0 +1,92 @@
+//! Packed messages of any number of segments, over segments and a limit of words.
+ghost use Rattle.std.specs.Prelude.{◌≡◌, ◌≢◌, ◌<◌, ◌⊎◌, [], ◌∷◌, length, IfSome, IfNone, IfOk, IfErr, OnOk, OnErr};
+ghost use Rattle.std.specs.Io.KnownBytes.{Keeps, Appends, IsAtEnd};
+ghost use Rattle.capnp_units.specs.declared.kinds.ErrorKind.{ErrorKind};
+ghost use Rattle.capnp_units.specs.Segments.{whole_words, words_in};
+ghost use Rattle.capnp_model.specs.Packing.{unpacked};
+ghost use Rattle.capnp_model.specs.Messages.{packed_message};
+ghost use Rattle.capnp_model.specs.Spelling.{CanSpell};
+ghost use Rattle.capnp_stream.specs.Counting.{Counts};
+ghost use Rattle.capnp_stream.specs.Segments.{segments_of};
+ghost use Rattle.capnp_stream.specs.Frames.{IsFrameFault, TakesMessage, TakesPart, IsFramingKind, IsReadKind};
+ghost use Rattle.capnp_stream.specs.Streams.{AppendsPart, RoomFalls, IsWriteRefusal};
+ghost use Rattle.capnp_stream.specs.Writing.{IsSegment, AreWritable};
+
+use crate::form::Packed;
+use capnp_stream::frames::{read_message_in, try_read_message_in};
+use capnp_stream::segments::OwnedSegments;
+use capnp_stream::traits::{BufRead, Read, Write};
+use capnp_stream::writing::{write_message_segments_in, write_segment_in};
+use capnp_units::errors::Result;
+use capnp_units::kinds::ErrorKind;
+use capnp_units::segments::ReaderSegments;
+use std::alloc::Global;
+
+/// The segments of the next packed message, or `None` where no byte is left.
+///
+/// A message of more words than the limit is refused. After a refusal no more than a part of a message was taken.
+pub fn try_read_message<R: BufRead>(
+    alloc: Global,
+    source: &mut R,
+    limit: Option<usize>,
+) -> Result<Option<OwnedSegments>>
+    // One message is taken, whatever follows it.
+    ensures message { IfOk result (λ o. IfSome o (λ m. TakesMessage unpacked limit (R.remaining source.old) (R.remaining source.new) (segments_of m))) }
+    ensures kept { IfOk result (λ o. IfSome o (λ m. CanSpell limit (segments_of m))) }
+    ensures none { IfOk result (λ o. IfNone o (IsAtEnd (R.remaining source.old) × Keeps (R.remaining source.old) (R.remaining source.new))) }
+
+    // The bytes that are left begin with no message, and the kind says why.
+    ensures refused { IfErr result (λ e. IsFramingKind e.kind → IfSome (R.remaining source.old) (λ xs. (xs ≢ []) × IsFrameFault unpacked limit xs e.kind)) }
+    ensures kind { IfErr result (λ e. IsReadKind e.kind) }
+    ensures part { OnErr result (TakesPart unpacked limit (R.remaining source.old) (R.remaining source.new)) }
+    ensures count { Counts result (R.failures source.old) (R.failures source.new) }
+{
+    try_read_message_in::<Packed, R>(alloc, source, limit)
+}
+
+/// The segments of the next packed message. `PrematureEndOfFile`: no byte is left.
+pub fn read_message<R: BufRead>(
+    alloc: Global,
+    source: &mut R,
+    limit: Option<usize>,
+) -> Result<OwnedSegments>
+    ensures message { IfOk result (λ m. TakesMessage unpacked limit (R.remaining source.old) (R.remaining source.new) (segments_of m)) }
+    ensures kept { IfOk result (λ m. CanSpell limit (segments_of m)) }
+    ensures no_byte { IfErr result (λ e. e.kind ≡ ErrorKind.PrematureEndOfFile → IsAtEnd (R.remaining source.old) × Keeps (R.remaining source.old) (R.remaining source.new)) }
+    ensures refused { IfErr result (λ e. IsFramingKind e.kind → IfSome (R.remaining source.old) (λ xs. (xs ≢ []) × IsFrameFault unpacked limit xs e.kind)) }
+    ensures kind { IfErr result (λ e. e.kind ≢ ErrorKind.PrematureEndOfFile → IsReadKind e.kind) }
+    ensures part { OnErr result (TakesPart unpacked limit (R.remaining source.old) (R.remaining source.new)) }
+    ensures count { Counts result (R.failures source.old) (R.failures source.new) }
+{
+    read_message_in::<Packed, R>(alloc, source, limit)
+}
+
+/// Writes the packed message of these segments: the table's first word, its rest and each segment, each as a piece.
+///
+/// After a refusal a beginning of it was written. `OutOfMemory`: the sink wants memory, or the table of more than one segment does.
+pub fn write_message_segments<W: Write, S: ReaderSegments>(
+    alloc: Global,
+    out: &mut W,
+    segments: &S,
+) -> Result<()>
+    requires { AreWritable (S.segments segments.now) }
+    ensures ok { OnOk result (Appends (W.contents out.old) (W.contents out.new) (packed_message (words_in (S.segments segments.now)))) }
+    ensures falls { OnOk result (RoomFalls (W.room out.old) (W.room out.new) (length (packed_message (words_in (S.segments segments.now))))) }
+    ensures err { OnErr result (AppendsPart (W.contents out.old) (W.contents out.new) (packed_message (words_in (S.segments segments.now)))) }
+    ensures refusal { IfErr result (λ e. IsWriteRefusal (W.may_grow ⊎ (1 < length (S.segments segments.now))) (W.room out.old) (length (packed_message (words_in (S.segments segments.now)))) e.kind) }
+    ensures count { Counts result (W.failures out.old) (W.failures out.new) }
+{
+    write_message_segments_in::<Packed, W, S>(alloc, out, segments)
+}
+
+/// Writes the packed message of one segment, which these bytes hold. After a refusal a beginning of it was written.
+pub fn write_segment<W: Write>(out: &mut W, bytes: &[u8]) -> Result<()>
+    requires { IsSegment bytes.now }
+    ensures ok { OnOk result (Appends (W.contents out.old) (W.contents out.new) (packed_message (whole_words bytes.now ∷ []))) }
+    ensures falls { OnOk result (RoomFalls (W.room out.old) (W.room out.new) (length (packed_message (whole_words bytes.now ∷ [])))) }
+    ensures err { OnErr result (AppendsPart (W.contents out.old) (W.contents out.new) (packed_message (whole_words bytes.now ∷ []))) }
+    ensures refusal { IfErr result (λ e. IsWriteRefusal W.may_grow (W.room out.old) (length (packed_message (whole_words bytes.now ∷ []))) e.kind) }
+    ensures count { Counts result (W.failures out.old) (W.failures out.new) }
+{
+    write_segment_in::<Packed, W>(out, bytes)
+}

@@ -1,0 +1,138 @@
+//! Reads packed pieces.
+ghost use Rattle.std.specs.Prelude.{◌≡◌, ◌+◌, ◌/◌, ◌%◌, length, IfOk, IfErr, OnOk};
+ghost use Rattle.std.specs.Int.{w64, from_le_bytes};
+ghost use Rattle.capnp_model.specs.Bytes.{taken};
+ghost use Rattle.capnp_model.specs.Packing.{byte_at, run_at, with_word, unpacked_from, unpacked};
+ghost use Rattle.capnp_stream.specs.Counting.{Counts};
+ghost use Rattle.capnp_stream.specs.Segments.{whole_words};
+ghost use Rattle.capnp_packing.specs.Parts.{Leads, Takes, Refuses, count_at, tagged};
+ghost use Rattle.capnp_packing.specs.Runs.{run_view, IsOver};
+
+use crate::bytes::byte_or;
+use crate::runs::Run;
+use capnp_stream::traits::{BufRead, Read};
+use capnp_units::errors::{Error, Result};
+use capnp_units::kinds::ErrorKind;
+
+/// A word that was read, and what comes behind it.
+#[derive(Clone, Copy)]
+pub(crate) struct Unpacked {
+    pub(crate) word: [u8; 8],
+    pub(crate) run: Run,
+}
+
+/// A byte of a word: the next byte where the bit marks it, else zero.
+fn byte_at<R: BufRead>(source: &mut R, bit: u8) -> Result<u8>
+    ensures byte { IfOk result (λ b. Takes (byte_at bit) (R.remaining source.old) (R.remaining source.new) b) }
+    ensures refused { IfErr result (λ e. Refuses (byte_at bit) (R.remaining source.old) (R.remaining source.new) e.kind) }
+    ensures count { Counts result (R.failures source.old) (R.failures source.new) }
+{
+    if bit == 0 {
+        return Ok(0);
+    }
+    byte_or(source, ErrorKind::PrematureEndOfPackedInput)
+}
+
+/// The bytes of a word, by its tag.
+fn tagged_word<R: BufRead>(source: &mut R, tag: u8) -> Result<[u8; 8]>
+    ensures word { IfOk result (λ w. Takes (tagged tag) (R.remaining source.old) (R.remaining source.new) w) }
+    ensures refused { IfErr result (λ e. Refuses (tagged tag) (R.remaining source.old) (R.remaining source.new) e.kind) }
+    ensures count { Counts result (R.failures source.old) (R.failures source.new) }
+{
+    let mut word = [0u8; 8];
+    let mut marks = tag;
+    for i in 0..8 {
+        word[i] = byte_at(source, marks % 2)?;
+        marks /= 2;
+    }
+    Ok(word)
+}
+
+/// The bytes of a word as they are.
+fn verbatim_word<R: BufRead>(source: &mut R) -> Result<[u8; 8]>
+    ensures word { IfOk result (λ w. Takes (taken 8) (R.remaining source.old) (R.remaining source.new) w) }
+    ensures refused { IfErr result (λ e. Refuses (taken 8) (R.remaining source.old) (R.remaining source.new) e.kind) }
+    ensures count { Counts result (R.failures source.old) (R.failures source.new) }
+{
+    let mut word = [0u8; 8];
+    for i in 0..8 {
+        word[i] = byte_or(source, ErrorKind::FailedToFillTheWholeBuffer)?;
+    }
+    Ok(word)
+}
+
+/// A count of words, of which the piece has `left`.
+fn read_count<R: BufRead>(source: &mut R, left: usize) -> Result<u8>
+    ensures count_read { IfOk result (λ k. Takes (count_at left) (R.remaining source.old) (R.remaining source.new) k) }
+    ensures refused { IfErr result (λ e. Refuses (count_at left) (R.remaining source.old) (R.remaining source.new) e.kind) }
+    ensures count { Counts result (R.failures source.old) (R.failures source.new) }
+{
+    let count = byte_or(source, ErrorKind::PrematureEndOfPackedInput)?;
+    if count as usize > left {
+        return Err(Error::from(ErrorKind::PackedInputDidNotEndCleanlyOnASegmentBoundary));
+    }
+    Ok(count)
+}
+
+/// The run behind a group of this tag, in a piece that has `left` more words.
+fn read_run<R: BufRead>(source: &mut R, tag: u8, left: usize) -> Result<Run>
+    ensures run { IfOk result (λ r. Takes (run_at left tag) (R.remaining source.old) (R.remaining source.new) (run_view r)) }
+    ensures refused { IfErr result (λ e. Refuses (run_at left tag) (R.remaining source.old) (R.remaining source.new) e.kind) }
+    ensures count { Counts result (R.failures source.old) (R.failures source.new) }
+{
+    match tag {
+        0 => Ok(Run::Zeros(read_count(source, left)?)),
+        255 => Ok(Run::Verbatim(read_count(source, left)?)),
+        _ => Ok(Run::Next),
+    }
+}
+
+/// The word of a group, where the run before is over and the piece has `left` words behind this one.
+fn read_group<R: BufRead>(source: &mut R, run: Run, left: usize) -> Result<Unpacked>
+    requires { IsOver run }
+    ensures word { IfOk result (λ u. Leads (unpacked_from (left + 1) (run_view run)) (R.remaining source.old) (R.remaining source.new) (λ more. with_word (from_le_bytes w64 u.word) (unpacked_from left (run_view u.run) more))) }
+    ensures refused { IfErr result (λ e. Refuses (unpacked_from (left + 1) (run_view run)) (R.remaining source.old) (R.remaining source.new) e.kind) }
+    ensures count { Counts result (R.failures source.old) (R.failures source.new) }
+{
+    let tag = byte_or(source, run.end_kind())?;
+    let word = tagged_word(source, tag)?;
+    let run = read_run(source, tag, left)?;
+    Ok(Unpacked { word, run })
+}
+
+/// The next word of a piece that has `left` words behind it.
+pub(crate) fn next_word<R: BufRead>(source: &mut R, run: Run, left: usize) -> Result<Unpacked>
+    ensures word { IfOk result (λ u. Leads (unpacked_from (left + 1) (run_view run)) (R.remaining source.old) (R.remaining source.new) (λ more. with_word (from_le_bytes w64 u.word) (unpacked_from left (run_view u.run) more))) }
+    ensures refused { IfErr result (λ e. Refuses (unpacked_from (left + 1) (run_view run)) (R.remaining source.old) (R.remaining source.new) e.kind) }
+    ensures count { Counts result (R.failures source.old) (R.failures source.new) }
+{
+    match run {
+        Run::Zeros(k) if k > 0 => Ok(Unpacked {
+            word: [0; 8],
+            run: Run::Zeros(k - 1),
+        }),
+        Run::Verbatim(k) if k > 0 => Ok(Unpacked {
+            word: verbatim_word(source)?,
+            run: Run::Verbatim(k - 1),
+        }),
+        _ => read_group(source, run, left),
+    }
+}
+
+/// Fills the buffer with the words of one piece, which are as many as it holds.
+pub(crate) fn read_words<R: BufRead>(source: &mut R, buf: &mut [u8]) -> Result<()>
+    requires { length buf.old % 8 ≡ 0 }
+    ensures ok { OnOk result (Takes (unpacked (length buf.old / 8)) (R.remaining source.old) (R.remaining source.new) (whole_words buf.new)) }
+    ensures refused { IfErr result (λ e. Refuses (unpacked (length buf.old / 8)) (R.remaining source.old) (R.remaining source.new) e.kind) }
+    ensures count { Counts result (R.failures source.old) (R.failures source.new) }
+{
+    let mut run = Run::First;
+    let mut at = 0;
+    while at < buf.len() {
+        let next = next_word(source, run, (buf.len() - at) / 8 - 1)?;
+        buf[at..at + 8].copy_from_slice(&next.word);
+        run = next.run;
+        at += 8;
+    }
+    Ok(())
+}

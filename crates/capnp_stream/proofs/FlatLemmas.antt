@@ -1,0 +1,195 @@
+-- Framed messages at the front of a buffer, from the table on.
+use Rattle.std.proofs.Common.{◌≡◌, ℕ, zero, suc, ◌+◌, ◌-◌, ◌*◌, ◌/◌, ◌%◌, ◌^◌, ◌<◌, ◌≤◌, ◌≢◌, add-one, List, [], ◌∷◌, ◌++◌, Bool, true, false, leb, ltb, get_or, None, Some, Ok, Err, Result, refl, sym, ap, subst, ◌∙◌, arith, length, take, drop, sum, length-drop, length-take-le}
+use Rattle.std.proofs.lemmas.Bool.{lt-ltb, le-leb}
+use Rattle.std.proofs.Math.Seq.{take-suc}
+use Rattle.std.proofs.lemmas.List.{drop-drop, get_or-drop, nil_from_length, take_all}
+use Rattle.std.specs.Int.{from_le_bytes, w64}
+use Rattle.std.specs.List.{slice_range}
+use Rattle.std.specs.declared.option.Option.{Option}
+use Rattle.capnp_units.specs.Segments.{whole_words, words_in}
+use Rattle.capnp_model.specs.Kinds as kinds
+use Rattle.capnp_model.specs.Kinds.{Kind}
+use Rattle.capnp_model.specs.Chains.{◌and_then◌, guard}
+use Rattle.capnp_model.specs.Segments.{Segments}
+use Rattle.capnp_model.specs.Bytes.{words_in_bytes, taken}
+use Rattle.capnp_model.specs.Messages.{within, plain_words, flat_words, else_refused, halves, cut, behind_lengths, behind_first, message_by, flat_at}
+use Rattle.capnp_model.proofs.Chaining.{ok_then, guard_then}
+use Rattle.capnp_stream.specs.Ranges.{ranges_from, bytes_at}
+use Rattle.capnp_stream.specs.Flat.{table_lengths, table_bytes, frame_segments, Describes}
+use Rattle.capnp_stream.specs.declared.flat.NoAllocSegmentTableInfo.{NoAllocSegmentTableInfo}
+use Rattle.capnp_stream.proofs.PieceLemmas.{err_then, guard_err, plain_short}
+use Rattle.capnp_stream.proofs.WordLemmas.{from_le_bytes-take, words_in_bytes-take, words_in_bytes-drop, words_in_bytes-length, whole_words-step, segments-of_ranges, sum-snoc}
+
+-- ---- the halves of a table's words
+
+take-halves : (m k : ℕ) (ws : List ℕ) → m ≤ 2 * k → take m (halves (take k ws)) ≡ take m (halves ws)
+take-halves zero k ws fits = refl
+take-halves (suc m) zero ws fits = absurd (omega (arith, fits))
+take-halves (suc m) (suc k) [] fits = refl
+take-halves (suc zero) (suc k) (w ∷ ws) fits = refl
+take-halves (suc (suc m)) (suc k) (w ∷ ws) fits = ap (λ l. w % 2 ^ 32 ∷ w / 2 ^ 32 ∷ l) (take-halves m k ws (omega (arith, fits)))
+
+even-half : (i : ℕ) (ws : List ℕ) → get_or (halves ws) (2 * i) 0 ≡ get_or ws i 0 % 2 ^ 32
+even-half i [] = refl
+even-half zero (w ∷ ws) = refl
+even-half (suc i) (w ∷ ws) = let next : 2 * suc i ≡ suc (suc (2 * i)) = omega arith in rw next (even-half i ws)
+
+odd-half : (i : ℕ) (ws : List ℕ) → get_or (halves ws) (2 * i + 1) 0 ≡ get_or ws i 0 / 2 ^ 32
+odd-half i [] = refl
+odd-half zero (w ∷ ws) = refl
+odd-half (suc i) (w ∷ ws) = let next : 2 * suc i + 1 ≡ suc (suc (2 * i + 1)) = omega arith in rw next (odd-half i ws)
+
+length-halves : (ws : List ℕ) → length (halves ws) ≡ 2 * length ws
+length-halves [] = refl
+length-halves (w ∷ ws) = omega (arith, length-halves ws)
+
+-- the word at eight bytes
+word-there : (i n : ℕ) (bytes : List ℕ) → i < n → 8 * n ≤ length bytes → get_or (words_in_bytes n bytes) i 0 ≡ from_le_bytes w64 (drop (8 * i) bytes)
+word-there i zero bytes inside fits = absurd (omega (arith, inside))
+word-there zero (suc n) bytes inside fits = refl
+word-there (suc i) (suc n) bytes inside fits =
+    let next : 8 * suc i ≡ 8 + 8 * i = omega arith in
+    let at : drop (8 * i) (drop 8 bytes) ≡ drop (8 * suc i) bytes = drop-drop (8 * i) 8 bytes ∙ ap (λ k. drop k bytes) (sym next) in
+    let f : List ℕ → ℕ = from_le_bytes w64 in
+    word-there i n (drop 8 bytes) (omega (arith, inside)) (omega (arith, fits, length-drop 8 bytes)) ∙ ap f at
+
+-- ---- words of a buffer
+
+plain-long : (n : ℕ) (b : List ℕ) → 8 * n ≤ length b → plain_words n b ≡ Ok (take n (whole_words b), drop (8 * n) b)
+plain-long n b fits =
+    let yes : leb (8 * n) (length b) ≡ true = le-leb _ _ fits in
+    let count : length b / 8 ≡ n + (length b / 8 - n) = omega arith in
+    let words : words_in_bytes n (take (8 * n) b) ≡ take n (whole_words b) = sym (words_in_bytes-take n (length b / 8 - n) b (omega arith)) ∙ ap (λ k. take n (words_in_bytes k b)) (sym count) in
+    let read : taken (8 * n) b ≡ Ok (take (8 * n) b, drop (8 * n) b) = rw yes refl in
+    ok_then (taken (8 * n) b) _ (take (8 * n) b, drop (8 * n) b) _ read (ap (λ (ws : List ℕ). Ok (ws, drop (8 * n) b)) words)
+
+flat-long : (n : ℕ) (b : List ℕ) → 8 * n ≤ length b → flat_words n b ≡ Ok (take n (whole_words b), drop (8 * n) b)
+flat-long n b fits = let read = plain-long n b fits in rw read refl
+
+flat-short : (n : ℕ) (b : List ℕ) → length b < 8 * n → flat_words n b ≡ Err kinds.MessageEndsPrematurely
+flat-short n b short = let no = plain_short n b short in rw no refl
+
+words_in_bytes-front : (n : ℕ) (b : List ℕ) → 8 * n ≤ length b → words_in_bytes n (take (8 * n) b) ≡ words_in_bytes n b
+words_in_bytes-front n b fits = sym (words_in_bytes-take n 0 b (omega arith)) ∙ ap (λ k. take n (words_in_bytes k b)) (omega arith) ∙ take_all n (words_in_bytes n b) (omega (arith, words_in_bytes-length n b))
+
+-- ---- lengths in a table
+
+-- the number of a segment, by the word that holds its length
+pub even-length : (bytes : List ℕ) (id word : ℕ) → id % 2 ≡ 0 → table_bytes (id + 1) ≤ length bytes → word ≡ from_le_bytes w64 (take 8 (drop (8 * ((id + 1) / 2)) bytes)) → word / 2 ^ 32 ≡ get_or (drop 1 (halves (whole_words bytes))) id 0
+even-length bytes id word even fits reads =
+    let i = (id + 1) / 2 in
+    let at : 1 + id ≡ 2 * i + 1 = omega arith in
+    let inside : i < length bytes / 8 = omega arith in
+    let is : get_or (whole_words bytes) i 0 ≡ word = word-there i (length bytes / 8) bytes inside (omega arith) ∙ sym (from_le_bytes-take 8 (drop (8 * i) bytes) (omega arith) (omega (arith, length-drop (8 * i) bytes))) ∙ sym reads in
+    sym (get_or-drop 1 (halves (whole_words bytes)) id 0 ∙ ap (λ k. get_or (halves (whole_words bytes)) k 0) at ∙ odd-half i (whole_words bytes) ∙ ap (λ w. w / 2 ^ 32) is)
+
+pub odd-length : (bytes : List ℕ) (id word : ℕ) → id % 2 ≢ 0 → table_bytes (id + 1) ≤ length bytes → word ≡ from_le_bytes w64 (take 8 (drop (8 * ((id + 1) / 2)) bytes)) → word % 2 ^ 32 ≡ get_or (drop 1 (halves (whole_words bytes))) id 0
+odd-length bytes id word odd fits reads =
+    let i = (id + 1) / 2 in
+    let at : 1 + id ≡ 2 * i = omega (arith, odd) in
+    let inside : i < length bytes / 8 = omega arith in
+    let is : get_or (whole_words bytes) i 0 ≡ word = word-there i (length bytes / 8) bytes inside (omega arith) ∙ sym (from_le_bytes-take 8 (drop (8 * i) bytes) (omega arith) (omega (arith, length-drop (8 * i) bytes))) ∙ sym reads in
+    sym (get_or-drop 1 (halves (whole_words bytes)) id 0 ∙ ap (λ k. get_or (halves (whole_words bytes)) k 0) at ∙ even-half i (whole_words bytes) ∙ ap (λ w. w % 2 ^ 32) is)
+
+pub table-holds : (n : ℕ) (bytes : List ℕ) → table_bytes n ≤ length bytes → length (table_lengths n bytes) ≡ n
+table-holds n bytes fits =
+    let all = halves (whole_words bytes) in
+    length-take-le n (drop 1 all) (omega (arith, length-drop 1 all, length-halves (whole_words bytes), words_in_bytes-length (length bytes / 8) bytes))
+
+pub table-more : (n : ℕ) (bytes : List ℕ) → table_bytes (n + 1) ≤ length bytes → sum (table_lengths (n + 1) bytes) ≡ sum (table_lengths n bytes) + get_or (drop 1 (halves (whole_words bytes))) n 0
+table-more n bytes fits =
+    let all = halves (whole_words bytes) in
+    let inside : n < length (drop 1 all) = omega (arith, length-drop 1 all, length-halves (whole_words bytes), words_in_bytes-length (length bytes / 8) bytes) in
+    let one : take (n + 1) (drop 1 all) ≡ take n (drop 1 all) ++ get_or (drop 1 all) n 0 ∷ [] = ap (λ k. take k (drop 1 all)) (add-one n) ∙ take-suc (drop 1 all) n 0 inside in
+    ap sum one ∙ sum-snoc (take n (drop 1 all)) (get_or (drop 1 all) n 0)
+
+-- ---- the message at the front of a buffer
+
+flat-by : (limit : Option ℕ) (xs : List ℕ) → 0 < length xs → flat_at limit xs ≡ message_by plain_words flat_words limit xs
+unfolding flat_at
+flat-by limit [] h = absurd (omega (arith, h))
+flat-by limit (x ∷ xs) h = refl
+
+module _ (limit : Option ℕ) (bytes : List ℕ) where
+  pub flat-nothing : length bytes ≡ 0 → flat_at limit bytes ≡ Err kinds.MessageEndsPrematurely
+  unfolding flat_at
+  flat-nothing none = let is : bytes ≡ [] = nil_from_length bytes none in rw is refl
+
+  flat-is : 0 < length bytes → flat_at limit bytes ≡ message_by plain_words flat_words limit bytes
+  flat-is some = flat-by limit bytes some
+
+  pub flat-wants : 0 < length bytes → length bytes < 8 → flat_at limit bytes ≡ Err kinds.FailedToFillTheWholeBuffer
+  flat-wants some short = flat-is some ∙ err_then (plain_words 1 bytes) _ _ (plain_short 1 bytes (omega arith))
+
+  module _ (word : ℕ) (reads : word ≡ from_le_bytes w64 bytes) (long : 8 ≤ length bytes) where
+    n : ℕ
+    n = word % 2 ^ 32
+
+    flat-first : flat_at limit bytes ≡ behind_first plain_words flat_words limit (n ∷ word / 2 ^ 32 ∷ []) (drop 8 bytes)
+    unfolding n
+    flat-first =
+        let one : take 1 (whole_words bytes) ≡ word ∷ [] = ap (take 1) (whole_words-step bytes long) ∙ ap (λ w. w ∷ []) (from_le_bytes-take 8 bytes (omega arith) long ∙ sym reads) in
+        flat-is (omega arith) ∙ ok_then (plain_words 1 bytes) _ _ _ (plain-long 1 bytes (omega arith)) (ap (λ ws. behind_first plain_words flat_words limit (halves ws) (drop 8 bytes)) one)
+
+    pub flat-many : 511 ≤ word % 2 ^ 32 → flat_at limit bytes ≡ Err kinds.InvalidNumberOfSegments
+    unfolding n
+    flat-many many = let no : ltb n 511 ≡ false = grind (arith, many) in flat-first ∙ guard_err _ _ _ no
+
+    module _ (few : word % 2 ^ 32 < 511) where
+      pub flat-cut : length bytes < table_bytes (word % 2 ^ 32 + 1) → flat_at limit bytes ≡ Err kinds.FailedToFillTheWholeBuffer
+      unfolding n
+      flat-cut short =
+          flat-first ∙ guard_then _ _ _ _ (lt-ltb n 511 few) (err_then (plain_words ((n + 1) / 2) (drop 8 bytes)) _ _ (plain_short ((n + 1) / 2) (drop 8 bytes) (omega (arith, length-drop 8 bytes))))
+
+      module _ (whole : table_bytes (word % 2 ^ 32 + 1) ≤ length bytes) where
+        lengths : List ℕ
+        lengths = table_lengths (word % 2 ^ 32 + 1) bytes
+
+        flat-table : flat_at limit bytes ≡ behind_lengths flat_words limit lengths (drop (table_bytes (word % 2 ^ 32 + 1)) bytes)
+        unfolding n lengths
+        flat-table =
+            let k = (n + 1) / 2 in
+            let rest = drop 8 bytes in
+            let step : whole_words bytes ≡ word ∷ whole_words rest = whole_words-step bytes long ∙ ap (λ w. w ∷ whole_words rest) (from_le_bytes-take 8 bytes (omega arith) long ∙ sym reads) in
+            let others : take (n + 1) (word / 2 ^ 32 ∷ halves (take k (whole_words rest))) ≡ table_lengths (n + 1) bytes =
+            ap (λ m. take m (word / 2 ^ 32 ∷ halves (take k (whole_words rest)))) (add-one n) ∙ ap (λ l. word / 2 ^ 32 ∷ l) (take-halves n k (whole_words rest) (omega arith))
+            ∙ sym (ap (λ m. take m (word / 2 ^ 32 ∷ halves (whole_words rest))) (add-one n)) ∙ ap (λ ws. take (n + 1) (drop 1 (halves ws))) (sym step) in
+            let behind : drop (8 * k) rest ≡ drop (table_bytes (n + 1)) bytes = drop-drop (8 * k) 8 bytes ∙ ap (λ m. drop m bytes) (omega arith) in
+            flat-first ∙ guard_then _ _ _ _ (lt-ltb n 511 few) (ok_then (plain_words k rest) _ _ _ (plain-long k rest (omega (arith, length-drop 8 bytes)))
+            (ap (λ l. behind_lengths flat_words limit l (drop (8 * k) rest)) others ∙ ap (behind_lengths flat_words limit (table_lengths (n + 1) bytes)) behind))
+
+        pub flat-large : within (sum (table_lengths (word % 2 ^ 32 + 1) bytes)) limit ≡ false → flat_at limit bytes ≡ Err kinds.MessageTooLarge
+        unfolding lengths
+        flat-large large = flat-table ∙ guard_err _ _ _ large
+
+        module _ (kept : within (sum (table_lengths (word % 2 ^ 32 + 1) bytes)) limit ≡ true) where
+          pub flat-ends : length bytes < table_bytes (word % 2 ^ 32 + 1) + 8 * sum (table_lengths (word % 2 ^ 32 + 1) bytes) → flat_at limit bytes ≡ Err kinds.MessageEndsPrematurely
+          unfolding lengths
+          flat-ends short =
+              let body = drop (table_bytes (word % 2 ^ 32 + 1)) bytes in
+              flat-table ∙ guard_then _ _ _ _ kept (err_then (flat_words (sum lengths) body) _ _ (flat-short (sum lengths) body (omega (arith, length-drop (table_bytes (word % 2 ^ 32 + 1)) bytes))))
+
+          pub flat-whole : table_bytes (word % 2 ^ 32 + 1) + 8 * sum (table_lengths (word % 2 ^ 32 + 1) bytes) ≤ length bytes
+              → flat_at limit bytes ≡ Ok (words_in (frame_segments (word % 2 ^ 32 + 1) bytes), drop (table_bytes (word % 2 ^ 32 + 1) + 8 * sum (table_lengths (word % 2 ^ 32 + 1) bytes)) bytes)
+          unfolding lengths
+          flat-whole fits =
+              let at = table_bytes (word % 2 ^ 32 + 1) in
+              let body = drop at bytes in
+              let total = sum lengths in
+              let room : 8 * total ≤ length body = omega (arith, length-drop at bytes) in
+              let count : length body / 8 ≡ total + (length body / 8 - total) = omega arith in
+              let words : take total (whole_words body) ≡ words_in_bytes total (take (8 * total) body) = ap (λ k. take total (words_in_bytes k body)) count ∙ words_in_bytes-take total (length body / 8 - total) body (omega arith) in
+              let parts : cut lengths (take total (whole_words body)) ≡ words_in (frame_segments (word % 2 ^ 32 + 1) bytes) = ap (cut lengths) (words ∙ words_in_bytes-front total body room) ∙ sym (segments-of_ranges body 0 lengths (omega arith)) in
+              let behind : drop (8 * total) body ≡ drop (at + 8 * total) bytes = drop-drop (8 * total) at bytes in
+              flat-table ∙ guard_then _ _ _ _ kept (ok_then (flat_words total body) _ _ _ (flat-long total body room)
+              (ap (λ s. Ok (s, drop (8 * total) body)) parts ∙ ap (λ l. Ok (words_in (frame_segments (word % 2 ^ 32 + 1) bytes), l)) behind))
+
+-- bytes that a table describes begin with a message
+pub described-reads : (info : NoAllocSegmentTableInfo) (bytes : List ℕ) → Describes info bytes → (r : Segments × List ℕ) × (flat_at None bytes ≡ Ok r)
+described-reads info bytes d =
+    let word = from_le_bytes w64 bytes in
+    let n = word % 2 ^ 32 + 1 in
+    let total : 8 * sum (table_lengths info.segments_count bytes) ≡ 8 * sum (table_lengths n bytes) = ap (λ k. 8 * sum (table_lengths k bytes)) d.count in
+    let fits : table_bytes n + 8 * sum (table_lengths n bytes) ≤ length bytes = omega (arith, d.count, d.table, d.total, d.fits, total) in
+    let few : word % 2 ^ 32 < 511 = omega (arith, d.count, d.few) in
+    (_, flat-whole None bytes word refl (omega (arith, fits)) few (omega (arith, fits)) refl fits)

@@ -1,0 +1,65 @@
+-- Segments that were read are such as a message can have.
+use Rattle.std.proofs.Common.{◌≡◌, ℕ, zero, suc, ◌*◌, ◌^◌, ◌≤◌, ◌<◌, true, get_or, List, [], ◌∷◌, length, take, drop, map, sum, refl, ap, arith, length-drop, length-take-le}
+use Rattle.std.specs.List.{AllByRecursion}
+use Rattle.std.specs.Int.{from_le_bytes, w64}
+use Rattle.std.specs.declared.option.Option.{Option}
+use Rattle.capnp_model.specs.Bytes.{words_in_bytes}
+use Rattle.capnp_model.specs.Messages.{cut, within}
+use Rattle.capnp_model.specs.Spelling.{AreWords, AreShort, CanSpell}
+use Rattle.capnp_stream.proofs.WordLemmas.{AreBytes, AreBytes-drop, words_in_bytes-length, sum-cons}
+
+word-bound : (bytes : List ℕ) → AreBytes bytes → from_le_bytes w64 bytes < 2 ^ 64
+word-bound bytes small = omega (arith, small 0, small 1, small 2, small 3, small 4, small 5, small 6, small 7)
+
+words-are : (n : ℕ) (bytes : List ℕ) → AreBytes bytes → AreWords (words_in_bytes n bytes)
+words-are zero bytes small = tt
+words-are (suc n) bytes small = (word-bound bytes small, words-are n (drop 8 bytes) (AreBytes-drop 8 bytes small))
+
+taken-are : (n : ℕ) (ws : List ℕ) → AreWords ws → AreWords (take n ws)
+taken-are zero ws h = tt
+taken-are (suc n) [] h = tt
+taken-are (suc n) (w ∷ ws) h = (h.0, taken-are n ws h.1)
+
+dropped-are : (n : ℕ) (ws : List ℕ) → AreWords ws → AreWords (drop n ws)
+dropped-are zero ws h = h
+dropped-are (suc n) [] h = tt
+dropped-are (suc n) (w ∷ ws) h = dropped-are n ws h.1
+
+cut-are : (ns ws : List ℕ) → AreWords ws → AllByRecursion AreWords (cut ns ws)
+cut-are [] ws h = tt
+cut-are (n ∷ ns) ws h = (taken-are n ws h, cut-are ns (drop n ws) (dropped-are n ws h))
+
+length-cut : (ns ws : List ℕ) → length (cut ns ws) ≡ length ns
+length-cut [] ws = refl
+length-cut (n ∷ ns) ws = ap suc (length-cut ns (drop n ws))
+
+lengths-cut : (ns ws : List ℕ) → sum ns ≤ length ws → map length (cut ns ws) ≡ ns
+lengths-cut [] ws fits = refl
+lengths-cut (n ∷ ns) ws fits =
+    let total = sum-cons n ns in
+    let one : length (take n ws) ≡ n = length-take-le n ws (omega arith) in
+    let others = lengths-cut ns (drop n ws) (omega (arith, length-drop n ws)) in
+    rw (one, others) refl
+
+-- numbers that are each short
+pub AreShort-of : (ns : List ℕ) → ((i : ℕ) → get_or ns i 0 < 2 ^ 32) → AreShort ns
+AreShort-of [] small = tt
+AreShort-of (n ∷ ns) small = (small 0, AreShort-of ns (λ i. small (suc i)))
+
+pub sum-short : (ns : List ℕ) → AreShort ns → sum ns ≤ length ns * 2 ^ 32
+sum-short [] short = omega arith
+sum-short (n ∷ ns) short = let one : n < 2 ^ 32 = short.0 in omega (arith, sum-cons n ns, sum-short ns short.1)
+
+-- words that were read, cut by a table within the limits
+pub CanSpell-of_cut : (limit : Option ℕ) (ns bytes : List ℕ) → 0 < length ns → length ns ≤ 511 → AreShort ns → within (sum ns) limit ≡ true → AreBytes bytes → CanSpell limit (cut ns (words_in_bytes (sum ns) bytes))
+CanSpell-of_cut limit ns bytes some few short kept small =
+    let words = words_in_bytes (sum ns) bytes in
+    let count = length-cut ns words in
+    let lengths : map length (cut ns words) ≡ ns = lengths-cut ns words (omega (arith, words_in_bytes-length (sum ns) bytes)) in
+    record {
+      some = omega arith;
+      few = omega arith;
+      sizes = rw lengths short;
+      total = rw lengths kept;
+      words = cut-are ns words (words-are (sum ns) bytes small);
+    }

@@ -1,0 +1,68 @@
+-- What gets of pointers answer.
+use Rattle.std.proofs.Common.{◌≡◌, ℕ, ◌&&◌, not, Bool, true, false, eqb, Option, Some, None, Result, Ok, Err, refl, ap, sym, ◌∙◌, subst, inl, inr}
+use Rattle.std.proofs.lemmas.Bool.{eqb-true}
+use Rattle.capnp_model.specs.Kinds.{Kind}
+use Rattle.capnp_model.specs.Chains.{passes}
+use Rattle.capnp_model.specs.Segments.{Segments, Place, word_at}
+use Rattle.capnp_units.specs.declared.errors.Error.{Error}
+use Rattle.capnp_units.specs.declared.limiter.ReadLimiter.{ReadLimiter}
+use Rattle.capnp_wire.specs.declared.object.Object.{Object}
+use Rattle.capnp_wire.specs.declared.object.Object.TheVariants as object
+use Rattle.capnp_wire.specs.declared.object.Found.{Found}
+use Rattle.capnp_wire.specs.Objects.{object_at}
+use Rattle.capnp_wire.specs.Follow.{FollowGives, found_cost}
+use Rattle.capnp_wire.specs.Views.{PointerView}
+use Rattle.capnp_wire.specs.Reads.{is_null_at, is_null, found_behind, object_behind, is_charged, PaysFor, PaysNothing, IsTooDear, GetGives}
+
+-- What null is found as.
+abbrev pub nothing_found : Found
+nothing_found = record { pads = 0; object = object.Null }
+
+zero_names : (s : Segments) (p : Place) → word_at s p ≡ Some 0 → object_at s p ≡ Ok nothing_found
+unfolding object_at
+zero_names s p e = rw e refl
+
+is_zero : (o : Option ℕ) → passes (λ w. eqb w 0) o ≡ true → o ≡ Some 0
+is_zero None h = absurd cc
+is_zero (Some w) h = ap Some (eqb-true w 0 h)
+
+pub null_names : (s : Segments) (o : Option Place) → is_null_at s o ≡ true → found_behind s o ≡ Ok nothing_found
+null_names s None h = refl
+null_names s (Some p) h = zero_names s p (is_zero (word_at s p) h)
+
+uncharged_null : (paid null : Bool) → null ≡ true → (paid && not null) ≡ false
+uncharged_null true null h = rw h refl
+uncharged_null false null h = refl
+
+charged_there : (paid null : Bool) → paid ≡ true → null ≡ false → (paid && not null) ≡ true
+charged_there paid null e h = rw (e, h) refl
+
+uncharged_default : (paid null : Bool) → paid ≡ false → (paid && not null) ≡ false
+uncharged_default paid null e = rw e refl
+
+pub null_reached : (p : PointerView) (l : ReadLimiter) → is_null p ≡ true → GetGives (λ (o : Object). o) (λ o. Ok o) p l (Ok object.Null) l
+null_reached p l h =
+    let free : is_charged p ≡ false = uncharged_null p.ground.paid (is_null p) h in
+    (nothing_found, null_names p.ground.segments p.place h, subst (λ (b : Bool). PaysFor b l l (found_cost nothing_found)) (sym free) refl, refl)
+
+module _ (p : PointerView) (q : Place) (here : p.place ≡ Some q) where
+  behind : object_behind p ≡ object_at p.ground.segments q
+  behind = ap (found_behind p.ground.segments) here
+
+  pub followed : (r : Result Object Error) (old new : ReadLimiter) → p.ground.paid ≡ true → is_null p ≡ false → FollowGives p.ground.segments q old r new → GetGives (λ (o : Object). o) (λ o. Ok o) p old r new
+  followed (Ok o) old new e h f =
+      let charged : is_charged p ≡ true = charged_there p.ground.paid (is_null p) e h in
+      let found : Found = record { pads = f.pads; object = o } in
+      (found, behind ∙ f.is, subst (λ (b : Bool). PaysFor b old new (found_cost found)) (sym charged) (f.spends, f.follows), refl)
+  followed (Err d) old new e h f =
+      let charged : is_charged p ≡ true = charged_there p.ground.paid (is_null p) e h in
+      let nothing = subst (λ (b : Bool). PaysNothing b old new) (sym charged) (f.0, f.1) in
+      elim f.2 [
+        | inl fault ↦ inl (behind ∙ fault, nothing)
+        | inr dear ↦ inr (inl (dear.1, behind ∙ dear.2, dear.0, subst (λ (b : Bool). IsTooDear b old (found_cost dear.1)) (sym charged) dear.3, nothing))
+      ]
+
+  pub read_freely : (f : Found) (l : ReadLimiter) → p.ground.paid ≡ false → object_at p.ground.segments q ≡ Ok f → GetGives (λ (o : Object). o) (λ o. Ok o) p l (Ok f.object) l
+  read_freely f l e h =
+      let free : is_charged p ≡ false = uncharged_default p.ground.paid (is_null p) e in
+      (f, behind ∙ h, subst (λ (b : Bool). PaysFor b l l (found_cost f)) (sym free) refl, refl)

@@ -1,0 +1,230 @@
+//! Lists to read.
+ghost use Rattle.std.specs.Prelude.{◌≡◌, ◌≢◌, ◌+◌, ◌*◌, ◌/◌, ◌%◌, ◌<◌, ◌≤◌, ◌^◌, ◌==◌, nat_le, length};
+ghost use Rattle.capnp_model.specs.Sections.{bits_at, number_of};
+ghost use Rattle.capnp_model.specs.Readings.{is_accepted_as};
+ghost use Rattle.capnp_units.specs.Sizes.{size_number, data_bits};
+ghost use Rattle.capnp_wire.specs.Elements.{step_bits, element_bits, step_words, element_pointers};
+
+use crate::arena::ReaderArena;
+use crate::backing::Backing;
+use crate::place::Place;
+use crate::pointer::PointerReader;
+use crate::section::bit_of;
+use crate::structs::StructReader;
+use capnp_units::primitive::{Primitive, Zero};
+use capnp_units::sizes::{ElementSize, data_bits_per_element, pointers_per_element};
+use std::alloc::AllocError;
+
+/// A list to read. Its plain elements, or the words of its structs, are lent from what it stands on.
+pub struct ListReader<'a, A> {
+    pub(crate) backing: Backing<'a, A>,
+    pub(crate) bytes: &'a [u8],
+    pub(crate) start: Place,
+    pub(crate) count: u32,
+    pub(crate) size: ElementSize,
+    pub(crate) data_words: u16,
+    pub(crate) pointers: u16,
+    pub(crate) levels: Option<u32>,
+    ghost inside: { step_bits (size_number size) data_words pointers * count ≤ 8 * length bytes.now },
+    ghost near: { start.position + step_words (size_number size) data_words pointers * count < 2 ^ 61 },
+}
+
+impl<A> Clone for ListReader<'_, A> {
+    ghost is_clone = { λ x y. y ≡ x };
+
+    ghost is_infallible = { λ _. Unit {0} };
+
+    fn clone(&self) -> Result<Self, AllocError> {
+        Ok(*self)
+    }
+}
+
+impl<A> Copy for ListReader<'_, A> {}
+
+impl<'a, A: ReaderArena> ListReader<'a, A> {
+    ghost use Rattle.capnp_model.specs.Segments.{root};
+    ghost use Rattle.capnp_wire.specs.Places.{place_view};
+    ghost use Rattle.capnp_wire.specs.Views.{ground_of, seen_pointer, seen_struct, seen_list, list_view, element_of, element_number, pointer_field};
+
+    /// A list of these parts.
+    pub(crate) fn of_parts(
+        backing: Backing<'a, A>,
+        bytes: &'a [u8],
+        start: Place,
+        count: u32,
+        size: ElementSize,
+        data_words: u16,
+        pointers: u16,
+        levels: Option<u32>,
+    ) -> Self
+        requires inside { step_bits (size_number size) data_words pointers * count ≤ 8 * length bytes.now }
+        requires near { start.position + step_words (size_number size) data_words pointers * count < 2 ^ 61 }
+        ensures { seen_list A.segments result ≡ list_view (ground_of A.segments backing.entry) size count (number_of 8 bytes.now) (place_view start) data_words pointers levels }
+    {
+        ListReader {
+            backing,
+            bytes,
+            start,
+            count,
+            size,
+            data_words,
+            pointers,
+            levels,
+        }
+    }
+
+    /// The empty list of elements of a size.
+    pub(crate) fn empty(backing: Backing<'a, A>, size: ElementSize, levels: Option<u32>) -> Self
+        ensures { seen_list A.segments result ≡ list_view (ground_of A.segments backing.entry) size 0 0 root 0 0 levels }
+    {
+        ListReader {
+            backing,
+            bytes: &[],
+            start: Place {
+                segment: 0,
+                position: 0,
+            },
+            count: 0,
+            size,
+            data_words: 0,
+            pointers: 0,
+            levels,
+        }
+    }
+
+    /// How many elements there are.
+    pub fn len(&self) -> u32
+        ensures { result ≡ (seen_list A.segments self.now).count }
+    {
+        self.count
+    }
+
+    /// Whether there is no element.
+    pub fn is_empty(&self) -> bool
+        ensures { result ≡ ((seen_list A.segments self.now).count == 0) }
+    {
+        self.count == 0
+    }
+
+    /// The bits from one element to the next; those of pointers aren't counted.
+    fn step_bits(&self) -> usize
+        ensures { result ≡ step_bits (size_number self.now.size) self.now.data_words self.now.pointers }
+    {
+        match self.size {
+            ElementSize::InlineComposite => {
+                64 * (self.data_words as usize + self.pointers as usize)
+            }
+            size => data_bits_per_element(size) as usize,
+        }
+    }
+
+    /// The bits of data in an element.
+    fn element_bits(&self) -> usize
+        ensures { result ≡ element_bits (size_number self.now.size) self.now.data_words }
+    {
+        match self.size {
+            ElementSize::InlineComposite => 64 * self.data_words as usize,
+            size => data_bits_per_element(size) as usize,
+        }
+    }
+
+    /// The words from the pointers of one element to those of the next.
+    fn step_words(&self) -> usize
+        ensures { result ≡ step_words (size_number self.now.size) self.now.data_words self.now.pointers }
+    {
+        match self.size {
+            ElementSize::InlineComposite => self.data_words as usize + self.pointers as usize,
+            size => pointers_per_element(size) as usize,
+        }
+    }
+
+    /// The pointers in an element.
+    fn element_pointers(&self) -> u16
+        ensures { result ≡ element_pointers (size_number self.now.size) self.now.pointers }
+    {
+        match self.size {
+            ElementSize::InlineComposite => self.pointers,
+            ElementSize::Pointer => 1,
+            _ => 0,
+        }
+    }
+
+    /// The bytes of an element's data.
+    fn element_section(&self, index: u32) -> &'a [u8]
+        requires index { index < self.now.count }
+        requires bytes { size_number self.now.size ≢ 1 }
+        ensures len { 8 * length result.now ≡ element_bits (size_number self.now.size) self.now.data_words }
+        ensures section { number_of 8 result.now ≡ bits_at (step_bits (size_number self.now.size) self.now.data_words self.now.pointers * index) (element_bits (size_number self.now.size) self.now.data_words) (seen_list A.segments self.now).section }
+    {
+        let step = self.step_bits() / 8;
+        let width = self.element_bits() / 8;
+        let at = step * index as usize;
+        &self.bytes[at..at + width]
+    }
+
+    /// An element as a struct: a plain one has just its bits, a pointer is its only pointer. Elements of one bit can't be read so.
+    pub fn get_struct_element(&self, index: u32) -> StructReader<'a, A>
+        requires index { index < (seen_list A.segments self.now).count }
+        requires bytes { size_number (seen_list A.segments self.now).size ≢ 1 }
+        ensures { seen_struct A.segments result ≡ element_of (seen_list A.segments self.now) index }
+    {
+        let section = self.element_section(index);
+        let first = Place {
+            segment: self.start.segment,
+            position: self.start.position
+                + self.step_words() * index as usize
+                + self.data_words as usize,
+        };
+        StructReader::of_parts(
+            self.backing,
+            section,
+            first,
+            self.element_pointers(),
+            self.levels,
+        )
+    }
+
+    /// The first pointer of an element; null where it has none.
+    pub fn get_pointer_element(&self, index: u32) -> PointerReader<'a, A>
+        requires { index < (seen_list A.segments self.now).count }
+        ensures { seen_pointer A.segments result ≡ pointer_field (element_of (seen_list A.segments self.now) index) 0 }
+    {
+        let place = if self.element_pointers() > 0 {
+            Some(Place {
+                segment: self.start.segment,
+                position: self.start.position
+                    + self.step_words() * index as usize
+                    + self.data_words as usize,
+            })
+        } else {
+            None
+        };
+        PointerReader {
+            backing: self.backing,
+            place,
+            levels: self.levels,
+        }
+    }
+
+    /// The number at the front of an element, 0 where the element is narrower.
+    pub(crate) fn number<T: Primitive + Zero>(&self, index: u32) -> T
+        requires { index < (seen_list A.segments self.now).count }
+        ensures { result ≡ T.from_bits (element_number (seen_list A.segments self.now) index (8 * T.BYTES)) }
+    {
+        if self.size == ElementSize::Bit {
+            return T::zero();
+        }
+        self.get_struct_element(index).get_data_field::<T>(0)
+    }
+
+    /// The lowest bit of an element, false where it has none.
+    pub(crate) fn bit(&self, index: u32) -> bool
+        requires { index < (seen_list A.segments self.now).count }
+        ensures { result ≡ (element_number (seen_list A.segments self.now) index 1 == 1) }
+    {
+        if self.size == ElementSize::Bit {
+            return bit_of(self.bytes, index as usize);
+        }
+        self.get_struct_element(index).get_bool_field(0)
+    }
+}

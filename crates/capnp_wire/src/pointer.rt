@@ -1,0 +1,344 @@
+//! Pointers to read.
+ghost use Rattle.std.specs.Prelude.{◌≡◌, ◌+◌, ◌*◌, ◌<◌, ◌≤◌, ◌^◌, ◌%◌, length, Ok, IfOk, option_copied};
+ghost use Rattle.capnp_model.specs.Chains.{◌and_then◌};
+ghost use Rattle.capnp_units.specs.Segments.{words_in};
+ghost use Rattle.capnp_units.specs.Limits.{left_of};
+ghost use Rattle.capnp_wire.specs.Views.{backing_bytes, ground_of, seen_pointer, seen_struct, seen_list, list_view};
+ghost use Rattle.capnp_wire.specs.Reads.{root_of, is_null, with_default, GetGives, read_struct, read_bytes, read_blob, read_text, read_list, read_elements, list_head, type_behind};
+ghost use Rattle.capnp_wire.specs.Places.{seen, place_view};
+ghost use Rattle.capnp_wire.specs.Elements.{step_bits, step_words};
+ghost use Rattle.capnp_model.specs.Sections.{number_of};
+ghost use Rattle.capnp_model.specs.Readings.{is_accepted_as};
+ghost use Rattle.capnp_units.specs.Sizes.{size_number};
+ghost use Rattle.capnp_wire.specs.Objects.{IsInside};
+
+use crate::arena::ReaderArena;
+use crate::backing::{Backing, default_backing, front_of};
+use crate::follow::follow;
+use crate::levels::{level_below, levels_of};
+use crate::list::ListReader;
+use crate::named::{NamedObject, found_at};
+use crate::object::{Object, object_at, words_of_elements};
+use crate::place::{Place, word_at};
+use crate::structs::StructReader;
+use capnp_units::errors::{Error, Result};
+use capnp_units::kinds::ErrorKind;
+use capnp_units::limiter::ReadLimiter;
+use capnp_units::sizes::{
+    ElementSize, PointerType, Word, data_bits_per_element, pointers_per_element,
+};
+
+/// A pointer to read: at a place, or null. What it leads to is lent from what it stands on.
+#[derive_where(Clone, Copy)]
+pub struct PointerReader<'a, A> {
+    pub(crate) backing: Backing<'a, A>,
+    pub(crate) place: Option<Place>,
+    pub(crate) levels: Option<u32>,
+}
+
+impl<'a, A: ReaderArena> PointerReader<'a, A> {
+    /// The root pointer of an arena, the first word of its first segment. It is refused with `OutOfBounds` where that isn't there.
+    pub fn get_root_from_arena(arena: &'a A) -> Result<Self>
+        ensures { seen (seen_pointer A.segments) result ≡ root_of (A.segments arena.now) (A.nesting arena.now) }
+    {
+        let place = Place {
+            segment: 0,
+            position: 0,
+        };
+        if word_at(arena, place).is_none() {
+            return Err(Error::from(ErrorKind::OutOfBounds));
+        }
+        Ok(PointerReader {
+            backing: Backing::Arena(arena),
+            place: Some(place),
+            levels: levels_of(arena.nesting_limit()),
+        })
+    }
+
+    /// The same pointer.
+    pub fn reborrow(&self) -> Self
+        ensures { result ≡ self.now }
+    {
+        *self
+    }
+
+    /// Whether there is no pointer here, or a word of zeros.
+    pub fn is_null(&self) -> bool
+        ensures { result ≡ is_null (seen_pointer A.segments self.now) }
+    {
+        match self.place {
+            None => true,
+            Some(place) => word_at(&self.backing, place) == Some(0),
+        }
+    }
+
+    /// The root of a default, or the pointer itself where it isn't null or the default's root is.
+    fn with_default(&self, default: Option<&'a [Word]>) -> Self
+        ensures { seen_pointer A.segments result ≡ with_default (seen_pointer A.segments self.now) (option_copied default.entry) }
+    {
+        let Some(words) = default else {
+            return *self;
+        };
+        if !self.is_null() {
+            return *self;
+        }
+        let root = PointerReader {
+            backing: default_backing(words),
+            place: Some(Place {
+                segment: 0,
+                position: 0,
+            }),
+            levels: self.levels,
+        };
+        if root.is_null() { *self } else { root }
+    }
+
+    /// What the pointer names, paid for; null is followed to nothing, and a default costs nothing.
+    fn reach(&self, limiter: &mut ReadLimiter) -> Result<Object>
+        ensures object { GetGives (λ o. o) (λ o. Ok o) (seen_pointer A.segments self.now) limiter.old result limiter.new }
+        ensures inside { IfOk result (IsInside (words_in (backing_bytes A.segments self.now.backing))) }
+    {
+        let Some(place) = self.place else {
+            return Ok(Object::Null);
+        };
+        if self.is_null() {
+            return Ok(Object::Null);
+        }
+        match self.backing {
+            Backing::Arena(arena) => follow(arena, limiter, place),
+            Backing::Default(_) => {
+                let found = object_at(&self.backing, place)?;
+                Ok(found.object)
+            }
+        }
+    }
+
+    /// The struct behind the pointer; null is the empty struct.
+    fn struct_here(&self, limiter: &mut ReadLimiter) -> Result<StructReader<'a, A>>
+        ensures { GetGives (seen_struct A.segments) (read_struct (ground_of A.segments self.now.backing) self.now.levels) (seen_pointer A.segments self.now) limiter.old result limiter.new }
+    {
+        match self.reach(limiter)? {
+            Object::Null => Ok(StructReader::empty(self.backing, self.levels)),
+            Object::Struct {
+                start,
+                data_words,
+                pointers,
+            } => {
+                let levels = level_below(self.levels)?;
+                let section = self.backing.lend(start, data_words as usize);
+                let first = Place {
+                    segment: start.segment,
+                    position: start.position + data_words as usize,
+                };
+                Ok(StructReader::of_parts(self.backing, section, first, pointers, levels))
+            }
+            _ => Err(Error::from(ErrorKind::WrongPointerKind)),
+        }
+    }
+
+    /// The bytes of the byte list behind the pointer, and none of null.
+    fn bytes_here(&self, limiter: &mut ReadLimiter) -> Result<Option<&'a [u8]>>
+        ensures { GetGives option_copied (read_bytes (ground_of A.segments self.now.backing) self.now.levels) (seen_pointer A.segments self.now) limiter.old result limiter.new }
+    {
+        match self.reach(limiter)? {
+            Object::Null => Ok(None),
+            Object::List {
+                start,
+                size: ElementSize::Byte,
+                count,
+            } => {
+                level_below(self.levels)?;
+                let words = self.backing.lend(start, (count as usize + 7) / 8);
+                Ok(Some(front_of(words, count as usize)))
+            }
+            Object::List { .. } | Object::PointerList { .. } | Object::StructList { .. } => {
+                Err(Error::from(ErrorKind::WrongElementSize))
+            }
+            Object::Struct { .. } | Object::Capability { .. } => {
+                Err(Error::from(ErrorKind::WrongPointerKind))
+            }
+        }
+    }
+
+    /// The data behind the pointer; null is none.
+    fn data_here(&self, limiter: &mut ReadLimiter) -> Result<&'a [u8]>
+        ensures { GetGives (λ r. r.now) (read_blob (ground_of A.segments self.now.backing) self.now.levels) (seen_pointer A.segments self.now) limiter.old result limiter.new }
+    {
+        match self.bytes_here(limiter)? {
+            None => Ok(&[]),
+            Some(bytes) => Ok(bytes),
+        }
+    }
+
+    /// The text behind the pointer without its zero byte; null is the empty text.
+    fn text_here(&self, limiter: &mut ReadLimiter) -> Result<&'a [u8]>
+        ensures { GetGives (λ r. r.now) (read_text (ground_of A.segments self.now.backing) self.now.levels) (seen_pointer A.segments self.now) limiter.old result limiter.new }
+    {
+        match self.bytes_here(limiter)? {
+            None => Ok(&[]),
+            Some(bytes) => {
+                if bytes.is_empty() || bytes[bytes.len() - 1] != 0 {
+                    return Err(Error::from(ErrorKind::TextWithoutZeroByte));
+                }
+                Ok(&bytes[..bytes.len() - 1])
+            }
+        }
+    }
+
+    /// The struct behind the pointer, its sections lent in place. A null pointer reads as the default's root, which costs nothing and takes the same levels, and without one as the empty struct.
+    ///
+    /// It is refused by the kind of the fault there, with `ReadLimitExceeded` just where the pads and the struct's words pass what is left, with `WrongPointerKind` where something else is there, and with `NestingLimitExceeded` where no level is left. The words are granted where they don't pass what is left, also where the get is refused then.
+    pub fn get_struct(
+        &self,
+        limiter: &mut ReadLimiter,
+        default: Option<&'a [Word]>,
+    ) -> Result<StructReader<'a, A>>
+        ensures { let p = with_default (seen_pointer A.segments self.now) (option_copied default.entry) in GetGives (seen_struct A.segments) (read_struct p.ground p.levels) p limiter.old result limiter.new }
+    {
+        self.with_default(default).struct_here(limiter)
+    }
+
+    /// The data behind the pointer, lent in place. A null pointer reads as the default's root, and without one as no byte.
+    ///
+    /// It is refused as a struct is; with `WrongElementSize` where a list of other elements than bytes is there.
+    pub fn get_data(
+        &self,
+        limiter: &mut ReadLimiter,
+        default: Option<&'a [Word]>,
+    ) -> Result<&'a [u8]>
+        ensures { let p = with_default (seen_pointer A.segments self.now) (option_copied default.entry) in GetGives (λ r. r.now) (read_blob p.ground p.levels) p limiter.old result limiter.new }
+    {
+        self.with_default(default).data_here(limiter)
+    }
+
+    /// The text behind the pointer, lent in place without the zero byte at its end; it may be no UTF-8. A null pointer reads as the default's root, and without one as the empty text.
+    ///
+    /// It is refused as data are, and with `TextWithoutZeroByte` where the last byte isn't zero or there is none.
+    pub fn get_text(
+        &self,
+        limiter: &mut ReadLimiter,
+        default: Option<&'a [Word]>,
+    ) -> Result<&'a [u8]>
+        ensures { let p = with_default (seen_pointer A.segments self.now) (option_copied default.entry) in GetGives (λ r. r.now) (read_text p.ground p.levels) p limiter.old result limiter.new }
+    {
+        self.with_default(default).text_here(limiter)
+    }
+
+    /// The sort of object that the pointer names, whether its words are there or not. It costs nothing.
+    ///
+    /// It is refused with `OutOfBounds` where the pointer or a pad isn't there, with `MalformedFarPointer` and with `UnknownPointerType`.
+    pub fn get_pointer_type(&self) -> Result<PointerType>
+        ensures { seen (λ t. t) result ≡ type_behind (seen_pointer A.segments self.now) }
+    {
+        let Some(place) = self.place else {
+            return Ok(PointerType::Null);
+        };
+        match found_at(&self.backing, place)?.object {
+            NamedObject::Null => Ok(PointerType::Null),
+            NamedObject::Struct { .. } => Ok(PointerType::Struct),
+            NamedObject::List { .. } => Ok(PointerType::List),
+            NamedObject::Capability { .. } => Ok(PointerType::Capability),
+        }
+    }
+
+    /// A list whose bytes are lent, where a level is left and its elements can be read as ones of the expected size.
+    fn list_of(
+        &self,
+        expected: ElementSize,
+        bytes: &'a [u8],
+        start: Place,
+        count: u32,
+        size: ElementSize,
+        data_words: u16,
+        pointers: u16,
+    ) -> Result<ListReader<'a, A>>
+        requires inside { step_bits (size_number size) data_words pointers * count ≤ 8 * length bytes.now }
+        requires near { start.position + step_words (size_number size) data_words pointers * count < 2 ^ 61 }
+        ensures { seen (seen_list A.segments) result
+            ≡ read_elements self.now.levels expected (list_view (ground_of A.segments self.now.backing) size count (number_of 8 bytes.now) (place_view start) data_words pointers) size data_words pointers }
+    {
+        let levels = level_below(self.levels)?;
+        if !is_accepted(expected, size, data_words, pointers) {
+            return Err(Error::from(ErrorKind::WrongElementSize));
+        }
+        Ok(ListReader::of_parts(
+            self.backing,
+            bytes,
+            start,
+            count,
+            size,
+            data_words,
+            pointers,
+            levels,
+        ))
+    }
+
+    /// The list behind the pointer; null is the empty list of the expected size.
+    fn list_here(
+        &self,
+        limiter: &mut ReadLimiter,
+        expected: ElementSize,
+    ) -> Result<ListReader<'a, A>>
+        ensures { GetGives (seen_list A.segments) (read_list (ground_of A.segments self.now.backing) self.now.levels expected) (seen_pointer A.segments self.now) limiter.old result limiter.new }
+    {
+        match self.reach(limiter)? {
+            Object::Null => Ok(ListReader::empty(self.backing, expected, self.levels)),
+            Object::List { start, size, count } => {
+                let words = words_of_elements(size, count) as usize;
+                let bytes = self.backing.lend(start, words);
+                self.list_of(expected, bytes, start, count, size, 0, 0)
+            }
+            Object::PointerList { start, count } => {
+                self.list_of(expected, &[], start, count, ElementSize::Pointer, 0, 0)
+            }
+            Object::StructList {
+                start,
+                count,
+                data_words,
+                pointers,
+                ..
+            } => {
+                let words = count as usize * (data_words as usize + pointers as usize);
+                let bytes = self.backing.lend(start, words);
+                let size = ElementSize::InlineComposite;
+                self.list_of(expected, bytes, start, count, size, data_words, pointers)
+            }
+            Object::Struct { .. } | Object::Capability { .. } => {
+                Err(Error::from(ErrorKind::WrongPointerKind))
+            }
+        }
+    }
+
+    /// The list behind the pointer, its elements lent in place, which can be read as ones of the expected size. A null pointer reads as the default's root, and without one as the empty list of that size.
+    ///
+    /// It is refused as a struct is, and with `WrongElementSize` where its elements are too narrow: single bits are read as single bits alone, and never from structs; any other element has to have the bits and the pointers of the expected one, which for `InlineComposite` are none.
+    pub fn get_list(
+        &self,
+        limiter: &mut ReadLimiter,
+        expected: ElementSize,
+        default: Option<&'a [Word]>,
+    ) -> Result<ListReader<'a, A>>
+        ensures { let p = with_default (seen_pointer A.segments self.now) (option_copied default.entry) in GetGives (seen_list A.segments) (read_list p.ground p.levels expected) p limiter.old result limiter.new }
+    {
+        self.with_default(default).list_here(limiter, expected)
+    }
+}
+
+/// Whether elements of a size can be read as ones of an expected size. Structs have so many data words and pointers.
+fn is_accepted(expected: ElementSize, size: ElementSize, data_words: u16, pointers: u16) -> bool
+    ensures { result ≡ is_accepted_as (size_number expected) (list_head size data_words pointers) }
+{
+    let bits = data_bits_per_element(expected) as u64;
+    let refs = pointers_per_element(expected);
+    match size {
+        ElementSize::InlineComposite => {
+            expected != ElementSize::Bit
+                && bits <= 64 * data_words as u64
+                && refs <= pointers as u32
+        }
+        ElementSize::Bit => expected == ElementSize::Bit,
+        _ => {
+            bits <= data_bits_per_element(size) as u64 && refs <= pointers_per_element(size)
+        }
+    }
+}

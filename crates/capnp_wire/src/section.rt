@@ -1,0 +1,24 @@
+//! Numbers in the bytes of data sections.
+ghost use Rattle.std.specs.Prelude.{◌≡◌, ◌+◌, ◌*◌, ◌/◌, ◌<◌, ◌≤◌, ◌^◌, ◌==◌, length, MatchOption};
+ghost use Rattle.capnp_model.specs.Sections.{bits_at, number_of};
+
+/// The bytes from a number of so many bytes on, which stands behind others of its width, where it lies wholly in the section.
+pub(crate) fn bytes_from(section: &[u8], index: usize, width: usize) -> Option<&[u8]>
+    ensures within { MatchOption result (length section.now < width * index + width) (λ rest. width * index + width ≤ length section.now) }
+    ensures there { MatchOption result (length section.now < width * index + width) (λ rest. width ≤ length rest.now) }
+    ensures bits { MatchOption result (length section.now < width * index + width) (λ rest. number_of 8 rest.now ≡ number_of 8 section.now / 2 ^ (8 * (width * index))) }
+{
+    let start = index.checked_mul(width)?;
+    if start > section.len() || width > section.len() - start {
+        return None;
+    }
+    Some(&section[start..])
+}
+
+/// A bit of bytes, from the lowest of the first byte on.
+pub(crate) fn bit_of(bytes: &[u8], index: usize) -> bool
+    requires { index < 8 * length bytes.now }
+    ensures { result ≡ (bits_at index 1 (number_of 8 bytes.now) == 1) }
+{
+    bytes[index / 8] / (1 << (index % 8)) % 2 == 1
+}

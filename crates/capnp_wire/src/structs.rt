@@ -1,0 +1,138 @@
+//! Structs to read.
+ghost use Rattle.std.specs.Prelude.{◌≡◌, ◌+◌, ◌*◌, ◌<◌, ◌^◌, ◌==◌, bit_xor, length};
+ghost use Rattle.capnp_model.specs.Sections.{number_of};
+ghost use Rattle.capnp_model.specs.Readings.{field_bits, just_bits};
+
+use crate::arena::ReaderArena;
+use crate::backing::Backing;
+use crate::place::Place;
+use crate::pointer::PointerReader;
+use crate::section::{bit_of, bytes_from};
+use capnp_units::primitive::{Mask, Primitive, Zero};
+use capnp_units::units::{ElementCount, WirePointerCount};
+use std::alloc::AllocError;
+
+/// A struct to read. Its data section is lent from what it stands on; outside the sections there are zeros and nulls.
+pub struct StructReader<'a, A> {
+    pub(crate) backing: Backing<'a, A>,
+    pub(crate) section: &'a [u8],
+    pub(crate) first: Place,
+    pub(crate) pointers: u16,
+    pub(crate) levels: Option<u32>,
+    ghost near: { first.position + pointers < 2 ^ 62 },
+}
+
+impl<A> Clone for StructReader<'_, A> {
+    ghost is_clone = { λ x y. y ≡ x };
+
+    ghost is_infallible = { λ _. Unit {0} };
+
+    fn clone(&self) -> Result<Self, AllocError> {
+        Ok(*self)
+    }
+}
+
+impl<A> Copy for StructReader<'_, A> {}
+
+impl<'a, A: ReaderArena> StructReader<'a, A> {
+    ghost use Rattle.capnp_wire.specs.Places.{place_view};
+    ghost use Rattle.capnp_wire.specs.Views.{ground_of, seen_pointer, seen_struct, struct_view, pointer_field, bit_of_bool};
+    ghost use Rattle.capnp_wire.specs.Reads.{empty_struct, is_null};
+
+    /// A struct of these parts.
+    pub(crate) fn of_parts(
+        backing: Backing<'a, A>,
+        section: &'a [u8],
+        first: Place,
+        pointers: u16,
+        levels: Option<u32>,
+    ) -> Self
+        requires { first.position + pointers < 2 ^ 62 }
+        ensures { seen_struct A.segments result ≡ struct_view (ground_of A.segments backing.entry) (number_of 8 section.now) (8 * length section.now) (place_view first) pointers levels }
+    {
+        StructReader {
+            backing,
+            section,
+            first,
+            pointers,
+            levels,
+        }
+    }
+
+    /// The struct without sections.
+    pub(crate) fn empty(backing: Backing<'a, A>, levels: Option<u32>) -> Self
+        ensures { seen_struct A.segments result ≡ empty_struct (ground_of A.segments backing.entry) levels }
+    {
+        StructReader {
+            backing,
+            section: &[],
+            first: Place {
+                segment: 0,
+                position: 0,
+            },
+            pointers: 0,
+            levels,
+        }
+    }
+
+    /// A number of the data section, counted in its own width; 0 where it doesn't lie wholly in the section.
+    pub fn get_data_field<T: Primitive + Zero>(&self, offset: ElementCount) -> T
+        ensures { let s = seen_struct A.segments self.now in result ≡ T.from_bits (field_bits (just_bits s.bits) s.section (8 * (T.BYTES * offset)) (8 * T.BYTES)) }
+    {
+        match bytes_from(self.section, offset, T::BYTES) {
+            Some(bytes) => T::get(bytes),
+            None => T::zero(),
+        }
+    }
+
+    /// The same, exclusive or the field's default.
+    pub fn get_data_field_mask<T: Primitive + Zero + Mask>(
+        &self,
+        offset: ElementCount,
+        mask: T::T,
+    ) -> T
+        ensures { let s = seen_struct A.segments self.now in result ≡ T.from_bits (bit_xor (field_bits (just_bits s.bits) s.section (8 * (T.BYTES * offset)) (8 * T.BYTES)) (T.mask_bits mask)) }
+    {
+        T::mask(self.get_data_field::<T>(offset), mask)
+    }
+
+    /// A bit of the data section, counted in bits; false where it doesn't lie in the section.
+    pub fn get_bool_field(&self, offset: ElementCount) -> bool
+        ensures { let s = seen_struct A.segments self.now in result ≡ (field_bits (just_bits s.bits) s.section offset 1 == 1) }
+    {
+        offset / 8 < self.section.len() && bit_of(self.section, offset)
+    }
+
+    /// The same, exclusive or the field's default.
+    pub fn get_bool_field_mask(&self, offset: ElementCount, mask: bool) -> bool
+        ensures { let s = seen_struct A.segments self.now in result ≡ (bit_xor (field_bits (just_bits s.bits) s.section offset 1) (bit_of_bool mask) == 1) }
+    {
+        self.get_bool_field(offset) != mask
+    }
+
+    /// A pointer of the pointer section, null past its end.
+    pub fn get_pointer_field(&self, ptr_index: WirePointerCount) -> PointerReader<'a, A>
+        ensures { seen_pointer A.segments result ≡ pointer_field (seen_struct A.segments self.now) ptr_index }
+    {
+        let place = if ptr_index < self.pointers as usize {
+            Some(Place {
+                segment: self.first.segment,
+                position: self.first.position + ptr_index,
+            })
+        } else {
+            None
+        };
+        PointerReader {
+            backing: self.backing,
+            place,
+            levels: self.levels,
+        }
+    }
+
+    /// Whether a pointer of the pointer section is null, as it is past its end.
+    pub fn is_pointer_field_null(&self, ptr_index: WirePointerCount) -> bool
+        ensures { result ≡ is_null (pointer_field (seen_struct A.segments self.now) ptr_index) }
+    {
+        self.get_pointer_field(ptr_index).is_null()
+    }
+}
