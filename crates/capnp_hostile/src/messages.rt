@@ -4,11 +4,7 @@
 const TEXT: &[&[u64]] = &[&[0x1_0001_0000_0000, 7, 0x1a_0000_0001, 0x6968]];
 
 /// A struct behind a landing pad of two words, in three segments.
-const DOUBLE_FAR: &[&[u64]] = &[
-    &[0x1_0000_0006],
-    &[0x2_0000_0002, 0x1_0000_0000],
-    &[7],
-];
+const DOUBLE_FAR: &[&[u64]] = &[&[0x1_0000_0006], &[0x2_0000_0002, 0x1_0000_0000], &[7]];
 
 /// A struct behind a landing pad of one word, in two segments.
 const FAR: &[&[u64]] = &[&[0x1_0000_0002], &[0x1_0000_0000, 99]];
