@@ -6,6 +6,9 @@ pub mod Levels
 pub mod Elements
 pub mod Views
 pub mod Reads
+pub mod Inside
+pub mod Walks
+pub mod Laws
 pub use Rattle.capnp_units.specs.Errors
 pub use Rattle.capnp_units.specs.Limits
 pub use Rattle.capnp_units.specs.Segments
