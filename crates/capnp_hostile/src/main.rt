@@ -7,6 +7,7 @@ mod random;
 mod walk;
 
 use capnp_units::limiter::ReadLimiter;
+use capnp_value::value::{Bounds, read_value};
 use capnp_wire::arena::ReaderArenaImpl;
 use capnp_wire::pointer::PointerReader;
 use random::Random;
@@ -24,29 +25,49 @@ const ROUNDS: u32 = 1000;
 const LEVELS: u32 = 8;
 
 /// Limits of levels and of words, of which a message gets one each.
-const NESTINGS: [i32; 4] = [64, 64, 2, 0];
+const NESTINGS: [u32; 4] = [64, 64, 2, 0];
 
-const BUDGETS: [u64; 4] = [8192, 8192, 100, 3];
+const BUDGETS: [u32; 4] = [8192, 8192, 100, 3];
 
-/// Reads a message as each type that its pointers can be read as.
-fn read_message(random: &mut Random, segments: &[Vec<u8>], digest: &mut Digest) {
-    let arena = ReaderArenaImpl::new(segments, NESTINGS[random.below(4)]);
-    let mut limiter = ReadLimiter::new(Some(BUDGETS[random.below(4)]));
-    if let Ok(root) = PointerReader::get_root_from_arena(&arena) {
-        walk(root, &mut limiter, digest, LEVELS);
-    }
+/// Reads a message as each type that its pointers can be read as. Whether the size of its value is told just where the value is read, capabilities aside.
+fn read_message(
+    alloc: Global,
+    random: &mut Random,
+    segments: &[Vec<u8>],
+    digest: &mut Digest,
+) -> Result<bool, AllocError> {
+    let nesting = NESTINGS[random.below(4)];
+    let words = BUDGETS[random.below(4)];
+    let arena = ReaderArenaImpl::new(segments, nesting as i32);
+    let Ok(root) = PointerReader::get_root_from_arena(&arena) else {
+        return Ok(true);
+    };
+    walk(
+        root,
+        &mut ReadLimiter::new(Some(words as u64)),
+        digest,
+        LEVELS,
+    );
+    let size = root.total_size(&mut ReadLimiter::new(Some(words as u64)));
+    let value = read_value(alloc, &segments, Bounds { words, nesting })?;
+    Ok(match size {
+        Ok(size) => value.is_some() == (size.cap_count == 0),
+        Err(_) => value.is_none(),
+    })
 }
 
-/// Reads so many mutated messages. What was read of all of them is in the digest.
-fn read_all(alloc: Global, rounds: u32) -> Result<Digest, AllocError> {
+/// Reads so many mutated messages. What was read of all of them is in the digest; none where a size and a value don't go together.
+fn read_all(alloc: Global, rounds: u32) -> Result<Option<Digest>, AllocError> {
     let mut random = Random::new(SEED);
     let mut digest = Digest(0);
     for _ in 0..rounds {
         let number = random.below(messages::COUNT);
         let segments = mutations::mutated(alloc, &mut random, messages::base(number))?;
-        read_message(&mut random, &segments, &mut digest);
+        if !read_message(alloc, &mut random, &segments, &mut digest)? {
+            return Ok(None);
+        }
     }
-    Ok(digest)
+    Ok(Some(digest))
 }
 
 /// The number that is given to the program.
@@ -61,10 +82,11 @@ fn rounds(rt: &HostRuntime) -> io::Result<u32> {
 fn main(rt: HostRuntime) -> io::Result<()> {
     let rounds = rounds(&rt)?;
     match read_all(rt.alloc(), rounds) {
-        Ok(digest) => {
+        Ok(Some(digest)) => {
             eprintln!(rt; "digest {:x}", digest.0)?;
             println!(rt; "{rounds} messages read")
         }
+        Ok(None) => println!(rt; "a size and a value don't go together"),
         Err(_) => println!(rt; "no memory"),
     }
 }
