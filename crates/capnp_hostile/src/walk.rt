@@ -1,0 +1,150 @@
+//! Reads all that a pointer leads to, as every type that it can be read as.
+ghost use Rattle.std.specs.Prelude.{◌≢◌, IfSome};
+ghost use Rattle.capnp_units.specs.Sizes.{size_number};
+ghost use Rattle.capnp_wire.specs.Views.{seen_list};
+
+use capnp_units::limiter::ReadLimiter;
+use capnp_units::sizes::{ElementSize, PointerType};
+use capnp_wire::arena::ReaderArena;
+use capnp_wire::element::PrimitiveElement;
+use capnp_wire::list::ListReader;
+use capnp_wire::pointer::PointerReader;
+use capnp_wire::structs::StructReader;
+
+/// The most elements of a list that are read.
+const ELEMENTS: u32 = 6;
+
+/// The most pointers of a struct that are read, some past its section.
+const POINTERS: usize = 3;
+
+/// A number that depends on all that was read.
+#[derive(Clone, Copy)]
+pub struct Digest(pub u64);
+
+impl Digest {
+    fn add(&mut self, number: u64) {
+        self.0 = (self.0 ^ number).wrapping_mul(0x100_0000_01b3);
+    }
+}
+
+fn walk_bytes<A: ReaderArena>(
+    pointer: PointerReader<'_, A>,
+    limiter: &mut ReadLimiter,
+    digest: &mut Digest,
+) {
+    if let Ok(bytes) = pointer.get_data(limiter, None) {
+        digest.add(bytes.len() as u64);
+        for byte in bytes {
+            digest.add(*byte as u64);
+        }
+    }
+    match pointer.get_text(limiter, None) {
+        Ok(text) => digest.add(text.len() as u64),
+        Err(e) => digest.add(e.kind as u64),
+    }
+}
+
+fn walk_fields<A: ReaderArena>(value: StructReader<'_, A>, digest: &mut Digest) {
+    for i in 0..4 {
+        digest.add(value.get_data_field::<u8>(i) as u64);
+        digest.add(value.get_data_field::<u16>(i) as u64);
+        digest.add(value.get_data_field::<u32>(i) as u64);
+        digest.add(value.get_data_field::<u64>(i));
+        digest.add(u64::from(value.get_bool_field(i)));
+    }
+}
+
+/// The pointers of a struct, up to so many levels deep.
+#[cycle(walk)]
+fn walk_struct<A: ReaderArena>(
+    value: StructReader<'_, A>,
+    limiter: &mut ReadLimiter,
+    digest: &mut Digest,
+    levels: u32,
+) {
+    walk_fields(value, digest);
+    for i in 0..POINTERS {
+        digest.add(u64::from(value.is_pointer_field_null(i)));
+        walk(value.get_pointer_field(i), limiter, digest, levels);
+    }
+}
+
+fn walk_numbers<A: ReaderArena>(
+    pointer: PointerReader<'_, A>,
+    limiter: &mut ReadLimiter,
+    digest: &mut Digest,
+) {
+    if let Ok(list) = pointer.get_list(limiter, ElementSize::Bit, None) {
+        for i in 0..list.len().min(ELEMENTS) {
+            digest.add(u64::from(<bool as PrimitiveElement>::get(&list, i)));
+        }
+    }
+    if let Ok(list) = pointer.get_list(limiter, ElementSize::TwoBytes, None) {
+        for i in 0..list.len().min(ELEMENTS) {
+            digest.add(<u16 as PrimitiveElement>::get(&list, i) as u64);
+        }
+    }
+    if let Ok(list) = pointer.get_list(limiter, ElementSize::EightBytes, None) {
+        for i in 0..list.len().min(ELEMENTS) {
+            digest.add(<u64 as PrimitiveElement>::get(&list, i));
+        }
+    }
+}
+
+/// The list as one of structs, where it can be read so.
+fn structs_of<'a, A: ReaderArena>(
+    pointer: PointerReader<'a, A>,
+    limiter: &mut ReadLimiter,
+) -> Option<ListReader<'a, A>>
+    ensures { IfSome result (λ list. size_number (seen_list A.segments list).size ≢ 1) }
+{
+    pointer
+        .get_list(limiter, ElementSize::InlineComposite, None)
+        .ok()
+}
+
+/// The elements of a list, up to so many levels deep.
+#[cycle(walk)]
+fn walk_list<A: ReaderArena>(
+    pointer: PointerReader<'_, A>,
+    limiter: &mut ReadLimiter,
+    digest: &mut Digest,
+    levels: u32,
+) {
+    walk_numbers(pointer, limiter, digest);
+    if let Ok(list) = pointer.get_list(limiter, ElementSize::Pointer, None) {
+        for i in 0..list.len().min(ELEMENTS) {
+            walk(list.get_pointer_element(i), limiter, digest, levels);
+        }
+    }
+    if let Some(list) = structs_of(pointer, limiter) {
+        for i in 0..list.len().min(ELEMENTS) {
+            walk_struct(list.get_struct_element(i), limiter, digest, levels);
+        }
+    }
+}
+
+/// All that a pointer leads to, up to so many levels deep.
+#[cycle(walk)]
+pub fn walk<A: ReaderArena>(
+    pointer: PointerReader<'_, A>,
+    limiter: &mut ReadLimiter,
+    digest: &mut Digest,
+    levels: u32,
+) {
+    if levels == 0 {
+        return;
+    }
+    walk_bytes(pointer, limiter, digest);
+    match pointer.get_pointer_type() {
+        Ok(PointerType::Struct) => {
+            if let Ok(value) = pointer.get_struct(limiter, None) {
+                walk_struct(value, limiter, digest, levels - 1);
+            }
+        }
+        Ok(PointerType::List) => walk_list(pointer, limiter, digest, levels - 1),
+        Ok(PointerType::Capability) => digest.add(1),
+        Ok(PointerType::Null) => digest.add(2),
+        Err(e) => digest.add(e.kind as u64),
+    }
+}
