@@ -114,7 +114,7 @@ module _ (s : Segments) (p : Place) (size n : ℕ) (ws : List ℕ) (o : Object) 
       let bits : data_bits (size_number (plain_size size)) * n ≡ size_bits size * n = ap (λ (b : ℕ). b * n) (plain_bits size plain) in
       let number = plain_number size plain in
       let whole : own_cost (object.List (placed p) (plain_size size) n) ≡ (if eqb size 0 then n else words_for (size_bits size * n)) =
-          ap (λ (z : ℕ). if eqb z 0 then n else words_for (data_bits (size_number (plain_size size)) * n)) number ∙ ap (λ (b : ℕ). if eqb size 0 then n else words_for b) bits in
+      ap (λ (z : ℕ). if eqb z 0 then n else words_for (data_bits (size_number (plain_size size)) * n)) number ∙ ap (λ (b : ℕ). if eqb size 0 then n else words_for b) bits in
       let sum : own_cost (object.List (placed p) (plain_size size) n) ≡ own_cost (object.List (placed p) (plain_size size) n) + 0 = omega arith in
       sym whole ∙ sum ∙ ap (λ (x : Object). own_cost x + cost_in g x) is
   list_costs g of_pointers plain there e = ap (λ (x : Object). own_cost x + cost_in g x) (ok_is _ _ e)

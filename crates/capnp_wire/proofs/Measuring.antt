@@ -157,11 +157,11 @@ deep_at n m s p o old mid new r e pay h =
     let sum : found.0.pads + (own + rest) ≡ (pay.pads + own) + rest = omega arith in
     let cost : cost_at (suc m) s p ≡ (pay.pads + own) + rest = link_cost s p found.0 found.1 o found.2 m ∙ sum in
     let here : SizeGives object_words capability_count (tree_in s (tree_at m s) o) (faults_in (faults_at m s) o) ((pay.pads + own) + rest) 1 old r new =
-        paid_then object_words capability_count (tree_in s (tree_at m s) o) (faults_in (faults_at m s) o) rest own (pay.pads + own) old mid new r pay.spends pay.follows (omega arith) h in
+    paid_then object_words capability_count (tree_in s (tree_at m s) o) (faults_in (faults_at m s) o) rest own (pay.pads + own) old mid new r pay.spends pay.follows (omega arith) h in
     let one : SizeGives object_words capability_count (tree_at (suc m) s p) (faults_in (faults_at m s) o) ((pay.pads + own) + rest) 1 old r new =
-        subst (λ (t : Option Tree). SizeGives object_words capability_count t (faults_in (faults_at m s) o) ((pay.pads + own) + rest) 1 old r new) (sym tree) here in
+    subst (λ (t : Option Tree). SizeGives object_words capability_count t (faults_in (faults_at m s) o) ((pay.pads + own) + rest) 1 old r new) (sym tree) here in
     let two : SizeGives object_words capability_count (tree_at (suc m) s p) (faults_at (suc m) s p) ((pay.pads + own) + rest) 1 old r new =
-        subst (λ (k : List Kind). SizeGives object_words capability_count (tree_at (suc m) s p) k ((pay.pads + own) + rest) 1 old r new) (sym faults) one in
+    subst (λ (k : List Kind). SizeGives object_words capability_count (tree_at (suc m) s p) k ((pay.pads + own) + rest) 1 old r new) (sym faults) one in
     let three : ValueGives (suc m) s p old r new = subst (λ (k : ℕ). SizeGives object_words capability_count (tree_at (suc m) s p) (faults_at (suc m) s p) k 1 old r new) (sym cost) two in
     subst (λ (k : ℕ). ValueGives k s p old r new) (sym e) three
 
@@ -196,7 +196,7 @@ pub null_size : (p : PointerView) (n : ℕ) (l : ReadLimiter) → p.levels ≡ S
 null_size p n l e f =
     let s = p.ground.segments in
     let here : SizeOn p.ground.paid object_words capability_count (tree_behind n s p.place) (faults_behind n s p.place) (cost_behind n s p.place) 1 l (Ok (wordless 0)) l =
-        subst (λ (o : Option Place). SizeOn p.ground.paid object_words capability_count (tree_behind n s o) (faults_behind n s o) (cost_behind n s o) 1 l (Ok (wordless 0)) l) (sym f) (size_nothing p.ground.paid l) in
+    subst (λ (o : Option Place). SizeOn p.ground.paid object_words capability_count (tree_behind n s o) (faults_behind n s o) (cost_behind n s o) 1 l (Ok (wordless 0)) l) (sym f) (size_nothing p.ground.paid l) in
     subst (λ (o : Option ℕ). MatchOption o (NoLevels l (Ok (wordless 0)) l) (λ m. SizeOn p.ground.paid object_words capability_count (tree_behind m s p.place) (faults_behind m s p.place) (cost_behind m s p.place) 1 l (Ok (wordless 0)) l)) (sym e) here
 
 sized_more : {X : Type 0} (paid : Bool) (words caps : X → ℕ) (there : Option X) (faults : List Kind) (cost n more : ℕ) (old new : ReadLimiter) (size size' : MessageSize) → ((w c : ℕ) → Counts w c size → Counts (w + more) c size')

@@ -32,12 +32,12 @@ walks_fewer a b w m n x h = record { spends = x.spends; followed = x.followed; f
 pub refused_after : (faults all : List Kind) (cost whole paid seen pointers more : ℕ) (old mid new : ReadLimiter) (e : Error) → Walks old mid paid (seen + paid) → ((k : Kind) → Contains faults k → Contains all k) → paid + cost ≤ whole → seen + pointers ≤ more
     → WalkRefused faults cost pointers mid e new → WalkRefused all whole more old e new
 refused_after faults all cost whole paid seen pointers more old mid new e w f c m r = (
-      (paid + r.0.0, walks_fewer old new (paid + r.0.0) ((seen + paid) + (pointers + r.0.0)) (more + (paid + r.0.0)) (walks_both old mid new paid r.0.0 (seen + paid) (pointers + r.0.0) w r.0.1) (omega arith)),
-      elim r.1 [
-        | inl fault ↦ inl (f (kind_of e.kind) fault)
-        | inr dear ↦ inr (dear.0, passed_by_more (left_of old) (paid + cost) whole (passed_after old mid paid cost w.spends dear.1) c)
-      ],
-    )
+  (paid + r.0.0, walks_fewer old new (paid + r.0.0) ((seen + paid) + (pointers + r.0.0)) (more + (paid + r.0.0)) (walks_both old mid new paid r.0.0 (seen + paid) (pointers + r.0.0) w r.0.1) (omega arith)),
+  elim r.1 [
+    | inl fault ↦ inl (f (kind_of e.kind) fault)
+    | inr dear ↦ inr (dear.0, passed_by_more (left_of old) (paid + cost) whole (passed_after old mid paid cost w.spends dear.1) c)
+  ],
+)
 
 -- ---- an object that is paid for, and what is behind it
 

@@ -52,13 +52,7 @@ impl<'a, A: ReaderArena> Backing<'a, A> {
     {
         match self {
             Backing::Arena(arena) => arena.get_segment(id),
-            Backing::Default(bytes) => {
-                if id == 0 {
-                    Some(bytes)
-                } else {
-                    None
-                }
-            }
+            Backing::Default(bytes) => { if id == 0 { Some(bytes) } else { None } }
         }
     }
 

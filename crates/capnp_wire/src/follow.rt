@@ -50,11 +50,7 @@ pub fn own_cost(object: Object) -> u64
 /// What the pointer at a place names, one level deep. It is counted as followed, and its pads and the object's own words are granted.
 ///
 /// It is refused as `object_at` is, or with `ReadLimitExceeded` where the words pass what is left of the limit. Then it is counted all the same, and no word is granted.
-pub fn follow<A: ReaderArena>(
-    arena: &A,
-    limiter: &mut ReadLimiter,
-    place: Place,
-) -> Result<Object>
+pub fn follow<A: ReaderArena>(arena: &A, limiter: &mut ReadLimiter, place: Place) -> Result<Object>
     ensures { FollowGives (words_in (A.segments arena.now)) (place_view place) limiter.old result limiter.new }
 {
     limiter.follow();

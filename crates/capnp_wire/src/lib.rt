@@ -17,8 +17,7 @@ pub mod pointer;
 mod section;
 pub mod size;
 pub mod structs;
-pub mod traits;
-mod word_pointer;
-
 #[cfg(test)]
 mod tests;
+pub mod traits;
+mod word_pointer;

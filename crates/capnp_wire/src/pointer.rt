@@ -365,8 +365,6 @@ fn is_accepted(expected: ElementSize, size: ElementSize, data_words: u16, pointe
                 && refs <= pointers as u32
         }
         ElementSize::Bit => expected == ElementSize::Bit,
-        _ => {
-            bits <= data_bits_per_element(size) as u64 && refs <= pointers_per_element(size)
-        }
+        _ => { bits <= data_bits_per_element(size) as u64 && refs <= pointers_per_element(size) }
     }
 }

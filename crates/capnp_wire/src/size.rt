@@ -122,9 +122,7 @@ fn size_inside<A: ReaderArena>(
             pointers,
             ..
         } => {
-            let size = size_of_structs(
-                arena, limiter, start, count, data_words, pointers, levels,
-            )?;
+            let size = size_of_structs(arena, limiter, start, count, data_words, pointers, levels)?;
             Ok(with_words(size, 1))
         }
     }

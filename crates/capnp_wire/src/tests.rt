@@ -10,9 +10,13 @@ use capnp_units::sizes::{ElementSize, PointerType, Word};
 use std::test::Fail;
 
 const FAR: &[u8] = &[6, 0, 0, 0, 1, 0, 0, 0];
+
 const PAD: &[u8] = &[2, 0, 0, 0, 2, 0, 0, 0, 0, 0, 0, 0, 1, 0, 0, 0];
+
 const EMPTY_PAD: &[u8] = &[2, 0, 0, 0, 2, 0, 0, 0, 0, 0, 0, 0, 0, 0, 0, 0];
+
 const FAR_PAD: &[u8] = &[2, 0, 0, 0, 2, 0, 0, 0, 2, 0, 0, 0, 0, 0, 0, 0];
+
 const SEVEN: &[u8] = &[7, 0, 0, 0, 0, 0, 0, 0];
 
 #[test]
@@ -74,7 +78,10 @@ fn a_byte_list_as_other_lists(rt: HostRuntime) -> Result<(), Fail> {
     let arena = ReaderArenaImpl::new(segments, 1);
     let mut limiter = ReadLimiter::new(None);
     let root = PointerReader::get_root_from_arena(&arena)?;
-    assert_eq!(rt; root.get_list(&mut limiter, ElementSize::Void, None)?.len(), 2);
+    assert_eq!(rt;
+        root.get_list(&mut limiter, ElementSize::Void, None)?.len(),
+        2
+    );
     let bits = root.get_list(&mut limiter, ElementSize::Bit, None)?;
     assert_eq!(rt; bits.len(), 2);
     if bits.len() == 2 {
@@ -108,7 +115,9 @@ fn a_byte_list_as_other_lists(rt: HostRuntime) -> Result<(), Fail> {
 #[test]
 fn the_size_of_a_struct_with_a_text(rt: HostRuntime) -> Result<(), Fail> {
     let mut segments = Vec::new(rt.alloc());
-    segments.push(vec![in rt.alloc(); 0, 0, 0, 0, 0, 0, 1, 0, 1, 0, 0, 0, 0x1a, 0, 0, 0, 0x68, 0x69, 0, 0, 0, 0, 0, 0]?)?;
+    segments.push(vec![in rt.alloc();
+        0, 0, 0, 0, 0, 0, 1, 0, 1, 0, 0, 0, 0x1a, 0, 0, 0, 0x68, 0x69, 0, 0, 0, 0, 0, 0,
+    ]?)?;
     let arena = ReaderArenaImpl::new(segments, 2);
     let mut limiter = ReadLimiter::new(Some(3));
     let root = PointerReader::get_root_from_arena(&arena)?;
@@ -118,7 +127,9 @@ fn the_size_of_a_struct_with_a_text(rt: HostRuntime) -> Result<(), Fail> {
     assert_eq!(rt; limiter.granted(), 2);
     let found = root.get_struct(&mut ReadLimiter::new(None), None)?;
     assert_eq!(rt; found.total_size(&mut limiter)?.word_count, 2);
-    let text = found.get_pointer_field(0).get_text(&mut ReadLimiter::new(None), None)?;
+    let text = found
+        .get_pointer_field(0)
+        .get_text(&mut ReadLimiter::new(None), None)?;
     assert_eq!(rt; text, b"hi".as_slice());
     let refused = root.total_size(&mut limiter).err();
     assert_eq!(rt; refused, Some(Error::from(ErrorKind::ReadLimitExceeded)));
@@ -133,7 +144,10 @@ fn a_default_costs_nothing(rt: HostRuntime) -> Result<(), Fail> {
     let mut limiter = ReadLimiter::new(Some(0));
     let root = PointerReader::get_root_from_arena(&arena)?;
     let default: &[Word] = &[[1, 0, 0, 0, 0x1a, 0, 0, 0], [0x68, 0x69, 0, 0, 0, 0, 0, 0]];
-    assert_eq!(rt; root.get_text(&mut limiter, Some(default))?, b"hi".as_slice());
+    assert_eq!(rt;
+        root.get_text(&mut limiter, Some(default))?,
+        b"hi".as_slice()
+    );
     assert_eq!(rt; root.get_data(&mut limiter, None)?.len(), 0);
     let empty = root.get_list(&mut limiter, ElementSize::Pointer, None)?;
     assert!(rt; empty.is_empty());

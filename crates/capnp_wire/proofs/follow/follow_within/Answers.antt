@@ -51,7 +51,7 @@ returns-in_err-charge g c =
     let refused = c.in_err-charge.ensures.refused in
     let least = cost_least s (place_view c.args.place) (found_view c.in_ok-found.found) (sym c.in_ok-found.ensures.found) c.in_ok-object.object (sym c.in_ok-object.ensures.object) c.args.levels c.in_ok-ask_level.ensures in
     let dear : IsPassed (left_of old) (cost_at c.args.levels s (place_view c.args.place)) =
-        passed_by_more (left_of old) (c.in_ok-found.found.pads + c.own_cost.result) _ (rw (← same_left old mid kept) refused.1) (let w = c.own_cost.ensures.words in omega arith) in
+    passed_by_more (left_of old) (c.in_ok-found.found.pads + c.own_cost.result) _ (rw (← same_left old mid kept) refused.1) (let w = c.own_cost.ensures.words in omega arith) in
     refused_by c.args.levels s (place_view c.args.place) old c.charge.new.self c.from_residual-in_err-charge.result r.0 c.in_err-charge.field-0.0 r.1 r.2
     (subst (λ (l : ReadLimiter). KeepsBudget old l) (sym refused.0) kept) (subst (λ (l : ReadLimiter). Follows old l 1) (sym refused.0) c.follow.ensures.followed) (inr (c.in_err-charge.ensures.kind, dear))
 
@@ -60,7 +60,7 @@ returns g c =
     let s : Segments = words_in (g.A.ReaderArena.segments c.args.arena.now) in
     let found = found_view c.in_ok-found.found in (
       pays_later s (place_view c.args.place) c.args.limiter.now c.follow.new.self c.charge.new.self c.in_ok-found.found.pads (c.in_ok-found.found.pads + c.own_cost.result) c.in_ok-object.object
-      (c.follow.ensures.limit, c.follow.ensures.granted) c.follow.ensures.followed c.charge.ensures.followed c.in_ok-charge.ensures.ok (let w = c.own_cost.ensures.words in omega arith)
-      (exact_object s (place_view c.args.place) found c.in_ok-object.object (sym c.in_ok-found.ensures.found) (sym c.in_ok-object.ensures.object)) c.in_ok-object.ensures.inside,
+          (c.follow.ensures.limit, c.follow.ensures.granted) c.follow.ensures.followed c.charge.ensures.followed c.in_ok-charge.ensures.ok (let w = c.own_cost.ensures.words in omega arith)
+          (exact_object s (place_view c.args.place) found c.in_ok-object.object (sym c.in_ok-found.ensures.found) (sym c.in_ok-object.ensures.object)) c.in_ok-object.ensures.inside,
       still_within s found.object c.args.levels c.in_ok-object.object c.in_ok-ask_level.ensures (sym c.in_ok-object.ensures.object),
     )
