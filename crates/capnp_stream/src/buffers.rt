@@ -72,11 +72,7 @@ impl<T: AsSlice<u8> + Drop> BufferSegments<T> {
         ensures refusal { IfErr result (λ e. e.kind ≡ ErrorKind.OutOfMemory) }
     {
         let table = SegmentLengthsBuilder::in_table(alloc, buffer.as_slice(), info.segments_count)?;
-        Ok(BufferSegments::behind_table(
-            buffer,
-            info.segment_table_length_bytes,
-            table,
-        ))
+        Ok(BufferSegments::behind_table(buffer, info.segment_table_length_bytes, table))
     }
 
     /// The buffer.
