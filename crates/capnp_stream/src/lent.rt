@@ -122,9 +122,7 @@ pub fn try_read_message_no_alloc_in<'a, F: MessageForm, R: BufRead>(
         return Ok(None);
     }
     let info = fill_message::<F, R>(source, buffer, limit)?;
-    Ok(Some(NoAllocBufferSegments::from_segment_table_info(
-        &*buffer, info,
-    )))
+    Ok(Some(NoAllocBufferSegments::from_segment_table_info(&*buffer, info)))
 }
 
 /// The segments of the next message in a form, which lie unpacked in the buffer behind their table. `PrematureEndOfFile`: no byte is left.
@@ -147,9 +145,7 @@ pub fn read_message_no_alloc_in<'a, F: MessageForm, R: BufRead>(
         return Err(Error::from(ErrorKind::PrematureEndOfFile));
     }
     let info = fill_message::<F, R>(source, buffer, limit)?;
-    Ok(NoAllocBufferSegments::from_segment_table_info(
-        &*buffer, info,
-    ))
+    Ok(NoAllocBufferSegments::from_segment_table_info(&*buffer, info))
 }
 
 /// The segments of the next framed message, or `None` where no byte is left. The message lies in the buffer as it was read.
