@@ -1,9 +1,8 @@
 -- How long packed pieces are.
-use Rattle.std.proofs.Common.{◌≡◌, ◌≢◌, ℕ, zero, suc, ◌+◌, ◌-◌, ◌*◌, ◌/◌, ◌^◌, ◌<◌, ◌≤◌, Bool, true, false, cond, eqb, leb, List, [], ◌∷◌, ◌++◌, length, refl, sym, ap, subst, ◌∙◌, arith, length-append}
+use Rattle.std.proofs.Common.{◌≡◌, ◌≢◌, ℕ, zero, suc, ◌+◌, ◌-◌, ◌*◌, ◌/◌, ◌^◌, ◌<◌, ◌≤◌, Bool, true, false, cond, eqb, List, [], ◌∷◌, ◌++◌, length, refl, arith, length-append}
 use Rattle.std.specs.Int.{w64, to_le_bytes}
-use Rattle.std.proofs.lemmas.Bool.{cond_both, eqb-true, eqb-false, leb-false}
-use Rattle.std.proofs.lemmas.Nat.{pow_pos}
-use Rattle.capnp_model.specs.Packing.{Run, first, next, zeros, verbatim, byte_tag, nonzero, zero_bytes, count_byte, is_zero, is_dense, run_of, longest_run, run_behind, packed_group, packed_from, packed}
+use Rattle.std.proofs.lemmas.Bool.{eqb-true, eqb-false, leb-false}
+use Rattle.capnp_model.specs.Packing.{Run, first, next, zeros, verbatim, byte_tag, nonzero, zero_bytes, count_byte, is_zero, is_dense, run_of, run_behind, packed_group, packed_from, packed}
 use Rattle.capnp_packing.proofs.RunLemmas.{tag-small}
 
 -- ---- the bytes of a word

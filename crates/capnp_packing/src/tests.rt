@@ -192,6 +192,16 @@ fn words_are_packed(rt: HostRuntime) -> std::result::Result<(), Fail> {
     assert_eq!(rt; packed(alloc, &DENSE)?.as_slice(), PACKED_DENSE.as_slice());
     assert!(rt; packed(alloc, &[])?.is_empty());
 
+    let mut held = Vec::new(alloc);
+    let mut sink = Sink::new(&mut held);
+    let mut words = PackedWrite { inner: &mut sink };
+    words.write_all(&DENSE)?;
+    words.write_all(&[0; 8])?;
+    assert_eq!(rt; words.failures(), 0);
+    assert!(rt; held.starts_with(&PACKED_DENSE));
+    assert!(rt; held.ends_with(&[0, 0]));
+    assert_eq!(rt; held.len(), 20);
+
     let mut place = [9u8; 4];
     let mut rest = place.as_mut_slice();
     Packed::write_piece(&mut rest, &[0, 0, 12, 0, 0, 34, 0, 0])?;
@@ -332,5 +342,13 @@ fn words_are_read_a_piece_at_a_time(rt: HostRuntime) -> std::result::Result<(), 
         words.read_exact(&mut first).err()
             == Some(Error::from(ErrorKind::FailedToFillTheWholeBuffer))
     );
+
+    let mut source = Shown::new(&MESSAGE, 0, 1);
+    source.left = 1;
+    let mut failing = PackedRead { inner: source };
+    let failed = failing.read(&mut first).err();
+    assert!(rt; failed == Some(Error::from(ErrorKind::Device)));
+    assert_eq!(rt; failing.failures(), 1);
+    assert_eq!(rt; failing.inner.bytes.len(), 5);
     Ok(())
 }
