@@ -42,27 +42,27 @@ uncharged_default paid null e = rw e refl
 
 pub null_reached : (p : PointerView) (l : ReadLimiter) → is_null p ≡ true → GetGives (λ (o : Object). o) (λ o. Ok o) p l (Ok object.Null) l
 null_reached p l h =
-    let free : is_charged p ≡ false = uncharged_null p.ground.paid (is_null p) h in
-    (nothing_found, null_names p.ground.segments p.place h, subst (λ (b : Bool). PaysFor b l l (found_cost nothing_found)) (sym free) refl, refl)
+    let free : is_charged p ≡ false = uncharged_null p.basis.paid (is_null p) h in
+    (nothing_found, null_names p.basis.segments p.place h, subst (λ (b : Bool). PaysFor b l l (found_cost nothing_found)) (sym free) refl, refl)
 
 module _ (p : PointerView) (q : Place) (here : p.place ≡ Some q) where
-  behind : object_behind p ≡ object_at p.ground.segments q
-  behind = ap (found_behind p.ground.segments) here
+  behind : object_behind p ≡ object_at p.basis.segments q
+  behind = ap (found_behind p.basis.segments) here
 
-  pub followed : (r : Result Object Error) (old new : ReadLimiter) → p.ground.paid ≡ true → is_null p ≡ false → FollowGives p.ground.segments q old r new → GetGives (λ (o : Object). o) (λ o. Ok o) p old r new
+  pub followed : (r : Result Object Error) (old new : ReadLimiter) → p.basis.paid ≡ true → is_null p ≡ false → FollowGives p.basis.segments q old r new → GetGives (λ (o : Object). o) (λ o. Ok o) p old r new
   followed (Ok o) old new e h f =
-      let charged : is_charged p ≡ true = charged_there p.ground.paid (is_null p) e h in
+      let charged : is_charged p ≡ true = charged_there p.basis.paid (is_null p) e h in
       let found : Found = record { pads = f.pads; object = o } in
       (found, behind ∙ f.is, subst (λ (b : Bool). PaysFor b old new (found_cost found)) (sym charged) (f.spends, f.follows), refl)
   followed (Err d) old new e h f =
-      let charged : is_charged p ≡ true = charged_there p.ground.paid (is_null p) e h in
+      let charged : is_charged p ≡ true = charged_there p.basis.paid (is_null p) e h in
       let nothing = subst (λ (b : Bool). PaysNothing b old new) (sym charged) (f.0, f.1) in
       elim f.2 [
         | inl fault ↦ inl (behind ∙ fault, nothing)
         | inr dear ↦ inr (inl (dear.1, behind ∙ dear.2, dear.0, subst (λ (b : Bool). IsTooDear b old (found_cost dear.1)) (sym charged) dear.3, nothing))
       ]
 
-  pub read_freely : (f : Found) (l : ReadLimiter) → p.ground.paid ≡ false → object_at p.ground.segments q ≡ Ok f → GetGives (λ (o : Object). o) (λ o. Ok o) p l (Ok f.object) l
+  pub read_freely : (f : Found) (l : ReadLimiter) → p.basis.paid ≡ false → object_at p.basis.segments q ≡ Ok f → GetGives (λ (o : Object). o) (λ o. Ok o) p l (Ok f.object) l
   read_freely f l e h =
-      let free : is_charged p ≡ false = uncharged_default p.ground.paid (is_null p) e in
+      let free : is_charged p ≡ false = uncharged_default p.basis.paid (is_null p) e in
       (f, behind ∙ h, subst (λ (b : Bool). PaysFor b l l (found_cost f)) (sym free) refl, refl)

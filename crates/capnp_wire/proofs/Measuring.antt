@@ -185,7 +185,7 @@ pub refused_is : {X : Type 0} (words caps : X → ℕ) (there : Option X) (fault
 refused_is words caps there faults cost n old new r x e a b w =
     subst (λ (y : Result MessageSize Error). SizeGives words caps there faults cost n old y new) (sym (a ∙ ap (λ (y : Error). Err y) b)) w
 
--- ---- on a ground where nothing may be paid
+-- ---- on a basis where nothing may be paid
 
 size_nothing : (paid : Bool) (l : ReadLimiter) → SizeOn paid object_words capability_count (Some null) [] 0 1 l (Ok (wordless 0)) l
 unfolding object_words capability_count
@@ -194,10 +194,10 @@ size_nothing false l = (null, refl, nothing_counted, refl)
 
 pub null_size : (p : PointerView) (n : ℕ) (l : ReadLimiter) → p.levels ≡ Some n → p.place ≡ None → PointerSize p l (Ok (wordless 0)) l
 null_size p n l e f =
-    let s = p.ground.segments in
-    let here : SizeOn p.ground.paid object_words capability_count (tree_behind n s p.place) (faults_behind n s p.place) (cost_behind n s p.place) 1 l (Ok (wordless 0)) l =
-    subst (λ (o : Option Place). SizeOn p.ground.paid object_words capability_count (tree_behind n s o) (faults_behind n s o) (cost_behind n s o) 1 l (Ok (wordless 0)) l) (sym f) (size_nothing p.ground.paid l) in
-    subst (λ (o : Option ℕ). MatchOption o (NoLevels l (Ok (wordless 0)) l) (λ m. SizeOn p.ground.paid object_words capability_count (tree_behind m s p.place) (faults_behind m s p.place) (cost_behind m s p.place) 1 l (Ok (wordless 0)) l)) (sym e) here
+    let s = p.basis.segments in
+    let here : SizeOn p.basis.paid object_words capability_count (tree_behind n s p.place) (faults_behind n s p.place) (cost_behind n s p.place) 1 l (Ok (wordless 0)) l =
+    subst (λ (o : Option Place). SizeOn p.basis.paid object_words capability_count (tree_behind n s o) (faults_behind n s o) (cost_behind n s o) 1 l (Ok (wordless 0)) l) (sym f) (size_nothing p.basis.paid l) in
+    subst (λ (o : Option ℕ). MatchOption o (NoLevels l (Ok (wordless 0)) l) (λ m. SizeOn p.basis.paid object_words capability_count (tree_behind m s p.place) (faults_behind m s p.place) (cost_behind m s p.place) 1 l (Ok (wordless 0)) l)) (sym e) here
 
 sized_more : {X : Type 0} (paid : Bool) (words caps : X → ℕ) (there : Option X) (faults : List Kind) (cost n more : ℕ) (old new : ReadLimiter) (size size' : MessageSize) → ((w c : ℕ) → Counts w c size → Counts (w + more) c size')
     → SizeOn paid words caps there faults cost n old (Ok size) new → SizeOn paid (λ x. words x + more) caps there faults cost n old (Ok size') new
@@ -205,11 +205,11 @@ sized_more true words caps there faults cost n more old new size size' h g = (g.
 sized_more false words caps there faults cost n more old new size size' h g = (g.0, g.1, h (words g.0) (caps g.0) g.2, g.3)
 
 pub struct_size : (v : StructView) (n more : ℕ) (old new : ReadLimiter) (size size' : MessageSize) → v.levels ≡ Some n → more ≡ words_for v.bits + v.pointers → ((w c : ℕ) → Counts w c size → Counts (w + more) c size')
-    → SizeOn v.ground.paid each_object_words each_capability_count (each (tree_at n v.ground.segments) v.first v.pointers) (from_each (faults_at n v.ground.segments) v.first v.pointers) (cost_each (cost_at n v.ground.segments) v.first v.pointers) v.pointers old (Ok size) new
+    → SizeOn v.basis.paid each_object_words each_capability_count (each (tree_at n v.basis.segments) v.first v.pointers) (from_each (faults_at n v.basis.segments) v.first v.pointers) (cost_each (cost_at n v.basis.segments) v.first v.pointers) v.pointers old (Ok size) new
     → StructSizeOf v old (Ok size') new
 struct_size v n more old new size size' e m h g =
-    let s = v.ground.segments in
+    let s = v.basis.segments in
     let count : (w c : ℕ) → Counts w c size → Counts (w + (words_for v.bits + v.pointers)) c size' = λ w c k. subst (λ (x : ℕ). Counts (w + x) c size') m (h w c k) in
-    let here = sized_more v.ground.paid each_object_words each_capability_count (each (tree_at n s) v.first v.pointers) (from_each (faults_at n s) v.first v.pointers) (cost_each (cost_at n s) v.first v.pointers) v.pointers (words_for v.bits + v.pointers) old new size size' count g in
+    let here = sized_more v.basis.paid each_object_words each_capability_count (each (tree_at n s) v.first v.pointers) (from_each (faults_at n s) v.first v.pointers) (cost_each (cost_at n s) v.first v.pointers) v.pointers (words_for v.bits + v.pointers) old new size size' count g in
     subst (λ (o : Option ℕ). MatchOption o (NoLevels old (Ok size') new)
-    (λ m. SizeOn v.ground.paid (λ ts. each_object_words ts + (words_for v.bits + v.pointers)) each_capability_count (each (tree_at m s) v.first v.pointers) (from_each (faults_at m s) v.first v.pointers) (cost_each (cost_at m s) v.first v.pointers) v.pointers old (Ok size') new)) (sym e) here
+    (λ m. SizeOn v.basis.paid (λ ts. each_object_words ts + (words_for v.bits + v.pointers)) each_capability_count (each (tree_at m s) v.first v.pointers) (from_each (faults_at m s) v.first v.pointers) (cost_each (cost_at m s) v.first v.pointers) v.pointers old (Ok size') new)) (sym e) here

@@ -37,11 +37,11 @@ is_null_at s (Some p) = passes (λ w. w == 0) (word_at s p)
 
 -- The pointer is null.
 abbrev pub is_null : PointerView → Bool
-is_null p = is_null_at p.ground.segments p.place
+is_null p = is_null_at p.basis.segments p.place
 
 -- The root of a default, with the levels that are left.
 abbrev pub default_root : List (List ℕ) → Option ℕ → PointerView
-default_root words levels = record { ground = default_ground words; place = Some root; levels = levels }
+default_root words levels = record { basis = default_ground words; place = Some root; levels = levels }
 
 -- What is read in place of a null pointer: the default, unless its root is null too.
 abbrev pub unless_null : PointerView → PointerView → PointerView
@@ -65,11 +65,11 @@ found_behind s (Some p) = object_at s p
 
 -- What the pointer names, else the kind of its fault.
 abbrev pub object_behind : PointerView → Result Found Kind
-object_behind p = found_behind p.ground.segments p.place
+object_behind p = found_behind p.basis.segments p.place
 
 -- The budget is asked: the pointer isn't null and no default's.
 abbrev pub is_charged : PointerView → Bool
-is_charged p = p.ground.paid && not (is_null p)
+is_charged p = p.basis.paid && not (is_null p)
 
 -- So many words were paid for a followed pointer; what isn't charged changes nothing.
 abbrev pub PaysFor : Bool → ReadLimiter → ReadLimiter → ℕ → Type 0
@@ -172,4 +172,4 @@ type_at s (Some p) = model.found_at s p and_then λ f. Ok (type_of f.object)
 
 -- The sort of object behind a pointer that may be none.
 abbrev pub type_behind : PointerView → Result PointerType Kind
-type_behind p = type_at p.ground.segments p.place
+type_behind p = type_at p.basis.segments p.place

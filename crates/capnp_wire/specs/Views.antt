@@ -51,13 +51,13 @@ section_at s p n = section_in (words_at s p n)
 
 -- A pointer to read: where it stands, if it does, and how many levels may be followed from it.
 pub record PointerView : Type 0 where
-  pub ground : Ground
+  pub basis : Ground
   pub place : Option Place
   pub levels : Option ℕ
 
 -- A struct to read: its data section, how many bits that has, where its first pointer stands and how many there are, and the levels that may be followed from each.
 pub record StructView : Type 0 where
-  pub ground : Ground
+  pub basis : Ground
   pub section : ℕ
   pub bits : ℕ
   pub first : Place
@@ -66,7 +66,7 @@ pub record StructView : Type 0 where
 
 -- A struct of these parts.
 abbrev pub struct_view : Ground → ℕ → ℕ → Place → ℕ → Option ℕ → StructView
-struct_view g section bits first pointers levels = record { ground = g; section = section; bits = bits; first = first; pointers = pointers; levels = levels }
+struct_view g section bits first pointers levels = record { basis = g; section = section; bits = bits; first = first; pointers = pointers; levels = levels }
 
 -- The place that may be there.
 abbrev pub place_seen : Option wire.Place → Option Place
@@ -75,7 +75,7 @@ place_seen (Some p) = Some (place_view p)
 
 -- The pointer.
 abbrev pub seen_pointer : {A : Type 0} → (A → List (List ℕ)) → PointerReader A → PointerView
-seen_pointer bytes r = record { ground = ground_of bytes r.backing; place = place_seen r.place; levels = r.levels }
+seen_pointer bytes r = record { basis = ground_of bytes r.backing; place = place_seen r.place; levels = r.levels }
 
 -- The struct.
 abbrev pub seen_struct : {A : Type 0} → (A → List (List ℕ)) → StructReader A → StructView
@@ -84,7 +84,7 @@ seen_struct bytes r =
 
 -- A list to read: the size of its elements, their count, the section of them all, where the first begins, for structs their data words and pointers, and the levels that may be followed from each pointer.
 pub record ListView : Type 0 where
-  pub ground : Ground
+  pub basis : Ground
   pub size : ElementSize
   pub count : ℕ
   pub section : ℕ
@@ -96,7 +96,7 @@ pub record ListView : Type 0 where
 -- A list of these parts; what lies behind its last element isn't seen.
 abbrev pub list_view : Ground → ElementSize → ℕ → ℕ → Place → ℕ → ℕ → Option ℕ → ListView
 list_view g size count section start d k levels =
-    record { ground = g; size = size; count = count; section = section % 2 ^ (step_bits (size_number size) d k * count); start = start; data_words = d; pointers = k; levels = levels }
+    record { basis = g; size = size; count = count; section = section % 2 ^ (step_bits (size_number size) d k * count); start = start; data_words = d; pointers = k; levels = levels }
 
 -- The list.
 abbrev pub seen_list : {A : Type 0} → (A → List (List ℕ)) → ListReader A → ListView
@@ -109,14 +109,14 @@ bit_of_bool false = 0
 
 -- The pointer of a struct at an index; past the last it is null.
 abbrev pub pointer_field : StructView → ℕ → PointerView
-pointer_field s i = record { ground = s.ground; place = (if nat_lt i s.pointers then Some (after s.first i) else None); levels = s.levels }
+pointer_field s i = record { basis = s.basis; place = (if nat_lt i s.pointers then Some (after s.first i) else None); levels = s.levels }
 
 -- An element as a struct; a plain one has just its bits, a pointer is its only pointer.
 abbrev pub element_of : ListView → ℕ → StructView
 element_of l i =
     let size = size_number l.size in
     let bits = element_bits size l.data_words in
-    struct_view l.ground (bits_at (step_bits size l.data_words l.pointers * i) bits l.section) bits
+    struct_view l.basis (bits_at (step_bits size l.data_words l.pointers * i) bits l.section) bits
     (after l.start (step_words size l.data_words l.pointers * i + l.data_words)) (element_pointers size l.pointers) l.levels
 
 -- The number at the front of an element, 0 where the element is narrower.
@@ -127,4 +127,4 @@ element_number l i width =
 
 -- The root pointer of an arena.
 abbrev pub arena_root : List (List ℕ) → ℤ → PointerView
-arena_root bytes nesting = record { ground = record { segments = words_in bytes; paid = true }; place = Some root; levels = levels nesting }
+arena_root bytes nesting = record { basis = record { segments = words_in bytes; paid = true }; place = Some root; levels = levels nesting }

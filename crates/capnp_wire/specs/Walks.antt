@@ -73,12 +73,12 @@ cost_behind n s (Some p) = cost_at n s p
 -- What the size of a pointer's value answers: the words of its objects and its capabilities.
 abbrev pub PointerSize : PointerView → ReadLimiter → Result MessageSize Error → ReadLimiter → Type 0
 PointerSize p old r new =
-    let s = p.ground.segments in
-    MatchOption p.levels (NoLevels old r new) (λ n. SizeOn p.ground.paid object_words capability_count (tree_behind n s p.place) (faults_behind n s p.place) (cost_behind n s p.place) 1 old r new)
+    let s = p.basis.segments in
+    MatchOption p.levels (NoLevels old r new) (λ n. SizeOn p.basis.paid object_words capability_count (tree_behind n s p.place) (faults_behind n s p.place) (cost_behind n s p.place) 1 old r new)
 
 -- What the size of a struct answers: its sections in whole words, the words of its pointers' objects, and their capabilities. Its own words are not paid again.
 abbrev pub StructSizeOf : StructView → ReadLimiter → Result MessageSize Error → ReadLimiter → Type 0
 StructSizeOf v old r new =
-    let s = v.ground.segments in
+    let s = v.basis.segments in
     MatchOption v.levels (NoLevels old r new)
-    (λ n. SizeOn v.ground.paid (λ ts. each_object_words ts + (words_for v.bits + v.pointers)) each_capability_count (each (tree_at n s) v.first v.pointers) (from_each (faults_at n s) v.first v.pointers) (cost_each (cost_at n s) v.first v.pointers) v.pointers old r new)
+    (λ n. SizeOn v.basis.paid (λ ts. each_object_words ts + (words_for v.bits + v.pointers)) each_capability_count (each (tree_at n s) v.first v.pointers) (from_each (faults_at n s) v.first v.pointers) (cost_each (cost_at n s) v.first v.pointers) v.pointers old r new)

@@ -195,7 +195,7 @@ impl<'a, A: ReaderArena> PointerReader<'a, A> {
         limiter: &mut ReadLimiter,
         default: Option<&'a [Word]>,
     ) -> Result<StructReader<'a, A>>
-        ensures { let p = with_default (seen_pointer A.segments self.now) (option_copied default.entry) in GetGives (seen_struct A.segments) (read_struct p.ground p.levels) p limiter.old result limiter.new }
+        ensures { let p = with_default (seen_pointer A.segments self.now) (option_copied default.entry) in GetGives (seen_struct A.segments) (read_struct p.basis p.levels) p limiter.old result limiter.new }
     {
         self.with_default(default).struct_here(limiter)
     }
@@ -208,7 +208,7 @@ impl<'a, A: ReaderArena> PointerReader<'a, A> {
         limiter: &mut ReadLimiter,
         default: Option<&'a [Word]>,
     ) -> Result<&'a [u8]>
-        ensures { let p = with_default (seen_pointer A.segments self.now) (option_copied default.entry) in GetGives (λ r. r.now) (read_blob p.ground p.levels) p limiter.old result limiter.new }
+        ensures { let p = with_default (seen_pointer A.segments self.now) (option_copied default.entry) in GetGives (λ r. r.now) (read_blob p.basis p.levels) p limiter.old result limiter.new }
     {
         self.with_default(default).data_here(limiter)
     }
@@ -221,7 +221,7 @@ impl<'a, A: ReaderArena> PointerReader<'a, A> {
         limiter: &mut ReadLimiter,
         default: Option<&'a [Word]>,
     ) -> Result<&'a [u8]>
-        ensures { let p = with_default (seen_pointer A.segments self.now) (option_copied default.entry) in GetGives (λ r. r.now) (read_text p.ground p.levels) p limiter.old result limiter.new }
+        ensures { let p = with_default (seen_pointer A.segments self.now) (option_copied default.entry) in GetGives (λ r. r.now) (read_text p.basis p.levels) p limiter.old result limiter.new }
     {
         self.with_default(default).text_here(limiter)
     }
@@ -322,7 +322,7 @@ impl<'a, A: ReaderArena> PointerReader<'a, A> {
         expected: ElementSize,
         default: Option<&'a [Word]>,
     ) -> Result<ListReader<'a, A>>
-        ensures list { let p = with_default (seen_pointer A.segments self.now) (option_copied default.entry) in GetGives (seen_list A.segments) (read_list p.ground p.levels expected) p limiter.old result limiter.new }
+        ensures list { let p = with_default (seen_pointer A.segments self.now) (option_copied default.entry) in GetGives (seen_list A.segments) (read_list p.basis p.levels expected) p limiter.old result limiter.new }
 
         // Where no single bits are expected, none are given.
         ensures bytewise { size_number expected ≢ 1 → IfOk result (λ l. size_number (seen_list A.segments l).size ≢ 1) }

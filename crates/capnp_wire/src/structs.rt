@@ -162,7 +162,7 @@ impl<'a, A: ReaderArena> StructReader<'a, A> {
 
     /// The size of what the struct's pointers lead to.
     fn size_of_pointers(&self, limiter: &mut ReadLimiter, levels: u32) -> Result<MessageSize>
-        ensures { let v = seen_struct A.segments self.now in let s = v.ground.segments in SizeOn v.ground.paid each_object_words each_capability_count (each (tree_at levels s) v.first v.pointers) (from_each (faults_at levels s) v.first v.pointers) (cost_each (cost_at levels s) v.first v.pointers) v.pointers limiter.old result limiter.new }
+        ensures { let v = seen_struct A.segments self.now in let s = v.basis.segments in SizeOn v.basis.paid each_object_words each_capability_count (each (tree_at levels s) v.first v.pointers) (from_each (faults_at levels s) v.first v.pointers) (cost_each (cost_at levels s) v.first v.pointers) v.pointers limiter.old result limiter.new }
     {
         let count = self.pointers as u32;
         match self.backing {

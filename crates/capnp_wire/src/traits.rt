@@ -43,7 +43,7 @@ pub trait FromPointerReader<'a, A: ReaderArena>: Sized {
 
 /// Data: the bytes of a byte list, lent in place.
 impl<'a, A: ReaderArena> FromPointerReader<'a, A> for &'a [u8] {
-    ghost reads = { λ p old result new. GetGives (λ bytes. bytes.now) (read_blob p.ground p.levels) p old result new };
+    ghost reads = { λ p old result new. GetGives (λ bytes. bytes.now) (read_blob p.basis p.levels) p old result new };
 
     fn get_from_pointer(
         reader: &PointerReader<'a, A>,

@@ -6,5 +6,5 @@ use Rattle.capnp_wire.proofs.pointer.PointerReader.get_list.Goals as goal
 
 pub returns-clause-list : goal.returns-clause-list
 returns-clause-list g c =
-    subst (λ (p : PointerView). GetGives (seen_list g.A.ReaderArena.segments) (read_list p.ground p.levels c.args.expected) p c.args.limiter.now c.list_here.result c.list_here.new.limiter)
+    subst (λ (p : PointerView). GetGives (seen_list g.A.ReaderArena.segments) (read_list p.basis p.levels c.args.expected) p c.args.limiter.now c.list_here.result c.list_here.new.limiter)
     c.with_default.ensures c.list_here.ensures.list

@@ -8,7 +8,7 @@ use Rattle.capnp_wire.proofs.Gets.{null_reached, followed}
 use Rattle.capnp_wire.proofs.pointer.PointerReader.reach.Goals as goal
 
 pub returns-in_default-clause-object : goal.returns-in_default-clause-object
-returns-in_default-clause-object g c = null_reached (seen_pointer g.A.ReaderArena.segments c.args.self.now) c.args.limiter.now (ap (λ (o : Option Place). is_null_at (seen_pointer g.A.ReaderArena.segments c.args.self.now).ground.segments (place_seen o)) c.in_default.is)
+returns-in_default-clause-object g c = null_reached (seen_pointer g.A.ReaderArena.segments c.args.self.now) c.args.limiter.now (ap (λ (o : Option Place). is_null_at (seen_pointer g.A.ReaderArena.segments c.args.self.now).basis.segments (place_seen o)) c.in_default.is)
 
 pub returns-then-is_null-clause-object : goal.returns-then-is_null-clause-object
 returns-then-is_null-clause-object g c = null_reached (seen_pointer g.A.ReaderArena.segments c.args.self.now) c.args.limiter.now (sym c.if-is_null.ensures)
