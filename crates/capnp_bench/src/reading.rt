@@ -1,14 +1,11 @@
 //! Reads large messages.
 ghost use Rattle.std.specs.Prelude.{◌≢◌, IfOk};
-ghost use Rattle.capnp_units.specs.Sizes.{size_number};
-ghost use Rattle.capnp_wire.specs.Views.{seen_list};
+ghost use Rattle.capnp_layout.specs.Sizes.{size_number};
+ghost use Rattle.capnp_layout.specs.Views.{seen_list};
 
-use capnp_units::errors::Result;
-use capnp_units::limiter::ReadLimiter;
-use capnp_units::sizes::ElementSize;
-use capnp_wire::arena::{ReaderArena, ReaderArenaImpl};
-use capnp_wire::list::ListReader;
-use capnp_wire::pointer::PointerReader;
+use capnp_layout::{
+    ElementSize, ListReader, PointerReader, ReadLimiter, ReaderArena, ReaderArenaImpl, Result,
+};
 
 /// The root as a list of structs.
 fn structs_at_root<'a, A: ReaderArena>(
