@@ -1,24 +1,22 @@
 -- Framed messages at the front of a buffer, from the table on.
-use Rattle.std.proofs.Common.{◌≡◌, ℕ, zero, suc, ◌+◌, ◌-◌, ◌*◌, ◌/◌, ◌%◌, ◌^◌, ◌<◌, ◌≤◌, ◌≢◌, add-one, List, [], ◌∷◌, ◌++◌, Bool, true, false, leb, ltb, get_or, None, Some, Ok, Err, Result, refl, sym, ap, subst, ◌∙◌, arith, length, take, drop, sum, length-drop, length-take-le}
+use Rattle.std.proofs.Common.{◌≡◌, ℕ, zero, suc, ◌+◌, ◌-◌, ◌*◌, ◌/◌, ◌%◌, ◌^◌, ◌<◌, ◌≤◌, ◌≢◌, add-one, List, [], ◌∷◌, ◌++◌, true, false, leb, ltb, get_or, None, Ok, Err, refl, sym, ap, ◌∙◌, arith, length, take, drop, sum, length-drop, length-take-le}
 use Rattle.std.proofs.lemmas.Bool.{lt-ltb, le-leb}
 use Rattle.std.proofs.Math.Seq.{take-suc}
 use Rattle.std.proofs.lemmas.List.{drop-drop, drop-take, get_or-drop, nil_from_length, take_all, take_at, drop_at, length-append}
 use Rattle.std.specs.Int.{from_le_bytes, w64}
-use Rattle.std.specs.List.{slice_range}
 use Rattle.std.specs.declared.option.Option.{Option}
 use Rattle.capnp_units.specs.Segments.{whole_words, words_in}
 use Rattle.capnp_model.specs.Kinds as kinds
 use Rattle.capnp_model.specs.Kinds.{Kind}
-use Rattle.capnp_model.specs.Chains.{◌and_then◌, guard}
 use Rattle.capnp_model.specs.Segments.{Segments}
 use Rattle.capnp_model.specs.Bytes.{words_in_bytes, taken}
-use Rattle.capnp_model.specs.Messages.{within, plain_words, flat_words, else_refused, halves, cut, behind_lengths, behind_first, message_by, flat_at}
+use Rattle.capnp_model.specs.Messages.{within, plain_words, flat_words, halves, cut, behind_lengths, behind_first, message_by, flat_at}
 use Rattle.capnp_model.proofs.Chaining.{ok_then, guard_then}
 use Rattle.capnp_stream.specs.Ranges.{ranges_from, bytes_at}
 use Rattle.capnp_stream.specs.Flat.{table_lengths, table_bytes, frame_segments, Describes}
 use Rattle.capnp_stream.specs.declared.flat.NoAllocSegmentTableInfo.{NoAllocSegmentTableInfo}
 use Rattle.capnp_stream.proofs.PieceLemmas.{err_then, guard_err, plain_short}
-use Rattle.capnp_stream.proofs.WordLemmas.{from_le_bytes-take, words_in_bytes-take, words_in_bytes-drop, words_in_bytes-length, whole_words-step, segments-of_ranges, sum-snoc, whole_words-of_length}
+use Rattle.capnp_stream.proofs.WordLemmas.{from_le_bytes-take, words_in_bytes-take, words_in_bytes-length, whole_words-step, segments-of_ranges, sum-snoc, whole_words-of_length}
 
 -- ---- the halves of a table's words
 

@@ -1,4 +1,4 @@
-use Rattle.std.proofs.Common.{true, false, ◌≡◌, ◌<◌, ◌≤◌, ◌+◌, ◌*◌, ◌/◌, ◌%◌, ◌^◌, ◌++◌, arith, length, take, sum, sym, ap, refl, subst, List, ℕ, ◌∙◌, length-take-le}
+use Rattle.std.proofs.Common.{true, false, ◌≡◌, ◌≤◌, ◌+◌, ◌*◌, ◌/◌, ◌%◌, ◌^◌, ◌++◌, arith, length, take, sum, sym, ap, refl, subst, List, ℕ, ◌∙◌, length-take-le}
 use Rattle.std.specs.Int.{from_le_bytes, w64}
 use Rattle.std.proofs.lemmas.List.{length-append}
 use Rattle.capnp_model.specs.Segments.{Segments}

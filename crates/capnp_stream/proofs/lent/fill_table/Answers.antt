@@ -1,10 +1,7 @@
-use Rattle.std.proofs.Common.{◌≡◌, ◌<◌, [], ◌∷◌, ◌+◌, ◌*◌, ◌/◌, ◌%◌, ◌^◌, ◌++◌, arith, ◌≤◌, length-take-le, length, take, sym, ap, subst, List, ℕ, ◌∙◌}
+use Rattle.std.proofs.Common.{◌≡◌, ◌+◌, ◌*◌, ◌/◌, ◌%◌, ◌^◌, arith, ◌≤◌, length-take-le, length, take, sym, ap, subst, List, ℕ, ◌∙◌}
 use Rattle.std.proofs.lemmas.Result.{err_from_is_err_and}
-use Rattle.capnp_model.specs.Messages.{halves}
 use Rattle.capnp_units.specs.Segments.{whole_words}
 use Rattle.capnp_stream.specs.Pieces.{TakesPieceStart, IsPieceFault}
-use Rattle.capnp_stream.specs.Frames.{TakesTable}
-use Rattle.capnp_stream.specs.Flat.{table_lengths}
 use Rattle.capnp_stream.proofs.PieceLemmas.{IsCut-of_piece, one-word}
 use Rattle.capnp_stream.proofs.FrameLemmas.{start-fault, start-part, many-fault, many-part, first-needs, others-fault, others-part, table-of_pieces, TakesTable-of_lengths}
 use Rattle.std.specs.Int.{from_le_bytes, w64}

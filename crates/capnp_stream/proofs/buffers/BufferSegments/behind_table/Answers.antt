@@ -1,4 +1,4 @@
-use Rattle.std.proofs.Common.{arith, ◌≡◌, ◌*◌, sym, subst, List, ℕ, sum}
+use Rattle.std.proofs.Common.{arith, ◌*◌, sym, subst, sum}
 use Rattle.std.specs.Prelude.{All}
 use Rattle.capnp_stream.specs.Segments.{lengths_of}
 use Rattle.capnp_stream.proofs.WordLemmas.{IsWithin, ranges_from-within}

@@ -1,4 +1,4 @@
-use Rattle.std.proofs.Common.{arith, ◌≡◌, ◌∙◌, ◌+◌, ◌*◌, ap, List, ℕ, sum}
+use Rattle.std.proofs.Common.{arith, ◌≡◌, ◌∙◌, ap, sum}
 use Rattle.capnp_stream.specs.Segments.{lengths_of}
 use Rattle.capnp_stream.specs.Flat.{table_lengths}
 use Rattle.capnp_stream.proofs.buffers.BufferSegments.described.Goals as goal
