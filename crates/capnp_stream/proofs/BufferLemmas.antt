@@ -1,12 +1,12 @@
 -- Segments in the buffer of their message, by their numbers.
-use Rattle.std.proofs.Common.{◌≡◌, ℕ, zero, suc, ◌+◌, ◌-◌, ◌*◌, ◌<◌, ◌≤◌, List, [], ◌∷◌, get_or, None, Some, refl, sym, ap, subst, ◌∙◌, arith, length, take, drop, map, sum, length-take-le}
+use Rattle.std.proofs.Common.{◌≡◌, ℕ, zero, suc, ◌+◌, ◌-◌, ◌*◌, ◌<◌, ◌≤◌, List, [], ◌∷◌, get_or, None, Some, refl, sym, ap, ◌∙◌, arith, length, take, drop, sum}
 use Rattle.std.specs.List.{slice_get, slice_range}
 use Rattle.std.specs.Option.{option_map}
 use Rattle.std.proofs.lemmas.List.{drop-drop, length-map}
 use Rattle.std.proofs.lemmas.Option.{slice_get-map, slice_get_past}
 use Rattle.capnp_units.specs.Segments.{whole_words}
 use Rattle.capnp_model.specs.Messages.{halves}
-use Rattle.capnp_stream.specs.Ranges.{ranges_from, bytes_at}
+use Rattle.capnp_stream.specs.Ranges.{ranges_from}
 use Rattle.capnp_stream.specs.Flat.{table_lengths, table_bytes, frame_segments}
 use Rattle.capnp_stream.proofs.WordLemmas.{sum-cons}
 use Rattle.capnp_stream.proofs.FlatLemmas.{table-holds}

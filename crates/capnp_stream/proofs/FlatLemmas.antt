@@ -1,24 +1,22 @@
 -- Framed messages at the front of a buffer, from the table on.
-use Rattle.std.proofs.Common.{◌≡◌, ℕ, zero, suc, ◌+◌, ◌-◌, ◌*◌, ◌/◌, ◌%◌, ◌^◌, ◌<◌, ◌≤◌, ◌≢◌, add-one, List, [], ◌∷◌, ◌++◌, Bool, true, false, leb, ltb, get_or, None, Some, Ok, Err, Result, refl, sym, ap, subst, ◌∙◌, arith, length, take, drop, sum, length-drop, length-take-le}
+use Rattle.std.proofs.Common.{◌≡◌, ℕ, zero, suc, ◌+◌, ◌-◌, ◌*◌, ◌/◌, ◌%◌, ◌^◌, ◌<◌, ◌≤◌, ◌≢◌, add-one, List, [], ◌∷◌, ◌++◌, true, false, leb, ltb, get_or, None, Ok, Err, refl, sym, ap, ◌∙◌, arith, length, take, drop, sum, length-drop, length-take-le}
 use Rattle.std.proofs.lemmas.Bool.{lt-ltb, le-leb}
 use Rattle.std.proofs.Math.Seq.{take-suc}
-use Rattle.std.proofs.lemmas.List.{drop-drop, get_or-drop, nil_from_length, take_all}
+use Rattle.std.proofs.lemmas.List.{drop-drop, drop-take, get_or-drop, nil_from_length, take_all, take_at, drop_at, length-append}
 use Rattle.std.specs.Int.{from_le_bytes, w64}
-use Rattle.std.specs.List.{slice_range}
 use Rattle.std.specs.declared.option.Option.{Option}
 use Rattle.capnp_units.specs.Segments.{whole_words, words_in}
 use Rattle.capnp_model.specs.Kinds as kinds
 use Rattle.capnp_model.specs.Kinds.{Kind}
-use Rattle.capnp_model.specs.Chains.{◌and_then◌, guard}
 use Rattle.capnp_model.specs.Segments.{Segments}
 use Rattle.capnp_model.specs.Bytes.{words_in_bytes, taken}
-use Rattle.capnp_model.specs.Messages.{within, plain_words, flat_words, else_refused, halves, cut, behind_lengths, behind_first, message_by, flat_at}
+use Rattle.capnp_model.specs.Messages.{within, plain_words, flat_words, halves, cut, behind_lengths, behind_first, message_by, flat_at}
 use Rattle.capnp_model.proofs.Chaining.{ok_then, guard_then}
 use Rattle.capnp_stream.specs.Ranges.{ranges_from, bytes_at}
 use Rattle.capnp_stream.specs.Flat.{table_lengths, table_bytes, frame_segments, Describes}
 use Rattle.capnp_stream.specs.declared.flat.NoAllocSegmentTableInfo.{NoAllocSegmentTableInfo}
 use Rattle.capnp_stream.proofs.PieceLemmas.{err_then, guard_err, plain_short}
-use Rattle.capnp_stream.proofs.WordLemmas.{from_le_bytes-take, words_in_bytes-take, words_in_bytes-drop, words_in_bytes-length, whole_words-step, segments-of_ranges, sum-snoc}
+use Rattle.capnp_stream.proofs.WordLemmas.{from_le_bytes-take, words_in_bytes-take, words_in_bytes-length, whole_words-step, segments-of_ranges, sum-snoc, whole_words-of_length}
 
 -- ---- the halves of a table's words
 
@@ -104,6 +102,42 @@ table-next n bytes fits =
 
 pub table-more : (n : ℕ) (bytes : List ℕ) → table_bytes (n + 1) ≤ length bytes → sum (table_lengths (n + 1) bytes) ≡ sum (table_lengths n bytes) + get_or (drop 1 (halves (whole_words bytes))) n 0
 table-more n bytes fits = ap sum (table-next n bytes fits) ∙ sum-snoc (table_lengths n bytes) (get_or (drop 1 (halves (whole_words bytes))) n 0)
+
+whole-front : (k : ℕ) (b : List ℕ) → 8 * k ≤ length b → whole_words (take (8 * k) b) ≡ take k (whole_words b)
+whole-front k b fits =
+    let count : length b / 8 ≡ k + (length b / 8 - k) = omega arith in
+    whole_words-of_length k (take (8 * k) b) (length-take-le (8 * k) b fits) ∙ sym (words_in_bytes-take k (length b / 8 - k) b (omega arith)) ∙ ap (λ m. take k (words_in_bytes m b)) (sym count)
+
+-- what lies behind a table changes none of its lengths
+pub table-front : (n : ℕ) (t b : List ℕ) → length t ≡ table_bytes n → table_lengths n (t ++ b) ≡ table_lengths n t
+table-front n t b size =
+    let k = n / 2 + 1 in
+    let all = t ++ b in
+    let halved = halves (whole_words all) in
+    let front : take k (whole_words all) ≡ whole_words t = sym (whole-front k all (omega (arith, length-append t b))) ∙ ap whole_words (take_at t b (8 * k) size) in
+    let same : take (1 + n) halved ≡ take (1 + n) (halves (whole_words t)) = sym (take-halves (1 + n) k (whole_words all) (omega arith)) ∙ ap (λ ws. take (1 + n) (halves ws)) front in
+    sym (drop-take 1 n halved) ∙ ap (drop 1) same ∙ drop-take 1 n (halves (whole_words t))
+
+pub message-in : (n : ℕ) (t body : List ℕ) → length t ≡ table_bytes n → 8 * sum (table_lengths n t) ≤ length body
+    → words_in (frame_segments n (t ++ body)) ≡ cut (table_lengths n t) (whole_words (take (8 * sum (table_lengths n t)) body))
+message-in n t body size fits =
+    let ns = table_lengths n t in
+    let total = sum ns in
+    let words : words_in_bytes total body ≡ whole_words (take (8 * total) body) = sym (words_in_bytes-front total body fits) ∙ sym (whole_words-of_length total (take (8 * total) body) (length-take-le (8 * total) body fits)) in
+    ap (λ b. words_in (bytes_at b (ranges_from 0 (table_lengths n (t ++ body))))) (drop_at t body (table_bytes n) size)
+    ∙ ap (λ l. words_in (bytes_at body (ranges_from 0 l))) (table-front n t body size) ∙ segments-of_ranges body 0 ns (omega (arith, fits)) ∙ ap (cut ns) words
+
+-- a table whose first word and rest were read
+pub joined-table : (n word : ℕ) (front behind : List ℕ) → length front ≡ 8 → word ≡ from_le_bytes w64 front → 8 * ((n + 1) / 2) ≤ length behind
+    → table_lengths (n + 1) (front ++ behind) ≡ take (n + 1) (word / 2 ^ 32 ∷ halves (whole_words (take (8 * ((n + 1) / 2)) behind)))
+joined-table n word front behind size reads fits =
+    let k = (n + 1) / 2 in
+    let all = front ++ behind in
+    let f : List ℕ → ℕ = from_le_bytes w64 in
+    let step : whole_words all ≡ word ∷ whole_words behind = whole_words-step all (omega (arith, length-append front behind)) ∙ ap (λ l. f l ∷ whole_words (drop 8 all)) (take_at front behind 8 size) ∙ ap (λ w. w ∷ whole_words (drop 8 all)) (sym reads) ∙ ap (λ l. word ∷ whole_words l) (drop_at front behind 8 size) in
+    let rest : take n (halves (whole_words behind)) ≡ take n (halves (whole_words (take (8 * k) behind))) = sym (take-halves n k (whole_words behind) (omega arith)) ∙ ap (λ l. take n (halves l)) (sym (whole-front k behind fits)) in
+    ap (λ ws. take (n + 1) (drop 1 (halves ws))) step ∙ ap (λ m. take m (word / 2 ^ 32 ∷ halves (whole_words behind))) (add-one n) ∙ ap (λ l. word / 2 ^ 32 ∷ l) rest
+    ∙ sym (ap (λ m. take m (word / 2 ^ 32 ∷ halves (whole_words (take (8 * k) behind)))) (add-one n))
 
 -- ---- the message at the front of a buffer
 

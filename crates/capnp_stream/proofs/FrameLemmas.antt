@@ -1,5 +1,5 @@
 -- From the pieces of a message to the message.
-use Rattle.std.proofs.Common.{◌≡◌, ℕ, ◌+◌, ◌/◌, ◌%◌, ◌^◌, ◌<◌, ◌≤◌, ◌≢◌, ◌↔◌, IsTrue, List, [], ◌∷◌, ◌++◌, Bool, true, false, ltb, None, Some, Ok, Err, Result, IfSome, refl, sym, ap, subst, ◌∙◌, arith, length, take, drop, sum, length-drop, take-append-drop, append-nil, append_assoc}
+use Rattle.std.proofs.Common.{◌≡◌, inl, inr, ℕ, ◌+◌, ◌*◌, ◌/◌, ◌%◌, ◌^◌, ◌<◌, ◌≤◌, ◌≢◌, ◌↔◌, IsTrue, List, [], ◌∷◌, ◌++◌, Bool, true, false, ltb, None, Some, Ok, Err, Result, IfSome, refl, sym, ap, subst, ◌∙◌, arith, length, take, drop, sum, length-drop, take-append-drop, append-nil, append_assoc}
 use Rattle.std.proofs.lemmas.Bool.{lt-ltb}
 use Rattle.std.specs.declared.option.Option.{Option}
 use Rattle.std.specs.Io.KnownBytes.{Keeps, Consumes}
@@ -15,6 +15,8 @@ use Rattle.capnp_model.specs.Messages.{Reader, within, halves, cut, behind_lengt
 use Rattle.capnp_model.proofs.Chaining.{ok_is, ok_then, guard_then, bind_ok}
 use Rattle.capnp_stream.specs.Pieces.{ReadsFronts, TakesPiece, TakesPieceStart}
 use Rattle.capnp_stream.specs.Frames.{IsFrameFault, HasNoMessage, TakesMessage, TakesPart, TakesTable, IsFramingKind, IsCut}
+use Rattle.capnp_stream.specs.Flat.{table_bytes}
+use Rattle.capnp_stream.specs.Lent.{NeedsMore}
 use Rattle.capnp_stream.proofs.KnownLemmas.{IfSome-of_front, IfSome-of_behind, Consumes-of_kept}
 use Rattle.capnp_stream.proofs.PieceLemmas.{err_then, guard_err, message_more}
 
@@ -175,6 +177,10 @@ module _ (read : Reader) (fronts : ReadsFronts read) (limit : Option ℕ) where
     unfolding says
     many-fault many = fault-said read fronts limit taken.0 says leads stops a b taken.2 InvalidNumberOfSegments (λ more. first-refuses read limit (word % 2 ^ 32) (word / 2 ^ 32 ∷ []) more many)
 
+    pub first-needs : (size : ℕ) → size < table_bytes (word % 2 ^ 32 + 1) → IfSome a (NeedsMore read limit size)
+    unfolding says
+    first-needs size short = IfSome-of_front a b taken.0 (NeedsMore read limit size) taken.2 (λ more. inl (word % 2 ^ 32, word / 2 ^ 32 ∷ [], more, leads more, short))
+
     module _ (few : word % 2 ^ 32 < 511) (c : Option (List ℕ)) where
       wants : (q : List ℕ) (k : Kind) → read ((word % 2 ^ 32 + 1) / 2) q ≡ Err k → says q ≡ Err k
       unfolding says
@@ -208,6 +214,9 @@ module _ (read : Reader) (fronts : ReadsFronts read) (limit : Option ℕ) where
   module _ (ns : List ℕ) (a b : Option (List ℕ)) (table : TakesTable read limit a b ns) where
     pub table-part : TakesPart read limit a b
     table-part = part-taken read fronts limit table.0 (behind_lengths read limit ns) table.2 (lengths-stop read limit fronts ns) a b table.1
+
+    pub table-needs : (size : ℕ) → size < table_bytes (length ns) + 8 * sum ns → IfSome a (NeedsMore read limit size)
+    table-needs size short = IfSome-of_front a b table.0 (NeedsMore read limit size) table.1 (λ more. inr (ns, more, table.2 more, short))
 
     pub large-fault : within (sum ns) limit ≡ false → IfSome a (λ xs. IsFrameFault read limit xs MessageTooLarge)
     large-fault large = fault-said read fronts limit table.0 (behind_lengths read limit ns) table.2 (lengths-stop read limit fronts ns) a b table.1 MessageTooLarge (λ more. lengths-refuse read limit ns more large)

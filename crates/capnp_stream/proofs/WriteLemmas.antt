@@ -3,8 +3,6 @@ use Rattle.std.proofs.Common.{◌≡◌, ◌⊎◌, inl, ℕ, zero, suc, ◌+◌
 use Rattle.std.specs.List.{flat_map, slice_get}
 use Rattle.std.specs.Int.{from_le_bytes, to_le_bytes, w64}
 use Rattle.std.specs.declared.option.Option.{Option}
-use Rattle.std.specs.Io.KnownBytes.{Appends}
-use Rattle.std.proofs.KnownBytes.{Appends-trans}
 use Rattle.std.proofs.lemmas.List.{length-append, length-map, length-replicate, take_at, drop_at, get_or_past}
 use Rattle.std.proofs.lemmas.Nat.{from_le_bytes-to_le_bytes_8}
 use Rattle.capnp_units.specs.declared.kinds.ErrorKind.{ErrorKind}
@@ -15,7 +13,7 @@ use Rattle.capnp_units.specs.Segments.{whole_words, words_in}
 use Rattle.capnp_stream.specs.Writing.{IsSegment, AreWritable}
 use Rattle.capnp_model.specs.Segments.{Segments}
 use Rattle.capnp_model.specs.Messages.{Writer, paired, spelled, frame}
-use Rattle.capnp_stream.specs.Streams.{AppendsPart, RoomFalls, IsWriteRefusal}
+use Rattle.capnp_stream.specs.Streams.{RoomFalls, IsWriteRefusal}
 use Rattle.std.proofs.lemmas.List.Elements.{All-map, All-replicate}
 use Rattle.std.specs.Prelude.{All, replicate}
 use Rattle.std.proofs.lemmas.Grind.{flat_map-append}

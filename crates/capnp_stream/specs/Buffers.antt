@@ -3,7 +3,6 @@ use Rattle.std.specs.Prelude.{ℕ, List, drop}
 use Rattle.std.specs.declared.convert.AsSlice.{Ghosts}
 use Rattle.capnp_stream.specs.Ranges.{bytes_at}
 use Rattle.capnp_stream.specs.Flat.{frame_segments}
-use Rattle.capnp_stream.specs.declared.flat.NoAllocSegmentTableInfo.{NoAllocSegmentTableInfo}
 use Rattle.capnp_stream.specs.declared.buffers.BufferSegments.{BufferSegments}
 use Rattle.capnp_stream.specs.declared.buffers.NoAllocBufferSegments.{NoAllocBufferSegments}
 

@@ -10,3 +10,4 @@ pub use Rattle.capnp_units.specs.Errors
 pub mod Writing
 pub mod Flat
 pub mod Buffers
+pub mod Lent

@@ -4,6 +4,7 @@ ghost use Rattle.capnp_units.specs.Errors.{kind_of};
 ghost use Rattle.capnp_units.specs.declared.kinds.ErrorKind.{ErrorKind};
 ghost use Rattle.capnp_units.specs.Segments.{words_in};
 ghost use Rattle.capnp_model.specs.Messages.{flat_at};
+ghost use Rattle.capnp_stream.specs.Ranges.{bytes_at, ranges_from};
 ghost use Rattle.capnp_stream.specs.Flat.{table_lengths, table_bytes, frame_segments, Describes};
 
 use crate::flat::{NoAllocSegmentTableInfo, info_at, length_in, words_before};
@@ -28,6 +29,7 @@ pub type SliceSegments<'a> = BufferSegments<&'a [u8]>;
 
 impl<T: AsSlice<u8> + Drop> BufferSegments<T> {
     ghost use Rattle.capnp_stream.specs.Buffers.{buffer_of, buffer_segments};
+    ghost use Rattle.capnp_stream.specs.Segments.{lengths_of};
 
     /// The segments of the framed message at the front of the buffer.
     ///
@@ -39,6 +41,23 @@ impl<T: AsSlice<u8> + Drop> BufferSegments<T> {
     {
         let info = info_at(buffer.as_slice(), limit)?;
         BufferSegments::described(alloc, buffer, info)
+    }
+
+    /// The segments of a table of lengths, which lie behind so many bytes of the buffer.
+    pub(crate) fn behind_table(
+        buffer: T,
+        segment_table_bytes_len: usize,
+        table: SegmentLengthsBuilder,
+    ) -> BufferSegments<T>
+        requires { segment_table_bytes_len + 8 * sum (lengths_of table) ≤ length (T.items buffer) }
+        ensures buffer { buffer_of result ≡ buffer }
+        ensures segments { buffer_segments result ≡ bytes_at (drop segment_table_bytes_len (T.items buffer)) (ranges_from 0 (lengths_of table)) }
+    {
+        BufferSegments {
+            buffer,
+            segment_table_bytes_len,
+            indices: table.to_segment_indices(),
+        }
     }
 
     /// The segments that this table describes.
@@ -53,11 +72,7 @@ impl<T: AsSlice<u8> + Drop> BufferSegments<T> {
         ensures refusal { IfErr result (λ e. e.kind ≡ ErrorKind.OutOfMemory) }
     {
         let table = SegmentLengthsBuilder::in_table(alloc, buffer.as_slice(), info.segments_count)?;
-        Ok(BufferSegments {
-            buffer,
-            segment_table_bytes_len: info.segment_table_length_bytes,
-            indices: table.to_segment_indices(),
-        })
+        Ok(BufferSegments::behind_table(buffer, info.segment_table_length_bytes, table))
     }
 
     /// The buffer.

@@ -24,7 +24,7 @@ pub const SEGMENTS_COUNT_LIMIT: usize = 512;
 pub(crate) const HALF: u64 = 1 << 32;
 
 /// Whether no byte is left. Nothing is taken.
-fn is_at_end<R: BufRead>(source: &mut R) -> Result<bool>
+pub(crate) fn is_at_end<R: BufRead>(source: &mut R) -> Result<bool>
     ensures at { IfOk result (λ b. IfSome (R.remaining source.old) (λ xs. IsTrue b ↔ (xs ≡ []))) }
     ensures kept { Keeps (R.remaining source.old) (R.remaining source.new) }
     ensures refusal { IfErr result (λ e. e.kind ≡ ErrorKind.Device) }
@@ -73,7 +73,7 @@ fn lengths_in(alloc: Global, first: u32, others: &[u8], count: usize) -> Result<
 }
 
 /// A slice of bytes holds numbers of a byte.
-fn are_bytes(bytes: &[u8])
+pub(crate) fn are_bytes(bytes: &[u8])
     ensures { AreBytes bytes.now }
 {}
 

@@ -9,6 +9,7 @@ mod devices;
 pub mod flat;
 pub mod forms;
 pub mod frames;
+pub mod lent;
 pub mod memory;
 #[cfg(test)]
 mod segment_tests;

@@ -6,6 +6,10 @@ use crate::buffers::{BufferSegments, NoAllocBufferSegments};
 use crate::flat::NoAllocSegmentTableInfo;
 use crate::forms::Framed;
 use crate::frames::{read_message, read_message_in, try_read_message, try_read_message_in};
+use crate::lent::{
+    read_message_no_alloc, read_message_no_alloc_in, try_read_message_no_alloc,
+    try_read_message_no_alloc_in,
+};
 use crate::memory::copy_beginning;
 use crate::segments::{SegmentLengthsBuilder, words_of};
 use crate::slices::{read_message_from_flat_slice, read_message_from_flat_slice_no_alloc};
@@ -168,6 +172,42 @@ fn messages_in_two_pieces_are_read(rt: HostRuntime) -> std::result::Result<(), F
 }
 
 #[test]
+fn messages_are_read_into_a_buffer(rt: HostRuntime) -> std::result::Result<(), Fail> {
+    let mut buffer = [3u8; 41];
+    let found = read_message_no_alloc(&mut THREE.as_slice(), &mut buffer, Some(3))?;
+    expect_three(&rt, &found);
+    let mut exact = [3u8; 40];
+    for n in 0..41 {
+        let (front, back) = THREE.split_at(n);
+        let mut source = Pieces { front, back };
+        let found = read_message_no_alloc_in::<Framed, _>(&mut source, &mut exact, None)?;
+        expect_three(&rt, &found);
+    }
+    for n in 0..40 {
+        let failed = read_message_no_alloc(&mut THREE.as_slice(), &mut exact[..n], None).err();
+        assert!(rt;
+            failed.map(|e| e.kind) == Some(ErrorKind::BufferNotLargeEnough),
+            "at {n}"
+        );
+    }
+    for n in 1..40 {
+        let failed = try_read_message_no_alloc(&mut &THREE[..n], &mut exact, None).err();
+        assert!(rt;
+            failed.map(|e| e.kind) == Some(ErrorKind::FailedToFillTheWholeBuffer),
+            "at {n}"
+        );
+    }
+    let large = read_message_no_alloc(&mut THREE.as_slice(), &mut exact, Some(2)).err();
+    assert!(rt; large.map(|e| e.kind) == Some(ErrorKind::MessageTooLarge));
+    let mut nothing: &[u8] = &[];
+    let end = read_message_no_alloc(&mut nothing, &mut exact, None).err();
+    assert!(rt; end.map(|e| e.kind) == Some(ErrorKind::PrematureEndOfFile));
+    let none = try_read_message_no_alloc_in::<Framed, _>(&mut nothing, &mut exact, None)?;
+    assert!(rt; none.is_none());
+    Ok(())
+}
+
+#[test]
 fn segments_give_their_words(rt: HostRuntime) -> std::result::Result<(), Fail> {
     let alloc = rt.alloc();
     let mut message = read_message(alloc, &mut THREE.as_slice(), None)?;
@@ -205,6 +245,18 @@ fn tables_tell_where_segments_lie(rt: HostRuntime) -> std::result::Result<(), Fa
         again.to_segment_indices().as_slice(),
         [(0, 4), (4, 5)].as_slice()
     );
+    Ok(())
+}
+
+#[test]
+fn slices_are_cut_by_a_table(rt: HostRuntime) -> std::result::Result<(), Fail> {
+    let mut table = SegmentLengthsBuilder::with_capacity(rt.alloc(), 3)?;
+    table.try_push_segment(1)?;
+    table.try_push_segment(0)?;
+    table.try_push_segment(2)?;
+    if table.describes(&THREE, 16) {
+        expect_three(&rt, &table.into_slice_segments(&THREE, 16));
+    }
     Ok(())
 }
 

@@ -1,11 +1,12 @@
 //! The segments of a message that was read, and the table of their lengths.
-ghost use Rattle.std.specs.Prelude.{◌≡◌, ◌≢◌, ◌≤◌, ◌<◌, ◌↔◌, ◌+◌, ◌*◌, ◌%◌, ◌^◌, ℕ, [], ◌∷◌, ◌++◌, length, slice_get, sum, option_copied, replicate, All, Some, None, OnOk, OnErr, IfOk, IfSome, IfNone, IsSome, IfErr};
+ghost use Rattle.std.specs.Prelude.{◌≡◌, ◌≢◌, ◌≤◌, ◌<◌, ◌↔◌, ◌+◌, ◌*◌, ◌%◌, ◌^◌, ℕ, [], ◌∷◌, ◌++◌, length, drop, slice_get, sum, option_copied, replicate, All, Some, None, OnOk, OnErr, IfOk, IfSome, IfNone, IsSome, IsTrue, IfErr};
 ghost use Rattle.capnp_units.specs.declared.kinds.ErrorKind.{ErrorKind};
 ghost use Rattle.capnp_model.specs.Spelling.{AreShort};
 ghost use Rattle.capnp_units.specs.Segments.{whole_words};
-ghost use Rattle.capnp_stream.specs.Ranges.{ranges_from, range_lengths};
+ghost use Rattle.capnp_stream.specs.Ranges.{bytes_at, ranges_from, range_lengths};
 ghost use Rattle.capnp_stream.specs.Flat.{table_lengths, table_bytes};
 
+use crate::buffers::{BufferSegments, SliceSegments};
 use crate::flat::length_in;
 use capnp_units::errors::{Error, Result};
 use capnp_units::kinds::ErrorKind;
@@ -23,6 +24,7 @@ pub struct SegmentLengthsBuilder {
 }
 
 impl SegmentLengthsBuilder {
+    ghost use Rattle.capnp_stream.specs.Buffers.{buffer_segments};
     ghost use Rattle.capnp_stream.specs.Segments.{lengths_of, owned_bytes, owned_ranges};
 
     /// The table of these lengths in words.
@@ -103,6 +105,28 @@ impl SegmentLengthsBuilder {
         };
         let bytes = vec![in alloc; 0u8; len]?;
         Ok(OwnedSegments::new(bytes, self))
+    }
+
+    /// Whether so many bytes of a table and then the segments fit into the buffer.
+    pub fn describes(&self, buffer: &[u8], segment_table_bytes_len: usize) -> bool
+        ensures { IsTrue result ↔ (segment_table_bytes_len + 8 * sum (lengths_of self.now) ≤ length buffer.now) }
+    {
+        match buffer.len().checked_sub(segment_table_bytes_len) {
+            Some(room) => self.total_words <= room / 8,
+            None => false,
+        }
+    }
+
+    /// The segments in a slice, behind so many bytes of a table, where they fit, as `describes` tests.
+    pub fn into_slice_segments(
+        self,
+        slice: &[u8],
+        segment_table_bytes_len: usize,
+    ) -> SliceSegments<'_>
+        requires { segment_table_bytes_len + 8 * sum (lengths_of self) ≤ length slice.now }
+        ensures { buffer_segments result ≡ bytes_at (drop segment_table_bytes_len slice.now) (ranges_from 0 (lengths_of self)) }
+    {
+        BufferSegments::behind_table(slice, segment_table_bytes_len, self)
     }
 
     /// Where each segment begins and ends, in words.

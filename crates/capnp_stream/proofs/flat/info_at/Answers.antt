@@ -1,4 +1,4 @@
-use Rattle.std.proofs.Common.{arith, true, false, ◌≡◌, ◌≤◌, ◌<◌, ◌+◌, ◌*◌, ◌/◌, ◌%◌, ◌^◌, sum, length, take, drop, subst, Ok, sym, ap, ◌∙◌, List, ℕ}
+use Rattle.std.proofs.Common.{arith, true, false, ◌≡◌, ◌≤◌, ◌<◌, ◌+◌, ◌*◌, ◌%◌, ◌^◌, sum, length, drop, subst, Ok, sym, ap, ◌∙◌, List, ℕ}
 use Rattle.std.specs.Int.{from_le_bytes, w64}
 use Rattle.capnp_model.specs.Messages.{within, flat_at}
 use Rattle.capnp_units.specs.Segments.{words_in}

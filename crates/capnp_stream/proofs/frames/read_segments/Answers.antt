@@ -1,16 +1,15 @@
-use Rattle.std.proofs.Common.{true, false, ◌≡◌, ◌*◌, arith, sum, sym, ap, ◌∙◌, subst, List, ℕ, length, drop}
+use Rattle.std.proofs.Common.{true, ◌≡◌, ◌*◌, arith, sum, sym, ap, ◌∙◌, subst, ℕ, length}
 use Rattle.std.proofs.lemmas.Result.{err_from_is_err_and}
 use Rattle.capnp_model.specs.Segments.{Segments}
 use Rattle.capnp_model.specs.Bytes.{words_in_bytes}
 use Rattle.capnp_model.specs.Messages.{cut, within}
 use Rattle.capnp_model.specs.Spelling.{CanSpell}
-use Rattle.capnp_units.specs.Segments.{words_in}
-use Rattle.capnp_stream.specs.Ranges.{AreBytes, ranges_from, bytes_at}
+use Rattle.capnp_stream.specs.Ranges.{AreBytes}
 use Rattle.capnp_stream.specs.Segments.{whole_words, lengths_of, segments_of}
 use Rattle.capnp_stream.specs.Frames.{TakesMessage, IsCut}
 use Rattle.capnp_stream.proofs.WordLemmas.{whole_words-of_length, words_in_bytes-length, cut-of_joined}
 use Rattle.capnp_stream.proofs.SpellLemmas.{CanSpell-of_cut}
-use Rattle.capnp_stream.proofs.FrameLemmas.{table-part, body-fault, body-part, message-of_pieces}
+use Rattle.capnp_stream.proofs.FrameLemmas.{table-part, body-part, message-of_pieces}
 use Rattle.capnp_stream.proofs.frames.read_segments.Goals as goal
 
 pub returns-then-not-is_within-clause-part : goal.returns-then-not-is_within-clause-part

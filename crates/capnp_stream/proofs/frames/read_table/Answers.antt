@@ -1,13 +1,10 @@
-use Rattle.std.proofs.Common.{◌≡◌, ◌∙◌, ◌∷◌, ◌+◌, ◌/◌, ◌%◌, ◌^◌, arith, length, take, sym, ap, subst, List, ℕ}
-use Rattle.std.proofs.lemmas.List.{length-take}
+use Rattle.std.proofs.Common.{◌≡◌, ◌∙◌, ◌∷◌, ◌+◌, ◌/◌, ◌%◌, ◌^◌, arith, length, take, ap, List, ℕ}
 use Rattle.capnp_model.specs.Messages.{halves}
 use Rattle.capnp_stream.specs.Segments.{whole_words}
-use Rattle.capnp_stream.specs.Frames.{TakesTable, TakesPart}
 use Rattle.std.proofs.lemmas.Result.{err_from_is_err_and, IfOk-weaker, IfErr-weaker}
 use Rattle.capnp_stream.proofs.WordLemmas.{words_in_bytes-length}
 use Rattle.capnp_stream.proofs.PieceLemmas.{IsCut-of_piece, one-word}
 use Rattle.capnp_stream.proofs.FrameLemmas.{start-fault, start-part, many-fault, many-part, others-fault, others-part, table-of_pieces, TakesTable-of_lengths, table-part}
-use Rattle.capnp_stream.proofs.frames.read_table.Given.{Over}
 use Rattle.capnp_stream.proofs.frames.read_table.Goals as goal
 
 pub returns-in_err-read_piece-clause-refused : goal.returns-in_err-read_piece-clause-refused

@@ -1,4 +1,4 @@
-use Rattle.std.proofs.Common.{arith, ◌≡◌, ◌<◌, sum, ap, length, map, take}
+use Rattle.std.proofs.Common.{arith, ◌≡◌, sum, ap, length, map, take}
 use Rattle.std.proofs.lemmas.List.{length-map}
 use Rattle.capnp_units.specs.Segments.{whole_words, words_in}
 use Rattle.capnp_stream.proofs.WriteLemmas.{length-frame, take-all}

@@ -1,4 +1,4 @@
-use Rattle.std.proofs.Common.{arith, sym, Some}
+use Rattle.std.proofs.Common.{arith, sym}
 use Rattle.capnp_stream.proofs.WriteLemmas.{length-there, length-gone, is-segment}
 use Rattle.capnp_stream.proofs.writing.length_of.Goals as goal
 

@@ -1,4 +1,4 @@
-use Rattle.std.proofs.Common.{arith, ◌≡◌, [], ◌∷◌, ◌+◌, ◌<◌, ◌++◌, ℕ, List, length, take, drop, subst, sym, ap, ◌∙◌, Some}
+use Rattle.std.proofs.Common.{arith, ◌≡◌, ◌+◌, ◌++◌, ℕ, List, length, take, drop, subst, sym, ap, ◌∙◌, Some}
 use Rattle.std.specs.List.{flat_map, slice_get}
 use Rattle.std.specs.Io.KnownBytes.{Appends}
 use Rattle.std.proofs.KnownBytes.{Appends-trans}

@@ -1,8 +1,8 @@
-use Rattle.std.proofs.Common.{arith, ◌≡◌, ◌⊎◌, [], ◌∷◌, ◌+◌, ◌*◌, ◌/◌, ◌-◌, ◌^◌, ◌<◌, ◌++◌, ℕ, List, length, take, drop, map, subst, sym, ap, ◌∙◌, refl}
+use Rattle.std.proofs.Common.{◌≡◌, [], ◌∷◌, ◌*◌, ◌/◌, ◌^◌, ◌++◌, ℕ, List, length, subst, sym, ap}
 use Rattle.std.specs.Io.KnownBytes.{Appends}
 use Rattle.std.proofs.KnownBytes.{Appends-trans}
 use Rattle.std.proofs.lemmas.Result.{err_from_is_err_and, IfOk-weaker, IfErr-weaker}
-use Rattle.capnp_units.specs.Segments.{whole_words, words_in}
+use Rattle.capnp_units.specs.Segments.{whole_words}
 use Rattle.capnp_stream.specs.Streams.{AppendsPart, RoomFalls, IsWriteRefusal}
 use Rattle.capnp_stream.proofs.KnownLemmas.{AppendsPart-more, AppendsPart-next}
 use Rattle.capnp_model.specs.Messages.{spelled}
