@@ -9,11 +9,15 @@ ghost use Rattle.capnp_model.specs.Spelling.{CanSpell};
 ghost use Rattle.capnp_stream.specs.Counting.{Counts};
 ghost use Rattle.capnp_stream.specs.Segments.{segments_of};
 ghost use Rattle.capnp_stream.specs.Frames.{IsFrameFault, TakesMessage, TakesPart, IsFramingKind, IsReadKind};
+ghost use Rattle.capnp_stream.specs.Buffers.{found_segments};
+ghost use Rattle.capnp_stream.specs.Lent.{NeedsMore, IsFillKind};
 ghost use Rattle.capnp_stream.specs.Streams.{AppendsPart, RoomFalls, IsWriteRefusal};
 ghost use Rattle.capnp_stream.specs.Writing.{IsSegment, AreWritable};
 
 use crate::form::Packed;
+use capnp_stream::buffers::NoAllocSliceSegments;
 use capnp_stream::frames::{read_message_in, try_read_message_in};
+use capnp_stream::lent::{read_message_no_alloc_in, try_read_message_no_alloc_in};
 use capnp_stream::segments::OwnedSegments;
 use capnp_stream::traits::{BufRead, Read, Write};
 use capnp_stream::writing::{write_message_segments_in, write_segment_in};
@@ -59,6 +63,44 @@ pub fn read_message<R: BufRead>(
     ensures count { Counts result (R.failures source.old) (R.failures source.new) }
 {
     read_message_in::<Packed, R>(alloc, source, limit)
+}
+
+/// The segments of the next packed message, or `None` where no byte is left. Its table and its segments lie unpacked in the buffer, and no memory is taken.
+///
+/// `BufferNotLargeEnough`: the buffer has fewer bytes than the table and the segments unpacked. Else it refuses as `try_read_message` does, but never by `OutOfMemory`.
+pub fn try_read_message_no_alloc<'a, R: BufRead>(
+    source: &mut R,
+    buffer: &'a mut [u8],
+    limit: Option<usize>,
+) -> Result<Option<NoAllocSliceSegments<'a>>>
+    ensures message { IfOk result (λ o. IfSome o (λ s. TakesMessage unpacked limit (R.remaining source.old) (R.remaining source.new) (words_in (found_segments s)))) }
+    ensures none { IfOk result (λ o. IfNone o (IsAtEnd (R.remaining source.old) × Keeps (R.remaining source.old) (R.remaining source.new))) }
+    ensures refused { IfErr result (λ e. IsFramingKind e.kind → IfSome (R.remaining source.old) (λ xs. (xs ≢ []) × IsFrameFault unpacked limit xs e.kind)) }
+    ensures short { IfErr result (λ e. e.kind ≡ ErrorKind.BufferNotLargeEnough → IfSome (R.remaining source.old) (NeedsMore unpacked limit (length buffer.old))) }
+    ensures kind { IfErr result (λ e. IsFillKind e.kind) }
+    ensures part { OnErr result (TakesPart unpacked limit (R.remaining source.old) (R.remaining source.new)) }
+    ensures failures { Counts result (R.failures source.old) (R.failures source.new) }
+{
+    try_read_message_no_alloc_in::<Packed, R>(source, buffer, limit)
+}
+
+/// The segments of the next packed message, which lie unpacked in the buffer behind their table. `PrematureEndOfFile`: no byte is left.
+///
+/// Else it refuses as `try_read_message_no_alloc` does.
+pub fn read_message_no_alloc<'a, R: BufRead>(
+    source: &mut R,
+    buffer: &'a mut [u8],
+    limit: Option<usize>,
+) -> Result<NoAllocSliceSegments<'a>>
+    ensures message { IfOk result (λ s. TakesMessage unpacked limit (R.remaining source.old) (R.remaining source.new) (words_in (found_segments s))) }
+    ensures no_byte { IfErr result (λ e. e.kind ≡ ErrorKind.PrematureEndOfFile → IsAtEnd (R.remaining source.old) × Keeps (R.remaining source.old) (R.remaining source.new)) }
+    ensures refused { IfErr result (λ e. IsFramingKind e.kind → IfSome (R.remaining source.old) (λ xs. (xs ≢ []) × IsFrameFault unpacked limit xs e.kind)) }
+    ensures short { IfErr result (λ e. e.kind ≡ ErrorKind.BufferNotLargeEnough → IfSome (R.remaining source.old) (NeedsMore unpacked limit (length buffer.old))) }
+    ensures kind { IfErr result (λ e. e.kind ≢ ErrorKind.PrematureEndOfFile → IsFillKind e.kind) }
+    ensures part { OnErr result (TakesPart unpacked limit (R.remaining source.old) (R.remaining source.new)) }
+    ensures failures { Counts result (R.failures source.old) (R.failures source.new) }
+{
+    read_message_no_alloc_in::<Packed, R>(source, buffer, limit)
 }
 
 /// Writes the packed message of these segments: the table's first word, its rest and each segment, each as a piece.

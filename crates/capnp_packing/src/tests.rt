@@ -4,7 +4,8 @@ ghost use Rattle.capnp_units.specs.declared.kinds.ErrorKind.{ErrorKind};
 
 use crate::form::Packed;
 use crate::serialize_packed::{
-    read_message, try_read_message, write_message_segments, write_segment,
+    read_message, read_message_no_alloc, try_read_message, try_read_message_no_alloc,
+    write_message_segments, write_segment,
 };
 use crate::streams::{PackedRead, PackedWrite};
 use capnp_stream::adapters::{Sink, Source};
@@ -288,6 +289,24 @@ fn segments_are_one_piece(rt: HostRuntime) -> std::result::Result<(), Fail> {
     let mut source = Source::new(alloc, over_segments.as_slice())?;
     let zeros = read_message(alloc, &mut source, None)?;
     assert_eq!(rt; zeros.get_segment(2), Some(&ZEROS[..]));
+    Ok(())
+}
+
+#[test]
+fn messages_are_read_into_buffers(rt: HostRuntime) -> std::result::Result<(), Fail> {
+    let mut buffer = [9u8; 24];
+    let mut source = MESSAGE.as_slice();
+    let message = read_message_no_alloc(&mut source, &mut buffer, Some(2))?;
+    assert_eq!(rt; message.len(), 1);
+    assert_eq!(rt; message.get_segment(0), Some(&SEGMENT[..]));
+    assert!(rt; source.is_empty());
+    for n in 0..24 {
+        let mut again = Shown::new(&MESSAGE, 0, 1);
+        let short = try_read_message_no_alloc(&mut again, &mut buffer[..n], None).err();
+        let kind = Some(Error::from(ErrorKind::BufferNotLargeEnough));
+        assert!(rt; short == kind, "at {n}");
+    }
+    assert!(rt; try_read_message_no_alloc(&mut source, &mut buffer, None)?.is_none());
     Ok(())
 }
 
