@@ -27,9 +27,9 @@ bit_is i bytes h =
     let shift : 1 * 2 ^ r % 256 ≡ 2 ^ r = let one : 1 * 2 ^ r ≡ 2 ^ r = omega arith in ap (λ (m : ℕ). m % 256) one ∙ mod-eq_of_lt power in
     let split : drop q bytes ≡ b ∷ rest = drop-cons bytes q 0 (omega arith) in
     let here : bits_at r 1 (number_of 8 (drop q bytes)) ≡ bits_at r 1 b =
-        ap (λ (xs : List ℕ). bits_at r 1 (number_of 8 xs)) split
-        ∙ sym (bits_of_low (number_of 8 rest * 2 ^ 8 + b % 2 ^ 8) r 1 8 (omega arith))
-        ∙ ap (bits_at r 1) (pow.low (number_of 8 rest) 8 (mod-lt b (pow_pos 8))) ∙ bits_of_low b r 1 8 (omega arith) in
+    ap (λ (xs : List ℕ). bits_at r 1 (number_of 8 xs)) split
+    ∙ sym (bits_of_low (number_of 8 rest * 2 ^ 8 + b % 2 ^ 8) r 1 8 (omega arith))
+    ∙ ap (bits_at r 1) (pow.low (number_of 8 rest) 8 (mod-lt b (pow_pos 8))) ∙ bits_of_low b r 1 8 (omega arith) in
     ap (λ (m : ℕ). b / m % 2) shift ∙ sym here ∙ ap (bits_at r 1) (number_of-drop 8 q bytes)
     ∙ ap (λ (m : ℕ). m % 2 ^ 1) (pow.shr-shr (number_of 8 bytes) (8 * q) r) ∙ ap (λ (m : ℕ). bits_at m 1 (number_of 8 bytes)) (sym whole)
 

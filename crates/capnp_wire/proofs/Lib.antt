@@ -5,3 +5,10 @@ pub mod Bytes
 pub mod Gets
 pub mod Elements
 pub mod Fields
+pub mod Linking
+pub mod Walking
+pub mod Paying
+pub mod Walks
+pub mod Rows
+pub mod Measuring
+pub mod LevelLaws

@@ -1,7 +1,10 @@
 -- Following a pointer against a budget.
-use Rattle.std.specs.Prelude.{◌≡◌, ℕ, ◌+◌, ◌*◌, ◌==◌, if◌then◌else◌, ◌⊎◌, Result, Ok, Err}
+use Rattle.std.specs.Prelude.{◌≡◌, ℕ, ◌+◌, ◌*◌, ◌==◌, nat_lt, if◌then◌else◌, ◌⊎◌, Bool, true, false, Contains, Result, Ok, Err}
 use Rattle.capnp_model.specs.Sections.{words_for}
 use Rattle.capnp_model.specs.Segments.{Segments, Place}
+use Rattle.capnp_model.specs.Pointers as model
+use Rattle.capnp_model.specs.Traversal.{cost_at}
+use Rattle.capnp_model.specs.Faults.{faults_at}
 use Rattle.capnp_units.specs.declared.errors.Error.{Error}
 use Rattle.capnp_units.specs.declared.kinds.ErrorKind.TheVariants.{ReadLimitExceeded}
 use Rattle.capnp_units.specs.declared.limiter.ReadLimiter.{ReadLimiter}
@@ -44,3 +47,21 @@ FollowGives s p old (Ok o) new = Pays s p old o new
 FollowGives s p old (Err e) new =
     KeepsBudget old new × Follows old new 1
     × ((object_at s p ≡ Err (kind_of e.kind)) ⊎ ((e.kind ≡ ReadLimitExceeded) × (f : Found) × (object_at s p ≡ Ok f) × IsPassed (left_of old) (found_cost f)))
+
+-- So many levels suffice for an object that a pointer names: null and a capability take none.
+abbrev pub suffice_for : ℕ → model.Object → Bool
+suffice_for n model.nothing = true
+suffice_for n (model.a_capability i) = true
+suffice_for n _ = nat_lt 0 n
+
+-- The same of an object whose words are there.
+abbrev pub is_within : ℕ → Object → Bool
+is_within n object.Null = true
+is_within n (object.Capability i) = true
+is_within n _ = nat_lt 0 n
+
+-- A pointer was followed to an object that so many levels suffice for, and it was paid for; or it is refused by the kind of one of the faults on the walk of that many levels, or just where that walk's cost passes what is left.
+abbrev pub FollowsWithin : ℕ → Segments → Place → ReadLimiter → Result Object Error → ReadLimiter → Type 0
+FollowsWithin n s p old (Ok o) new = Pays s p old o new × (is_within n o ≡ true)
+FollowsWithin n s p old (Err e) new =
+    KeepsBudget old new × Follows old new 1 × (Contains (faults_at n s p) (kind_of e.kind) ⊎ ((e.kind ≡ ReadLimitExceeded) × IsPassed (left_of old) (cost_at n s p)))

@@ -1,4 +1,5 @@
 pub mod Places
+pub mod Arenas
 pub mod Named
 pub mod Objects
 pub mod Follow
@@ -6,6 +7,9 @@ pub mod Levels
 pub mod Elements
 pub mod Views
 pub mod Reads
+pub mod Inside
+pub mod Walks
+pub mod Laws
 pub use Rattle.capnp_units.specs.Errors
 pub use Rattle.capnp_units.specs.Limits
 pub use Rattle.capnp_units.specs.Segments

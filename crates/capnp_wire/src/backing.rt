@@ -52,13 +52,7 @@ impl<'a, A: ReaderArena> Backing<'a, A> {
     {
         match self {
             Backing::Arena(arena) => arena.get_segment(id),
-            Backing::Default(bytes) => {
-                if id == 0 {
-                    Some(bytes)
-                } else {
-                    None
-                }
-            }
+            Backing::Default(bytes) => { if id == 0 { Some(bytes) } else { None } }
         }
     }
 
@@ -86,5 +80,12 @@ impl<A: ReaderArena> ReaderArena for Backing<'_, A> {
 
     fn nesting_limit(&self) -> i32 {
         i32::MAX
+    }
+
+    fn size_in_words(&self) -> usize {
+        match self {
+            Backing::Arena(arena) => arena.size_in_words(),
+            Backing::Default(bytes) => bytes.len() / 8,
+        }
     }
 }

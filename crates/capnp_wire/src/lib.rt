@@ -7,6 +7,7 @@ pub mod arena;
 pub mod backing;
 pub mod element;
 pub mod follow;
+pub mod laws;
 pub mod levels;
 pub mod list;
 mod named;
@@ -14,5 +15,9 @@ pub mod object;
 pub mod place;
 pub mod pointer;
 mod section;
+pub mod size;
 pub mod structs;
+#[cfg(test)]
+mod tests;
+pub mod traits;
 mod word_pointer;

@@ -103,7 +103,7 @@ impl<'a, A: ReaderArena> ListReader<'a, A> {
     pub fn is_empty(&self) -> bool
         ensures { result ≡ ((seen_list A.segments self.now).count == 0) }
     {
-        self.count == 0
+        self.len() == 0
     }
 
     /// The bits from one element to the next; those of pointers aren't counted.

@@ -153,7 +153,7 @@ fn whole_structs<A: ReaderArena>(arena: &A, start: Place, words: u32) -> Result<
 }
 
 /// An object that a pointer names, where its words are there.
-fn whole<A: ReaderArena>(arena: &A, named: NamedObject) -> Result<Object>
+pub(crate) fn whole<A: ReaderArena>(arena: &A, named: NamedObject) -> Result<Object>
     ensures object { seen (λ o. o) result ≡ whole (words_in (A.segments arena.now)) (named_view named) }
     ensures inside { IfOk result (IsInside (words_in (A.segments arena.now))) }
 {

@@ -1,5 +1,5 @@
 //! Pointers to read.
-ghost use Rattle.std.specs.Prelude.{◌≡◌, ◌+◌, ◌*◌, ◌<◌, ◌≤◌, ◌^◌, ◌%◌, length, Ok, IfOk, option_copied};
+ghost use Rattle.std.specs.Prelude.{◌≡◌, ◌≢◌, ◌+◌, ◌*◌, ◌<◌, ◌≤◌, ◌^◌, ◌%◌, length, Ok, IfOk, option_copied};
 ghost use Rattle.capnp_model.specs.Chains.{◌and_then◌};
 ghost use Rattle.capnp_units.specs.Segments.{words_in};
 ghost use Rattle.capnp_units.specs.Limits.{left_of};
@@ -11,6 +11,7 @@ ghost use Rattle.capnp_model.specs.Sections.{number_of};
 ghost use Rattle.capnp_model.specs.Readings.{is_accepted_as};
 ghost use Rattle.capnp_units.specs.Sizes.{size_number};
 ghost use Rattle.capnp_wire.specs.Objects.{IsInside};
+ghost use Rattle.capnp_wire.specs.Walks.{PointerSize};
 
 use crate::arena::ReaderArena;
 use crate::backing::{Backing, default_backing, front_of};
@@ -20,12 +21,13 @@ use crate::list::ListReader;
 use crate::named::{NamedObject, found_at};
 use crate::object::{Object, object_at, words_of_elements};
 use crate::place::{Place, word_at};
+use crate::size::{NOTHING, size_at};
 use crate::structs::StructReader;
 use capnp_units::errors::{Error, Result};
 use capnp_units::kinds::ErrorKind;
 use capnp_units::limiter::ReadLimiter;
 use capnp_units::sizes::{
-    ElementSize, PointerType, Word, data_bits_per_element, pointers_per_element,
+    ElementSize, MessageSize, PointerType, Word, data_bits_per_element, pointers_per_element,
 };
 
 /// A pointer to read: at a place, or null. What it leads to is lent from what it stands on.
@@ -254,8 +256,9 @@ impl<'a, A: ReaderArena> PointerReader<'a, A> {
     ) -> Result<ListReader<'a, A>>
         requires inside { step_bits (size_number size) data_words pointers * count ≤ 8 * length bytes.now }
         requires near { start.position + step_words (size_number size) data_words pointers * count < 2 ^ 61 }
-        ensures { seen (seen_list A.segments) result
+        ensures list { seen (seen_list A.segments) result
             ≡ read_elements self.now.levels expected (list_view (ground_of A.segments self.now.backing) size count (number_of 8 bytes.now) (place_view start) data_words pointers) size data_words pointers }
+        ensures bytewise { size_number expected ≢ 1 → IfOk result (λ l. size_number (seen_list A.segments l).size ≢ 1) }
     {
         let levels = level_below(self.levels)?;
         if !is_accepted(expected, size, data_words, pointers) {
@@ -279,7 +282,8 @@ impl<'a, A: ReaderArena> PointerReader<'a, A> {
         limiter: &mut ReadLimiter,
         expected: ElementSize,
     ) -> Result<ListReader<'a, A>>
-        ensures { GetGives (seen_list A.segments) (read_list (ground_of A.segments self.now.backing) self.now.levels expected) (seen_pointer A.segments self.now) limiter.old result limiter.new }
+        ensures list { GetGives (seen_list A.segments) (read_list (ground_of A.segments self.now.backing) self.now.levels expected) (seen_pointer A.segments self.now) limiter.old result limiter.new }
+        ensures bytewise { size_number expected ≢ 1 → IfOk result (λ l. size_number (seen_list A.segments l).size ≢ 1) }
     {
         match self.reach(limiter)? {
             Object::Null => Ok(ListReader::empty(self.backing, expected, self.levels)),
@@ -318,9 +322,33 @@ impl<'a, A: ReaderArena> PointerReader<'a, A> {
         expected: ElementSize,
         default: Option<&'a [Word]>,
     ) -> Result<ListReader<'a, A>>
-        ensures { let p = with_default (seen_pointer A.segments self.now) (option_copied default.entry) in GetGives (seen_list A.segments) (read_list p.ground p.levels expected) p limiter.old result limiter.new }
+        ensures list { let p = with_default (seen_pointer A.segments self.now) (option_copied default.entry) in GetGives (seen_list A.segments) (read_list p.ground p.levels expected) p limiter.old result limiter.new }
+
+        // Where no single bits are expected, none are given.
+        ensures bytewise { size_number expected ≢ 1 → IfOk result (λ l. size_number (seen_list A.segments l).size ≢ 1) }
     {
         self.with_default(default).list_here(limiter, expected)
+    }
+
+    /// The size of the pointer's value: the words of its objects at every depth, without pads and without the pointer itself, and its capabilities. Each count stops at the greatest number of its type. In an arena all of it is followed and paid for.
+    ///
+    /// It is refused by the kind of one of the value's faults within the levels that are left, which under a negative nesting limit is `NestingLimitExceeded` for every value, or with `ReadLimitExceeded` just where following all of it costs more words than are left. No more pointers are followed than words are granted, and one more.
+    pub fn total_size(&self, limiter: &mut ReadLimiter) -> Result<MessageSize>
+        ensures { PointerSize (seen_pointer A.segments self.now) limiter.old result limiter.new }
+    {
+        let Some(levels) = self.levels else {
+            return Err(Error::from(ErrorKind::NestingLimitExceeded));
+        };
+        let Some(place) = self.place else {
+            return Ok(NOTHING);
+        };
+        match self.backing {
+            Backing::Arena(arena) => size_at(arena, limiter, place, levels),
+            Backing::Default(_) => {
+                let mut unlimited = ReadLimiter::new(None);
+                size_at(&self.backing, &mut unlimited, place, levels)
+            }
+        }
     }
 }
 
@@ -337,8 +365,6 @@ fn is_accepted(expected: ElementSize, size: ElementSize, data_words: u16, pointe
                 && refs <= pointers as u32
         }
         ElementSize::Bit => expected == ElementSize::Bit,
-        _ => {
-            bits <= data_bits_per_element(size) as u64 && refs <= pointers_per_element(size)
-        }
+        _ => { bits <= data_bits_per_element(size) as u64 && refs <= pointers_per_element(size) }
     }
 }

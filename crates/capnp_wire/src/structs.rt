@@ -8,7 +8,12 @@ use crate::backing::Backing;
 use crate::place::Place;
 use crate::pointer::PointerReader;
 use crate::section::{bit_of, bytes_from};
+use crate::size::{size_of_row, with_words};
+use capnp_units::errors::{Error, Result};
+use capnp_units::kinds::ErrorKind;
+use capnp_units::limiter::ReadLimiter;
 use capnp_units::primitive::{Mask, Primitive, Zero};
+use capnp_units::sizes::MessageSize;
 use capnp_units::units::{ElementCount, WirePointerCount};
 use std::alloc::AllocError;
 
@@ -27,7 +32,7 @@ impl<A> Clone for StructReader<'_, A> {
 
     ghost is_infallible = { λ _. Unit {0} };
 
-    fn clone(&self) -> Result<Self, AllocError> {
+    fn clone(&self) -> std::result::Result<Self, AllocError> {
         Ok(*self)
     }
 }
@@ -38,6 +43,11 @@ impl<'a, A: ReaderArena> StructReader<'a, A> {
     ghost use Rattle.capnp_wire.specs.Places.{place_view};
     ghost use Rattle.capnp_wire.specs.Views.{ground_of, seen_pointer, seen_struct, struct_view, pointer_field, bit_of_bool};
     ghost use Rattle.capnp_wire.specs.Reads.{empty_struct, is_null};
+    ghost use Rattle.capnp_wire.specs.Walks.{SizeOn, StructSizeOf};
+    ghost use Rattle.capnp_model.specs.Traversal.{tree_at, cost_at, each, cost_each};
+    ghost use Rattle.capnp_model.specs.Coverage.{from_each};
+    ghost use Rattle.capnp_model.specs.Faults.{faults_at};
+    ghost use Rattle.capnp_model.specs.Sizes.{each_object_words, each_capability_count};
 
     /// A struct of these parts.
     pub(crate) fn of_parts(
@@ -134,5 +144,33 @@ impl<'a, A: ReaderArena> StructReader<'a, A> {
         ensures { result ≡ is_null (pointer_field (seen_struct A.segments self.now) ptr_index) }
     {
         self.get_pointer_field(ptr_index).is_null()
+    }
+
+    /// The size of the struct: its sections in whole words, the words of the objects behind its pointers, and their capabilities. Each count stops at the greatest number of its type. In an arena the pointers are followed and paid for; the struct's own words were paid for already.
+    ///
+    /// It is refused as the size of a pointer's value is.
+    pub fn total_size(&self, limiter: &mut ReadLimiter) -> Result<MessageSize>
+        ensures { StructSizeOf (seen_struct A.segments self.now) limiter.old result limiter.new }
+    {
+        let Some(levels) = self.levels else {
+            return Err(Error::from(ErrorKind::NestingLimitExceeded));
+        };
+        let rows = self.size_of_pointers(limiter, levels)?;
+        let words = (self.section.len() as u64 + 7) / 8;
+        Ok(with_words(rows, words + self.pointers as u64))
+    }
+
+    /// The size of what the struct's pointers lead to.
+    fn size_of_pointers(&self, limiter: &mut ReadLimiter, levels: u32) -> Result<MessageSize>
+        ensures { let v = seen_struct A.segments self.now in let s = v.ground.segments in SizeOn v.ground.paid each_object_words each_capability_count (each (tree_at levels s) v.first v.pointers) (from_each (faults_at levels s) v.first v.pointers) (cost_each (cost_at levels s) v.first v.pointers) v.pointers limiter.old result limiter.new }
+    {
+        let count = self.pointers as u32;
+        match self.backing {
+            Backing::Arena(arena) => size_of_row(arena, limiter, self.first, count, levels),
+            Backing::Default(_) => {
+                let mut unlimited = ReadLimiter::new(None);
+                size_of_row(&self.backing, &mut unlimited, self.first, count, levels)
+            }
+        }
     }
 }

@@ -11,7 +11,7 @@ slice_bounds-result-end g c =
     let step = step_bits (size_number l.size) l.data_words l.pointers in
     let bits = element_bits (size_number l.size) l.data_words in
     let within = element_inside c.step_bits-step.result c.element_bits-width.result step bits c.args.index l.count (length l.bytes.now) c.step_bits-step.ensures c.element_bits-width.ensures
-        (bytewise l.size l.data_words l.pointers c.requires.bytes) c.requires.index l.inside in
+    (bytewise l.size l.data_words l.pointers c.requires.bytes) c.requires.index l.inside in
     omega arith
 
 pub returns-clause-section : goal.returns-clause-section

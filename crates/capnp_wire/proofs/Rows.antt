@@ -1,0 +1,122 @@
+-- Pointers in a row and elements of lists of structs, one at a time.
+use Rattle.std.proofs.Common.{◌≡◌, ℕ, zero, suc, ◌+◌, ◌-◌, ◌*◌, ◌<◌, ◌≤◌, List, [], ◌∷◌, ◌++◌, take, drop, Option, Some, None, refl, ap, sym, ◌∙◌, subst, arith}
+use Rattle.std.specs.Prelude.{Contains}
+use Rattle.std.proofs.lemmas.List.{drop-drop}
+use Rattle.std.proofs.lemmas.List.Elements.{Contains-append_left, Contains-append_right}
+use Rattle.std.proofs.Math.Nat.{mul-le-mul_right}
+use Rattle.capnp_model.specs.Kinds.{Kind}
+use Rattle.capnp_model.specs.Chains.{◌>>=◌}
+use Rattle.capnp_model.specs.Sections.{section_of}
+use Rattle.capnp_model.specs.Segments.{Place, place, after}
+use Rattle.capnp_model.specs.Trees.{Tree, Trees, none, ◌▸◌, Elements, no_elements, element, tree_count}
+use Rattle.capnp_model.specs.Traversal.{each, each_element, cost_each, cost_elements}
+use Rattle.capnp_model.specs.Coverage.{from_each, from_elements}
+use Rattle.capnp_model.specs.Sizes.{object_words, each_object_words, element_object_words, capability_count, each_capability_count, element_capability_count}
+use Rattle.capnp_model.proofs.Chaining.{bind_some, some_is}
+
+-- ---- pointers in a row
+
+module _ (p : Place) (i n : ℕ) (h : i < n) where
+  more : n - i ≡ suc (n - (i + 1))
+  more = omega arith
+
+  next_place : p.position + i + 1 ≡ p.position + (i + 1)
+  next_place = omega arith
+
+  pub each_next : (f : Place → Option Tree) → each f (after p i) (n - i) ≡ (f (after p i) >>= λ t. each f (after p (i + 1)) (n - (i + 1)) >>= λ ts. Some (t ▸ ts))
+  each_next f = ap (each f (after p i)) more ∙ ap (λ (q : ℕ). f (after p i) >>= λ t. each f (place p.segment q) (n - (i + 1)) >>= λ ts. Some (t ▸ ts)) next_place
+
+  pub cost_next : (g : Place → ℕ) → g (after p i) + cost_each g (after p (i + 1)) (n - (i + 1)) ≡ cost_each g (after p i) (n - i)
+  cost_next g = sym (ap (cost_each g (after p i)) more ∙ ap (λ (q : ℕ). g (after p i) + cost_each g (place p.segment q) (n - (i + 1))) next_place)
+
+  faults_next : (g : Place → List Kind) → from_each g (after p i) (n - i) ≡ g (after p i) ++ from_each g (after p (i + 1)) (n - (i + 1))
+  faults_next g = ap (from_each g (after p i)) more ∙ ap (λ (q : ℕ). g (after p i) ++ from_each g (place p.segment q) (n - (i + 1))) next_place
+
+  pub fault_here : (g : Place → List Kind) (k : Kind) → Contains (g (after p i)) k → Contains (from_each g (after p i) (n - i)) k
+  fault_here g k c = let e = faults_next g in rw e (Contains-append_left (g (after p i)) (from_each g (after p (i + 1)) (n - (i + 1))) k c)
+
+  pub fault_later : (g : Place → List Kind) (k : Kind) → Contains (from_each g (after p (i + 1)) (n - (i + 1))) k → Contains (from_each g (after p i) (n - i)) k
+  fault_later g k c = let e = faults_next g in rw e (Contains-append_right (g (after p i)) (from_each g (after p (i + 1)) (n - (i + 1))) k c)
+
+  pub row_join : (f : Place → Option Tree) (t : Tree) (ts : Trees) → f (after p i) ≡ Some t → each f (after p (i + 1)) (n - (i + 1)) ≡ Some ts
+      → (us : Trees) × (each f (after p i) (n - i) ≡ Some us) × (each_object_words us ≡ (object_words t + 0) + each_object_words ts) × (each_capability_count us ≡ capability_count t + each_capability_count ts)
+  unfolding object_words capability_count
+  row_join f t ts e d = (t ▸ ts, each_next f ∙ rw (e, d) refl, omega arith, refl)
+
+-- the whole row, from the start on
+pub row_start : {A : Type 0} (p : Place) (n : ℕ) (f : Place → ℕ → A) → f (after p 0) (n - 0) ≡ f p n
+row_start p n f = let e : p.position + 0 ≡ p.position = omega arith in let d : n - 0 ≡ n = omega arith in ap (λ (q : ℕ). f (place p.segment q) (n - 0)) e ∙ ap (f p) d
+
+-- behind the last one
+pub row_end : {A : Type 0} (n i : ℕ) (f : ℕ → A) → n ≤ i → f (n - i) ≡ f 0
+row_end n i f h = let e : n - i ≡ 0 = omega arith in ap f e
+
+pub no_words : each_object_words none ≡ 0
+unfolding object_words
+no_words = refl
+
+pub no_capabilities : each_capability_count none ≡ 0
+unfolding capability_count
+no_capabilities = refl
+
+pub no_element_words : (d : ℕ) → element_object_words d no_elements ≡ 0
+unfolding object_words
+no_element_words d = refl
+
+pub no_element_capabilities : element_capability_count no_elements ≡ 0
+unfolding capability_count
+no_element_capabilities = refl
+
+pub each_count : (f : Place → Option Tree) (p : Place) (k : ℕ) (ts : Trees) → each f p k ≡ Some ts → tree_count ts ≡ k
+each_count f p zero ts e = ap tree_count (sym (some_is none ts e))
+each_count f p (suc k) ts e =
+    let a = bind_some (f p) _ ts e in
+    let b = bind_some (each f (after p 1) k) _ ts a.2 in
+    ap tree_count (sym (some_is _ _ b.2)) ∙ ap suc (each_count f (after p 1) k b.0 b.1)
+
+-- ---- elements
+
+module _ (p : Place) (d k i n : ℕ) (h : i < n) where
+  more_elements : n - i ≡ suc (n - (i + 1))
+  more_elements = omega arith
+
+  next_element : p.position + i * (d + k) + (d + k) ≡ p.position + (i + 1) * (d + k)
+  next_element = omega arith
+
+  pub element_next : (f : Place → Option Tree) (ws : List ℕ) → each_element f (after p (i * (d + k))) (drop (i * (d + k)) ws) d k (n - i)
+      ≡ (each f (after (after p (i * (d + k))) d) k >>= λ ts. each_element f (after p ((i + 1) * (d + k))) (drop ((i + 1) * (d + k)) ws) d k (n - (i + 1)) >>= λ es. Some (element (section_of (take d (drop (i * (d + k)) ws))) ts es))
+  element_next f ws =
+      let q = after p (i * (d + k)) in
+      let sec = section_of (take d (drop (i * (d + k)) ws)) in
+      let sum : (d + k) + i * (d + k) ≡ (i + 1) * (d + k) = omega arith in
+      let sum' : i * (d + k) + (d + k) ≡ (i + 1) * (d + k) = omega arith in
+      let rest : drop (d + k) (drop (i * (d + k)) ws) ≡ drop ((i + 1) * (d + k)) ws = drop-drop (d + k) (i * (d + k)) ws ∙ ap (λ (m : ℕ). drop m ws) sum' in
+      ap (each_element f q (drop (i * (d + k)) ws) d k) more_elements
+      ∙ ap (λ (xs : List ℕ). each f (after q d) k >>= λ ts. each_element f (after q (d + k)) xs d k (n - (i + 1)) >>= λ es. Some (element sec ts es)) rest
+      ∙ ap (λ (m : ℕ). each f (after q d) k >>= λ ts. each_element f (place p.segment m) (drop ((i + 1) * (d + k)) ws) d k (n - (i + 1)) >>= λ es. Some (element sec ts es)) next_element
+
+  pub elements_cost_next : (g : Place → ℕ) → cost_each g (after (after p (i * (d + k))) d) k + cost_elements g (after p ((i + 1) * (d + k))) d k (n - (i + 1)) ≡ cost_elements g (after p (i * (d + k))) d k (n - i)
+  elements_cost_next g = sym (ap (cost_elements g (after p (i * (d + k))) d k) more_elements ∙ ap (λ (m : ℕ). cost_each g (after (after p (i * (d + k))) d) k + cost_elements g (place p.segment m) d k (n - (i + 1))) next_element)
+
+  elements_faults_next : (g : Place → List Kind) → from_elements g (after p (i * (d + k))) d k (n - i) ≡ from_each g (after (after p (i * (d + k))) d) k ++ from_elements g (after p ((i + 1) * (d + k))) d k (n - (i + 1))
+  elements_faults_next g = ap (from_elements g (after p (i * (d + k))) d k) more_elements ∙ ap (λ (m : ℕ). from_each g (after (after p (i * (d + k))) d) k ++ from_elements g (place p.segment m) d k (n - (i + 1))) next_element
+
+  pub element_fault_here : (g : Place → List Kind) (x : Kind) → Contains (from_each g (after (after p (i * (d + k))) d) k) x → Contains (from_elements g (after p (i * (d + k))) d k (n - i)) x
+  element_fault_here g x c = let e = elements_faults_next g in rw e (Contains-append_left (from_each g (after (after p (i * (d + k))) d) k) (from_elements g (after p ((i + 1) * (d + k))) d k (n - (i + 1))) x c)
+
+  pub element_fault_later : (g : Place → List Kind) (x : Kind) → Contains (from_elements g (after p ((i + 1) * (d + k))) d k (n - (i + 1))) x → Contains (from_elements g (after p (i * (d + k))) d k (n - i)) x
+  element_fault_later g x c = let e = elements_faults_next g in rw e (Contains-append_right (from_each g (after (after p (i * (d + k))) d) k) (from_elements g (after p ((i + 1) * (d + k))) d k (n - (i + 1))) x c)
+
+  pub element_join : (f : Place → Option Tree) (ws : List ℕ) (ts : Trees) (es : Elements) → each f (after (after p (i * (d + k))) d) k ≡ Some ts → each_element f (after p ((i + 1) * (d + k))) (drop ((i + 1) * (d + k)) ws) d k (n - (i + 1)) ≡ Some es
+      → (xs : Elements) × (each_element f (after p (i * (d + k))) (drop (i * (d + k)) ws) d k (n - i) ≡ Some xs)
+      × (element_object_words d xs ≡ (each_object_words ts + (d + k)) + element_object_words d es) × (element_capability_count xs ≡ each_capability_count ts + element_capability_count es)
+  unfolding object_words capability_count
+  element_join f ws ts es e g =
+      let count = each_count f (after (after p (i * (d + k))) d) k ts e in
+      (element (section_of (take d (drop (i * (d + k)) ws))) ts es, element_next f ws ∙ rw (e, g) refl, omega arith, refl)
+
+  pub pointers_next : k + (n - (i + 1)) * k ≡ (n - i) * k
+  pointers_next = let e = more_elements in subst (λ (m : ℕ). k + (n - (i + 1)) * k ≡ m * k) (sym e) (omega arith)
+
+pub elements_start : {A : Type 0} (p : Place) (d k n : ℕ) (f : Place → ℕ → A) → f (after p (0 * (d + k))) (n - 0) ≡ f p n
+elements_start p d k n f = let e : p.position + 0 * (d + k) ≡ p.position = omega arith in let z : n - 0 ≡ n = omega arith in ap (λ (q : ℕ). f (place p.segment q) (n - 0)) e ∙ ap (f p) z

@@ -1,0 +1,10 @@
+//! Laws of what is read, each the contract of an empty function: a call of it brings its clauses.
+ghost use Rattle.capnp_wire.specs.Laws.{TreesByLevels, CostsByLevels, FaultsByLevels, FaultsOfObjects};
+
+/// What a pointer names, one level deep, makes the whole value together with what the pointers in it name: its tree, its cost and its faults.
+pub fn values_by_levels()
+    ensures trees { TreesByLevels }
+    ensures costs { CostsByLevels }
+    ensures faults { FaultsByLevels }
+    ensures refused { FaultsOfObjects }
+{}

@@ -1,0 +1,156 @@
+//! Worked segments, read.
+
+use crate::arena::{NullArena, ReaderArena, ReaderArenaImpl};
+use crate::element::PrimitiveElement;
+use crate::pointer::PointerReader;
+use capnp_units::errors::Error;
+use capnp_units::kinds::ErrorKind;
+use capnp_units::limiter::ReadLimiter;
+use capnp_units::sizes::{ElementSize, PointerType, Word};
+use std::test::Fail;
+
+const FAR: &[u8] = &[6, 0, 0, 0, 1, 0, 0, 0];
+
+const PAD: &[u8] = &[2, 0, 0, 0, 2, 0, 0, 0, 0, 0, 0, 0, 1, 0, 0, 0];
+
+const EMPTY_PAD: &[u8] = &[2, 0, 0, 0, 2, 0, 0, 0, 0, 0, 0, 0, 0, 0, 0, 0];
+
+const FAR_PAD: &[u8] = &[2, 0, 0, 0, 2, 0, 0, 0, 2, 0, 0, 0, 0, 0, 0, 0];
+
+const SEVEN: &[u8] = &[7, 0, 0, 0, 0, 0, 0, 0];
+
+#[test]
+fn a_struct_behind_a_pad_of_two_words(rt: HostRuntime) -> Result<(), Fail> {
+    let segments: &[&[u8]] = &[FAR, PAD, SEVEN];
+    let arena = ReaderArenaImpl::new(segments, 64);
+    let mut limiter = ReadLimiter::new(Some(3));
+    let root = PointerReader::get_root_from_arena(&arena)?;
+    let found = root.get_struct(&mut limiter, None)?;
+    assert_eq!(rt; found.get_data_field::<u64>(0), 7);
+    assert_eq!(rt; found.get_data_field::<u16>(4), 0);
+    assert_eq!(rt; found.get_data_field_mask::<i16>(0, 5), 2);
+    assert!(rt; found.get_bool_field(2));
+    assert!(rt; found.get_bool_field_mask(3, true));
+    assert!(rt; found.is_pointer_field_null(0));
+    assert_eq!(rt; limiter.granted(), 3);
+    assert_eq!(rt; limiter.followed(), 1);
+    assert!(rt; matches!(root.get_pointer_type(), Ok(PointerType::Struct)));
+    let refused = root.get_struct(&mut limiter, None).err();
+    assert_eq!(rt; refused, Some(Error::from(ErrorKind::ReadLimitExceeded)));
+    Ok(())
+}
+
+#[test]
+fn an_empty_struct_and_a_malformed_pad(rt: HostRuntime) -> Result<(), Fail> {
+    let mut limiter = ReadLimiter::new(None);
+    let segments: &[&[u8]] = &[FAR, EMPTY_PAD, SEVEN];
+    let arena = ReaderArenaImpl::new(segments, 64);
+    let root = PointerReader::get_root_from_arena(&arena)?;
+    assert!(rt; !root.is_null());
+    let found = root.get_struct(&mut limiter, None)?;
+    assert_eq!(rt; found.get_data_field::<u64>(0), 0);
+    let segments: &[&[u8]] = &[FAR, FAR_PAD, SEVEN];
+    let arena = ReaderArenaImpl::new(segments, 64);
+    let root = PointerReader::get_root_from_arena(&arena)?;
+    let refused = root.get_struct(&mut limiter, None).err();
+    assert_eq!(rt; refused, Some(Error::from(ErrorKind::MalformedFarPointer)));
+    Ok(())
+}
+
+#[test]
+fn what_is_not_there(rt: HostRuntime) -> Result<(), Fail> {
+    let mut limiter = ReadLimiter::new(None);
+    let first: &[u8] = &[2, 0, 0, 0, 5, 0, 0, 0];
+    let segments: &[&[u8]] = &[first];
+    let arena = ReaderArenaImpl::new(segments, 64);
+    let root = PointerReader::get_root_from_arena(&arena)?;
+    let refused = root.get_struct(&mut limiter, None).err();
+    assert_eq!(rt; refused, Some(Error::from(ErrorKind::OutOfBounds)));
+    assert!(rt; PointerReader::get_root_from_arena(&NullArena).is_err());
+    assert_eq!(rt; arena.into_segments().len(), 1);
+    Ok(())
+}
+
+#[test]
+fn a_byte_list_as_other_lists(rt: HostRuntime) -> Result<(), Fail> {
+    let mut segments = Vec::new(rt.alloc());
+    segments.push(vec![in rt.alloc(); 1, 0, 0, 0, 0x12, 0, 0, 0, 0x41, 0x42, 0, 0, 0, 0, 0, 0]?)?;
+    let arena = ReaderArenaImpl::new(segments, 1);
+    let mut limiter = ReadLimiter::new(None);
+    let root = PointerReader::get_root_from_arena(&arena)?;
+    assert_eq!(rt;
+        root.get_list(&mut limiter, ElementSize::Void, None)?.len(),
+        2
+    );
+    let bits = root.get_list(&mut limiter, ElementSize::Bit, None)?;
+    assert_eq!(rt; bits.len(), 2);
+    if bits.len() == 2 {
+        assert!(rt; bool::get(&bits, 0));
+        assert!(rt; !bool::get(&bits, 1));
+        assert_eq!(rt; u8::get(&bits, 1), 0x42);
+        assert_eq!(rt; u16::get(&bits, 1), 0);
+        <() as PrimitiveElement>::get(&bits, 1);
+    }
+    let refused = root.get_list(&mut limiter, u16::element_size(), None).err();
+    assert_eq!(rt; refused, Some(Error::from(ErrorKind::WrongElementSize)));
+    let structs = root.get_list(&mut limiter, ElementSize::InlineComposite, None)?;
+    assert_eq!(rt; structs.len(), 2);
+    if structs.len() == 2 {
+        let one = structs.get_struct_element(0);
+        let two = structs.get_struct_element(1);
+        assert_eq!(rt; one.get_data_field::<u8>(0), 65);
+        assert_eq!(rt; two.get_data_field::<u8>(0), 66);
+        assert_eq!(rt; two.get_data_field::<u16>(0), 0);
+        assert!(rt; structs.get_pointer_element(1).is_null());
+    }
+    assert_eq!(rt; root.get_data(&mut limiter, None)?, b"AB".as_slice());
+    let refused = root.get_text(&mut limiter, None).err();
+    assert_eq!(rt; refused, Some(Error::from(ErrorKind::TextWithoutZeroByte)));
+    let size = root.total_size(&mut limiter)?;
+    assert_eq!(rt; size.word_count, 1);
+    assert_eq!(rt; size.cap_count, 0);
+    Ok(())
+}
+
+#[test]
+fn the_size_of_a_struct_with_a_text(rt: HostRuntime) -> Result<(), Fail> {
+    let mut segments = Vec::new(rt.alloc());
+    segments.push(vec![in rt.alloc();
+        0, 0, 0, 0, 0, 0, 1, 0, 1, 0, 0, 0, 0x1a, 0, 0, 0, 0x68, 0x69, 0, 0, 0, 0, 0, 0,
+    ]?)?;
+    let arena = ReaderArenaImpl::new(segments, 2);
+    let mut limiter = ReadLimiter::new(Some(3));
+    let root = PointerReader::get_root_from_arena(&arena)?;
+    let size = root.total_size(&mut limiter)?;
+    assert_eq!(rt; size.word_count, 2);
+    assert_eq!(rt; size.cap_count, 0);
+    assert_eq!(rt; limiter.granted(), 2);
+    let found = root.get_struct(&mut ReadLimiter::new(None), None)?;
+    assert_eq!(rt; found.total_size(&mut limiter)?.word_count, 2);
+    let text = found
+        .get_pointer_field(0)
+        .get_text(&mut ReadLimiter::new(None), None)?;
+    assert_eq!(rt; text, b"hi".as_slice());
+    let refused = root.total_size(&mut limiter).err();
+    assert_eq!(rt; refused, Some(Error::from(ErrorKind::ReadLimitExceeded)));
+    Ok(())
+}
+
+#[test]
+fn a_default_costs_nothing(rt: HostRuntime) -> Result<(), Fail> {
+    let null: &[u8] = &[0, 0, 0, 0, 0, 0, 0, 0];
+    let segments: &[&[u8]] = &[null];
+    let arena = ReaderArenaImpl::new(segments, 1);
+    let mut limiter = ReadLimiter::new(Some(0));
+    let root = PointerReader::get_root_from_arena(&arena)?;
+    let default: &[Word] = &[[1, 0, 0, 0, 0x1a, 0, 0, 0], [0x68, 0x69, 0, 0, 0, 0, 0, 0]];
+    assert_eq!(rt;
+        root.get_text(&mut limiter, Some(default))?,
+        b"hi".as_slice()
+    );
+    assert_eq!(rt; root.get_data(&mut limiter, None)?.len(), 0);
+    let empty = root.get_list(&mut limiter, ElementSize::Pointer, None)?;
+    assert!(rt; empty.is_empty());
+    assert_eq!(rt; limiter.granted(), 0);
+    Ok(())
+}
