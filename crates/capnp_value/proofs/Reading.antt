@@ -20,6 +20,7 @@ use Rattle.capnp_wire.proofs.Tags.{words_from, words_are}
 use Rattle.capnp_value.specs.declared.value.Value.{Value, Null, Struct, List as PlainList, Pointers, the_lemmas}
 use Rattle.capnp_value.specs.Values.{tree_of_value, trees_of, trees_view}
 use Rattle.capnp_value.specs.Rows.{row, total, Reads}
+use Rattle.capnp_value.specs.Reads.{pointers_at}
 use Rattle.capnp_value.proofs.Rows.{row_more, total_more}
 
 -- ---- the trees of values
@@ -111,14 +112,14 @@ struct_refused s f g p d k old mid new r = λ t e.
 
 pub pointers_read : (f : Place → Option Tree) (g : Place → ℕ) (p : Place) (n : ℕ) (children : Vec Value Global) (old new : ReadLimiter)
     → Reads {X = Vec Value Global} (λ v. trees_view v.items) (row (λ j. f (after p j)) 0 n) (total (λ j. g (after p j)) 0 n) old (Ok (Some children)) new
-    → Reads tree_of_value (each f p n >>= λ ts. Some (pointer_list ts)) (cost_each g p n) old (Ok (Some (Pointers children))) new
+    → Reads tree_of_value (pointers_at f p n) (cost_each g p n) old (Ok (Some (Pointers children))) new
 pointers_read f g p n children old new r =
     let is : row (λ j. f (after p j)) 0 n ≡ Some (trees_view children.items) = r.0 in
     (rw (each_row f p n, is) (ap (λ (t : Tree). Some t) (sym (tree-Pointers children))), rw (cost_row g p n) r.1)
 
 pub pointers_refused : (f : Place → Option Tree) (g : Place → ℕ) (p : Place) (n : ℕ) (old last new : ReadLimiter)
     → Reads {X = Vec Value Global} (λ v. trees_view v.items) (row (λ j. f (after p j)) 0 n) (total (λ j. g (after p j)) 0 n) old (Ok None) last
-    → Reads tree_of_value (each f p n >>= λ ts. Some (pointer_list ts)) (cost_each g p n) old (Ok None) new
+    → Reads tree_of_value (pointers_at f p n) (cost_each g p n) old (Ok None) new
 pointers_refused f g p n old last new r = λ t e.
     let b = bind_some (each f p n) _ t e in
     let ts = bind_some (row (λ j. f (after p j)) 0 n) _ b.0 (sym (each_row f p n) ∙ b.1) in

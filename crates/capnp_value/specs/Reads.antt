@@ -40,7 +40,11 @@ element_at s below p d k i = clean_of s below (model.a_struct (after p (i * (d +
 abbrev pub element_cost : (Place → ℕ) → Place → ℕ → ℕ → ℕ → ℕ
 element_cost below p d k i = cost_each below (after (after p (i * (d + k))) d) k
 
--- So many structs of a list, the first of which begins there.
+-- A list of so many pointers, the first of which stands there.
+abbrev pub pointers_at : (Place → Option Tree) → Place → ℕ → Option Tree
+pointers_at below p n = each below p n >>= λ ts. Some (pointer_list ts)
+
+-- A list of so many structs, the first of which begins there.
 abbrev pub structs_at : Segments → (Place → Option Tree) → Place → ℕ → ℕ → ℕ → Option Tree
 structs_at s below p d k n = row (element_at s below p d k) 0 n >>= λ ts. Some (struct_list d k (elements_of k ts))
 
@@ -49,7 +53,7 @@ abbrev pub clean_whole : Segments → (Place → Option Tree) → Object → Opt
 clean_whole s below object.Null = Some null
 clean_whole s below (object.Struct p d k) = tree_of s below (model.a_struct (place_view p) d k)
 clean_whole s below (object.List p size n) = tree_of s below (model.a_list (place_view p) (size_number size) n)
-clean_whole s below (object.PointerList p n) = each below (place_view p) n >>= λ ts. Some (pointer_list ts)
+clean_whole s below (object.PointerList p n) = pointers_at below (place_view p) n
 clean_whole s below (object.StructList p words n d k) = structs_at s below (place_view p) d k n
 clean_whole s below (object.Capability i) = None
 

@@ -15,7 +15,7 @@ ghost use Rattle.capnp_wire.specs.Objects.{AreThere, IsInside};
 ghost use Rattle.capnp_wire.specs.Places.{place_view};
 ghost use Rattle.capnp_value.specs.Values.{tree_of_value, trees_view};
 ghost use Rattle.capnp_value.specs.Rows.{row, total, Reads};
-ghost use Rattle.capnp_value.specs.Reads.{clean_at, element_at, element_cost, structs_at, clean_whole, cost_inside, limits_view};
+ghost use Rattle.capnp_value.specs.Reads.{clean_at, element_at, element_cost, pointers_at, structs_at, clean_whole, cost_inside, limits_view};
 
 use crate::value::Value;
 use capnp_units::limiter::ReadLimiter;
@@ -109,13 +109,11 @@ fn read_object<A: ReaderArena>(
             read_struct(alloc, arena, limiter, start, size, levels)
         }
         Object::List { start, size, count } => {
-            Ok(Some(read_plain(alloc, arena, start, size, count)?))
+            let list = read_plain(alloc, arena, start, size, count)?;
+            Ok(Some(list))
         }
         Object::PointerList { start, count } => {
-            match read_row(alloc, arena, limiter, start, count, levels)? {
-                Some(children) => Ok(Some(Value::Pointers { children })),
-                None => Ok(None),
-            }
+            read_pointers(alloc, arena, limiter, start, count, levels)
         }
         Object::StructList {
             start,
@@ -182,6 +180,25 @@ fn read_row<A: ReaderArena>(
         }
     }
     Ok(Some(children))
+}
+
+/// The value of a list of pointers.
+#[cycle(read)]
+fn read_pointers<A: ReaderArena>(
+    alloc: Global,
+    arena: &A,
+    limiter: &mut ReadLimiter,
+    first: Place,
+    count: u32,
+    levels: u32,
+) -> Result<Option<Value>, AllocError>
+    requires { first.position + count < 2 ^ 61 }
+    ensures { Reads tree_of_value (pointers_at (clean_at levels (words_in (A.segments arena.now))) (place_view first) count) (cost_each (cost_at levels (words_in (A.segments arena.now))) (place_view first) count) limiter.old result limiter.new }
+{
+    match read_row(alloc, arena, limiter, first, count, levels)? {
+        Some(children) => Ok(Some(Value::Pointers { children })),
+        None => Ok(None),
+    }
 }
 
 /// The value of a list of structs.

@@ -35,20 +35,18 @@ read_at-returns g t c =
     let level : c.args.levels ≡ suc (c.args.levels - 1) = omega (arith, some) in
     follow_object c.args.levels (c.args.levels - 1) s (place_view c.args.at) c.args.limiter.now c.follow.new.limiter c.read_object.new.limiter c.in-Ok.object c.read_object.result level c.in-Ok.ensures c.read_object.ensures
 
-pub read_object-returns-in_ok-read_plain-in-List : goal.read_object-returns-in_ok-read_plain-in-List
-read_object-returns-in_ok-read_plain-in-List g t c = rw c.in-List.is (c.in_ok-read_plain-in-List.ensures c.args.levels, spends_nothing c.args.limiter.now)
+pub read_object-returns-in_ok-list-in-List : goal.read_object-returns-in_ok-list-in-List
+read_object-returns-in_ok-list-in-List g t c = rw c.in-List.is (c.in_ok-list-in-List.ensures c.args.levels, spends_nothing c.args.limiter.now)
 
-pub read_object-returns-in-Some : goal.read_object-returns-in-Some
-read_object-returns-in-Some g t c =
+pub read_pointers-returns-in-Some : goal.read_pointers-returns-in-Some
+read_pointers-returns-in-Some g t c =
     let s : Segments = words_in (g.A.ReaderArena.segments c.args.arena.now) in
-    rw c.in-PointerList.is (pointers_read (clean_at c.args.levels s) (cost_at c.args.levels s) (place_view c.in-PointerList.start) c.in-PointerList.count c.in-Some.children c.args.limiter.now c.read_row.new.limiter
-    (rw c.in-Some.is at c.in_ok-children-in-PointerList.ensures))
+    pointers_read (clean_at c.args.levels s) (cost_at c.args.levels s) (place_view c.args.first) c.args.count c.in-Some.children c.args.limiter.now c.read_row.new.limiter (rw c.in-Some.is at c.in_ok-children.ensures)
 
-pub read_object-returns-in-None : goal.read_object-returns-in-None
-read_object-returns-in-None g t c =
+pub read_pointers-returns-in-None : goal.read_pointers-returns-in-None
+read_pointers-returns-in-None g t c =
     let s : Segments = words_in (g.A.ReaderArena.segments c.args.arena.now) in
-    rw c.in-PointerList.is (pointers_refused (clean_at c.args.levels s) (cost_at c.args.levels s) (place_view c.in-PointerList.start) c.in-PointerList.count c.args.limiter.now c.read_row.new.limiter c.read_row.new.limiter
-    (rw c.in-None.is at c.in_ok-children-in-PointerList.ensures))
+    pointers_refused (clean_at c.args.levels s) (cost_at c.args.levels s) (place_view c.args.first) c.args.count c.args.limiter.now c.read_row.new.limiter c.read_row.new.limiter (rw c.in-None.is at c.in_ok-children.ensures)
 
 pub read_struct-returns-in-Some : goal.read_struct-returns-in-Some
 read_struct-returns-in-Some g t c =

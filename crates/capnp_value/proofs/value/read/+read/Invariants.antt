@@ -21,6 +21,9 @@ decreases-read_struct g l = 8 * l.levels + 2
 abbrev pub decreases-read_elements : goal.decreases-read_elements
 decreases-read_elements g l = 8 * l.levels + 3
 
+abbrev pub decreases-read_pointers : goal.decreases-read_pointers
+decreases-read_pointers g l = 8 * l.levels + 4
+
 abbrev pub decreases-read_structs : goal.decreases-read_structs
 decreases-read_structs g l = 8 * l.levels + 4
 
