@@ -12,3 +12,4 @@ pub mod Walks
 pub mod Rows
 pub mod Measuring
 pub mod LevelLaws
+pub mod ListLaws

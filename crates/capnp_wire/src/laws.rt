@@ -1,5 +1,5 @@
 //! Laws of what is read, each the contract of an empty function: a call of it brings its clauses.
-ghost use Rattle.capnp_wire.specs.Laws.{TreesByLevels, CostsByLevels, FaultsByLevels, FaultsOfObjects};
+ghost use Rattle.capnp_wire.specs.Laws.{TreesByLevels, CostsByLevels, FaultsByLevels, FaultsOfObjects, ElementsAreShown, NumbersAreShown};
 
 /// What a pointer names, one level deep, makes the whole value together with what the pointers in it name: its tree, its cost and its faults.
 pub fn values_by_levels()
@@ -7,4 +7,10 @@ pub fn values_by_levels()
     ensures costs { CostsByLevels }
     ensures faults { FaultsByLevels }
     ensures refused { FaultsOfObjects }
+{}
+
+/// A list as it is read shows the elements of the value: those of structs by their sections and pointers, plain ones by their numbers.
+pub fn lists_show_values()
+    ensures structs { ElementsAreShown }
+    ensures numbers { NumbersAreShown }
 {}

@@ -2,7 +2,9 @@
 
 use crate::arena::{NullArena, ReaderArena, ReaderArenaImpl};
 use crate::element::PrimitiveElement;
+use crate::place::Place;
 use crate::pointer::PointerReader;
+use crate::traits::FromPointerReader;
 use capnp_units::errors::Error;
 use capnp_units::kinds::ErrorKind;
 use capnp_units::limiter::ReadLimiter;
@@ -18,6 +20,9 @@ const EMPTY_PAD: &[u8] = &[2, 0, 0, 0, 2, 0, 0, 0, 0, 0, 0, 0, 0, 0, 0, 0];
 const FAR_PAD: &[u8] = &[2, 0, 0, 0, 2, 0, 0, 0, 2, 0, 0, 0, 0, 0, 0, 0];
 
 const SEVEN: &[u8] = &[7, 0, 0, 0, 0, 0, 0, 0];
+
+/// A pointer to the text `hi`, and its word.
+const HI: &[Word] = &[[1, 0, 0, 0, 0x1a, 0, 0, 0], [0x68, 0x69, 0, 0, 0, 0, 0, 0]];
 
 #[test]
 fn a_struct_behind_a_pad_of_two_words(rt: HostRuntime) -> Result<(), Fail> {
@@ -68,6 +73,26 @@ fn what_is_not_there(rt: HostRuntime) -> Result<(), Fail> {
     assert_eq!(rt; refused, Some(Error::from(ErrorKind::OutOfBounds)));
     assert!(rt; PointerReader::get_root_from_arena(&NullArena).is_err());
     assert_eq!(rt; arena.into_segments().len(), 1);
+    Ok(())
+}
+
+#[test]
+fn intervals_of_an_arena(rt: HostRuntime) -> Result<(), Fail> {
+    let segments: &[&[u8]] = &[FAR, PAD, SEVEN];
+    let arena = ReaderArenaImpl::new(segments, 64);
+    let mut limiter = ReadLimiter::new(Some(3));
+    let pad = Place {
+        segment: 1,
+        position: 0,
+    };
+    assert_eq!(rt; arena.size_in_words(), 4);
+    assert_eq!(rt; arena.nesting_limit(), 64);
+    assert_eq!(rt; arena.check_offset(pad, 2)?.position, 2);
+    assert!(rt; arena.check_offset(pad, -1).is_err());
+    assert!(rt; arena.contains_interval(&mut limiter, pad, 2).is_ok());
+    assert!(rt; arena.contains_interval(&mut limiter, pad, 3).is_err());
+    assert!(rt; arena.amplified_read(&mut limiter, 1).is_ok());
+    assert!(rt; arena.amplified_read(&mut limiter, 1).is_err());
     Ok(())
 }
 
@@ -143,12 +168,13 @@ fn a_default_costs_nothing(rt: HostRuntime) -> Result<(), Fail> {
     let arena = ReaderArenaImpl::new(segments, 1);
     let mut limiter = ReadLimiter::new(Some(0));
     let root = PointerReader::get_root_from_arena(&arena)?;
-    let default: &[Word] = &[[1, 0, 0, 0, 0x1a, 0, 0, 0], [0x68, 0x69, 0, 0, 0, 0, 0, 0]];
     assert_eq!(rt;
-        root.get_text(&mut limiter, Some(default))?,
+        root.get_text(&mut limiter, Some(HI))?,
         b"hi".as_slice()
     );
     assert_eq!(rt; root.get_data(&mut limiter, None)?.len(), 0);
+    let bytes = <&[u8] as FromPointerReader<_>>::get_from_pointer(&root, &mut limiter, Some(HI))?;
+    assert_eq!(rt; bytes.len(), 3);
     let empty = root.get_list(&mut limiter, ElementSize::Pointer, None)?;
     assert!(rt; empty.is_empty());
     assert_eq!(rt; limiter.granted(), 0);
