@@ -11,3 +11,4 @@ pub mod Writing
 pub mod Flat
 pub mod Buffers
 pub mod Lent
+pub mod Lending

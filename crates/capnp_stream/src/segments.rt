@@ -160,6 +160,8 @@ pub struct OwnedSegments {
 }
 
 impl OwnedSegments {
+    ghost use Rattle.std.specs.Borrow.{sem};
+    ghost use Rattle.capnp_stream.specs.Lending.{LendsBytes};
     ghost use Rattle.capnp_stream.specs.Segments.{lengths_of, owned_bytes, owned_ranges, segments_of};
 
     /// The segments of a table, one after the other in the bytes.
@@ -181,7 +183,8 @@ impl OwnedSegments {
 
     /// The bytes of all segments, one behind the other.
     pub fn as_mut_slice(&mut self) -> &mut [u8]
-        ensures { result.now ≡ owned_bytes self.old }
+        ensures* writes_back { sem 𝓛 (LendsBytes self.entry result) }
+        ensures value { result.now ≡ owned_bytes self.old }
     {
         &mut self.bytes
     }
