@@ -161,6 +161,24 @@ fn the_size_of_a_struct_with_a_text(rt: HostRuntime) -> Result<(), Fail> {
     Ok(())
 }
 
+/// The text behind a pointer, or a default.
+fn text_or<'a, A: ReaderArena>(
+    root: PointerReader<'a, A>,
+    limiter: &mut ReadLimiter,
+    default: &'a [Word],
+) -> Result<&'a [u8], Error> {
+    root.get_text(limiter, Some(default))
+}
+
+/// The same as data, by the trait.
+fn bytes_or<'a, A: ReaderArena>(
+    root: PointerReader<'a, A>,
+    limiter: &mut ReadLimiter,
+    default: &'a [Word],
+) -> Result<&'a [u8], Error> {
+    <&[u8] as FromPointerReader<A>>::get_from_pointer(&root, limiter, Some(default))
+}
+
 #[test]
 fn a_default_costs_nothing(rt: HostRuntime) -> Result<(), Fail> {
     let null: &[u8] = &[0, 0, 0, 0, 0, 0, 0, 0];
@@ -168,13 +186,9 @@ fn a_default_costs_nothing(rt: HostRuntime) -> Result<(), Fail> {
     let arena = ReaderArenaImpl::new(segments, 1);
     let mut limiter = ReadLimiter::new(Some(0));
     let root = PointerReader::get_root_from_arena(&arena)?;
-    assert_eq!(rt;
-        root.get_text(&mut limiter, Some(HI))?,
-        b"hi".as_slice()
-    );
+    assert_eq!(rt; text_or(root, &mut limiter, HI)?, b"hi".as_slice());
     assert_eq!(rt; root.get_data(&mut limiter, None)?.len(), 0);
-    let bytes = <&[u8] as FromPointerReader<_>>::get_from_pointer(&root, &mut limiter, Some(HI))?;
-    assert_eq!(rt; bytes.len(), 3);
+    assert_eq!(rt; bytes_or(root, &mut limiter, HI)?.len(), 3);
     let empty = root.get_list(&mut limiter, ElementSize::Pointer, None)?;
     assert!(rt; empty.is_empty());
     assert_eq!(rt; limiter.granted(), 0);
