@@ -60,7 +60,7 @@ element_section d k i count ws h =
     let fits : d ≤ r = omega arith in
     let bits : 64 * w * i ≡ 64 * (i * w) = omega arith in
     let here : take d (drop (i * w) (take (count * w) ws)) ≡ take d (drop (i * w) ws) =
-        ap (λ (m : ℕ). take d (drop (i * w) (take m ws))) sum ∙ ap (take d) (drop-take (i * w) r ws) ∙ take-take d r (drop (i * w) ws) fits in
+    ap (λ (m : ℕ). take d (drop (i * w) (take m ws))) sum ∙ ap (take d) (drop-take (i * w) r ws) ∙ take-take d r (drop (i * w) ws) fits in
     ap section_of (sym here) ∙ number_of-take 64 d (drop (i * w) (take (count * w) ws)) ∙ ap (λ (m : ℕ). m % 2 ^ (64 * d)) (number_of-drop 64 (i * w) (take (count * w) ws))
     ∙ ap (λ (m : ℕ). bits_at m (64 * d) all) (sym bits) ∙ sym (bits_of_low all (64 * w * i) (64 * d) (64 * w * count) (omega arith))
 
@@ -79,7 +79,7 @@ module _ (f : Place → Option Tree) (g : Ground) (levels : Option ℕ) (p : Pla
       let at : p.position + i * (d + k) + (d + k) ≡ p.position + suc i * (d + k) = omega arith in
       let behind : drop (d + k) (drop (i * (d + k)) ws) ≡ drop (suc i * (d + k)) ws = drop-drop (d + k) (i * (d + k)) ws ∙ ap (λ (j : ℕ). drop j ws) sum in
       let rest : each_element f (after p (suc i * (d + k))) (drop (suc i * (d + k)) ws) d k m ≡ Some b.0 =
-          sym (ap (λ (j : ℕ). each_element f (place p.segment j) (drop (d + k) (drop (i * (d + k)) ws)) d k m) at ∙ ap (λ (xs : List ℕ). each_element f (after p (suc i * (d + k))) xs d k m) behind) ∙ b.1 in
+      sym (ap (λ (j : ℕ). each_element f (place p.segment j) (drop (d + k) (drop (i * (d + k)) ws)) d k m) at ∙ ap (λ (xs : List ℕ). each_element f (after p (suc i * (d + k))) xs d k m) behind) ∙ b.1 in
       let first : p.position + i * (d + k) + d ≡ p.position + ((d + k) * i + d) = omega arith in
       let kids : each f (after p ((d + k) * i + d)) k ≡ Some a.0 = sym (ap (λ (j : ℕ). each f (place p.segment j) k) first) ∙ a.1 in
       let more = from_element m (suc i) b.0 (omega arith) rest in
@@ -146,7 +146,7 @@ structs n s p f start words count d k es g levels e o t =
     let zero_is : 0 * (d + k) ≡ 0 = omega arith in
     let at : q.position ≡ q.position + 0 * (d + k) = omega arith in
     let from : each_element (tree_at n s) (after q (0 * (d + k))) (drop (0 * (d + k)) ws) d k count ≡ Some es =
-        sym (ap (λ (j : ℕ). each_element (tree_at n s) (place q.segment j) ws d k count) at ∙ ap (λ (j : ℕ). each_element (tree_at n s) (after q (0 * (d + k))) (drop j ws) d k count) (sym zero_is)) ∙ read in
+    sym (ap (λ (j : ℕ). each_element (tree_at n s) (place q.segment j) ws d k count) at ∙ ap (λ (j : ℕ). each_element (tree_at n s) (after q (0 * (d + k))) (drop j ws) d k count) (sym zero_is)) ∙ read in
     let rest : words ≡ count * (d + k) + (words - count * (d + k)) = let h = held.fits in omega arith in
     let section : section_at s q (count * (d + k)) ≡ section_of (take (count * (d + k)) ws) = section_front s q (count * (d + k)) (words - count * (d + k)) ws (sym (ap (words_at s q) rest) ∙ held.is) in
     let whole_is : 0 + count ≡ count = omega arith in
