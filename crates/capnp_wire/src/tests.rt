@@ -161,22 +161,24 @@ fn the_size_of_a_struct_with_a_text(rt: HostRuntime) -> Result<(), Fail> {
     Ok(())
 }
 
-/// The text behind a pointer, or a default.
-fn text_or<'a, A: ReaderArena>(
-    root: PointerReader<'a, A>,
+/// Whether the text `hi` is read in place of a null root, also as data, and nothing without a default.
+fn reads_default<A: ReaderArena>(
+    arena: &A,
     limiter: &mut ReadLimiter,
-    default: &'a [Word],
-) -> Result<&'a [u8], Error> {
-    root.get_text(limiter, Some(default))
-}
-
-/// The same as data, by the trait.
-fn bytes_or<'a, A: ReaderArena>(
-    root: PointerReader<'a, A>,
-    limiter: &mut ReadLimiter,
-    default: &'a [Word],
-) -> Result<&'a [u8], Error> {
-    <&[u8] as FromPointerReader<A>>::get_from_pointer(&root, limiter, Some(default))
+    default: &[Word],
+) -> Result<bool, Error> {
+    let root = PointerReader::get_root_from_arena(arena)?;
+    let text = root.get_text(limiter, Some(default))?;
+    let bytes = <&[u8] as FromPointerReader<A>>::get_from_pointer(&root, limiter, Some(default))?;
+    let empty = root.get_list(limiter, ElementSize::Pointer, None)?;
+    let nothing = root.get_data(limiter, None)?;
+    Ok(
+        text.len() == 2
+            && text[0] == b'h'
+            && bytes.len() == 3
+            && empty.is_empty()
+            && nothing.is_empty(),
+    )
 }
 
 #[test]
@@ -185,12 +187,7 @@ fn a_default_costs_nothing(rt: HostRuntime) -> Result<(), Fail> {
     let segments: &[&[u8]] = &[null];
     let arena = ReaderArenaImpl::new(segments, 1);
     let mut limiter = ReadLimiter::new(Some(0));
-    let root = PointerReader::get_root_from_arena(&arena)?;
-    assert_eq!(rt; text_or(root, &mut limiter, HI)?, b"hi".as_slice());
-    assert_eq!(rt; root.get_data(&mut limiter, None)?.len(), 0);
-    assert_eq!(rt; bytes_or(root, &mut limiter, HI)?.len(), 3);
-    let empty = root.get_list(&mut limiter, ElementSize::Pointer, None)?;
-    assert!(rt; empty.is_empty());
+    assert!(rt; reads_default(&arena, &mut limiter, HI)?);
     assert_eq!(rt; limiter.granted(), 0);
     Ok(())
 }
