@@ -1,15 +1,14 @@
 -- Bytes as one number, and the words in them.
-use Rattle.std.proofs.Common.{◌≡◌, ℕ, zero, suc, ◌+◌, ◌-◌, ◌*◌, ◌/◌, ◌%◌, ◌^◌, ◌<◌, ◌≤◌, List, [], ◌∷◌, length, get_or, take, drop, Some, None, refl, ap, sym, ◌∙◌, subst, arith}
+use Rattle.std.proofs.Common.{◌≡◌, ℕ, zero, suc, ◌+◌, ◌-◌, ◌*◌, ◌/◌, ◌%◌, ◌^◌, ◌<◌, ◌≤◌, List, [], ◌∷◌, length, get_or, take, drop, Some, refl, ap, sym, ◌∙◌, arith}
 use Rattle.std.specs.List.{slice_get}
-use Rattle.std.specs.Prelude.{slice_index}
 use Rattle.std.specs.Int.{from_le_bytes, w64}
 use Rattle.std.proofs.lemmas.Nat.{pow_pos}
 use Rattle.std.proofs.lemmas.List.{drop-drop, length-drop, get_or-drop}
 use Rattle.std.proofs.Math.Nat.{mod-lt, mod-mod}
 use lib.Pow as pow
 use Rattle.capnp_model.specs.Bytes.{words_in_bytes}
-use Rattle.capnp_model.specs.Sections.{bits_at, numbers_in, number_of, section_of}
-use Rattle.capnp_model.specs.Segments.{place, words_at}
+use Rattle.capnp_model.specs.Sections.{numbers_in, number_of, section_of}
+use Rattle.capnp_model.specs.Segments.{place}
 use Rattle.capnp_units.specs.Segments.{whole_words, words_in}
 use Rattle.capnp_units.proofs.FirstBytes.{first_eight}
 use Rattle.capnp_wire.specs.Views.{section_at, section_in}

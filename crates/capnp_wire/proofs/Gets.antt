@@ -1,7 +1,6 @@
 -- What gets of pointers answer.
 use Rattle.std.proofs.Common.{◌≡◌, ℕ, ◌&&◌, not, Bool, true, false, eqb, Option, Some, None, Result, Ok, Err, refl, ap, sym, ◌∙◌, subst, inl, inr}
 use Rattle.std.proofs.lemmas.Bool.{eqb-true}
-use Rattle.capnp_model.specs.Kinds.{Kind}
 use Rattle.capnp_model.specs.Chains.{passes}
 use Rattle.capnp_model.specs.Segments.{Segments, Place, word_at}
 use Rattle.capnp_units.specs.declared.errors.Error.{Error}

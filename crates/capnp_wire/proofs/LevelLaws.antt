@@ -1,5 +1,5 @@
 -- One level and those below it.
-use Rattle.std.proofs.Common.{◌≡◌, ℕ, ◌+◌, ap, sym, ◌∙◌, arith}
+use Rattle.std.proofs.Common.{◌≡◌, ℕ, ◌+◌, ◌∙◌, arith}
 use Rattle.capnp_wire.specs.Laws.{TreesByLevels, CostsByLevels, FaultsByLevels, FaultsOfObjects}
 use Rattle.capnp_wire.specs.Follow.{own_cost}
 use Rattle.capnp_wire.specs.Inside.{cost_in}

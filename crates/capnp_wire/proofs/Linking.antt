@@ -1,29 +1,25 @@
 -- What is met one level deep, and behind the pointers there.
-use Rattle.std.proofs.Common.{◌≡◌, ℕ, zero, suc, ◌+◌, ◌-◌, ◌*◌, ◌%◌, ◌^◌, ◌<◌, ◌≤◌, nat_lt, Bool, true, false, eqb, List, [], ◌∷◌, length, take, drop, Option, Some, None, Result, Ok, Err, refl, ap, sym, ◌∙◌, subst, arith, if◌then◌else◌}
-use Rattle.std.specs.Prelude.{Contains, unwrap_or}
+use Rattle.std.proofs.Common.{◌≡◌, ℕ, zero, suc, ◌+◌, ◌*◌, ◌%◌, ◌^◌, ◌<◌, true, eqb, List, [], take, drop, Option, Some, Ok, refl, ap, sym, ◌∙◌, arith, if◌then◌else◌}
+use Rattle.std.specs.Prelude.{unwrap_or}
 use Rattle.std.specs.List.{slice_get}
 use Rattle.std.specs.Option.{ok_or, is_some}
 use Rattle.std.specs.Result.{result_ok}
-use Rattle.std.proofs.lemmas.Bool.{leb-true, le-leb}
-use Rattle.std.proofs.lemmas.Bool.Decides.{nat_tests}
 use Rattle.std.proofs.lemmas.List.{take-take, drop-take, drop-drop}
-use Rattle.capnp_model.specs.Kinds.{Kind, OutOfBounds, NestingLimitExceeded}
-use Rattle.capnp_model.specs.Chains.{◌>>=◌, ◌provided◌, ◌and_then◌}
+use Rattle.capnp_model.specs.Kinds.{Kind, OutOfBounds}
+use Rattle.capnp_model.specs.Chains.{◌>>=◌}
 use Rattle.capnp_model.specs.Sections.{words_for, section_of}
-use Rattle.capnp_model.specs.Segments.{Segments, Place, place, after, words_at}
+use Rattle.capnp_model.specs.Segments.{Segments, Place, after, words_at}
 use Rattle.capnp_model.specs.Pointers as model
-use Rattle.capnp_model.specs.Trees.{Tree, Trees, Elements, null, capability, structure, plain_list, pointer_list, struct_list, size_bits}
-use Rattle.capnp_model.specs.Traversal.{Tag, tag_in, each, each_element, ListKind, of_bits, of_pointers, of_structs, list_kind, list_words, list_tree, tree_of, tree_at, tag_cost, list_cost, object_cost, cost_at}
-use Rattle.capnp_model.specs.Faults.{faults_of, list_faults, object_faults, faults_at}
-use Rattle.capnp_model.proofs.Chaining.{bind_some, bind_ok, ok_is, ok_or_some, some_is, provided_some}
-use Rattle.capnp_model.proofs.ReadFits.{tree_at_fits}
+use Rattle.capnp_model.specs.Trees.{Tree, structure, plain_list, struct_list, size_bits}
+use Rattle.capnp_model.specs.Traversal.{Tag, tag_in, each, each_element, ListKind, of_bits, of_pointers, of_structs, list_kind, list_words, list_tree, tree_of, tag_cost, list_cost, object_cost}
+use Rattle.capnp_model.specs.Faults.{faults_of, list_faults, object_faults}
+use Rattle.capnp_model.proofs.Chaining.{bind_ok, ok_is, ok_or_some, some_is}
 use Rattle.capnp_units.specs.Sizes.{size_number, data_bits}
 use Rattle.capnp_wire.specs.declared.object.Object.{Object}
 use Rattle.capnp_wire.specs.declared.object.Object.TheVariants as object
-use Rattle.capnp_wire.specs.declared.object.Found.{Found}
 use Rattle.capnp_wire.specs.Places.{placed}
-use Rattle.capnp_wire.specs.Objects.{plain_size, whole_list, whole, object_at}
-use Rattle.capnp_wire.specs.Follow.{own_cost, suffice_for, is_within}
+use Rattle.capnp_wire.specs.Objects.{plain_size, whole_list, whole}
+use Rattle.capnp_wire.specs.Follow.{own_cost}
 use Rattle.capnp_wire.specs.Views.{section_in, section_at}
 use Rattle.capnp_wire.specs.Inside.{words_there, tree_in, cost_in, faults_in}
 use Rattle.capnp_wire.proofs.Tags.{words_from, words_are}

@@ -1,15 +1,13 @@
 -- Lists as they are read, and their trees.
-use Rattle.std.proofs.Common.{◌≡◌, ℕ, zero, suc, ◌+◌, ◌-◌, ◌*◌, ◌/◌, ◌%◌, ◌^◌, ◌<◌, ◌≤◌, leb, List, [], ◌∷◌, length, take, drop, Option, Some, None, Result, Ok, refl, ap, sym, ◌∙◌, subst, arith}
+use Rattle.std.proofs.Common.{◌≡◌, ℕ, zero, suc, ◌+◌, ◌-◌, ◌*◌, ◌/◌, ◌%◌, ◌^◌, ◌<◌, ◌≤◌, leb, List, [], ◌∷◌, length, take, drop, Option, Some, Ok, ap, sym, ◌∙◌, subst, arith}
 use Rattle.std.specs.Prelude.{slice_index, unwrap_or}
-use Rattle.std.specs.List.{slice_get}
-use Rattle.std.specs.Option.{is_some}
 use Rattle.std.proofs.lemmas.List.{take-take, drop-take, drop-drop}
 use Rattle.std.proofs.Math.Nat.{mul-le-mul_left}
 use lib.Pow as pow
 use Rattle.capnp_model.specs.Chains.{◌>>=◌}
 use Rattle.capnp_model.specs.Sections.{bits_at, numbers_in, section_of}
 use Rattle.capnp_model.specs.Segments.{Segments, Place, place, after, words_at}
-use Rattle.capnp_model.specs.Trees.{Tree, Trees, struct_list, Elements, no_elements, element, size_bits, plain_elements}
+use Rattle.capnp_model.specs.Trees.{Tree, struct_list, Elements, size_bits}
 use Rattle.capnp_model.specs.Kinds.{OutOfBounds}
 use Rattle.capnp_model.specs.Pointers as model
 use Rattle.capnp_model.specs.Pointers.{pointer_of}
@@ -20,12 +18,10 @@ use Rattle.capnp_model.proofs.Chaining.{bind_some, some_is, bind_ok, ok_is, ok_o
 use Rattle.capnp_model.proofs.ReadFits.{words_length}
 use Rattle.capnp_wire.specs.declared.object.Object.{Object}
 use Rattle.capnp_units.specs.declared.sizes.ElementSize.TheVariants.{InlineComposite}
-use Rattle.capnp_wire.specs.declared.place.Place as wire
 use Rattle.capnp_wire.specs.declared.object.Object.TheVariants as object
-use Rattle.capnp_wire.specs.declared.object.Found.{Found}
 use Rattle.capnp_wire.specs.Places.{place_view}
-use Rattle.capnp_wire.specs.Objects.{whole_list, whole, object_at}
-use Rattle.capnp_wire.specs.Views.{Ground, section_in, section_at, ListView, list_view, element_of}
+use Rattle.capnp_wire.specs.Objects.{whole_list, whole}
+use Rattle.capnp_wire.specs.Views.{Ground, section_at, list_view}
 use Rattle.capnp_wire.specs.Inside.{words_there, tree_in}
 use Rattle.capnp_wire.specs.Laws.{ShowsElements, ElementsAreShown, NumbersAreShown}
 use Rattle.capnp_wire.proofs.Bytes.{number_of-drop, number_of-take}

@@ -1,15 +1,14 @@
 -- The sizes of objects and of what their pointers lead to.
-use Rattle.std.proofs.Common.{◌≡◌, ℕ, zero, suc, ◌+◌, ◌-◌, ◌*◌, ◌%◌, ◌^◌, ◌<◌, ◌≤◌, nat_lt, eqb, min, Bool, true, false, List, [], Option, Some, None, Result, Ok, Err, refl, ap, sym, ◌∙◌, subst, inl, inr, arith, if◌then◌else◌}
-use Rattle.std.specs.Prelude.{Contains, ◌⊎◌, MatchOption}
+use Rattle.std.proofs.Common.{◌≡◌, ℕ, suc, ◌+◌, ◌*◌, ◌%◌, ◌^◌, ◌<◌, ◌≤◌, nat_lt, eqb, Bool, true, false, List, [], Option, Some, None, Result, Ok, Err, refl, ap, sym, ◌∙◌, subst, arith, if◌then◌else◌}
+use Rattle.std.specs.Prelude.{MatchOption}
 use Rattle.std.specs.Option.{ok_or}
 use Rattle.std.proofs.lemmas.Bool.Decides.{nat_tests}
 use Rattle.std.proofs.Math.Nat.{mul-le-mul_left}
 use Rattle.capnp_model.specs.Kinds.{Kind, OutOfBounds}
-use Rattle.capnp_model.specs.Chains.{◌>>=◌, ◌and_then◌}
 use Rattle.capnp_model.specs.Sections.{words_for}
 use Rattle.capnp_model.specs.Segments.{Segments, Place, after, words_at}
 use Rattle.capnp_model.specs.Pointers as model
-use Rattle.capnp_model.specs.Trees.{Tree, null, capability, structure, plain_list, pointer_list, struct_list, Trees, Elements, size_bits}
+use Rattle.capnp_model.specs.Trees.{Tree, null, capability, structure, plain_list, pointer_list, struct_list, size_bits}
 use Rattle.capnp_model.specs.Traversal.{tag_in, list_kind, list_words, ListKind, of_bits, of_pointers, of_structs, tree_at, cost_at, each, each_element, cost_each, cost_elements}
 use Rattle.capnp_model.specs.Coverage.{from_each, from_elements}
 use Rattle.capnp_model.specs.Faults.{faults_at}
@@ -25,7 +24,7 @@ use Rattle.capnp_wire.specs.declared.place.Place as wire
 use Rattle.capnp_wire.specs.declared.object.Object.{Object}
 use Rattle.capnp_wire.specs.declared.object.Object.TheVariants as object
 use Rattle.capnp_wire.specs.Places.{place_view}
-use Rattle.capnp_wire.specs.Objects.{whole_list, whole, IsInside}
+use Rattle.capnp_wire.specs.Objects.{whole_list, whole}
 use Rattle.capnp_wire.specs.Follow.{own_cost, suffice_for, is_within, Pays, FollowsWithin}
 use Rattle.capnp_wire.specs.Views.{section_at, PointerView, StructView}
 use Rattle.capnp_wire.specs.Inside.{words_there, tree_in, cost_in, faults_in}

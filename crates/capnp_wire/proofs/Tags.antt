@@ -1,22 +1,22 @@
 -- Lists of structs whose words are there, by their tag.
 use Rattle.std.proofs.Common.{◌≡◌, ℕ, zero, suc, ◌+◌, ◌*◌, ◌≤◌, ◌<◌, Bool, true, false, leb, List, [], ◌∷◌, length, take, drop, Option, Some, None, Result, Ok, Err, refl, ap, sym, ◌∙◌, arith}
 use Rattle.std.specs.List.{slice_get}
-use Rattle.std.specs.Option.{ok_or, is_some}
+use Rattle.std.specs.Option.{is_some}
 use Rattle.std.proofs.lemmas.Bool.{leb-true, le-leb}
 use Rattle.std.proofs.lemmas.Bool.Decides.{nat_tests}
 use Rattle.std.proofs.lemmas.List.{length-take, length-drop}
 use Rattle.capnp_model.specs.Kinds.{Kind, OutOfBounds, WrongPointerKind}
 use Rattle.capnp_model.specs.Chains.{◌>>=◌, ◌provided◌, ◌and_then◌, guard}
-use Rattle.capnp_model.specs.Segments.{Segments, Place, place, after, word_at, words_at}
+use Rattle.capnp_model.specs.Segments.{Segments, Place, after, word_at, words_at}
 use Rattle.capnp_model.specs.Pointers.{Pointer, to_struct, pointer_of, a_list}
-use Rattle.capnp_model.specs.Traversal.{Tag, tag_of, tag_in, of_structs}
-use Rattle.capnp_model.proofs.Chaining.{bind_some, some_is}
+use Rattle.capnp_model.specs.Traversal.{Tag, tag_of, tag_in}
+use Rattle.capnp_model.proofs.Chaining.{some_is}
 use Rattle.capnp_wire.specs.declared.object.Object.{Object}
 use Rattle.capnp_wire.specs.declared.object.Object.TheVariants as object
 use Rattle.capnp_wire.specs.declared.word_pointer.WordPointer.{WordPointer}
 use Rattle.capnp_wire.specs.declared.word_pointer.WordPointer.TheVariants as word
 use Rattle.capnp_wire.specs.Places.{placed, pointer_view}
-use Rattle.capnp_wire.specs.Objects.{whole, whole_list}
+use Rattle.capnp_wire.specs.Objects.{whole}
 
 pub words_from : (ws : Option (List ℕ)) (k n : ℕ) → is_some (ws >>= λ words. take n (drop k words) provided leb (k + n) (length words)) ≡ true → (words : List ℕ) × (ws ≡ Some words) × (k + n ≤ length words)
 words_from None k n h = absurd cc

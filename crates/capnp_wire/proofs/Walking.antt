@@ -1,21 +1,19 @@
 -- What a walk meets at a pointer.
-use Rattle.std.proofs.Common.{◌≡◌, ℕ, zero, suc, ◌+◌, ◌*◌, ◌%◌, ◌^◌, ◌<◌, ◌≤◌, nat_lt, Bool, true, false, List, [], ◌∷◌, Option, Some, None, Result, Ok, Err, refl, ap, sym, ◌∙◌, subst, arith}
+use Rattle.std.proofs.Common.{◌≡◌, ℕ, zero, suc, ◌+◌, ◌*◌, ◌%◌, ◌^◌, ◌≤◌, nat_lt, true, false, List, [], ◌∷◌, Option, Some, Result, Ok, Err, refl, ap, sym, ◌∙◌, subst, arith}
 use Rattle.std.specs.Prelude.{Contains}
 use Rattle.std.specs.Option.{ok_or}
-use Rattle.std.specs.Result.{result_ok}
 use Rattle.std.proofs.lemmas.Bool.Decides.{nat_tests}
 use Rattle.capnp_model.specs.Kinds.{Kind, OutOfBounds, NestingLimitExceeded}
 use Rattle.capnp_model.specs.Chains.{◌>>=◌, ◌and_then◌}
 use Rattle.capnp_model.specs.Sections.{section_of}
-use Rattle.capnp_model.specs.Segments.{Segments, Place, after, words_at}
+use Rattle.capnp_model.specs.Segments.{Segments, Place, words_at}
 use Rattle.capnp_model.specs.Pointers as model
-use Rattle.capnp_model.specs.Trees.{Tree, plain_list, size_bits}
-use Rattle.capnp_model.specs.Traversal.{tag_in, ListKind, of_bits, of_pointers, of_structs, list_kind, list_words, list_tree, leaf_of, tree_of, tree_at, object_cost, found_cost as model_cost, cost_at}
+use Rattle.capnp_model.specs.Trees.{plain_list, size_bits}
+use Rattle.capnp_model.specs.Traversal.{tag_in, ListKind, of_bits, of_pointers, of_structs, list_kind, list_words, list_tree, tree_of, tree_at, cost_at}
 use Rattle.capnp_model.specs.Faults.{faults_of, list_faults, object_faults, leaf_faults, faults_at}
 use Rattle.capnp_model.proofs.Chaining.{bind_ok, ok_is, ok_or_some}
 use Rattle.capnp_model.proofs.ReadFits.{tree_at_fits}
 use Rattle.capnp_wire.specs.declared.object.Object.{Object}
-use Rattle.capnp_wire.specs.declared.object.Object.TheVariants as object
 use Rattle.capnp_wire.specs.declared.object.Found.{Found}
 use Rattle.capnp_wire.specs.Objects.{whole_list, whole, object_at}
 use Rattle.capnp_wire.specs.Follow.{own_cost, suffice_for, is_within}

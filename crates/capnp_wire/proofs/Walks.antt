@@ -1,14 +1,13 @@
 -- Walks one after the other, and the sizes of what they read.
-use Rattle.std.proofs.Common.{◌≡◌, ℕ, ◌+◌, ◌-◌, ◌^◌, ◌≤◌, min, List, Option, Some, None, Result, Ok, Err, refl, ap, sym, ◌∙◌, inl, inr, arith}
-use Rattle.std.specs.Prelude.{Contains, ◌⊎◌}
+use Rattle.std.proofs.Common.{◌≡◌, ℕ, ◌+◌, ◌≤◌, List, Option, Some, Result, Ok, Err, ap, sym, ◌∙◌, inl, inr, arith}
+use Rattle.std.specs.Prelude.{Contains}
 use Rattle.capnp_model.specs.Kinds.{Kind}
 use Rattle.capnp_model.specs.Chains.{◌>>=◌}
 use Rattle.capnp_units.specs.declared.errors.Error.{Error}
-use Rattle.capnp_units.specs.declared.kinds.ErrorKind.TheVariants.{ReadLimitExceeded}
 use Rattle.capnp_units.specs.declared.limiter.ReadLimiter.{ReadLimiter}
 use Rattle.capnp_units.specs.declared.sizes.MessageSize.{MessageSize}
 use Rattle.capnp_units.specs.Errors.{kind_of}
-use Rattle.capnp_units.specs.Limits.{left_of, Spends, IsPassed, Follows}
+use Rattle.capnp_units.specs.Limits.{left_of, Spends, Follows}
 use Rattle.capnp_units.proofs.Spending.{spends_nothing, spends_both, passed_by_more, passed_after, follows_none, follows_both}
 use Rattle.capnp_wire.specs.Walks.{Walks, Counts, WalkRefused, SizeGives}
 

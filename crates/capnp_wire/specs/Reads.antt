@@ -1,10 +1,10 @@
 -- What pointers read as.
-use Rattle.std.specs.Prelude.{◌≡◌, ℕ, ℤ, ◌+◌, ◌-◌, ◌*◌, ◌%◌, ◌^◌, ◌==◌, ◌&&◌, ◌<◌, ◌⊎◌, nat_lt, if◌then◌else◌, Bool, true, false, not, List, [], ◌∷◌, length, take, slice_index, Option, Some, None, Result, Ok, Err}
+use Rattle.std.specs.Prelude.{◌≡◌, ℕ, ℤ, ◌+◌, ◌*◌, ◌==◌, ◌&&◌, ◌⊎◌, if◌then◌else◌, Bool, true, false, not, List, [], ◌∷◌, length, take, slice_index, Option, Some, None, Result, Ok, Err}
 use Rattle.std.specs.Option.{ok_or}
 use Rattle.capnp_model.specs.Kinds.{Kind, OutOfBounds, WrongPointerKind, WrongElementSize, TextWithoutZeroByte}
 use Rattle.capnp_model.specs.Chains.{◌and_then◌, guard, passes}
 use Rattle.capnp_model.specs.Sections.{words_for}
-use Rattle.capnp_model.specs.Segments.{Segments, Place, place, root, after, word_at}
+use Rattle.capnp_model.specs.Segments.{Segments, Place, root, after, word_at}
 use Rattle.capnp_model.specs.Pointers as model
 use Rattle.capnp_model.specs.Trees.{Tree, plain_list, pointer_list, struct_list, none, no_elements, plain_elements}
 use Rattle.capnp_model.specs.Readings.{is_accepted_as}
@@ -22,7 +22,7 @@ use Rattle.capnp_units.specs.Limits.{left_of, Spends, IsPassed, Follows}
 use Rattle.capnp_wire.specs.declared.object.Object.{Object}
 use Rattle.capnp_wire.specs.declared.object.Object.TheVariants as object
 use Rattle.capnp_wire.specs.declared.object.Found.{Found}
-use Rattle.capnp_wire.specs.Places.{place_view, placed}
+use Rattle.capnp_wire.specs.Places.{place_view}
 use Rattle.capnp_wire.specs.Objects.{object_at}
 use Rattle.capnp_wire.specs.Follow.{found_cost, KeepsBudget}
 use Rattle.capnp_wire.specs.Levels.{level_below}

@@ -1,11 +1,10 @@
 -- Readers as their callers see them.
-use Rattle.std.specs.Prelude.{ℕ, ℤ, ◌+◌, ◌*◌, ◌%◌, ◌^◌, ◌==◌, ◌&&◌, nat_lt, nat_le, if◌then◌else◌, Bool, true, false, not, List, [], ◌∷◌, length, Option, Some, None}
+use Rattle.std.specs.Prelude.{ℕ, ℤ, ◌+◌, ◌*◌, ◌%◌, ◌^◌, nat_lt, nat_le, if◌then◌else◌, Bool, true, false, List, [], ◌∷◌, length, Option, Some, None}
 use Rattle.std.specs.List.{flat_map}
 use Rattle.capnp_model.specs.Answers.{levels}
 use Rattle.capnp_model.specs.Sections.{bits_at, number_of, section_of}
 use Rattle.capnp_model.specs.Segments.{Segments, Place, root, after, words_at}
 use Rattle.capnp_units.specs.declared.sizes.ElementSize.{ElementSize}
-use Rattle.capnp_units.specs.declared.sizes.ElementSize.TheVariants.{InlineComposite, Pointer}
 use Rattle.capnp_units.specs.Segments.{words_in}
 use Rattle.capnp_units.specs.Sizes.{size_number}
 use Rattle.capnp_wire.specs.declared.backing.Backing.{Backing}

@@ -1,5 +1,5 @@
 -- Bytes are the numbers in theirs.
-use Rattle.std.proofs.Common.{ap, sym, ◌∙◌, arith}
+use Rattle.std.proofs.Common.{sym, arith}
 use Rattle.capnp_wire.proofs.Bytes.{bytes_of_front}
 use Rattle.capnp_wire.proofs.backing.front_of.Goals as goal
 

@@ -1,5 +1,5 @@
 -- A value takes a level less than what it stands in, and within a level each calls the next.
-use Rattle.std.proofs.Common.{◌≡◌, ℕ, ◌+◌, ◌-◌, ◌*◌, List, drop, Ok}
+use Rattle.std.proofs.Common.{ℕ, ◌+◌, ◌-◌, ◌*◌, List, drop}
 use Rattle.capnp_model.specs.Segments.{after}
 use Rattle.capnp_model.specs.Sizes.{each_object_words, element_object_words, each_capability_count, element_capability_count}
 use Rattle.capnp_model.specs.Traversal.{tree_at, cost_at, each, each_element, cost_each, cost_elements}

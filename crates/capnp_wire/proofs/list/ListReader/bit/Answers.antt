@@ -1,5 +1,5 @@
 -- The bit is the first of the element.
-use Rattle.std.proofs.Common.{◌≡◌, ℕ, ◌*◌, Bool, rules, eqb, refl, ap, ◌∙◌, sym}
+use Rattle.std.proofs.Common.{◌≡◌, ℕ, ◌*◌, rules, eqb, refl, ap, ◌∙◌, sym}
 use denote.Enum.Bare.{same_true}
 use Rattle.capnp_model.specs.Sections.{number_of}
 use Rattle.capnp_model.specs.Readings.{field_bits, just_bits}
