@@ -20,4 +20,5 @@ pub use capnp_wire::pointer::PointerReader;
 pub use capnp_wire::structs::StructReader;
 pub use capnp_wire::traits::{
     FromPointerReader, HasStructSize, HasTypeId, IntoInternalListReader, IntoInternalStructReader,
+    Owned, OwnedStruct,
 };

@@ -2,13 +2,18 @@
 
 use crate::arena::{NullArena, ReaderArena, ReaderArenaImpl};
 use crate::element::PrimitiveElement;
+use crate::list::ListReader;
 use crate::place::Place;
 use crate::pointer::PointerReader;
-use crate::traits::FromPointerReader;
+use crate::structs::StructReader;
+use crate::traits::{
+    FromPointerReader, HasStructSize, HasTypeId, IntoInternalListReader, IntoInternalStructReader,
+    Owned, OwnedStruct,
+};
 use capnp_units::errors::Error;
 use capnp_units::kinds::ErrorKind;
 use capnp_units::limiter::ReadLimiter;
-use capnp_units::sizes::{ElementSize, PointerType, Word};
+use capnp_units::sizes::{ElementSize, PointerType, StructSize, Word};
 use std::test::Fail;
 
 const FAR: &[u8] = &[6, 0, 0, 0, 1, 0, 0, 0];
@@ -189,5 +194,88 @@ fn a_default_costs_nothing(rt: HostRuntime) -> Result<(), Fail> {
     let mut limiter = ReadLimiter::new(Some(0));
     assert!(rt; reads_default(&arena, &mut limiter, HI)?);
     assert_eq!(rt; limiter.granted(), 0);
+    Ok(())
+}
+
+/// A type of structs of one data word.
+struct Number;
+
+impl HasStructSize for Number {
+    const STRUCT_SIZE: StructSize = StructSize {
+        data_words: 1,
+        pointers: 0,
+    };
+}
+
+impl HasTypeId for Number {
+    const TYPE_ID: u64 = 0xd1;
+}
+
+impl<'a, A: ReaderArena + 'a> OwnedStruct<'a, A> for Number {
+    type Reader = NumberReader<'a, A>;
+}
+
+/// Such a struct to read.
+#[derive(Drop)]
+struct NumberReader<'a, A>(StructReader<'a, A>);
+
+impl<'a, A: ReaderArena> IntoInternalStructReader<'a, A> for NumberReader<'a, A> {
+    ghost inner_struct = { λ n. n.0 };
+
+    fn into_internal_struct_reader(self) -> StructReader<'a, A> {
+        self.0
+    }
+}
+
+/// A list of such structs.
+#[derive(Drop)]
+struct NumbersReader<'a, A>(ListReader<'a, A>);
+
+impl<'a, A: ReaderArena> IntoInternalListReader<'a, A> for NumbersReader<'a, A> {
+    ghost inner_list = { λ n. n.0 };
+
+    fn into_internal_list_reader(self) -> ListReader<'a, A> {
+        self.0
+    }
+}
+
+/// The type of data.
+struct Data;
+
+impl<'a, A: ReaderArena> Owned<'a, A> for Data {
+    type Reader = &'a [u8];
+}
+
+/// The value of a type.
+fn read_as<'a, A: ReaderArena, T: Owned<'a, A>>(
+    root: &PointerReader<'a, A>,
+    limiter: &mut ReadLimiter,
+) -> Result<T::Reader, Error> {
+    <T::Reader as FromPointerReader<'a, A>>::get_from_pointer(root, limiter, None)
+}
+
+/// Whether the root is a `Number` with the value 7, and a null pointer in it reads as no number and no data.
+fn reads_types<A: ReaderArena>(arena: &A, limiter: &mut ReadLimiter) -> Result<bool, Error> {
+    let root = PointerReader::get_root_from_arena(arena)?;
+    let number = NumberReader(root.get_struct(limiter, None)?);
+    let inner = number.into_internal_struct_reader();
+    let null = inner.get_pointer_field(0);
+    let numbers = NumbersReader(null.get_list(limiter, ElementSize::InlineComposite, None)?);
+    let bytes = read_as::<A, Data>(&null, limiter)?;
+    Ok(
+        inner.get_data_field::<u64>(0) == 7
+            && numbers.into_internal_list_reader().is_empty()
+            && bytes.is_empty(),
+    )
+}
+
+#[test]
+fn types_of_a_caller(rt: HostRuntime) -> Result<(), Fail> {
+    let words: &[u8] = &[0, 0, 0, 0, 1, 0, 0, 0, 7, 0, 0, 0, 0, 0, 0, 0];
+    let segments: &[&[u8]] = &[words];
+    let arena = ReaderArenaImpl::new(segments, 1);
+    assert_eq!(rt; <Number as HasStructSize>::STRUCT_SIZE.total(), 1);
+    assert_eq!(rt; <Number as HasTypeId>::TYPE_ID, 0xd1);
+    assert!(rt; reads_types(&arena, &mut ReadLimiter::new(None))?);
     Ok(())
 }

@@ -73,3 +73,15 @@ pub trait IntoInternalListReader<'a, A> {
     fn into_internal_list_reader(self) -> ListReader<'a, A>
         ensures { result ≡ inner_list self };
 }
+
+/// A type of pointers' values. What it is built as comes with the builders.
+pub trait Owned<'a, A: ReaderArena> {
+    /// What its values are read as.
+    type Reader: FromPointerReader<'a, A>;
+}
+
+/// A type of structs. What it is built as comes with the builders.
+pub trait OwnedStruct<'a, A: ReaderArena> {
+    /// What its structs are read as.
+    type Reader: IntoInternalStructReader<'a, A>;
+}
