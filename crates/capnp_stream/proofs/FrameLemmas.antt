@@ -177,9 +177,9 @@ module _ (read : Reader) (fronts : ReadsFronts read) (limit : Option ℕ) where
     unfolding says
     many-fault many = fault-said read fronts limit taken.0 says leads stops a b taken.2 InvalidNumberOfSegments (λ more. first-refuses read limit (word % 2 ^ 32) (word / 2 ^ 32 ∷ []) more many)
 
-    pub first-needs : (size : ℕ) → size < table_bytes (word % 2 ^ 32 + 1) → IfSome a (NeedsMore read limit size)
+    pub first-needs : (size : ℕ) → word % 2 ^ 32 < 511 → size < table_bytes (word % 2 ^ 32 + 1) → IfSome a (NeedsMore read limit size)
     unfolding says
-    first-needs size short = IfSome-of_front a b taken.0 (NeedsMore read limit size) taken.2 (λ more. inl (word % 2 ^ 32, word / 2 ^ 32 ∷ [], more, leads more, short))
+    first-needs size few short = IfSome-of_front a b taken.0 (NeedsMore read limit size) taken.2 (λ more. inl (word % 2 ^ 32, (taken.0, more, word / 2 ^ 32 ∷ [], refl, leads), few, short))
 
     module _ (few : word % 2 ^ 32 < 511) (c : Option (List ℕ)) where
       wants : (q : List ℕ) (k : Kind) → read ((word % 2 ^ 32 + 1) / 2) q ≡ Err k → says q ≡ Err k
@@ -215,8 +215,8 @@ module _ (read : Reader) (fronts : ReadsFronts read) (limit : Option ℕ) where
     pub table-part : TakesPart read limit a b
     table-part = part-taken read fronts limit table.0 (behind_lengths read limit ns) table.2 (lengths-stop read limit fronts ns) a b table.1
 
-    pub table-needs : (size : ℕ) → size < table_bytes (length ns) + 8 * sum ns → IfSome a (NeedsMore read limit size)
-    table-needs size short = IfSome-of_front a b table.0 (NeedsMore read limit size) table.1 (λ more. inr (ns, more, table.2 more, short))
+    pub table-needs : (size : ℕ) → within (sum ns) limit ≡ true → size < table_bytes (length ns) + 8 * sum ns → IfSome a (NeedsMore read limit size)
+    table-needs size kept short = IfSome-of_front a b table.0 (NeedsMore read limit size) table.1 (λ more. inr (ns, (table.0, more, refl, table.2), kept, short))
 
     pub large-fault : within (sum ns) limit ≡ false → IfSome a (λ xs. IsFrameFault read limit xs MessageTooLarge)
     large-fault large = fault-said read fronts limit table.0 (behind_lengths read limit ns) table.2 (lengths-stop read limit fronts ns) a b table.1 MessageTooLarge (λ more. lengths-refuse read limit ns more large)

@@ -1,17 +1,27 @@
 -- Messages that are read into a buffer. (Encoding, "Serialization Over a Stream")
-use Rattle.std.specs.Prelude.{◌≡◌, ◌⊎◌, ℕ, ◌+◌, ◌*◌, ◌<◌, List, ◌∷◌, length, sum, ⊤}
+use Rattle.std.specs.Prelude.{◌≡◌, ◌⊎◌, ℕ, ◌+◌, ◌*◌, ◌<◌, true, List, ◌∷◌, ◌++◌, length, sum, ⊤}
 use Rattle.std.specs.declared.option.Option.{Option}
 use Rattle.capnp_units.specs.declared.kinds.ErrorKind.{ErrorKind}
 use Rattle.capnp_units.specs.declared.kinds.ErrorKind.TheVariants.{BufferNotLargeEnough, Device}
-use Rattle.capnp_model.specs.Messages.{Reader, behind_lengths, behind_first, message_at}
+use Rattle.capnp_model.specs.Messages.{Reader, within, behind_lengths, behind_first, message_at}
 use Rattle.capnp_stream.specs.Frames.{IsFramingKind}
 use Rattle.capnp_stream.specs.Flat.{table_bytes}
 
--- The bytes tell of a message whose table, or whose table and segments, have more bytes unpacked.
+-- The first word of a table stands at the front of the bytes, and says this number, which is one less than that of the segments.
+abbrev pub TellsCount : Reader → Option ℕ → List ℕ → ℕ → Type 0
+TellsCount read limit bytes n =
+    (front rest lengths : List ℕ) × (bytes ≡ front ++ rest) × ((more : List ℕ) → message_at read limit (front ++ more) ≡ behind_first read read limit (n ∷ lengths) more)
+
+-- A table stands at the front of the bytes, and says these lengths of segments.
+abbrev pub TellsLengths : Reader → Option ℕ → List ℕ → List ℕ → Type 0
+TellsLengths read limit bytes ns =
+    (front rest : List ℕ) × (bytes ≡ front ++ rest) × ((more : List ℕ) → message_at read limit (front ++ more) ≡ behind_lengths read limit ns more)
+
+-- The bytes begin with the table of a message within the limits of segments and words, and the table, or the table with the segments, has more bytes unpacked than so many.
 abbrev pub NeedsMore : Reader → Option ℕ → ℕ → List ℕ → Type 0
 NeedsMore read limit size bytes =
-    ((n : ℕ) × (ns : List ℕ) × (rest : List ℕ) × (message_at read limit bytes ≡ behind_first read read limit (n ∷ ns) rest) × (size < table_bytes (n + 1)))
-    ⊎ ((ns : List ℕ) × (rest : List ℕ) × (message_at read limit bytes ≡ behind_lengths read limit ns rest) × (size < table_bytes (length ns) + 8 * sum ns))
+    ((n : ℕ) × TellsCount read limit bytes n × (n < 511) × (size < table_bytes (n + 1)))
+    ⊎ ((ns : List ℕ) × TellsLengths read limit bytes ns × (within (sum ns) limit ≡ true) × (size < table_bytes (length ns) + 8 * sum ns))
 
 -- The kinds by which a reader refuses that takes no memory.
 abbrev pub IsFillKind : ErrorKind → Type 0

@@ -34,7 +34,8 @@ returns-then-buffer-table-clause-short g c =
     let total : c.words_before-total.result ≡ sum ns = c.words_before-total.ensures.total in
     let count : length ns ≡ n = table-holds n old c.in_ok-count.ensures.there in
     let long : table_bytes (length ns) ≡ table_bytes n = ap table_bytes count in
-    λ _. table-needs g.F.MessageForm.reader g.met.F.MessageForm.fronts c.args.limit ns _ _ c.in_ok-count.ensures.table (length c.args.buffer.now) (omega (arith, long, total, c.if-buffer-table.true, c.fill_table.auto.buffer))
+    let kept : within (sum ns) c.args.limit ≡ true = ap (λ m. within m c.args.limit) (sym total) ∙ sym c.is_within.ensures ∙ c.if-not-is_within.false in
+    λ _. table-needs g.F.MessageForm.reader g.met.F.MessageForm.fronts c.args.limit ns _ _ c.in_ok-count.ensures.table (length c.args.buffer.now) kept (omega (arith, long, total, c.if-buffer-table.true, c.fill_table.auto.buffer))
 
 pub returns-then-buffer-table-clause-part : goal.returns-then-buffer-table-clause-part
 returns-then-buffer-table-clause-part g c = table-part g.F.MessageForm.reader g.met.F.MessageForm.fronts c.args.limit (table_lengths c.in_ok-count.count c.fill_table.new.buffer) _ _ c.in_ok-count.ensures.table

@@ -29,7 +29,7 @@ pub returns-then-count-ge-SEGMENTS_COUNT_LIMIT-clause-part : goal.returns-then-c
 returns-then-count-ge-SEGMENTS_COUNT_LIMIT-clause-part g c = many-part g.F.MessageForm.reader g.met.F.MessageForm.fronts c.args.limit c.from_le_bytes-word.result _ _ (one-word g.F.MessageForm.reader _ _ c.read_piece.new.buf c.from_le_bytes-word.result c.read_piece.auto.buf c.from_le_bytes-word.ensures c.in_ok-read_piece.ensures.ok)
 
 pub returns-then-buffer-count-clause-short : goal.returns-then-buffer-count-clause-short
-returns-then-buffer-count-clause-short g c = λ _. first-needs g.F.MessageForm.reader g.met.F.MessageForm.fronts c.args.limit c.from_le_bytes-word.result _ _ (one-word g.F.MessageForm.reader _ _ c.read_piece.new.buf c.from_le_bytes-word.result c.read_piece.auto.buf c.from_le_bytes-word.ensures c.in_ok-read_piece.ensures.ok) (length c.args.buffer.now) (omega (arith, c.if-buffer-count.true))
+returns-then-buffer-count-clause-short g c = λ _. first-needs g.F.MessageForm.reader g.met.F.MessageForm.fronts c.args.limit c.from_le_bytes-word.result _ _ (one-word g.F.MessageForm.reader _ _ c.read_piece.new.buf c.from_le_bytes-word.result c.read_piece.auto.buf c.from_le_bytes-word.ensures c.in_ok-read_piece.ensures.ok) (length c.args.buffer.now) (omega (arith, c.if-count-ge-SEGMENTS_COUNT_LIMIT.false)) (omega (arith, c.if-buffer-count.true))
 
 pub returns-then-buffer-count-clause-part : goal.returns-then-buffer-count-clause-part
 returns-then-buffer-count-clause-part g c = many-part g.F.MessageForm.reader g.met.F.MessageForm.fronts c.args.limit c.from_le_bytes-word.result _ _ (one-word g.F.MessageForm.reader _ _ c.read_piece.new.buf c.from_le_bytes-word.result c.read_piece.auto.buf c.from_le_bytes-word.ensures c.in_ok-read_piece.ensures.ok)
