@@ -14,6 +14,7 @@ use capnp_units::errors::Error;
 use capnp_units::kinds::ErrorKind;
 use capnp_units::limiter::ReadLimiter;
 use capnp_units::sizes::{ElementSize, PointerType, StructSize, Word};
+use std::alloc::{AllocError, Global};
 use std::test::Fail;
 
 const FAR: &[u8] = &[6, 0, 0, 0, 1, 0, 0, 0];
@@ -277,5 +278,58 @@ fn types_of_a_caller(rt: HostRuntime) -> Result<(), Fail> {
     assert_eq!(rt; <Number as HasStructSize>::STRUCT_SIZE.total(), 1);
     assert_eq!(rt; <Number as HasTypeId>::TYPE_ID, 0xd1);
     assert!(rt; reads_types(&arena, &mut ReadLimiter::new(None))?);
+    Ok(())
+}
+
+fn owned(alloc: Global, segments: &[&[u8]]) -> std::result::Result<Vec<Vec<u8>>, AllocError> {
+    let mut all = Vec::new(alloc);
+    for bytes in segments {
+        all.push(bytes.to_vec(alloc)?)?;
+    }
+    Ok(all)
+}
+
+/// The first number of the root, and what following it costs.
+fn number_at_root<A: ReaderArena>(arena: &A) -> Result<(u64, u64), Error> {
+    let mut limiter = ReadLimiter::new(None);
+    let root = PointerReader::get_root_from_arena(arena)?;
+    let number = root.get_struct(&mut limiter, None)?.get_data_field(0);
+    Ok((number, limiter.granted()))
+}
+
+/// The lengths of the list at the root as one of voids and as one of bits, and its first and second bytes as structs.
+fn list_at_root<A: ReaderArena>(arena: &A) -> Result<(u32, u32, u8, u8), Error> {
+    let mut limiter = ReadLimiter::new(None);
+    let root = PointerReader::get_root_from_arena(arena)?;
+    let voids = root.get_list(&mut limiter, ElementSize::Void, None)?.len();
+    let bits = root.get_list(&mut limiter, ElementSize::Bit, None)?.len();
+    let structs = root.get_list(&mut limiter, ElementSize::InlineComposite, None)?;
+    if structs.len() < 2 {
+        return Ok((voids, bits, 0, 0));
+    }
+    let first = structs.get_struct_element(0).get_data_field(0);
+    let second = structs.get_struct_element(1).get_data_field(0);
+    Ok((voids, bits, first, second))
+}
+
+#[test]
+fn owned_and_lent_segments_read_alike(rt: HostRuntime) -> Result<(), Fail> {
+    let alloc = rt.alloc();
+    let far = ReaderArenaImpl::new(owned(alloc, &[FAR, PAD, SEVEN])?, 64);
+    assert_eq!(rt; number_at_root(&far)?, (7, 3));
+    let empty = ReaderArenaImpl::new(owned(alloc, &[FAR, EMPTY_PAD, SEVEN])?, 64);
+    assert_eq!(rt; number_at_root(&empty)?, (0, 2));
+    let malformed = ReaderArenaImpl::new(owned(alloc, &[FAR, FAR_PAD, SEVEN])?, 64);
+    let refused = number_at_root(&malformed).err();
+    assert_eq!(rt; refused, Some(Error::from(ErrorKind::MalformedFarPointer)));
+    let missing = ReaderArenaImpl::new(owned(alloc, &[&[2, 0, 0, 0, 5, 0, 0, 0]])?, 64);
+    let refused = number_at_root(&missing).err();
+    assert_eq!(rt; refused, Some(Error::from(ErrorKind::OutOfBounds)));
+    let list: &[u8] = &[1, 0, 0, 0, 0x12, 0, 0, 0, 0x41, 0x42, 0, 0, 0, 0, 0, 0];
+    let lent: &[&[u8]] = &[list];
+    assert_eq!(rt;
+        list_at_root(&ReaderArenaImpl::new(lent, 1))?,
+        (2, 2, 65, 66)
+    );
     Ok(())
 }
