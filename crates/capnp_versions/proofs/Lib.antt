@@ -1,1 +1,3 @@
 pub mod WholeValues
+pub mod Alike
+pub mod SameLists
