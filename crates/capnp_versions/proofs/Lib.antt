@@ -1,3 +1,4 @@
 pub mod WholeValues
 pub mod Alike
 pub mod SameLists
+pub mod SameShapes
