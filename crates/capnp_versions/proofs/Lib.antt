@@ -2,3 +2,4 @@ pub mod WholeValues
 pub mod Alike
 pub mod SameLists
 pub mod SameShapes
+pub mod SameContents

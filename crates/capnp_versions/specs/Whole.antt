@@ -1,5 +1,6 @@
 -- Values as messages hold them: every data section is one of its words.
 use Rattle.std.specs.Prelude.{ℕ, ◌*◌, ◌^◌, ◌<◌}
+use Rattle.capnp_model.specs.Calls.{Verb, set_to, enumerant, message}
 use Rattle.capnp_model.specs.Trees.{Tree, null, capability, structure, plain_list, pointer_list, struct_list, Trees, none, ◌▸◌, Elements, no_elements, element}
 
 abbrev mutual
@@ -21,3 +22,9 @@ abbrev mutual
   pub HaveWhole : ℕ → Elements → Type 0
   HaveWhole words no_elements = Unit {0}
   HaveWhole words (element section kids es) = (section < 2 ^ (64 * words)) × AreWhole kids × HaveWhole words es
+
+-- A verb as calls hold it: an enum value of sixteen bits, and a message whose sections lie within their words.
+abbrev pub IsWholeVerb : Verb → Type 0
+IsWholeVerb (set_to (enumerant n)) = n < 2 ^ 16
+IsWholeVerb (set_to (message t)) = IsWhole t
+IsWholeVerb _ = Unit {0}
