@@ -3,3 +3,4 @@ pub mod Alike
 pub mod SameLists
 pub mod SameShapes
 pub mod SameContents
+pub mod Wrote
