@@ -4,3 +4,4 @@ pub mod SameLists
 pub mod SameShapes
 pub mod SameContents
 pub mod Wrote
+pub mod WroteLists
