@@ -5,3 +5,6 @@ pub mod SameShapes
 pub mod SameContents
 pub mod Wrote
 pub mod WroteLists
+pub mod Follows
+pub mod AlikeLists
+pub mod AlikePaths

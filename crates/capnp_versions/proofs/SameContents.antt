@@ -24,7 +24,7 @@ use Rattle.capnp_versions.proofs.SameShapes.{Congruent, no_change, AnyPair, Same
 
 -- ---- new structs
 
-bare_nulls : (p : ℕ) → bare (resized p none) ≡ none
+pub bare_nulls : (p : ℕ) → bare (resized p none) ≡ none
 unfolding trim
 bare_nulls zero = refl
 bare_nulls (suc p) = ap (after_stripping null) (bare_nulls p)
