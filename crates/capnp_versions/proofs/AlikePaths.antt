@@ -9,11 +9,11 @@ use Rattle.capnp_model.specs.Printing.{fields_in}
 use Rattle.capnp_model.specs.Calls.{Step, name, index, Verb}
 use Rattle.capnp_model.specs.Steps.{target, target_of, on_name, opened, through_value, through_field, step_field, step_element}
 use Rattle.capnp_model.specs.Edits.{Cell, Edit, mark, edit_target, edit_named, edit_struct, as_list, edit_list, edit_value, edit_through, edit_through_element, edit_field, edit_element, opened_tree, put_field}
-use Rattle.capnp_model.specs.Admitted.{is_set, is_struct_type}
+use Rattle.capnp_model.specs.Admitted.{is_group_write, is_set, is_struct_type}
 use Rattle.capnp_model.proofs.Numbers.{wider}
 use Rattle.capnp_model.proofs.Widening.{bare, bare-padded_to}
 use Rattle.capnp_model.proofs.KeptRules.{and_left, and_right}
-use Rattle.capnp_model.proofs.OlderReading.{Related, related_void, related_plain', related_text, related_blob, related_untyped, related_interface, related_struct, related_list}
+use Rattle.capnp_model.proofs.OlderReading.{same_bool, same_int, same_uint, same_enum, Related, related_void, related_plain', related_text, related_blob, related_untyped, related_interface, related_struct, related_list}
 use Rattle.capnp_versions.specs.Whole.{IsWhole, AreWhole, IsWholeVerb}
 use Rattle.capnp_versions.proofs.WholeValues.{whole-padded_to, whole-resized}
 use Rattle.capnp_versions.proofs.Alike.{Alike, SameCell, Agree, agree-more, agree-then, agree-put_bits, agree-put_child, agree-same, alike-child, alike-structure, IsStructLike, struct_like, struct-like}
@@ -36,16 +36,177 @@ congruent_marks bits (Some a) (Some k) (Some b) (Some j) h =
 congruent_marks bits u m u' m' h = absurd h
 
 -- a list of structs that is read as one of plain elements has a word
-has_a_word : (p : PlainType) (w : ℕ) → width p ≤ 64 → (not (size_of_width (width p) == 1) && have_room (64 * w) 0 (size_of_width (width p))) ≡ true → width p ≤ 64 * w
-has_a_word p w narrow h = by (width p == 1) (width p == 8) (width p == 16) (width p == 32) refl refl refl refl h
+has_a_word : (p : PlainType) (w q : ℕ) → width p ≤ 64 → (not (size_of_width (width p) == 1) && have_room (64 * w) q (size_of_width (width p))) ≡ true → width p ≤ 64 * w
+has_a_word p w q narrow h = by (width p == 1) (width p == 8) (width p == 16) (width p == 32) refl refl refl refl h
   where
     word : (size w : ℕ) → 0 < size → nat_le size (64 * w) ≡ true → 1 ≤ w
     word size w some e = let le : size ≤ 64 * w = grind arith in omega arith
 
     by : (a b c d : Bool) → (width p == 1) ≡ a → (width p == 8) ≡ b → (width p == 16) ≡ c → (width p == 32) ≡ d
-        → (not ((if a then 1 else (if b then 2 else (if c then 3 else (if d then 4 else 5)))) == 1) && have_room (64 * w) 0 (if a then 1 else (if b then 2 else (if c then 3 else (if d then 4 else 5))))) ≡ true → width p ≤ 64 * w
+        → (not ((if a then 1 else (if b then 2 else (if c then 3 else (if d then 4 else 5)))) == 1) && have_room (64 * w) q (if a then 1 else (if b then 2 else (if c then 3 else (if d then 4 else 5))))) ≡ true → width p ≤ 64 * w
     by true b c d ea eb ec ed e = absurd (cc e)
-    by false true c d ea eb ec ed e = let some = word 8 w (omega arith) (and_left (nat_le 8 (64 * w)) true e) in omega arith
-    by false false true d ea eb ec ed e = let some = word 16 w (omega arith) (and_left (nat_le 16 (64 * w)) true e) in omega arith
-    by false false false true ea eb ec ed e = let some = word 32 w (omega arith) (and_left (nat_le 32 (64 * w)) true e) in omega arith
-    by false false false false ea eb ec ed e = let some = word 64 w (omega arith) (and_left (nat_le 64 (64 * w)) true e) in omega arith
+    by false true c d ea eb ec ed e = let some = word 8 w (omega arith) (and_left (nat_le 8 (64 * w)) (nat_le 0 q) e) in omega arith
+    by false false true d ea eb ec ed e = let some = word 16 w (omega arith) (and_left (nat_le 16 (64 * w)) (nat_le 0 q) e) in omega arith
+    by false false false true ea eb ec ed e = let some = word 32 w (omega arith) (and_left (nat_le 32 (64 * w)) (nat_le 0 q) e) in omega arith
+    by false false false false ea eb ec ed e = let some = word 64 w (omega arith) (and_left (nat_le 64 (64 * w)) (nat_le 0 q) e) in omega arith
+
+module _ (o n : Schema) (verb : Verb) (whole : IsWholeVerb verb) where
+  -- what the rest of a path does to a field, and to an element
+  abbrev pub FieldAgrees : List Step → Type 0
+  FieldAgrees path =
+      (bits : ℕ) (u m u' m' : Option ℕ) (b b' : Body) → SameMark bits u m u' m' → FieldFollows o n verb path bits b b' → (c d : Cell) → SameCell c d → WritesField o verb path b c → WritesField n verb path b' d
+      → Agree bits c (edit_field o path verb u m b c) (edit_field n path verb u' m' b' d)
+
+  abbrev pub ElementAgrees : List Step → Type 0
+  ElementAgrees path =
+      (ty ty' : Ty) → Related o n AnyPair ty ty' → ElementFollows o n verb path ty ty' → (w p v q : ℕ) (c d : Cell) → SameCell c d → WritesElement o verb path ty c → WritesElement n verb path ty' d
+      → Agree (element_bits o ty) c (edit_element o path verb ty w p c) (edit_element n path verb ty' v q d)
+
+  -- ---- the end of a path
+
+  end_agrees : FieldAgrees []
+  unfolding edit_field step_field
+  end_agrees bits u m u' m' b b' mark' follows c d same k l =
+      let write : IsWrite verb = field-is-write o verb b _ k.wrote in
+      let a = congruent_marks bits u m u' m' mark' c d same in
+      agree-then bits c (mark u m c) (mark u' m' d) _ _ a (by b b' follows (λ g e. group-is-write o verb g _ (subst (λ z. Wrote (step_field o [] verb z (only_if k.active (body_of z k.size k.section k.kids)))) e k.wrote)) write (mark u m c) (mark u' m' d) a.same)
+    where
+      by : (b b' : Body) → EndFollows o n verb bits b b' → ((g : Shape) → b ≡ group_slot g → is_group_write verb ≡ true) → IsWrite verb → Congruent bits (put_field o verb b) (put_field n verb b')
+      by (void_slot i) b' f g w = congruent-field o n bits verb (void_slot i) b' f w whole
+      by (plain_slot p at d) b' f g w = congruent-field o n bits verb (plain_slot p at d) b' f w whole
+      by (pointer_slot i ty d) b' f g w = congruent-field o n bits verb (pointer_slot i ty d) b' f w whole
+      by (group_slot x) (void_slot i) f g w = congruent-field o n bits verb (group_slot x) (void_slot i) f w whole
+      by (group_slot x) (plain_slot p at d) f g w = congruent-field o n bits verb (group_slot x) (plain_slot p at d) f w whole
+      by (group_slot x) (pointer_slot i ty d) f g w = congruent-field o n bits verb (group_slot x) (pointer_slot i ty d) f w whole
+      by (group_slot x) (group_slot y) f g w = congruent-field o n bits verb (group_slot x) (group_slot y) (f (g x refl)) w whole
+
+  element_end_agrees : ElementAgrees []
+  unfolding edit_element step_element
+  element_end_agrees ty ty' r follows w p v q c d same k l = congruent-element o n verb w p v q ty ty' r (element-is-write o verb ty _ k.wrote) whole follows c d same
+
+  -- ---- a step
+
+  module _ (path : List Step) (fields : FieldAgrees path) (elements : ElementAgrees path) where
+    -- by a name
+    named : (l : List ℕ) (bits nid w p nid' w' p' : ℕ) (u u' : Option ℕ) (fs fs' : Fields) → NameFollows o n verb (FieldFollows o n verb path) l bits (shape nid w p u fs) (shape nid' w' p' u' fs')
+        → (c d : Cell) → SameCell c d → WritesName o verb path l (shape nid w p u fs) c → WritesName n verb path l (shape nid' w' p' u' fs') d
+        → Agree bits c (edit_named (edit_field o path verb) l u fs c) (edit_named (edit_field n path verb) l u' fs' d)
+    named l bits nid w p nid' w' p' u u' fs fs' follows c d same k k' = by (find_name o verb path l nid w p u fs c k) (find_name n verb path l nid' w' p' u' fs' d k')
+      where
+        by : FoundName o verb path l fs c → FoundName n verb path l fs' d → Agree bits c (edit_named (edit_field o path verb) l u fs c) (edit_named (edit_field n path verb) l u' fs' d)
+        by (found_name m b e x) (found_name m' b' e' x') =
+            let f = follows m b m' b' e e' in
+            subst (λ z. Agree bits c (edit_target (edit_field o path verb) u z c) (edit_named (edit_field n path verb) l u' fs' d)) (sym e)
+            (subst (λ z. Agree bits c (edit_field o path verb u m b c) (edit_target (edit_field n path verb) u' z d)) (sym e') (fields bits u m u' m' b b' f.0 f.1 c d same x x'))
+
+    -- into a struct
+    in_cells : (l : List ℕ) (nid w p nid' w' p' : ℕ) (u u' : Option ℕ) (fs fs' : Fields) → NameFollows o n verb (FieldFollows o n verb path) l (64 * w) (shape nid w p u fs) (shape nid' w' p' u' fs') → (x y : ℕ) → w ≤ x → w ≤ y
+        → (c d : Cell) → SameCell c d → c.section < 2 ^ (64 * x) → c.section < 2 ^ (64 * y) → WritesName o verb path l (shape nid w p u fs) c → WritesName n verb path l (shape nid' w' p' u' fs') d
+        → let e : Cell = edit_named (edit_field o path verb) l u fs c in let e' : Cell = edit_named (edit_field n path verb) l u' fs' d in Alike (structure x e.section e.kids) (structure y e'.section e'.kids)
+    in_cells l nid w p nid' w' p' u u' fs fs' follows x y le le' c d same small small' k k' =
+        let a = named l (64 * w) nid w p nid' w' p' u u' fs fs' follows c d same k k' in
+        alike-structure x y _ _ _ _ a.same.sections a.same.kids (a.within (64 * x) (omega arith) small) (a.within (64 * y) (omega arith) small') a.same.whole a.same.whole'
+
+    into_structs : (l : List ℕ) (i j : ℕ) (g g' : Shape) → o.shape_of i ≡ g → n.shape_of j ≡ g' → NameFollows o n verb (FieldFollows o n verb path) l (64 * shape_words g) g g' → shape_words g ≤ shape_words g' → (t t' : Tree) → Alike t t'
+        → WritesStruct o verb path l i t → WritesStruct n verb path l j t' → Alike (edit_struct (edit_field o path verb) l g t) (edit_struct (edit_field n path verb) l g' t')
+    unfolding record_by_shape trim
+    into_structs l i j (shape nid w p u fs) (shape nid' w' p' u' fs') e e' follows le null null a k k' =
+        in_cells l nid w p nid' w' p' u u' fs fs' follows w w' (omega arith) le (record { section = 0; kids = resized p none }) (record { section = 0; kids = resized p' none })
+        (record { sections = refl; kids = bare_nulls p ∙ sym (bare_nulls p'); whole = whole-resized p none tt; whole' = whole-resized p' none tt }) (pow_pos (64 * w)) (pow_pos (64 * w'))
+        (record { size = whole_words; section = 0; kids = no_children; reads = reads-nothing o p; wrote = subst (λ g. Wrote (on_name (step_field o path verb) l (fields_in g) (record_by_shape o g null))) e k.wrote })
+        (record { size = whole_words; section = 0; kids = no_children; reads = reads-nothing n p'; wrote = subst (λ g. Wrote (on_name (step_field n path verb) l (fields_in g) (record_by_shape n g null))) e' k'.wrote })
+    into_structs l i j (shape nid w p u fs) (shape nid' w' p' u' fs') e e' follows le (structure x m ts) t' a k k' = by t' (struct-like x m ts t' a) k'
+      where
+        by : (t' : Tree) → IsStructLike x m ts t' → WritesStruct n verb path l j t' → Alike (edit_struct (edit_field o path verb) l (shape nid w p u fs) (structure x m ts)) (edit_struct (edit_field n path verb) l (shape nid' w' p' u' fs') t')
+        by t' (struct_like y us kids small small' wholes wholes') k' =
+            in_cells l nid w p nid' w' p' u u' fs fs' follows (max w x) (max w' y) (omega arith) (omega arith) (record { section = m; kids = padded_to p ts }) (record { section = m; kids = padded_to p' us })
+            (record { sections = refl; kids = bare-padded_to p ts ∙ kids ∙ sym (bare-padded_to p' us); whole = whole-padded_to p ts wholes; whole' = whole-padded_to p' us wholes' })
+            (wider m (64 * x) (64 * max w x) (omega arith) small) (wider m (64 * y) (64 * max w' y) (omega arith) small')
+            (record { size = whole_words; section = m; kids = read_child o ts; reads = reads-padded o p ts; wrote = subst (λ g. Wrote (on_name (step_field o path verb) l (fields_in g) (record_by_shape o g (structure x m ts)))) e k.wrote })
+            (record { size = whole_words; section = m; kids = read_child n us; reads = reads-padded n p' us; wrote = subst (λ g. Wrote (on_name (step_field n path verb) l (fields_in g) (record_by_shape n g (structure y m us)))) e' k'.wrote })
+    into_structs l i j g g' e e' follows le null (structure y m us) a k k' = absurd (cc (a.trims))
+    into_structs l i j g g' e e' follows le null t' a k k' = absurd (k'.open')
+    into_structs l i j g g' e e' follows le t t' a k k' = absurd (k.open')
+
+    -- into a list
+
+    not_struct : (s : Schema) (ty : Ty) (t : Tree) → is_struct_type ty ≡ false → as_list s ty t ≡ t
+    not_struct s void t e = refl
+    not_struct s (plain p) t e = refl
+    not_struct s text t e = refl
+    not_struct s blob t e = refl
+    not_struct s untyped t e = refl
+    not_struct s interface t e = refl
+    not_struct s (struct i) t e = absurd (cc e)
+    not_struct s (list ty) t e = refl
+
+    same_sort : (ty ty' : Ty) → Related o n AnyPair ty ty' → is_struct_type ty ≡ is_struct_type ty'
+    same_sort ty ty' related_void = refl
+    same_sort ty ty' (related_plain' r) = refl
+    same_sort ty ty' related_text = refl
+    same_sort ty ty' related_blob = refl
+    same_sort ty ty' related_untyped = refl
+    same_sort ty ty' related_interface = refl
+    same_sort ty ty' (related_struct r) = refl
+    same_sort ty ty' (related_list r) = refl
+
+    -- elements have the bits that are written
+    roomy : (s : Schema) (ty : Ty) (w q : ℕ) (es : Elements) → is_struct_type ty ≡ false → IsNarrow ty → is_list_of (struct_list w q es) ty ≡ true → element_bits s ty ≤ 64 * w
+    roomy s void w q es e k h = omega arith
+    roomy s (plain p) w q es e k h = has_a_word p w q k h
+    roomy s text w q es e k h = omega arith
+    roomy s blob w q es e k h = omega arith
+    roomy s untyped w q es e k h = omega arith
+    roomy s interface w q es e k h = omega arith
+    roomy s (struct i) w q es e k h = absurd (cc e)
+    roomy s (list ty) w q es e k h = omega arith
+
+    same_bits : (ty ty' : Ty) → Related o n AnyPair ty ty' → is_struct_type ty ≡ false → IsNarrow ty → (element_bits o ty ≡ element_bits n ty') × IsNarrow ty'
+    same_bits ty ty' related_void e k = (refl, tt)
+    same_bits ty ty' (related_plain' same_bool) e k = (refl, k)
+    same_bits ty ty' (related_plain' (same_int w)) e k = (refl, k)
+    same_bits ty ty' (related_plain' (same_uint w)) e k = (refl, k)
+    same_bits ty ty' (related_plain' (same_enum i j)) e k = (refl, k)
+    same_bits ty ty' related_text e k = (refl, tt)
+    same_bits ty ty' related_blob e k = (refl, tt)
+    same_bits ty ty' related_untyped e k = (refl, tt)
+    same_bits ty ty' related_interface e k = (refl, tt)
+    same_bits ty ty' (related_struct r) e k = absurd (cc e)
+    same_bits ty ty' (related_list r) e k = (refl, tt)
+
+    module _ (ty ty' : Ty) (r : Related o n AnyPair ty ty') (follows : ElementFollows o n verb path ty ty') where
+      agree : (w p v q : ℕ) (c d : Cell) → SameCell c d → WritesElement o verb path ty c → WritesElement n verb path ty' d → Agree (element_bits o ty) c (edit_element o path verb ty w p c) (edit_element n path verb ty' v q d)
+      agree w p v q c d s k l = elements ty ty' r follows w p v q c d s k l
+
+      other_lists : (k : ℕ) (t t' : Tree) → is_struct_type ty ≡ false → IsNarrow ty → Alike t t' → WritesList o verb path k ty t → WritesList n verb path k ty' t'
+          → Alike (edit_list (edit_element o path verb ty) k t) (edit_list (edit_element n path verb ty') k t')
+      other_lists k (plain_list z m x) t' e narrow a h h' =
+          let is : t' ≡ plain_list z m x = plain-like z m x t' a in
+          let there : WritesList n verb path k ty' (plain_list z m x) = subst (λ y. WritesList n verb path k ty' y) is h' in
+          subst (λ y. Alike (edit_list (edit_element o path verb ty) k (plain_list z m x)) (edit_list (edit_element n path verb ty') k y)) (sym is)
+          (edited-plain (WritesElement o verb path ty) (WritesElement n verb path ty') (element_bits o ty) (edit_element o path verb ty) (edit_element n path verb ty') agree k z m x
+          (at-plain o verb path ty (size_bits z) k _ h.1) (at-plain n verb path ty' (size_bits z) k _ there.1))
+      other_lists k (pointer_list ts) t' e narrow a h h' = by t' (pointers-like ts t' a) h'
+        where
+          by : (t' : Tree) → IsPointersLike ts t' → WritesList n verb path k ty' t' → Alike (edit_list (edit_element o path verb ty) k (pointer_list ts)) (edit_list (edit_element n path verb ty') k t')
+          by t' (pointers_like us s) h' =
+              edited-pointers (WritesElement o verb path ty) (WritesElement n verb path ty') (element_bits o ty) (edit_element o path verb ty) (edit_element n path verb ty') agree k ts us
+              (at-child o verb path ty k ts h.1) (at-child n verb path ty' k us h'.1) s
+      other_lists k (struct_list w p es) t' e narrow a h h' = by t' (list-like w p es t' a) h'
+        where
+          by : (t' : Tree) → IsListLike w es t' → WritesList n verb path k ty' t' → Alike (edit_list (edit_element o path verb ty) k (struct_list w p es)) (edit_list (edit_element n path verb ty') k t')
+          by t' (list_like v q es' s x y) h' =
+              let newer = same_bits ty ty' r e narrow in
+              let room = roomy n ty' v q es' (sym (same_sort ty ty' r) ∙ e) newer.1 h'.0 in
+              let sizes = newer.0 in
+              edited-structs (WritesElement o verb path ty) (WritesElement n verb path ty') (element_bits o ty) (edit_element o path verb ty) (edit_element n path verb ty') agree k w p v q es es'
+              (roomy o ty w p es e narrow h.0) (omega arith) (at-element o verb path ty k es h.1) (at-element n verb path ty' k es' h'.1) s x y
+      other_lists k null t' e narrow a h h' = absurd h
+      other_lists k (capability i) t' e narrow a h h' = absurd h
+      other_lists k (structure w m ts) t' e narrow a h h' = absurd h
+
+      other_list : (k : ℕ) (t t' : Tree) → is_struct_type ty ≡ false → IsNarrow ty → Alike t t' → WritesList o verb path k ty t → WritesList n verb path k ty' t'
+          → Alike (edit_list (edit_element o path verb ty) k (as_list o ty t)) (edit_list (edit_element n path verb ty') k (as_list n ty' t'))
+      other_list k t t' e narrow a h h' =
+          subst (λ z. Alike (edit_list (edit_element o path verb ty) k z) (edit_list (edit_element n path verb ty') k (as_list n ty' t'))) (sym (not_struct o ty t e))
+          (subst (λ z. Alike (edit_list (edit_element o path verb ty) k t) (edit_list (edit_element n path verb ty') k z)) (sym (not_struct n ty' t' (sym (same_sort ty ty' r) ∙ e))) (other_lists k t t' e narrow a h h'))
