@@ -8,7 +8,7 @@ use Rattle.capnp_model.specs.Readings.{Reading, number, record_as, no_children, 
 use Rattle.capnp_model.specs.Printing.{fields_in}
 use Rattle.capnp_model.specs.Calls.{Step, name, index, Verb}
 use Rattle.capnp_model.specs.Steps.{target, target_of, on_name, opened, through_value, through_field, step_field, step_element}
-use Rattle.capnp_model.specs.Edits.{Cell, Edit, mark, edit_target, edit_named, edit_struct, as_list, edit_list, edit_value, edit_through, edit_through_element, edit_field, edit_element, opened_tree, put_field}
+use Rattle.capnp_model.specs.Edits.{Cell, Edit, mark, edit_target, edit_named, edit_struct, widened_list, as_list, edit_list, edit_value, edit_through, edit_through_element, edit_field, edit_element, opened_tree, put_child, put_field}
 use Rattle.capnp_model.specs.Admitted.{is_group_write, is_set, is_struct_type}
 use Rattle.capnp_model.proofs.Numbers.{wider}
 use Rattle.capnp_model.proofs.Widening.{bare, bare-padded_to}
@@ -210,3 +210,92 @@ module _ (o n : Schema) (verb : Verb) (whole : IsWholeVerb verb) where
       other_list k t t' e narrow a h h' =
           subst (λ z. Alike (edit_list (edit_element o path verb ty) k z) (edit_list (edit_element n path verb ty') k (as_list n ty' t'))) (sym (not_struct o ty t e))
           (subst (λ z. Alike (edit_list (edit_element o path verb ty) k t) (edit_list (edit_element n path verb ty') k z)) (sym (not_struct n ty' t' (sym (same_sort ty ty' r) ∙ e))) (other_lists k t t' e narrow a h h'))
+
+    struct_lists : (i j k : ℕ) (g g' : Shape) → o.shape_of i ≡ g → n.shape_of j ≡ g' → ElementFollows o n verb path (struct i) (struct j) → shape_words g ≤ shape_words g' → (t t' : Tree) → Alike t t'
+        → WritesList o verb path k (struct i) t → WritesList n verb path k (struct j) t'
+        → Alike (edit_list (edit_element o path verb (struct i)) k (widened_list g t)) (edit_list (edit_element n path verb (struct j)) k (widened_list g' t'))
+    struct_lists i j k (shape nid w p u fs) (shape nid' w' p' u' fs') e e' follows le (plain_list z m x) t' a h h' =
+        let is : t' ≡ plain_list z m x = plain-like z m x t' a in
+        let there : WritesList n verb path k (struct j) (plain_list z m x) = subst (λ y. WritesList n verb path k (struct j) y) is h' in
+        let words : shape_words (o.shape_of i) ≡ w = ap shape_words e in
+        subst (λ y. Alike (edit_list (edit_element o path verb (struct i)) k (widened_list (shape nid w p u fs) (plain_list z m x))) (edit_list (edit_element n path verb (struct j)) k (widened_list (shape nid' w' p' u' fs') y))) (sym is)
+        (widened-plain (WritesElement o verb path (struct i)) (WritesElement n verb path (struct j)) (element_bits o (struct i)) (edit_element o path verb (struct i)) (edit_element n path verb (struct j)) (agree (struct i) (struct j) (related_struct tt) follows) k w w' p p' z m x (omega arith) le
+        (at-plain-element o verb path (struct i) (size_bits z) p k _ h.1) (at-plain-element n verb path (struct j) (size_bits z) p' k _ there.1))
+    struct_lists i j k (shape nid w p u fs) (shape nid' w' p' u' fs') e e' follows le (pointer_list ts) t' a h h' = by t' (pointers-like ts t' a) h'
+      where
+        by : (t' : Tree) → IsPointersLike ts t' → WritesList n verb path k (struct j) t' → Alike (edit_list (edit_element o path verb (struct i)) k (widened_list (shape nid w p u fs) (pointer_list ts))) (edit_list (edit_element n path verb (struct j)) k (widened_list (shape nid' w' p' u' fs') t'))
+        by t' (pointers_like us s) h' =
+            let words : shape_words (o.shape_of i) ≡ w = ap shape_words e in
+            widened-pointers (WritesElement o verb path (struct i)) (WritesElement n verb path (struct j)) (element_bits o (struct i)) (edit_element o path verb (struct i)) (edit_element n path verb (struct j)) (agree (struct i) (struct j) (related_struct tt) follows) k w w' p p' ts us (omega arith) le s
+            (at-pointer-element o verb path (struct i) p k ts h.1) (at-pointer-element n verb path (struct j) p' k us h'.1)
+    struct_lists i j k (shape nid w p u fs) (shape nid' w' p' u' fs') e e' follows le (struct_list x y es) t' a h h' = by t' (list-like x y es t' a) h'
+      where
+        by : (t' : Tree) → IsListLike x es t' → WritesList n verb path k (struct j) t' → Alike (edit_list (edit_element o path verb (struct i)) k (widened_list (shape nid w p u fs) (struct_list x y es))) (edit_list (edit_element n path verb (struct j)) k (widened_list (shape nid' w' p' u' fs') t'))
+        by t' (list_like v q es' s c d) h' =
+            let words : shape_words (o.shape_of i) ≡ w = ap shape_words e in
+            widened-structs (WritesElement o verb path (struct i)) (WritesElement n verb path (struct j)) (element_bits o (struct i)) (edit_element o path verb (struct i)) (edit_element n path verb (struct j)) (agree (struct i) (struct j) (related_struct tt) follows) k w w' p p' x y v q es es' (omega arith) le s c d
+            (at-padded-element o verb path (struct i) p k es h.1) (at-padded-element n verb path (struct j) p' k es' h'.1)
+    struct_lists i j k g g' e e' follows le null t' a h h' = absurd h
+    struct_lists i j k g g' e e' follows le (capability x) t' a h h' = absurd h
+    struct_lists i j k g g' e e' follows le (structure w m ts) t' a h h' = absurd h
+
+    -- ---- through a pointer
+
+    opened_alike : (ty ty' : Ty) (d t t' : Tree) → Alike t t' → IsWhole d → Alike (opened_tree ty d t) (opened_tree ty' d t')
+    unfolding trim
+    opened_alike ty ty' d null null a h = record { trims = refl; whole = h; whole' = h }
+    opened_alike ty ty' d null (capability i) a h = absurd (cc (a.trims))
+    opened_alike ty ty' d null (structure w m ts) a h = absurd (cc (a.trims))
+    opened_alike ty ty' d null (plain_list z m x) a h = absurd (cc (a.trims))
+    opened_alike ty ty' d null (pointer_list ts) a h = absurd (cc (a.trims))
+    opened_alike ty ty' d null (struct_list w p es) a h = absurd (cc (a.trims))
+    opened_alike ty ty' d (capability i) null a h = absurd (cc (a.trims))
+    opened_alike ty ty' d (structure w m ts) null a h = absurd (cc (a.trims))
+    opened_alike ty ty' d (plain_list z m x) null a h = absurd (cc (a.trims))
+    opened_alike ty ty' d (pointer_list ts) null a h = absurd (cc (a.trims))
+    opened_alike ty ty' d (struct_list w p es) null a h = absurd (cc (a.trims))
+    opened_alike ty ty' d t t' a h = a
+
+    into_value : (st : Step) (ty ty' : Ty) → Related o n AnyPair ty ty' → ValueFollows o n verb st (FieldFollows o n verb path) (ElementFollows o n verb path) ty ty' → (d t t' : Tree) → IsWhole d → Alike t t'
+        → Wrote (through_value o st (step_field o path verb) (step_element o path verb) ty (opened o ty d (read o t ty))) → Wrote (through_value n st (step_field n path verb) (step_element n path verb) ty' (opened n ty' d (read n t' ty')))
+        → Alike (edit_value o st (edit_field o path verb) (edit_element o path verb) ty (opened_tree ty d t)) (edit_value n st (edit_field n path verb) (edit_element n path verb) ty' (opened_tree ty' d t'))
+    into_value (name l) ty ty' (related_struct {i = i} {j = j} r) follows d t t' h a k k' =
+        into_structs l i j (o.shape_of i) (n.shape_of j) refl refl follows.0 follows.1 (opened_tree (struct i) d t) (opened_tree (struct j) d t') (opened_alike (struct i) (struct j) d t t' a h) (into_struct o verb path l i d t k) (into_struct n verb path l j d t' k')
+    into_value (name l) ty ty' related_void follows d t t' h a k k' = absurd (no-name o verb path l void _ (λ id e. cc e) k)
+    into_value (name l) ty ty' (related_plain' {p = p} r) follows d t t' h a k k' = absurd (no-name o verb path l (plain p) _ (λ id e. cc e) k)
+    into_value (name l) ty ty' related_text follows d t t' h a k k' = absurd (no-name o verb path l text _ (λ id e. cc e) k)
+    into_value (name l) ty ty' related_blob follows d t t' h a k k' = absurd (no-name o verb path l blob _ (λ id e. cc e) k)
+    into_value (name l) ty ty' related_untyped follows d t t' h a k k' = absurd (no-name o verb path l untyped _ (λ id e. cc e) k)
+    into_value (name l) ty ty' related_interface follows d t t' h a k k' = absurd (no-name o verb path l interface _ (λ id e. cc e) k)
+    into_value (name l) ty ty' (related_list {a = x} r) follows d t t' h a k k' = absurd (no-name o verb path l (list x) _ (λ id e. cc e) k)
+    into_value (index i) ty ty' (related_list {a = x} {b = y} r) follows d t t' h a k k' =
+        listed x y r follows (opened_tree (list x) d t) (opened_tree (list y) d t') (opened_alike (list x) (list y) d t t' a h) (into_list o verb path i x d t k) (into_list n verb path i y d t' k')
+      where
+        listed : (x y : Ty) → Related o n AnyPair x y → ElementFollows o n verb path x y × HasWords o n verb x y × IsNarrow x → (t t' : Tree) → Alike t t' → WritesList o verb path i x t → WritesList n verb path i y t'
+            → Alike (edit_list (edit_element o path verb x) i (as_list o x t)) (edit_list (edit_element n path verb y) i (as_list n y t'))
+        listed x y (related_struct {i = z} {j = z'} r) f t t' a k k' = struct_lists z z' i (o.shape_of z) (n.shape_of z') refl refl f.0 f.1 t t' a k k'
+        listed x y related_void f t t' a k k' = other_list void void related_void f.0 i t t' refl tt a k k'
+        listed x y (related_plain' {p = p} {q = q} r) f t t' a k k' = other_list (plain p) (plain q) (related_plain' r) f.0 i t t' refl f.2 a k k'
+        listed x y related_text f t t' a k k' = other_list text text related_text f.0 i t t' refl tt a k k'
+        listed x y related_blob f t t' a k k' = other_list blob blob related_blob f.0 i t t' refl tt a k k'
+        listed x y related_untyped f t t' a k k' = other_list untyped untyped related_untyped f.0 i t t' refl tt a k k'
+        listed x y related_interface f t t' a k k' = other_list interface interface related_interface f.0 i t t' refl tt a k k'
+        listed x y (related_list {a = v} {b = w} r) f t t' a k k' = other_list (list v) (list w) (related_list r) f.0 i t t' refl tt a k k'
+    into_value (index i) ty ty' related_void follows d t t' h a k k' = absurd (no-index o verb path i void _ (λ x e. cc e) k)
+    into_value (index i) ty ty' (related_plain' {p = p} r) follows d t t' h a k k' = absurd (no-index o verb path i (plain p) _ (λ x e. cc e) k)
+    into_value (index i) ty ty' related_text follows d t t' h a k k' = absurd (no-index o verb path i text _ (λ x e. cc e) k)
+    into_value (index i) ty ty' related_blob follows d t t' h a k k' = absurd (no-index o verb path i blob _ (λ x e. cc e) k)
+    into_value (index i) ty ty' related_untyped follows d t t' h a k k' = absurd (no-index o verb path i untyped _ (λ x e. cc e) k)
+    into_value (index i) ty ty' related_interface follows d t t' h a k k' = absurd (no-index o verb path i interface _ (λ x e. cc e) k)
+    into_value (index i) ty ty' (related_struct {i = z} r) follows d t t' h a k k' = absurd (no-index o verb path i (struct z) _ (λ x e. cc e) k)
+
+    -- ---- through a field
+
+    kids_alike : (c d : Cell) (i : ℕ) → SameCell c d → Alike (child c.kids i) (child d.kids i)
+    kids_alike c d i s = alike-child c d i s
+
+    at_pointer : (st : Step) (bits i : ℕ) (ty ty' : Ty) (x : Tree) → Related o n AnyPair ty ty' → IsWhole x → ValueFollows o n verb st (FieldFollows o n verb path) (ElementFollows o n verb path) ty ty' → (c d : Cell) → SameCell c d
+        → Wrote (through_value o st (step_field o path verb) (step_element o path verb) ty (opened o ty x (read o (child c.kids i) ty))) → Wrote (through_value n st (step_field n path verb) (step_element n path verb) ty' (opened n ty' x (read n (child d.kids i) ty')))
+        → Agree bits c (put_child i (edit_value o st (edit_field o path verb) (edit_element o path verb) ty (opened_tree ty x (child c.kids i))) c) (put_child i (edit_value n st (edit_field n path verb) (edit_element n path verb) ty' (opened_tree ty' x (child d.kids i))) d)
+    at_pointer st bits i ty ty' x r h follows c d s k k' =
+        agree-more 0 bits c _ _ (omega arith) (agree-put_child i _ _ c d (into_value st ty ty' r follows x (child c.kids i) (child d.kids i) h (alike-child c d i s) k k') s)
