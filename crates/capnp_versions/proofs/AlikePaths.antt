@@ -4,7 +4,7 @@ use Rattle.std.proofs.lemmas.Nat.{pow_pos}
 use Rattle.capnp_model.specs.Trees.{Tree, null, capability, structure, plain_list, pointer_list, struct_list, Trees, none, ◌▸◌, Elements, child, resized, padded_to, size_bits, size_of_width}
 use Rattle.capnp_model.specs.Trimming.{trim}
 use Rattle.capnp_model.specs.Schemas.{PlainType, width, Ty, void, plain, text, blob, untyped, interface, struct, list, Shape, shape, Fields, Body, void_slot, plain_slot, pointer_slot, group_slot, Schema, default_or_null}
-use Rattle.capnp_model.specs.Readings.{Reading, number, record_as, no_children, whole_words, shape_record, only_if, body_of, element_as, read, read_child, record_by_shape, expected_size, have_room, is_list_of}
+use Rattle.capnp_model.specs.Readings.{Children, Reading, inactive, number, record_as, no_children, whole_words, shape_record, only_if, body_of, element_as, read, read_child, record_by_shape, expected_size, have_room, is_list_of}
 use Rattle.capnp_model.specs.Printing.{fields_in}
 use Rattle.capnp_model.specs.Calls.{Step, name, index, Verb}
 use Rattle.capnp_model.specs.Steps.{target, target_of, on_name, opened, through_value, through_field, step_field, step_element}
@@ -22,7 +22,7 @@ use Rattle.capnp_versions.proofs.SameShapes.{Congruent, no_change, AnyPair, Same
 use Rattle.capnp_versions.proofs.SameContents.{IsWrite, shape_words, element_bits, bare_nulls, congruent-field, congruent-element}
 use Rattle.capnp_versions.proofs.Wrote.{Wrote, wrote-map, field-is-write, element-is-write, group-is-write, WritesField, WritesElement, WritesName, FoundName, found_name, find_name, WritesStruct, into_struct, WritesList, into_list, no-name, no-index, through-pointer, reads-nothing, reads-padded}
 use Rattle.capnp_versions.proofs.WroteLists.{at-plain, at-plain-element, at-child, at-pointer-element, at-element, at-padded-element}
-use Rattle.capnp_versions.proofs.Follows.{SameMark, IsNarrow, HasWords, NameFollows, ValueFollows, ThroughFollows, EndFollows, FieldFollows, ElementFollows}
+use Rattle.capnp_versions.proofs.Follows.{SameMark, IsNarrow, HasWords, NameFollows, ValueFollows, PointerFollows, ThroughFollows, EndFollows, FieldFollows, ElementFollows}
 use Rattle.capnp_versions.proofs.AlikeLists.{plain-like, IsPointersLike, pointers_like, pointers-like, edited-structs, widened-plain, widened-pointers, widened-structs, edited-plain, edited-pointers}
 
 congruent_marks : (bits : ℕ) (u m u' m' : Option ℕ) → SameMark bits u m u' m' → Congruent bits (mark u m) (mark u' m')
@@ -299,3 +299,156 @@ module _ (o n : Schema) (verb : Verb) (whole : IsWholeVerb verb) where
         → Agree bits c (put_child i (edit_value o st (edit_field o path verb) (edit_element o path verb) ty (opened_tree ty x (child c.kids i))) c) (put_child i (edit_value n st (edit_field n path verb) (edit_element n path verb) ty' (opened_tree ty' x (child d.kids i))) d)
     at_pointer st bits i ty ty' x r h follows c d s k k' =
         agree-more 0 bits c _ _ (omega arith) (agree-put_child i _ _ c d (into_value st ty ty' r follows x (child c.kids i) (child d.kids i) h (alike-child c d i s) k k') s)
+
+    group_writes : (s : Schema) (l : List ℕ) (g : Shape) (c : Cell) → WritesField s verb (name l ∷ path) (group_slot g) c → WritesName s verb path l g c
+    unfolding step_field body_of
+    group_writes s l g c k = by k.active k.wrote
+      where
+        by : (b : Bool) → Wrote (through_field s (name l) (step_field s path verb) (step_element s path verb) (group_slot g) (only_if b (record_as (shape_record g k.size k.section k.kids)))) → WritesName s verb path l g c
+        by true h = record { size = k.size; section = k.section; kids = k.kids; reads = k.reads; wrote = wrote-map record_as _ h }
+        by false h = absurd h
+
+    pointer_reads : (s : Schema) (st : Step) (i : ℕ) (ty : Ty) (d : Option Tree) (c : Cell) → WritesField s verb (st ∷ path) (pointer_slot i ty d) c
+        → Wrote (through_value s st (step_field s path verb) (step_element s path verb) ty (opened s ty (default_or_null d) (read s (child c.kids i) ty)))
+    unfolding step_field body_of
+    pointer_reads s st i ty d c k = by k.active k.wrote
+      where
+        none_active : (st : Step) → Wrote (through_field s st (step_field s path verb) (step_element s path verb) (pointer_slot i ty d) inactive) → ⊥
+        none_active (name l) h = h
+        none_active (index j) h = h
+
+        by : (b : Bool) → Wrote (through_field s st (step_field s path verb) (step_element s path verb) (pointer_slot i ty d) (only_if b (k.kids i ty)))
+            → Wrote (through_value s st (step_field s path verb) (step_element s path verb) ty (opened s ty (default_or_null d) (read s (child c.kids i) ty)))
+        by true h = subst (λ z. Wrote (through_value s st (step_field s path verb) (step_element s path verb) ty (opened s ty (default_or_null d) z))) (k.reads i ty) (through-pointer s verb path st i ty d (k.kids i ty) h)
+        by false h = absurd (none_active st h)
+
+    no_step : (s : Schema) (st : Step) (c : Cell) → ((i : ℕ) → WritesField s verb (st ∷ path) (void_slot i) c → ⊥) × ((p : PlainType) (at d : ℕ) → WritesField s verb (st ∷ path) (plain_slot p at d) c → ⊥)
+    unfolding step_field body_of
+    no_step s st c = ((λ i k. void_step st i k.active k.wrote), (λ p at d k. plain_step st p at d k.active _ k.wrote))
+      where
+        void_step : (st : Step) (i : ℕ) (b : Bool) → Wrote (through_field s st (step_field s path verb) (step_element s path verb) (void_slot i) (only_if b (number 0))) → ⊥
+        void_step (name l) i true h = h
+        void_step (name l) i false h = h
+        void_step (index j) i true h = h
+        void_step (index j) i false h = h
+
+        plain_step : (st : Step) (p : PlainType) (at d : ℕ) (b : Bool) (x : ℕ) → Wrote (through_field s st (step_field s path verb) (step_element s path verb) (plain_slot p at d) (only_if b (number x))) → ⊥
+        plain_step (name l) p at d true x h = h
+        plain_step (name l) p at d false x h = h
+        plain_step (index j) p at d true x h = h
+        plain_step (index j) p at d false x h = h
+
+    no_group_index : (s : Schema) (j : ℕ) (g : Shape) (c : Cell) → WritesField s verb (index j ∷ path) (group_slot g) c → ⊥
+    unfolding step_field body_of
+    no_group_index s j g c k = by k.active k.wrote
+      where
+        by : (b : Bool) → Wrote (through_field s (index j) (step_field s path verb) (step_element s path verb) (group_slot g) (only_if b (record_as (shape_record g k.size k.section k.kids)))) → ⊥
+        by true h = h
+        by false h = h
+
+    through_pointer : (st : Step) (bits i j : ℕ) (ty ty' : Ty) (d d' : Option Tree) → PointerFollows o n verb st (FieldFollows o n verb path) (ElementFollows o n verb path) bits i j ty ty' d d' → (c e : Cell) → SameCell c e
+        → WritesField o verb (st ∷ path) (pointer_slot i ty d) c → WritesField n verb (st ∷ path) (pointer_slot j ty' d') e
+        → Agree bits c (put_child i (edit_value o st (edit_field o path verb) (edit_element o path verb) ty (opened_tree ty (default_or_null d) (child c.kids i))) c)
+        (put_child j (edit_value n st (edit_field n path verb) (edit_element n path verb) ty' (opened_tree ty' (default_or_null d') (child e.kids j))) e)
+    through_pointer st bits i j ty ty' d d' follows c e s k k' =
+        let there = pointer_reads n st j ty' d' e k' in
+        let moved = subst (λ z. Wrote (through_value n st (step_field n path verb) (step_element n path verb) ty' (opened n ty' (default_or_null d') (read n (child e.kids z) ty')))) (sym follows.0) there in
+        let known = subst (λ z. Wrote (through_value n st (step_field n path verb) (step_element n path verb) ty' (opened n ty' z (read n (child e.kids i) ty')))) (sym follows.2) moved in
+        subst
+        (λ z. Agree bits c (put_child i (edit_value o st (edit_field o path verb) (edit_element o path verb) ty (opened_tree ty (default_or_null d) (child c.kids i))) c)
+            (put_child z (edit_value n st (edit_field n path verb) (edit_element n path verb) ty' (opened_tree ty' (default_or_null d') (child e.kids z))) e))
+        follows.0
+        (subst
+        (λ z. Agree bits c (put_child i (edit_value o st (edit_field o path verb) (edit_element o path verb) ty (opened_tree ty (default_or_null d) (child c.kids i))) c)
+            (put_child i (edit_value n st (edit_field n path verb) (edit_element n path verb) ty' (opened_tree ty' z (child e.kids i))) e))
+        follows.2
+        (at_pointer st bits i ty ty' (default_or_null d) follows.1 follows.3 follows.4 c e s (pointer_reads o st i ty d c k) known))
+
+    through_agrees : (st : Step) → FieldAgrees (st ∷ path)
+    unfolding edit_field
+    through_agrees (name l) bits u m u' m' (group_slot (shape nid w p v fs)) (group_slot (shape nid' w' p' v' fs')) mark' follows c d s k k' =
+        named l bits nid w p nid' w' p' v v' fs fs' follows c d s (group_writes o l (shape nid w p v fs) c k) (group_writes n l (shape nid' w' p' v' fs') d k')
+    through_agrees (index i) bits u m u' m' (group_slot g) (group_slot g') mark' follows c d s k k' = absurd (no_group_index o i g c k)
+    through_agrees (name l) bits u m u' m' (pointer_slot i ty x) (pointer_slot j ty' x') mark' follows c d s k k' = through_pointer (name l) bits i j ty ty' x x' follows c d s k k'
+    through_agrees (index y) bits u m u' m' (pointer_slot i ty x) (pointer_slot j ty' x') mark' follows c d s k k' = through_pointer (index y) bits i j ty ty' x x' follows c d s k k'
+    through_agrees st bits u m u' m' (void_slot i) b' mark' follows c d s k k' = absurd ((no_step o st c).0 i k)
+    through_agrees st bits u m u' m' (plain_slot p at x) b' mark' follows c d s k k' = absurd ((no_step o st c).1 p at x k)
+    through_agrees (name l) bits u m u' m' b b' mark' follows c d s k k' = absurd follows
+    through_agrees (index i) bits u m u' m' b b' mark' follows c d s k k' = absurd follows
+
+    -- ---- through an element
+
+    element_reads : (s : Schema) (st : Step) (ty : Ty) (c : Cell) (kids : Children) → ((i : ℕ) (t : Ty) → kids i t ≡ read s (child c.kids i) t) → Wrote (through_value s st (step_field s path verb) (step_element s path verb) ty (opened s ty null (kids 0 ty)))
+        → Wrote (through_value s st (step_field s path verb) (step_element s path verb) ty (opened s ty null (read s (child c.kids 0) ty)))
+    element_reads s st ty c kids reads h = subst (λ z. Wrote (through_value s st (step_field s path verb) (step_element s path verb) ty (opened s ty null z))) (reads 0 ty) h
+
+    -- a null under no default stays null
+    null_default : (ty : Ty) (t : Tree) → opened_tree ty null t ≡ t
+    null_default ty null = refl
+    null_default ty (capability i) = refl
+    null_default ty (structure w m ts) = refl
+    null_default ty (plain_list z m x) = refl
+    null_default ty (pointer_list ts) = refl
+    null_default ty (struct_list w p es) = refl
+
+    pointer_element : (st : Step) (bits : ℕ) (ty ty' : Ty) → Related o n AnyPair ty ty' → ValueFollows o n verb st (FieldFollows o n verb path) (ElementFollows o n verb path) ty ty' → (c d : Cell) → SameCell c d
+        → Wrote (through_value o st (step_field o path verb) (step_element o path verb) ty (opened o ty null (read o (child c.kids 0) ty))) → Wrote (through_value n st (step_field n path verb) (step_element n path verb) ty' (opened n ty' null (read n (child d.kids 0) ty')))
+        → Agree bits c (put_child 0 (edit_value o st (edit_field o path verb) (edit_element o path verb) ty (child c.kids 0)) c) (put_child 0 (edit_value n st (edit_field n path verb) (edit_element n path verb) ty' (child d.kids 0)) d)
+    pointer_element st bits ty ty' r follows c d s k k' =
+        subst (λ z. Agree bits c (put_child 0 (edit_value o st (edit_field o path verb) (edit_element o path verb) ty z) c) (put_child 0 (edit_value n st (edit_field n path verb) (edit_element n path verb) ty' (child d.kids 0)) d)) (null_default ty (child c.kids 0))
+        (subst (λ z. Agree bits c (put_child 0 (edit_value o st (edit_field o path verb) (edit_element o path verb) ty (opened_tree ty null (child c.kids 0))) c) (put_child 0 (edit_value n st (edit_field n path verb) (edit_element n path verb) ty' z) d)) (null_default ty' (child d.kids 0))
+        (at_pointer st bits 0 ty ty' null r tt follows c d s k k'))
+
+    struct_element : (l : List ℕ) (i j : ℕ) (g g' : Shape) → o.shape_of i ≡ g → n.shape_of j ≡ g' → NameFollows o n verb (FieldFollows o n verb path) l (64 * shape_words g) g g' → (c d : Cell) → SameCell c d
+        → WritesName o verb path l g c → WritesName n verb path l g' d
+        → Agree (64 * shape_words g) c (elim g as (λ (x : Shape). Cell) [ shape nid w p union fs ↦ edit_named (edit_field o path verb) l union fs c ]) (elim g' as (λ (x : Shape). Cell) [ shape nid w p union fs ↦ edit_named (edit_field n path verb) l union fs d ])
+    struct_element l i j (shape nid w p u fs) (shape nid' w' p' u' fs') e e' follows c d s k k' = named l (64 * w) nid w p nid' w' p' u u' fs fs' follows c d s k k'
+
+    no_element_name : (s : Schema) (l : List ℕ) (ty : Ty) (c : Cell) → ((id : ℕ) → ty ≡ struct id → ⊥) → WritesElement s verb (name l ∷ path) ty c → ⊥
+    unfolding step_element
+    no_element_name s l ty c e h = no-name s verb path l ty (opened s ty null (element_as s ty h.size h.section h.kids)) e h.wrote
+
+    no_element_index : (s : Schema) (k : ℕ) (ty : Ty) (c : Cell) → ((x : Ty) → ty ≡ list x → ⊥) → WritesElement s verb (index k ∷ path) ty c → ⊥
+    unfolding step_element
+    no_element_index s k ty c e h = no-index s verb path k ty (opened s ty null (element_as s ty h.size h.section h.kids)) e h.wrote
+
+    element_name : (s : Schema) (l : List ℕ) (i : ℕ) (c : Cell) → WritesElement s verb (name l ∷ path) (struct i) c → WritesName s verb path l (s.shape_of i) c
+    unfolding step_element
+    element_name s l i c h = record { size = h.size; section = h.section; kids = h.kids; reads = h.reads; wrote = wrote-map record_as _ h.wrote }
+
+    through_element_agrees : (st : Step) → ElementAgrees (st ∷ path)
+    unfolding edit_element step_element
+    through_element_agrees (name l) ty ty' (related_struct {i = i} {j = j} r) follows w p v q c d s k k' =
+        struct_element l i j (o.shape_of i) (n.shape_of j) refl refl follows.0 c d s (element_name o l i c k) (element_name n l j d k')
+    through_element_agrees (index y) ty ty' (related_struct {i = i} {j = j} r) follows w p v q c d s k k' = absurd (no_element_index o y (struct i) c (λ x e. cc e) k)
+    through_element_agrees (name l) ty ty' related_void follows w p v q c d s k k' = absurd (no_element_name o l void c (λ id e. cc e) k)
+    through_element_agrees (index y) ty ty' related_void follows w p v q c d s k k' = absurd (no_element_index o y void c (λ x e. cc e) k)
+    through_element_agrees (name l) ty ty' (related_plain' {p = x} r) follows w p v q c d s k k' = absurd (no_element_name o l (plain x) c (λ id e. cc e) k)
+    through_element_agrees (index y) ty ty' (related_plain' {p = x} r) follows w p v q c d s k k' = absurd (no_element_index o y (plain x) c (λ x e. cc e) k)
+    through_element_agrees (name l) ty ty' related_text follows w p v q c d s k k' = absurd (no_element_name o l text c (λ id e. cc e) k)
+    through_element_agrees (index y) ty ty' related_text follows w p v q c d s k k' = absurd (no_element_index o y text c (λ x e. cc e) k)
+    through_element_agrees (name l) ty ty' related_blob follows w p v q c d s k k' = absurd (no_element_name o l blob c (λ id e. cc e) k)
+    through_element_agrees (index y) ty ty' related_blob follows w p v q c d s k k' = absurd (no_element_index o y blob c (λ x e. cc e) k)
+    through_element_agrees (name l) ty ty' related_untyped follows w p v q c d s k k' = absurd (no_element_name o l untyped c (λ id e. cc e) k)
+    through_element_agrees (index y) ty ty' related_untyped follows w p v q c d s k k' = absurd (no_element_index o y untyped c (λ x e. cc e) k)
+    through_element_agrees (name l) ty ty' related_interface follows w p v q c d s k k' = absurd (no_element_name o l interface c (λ id e. cc e) k)
+    through_element_agrees (index y) ty ty' related_interface follows w p v q c d s k k' = absurd (no_element_index o y interface c (λ x e. cc e) k)
+    through_element_agrees (name l) ty ty' (related_list {a = x} r) follows w p v q c d s k k' = absurd (no_element_name o l (list x) c (λ id e. cc e) k)
+    through_element_agrees (index y) ty ty' (related_list {a = a} {b = b} r) follows w p v q c d s k k' =
+        pointer_element (index y) 0 (list a) (list b) (related_list r) follows c d s (element_reads o (index y) (list a) c k.kids k.reads k.wrote) (element_reads n (index y) (list b) d k'.kids k'.reads k'.wrote)
+
+  -- THE LAW, from a field or an element on
+  mutual
+    pub fields_agree : (path : List Step) → FieldAgrees path
+    fields_agree [] = end_agrees
+    fields_agree (st ∷ path) = through_agrees path (fields_agree path) (elements_agree path) st
+
+    pub elements_agree : (path : List Step) → ElementAgrees path
+    elements_agree [] = element_end_agrees
+    elements_agree (st ∷ path) = through_element_agrees path (fields_agree path) (elements_agree path) st
+
+  -- and from the root on
+  pub structs_agree : (path : List Step) (l : List ℕ) (i j : ℕ) → NameFollows o n verb (FieldFollows o n verb path) l (64 * shape_words (o.shape_of i)) (o.shape_of i) (n.shape_of j) → shape_words (o.shape_of i) ≤ shape_words (n.shape_of j)
+      → (t t' : Tree) → Alike t t' → WritesStruct o verb path l i t → WritesStruct n verb path l j t'
+      → Alike (edit_struct (edit_field o path verb) l (o.shape_of i) t) (edit_struct (edit_field n path verb) l (n.shape_of j) t')
+  structs_agree path l i j follows le t t' a k k' = into_structs path (fields_agree path) (elements_agree path) l i j (o.shape_of i) (n.shape_of j) refl refl follows le t t' a k k'

@@ -1,5 +1,6 @@
 -- What two schemas must have in common along a path, so that a call does the same under both.
 use Rattle.std.proofs.Common.{◌≡◌, ℕ, ◌+◌, ◌*◌, ◌^◌, ◌<◌, ◌≤◌, Bool, true, false, ◌&&◌, List, [], ◌∷◌, Option, Some, None}
+use Rattle.capnp_model.specs.Trees.{Tree}
 use Rattle.capnp_model.specs.Schemas.{width, Ty, plain, struct, list, Shape, shape, Body, void_slot, plain_slot, pointer_slot, group_slot, Schema, default_or_null}
 use Rattle.capnp_model.specs.Calls.{Step, name, index, Verb}
 use Rattle.capnp_model.specs.Steps.{target, target_of}
@@ -36,14 +37,17 @@ module _ (o n : Schema) (verb : Verb) where
   ValueFollows (index k) F E (list ty) (list ty') = E ty ty' × HasWords ty ty' × IsNarrow ty
   ValueFollows st F E ty ty' = Unit {0}
 
+  -- through a pointer
+  abbrev pub PointerFollows : Step → (ℕ → Body → Body → Type 0) → (Ty → Ty → Type 0) → ℕ → ℕ → ℕ → Ty → Ty → Option Tree → Option Tree → Type 0
+  PointerFollows st F E bits i j ty ty' d d' = (i ≡ j) × SameType o n bits ty ty' × (default_or_null d ≡ default_or_null d') × IsWhole (default_or_null d) × ValueFollows st F E ty ty'
+
   -- through a field
   abbrev pub ThroughFollows : Step → (ℕ → Body → Body → Type 0) → (Ty → Ty → Type 0) → ℕ → Body → Body → Type 0
   ThroughFollows (name l) F E bits (group_slot g) (group_slot g') = NameFollows F l bits g g'
   ThroughFollows (index k) F E bits (group_slot g) (group_slot g') = Unit {0}
   ThroughFollows st F E bits (void_slot i) (void_slot j) = Unit {0}
   ThroughFollows st F E bits (plain_slot p at d) (plain_slot q at' d') = Unit {0}
-  ThroughFollows st F E bits (pointer_slot i ty d) (pointer_slot j ty' d') =
-      (i ≡ j) × SameType o n bits ty ty' × (default_or_null d ≡ default_or_null d') × IsWhole (default_or_null d) × ValueFollows st F E ty ty'
+  ThroughFollows st F E bits (pointer_slot i ty d) (pointer_slot j ty' d') = PointerFollows st F E bits i j ty ty' d d'
   ThroughFollows st F E bits b b' = ⊥
 
   -- at the end of a path
