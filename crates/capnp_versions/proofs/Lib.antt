@@ -1,0 +1,10 @@
+pub mod WholeValues
+pub mod Alike
+pub mod SameLists
+pub mod SameShapes
+pub mod SameContents
+pub mod Wrote
+pub mod WroteLists
+pub mod Follows
+pub mod AlikeLists
+pub mod AlikePaths
