@@ -8,3 +8,4 @@ pub mod WroteLists
 pub mod Follows
 pub mod AlikeLists
 pub mod AlikePaths
+pub mod FittingEdits
