@@ -8,3 +8,5 @@ pub mod WroteLists
 pub mod Follows
 pub mod AlikeLists
 pub mod AlikePaths
+pub mod Holders
+pub mod Within
