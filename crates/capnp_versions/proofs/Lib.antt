@@ -10,3 +10,5 @@ pub mod AlikeLists
 pub mod AlikePaths
 pub mod Holders
 pub mod Within
+pub mod SelfFollows
+pub mod TrimmedEdits
