@@ -12,3 +12,4 @@ pub mod Holders
 pub mod Within
 pub mod SelfFollows
 pub mod TrimmedEdits
+pub mod Partners
