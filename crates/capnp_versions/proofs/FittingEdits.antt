@@ -27,6 +27,7 @@ use Rattle.capnp_versions.proofs.SameContents.{IsWrite}
 use Rattle.capnp_versions.proofs.SameLists.{AtElement}
 use Rattle.capnp_versions.proofs.WroteLists.{AtPlain, AtChild, at-plain-element, at-child, at-pointer-element, at-element, at-padded-element}
 use Rattle.capnp_versions.proofs.Wrote.{Wrote, wrote-map, field-is-write, element-is-write, WritesField, WritesElement, WritesName, FoundName, found_name, find_name, WritesStruct, into_struct, WritesList, into_list, no-name, no-index, through-pointer, reads-padded, reads-nothing}
+use Rattle.capnp_versions.proofs.Within.{AllNarrow}
 use Rattle.capnp_versions.specs.Fitting.{NumbersFit, AllNumbersFit, ElementNumbersFit, HasShortLists, AllHaveShortLists, ElementsHaveShortLists, IsSpelledVerb}
 
 -- ---- the two parts of fitting
@@ -108,12 +109,6 @@ abbrev pub MemberFits : Option ℕ → Type 0
 MemberFits None = Unit {0}
 MemberFits (Some k) = k < 2 ^ 16
 
--- The plain types in a type are at most a word.
-abbrev pub HasNarrow : Ty → Type 0
-HasNarrow (plain p) = width p ≤ 64
-HasNarrow (list ty) = HasNarrow ty
-HasNarrow ty = Unit {0}
-
 abbrev mutual
   pub ShapeFits : ℕ → ℕ → Shape → Type 0
   ShapeFits words pointers (shape nid w p u fs) = UnionFits words u × FieldsFit words pointers fs
@@ -125,7 +120,7 @@ abbrev mutual
   pub BodyFits : ℕ → ℕ → Body → Type 0
   BodyFits words pointers (void_slot j) = Unit {0}
   BodyFits words pointers (plain_slot p at d) = (at + width p ≤ 64 * words) × (d < 2 ^ width p)
-  BodyFits words pointers (pointer_slot i ty d) = (i < pointers) × HasNarrow ty × NumbersFit (default_or_null d) × IsPointer ty
+  BodyFits words pointers (pointer_slot i ty d) = (i < pointers) × AllNarrow ty × NumbersFit (default_or_null d) × IsPointer ty
   BodyFits words pointers (group_slot g) = ShapeFits words pointers g
 
 abbrev pub words_of_shape : Shape → ℕ
@@ -830,7 +825,7 @@ pointer-room s ts interface n h = omega arith
 pointer-room s ts (struct id) n h = absurd n
 pointer-room s ts (list ty) n h = omega arith
 
-struct-room : (s : Schema) (w p : ℕ) (es : Elements) (ty : Ty) → NoStruct ty → HasNarrow ty → is_list_of (struct_list w p es) ty ≡ true → Room s w p ty
+struct-room : (s : Schema) (w p : ℕ) (es : Elements) (ty : Ty) → NoStruct ty → AllNarrow ty → is_list_of (struct_list w p es) ty ≡ true → Room s w p ty
 struct-room s w p es void n x h = tt
 struct-room s w p es (plain v) n x h = let g = a-word (width v) w p h in let l = x in omega arith
 struct-room s w p es text n x h = nat_le_is 1 p (and_right (nat_le 0 (64 * w)) (nat_le 1 p) h)
@@ -871,7 +866,7 @@ module _ (s : Schema) (fits : SchemaFits s) (verb : Verb) (spelled : IsSpelledVe
   FieldKeeps path = (u m : Option ℕ) (b : Body) (w q : ℕ) (c : Cell) → UnionFits w u → MemberFits m → BodyFits w q b → WritesField s verb path b c → Good w q c → Good w q (edit_field s path verb u m b c)
 
   abbrev ElementKeeps : List Step → Type 0
-  ElementKeeps path = (ty : Ty) (w q : ℕ) (c : Cell) → HasNarrow ty → Room s w q ty → WritesElement s verb path ty c → Good w q c → Good w q (edit_element s path verb ty w q c)
+  ElementKeeps path = (ty : Ty) (w q : ℕ) (c : Cell) → AllNarrow ty → Room s w q ty → WritesElement s verb path ty c → Good w q c → Good w q (edit_element s path verb ty w q c)
 
   module _ (path : List Step) (fields : FieldKeeps path) (elements : ElementKeeps path) where
     name-keeps : (l : List ℕ) (nid x y w q : ℕ) (u : Option ℕ) (fs : Fields) (c : Cell) → ShapeFits w q (shape nid x y u fs) → WritesName s verb path l (shape nid x y u fs) c → Good w q c → Good w q (edit_named (edit_field s path verb) l u fs c)
@@ -929,7 +924,7 @@ module _ (s : Schema) (fits : SchemaFits s) (verb : Verb) (spelled : IsSpelledVe
     structs-by k id g is f (capability i) h write = absurd write
     structs-by k id g is f (structure n x ts) h write = absurd write
 
-    others-by : (k : ℕ) (ty : Ty) → NoStruct ty → HasNarrow ty → (t : Tree) → NumbersFit t → WritesList s verb path k ty t → NumbersFit (edit_list (edit_element s path verb ty) k t)
+    others-by : (k : ℕ) (ty : Ty) → NoStruct ty → AllNarrow ty → (t : Tree) → NumbersFit t → WritesList s verb path k ty t → NumbersFit (edit_list (edit_element s path verb ty) k t)
     others-by k ty single narrow (plain_list z n x) h write = plain-list-fits (edit_element s path verb ty 1 0) k z n x h
     others-by k ty single narrow (pointer_list ts) h write =
         pointers-keep (WritesElement s verb path ty) (edit_element s path verb ty 0 1) (λ c writes good. elements ty 0 1 c narrow (pointer-room s ts ty single write.0) writes good) k ts (at-child s verb path ty k ts write.1) h
@@ -939,7 +934,7 @@ module _ (s : Schema) (fits : SchemaFits s) (verb : Verb) (spelled : IsSpelledVe
     others-by k ty single narrow (capability i) h write = absurd write
     others-by k ty single narrow (structure n x ts) h write = absurd write
 
-    list-fits : (k : ℕ) (ty : Ty) → HasNarrow ty → (t : Tree) → NumbersFit t → WritesList s verb path k ty t → NumbersFit (edit_list (edit_element s path verb ty) k (as_list s ty t))
+    list-fits : (k : ℕ) (ty : Ty) → AllNarrow ty → (t : Tree) → NumbersFit t → WritesList s verb path k ty t → NumbersFit (edit_list (edit_element s path verb ty) k (as_list s ty t))
     list-fits k void narrow t h write = others-by k void tt narrow t h write
     list-fits k (plain p) narrow t h write = others-by k (plain p) tt narrow t h write
     list-fits k text narrow t h write = others-by k text tt narrow t h write
@@ -949,7 +944,7 @@ module _ (s : Schema) (fits : SchemaFits s) (verb : Verb) (spelled : IsSpelledVe
     list-fits k (struct id) narrow t h write = structs-by k id (s.shape_of id) refl (fits id) t h write
     list-fits k (list ty) narrow t h write = others-by k (list ty) tt narrow t h write
 
-    value-fits : (st : Step) (ty : Ty) (d t : Tree) → HasNarrow ty → NumbersFit d → NumbersFit t → Wrote (through_value s st (step_field s path verb) (step_element s path verb) ty (opened s ty d (read s t ty)))
+    value-fits : (st : Step) (ty : Ty) (d t : Tree) → AllNarrow ty → NumbersFit d → NumbersFit t → Wrote (through_value s st (step_field s path verb) (step_element s path verb) ty (opened s ty d (read s t ty)))
         → NumbersFit (edit_value s st (edit_field s path verb) (edit_element s path verb) ty (opened_tree ty d t))
     value-fits (name l) void d t narrow h k write = opened-fits void d t h k
     value-fits (name l) (plain p) d t narrow h k write = opened-fits (plain p) d t h k
@@ -992,13 +987,13 @@ module _ (s : Schema) (fits : SchemaFits s) (verb : Verb) (spelled : IsSpelledVe
     through-keeps (index k) (pointer_slot i ty d) w q c h write good =
         put-child-keeps w q i _ h.0 (value-fits (index k) ty (default_or_null d) (child c.kids i) h.1 h.2 (child-fits c.kids i good.2) (active-pointer (index k) i ty d write.active (write.kids i ty) (child c.kids i) (write.reads i ty) write.wrote)) c good
 
-    list-element : (i : ℕ) (ty : Ty) (t : Tree) → HasNarrow ty → NumbersFit t → Wrote (through_value s (index i) (step_field s path verb) (step_element s path verb) (list ty) (opened s (list ty) null (read s t (list ty)))) → NumbersFit (edit_value s (index i) (edit_field s path verb) (edit_element s path verb) (list ty) t)
+    list-element : (i : ℕ) (ty : Ty) (t : Tree) → AllNarrow ty → NumbersFit t → Wrote (through_value s (index i) (step_field s path verb) (step_element s path verb) (list ty) (opened s (list ty) null (read s t (list ty)))) → NumbersFit (edit_value s (index i) (edit_field s path verb) (edit_element s path verb) (list ty) t)
     list-element i ty t narrow h write = subst (λ z. NumbersFit (edit_value s (index i) (edit_field s path verb) (edit_element s path verb) (list ty) z)) (opened-null ty t) (value-fits (index i) (list ty) null t narrow tt h write)
 
     named-element : (l : List ℕ) (g : Shape) (w q : ℕ) (c : Cell) → StructFits g → words_of_shape g ≤ w → pointers_of_shape g ≤ q → WritesName s verb path l g c → Good w q c → Good w q (elim g as (λ x. Cell) [ shape nid x y u fs ↦ edit_named (edit_field s path verb) l u fs c ])
     named-element l (shape nid x y u fs) w q c g a b write good = name-keeps l nid x y w q u fs c (shape-wider x y w q (shape nid x y u fs) a b g.inside) write good
 
-    through-element : (st : Step) (ty : Ty) (w q : ℕ) (c : Cell) → HasNarrow ty → Room s w q ty → WritesElement s verb (st ∷ path) ty c → Good w q c → Good w q (edit_through_element s st (edit_field s path verb) (edit_element s path verb) ty c)
+    through-element : (st : Step) (ty : Ty) (w q : ℕ) (c : Cell) → AllNarrow ty → Room s w q ty → WritesElement s verb (st ∷ path) ty c → Good w q c → Good w q (edit_through_element s st (edit_field s path verb) (edit_element s path verb) ty c)
     unfolding step_field
     through-element (name l) void w q c narrow room write good = absurd (no-name s verb path l void (opened s void null (element_as s void write.size write.section write.kids)) (λ id e. absurd (cc e)) write.wrote)
     through-element (name l) (plain p) w q c narrow room write good = absurd (no-name s verb path l (plain p) (opened s (plain p) null (element_as s (plain p) write.size write.section write.kids)) (λ id e. absurd (cc e)) write.wrote)

@@ -8,4 +8,10 @@ pub mod WroteLists
 pub mod Follows
 pub mod AlikeLists
 pub mod AlikePaths
+pub mod Holders
+pub mod Within
+pub mod SelfFollows
+pub mod TrimmedEdits
+pub mod Partners
 pub mod FittingEdits
+pub mod FittingSchemas
