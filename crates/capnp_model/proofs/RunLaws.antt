@@ -17,7 +17,7 @@ use Rattle.capnp_model.proofs.TrimmedAnswers.{answers_alike}
 use Rattle.capnp_model.proofs.Written.{framed_back, packed_message_back}
 
 -- A reader that reads no word of no byte.
-abbrev ReadsNothing : Reader → Type 0
+abbrev pub ReadsNothing : Reader → Type 0
 ReadsNothing read = (r : List ℕ × List ℕ) → read 1 [] ≡ Ok r → ⊥
 
 plain_nothing : ReadsNothing plain_words
@@ -27,7 +27,7 @@ packed_nothing : ReadsNothing unpacked
 unfolding unpacked_from
 packed_nothing r e = absurd cc
 
-form_nothing : (read : Reader) → IsFormReader read → ReadsNothing read
+pub form_nothing : (read : Reader) → IsFormReader read → ReadsNothing read
 form_nothing read (inl e) = subst ReadsNothing (sym e) plain_nothing
 form_nothing read (inr e) = subst ReadsNothing (sym e) packed_nothing
 
@@ -36,7 +36,7 @@ module _ (read : Reader) (nothing : ReadsNothing read) (limit : Option ℕ) wher
   unfolding message_at
   no_message r e = let t = bind_ok (read 1 []) _ r e in nothing t.0 t.1
 
-  abbrev OneReading : List Segments → List Segments → List ℕ → List ℕ → End → End → Type 0
+  abbrev pub OneReading : List Segments → List Segments → List ℕ → List ℕ → End → End → Type 0
   OneReading ms us rest other end last = (ms ≡ us) × (rest ≡ other) × (end ≡ last)
 
   same_end : (rest : List ℕ) (end last : End) → EndsBy read limit rest end → EndsBy read limit rest last → end ≡ last
@@ -49,7 +49,7 @@ module _ (read : Reader) (nothing : ReadsNothing read) (limit : Option ℕ) wher
   goes_on rest more finished s h e = no_message (s, more) (subst (λ b. message_at read limit b ≡ Ok (s, more)) h e)
   goes_on rest more (broken kind) s h e = absurd cc
 
-  same_messages : (ms us : List Segments) (bytes rest other : List ℕ) (end last : End) → BeginWith read limit bytes ms rest → EndsBy read limit rest end
+  pub same_messages : (ms us : List Segments) (bytes rest other : List ℕ) (end last : End) → BeginWith read limit bytes ms rest → EndsBy read limit rest end
       → BeginWith read limit bytes us other → EndsBy read limit other last → OneReading ms us rest other end last
   same_messages [] [] bytes rest other end last b e c d =
       let same = sym b ∙ c in (refl, same, same_end other end last (subst (λ x. EndsBy read limit x end) same e) d)

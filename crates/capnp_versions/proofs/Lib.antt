@@ -15,3 +15,4 @@ pub mod TrimmedEdits
 pub mod Partners
 pub mod FittingEdits
 pub mod FittingSchemas
+pub mod OwnOutput
