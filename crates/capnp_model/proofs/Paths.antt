@@ -97,11 +97,11 @@ fine_group s n (field l m b fs) member body e h = by (bytes_eq l n) (fine_group 
 
 -- ---- areas of a group
 
-Apart-left : (xs ys zs : List Area) → Apart (xs ++ ys) zs → Apart xs zs
+pub Apart-left : (xs ys zs : List Area) → Apart (xs ++ ys) zs → Apart xs zs
 Apart-left [] ys zs h = tt
 Apart-left (x ∷ xs) ys zs h = (h.0, Apart-left xs ys zs h.1)
 
-Apart-right : (xs ys zs : List Area) → Apart (xs ++ ys) zs → Apart ys zs
+pub Apart-right : (xs ys zs : List Area) → Apart (xs ++ ys) zs → Apart ys zs
 Apart-right [] ys zs h = h
 Apart-right (x ∷ xs) ys zs h = Apart-right xs ys zs h.1
 
