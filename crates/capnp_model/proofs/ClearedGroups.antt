@@ -40,7 +40,7 @@ pub record Blank (s : Schema) (m : Option ℕ) (b : Body) (c : Cell) : Type 0 wh
   pub kinds : body_in_kind b c.section (child_in_kind s c.kids) ≡ true
   pub blank : IsBlank b c
 
-blank_kept : (b : Body) (c c' : Cell) → KeptAll (areas_of_body b) c c' → IsBlank b c → IsBlank b c'
+pub blank_kept : (b : Body) (c c' : Cell) → KeptAll (areas_of_body b) c c' → IsBlank b c → IsBlank b c'
 unfolding areas_of
 blank_kept (void_slot j) c c' k h = tt
 blank_kept (plain_slot p at d) c c' k h = tt
@@ -137,7 +137,7 @@ unfolding cleared
 runs_cleared no_fields c = refl
 runs_cleared (field n m b fs) c = runs_cleared fs (edit_if (is_kept m) (cleared_body b) c)
 
-all_apart_in : (fs : Fields) (ys : List Area) → Apart (areas_of_fields fs) ys → (m : Option ℕ) (b : Body) → IsIn m b fs → Apart (areas_of_body b) ys
+pub all_apart_in : (fs : Fields) (ys : List Area) → Apart (areas_of_fields fs) ys → (m : Option ℕ) (b : Body) → IsIn m b fs → Apart (areas_of_body b) ys
 unfolding areas_of
 all_apart_in no_fields ys h m b i = absurd i
 all_apart_in (field n k x fs) ys h m b (inl e) = subst (λ z. Apart (areas_of_body z) ys) (sym e.1) (Apart-left (areas_of_body x) (areas_of_fields fs) ys h)
@@ -147,14 +147,14 @@ all_apart_in (field n k x fs) ys h m b (inr i) = all_apart_in fs ys (Apart-right
 abbrev pub ClearsBody : Schema → Option ℕ → Body → Cell → Type 0
 ClearsBody s m b c = Blank s m b (cleared_body b c) × ((ys : List Area) → MarkApart None m ys → Apart (areas_of_body b) ys → KeptAll ys c (cleared_body b c))
 
-union_apart : (u : Option ℕ) (fs : Fields) → (are_apart (union_area u) (areas_of_fields fs) && fields_are_apart fs) ≡ true → Apart (union_area u) (areas_of_fields fs)
+pub union_apart : (u : Option ℕ) (fs : Fields) → (are_apart (union_area u) (areas_of_fields fs) && fields_are_apart fs) ≡ true → Apart (union_area u) (areas_of_fields fs)
 union_apart u fs h = apart_of (union_area u) (areas_of_fields fs) (and_left (are_apart (union_area u) (areas_of_fields fs)) (fields_are_apart fs) h)
 
-nothing_read : (s : Schema) (ty : Ty) → read s null ty ≡ no_children 0 ty
+pub nothing_read : (s : Schema) (ty : Ty) → read s null ty ≡ no_children 0 ty
 unfolding read
 nothing_read s ty = refl
 
-nothing_in_kind : (s : Schema) (ty : Ty) → in_kind s null ty ≡ true
+pub nothing_in_kind : (s : Schema) (ty : Ty) → in_kind s null ty ≡ true
 unfolding in_kind
 nothing_in_kind s ty = refl
 

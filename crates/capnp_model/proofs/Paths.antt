@@ -125,7 +125,7 @@ module _ (s : Schema) (u member : Option ℕ) (c : Cell) (place : HasPlace u mem
   keeps_mark : (ys : List Area) → MarkApart u member ys → SameAll ys (view_of s c) (view_of s (mark u member c))
   keeps_mark ys h = subst (λ v. SameAll ys (view_of s c) v) (sym (marked_view s u member c)) (same_after_mark u member (view_of s c) whole_words place ys h)
 
-marks_mark : (s : Schema) (u member : Option ℕ) (c : Cell) → HasPlace u member whole_words → discriminant u whole_words (mark u member c).section ≡ discriminant_after member (discriminant u whole_words c.section)
+pub marks_mark : (s : Schema) (u member : Option ℕ) (c : Cell) → HasPlace u member whole_words → discriminant u whole_words (mark u member c).section ≡ discriminant_after member (discriminant u whole_words c.section)
 marks_mark s (Some at) (Some k) c place = ap Some (read_back at 16 k (view_of s c) place.1 tt)
 marks_mark s (Some at) None c place = refl
 marks_mark s None (Some k) c place = absurd place
@@ -315,7 +315,7 @@ put_is s verb (plain_slot p at d) c h = refl
 put_is s verb (pointer_slot i ty d) c h = refl
 put_is s verb (group_slot g) c h = absurd h
 
-still_active : (member d : Option ℕ) → is_active member d ≡ true → d ≡ discriminant_after member d
+pub still_active : (member d : Option ℕ) → is_active member d ≡ true → d ≡ discriminant_after member d
 still_active None d h = refl
 still_active (Some k) None h = absurd (cc h)
 still_active (Some k) (Some m) h = ap Some (same k m h)
