@@ -5,14 +5,14 @@ use Rattle.std.proofs.lemmas.Nat.{pow_pos}
 use lib.Bits.{bit_xor}
 use Rattle.capnp_model.specs.Kinds.{TextWithoutZeroByte, WrongElementSize}
 use Rattle.capnp_model.specs.Sections.{bits_at}
-use Rattle.capnp_model.specs.Trees.{Tree, null, capability, structure, plain_list, pointer_list, struct_list, none, no_elements, child, size_of_width, plain_elements}
+use Rattle.capnp_model.specs.Trees.{Tree, null, capability, structure, plain_list, pointer_list, struct_list, none, no_elements, child, resized, size_of_width, plain_elements}
 use Rattle.capnp_model.specs.Schemas.{PlainType, width, Ty, void, plain, text, blob, untyped, interface, struct, list, Shape, shape, Fields, no_fields, field, Body, void_slot, plain_slot, pointer_slot, group_slot, Schema, default_or_null}
 use Rattle.capnp_model.specs.Readings.{Reading, inactive, null_pointer, fault, number, text_of, blob_of, list_of, record_as, opaque, Readings, Record, no_more, entry, no_children, whole_words, field_bits, discriminant, is_active, only_if, read, read_child, shape_record, fields_of, body_of, text_reading, list_reading}
 use Rattle.capnp_model.specs.Accepted.{Area, pointer_area, union_area, areas_of, areas_of_fields, areas_of_body, are_apart, is_apart_from, has_no_overlap, fields_are_apart, body_has_no_overlap}
 use Rattle.capnp_model.specs.Calls.{text_tree, blob_tree, new_list}
 use Rattle.capnp_model.specs.Groups.{empty_tree, source_tree, has_active, copied_record, copied_entries, copied_reading}
 use Rattle.capnp_model.specs.Edits.{Cell, Edit, mark, put_bits, put_child, is_kept, edit_if, cleared, cleared_fields, pointer_writes, has_turn, group_writes, field_writes, body_writes, after_writes}
-use Rattle.capnp_model.specs.InKind.{in_kind, child_in_kind, fields_in_kind, body_in_kind, shape_in_kind}
+use Rattle.capnp_model.specs.InKind.{Kinds, in_kind, child_in_kind, fields_in_kind, body_in_kind, shape_in_kind}
 use Rattle.capnp_model.specs.InKindCalls.{defaults_in_kind, field_defaults_in_kind, body_default_in_kind}
 use Rattle.capnp_model.proofs.SoundShapes.{MarkApart, HasPlace, Apart}
 use Rattle.capnp_model.proofs.KeptRules.{and_left, and_right, and_three}
@@ -30,12 +30,12 @@ use Rattle.capnp_model.proofs.ClearedGroups.{IsBlank, Blank, Blank-local, blank_
 -- ---- values of the source
 
 -- neither inactive nor null
-abbrev IsValue : Reading → Type 0
+abbrev pub IsValue : Reading → Type 0
 IsValue inactive = ⊥
 IsValue null_pointer = ⊥
 IsValue _ = Unit {0}
 
-abbrev IsPresent : Reading → Type 0
+abbrev pub IsPresent : Reading → Type 0
 IsPresent inactive = ⊥
 IsPresent _ = Unit {0}
 
@@ -55,7 +55,7 @@ list_value : (t : Bool) (rs : Readings) → IsValue (list_reading t rs)
 list_value true rs = tt
 list_value false rs = tt
 
-read_value : (s : Schema) (t : Tree) (ty : Ty) → (t ≡ null) ⊎ IsValue (read s t ty)
+pub read_value : (s : Schema) (t : Tree) (ty : Ty) → (t ≡ null) ⊎ IsValue (read s t ty)
 unfolding read
 read_value s null ty = inl refl
 read_value s (capability i) void = inr tt
@@ -76,7 +76,7 @@ is_present inactive h = h
 is_present null_pointer h = tt
 is_present _ h = tt
 
-read_present : (s : Schema) (t : Tree) (ty : Ty) → IsPresent (read s t ty)
+pub read_present : (s : Schema) (t : Tree) (ty : Ty) → IsPresent (read s t ty)
 read_present s t ty = elim (read_value s t ty) [
   | inl e ↦ subst (λ z. IsPresent (read s z ty)) (sym e) (subst (λ z. IsPresent z) (sym (nothing_read s ty)) tt)
   | inr h ↦ is_present (read s t ty) h
@@ -104,30 +104,37 @@ source_is s ty _ (pointer_list ts) = inr refl
 source_is s ty null (struct_list w p es) = inr refl
 source_is s ty _ (struct_list w p es) = inr refl
 
-same_number : (n : ℕ) → (n == n) ≡ true
+pub same_number : (n : ℕ) → (n == n) ≡ true
 same_number n = grind arith
 
 mutual
   unfolding fields_in_kind
 
-  empty_shape_in_kind : (s : Schema) (g : Shape) (n : ℕ) → shape_in_kind g n (child_in_kind s none) ≡ true
-  empty_shape_in_kind s (shape nid w p u fs) n = empty_fields_in_kind s fs (discriminant u whole_words n) n
+  -- where nothing below is out of kind
+  pub quiet_shape : (g : Shape) (n : ℕ) (kids : Kinds) → ((i : ℕ) (ty : Ty) → kids i ty ≡ true) → shape_in_kind g n kids ≡ true
+  quiet_shape (shape nid w p u fs) n kids h = quiet_fields fs (discriminant u whole_words n) n kids h
 
-  empty_fields_in_kind : (s : Schema) (fs : Fields) (d : Option ℕ) (n : ℕ) → fields_in_kind fs d n (child_in_kind s none) ≡ true
-  empty_fields_in_kind s no_fields d n = refl
-  empty_fields_in_kind s (field l m b fs) d n = both _ _ (or_right (not (is_active m d)) _ (empty_body_in_kind s b n)) (empty_fields_in_kind s fs d n)
+  quiet_fields : (fs : Fields) (d : Option ℕ) (n : ℕ) (kids : Kinds) → ((i : ℕ) (ty : Ty) → kids i ty ≡ true) → fields_in_kind fs d n kids ≡ true
+  quiet_fields no_fields d n kids h = refl
+  quiet_fields (field l m b fs) d n kids h = both _ _ (or_right (not (is_active m d)) _ (quiet_body b n kids h)) (quiet_fields fs d n kids h)
 
-  empty_body_in_kind : (s : Schema) (b : Body) (n : ℕ) → body_in_kind b n (child_in_kind s none) ≡ true
-  empty_body_in_kind s (void_slot j) n = refl
-  empty_body_in_kind s (plain_slot p at d) n = refl
-  empty_body_in_kind s (pointer_slot i ty d) n = child_in_kind-is s none i ty ∙ nothing_in_kind s ty
-  empty_body_in_kind s (group_slot g) n = empty_shape_in_kind s g n
+  quiet_body : (b : Body) (n : ℕ) (kids : Kinds) → ((i : ℕ) (ty : Ty) → kids i ty ≡ true) → body_in_kind b n kids ≡ true
+  quiet_body (void_slot j) n kids h = refl
+  quiet_body (plain_slot p at d) n kids h = refl
+  quiet_body (pointer_slot i ty d) n kids h = h i ty
+  quiet_body (group_slot g) n kids h = quiet_shape g n kids h
 
-empty_in_kind : (s : Schema) (ty : Ty) → in_kind s (empty_tree s ty) ty ≡ true
+pub quiet_child : (s : Schema) (p i : ℕ) (ty : Ty) → child_in_kind s (resized p none) i ty ≡ true
+unfolding in_kind
+quiet_child s zero i ty = refl
+quiet_child s (suc p) zero ty = refl
+quiet_child s (suc p) (suc i) ty = quiet_child s p i ty
+
+pub empty_in_kind : (s : Schema) (ty : Ty) → in_kind s (empty_tree s ty) ty ≡ true
 unfolding in_kind
 empty_in_kind s text = refl
 empty_in_kind s blob = refl
-empty_in_kind s (struct id) = empty_shape_in_kind s (s.shape_of id) 0
+empty_in_kind s (struct id) = quiet_shape (s.shape_of id) 0 (child_in_kind s none) (λ i e. quiet_child s 0 i e)
 empty_in_kind s (list (struct id)) = refl
 empty_in_kind s (list void) = refl
 empty_in_kind s (list (plain p)) = ap (λ z. z && true) (same_number (size_of_width (width p)))
@@ -229,7 +236,7 @@ put_tree s ty d None t = t
 put_tree s ty d (Some k) t = source_tree s ty d t
 
 -- what stands behind the mark
-behind_mark : (s : Schema) (u m : Option ℕ) (b : Body) (c c' : Cell) → HasPlace u m whole_words → Apart (areas_of_body b) (union_area u)
+pub behind_mark : (s : Schema) (u m : Option ℕ) (b : Body) (c c' : Cell) → HasPlace u m whole_words → Apart (areas_of_body b) (union_area u)
     → ((ys : List Area) → Apart (areas_of_body b) ys → KeptAll ys (mark u m c) c')
     → ((ys : List Area) → MarkApart u m ys → Apart (areas_of_body b) ys → KeptAll ys c c') × (discriminant u whole_words c'.section ≡ discriminant_after m (discriminant u whole_words c.section))
 behind_mark s u m b c c' place off keeps = (
