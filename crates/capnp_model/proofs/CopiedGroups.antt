@@ -368,7 +368,7 @@ active_is (Some a) k h = ap Some (same k a h)
     same : (k a : ℕ) → (k == a) ≡ true → k ≡ a
     same k a h = grind arith
 
-kind_in : (s : Schema) (fs : Fields) (d : Option ℕ) (c : Cell) (m : Option ℕ) (b : Body) → fields_in_kind fs d c.section (child_in_kind s c.kids) ≡ true → IsIn m b fs → is_active m d ≡ true → body_in_kind b c.section (child_in_kind s c.kids) ≡ true
+pub kind_in : (s : Schema) (fs : Fields) (d : Option ℕ) (c : Cell) (m : Option ℕ) (b : Body) → fields_in_kind fs d c.section (child_in_kind s c.kids) ≡ true → IsIn m b fs → is_active m d ≡ true → body_in_kind b c.section (child_in_kind s c.kids) ≡ true
 unfolding fields_in_kind
 kind_in s no_fields d c m b h i a = absurd i
 kind_in s (field n k x fs) d c m b h (inl e) a =

@@ -142,7 +142,7 @@ module _ (s : Schema) (ty : Ty) (f : Reading → Outcome Reading) (change : ℕ 
 
 -- ---- lists of structs
 
-child_in_kind-padded_to : (s : Schema) (p : ℕ) (ts : Trees) (i : ℕ) (ty : Ty) → child_in_kind s (padded_to p ts) i ty ≡ child_in_kind s ts i ty
+pub child_in_kind-padded_to : (s : Schema) (p : ℕ) (ts : Trees) (i : ℕ) (ty : Ty) → child_in_kind s (padded_to p ts) i ty ≡ child_in_kind s ts i ty
 unfolding in_kind
 child_in_kind-padded_to s zero ts i ty = refl
 child_in_kind-padded_to s (suc p) none zero ty = refl

@@ -105,12 +105,12 @@ pub Apart-right : (xs ys zs : List Area) → Apart (xs ++ ys) zs → Apart ys zs
 Apart-right [] ys zs h = h
 Apart-right (x ∷ xs) ys zs h = Apart-right xs ys zs h.1
 
-mark_apart : (u member : Option ℕ) (zs : List Area) → Apart (union_area u) zs → MarkApart u member zs
+pub mark_apart : (u member : Option ℕ) (zs : List Area) → Apart (union_area u) zs → MarkApart u member zs
 mark_apart (Some at) (Some k) zs h = h.0
 mark_apart (Some at) None zs h = tt
 mark_apart None member zs h = tt
 
-field_apart : (n : List ℕ) (fs : Fields) (member : Option ℕ) (body : Body) (zs : List Area) → target_of n fs ≡ target member body → Apart (areas_of_fields fs) zs → Apart (areas_of_body body) zs
+pub field_apart : (n : List ℕ) (fs : Fields) (member : Option ℕ) (body : Body) (zs : List Area) → target_of n fs ≡ target member body → Apart (areas_of_fields fs) zs → Apart (areas_of_body body) zs
 unfolding areas_of
 field_apart n no_fields member body zs e h = absurd (cc e)
 field_apart n (field l m b fs) member body zs e h = by (bytes_eq l n) (field_apart n fs member body zs) e
