@@ -15,8 +15,8 @@ use Rattle.capnp_model.specs.Printing.{fields_in, As}
 use Rattle.capnp_model.specs.Accepted.{Area, are_apart, bit_area, pointer_area, union_area, areas_of, areas_of_fields, areas_of_body, is_apart_from, has_no_overlap, fields_are_apart, body_has_no_overlap}
 use Rattle.capnp_model.specs.Calls.{Step, name, index, CallValue, whole_number, truth, enumerant, text_value, blob_value, message, Verb, get, set_to, init, initn, clear, Content, refused_by, bits_of, object, message_root, struct_content, plain_content, value_content, empty_struct, empty_elements, empty_structs, new_list, init_content, initn_content, slot_content, element_content}
 use Rattle.capnp_model.specs.Groups.{group_fault, copied_record}
-use Rattle.capnp_model.specs.Steps.{Outcome, refused, shown, done, outcome_map, Target, no_target, target, target_of, entry_of, replaced, at_target, on_name, on_index, got, reading_after, slot_type, copied_or_refused, set_group_from, at_field, at_element, empty_reading, or_empty, opened, through_value, through_field, step_field, step_element}
-use Rattle.capnp_model.specs.Edits.{Cell, Edit, mark, put_bits, put_child, put_content, put_field, cleared, group_writes, after_writes, from_message, put_in_element, opened_tree, edit_target, edit_named, edit_struct, as_list, edit_list, edit_value, edit_through, edit_through_element, edit_field, edit_element}
+use Rattle.capnp_model.specs.Steps.{Outcome, refused, shown, done, outcome_map, Target, no_target, target, target_of, entry_of, replaced, at_target, on_name, on_index, got, reading_after, slot_type, copied_or_refused, set_group_from, at_field, at_element, empty_reading, or_empty, opened, through_value, through_field, step_field, step_element, step_path}
+use Rattle.capnp_model.specs.Edits.{Cell, Edit, mark, put_bits, put_child, put_content, put_field, cleared, group_writes, after_writes, from_message, put_in_element, opened_tree, edit_target, edit_named, edit_struct, as_list, edit_list, edit_value, edit_through, edit_through_element, edit_field, edit_element, write_path}
 use Rattle.capnp_model.specs.InKind.{element_kinds, in_kind, child_in_kind, children_in_kind, elements_in_kind, fields_in_kind, body_in_kind, shape_in_kind}
 use Rattle.capnp_model.specs.InKindCalls.{defaults_in_kind, field_defaults_in_kind, body_default_in_kind, PathEnd, at_slot, at_value, nowhere, end_at, step_into, next_end, end_of, target_in_kind, group_source_in_kind}
 use Rattle.capnp_model.specs.NamedPaths.{IsInRange, IsOpen, IsSlot}
@@ -690,3 +690,168 @@ module _ (s : Schema) (R : ℕ → Type 0) (reached : (id : ℕ) → R id → Is
   value_law (index k) ty d t r real default_kind kind value h =
       list_value' k ty (opened_tree ty d t) r real (opened_in_kind s ty d t default_kind kind) value
       (to_indexed s k (step_field s path verb) (step_element s path verb) ty _ r (ap (through_value s (index k) (step_field s path verb) (step_element s path verb) ty) (sym (no_null s ty d t)) ∙ h))
+
+  -- ---- a step from a field or an element
+
+  present_through : (st : Step) (i : ℕ) (ty : Ty) (d : Option Tree) (x r : Reading) → IsPresent x → through_field s st (step_field s path verb) (step_element s path verb) (pointer_slot i ty d) x ≡ done r
+      → through_value s st (step_field s path verb) (step_element s path verb) ty (opened s ty (default_or_null d) x) ≡ done r
+  present_through (name l) i ty d inactive r p h = absurd p
+  present_through (name l) i ty d null_pointer r p h = h
+  present_through (name l) i ty d _ r p h = h
+  present_through (index k) i ty d inactive r p h = absurd p
+  present_through (index k) i ty d null_pointer r p h = h
+  present_through (index k) i ty d _ r p h = h
+
+  pointer_edit : (st : Step) (i : ℕ) (ty : Ty) (d : Option Tree) (c : Cell)
+      → edit_through s st (edit_field s path verb) (edit_element s path verb) (pointer_slot i ty d) c ≡ put_child i (value_after st ty (opened_tree ty (default_or_null d) (child c.kids i))) c
+  pointer_edit (name l) i ty d c = refl
+  pointer_edit (index k) i ty d c = refl
+
+  pointer_end : (st : Step) (i : ℕ) (ty : Ty) (d : Option Tree) → next_end s st (at_slot (pointer_slot i ty d)) ≡ step_into s st ty
+  pointer_end (name l) i ty d = refl
+  pointer_end (index k) i ty d = refl
+
+  value_end : (st : Step) (ty : Ty) → next_end s st (at_value ty) ≡ step_into s st ty
+  value_end (name l) ty = refl
+  value_end (index k) ty = refl
+
+  through_pointer : (st : Step) (u member : Option ℕ) (i : ℕ) (ty : Ty) (d : Option Tree) (c : Cell) (r : Reading) → IsSoundBody s R (pointer_slot i ty d)
+      → is_active member (discriminant u whole_words c.section) ≡ true → body_in_kind (pointer_slot i ty d) c.section (child_in_kind s c.kids) ≡ true
+      → verb_in_kind s verb (end_of s path (next_end s st (at_slot (pointer_slot i ty d)))) ≡ true
+      → through_field s st (step_field s path verb) (step_element s path verb) (pointer_slot i ty d) (read_child s c.kids i ty) ≡ done r
+      → IsPut s u member (pointer_slot i ty d) c (edit_through s st (edit_field s path verb) (edit_element s path verb) (pointer_slot i ty d) c) r
+  unfolding body_of areas_of_body fields_in_kind defaults_in_kind
+  through_pointer st u member i ty d c r sound active kind value h =
+      let t = child c.kids i in
+      let is = read_child-is s c.kids i ty in
+      let present = subst (λ z. IsPresent z) (sym is) (read_present s t ty) in
+      let walked = ap (λ z. through_value s st (step_field s path verb) (step_element s path verb) ty (opened s ty (default_or_null d) z)) (sym is) ∙ present_through st i ty d (read_child s c.kids i ty) r present h in
+      let done_value = value_law st ty (default_or_null d) t r sound.real sound.default_kind (sym (child_in_kind-is s c.kids i ty) ∙ kind) (ap (λ z. verb_in_kind s verb (end_of s path z)) (sym (pointer_end st i ty d)) ∙ value) walked in
+      let new = value_after st ty (opened_tree ty (default_or_null d) t) in
+      subst (λ z. IsPut s u member (pointer_slot i ty d) c z r) (sym (pointer_edit st i ty d c)) (record {
+        reads = read_child-with_child s c.kids i new ty ∙ done_value.reads;
+        keeps = λ ys h k. kept_if_put c i new ys k.0;
+        marks = still_active member (discriminant u whole_words c.section) active;
+        kinds = child_in_kind-is s (with_child c.kids i new) i ty ∙ ap (λ z. in_kind s z ty) (child-with_child c.kids i new) ∙ done_value.kinds;
+      })
+
+  at_path : (st : Step) (n : List ℕ) (u member : Option ℕ) (body : Body) (fs : Fields) (c : Cell) (r : Reading) → IsFine s n u member body fs → IsSoundBody s R body
+      → (b : Bool) → is_active member (discriminant u whole_words c.section) ≡ b → (b ≡ true → body_in_kind body c.section (child_in_kind s c.kids) ≡ true)
+      → verb_in_kind s verb (end_of s path (next_end s st (at_slot body))) ≡ true
+      → through_field s st (step_field s path verb) (step_element s path verb) body (only_if b (body_of body whole_words c.section (read_child s c.kids))) ≡ done r
+      → IsPut s u member body c (edit_through s st (edit_field s path verb) (edit_element s path verb) body c) r
+  unfolding body_of areas_of areas_of_body has_no_overlap fields_in_kind defaults_in_kind
+  at_path st n u member body fs c r fine sound false active kind value h = absurd (nothing_through st body h)
+    where
+      nothing_through : (st : Step) (body : Body) → through_field s st (step_field s path verb) (step_element s path verb) body inactive ≡ done r → ⊥
+      nothing_through (name l) (void_slot j) h = cc h
+      nothing_through (name l) (plain_slot p at d) h = cc h
+      nothing_through (name l) (pointer_slot i ty d) h = cc h
+      nothing_through (name l) (group_slot g) h = cc h
+      nothing_through (index k) (void_slot j) h = cc h
+      nothing_through (index k) (plain_slot p at d) h = cc h
+      nothing_through (index k) (pointer_slot i ty d) h = cc h
+      nothing_through (index k) (group_slot g) h = cc h
+  at_path (name l) n u member (void_slot j) fs c r fine sound true active kind value h = absurd (cc h)
+  at_path (name l) n u member (plain_slot p at d) fs c r fine sound true active kind value h = absurd (cc h)
+  at_path (index k) n u member (void_slot j) fs c r fine sound true active kind value h = absurd (cc h)
+  at_path (index k) n u member (plain_slot p at d) fs c r fine sound true active kind value h = absurd (cc h)
+  at_path (index k) n u member (group_slot g) fs c r fine sound true active kind value h = absurd (cc h)
+  at_path (name l) n u member (pointer_slot i ty d) fs c r fine sound true active kind value h = through_pointer (name l) u member i ty d c r sound active (kind refl) value h
+  at_path (index k) n u member (pointer_slot i ty d) fs c r fine sound true active kind value h = through_pointer (index k) u member i ty d c r sound active (kind refl) value h
+  at_path (name l) n u member (group_slot (shape nid w p v gs)) fs c r fine sound true active kind value h = by (unmap _ _ _ h)
+    where
+      by : IsMapped record_as (on_name (step_field s path verb) l gs (shape_record (shape nid w p v gs) whole_words c.section (read_child s c.kids))) r
+          → IsPut s u member (group_slot (shape nid w p v gs)) c (edit_target (edit_field s path verb) v (target_of l gs) c) r
+      by (mapped x k gives) =
+          let c' = edit_target (edit_field s path verb) v (target_of l gs) c in
+          let d = in_cell s R verb path fields_meet l nid w p v gs c x (record { good = sound.good; apart = sound.apart; defaults = sound.default_kind; real = sound.real }) (kind refl) (target_of l gs) refl value k in
+          record {
+            reads = ap record_as d.reads ∙ gives;
+            keeps = λ ys h k. d.keeps ys k;
+            marks = sym (discriminant-kept u c c' (d.keeps (union_area u) fine.off_union)) ∙ still_active member (discriminant u whole_words c.section) active;
+            kinds = d.kinds;
+          }
+
+  -- a pointer's element
+  pointed_element : (st : Step) (ty : Ty) (c : Cell) (r : Reading) → IsReal R ty → in_kind s (child c.kids 0) ty ≡ true → verb_in_kind s verb (end_of s path (next_end s st (at_value ty))) ≡ true
+      → through_value s st (step_field s path verb) (step_element s path verb) ty (opened s ty null (read_child s c.kids 0 ty)) ≡ done r
+      → let c' = put_child 0 (value_after st ty (child c.kids 0)) c in (read_child s c'.kids 0 ty ≡ r) × (child_in_kind s c'.kids 0 ty ≡ true)
+  pointed_element st ty c r real kind value h =
+      let t = child c.kids 0 in
+      let d = value_law st ty null t r real (nothing_in_kind s ty) kind (ap (λ z. verb_in_kind s verb (end_of s path z)) (sym (value_end st ty)) ∙ value)
+      (ap (λ z. through_value s st (step_field s path verb) (step_element s path verb) ty (opened s ty null z)) (sym (read_child-is s c.kids 0 ty)) ∙ h) in
+      let e = subst (λ z. IsValueDone s ty (value_after st ty z) r) (opened_null ty t) d in
+      pointer_put s ty c (value_after st ty t) r e.kinds e.reads
+
+  struct_element_at : (l : List ℕ) (id : ℕ) (words pointers : ℕ) (c : Cell) (r : Reading) → R id → element_kinds s (struct id) c.section (child_in_kind s c.kids) ≡ true
+      → verb_in_kind s verb (end_of s path (end_at (target_of l (fields_in (s.shape_of id))))) ≡ true
+      → IsThrough s l (step_field s path verb) (struct id) (record_as (shape_record (s.shape_of id) whole_words c.section (read_child s c.kids))) r
+      → IsElement s (struct id) (edit_through_element s (name l) (edit_field s path verb) (edit_element s path verb) (struct id) c) r
+  struct_element_at l id words pointers c r real kind value (through id' old new is_struct is_record walked gives) = by (s.shape_of id) refl (reached id real).sound kind value
+    where
+      same : id ≡ id'
+      same = cc is_struct
+      by : (g : Shape) → s.shape_of id ≡ g → IsSound s R g → shape_in_kind g c.section (child_in_kind s c.kids) ≡ true → verb_in_kind s verb (end_of s path (end_at (target_of l (fields_in g)))) ≡ true
+          → IsElement s (struct id) (elim g as (λ (x : Shape). Cell) [ shape nid w p union fs ↦ edit_named (edit_field s path verb) l union fs c ]) r
+      by (shape nid w p u fs) e sound kinds value' =
+          let old_is : old ≡ shape_record (shape nid w p u fs) whole_words c.section (read_child s c.kids) = sym (record_is _ _ is_record) ∙ ap (λ g. shape_record g whole_words c.section (read_child s c.kids)) e in
+          let on : on_name (step_field s path verb) l fs old ≡ done new = ap (λ g. on_name (step_field s path verb) l (fields_in g) old) (sym e) ∙ ap (λ z. on_name (step_field s path verb) l (fields_in (s.shape_of z)) old) same ∙ walked in
+          let d = in_cell s R verb path fields_meet l nid w p u fs c new sound kinds (target_of l fs) refl value' (ap (on_name (step_field s path verb) l fs) (sym old_is) ∙ on) in
+          let c' = edit_named (edit_field s path verb) l u fs c in
+          record {
+            reads = ap (λ g. record_as (shape_record g whole_words c'.section (read_child s c'.kids))) e ∙ ap record_as d.reads ∙ gives;
+            kinds = ap (λ g. shape_in_kind g c'.section (child_in_kind s c'.kids)) e ∙ d.kinds;
+          }
+
+  at_element_path : (st : Step) (ty : Ty) → IsReal R ty → verb_in_kind s verb (end_of s path (next_end s st (at_value ty))) ≡ true → (words pointers : ℕ) (c : Cell) (r : Reading)
+      → element_kinds s ty c.section (child_in_kind s c.kids) ≡ true
+      → through_value s st (step_field s path verb) (step_element s path verb) ty (opened s ty null (element_as s ty whole_words c.section (read_child s c.kids))) ≡ done r
+      → IsElement s ty (edit_through_element s st (edit_field s path verb) (edit_element s path verb) ty c) r
+  at_element_path (name l) void real value words pointers c r kind h = absurd (cc h)
+  at_element_path (index k) void real value words pointers c r kind h = absurd (cc h)
+  at_element_path (name l) (plain p) real value words pointers c r kind h = absurd (cc h)
+  at_element_path (index k) (plain p) real value words pointers c r kind h = absurd (cc h)
+  at_element_path (index k) (struct id) real value words pointers c r kind h = absurd (cc h)
+  at_element_path (name l) (struct id) real value words pointers c r kind h =
+      struct_element_at l id words pointers c r real kind value (to_through s l (step_field s path verb) (step_element s path verb) (struct id) _ r h)
+  at_element_path (name l) text real value words pointers c r kind h = let d = pointed_element (name l) text c r real (sym (child_in_kind-is s c.kids 0 text) ∙ kind) value h in record { reads = d.0; kinds = d.1 }
+  at_element_path (index k) text real value words pointers c r kind h = let d = pointed_element (index k) text c r real (sym (child_in_kind-is s c.kids 0 text) ∙ kind) value h in record { reads = d.0; kinds = d.1 }
+  at_element_path (name l) blob real value words pointers c r kind h = let d = pointed_element (name l) blob c r real (sym (child_in_kind-is s c.kids 0 blob) ∙ kind) value h in record { reads = d.0; kinds = d.1 }
+  at_element_path (index k) blob real value words pointers c r kind h = let d = pointed_element (index k) blob c r real (sym (child_in_kind-is s c.kids 0 blob) ∙ kind) value h in record { reads = d.0; kinds = d.1 }
+  at_element_path (name l) untyped real value words pointers c r kind h = let d = pointed_element (name l) untyped c r real (sym (child_in_kind-is s c.kids 0 untyped) ∙ kind) value h in record { reads = d.0; kinds = d.1 }
+  at_element_path (index k) untyped real value words pointers c r kind h = let d = pointed_element (index k) untyped c r real (sym (child_in_kind-is s c.kids 0 untyped) ∙ kind) value h in record { reads = d.0; kinds = d.1 }
+  at_element_path (name l) interface real value words pointers c r kind h = let d = pointed_element (name l) interface c r real (sym (child_in_kind-is s c.kids 0 interface) ∙ kind) value h in record { reads = d.0; kinds = d.1 }
+  at_element_path (index k) interface real value words pointers c r kind h = let d = pointed_element (index k) interface c r real (sym (child_in_kind-is s c.kids 0 interface) ∙ kind) value h in record { reads = d.0; kinds = d.1 }
+  at_element_path (name l) (list e) real value words pointers c r kind h = let d = pointed_element (name l) (list e) c r real (sym (child_in_kind-is s c.kids 0 (list e)) ∙ kind) value h in record { reads = d.0; kinds = d.1 }
+  at_element_path (index k) (list e) real value words pointers c r kind h = let d = pointed_element (index k) (list e) c r real (sym (child_in_kind-is s c.kids 0 (list e)) ∙ kind) value h in record { reads = d.0; kinds = d.1 }
+
+-- ---- all paths
+
+module _ (s : Schema) (R : ℕ → Type 0) (reached : (id : ℕ) → R id → IsReached s R id) (verb : Verb) (given : IsGiven verb) where
+  element_end : (ty : Ty) → IsReal R ty → (id : ℕ) → ty ≡ struct id → IsWithin (s.shape_of id)
+  element_end ty real id e = (reached id (subst (λ z. IsReal R z) e real)).within
+
+  -- calls do to the tree what they do to the record
+  meets_all : (path : List Step) → FieldMeets s R verb path × ElementMeets s R verb path
+  unfolding step_field edit_field end_of
+  meets_all [] = (
+    (λ n u member body fs c r fine sound kind value h. field_leaf s R verb given n u member body fs c _ r fine sound value h),
+    (λ ty real value words pointers c r room kind h.
+        put_law s ty words pointers c (element_content s verb ty) r room (element_end ty real) (element_fits s verb ty given) (element_content_kinds s verb ty value) (element_after s verb ty _ r h)),
+  )
+  meets_all (st ∷ path) =
+      let more = meets_all path in (
+        (λ n u member body fs c r fine sound kind value h.
+            at_path s R reached verb path more.0 more.1 st n u member body fs c r fine sound (is_active member (discriminant u whole_words c.section)) refl kind value h),
+        (λ ty real value words pointers c r room kind h. at_element_path s R reached verb path more.0 more.1 st ty real value words pointers c r kind h),
+      )
+
+  -- The reading clause, at an opened struct that is reached.
+  pub path_law : (id : ℕ) → R id → (n : List ℕ) (path : List Step) (t : Tree) (r : Record) → IsOpen t → in_kind s t (struct id) ≡ true → verb_in_kind s verb (end_of s (name n ∷ path) (at_value (struct id))) ≡ true
+      → step_path s (fields_in (s.shape_of id)) (name n ∷ path) verb (record_by_shape s (s.shape_of id) t) ≡ done r
+      → (record_by_shape s (s.shape_of id) (write_path s (s.shape_of id) (name n ∷ path) verb t) ≡ r) × (in_kind s (write_path s (s.shape_of id) (name n ∷ path) verb t) (struct id) ≡ true)
+  unfolding end_of
+  path_law id root n path t r is_open kind value h =
+      let two = in_tree s R verb path (meets_all path).0 n (s.shape_of id) t r (reached id root).sound is_open (tree_kind s id t is_open kind) value h in
+      (two.0, (edited_struct s id (edit_field s path verb) n (s.shape_of id) t is_open two.1).1)
