@@ -1,26 +1,25 @@
 -- A cleared group reads as one of zeros and nulls, and nothing beside it changes.
-use Rattle.std.proofs.Common.{◌≡◌, ℕ, zero, suc, ◌/◌, ◌%◌, ◌^◌, ◌<◌, ◌==◌, Bool, true, false, not, ◌&&◌, ◌||◌, ◌⊎◌, inl, inr, List, [], ◌∷◌, ◌++◌, Option, Some, None, refl, sym, ◌∙◌, ap, subst, arith}
+use Rattle.std.proofs.Common.{◌≡◌, ℕ, zero, suc, ◌%◌, ◌^◌, ◌<◌, ◌==◌, Bool, true, false, not, ◌&&◌, ◌||◌, inl, inr, List, Option, Some, None, refl, sym, ◌∙◌, ap, subst, arith}
 use Rattle.std.proofs.Math.Nat.{zero-div, zero-mod}
 use Rattle.std.proofs.lemmas.Nat.{pow_pos}
 use lib.Bits.{bit_xor}
 use Rattle.capnp_model.specs.Sections.{bits_at}
 use Rattle.capnp_model.specs.Trees.{null, child}
 use Rattle.capnp_model.specs.Schemas.{width, Ty, Shape, shape, Fields, no_fields, field, Body, void_slot, plain_slot, pointer_slot, group_slot, Schema}
-use Rattle.capnp_model.specs.Readings.{Reading, number, record_as, Record, entry, no_children, whole_words, discriminant, is_active, only_if, read, read_child, shape_record, fields_of, body_of}
+use Rattle.capnp_model.specs.Readings.{Reading, number, record_as, entry, no_children, whole_words, discriminant, is_active, only_if, read, read_child, shape_record, fields_of, body_of}
 use Rattle.capnp_model.specs.Accepted.{Area, union_area, areas_of, areas_of_fields, areas_of_body, are_apart, is_apart_from, has_no_overlap, fields_are_apart, body_has_no_overlap}
-use Rattle.capnp_model.specs.Edits.{Cell, mark, put_bits, put_child, is_kept, edit_if, cleared, cleared_fields, cleared_body}
+use Rattle.capnp_model.specs.Edits.{Cell, mark, put_child, is_kept, edit_if, cleared, cleared_fields, cleared_body}
 use Rattle.capnp_model.specs.InKind.{in_kind, child_in_kind, fields_in_kind, body_in_kind, shape_in_kind}
-use Rattle.capnp_model.specs.Views.{SameAll}
-use Rattle.capnp_model.proofs.SoundShapes.{MarkApart, HasPlace, Apart}
+use Rattle.capnp_model.proofs.SoundShapes.{MarkApart, Apart}
 use Rattle.capnp_model.proofs.KeptRules.{and_left, and_right, and_three}
 use Rattle.capnp_model.proofs.ApartAreas.{apart_of, Apart-sym}
-use Rattle.capnp_model.proofs.FineShapes.{HasUnion, IsGoodMember, IsGood, AreGood, IsGoodBody, mark_of, front_of, back_of}
+use Rattle.capnp_model.proofs.FineShapes.{IsGood, AreGood, IsGoodBody}
 use Rattle.capnp_model.proofs.Bits.{bits_at-with_bits}
 use Rattle.capnp_model.proofs.Views.{body_of-same}
 use Rattle.capnp_model.proofs.Marks.{view_of}
 use Rattle.capnp_model.proofs.Paths.{read_child-is, Apart-left, Apart-right}
-use Rattle.capnp_model.proofs.KeptCells.{KeptAll, KeptAll-refl, KeptAll-trans, kept_views, child-with_child, kept_if_put, kept_if_written, kept_if_marked, child_in_kind-is, discriminant-kept, body_in_kind-kept, both}
-use Rattle.capnp_model.proofs.FieldsApart.{IsIn, good_in, off_union_in, OfField, IsLocal, AllChosen, IsBeside, run, run_meets}
+use Rattle.capnp_model.proofs.KeptCells.{KeptAll, KeptAll-refl, KeptAll-trans, kept_views, child-with_child, kept_if_put, kept_if_written, child_in_kind-is, discriminant-kept, body_in_kind-kept, both}
+use Rattle.capnp_model.proofs.FieldsApart.{IsIn, off_union_in, OfField, IsLocal, AllChosen, IsBeside, run, run_meets}
 
 pub zero_bits : (at w : ℕ) → bits_at at w 0 ≡ 0
 zero_bits at w = ap (λ z. z % 2 ^ w) (zero-div (2 ^ at)) ∙ zero-mod (2 ^ w)

@@ -1,17 +1,16 @@
 -- A group that is set from another struct reads as what the record machine makes of that, and nothing beside it changes.
-use Rattle.std.proofs.Common.{◌≡◌, ℕ, zero, suc, ◌/◌, ◌%◌, ◌^◌, ◌<◌, ◌==◌, Bool, true, false, not, ◌&&◌, ◌||◌, ◌⊎◌, inl, inr, List, [], ◌∷◌, ◌++◌, Option, Some, None, slice_index, length, take, if◌then◌else◌, refl, sym, ◌∙◌, ap, subst, arith}
+use Rattle.std.proofs.Common.{◌≡◌, ℕ, zero, suc, ◌/◌, ◌^◌, ◌<◌, ◌==◌, Bool, true, false, not, ◌&&◌, ◌||◌, ◌⊎◌, inl, inr, List, [], ◌∷◌, ◌++◌, Option, Some, None, slice_index, length, take, if◌then◌else◌, refl, sym, ◌∙◌, ap, subst, arith}
 use Rattle.std.proofs.Math.Nat.{mod-lt}
 use Rattle.std.proofs.lemmas.Nat.{pow_pos}
 use lib.Bits.{bit_xor}
 use Rattle.capnp_model.specs.Kinds.{TextWithoutZeroByte, WrongElementSize}
 use Rattle.capnp_model.specs.Sections.{bits_at}
-use Rattle.capnp_model.specs.Trees.{Tree, null, capability, structure, plain_list, pointer_list, struct_list, none, no_elements, child, resized, size_of_width, plain_elements}
-use Rattle.capnp_model.specs.Schemas.{PlainType, width, Ty, void, plain, text, blob, untyped, interface, struct, list, Shape, shape, Fields, no_fields, field, Body, void_slot, plain_slot, pointer_slot, group_slot, Schema, default_or_null}
-use Rattle.capnp_model.specs.Readings.{Reading, inactive, null_pointer, fault, number, text_of, blob_of, list_of, record_as, opaque, Readings, Record, no_more, entry, no_children, whole_words, field_bits, discriminant, is_active, only_if, read, read_child, shape_record, fields_of, body_of, text_reading, list_reading}
+use Rattle.capnp_model.specs.Trees.{Tree, null, capability, structure, plain_list, pointer_list, struct_list, none, child, resized, size_of_width, plain_elements}
+use Rattle.capnp_model.specs.Schemas.{PlainType, width, Ty, void, plain, text, blob, struct, list, Shape, shape, Fields, no_fields, field, Body, void_slot, plain_slot, pointer_slot, group_slot, Schema, default_or_null}
+use Rattle.capnp_model.specs.Readings.{Reading, inactive, null_pointer, fault, number, text_of, record_as, Readings, Record, entry, no_children, whole_words, field_bits, discriminant, is_active, only_if, read, read_child, shape_record, fields_of, body_of, text_reading, list_reading}
 use Rattle.capnp_model.specs.Accepted.{Area, pointer_area, union_area, areas_of, areas_of_fields, areas_of_body, are_apart, is_apart_from, has_no_overlap, fields_are_apart, body_has_no_overlap}
-use Rattle.capnp_model.specs.Calls.{text_tree, blob_tree, new_list}
 use Rattle.capnp_model.specs.Groups.{empty_tree, source_tree, has_active, copied_record, copied_entries, copied_reading}
-use Rattle.capnp_model.specs.Edits.{Cell, Edit, mark, put_bits, put_child, is_kept, edit_if, cleared, cleared_fields, pointer_writes, has_turn, group_writes, field_writes, body_writes, after_writes}
+use Rattle.capnp_model.specs.Edits.{Cell, Edit, mark, put_bits, put_child, edit_if, cleared, cleared_fields, pointer_writes, has_turn, group_writes, field_writes, body_writes, after_writes}
 use Rattle.capnp_model.specs.InKind.{Kinds, in_kind, child_in_kind, fields_in_kind, body_in_kind, shape_in_kind}
 use Rattle.capnp_model.specs.InKindCalls.{defaults_in_kind, field_defaults_in_kind, body_default_in_kind}
 use Rattle.capnp_model.proofs.SoundShapes.{MarkApart, HasPlace, Apart}
@@ -24,8 +23,8 @@ use Rattle.capnp_model.proofs.Views.{body_of-same}
 use Rattle.capnp_model.proofs.Marks.{view_of}
 use Rattle.capnp_model.proofs.Paths.{read_child-is, Apart-left, Apart-right, marks_mark}
 use Rattle.capnp_model.proofs.KeptCells.{KeptAll, KeptAll-refl, KeptAll-trans, kept_views, child-with_child, kept_if_put, kept_if_written, kept_if_marked, child_in_kind-is, discriminant-kept, body_in_kind-kept, both, or_right}
-use Rattle.capnp_model.proofs.FieldsApart.{IsIn, good_in, off_union_in, apart_in, OfField, IsLocal, AllChosen, IsBeside, run, run_meets}
-use Rattle.capnp_model.proofs.ClearedGroups.{IsBlank, Blank, Blank-local, blank_kept, first_member, AreCleared, fields_cleared, all_apart_in, union_apart, not_zero, nothing_read, nothing_in_kind}
+use Rattle.capnp_model.proofs.FieldsApart.{IsIn, off_union_in, apart_in, OfField, IsLocal, AllChosen, IsBeside, run, run_meets}
+use Rattle.capnp_model.proofs.ClearedGroups.{IsBlank, Blank, Blank-local, blank_kept, first_member, AreCleared, fields_cleared, all_apart_in, union_apart, not_zero, nothing_read}
 
 -- ---- values of the source
 

@@ -1,39 +1,36 @@
 -- Every call: where the record machine does not refuse, the record of the edited tree is its record, and lists stay in kind.
-use Rattle.std.proofs.Common.{◌≡◌, ℕ, zero, suc, max, ◌+◌, ◌*◌, ◌/◌, ◌%◌, ◌^◌, ◌<◌, ◌≤◌, ◌==◌, Bool, true, false, not, nat_le, nat_lt, ◌-◌, ◌&&◌, ◌||◌, ◌⊎◌, inl, inr, if◌then◌else◌, List, [], ◌∷◌, ◌++◌, length, Option, Some, None, refl, sym, ◌∙◌, ap, subst, arith}
+use Rattle.std.proofs.Common.{◌≡◌, ℕ, zero, suc, ◌+◌, ◌*◌, ◌/◌, ◌%◌, ◌^◌, ◌<◌, ◌≤◌, Bool, true, false, nat_lt, ◌-◌, ◌&&◌, ◌⊎◌, inl, inr, if◌then◌else◌, List, [], ◌∷◌, Option, Some, None, refl, sym, ◌∙◌, ap, subst, arith}
 use Rattle.std.specs.Prelude.{pos, negsuc}
-use Rattle.std.specs.Str.{bytes_eq}
-use Rattle.std.proofs.Math.Nat.{mod-lt, mod-mod}
 use Rattle.std.proofs.lemmas.Nat.{pow_pos}
 use lib.Bits.{bit_xor, xor_lt}
 use lib.Pow as pow
 use Rattle.capnp_model.specs.Kinds.{Kind, TypeMismatch, ExpectedAListOrBlob, InitnIsOnlyValidForListTextOrDataFields}
 use Rattle.capnp_model.specs.Sections.{bits_at}
-use Rattle.capnp_model.specs.Trees.{Tree, null, capability, structure, plain_list, pointer_list, struct_list, Trees, none, ◌▸◌, child, with_child, resized, padded_to, size_bits, size_of_width}
+use Rattle.capnp_model.specs.Trees.{Tree, null, capability, structure, plain_list, pointer_list, struct_list, Trees, none, ◌▸◌, child, with_child, resized, padded_to, size_of_width}
 use Rattle.capnp_model.specs.Schemas.{PlainType, bool, int, uint, «enum», width, Ty, void, plain, text, blob, untyped, interface, struct, list, Shape, shape, Fields, no_fields, field, Body, void_slot, plain_slot, pointer_slot, group_slot, Schema, default_or_null}
-use Rattle.capnp_model.specs.Readings.{Reading, inactive, null_pointer, fault, number, text_of, blob_of, list_of, record_as, opaque, Readings, no_readings, ◌▹◌, Record, Children, Extent, whole_words, just_bits, no_children, discriminant, is_active, only_if, shape_record, fields_of, body_of, expected_size, is_list_of, element_as, read, read_child, record_by_shape}
-use Rattle.capnp_model.specs.Printing.{fields_in, As}
+use Rattle.capnp_model.specs.Readings.{Reading, inactive, null_pointer, fault, number, list_of, record_as, Readings, no_readings, Record, whole_words, no_children, discriminant, is_active, only_if, shape_record, body_of, expected_size, is_list_of, element_as, read, read_child, record_by_shape}
+use Rattle.capnp_model.specs.Printing.{fields_in}
 use Rattle.capnp_model.specs.Accepted.{Area, are_apart, bit_area, pointer_area, union_area, areas_of, areas_of_fields, areas_of_body, is_apart_from, has_no_overlap, fields_are_apart, body_has_no_overlap}
 use Rattle.capnp_model.specs.Calls.{Step, name, index, CallValue, whole_number, truth, enumerant, text_value, blob_value, message, Verb, get, set_to, init, initn, clear, Content, refused_by, bits_of, object, message_root, struct_content, plain_content, value_content, empty_struct, empty_elements, empty_structs, new_list, init_content, initn_content, slot_content, element_content}
 use Rattle.capnp_model.specs.Groups.{group_fault, copied_record}
-use Rattle.capnp_model.specs.Steps.{Outcome, refused, shown, done, outcome_map, Target, no_target, target, target_of, entry_of, replaced, at_target, on_name, on_index, got, reading_after, slot_type, copied_or_refused, set_group_from, at_field, at_element, empty_reading, or_empty, opened, through_value, through_field, step_field, step_element, step_path}
-use Rattle.capnp_model.specs.Edits.{Cell, Edit, mark, put_bits, put_child, put_content, put_field, cleared, group_writes, after_writes, from_message, put_in_element, opened_tree, edit_target, edit_named, edit_struct, as_list, edit_list, edit_value, edit_through, edit_through_element, edit_field, edit_element, write_path}
+use Rattle.capnp_model.specs.Steps.{Outcome, done, Target, no_target, target, target_of, entry_of, replaced, at_target, on_name, on_index, reading_after, slot_type, copied_or_refused, set_group_from, at_field, at_element, or_empty, opened, through_value, through_field, step_field, step_element, step_path}
+use Rattle.capnp_model.specs.Edits.{Cell, Edit, mark, put_bits, put_child, put_content, put_field, cleared, group_writes, after_writes, from_message, put_in_element, opened_tree, edit_target, edit_named, edit_struct, edit_value, edit_through, edit_through_element, edit_field, edit_element, write_path}
 use Rattle.capnp_model.specs.InKind.{element_kinds, in_kind, child_in_kind, children_in_kind, elements_in_kind, fields_in_kind, body_in_kind, shape_in_kind}
-use Rattle.capnp_model.specs.InKindCalls.{defaults_in_kind, field_defaults_in_kind, body_default_in_kind, PathEnd, at_slot, at_value, nowhere, end_at, step_into, next_end, end_of, target_in_kind, group_source_in_kind}
+use Rattle.capnp_model.specs.InKindCalls.{defaults_in_kind, field_defaults_in_kind, body_default_in_kind, PathEnd, at_slot, at_value, end_at, step_into, next_end, end_of, target_in_kind, group_source_in_kind}
 use Rattle.capnp_model.specs.NamedPaths.{IsInRange, IsOpen, IsSlot}
 use Rattle.capnp_model.specs.CallRuns.{IsGiven}
-use Rattle.capnp_model.proofs.SoundShapes.{AllApart, MarkApart, HasPlace, Apart, FitsSlot, IsFine}
+use Rattle.capnp_model.proofs.SoundShapes.{HasPlace, Apart, FitsSlot, IsFine}
 use Rattle.capnp_model.proofs.KeptRules.{and_left, and_right, and_three}
 use Rattle.capnp_model.proofs.FineShapes.{IsGood, AreGood, IsGoodBody, fine_shape, found}
 use Rattle.capnp_model.proofs.FitCalls.{plain_fits}
 use Rattle.capnp_model.proofs.Bits.{bits_at-with_bits, xor_twice}
-use Rattle.capnp_model.proofs.Writes.{discriminant_after}
 use Rattle.capnp_model.proofs.Views.{shape_record-same}
 use Rattle.capnp_model.proofs.Marks.{view_of, read_child-padded_to}
-use Rattle.capnp_model.proofs.Paths.{IsDone, struct-replaced, read_child-with_child, read_child-is, mark_apart, field_apart, done_is, unmap, IsMapped, mapped, Opens, open_default, record_is, entry_of-fields_of, nothing_in, shown_not_done, after_call, put_is, still_active, IsThrough, through, to_through, marks_mark, Apart-left, Apart-right}
-use Rattle.capnp_model.proofs.KeptCells.{KeptAll, KeptAll-refl, KeptAll-trans, kept_views, child-with_child, kept_if_put, kept_if_written, kept_if_marked, child_in_kind-is, discriminant-kept, shape_in_kind-kept, body_in_kind-kept, IsPut, is_done, fields_stay_in_kind, both}
+use Rattle.capnp_model.proofs.Paths.{struct-replaced, read_child-with_child, read_child-is, mark_apart, field_apart, done_is, unmap, IsMapped, mapped, Opens, open_default, record_is, entry_of-fields_of, nothing_in, shown_not_done, after_call, put_is, still_active, IsThrough, through, to_through, Apart-left, Apart-right}
+use Rattle.capnp_model.proofs.KeptCells.{KeptAll, KeptAll-refl, kept_views, child-with_child, kept_if_put, kept_if_written, child_in_kind-is, discriminant-kept, shape_in_kind-kept, IsPut, is_done, fields_stay_in_kind, both}
 use Rattle.capnp_model.proofs.FieldsApart.{IsIn}
 use Rattle.capnp_model.proofs.ClearedGroups.{group_cleared, nothing_read, nothing_in_kind}
-use Rattle.capnp_model.proofs.CopiedGroups.{IsValue, read_value, IsPresent, read_present, same_number, behind_mark, empty_in_kind, quiet_shape, quiet_child, group_copied, kind_in}
+use Rattle.capnp_model.proofs.CopiedGroups.{IsValue, read_value, IsPresent, read_present, same_number, behind_mark, quiet_shape, quiet_child, group_copied, kind_in}
 use Rattle.capnp_model.proofs.ListElements.{IsReal, HasRoom, ElementRoom, IsElement, ChangesElement, ReadsStraight, list_law, child_in_kind-padded_to}
 
 -- ---- what accepted schemas give, for structs that are reached

@@ -1,12 +1,12 @@
 -- Writes to some of the fields of a struct, one after the other.
-use Rattle.std.proofs.Common.{◌≡◌, ℕ, ◌==◌, Bool, true, false, ◌&&◌, ◌||◌, ◌⊎◌, inl, inr, List, [], ◌∷◌, ◌++◌, Option, Some, None, refl, sym, ◌∙◌, ap, subst, arith}
-use Rattle.capnp_model.specs.Schemas.{Shape, shape, Fields, no_fields, field, Body, Schema}
-use Rattle.capnp_model.specs.Accepted.{Area, bit_area, union_area, areas_of, areas_of_fields, areas_of_body, are_members, are_apart, is_apart_from, has_no_overlap, fields_are_apart, body_has_no_overlap}
+use Rattle.std.proofs.Common.{◌≡◌, ℕ, ◌==◌, Bool, true, false, ◌||◌, ◌⊎◌, inl, inr, List, Option, Some, None, refl, sym, ◌∙◌, ap, subst}
+use Rattle.capnp_model.specs.Schemas.{Fields, no_fields, field, Body, Schema}
+use Rattle.capnp_model.specs.Accepted.{Area, union_area, areas_of, areas_of_fields, areas_of_body, are_members, are_apart, is_apart_from, has_no_overlap, fields_are_apart, body_has_no_overlap}
 use Rattle.capnp_model.specs.Edits.{Cell, Edit, edit_if}
 use Rattle.capnp_model.proofs.SoundShapes.{MarkApart, Apart}
 use Rattle.capnp_model.proofs.KeptRules.{and_left, and_right, and_three}
 use Rattle.capnp_model.proofs.ApartAreas.{apart_of, Apart-sym}
-use Rattle.capnp_model.proofs.FineShapes.{IsGoodMember, IsNewMember, IsGood, AreGood, IsGoodBody, mark_of, front_of, back_of}
+use Rattle.capnp_model.proofs.FineShapes.{IsGoodMember, IsNewMember, AreGood, IsGoodBody, mark_of, front_of, back_of}
 use Rattle.capnp_model.proofs.KeptCells.{KeptAll, KeptAll-refl, KeptAll-trans}
 
 -- The member and the field stand among the fields.

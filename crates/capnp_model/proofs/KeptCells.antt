@@ -2,12 +2,12 @@
 use Rattle.std.proofs.Common.{◌≡◌, ℕ, zero, suc, ◌^◌, ◌<◌, ◌==◌, Bool, true, false, not, ◌&&◌, ◌||◌, List, [], ◌∷◌, ◌++◌, Option, Some, None, refl, sym, ◌∙◌, ap, subst, arith}
 use Rattle.std.specs.Str.{bytes_eq}
 use Rattle.capnp_model.specs.Sections.{bits_at}
-use Rattle.capnp_model.specs.Trees.{Tree, null, Trees, none, ◌▸◌, child, with_child, padded_to, resized}
-use Rattle.capnp_model.specs.Schemas.{width, Ty, Shape, shape, Fields, no_fields, field, Body, void_slot, plain_slot, pointer_slot, group_slot, Schema}
+use Rattle.capnp_model.specs.Trees.{Tree, Trees, none, ◌▸◌, child, with_child}
+use Rattle.capnp_model.specs.Schemas.{Ty, Shape, shape, Fields, no_fields, field, Body, void_slot, plain_slot, pointer_slot, group_slot, Schema}
 use Rattle.capnp_model.specs.Readings.{Reading, whole_words, discriminant, is_active, read, read_child, body_of}
 use Rattle.capnp_model.specs.Accepted.{Area, bit_area, pointer_area, union_area, areas_of, areas_of_fields, areas_of_body}
 use Rattle.capnp_model.specs.Edits.{Cell, mark, put_bits, put_child}
-use Rattle.capnp_model.specs.InKind.{Kinds, in_kind, child_in_kind, fields_in_kind, body_in_kind, shape_in_kind}
+use Rattle.capnp_model.specs.InKind.{in_kind, child_in_kind, fields_in_kind, body_in_kind, shape_in_kind}
 use Rattle.capnp_model.specs.Views.{SameAll}
 use Rattle.capnp_model.proofs.SoundShapes.{AllApart, MarkApart, HasPlace, Apart, IsApartFrom, AtName, IsAlone}
 use Rattle.capnp_model.proofs.KeptRules.{and_left, and_right}

@@ -1,5 +1,5 @@
 -- A change of one element of a list does to what the list reads as what the step does to that element's reading.
-use Rattle.std.proofs.Common.{◌≡◌, ℕ, zero, suc, max, ◌+◌, ◌*◌, ◌/◌, ◌%◌, ◌^◌, ◌<◌, ◌≤◌, ◌==◌, Bool, true, false, not, nat_le, ◌&&◌, ◌||◌, ◌⊎◌, inl, inr, if◌then◌else◌, List, [], ◌∷◌, length, Option, Some, None, refl, sym, ◌∙◌, ap, subst, arith}
+use Rattle.std.proofs.Common.{◌≡◌, ℕ, zero, suc, max, ◌+◌, ◌*◌, ◌/◌, ◌%◌, ◌^◌, ◌<◌, ◌≤◌, ◌==◌, Bool, true, false, nat_le, ◌&&◌, if◌then◌else◌, List, [], ◌∷◌, length, Option, refl, sym, ◌∙◌, ap, subst, arith}
 use Rattle.std.specs.List.{AllByRecursion}
 use Rattle.std.proofs.Math.Nat.{mod-lt, mod-mod}
 use Rattle.std.proofs.lemmas.Nat.{pow_pos}
@@ -7,14 +7,14 @@ use lib.Pow as pow
 use Rattle.capnp_model.specs.Sections.{bits_at, numbers_in, number_of}
 use Rattle.capnp_model.specs.Trees.{Tree, null, capability, structure, plain_list, pointer_list, struct_list, Trees, none, ◌▸◌, Elements, no_elements, element, child, resized, padded_to, size_bits, size_of_width, plain_elements}
 use Rattle.capnp_model.specs.Schemas.{PlainType, width, Ty, void, plain, text, blob, untyped, interface, struct, list, Shape, shape, Fields, Schema}
-use Rattle.capnp_model.specs.Readings.{Reading, number, record_as, list_of, fault, Readings, no_readings, ◌▹◌, Children, Extent, whole_words, just_bits, no_children, only_child, shape_record, expected_size, is_accepted_as, is_list_of, element_as, list_reading, plain_readings, read, read_child, pointer_elements, struct_elements}
-use Rattle.capnp_model.specs.Steps.{Outcome, refused, shown, done, outcome_map, on_index}
+use Rattle.capnp_model.specs.Readings.{Reading, number, record_as, list_of, Readings, ◌▹◌, Children, Extent, whole_words, just_bits, no_children, only_child, shape_record, expected_size, is_accepted_as, is_list_of, element_as, list_reading, plain_readings, read, read_child, pointer_elements, struct_elements}
+use Rattle.capnp_model.specs.Steps.{Outcome, done, on_index}
 use Rattle.capnp_model.specs.Edits.{Cell, Edit, as_list, elements_of_plain, widened_list, padded_elements, on_plain, on_pointers, on_elements, edit_list}
 use Rattle.capnp_model.specs.InKind.{Kinds, one_kind, element_kinds, in_kind, child_in_kind, children_in_kind, elements_in_kind}
 use Rattle.capnp_model.proofs.KeptRules.{and_left, and_right}
-use Rattle.capnp_model.proofs.Numbers.{length-numbers_in, numbers_in_lt, numbers_in-number_of}
+use Rattle.capnp_model.proofs.Numbers.{length-numbers_in, numbers_in_lt}
 use Rattle.capnp_model.proofs.Marks.{read_child-padded_to}
-use Rattle.capnp_model.proofs.Paths.{done_is, unmap, IsMapped, mapped, read_child-is}
+use Rattle.capnp_model.proofs.Paths.{unmap, IsMapped, mapped, read_child-is}
 use Rattle.capnp_model.proofs.KeptCells.{child_in_kind-is, both}
 use Rattle.capnp_model.proofs.CopiedGroups.{quiet_shape, quiet_child}
 

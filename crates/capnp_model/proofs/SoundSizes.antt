@@ -1,11 +1,11 @@
 -- Accepted node records: types have sizes of their own, and every area lies in its struct's sections.
-use Rattle.std.proofs.Common.{◌≡◌, ℕ, zero, suc, ◌+◌, ◌*◌, ◌^◌, ◌<◌, ◌≤◌, Bool, true, false, not, ◌&&◌, ◌||◌, ◌==◌, ◌⊎◌, inl, inr, nat_lt, nat_le, cond, if◌then◌else◌, Option, Some, None, List, [], ◌∷◌, ◌++◌, length, map, refl, sym, ◌∙◌, ap, subst, arith}
-use Rattle.std.specs.List.{list_all, list_any, flat_map, find, count_by}
+use Rattle.std.proofs.Common.{◌≡◌, ℕ, zero, suc, ◌+◌, ◌*◌, ◌<◌, ◌≤◌, Bool, true, false, not, ◌&&◌, ◌||◌, ◌==◌, ◌⊎◌, inl, inr, nat_lt, nat_le, cond, if◌then◌else◌, Option, Some, None, List, [], ◌∷◌, ◌++◌, length, map, refl, sym, ◌∙◌, ap, subst, arith}
+use Rattle.std.specs.List.{list_all, list_any, flat_map, count_by}
 use Rattle.std.proofs.lemmas.List.Folds.{list_all-append, list_any-append}
 use Rattle.std.proofs.lemmas.List.Sums.{sum_by-cons, sum_by-append}
 use Rattle.capnp_model.specs.Trees.{size_bits, size_of_width}
-use Rattle.capnp_model.specs.Schemas.{PlainType, width, Ty, void, plain, text, blob, untyped, interface, struct, list, BaseType, base_type, lists_of, type_of, Value, FieldKind, slot, group, Field, StructNode, NodeKind, struct_node, enum_node, Node, Shape, shape, Fields, no_fields, field, Body, void_slot, plain_slot, pointer_slot, group_slot, Schema}
-use Rattle.capnp_model.specs.Accepted.{Area, bit_area, pointer_area, union_area, areas_of, areas_of_fields, areas_of_body, find_node, fields_of_kind, on_struct, slot_types, types_in, groups_of_field, groups_used, is_group_node, is_struct_node, is_enum_node, names_a, slot_body, field_body, fields_from, default_tree, default_bits, union_place, no_shape, shape_of_node, shape_in, schema_of, annotations_in, names_its_sort, has_good_ids, uses_of, holder_of, sizes_of, fits_in, meets_below, is_good_group, members_of, are_once, has_good_union, is_inside, has_its_place, has_places, IsAccepted}
+use Rattle.capnp_model.specs.Schemas.{width, Ty, void, plain, text, blob, untyped, interface, struct, list, BaseType, base_type, lists_of, type_of, Value, FieldKind, slot, group, Field, StructNode, NodeKind, struct_node, enum_node, Node, Shape, shape, Fields, Body}
+use Rattle.capnp_model.specs.Accepted.{Area, bit_area, pointer_area, union_area, areas_of, areas_of_fields, areas_of_body, find_node, fields_of_kind, on_struct, slot_types, types_in, groups_of_field, groups_used, is_group_node, names_a, slot_body, field_body, fields_from, union_place, no_shape, shape_of_node, shape_in, schema_of, annotations_in, names_its_sort, has_good_ids, uses_of, holder_of, sizes_of, fits_in, meets_below, is_good_group, members_of, are_once, has_good_union, is_inside, has_its_place, has_places, IsAccepted}
 use Rattle.capnp_model.proofs.KeptRules.{and_left, and_right, and_three, behind, no_break, found_passes}
 use Rattle.capnp_model.proofs.SoundRules.{RulesKept, rules_kept, no_group, found_id}
 use Rattle.capnp_model.proofs.KeptCells.{or_right}
@@ -258,7 +258,7 @@ no_shape_sound : (nodes : List Node) → IsSoundShape nodes no_shape
 unfolding areas_of
 no_shape_sound nodes = record { real = tt; within = tt; straight = tt }
 
-all_pass : (test : ℕ → Bool) (xs : List ℕ) (g : ℕ) → list_all test xs ≡ true → list_any (λ x. x == g) xs ≡ true → test g ≡ true
+pub all_pass : (test : ℕ → Bool) (xs : List ℕ) (g : ℕ) → list_all test xs ≡ true → list_any (λ x. x == g) xs ≡ true → test g ≡ true
 all_pass test [] g h k = absurd (cc k)
 all_pass test (x ∷ xs) g h k = by (x == g) refl k (λ l. all_pass test xs g (and_right (test x) (list_all test xs) h) l)
   where
