@@ -9,8 +9,10 @@ use Rattle.capnp_model.specs.Trees.{Tree, null, capability, structure, plain_lis
 use Rattle.capnp_model.specs.Schemas.{PlainType, width, Ty, void, plain, text, blob, struct, list, Shape, shape, Fields, no_fields, field, Body, void_slot, plain_slot, pointer_slot, group_slot, Schema, default_or_null}
 use Rattle.capnp_model.specs.Readings.{Reading, inactive, null_pointer, fault, number, text_of, record_as, Readings, Record, entry, no_children, whole_words, field_bits, discriminant, is_active, only_if, read, read_child, shape_record, fields_of, body_of, text_reading, list_reading}
 use Rattle.capnp_model.specs.Accepted.{Area, pointer_area, union_area, areas_of, areas_of_fields, areas_of_body, are_apart, is_apart_from, has_no_overlap, fields_are_apart, body_has_no_overlap}
+use Rattle.std.proofs.lemmas.List.{append-nil}
+use Rattle.capnp_model.specs.Calls.{set_to, message}
 use Rattle.capnp_model.specs.Groups.{empty_tree, source_tree, has_active, copied_record, copied_entries, copied_reading}
-use Rattle.capnp_model.specs.Edits.{Cell, Edit, mark, put_bits, put_child, edit_if, cleared, cleared_fields, pointer_writes, has_turn, group_writes, field_writes, body_writes, after_writes}
+use Rattle.capnp_model.specs.Edits.{Cell, Edit, mark, put_bits, put_child, edit_if, cleared, cleared_fields, pointer_writes, has_turn, group_writes, field_writes, body_writes, after_writes, IsBegun, edit_field}
 use Rattle.capnp_model.specs.InKind.{Kinds, in_kind, child_in_kind, fields_in_kind, body_in_kind, shape_in_kind}
 use Rattle.capnp_model.specs.InKindCalls.{defaults_in_kind, field_defaults_in_kind, body_default_in_kind}
 use Rattle.capnp_model.proofs.SoundShapes.{MarkApart, HasPlace, Apart}
@@ -204,9 +206,9 @@ copied_is s known (Some k) (pointer_slot i ty d) from =
       | inl e ↦ subst (λ z. copied_reading s known (Some k) (pointer_slot i ty d) (read s z ty) ≡ read s (source_tree s ty (default_or_null d) z) ty) (sym e)
           (ap (copied_reading s known (Some k) (pointer_slot i ty d)) (nothing_read s ty) ∙ null_copied s known k i ty d)
       | inr h ↦ value_copied s known (Some k) i ty d (read s t ty) h ∙ elim (source_is s ty (default_or_null d) t) [
-          | inl e ↦ absurd (subst (λ z. IsValue z) (nothing_read s ty) (subst (λ z. IsValue (read s z ty)) e h))
-          | inr e ↦ ap (λ z. read s z ty) (sym e)
-        ]
+        | inl e ↦ absurd (subst (λ z. IsValue z) (nothing_read s ty) (subst (λ z. IsValue (read s z ty)) e h))
+        | inr e ↦ ap (λ z. read s z ty) (sym e)
+      ]
     ]
 
 pub record Copied (s : Schema) (from : Cell) (m : Option ℕ) (b : Body) (c : Cell) : Type 0 where
@@ -335,8 +337,10 @@ has_active-knows s (field n (Some k) b fs) d c = by (is_active (Some k) d) (has_
   where
     x : Reading
     x = body_of b whole_words c.section (read_child s c.kids)
+
     rest : Record
     rest = fields_of fs d whole_words c.section (read_child s c.kids)
+
     by : (t : Bool) → has_active fs rest ≡ knows fs d → has_active (field n (Some k) b fs) (entry n (only_if t x) rest) ≡ (t || knows fs d)
     by true e = active_if_present n n k b fs x rest (body_present s b c)
     by false e = e
@@ -467,15 +471,19 @@ module _ (s : Schema) (u active : Option ℕ) (from : Cell) where
     where
       x : Reading
       x = body_of b whole_words from.section (read_child s from.kids)
+
       y : Reading
       y = body_of b whole_words c.section (read_child s c.kids)
+
       member : (k : ℕ) (t : Bool) → (t ≡ true → Copied s from (Some k) b c) → only_if t y ≡ copied_reading s true (Some k) b (only_if t x)
       member k true f = (f refl).reads ∙ sym (copied_is s true (Some k) b from)
       member zero false f = refl
       member (suc k) false f = refl
+
       here : (m : Option ℕ) → AreCopied (field n m b fs) true c → only_if (is_active m active) y ≡ copied_reading s true m b (only_if (is_active m active) x)
       here None h = (h.others b (inl (refl, refl))).reads ∙ sym (copied_is s true None b from)
       here (Some k) h = member k (is_active (Some k) active) (λ e. h.members k b (inl (refl, refl)) e)
+
       two : (m : Option ℕ) → AreCopied (field n m b fs) true c → fields_of fs active whole_words c.section (read_child s c.kids) ≡ copied_entries s fs true (fields_of fs active whole_words from.section (read_child s from.kids))
           → entry n (only_if (is_active m active) y) (fields_of fs active whole_words c.section (read_child s c.kids))
           ≡ entry n (copied_reading s true m b (only_if (is_active m active) x)) (copied_entries s fs true (fields_of fs active whole_words from.section (read_child s from.kids)))
@@ -489,6 +497,7 @@ module _ (s : Schema) (u active : Option ℕ) (from : Cell) where
       member : (k : ℕ) (t : Bool) → (t ≡ true → Copied s from (Some k) b c) → (not t || body_in_kind b c.section (child_in_kind s c.kids)) ≡ true
       member k true f = (f refl).kinds
       member k false f = refl
+
       here : (m : Option ℕ) → AreCopied (field n m b fs) true c → (not (is_active m active) || body_in_kind b c.section (child_in_kind s c.kids)) ≡ true
       here None h = (h.others b (inl (refl, refl))).kinds
       here (Some k) h = member k (is_active (Some k) active) (λ e. h.members k b (inl (refl, refl)) e)
@@ -515,14 +524,18 @@ module _ (s : Schema) (u active : Option ℕ) (from : Cell) where
     where
       x : Reading
       x = body_of b whole_words from.section (read_child s from.kids)
+
       y : Reading
       y = body_of b whole_words c.section (read_child s c.kids)
+
       zero_reads : (v : Option ℕ) → HasUnion v → y ≡ body_of b whole_words 0 no_children → only_if (is_active (Some 0) (first_member v)) y ≡ body_of b whole_words 0 no_children
       zero_reads None union e = absurd union
       zero_reads (Some at) union e = e
+
       later_reads : (v : Option ℕ) (k : ℕ) → only_if (is_active (Some (suc k)) (first_member v)) y ≡ inactive
       later_reads None k = refl
       later_reads (Some at) k = ap (λ z. only_if z y) (not_zero k)
+
       here : (m : Option ℕ) → IsGoodMember u m → knows (field n m b fs) active ≡ false → AreCopied (field n m b fs) false c → only_if (is_active m (first_member u)) y ≡ copied_reading s false m b (only_if (is_active m active) x)
       here None g e h = (h.others b (inl (refl, refl))).reads ∙ sym (copied_is s false None b from)
       here (Some zero) g e h = zero_reads u g.0 (h.first refl b (inl (refl, refl))).reads ∙ ap (λ z. copied_reading s false (Some zero) b (only_if z x)) (sym (first_known zero b n fs e).0)
@@ -536,6 +549,7 @@ module _ (s : Schema) (u active : Option ℕ) (from : Cell) where
       later_kind : (v : Option ℕ) (k : ℕ) (z : Bool) → (not (is_active (Some (suc k)) (first_member v)) || z) ≡ true
       later_kind None k z = refl
       later_kind (Some at) k z = ap (λ t. not t || z) (not_zero k)
+
       here : (m : Option ℕ) → AreCopied (field n m b fs) false c → (not (is_active m (first_member u)) || body_in_kind b c.section (child_in_kind s c.kids)) ≡ true
       here None h = (h.others b (inl (refl, refl))).kinds
       here (Some zero) h = or_right (not (is_active (Some zero) (first_member u))) _ (h.first refl b (inl (refl, refl))).kinds
@@ -627,13 +641,13 @@ module _ (s : Schema) (nid w p : ℕ) (u : Option ℕ) (fs : Fields) (good : Are
   by_knowledge true e =
       let h = subst (λ z. AreCopied s u source from fs z whole_cell) e copied_fields in (
         ap (λ z. fields_of fs z whole_words whole_cell.section (read_child s whole_cell.kids)) (known_mark e) ∙ known_reads s u source from fs whole_cell h
-        ∙ ap (λ z. copied_entries s fs z (fields_of fs source whole_words from.section (read_child s from.kids))) (sym e),
+            ∙ ap (λ z. copied_entries s fs z (fields_of fs source whole_words from.section (read_child s from.kids))) (sym e),
         ap (λ z. fields_in_kind fs z whole_cell.section (child_in_kind s whole_cell.kids)) (known_mark e) ∙ known_in_kind s u source from fs whole_cell h,
       )
   by_knowledge false e =
       let h = subst (λ z. AreCopied s u source from fs z whole_cell) e copied_fields in (
         ap (λ z. fields_of fs z whole_words whole_cell.section (read_child s whole_cell.kids)) (unknown_mark e) ∙ unknown_reads s u source from fs whole_cell good e h
-        ∙ ap (λ z. copied_entries s fs z (fields_of fs source whole_words from.section (read_child s from.kids))) (sym e),
+            ∙ ap (λ z. copied_entries s fs z (fields_of fs source whole_words from.section (read_child s from.kids))) (sym e),
         ap (λ z. fields_in_kind fs z whole_cell.section (child_in_kind s whole_cell.kids)) (unknown_mark e) ∙ unknown_in_kind s u source from fs whole_cell h,
       )
 
@@ -702,3 +716,11 @@ mutual
       let c' = after_writes (group_writes s g (mark u m) from) c in
       let rest = behind_mark s u m (group_slot g) c c' place off (λ ys h. d.keeps ys h) in
       (record { reads = ap record_as d.reads; kinds = d.kinds }, rest.0, rest.1)
+
+-- the edit is the last beginning
+pub set_by_writes : (s : Schema) (u member : Option ℕ) (g : Shape) (words : ℕ) (from c : Cell) → edit_field s [] (set_to (message (structure words from.section from.kids))) u member (group_slot g) c ≡ after_writes (group_writes s g (mark u member) from) c
+unfolding edit_field group_writes
+set_by_writes s u member (shape nid w p v fs) words from c = refl
+
+pub begun_whole : (s : Schema) (u member : Option ℕ) (g : Shape) (words : ℕ) (from c : Cell) → IsBegun s u member g from c (edit_field s [] (set_to (message (structure words from.section from.kids))) u member (group_slot g) c)
+begun_whole s u member g words from c = (group_writes s g (mark u member) from, [], sym (append-nil (group_writes s g (mark u member) from)), set_by_writes s u member g words from c)

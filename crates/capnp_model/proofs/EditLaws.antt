@@ -39,6 +39,7 @@ word_bits x a n h k = by (nat_le (a + n) 64) refl
   where
     no_le : (p q : ℕ) → nat_le p q ≡ false → p ≤ q → ⊥
     no_le p q e l = absurd (grind arith)
+
     by : (b : Bool) → nat_le (a + n) 64 ≡ b → (if b then bits_at a n x else 0) ≡ bits_at a n x
     by true e = refl
     by false e = elim k [ inl l ↦ absurd (no_le (a + n) 64 e l) | inr l ↦ sym (none_above x a n h l) ]
@@ -161,6 +162,7 @@ module _ (s : Schema) (R : ℕ → Type 0) (reached : (id : ℕ) → R id → Is
     where
       stays : (o : Outcome Record) → step s id c (record_of s id t) ≡ o → edit s id c t ≡ t → after_outcome (record_of s id t) o ≡ record_of s id t → CallDone s id c t (after_outcome (record_of s id t) (step s id c (record_of s id t)))
       stays o e same keeps = (ap (record_of s id) same ∙ sym keeps ∙ ap (after_outcome (record_of s id t)) (sym e), ap (λ z. in_kind s z (struct id)) same ∙ kind)
+
       by : (o : Outcome Record) → step s id c (record_of s id t) ≡ o → CallDone s id c t (after_outcome (record_of s id t) (step s id c (record_of s id t)))
       by (refused k) e = stays (refused k) e (edit_is s id c t (refused k) e) refl
       by (shown how r) e = stays (shown how r) e (edit_is s id c t (shown how r) e) refl

@@ -789,6 +789,7 @@ module _ (s : Schema) (R : ℕ → Type 0) (reached : (id : ℕ) → R id → Is
     where
       same : id ≡ id'
       same = cc is_struct
+
       by : (g : Shape) → s.shape_of id ≡ g → IsSound s R g → shape_in_kind g c.section (child_in_kind s c.kids) ≡ true → verb_in_kind s verb (end_of s path (end_at (target_of l (fields_in g)))) ≡ true
           → IsElement s (struct id) (elim g as (λ (x : Shape). Cell) [ shape nid w p union fs ↦ edit_named (edit_field s path verb) l union fs c ]) r
       by (shape nid w p u fs) e sound kinds value' =

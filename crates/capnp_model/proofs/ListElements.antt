@@ -118,6 +118,7 @@ module _ (s : Schema) (ty : Ty) (f : Reading → Outcome Reading) (change : ℕ 
     where
       first : element_kinds s ty 0 (one_kind (in_kind s t)) ≡ true
       first = and_left (element_kinds s ty 0 (one_kind (in_kind s t))) (children_in_kind s ts ty) kind
+
       by : IsMapped (λ x. x ▹ pointer_elements s ts ty) (f (element_as s ty (just_bits 0) 0 (only_child (read s t)))) rs
           → (pointer_elements s (on_pointers (change 0 1) zero (t ▸ ts)) ty ≡ rs) × (children_in_kind s (on_pointers (change 0 1) zero (t ▸ ts)) ty ≡ true)
       by (mapped x e gives) =
@@ -131,6 +132,7 @@ module _ (s : Schema) (ty : Ty) (f : Reading → Outcome Reading) (change : ℕ 
     where
       head : Reading
       head = element_as s ty (just_bits 0) 0 (only_child (read s t))
+
       by : IsMapped (λ xs. head ▹ xs) (on_index f k (pointer_elements s ts ty)) rs
           → ((xs : Readings) → on_index f k (pointer_elements s ts ty) ≡ done xs → (pointer_elements s (on_pointers (change 0 1) k ts) ty ≡ xs) × (children_in_kind s (on_pointers (change 0 1) k ts) ty ≡ true))
           → (head ▹ pointer_elements s (on_pointers (change 0 1) k ts) ty ≡ rs) × ((element_kinds s ty 0 (one_kind (in_kind s t)) && children_in_kind s (on_pointers (change 0 1) k ts) ty) ≡ true)
@@ -186,6 +188,7 @@ module _ (s : Schema) (ty : Ty) (f : Reading → Outcome Reading) (change : ℕ 
     where
       head : Reading
       head = element_as s ty whole_words section (read_child s kids)
+
       by : IsMapped (λ xs. head ▹ xs) (on_index f k (struct_elements s es ty)) rs
           → ((xs : Readings) → on_index f k (struct_elements s es ty) ≡ done xs → (struct_elements s (on_elements (change words pointers) k es) ty ≡ xs) × (elements_in_kind s (on_elements (change words pointers) k es) ty ≡ true))
           → (head ▹ struct_elements s (on_elements (change words pointers) k es) ty ≡ rs) × ((element_kinds s ty section (child_in_kind s kids) && elements_in_kind s (on_elements (change words pointers) k es) ty) ≡ true)
@@ -343,8 +346,8 @@ module _ (s : Schema) (R : ℕ → Type 0) (f : Reading → Outcome Reading) (ch
       ap (λ y. on_index f k (plain_readings s (size_bits y) (numbers_in (size_bits y) n section) ty)) (sym size) ∙ ap (on_index f k) two.1 ∙ h in
       let now_reads = on_section s ty is_plain R real f change meets k n section rs now in (
         ap (λ b. list_reading b (plain_readings s (size_bits z) (numbers_in (size_bits z) n (number_of (size_bits z) (on_plain (change 1 0) k (numbers_in (size_bits z) n section)))) ty)) two.0
-        ∙ ap (λ y. list_of (plain_readings s (size_bits y) (numbers_in (size_bits y) n (number_of (size_bits y) (on_plain (change 1 0) k (numbers_in (size_bits y) n section)))) ty)) size
-        ∙ ap list_of now_reads,
+            ∙ ap (λ y. list_of (plain_readings s (size_bits y) (numbers_in (size_bits y) n (number_of (size_bits y) (on_plain (change 1 0) k (numbers_in (size_bits y) n section)))) ty)) size
+            ∙ ap list_of now_reads,
         kind,
       )
 

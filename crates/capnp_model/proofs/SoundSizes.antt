@@ -70,16 +70,20 @@ straight_width w h o = by (w == 1) (w == 8) (w == 16) (w == 32) refl refl refl r
   where
     eq_is : (a b : ℕ) → (a == b) ≡ true → a ≡ b
     eq_is a b e = grind arith
+
     at : (q : ℕ) (v : ℕ) → v * q ≡ 64 → (nat_lt o q ≡ true → v * o + v ≤ 64) → (nat_lt o q ≡ false → 64 ≤ v * o) → (v * o + v ≤ 64) ⊎ (64 ≤ v * o)
     at q v e f g = by_order (nat_lt o q) refl
       where
         by_order : (b : Bool) → nat_lt o q ≡ b → (v * o + v ≤ 64) ⊎ (64 ≤ v * o)
         by_order true l = inl (f l)
         by_order false l = inr (g l)
+
     below : (q : ℕ) → nat_lt o q ≡ true → o < q
     below q l = grind arith
+
     above : (q : ℕ) → nat_lt o q ≡ false → q ≤ o
     above q l = grind arith
+
     by : (a b c d : Bool) → (w == 1) ≡ a → (w == 8) ≡ b → (w == 16) ≡ c → (w == 32) ≡ d → size_bits (if a then 1 else (if b then 2 else (if c then 3 else (if d then 4 else 5)))) ≡ w → (w * o + w ≤ 64) ⊎ (64 ≤ w * o)
     by true b c d e f g i k = subst (λ z. (z * o + z ≤ 64) ⊎ (64 ≤ z * o)) k (at 64 1 refl (λ l. let m = below 64 l in omega arith) (λ l. let m = above 64 l in omega arith))
     by false true c d e f g i k = subst (λ z. (z * o + z ≤ 64) ⊎ (64 ≤ z * o)) k (at 8 8 refl (λ l. let m = below 8 l in omega arith) (λ l. let m = above 8 l in omega arith))
@@ -264,6 +268,7 @@ all_pass test (x ∷ xs) g h k = by (x == g) refl k (λ l. all_pass test xs g (a
   where
     eq_is : (a b : ℕ) → (a == b) ≡ true → a ≡ b
     eq_is a b e = grind arith
+
     by : (b : Bool) → (x == g) ≡ b → (b || list_any (λ x. x == g) xs) ≡ true → (list_any (λ x. x == g) xs ≡ true → test g ≡ true) → test g ≡ true
     by true e l more = ap test (sym (eq_is x g e)) ∙ and_left (test x) (list_all test xs) h
     by false e l more = more l
