@@ -29,10 +29,16 @@ cost_together (Ok c ∷ a) b m n e f =
 pub cost_of_first : (c m : ℕ) (vs : List Visit) → visits_cost vs ≡ Some m → visits_cost (Ok c ∷ vs) ≡ Some (c + m)
 cost_of_first c m vs e = rw e refl
 
-faults_together : (a b : List Visit) → faults_among (a ++ b) ≡ faults_among a ++ faults_among b
+pub faults_together : (a b : List Visit) → faults_among (a ++ b) ≡ faults_among a ++ faults_among b
 faults_together [] b = refl
 faults_together (Err k ∷ a) b = ap (λ (ks : List Kind). k ∷ ks) (faults_together a b)
 faults_together (Ok n ∷ a) b = faults_together a b
+
+-- what was paid has no fault
+pub faults_of_paid : (a : List Visit) (m : ℕ) → visits_cost a ≡ Some m → faults_among a ≡ []
+faults_of_paid [] m e = refl
+faults_of_paid (Err k ∷ a) m e = absurd cc
+faults_of_paid (Ok c ∷ a) m e = let x = bind_some (visits_cost a) _ m e in faults_of_paid a x.0 x.1
 
 -- ---- values without a fault
 

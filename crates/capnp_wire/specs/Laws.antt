@@ -1,11 +1,11 @@
 -- How what is read one level deep makes the whole value.
-use Rattle.std.specs.Prelude.{◌≡◌, ℕ, suc, ◌+◌, ◌*◌, ◌<◌, slice_index, Contains, Option, Some, Ok, Err}
+use Rattle.std.specs.Prelude.{◌≡◌, ℕ, suc, ◌+◌, ◌*◌, ◌<◌, slice_index, [], ◌∷◌, Option, Some, Ok, Err}
 use Rattle.capnp_model.specs.Kinds.{Kind}
 use Rattle.capnp_model.specs.Sections.{bits_at}
 use Rattle.capnp_model.specs.Segments.{Segments, Place}
 use Rattle.capnp_model.specs.Trees.{Tree, struct_list, Elements, no_elements, element, size_bits, plain_elements}
 use Rattle.capnp_model.specs.Traversal.{tree_at, cost_at, each}
-use Rattle.capnp_model.specs.Faults.{faults_at}
+use Rattle.capnp_model.specs.Visits.{visits}
 use Rattle.capnp_wire.specs.declared.object.Found.{Found}
 use Rattle.capnp_units.specs.declared.sizes.ElementSize.TheVariants.{InlineComposite}
 use Rattle.capnp_wire.specs.declared.place.Place as wire
@@ -14,7 +14,7 @@ use Rattle.capnp_wire.specs.Places.{place_view}
 use Rattle.capnp_wire.specs.Objects.{object_at}
 use Rattle.capnp_wire.specs.Views.{Ground, section_at, ListView, list_view, element_of}
 use Rattle.capnp_wire.specs.Follow.{found_cost}
-use Rattle.capnp_wire.specs.Inside.{tree_in, cost_in, faults_in}
+use Rattle.capnp_wire.specs.Inside.{tree_in, cost_in, met_in}
 
 -- The tree at a place is that of its object, whose pointers have the trees of a level less.
 abbrev pub TreesByLevels : Type 0
@@ -24,13 +24,13 @@ TreesByLevels = (n : ℕ) (s : Segments) (p : Place) (f : Found) → object_at s
 abbrev pub CostsByLevels : Type 0
 CostsByLevels = (n : ℕ) (s : Segments) (p : Place) (f : Found) → object_at s p ≡ Ok f → cost_at (suc n) s p ≡ found_cost f + cost_in (cost_at n s) f.object
 
--- Its faults are those behind its pointers.
-abbrev pub FaultsByLevels : Type 0
-FaultsByLevels = (n : ℕ) (s : Segments) (p : Place) (f : Found) → object_at s p ≡ Ok f → faults_at (suc n) s p ≡ faults_in (faults_at n s) f.object
+-- A walk from there follows the pointer, at that cost, and then those in the object.
+abbrev pub VisitsByLevels : Type 0
+VisitsByLevels = (n : ℕ) (s : Segments) (p : Place) (f : Found) → object_at s p ≡ Ok f → visits (suc n) s p ≡ Ok (found_cost f) ∷ met_in (visits n s) f.object
 
--- Where no object is, the kind that says why is among the faults.
-abbrev pub FaultsOfObjects : Type 0
-FaultsOfObjects = (n : ℕ) (s : Segments) (p : Place) (k : Kind) → object_at s p ≡ Err k → Contains (faults_at (suc n) s p) k
+-- Where no object is, a walk ends at the fault that says why.
+abbrev pub VisitsOfFaults : Type 0
+VisitsOfFaults = (n : ℕ) (s : Segments) (p : Place) (k : Kind) → object_at s p ≡ Err k → visits (suc n) s p ≡ Err k ∷ []
 
 -- The elements from the ith on are those of the list as it is read: each has the section that the element has as a struct, and its children are those of its pointers.
 abbrev pub ShowsElements : (Place → Option Tree) → ListView → ℕ → Elements → Type 0

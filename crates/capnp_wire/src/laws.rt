@@ -1,12 +1,12 @@
 //! Laws of what is read, each the contract of an empty function: a call of it brings its clauses.
-ghost use Rattle.capnp_wire.specs.Laws.{TreesByLevels, CostsByLevels, FaultsByLevels, FaultsOfObjects, ElementsAreShown, NumbersAreShown};
+ghost use Rattle.capnp_wire.specs.Laws.{TreesByLevels, CostsByLevels, VisitsByLevels, VisitsOfFaults, ElementsAreShown, NumbersAreShown};
 
-/// What a pointer names, one level deep, makes the whole value together with what the pointers in it name: its tree, its cost and its faults.
+/// What a pointer names, one level deep, makes the whole value together with what the pointers in it name: its tree, its cost, and the walk over it.
 pub fn values_by_levels()
     ensures trees { TreesByLevels }
     ensures costs { CostsByLevels }
-    ensures faults { FaultsByLevels }
-    ensures refused { FaultsOfObjects }
+    ensures visits { VisitsByLevels }
+    ensures refused { VisitsOfFaults }
 {}
 
 /// A list as it is read shows the elements of the value: those of structs by their sections and pointers, plain ones by their numbers.
