@@ -153,12 +153,12 @@ stops_at : (n : ℕ) (s : Segments) (p : Place) (old new : ReadLimiter) (e : Err
 stops_at n s p old new e paid follow h = elim h [
   | inl fault ↦ stopped_first (visits n s p) [] (Err (kind_of e.kind)) old new e (within_unfound s p n (kind_of e.kind) fault) paid follow refl
   | inr dear ↦
-    let f = dear.1 in
-    let g = within_found s p n f dear.2 in
-    let first = first_visit s p g.0 g.1 f.object g.3 n g.2 in
-    let cost : visits n s p ≡ Ok (found_cost f) ∷ first.0 = first.1 ∙ ap (λ (k : ℕ). Ok (k + own_cost f.object) ∷ first.0) g.4 in
-    let all : found_cost f ≡ 0 + found_cost f = omega arith in
-    stopped_first (visits n s p) first.0 (Ok (found_cost f)) old new e cost paid follow (dear.0, subst (λ (k : ℕ). IsPassed (left_of old) k) all dear.3)
+      let f = dear.1 in
+      let g = within_found s p n f dear.2 in
+      let first = first_visit s p g.0 g.1 f.object g.3 n g.2 in
+      let cost : visits n s p ≡ Ok (found_cost f) ∷ first.0 = first.1 ∙ ap (λ (k : ℕ). Ok (k + own_cost f.object) ∷ first.0) g.4 in
+      let all : found_cost f ≡ 0 + found_cost f = omega arith in
+      stopped_first (visits n s p) first.0 (Ok (found_cost f)) old new e cost paid follow (dear.0, subst (λ (k : ℕ). IsPassed (left_of old) k) all dear.3)
 ]
 
 pub unfollowed_at : (n : ℕ) (s : Segments) (p : Place) (old new : ReadLimiter) (r : Result MessageSize Error) (d e : Error) → r ≡ Err d → d ≡ e → FollowsWithin n s p old (Err e) new → ValueGives n s p old r new

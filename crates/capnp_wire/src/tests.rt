@@ -1,5 +1,7 @@
 //! Worked segments, read.
 
+ghost use Rattle.std.specs.Prelude.{◌≡◌};
+
 use crate::arena::{NullArena, ReaderArena, ReaderArenaImpl};
 use crate::element::PrimitiveElement;
 use crate::list::ListReader;
@@ -16,8 +18,6 @@ use capnp_units::limiter::ReadLimiter;
 use capnp_units::sizes::{ElementSize, PointerType, StructSize, Word};
 use std::alloc::{AllocError, Global};
 use std::test::Fail;
-
-ghost use Rattle.std.specs.Prelude.{◌≡◌};
 
 const FAR: &[u8] = &[6, 0, 0, 0, 1, 0, 0, 0];
 
