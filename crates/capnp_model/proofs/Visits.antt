@@ -1,19 +1,22 @@
 -- What walks cost, how many pointers they follow, and the faults that they meet.
-use Rattle.std.proofs.Common.{◌≡◌, ℕ, zero, suc, ◌+◌, ◌*◌, List, [], ◌∷◌, ◌++◌, length, drop, Option, Some, None, Result, Ok, Err, refl, ap, sym, ◌∙◌, subst, arith, if◌then◌else◌, eqb}
+use Rattle.std.proofs.Common.{◌≡◌, ℕ, zero, suc, ◌+◌, ◌-◌, ◌*◌, ◌≤◌, leb, List, [], ◌∷◌, ◌++◌, length, drop, Option, Some, None, Result, Ok, Err, refl, ap, sym, ◌∙◌, subst, arith, if◌then◌else◌, eqb}
 use Rattle.std.specs.Option.{ok_or}
 use Rattle.std.specs.Result.{result_ok}
 use Rattle.std.proofs.lemmas.List.{length-append}
+use Rattle.std.proofs.lemmas.Bool.{leb-true}
+use Rattle.std.proofs.Math.Nat.{mul-le-mul_left}
 use Rattle.capnp_model.specs.Kinds.{Kind, OutOfBounds}
 use Rattle.capnp_model.specs.Chains.{◌>>=◌}
 use Rattle.capnp_model.specs.Sections.{words_for}
 use Rattle.capnp_model.specs.Segments.{Segments, Place, after, words_at}
-use Rattle.capnp_model.specs.Pointers.{Object, nothing, a_struct, a_list, a_capability, Found, found_at}
+use Rattle.capnp_model.specs.Pointers.{pointer_of, Object, nothing, a_struct, a_list, a_capability, Found, found_at}
 use Rattle.capnp_model.specs.Trees.{Tree, Trees, Elements, null, capability, structure, plain_list, pointer_list, struct_list, none, ◌▸◌, no_elements, element, size_bits}
-use Rattle.capnp_model.specs.Traversal.{Tag, tag_in, each, each_element, ListKind, of_bits, of_pointers, of_structs, list_kind, list_words, list_tree, tree_of, tree_at, leaf_of, cost_each, cost_elements, tag_cost, list_cost, object_cost, found_cost, cost_at}
+use Rattle.capnp_model.specs.Traversal.{Tag, tag_of, tag_in, each, each_element, ListKind, of_bits, of_pointers, of_structs, list_kind, list_words, list_tree, tree_of, tree_at, leaf_of, cost_each, cost_elements, tag_cost, list_cost, object_cost, found_cost, cost_at}
 use Rattle.capnp_model.specs.Coverage.{from_each, from_elements}
 use Rattle.capnp_model.specs.Faults.{faults_of, list_faults, object_faults, leaf_faults, faults_at}
 use Rattle.capnp_model.specs.Visits.{Visit, visits_of, list_visits, object_visits, leaf_visits, visits, visits_cost, faults_among, pointers_of, each_pointers_of, element_pointers_of}
-use Rattle.capnp_model.proofs.Chaining.{bind_some, bind_found, some_is}
+use Rattle.capnp_model.proofs.Chaining.{bind_some, bind_found, some_is, bind_ok, ok_is, guard_ok, ok_or_some}
+use Rattle.capnp_model.proofs.ReadFits.{words_length}
 
 -- ---- visits together
 
@@ -190,3 +193,103 @@ pub faults_of_visits : (n : ℕ) (s : Segments) (p : Place) → faults_among (vi
 unfolding visits faults_at
 faults_of_visits zero s p = found_faults _ _ (found_at s p) (λ f. leaf_faults_are f.pads f.object)
 faults_of_visits (suc n) s p = found_faults _ _ (found_at s p) (λ f. object_faults_are (visits n s) (faults_at n s) (faults_of_visits n s) s f.pads f.object)
+
+-- ---- how many pointers a walk follows
+
+-- Each visit follows one of so many pointers, or one whose words were paid before.
+abbrev Within : ℕ → List Visit → Type 0
+Within k [] = Unit {0}
+Within k (Ok c ∷ vs) = (1 ≤ k) × Within (k - 1 + c) vs
+Within k (Err kind ∷ vs) = (1 ≤ k) × Within (k - 1) vs
+
+within_more : (vs : List Visit) (k m : ℕ) → k ≤ m → Within k vs → Within m vs
+within_more [] k m h w = tt
+within_more (Ok c ∷ vs) k m h w = let one = w.0 in (omega arith, within_more vs (k - 1 + c) (m - 1 + c) (omega arith) w.1)
+within_more (Err kind ∷ vs) k m h w = let one = w.0 in (omega arith, within_more vs (k - 1) (m - 1) (omega arith) w.1)
+
+within_both : (a b : List Visit) (k m : ℕ) → Within k a → Within m b → Within (k + m) (a ++ b)
+within_both [] b k m w v = within_more b m (k + m) (omega arith) v
+within_both (Ok c ∷ a) b k m w v =
+    let one = w.0 in
+    let same : k - 1 + c + m ≡ k + m - 1 + c = omega arith in
+    (omega arith, subst (λ (n : ℕ). Within n (a ++ b)) same (within_both a b (k - 1 + c) m w.1 v))
+within_both (Err kind ∷ a) b k m w v =
+    let one = w.0 in
+    let same : k - 1 + m ≡ k + m - 1 = omega arith in
+    (omega arith, subst (λ (n : ℕ). Within n (a ++ b)) same (within_both a b (k - 1) m w.1 v))
+
+-- a walk that is refused has followed no more than those pointers and one for each word
+few_followed : (before : List Visit) (last : Visit) (rest : List Visit) (k paid : ℕ) → Within k (before ++ last ∷ rest) → visits_cost before ≡ Some paid → length before + 1 ≤ k + paid
+few_followed [] (Ok c) rest k paid w e = let one = w.0 in omega arith
+few_followed [] (Err kind) rest k paid w e = let one = w.0 in omega arith
+few_followed (Err kind ∷ before) last rest k paid w e = absurd cc
+few_followed (Ok c ∷ before) last rest k paid w e =
+    let one = w.0 in
+    let x = bind_some (visits_cost before) _ paid e in
+    let z = some_is _ _ x.2 in
+    let more = few_followed before last rest (k - 1 + c) x.0 w.1 x.1 in
+    omega arith
+
+tag_fits : (ws : List ℕ) (t : Tag) → tag_in ws ≡ Ok t → t.count * (t.data_words + t.pointers) + 1 ≤ length ws
+tag_fits [] t e = absurd cc
+tag_fits (w ∷ ws) t e =
+    let a = bind_ok (tag_of (pointer_of w)) _ t e in
+    let b = guard_ok (leb (a.0.count * (a.0.data_words + a.0.pointers)) (length ws)) OutOfBounds _ t a.2 in
+    let le : a.0.count * (a.0.data_words + a.0.pointers) ≤ length ws = leb-true _ _ b.0 in
+    let is : a.0 ≡ t = ok_is _ _ b.1 in
+    let here : t.count * (t.data_words + t.pointers) ≤ length ws = subst (λ (u : Tag). u.count * (u.data_words + u.pointers) ≤ length ws) is le in
+    omega arith
+
+step_within : {A : Type 0} (f : A → List Visit) (r : Result A Kind) → ((x : A) → r ≡ Ok x → Within 1 (f x)) → Within 1 (visits_of f r)
+step_within f (Ok x) h = h x refl
+step_within f (Err kind) h = (omega arith, tt)
+
+module _ (v : Place → List Visit) (h : (p : Place) → Within 1 (v p)) where
+  each_within : (k : ℕ) (p : Place) → Within k (from_each v p k)
+  each_within zero p = tt
+  each_within (suc k) p = let sum : 1 + k ≡ suc k = omega arith in subst (λ (n : ℕ). Within n (from_each v p (suc k))) sum (within_both (v p) (from_each v (after p 1) k) 1 k (h p) (each_within k (after p 1)))
+
+  elements_within : (n : ℕ) (p : Place) (d k : ℕ) → Within (n * k) (from_elements v p d k n)
+  elements_within zero p d k = tt
+  elements_within (suc n) p d k =
+      let sum : k + n * k ≡ suc n * k = omega arith in
+      subst (λ (m : ℕ). Within m (from_elements v p d k (suc n))) sum (within_both (from_each v (after p d) k) (from_elements v (after p (d + k)) d k n) k (n * k) (each_within k (after p d)) (elements_within n (after p (d + k)) d k))
+
+  first_within : (c k : ℕ) (vs : List Visit) → k ≤ c → Within k vs → Within 1 (Ok c ∷ vs)
+  first_within c k vs le w = (omega arith, within_more vs k (1 - 1 + c) (omega arith) w)
+
+  list_within : (pads : ℕ) (p : Place) (kind : ListKind) (size n : ℕ) (ws : List ℕ) → length ws ≡ list_words kind size n → Within 1 (list_visits v pads p kind size n ws)
+  list_within pads p of_bits size n ws len = (omega arith, tt)
+  list_within pads p of_pointers size n ws len = first_within (pads + n) n (from_each v p n) (omega arith) (each_within n p)
+  list_within pads p of_structs size n ws len =
+      step_within _ (tag_in ws) (λ t e.
+      let fits = tag_fits ws t e in
+      let less : t.count * t.pointers ≤ t.count * (t.data_words + t.pointers) = mul-le-mul_left t.count (omega arith) in
+      first_within (pads + (n + 1 + (if eqb (t.data_words + t.pointers) 0 then t.count else 0))) (t.count * t.pointers) (from_elements v (after p 1) t.data_words t.pointers t.count) (omega arith) (elements_within t.count (after p 1) t.data_words t.pointers))
+
+  object_within : (s : Segments) (pads : ℕ) (m : Object) → Within 1 (object_visits s v pads m)
+  object_within s pads nothing = (omega arith, tt)
+  object_within s pads (a_capability i) = (omega arith, tt)
+  object_within s pads (a_struct p d k) = step_within _ (ok_or (words_at s p (d + k)) OutOfBounds) (λ ws e. first_within (pads + (d + k)) k (from_each v (after p d) k) (omega arith) (each_within k (after p d)))
+  object_within s pads (a_list p size n) =
+      step_within _ (ok_or (words_at s p (list_words (list_kind size) size n)) OutOfBounds)
+      (λ ws e. list_within pads p (list_kind size) size n ws (words_length s p (list_words (list_kind size) size n) ws (ok_or_some _ _ _ e)))
+
+leaf_within : (pads : ℕ) (m : Object) → Within 1 (leaf_visits pads m)
+leaf_within pads nothing = (omega arith, tt)
+leaf_within pads (a_capability i) = (omega arith, tt)
+leaf_within pads (a_struct p d k) = (omega arith, tt)
+leaf_within pads (a_list p size n) = (omega arith, tt)
+
+visits_within : (n : ℕ) (s : Segments) (p : Place) → Within 1 (visits n s p)
+unfolding visits
+visits_within zero s p = step_within _ (found_at s p) (λ f e. leaf_within f.pads f.object)
+visits_within (suc n) s p = step_within _ (found_at s p) (λ f e. object_within (visits n s) (visits_within n s) s f.pads f.object)
+
+-- A walk over pointers in a row follows no more than those and one for each word that it paid before.
+pub row_follows_few : (n : ℕ) (s : Segments) (p : Place) (k : ℕ) (before : List Visit) (last : Visit) (rest : List Visit) (paid : ℕ) → from_each (visits n s) p k ≡ before ++ last ∷ rest → visits_cost before ≡ Some paid → length before + 1 ≤ k + paid
+row_follows_few n s p k before last rest paid e c = few_followed before last rest k paid (subst (Within k) e (each_within (visits n s) (visits_within n s) k p)) c
+
+-- The same from one pointer.
+pub follows_few : (n : ℕ) (s : Segments) (p : Place) (before : List Visit) (last : Visit) (rest : List Visit) (paid : ℕ) → visits n s p ≡ before ++ last ∷ rest → visits_cost before ≡ Some paid → length before ≤ paid
+follows_few n s p before last rest paid e c = let few = few_followed before last rest 1 paid (subst (Within 1) e (visits_within n s p)) c in omega arith

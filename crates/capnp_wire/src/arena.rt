@@ -26,7 +26,7 @@ pub trait ReaderArena {
     fn get_segment(&self, id: SegmentId) -> Option<&[u8]>
         ensures { option_copied result ≡ slice_get (segments self.now) id };
 
-    /// The nesting limit.
+    /// The nesting limit. What goes over a whole value takes stack for each level, `total_size` about 200 bytes, so a limit past some 40,000 asks for more than 8 MiB of it.
     fn nesting_limit(&self) -> i32
         ensures { result ≡ nesting self.now };
 
@@ -106,7 +106,7 @@ pub struct ReaderArenaImpl<S> {
 }
 
 impl<S: ReaderSegments> ReaderArenaImpl<S> {
-    /// An arena over these segments, in which values may be nested so many levels deep. Under a negative limit nothing but null is read.
+    /// An arena over these segments, in which values may be nested so many levels deep. Under a negative limit nothing but null is read. What goes over a whole value takes stack for each level, `total_size` about 200 bytes: a limit past some 40,000 asks for more than 8 MiB of it.
     pub fn new(segments: S, nesting_limit: i32) -> Self
         ensures segments { result.segments ≡ segments }
         ensures nesting { result.nesting_limit ≡ nesting_limit }

@@ -346,7 +346,7 @@ impl<'a, A: ReaderArena> PointerReader<'a, A> {
 
     /// The size of the pointer's value: the words of its objects at every depth, without pads and without the pointer itself, and its capabilities. Each count stops at the greatest number of its type. In an arena all of it is followed and paid for.
     ///
-    /// Pointers are followed in the order of reading, nulls too. It is refused at the first fault within the levels that are left, by its kind, and under a negative nesting limit with `NestingLimitExceeded` for every value; with `ReadLimitExceeded` at the first object that is there and costs more words than are left. Then the objects before it are paid for, and it counts as followed. On success just the value's pointers count as followed.
+    /// Pointers are followed in the order of reading, nulls too. It is refused at the first fault within the levels that are left, by its kind, and under a negative nesting limit with `NestingLimitExceeded` for every value; with `ReadLimitExceeded` at the first object that is there and costs more words than are left. Then the objects before it are paid for, and it counts as followed. On success just the value's pointers count as followed, and else no more than words are granted, and one.
     ///
     /// What bounds its time and its stack stands at `size_at`; a default has the words that it has, and no limit.
     pub fn total_size(&self, limiter: &mut ReadLimiter) -> Result<MessageSize>

@@ -148,7 +148,7 @@ impl<'a, A: ReaderArena> StructReader<'a, A> {
 
     /// The size of the struct: its sections in whole words, the words of the objects behind its pointers, and their capabilities. Each count stops at the greatest number of its type. In an arena the pointers are followed and paid for; the struct's own words were paid for already.
     ///
-    /// It is refused as the size of a pointer's value is.
+    /// It is refused as the size of a pointer's value is, and bounded in time and stack likewise.
     pub fn total_size(&self, limiter: &mut ReadLimiter) -> Result<MessageSize>
         ensures { StructSizeOf (seen_struct A.segments self.now) limiter.old result limiter.new }
     {
