@@ -8,8 +8,9 @@ ghost use Rattle.capnp_model.specs.Trees.{Tree, structure, plain_list, Trees, tr
 ghost use Rattle.capnp_model.specs.Trimming.{trim};
 ghost use Rattle.capnp_model.specs.Traversal.{tree_at, cost_at};
 ghost use Rattle.capnp_model.specs.Means.{Means};
-ghost use Rattle.capnp_model.specs.Coverage.{covered, cover, Keeps, Grows};
+ghost use Rattle.capnp_model.specs.Coverage.{from_each, covered, cover, Keeps, Grows};
 ghost use Rattle.capnp_model.specs.Faults.{faults_at};
+ghost use Rattle.capnp_model.specs.Visits.{Visit, visits, visits_cost, faults_among, pointers_of};
 ghost use Rattle.capnp_model.specs.Encoding.{body, canonical_words};
 ghost use Rattle.capnp_model.specs.Canonical.{is_canonical_at, is_canonical_message};
 ghost use Rattle.capnp_model.specs.Sizes.{object_words, capability_count};
@@ -198,4 +199,13 @@ pub fn compatible_along_versions()
 /// Along versions the oldest view of a record is the oldest view of its middle view.
 pub fn views_along_versions()
     ensures { (a b c : List Node) (x y z : ℕ) (t : Tree) → IsAccepted a → IsAccepted b → IsAccepted c → IsCompatible (schema_of a) (schema_of b) x y → IsCompatible (schema_of b) (schema_of c) y z → projected (schema_of a) x (projected (schema_of b) y (record_of (schema_of c) z t)) ≡ projected (schema_of a) x (record_of (schema_of c) z t) }
+{}
+
+/// A walk over a value without a fault costs what following its pointers costs, and follows just its pointers, nulls included; the faults of any value are those that a walk meets. A walk that is refused at a visit has followed no more pointers than it began with and one for each word that it paid.
+pub fn values_on_walks()
+    ensures cost { (n : ℕ) (s : Segments) (p : Place) (t : Tree) → tree_at n s p ≡ Some t → visits_cost (visits n s p) ≡ Some (cost_at n s p) }
+    ensures count { (n : ℕ) (s : Segments) (p : Place) (t : Tree) → tree_at n s p ≡ Some t → length (visits n s p) ≡ pointers_of t }
+    ensures faults { (n : ℕ) (s : Segments) (p : Place) → faults_among (visits n s p) ≡ faults_at n s p }
+    ensures few { (n : ℕ) (s : Segments) (p : Place) (before : List Visit) (last : Visit) (rest : List Visit) (paid : ℕ) → visits n s p ≡ before ++ last ∷ rest → visits_cost before ≡ Some paid → length before ≤ paid }
+    ensures few_in_row { (n : ℕ) (s : Segments) (p : Place) (k : ℕ) (before : List Visit) (last : Visit) (rest : List Visit) (paid : ℕ) → from_each (visits n s) p k ≡ before ++ last ∷ rest → visits_cost before ≡ Some paid → length before + 1 ≤ k + paid }
 {}

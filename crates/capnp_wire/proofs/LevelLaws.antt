@@ -1,10 +1,11 @@
 -- One level and those below it.
-use Rattle.std.proofs.Common.{◌≡◌, ℕ, ◌+◌, ◌∙◌, arith}
-use Rattle.capnp_wire.specs.Laws.{TreesByLevels, CostsByLevels, FaultsByLevels, FaultsOfObjects}
+use Rattle.std.proofs.Common.{◌≡◌, ℕ, ◌+◌, ◌∷◌, Ok, ap, ◌∙◌, arith}
+use Rattle.capnp_wire.specs.Laws.{TreesByLevels, CostsByLevels, VisitsByLevels, VisitsOfFaults}
 use Rattle.capnp_wire.specs.Follow.{own_cost}
-use Rattle.capnp_wire.specs.Inside.{cost_in}
+use Rattle.capnp_wire.specs.Inside.{cost_in, met_in}
 use Rattle.capnp_model.specs.Traversal.{cost_at}
-use Rattle.capnp_wire.proofs.Walking.{object_found, object_unfound, link_tree, link_cost, link_faults}
+use Rattle.capnp_model.specs.Visits.{visits}
+use Rattle.capnp_wire.proofs.Walking.{object_found, object_unfound, link_tree, link_cost, link_visits}
 
 pub trees : TreesByLevels
 trees n s p f e = let g = object_found s p f e in link_tree s p g.0 g.1 f.object g.2 n
@@ -18,8 +19,11 @@ costs n s p f e =
     let sum : g.0.pads + (own + rest) ≡ (f.pads + own) + rest = omega arith in
     link_cost s p g.0 g.1 f.object g.2 n ∙ sum
 
-pub faults : FaultsByLevels
-faults n s p f e = let g = object_found s p f e in link_faults s p g.0 g.1 f.object g.2 n
+pub visited : VisitsByLevels
+visited n s p f e =
+    let g = object_found s p f e in
+    let pads = g.3 in
+    link_visits s p g.0 g.1 f.object g.2 n ∙ ap (λ (k : ℕ). Ok (k + own_cost f.object) ∷ met_in (visits n s) f.object) pads
 
-pub refused : FaultsOfObjects
+pub refused : VisitsOfFaults
 refused n s p k e = object_unfound s p n k e

@@ -13,3 +13,4 @@ pub mod Rows
 pub mod Measuring
 pub mod LevelLaws
 pub mod ListLaws
+pub mod ReadingLaws

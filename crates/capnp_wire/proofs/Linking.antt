@@ -1,5 +1,5 @@
 -- What is met one level deep, and behind the pointers there.
-use Rattle.std.proofs.Common.{◌≡◌, ℕ, zero, suc, ◌+◌, ◌*◌, ◌%◌, ◌^◌, ◌<◌, true, eqb, List, [], take, drop, Option, Some, Ok, refl, ap, sym, ◌∙◌, arith, if◌then◌else◌}
+use Rattle.std.proofs.Common.{◌≡◌, ℕ, zero, suc, ◌+◌, ◌*◌, ◌%◌, ◌^◌, ◌<◌, true, eqb, List, [], ◌∷◌, take, drop, Option, Some, Ok, refl, ap, sym, ◌∙◌, arith, if◌then◌else◌}
 use Rattle.std.specs.Prelude.{unwrap_or}
 use Rattle.std.specs.List.{slice_get}
 use Rattle.std.specs.Option.{ok_or, is_some}
@@ -12,7 +12,7 @@ use Rattle.capnp_model.specs.Segments.{Segments, Place, after, words_at}
 use Rattle.capnp_model.specs.Pointers as model
 use Rattle.capnp_model.specs.Trees.{Tree, structure, plain_list, struct_list, size_bits}
 use Rattle.capnp_model.specs.Traversal.{Tag, tag_in, each, each_element, ListKind, of_bits, of_pointers, of_structs, list_kind, list_words, list_tree, tree_of, tag_cost, list_cost, object_cost}
-use Rattle.capnp_model.specs.Faults.{faults_of, list_faults, object_faults}
+use Rattle.capnp_model.specs.Visits.{Visit, visits_of, list_visits, object_visits}
 use Rattle.capnp_model.proofs.Chaining.{bind_ok, ok_is, ok_or_some, some_is}
 use Rattle.capnp_units.specs.Sizes.{size_number, data_bits}
 use Rattle.capnp_wire.specs.declared.object.Object.{Object}
@@ -21,7 +21,7 @@ use Rattle.capnp_wire.specs.Places.{placed}
 use Rattle.capnp_wire.specs.Objects.{plain_size, whole_list, whole}
 use Rattle.capnp_wire.specs.Follow.{own_cost}
 use Rattle.capnp_wire.specs.Views.{section_in, section_at}
-use Rattle.capnp_wire.specs.Inside.{words_there, tree_in, cost_in, faults_in}
+use Rattle.capnp_wire.specs.Inside.{words_there, tree_in, cost_in, met_in}
 use Rattle.capnp_wire.proofs.Tags.{words_from, words_are}
 
 -- ---- words
@@ -123,13 +123,18 @@ module _ (s : Segments) (p : Place) (size n : ℕ) (ws : List ℕ) (o : Object) 
       let sum : n + 1 + tag_cost g p (Some t) ≡ own_cost all + cost_in g all = omega arith in
       ap (λ (x : Option Tag). n + 1 + tag_cost g p x) found ∙ sum ∙ ap (λ (x : Object). own_cost x + cost_in g x) (ok_is _ _ a.2)
 
-  list_faults_in : (h : Place → List Kind) (kind : ListKind) → whole_list p kind size n ws ≡ Ok o → list_faults h p kind n ws ≡ faults_in h o
-  list_faults_in h of_bits e = ap (faults_in h) (ok_is _ _ e)
-  list_faults_in h of_pointers e = ap (faults_in h) (ok_is _ _ e)
-  list_faults_in h of_structs e =
+  list_visits_in : (v : Place → List Visit) (pads : ℕ) (kind : ListKind) → IsPlain kind size → whole_list p kind size n ws ≡ Ok o → list_visits v pads p kind size n ws ≡ Ok (pads + own_cost o) ∷ met_in v o
+  list_visits_in v pads of_bits plain e =
+      let bits : data_bits (size_number (plain_size size)) * n ≡ size_bits size * n = ap (λ (b : ℕ). b * n) (plain_bits size plain) in
+      let number = plain_number size plain in
+      let whole : own_cost (object.List (placed p) (plain_size size) n) ≡ (if eqb size 0 then n else words_for (size_bits size * n)) =
+      ap (λ (z : ℕ). if eqb z 0 then n else words_for (data_bits (size_number (plain_size size)) * n)) number ∙ ap (λ (b : ℕ). if eqb size 0 then n else words_for b) bits in
+      ap (λ (c : ℕ). Ok (pads + c) ∷ []) (sym whole) ∙ ap (λ (x : Object). Ok (pads + own_cost x) ∷ met_in v x) (ok_is _ _ e)
+  list_visits_in v pads of_pointers plain e = ap (λ (x : Object). Ok (pads + own_cost x) ∷ met_in v x) (ok_is _ _ e)
+  list_visits_in v pads of_structs plain e =
       let a = bind_ok (tag_in ws) _ o e in
       let tag : tag_in ws ≡ Ok a.0 = a.1 in
-      rw tag (ap (faults_in h) (ok_is _ _ a.2))
+      rw tag (ap (λ (x : Object). Ok (pads + own_cost x) ∷ met_in v x) (ok_is _ _ a.2))
 
 pub tree_whole : (s : Segments) (f : Place → Option Tree) (m : model.Object) (o : Object) → IsSized m → whole s m ≡ Ok o → tree_of s f m ≡ tree_in s f o
 tree_whole s f model.nothing o h e = ap (tree_in s f) (ok_is _ _ e)
@@ -154,14 +159,14 @@ cost_whole s g (model.a_list p size n) o h e =
     let a = bind_ok (ok_or (words_at s p (list_words (list_kind size) size n)) OutOfBounds) _ o e in
     list_costs s p size n a.0 o g (list_kind size) h (ok_or_some _ _ _ a.1) a.2
 
-pub faults_whole : (s : Segments) (h : Place → List Kind) (m : model.Object) (o : Object) → whole s m ≡ Ok o → object_faults s h m ≡ faults_in h o
-faults_whole s h model.nothing o e = ap (faults_in h) (ok_is _ _ e)
-faults_whole s h (model.a_capability i) o e = ap (faults_in h) (ok_is _ _ e)
-faults_whole s h (model.a_struct p d k) o e =
+pub visits_whole : (s : Segments) (v : Place → List Visit) (pads : ℕ) (m : model.Object) (o : Object) → IsSized m → whole s m ≡ Ok o → object_visits s v pads m ≡ Ok (pads + own_cost o) ∷ met_in v o
+visits_whole s v pads model.nothing o h e = let none : pads ≡ pads + 0 = omega arith in ap (λ (c : ℕ). Ok c ∷ []) none ∙ ap (λ (x : Object). Ok (pads + own_cost x) ∷ met_in v x) (ok_is _ _ e)
+visits_whole s v pads (model.a_capability i) o h e = let none : pads ≡ pads + 0 = omega arith in ap (λ (c : ℕ). Ok c ∷ []) none ∙ ap (λ (x : Object). Ok (pads + own_cost x) ∷ met_in v x) (ok_is _ _ e)
+visits_whole s v pads (model.a_struct p d k) o h e =
     let a = bind_ok (ok_or (words_at s p (d + k)) OutOfBounds) _ o e in
     let there : ok_or (words_at s p (d + k)) OutOfBounds ≡ Ok a.0 = a.1 in
-    ap (faults_of (λ ws. faults_in h (object.Struct (placed p) d k))) there ∙ ap (faults_in h) (ok_is _ _ a.2)
-faults_whole s h (model.a_list p size n) o e =
+    ap (visits_of (λ ws. Ok (pads + (d + k)) ∷ met_in v (object.Struct (placed p) d k))) there ∙ ap (λ (x : Object). Ok (pads + own_cost x) ∷ met_in v x) (ok_is _ _ a.2)
+visits_whole s v pads (model.a_list p size n) o h e =
     let a = bind_ok (ok_or (words_at s p (list_words (list_kind size) size n)) OutOfBounds) _ o e in
     let there : ok_or (words_at s p (list_words (list_kind size) size n)) OutOfBounds ≡ Ok a.0 = a.1 in
-    ap (faults_of (λ ws. list_faults h p (list_kind size) n ws)) there ∙ list_faults_in s p size n a.0 o h (list_kind size) a.2
+    ap (visits_of (λ ws. list_visits v pads p (list_kind size) size n ws)) there ∙ list_visits_in s p size n a.0 o v pads (list_kind size) h a.2

@@ -1,17 +1,12 @@
 -- Paying for what a pointer names.
 use Rattle.std.proofs.Common.{◌≡◌, ℕ, ◌+◌, Option, Result, Ok, Err, ap, sym, ◌∙◌, subst, arith}
-use Rattle.std.specs.Prelude.{Contains, ◌⊎◌}
 use Rattle.capnp_model.specs.Segments.{Segments, Place}
-use Rattle.capnp_model.specs.Traversal.{cost_at}
-use Rattle.capnp_model.specs.Faults.{faults_at}
 use Rattle.capnp_units.specs.declared.errors.Error.{Error}
-use Rattle.capnp_units.specs.declared.kinds.ErrorKind.TheVariants.{ReadLimitExceeded}
 use Rattle.capnp_units.specs.declared.limiter.ReadLimiter.{ReadLimiter}
-use Rattle.capnp_units.specs.Errors.{kind_of}
-use Rattle.capnp_units.specs.Limits.{less, limit_of, granted_of, left_of, followed_of, Allows, IsPassed, Spends, Follows}
+use Rattle.capnp_units.specs.Limits.{less, limit_of, granted_of, left_of, followed_of, Allows, Spends, Follows}
 use Rattle.capnp_wire.specs.declared.object.Object.{Object}
 use Rattle.capnp_wire.specs.Objects.{object_at, IsInside}
-use Rattle.capnp_wire.specs.Follow.{own_cost, KeepsBudget, Pays, FollowsWithin}
+use Rattle.capnp_wire.specs.Follow.{own_cost, KeepsBudget, Pays, IsRefused, object_within, FollowsWithin}
 
 pub same_left : (old mid : ReadLimiter) → KeepsBudget old mid → left_of mid ≡ left_of old
 same_left old mid k = ap (λ (x : Option ℕ). less x (granted_of mid)) k.0 ∙ ap (less (limit_of old)) k.1
@@ -34,7 +29,6 @@ pays_later s p old mid new pads words o k f same h sum is inside = record {
   follows = omega (arith, f, same);
 }
 
-pub refused_by : (n : ℕ) (s : Segments) (p : Place) (old new : ReadLimiter) (r : Result Object Error) (d e : Error) → r ≡ Err d → d ≡ e → KeepsBudget old new → Follows old new 1
-    → Contains (faults_at n s p) (kind_of e.kind) ⊎ ((e.kind ≡ ReadLimitExceeded) × IsPassed (left_of old) (cost_at n s p)) → FollowsWithin n s p old r new
+pub refused_by : (n : ℕ) (s : Segments) (p : Place) (old new : ReadLimiter) (r : Result Object Error) (d e : Error) → r ≡ Err d → d ≡ e → KeepsBudget old new → Follows old new 1 → IsRefused (object_within n s p) old e → FollowsWithin n s p old r new
 refused_by n s p old new r d e is same k f why =
     subst (λ (x : Result Object Error). FollowsWithin n s p old x new) (sym (is ∙ ap (λ (x : Error). Err x) same)) (k, f, why)

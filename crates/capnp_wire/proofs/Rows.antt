@@ -1,5 +1,5 @@
 -- Pointers in a row and elements of lists of structs, one at a time.
-use Rattle.std.proofs.Common.{◌≡◌, ℕ, zero, suc, ◌+◌, ◌-◌, ◌*◌, ◌<◌, ◌≤◌, List, ◌++◌, take, drop, Option, Some, refl, ap, sym, ◌∙◌, subst, arith}
+use Rattle.std.proofs.Common.{◌≡◌, ℕ, zero, suc, ◌+◌, ◌-◌, ◌*◌, ◌<◌, ◌≤◌, List, [], ◌++◌, take, drop, Option, Some, refl, ap, sym, ◌∙◌, subst, arith}
 use Rattle.std.specs.Prelude.{Contains}
 use Rattle.std.proofs.lemmas.List.{drop-drop}
 use Rattle.std.proofs.lemmas.List.Elements.{Contains-append_left, Contains-append_right}
@@ -25,17 +25,8 @@ module _ (p : Place) (i n : ℕ) (h : i < n) where
   pub each_next : (f : Place → Option Tree) → each f (after p i) (n - i) ≡ (f (after p i) >>= λ t. each f (after p (i + 1)) (n - (i + 1)) >>= λ ts. Some (t ▸ ts))
   each_next f = ap (each f (after p i)) more ∙ ap (λ (q : ℕ). f (after p i) >>= λ t. each f (place p.segment q) (n - (i + 1)) >>= λ ts. Some (t ▸ ts)) next_place
 
-  pub cost_next : (g : Place → ℕ) → g (after p i) + cost_each g (after p (i + 1)) (n - (i + 1)) ≡ cost_each g (after p i) (n - i)
-  cost_next g = sym (ap (cost_each g (after p i)) more ∙ ap (λ (q : ℕ). g (after p i) + cost_each g (place p.segment q) (n - (i + 1))) next_place)
-
-  faults_next : (g : Place → List Kind) → from_each g (after p i) (n - i) ≡ g (after p i) ++ from_each g (after p (i + 1)) (n - (i + 1))
-  faults_next g = ap (from_each g (after p i)) more ∙ ap (λ (q : ℕ). g (after p i) ++ from_each g (place p.segment q) (n - (i + 1))) next_place
-
-  pub fault_here : (g : Place → List Kind) (k : Kind) → Contains (g (after p i)) k → Contains (from_each g (after p i) (n - i)) k
-  fault_here g k c = let e = faults_next g in rw e (Contains-append_left (g (after p i)) (from_each g (after p (i + 1)) (n - (i + 1))) k c)
-
-  pub fault_later : (g : Place → List Kind) (k : Kind) → Contains (from_each g (after p (i + 1)) (n - (i + 1))) k → Contains (from_each g (after p i) (n - i)) k
-  fault_later g k c = let e = faults_next g in rw e (Contains-append_right (g (after p i)) (from_each g (after p (i + 1)) (n - (i + 1))) k c)
+  pub met_next : {A : Type 0} (g : Place → List A) → from_each g (after p i) (n - i) ≡ g (after p i) ++ from_each g (after p (i + 1)) (n - (i + 1))
+  met_next g = ap (from_each g (after p i)) more ∙ ap (λ (q : ℕ). g (after p i) ++ from_each g (place p.segment q) (n - (i + 1))) next_place
 
   pub row_join : (f : Place → Option Tree) (t : Tree) (ts : Trees) → f (after p i) ≡ Some t → each f (after p (i + 1)) (n - (i + 1)) ≡ Some ts
       → (us : Trees) × (each f (after p i) (n - i) ≡ Some us) × (each_object_words us ≡ (object_words t + 0) + each_object_words ts) × (each_capability_count us ≡ capability_count t + each_capability_count ts)
@@ -94,17 +85,8 @@ module _ (p : Place) (d k i n : ℕ) (h : i < n) where
       ∙ ap (λ (xs : List ℕ). each f (after q d) k >>= λ ts. each_element f (after q (d + k)) xs d k (n - (i + 1)) >>= λ es. Some (element sec ts es)) rest
       ∙ ap (λ (m : ℕ). each f (after q d) k >>= λ ts. each_element f (place p.segment m) (drop ((i + 1) * (d + k)) ws) d k (n - (i + 1)) >>= λ es. Some (element sec ts es)) next_element
 
-  pub elements_cost_next : (g : Place → ℕ) → cost_each g (after (after p (i * (d + k))) d) k + cost_elements g (after p ((i + 1) * (d + k))) d k (n - (i + 1)) ≡ cost_elements g (after p (i * (d + k))) d k (n - i)
-  elements_cost_next g = sym (ap (cost_elements g (after p (i * (d + k))) d k) more_elements ∙ ap (λ (m : ℕ). cost_each g (after (after p (i * (d + k))) d) k + cost_elements g (place p.segment m) d k (n - (i + 1))) next_element)
-
-  elements_faults_next : (g : Place → List Kind) → from_elements g (after p (i * (d + k))) d k (n - i) ≡ from_each g (after (after p (i * (d + k))) d) k ++ from_elements g (after p ((i + 1) * (d + k))) d k (n - (i + 1))
-  elements_faults_next g = ap (from_elements g (after p (i * (d + k))) d k) more_elements ∙ ap (λ (m : ℕ). from_each g (after (after p (i * (d + k))) d) k ++ from_elements g (place p.segment m) d k (n - (i + 1))) next_element
-
-  pub element_fault_here : (g : Place → List Kind) (x : Kind) → Contains (from_each g (after (after p (i * (d + k))) d) k) x → Contains (from_elements g (after p (i * (d + k))) d k (n - i)) x
-  element_fault_here g x c = let e = elements_faults_next g in rw e (Contains-append_left (from_each g (after (after p (i * (d + k))) d) k) (from_elements g (after p ((i + 1) * (d + k))) d k (n - (i + 1))) x c)
-
-  pub element_fault_later : (g : Place → List Kind) (x : Kind) → Contains (from_elements g (after p ((i + 1) * (d + k))) d k (n - (i + 1))) x → Contains (from_elements g (after p (i * (d + k))) d k (n - i)) x
-  element_fault_later g x c = let e = elements_faults_next g in rw e (Contains-append_right (from_each g (after (after p (i * (d + k))) d) k) (from_elements g (after p ((i + 1) * (d + k))) d k (n - (i + 1))) x c)
+  pub elements_met_next : {A : Type 0} (g : Place → List A) → from_elements g (after p (i * (d + k))) d k (n - i) ≡ from_each g (after (after p (i * (d + k))) d) k ++ from_elements g (after p ((i + 1) * (d + k))) d k (n - (i + 1))
+  elements_met_next g = ap (from_elements g (after p (i * (d + k))) d k) more_elements ∙ ap (λ (m : ℕ). from_each g (after (after p (i * (d + k))) d) k ++ from_elements g (place p.segment m) d k (n - (i + 1))) next_element
 
   pub element_join : (f : Place → Option Tree) (ws : List ℕ) (ts : Trees) (es : Elements) → each f (after (after p (i * (d + k))) d) k ≡ Some ts → each_element f (after p ((i + 1) * (d + k))) (drop ((i + 1) * (d + k)) ws) d k (n - (i + 1)) ≡ Some es
       → (xs : Elements) × (each_element f (after p (i * (d + k))) (drop (i * (d + k)) ws) d k (n - i) ≡ Some xs)
@@ -114,8 +96,21 @@ module _ (p : Place) (d k i n : ℕ) (h : i < n) where
       let count = each_count f (after (after p (i * (d + k))) d) k ts e in
       (element (section_of (take d (drop (i * (d + k)) ws))) ts es, element_next f ws ∙ rw (e, g) refl, omega arith, refl)
 
-  pub pointers_next : k + (n - (i + 1)) * k ≡ (n - i) * k
-  pointers_next = let e = more_elements in subst (λ (m : ℕ). k + (n - (i + 1)) * k ≡ m * k) (sym e) (omega arith)
-
 pub elements_start : {A : Type 0} (p : Place) (d k n : ℕ) (f : Place → ℕ → A) → f (after p (0 * (d + k))) (n - 0) ≡ f p n
 elements_start p d k n f = let e : p.position + 0 * (d + k) ≡ p.position = omega arith in let z : n - 0 ≡ n = omega arith in ap (λ (q : ℕ). f (place p.segment q) (n - 0)) e ∙ ap (f p) z
+
+-- elements without pointers: nothing is met in them, and they are just their words
+pub nothing_met : {A : Type 0} (g : Place → List A) (p : Place) (d n : ℕ) → from_elements g p d 0 n ≡ []
+nothing_met g p d zero = refl
+nothing_met g p d (suc n) = nothing_met g (after p (d + 0)) d n
+
+pub plain_elements_read : (f : Place → Option Tree) (p : Place) (ws : List ℕ) (d n : ℕ) → (es : Elements) × (each_element f p ws d 0 n ≡ Some es) × (element_object_words d es ≡ n * d) × (element_capability_count es ≡ 0)
+unfolding object_words capability_count
+plain_elements_read f p ws d zero = let none : 0 ≡ 0 * d = omega arith in (no_elements, refl, none, refl)
+plain_elements_read f p ws d (suc n) =
+    let rest = plain_elements_read f (after p (d + 0)) (drop (d + 0) ws) d n in
+    let words = rest.2 in
+    let caps = rest.3 in
+    let all : d + 0 + 0 + element_object_words d rest.0 ≡ suc n * d = omega arith in
+    let no_caps : 0 + element_capability_count rest.0 ≡ 0 = omega arith in
+    (element (section_of (take d ws)) none rest.0, rw rest.1 refl, all, no_caps)

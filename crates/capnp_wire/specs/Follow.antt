@@ -1,10 +1,10 @@
 -- Following a pointer against a budget.
-use Rattle.std.specs.Prelude.{◌≡◌, ℕ, ◌+◌, ◌*◌, ◌==◌, nat_lt, if◌then◌else◌, ◌⊎◌, Bool, true, Contains, Result, Ok, Err}
+use Rattle.std.specs.Prelude.{◌≡◌, ℕ, ◌+◌, ◌*◌, ◌==◌, nat_lt, if◌then◌else◌, ◌⊎◌, Bool, true, Result, Ok, Err}
+use Rattle.capnp_model.specs.Kinds.{Kind, NestingLimitExceeded}
+use Rattle.capnp_model.specs.Chains.{◌and_then◌, guard}
 use Rattle.capnp_model.specs.Sections.{words_for}
 use Rattle.capnp_model.specs.Segments.{Segments, Place}
 use Rattle.capnp_model.specs.Pointers as model
-use Rattle.capnp_model.specs.Traversal.{cost_at}
-use Rattle.capnp_model.specs.Faults.{faults_at}
 use Rattle.capnp_units.specs.declared.errors.Error.{Error}
 use Rattle.capnp_units.specs.declared.kinds.ErrorKind.TheVariants.{ReadLimitExceeded}
 use Rattle.capnp_units.specs.declared.limiter.ReadLimiter.{ReadLimiter}
@@ -14,7 +14,7 @@ use Rattle.capnp_units.specs.Sizes.{size_number, data_bits}
 use Rattle.capnp_wire.specs.declared.object.Object.{Object}
 use Rattle.capnp_wire.specs.declared.object.Object.TheVariants as object
 use Rattle.capnp_wire.specs.declared.object.Found.{Found}
-use Rattle.capnp_wire.specs.Objects.{object_at, IsInside}
+use Rattle.capnp_wire.specs.Objects.{whole, object_at, IsInside}
 
 -- What following an object costs by itself: its words, a list of voids its count, a list of structs its tag too, and its count where an element has no word.
 abbrev pub own_cost : Object → ℕ
@@ -41,12 +41,14 @@ pub record Pays (s : Segments) (p : Place) (old : ReadLimiter) (o : Object) (new
   pub spends : Spends old new (pads + own_cost o)
   pub follows : Follows old new 1
 
+-- What is there can't be followed: there is a fault of the error's kind, or its cost passes what is left.
+abbrev pub IsRefused : Result Found Kind → ReadLimiter → Error → Type 0
+IsRefused there old e = (there ≡ Err (kind_of e.kind)) ⊎ ((e.kind ≡ ReadLimitExceeded) × (f : Found) × (there ≡ Ok f) × IsPassed (left_of old) (found_cost f))
+
 -- It is refused by the kind of the fault there, or just where its cost passes what is left; then no word was granted.
 abbrev pub FollowGives : Segments → Place → ReadLimiter → Result Object Error → ReadLimiter → Type 0
 FollowGives s p old (Ok o) new = Pays s p old o new
-FollowGives s p old (Err e) new =
-    KeepsBudget old new × Follows old new 1
-    × ((object_at s p ≡ Err (kind_of e.kind)) ⊎ ((e.kind ≡ ReadLimitExceeded) × (f : Found) × (object_at s p ≡ Ok f) × IsPassed (left_of old) (found_cost f)))
+FollowGives s p old (Err e) new = KeepsBudget old new × Follows old new 1 × IsRefused (object_at s p) old e
 
 -- So many levels suffice for an object that a pointer names: null and a capability take none.
 abbrev pub suffice_for : ℕ → model.Object → Bool
@@ -60,8 +62,11 @@ is_within n object.Null = true
 is_within n (object.Capability i) = true
 is_within n _ = nat_lt 0 n
 
--- A pointer was followed to an object that so many levels suffice for, and it was paid for; or it is refused by the kind of one of the faults on the walk of that many levels, or just where that walk's cost passes what is left.
+-- What the pointer at a place names where so many levels are left, else the kind of its fault; the levels are asked before the object's words.
+unfoldable pub object_within : ℕ → Segments → Place → Result Found Kind
+object_within n s p = model.found_at s p and_then λ f. guard (suffice_for n f.object) NestingLimitExceeded and_then λ _. whole s f.object and_then λ o. Ok (record { pads = f.pads; object = o })
+
+-- A pointer was followed to an object that so many levels suffice for, and it was paid for; or it is refused by the kind of the one fault there, or just where its own cost passes what is left.
 abbrev pub FollowsWithin : ℕ → Segments → Place → ReadLimiter → Result Object Error → ReadLimiter → Type 0
 FollowsWithin n s p old (Ok o) new = Pays s p old o new × (is_within n o ≡ true)
-FollowsWithin n s p old (Err e) new =
-    KeepsBudget old new × Follows old new 1 × (Contains (faults_at n s p) (kind_of e.kind) ⊎ ((e.kind ≡ ReadLimitExceeded) × IsPassed (left_of old) (cost_at n s p)))
+FollowsWithin n s p old (Err e) new = KeepsBudget old new × Follows old new 1 × IsRefused (object_within n s p) old e

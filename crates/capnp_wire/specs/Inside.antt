@@ -1,6 +1,5 @@
 -- What an object holds: its own words, and what its pointers lead to. (Encoding, "Structs", "Lists")
 use Rattle.std.specs.Prelude.{ℕ, ◌*◌, ◌%◌, ◌^◌, List, [], Option, Some, unwrap_or}
-use Rattle.capnp_model.specs.Kinds.{Kind}
 use Rattle.capnp_model.specs.Chains.{◌>>=◌}
 use Rattle.capnp_model.specs.Sections.{words_for}
 use Rattle.capnp_model.specs.Segments.{Segments, Place, after, words_at}
@@ -34,9 +33,9 @@ cost_in below (object.PointerList p n) = cost_each below (place_view p) n
 cost_in below (object.StructList p words n d k) = cost_elements below (place_view p) d k n
 cost_in below _ = 0
 
--- The faults behind the pointers in an object.
-abbrev pub faults_in : (Place → List Kind) → Object → List Kind
-faults_in below (object.Struct p d k) = from_each below (after (place_view p) d) k
-faults_in below (object.PointerList p n) = from_each below (place_view p) n
-faults_in below (object.StructList p words n d k) = from_elements below (place_view p) d k n
-faults_in below _ = []
+-- What is met at the pointers in an object.
+abbrev pub met_in : {A : Type 0} → (Place → List A) → Object → List A
+met_in below (object.Struct p d k) = from_each below (after (place_view p) d) k
+met_in below (object.PointerList p n) = from_each below (place_view p) n
+met_in below (object.StructList p words n d k) = from_elements below (place_view p) d k n
+met_in below _ = []

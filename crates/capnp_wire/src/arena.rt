@@ -26,13 +26,13 @@ pub trait ReaderArena {
     fn get_segment(&self, id: SegmentId) -> Option<&[u8]>
         ensures { option_copied result ≡ slice_get (segments self.now) id };
 
-    /// The nesting limit.
+    /// The nesting limit. What goes over a whole value takes stack for each level, `total_size` about 200 bytes, so a limit past some 40,000 asks for more than 8 MiB of it.
     fn nesting_limit(&self) -> i32
         ensures { result ≡ nesting self.now };
 
-    /// The words of the segments, of the first 2^32 - 1 at most. The count stops at 2^64 - 1.
+    /// The words of the segments that a pointer can name, the first 2^32. The count stops at 2^64 - 1. It takes a step for each segment.
     fn size_in_words(&self) -> usize
-        ensures { result ≡ min (words_before (segments self.now) (min (length (segments self.now)) (2 ^ 32 - 1))) (2 ^ 64 - 1) };
+        ensures { result ≡ min (words_before (segments self.now) (min (length (segments self.now)) (2 ^ 32))) (2 ^ 64 - 1) };
 
     /// The place so many words on from another, or back where the number is negative. It is refused with `OutOfBounds` where it lies in front of the segment or behind its last word, or the segment isn't there. Behind the last word is a place for an object without words.
     final fn check_offset(&self, start: Place, offset_in_words: i32) -> Result<Place>
@@ -81,14 +81,17 @@ pub trait ReaderArena {
     }
 }
 
+/// How many segments a pointer can name: a segment's number has 32 bits.
+const NAMED_SEGMENTS: usize = 0x1_0000_0000;
+
 /// The words of the segments that have a number.
 fn words_in_all<S: ReaderSegments>(segments: &S) -> usize
-    ensures { result ≡ min (words_before (S.segments segments.now) (min (length (S.segments segments.now)) (2 ^ 32 - 1))) (2 ^ 64 - 1) }
+    ensures { result ≡ min (words_before (S.segments segments.now) (min (length (S.segments segments.now)) (2 ^ 32))) (2 ^ 64 - 1) }
 {
-    let count = segments.len().min(u32::MAX as usize) as u32;
+    let count = segments.len().min(NAMED_SEGMENTS);
     let mut words: usize = 0;
     for id in 0..count {
-        if let Some(bytes) = segments.get_segment(id) {
+        if let Some(bytes) = segments.get_segment(id as SegmentId) {
             words = words.saturating_add(bytes.len() / 8);
         }
     }
@@ -103,9 +106,9 @@ pub struct ReaderArenaImpl<S> {
 }
 
 impl<S: ReaderSegments> ReaderArenaImpl<S> {
-    /// An arena over these segments, in which values may be nested so many levels deep. Under a negative limit nothing but null is read.
+    /// An arena over these segments, in which values may be nested so many levels deep. Under a negative limit nothing but null is read. What goes over a whole value takes stack for each level, `total_size` about 200 bytes: a limit past some 40,000 asks for more than 8 MiB of it.
     pub fn new(segments: S, nesting_limit: i32) -> Self
-        ensures segments { S.segments result.segments ≡ S.segments segments }
+        ensures segments { result.segments ≡ segments }
         ensures nesting { result.nesting_limit ≡ nesting_limit }
     {
         ReaderArenaImpl {

@@ -16,6 +16,8 @@ pub mod place;
 pub mod pointer;
 mod section;
 pub mod size;
+#[cfg(test)]
+mod size_tests;
 pub mod structs;
 #[cfg(test)]
 mod tests;

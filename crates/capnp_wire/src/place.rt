@@ -12,6 +12,17 @@ use crate::arena::ReaderArena;
 use capnp_units::errors::{Error, Result};
 use capnp_units::kinds::ErrorKind;
 
+/// Where the upper half of a pointer word begins, 32 bits up.
+pub(crate) const UPPER_HALF: u64 = 0x1_0000_0000;
+/// How many offsets thirty bits have.
+pub(crate) const OFFSETS: u64 = 0x4000_0000;
+/// The offsets from this one on are negative: they lie as far below the next of them all.
+const NEGATIVE_OFFSETS: u32 = 0x2000_0000;
+/// How many positions a far pointer can tell, by the 29 bits behind its kind and its form.
+const FAR_POSITIONS: u64 = 0x2000_0000;
+/// Where those bits begin, three bits up.
+const FAR_POSITION: u64 = 8;
+
 /// A place: a segment's number, and a position in it in words, from 0 on.
 #[derive(Clone, Copy, Debug, PartialEq, Eq)]
 pub struct Place {
@@ -59,19 +70,19 @@ pub fn begins_at(end: Place, offset: u32) -> Result<Place>
     ensures { seen place_view result ≡ begins (place_view end) offset }
 {
     let there = end.position + offset as usize;
-    if offset < 0x2000_0000 {
-        Ok(Place {
+    if offset < NEGATIVE_OFFSETS {
+        return Ok(Place {
             segment: end.segment,
             position: there,
-        })
-    } else if there >= 0x4000_0000 {
-        Ok(Place {
-            segment: end.segment,
-            position: there - 0x4000_0000,
-        })
-    } else {
-        Err(Error::from(ErrorKind::OutOfBounds))
+        });
     }
+    let position = there
+        .checked_sub(OFFSETS as usize)
+        .ok_or(Error::from(ErrorKind::OutOfBounds))?;
+    Ok(Place {
+        segment: end.segment,
+        position,
+    })
 }
 
 /// The place that a far pointer's word tells: the position by bits 3 to 31, the segment by bits 32 to 63.
@@ -79,7 +90,7 @@ pub fn place_in_word(word: u64) -> Place
     ensures { place_view result ≡ place (bits_at 32 32 word) (bits_at 3 29 word) }
 {
     Place {
-        segment: (word / 0x1_0000_0000 % 0x1_0000_0000) as u32,
-        position: (word / 8 % 0x2000_0000) as usize,
+        segment: (word / UPPER_HALF) as u32,
+        position: (word / FAR_POSITION % FAR_POSITIONS) as usize,
     }
 }

@@ -3,14 +3,14 @@ ghost use Rattle.std.specs.Prelude.{◌≡◌, ℕ, ◌+◌, ◌*◌, ◌<◌, �
 ghost use Rattle.std.specs.Option.{is_some};
 ghost use Rattle.capnp_model.specs.Segments.{after};
 ghost use Rattle.capnp_model.specs.Sizes.{object_words, each_object_words, element_object_words, capability_count, each_capability_count, element_capability_count};
-ghost use Rattle.capnp_model.specs.Traversal.{tree_at, cost_at, each, each_element, cost_each, cost_elements};
+ghost use Rattle.capnp_model.specs.Traversal.{tree_at, each, each_element};
 ghost use Rattle.capnp_model.specs.Coverage.{from_each, from_elements};
-ghost use Rattle.capnp_model.specs.Faults.{faults_at};
+ghost use Rattle.capnp_model.specs.Visits.{visits};
 ghost use Rattle.capnp_units.specs.Segments.{words_in};
 ghost use Rattle.capnp_wire.specs.Places.{place_view};
 ghost use Rattle.capnp_wire.specs.Objects.{IsInside};
-ghost use Rattle.capnp_wire.specs.Follow.{own_cost, FollowsWithin};
-ghost use Rattle.capnp_wire.specs.Inside.{tree_in, cost_in, faults_in};
+ghost use Rattle.capnp_wire.specs.Follow.{FollowsWithin};
+ghost use Rattle.capnp_wire.specs.Inside.{tree_in, met_in};
 ghost use Rattle.capnp_wire.specs.Walks.{leaf_capabilities, Counts, SizeGives};
 
 use crate::arena::ReaderArena;
@@ -65,7 +65,9 @@ fn size_of_leaf(object: Object) -> MessageSize
 
 /// The size of the value of the pointer at a place: the words of its objects, without pads and without the pointer itself, and its capabilities.
 ///
-/// It is refused by the kind of one of the faults of the value within so many levels, or with `ReadLimitExceeded` just where following all of it costs more words than are left of the limit. No more pointers are followed than words are granted, and one more.
+/// Pointers are followed in the order of reading, nulls too, each object's own before those of the next. At the first fault within so many levels it is refused by that kind, and with `ReadLimitExceeded` at the first object that is there and costs more words than are left; then the objects before it are paid for, and the pointer to it counts as followed.
+///
+/// Each step follows a pointer, and what isn't null grants a word or ends there, so the pointers followed are no more than the words granted and one: elements without pointers aren't walked, be they voids or structs without words. Words that several pointers lead to are granted as often, so without a limit only the levels bound the steps. Each level takes about 200 bytes of stack (176 as LLVM builds it, 208 as Rattle's own compiler does), and levels past the end of the stack end the process: a stack of 8 MiB holds some 40,000.
 #[cycle(size)]
 pub fn size_at<A: ReaderArena>(
     arena: &A,
@@ -73,7 +75,7 @@ pub fn size_at<A: ReaderArena>(
     place: Place,
     levels: u32,
 ) -> Result<MessageSize>
-    ensures { let s = words_in (A.segments arena.now) in SizeGives object_words capability_count (tree_at levels s (place_view place)) (faults_at levels s (place_view place)) (cost_at levels s (place_view place)) 1 limiter.old result limiter.new }
+    ensures { let s = words_in (A.segments arena.now) in SizeGives object_words capability_count (tree_at levels s (place_view place)) (visits levels s (place_view place)) limiter.old result limiter.new }
 {
     let object = follow_within(arena, limiter, place, levels)?;
     if levels == 0 {
@@ -91,7 +93,7 @@ fn size_inside<A: ReaderArena>(
     levels: u32,
 ) -> Result<MessageSize>
     requires { IsInside (words_in (A.segments arena.now)) object }
-    ensures { let s = words_in (A.segments arena.now) in SizeGives object_words capability_count (tree_in s (tree_at levels s) object) (faults_in (faults_at levels s) object) (cost_in (cost_at levels s) object) (own_cost object) limiter.old result limiter.new }
+    ensures { let s = words_in (A.segments arena.now) in SizeGives object_words capability_count (tree_in s (tree_at levels s) object) (met_in (visits levels s) object) limiter.old result limiter.new }
 {
     match object {
         Object::Null => Ok(NOTHING),
@@ -138,7 +140,7 @@ pub(crate) fn size_of_row<A: ReaderArena>(
     levels: u32,
 ) -> Result<MessageSize>
     requires { first.position + count < 2 ^ 62 }
-    ensures { let s = words_in (A.segments arena.now) in SizeGives each_object_words each_capability_count (each (tree_at levels s) (place_view first) count) (from_each (faults_at levels s) (place_view first) count) (cost_each (cost_at levels s) (place_view first) count) count limiter.old result limiter.new }
+    ensures { let s = words_in (A.segments arena.now) in SizeGives each_object_words each_capability_count (each (tree_at levels s) (place_view first) count) (from_each (visits levels s) (place_view first) count) limiter.old result limiter.new }
 {
     let mut size = NOTHING;
     for i in 0..count {
@@ -152,7 +154,7 @@ pub(crate) fn size_of_row<A: ReaderArena>(
     Ok(size)
 }
 
-/// The size of the elements of a list of structs, with their own words.
+/// The size of the elements of a list of structs, with their own words. Where they have no pointers there is nothing to walk.
 #[cycle(size)]
 fn size_of_structs<A: ReaderArena>(
     arena: &A,
@@ -164,8 +166,11 @@ fn size_of_structs<A: ReaderArena>(
     levels: u32,
 ) -> Result<MessageSize>
     requires { start.position + count * (data_words + pointers) < 2 ^ 61 }
-    ensures { let s = words_in (A.segments arena.now) in (ws : List ℕ) → SizeGives (element_object_words data_words) element_capability_count (each_element (tree_at levels s) (place_view start) ws data_words pointers count) (from_elements (faults_at levels s) (place_view start) data_words pointers count) (cost_elements (cost_at levels s) (place_view start) data_words pointers count) (count * pointers) limiter.old result limiter.new }
+    ensures { let s = words_in (A.segments arena.now) in (ws : List ℕ) → SizeGives (element_object_words data_words) element_capability_count (each_element (tree_at levels s) (place_view start) ws data_words pointers count) (from_elements (visits levels s) (place_view start) data_words pointers count) limiter.old result limiter.new }
 {
+    if pointers == 0 {
+        return Ok(with_words(NOTHING, count as u64 * data_words as u64));
+    }
     let mut size = NOTHING;
     for i in 0..count {
         let width = data_words as usize + pointers as usize;

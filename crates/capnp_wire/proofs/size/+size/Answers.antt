@@ -1,17 +1,17 @@
 -- What each step reads, counts and pays.
-use Rattle.std.proofs.Common.{◌≡◌, ℕ, ◌+◌, ◌-◌, ◌*◌, List, [], drop, ap, ◌∙◌, arith}
+use Rattle.std.proofs.Common.{◌≡◌, ℕ, ◌+◌, ◌-◌, ◌*◌, List, [], drop, refl, ap, ◌∙◌, arith}
 use Rattle.std.proofs.lemmas.Result.{err_from_is_err_and}
 use Rattle.capnp_model.specs.Segments.{Segments, Place, after}
 use Rattle.capnp_model.specs.Trees.{none, no_elements}
 use Rattle.capnp_model.specs.Sizes.{object_words, each_object_words, element_object_words, capability_count, each_capability_count, element_capability_count}
-use Rattle.capnp_model.specs.Traversal.{tree_at, cost_at, each, each_element, cost_each, cost_elements}
+use Rattle.capnp_model.specs.Traversal.{tree_at, each, each_element}
 use Rattle.capnp_model.specs.Coverage.{from_each, from_elements}
-use Rattle.capnp_model.specs.Faults.{faults_at}
+use Rattle.capnp_model.specs.Visits.{visits}
 use Rattle.capnp_units.specs.Segments.{words_in}
 use Rattle.capnp_wire.specs.Places.{place_view}
-use Rattle.capnp_wire.proofs.Measuring.{null_in, capability_in, list_in, struct_in, pointers_in, structs_in, structs_refused, leaf_at, deep_at, unfollowed_at, wordless, nothing_more, nothing_counted, refused_is}
+use Rattle.capnp_wire.proofs.Measuring.{null_in, capability_in, list_in, struct_in, pointers_in, structs_in, structs_refused, leaf_at, deep_at, unfollowed_at, plain_in, wordless, nothing_more, nothing_counted, refused_is}
 use Rattle.capnp_wire.proofs.Walks.{begun, ended, next, stopped}
-use Rattle.capnp_wire.proofs.Rows.{row_start, row_end, cost_next, fault_here, fault_later, row_join, no_words, no_capabilities, no_element_words, no_element_capabilities, elements_start, elements_cost_next, element_fault_here, element_fault_later, element_join, pointers_next}
+use Rattle.capnp_wire.proofs.Rows.{row_start, row_end, met_next, row_join, no_words, no_capabilities, no_element_words, no_element_capabilities, elements_start, elements_met_next, element_join}
 use Rattle.capnp_wire.proofs.size.+size.Goals as goal
 
 pub size_at-returns-in_err-object : goal.size_at-returns-in_err-object
@@ -34,47 +34,45 @@ size_at-returns g t c =
 pub size_inside-returns-in-Null : goal.size_inside-returns-in-Null
 size_inside-returns-in-Null g t c =
     let s : Segments = words_in (g.A.ReaderArena.segments c.args.arena.now) in
-    null_in s (tree_at c.args.levels s) (faults_at c.args.levels s) (cost_at c.args.levels s) c.args.object c.args.limiter.now c.args.limiter.now c.in-Null.is
+    null_in s (tree_at c.args.levels s) (visits c.args.levels s) c.args.object c.args.limiter.now c.args.limiter.now c.in-Null.is
 
 pub size_inside-returns-in-Capability : goal.size_inside-returns-in-Capability
 size_inside-returns-in-Capability g t c =
     let s : Segments = words_in (g.A.ReaderArena.segments c.args.arena.now) in
-    capability_in s (tree_at c.args.levels s) (faults_at c.args.levels s) (cost_at c.args.levels s) c.args.object c.args.limiter.now c.args.limiter.now c.in-Capability.index c.in-Capability.is
+    capability_in s (tree_at c.args.levels s) (visits c.args.levels s) c.args.object c.args.limiter.now c.args.limiter.now c.in-Capability.index c.in-Capability.is
 
 pub size_inside-returns-in-List : goal.size_inside-returns-in-List
 size_inside-returns-in-List g t c =
     let s : Segments = words_in (g.A.ReaderArena.segments c.args.arena.now) in
     let inside = rw c.in-List.is at c.requires in
-    list_in s (tree_at c.args.levels s) (faults_at c.args.levels s) (cost_at c.args.levels s) c.args.object c.args.limiter.now c.args.limiter.now
+    list_in s (tree_at c.args.levels s) (visits c.args.levels s) c.args.object c.args.limiter.now c.args.limiter.now
     c.in-List.start c.in-List.size c.in-List.count c.words_of_elements.result c.with_words.result c.in-List.is inside.0 c.words_of_elements.ensures.words c.with_words.ensures
 
 pub size_inside-returns-in_ok-size-in-Struct : goal.size_inside-returns-in_ok-size-in-Struct
 size_inside-returns-in_ok-size-in-Struct g t c =
     let s : Segments = words_in (g.A.ReaderArena.segments c.args.arena.now) in
-    struct_in s (tree_at c.args.levels s) (faults_at c.args.levels s) (cost_at c.args.levels s) c.args.object c.args.limiter.now c.size_of_row.new.limiter
+    struct_in s (tree_at c.args.levels s) (visits c.args.levels s) c.args.object c.args.limiter.now c.size_of_row.new.limiter
     c.in-Struct.start c.in-Struct.data_words c.in-Struct.pointers c.in_ok-size-in-Struct.size c.with_words-in-Struct.result c.in-Struct.is c.with_words-in-Struct.ensures c.in_ok-size-in-Struct.ensures
 
 pub size_inside-returns-in_ok-size-in-PointerList : goal.size_inside-returns-in_ok-size-in-PointerList
 size_inside-returns-in_ok-size-in-PointerList g t c =
     let s : Segments = words_in (g.A.ReaderArena.segments c.args.arena.now) in
-    pointers_in s (tree_at c.args.levels s) (faults_at c.args.levels s) (cost_at c.args.levels s) c.args.object c.args.limiter.now c.size_of_row-in-PointerList.new.limiter
+    pointers_in s (tree_at c.args.levels s) (visits c.args.levels s) c.args.object c.args.limiter.now c.size_of_row-in-PointerList.new.limiter
     c.in-PointerList.start c.in-PointerList.count c.in_ok-size-in-PointerList.size c.with_words-in-PointerList.result c.in-PointerList.is c.with_words-in-PointerList.ensures c.in_ok-size-in-PointerList.ensures
 
 pub size_inside-returns-in_ok-size-in-StructList : goal.size_inside-returns-in_ok-size-in-StructList
 size_inside-returns-in_ok-size-in-StructList g t c =
     let s : Segments = words_in (g.A.ReaderArena.segments c.args.arena.now) in
-    let inside = rw c.in-StructList.is at c.requires in
-    structs_in s (tree_at c.args.levels s) (faults_at c.args.levels s) (cost_at c.args.levels s) c.args.object c.args.limiter.now c.size_of_structs.new.limiter
-    c.in-StructList.start c.in-StructList.words c.in-StructList.count c.in-StructList.data_words c.in-StructList.pointers c.in_ok-size-in-StructList.size c.with_words-in-StructList.result c.in-StructList.is inside.1 c.with_words-in-StructList.ensures (c.in_ok-size-in-StructList.ensures _)
+    structs_in s (tree_at c.args.levels s) (visits c.args.levels s) c.args.object c.args.limiter.now c.size_of_structs.new.limiter
+    c.in-StructList.start c.in-StructList.words c.in-StructList.count c.in-StructList.data_words c.in-StructList.pointers c.in_ok-size-in-StructList.size c.with_words-in-StructList.result c.in-StructList.is c.with_words-in-StructList.ensures (c.in_ok-size-in-StructList.ensures _)
 
 pub size_inside-returns-in_err-size-in-StructList : goal.size_inside-returns-in_err-size-in-StructList
 size_inside-returns-in_err-size-in-StructList g t c =
     let s : Segments = words_in (g.A.ReaderArena.segments c.args.arena.now) in
-    let inside = rw c.in-StructList.is at c.requires in
     let r = err_from_is_err_and c.from_residual-in_err-size-in-StructList.result c.from_residual-in_err-size-in-StructList.ensures.1 in
-    structs_refused s (tree_at c.args.levels s) (faults_at c.args.levels s) (cost_at c.args.levels s) c.args.object c.args.limiter.now c.size_of_structs.new.limiter
+    structs_refused s (tree_at c.args.levels s) (visits c.args.levels s) c.args.object c.args.limiter.now c.size_of_structs.new.limiter
     c.in-StructList.start c.in-StructList.words c.in-StructList.count c.in-StructList.data_words c.in-StructList.pointers c.from_residual-in_err-size-in-StructList.result r.0 c.in_err-size-in-StructList.field-0.0
-    c.in-StructList.is inside.1 r.1 r.2 (c.in_err-size-in-StructList.ensures [])
+    c.in-StructList.is r.1 r.2 (c.in_err-size-in-StructList.ensures [])
 
 pub size_of_row-loop-i-init : goal.size_of_row-loop-i-init
 size_of_row-loop-i-init g t c =
@@ -82,9 +80,7 @@ size_of_row-loop-i-init g t c =
     let p : Place = place_view c.args.first in
     let n = c.args.levels in
     let count = c.args.count in
-    let whole : count - 0 ≡ count = omega arith in
-    begun each_object_words each_capability_count _ _ _ _ _ _ _ _ c.args.limiter.now (wordless 0) nothing_counted
-    (row_start p count (each (tree_at n s))) (row_start p count (from_each (faults_at n s))) (row_start p count (cost_each (cost_at n s))) whole
+    begun each_object_words each_capability_count _ _ _ _ c.args.limiter.now (wordless 0) nothing_counted (row_start p count (each (tree_at n s))) (row_start p count (from_each (visits n s)))
 
 pub size_of_row-returns-in_err-one : goal.size_of_row-returns-in_err-one
 size_of_row-returns-in_err-one g t c =
@@ -95,11 +91,9 @@ size_of_row-returns-in_err-one g t c =
     let count = c.args.count in
     let in_row = c.loop-i-test.true in
     let r = err_from_is_err_and c.from_residual.result c.from_residual.ensures.1 in
-    let next_cost = cost_next p i count in_row (cost_at n s) in
-    refused_is each_object_words each_capability_count (each (tree_at n s) p count) (from_each (faults_at n s) p count) (cost_each (cost_at n s) p count) count c.args.limiter.now c.size_at.new.limiter c.from_residual.result r.0 c.in_err-one.field-0.0 r.1 r.2
-    (stopped each_object_words each_capability_count (each (tree_at n s) p count) (each (tree_at n s) (after p i) (count - i)) (from_each (faults_at n s) p count) (from_each (faults_at n s) (after p i) (count - i)) (faults_at n s (after p i))
-    (cost_each (cost_at n s) p count) (cost_each (cost_at n s) (after p i) (count - i)) (cost_at n s (after p i)) count (count - i) 1 c.args.limiter.now c.loop-i.limiter c.size_at.new.limiter c.loop-i.size c.in_err-one.field-0.0
-    (fault_here p i count in_row (faults_at n s)) (omega arith) (omega arith) c.in_err-one.ensures c.loop-i.invariant)
+    refused_is each_object_words each_capability_count (each (tree_at n s) p count) (from_each (visits n s) p count) c.args.limiter.now c.size_at.new.limiter c.from_residual.result r.0 c.in_err-one.field-0.0 r.1 r.2
+    (stopped each_object_words each_capability_count (each (tree_at n s) p count) (each (tree_at n s) (after p i) (count - i)) (from_each (visits n s) p count) (from_each (visits n s) (after p i) (count - i)) (visits n s (after p i)) (from_each (visits n s) (after p (i + 1)) (count - (i + 1)))
+    c.args.limiter.now c.loop-i.limiter c.size_at.new.limiter c.loop-i.size c.in_err-one.field-0.0 (met_next p i count in_row (visits n s)) c.in_err-one.ensures c.loop-i.invariant)
 
 pub size_of_row-loop-i-preserved : goal.size_of_row-loop-i-preserved
 size_of_row-loop-i-preserved g t c =
@@ -111,11 +105,8 @@ size_of_row-loop-i-preserved g t c =
     let in_row = c.loop-i-test.true in
     let rest = count - (i + 1) in
     next each_object_words each_capability_count object_words capability_count (each (tree_at n s) p count) (each (tree_at n s) (after p i) (count - i)) (each (tree_at n s) (after p (i + 1)) rest) (tree_at n s (after p i))
-    (from_each (faults_at n s) p count) (from_each (faults_at n s) (after p i) (count - i)) (from_each (faults_at n s) (after p (i + 1)) rest) (faults_at n s (after p i))
-    (cost_each (cost_at n s) p count) (cost_each (cost_at n s) (after p i) (count - i)) (cost_each (cost_at n s) (after p (i + 1)) rest) (cost_at n s (after p i)) count (count - i) rest 1 0
-    c.args.limiter.now c.loop-i.limiter c.size_at.new.limiter c.loop-i.size c.in_ok-one.one c.plus-size.result
-    (row_join p i count in_row (tree_at n s)) (fault_later p i count in_row (faults_at n s)) (cost_next p i count in_row (cost_at n s)) (omega arith)
-    (λ w x v e a b. nothing_more w v (x + e) c.plus-size.result (c.plus-size.ensures w x v e a b)) c.in_ok-one.ensures c.loop-i.invariant
+    (from_each (visits n s) p count) (from_each (visits n s) (after p i) (count - i)) (from_each (visits n s) (after p (i + 1)) rest) (visits n s (after p i)) 0 c.args.limiter.now c.loop-i.limiter c.size_at.new.limiter c.loop-i.size c.in_ok-one.one c.plus-size.result
+    (row_join p i count in_row (tree_at n s)) (met_next p i count in_row (visits n s)) (λ w x v e a b. nothing_more w v (x + e) c.plus-size.result (c.plus-size.ensures w x v e a b)) c.in_ok-one.ensures c.loop-i.invariant
 
 pub size_of_row-returns : goal.size_of_row-returns
 size_of_row-returns g t c =
@@ -125,9 +116,8 @@ size_of_row-returns g t c =
     let i = c.loop-i.i in
     let count = c.args.count in
     let past = c.loop-i-test.false in
-    ended each_object_words each_capability_count (each (tree_at n s) p count) (each (tree_at n s) (after p i) (count - i)) (from_each (faults_at n s) p count) (from_each (faults_at n s) (after p i) (count - i))
-    (cost_each (cost_at n s) p count) (cost_each (cost_at n s) (after p i) (count - i)) count (count - i) c.args.limiter.now c.loop-i.limiter c.loop-i.size none
-    (row_end count i (each (tree_at n s) (after p i)) past) no_words no_capabilities (row_end count i (cost_each (cost_at n s) (after p i)) past) (omega arith) c.loop-i.invariant
+    ended each_object_words each_capability_count (each (tree_at n s) p count) (each (tree_at n s) (after p i) (count - i)) (from_each (visits n s) p count) (from_each (visits n s) (after p i) (count - i)) c.args.limiter.now c.loop-i.limiter c.loop-i.size none
+    (row_end count i (each (tree_at n s) (after p i)) past) no_words no_capabilities (row_end count i (from_each (visits n s) (after p i)) past) c.loop-i.invariant
 
 pub size_of_structs-loop-i-init : goal.size_of_structs-loop-i-init
 size_of_structs-loop-i-init g t c = λ ws.
@@ -137,12 +127,15 @@ size_of_structs-loop-i-init g t c = λ ws.
     let d = c.args.data_words in
     let k = c.args.pointers in
     let count = c.args.count in
-    let whole : count - 0 ≡ count = omega arith in
-    let all : (count - 0) * k ≡ count * k = ap (λ (m : ℕ). m * k) whole in
     let none_before : 0 * (d + k) ≡ 0 = omega arith in
     let words : drop (0 * (d + k)) ws ≡ ws = ap (λ (m : ℕ). drop m ws) none_before in
-    begun (element_object_words d) element_capability_count _ _ _ _ _ _ _ _ c.args.limiter.now (wordless 0) nothing_counted
-    (ap (λ (xs : List ℕ). each_element (tree_at n s) (after p (0 * (d + k))) xs d k (count - 0)) words ∙ elements_start p d k count (λ q m. each_element (tree_at n s) q ws d k m)) (elements_start p d k count (λ q m. from_elements (faults_at n s) q d k m)) (elements_start p d k count (λ q m. cost_elements (cost_at n s) q d k m)) all
+    begun (element_object_words d) element_capability_count _ _ _ _ c.args.limiter.now (wordless 0) nothing_counted
+    (ap (λ (xs : List ℕ). each_element (tree_at n s) (after p (0 * (d + k))) xs d k (count - 0)) words ∙ elements_start p d k count (λ q m. each_element (tree_at n s) q ws d k m)) (elements_start p d k count (λ q m. from_elements (visits n s) q d k m))
+
+pub size_of_structs-returns-then-pointers-eq0 : goal.size_of_structs-returns-then-pointers-eq0
+size_of_structs-returns-then-pointers-eq0 g t c = λ ws.
+    let s : Segments = words_in (g.A.ReaderArena.segments c.args.arena.now) in
+    plain_in (tree_at c.args.levels s) (visits c.args.levels s) (place_view c.args.start) ws c.args.data_words c.args.pointers c.args.count _ c.args.limiter.now c.with_words.result c.if-pointers-eq0.true refl c.with_words.ensures
 
 pub size_of_structs-returns-in_err-one : goal.size_of_structs-returns-in_err-one
 size_of_structs-returns-in_err-one g t c = λ ws.
@@ -156,13 +149,11 @@ size_of_structs-returns-in_err-one g t c = λ ws.
     let in_row = c.loop-i-test.true in
     let at = after p (i * (d + k)) in
     let here = after at d in
+    let behind = after p ((i + 1) * (d + k)) in
     let r = err_from_is_err_and c.from_residual.result c.from_residual.ensures.1 in
-    let cost = elements_cost_next p d k i count in_row (cost_at n s) in
-    let few = pointers_next p d k i count in_row in
-    refused_is (element_object_words d) element_capability_count (each_element (tree_at n s) p ws d k count) (from_elements (faults_at n s) p d k count) (cost_elements (cost_at n s) p d k count) (count * k) c.args.limiter.now c.size_of_row.new.limiter c.from_residual.result r.0 c.in_err-one.field-0.0 r.1 r.2
-    (stopped (element_object_words d) element_capability_count (each_element (tree_at n s) p ws d k count) (each_element (tree_at n s) at (drop (i * (d + k)) ws) d k (count - i)) (from_elements (faults_at n s) p d k count) (from_elements (faults_at n s) at d k (count - i)) (from_each (faults_at n s) here k)
-    (cost_elements (cost_at n s) p d k count) (cost_elements (cost_at n s) at d k (count - i)) (cost_each (cost_at n s) here k) (count * k) ((count - i) * k) k c.args.limiter.now c.loop-i.limiter c.size_of_row.new.limiter c.loop-i.size c.in_err-one.field-0.0
-    (element_fault_here p d k i count in_row (faults_at n s)) (omega arith) (omega arith) c.in_err-one.ensures (c.loop-i.invariant ws))
+    refused_is (element_object_words d) element_capability_count (each_element (tree_at n s) p ws d k count) (from_elements (visits n s) p d k count) c.args.limiter.now c.size_of_row.new.limiter c.from_residual.result r.0 c.in_err-one.field-0.0 r.1 r.2
+    (stopped (element_object_words d) element_capability_count (each_element (tree_at n s) p ws d k count) (each_element (tree_at n s) at (drop (i * (d + k)) ws) d k (count - i)) (from_elements (visits n s) p d k count) (from_elements (visits n s) at d k (count - i)) (from_each (visits n s) here k)
+    (from_elements (visits n s) behind d k (count - (i + 1))) c.args.limiter.now c.loop-i.limiter c.size_of_row.new.limiter c.loop-i.size c.in_err-one.field-0.0 (elements_met_next p d k i count in_row (visits n s)) c.in_err-one.ensures (c.loop-i.invariant ws))
 
 pub size_of_structs-loop-i-preserved : goal.size_of_structs-loop-i-preserved
 size_of_structs-loop-i-preserved g t c = λ ws.
@@ -179,11 +170,8 @@ size_of_structs-loop-i-preserved g t c = λ ws.
     let behind = after p ((i + 1) * (d + k)) in
     let rest = count - (i + 1) in
     next (element_object_words d) element_capability_count each_object_words each_capability_count (each_element (tree_at n s) p ws d k count) (each_element (tree_at n s) at (drop (i * (d + k)) ws) d k (count - i)) (each_element (tree_at n s) behind (drop ((i + 1) * (d + k)) ws) d k rest) (each (tree_at n s) here k)
-    (from_elements (faults_at n s) p d k count) (from_elements (faults_at n s) at d k (count - i)) (from_elements (faults_at n s) behind d k rest) (from_each (faults_at n s) here k)
-    (cost_elements (cost_at n s) p d k count) (cost_elements (cost_at n s) at d k (count - i)) (cost_elements (cost_at n s) behind d k rest) (cost_each (cost_at n s) here k) (count * k) ((count - i) * k) (rest * k) k (d + k)
-    c.args.limiter.now c.loop-i.limiter c.size_of_row.new.limiter c.loop-i.size c.in_ok-one.one c.plus-size.result
-    (element_join p d k i count in_row (tree_at n s) ws) (element_fault_later p d k i count in_row (faults_at n s)) (elements_cost_next p d k i count in_row (cost_at n s)) (pointers_next p d k i count in_row)
-    (λ w x v e a b. c.plus-size.ensures w x (v + (d + k)) e a (c.with_words.ensures v e b)) c.in_ok-one.ensures (c.loop-i.invariant ws)
+    (from_elements (visits n s) p d k count) (from_elements (visits n s) at d k (count - i)) (from_elements (visits n s) behind d k rest) (from_each (visits n s) here k) (d + k) c.args.limiter.now c.loop-i.limiter c.size_of_row.new.limiter c.loop-i.size c.in_ok-one.one c.plus-size.result
+    (element_join p d k i count in_row (tree_at n s) ws) (elements_met_next p d k i count in_row (visits n s)) (λ w x v e a b. c.plus-size.ensures w x (v + (d + k)) e a (c.with_words-in-loop-i.ensures v e b)) c.in_ok-one.ensures (c.loop-i.invariant ws)
 
 pub size_of_structs-returns : goal.size_of_structs-returns
 size_of_structs-returns g t c = λ ws.
@@ -196,7 +184,5 @@ size_of_structs-returns g t c = λ ws.
     let count = c.args.count in
     let past = c.loop-i-test.false in
     let at = after p (i * (d + k)) in
-    let no_pointers : 0 * k ≡ 0 = omega arith in
-    ended (element_object_words d) element_capability_count (each_element (tree_at n s) p ws d k count) (each_element (tree_at n s) at (drop (i * (d + k)) ws) d k (count - i)) (from_elements (faults_at n s) p d k count) (from_elements (faults_at n s) at d k (count - i))
-    (cost_elements (cost_at n s) p d k count) (cost_elements (cost_at n s) at d k (count - i)) (count * k) ((count - i) * k) c.args.limiter.now c.loop-i.limiter c.loop-i.size no_elements
-    (row_end count i (each_element (tree_at n s) at (drop (i * (d + k)) ws) d k) past) (no_element_words d) no_element_capabilities (row_end count i (cost_elements (cost_at n s) at d k) past) (row_end count i (λ m. m * k) past ∙ no_pointers) (c.loop-i.invariant ws)
+    ended (element_object_words d) element_capability_count (each_element (tree_at n s) p ws d k count) (each_element (tree_at n s) at (drop (i * (d + k)) ws) d k (count - i)) (from_elements (visits n s) p d k count) (from_elements (visits n s) at d k (count - i)) c.args.limiter.now c.loop-i.limiter c.loop-i.size no_elements
+    (row_end count i (each_element (tree_at n s) at (drop (i * (d + k)) ws) d k) past) (no_element_words d) no_element_capabilities (row_end count i (from_elements (visits n s) at d k) past) (c.loop-i.invariant ws)

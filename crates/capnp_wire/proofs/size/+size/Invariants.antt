@@ -2,9 +2,9 @@
 use Rattle.std.proofs.Common.{ℕ, ◌+◌, ◌-◌, ◌*◌, List, drop}
 use Rattle.capnp_model.specs.Segments.{after}
 use Rattle.capnp_model.specs.Sizes.{each_object_words, element_object_words, each_capability_count, element_capability_count}
-use Rattle.capnp_model.specs.Traversal.{tree_at, cost_at, each, each_element, cost_each, cost_elements}
+use Rattle.capnp_model.specs.Traversal.{tree_at, each, each_element}
 use Rattle.capnp_model.specs.Coverage.{from_each, from_elements}
-use Rattle.capnp_model.specs.Faults.{faults_at}
+use Rattle.capnp_model.specs.Visits.{visits}
 use Rattle.capnp_units.specs.Segments.{words_in}
 use Rattle.capnp_wire.specs.Places.{place_view}
 use Rattle.capnp_wire.proofs.Walks.{SoFar}
@@ -27,8 +27,7 @@ abbrev pub invariant-size_of_row-loop-i : goal.invariant-size_of_row-loop-i
 invariant-size_of_row-loop-i g l =
     let s = words_in (g.A.ReaderArena.segments l.arena) in
     let p = place_view l.first in
-    SoFar each_object_words each_capability_count (each (tree_at l.levels s) p l.count) (each (tree_at l.levels s) (after p l.i) (l.count - l.i)) (from_each (faults_at l.levels s) p l.count) (from_each (faults_at l.levels s) (after p l.i) (l.count - l.i))
-    (cost_each (cost_at l.levels s) p l.count) (cost_each (cost_at l.levels s) (after p l.i) (l.count - l.i)) l.count (l.count - l.i) l.fn.limiter l.limiter l.size
+    SoFar each_object_words each_capability_count (each (tree_at l.levels s) p l.count) (each (tree_at l.levels s) (after p l.i) (l.count - l.i)) (from_each (visits l.levels s) p l.count) (from_each (visits l.levels s) (after p l.i) (l.count - l.i)) l.fn.limiter l.limiter l.size
 
 abbrev pub invariant-size_of_structs-loop-i : goal.invariant-size_of_structs-loop-i
 invariant-size_of_structs-loop-i g l =
@@ -38,5 +37,4 @@ invariant-size_of_structs-loop-i g l =
     let k = l.pointers in
     let rest = l.count - l.i in
     (ws : List ℕ) → SoFar (element_object_words d) element_capability_count (each_element (tree_at l.levels s) p ws d k l.count) (each_element (tree_at l.levels s) (after p (l.i * (d + k))) (drop (l.i * (d + k)) ws) d k rest)
-    (from_elements (faults_at l.levels s) p d k l.count) (from_elements (faults_at l.levels s) (after p (l.i * (d + k))) d k rest)
-    (cost_elements (cost_at l.levels s) p d k l.count) (cost_elements (cost_at l.levels s) (after p (l.i * (d + k))) d k rest) (l.count * k) (rest * k) l.fn.limiter l.limiter l.size
+    (from_elements (visits l.levels s) p d k l.count) (from_elements (visits l.levels s) (after p (l.i * (d + k))) d k rest) l.fn.limiter l.limiter l.size
