@@ -15,6 +15,7 @@ pub mod memory;
 mod segment_tests;
 pub mod segments;
 pub mod slices;
+mod tables;
 #[cfg(test)]
 mod tests;
 pub mod traits;

@@ -1,4 +1,4 @@
-use Rattle.std.proofs.Common.{true, ◌≡◌, ◌*◌, arith, sum, sym, ap, ◌∙◌, subst, ℕ, length}
+use Rattle.std.proofs.Common.{true, false, ◌≡◌, ◌*◌, arith, sum, sym, ap, ◌∙◌, subst, ℕ, length}
 use Rattle.std.proofs.lemmas.Result.{err_from_is_err_and}
 use Rattle.capnp_model.specs.Segments.{Segments}
 use Rattle.capnp_model.specs.Bytes.{words_in_bytes}
@@ -9,11 +9,14 @@ use Rattle.capnp_stream.specs.Segments.{whole_words, lengths_of, segments_of}
 use Rattle.capnp_stream.specs.Frames.{TakesMessage, IsCut}
 use Rattle.capnp_stream.proofs.WordLemmas.{whole_words-of_length, words_in_bytes-length, cut-of_joined}
 use Rattle.capnp_stream.proofs.SpellLemmas.{CanSpell-of_cut}
-use Rattle.capnp_stream.proofs.FrameLemmas.{table-part, body-part, message-of_pieces}
+use Rattle.capnp_stream.proofs.FrameLemmas.{large-part, body-part, message-of_pieces}
 use Rattle.capnp_stream.proofs.frames.read_segments.Goals as goal
 
 pub returns-then-not-is_within-clause-part : goal.returns-then-not-is_within-clause-part
-returns-then-not-is_within-clause-part g c = table-part g.F.MessageForm.reader g.met.F.MessageForm.fronts c.args.limit (lengths_of c.in_ok-table.table) _ _ c.in_ok-table.ensures.table
+returns-then-not-is_within-clause-part g c =
+    let ns = lengths_of c.in_ok-table.table in
+    let large : within (sum ns) c.args.limit ≡ false = ap (λ n. within n c.args.limit) (sym c.total_words-total.ensures) ∙ sym c.is_within.ensures ∙ c.if-not-is_within.true in
+    large-part g.F.MessageForm.reader g.met.F.MessageForm.fronts c.args.limit ns _ _ c.in_ok-table.ensures.table large
 
 pub returns-in_err-bytes-clause-part : goal.returns-in_err-bytes-clause-part
 returns-in_err-bytes-clause-part g c =
