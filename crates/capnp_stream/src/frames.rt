@@ -6,8 +6,9 @@ ghost use Rattle.capnp_model.specs.Messages.{frame, halves, plain_words, within}
 ghost use Rattle.capnp_model.specs.Spelling.{AreShort, CanSpell};
 ghost use Rattle.capnp_stream.specs.Counting.{Counts};
 ghost use Rattle.capnp_stream.specs.Pieces.{TakesPiece, is_framed_fault};
-ghost use Rattle.capnp_stream.specs.Segments.{AreBytes, whole_words, lengths_of, segments_of};
+ghost use Rattle.capnp_stream.specs.Segments.{AreBytes, whole_words, lengths_of, segment_bytes, segments_of};
 ghost use Rattle.capnp_stream.specs.Frames.{IsFrameFault, TakesMessage, TakesStart, TakesTable, IsFramingKind, IsReadKind, IsCut};
+ghost use Rattle.capnp_stream.specs.Writing.{AreWritable};
 ghost use Rattle.capnp_stream.specs.Streams.{AppendsPart, RoomFalls, IsWriteRefusal};
 
 use crate::forms::{Framed, MessageForm};
@@ -105,6 +106,7 @@ fn read_segments<F: MessageForm, R: BufRead>(
 ) -> Result<OwnedSegments>
     ensures message { IfOk result (λ m. TakesMessage F.reader limit (R.remaining source.old) (R.remaining source.new) (segments_of m)) }
     ensures kept { IfOk result (λ m. CanSpell limit (segments_of m)) }
+    ensures writable { IfOk result (λ m. AreWritable (segment_bytes m)) }
     ensures refused { IfErr result (λ e. IsFramingKind e.kind → IfSome (R.remaining source.old) (λ xs. IsFrameFault F.reader limit xs e.kind)) }
     ensures kind { IfErr result (λ e. IsReadKind F.faults e.kind) }
     ensures part { OnErr result (TakesStart F.reader limit (R.remaining source.old) (R.remaining source.new)) }
@@ -131,6 +133,7 @@ pub fn try_read_message_in<F: MessageForm, R: BufRead>(
     // One message is taken, whatever follows it.
     ensures message { IfOk result (λ o. IfSome o (λ m. TakesMessage F.reader limit (R.remaining source.old) (R.remaining source.new) (segments_of m))) }
     ensures kept { IfOk result (λ o. IfSome o (λ m. CanSpell limit (segments_of m))) }
+    ensures writable { IfOk result (λ o. IfSome o (λ m. AreWritable (segment_bytes m))) }
     ensures none { IfOk result (λ o. IfNone o (IsAtEnd (R.remaining source.old) × Keeps (R.remaining source.old) (R.remaining source.new))) }
 
     // The bytes that are left begin with no message, and the kind says why.
@@ -154,6 +157,7 @@ pub fn read_message_in<F: MessageForm, R: BufRead>(
 ) -> Result<OwnedSegments>
     ensures message { IfOk result (λ m. TakesMessage F.reader limit (R.remaining source.old) (R.remaining source.new) (segments_of m)) }
     ensures kept { IfOk result (λ m. CanSpell limit (segments_of m)) }
+    ensures writable { IfOk result (λ m. AreWritable (segment_bytes m)) }
     ensures no_byte { IfErr result (λ e. e.kind ≡ ErrorKind.PrematureEndOfFile → IsAtEnd (R.remaining source.old) × Keeps (R.remaining source.old) (R.remaining source.new)) }
     ensures refused { IfErr result (λ e. IsFramingKind e.kind → IfSome (R.remaining source.old) (λ xs. (xs ≢ []) × IsFrameFault F.reader limit xs e.kind)) }
     ensures kind { IfErr result (λ e. e.kind ≢ ErrorKind.PrematureEndOfFile → IsReadKind F.faults e.kind) }
@@ -177,6 +181,7 @@ pub fn try_read_message<R: BufRead>(
     // One message is taken, whatever follows it.
     ensures message { IfOk result (λ o. IfSome o (λ m. TakesMessage plain_words limit (R.remaining source.old) (R.remaining source.new) (segments_of m))) }
     ensures kept { IfOk result (λ o. IfSome o (λ m. CanSpell limit (segments_of m))) }
+    ensures writable { IfOk result (λ o. IfSome o (λ m. AreWritable (segment_bytes m))) }
     ensures none { IfOk result (λ o. IfNone o (IsAtEnd (R.remaining source.old) × Keeps (R.remaining source.old) (R.remaining source.new))) }
 
     // The bytes that are left begin with no message, and the kind says why.
@@ -196,6 +201,7 @@ pub fn read_message<R: BufRead>(
 ) -> Result<OwnedSegments>
     ensures message { IfOk result (λ m. TakesMessage plain_words limit (R.remaining source.old) (R.remaining source.new) (segments_of m)) }
     ensures kept { IfOk result (λ m. CanSpell limit (segments_of m)) }
+    ensures writable { IfOk result (λ m. AreWritable (segment_bytes m)) }
     ensures no_byte { IfErr result (λ e. e.kind ≡ ErrorKind.PrematureEndOfFile → IsAtEnd (R.remaining source.old) × Keeps (R.remaining source.old) (R.remaining source.new)) }
     ensures refused { IfErr result (λ e. IsFramingKind e.kind → IfSome (R.remaining source.old) (λ xs. (xs ≢ []) × IsFrameFault plain_words limit xs e.kind)) }
     ensures kind { IfErr result (λ e. e.kind ≢ ErrorKind.PrematureEndOfFile → IsReadKind is_framed_fault e.kind) }

@@ -14,6 +14,7 @@ pub mod memory;
 #[cfg(test)]
 mod segment_tests;
 pub mod segments;
+pub mod slice_writer;
 pub mod slices;
 mod tables;
 #[cfg(test)]

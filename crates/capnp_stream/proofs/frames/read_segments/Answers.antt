@@ -7,7 +7,7 @@ use Rattle.capnp_model.specs.Spelling.{CanSpell}
 use Rattle.capnp_stream.specs.Ranges.{AreBytes}
 use Rattle.capnp_stream.specs.Segments.{whole_words, lengths_of, segments_of}
 use Rattle.capnp_stream.specs.Frames.{TakesMessage, IsCut}
-use Rattle.capnp_stream.proofs.WordLemmas.{whole_words-of_length, words_in_bytes-length, cut-of_joined}
+use Rattle.capnp_stream.proofs.WordLemmas.{whole_words-of_length, words_in_bytes-length, cut-of_joined, writable-joined}
 use Rattle.capnp_stream.proofs.SpellLemmas.{CanSpell-of_cut}
 use Rattle.capnp_stream.proofs.FrameLemmas.{large-part, body-part, message-of_pieces}
 use Rattle.capnp_stream.proofs.frames.read_segments.Goals as goal
@@ -47,3 +47,10 @@ returns-clause-kept g c =
     let parts : segments_of c.new.result ≡ cut ns (words_in_bytes (sum ns) body) = cut-of_joined _ body _ ns c.new.ensures.bytes c.new.ensures.ranges (omega (arith, long)) in
     let small : AreBytes body = subst AreBytes c.deref.ensures.value c.are_bytes.ensures in
     subst (CanSpell c.args.limit) (sym parts) (CanSpell-of_cut c.args.limit ns body c.in_ok-table.ensures.some c.in_ok-table.ensures.few c.in_ok-table.ensures.short kept small)
+
+pub returns-clause-writable : goal.returns-clause-writable
+returns-clause-writable g c =
+    let ns = lengths_of c.in_ok-table.table in
+    let body = c.in_ok-bytes.bytes.items in
+    let long : length body ≡ 8 * sum ns = c.in_ok-bytes.ensures.len ∙ ap (λ n. 8 * n) c.total_words-total.ensures in
+    writable-joined _ body _ ns c.new.ensures.bytes c.new.ensures.ranges (omega (arith, long)) c.in_ok-table.ensures.short c.in_ok-table.ensures.some c.in_ok-table.ensures.few
