@@ -201,7 +201,7 @@ impl OwnedSegments {
     pub fn as_slice(&self) -> &[u8]
         ensures { result.now ≡ owned_bytes self.now }
     {
-        &self.bytes
+        self.bytes.as_slice()
     }
 
     /// The bytes of all segments, one behind the other, to be written over.
