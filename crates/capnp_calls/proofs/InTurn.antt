@@ -1,9 +1,10 @@
 -- One more call in turn.
-use Rattle.std.proofs.Common.{◌≡◌, List, [], ◌∷◌, ◌++◌, refl, ap, sym, ◌∙◌, append_assoc, append-nil}
+use Rattle.std.proofs.Common.{◌≡◌, List, [], ◌∷◌, ◌++◌, refl, ap, ◌∙◌, append_assoc, append-nil}
 use Rattle.capnp_model.specs.Trees.{Tree}
 use Rattle.capnp_model.specs.Readings.{Record}
 use Rattle.capnp_model.specs.Calls.{Call}
-use Rattle.capnp_model.specs.Answers.{Reply, replies, edits, records_after}
+use Rattle.capnp_model.specs.CallRuns.{records_after}
+use Rattle.capnp_model.specs.Answers.{Reply, replies, edits}
 use Rattle.capnp_records.specs.declared.structs.StructSchema.{StructSchema}
 use Rattle.capnp_calls.specs.Taken.{reply_to, tree_after, replies_to, tree_after_all, record_by, record_by_all}
 

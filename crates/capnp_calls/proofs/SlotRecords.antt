@@ -1,14 +1,15 @@
 -- The record after a call is the one that the record machine makes.
-use Rattle.std.proofs.Common.{◌≡◌, ℕ, ◌^◌, ◌<◌, false, Option, Some, None, List, [], ◌∷◌, refl, ap, sym, subst, ◌∙◌, arith}
+use Rattle.std.proofs.Common.{◌≡◌, ℕ, false, Option, Some, None, List, [], ◌∷◌, refl, ap, sym, subst, ◌∙◌, arith}
 use Rattle.std.specs.Prelude.{IsTrue}
 use Rattle.capnp_model.specs.Trees.{Tree, structure, Trees}
-use Rattle.capnp_model.specs.Schemas.{shape, Node, Fields, Body, Schema}
+use Rattle.capnp_model.specs.Schemas.{shape, Node, Body}
 use Rattle.capnp_model.specs.Accepted.{IsAccepted, schema_of}
-use Rattle.capnp_model.specs.Readings.{Reading, inactive, null_pointer, fault, number, text_of, blob_of, list_of, record_as, opaque, Record, record_of, body_of, fields_of, whole_words, read_child}
+use Rattle.capnp_model.specs.Readings.{Reading, inactive, null_pointer, fault, number, text_of, blob_of, list_of, record_as, opaque, Record, record_of}
 use Rattle.capnp_model.specs.Printing.{As, as_body, fields_in}
 use Rattle.capnp_model.specs.Calls.{Step, name, index, whole_number, truth, enumerant, text_value, blob_value, message, Verb, get, set_to, init, initn, clear, Call}
 use Rattle.capnp_model.specs.Steps.{Outcome, refused, shown, done, outcome_map, Target, no_target, target, target_of, at_target, got, step, step_field, after_outcome}
 use Rattle.capnp_model.specs.Edits.{edit, if_done, write_path}
+use Rattle.capnp_model.specs.CallRuns.{IsGiven}
 use Rattle.capnp_model.specs.NamedPaths.{IsInRange, IsOpen, GoesByNames, IsSlot as NoGroup}
 use Rattle.capnp_records.specs.Slots.{body_of_slot}
 use Rattle.capnp_records.specs.Structs.{words_in, pointers_in, nodes_around, id_of, shape_of_struct, fields_of_struct}
@@ -29,21 +30,17 @@ RecordsOfEdits =
     (nodes : List Node) → IsAccepted nodes → (id : ℕ) → (schema_of nodes).is_group id ≡ false → (c : Call) → IsInRange c.verb → GoesByNames (schema_of nodes) (fields_in ((schema_of nodes).shape_of id)) c.path
     → (t : Tree) → IsOpen t → (r : Record) → step (schema_of nodes) id c (record_of (schema_of nodes) id t) ≡ done r → record_of (schema_of nodes) id (edit (schema_of nodes) id c t) ≡ r
 
--- an enum's value has sixteen bits
-abbrev pub HasRange : Verb → Type 0
-HasRange (set_to (enumerant n)) = n < 2 ^ 16
-HasRange _ = Unit {0}
-
-pub range_of : (a : Action) → IsTrue (is_in_range a) → HasRange (action_view a)
-range_of action.Get h = tt
-range_of (action.Set (value.Number z)) h = tt
-range_of (action.Set (value.Bool b)) h = tt
-range_of (action.Set (value.Enum n)) h = grind (arith, h)
-range_of (action.Set (value.Text t)) h = tt
-range_of (action.Set (value.Data bs)) h = tt
-range_of action.Init h = tt
-range_of (action.Initn n) h = tt
-range_of action.Clear h = tt
+-- what an action sets is a value of its sort
+pub IsGiven-of_action : (a : Action) → IsTrue (is_in_range a) → IsGiven (action_view a)
+IsGiven-of_action action.Get h = tt
+IsGiven-of_action (action.Set (value.Number z)) h = tt
+IsGiven-of_action (action.Set (value.Bool b)) h = tt
+IsGiven-of_action (action.Set (value.Enum n)) h = grind (arith, h)
+IsGiven-of_action (action.Set (value.Text t)) h = tt
+IsGiven-of_action (action.Set (value.Data bs)) h = tt
+IsGiven-of_action action.Init h = tt
+IsGiven-of_action (action.Initn n) h = tt
+IsGiven-of_action action.Clear h = tt
 
 got_is_no_write : {A : Type 0} (h : Reading → A) (how : As) (r : Reading) (x : A) → outcome_map h (got how r) ≡ done x → ⊥
 got_is_no_write h how inactive x e = cc
@@ -79,7 +76,7 @@ module _ (records : RecordsOfEdits) (law : FieldsByName) (root : StructSchema) (
   abbrev outcome : List ℕ → Verb → Tree → Outcome Record
   outcome n verb t = step (schema_around root) (id_of root) (named n verb) (record_at root t)
 
-  in_range : (verb : Verb) → HasRange verb → (n : List ℕ) → target_of n (fields_of_struct root) ≡ target None (body_of_slot at) → (words section : ℕ) (kids : Trees) (r : Record)
+  in_range : (verb : Verb) → IsGiven verb → (n : List ℕ) → target_of n (fields_of_struct root) ≡ target None (body_of_slot at) → (words section : ℕ) (kids : Trees) (r : Record)
       → outcome n verb (structure words section kids) ≡ done r → IsInRange verb
   in_range get range n found words section kids r e =
       got_is_no_write _ (as_body (body_of_slot at)) _ r (sym (outcome_is law (schema_around root) (id_of root) nid (words_in (shape_of_struct root)) (pointers_in (shape_of_struct root)) (fields_of_struct root) is_shape n (body_of_slot at) (slot_is at) found get words section kids) ∙ e)
@@ -93,7 +90,7 @@ module _ (records : RecordsOfEdits) (law : FieldsByName) (root : StructSchema) (
   in_range (initn k) range n found words section kids r e = tt
   in_range clear range n found words section kids r e = tt
 
-  named_record : (verb : Verb) → HasRange verb → (n : List ℕ) → target_of n (fields_of_struct root) ≡ target None (body_of_slot at) → (words section : ℕ) (kids : Trees)
+  named_record : (verb : Verb) → IsGiven verb → (n : List ℕ) → target_of n (fields_of_struct root) ≡ target None (body_of_slot at) → (words section : ℕ) (kids : Trees)
       → record_at root (edit (schema_around root) (id_of root) (named n verb) (structure words section kids)) ≡ after_outcome (record_at root (structure words section kids)) (outcome n verb (structure words section kids))
   unfolding edit
   named_record verb range n found words section kids = by (outcome n verb old) refl
@@ -112,7 +109,7 @@ module _ (records : RecordsOfEdits) (law : FieldsByName) (root : StructSchema) (
           (tt, λ member body is. no_group_in at body member (sym found ∙ is)) old tt r e
           ∙ ap (after_outcome (record_at root old)) (sym e)
 
-  pub found_record : (verb : Verb) → HasRange verb → (path : List Step) (n : List ℕ) → Some n ≡ only_name path → target_of n (fields_of_struct root) ≡ target None (body_of_slot at) → (words section : ℕ) (kids : Trees)
+  pub found_record : (verb : Verb) → IsGiven verb → (path : List Step) (n : List ℕ) → Some n ≡ only_name path → target_of n (fields_of_struct root) ≡ target None (body_of_slot at) → (words section : ℕ) (kids : Trees)
       → record_at root (tree_after root (record { path = path; verb = verb }) (structure words section kids)) ≡ record_by root (record { path = path; verb = verb }) (record_at root (structure words section kids))
   found_record verb range [] n h found words section kids = absurd (cc h)
   found_record verb range (name m ∷ []) n h found words section kids =

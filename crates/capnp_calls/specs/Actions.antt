@@ -1,5 +1,5 @@
 -- The actions that calls may have.
-use Rattle.std.specs.Prelude.{ℕ, ◌^◌, nat_lt, Bool, true}
+use Rattle.std.specs.Prelude.{◌^◌, nat_lt, Bool, true}
 use Rattle.capnp_calls.specs.declared.call.SlotValue.TheVariants as value
 use Rattle.capnp_calls.specs.declared.call.Action.{Action}
 use Rattle.capnp_calls.specs.declared.call.Action.TheVariants as action

@@ -7,7 +7,8 @@ use Rattle.capnp_model.specs.Readings.{Record, record_of}
 use Rattle.capnp_model.specs.Calls.{Step, name, index, Call}
 use Rattle.capnp_model.specs.Steps.{Outcome, step, record_after}
 use Rattle.capnp_model.specs.Edits.{edit}
-use Rattle.capnp_model.specs.Answers.{Reply, reply_of, replies, edits, records_after}
+use Rattle.capnp_model.specs.CallRuns.{records_after}
+use Rattle.capnp_model.specs.Answers.{Reply, reply_of, replies, edits}
 use Rattle.capnp_records.specs.Structs.{nodes_around, id_of}
 use Rattle.capnp_records.specs.declared.structs.StructSchema.{StructSchema}
 use Rattle.capnp_calls.specs.Texts.{as_it_is}

@@ -9,10 +9,10 @@ use Rattle.capnp_model.specs.Messages.{within}
 use Rattle.capnp_model.specs.Traversal.{tree_at, cost_at}
 use Rattle.capnp_model.specs.Encoding.{canonical_words}
 use Rattle.capnp_model.specs.Schemas.{Shape, shape, Schema}
-use Rattle.capnp_model.specs.Readings.{Record, record_of}
+use Rattle.capnp_model.specs.Readings.{record_of}
 use Rattle.capnp_model.specs.Printing.{on_one_line, print, nulls_as}
 use Rattle.capnp_model.specs.Calls.{Call}
-use Rattle.capnp_model.specs.Steps.{Outcome, refused, shown, done, step, record_after}
+use Rattle.capnp_model.specs.Steps.{Outcome, refused, shown, done, step}
 use Rattle.capnp_model.specs.Edits.{edit}
 
 -- What a call replies.
@@ -41,11 +41,6 @@ replies s quoted id (c ∷ cs) t = reply_of s quoted (step s id c (record_of s i
 unfoldable pub edits : Schema → ℕ → List Call → Tree → Tree
 edits s id [] t = t
 edits s id (c ∷ cs) t = edits s id cs (edit s id c t)
-
--- What the record machine makes of a record by all calls.
-unfoldable pub records_after : Schema → ℕ → List Call → Record → Record
-records_after s id [] r = r
-records_after s id (c ∷ cs) r = records_after s id cs (record_after s id c r)
 
 -- The root with at least its schema's sizes; a null as the empty struct.
 abbrev pub widened_root : Shape → Tree → Tree

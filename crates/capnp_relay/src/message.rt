@@ -51,15 +51,15 @@ fn answer_struct(
         Ok(replies) => replies,
         Err(e) => return Err(want_of(e)),
     };
-    let mut value = close_struct(root);
-    if !is_within(&value, nesting) {
+    let mut edited = close_struct(root);
+    if !is_within(&edited, nesting) {
         return Ok(MessageAnswer::Refused(Reason::Depth));
     }
-    trim_whole(&mut value);
-    if !is_short(&value) {
+    trim_whole(&mut edited);
+    if !is_short(&edited) {
         return Err(Want::Size);
     }
-    match canonical(alloc, &value) {
+    match canonical(alloc, &edited) {
         Ok(words) => Ok(MessageAnswer::Written { words, replies }),
         Err(_) => Err(Want::Memory),
     }

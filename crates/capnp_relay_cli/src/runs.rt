@@ -5,9 +5,7 @@ use crate::program::program;
 use std::test::Fail;
 
 /// A message whose root is null, and the first half of a table.
-const CUT: [u8; 20] = [
-    0, 0, 0, 0, 1, 0, 0, 0, 0, 0, 0, 0, 0, 0, 0, 0, 0, 0, 0, 0,
-];
+const CUT: [u8; 20] = [0, 0, 0, 0, 1, 0, 0, 0, 0, 0, 0, 0, 0, 0, 0, 0, 0, 0, 0, 0];
 
 /// What is written of the message.
 const SEVEN: [u8; 24] = [
@@ -24,7 +22,10 @@ fn a_whole_input_has_status_zero(rt: HostRuntime) -> Result<(), Fail> {
     let mut log = Device::new(alloc, ROOM, true);
     assert_eq!(rt; program(alloc, &mut &CUT[..16], &mut out, &mut log), 0);
     assert_eq!(rt; out.held.as_slice(), SEVEN.as_slice());
-    assert_eq!(rt; log.held.as_slice(), b"message 1 written; done\n".as_slice());
+    assert_eq!(rt;
+        log.held.as_slice(),
+        b"message 1 written; done\n".as_slice()
+    );
     Ok(())
 }
 
@@ -35,8 +36,7 @@ fn a_cut_input_has_its_line_behind_the_log(rt: HostRuntime) -> Result<(), Fail> 
     let mut log = Device::new(alloc, ROOM, true);
     assert_eq!(rt; program(alloc, &mut CUT.as_slice(), &mut out, &mut log), 1);
     assert_eq!(rt; out.held.as_slice(), SEVEN.as_slice());
-    let lines: &[u8] =
-        b"message 1 written; done\nfault: framing FailedToFillTheWholeBuffer\n";
+    let lines: &[u8] = b"message 1 written; done\nfault: framing FailedToFillTheWholeBuffer\n";
     assert_eq!(rt; log.held.as_slice(), lines);
     Ok(())
 }

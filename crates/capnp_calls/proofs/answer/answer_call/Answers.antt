@@ -7,7 +7,7 @@ use Rattle.capnp_calls.specs.CallViews.{action_view, call_view}
 use Rattle.capnp_calls.specs.RootViews.{cell_of, struct_tree}
 use Rattle.capnp_calls.specs.Taken.{schema_around, record_at}
 use Rattle.capnp_calls.proofs.AtAStruct.{wrong_step_reply, wrong_step_tree, missing_reply, missing_tree, found_reply, found_struct, found_want}
-use Rattle.capnp_calls.proofs.SlotRecords.{wrong_step_record, missing_record, found_record, range_of}
+use Rattle.capnp_calls.proofs.SlotRecords.{wrong_step_record, missing_record, found_record, IsGiven-of_action}
 use Rattle.capnp_calls.proofs.answer.answer_call.Goals as goal
 
 pub returns-in_default-clause-reply : goal.returns-in_default-clause-reply
@@ -52,7 +52,7 @@ returns-clause-record c =
     ap (record_at c.args.schema) (found_struct c.fields_by_name.ensures c.args.schema c.id-id.result c.id-id.ensures.shape verb c.in-Some-find_slot.slot
     path c.in-Some.name.now c.in-Some.ensures c.in-Some-find_slot.ensures.found old c.answer_slot.new.root c.answer_slot.ensures.sizes c.requires.words c.requires.pointers (h (schema_around c.args.schema)))
     ∙ found_record c.records_of_edited_values.ensures c.fields_by_name.ensures c.args.schema c.args.schema.set.now.accepted (ap (schema_around c.args.schema).is_group (sym c.id-id.ensures.id) ∙ c.id-id.ensures.no_group)
-    c.id-id.result c.id-id.ensures.shape c.in-Some-find_slot.slot verb (range_of c.args.call.now.action c.args.call.now.in_range)
+    c.id-id.result c.id-id.ensures.shape c.in-Some-find_slot.slot verb (IsGiven-of_action c.args.call.now.action c.args.call.now.in_range)
     path c.in-Some.name.now c.in-Some.ensures c.in-Some-find_slot.ensures.found (vec_len old.words) (cell_of old).section (cell_of old).kids) c.answer_slot.ensures.cell
 
 pub returns-clause-refusal : goal.returns-clause-refusal

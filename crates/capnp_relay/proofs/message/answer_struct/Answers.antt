@@ -15,5 +15,5 @@ returns-in-Err-clause-size c = λ e.
 pub returns-then-not-is_short-clause-size : goal.returns-then-not-is_short-clause-size
 returns-then-not-is_short-clause-size c = λ e.
     let all = rw (c.new.ensures.schema, c.new.ensures.now) at c.in-Ok.ensures.all in
-    let value : tree_of_value c.close_struct-value.result ≡ struct_tree c.run.new.root.0 = search rules in
-    inr (WritesLong-of_words c.args.schema c.args.calls.now c.args.nesting (struct_tree c.args.root) (tree_of_value c.close_struct-value.result) (tree_of_value c.trim_whole.new.value) (value ∙ all.tree) c.if-not-is_within.ensures c.trim_whole.ensures.value c.if-not-is_short.ensures)
+    let value : tree_of_value c.close_struct-edited.result ≡ struct_tree c.run.new.root.0 = search rules in
+    inr (WritesLong-of_words c.args.schema c.args.calls.now c.args.nesting (struct_tree c.args.root) (tree_of_value c.close_struct-edited.result) (tree_of_value c.trim_whole.new.value) (value ∙ all.tree) c.if-not-is_within.ensures c.trim_whole.ensures.value c.if-not-is_short.ensures)
