@@ -19,7 +19,7 @@ spliced_length zero (v ∷ vs) (x ∷ xs) = let e = spliced_length zero vs xs in
 spliced_length (suc k) vs (x ∷ xs) = let e = spliced_length k vs xs in omega (arith, e)
 
 -- behind and in front of what is written all is as it was
-spliced_nothing : (k : ℕ) (xs : List ℕ) → spliced k [] xs ≡ xs
+pub spliced_nothing : (k : ℕ) (xs : List ℕ) → spliced k [] xs ≡ xs
 unfolding spliced
 spliced_nothing zero [] = refl
 spliced_nothing (suc k) [] = refl
