@@ -2,7 +2,9 @@
 
 ghost use Rattle.std.specs.Prelude.{◌≡◌, ℕ, false, List, [], ◌∷◌, Option};
 ghost use Rattle.capnp_model.specs.Trees.{Tree, structure};
-ghost use Rattle.capnp_model.specs.Schemas.{Node, Shape, group_slot, Schema};
+ghost use Rattle.capnp_model.specs.Trimming.{trim};
+ghost use Rattle.capnp_model.specs.InKind.{in_kind};
+ghost use Rattle.capnp_model.specs.Schemas.{Ty, Node, Shape, group_slot, Schema};
 ghost use Rattle.capnp_model.specs.Readings.{Record, record_of};
 ghost use Rattle.capnp_model.specs.Printing.{fields_in};
 ghost use Rattle.capnp_model.specs.Calls.{set_to, message, Call};
@@ -10,7 +12,7 @@ ghost use Rattle.capnp_model.specs.Steps.{done, step};
 ghost use Rattle.capnp_model.specs.Edits.{Cell, mark, group_writes, after_writes, IsBegun, edit_field, edit};
 ghost use Rattle.capnp_model.specs.NamedPaths.{IsInRange, IsOpen, GoesByNames};
 ghost use Rattle.capnp_model.specs.CallRuns.{IsStart, records_after, record_replies};
-ghost use Rattle.capnp_model.specs.Answers.{replies, edits};
+ghost use Rattle.capnp_model.specs.Answers.{replies, edits, opened_root};
 ghost use Rattle.capnp_model.specs.Accepted.{IsAccepted, schema_of};
 
 /// The record of an edited value is what the record machine makes of the record, for calls along names that end at a slot.
@@ -29,6 +31,14 @@ pub fn records_after_calls()
     ensures reads { (nodes : List Node) (id : ℕ) (calls : List Call) (t : Tree) → IsStart nodes id calls t → record_of (schema_of nodes) id (edits (schema_of nodes) id calls t) ≡ records_after (schema_of nodes) id calls (record_of (schema_of nodes) id t) }
     ensures replied { (nodes : List Node) (id : ℕ) (quoted : List ℕ → List ℕ) (calls : List Call) (t : Tree) → IsStart nodes id calls t → replies (schema_of nodes) quoted id calls t ≡ record_replies (schema_of nodes) quoted id calls (record_of (schema_of nodes) id t) }
     ensures next { (nodes : List Node) (id : ℕ) (calls : List Call) (t : Tree) → IsStart nodes id calls t → IsStart nodes id [] (edits (schema_of nodes) id calls t) }
+{}
+
+/// What is written after the calls on a message's value reads as what the calls make of the record of the value that was read.
+pub fn records_of_written_values()
+    ensures kinds { (s : Schema) (t : Tree) (ty : Ty) → in_kind s (trim t) ty ≡ in_kind s t ty }
+    ensures start { (nodes : List Node) (id : ℕ) (calls : List Call) (t : Tree) → IsStart nodes id calls t → IsStart nodes id calls (opened_root (schema_of nodes) id t) }
+    ensures reads { (nodes : List Node) (id : ℕ) (calls : List Call) (t : Tree) → IsStart nodes id calls t → record_of (schema_of nodes) id (trim (edits (schema_of nodes) id calls (opened_root (schema_of nodes) id t))) ≡ records_after (schema_of nodes) id calls (record_of (schema_of nodes) id t) }
+    ensures replied { (nodes : List Node) (id : ℕ) (quoted : List ℕ → List ℕ) (calls : List Call) (t : Tree) → IsStart nodes id calls t → replies (schema_of nodes) quoted id calls (opened_root (schema_of nodes) id t) ≡ record_replies (schema_of nodes) quoted id calls (record_of (schema_of nodes) id t) }
 {}
 
 /// A group that is set from a struct is the last beginning of its writes, the first of which marks the union.
