@@ -15,7 +15,7 @@ use Rattle.capnp_model.proofs.Marks.{read_child-padded_to}
 use Rattle.capnp_model.proofs.Paths.{nothing_in}
 use Rattle.capnp_model.proofs.TrimmedAnswers.{trimmed_record}
 use Rattle.capnp_model.proofs.KeptCells.{child_in_kind-is}
-use Rattle.capnp_model.proofs.CopiedGroups.{quiet_shape, quiet_child}
+use Rattle.capnp_model.proofs.CopiedFields.{quiet_shape, quiet_child}
 use Rattle.capnp_model.proofs.ListElements.{child_in_kind-padded_to}
 use Rattle.capnp_model.proofs.EditLaws.{record_after_calls, replies_to_calls, last_start}
 
