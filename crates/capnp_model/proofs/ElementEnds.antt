@@ -1,10 +1,11 @@
 -- A path that ends at an element.
 use Rattle.std.proofs.Common.{◌≡◌, ℕ, zero, suc, ◌+◌, ◌*◌, ◌/◌, ◌%◌, ◌^◌, ◌<◌, ◌≤◌, Bool, true, false, ◌-◌, if◌then◌else◌, List, [], ◌∷◌, refl, sym, ◌∙◌, ap, subst, arith}
 use Rattle.std.proofs.lemmas.Nat.{pow_pos}
+use Rattle.std.proofs.Math.Nat.{mod-lt}
 use lib.Pow as pow
 use Rattle.capnp_model.specs.Kinds.{Kind, TypeMismatch, ExpectedAListOrBlob}
 use Rattle.capnp_model.specs.Sections.{bits_at}
-use Rattle.capnp_model.specs.Trees.{Tree, null, structure, Trees, none, ◌▸◌, child, with_child, resized}
+use Rattle.capnp_model.specs.Trees.{Tree, null, structure, Trees, none, ◌▸◌, child, with_child, resized, tree_count}
 use Rattle.capnp_model.specs.Schemas.{PlainType, width, Ty, void, plain, text, blob, untyped, interface, struct, list, Shape, shape, plain_slot, Schema}
 use Rattle.capnp_model.specs.Readings.{Reading, number, record_as, is_list_of, read, read_child}
 use Rattle.capnp_model.specs.Accepted.{Area, bit_area, pointer_area, areas_of}
@@ -17,6 +18,7 @@ use Rattle.capnp_model.specs.NamedPaths.{IsInRange}
 use Rattle.capnp_model.specs.CallRuns.{IsGiven}
 use Rattle.capnp_model.proofs.SoundShapes.{FitsSlot}
 use Rattle.capnp_model.proofs.FitCalls.{plain_fits}
+use Rattle.capnp_model.proofs.Stripping.{count-resized}
 use Rattle.capnp_model.proofs.Bits.{bits_at-with_bits}
 use Rattle.capnp_model.proofs.Views.{shape_record-same}
 use Rattle.capnp_model.proofs.Marks.{view_of}
@@ -152,6 +154,12 @@ kept_if_cut w p words pointers section kids (pointer_area i ∷ ys) h j k = let 
 
 shape_cut : (g : Shape) (words pointers section : ℕ) (kids : Trees) → IsWithin g → HasRoom g words pointers → KeptAll (areas_of g) (record { section = section; kids = kids }) (record { section = section % 2 ^ (64 * words); kids = resized pointers kids })
 shape_cut (shape nid w p u fs) words pointers section kids h room = kept_if_cut w p words pointers section kids (areas_of (shape nid w p u fs)) h room.0 room.1
+
+pub cut_words : (words pointers id w section : ℕ) (kids : Trees) (c : Cell) → (put_in_element words pointers (struct id) (object (structure w section kids)) c).section < 2 ^ (64 * words)
+cut_words words pointers id w section kids c = mod-lt section (pow_pos (64 * words))
+
+pub cut_pointers : (words pointers id w section : ℕ) (kids : Trees) (c : Cell) → tree_count (put_in_element words pointers (struct id) (object (structure w section kids)) c).kids ≡ pointers
+cut_pointers words pointers id w section kids c = count-resized pointers kids
 
 struct_put : (s : Schema) (id words pointers w n : ℕ) (k : Trees) (r : Reading) → HasRoom (s.shape_of id) words pointers → IsWithin (s.shape_of id) → in_kind s (structure w n k) (struct id) ≡ true → read s (structure w n k) (struct id) ≡ r
     → IsElement s (struct id) (record { section = n % 2 ^ (64 * words); kids = resized pointers k }) r

@@ -1,15 +1,15 @@
 //! Laws of calls: the record machine and the edits of values are one. Each is the contract of a function that does nothing.
 
-ghost use Rattle.std.specs.Prelude.{◌≡◌, ℕ, false, List, [], ◌∷◌, Option};
-ghost use Rattle.capnp_model.specs.Trees.{Tree, structure};
+ghost use Rattle.std.specs.Prelude.{◌≡◌, ℕ, ◌*◌, ◌^◌, ◌<◌, false, List, [], ◌∷◌, Option};
+ghost use Rattle.capnp_model.specs.Trees.{Tree, structure, Trees, tree_count};
 ghost use Rattle.capnp_model.specs.Trimming.{trim};
 ghost use Rattle.capnp_model.specs.InKind.{in_kind};
-ghost use Rattle.capnp_model.specs.Schemas.{Ty, Node, Shape, group_slot, Schema};
+ghost use Rattle.capnp_model.specs.Schemas.{Ty, struct, Node, Shape, group_slot, Schema};
 ghost use Rattle.capnp_model.specs.Readings.{Record, record_of};
 ghost use Rattle.capnp_model.specs.Printing.{fields_in};
-ghost use Rattle.capnp_model.specs.Calls.{set_to, message, Call};
+ghost use Rattle.capnp_model.specs.Calls.{set_to, message, Call, object};
 ghost use Rattle.capnp_model.specs.Steps.{done, step};
-ghost use Rattle.capnp_model.specs.Edits.{Cell, mark, group_writes, after_writes, IsBegun, edit_field, edit};
+ghost use Rattle.capnp_model.specs.Edits.{Cell, mark, group_writes, after_writes, IsBegun, put_in_element, edit_field, edit};
 ghost use Rattle.capnp_model.specs.NamedPaths.{IsInRange, IsOpen, GoesByNames};
 ghost use Rattle.capnp_model.specs.CallRuns.{IsStart, records_after, record_replies};
 ghost use Rattle.capnp_model.specs.Answers.{replies, edits, opened_root};
@@ -45,4 +45,10 @@ pub fn records_of_written_values()
 pub fn groups_set_by_writes()
     ensures whole { (s : Schema) (union member : Option ℕ) (g : Shape) (words : ℕ) (from c : Cell) → edit_field s [] (set_to (message (structure words from.section from.kids))) union member (group_slot g) c ≡ after_writes (group_writes s g (mark union member) from) c }
     ensures begun { (s : Schema) (union member : Option ℕ) (g : Shape) (words : ℕ) (from c : Cell) → IsBegun s union member g from c (edit_field s [] (set_to (message (structure words from.section from.kids))) union member (group_slot g) c) }
+{}
+
+/// A struct put into an element of a list has just the words and the pointers of the list's elements.
+pub fn structs_in_elements_are_cut()
+    ensures words { (words pointers id w section : ℕ) (kids : Trees) (c : Cell) → (put_in_element words pointers (struct id) (object (structure w section kids)) c).section < 2 ^ (64 * words) }
+    ensures pointers { (words pointers id w section : ℕ) (kids : Trees) (c : Cell) → tree_count (put_in_element words pointers (struct id) (object (structure w section kids)) c).kids ≡ pointers }
 {}
