@@ -13,3 +13,4 @@ pub mod Within
 pub mod SelfFollows
 pub mod TrimmedEdits
 pub mod Partners
+pub mod KeptFollows
