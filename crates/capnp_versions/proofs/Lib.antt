@@ -14,3 +14,5 @@ pub mod SelfFollows
 pub mod TrimmedEdits
 pub mod Partners
 pub mod KeptFollows
+pub mod ReplacedViews
+pub mod OlderContents
