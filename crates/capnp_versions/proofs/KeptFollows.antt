@@ -200,17 +200,17 @@ module _ (o n : Schema) (pairs : Pairs) where
       le_is a b x = grind arith
 
   -- what each field of a struct keeps
-  abbrev IsOlder : ℕ → Option ℕ → Option ℕ → Body → Type 0
+  abbrev pub IsOlder : ℕ → Option ℕ → Option ℕ → Body → Type 0
   IsOlder bits u m b = IsGoodMember u m × BodyWithin bits b × IsGoodBody o b
 
-  all_older : (bits : ℕ) (u : Option ℕ) (fs : Fields) → AreWithin bits fs → AreGood o u fs → AllFields (IsOlder bits u) fs
+  pub all_older : (bits : ℕ) (u : Option ℕ) (fs : Fields) → AreWithin bits fs → AreGood o u fs → AllFields (IsOlder bits u) fs
   all_older bits u no_fields h k = tt
   all_older bits u (field l m b fs) h k = ((k.0, h.0, k.3), all_older bits u fs h.1 k.4)
 
-  abbrev IsNewer : ℕ → Option ℕ → Body → Type 0
+  abbrev pub IsNewer : ℕ → Option ℕ → Body → Type 0
   IsNewer bits m b = BodyWithin bits b × IsGoodBody n b
 
-  all_newer : (bits : ℕ) (u : Option ℕ) (fs : Fields) → AreWithin bits fs → AreGood n u fs → AllFields (IsNewer bits) fs
+  pub all_newer : (bits : ℕ) (u : Option ℕ) (fs : Fields) → AreWithin bits fs → AreGood n u fs → AllFields (IsNewer bits) fs
   all_newer bits u no_fields h k = tt
   all_newer bits u (field l m b fs) h k = ((h.0, k.3), all_newer bits u fs h.1 k.4)
 

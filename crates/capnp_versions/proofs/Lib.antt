@@ -16,3 +16,5 @@ pub mod Partners
 pub mod KeptFollows
 pub mod ReplacedViews
 pub mod OlderContents
+pub mod KeptViews
+pub mod GroupViews

@@ -39,7 +39,7 @@ module _ (o n : Schema) (R : ℕ → ℕ → Type 0) where
   skip_added l (field k m b fs) r rest h =
       ap (λ c. elim c as (λ (x : Bool). Record) [ true ↦ entry k (project o (as_body b) r) (project_fields o fs rest) | false ↦ project_fields o (field k m b fs) rest ]) (sym h)
 
-  take_shared : (l l' : List ℕ) (m : Option ℕ) (b : Body) (fs : Fields) (r : Reading) (rest : Record) → bytes_eq l l' ≡ true → entry l (project o (as_body b) r) (project_fields o fs rest) ≡ project_fields o (field l m b fs) (entry l' r rest)
+  pub take_shared : (l l' : List ℕ) (m : Option ℕ) (b : Body) (fs : Fields) (r : Reading) (rest : Record) → bytes_eq l l' ≡ true → entry l (project o (as_body b) r) (project_fields o fs rest) ≡ project_fields o (field l m b fs) (entry l' r rest)
   unfolding project
   take_shared l l' m b fs r rest h =
       ap (λ c. elim c as (λ (x : Bool). Record) [ true ↦ entry l (project o (as_body b) r) (project_fields o fs rest) | false ↦ project_fields o (field l m b fs) rest ]) (sym h)
