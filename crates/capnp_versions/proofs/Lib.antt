@@ -18,3 +18,4 @@ pub mod ReplacedViews
 pub mod OlderContents
 pub mod KeptViews
 pub mod GroupViews
+pub mod OlderSteps

@@ -137,12 +137,12 @@ module _ (o n : Schema) (R : ℕ → ℕ → Type 0) (closed : (i j : ℕ) → R
 
   -- ---- slots and elements
 
-  pub pointer-view : (verb : Verb) (i : ℕ) (ty ty' : Ty) (d d' : Option Tree) (r r' : Reading) → Related o n R ty ty' → IsWrite verb → at_field o verb (pointer_slot i ty d) r ≡ outcome_map (project o (as_body (pointer_slot i ty d))) (at_field n verb (pointer_slot i ty' d') r')
-  pointer-view get i ty ty' d d' r r' h w = absurd w
-  pointer-view (set_to v) i ty ty' d d' r r' h w = reads_same ty ty' (default_or_null d) (value_content v ty) (value_content v ty') h (value_is v ty ty' h)
-  pointer-view init i ty ty' d d' r r' h w = init_view ty ty' (default_or_null d) h
-  pointer-view (initn k) i ty ty' d d' r r' h w = initn_view k ty ty' (default_or_null d) InitnIsOnlyValidForListTextOrDataFields h
-  pointer-view clear i ty ty' d d' r r' h w = reads_view ty ty' (default_or_null d) (object null) h
+  pub pointer-view : (verb : Verb) (i j : ℕ) (ty ty' : Ty) (d d' : Option Tree) (r r' : Reading) → Related o n R ty ty' → IsWrite verb → at_field o verb (pointer_slot i ty d) r ≡ outcome_map (project o (as_body (pointer_slot i ty d))) (at_field n verb (pointer_slot j ty' d') r')
+  pointer-view get i j ty ty' d d' r r' h w = absurd w
+  pointer-view (set_to v) i j ty ty' d d' r r' h w = reads_same ty ty' (default_or_null d) (value_content v ty) (value_content v ty') h (value_is v ty ty' h)
+  pointer-view init i j ty ty' d d' r r' h w = init_view ty ty' (default_or_null d) h
+  pointer-view (initn k) i j ty ty' d d' r r' h w = initn_view k ty ty' (default_or_null d) InitnIsOnlyValidForListTextOrDataFields h
+  pointer-view clear i j ty ty' d d' r r' h w = reads_view ty ty' (default_or_null d) (object null) h
 
   pub plain-view : (verb : Verb) (p q : PlainType) (at d at' d' : ℕ) (r r' : Reading) → SamePlain p q → d ≡ d' → IsWrite verb → at_field o verb (plain_slot p at d) r ≡ outcome_map (project o (as_body (plain_slot p at d))) (at_field n verb (plain_slot q at' d') r')
   plain-view get p q at d at' d' r r' h e w = absurd w
