@@ -16,3 +16,9 @@ pub mod Partners
 pub mod FittingEdits
 pub mod FittingSchemas
 pub mod OwnOutput
+pub mod KeptFollows
+pub mod ReplacedViews
+pub mod OlderContents
+pub mod KeptViews
+pub mod GroupViews
+pub mod OlderSteps
