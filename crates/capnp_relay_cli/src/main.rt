@@ -18,7 +18,7 @@ use std::process::ExitCode;
 fn run(rt: &HostRuntime) -> Result<(), Stop> {
     let alloc = rt.alloc();
     let set = schema(alloc)?;
-    let Some(raw) = set.struct_by_id(settings::ROOT) else {
+    let Some(raw) = set.plain_struct_by_id(settings::ROOT) else {
         return Err(Stop::Root);
     };
     let root = StructSchema::new(&set, raw);
