@@ -75,7 +75,7 @@ pub puts_more : (old m n : Marks) (as' : List Area) (i : ℕ) (a : Area) (level 
 puts_more old m n as' i a level lt is h g pointer k =
     put_twice (covers (areas_seen (take i as')) pointer k) (covers (areas_in a) pointer k) level (mark_at old pointer k) (mark_at m pointer k) (mark_at n pointer k) (h pointer k) (g pointer k)
     ∙ ap (λ (b : Bool). elim b as (λ (t : Bool). ℕ) [ true ↦ max level (mark_at old pointer k) | false ↦ mark_at old pointer k ])
-      (sym (ap (λ xs. covers xs pointer k) (more_seen as' i a lt is) ∙ list_any-append (λ x. has x pointer k) (areas_seen (take i as')) (areas_in a)))
+    (sym (ap (λ xs. covers xs pointer k) (more_seen as' i a lt is) ∙ list_any-append (λ x. has x pointer k) (areas_seen (take i as')) (areas_in a)))
 
 -- ---- sharing is having a bit or a pointer in common
 
@@ -216,7 +216,7 @@ none_clash x (d ∷ done) v w h =
     by false e =
         ap (λ b. not ((d.0 && x.0) || b))
         (apart d.1 x.1 (and_left (list_all is_wide d.1) (list_all (λ c. list_all is_wide c.1) done) v) w
-          (λ pointer k f. ap (λ b. not b && covers d.1 pointer k) (sym e) ∙ or_left (not (d.0 && x.0) && covers d.1 pointer k) (blocked done x.0 pointer k) (h pointer k f)))
+        (λ pointer k f. ap (λ b. not b && covers d.1 pointer k) (sym e) ∙ or_left (not (d.0 && x.0) && covers d.1 pointer k) (blocked done x.0 pointer k) (h pointer k f)))
         ∙ ap (λ b. not (b || true)) e
 
 some_clash : (x : Bool × List ModelArea) (done : List (Bool × List ModelArea)) (pointer : Bool) (k : ℕ) → covers x.1 pointer k ≡ true → blocked done x.0 pointer k ≡ true → list_any (λ d. clash d x) done ≡ true

@@ -35,7 +35,12 @@ fn are_at_most(marks: &[u8], first: usize, end: usize, most: u8) -> bool
 }
 
 /// Makes the marks from a place up to another at least the level.
-pub(crate) fn raise(marks: &mut Vec<u8>, first: usize, end: usize, level: u8) -> Result<(), AllocError>
+pub(crate) fn raise(
+    marks: &mut Vec<u8>,
+    first: usize,
+    end: usize,
+    level: u8,
+) -> Result<(), AllocError>
     requires { first ≤ end }
     ensures { IfOk result (λ _. Raised marks.old.items marks.new.items first end level) }
 {

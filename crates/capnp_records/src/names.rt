@@ -27,7 +27,9 @@ fn have_few(fields: &[FieldRecord]) -> bool
 fn have_few_each(enumerants: &[EnumerantRecord]) -> bool
     ensures { result ≡ list_all (λ l. nat_lt (length l) (2 ^ 29)) (map (λ e. e.annotations) (map enumerant_of enumerants.now)) }
 {
-    enumerants.iter().all(|enumerant| are_few(&enumerant.annotations))
+    enumerants
+        .iter()
+        .all(|enumerant| are_few(&enumerant.annotations))
 }
 
 pub(crate) fn is_short(node: &NodeRecord) -> bool
@@ -35,9 +37,7 @@ pub(crate) fn is_short(node: &NodeRecord) -> bool
 {
     match &node.body {
         NodeBody::Struct(record) => {
-            record.fields.len() <= 65535
-                && are_few(&node.annotations)
-                && have_few(&record.fields)
+            record.fields.len() <= 65535 && are_few(&node.annotations) && have_few(&record.fields)
         }
         NodeBody::Enum(enumerants) => {
             enumerants.len() <= 65535 && are_few(&node.annotations) && have_few_each(enumerants)

@@ -43,7 +43,7 @@ loop-name-preserved c =
     record {
       decides =
           sym (forward_step bytes_eq (λ s. s.now) names i y lt is
-            ∙ ap (λ b. not b && forward bytes_eq (map (λ s. s.now) (take (i + 1) names)) (map (λ s. s.now) (drop (i + 1) names))) apart)
+          ∙ ap (λ b. not b && forward bytes_eq (map (λ s. s.now) (take (i + 1) names)) (map (λ s. s.now) (drop (i + 1) names))) apart)
           ∙ c.loop-name.invariant.decides;
       seen = λ q.
           sym (list_any-IsPermutation (λ k. bytes_eq q k.now) (y ∷ c.loop-name.seen.keys) c.insert.new.self.keys moved)
@@ -64,5 +64,5 @@ returns-then-not-branch c =
     let there : list_any (λ k. bytes_eq y.now k.now) c.loop-name.seen.keys ≡ true = was_there (list_any (λ k. bytes_eq y.now k.now) c.loop-name.seen.keys) (sym c.if-not-branch.true ∙ c.in_ok-insert.ensures.added) in
     let clashes : list_any (λ d. bytes_eq d y.now) done ≡ true = turned y.now done ∙ sym (c.loop-name.invariant.seen y.now) ∙ there in
     sym (forward_step bytes_eq (λ s. s.now) names i y lt is
-      ∙ ap (λ b. not b && forward bytes_eq (map (λ s. s.now) (take (i + 1) names)) (map (λ s. s.now) (drop (i + 1) names))) clashes)
+    ∙ ap (λ b. not b && forward bytes_eq (map (λ s. s.now) (take (i + 1) names)) (map (λ s. s.now) (drop (i + 1) names))) clashes)
     ∙ c.loop-name.invariant.decides

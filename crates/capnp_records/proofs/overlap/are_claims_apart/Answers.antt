@@ -24,7 +24,7 @@ returns-then-not-allows_all c =
     let r : Refuses c.loop-claim.marks x.1 (most_mark x.0) = rw (c.deref.ensures.value, c.most_mark.ensures) at c.if-not-allows_all.ensures in
     let clashes : list_any (λ d. clash d x) (map claim_of (take i claims)) ≡ true = refused c.loop-claim.marks x (map claim_of (take i claims)) c.loop-claim.invariant.marked r in
     sym (forward_step clash claim_of claims i c.claim-item.result c.loop-claim-test.true c.claim-item.is
-      ∙ ap (λ b. not b && forward clash (map claim_of (take (i + 1) claims)) (map claim_of (drop (i + 1) claims))) clashes)
+    ∙ ap (λ b. not b && forward clash (map claim_of (take (i + 1) claims)) (map claim_of (drop (i + 1) claims))) clashes)
     ∙ c.loop-claim.invariant.decides
 
 pub loop-claim-preserved : goal.loop-claim-preserved
@@ -43,7 +43,7 @@ loop-claim-preserved c =
     record {
       decides =
           sym (forward_step clash claim_of claims i c.claim-item.result c.loop-claim-test.true c.claim-item.is
-            ∙ ap (λ b. not b && forward clash (map claim_of (take (i + 1) claims)) (map claim_of (drop (i + 1) claims))) clashes)
+          ∙ ap (λ b. not b && forward clash (map claim_of (take (i + 1) claims)) (map claim_of (drop (i + 1) claims))) clashes)
           ∙ c.loop-claim.invariant.decides;
       marked = subst (IsMarked c.put_all.new.marks) grown (marked_more c.loop-claim.marks c.put_all.new.marks done x c.loop-claim.invariant.marked p);
     }

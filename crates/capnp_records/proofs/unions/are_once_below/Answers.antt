@@ -27,7 +27,7 @@ loop-member-preserved c =
     let is : m ≡ get_or ms i m = default_any ms i 0 m lt in
     let low : c.mark_at.result ≤ 0 = c.if-mark_at-gt0.false in
     let fresh : list_any (λ d. same_member d m) (take i ms) ≡ false =
-        sym (c.loop-member.invariant.seen m) ∙ ap (λ (xs : List ℕ). nat_lt 0 (get_or xs m 0)) (sym c.deref.ensures.value) ∙ ap (nat_lt 0) (sym c.mark_at.ensures) ∙ not_above c.mark_at.result 0 low in
+    sym (c.loop-member.invariant.seen m) ∙ ap (λ (xs : List ℕ). nat_lt 0 (get_or xs m 0)) (sym c.deref.ensures.value) ∙ ap (nat_lt 0) (sym c.mark_at.ensures) ∙ not_above c.mark_at.result 0 low in
     record {
       decides = next_member ms c.args.count i m (list_all (λ k. nat_lt k c.args.count) ms && are_once ms) lt is c.if-member-count.false fresh c.loop-member.invariant.decides;
       seen = λ k. marked_member c.loop-member.seen.items c.raise.new.marks.items m k c.in_ok-raise.ensures ∙ ap (λ b. b || (k == m)) (c.loop-member.invariant.seen k) ∙ sym (seen_more ms i m k lt is);
@@ -41,5 +41,5 @@ returns-then-mark_at-gt0 c =
     let lt = c.loop-member-test.true in
     let is : m ≡ get_or ms i m = default_any ms i 0 m lt in
     let twice : list_any (λ d. same_member d m) (take i ms) ≡ true =
-        sym (c.loop-member.invariant.seen m) ∙ ap (λ (xs : List ℕ). nat_lt 0 (get_or xs m 0)) (sym c.deref.ensures.value) ∙ ap (nat_lt 0) (sym c.mark_at.ensures) ∙ is_above c.mark_at.result 0 c.if-mark_at-gt0.true in
+    sym (c.loop-member.invariant.seen m) ∙ ap (λ (xs : List ℕ). nat_lt 0 (get_or xs m 0)) (sym c.deref.ensures.value) ∙ ap (nat_lt 0) (sym c.mark_at.ensures) ∙ is_above c.mark_at.result 0 c.if-mark_at-gt0.true in
     member_twice ms c.args.count i m (list_all (λ k. nat_lt k c.args.count) ms && are_once ms) lt is twice c.loop-member.invariant.decides
