@@ -4,6 +4,7 @@ pub mod Faults
 pub mod Sets
 pub mod Storage
 pub mod Claims
+pub mod Marks
 pub mod Segments
 pub mod Slots
 pub mod Structs

@@ -139,7 +139,9 @@ pub(crate) fn is_good_group(
     if !is_group(node) {
         return Ok(true);
     }
-    Ok(is_used_once(alloc, nodes, node.id)?
-        && !meets_below(nodes, nodes.len(), node.id, Some(node))
-        && fits_in(node, holder_of(nodes, node.id)))
+    Ok(
+        is_used_once(alloc, nodes, node.id)?
+            && !meets_below(nodes, nodes.len(), node.id, Some(node))
+            && fits_in(node, holder_of(nodes, node.id)),
+    )
 }

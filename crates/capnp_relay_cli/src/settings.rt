@@ -28,7 +28,7 @@ pub const ROOT: u64 = 1;
 pub enum Stop {
     /// A rule of schemas is broken, by the node of this number.
     #[error("schema rule {rule} node {node}")]
-    Schema { rule: u32, node: u32 },
+    Schema { rule: u32, node: usize },
     /// The call of this number is none.
     #[error("call {0}")]
     Call(u32),
