@@ -2,7 +2,7 @@
 #![tactic(auto)]
 
 pub use capnp_units::errors::{Error, Result};
-pub use capnp_units::iter::{IndexMove, ListIndex, ListIter, ShortListIter};
+pub use capnp_units::iter::{IndexMove, ItemIter, ListIndex, ListIter, ShortListIter};
 pub use capnp_units::kinds::ErrorKind;
 pub use capnp_units::limiter::ReadLimiter;
 pub use capnp_units::primitive::{Mask, Primitive, Zero};
