@@ -3,6 +3,9 @@
 
 pub mod allocator;
 pub mod arena;
+mod bits;
+pub mod fields;
 mod grown;
 pub mod held;
 pub mod segments;
+pub mod struct_builder;
