@@ -7,5 +7,8 @@ mod bits;
 pub mod fields;
 mod grown;
 pub mod held;
+pub mod laws;
 pub mod segments;
 pub mod struct_builder;
+#[cfg(test)]
+mod tests;
