@@ -8,4 +8,5 @@ pub mod SpellLemmas
 pub mod WriteLemmas
 pub mod FlatLemmas
 pub mod TableLemmas
+pub mod ReadLemmas
 pub mod BufferLemmas

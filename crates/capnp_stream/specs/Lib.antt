@@ -9,7 +9,9 @@ pub mod Fronts
 pub mod Frames
 pub use Rattle.capnp_units.specs.Errors
 pub mod Writing
+pub mod Reading
 pub mod Flat
 pub mod Buffers
 pub mod Lent
+pub mod Filling
 pub mod Lending

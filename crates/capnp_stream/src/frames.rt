@@ -8,6 +8,7 @@ ghost use Rattle.capnp_stream.specs.Counting.{Counts};
 ghost use Rattle.capnp_stream.specs.Pieces.{TakesPiece, is_framed_fault};
 ghost use Rattle.capnp_stream.specs.Segments.{AreBytes, whole_words, lengths_of, segment_bytes, segments_of};
 ghost use Rattle.capnp_stream.specs.Frames.{IsFrameFault, TakesMessage, TakesStart, TakesTable, IsFramingKind, IsReadKind, IsCut};
+ghost use Rattle.capnp_stream.specs.Reading.{TakesWholePieces, TriesMessage, ReadsMessage, source_seen};
 ghost use Rattle.capnp_stream.specs.Writing.{AreWritable};
 ghost use Rattle.capnp_stream.specs.Streams.{AppendsPart, RoomFalls, IsWriteRefusal};
 
@@ -86,6 +87,7 @@ fn read_table<F: MessageForm, R: BufRead>(
     ensures refused { IfErr result (λ e. IsFramingKind e.kind → IfSome (R.remaining source.old) (λ xs. IsFrameFault F.reader limit xs e.kind)) }
     ensures kind { IfErr result (λ e. IsReadKind F.faults e.kind) }
     ensures part { OnErr result (TakesStart F.reader limit (R.remaining source.old) (R.remaining source.new)) }
+    ensures wanted { IfErr result (λ e. e.kind ≡ ErrorKind.OutOfMemory → TakesWholePieces F.reader limit (R.remaining source.old) (R.remaining source.new)) }
     ensures count { Counts result (R.failures source.old) (R.failures source.new) }
 {
     let mut table = SegmentLengthsBuilder::with_capacity(alloc, 1)?;
@@ -110,6 +112,7 @@ fn read_segments<F: MessageForm, R: BufRead>(
     ensures refused { IfErr result (λ e. IsFramingKind e.kind → IfSome (R.remaining source.old) (λ xs. IsFrameFault F.reader limit xs e.kind)) }
     ensures kind { IfErr result (λ e. IsReadKind F.faults e.kind) }
     ensures part { OnErr result (TakesStart F.reader limit (R.remaining source.old) (R.remaining source.new)) }
+    ensures wanted { IfErr result (λ e. e.kind ≡ ErrorKind.OutOfMemory → TakesWholePieces F.reader limit (R.remaining source.old) (R.remaining source.new)) }
     ensures count { Counts result (R.failures source.old) (R.failures source.new) }
 {
     let table = read_table::<F, R>(alloc, source, limit)?;
@@ -130,17 +133,9 @@ pub fn try_read_message_in<F: MessageForm, R: BufRead>(
     source: &mut R,
     limit: Option<usize>,
 ) -> Result<Option<OwnedSegments>>
-    // One message is taken, whatever follows it.
-    ensures message { IfOk result (λ o. IfSome o (λ m. TakesMessage F.reader limit (R.remaining source.old) (R.remaining source.new) (segments_of m))) }
-    ensures kept { IfOk result (λ o. IfSome o (λ m. CanSpell limit (segments_of m))) }
-    ensures writable { IfOk result (λ o. IfSome o (λ m. AreWritable (segment_bytes m))) }
-    ensures none { IfOk result (λ o. IfNone o (IsAtEnd (R.remaining source.old) × Keeps (R.remaining source.old) (R.remaining source.new))) }
-
-    // The bytes that are left begin with no message, and the kind says why.
-    ensures refused { IfErr result (λ e. IsFramingKind e.kind → IfSome (R.remaining source.old) (λ xs. (xs ≢ []) × IsFrameFault F.reader limit xs e.kind)) }
-    ensures kind { IfErr result (λ e. IsReadKind F.faults e.kind) }
-    ensures part { OnErr result (TakesStart F.reader limit (R.remaining source.old) (R.remaining source.new)) }
-    ensures count { Counts result (R.failures source.old) (R.failures source.new) }
+    ensures { TriesMessage F.reader F.faults limit
+        (source_seen R.remaining R.failures source.old) result
+        (source_seen R.remaining R.failures source.new) }
 {
     if is_at_end(source)? {
         return Ok(None);
@@ -155,14 +150,9 @@ pub fn read_message_in<F: MessageForm, R: BufRead>(
     source: &mut R,
     limit: Option<usize>,
 ) -> Result<OwnedSegments>
-    ensures message { IfOk result (λ m. TakesMessage F.reader limit (R.remaining source.old) (R.remaining source.new) (segments_of m)) }
-    ensures kept { IfOk result (λ m. CanSpell limit (segments_of m)) }
-    ensures writable { IfOk result (λ m. AreWritable (segment_bytes m)) }
-    ensures no_byte { IfErr result (λ e. e.kind ≡ ErrorKind.PrematureEndOfFile → IsAtEnd (R.remaining source.old) × Keeps (R.remaining source.old) (R.remaining source.new)) }
-    ensures refused { IfErr result (λ e. IsFramingKind e.kind → IfSome (R.remaining source.old) (λ xs. (xs ≢ []) × IsFrameFault F.reader limit xs e.kind)) }
-    ensures kind { IfErr result (λ e. e.kind ≢ ErrorKind.PrematureEndOfFile → IsReadKind F.faults e.kind) }
-    ensures part { OnErr result (TakesStart F.reader limit (R.remaining source.old) (R.remaining source.new)) }
-    ensures count { Counts result (R.failures source.old) (R.failures source.new) }
+    ensures { ReadsMessage F.reader F.faults limit
+        (source_seen R.remaining R.failures source.old) result
+        (source_seen R.remaining R.failures source.new) }
 {
     match try_read_message_in::<F, R>(alloc, source, limit)? {
         Some(message) => Ok(message),
@@ -178,17 +168,9 @@ pub fn try_read_message<R: BufRead>(
     source: &mut R,
     limit: Option<usize>,
 ) -> Result<Option<OwnedSegments>>
-    // One message is taken, whatever follows it.
-    ensures message { IfOk result (λ o. IfSome o (λ m. TakesMessage plain_words limit (R.remaining source.old) (R.remaining source.new) (segments_of m))) }
-    ensures kept { IfOk result (λ o. IfSome o (λ m. CanSpell limit (segments_of m))) }
-    ensures writable { IfOk result (λ o. IfSome o (λ m. AreWritable (segment_bytes m))) }
-    ensures none { IfOk result (λ o. IfNone o (IsAtEnd (R.remaining source.old) × Keeps (R.remaining source.old) (R.remaining source.new))) }
-
-    // The bytes that are left begin with no message, and the kind says why.
-    ensures refused { IfErr result (λ e. IsFramingKind e.kind → IfSome (R.remaining source.old) (λ xs. (xs ≢ []) × IsFrameFault plain_words limit xs e.kind)) }
-    ensures kind { IfErr result (λ e. IsReadKind is_framed_fault e.kind) }
-    ensures part { OnErr result (TakesStart plain_words limit (R.remaining source.old) (R.remaining source.new)) }
-    ensures count { Counts result (R.failures source.old) (R.failures source.new) }
+    ensures { TriesMessage plain_words is_framed_fault limit
+        (source_seen R.remaining R.failures source.old) result
+        (source_seen R.remaining R.failures source.new) }
 {
     try_read_message_in::<Framed, R>(alloc, source, limit)
 }
@@ -199,14 +181,9 @@ pub fn read_message<R: BufRead>(
     source: &mut R,
     limit: Option<usize>,
 ) -> Result<OwnedSegments>
-    ensures message { IfOk result (λ m. TakesMessage plain_words limit (R.remaining source.old) (R.remaining source.new) (segments_of m)) }
-    ensures kept { IfOk result (λ m. CanSpell limit (segments_of m)) }
-    ensures writable { IfOk result (λ m. AreWritable (segment_bytes m)) }
-    ensures no_byte { IfErr result (λ e. e.kind ≡ ErrorKind.PrematureEndOfFile → IsAtEnd (R.remaining source.old) × Keeps (R.remaining source.old) (R.remaining source.new)) }
-    ensures refused { IfErr result (λ e. IsFramingKind e.kind → IfSome (R.remaining source.old) (λ xs. (xs ≢ []) × IsFrameFault plain_words limit xs e.kind)) }
-    ensures kind { IfErr result (λ e. e.kind ≢ ErrorKind.PrematureEndOfFile → IsReadKind is_framed_fault e.kind) }
-    ensures part { OnErr result (TakesStart plain_words limit (R.remaining source.old) (R.remaining source.new)) }
-    ensures count { Counts result (R.failures source.old) (R.failures source.new) }
+    ensures { ReadsMessage plain_words is_framed_fault limit
+        (source_seen R.remaining R.failures source.old) result
+        (source_seen R.remaining R.failures source.new) }
 {
     read_message_in::<Framed, R>(alloc, source, limit)
 }

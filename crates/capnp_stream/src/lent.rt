@@ -11,6 +11,8 @@ ghost use Rattle.capnp_stream.specs.Frames.{IsFrameFault, TakesMessage, TakesSta
 ghost use Rattle.capnp_stream.specs.Flat.{table_lengths, table_bytes, frame_segments, Describes};
 ghost use Rattle.capnp_stream.specs.Buffers.{found_segments};
 ghost use Rattle.capnp_stream.specs.Lent.{NeedsMore, IsFillKind};
+ghost use Rattle.capnp_stream.specs.Reading.{source_seen};
+ghost use Rattle.capnp_stream.specs.Filling.{TriesFilling, FillsMessage};
 
 use crate::buffers::{NoAllocBufferSegments, NoAllocSliceSegments};
 use crate::flat::{NoAllocSegmentTableInfo, words_before};
@@ -89,13 +91,9 @@ pub fn try_read_message_no_alloc_in<'a, F: MessageForm, R: BufRead>(
     buffer: &'a mut [u8],
     limit: Option<usize>,
 ) -> Result<Option<NoAllocSliceSegments<'a>>>
-    ensures message { IfOk result (λ o. IfSome o (λ s. TakesMessage F.reader limit (R.remaining source.old) (R.remaining source.new) (words_in (found_segments s)))) }
-    ensures none { IfOk result (λ o. IfNone o (IsAtEnd (R.remaining source.old) × Keeps (R.remaining source.old) (R.remaining source.new))) }
-    ensures refused { IfErr result (λ e. IsFramingKind e.kind → IfSome (R.remaining source.old) (λ xs. (xs ≢ []) × IsFrameFault F.reader limit xs e.kind)) }
-    ensures short { IfErr result (λ e. e.kind ≡ ErrorKind.BufferNotLargeEnough → IfSome (R.remaining source.old) (NeedsMore F.reader limit (length buffer.old))) }
-    ensures kind { IfErr result (λ e. IsFillKind F.faults e.kind) }
-    ensures part { OnErr result (TakesStart F.reader limit (R.remaining source.old) (R.remaining source.new)) }
-    ensures failures { Counts result (R.failures source.old) (R.failures source.new) }
+    ensures { TriesFilling F.reader F.faults limit (length buffer.old)
+        (source_seen R.remaining R.failures source.old) result
+        (source_seen R.remaining R.failures source.new) }
 {
     if is_at_end(source)? {
         return Ok(None);
@@ -112,13 +110,9 @@ pub fn read_message_no_alloc_in<'a, F: MessageForm, R: BufRead>(
     buffer: &'a mut [u8],
     limit: Option<usize>,
 ) -> Result<NoAllocSliceSegments<'a>>
-    ensures message { IfOk result (λ s. TakesMessage F.reader limit (R.remaining source.old) (R.remaining source.new) (words_in (found_segments s))) }
-    ensures no_byte { IfErr result (λ e. e.kind ≡ ErrorKind.PrematureEndOfFile → IsAtEnd (R.remaining source.old) × Keeps (R.remaining source.old) (R.remaining source.new)) }
-    ensures refused { IfErr result (λ e. IsFramingKind e.kind → IfSome (R.remaining source.old) (λ xs. (xs ≢ []) × IsFrameFault F.reader limit xs e.kind)) }
-    ensures short { IfErr result (λ e. e.kind ≡ ErrorKind.BufferNotLargeEnough → IfSome (R.remaining source.old) (NeedsMore F.reader limit (length buffer.old))) }
-    ensures kind { IfErr result (λ e. e.kind ≢ ErrorKind.PrematureEndOfFile → IsFillKind F.faults e.kind) }
-    ensures part { OnErr result (TakesStart F.reader limit (R.remaining source.old) (R.remaining source.new)) }
-    ensures failures { Counts result (R.failures source.old) (R.failures source.new) }
+    ensures { FillsMessage F.reader F.faults limit (length buffer.old)
+        (source_seen R.remaining R.failures source.old) result
+        (source_seen R.remaining R.failures source.new) }
 {
     if is_at_end(source)? {
         return Err(Error::from(ErrorKind::PrematureEndOfFile));
@@ -135,13 +129,9 @@ pub fn try_read_message_no_alloc<'a, R: BufRead>(
     buffer: &'a mut [u8],
     limit: Option<usize>,
 ) -> Result<Option<NoAllocSliceSegments<'a>>>
-    ensures message { IfOk result (λ o. IfSome o (λ s. TakesMessage plain_words limit (R.remaining source.old) (R.remaining source.new) (words_in (found_segments s)))) }
-    ensures none { IfOk result (λ o. IfNone o (IsAtEnd (R.remaining source.old) × Keeps (R.remaining source.old) (R.remaining source.new))) }
-    ensures refused { IfErr result (λ e. IsFramingKind e.kind → IfSome (R.remaining source.old) (λ xs. (xs ≢ []) × IsFrameFault plain_words limit xs e.kind)) }
-    ensures short { IfErr result (λ e. e.kind ≡ ErrorKind.BufferNotLargeEnough → IfSome (R.remaining source.old) (NeedsMore plain_words limit (length buffer.old))) }
-    ensures kind { IfErr result (λ e. IsFillKind is_framed_fault e.kind) }
-    ensures part { OnErr result (TakesStart plain_words limit (R.remaining source.old) (R.remaining source.new)) }
-    ensures failures { Counts result (R.failures source.old) (R.failures source.new) }
+    ensures { TriesFilling plain_words is_framed_fault limit (length buffer.old)
+        (source_seen R.remaining R.failures source.old) result
+        (source_seen R.remaining R.failures source.new) }
 {
     try_read_message_no_alloc_in::<Framed, R>(source, buffer, limit)
 }
@@ -154,13 +144,9 @@ pub fn read_message_no_alloc<'a, R: BufRead>(
     buffer: &'a mut [u8],
     limit: Option<usize>,
 ) -> Result<NoAllocSliceSegments<'a>>
-    ensures message { IfOk result (λ s. TakesMessage plain_words limit (R.remaining source.old) (R.remaining source.new) (words_in (found_segments s))) }
-    ensures no_byte { IfErr result (λ e. e.kind ≡ ErrorKind.PrematureEndOfFile → IsAtEnd (R.remaining source.old) × Keeps (R.remaining source.old) (R.remaining source.new)) }
-    ensures refused { IfErr result (λ e. IsFramingKind e.kind → IfSome (R.remaining source.old) (λ xs. (xs ≢ []) × IsFrameFault plain_words limit xs e.kind)) }
-    ensures short { IfErr result (λ e. e.kind ≡ ErrorKind.BufferNotLargeEnough → IfSome (R.remaining source.old) (NeedsMore plain_words limit (length buffer.old))) }
-    ensures kind { IfErr result (λ e. e.kind ≢ ErrorKind.PrematureEndOfFile → IsFillKind is_framed_fault e.kind) }
-    ensures part { OnErr result (TakesStart plain_words limit (R.remaining source.old) (R.remaining source.new)) }
-    ensures failures { Counts result (R.failures source.old) (R.failures source.new) }
+    ensures { FillsMessage plain_words is_framed_fault limit (length buffer.old)
+        (source_seen R.remaining R.failures source.old) result
+        (source_seen R.remaining R.failures source.new) }
 {
     read_message_no_alloc_in::<Framed, R>(source, buffer, limit)
 }
