@@ -9,6 +9,7 @@ pub mod Fronts
 pub mod Frames
 pub use Rattle.capnp_units.specs.Errors
 pub mod Writing
+pub mod Writes
 pub mod Reading
 pub mod Flat
 pub mod Buffers

@@ -7,6 +7,7 @@ ghost use Rattle.capnp_model.specs.Messages.{Reader, Writer, plain_words};
 ghost use Rattle.capnp_stream.specs.Counting.{Counts};
 ghost use Rattle.capnp_stream.specs.Pieces.{ReadsFronts, TakesPiece, TakesPieceStart, IsPieceFault, IsPieceKind, is_framed_fault};
 ghost use Rattle.capnp_stream.specs.Segments.{whole_words};
+ghost use Rattle.capnp_stream.specs.Writes.{Writes, sink_seen};
 ghost use Rattle.capnp_stream.specs.Streams.{AppendsPart, RoomFalls, IsWriteRefusal};
 
 use crate::traits::{BufRead, Read, Write};
@@ -37,11 +38,9 @@ pub trait MessageForm {
     /// Writes the piece of these bytes, which are whole words. After a refusal a beginning of it was written.
     fn write_piece<W: Write>(out: &mut W, bytes: &[u8]) -> Result<()>
         requires { length bytes.now % 8 ≡ 0 }
-        ensures ok { OnOk result (Appends (W.contents out.old) (W.contents out.new) (writer (whole_words bytes.now))) }
-        ensures falls { OnOk result (RoomFalls (W.room out.old) (W.room out.new) (length (writer (whole_words bytes.now)))) }
-        ensures err { OnErr result (AppendsPart (W.contents out.old) (W.contents out.new) (writer (whole_words bytes.now))) }
-        ensures refusal { IfErr result (λ e. IsWriteRefusal W.may_grow (W.room out.old) (length (writer (whole_words bytes.now))) e.kind) }
-        ensures count { Counts result (W.failures out.old) (W.failures out.new) };
+        ensures { Writes W.may_grow (writer (whole_words bytes.now))
+            (sink_seen W.contents W.failures W.room out.old) result
+            (sink_seen W.contents W.failures W.room out.new) };
 
     /// Reading takes a front of the bytes.
     ghost fronts: { ReadsFronts Self.reader };
