@@ -9,9 +9,9 @@ ghost use Rattle.capnp_model.specs.Spelling.{CanSpell};
 ghost use Rattle.capnp_stream.specs.Counting.{Counts};
 ghost use Rattle.capnp_stream.specs.Reading.{TriesMessage, ReadsMessage, source_seen};
 ghost use Rattle.capnp_stream.specs.Filling.{TriesFilling, FillsMessage};
-ghost use Rattle.capnp_stream.specs.Streams.{AppendsPart, RoomFalls, IsWriteRefusal};
 ghost use Rattle.capnp_packing.specs.Streams.{is_packed_fault};
 ghost use Rattle.capnp_stream.specs.Writing.{IsSegment, AreWritable};
+ghost use Rattle.capnp_stream.specs.Writes.{Writes, sink_seen};
 
 use crate::form::Packed;
 use capnp_stream::buffers::NoAllocSliceSegments;
@@ -92,11 +92,9 @@ pub fn write_message_segments<W: Write, S: ReaderSegments>(
     segments: &S,
 ) -> Result<()>
     requires { AreWritable (S.segments segments.now) }
-    ensures ok { OnOk result (Appends (W.contents out.old) (W.contents out.new) (packed_message (words_in (S.segments segments.now)))) }
-    ensures falls { OnOk result (RoomFalls (W.room out.old) (W.room out.new) (length (packed_message (words_in (S.segments segments.now))))) }
-    ensures err { OnErr result (AppendsPart (W.contents out.old) (W.contents out.new) (packed_message (words_in (S.segments segments.now)))) }
-    ensures refusal { IfErr result (λ e. IsWriteRefusal (W.may_grow ⊎ (1 < length (S.segments segments.now))) (W.room out.old) (length (packed_message (words_in (S.segments segments.now)))) e.kind) }
-    ensures count { Counts result (W.failures out.old) (W.failures out.new) }
+    ensures { Writes (W.may_grow ⊎ (1 < length (S.segments segments.now))) (packed_message (words_in (S.segments segments.now)))
+        (sink_seen W.contents W.failures W.room out.old) result
+        (sink_seen W.contents W.failures W.room out.new) }
 {
     write_message_segments_in::<Packed, W, S>(alloc, out, segments)
 }
@@ -104,11 +102,9 @@ pub fn write_message_segments<W: Write, S: ReaderSegments>(
 /// Writes the packed message of one segment, whose whole words these bytes are, fewer than 2^32. After a refusal a beginning of it was written, and the kind is one that `write_message_segments` gives; `OutOfMemory` where the sink wants memory.
 pub fn write_segment<W: Write>(out: &mut W, bytes: &[u8]) -> Result<()>
     requires { IsSegment bytes.now }
-    ensures ok { OnOk result (Appends (W.contents out.old) (W.contents out.new) (packed_message (whole_words bytes.now ∷ []))) }
-    ensures falls { OnOk result (RoomFalls (W.room out.old) (W.room out.new) (length (packed_message (whole_words bytes.now ∷ [])))) }
-    ensures err { OnErr result (AppendsPart (W.contents out.old) (W.contents out.new) (packed_message (whole_words bytes.now ∷ []))) }
-    ensures refusal { IfErr result (λ e. IsWriteRefusal W.may_grow (W.room out.old) (length (packed_message (whole_words bytes.now ∷ []))) e.kind) }
-    ensures count { Counts result (W.failures out.old) (W.failures out.new) }
+    ensures { Writes W.may_grow (packed_message (whole_words bytes.now ∷ []))
+        (sink_seen W.contents W.failures W.room out.old) result
+        (sink_seen W.contents W.failures W.room out.new) }
 {
     write_segment_in::<Packed, W>(out, bytes)
 }

@@ -122,7 +122,8 @@ pub fn write_segment_in<F: MessageForm, W: Write>(out: &mut W, bytes: &[u8]) -> 
 pub fn write_segment<W: Write>(out: &mut W, bytes: &[u8]) -> Result<()>
     requires whole { length bytes.now % 8 ≡ 0 }
     requires small { length bytes.now < 8 * 2 ^ 32 }
-    ensures { Writes W.may_grow (frame (whole_words bytes.now ∷ []))
+    ensures size { length (frame (whole_words bytes.now ∷ [])) ≡ 8 + length bytes.now }
+    ensures writes { Writes W.may_grow (frame (whole_words bytes.now ∷ []))
         (sink_seen W.contents W.failures W.room out.old) result
         (sink_seen W.contents W.failures W.room out.new) }
 {
