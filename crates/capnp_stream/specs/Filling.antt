@@ -7,13 +7,13 @@ use Rattle.std.specs.Io.KnownBytes.{Keeps, IsAtEnd}
 use Rattle.capnp_units.specs.Segments.{words_in}
 use Rattle.capnp_units.specs.declared.errors.Error.{Error}
 use Rattle.capnp_units.specs.declared.kinds.ErrorKind.{ErrorKind}
-use Rattle.capnp_units.specs.declared.kinds.ErrorKind.TheVariants.{BufferNotLargeEnough, PrematureEndOfFile}
+use Rattle.capnp_units.specs.declared.kinds.ErrorKind.TheVariants.{PrematureEndOfFile}
 use Rattle.capnp_model.specs.Messages.{Reader}
 use Rattle.capnp_stream.specs.Counting.{Counts}
 use Rattle.capnp_stream.specs.Frames.{IsFrameFault, TakesMessage, TakesStart, IsFramingKind}
 use Rattle.capnp_stream.specs.Reading.{SourceSeen}
 use Rattle.capnp_stream.specs.Buffers.{found_segments}
-use Rattle.capnp_stream.specs.Lent.{NeedsMore, IsFillKind}
+use Rattle.capnp_stream.specs.Lent.{TellsNeed, IsFillKind}
 use Rattle.capnp_stream.specs.declared.buffers.NoAllocBufferSegments.{NoAllocBufferSegments}
 
 -- A message is read into a buffer of so many bytes, in a form that reads pieces so and whose pieces are at fault by these kinds; or none is left.
@@ -23,7 +23,7 @@ pub record TriesFilling {T : Type 0} {g : Ghosts T ℕ} (read : Reader) (faults 
   pub none : IfOk result (λ o. IfNone o (IsAtEnd old.remaining × Keeps old.remaining new.remaining))
   -- The bytes that are left begin with no message, and the kind says why; or the message has more bytes than the buffer.
   pub refused : IfErr result (λ e. IsFramingKind e.kind → IfSome old.remaining (λ xs. (xs ≢ []) × IsFrameFault read limit xs e.kind))
-  pub short : IfErr result (λ e. e.kind ≡ BufferNotLargeEnough → IfSome old.remaining (NeedsMore read limit size))
+  pub short : TellsNeed read limit size old.remaining result
   pub kind : IfErr result (λ e. IsFillKind faults e.kind)
   pub part : OnErr result (TakesStart read limit old.remaining new.remaining)
   pub count : Counts result old.failures new.failures
@@ -33,7 +33,7 @@ pub record FillsMessage {T : Type 0} {g : Ghosts T ℕ} (read : Reader) (faults 
   pub message : IfOk result (λ s. TakesMessage read limit old.remaining new.remaining (words_in (found_segments s)))
   pub no_byte : IfErr result (λ e. e.kind ≡ PrematureEndOfFile → IsAtEnd old.remaining × Keeps old.remaining new.remaining)
   pub refused : IfErr result (λ e. IsFramingKind e.kind → IfSome old.remaining (λ xs. (xs ≢ []) × IsFrameFault read limit xs e.kind))
-  pub short : IfErr result (λ e. e.kind ≡ BufferNotLargeEnough → IfSome old.remaining (NeedsMore read limit size))
+  pub short : TellsNeed read limit size old.remaining result
   pub kind : IfErr result (λ e. e.kind ≢ PrematureEndOfFile → IsFillKind faults e.kind)
   pub part : OnErr result (TakesStart read limit old.remaining new.remaining)
   pub count : Counts result old.failures new.failures

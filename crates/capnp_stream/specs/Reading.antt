@@ -29,6 +29,10 @@ abbrev pub TakesWholePieces : Reader → Option ℕ → Option (List ℕ) → Op
 TakesWholePieces read limit old new =
     Keeps old new ⊎ ((word : ℕ) × TakesPiece read old new (word ∷ [])) ⊎ ((lengths : List ℕ) × TakesTable read limit old new lengths)
 
+-- Memory is wanted between pieces.
+abbrev pub WantsBetweenPieces : {A : Type 0} → Reader → Option ℕ → Option (List ℕ) → Option (List ℕ) → Result A Error → Type 0
+WantsBetweenPieces read limit old new result = IfErr result (λ e. e.kind ≡ OutOfMemory → TakesWholePieces read limit old new)
+
 -- A message is read, in a form that reads pieces so and whose pieces are at fault by these kinds; or none is left.
 pub record TriesMessage (read : Reader) (faults : ErrorKind → Type 0) (limit : Option ℕ) (old : SourceSeen) (result : Result (Option OwnedSegments) Error) (new : SourceSeen) : Type 0 where
   -- One message is taken, whatever follows it, and can be written again.
@@ -40,7 +44,7 @@ pub record TriesMessage (read : Reader) (faults : ErrorKind → Type 0) (limit :
   pub refused : IfErr result (λ e. IsFramingKind e.kind → IfSome old.remaining (λ xs. (xs ≢ []) × IsFrameFault read limit xs e.kind))
   pub kind : IfErr result (λ e. IsReadKind faults e.kind)
   pub part : OnErr result (TakesStart read limit old.remaining new.remaining)
-  pub wanted : IfErr result (λ e. e.kind ≡ OutOfMemory → TakesWholePieces read limit old.remaining new.remaining)
+  pub wanted : WantsBetweenPieces read limit old.remaining new.remaining result
   pub count : Counts result old.failures new.failures
 
 -- The same, where the end is a refusal.
@@ -52,5 +56,5 @@ pub record ReadsMessage (read : Reader) (faults : ErrorKind → Type 0) (limit :
   pub refused : IfErr result (λ e. IsFramingKind e.kind → IfSome old.remaining (λ xs. (xs ≢ []) × IsFrameFault read limit xs e.kind))
   pub kind : IfErr result (λ e. e.kind ≢ PrematureEndOfFile → IsReadKind faults e.kind)
   pub part : OnErr result (TakesStart read limit old.remaining new.remaining)
-  pub wanted : IfErr result (λ e. e.kind ≡ OutOfMemory → TakesWholePieces read limit old.remaining new.remaining)
+  pub wanted : WantsBetweenPieces read limit old.remaining new.remaining result
   pub count : Counts result old.failures new.failures

@@ -29,10 +29,13 @@ pub trait MessageForm {
     /// After a refusal less than the piece was taken, and no byte behind the first that is at fault. `Device`: the source failed; any other kind says why the bytes that are left begin with no such piece.
     fn read_piece<R: BufRead>(source: &mut R, buf: &mut [u8]) -> Result<()>
         requires { length buf.old % 8 ≡ 0 }
-        ensures ok { OnOk result (TakesPiece reader (R.remaining source.old) (R.remaining source.new) (whole_words buf.new)) }
-        ensures kind { IfErr result (λ e. IsPieceFault reader (length buf.old / 8) (R.remaining source.old) e.kind) }
+        ensures ok { OnOk result (TakesPiece reader (R.remaining source.old)
+            (R.remaining source.new) (whole_words buf.new)) }
+        ensures kind { IfErr result
+            (λ e. IsPieceFault reader (length buf.old / 8) (R.remaining source.old) e.kind) }
         ensures own { IfErr result (λ e. IsPieceKind faults e.kind) }
-        ensures part { OnErr result (TakesPieceStart reader (length buf.old / 8) (R.remaining source.old) (R.remaining source.new)) }
+        ensures part { OnErr result (TakesPieceStart reader (length buf.old / 8)
+            (R.remaining source.old) (R.remaining source.new)) }
         ensures count { Counts result (R.failures source.old) (R.failures source.new) };
 
     /// Writes the piece of these bytes, which are whole words. After a refusal a beginning of it was written.

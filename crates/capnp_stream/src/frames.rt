@@ -7,8 +7,8 @@ ghost use Rattle.capnp_model.specs.Spelling.{AreShort, CanSpell};
 ghost use Rattle.capnp_stream.specs.Counting.{Counts};
 ghost use Rattle.capnp_stream.specs.Pieces.{TakesPiece, is_framed_fault};
 ghost use Rattle.capnp_stream.specs.Segments.{AreBytes, whole_words, lengths_of, segment_bytes, segments_of};
-ghost use Rattle.capnp_stream.specs.Frames.{IsFrameFault, TakesMessage, TakesStart, TakesTable, IsFramingKind, IsReadKind, IsCut};
-ghost use Rattle.capnp_stream.specs.Reading.{TakesWholePieces, TriesMessage, ReadsMessage, source_seen};
+ghost use Rattle.capnp_stream.specs.Frames.{TellsFault, TakesMessage, TakesStart, TakesTable, IsReadKind, IsCut};
+ghost use Rattle.capnp_stream.specs.Reading.{WantsBetweenPieces, TriesMessage, ReadsMessage, source_seen};
 ghost use Rattle.capnp_stream.specs.Writing.{AreWritable};
 ghost use Rattle.capnp_stream.specs.Streams.{AppendsPart, RoomFalls, IsWriteRefusal};
 
@@ -45,8 +45,10 @@ fn take_piece<F: MessageForm, R: BufRead>(
 ) -> Result<Vec<u8>>
     requires { 8 * words < 2 ^ 64 }
     ensures len { IfOk result (λ v. length v.items ≡ 8 * words) }
-    ensures ok { IfOk result (λ v. TakesPiece F.reader (R.remaining source.old) (R.remaining source.new) (whole_words v.items)) }
-    ensures cut { IfErr result (λ e. IsCut F.reader words (R.remaining source.old) (R.remaining source.new) e.kind) }
+    ensures ok { IfOk result (λ v. TakesPiece F.reader (R.remaining source.old)
+        (R.remaining source.new) (whole_words v.items)) }
+    ensures cut { IfErr result
+        (λ e. IsCut F.reader words (R.remaining source.old) (R.remaining source.new) e.kind) }
     ensures own { IfErr result (λ e. IsReadKind F.faults e.kind) }
     ensures count { Counts result (R.failures source.old) (R.failures source.new) }
 {
@@ -77,17 +79,17 @@ fn read_table<F: MessageForm, R: BufRead>(
     source: &mut R,
     limit: Option<usize>,
 ) -> Result<SegmentLengthsBuilder>
-    ensures some { IfOk result (λ t. 0 < length (lengths_of t)) }
-    ensures few { IfOk result (λ t. length (lengths_of t) ≤ 511) }
+    ensures few { IfOk result (λ t. (0 < length (lengths_of t)) × (length (lengths_of t) ≤ 511)) }
     ensures short { IfOk result (λ t. AreShort (lengths_of t)) }
     ensures bound { IfOk result (λ t. sum (lengths_of t) < 2 ^ 41) }
-    ensures table { IfOk result (λ t. TakesTable F.reader limit (R.remaining source.old) (R.remaining source.new) (lengths_of t)) }
-
-    // Whatever follows.
-    ensures refused { IfErr result (λ e. IsFramingKind e.kind → IfSome (R.remaining source.old) (λ xs. IsFrameFault F.reader limit xs e.kind)) }
+    ensures table { IfOk result (λ t. TakesTable F.reader limit (R.remaining source.old)
+        (R.remaining source.new) (lengths_of t)) }
+    ensures refused { TellsFault F.reader limit (R.remaining source.old) result }
     ensures kind { IfErr result (λ e. IsReadKind F.faults e.kind) }
-    ensures part { OnErr result (TakesStart F.reader limit (R.remaining source.old) (R.remaining source.new)) }
-    ensures wanted { IfErr result (λ e. e.kind ≡ ErrorKind.OutOfMemory → TakesWholePieces F.reader limit (R.remaining source.old) (R.remaining source.new)) }
+    ensures part { OnErr result
+        (TakesStart F.reader limit (R.remaining source.old) (R.remaining source.new)) }
+    ensures wanted { WantsBetweenPieces F.reader limit (R.remaining source.old)
+        (R.remaining source.new) result }
     ensures count { Counts result (R.failures source.old) (R.failures source.new) }
 {
     let mut table = SegmentLengthsBuilder::with_capacity(alloc, 1)?;
@@ -106,13 +108,16 @@ fn read_segments<F: MessageForm, R: BufRead>(
     source: &mut R,
     limit: Option<usize>,
 ) -> Result<OwnedSegments>
-    ensures message { IfOk result (λ m. TakesMessage F.reader limit (R.remaining source.old) (R.remaining source.new) (segments_of m)) }
+    ensures message { IfOk result (λ m. TakesMessage F.reader limit (R.remaining source.old)
+        (R.remaining source.new) (segments_of m)) }
     ensures kept { IfOk result (λ m. CanSpell limit (segments_of m)) }
     ensures writable { IfOk result (λ m. AreWritable (segment_bytes m)) }
-    ensures refused { IfErr result (λ e. IsFramingKind e.kind → IfSome (R.remaining source.old) (λ xs. IsFrameFault F.reader limit xs e.kind)) }
+    ensures refused { TellsFault F.reader limit (R.remaining source.old) result }
     ensures kind { IfErr result (λ e. IsReadKind F.faults e.kind) }
-    ensures part { OnErr result (TakesStart F.reader limit (R.remaining source.old) (R.remaining source.new)) }
-    ensures wanted { IfErr result (λ e. e.kind ≡ ErrorKind.OutOfMemory → TakesWholePieces F.reader limit (R.remaining source.old) (R.remaining source.new)) }
+    ensures part { OnErr result
+        (TakesStart F.reader limit (R.remaining source.old) (R.remaining source.new)) }
+    ensures wanted { WantsBetweenPieces F.reader limit (R.remaining source.old)
+        (R.remaining source.new) result }
     ensures count { Counts result (R.failures source.old) (R.failures source.new) }
 {
     let table = read_table::<F, R>(alloc, source, limit)?;

@@ -7,10 +7,10 @@ ghost use Rattle.capnp_units.specs.Segments.{whole_words, words_in};
 ghost use Rattle.capnp_model.specs.Messages.{plain_words, within};
 ghost use Rattle.capnp_stream.specs.Counting.{Counts};
 ghost use Rattle.capnp_stream.specs.Pieces.{is_framed_fault};
-ghost use Rattle.capnp_stream.specs.Frames.{IsFrameFault, TakesMessage, TakesStart, TakesTable, IsFramingKind};
+ghost use Rattle.capnp_stream.specs.Frames.{TellsFault, TakesMessage, TakesStart, TakesTable};
 ghost use Rattle.capnp_stream.specs.Flat.{table_lengths, table_bytes, frame_segments, Describes};
 ghost use Rattle.capnp_stream.specs.Buffers.{found_segments};
-ghost use Rattle.capnp_stream.specs.Lent.{NeedsMore, IsFillKind};
+ghost use Rattle.capnp_stream.specs.Lent.{TellsNeed, IsFillKind};
 ghost use Rattle.capnp_stream.specs.Reading.{source_seen};
 ghost use Rattle.capnp_stream.specs.Filling.{TriesFilling, FillsMessage};
 
@@ -32,11 +32,13 @@ fn fill_table<F: MessageForm, R: BufRead>(
     ensures few { IfOk result (λ n. (0 < n) × (n ≤ 511)) }
     ensures count { IfOk result (λ n. n ≡ from_le_bytes w64 buffer.new % 2 ^ 32 + 1) }
     ensures there { IfOk result (λ n. table_bytes n ≤ length buffer.new) }
-    ensures table { IfOk result (λ n. TakesTable F.reader limit (R.remaining source.old) (R.remaining source.new) (table_lengths n buffer.new)) }
-    ensures refused { IfErr result (λ e. IsFramingKind e.kind → IfSome (R.remaining source.old) (λ xs. IsFrameFault F.reader limit xs e.kind)) }
-    ensures short { IfErr result (λ e. e.kind ≡ ErrorKind.BufferNotLargeEnough → IfSome (R.remaining source.old) (NeedsMore F.reader limit (length buffer.old))) }
+    ensures table { IfOk result (λ n. TakesTable F.reader limit (R.remaining source.old)
+        (R.remaining source.new) (table_lengths n buffer.new)) }
+    ensures refused { TellsFault F.reader limit (R.remaining source.old) result }
+    ensures short { TellsNeed F.reader limit (length buffer.old) (R.remaining source.old) result }
     ensures kind { IfErr result (λ e. IsFillKind F.faults e.kind) }
-    ensures part { OnErr result (TakesStart F.reader limit (R.remaining source.old) (R.remaining source.new)) }
+    ensures part { OnErr result
+        (TakesStart F.reader limit (R.remaining source.old) (R.remaining source.new)) }
     ensures failures { Counts result (R.failures source.old) (R.failures source.new) }
 {
     if buffer.len() < 8 {
@@ -57,12 +59,15 @@ fn fill_message<F: MessageForm, R: BufRead>(
     limit: Option<usize>,
 ) -> Result<NoAllocSegmentTableInfo>
     ensures described { IfOk result (λ i. Describes i buffer.new) }
-    ensures message { IfOk result (λ i. TakesMessage F.reader limit (R.remaining source.old) (R.remaining source.new) (words_in (frame_segments i.segments_count buffer.new))) }
-    ensures kept { IfOk result (λ i. within (sum (table_lengths i.segments_count buffer.new)) limit ≡ true) }
-    ensures refused { IfErr result (λ e. IsFramingKind e.kind → IfSome (R.remaining source.old) (λ xs. IsFrameFault F.reader limit xs e.kind)) }
-    ensures short { IfErr result (λ e. e.kind ≡ ErrorKind.BufferNotLargeEnough → IfSome (R.remaining source.old) (NeedsMore F.reader limit (length buffer.old))) }
+    ensures message { IfOk result (λ i. TakesMessage F.reader limit (R.remaining source.old)
+        (R.remaining source.new) (words_in (frame_segments i.segments_count buffer.new))) }
+    ensures kept { IfOk result
+        (λ i. within (sum (table_lengths i.segments_count buffer.new)) limit ≡ true) }
+    ensures refused { TellsFault F.reader limit (R.remaining source.old) result }
+    ensures short { TellsNeed F.reader limit (length buffer.old) (R.remaining source.old) result }
     ensures kind { IfErr result (λ e. IsFillKind F.faults e.kind) }
-    ensures part { OnErr result (TakesStart F.reader limit (R.remaining source.old) (R.remaining source.new)) }
+    ensures part { OnErr result
+        (TakesStart F.reader limit (R.remaining source.old) (R.remaining source.new)) }
     ensures failures { Counts result (R.failures source.old) (R.failures source.new) }
 {
     let count = fill_table::<F, R>(source, buffer, limit)?;

@@ -34,8 +34,10 @@ fn length_of<S: ReaderSegments>(segments: &S, id: SegmentId) -> u64
 fn rest_of_table<S: ReaderSegments>(alloc: Global, segments: &S) -> Result<Vec<u8>>
     requires { AreWritable (S.segments segments.now) }
     ensures whole { IfOk result (λ v. length v.items % 8 ≡ 0) }
-    ensures words { IfOk result (λ v. whole_words v.items ≡ paired (map length (drop 1 (words_in (S.segments segments.now))))) }
-    ensures refusal { IfErr result (λ e. (e.kind ≡ ErrorKind.OutOfMemory) × (1 < length (S.segments segments.now))) }
+    ensures words { IfOk result (λ v. whole_words v.items
+        ≡ paired (map length (drop 1 (words_in (S.segments segments.now))))) }
+    ensures refusal { IfErr result
+        (λ e. (e.kind ≡ ErrorKind.OutOfMemory) × (1 < length (S.segments segments.now))) }
 {
     let mut table = Vec::new(alloc);
     let mut id = 1;
@@ -82,7 +84,8 @@ pub fn write_message_segments_in<F: MessageForm, W: Write, S: ReaderSegments>(
     segments: &S,
 ) -> Result<()>
     requires { AreWritable (S.segments segments.now) }
-    ensures { Writes (W.may_grow ⊎ (1 < length (S.segments segments.now))) (spelled F.writer (words_in (S.segments segments.now)))
+    ensures { Writes (W.may_grow ⊎ (1 < length (S.segments segments.now)))
+        (spelled F.writer (words_in (S.segments segments.now)))
         (sink_seen W.contents W.failures W.room out.old) result
         (sink_seen W.contents W.failures W.room out.new) }
 {
@@ -99,7 +102,8 @@ pub fn write_message_segments<W: Write, S: ReaderSegments>(
     segments: &S,
 ) -> Result<()>
     requires { AreWritable (S.segments segments.now) }
-    ensures { Writes (W.may_grow ⊎ (1 < length (S.segments segments.now))) (frame (words_in (S.segments segments.now)))
+    ensures { Writes (W.may_grow ⊎ (1 < length (S.segments segments.now)))
+        (frame (words_in (S.segments segments.now)))
         (sink_seen W.contents W.failures W.room out.old) result
         (sink_seen W.contents W.failures W.room out.new) }
 {
