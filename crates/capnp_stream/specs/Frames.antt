@@ -1,6 +1,8 @@
 -- Messages on streams, in a form that a reader of words gives. (Encoding, "Serialization Over a Stream")
-use Rattle.std.specs.Prelude.{◌≡◌, ℕ, ◌<◌, List, ◌++◌, length, take, ⊤, Err, Ok}
+use Rattle.std.specs.Prelude.{◌≡◌, ℕ, ◌<◌, List, ◌++◌, length, take, ⊤, IfSome, IfErr, Err, Ok}
+use Rattle.std.specs.declared.result.Result.{Result}
 use Rattle.std.specs.declared.option.Option.{Option}
+use Rattle.capnp_units.specs.declared.errors.Error.{Error}
 use Rattle.std.specs.Io.KnownBytes.{Keeps, Consumes}
 use Rattle.capnp_units.specs.Errors.{kind_of}
 use Rattle.capnp_units.specs.declared.kinds.ErrorKind.{ErrorKind}
@@ -59,6 +61,10 @@ abbrev pub IsReadKind : (ErrorKind → Type 0) → ErrorKind → Type 0
 IsReadKind faults Device = ⊤
 IsReadKind faults OutOfMemory = ⊤
 IsReadKind faults kind = IsFormKind faults kind
+
+-- The kind of a refusal says why the bytes begin with no message.
+abbrev pub TellsFault : {A : Type 0} → Reader → Option ℕ → Option (List ℕ) → Result A Error → Type 0
+TellsFault read limit old result = IfErr result (λ e. IsFramingKind e.kind → IfSome old (λ xs. IsFrameFault read limit xs e.kind))
 
 -- Why no piece of n words was taken, and what was. Memory is wanted before any byte is taken, and for a word at least.
 abbrev pub IsCut : Reader → ℕ → Option (List ℕ) → Option (List ℕ) → ErrorKind → Type 0

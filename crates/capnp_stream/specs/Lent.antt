@@ -1,6 +1,8 @@
 -- Messages that are read into a buffer. (Encoding, "Serialization Over a Stream")
-use Rattle.std.specs.Prelude.{◌≡◌, ◌⊎◌, ℕ, ◌+◌, ◌*◌, ◌<◌, true, List, ◌∷◌, ◌++◌, length, sum, ⊤}
+use Rattle.std.specs.Prelude.{◌≡◌, ◌⊎◌, ℕ, ◌+◌, ◌*◌, ◌<◌, true, List, ◌∷◌, ◌++◌, length, sum, ⊤, IfSome, IfErr}
+use Rattle.std.specs.declared.result.Result.{Result}
 use Rattle.std.specs.declared.option.Option.{Option}
+use Rattle.capnp_units.specs.declared.errors.Error.{Error}
 use Rattle.capnp_units.specs.declared.kinds.ErrorKind.{ErrorKind}
 use Rattle.capnp_units.specs.declared.kinds.ErrorKind.TheVariants.{BufferNotLargeEnough, Device}
 use Rattle.capnp_model.specs.Messages.{Reader, within, behind_lengths, behind_first, message_at}
@@ -23,6 +25,10 @@ NeedsMore read limit size bytes =
     (size < 8)
     ⊎ ((n : ℕ) × TellsCount read limit bytes n × (n < 511) × (size < table_bytes (n + 1)))
     ⊎ ((ns : List ℕ) × TellsLengths read limit bytes ns × (within (sum ns) limit ≡ true) × (size < table_bytes (length ns) + 8 * sum ns))
+
+-- A refusal for want of room says that the message needs more than so many bytes.
+abbrev pub TellsNeed : {A : Type 0} → Reader → Option ℕ → ℕ → Option (List ℕ) → Result A Error → Type 0
+TellsNeed read limit size old result = IfErr result (λ e. e.kind ≡ BufferNotLargeEnough → IfSome old (NeedsMore read limit size))
 
 -- The kinds by which a reader refuses that takes no memory, in a form whose pieces are at fault by these.
 abbrev pub IsFillKind : (ErrorKind → Type 0) → ErrorKind → Type 0
