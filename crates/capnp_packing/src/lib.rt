@@ -18,3 +18,4 @@ mod tags;
 #[cfg(test)]
 mod tests;
 mod unpacking;
+mod written;
