@@ -179,7 +179,7 @@ RoomFalls-trans (Some x) None c n m p q = absurd p
 RoomFalls-trans (Some x) (Some y) None n m p q = absurd q
 RoomFalls-trans (Some x) (Some y) (Some z) n m p q = omega arith
 
-RoomFalls-nil : (a : Option ℕ) → RoomFalls a a 0
+pub RoomFalls-nil : (a : Option ℕ) → RoomFalls a a 0
 RoomFalls-nil None = refl
 RoomFalls-nil (Some x) = omega arith
 

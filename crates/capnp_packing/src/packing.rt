@@ -14,11 +14,24 @@ use capnp_units::errors::Result;
 /// How many bytes are packed before they are written. The words of a run as they are, for which there is no room, are written by themselves.
 const BUFFER_LEN: usize = 256;
 
+/// Writes the words of a run as they are. Without any the sink isn't called.
+fn write_run<W: Write>(out: &mut W, run: &[u8]) -> Result<()>
+    ensures ok { OnOk result (Appends (W.contents out.old) (W.contents out.new) run.now) }
+    ensures falls { OnOk result (RoomFalls (W.room out.old) (W.room out.new) (length run.now)) }
+    ensures err { OnErr result (AppendsPart (W.contents out.old) (W.contents out.new) run.now) }
+    ensures refusal { IfErr result (λ e. IsWriteRefusal W.may_grow (W.room out.old) (length run.now) e.kind) }
+    ensures count { Counts result (W.failures out.old) (W.failures out.new) }
+{
+    if run.is_empty() {
+        return Ok(());
+    }
+    out.write_all(run)
+}
+
 /// Writes the groups of the first words. Answers the bytes behind these.
-fn write_groups<'a, W: Write>(out: &mut W, bytes: &'a [u8], buf: &mut [u8]) -> Result<&'a [u8]>
+fn write_groups<'a, W: Write>(out: &mut W, bytes: &'a [u8]) -> Result<&'a [u8]>
     requires whole { length bytes.now % 8 ≡ 0 }
     requires some { 0 < length bytes.now }
-    requires room { 10 ≤ length buf.old }
     ensures ok { IfOk result (λ rest. WritesUpTo (whole_words bytes.now) (whole_words rest.now) (W.contents out.old) (W.contents out.new) (W.room out.old) (W.room out.new)) }
     ensures rest_whole { IfOk result (λ rest. length rest.now % 8 ≡ 0) }
     ensures shorter { IfOk result (λ rest. length rest.now < length bytes.now) }
@@ -26,9 +39,10 @@ fn write_groups<'a, W: Write>(out: &mut W, bytes: &'a [u8], buf: &mut [u8]) -> R
     ensures refusal { IfErr result (λ e. IsWriteRefusal W.may_grow (W.room out.old) (length (packed_on (whole_words bytes.now))) e.kind) }
     ensures count { Counts result (W.failures out.old) (W.failures out.new) }
 {
-    let made = pack_groups(bytes, buf);
+    let mut buf = [0u8; BUFFER_LEN];
+    let made = pack_groups(bytes, &mut buf);
     out.write_all(&buf[..made.len])?;
-    out.write_all(made.run)?;
+    write_run(out, made.run)?;
     Ok(made.rest)
 }
 
@@ -41,10 +55,9 @@ pub(crate) fn write_words<W: Write>(out: &mut W, bytes: &[u8]) -> Result<()>
     ensures refusal { IfErr result (λ e. IsWriteRefusal W.may_grow (W.room out.old) (length (packed (whole_words bytes.now))) e.kind) }
     ensures count { Counts result (W.failures out.old) (W.failures out.new) }
 {
-    let mut buf = [0u8; BUFFER_LEN];
     let mut left = bytes;
     while !left.is_empty() {
-        left = write_groups(out, left, &mut buf)?;
+        left = write_groups(out, left)?;
     }
     Ok(())
 }

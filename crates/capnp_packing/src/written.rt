@@ -54,7 +54,7 @@ fn pack_group<'a>(bytes: &'a [u8], buf: &mut [u8]) -> Written<'a>
     let run = longest_run(tag, behind);
     let len = put_head(word, tag, run, buf);
     let (run, rest) = run.split(behind);
-    if run.len() > buf.len() - len {
+    if run.is_empty() || run.len() > buf.len() - len {
         return Written { len, run, rest };
     }
     buf[len..len + run.len()].copy_from_slice(run);

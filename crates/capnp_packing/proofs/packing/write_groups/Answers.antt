@@ -18,23 +18,23 @@ returns-in_err-write_all-clause-refusal g c =
     let room = g.W.Write.room c.args.out.now in
     rw (p.1, p.2) (group-refusal _ (whole_words made.result.rest.now) (take made.result.len made.new.buf) made.result.run.now made.ensures.spells contents contents room room g.W.Write.may_grow c.in_err-write_all.field-0.0.kind c.in_err-write_all.ensures.refusal)
 
-pub returns-in_err-write_all-2-clause-err : goal.returns-in_err-write_all-2-clause-err
-returns-in_err-write_all-2-clause-err g c =
+pub returns-in_err-write_run-clause-err : goal.returns-in_err-write_run-clause-err
+returns-in_err-write_run-clause-err g c =
     let made = c.pack_groups-made in
-    let r = c.from_residual-in_err-write_all-2 in
+    let r = c.from_residual-in_err-write_run in
     let p = err_from_is_err_and r.result r.ensures.1 in
-    rw p.1 (run-cut _ _ _ _ made.ensures.spells _ _ _ _ c.in_ok-write_all.ensures.ok c.in_ok-write_all.ensures.falls _ (g.W.Write.room c.args.out.now) c.in_err-write_all-2.ensures.err)
+    rw p.1 (run-cut _ _ _ _ made.ensures.spells _ _ _ _ c.in_ok-write_all.ensures.ok c.in_ok-write_all.ensures.falls _ (g.W.Write.room c.args.out.now) c.in_err-write_run.ensures.err)
 
-pub returns-in_err-write_all-2-clause-refusal : goal.returns-in_err-write_all-2-clause-refusal
-returns-in_err-write_all-2-clause-refusal g c =
+pub returns-in_err-write_run-clause-refusal : goal.returns-in_err-write_run-clause-refusal
+returns-in_err-write_run-clause-refusal g c =
     let made = c.pack_groups-made in
-    let r = c.from_residual-in_err-write_all-2 in
+    let r = c.from_residual-in_err-write_run in
     let p = err_from_is_err_and r.result r.ensures.1 in
     let contents = g.W.Write.contents c.args.out.now in
     let room = g.W.Write.room c.args.out.now in
-    rw (p.1, p.2) (run-refusal _ (whole_words made.result.rest.now) (take made.result.len made.new.buf) made.result.run.now made.ensures.spells _ _ _ _ c.in_ok-write_all.ensures.ok c.in_ok-write_all.ensures.falls contents room g.W.Write.may_grow c.in_err-write_all-2.field-0.0.kind c.in_err-write_all-2.ensures.refusal)
+    rw (p.1, p.2) (run-refusal _ (whole_words made.result.rest.now) (take made.result.len made.new.buf) made.result.run.now made.ensures.spells _ _ _ _ c.in_ok-write_all.ensures.ok c.in_ok-write_all.ensures.falls contents room g.W.Write.may_grow c.in_err-write_run.field-0.0.kind c.in_err-write_run.ensures.refusal)
 
 pub returns-clause-ok : goal.returns-clause-ok
 returns-clause-ok g c =
     let made = c.pack_groups-made in
-    group-written _ _ _ _ made.ensures.spells _ _ _ _ c.in_ok-write_all.ensures.ok c.in_ok-write_all.ensures.falls _ _ c.in_ok-write_all-2.ensures.ok c.in_ok-write_all-2.ensures.falls
+    group-written _ _ _ _ made.ensures.spells _ _ _ _ c.in_ok-write_all.ensures.ok c.in_ok-write_all.ensures.falls _ _ c.in_ok-write_run.ensures.ok c.in_ok-write_run.ensures.falls

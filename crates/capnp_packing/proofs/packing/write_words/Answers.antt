@@ -8,7 +8,7 @@ use Rattle.capnp_packing.proofs.packing.write_words.Goals as goal
 pub loop-left-preserved : goal.loop-left-preserved
 loop-left-preserved g c =
     let l = c.loop-left in
-    record { whole = search rules; room = search rules; written = WritesUpTo-trans _ _ _ _ _ _ _ _ l.invariant.written _ c.in_ok-left.ensures.ok; count = search rules }
+    record { whole = search rules; written = WritesUpTo-trans _ _ _ _ _ _ _ _ l.invariant.written _ c.in_ok-left.ensures.ok; count = search rules }
 
 pub returns-in_err-left-clause-err : goal.returns-in_err-left-clause-err
 returns-in_err-left-clause-err g c =

@@ -6,7 +6,6 @@ use Rattle.capnp_packing.proofs.packing.write_words.Given as goal
 abbrev pub invariant-loop-left : goal.invariant-loop-left
 invariant-loop-left g l = record {
   whole : length l.left % 8 ≡ 0;
-  room : length l.buf ≡ 256;
   written : WritesUpTo (whole_words l.fn.bytes) (whole_words l.left) (g.W.Write.contents l.initial.out) (g.W.Write.contents l.out) (g.W.Write.room l.initial.out) (g.W.Write.room l.out);
   count : g.W.Write.failures l.out ≡ g.W.Write.failures l.initial.out;
 }

@@ -4,8 +4,8 @@ use Rattle.capnp_packing.proofs.RunLemmas.{words-front}
 use Rattle.capnp_packing.proofs.WriteLemmas.{packs-head, packs-group}
 use Rattle.capnp_packing.proofs.written.pack_group.Goals as goal
 
-pub returns-then-run-buf : goal.returns-then-run-buf
-returns-then-run-buf c =
+pub returns-then-is_empty : goal.returns-then-is_empty
+returns-then-is_empty c =
     let bytes = c.args.bytes.now in
     let word = c.in-Some.word.now in
     let behind = c.in-Some.behind.now in
