@@ -94,7 +94,7 @@ pub with_front-nil : (r : Result (List ℕ × List ℕ) Kind) → with_front [] 
 with_front-nil (Ok x) = refl
 with_front-nil (Err k) = refl
 
-with_front-more : (xs ys : List ℕ) (r : Result (List ℕ × List ℕ) Kind) → with_front xs (with_front ys r) ≡ with_front (xs ++ ys) r
+pub with_front-more : (xs ys : List ℕ) (r : Result (List ℕ × List ℕ) Kind) → with_front xs (with_front ys r) ≡ with_front (xs ++ ys) r
 with_front-more xs ys (Ok x) = ap (λ (l : List ℕ). Ok (l, x.1)) (sym (append_assoc xs ys x.0))
 with_front-more xs ys (Err k) = refl
 
