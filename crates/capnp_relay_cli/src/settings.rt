@@ -35,7 +35,7 @@ pub enum Stop {
     /// The options are refused.
     #[error("options")]
     Options,
-    /// There is no struct node of the root's id.
+    /// There is no plain struct of the root's id.
     #[error("root")]
     Root,
     /// The relay met a fault.
