@@ -19,10 +19,7 @@ ghost use Rattle.capnp_model.specs.Packing.{packed, unpacked};
 ghost use Rattle.capnp_model.specs.Messages.{frame_at, packed_at, flat_at, frame, packed_message, within};
 ghost use Rattle.capnp_model.specs.Schemas.{struct, Node, Shape, Fields, Body, Schema};
 ghost use Rattle.capnp_model.specs.Readings.{Record, Extent, Children, record_of, shape_record, fields_of, body_of, is_active, only_if};
-ghost use Rattle.capnp_model.specs.Printing.{fields_in};
-ghost use Rattle.capnp_model.specs.Steps.{done, step, target, target_of, entry_of};
-ghost use Rattle.capnp_model.specs.Edits.{edit};
-ghost use Rattle.capnp_model.specs.NamedPaths.{IsInRange, IsOpen, GoesByNames};
+ghost use Rattle.capnp_model.specs.Steps.{target, target_of, entry_of};
 ghost use Rattle.capnp_model.specs.Accepted.{IsAccepted, areas_of, schema_of};
 ghost use Rattle.capnp_model.specs.Views.{View, SameAll};
 ghost use Rattle.capnp_model.specs.Compatible.{IsCompatible};
@@ -187,11 +184,6 @@ pub fn records_of_trimmed_values()
 /// Messages within the limits with equal trimmed values are answered alike.
 pub fn answers_to_equal_values()
     ensures { (s : Schema) (quoted : List ℕ → List ℕ) (id : ℕ) (calls : List Call) (limits : Limits) (a b : Segments) (t u : Tree) → value_within limits a ≡ Some t → value_within limits b ≡ Some u → trim t ≡ trim u → answer s quoted id calls limits a ≡ answer s quoted id calls limits b }
-{}
-
-/// The record of an edited value is what the record machine makes of the record, for calls along names that end at a slot.
-pub fn records_of_edited_values()
-    ensures { (nodes : List Node) → IsAccepted nodes → (id : ℕ) → (schema_of nodes).is_group id ≡ false → (c : Call) → IsInRange c.verb → GoesByNames (schema_of nodes) (fields_in ((schema_of nodes).shape_of id)) c.path → (t : Tree) → IsOpen t → (r : Record) → step (schema_of nodes) id c (record_of (schema_of nodes) id t) ≡ done r → record_of (schema_of nodes) id (edit (schema_of nodes) id c t) ≡ r }
 {}
 
 /// Every schema is compatible with itself.

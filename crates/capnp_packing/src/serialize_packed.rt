@@ -8,10 +8,11 @@ ghost use Rattle.capnp_model.specs.Messages.{packed_message};
 ghost use Rattle.capnp_model.specs.Spelling.{CanSpell};
 ghost use Rattle.capnp_stream.specs.Counting.{Counts};
 ghost use Rattle.capnp_stream.specs.Segments.{segments_of};
-ghost use Rattle.capnp_stream.specs.Frames.{IsFrameFault, TakesMessage, TakesPart, IsFramingKind, IsReadKind};
+ghost use Rattle.capnp_stream.specs.Frames.{IsFrameFault, TakesMessage, TakesStart, IsFramingKind, IsReadKind};
 ghost use Rattle.capnp_stream.specs.Buffers.{found_segments};
 ghost use Rattle.capnp_stream.specs.Lent.{NeedsMore, IsFillKind};
 ghost use Rattle.capnp_stream.specs.Streams.{AppendsPart, RoomFalls, IsWriteRefusal};
+ghost use Rattle.capnp_packing.specs.Streams.{is_packed_fault};
 ghost use Rattle.capnp_stream.specs.Writing.{IsSegment, AreWritable};
 
 use crate::form::Packed;
@@ -28,7 +29,7 @@ use std::alloc::Global;
 
 /// The segments of the next packed message, or `None` where no byte is left. `limit` is in words, all segments together.
 ///
-/// `InvalidNumberOfSegments`: its table counts more than 511. `MessageTooLarge`: it has more words than the limit. `PrematureEndOfPackedInput`, `FailedToFillTheWholeBuffer` and `PackedInputDidNotEndCleanlyOnASegmentBoundary`: a piece of it can't be read, as `Packed` says. `Device`: the source failed. `OutOfMemory`: there is none for the segments. After a refusal no more than a part of a message was taken.
+/// `InvalidNumberOfSegments`: its table counts more than 511. `MessageTooLarge`: it has more words than the limit. `PrematureEndOfPackedInput`, `FailedToFillTheWholeBuffer` and `PackedInputDidNotEndCleanlyOnASegmentBoundary`: a piece of it can't be read, as `Packed` says. `Device`: the source failed. `OutOfMemory`: there is none for the segments. After a refusal less than a message was taken, and no byte behind the first that is at fault.
 pub fn try_read_message<R: BufRead>(
     alloc: Global,
     source: &mut R,
@@ -41,8 +42,8 @@ pub fn try_read_message<R: BufRead>(
 
     // The bytes that are left begin with no message, and the kind says why.
     ensures refused { IfErr result (λ e. IsFramingKind e.kind → IfSome (R.remaining source.old) (λ xs. (xs ≢ []) × IsFrameFault unpacked limit xs e.kind)) }
-    ensures kind { IfErr result (λ e. IsReadKind e.kind) }
-    ensures part { OnErr result (TakesPart unpacked limit (R.remaining source.old) (R.remaining source.new)) }
+    ensures kind { IfErr result (λ e. IsReadKind is_packed_fault e.kind) }
+    ensures part { OnErr result (TakesStart unpacked limit (R.remaining source.old) (R.remaining source.new)) }
     ensures count { Counts result (R.failures source.old) (R.failures source.new) }
 {
     try_read_message_in::<Packed, R>(alloc, source, limit)
@@ -58,8 +59,8 @@ pub fn read_message<R: BufRead>(
     ensures kept { IfOk result (λ m. CanSpell limit (segments_of m)) }
     ensures no_byte { IfErr result (λ e. e.kind ≡ ErrorKind.PrematureEndOfFile → IsAtEnd (R.remaining source.old) × Keeps (R.remaining source.old) (R.remaining source.new)) }
     ensures refused { IfErr result (λ e. IsFramingKind e.kind → IfSome (R.remaining source.old) (λ xs. (xs ≢ []) × IsFrameFault unpacked limit xs e.kind)) }
-    ensures kind { IfErr result (λ e. e.kind ≢ ErrorKind.PrematureEndOfFile → IsReadKind e.kind) }
-    ensures part { OnErr result (TakesPart unpacked limit (R.remaining source.old) (R.remaining source.new)) }
+    ensures kind { IfErr result (λ e. e.kind ≢ ErrorKind.PrematureEndOfFile → IsReadKind is_packed_fault e.kind) }
+    ensures part { OnErr result (TakesStart unpacked limit (R.remaining source.old) (R.remaining source.new)) }
     ensures count { Counts result (R.failures source.old) (R.failures source.new) }
 {
     read_message_in::<Packed, R>(alloc, source, limit)
@@ -77,8 +78,8 @@ pub fn try_read_message_no_alloc<'a, R: BufRead>(
     ensures none { IfOk result (λ o. IfNone o (IsAtEnd (R.remaining source.old) × Keeps (R.remaining source.old) (R.remaining source.new))) }
     ensures refused { IfErr result (λ e. IsFramingKind e.kind → IfSome (R.remaining source.old) (λ xs. (xs ≢ []) × IsFrameFault unpacked limit xs e.kind)) }
     ensures short { IfErr result (λ e. e.kind ≡ ErrorKind.BufferNotLargeEnough → IfSome (R.remaining source.old) (NeedsMore unpacked limit (length buffer.old))) }
-    ensures kind { IfErr result (λ e. IsFillKind e.kind) }
-    ensures part { OnErr result (TakesPart unpacked limit (R.remaining source.old) (R.remaining source.new)) }
+    ensures kind { IfErr result (λ e. IsFillKind is_packed_fault e.kind) }
+    ensures part { OnErr result (TakesStart unpacked limit (R.remaining source.old) (R.remaining source.new)) }
     ensures failures { Counts result (R.failures source.old) (R.failures source.new) }
 {
     try_read_message_no_alloc_in::<Packed, R>(source, buffer, limit)
@@ -96,8 +97,8 @@ pub fn read_message_no_alloc<'a, R: BufRead>(
     ensures no_byte { IfErr result (λ e. e.kind ≡ ErrorKind.PrematureEndOfFile → IsAtEnd (R.remaining source.old) × Keeps (R.remaining source.old) (R.remaining source.new)) }
     ensures refused { IfErr result (λ e. IsFramingKind e.kind → IfSome (R.remaining source.old) (λ xs. (xs ≢ []) × IsFrameFault unpacked limit xs e.kind)) }
     ensures short { IfErr result (λ e. e.kind ≡ ErrorKind.BufferNotLargeEnough → IfSome (R.remaining source.old) (NeedsMore unpacked limit (length buffer.old))) }
-    ensures kind { IfErr result (λ e. e.kind ≢ ErrorKind.PrematureEndOfFile → IsFillKind e.kind) }
-    ensures part { OnErr result (TakesPart unpacked limit (R.remaining source.old) (R.remaining source.new)) }
+    ensures kind { IfErr result (λ e. e.kind ≢ ErrorKind.PrematureEndOfFile → IsFillKind is_packed_fault e.kind) }
+    ensures part { OnErr result (TakesStart unpacked limit (R.remaining source.old) (R.remaining source.new)) }
     ensures failures { Counts result (R.failures source.old) (R.failures source.new) }
 {
     read_message_no_alloc_in::<Packed, R>(source, buffer, limit)

@@ -1,5 +1,6 @@
 -- How the slots of a struct are stored. (Encoding, "Structs")
-use Rattle.std.specs.Prelude.{ℕ, ◌+◌, List, [], ◌∷◌}
+use Rattle.std.specs.Prelude.{ℕ, List, [], ◌∷◌}
+use Rattle.std.specs.List.{flat_map}
 use Rattle.capnp_model.specs.Schemas.{width, Ty, void, plain, text, blob, untyped, interface, struct, list}
 use Rattle.capnp_model.specs.Accepted.{Area as ModelArea, bit_area, pointer_area}
 use Rattle.capnp_records.specs.declared.storage.Storage.{Storage}
@@ -30,8 +31,6 @@ areas_in A.Empty = []
 areas_in (A.Bits first count) = bit_area first count ∷ []
 areas_in (A.Pointer place) = pointer_area place ∷ []
 
--- The first bit behind an area.
-abbrev pub end_of : Area → ℕ
-end_of A.Empty = 0
-end_of (A.Bits first count) = first + count
-end_of (A.Pointer place) = 0
+-- Areas as the model lists them.
+abbrev pub areas_seen : List Area → List ModelArea
+areas_seen areas = flat_map areas_in areas

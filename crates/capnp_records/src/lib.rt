@@ -2,10 +2,17 @@
 #![tactic(auto)]
 
 mod check;
+mod defaults;
 pub mod fault;
+mod find;
+mod groups;
+mod names;
 pub mod node;
+mod overlap;
+mod parts;
+mod places;
 pub mod raw;
-mod rules;
+mod segment;
 pub mod set;
 pub mod slot;
 mod storage;
@@ -13,3 +20,6 @@ pub mod structs;
 mod taken;
 #[cfg(test)]
 mod tests;
+mod types;
+mod unions;
+mod values;

@@ -1,10 +1,10 @@
 //! What fields take of the sections of their struct.
 
-ghost use Rattle.std.specs.Prelude.{◌≡◌, ◌+◌, ◌≤◌, ◌<◌, ◌^◌};
-ghost use Rattle.capnp_model.specs.Schemas.{base_type, type_of};
-ghost use Rattle.capnp_model.specs.Accepted.{no_shape, field_body, areas_of_body, are_apart, has_its_place};
+ghost use Rattle.std.specs.Prelude.{◌≡◌, ◌≤◌, not, Option};
+ghost use Rattle.capnp_model.specs.Schemas.{Value, base_type, type_of};
+ghost use Rattle.capnp_model.specs.Accepted.{slot_body, areas_of_body, are_apart, has_its_place};
 ghost use Rattle.capnp_records.specs.NodeViews.{base_of, type_record_of, kind_of_field, struct_of};
-ghost use Rattle.capnp_records.specs.Storage.{storage_of, bits_in, areas_in, end_of};
+ghost use Rattle.capnp_records.specs.Storage.{storage_of, bits_in, areas_in};
 
 use crate::node::{BaseType, FieldBody, StructRecord, TypeRecord};
 
@@ -74,38 +74,40 @@ pub(crate) fn has_its_place(holder: &StructRecord, body: &FieldBody) -> bool
     }
 }
 
-// What the field itself takes; what a group's fields take is left out.
+/// What a slot takes.
 #[tactic(auto, using(crate::proofs::Stored::areas))]
-fn area_of(body: &FieldBody) -> Area
-    ensures same { areas_in result ≡ areas_of_body (field_body (λ id. no_shape) (kind_of_field body.now)) }
-    ensures narrow { end_of result ≤ 2 ^ 40 }
+pub(crate) fn area_of(offset: u32, ty: TypeRecord) -> Area
+    ensures { (d : Option Value) → areas_in result ≡ areas_of_body (slot_body offset (type_of (type_record_of ty)) d) }
 {
-    match body {
-        FieldBody::Slot { offset, ty, .. } => match storage_of(*ty) {
-            Storage::Nothing => Area::Empty,
-            Storage::Bits(count) => Area::Bits {
-                first: u64::from(count) * u64::from(*offset),
-                count: u64::from(count),
-            },
-            Storage::Pointer => Area::Pointer { place: *offset },
+    match storage_of(ty) {
+        Storage::Nothing => Area::Empty,
+        Storage::Bits(count) => Area::Bits {
+            first: u64::from(count) * u64::from(offset),
+            count: u64::from(count),
         },
-        FieldBody::Group { .. } => Area::Empty,
+        Storage::Pointer => Area::Pointer { place: offset },
     }
 }
 
-/// Whether two fields share no bit and no pointer.
-pub(crate) fn are_apart(a: &FieldBody, b: &FieldBody) -> bool
-    ensures { result ≡ are_apart (areas_of_body (field_body (λ id. no_shape) (kind_of_field a.now))) (areas_of_body (field_body (λ id. no_shape) (kind_of_field b.now))) }
+/// Whether two areas have a bit or a pointer in common.
+pub(crate) fn share(a: Area, b: Area) -> bool
+    ensures { are_apart (areas_in a) (areas_in b) ≡ not result }
 {
-    match (area_of(a), area_of(b)) {
+    match (a, b) {
         (
             Area::Bits { first, count },
             Area::Bits {
                 first: other_first,
                 count: other_count,
             },
-        ) => first + count <= other_first || other_first + other_count <= first,
-        (Area::Pointer { place }, Area::Pointer { place: other_place }) => place != other_place,
-        _ => true,
+        ) => {
+            if first <= other_first {
+                (first < other_first || other_count > 0) && other_first - first < count
+            } else {
+                first - other_first < other_count
+            }
+        }
+        (Area::Pointer { place }, Area::Pointer { place: other_place }) => place == other_place,
+        _ => false,
     }
 }

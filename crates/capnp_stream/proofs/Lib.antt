@@ -1,9 +1,11 @@
 pub mod Filling
 pub mod KnownLemmas
 pub mod WordLemmas
+pub mod EarlyLemmas
 pub mod PieceLemmas
 pub mod FrameLemmas
 pub mod SpellLemmas
 pub mod WriteLemmas
 pub mod FlatLemmas
+pub mod TableLemmas
 pub mod BufferLemmas

@@ -1,6 +1,7 @@
 pub mod Counting
 pub mod Streams
 pub mod Adapters
+pub mod SliceWriters
 pub mod Ranges
 pub mod Segments
 pub mod Pieces

@@ -5,7 +5,7 @@ ghost use Rattle.std.specs.Io.Buffered.{writer_inner, writer_buffer};
 ghost use Rattle.capnp_units.specs.declared.kinds.ErrorKind.{ErrorKind};
 ghost use Rattle.capnp_stream.specs.Counting.{Counts};
 
-use crate::devices::{read_retrying, write_whole};
+use crate::devices::{flush_retrying, read_retrying, write_whole};
 use crate::memory::copy_beginning;
 use crate::traits::{BufRead, Read, Write};
 use capnp_units::errors::{Error, Result};
@@ -210,11 +210,11 @@ impl<S: io::Write + Drop> Sink<BufWriter<S>> {
         ensures refusal { IfErr result (λ e. e.kind ≡ ErrorKind.Device) }
         ensures count { Counts result (sink_failures self.old) (sink_failures self.new) }
     {
-        match io::Write::flush(&mut self.inner) {
+        match flush_retrying(&mut self.inner) {
             Ok(()) => Ok(()),
-            Err(_) => {
+            Err(e) => {
                 self.failures = self.failures.saturating_add(1);
-                Err(Error::from(ErrorKind::Device))
+                Err(e)
             }
         }
     }

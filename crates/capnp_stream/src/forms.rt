@@ -1,10 +1,11 @@
 //! The forms in which messages are spelled on streams.
 ghost use Rattle.std.specs.Prelude.{◌≡◌, ◌/◌, ◌%◌, length, IfErr, OnOk, OnErr};
 ghost use Rattle.std.specs.Io.KnownBytes.{Appends};
+ghost use Rattle.capnp_units.specs.declared.kinds.ErrorKind.{ErrorKind};
 ghost use Rattle.capnp_model.specs.Bytes.{bytes_of_words};
 ghost use Rattle.capnp_model.specs.Messages.{Reader, Writer, plain_words};
 ghost use Rattle.capnp_stream.specs.Counting.{Counts};
-ghost use Rattle.capnp_stream.specs.Pieces.{ReadsFronts, TakesPiece, TakesPieceStart, IsPieceFault};
+ghost use Rattle.capnp_stream.specs.Pieces.{ReadsFronts, TakesPiece, TakesPieceStart, IsPieceFault, IsPieceKind, is_framed_fault};
 ghost use Rattle.capnp_stream.specs.Segments.{whole_words};
 ghost use Rattle.capnp_stream.specs.Streams.{AppendsPart, RoomFalls, IsWriteRefusal};
 
@@ -19,13 +20,17 @@ pub trait MessageForm {
     /// How a piece is written.
     ghost writer: { Writer };
 
+    /// The kinds by which bytes are no piece.
+    ghost faults: { ErrorKind → Type 0 };
+
     /// Reads the piece of as many bytes as `buf` has, which are whole words.
     ///
-    /// After a refusal less than the piece was taken. `Device`: the source failed; any other kind says why the bytes that are left begin with no such piece.
+    /// After a refusal less than the piece was taken, and no byte behind the first that is at fault. `Device`: the source failed; any other kind says why the bytes that are left begin with no such piece.
     fn read_piece<R: BufRead>(source: &mut R, buf: &mut [u8]) -> Result<()>
         requires { length buf.old % 8 ≡ 0 }
         ensures ok { OnOk result (TakesPiece reader (R.remaining source.old) (R.remaining source.new) (whole_words buf.new)) }
         ensures kind { IfErr result (λ e. IsPieceFault reader (length buf.old / 8) (R.remaining source.old) e.kind) }
+        ensures own { IfErr result (λ e. IsPieceKind faults e.kind) }
         ensures part { OnErr result (TakesPieceStart reader (length buf.old / 8) (R.remaining source.old) (R.remaining source.new)) }
         ensures count { Counts result (R.failures source.old) (R.failures source.new) };
 
@@ -52,6 +57,8 @@ impl MessageForm for Framed {
     ghost reader = { plain_words };
 
     ghost writer = { bytes_of_words };
+
+    ghost faults = { is_framed_fault };
 
     fn read_piece<R: BufRead>(source: &mut R, buf: &mut [u8]) -> Result<()> {
         source.read_exact(buf)

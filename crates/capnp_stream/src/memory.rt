@@ -5,6 +5,7 @@ ghost use Rattle.capnp_units.specs.declared.kinds.ErrorKind.{ErrorKind};
 ghost use Rattle.capnp_stream.specs.Counting.{Counts};
 ghost use Rattle.capnp_stream.specs.Streams.{AppendsPart, RoomFalls, IsWriteRefusal};
 
+use crate::slice_writer::SliceWriter;
 use crate::traits::{BufRead, Read, Write};
 use capnp_units::errors::{Error, Result};
 use capnp_units::kinds::ErrorKind;
@@ -108,6 +109,8 @@ impl<A: Allocator> Write for Vec<u8, A> {
 }
 
 /// The bytes go to the front of the slice, which then begins after them. Where it is too short none is taken.
+///
+/// It tells no contents, since what was written lies in front of the slice that is left. `SliceWriter` tells them.
 impl Write for &mut [u8] {
     ghost failures = { λ _. 0 };
 
@@ -129,7 +132,7 @@ impl Write for &mut [u8] {
         }
         let all = std::mem::take(self);
         let (front, rest) = all.split_at_mut(buf.len());
-        front.copy_from_slice(buf);
+        SliceWriter::new(front).write_all(buf)?;
         *self = rest;
         Ok(())
     }

@@ -1,0 +1,3 @@
+pub mod Zeros
+pub mod ByteWords
+pub mod HeldWords

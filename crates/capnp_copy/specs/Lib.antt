@@ -1,0 +1,3 @@
+pub mod Memory
+pub mod Allocations
+pub use Rattle.capnp_wire.specs.Places

@@ -1,0 +1,8 @@
+//! What builders stand on: segments that an allocator hands out and takes back, arenas in which words are allocated and written.
+#![tactic(auto)]
+
+pub mod allocator;
+pub mod arena;
+mod grown;
+pub mod held;
+pub mod segments;

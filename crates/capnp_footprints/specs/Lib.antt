@@ -1,0 +1,3 @@
+pub mod Footprints
+pub mod Changes
+pub mod Writes

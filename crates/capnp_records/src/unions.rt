@@ -1,0 +1,69 @@
+//! The rule of unions: the members' values are 0 to the count less one, each once, and the discriminant lies in its section.
+
+ghost use Rattle.std.specs.Prelude.{◌≡◌, ◌==◌, nat_lt, map, filter_map, IfOk, ◌++◌};
+ghost use Rattle.std.specs.List.{list_all, list_any};
+ghost use Rattle.capnp_model.specs.Accepted.{members_of, are_once, has_good_union};
+ghost use Rattle.capnp_records.specs.NodeViews.{field_of, struct_of};
+
+use crate::node::{FieldRecord, NO_DISCRIMINANT, StructRecord};
+use std::alloc::{AllocError, Global};
+
+/// The member's value, if the field is a union member.
+fn member_of(field: &FieldRecord) -> Option<u16>
+    ensures { result ≡ (field_of field.now).member }
+{
+    if field.discriminant_value == NO_DISCRIMINANT {
+        None
+    } else {
+        Some(field.discriminant_value)
+    }
+}
+
+fn push_members(members: &mut Vec<u16>, fields: &[FieldRecord]) -> Result<(), AllocError>
+    ensures { IfOk result (λ _. members.new.items ≡ members.old.items ++ filter_map (λ f. f.member) (map field_of fields.now)) }
+{
+    for field in fields {
+        if let Some(member) = member_of(field) {
+            members.push(member)?;
+        }
+    }
+    Ok(())
+}
+
+fn are_below(members: &[u16], count: u16) -> bool
+    ensures { result ≡ list_all (λ m. nat_lt m count) members.now }
+{
+    members.iter().all(|member| *member < count)
+}
+
+fn has_member(members: &[u16], member: u16) -> bool
+    ensures { result ≡ list_any (λ k. k == member) members.now }
+{
+    members.iter().any(|other| *other == member)
+}
+
+fn are_once(members: &[u16]) -> bool
+    ensures { result ≡ are_once members.now }
+{
+    let mut rest = members;
+    while let [first, others @ ..] = rest {
+        if has_member(others, *first) {
+            return false;
+        }
+        rest = others;
+    }
+    true
+}
+
+pub(crate) fn has_good_union(alloc: Global, holder: &StructRecord) -> Result<bool, AllocError>
+    ensures { IfOk result (λ b. b ≡ has_good_union (struct_of holder.now)) }
+{
+    let mut members = Vec::new(alloc);
+    push_members(&mut members, &holder.fields)?;
+    let count = holder.discriminant_count;
+    let end = 16 * (u64::from(holder.discriminant_offset) + 1);
+    Ok(members.len() == count as usize
+        && are_below(&members, count)
+        && are_once(&members)
+        && (count == 0 || end <= 64 * u64::from(holder.data_word_count)))
+}

@@ -1,0 +1,4 @@
+pub mod OwnOutput
+pub mod Fitting
+pub mod Whole
+pub mod StructElements
