@@ -5,7 +5,7 @@ use Rattle.std.proofs.lemmas.List.{length-append, length-replicate, length-take,
 use Rattle.std.proofs.Math.Seq.{take-add}
 use Rattle.capnp_model.specs.Bytes.{words_in_bytes}
 use Rattle.capnp_units.specs.Segments.{whole_words}
-use Rattle.capnp_wire.proofs.Words.{word_of_eight}
+use Rattle.capnp_object.proofs.Words.{word_of_eight}
 use Rattle.capnp_footprints.specs.Writes.{spliced}
 use Rattle.capnp_footprints.proofs.Splices.{spliced_nothing}
 use Rattle.capnp_copy.specs.Memory.{ZeroFrom, overwritten}

@@ -4,34 +4,33 @@ use Rattle.std.specs.Prelude.{slice_index, unwrap_or}
 use Rattle.std.proofs.lemmas.List.{take-take, drop-take, drop-drop}
 use Rattle.std.proofs.Math.Nat.{mul-le-mul_left}
 use lib.Pow as pow
-use Rattle.capnp_model.specs.Chains.{◌>>=◌}
 use Rattle.capnp_model.specs.Sections.{bits_at, numbers_in, section_of}
 use Rattle.capnp_model.specs.Segments.{Segments, Place, place, after, words_at}
 use Rattle.capnp_model.specs.Trees.{Tree, Trees, none, child, Elements}
 use Rattle.capnp_model.specs.Kinds.{OutOfBounds}
 use Rattle.capnp_model.specs.Pointers as model
 use Rattle.capnp_model.specs.Pointers.{pointer_of}
-use Rattle.capnp_model.specs.Traversal.{Tag, tag_of, tag_in, ListKind, of_bits, of_pointers, of_structs, list_kind, list_words, tree_at, each, each_element}
+use Rattle.capnp_model.specs.Traversal.{Tag, tag_of, tag_in, ListKind, of_bits, of_pointers, of_structs, list_kind, list_words, each, each_element}
 use Rattle.std.specs.Option.{ok_or}
 use Rattle.std.proofs.lemmas.Bool.{leb-true}
 use Rattle.capnp_model.proofs.Chaining.{bind_some, some_is, bind_ok, ok_is, ok_or_some, guard_ok}
 use Rattle.capnp_model.proofs.ReadFits.{words_length}
-use Rattle.capnp_wire.specs.declared.object.Object.{Object}
+use Rattle.capnp_object.specs.declared.object.Object.{Object}
 use Rattle.capnp_units.specs.declared.sizes.ElementSize.{ElementSize}
 use Rattle.capnp_units.specs.declared.sizes.ElementSize.TheVariants.{FourBytes, EightBytes, InlineComposite}
-use Rattle.capnp_wire.specs.declared.object.Object.TheVariants as object
-use Rattle.capnp_wire.specs.Places.{place_view}
-use Rattle.capnp_wire.specs.Objects.{plain_size, whole_list, whole, object_at}
-use Rattle.capnp_wire.specs.declared.object.Found.{Found}
+use Rattle.capnp_object.specs.declared.object.Object.TheVariants as object
+use Rattle.capnp_object.specs.Places.{place_view}
+use Rattle.capnp_object.specs.Objects.{plain_size, whole_list, whole, object_at}
+use Rattle.capnp_object.specs.declared.object.Found.{Found}
 use Rattle.capnp_units.specs.Sizes.{size_number}
 use Rattle.std.proofs.lemmas.Bool.Decides.{nat_tests}
 use Rattle.capnp_wire.specs.Views.{Ground, section_at, list_view}
-use Rattle.capnp_wire.specs.Inside.{words_there}
+use Rattle.capnp_object.specs.Inside.{words_there}
 use Rattle.capnp_wire.specs.Laws.{reads_behind, ShowsElements}
 use Rattle.capnp_wire.proofs.Bytes.{number_of-drop, number_of-take}
 use Rattle.capnp_wire.proofs.Elements.{bits_of_low}
-use Rattle.capnp_wire.proofs.Linking.{section_front, words_behind}
-use Rattle.capnp_wire.proofs.Walking.{object_found}
+use Rattle.capnp_object.proofs.Linking.{section_front, words_behind}
+use Rattle.capnp_object.proofs.Walking.{object_found}
 
 -- ---- plain elements
 

@@ -2,32 +2,31 @@
 use Rattle.std.proofs.Common.{◌≡◌, ℕ, zero, suc, ◌+◌, ◌*◌, ◌%◌, ◌^◌, ◌<◌, nat_lt, Bool, true, false, List, [], ◌∷◌, length, eqb, drop, Option, Some, None, Result, Ok, Err, refl, ap, sym, ◌∙◌, subst, arith, if◌then◌else◌}
 use Rattle.std.specs.Prelude.{slice_index}
 use Rattle.capnp_model.specs.Kinds.{Kind, WrongPointerKind, WrongElementSize}
-use Rattle.capnp_model.specs.Chains.{◌>>=◌, ◌and_then◌, guard}
-use Rattle.capnp_model.specs.Sections.{bits_at, words_for}
-use Rattle.capnp_model.specs.Segments.{Segments, Place, place, after, root}
-use Rattle.capnp_model.specs.Trees.{Tree, null, capability, structure, plain_list, pointer_list, struct_list, Trees, none, ◌▸◌, child, tree_count, Elements, no_elements, element, element_count, size_bits, plain_elements}
+use Rattle.capnp_model.specs.Chains.{◌and_then◌, guard}
+use Rattle.capnp_model.specs.Sections.{words_for}
+use Rattle.capnp_model.specs.Segments.{Place, place, after, root}
+use Rattle.capnp_model.specs.Trees.{Tree, null, structure, plain_list, pointer_list, struct_list, Trees, none, ◌▸◌, child, Elements, no_elements, element_count, plain_elements}
 use Rattle.capnp_model.specs.Traversal.{tree_at, each, each_element}
 use Rattle.capnp_model.specs.Schemas.{Schema, Ty, text, blob, struct, list}
-use Rattle.capnp_model.specs.Readings.{Reading, null_pointer, fault, text_of, blob_of, text_reading, list_reading, is_list_of, Readings, expected_size, is_accepted_as, plain_readings, pointer_elements, struct_elements, read}
+use Rattle.capnp_model.specs.Readings.{fault, text_reading, list_reading, is_list_of, Readings, expected_size, is_accepted_as, plain_readings, pointer_elements, struct_elements, read}
 use Rattle.capnp_model.proofs.Chaining.{bind_some, some_is, bind_ok, ok_is, guard_ok}
 use Rattle.capnp_units.specs.declared.sizes.ElementSize.{ElementSize}
 use Rattle.capnp_units.specs.declared.sizes.ElementSize.TheVariants.{Void, Bit, Byte, TwoBytes, FourBytes, EightBytes, Pointer, InlineComposite}
 use Rattle.capnp_units.specs.Sizes.{size_number, data_bits}
-use Rattle.capnp_wire.specs.declared.object.Object.{Object}
-use Rattle.capnp_wire.specs.declared.object.Object.TheVariants as object
-use Rattle.capnp_wire.specs.declared.object.Found.{Found}
-use Rattle.capnp_wire.specs.declared.place.Place as wire
-use Rattle.capnp_wire.specs.Places.{place_view}
-use Rattle.capnp_wire.specs.Objects.{object_at}
-use Rattle.capnp_wire.specs.Inside.{words_there, tree_in}
+use Rattle.capnp_object.specs.declared.object.Object.{Object}
+use Rattle.capnp_object.specs.declared.object.Object.TheVariants as object
+use Rattle.capnp_object.specs.declared.object.Found.{Found}
+use Rattle.capnp_object.specs.declared.place.Place as wire
+use Rattle.capnp_object.specs.Places.{place_view}
+use Rattle.capnp_object.specs.Inside.{words_there, tree_in}
 use Rattle.capnp_wire.specs.Levels.{level_below}
-use Rattle.capnp_wire.specs.Views.{Ground, section_at, StructView, struct_view, pointer_field, ListView, list_view, element_of}
-use Rattle.capnp_wire.specs.Reads.{read_struct, read_bytes, as_text, as_blob, read_blob, read_text, read_list, read_elements, list_head}
-use Rattle.capnp_wire.specs.Laws.{bytes_read, reads_behind, ShowsChildren, ShowsStruct, ShowsElement, ShowsElements, ShowsList, IsRead, BytesAreRead, StructsAreRead, ListsAreRead}
+use Rattle.capnp_wire.specs.Views.{Ground, section_at, StructView, struct_view, ListView, list_view, element_of}
+use Rattle.capnp_wire.specs.Reads.{read_struct, as_text, read_blob, read_text, read_list, read_elements, list_head}
+use Rattle.capnp_wire.specs.Laws.{bytes_read, reads_behind, ShowsStruct, ShowsList, IsRead, BytesAreRead, StructsAreRead, ListsAreRead}
 use Rattle.std.proofs.lemmas.Bool.Decides.{nat_tests}
-use Rattle.capnp_wire.proofs.Rows.{each_count}
-use Rattle.capnp_wire.proofs.LevelLaws.{trees}
-use Rattle.capnp_wire.proofs.ListLaws.{numbers_at, numbers_low, each_child, IsHeld, Holds, holds_at, structs_shown}
+use Rattle.capnp_object.proofs.Rows.{each_count}
+use Rattle.capnp_object.proofs.LevelLaws.{trees}
+use Rattle.capnp_wire.proofs.ListLaws.{numbers_at, numbers_low, each_child, Holds, holds_at, structs_shown}
 
 -- ---- texts and data
 

@@ -1,40 +1,19 @@
--- How what is read one level deep makes the whole value, and what gets show of it.
-use Rattle.std.specs.Prelude.{◌≡◌, ℕ, suc, ◌+◌, ◌*◌, ◌<◌, slice_index, List, [], ◌∷◌, Option, Some, None, Result, Ok, Err}
+-- Gets are the model's readings of the value.
+use Rattle.std.specs.Prelude.{◌≡◌, ℕ, suc, ◌*◌, ◌<◌, slice_index, List, [], Option, Some, None, Result, Ok, Err}
 use Rattle.capnp_model.specs.Kinds.{Kind, WrongPointerKind}
-use Rattle.capnp_model.specs.Segments.{Segments, Place}
+use Rattle.capnp_model.specs.Segments.{Place}
 use Rattle.capnp_model.specs.Trees.{Tree, null, structure, plain_list, pointer_list, struct_list, Trees, none, ◌▸◌, child, tree_count, Elements, no_elements, element, element_count, size_bits, plain_elements}
-use Rattle.capnp_model.specs.Traversal.{tree_at, cost_at}
-use Rattle.capnp_model.specs.Visits.{visits}
+use Rattle.capnp_model.specs.Traversal.{tree_at}
 use Rattle.capnp_model.specs.Schemas.{Schema, Ty, text, blob, struct, list}
 use Rattle.capnp_model.specs.Readings.{Reading, null_pointer, fault, text_of, blob_of, expected_size, read}
-use Rattle.capnp_wire.specs.declared.object.Found.{Found}
+use Rattle.capnp_object.specs.declared.object.Found.{Found}
 use Rattle.capnp_units.specs.declared.sizes.ElementSize.{ElementSize}
 use Rattle.capnp_units.specs.declared.sizes.ElementSize.TheVariants.{Pointer, InlineComposite}
 use Rattle.capnp_units.specs.Sizes.{size_number}
-use Rattle.capnp_wire.specs.Objects.{object_at}
+use Rattle.capnp_object.specs.Objects.{object_at}
 use Rattle.capnp_wire.specs.Levels.{level_below}
 use Rattle.capnp_wire.specs.Views.{Ground, StructView, pointer_field, ListView, element_of}
-use Rattle.capnp_wire.specs.Follow.{found_cost}
-use Rattle.capnp_wire.specs.Inside.{tree_in, cost_in, met_in}
 use Rattle.capnp_wire.specs.Reads.{read_struct, read_blob, read_text, read_list}
-
--- The tree at a place is that of its object, whose pointers have the trees of a level less.
-abbrev pub TreesByLevels : Type 0
-TreesByLevels = (n : ℕ) (s : Segments) (p : Place) (f : Found) → object_at s p ≡ Ok f → tree_at (suc n) s p ≡ tree_in s (tree_at n s) f.object
-
--- It costs what its object costs by itself and with the pads, and what its pointers cost.
-abbrev pub CostsByLevels : Type 0
-CostsByLevels = (n : ℕ) (s : Segments) (p : Place) (f : Found) → object_at s p ≡ Ok f → cost_at (suc n) s p ≡ found_cost f + cost_in (cost_at n s) f.object
-
--- A walk from there follows the pointer, at that cost, and then those in the object.
-abbrev pub VisitsByLevels : Type 0
-VisitsByLevels = (n : ℕ) (s : Segments) (p : Place) (f : Found) → object_at s p ≡ Ok f → visits (suc n) s p ≡ Ok (found_cost f) ∷ met_in (visits n s) f.object
-
--- Where no object is, a walk ends at the fault that says why.
-abbrev pub VisitsOfFaults : Type 0
-VisitsOfFaults = (n : ℕ) (s : Segments) (p : Place) (k : Kind) → object_at s p ≡ Err k → visits (suc n) s p ≡ Err k ∷ []
-
--- ---- gets are the model's readings
 
 -- The bytes of a text or of data, by what they read as; null has none.
 abbrev pub bytes_read : Reading → Result (List ℕ) Kind

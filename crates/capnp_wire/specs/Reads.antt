@@ -19,12 +19,12 @@ use Rattle.capnp_units.specs.Errors.{kind_of}
 use Rattle.capnp_units.specs.Segments.{words_in}
 use Rattle.capnp_units.specs.Sizes.{size_number, data_bits}
 use Rattle.capnp_units.specs.Limits.{left_of, Spends, IsPassed, Follows}
-use Rattle.capnp_wire.specs.declared.object.Object.{Object}
-use Rattle.capnp_wire.specs.declared.object.Object.TheVariants as object
-use Rattle.capnp_wire.specs.declared.object.Found.{Found}
-use Rattle.capnp_wire.specs.Places.{place_view}
-use Rattle.capnp_wire.specs.Objects.{object_at}
-use Rattle.capnp_wire.specs.Follow.{found_cost, KeepsBudget}
+use Rattle.capnp_object.specs.declared.object.Object.{Object}
+use Rattle.capnp_object.specs.declared.object.Object.TheVariants as object
+use Rattle.capnp_object.specs.declared.object.Found.{Found}
+use Rattle.capnp_object.specs.Places.{place_view}
+use Rattle.capnp_object.specs.Objects.{object_at}
+use Rattle.capnp_object.specs.Follow.{found_cost, KeepsBudget}
 use Rattle.capnp_wire.specs.Levels.{level_below}
 use Rattle.capnp_wire.specs.Views.{Ground, default_ground, section_at, arena_root, PointerView, StructView, struct_view, ListView, list_view}
 

@@ -40,10 +40,10 @@ impl<A> Clone for StructReader<'_, A> {
 impl<A> Copy for StructReader<'_, A> {}
 
 impl<'a, A: ReaderArena> StructReader<'a, A> {
-    ghost use Rattle.capnp_wire.specs.Places.{place_view};
+    ghost use Rattle.capnp_object.specs.Places.{place_view};
     ghost use Rattle.capnp_wire.specs.Views.{ground_of, seen_pointer, seen_struct, struct_view, pointer_field, bit_of_bool};
     ghost use Rattle.capnp_wire.specs.Reads.{empty_struct, is_null};
-    ghost use Rattle.capnp_wire.specs.Walks.{SizeOn, StructSizeOf};
+    ghost use Rattle.capnp_wire.specs.ValueSizes.{SizeOn, StructSizeOf};
     ghost use Rattle.capnp_model.specs.Traversal.{tree_at, each};
     ghost use Rattle.capnp_model.specs.Coverage.{from_each};
     ghost use Rattle.capnp_model.specs.Visits.{visits};

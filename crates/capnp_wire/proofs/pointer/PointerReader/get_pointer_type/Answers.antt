@@ -5,8 +5,7 @@ use Rattle.capnp_model.specs.Chains.{◌and_then◌, guard}
 use Rattle.capnp_model.specs.Segments.{Segments, Place}
 use Rattle.capnp_model.specs.Pointers as model
 use Rattle.capnp_units.specs.Segments.{words_in}
-use Rattle.capnp_wire.specs.Named.{found_view, named_view}
-use Rattle.capnp_wire.specs.Places.{place_view}
+use Rattle.capnp_object.specs.Named.{found_view, named_view}
 use Rattle.capnp_wire.specs.Views.{backing_bytes, place_seen}
 use Rattle.capnp_wire.specs.Reads.{type_of, type_at}
 use Rattle.capnp_wire.proofs.pointer.PointerReader.get_pointer_type.Goals as goal

@@ -1,14 +1,14 @@
 -- No pointer is null, and a default is read without a limit.
-use Rattle.std.proofs.Common.{Bool, false, Option, Result, ap, sym, subst}
+use Rattle.std.proofs.Common.{Bool, false, Option, ap, sym, subst}
 use Rattle.capnp_model.specs.Segments.{Segments, Place}
 use Rattle.capnp_model.specs.Sizes.{object_words, capability_count}
 use Rattle.capnp_model.specs.Traversal.{tree_at}
 use Rattle.capnp_model.specs.Visits.{visits}
 use Rattle.capnp_units.specs.Segments.{words_in}
-use Rattle.capnp_wire.specs.Places.{place_view}
+use Rattle.capnp_object.specs.Places.{place_view}
 use Rattle.capnp_wire.specs.Views.{backing_bytes, is_paid, seen_pointer, place_seen}
-use Rattle.capnp_wire.specs.Walks.{SizeOn, tree_behind, visits_behind}
-use Rattle.capnp_wire.proofs.Measuring.{freely, value_size, null_size}
+use Rattle.capnp_wire.specs.ValueSizes.{SizeOn, tree_behind, visits_behind}
+use Rattle.capnp_wire.proofs.Sizing.{freely, value_size, null_size}
 use Rattle.capnp_wire.proofs.pointer.PointerReader.total_size.Goals as goal
 
 pub returns-in_default-place : goal.returns-in_default-place
