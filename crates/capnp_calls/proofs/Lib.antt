@@ -2,6 +2,8 @@ pub mod TextLemmas
 pub mod Children
 pub mod PointerTextLemmas
 pub mod OneStep
+pub mod LongLists
 pub mod AtAStruct
+pub mod SlotRecords
 pub mod InTurn
 pub mod Padding

@@ -189,7 +189,7 @@ module _ (law : FieldsByName) (s : Schema) (id nid w p : ℕ) (fs : Fields) (is_
   named verb = record { path = name n ∷ []; verb = verb }
 
   -- what the call makes of a struct's record
-  outcome_is : (verb : Verb) (words section : ℕ) (kids : Trees)
+  pub outcome_is : (verb : Verb) (words section : ℕ) (kids : Trees)
       → step s id (named verb) (record_of s id (structure words section kids)) ≡ outcome_map (λ x. replaced n None x fs (fields_of fs None whole_words section (read_child s kids))) (at_field s verb body (body_of body whole_words section (read_child s kids)))
   unfolding step step_field record_of record_by_shape shape_record
   outcome_is verb words section kids =

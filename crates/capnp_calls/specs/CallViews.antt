@@ -42,7 +42,7 @@ call_view c = record { path = map step_view c.path.items; verb = action_view c.a
 
 -- ---- making a call
 
--- The value that is given, unless it is a message, which this stage doesn't take.
+-- The value that is given, unless it is a message, which is not taken.
 abbrev pub taken_value : CallValue → Option ModelValue
 taken_value (value.Number z) = Some (whole_number z)
 taken_value (value.Bool b) = Some (truth b)

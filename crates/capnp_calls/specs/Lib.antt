@@ -1,9 +1,12 @@
+pub mod Actions
 pub mod CallViews
 pub mod Texts
 pub mod Contents
 pub mod RootViews
 pub mod Replies
 pub mod Taken
+pub mod Sizes
 pub mod Changes
+pub mod Ends
 pub mod PointerTexts
 pub mod SlotTexts

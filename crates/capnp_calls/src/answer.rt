@@ -1,15 +1,16 @@
 //! One call at a struct.
 
-ghost use Rattle.std.specs.Prelude.{◌≡◌, ◌≤◌, IfOk, OnOk, IfErr, vec_len};
+ghost use Rattle.std.specs.Prelude.{◌≡◌, ◌≤◌, ◌^◌, IfOk, OnOk, IfErr, OnErr, vec_len};
 ghost use Rattle.std.specs.Option.{option_copied};
 ghost use Rattle.capnp_model.specs.Schemas.{Schema};
+ghost use Rattle.capnp_model.specs.Calls.{slot_content};
 ghost use Rattle.capnp_records.specs.Slots.{body_of_slot, IsInside};
 ghost use Rattle.capnp_records.specs.Structs.{words_in, pointers_in, shape_of_struct};
 ghost use Rattle.capnp_calls.specs.CallViews.{action_view, call_view};
 ghost use Rattle.capnp_calls.specs.RootViews.{cell_of, struct_tree, HasFitting, SameSizes};
-ghost use Rattle.capnp_calls.specs.Changes.{IsWant};
+ghost use Rattle.capnp_calls.specs.Sizes.{content_len, PutsLongList, IsWant};
 ghost use Rattle.capnp_calls.specs.Replies.{reply_view, slot_reply, slot_edit};
-ghost use Rattle.capnp_calls.specs.Taken.{only_name, reply_to, tree_after};
+ghost use Rattle.capnp_calls.specs.Taken.{only_name, reply_to, tree_after, record_at, record_by};
 
 use crate::call::{Action, Call, Step};
 use crate::change::{clear_change, initn_change, set_change};
@@ -18,6 +19,7 @@ use crate::put::put_change;
 use crate::reply::Reply;
 use crate::root::StructValue;
 use capnp_model::laws;
+use capnp_model::laws_of_edits;
 use capnp_records::slot::Slot;
 use capnp_records::structs::StructSchema;
 use capnp_units::errors::Result;
@@ -32,7 +34,8 @@ fn answer_slot(alloc: Global, root: &mut StructValue, slot: Slot, action: &Actio
     ensures cell { OnOk result ((s : Schema) → cell_of root.new ≡ slot_edit s (action_view action.now) (body_of_slot slot) (cell_of root.old)) }
     ensures sizes { SameSizes root.old root.new }
     ensures fitting { HasFitting root.old → HasFitting root.new }
-    ensures refusal { IfErr result (λ e. IsWant action.now e.kind) }
+    ensures stays { OnErr result (cell_of root.new ≡ cell_of root.old) }
+    ensures refusal { IfErr result (λ e. (s : Schema) → IsWant (2 ^ 29 ≤ content_len (slot_content s (action_view action.now) (body_of_slot slot))) e.kind) }
 {
     match action {
         Action::Get => Ok(get_slot(alloc, root, slot)?),
@@ -59,8 +62,8 @@ fn field_name(call: &Call) -> Option<&str>
     }
 }
 
-/// Answers a call. A refused call and a `get` leave the struct as it was.
-/// `SizeOverflow`: the call sets a text of 2^29 - 1 bytes or more.
+/// Answers a call. A refused call and a `get` leave the struct as it was, and so does an error.
+/// `SizeOverflow`: the call sets a text slot to 2^29 - 1 bytes or more.
 pub fn answer_call(
     alloc: Global,
     schema: StructSchema<'_>,
@@ -73,9 +76,12 @@ pub fn answer_call(
     ensures tree { OnOk result (struct_tree root.new ≡ tree_after schema.entry (call_view call.now) (struct_tree root.old)) }
     ensures sizes { SameSizes root.old root.new }
     ensures fitting { HasFitting root.old → HasFitting root.new }
-    ensures refusal { IfErr result (λ e. IsWant call.now.action e.kind) }
+    ensures record { OnOk result (record_at schema.entry (struct_tree root.new) ≡ record_by schema.entry (call_view call.now) (record_at schema.entry (struct_tree root.old))) }
+    ensures stays { OnErr result (struct_tree root.new ≡ struct_tree root.old) }
+    ensures refusal { IfErr result (λ e. IsWant (PutsLongList schema.entry (call_view call.now) (struct_tree root.old)) e.kind) }
 {
     laws::fields_by_name();
+    laws_of_edits::records_of_edited_values();
     let _id = schema.id();
     let Some(name) = field_name(call) else {
         return Ok(Reply::Refused(ErrorKind::WrongStep));

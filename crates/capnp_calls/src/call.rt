@@ -1,8 +1,7 @@
 //! Calls: a path from the root of a record, and what is done at its end.
 
-ghost use Rattle.std.specs.Prelude.{◌≡◌, option_map};
-ghost use Rattle.std.specs.Result.{result_map_both};
-ghost use Rattle.capnp_calls.specs.CallViews.{slot_value_view, action_view, call_view, taken_value, verb_from, call_from};
+ghost use Rattle.std.specs.Prelude.{◌≢◌, [], IsTrue};
+ghost use Rattle.capnp_calls.specs.Actions.{is_in_range};
 
 use thiserror::Error;
 
@@ -73,58 +72,78 @@ pub enum Action {
     Clear,
 }
 
-/// A call: a path, and what is done at its end.
+/// A call: a path, which has a step, and what is done at its end.
 #[derive(Debug, Drop)]
 pub struct Call {
-    pub path: Vec<Step>,
-    pub action: Action,
+    pub(crate) path: Vec<Step>,
+    pub(crate) action: Action,
+    pub ghost some: { path.items ≢ [] },
+    pub ghost in_range: { IsTrue (is_in_range action) },
 }
 
 impl Call {
+    ghost use Rattle.std.specs.Prelude.{◌≡◌};
+    ghost use Rattle.std.specs.Result.{result_map_both};
+    ghost use Rattle.capnp_calls.specs.CallViews.{call_view, call_from};
+
     /// A call along a path, which has a step. `Set` takes a value, the other verbs take none; `Initn` at most 2^29 - 1
-    /// elements. This stage refuses messages. What is given is gone after a refusal.
+    /// elements. A message is refused. What is given is gone after a refusal.
     pub fn new(path: Vec<Step>, verb: Verb, value: Option<CallValue>) -> Result<Call, CallFault>
         ensures { result_map_both call_view (λ f. f) result ≡ call_from path.items verb value }
     {
         if path.is_empty() {
             return Err(CallFault::EmptyPath);
         }
-        let action = action_from(verb, value)?;
+        let action = Action::new(verb, value)?;
         Ok(Call { path, action })
     }
 }
 
-/// What the verb does with the value.
-fn action_from(verb: Verb, value: Option<CallValue>) -> Result<Action, CallFault>
-    ensures { result_map_both action_view (λ f. f) result ≡ verb_from verb value }
-{
-    match (verb, value) {
-        (Verb::Set, Some(value)) => slot_value(value).map(Action::Set).ok_or(CallFault::Message),
-        (Verb::Set, None) => Err(CallFault::ValueAndVerb),
-        (_, Some(_)) => Err(CallFault::ValueAndVerb),
-        (Verb::Get, None) => Ok(Action::Get),
-        (Verb::Init, None) => Ok(Action::Init),
-        (Verb::Initn(count), None) => {
-            if count < 0x2000_0000 {
-                Ok(Action::Initn(count))
-            } else {
-                Err(CallFault::Size)
+impl Action {
+    ghost use Rattle.std.specs.Prelude.{◌≡◌, IsTrue, IfOk};
+    ghost use Rattle.std.specs.Result.{result_map_both};
+    ghost use Rattle.capnp_calls.specs.CallViews.{action_view, verb_from};
+
+    /// What the verb does with the value.
+    fn new(verb: Verb, value: Option<CallValue>) -> Result<Action, CallFault>
+        ensures verb { result_map_both action_view (λ f. f) result ≡ verb_from verb value }
+        ensures in_range { IfOk result (λ a. IsTrue (is_in_range a)) }
+    {
+        match (verb, value) {
+            (Verb::Set, Some(value)) => SlotValue::new(value)
+                .map(Action::Set)
+                .ok_or(CallFault::Message),
+            (Verb::Set, None) => Err(CallFault::ValueAndVerb),
+            (_, Some(_)) => Err(CallFault::ValueAndVerb),
+            (Verb::Get, None) => Ok(Action::Get),
+            (Verb::Init, None) => Ok(Action::Init),
+            (Verb::Initn(count), None) => {
+                if count < 0x2000_0000 {
+                    Ok(Action::Initn(count))
+                } else {
+                    Err(CallFault::Size)
+                }
             }
+            (Verb::Clear, None) => Ok(Action::Clear),
         }
-        (Verb::Clear, None) => Ok(Action::Clear),
     }
 }
 
-/// The value, unless it is a message.
-fn slot_value(value: CallValue) -> Option<SlotValue>
-    ensures { option_map slot_value_view result ≡ taken_value value }
-{
-    match value {
-        CallValue::Number(n) => Some(SlotValue::Number(n)),
-        CallValue::Bool(b) => Some(SlotValue::Bool(b)),
-        CallValue::Enum(n) => Some(SlotValue::Enum(n)),
-        CallValue::Text(text) => Some(SlotValue::Text(text)),
-        CallValue::Data(bytes) => Some(SlotValue::Data(bytes)),
-        CallValue::Message(_) => None,
+impl SlotValue {
+    ghost use Rattle.std.specs.Prelude.{◌≡◌, option_map};
+    ghost use Rattle.capnp_calls.specs.CallViews.{slot_value_view, taken_value};
+
+    /// The value, unless it is a message.
+    fn new(value: CallValue) -> Option<SlotValue>
+        ensures { option_map slot_value_view result ≡ taken_value value }
+    {
+        match value {
+            CallValue::Number(n) => Some(SlotValue::Number(n)),
+            CallValue::Bool(b) => Some(SlotValue::Bool(b)),
+            CallValue::Enum(n) => Some(SlotValue::Enum(n)),
+            CallValue::Text(text) => Some(SlotValue::Text(text)),
+            CallValue::Data(bytes) => Some(SlotValue::Data(bytes)),
+            CallValue::Message(_) => None,
+        }
     }
 }

@@ -9,7 +9,8 @@ ghost use Rattle.capnp_units.specs.declared.kinds.ErrorKind.{ErrorKind};
 ghost use Rattle.capnp_value.specs.Values.{tree_of_value};
 ghost use Rattle.capnp_calls.specs.CallViews.{slot_value_view};
 ghost use Rattle.capnp_records.specs.Slots.{body_of_slot};
-ghost use Rattle.capnp_calls.specs.Changes.{change_of_bits, change_view, FitsInto, IsLong, text_len};
+ghost use Rattle.capnp_calls.specs.Changes.{change_of_bits, change_view, FitsInto};
+ghost use Rattle.capnp_calls.specs.Sizes.{content_len, IsWant};
 
 use crate::bytes::words_of_bytes;
 use crate::call::SlotValue;
@@ -43,7 +44,7 @@ fn bits_or_mismatch(bits: Option<u64>) -> Change
 fn text_value(alloc: Global, text: &[u8]) -> Result<Value>
     ensures value { IfOk result (λ v. tree_of_value v ≡ text_tree text.now) }
     ensures fits { IfOk result (λ v. Fits (tree_of_value v)) }
-    ensures refusal { IfErr result (λ e. IsLong (length text.now + 1) e.kind) }
+    ensures refusal { IfErr result (λ e. IsWant (2 ^ 29 ≤ length text.now + 1) e.kind) }
 {
     if text.len() >= 0x1fff_ffff {
         return Err(Error::from(ErrorKind::SizeOverflow));
@@ -62,7 +63,7 @@ fn text_value(alloc: Global, text: &[u8]) -> Result<Value>
 fn blank_text(alloc: Global, len: u32) -> Result<Value>
     ensures value { IfOk result (λ v. tree_of_value v ≡ plain_list 2 (len + 1) 0) }
     ensures fits { IfOk result (λ v. Fits (tree_of_value v)) }
-    ensures refusal { IfErr result (λ e. IsLong (len + 1) e.kind) }
+    ensures refusal { IfErr result (λ e. IsWant (2 ^ 29 ≤ len + 1) e.kind) }
 {
     if len >= 0x1fff_ffff {
         return Err(Error::from(ErrorKind::SizeOverflow));
@@ -80,7 +81,7 @@ fn blank_text(alloc: Global, len: u32) -> Result<Value>
 pub fn set_change(alloc: Global, slot: Slot, value: &SlotValue) -> Result<Change>
     ensures content { IfOk result (λ c. (s : Schema) → change_view c ≡ slot_content s (set_to (slot_value_view value.now)) (body_of_slot slot)) }
     ensures fits { IfOk result (FitsInto slot) }
-    ensures refusal { IfErr result (λ e. IsLong (text_len value.now + 1) e.kind) }
+    ensures refusal { IfErr result (λ e. (s : Schema) → IsWant (2 ^ 29 ≤ content_len (slot_content s (set_to (slot_value_view value.now)) (body_of_slot slot))) e.kind) }
 {
     match (slot, value) {
         (Slot::Void { .. }, _) => Ok(Change::Bits(0)),
@@ -102,7 +103,7 @@ pub fn set_change(alloc: Global, slot: Slot, value: &SlotValue) -> Result<Change
 pub fn initn_change(alloc: Global, slot: Slot, len: u32) -> Result<Change>
     ensures content { IfOk result (λ c. (s : Schema) → change_view c ≡ slot_content s (initn len) (body_of_slot slot)) }
     ensures fits { IfOk result (FitsInto slot) }
-    ensures refusal { IfErr result (λ e. IsLong (len + 1) e.kind) }
+    ensures refusal { IfErr result (λ e. (s : Schema) → IsWant (2 ^ 29 ≤ content_len (slot_content s (initn len) (body_of_slot slot))) e.kind) }
 {
     match slot {
         Slot::Text { .. } => Ok(Change::Pointer(blank_text(alloc, len)?)),

@@ -1,13 +1,12 @@
 //! Calls in turn at a struct.
 
-ghost use Rattle.std.specs.Prelude.{◌≡◌, ◌≤◌, IfOk, OnOk, IfErr, map, vec_len};
+ghost use Rattle.std.specs.Prelude.{◌≡◌, ◌≤◌, IfOk, IfErr, map, vec_len};
 ghost use Rattle.capnp_model.specs.Fits.{Fits};
 ghost use Rattle.capnp_records.specs.Structs.{words_in, pointers_in, shape_of_struct};
 ghost use Rattle.capnp_calls.specs.CallViews.{call_view};
 ghost use Rattle.capnp_calls.specs.RootViews.{struct_tree, SameSizes};
 ghost use Rattle.capnp_calls.specs.Replies.{reply_view};
-ghost use Rattle.capnp_calls.specs.Taken.{replies_to, tree_after_all};
-ghost use Rattle.capnp_calls.specs.Changes.{EndsRun};
+ghost use Rattle.capnp_calls.specs.Ends.{RunsAll, EndsEarly};
 
 use crate::answer::answer_call;
 use crate::call::Call;
@@ -28,11 +27,12 @@ fn run_at(
 ) -> Result<Vec<Reply>>
     requires words { words_in (shape_of_struct schema) ≤ vec_len root.old.words }
     requires pointers { pointers_in (shape_of_struct schema) ≤ vec_len root.old.children }
-    ensures replies { IfOk result (λ v. map reply_view v.items ≡ replies_to schema.entry (map call_view calls.now) (struct_tree root.old)) }
-    ensures tree { OnOk result (struct_tree root.new ≡ tree_after_all schema.entry (map call_view calls.now) (struct_tree root.old)) }
+    ensures all { IfOk result (λ replies. RunsAll schema.entry (map call_view calls.now)
+        (struct_tree root.old) (struct_tree root.new) (map reply_view replies.items)) }
+    ensures early { IfErr result (λ e. EndsEarly schema.entry (map call_view calls.now)
+        (struct_tree root.old) (struct_tree root.new) e.kind) }
     ensures sizes { SameSizes root.old root.new }
-    ensures fits { OnOk result (Fits (struct_tree root.old) → Fits (struct_tree root.new)) }
-    ensures refusal { IfErr result (λ e. EndsRun calls.now e.kind) }
+    ensures fits { Fits (struct_tree root.old) → Fits (struct_tree root.new) }
 {
     laws::fitting_values();
     let mut replies = Vec::new(alloc);
@@ -44,13 +44,14 @@ fn run_at(
 
 /// Answers the calls in turn at a struct, each at the struct that the calls before it left.
 ///
-/// A refused call and a `get` change nothing, and don't stop the next. The error is want of memory, or `SizeOverflow` for a text of 2^29 - 1 bytes or more; then the calls before have their effect, and the one that failed perhaps a part of it.
+/// A refused call and a `get` change nothing, and don't stop the next. An error is want of memory, or `SizeOverflow` where a call sets a text slot to 2^29 - 1 bytes or more; then the calls before have their effect, and no other has.
 pub fn run(alloc: Global, root: Builder<'_>, calls: &[Call]) -> Result<Vec<Reply>>
-    ensures replies { IfOk result (λ v. map reply_view v.items ≡ replies_to root.entry.schema (map call_view calls.now) (struct_tree root.entry.root.now)) }
-    ensures tree { OnOk result (struct_tree root.exit.0.now ≡ tree_after_all root.entry.schema (map call_view calls.now) (struct_tree root.entry.root.now)) }
+    ensures all { IfOk result (λ replies. RunsAll root.entry.schema (map call_view calls.now)
+        (struct_tree root.entry.root.now) (struct_tree root.exit.0.now) (map reply_view replies.items)) }
+    ensures early { IfErr result (λ e. EndsEarly root.entry.schema (map call_view calls.now)
+        (struct_tree root.entry.root.now) (struct_tree root.exit.0.now) e.kind) }
     ensures sizes { SameSizes root.entry.root.now root.exit.0.now }
-    ensures fits { OnOk result (Fits (struct_tree root.entry.root.now) → Fits (struct_tree root.exit.0.now)) }
-    ensures refusal { IfErr result (λ e. EndsRun calls.now e.kind) }
+    ensures fits { Fits (struct_tree root.entry.root.now) → Fits (struct_tree root.exit.0.now) }
 {
     let Builder { root, schema } = root;
     run_at(alloc, schema, root, calls)

@@ -1,19 +1,26 @@
-//! Reads mutated messages.
+//! Reads mutated messages, and ends with a status other than 0 where two walks over the same bytes don't go together.
+//!
+//! The number that is given to the program is that of the messages. What was read of all of them is in the digest, which is printed on standard output.
 #![tactic(auto)]
 
+mod elements;
+mod limits;
 mod messages;
 mod mutations;
 mod random;
+mod sizes;
 mod walk;
 
 use capnp_units::limiter::ReadLimiter;
-use capnp_value::value::{Bounds, read_value};
 use capnp_wire::arena::ReaderArenaImpl;
 use capnp_wire::pointer::PointerReader;
+use elements::Digest;
+use limits::Limits;
 use random::Random;
 use std::alloc::{AllocError, Global};
+use std::process::ExitCode;
 use std::{env, io};
-use walk::{Digest, walk};
+use walk::walk;
 
 /// The seed of the messages.
 const SEED: u64 = 1;
@@ -24,50 +31,43 @@ const ROUNDS: u32 = 1000;
 /// The most levels of pointers that a message is walked by.
 const LEVELS: u32 = 8;
 
-/// Limits of levels and of words, of which a message gets one each.
-const NESTINGS: [u32; 4] = [64, 64, 2, 0];
+/// How the messages were read.
+#[derive(Drop)]
+enum Outcome {
+    /// What was read is in the digest.
+    Read(Digest),
+    /// At the message of this number two walks didn't go together.
+    Difference(u32),
+}
 
-const BUDGETS: [u32; 4] = [8192, 8192, 100, 3];
-
-/// Reads a message as each type that its pointers can be read as. Whether the size of its value is told just where the value is read, capabilities aside.
+/// Reads a message as each type that its pointers can be read as. Whether the walks over it go together.
 fn read_message(
     alloc: Global,
-    random: &mut Random,
+    limits: Limits,
     segments: &[Vec<u8>],
     digest: &mut Digest,
 ) -> Result<bool, AllocError> {
-    let nesting = NESTINGS[random.below(4)];
-    let words = BUDGETS[random.below(4)];
-    let arena = ReaderArenaImpl::new(segments, nesting as i32);
+    let arena = ReaderArenaImpl::new(segments, limits.nesting);
     let Ok(root) = PointerReader::get_root_from_arena(&arena) else {
         return Ok(true);
     };
-    walk(
-        root,
-        &mut ReadLimiter::new(Some(words as u64)),
-        digest,
-        LEVELS,
-    );
-    let size = root.total_size(&mut ReadLimiter::new(Some(words as u64)));
-    let value = read_value(alloc, &segments, Bounds { words, nesting })?;
-    Ok(match size {
-        Ok(size) => value.is_some() == (size.cap_count == 0),
-        Err(_) => value.is_none(),
-    })
+    walk(root, &mut ReadLimiter::new(limits.words), digest, LEVELS);
+    sizes::go_together(alloc, segments, root, limits, digest)
 }
 
-/// Reads so many mutated messages. What was read of all of them is in the digest; none where a size and a value don't go together.
-fn read_all(alloc: Global, rounds: u32) -> Result<Option<Digest>, AllocError> {
+/// Reads so many mutated messages, or as many as go together.
+fn read_all(alloc: Global, rounds: u32) -> Result<Outcome, AllocError> {
     let mut random = Random::new(SEED);
     let mut digest = Digest(0);
-    for _ in 0..rounds {
+    for round in 0..rounds {
         let number = random.below(messages::COUNT);
         let segments = mutations::mutated(alloc, &mut random, messages::base(number))?;
-        if !read_message(alloc, &mut random, &segments, &mut digest)? {
-            return Ok(None);
+        let limits = limits::any(&mut random);
+        if !read_message(alloc, limits, &segments, &mut digest)? {
+            return Ok(Outcome::Difference(round));
         }
     }
-    Ok(Some(digest))
+    Ok(Outcome::Read(digest))
 }
 
 /// The number that is given to the program.
@@ -79,14 +79,25 @@ fn rounds(rt: &HostRuntime) -> io::Result<u32> {
     })
 }
 
-fn main(rt: HostRuntime) -> io::Result<()> {
-    let rounds = rounds(&rt)?;
+/// Reads the messages and says so. Whether all were read without a difference.
+fn run(rt: &HostRuntime) -> io::Result<bool> {
+    let rounds = rounds(rt)?;
     match read_all(rt.alloc(), rounds) {
-        Ok(Some(digest)) => {
-            eprintln!(rt; "digest {:x}", digest.0)?;
-            println!(rt; "{rounds} messages read")
+        Ok(Outcome::Read(digest)) => {
+            println!(rt; "{rounds} messages read, digest {:x}", digest.0)?;
+            return Ok(true);
         }
-        Ok(None) => println!(rt; "a size and a value don't go together"),
-        Err(_) => println!(rt; "no memory"),
+        Ok(Outcome::Difference(round)) => {
+            eprintln!(rt; "message {round}: two walks don't go together")?;
+        }
+        Err(_) => eprintln!(rt; "no memory")?,
+    }
+    Ok(false)
+}
+
+fn main(rt: HostRuntime) -> ExitCode {
+    match run(&rt) {
+        Ok(true) => ExitCode::SUCCESS,
+        _ => ExitCode::FAILURE,
     }
 }

@@ -1,44 +1,51 @@
-//! Reads all that a pointer leads to, as every type that it can be read as.
+//! Reads all that a pointer leads to, as every type that it can be read as, with and without a default.
 ghost use Rattle.std.specs.Prelude.{◌≢◌, IfSome};
 ghost use Rattle.capnp_units.specs.Sizes.{size_number};
 ghost use Rattle.capnp_wire.specs.Views.{seen_list};
 
+use crate::elements::{Digest, read_numbers};
 use capnp_units::limiter::ReadLimiter;
-use capnp_units::sizes::{ElementSize, PointerType};
+use capnp_units::sizes::{ElementSize, PointerType, Word};
 use capnp_wire::arena::ReaderArena;
-use capnp_wire::element::PrimitiveElement;
 use capnp_wire::list::ListReader;
 use capnp_wire::pointer::PointerReader;
 use capnp_wire::structs::StructReader;
 
-/// The most elements of a list that are read.
-const ELEMENTS: u32 = 6;
+/// The most structs and pointers of a list that are followed; only lists of structs without words are longer in these messages.
+const FOLLOWED: u32 = 100;
 
 /// The most pointers of a struct that are read, some past its section.
 const POINTERS: usize = 3;
 
-/// A number that depends on all that was read.
-#[derive(Clone, Copy)]
-pub struct Digest(pub u64);
+/// A pointer to the text `hi`, and its word.
+const TEXT: &[Word] = &[[1, 0, 0, 0, 0x1a, 0, 0, 0], [0x68, 0x69, 0, 0, 0, 0, 0, 0]];
 
-impl Digest {
-    fn add(&mut self, number: u64) {
-        self.0 = (self.0 ^ number).wrapping_mul(0x100_0000_01b3);
-    }
-}
+/// A pointer to a struct with a number, and its word.
+const NUMBER: &[Word] = &[[0, 0, 0, 0, 1, 0, 0, 0], [9, 0, 0, 0, 0, 0, 0, 0]];
 
-fn walk_bytes<A: ReaderArena>(
-    pointer: PointerReader<'_, A>,
+/// A pointer to a list of two numbers of eight bytes, and their words.
+const NUMBERS: &[Word] = &[
+    [1, 0, 0, 0, 0x15, 0, 0, 0],
+    [1, 2, 3, 4, 5, 6, 7, 8],
+    [0xff, 0xff, 0xff, 0xff, 0xff, 0xff, 0xff, 0xff],
+];
+
+fn walk_bytes<'a, A: ReaderArena>(
+    pointer: PointerReader<'a, A>,
     limiter: &mut ReadLimiter,
     digest: &mut Digest,
+    default: Option<&'a [Word]>,
 ) {
-    if let Ok(bytes) = pointer.get_data(limiter, None) {
-        digest.add(bytes.len() as u64);
-        for byte in bytes {
-            digest.add(*byte as u64);
+    match pointer.get_data(limiter, default) {
+        Ok(bytes) => {
+            digest.add(bytes.len() as u64);
+            for byte in bytes {
+                digest.add(*byte as u64);
+            }
         }
+        Err(e) => digest.add(e.kind as u64),
     }
-    match pointer.get_text(limiter, None) {
+    match pointer.get_text(limiter, default) {
         Ok(text) => digest.add(text.len() as u64),
         Err(e) => digest.add(e.kind as u64),
     }
@@ -69,28 +76,6 @@ fn walk_struct<A: ReaderArena>(
     }
 }
 
-fn walk_numbers<A: ReaderArena>(
-    pointer: PointerReader<'_, A>,
-    limiter: &mut ReadLimiter,
-    digest: &mut Digest,
-) {
-    if let Ok(list) = pointer.get_list(limiter, ElementSize::Bit, None) {
-        for i in 0..list.len().min(ELEMENTS) {
-            digest.add(u64::from(<bool as PrimitiveElement>::get(&list, i)));
-        }
-    }
-    if let Ok(list) = pointer.get_list(limiter, ElementSize::TwoBytes, None) {
-        for i in 0..list.len().min(ELEMENTS) {
-            digest.add(<u16 as PrimitiveElement>::get(&list, i) as u64);
-        }
-    }
-    if let Ok(list) = pointer.get_list(limiter, ElementSize::EightBytes, None) {
-        for i in 0..list.len().min(ELEMENTS) {
-            digest.add(<u64 as PrimitiveElement>::get(&list, i));
-        }
-    }
-}
-
 /// The list as one of structs, where it can be read so.
 fn structs_of<'a, A: ReaderArena>(
     pointer: PointerReader<'a, A>,
@@ -111,14 +96,13 @@ fn walk_list<A: ReaderArena>(
     digest: &mut Digest,
     levels: u32,
 ) {
-    walk_numbers(pointer, limiter, digest);
     if let Ok(list) = pointer.get_list(limiter, ElementSize::Pointer, None) {
-        for i in 0..list.len().min(ELEMENTS) {
+        for i in 0..list.len().min(FOLLOWED) {
             walk(list.get_pointer_element(i), limiter, digest, levels);
         }
     }
     if let Some(list) = structs_of(pointer, limiter) {
-        for i in 0..list.len().min(ELEMENTS) {
+        for i in 0..list.len().min(FOLLOWED) {
             walk_struct(list.get_struct_element(i), limiter, digest, levels);
         }
     }
@@ -135,7 +119,13 @@ pub fn walk<A: ReaderArena>(
     if levels == 0 {
         return;
     }
-    walk_bytes(pointer, limiter, digest);
+    walk_bytes(pointer, limiter, digest, None);
+    walk_bytes(pointer, limiter, digest, Some(TEXT));
+    read_numbers(pointer, limiter, digest, None);
+    read_numbers(pointer, limiter, digest, Some(NUMBERS));
+    if let Ok(value) = pointer.get_struct(limiter, Some(NUMBER)) {
+        walk_fields(value, digest);
+    }
     match pointer.get_pointer_type() {
         Ok(PointerType::Struct) => {
             if let Ok(value) = pointer.get_struct(limiter, None) {

@@ -2,7 +2,7 @@
 #![tactic(auto)]
 
 pub use capnp_units::errors::{Error, Result};
-pub use capnp_units::iter::{IndexMove, ListIter, ShortListIter};
+pub use capnp_units::iter::{IndexMove, ItemIter, ListIndex, ListIter, ShortListIter};
 pub use capnp_units::kinds::ErrorKind;
 pub use capnp_units::limiter::ReadLimiter;
 pub use capnp_units::primitive::{Mask, Primitive, Zero};
@@ -14,6 +14,7 @@ pub use capnp_units::sizes::{
 pub use capnp_units::units;
 pub use capnp_wire::arena::{NullArena, ReaderArena, ReaderArenaImpl};
 pub use capnp_wire::element::PrimitiveElement;
+pub use capnp_wire::laws;
 pub use capnp_wire::list::ListReader;
 pub use capnp_wire::place::Place;
 pub use capnp_wire::pointer::PointerReader;

@@ -47,7 +47,7 @@ module _ (s u : Segments) (l : Grows s u) where
   counts true m e = omega arith
   counts false m e = absurd cc
 
-  all_kept : (xs : List Span) → ((q : Place) (w : ℕ) → 0 < times_held xs q → word_at s q ≡ Some w → word_at u q ≡ Some w) → AllByRecursion (Keeps s u) xs
+  pub all_kept : (xs : List Span) → ((q : Place) (w : ℕ) → 0 < times_held xs q → word_at s q ≡ Some w → word_at u q ≡ Some w) → AllByRecursion (Keeps s u) xs
   all_kept [] h = tt
   all_kept (x ∷ xs) h = (
     span_kept x.start.segment x.start.position x.words (λ j w a b. h (place x.start.segment j) w (counts (holds x (place x.start.segment j)) (times_held xs (place x.start.segment j)) (holds_it x j a b))),

@@ -97,20 +97,20 @@ fine_group s n (field l m b fs) member body e h = by (bytes_eq l n) (fine_group 
 
 -- ---- areas of a group
 
-Apart-left : (xs ys zs : List Area) → Apart (xs ++ ys) zs → Apart xs zs
+pub Apart-left : (xs ys zs : List Area) → Apart (xs ++ ys) zs → Apart xs zs
 Apart-left [] ys zs h = tt
 Apart-left (x ∷ xs) ys zs h = (h.0, Apart-left xs ys zs h.1)
 
-Apart-right : (xs ys zs : List Area) → Apart (xs ++ ys) zs → Apart ys zs
+pub Apart-right : (xs ys zs : List Area) → Apart (xs ++ ys) zs → Apart ys zs
 Apart-right [] ys zs h = h
 Apart-right (x ∷ xs) ys zs h = Apart-right xs ys zs h.1
 
-mark_apart : (u member : Option ℕ) (zs : List Area) → Apart (union_area u) zs → MarkApart u member zs
+pub mark_apart : (u member : Option ℕ) (zs : List Area) → Apart (union_area u) zs → MarkApart u member zs
 mark_apart (Some at) (Some k) zs h = h.0
 mark_apart (Some at) None zs h = tt
 mark_apart None member zs h = tt
 
-field_apart : (n : List ℕ) (fs : Fields) (member : Option ℕ) (body : Body) (zs : List Area) → target_of n fs ≡ target member body → Apart (areas_of_fields fs) zs → Apart (areas_of_body body) zs
+pub field_apart : (n : List ℕ) (fs : Fields) (member : Option ℕ) (body : Body) (zs : List Area) → target_of n fs ≡ target member body → Apart (areas_of_fields fs) zs → Apart (areas_of_body body) zs
 unfolding areas_of
 field_apart n no_fields member body zs e h = absurd (cc e)
 field_apart n (field l m b fs) member body zs e h = by (bytes_eq l n) (field_apart n fs member body zs) e
@@ -125,7 +125,7 @@ module _ (s : Schema) (u member : Option ℕ) (c : Cell) (place : HasPlace u mem
   keeps_mark : (ys : List Area) → MarkApart u member ys → SameAll ys (view_of s c) (view_of s (mark u member c))
   keeps_mark ys h = subst (λ v. SameAll ys (view_of s c) v) (sym (marked_view s u member c)) (same_after_mark u member (view_of s c) whole_words place ys h)
 
-marks_mark : (s : Schema) (u member : Option ℕ) (c : Cell) → HasPlace u member whole_words → discriminant u whole_words (mark u member c).section ≡ discriminant_after member (discriminant u whole_words c.section)
+pub marks_mark : (s : Schema) (u member : Option ℕ) (c : Cell) → HasPlace u member whole_words → discriminant u whole_words (mark u member c).section ≡ discriminant_after member (discriminant u whole_words c.section)
 marks_mark s (Some at) (Some k) c place = ap Some (read_back at 16 k (view_of s c) place.1 tt)
 marks_mark s (Some at) None c place = refl
 marks_mark s None (Some k) c place = absurd place
@@ -143,7 +143,7 @@ behind_mark s u member body c c' r place reads keeps off = record {
   marks = sym (discriminant-same u (view_of s (mark u member c)) (view_of s c') (keeps (union_area u) off)) ∙ marks_mark s u member c place;
 }
 
-done_is : {A : Type 0} (x y : A) → done x ≡ done y → x ≡ y
+pub done_is : {A : Type 0} (x y : A) → done x ≡ done y → x ≡ y
 done_is x y h = cc
 
 leaf : (s : Schema) (u member : Option ℕ) (body : Body) (content : Content) (c : Cell) (r : Reading) → HasPlace u member whole_words → Apart (areas_of_body body) (union_area u)
@@ -173,10 +173,10 @@ pub record Opens (s : Schema) (id : ℕ) (t : Tree) (r : Record) : Type 0 where
   pub is : r ≡ record_by_shape s (s.shape_of id) t
   pub open' : IsOpen t
 
-record_is : (r r' : Record) → record_as r ≡ record_as r' → r ≡ r'
+pub record_is : (r r' : Record) → record_as r ≡ record_as r' → r ≡ r'
 record_is r r' h = cc
 
-open_default : (s : Schema) (id : ℕ) (d : Tree) (r : Record) → or_empty s (struct id) (read s d (struct id)) ≡ record_as r → Opens s id d r
+pub open_default : (s : Schema) (id : ℕ) (d : Tree) (r : Record) → or_empty s (struct id) (read s d (struct id)) ≡ record_as r → Opens s id d r
 unfolding read record_by_shape
 open_default s id null r h = record { is = sym (record_is _ _ h); open' = tt }
 open_default s id (structure w n ts) r h = record { is = sym (record_is _ _ h); open' = tt }
@@ -211,7 +211,7 @@ entry_of-fields_of n (field l m b fs) member body e size section kids h = by_nam
         ap (λ z. only_if (is_active z e) (body_of b size section kids)) members ∙ ap (λ z. only_if (is_active member e) (body_of z size section kids)) bodies
     by_name false rest k = rest k
 
-nothing_in : (s : Schema) (p i : ℕ) (ty : Ty) → read_child s (resized p none) i ty ≡ null_pointer
+pub nothing_in : (s : Schema) (p i : ℕ) (ty : Ty) → read_child s (resized p none) i ty ≡ null_pointer
 unfolding read
 nothing_in s zero i ty = refl
 nothing_in s (suc p) zero ty = refl
@@ -228,7 +228,7 @@ Meets s path verb = (n : List ℕ) (u member : Option ℕ) (body : Body) (fs : F
 pub data IsMapped {A B : Type 0} (f : A → B) (o : Outcome A) (y : B) : Type 0 where
   mapped : (x : A) → o ≡ done x → f x ≡ y → IsMapped f o y
 
-unmap : {A B : Type 0} (f : A → B) (o : Outcome A) (y : B) → outcome_map f o ≡ done y → IsMapped f o y
+pub unmap : {A B : Type 0} (f : A → B) (o : Outcome A) (y : B) → outcome_map f o ≡ done y → IsMapped f o y
 unmap f (refused k) y h = absurd (cc h)
 unmap f (shown how t) y h = absurd (cc h)
 unmap f (done x) y h = mapped x refl (done_is _ _ h)
@@ -280,7 +280,7 @@ module _ (s : Schema) (path : List Step) (verb : Verb) (meets : Meets s path ver
 
 -- ---- whole paths of names
 
-shown_not_done : (how : As) (x r : Reading) → got how x ≡ done r → ⊥
+pub shown_not_done : (how : As) (x r : Reading) → got how x ≡ done r → ⊥
 shown_not_done how inactive r h = cc
 shown_not_done how null_pointer r h = cc
 shown_not_done how (fault k) r h = cc
@@ -291,7 +291,7 @@ shown_not_done how (list_of k) r h = cc
 shown_not_done how (record_as k) r h = cc
 shown_not_done how (opaque k) r h = cc
 
-after_call : (s : Schema) (verb : Verb) (body : Body) (x r : Reading) → IsSlot body → at_field s verb body x ≡ done r → reading_after s (slot_type body) (slot_content s verb body) ≡ done r
+pub after_call : (s : Schema) (verb : Verb) (body : Body) (x r : Reading) → IsSlot body → at_field s verb body x ≡ done r → reading_after s (slot_type body) (slot_content s verb body) ≡ done r
 after_call s verb (group_slot g) x r slot h = absurd slot
 after_call s get (void_slot j) x r yes' h = absurd (shown_not_done _ x r h)
 after_call s get (plain_slot p at d) x r yes' h = absurd (shown_not_done _ x r h)
@@ -309,13 +309,13 @@ after_call s clear (void_slot j) x r yes' h = h
 after_call s clear (plain_slot p at d) x r yes' h = h
 after_call s clear (pointer_slot i ty d) x r yes' h = h
 
-put_is : (s : Schema) (verb : Verb) (body : Body) (c : Cell) → IsSlot body → put_content body (slot_content s verb body) c ≡ put_field s verb body c
+pub put_is : (s : Schema) (verb : Verb) (body : Body) (c : Cell) → IsSlot body → put_content body (slot_content s verb body) c ≡ put_field s verb body c
 put_is s verb (void_slot j) c h = refl
 put_is s verb (plain_slot p at d) c h = refl
 put_is s verb (pointer_slot i ty d) c h = refl
 put_is s verb (group_slot g) c h = absurd h
 
-still_active : (member d : Option ℕ) → is_active member d ≡ true → d ≡ discriminant_after member d
+pub still_active : (member d : Option ℕ) → is_active member d ≡ true → d ≡ discriminant_after member d
 still_active None d h = refl
 still_active (Some k) None h = absurd (cc h)
 still_active (Some k) (Some m) h = ap Some (same k m h)
@@ -326,7 +326,7 @@ still_active (Some k) (Some m) h = ap Some (same k m h)
 pub data IsThrough (s : Schema) (l : List ℕ) (f : Body → Reading → Outcome Reading) (ty : Ty) (x r : Reading) : Type 0 where
   through : (id : ℕ) (old new : Record) → ty ≡ struct id → x ≡ record_as old → on_name f l (fields_in (s.shape_of id)) old ≡ done new → record_as new ≡ r → IsThrough s l f ty x r
 
-to_through : (s : Schema) (l : List ℕ) (f : Body → Reading → Outcome Reading) (e : Ty → Reading → Outcome Reading) (ty : Ty) (x r : Reading) → through_value s (name l) f e ty x ≡ done r → IsThrough s l f ty x r
+pub to_through : (s : Schema) (l : List ℕ) (f : Body → Reading → Outcome Reading) (e : Ty → Reading → Outcome Reading) (ty : Ty) (x r : Reading) → through_value s (name l) f e ty x ≡ done r → IsThrough s l f ty x r
 to_through s l f e ty (fault k) r h = absurd (cc h)
 to_through s l f e (struct id) (record_as old) r h = found (unmap record_as (on_name f l (fields_in (s.shape_of id)) old) r h)
   where

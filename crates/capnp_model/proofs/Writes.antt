@@ -86,7 +86,7 @@ field_bits_if_same : (size : Extent) (a n section section' : ℕ) → bits_at a 
 field_bits_if_same whole_words a n section section' e = e
 field_bits_if_same (just_bits k) a n section section' e = ap (λ z. if nat_le (a + n) k then z else 0) e
 
-same_bits_if_apart : (at w x a n section : ℕ) → x < 2 ^ w → share (bit_area a n) (bit_area at w) ≡ false → bits_at a n section ≡ bits_at a n (with_bits at w x section)
+pub same_bits_if_apart : (at w x a n section : ℕ) → x < 2 ^ w → share (bit_area a n) (bit_area at w) ≡ false → bits_at a n section ≡ bits_at a n (with_bits at w x section)
 same_bits_if_apart at w x a n section fits h = by_side (apart_bits a n at w h)
   where
     by_side : (at + w ≤ a) ⊎ (a + n ≤ at) → bits_at a n section ≡ bits_at a n (with_bits at w x section)

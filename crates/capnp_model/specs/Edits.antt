@@ -111,9 +111,10 @@ abbrev pub after_writes : List Edit → Edit
 after_writes [] c = c
 after_writes (f ∷ fs) c = after_writes fs (f c)
 
--- What a refused `set` of a group leaves: a beginning of its writes.
-abbrev pub IsBegun : Schema → Shape → Cell → Cell → Cell → Type 0
-IsBegun s g from old new = (front : List Edit) × (back : List Edit) × (group_writes s g (λ c. c) from ≡ front ++ back) × (new ≡ after_writes front old)
+-- What a refused `set` of a group leaves: a beginning of its writes, the first of which marks the union of which the group
+-- is a member.
+abbrev pub IsBegun : Schema → Option ℕ → Option ℕ → Shape → Cell → Cell → Cell → Type 0
+IsBegun s union member g from old new = (front : List Edit) × (back : List Edit) × (group_writes s g (mark union member) from ≡ front ++ back) × (new ≡ after_writes front old)
 
 -- A group is set from a message.
 abbrev pub from_message : Schema → Shape → Tree → Edit

@@ -8,8 +8,9 @@ ghost use Rattle.capnp_model.specs.Trees.{Tree, structure, plain_list, Trees, tr
 ghost use Rattle.capnp_model.specs.Trimming.{trim};
 ghost use Rattle.capnp_model.specs.Traversal.{tree_at, cost_at};
 ghost use Rattle.capnp_model.specs.Means.{Means};
-ghost use Rattle.capnp_model.specs.Coverage.{covered, cover, Keeps, Grows};
+ghost use Rattle.capnp_model.specs.Coverage.{from_each, covered, cover, Keeps, Grows};
 ghost use Rattle.capnp_model.specs.Faults.{faults_at};
+ghost use Rattle.capnp_model.specs.Visits.{Visit, visits, visits_cost, faults_among, pointers_of};
 ghost use Rattle.capnp_model.specs.Encoding.{body, canonical_words};
 ghost use Rattle.capnp_model.specs.Canonical.{is_canonical_at, is_canonical_message};
 ghost use Rattle.capnp_model.specs.Sizes.{object_words, capability_count};
@@ -18,10 +19,7 @@ ghost use Rattle.capnp_model.specs.Packing.{packed, unpacked};
 ghost use Rattle.capnp_model.specs.Messages.{frame_at, packed_at, flat_at, frame, packed_message, within};
 ghost use Rattle.capnp_model.specs.Schemas.{struct, Node, Shape, Fields, Body, Schema};
 ghost use Rattle.capnp_model.specs.Readings.{Record, Extent, Children, record_of, shape_record, fields_of, body_of, is_active, only_if};
-ghost use Rattle.capnp_model.specs.Printing.{fields_in};
-ghost use Rattle.capnp_model.specs.Steps.{done, step, target, target_of, entry_of};
-ghost use Rattle.capnp_model.specs.Edits.{edit};
-ghost use Rattle.capnp_model.specs.NamedPaths.{IsInRange, IsOpen, GoesByNames};
+ghost use Rattle.capnp_model.specs.Steps.{target, target_of, entry_of};
 ghost use Rattle.capnp_model.specs.Accepted.{IsAccepted, areas_of, schema_of};
 ghost use Rattle.capnp_model.specs.Views.{View, SameAll};
 ghost use Rattle.capnp_model.specs.Compatible.{IsCompatible};
@@ -188,11 +186,6 @@ pub fn answers_to_equal_values()
     ensures { (s : Schema) (quoted : List ℕ → List ℕ) (id : ℕ) (calls : List Call) (limits : Limits) (a b : Segments) (t u : Tree) → value_within limits a ≡ Some t → value_within limits b ≡ Some u → trim t ≡ trim u → answer s quoted id calls limits a ≡ answer s quoted id calls limits b }
 {}
 
-/// The record of an edited value is what the record machine makes of the record, for calls along names that end at a slot.
-pub fn records_of_edited_values()
-    ensures { (nodes : List Node) → IsAccepted nodes → (id : ℕ) → (schema_of nodes).is_group id ≡ false → (c : Call) → IsInRange c.verb → GoesByNames (schema_of nodes) (fields_in ((schema_of nodes).shape_of id)) c.path → (t : Tree) → IsOpen t → (r : Record) → step (schema_of nodes) id c (record_of (schema_of nodes) id t) ≡ done r → record_of (schema_of nodes) id (edit (schema_of nodes) id c t) ≡ r }
-{}
-
 /// Every schema is compatible with itself.
 pub fn compatible_with_itself()
     ensures { (nodes : List Node) (id : ℕ) → IsCompatible (schema_of nodes) (schema_of nodes) id id }
@@ -206,4 +199,13 @@ pub fn compatible_along_versions()
 /// Along versions the oldest view of a record is the oldest view of its middle view.
 pub fn views_along_versions()
     ensures { (a b c : List Node) (x y z : ℕ) (t : Tree) → IsAccepted a → IsAccepted b → IsAccepted c → IsCompatible (schema_of a) (schema_of b) x y → IsCompatible (schema_of b) (schema_of c) y z → projected (schema_of a) x (projected (schema_of b) y (record_of (schema_of c) z t)) ≡ projected (schema_of a) x (record_of (schema_of c) z t) }
+{}
+
+/// A walk over a value without a fault costs what following its pointers costs, and follows just its pointers, nulls included; the faults of any value are those that a walk meets. A walk that is refused at a visit has followed no more pointers than it began with and one for each word that it paid.
+pub fn values_on_walks()
+    ensures cost { (n : ℕ) (s : Segments) (p : Place) (t : Tree) → tree_at n s p ≡ Some t → visits_cost (visits n s p) ≡ Some (cost_at n s p) }
+    ensures count { (n : ℕ) (s : Segments) (p : Place) (t : Tree) → tree_at n s p ≡ Some t → length (visits n s p) ≡ pointers_of t }
+    ensures faults { (n : ℕ) (s : Segments) (p : Place) → faults_among (visits n s p) ≡ faults_at n s p }
+    ensures few { (n : ℕ) (s : Segments) (p : Place) (before : List Visit) (last : Visit) (rest : List Visit) (paid : ℕ) → visits n s p ≡ before ++ last ∷ rest → visits_cost before ≡ Some paid → length before ≤ paid }
+    ensures few_in_row { (n : ℕ) (s : Segments) (p : Place) (k : ℕ) (before : List Visit) (last : Visit) (rest : List Visit) (paid : ℕ) → from_each (visits n s) p k ≡ before ++ last ∷ rest → visits_cost before ≡ Some paid → length before + 1 ≤ k + paid }
 {}

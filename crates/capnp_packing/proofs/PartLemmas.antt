@@ -13,19 +13,28 @@ use Rattle.capnp_model.specs.Chains.{◌and_then◌, guard}
 use Rattle.capnp_model.specs.Bytes.{taken}
 use Rattle.capnp_model.specs.Packing.{Run, byte_at, spread, counted, run_at}
 use Rattle.capnp_model.proofs.Chaining.{ok_then, bind_ok}
+use Rattle.capnp_stream.specs.Pieces.{IsEarlyEnd, EndsEarly, EachIsNeeded}
+use Rattle.capnp_stream.proofs.EarlyLemmas.{early-same, early-then, none-needed, needed-joined}
 use Rattle.capnp_packing.specs.Parts.{Rule, Leads, Takes, IsFault, Refuses, byte_or, count_at, tagged, with_front}
+
+-- ---- single bytes
+
+-- a byte is needed where its lack is an early end
+pub byte-needed : {A : Type 0} (f : Rule A) (b : ℕ) → EndsEarly (f []) → EachIsNeeded f (b ∷ [])
+byte-needed f b early n below = let first : n ≡ 0 = omega arith in early-same _ _ (ap (λ (m : ℕ). f (take m (b ∷ []))) first) early
 
 -- ---- one behind the other
 
 -- a rule that is the other
 pub Leads-by : {A : Type 0} (f g : Rule A) (a : Option (List ℕ)) → ((bytes : List ℕ) → f bytes ≡ g bytes) → Leads f a a g
-Leads-by f g a e = record { part = []; taken = Consumes-nil a; says = e }
+Leads-by f g a e = record { part = []; taken = Consumes-nil a; says = e; needed = none-needed f }
 
 pub Leads-trans : {A : Type 0} (f g h : Rule A) (a b c : Option (List ℕ)) → Leads f a b g → Leads g b c h → Leads f a c h
 Leads-trans f g h a b c p q = record {
   part = p.part ++ q.part;
   taken = Consumes-trans a b c p.part q.part p.taken q.taken;
   says = λ more. ap f (append_assoc p.part q.part more) ∙ p.says (q.part ++ more) ∙ q.says more;
+  needed = needed-joined f g p.part q.part (λ more h. early-same _ _ (p.says more) h) p.needed q.needed;
 }
 
 known-behind : {A : Type 0} (f g : Rule A) (a b : Option (List ℕ)) (k : Kind) → Leads f a b g → IfSome b (λ xs. g xs ≡ Err k) → IfSome a (λ xs. f xs ≡ Err k)
@@ -46,13 +55,14 @@ Refuses-behind f g a b c k p q = record {
   part = p.part ++ q.part;
   taken = Consumes-trans a b c p.part q.part p.taken q.taken;
   none = λ x e. q.none x (sym (p.says q.part) ∙ e);
+  needed = needed-joined f g p.part q.part (λ more h. early-same _ _ (p.says more) h) p.needed q.needed;
   fault = IsFault-behind f g a b k p q.fault;
 }
 
 -- ---- the first of two steps
 
 pub Leads-then : {A B : Type 0} (f : Rule A) (k : A × List ℕ → Result (B × List ℕ) Kind) (a b : Option (List ℕ)) (x : A) → Takes f a b x → Leads (λ bytes. f bytes and_then k) a b (λ more. k (x, more))
-Leads-then f k a b x p = record { part = p.part; taken = p.taken; says = λ more. ok_then (f (p.part ++ more)) k (x, more) (k (x, more)) (p.says more) refl }
+Leads-then f k a b x p = record { part = p.part; taken = p.taken; says = λ more. ok_then (f (p.part ++ more)) k (x, more) (k (x, more)) (p.says more) refl; needed = λ n below. early-then (f (take n p.part)) k (p.needed n below) }
 
 err_then : {A B : Type 0} (r : Result A Kind) (f : A → Result B Kind) (k : Kind) → r ≡ Err k → (r and_then f) ≡ Err k
 err_then (Ok x) f k e = absurd cc
@@ -74,6 +84,7 @@ Refuses-then f s a b k p = record {
   part = p.part;
   taken = p.taken;
   none = λ x e. let t = bind_ok (f p.part) s x e in p.none t.0 t.1;
+  needed = λ n below. early-then (f (take n p.part)) s (p.needed n below);
   fault = IsFault-then f s a k p.fault;
 }
 
@@ -83,7 +94,7 @@ pub with_front-nil : (r : Result (List ℕ × List ℕ) Kind) → with_front [] 
 with_front-nil (Ok x) = refl
 with_front-nil (Err k) = refl
 
-with_front-more : (xs ys : List ℕ) (r : Result (List ℕ × List ℕ) Kind) → with_front xs (with_front ys r) ≡ with_front (xs ++ ys) r
+pub with_front-more : (xs ys : List ℕ) (r : Result (List ℕ × List ℕ) Kind) → with_front xs (with_front ys r) ≡ with_front (xs ++ ys) r
 with_front-more xs ys (Ok x) = ap (λ (l : List ℕ). Ok (l, x.1)) (sym (append_assoc xs ys x.0))
 with_front-more xs ys (Err k) = refl
 
@@ -94,6 +105,10 @@ with_front-err xs (Err k) x e = absurd cc
 with_front-fault : (xs : List ℕ) (r : Result (List ℕ × List ℕ) Kind) (k : Kind) → r ≡ Err k → with_front xs r ≡ Err k
 with_front-fault xs (Ok y) k e = absurd cc
 with_front-fault xs (Err d) k e = e
+
+early-front : (xs : List ℕ) (r : Result (List ℕ × List ℕ) Kind) → EndsEarly r → EndsEarly (with_front xs r)
+early-front xs (Ok x) h = absurd h
+early-front xs (Err k) h = h
 
 known-front : (xs : List ℕ) (f : Rule (List ℕ)) (a : Option (List ℕ)) (k : Kind) → IfSome a (λ bytes. f bytes ≡ Err k) → IfSome a (λ bytes. with_front xs (f bytes) ≡ Err k)
 known-front xs f None k h = tt
@@ -111,11 +126,12 @@ Refuses-front xs f a b k p = record {
   part = p.part;
   taken = p.taken;
   none = λ x e. let t = with_front-err xs (f p.part) x e in p.none t.0 t.1;
+  needed = λ n below. early-front xs (f (take n p.part)) (p.needed n below);
   fault = IsFault-front xs f a k p.fault;
 }
 
 pub Leads-front : (xs : List ℕ) (f g : Rule (List ℕ)) (a b : Option (List ℕ)) → Leads f a b g → Leads (λ bytes. with_front xs (f bytes)) a b (λ bytes. with_front xs (g bytes))
-Leads-front xs f g a b p = record { part = p.part; taken = p.taken; says = λ more. ap (with_front xs) (p.says more) }
+Leads-front xs f g a b p = record { part = p.part; taken = p.taken; says = λ more. ap (with_front xs) (p.says more); needed = λ n below. early-front xs (f (take n p.part)) (p.needed n below) }
 
 -- ---- a word, byte by byte
 

@@ -10,10 +10,11 @@ use Rattle.capnp_units.specs.declared.kinds.ErrorKind.TheVariants.{FailedToFillT
 use Rattle.capnp_model.specs.Kinds.{Kind}
 use Rattle.capnp_model.specs.Bytes.{words_in_bytes}
 use Rattle.capnp_model.specs.Packing.{Run, first, with_word, unpacked_from, unpacked}
-use Rattle.capnp_stream.specs.Pieces.{TakesPiece, TakesPieceStart}
+use Rattle.capnp_stream.specs.Pieces.{EachIsNeeded, TakesPiece, TakesPieceStart}
 use Rattle.capnp_stream.specs.Segments.{whole_words}
 use Rattle.capnp_stream.specs.Streams.{ConsumesFewer}
 use Rattle.capnp_stream.proofs.KnownLemmas.{Consumes-of_kept}
+use Rattle.capnp_stream.proofs.EarlyLemmas.{none-needed}
 use Rattle.capnp_stream.proofs.WordLemmas.{words_in_bytes-take, words_in_bytes-drop, words_in_bytes-length, whole_words-of_length}
 use Rattle.capnp_packing.specs.Parts.{Rule, Leads, Takes, IsFault, Refuses, with_front}
 use Rattle.capnp_packing.specs.Streams.{IsUnpackingKind}
@@ -86,7 +87,9 @@ module _ (f : Rule (List ℕ)) (a b : Option (List ℕ)) (buf : List ℕ) (at : 
 pub piece-taken : (a b : Option (List ℕ)) (buf : List ℕ) → Takes (unpacked (length buf / 8)) a b (whole_words buf) → TakesPiece unpacked a b (whole_words buf)
 piece-taken a b buf p =
     let Reads : ℕ → Type 0 = λ n. (more : List ℕ) → unpacked n (p.part ++ more) ≡ Ok (whole_words buf, more) in
-    (p.part, subst Reads (sym (words_in_bytes-length (length buf / 8) buf)) p.says, p.taken)
+    let Needed : ℕ → Type 0 = λ n. EachIsNeeded (unpacked n) p.part in
+    let count : length buf / 8 ≡ length (whole_words buf) = sym (words_in_bytes-length (length buf / 8) buf) in
+    (p.part, subst Reads count p.says, p.taken, subst Needed count p.needed)
 
 -- where nothing was taken no piece with a word was
 no-piece : (n : ℕ) → 0 < n → (r : List ℕ × List ℕ) → unpacked n [] ≡ Ok r → ⊥
@@ -95,11 +98,11 @@ no-piece zero some r e = absurd (omega arith)
 no-piece (suc n) some r e = absurd cc
 
 pub nothing-taken : (n : ℕ) (a b : Option (List ℕ)) → 0 < n → Keeps a b → TakesPieceStart unpacked n a b
-nothing-taken n a b some kept = ([], no-piece n some, Consumes-kept a a b [] (Consumes-nil a) kept)
+nothing-taken n a b some kept = ([], no-piece n some, Consumes-kept a a b [] (Consumes-nil a) kept, none-needed (unpacked n))
 
 -- a piece behind a look at the bytes to come
 pub piece-of_kept : (a b c : Option (List ℕ)) (ws : List ℕ) → Keeps a b → TakesPiece unpacked b c ws → TakesPiece unpacked a c ws
-piece-of_kept a b c ws kept p = (p.0, p.1, Consumes-of_kept a b c p.0 kept p.2)
+piece-of_kept a b c ws kept p = (p.0, p.1, Consumes-of_kept a b c p.0 kept p.2, p.3)
 
 -- the words of bytes are those of the whole words in front
 pub whole-front : (bytes : List ℕ) → whole_words (take (length bytes / 8 * 8) bytes) ≡ whole_words bytes

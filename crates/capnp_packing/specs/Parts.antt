@@ -9,17 +9,19 @@ use Rattle.capnp_units.specs.declared.kinds.ErrorKind.TheVariants.{FailedToFillT
 use Rattle.capnp_model.specs.Kinds as kinds
 use Rattle.capnp_model.specs.Kinds.{Kind}
 use Rattle.capnp_model.specs.Chains.{◌and_then◌, guard}
+use Rattle.capnp_stream.specs.Pieces.{EachIsNeeded}
 use Rattle.capnp_model.specs.Packing.{spread, run_at, with_word, unpacked_from}
 
 -- How a part is read: its value and the bytes behind it, or why the bytes begin with none.
 abbrev pub Rule : Type 0 → Type 0
 Rule A = List ℕ → Result (A × List ℕ) Kind
 
--- A front was taken: of it, with any bytes behind it, the rule gives what the other gives of these bytes.
+-- A front was taken, of which each byte is needed: of it, with any bytes behind it, the rule gives what the other gives of these bytes.
 pub record Leads {A : Type 0} (rule : Rule A) (old new : Option (List ℕ)) (behind : Rule A) : Type 0 where
   pub part : List ℕ
   pub taken : Consumes old new part
   pub says : (more : List ℕ) → rule (part ++ more) ≡ behind more
+  pub needed : EachIsNeeded rule part
 
 -- A front of this value was taken, whatever follows it.
 abbrev pub Takes : {A : Type 0} → Rule A → Option (List ℕ) → Option (List ℕ) → A → Type 0
@@ -33,11 +35,12 @@ IsFault rule old PrematureEndOfPackedInput = IfSome old (λ xs. rule xs ≡ Err 
 IsFault rule old PackedInputDidNotEndCleanlyOnASegmentBoundary = IfSome old (λ xs. rule xs ≡ Err (kind_of PackedInputDidNotEndCleanlyOnASegmentBoundary))
 IsFault rule old _ = ⊥
 
--- Less than a part was taken, and why.
+-- Less than a part was taken, no byte behind the first that is at fault, and why.
 pub record Refuses {A : Type 0} (rule : Rule A) (old new : Option (List ℕ)) (kind : ErrorKind) : Type 0 where
   pub part : List ℕ
   pub taken : Consumes old new part
   pub none : (x : A × List ℕ) → rule part ≡ Ok x → ⊥
+  pub needed : EachIsNeeded rule part
   pub fault : IsFault rule old kind
 
 -- The next byte was taken, or none is left.

@@ -11,3 +11,10 @@ IsUnpackingKind PackedInputDidNotEndCleanlyOnASegmentBoundary = ⊤
 IsUnpackingKind BufferNotLargeEnough = ⊤
 IsUnpackingKind Device = ⊤
 IsUnpackingKind _ = ⊥
+
+-- The kinds by which a packed piece is none.
+abbrev pub is_packed_fault : ErrorKind → Type 0
+is_packed_fault FailedToFillTheWholeBuffer = ⊤
+is_packed_fault PrematureEndOfPackedInput = ⊤
+is_packed_fault PackedInputDidNotEndCleanlyOnASegmentBoundary = ⊤
+is_packed_fault _ = ⊥

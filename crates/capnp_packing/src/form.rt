@@ -1,5 +1,6 @@
 //! The packed form of messages.
 ghost use Rattle.capnp_model.specs.Packing.{packed, unpacked};
+ghost use Rattle.capnp_packing.specs.Streams.{is_packed_fault};
 
 use crate::packing::write_words;
 use crate::unpacking::read_words;
@@ -21,6 +22,8 @@ impl MessageForm for Packed {
     ghost reader = { unpacked };
 
     ghost writer = { packed };
+
+    ghost faults = { is_packed_fault };
 
     fn read_piece<R: BufRead>(source: &mut R, buf: &mut [u8]) -> Result<()> {
         read_words(source, buf)

@@ -1,5 +1,11 @@
+pub mod ListTests
 pub mod Stored
-pub mod TakenRules
-pub mod PlainNodes
-pub mod OneStruct
 pub mod SlotBodies
+pub mod Overlaps
+pub mod Breaks
+pub mod PlainStructs
+pub mod Segments
+pub mod Forward
+pub mod Marked
+pub mod Members
+pub mod DistinctNames

@@ -1,8 +1,9 @@
--- Slots that are taken so far.
-use Rattle.std.proofs.Common.{◌≡◌, ℕ, true, Option, Some, None, refl, arith}
-use Rattle.capnp_model.specs.Schemas.{PlainType, bool, int, uint, «enum», Value, no_value, bits, text_bytes, blob_bytes, list_segment, struct_segment, untyped_value, interface_value}
+-- Slots of plain structs.
+use Rattle.std.proofs.Common.{◌≡◌, ℕ, true, not, ◌&&◌, Option, Some, None, is_some, refl, arith}
+use Rattle.capnp_model.specs.Schemas.{PlainType, bool, int, uint, «enum», Value, no_value, bits, text_bytes, blob_bytes, list_segment, struct_segment, untyped_value, interface_value, Field}
 use Rattle.capnp_model.specs.Accepted.{default_bits, default_tree}
-use Rattle.capnp_records.specs.Taken.{is_zero, is_taken_default}
+use Rattle.capnp_records.specs.Taken.{has_none, is_zero, is_taken_default, is_taken_kind, is_taken_field}
+use Rattle.capnp_records.proofs.ListTests.{and_right}
 
 zero_bits : (p : PlainType) (n : ℕ) → is_zero (bits p n) ≡ true → n ≡ 0
 zero_bits bool n h = grind arith
@@ -33,3 +34,6 @@ default_tree_none (Some untyped_value) h = refl
 default_tree_none (Some interface_value) h = refl
 
 pub ruleset slots = (default_bits_zero, default_tree_none)
+
+pub taken_kind : (f : Field) → is_taken_field f ≡ true → is_taken_kind f.kind ≡ true
+taken_kind f h = and_right (not (is_some f.member) && has_none f.annotations) (is_taken_kind f.kind) h

@@ -1,5 +1,5 @@
 -- What the model says of places and areas, by the storage of a slot's type.
-use Rattle.std.proofs.Common.{◌≡◌, ℕ, zero, suc, ◌+◌, ◌*◌, ◌<◌, ◌≤◌, Bool, true, nat_le, nat_lt, Option, List, [], ◌∷◌, refl, arith}
+use Rattle.std.proofs.Common.{◌≡◌, ℕ, zero, suc, ◌+◌, ◌-◌, ◌*◌, ◌<◌, ◌≤◌, Bool, true, nat_le, nat_lt, Option, List, [], ◌∷◌, refl, sym, ap, arith}
 use Rattle.capnp_model.specs.Schemas.{Ty, void, plain, text, blob, untyped, interface, struct, list, lists_of, Value, StructNode, group_slot}
 use Rattle.capnp_model.specs.Accepted.{is_inside, no_shape, slot_body, Area, bit_area, pointer_area, areas_of_body, areas_of}
 use Rattle.capnp_records.specs.declared.storage.Storage.{Storage}
@@ -14,7 +14,11 @@ pub no_list : (n : ℕ) (t : Ty) → n ≤ 0 → lists_of n t ≡ t
 no_list zero t h = refl
 no_list (suc n) t h = absurd (omega arith)
 
-pub ruleset types = (storage_of_list, no_list)
+pub is_list : (n : ℕ) (t : Ty) → 0 < n → lists_of n t ≡ list (lists_of (n - 1) t)
+is_list zero t h = absurd (omega arith)
+is_list (suc n) t h = let less : suc n - 1 ≡ n = omega arith in ap (λ k. list (lists_of k t)) (sym less)
+
+pub ruleset types = (storage_of_list, no_list, is_list)
 
 -- whether a slot that is stored so lies in its section
 abbrev pub lies_inside : StructNode → ℕ → Storage → Bool

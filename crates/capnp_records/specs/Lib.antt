@@ -3,6 +3,9 @@ pub mod Taken
 pub mod Faults
 pub mod Sets
 pub mod Storage
+pub mod Claims
+pub mod Marks
+pub mod Segments
 pub mod Slots
 pub mod Structs
 pub use Rattle.capnp_model.specs.Schemas

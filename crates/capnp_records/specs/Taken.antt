@@ -1,8 +1,7 @@
--- The node records that are taken so far: one struct that is no group, without a union, whose fields are slots of Void, Bool, numbers or Text.
+-- Plain structs: no group, no union, no annotations, and fields that are slots of Void, Bool, numbers or Text, with defaults that are zero or absent.
 use Rattle.std.specs.Prelude.{ℕ, Bool, true, false, not, ◌&&◌, ◌==◌, Option, Some, None, is_some, if◌then◌else◌, List, [], ◌∷◌}
 use Rattle.std.specs.List.{list_all}
 use Rattle.capnp_model.specs.Schemas.{bool, int, uint, BaseType, Value, no_value, bits, Annotation, FieldKind, slot, group, Field, NodeKind, struct_node, enum_node, Node}
-use Rattle.capnp_model.specs.Accepted.{fault_of}
 
 -- A base that is taken; floats are, and break a rule.
 abbrev pub is_taken_base : BaseType → Bool
@@ -48,17 +47,3 @@ is_taken_body (enum_node es) = false
 -- A node that is taken.
 abbrev pub is_taken_node : Node → Bool
 is_taken_node n = has_none n.annotations && is_taken_body n.kind
-
--- The nodes are taken: exactly one, which is taken.
-abbrev pub is_taken : List Node → Bool
-is_taken (n ∷ []) = is_taken_node n
-is_taken _ = false
-
--- The place that is named where nodes are not taken: that of the second node, where there is one.
-abbrev pub untaken_place : List Node → ℕ
-untaken_place (n ∷ m ∷ more) = 1
-untaken_place _ = 0
-
--- The rule and the place that are named where nodes are refused: the rule 0 where they are not taken, else the first broken one.
-abbrev pub refusal_of : List Node → Option (ℕ × ℕ)
-refusal_of nodes = if is_taken nodes then fault_of nodes else Some (0, untaken_place nodes)

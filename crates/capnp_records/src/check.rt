@@ -1,30 +1,89 @@
-//! The check of node records.
+//! The check of node records: the rules by number, each over the nodes in order.
 
-ghost use Rattle.std.specs.Prelude.{◌≡◌, true, map, None, OnOk, IfErr};
+ghost use Rattle.std.specs.Prelude.{◌≡◌, ◌||◌, not, map, length, None, IfOk, IfErr, OnOk};
+ghost use Rattle.capnp_model.specs.Accepted.{is_kept_by, first_break, fault_of, on_struct, has_good_union, is_struct_node, has_no_overlap, shape_in};
 ghost use Rattle.capnp_records.specs.NodeViews.{node_of};
-ghost use Rattle.capnp_records.specs.Taken.{is_taken, refusal_of};
 ghost use Rattle.capnp_records.specs.Faults.{IsRefusalOf};
 
+use crate::defaults::has_good_defaults;
 use crate::fault::SchemaFault;
-use crate::node::NodeRecord;
-use crate::rules::first_broken_rule;
-use crate::taken::is_taken_node;
+use crate::find::{has_id, is_struct};
+use crate::groups::is_good_group;
+use crate::names::{has_good_names, is_short};
+use crate::node::{NodeBody, NodeRecord};
+use crate::overlap::has_no_overlap;
+use crate::places::has_places;
+use crate::types::{has_good_ids, has_no_float};
+use crate::unions::has_good_union;
+use crate::values::{has_good_annotations, has_good_default_values};
+use std::alloc::{AllocError, Global};
 
-/// Whether the nodes are of the kind that is taken so far and keep the rules.
-pub(crate) fn check(nodes: &[NodeRecord]) -> Result<(), SchemaFault>
-    ensures taken { OnOk result (is_taken (map node_of nodes.now) ≡ true) }
-    ensures kept { OnOk result (refusal_of (map node_of nodes.now) ≡ None) }
+/// How many rules there are.
+const RULES: u32 = 12;
+
+fn keeps_union(alloc: Global, node: &NodeRecord) -> Result<bool, AllocError>
+    ensures { IfOk result (λ b. b ≡ on_struct has_good_union (node_of node.now)) }
+{
+    match &node.body {
+        NodeBody::Struct(holder) => has_good_union(alloc, holder),
+        NodeBody::Enum(_) => Ok(true),
+    }
+}
+
+fn keeps_places(alloc: Global, nodes: &[NodeRecord], node: &NodeRecord) -> Result<bool, AllocError>
+    ensures { IfOk result (λ b. b ≡ (not (is_struct_node (node_of node.now)) || has_no_overlap (shape_in (map node_of nodes.now) (length nodes.now) (node_of node.now).id))) }
+{
+    Ok(!is_struct(node) || has_no_overlap(alloc, nodes, nodes.len(), node.id)?)
+}
+
+/// Whether a node behind earlier ones keeps the rule of a number, among all nodes.
+fn keeps(
+    alloc: Global,
+    nodes: &[NodeRecord],
+    earlier: &[NodeRecord],
+    node: &NodeRecord,
+    rule: u32,
+) -> Result<bool, AllocError>
+    ensures { IfOk result (λ b. b ≡ is_kept_by (map node_of nodes.now) (map node_of earlier.now) (node_of node.now) rule) }
+{
+    match rule {
+        1 => Ok(!has_id(earlier, node.id)),
+        2 => Ok(is_short(node)),
+        3 => has_good_names(alloc, node),
+        4 => has_no_float(alloc, node),
+        5 => has_good_ids(alloc, nodes, node),
+        6 => is_good_group(alloc, nodes, node),
+        7 => keeps_union(alloc, node),
+        8 => Ok(has_places(node)),
+        9 => keeps_places(alloc, nodes, node),
+        10 => Ok(has_good_defaults(node)),
+        11 => has_good_default_values(alloc, node),
+        12 => has_good_annotations(alloc, node),
+        _ => Ok(true),
+    }
+}
+
+/// The place of the first node that breaks the rule of a number.
+fn first_break(alloc: Global, nodes: &[NodeRecord], rule: u32) -> Result<Option<usize>, AllocError>
+    ensures { IfOk result (λ place. place ≡ first_break (map node_of nodes.now) rule) }
+{
+    for i in 0..nodes.len() {
+        if !keeps(alloc, nodes, &nodes[..i], &nodes[i], rule)? {
+            return Ok(Some(i));
+        }
+    }
+    Ok(None)
+}
+
+/// Whether the nodes keep the rules.
+pub(crate) fn check(alloc: Global, nodes: &[NodeRecord]) -> Result<(), SchemaFault>
+    ensures kept { OnOk result (fault_of (map node_of nodes.now) ≡ None) }
     ensures refused { IfErr result (λ fault. IsRefusalOf (map node_of nodes.now) fault) }
 {
-    let [node] = nodes else {
-        let node = if nodes.len() > 1 { 1 } else { 0 };
-        return Err(SchemaFault::Rule { rule: 0, node });
-    };
-    if !is_taken_node(node) {
-        return Err(SchemaFault::Rule { rule: 0, node: 0 });
+    for rule in 1..RULES + 1 {
+        if let Some(node) = first_break(alloc, nodes, rule)? {
+            return Err(SchemaFault::Rule { rule, node });
+        }
     }
-    match first_broken_rule(node) {
-        Some(rule) => Err(SchemaFault::Rule { rule, node: 0 }),
-        None => Ok(()),
-    }
+    Ok(())
 }

@@ -1,15 +1,28 @@
 //! Why node records make no schema set.
 
+ghost use Rattle.std.specs.Prelude.{◌≡◌};
+
+use std::alloc::AllocError;
 use thiserror::Error;
 
 /// Why node records make no schema set.
 #[derive(Clone, Copy, Debug, PartialEq, Eq, Error)]
 pub enum SchemaFault {
     /// The number of the first rule that is broken, and the place of the first node that breaks it. The model's
-    /// `specs/Accepted.antt` numbers the rules. The rule 0 says that the records are not of the kind that is taken so far.
+    /// `specs/Accepted.antt` numbers the rules.
     #[error("node {node} breaks schema rule {rule}")]
-    Rule { rule: u32, node: u32 },
-    /// Memory ran out. It is not answered so far, as nothing takes memory yet.
+    Rule { rule: u32, node: usize },
+    /// Memory ran out.
     #[error("out of memory")]
     Memory,
+}
+
+impl From<AllocError> for SchemaFault {
+    ghost use Rattle.capnp_records.specs.declared.fault.SchemaFault.{SchemaFault};
+
+    ghost from_gives = { λ _ fault. fault ≡ SchemaFault.Memory };
+
+    fn from(_e: AllocError) -> SchemaFault {
+        SchemaFault::Memory
+    }
 }

@@ -1,11 +1,20 @@
 //! The schema layer of Cap'n Proto: node records as a caller writes them, and sets of them that keep the schema rules.
 #![tactic(auto)]
 
+mod area;
 mod check;
+mod defaults;
 pub mod fault;
+mod find;
+mod groups;
+mod marks;
+mod names;
 pub mod node;
+mod overlap;
+mod parts;
+mod places;
 pub mod raw;
-mod rules;
+mod segment;
 pub mod set;
 pub mod slot;
 mod storage;
@@ -13,3 +22,6 @@ pub mod structs;
 mod taken;
 #[cfg(test)]
 mod tests;
+mod types;
+mod unions;
+mod values;

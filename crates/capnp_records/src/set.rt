@@ -1,21 +1,21 @@
 //! Sets of node records that keep the schema rules.
 
-ghost use Rattle.std.specs.Prelude.{◌≡◌, true, map};
+ghost use Rattle.std.specs.Prelude.{◌≡◌, map};
 ghost use Rattle.std.proofs.Props.{props};
 ghost use Rattle.capnp_model.specs.Accepted.{IsAccepted};
 ghost use Rattle.capnp_records.specs.NodeViews.{node_of};
-ghost use Rattle.capnp_records.specs.Taken.{is_taken};
 
 use crate::check::check;
 use crate::fault::SchemaFault;
+use crate::find::{find_place, is_struct};
 use crate::node::{NodeBody, NodeRecord, StructRecord};
 use crate::raw::RawBrandedStructSchema;
+use crate::taken::is_taken_node;
 
 /// Node records that keep the schema rules.
 #[derive(Debug, Drop)]
 pub struct SchemaSet {
     nodes: Vec<NodeRecord>,
-    pub ghost taken: { is_taken (map node_of nodes.items) ≡ true },
     pub ghost accepted: { IsAccepted (map node_of nodes.items) } by { Prim.hlevel props },
 }
 
@@ -23,42 +23,59 @@ impl SchemaSet {
     ghost use Rattle.std.specs.Prelude.{◌≡◌, true, false, map, IfOk, IfErr, IfNone, IfSome};
     ghost use Rattle.capnp_model.specs.Accepted.{IsAccepted, is_struct_node, names_a};
     ghost use Rattle.capnp_records.specs.NodeViews.{node_of};
-    ghost use Rattle.capnp_records.specs.Taken.{is_taken};
     ghost use Rattle.capnp_records.specs.Faults.{IsRefusalOf};
-    ghost use Rattle.capnp_records.specs.Sets.{nodes_of, IsStructOf, IsRecordOf};
+    ghost use Rattle.capnp_records.specs.Sets.{nodes_of, is_plain_struct, IsStructOf, IsPlainStructOf, IsRecordOf};
 
-    /// The set of the nodes, where they are of the kind that is taken so far and keep the rules. The rules are tried by
-    /// number, and the first that is broken is answered.
+    /// The set of the nodes, where they keep the rules. The rules are tried by number, each over the nodes in order, and
+    /// the first that is broken is answered with the place of the first node that breaks it.
     pub fn new(nodes: Vec<NodeRecord>) -> Result<SchemaSet, SchemaFault>
         ensures nodes { IfOk result (λ set. nodes_of set ≡ map node_of nodes.items) }
-        ensures taken { IfOk result (λ set. is_taken (nodes_of set) ≡ true) }
         ensures accepted { IfOk result (λ set. IsAccepted (nodes_of set)) }
         ensures refused { IfErr result (λ fault. IsRefusalOf (map node_of nodes.items) fault) }
     {
-        check(&nodes)?;
+        let alloc = *nodes.allocator();
+        check(alloc, &nodes)?;
         Ok(SchemaSet { nodes })
     }
 
-    /// The struct of an id.
+    /// The struct of an id. A group is none.
     pub fn struct_by_id(&self, id: u64) -> Option<RawBrandedStructSchema>
         ensures missing { IfNone result (names_a is_struct_node (nodes_of self.now) id ≡ false) }
         ensures id { IfSome result (λ raw. raw.id ≡ id) }
         ensures found { IfSome result (IsStructOf (nodes_of self.now)) }
     {
-        match self.nodes.as_slice() {
-            [node] if node.id == id => Some(RawBrandedStructSchema { number: 0, id }),
-            _ => None,
+        let Some((place, node)) = find_place(&self.nodes, id) else {
+            return None;
+        };
+        if !is_struct(node) {
+            return None;
         }
+        let number = place as u64;
+        Some(RawBrandedStructSchema { number, id })
+    }
+
+    /// The struct of an id, where it is plain: it has no annotations, no union and no groups, and its fields are Void, Bool,
+    /// whole numbers or Text whose defaults are zero or absent.
+    pub fn plain_struct_by_id(&self, id: u64) -> Option<RawBrandedStructSchema>
+        ensures missing { IfNone result (names_a is_plain_struct (nodes_of self.now) id ≡ false) }
+        ensures id { IfSome result (λ raw. raw.id ≡ id) }
+        ensures found { IfSome result (IsPlainStructOf (nodes_of self.now)) }
+    {
+        let Some((place, node)) = find_place(&self.nodes, id) else {
+            return None;
+        };
+        if !is_struct(node) || !is_taken_node(node) {
+            return None;
+        }
+        let number = place as u64;
+        Some(RawBrandedStructSchema { number, id })
     }
 
     pub(crate) fn record(&self, raw: RawBrandedStructSchema) -> &StructRecord
-        requires { IsStructOf (nodes_of self.now) raw }
+        requires { IsPlainStructOf (nodes_of self.now) raw }
         ensures { IsRecordOf (nodes_of self.now) raw.id result.now }
     {
-        let [node] = self.nodes.as_slice() else {
-            unreachable!()
-        };
-        let NodeBody::Struct(record) = &node.body else {
+        let NodeBody::Struct(record) = &self.nodes[raw.number as usize].body else {
             unreachable!()
         };
         record

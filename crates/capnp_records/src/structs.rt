@@ -1,18 +1,18 @@
-//! The schema of a struct, as its set has it.
+//! The schema of a plain struct, as its set has it.
 
-ghost use Rattle.capnp_records.specs.Sets.{nodes_of, IsStructOf};
+ghost use Rattle.capnp_records.specs.Sets.{nodes_of, IsPlainStructOf};
 
 use crate::node::StructRecord;
 use crate::raw::RawBrandedStructSchema;
 use crate::set::SchemaSet;
 use crate::slot::{Slot, find};
 
-/// The schema of a struct of a set.
+/// The schema of a plain struct of a set: one without annotations, a union and groups, whose fields are Void, Bool, whole numbers or Text with defaults that are zero or absent.
 #[derive(Clone, Copy, Debug)]
 pub struct StructSchema<'a> {
     set: &'a SchemaSet,
     raw: RawBrandedStructSchema,
-    pub ghost known: { IsStructOf (nodes_of set.now) raw },
+    pub ghost known: { IsPlainStructOf (nodes_of set.now) raw },
 }
 
 impl<'a> StructSchema<'a> {
@@ -21,13 +21,13 @@ impl<'a> StructSchema<'a> {
     ghost use Rattle.capnp_model.specs.Printing.{fields_in};
     ghost use Rattle.capnp_model.specs.Steps.{target_of, no_target, target};
     ghost use Rattle.capnp_model.specs.Accepted.{schema_of};
-    ghost use Rattle.capnp_records.specs.Sets.{nodes_of, IsStructOf, IsRecordOf};
+    ghost use Rattle.capnp_records.specs.Sets.{nodes_of, IsPlainStructOf, IsRecordOf};
     ghost use Rattle.capnp_records.specs.Slots.{body_of_slot, IsInside};
     ghost use Rattle.capnp_records.specs.Structs.{words_in, pointers_in, nodes_around, id_of, shape_of_struct, fields_of_struct};
 
-    /// The schema of the set's struct.
+    /// The schema of the set's plain struct.
     pub fn new(set: &'a SchemaSet, raw: RawBrandedStructSchema) -> StructSchema<'a>
-        requires { IsStructOf (nodes_of set.now) raw }
+        requires { IsPlainStructOf (nodes_of set.now) raw }
         ensures nodes { nodes_around result ≡ nodes_of set.now }
         ensures id { id_of result ≡ raw.id }
     {

@@ -1,4 +1,4 @@
-//! The node records that are taken so far; others are refused before any rule is tried.
+//! Which structs are plain.
 
 ghost use Rattle.std.specs.Prelude.{◌≡◌, map, option_map};
 ghost use Rattle.std.specs.List.{list_all};
@@ -92,7 +92,7 @@ fn is_taken_body(body: &NodeBody) -> bool
     }
 }
 
-/// Whether the node is a struct of the kind that is taken so far.
+/// Whether the node is a plain struct.
 pub(crate) fn is_taken_node(node: &NodeRecord) -> bool
     ensures { result ≡ is_taken_node (node_of node.now) }
 {

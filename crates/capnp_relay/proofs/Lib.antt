@@ -3,3 +3,4 @@ pub mod StepLemmas
 pub mod RunLemmas
 pub mod Whole
 pub mod Opening
+pub mod Sizes

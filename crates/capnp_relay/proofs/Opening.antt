@@ -9,7 +9,7 @@ use Rattle.capnp_records.specs.declared.structs.StructSchema.{StructSchema}
 use Rattle.capnp_calls.specs.declared.call.Call.{Call}
 use Rattle.capnp_calls.specs.RootViews.{struct_from}
 use Rattle.capnp_calls.specs.Taken.{schema_around}
-use Rattle.capnp_relay.specs.Messages.{answer_from, answer_to}
+use Rattle.capnp_relay.specs.Messages.{answer_from, answer_to, IsTooLargeFrom, IsTooLargeAt}
 
 widened_by : (sh : Shape) (t : Tree) → widened_root sh t ≡ widened (words_in sh) (pointers_in sh) t
 widened_by (shape nid words pointers u fs) t = refl
@@ -47,6 +47,20 @@ just-opened root (plain_list size n section) = tt
 just-opened root (pointer_list ts) = tt
 just-opened root (struct_list d k es) = tt
 
+-- what is too large from the struct of a value on is so from the value on
+abbrev LargeFrom : StructSchema → List Call → ℤ → Option Tree → Type 0
+LargeFrom root calls nesting None = ⊥
+LargeFrom root calls nesting (Some e) = IsTooLargeFrom root calls nesting e
+
+large-start : (root : StructSchema) (calls : List Call) (nesting : ℤ) (t : Tree) → LargeFrom root calls nesting (start_of root t) → IsTooLargeAt root calls nesting (Some t)
+unfolding trim opened_root
+large-start root calls nesting null h = subst (IsTooLargeFrom root calls nesting) (sym (opened_by root null)) h
+large-start root calls nesting (structure words section kids) h = subst (IsTooLargeFrom root calls nesting) (sym (opened_by root (structure words section kids))) h
+large-start root calls nesting (capability i) h = h
+large-start root calls nesting (plain_list size n section) h = h
+large-start root calls nesting (pointer_list ts) h = h
+large-start root calls nesting (struct_list d k es) h = h
+
 module _ (root : StructSchema) (calls : List Call) (nesting : ℤ) (w p : ℕ) (t t' : Tree) (words : w ≡ words_in (shape_of_struct root)) (pointers : p ≡ pointers_in (shape_of_struct root)) (same : t' ≡ trim t) where
   started : struct_from w p t' ≡ start_of root t
   started = rw (words, pointers, same) refl
@@ -58,3 +72,6 @@ module _ (root : StructSchema) (calls : List Call) (nesting : ℤ) (w p : ℕ) (
 
   pub opened-none : None ≡ struct_from w p t' → refused_root ≡ answer_to root calls nesting (Some t)
   opened-none h = sym (answer-start root calls nesting t ∙ ap (answer_of root calls nesting) (sym (h ∙ started)))
+
+  pub large-opened : (e : Tree) → Some e ≡ struct_from w p t' → IsTooLargeFrom root calls nesting e → IsTooLargeAt root calls nesting (Some t)
+  large-opened e h large = large-start root calls nesting t (subst (LargeFrom root calls nesting) (h ∙ started) large)

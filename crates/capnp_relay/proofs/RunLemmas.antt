@@ -13,7 +13,8 @@ use Rattle.capnp_stream.proofs.PieceLemmas.{message_more}
 use Rattle.capnp_stream.specs.Streams.{RoomFalls}
 use Rattle.capnp_relay.specs.declared.ends.Counts.{Counts}
 use Rattle.capnp_relay.specs.Answers.{written_one, refused_one}
-use Rattle.capnp_relay.specs.Streams.{Seen, SinkSeen, SinkTakes}
+use Rattle.capnp_relay.specs.Streams.{Streams, SinkSeen, SinkTakes}
+use Rattle.capnp_relay.specs.Work.{Work}
 use Rattle.capnp_relay.specs.Stops.{AnswersOne}
 use Rattle.capnp_relay.specs.Run.{Answered}
 
@@ -69,9 +70,9 @@ SinkTakes-trans a b c bs cs p q = record {
   failures = q.failures ∙ p.failures;
 }
 
-module _ (read : Reader) (fronts : ReadsFronts read) (write : Writer) (limit : Option ℕ) (is_answer : Segments → Answer → Type 0) where
+module _ (w : Work) (fronts : ReadsFronts w.read) where
   -- no message is answered yet
-  pub Answered-nil : (old : Seen) (counts : Counts) → counts.written ≡ 0 → counts.refused ≡ 0 → Answered read write limit is_answer [] [] old old counts
+  pub Answered-nil : (old : Streams) (counts : Counts) → counts.written ≡ 0 → counts.refused ≡ 0 → Answered w [] [] old old counts
   Answered-nil old counts frames refusals = record {
     taken = [];
     begins = refl;
@@ -85,19 +86,19 @@ module _ (read : Reader) (fronts : ReadsFronts read) (write : Writer) (limit : O
   }
 
   -- one more
-  pub Answered-more : (messages : List Segments) (answers : List Answer) (old mid new : Seen) (before after : Counts) (n : ℕ) → length answers + 1 ≡ n
-      → Answered read write limit is_answer messages answers old mid before → (one : AnswersOne read write limit is_answer n mid new before after)
-      → Answered read write limit is_answer (messages ++ one.0 ∷ []) (answers ++ one.1 ∷ []) old new after
+  pub Answered-more : (messages : List Segments) (answers : List Answer) (old mid new : Streams) (before after : Counts) (n : ℕ) → length answers + 1 ≡ n
+      → Answered w messages answers old mid before → (one : AnswersOne w n mid new before after)
+      → Answered w (messages ++ one.0 ∷ []) (answers ++ one.1 ∷ []) old new after
   Answered-more messages answers old mid new before after n number run one =
       let s = one.0 in
       let a = one.1 in
       let text = one.2.0 in
       let line : SinkTakes mid.log new.log (line_of (length answers + 1) a) = (let P : ℕ → Type 0 = λ k. SinkTakes mid.log new.log (line_of k a) in subst P (sym number) one.5) in record {
         taken = run.taken ++ text;
-        begins = BeginWith-next read limit (run.taken ++ text) messages text [] s (BeginWith-more read fronts limit run.taken messages [] text run.begins) one.2.1;
+        begins = BeginWith-next w.read w.limit (run.taken ++ text) messages text [] s (BeginWith-more w.read fronts w.limit run.taken messages [] text run.begins) one.2.1;
         consumed = Consumes-trans _ _ _ _ _ run.consumed one.2.2;
-        answered = AnswerEach-more is_answer messages answers s a run.answered one.3;
-        out = subst (SinkTakes old.out new.out) (sym (outputs_of-more write answers a)) (SinkTakes-trans old.out mid.out new.out _ _ run.out one.4);
+        answered = AnswerEach-more w.is_answer messages answers s a run.answered one.3;
+        out = subst (SinkTakes old.out new.out) (sym (outputs_of-more w.write answers a)) (SinkTakes-trans old.out mid.out new.out _ _ run.out one.4);
         log = subst (SinkTakes old.log new.log) (sym (lines_of-more 1 answers a)) (SinkTakes-trans old.log mid.log new.log _ _ run.log line);
         written = let more = sum_by-append written_one answers (a ∷ []) in omega (arith, more, run.written, one.6.written);
         refused = let more = sum_by-append refused_one answers (a ∷ []) in omega (arith, more, run.refused, one.6.refused);

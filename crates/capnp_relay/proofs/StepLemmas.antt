@@ -1,7 +1,6 @@
 -- From the calls of one step to what it did.
 use Rattle.std.proofs.Common.{◌≡◌, ◌≢◌, ℕ, ◌+◌, ◌-◌, ◌^◌, List, arith, length, inl, inr, refl, sym, subst}
 use Rattle.std.specs.Prelude.{◌⊎◌}
-use Rattle.std.specs.declared.option.Option.{Option}
 use Rattle.capnp_units.specs.declared.kinds.ErrorKind.{ErrorKind}
 use Rattle.capnp_units.specs.declared.kinds.ErrorKind.TheVariants.{OutOfMemory, BufferNotLargeEnough, Device}
 use Rattle.capnp_stream.specs.Counting.{KindCounts}
@@ -9,7 +8,7 @@ use Rattle.capnp_stream.specs.Streams.{IsWriteRefusal}
 use Rattle.capnp_stream.specs.Frames.{TakesMessage}
 use Rattle.capnp_stream.proofs.FrameLemmas.{TakesPart-of_message}
 use Rattle.capnp_model.specs.Segments.{Segments}
-use Rattle.capnp_model.specs.Messages.{Reader, Writer, spelled}
+use Rattle.capnp_model.specs.Messages.{spelled}
 use Rattle.capnp_stream.specs.Pieces.{ReadsFronts}
 use Rattle.capnp_model.specs.Answers.{Answer, Reply, written}
 use Rattle.capnp_model.specs.Runs.{line_of, output_of}
@@ -17,7 +16,8 @@ use Rattle.capnp_relay.specs.declared.ends.Counts.{Counts}
 use Rattle.capnp_relay.specs.Answers.{written_one}
 use Rattle.capnp_relay.specs.declared.ends.Fault.{Fault}
 use Rattle.capnp_relay.specs.declared.ends.Fault.TheVariants as faults
-use Rattle.capnp_relay.specs.Streams.{Seen, SinkSeen, SinkStays, SinkTakes, SinkTakesPart, SinkFails}
+use Rattle.capnp_relay.specs.Streams.{Streams, SinkSeen, SinkStays, SinkTakes, SinkTakesPart, SinkFails}
+use Rattle.capnp_relay.specs.Work.{Work}
 use Rattle.capnp_relay.specs.Stops.{SinkRefused, Stops}
 
 -- a refused write is told as the sink's own fault, or as want of memory
@@ -31,40 +31,39 @@ SinkRefused-of_write own grows fault old new bytes n BufferNotLargeEnough size p
     (part, inl (other (λ e. absurd cc), inr (subst P (sym size) refusal)))
 SinkRefused-of_write own grows fault old new bytes n _ size part refusal counts memory other = absurd refusal
 
-module _ (read : Reader) (fronts : ReadsFronts read) (write : Writer) (limit : Option ℕ) (is_answer : Segments → Answer → Type 0) (passes_size : Segments → Type 0) (out_grows log_grows : Type 0)
-    (n : ℕ) (old new : Seen) (before after : Counts) (s : Segments) (taken : TakesMessage read limit old.source.remaining new.source.remaining s)
+module _ (w : Work) (fronts : ReadsFronts w.read) (n : ℕ) (old new : Streams) (before after : Counts) (s : Segments) (taken : TakesMessage w.read w.limit old.source.remaining new.source.remaining s)
     (same : new.source.failures ≡ old.source.failures) where
   abbrev End : Fault → Type 0
-  End f = Stops read write limit is_answer passes_size out_grows log_grows n f old new before after
+  End f = Stops w n f old new before after
 
   -- nothing was written
-  pub Stops-of_want : (f : Fault) → (f ≡ faults.Memory) ⊎ (f ≡ faults.Size) → (f ≡ faults.Size → (n ≡ 2 ^ 64) ⊎ passes_size s)
-      → SinkStays old.out new.out → SinkStays old.log new.log → after ≡ before → Stops read write limit is_answer passes_size out_grows log_grows n f old new before after
+  pub Stops-of_want : (f : Fault) → (f ≡ faults.Memory) ⊎ (f ≡ faults.Size) → (f ≡ faults.Size → (n ≡ 2 ^ 64) ⊎ w.is_too_large s)
+      → SinkStays old.out new.out → SinkStays old.log new.log → after ≡ before → Stops w n f old new before after
   Stops-of_want f (inl e) size out log counts =
-      subst End (sym e) (same, out.1, log.1, inl (TakesPart-of_message read fronts limit _ _ s taken, out, log, counts))
+      subst End (sym e) (same, out.1, log.1, inl (TakesPart-of_message w.read fronts w.limit _ _ s taken, out, log, counts))
   Stops-of_want f (inr e) size out log counts =
-      subst End (sym e) ((TakesPart-of_message read fronts limit _ _ s taken, out, log, counts), same, too_large (size e))
+      subst End (sym e) ((TakesPart-of_message w.read fronts w.limit _ _ s taken, out, log, counts), same, too_large (size e))
     where
-      too_large : (n ≡ 2 ^ 64) ⊎ passes_size s → (n ≡ 2 ^ 64) ⊎ ((m : Segments) × TakesMessage read limit old.source.remaining new.source.remaining m × passes_size m)
+      too_large : (n ≡ 2 ^ 64) ⊎ w.is_too_large s → (n ≡ 2 ^ 64) ⊎ ((m : Segments) × TakesMessage w.read w.limit old.source.remaining new.source.remaining m × w.is_too_large m)
       too_large (inl many) = inl many
       too_large (inr large) = inr (s, taken, large)
 
   -- a beginning of a frame was written
-  pub Stops-of_out : (f : Fault) (segments : Segments) (replies : List Reply) → is_answer s (written segments replies)
-      → SinkRefused faults.Out out_grows f old.out new.out (spelled write segments) → SinkStays old.log new.log → after ≡ before → Stops read write limit is_answer passes_size out_grows log_grows n f old new before after
+  pub Stops-of_out : (f : Fault) (segments : Segments) (replies : List Reply) → w.is_answer s (written segments replies)
+      → SinkRefused faults.Out w.out_grows f old.out new.out (spelled w.write segments) → SinkStays old.log new.log → after ≡ before → Stops w n f old new before after
   Stops-of_out f segments replies answers refused log counts = by_cause refused.1
     where
-      by_cause : ((f ≡ faults.Out) × SinkFails old.out new.out (spelled write segments)) ⊎ ((f ≡ faults.Memory) × out_grows × (new.out.failures ≡ old.out.failures)) → End f
+      by_cause : ((f ≡ faults.Out) × SinkFails old.out new.out (spelled w.write segments)) ⊎ ((f ≡ faults.Memory) × w.out_grows × (new.out.failures ≡ old.out.failures)) → End f
       by_cause (inl cause) = subst End (sym cause.0) ((s, segments, replies, taken, answers, refused.0, log, counts, cause.1), same)
       by_cause (inr cause) = subst End (sym cause.0) (same, cause.2, log.1, inr (inl (cause.1, (s, segments, replies, taken, answers, refused.0, log, counts, tt))))
 
   -- a beginning of a line was written
-  pub Stops-of_log : (f : Fault) (a : Answer) → is_answer s a → SinkTakes old.out new.out (output_of write a)
-      → SinkRefused faults.Log log_grows f old.log new.log (line_of n a) → after.written ≡ before.written + written_one a → after.refused ≡ before.refused
-      → Stops read write limit is_answer passes_size out_grows log_grows n f old new before after
+  pub Stops-of_log : (f : Fault) (a : Answer) → w.is_answer s a → SinkTakes old.out new.out (output_of w.write a)
+      → SinkRefused faults.Log w.log_grows f old.log new.log (line_of n a) → after.written ≡ before.written + written_one a → after.refused ≡ before.refused
+      → Stops w n f old new before after
   Stops-of_log f a answers out refused frames refusals = by_cause refused.1
     where
-      by_cause : ((f ≡ faults.Log) × SinkFails old.log new.log (line_of n a)) ⊎ ((f ≡ faults.Memory) × log_grows × (new.log.failures ≡ old.log.failures)) → End f
+      by_cause : ((f ≡ faults.Log) × SinkFails old.log new.log (line_of n a)) ⊎ ((f ≡ faults.Memory) × w.log_grows × (new.log.failures ≡ old.log.failures)) → End f
       by_cause (inl cause) = subst End (sym cause.0) ((s, a, taken, answers, out, refused.0, frames, refusals, cause.1), same)
       by_cause (inr cause) = subst End (sym cause.0) (same, out.failures, cause.2, inr (inr (cause.1, (s, a, taken, answers, out, refused.0, frames, refusals, tt))))
 

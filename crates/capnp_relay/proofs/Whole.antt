@@ -6,16 +6,19 @@ use Rattle.std.proofs.KnownBytes.{Appends-kept}
 use Rattle.capnp_units.specs.Errors.{kind_of}
 use Rattle.capnp_units.specs.declared.kinds.ErrorKind.{ErrorKind}
 use Rattle.capnp_model.specs.Segments.{Segments}
-use Rattle.capnp_model.specs.Messages.{Reader, Writer}
+use Rattle.capnp_model.specs.Packing.{unpacked}
+use Rattle.capnp_model.specs.Messages.{Reader, plain_words}
 use Rattle.capnp_stream.specs.Pieces.{ReadsFronts}
-use Rattle.capnp_model.specs.Answers.{Answer}
 use Rattle.capnp_model.specs.Runs.{BeginWith, finished, broken}
 use Rattle.capnp_stream.specs.Frames.{IsFrameFault}
 use Rattle.capnp_relay.specs.declared.ends.Counts.{Counts}
-use Rattle.capnp_relay.specs.declared.ends.Fault.{Fault}
 use Rattle.capnp_relay.specs.declared.ends.Fault.TheVariants as faults
-use Rattle.capnp_relay.specs.Streams.{Seen}
-use Rattle.capnp_relay.specs.Run.{RunsOut, RunStops, GoesTo, IfFraming}
+use Rattle.capnp_relay.specs.declared.options.Form.{Form}
+use Rattle.capnp_relay.specs.declared.options.Form.TheVariants as form
+use Rattle.capnp_relay.specs.Options.{reader_of}
+use Rattle.capnp_relay.specs.Work.{Work}
+use Rattle.capnp_relay.specs.Streams.{Streams}
+use Rattle.capnp_relay.specs.Run.{RunsOut, RunStops, GoesTo}
 use Rattle.capnp_relay.proofs.RunLemmas.{BeginWith-more}
 
 IfSome-weaker : (o : Option (List ℕ)) (P Q : List ℕ → Type 0) → ((xs : List ℕ) → P xs → Q xs) → IfSome o P → IfSome o Q
@@ -32,8 +35,8 @@ begins_whole read fronts limit bytes taken rest messages split begins =
     let P : List ℕ → Type 0 = λ l. BeginWith read limit l messages rest in
     subst P (sym split) (BeginWith-more read fronts limit taken messages [] rest begins)
 
-module _ (read : Reader) (fronts : ReadsFronts read) (write : Writer) (limit : Option ℕ) (is_answer : Segments → Answer → Type 0) (old new : Seen) (counts : Counts) where
-  pub GoesTo-of_all : RunsOut read write limit is_answer old new counts → IfSome old.source.remaining (GoesTo read write limit is_answer old new finished)
+module _ (w : Work) (fronts : ReadsFronts w.read) (old new : Streams) (counts : Counts) where
+  pub GoesTo-of_all : RunsOut w old new counts → IfSome old.source.remaining (GoesTo w old new finished)
   GoesTo-of_all all =
       let last = all.2 in
       let run = all.3 in
@@ -44,7 +47,7 @@ module _ (read : Reader) (fronts : ReadsFronts read) (write : Writer) (limit : O
           messages = all.0;
           answers = all.1;
           rest = known.0;
-          begins = begins_whole read fronts limit bytes run.taken known.0 all.0 known.2 run.begins;
+          begins = begins_whole w.read fronts w.limit bytes run.taken known.0 all.0 known.2 run.begins;
           answered = run.answered;
           writes = refl;
           logs = refl;
@@ -54,32 +57,30 @@ module _ (read : Reader) (fronts : ReadsFronts read) (write : Writer) (limit : O
         Appends-kept _ _ _ _ run.log.appends all.7.0,
       )) (rest_of old.source.remaining last.source.remaining run.taken run.consumed)
 
-  module _ (passes_size : Segments → Type 0) (out_grows log_grows : Type 0) where
-    pub GoesTo-of_framing : (kind : ErrorKind) → RunStops read write limit is_answer passes_size out_grows log_grows (faults.Framing kind) old new counts
-        → IfSome old.source.remaining (GoesTo read write limit is_answer old new (broken (kind_of kind)))
-    GoesTo-of_framing kind stops =
-        let last = stops.2 in
-        let run = stops.4 in
-        let stop = stops.5.0 in
-        let refused = stops.5.3 in
-        IfSome-weaker old.source.remaining _ _ (λ bytes known. (
-          _,
-          _,
-          record {
-            messages = stops.0;
-            answers = stops.1;
-            rest = known.0;
-            begins = begins_whole read fronts limit bytes run.taken known.0 stops.0 known.2 run.begins;
-            answered = run.answered;
-            writes = refl;
-            logs = refl;
-            ends = let P : Option (List ℕ) → Type 0 = λ o. IfSome o (λ xs. (xs ≡ [] → ⊥) × IsFrameFault read limit xs kind) in subst P known.1 refused;
-          },
-          Appends-kept _ _ _ _ run.out.appends stop.1.0,
-          Appends-kept _ _ _ _ run.log.appends stop.2.0,
-        )) (rest_of old.source.remaining last.source.remaining run.taken run.consumed)
+  pub GoesTo-of_framing : (kind : ErrorKind) → RunStops w (faults.Framing kind) old new counts → IfSome old.source.remaining (GoesTo w old new (broken (kind_of kind)))
+  GoesTo-of_framing kind stops =
+      let last = stops.2 in
+      let run = stops.4 in
+      let stop = stops.5.0 in
+      let refused = stops.5.3 in
+      IfSome-weaker old.source.remaining _ _ (λ bytes known. (
+        _,
+        _,
+        record {
+          messages = stops.0;
+          answers = stops.1;
+          rest = known.0;
+          begins = begins_whole w.read fronts w.limit bytes run.taken known.0 stops.0 known.2 run.begins;
+          answered = run.answered;
+          writes = refl;
+          logs = refl;
+          ends = let P : Option (List ℕ) → Type 0 = λ o. IfSome o (λ xs. (xs ≡ [] → ⊥) × IsFrameFault w.read w.limit xs kind) in subst P known.1 refused;
+        },
+        Appends-kept _ _ _ _ run.out.appends stop.1.0,
+        Appends-kept _ _ _ _ run.log.appends stop.2.0,
+      )) (rest_of old.source.remaining last.source.remaining run.taken run.consumed)
 
-    pub GoesTo-of_fault : (f : Fault) → RunStops read write limit is_answer passes_size out_grows log_grows f old new counts
-        → IfFraming f (λ kind. IfSome old.source.remaining (GoesTo read write limit is_answer old new (broken (kind_of kind))))
-    GoesTo-of_fault (faults.Framing kind) stops = GoesTo-of_framing kind stops
-    GoesTo-of_fault _ stops = tt
+-- each form is read from the front
+pub fronts_of : ReadsFronts plain_words → ReadsFronts unpacked → (f : Form) → ReadsFronts (reader_of f)
+fronts_of framed packed form.Framed = framed
+fronts_of framed packed form.Packed = packed

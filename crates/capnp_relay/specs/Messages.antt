@@ -1,18 +1,15 @@
--- The answer of calls to a message, and the sizes that would pass their bounds on the way.
-use Rattle.std.specs.Prelude.{◌≡◌, ℤ, ◌^◌, ◌≤◌, ◌⊎◌, Option, Some, List, length, map}
-use Rattle.capnp_units.specs.declared.kinds.ErrorKind.TheVariants as kind
+-- The answer of calls to a message, and the messages that they make too large.
+use Rattle.std.specs.Prelude.{ℤ, pos, ◌^◌, ◌≤◌, ◌⊎◌, Option, Some, None, List, Any, length, map}
 use Rattle.capnp_model.specs.Segments.{Segments}
-use Rattle.capnp_model.specs.Trees.{Tree}
-use Rattle.capnp_model.specs.Trimming.{trim}
-use Rattle.capnp_model.specs.Encoding.{canonical_words}
-use Rattle.capnp_model.specs.Answers.{Answer, answer_struct, answer_value, opened_root, value_within, IsAnswer}
+use Rattle.capnp_model.specs.Trees.{Tree, null, structure}
+use Rattle.capnp_model.specs.Answers.{Answer, written, answer_struct, answer_value, opened_root, value_within, IsAnswer}
 use Rattle.capnp_records.specs.Structs.{id_of}
 use Rattle.capnp_records.specs.declared.structs.StructSchema.{StructSchema}
 use Rattle.capnp_calls.specs.declared.call.Call.{Call}
 use Rattle.capnp_calls.specs.CallViews.{call_view}
 use Rattle.capnp_calls.specs.Texts.{as_it_is}
-use Rattle.capnp_calls.specs.Changes.{EndsRun}
-use Rattle.capnp_calls.specs.Taken.{taken_call, schema_around, tree_after_all}
+use Rattle.capnp_calls.specs.Ends.{PutsLongInTurn}
+use Rattle.capnp_calls.specs.Taken.{taken_call, schema_around}
 use Rattle.capnp_value.specs.Reads.{limits_view}
 use Rattle.capnp_value.specs.declared.value.read.Bounds.{Bounds}
 use Rattle.capnp_relay.specs.declared.message.CallsAtRoot.{CallsAtRoot}
@@ -33,18 +30,26 @@ IsAnswerBy root calls bounds s a = IsAnswer (schema_around root) as_it_is (id_of
 abbrev pub IsAnswerOf : CallsAtRoot → Segments → Answer → Type 0
 IsAnswerOf c s a = IsAnswerBy c.schema c.calls.now c.bounds s a
 
--- A text that a call sets is too long, or the canonical segment after the calls would be.
-abbrev pub IsLongAfter : StructSchema → List Call → Tree → Type 0
-IsLongAfter root calls t = EndsRun calls kind.SizeOverflow ⊎ (2 ^ 29 ≤ length (canonical_words (trim (tree_after_all root (map call_view calls) t))))
+-- What is written has a segment of 2^29 words or more.
+abbrev pub WritesLong : Answer → Type 0
+WritesLong (written segments replies) = Any (λ words. 2 ^ 29 ≤ length words) segments
+WritesLong _ = ⊥
 
--- The calls at a value make what is too long.
-abbrev pub IsLongAt : StructSchema → List Call → Option Tree → Type 0
-IsLongAt root calls value = (t : Tree) × (value ≡ Some t) × IsLongAfter root calls (opened_root (schema_around root) (id_of root) t)
+-- A call puts a list that is too long, or what is written would be too long: from this struct on.
+abbrev pub IsTooLargeFrom : StructSchema → List Call → ℤ → Tree → Type 0
+IsTooLargeFrom root calls nesting t = PutsLongInTurn root (map call_view calls) t ⊎ WritesLong (answer_from root calls nesting t)
 
--- A size would pass its bound on the way to the answer.
-abbrev pub PassesSizeBy : StructSchema → List Call → Bounds → Segments → Type 0
-PassesSizeBy root calls bounds s = IsLongAt root calls (value_within (limits_view bounds) s)
+-- The same from a value on; a message without a value and one whose root is a list is never too large.
+abbrev pub IsTooLargeAt : StructSchema → List Call → ℤ → Option Tree → Type 0
+IsTooLargeAt root calls nesting None = ⊥
+IsTooLargeAt root calls nesting (Some null) = IsTooLargeFrom root calls nesting (opened_root (schema_around root) (id_of root) null)
+IsTooLargeAt root calls nesting (Some (structure words section kids)) = IsTooLargeFrom root calls nesting (opened_root (schema_around root) (id_of root) (structure words section kids))
+IsTooLargeAt root calls nesting (Some _) = ⊥
 
--- The same of the calls at a root.
-abbrev pub PassesSize : CallsAtRoot → Segments → Type 0
-PassesSize c s = PassesSizeBy c.schema c.calls.now c.bounds s
+-- The same of a message.
+abbrev pub IsTooLargeBy : StructSchema → List Call → Bounds → Segments → Type 0
+IsTooLargeBy root calls bounds s = IsTooLargeAt root calls (pos bounds.nesting) (value_within (limits_view bounds) s)
+
+-- The same by the calls at a root.
+abbrev pub IsTooLarge : CallsAtRoot → Segments → Type 0
+IsTooLarge c s = IsTooLargeBy c.schema c.calls.now c.bounds s

@@ -16,8 +16,8 @@ pub record SinkSeen : Type 0 where
   pub failures : ℕ
   pub room : Option ℕ
 
--- What is seen of all three.
-pub record Seen : Type 0 where
+-- What is seen of the source, the output and the log.
+pub record Streams : Type 0 where
   pub source : SourceSeen
   pub out : SinkSeen
   pub log : SinkSeen
@@ -30,9 +30,9 @@ source_seen remaining failures s = record { remaining = remaining s; failures = 
 abbrev pub sink_seen : {S : Type 0} → (S → Option (List ℕ)) → (S → ℕ) → (S → Option ℕ) → S → SinkSeen
 sink_seen contents failures room s = record { contents = contents s; failures = failures s; room = room s }
 
--- What is seen of the three streams.
-abbrev pub seen : SourceSeen → SinkSeen → SinkSeen → Seen
-seen source out log = record { source = source; out = out; log = log }
+-- What is seen of the three.
+abbrev pub streams : SourceSeen → SinkSeen → SinkSeen → Streams
+streams source out log = record { source = source; out = out; log = log }
 
 -- A source stays as it was.
 abbrev pub SourceStays : SourceSeen → SourceSeen → Type 0

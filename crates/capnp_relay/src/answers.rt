@@ -57,11 +57,11 @@ pub(crate) trait Answers {
     /// Whether this is an answer to the message of these segments.
     ghost is_answer: { Self → Segments → Answer → Type 0 };
 
-    /// Whether a size met on the way to an answer would pass its bound.
-    ghost passes_size: { Self → Segments → Type 0 };
+    /// Whether the message is too large to be answered.
+    ghost is_too_large: { Self → Segments → Type 0 };
 
     fn answer(&self, alloc: Global, message: &OwnedSegments) -> Result<MessageAnswer, Want>
         ensures value { IfOk result (λ a. is_answer self.now (segments_of message.now) (answer_view a)) }
-        ensures size { result ≡ Err Want.Size → passes_size self.now (segments_of message.now) }
+        ensures size { result ≡ Err Want.Size → is_too_large self.now (segments_of message.now) }
         ensures writable { IfOk result (λ a. HasFewWords (answer_view a)) };
 }

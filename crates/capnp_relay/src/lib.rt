@@ -3,6 +3,7 @@
 
 mod answers;
 pub mod ends;
+pub mod laws;
 mod logging;
 mod message;
 pub mod options;

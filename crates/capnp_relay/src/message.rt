@@ -6,7 +6,7 @@ ghost use Rattle.capnp_records.specs.Structs.{words_in, pointers_in, shape_of_st
 ghost use Rattle.capnp_value.specs.Values.{tree_of_value};
 ghost use Rattle.capnp_calls.specs.RootViews.{struct_tree};
 ghost use Rattle.capnp_relay.specs.Answers.{answer_view, HasFewWords};
-ghost use Rattle.capnp_relay.specs.Messages.{answer_from, answer_to, IsAnswerOf, IsLongAfter, IsLongAt, PassesSize};
+ghost use Rattle.capnp_relay.specs.Messages.{answer_from, answer_to, IsAnswerOf, IsTooLargeFrom, IsTooLargeAt, IsTooLarge};
 
 use crate::answers::{Answers, MessageAnswer, Reason, Want};
 use capnp_calls::Call;
@@ -45,21 +45,21 @@ fn answer_struct(
     requires fits { Fits (struct_tree root) }
     ensures answer { IfOk result (λ a. answer_view a ≡ answer_from schema.entry calls.now (pos nesting) (struct_tree root)) }
     ensures few { IfOk result (λ a. HasFewWords (answer_view a)) }
-    ensures size { result ≡ Err Want.Size → IsLongAfter schema.entry calls.now (struct_tree root) }
+    ensures size { result ≡ Err Want.Size → IsTooLargeFrom schema.entry calls.now (pos nesting) (struct_tree root) }
 {
     let replies = match run(alloc, Builder::new(schema, &mut root), calls) {
         Ok(replies) => replies,
         Err(e) => return Err(want_of(e)),
     };
-    let mut value = close_struct(root);
-    if !is_within(&value, nesting) {
+    let mut edited = close_struct(root);
+    if !is_within(&edited, nesting) {
         return Ok(MessageAnswer::Refused(Reason::Depth));
     }
-    trim_whole(&mut value);
-    if !is_short(&value) {
+    trim_whole(&mut edited);
+    if !is_short(&edited) {
         return Err(Want::Size);
     }
-    match canonical(alloc, &value) {
+    match canonical(alloc, &edited) {
         Ok(words) => Ok(MessageAnswer::Written { words, replies }),
         Err(_) => Err(Want::Memory),
     }
@@ -76,7 +76,7 @@ fn answer_value(
     requires fits { IfSome value (λ v. Fits (tree_of_value v)) }
     ensures answer { IfOk result (λ a. answer_view a ≡ answer_to schema.entry calls.now (pos nesting) (option_map tree_of_value value)) }
     ensures few { IfOk result (λ a. HasFewWords (answer_view a)) }
-    ensures size { result ≡ Err Want.Size → IsLongAt schema.entry calls.now (option_map tree_of_value value) }
+    ensures size { result ≡ Err Want.Size → IsTooLargeAt schema.entry calls.now (pos nesting) (option_map tree_of_value value) }
 {
     let Some(mut value) = value else {
         return Ok(MessageAnswer::Refused(Reason::Value));
@@ -100,7 +100,7 @@ pub(crate) struct CallsAtRoot<'a> {
 impl<'a> Answers for CallsAtRoot<'a> {
     ghost is_answer = { IsAnswerOf };
 
-    ghost passes_size = { PassesSize };
+    ghost is_too_large = { IsTooLarge };
 
     fn answer(&self, alloc: Global, message: &OwnedSegments) -> Result<MessageAnswer, Want> {
         match read_value(alloc, message, self.bounds) {

@@ -8,7 +8,8 @@ ghost use Rattle.capnp_model.specs.Answers.{Reply as ModelReply, written};
 ghost use Rattle.capnp_model.specs.Runs.{line_of, output_of};
 ghost use Rattle.capnp_stream.specs.Segments.{whole_words, segments_of};
 ghost use Rattle.capnp_relay.specs.Answers.{answer_view, HasFewWords, HoldsSegment, written_one, refused_one};
-ghost use Rattle.capnp_relay.specs.Streams.{SourceStays, SinkStays, SinkTakes, source_seen, sink_seen, seen};
+ghost use Rattle.capnp_relay.specs.Streams.{SourceStays, SinkStays, SinkTakes, source_seen, sink_seen, streams};
+ghost use Rattle.capnp_relay.specs.Work.{work};
 ghost use Rattle.capnp_relay.specs.Stops.{AnswersOne, Stops, SinkRefused};
 
 use crate::answers::{Answers, MessageAnswer, Want};
@@ -65,7 +66,7 @@ fn prepare<A: Answers>(
     ensures segment { IfOk result (λ p. HoldsSegment (answer_view p.answer) p.segment.items) }
     ensures line { IfOk result (λ p. p.line.items ≡ line_of (answered + 1) (answer_view p.answer)) }
     ensures err { IfErr result (λ f. (f ≡ Fault.Memory) ⊎ (f ≡ Fault.Size)) }
-    ensures size { result ≡ Err Fault.Size → (answered ≡ 2 ^ 64 - 1) ⊎ A.passes_size answers.now (segments_of message.now) }
+    ensures size { result ≡ Err Fault.Size → (answered ≡ 2 ^ 64 - 1) ⊎ A.is_too_large answers.now (segments_of message.now) }
 {
     if answered == u64::MAX {
         return Err(Fault::Size);
@@ -182,15 +183,18 @@ pub(crate) fn step<I: MessageForm, O: MessageForm, R: BufRead, W: Write, L: Writ
         × SinkStays (sink_seen W.contents W.failures W.room out.old) (sink_seen W.contents W.failures W.room out.new)
         × SinkStays (sink_seen L.contents L.failures L.room log.old) (sink_seen L.contents L.failures L.room log.new)
         × (counts.new ≡ counts.old) }
-    ensures one { result ≡ Ok true → (answered < 2 ^ 64 - 1)
-        × AnswersOne I.reader O.writer (Some limit) (A.is_answer answers.now) (answered + 1)
-        (seen (source_seen R.remaining R.failures source.old) (sink_seen W.contents W.failures W.room out.old) (sink_seen L.contents L.failures L.room log.old))
-        (seen (source_seen R.remaining R.failures source.new) (sink_seen W.contents W.failures W.room out.new) (sink_seen L.contents L.failures L.room log.new))
-        counts.old counts.new }
-    ensures fault { IfErr result (λ f. Stops I.reader O.writer (Some limit) (A.is_answer answers.now) (A.passes_size answers.now) W.may_grow L.may_grow (answered + 1) f
-        (seen (source_seen R.remaining R.failures source.old) (sink_seen W.contents W.failures W.room out.old) (sink_seen L.contents L.failures L.room log.old))
-        (seen (source_seen R.remaining R.failures source.new) (sink_seen W.contents W.failures W.room out.new) (sink_seen L.contents L.failures L.room log.new))
-        counts.old counts.new) }
+    ensures one { result ≡ Ok true → (answered < 2 ^ 64 - 1) × AnswersOne (work I.reader O.writer (Some limit)
+        (A.is_answer answers.now) (A.is_too_large answers.now) W.may_grow L.may_grow) (answered + 1)
+        (streams (source_seen R.remaining R.failures source.old)
+        (sink_seen W.contents W.failures W.room out.old) (sink_seen L.contents L.failures L.room log.old))
+        (streams (source_seen R.remaining R.failures source.new)
+        (sink_seen W.contents W.failures W.room out.new) (sink_seen L.contents L.failures L.room log.new)) counts.old counts.new }
+    ensures fault { IfErr result (λ f. Stops (work I.reader O.writer (Some limit)
+        (A.is_answer answers.now) (A.is_too_large answers.now) W.may_grow L.may_grow) (answered + 1) f
+        (streams (source_seen R.remaining R.failures source.old)
+        (sink_seen W.contents W.failures W.room out.old) (sink_seen L.contents L.failures L.room log.old))
+        (streams (source_seen R.remaining R.failures source.new)
+        (sink_seen W.contents W.failures W.room out.new) (sink_seen L.contents L.failures L.room log.new)) counts.old counts.new) }
 {
     let message = match try_read_message_in::<I, R>(alloc, source, Some(limit)) {
         Ok(Some(message)) => message,

@@ -5,7 +5,7 @@ ghost use Rattle.capnp_units.specs.declared.kinds.ErrorKind.{ErrorKind};
 use crate::answers::{Answers, MessageAnswer, Reason, Want};
 use crate::ends::{Counts, Fault, RelayFault};
 use crate::logging::log_line;
-use crate::run::run_messages;
+use crate::run::answer_all;
 use capnp_calls::reply::Reply;
 use capnp_stream::forms::Framed;
 use capnp_stream::segments::OwnedSegments;
@@ -150,7 +150,7 @@ struct Echo;
 impl Answers for Echo {
     ghost is_answer = { λ _ _ _. ⊤ };
 
-    ghost passes_size = { λ _ _. ⊤ };
+    ghost is_too_large = { λ _ _. ⊤ };
 
     fn answer(
         &self,
@@ -178,7 +178,7 @@ struct Wanting(Want);
 impl Answers for Wanting {
     ghost is_answer = { λ _ _ _. ⊤ };
 
-    ghost passes_size = { λ _ _. ⊤ };
+    ghost is_too_large = { λ _ _. ⊤ };
 
     fn answer(
         &self,
@@ -204,7 +204,7 @@ fn run_framed<R: BufRead, W: Write, L: Write, A: Answers>(
     answers: &A,
     limit: usize,
 ) -> std::result::Result<Counts, RelayFault> {
-    run_messages::<Framed, Framed, R, W, L, A>(alloc, source, out, log, answers, limit)
+    answer_all::<Framed, Framed, R, W, L, A>(alloc, source, out, log, answers, limit)
 }
 
 /// Why the run over these bytes ends, and what it counted.

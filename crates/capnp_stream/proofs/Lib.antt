@@ -1,9 +1,13 @@
 pub mod Filling
 pub mod KnownLemmas
 pub mod WordLemmas
+pub mod EarlyLemmas
 pub mod PieceLemmas
 pub mod FrameLemmas
 pub mod SpellLemmas
 pub mod WriteLemmas
+pub mod WritesLemmas
 pub mod FlatLemmas
+pub mod TableLemmas
+pub mod ReadLemmas
 pub mod BufferLemmas

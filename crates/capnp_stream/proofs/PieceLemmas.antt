@@ -1,5 +1,5 @@
 -- Pieces of messages.
-use Rattle.std.proofs.Common.{◌≡◌, ◌⊎◌, inl, inr, ℕ, ◌+◌, ◌*◌, ◌/◌, ◌%◌, ◌<◌, ltb, leb, List, [], ◌∷◌, ◌++◌, Bool, true, false, Ok, Err, Result, length, take, sum, refl, sym, ap, subst, ◌∙◌, arith}
+use Rattle.std.proofs.Common.{◌≡◌, ◌⊎◌, inl, inr, ℕ, ◌+◌, ◌*◌, ◌/◌, ◌%◌, ◌<◌, ◌≤◌, ltb, leb, List, [], ◌∷◌, ◌++◌, Bool, true, false, Ok, Err, Result, length, take, sum, length-take-le, refl, sym, ap, subst, ◌∙◌, arith}
 use Rattle.std.specs.Int.{from_le_bytes, w64}
 use Rattle.std.specs.declared.option.Option.{Option}
 use Rattle.std.specs.Io.KnownBytes.{Consumes}
@@ -15,8 +15,9 @@ use Rattle.capnp_model.specs.Messages.{Reader, within, plain_words, halves, behi
 use Rattle.capnp_model.proofs.Chaining.{ok_is, ok_then, bind_ok}
 use Rattle.capnp_model.proofs.ByteWords.{taken_front}
 use Rattle.capnp_stream.specs.Streams.{ConsumesFewer, EndsBefore}
-use Rattle.capnp_stream.specs.Pieces.{ReadsFronts, TakesPiece, TakesPieceStart, IsPieceFault}
+use Rattle.capnp_stream.specs.Pieces.{IsEarlyEnd, EndsEarly, EachIsNeeded, ReadsFronts, TakesPiece, TakesPieceStart, IsPieceFault}
 use Rattle.capnp_stream.specs.Frames.{IsCut}
+use Rattle.capnp_stream.proofs.EarlyLemmas.{EndsEarly-of}
 use Rattle.capnp_stream.specs.Segments.{whole_words}
 use Rattle.capnp_stream.proofs.WordLemmas.{AreBytes, whole_words-of_length, words_in_bytes-length, bytes_of_words-back}
 
@@ -41,18 +42,23 @@ plain_short n b short = err_then (taken (8 * n) b) _ _ (taken_short (8 * n) b sh
 plain_front : (n : ℕ) (b more : List ℕ) → length b ≡ 8 * n → plain_words n (b ++ more) ≡ Ok (words_in_bytes n b, more)
 plain_front n b more e = ok_then _ _ _ _ (taken_front (8 * n) b more e) refl
 
+-- a front of a buffer for a piece is no piece
+plain-needed : (n : ℕ) (b : List ℕ) → length b ≤ 8 * n → EachIsNeeded (plain_words n) b
+plain-needed n b fits m below = EndsEarly-of (plain_words n (take m b)) kinds.FailedToFillTheWholeBuffer (plain_short n (take m b) (omega (arith, length-take-le m b (omega arith)))) tt
+
 -- a buffer that was filled holds a piece
 pub plain-piece : (a b : Option (List ℕ)) (buf : List ℕ) → length buf % 8 ≡ 0 → Consumes a b buf → TakesPiece plain_words a b (whole_words buf)
 plain-piece a b buf whole taken =
     let n = length buf / 8 in
     let count : length (whole_words buf) ≡ n = words_in_bytes-length n buf in
     let Reads : ℕ → Type 0 = λ k. (more : List ℕ) → plain_words k (buf ++ more) ≡ Ok (whole_words buf, more) in
-    (buf, subst Reads (sym count) (λ more. plain_front n buf more (omega arith)), taken)
+    let Needed : ℕ → Type 0 = λ k. EachIsNeeded (plain_words k) buf in
+    (buf, subst Reads (sym count) (λ more. plain_front n buf more (omega arith)), taken, subst Needed (sym count) (plain-needed n buf (omega arith)))
 
 -- fewer bytes than those of a piece begin with none
 plain-start : (n : ℕ) (a b : Option (List ℕ)) → ConsumesFewer a b (8 * n) → TakesPieceStart plain_words n a b
 plain-start n a b p =
-    (p.0, (λ r e. let no : ◌≡◌ {A = Result (List ℕ × List ℕ) Kind} (Err kinds.FailedToFillTheWholeBuffer) (Ok r) = sym (plain_short n p.0 p.1) ∙ e in absurd cc), p.2)
+    (p.0, (λ r e. let no : ◌≡◌ {A = Result (List ℕ × List ℕ) Kind} (Err kinds.FailedToFillTheWholeBuffer) (Ok r) = sym (plain_short n p.0 p.1) ∙ e in absurd cc), p.2, plain-needed n p.0 (omega (arith, p.1)))
 
 -- why a buffer was not filled, and what was taken
 module _ (n : ℕ) (a b : Option (List ℕ)) (refuses : ErrorKind → Type 0) (device : (k : ErrorKind) → refuses k → k ≡ Device) where

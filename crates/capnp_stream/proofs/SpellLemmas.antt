@@ -4,14 +4,14 @@ use Rattle.std.specs.List.{AllByRecursion}
 use Rattle.std.specs.Int.{from_le_bytes, w64}
 use Rattle.std.specs.declared.option.Option.{Option}
 use Rattle.capnp_model.specs.Bytes.{words_in_bytes}
-use Rattle.capnp_model.specs.Messages.{cut, within}
+use Rattle.capnp_model.specs.Messages.{cut, within, halves}
 use Rattle.capnp_model.specs.Spelling.{AreWords, AreShort, CanSpell}
 use Rattle.capnp_stream.proofs.WordLemmas.{AreBytes, AreBytes-drop, words_in_bytes-length, sum-cons}
 
 word-bound : (bytes : List ℕ) → AreBytes bytes → from_le_bytes w64 bytes < 2 ^ 64
 word-bound bytes small = omega (arith, small 0, small 1, small 2, small 3, small 4, small 5, small 6, small 7)
 
-words-are : (n : ℕ) (bytes : List ℕ) → AreBytes bytes → AreWords (words_in_bytes n bytes)
+pub words-are : (n : ℕ) (bytes : List ℕ) → AreBytes bytes → AreWords (words_in_bytes n bytes)
 words-are zero bytes small = tt
 words-are (suc n) bytes small = (word-bound bytes small, words-are n (drop 8 bytes) (AreBytes-drop 8 bytes small))
 
@@ -40,6 +40,21 @@ lengths-cut (n ∷ ns) ws fits =
     let one : length (take n ws) ≡ n = length-take-le n ws (omega arith) in
     let others = lengths-cut ns (drop n ws) (omega (arith, length-drop n ws)) in
     rw (one, others) refl
+
+-- the halves of words are short
+pub halves-are : (ws : List ℕ) → AreWords ws → AreShort (halves ws)
+halves-are [] h = tt
+halves-are (w ∷ ws) h = let one : w < 2 ^ 64 = h.0 in (omega arith, (omega arith, halves-are ws h.1))
+
+pub short-taken : (n : ℕ) (ns : List ℕ) → AreShort ns → AreShort (take n ns)
+short-taken zero ns h = tt
+short-taken (suc n) [] h = tt
+short-taken (suc n) (m ∷ ns) h = (h.0, short-taken n ns h.1)
+
+pub short-dropped : (n : ℕ) (ns : List ℕ) → AreShort ns → AreShort (drop n ns)
+short-dropped zero ns h = h
+short-dropped (suc n) [] h = tt
+short-dropped (suc n) (m ∷ ns) h = short-dropped n ns h.1
 
 -- numbers that are each short
 pub AreShort-of : (ns : List ℕ) → ((i : ℕ) → get_or ns i 0 < 2 ^ 32) → AreShort ns

@@ -1,5 +1,5 @@
 -- Words in bytes, and the segments that they are cut into.
-use Rattle.std.proofs.Common.{◌≡◌, ℕ, zero, suc, ◌+◌, ◌-◌, ◌*◌, ◌/◌, ◌%◌, ◌^◌, ◌≤◌, append_assoc, append-nil, List, [], ◌∷◌, ◌++◌, length, take, drop, sum, refl, sym, ap, ◌∙◌, arith, length-drop, length-take-le, take-append-drop}
+use Rattle.std.proofs.Common.{◌≡◌, ℕ, zero, suc, ◌+◌, ◌-◌, ◌*◌, ◌/◌, ◌%◌, ◌^◌, ◌<◌, ◌≤◌, subst, append_assoc, append-nil, List, [], ◌∷◌, ◌++◌, length, take, drop, sum, refl, sym, ap, ◌∙◌, arith, length-drop, length-take-le, take-append-drop}
 use Rattle.std.specs.Prelude.{All}
 use Rattle.std.specs.List.{slice_range}
 use Rattle.std.specs.Int.{from_le_bytes, to_le_bytes, w64}
@@ -11,6 +11,8 @@ use Rattle.capnp_model.specs.Bytes.{words_in_bytes, bytes_of_words}
 use Rattle.capnp_model.specs.Messages.{frame, cut, halves}
 pub use Rattle.capnp_stream.specs.Ranges.{AreBytes}
 use Rattle.capnp_units.specs.Segments.{whole_words, words_in}
+use Rattle.capnp_model.specs.Spelling.{AreShort}
+use Rattle.capnp_stream.specs.Writing.{IsSegment, AreWritable}
 use Rattle.capnp_stream.specs.Ranges.{ranges_from, range_lengths, bytes_at}
 
 -- what follows eight bytes changes nothing of their word
@@ -86,6 +88,28 @@ ranges_from-within size at (n ∷ ns) fits =
     let total = sum-cons n ns in
     let one : IsWithin size (at, at + n) = (omega arith, omega (arith, total)) in
     All-cons (IsWithin size) (at, at + n) (ranges_from (at + n) ns) one (ranges_from-within size (at + n) ns (omega (arith, total)))
+
+-- segments of short lengths that lie in bytes can be written
+writable-from : (bytes : List ℕ) (at : ℕ) (ns : List ℕ) → 8 * (at + sum ns) ≤ length bytes → AreShort ns → All IsSegment (bytes_at bytes (ranges_from at ns))
+writable-from bytes at [] fits short = All-nil IsSegment
+writable-from bytes at (n ∷ ns) fits short =
+    let total = sum-cons n ns in
+    let rest = drop (8 * at) bytes in
+    let small : n < 2 ^ 32 = short.0 in
+    let width : 8 * (at + n) - 8 * at ≡ 8 * n = omega arith in
+    let size : length (slice_range bytes (8 * at) (8 * (at + n))) ≡ 8 * n = ap (λ k. length (take k rest)) width ∙ length-take-le (8 * n) rest (omega (arith, length-drop (8 * at) bytes)) in
+    All-cons IsSegment (slice_range bytes (8 * at) (8 * (at + n))) (bytes_at bytes (ranges_from (at + n) ns)) (omega (arith, size), omega (arith, size)) (writable-from bytes (at + n) ns (omega (arith, total)) short.1)
+
+count-from : (bytes : List ℕ) (at : ℕ) (ns : List ℕ) → length (bytes_at bytes (ranges_from at ns)) ≡ length ns
+count-from bytes at [] = refl
+count-from bytes at (n ∷ ns) = ap suc (count-from bytes (at + n) ns)
+
+pub writable-joined : (bytes body : List ℕ) (ranges : List (ℕ × ℕ)) (ns : List ℕ) → bytes ≡ body → ranges ≡ ranges_from 0 ns → 8 * sum ns ≤ length body → AreShort ns → 0 < length ns → length ns ≤ 511
+    → AreWritable (bytes_at bytes ranges)
+writable-joined bytes body ranges ns same joined fits short some few =
+    let all : bytes_at bytes ranges ≡ bytes_at body (ranges_from 0 ns) = ap (λ b. bytes_at b ranges) same ∙ ap (bytes_at body) joined in
+    let count = count-from body 0 ns in
+    subst AreWritable (sym all) (record { some = omega arith; few = omega arith; words = writable-from body 0 ns (omega arith) short })
 
 pub ranges_from-lengths : (at : ℕ) (ns : List ℕ) → range_lengths (ranges_from at ns) ≡ ns
 ranges_from-lengths at [] = refl

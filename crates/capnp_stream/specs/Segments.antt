@@ -1,5 +1,5 @@
 -- What a clause reads of the segments of a message. (Encoding, "Serialization Over a Stream")
-use Rattle.std.specs.Prelude.{ℕ, List}
+use Rattle.std.specs.Prelude.{ℕ, List, vec_capacity}
 pub use Rattle.capnp_units.specs.Segments.{whole_words, words_in}
 pub use Rattle.capnp_stream.specs.Ranges.{AreBytes}
 use Rattle.capnp_model.specs.Segments.{Segments}
@@ -10,6 +10,10 @@ use Rattle.capnp_stream.specs.declared.segments.OwnedSegments.{OwnedSegments}
 -- The lengths that a table was given.
 abbrev pub lengths_of : SegmentLengthsBuilder → List ℕ
 lengths_of table = range_lengths table.indices.items
+
+-- How many lengths a table has memory for.
+abbrev pub capacity_of : SegmentLengthsBuilder → ℕ
+capacity_of table = vec_capacity table.indices
 
 -- The bytes of each segment.
 abbrev pub segment_bytes : OwnedSegments → List (List ℕ)

@@ -5,13 +5,16 @@ ghost use Rattle.capnp_units.specs.declared.kinds.ErrorKind.{ErrorKind};
 ghost use Rattle.capnp_model.specs.Messages.{frame, halves, plain_words, within};
 ghost use Rattle.capnp_model.specs.Spelling.{AreShort, CanSpell};
 ghost use Rattle.capnp_stream.specs.Counting.{Counts};
-ghost use Rattle.capnp_stream.specs.Pieces.{TakesPiece};
-ghost use Rattle.capnp_stream.specs.Segments.{AreBytes, whole_words, lengths_of, segments_of};
-ghost use Rattle.capnp_stream.specs.Frames.{IsFrameFault, TakesMessage, TakesPart, TakesTable, IsFramingKind, IsReadKind, IsCut};
+ghost use Rattle.capnp_stream.specs.Pieces.{TakesPiece, is_framed_fault};
+ghost use Rattle.capnp_stream.specs.Segments.{AreBytes, whole_words, lengths_of, segment_bytes, segments_of};
+ghost use Rattle.capnp_stream.specs.Frames.{TellsFault, TakesMessage, TakesStart, TakesTable, IsReadKind, IsCut};
+ghost use Rattle.capnp_stream.specs.Reading.{WantsBetweenPieces, TriesMessage, ReadsMessage, source_seen};
+ghost use Rattle.capnp_stream.specs.Writing.{AreWritable};
 ghost use Rattle.capnp_stream.specs.Streams.{AppendsPart, RoomFalls, IsWriteRefusal};
 
 use crate::forms::{Framed, MessageForm};
 use crate::segments::{OwnedSegments, SegmentLengthsBuilder};
+use crate::tables::{LONGEST_TABLE, fill_count, fill_others};
 use crate::traits::{BufRead, Read};
 use capnp_units::errors::{Error, Result};
 use capnp_units::kinds::ErrorKind;
@@ -34,7 +37,7 @@ pub(crate) fn is_at_end<R: BufRead>(source: &mut R) -> Result<bool>
     Ok(shown.is_empty())
 }
 
-/// The next piece of so many words, as bytes.
+/// The next piece of so many words, as bytes. Where memory is wanted none is taken.
 fn take_piece<F: MessageForm, R: BufRead>(
     alloc: Global,
     source: &mut R,
@@ -42,34 +45,17 @@ fn take_piece<F: MessageForm, R: BufRead>(
 ) -> Result<Vec<u8>>
     requires { 8 * words < 2 ^ 64 }
     ensures len { IfOk result (λ v. length v.items ≡ 8 * words) }
-    ensures ok { IfOk result (λ v. TakesPiece F.reader (R.remaining source.old) (R.remaining source.new) (whole_words v.items)) }
-    ensures cut { IfErr result (λ e. IsCut F.reader words (R.remaining source.old) (R.remaining source.new) e.kind) }
+    ensures ok { IfOk result (λ v. TakesPiece F.reader (R.remaining source.old)
+        (R.remaining source.new) (whole_words v.items)) }
+    ensures cut { IfErr result
+        (λ e. IsCut F.reader words (R.remaining source.old) (R.remaining source.new) e.kind) }
+    ensures own { IfErr result (λ e. IsReadKind F.faults e.kind) }
     ensures count { Counts result (R.failures source.old) (R.failures source.new) }
 {
-    let mut bytes = match vec![in alloc; 0u8; 8 * words] {
-        Ok(v) => v,
-        Err(_) => return Err(Error::from(ErrorKind::OutOfMemory)),
-    };
+    let mut bytes = Vec::new(alloc);
+    bytes.resize(8 * words, 0)?;
     F::read_piece(source, &mut bytes)?;
     Ok(bytes)
-}
-
-/// The lengths that a table holds: the first one, and those in the words behind it.
-fn lengths_in(alloc: Global, first: u32, others: &[u8], count: usize) -> Result<Vec<u32>>
-    ensures lengths { IfOk result (λ v. v.items ≡ take count (first ∷ halves (whole_words others.now))) }
-    ensures refusal { IfErr result (λ e. e.kind ≡ ErrorKind.OutOfMemory) }
-{
-    let mut lengths = Vec::new(alloc);
-    lengths.push(first)?;
-    let mut rest = others;
-    while let Some((bytes, behind)) = rest.split_first_chunk::<8>() {
-        let word = u64::from_le_bytes(*bytes);
-        lengths.push((word % HALF) as u32)?;
-        lengths.push((word / HALF) as u32)?;
-        rest = behind;
-    }
-    lengths.truncate(count);
-    Ok(lengths)
 }
 
 /// A slice of bytes holds numbers of a byte.
@@ -87,34 +73,33 @@ pub(crate) fn is_within(total: usize, limit: Option<usize>) -> bool
     }
 }
 
-/// The lengths of the segments of the next message, from 1 to 511.
+/// The lengths of the segments of the next message, from 1 to 511. Memory for them is asked before the last byte of the table is taken.
 fn read_table<F: MessageForm, R: BufRead>(
     alloc: Global,
     source: &mut R,
     limit: Option<usize>,
 ) -> Result<SegmentLengthsBuilder>
-    ensures some { IfOk result (λ t. 0 < length (lengths_of t)) }
-    ensures few { IfOk result (λ t. length (lengths_of t) ≤ 511) }
+    ensures few { IfOk result (λ t. (0 < length (lengths_of t)) × (length (lengths_of t) ≤ 511)) }
     ensures short { IfOk result (λ t. AreShort (lengths_of t)) }
     ensures bound { IfOk result (λ t. sum (lengths_of t) < 2 ^ 41) }
-    ensures table { IfOk result (λ t. TakesTable F.reader limit (R.remaining source.old) (R.remaining source.new) (lengths_of t)) }
-
-    // Whatever follows.
-    ensures refused { IfErr result (λ e. IsFramingKind e.kind → IfSome (R.remaining source.old) (λ xs. IsFrameFault F.reader limit xs e.kind)) }
-    ensures kind { IfErr result (λ e. IsReadKind e.kind) }
-    ensures part { OnErr result (TakesPart F.reader limit (R.remaining source.old) (R.remaining source.new)) }
+    ensures table { IfOk result (λ t. TakesTable F.reader limit (R.remaining source.old)
+        (R.remaining source.new) (lengths_of t)) }
+    ensures refused { TellsFault F.reader limit (R.remaining source.old) result }
+    ensures kind { IfErr result (λ e. IsReadKind F.faults e.kind) }
+    ensures part { OnErr result
+        (TakesStart F.reader limit (R.remaining source.old) (R.remaining source.new)) }
+    ensures wanted { WantsBetweenPieces F.reader limit (R.remaining source.old)
+        (R.remaining source.new) result }
     ensures count { Counts result (R.failures source.old) (R.failures source.new) }
 {
-    let mut first = [0u8; 8];
-    F::read_piece(source, &mut first)?;
-    let word = u64::from_le_bytes(first);
-    let less_one = (word % HALF) as usize;
-    if less_one + 1 >= SEGMENTS_COUNT_LIMIT {
-        return Err(Error::from(ErrorKind::InvalidNumberOfSegments));
-    }
-    let others = take_piece::<F, R>(alloc, source, (less_one + 1) / 2)?;
-    let lengths = lengths_in(alloc, (word / HALF) as u32, &others, less_one + 1)?;
-    SegmentLengthsBuilder::of_lengths(alloc, &lengths)
+    let mut table = SegmentLengthsBuilder::with_capacity(alloc, 1)?;
+    let mut bytes = [0u8; LONGEST_TABLE];
+    let count = fill_count::<F, R>(source, &mut bytes)?;
+    table.reserve(count)?;
+    fill_others::<F, R>(source, &mut bytes, count)?;
+    are_bytes(&bytes);
+    table.fill(&bytes, count);
+    Ok(table)
 }
 
 /// The segments of the next message, where some byte is left.
@@ -123,11 +108,16 @@ fn read_segments<F: MessageForm, R: BufRead>(
     source: &mut R,
     limit: Option<usize>,
 ) -> Result<OwnedSegments>
-    ensures message { IfOk result (λ m. TakesMessage F.reader limit (R.remaining source.old) (R.remaining source.new) (segments_of m)) }
+    ensures message { IfOk result (λ m. TakesMessage F.reader limit (R.remaining source.old)
+        (R.remaining source.new) (segments_of m)) }
     ensures kept { IfOk result (λ m. CanSpell limit (segments_of m)) }
-    ensures refused { IfErr result (λ e. IsFramingKind e.kind → IfSome (R.remaining source.old) (λ xs. IsFrameFault F.reader limit xs e.kind)) }
-    ensures kind { IfErr result (λ e. IsReadKind e.kind) }
-    ensures part { OnErr result (TakesPart F.reader limit (R.remaining source.old) (R.remaining source.new)) }
+    ensures writable { IfOk result (λ m. AreWritable (segment_bytes m)) }
+    ensures refused { TellsFault F.reader limit (R.remaining source.old) result }
+    ensures kind { IfErr result (λ e. IsReadKind F.faults e.kind) }
+    ensures part { OnErr result
+        (TakesStart F.reader limit (R.remaining source.old) (R.remaining source.new)) }
+    ensures wanted { WantsBetweenPieces F.reader limit (R.remaining source.old)
+        (R.remaining source.new) result }
     ensures count { Counts result (R.failures source.old) (R.failures source.new) }
 {
     let table = read_table::<F, R>(alloc, source, limit)?;
@@ -142,22 +132,15 @@ fn read_segments<F: MessageForm, R: BufRead>(
 
 /// The segments of the next message in a form, or `None` where no byte is left.
 ///
-/// A message of more words than the limit is refused. After a refusal no more than a part of a message was taken.
+/// A message of more words than the limit is refused. After a refusal less than a message was taken, and no byte behind the first that is at fault.
 pub fn try_read_message_in<F: MessageForm, R: BufRead>(
     alloc: Global,
     source: &mut R,
     limit: Option<usize>,
 ) -> Result<Option<OwnedSegments>>
-    // One message is taken, whatever follows it.
-    ensures message { IfOk result (λ o. IfSome o (λ m. TakesMessage F.reader limit (R.remaining source.old) (R.remaining source.new) (segments_of m))) }
-    ensures kept { IfOk result (λ o. IfSome o (λ m. CanSpell limit (segments_of m))) }
-    ensures none { IfOk result (λ o. IfNone o (IsAtEnd (R.remaining source.old) × Keeps (R.remaining source.old) (R.remaining source.new))) }
-
-    // The bytes that are left begin with no message, and the kind says why.
-    ensures refused { IfErr result (λ e. IsFramingKind e.kind → IfSome (R.remaining source.old) (λ xs. (xs ≢ []) × IsFrameFault F.reader limit xs e.kind)) }
-    ensures kind { IfErr result (λ e. IsReadKind e.kind) }
-    ensures part { OnErr result (TakesPart F.reader limit (R.remaining source.old) (R.remaining source.new)) }
-    ensures count { Counts result (R.failures source.old) (R.failures source.new) }
+    ensures { TriesMessage F.reader F.faults limit
+        (source_seen R.remaining R.failures source.old) result
+        (source_seen R.remaining R.failures source.new) }
 {
     if is_at_end(source)? {
         return Ok(None);
@@ -172,13 +155,9 @@ pub fn read_message_in<F: MessageForm, R: BufRead>(
     source: &mut R,
     limit: Option<usize>,
 ) -> Result<OwnedSegments>
-    ensures message { IfOk result (λ m. TakesMessage F.reader limit (R.remaining source.old) (R.remaining source.new) (segments_of m)) }
-    ensures kept { IfOk result (λ m. CanSpell limit (segments_of m)) }
-    ensures no_byte { IfErr result (λ e. e.kind ≡ ErrorKind.PrematureEndOfFile → IsAtEnd (R.remaining source.old) × Keeps (R.remaining source.old) (R.remaining source.new)) }
-    ensures refused { IfErr result (λ e. IsFramingKind e.kind → IfSome (R.remaining source.old) (λ xs. (xs ≢ []) × IsFrameFault F.reader limit xs e.kind)) }
-    ensures kind { IfErr result (λ e. e.kind ≢ ErrorKind.PrematureEndOfFile → IsReadKind e.kind) }
-    ensures part { OnErr result (TakesPart F.reader limit (R.remaining source.old) (R.remaining source.new)) }
-    ensures count { Counts result (R.failures source.old) (R.failures source.new) }
+    ensures { ReadsMessage F.reader F.faults limit
+        (source_seen R.remaining R.failures source.old) result
+        (source_seen R.remaining R.failures source.new) }
 {
     match try_read_message_in::<F, R>(alloc, source, limit)? {
         Some(message) => Ok(message),
@@ -188,22 +167,15 @@ pub fn read_message_in<F: MessageForm, R: BufRead>(
 
 /// The segments of the next framed message, or `None` where no byte is left.
 ///
-/// A message of more words than the limit is refused. After a refusal no more than a part of a message was taken.
+/// A message of more words than the limit is refused. After a refusal less than a message was taken, and no byte behind the first that is at fault.
 pub fn try_read_message<R: BufRead>(
     alloc: Global,
     source: &mut R,
     limit: Option<usize>,
 ) -> Result<Option<OwnedSegments>>
-    // One message is taken, whatever follows it.
-    ensures message { IfOk result (λ o. IfSome o (λ m. TakesMessage plain_words limit (R.remaining source.old) (R.remaining source.new) (segments_of m))) }
-    ensures kept { IfOk result (λ o. IfSome o (λ m. CanSpell limit (segments_of m))) }
-    ensures none { IfOk result (λ o. IfNone o (IsAtEnd (R.remaining source.old) × Keeps (R.remaining source.old) (R.remaining source.new))) }
-
-    // The bytes that are left begin with no message, and the kind says why.
-    ensures refused { IfErr result (λ e. IsFramingKind e.kind → IfSome (R.remaining source.old) (λ xs. (xs ≢ []) × IsFrameFault plain_words limit xs e.kind)) }
-    ensures kind { IfErr result (λ e. IsReadKind e.kind) }
-    ensures part { OnErr result (TakesPart plain_words limit (R.remaining source.old) (R.remaining source.new)) }
-    ensures count { Counts result (R.failures source.old) (R.failures source.new) }
+    ensures { TriesMessage plain_words is_framed_fault limit
+        (source_seen R.remaining R.failures source.old) result
+        (source_seen R.remaining R.failures source.new) }
 {
     try_read_message_in::<Framed, R>(alloc, source, limit)
 }
@@ -214,13 +186,9 @@ pub fn read_message<R: BufRead>(
     source: &mut R,
     limit: Option<usize>,
 ) -> Result<OwnedSegments>
-    ensures message { IfOk result (λ m. TakesMessage plain_words limit (R.remaining source.old) (R.remaining source.new) (segments_of m)) }
-    ensures kept { IfOk result (λ m. CanSpell limit (segments_of m)) }
-    ensures no_byte { IfErr result (λ e. e.kind ≡ ErrorKind.PrematureEndOfFile → IsAtEnd (R.remaining source.old) × Keeps (R.remaining source.old) (R.remaining source.new)) }
-    ensures refused { IfErr result (λ e. IsFramingKind e.kind → IfSome (R.remaining source.old) (λ xs. (xs ≢ []) × IsFrameFault plain_words limit xs e.kind)) }
-    ensures kind { IfErr result (λ e. e.kind ≢ ErrorKind.PrematureEndOfFile → IsReadKind e.kind) }
-    ensures part { OnErr result (TakesPart plain_words limit (R.remaining source.old) (R.remaining source.new)) }
-    ensures count { Counts result (R.failures source.old) (R.failures source.new) }
+    ensures { ReadsMessage plain_words is_framed_fault limit
+        (source_seen R.remaining R.failures source.old) result
+        (source_seen R.remaining R.failures source.new) }
 {
     read_message_in::<Framed, R>(alloc, source, limit)
 }

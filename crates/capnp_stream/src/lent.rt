@@ -6,36 +6,22 @@ ghost use Rattle.capnp_units.specs.declared.kinds.ErrorKind.{ErrorKind};
 ghost use Rattle.capnp_units.specs.Segments.{whole_words, words_in};
 ghost use Rattle.capnp_model.specs.Messages.{plain_words, within};
 ghost use Rattle.capnp_stream.specs.Counting.{Counts};
-ghost use Rattle.capnp_stream.specs.Pieces.{TakesPiece, TakesPieceStart, IsPieceFault};
-ghost use Rattle.capnp_stream.specs.Frames.{IsFrameFault, TakesMessage, TakesPart, TakesTable, IsFramingKind};
+ghost use Rattle.capnp_stream.specs.Pieces.{is_framed_fault};
+ghost use Rattle.capnp_stream.specs.Frames.{TellsFault, TakesMessage, TakesStart, TakesTable};
 ghost use Rattle.capnp_stream.specs.Flat.{table_lengths, table_bytes, frame_segments, Describes};
 ghost use Rattle.capnp_stream.specs.Buffers.{found_segments};
-ghost use Rattle.capnp_stream.specs.Lent.{NeedsMore, IsFillKind};
+ghost use Rattle.capnp_stream.specs.Lent.{TellsNeed, IsFillKind};
+ghost use Rattle.capnp_stream.specs.Reading.{source_seen};
+ghost use Rattle.capnp_stream.specs.Filling.{TriesFilling, FillsMessage};
 
 use crate::buffers::{NoAllocBufferSegments, NoAllocSliceSegments};
 use crate::flat::{NoAllocSegmentTableInfo, words_before};
 use crate::forms::{Framed, MessageForm};
-use crate::frames::{HALF, SEGMENTS_COUNT_LIMIT, is_at_end, is_within};
+use crate::frames::{is_at_end, is_within};
+use crate::tables::{fill_count, fill_front, fill_others};
 use crate::traits::BufRead;
 use capnp_units::errors::{Error, Result};
 use capnp_units::kinds::ErrorKind;
-
-/// Reads a piece into the first `len` bytes of a buffer.
-fn fill_front<F: MessageForm, R: BufRead>(
-    source: &mut R,
-    buffer: &mut [u8],
-    len: usize,
-) -> Result<()>
-    requires whole { len % 8 ≡ 0 }
-    requires fits { len ≤ length buffer.old }
-    ensures ok { OnOk result (TakesPiece F.reader (R.remaining source.old) (R.remaining source.new) (whole_words (take len buffer.new))) }
-    ensures kind { IfErr result (λ e. IsPieceFault F.reader (len / 8) (R.remaining source.old) e.kind) }
-    ensures part { OnErr result (TakesPieceStart F.reader (len / 8) (R.remaining source.old) (R.remaining source.new)) }
-    ensures count { Counts result (R.failures source.old) (R.failures source.new) }
-{
-    let (front, _) = buffer.split_at_mut(len);
-    F::read_piece(source, front)
-}
 
 /// Reads a table into the front of a buffer, and answers how many segments it has, from 1 to 511.
 fn fill_table<F: MessageForm, R: BufRead>(
@@ -46,26 +32,23 @@ fn fill_table<F: MessageForm, R: BufRead>(
     ensures few { IfOk result (λ n. (0 < n) × (n ≤ 511)) }
     ensures count { IfOk result (λ n. n ≡ from_le_bytes w64 buffer.new % 2 ^ 32 + 1) }
     ensures there { IfOk result (λ n. table_bytes n ≤ length buffer.new) }
-    ensures table { IfOk result (λ n. TakesTable F.reader limit (R.remaining source.old) (R.remaining source.new) (table_lengths n buffer.new)) }
-    ensures refused { IfErr result (λ e. IsFramingKind e.kind → IfSome (R.remaining source.old) (λ xs. IsFrameFault F.reader limit xs e.kind)) }
-    ensures short { IfErr result (λ e. e.kind ≡ ErrorKind.BufferNotLargeEnough → IfSome (R.remaining source.old) (NeedsMore F.reader limit (length buffer.old))) }
-    ensures kind { IfErr result (λ e. IsFillKind e.kind) }
-    ensures part { OnErr result (TakesPart F.reader limit (R.remaining source.old) (R.remaining source.new)) }
+    ensures table { IfOk result (λ n. TakesTable F.reader limit (R.remaining source.old)
+        (R.remaining source.new) (table_lengths n buffer.new)) }
+    ensures refused { TellsFault F.reader limit (R.remaining source.old) result }
+    ensures short { TellsNeed F.reader limit (length buffer.old) (R.remaining source.old) result }
+    ensures kind { IfErr result (λ e. IsFillKind F.faults e.kind) }
+    ensures part { OnErr result
+        (TakesStart F.reader limit (R.remaining source.old) (R.remaining source.new)) }
     ensures failures { Counts result (R.failures source.old) (R.failures source.new) }
 {
-    let mut first = [0u8; 8];
-    F::read_piece(source, &mut first)?;
-    let word = u64::from_le_bytes(first);
-    let count = (word % HALF) as usize + 1;
-    if count >= SEGMENTS_COUNT_LIMIT {
-        return Err(Error::from(ErrorKind::InvalidNumberOfSegments));
+    if buffer.len() < 8 {
+        return Err(Error::from(ErrorKind::BufferNotLargeEnough));
     }
+    let count = fill_count::<F, R>(source, buffer)?;
     if buffer.len() < 8 * (count / 2 + 1) {
         return Err(Error::from(ErrorKind::BufferNotLargeEnough));
     }
-    let (front, behind) = buffer.split_at_mut(8);
-    front.copy_from_slice(&first);
-    fill_front::<F, R>(source, behind, 8 * (count / 2))?;
+    fill_others::<F, R>(source, buffer, count)?;
     Ok(count)
 }
 
@@ -76,12 +59,15 @@ fn fill_message<F: MessageForm, R: BufRead>(
     limit: Option<usize>,
 ) -> Result<NoAllocSegmentTableInfo>
     ensures described { IfOk result (λ i. Describes i buffer.new) }
-    ensures message { IfOk result (λ i. TakesMessage F.reader limit (R.remaining source.old) (R.remaining source.new) (words_in (frame_segments i.segments_count buffer.new))) }
-    ensures kept { IfOk result (λ i. within (sum (table_lengths i.segments_count buffer.new)) limit ≡ true) }
-    ensures refused { IfErr result (λ e. IsFramingKind e.kind → IfSome (R.remaining source.old) (λ xs. IsFrameFault F.reader limit xs e.kind)) }
-    ensures short { IfErr result (λ e. e.kind ≡ ErrorKind.BufferNotLargeEnough → IfSome (R.remaining source.old) (NeedsMore F.reader limit (length buffer.old))) }
-    ensures kind { IfErr result (λ e. IsFillKind e.kind) }
-    ensures part { OnErr result (TakesPart F.reader limit (R.remaining source.old) (R.remaining source.new)) }
+    ensures message { IfOk result (λ i. TakesMessage F.reader limit (R.remaining source.old)
+        (R.remaining source.new) (words_in (frame_segments i.segments_count buffer.new))) }
+    ensures kept { IfOk result
+        (λ i. within (sum (table_lengths i.segments_count buffer.new)) limit ≡ true) }
+    ensures refused { TellsFault F.reader limit (R.remaining source.old) result }
+    ensures short { TellsNeed F.reader limit (length buffer.old) (R.remaining source.old) result }
+    ensures kind { IfErr result (λ e. IsFillKind F.faults e.kind) }
+    ensures part { OnErr result
+        (TakesStart F.reader limit (R.remaining source.old) (R.remaining source.new)) }
     ensures failures { Counts result (R.failures source.old) (R.failures source.new) }
 {
     let count = fill_table::<F, R>(source, buffer, limit)?;
@@ -104,19 +90,15 @@ fn fill_message<F: MessageForm, R: BufRead>(
 
 /// The segments of the next message in a form, or `None` where no byte is left. Its table and its segments lie unpacked in the buffer.
 ///
-/// A message of more words than the limit is refused. `BufferNotLargeEnough`: the buffer has fewer bytes than the table and the segments unpacked. After a refusal no more than a part of a message was taken.
+/// A message of more words than the limit is refused. `BufferNotLargeEnough`: the buffer has fewer bytes than the table and the segments unpacked; one of fewer than 8 bytes is refused before any byte is taken. After a refusal less than a message was taken, and no byte behind the first that is at fault.
 pub fn try_read_message_no_alloc_in<'a, F: MessageForm, R: BufRead>(
     source: &mut R,
     buffer: &'a mut [u8],
     limit: Option<usize>,
 ) -> Result<Option<NoAllocSliceSegments<'a>>>
-    ensures message { IfOk result (λ o. IfSome o (λ s. TakesMessage F.reader limit (R.remaining source.old) (R.remaining source.new) (words_in (found_segments s)))) }
-    ensures none { IfOk result (λ o. IfNone o (IsAtEnd (R.remaining source.old) × Keeps (R.remaining source.old) (R.remaining source.new))) }
-    ensures refused { IfErr result (λ e. IsFramingKind e.kind → IfSome (R.remaining source.old) (λ xs. (xs ≢ []) × IsFrameFault F.reader limit xs e.kind)) }
-    ensures short { IfErr result (λ e. e.kind ≡ ErrorKind.BufferNotLargeEnough → IfSome (R.remaining source.old) (NeedsMore F.reader limit (length buffer.old))) }
-    ensures kind { IfErr result (λ e. IsFillKind e.kind) }
-    ensures part { OnErr result (TakesPart F.reader limit (R.remaining source.old) (R.remaining source.new)) }
-    ensures failures { Counts result (R.failures source.old) (R.failures source.new) }
+    ensures { TriesFilling F.reader F.faults limit (length buffer.old)
+        (source_seen R.remaining R.failures source.old) result
+        (source_seen R.remaining R.failures source.new) }
 {
     if is_at_end(source)? {
         return Ok(None);
@@ -133,13 +115,9 @@ pub fn read_message_no_alloc_in<'a, F: MessageForm, R: BufRead>(
     buffer: &'a mut [u8],
     limit: Option<usize>,
 ) -> Result<NoAllocSliceSegments<'a>>
-    ensures message { IfOk result (λ s. TakesMessage F.reader limit (R.remaining source.old) (R.remaining source.new) (words_in (found_segments s))) }
-    ensures no_byte { IfErr result (λ e. e.kind ≡ ErrorKind.PrematureEndOfFile → IsAtEnd (R.remaining source.old) × Keeps (R.remaining source.old) (R.remaining source.new)) }
-    ensures refused { IfErr result (λ e. IsFramingKind e.kind → IfSome (R.remaining source.old) (λ xs. (xs ≢ []) × IsFrameFault F.reader limit xs e.kind)) }
-    ensures short { IfErr result (λ e. e.kind ≡ ErrorKind.BufferNotLargeEnough → IfSome (R.remaining source.old) (NeedsMore F.reader limit (length buffer.old))) }
-    ensures kind { IfErr result (λ e. e.kind ≢ ErrorKind.PrematureEndOfFile → IsFillKind e.kind) }
-    ensures part { OnErr result (TakesPart F.reader limit (R.remaining source.old) (R.remaining source.new)) }
-    ensures failures { Counts result (R.failures source.old) (R.failures source.new) }
+    ensures { FillsMessage F.reader F.faults limit (length buffer.old)
+        (source_seen R.remaining R.failures source.old) result
+        (source_seen R.remaining R.failures source.new) }
 {
     if is_at_end(source)? {
         return Err(Error::from(ErrorKind::PrematureEndOfFile));
@@ -150,19 +128,15 @@ pub fn read_message_no_alloc_in<'a, F: MessageForm, R: BufRead>(
 
 /// The segments of the next framed message, or `None` where no byte is left. The message lies in the buffer as it was read.
 ///
-/// A message of more words than the limit is refused. `BufferNotLargeEnough`: the buffer has fewer bytes than the message. After a refusal no more than a part of a message was taken.
+/// A message of more words than the limit is refused. `BufferNotLargeEnough`: the buffer has fewer bytes than the message. After a refusal less than a message was taken, and no byte behind the first that is at fault.
 pub fn try_read_message_no_alloc<'a, R: BufRead>(
     source: &mut R,
     buffer: &'a mut [u8],
     limit: Option<usize>,
 ) -> Result<Option<NoAllocSliceSegments<'a>>>
-    ensures message { IfOk result (λ o. IfSome o (λ s. TakesMessage plain_words limit (R.remaining source.old) (R.remaining source.new) (words_in (found_segments s)))) }
-    ensures none { IfOk result (λ o. IfNone o (IsAtEnd (R.remaining source.old) × Keeps (R.remaining source.old) (R.remaining source.new))) }
-    ensures refused { IfErr result (λ e. IsFramingKind e.kind → IfSome (R.remaining source.old) (λ xs. (xs ≢ []) × IsFrameFault plain_words limit xs e.kind)) }
-    ensures short { IfErr result (λ e. e.kind ≡ ErrorKind.BufferNotLargeEnough → IfSome (R.remaining source.old) (NeedsMore plain_words limit (length buffer.old))) }
-    ensures kind { IfErr result (λ e. IsFillKind e.kind) }
-    ensures part { OnErr result (TakesPart plain_words limit (R.remaining source.old) (R.remaining source.new)) }
-    ensures failures { Counts result (R.failures source.old) (R.failures source.new) }
+    ensures { TriesFilling plain_words is_framed_fault limit (length buffer.old)
+        (source_seen R.remaining R.failures source.old) result
+        (source_seen R.remaining R.failures source.new) }
 {
     try_read_message_no_alloc_in::<Framed, R>(source, buffer, limit)
 }
@@ -175,13 +149,9 @@ pub fn read_message_no_alloc<'a, R: BufRead>(
     buffer: &'a mut [u8],
     limit: Option<usize>,
 ) -> Result<NoAllocSliceSegments<'a>>
-    ensures message { IfOk result (λ s. TakesMessage plain_words limit (R.remaining source.old) (R.remaining source.new) (words_in (found_segments s))) }
-    ensures no_byte { IfErr result (λ e. e.kind ≡ ErrorKind.PrematureEndOfFile → IsAtEnd (R.remaining source.old) × Keeps (R.remaining source.old) (R.remaining source.new)) }
-    ensures refused { IfErr result (λ e. IsFramingKind e.kind → IfSome (R.remaining source.old) (λ xs. (xs ≢ []) × IsFrameFault plain_words limit xs e.kind)) }
-    ensures short { IfErr result (λ e. e.kind ≡ ErrorKind.BufferNotLargeEnough → IfSome (R.remaining source.old) (NeedsMore plain_words limit (length buffer.old))) }
-    ensures kind { IfErr result (λ e. e.kind ≢ ErrorKind.PrematureEndOfFile → IsFillKind e.kind) }
-    ensures part { OnErr result (TakesPart plain_words limit (R.remaining source.old) (R.remaining source.new)) }
-    ensures failures { Counts result (R.failures source.old) (R.failures source.new) }
+    ensures { FillsMessage plain_words is_framed_fault limit (length buffer.old)
+        (source_seen R.remaining R.failures source.old) result
+        (source_seen R.remaining R.failures source.new) }
 {
     read_message_no_alloc_in::<Framed, R>(source, buffer, limit)
 }

@@ -5,6 +5,7 @@ ghost use Rattle.capnp_units.specs.declared.kinds.ErrorKind.{ErrorKind};
 ghost use Rattle.capnp_stream.specs.Counting.{Counts};
 ghost use Rattle.capnp_stream.specs.Streams.{AppendsPart, RoomFalls, IsWriteRefusal};
 
+use crate::slice_writer::SliceWriter;
 use crate::traits::{BufRead, Read, Write};
 use capnp_units::errors::{Error, Result};
 use capnp_units::kinds::ErrorKind;
@@ -108,6 +109,8 @@ impl<A: Allocator> Write for Vec<u8, A> {
 }
 
 /// The bytes go to the front of the slice, which then begins after them. Where it is too short none is taken.
+///
+/// It tells no contents, since what was written lies in front of the slice that is left. `SliceWriter` tells them.
 impl Write for &mut [u8] {
     ghost failures = { λ _. 0 };
 
@@ -116,11 +119,14 @@ impl Write for &mut [u8] {
     fn write_all(&mut self, buf: &[u8]) -> Result<()>
         ensures ok { OnOk result (Appends None None buf.now) }
         ensures rest { OnOk result (self.new.now ≡ drop (length buf.now) self.old.now) }
-        ensures falls { OnOk result (RoomFalls (Some (length self.old.now)) (Some (length self.new.now)) (length buf.now)) }
+        ensures falls { OnOk result
+            (RoomFalls (Some (length self.old.now)) (Some (length self.new.now)) (length buf.now)) }
         ensures err { OnErr result (AppendsPart None None buf.now) }
-        ensures refusal { IfErr result (λ e. IsWriteRefusal ⊥ (Some (length self.old.now)) (length buf.now) e.kind) }
+        ensures refusal { IfErr result
+            (λ e. IsWriteRefusal ⊥ (Some (length self.old.now)) (length buf.now) e.kind) }
         ensures nothing { IfErr result (λ e. e.kind ≢ ErrorKind.Device → Keeps None None) }
-        ensures kept { IfErr result (λ e. e.kind ≢ ErrorKind.Device → Some (length self.new.now) ≡ Some (length self.old.now)) }
+        ensures kept { IfErr result (λ e. e.kind ≢ ErrorKind.Device
+            → Some (length self.new.now) ≡ Some (length self.old.now)) }
         ensures unchanged { OnErr result (self.new.now ≡ self.old.now) }
         ensures count { Counts result 0 0 }
     {
@@ -129,7 +135,7 @@ impl Write for &mut [u8] {
         }
         let all = std::mem::take(self);
         let (front, rest) = all.split_at_mut(buf.len());
-        front.copy_from_slice(buf);
+        SliceWriter::new(front).write_all(buf)?;
         *self = rest;
         Ok(())
     }

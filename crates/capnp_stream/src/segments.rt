@@ -1,7 +1,6 @@
 //! The segments of a message that was read, and the table of their lengths.
 ghost use Rattle.std.specs.Prelude.{◌≡◌, ◌≢◌, ◌≤◌, ◌<◌, ◌↔◌, ◌+◌, ◌*◌, ◌%◌, ◌^◌, ℕ, [], ◌∷◌, ◌++◌, length, drop, slice_get, sum, option_copied, replicate, All, Some, None, OnOk, OnErr, IfOk, IfSome, IfNone, IsSome, IsTrue, IfErr};
 ghost use Rattle.capnp_units.specs.declared.kinds.ErrorKind.{ErrorKind};
-ghost use Rattle.capnp_model.specs.Spelling.{AreShort};
 ghost use Rattle.capnp_units.specs.Segments.{whole_words};
 ghost use Rattle.capnp_stream.specs.Ranges.{bytes_at, ranges_from, range_lengths};
 ghost use Rattle.capnp_stream.specs.Flat.{table_lengths, table_bytes};
@@ -13,6 +12,7 @@ use capnp_units::kinds::ErrorKind;
 use capnp_units::segments::ReaderSegments;
 use capnp_units::sizes::SegmentId;
 use std::alloc::Global;
+use std::ops::Deref;
 
 /// The lengths in words of segments that lie one after the other.
 #[derive(Drop)]
@@ -25,22 +25,7 @@ pub struct SegmentLengthsBuilder {
 
 impl SegmentLengthsBuilder {
     ghost use Rattle.capnp_stream.specs.Buffers.{buffer_segments};
-    ghost use Rattle.capnp_stream.specs.Segments.{lengths_of, owned_bytes, owned_ranges};
-
-    /// The table of these lengths in words.
-    pub(crate) fn of_lengths(alloc: Global, lengths: &[u32]) -> Result<SegmentLengthsBuilder>
-        requires { length lengths.now ≤ 511 }
-        ensures lengths { IfOk result (λ t. lengths_of t ≡ lengths.now) }
-        ensures short { AreShort lengths.now }
-        ensures bound { sum lengths.now < 2 ^ 41 }
-        ensures refusal { IfErr result (λ e. e.kind ≡ ErrorKind.OutOfMemory) }
-    {
-        let mut table = SegmentLengthsBuilder::with_capacity(alloc, lengths.len())?;
-        for n in lengths {
-            table.try_push_segment(*n as usize)?;
-        }
-        Ok(table)
-    }
+    ghost use Rattle.capnp_stream.specs.Segments.{lengths_of, capacity_of, owned_bytes, owned_ranges};
 
     /// The table of the first `count` segments at the front of bytes.
     pub(crate) fn in_table(
@@ -54,15 +39,53 @@ impl SegmentLengthsBuilder {
         ensures refusal { IfErr result (λ e. e.kind ≡ ErrorKind.OutOfMemory) }
     {
         let mut table = SegmentLengthsBuilder::with_capacity(alloc, count)?;
-        for id in 0..count {
-            table.try_push_segment(length_in(bytes, id))?;
-        }
+        table.fill(bytes, count);
         Ok(table)
+    }
+
+    /// Asks memory for so many segments, where none is there yet and the capacity doesn't suffice.
+    pub(crate) fn reserve(&mut self, count: usize) -> Result<()>
+        requires { lengths_of self.old ≡ [] }
+        ensures empty { lengths_of self.new ≡ [] }
+        ensures room { OnOk result (count ≤ capacity_of self.new) }
+        ensures refusal { IfErr result
+            (λ e. (e.kind ≡ ErrorKind.OutOfMemory) × (capacity_of self.old < count)) }
+    {
+        self.indices.reserve(count)?;
+        Ok(())
+    }
+
+    /// Adds a segment of so many words behind the others, where the capacity suffices.
+    fn push_within(&mut self, length_in_words: usize)
+        requires room { length (lengths_of self.old) < capacity_of self.old }
+        requires small { sum (lengths_of self.old) + length_in_words < 2 ^ 64 }
+        ensures pushed { lengths_of self.new ≡ lengths_of self.old ++ length_in_words ∷ [] }
+        ensures room { capacity_of self.old ≤ capacity_of self.new }
+    {
+        let start = self.total_words;
+        let end = start + length_in_words;
+        if let Ok(()) = self.indices.push((start, end)) {
+            self.total_words = end;
+        }
+    }
+
+    /// Adds the first `count` segments of the table at the front of bytes, where none is there yet and the capacity suffices.
+    pub(crate) fn fill(&mut self, bytes: &[u8], count: usize)
+        requires few { count ≤ 511 }
+        requires there { table_bytes count ≤ length bytes.now }
+        requires empty { lengths_of self.old ≡ [] }
+        requires room { count ≤ capacity_of self.old }
+        ensures { lengths_of self.new ≡ table_lengths count bytes.now }
+    {
+        for id in 0..count {
+            self.push_within(length_in(bytes, id));
+        }
     }
 
     /// No segment yet, and memory for so many.
     pub fn with_capacity(alloc: Global, capacity: usize) -> Result<SegmentLengthsBuilder>
         ensures empty { IfOk result (λ t. lengths_of t ≡ []) }
+        ensures room { IfOk result (λ t. capacity ≤ capacity_of t) }
         ensures refusal { IfErr result (λ e. e.kind ≡ ErrorKind.OutOfMemory) }
     {
         let indices = Vec::with_capacity(alloc, capacity)?;
@@ -74,8 +97,11 @@ impl SegmentLengthsBuilder {
 
     /// Adds a segment of so many words behind the others. `MessageTooLarge`: the words of all pass `usize`. After a refusal the table is as it was.
     pub fn try_push_segment(&mut self, length_in_words: usize) -> Result<()>
-        ensures pushed { OnOk result (lengths_of self.new ≡ lengths_of self.old ++ length_in_words ∷ []) }
-        ensures large { IfErr result (λ e. e.kind ≢ ErrorKind.OutOfMemory → (e.kind ≡ ErrorKind.MessageTooLarge) × (2 ^ 64 ≤ sum (lengths_of self.old) + length_in_words)) }
+        ensures pushed { OnOk result
+            (lengths_of self.new ≡ lengths_of self.old ++ length_in_words ∷ []) }
+        ensures large { IfErr result (λ e. e.kind ≢ ErrorKind.OutOfMemory
+            → (e.kind ≡ ErrorKind.MessageTooLarge)
+            × (2 ^ 64 ≤ sum (lengths_of self.old) + length_in_words)) }
         ensures kept { OnErr result (lengths_of self.new ≡ lengths_of self.old) }
     {
         let start = self.total_words;
@@ -94,14 +120,17 @@ impl SegmentLengthsBuilder {
         self.total_words
     }
 
-    /// Zeroed segments of these lengths. `OutOfMemory`: their bytes were refused, or pass `usize`.
+    /// Zeroed segments of these lengths. `MessageTooLarge`: their bytes pass `usize`. `OutOfMemory`: their bytes were refused.
     pub fn into_owned_segments(self, alloc: Global) -> Result<OwnedSegments>
         ensures ranges { IfOk result (λ s. owned_ranges s ≡ ranges_from 0 (lengths_of self)) }
         ensures zeros { IfOk result (λ s. owned_bytes s ≡ replicate (8 * sum (lengths_of self)) 0) }
-        ensures refusal { IfErr result (λ e. e.kind ≡ ErrorKind.OutOfMemory) }
+        ensures large { 2 ^ 64 ≤ 8 * sum (lengths_of self)
+            → IfErr result (λ e. e.kind ≡ ErrorKind.MessageTooLarge) }
+        ensures refusal { 8 * sum (lengths_of self) < 2 ^ 64
+            → IfErr result (λ e. e.kind ≡ ErrorKind.OutOfMemory) }
     {
         let Some(len) = self.total_words.checked_mul(8) else {
-            return Err(Error::from(ErrorKind::OutOfMemory));
+            return Err(Error::from(ErrorKind::MessageTooLarge));
         };
         let bytes = vec![in alloc; 0u8; len]?;
         Ok(OwnedSegments::new(bytes, self))
@@ -109,7 +138,8 @@ impl SegmentLengthsBuilder {
 
     /// Whether so many bytes of a table and then the segments fit into the buffer.
     pub fn describes(&self, buffer: &[u8], segment_table_bytes_len: usize) -> bool
-        ensures { IsTrue result ↔ (segment_table_bytes_len + 8 * sum (lengths_of self.now) ≤ length buffer.now) }
+        ensures { IsTrue result
+            ↔ (segment_table_bytes_len + 8 * sum (lengths_of self.now) ≤ length buffer.now) }
     {
         match buffer.len().checked_sub(segment_table_bytes_len) {
             Some(room) => self.total_words <= room / 8,
@@ -124,7 +154,8 @@ impl SegmentLengthsBuilder {
         segment_table_bytes_len: usize,
     ) -> SliceSegments<'_>
         requires { segment_table_bytes_len + 8 * sum (lengths_of self) ≤ length slice.now }
-        ensures { buffer_segments result ≡ bytes_at (drop segment_table_bytes_len slice.now) (ranges_from 0 (lengths_of self)) }
+        ensures { buffer_segments result
+            ≡ bytes_at (drop segment_table_bytes_len slice.now) (ranges_from 0 (lengths_of self)) }
     {
         BufferSegments::behind_table(slice, segment_table_bytes_len, self)
     }
@@ -178,10 +209,10 @@ impl OwnedSegments {
     pub fn as_slice(&self) -> &[u8]
         ensures { result.now ≡ owned_bytes self.now }
     {
-        &self.bytes
+        self.bytes.as_slice()
     }
 
-    /// The bytes of all segments, one behind the other.
+    /// The bytes of all segments, one behind the other, to be written over.
     pub fn as_mut_slice(&mut self) -> &mut [u8]
         ensures* writes_back { sem 𝓛 (LendsBytes self.entry result) }
         ensures value { result.now ≡ owned_bytes self.old }
@@ -191,7 +222,8 @@ impl OwnedSegments {
 
     /// The words of a segment, or none past the last.
     pub fn segment_words(&self, alloc: Global, id: SegmentId) -> Result<Option<Vec<u64>>>
-        ensures words { IfOk result (λ o. IfSome o (λ v. slice_get (segments_of self.now) id ≡ Some v.items)) }
+        ensures words { IfOk result
+            (λ o. IfSome o (λ v. slice_get (segments_of self.now) id ≡ Some v.items)) }
         ensures none { IfOk result (λ o. IfNone o (slice_get (segments_of self.now) id ≡ None)) }
         ensures refusal { IfErr result (λ e. e.kind ≡ ErrorKind.OutOfMemory) }
     {
@@ -199,6 +231,19 @@ impl OwnedSegments {
             Some(bytes) => Ok(Some(words_of(alloc, bytes)?)),
             None => Ok(None),
         }
+    }
+}
+
+/// The bytes of all segments, one behind the other. They are written over by `as_mut_slice`, which keeps their number.
+impl Deref for OwnedSegments {
+    type Target = Vec<u8>;
+
+    ghost use Rattle.capnp_stream.specs.Segments.{owned_bytes};
+
+    ghost deref_gives = { λ s v. v.items ≡ owned_bytes s };
+
+    fn deref(&self) -> &Vec<u8> {
+        &self.bytes
     }
 }
 
@@ -210,7 +255,8 @@ impl ReaderSegments for OwnedSegments {
     /// The bytes of a segment, each word's lowest first, or none past the last.
     fn get_segment(&self, id: SegmentId) -> Option<&[u8]>
         ensures bytes { option_copied result ≡ slice_get (segment_bytes self.now) id }
-        ensures words { IfSome result (λ bytes. slice_get (segments_of self.now) id ≡ Some (whole_words bytes.now)) }
+        ensures words { IfSome result
+            (λ bytes. slice_get (segments_of self.now) id ≡ Some (whole_words bytes.now)) }
         ensures whole { IfSome result (λ bytes. length bytes.now % 8 ≡ 0) }
         ensures there { IsSome result ↔ (id < length (segments_of self.now)) }
     {

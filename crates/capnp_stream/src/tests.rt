@@ -2,15 +2,15 @@
 ghost use Rattle.std.specs.Prelude.{◌≡◌, ◌≤◌, length};
 ghost use Rattle.capnp_units.specs.declared.kinds.ErrorKind.{ErrorKind};
 
-use crate::adapters::{Sink, Source};
+use crate::adapters::Source;
 use crate::frames::{read_message, try_read_message};
+use crate::slice_writer::SliceWriter;
 use crate::traits::{BufRead, Read, Write};
 use crate::writing::write_segment;
 use capnp_units::errors::{Error, Result};
 use capnp_units::kinds::ErrorKind;
 use capnp_units::segments::ReaderSegments;
 use std::alloc::Global;
-use std::io;
 use std::process::Abort;
 use std::test::Fail;
 
@@ -120,48 +120,22 @@ impl Write for Short {
     }
 }
 
-/// A reader that gives some bytes, one at a call, and fails once between two of them.
-#[derive(Drop)]
-struct Stumbling<'a> {
-    bytes: &'a [u8],
-    steps: usize,
-}
-
-impl io::Read for Stumbling<'_> {
-    fn read(&mut self, buf: &mut [u8]) -> io::Result<usize> {
-        if self.steps == 0 {
-            self.steps = usize::MAX;
-            return Err(io::Error::from(io::ErrorKind::Other));
-        }
-        self.steps -= 1;
-        let bytes = self.bytes;
-        match (bytes.split_first(), buf.first_mut()) {
-            (Some((byte, behind)), Some(place)) => {
-                *place = *byte;
-                self.bytes = behind;
-                Ok(1)
-            }
-            _ => Ok(0),
-        }
-    }
-}
-
 /// One segment of one zero word, and two bytes behind.
 const ONE: [u8; 18] = [0, 0, 0, 0, 1, 0, 0, 0, 0, 0, 0, 0, 0, 0, 0, 0, 5, 6];
 
 /// Two segments, of one word and of two.
-const TWO: [u8; 40] = [
+pub(crate) const TWO: [u8; 40] = [
     1, 0, 0, 0, 1, 0, 0, 0, 2, 0, 0, 0, 0, 0, 0, 0, 2, 0, 0, 0, 1, 0, 0, 0, 0, 0, 0, 0, 1, 0, 0, 0,
     7, 0, 0, 0, 0, 0, 0, 0,
 ];
 
 /// One segment of two words.
-const WRITTEN: [u8; 24] = [
+pub(crate) const WRITTEN: [u8; 24] = [
     0, 0, 0, 0, 2, 0, 0, 0, 0, 0, 0, 0, 1, 0, 0, 0, 7, 0, 0, 0, 0, 0, 0, 0,
 ];
 
 /// Reads the message of two segments.
-fn expect_two<R: BufRead>(rt: &impl Abort, alloc: Global, source: &mut R) -> Result<()> {
+pub(crate) fn expect_two<R: BufRead>(rt: &impl Abort, alloc: Global, source: &mut R) -> Result<()> {
     let message = read_message(alloc, source, Some(3))?;
     assert_eq!(rt; message.len(), 2);
     assert_eq!(rt; message.get_segment(0), Some(&TWO[16..24]));
@@ -242,32 +216,6 @@ fn counts_and_sizes_are_limited(rt: HostRuntime) -> std::result::Result<(), Fail
 }
 
 #[test]
-fn a_failed_read_is_no_end(rt: HostRuntime) -> std::result::Result<(), Fail> {
-    let alloc = rt.alloc();
-    for n in 0..40 {
-        let reader = Stumbling {
-            bytes: &TWO,
-            steps: n,
-        };
-        let mut source = Source::new(alloc, reader)?;
-        let failed = try_read_message(alloc, &mut source, None).err();
-        assert!(rt; failed == Some(Error::from(ErrorKind::Device)), "at {n}");
-        assert_eq!(rt; source.failures(), 1, "at {n}");
-    }
-    let mut source = Source::new(
-        alloc,
-        Stumbling {
-            bytes: &TWO,
-            steps: 0,
-        },
-    )?;
-    assert!(rt; source.fill_buf().is_err());
-    expect_two(&rt, alloc, &mut source)?;
-    assert_eq!(rt; source.failures(), 1);
-    Ok(())
-}
-
-#[test]
 fn messages_are_written(rt: HostRuntime) -> std::result::Result<(), Fail> {
     let alloc = rt.alloc();
     let mut out = Vec::new(alloc);
@@ -280,6 +228,15 @@ fn messages_are_written(rt: HostRuntime) -> std::result::Result<(), Fail> {
     assert_eq!(rt; rest.len(), 1);
     let full = write_segment(&mut rest, &[]).err();
     assert!(rt; full == Some(Error::from(ErrorKind::BufferNotLargeEnough)));
+    assert!(rt; place.starts_with(&WRITTEN));
+    assert_eq!(rt; place.last(), Some(&1));
+
+    let mut place = [1u8; 25];
+    let mut writer = SliceWriter::new(&mut place);
+    write_segment(&mut writer, &WRITTEN[8..])?;
+    assert_eq!(rt; writer.as_slice(), WRITTEN.as_slice());
+    assert_eq!(rt; writer.room(), 1);
+    drop(writer);
     assert!(rt; place.starts_with(&WRITTEN));
     assert_eq!(rt; place.last(), Some(&1));
     Ok(())
@@ -299,23 +256,5 @@ fn a_short_write_is_no_whole_one(rt: HostRuntime) -> std::result::Result<(), Fai
         assert_eq!(rt; out.failures(), 1, "at {n}");
         assert_eq!(rt; out.held.as_slice(), &WRITTEN[..n], "at {n}");
     }
-    Ok(())
-}
-
-#[test]
-fn buffered_bytes_keep_their_order(rt: HostRuntime) -> std::result::Result<(), Fail> {
-    let alloc = rt.alloc();
-    let mut held = Vec::new(alloc);
-    let mut out = Sink::buffered(alloc, &mut held)?;
-    let large = vec![in alloc; 7u8; 70000]?;
-    out.write_all(&[1, 2])?;
-    out.write_all(&large)?;
-    out.write_all(&[3])?;
-    out.flush()?;
-    assert_eq!(rt; out.failures(), 0);
-    drop(out);
-    assert_eq!(rt; held.len(), 70003);
-    assert_eq!(rt; held.first(), Some(&1));
-    assert_eq!(rt; held.last(), Some(&3));
     Ok(())
 }

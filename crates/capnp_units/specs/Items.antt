@@ -1,7 +1,6 @@
 -- The items of a list by index.
 use Rattle.std.specs.Prelude.{ℕ, zero, suc, ◌+◌, ◌-◌, List, [], ◌∷◌}
-use Rattle.capnp_units.specs.declared.iter.ListIter.{ListIter}
-use Rattle.capnp_units.specs.declared.short_iter.ShortListIter.{ShortListIter}
+use Rattle.capnp_units.specs.declared.iter.ItemIter.{ItemIter}
 
 -- So many items from an index on.
 abbrev pub items_from : {T : Type 0} → (ℕ → T) → ℕ → ℕ → List T
@@ -9,9 +8,5 @@ items_from at from zero = []
 items_from at from (suc n) = at from ∷ items_from at (from + 1) n
 
 -- The items that an iterator hasn't given yet, in order.
-abbrev pub items_left : {L T X : Type 0} {bound : _} → (L → ℕ → X) → ListIter L T bound → List X
+abbrev pub items_left : {I L T X : Type 0} {index : _} {bound : _} → (L → ℕ → X) → ItemIter I L T index bound → List X
 items_left at i = items_from (at i.list) i.index (i.size - i.index)
-
--- The same of an iterator whose indices are of 16 bits.
-abbrev pub short_items_left : {L T X : Type 0} {bound : _} → (L → ℕ → X) → ShortListIter L T bound → List X
-short_items_left at i = items_from (at i.list) i.index (i.size - i.index)

@@ -2,6 +2,8 @@
 use Rattle.std.specs.Prelude.{ℕ, ◌==◌, nat_lt, if◌then◌else◌}
 use Rattle.capnp_model.specs.Trees.{size_bits}
 use Rattle.capnp_units.specs.declared.sizes.ElementSize.{ElementSize}
+use Rattle.capnp_units.specs.declared.sizes.WirePointerKind.{WirePointerKind}
+use Rattle.capnp_units.specs.declared.sizes.WirePointerKind.TheVariants as kind
 use Rattle.capnp_units.specs.declared.sizes.ElementSize.TheVariants.{Void, Bit, Byte, TwoBytes, FourBytes, EightBytes, Pointer, InlineComposite}
 
 -- The number that a list pointer has for a size.
@@ -22,3 +24,10 @@ data_bits number = if nat_lt number 6 then size_bits number else 0
 -- The pointers in an element, by its size's number. Those of structs aren't counted.
 abbrev pub pointer_count : ℕ → ℕ
 pointer_count number = if number == 6 then 1 else 0
+
+-- The number that a pointer's lowest two bits have for its kind. (Encoding, "Structs", "Lists", "Inter-Segment Pointers", "Capabilities (Interfaces)")
+abbrev pub kind_number : WirePointerKind → ℕ
+kind_number kind.Struct = 0
+kind_number kind.List = 1
+kind_number kind.Far = 2
+kind_number kind.Other = 3

@@ -4,21 +4,53 @@ ghost use Rattle.std.specs.Option.{option_map};
 ghost use Rattle.std.specs.Iterator.{YieldsFirstBy, YieldsLastBy, item_count, UpTo, IsFinite};
 ghost use Rattle.std.specs.Iterator.SizeHint.{IsWithinCount};
 
-pub use crate::short_iter::ShortListIter;
 use std::marker::PhantomData;
 
 /// A number by which a list is asked for its items.
 pub trait ListIndex: Copy {
     /// The number.
     ghost number: { Self → ℕ };
+
+    /// How many numbers there are.
+    ghost bound: { ℕ };
+
+    /// The number as a count.
+    fn count(self) -> u32
+        ensures same { result ≡ number self }
+        ensures within { result < bound };
+
+    /// The index of a number.
+    fn at(count: u32) -> Self
+        requires { count < bound }
+        ensures { number result ≡ count };
 }
 
 impl ListIndex for u16 {
     ghost number = { λ n. n };
+
+    ghost bound = { 65536 };
+
+    fn count(self) -> u32 {
+        self as u32
+    }
+
+    fn at(count: u32) -> u16 {
+        count as u16
+    }
 }
 
 impl ListIndex for u32 {
     ghost number = { λ n. n };
+
+    ghost bound = { 4294967296 };
+
+    fn count(self) -> u32 {
+        self
+    }
+
+    fn at(count: u32) -> u32 {
+        count
+    }
 }
 
 /// A list whose items are made at each call.
@@ -41,30 +73,39 @@ pub trait IndexMove<I: ListIndex, T> {
         ensures { shown result ≡ at self.now (I.number index) };
 }
 
-/// The items of a list at 0 to a size less one, from both ends. Indices are of type `u32`.
+/// The items of a list at 0 to a size less one, from both ends. Each call makes one item at most.
 #[derive(Drop)]
-pub struct ListIter<L: IndexMove<u32, T>, T> {
-    marker: PhantomData<T>,
+pub struct ItemIter<I: ListIndex, L: IndexMove<I, T>, T> {
+    indices: PhantomData<I>,
+    items: PhantomData<T>,
     list: L,
     index: u32,
     size: u32,
     ghost ordered: { index ≤ size },
+    ghost named: { size < I.bound },
     ghost inside: { size ≤ L.count list },
 }
 
-impl<L: IndexMove<u32, T> + Drop, T: Drop> ListIter<L, T> {
+/// The items of a list whose indices are of type `u32`.
+pub type ListIter<L, T> = ItemIter<u32, L, T>;
+
+/// The items of a list whose indices are of type `u16`.
+pub type ShortListIter<L, T> = ItemIter<u16, L, T>;
+
+impl<I: ListIndex, L: IndexMove<I, T> + Drop, T: Drop> ItemIter<I, L, T> {
     ghost use Rattle.capnp_units.specs.Items.{items_from, items_left};
 
     /// The items at 0 to `size` less one, which the list has.
-    pub fn new(list: L, size: u32) -> ListIter<L, T>
-        requires { size ≤ L.count list }
-        ensures { items_left L.at result ≡ items_from (L.at list) 0 size }
+    pub fn new(list: L, size: I) -> ItemIter<I, L, T>
+        requires { I.number size ≤ L.count list }
+        ensures { items_left L.at result ≡ items_from (L.at list) 0 (I.number size) }
     {
-        ListIter {
-            marker: PhantomData,
+        ItemIter {
+            indices: PhantomData,
+            items: PhantomData,
             list,
             index: 0,
-            size,
+            size: size.count(),
         }
     }
 
@@ -80,13 +121,13 @@ impl<L: IndexMove<u32, T> + Drop, T: Drop> ListIter<L, T> {
             return None;
         }
         self.index += n as u32;
-        let item = self.list.index_move(self.index);
+        let item = self.list.index_move(I::at(self.index));
         self.index += 1;
         Some(item)
     }
 }
 
-impl<L: IndexMove<u32, T> + Drop, T: Drop> Iterator for ListIter<L, T> {
+impl<I: ListIndex, L: IndexMove<I, T> + Drop, T: Drop> Iterator for ItemIter<I, L, T> {
     ghost use Rattle.capnp_units.specs.Items.{items_left};
 
     type Item = T;
@@ -99,7 +140,7 @@ impl<L: IndexMove<u32, T> + Drop, T: Drop> Iterator for ListIter<L, T> {
         if self.index == self.size {
             return None;
         }
-        let first = self.list.index_move(self.index);
+        let first = self.list.index_move(I::at(self.index));
         self.index += 1;
         Some(first)
     }
@@ -116,14 +157,14 @@ impl<L: IndexMove<u32, T> + Drop, T: Drop> Iterator for ListIter<L, T> {
     }
 }
 
-impl<L: IndexMove<u32, T> + Drop, T: Drop> ExactSizeIterator for ListIter<L, T> {
+impl<I: ListIndex, L: IndexMove<I, T> + Drop, T: Drop> ExactSizeIterator for ItemIter<I, L, T> {
     #[tactic(auto, using(crate::proofs::ItemsLemmas::length_items))]
     fn len(&self) -> usize {
         (self.size - self.index) as usize
     }
 }
 
-impl<L: IndexMove<u32, T> + Drop, T: Drop> DoubleEndedIterator for ListIter<L, T> {
+impl<I: ListIndex, L: IndexMove<I, T> + Drop, T: Drop> DoubleEndedIterator for ItemIter<I, L, T> {
     ghost use Rattle.capnp_units.specs.Items.{items_left};
 
     ghost next_back_gives = { YieldsLastBy L.shown (items_left L.at) };
@@ -134,7 +175,7 @@ impl<L: IndexMove<u32, T> + Drop, T: Drop> DoubleEndedIterator for ListIter<L, T
             return None;
         }
         self.size -= 1;
-        Some(self.list.index_move(self.size))
+        Some(self.list.index_move(I::at(self.size)))
     }
 }
 

@@ -7,6 +7,5 @@ pub mod kinds;
 pub mod limiter;
 pub mod primitive;
 pub mod segments;
-pub mod short_iter;
 pub mod sizes;
 pub mod units;

@@ -1,7 +1,7 @@
 //! Sizes of structs, of lists' elements and of messages, and words.
 ghost use Rattle.std.specs.Prelude.{◌≡◌, ◌+◌, ◌*◌, ◌<◌, length};
 ghost use Rattle.std.specs.List.{flat_map};
-ghost use Rattle.capnp_units.specs.Sizes.{size_number, data_bits, pointer_count};
+ghost use Rattle.capnp_units.specs.Sizes.{size_number, data_bits, pointer_count, kind_number};
 
 use crate::units::{BitCount32, WirePointerCount32, WordCount32};
 
@@ -130,6 +130,33 @@ pub enum WirePointerKind {
     Other,
 }
 
+impl WirePointerKind {
+    /// The kind of a number from 0 to 3.
+    pub fn from_number(number: u64) -> WirePointerKind
+        requires { number < 4 }
+        ensures { kind_number result ≡ number }
+    {
+        match number {
+            0 => WirePointerKind::Struct,
+            1 => WirePointerKind::List,
+            2 => WirePointerKind::Far,
+            _ => WirePointerKind::Other,
+        }
+    }
+
+    /// The kind's number, 0 to 3.
+    pub fn number(self) -> u64
+        ensures { result ≡ kind_number self }
+    {
+        match self {
+            WirePointerKind::Struct => 0,
+            WirePointerKind::List => 1,
+            WirePointerKind::Far => 2,
+            WirePointerKind::Other => 3,
+        }
+    }
+}
+
 /// What a pointer names, far pointers followed.
 #[derive(Clone, Copy, Debug, PartialEq, Eq)]
 pub enum PointerType {
@@ -169,6 +196,8 @@ mod tests {
         assert_eq!(rt; size.total(), 131070);
         assert_eq!(rt; ElementSize::from_number(3), ElementSize::TwoBytes);
         assert_eq!(rt; ElementSize::InlineComposite.number(), 7);
+        assert_eq!(rt; WirePointerKind::from_number(3), WirePointerKind::Other);
+        assert_eq!(rt; WirePointerKind::Far.number(), 2);
         assert_eq!(rt; data_bits_per_element(ElementSize::FourBytes), 32);
         assert_eq!(rt; pointers_per_element(ElementSize::Pointer), 1);
         Ok(())

@@ -202,3 +202,19 @@ module _ (words nesting : ℕ) (s : Segments) where
   pub found_small : (r : Result (Option Value) AllocError) → IfOk r (λ found. option_map tree_of_value found ≡ value_within (bounds words nesting) s) → IfOk r (λ found. IfSome found (λ v. length (canonical_words (tree_of_value v)) ≤ words + 1))
   found_small (Ok found) h = small_found found h
   found_small (Err e) h = tt
+
+-- ---- without a limit of words
+
+module _ (nesting : ℕ) (s : Segments) where
+  whole_is : (found : Option Value) (old new : ReadLimiter) → left_of old ≡ None → Reads tree_of_value (clean_at nesting s root) (cost_at nesting s root) old (Ok found) new → option_map tree_of_value found ≡ clean_at nesting s root
+  whole_is (Some v) old new is r = sym r.0
+  whole_is None old new is r = by (clean_at nesting s root) r
+    where
+      by : (o : Option Tree) → ((t : Tree) → o ≡ Some t → IsPassed (left_of old) (cost_at nesting s root)) → None ≡ o
+      by None g = refl
+      by (Some t) g = absurd (subst (λ (l : Option ℕ). IsPassed l (cost_at nesting s root)) is (g t refl))
+
+  -- what reading the root without a limit gives is the value there
+  pub whole_gives : (r : Result (Option Value) AllocError) (old new : ReadLimiter) → left_of old ≡ None → Reads tree_of_value (clean_at nesting s root) (cost_at nesting s root) old r new → IfOk r (λ found. option_map tree_of_value found ≡ clean_at nesting s root)
+  whole_gives (Ok found) old new is r = whole_is found old new is r
+  whole_gives (Err e) old new is r = tt

@@ -18,12 +18,12 @@ use Rattle.capnp_units.specs.declared.limiter.ReadLimiter.{ReadLimiter}
 use Rattle.capnp_units.specs.Limits.{left_of}
 use Rattle.capnp_units.proofs.Spending.{spends_nothing, passed_by_more}
 use Rattle.capnp_units.specs.Sizes.{size_number}
-use Rattle.capnp_wire.specs.declared.object.Object.{Object}
-use Rattle.capnp_wire.specs.declared.object.Object.TheVariants as object
-use Rattle.capnp_wire.specs.declared.object.Found.{Found}
-use Rattle.capnp_wire.specs.Places.{placed}
-use Rattle.capnp_wire.specs.Objects.{plain_size, whole_list, whole, object_at}
-use Rattle.capnp_wire.specs.Follow.{own_cost, found_cost, Pays, FollowGives}
+use Rattle.capnp_object.specs.declared.object.Object.{Object}
+use Rattle.capnp_object.specs.declared.object.Object.TheVariants as object
+use Rattle.capnp_object.specs.declared.object.Found.{Found}
+use Rattle.capnp_object.specs.Places.{placed}
+use Rattle.capnp_object.specs.Objects.{plain_size, whole_list, whole, object_at}
+use Rattle.capnp_object.specs.Follow.{own_cost, found_cost, Pays, FollowGives}
 use Rattle.capnp_value.specs.declared.value.Value.{Value, Null}
 use Rattle.capnp_value.specs.Values.{tree_of_value}
 use Rattle.capnp_value.specs.Rows.{Reads}

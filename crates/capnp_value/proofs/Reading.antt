@@ -16,7 +16,7 @@ use Rattle.capnp_units.specs.declared.limiter.ReadLimiter.{ReadLimiter}
 use Rattle.capnp_units.specs.Limits.{Spends}
 use Rattle.capnp_units.proofs.Spending.{spends_both}
 use Rattle.capnp_units.specs.Sizes.{data_bits}
-use Rattle.capnp_wire.proofs.Tags.{words_from, words_are}
+use Rattle.capnp_object.proofs.Tags.{words_from, words_are}
 use Rattle.capnp_value.specs.declared.value.Value.{Value, Null, Struct, List as PlainList, Pointers, the_lemmas}
 use Rattle.capnp_value.specs.Values.{tree_of_value, trees_of, trees_view}
 use Rattle.capnp_value.specs.Rows.{row, total, Reads}

@@ -15,7 +15,7 @@ use Rattle.capnp_model.specs.Trees.{Tree, structure, struct_list, Trees, none, â
 use Rattle.capnp_model.specs.Traversal.{Tag, tag_of, tag_in, each, each_element, tree_of, cost_each, cost_elements}
 use Rattle.capnp_model.proofs.Chaining.{bind_some, some_is, provided_some}
 use Rattle.capnp_units.specs.declared.limiter.ReadLimiter.{ReadLimiter}
-use Rattle.capnp_wire.proofs.Tags.{words_from, words_are}
+use Rattle.capnp_object.proofs.Tags.{words_from, words_are}
 use Rattle.capnp_value.specs.declared.value.Value.{Value, Structs, the_lemmas}
 use Rattle.capnp_value.specs.Values.{tree_of_value, elements_of, trees_view}
 use Rattle.capnp_value.specs.Rows.{row, total, Reads}

@@ -6,8 +6,8 @@ use Rattle.std.proofs.lemmas.List.{drop-drop, drop-take}
 use Rattle.capnp_model.specs.Bytes.{words_in_bytes}
 use Rattle.capnp_model.specs.Segments.{place, words_at}
 use Rattle.capnp_units.specs.Segments.{whole_words, words_in}
-use Rattle.capnp_wire.proofs.Tags.{words_are}
-use Rattle.capnp_wire.proofs.Words.{word_of_eight, word_of_front, whole_words-length, segment_there}
+use Rattle.capnp_object.proofs.Tags.{words_are}
+use Rattle.capnp_object.proofs.Words.{word_of_eight, word_of_front, whole_words-length, segment_there}
 
 -- ---- one after the other
 

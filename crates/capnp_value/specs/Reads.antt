@@ -8,9 +8,9 @@ use Rattle.capnp_model.specs.Trees.{Tree, null, pointer_list, struct_list}
 use Rattle.capnp_model.specs.Traversal.{each, tree_of, cost_each, cost_elements}
 use Rattle.capnp_model.specs.Answers.{Limits}
 use Rattle.capnp_units.specs.Sizes.{size_number}
-use Rattle.capnp_wire.specs.declared.object.Object.{Object}
-use Rattle.capnp_wire.specs.declared.object.Object.TheVariants as object
-use Rattle.capnp_wire.specs.Places.{place_view}
+use Rattle.capnp_object.specs.declared.object.Object.{Object}
+use Rattle.capnp_object.specs.declared.object.Object.TheVariants as object
+use Rattle.capnp_object.specs.Places.{place_view}
 use Rattle.capnp_value.specs.declared.value.read.Bounds.{Bounds}
 use Rattle.capnp_value.specs.Rows.{row}
 use Rattle.capnp_value.specs.Values.{elements_of}

@@ -11,7 +11,7 @@ mod trim;
 mod write;
 
 pub use depth::is_within;
-pub use read::{Bounds, read_value};
+pub use read::{Bounds, read_value, read_whole};
 pub use size::is_short;
 pub use trim::trim_whole;
 pub use write::canonical;

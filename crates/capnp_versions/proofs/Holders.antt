@@ -117,9 +117,9 @@ found_id (m ∷ ns) id n e = by (m.id == id) refl (found_id ns id n) e
     by true same more k = let is : m ≡ n = cc in let number : m.id ≡ id = grind arith in ap (λ (x : Node). x.id) (sym is) ∙ number
     by false same more k = more k
 
--- a group has no more words than its holder
-pub group_words : (nodes : List Node) → PlacesKept nodes → list_all (has_good_ids nodes) nodes ≡ true → (id : ℕ) (h : Node) (g : ℕ) (n : Node) → find_node nodes id ≡ Some h → uses h g ≡ true → find_node nodes g ≡ Some n → (sizes_of n).0 ≤ (sizes_of h).0
-group_words nodes r ids id h g n e k f =
+-- a group is no larger than its holder
+pub group_fits : (nodes : List Node) → PlacesKept nodes → list_all (has_good_ids nodes) nodes ≡ true → (id : ℕ) (h : Node) (g : ℕ) (n : Node) → find_node nodes id ≡ Some h → uses h g ≡ true → find_node nodes g ≡ Some n → ((sizes_of n).0 ≤ (sizes_of h).0) × ((sizes_of n).1 ≤ (sizes_of h).1)
+group_fits nodes r ids id h g n e k f =
     let good : is_good_group nodes n ≡ true = found_passes (is_good_group nodes) nodes g n r.groups f in
     let named = and_right (list_all (λ t. names_its_sort nodes t.base) (types_in h)) (list_all (names_a is_group_node nodes) (groups_used h)) (found_passes (has_good_ids nodes) nodes id h ids e) in
     let a_group : names_a is_group_node nodes g ≡ true = each_is_group nodes (groups_used h) g named k in
@@ -130,7 +130,7 @@ group_words nodes r ids id h g n e k f =
     let counts : counted g (flat_map groups_used nodes) ≤ 1 = let c = counted_is g (flat_map groups_used nodes) in omega arith in
     let held : holder_of nodes n.id ≡ Some h = ap (holder_of nodes) same ∙ holder nodes id h g e k counts in
     let fits : fits_in n (Some h) ≡ true = ap (fits_in n) (sym held) ∙ three.2 in
-    le_is (sizes_of n).0 (sizes_of h).0 (and_left (nat_le (sizes_of n).0 (sizes_of h).0) (nat_le (sizes_of n).1 (sizes_of h).1) fits)
+    (le_is (sizes_of n).0 (sizes_of h).0 (and_left (nat_le (sizes_of n).0 (sizes_of h).0) (nat_le (sizes_of n).1 (sizes_of h).1) fits), le_is (sizes_of n).1 (sizes_of h).1 (and_right (nat_le (sizes_of n).0 (sizes_of h).0) (nat_le (sizes_of n).1 (sizes_of h).1) fits))
   where
     le_is : (a b : ℕ) → nat_le a b ≡ true → a ≤ b
     le_is a b x = grind arith

@@ -13,6 +13,9 @@ pub mod Within
 pub mod SelfFollows
 pub mod TrimmedEdits
 pub mod Partners
+pub mod FittingEdits
+pub mod FittingSchemas
+pub mod OwnOutput
 pub mod KeptFollows
 pub mod ReplacedViews
 pub mod OlderContents

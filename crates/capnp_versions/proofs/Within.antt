@@ -32,7 +32,7 @@ use Rattle.capnp_model.proofs.SoundRules.{RulesKept, rules_kept}
 use Rattle.capnp_versions.proofs.SameShapes.{UnionWithin}
 use Rattle.capnp_versions.proofs.SameContents.{shape_words}
 use Rattle.capnp_versions.proofs.Follows.{IsNarrow}
-use Rattle.capnp_versions.proofs.Holders.{PlacesKept, places_kept, uses, group_words}
+use Rattle.capnp_versions.proofs.Holders.{PlacesKept, places_kept, uses, group_fits}
 
 -- ---- what holds of a shape
 
@@ -248,7 +248,7 @@ module _ (nodes : List Node) (r : RulesKept nodes) (q : PlacesKept nodes) where
     where
       by : (o : Option Node) → find_node nodes g ≡ o → shape_words (shape_of_node (λ x. shape_in nodes levels x) o) ≤ (sizes_of n).0
       by None f = omega arith
-      by (Some m) f = subst (λ z. z ≤ (sizes_of n).0) (sym (node_words (λ x. shape_in nodes levels x) m)) (group_words nodes q r.ids id n g m e k f)
+      by (Some m) f = subst (λ z. z ≤ (sizes_of n).0) (sym (node_words (λ x. shape_in nodes levels x) m)) (group_fits nodes q r.ids id n g m e k f).0
 
   struct_within : (groups : ℕ → Shape) (room nid : ℕ) (k : NodeKind) → ((g : ℕ) → list_any (λ x. x == g) (flat_map (λ (f : Field). groups_of_field f.kind) (fields_of_kind k)) ≡ true → IsWithin room (groups g))
       → 64 * (elim k as (λ (x : NodeKind). ℕ × ℕ) [ struct_node s ↦ (s.words, s.pointers) | enum_node es ↦ (0, 0) ]).0 ≤ room

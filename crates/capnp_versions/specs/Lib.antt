@@ -1,3 +1,5 @@
+pub mod OwnOutput
+pub mod Fitting
 pub mod Whole
 pub mod StructElements
 pub mod Machines

@@ -12,8 +12,8 @@ use Rattle.capnp_model.specs.Segments.{place}
 use Rattle.capnp_units.specs.Segments.{whole_words, words_in}
 use Rattle.capnp_units.proofs.FirstBytes.{first_eight}
 use Rattle.capnp_wire.specs.Views.{section_at, section_in}
-use Rattle.capnp_wire.proofs.Words.{whole_words-length, segment_there}
-use Rattle.capnp_wire.proofs.Tags.{words_are}
+use Rattle.capnp_object.proofs.Words.{whole_words-length, segment_there}
+use Rattle.capnp_object.proofs.Tags.{words_are}
 
 -- Numbers that a byte holds.
 abbrev pub AreBytes : List ℕ → Type 0

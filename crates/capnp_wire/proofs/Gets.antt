@@ -5,11 +5,11 @@ use Rattle.capnp_model.specs.Chains.{passes}
 use Rattle.capnp_model.specs.Segments.{Segments, Place, word_at}
 use Rattle.capnp_units.specs.declared.errors.Error.{Error}
 use Rattle.capnp_units.specs.declared.limiter.ReadLimiter.{ReadLimiter}
-use Rattle.capnp_wire.specs.declared.object.Object.{Object}
-use Rattle.capnp_wire.specs.declared.object.Object.TheVariants as object
-use Rattle.capnp_wire.specs.declared.object.Found.{Found}
-use Rattle.capnp_wire.specs.Objects.{object_at}
-use Rattle.capnp_wire.specs.Follow.{FollowGives, found_cost}
+use Rattle.capnp_object.specs.declared.object.Object.{Object}
+use Rattle.capnp_object.specs.declared.object.Object.TheVariants as object
+use Rattle.capnp_object.specs.declared.object.Found.{Found}
+use Rattle.capnp_object.specs.Objects.{object_at}
+use Rattle.capnp_object.specs.Follow.{FollowGives, found_cost}
 use Rattle.capnp_wire.specs.Views.{PointerView}
 use Rattle.capnp_wire.specs.Reads.{is_null_at, is_null, found_behind, object_behind, is_charged, PaysFor, PaysNothing, IsTooDear, GetGives}
 

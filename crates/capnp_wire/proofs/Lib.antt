@@ -1,15 +1,7 @@
-pub mod Words
-pub mod Pads
-pub mod Tags
 pub mod Bytes
 pub mod Gets
 pub mod Elements
 pub mod Fields
-pub mod Linking
-pub mod Walking
-pub mod Paying
-pub mod Walks
-pub mod Rows
-pub mod Measuring
-pub mod LevelLaws
+pub mod Sizing
 pub mod ListLaws
+pub mod ReadingLaws

@@ -19,12 +19,12 @@ use Rattle.capnp_units.specs.Errors.{kind_of}
 use Rattle.capnp_units.specs.Segments.{words_in}
 use Rattle.capnp_units.specs.Sizes.{size_number, data_bits}
 use Rattle.capnp_units.specs.Limits.{left_of, Spends, IsPassed, Follows}
-use Rattle.capnp_wire.specs.declared.object.Object.{Object}
-use Rattle.capnp_wire.specs.declared.object.Object.TheVariants as object
-use Rattle.capnp_wire.specs.declared.object.Found.{Found}
-use Rattle.capnp_wire.specs.Places.{place_view}
-use Rattle.capnp_wire.specs.Objects.{object_at}
-use Rattle.capnp_wire.specs.Follow.{found_cost, KeepsBudget}
+use Rattle.capnp_object.specs.declared.object.Object.{Object}
+use Rattle.capnp_object.specs.declared.object.Object.TheVariants as object
+use Rattle.capnp_object.specs.declared.object.Found.{Found}
+use Rattle.capnp_object.specs.Places.{place_view}
+use Rattle.capnp_object.specs.Objects.{object_at}
+use Rattle.capnp_object.specs.Follow.{found_cost, KeepsBudget}
 use Rattle.capnp_wire.specs.Levels.{level_below}
 use Rattle.capnp_wire.specs.Views.{Ground, default_ground, section_at, arena_root, PointerView, StructView, struct_view, ListView, list_view}
 
@@ -165,10 +165,10 @@ type_of (model.a_struct p d k) = sort.Struct
 type_of (model.a_list p size n) = sort.List
 type_of (model.a_capability i) = sort.Capability
 
--- The sort of object at a place, if there is one.
+-- The sort of object at a place, if there is one, where it begins inside its segment; no word of it is looked at.
 abbrev pub type_at : Segments → Option Place → Result PointerType Kind
 type_at s None = Ok sort.Null
-type_at s (Some p) = model.found_at s p and_then λ f. Ok (type_of f.object)
+type_at s (Some p) = model.found_at s p and_then λ f. guard (model.begins_inside s f.object) OutOfBounds and_then λ _. Ok (type_of f.object)
 
 -- The sort of object behind a pointer that may be none.
 abbrev pub type_behind : PointerView → Result PointerType Kind

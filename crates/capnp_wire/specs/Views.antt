@@ -1,19 +1,21 @@
 -- Readers as their callers see them.
+pub use Rattle.capnp_object.specs.Inside.{section_in}
+unfoldable pub use Rattle.capnp_object.specs.Inside.{section_at}
 use Rattle.std.specs.Prelude.{ℕ, ℤ, ◌+◌, ◌*◌, ◌%◌, ◌^◌, nat_lt, nat_le, if◌then◌else◌, Bool, true, false, List, [], ◌∷◌, length, Option, Some, None}
 use Rattle.std.specs.List.{flat_map}
 use Rattle.capnp_model.specs.Answers.{levels}
-use Rattle.capnp_model.specs.Sections.{bits_at, number_of, section_of}
-use Rattle.capnp_model.specs.Segments.{Segments, Place, root, after, words_at}
+use Rattle.capnp_model.specs.Sections.{bits_at, number_of}
+use Rattle.capnp_model.specs.Segments.{Segments, Place, root, after}
 use Rattle.capnp_units.specs.declared.sizes.ElementSize.{ElementSize}
 use Rattle.capnp_units.specs.Segments.{words_in}
 use Rattle.capnp_units.specs.Sizes.{size_number}
 use Rattle.capnp_wire.specs.declared.backing.Backing.{Backing}
 use Rattle.capnp_wire.specs.declared.backing.Backing.TheVariants as backing
-use Rattle.capnp_wire.specs.declared.place.Place as wire
+use Rattle.capnp_object.specs.declared.place.Place as wire
 use Rattle.capnp_wire.specs.declared.pointer.PointerReader.{PointerReader}
 use Rattle.capnp_wire.specs.declared.structs.StructReader.{StructReader}
 use Rattle.capnp_wire.specs.declared.list.ListReader.{ListReader}
-use Rattle.capnp_wire.specs.Places.{place_view}
+use Rattle.capnp_object.specs.Places.{place_view}
 use Rattle.capnp_wire.specs.Elements.{step_bits, element_bits, step_words, element_pointers}
 
 -- The bytes of the segments that a reader sees.
@@ -38,15 +40,6 @@ ground_of bytes b = record { segments = words_in (backing_bytes bytes b); paid =
 -- A default whose words have these bytes.
 abbrev pub default_ground : List (List ℕ) → Ground
 default_ground words = record { segments = words_in (flat_map (λ word. word) words ∷ []); paid = false }
-
--- The section of words that may be there.
-abbrev pub section_in : Option (List ℕ) → ℕ
-section_in None = 0
-section_in (Some words) = section_of words
-
--- The section of so many words from a place on.
-unfoldable pub section_at : Segments → Place → ℕ → ℕ
-section_at s p n = section_in (words_at s p n)
 
 -- A pointer to read: where it stands, if it does, and how many levels may be followed from it.
 pub record PointerView : Type 0 where

@@ -3,8 +3,8 @@ ghost use Rattle.std.specs.Prelude.{◌≡◌, ◌+◌, ◌*◌, ◌<◌, ◌^�
 ghost use Rattle.std.specs.List.{flat_map};
 ghost use Rattle.capnp_model.specs.Sections.{numbers_in, number_of, section_of};
 ghost use Rattle.capnp_units.specs.Segments.{whole_words, words_in};
-ghost use Rattle.capnp_wire.specs.Places.{place_view};
-ghost use Rattle.capnp_wire.specs.Objects.{AreThere};
+ghost use Rattle.capnp_object.specs.Places.{place_view};
+ghost use Rattle.capnp_object.specs.Objects.{AreThere};
 ghost use Rattle.capnp_wire.specs.Views.{backing_bytes, ground_of, default_ground, section_at};
 
 use crate::arena::ReaderArena;

@@ -1,16 +1,11 @@
 //! Laws of what is read, each the contract of an empty function: a call of it brings its clauses.
-ghost use Rattle.capnp_wire.specs.Laws.{TreesByLevels, CostsByLevels, FaultsByLevels, FaultsOfObjects, ElementsAreShown, NumbersAreShown};
+ghost use Rattle.capnp_wire.specs.Laws.{BytesAreRead, StructsAreRead, ListsAreRead};
 
-/// What a pointer names, one level deep, makes the whole value together with what the pointers in it name: its tree, its cost and its faults.
-pub fn values_by_levels()
-    ensures trees { TreesByLevels }
-    ensures costs { CostsByLevels }
-    ensures faults { FaultsByLevels }
-    ensures refused { FaultsOfObjects }
-{}
+pub use capnp_object::laws::values_by_levels;
 
-/// A list as it is read shows the elements of the value: those of structs by their sections and pointers, plain ones by their numbers.
-pub fn lists_show_values()
-    ensures structs { ElementsAreShown }
-    ensures numbers { NumbersAreShown }
+/// Gets are the model's readings of the value, where a level is left: texts and data are its bytes; a struct has its data section, and the pointer at an index leads to the child there; a list has its elements, each with its bits and its children. What is refused is refused by the kind by which the model's reading is.
+pub fn gets_are_readings()
+    ensures bytes { BytesAreRead }
+    ensures structs { StructsAreRead }
+    ensures lists { ListsAreRead }
 {}

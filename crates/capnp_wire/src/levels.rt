@@ -1,7 +1,7 @@
 //! How many levels of pointers may still be followed.
 ghost use Rattle.std.specs.Prelude.{◌≡◌};
 ghost use Rattle.capnp_model.specs.Answers.{levels};
-ghost use Rattle.capnp_wire.specs.Places.{seen};
+ghost use Rattle.capnp_object.specs.Places.{seen};
 ghost use Rattle.capnp_wire.specs.Levels.{level_below};
 
 use capnp_units::errors::{Error, Result};

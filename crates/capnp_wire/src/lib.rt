@@ -3,21 +3,18 @@
 //! Numbers lie in words of eight bytes, the lowest byte first. A reader stands over an arena of segments or over a default value, and what it follows is paid for from a `ReadLimiter`.
 #![tactic(auto)]
 
-pub mod arena;
+pub use capnp_object::{arena, follow, object, place, size};
+
 pub mod backing;
 pub mod element;
-pub mod follow;
 pub mod laws;
 pub mod levels;
 pub mod list;
-mod named;
-pub mod object;
-pub mod place;
 pub mod pointer;
 mod section;
-pub mod size;
+#[cfg(test)]
+mod size_tests;
 pub mod structs;
 #[cfg(test)]
 mod tests;
 pub mod traits;
-mod word_pointer;

@@ -43,7 +43,7 @@ impl<A> Copy for ListReader<'_, A> {}
 
 impl<'a, A: ReaderArena> ListReader<'a, A> {
     ghost use Rattle.capnp_model.specs.Segments.{root};
-    ghost use Rattle.capnp_wire.specs.Places.{place_view};
+    ghost use Rattle.capnp_object.specs.Places.{place_view};
     ghost use Rattle.capnp_wire.specs.Views.{ground_of, seen_pointer, seen_struct, seen_list, list_view, element_of, element_number, pointer_field};
 
     /// A list of these parts.

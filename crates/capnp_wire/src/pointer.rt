@@ -1,28 +1,31 @@
 //! Pointers to read.
 ghost use Rattle.std.specs.Prelude.{◌≡◌, ◌≢◌, ◌+◌, ◌*◌, ◌<◌, ◌≤◌, ◌^◌, ◌%◌, length, Ok, IfOk, option_copied};
-ghost use Rattle.capnp_model.specs.Chains.{◌and_then◌};
+ghost use Rattle.std.specs.Option.{is_some};
+ghost use Rattle.capnp_model.specs.Kinds.{OutOfBounds};
+ghost use Rattle.capnp_model.specs.Chains.{◌and_then◌, guard};
+ghost use Rattle.capnp_model.specs.Segments.{words_at};
 ghost use Rattle.capnp_units.specs.Segments.{words_in};
 ghost use Rattle.capnp_units.specs.Limits.{left_of};
 ghost use Rattle.capnp_wire.specs.Views.{backing_bytes, ground_of, seen_pointer, seen_struct, seen_list, list_view};
 ghost use Rattle.capnp_wire.specs.Reads.{root_of, is_null, with_default, GetGives, read_struct, read_bytes, read_blob, read_text, read_list, read_elements, list_head, type_behind};
-ghost use Rattle.capnp_wire.specs.Places.{seen, place_view};
+ghost use Rattle.capnp_object.specs.Places.{seen, place_view};
 ghost use Rattle.capnp_wire.specs.Elements.{step_bits, step_words};
 ghost use Rattle.capnp_model.specs.Sections.{number_of};
 ghost use Rattle.capnp_model.specs.Readings.{is_accepted_as};
 ghost use Rattle.capnp_units.specs.Sizes.{size_number};
-ghost use Rattle.capnp_wire.specs.Objects.{IsInside};
-ghost use Rattle.capnp_wire.specs.Walks.{PointerSize};
+ghost use Rattle.capnp_object.specs.Objects.{IsInside};
+ghost use Rattle.capnp_wire.specs.ValueSizes.{PointerSize};
 
 use crate::arena::ReaderArena;
 use crate::backing::{Backing, default_backing, front_of};
 use crate::follow::follow;
 use crate::levels::{level_below, levels_of};
 use crate::list::ListReader;
-use crate::named::{NamedObject, found_at};
 use crate::object::{Object, object_at, words_of_elements};
-use crate::place::{Place, word_at};
+use crate::place::{Place, has_words, word_at};
 use crate::size::{NOTHING, size_at};
 use crate::structs::StructReader;
+use capnp_object::named::{NamedObject, found_at};
 use capnp_units::errors::{Error, Result};
 use capnp_units::kinds::ErrorKind;
 use capnp_units::limiter::ReadLimiter;
@@ -226,21 +229,32 @@ impl<'a, A: ReaderArena> PointerReader<'a, A> {
         self.with_default(default).text_here(limiter)
     }
 
-    /// The sort of object that the pointer names, whether its words are there or not. It costs nothing.
+    /// The sort of object that the pointer names, where it begins inside its segment; its words needn't be there, and none is looked at. It costs nothing.
     ///
-    /// It is refused with `OutOfBounds` where the pointer or a pad isn't there, with `MalformedFarPointer` and with `UnknownPointerType`.
+    /// It is refused with `OutOfBounds` where the pointer or a pad isn't there, or the object would begin in front of its segment or behind its last word; with `MalformedFarPointer` and with `UnknownPointerType`.
     pub fn get_pointer_type(&self) -> Result<PointerType>
         ensures { seen (λ t. t) result ≡ type_behind (seen_pointer A.segments self.now) }
     {
         let Some(place) = self.place else {
             return Ok(PointerType::Null);
         };
-        match found_at(&self.backing, place)?.object {
+        let found = found_at(&self.backing, place)?;
+        match found.object {
             NamedObject::Null => Ok(PointerType::Null),
-            NamedObject::Struct { .. } => Ok(PointerType::Struct),
-            NamedObject::List { .. } => Ok(PointerType::List),
             NamedObject::Capability { .. } => Ok(PointerType::Capability),
+            NamedObject::Struct { start, .. } => self.type_inside(start, PointerType::Struct),
+            NamedObject::List { start, .. } => self.type_inside(start, PointerType::List),
         }
+    }
+
+    /// The sort of an object that begins at a place, where that is inside its segment.
+    fn type_inside(&self, start: Place, sort: PointerType) -> Result<PointerType>
+        ensures { seen (λ t. t) result ≡ (guard (is_some (words_at (words_in (backing_bytes A.segments self.now.backing)) (place_view start) 0)) OutOfBounds and_then λ _. Ok sort) }
+    {
+        if !has_words(&self.backing, start, 0) {
+            return Err(Error::from(ErrorKind::OutOfBounds));
+        }
+        Ok(sort)
     }
 
     /// A list whose bytes are lent, where a level is left and its elements can be read as ones of the expected size.
@@ -332,7 +346,9 @@ impl<'a, A: ReaderArena> PointerReader<'a, A> {
 
     /// The size of the pointer's value: the words of its objects at every depth, without pads and without the pointer itself, and its capabilities. Each count stops at the greatest number of its type. In an arena all of it is followed and paid for.
     ///
-    /// It is refused by the kind of one of the value's faults within the levels that are left, which under a negative nesting limit is `NestingLimitExceeded` for every value, or with `ReadLimitExceeded` just where following all of it costs more words than are left. No more pointers are followed than words are granted, and one more.
+    /// Pointers are followed in the order of reading, nulls too. It is refused at the first fault within the levels that are left, by its kind, and under a negative nesting limit with `NestingLimitExceeded` for every value; with `ReadLimitExceeded` at the first object that is there and costs more words than are left. Then the objects before it are paid for, and it counts as followed. On success just the value's pointers count as followed, and else no more than words are granted, and one.
+    ///
+    /// What bounds its time and its stack stands at `size_at`; a default has the words that it has, and no limit.
     pub fn total_size(&self, limiter: &mut ReadLimiter) -> Result<MessageSize>
         ensures { PointerSize (seen_pointer A.segments self.now) limiter.old result limiter.new }
     {

@@ -40,13 +40,13 @@ impl<A> Clone for StructReader<'_, A> {
 impl<A> Copy for StructReader<'_, A> {}
 
 impl<'a, A: ReaderArena> StructReader<'a, A> {
-    ghost use Rattle.capnp_wire.specs.Places.{place_view};
+    ghost use Rattle.capnp_object.specs.Places.{place_view};
     ghost use Rattle.capnp_wire.specs.Views.{ground_of, seen_pointer, seen_struct, struct_view, pointer_field, bit_of_bool};
     ghost use Rattle.capnp_wire.specs.Reads.{empty_struct, is_null};
-    ghost use Rattle.capnp_wire.specs.Walks.{SizeOn, StructSizeOf};
-    ghost use Rattle.capnp_model.specs.Traversal.{tree_at, cost_at, each, cost_each};
+    ghost use Rattle.capnp_wire.specs.ValueSizes.{SizeOn, StructSizeOf};
+    ghost use Rattle.capnp_model.specs.Traversal.{tree_at, each};
     ghost use Rattle.capnp_model.specs.Coverage.{from_each};
-    ghost use Rattle.capnp_model.specs.Faults.{faults_at};
+    ghost use Rattle.capnp_model.specs.Visits.{visits};
     ghost use Rattle.capnp_model.specs.Sizes.{each_object_words, each_capability_count};
 
     /// A struct of these parts.
@@ -148,7 +148,7 @@ impl<'a, A: ReaderArena> StructReader<'a, A> {
 
     /// The size of the struct: its sections in whole words, the words of the objects behind its pointers, and their capabilities. Each count stops at the greatest number of its type. In an arena the pointers are followed and paid for; the struct's own words were paid for already.
     ///
-    /// It is refused as the size of a pointer's value is.
+    /// It is refused as the size of a pointer's value is, and bounded in time and stack likewise.
     pub fn total_size(&self, limiter: &mut ReadLimiter) -> Result<MessageSize>
         ensures { StructSizeOf (seen_struct A.segments self.now) limiter.old result limiter.new }
     {
@@ -162,7 +162,7 @@ impl<'a, A: ReaderArena> StructReader<'a, A> {
 
     /// The size of what the struct's pointers lead to.
     fn size_of_pointers(&self, limiter: &mut ReadLimiter, levels: u32) -> Result<MessageSize>
-        ensures { let v = seen_struct A.segments self.now in let s = v.basis.segments in SizeOn v.basis.paid each_object_words each_capability_count (each (tree_at levels s) v.first v.pointers) (from_each (faults_at levels s) v.first v.pointers) (cost_each (cost_at levels s) v.first v.pointers) v.pointers limiter.old result limiter.new }
+        ensures { let v = seen_struct A.segments self.now in let s = v.basis.segments in SizeOn v.basis.paid each_object_words each_capability_count (each (tree_at levels s) v.first v.pointers) (from_each (visits levels s) v.first v.pointers) limiter.old result limiter.new }
     {
         let count = self.pointers as u32;
         match self.backing {

@@ -1,5 +1,7 @@
 //! Worked segments, read.
 
+ghost use Rattle.std.specs.Prelude.{◌≡◌};
+
 use crate::arena::{NullArena, ReaderArena, ReaderArenaImpl};
 use crate::element::PrimitiveElement;
 use crate::list::ListReader;
@@ -220,8 +222,18 @@ impl<'a, A: ReaderArena + 'a> OwnedStruct<'a, A> for Number {
 #[derive(Drop)]
 struct NumberReader<'a, A>(StructReader<'a, A>);
 
+impl<'a, A: ReaderArena> From<StructReader<'a, A>> for NumberReader<'a, A> {
+    ghost from_gives = { λ s r. r.0 ≡ s };
+
+    fn from(reader: StructReader<'a, A>) -> NumberReader<'a, A> {
+        NumberReader(reader)
+    }
+}
+
 impl<'a, A: ReaderArena> IntoInternalStructReader<'a, A> for NumberReader<'a, A> {
     ghost inner_struct = { λ n. n.0 };
+
+    ghost made = { λ s r same. same };
 
     fn into_internal_struct_reader(self) -> StructReader<'a, A> {
         self.0
@@ -255,11 +267,19 @@ fn read_as<'a, A: ReaderArena, T: Owned<'a, A>>(
     <T::Reader as FromPointerReader<'a, A>>::get_from_pointer(root, limiter, None)
 }
 
+/// A struct, read as a type's and given back.
+fn struct_as<'a, A: ReaderArena, T: OwnedStruct<'a, A>>(
+    reader: StructReader<'a, A>,
+) -> StructReader<'a, A>
+    ensures { result ≡ reader.entry }
+{
+    <T::Reader as From<StructReader<'a, A>>>::from(reader).into_internal_struct_reader()
+}
+
 /// Whether the root is a `Number` with the value 7, and a null pointer in it reads as no number and no data.
 fn reads_types<A: ReaderArena>(arena: &A, limiter: &mut ReadLimiter) -> Result<bool, Error> {
     let root = PointerReader::get_root_from_arena(arena)?;
-    let number = NumberReader(root.get_struct(limiter, None)?);
-    let inner = number.into_internal_struct_reader();
+    let inner = struct_as::<A, Number>(root.get_struct(limiter, None)?);
     let null = inner.get_pointer_field(0);
     let numbers = NumbersReader(null.get_list(limiter, ElementSize::InlineComposite, None)?);
     let bytes = read_as::<A, Data>(&null, limiter)?;

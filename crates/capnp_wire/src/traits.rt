@@ -54,14 +54,17 @@ impl<'a, A: ReaderArena> FromPointerReader<'a, A> for &'a [u8] {
     }
 }
 
-/// A caller's type that is a struct to read.
-pub trait IntoInternalStructReader<'a, A> {
+/// A caller's type that is a struct to read, made from one and given up again.
+pub trait IntoInternalStructReader<'a, A: 'a>: From<StructReader<'a, A>> {
     /// The struct.
     ghost inner_struct: { Self → StructReader A };
 
     /// Gives the struct up.
     fn into_internal_struct_reader(self) -> StructReader<'a, A>
         ensures { result ≡ inner_struct self };
+
+    /// What is made from a struct has just that one.
+    ghost made: { (s : StructReader A) (r : Self) → Self.from_gives s r → inner_struct r ≡ s };
 }
 
 /// A caller's type that is a list to read.
@@ -81,7 +84,7 @@ pub trait Owned<'a, A: ReaderArena> {
 }
 
 /// A type of structs. What it is built as comes with the builders.
-pub trait OwnedStruct<'a, A: ReaderArena> {
+pub trait OwnedStruct<'a, A: ReaderArena + 'a> {
     /// What its structs are read as.
     type Reader: IntoInternalStructReader<'a, A>;
 }

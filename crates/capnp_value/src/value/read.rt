@@ -3,7 +3,7 @@
 ghost use Rattle.std.specs.Prelude.{◌≡◌, ◌+◌, ◌*◌, ◌≤◌, ◌<◌, ◌^◌, ◌%◌, ℕ, IfOk, vec_len, length};
 ghost use Rattle.std.specs.Option.{option_map, IfSome};
 ghost use Rattle.capnp_model.specs.Sections.{section_of, words_for};
-ghost use Rattle.capnp_model.specs.Segments.{after, words_at};
+ghost use Rattle.capnp_model.specs.Segments.{after, root, words_at};
 ghost use Rattle.capnp_model.specs.Pointers.{a_struct, a_list};
 ghost use Rattle.capnp_model.specs.Traversal.{tree_of, cost_at, cost_each, cost_elements};
 ghost use Rattle.capnp_model.specs.Encoding.{canonical_words};
@@ -11,8 +11,8 @@ ghost use Rattle.capnp_model.specs.Fits.{Fits};
 ghost use Rattle.capnp_model.specs.Answers.{value_within};
 ghost use Rattle.capnp_units.specs.Segments.{whole_words, words_in};
 ghost use Rattle.capnp_units.specs.Sizes.{size_number, data_bits};
-ghost use Rattle.capnp_wire.specs.Objects.{AreThere, IsInside};
-ghost use Rattle.capnp_wire.specs.Places.{place_view};
+ghost use Rattle.capnp_object.specs.Objects.{AreThere, IsInside};
+ghost use Rattle.capnp_object.specs.Places.{place_view};
 ghost use Rattle.capnp_value.specs.Values.{tree_of_value, trees_view};
 ghost use Rattle.capnp_value.specs.Rows.{row, total, Reads};
 ghost use Rattle.capnp_value.specs.Reads.{clean_at, element_at, element_cost, pointers_at, structs_at, clean_whole, cost_inside, limits_view};
@@ -320,4 +320,21 @@ pub fn read_value<S: ReaderSegments>(
         position: 0,
     };
     read_at(alloc, &arena, &mut limiter, root, bounds.nesting)
+}
+
+/// The value of the root of segments, at whatever cost: where pointers lead to the same words again and again, so is what they lead to read.
+///
+/// There is none where a pointer is malformed or leads out of the segments, where a capability is met, or where the value has more levels than `nesting`. The error is want of memory.
+pub fn read_whole<S: ReaderSegments>(
+    alloc: Global,
+    segments: &S,
+    nesting: u32,
+) -> Result<Option<Value>, AllocError>
+    ensures value { IfOk result (λ found. option_map tree_of_value found ≡ clean_at nesting (words_in (S.segments segments.now)) root) }
+{
+    let arena = ReaderArenaImpl::new(segments, i32::MAX);
+    let mut limiter = ReadLimiter::new(None);
+    let (segment, position) = (0, 0);
+    let first = Place { segment, position };
+    read_at(alloc, &arena, &mut limiter, first, nesting)
 }

@@ -1,16 +1,13 @@
-use Rattle.std.proofs.Common.{◌≡◌, ◌≤◌, length, vec_len, ap, ◌∙◌, rules, arith}
-use Rattle.std.proofs.lemmas.Result.{IfOk-weaker, on_ok_weaker}
-use Rattle.capnp_model.specs.Trees.{tree_count}
+use Rattle.std.proofs.Common.{◌≡◌, vec_len, sym, ap, ◌∙◌}
+use Rattle.std.proofs.lemmas.Result.{IfOk-weaker, IfErr-weaker, on_ok_weaker}
 use Rattle.capnp_model.specs.Schemas.{Schema}
 use Rattle.capnp_records.specs.Slots.{body_of_slot}
 use Rattle.capnp_calls.specs.Replies.{slot_edit}
-use Rattle.capnp_records.specs.Structs.{pointers_in, shape_of_struct}
 use Rattle.capnp_calls.specs.CallViews.{action_view, call_view}
 use Rattle.capnp_calls.specs.RootViews.{cell_of, struct_tree}
-use Rattle.capnp_calls.specs.Taken.{schema_around}
-use Rattle.capnp_calls.proofs.Children.{tree_count-trees_of}
-use Rattle.capnp_calls.proofs.OneStep.{of_cell}
-use Rattle.capnp_calls.proofs.AtAStruct.{wrong_step_reply, wrong_step_tree, missing_reply, missing_tree, found_reply, found_tree}
+use Rattle.capnp_calls.specs.Taken.{schema_around, record_at}
+use Rattle.capnp_calls.proofs.AtAStruct.{wrong_step_reply, wrong_step_tree, missing_reply, missing_tree, found_reply, found_struct, found_want}
+use Rattle.capnp_calls.proofs.SlotRecords.{wrong_step_record, missing_record, found_record, IsGiven-of_action}
 use Rattle.capnp_calls.proofs.answer.answer_call.Goals as goal
 
 pub returns-in_default-clause-reply : goal.returns-in_default-clause-reply
@@ -35,11 +32,31 @@ returns-clause-reply c =
 
 pub returns-clause-tree : goal.returns-clause-tree
 returns-clause-tree c =
+    on_ok_weaker c.answer_slot.result (λ (h : (s : Schema) → cell_of c.answer_slot.new.root ≡ slot_edit s (action_view c.args.call.now.action) (body_of_slot c.in-Some-find_slot.slot) (cell_of c.args.root.now)).
+    found_struct c.fields_by_name.ensures c.args.schema c.id-id.result c.id-id.ensures.shape (action_view c.args.call.now.action) c.in-Some-find_slot.slot
+    (call_view c.args.call.now).path c.in-Some.name.now c.in-Some.ensures c.in-Some-find_slot.ensures.found c.args.root.now c.answer_slot.new.root c.answer_slot.ensures.sizes c.requires.words c.requires.pointers (h (schema_around c.args.schema))) c.answer_slot.ensures.cell
+
+pub returns-in_default-clause-record : goal.returns-in_default-clause-record
+returns-in_default-clause-record c = wrong_step_record c.args.schema (action_view c.args.call.now.action) (struct_tree c.args.root.now) (call_view c.args.call.now).path c.in_default.ensures (record_at c.args.schema (struct_tree c.args.root.now))
+
+pub returns-in_default-find_slot-clause-record : goal.returns-in_default-find_slot-clause-record
+returns-in_default-find_slot-clause-record c =
+    missing_record c.args.schema (action_view c.args.call.now.action) (struct_tree c.args.root.now) (call_view c.args.call.now).path c.in-Some.name.now c.in-Some.ensures c.in_default-find_slot.ensures.missing (record_at c.args.schema (struct_tree c.args.root.now))
+
+pub returns-clause-record : goal.returns-clause-record
+returns-clause-record c =
     let old = c.args.root.now in
-    let count = tree_count-trees_of old.children.items in
-    let long : pointers_in (shape_of_struct c.args.schema) ≤ tree_count (cell_of old).kids = let bound : pointers_in (shape_of_struct c.args.schema) ≤ length old.children.items = search rules in omega (arith, bound, count) in
-    on_ok_weaker c.answer_slot.result (λ (h : (s : Schema) → cell_of c.answer_slot.new.root ≡ slot_edit s (action_view c.args.call.now.action) (body_of_slot c.in-Some-find_slot.slot) (cell_of old)).
-    ap (λ n. of_cell n (cell_of c.answer_slot.new.root)) c.answer_slot.ensures.sizes.words
-    ∙ ap (of_cell (vec_len old.words)) (h (schema_around c.args.schema))
-    ∙ found_tree c.fields_by_name.ensures c.args.schema c.id-id.result c.id-id.ensures.shape (action_view c.args.call.now.action) c.in-Some-find_slot.slot
-    (call_view c.args.call.now).path c.in-Some.name.now c.in-Some.ensures c.in-Some-find_slot.ensures.found (vec_len old.words) (cell_of old).section (cell_of old).kids c.requires.words long) c.answer_slot.ensures.cell
+    let verb = action_view c.args.call.now.action in
+    let path = (call_view c.args.call.now).path in
+    on_ok_weaker c.answer_slot.result (λ (h : (s : Schema) → cell_of c.answer_slot.new.root ≡ slot_edit s (action_view c.args.call.now.action) (body_of_slot c.in-Some-find_slot.slot) (cell_of c.args.root.now)).
+    ap (record_at c.args.schema) (found_struct c.fields_by_name.ensures c.args.schema c.id-id.result c.id-id.ensures.shape verb c.in-Some-find_slot.slot
+    path c.in-Some.name.now c.in-Some.ensures c.in-Some-find_slot.ensures.found old c.answer_slot.new.root c.answer_slot.ensures.sizes c.requires.words c.requires.pointers (h (schema_around c.args.schema)))
+    ∙ found_record c.records_of_edited_values.ensures c.fields_by_name.ensures c.args.schema c.args.schema.set.now.accepted (ap (schema_around c.args.schema).is_group (sym c.id-id.ensures.id) ∙ c.id-id.ensures.no_group)
+    c.id-id.result c.id-id.ensures.shape c.in-Some-find_slot.slot verb (IsGiven-of_action c.args.call.now.action c.args.call.now.in_range)
+    path c.in-Some.name.now c.in-Some.ensures c.in-Some-find_slot.ensures.found (vec_len old.words) (cell_of old).section (cell_of old).kids) c.answer_slot.ensures.cell
+
+pub returns-clause-refusal : goal.returns-clause-refusal
+returns-clause-refusal c =
+    let old = c.args.root.now in
+    IfErr-weaker c.answer_slot.result _ _ (λ e h. found_want c.fields_by_name.ensures c.args.schema c.id-id.result c.id-id.ensures.shape (action_view c.args.call.now.action) c.in-Some-find_slot.slot
+    (call_view c.args.call.now).path c.in-Some.name.now c.in-Some.ensures c.in-Some-find_slot.ensures.found (vec_len old.words) (cell_of old).section (cell_of old).kids e.kind (h (schema_around c.args.schema))) c.answer_slot.ensures.refusal

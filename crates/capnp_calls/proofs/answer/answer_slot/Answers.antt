@@ -1,4 +1,5 @@
 use Rattle.std.proofs.Common.{sym, ap, ◌∙◌}
+use Rattle.std.proofs.lemmas.Result.{err_from_is_err_and}
 use Rattle.capnp_model.specs.Edits.{put_content}
 use Rattle.capnp_records.specs.Slots.{body_of_slot}
 use Rattle.capnp_calls.specs.RootViews.{cell_of}
@@ -20,3 +21,13 @@ returns-in-Clear-clause-reply c s = rw c.in-Clear.is (c.put_change-in-Clear.ensu
 
 pub returns-in-Clear-clause-cell : goal.returns-in-Clear-clause-cell
 returns-in-Clear-clause-cell c s = rw c.in-Clear.is (c.put_change-in-Clear.ensures.cell ∙ ap (λ x. put_content (body_of_slot c.args.slot) x (cell_of c.args.root.now)) (c.clear_change.ensures.content s))
+
+pub returns-in_err-change-in-Set-clause-refusal : goal.returns-in_err-change-in-Set-clause-refusal
+returns-in_err-change-in-Set-clause-refusal c =
+    let p = err_from_is_err_and c.from_residual-in_err-change-in-Set.result c.from_residual-in_err-change-in-Set.ensures.1 in
+    rw (p.1, p.2) (λ s. rw c.in-Set.is (c.in_err-change-in-Set.ensures.refusal s))
+
+pub returns-in_err-change-in-Initn-clause-refusal : goal.returns-in_err-change-in-Initn-clause-refusal
+returns-in_err-change-in-Initn-clause-refusal c =
+    let p = err_from_is_err_and c.from_residual-in_err-change-in-Initn.result c.from_residual-in_err-change-in-Initn.ensures.1 in
+    rw (p.1, p.2) (λ s. rw c.in-Initn.is (c.in_err-change-in-Initn.ensures.refusal s))

@@ -6,7 +6,8 @@ use Rattle.capnp_model.specs.Steps.{Target, target, target_if, target_of}
 use Rattle.capnp_records.specs.NodeViews.{field_of, struct_of}
 use Rattle.capnp_records.specs.Taken.{is_taken_field}
 use Rattle.capnp_records.specs.declared.node.FieldRecord.{FieldRecord}
-use Rattle.capnp_records.proofs.TakenRules.{and_left, and_right, taken_kind, first_and_rest}
+use Rattle.capnp_records.proofs.ListTests.{and_left, and_right, first_and_rest}
+use Rattle.capnp_records.proofs.SlotBodies.{taken_kind}
 use Rattle.capnp_records.proofs.slot.find.Goals as goal
 
 pub slot_of-requires-clause-taken : goal.slot_of-requires-clause-taken

@@ -3,7 +3,7 @@ use Rattle.capnp_relay.proofs.RunLemmas.{Answered-nil, Answered-more, one_each}
 use Rattle.capnp_relay.proofs.run.answer_all.Goals as goal
 
 pub loop-answered-init : goal.loop-answered-init
-loop-answered-init g c = record { together = refl; run = ([], [], refl, Answered-nil _ g.met.I.MessageForm.fronts _ _ _ _ _ refl refl) }
+loop-answered-init g c = record { together = refl; run = ([], [], refl, Answered-nil _ g.met.I.MessageForm.fronts _ _ refl refl) }
 
 pub loop-answered-preserved : goal.loop-answered-preserved
 loop-answered-preserved g c =
@@ -19,6 +19,6 @@ loop-answered-preserved g c =
         run.0 ++ s ∷ [],
         run.1 ++ a ∷ [],
         omega (arith, number, length-append run.1 (a ∷ [])),
-        Answered-more _ g.met.I.MessageForm.fronts _ _ _ _ _ _ _ _ _ _ _ (ap (λ k. k + 1) number) run.3 one.1,
+        Answered-more _ g.met.I.MessageForm.fronts _ _ _ _ _ _ _ _ (ap (λ k. k + 1) number) run.3 one.1,
       );
     }

@@ -1,7 +1,8 @@
 use Rattle.std.proofs.Common.{◌≡◌, List, ◌+◌, ◌^◌, ◌-◌, length, Some}
 use Rattle.capnp_model.specs.Segments.{Segments}
 use Rattle.capnp_model.specs.Answers.{Answer}
-use Rattle.capnp_relay.specs.Streams.{source_seen, sink_seen, seen}
+use Rattle.capnp_relay.specs.Streams.{source_seen, sink_seen, streams}
+use Rattle.capnp_relay.specs.Work.{work}
 use Rattle.capnp_relay.specs.Run.{Answered}
 use Rattle.capnp_relay.proofs.run.answer_all.Given as goal
 
@@ -9,9 +10,9 @@ abbrev pub invariant-loop-answered : goal.invariant-loop-answered
 invariant-loop-answered g l = record {
   together : l.counts.written + l.counts.refused ≡ l.answered;
   run : (messages : List Segments) × (answers : List Answer) × (length answers ≡ l.answered)
-      × Answered g.I.MessageForm.reader g.O.MessageForm.writer (Some l.limit) (g.A.Answers.is_answer l.answers) messages answers
-      (seen (source_seen g.R.Read.remaining g.R.Read.failures l.initial.source) (sink_seen g.W.Write.contents g.W.Write.failures g.W.Write.room l.initial.out) (sink_seen g.L.Write.contents g.L.Write.failures g.L.Write.room l.initial.log))
-      (seen (source_seen g.R.Read.remaining g.R.Read.failures l.source) (sink_seen g.W.Write.contents g.W.Write.failures g.W.Write.room l.out) (sink_seen g.L.Write.contents g.L.Write.failures g.L.Write.room l.log))
+      × Answered (work g.I.MessageForm.reader g.O.MessageForm.writer (Some l.limit) (g.A.Answers.is_answer l.answers) (g.A.Answers.is_too_large l.answers) g.W.Write.may_grow g.L.Write.may_grow) messages answers
+      (streams (source_seen g.R.Read.remaining g.R.Read.failures l.initial.source) (sink_seen g.W.Write.contents g.W.Write.failures g.W.Write.room l.initial.out) (sink_seen g.L.Write.contents g.L.Write.failures g.L.Write.room l.initial.log))
+      (streams (source_seen g.R.Read.remaining g.R.Read.failures l.source) (sink_seen g.W.Write.contents g.W.Write.failures g.W.Write.room l.out) (sink_seen g.L.Write.contents g.L.Write.failures g.L.Write.room l.log))
       l.counts;
 }
 

@@ -11,7 +11,7 @@ use Rattle.capnp_units.specs.Segments.{whole_words, words_in}
 use Rattle.capnp_stream.specs.Pieces.{TakesPiece, TakesPieceStart, IsPieceFault}
 use Rattle.capnp_stream.specs.Flat.{table_lengths, table_bytes, frame_segments}
 use Rattle.capnp_stream.proofs.PieceLemmas.{IsCut-of_piece}
-use Rattle.capnp_stream.proofs.FrameLemmas.{table-part, table-needs, large-fault, body-fault, body-part, message-of_pieces}
+use Rattle.capnp_stream.proofs.FrameLemmas.{large-part, table-part, table-needs, large-fault, body-fault, body-part, message-of_pieces}
 use Rattle.capnp_stream.proofs.lent.fill_message.Goals as goal
 
 pub returns-then-not-is_within-clause-refused : goal.returns-then-not-is_within-clause-refused
@@ -24,7 +24,11 @@ returns-then-not-is_within-clause-refused g c =
     rw c.from.ensures (λ _. large-fault g.F.MessageForm.reader g.met.F.MessageForm.fronts c.args.limit ns _ _ c.in_ok-count.ensures.table large)
 
 pub returns-then-not-is_within-clause-part : goal.returns-then-not-is_within-clause-part
-returns-then-not-is_within-clause-part g c = table-part g.F.MessageForm.reader g.met.F.MessageForm.fronts c.args.limit (table_lengths c.in_ok-count.count c.fill_table.new.buffer) _ _ c.in_ok-count.ensures.table
+returns-then-not-is_within-clause-part g c =
+    let ns = table_lengths c.in_ok-count.count c.fill_table.new.buffer in
+    let total : c.words_before-total.result ≡ sum ns = c.words_before-total.ensures.total in
+    let large : within (sum ns) c.args.limit ≡ false = ap (λ m. within m c.args.limit) (sym total) ∙ sym c.is_within.ensures ∙ c.if-not-is_within.true in
+    large-part g.F.MessageForm.reader g.met.F.MessageForm.fronts c.args.limit ns _ _ c.in_ok-count.ensures.table large
 
 pub returns-then-buffer-table-clause-short : goal.returns-then-buffer-table-clause-short
 returns-then-buffer-table-clause-short g c =
@@ -38,7 +42,11 @@ returns-then-buffer-table-clause-short g c =
     λ _. table-needs g.F.MessageForm.reader g.met.F.MessageForm.fronts c.args.limit ns _ _ c.in_ok-count.ensures.table (length c.args.buffer.now) kept (omega (arith, long, total, c.if-buffer-table.true, c.fill_table.auto.buffer))
 
 pub returns-then-buffer-table-clause-part : goal.returns-then-buffer-table-clause-part
-returns-then-buffer-table-clause-part g c = table-part g.F.MessageForm.reader g.met.F.MessageForm.fronts c.args.limit (table_lengths c.in_ok-count.count c.fill_table.new.buffer) _ _ c.in_ok-count.ensures.table
+returns-then-buffer-table-clause-part g c =
+    let ns = table_lengths c.in_ok-count.count c.fill_table.new.buffer in
+    let total : c.words_before-total.result ≡ sum ns = c.words_before-total.ensures.total in
+    let kept : within (sum ns) c.args.limit ≡ true = ap (λ m. within m c.args.limit) (sym total) ∙ sym c.is_within.ensures ∙ c.if-not-is_within.false in
+    table-part g.F.MessageForm.reader g.met.F.MessageForm.fronts c.args.limit ns _ _ c.in_ok-count.ensures.table kept (omega (arith, total, c.if-buffer-table.true))
 
 pub returns-in_err-fill_front-clause-refused : goal.returns-in_err-fill_front-clause-refused
 returns-in_err-fill_front-clause-refused g c =

@@ -4,7 +4,7 @@ use Rattle.capnp_model.specs.Segments.{Segments, after}
 use Rattle.capnp_model.specs.Traversal.{cost_at}
 use Rattle.capnp_units.specs.Segments.{words_in}
 use Rattle.capnp_units.proofs.Spending.{spends_nothing}
-use Rattle.capnp_wire.specs.Places.{place_view}
+use Rattle.capnp_object.specs.Places.{place_view}
 use Rattle.capnp_value.specs.Values.{tree_of_value}
 use Rattle.capnp_value.specs.Reads.{clean_at, element_at, element_cost}
 use Rattle.capnp_value.proofs.Rows.{row_refused}

@@ -3,7 +3,7 @@ use Rattle.std.proofs.Common.{◌≡◌, ◌+◌, ◌*◌, Ok, Some}
 use Rattle.capnp_model.specs.Segments.{after}
 use Rattle.capnp_model.specs.Traversal.{cost_at}
 use Rattle.capnp_units.specs.Segments.{words_in}
-use Rattle.capnp_wire.specs.Places.{place_view}
+use Rattle.capnp_object.specs.Places.{place_view}
 use Rattle.capnp_value.specs.Values.{trees_view}
 use Rattle.capnp_value.specs.Rows.{row, total, Reads}
 use Rattle.capnp_value.specs.Reads.{clean_at, element_at, element_cost}

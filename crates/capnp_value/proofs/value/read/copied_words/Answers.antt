@@ -2,7 +2,7 @@
 use Rattle.std.proofs.Common.{◌≡◌, ◌+◌, ◌-◌, ◌*◌, ℕ, List, take, drop, Option, Some, Result, Ok, Err, IfOk, Vec, Global, ap, sym, ◌∙◌, arith}
 use Rattle.std.specs.declared.alloc.AllocError.{AllocError}
 use Rattle.capnp_units.specs.Segments.{whole_words}
-use Rattle.capnp_wire.proofs.Words.{words_end, none_there}
+use Rattle.capnp_object.proofs.Words.{words_end, none_there}
 use Rattle.capnp_value.proofs.Words.{words_there}
 use Rattle.capnp_value.proofs.value.read.copied_words.Goals as goal
 

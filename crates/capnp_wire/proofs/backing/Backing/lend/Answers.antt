@@ -1,7 +1,7 @@
 -- The words that are there lie inside their segment.
 use Rattle.std.proofs.Common.{List, ℕ, ◌∙◌}
 use Rattle.capnp_wire.specs.Views.{backing_bytes}
-use Rattle.capnp_wire.proofs.Words.{words_end, none_there}
+use Rattle.capnp_object.proofs.Words.{words_end, none_there}
 use Rattle.capnp_wire.proofs.Bytes.{section_there}
 use Rattle.capnp_wire.proofs.backing.Backing.lend.Goals as goal
 

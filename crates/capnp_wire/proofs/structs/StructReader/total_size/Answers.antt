@@ -1,7 +1,7 @@
 -- The struct's own words, and those behind its pointers.
 use Rattle.std.proofs.Common.{arith}
 use Rattle.capnp_wire.specs.Views.{seen_struct}
-use Rattle.capnp_wire.proofs.Measuring.{struct_size}
+use Rattle.capnp_wire.proofs.Sizing.{struct_size}
 use Rattle.capnp_wire.proofs.structs.StructReader.total_size.Goals as goal
 
 pub returns : goal.returns

@@ -1,0 +1,32 @@
+use Rattle.std.proofs.Common.{◌≡◌, ℕ, ◌+◌, ◌*◌, ◌/◌, ◌<◌, ◌≤◌, List, ◌++◌, length, map, replicate, get_or, ap, sym, ◌∙◌, arith, rules}
+use Rattle.std.proofs.lemmas.Option.{IfSome_then}
+use Rattle.capnp_copy.specs.Allocations.{total_of, words_used}
+use Rattle.capnp_copy.proofs.HeldWords.{splice_map, zeros_map, end_map, total_set, in_range, in_words, used_length, used_more, used_overwritten}
+use Rattle.capnp_copy.proofs.grown.grow_in.Goals as goal
+
+pub returns-clause-at : goal.returns-clause-at
+returns-clause-at g c =
+    let d = c.index-all-index.result in
+    let old = get_or c.args.all.now c.args.index c.index-all-index.result in
+    IfSome_then c.grow.result c.grow.ensures.some (λ at e. (
+      c.if-index-all.false,
+      e.0 ∙ sym (end_map _ c.args.all.now c.args.index d c.if-index-all.false ∙ used_length old.used (g.S.SegmentBytes.bytes old.segment) old.inside),
+    ))
+
+pub returns-clause-words : goal.returns-clause-words
+returns-clause-words g c =
+    let d = c.index-all-index.result in
+    let old = get_or c.args.all.now c.args.index c.index-all-index.result in
+    let new = c.grow.new.self in
+    let bytes = g.S.SegmentBytes.bytes in
+    IfSome_then c.grow.result c.grow.ensures.some (λ at e. (
+    let long : length (bytes new.segment) ≡ length (bytes old.segment) = ap (λ s. length (bytes s)) c.grow.ensures.segment in
+    let same : words_used new.used (bytes new.segment) ≡ words_used (old.used + c.args.words) (bytes old.segment) = ap (λ s. words_used new.used (bytes s)) c.grow.ensures.segment ∙ ap (λ (n : ℕ). words_used n (bytes old.segment)) e.1 in
+    zeros_map _ c.args.all.now c.args.index c.args.words new d c.if-index-all.false (same ∙ used_more old.used c.args.words (bytes old.segment) (omega (arith, new.inside, long, e.1)) old.rest)
+    ))
+
+pub returns-clause-total : goal.returns-clause-total
+returns-clause-total g c =
+    let d = c.index-all-index.result in
+    let t = total_set (λ h. h.used) c.args.all.now c.args.index c.grow.new.self d c.if-index-all.false in
+    IfSome_then c.grow.result c.grow.ensures.some (λ at e. omega (arith, e.1, t))

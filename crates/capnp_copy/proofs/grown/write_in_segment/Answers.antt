@@ -1,0 +1,35 @@
+use Rattle.std.proofs.Common.{◌≡◌, ℕ, ◌+◌, ◌*◌, ◌/◌, ◌<◌, ◌≤◌, List, ◌++◌, length, map, replicate, get_or, ap, sym, ◌∙◌, arith, rules}
+use Rattle.std.proofs.lemmas.List.{length-replicate}
+use Rattle.capnp_model.specs.Bytes.{words_in_bytes}
+use Rattle.capnp_footprints.specs.Writes.{spliced}
+use Rattle.capnp_copy.specs.Memory.{overwritten}
+use Rattle.capnp_copy.specs.Allocations.{total_of, words_used}
+use Rattle.capnp_copy.proofs.HeldWords.{written_map, total_set, in_range, in_words, used_length, used_overwritten, words_of_zero_bytes}
+use Rattle.capnp_copy.proofs.grown.write_in_segment.Goals as goal
+
+pub write-requires : goal.write-requires
+write-requires g c =
+    let d = c.index-all-index.result in
+    let old = get_or c.args.all.now c.args.place.segment d in
+    let inside = in_words (λ h. words_used h.used (g.S.SegmentBytes.bytes h.segment)) c.args.all.now c.args.place.segment c.args.place.position (length c.args.from.now / 8) d c.requires.there in
+    omega (arith, c.requires.whole, inside, used_length old.used (g.S.SegmentBytes.bytes old.segment) old.inside)
+
+pub returns-then-index-all-clause-words : goal.returns-then-index-all-clause-words
+returns-then-index-all-clause-words g c =
+    let d = c.index-all-index.result in
+    let old = get_or c.args.all.now c.args.place.segment d in
+    let new = c.write.new.self in
+    let bytes = g.S.SegmentBytes.bytes in
+    let inside = in_words (λ h. words_used h.used (g.S.SegmentBytes.bytes h.segment)) c.args.all.now c.args.place.segment c.args.place.position (length c.args.from.now / 8) d c.requires.there in
+    let same : words_used new.used (bytes new.segment) ≡ words_used old.used (overwritten (8 * c.args.place.position) (c.args.from.now) (bytes old.segment)) = ap (λ (bs : List ℕ). words_used new.used bs) c.write.ensures.bytes ∙ ap (λ (m : ℕ). words_used m (overwritten (8 * c.args.place.position) (c.args.from.now) (bytes old.segment))) c.write.ensures.used in
+    written_map _ c.args.all.now c.args.place.segment c.args.place.position _ new d
+    (same ∙ used_overwritten old.used c.args.place.position (length c.args.from.now / 8) (c.args.from.now) (bytes old.segment) (sym c.requires.whole) (omega (arith, inside, used_length old.used (bytes old.segment) old.inside)) old.inside)
+
+pub returns-then-index-all-clause-total : goal.returns-then-index-all-clause-total
+returns-then-index-all-clause-total g c =
+    let t = total_set (λ h. h.used) c.args.all.now c.args.place.segment c.write.new.self c.index-all-index.result c.if-index-all.true in
+    omega (arith, t, c.write.ensures.used)
+
+pub returns-else-index-all-clause-words : goal.returns-else-index-all-clause-words
+returns-else-index-all-clause-words g c =
+    absurd (omega (arith, c.if-index-all.false, in_range (λ h. words_used h.used (g.S.SegmentBytes.bytes h.segment)) c.args.all.now c.args.place.segment c.args.place.position (length c.args.from.now / 8) c.requires.there))

@@ -1,0 +1,40 @@
+use Rattle.std.proofs.Common.{refl, min, ◌-◌, ◌^◌, ◌≡◌, ℕ, ◌+◌, ◌*◌, ◌/◌, ◌<◌, ◌≤◌, List, ◌∷◌, [], length, map, take, replicate, ap, sym, ◌∙◌, arith, rules}
+use Rattle.std.proofs.lemmas.Option.{IfSome_then}
+use Rattle.std.proofs.lemmas.Result.{IfOk-weaker}
+use Rattle.std.proofs.lemmas.List.{length-map}
+use Rattle.capnp_units.specs.Segments.{whole_words, words_in}
+use Rattle.capnp_model.specs.Bytes.{words_in_bytes}
+use Rattle.capnp_footprints.specs.Writes.{with_words, with_zeros, segment_end}
+use Rattle.capnp_wire.specs.Places.{place_view}
+use Rattle.capnp_copy.specs.Allocations.{total_of, words_used, total_words}
+use Rattle.capnp_copy.proofs.HeldWords.{both_ok, if_err, end_past, used_length, total_is, allocates_of, written_of, there_of, written_back, one_word, counted}
+use Rattle.capnp_copy.proofs.segments.BuilderArenaImplBuilderArena.allocate_anywhere.Goals as goal
+
+pub returns-then-words-self-clause-kind : goal.returns-then-words-self-clause-kind
+returns-then-words-self-clause-kind g c =
+    let a = c.args.self.now in
+    let t = total_is (λ h. take (8 * h.used) (g.A.Segment.SegmentBytes.bytes h.segment)) (λ h. h.used) (λ h. used_length h.used (g.A.Segment.SegmentBytes.bytes h.segment) h.inside) a.segments.items a.words a.sum in
+    (λ e. omega (arith, t, c.if-words-self.true), λ e. c.from.ensures)
+
+pub returns-in-Some-clause-ok : goal.returns-in-Some-clause-ok
+returns-in-Some-clause-ok g c =
+    let a = c.args.self.now in
+    let e = c.in-Some.ensures.at in
+    allocates_of (λ h. take (8 * h.used) (g.A.Segment.SegmentBytes.bytes h.segment)) (λ h. h.used) (λ h. used_length h.used (g.A.Segment.SegmentBytes.bytes h.segment) h.inside) a.segments.items _ _ _ c.args.words a.words (omega (arith, e.0)) e.1 c.in-Some.ensures.words a.sum (omega (arith, c.if-words-self.false))
+
+pub returns-in-None-clause-ok : goal.returns-in-None-clause-ok
+returns-in-None-clause-ok g c =
+    let a = c.args.self.now in
+    let same = c.in-None.ensures.none in
+    both_ok c.use_in_new.result c.use_in_new.ensures.at c.use_in_new.ensures.words (λ p e w.
+    allocates_of (λ h. take (8 * h.used) (g.A.Segment.SegmentBytes.bytes h.segment)) (λ h. h.used) (λ h. used_length h.used (g.A.Segment.SegmentBytes.bytes h.segment) h.inside) a.segments.items _ p.0 p.1 c.args.words a.words
+    (omega (arith, e.0, ap length same))
+    (e.1 ∙ sym (ap (λ (i : ℕ). segment_end (map (λ h. words_used h.used (g.A.Segment.SegmentBytes.bytes h.segment)) a.segments.items) i) (e.0 ∙ ap length same) ∙ end_past _ a.segments.items))
+    (w ∙ ap (λ xs. with_zeros (map (λ h. words_used h.used (g.A.Segment.SegmentBytes.bytes h.segment)) xs) (length xs) c.args.words) same ∙ ap (λ (i : ℕ). with_zeros (map (λ h. words_used h.used (g.A.Segment.SegmentBytes.bytes h.segment)) a.segments.items) i c.args.words) (sym (e.0 ∙ ap length same)))
+    a.sum (omega (arith, c.if-words-self.false)))
+
+pub returns-in-None-clause-kind : goal.returns-in-None-clause-kind
+returns-in-None-clause-kind g c =
+    let a = c.args.self.now in
+    let t = total_is (λ h. take (8 * h.used) (g.A.Segment.SegmentBytes.bytes h.segment)) (λ h. h.used) (λ h. used_length h.used (g.A.Segment.SegmentBytes.bytes h.segment) h.inside) a.segments.items a.words a.sum in
+    if_err c.use_in_new.result c.use_in_new.ensures.kind (λ e ne. (λ is. absurd (ne is), λ l. absurd (omega (arith, t, c.if-words-self.false, l))))

@@ -1,0 +1,23 @@
+use Rattle.std.proofs.Common.{refl, min, ◌-◌, ◌^◌, ◌≡◌, ℕ, ◌+◌, ◌*◌, ◌/◌, ◌<◌, ◌≤◌, List, ◌∷◌, [], length, map, take, replicate, ap, sym, ◌∙◌, arith, rules}
+use Rattle.std.proofs.lemmas.Option.{IfSome_then}
+use Rattle.std.proofs.lemmas.Result.{IfOk-weaker}
+use Rattle.std.proofs.lemmas.List.{length-map}
+use Rattle.capnp_units.specs.Segments.{whole_words, words_in}
+use Rattle.capnp_model.specs.Bytes.{words_in_bytes}
+use Rattle.capnp_footprints.specs.Writes.{with_words}
+use Rattle.capnp_wire.specs.Places.{place_view}
+use Rattle.capnp_copy.specs.Allocations.{total_of, words_used, total_words}
+use Rattle.capnp_copy.proofs.HeldWords.{used_length, total_is, allocates_of, written_of, there_of, written_back, one_word, counted}
+use Rattle.capnp_copy.proofs.segments.BuilderArenaImplBuilderArena.write_word.Goals as goal
+
+pub write_in_segment-requires-clause-there : goal.write_in_segment-requires-clause-there
+write_in_segment-requires-clause-there g c = there_of (λ h. take (8 * h.used) (g.A.Segment.SegmentBytes.bytes h.segment)) (λ h. h.used) (λ h. used_length h.used (g.A.Segment.SegmentBytes.bytes h.segment) h.inside) c.args.self.now.segments.items c.as_mut_slice.result.now (place_view c.args.place) (1) _ c.requires c.as_mut_slice.ensures.value (search rules)
+
+pub returns-clause-words : goal.returns-clause-words
+returns-clause-words g c =
+    let xs = c.args.self.now.segments.items in
+    let ys = c.write_in_segment.new.all in
+    let same = c.as_mut_slice.ensures.value in
+    let back = written_back c.args.self.now.segments.len xs ys (sym (ap length same) ∙ c.as_mut_slice.ensures.len) (c.write_in_segment.ensures.len ∙ ap length same) in
+    ap (λ zs. words_in (map (λ h. take (8 * h.used) (g.A.Segment.SegmentBytes.bytes h.segment)) zs)) back
+    ∙ written_of (λ h. take (8 * h.used) (g.A.Segment.SegmentBytes.bytes h.segment)) (λ h. h.used) (λ h. used_length h.used (g.A.Segment.SegmentBytes.bytes h.segment) h.inside) xs ys (place_view c.args.place) (c.args.word ∷ []) (c.write_in_segment.ensures.words ∙ ap (λ zs. with_words (map (λ h. words_used h.used (g.A.Segment.SegmentBytes.bytes h.segment)) zs) (place_view c.args.place) (words_in_bytes (length c.to_le_bytes.result / 8) c.to_le_bytes.result)) same ∙ ap (with_words (map (λ h. words_used h.used (g.A.Segment.SegmentBytes.bytes h.segment)) xs) (place_view c.args.place)) (ap (λ (bs : List ℕ). words_in_bytes (length bs / 8) bs) c.to_le_bytes.ensures ∙ one_word c.args.word c.ranges.word.fits))

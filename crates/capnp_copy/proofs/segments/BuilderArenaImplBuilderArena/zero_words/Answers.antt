@@ -1,0 +1,23 @@
+use Rattle.std.proofs.Common.{refl, min, ◌-◌, ◌^◌, ◌≡◌, ℕ, ◌+◌, ◌*◌, ◌/◌, ◌<◌, ◌≤◌, List, ◌∷◌, [], length, map, take, replicate, ap, sym, ◌∙◌, arith, rules}
+use Rattle.std.proofs.lemmas.Option.{IfSome_then}
+use Rattle.std.proofs.lemmas.Result.{IfOk-weaker}
+use Rattle.std.proofs.lemmas.List.{length-map}
+use Rattle.capnp_units.specs.Segments.{whole_words, words_in}
+use Rattle.capnp_model.specs.Bytes.{words_in_bytes}
+use Rattle.capnp_footprints.specs.Writes.{with_words}
+use Rattle.capnp_wire.specs.Places.{place_view}
+use Rattle.capnp_copy.specs.Allocations.{total_of, words_used, total_words}
+use Rattle.capnp_copy.proofs.HeldWords.{used_length, total_is, allocates_of, written_of, there_of, written_back, one_word, counted}
+use Rattle.capnp_copy.proofs.segments.BuilderArenaImplBuilderArena.zero_words.Goals as goal
+
+pub zero_in_segment-requires : goal.zero_in_segment-requires
+zero_in_segment-requires g c = record { there = there_of (λ h. take (8 * h.used) (g.A.Segment.SegmentBytes.bytes h.segment)) (λ h. h.used) (λ h. used_length h.used (g.A.Segment.SegmentBytes.bytes h.segment) h.inside) c.args.self.now.segments.items c.as_mut_slice.result.now (place_view c.args.place) (c.args.count) _ c.requires c.as_mut_slice.ensures.value (refl) }
+
+pub returns-clause-words : goal.returns-clause-words
+returns-clause-words g c =
+    let xs = c.args.self.now.segments.items in
+    let ys = c.zero_in_segment.new.all in
+    let same = c.as_mut_slice.ensures.value in
+    let back = written_back c.args.self.now.segments.len xs ys (sym (ap length same) ∙ c.as_mut_slice.ensures.len) (c.zero_in_segment.ensures.len ∙ ap length same) in
+    ap (λ zs. words_in (map (λ h. take (8 * h.used) (g.A.Segment.SegmentBytes.bytes h.segment)) zs)) back
+    ∙ written_of (λ h. take (8 * h.used) (g.A.Segment.SegmentBytes.bytes h.segment)) (λ h. h.used) (λ h. used_length h.used (g.A.Segment.SegmentBytes.bytes h.segment) h.inside) xs ys (place_view c.args.place) (replicate c.args.count 0) (c.zero_in_segment.ensures.words ∙ ap (λ zs. with_words (map (λ h. words_used h.used (g.A.Segment.SegmentBytes.bytes h.segment)) zs) (place_view c.args.place) (replicate c.args.count 0)) same)

@@ -1,0 +1,26 @@
+-- Words that an arena allocates.
+use Rattle.std.specs.Prelude.{◌≡◌, ℕ, ◌+◌, ◌^◌, ◌*◌, ◌<◌, ◌≤◌, List, [], ◌∷◌, length, take}
+use Rattle.capnp_model.specs.Segments.{Segments}
+use Rattle.capnp_units.specs.Segments.{whole_words}
+use Rattle.capnp_footprints.specs.Writes.{with_zeros, segment_end}
+
+-- The words of all segments.
+unfoldable pub total_words : Segments → ℕ
+total_words [] = 0
+total_words (xs ∷ s) = length xs + total_words s
+
+-- So many zero words are new at the end of the ith segment, from a position on, and the message keeps its limit.
+pub record Allocates (s u : Segments) (i at n : ℕ) : Type 0 where
+  pub among : i ≤ length s
+  pub end : at ≡ segment_end s i
+  pub few : total_words s + n < 2 ^ 29
+  pub now : u ≡ with_zeros s i n
+
+-- What is told of each, summed up.
+unfoldable pub total_of : {X : Type 0} → (X → ℕ) → List X → ℕ
+total_of f [] = 0
+total_of f (x ∷ xs) = f x + total_of f xs
+
+-- The words of the first n words' bytes.
+abbrev pub words_used : ℕ → List ℕ → List ℕ
+words_used n bytes = whole_words (take (8 * n) bytes)

@@ -1,0 +1,59 @@
+//! Arenas in which values are built.
+ghost use Rattle.std.specs.Prelude.{◌≡◌, ◌+◌, ◌*◌, ◌/◌, ◌<◌, ◌≤◌, ◌^◌, ◌∷◌, [], ◌↔◌, ℕ, List, length, replicate, true, IfOk, IfErr, OnErr, IfSome, IfNone};
+ghost use Rattle.std.specs.Option.{is_some};
+ghost use Rattle.capnp_model.specs.Bytes.{words_in_bytes};
+ghost use Rattle.capnp_model.specs.Segments.{words_at};
+ghost use Rattle.capnp_units.specs.Segments.{words_in};
+ghost use Rattle.capnp_units.specs.declared.kinds.ErrorKind.TheVariants.{SizeOverflow};
+ghost use Rattle.capnp_wire.specs.Places.{place_view};
+ghost use Rattle.capnp_footprints.specs.Writes.{with_words};
+ghost use Rattle.capnp_copy.specs.Allocations.{total_words, Allocates};
+
+use capnp_units::errors::Result;
+use capnp_units::sizes::SegmentId;
+use capnp_wire::arena::ReaderArena;
+use capnp_wire::place::Place;
+
+/// Segments that can be read and written, and in which words are allocated. All words allocated in a message are at most 2^29 - 1.
+pub trait BuilderArena: ReaderArena {
+    /// The names of what it borrows: those that stay, then the lent slices.
+    ghost books: { Self → List (List ℕ) };
+
+    /// Allocates zero words at the end of a segment, and answers their position; none where the segment isn't there or has no room for them.
+    fn allocate(&mut self, segment: SegmentId, words: u32) -> Option<u32>
+        ensures some { IfSome result (λ at. (segment < length (Self.segments self.old)) × Allocates (words_in (Self.segments self.old)) (words_in (Self.segments self.new)) segment at words) }
+        ensures none { IfNone result (Self.segments self.new ≡ Self.segments self.old) }
+        ensures books { books self.new ≡ books self.old };
+
+    /// Allocates zero words in any segment, which may be a new one. It is refused with `SizeOverflow` just where the message's words would pass 2^29 - 1, else as the allocator refuses; then nothing is allocated.
+    fn allocate_anywhere(&mut self, words: u32) -> Result<(SegmentId, u32)>
+        ensures ok { IfOk result (λ p. Allocates (words_in (Self.segments self.old)) (words_in (Self.segments self.new)) p.0 p.1 words) }
+        ensures refused { OnErr result (Self.segments self.new ≡ Self.segments self.old) }
+        ensures kind { IfErr result (λ e. (e.kind ≡ SizeOverflow) ↔ (2 ^ 29 ≤ total_words (words_in (Self.segments self.old)) + words)) }
+        ensures books { books self.new ≡ books self.old };
+
+    /// Writes a word in place of the one at a place.
+    fn write_word(&mut self, place: Place, word: u64)
+        requires { is_some (words_at (words_in (Self.segments self.old)) (place_view place) 1) ≡ true }
+        ensures words { words_in (Self.segments self.new) ≡ with_words (words_in (Self.segments self.old)) (place_view place) (word ∷ []) }
+        ensures books { books self.new ≡ books self.old };
+
+    /// Writes whole words in place of as many from a place on.
+    fn write_words(&mut self, place: Place, words: &[u8])
+        requires whole { 8 * (length words.now / 8) ≡ length words.now }
+        requires there { is_some (words_at (words_in (Self.segments self.old)) (place_view place) (length words.now / 8)) ≡ true }
+        ensures words { words_in (Self.segments self.new) ≡ with_words (words_in (Self.segments self.old)) (place_view place) (words_in_bytes (length words.now / 8) words.now) }
+        ensures books { books self.new ≡ books self.old };
+
+    /// Writes zeros in place of so many words from a place on.
+    fn zero_words(&mut self, place: Place, count: usize)
+        requires { is_some (words_at (words_in (Self.segments self.old)) (place_view place) count) ≡ true }
+        ensures words { words_in (Self.segments self.new) ≡ with_words (words_in (Self.segments self.old)) (place_view place) (replicate count 0) }
+        ensures books { books self.new ≡ books self.old };
+}
+
+/// What lends itself to every builder handle: a wrapper around an arena.
+#[derive(Drop)]
+pub struct Memory<A> {
+    pub arena: A,
+}

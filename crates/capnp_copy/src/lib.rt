@@ -1,0 +1,14 @@
+//! What builders stand on: segments that an allocator hands out and takes back, arenas in which words are allocated and written.
+#![tactic(auto)]
+
+pub mod allocator;
+pub mod arena;
+mod bits;
+pub mod fields;
+mod grown;
+pub mod held;
+pub mod laws;
+pub mod segments;
+pub mod struct_builder;
+#[cfg(test)]
+mod tests;

@@ -1,0 +1,239 @@
+//! An arena that takes its segments from an allocator.
+ghost use Rattle.std.specs.Prelude.{◌≡◌, ◌≢◌, ◌+◌, ◌-◌, ◌*◌, ◌/◌, ◌<◌, ◌≤◌, ◌^◌, ◌++◌, ◌∷◌, [], ℕ, List, length, map, take, pos, IfSome, IfNone, IfOk, IfErr, OnOk, OnErr};
+ghost use Rattle.std.specs.List.{flat_map};
+ghost use Rattle.capnp_footprints.specs.Writes.{with_zeros, segment_end};
+ghost use Rattle.capnp_copy.specs.Allocations.{total_of, words_used};
+ghost use Rattle.capnp_units.specs.declared.kinds.ErrorKind.TheVariants.{SizeOverflow, OutOfMemory};
+
+use crate::allocator::{Allocator, SegmentBytes};
+use crate::arena::BuilderArena;
+use crate::grown::{grow_in, used_bytes_at, write_in_segment, zero_in_segment};
+use crate::held::Held;
+use capnp_units::errors::{Error, Result};
+use capnp_units::kinds::ErrorKind;
+use capnp_units::sizes::SegmentId;
+use capnp_wire::arena::ReaderArena;
+use capnp_wire::place::Place;
+use std::alloc::Global;
+
+/// The most words that a message may have.
+pub const MOST_WORDS: u32 = 0x1fff_ffff;
+
+/// Segments that an allocator handed out. Words are allocated one behind the other in each; those alone are read.
+///
+/// It is no value that may be dropped: it ends by `into_allocator`, which gives every segment back.
+pub struct BuilderArenaImpl<A: Allocator> {
+    pub allocator: A,
+    pub segments: Vec<Held<A::Segment>>,
+    words: u32,
+    ghost sum: { words ≡ total_of (λ h. h.used) segments.items },
+    ghost few: { words < 2 ^ 29 },
+    ghost numbered: { length segments.items < 2 ^ 32 },
+}
+
+impl<A: Allocator> BuilderArenaImpl<A> {
+    /// An arena without segments. Memory for the list of its segments comes from `alloc`, their bytes come from the allocator.
+    pub fn new(alloc: Global, allocator: A) -> Self
+        ensures allocator { result.allocator ≡ allocator }
+        ensures empty { result.segments.items ≡ [] }
+    {
+        BuilderArenaImpl {
+            allocator,
+            segments: Vec::new(alloc),
+            words: 0,
+        }
+    }
+
+    /// How many segments there are.
+    pub fn len(&self) -> usize
+        ensures { result ≡ length self.now.segments.items }
+    {
+        self.segments.len()
+    }
+
+    /// Takes a segment of at least so many words from the allocator, of which so many are used at once.
+    fn add_segment(&mut self, minimum: u32, used: u32) -> Result<()>
+        requires fits { used ≤ minimum }
+        requires few { self.old.words + used < 2 ^ 29 }
+        ensures words { OnOk result (map (λ h. words_used h.used (A.Segment.bytes h.segment)) self.new.segments.items ≡ with_zeros (map (λ h. words_used h.used (A.Segment.bytes h.segment)) self.old.segments.items) (length self.old.segments.items) used) }
+        ensures len { OnOk result (length self.old.segments.items < 2 ^ 32 - 1) }
+        ensures refused { OnErr result (self.new.segments.items ≡ self.old.segments.items) }
+        ensures kind { IfErr result (λ e. e.kind ≢ SizeOverflow) }
+        ensures place { A.place self.new.allocator ≡ A.place self.old.allocator }
+        ensures loans { flat_map (λ h. A.Segment.loans h.segment) self.new.segments.items ++ A.loans self.new.allocator ≡ flat_map (λ h. A.Segment.loans h.segment) self.old.segments.items ++ A.loans self.old.allocator }
+    {
+        if self.segments.len() >= u32::MAX as usize {
+            return Err(Error::from(ErrorKind::OutOfMemory));
+        }
+        if self.segments.reserve(1).is_err() {
+            return Err(Error::from(ErrorKind::OutOfMemory));
+        }
+        let segment = self.allocator.allocate_segment(minimum)?;
+        let held = Held::new(segment, used);
+        match self.segments.push(held) {
+            Ok(()) => {
+                self.words += used;
+                Ok(())
+            }
+            Err(failed) => {
+                let Held { segment, used: _ } = failed.value;
+                drop(segment);
+                Err(Error::from(ErrorKind::OutOfMemory))
+            }
+        }
+    }
+}
+
+impl<A: Allocator> BuilderArenaImpl<A> {
+    /// Takes a segment of at least so many words from the allocator, of which none is used yet. It is refused with `OutOfMemory` where the list of segments can't grow, else as the allocator refuses; then the arena is as it was.
+    pub fn allocate_segment(&mut self, minimum: u32) -> Result<()>
+        ensures words { OnOk result (map (λ h. words_used h.used (A.Segment.bytes h.segment)) self.new.segments.items ≡ with_zeros (map (λ h. words_used h.used (A.Segment.bytes h.segment)) self.old.segments.items) (length self.old.segments.items) 0) }
+        ensures refused { OnErr result (self.new.segments.items ≡ self.old.segments.items) }
+        ensures place { A.place self.new.allocator ≡ A.place self.old.allocator }
+        ensures loans { flat_map (λ h. A.Segment.loans h.segment) self.new.segments.items ++ A.loans self.new.allocator ≡ flat_map (λ h. A.Segment.loans h.segment) self.old.segments.items ++ A.loans self.old.allocator }
+    {
+        self.add_segment(minimum, 0)
+    }
+
+    /// Uses so many words more of a segment, where it is there and has as many.
+    fn use_in(&mut self, segment: SegmentId, words: u32) -> Option<u32>
+        requires { self.old.words + words < 2 ^ 29 }
+        ensures at { IfSome result (λ at. (segment < length self.old.segments.items) × (at ≡ segment_end (map (λ h. words_used h.used (A.Segment.bytes h.segment)) self.old.segments.items) segment)) }
+        ensures words { IfSome result (λ at. map (λ h. words_used h.used (A.Segment.bytes h.segment)) self.new.segments.items ≡ with_zeros (map (λ h. words_used h.used (A.Segment.bytes h.segment)) self.old.segments.items) segment words) }
+        ensures none { IfNone result (self.new.segments.items ≡ self.old.segments.items) }
+        ensures place { A.place self.new.allocator ≡ A.place self.old.allocator }
+        ensures loans { flat_map (λ h. A.Segment.loans h.segment) self.new.segments.items ++ A.loans self.new.allocator ≡ flat_map (λ h. A.Segment.loans h.segment) self.old.segments.items ++ A.loans self.old.allocator }
+    {
+        let at = grow_in(self.segments.as_mut_slice(), segment as usize, words)?;
+        self.words += words;
+        Some(at)
+    }
+
+    /// The same of the last segment.
+    fn use_in_last(&mut self, words: u32) -> Option<(SegmentId, u32)>
+        requires { self.old.words + words < 2 ^ 29 }
+        ensures at { IfSome result (λ p. (p.0 < length self.old.segments.items) × (p.1 ≡ segment_end (map (λ h. words_used h.used (A.Segment.bytes h.segment)) self.old.segments.items) p.0)) }
+        ensures words { IfSome result (λ p. map (λ h. words_used h.used (A.Segment.bytes h.segment)) self.new.segments.items ≡ with_zeros (map (λ h. words_used h.used (A.Segment.bytes h.segment)) self.old.segments.items) p.0 words) }
+        ensures none { IfNone result (self.new.segments.items ≡ self.old.segments.items) }
+        ensures place { A.place self.new.allocator ≡ A.place self.old.allocator }
+        ensures loans { flat_map (λ h. A.Segment.loans h.segment) self.new.segments.items ++ A.loans self.new.allocator ≡ flat_map (λ h. A.Segment.loans h.segment) self.old.segments.items ++ A.loans self.old.allocator }
+    {
+        let count = self.segments.len();
+        if count == 0 {
+            return None;
+        }
+        let last = (count - 1) as SegmentId;
+        let at = self.use_in(last, words)?;
+        Some((last, at))
+    }
+
+    /// Uses so many words of a new segment.
+    fn use_in_new(&mut self, words: u32) -> Result<(SegmentId, u32)>
+        requires { self.old.words + words < 2 ^ 29 }
+        ensures at { IfOk result (λ p. (p.0 ≡ length self.old.segments.items) × (p.1 ≡ 0)) }
+        ensures words { OnOk result (map (λ h. words_used h.used (A.Segment.bytes h.segment)) self.new.segments.items ≡ with_zeros (map (λ h. words_used h.used (A.Segment.bytes h.segment)) self.old.segments.items) (length self.old.segments.items) words) }
+        ensures refused { OnErr result (self.new.segments.items ≡ self.old.segments.items) }
+        ensures kind { IfErr result (λ e. e.kind ≢ SizeOverflow) }
+        ensures place { A.place self.new.allocator ≡ A.place self.old.allocator }
+        ensures loans { flat_map (λ h. A.Segment.loans h.segment) self.new.segments.items ++ A.loans self.new.allocator ≡ flat_map (λ h. A.Segment.loans h.segment) self.old.segments.items ++ A.loans self.old.allocator }
+    {
+        let count = self.segments.len();
+        self.add_segment(words, words)?;
+        Ok((count as SegmentId, 0))
+    }
+
+    /// Gives every segment back to the allocator.
+    #[tactic(auto, using(crate::proofs::HeldWords::total_popped))]
+    fn release(&mut self)
+        requires { length (flat_map (λ h. A.Segment.loans h.segment) self.old.segments.items ++ A.loans self.old.allocator) ≤ 1 }
+        ensures empty { self.new.segments.items ≡ [] }
+        ensures place { A.place self.new.allocator ≡ A.place self.old.allocator }
+        ensures loans { A.loans self.new.allocator ≡ flat_map (λ h. A.Segment.loans h.segment) self.old.segments.items ++ A.loans self.old.allocator }
+    {
+        while let Some(held) = self.segments.pop() {
+            let Held { segment, used } = held;
+            self.words -= used;
+            self.allocator.deallocate_segment(segment, used);
+        }
+    }
+
+    /// The allocator, to which every segment was given back. There is one lent slice at most among them and in the allocator.
+    pub fn into_allocator(mut self) -> A
+        requires { length (flat_map (λ h. A.Segment.loans h.segment) self.segments.items ++ A.loans self.allocator) ≤ 1 }
+        ensures place { A.place result ≡ A.place self.allocator }
+        ensures loans { A.loans result ≡ flat_map (λ h. A.Segment.loans h.segment) self.segments.items ++ A.loans self.allocator }
+    {
+        self.release();
+        let BuilderArenaImpl {
+            allocator,
+            segments: _,
+            words: _,
+        } = self;
+        allocator
+    }
+}
+
+impl<A: Allocator> ReaderArena for BuilderArenaImpl<A> {
+    ghost segments = { λ a. map (λ h. take (8 * h.used) (A.Segment.bytes h.segment)) a.segments.items };
+
+    ghost nesting = { λ a. pos 2147483647 };
+
+    fn get_segment(&self, id: SegmentId) -> Option<&[u8]> {
+        used_bytes_at(self.segments.as_slice(), id)
+    }
+
+    fn nesting_limit(&self) -> i32 {
+        i32::MAX
+    }
+
+    fn size_in_words(&self) -> usize {
+        self.words as usize
+    }
+}
+
+impl<A: Allocator> BuilderArena for BuilderArenaImpl<A> {
+    ghost books = { λ a. A.place a.allocator ∷ (flat_map (λ h. A.Segment.loans h.segment) a.segments.items ++ A.loans a.allocator) ∷ [] };
+
+    fn allocate(&mut self, segment: SegmentId, words: u32) -> Option<u32> {
+        if words > MOST_WORDS - self.words {
+            return None;
+        }
+        self.use_in(segment, words)
+    }
+
+    fn allocate_anywhere(&mut self, words: u32) -> Result<(SegmentId, u32)> {
+        if words > MOST_WORDS - self.words {
+            return Err(Error::from(ErrorKind::SizeOverflow));
+        }
+        match self.use_in_last(words) {
+            Some(start) => Ok(start),
+            None => self.use_in_new(words),
+        }
+    }
+
+    fn write_word(&mut self, place: Place, word: u64) {
+        write_in_segment(self.segments.as_mut_slice(), place, &word.to_le_bytes());
+    }
+
+    fn write_words(&mut self, place: Place, words: &[u8]) {
+        write_in_segment(self.segments.as_mut_slice(), place, words);
+    }
+
+    fn zero_words(&mut self, place: Place, count: usize) {
+        zero_in_segment(self.segments.as_mut_slice(), place, count);
+    }
+}
+
+impl<A: Allocator> BuilderArenaImpl<A> {
+    /// The used bytes of each segment, in order, for output. Memory for the list alone comes from `alloc`.
+    pub fn get_segments_for_output(&self, alloc: Global) -> Result<Vec<&[u8]>>
+        ensures segments { IfOk result (λ v. map (λ b. b.now) v.items ≡ map (λ h. take (8 * h.used) (A.Segment.bytes h.segment)) self.now.segments.items) }
+        ensures kind { IfErr result (λ e. e.kind ≡ OutOfMemory) }
+    {
+        let mut all = Vec::new(alloc);
+        for held in &self.segments {
+            all.push(held.used_bytes())?;
+        }
+        Ok(all)
+    }
+}

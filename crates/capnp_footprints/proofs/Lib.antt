@@ -1,0 +1,11 @@
+pub mod Spans
+pub mod Kept
+pub mod There
+pub mod Algebra
+pub mod Rows
+pub mod Lift
+pub mod Splices
+pub mod Growing
+pub mod Writing
+pub mod Levels
+pub mod Cells

@@ -1,0 +1,92 @@
+//! Sizes of values, told in more than one way.
+
+use crate::elements::Digest;
+use crate::limits::Limits;
+use capnp_units::errors::Error;
+use capnp_units::kinds::ErrorKind;
+use capnp_units::limiter::ReadLimiter;
+use capnp_units::sizes::MessageSize;
+use capnp_value::value::{Bounds, read_value};
+use capnp_wire::arena::ReaderArena;
+use capnp_wire::pointer::PointerReader;
+use std::alloc::{AllocError, Global};
+
+/// The most words that a value is read within.
+const MOST: u64 = 8192;
+
+/// What a walk tells, and what it took.
+#[derive(Clone, Copy)]
+struct Walk {
+    size: Result<MessageSize, Error>,
+    granted: u64,
+    followed: u64,
+}
+
+fn size_within<A: ReaderArena>(root: PointerReader<'_, A>, words: Option<u64>) -> Walk {
+    let mut limiter = ReadLimiter::new(words);
+    let size = root.total_size(&mut limiter);
+    Walk {
+        size,
+        granted: limiter.granted(),
+        followed: limiter.followed(),
+    }
+}
+
+/// Just the words that a walk took suffice for it, and one less doesn't.
+fn takes_just_that<A: ReaderArena>(root: PointerReader<'_, A>, free: Walk) -> bool {
+    let just = size_within(root, Some(free.granted));
+    if just.size != free.size || just.granted != free.granted || just.followed != free.followed {
+        return false;
+    }
+    if free.granted == 0 {
+        return true;
+    }
+    let less = size_within(root, Some(free.granted - 1));
+    less.size == Err(Error::from(ErrorKind::ReadLimitExceeded))
+        && less.granted < free.granted
+        && less.followed <= free.followed
+}
+
+/// The value is there just where its size is told, capabilities aside.
+fn is_there(
+    alloc: Global,
+    segments: &[Vec<u8>],
+    limits: Limits,
+    told: Walk,
+) -> Result<bool, AllocError> {
+    let words = limits.words.unwrap_or(MOST).min(MOST);
+    if limits.nesting < 0 || told.granted > words {
+        return Ok(true);
+    }
+    let bounds = Bounds {
+        words: words as u32,
+        nesting: limits.nesting as u32,
+    };
+    let value = read_value(alloc, &segments, bounds)?;
+    Ok(match told.size {
+        Ok(size) => value.is_some() == (size.cap_count == 0),
+        Err(_) => value.is_none(),
+    })
+}
+
+/// The size of the root's value within the limits, without a limit, within what it takes, and beside the value itself.
+pub fn go_together<A: ReaderArena>(
+    alloc: Global,
+    segments: &[Vec<u8>],
+    root: PointerReader<'_, A>,
+    limits: Limits,
+    digest: &mut Digest,
+) -> Result<bool, AllocError> {
+    let told = size_within(root, limits.words);
+    match told.size {
+        Ok(size) => {
+            digest.add(size.word_count);
+            digest.add(size.cap_count as u64);
+        }
+        Err(e) => digest.add(e.kind as u64),
+    }
+    digest.add(told.granted);
+    digest.add(told.followed);
+    let free = size_within(root, None);
+    Ok(takes_just_that(root, free) && is_there(alloc, segments, limits, told)?)
+}

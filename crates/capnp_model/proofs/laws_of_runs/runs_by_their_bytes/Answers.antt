@@ -1,0 +1,5 @@
+use Rattle.capnp_model.proofs.RunLaws.{by_bytes}
+use Rattle.capnp_model.proofs.laws_of_runs.runs_by_their_bytes.Goals as goal
+
+pub returns : goal.returns
+returns c = by_bytes

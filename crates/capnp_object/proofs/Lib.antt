@@ -1,0 +1,10 @@
+pub mod Words
+pub mod Pads
+pub mod Tags
+pub mod Linking
+pub mod Walking
+pub mod Paying
+pub mod Walks
+pub mod Rows
+pub mod Measuring
+pub mod LevelLaws

@@ -1,0 +1,12 @@
+pub mod Places
+pub mod Arenas
+pub mod Named
+pub mod Objects
+pub mod Follow
+pub mod Inside
+pub mod Walks
+pub mod Laws
+pub use Rattle.capnp_units.specs.Errors
+pub use Rattle.capnp_units.specs.Limits
+pub use Rattle.capnp_units.specs.Segments
+pub use Rattle.capnp_units.specs.Sizes

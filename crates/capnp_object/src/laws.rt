@@ -1,0 +1,10 @@
+//! Laws of what is read, each the contract of an empty function: a call of it brings its clauses.
+ghost use Rattle.capnp_object.specs.Laws.{TreesByLevels, CostsByLevels, VisitsByLevels, VisitsOfFaults};
+
+/// What a pointer names, one level deep, makes the whole value together with what the pointers in it name: its tree, its cost, and the walk over it.
+pub fn values_by_levels()
+    ensures trees { TreesByLevels }
+    ensures costs { CostsByLevels }
+    ensures visits { VisitsByLevels }
+    ensures refused { VisitsOfFaults }
+{}

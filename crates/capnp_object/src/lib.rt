@@ -1,0 +1,13 @@
+//! What pointers name in segments that nobody vouches for: arenas, places, objects, and the sizes of whole values.
+//!
+//! Numbers lie in words of eight bytes, the lowest byte first. What is followed is paid for from a `ReadLimiter`.
+#![tactic(auto)]
+
+pub mod arena;
+pub mod follow;
+pub mod laws;
+pub mod named;
+pub mod object;
+pub mod place;
+pub mod size;
+mod word_pointer;

@@ -1,0 +1,12 @@
+-- the rest decides
+use Rattle.std.proofs.Common.{◌≡◌, ◌==◌, ◌&&◌, ◌||◌, Some, not, true, map, length}
+use Rattle.std.specs.List.{list_all, list_any, flat_map}
+use Rattle.capnp_model.specs.Accepted.{is_good_value}
+use Rattle.capnp_records.specs.NodeViews.{field_of}
+use Rattle.capnp_records.proofs.values.fields_are_good.Given as goal
+
+abbrev pub invariant-loop-rest : goal.invariant-loop-rest
+invariant-loop-rest l = list_all (λ a. is_good_value (λ t. true) (Some a.value)) (flat_map (λ as'. as') (map (λ f. f.annotations) (map field_of l.rest))) ≡ list_all (λ a. is_good_value (λ t. true) (Some a.value)) (flat_map (λ as'. as') (map (λ f. f.annotations) (map field_of l.fn.fields)))
+
+abbrev pub decreases-loop-rest : goal.decreases-loop-rest
+decreases-loop-rest l = length l.rest

@@ -1,0 +1,256 @@
+//! The rule of places: two fields of a struct or a group share a bit or a pointer, those of their groups included, only where they are two members of its union, and none shares a bit with its discriminant.
+
+ghost use Rattle.std.specs.Prelude.{◌≡◌, ◌&&◌, false, map, IfOk, IfSome, IfNone};
+ghost use Rattle.std.specs.Bool.{MatchBool};
+ghost use Rattle.capnp_model.specs.Accepted.{field_body, shape_in, union_place, union_area, areas_of, areas_of_body, has_no_overlap, body_has_no_overlap};
+ghost use Rattle.capnp_records.specs.NodeViews.{kind_of_field, field_of, struct_of, node_of};
+ghost use Rattle.capnp_records.specs.Storage.{areas_seen};
+ghost use Rattle.capnp_records.specs.Marks.{AllowsAll, Refuses, Puts, most_mark, level_mark};
+ghost use Rattle.capnp_records.specs.Claims.{claim_of, claim_in, claims_in, claims_are_apart, areas_claimed, groups_have_no_overlap, IsWritten, IsUnwritten};
+
+use crate::area::{Area, Span};
+use crate::find::find_node;
+use crate::marks::Marks;
+use crate::node::{FieldBody, FieldRecord, NO_DISCRIMINANT, NodeBody, NodeRecord, StructRecord};
+use crate::storage::area_of;
+use std::alloc::{AllocError, Global};
+
+/// What a field of a struct or its discriminant takes, and whether the field is a union member.
+#[derive(Drop)]
+pub(crate) struct Claim {
+    is_member: bool,
+    areas: Vec<Area>,
+}
+
+// ---- what fields take
+
+/// The struct or the group that is written out of an id at so many levels.
+fn struct_at(nodes: &[NodeRecord], levels: usize, id: u64) -> Option<&StructRecord>
+    ensures missing { IfNone result (IsUnwritten (map node_of nodes.now) levels id) }
+    ensures found { IfSome result (λ holder. IsWritten (map node_of nodes.now) levels id (struct_of holder.now)) }
+{
+    if levels == 0 {
+        return None;
+    }
+    let Some(node) = find_node(nodes, id) else {
+        return None;
+    };
+    match &node.body {
+        NodeBody::Struct(holder) => Some(holder),
+        NodeBody::Enum(_) => None,
+    }
+}
+
+/// The areas of a field, those of its group included.
+#[cycle(claims)]
+#[tactic(auto, using(crate::proofs::Overlaps::fields))]
+fn areas_of_body(
+    alloc: Global,
+    nodes: &[NodeRecord],
+    levels: usize,
+    body: &FieldBody,
+) -> Result<Vec<Area>, AllocError>
+    ensures { IfOk result (λ v. areas_seen v.items ≡ areas_of_body (field_body (λ id. shape_in (map node_of nodes.now) levels id) (kind_of_field body.now))) }
+{
+    match body {
+        FieldBody::Slot { offset, ty, .. } => {
+            let mut areas = Vec::new(alloc);
+            areas.push(area_of(*offset, *ty))?;
+            Ok(areas)
+        }
+        FieldBody::Group { node } => areas_of(alloc, nodes, levels, *node),
+    }
+}
+
+/// The areas of a struct or a group, its discriminant's and those of its fields.
+#[cycle(claims)]
+fn areas_of(
+    alloc: Global,
+    nodes: &[NodeRecord],
+    levels: usize,
+    id: u64,
+) -> Result<Vec<Area>, AllocError>
+    ensures { IfOk result (λ v. areas_seen v.items ≡ areas_of (shape_in (map node_of nodes.now) levels id)) }
+{
+    match struct_at(nodes, levels, id) {
+        None => Ok(Vec::new(alloc)),
+        Some(holder) => {
+            let claims = claims_of(alloc, nodes, levels - 1, holder)?;
+            areas_in_claims(alloc, &claims)
+        }
+    }
+}
+
+/// What a field takes.
+#[cycle(claims)]
+fn claim_of(
+    alloc: Global,
+    nodes: &[NodeRecord],
+    levels: usize,
+    field: &FieldRecord,
+) -> Result<Claim, AllocError>
+    ensures { IfOk result (λ c. claim_of c ≡ claim_in (λ id. shape_in (map node_of nodes.now) levels id) (field_of field.now)) }
+{
+    let areas = areas_of_body(alloc, nodes, levels, &field.body)?;
+    let is_member = field.discriminant_value != NO_DISCRIMINANT;
+    Ok(Claim { is_member, areas })
+}
+
+/// What a struct's discriminant and its fields take.
+#[cycle(claims)]
+fn claims_of(
+    alloc: Global,
+    nodes: &[NodeRecord],
+    levels: usize,
+    holder: &StructRecord,
+) -> Result<Vec<Claim>, AllocError>
+    ensures { IfOk result (λ v. map claim_of v.items ≡ claims_in (λ id. shape_in (map node_of nodes.now) levels id) (struct_of holder.now)) }
+{
+    let mut claims = Vec::new(alloc);
+    claims.push(discriminant(alloc, holder)?)?;
+    for field in &holder.fields {
+        claims.push(claim_of(alloc, nodes, levels, field)?)?;
+    }
+    Ok(claims)
+}
+
+/// What a struct's discriminant takes.
+fn discriminant(alloc: Global, holder: &StructRecord) -> Result<Claim, AllocError>
+    ensures { IfOk result (λ c. claim_of c ≡ (false, union_area (union_place (struct_of holder.now)))) }
+{
+    let mut areas = Vec::new(alloc);
+    if holder.discriminant_count != 0 {
+        areas.push(Area::Bits(Span {
+            width: 16,
+            place: holder.discriminant_offset,
+        }))?;
+    }
+    Ok(Claim {
+        is_member: false,
+        areas,
+    })
+}
+
+/// All areas of claims.
+fn areas_in_claims(alloc: Global, claims: &[Claim]) -> Result<Vec<Area>, AllocError>
+    ensures { IfOk result (λ v. areas_seen v.items ≡ areas_claimed (map claim_of claims.now)) }
+{
+    let mut areas = Vec::new(alloc);
+    for claim in claims {
+        areas.extend_from_slice(&claim.areas)?;
+    }
+    Ok(areas)
+}
+
+// ---- what they share
+
+/// Whether no mark of the areas is above the highest.
+fn allows_all(marks: &Marks, areas: &[Area], most: u8) -> bool
+    ensures { MatchBool result (AllowsAll marks.now (areas_seen areas.now) most) (Refuses marks.now (areas_seen areas.now) most) }
+{
+    for area in areas {
+        if !marks.allows(*area, most) {
+            return false;
+        }
+    }
+    true
+}
+
+/// Makes the marks of the areas at least the level.
+fn put_all(marks: &mut Marks, areas: &[Area], level: u8) -> Result<(), AllocError>
+    ensures { IfOk result (λ _. Puts marks.old marks.new (areas_seen areas.now) level) }
+{
+    for area in areas {
+        marks.put(*area, level)?;
+    }
+    Ok(())
+}
+
+/// The highest mark that a field may meet: a union member may meet other members.
+fn most_mark(is_member: bool) -> u8
+    ensures { result ≡ most_mark is_member }
+{
+    if is_member { 1 } else { 0 }
+}
+
+/// The mark of what a field takes.
+fn level_mark(is_member: bool) -> u8
+    ensures { result ≡ level_mark is_member }
+{
+    if is_member { 1 } else { 2 }
+}
+
+/// Whether two claims share only where both are members'.
+fn are_claims_apart(alloc: Global, claims: &[Claim]) -> Result<bool, AllocError>
+    ensures { IfOk result (λ b. b ≡ claims_are_apart (map claim_of claims.now)) }
+{
+    let mut marks = Marks::new(alloc);
+    for claim in claims {
+        if !allows_all(&marks, &claim.areas, most_mark(claim.is_member)) {
+            return Ok(false);
+        }
+        put_all(&mut marks, &claim.areas, level_mark(claim.is_member))?;
+    }
+    Ok(true)
+}
+
+// ---- the rule
+
+/// Whether a struct with its groups keeps the rule.
+#[cycle(overlap)]
+pub(crate) fn has_no_overlap(
+    alloc: Global,
+    nodes: &[NodeRecord],
+    levels: usize,
+    id: u64,
+) -> Result<bool, AllocError>
+    ensures { IfOk result (λ b. b ≡ has_no_overlap (shape_in (map node_of nodes.now) levels id)) }
+{
+    match struct_at(nodes, levels, id) {
+        None => Ok(true),
+        Some(holder) => {
+            let claims = claims_of(alloc, nodes, levels - 1, holder)?;
+            if !are_claims_apart(alloc, &claims)? {
+                return Ok(false);
+            }
+            have_no_overlap(alloc, nodes, levels - 1, &holder.fields)
+        }
+    }
+}
+
+/// Whether a field keeps it, as a group with its groups.
+#[cycle(overlap)]
+#[tactic(auto, using(crate::proofs::Overlaps::fields))]
+fn body_has_no_overlap(
+    alloc: Global,
+    nodes: &[NodeRecord],
+    levels: usize,
+    body: &FieldBody,
+) -> Result<bool, AllocError>
+    ensures { IfOk result (λ b. b ≡ body_has_no_overlap (field_body (λ id. shape_in (map node_of nodes.now) levels id) (kind_of_field body.now))) }
+{
+    match body {
+        FieldBody::Slot { .. } => Ok(true),
+        FieldBody::Group { node } => has_no_overlap(alloc, nodes, levels, *node),
+    }
+}
+
+/// Whether the groups that the fields are keep the rule.
+#[cycle(overlap)]
+fn have_no_overlap(
+    alloc: Global,
+    nodes: &[NodeRecord],
+    levels: usize,
+    fields: &[FieldRecord],
+) -> Result<bool, AllocError>
+    ensures { IfOk result (λ b. b ≡ groups_have_no_overlap (λ id. shape_in (map node_of nodes.now) levels id) (map field_of fields.now)) }
+{
+    let mut rest = fields;
+    while let [first, others @ ..] = rest {
+        if !body_has_no_overlap(alloc, nodes, levels, &first.body)? {
+            return Ok(false);
+        }
+        rest = others;
+    }
+    Ok(true)
+}

@@ -1,0 +1,66 @@
+//! The program but for its streams.
+ghost use Rattle.std.specs.Prelude.{◌≤◌};
+
+use crate::settings::{ROOT, Stop, calls, options, schema};
+use crate::sinks::Flush;
+use capnp_records::structs::StructSchema;
+use capnp_relay::ends::Fault;
+use capnp_relay::relay::relay;
+use capnp_stream::traits::BufRead;
+use std::alloc::Global;
+
+/// Relays the messages of the source, and flushes both sinks, the output first.
+fn relay_all<R: BufRead, W: Flush, L: Flush>(
+    alloc: Global,
+    source: &mut R,
+    out: &mut W,
+    log: &mut L,
+) -> Result<(), Stop> {
+    let set = schema(alloc)?;
+    let Some(raw) = set.plain_struct_by_id(ROOT) else {
+        return Err(Stop::Root);
+    };
+    let root = StructSchema::new(&set, raw);
+    let calls = calls(alloc)?;
+    let options = options()?;
+    let mut region = vec![in alloc; 0u8; options.region_len()]?;
+    let end = relay(alloc, source, out, log, root, &calls, options, &mut region);
+    let is_out = out.flush().is_ok();
+    let is_log = log.flush().is_ok();
+    match end {
+        Err(e) => Err(Stop::Relay(e.fault)),
+        Ok(_) if !is_out => Err(Stop::Relay(Fault::Out)),
+        Ok(_) if !is_log => Err(Stop::Relay(Fault::Log)),
+        Ok(_) => Ok(()),
+    }
+}
+
+/// Writes the line of a fault behind the log, and gives it up where the log takes none.
+fn put_fault<L: Flush>(alloc: Global, log: &mut L, stop: Stop) {
+    let written = match format!(in alloc; "fault: {stop}\n") {
+        Ok(line) => log.write_all(line.as_bytes()),
+        Err(_) => log.write_all(b"fault: memory\n"),
+    };
+    if written.is_ok() {
+        // A log that fails now has nowhere to say so.
+        let _flushed = log.flush();
+    }
+}
+
+/// Relays the messages of the source to the output, with their lines and, behind them, the line of a fault on the log. The status: 0, or 1 where there was a fault.
+pub fn program<R: BufRead, W: Flush, L: Flush>(
+    alloc: Global,
+    source: &mut R,
+    out: &mut W,
+    log: &mut L,
+) -> u8
+    ensures { result ≤ 1 }
+{
+    match relay_all(alloc, source, out, log) {
+        Ok(()) => 0,
+        Err(stop) => {
+            put_fault(alloc, log, stop);
+            1
+        }
+    }
+}

@@ -1,0 +1,33 @@
+//! Laws of what fits its spelling, each the contract of a function that does nothing.
+
+ghost use Rattle.std.specs.Prelude.{◌≡◌, ℕ, List, []};
+ghost use Rattle.std.specs.List.{AllByRecursion};
+ghost use Rattle.capnp_model.specs.Trees.{Tree};
+ghost use Rattle.capnp_model.specs.Fits.{Fits};
+ghost use Rattle.capnp_model.specs.Messages.{Reader, Writer};
+ghost use Rattle.capnp_model.specs.Schemas.{Node};
+ghost use Rattle.capnp_model.specs.Accepted.{IsAccepted, schema_of};
+ghost use Rattle.capnp_model.specs.Calls.{Call};
+ghost use Rattle.capnp_model.specs.Answers.{Limits, edits};
+ghost use Rattle.capnp_model.specs.Runs.{End, finished};
+ghost use Rattle.capnp_model.specs.SameRuns.{IsForm, Relays};
+ghost use Rattle.capnp_versions.specs.Fitting.{HasShortLists, IsSpelledVerb, HaveSmallSections};
+ghost use Rattle.capnp_versions.specs.OwnOutput.{SizesSuffice, IsWritten, relay_of};
+
+/// Calls in turn leave a value that fits its spelling, where no list in it gets too long.
+pub fn edited_values_that_fit()
+    ensures { (nodes : List Node) → IsAccepted nodes → HaveSmallSections nodes → (id : ℕ) (calls : List Call)
+        → AllByRecursion (λ c. IsSpelledVerb c.verb) calls → (t : Tree) → Fits t
+        → HasShortLists (edits (schema_of nodes) id calls t) → Fits (edits (schema_of nodes) id calls t) }
+{}
+
+/// A relay's own output, relayed again in its form without calls, gives the same bytes, where sizes sufficed and the second run writes every message.
+pub fn own_output_again()
+    ensures { (nodes : List Node) → IsAccepted nodes → HaveSmallSections nodes → (quoted : List ℕ → List ℕ) (id : ℕ) (calls : List Call)
+        (limits again : Limits) → AllByRecursion (λ c. IsSpelledVerb c.verb) calls
+        → (read other : Reader) (write : Writer) (bytes output log others lines : List ℕ) (end : End) → IsForm other write
+        → (x : Relays (relay_of nodes quoted id calls limits) read write bytes output log end)
+        → AllByRecursion (SizesSuffice (relay_of nodes quoted id calls limits)) x.messages
+        → (y : Relays (relay_of nodes quoted id [] again) other write output others lines finished)
+        → AllByRecursion IsWritten y.answers → others ≡ output }
+{}

@@ -1,6 +1,0 @@
--- Each law is proved of the definitions.
-use Rattle.capnp_wire.proofs.LevelLaws.{trees, costs, faults, refused}
-use Rattle.capnp_wire.proofs.laws.values_by_levels.Goals as goal
-
-pub returns : goal.returns
-returns c = record { trees = trees; costs = costs; faults = faults; refused = refused }
