@@ -192,7 +192,7 @@ module _ (o n : Schema) (pairs : Pairs) where
   not_set true false h = refl
   not_set true true h = absurd (cc h)
 
-  words_kept : (g g' : Shape) → keeps o n pairs g g' ≡ true → shape_words g ≤ shape_words g'
+  pub words_kept : (g g' : Shape) → keeps o n pairs g g' ≡ true → shape_words g ≤ shape_words g'
   unfolding keeps
   words_kept (shape nid w p u fs) (shape nid' w' p' u' fs') h = le_is w w' (and_four (nat_le w w') (nat_le p p') (keeps_union u u') (keeps_fields o n pairs (member_count fs) fs fs') h).0
     where

@@ -22,3 +22,7 @@ pub mod OlderContents
 pub mod KeptViews
 pub mod GroupViews
 pub mod OlderSteps
+pub mod WriteOnly
+pub mod KindTrim
+pub mod Versions
+pub mod TrimmedRelays

@@ -17,7 +17,8 @@ use Rattle.capnp_model.proofs.FineShapes.{HasUnion, IsGoodMember, IsNewName, IsG
 use Rattle.capnp_model.proofs.OlderReading.{SamePlain, Related, related_void, related_plain', related_text, related_blob, related_untyped, related_interface, related_struct, related_list, KeptShape, kept, KeptFields, KeptBody, kept_void, kept_plain, kept_pointer, kept_group, KidsAgree, shape_record-project, body_of-project, no_children_agree, read-project}
 use Rattle.capnp_model.proofs.Paths.{read_child-is, entry_of-fields_of}
 use Rattle.capnp_versions.proofs.SameShapes.{SameShape, SameBody, same_group}
-use Rattle.capnp_versions.proofs.SameContents.{IsWrite, shape_words}
+use Rattle.capnp_versions.specs.Machines.{IsWrite}
+use Rattle.capnp_versions.proofs.SameContents.{shape_words}
 use Rattle.capnp_versions.proofs.Within.{FitsDefault, AllNarrow, IsWithin, AreWithin, BodyWithin}
 use Rattle.capnp_versions.proofs.SelfFollows.{AllFields, all-found}
 use Rattle.capnp_versions.proofs.Partners.{not_found, absent, partner}
@@ -67,11 +68,11 @@ module _ (n : Schema) where
     seen_list : (rs : Readings) → SeenItems ty rs → SeenList ty (list_of rs)
     seen_no_list : (k : Kind) → SeenList ty (fault k)
 
-  nothing_seen : no_children ≡ kids_of n (λ i. null)
+  pub nothing_seen : no_children ≡ kids_of n (λ i. null)
   unfolding read
   nothing_seen = refl
 
-  child_seen : (ts : Trees) → read_child n ts ≡ kids_of n (child ts)
+  pub child_seen : (ts : Trees) → read_child n ts ≡ kids_of n (child ts)
   child_seen ts = λ k i ty. read_child-is n ts i ty k
 
   only_seen : (t : Tree) (i : ℕ) (ty : Ty) → only_child (read n t) i ty ≡ read n (child (t ▸ none) i) ty
