@@ -9,3 +9,4 @@ pub mod Forward
 pub mod Marked
 pub mod Members
 pub mod DistinctNames
+pub mod Below

@@ -5,6 +5,7 @@ pub mod Sets
 pub mod Storage
 pub mod Claims
 pub mod Marks
+pub mod Levels
 pub mod Segments
 pub mod Slots
 pub mod Structs
