@@ -60,14 +60,16 @@ fn far_struct<A: BuilderArena>(memory: &mut Memory<A>) -> Result<()>
 {
     let (root, at) = memory.arena.allocate_anywhere(1)?;
     let (segment, pad) = memory.arena.allocate_anywhere(3)?;
-    let far = 2 + 8 * pad as u64 + 0x1_0000_0000 * segment as u64;
+    if segment != 1 || pad != 0 {
+        return Err(Error::from(ErrorKind::OutOfBounds));
+    }
     written(
         memory,
         Place {
             segment: root,
             position: at as usize,
         },
-        far,
+        0x1_0000_0002,
     )?;
     let pad = Place {
         segment,
@@ -104,6 +106,14 @@ fn read<A: ReaderArena>(arena: &A) -> Result<(u64, u16, usize)> {
     ))
 }
 
+fn bytes_in(segments: &[&[u8]]) -> usize {
+    let mut bytes: usize = 0;
+    for segment in segments {
+        bytes = bytes.saturating_add(segment.len());
+    }
+    bytes
+}
+
 /// What was read of a message that an allocator's segments hold, how many bytes they have, and the allocator.
 fn built<A: Allocator + Drop>(
     alloc: Global,
@@ -121,7 +131,7 @@ fn built<A: Allocator + Drop>(
     };
     let Memory { arena } = memory;
     let bytes = match arena.get_segments_for_output(alloc) {
-        Ok(all) => Ok(all.iter().map(|bytes| bytes.len()).sum()),
+        Ok(all) => Ok(bytes_in(all.as_slice())),
         Err(e) => Err(e),
     };
     (seen, bytes, arena.into_allocator())

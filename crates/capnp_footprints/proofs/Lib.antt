@@ -9,3 +9,4 @@ pub mod Growing
 pub mod Writing
 pub mod Levels
 pub mod Cells
+pub mod NewObjects
