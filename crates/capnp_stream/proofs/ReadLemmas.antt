@@ -1,5 +1,5 @@
 -- From the parts of a reader's promise to the whole.
-use Rattle.std.proofs.Common.{◌≡◌, ◌≢◌, ◌⊎◌, inl, inr, ℕ, ◌∷◌, [], List, Bool, true, false, None, Some, IsTrue, ◌↔◌, IfSome, IfErr, Result, Ok, Err, subst, sym, refl}
+use Rattle.std.proofs.Common.{◌≡◌, inl, inr, ℕ, [], List, Bool, true, false, None, Some, IsTrue, ◌↔◌, IfSome, Err, subst, sym}
 use Rattle.std.specs.declared.convert.AsSlice.{Ghosts}
 use Rattle.std.specs.declared.option.Option.{Option}
 use Rattle.std.specs.Io.KnownBytes.{Keeps, IsAtEnd}
@@ -9,7 +9,7 @@ use Rattle.capnp_units.specs.declared.kinds.ErrorKind.{ErrorKind}
 use Rattle.capnp_units.specs.declared.kinds.ErrorKind.TheVariants.{OutOfMemory, PrematureEndOfFile, Device}
 use Rattle.capnp_model.specs.Messages.{Reader}
 use Rattle.capnp_stream.specs.Counting.{KindCounts}
-use Rattle.capnp_stream.specs.Pieces.{ReadsFronts, TakesPiece}
+use Rattle.capnp_stream.specs.Pieces.{ReadsFronts}
 use Rattle.capnp_stream.specs.Frames.{IsFrameFault, TakesStart, TakesWholePieces, TakesTable, IsFramingKind, IsReadKind, IsCut}
 use Rattle.capnp_stream.specs.Reading.{TriesMessage, ReadsMessage}
 use Rattle.capnp_stream.specs.Lent.{IsFillKind}
