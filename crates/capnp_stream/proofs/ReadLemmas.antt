@@ -1,5 +1,5 @@
 -- From the parts of a reader's promise to the whole.
-use Rattle.std.proofs.Common.{◌≡◌, ◌≢◌, ◌⊎◌, inl, inr, ℕ, ◌∷◌, [], List, Bool, true, false, None, Some, IsTrue, ◌↔◌, IfSome, IfErr, Result, Ok, Err, subst, sym, refl}
+use Rattle.std.proofs.Common.{◌≡◌, inl, inr, ℕ, [], List, Bool, true, false, None, Some, IsTrue, ◌↔◌, IfSome, Err, subst, sym}
 use Rattle.std.specs.declared.convert.AsSlice.{Ghosts}
 use Rattle.std.specs.declared.option.Option.{Option}
 use Rattle.std.specs.Io.KnownBytes.{Keeps, IsAtEnd}
@@ -9,9 +9,9 @@ use Rattle.capnp_units.specs.declared.kinds.ErrorKind.{ErrorKind}
 use Rattle.capnp_units.specs.declared.kinds.ErrorKind.TheVariants.{OutOfMemory, PrematureEndOfFile, Device}
 use Rattle.capnp_model.specs.Messages.{Reader}
 use Rattle.capnp_stream.specs.Counting.{KindCounts}
-use Rattle.capnp_stream.specs.Pieces.{ReadsFronts, TakesPiece}
-use Rattle.capnp_stream.specs.Frames.{IsFrameFault, TakesStart, TakesTable, IsFramingKind, IsReadKind, IsCut}
-use Rattle.capnp_stream.specs.Reading.{TakesWholePieces, TriesMessage, ReadsMessage}
+use Rattle.capnp_stream.specs.Pieces.{ReadsFronts}
+use Rattle.capnp_stream.specs.Frames.{IsFrameFault, TakesStart, TakesWholePieces, TakesTable, IsFramingKind, IsReadKind, IsCut}
+use Rattle.capnp_stream.specs.Reading.{TriesMessage, ReadsMessage}
 use Rattle.capnp_stream.specs.Lent.{IsFillKind}
 use Rattle.capnp_stream.specs.Filling.{TriesFilling, FillsMessage}
 use Rattle.capnp_stream.proofs.KnownLemmas.{Consumes-of_kept}
@@ -95,6 +95,7 @@ module _ {T : Type 0} {g : Ghosts T ℕ} (read : Reader) (fronts : ReadsFronts r
       short = λ w. absurd cc;
       kind = device-fills faults e.kind failed;
       part = part-of_kept read fronts limit a b kept;
+      room = λ w. absurd cc;
       count = count;
     }
 
@@ -106,6 +107,7 @@ module _ {T : Type 0} {g : Ghosts T ℕ} (read : Reader) (fronts : ReadsFronts r
       short = λ w. absurd cc;
       kind = λ _. device-fills faults e.kind failed;
       part = part-of_kept read fronts limit a b kept;
+      room = λ w. absurd cc;
       count = count;
     }
 
@@ -118,6 +120,7 @@ module _ {T : Type 0} {g : Ghosts T ℕ} (read : Reader) (fronts : ReadsFronts r
     short = λ w. absurd cc;
     kind = λ other. absurd (other end);
     part = part-of_kept read fronts limit a b kept;
+    room = λ w. absurd cc;
     count = let same : KindCounts PrematureEndOfFile m n = count in subst (λ k. KindCounts k m n) (sym end) same;
   }
 

@@ -1,5 +1,5 @@
 -- Messages on streams, in a form that a reader of words gives. (Encoding, "Serialization Over a Stream")
-use Rattle.std.specs.Prelude.{◌≡◌, ℕ, ◌<◌, List, ◌++◌, length, take, ⊤, IfSome, IfErr, Err, Ok}
+use Rattle.std.specs.Prelude.{◌≡◌, ◌⊎◌, ℕ, ◌<◌, List, [], ◌∷◌, ◌++◌, length, take, ⊤, IfSome, IfErr, Err, Ok}
 use Rattle.std.specs.declared.result.Result.{Result}
 use Rattle.std.specs.declared.option.Option.{Option}
 use Rattle.capnp_units.specs.declared.errors.Error.{Error}
@@ -10,7 +10,7 @@ use Rattle.capnp_units.specs.declared.kinds.ErrorKind.TheVariants.{OutOfMemory, 
 use Rattle.capnp_model.specs.Segments.{Segments}
 use Rattle.capnp_model.specs.Messages.{Reader, behind_lengths, message_at}
 use Rattle.capnp_model.specs.Spelling.{Spells}
-use Rattle.capnp_stream.specs.Pieces.{EachIsNeeded, TakesPieceStart, IsPieceFault}
+use Rattle.capnp_stream.specs.Pieces.{EachIsNeeded, TakesPiece, TakesPieceStart, IsPieceFault}
 
 -- The bytes begin with no message within the limit, and this is the kind of the first part that can't be read.
 abbrev pub IsFrameFault : Reader → Option ℕ → List ℕ → ErrorKind → Type 0
@@ -37,6 +37,11 @@ TakesPart read limit old new = (part : List ℕ) × HasNoMessage read limit part
 abbrev pub TakesTable : Reader → Option ℕ → Option (List ℕ) → Option (List ℕ) → List ℕ → Type 0
 TakesTable read limit old new lengths =
     (table : List ℕ) × Consumes old new table × ((more : List ℕ) → message_at read limit (table ++ more) ≡ behind_lengths read limit lengths more) × EachIsNeeded (message_at read limit) table
+
+-- No byte was taken, or the first word of a message, or its table.
+abbrev pub TakesWholePieces : Reader → Option ℕ → Option (List ℕ) → Option (List ℕ) → Type 0
+TakesWholePieces read limit old new =
+    Keeps old new ⊎ ((word : ℕ) × TakesPiece read old new (word ∷ [])) ⊎ ((lengths : List ℕ) × TakesTable read limit old new lengths)
 
 -- The kinds of bytes that are no message.
 abbrev pub IsFramingKind : ErrorKind → Type 0

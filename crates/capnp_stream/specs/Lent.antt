@@ -6,7 +6,7 @@ use Rattle.capnp_units.specs.declared.errors.Error.{Error}
 use Rattle.capnp_units.specs.declared.kinds.ErrorKind.{ErrorKind}
 use Rattle.capnp_units.specs.declared.kinds.ErrorKind.TheVariants.{BufferNotLargeEnough, Device}
 use Rattle.capnp_model.specs.Messages.{Reader, within, behind_lengths, behind_first, message_at}
-use Rattle.capnp_stream.specs.Frames.{IsFormKind}
+use Rattle.capnp_stream.specs.Frames.{TakesWholePieces, IsFormKind}
 use Rattle.capnp_stream.specs.Flat.{table_bytes}
 
 -- The first word of a table stands at the front of the bytes, and says this number, which is one less than that of the segments.
@@ -29,6 +29,10 @@ NeedsMore read limit size bytes =
 -- A refusal for want of room says that the message needs more than so many bytes.
 abbrev pub TellsNeed : {A : Type 0} → Reader → Option ℕ → ℕ → Option (List ℕ) → Result A Error → Type 0
 TellsNeed read limit size old result = IfErr result (λ e. e.kind ≡ BufferNotLargeEnough → IfSome old (NeedsMore read limit size))
+
+-- Want of room is seen between pieces.
+abbrev pub LacksBetweenPieces : {A : Type 0} → Reader → Option ℕ → Option (List ℕ) → Option (List ℕ) → Result A Error → Type 0
+LacksBetweenPieces read limit old new result = IfErr result (λ e. e.kind ≡ BufferNotLargeEnough → TakesWholePieces read limit old new)
 
 -- The kinds by which a reader refuses that takes no memory, in a form whose pieces are at fault by these.
 abbrev pub IsFillKind : (ErrorKind → Type 0) → ErrorKind → Type 0

@@ -1,5 +1,5 @@
 -- What the readers of one message on a stream promise. (Encoding, "Serialization Over a Stream")
-use Rattle.std.specs.Prelude.{◌≡◌, ◌≢◌, ◌⊎◌, ℕ, List, [], ◌∷◌, length, IfSome, IfNone, IfOk, IfErr, OnErr}
+use Rattle.std.specs.Prelude.{◌≡◌, ◌≢◌, ℕ, List, [], IfSome, IfNone, IfOk, IfErr, OnErr}
 use Rattle.std.specs.declared.result.Result.{Result}
 use Rattle.std.specs.declared.option.Option.{Option}
 use Rattle.std.specs.Io.KnownBytes.{Keeps, IsAtEnd}
@@ -9,8 +9,7 @@ use Rattle.capnp_units.specs.declared.kinds.ErrorKind.TheVariants.{OutOfMemory, 
 use Rattle.capnp_model.specs.Messages.{Reader}
 use Rattle.capnp_model.specs.Spelling.{CanSpell}
 use Rattle.capnp_stream.specs.Counting.{Counts}
-use Rattle.capnp_stream.specs.Pieces.{TakesPiece}
-use Rattle.capnp_stream.specs.Frames.{IsFrameFault, TakesMessage, TakesStart, TakesTable, IsFramingKind, IsReadKind}
+use Rattle.capnp_stream.specs.Frames.{IsFrameFault, TakesMessage, TakesStart, TakesWholePieces, IsFramingKind, IsReadKind}
 use Rattle.capnp_stream.specs.Segments.{segment_bytes, segments_of}
 use Rattle.capnp_stream.specs.Writing.{AreWritable}
 use Rattle.capnp_stream.specs.declared.segments.OwnedSegments.{OwnedSegments}
@@ -23,11 +22,6 @@ pub record SourceSeen : Type 0 where
 -- What is seen of a source, by its own words.
 abbrev pub source_seen : {S : Type 0} → (S → Option (List ℕ)) → (S → ℕ) → S → SourceSeen
 source_seen remaining failures s = record { remaining = remaining s; failures = failures s }
-
--- No byte was taken, or the first word of a message, or its table.
-abbrev pub TakesWholePieces : Reader → Option ℕ → Option (List ℕ) → Option (List ℕ) → Type 0
-TakesWholePieces read limit old new =
-    Keeps old new ⊎ ((word : ℕ) × TakesPiece read old new (word ∷ [])) ⊎ ((lengths : List ℕ) × TakesTable read limit old new lengths)
 
 -- Memory is wanted between pieces.
 abbrev pub WantsBetweenPieces : {A : Type 0} → Reader → Option ℕ → Option (List ℕ) → Option (List ℕ) → Result A Error → Type 0

@@ -10,7 +10,7 @@ ghost use Rattle.capnp_stream.specs.Pieces.{is_framed_fault};
 ghost use Rattle.capnp_stream.specs.Frames.{TellsFault, TakesMessage, TakesStart, TakesTable};
 ghost use Rattle.capnp_stream.specs.Flat.{table_lengths, table_bytes, frame_segments, Describes};
 ghost use Rattle.capnp_stream.specs.Buffers.{found_segments};
-ghost use Rattle.capnp_stream.specs.Lent.{TellsNeed, IsFillKind};
+ghost use Rattle.capnp_stream.specs.Lent.{TellsNeed, LacksBetweenPieces, IsFillKind};
 ghost use Rattle.capnp_stream.specs.Reading.{source_seen};
 ghost use Rattle.capnp_stream.specs.Filling.{TriesFilling, FillsMessage};
 
@@ -39,6 +39,8 @@ fn fill_table<F: MessageForm, R: BufRead>(
     ensures kind { IfErr result (λ e. IsFillKind F.faults e.kind) }
     ensures part { OnErr result
         (TakesStart F.reader limit (R.remaining source.old) (R.remaining source.new)) }
+    ensures room { LacksBetweenPieces F.reader limit (R.remaining source.old)
+        (R.remaining source.new) result }
     ensures failures { Counts result (R.failures source.old) (R.failures source.new) }
 {
     if buffer.len() < 8 {
@@ -68,6 +70,8 @@ fn fill_message<F: MessageForm, R: BufRead>(
     ensures kind { IfErr result (λ e. IsFillKind F.faults e.kind) }
     ensures part { OnErr result
         (TakesStart F.reader limit (R.remaining source.old) (R.remaining source.new)) }
+    ensures room { LacksBetweenPieces F.reader limit (R.remaining source.old)
+        (R.remaining source.new) result }
     ensures failures { Counts result (R.failures source.old) (R.failures source.new) }
 {
     let count = fill_table::<F, R>(source, buffer, limit)?;

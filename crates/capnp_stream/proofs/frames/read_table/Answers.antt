@@ -1,12 +1,8 @@
-use Rattle.std.proofs.Common.{inl, inr, ◌≡◌, ◌<◌, ◌+◌, arith, length, ap, sym, subst, List, ℕ, sum}
+use Rattle.std.proofs.Common.{inl, inr, arith, ap, sym, subst, sum}
 use Rattle.std.proofs.lemmas.Result.{err_from_is_err_and}
 use Rattle.capnp_model.specs.Spelling.{AreShort}
-use Rattle.capnp_stream.specs.Ranges.{AreBytes}
-use Rattle.capnp_stream.specs.Flat.{table_lengths}
-use Rattle.capnp_stream.specs.Frames.{TakesTable}
-use Rattle.capnp_stream.proofs.FlatLemmas.{table-holds}
 use Rattle.capnp_stream.proofs.FrameLemmas.{no-part, TakesTable-of_lengths}
-use Rattle.capnp_stream.proofs.TableLemmas.{count-part, rest-fault, rest-part, table-of_buffer, table-short, table-sum, read-kind}
+use Rattle.capnp_stream.proofs.TableLemmas.{count-part, rest-fault, rest-part, table-of_buffer, table-short, table-sum}
 use Rattle.capnp_stream.proofs.frames.read_table.Goals as goal
 
 pub returns-in_err-table-clause-part : goal.returns-in_err-table-clause-part

@@ -1,4 +1,4 @@
-use Rattle.std.proofs.Common.{◌≡◌, ℕ, subst}
+use Rattle.std.proofs.Common.{ℕ, subst}
 use Rattle.std.proofs.lemmas.Result.{err_from_is_err_and}
 use Rattle.capnp_stream.specs.Counting.{KindCounts}
 use Rattle.capnp_stream.proofs.ReadLemmas.{tries-failed, tries-refused}

@@ -1,10 +1,10 @@
-use Rattle.std.proofs.Common.{arith, ◌≡◌, ◌+◌, ◌++◌, length, take, drop, sym, ap, Some, Ok}
+use Rattle.std.proofs.Common.{arith, ◌≡◌, ◌+◌, ◌++◌, take, drop, sym, ap, Some, Ok}
 use Rattle.std.specs.List.{flat_map, slice_get}
 use Rattle.std.proofs.lemmas.List.{length-map}
 use Rattle.std.proofs.lemmas.Option.{slice_get_within}
 use Rattle.std.proofs.lemmas.Result.{err_from_is_err_and}
 use Rattle.capnp_units.specs.Segments.{whole_words, words_in}
-use Rattle.capnp_stream.specs.Writes.{Writes, sink_seen}
+use Rattle.capnp_stream.specs.Writes.{sink_seen}
 use Rattle.capnp_stream.proofs.WriteLemmas.{segment-there, segment-gone, each-step, each-text, take-all}
 use Rattle.capnp_stream.proofs.WritesLemmas.{writes-text, writes-stop, writes-then}
 use Rattle.capnp_stream.proofs.writing.write_each.Goals as goal

@@ -1,4 +1,4 @@
-use Rattle.std.proofs.Common.{arith, ◌≡◌, [], ◌∷◌, ◌++◌, ℕ, List, Err, Ok, subst}
+use Rattle.std.proofs.Common.{arith, ◌≡◌, [], ◌∷◌, ℕ, List, Err, Ok, subst}
 use Rattle.std.proofs.lemmas.Result.{err_from_is_err_and}
 use Rattle.capnp_units.specs.Segments.{whole_words}
 use Rattle.capnp_stream.specs.Writes.{Writes, sink_seen}
