@@ -18,7 +18,7 @@ use capnp_calls::laws::calls_are_given;
 use capnp_calls::open::{close_struct, open_struct};
 use capnp_calls::root::StructValue;
 use capnp_calls::run::run;
-use capnp_model::{laws, laws_of_answers};
+use capnp_model::{laws, laws_of_edits};
 use capnp_records::structs::StructSchema;
 use capnp_stream::segments::OwnedSegments;
 use capnp_units::errors::Error;
@@ -112,7 +112,7 @@ impl<'a> Answers for CallsAtRoot<'a> {
     ghost is_too_large = { IsTooLarge };
 
     fn answer(&self, alloc: Global, message: &OwnedSegments) -> Result<MessageAnswer, Want> {
-        laws_of_answers::records_of_answers();
+        laws_of_edits::records_of_written_values();
         calls_are_given();
         let _id = self.schema.id();
         match read_value(alloc, message, self.bounds) {

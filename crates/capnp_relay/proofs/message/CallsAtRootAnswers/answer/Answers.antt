@@ -21,5 +21,5 @@ returns-in-Ok-clause-value c =
     let P : Option Tree → Type 0 = λ o. MeansAfter here.schema here.calls.now here.bounds.nesting o (answer_view a) in
     record {
       same = same;
-      reads = ReadsAsMade-of here.schema here.calls.now here.bounds c.records_of_answers.ensures.written here.schema.set.now.accepted no_group (c.calls_are_given.ensures here.calls.now) s (answer_view a) same (subst P value means);
+      reads = ReadsAsMade-of here.schema here.calls.now here.bounds c.records_of_written_values.ensures.reads here.schema.set.now.accepted no_group (c.calls_are_given.ensures here.calls.now) s (answer_view a) same (subst P value means);
     }) c.answer_value.ensures.answer c.answer_value.ensures.means
