@@ -106,7 +106,7 @@ with_front-fault : (xs : List ℕ) (r : Result (List ℕ × List ℕ) Kind) (k :
 with_front-fault xs (Ok y) k e = absurd cc
 with_front-fault xs (Err d) k e = e
 
-early-front : (xs : List ℕ) (r : Result (List ℕ × List ℕ) Kind) → EndsEarly r → EndsEarly (with_front xs r)
+pub early-front : (xs : List ℕ) (r : Result (List ℕ × List ℕ) Kind) → EndsEarly r → EndsEarly (with_front xs r)
 early-front xs (Ok x) h = absurd h
 early-front xs (Err k) h = h
 

@@ -1,5 +1,5 @@
 -- Whole groups and runs at the front of bytes that are shown.
-use Rattle.std.proofs.Common.{◌≡◌, ◌≢◌, ℕ, zero, suc, ◌+◌, ◌-◌, ◌*◌, ◌/◌, ◌%◌, ◌<◌, ◌≤◌, Bool, true, false, cond, eqb, leb, List, [], ◌∷◌, ◌++◌, length, take, drop, get_or, replicate, Result, Ok, Err, refl, sym, ap, subst, ◌∙◌, append_assoc, append-nil, add-one, arith, take_at, drop_at, take-append-drop, length-append, length-drop, length-take-le}
+use Rattle.std.proofs.Common.{◌≡◌, ◌≢◌, ℕ, zero, suc, ◌+◌, ◌-◌, ◌*◌, ◌/◌, ◌%◌, ◌<◌, ◌≤◌, Bool, true, false, cond, mod-lt, eqb, leb, List, [], ◌∷◌, ◌++◌, length, take, drop, get_or, replicate, Result, Ok, Err, refl, sym, ap, subst, ◌∙◌, append_assoc, append-nil, add-one, arith, take_at, drop_at, take-append-drop, length-append, length-drop, length-take-le}
 use Rattle.std.specs.Int.{w64, from_le_bytes}
 use Rattle.std.specs.List.{range_with_len}
 use Rattle.std.specs.Simd.Lanes.{pick_l}
@@ -30,7 +30,27 @@ use Rattle.capnp_packing.specs.declared.runs.Run.{Run}
 use Rattle.capnp_packing.specs.declared.runs.Run.TheVariants.{First, Next, Zeros, Verbatim}
 use Rattle.capnp_packing.specs.declared.shown.Head.{Head}
 use Rattle.capnp_packing.specs.declared.shown.Step.{Step}
-use Rattle.capnp_packing.proofs.PartLemmas.{with_front-nil, with_front-more, Leads-by, Leads-trans, Refuses-behind}
+use Rattle.capnp_stream.specs.Pieces.{EndsEarly, EachIsNeeded}
+use Rattle.capnp_stream.proofs.EarlyLemmas.{early-same, early-then, none-needed, needed-joined}
+use Rattle.capnp_packing.proofs.PartLemmas.{byte-needed, early-front, with_front-nil, with_front-more, Leads-by, Leads-trans, Refuses-behind}
+
+-- ---- bytes that are too few
+
+length-take-le-any : (n : ℕ) (xs : List ℕ) → length (take n xs) ≤ n
+length-take-le-any zero xs = omega arith
+length-take-le-any (suc n) [] = omega arith
+length-take-le-any (suc n) (x ∷ xs) = let r = length-take-le-any n xs in omega arith
+
+taken-short : (bytes : List ℕ) → length bytes < 8 → EndsEarly (taken 8 bytes)
+taken-short bytes h = let few : leb 8 (length bytes) ≡ false = not-leb 8 (length bytes) h in rw few tt
+  where
+    not-leb : (a b : ℕ) → b < a → leb a b ≡ false
+    not-leb a b h = grind arith
+
+taken-eight : (bytes more : List ℕ) → length bytes ≡ 8 → taken 8 (bytes ++ more) ≡ Ok (bytes, more)
+taken-eight bytes more eight =
+    let enough : leb 8 (length (bytes ++ more)) ≡ true = le-leb 8 (length (bytes ++ more)) (omega (arith, length-append bytes more)) in
+    rw enough (ap (λ (l : List ℕ). Ok (l, drop 8 (bytes ++ more))) (take_at bytes more 8 eight) ∙ ap (λ (l : List ℕ). Ok (bytes, l)) (drop_at bytes more 8 eight))
 
 -- ---- the head of a group
 
@@ -59,6 +79,12 @@ run-zeros n t k is within more = rw is (counted-ok n k model.zeros more within)
 pub run-verbatim : (n t k : ℕ) → t ≡ 255 → k ≤ n → (more : List ℕ) → run_at n t (k ∷ [] ++ more) ≡ Ok (model.verbatim k, more)
 run-verbatim n t k is within more = rw is (counted-ok n k model.verbatim more within)
 
+pub early-zeros : (n t : ℕ) → t ≡ 0 → EndsEarly (run_at n t [])
+early-zeros n t is = rw is tt
+
+pub early-verbatim : (n t : ℕ) → t ≡ 255 → EndsEarly (run_at n t [])
+early-verbatim n t is = rw is tt
+
 -- the eight bytes behind the first
 abbrev pub behind_tag : List ℕ → List ℕ
 behind_tag bytes = get_or bytes 1 0 ∷ get_or bytes 2 0 ∷ get_or bytes 3 0 ∷ get_or bytes 4 0 ∷ get_or bytes 5 0 ∷ get_or bytes 6 0 ∷ get_or bytes 7 0 ∷ get_or bytes 8 0 ∷ []
@@ -69,13 +95,48 @@ front-of_group bytes m ten most =
     ap (take (1 + m)) (sym (pick_l_whole 0 bytes 10 ten)) ∙ ap (λ (k : ℕ). take k (get_or bytes 0 0 ∷ (behind_tag bytes ++ (get_or bytes 9 0 ∷ [])))) one
     ∙ ap (λ (l : List ℕ). get_or bytes 0 0 ∷ l) (take-append-le m (behind_tag bytes) (get_or bytes 9 0 ∷ []) (omega arith))
 
+-- ---- bytes of a group are needed
+
+early-spread : (k t : ℕ) (bytes : List ℕ) (m : ℕ) → m < marks k t → EndsEarly (spread k t (take m bytes))
+unfolding marks
+early-spread zero t bytes m h = absurd (omega arith)
+early-spread (suc k) t bytes m h = by (t % 2) (mod-lt t (omega arith)) m bytes h (λ b l g. early-spread k (t / 2) b l g)
+  where
+    by : (d : ℕ) → d < 2 → (m : ℕ) (bytes : List ℕ) → m < d + marks k (t / 2) → ((b : List ℕ) (l : ℕ) → l < marks k (t / 2) → EndsEarly (spread k (t / 2) (take l b)))
+        → EndsEarly {A = List ℕ × List ℕ} (model.byte_at d (take m bytes) and_then λ b. spread k (t / 2) b.1 and_then λ bs. Ok (b.0 ∷ bs.0, bs.1))
+    by zero two m bytes h more = early-then (spread k (t / 2) (take m bytes)) _ (more bytes m (omega arith))
+    by (suc zero) two zero bytes h more = tt
+    by (suc zero) two (suc m) [] h more = tt
+    by (suc zero) two (suc m) (b ∷ bytes) h more = early-then (spread k (t / 2) (take m bytes)) _ (more bytes m (omega arith))
+    by (suc (suc d)) two m bytes h more = absurd (omega arith)
+
+tagged-needed : (t : ℕ) (bytes : List ℕ) → EachIsNeeded (tagged t) (take (marks 8 t) bytes)
+unfolding tagged
+tagged-needed t bytes n below =
+    let same : take n (take (marks 8 t) bytes) ≡ take n bytes = take-take n (marks 8 t) bytes (omega (arith, below, length-take-le-any (marks 8 t) bytes)) in
+    early-same _ _ (ap (spread 8 t) same) (early-spread 8 t bytes n (omega (arith, below, length-take-le-any (marks 8 t) bytes)))
+
+group-needed : (n tag : ℕ) (marked word tail : List ℕ) → ((more : List ℕ) → tagged tag (marked ++ more) ≡ Ok (word, more)) → EachIsNeeded (tagged tag) marked → EachIsNeeded (run_at n tag) tail → EachIsNeeded (group_at n) (tag ∷ (marked ++ tail))
+unfolding tagged
+group-needed n tag marked word tail read first second zero below = tt
+group-needed n tag marked word tail read first second (suc k) below =
+    let both = needed-joined (λ b. tagged tag b and_then tagged_run n tag) (run_at n tag) marked tail
+        (λ more h. early-same _ _ (ok_then (tagged tag (marked ++ more)) (tagged_run n tag) (word, more) _ (read more) refl) (early-then (run_at n tag more) (counted_run word) h))
+        (λ j l. early-then (tagged tag (take j marked)) (tagged_run n tag) (first j l)) second in
+    both k (omega arith)
+
 -- a group whose parts were worked out
 module _ (n : ℕ) (bytes word : List ℕ) (m : ℕ) (ten : length bytes ≡ 10) (count : m ≡ marks 8 (get_or bytes 0 0)) (most : m ≤ 8)
     (spelled : (more : List ℕ) → tagged (get_or bytes 0 0) (take (marks 8 (get_or bytes 0 0)) (behind_tag bytes) ++ more) ≡ Ok (word, more)) where
-  head-by : (tail : List ℕ) (run : Run) (len : ℕ) → take len bytes ≡ take (1 + m) bytes ++ tail → len ≤ 10 → ((more : List ℕ) → run_at n (get_or bytes 0 0) (tail ++ more) ≡ Ok (run_view run, more))
+  head-by : (tail : List ℕ) (run : Run) (len : ℕ) → take len bytes ≡ take (1 + m) bytes ++ tail → len ≤ 10 → ((more : List ℕ) → run_at n (get_or bytes 0 0) (tail ++ more) ≡ Ok (run_view run, more)) → EachIsNeeded (run_at n (get_or bytes 0 0)) tail
       → IsGroup n bytes (record { word = word; len = len; run = run })
-  head-by tail run len cut within read = record {
+  head-by tail run len cut within read needed = record {
     within = omega arith;
+    needed =
+        let tag = get_or bytes 0 0 in
+        let marked = take (marks 8 tag) (behind_tag bytes) in
+        let front : take len bytes ≡ tag ∷ (marked ++ tail) = cut ∙ ap (λ (l : List ℕ). l ++ tail) (front-of_group bytes m ten most ∙ ap (λ (k : ℕ). tag ∷ take k (behind_tag bytes)) count) in
+        subst (λ (l : List ℕ). EachIsNeeded (group_at n) l) (sym front) (group-needed n tag marked word tail spelled (tagged-needed tag (behind_tag bytes)) needed);
     says = λ more.
         let tag = get_or bytes 0 0 in
         let marked = take (marks 8 tag) (behind_tag bytes) in
@@ -84,11 +145,11 @@ module _ (n : ℕ) (bytes word : List ℕ) (m : ℕ) (ten : length bytes ≡ 10)
   }
 
   pub head-next : get_or bytes 0 0 ≢ 0 → get_or bytes 0 0 ≢ 255 → IsGroup n bytes (record { word = word; len = 1 + m; run = Next })
-  head-next some full = head-by [] Next (1 + m) (sym (append-nil (take (1 + m) bytes))) (omega arith) (run-next n (get_or bytes 0 0) some full)
+  head-next some full = head-by [] Next (1 + m) (sym (append-nil (take (1 + m) bytes))) (omega arith) (run-next n (get_or bytes 0 0) some full) (none-needed (run_at n (get_or bytes 0 0)))
 
-  pub head-counted : (run : Run) → get_or bytes (1 + m) 0 ≤ n → ((more : List ℕ) → run_at n (get_or bytes 0 0) (get_or bytes (1 + m) 0 ∷ [] ++ more) ≡ Ok (run_view run, more))
+  pub head-counted : (run : Run) → get_or bytes (1 + m) 0 ≤ n → ((more : List ℕ) → run_at n (get_or bytes 0 0) (get_or bytes (1 + m) 0 ∷ [] ++ more) ≡ Ok (run_view run, more)) → EndsEarly (run_at n (get_or bytes 0 0) [])
       → IsGroup n bytes (record { word = word; len = 1 + m + 1; run = run })
-  head-counted run within read = head-by (get_or bytes (1 + m) 0 ∷ []) run (1 + m + 1) (take_more bytes (1 + m) 0 (omega arith)) (omega arith) read
+  head-counted run within read early = head-by (get_or bytes (1 + m) 0 ∷ []) run (1 + m + 1) (take_more bytes (1 + m) 0 (omega arith)) (omega arith) read (byte-needed (run_at n (get_or bytes 0 0)) (get_or bytes (1 + m) 0) early)
 
 -- ---- one behind the other
 
@@ -97,11 +158,12 @@ with_front-word w ws (Ok x) = refl
 with_front-word w ws (Err k) = refl
 
 pub Spells-none : (n : ℕ) (run : model.Run) → Spells n run [] [] n run
-Spells-none n run = record { says = λ more. sym (with_front-nil (unpacked_from n run more)) }
+Spells-none n run = record { says = λ more. sym (with_front-nil (unpacked_from n run more)); needed = none-needed (unpacked_from n run) }
 
 Spells-trans : (n m l : ℕ) (r s t : model.Run) (p q xs ys : List ℕ) → Spells n r p xs m s → Spells m s q ys l t → Spells n r (p ++ q) (xs ++ ys) l t
 Spells-trans n m l r s t p q xs ys first then_more = record {
   says = λ more. ap (unpacked_from n r) (append_assoc p q more) ∙ first.says (q ++ more) ∙ ap (with_front xs) (then_more.says more) ∙ with_front-more xs ys (unpacked_from l t more);
+  needed = needed-joined (unpacked_from n r) (unpacked_from m s) p q (λ more h. early-same _ _ (first.says more) (early-front xs (unpacked_from m s more) h)) first.needed then_more.needed;
 }
 
 Spells-zeros : (j n k : ℕ) → Spells (j + n) (model.zeros (j + k)) [] (replicate j 0) n (model.zeros k)
@@ -111,7 +173,7 @@ Spells-zeros (suc j) n k =
     let a : suc j + n ≡ suc (j + n) = omega arith in
     let b : suc j + k ≡ suc (j + k) = omega arith in
     let rest = Spells-zeros j n k in
-    rw (a, b) (record { says = λ more. ap (with_word 0) (rest.says more) ∙ with_front-word 0 (replicate j 0) (unpacked_from n (model.zeros k) more) })
+    rw (a, b) (record { says = λ more. ap (with_word 0) (rest.says more) ∙ with_front-word 0 (replicate j 0) (unpacked_from n (model.zeros k) more); needed = λ i below. absurd (omega arith) })
 
 pub words-of_zeros : (j : ℕ) → words_in_bytes j (replicate (8 * j) 0) ≡ replicate j 0
 words-of_zeros zero = refl
@@ -128,6 +190,25 @@ taken-front bytes more long =
 abbrev verbatim_on : ℕ → ℕ → List ℕ × List ℕ → Result (List ℕ × List ℕ) Kind
 verbatim_on n k w = with_word (from_le_bytes w64 w.0) (unpacked_from n (model.verbatim k) w.1)
 
+-- the next word of a verbatim run
+abbrev verbatim_rule : ℕ → ℕ → List ℕ → Result (List ℕ × List ℕ) Kind
+verbatim_rule n k bytes = taken 8 bytes and_then verbatim_on n k
+
+early-word : (w : ℕ) (r : Result (List ℕ × List ℕ) Kind) → EndsEarly r → EndsEarly (with_word w r)
+early-word w (Ok x) h = absurd h
+early-word w (Err k) h = h
+
+verbatim-early : (n k : ℕ) (bytes : List ℕ) → 8 ≤ length bytes → (more : List ℕ) → EndsEarly (unpacked_from n (model.verbatim k) more) → EndsEarly (verbatim_rule n k (take 8 bytes ++ more))
+verbatim-early n k bytes long more h =
+    let eight : length (take 8 bytes) ≡ 8 = length-take-le 8 bytes long in
+    let front : taken 8 (take 8 bytes ++ more) ≡ Ok (take 8 bytes, more) = taken-eight (take 8 bytes) more eight in
+    early-same _ _ (ok_then (taken 8 (take 8 bytes ++ more)) (verbatim_on n k) (take 8 bytes, more) _ front refl) (early-word (from_le_bytes w64 (take 8 bytes)) (unpacked_from n (model.verbatim k) more) h)
+
+verbatim-needed : (n k : ℕ) (bytes : List ℕ) → EachIsNeeded (verbatim_rule n k) (take 8 bytes)
+verbatim-needed n k bytes i below =
+    let short : length (take i (take 8 bytes)) < 8 = omega (arith, below, length-take-le-any 8 bytes, length-take-le-any i (take 8 bytes)) in
+    early-then (taken 8 (take i (take 8 bytes))) (verbatim_on n k) (taken-short (take i (take 8 bytes)) short)
+
 Spells-verbatim : (j n k : ℕ) (bytes : List ℕ) → length bytes ≡ 8 * j → Spells (j + n) (model.verbatim (j + k)) bytes (words_in_bytes j bytes) n (model.verbatim k)
 unfolding unpacked_from
 Spells-verbatim zero n k [] long = let a : 0 + n ≡ n = omega arith in let b : 0 + k ≡ k = omega arith in rw (a, b) (Spells-none n (model.verbatim k))
@@ -142,6 +223,8 @@ Spells-verbatim (suc j) n k bytes long =
           ok_then (taken 8 (bytes ++ more)) (verbatim_on (j + n) (j + k)) (take 8 bytes, drop 8 bytes ++ more) _ (taken-front bytes more (omega arith))
           (ap (with_word word) (rest.says more) ∙ with_front-word word (words_in_bytes j (drop 8 bytes)) (unpacked_from n (model.verbatim k) more)
           ∙ ap (λ (w : ℕ). with_front (w ∷ words_in_bytes j (drop 8 bytes)) (unpacked_from n (model.verbatim k) more)) (from_le_bytes-take 8 bytes (omega arith) (omega arith)));
+      needed = subst (λ (l : List ℕ). EachIsNeeded (verbatim_rule (j + n) (j + k)) l) (take-append-drop 8 bytes)
+          (needed-joined (verbatim_rule (j + n) (j + k)) (unpacked_from (j + n) (model.verbatim (j + k))) (take 8 bytes) (drop 8 bytes) (verbatim-early (j + n) (j + k) bytes (omega arith)) (verbatim-needed (j + n) (j + k) bytes) rest.needed);
     })
 
 -- ---- what was unpacked
@@ -199,6 +282,22 @@ over-group n (Verbatim zero) over [] g e = absurd cc
 over-group n (Verbatim zero) over (t ∷ bytes) g e = ok_then (group_at n (t ∷ bytes)) (word_of_group n) g _ e refl
 over-group n (Verbatim (suc k)) over bytes g e = absurd (omega arith)
 
+early-started : (n : ℕ) (run : model.Run) (bytes : List ℕ) → EndsEarly (group_at n bytes) → EndsEarly (model.started run bytes and_then λ _. group_at n bytes and_then word_of_group n)
+early-started n model.first [] h = tt
+early-started n model.first (t ∷ bytes) h = early-then (group_at n (t ∷ bytes)) (word_of_group n) h
+early-started n model.next bytes h = early-then (group_at n bytes) (word_of_group n) h
+early-started n (model.zeros k) bytes h = early-then (group_at n bytes) (word_of_group n) h
+early-started n (model.verbatim k) bytes h = early-then (group_at n bytes) (word_of_group n) h
+
+over-early : (n : ℕ) (run : Run) → IsOver run → (bytes : List ℕ) → EndsEarly (group_at n bytes) → EndsEarly (unpacked_from (suc n) (run_view run) bytes)
+unfolding unpacked_from
+over-early n First over bytes h = early-started n model.first bytes h
+over-early n Next over bytes h = early-started n model.next bytes h
+over-early n (Zeros zero) over bytes h = early-started n (model.zeros zero) bytes h
+over-early n (Zeros (suc k)) over bytes h = absurd (omega arith)
+over-early n (Verbatim zero) over bytes h = early-started n (model.verbatim zero) bytes h
+over-early n (Verbatim (suc k)) over bytes h = absurd (omega arith)
+
 one-word : (w : ℕ) (r : Result (List ℕ × List ℕ) Kind) → with_word w r ≡ with_front (w ∷ []) r
 one-word w (Ok x) = refl
 one-word w (Err k) = refl
@@ -211,6 +310,7 @@ unpacks-group run over shown buf group head n front long left room is word =
     ap (take head.len) front ∙ sym (take-append-le head.len (take 10 shown) (drop 10 shown) (omega (arith, is.within, ap length front, length-take-le 10 shown long))) ∙ ap (take head.len) (take-append-drop 10 shown) in
     let made : Spells (suc n) (run_view run) (take head.len group) (from_le_bytes w64 head.word ∷ []) n (run_view head.run) = record {
       says = λ more. over-group n run over (take head.len group ++ more) (from_le_bytes w64 head.word, run_view head.run, more) (is.says more) ∙ one-word (from_le_bytes w64 head.word) (unpacked_from n (run_view head.run) more);
+      needed = λ i below. over-early n run over (take i (take head.len group)) (is.needed i below);
     } in
     record {
       within = omega (arith, is.within, ten);
@@ -268,7 +368,7 @@ pub Reads-shown : (run : Run) (a b c : Option (List ℕ)) (shown buf : List ℕ)
 Reads-shown run a b c shown buf step made kept front gone = record {
   fits = made.fits;
   whole = made.whole;
-  leads = record { part = take step.taken shown; taken = shown-consumed a b c shown step.taken made.within kept front gone; says = made.spells.says };
+  leads = record { part = take step.taken shown; taken = shown-consumed a b c shown step.taken made.within kept front gone; says = made.spells.says; needed = made.spells.needed };
 }
 
 -- words that need no bytes
@@ -278,7 +378,7 @@ Reads-none run a buf step made =
     record {
       fits = made.fits;
       whole = made.whole;
-      leads = record { part = []; taken = Consumes-nil a; says = λ more. ap (λ (l : List ℕ). unpacked_from (length buf / 8) (run_view run) (l ++ more)) (sym none) ∙ made.spells.says more };
+      leads = record { part = []; taken = Consumes-nil a; says = λ more. ap (λ (l : List ℕ). unpacked_from (length buf / 8) (run_view run) (l ++ more)) (sym none) ∙ made.spells.says more; needed = none-needed (unpacked_from (length buf / 8) (run_view run)) };
     }
 
 -- a step that filled nothing
@@ -313,7 +413,7 @@ no-word (suc n) (Verbatim zero) needs some x e = absurd cc
 no-word (suc n) (Verbatim (suc k)) needs some x e = absurd cc
 
 pub failed-look : (n : ℕ) (run : Run) (a b : Option (List ℕ)) (kind : ErrorKind) → NeedsBytes run → 0 < n → Keeps a b → kind ≡ Device → Refuses (unpacked_from n (run_view run)) a b kind
-failed-look n run a b kind needs some kept is = rw is (record { part = []; taken = Consumes-kept a a b [] (Consumes-nil a) kept; none = no-word n run needs some; fault = tt })
+failed-look n run a b kind needs some kept is = rw is (record { part = []; taken = Consumes-kept a a b [] (Consumes-nil a) kept; none = no-word n run needs some; needed = none-needed (unpacked_from n (run_view run)); fault = tt })
 
 -- a word that was read by itself
 pub Reads-word : (run : Run) (a b : Option (List ℕ)) (buf word : List ℕ) (next : Run) (left : ℕ) → length buf % 8 ≡ 0 → 8 ≤ length buf → left ≡ length buf / 8 - 1 → take 8 buf ≡ word

@@ -5,20 +5,23 @@ use Rattle.capnp_model.specs.Bytes.{words_in_bytes}
 use Rattle.capnp_model.specs.Packing as model
 use Rattle.capnp_model.specs.Packing.{group_at, unpacked_from}
 use Rattle.std.specs.declared.option.Option.{Option}
+use Rattle.capnp_stream.specs.Pieces.{EachIsNeeded}
 use Rattle.capnp_packing.specs.Parts.{Leads, with_front}
 use Rattle.capnp_packing.specs.Runs.{run_view}
 use Rattle.capnp_packing.specs.declared.runs.Run.{Run}
 use Rattle.capnp_packing.specs.declared.shown.Head.{Head}
 use Rattle.capnp_packing.specs.declared.shown.Step.{Step}
 
--- The group at the front of these bytes, whatever follows it, in a piece that has n words behind its own.
+-- The group at the front of these bytes, of which each is needed, whatever follows it, in a piece that has n words behind its own.
 pub record IsGroup (n : ℕ) (bytes : List ℕ) (head : Head) : Type 0 where
   pub within : head.len ≤ length bytes
   pub says : (more : List ℕ) → group_at n (take head.len bytes ++ more) ≡ Ok (from_le_bytes w64 head.word, run_view head.run, more)
+  pub needed : EachIsNeeded (group_at n) (take head.len bytes)
 
--- Of a piece that has n more words, from inside a run on, these bytes spell the first, and m words are left, from inside another run on.
+-- Of a piece that has n more words, from inside a run on, these bytes, of which each is needed, spell the first, and m words are left, from inside another run on.
 pub record Spells (n : ℕ) (run : model.Run) (bytes words : List ℕ) (m : ℕ) (then_run : model.Run) : Type 0 where
   pub says : (more : List ℕ) → unpacked_from n run (bytes ++ more) ≡ with_front words (unpacked_from m then_run more)
+  pub needed : EachIsNeeded (unpacked_from n run) bytes
 
 -- Bytes at the front of those that are shown spell the words at the front of a buffer, which has room for all words of the piece.
 pub record Unpacks (run : Run) (shown buf : List ℕ) (step : Step) : Type 0 where

@@ -1,7 +1,7 @@
 use Rattle.std.proofs.Common.{◌≡◌, ◌+◌, ℕ, [], ◌∷◌, get_or, subst, arith, ◌≢◌, ap, ◌∙◌, sym}
 use Rattle.capnp_packing.specs.Runs.{run_view}
 use Rattle.capnp_packing.specs.declared.runs.Run.TheVariants.{Zeros, Verbatim}
-use Rattle.capnp_packing.proofs.StepLemmas.{head-next, head-counted, run-zeros, run-verbatim}
+use Rattle.capnp_packing.proofs.StepLemmas.{head-next, head-counted, run-zeros, run-verbatim, early-zeros, early-verbatim}
 use Rattle.capnp_packing.proofs.shown.Step.head.Goals as goal
 use Rattle.capnp_packing.proofs.shown.Step.head.Goals.{then-tag-eq0, else-tag-eq0, else-tag-ne0-via-then-tag-ne0+else-tag, else-tag-ne0-via-else-tag-ne0}
 
@@ -14,6 +14,6 @@ returns c =
     let m = c.marked-len.result in
     let counted = head-counted c.args.left bytes c.spread-word.result m (omega arith) c.marked-len.ensures.count c.marked-len.ensures.most c.spread-word.ensures in
     elim c.if-tag-eq0.branch [
-      | then-tag-eq0 w ↦ rw w.run-is (counted (Zeros (get_or bytes (1 + m) 0)) (omega arith) (run-zeros c.args.left (get_or bytes 0 0) (get_or bytes (1 + m) 0) w.if-tag-eq0.true (omega arith)))
-      | else-tag-eq0 w ↦ rw w.run-is (counted (Verbatim (get_or bytes (1 + m) 0)) (omega arith) (run-verbatim c.args.left (get_or bytes 0 0) (get_or bytes (1 + m) 0) (omega arith) (omega arith)))
+      | then-tag-eq0 w ↦ rw w.run-is (counted (Zeros (get_or bytes (1 + m) 0)) (omega arith) (run-zeros c.args.left (get_or bytes 0 0) (get_or bytes (1 + m) 0) w.if-tag-eq0.true (omega arith)) (early-zeros c.args.left (get_or bytes 0 0) w.if-tag-eq0.true))
+      | else-tag-eq0 w ↦ rw w.run-is (counted (Verbatim (get_or bytes (1 + m) 0)) (omega arith) (run-verbatim c.args.left (get_or bytes 0 0) (get_or bytes (1 + m) 0) (omega arith) (omega arith)) (early-verbatim c.args.left (get_or bytes 0 0) (omega arith)))
     ]
