@@ -87,18 +87,6 @@ nothing-taken n a b some kept = ([], no-piece n some, Consumes-kept a a b [] (Co
 pub piece-of_kept : (a b c : Option (List ℕ)) (ws : List ℕ) → Keeps a b → TakesPiece unpacked b c ws → TakesPiece unpacked a c ws
 piece-of_kept a b c ws kept p = (p.0, p.1, Consumes-of_kept a b c p.0 kept p.2)
 
--- the words of bytes are those of the whole words in front
-pub whole-front : (bytes : List ℕ) → whole_words (take (length bytes / 8 * 8) bytes) ≡ whole_words bytes
-whole-front bytes =
-    let n = length bytes / 8 in
-    let size : length (take (n * 8) bytes) ≡ 8 * n = omega (arith, length-take-le (n * 8) bytes (omega arith)) in
-    let front : take (8 * n) (take (n * 8) bytes) ≡ take (n * 8) bytes = take_all (8 * n) (take (n * 8) bytes) (omega arith) in
-    let wide : n * 8 ≡ 8 * n = omega arith in
-    let all : take n (words_in_bytes (n + 0) bytes) ≡ words_in_bytes n (take (8 * n) bytes) = words_in_bytes-take n 0 bytes (omega arith) in
-    let none : n + 0 ≡ n = omega arith in
-    whole_words-of_length n (take (n * 8) bytes) size ∙ ap (λ (k : ℕ). words_in_bytes n (take k bytes)) wide ∙ sym all ∙ ap (λ (k : ℕ). take n (words_in_bytes k bytes)) none
-    ∙ take_all n (words_in_bytes n bytes) (omega (arith, words_in_bytes-length n bytes))
-
 -- ---- a buffer that is filled as a whole
 
 fault-kind : (f : Rule (List ℕ)) (a : Option (List ℕ)) (k : ErrorKind) → IsFault f a k → IsUnpackingKind k
