@@ -75,7 +75,9 @@ pub fn pack_message<'a>(out: &mut PackedWrite<Vec<u8>>, framed: &'a [u8]) -> Res
     }
     let (mut left, segments) = behind.split_at(table);
     out.write_piece(head)?;
-    out.write_piece(left)?;
+    if !left.is_empty() {
+        out.write_piece(left)?;
+    }
     let mut words = pack_segment(out, segments, first)?;
     while let Some((size, rest)) = left.split_first_chunk::<4>() {
         words = pack_segment(out, words, number(size) * 8)?;

@@ -4,6 +4,8 @@
 #![tactic(auto)]
 
 mod bytes;
+#[cfg(test)]
+mod cut_tests;
 pub mod form;
 mod groups;
 pub mod laws;

@@ -12,7 +12,7 @@ use capnp_stream::traits::Write;
 use capnp_units::errors::Result;
 
 /// How many bytes are packed before they are written. The words of a run as they are, for which there is no room, are written by themselves.
-const BUFFER_LEN: usize = 256;
+const BUFFER_LEN: usize = 128;
 
 /// Writes the words of a run as they are. Without any the sink isn't called.
 fn write_run<W: Write>(out: &mut W, run: &[u8]) -> Result<()>

@@ -1,5 +1,5 @@
 //! Packed bytes as streams of words.
-ghost use Rattle.std.specs.Prelude.{◌≡◌, ◌≢◌, ◌⊎◌, ◌≤◌, ◌*◌, ◌/◌, ◌%◌, ◌<◌, ℕ, Option, [], length, take, None, refl, IfSome, IfOk, IfErr, OnOk, OnErr};
+ghost use Rattle.std.specs.Prelude.{◌≡◌, ◌≢◌, ◌⊎◌, ◌/◌, ◌%◌, ◌<◌, [], length, None, IfSome, IfOk, IfErr, OnOk, OnErr};
 ghost use Rattle.std.specs.Io.{ReadsAtMost};
 ghost use Rattle.std.specs.Io.KnownBytes.{Keeps, Consumes, Appends, ReadConsumes, IsAtEnd};
 ghost use Rattle.capnp_units.specs.declared.kinds.ErrorKind.{ErrorKind};
@@ -13,12 +13,9 @@ ghost use Rattle.capnp_packing.specs.Streams.{IsUnpackingKind};
 use crate::bytes::is_at_end;
 use crate::packing::write_words;
 use crate::unpacking::read_words;
-use capnp_stream::adapters::Sink;
 use capnp_stream::traits::{BufRead, Read, Write};
 use capnp_units::errors::{Error, Result};
 use capnp_units::kinds::ErrorKind;
-use std::alloc::Allocator;
-use std::io;
 
 /// The words of a packed source, a piece for each call of `read`.
 ///
@@ -84,25 +81,7 @@ impl<R: BufRead> Read for PackedRead<R> {
     }
 }
 
-/// A sink whose room has no end, so that it never answers `BufferNotLargeEnough`.
-pub trait Endless: Write {
-    /// It tells no room.
-    ghost endless: { (w : Self) → Self.room w ≡ None };
-}
-
-impl<A: Allocator> Endless for Vec<u8, A> {
-    ghost endless = { λ _. refl };
-}
-
-impl<S: io::Write> Endless for Sink<S> {
-    ghost endless = { λ _. refl };
-}
-
-impl<W: Endless> Endless for &mut W {
-    ghost endless = { λ w. W.endless w.now };
-}
-
-/// A packed sink of words, a piece for each call.
+/// A packed sink of words, a piece for each call. It is no `Write`, since it takes whole words alone.
 #[derive(Drop)]
 pub struct PackedWrite<W> {
     pub inner: W,
@@ -122,32 +101,22 @@ impl<W: Write> PackedWrite<W> {
     {
         write_words(&mut self.inner, bytes)
     }
-}
 
-/// Where the bytes are not whole words, those past the last whole word are not written.
-///
-/// It tells no bytes: how many packed bytes words have depends on the words. A sink that has an end can't tell how many words it takes, so that its packed form has `write_piece` alone.
-impl<W: Endless> Write for PackedWrite<W> {
-    ghost failures = { λ p. W.failures p.inner };
-
-    ghost may_grow = { W.may_grow };
-
-    /// Writes the whole words of `buf` as one piece. After a refusal a beginning of it was written. `OutOfMemory`: the sink wants memory. `Device`: it failed.
-    fn write_all(&mut self, buf: &[u8]) -> Result<()>
-        ensures ok { OnOk result (Appends None None buf.now) }
-        ensures falls { OnOk result (RoomFalls None None (length buf.now)) }
-        ensures err { OnErr result (AppendsPart None None buf.now) }
-        ensures refusal { IfErr result (λ e. IsWriteRefusal W.may_grow None (length buf.now) e.kind) }
-        ensures nothing { IfErr result (λ e. e.kind ≢ ErrorKind.Device → Keeps None None) }
-        ensures kept { IfErr result (λ e. e.kind ≢ ErrorKind.Device → ◌≡◌ {A = Option ℕ} None None) }
+    /// Writes these bytes as one piece, or refuses them where they end in a part of a word.
+    ///
+    /// `BufferNotLargeEnough`: they aren't whole words, and nothing was written. Else it refuses as `write_piece` does.
+    pub fn write_all(&mut self, bytes: &[u8]) -> Result<()>
+        ensures whole { OnOk result (length bytes.now % 8 ≡ 0) }
+        ensures ok { OnOk result (Appends (W.contents self.old.inner) (W.contents self.new.inner) (packed (whole_words bytes.now))) }
+        ensures falls { OnOk result (RoomFalls (W.room self.old.inner) (W.room self.new.inner) (length (packed (whole_words bytes.now)))) }
+        ensures ragged { IfErr result (λ e. length bytes.now % 8 ≢ 0 → (e.kind ≡ ErrorKind.BufferNotLargeEnough) × (self.new.inner ≡ self.old.inner)) }
+        ensures err { OnErr result (AppendsPart (W.contents self.old.inner) (W.contents self.new.inner) (packed (whole_words bytes.now))) }
+        ensures refusal { IfErr result (λ e. length bytes.now % 8 ≡ 0 → IsWriteRefusal W.may_grow (W.room self.old.inner) (length (packed (whole_words bytes.now))) e.kind) }
         ensures count { Counts result (W.failures self.old.inner) (W.failures self.new.inner) }
-        ensures piece { OnOk result (Appends (W.contents self.old.inner) (W.contents self.new.inner) (packed (whole_words buf.now))) }
-        ensures part { OnErr result (AppendsPart (W.contents self.old.inner) (W.contents self.new.inner) (packed (whole_words buf.now))) }
     {
-        self.write_piece(&buf[..buf.len() / 8 * 8])
-    }
-
-    fn failures(&self) -> u64 {
-        Write::failures(&self.inner)
+        if bytes.len() % 8 != 0 {
+            return Err(Error::from(ErrorKind::BufferNotLargeEnough));
+        }
+        self.write_piece(bytes)
     }
 }

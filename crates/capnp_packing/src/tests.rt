@@ -18,23 +18,25 @@ use std::alloc::Global;
 use std::process::Abort;
 use std::test::Fail;
 
-/// A source that shows so many bytes first, and then as many as a width at a time. It fails where no more bytes may be taken.
+/// A source that shows so many bytes first, and then as many as a width at a time. It counts how often it is asked to show them, and fails where no more may be taken.
 #[derive(Drop)]
-struct Shown<'a> {
-    bytes: &'a [u8],
+pub(crate) struct Shown<'a> {
+    pub(crate) bytes: &'a [u8],
     first: usize,
     width: usize,
     left: usize,
+    pub(crate) looks: usize,
     failures: u64,
 }
 
 impl<'a> Shown<'a> {
-    fn new(bytes: &'a [u8], first: usize, width: usize) -> Shown<'a> {
+    pub(crate) fn new(bytes: &'a [u8], first: usize, width: usize) -> Shown<'a> {
         Shown {
             bytes,
             first,
             width,
             left: usize::MAX,
+            looks: 0,
             failures: 0,
         }
     }
@@ -78,6 +80,7 @@ impl BufRead for Shown<'_> {
     ghost shown = { λ s. length s.bytes.now };
 
     fn fill_buf(&mut self) -> Result<&[u8]> {
+        self.looks = self.looks.saturating_add(1);
         if self.left == 0 {
             self.failures = self.failures.saturating_add(1);
             return Err(Error::from(ErrorKind::Device));
@@ -198,7 +201,7 @@ fn words_are_packed(rt: HostRuntime) -> std::result::Result<(), Fail> {
     let mut words = PackedWrite { inner: &mut sink };
     words.write_all(&DENSE)?;
     words.write_all(&[0; 8])?;
-    assert_eq!(rt; words.failures(), 0);
+    assert_eq!(rt; words.inner.failures(), 0);
     assert!(rt; held.starts_with(&PACKED_DENSE));
     assert!(rt; held.ends_with(&[0, 0]));
     assert_eq!(rt; held.len(), 20);
@@ -210,6 +213,9 @@ fn words_are_packed(rt: HostRuntime) -> std::result::Result<(), Fail> {
     let mut short = PackedWrite { inner: rest };
     let full = short.write_piece(&[1, 0, 0, 0, 0, 0, 0, 0]).err();
     assert!(rt; full == Some(Error::from(ErrorKind::BufferNotLargeEnough)));
+    let ragged = short.write_all(&[0; 9]).err();
+    assert!(rt; ragged == Some(Error::from(ErrorKind::BufferNotLargeEnough)));
+    assert_eq!(rt; short.inner.len(), 1);
     assert_eq!(rt; place.as_slice(), [0x24, 12, 34, 9].as_slice());
     Ok(())
 }
