@@ -1,5 +1,5 @@
 -- Under accepted schemas and with lists in kind, the record machine and the tree edit are one for every call, and for calls in a row.
-use Rattle.std.proofs.Common.{◌≡◌, ℕ, ◌+◌, ◌%◌, ◌^◌, length, ◌<◌, ◌≤◌, Bool, true, false, nat_le, ◌⊎◌, inl, inr, if◌then◌else◌, List, [], ◌∷◌, refl, sym, ◌∙◌, ap, arith}
+use Rattle.std.proofs.Common.{subst, ◌≡◌, ℕ, ◌+◌, ◌%◌, ◌^◌, length, ◌<◌, ◌≤◌, Bool, true, false, nat_le, ◌⊎◌, inl, inr, if◌then◌else◌, List, [], ◌∷◌, refl, sym, ◌∙◌, ap, arith}
 use Rattle.std.specs.Prelude.{IsTrue}
 use Rattle.std.specs.List.{AllByRecursion, list_all}
 use Rattle.std.proofs.lemmas.List.Folds.{list_all-append}
@@ -15,19 +15,21 @@ use Rattle.capnp_model.specs.Edits.{edit, if_done, write_path}
 use Rattle.capnp_model.specs.Answers.{reply_of, replies, edits}
 use Rattle.capnp_model.specs.InKind.{in_kind}
 use Rattle.capnp_model.specs.InKindCalls.{defaults_in_kind, named_structs, structs_of_fields, structs_of_body, struct_ids, is_among, end_of, at_value, value_in_kind}
-use Rattle.capnp_model.specs.Accepted.{Area, bit_area, pointer_area, areas_of, schema_of, IsAccepted}
+use Rattle.capnp_model.specs.Accepted.{are_apart, Area, bit_area, pointer_area, areas_of, schema_of, IsAccepted}
 use Rattle.capnp_model.specs.NamedPaths.{IsOpen}
-use Rattle.capnp_model.specs.CallRuns.{IsGiven, AreGiven, IsStart, records_after, record_replies}
+use Rattle.capnp_model.specs.CallRuns.{IsGiven, AreGiven, IsStart, view_of_value, records_after, record_replies}
 use Rattle.capnp_model.specs.Views.{SameAll}
 use Rattle.capnp_model.proofs.KeptRules.{and_left, and_right}
 use Rattle.capnp_model.proofs.SoundRules.{rules_kept, good_shape, apart}
+use Rattle.capnp_model.proofs.ApartAreas.{apart_of}
+use Rattle.capnp_model.proofs.Marks.{SameAll-refl, SameAll-trans}
 use Rattle.capnp_model.proofs.Views.{shape_record-same}
 use Rattle.capnp_model.proofs.Paths.{nothing_in}
 use Rattle.capnp_model.proofs.ListElements.{IsReal}
 use Rattle.capnp_model.proofs.ListsInKind.{ReadsStraight}
 use Rattle.capnp_model.proofs.SoundSizes.{IsNoGroup, AllStraight, accepted_sound, all_pass}
 use Rattle.capnp_model.proofs.ReachedStructs.{AreReal, FieldsReal, BodyReal, IsReached}
-use Rattle.capnp_model.proofs.EveryPath.{path_law}
+use Rattle.capnp_model.proofs.EveryPath.{IsBesideKept, path_law}
 use Rattle.capnp_model.proofs.KindsOfContents.{verb_in_kind}
 
 -- ---- an element of one word as a struct
@@ -114,7 +116,7 @@ module _ (nodes : List Node) (reached : List ℕ) where
 -- ---- one call
 
 abbrev pub CallDone : Schema → ℕ → Call → Tree → Record → Type 0
-CallDone s id c t r = (record_of s id (edit s id c t) ≡ r) × (in_kind s (edit s id c t) (struct id) ≡ true)
+CallDone s id c t r = (record_of s id (edit s id c t) ≡ r) × (in_kind s (edit s id c t) (struct id) ≡ true) × IsBesideKept s (s.shape_of id) t (edit s id c t)
 
 written_open : (f : Schema) (g : Shape) (n : List ℕ) (path : List Step) (verb : Verb) (t : Tree) → IsOpen t → IsOpen (write_path f g (name n ∷ path) verb t)
 written_open s (shape nid w p u fs) n path verb null h = tt
@@ -146,7 +148,7 @@ edit_is s id c t o e = ap (λ (z : Outcome Record). if_done z (write_path s (s.s
 module _ (s : Schema) (R : ℕ → Type 0) (reached : (id : ℕ) → R id → IsReached s R id) (id : ℕ) (root : R id) where
   on_path : (verb : Verb) → IsGiven verb → (path : List Step) (t : Tree) (r : Record) → IsOpen t → in_kind s t (struct id) ≡ true → verb_in_kind s verb (end_of s path (at_value (struct id))) ≡ true
       → step_path s (fields_in (s.shape_of id)) path verb (record_by_shape s (s.shape_of id) t) ≡ done r
-      → (record_by_shape s (s.shape_of id) (write_path s (s.shape_of id) path verb t) ≡ r) × (in_kind s (write_path s (s.shape_of id) path verb t) (struct id) ≡ true)
+      → (record_by_shape s (s.shape_of id) (write_path s (s.shape_of id) path verb t) ≡ r) × (in_kind s (write_path s (s.shape_of id) path verb t) (struct id) ≡ true) × IsBesideKept s (s.shape_of id) t (write_path s (s.shape_of id) path verb t)
   on_path verb given [] t r is_open kind value h = absurd (cc h)
   on_path verb given (index k ∷ path) t r is_open kind value h = absurd (cc h)
   on_path verb given (name n ∷ path) t r is_open kind value h = path_law s R reached verb given id root n path t r is_open kind value h
@@ -157,6 +159,7 @@ module _ (s : Schema) (R : ℕ → Type 0) (reached : (id : ℕ) → R id → Is
       let law = on_path c.verb given c.path t r is_open kind value h in (
         ap (λ (o : Outcome Record). record_by_shape s (s.shape_of id) (if_done o (write_path s (s.shape_of id) c.path c.verb t) t)) h ∙ law.0,
         ap (λ (o : Outcome Record). in_kind s (if_done o (write_path s (s.shape_of id) c.path c.verb t) t) (struct id)) h ∙ law.1,
+        subst (λ (o : Outcome Record). IsBesideKept s (s.shape_of id) t (if_done o (write_path s (s.shape_of id) c.path c.verb t) t)) (sym h) law.2,
       )
 
   -- whatever the outcome
@@ -164,12 +167,12 @@ module _ (s : Schema) (R : ℕ → Type 0) (reached : (id : ℕ) → R id → Is
   call_meets c given t is_open kind value = by (step s id c (record_of s id t)) refl
     where
       stays : (o : Outcome Record) → step s id c (record_of s id t) ≡ o → edit s id c t ≡ t → after_outcome (record_of s id t) o ≡ record_of s id t → CallDone s id c t (after_outcome (record_of s id t) (step s id c (record_of s id t)))
-      stays o e same keeps = (ap (record_of s id) same ∙ sym keeps ∙ ap (after_outcome (record_of s id t)) (sym e), ap (λ z. in_kind s z (struct id)) same ∙ kind)
+      stays o e same keeps = (ap (record_of s id) same ∙ sym keeps ∙ ap (after_outcome (record_of s id t)) (sym e), ap (λ z. in_kind s z (struct id)) same ∙ kind, subst (λ z. IsBesideKept s (s.shape_of id) t z) (sym same) (λ ys off. SameAll-refl ys (view_of_value s t)))
 
       by : (o : Outcome Record) → step s id c (record_of s id t) ≡ o → CallDone s id c t (after_outcome (record_of s id t) (step s id c (record_of s id t)))
       by (refused k) e = stays (refused k) e (edit_is s id c t (refused k) e) refl
       by (shown how r) e = stays (shown how r) e (edit_is s id c t (shown how r) e) refl
-      by (done r) e = let law = call_done c given t r is_open kind value e in (law.0 ∙ ap (after_outcome (record_of s id t)) (sym e), law.1)
+      by (done r) e = let law = call_done c given t r is_open kind value e in (law.0 ∙ ap (after_outcome (record_of s id t)) (sym e), law.1, law.2)
 
 -- ---- calls in a row
 
@@ -179,11 +182,12 @@ pub record CallsDone (s : Schema) (quoted : List ℕ → List ℕ) (id : ℕ) (c
   pub replied : replies s quoted id calls t ≡ record_replies s quoted id calls (record_of s id t)
   pub kinds : in_kind s (edits s id calls t) (struct id) ≡ true
   pub open' : IsOpen (edits s id calls t)
+  pub beside : IsBesideKept s (s.shape_of id) t (edits s id calls t)
 
 calls_done : (s : Schema) (R : ℕ → Type 0) → ((i : ℕ) → R i → IsReached s R i) → (quoted : List ℕ → List ℕ) (id : ℕ) → R id → (calls : List Call) → AreGiven calls → (t : Tree) → IsOpen t → in_kind s t (struct id) ≡ true
     → AllByRecursion (λ c. IsTrue (value_in_kind s id c)) calls → CallsDone s quoted id calls t
 unfolding records_after record_replies edits replies
-calls_done s R reached quoted id root [] given t is_open kind values = record { reads = refl; replied = refl; kinds = kind; open' = is_open }
+calls_done s R reached quoted id root [] given t is_open kind values = record { reads = refl; replied = refl; kinds = kind; open' = is_open; beside = λ ys off. SameAll-refl ys (view_of_value s t) }
 calls_done s R reached quoted id root (c ∷ cs) given t is_open kind values =
     let first = call_meets s R reached id root c given.0 t is_open kind values.0 in
     let later = calls_done s R reached quoted id root cs given.1 (edit s id c t) (edit_open s id c t is_open) first.1 values.1 in
@@ -192,6 +196,7 @@ calls_done s R reached quoted id root (c ∷ cs) given t is_open kind values =
       replied = ap (λ z. reply_of s quoted (step s id c (record_of s id t)) ∷ z) (later.replied ∙ ap (record_replies s quoted id cs) first.0);
       kinds = later.kinds;
       open' = later.open';
+      beside = λ ys off. SameAll-trans ys (view_of_value s t) (view_of_value s (edit s id c t)) (view_of_value s (edits s id cs (edit s id c t))) (first.2 ys off) (later.beside ys off);
     }
 
 -- THE LAWS
@@ -236,6 +241,11 @@ module _ (nodes : List Node) (id : ℕ) where
   pub replies_to_calls : (quoted : List ℕ → List ℕ) (calls : List Call) (t : Tree) → IsStart nodes id calls t
       → replies (schema_of nodes) quoted id calls t ≡ record_replies (schema_of nodes) quoted id calls (record_of (schema_of nodes) id t)
   replies_to_calls quoted calls t k = (all_calls quoted calls t k).replied
+
+  -- what the schema names nothing of stays
+  pub beside_calls : (calls : List Call) (t : Tree) → IsStart nodes id calls t → (ys : List Area) → are_apart (areas_of ((schema_of nodes).shape_of id)) ys ≡ true
+      → SameAll ys (view_of_value (schema_of nodes) t) (view_of_value (schema_of nodes) (edits (schema_of nodes) id calls t))
+  beside_calls calls t k ys off = (all_calls (λ x. x) calls t k).beside ys (apart_of (areas_of ((schema_of nodes).shape_of id)) ys off)
 
   -- nothing is out of kind after all calls
   pub last_start : (calls : List Call) (t : Tree) → IsStart nodes id calls t → IsStart nodes id [] (edits (schema_of nodes) id calls t)

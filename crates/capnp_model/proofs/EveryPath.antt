@@ -1,5 +1,5 @@
 -- Every call: where the record machine does not refuse, the record of the edited tree is its record, and lists stay in kind.
-use Rattle.std.proofs.Common.{◌≡◌, ℕ, Bool, true, false, ◌⊎◌, inl, inr, List, [], ◌∷◌, Option, refl, sym, ◌∙◌, ap, subst}
+use Rattle.std.proofs.Common.{◌≡◌, ℕ, Bool, true, false, ◌⊎◌, inl, inr, List, [], ◌∷◌, Option, refl, sym, ◌∙◌, ap, subst, max}
 use Rattle.capnp_model.specs.Trees.{Tree, null, capability, structure, plain_list, pointer_list, struct_list, Trees, none, child, with_child, resized, padded_to}
 use Rattle.capnp_model.specs.Schemas.{Ty, void, plain, text, blob, untyped, interface, struct, list, Shape, shape, Fields, no_fields, field, Body, void_slot, plain_slot, pointer_slot, group_slot, Schema, default_or_null}
 use Rattle.capnp_model.specs.Readings.{Reading, inactive, null_pointer, fault, list_of, record_as, Readings, no_readings, Record, whole_words, discriminant, is_active, only_if, shape_record, body_of, element_as, read, read_child, record_by_shape}
@@ -11,13 +11,14 @@ use Rattle.capnp_model.specs.Edits.{Cell, Edit, put_child, opened_tree, edit_tar
 use Rattle.capnp_model.specs.InKind.{element_kinds, in_kind, child_in_kind, fields_in_kind, body_in_kind, shape_in_kind}
 use Rattle.capnp_model.specs.InKindCalls.{defaults_in_kind, at_slot, at_value, end_at, step_into, next_end, end_of}
 use Rattle.capnp_model.specs.NamedPaths.{IsOpen}
-use Rattle.capnp_model.specs.CallRuns.{IsGiven}
+use Rattle.capnp_model.specs.CallRuns.{IsGiven, view_of_value}
+use Rattle.capnp_model.specs.Views.{SameAll}
 use Rattle.capnp_model.proofs.SoundShapes.{Apart, IsFine}
 use Rattle.capnp_model.proofs.KeptRules.{and_right}
 use Rattle.capnp_model.proofs.FineShapes.{fine_shape, found}
-use Rattle.capnp_model.proofs.Marks.{read_child-padded_to}
+use Rattle.capnp_model.proofs.Marks.{view_of, same_everywhere, SameAll-trans, read_child-padded_to}
 use Rattle.capnp_model.proofs.Paths.{struct-replaced, read_child-with_child, read_child-is, mark_apart, field_apart, unmap, IsMapped, mapped, Opens, open_default, record_is, entry_of-fields_of, nothing_in, still_active, IsThrough, through, to_through, Apart-left, Apart-right}
-use Rattle.capnp_model.proofs.KeptCells.{KeptAll, child-with_child, kept_if_put, child_in_kind-is, discriminant-kept, IsPut, is_done, fields_stay_in_kind}
+use Rattle.capnp_model.proofs.KeptCells.{kept_views, KeptAll, child-with_child, kept_if_put, child_in_kind-is, discriminant-kept, IsPut, is_done, fields_stay_in_kind}
 use Rattle.capnp_model.proofs.FieldsApart.{IsIn}
 use Rattle.capnp_model.proofs.ClearedGroups.{nothing_read, nothing_in_kind}
 use Rattle.capnp_model.proofs.CopiedFields.{IsValue, read_value, IsPresent, read_present, quiet_shape, quiet_child, kind_in}
@@ -71,6 +72,10 @@ abbrev pub TreeInKind : Schema → Shape → Tree → Type 0
 TreeInKind s g (structure w n k) = shape_in_kind g n (child_in_kind s k) ≡ true
 TreeInKind s g _ = Unit {0}
 
+-- what stands apart from the shape reads as before
+abbrev pub IsBesideKept : Schema → Shape → Tree → Tree → Type 0
+IsBesideKept s g t t' = (ys : List Area) → Apart (areas_of g) ys → SameAll ys (view_of_value s t) (view_of_value s t')
+
 -- what the calls behind a step do to a field, and to an element
 abbrev pub FieldMeets : Schema → (ℕ → Type 0) → Verb → List Step → Type 0
 FieldMeets s R verb path = (n : List ℕ) (u member : Option ℕ) (body : Body) (fs : Fields) (c : Cell) (r : Reading) → IsFine s n u member body fs → IsSoundBody s R body
@@ -119,19 +124,30 @@ module _ (s : Schema) (R : ℕ → Type 0) (verb : Verb) (path : List Step) (mee
   unfolding record_by_shape
   same_resized nid words pointers u fs p = ap (shape_record (shape nid words pointers u fs) whole_words 0) (λ k i ty. nothing_in s p i ty k)
 
+  beside_nothing : (g : Shape) (words p : ℕ) (c' : Cell) → ((ys : List Area) → Apart (areas_of g) ys → KeptAll ys (record { section = 0; kids = resized p none }) c') → IsBesideKept s g null (structure words c'.section c'.kids)
+  beside_nothing g words p c' keeps ys off =
+      let c : Cell = record { section = 0; kids = resized p none } in
+      SameAll-trans ys (view_of_value s null) (view_of s c) (view_of s c') (same_everywhere ys (view_of_value s null) (view_of s c) refl refl (λ i ty. sym (nothing_in s p i ty))) (kept_views s ys c c' (keeps ys off))
+
+  beside_struct : (g : Shape) (w words section p : ℕ) (ts : Trees) (c' : Cell) → ((ys : List Area) → Apart (areas_of g) ys → KeptAll ys (record { section = section; kids = padded_to p ts }) c')
+      → IsBesideKept s g (structure w section ts) (structure words c'.section c'.kids)
+  beside_struct g w words section p ts c' keeps ys off =
+      let c : Cell = record { section = section; kids = padded_to p ts } in
+      SameAll-trans ys (view_of_value s (structure w section ts)) (view_of s c) (view_of s c') (same_everywhere ys (view_of_value s (structure w section ts)) (view_of s c) refl refl (λ i ty. sym (read_child-padded_to s p ts i ty))) (kept_views s ys c c' (keeps ys off))
+
   -- at an opened pointer
   in_tree : (g : Shape) (t : Tree) (r : Record) → IsSound s R g → IsOpen t → TreeInKind s g t → verb_in_kind s verb (end_of s path (end_at (target_of n (fields_in g)))) ≡ true
       → on_name (step_field s path verb) n (fields_in g) (record_by_shape s g t) ≡ done r
-      → (record_by_shape s g (edit_struct (edit_field s path verb) n g t) ≡ r) × TreeInKind s g (edit_struct (edit_field s path verb) n g t)
+      → (record_by_shape s g (edit_struct (edit_field s path verb) n g t) ≡ r) × TreeInKind s g (edit_struct (edit_field s path verb) n g t) × IsBesideKept s g t (edit_struct (edit_field s path verb) n g t)
   unfolding record_by_shape
   in_tree (shape nid words pointers u fs) null r sound is_open kind value h =
       let d = in_cell nid words pointers u fs (record { section = 0; kids = resized pointers none }) r sound (quiet_shape (shape nid words pointers u fs) 0 (child_in_kind s (resized pointers none)) (quiet_child s pointers)) (target_of n fs) refl value
       (ap (λ z. at_target (step_field s path verb) n fs z (target_of n fs)) (same_resized nid words pointers u fs pointers) ∙ h) in
-      (d.reads, d.kinds)
+      (d.reads, d.kinds, beside_nothing (shape nid words pointers u fs) words pointers (edit_named (edit_field s path verb) n u fs (record { section = 0; kids = resized pointers none })) d.keeps)
   in_tree (shape nid words pointers u fs) (structure w section ts) r sound is_open kind value h =
       let d = in_cell nid words pointers u fs (record { section = section; kids = padded_to pointers ts }) r sound (same_kinds (shape nid words pointers u fs) section pointers ts ∙ kind) (target_of n fs) refl value
       (ap (λ z. at_target (step_field s path verb) n fs z (target_of n fs)) (same_padded nid words pointers u fs section pointers ts) ∙ h) in
-      (d.reads, d.kinds)
+      (d.reads, d.kinds, beside_struct (shape nid words pointers u fs) w (max words w) section pointers ts (edit_named (edit_field s path verb) n u fs (record { section = section; kids = padded_to pointers ts })) d.keeps)
   in_tree g (capability k) r sound is_open kind value h = absurd is_open
   in_tree g (plain_list k count xs) r sound is_open kind value h = absurd is_open
   in_tree g (pointer_list ts) r sound is_open kind value h = absurd is_open
@@ -383,8 +399,8 @@ module _ (s : Schema) (R : ℕ → Type 0) (reached : (id : ℕ) → R id → Is
   -- The reading clause, at an opened struct that is reached.
   pub path_law : (id : ℕ) → R id → (n : List ℕ) (path : List Step) (t : Tree) (r : Record) → IsOpen t → in_kind s t (struct id) ≡ true → verb_in_kind s verb (end_of s (name n ∷ path) (at_value (struct id))) ≡ true
       → step_path s (fields_in (s.shape_of id)) (name n ∷ path) verb (record_by_shape s (s.shape_of id) t) ≡ done r
-      → (record_by_shape s (s.shape_of id) (write_path s (s.shape_of id) (name n ∷ path) verb t) ≡ r) × (in_kind s (write_path s (s.shape_of id) (name n ∷ path) verb t) (struct id) ≡ true)
+      → (record_by_shape s (s.shape_of id) (write_path s (s.shape_of id) (name n ∷ path) verb t) ≡ r) × (in_kind s (write_path s (s.shape_of id) (name n ∷ path) verb t) (struct id) ≡ true) × IsBesideKept s (s.shape_of id) t (write_path s (s.shape_of id) (name n ∷ path) verb t)
   unfolding end_of
   path_law id root n path t r is_open kind value h =
       let two = in_tree s R verb path (meets_all path).0 n (s.shape_of id) t r (reached id root).sound is_open (tree_kind s id t is_open kind) value h in
-      (two.0, (edited_struct s id (edit_field s path verb) n (s.shape_of id) t is_open two.1).1)
+      (two.0, (edited_struct s id (edit_field s path verb) n (s.shape_of id) t is_open two.1).1, two.2)

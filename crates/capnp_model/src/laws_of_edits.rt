@@ -1,6 +1,6 @@
 //! Laws of calls: the record machine and the edits of values are one. Each is the contract of a function that does nothing.
 
-ghost use Rattle.std.specs.Prelude.{◌≡◌, ℕ, ◌*◌, ◌^◌, ◌<◌, false, List, [], ◌∷◌, Option};
+ghost use Rattle.std.specs.Prelude.{◌≡◌, ℕ, ◌*◌, ◌^◌, ◌<◌, true, false, List, [], ◌∷◌, Option};
 ghost use Rattle.capnp_model.specs.Trees.{Tree, structure, Trees, tree_count};
 ghost use Rattle.capnp_model.specs.Trimming.{trim};
 ghost use Rattle.capnp_model.specs.InKind.{in_kind};
@@ -11,9 +11,10 @@ ghost use Rattle.capnp_model.specs.Calls.{set_to, message, Call, object};
 ghost use Rattle.capnp_model.specs.Steps.{done, step};
 ghost use Rattle.capnp_model.specs.Edits.{Cell, mark, group_writes, after_writes, IsBegun, put_in_element, edit_field, edit};
 ghost use Rattle.capnp_model.specs.NamedPaths.{IsInRange, IsOpen, GoesByNames};
-ghost use Rattle.capnp_model.specs.CallRuns.{IsStart, records_after, record_replies};
+ghost use Rattle.capnp_model.specs.CallRuns.{IsStart, view_of_value, records_after, record_replies};
+ghost use Rattle.capnp_model.specs.Views.{SameAll};
 ghost use Rattle.capnp_model.specs.Answers.{replies, edits, opened_root};
-ghost use Rattle.capnp_model.specs.Accepted.{IsAccepted, schema_of};
+ghost use Rattle.capnp_model.specs.Accepted.{Area, are_apart, areas_of, IsAccepted, schema_of};
 
 /// The record of an edited value is what the record machine makes of the record, for calls along names that end at a slot.
 pub fn records_of_edited_values()
@@ -26,10 +27,11 @@ pub fn records_after_one_call()
     ensures next { (nodes : List Node) (id : ℕ) (c : Call) (calls : List Call) (t : Tree) → IsStart nodes id (c ∷ calls) t → IsStart nodes id calls (edit (schema_of nodes) id c t) }
 {}
 
-/// Calls one after the other give the value whose record they make of the record, and the replies that they give at the records.
+/// Calls one after the other give the value whose record they make of the record, and the replies that they give at the records; bits and pointers of the root that its schema does not name stay.
 pub fn records_after_calls()
     ensures reads { (nodes : List Node) (id : ℕ) (calls : List Call) (t : Tree) → IsStart nodes id calls t → record_of (schema_of nodes) id (edits (schema_of nodes) id calls t) ≡ records_after (schema_of nodes) id calls (record_of (schema_of nodes) id t) }
     ensures replied { (nodes : List Node) (id : ℕ) (quoted : List ℕ → List ℕ) (calls : List Call) (t : Tree) → IsStart nodes id calls t → replies (schema_of nodes) quoted id calls t ≡ record_replies (schema_of nodes) quoted id calls (record_of (schema_of nodes) id t) }
+    ensures beside { (nodes : List Node) (id : ℕ) (calls : List Call) (t : Tree) → IsStart nodes id calls t → (areas : List Area) → are_apart (areas_of ((schema_of nodes).shape_of id)) areas ≡ true → SameAll areas (view_of_value (schema_of nodes) t) (view_of_value (schema_of nodes) (edits (schema_of nodes) id calls t)) }
     ensures next { (nodes : List Node) (id : ℕ) (calls : List Call) (t : Tree) → IsStart nodes id calls t → IsStart nodes id [] (edits (schema_of nodes) id calls t) }
 {}
 
