@@ -4,6 +4,7 @@ use Rattle.std.specs.List.{list_all, list_any}
 use Rattle.std.specs.Str.{bytes_eq}
 use Rattle.capnp_model.specs.Trees.{Tree}
 use Rattle.capnp_model.specs.Encoding.{canonical_words}
+use Rattle.capnp_model.specs.Partners.{is_partner}
 use Rattle.capnp_model.specs.Schemas.{PlainType, bool, int, uint, «enum», Ty, void, plain, text, blob, untyped, interface, struct, list, Shape, shape, Fields, no_fields, field, Body, void_slot, plain_slot, pointer_slot, group_slot, Schema}
 
 -- Pairs of an older and a newer id.
@@ -84,7 +85,7 @@ unfoldable mutual
   keeps_fields o n pairs count fs no_fields = is_no_fields fs
   keeps_fields o n pairs count no_fields (field l' m' b' fs') = is_new count m' && keeps_fields o n pairs count no_fields fs'
   keeps_fields o n pairs count (field l m b fs) (field l' m' b' fs') =
-      elim (bytes_eq l l') [
+      elim (is_partner l l') [
         | true ↦ same_option m m' && keeps_body o n pairs b b' && keeps_fields o n pairs count fs fs'
         | false ↦ is_new count m' && keeps_fields o n pairs count (field l m b fs) fs'
       ]

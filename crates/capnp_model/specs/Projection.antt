@@ -1,8 +1,8 @@
 -- The older view of a record: fields that the older lacks are dropped at every depth; a union whose active member is
 -- dropped is unknown.
 use Rattle.std.specs.Prelude.{ℕ, true, false}
-use Rattle.std.specs.Str.{bytes_eq}
 use Rattle.capnp_model.specs.Trees.{null}
+use Rattle.capnp_model.specs.Partners.{is_partner}
 use Rattle.capnp_model.specs.Schemas.{Fields, no_fields, field, Schema}
 use Rattle.capnp_model.specs.Readings.{Reading, inactive, null_pointer, fault, number, text_of, blob_of, list_of, record_as, opaque, Readings, no_readings, ◌▹◌, Record, no_more, entry}
 use Rattle.capnp_model.specs.Printing.{As, as_type, as_body, fields_in, shape_as, element_type, type_of_as}
@@ -30,7 +30,7 @@ unfoldable mutual
   project_fields o no_fields r = no_more
   project_fields o (field l m b fs) no_more = no_more
   project_fields o (field l m b fs) (entry n r rest) =
-      elim (bytes_eq l n) [ true ↦ entry l (project o (as_body b) r) (project_fields o fs rest) | false ↦ project_fields o (field l m b fs) rest ]
+      elim (is_partner l n) [ true ↦ entry l (project o (as_body b) r) (project_fields o fs rest) | false ↦ project_fields o (field l m b fs) rest ]
 
 -- The older view of a record.
 unfoldable pub projected : Schema → ℕ → Record → Record

@@ -17,7 +17,7 @@ use Rattle.capnp_model.proofs.KeptShapes.{HasPair}
 use Rattle.capnp_model.proofs.FineShapes.{IsGood, AreGood, IsGoodBody}
 use Rattle.capnp_model.proofs.OlderReading.{same_bool, same_int, same_uint, same_enum, Related, related_void, related_plain', related_text, related_blob, related_untyped, related_interface, related_struct, related_list, KeptShape, KidsAgree, shape_record-project, body_of-project, no_children_agree, read-project, read_child-project}
 use Rattle.capnp_versions.proofs.SameShapes.{SameShape, same_shape, SameFields, same_none, same_field, SameBody, same_void, same_plain', same_pointer, same_group}
-use Rattle.capnp_versions.specs.Machines.{IsWrite}
+use Rattle.capnp_versions.specs.SameReplies.{IsWrite}
 use Rattle.capnp_versions.proofs.ReplacedViews.{take_shared}
 use Rattle.capnp_versions.proofs.KeptViews.{related-pairs, shape-kept, body-kept}
 

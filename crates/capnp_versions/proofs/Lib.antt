@@ -23,6 +23,5 @@ pub mod KeptViews
 pub mod GroupViews
 pub mod OlderSteps
 pub mod WriteOnly
-pub mod KindTrim
 pub mod Versions
 pub mod TrimmedRelays

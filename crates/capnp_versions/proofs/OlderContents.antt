@@ -11,7 +11,7 @@ use Rattle.capnp_model.specs.Calls.{CallValue, whole_number, truth, enumerant, t
 use Rattle.capnp_model.specs.Steps.{Outcome, done, outcome_map, slot_type, reading_after, at_field, at_element}
 use Rattle.capnp_model.proofs.OlderReading.{SamePlain, same_bool, same_int, same_uint, same_enum, Related, related_void, related_plain', related_text, related_blob, related_untyped, related_interface, related_struct, related_list, KeptShape, read-project}
 use Rattle.capnp_model.proofs.Paths.{read_child-is}
-use Rattle.capnp_versions.specs.Machines.{IsWrite}
+use Rattle.capnp_versions.specs.SameReplies.{IsWrite}
 use Rattle.capnp_versions.proofs.Wrote.{reads-nothing}
 
 plain_is : (p q : PlainType) (v : CallValue) → SamePlain p q → plain_content p v ≡ plain_content q v

@@ -17,7 +17,7 @@ use Rattle.capnp_model.proofs.FineShapes.{HasUnion, IsGoodMember, IsNewName, IsG
 use Rattle.capnp_model.proofs.OlderReading.{SamePlain, Related, related_void, related_plain', related_text, related_blob, related_untyped, related_interface, related_struct, related_list, KeptShape, kept, KeptFields, KeptBody, kept_void, kept_plain, kept_pointer, kept_group, KidsAgree, shape_record-project, body_of-project, no_children_agree, read-project}
 use Rattle.capnp_model.proofs.Paths.{read_child-is, entry_of-fields_of}
 use Rattle.capnp_versions.proofs.SameShapes.{SameShape, SameBody, same_group}
-use Rattle.capnp_versions.specs.Machines.{IsWrite}
+use Rattle.capnp_versions.specs.SameReplies.{IsWrite}
 use Rattle.capnp_versions.proofs.SameContents.{shape_words}
 use Rattle.capnp_versions.proofs.Within.{FitsDefault, AllNarrow, IsWithin, AreWithin, BodyWithin}
 use Rattle.capnp_versions.proofs.SelfFollows.{AllFields, all-found}

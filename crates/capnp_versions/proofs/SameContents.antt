@@ -16,7 +16,7 @@ use Rattle.capnp_model.proofs.SoundShapes.{FitsSlot}
 use Rattle.capnp_model.proofs.FitCalls.{contents_fit}
 use Rattle.capnp_model.proofs.Widening.{bare}
 use Rattle.capnp_model.proofs.OlderReading.{SamePlain, same_bool, same_int, same_uint, same_enum, Related, related_void, related_plain', related_text, related_blob, related_untyped, related_interface, related_struct, related_list}
-use Rattle.capnp_versions.specs.Machines.{IsWrite}
+pub use Rattle.capnp_versions.specs.SameReplies.{IsWrite}
 use Rattle.capnp_versions.specs.Whole.{IsWhole, AreWhole, HaveWhole, IsWholeVerb}
 use Rattle.capnp_versions.proofs.WholeValues.{whole-resized}
 use Rattle.capnp_versions.proofs.Alike.{Alike, SameCell, Agree, agree-more, agree-put_bits, agree-put_child, alike-structure}

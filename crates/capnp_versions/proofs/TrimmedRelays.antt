@@ -18,6 +18,7 @@ use Rattle.capnp_model.specs.Edits.{edit, if_done, write_path}
 use Rattle.capnp_model.specs.Accepted.{schema_of, IsAccepted}
 use Rattle.capnp_model.specs.InKind.{in_kind}
 use Rattle.capnp_model.specs.NamedPaths.{IsOpen}
+use Rattle.capnp_model.specs.CallRuns.{IsStart}
 use Rattle.capnp_model.specs.Answers.{Reply, Answer, written, refused_value, refused_root, refused_depth, Limits, levels, keeps_nesting, value_within, widened_root, opened_root, answer_struct, answer_value, answer, edits, replies}
 use Rattle.capnp_model.proofs.Chaining.{bind_some, provided_some, some_is}
 use Rattle.capnp_model.proofs.Depth.{tree_at_deep, tree_at_more}
@@ -29,15 +30,16 @@ use Rattle.capnp_model.proofs.Widening.{bare, trim-widened}
 use Rattle.capnp_model.proofs.TrimmedAnswers.{trimmed_record}
 use Rattle.capnp_model.proofs.Numbers.{wider}
 use Rattle.std.proofs.lemmas.Nat.{pow_pos}
+use Rattle.std.proofs.lemmas.List.{append-nil}
 use Rattle.capnp_versions.specs.Whole.{IsWhole, IsWholeVerb}
-use Rattle.capnp_versions.specs.StructElements.{sets_struct_element}
-use Rattle.capnp_versions.specs.Machines.{IsTaken}
+use Rattle.capnp_versions.specs.StructElements.{sets_struct_element, ArePlain}
 use Rattle.capnp_versions.proofs.WholeValues.{fits-whole, whole-trim, whole-resized, whole-padded_to}
 use Rattle.capnp_versions.proofs.Alike.{Alike}
 use Rattle.capnp_versions.proofs.SameContents.{alike-self}
 use Rattle.capnp_versions.proofs.TrimmedEdits.{alike-edits, open-trim}
-use Rattle.capnp_versions.proofs.KindTrim.{in_kind-trim}
-use Rattle.capnp_versions.proofs.Versions.{open-edit, IsAfter, is-after}
+use Rattle.capnp_model.proofs.TrimmedKinds.{in_kind-trim, opened_start}
+use Rattle.capnp_model.proofs.EditLaws.{next_start}
+use Rattle.capnp_versions.proofs.Versions.{open-edit}
 
 -- ---- calls in turn
 
@@ -70,35 +72,43 @@ struct_edit s id c t h = by (step s id c (record_of s id t))
     by (shown how z) = h
     by (done r) = struct_written s (s.shape_of id) c.path c.verb t h
 
-module _ (nodes : List Node) (accepted : IsAccepted nodes) (id : ℕ) where
+module _ (nodes : List Node) (id : ℕ) where
   abbrev s : Schema
   s = schema_of nodes
 
   same_record : (t u : Tree) → trim t ≡ trim u → in_kind s t (struct id) ≡ true → in_kind s u (struct id) ≡ true → record_of s id t ≡ record_of s id u
   same_record t u e k k' = sym (trimmed_record s id t k) ∙ ap (record_of s id) e ∙ trimmed_record s id u k'
 
-  -- what stands after calls at both
-  pub record AreAlike (calls : List Call) (t u : Tree) : Type 0 where
+  -- what stands after calls at both, before others
+  pub record AreAlike (calls others : List Call) (t u : Tree) : Type 0 where
     pub alike : Alike (edits s id calls t) (edits s id calls u)
-    pub open' : IsOpen (edits s id calls t)
-    pub open'' : IsOpen (edits s id calls u)
-    pub kind : in_kind s (edits s id calls t) (struct id) ≡ true
-    pub kind' : in_kind s (edits s id calls u) (struct id) ≡ true
+    pub start : IsStart nodes id others (edits s id calls t)
+    pub start' : IsStart nodes id others (edits s id calls u)
 
   -- THE LAW: calls in turn at values of one trimmed value
-  pub alike-calls : (calls : List Call) → AllByRecursion (λ c. IsTaken s id c) calls → (t u : Tree) → Alike t u → IsOpen t → IsOpen u → in_kind s t (struct id) ≡ true → in_kind s u (struct id) ≡ true → AreAlike calls t u
+  pub alike-calls : (calls others : List Call) → ArePlain s id calls → (t u : Tree) → Alike t u → IsStart nodes id (calls ++ others) t → IsStart nodes id (calls ++ others) u → AreAlike calls others t u
   unfolding edits
-  alike-calls [] taken t u a x y k k' = record { alike = a; open' = x; open'' = y; kind = k; kind' = k' }
-  alike-calls (c ∷ cs) taken t u a x y k k' =
-      let one = taken.0 in
-      let b = alike-edits nodes accepted id c one.0 one.1 t u a x y (same_record t u a.trims k k') in
-      let rest = alike-calls cs taken.1 (edit s id c t) (edit s id c u) b (open-edit s id c t x) (open-edit s id c u y) (is-after s id c one.2 t x k).kind (is-after s id c one.2 u y k').kind in
-      record { alike = rest.alike; open' = rest.open'; open'' = rest.open''; kind = rest.kind; kind' = rest.kind' }
+  alike-calls [] others plain t u a x y = record { alike = a; start = x; start' = y }
+  alike-calls (c ∷ cs) others plain t u a x y =
+      let b = alike-edits nodes x.accepted id c plain.0.0 plain.1.0 t u a x.opens y.opens (same_record t u a.trims x.kinds.of_tree y.kinds.of_tree) in
+      let rest = alike-calls cs others (plain.0.1, plain.1.1) (edit s id c t) (edit s id c u) b (next_start nodes id c (cs ++ others) t x) (next_start nodes id c (cs ++ others) u y) in
+      record { alike = rest.alike; start = rest.start; start' = rest.start' }
+
+  -- the same calls can start from the trimmed value
+  trimmed_start : (calls : List Call) (t : Tree) → IsStart nodes id calls t → IsStart nodes id calls (trim t)
+  trimmed_start calls t x = record {
+    accepted = x.accepted;
+    root = x.root;
+    given = x.given;
+    opens = open-trim t x.opens;
+    kinds = record { of_tree = in_kind-trim s t (struct id) ∙ x.kinds.of_tree; reached = x.kinds.reached; has_root = x.kinds.has_root; are_closed = x.kinds.are_closed; of_defaults = x.kinds.of_defaults; of_values = x.kinds.of_values };
+  }
 
   -- trimming before the calls, or after them
-  pub trimmed-calls : (calls : List Call) → AllByRecursion (λ c. IsTaken s id c) calls → (t : Tree) → IsWhole t → IsOpen t → in_kind s t (struct id) ≡ true → trim (edits s id calls (trim t)) ≡ trim (edits s id calls t)
-  trimmed-calls calls taken t h x k =
-      (alike-calls calls taken (trim t) t (record { trims = trim-trim t; whole = whole-trim t h; whole' = h }) (open-trim t x) x (in_kind-trim s t (struct id) ∙ k) k).alike.trims
+  pub trimmed-calls : (calls : List Call) → ArePlain s id calls → (t : Tree) → IsWhole t → IsStart nodes id calls t → trim (edits s id calls (trim t)) ≡ trim (edits s id calls t)
+  trimmed-calls calls plain t h x =
+      let all : IsStart nodes id (calls ++ []) t = subst (λ z. IsStart nodes id z t) (sym (append-nil calls)) x in
+      (alike-calls calls [] plain (trim t) t (record { trims = trim-trim t; whole = whole-trim t h; whole' = h }) (trimmed_start (calls ++ []) t all) all).alike.trims
 
   -- ---- two relays in a row
 
@@ -182,14 +192,6 @@ module _ (nodes : List Node) (accepted : IsAccepted nodes) (id : ℕ) where
   struct_root (pointer_list ts) h = absurd h
   struct_root (struct_list w p es) h = absurd h
 
-  open_struct : (t : Tree) → IsStruct t → IsOpen t
-  open_struct (structure w m ts) h = tt
-  open_struct null h = tt
-  open_struct (capability i) h = absurd h
-  open_struct (plain_list z m x) h = absurd h
-  open_struct (pointer_list ts) h = absurd h
-  open_struct (struct_list w p es) h = absurd h
-
   struct_edits : (calls : List Call) (t : Tree) → IsStruct t → IsStruct (edits s id calls t)
   unfolding edits
   struct_edits [] t h = h
@@ -200,30 +202,28 @@ module _ (nodes : List Node) (accepted : IsAccepted nodes) (id : ℕ) where
   whole_opened limits a t h = let r = read_at limits a t h in whole_root (s.shape_of id) (trim t) (whole-trim t (fits-whole t (tree_at_fits r.0 a root t r.1)))
 
   -- THE LAW
-  pub relays-in-a-row : (quoted : List ℕ → List ℕ) (cs ds : List Call) (limits limits' : Limits) (a segs segs' segs'' : Segments) (rs rs' rs'' : List Reply) (t : Tree)
-      → AllByRecursion (λ c. IsTaken s id c) cs → AllByRecursion (λ c. IsTaken s id c) ds → value_within limits a ≡ Some t → in_kind s (opened_root s id t) (struct id) ≡ true
+  pub relays-in-a-row : (quoted : List ℕ → List ℕ) (cs ds : List Call) (limits limits' : Limits) (a segs segs' segs'' : Segments) (rs rs' rs'' : List Reply) (t : Tree) → ArePlain s id cs → ArePlain s id ds → value_within limits a ≡ Some t → IsStart nodes id (cs ++ ds) t
       → Fits (edits s id cs (opened_root s id t)) → length (canonical_words (trim (edits s id cs (opened_root s id t)))) ≤ 2 ^ 29
       → answer s quoted id cs limits a ≡ written segs rs → answer s quoted id ds limits' segs ≡ written segs' rs' → answer s quoted id (cs ++ ds) limits a ≡ written segs'' rs'' → segs' ≡ segs''
   unfolding opened_root
-  relays-in-a-row quoted cs ds limits limits' a segs segs' segs'' rs rs' rs'' t taken taken' read kind fits short e e' e'' =
+  relays-in-a-row quoted cs ds limits limits' a segs segs' segs'' rs rs' rs'' t plain plain' read start fits short e e' e'' =
       let one = writes quoted cs limits a segs rs e in
       let two = writes quoted ds limits' segs segs' rs' e' in
       let both = writes quoted (cs ++ ds) limits a segs'' rs'' e'' in
       let value : one.value ≡ t = some_is one.value t (sym one.read ∙ read) in
       let value'' : both.value ≡ t = some_is both.value t (sym both.read ∙ read) in
-      let start : Tree = opened_root s id t in
-      let first : Tree = edits s id cs start in
-      let is_open : IsOpen t = subst IsOpen value one.open' in
-      let begins : IsStruct start = struct_root t is_open in
-      let whole : IsWhole start = whole_opened limits a t read in
-      let after = alike-calls cs taken start start (alike-self start whole) (open_struct start begins) (open_struct start begins) kind kind in
+      let opened : Tree = opened_root s id t in
+      let first : Tree = edits s id cs opened in
+      let begins : IsStruct opened = struct_root t start.opens in
+      let whole : IsWhole opened = whole_opened limits a t read in
+      let from : IsStart nodes id (cs ++ ds) opened = opened_start nodes id (cs ++ ds) t start in
+      let after = alike-calls cs ds plain opened opened (alike-self opened whole) from from in
       let is_segs : segs ≡ canonical_words (trim first) ∷ [] = one.is ∙ ap (λ z. canonical_words (trim (edits s id cs (opened_root s id z))) ∷ []) value in
       let back : two.value ≡ trim first = read_back limits' first two.value fits short (ap (value_within limits') (sym is_segs) ∙ two.read) in
-      let again : Alike (opened_root s id (trim first)) first = reopened (s.shape_of id) first (struct_edits cs start begins) after.alike.whole in
-      let kind_again : in_kind s (opened_root s id (trim first)) (struct id) ≡ true =
-      sym (in_kind-trim s (opened_root s id (trim first)) (struct id)) ∙ ap (λ z. in_kind s z (struct id)) again.trims ∙ in_kind-trim s first (struct id) ∙ after.kind in
-      let second = alike-calls ds taken' (opened_root s id (trim first)) first again (open_struct _ (struct_root (trim first) (open-trim first after.open'))) after.open' kind_again after.kind in
+      let again : Alike (opened_root s id (trim first)) first = reopened (s.shape_of id) first (struct_edits cs opened begins) after.alike.whole in
+      let rest : IsStart nodes id (ds ++ []) first = subst (λ z. IsStart nodes id z first) (sym (append-nil ds)) after.start in
+      let second = alike-calls ds [] plain' (opened_root s id (trim first)) first again (opened_start nodes id (ds ++ []) (trim first) (trimmed_start (ds ++ []) first rest)) rest in
       two.is ∙ ap (λ z. canonical_words (trim (edits s id ds (opened_root s id z))) ∷ []) back
       ∙ ap (λ z. canonical_words z ∷ []) second.alike.trims
-      ∙ ap (λ z. canonical_words (trim z) ∷ []) (sym (edits-append s id cs ds start))
+      ∙ ap (λ z. canonical_words (trim z) ∷ []) (sym (edits-append s id cs ds opened))
       ∙ sym (both.is ∙ ap (λ z. canonical_words (trim (edits s id (cs ++ ds) (opened_root s id z))) ∷ []) value'')

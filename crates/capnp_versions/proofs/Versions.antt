@@ -15,12 +15,15 @@ use Rattle.capnp_model.specs.Admitted.{at_element, is_admitted_from, IsAdmitted}
 use Rattle.capnp_model.specs.Projection.{project_fields, projected}
 use Rattle.capnp_model.specs.InKind.{in_kind}
 use Rattle.capnp_model.specs.NamedPaths.{IsOpen}
+use Rattle.capnp_model.specs.CallRuns.{IsStart, records_after, record_replies}
 use Rattle.capnp_model.specs.Answers.{Reply, reply_of, replies, edits}
 use Rattle.capnp_model.proofs.FineShapes.{IsGood}
 use Rattle.capnp_model.proofs.KeptShapes.{pair_is_kept, older_record}
 use Rattle.capnp_model.proofs.TrimmedAnswers.{trimmed_record}
+use Rattle.capnp_model.proofs.TrimmedKinds.{in_kind-trim}
+use Rattle.capnp_model.proofs.EditLaws.{next_start, last_start, record_after_calls, replies_to_calls}
 use Rattle.capnp_versions.specs.Whole.{IsWhole, IsWholeVerb}
-use Rattle.capnp_versions.specs.Machines.{IsWrite, steps, SameUnlessGet, SameReplies, IsRead}
+use Rattle.capnp_versions.specs.SameReplies.{IsWrite, SameUnlessGet, SameReplies}
 use Rattle.capnp_versions.proofs.Alike.{Alike}
 use Rattle.capnp_versions.proofs.SameContents.{shape_words, alike-self}
 use Rattle.capnp_versions.proofs.Follows.{NameFollows, FieldFollows}
@@ -29,7 +32,6 @@ use Rattle.capnp_versions.proofs.TrimmedEdits.{accepted-good, written-alike, lef
 use Rattle.capnp_versions.proofs.KeptFollows.{words_kept, root-kept}
 use Rattle.capnp_versions.proofs.OlderSteps.{kids_of, nothing_seen, child_seen, root-view}
 use Rattle.capnp_versions.proofs.WriteOnly.{Sees, not-seen}
-use Rattle.capnp_versions.proofs.KindTrim.{in_kind-trim}
 
 -- ---- structs stay structs
 
@@ -51,26 +53,6 @@ open-edit s id c t h = by (step s id c (record_of s id t))
     by (refused k) = h
     by (shown how z) = h
     by (done r) = open_written s (s.shape_of id) c.path c.verb t h
-
--- ---- one call at one schema, where it is read
-
--- what a call that is read leaves
-pub record IsAfter (s : Schema) (id : ℕ) (c : Call) (t : Tree) : Type 0 where
-  pub reads : record_of s id (edit s id c t) ≡ record_after s id c (record_of s id t)
-  pub kind : in_kind s (edit s id c t) (struct id) ≡ true
-
-pub is-after : (s : Schema) (id : ℕ) (c : Call) → IsRead s id c → (t : Tree) → IsOpen t → in_kind s t (struct id) ≡ true → IsAfter s id c t
-is-after s id c read t x kind = by (step s id c (record_of s id t)) refl
-  where
-    stays : (z : Outcome Record) → step s id c (record_of s id t) ≡ z → after_outcome (record_of s id t) z ≡ record_of s id t → ((r : Record) → step s id c (record_of s id t) ≡ done r → ⊥) → IsAfter s id c t
-    stays z e f none =
-        let same : edit s id c t ≡ t = left s id c t none in
-        record { reads = ap (record_of s id) same ∙ sym f ∙ ap (after_outcome (record_of s id t)) (sym e); kind = ap (λ u. in_kind s u (struct id)) same ∙ kind }
-
-    by : (z : Outcome Record) → step s id c (record_of s id t) ≡ z → IsAfter s id c t
-    by (done r) e = record { reads = read.reads t x kind r e ∙ ap (after_outcome (record_of s id t)) (sym e); kind = read.kept t x kind r e }
-    by (refused k) e = stays (refused k) e refl (λ r h. cc (sym e ∙ h))
-    by (shown how z) e = stays (shown how z) e refl (λ r h. cc (sym e ∙ h))
 
 -- ---- two schemas
 
@@ -200,31 +182,31 @@ module _ (nodes nodes' : List Node) (accepted : IsAccepted nodes) (accepted' : I
   -- what stands after calls under both
   pub record AreAfter (quoted : List ℕ → List ℕ) (calls : List Call) (t u : Tree) : Type 0 where
     pub alike : Alike (edits o older calls t) (edits n newer calls u)
-    pub kind : in_kind n (edits n newer calls u) (struct newer) ≡ true
-    pub reads : record_of n newer (edits n newer calls u) ≡ steps n newer calls (record_of n newer u)
     pub replied : SameReplies calls (replies o quoted older calls t) (replies n quoted newer calls u)
 
-  pub are-after : (quoted : List ℕ → List ℕ) (calls : List Call) → AllByRecursion (λ c. IsAdmitted o n older newer c) calls → AllByRecursion (λ c. IsWholeVerb c.verb) calls → AllByRecursion (λ c. IsRead n newer c) calls
-      → (t u : Tree) → Alike t u → IsOpen t → IsOpen u → in_kind n u (struct newer) ≡ true → AreAfter quoted calls t u
+  pub are-after : (quoted : List ℕ → List ℕ) (calls : List Call) → AllByRecursion (λ c. IsAdmitted o n older newer c) calls → AllByRecursion (λ c. IsWholeVerb c.verb) calls → (t u : Tree) → Alike t u → IsOpen t → IsStart nodes' newer calls u → AreAfter quoted calls t u
   unfolding edits replies
-  are-after quoted [] admitted whole read t u a x y kind = record { alike = a; kind = kind; reads = refl; replied = tt }
-  are-after quoted (c ∷ cs) admitted whole read t u a x y kind =
-      let same = (same_records t u a.trims kind).1 in
-      let after = is-after n newer c read.0 u y kind in
-      let rest = are-after quoted cs admitted.1 whole.1 read.1 (edit o older c t) (edit n newer c u) (versions-alike c admitted.0 whole.0 t u a x y same) (open-edit o older c t x) (open-edit n newer c u y) after.kind in
-      record { alike = rest.alike; kind = rest.kind; reads = rest.reads ∙ ap (steps n newer cs) after.reads; replied = (replies-same c admitted.0 quoted t u same, rest.replied) }
+  are-after quoted [] admitted whole t u a x start = record { alike = a; replied = tt }
+  are-after quoted (c ∷ cs) admitted whole t u a x start =
+      let same = (same_records t u a.trims start.kinds.of_tree).1 in
+      let rest = are-after quoted cs admitted.1 whole.1 (edit o older c t) (edit n newer c u) (versions-alike c admitted.0 whole.0 t u a x start.opens same) (open-edit o older c t x) (next_start nodes' newer c cs u start) in
+      record { alike = rest.alike; replied = (replies-same c admitted.0 quoted t u same, rest.replied) }
 
   -- THE LAWS
   pub edits-across : (c : Call) → IsAdmitted o n older newer c → IsWholeVerb c.verb → (t : Tree) → IsWhole t → IsOpen t → trim (edit o older c t) ≡ trim (edit n newer c t)
   edits-across c admitted whole t h x = (versions-alike c admitted whole t t (alike-self t h) x x refl).trims
 
-  pub records-across : (calls : List Call) → AllByRecursion (λ c. IsAdmitted o n older newer c) calls → AllByRecursion (λ c. IsWholeVerb c.verb) calls → AllByRecursion (λ c. IsRead n newer c) calls
-      → (t : Tree) → IsWhole t → IsOpen t → in_kind n t (struct newer) ≡ true → record_of n newer (trim (edits o older calls t)) ≡ steps n newer calls (record_of n newer t)
-  records-across calls admitted whole read t h x kind =
-      let after = are-after (λ bs. bs) calls admitted whole read t t (alike-self t h) x x kind in
-      let both = same_records (edits o older calls t) (edits n newer calls t) after.alike.trims after.kind in
-      trimmed_record n newer (edits o older calls t) both.0 ∙ both.1 ∙ after.reads
+  pub calls-across : (calls : List Call) → AllByRecursion (λ c. IsAdmitted o n older newer c) calls → AllByRecursion (λ c. IsWholeVerb c.verb) calls → (t : Tree) → IsWhole t → IsStart nodes' newer calls t → trim (edits o older calls t) ≡ trim (edits n newer calls t)
+  calls-across calls admitted whole t h start = (are-after (λ bs. bs) calls admitted whole t t (alike-self t h) start.opens start).alike.trims
 
-  pub replies-across : (quoted : List ℕ → List ℕ) (calls : List Call) → AllByRecursion (λ c. IsAdmitted o n older newer c) calls → AllByRecursion (λ c. IsWholeVerb c.verb) calls → AllByRecursion (λ c. IsRead n newer c) calls
-      → (t : Tree) → IsWhole t → IsOpen t → in_kind n t (struct newer) ≡ true → SameReplies calls (replies o quoted older calls t) (replies n quoted newer calls t)
-  replies-across quoted calls admitted whole read t h x kind = (are-after quoted calls admitted whole read t t (alike-self t h) x x kind).replied
+  pub records-across : (calls : List Call) → AllByRecursion (λ c. IsAdmitted o n older newer c) calls → AllByRecursion (λ c. IsWholeVerb c.verb) calls → (t : Tree) → IsWhole t → IsStart nodes' newer calls t
+      → record_of n newer (trim (edits o older calls t)) ≡ records_after n newer calls (record_of n newer t)
+  records-across calls admitted whole t h start =
+      let last = last_start nodes' newer calls t start in
+      let both = same_records (edits o older calls t) (edits n newer calls t) (calls-across calls admitted whole t h start) last.kinds.of_tree in
+      trimmed_record n newer (edits o older calls t) both.0 ∙ both.1 ∙ record_after_calls nodes' newer calls t start
+
+  pub replies-across : (quoted : List ℕ → List ℕ) (calls : List Call) → AllByRecursion (λ c. IsAdmitted o n older newer c) calls → AllByRecursion (λ c. IsWholeVerb c.verb) calls → (t : Tree) → IsWhole t → IsStart nodes' newer calls t
+      → SameReplies calls (replies o quoted older calls t) (record_replies n quoted newer calls (record_of n newer t))
+  replies-across quoted calls admitted whole t h start =
+      subst (SameReplies calls (replies o quoted older calls t)) (replies_to_calls nodes' newer quoted calls t start) (are-after quoted calls admitted whole t t (alike-self t h) start.opens start).replied

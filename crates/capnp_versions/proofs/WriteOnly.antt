@@ -9,7 +9,7 @@ use Rattle.capnp_model.specs.Groups.{group_fault}
 use Rattle.capnp_model.specs.Kinds.{Kind}
 use Rattle.capnp_model.specs.Trees.{null, capability, structure, plain_list, pointer_list, struct_list}
 use Rattle.capnp_model.specs.Steps.{Outcome, refused, shown, done, outcome_map, Target, no_target, target, target_of, at_target, on_name, on_index, got, reading_after, slot_type, copied_or_refused, set_group_from, set_group, at_field, at_element, opened, through_value, through_field, step_field, step_element, step_path, step}
-use Rattle.capnp_versions.specs.Machines.{IsWrite}
+use Rattle.capnp_versions.specs.SameReplies.{IsWrite}
 
 -- it is done, or it is shown
 abbrev pub Sees : {A : Type 0} → Bool → Outcome A → Type 0
