@@ -150,6 +150,10 @@ values_tell (suc n) s p t e =
     subst (λ (x : Result Found Kind). Tells (visits_of (λ f. object_visits s (visits n s) f.pads f.object) x) (found_cost (object_cost s (cost_at n s)) x) (pointers_of t)) (sym a.1)
     (object_tells (tree_at n s) (cost_at n s) (visits n s) (values_tell n s) s a.0.pads t a.0.object a.2)
 
+-- The same of values in a row.
+pub rows_tell : (n : ℕ) (s : Segments) (p : Place) (k : ℕ) (ts : Trees) → each (tree_at n s) p k ≡ Some ts → Tells (from_each (visits n s) p k) (cost_each (cost_at n s) p k) (each_pointers_of ts)
+rows_tell n s p k ts e = each_tells (tree_at n s) (cost_at n s) (visits n s) (values_tell n s) k p ts e
+
 -- ---- faults
 
 module _ (v : Place → List Visit) (h : Place → List Kind) (same : (p : Place) → faults_among (v p) ≡ h p) where
