@@ -1,10 +1,14 @@
 //! Reads a large list of structs and a long text, and says how many bytes were read in a second.
 //!
 //! The number that is given to the program is that of the structs, of 16 bytes each; the text has 16 times as many bytes. What was read is printed on standard output, and how fast on standard error.
+//!
+//! With the word `unpack`, a packed file and a number the program unpacks the file's messages so many times over; with `pack` and a framed file it packs them.
 #![tactic(auto)]
 
+mod packing;
 mod reading;
 mod samples;
+mod streams;
 
 use reading::{letters_of_text, sum_of_structs};
 use std::alloc::Global;
@@ -54,7 +58,27 @@ fn read_text(rt: &HostRuntime, alloc: Global, len: u32) -> io::Result<()> {
     }
 }
 
+/// The file, and how many times, that stand behind the first word.
+fn file_and_rounds(rt: &HostRuntime) -> io::Result<Option<(String, u32)>> {
+    let mut given = env::args(rt)?;
+    let path = given.nth(2);
+    let rounds = given.next();
+    Ok(match (path, rounds) {
+        (Some(path), Some(rounds)) => Some((path, rounds.parse::<u32>().unwrap_or(1))),
+        _ => None,
+    })
+}
+
 fn main(rt: HostRuntime) -> io::Result<()> {
+    if let Some((path, rounds)) = file_and_rounds(&rt)? {
+        let word = env::args(&rt)?.nth(1);
+        let is_pack = word.is_some_and(|w| w.as_str() == "pack");
+        return if is_pack {
+            streams::pack(&rt, path.as_str(), rounds)
+        } else {
+            streams::unpack(&rt, path.as_str(), rounds)
+        };
+    }
     let count = count(&rt)?.min(MOST);
     read_structs(&rt, rt.alloc(), count)?;
     read_text(&rt, rt.alloc(), 16 * count)

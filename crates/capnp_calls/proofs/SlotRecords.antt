@@ -1,6 +1,6 @@
 -- The record after a call is the one that the record machine makes.
 use Rattle.std.proofs.Common.{◌≡◌, ℕ, false, Option, Some, None, List, [], ◌∷◌, refl, ap, sym, subst, ◌∙◌, arith}
-use Rattle.std.specs.Prelude.{IsTrue}
+use Rattle.std.specs.Prelude.{IsTrue, map}
 use Rattle.capnp_model.specs.Trees.{Tree, structure, Trees}
 use Rattle.capnp_model.specs.Schemas.{shape, Node, Body}
 use Rattle.capnp_model.specs.Accepted.{IsAccepted, schema_of}
@@ -9,19 +9,20 @@ use Rattle.capnp_model.specs.Printing.{As, as_body, fields_in}
 use Rattle.capnp_model.specs.Calls.{Step, name, index, whole_number, truth, enumerant, text_value, blob_value, message, Verb, get, set_to, init, initn, clear, Call}
 use Rattle.capnp_model.specs.Steps.{Outcome, refused, shown, done, outcome_map, Target, no_target, target, target_of, at_target, got, step, step_field, after_outcome}
 use Rattle.capnp_model.specs.Edits.{edit, if_done, write_path}
-use Rattle.capnp_model.specs.CallRuns.{IsGiven}
+use Rattle.capnp_model.specs.CallRuns.{IsGiven, AreGiven}
 use Rattle.capnp_model.specs.NamedPaths.{IsInRange, IsOpen, GoesByNames, IsSlot as NoGroup}
 use Rattle.capnp_records.specs.Slots.{body_of_slot}
 use Rattle.capnp_records.specs.Structs.{words_in, pointers_in, nodes_around, id_of, shape_of_struct, fields_of_struct}
 use Rattle.capnp_records.specs.declared.slot.Slot.{Slot}
 use Rattle.capnp_records.specs.declared.slot.Slot.TheVariants as slot
 use Rattle.capnp_records.specs.declared.structs.StructSchema.{StructSchema}
+use Rattle.capnp_calls.specs.declared.call.Call.{Call as OwnCall}
 use Rattle.capnp_calls.specs.declared.call.SlotValue.TheVariants as value
 use Rattle.capnp_calls.specs.declared.call.Action.{Action}
 use Rattle.capnp_calls.specs.declared.call.Action.TheVariants as action
 use Rattle.capnp_calls.specs.Actions.{is_in_range}
-use Rattle.capnp_calls.specs.CallViews.{action_view}
-use Rattle.capnp_calls.specs.Taken.{only_name, schema_around, tree_after, record_at, record_by}
+use Rattle.capnp_calls.specs.CallViews.{action_view, call_view}
+use Rattle.capnp_calls.specs.Taken.{only_name, taken_call, schema_around, tree_after, record_at, record_by}
 use Rattle.capnp_calls.proofs.OneStep.{FieldsByName, slot_is, outcome_is}
 
 -- what the model's law says
@@ -41,6 +42,10 @@ IsGiven-of_action (action.Set (value.Data bs)) h = tt
 IsGiven-of_action action.Init h = tt
 IsGiven-of_action (action.Initn n) h = tt
 IsGiven-of_action action.Clear h = tt
+
+pub AreGiven-of_calls : (calls : List OwnCall) → AreGiven (map taken_call (map call_view calls))
+AreGiven-of_calls [] = tt
+AreGiven-of_calls (c ∷ calls) = (IsGiven-of_action c.action c.in_range, AreGiven-of_calls calls)
 
 got_is_no_write : {A : Type 0} (h : Reading → A) (how : As) (r : Reading) (x : A) → outcome_map h (got how r) ≡ done x → ⊥
 got_is_no_write h how inactive x e = cc

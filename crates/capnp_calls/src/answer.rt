@@ -19,6 +19,7 @@ use crate::put::put_change;
 use crate::reply::Reply;
 use crate::root::StructValue;
 use capnp_model::laws;
+use capnp_model::laws_of_edits;
 use capnp_records::slot::Slot;
 use capnp_records::structs::StructSchema;
 use capnp_units::errors::Result;
@@ -80,7 +81,7 @@ pub fn answer_call(
     ensures refusal { IfErr result (λ e. IsWant (PutsLongList schema.entry (call_view call.now) (struct_tree root.old)) e.kind) }
 {
     laws::fields_by_name();
-    laws::records_of_edited_values();
+    laws_of_edits::records_of_edited_values();
     let _id = schema.id();
     let Some(name) = field_name(call) else {
         return Ok(Reply::Refused(ErrorKind::WrongStep));

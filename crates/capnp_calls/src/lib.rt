@@ -7,6 +7,7 @@ mod call;
 mod change;
 pub mod dynamic_struct;
 mod get;
+pub mod laws;
 mod number;
 pub mod open;
 mod pointer_text;

@@ -63,7 +63,7 @@ fn replies_to(alloc: Global, calls: &[Call]) -> Result<Vec<Reply>, Fail> {
     let mut nodes = Vec::new(alloc);
     nodes.push(pair(alloc)?)?;
     let set = SchemaSet::new(nodes)?;
-    let Some(raw) = set.struct_by_id(1) else {
+    let Some(raw) = set.plain_struct_by_id(1) else {
         return Err(Fail::from("the struct is missing"));
     };
     let schema = StructSchema::new(&set, raw);

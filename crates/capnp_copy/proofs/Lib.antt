@@ -1,3 +1,5 @@
 pub mod Zeros
 pub mod ByteWords
 pub mod HeldWords
+pub mod Shifts
+pub mod FieldLaws

@@ -1,3 +1,4 @@
 pub mod Memory
 pub mod Allocations
 pub use Rattle.capnp_wire.specs.Places
+pub mod Structs

@@ -3,6 +3,12 @@
 
 pub mod allocator;
 pub mod arena;
+mod bits;
+pub mod fields;
 mod grown;
 pub mod held;
+pub mod laws;
 pub mod segments;
+pub mod struct_builder;
+#[cfg(test)]
+mod tests;

@@ -8,3 +8,5 @@ pub mod Splices
 pub mod Growing
 pub mod Writing
 pub mod Levels
+pub mod Cells
+pub mod NewObjects

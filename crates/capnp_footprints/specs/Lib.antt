@@ -1,3 +1,4 @@
 pub mod Footprints
 pub mod Changes
 pub mod Writes
+pub mod Elements

@@ -5,10 +5,11 @@ ghost use Rattle.std.specs.Prelude.{◌≡◌, ℕ, suc, ◌+◌, ◌*◌, ◌%�
 ghost use Rattle.capnp_model.specs.Sections.{section_of, words_for};
 ghost use Rattle.capnp_model.specs.Segments.{Segments, Place, after, words_at};
 ghost use Rattle.capnp_model.specs.Pointers.{Object, a_struct, a_list, Found, found_at};
-ghost use Rattle.capnp_model.specs.Trees.{Tree, structure, plain_list, pointer_list, Trees, child, with_child, size_bits};
+ghost use Rattle.capnp_model.specs.Trees.{Tree, structure, plain_list, pointer_list, struct_list, Trees, child, with_child, Elements, element_count, size_bits};
 ghost use Rattle.capnp_model.specs.Traversal.{tree_at, of_bits, list_kind};
 ghost use Rattle.capnp_footprints.specs.Footprints.{footprint, Owns, OwnsObject};
 ghost use Rattle.capnp_footprints.specs.Changes.{Changes, Replaces, ReplacesObject, ZeroBeside};
+ghost use Rattle.capnp_footprints.specs.Elements.{element_at, with_element};
 ghost use Rattle.capnp_footprints.specs.Writes.{spliced, with_words, with_zeros};
 
 /// A value may be replaced again and again, no word of it is taken twice afterwards, and the words beside it that were zero are.
@@ -59,4 +60,10 @@ pub fn children_of_lists()
 pub fn words_of_data()
     ensures structs { (n : ℕ) (s : Segments) (p : Place) (d k i w section : ℕ) (kids : Trees) (vs ws : List ℕ) → i + length vs ≤ d → words_at s p d ≡ Some ws → OwnsObject n s (a_struct p d k) (structure w section kids) → ReplacesObject n s (with_words s (after p i) vs) (a_struct p d k) (structure w (section_of (spliced i vs ws)) kids) }
     ensures lists { (n : ℕ) (s : Segments) (p : Place) (size count i : ℕ) (t : Tree) (vs ws : List ℕ) → list_kind size ≡ of_bits → i + length vs ≤ words_for (size_bits size * count) → words_at s p (words_for (size_bits size * count)) ≡ Some ws → OwnsObject n s (a_list p size count) t → ReplacesObject n s (with_words s (after p i) vs) (a_list p size count) (plain_list size count (section_of (spliced i vs ws) % 2 ^ (size_bits size * count))) }
+{}
+
+/// From a list of structs, or its element's struct, to the other: the element's new section and children are those of the list.
+pub fn elements_of_lists()
+    ensures down { (n : ℕ) (s : Segments) (p : Place) (m d k i : ℕ) (es : Elements) → i < element_count es → OwnsObject n s (a_list p 7 m) (struct_list d k es) → OwnsObject n s (a_struct (after (after p 1) (i * (d + k))) d k) (element_at d es i) }
+    ensures up { (n : ℕ) (s u : Segments) (p : Place) (m d k i section : ℕ) (kids : Trees) (es : Elements) → i < element_count es → OwnsObject n s (a_list p 7 m) (struct_list d k es) → ReplacesObject n s u (a_struct (after (after p 1) (i * (d + k))) d k) (structure d section kids) → ReplacesObject n s u (a_list p 7 m) (struct_list d k (with_element es i section kids)) }
 {}

@@ -128,9 +128,6 @@ pub record AreCleared (s : Schema) (u : Option ℕ) (fs : Fields) (c c' : Cell) 
   pub first : discriminant u whole_words c'.section ≡ first_member u
   pub keeps : (ys : List Area) → Apart (union_area u) ys → Apart (areas_of_fields fs) ys → KeptAll ys c c'
 
-clear_field : Option ℕ → Body → Cell → Cell
-clear_field m b c = cleared_body b c
-
 runs_cleared : (fs : Fields) (c : Cell) → cleared_fields fs c ≡ run is_kept (λ m b. cleared_body b) fs c
 unfolding cleared
 runs_cleared no_fields c = refl

@@ -1,11 +1,11 @@
 -- Calls that the laws of edits speak of: each premise holds of them, and both sides compute to the same record.
-use Rattle.std.proofs.Common.{◌≡◌, ℕ, false, true, List, [], ◌∷◌, Option, Some, None, refl, codes}
+use Rattle.std.proofs.Common.{◌≡◌, ℕ, false, true, List, [], ◌∷◌, Some, None, refl, codes}
 use Rattle.std.specs.Prelude.{pos}
-use Rattle.capnp_model.specs.Trees.{Tree, null, structure, plain_list, struct_list, Trees, none, ◌▸◌, no_elements, element}
-use Rattle.capnp_model.specs.Schemas.{uint, bits, no_value, BaseType, group, Node, Schema}
+use Rattle.capnp_model.specs.Trees.{Tree, null, structure, plain_list, struct_list, none, ◌▸◌, no_elements, element}
+use Rattle.capnp_model.specs.Schemas.{no_value, BaseType, group, Node}
 use Rattle.capnp_model.specs.Readings.{Record, entry, no_more, number, text_of, list_of, record_as, null_pointer, inactive, no_readings, ◌▹◌, record_of, read, shape_record, record_by_shape}
-use Rattle.capnp_model.specs.Calls.{Step, name, index, Verb, set_to, init, initn, clear, whole_number, text_value, message, Call}
-use Rattle.capnp_model.specs.Accepted.{schema_of, shape_in, has_no_overlap, areas_of, IsAccepted}
+use Rattle.capnp_model.specs.Calls.{Step, name, index, Verb, set_to, initn, whole_number, message, Call}
+use Rattle.capnp_model.specs.Accepted.{schema_of, shape_in, has_no_overlap, areas_of}
 use Rattle.capnp_model.specs.InKind.{in_kind, shape_in_kind}
 use Rattle.capnp_model.specs.InKindCalls.{named_structs, defaults_in_kind, end_of}
 use Rattle.capnp_model.specs.Steps.{step, step_field}

@@ -23,9 +23,12 @@ use Rattle.capnp_model.proofs.KeptRules.{and_left, and_right}
 use Rattle.capnp_model.proofs.SoundRules.{rules_kept, good_shape, apart}
 use Rattle.capnp_model.proofs.Views.{shape_record-same}
 use Rattle.capnp_model.proofs.Paths.{nothing_in}
-use Rattle.capnp_model.proofs.ListElements.{IsReal, ReadsStraight}
+use Rattle.capnp_model.proofs.ListElements.{IsReal}
+use Rattle.capnp_model.proofs.ListsInKind.{ReadsStraight}
 use Rattle.capnp_model.proofs.SoundSizes.{IsNoGroup, AllStraight, accepted_sound, all_pass}
-use Rattle.capnp_model.proofs.EveryPath.{AreReal, FieldsReal, BodyReal, IsReached, path_law, verb_in_kind}
+use Rattle.capnp_model.proofs.ReachedStructs.{AreReal, FieldsReal, BodyReal, IsReached}
+use Rattle.capnp_model.proofs.EveryPath.{path_law}
+use Rattle.capnp_model.proofs.KindsOfContents.{verb_in_kind}
 
 -- ---- an element of one word as a struct
 

@@ -9,8 +9,8 @@ use Rattle.capnp_model.specs.Accepted.{Area, bit_area, pointer_area, union_area,
 use Rattle.capnp_model.proofs.KeptRules.{and_left, and_right, and_three, behind, no_break, found_passes}
 use Rattle.capnp_model.proofs.SoundRules.{RulesKept, rules_kept, no_group, found_id}
 use Rattle.capnp_model.proofs.KeptCells.{or_right}
-use Rattle.capnp_model.proofs.ListElements.{IsReal}
-use Rattle.capnp_model.proofs.EveryPath.{AreReal, FieldsReal, BodyReal, AllInside, IsWithin}
+use Rattle.capnp_model.proofs.ListElements.{IsReal, HasRoom}
+use Rattle.capnp_model.proofs.ReachedStructs.{AreReal, FieldsReal, BodyReal, AllInside, IsWithin}
 
 -- ---- types
 
@@ -183,11 +183,8 @@ more_rules nodes h =
     let i = behind nodes 8 4 g.1 in
     record { kept = rules_kept nodes h; groups = no_break (is_good_group nodes) [] 0 nodes f.0; places = no_break (on_struct has_places) [] 0 nodes i.0 }
 
--- the group's sections are no larger than the holder's
-abbrev pub HasRoomIn : Shape → ℕ → ℕ → Type 0
-HasRoomIn (shape nid w p u fs) words pointers = (w ≤ words) × (p ≤ pointers)
-
-room_inside : (g : Shape) (words pointers : ℕ) → IsWithin g → HasRoomIn g words pointers → AllInside words pointers (areas_of g)
+-- a group's sections are no larger than its holder's
+room_inside : (g : Shape) (words pointers : ℕ) → IsWithin g → HasRoom g words pointers → AllInside words pointers (areas_of g)
 room_inside (shape nid w p u fs) words pointers h k = inside_wider w p words pointers (areas_of (shape nid w p u fs)) k.0 k.1 h
 
 pub record IsSoundShape (nodes : List Node) (g : Shape) : Type 0 where
@@ -205,7 +202,7 @@ eq_refl n = grind arith
 
 module _ (nodes : List Node) (n : StructNode) (groups : ℕ → Shape) (sound : (g : ℕ) → IsSoundShape nodes (groups g)) where
   kind_sound : (k : FieldKind) → list_all (λ t. names_its_sort nodes t.base) (slot_types k) ≡ true → has_its_place n k ≡ true
-      → ((g : ℕ) → list_any (λ x. x == g) (groups_of_field k) ≡ true → HasRoomIn (groups g) n.words n.pointers) → IsSoundSlot nodes n.words n.pointers (field_body groups k)
+      → ((g : ℕ) → list_any (λ x. x == g) (groups_of_field k) ≡ true → HasRoom (groups g) n.words n.pointers) → IsSoundSlot nodes n.words n.pointers (field_body groups k)
   unfolding areas_of
   kind_sound (slot offset ty d) h place each = slot_sound nodes n offset (type_of ty) d (real_type nodes ty.list_count ty.base (and_left (names_its_sort nodes ty.base) true h)) place
   kind_sound (group g) h place each =
@@ -219,7 +216,7 @@ module _ (nodes : List Node) (n : StructNode) (groups : ℕ → Shape) (sound : 
   any_right g xs ys h = list_any-append (λ x. x == g) xs ys ∙ or_right (list_any (λ x. x == g) xs) (list_any (λ x. x == g) ys) h
 
   fields_sound : (fs : List Field) → list_all (λ t. names_its_sort nodes t.base) (flat_map (λ (f : Field). slot_types f.kind) fs) ≡ true → list_all (λ (f : Field). has_its_place n f.kind) fs ≡ true
-      → ((g : ℕ) → list_any (λ x. x == g) (flat_map (λ (f : Field). groups_of_field f.kind) fs) ≡ true → HasRoomIn (groups g) n.words n.pointers) → AreSoundFields nodes n.words n.pointers (fields_from groups fs)
+      → ((g : ℕ) → list_any (λ x. x == g) (flat_map (λ (f : Field). groups_of_field f.kind) fs) ≡ true → HasRoom (groups g) n.words n.pointers) → AreSoundFields nodes n.words n.pointers (fields_from groups fs)
   unfolding areas_of
   fields_sound [] types places each = record { real = tt; inside = tt; straight = tt }
   fields_sound (f ∷ fs) types places each =
@@ -246,7 +243,7 @@ module _ (nodes : List Node) (n : StructNode) (groups : ℕ → Shape) (sound : 
       by false e = let l = le_is (16 * (n.discriminant_offset + 1)) (64 * n.words) e in ((omega arith, tt), (straight_width 16 refl n.discriminant_offset, tt))
 
   struct_sound : (own : ℕ) → list_all (λ t. names_its_sort nodes t.base) (flat_map (λ (f : Field). slot_types f.kind) n.fields) ≡ true → has_places n ≡ true → has_good_union n ≡ true
-      → ((g : ℕ) → list_any (λ x. x == g) (flat_map (λ (f : Field). groups_of_field f.kind) n.fields) ≡ true → HasRoomIn (groups g) n.words n.pointers)
+      → ((g : ℕ) → list_any (λ x. x == g) (flat_map (λ (f : Field). groups_of_field f.kind) n.fields) ≡ true → HasRoom (groups g) n.words n.pointers)
       → IsSoundShape nodes (shape own n.words n.pointers (union_place n) (fields_from groups n.fields))
   unfolding areas_of
   struct_sound own types places union each =
@@ -276,7 +273,7 @@ all_pass test (x ∷ xs) g h k = by (x == g) refl k (λ l. all_pass test xs g (a
 -- the sizes of what a node is
 room_of_node : (groups : ℕ → Shape) (m : Node) (k : NodeKind) (own words pointers : ℕ) → (elim k as (λ (x : NodeKind). ℕ × ℕ) [ struct_node s ↦ (s.words, s.pointers) | enum_node es ↦ (0, 0) ]).0 ≤ words
     → (elim k as (λ (x : NodeKind). ℕ × ℕ) [ struct_node s ↦ (s.words, s.pointers) | enum_node es ↦ (0, 0) ]).1 ≤ pointers
-    → HasRoomIn (elim k as (λ (x : NodeKind). Shape) [ struct_node s ↦ shape own s.words s.pointers (union_place s) (fields_from groups s.fields) | enum_node es ↦ no_shape ]) words pointers
+    → HasRoom (elim k as (λ (x : NodeKind). Shape) [ struct_node s ↦ shape own s.words s.pointers (union_place s) (fields_from groups s.fields) | enum_node es ↦ no_shape ]) words pointers
 room_of_node groups m (struct_node s) own words pointers h k = (h, k)
 room_of_node groups m (enum_node es) own words pointers h k = (omega arith, omega arith)
 
@@ -297,12 +294,12 @@ module _ (nodes : List Node) (r : MoreRules nodes) where
       once : (k : ℕ) → (k == 1) ≡ true → k ≤ 1
       once k h = grind arith
 
-  group_room : (levels id : ℕ) (n : Node) (words pointers g : ℕ) → find_node nodes id ≡ Some n → (sizes_of n).0 ≡ words → (sizes_of n).1 ≡ pointers → list_any (λ x. x == g) (groups_used n) ≡ true → HasRoomIn (shape_in nodes levels g) words pointers
+  group_room : (levels id : ℕ) (n : Node) (words pointers g : ℕ) → find_node nodes id ≡ Some n → (sizes_of n).0 ≡ words → (sizes_of n).1 ≡ pointers → list_any (λ x. x == g) (groups_used n) ≡ true → HasRoom (shape_in nodes levels g) words pointers
   unfolding shape_in
   group_room zero id n words pointers g e a b u = (omega arith, omega arith)
   group_room (suc levels) id n words pointers g e a b u = by (find_node nodes g) refl
     where
-      by : (o : Option Node) → find_node nodes g ≡ o → HasRoomIn (shape_of_node (λ g. shape_in nodes levels g) o) words pointers
+      by : (o : Option Node) → find_node nodes g ≡ o → HasRoom (shape_of_node (λ g. shape_in nodes levels g) o) words pointers
       by None f = (omega arith, omega arith)
       by (Some m) f =
           let fits = group_fits id n g m e u f in

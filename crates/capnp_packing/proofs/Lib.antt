@@ -1,4 +1,6 @@
+pub mod TagLemmas
 pub mod PartLemmas
+pub mod StepLemmas
 pub mod GroupLemmas
 pub mod PieceLemmas
 pub mod RunLemmas

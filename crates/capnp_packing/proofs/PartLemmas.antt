@@ -13,7 +13,7 @@ use Rattle.capnp_model.specs.Chains.{◌and_then◌, guard}
 use Rattle.capnp_model.specs.Bytes.{taken}
 use Rattle.capnp_model.specs.Packing.{Run, byte_at, spread, counted, run_at}
 use Rattle.capnp_model.proofs.Chaining.{ok_then, bind_ok}
-use Rattle.capnp_stream.specs.Pieces.{IsEarlyEnd, EndsEarly, EachIsNeeded}
+use Rattle.capnp_stream.specs.Pieces.{EndsEarly, EachIsNeeded}
 use Rattle.capnp_stream.proofs.EarlyLemmas.{early-same, early-then, none-needed, needed-joined}
 use Rattle.capnp_packing.specs.Parts.{Rule, Leads, Takes, IsFault, Refuses, byte_or, count_at, tagged, with_front}
 
@@ -94,7 +94,7 @@ pub with_front-nil : (r : Result (List ℕ × List ℕ) Kind) → with_front [] 
 with_front-nil (Ok x) = refl
 with_front-nil (Err k) = refl
 
-with_front-more : (xs ys : List ℕ) (r : Result (List ℕ × List ℕ) Kind) → with_front xs (with_front ys r) ≡ with_front (xs ++ ys) r
+pub with_front-more : (xs ys : List ℕ) (r : Result (List ℕ × List ℕ) Kind) → with_front xs (with_front ys r) ≡ with_front (xs ++ ys) r
 with_front-more xs ys (Ok x) = ap (λ (l : List ℕ). Ok (l, x.1)) (sym (append_assoc xs ys x.0))
 with_front-more xs ys (Err k) = refl
 

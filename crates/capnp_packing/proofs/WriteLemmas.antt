@@ -14,7 +14,11 @@ use Rattle.capnp_stream.specs.Streams.{AppendsPart, RoomFalls, IsWriteRefusal}
 use Rattle.capnp_stream.proofs.KnownLemmas.{AppendsPart-more, AppendsPart-next}
 use Rattle.capnp_stream.proofs.WordLemmas.{words_in_bytes-take, words_in_bytes-drop, bytes_of_words-back}
 use Rattle.capnp_packing.specs.Runs.{run_view, run_words, run_bytes}
-use Rattle.capnp_packing.specs.Written.{packed_on, WritesUpTo}
+use Rattle.std.proofs.Common.{◌<◌, ◌%◌, ◌⊎◌, inl, inr, set, length-set}
+use Rattle.std.proofs.lemmas.List.{take_more_set}
+use borrow.Rule.Slice.PartMut.{put_mid}
+use Rattle.capnp_stream.proofs.Filling.{take-put_mid_more}
+use Rattle.capnp_packing.specs.Written.{packed_on, WritesUpTo, Packs}
 use Rattle.capnp_packing.specs.declared.runs.Run.{Run}
 use Rattle.capnp_packing.specs.declared.runs.Run.TheVariants.{First, Next, Zeros, Verbatim}
 use Rattle.capnp_packing.proofs.RunLemmas.{bytes-again}
@@ -102,6 +106,63 @@ written-step word behind tag run group verbatim rest eight small others marks is
     ∙ ap (λ (l : List ℕ). (group ++ l) ++ packed_on (whole_words (drop (8 * run_words run) behind))) (sym one)
     ∙ ap (λ (l : List ℕ). (group ++ verbatim) ++ packed_on (whole_words l)) (sym left)
 
+-- ---- groups in a buffer
+
+-- the tag, and the first bytes that were put behind it
+pub head-front : (buf bytes : List ℕ) (tag m : ℕ) → 1 ≤ length buf → m ≤ length bytes → take (1 + m) (put_mid 1 8 (set buf 0 tag) bytes) ≡ tag ∷ take m bytes
+head-front buf bytes tag m some most =
+    let size : length (set buf 0 tag) ≡ length buf = length-set buf 0 tag in
+    let one : 0 + 1 ≡ 1 = omega arith in
+    let front : take 1 (set buf 0 tag) ≡ tag ∷ [] = ap (λ (n : ℕ). take n (set buf 0 tag)) (sym one) ∙ take_more_set buf 0 tag (omega arith) in
+    take-put_mid_more 1 8 m (set buf 0 tag) bytes (omega arith) most ∙ ap (λ (l : List ℕ). l ++ take m bytes) front
+
+pub no-count : (head : List ℕ) (run : Run) → (run ≡ First) ⊎ (run ≡ Next) → head ++ count_byte (run_view run) ≡ head
+no-count head run (inl is) = rw is (append-nil head)
+no-count head run (inr is) = rw is (append-nil head)
+
+pub one-count : (count : ℕ) (run : Run) → (run ≡ Zeros count) ⊎ (run ≡ Verbatim count) → count_byte (run_view run) ≡ count ∷ []
+one-count count run (inl is) = rw is refl
+one-count count run (inr is) = rw is refl
+
+module _ (word behind : List ℕ) (tag : ℕ) (run : Run) (bytes buf verbatim rest : List ℕ) (len : ℕ)
+    (eight : length word ≡ 8) (small : AreBytes word) (others : AreBytes behind) (marks_are : tag ≡ byte_tag word) (is : run_view run ≡ longest_run tag (whole_words behind)) (fits : 8 * run_words run ≤ length behind)
+    (made : take len buf ≡ tag ∷ (nonzero word ++ count_byte (run_view run))) (one : verbatim ≡ run_bytes run behind) (left : rest ≡ drop (8 * run_words run) behind)
+    (front : whole_words bytes ≡ from_le_bytes w64 word ∷ whole_words behind) (long : length bytes ≡ 8 + length behind) (whole_words_are : length bytes % 8 ≡ 0) (room : len ≤ length buf) where
+  group-step : packed_on (whole_words bytes) ≡ (take len buf ++ verbatim) ++ packed_on (whole_words rest)
+  group-step = ap packed_on front ∙ written-step word behind tag run (take len buf) verbatim rest eight small others marks_are is fits made one left
+
+  behind-length : length rest ≡ length behind - 8 * run_words run
+  behind-length = ap length left ∙ length-drop (8 * run_words run) behind
+
+  -- the run is left to be written
+  pub packs-head : Packs bytes buf len verbatim rest
+  packs-head = let size = behind-length in record { within = room; shorter = omega arith; whole = omega arith; spells = group-step }
+
+  -- the run was put behind
+  pub packs-group : (after : List ℕ) → length after ≡ length buf → len + length verbatim ≤ length buf → take (len + length verbatim) after ≡ take len buf ++ verbatim → Packs bytes after (len + length verbatim) [] rest
+  packs-group after same enough joined =
+      let size = behind-length in
+      record {
+        within = omega arith;
+        shorter = omega arith;
+        whole = omega arith;
+        spells = group-step ∙ ap (λ (l : List ℕ). l ++ packed_on (whole_words rest)) (sym joined ∙ sym (append-nil (take (len + length verbatim) after)));
+      }
+
+pub Packs-then : (bytes buf tail after rest run behind : List ℕ) (len k : ℕ) → Packs bytes buf len [] rest → Packs rest tail k run behind → length tail ≡ length buf - len → length after ≡ length buf
+    → take (len + k) after ≡ take len buf ++ take k tail → Packs bytes after (len + k) run behind
+Packs-then bytes buf tail after rest run behind len k first second size same joined =
+    let words = packed_on (whole_words behind) in
+    record {
+      within = omega (arith, first.within, second.within);
+      shorter = omega (arith, first.shorter, second.shorter);
+      whole = second.whole;
+      spells = first.spells ∙ ap (λ (l : List ℕ). l ++ packed_on (whole_words rest)) (append-nil (take len buf)) ∙ ap (λ (l : List ℕ). take len buf ++ l) second.spells
+          ∙ sym (append_assoc (take len buf) (take k tail ++ run) words) ∙ ap (λ (l : List ℕ). l ++ words) (sym (append_assoc (take len buf) (take k tail) run)) ∙ ap (λ (l : List ℕ). (l ++ run) ++ words) (sym joined);
+    }
+
+-- ---- the packed words of a piece
+
 pub packed-is_on : (ws : List ℕ) → packed ws ≡ packed_on ws
 unfolding packed packed_on
 packed-is_on ws = from_first ws
@@ -118,7 +179,7 @@ RoomFalls-trans (Some x) None c n m p q = absurd p
 RoomFalls-trans (Some x) (Some y) None n m p q = absurd q
 RoomFalls-trans (Some x) (Some y) (Some z) n m p q = omega arith
 
-RoomFalls-nil : (a : Option ℕ) → RoomFalls a a 0
+pub RoomFalls-nil : (a : Option ℕ) → RoomFalls a a 0
 RoomFalls-nil None = refl
 RoomFalls-nil (Some x) = omega arith
 

@@ -1,6 +1,7 @@
+pub mod Tags
 pub mod Parts
 pub mod Runs
-pub mod Groups
+pub mod Steps
 pub mod Written
 pub mod Fronts
 pub mod Streams

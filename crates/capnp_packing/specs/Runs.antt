@@ -34,3 +34,8 @@ run_words _ = 0
 abbrev pub run_bytes : Run → List ℕ → List ℕ
 run_bytes (Verbatim k) bytes = take (8 * k) bytes
 run_bytes _ bytes = []
+
+-- Whether the next word needs bytes: no zero word of a run is left.
+abbrev pub NeedsBytes : Run → Type 0
+NeedsBytes (Zeros k) = k ≡ 0
+NeedsBytes _ = ⊤

@@ -8,9 +8,14 @@ pub mod form;
 mod groups;
 pub mod laws;
 mod packing;
+mod places;
 mod runs;
 pub mod serialize_packed;
+mod shown;
+mod sources;
 pub mod streams;
+mod tags;
 #[cfg(test)]
 mod tests;
 mod unpacking;
+mod written;

@@ -1,6 +1,6 @@
 //! Runs of words in packed pieces.
-ghost use Rattle.std.specs.Prelude.{◌≡◌, ◌≤◌, ◌*◌, length, drop};
-ghost use Rattle.capnp_packing.specs.Runs.{end_kind, run_words, run_bytes};
+ghost use Rattle.std.specs.Prelude.{◌≡◌, ◌≤◌, ◌*◌, ◌↔◌, length, drop, IsTrue};
+ghost use Rattle.capnp_packing.specs.Runs.{IsOver, NeedsBytes, end_kind, run_words, run_bytes};
 
 use capnp_units::kinds::ErrorKind;
 
@@ -21,6 +21,27 @@ impl Run {
         match self {
             Run::First => ErrorKind::FailedToFillTheWholeBuffer,
             _ => ErrorKind::PrematureEndOfPackedInput,
+        }
+    }
+
+    /// Whether no word of the run is left, so that a group comes next.
+    #[inline(always)]
+    pub(crate) fn is_over(self) -> bool
+        ensures { IsTrue result ↔ IsOver self }
+    {
+        match self {
+            Run::Zeros(count) | Run::Verbatim(count) => count == 0,
+            _ => true,
+        }
+    }
+
+    /// Whether the next word needs bytes: no zero word of a run is left.
+    pub(crate) fn needs_bytes(self) -> bool
+        ensures { IsTrue result ↔ NeedsBytes self }
+    {
+        match self {
+            Run::Zeros(count) => count == 0,
+            _ => true,
         }
     }
 

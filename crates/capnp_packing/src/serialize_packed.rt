@@ -7,13 +7,11 @@ ghost use Rattle.capnp_model.specs.Packing.{unpacked};
 ghost use Rattle.capnp_model.specs.Messages.{packed_message};
 ghost use Rattle.capnp_model.specs.Spelling.{CanSpell};
 ghost use Rattle.capnp_stream.specs.Counting.{Counts};
-ghost use Rattle.capnp_stream.specs.Segments.{segments_of};
-ghost use Rattle.capnp_stream.specs.Frames.{IsFrameFault, TakesMessage, TakesStart, IsFramingKind, IsReadKind};
-ghost use Rattle.capnp_stream.specs.Buffers.{found_segments};
-ghost use Rattle.capnp_stream.specs.Lent.{NeedsMore, IsFillKind};
-ghost use Rattle.capnp_stream.specs.Streams.{AppendsPart, RoomFalls, IsWriteRefusal};
+ghost use Rattle.capnp_stream.specs.Reading.{TriesMessage, ReadsMessage, source_seen};
+ghost use Rattle.capnp_stream.specs.Filling.{TriesFilling, FillsMessage};
 ghost use Rattle.capnp_packing.specs.Streams.{is_packed_fault};
 ghost use Rattle.capnp_stream.specs.Writing.{IsSegment, AreWritable};
+ghost use Rattle.capnp_stream.specs.Writes.{Writes, sink_seen};
 
 use crate::form::Packed;
 use capnp_stream::buffers::NoAllocSliceSegments;
@@ -35,16 +33,9 @@ pub fn try_read_message<R: BufRead>(
     source: &mut R,
     limit: Option<usize>,
 ) -> Result<Option<OwnedSegments>>
-    // One message is taken, whatever follows it.
-    ensures message { IfOk result (λ o. IfSome o (λ m. TakesMessage unpacked limit (R.remaining source.old) (R.remaining source.new) (segments_of m))) }
-    ensures kept { IfOk result (λ o. IfSome o (λ m. CanSpell limit (segments_of m))) }
-    ensures none { IfOk result (λ o. IfNone o (IsAtEnd (R.remaining source.old) × Keeps (R.remaining source.old) (R.remaining source.new))) }
-
-    // The bytes that are left begin with no message, and the kind says why.
-    ensures refused { IfErr result (λ e. IsFramingKind e.kind → IfSome (R.remaining source.old) (λ xs. (xs ≢ []) × IsFrameFault unpacked limit xs e.kind)) }
-    ensures kind { IfErr result (λ e. IsReadKind is_packed_fault e.kind) }
-    ensures part { OnErr result (TakesStart unpacked limit (R.remaining source.old) (R.remaining source.new)) }
-    ensures count { Counts result (R.failures source.old) (R.failures source.new) }
+    ensures { TriesMessage unpacked is_packed_fault limit
+        (source_seen R.remaining R.failures source.old) result
+        (source_seen R.remaining R.failures source.new) }
 {
     try_read_message_in::<Packed, R>(alloc, source, limit)
 }
@@ -55,13 +46,9 @@ pub fn read_message<R: BufRead>(
     source: &mut R,
     limit: Option<usize>,
 ) -> Result<OwnedSegments>
-    ensures message { IfOk result (λ m. TakesMessage unpacked limit (R.remaining source.old) (R.remaining source.new) (segments_of m)) }
-    ensures kept { IfOk result (λ m. CanSpell limit (segments_of m)) }
-    ensures no_byte { IfErr result (λ e. e.kind ≡ ErrorKind.PrematureEndOfFile → IsAtEnd (R.remaining source.old) × Keeps (R.remaining source.old) (R.remaining source.new)) }
-    ensures refused { IfErr result (λ e. IsFramingKind e.kind → IfSome (R.remaining source.old) (λ xs. (xs ≢ []) × IsFrameFault unpacked limit xs e.kind)) }
-    ensures kind { IfErr result (λ e. e.kind ≢ ErrorKind.PrematureEndOfFile → IsReadKind is_packed_fault e.kind) }
-    ensures part { OnErr result (TakesStart unpacked limit (R.remaining source.old) (R.remaining source.new)) }
-    ensures count { Counts result (R.failures source.old) (R.failures source.new) }
+    ensures { ReadsMessage unpacked is_packed_fault limit
+        (source_seen R.remaining R.failures source.old) result
+        (source_seen R.remaining R.failures source.new) }
 {
     read_message_in::<Packed, R>(alloc, source, limit)
 }
@@ -74,13 +61,9 @@ pub fn try_read_message_no_alloc<'a, R: BufRead>(
     buffer: &'a mut [u8],
     limit: Option<usize>,
 ) -> Result<Option<NoAllocSliceSegments<'a>>>
-    ensures message { IfOk result (λ o. IfSome o (λ s. TakesMessage unpacked limit (R.remaining source.old) (R.remaining source.new) (words_in (found_segments s)))) }
-    ensures none { IfOk result (λ o. IfNone o (IsAtEnd (R.remaining source.old) × Keeps (R.remaining source.old) (R.remaining source.new))) }
-    ensures refused { IfErr result (λ e. IsFramingKind e.kind → IfSome (R.remaining source.old) (λ xs. (xs ≢ []) × IsFrameFault unpacked limit xs e.kind)) }
-    ensures short { IfErr result (λ e. e.kind ≡ ErrorKind.BufferNotLargeEnough → IfSome (R.remaining source.old) (NeedsMore unpacked limit (length buffer.old))) }
-    ensures kind { IfErr result (λ e. IsFillKind is_packed_fault e.kind) }
-    ensures part { OnErr result (TakesStart unpacked limit (R.remaining source.old) (R.remaining source.new)) }
-    ensures failures { Counts result (R.failures source.old) (R.failures source.new) }
+    ensures { TriesFilling unpacked is_packed_fault limit (length buffer.old)
+        (source_seen R.remaining R.failures source.old) result
+        (source_seen R.remaining R.failures source.new) }
 {
     try_read_message_no_alloc_in::<Packed, R>(source, buffer, limit)
 }
@@ -93,13 +76,9 @@ pub fn read_message_no_alloc<'a, R: BufRead>(
     buffer: &'a mut [u8],
     limit: Option<usize>,
 ) -> Result<NoAllocSliceSegments<'a>>
-    ensures message { IfOk result (λ s. TakesMessage unpacked limit (R.remaining source.old) (R.remaining source.new) (words_in (found_segments s))) }
-    ensures no_byte { IfErr result (λ e. e.kind ≡ ErrorKind.PrematureEndOfFile → IsAtEnd (R.remaining source.old) × Keeps (R.remaining source.old) (R.remaining source.new)) }
-    ensures refused { IfErr result (λ e. IsFramingKind e.kind → IfSome (R.remaining source.old) (λ xs. (xs ≢ []) × IsFrameFault unpacked limit xs e.kind)) }
-    ensures short { IfErr result (λ e. e.kind ≡ ErrorKind.BufferNotLargeEnough → IfSome (R.remaining source.old) (NeedsMore unpacked limit (length buffer.old))) }
-    ensures kind { IfErr result (λ e. e.kind ≢ ErrorKind.PrematureEndOfFile → IsFillKind is_packed_fault e.kind) }
-    ensures part { OnErr result (TakesStart unpacked limit (R.remaining source.old) (R.remaining source.new)) }
-    ensures failures { Counts result (R.failures source.old) (R.failures source.new) }
+    ensures { FillsMessage unpacked is_packed_fault limit (length buffer.old)
+        (source_seen R.remaining R.failures source.old) result
+        (source_seen R.remaining R.failures source.new) }
 {
     read_message_no_alloc_in::<Packed, R>(source, buffer, limit)
 }
@@ -113,11 +92,9 @@ pub fn write_message_segments<W: Write, S: ReaderSegments>(
     segments: &S,
 ) -> Result<()>
     requires { AreWritable (S.segments segments.now) }
-    ensures ok { OnOk result (Appends (W.contents out.old) (W.contents out.new) (packed_message (words_in (S.segments segments.now)))) }
-    ensures falls { OnOk result (RoomFalls (W.room out.old) (W.room out.new) (length (packed_message (words_in (S.segments segments.now))))) }
-    ensures err { OnErr result (AppendsPart (W.contents out.old) (W.contents out.new) (packed_message (words_in (S.segments segments.now)))) }
-    ensures refusal { IfErr result (λ e. IsWriteRefusal (W.may_grow ⊎ (1 < length (S.segments segments.now))) (W.room out.old) (length (packed_message (words_in (S.segments segments.now)))) e.kind) }
-    ensures count { Counts result (W.failures out.old) (W.failures out.new) }
+    ensures { Writes (W.may_grow ⊎ (1 < length (S.segments segments.now))) (packed_message (words_in (S.segments segments.now)))
+        (sink_seen W.contents W.failures W.room out.old) result
+        (sink_seen W.contents W.failures W.room out.new) }
 {
     write_message_segments_in::<Packed, W, S>(alloc, out, segments)
 }
@@ -125,11 +102,9 @@ pub fn write_message_segments<W: Write, S: ReaderSegments>(
 /// Writes the packed message of one segment, whose whole words these bytes are, fewer than 2^32. After a refusal a beginning of it was written, and the kind is one that `write_message_segments` gives; `OutOfMemory` where the sink wants memory.
 pub fn write_segment<W: Write>(out: &mut W, bytes: &[u8]) -> Result<()>
     requires { IsSegment bytes.now }
-    ensures ok { OnOk result (Appends (W.contents out.old) (W.contents out.new) (packed_message (whole_words bytes.now ∷ []))) }
-    ensures falls { OnOk result (RoomFalls (W.room out.old) (W.room out.new) (length (packed_message (whole_words bytes.now ∷ [])))) }
-    ensures err { OnErr result (AppendsPart (W.contents out.old) (W.contents out.new) (packed_message (whole_words bytes.now ∷ []))) }
-    ensures refusal { IfErr result (λ e. IsWriteRefusal W.may_grow (W.room out.old) (length (packed_message (whole_words bytes.now ∷ []))) e.kind) }
-    ensures count { Counts result (W.failures out.old) (W.failures out.new) }
+    ensures { Writes W.may_grow (packed_message (whole_words bytes.now ∷ []))
+        (sink_seen W.contents W.failures W.room out.old) result
+        (sink_seen W.contents W.failures W.room out.new) }
 {
     write_segment_in::<Packed, W>(out, bytes)
 }

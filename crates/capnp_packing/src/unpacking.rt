@@ -1,15 +1,19 @@
 //! Reads packed pieces.
-ghost use Rattle.std.specs.Prelude.{◌≡◌, ◌+◌, ◌/◌, ◌%◌, length, IfOk, IfErr, OnOk};
+ghost use Rattle.std.specs.Prelude.{◌≡◌, ◌+◌, ◌/◌, ◌%◌, ◌<◌, length, IfOk, IfErr, OnOk, OnErr};
 ghost use Rattle.std.specs.Int.{w64, from_le_bytes};
+ghost use Rattle.std.specs.Io.KnownBytes.{Keeps};
+ghost use Rattle.capnp_units.specs.declared.kinds.ErrorKind.{ErrorKind};
 ghost use Rattle.capnp_model.specs.Bytes.{taken};
 ghost use Rattle.capnp_model.specs.Packing.{byte_at, run_at, with_word, unpacked_from, unpacked};
 ghost use Rattle.capnp_stream.specs.Counting.{Counts};
 ghost use Rattle.capnp_stream.specs.Segments.{whole_words};
 ghost use Rattle.capnp_packing.specs.Parts.{Leads, Takes, Refuses, count_at, tagged};
 ghost use Rattle.capnp_packing.specs.Runs.{run_view, IsOver};
+ghost use Rattle.capnp_packing.specs.Steps.{Reads};
 
 use crate::bytes::byte_or;
 use crate::runs::Run;
+use crate::shown::Step;
 use capnp_stream::traits::{BufRead, Read};
 use capnp_units::errors::{Error, Result};
 use capnp_units::kinds::ErrorKind;
@@ -119,6 +123,55 @@ pub(crate) fn next_word<R: BufRead>(source: &mut R, run: Run, left: usize) -> Re
     }
 }
 
+/// Fills the front of the buffer with what is left of a run and with whole groups, as far as the source shows them.
+fn shown_words<R: BufRead>(source: &mut R, run: Run, buf: &mut [u8]) -> Result<Step>
+    requires { length buf.old % 8 ≡ 0 }
+    ensures words { IfOk result (λ s. Reads run (R.remaining source.old) (R.remaining source.new) buf.new s) }
+    ensures kept { OnErr result (Keeps (R.remaining source.old) (R.remaining source.new)) }
+    ensures refusal { IfErr result (λ e. e.kind ≡ ErrorKind.Device) }
+    ensures count { Counts result (R.failures source.old) (R.failures source.new) }
+{
+    let step = Step::of_shown(run, source.fill_buf()?, buf);
+    source.consume(step.taken);
+    Ok(step)
+}
+
+/// Fills the front of the buffer with the next word of a piece, whose words it has room for, byte by byte.
+fn one_word<R: BufRead>(source: &mut R, run: Run, buf: &mut [u8]) -> Result<Step>
+    requires whole { length buf.old % 8 ≡ 0 }
+    requires some { 0 < length buf.old }
+    ensures word { IfOk result (λ s. Reads run (R.remaining source.old) (R.remaining source.new) buf.new s × (s.filled ≡ 8)) }
+    ensures refused { IfErr result (λ e. Refuses (unpacked_from (length buf.old / 8) (run_view run)) (R.remaining source.old) (R.remaining source.new) e.kind) }
+    ensures count { Counts result (R.failures source.old) (R.failures source.new) }
+{
+    let next = next_word(source, run, buf.len() / 8 - 1)?;
+    buf[..8].copy_from_slice(&next.word);
+    Ok(Step {
+        taken: 0,
+        filled: 8,
+        run: next.run,
+    })
+}
+
+/// Fills the front of the buffer with the next words of a piece, whose words it has room for. What a source shows is taken in whole groups; a group that isn't shown whole is read byte by byte.
+fn next_words<R: BufRead>(source: &mut R, run: Run, buf: &mut [u8]) -> Result<Step>
+    requires whole { length buf.old % 8 ≡ 0 }
+    requires some { 0 < length buf.old }
+    ensures words { IfOk result (λ s. Reads run (R.remaining source.old) (R.remaining source.new) buf.new s × (0 < s.filled)) }
+    ensures refused { IfErr result (λ e. Refuses (unpacked_from (length buf.old / 8) (run_view run)) (R.remaining source.old) (R.remaining source.new) e.kind) }
+    ensures count { Counts result (R.failures source.old) (R.failures source.new) }
+{
+    // The zero words of a run need no byte, so that none is asked for.
+    if !run.needs_bytes() {
+        return Ok(Step::of_run(run, &[], buf));
+    }
+    let step = shown_words(source, run, buf)?;
+    if step.filled > 0 {
+        return Ok(step);
+    }
+    one_word(source, step.run, buf)
+}
+
 /// Fills the buffer with the words of one piece, which are as many as it holds.
 pub(crate) fn read_words<R: BufRead>(source: &mut R, buf: &mut [u8]) -> Result<()>
     requires { length buf.old % 8 ≡ 0 }
@@ -129,10 +182,9 @@ pub(crate) fn read_words<R: BufRead>(source: &mut R, buf: &mut [u8]) -> Result<(
     let mut run = Run::First;
     let mut at = 0;
     while at < buf.len() {
-        let next = next_word(source, run, (buf.len() - at) / 8 - 1)?;
-        buf[at..at + 8].copy_from_slice(&next.word);
-        run = next.run;
-        at += 8;
+        let step = next_words(source, run, &mut buf[at..])?;
+        run = step.run;
+        at += step.filled;
     }
     Ok(())
 }

@@ -5,3 +5,8 @@ pub mod Overlaps
 pub mod Breaks
 pub mod PlainStructs
 pub mod Segments
+pub mod Forward
+pub mod Marked
+pub mod Members
+pub mod DistinctNames
+pub mod Below

@@ -51,16 +51,18 @@ found_first earlier i [] h k n e = absurd (nothing k e)
     nothing (suc k) g = cc g
 found_first earlier i (m ∷ ns) h zero n e =
     let split = kept_first (has_new_id earlier m) i (first_break_from (λ e n. has_new_id e n) (earlier ++ m ∷ []) (suc i) ns) h in
-    let is : m ≡ n = cc e in
-    ( not_true (list_any (λ p. p.id == n.id) earlier) (ap (λ x. not (list_any (λ p. p.id == x.id) earlier)) (sym is) ∙ split.0)
-    , ap (λ b. if b then Some m else find_node ns n.id) (ap (λ x. x.id == n.id) is ∙ number_is n.id) ∙ ap (λ x. Some x) is )
+    let is : m ≡ n = cc e in (
+      not_true (list_any (λ p. p.id == n.id) earlier) (ap (λ x. not (list_any (λ p. p.id == x.id) earlier)) (sym is) ∙ split.0),
+      ap (λ b. if b then Some m else find_node ns n.id) (ap (λ x. x.id == n.id) is ∙ number_is n.id) ∙ ap (λ x. Some x) is,
+    )
 found_first earlier i (m ∷ ns) h (suc k) n e =
     let split = kept_first (has_new_id earlier m) i (first_break_from (λ e n. has_new_id e n) (earlier ++ m ∷ []) (suc i) ns) h in
     let more = found_first (earlier ++ m ∷ []) (suc i) ns split.1 k n e in
     let parts : (list_any (λ p. p.id == n.id) earlier || ((m.id == n.id) || false)) ≡ false = sym (list_any-append (λ p. p.id == n.id) earlier (m ∷ [])) ∙ more.0 in
-    let other : (m.id == n.id) ≡ false = or_left (m.id == n.id) false (or_right (list_any (λ p. p.id == n.id) earlier) ((m.id == n.id) || false) parts) in
-    ( or_left (list_any (λ p. p.id == n.id) earlier) ((m.id == n.id) || false) parts
-    , ap (λ b. if b then Some m else find_node ns n.id) other ∙ more.1 )
+    let other : (m.id == n.id) ≡ false = or_left (m.id == n.id) false (or_right (list_any (λ p. p.id == n.id) earlier) ((m.id == n.id) || false) parts) in (
+      or_left (list_any (λ p. p.id == n.id) earlier) ((m.id == n.id) || false) parts,
+      ap (λ b. if b then Some m else find_node ns n.id) other ∙ more.1,
+    )
 
 pub place_is_found : (nodes : List Node) → IsAccepted nodes → (k : ℕ) (n : Node) → slice_get nodes k ≡ Some n → find_node nodes n.id ≡ Some n
 place_is_found nodes h k n e = let first = behind nodes 1 11 h in (found_first [] 0 nodes first.0 k n e).1
@@ -124,21 +126,21 @@ some_long [] (suc k) x e = absurd (cc e)
 some_long (y ∷ ys) k x e = omega arith
 
 -- the record is that of the plain struct at the raw schema's place
-pub record_is : (nodes : List Node) → IsAccepted nodes → (raw : RawBrandedStructSchema) (n : Node) (r : StructRecord) → slice_get nodes raw.number ≡ Some n → n.kind ≡ struct_node (struct_of r) → (n.id == raw.id && is_struct_node n && is_taken_node n) ≡ true → IsRecordOf nodes raw.id r
+pub record_is : (nodes : List Node) → IsAccepted nodes → (raw : RawBrandedStructSchema) (n : Node) (r : StructRecord) → slice_get nodes raw.number ≡ Some n → n.kind ≡ struct_node (struct_of r) → (n.id == raw.id && (is_struct_node n && is_taken_node n)) ≡ true → IsRecordOf nodes raw.id r
 unfolding schema_of
 record_is nodes accepted raw n r at k h =
-    let front = and_left (n.id == raw.id && is_struct_node n) (is_taken_node n) h in
-    let id : n.id ≡ raw.id = same_number n.id raw.id (and_left (n.id == raw.id) (is_struct_node n) front) in
+    let id : n.id ≡ raw.id = same_number n.id raw.id (and_left (n.id == raw.id) (is_struct_node n && is_taken_node n) h) in
+    let plain_node : is_taken_node n ≡ true = and_right (is_struct_node n) (is_taken_node n) (and_right (n.id == raw.id) (is_struct_node n && is_taken_node n) h) in
     let s = struct_of r in
-    let plain : is_taken_body (struct_node s) ≡ true = ap is_taken_body (sym k) ∙ and_right (has_none n.annotations) (is_taken_body n.kind) (and_right (n.id == raw.id && is_struct_node n) (is_taken_node n) h) in
+    let plain : is_taken_body (struct_node s) ≡ true = ap is_taken_body (sym k) ∙ and_right (has_none n.annotations) (is_taken_body n.kind) plain_node in
     let start : (not s.is_group && s.discriminant_count == 0) ≡ true = and_left (not s.is_group && s.discriminant_count == 0) (list_all is_taken_field s.fields) plain in
     let taken : list_all is_taken_field s.fields ≡ true = and_right (not s.is_group && s.discriminant_count == 0) (list_all is_taken_field s.fields) plain in
     let no_union : s.discriminant_count ≡ 0 = zero_is s.discriminant_count (and_right (not s.is_group) (s.discriminant_count == 0) start) in
     let no_group : s.is_group ≡ false = not_true s.is_group (and_left (not s.is_group) (s.discriminant_count == 0) start) in
     let found : find_node nodes n.id ≡ Some n = place_is_found nodes accepted raw.number n at in
     let group : names_a is_group_node nodes n.id ≡ false =
-        ap (λ (o : Option Node). elim o as (λ (x : Option Node). Bool) [ None ↦ false | Some m ↦ is_group_node m ]) found
-        ∙ ap (λ (x : NodeKind). elim x as (λ (y : NodeKind). Bool) [ struct_node t ↦ t.is_group | enum_node es ↦ false ]) k ∙ no_group in
+    ap (λ (o : Option Node). elim o as (λ (x : Option Node). Bool) [ None ↦ false | Some m ↦ is_group_node m ]) found
+    ∙ ap (λ (x : NodeKind). elim x as (λ (y : NodeKind). Bool) [ struct_node t ↦ t.is_group | enum_node es ↦ false ]) k ∙ no_group in
     let places : on_struct has_places n ≡ true = passed_at (on_struct has_places) nodes raw.number n (places_kept nodes accepted) at in
     record {
       no_group = ap (names_a is_group_node nodes) (sym id) ∙ group;

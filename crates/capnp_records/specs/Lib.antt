@@ -4,6 +4,8 @@ pub mod Faults
 pub mod Sets
 pub mod Storage
 pub mod Claims
+pub mod Marks
+pub mod Levels
 pub mod Segments
 pub mod Slots
 pub mod Structs

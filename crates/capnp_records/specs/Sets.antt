@@ -1,5 +1,5 @@
 -- What contracts see of schema sets.
-use Rattle.std.specs.Prelude.{ℕ, ◌≡◌, true, false, ◌&&◌, ◌==◌, Some, None, slice_get, List, map}
+use Rattle.std.specs.Prelude.{ℕ, Bool, ◌≡◌, true, false, ◌&&◌, ◌==◌, Some, None, slice_get, List, map}
 use Rattle.std.specs.List.{list_all}
 use Rattle.capnp_model.specs.Schemas.{Node, shape}
 use Rattle.capnp_model.specs.Accepted.{is_struct_node, schema_of, no_shape, fields_from, has_places}
@@ -17,9 +17,13 @@ nodes_of set = map node_of set.nodes.items
 abbrev pub IsStructOf : List Node → RawBrandedStructSchema → Type 0
 IsStructOf nodes raw = elim (slice_get nodes raw.number) [ None ↦ false | Some n ↦ n.id == raw.id && is_struct_node n ] ≡ true
 
+-- A struct that is no group, and plain.
+abbrev pub is_plain_struct : Node → Bool
+is_plain_struct n = is_struct_node n && is_taken_node n
+
 -- At the raw schema's place stands the struct of its id, and it is plain.
 abbrev pub IsPlainStructOf : List Node → RawBrandedStructSchema → Type 0
-IsPlainStructOf nodes raw = elim (slice_get nodes raw.number) [ None ↦ false | Some n ↦ n.id == raw.id && is_struct_node n && is_taken_node n ] ≡ true
+IsPlainStructOf nodes raw = elim (slice_get nodes raw.number) [ None ↦ false | Some n ↦ n.id == raw.id && is_plain_struct n ] ≡ true
 
 -- The record is that of the struct of an id, a plain one, in nodes that are accepted.
 pub record IsRecordOf (nodes : List Node) (id : ℕ) (r : StructRecord) : Type 0 where

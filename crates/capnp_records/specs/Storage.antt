@@ -1,12 +1,12 @@
 -- How the slots of a struct are stored. (Encoding, "Structs")
-use Rattle.std.specs.Prelude.{ℕ, List, [], ◌∷◌}
+use Rattle.std.specs.Prelude.{ℕ, ◌*◌, ◌<◌, List, [], ◌∷◌, ⊤}
 use Rattle.std.specs.List.{flat_map}
 use Rattle.capnp_model.specs.Schemas.{width, Ty, void, plain, text, blob, untyped, interface, struct, list}
 use Rattle.capnp_model.specs.Accepted.{Area as ModelArea, bit_area, pointer_area}
 use Rattle.capnp_records.specs.declared.storage.Storage.{Storage}
 use Rattle.capnp_records.specs.declared.storage.Storage.TheVariants.{Nothing, Bits, Pointer}
-use Rattle.capnp_records.specs.declared.storage.Area.{Area}
-use Rattle.capnp_records.specs.declared.storage.Area.TheVariants as A
+use Rattle.capnp_records.specs.declared.area.Area.{Area}
+use Rattle.capnp_records.specs.declared.area.Area.TheVariants as A
 
 -- How a type is stored.
 abbrev pub storage_of : Ty → Storage
@@ -25,10 +25,16 @@ bits_in Nothing = 0
 bits_in (Bits n) = n
 bits_in Pointer = 0
 
+-- A value takes some bits.
+abbrev pub IsWide : Storage → Type 0
+IsWide Nothing = ⊤
+IsWide (Bits n) = 0 < n
+IsWide Pointer = ⊤
+
 -- An area as the model lists it.
 abbrev pub areas_in : Area → List ModelArea
 areas_in A.Empty = []
-areas_in (A.Bits first count) = bit_area first count ∷ []
+areas_in (A.Bits s) = bit_area (s.width * s.place) s.width ∷ []
 areas_in (A.Pointer place) = pointer_area place ∷ []
 
 -- Areas as the model lists them.

@@ -30,11 +30,7 @@ fn keeps_union(alloc: Global, node: &NodeRecord) -> Result<bool, AllocError>
     }
 }
 
-fn keeps_places(
-    alloc: Global,
-    nodes: &[NodeRecord],
-    node: &NodeRecord,
-) -> Result<bool, AllocError>
+fn keeps_places(alloc: Global, nodes: &[NodeRecord], node: &NodeRecord) -> Result<bool, AllocError>
     ensures { IfOk result (λ b. b ≡ (not (is_struct_node (node_of node.now)) || has_no_overlap (shape_in (map node_of nodes.now) (length nodes.now) (node_of node.now).id))) }
 {
     Ok(!is_struct(node) || has_no_overlap(alloc, nodes, nodes.len(), node.id)?)
@@ -68,11 +64,7 @@ fn keeps(
 }
 
 /// The place of the first node that breaks the rule of a number.
-fn first_break(
-    alloc: Global,
-    nodes: &[NodeRecord],
-    rule: u32,
-) -> Result<Option<usize>, AllocError>
+fn first_break(alloc: Global, nodes: &[NodeRecord], rule: u32) -> Result<Option<usize>, AllocError>
     ensures { IfOk result (λ place. place ≡ first_break (map node_of nodes.now) rule) }
 {
     for i in 0..nodes.len() {

@@ -34,10 +34,7 @@ fn is_value_of(base: BaseType, value: &Value) -> bool
     ensures { result ≡ is_default_of (base_type (base_of base)) (Some (value_of value.now)) }
 {
     match value {
-        Value::Void => matches!(
-            base,
-            BaseType::Void | BaseType::Float32 | BaseType::Float64
-        ),
+        Value::Void => matches!(base, BaseType::Void | BaseType::Float32 | BaseType::Float64),
         Value::Bool(_) => matches!(base, BaseType::Bool),
         Value::Int8(n) => {
             let _n = *n;

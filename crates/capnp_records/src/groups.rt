@@ -1,14 +1,16 @@
 //! The rule of groups: a group is used by exactly one group field, in no cycle, and fits into its holder.
 
-ghost use Rattle.std.specs.Prelude.{◌≡◌, ◌==◌, ◌&&◌, ◌||◌, not, nat_le, Some, map, length, option_map, option_copied, count_by, IfOk};
+ghost use Rattle.std.specs.Prelude.{◌≡◌, ◌==◌, true, Some, [], ◌∷◌, map, length, option_map, option_copied, count_by, IfOk};
 ghost use Rattle.std.specs.List.{list_any, flat_map};
-ghost use Rattle.capnp_model.specs.Accepted.{groups_of_field, groups_used, find_node, holder_of, sizes_of, fits_in, meets_below, uses_of, is_good_group};
+ghost use Rattle.capnp_model.specs.Accepted.{groups_of_field, groups_used, holder_of, sizes_of, fits_in, meets_below, uses_of, is_good_group};
 ghost use Rattle.capnp_records.specs.NodeViews.{kind_of_field, field_of, node_of};
+ghost use Rattle.capnp_records.specs.Levels.{groups_below, PassSame, PassMore};
 
 use crate::find::{find_node, is_group};
 use crate::node::{FieldBody, FieldRecord, NodeBody, NodeRecord};
-use crate::parts::push_groups_of;
+use crate::parts::{groups_of, push_groups_of};
 use std::alloc::{AllocError, Global};
+use std::collections::HashSet;
 
 // ---- uses
 
@@ -83,38 +85,90 @@ fn fits_in(node: &NodeRecord, holder: Option<&NodeRecord>) -> bool
 
 // ---- cycles
 
-/// Whether the id is met going down through group fields, at most so many levels.
-#[cycle(below)]
-fn meets_below(nodes: &[NodeRecord], levels: usize, id: u64, node: Option<&NodeRecord>) -> bool
-    ensures { result ≡ meets_below (map node_of nodes.now) levels id (option_map node_of (option_copied node.entry)) }
+/// Appends an id, unless it is among those that are seen.
+fn push_new(ids: &mut Vec<u64>, seen: &mut HashSet<u64>, id: u64) -> Result<(), AllocError>
+    requires { PassSame seen.old.keys ids.old.items }
+    ensures same { IfOk result (λ _. PassSame seen.new.keys ids.new.items) }
+    ensures more { IfOk result (λ _. PassMore ids.old.items ids.new.items (id ∷ [])) }
 {
-    let Some(node) = node else {
-        return false;
-    };
-    if levels == 0 {
-        return false;
+    if !seen.insert(id)? {
+        return Ok(());
     }
-    match &node.body {
-        NodeBody::Struct(record) => fields_meet(nodes, levels - 1, id, &record.fields),
-        NodeBody::Enum(_) => false,
+    ids.push(id)?;
+    Ok(())
+}
+
+/// Appends ids, each unless it is among those that are seen.
+fn push_all_new(
+    ids: &mut Vec<u64>,
+    seen: &mut HashSet<u64>,
+    more: &[u64],
+) -> Result<(), AllocError>
+    requires { PassSame seen.old.keys ids.old.items }
+    ensures same { IfOk result (λ _. PassSame seen.new.keys ids.new.items) }
+    ensures more { IfOk result (λ _. PassMore ids.old.items ids.new.items more.now) }
+{
+    for id in more {
+        push_new(ids, seen, *id)?;
+    }
+    Ok(())
+}
+
+/// The ids of the groups that the fields of the node of an id are.
+fn groups_below(alloc: Global, nodes: &[NodeRecord], id: u64) -> Result<Vec<u64>, AllocError>
+    ensures { IfOk result (λ v. v.items ≡ groups_below (map node_of nodes.now) id) }
+{
+    match find_node(nodes, id) {
+        None => Ok(Vec::new(alloc)),
+        Some(node) => groups_of(alloc, node),
     }
 }
 
-/// Whether one of the groups that the fields are is the one of the id, or meets it.
-#[cycle(below)]
-fn fields_meet(nodes: &[NodeRecord], levels: usize, id: u64, fields: &[FieldRecord]) -> bool
-    ensures { result ≡ list_any (λ g. g == id || meets_below (map node_of nodes.now) levels id (find_node (map node_of nodes.now) g)) (flat_map (λ f. groups_of_field f.kind) (map field_of fields.now)) }
+/// The ids of the groups one level below those of the ids, each once.
+fn next_level(alloc: Global, nodes: &[NodeRecord], ids: &[u64]) -> Result<Vec<u64>, AllocError>
+    ensures { IfOk result (λ v. PassSame v.items (flat_map (groups_below (map node_of nodes.now)) ids.now)) }
 {
-    let mut rest = fields;
-    while let [first, others @ ..] = rest {
-        if let FieldBody::Group { node } = &first.body {
-            if *node == id || meets_below(nodes, levels, id, find_node(nodes, *node)) {
-                return true;
-            }
-        }
-        rest = others;
+    let mut next = Vec::new(alloc);
+    let mut seen = HashSet::new(alloc);
+    for id in ids {
+        let more = groups_below(alloc, nodes, *id)?;
+        push_all_new(&mut next, &mut seen, &more)?;
     }
-    false
+    Ok(next)
+}
+
+fn has_group(ids: &[u64], id: u64) -> bool
+    ensures { result ≡ list_any (λ g. g == id) ids.now }
+{
+    ids.iter().any(|other| *other == id)
+}
+
+fn is_nothing(ids: &[u64]) -> bool
+    ensures { result ≡ true → ids.now ≡ [] }
+{
+    ids.is_empty()
+}
+
+/// Whether a group's id is met going down through its group fields, level by level.
+fn meets_itself(alloc: Global, nodes: &[NodeRecord], node: &NodeRecord) -> Result<bool, AllocError>
+    ensures { IfOk result (λ b. b ≡ meets_below (map node_of nodes.now) (length nodes.now) (node_of node.now).id (Some (node_of node.now))) }
+{
+    if nodes.is_empty() {
+        return Ok(false);
+    }
+    let mut ids = groups_of(alloc, node)?;
+    let mut left = nodes.len() - 1;
+    while left > 0 {
+        if has_group(&ids, node.id) {
+            return Ok(true);
+        }
+        ids = next_level(alloc, nodes, &ids)?;
+        if is_nothing(&ids) {
+            return Ok(false);
+        }
+        left -= 1;
+    }
+    Ok(has_group(&ids, node.id))
 }
 
 // ---- the rule
@@ -139,7 +193,9 @@ pub(crate) fn is_good_group(
     if !is_group(node) {
         return Ok(true);
     }
-    Ok(is_used_once(alloc, nodes, node.id)?
-        && !meets_below(nodes, nodes.len(), node.id, Some(node))
-        && fits_in(node, holder_of(nodes, node.id)))
+    Ok(
+        is_used_once(alloc, nodes, node.id)?
+            && !meets_itself(alloc, nodes, node)?
+            && fits_in(node, holder_of(nodes, node.id)),
+    )
 }

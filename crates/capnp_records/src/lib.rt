@@ -1,11 +1,13 @@
 //! The schema layer of Cap'n Proto: node records as a caller writes them, and sets of them that keep the schema rules.
 #![tactic(auto)]
 
+mod area;
 mod check;
 mod defaults;
 pub mod fault;
 mod find;
 mod groups;
+mod marks;
 mod names;
 pub mod node;
 mod overlap;

@@ -1,15 +1,18 @@
 //! The rule of places: two fields of a struct or a group share a bit or a pointer, those of their groups included, only where they are two members of its union, and none shares a bit with its discriminant.
 
-ghost use Rattle.std.specs.Prelude.{◌≡◌, ◌&&◌, ◌||◌, false, map, IfOk, IfSome, IfNone};
-ghost use Rattle.std.specs.List.{list_all};
-ghost use Rattle.capnp_model.specs.Accepted.{field_body, shape_in, union_place, union_area, are_apart, areas_of, areas_of_body, has_no_overlap, body_has_no_overlap};
+ghost use Rattle.std.specs.Prelude.{◌≡◌, ◌&&◌, false, map, IfOk, IfSome, IfNone};
+ghost use Rattle.std.specs.Bool.{MatchBool};
+ghost use Rattle.capnp_model.specs.Accepted.{field_body, shape_in, union_place, union_area, areas_of, areas_of_body, has_no_overlap, body_has_no_overlap};
 ghost use Rattle.capnp_records.specs.NodeViews.{kind_of_field, field_of, struct_of, node_of};
-ghost use Rattle.capnp_records.specs.Storage.{areas_in, areas_seen};
+ghost use Rattle.capnp_records.specs.Storage.{areas_seen};
+ghost use Rattle.capnp_records.specs.Marks.{AllowsAll, Refuses, Puts, most_mark, level_mark};
 ghost use Rattle.capnp_records.specs.Claims.{claim_of, claim_in, claims_in, claims_are_apart, areas_claimed, groups_have_no_overlap, IsWritten, IsUnwritten};
 
+use crate::area::{Area, Span};
 use crate::find::find_node;
+use crate::marks::Marks;
 use crate::node::{FieldBody, FieldRecord, NO_DISCRIMINANT, NodeBody, NodeRecord, StructRecord};
-use crate::storage::{Area, area_of, share};
+use crate::storage::area_of;
 use std::alloc::{AllocError, Global};
 
 /// What a field of a struct or its discriminant takes, and whether the field is a union member.
@@ -117,10 +120,10 @@ fn discriminant(alloc: Global, holder: &StructRecord) -> Result<Claim, AllocErro
 {
     let mut areas = Vec::new(alloc);
     if holder.discriminant_count != 0 {
-        areas.push(Area::Bits {
-            first: 16 * u64::from(holder.discriminant_offset),
-            count: 16,
-        })?;
+        areas.push(Area::Bits(Span {
+            width: 16,
+            place: holder.discriminant_offset,
+        }))?;
     }
     Ok(Claim {
         is_member: false,
@@ -141,56 +144,54 @@ fn areas_in_claims(alloc: Global, claims: &[Claim]) -> Result<Vec<Area>, AllocEr
 
 // ---- what they share
 
-fn shares_with_none(area: Area, others: &[Area]) -> bool
-    ensures { result ≡ are_apart (areas_in area) (areas_seen others.now) }
+/// Whether no mark of the areas is above the highest.
+fn allows_all(marks: &Marks, areas: &[Area], most: u8) -> bool
+    ensures { MatchBool result (AllowsAll marks.now (areas_seen areas.now) most) (Refuses marks.now (areas_seen areas.now) most) }
 {
-    let mut rest = others;
-    while let [first, more @ ..] = rest {
-        if share(area, *first) {
+    for area in areas {
+        if !marks.allows(*area, most) {
             return false;
         }
-        rest = more;
     }
     true
 }
 
-fn are_apart(areas: &[Area], others: &[Area]) -> bool
-    ensures { result ≡ are_apart (areas_seen areas.now) (areas_seen others.now) }
+/// Makes the marks of the areas at least the level.
+fn put_all(marks: &mut Marks, areas: &[Area], level: u8) -> Result<(), AllocError>
+    ensures { IfOk result (λ _. Puts marks.old marks.new (areas_seen areas.now) level) }
 {
-    let mut rest = areas;
-    while let [first, more @ ..] = rest {
-        if !shares_with_none(*first, others) {
-            return false;
-        }
-        rest = more;
+    for area in areas {
+        marks.put(*area, level)?;
     }
-    true
+    Ok(())
 }
 
-fn may_share_with(claim: &Claim, others: &[Claim]) -> bool
-    ensures { result ≡ list_all (λ d. ((claim_of claim.now).0 && d.0) || are_apart (claim_of claim.now).1 d.1) (map claim_of others.now) }
+/// The highest mark that a field may meet: a union member may meet other members.
+fn most_mark(is_member: bool) -> u8
+    ensures { result ≡ most_mark is_member }
 {
-    let mut rest = others;
-    while let [first, more @ ..] = rest {
-        if !(claim.is_member && first.is_member) && !are_apart(&claim.areas, &first.areas) {
-            return false;
-        }
-        rest = more;
-    }
-    true
+    if is_member { 1 } else { 0 }
 }
 
-fn are_claims_apart(claims: &[Claim]) -> bool
-    ensures { result ≡ claims_are_apart (map claim_of claims.now) }
+/// The mark of what a field takes.
+fn level_mark(is_member: bool) -> u8
+    ensures { result ≡ level_mark is_member }
 {
-    let mut rest = claims;
-    while let [first, more @ ..] = rest {
-        if !may_share_with(first, more) {
-            return false;
+    if is_member { 1 } else { 2 }
+}
+
+/// Whether two claims share only where both are members'.
+fn are_claims_apart(alloc: Global, claims: &[Claim]) -> Result<bool, AllocError>
+    ensures { IfOk result (λ b. b ≡ claims_are_apart (map claim_of claims.now)) }
+{
+    let mut marks = Marks::new(alloc);
+    for claim in claims {
+        if !allows_all(&marks, &claim.areas, most_mark(claim.is_member)) {
+            return Ok(false);
         }
-        rest = more;
+        put_all(&mut marks, &claim.areas, level_mark(claim.is_member))?;
     }
-    true
+    Ok(true)
 }
 
 // ---- the rule
@@ -209,7 +210,7 @@ pub(crate) fn has_no_overlap(
         None => Ok(true),
         Some(holder) => {
             let claims = claims_of(alloc, nodes, levels - 1, holder)?;
-            if !are_claims_apart(&claims) {
+            if !are_claims_apart(alloc, &claims)? {
                 return Ok(false);
             }
             have_no_overlap(alloc, nodes, levels - 1, &holder.fields)

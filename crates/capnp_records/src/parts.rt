@@ -12,7 +12,10 @@ use std::alloc::{AllocError, Global};
 
 // ---- types
 
-fn push_types(types: &mut Vec<TypeRecord>, annotations: &[AnnotationRecord]) -> Result<(), AllocError>
+fn push_types(
+    types: &mut Vec<TypeRecord>,
+    annotations: &[AnnotationRecord],
+) -> Result<(), AllocError>
     ensures { IfOk result (λ _. map type_record_of types.new.items ≡ map type_record_of types.old.items ++ map (λ a. a.type) (map annotation_of annotations.now)) }
 {
     for annotation in annotations {
@@ -41,7 +44,10 @@ fn push_field_types(types: &mut Vec<TypeRecord>, fields: &[FieldRecord]) -> Resu
     Ok(())
 }
 
-fn push_enumerant_types(types: &mut Vec<TypeRecord>, enumerants: &[EnumerantRecord]) -> Result<(), AllocError>
+fn push_enumerant_types(
+    types: &mut Vec<TypeRecord>,
+    enumerants: &[EnumerantRecord],
+) -> Result<(), AllocError>
     ensures { IfOk result (λ _. map type_record_of types.new.items ≡ map type_record_of types.old.items ++ map (λ a. a.type) (flat_map (λ as'. as') (map (λ e. e.annotations) (map enumerant_of enumerants.now)))) }
 {
     for enumerant in enumerants {
@@ -103,7 +109,10 @@ pub(crate) fn groups_of(alloc: Global, node: &NodeRecord) -> Result<Vec<u64>, Al
 
 // ---- names
 
-fn push_field_names<'a>(names: &mut Vec<&'a str>, fields: &'a [FieldRecord]) -> Result<(), AllocError>
+fn push_field_names<'a>(
+    names: &mut Vec<&'a str>,
+    fields: &'a [FieldRecord],
+) -> Result<(), AllocError>
     ensures { IfOk result (λ _. map (λ s. s.now) names.new.items ≡ map (λ s. s.now) names.old.items ++ map (λ f. f.name) (map field_of fields.now)) }
 {
     for field in fields {
@@ -112,7 +121,10 @@ fn push_field_names<'a>(names: &mut Vec<&'a str>, fields: &'a [FieldRecord]) -> 
     Ok(())
 }
 
-fn push_enumerant_names<'a>(names: &mut Vec<&'a str>, enumerants: &'a [EnumerantRecord]) -> Result<(), AllocError>
+fn push_enumerant_names<'a>(
+    names: &mut Vec<&'a str>,
+    enumerants: &'a [EnumerantRecord],
+) -> Result<(), AllocError>
     ensures { IfOk result (λ _. map (λ s. s.now) names.new.items ≡ map (λ s. s.now) names.old.items ++ map (λ e. e.name) (map enumerant_of enumerants.now)) }
 {
     for enumerant in enumerants {

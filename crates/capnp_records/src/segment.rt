@@ -103,12 +103,7 @@ fn is_accepted_as(expected: u32, value: &Value) -> bool
             pointers,
             ..
         } => {
-            expected != 1
-                && have_room(
-                    64 * u64::from(*data_words),
-                    u64::from(*pointers),
-                    expected,
-                )
+            expected != 1 && have_room(64 * u64::from(*data_words), u64::from(*pointers), expected)
         }
         Value::Null | Value::Struct { .. } => false,
     }

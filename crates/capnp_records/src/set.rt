@@ -24,7 +24,7 @@ impl SchemaSet {
     ghost use Rattle.capnp_model.specs.Accepted.{IsAccepted, is_struct_node, names_a};
     ghost use Rattle.capnp_records.specs.NodeViews.{node_of};
     ghost use Rattle.capnp_records.specs.Faults.{IsRefusalOf};
-    ghost use Rattle.capnp_records.specs.Sets.{nodes_of, IsStructOf, IsPlainStructOf, IsRecordOf};
+    ghost use Rattle.capnp_records.specs.Sets.{nodes_of, is_plain_struct, IsStructOf, IsPlainStructOf, IsRecordOf};
 
     /// The set of the nodes, where they keep the rules. The rules are tried by number, each over the nodes in order, and
     /// the first that is broken is answered with the place of the first node that breaks it.
@@ -57,15 +57,18 @@ impl SchemaSet {
     /// The struct of an id, where it is plain: it has no annotations, no union and no groups, and its fields are Void, Bool,
     /// whole numbers or Text whose defaults are zero or absent.
     pub fn plain_struct_by_id(&self, id: u64) -> Option<RawBrandedStructSchema>
+        ensures missing { IfNone result (names_a is_plain_struct (nodes_of self.now) id ≡ false) }
         ensures id { IfSome result (λ raw. raw.id ≡ id) }
         ensures found { IfSome result (IsPlainStructOf (nodes_of self.now)) }
     {
-        let raw = self.struct_by_id(id)?;
-        if is_taken_node(&self.nodes[raw.number as usize]) {
-            Some(raw)
-        } else {
-            None
+        let Some((place, node)) = find_place(&self.nodes, id) else {
+            return None;
+        };
+        if !is_struct(node) || !is_taken_node(node) {
+            return None;
         }
+        let number = place as u64;
+        Some(RawBrandedStructSchema { number, id })
     }
 
     pub(crate) fn record(&self, raw: RawBrandedStructSchema) -> &StructRecord

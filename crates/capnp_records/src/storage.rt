@@ -1,11 +1,12 @@
-//! What fields take of the sections of their struct.
+//! How types are stored in a struct, and where its slots lie.
 
-ghost use Rattle.std.specs.Prelude.{◌≡◌, ◌≤◌, not, Option};
+ghost use Rattle.std.specs.Prelude.{◌≡◌, ◌<◌, ◌≤◌, Option};
 ghost use Rattle.capnp_model.specs.Schemas.{Value, base_type, type_of};
-ghost use Rattle.capnp_model.specs.Accepted.{slot_body, areas_of_body, are_apart, has_its_place};
+ghost use Rattle.capnp_model.specs.Accepted.{slot_body, areas_of_body, has_its_place};
 ghost use Rattle.capnp_records.specs.NodeViews.{base_of, type_record_of, kind_of_field, struct_of};
-ghost use Rattle.capnp_records.specs.Storage.{storage_of, bits_in, areas_in};
+ghost use Rattle.capnp_records.specs.Storage.{storage_of, bits_in, IsWide, areas_in};
 
+use crate::area::{Area, Span};
 use crate::node::{BaseType, FieldBody, StructRecord, TypeRecord};
 
 /// How a type is stored in a struct.
@@ -17,18 +18,11 @@ pub(crate) enum Storage {
     Pointer,
 }
 
-/// What a field takes of its struct's sections.
-#[derive(Clone, Copy)]
-pub(crate) enum Area {
-    Empty,
-    Bits { first: u64, count: u64 },
-    Pointer { place: u32 },
-}
-
 // A float, which no accepted schema names, counts as Void.
 fn storage_of_base(base: BaseType) -> Storage
     ensures same { result ≡ storage_of (base_type (base_of base)) }
     ensures narrow { bits_in result ≤ 64 }
+    ensures wide { IsWide result }
 {
     match base {
         BaseType::Void | BaseType::Float32 | BaseType::Float64 => Storage::Nothing,
@@ -49,6 +43,7 @@ fn storage_of_base(base: BaseType) -> Storage
 pub(crate) fn storage_of(ty: TypeRecord) -> Storage
     ensures same { result ≡ storage_of (type_of (type_record_of ty)) }
     ensures narrow { bits_in result ≤ 64 }
+    ensures wide { IsWide result }
 {
     if ty.list_count > 0 {
         return Storage::Pointer;
@@ -81,33 +76,10 @@ pub(crate) fn area_of(offset: u32, ty: TypeRecord) -> Area
 {
     match storage_of(ty) {
         Storage::Nothing => Area::Empty,
-        Storage::Bits(count) => Area::Bits {
-            first: u64::from(count) * u64::from(offset),
-            count: u64::from(count),
-        },
+        Storage::Bits(width) => Area::Bits(Span {
+            width,
+            place: offset,
+        }),
         Storage::Pointer => Area::Pointer { place: offset },
-    }
-}
-
-/// Whether two areas have a bit or a pointer in common.
-pub(crate) fn share(a: Area, b: Area) -> bool
-    ensures { are_apart (areas_in a) (areas_in b) ≡ not result }
-{
-    match (a, b) {
-        (
-            Area::Bits { first, count },
-            Area::Bits {
-                first: other_first,
-                count: other_count,
-            },
-        ) => {
-            if first <= other_first {
-                (first < other_first || other_count > 0) && other_first - first < count
-            } else {
-                first - other_first < other_count
-            }
-        }
-        (Area::Pointer { place }, Area::Pointer { place: other_place }) => place == other_place,
-        _ => false,
     }
 }

@@ -1,10 +1,11 @@
 //! The rule of unions: the members' values are 0 to the count less one, each once, and the discriminant lies in its section.
 
-ghost use Rattle.std.specs.Prelude.{◌≡◌, ◌==◌, nat_lt, map, filter_map, IfOk, ◌++◌};
-ghost use Rattle.std.specs.List.{list_all, list_any};
+ghost use Rattle.std.specs.Prelude.{◌≡◌, ◌&&◌, ◌++◌, nat_lt, map, filter_map, IfOk};
+ghost use Rattle.std.specs.List.{list_all};
 ghost use Rattle.capnp_model.specs.Accepted.{members_of, are_once, has_good_union};
 ghost use Rattle.capnp_records.specs.NodeViews.{field_of, struct_of};
 
+use crate::marks::{mark_at, raise};
 use crate::node::{FieldRecord, NO_DISCRIMINANT, StructRecord};
 use std::alloc::{AllocError, Global};
 
@@ -30,29 +31,22 @@ fn push_members(members: &mut Vec<u16>, fields: &[FieldRecord]) -> Result<(), Al
     Ok(())
 }
 
-fn are_below(members: &[u16], count: u16) -> bool
-    ensures { result ≡ list_all (λ m. nat_lt m count) members.now }
+/// Whether the members are below the count and none stands twice.
+fn are_once_below(alloc: Global, members: &[u16], count: u16) -> Result<bool, AllocError>
+    ensures { IfOk result (λ b. b ≡ (list_all (λ m. nat_lt m count) members.now && are_once members.now)) }
 {
-    members.iter().all(|member| *member < count)
-}
-
-fn has_member(members: &[u16], member: u16) -> bool
-    ensures { result ≡ list_any (λ k. k == member) members.now }
-{
-    members.iter().any(|other| *other == member)
-}
-
-fn are_once(members: &[u16]) -> bool
-    ensures { result ≡ are_once members.now }
-{
-    let mut rest = members;
-    while let [first, others @ ..] = rest {
-        if has_member(others, *first) {
-            return false;
+    let mut seen = Vec::new(alloc);
+    for member in members {
+        let place = *member as usize;
+        if *member >= count {
+            return Ok(false);
         }
-        rest = others;
+        if mark_at(&seen, place) > 0 {
+            return Ok(false);
+        }
+        raise(&mut seen, place, place + 1, 1)?;
     }
-    true
+    Ok(true)
 }
 
 pub(crate) fn has_good_union(alloc: Global, holder: &StructRecord) -> Result<bool, AllocError>
@@ -62,8 +56,9 @@ pub(crate) fn has_good_union(alloc: Global, holder: &StructRecord) -> Result<boo
     push_members(&mut members, &holder.fields)?;
     let count = holder.discriminant_count;
     let end = 16 * (u64::from(holder.discriminant_offset) + 1);
-    Ok(members.len() == count as usize
-        && are_below(&members, count)
-        && are_once(&members)
-        && (count == 0 || end <= 64 * u64::from(holder.data_word_count)))
+    if members.len() != count as usize {
+        return Ok(false);
+    }
+    let are_once = are_once_below(alloc, &members, count)?;
+    Ok(are_once && (count == 0 || end <= 64 * u64::from(holder.data_word_count)))
 }

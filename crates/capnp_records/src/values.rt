@@ -49,10 +49,7 @@ fn defaults_read(alloc: Global, fields: &[FieldRecord]) -> Result<bool, AllocErr
     Ok(true)
 }
 
-pub(crate) fn has_good_default_values(
-    alloc: Global,
-    node: &NodeRecord,
-) -> Result<bool, AllocError>
+pub(crate) fn has_good_default_values(alloc: Global, node: &NodeRecord) -> Result<bool, AllocError>
     ensures { IfOk result (λ b. b ≡ list_all (λ f. default_reads f.kind) (fields_of_kind (node_of node.now).kind)) }
 {
     match &node.body {
@@ -89,10 +86,7 @@ fn fields_are_good(alloc: Global, fields: &[FieldRecord]) -> Result<bool, AllocE
     Ok(true)
 }
 
-fn enumerants_are_good(
-    alloc: Global,
-    enumerants: &[EnumerantRecord],
-) -> Result<bool, AllocError>
+fn enumerants_are_good(alloc: Global, enumerants: &[EnumerantRecord]) -> Result<bool, AllocError>
     ensures { IfOk result (λ b. b ≡ list_all (λ a. is_good_value (λ t. true) (Some a.value)) (flat_map (λ as'. as') (map (λ e. e.annotations) (map enumerant_of enumerants.now)))) }
 {
     let mut rest = enumerants;

@@ -4,3 +4,4 @@ pub mod RunLemmas
 pub mod Whole
 pub mod Opening
 pub mod Sizes
+pub mod Reading

@@ -1,15 +1,17 @@
 -- The struct that calls start from.
-use Rattle.std.proofs.Common.{◌≡◌, ℕ, ℤ, Option, Some, None, List, refl, ap, sym, subst, ◌∙◌}
+use Rattle.std.proofs.Common.{◌≡◌, ℕ, ℤ, Option, Some, None, List, map, refl, ap, sym, subst, ◌∙◌}
 use Rattle.capnp_model.specs.Trees.{Tree, null, capability, structure, plain_list, pointer_list, struct_list, widened}
 use Rattle.capnp_model.specs.Trimming.{trim}
 use Rattle.capnp_model.specs.Schemas.{Shape, shape}
-use Rattle.capnp_model.specs.Answers.{Answer, refused_root, widened_root, opened_root}
+use Rattle.capnp_model.specs.Answers.{Answer, refused_value, refused_root, refused_depth, written, widened_root, opened_root}
 use Rattle.capnp_records.specs.Structs.{words_in, pointers_in, shape_of_struct, id_of}
 use Rattle.capnp_records.specs.declared.structs.StructSchema.{StructSchema}
 use Rattle.capnp_calls.specs.declared.call.Call.{Call}
 use Rattle.capnp_calls.specs.RootViews.{struct_from}
-use Rattle.capnp_calls.specs.Taken.{schema_around}
-use Rattle.capnp_relay.specs.Messages.{answer_from, answer_to, IsTooLargeFrom, IsTooLargeAt}
+use Rattle.capnp_calls.specs.CallViews.{call_view}
+use Rattle.capnp_calls.specs.Taken.{schema_around, tree_after_all}
+use Rattle.capnp_relay.specs.Answers.{MeansTree}
+use Rattle.capnp_relay.specs.Messages.{answer_from, answer_to, MeansAfter, IsTooLargeFrom, IsTooLargeAt}
 
 widened_by : (sh : Shape) (t : Tree) → widened_root sh t ≡ widened (words_in sh) (pointers_in sh) t
 widened_by (shape nid words pointers u fs) t = refl
@@ -75,3 +77,16 @@ module _ (root : StructSchema) (calls : List Call) (nesting : ℤ) (w p : ℕ) (
 
   pub large-opened : (e : Tree) → Some e ≡ struct_from w p t' → IsTooLargeFrom root calls nesting e → IsTooLargeAt root calls nesting (Some t)
   large-opened e h large = large-start root calls nesting t (subst (LargeFrom root calls nesting) (h ∙ started) large)
+
+same_some : {a b : Tree} → ◌≡◌ {A = Option Tree} (Some a) (Some b) → a ≡ b
+same_some e = cc
+
+-- what is written from the opened root on is written from the value on
+pub MeansAfter-of_tree : (root : StructSchema) (calls : List Call) (n : ℕ) (value : Option Tree) (first e : Tree) → value ≡ Some first → e ≡ opened_root (schema_around root) (id_of root) first
+    → (a : Answer) → MeansTree n (trim (tree_after_all root (map call_view calls) e)) a → MeansAfter root calls n value a
+MeansAfter-of_tree root calls n value first e is opened (written segments replies) h = λ t found.
+    let one : first ≡ t = same_some (sym is ∙ found) in
+    h ∙ ap (λ x. Some (trim (tree_after_all root (map call_view calls) x))) (opened ∙ ap (opened_root (schema_around root) (id_of root)) one)
+MeansAfter-of_tree root calls n value first e is opened refused_value h = tt
+MeansAfter-of_tree root calls n value first e is opened refused_root h = tt
+MeansAfter-of_tree root calls n value first e is opened refused_depth h = tt

@@ -1,5 +1,8 @@
 -- What a clause reads of an answer, and what is counted of it.
-use Rattle.std.specs.Prelude.{◌≡◌, ℕ, ◌+◌, ◌*◌, ◌^◌, ◌%◌, ◌<◌, List, [], ◌∷◌, length, map, codes, All, ⊤}
+use Rattle.std.specs.Prelude.{◌≡◌, ℕ, ◌+◌, ◌*◌, ◌^◌, ◌%◌, ◌<◌, List, [], ◌∷◌, length, map, codes, All, Some, ⊤}
+use Rattle.capnp_model.specs.Segments.{root}
+use Rattle.capnp_model.specs.Trees.{Tree}
+use Rattle.capnp_model.specs.Traversal.{tree_at}
 use Rattle.capnp_model.specs.Answers.{Answer, refused_value, refused_root, refused_depth, written}
 use Rattle.capnp_stream.specs.Segments.{whole_words}
 use Rattle.capnp_relay.specs.declared.answers.Reason.{Reason}
@@ -50,3 +53,8 @@ refused_one _ = 1
 pub record CountsOne (old new : Counts) (answer : Answer) : Type 0 where
   pub written : new.written ≡ old.written + written_one answer
   pub refused : new.refused ≡ old.refused + refused_one answer
+
+-- What is written, if anything, means this tree within so many levels.
+abbrev pub MeansTree : ℕ → Tree → Answer → Type 0
+MeansTree nesting t (written segments replies) = tree_at nesting segments root ≡ Some t
+MeansTree nesting t _ = ⊤

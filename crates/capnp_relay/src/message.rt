@@ -4,16 +4,21 @@ ghost use Rattle.capnp_units.specs.declared.kinds.ErrorKind.{ErrorKind};
 ghost use Rattle.capnp_model.specs.Fits.{Fits};
 ghost use Rattle.capnp_records.specs.Structs.{words_in, pointers_in, shape_of_struct};
 ghost use Rattle.capnp_value.specs.Values.{tree_of_value};
+ghost use Rattle.capnp_model.specs.Trimming.{trim};
+ghost use Rattle.capnp_calls.specs.CallViews.{call_view};
+ghost use Rattle.capnp_calls.specs.Taken.{tree_after_all};
 ghost use Rattle.capnp_calls.specs.RootViews.{struct_tree};
-ghost use Rattle.capnp_relay.specs.Answers.{answer_view, HasFewWords};
-ghost use Rattle.capnp_relay.specs.Messages.{answer_from, answer_to, IsAnswerOf, IsTooLargeFrom, IsTooLargeAt, IsTooLarge};
+ghost use Rattle.capnp_relay.specs.Answers.{answer_view, HasFewWords, MeansTree};
+ghost use Rattle.capnp_relay.specs.Messages.{answer_from, answer_to, MeansAfter, IsAnswerOf, IsTooLargeFrom, IsTooLargeAt, IsTooLarge};
 
 use crate::answers::{Answers, MessageAnswer, Reason, Want};
 use capnp_calls::Call;
 use capnp_calls::dynamic_struct::Builder;
+use capnp_calls::laws::calls_are_given;
 use capnp_calls::open::{close_struct, open_struct};
 use capnp_calls::root::StructValue;
 use capnp_calls::run::run;
+use capnp_model::{laws, laws_of_edits};
 use capnp_records::structs::StructSchema;
 use capnp_stream::segments::OwnedSegments;
 use capnp_units::errors::Error;
@@ -44,9 +49,12 @@ fn answer_struct(
     requires pointers { pointers_in (shape_of_struct schema) ≤ vec_len root.children }
     requires fits { Fits (struct_tree root) }
     ensures answer { IfOk result (λ a. answer_view a ≡ answer_from schema.entry calls.now (pos nesting) (struct_tree root)) }
+    ensures means { IfOk result (λ a. MeansTree nesting (trim (tree_after_all schema.entry (map call_view calls.now) (struct_tree root))) (answer_view a)) }
     ensures few { IfOk result (λ a. HasFewWords (answer_view a)) }
     ensures size { result ≡ Err Want.Size → IsTooLargeFrom schema.entry calls.now (pos nesting) (struct_tree root) }
 {
+    laws::words_mean_their_value();
+    laws::trimmed_values();
     let replies = match run(alloc, Builder::new(schema, &mut root), calls) {
         Ok(replies) => replies,
         Err(e) => return Err(want_of(e)),
@@ -75,6 +83,7 @@ fn answer_value(
 ) -> Result<MessageAnswer, Want>
     requires fits { IfSome value (λ v. Fits (tree_of_value v)) }
     ensures answer { IfOk result (λ a. answer_view a ≡ answer_to schema.entry calls.now (pos nesting) (option_map tree_of_value value)) }
+    ensures means { IfOk result (λ a. MeansAfter schema.entry calls.now nesting (option_map tree_of_value value) (answer_view a)) }
     ensures few { IfOk result (λ a. HasFewWords (answer_view a)) }
     ensures size { result ≡ Err Want.Size → IsTooLargeAt schema.entry calls.now (pos nesting) (option_map tree_of_value value) }
 {
@@ -103,6 +112,9 @@ impl<'a> Answers for CallsAtRoot<'a> {
     ghost is_too_large = { IsTooLarge };
 
     fn answer(&self, alloc: Global, message: &OwnedSegments) -> Result<MessageAnswer, Want> {
+        laws_of_edits::records_of_written_values();
+        calls_are_given();
+        let _id = self.schema.id();
         match read_value(alloc, message, self.bounds) {
             Ok(value) => {
                 answer_value(alloc, self.schema, self.calls, self.bounds.nesting, value)

@@ -28,7 +28,7 @@ fn relay_words(
     calls: &[Call],
 ) -> Result<Relayed, Stop> {
     let set = schema(alloc)?;
-    let Some(raw) = set.struct_by_id(ROOT) else {
+    let Some(raw) = set.plain_struct_by_id(ROOT) else {
         return Err(Stop::Root);
     };
     let limits = ReaderOptions {

@@ -17,7 +17,7 @@ fn relay_all<R: BufRead, W: Flush, L: Flush>(
     log: &mut L,
 ) -> Result<(), Stop> {
     let set = schema(alloc)?;
-    let Some(raw) = set.struct_by_id(ROOT) else {
+    let Some(raw) = set.plain_struct_by_id(ROOT) else {
         return Err(Stop::Root);
     };
     let root = StructSchema::new(&set, raw);

@@ -28,14 +28,14 @@ pub const ROOT: u64 = 1;
 pub enum Stop {
     /// A rule of schemas is broken, by the node of this number.
     #[error("schema rule {rule} node {node}")]
-    Schema { rule: u32, node: u32 },
+    Schema { rule: u32, node: usize },
     /// The call of this number is none.
     #[error("call {0}")]
     Call(u32),
     /// The options are refused.
     #[error("options")]
     Options,
-    /// There is no struct node of the root's id.
+    /// There is no plain struct of the root's id.
     #[error("root")]
     Root,
     /// The relay met a fault.

@@ -65,7 +65,7 @@ fn relay_in(
     nesting: i32,
 ) -> Result<Relayed, Stop> {
     let set = schema(alloc)?;
-    let Some(raw) = set.struct_by_id(ROOT) else {
+    let Some(raw) = set.plain_struct_by_id(ROOT) else {
         return Err(Stop::Root);
     };
     let limits = ReaderOptions {

@@ -6,6 +6,8 @@ pub mod PieceLemmas
 pub mod FrameLemmas
 pub mod SpellLemmas
 pub mod WriteLemmas
+pub mod WritesLemmas
 pub mod FlatLemmas
 pub mod TableLemmas
+pub mod ReadLemmas
 pub mod BufferLemmas

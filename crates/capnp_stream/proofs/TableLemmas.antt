@@ -1,11 +1,11 @@
 -- Tables that were read into the front of a buffer.
-use Rattle.std.proofs.Common.{◌≡◌, ℕ, ◌+◌, ◌*◌, ◌/◌, ◌%◌, ◌^◌, ◌<◌, ◌≤◌, List, [], ◌∷◌, ◌++◌, true, Option, IfSome, sym, ap, subst, ◌∙◌, arith, length, take, drop, sum, length-drop, length-take-le, take-append-drop}
+use Rattle.std.proofs.Common.{◌≡◌, ℕ, ◌+◌, ◌*◌, ◌/◌, ◌%◌, ◌^◌, ◌<◌, ◌≤◌, List, [], ◌∷◌, ◌++◌, Option, IfSome, sym, ap, subst, ◌∙◌, arith, length, take, drop, sum, length-drop, length-take-le, take-append-drop}
 use Rattle.std.specs.Int.{from_le_bytes, w64}
 use Rattle.capnp_units.specs.declared.kinds.ErrorKind.{ErrorKind}
-use Rattle.capnp_units.specs.declared.kinds.ErrorKind.TheVariants.{OutOfMemory, InvalidNumberOfSegments, FailedToFillTheWholeBuffer, PrematureEndOfPackedInput, PackedInputDidNotEndCleanlyOnASegmentBoundary, MessageTooLarge, BufferNotLargeEnough, Device}
+use Rattle.capnp_units.specs.declared.kinds.ErrorKind.TheVariants.{FailedToFillTheWholeBuffer, PrematureEndOfPackedInput, PackedInputDidNotEndCleanlyOnASegmentBoundary, Device}
 use Rattle.capnp_units.specs.Segments.{whole_words}
 use Rattle.capnp_model.specs.Messages.{Reader, halves}
-use Rattle.capnp_model.specs.Spelling.{AreWords, AreShort}
+use Rattle.capnp_model.specs.Spelling.{AreShort}
 use Rattle.capnp_stream.specs.Ranges.{AreBytes}
 use Rattle.capnp_stream.specs.Pieces.{ReadsFronts, TakesPiece, TakesPieceStart, IsPieceFault, IsPieceKind}
 use Rattle.capnp_stream.specs.Frames.{IsFrameFault, TakesStart, TakesTable, IsFramingKind, IsReadKind, IsCut}

@@ -27,6 +27,10 @@ word-bytes word bytes small are =
     let f : List ℕ → ℕ = from_le_bytes w64 in
     ap whole_words are ∙ whole_words-of_length 1 (to_le_bytes w64 word) refl ∙ ap (λ w. w ∷ []) (from_le_bytes-to_le_bytes_8 word small)
 
+pub RoomFalls-none : (r : Option ℕ) → RoomFalls r r 0
+RoomFalls-none None = refl
+RoomFalls-none (Some r) = omega arith
+
 pub RoomFalls-next : (r s t : Option ℕ) (p q : List ℕ) → RoomFalls r s (length p) → RoomFalls s t (length q) → RoomFalls r t (length (p ++ q))
 RoomFalls-next None s t p q first second = let is : s ≡ None = first in let P : Option ℕ → Type 0 = λ o. RoomFalls o t (length q) in subst P is second
 RoomFalls-next (Some r) None t p q first second = absurd first

@@ -1,6 +1,8 @@
 -- Messages on streams, in a form that a reader of words gives. (Encoding, "Serialization Over a Stream")
-use Rattle.std.specs.Prelude.{◌≡◌, ℕ, ◌<◌, List, ◌++◌, length, take, ⊤, Err, Ok}
+use Rattle.std.specs.Prelude.{◌≡◌, ◌⊎◌, ℕ, ◌<◌, List, [], ◌∷◌, ◌++◌, length, take, ⊤, IfSome, IfErr, Err, Ok}
+use Rattle.std.specs.declared.result.Result.{Result}
 use Rattle.std.specs.declared.option.Option.{Option}
+use Rattle.capnp_units.specs.declared.errors.Error.{Error}
 use Rattle.std.specs.Io.KnownBytes.{Keeps, Consumes}
 use Rattle.capnp_units.specs.Errors.{kind_of}
 use Rattle.capnp_units.specs.declared.kinds.ErrorKind.{ErrorKind}
@@ -8,7 +10,7 @@ use Rattle.capnp_units.specs.declared.kinds.ErrorKind.TheVariants.{OutOfMemory, 
 use Rattle.capnp_model.specs.Segments.{Segments}
 use Rattle.capnp_model.specs.Messages.{Reader, behind_lengths, message_at}
 use Rattle.capnp_model.specs.Spelling.{Spells}
-use Rattle.capnp_stream.specs.Pieces.{EachIsNeeded, TakesPieceStart, IsPieceFault}
+use Rattle.capnp_stream.specs.Pieces.{EachIsNeeded, TakesPiece, TakesPieceStart, IsPieceFault}
 
 -- The bytes begin with no message within the limit, and this is the kind of the first part that can't be read.
 abbrev pub IsFrameFault : Reader → Option ℕ → List ℕ → ErrorKind → Type 0
@@ -36,6 +38,11 @@ abbrev pub TakesTable : Reader → Option ℕ → Option (List ℕ) → Option (
 TakesTable read limit old new lengths =
     (table : List ℕ) × Consumes old new table × ((more : List ℕ) → message_at read limit (table ++ more) ≡ behind_lengths read limit lengths more) × EachIsNeeded (message_at read limit) table
 
+-- No byte was taken, or the first word of a message, or its table.
+abbrev pub TakesWholePieces : Reader → Option ℕ → Option (List ℕ) → Option (List ℕ) → Type 0
+TakesWholePieces read limit old new =
+    Keeps old new ⊎ ((word : ℕ) × TakesPiece read old new (word ∷ [])) ⊎ ((lengths : List ℕ) × TakesTable read limit old new lengths)
+
 -- The kinds of bytes that are no message.
 abbrev pub IsFramingKind : ErrorKind → Type 0
 IsFramingKind InvalidNumberOfSegments = ⊤
@@ -59,6 +66,10 @@ abbrev pub IsReadKind : (ErrorKind → Type 0) → ErrorKind → Type 0
 IsReadKind faults Device = ⊤
 IsReadKind faults OutOfMemory = ⊤
 IsReadKind faults kind = IsFormKind faults kind
+
+-- The kind of a refusal says why the bytes begin with no message.
+abbrev pub TellsFault : {A : Type 0} → Reader → Option ℕ → Option (List ℕ) → Result A Error → Type 0
+TellsFault read limit old result = IfErr result (λ e. IsFramingKind e.kind → IfSome old (λ xs. IsFrameFault read limit xs e.kind))
 
 -- Why no piece of n words was taken, and what was. Memory is wanted before any byte is taken, and for a word at least.
 abbrev pub IsCut : Reader → ℕ → Option (List ℕ) → Option (List ℕ) → ErrorKind → Type 0

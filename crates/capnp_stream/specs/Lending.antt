@@ -1,5 +1,5 @@
 -- What a lent slice leaves of the segments whose bytes it shows.
-use Rattle.std.proofs.Common.{◌≡◌, ℕ, ◌*◌, ◌≤◌, List, length, sym, subst, ◌∙◌}
+use Rattle.std.proofs.Common.{ℕ, ◌*◌, ◌≤◌, List, sym, subst, ◌∙◌}
 use Rattle.std.specs.List.{slice_index_or, length_refill}
 use Rattle.std.specs.Vec.{with_items}
 use Rattle.std.specs.Borrow.{Fml, MutBor, Array, u8, Lends}

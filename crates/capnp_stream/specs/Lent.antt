@@ -1,10 +1,12 @@
 -- Messages that are read into a buffer. (Encoding, "Serialization Over a Stream")
-use Rattle.std.specs.Prelude.{◌≡◌, ◌⊎◌, ℕ, ◌+◌, ◌*◌, ◌<◌, true, List, ◌∷◌, ◌++◌, length, sum, ⊤}
+use Rattle.std.specs.Prelude.{◌≡◌, ◌⊎◌, ℕ, ◌+◌, ◌*◌, ◌<◌, true, List, ◌∷◌, ◌++◌, length, sum, ⊤, IfSome, IfErr}
+use Rattle.std.specs.declared.result.Result.{Result}
 use Rattle.std.specs.declared.option.Option.{Option}
+use Rattle.capnp_units.specs.declared.errors.Error.{Error}
 use Rattle.capnp_units.specs.declared.kinds.ErrorKind.{ErrorKind}
 use Rattle.capnp_units.specs.declared.kinds.ErrorKind.TheVariants.{BufferNotLargeEnough, Device}
 use Rattle.capnp_model.specs.Messages.{Reader, within, behind_lengths, behind_first, message_at}
-use Rattle.capnp_stream.specs.Frames.{IsFormKind}
+use Rattle.capnp_stream.specs.Frames.{TakesWholePieces, IsFormKind}
 use Rattle.capnp_stream.specs.Flat.{table_bytes}
 
 -- The first word of a table stands at the front of the bytes, and says this number, which is one less than that of the segments.
@@ -23,6 +25,14 @@ NeedsMore read limit size bytes =
     (size < 8)
     ⊎ ((n : ℕ) × TellsCount read limit bytes n × (n < 511) × (size < table_bytes (n + 1)))
     ⊎ ((ns : List ℕ) × TellsLengths read limit bytes ns × (within (sum ns) limit ≡ true) × (size < table_bytes (length ns) + 8 * sum ns))
+
+-- A refusal for want of room says that the message needs more than so many bytes.
+abbrev pub TellsNeed : {A : Type 0} → Reader → Option ℕ → ℕ → Option (List ℕ) → Result A Error → Type 0
+TellsNeed read limit size old result = IfErr result (λ e. e.kind ≡ BufferNotLargeEnough → IfSome old (NeedsMore read limit size))
+
+-- Want of room is seen between pieces.
+abbrev pub LacksBetweenPieces : {A : Type 0} → Reader → Option ℕ → Option (List ℕ) → Option (List ℕ) → Result A Error → Type 0
+LacksBetweenPieces read limit old new result = IfErr result (λ e. e.kind ≡ BufferNotLargeEnough → TakesWholePieces read limit old new)
 
 -- The kinds by which a reader refuses that takes no memory, in a form whose pieces are at fault by these.
 abbrev pub IsFillKind : (ErrorKind → Type 0) → ErrorKind → Type 0

@@ -9,7 +9,10 @@ pub mod Fronts
 pub mod Frames
 pub use Rattle.capnp_units.specs.Errors
 pub mod Writing
+pub mod Writes
+pub mod Reading
 pub mod Flat
 pub mod Buffers
 pub mod Lent
+pub mod Filling
 pub mod Lending

@@ -67,8 +67,10 @@ impl Window {
     /// Reads anew, over what was taken.
     fn refill<S: io::Read>(&mut self, inner: &mut S) -> Result<()>
         requires { length (window_bytes self.old) ≡ 0 }
-        ensures kept { Keeps (S.remaining inner.old) (prepend_known (window_bytes self.new) (S.remaining inner.new)) }
-        ensures end { OnOk result (length (window_bytes self.new) ≡ 0 → IsAtEnd (S.remaining inner.new)) }
+        ensures kept { Keeps (S.remaining inner.old)
+            (prepend_known (window_bytes self.new) (S.remaining inner.new)) }
+        ensures end { OnOk result
+            (length (window_bytes self.new) ≡ 0 → IsAtEnd (S.remaining inner.new)) }
         ensures refusal { IfErr result (λ e. e.kind ≡ ErrorKind.Device) }
     {
         self.start = 0;
@@ -95,7 +97,8 @@ impl<S: io::Read> Source<S> {
     where
         S: Drop,
         ensures inner { IfOk result (λ s. source_inner s ≡ inner) }
-        ensures remaining { IfOk result (λ s. source_remaining S.remaining s ≡ prepend_known [] (S.remaining inner)) }
+        ensures remaining { IfOk result
+            (λ s. source_remaining S.remaining s ≡ prepend_known [] (S.remaining inner)) }
         ensures failures { IfOk result (λ s. source_failures s ≡ 0) }
     {
         let window = Window::new(alloc)?;
@@ -108,8 +111,10 @@ impl<S: io::Read> Source<S> {
 
     /// Asks the reader for more where all that it gave is taken. At the end of input nothing comes.
     fn refill(&mut self) -> Result<()>
-        ensures kept { Keeps (source_remaining S.remaining self.old) (source_remaining S.remaining self.new) }
-        ensures end { OnOk result (length (window_bytes self.new.window) ≡ 0 → IsAtEnd (S.remaining self.new.inner)) }
+        ensures kept { Keeps (source_remaining S.remaining self.old)
+            (source_remaining S.remaining self.new) }
+        ensures end { OnOk result (length (window_bytes self.new.window) ≡ 0
+            → IsAtEnd (S.remaining self.new.inner)) }
         ensures refusal { IfErr result (λ e. e.kind ≡ ErrorKind.Device) }
         ensures count { Counts result (source_failures self.old) (source_failures self.new) }
     {
@@ -205,7 +210,8 @@ impl<S: io::Write + Drop> Sink<BufWriter<S>> {
 
     /// Hands on what is held back.
     pub fn flush(&mut self) -> Result<()>
-        ensures kept { Keeps (writer_contents S.contents (sink_inner self.old)) (writer_contents S.contents (sink_inner self.new)) }
+        ensures kept { Keeps (writer_contents S.contents (sink_inner self.old))
+            (writer_contents S.contents (sink_inner self.new)) }
         ensures empty { OnOk result (writer_buffer (sink_inner self.new) ≡ []) }
         ensures refusal { IfErr result (λ e. e.kind ≡ ErrorKind.Device) }
         ensures count { Counts result (sink_failures self.old) (sink_failures self.new) }

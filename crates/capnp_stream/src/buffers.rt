@@ -36,8 +36,10 @@ impl<T: AsSlice<u8> + Drop> BufferSegments<T> {
     /// Refused by the kind of the first part that can't be read, and by `OutOfMemory`.
     pub fn new(alloc: Global, buffer: T, limit: Option<usize>) -> Result<BufferSegments<T>>
         ensures buffer { IfOk result (λ s. buffer_of s ≡ buffer) }
-        ensures message { IfOk result (λ s. (rest : List ℕ) × (flat_at limit (T.items buffer) ≡ Ok (words_in (buffer_segments s), rest))) }
-        ensures refused { IfErr result (λ e. e.kind ≢ ErrorKind.OutOfMemory → flat_at limit (T.items buffer) ≡ Err (kind_of e.kind)) }
+        ensures message { IfOk result (λ s. (rest : List ℕ)
+            × (flat_at limit (T.items buffer) ≡ Ok (words_in (buffer_segments s), rest))) }
+        ensures refused { IfErr result (λ e. e.kind ≢ ErrorKind.OutOfMemory
+            → flat_at limit (T.items buffer) ≡ Err (kind_of e.kind)) }
     {
         let info = info_at(buffer.as_slice(), limit)?;
         BufferSegments::described(alloc, buffer, info)
@@ -51,7 +53,8 @@ impl<T: AsSlice<u8> + Drop> BufferSegments<T> {
     ) -> BufferSegments<T>
         requires { segment_table_bytes_len + 8 * sum (lengths_of table) ≤ length (T.items buffer) }
         ensures buffer { buffer_of result ≡ buffer }
-        ensures segments { buffer_segments result ≡ bytes_at (drop segment_table_bytes_len (T.items buffer)) (ranges_from 0 (lengths_of table)) }
+        ensures segments { buffer_segments result ≡ bytes_at
+            (drop segment_table_bytes_len (T.items buffer)) (ranges_from 0 (lengths_of table)) }
     {
         BufferSegments {
             buffer,
@@ -68,7 +71,8 @@ impl<T: AsSlice<u8> + Drop> BufferSegments<T> {
     ) -> Result<BufferSegments<T>>
         requires { Describes info (T.items buffer) }
         ensures buffer { IfOk result (λ s. buffer_of s ≡ buffer) }
-        ensures segments { IfOk result (λ s. buffer_segments s ≡ frame_segments info.segments_count (T.items buffer)) }
+        ensures segments { IfOk result
+            (λ s. buffer_segments s ≡ frame_segments info.segments_count (T.items buffer)) }
         ensures refusal { IfErr result (λ e. e.kind ≡ ErrorKind.OutOfMemory) }
     {
         let table = SegmentLengthsBuilder::in_table(alloc, buffer.as_slice(), info.segments_count)?;
@@ -92,8 +96,10 @@ impl<'a> BufferSegments<&'a [u8]> {
         slice: &mut &'a [u8],
         limit: Option<usize>,
     ) -> Result<SliceSegments<'a>>
-        ensures message { IfOk result (λ s. flat_at limit slice.old.now ≡ Ok (words_in (buffer_segments s), slice.new.now)) }
-        ensures refused { IfErr result (λ e. e.kind ≢ ErrorKind.OutOfMemory → flat_at limit slice.old.now ≡ Err (kind_of e.kind)) }
+        ensures message { IfOk result
+            (λ s. flat_at limit slice.old.now ≡ Ok (words_in (buffer_segments s), slice.new.now)) }
+        ensures refused { IfErr result (λ e. e.kind ≢ ErrorKind.OutOfMemory
+            → flat_at limit slice.old.now ≡ Err (kind_of e.kind)) }
         ensures kept { OnErr result (slice.new.now ≡ slice.old.now) }
     {
         let all: &'a [u8] = *slice;
@@ -148,8 +154,10 @@ impl<T: AsSlice<u8> + Drop> NoAllocBufferSegments<T> {
 
     /// The segments of the framed message at the front of the buffer. Refused by the kind of the first part that can't be read.
     pub fn from_buffer(buffer: T, limit: Option<usize>) -> Result<NoAllocBufferSegments<T>>
-        ensures message { IfOk result (λ s. (rest : List ℕ) × (flat_at limit (T.items buffer) ≡ Ok (words_in (found_segments s), rest))) }
-        ensures refused { IfErr result (λ e. flat_at limit (T.items buffer) ≡ Err (kind_of e.kind)) }
+        ensures message { IfOk result (λ s. (rest : List ℕ)
+            × (flat_at limit (T.items buffer) ≡ Ok (words_in (found_segments s), rest))) }
+        ensures refused { IfErr result
+            (λ e. flat_at limit (T.items buffer) ≡ Err (kind_of e.kind)) }
     {
         let info = info_at(buffer.as_slice(), limit)?;
         Ok(NoAllocBufferSegments::from_segment_table_info(buffer, info))
@@ -166,7 +174,8 @@ impl<'a> NoAllocBufferSegments<&'a [u8]> {
         slice: &mut &'a [u8],
         limit: Option<usize>,
     ) -> Result<NoAllocSliceSegments<'a>>
-        ensures message { IfOk result (λ s. flat_at limit slice.old.now ≡ Ok (words_in (found_segments s), slice.new.now)) }
+        ensures message { IfOk result
+            (λ s. flat_at limit slice.old.now ≡ Ok (words_in (found_segments s), slice.new.now)) }
         ensures refused { IfErr result (λ e. flat_at limit slice.old.now ≡ Err (kind_of e.kind)) }
         ensures kept { OnErr result (slice.new.now ≡ slice.old.now) }
     {

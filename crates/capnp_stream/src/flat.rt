@@ -69,7 +69,11 @@ pub(crate) fn words_before(bytes: &[u8], count: usize) -> usize
 /// How the framed message at the front of bytes lies there.
 pub(crate) fn info_at(bytes: &[u8], limit: Option<usize>) -> Result<NoAllocSegmentTableInfo>
     ensures described { IfOk result (λ i. Describes i bytes.now) }
-    ensures message { IfOk result (λ i. flat_at limit bytes.now ≡ Ok (words_in (frame_segments i.segments_count bytes.now), drop (i.segment_table_length_bytes + i.total_segments_length_bytes) bytes.now)) }
+    ensures message { IfOk result (λ i. flat_at limit bytes.now
+        ≡ Ok (
+          words_in (frame_segments i.segments_count bytes.now),
+          drop (i.segment_table_length_bytes + i.total_segments_length_bytes) bytes.now,
+        )) }
     ensures refused { IfErr result (λ e. flat_at limit bytes.now ≡ Err (kind_of e.kind)) }
 {
     if bytes.is_empty() {

@@ -7,6 +7,7 @@ ghost use Rattle.capnp_model.specs.Messages.{Reader, Writer, plain_words};
 ghost use Rattle.capnp_stream.specs.Counting.{Counts};
 ghost use Rattle.capnp_stream.specs.Pieces.{ReadsFronts, TakesPiece, TakesPieceStart, IsPieceFault, IsPieceKind, is_framed_fault};
 ghost use Rattle.capnp_stream.specs.Segments.{whole_words};
+ghost use Rattle.capnp_stream.specs.Writes.{Writes, sink_seen};
 ghost use Rattle.capnp_stream.specs.Streams.{AppendsPart, RoomFalls, IsWriteRefusal};
 
 use crate::traits::{BufRead, Read, Write};
@@ -28,20 +29,21 @@ pub trait MessageForm {
     /// After a refusal less than the piece was taken, and no byte behind the first that is at fault. `Device`: the source failed; any other kind says why the bytes that are left begin with no such piece.
     fn read_piece<R: BufRead>(source: &mut R, buf: &mut [u8]) -> Result<()>
         requires { length buf.old % 8 ≡ 0 }
-        ensures ok { OnOk result (TakesPiece reader (R.remaining source.old) (R.remaining source.new) (whole_words buf.new)) }
-        ensures kind { IfErr result (λ e. IsPieceFault reader (length buf.old / 8) (R.remaining source.old) e.kind) }
+        ensures ok { OnOk result (TakesPiece reader (R.remaining source.old)
+            (R.remaining source.new) (whole_words buf.new)) }
+        ensures kind { IfErr result
+            (λ e. IsPieceFault reader (length buf.old / 8) (R.remaining source.old) e.kind) }
         ensures own { IfErr result (λ e. IsPieceKind faults e.kind) }
-        ensures part { OnErr result (TakesPieceStart reader (length buf.old / 8) (R.remaining source.old) (R.remaining source.new)) }
+        ensures part { OnErr result (TakesPieceStart reader (length buf.old / 8)
+            (R.remaining source.old) (R.remaining source.new)) }
         ensures count { Counts result (R.failures source.old) (R.failures source.new) };
 
     /// Writes the piece of these bytes, which are whole words. After a refusal a beginning of it was written.
     fn write_piece<W: Write>(out: &mut W, bytes: &[u8]) -> Result<()>
         requires { length bytes.now % 8 ≡ 0 }
-        ensures ok { OnOk result (Appends (W.contents out.old) (W.contents out.new) (writer (whole_words bytes.now))) }
-        ensures falls { OnOk result (RoomFalls (W.room out.old) (W.room out.new) (length (writer (whole_words bytes.now)))) }
-        ensures err { OnErr result (AppendsPart (W.contents out.old) (W.contents out.new) (writer (whole_words bytes.now))) }
-        ensures refusal { IfErr result (λ e. IsWriteRefusal W.may_grow (W.room out.old) (length (writer (whole_words bytes.now))) e.kind) }
-        ensures count { Counts result (W.failures out.old) (W.failures out.new) };
+        ensures { Writes W.may_grow (writer (whole_words bytes.now))
+            (sink_seen W.contents W.failures W.room out.old) result
+            (sink_seen W.contents W.failures W.room out.new) };
 
     /// Reading takes a front of the bytes.
     ghost fronts: { ReadsFronts Self.reader };

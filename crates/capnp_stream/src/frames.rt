@@ -7,7 +7,8 @@ ghost use Rattle.capnp_model.specs.Spelling.{AreShort, CanSpell};
 ghost use Rattle.capnp_stream.specs.Counting.{Counts};
 ghost use Rattle.capnp_stream.specs.Pieces.{TakesPiece, is_framed_fault};
 ghost use Rattle.capnp_stream.specs.Segments.{AreBytes, whole_words, lengths_of, segment_bytes, segments_of};
-ghost use Rattle.capnp_stream.specs.Frames.{IsFrameFault, TakesMessage, TakesStart, TakesTable, IsFramingKind, IsReadKind, IsCut};
+ghost use Rattle.capnp_stream.specs.Frames.{TellsFault, TakesMessage, TakesStart, TakesTable, IsReadKind, IsCut};
+ghost use Rattle.capnp_stream.specs.Reading.{WantsBetweenPieces, TriesMessage, ReadsMessage, source_seen};
 ghost use Rattle.capnp_stream.specs.Writing.{AreWritable};
 ghost use Rattle.capnp_stream.specs.Streams.{AppendsPart, RoomFalls, IsWriteRefusal};
 
@@ -44,8 +45,10 @@ fn take_piece<F: MessageForm, R: BufRead>(
 ) -> Result<Vec<u8>>
     requires { 8 * words < 2 ^ 64 }
     ensures len { IfOk result (λ v. length v.items ≡ 8 * words) }
-    ensures ok { IfOk result (λ v. TakesPiece F.reader (R.remaining source.old) (R.remaining source.new) (whole_words v.items)) }
-    ensures cut { IfErr result (λ e. IsCut F.reader words (R.remaining source.old) (R.remaining source.new) e.kind) }
+    ensures ok { IfOk result (λ v. TakesPiece F.reader (R.remaining source.old)
+        (R.remaining source.new) (whole_words v.items)) }
+    ensures cut { IfErr result
+        (λ e. IsCut F.reader words (R.remaining source.old) (R.remaining source.new) e.kind) }
     ensures own { IfErr result (λ e. IsReadKind F.faults e.kind) }
     ensures count { Counts result (R.failures source.old) (R.failures source.new) }
 {
@@ -76,16 +79,17 @@ fn read_table<F: MessageForm, R: BufRead>(
     source: &mut R,
     limit: Option<usize>,
 ) -> Result<SegmentLengthsBuilder>
-    ensures some { IfOk result (λ t. 0 < length (lengths_of t)) }
-    ensures few { IfOk result (λ t. length (lengths_of t) ≤ 511) }
+    ensures few { IfOk result (λ t. (0 < length (lengths_of t)) × (length (lengths_of t) ≤ 511)) }
     ensures short { IfOk result (λ t. AreShort (lengths_of t)) }
     ensures bound { IfOk result (λ t. sum (lengths_of t) < 2 ^ 41) }
-    ensures table { IfOk result (λ t. TakesTable F.reader limit (R.remaining source.old) (R.remaining source.new) (lengths_of t)) }
-
-    // Whatever follows.
-    ensures refused { IfErr result (λ e. IsFramingKind e.kind → IfSome (R.remaining source.old) (λ xs. IsFrameFault F.reader limit xs e.kind)) }
+    ensures table { IfOk result (λ t. TakesTable F.reader limit (R.remaining source.old)
+        (R.remaining source.new) (lengths_of t)) }
+    ensures refused { TellsFault F.reader limit (R.remaining source.old) result }
     ensures kind { IfErr result (λ e. IsReadKind F.faults e.kind) }
-    ensures part { OnErr result (TakesStart F.reader limit (R.remaining source.old) (R.remaining source.new)) }
+    ensures part { OnErr result
+        (TakesStart F.reader limit (R.remaining source.old) (R.remaining source.new)) }
+    ensures wanted { WantsBetweenPieces F.reader limit (R.remaining source.old)
+        (R.remaining source.new) result }
     ensures count { Counts result (R.failures source.old) (R.failures source.new) }
 {
     let mut table = SegmentLengthsBuilder::with_capacity(alloc, 1)?;
@@ -104,12 +108,16 @@ fn read_segments<F: MessageForm, R: BufRead>(
     source: &mut R,
     limit: Option<usize>,
 ) -> Result<OwnedSegments>
-    ensures message { IfOk result (λ m. TakesMessage F.reader limit (R.remaining source.old) (R.remaining source.new) (segments_of m)) }
+    ensures message { IfOk result (λ m. TakesMessage F.reader limit (R.remaining source.old)
+        (R.remaining source.new) (segments_of m)) }
     ensures kept { IfOk result (λ m. CanSpell limit (segments_of m)) }
     ensures writable { IfOk result (λ m. AreWritable (segment_bytes m)) }
-    ensures refused { IfErr result (λ e. IsFramingKind e.kind → IfSome (R.remaining source.old) (λ xs. IsFrameFault F.reader limit xs e.kind)) }
+    ensures refused { TellsFault F.reader limit (R.remaining source.old) result }
     ensures kind { IfErr result (λ e. IsReadKind F.faults e.kind) }
-    ensures part { OnErr result (TakesStart F.reader limit (R.remaining source.old) (R.remaining source.new)) }
+    ensures part { OnErr result
+        (TakesStart F.reader limit (R.remaining source.old) (R.remaining source.new)) }
+    ensures wanted { WantsBetweenPieces F.reader limit (R.remaining source.old)
+        (R.remaining source.new) result }
     ensures count { Counts result (R.failures source.old) (R.failures source.new) }
 {
     let table = read_table::<F, R>(alloc, source, limit)?;
@@ -130,17 +138,9 @@ pub fn try_read_message_in<F: MessageForm, R: BufRead>(
     source: &mut R,
     limit: Option<usize>,
 ) -> Result<Option<OwnedSegments>>
-    // One message is taken, whatever follows it.
-    ensures message { IfOk result (λ o. IfSome o (λ m. TakesMessage F.reader limit (R.remaining source.old) (R.remaining source.new) (segments_of m))) }
-    ensures kept { IfOk result (λ o. IfSome o (λ m. CanSpell limit (segments_of m))) }
-    ensures writable { IfOk result (λ o. IfSome o (λ m. AreWritable (segment_bytes m))) }
-    ensures none { IfOk result (λ o. IfNone o (IsAtEnd (R.remaining source.old) × Keeps (R.remaining source.old) (R.remaining source.new))) }
-
-    // The bytes that are left begin with no message, and the kind says why.
-    ensures refused { IfErr result (λ e. IsFramingKind e.kind → IfSome (R.remaining source.old) (λ xs. (xs ≢ []) × IsFrameFault F.reader limit xs e.kind)) }
-    ensures kind { IfErr result (λ e. IsReadKind F.faults e.kind) }
-    ensures part { OnErr result (TakesStart F.reader limit (R.remaining source.old) (R.remaining source.new)) }
-    ensures count { Counts result (R.failures source.old) (R.failures source.new) }
+    ensures { TriesMessage F.reader F.faults limit
+        (source_seen R.remaining R.failures source.old) result
+        (source_seen R.remaining R.failures source.new) }
 {
     if is_at_end(source)? {
         return Ok(None);
@@ -155,14 +155,9 @@ pub fn read_message_in<F: MessageForm, R: BufRead>(
     source: &mut R,
     limit: Option<usize>,
 ) -> Result<OwnedSegments>
-    ensures message { IfOk result (λ m. TakesMessage F.reader limit (R.remaining source.old) (R.remaining source.new) (segments_of m)) }
-    ensures kept { IfOk result (λ m. CanSpell limit (segments_of m)) }
-    ensures writable { IfOk result (λ m. AreWritable (segment_bytes m)) }
-    ensures no_byte { IfErr result (λ e. e.kind ≡ ErrorKind.PrematureEndOfFile → IsAtEnd (R.remaining source.old) × Keeps (R.remaining source.old) (R.remaining source.new)) }
-    ensures refused { IfErr result (λ e. IsFramingKind e.kind → IfSome (R.remaining source.old) (λ xs. (xs ≢ []) × IsFrameFault F.reader limit xs e.kind)) }
-    ensures kind { IfErr result (λ e. e.kind ≢ ErrorKind.PrematureEndOfFile → IsReadKind F.faults e.kind) }
-    ensures part { OnErr result (TakesStart F.reader limit (R.remaining source.old) (R.remaining source.new)) }
-    ensures count { Counts result (R.failures source.old) (R.failures source.new) }
+    ensures { ReadsMessage F.reader F.faults limit
+        (source_seen R.remaining R.failures source.old) result
+        (source_seen R.remaining R.failures source.new) }
 {
     match try_read_message_in::<F, R>(alloc, source, limit)? {
         Some(message) => Ok(message),
@@ -178,17 +173,9 @@ pub fn try_read_message<R: BufRead>(
     source: &mut R,
     limit: Option<usize>,
 ) -> Result<Option<OwnedSegments>>
-    // One message is taken, whatever follows it.
-    ensures message { IfOk result (λ o. IfSome o (λ m. TakesMessage plain_words limit (R.remaining source.old) (R.remaining source.new) (segments_of m))) }
-    ensures kept { IfOk result (λ o. IfSome o (λ m. CanSpell limit (segments_of m))) }
-    ensures writable { IfOk result (λ o. IfSome o (λ m. AreWritable (segment_bytes m))) }
-    ensures none { IfOk result (λ o. IfNone o (IsAtEnd (R.remaining source.old) × Keeps (R.remaining source.old) (R.remaining source.new))) }
-
-    // The bytes that are left begin with no message, and the kind says why.
-    ensures refused { IfErr result (λ e. IsFramingKind e.kind → IfSome (R.remaining source.old) (λ xs. (xs ≢ []) × IsFrameFault plain_words limit xs e.kind)) }
-    ensures kind { IfErr result (λ e. IsReadKind is_framed_fault e.kind) }
-    ensures part { OnErr result (TakesStart plain_words limit (R.remaining source.old) (R.remaining source.new)) }
-    ensures count { Counts result (R.failures source.old) (R.failures source.new) }
+    ensures { TriesMessage plain_words is_framed_fault limit
+        (source_seen R.remaining R.failures source.old) result
+        (source_seen R.remaining R.failures source.new) }
 {
     try_read_message_in::<Framed, R>(alloc, source, limit)
 }
@@ -199,14 +186,9 @@ pub fn read_message<R: BufRead>(
     source: &mut R,
     limit: Option<usize>,
 ) -> Result<OwnedSegments>
-    ensures message { IfOk result (λ m. TakesMessage plain_words limit (R.remaining source.old) (R.remaining source.new) (segments_of m)) }
-    ensures kept { IfOk result (λ m. CanSpell limit (segments_of m)) }
-    ensures writable { IfOk result (λ m. AreWritable (segment_bytes m)) }
-    ensures no_byte { IfErr result (λ e. e.kind ≡ ErrorKind.PrematureEndOfFile → IsAtEnd (R.remaining source.old) × Keeps (R.remaining source.old) (R.remaining source.new)) }
-    ensures refused { IfErr result (λ e. IsFramingKind e.kind → IfSome (R.remaining source.old) (λ xs. (xs ≢ []) × IsFrameFault plain_words limit xs e.kind)) }
-    ensures kind { IfErr result (λ e. e.kind ≢ ErrorKind.PrematureEndOfFile → IsReadKind is_framed_fault e.kind) }
-    ensures part { OnErr result (TakesStart plain_words limit (R.remaining source.old) (R.remaining source.new)) }
-    ensures count { Counts result (R.failures source.old) (R.failures source.new) }
+    ensures { ReadsMessage plain_words is_framed_fault limit
+        (source_seen R.remaining R.failures source.old) result
+        (source_seen R.remaining R.failures source.new) }
 {
     read_message_in::<Framed, R>(alloc, source, limit)
 }

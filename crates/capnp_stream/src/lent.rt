@@ -7,10 +7,12 @@ ghost use Rattle.capnp_units.specs.Segments.{whole_words, words_in};
 ghost use Rattle.capnp_model.specs.Messages.{plain_words, within};
 ghost use Rattle.capnp_stream.specs.Counting.{Counts};
 ghost use Rattle.capnp_stream.specs.Pieces.{is_framed_fault};
-ghost use Rattle.capnp_stream.specs.Frames.{IsFrameFault, TakesMessage, TakesStart, TakesTable, IsFramingKind};
+ghost use Rattle.capnp_stream.specs.Frames.{TellsFault, TakesMessage, TakesStart, TakesTable};
 ghost use Rattle.capnp_stream.specs.Flat.{table_lengths, table_bytes, frame_segments, Describes};
 ghost use Rattle.capnp_stream.specs.Buffers.{found_segments};
-ghost use Rattle.capnp_stream.specs.Lent.{NeedsMore, IsFillKind};
+ghost use Rattle.capnp_stream.specs.Lent.{TellsNeed, LacksBetweenPieces, IsFillKind};
+ghost use Rattle.capnp_stream.specs.Reading.{source_seen};
+ghost use Rattle.capnp_stream.specs.Filling.{TriesFilling, FillsMessage};
 
 use crate::buffers::{NoAllocBufferSegments, NoAllocSliceSegments};
 use crate::flat::{NoAllocSegmentTableInfo, words_before};
@@ -30,11 +32,15 @@ fn fill_table<F: MessageForm, R: BufRead>(
     ensures few { IfOk result (λ n. (0 < n) × (n ≤ 511)) }
     ensures count { IfOk result (λ n. n ≡ from_le_bytes w64 buffer.new % 2 ^ 32 + 1) }
     ensures there { IfOk result (λ n. table_bytes n ≤ length buffer.new) }
-    ensures table { IfOk result (λ n. TakesTable F.reader limit (R.remaining source.old) (R.remaining source.new) (table_lengths n buffer.new)) }
-    ensures refused { IfErr result (λ e. IsFramingKind e.kind → IfSome (R.remaining source.old) (λ xs. IsFrameFault F.reader limit xs e.kind)) }
-    ensures short { IfErr result (λ e. e.kind ≡ ErrorKind.BufferNotLargeEnough → IfSome (R.remaining source.old) (NeedsMore F.reader limit (length buffer.old))) }
+    ensures table { IfOk result (λ n. TakesTable F.reader limit (R.remaining source.old)
+        (R.remaining source.new) (table_lengths n buffer.new)) }
+    ensures refused { TellsFault F.reader limit (R.remaining source.old) result }
+    ensures short { TellsNeed F.reader limit (length buffer.old) (R.remaining source.old) result }
     ensures kind { IfErr result (λ e. IsFillKind F.faults e.kind) }
-    ensures part { OnErr result (TakesStart F.reader limit (R.remaining source.old) (R.remaining source.new)) }
+    ensures part { OnErr result
+        (TakesStart F.reader limit (R.remaining source.old) (R.remaining source.new)) }
+    ensures room { LacksBetweenPieces F.reader limit (R.remaining source.old)
+        (R.remaining source.new) result }
     ensures failures { Counts result (R.failures source.old) (R.failures source.new) }
 {
     if buffer.len() < 8 {
@@ -55,12 +61,17 @@ fn fill_message<F: MessageForm, R: BufRead>(
     limit: Option<usize>,
 ) -> Result<NoAllocSegmentTableInfo>
     ensures described { IfOk result (λ i. Describes i buffer.new) }
-    ensures message { IfOk result (λ i. TakesMessage F.reader limit (R.remaining source.old) (R.remaining source.new) (words_in (frame_segments i.segments_count buffer.new))) }
-    ensures kept { IfOk result (λ i. within (sum (table_lengths i.segments_count buffer.new)) limit ≡ true) }
-    ensures refused { IfErr result (λ e. IsFramingKind e.kind → IfSome (R.remaining source.old) (λ xs. IsFrameFault F.reader limit xs e.kind)) }
-    ensures short { IfErr result (λ e. e.kind ≡ ErrorKind.BufferNotLargeEnough → IfSome (R.remaining source.old) (NeedsMore F.reader limit (length buffer.old))) }
+    ensures message { IfOk result (λ i. TakesMessage F.reader limit (R.remaining source.old)
+        (R.remaining source.new) (words_in (frame_segments i.segments_count buffer.new))) }
+    ensures kept { IfOk result
+        (λ i. within (sum (table_lengths i.segments_count buffer.new)) limit ≡ true) }
+    ensures refused { TellsFault F.reader limit (R.remaining source.old) result }
+    ensures short { TellsNeed F.reader limit (length buffer.old) (R.remaining source.old) result }
     ensures kind { IfErr result (λ e. IsFillKind F.faults e.kind) }
-    ensures part { OnErr result (TakesStart F.reader limit (R.remaining source.old) (R.remaining source.new)) }
+    ensures part { OnErr result
+        (TakesStart F.reader limit (R.remaining source.old) (R.remaining source.new)) }
+    ensures room { LacksBetweenPieces F.reader limit (R.remaining source.old)
+        (R.remaining source.new) result }
     ensures failures { Counts result (R.failures source.old) (R.failures source.new) }
 {
     let count = fill_table::<F, R>(source, buffer, limit)?;
@@ -89,13 +100,9 @@ pub fn try_read_message_no_alloc_in<'a, F: MessageForm, R: BufRead>(
     buffer: &'a mut [u8],
     limit: Option<usize>,
 ) -> Result<Option<NoAllocSliceSegments<'a>>>
-    ensures message { IfOk result (λ o. IfSome o (λ s. TakesMessage F.reader limit (R.remaining source.old) (R.remaining source.new) (words_in (found_segments s)))) }
-    ensures none { IfOk result (λ o. IfNone o (IsAtEnd (R.remaining source.old) × Keeps (R.remaining source.old) (R.remaining source.new))) }
-    ensures refused { IfErr result (λ e. IsFramingKind e.kind → IfSome (R.remaining source.old) (λ xs. (xs ≢ []) × IsFrameFault F.reader limit xs e.kind)) }
-    ensures short { IfErr result (λ e. e.kind ≡ ErrorKind.BufferNotLargeEnough → IfSome (R.remaining source.old) (NeedsMore F.reader limit (length buffer.old))) }
-    ensures kind { IfErr result (λ e. IsFillKind F.faults e.kind) }
-    ensures part { OnErr result (TakesStart F.reader limit (R.remaining source.old) (R.remaining source.new)) }
-    ensures failures { Counts result (R.failures source.old) (R.failures source.new) }
+    ensures { TriesFilling F.reader F.faults limit (length buffer.old)
+        (source_seen R.remaining R.failures source.old) result
+        (source_seen R.remaining R.failures source.new) }
 {
     if is_at_end(source)? {
         return Ok(None);
@@ -112,13 +119,9 @@ pub fn read_message_no_alloc_in<'a, F: MessageForm, R: BufRead>(
     buffer: &'a mut [u8],
     limit: Option<usize>,
 ) -> Result<NoAllocSliceSegments<'a>>
-    ensures message { IfOk result (λ s. TakesMessage F.reader limit (R.remaining source.old) (R.remaining source.new) (words_in (found_segments s))) }
-    ensures no_byte { IfErr result (λ e. e.kind ≡ ErrorKind.PrematureEndOfFile → IsAtEnd (R.remaining source.old) × Keeps (R.remaining source.old) (R.remaining source.new)) }
-    ensures refused { IfErr result (λ e. IsFramingKind e.kind → IfSome (R.remaining source.old) (λ xs. (xs ≢ []) × IsFrameFault F.reader limit xs e.kind)) }
-    ensures short { IfErr result (λ e. e.kind ≡ ErrorKind.BufferNotLargeEnough → IfSome (R.remaining source.old) (NeedsMore F.reader limit (length buffer.old))) }
-    ensures kind { IfErr result (λ e. e.kind ≢ ErrorKind.PrematureEndOfFile → IsFillKind F.faults e.kind) }
-    ensures part { OnErr result (TakesStart F.reader limit (R.remaining source.old) (R.remaining source.new)) }
-    ensures failures { Counts result (R.failures source.old) (R.failures source.new) }
+    ensures { FillsMessage F.reader F.faults limit (length buffer.old)
+        (source_seen R.remaining R.failures source.old) result
+        (source_seen R.remaining R.failures source.new) }
 {
     if is_at_end(source)? {
         return Err(Error::from(ErrorKind::PrematureEndOfFile));
@@ -135,13 +138,9 @@ pub fn try_read_message_no_alloc<'a, R: BufRead>(
     buffer: &'a mut [u8],
     limit: Option<usize>,
 ) -> Result<Option<NoAllocSliceSegments<'a>>>
-    ensures message { IfOk result (λ o. IfSome o (λ s. TakesMessage plain_words limit (R.remaining source.old) (R.remaining source.new) (words_in (found_segments s)))) }
-    ensures none { IfOk result (λ o. IfNone o (IsAtEnd (R.remaining source.old) × Keeps (R.remaining source.old) (R.remaining source.new))) }
-    ensures refused { IfErr result (λ e. IsFramingKind e.kind → IfSome (R.remaining source.old) (λ xs. (xs ≢ []) × IsFrameFault plain_words limit xs e.kind)) }
-    ensures short { IfErr result (λ e. e.kind ≡ ErrorKind.BufferNotLargeEnough → IfSome (R.remaining source.old) (NeedsMore plain_words limit (length buffer.old))) }
-    ensures kind { IfErr result (λ e. IsFillKind is_framed_fault e.kind) }
-    ensures part { OnErr result (TakesStart plain_words limit (R.remaining source.old) (R.remaining source.new)) }
-    ensures failures { Counts result (R.failures source.old) (R.failures source.new) }
+    ensures { TriesFilling plain_words is_framed_fault limit (length buffer.old)
+        (source_seen R.remaining R.failures source.old) result
+        (source_seen R.remaining R.failures source.new) }
 {
     try_read_message_no_alloc_in::<Framed, R>(source, buffer, limit)
 }
@@ -154,13 +153,9 @@ pub fn read_message_no_alloc<'a, R: BufRead>(
     buffer: &'a mut [u8],
     limit: Option<usize>,
 ) -> Result<NoAllocSliceSegments<'a>>
-    ensures message { IfOk result (λ s. TakesMessage plain_words limit (R.remaining source.old) (R.remaining source.new) (words_in (found_segments s))) }
-    ensures no_byte { IfErr result (λ e. e.kind ≡ ErrorKind.PrematureEndOfFile → IsAtEnd (R.remaining source.old) × Keeps (R.remaining source.old) (R.remaining source.new)) }
-    ensures refused { IfErr result (λ e. IsFramingKind e.kind → IfSome (R.remaining source.old) (λ xs. (xs ≢ []) × IsFrameFault plain_words limit xs e.kind)) }
-    ensures short { IfErr result (λ e. e.kind ≡ ErrorKind.BufferNotLargeEnough → IfSome (R.remaining source.old) (NeedsMore plain_words limit (length buffer.old))) }
-    ensures kind { IfErr result (λ e. e.kind ≢ ErrorKind.PrematureEndOfFile → IsFillKind is_framed_fault e.kind) }
-    ensures part { OnErr result (TakesStart plain_words limit (R.remaining source.old) (R.remaining source.new)) }
-    ensures failures { Counts result (R.failures source.old) (R.failures source.new) }
+    ensures { FillsMessage plain_words is_framed_fault limit (length buffer.old)
+        (source_seen R.remaining R.failures source.old) result
+        (source_seen R.remaining R.failures source.new) }
 {
     read_message_no_alloc_in::<Framed, R>(source, buffer, limit)
 }

@@ -119,11 +119,14 @@ impl Write for &mut [u8] {
     fn write_all(&mut self, buf: &[u8]) -> Result<()>
         ensures ok { OnOk result (Appends None None buf.now) }
         ensures rest { OnOk result (self.new.now ≡ drop (length buf.now) self.old.now) }
-        ensures falls { OnOk result (RoomFalls (Some (length self.old.now)) (Some (length self.new.now)) (length buf.now)) }
+        ensures falls { OnOk result
+            (RoomFalls (Some (length self.old.now)) (Some (length self.new.now)) (length buf.now)) }
         ensures err { OnErr result (AppendsPart None None buf.now) }
-        ensures refusal { IfErr result (λ e. IsWriteRefusal ⊥ (Some (length self.old.now)) (length buf.now) e.kind) }
+        ensures refusal { IfErr result
+            (λ e. IsWriteRefusal ⊥ (Some (length self.old.now)) (length buf.now) e.kind) }
         ensures nothing { IfErr result (λ e. e.kind ≢ ErrorKind.Device → Keeps None None) }
-        ensures kept { IfErr result (λ e. e.kind ≢ ErrorKind.Device → Some (length self.new.now) ≡ Some (length self.old.now)) }
+        ensures kept { IfErr result (λ e. e.kind ≢ ErrorKind.Device
+            → Some (length self.new.now) ≡ Some (length self.old.now)) }
         ensures unchanged { OnErr result (self.new.now ≡ self.old.now) }
         ensures count { Counts result 0 0 }
     {

@@ -48,7 +48,8 @@ impl SegmentLengthsBuilder {
         requires { lengths_of self.old ≡ [] }
         ensures empty { lengths_of self.new ≡ [] }
         ensures room { OnOk result (count ≤ capacity_of self.new) }
-        ensures refusal { IfErr result (λ e. (e.kind ≡ ErrorKind.OutOfMemory) × (capacity_of self.old < count)) }
+        ensures refusal { IfErr result
+            (λ e. (e.kind ≡ ErrorKind.OutOfMemory) × (capacity_of self.old < count)) }
     {
         self.indices.reserve(count)?;
         Ok(())
@@ -96,8 +97,11 @@ impl SegmentLengthsBuilder {
 
     /// Adds a segment of so many words behind the others. `MessageTooLarge`: the words of all pass `usize`. After a refusal the table is as it was.
     pub fn try_push_segment(&mut self, length_in_words: usize) -> Result<()>
-        ensures pushed { OnOk result (lengths_of self.new ≡ lengths_of self.old ++ length_in_words ∷ []) }
-        ensures large { IfErr result (λ e. e.kind ≢ ErrorKind.OutOfMemory → (e.kind ≡ ErrorKind.MessageTooLarge) × (2 ^ 64 ≤ sum (lengths_of self.old) + length_in_words)) }
+        ensures pushed { OnOk result
+            (lengths_of self.new ≡ lengths_of self.old ++ length_in_words ∷ []) }
+        ensures large { IfErr result (λ e. e.kind ≢ ErrorKind.OutOfMemory
+            → (e.kind ≡ ErrorKind.MessageTooLarge)
+            × (2 ^ 64 ≤ sum (lengths_of self.old) + length_in_words)) }
         ensures kept { OnErr result (lengths_of self.new ≡ lengths_of self.old) }
     {
         let start = self.total_words;
@@ -120,8 +124,10 @@ impl SegmentLengthsBuilder {
     pub fn into_owned_segments(self, alloc: Global) -> Result<OwnedSegments>
         ensures ranges { IfOk result (λ s. owned_ranges s ≡ ranges_from 0 (lengths_of self)) }
         ensures zeros { IfOk result (λ s. owned_bytes s ≡ replicate (8 * sum (lengths_of self)) 0) }
-        ensures large { 2 ^ 64 ≤ 8 * sum (lengths_of self) → IfErr result (λ e. e.kind ≡ ErrorKind.MessageTooLarge) }
-        ensures refusal { 8 * sum (lengths_of self) < 2 ^ 64 → IfErr result (λ e. e.kind ≡ ErrorKind.OutOfMemory) }
+        ensures large { 2 ^ 64 ≤ 8 * sum (lengths_of self)
+            → IfErr result (λ e. e.kind ≡ ErrorKind.MessageTooLarge) }
+        ensures refusal { 8 * sum (lengths_of self) < 2 ^ 64
+            → IfErr result (λ e. e.kind ≡ ErrorKind.OutOfMemory) }
     {
         let Some(len) = self.total_words.checked_mul(8) else {
             return Err(Error::from(ErrorKind::MessageTooLarge));
@@ -132,7 +138,8 @@ impl SegmentLengthsBuilder {
 
     /// Whether so many bytes of a table and then the segments fit into the buffer.
     pub fn describes(&self, buffer: &[u8], segment_table_bytes_len: usize) -> bool
-        ensures { IsTrue result ↔ (segment_table_bytes_len + 8 * sum (lengths_of self.now) ≤ length buffer.now) }
+        ensures { IsTrue result
+            ↔ (segment_table_bytes_len + 8 * sum (lengths_of self.now) ≤ length buffer.now) }
     {
         match buffer.len().checked_sub(segment_table_bytes_len) {
             Some(room) => self.total_words <= room / 8,
@@ -147,7 +154,8 @@ impl SegmentLengthsBuilder {
         segment_table_bytes_len: usize,
     ) -> SliceSegments<'_>
         requires { segment_table_bytes_len + 8 * sum (lengths_of self) ≤ length slice.now }
-        ensures { buffer_segments result ≡ bytes_at (drop segment_table_bytes_len slice.now) (ranges_from 0 (lengths_of self)) }
+        ensures { buffer_segments result
+            ≡ bytes_at (drop segment_table_bytes_len slice.now) (ranges_from 0 (lengths_of self)) }
     {
         BufferSegments::behind_table(slice, segment_table_bytes_len, self)
     }
@@ -214,7 +222,8 @@ impl OwnedSegments {
 
     /// The words of a segment, or none past the last.
     pub fn segment_words(&self, alloc: Global, id: SegmentId) -> Result<Option<Vec<u64>>>
-        ensures words { IfOk result (λ o. IfSome o (λ v. slice_get (segments_of self.now) id ≡ Some v.items)) }
+        ensures words { IfOk result
+            (λ o. IfSome o (λ v. slice_get (segments_of self.now) id ≡ Some v.items)) }
         ensures none { IfOk result (λ o. IfNone o (slice_get (segments_of self.now) id ≡ None)) }
         ensures refusal { IfErr result (λ e. e.kind ≡ ErrorKind.OutOfMemory) }
     {
@@ -246,7 +255,8 @@ impl ReaderSegments for OwnedSegments {
     /// The bytes of a segment, each word's lowest first, or none past the last.
     fn get_segment(&self, id: SegmentId) -> Option<&[u8]>
         ensures bytes { option_copied result ≡ slice_get (segment_bytes self.now) id }
-        ensures words { IfSome result (λ bytes. slice_get (segments_of self.now) id ≡ Some (whole_words bytes.now)) }
+        ensures words { IfSome result
+            (λ bytes. slice_get (segments_of self.now) id ≡ Some (whole_words bytes.now)) }
         ensures whole { IfSome result (λ bytes. length bytes.now % 8 ≡ 0) }
         ensures there { IsSome result ↔ (id < length (segments_of self.now)) }
     {

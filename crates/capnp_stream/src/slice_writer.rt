@@ -42,7 +42,7 @@ impl<'a> SliceWriter<'a> {
     }
 }
 
-/// The bytes go behind those that were written. Where they don't fit none is taken. What lies behind them in the slice stays.
+/// The bytes go behind those that were written. Where they don't fit none is taken.
 impl Write for SliceWriter<'_> {
     ghost use Rattle.capnp_stream.specs.SliceWriters.{writer_slice, writer_contents, writer_room};
 

@@ -18,8 +18,10 @@ pub fn read_message_from_flat_slice<'a>(
     slice: &mut &'a [u8],
     limit: Option<usize>,
 ) -> Result<SliceSegments<'a>>
-    ensures message { IfOk result (λ s. flat_at limit slice.old.now ≡ Ok (words_in (buffer_segments s), slice.new.now)) }
-    ensures refused { IfErr result (λ e. e.kind ≢ ErrorKind.OutOfMemory → flat_at limit slice.old.now ≡ Err (kind_of e.kind)) }
+    ensures message { IfOk result
+        (λ s. flat_at limit slice.old.now ≡ Ok (words_in (buffer_segments s), slice.new.now)) }
+    ensures refused { IfErr result
+        (λ e. e.kind ≢ ErrorKind.OutOfMemory → flat_at limit slice.old.now ≡ Err (kind_of e.kind)) }
     ensures kept { OnErr result (slice.new.now ≡ slice.old.now) }
 {
     BufferSegments::from_slice(alloc, slice, limit)
@@ -30,7 +32,8 @@ pub fn read_message_from_flat_slice_no_alloc<'a>(
     slice: &mut &'a [u8],
     limit: Option<usize>,
 ) -> Result<NoAllocSliceSegments<'a>>
-    ensures message { IfOk result (λ s. flat_at limit slice.old.now ≡ Ok (words_in (found_segments s), slice.new.now)) }
+    ensures message { IfOk result
+        (λ s. flat_at limit slice.old.now ≡ Ok (words_in (found_segments s), slice.new.now)) }
     ensures refused { IfErr result (λ e. flat_at limit slice.old.now ≡ Err (kind_of e.kind)) }
     ensures kept { OnErr result (slice.new.now ≡ slice.old.now) }
 {

@@ -5,7 +5,7 @@ ghost use Rattle.capnp_units.specs.declared.kinds.ErrorKind.{ErrorKind};
 ghost use Rattle.capnp_units.specs.Segments.{whole_words};
 ghost use Rattle.capnp_stream.specs.Counting.{Counts};
 ghost use Rattle.capnp_stream.specs.Pieces.{TakesPiece, TakesPieceStart, IsPieceFault, IsPieceKind};
-ghost use Rattle.capnp_stream.specs.Frames.{IsFrameFault, TakesStart, IsFramingKind, IsReadKind};
+ghost use Rattle.capnp_stream.specs.Frames.{TellsFault, TakesStart, IsReadKind};
 ghost use Rattle.capnp_stream.specs.Flat.{table_bytes};
 ghost use Rattle.capnp_stream.specs.Lent.{IsFillKind};
 
@@ -26,10 +26,13 @@ pub(crate) fn fill_front<F: MessageForm, R: BufRead>(
 ) -> Result<()>
     requires whole { len % 8 ≡ 0 }
     requires fits { len ≤ length buffer.old }
-    ensures ok { OnOk result (TakesPiece F.reader (R.remaining source.old) (R.remaining source.new) (whole_words (take len buffer.new))) }
-    ensures kind { IfErr result (λ e. IsPieceFault F.reader (len / 8) (R.remaining source.old) e.kind) }
+    ensures ok { OnOk result (TakesPiece F.reader (R.remaining source.old) (R.remaining source.new)
+        (whole_words (take len buffer.new))) }
+    ensures kind { IfErr result
+        (λ e. IsPieceFault F.reader (len / 8) (R.remaining source.old) e.kind) }
     ensures own { IfErr result (λ e. IsPieceKind F.faults e.kind) }
-    ensures part { OnErr result (TakesPieceStart F.reader (len / 8) (R.remaining source.old) (R.remaining source.new)) }
+    ensures part { OnErr result
+        (TakesPieceStart F.reader (len / 8) (R.remaining source.old) (R.remaining source.new)) }
     ensures count { Counts result (R.failures source.old) (R.failures source.new) }
 {
     let (front, _) = buffer.split_at_mut(len);
@@ -44,11 +47,14 @@ pub(crate) fn fill_count<F: MessageForm, R: BufRead>(
     requires { 8 ≤ length buffer.old }
     ensures few { IfOk result (λ n. (0 < n) × (n ≤ 511)) }
     ensures count { IfOk result (λ n. n ≡ from_le_bytes w64 buffer.new % 2 ^ 32 + 1) }
-    ensures first { IfOk result (λ n. TakesPiece F.reader (R.remaining source.old) (R.remaining source.new) (from_le_bytes w64 buffer.new ∷ [])) }
-    ensures refused { (limit : Option ℕ) → IfErr result (λ e. IsFramingKind e.kind → IfSome (R.remaining source.old) (λ xs. IsFrameFault F.reader limit xs e.kind)) }
+    ensures first { IfOk result (λ n. TakesPiece F.reader (R.remaining source.old)
+        (R.remaining source.new) (from_le_bytes w64 buffer.new ∷ [])) }
+    ensures refused { (limit : Option ℕ)
+        → TellsFault F.reader limit (R.remaining source.old) result }
     ensures read_kind { IfErr result (λ e. IsReadKind F.faults e.kind) }
     ensures fill_kind { IfErr result (λ e. IsFillKind F.faults e.kind) }
-    ensures part { (limit : Option ℕ) → OnErr result (TakesStart F.reader limit (R.remaining source.old) (R.remaining source.new)) }
+    ensures part { (limit : Option ℕ) → OnErr result
+        (TakesStart F.reader limit (R.remaining source.old) (R.remaining source.new)) }
     ensures failures { Counts result (R.failures source.old) (R.failures source.new) }
 {
     let mut first = [0u8; 8];
@@ -72,10 +78,13 @@ pub(crate) fn fill_others<F: MessageForm, R: BufRead>(
     requires few { count ≤ 511 }
     requires there { table_bytes count ≤ length buffer.old }
     ensures kept { take 8 buffer.new ≡ take 8 buffer.old }
-    ensures ok { OnOk result (TakesPiece F.reader (R.remaining source.old) (R.remaining source.new) (whole_words (take (8 * (count / 2)) (drop 8 buffer.new)))) }
-    ensures kind { IfErr result (λ e. IsPieceFault F.reader (count / 2) (R.remaining source.old) e.kind) }
+    ensures ok { OnOk result (TakesPiece F.reader (R.remaining source.old) (R.remaining source.new)
+        (whole_words (take (8 * (count / 2)) (drop 8 buffer.new)))) }
+    ensures kind { IfErr result
+        (λ e. IsPieceFault F.reader (count / 2) (R.remaining source.old) e.kind) }
     ensures own { IfErr result (λ e. IsPieceKind F.faults e.kind) }
-    ensures part { OnErr result (TakesPieceStart F.reader (count / 2) (R.remaining source.old) (R.remaining source.new)) }
+    ensures part { OnErr result
+        (TakesPieceStart F.reader (count / 2) (R.remaining source.old) (R.remaining source.new)) }
     ensures failures { Counts result (R.failures source.old) (R.failures source.new) }
 {
     let (_, behind) = buffer.split_at_mut(8);

@@ -33,8 +33,10 @@ pub trait Read {
     /// Fills the whole of `buf`, or refuses at the end of input, which it then has reached.
     fn read_exact(&mut self, buf: &mut [u8]) -> Result<()>
         ensures ok { OnOk result (Consumes (remaining self.old) (remaining self.new) buf.new) }
-        ensures part { IfErr result (λ e. (refuses e.kind × ConsumesFewer (remaining self.old) (remaining self.new) (length buf.old))
-            ⊎ ((e.kind ≡ ErrorKind.FailedToFillTheWholeBuffer) × EndsBefore (remaining self.old) (remaining self.new) (length buf.old))) }
+        ensures part { IfErr result (λ e. (refuses e.kind
+            × ConsumesFewer (remaining self.old) (remaining self.new) (length buf.old))
+            ⊎ ((e.kind ≡ ErrorKind.FailedToFillTheWholeBuffer)
+            × EndsBefore (remaining self.old) (remaining self.new) (length buf.old))) }
         ensures count { Counts result (failures self.old) (failures self.new) }
     {
         let mut at = 0;
@@ -60,11 +62,14 @@ pub trait BufRead: Read {
 
     /// A beginning of the bytes to come, however long, and empty only where none is left. Nothing is taken.
     fn fill_buf(&mut self) -> Result<&[u8]>
-        ensures front { IfSome (Self.remaining self.old) (λ xs. IfOk result (λ s. StartsWith xs s.now)) }
-        ensures end { IfSome (Self.remaining self.old) (λ xs. IfOk result (λ s. length s.now ≡ 0 → xs ≡ [])) }
+        ensures front { IfSome (Self.remaining self.old)
+            (λ xs. IfOk result (λ s. StartsWith xs s.now)) }
+        ensures end { IfSome (Self.remaining self.old)
+            (λ xs. IfOk result (λ s. length s.now ≡ 0 → xs ≡ [])) }
         ensures refusal { IfErr result (λ e. e.kind ≡ ErrorKind.Device) }
         ensures* after_borrow { sem 𝓛 (Rests Self.row self.entry (λ new.
-            Fills (Self.remaining self.old) (Self.remaining new) (Self.failures self.old) (Self.failures new) (shown new) result)) };
+            Fills (Self.remaining self.old) (Self.remaining new)
+            (Self.failures self.old) (Self.failures new) (shown new) result)) };
 
     /// Takes so many of the bytes that were shown.
     fn consume(&mut self, amount: usize)
@@ -95,9 +100,12 @@ pub trait Write {
         ensures ok { OnOk result (Appends (contents self.old) (contents self.new) buf.now) }
         ensures falls { OnOk result (RoomFalls (room self.old) (room self.new) (length buf.now)) }
         ensures err { OnErr result (AppendsPart (contents self.old) (contents self.new) buf.now) }
-        ensures refusal { IfErr result (λ e. IsWriteRefusal may_grow (room self.old) (length buf.now) e.kind) }
-        ensures nothing { IfErr result (λ e. e.kind ≢ ErrorKind.Device → Keeps (contents self.old) (contents self.new)) }
-        ensures kept { IfErr result (λ e. e.kind ≢ ErrorKind.Device → room self.new ≡ room self.old) }
+        ensures refusal { IfErr result
+            (λ e. IsWriteRefusal may_grow (room self.old) (length buf.now) e.kind) }
+        ensures nothing { IfErr result
+            (λ e. e.kind ≢ ErrorKind.Device → Keeps (contents self.old) (contents self.new)) }
+        ensures kept { IfErr result
+            (λ e. e.kind ≢ ErrorKind.Device → room self.new ≡ room self.old) }
         ensures count { Counts result (failures self.old) (failures self.new) };
 
     /// How often the device has failed so far; it stops at 2^64 - 1.

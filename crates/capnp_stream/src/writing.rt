@@ -8,6 +8,7 @@ ghost use Rattle.capnp_model.specs.Messages.{frame, paired, spelled};
 ghost use Rattle.capnp_stream.specs.Counting.{Counts};
 ghost use Rattle.capnp_stream.specs.Streams.{AppendsPart, RoomFalls, IsWriteRefusal};
 ghost use Rattle.capnp_stream.specs.Writing.{IsSegment, AreWritable};
+ghost use Rattle.capnp_stream.specs.Writes.{Writes, sink_seen};
 
 use crate::forms::{Framed, MessageForm};
 use crate::frames::HALF;
@@ -33,8 +34,10 @@ fn length_of<S: ReaderSegments>(segments: &S, id: SegmentId) -> u64
 fn rest_of_table<S: ReaderSegments>(alloc: Global, segments: &S) -> Result<Vec<u8>>
     requires { AreWritable (S.segments segments.now) }
     ensures whole { IfOk result (λ v. length v.items % 8 ≡ 0) }
-    ensures words { IfOk result (λ v. whole_words v.items ≡ paired (map length (drop 1 (words_in (S.segments segments.now))))) }
-    ensures refusal { IfErr result (λ e. (e.kind ≡ ErrorKind.OutOfMemory) × (1 < length (S.segments segments.now))) }
+    ensures words { IfOk result (λ v. whole_words v.items
+        ≡ paired (map length (drop 1 (words_in (S.segments segments.now))))) }
+    ensures refusal { IfErr result
+        (λ e. (e.kind ≡ ErrorKind.OutOfMemory) × (1 < length (S.segments segments.now))) }
 {
     let mut table = Vec::new(alloc);
     let mut id = 1;
@@ -49,11 +52,9 @@ fn rest_of_table<S: ReaderSegments>(alloc: Global, segments: &S) -> Result<Vec<u
 /// Writes a table, its first word and its rest, each as a piece.
 fn write_table<F: MessageForm, W: Write>(out: &mut W, first: u64, rest: &[u8]) -> Result<()>
     requires { length rest.now % 8 ≡ 0 }
-    ensures ok { OnOk result (Appends (W.contents out.old) (W.contents out.new) (F.writer (first ∷ []) ++ F.writer (whole_words rest.now))) }
-    ensures falls { OnOk result (RoomFalls (W.room out.old) (W.room out.new) (length (F.writer (first ∷ []) ++ F.writer (whole_words rest.now)))) }
-    ensures err { OnErr result (AppendsPart (W.contents out.old) (W.contents out.new) (F.writer (first ∷ []) ++ F.writer (whole_words rest.now))) }
-    ensures refusal { IfErr result (λ e. IsWriteRefusal W.may_grow (W.room out.old) (length (F.writer (first ∷ []) ++ F.writer (whole_words rest.now))) e.kind) }
-    ensures count { Counts result (W.failures out.old) (W.failures out.new) }
+    ensures { Writes W.may_grow (F.writer (first ∷ []) ++ F.writer (whole_words rest.now))
+        (sink_seen W.contents W.failures W.room out.old) result
+        (sink_seen W.contents W.failures W.room out.new) }
 {
     F::write_piece(out, &first.to_le_bytes())?;
     F::write_piece(out, rest)
@@ -62,11 +63,9 @@ fn write_table<F: MessageForm, W: Write>(out: &mut W, first: u64, rest: &[u8]) -
 /// Writes each segment as a piece.
 fn write_each<F: MessageForm, W: Write, S: ReaderSegments>(out: &mut W, segments: &S) -> Result<()>
     requires { AreWritable (S.segments segments.now) }
-    ensures ok { OnOk result (Appends (W.contents out.old) (W.contents out.new) (flat_map F.writer (words_in (S.segments segments.now)))) }
-    ensures falls { OnOk result (RoomFalls (W.room out.old) (W.room out.new) (length (flat_map F.writer (words_in (S.segments segments.now))))) }
-    ensures err { OnErr result (AppendsPart (W.contents out.old) (W.contents out.new) (flat_map F.writer (words_in (S.segments segments.now)))) }
-    ensures refusal { IfErr result (λ e. IsWriteRefusal W.may_grow (W.room out.old) (length (flat_map F.writer (words_in (S.segments segments.now)))) e.kind) }
-    ensures count { Counts result (W.failures out.old) (W.failures out.new) }
+    ensures { Writes W.may_grow (flat_map F.writer (words_in (S.segments segments.now)))
+        (sink_seen W.contents W.failures W.room out.old) result
+        (sink_seen W.contents W.failures W.room out.new) }
 {
     let mut id = 0;
     while let Some(bytes) = segments.get_segment(id) {
@@ -85,11 +84,10 @@ pub fn write_message_segments_in<F: MessageForm, W: Write, S: ReaderSegments>(
     segments: &S,
 ) -> Result<()>
     requires { AreWritable (S.segments segments.now) }
-    ensures ok { OnOk result (Appends (W.contents out.old) (W.contents out.new) (spelled F.writer (words_in (S.segments segments.now)))) }
-    ensures falls { OnOk result (RoomFalls (W.room out.old) (W.room out.new) (length (spelled F.writer (words_in (S.segments segments.now))))) }
-    ensures err { OnErr result (AppendsPart (W.contents out.old) (W.contents out.new) (spelled F.writer (words_in (S.segments segments.now)))) }
-    ensures refusal { IfErr result (λ e. IsWriteRefusal (W.may_grow ⊎ (1 < length (S.segments segments.now))) (W.room out.old) (length (spelled F.writer (words_in (S.segments segments.now)))) e.kind) }
-    ensures count { Counts result (W.failures out.old) (W.failures out.new) }
+    ensures { Writes (W.may_grow ⊎ (1 < length (S.segments segments.now)))
+        (spelled F.writer (words_in (S.segments segments.now)))
+        (sink_seen W.contents W.failures W.room out.old) result
+        (sink_seen W.contents W.failures W.room out.new) }
 {
     let word = (segments.len() - 1) as u64 + HALF * length_of(segments, 0);
     let rest = rest_of_table(alloc, segments)?;
@@ -104,11 +102,10 @@ pub fn write_message_segments<W: Write, S: ReaderSegments>(
     segments: &S,
 ) -> Result<()>
     requires { AreWritable (S.segments segments.now) }
-    ensures ok { OnOk result (Appends (W.contents out.old) (W.contents out.new) (frame (words_in (S.segments segments.now)))) }
-    ensures falls { OnOk result (RoomFalls (W.room out.old) (W.room out.new) (length (frame (words_in (S.segments segments.now))))) }
-    ensures err { OnErr result (AppendsPart (W.contents out.old) (W.contents out.new) (frame (words_in (S.segments segments.now)))) }
-    ensures refusal { IfErr result (λ e. IsWriteRefusal (W.may_grow ⊎ (1 < length (S.segments segments.now))) (W.room out.old) (length (frame (words_in (S.segments segments.now)))) e.kind) }
-    ensures count { Counts result (W.failures out.old) (W.failures out.new) }
+    ensures { Writes (W.may_grow ⊎ (1 < length (S.segments segments.now)))
+        (frame (words_in (S.segments segments.now)))
+        (sink_seen W.contents W.failures W.room out.old) result
+        (sink_seen W.contents W.failures W.room out.new) }
 {
     write_message_segments_in::<Framed, W, S>(alloc, out, segments)
 }
@@ -116,11 +113,9 @@ pub fn write_message_segments<W: Write, S: ReaderSegments>(
 /// Writes a message of one segment, which these bytes hold, in a form. After a refusal a beginning of it was written.
 pub fn write_segment_in<F: MessageForm, W: Write>(out: &mut W, bytes: &[u8]) -> Result<()>
     requires { IsSegment bytes.now }
-    ensures ok { OnOk result (Appends (W.contents out.old) (W.contents out.new) (spelled F.writer (whole_words bytes.now ∷ []))) }
-    ensures falls { OnOk result (RoomFalls (W.room out.old) (W.room out.new) (length (spelled F.writer (whole_words bytes.now ∷ [])))) }
-    ensures err { OnErr result (AppendsPart (W.contents out.old) (W.contents out.new) (spelled F.writer (whole_words bytes.now ∷ []))) }
-    ensures refusal { IfErr result (λ e. IsWriteRefusal W.may_grow (W.room out.old) (length (spelled F.writer (whole_words bytes.now ∷ []))) e.kind) }
-    ensures count { Counts result (W.failures out.old) (W.failures out.new) }
+    ensures { Writes W.may_grow (spelled F.writer (whole_words bytes.now ∷ []))
+        (sink_seen W.contents W.failures W.room out.old) result
+        (sink_seen W.contents W.failures W.room out.new) }
 {
     let word = HALF * (bytes.len() / 8) as u64;
     write_table::<F, W>(out, word, &[])?;
@@ -131,11 +126,10 @@ pub fn write_segment_in<F: MessageForm, W: Write>(out: &mut W, bytes: &[u8]) -> 
 pub fn write_segment<W: Write>(out: &mut W, bytes: &[u8]) -> Result<()>
     requires whole { length bytes.now % 8 ≡ 0 }
     requires small { length bytes.now < 8 * 2 ^ 32 }
-    ensures ok { OnOk result (Appends (W.contents out.old) (W.contents out.new) (frame (whole_words bytes.now ∷ []))) }
-    ensures falls { OnOk result (RoomFalls (W.room out.old) (W.room out.new) (8 + length bytes.now)) }
-    ensures err { OnErr result (AppendsPart (W.contents out.old) (W.contents out.new) (frame (whole_words bytes.now ∷ []))) }
-    ensures refusal { IfErr result (λ e. IsWriteRefusal W.may_grow (W.room out.old) (8 + length bytes.now) e.kind) }
-    ensures count { Counts result (W.failures out.old) (W.failures out.new) }
+    ensures size { length (frame (whole_words bytes.now ∷ [])) ≡ 8 + length bytes.now }
+    ensures writes { Writes W.may_grow (frame (whole_words bytes.now ∷ []))
+        (sink_seen W.contents W.failures W.room out.old) result
+        (sink_seen W.contents W.failures W.room out.new) }
 {
     write_segment_in::<Framed, W>(out, bytes)
 }

@@ -1,7 +1,7 @@
 //! Whole numbers in data sections and lists of elements.
-ghost use Rattle.std.specs.Prelude.{◌≡◌, ℕ, ◌*◌, ◌^◌, ◌<◌, ◌≤◌, length, bit_xor};
+ghost use Rattle.std.specs.Prelude.{◌≡◌, ◌⊎◌, refl, ℕ, ◌*◌, ◌^◌, ◌<◌, ◌≤◌, length, bit_xor};
 ghost use Rattle.std.specs.Int.{w8, w16, w32, w64, cast_signed, cast_unsigned};
-ghost use Rattle.std.proofs.Common.{rules};
+ghost use Rattle.std.proofs.Common.{rules, inl, inr};
 ghost use Rattle.capnp_model.specs.Sections.{bits_at, with_bits, number_of};
 
 use crate::units::ByteCount;
@@ -19,6 +19,9 @@ pub trait Primitive: Copy {
 
     /// The bytes of a number: 1, 2, 4 or 8.
     const BYTES: ByteCount;
+
+    /// A number has 1, 2, 4 or 8 bytes, so it lies in one word.
+    ghost of_a_word: { (BYTES ≡ 1) ⊎ ((BYTES ≡ 2) ⊎ ((BYTES ≡ 4) ⊎ (BYTES ≡ 8))) };
 
     /// The number in the first bytes.
     fn get(bytes: &[u8]) -> Self
@@ -69,6 +72,8 @@ impl Primitive for u8 {
 
     const BYTES: ByteCount = 1;
 
+    ghost of_a_word = { inl refl };
+
     fn get(bytes: &[u8]) -> u8 {
         bytes[0]
     }
@@ -104,6 +109,8 @@ impl Primitive for i8 {
     ghost from_bits = { cast_signed w8 };
 
     const BYTES: ByteCount = 1;
+
+    ghost of_a_word = { inl refl };
 
     fn get(bytes: &[u8]) -> i8 {
         u8::get(bytes).cast_signed()
@@ -141,6 +148,8 @@ impl Primitive for u16 {
 
     const BYTES: ByteCount = 2;
 
+    ghost of_a_word = { inr (inl refl) };
+
     fn get(bytes: &[u8]) -> u16 {
         u16::from_le_bytes([bytes[0], bytes[1]])
     }
@@ -176,6 +185,8 @@ impl Primitive for i16 {
     ghost from_bits = { cast_signed w16 };
 
     const BYTES: ByteCount = 2;
+
+    ghost of_a_word = { inr (inl refl) };
 
     fn get(bytes: &[u8]) -> i16 {
         u16::get(bytes).cast_signed()
@@ -213,6 +224,8 @@ impl Primitive for u32 {
 
     const BYTES: ByteCount = 4;
 
+    ghost of_a_word = { inr (inr (inl refl)) };
+
     fn get(bytes: &[u8]) -> u32 {
         u32::from_le_bytes([bytes[0], bytes[1], bytes[2], bytes[3]])
     }
@@ -249,6 +262,8 @@ impl Primitive for i32 {
 
     const BYTES: ByteCount = 4;
 
+    ghost of_a_word = { inr (inr (inl refl)) };
+
     fn get(bytes: &[u8]) -> i32 {
         u32::get(bytes).cast_signed()
     }
@@ -284,6 +299,8 @@ impl Primitive for u64 {
     ghost from_bits = { λ n. n };
 
     const BYTES: ByteCount = 8;
+
+    ghost of_a_word = { inr (inr (inr refl)) };
 
     #[tactic(auto, using(crate::proofs::FirstBytes::first_eight))]
     fn get(bytes: &[u8]) -> u64 {
@@ -323,6 +340,8 @@ impl Primitive for i64 {
     ghost from_bits = { cast_signed w64 };
 
     const BYTES: ByteCount = 8;
+
+    ghost of_a_word = { inr (inr (inr refl)) };
 
     fn get(bytes: &[u8]) -> i64 {
         u64::get(bytes).cast_signed()

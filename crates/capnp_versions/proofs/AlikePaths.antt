@@ -19,7 +19,8 @@ use Rattle.capnp_versions.proofs.WholeValues.{whole-padded_to, whole-resized}
 use Rattle.capnp_versions.proofs.Alike.{Alike, SameCell, Agree, agree-more, agree-then, agree-put_bits, agree-put_child, agree-same, alike-child, alike-structure, IsStructLike, struct_like, struct-like}
 use Rattle.capnp_versions.proofs.SameLists.{IsListLike, list_like, list-like}
 use Rattle.capnp_versions.proofs.SameShapes.{Congruent, no_change, AnyPair, SameBody}
-use Rattle.capnp_versions.proofs.SameContents.{IsWrite, shape_words, element_bits, bare_nulls, congruent-field, congruent-element}
+use Rattle.capnp_versions.specs.Machines.{IsWrite}
+use Rattle.capnp_versions.proofs.SameContents.{shape_words, element_bits, bare_nulls, congruent-field, congruent-element}
 use Rattle.capnp_versions.proofs.Wrote.{Wrote, wrote-map, field-is-write, element-is-write, group-is-write, WritesField, WritesElement, WritesName, FoundName, found_name, find_name, WritesStruct, into_struct, WritesList, into_list, no-name, no-index, through-pointer, reads-nothing, reads-padded}
 use Rattle.capnp_versions.proofs.WroteLists.{at-plain, at-plain-element, at-child, at-pointer-element, at-element, at-padded-element}
 use Rattle.capnp_versions.proofs.Follows.{SameMark, IsNarrow, HasWords, NameFollows, ValueFollows, PointerFollows, ThroughFollows, EndFollows, FieldFollows, ElementFollows}

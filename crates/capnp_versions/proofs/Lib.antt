@@ -16,3 +16,13 @@ pub mod Partners
 pub mod FittingEdits
 pub mod FittingSchemas
 pub mod OwnOutput
+pub mod KeptFollows
+pub mod ReplacedViews
+pub mod OlderContents
+pub mod KeptViews
+pub mod GroupViews
+pub mod OlderSteps
+pub mod WriteOnly
+pub mod KindTrim
+pub mod Versions
+pub mod TrimmedRelays

@@ -23,7 +23,7 @@ other_name k l h = by (bytes_eq k l) refl
     by true e = let same : k ≡ l = (bytes_eq-Decides k l).0 e in absurd (cc (sym h ∙ (bytes_eq-Decides l k).1 (sym same)))
 
 -- a new name finds nothing
-not_found : (l : List ℕ) (fs : Fields) → IsNewName l fs → target_of l fs ≡ no_target
+pub not_found : (l : List ℕ) (fs : Fields) → IsNewName l fs → target_of l fs ≡ no_target
 not_found l no_fields h = refl
 not_found l (field k m b fs) h = ap (λ c. target_if c (target m b) (target_of l fs)) h.0 ∙ not_found l fs h.1
 

@@ -16,6 +16,7 @@ use Rattle.capnp_model.proofs.SoundShapes.{FitsSlot}
 use Rattle.capnp_model.proofs.FitCalls.{contents_fit}
 use Rattle.capnp_model.proofs.Widening.{bare}
 use Rattle.capnp_model.proofs.OlderReading.{SamePlain, same_bool, same_int, same_uint, same_enum, Related, related_void, related_plain', related_text, related_blob, related_untyped, related_interface, related_struct, related_list}
+use Rattle.capnp_versions.specs.Machines.{IsWrite}
 use Rattle.capnp_versions.specs.Whole.{IsWhole, AreWhole, HaveWhole, IsWholeVerb}
 use Rattle.capnp_versions.proofs.WholeValues.{whole-resized}
 use Rattle.capnp_versions.proofs.Alike.{Alike, SameCell, Agree, agree-more, agree-put_bits, agree-put_child, alike-structure}
@@ -94,11 +95,6 @@ plain_contents p q (whole_number (negsuc k)) (same_uint w) = tt
 plain_contents p q v (same_uint w) = tt
 plain_contents p q (enumerant k) (same_enum i j) = refl
 plain_contents p q v (same_enum i j) = tt
-
--- a verb that is no `get`
-abbrev pub IsWrite : Verb → Type 0
-IsWrite get = ⊥
-IsWrite _ = Unit {0}
 
 pub in_range : (verb : Verb) → IsWrite verb → IsWholeVerb verb → IsInRange verb
 in_range get w h = w

@@ -85,7 +85,7 @@ module _ (nodes : List Node) (accepted : IsAccepted nodes) (id : ℕ) (c : Call)
       by (refused k) e = both_left t u a (λ r h. cc (sym e ∙ h)) same
       by (shown how z) e = both_left t u a (λ r h. cc (sym e ∙ h)) same
 
-open-trim : (t : Tree) → IsOpen t → IsOpen (trim t)
+pub open-trim : (t : Tree) → IsOpen t → IsOpen (trim t)
 unfolding trim
 open-trim null h = tt
 open-trim (structure w n ts) h = tt

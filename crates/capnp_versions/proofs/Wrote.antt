@@ -11,7 +11,7 @@ use Rattle.capnp_model.specs.NamedPaths.{IsOpen}
 use Rattle.capnp_model.specs.Admitted.{is_group_write}
 use Rattle.capnp_model.proofs.Paths.{read_child-is, entry_of-fields_of}
 use Rattle.capnp_model.proofs.Marks.{read_child-padded_to}
-use Rattle.capnp_versions.proofs.SameContents.{IsWrite}
+use Rattle.capnp_versions.specs.Machines.{IsWrite}
 
 -- the call is carried out and writes
 abbrev pub Wrote : {A : Type 0} → Outcome A → Type 0

@@ -4,11 +4,10 @@ use Rattle.capnp_model.specs.Schemas.{Node}
 use Rattle.capnp_records.specs.declared.fault.SchemaFault.TheVariants.{Rule}
 use Rattle.capnp_records.specs.NodeViews.{node_of}
 use Rattle.capnp_records.specs.Faults.{IsRefusalOf}
-use Rattle.capnp_records.specs.Taken.{refusal_of}
 use Rattle.capnp_relay_cli.specs.BuiltIn.{built_in_node}
 use Rattle.capnp_relay_cli.proofs.settings.schema.Goals as goal
 
-accepted : refusal_of (built_in_node ∷ []) ≡ None
+accepted : Accepted.fault_of (built_in_node ∷ []) ≡ None
 unfolding Accepted.has_no_overlap Accepted.shape_in Accepted.areas_of_body
 accepted = refl
 
@@ -17,7 +16,7 @@ returns-in-Err-Rule-clause-refused c =
     let fault : IsRefusalOf (map node_of c.in_ok-vec.field-0.items) (Rule c.in-Err-Rule.rule c.in-Err-Rule.node) =
     subst (IsRefusalOf (map node_of c.in_ok-vec.field-0.items)) c.in-Err-Rule.field-0-is c.in-Err-Rule.ensures.refused in
     let items : map node_of c.in_ok-vec.field-0.items ≡ built_in_node ∷ [] = search rules in
-    let refused : refusal_of (built_in_node ∷ []) ≡ Some (c.in-Err-Rule.rule, c.in-Err-Rule.node) =
-    subst (λ (nodes : List Node). refusal_of nodes ≡ Some (c.in-Err-Rule.rule, c.in-Err-Rule.node)) items fault in
+    let refused : Accepted.fault_of (built_in_node ∷ []) ≡ Some (c.in-Err-Rule.rule, c.in-Err-Rule.node) =
+    subst (λ (nodes : List Node). Accepted.fault_of nodes ≡ Some (c.in-Err-Rule.rule, c.in-Err-Rule.node)) items fault in
     let no : ◌≡◌ {A = Option (ℕ × ℕ)} None (Some (c.in-Err-Rule.rule, c.in-Err-Rule.node)) = sym accepted ∙ refused in
     absurd cc

@@ -10,6 +10,7 @@ use Rattle.capnp_stream.specs.Frames.{TakesMessage, IsCut}
 use Rattle.capnp_stream.proofs.WordLemmas.{whole_words-of_length, words_in_bytes-length, cut-of_joined, writable-joined}
 use Rattle.capnp_stream.proofs.SpellLemmas.{CanSpell-of_cut}
 use Rattle.capnp_stream.proofs.FrameLemmas.{large-part, body-part, message-of_pieces}
+use Rattle.capnp_stream.proofs.ReadLemmas.{table-wanted}
 use Rattle.capnp_stream.proofs.frames.read_segments.Goals as goal
 
 pub returns-then-not-is_within-clause-part : goal.returns-then-not-is_within-clause-part
@@ -46,11 +47,16 @@ returns-clause-kept g c =
     let long : length body ≡ 8 * sum ns = c.in_ok-bytes.ensures.len ∙ ap (λ n. 8 * n) c.total_words-total.ensures in
     let parts : segments_of c.new.result ≡ cut ns (words_in_bytes (sum ns) body) = cut-of_joined _ body _ ns c.new.ensures.bytes c.new.ensures.ranges (omega (arith, long)) in
     let small : AreBytes body = subst AreBytes c.deref.ensures.value c.are_bytes.ensures in
-    subst (CanSpell c.args.limit) (sym parts) (CanSpell-of_cut c.args.limit ns body c.in_ok-table.ensures.some c.in_ok-table.ensures.few c.in_ok-table.ensures.short kept small)
+    subst (CanSpell c.args.limit) (sym parts) (CanSpell-of_cut c.args.limit ns body c.in_ok-table.ensures.few.0 c.in_ok-table.ensures.few.1 c.in_ok-table.ensures.short kept small)
 
 pub returns-clause-writable : goal.returns-clause-writable
 returns-clause-writable g c =
     let ns = lengths_of c.in_ok-table.table in
     let body = c.in_ok-bytes.bytes.items in
     let long : length body ≡ 8 * sum ns = c.in_ok-bytes.ensures.len ∙ ap (λ n. 8 * n) c.total_words-total.ensures in
-    writable-joined _ body _ ns c.new.ensures.bytes c.new.ensures.ranges (omega (arith, long)) c.in_ok-table.ensures.short c.in_ok-table.ensures.some c.in_ok-table.ensures.few
+    writable-joined _ body _ ns c.new.ensures.bytes c.new.ensures.ranges (omega (arith, long)) c.in_ok-table.ensures.short c.in_ok-table.ensures.few.0 c.in_ok-table.ensures.few.1
+
+pub returns-in_err-bytes-clause-wanted : goal.returns-in_err-bytes-clause-wanted
+returns-in_err-bytes-clause-wanted g c =
+    let p = err_from_is_err_and c.from_residual-in_err-bytes.result c.from_residual-in_err-bytes.ensures.1 in
+    rw (p.1, p.2) (table-wanted g.F.MessageForm.reader c.args.limit (lengths_of c.in_ok-table.table) _ _ _ _ _ c.in_ok-table.ensures.table c.in_err-bytes.ensures.cut)

@@ -1,12 +1,8 @@
-use Rattle.std.proofs.Common.{◌≡◌, ◌<◌, ◌+◌, arith, length, ap, sym, subst, List, ℕ, sum}
+use Rattle.std.proofs.Common.{inl, inr, arith, ap, sym, subst, sum}
 use Rattle.std.proofs.lemmas.Result.{err_from_is_err_and}
 use Rattle.capnp_model.specs.Spelling.{AreShort}
-use Rattle.capnp_stream.specs.Ranges.{AreBytes}
-use Rattle.capnp_stream.specs.Flat.{table_lengths}
-use Rattle.capnp_stream.specs.Frames.{TakesTable}
-use Rattle.capnp_stream.proofs.FlatLemmas.{table-holds}
 use Rattle.capnp_stream.proofs.FrameLemmas.{no-part, TakesTable-of_lengths}
-use Rattle.capnp_stream.proofs.TableLemmas.{count-part, rest-fault, rest-part, table-of_buffer, table-short, table-sum, read-kind}
+use Rattle.capnp_stream.proofs.TableLemmas.{count-part, rest-fault, rest-part, table-of_buffer, table-short, table-sum}
 use Rattle.capnp_stream.proofs.frames.read_table.Goals as goal
 
 pub returns-in_err-table-clause-part : goal.returns-in_err-table-clause-part
@@ -48,3 +44,8 @@ returns-clause-table g c =
     let table = table-of_buffer g.F.MessageForm.reader g.met.F.MessageForm.fronts c.args.limit c.in_ok-count.count c.fill_count.new.buffer c.in_ok-count.ensures.count c.in_ok-count.ensures.few.1 _ _ c.in_ok-count.ensures.first
     _ c.fill_others.new.buffer c.fill_others.auto.buffer (omega (arith, c.in_ok-count.ensures.few.1, c.fill_count.auto.buffer)) c.in_ok-fill_others.ensures.kept c.in_ok-fill_others.ensures.ok in
     TakesTable-of_lengths g.F.MessageForm.reader g.met.F.MessageForm.fronts c.args.limit _ _ _ _ c.fill.ensures table
+
+pub returns-in_err-reserve-clause-wanted : goal.returns-in_err-reserve-clause-wanted
+returns-in_err-reserve-clause-wanted g c =
+    let p = err_from_is_err_and c.from_residual-in_err-reserve.result c.from_residual-in_err-reserve.ensures.1 in
+    rw p.1 (λ _. inr (inl (_, c.in_ok-count.ensures.first)))

@@ -1,4 +1,4 @@
-use Rattle.std.proofs.Common.{true, false, ◌≡◌, ◌≤◌, ◌+◌, ◌*◌, ◌/◌, ◌%◌, ◌^◌, ◌++◌, arith, length, take, sum, sym, ap, refl, subst, List, ℕ, ◌∙◌, length-take-le}
+use Rattle.std.proofs.Common.{inr, true, false, ◌≡◌, ◌≤◌, ◌+◌, ◌*◌, ◌/◌, ◌%◌, ◌^◌, ◌++◌, arith, length, take, sum, sym, ap, refl, subst, List, ℕ, ◌∙◌, length-take-le}
 use Rattle.std.specs.Int.{from_le_bytes, w64}
 use Rattle.std.proofs.lemmas.List.{length-append}
 use Rattle.capnp_model.specs.Segments.{Segments}
@@ -137,3 +137,6 @@ returns-clause-kept g c =
     let room : 8 * sum ns ≤ length body = omega (arith, total, c.fill_front.auto.buffer, c.split_at_mut-body.ensures.back_len, c.if-buffer-table.false) in
     let all : table_lengths n (t ++ body) ≡ ns = table-front n t body size ∙ same in
     ap (λ l. within (sum l) c.args.limit) all ∙ kept
+
+pub returns-then-buffer-table-clause-room : goal.returns-then-buffer-table-clause-room
+returns-then-buffer-table-clause-room g c = λ _. inr (inr (table_lengths c.in_ok-count.count c.fill_table.new.buffer, c.in_ok-count.ensures.table))

@@ -1,7 +1,7 @@
-use Rattle.std.proofs.Common.{◌≡◌, ◌<◌, ◌+◌, ◌*◌, ◌/◌, arith, length, ap, sym, subst, List, ℕ}
+use Rattle.std.proofs.Common.{inl, inr, arith, length}
 use Rattle.std.proofs.lemmas.Result.{err_from_is_err_and}
 use Rattle.capnp_stream.proofs.FrameLemmas.{no-part}
-use Rattle.capnp_stream.proofs.TableLemmas.{count-part, count-needs, rest-fault, rest-part, table-of_buffer, fill-kind}
+use Rattle.capnp_stream.proofs.TableLemmas.{count-part, count-needs, rest-fault, rest-part, table-of_buffer}
 use Rattle.capnp_stream.proofs.lent.fill_table.Goals as goal
 
 pub returns-then-buffer-lt8-clause-part : goal.returns-then-buffer-lt8-clause-part
@@ -36,3 +36,6 @@ pub returns-clause-table : goal.returns-clause-table
 returns-clause-table g c =
     table-of_buffer g.F.MessageForm.reader g.met.F.MessageForm.fronts c.args.limit c.in_ok-count.count c.fill_count.new.buffer c.in_ok-count.ensures.count c.in_ok-count.ensures.few.1 _ _ c.in_ok-count.ensures.first
     _ c.fill_others.new.buffer c.fill_others.auto.buffer (omega (arith, c.if-buffer-count.false, c.fill_count.auto.buffer)) c.in_ok-fill_others.ensures.kept c.in_ok-fill_others.ensures.ok
+
+pub returns-then-buffer-count-clause-room : goal.returns-then-buffer-count-clause-room
+returns-then-buffer-count-clause-room g c = λ _. inr (inl (_, c.in_ok-count.ensures.first))

@@ -5,7 +5,6 @@ use Rattle.capnp_stream.specs.Pieces.{TakesPiece}
 use Rattle.capnp_stream.proofs.WordLemmas.{from_le_bytes-front}
 use Rattle.capnp_stream.proofs.PieceLemmas.{IsCut-of_piece, one-word}
 use Rattle.capnp_stream.proofs.FrameLemmas.{start-fault, start-part, many-fault, many-part}
-use Rattle.capnp_stream.proofs.TableLemmas.{read-kind, fill-kind}
 use Rattle.capnp_stream.proofs.tables.fill_count.Goals as goal
 
 pub returns-in_err-read_piece-clause-refused : goal.returns-in_err-read_piece-clause-refused

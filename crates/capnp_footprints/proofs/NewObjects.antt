@@ -1,0 +1,175 @@
+-- A null pointer gets a new object, whose words are zero.
+use Rattle.std.proofs.Common.{◌≡◌, ℕ, zero, suc, ◌+◌, ◌-◌, ◌*◌, ◌^◌, ◌<◌, ◌≤◌, Bool, true, false, eqb, cond, List, [], ◌∷◌, ◌++◌, length, take, drop, replicate, Option, Some, None, Result, Ok, refl, ap, sym, ◌∙◌, subst, arith}
+use Rattle.std.specs.List.{slice_get, AllByRecursion}
+use Rattle.std.specs.Option.{ok_or}
+use Rattle.std.specs.Result.{result_ok}
+use Rattle.std.proofs.lemmas.List.{take-replicate}
+use Rattle.std.proofs.lemmas.Bool.Decides.{nat_tests}
+use Rattle.capnp_model.specs.Kinds.{Kind, OutOfBounds}
+use Rattle.capnp_model.specs.Chains.{◌>>=◌, ◌and_then◌}
+use Rattle.capnp_model.specs.Sections.{section_of}
+use Rattle.capnp_model.specs.Segments.{Segments, Place, place, after, word_at, words_at}
+use Rattle.capnp_model.specs.Pointers.{pointer_of, begins, Object, nothing, a_struct, Found, found_by, found_at}
+use Rattle.capnp_model.specs.Trees.{Tree, null, structure, Trees, none, resized}
+use Rattle.capnp_model.specs.Traversal.{each, tree_of, tree_at}
+use Rattle.capnp_model.specs.Coverage.{Span, span, times_held, pad_of, pads_by, pads_at, from_each, covered_found, covered_object, Keeps, Grows}
+use Rattle.capnp_model.specs.Encoding.{struct_pointer}
+use Rattle.capnp_model.proofs.PointerWords.{struct_says, begins_behind, begins_here}
+use Rattle.capnp_model.proofs.SectionElements.{section_of-zeros}
+use Rattle.capnp_model.proofs.Locality.{word_is, word_was}
+use Rattle.capnp_footprints.specs.Footprints.{behind, footprint, object_footprint, Owns}
+use Rattle.capnp_footprints.specs.Changes.{absent, Changes, Replaces}
+use Rattle.capnp_footprints.specs.Writes.{spliced, with_words, with_zeros, segment_end}
+use Rattle.capnp_footprints.proofs.Spans.{held, held_is, words_front, words_back, there, not_there, grows_then, held_le}
+use Rattle.capnp_footprints.proofs.There.{words_there}
+use Rattle.capnp_footprints.proofs.Rows.{after_none}
+use Rattle.capnp_footprints.proofs.Lift.{slot_is, struct_is, struct_of_parts}
+use Rattle.capnp_footprints.proofs.Splices.{Rewrites, splice_rewrites, splice_words}
+use Rattle.capnp_footprints.proofs.Growing.{Extends, zeros_extend}
+use Rattle.capnp_footprints.proofs.Writing.{rewrites_keep}
+
+-- ---- zeros
+
+null_found : (s : Segments) (p : Place) → word_at s p ≡ Some 0 → found_at s p ≡ Ok (record { pads = 0; object = nothing })
+null_found s p e = rw e refl
+
+null_read : (n : ℕ) (s : Segments) (p : Place) → word_at s p ≡ Some 0 → tree_at n s p ≡ Some null
+unfolding tree_at
+null_read zero s p e = rw (null_found s p e) refl
+null_read (suc n) s p e = rw (null_found s p e) refl
+
+null_behind : (n : ℕ) (s : Segments) (p : Place) → word_at s p ≡ Some 0 → behind n s p ≡ []
+unfolding behind
+null_behind zero s p e = ap pads_by e
+null_behind (suc n) s p e =
+    ap (λ (o : Option ℕ). pads_by o ++ covered_found (covered_object s (behind n s)) (found_at s p)) e
+    ∙ ap (covered_found (covered_object s (behind n s))) (null_found s p e)
+
+null_footprint : (n : ℕ) (s : Segments) (p q : Place) → word_at s p ≡ Some 0 → footprint n s p q ≡ held p 1 q
+null_footprint n s p q e = ap (λ (xs : List Span). times_held (span p 1 ∷ xs) q) (null_behind n s p e) ∙ omega (arith, held_is p 1 [] q)
+
+first_zero : (s : Segments) (p : Place) (k : ℕ) → words_at s p (suc k) ≡ Some (replicate (suc k) 0) → (word_at s p ≡ Some 0) × (words_at s (after p 1) k ≡ Some (replicate k 0))
+first_zero s p k e =
+    let sum : suc k ≡ 1 + k = omega arith in
+    let e' : words_at s p (1 + k) ≡ Some (replicate (suc k) 0) = ap (words_at s p) (sym sum) ∙ e in
+    (word_was s p 0 (words_front s p 1 k _ e'), words_back s p 1 k _ e')
+
+zeros_read : (n : ℕ) (s : Segments) (p : Place) (k : ℕ) → words_at s p k ≡ Some (replicate k 0) → each (tree_at n s) p k ≡ Some (resized k none)
+zeros_read n s p zero e = refl
+zeros_read n s p (suc k) e =
+    let x = first_zero s p k e in
+    let here : tree_at n s p ≡ Some null = null_read n s p x.0 in
+    let rest : each (tree_at n s) (after p 1) k ≡ Some (resized k none) = zeros_read n s (after p 1) k x.1 in
+    rw (here, rest) refl
+
+zeros_behind : (n : ℕ) (s : Segments) (p : Place) (k : ℕ) → words_at s p k ≡ Some (replicate k 0) → from_each (behind n s) p k ≡ []
+zeros_behind n s p zero e = refl
+zeros_behind n s p (suc k) e =
+    let x = first_zero s p k e in
+    ap (λ (xs : List Span). xs ++ from_each (behind n s) (after p 1) k) (null_behind n s p x.0) ∙ zeros_behind n s (after p 1) k x.1
+
+zero_struct : (n : ℕ) (s : Segments) (p : Place) (d k : ℕ) → words_at s p (d + k) ≡ Some (replicate (d + k) 0) → tree_of s (tree_at n s) (a_struct p d k) ≡ Some (structure d 0 (resized k none))
+zero_struct n s p d k e =
+    let l : d ≤ d + k = omega arith in
+    let back : words_at s (after p d) k ≡ Some (replicate k 0) = words_back s p d k _ e ∙ ap (λ (xs : List ℕ). Some xs) (drop_zeros d k) in
+    struct_of_parts n s p d k 0 (resized k none) (record {
+      words = replicate (d + k) 0;
+      there = e;
+      section_is = ap section_of (take-replicate d (d + k) 0 l) ∙ section_of-zeros d;
+      kids_are = zeros_read n s (after p d) k back;
+    })
+  where
+    drop_zeros : (d k : ℕ) → drop d (replicate {A = ℕ} (d + k) 0) ≡ replicate {A = ℕ} k 0
+    drop_zeros zero k = let e : 0 + k ≡ k = omega arith in ap (λ (n : ℕ). replicate {A = ℕ} n 0) e
+    drop_zeros (suc d) k = let e : suc d + k ≡ suc (d + k) = omega arith in ap (λ (n : ℕ). drop (suc d) (replicate {A = ℕ} n 0)) e ∙ drop_zeros d k
+
+zero_struct_takes : (n : ℕ) (s : Segments) (p : Place) (d k : ℕ) (q : Place) → words_at s p (d + k) ≡ Some (replicate (d + k) 0) → object_footprint n s (a_struct p d k) q ≡ held p (d + k) q
+zero_struct_takes n s p d k q e =
+    let back : words_at s (after p d) k ≡ Some (replicate k 0) = words_back s p d k _ e ∙ ap (λ (xs : List ℕ). Some xs) (drop_zeros d k) in
+    ap (λ (xs : List Span). times_held (span p (d + k) ∷ xs) q) (zeros_behind n s (after p d) k back) ∙ omega (arith, held_is p (d + k) [] q)
+  where
+    drop_zeros : (d k : ℕ) → drop d (replicate {A = ℕ} (d + k) 0) ≡ replicate {A = ℕ} k 0
+    drop_zeros zero k = let e : 0 + k ≡ k = omega arith in ap (λ (n : ℕ). replicate {A = ℕ} n 0) e
+    drop_zeros (suc d) k = let e : suc d + k ≡ suc (d + k) = omega arith in ap (λ (n : ℕ). drop (suc d) (replicate {A = ℕ} n 0)) e ∙ drop_zeros d k
+
+-- ---- a written word
+
+pub written_word : (m : Segments) (p : Place) (v w : ℕ) → word_at m p ≡ Some v → word_at (with_words m p (w ∷ [])) p ≡ Some w
+unfolding spliced
+written_word m p v w e =
+    let l : 0 + length (w ∷ []) ≤ 1 = omega arith in
+    let now : words_at (with_words m (after p 0) (w ∷ [])) p 1 ≡ Some (w ∷ []) = splice_words m p 0 1 (w ∷ []) (v ∷ []) l (word_is m p v e) in
+    word_was (with_words m p (w ∷ [])) p w (ap (λ (q : Place). words_at (with_words m q (w ∷ [])) p 1) (sym (after_none p)) ∙ now)
+
+-- ---- the change
+
+-- in u a null pointer of s and new words behind s are other words, and nothing else is
+module _ (s m u : Segments) (p r : Place) (k : ℕ) (x : Extends s m r k) (was : word_at s p ≡ Some 0) (g : Grows m u) (no_more : (q : Place) → absent m q ≡ absent u q) (others : (q : Place) (w : ℕ) → held p 1 q ≡ 0 → held r k q ≡ 0 → word_at m q ≡ Some w → word_at u q ≡ Some w) where
+  -- the pointer isn't among the new words
+  pub beside_new : (q : Place) → held r k q + held p 1 q ≤ 1
+  beside_new q = by_cases (held p 1 q) refl
+    where
+      by_cases : (a : ℕ) → held p 1 q ≡ a → held r k q + held p 1 q ≤ 1
+      by_cases zero e = omega (arith, e, held_le r k q)
+      by_cases (suc a) e =
+          let y = words_there s (span p 1 ∷ []) q ((0 ∷ [], word_is s p 0 was), tt) (omega (arith, e, held_is p 1 [] q)) in
+          omega (arith, x.only q, there s q y.0 y.1, held_le p 1 q)
+
+  pub filled : (n : ℕ) (d : Place → ℕ) → ((q : Place) → d q ≡ held p 1 q + held r k q) → Changes s u (footprint n s p) d
+  filled n d e =
+      record {
+        grows = grows_then s m u x.grows g;
+        kept = λ q w f z. (let c = null_footprint n s p q was in let t = there s q w f in others q w (omega (arith, c, z)) (omega (arith, x.only q, t)) (x.kept q w f));
+        within = λ q. omega (arith, e q, null_footprint n s p q was, x.only q);
+        cleared = λ q w f z l. absurd (omega (arith, e q, z, l, null_footprint n s p q was, x.only q, no_more q, there u q w f));
+      }
+
+-- ---- a struct behind the end of the pointer's own segment
+
+not_zero : (w : ℕ) → 0 < w → eqb w 0 ≡ false
+not_zero w l = grind (arith, nat_tests)
+
+struct_word_pos : (o d k : ℕ) → 0 < d + k → 0 < struct_pointer o d k
+struct_word_pos o d k l = omega (arith, l)
+
+found_there : (q : Place) (d k : ℕ) (r : Result Place Kind) → r ≡ Ok q → ((r and_then λ a. (let o : Result Object Kind = Ok (a_struct a d k) in o)) and_then λ z. (let f : Result Found Kind = Ok (record { pads = 0; object = z }) in f)) ≡ Ok (record { pads = 0; object = a_struct q d k })
+found_there q d k r e = rw e refl
+
+struct_found : (s : Segments) (p : Place) (o d k : ℕ) → word_at s p ≡ Some (struct_pointer o d k) → 0 < struct_pointer o d k → o < 2 ^ 30 → d < 2 ^ 16 → k < 2 ^ 16 → (q : Place) → begins (after p 1) o ≡ Ok q → found_at s p ≡ Ok (record { pads = 0; object = a_struct q d k })
+struct_found s p o d k e pos lo ld lk q b =
+    let says = struct_says o d k lo ld lk in
+    let nz : eqb (struct_pointer o d k) 0 ≡ false = not_zero (struct_pointer o d k) pos in
+    rw (e, nz) (ap (found_by s p) says ∙ found_there q d k (begins (after p 1) o) b)
+
+struct_pads : (s : Segments) (p : Place) (o d k : ℕ) → word_at s p ≡ Some (struct_pointer o d k) → o < 2 ^ 30 → d < 2 ^ 16 → k < 2 ^ 16 → pads_at s p ≡ []
+struct_pads s p o d k e lo ld lk = ap pads_by e ∙ ap pad_of (struct_says o d k lo ld lk)
+
+-- what a pointer to a struct of zeros takes
+slot_takes : (n : ℕ) (u : Segments) (p r : Place) (d k : ℕ) (q : Place) → found_at u p ≡ Ok (record { pads = 0; object = a_struct r d k }) → pads_at u p ≡ [] → words_at u r (d + k) ≡ Some (replicate (d + k) 0) → footprint (suc n) u p q ≡ held p 1 q + held r (d + k) q
+slot_takes n u p r d k q f no_pads z =
+    let a = slot_is n u p (record { pads = 0; object = a_struct r d k }) q f in
+    let b : times_held (span p 1 ∷ pads_at u p) q ≡ times_held (span p 1 ∷ []) q = ap (λ (xs : List Span). times_held (span p 1 ∷ xs) q) no_pads in
+    omega (arith, a, b, held_is p 1 [] q, zero_struct_takes n u r d k q z)
+
+pub near_struct : (n : ℕ) (s : Segments) (p : Place) (d k o : ℕ) → p.segment < length s → word_at s p ≡ Some 0 → 0 < d + k → p.position + 1 + o ≡ segment_end s p.segment → o < 2 ^ 29 → d < 2 ^ 16 → k < 2 ^ 16 → Replaces (suc n) s (with_words (with_zeros s p.segment (d + k)) p (struct_pointer o d k ∷ [])) p (structure d 0 (resized k none))
+unfolding tree_at
+near_struct n s p d k o l was some at lo ld lk =
+    let i = p.segment in
+    let r = place p.segment (segment_end s p.segment) in
+    let m = with_zeros s p.segment (d + k) in
+    let u = with_words (with_zeros s p.segment (d + k)) p (struct_pointer o d k ∷ []) in
+    let in_s : p.segment ≤ length s = omega (arith, l) in
+    let x = zeros_extend s p.segment (d + k) in_s in
+    let w = splice_rewrites (with_zeros s p.segment (d + k)) p (struct_pointer o d k ∷ []) in
+    let w1 : Rewrites (with_zeros s p.segment (d + k)) u p 1 = w in
+    let others : (q : Place) (v : ℕ) → held p 1 q ≡ 0 → held r (d + k) q ≡ 0 → word_at (with_zeros s p.segment (d + k)) q ≡ Some v → word_at u q ≡ Some v = λ q v a b e. w1.others q v a e in
+    let apart = beside_new s (with_zeros s p.segment (d + k)) u p r (d + k) x was w1.grows w1.no_more others in
+    let word : word_at u p ≡ Some (struct_pointer o d k) = written_word (with_zeros s p.segment (d + k)) p 0 (struct_pointer o d k) (x.kept p 0 was) in
+    let start : begins (after p 1) o ≡ Ok (place p.segment (segment_end s p.segment)) = begins_behind (after p 1) o lo ∙ ap (λ (j : ℕ). Ok (place p.segment j)) at in
+    let found = struct_found u p o d k word (struct_word_pos o d k some) (omega (arith, lo)) ld lk (place p.segment (segment_end s p.segment)) start in
+    let pads = struct_pads u p o d k word (omega (arith, lo)) ld lk in
+    let zeros : words_at u (place p.segment (segment_end s p.segment)) (d + k) ≡ Some (replicate (d + k) 0) = (rewrites_keep (with_zeros s p.segment (d + k)) u p 1 (span r (d + k) ∷ []) w1 (λ q. omega (arith, apart q, held_is r (d + k) [] q))).0 (replicate (d + k) 0) x.zeros in
+    record {
+      means = rw found (zero_struct n u (place p.segment (segment_end s p.segment)) d k zeros);
+      changes = filled s (with_zeros s p.segment (d + k)) u p r (d + k) x was w1.grows w1.no_more others (suc n) (footprint (suc n) u p) (λ q. slot_takes n u p r d k q found pads zeros);
+    }

@@ -1,0 +1,11 @@
+use Rattle.std.proofs.Common.{◌<◌, ◌^◌, ℕ, sym, subst, arith}
+use Rattle.std.specs.Int.{w8}
+use Rattle.capnp_packing.proofs.RunLemmas.{tag-small}
+use Rattle.capnp_packing.proofs.TagLemmas.{tag-is}
+use Rattle.capnp_packing.proofs.tags.tag_of.Goals as goal
+
+pub overflow_cast-result : goal.overflow_cast-result
+overflow_cast-result c = record { fits = subst (λ (n : ℕ). n < 2 ^ 8) (sym (tag-is c.args.word.now (omega arith))) (tag-small 8 c.args.word.now (omega arith)) }
+
+pub returns : goal.returns
+returns c = tag-is c.args.word.now (omega arith)

@@ -1,0 +1,34 @@
+-- What was unpacked of bytes that are shown. (Encoding, "Packing")
+use Rattle.std.specs.Prelude.{◌≡◌, ℕ, ◌-◌, ◌/◌, ◌%◌, ◌≤◌, List, ◌++◌, length, take, Ok}
+use Rattle.std.specs.Int.{w64, from_le_bytes}
+use Rattle.capnp_model.specs.Bytes.{words_in_bytes}
+use Rattle.capnp_model.specs.Packing as model
+use Rattle.capnp_model.specs.Packing.{group_at, unpacked_from}
+use Rattle.std.specs.declared.option.Option.{Option}
+use Rattle.capnp_packing.specs.Parts.{Leads, with_front}
+use Rattle.capnp_packing.specs.Runs.{run_view}
+use Rattle.capnp_packing.specs.declared.runs.Run.{Run}
+use Rattle.capnp_packing.specs.declared.shown.Head.{Head}
+use Rattle.capnp_packing.specs.declared.shown.Step.{Step}
+
+-- The group at the front of these bytes, whatever follows it, in a piece that has n words behind its own.
+pub record IsGroup (n : ℕ) (bytes : List ℕ) (head : Head) : Type 0 where
+  pub within : head.len ≤ length bytes
+  pub says : (more : List ℕ) → group_at n (take head.len bytes ++ more) ≡ Ok (from_le_bytes w64 head.word, run_view head.run, more)
+
+-- Of a piece that has n more words, from inside a run on, these bytes spell the first, and m words are left, from inside another run on.
+pub record Spells (n : ℕ) (run : model.Run) (bytes words : List ℕ) (m : ℕ) (then_run : model.Run) : Type 0 where
+  pub says : (more : List ℕ) → unpacked_from n run (bytes ++ more) ≡ with_front words (unpacked_from m then_run more)
+
+-- Bytes at the front of those that are shown spell the words at the front of a buffer, which has room for all words of the piece.
+pub record Unpacks (run : Run) (shown buf : List ℕ) (step : Step) : Type 0 where
+  pub within : step.taken ≤ length shown
+  pub fits : step.filled ≤ length buf
+  pub whole : step.filled % 8 ≡ 0
+  pub spells : Spells (length buf / 8) (run_view run) (take step.taken shown) (words_in_bytes (step.filled / 8) (take step.filled buf)) ((length buf - step.filled) / 8) (run_view step.run)
+
+-- Bytes were taken that spell the words at the front of a buffer, which has room for all words of the piece.
+pub record Reads (run : Run) (old new : Option (List ℕ)) (buf : List ℕ) (step : Step) : Type 0 where
+  pub fits : step.filled ≤ length buf
+  pub whole : step.filled % 8 ≡ 0
+  pub leads : Leads (unpacked_from (length buf / 8) (run_view run)) old new (λ more. with_front (words_in_bytes (step.filled / 8) (take step.filled buf)) (unpacked_from ((length buf - step.filled) / 8) (run_view step.run) more))

@@ -1,0 +1,85 @@
+//! Packs whole groups into a buffer that has room for them, without a look at its end between the bytes of a group.
+ghost use Rattle.std.specs.Prelude.{◌≡◌, ◌≤◌, ◌<◌, ◌%◌, ◌∷◌, ◌++◌, length, take};
+ghost use Rattle.capnp_model.specs.Packing.{byte_tag, nonzero, count_byte};
+ghost use Rattle.capnp_packing.specs.Runs.{run_view};
+ghost use Rattle.capnp_packing.specs.Written.{Packs};
+
+use crate::groups::{are_bytes, longest_run};
+use crate::runs::Run;
+use crate::shown::GROUP_LEN;
+use crate::tags::{gather, marked, tag_of};
+
+/// So many bytes of a buffer spell words. Behind them come the words of a run as they are, for which the buffer had no room, and then the groups of the rest.
+#[derive(Clone, Copy)]
+pub(crate) struct Written<'a> {
+    pub(crate) len: usize,
+    pub(crate) run: &'a [u8],
+    pub(crate) rest: &'a [u8],
+}
+
+/// Puts a word's tag, the bytes that it marks and the count of its run to the front of the buffer, and answers how many bytes these are.
+#[inline(always)]
+fn put_head(word: &[u8; 8], tag: u8, run: Run, buf: &mut [u8]) -> usize
+    requires tag_of { tag ≡ byte_tag word.now }
+    requires room { 10 ≤ length buf.old }
+    ensures head { take result buf.new ≡ tag ∷ (nonzero word.now ++ count_byte (run_view run)) }
+    ensures most { result ≤ 10 }
+{
+    buf[0] = tag;
+    buf[1..9].copy_from_slice(&gather(tag, word));
+    let len = 1 + marked(tag);
+    match run {
+        Run::Zeros(count) | Run::Verbatim(count) => {
+            buf[len] = count;
+            len + 1
+        }
+        Run::First | Run::Next => len,
+    }
+}
+
+/// Packs the group of the first word and its run, as far as the buffer has room for the run's words.
+#[inline(always)]
+fn pack_group<'a>(bytes: &'a [u8], buf: &mut [u8]) -> Written<'a>
+    requires whole { length bytes.now % 8 ≡ 0 }
+    requires some { 0 < length bytes.now }
+    requires room { 10 ≤ length buf.old }
+    ensures { Packs bytes.now buf.new result.len result.run.now result.rest.now }
+{
+    let Some((word, behind)) = bytes.split_first_chunk::<8>() else {
+        unreachable!()
+    };
+    are_bytes(word);
+    are_bytes(behind);
+    let tag = tag_of(word);
+    let run = longest_run(tag, behind);
+    let len = put_head(word, tag, run, buf);
+    let (run, rest) = run.split(behind);
+    if run.is_empty() || run.len() > buf.len() - len {
+        return Written { len, run, rest };
+    }
+    buf[len..len + run.len()].copy_from_slice(run);
+    Written {
+        len: len + run.len(),
+        run: &[],
+        rest,
+    }
+}
+
+/// Packs groups as far as the buffer has room for them.
+pub(crate) fn pack_groups<'a>(bytes: &'a [u8], buf: &mut [u8]) -> Written<'a>
+    requires whole { length bytes.now % 8 ≡ 0 }
+    requires some { 0 < length bytes.now }
+    requires room { 10 ≤ length buf.old }
+    ensures { Packs bytes.now buf.new result.len result.run.now result.rest.now }
+{
+    let mut made = pack_group(bytes, buf);
+    while made.run.is_empty() && !made.rest.is_empty() && buf.len() - made.len >= GROUP_LEN {
+        let next = pack_group(made.rest, &mut buf[made.len..]);
+        made = Written {
+            len: made.len + next.len,
+            run: next.run,
+            rest: next.rest,
+        };
+    }
+    made
+}

@@ -1,0 +1,130 @@
+-- From the parts of a reader's promise to the whole.
+use Rattle.std.proofs.Common.{◌≡◌, inl, inr, ℕ, [], List, Bool, true, false, None, Some, IsTrue, ◌↔◌, IfSome, Err, subst, sym}
+use Rattle.std.specs.declared.convert.AsSlice.{Ghosts}
+use Rattle.std.specs.declared.option.Option.{Option}
+use Rattle.std.specs.Io.KnownBytes.{Keeps, IsAtEnd}
+use Rattle.std.proofs.KnownBytes.{Keeps-trans, Consumes-kept}
+use Rattle.capnp_units.specs.declared.errors.Error.{Error}
+use Rattle.capnp_units.specs.declared.kinds.ErrorKind.{ErrorKind}
+use Rattle.capnp_units.specs.declared.kinds.ErrorKind.TheVariants.{OutOfMemory, PrematureEndOfFile, Device}
+use Rattle.capnp_model.specs.Messages.{Reader}
+use Rattle.capnp_stream.specs.Counting.{KindCounts}
+use Rattle.capnp_stream.specs.Pieces.{ReadsFronts}
+use Rattle.capnp_stream.specs.Frames.{IsFrameFault, TakesStart, TakesWholePieces, TakesTable, IsFramingKind, IsReadKind, IsCut}
+use Rattle.capnp_stream.specs.Reading.{TriesMessage, ReadsMessage}
+use Rattle.capnp_stream.specs.Lent.{IsFillKind}
+use Rattle.capnp_stream.specs.Filling.{TriesFilling, FillsMessage}
+use Rattle.capnp_stream.proofs.KnownLemmas.{Consumes-of_kept}
+use Rattle.capnp_stream.proofs.FrameLemmas.{part-of_kept, TakesStart-of_kept, fault-of_kept}
+
+module _ (read : Reader) (limit : Option ℕ) where
+  pub pieces-of_kept : (a b c : Option (List ℕ)) → Keeps a b → TakesWholePieces read limit b c → TakesWholePieces read limit a c
+  pieces-of_kept a b c kept (inl same) = inl (Keeps-trans a b c kept same)
+  pieces-of_kept a b c kept (inr (inl p)) = let q = p.1 in inr (inl (p.0, (q.0, q.1, Consumes-of_kept a b c q.0 kept q.2, q.3)))
+  pieces-of_kept a b c kept (inr (inr p)) = let q = p.1 in inr (inr (p.0, (q.0, Consumes-of_kept a b c q.0 kept q.1, q.2, q.3)))
+
+module _ (read : Reader) (fronts : ReadsFronts read) (faults : ErrorKind → Type 0) (limit : Option ℕ) where
+  -- the source failed at the look
+  pub tries-failed : (a b : Option (List ℕ)) (m n : ℕ) (e : Error) → e.kind ≡ Device → Keeps a b → KindCounts e.kind m n
+      → TriesMessage read faults limit (record { remaining = a; failures = m }) (Err e) (record { remaining = b; failures = n })
+  tries-failed a b m n e failed kept count = record {
+    message = tt;
+    kept = tt;
+    writable = tt;
+    none = tt;
+    refused = λ framing. let no : IsFramingKind Device = subst IsFramingKind failed framing in absurd no;
+    kind = let device : IsReadKind faults Device = tt in subst (IsReadKind faults) (sym failed) device;
+    part = part-of_kept read fronts limit a b kept;
+    wanted = λ w. absurd cc;
+    count = count;
+  }
+
+  -- some byte was left, and the message was refused
+  pub tries-refused : (a b c : Option (List ℕ)) (m n : ℕ) (e : Error) (look : Bool) → IfSome a (λ xs. IsTrue look ↔ (xs ≡ [])) → look ≡ false → Keeps a b
+      → (IsFramingKind e.kind → IfSome b (λ xs. IsFrameFault read limit xs e.kind)) → IsReadKind faults e.kind → TakesStart read limit b c → (e.kind ≡ OutOfMemory → TakesWholePieces read limit b c) → KindCounts e.kind m n
+      → TriesMessage read faults limit (record { remaining = a; failures = m }) (Err e) (record { remaining = c; failures = n })
+  tries-refused a b c m n e look at unseen kept refused kind part wanted count = record {
+    message = tt;
+    kept = tt;
+    writable = tt;
+    none = tt;
+    refused = λ framing. fault-of_kept read limit a b e.kind look at unseen kept (refused framing);
+    kind = kind;
+    part = TakesStart-of_kept read limit a b c kept part;
+    wanted = λ w. pieces-of_kept read limit a b c kept (wanted w);
+    count = count;
+  }
+
+  -- no byte was left
+  pub reads-none : (a b : Option (List ℕ)) (m n : ℕ) (e : Error) → e.kind ≡ PrematureEndOfFile → IsAtEnd a → Keeps a b → n ≡ m
+      → ReadsMessage read faults limit (record { remaining = a; failures = m }) (Err e) (record { remaining = b; failures = n })
+  reads-none a b m n e end at kept count = record {
+    message = tt;
+    kept = tt;
+    writable = tt;
+    no_byte = λ _. (at, kept);
+    refused = λ framing. let no : IsFramingKind PrematureEndOfFile = subst IsFramingKind end framing in absurd no;
+    kind = λ other. absurd (other end);
+    part = part-of_kept read fronts limit a b kept;
+    wanted = λ w. absurd cc;
+    count = let same : KindCounts PrematureEndOfFile m n = count in subst (λ k. KindCounts k m n) (sym end) same;
+  }
+
+-- a table was taken, and then memory was wanted
+pub table-wanted : (read : Reader) (limit : Option ℕ) (ns : List ℕ) (n : ℕ) (a b c : Option (List ℕ)) (k : ErrorKind) → TakesTable read limit a b ns → IsCut read n b c k → k ≡ OutOfMemory → TakesWholePieces read limit a c
+table-wanted read limit ns n a b c k table cut want =
+    let memory : IsCut read n b c OutOfMemory = subst (IsCut read n b c) want cut in
+    inr (inr (ns, (table.0, Consumes-kept a b c table.0 table.1 memory.0, table.2, table.3)))
+
+-- ---- into a buffer
+
+no_framing : (k : ErrorKind) → k ≡ Device → IsFramingKind k → ⊥
+no_framing k failed framing = let no : IsFramingKind Device = subst IsFramingKind failed framing in no
+
+device-fills : (faults : ErrorKind → Type 0) (k : ErrorKind) → k ≡ Device → IsFillKind faults k
+device-fills faults k failed = let fails : IsFillKind faults Device = tt in subst (IsFillKind faults) (sym failed) fails
+
+module _ {T : Type 0} {g : Ghosts T ℕ} (read : Reader) (fronts : ReadsFronts read) (faults : ErrorKind → Type 0) (limit : Option ℕ) (size : ℕ) (a b : Option (List ℕ)) (m n : ℕ) (e : Error) (kept : Keeps a b) where
+  -- the source failed at the look
+  module _ (failed : e.kind ≡ Device) (count : KindCounts e.kind m n) where
+    pub tries-filling-failed : TriesFilling {T = T} {g = g} read faults limit size (record { remaining = a; failures = m }) (Err e) (record { remaining = b; failures = n })
+    tries-filling-failed = record {
+      message = tt;
+      none = tt;
+      refused = λ framing. absurd (no_framing e.kind failed framing);
+      short = λ w. absurd cc;
+      kind = device-fills faults e.kind failed;
+      part = part-of_kept read fronts limit a b kept;
+      room = λ w. absurd cc;
+      count = count;
+    }
+
+    pub fills-failed : FillsMessage {T = T} {g = g} read faults limit size (record { remaining = a; failures = m }) (Err e) (record { remaining = b; failures = n })
+    fills-failed = record {
+      message = tt;
+      no_byte = λ w. absurd cc;
+      refused = λ framing. absurd (no_framing e.kind failed framing);
+      short = λ w. absurd cc;
+      kind = λ _. device-fills faults e.kind failed;
+      part = part-of_kept read fronts limit a b kept;
+      room = λ w. absurd cc;
+      count = count;
+    }
+
+  -- no byte was left
+  pub fills-none : e.kind ≡ PrematureEndOfFile → IsAtEnd a → n ≡ m → FillsMessage {T = T} {g = g} read faults limit size (record { remaining = a; failures = m }) (Err e) (record { remaining = b; failures = n })
+  fills-none end at count = record {
+    message = tt;
+    no_byte = λ _. (at, kept);
+    refused = λ framing. let no : IsFramingKind PrematureEndOfFile = subst IsFramingKind end framing in absurd no;
+    short = λ w. absurd cc;
+    kind = λ other. absurd (other end);
+    part = part-of_kept read fronts limit a b kept;
+    room = λ w. absurd cc;
+    count = let same : KindCounts PrematureEndOfFile m n = count in subst (λ k. KindCounts k m n) (sym end) same;
+  }
+
+-- a look that finds no byte
+pub at-end : (a : Option (List ℕ)) (look : Bool) → IfSome a (λ xs. IsTrue look ↔ (xs ≡ [])) → look ≡ true → IsAtEnd a
+at-end None look at seen = tt
+at-end (Some x) look at seen = at.0 seen

@@ -1,0 +1,230 @@
+-- Calls under an older schema and under a compatible newer one.
+use Rattle.std.proofs.Common.{◌≡◌, ℕ, ◌*◌, ◌≤◌, Bool, true, false, List, [], ◌∷◌, refl, sym, ◌∙◌, ap, subst}
+use Rattle.std.specs.List.{AllByRecursion}
+use Rattle.capnp_model.specs.Trees.{Tree, null, capability, structure, plain_list, pointer_list, struct_list, child}
+use Rattle.capnp_model.specs.Trimming.{trim}
+use Rattle.capnp_model.specs.Schemas.{struct, Node, Shape, shape, Schema}
+use Rattle.capnp_model.specs.Readings.{Record, whole_words, shape_record, read_child, record_by_shape, record_of}
+use Rattle.capnp_model.specs.Printing.{fields_in}
+use Rattle.capnp_model.specs.Calls.{Step, name, index, Verb, get, set_to, init, initn, clear, Call}
+use Rattle.capnp_model.specs.Steps.{Outcome, refused, shown, done, outcome_map, on_name, step_field, step, step_path, record_after, after_outcome}
+use Rattle.capnp_model.specs.Edits.{edit, if_done, write_path}
+use Rattle.capnp_model.specs.Accepted.{schema_of, IsAccepted}
+use Rattle.capnp_model.specs.Compatible.{has_pair, keeps, IsCompatible}
+use Rattle.capnp_model.specs.Admitted.{at_element, is_admitted_from, IsAdmitted}
+use Rattle.capnp_model.specs.Projection.{project_fields, projected}
+use Rattle.capnp_model.specs.InKind.{in_kind}
+use Rattle.capnp_model.specs.NamedPaths.{IsOpen}
+use Rattle.capnp_model.specs.Answers.{Reply, reply_of, replies, edits}
+use Rattle.capnp_model.proofs.FineShapes.{IsGood}
+use Rattle.capnp_model.proofs.KeptShapes.{pair_is_kept, older_record}
+use Rattle.capnp_model.proofs.TrimmedAnswers.{trimmed_record}
+use Rattle.capnp_versions.specs.Whole.{IsWhole, IsWholeVerb}
+use Rattle.capnp_versions.specs.Machines.{IsWrite, steps, SameUnlessGet, SameReplies, IsRead}
+use Rattle.capnp_versions.proofs.Alike.{Alike}
+use Rattle.capnp_versions.proofs.SameContents.{shape_words, alike-self}
+use Rattle.capnp_versions.proofs.Follows.{NameFollows, FieldFollows}
+use Rattle.capnp_versions.proofs.Within.{accepted-within}
+use Rattle.capnp_versions.proofs.TrimmedEdits.{accepted-good, written-alike, left}
+use Rattle.capnp_versions.proofs.KeptFollows.{words_kept, root-kept}
+use Rattle.capnp_versions.proofs.OlderSteps.{kids_of, nothing_seen, child_seen, root-view}
+use Rattle.capnp_versions.proofs.WriteOnly.{Sees, not-seen}
+use Rattle.capnp_versions.proofs.KindTrim.{in_kind-trim}
+
+-- ---- structs stay structs
+
+open_written : (s : Schema) (g : Shape) (path : List Step) (verb : Verb) (t : Tree) → IsOpen t → IsOpen (write_path s g path verb t)
+open_written s g [] verb t h = h
+open_written s g (index k ∷ path) verb t h = h
+open_written s (shape nid w p u fs) (name l ∷ path) verb null h = tt
+open_written s (shape nid w p u fs) (name l ∷ path) verb (structure x m ts) h = tt
+open_written s g (name l ∷ path) verb (capability i) h = absurd h
+open_written s g (name l ∷ path) verb (plain_list z m x) h = absurd h
+open_written s g (name l ∷ path) verb (pointer_list ts) h = absurd h
+open_written s g (name l ∷ path) verb (struct_list w p es) h = absurd h
+
+pub open-edit : (s : Schema) (id : ℕ) (c : Call) (t : Tree) → IsOpen t → IsOpen (edit s id c t)
+unfolding edit
+open-edit s id c t h = by (step s id c (record_of s id t))
+  where
+    by : (x : Outcome Record) → IsOpen (if_done x (write_path s (s.shape_of id) c.path c.verb t) t)
+    by (refused k) = h
+    by (shown how z) = h
+    by (done r) = open_written s (s.shape_of id) c.path c.verb t h
+
+-- ---- one call at one schema, where it is read
+
+-- what a call that is read leaves
+pub record IsAfter (s : Schema) (id : ℕ) (c : Call) (t : Tree) : Type 0 where
+  pub reads : record_of s id (edit s id c t) ≡ record_after s id c (record_of s id t)
+  pub kind : in_kind s (edit s id c t) (struct id) ≡ true
+
+pub is-after : (s : Schema) (id : ℕ) (c : Call) → IsRead s id c → (t : Tree) → IsOpen t → in_kind s t (struct id) ≡ true → IsAfter s id c t
+is-after s id c read t x kind = by (step s id c (record_of s id t)) refl
+  where
+    stays : (z : Outcome Record) → step s id c (record_of s id t) ≡ z → after_outcome (record_of s id t) z ≡ record_of s id t → ((r : Record) → step s id c (record_of s id t) ≡ done r → ⊥) → IsAfter s id c t
+    stays z e f none =
+        let same : edit s id c t ≡ t = left s id c t none in
+        record { reads = ap (record_of s id) same ∙ sym f ∙ ap (after_outcome (record_of s id t)) (sym e); kind = ap (λ u. in_kind s u (struct id)) same ∙ kind }
+
+    by : (z : Outcome Record) → step s id c (record_of s id t) ≡ z → IsAfter s id c t
+    by (done r) e = record { reads = read.reads t x kind r e ∙ ap (after_outcome (record_of s id t)) (sym e); kind = read.kept t x kind r e }
+    by (refused k) e = stays (refused k) e refl (λ r h. cc (sym e ∙ h))
+    by (shown how z) e = stays (shown how z) e refl (λ r h. cc (sym e ∙ h))
+
+-- ---- two schemas
+
+module _ (nodes nodes' : List Node) (accepted : IsAccepted nodes) (accepted' : IsAccepted nodes') (older newer : ℕ) (compatible : IsCompatible (schema_of nodes) (schema_of nodes') older newer) where
+  abbrev o : Schema
+  o = schema_of nodes
+
+  abbrev n : Schema
+  n = schema_of nodes'
+
+  closed : (i j : ℕ) → has_pair compatible.pairs i j ≡ true → keeps o n compatible.pairs (o.shape_of i) (n.shape_of j) ≡ true
+  closed i j h = pair_is_kept o n compatible.pairs compatible.pairs i j compatible.are_kept h
+
+  module _ (c : Call) (admitted : IsAdmitted o n older newer c) where
+    -- ---- the record machines
+
+    module _ (write : IsWrite c.verb) where
+      at_name : (l : List ℕ) (path : List Step) → is_admitted_from o n (name l ∷ path) c.verb (at_element (struct older) (struct newer)) ≡ true → (t : Tree) → let r : Record = record_by_shape n (n.shape_of newer) t in
+          on_name (step_field o path c.verb) l (fields_in (o.shape_of older)) (project_fields o (fields_in (o.shape_of older)) r) ≡ outcome_map (project_fields o (fields_in (o.shape_of older))) (on_name (step_field n path c.verb) l (fields_in (n.shape_of newer)) r)
+      unfolding record_by_shape
+      at_name l path h t = by t
+        where
+          seen : (section : ℕ) (f : ℕ → Tree) → let r : Record = shape_record (n.shape_of newer) whole_words section (kids_of n f) in
+              on_name (step_field o path c.verb) l (fields_in (o.shape_of older)) (project_fields o (fields_in (o.shape_of older)) r) ≡ outcome_map (project_fields o (fields_in (o.shape_of older))) (on_name (step_field n path c.verb) l (fields_in (n.shape_of newer)) r)
+          seen section f =
+              root-view o n compatible.pairs c.verb write closed (accepted-within nodes accepted) (accepted-within nodes' accepted') (accepted-good nodes accepted) (accepted-good nodes' accepted') path l older newer compatible.has_roots h whole_words section f
+
+          by : (t : Tree) → let r : Record = record_by_shape n (n.shape_of newer) t in
+              on_name (step_field o path c.verb) l (fields_in (o.shape_of older)) (project_fields o (fields_in (o.shape_of older)) r) ≡ outcome_map (project_fields o (fields_in (o.shape_of older))) (on_name (step_field n path c.verb) l (fields_in (n.shape_of newer)) r)
+          by (structure w x ts) =
+              subst
+              (λ z. on_name (step_field o path c.verb) l (fields_in (o.shape_of older)) (project_fields o (fields_in (o.shape_of older)) (shape_record (n.shape_of newer) whole_words x z))
+                  ≡ outcome_map (project_fields o (fields_in (o.shape_of older))) (on_name (step_field n path c.verb) l (fields_in (n.shape_of newer)) (shape_record (n.shape_of newer) whole_words x z)))
+              (sym (child_seen n ts)) (seen x (child ts))
+          by t =
+              subst
+              (λ z. on_name (step_field o path c.verb) l (fields_in (o.shape_of older)) (project_fields o (fields_in (o.shape_of older)) (shape_record (n.shape_of newer) whole_words 0 z))
+                  ≡ outcome_map (project_fields o (fields_in (o.shape_of older))) (on_name (step_field n path c.verb) l (fields_in (n.shape_of newer)) (shape_record (n.shape_of newer) whole_words 0 z)))
+              (sym (nothing_seen n)) (seen 0 (λ i. null))
+
+      at_path : (path : List Step) → is_admitted_from o n path c.verb (at_element (struct older) (struct newer)) ≡ true → (t : Tree) → let r : Record = record_by_shape n (n.shape_of newer) t in
+          step_path o (fields_in (o.shape_of older)) path c.verb (project_fields o (fields_in (o.shape_of older)) r) ≡ outcome_map (project_fields o (fields_in (o.shape_of older))) (step_path n (fields_in (n.shape_of newer)) path c.verb r)
+      at_path [] h t = refl
+      at_path (index k ∷ path) h t = refl
+      at_path (name l ∷ path) h t = at_name l path h t
+
+      -- THE LAW: the older machine at the older view
+      pub older-step : (t : Tree) → step o older c (projected o older (record_of n newer t)) ≡ outcome_map (projected o older) (step n newer c (record_of n newer t))
+      unfolding step record_of projected
+      older-step t = at_path c.path admitted t
+
+      -- the outcome at the record of another value of the same newer record
+      pub older-outcome : (t u : Tree) → record_of n newer t ≡ record_of n newer u → step o older c (record_of o older t) ≡ outcome_map (projected o older) (step n newer c (record_of n newer u))
+      older-outcome t u same =
+          ap (step o older c) (older_record nodes nodes' older newer t accepted compatible) ∙ older-step t ∙ ap (λ r. outcome_map (projected o older) (step n newer c r)) same
+
+      pub same-reply : (quoted : List ℕ → List ℕ) (t u : Tree) → record_of n newer t ≡ record_of n newer u → reply_of o quoted (step o older c (record_of o older t)) ≡ reply_of n quoted (step n newer c (record_of n newer u))
+      unfolding step
+      same-reply quoted t u same = ap (reply_of o quoted) (older-outcome t u same) ∙ by (step n newer c (record_of n newer u)) refl
+        where
+          never : (z : Outcome Record) → step n newer c (record_of n newer u) ≡ z → Sees false z → ⊥
+          never z e h = not-seen n false c.verb write (fields_in (n.shape_of newer)) c.path (record_of n newer u) (subst (λ x. Sees false x) (sym e) h)
+
+          by : (z : Outcome Record) → step n newer c (record_of n newer u) ≡ z → reply_of o quoted (outcome_map (projected o older) z) ≡ reply_of n quoted z
+          by (refused k) e = refl
+          by (done r) e = refl
+          by (shown how r) e = absurd (never (shown how r) e tt)
+
+    -- ---- the edits
+
+    module _ (whole : IsWholeVerb c.verb) where
+      follows : (l : List ℕ) (path : List Step) → c.path ≡ name l ∷ path → NameFollows o n c.verb (FieldFollows o n c.verb path) l (64 * shape_words (o.shape_of older)) (o.shape_of older) (n.shape_of newer)
+      follows l path e =
+          (root-kept o n compatible.pairs c.verb closed (accepted-within nodes accepted) (accepted-within nodes' accepted') (accepted-good nodes accepted) (accepted-good nodes' accepted') path l older newer compatible.has_roots
+          (ap (λ z. is_admitted_from o n z c.verb (at_element (struct older) (struct newer))) (sym e) ∙ admitted)).0
+
+      words : shape_words (o.shape_of older) ≤ shape_words (n.shape_of newer)
+      words = words_kept o n compatible.pairs (o.shape_of older) (n.shape_of newer) (closed older newer compatible.has_roots)
+
+      -- a call that neither carries out
+      neither : (t u : Tree) → Alike t u → ((r : Record) → step o older c (record_of o older t) ≡ done r → ⊥) → ((r : Record) → step n newer c (record_of n newer u) ≡ done r → ⊥) → Alike (edit o older c t) (edit n newer c u)
+      neither t u a h k = subst (λ z. Alike z (edit n newer c u)) (sym (left o older c t h)) (subst (λ z. Alike t z) (sym (left n newer c u k)) a)
+
+      never_done : (s : Schema) (id : ℕ) (t : Tree) → c.verb ≡ get → (r : Record) → step s id c (record_of s id t) ≡ done r → ⊥
+      unfolding step
+      never_done s id t e r h =
+          not-seen s true get tt (fields_in (s.shape_of id)) c.path (record_of s id t) (subst (λ z. Sees true z) (sym (ap (λ v. step_path s (fields_in (s.shape_of id)) c.path v (record_of s id t)) (sym e) ∙ h)) tt)
+
+      written_both : IsWrite c.verb → (t u : Tree) → Alike t u → IsOpen t → IsOpen u → record_of n newer t ≡ record_of n newer u → Alike (edit o older c t) (edit n newer c u)
+      written_both write t u a x y same = by (step n newer c (record_of n newer u)) refl
+        where
+          by : (z : Outcome Record) → step n newer c (record_of n newer u) ≡ z → Alike (edit o older c t) (edit n newer c u)
+          by (done r) e = written-alike o n c whole older newer words follows t u a x y (projected o older r) r (older-outcome write t u same ∙ ap (outcome_map (projected o older)) e) e
+          by (refused k) e = neither t u a (λ r h. cc (sym (older-outcome write t u same ∙ ap (outcome_map (projected o older)) e) ∙ h)) (λ r h. cc (sym e ∙ h))
+          by (shown how z) e = neither t u a (λ r h. cc (sym (older-outcome write t u same ∙ ap (outcome_map (projected o older)) e) ∙ h)) (λ r h. cc (sym e ∙ h))
+
+      -- THE LAW: values of one trimmed value and one newer record
+      pub versions-alike : (t u : Tree) → Alike t u → IsOpen t → IsOpen u → record_of n newer t ≡ record_of n newer u → Alike (edit o older c t) (edit n newer c u)
+      versions-alike t u a x y same = by c.verb refl
+        where
+          by : (v : Verb) → c.verb ≡ v → Alike (edit o older c t) (edit n newer c u)
+          by get e = neither t u a (never_done o older t e) (never_done n newer u e)
+          by (set_to w) e = written_both (subst IsWrite (sym e) tt) t u a x y same
+          by init e = written_both (subst IsWrite (sym e) tt) t u a x y same
+          by (initn k) e = written_both (subst IsWrite (sym e) tt) t u a x y same
+          by clear e = written_both (subst IsWrite (sym e) tt) t u a x y same
+
+    -- the replies, unless it is a `get`
+    pub replies-same : (quoted : List ℕ → List ℕ) (t u : Tree) → record_of n newer t ≡ record_of n newer u → SameUnlessGet c.verb (reply_of o quoted (step o older c (record_of o older t))) (reply_of n quoted (step n newer c (record_of n newer u)))
+    replies-same quoted t u same = by c.verb (λ w. same-reply w quoted t u same)
+      where
+        by : (v : Verb) → (IsWrite v → reply_of o quoted (step o older c (record_of o older t)) ≡ reply_of n quoted (step n newer c (record_of n newer u)))
+            → SameUnlessGet v (reply_of o quoted (step o older c (record_of o older t))) (reply_of n quoted (step n newer c (record_of n newer u)))
+        by get h = tt
+        by (set_to w) h = h tt
+        by init h = h tt
+        by (initn k) h = h tt
+        by clear h = h tt
+
+  -- ---- calls in turn
+
+  same_records : (t u : Tree) → trim t ≡ trim u → in_kind n u (struct newer) ≡ true → (in_kind n t (struct newer) ≡ true) × (record_of n newer t ≡ record_of n newer u)
+  same_records t u e kind =
+      let there : in_kind n t (struct newer) ≡ true = sym (in_kind-trim n t (struct newer)) ∙ ap (λ z. in_kind n z (struct newer)) e ∙ in_kind-trim n u (struct newer) ∙ kind in
+      (there, sym (trimmed_record n newer t there) ∙ ap (record_of n newer) e ∙ trimmed_record n newer u kind)
+
+  -- what stands after calls under both
+  pub record AreAfter (quoted : List ℕ → List ℕ) (calls : List Call) (t u : Tree) : Type 0 where
+    pub alike : Alike (edits o older calls t) (edits n newer calls u)
+    pub kind : in_kind n (edits n newer calls u) (struct newer) ≡ true
+    pub reads : record_of n newer (edits n newer calls u) ≡ steps n newer calls (record_of n newer u)
+    pub replied : SameReplies calls (replies o quoted older calls t) (replies n quoted newer calls u)
+
+  pub are-after : (quoted : List ℕ → List ℕ) (calls : List Call) → AllByRecursion (λ c. IsAdmitted o n older newer c) calls → AllByRecursion (λ c. IsWholeVerb c.verb) calls → AllByRecursion (λ c. IsRead n newer c) calls
+      → (t u : Tree) → Alike t u → IsOpen t → IsOpen u → in_kind n u (struct newer) ≡ true → AreAfter quoted calls t u
+  unfolding edits replies
+  are-after quoted [] admitted whole read t u a x y kind = record { alike = a; kind = kind; reads = refl; replied = tt }
+  are-after quoted (c ∷ cs) admitted whole read t u a x y kind =
+      let same = (same_records t u a.trims kind).1 in
+      let after = is-after n newer c read.0 u y kind in
+      let rest = are-after quoted cs admitted.1 whole.1 read.1 (edit o older c t) (edit n newer c u) (versions-alike c admitted.0 whole.0 t u a x y same) (open-edit o older c t x) (open-edit n newer c u y) after.kind in
+      record { alike = rest.alike; kind = rest.kind; reads = rest.reads ∙ ap (steps n newer cs) after.reads; replied = (replies-same c admitted.0 quoted t u same, rest.replied) }
+
+  -- THE LAWS
+  pub edits-across : (c : Call) → IsAdmitted o n older newer c → IsWholeVerb c.verb → (t : Tree) → IsWhole t → IsOpen t → trim (edit o older c t) ≡ trim (edit n newer c t)
+  edits-across c admitted whole t h x = (versions-alike c admitted whole t t (alike-self t h) x x refl).trims
+
+  pub records-across : (calls : List Call) → AllByRecursion (λ c. IsAdmitted o n older newer c) calls → AllByRecursion (λ c. IsWholeVerb c.verb) calls → AllByRecursion (λ c. IsRead n newer c) calls
+      → (t : Tree) → IsWhole t → IsOpen t → in_kind n t (struct newer) ≡ true → record_of n newer (trim (edits o older calls t)) ≡ steps n newer calls (record_of n newer t)
+  records-across calls admitted whole read t h x kind =
+      let after = are-after (λ bs. bs) calls admitted whole read t t (alike-self t h) x x kind in
+      let both = same_records (edits o older calls t) (edits n newer calls t) after.alike.trims after.kind in
+      trimmed_record n newer (edits o older calls t) both.0 ∙ both.1 ∙ after.reads
+
+  pub replies-across : (quoted : List ℕ → List ℕ) (calls : List Call) → AllByRecursion (λ c. IsAdmitted o n older newer c) calls → AllByRecursion (λ c. IsWholeVerb c.verb) calls → AllByRecursion (λ c. IsRead n newer c) calls
+      → (t : Tree) → IsWhole t → IsOpen t → in_kind n t (struct newer) ≡ true → SameReplies calls (replies o quoted older calls t) (replies n quoted newer calls t)
+  replies-across quoted calls admitted whole read t h x kind = (are-after quoted calls admitted whole read t t (alike-self t h) x x kind).replied

@@ -1,0 +1,5 @@
+use Rattle.capnp_versions.proofs.TrimmedRelays.{trimmed-calls}
+use Rattle.capnp_versions.proofs.laws.calls_at_trimmed_values.Goals as goal
+
+pub returns : goal.returns
+returns c = trimmed-calls
