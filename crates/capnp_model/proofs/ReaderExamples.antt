@@ -1,11 +1,11 @@
 -- Worked segments, as a reader meets them.
-use Rattle.std.proofs.Common.{◌≡◌, ℕ, ◌+◌, ◌*◌, ◌^◌, true, false, Some, None, Ok, Err, List, [], ◌∷◌, refl}
+use Rattle.std.proofs.Common.{◌≡◌, ℕ, ◌+◌, ◌*◌, true, false, Some, Ok, Err, [], ◌∷◌, refl}
 use Rattle.capnp_model.specs.Kinds.{OutOfBounds, NestingLimitExceeded}
 use Rattle.capnp_model.specs.Segments.{Segments, place, root}
-use Rattle.capnp_model.specs.Pointers.{nothing, a_struct, a_list, a_capability, found_at, begins_inside}
-use Rattle.capnp_model.specs.Trees.{structure, null, capability, plain_list, struct_list, none, ◌▸◌, no_elements}
-use Rattle.capnp_model.specs.Traversal.{tree_at, cost_at}
-use Rattle.capnp_model.specs.Visits.{visits, visits_cost, pointers_of}
+use Rattle.capnp_model.specs.Pointers.{a_struct, a_list, a_capability, found_at, begins_inside}
+use Rattle.capnp_model.specs.Trees.{structure, null, capability, none, ◌▸◌}
+use Rattle.capnp_model.specs.Traversal.{tree_at}
+use Rattle.capnp_model.specs.Visits.{visits, pointers_of}
 
 -- The word of eight bytes, the lowest first.
 word : ℕ → ℕ → ℕ → ℕ → ℕ → ℕ → ℕ → ℕ → ℕ

@@ -1,5 +1,5 @@
 -- What walks cost, how many pointers they follow, and the faults that they meet.
-use Rattle.std.proofs.Common.{◌≡◌, ℕ, zero, suc, ◌+◌, ◌-◌, ◌*◌, ◌≤◌, leb, List, [], ◌∷◌, ◌++◌, length, drop, Option, Some, None, Result, Ok, Err, refl, ap, sym, ◌∙◌, subst, arith, if◌then◌else◌, eqb}
+use Rattle.std.proofs.Common.{◌≡◌, ℕ, zero, suc, ◌+◌, ◌-◌, ◌*◌, ◌≤◌, leb, List, [], ◌∷◌, ◌++◌, length, drop, Option, Some, Result, Ok, Err, refl, ap, sym, ◌∙◌, subst, arith, if◌then◌else◌, eqb}
 use Rattle.std.specs.Option.{ok_or}
 use Rattle.std.specs.Result.{result_ok}
 use Rattle.std.proofs.lemmas.List.{length-append}
@@ -10,7 +10,7 @@ use Rattle.capnp_model.specs.Chains.{◌>>=◌}
 use Rattle.capnp_model.specs.Sections.{words_for}
 use Rattle.capnp_model.specs.Segments.{Segments, Place, after, words_at}
 use Rattle.capnp_model.specs.Pointers.{pointer_of, Object, nothing, a_struct, a_list, a_capability, Found, found_at}
-use Rattle.capnp_model.specs.Trees.{Tree, Trees, Elements, null, capability, structure, plain_list, pointer_list, struct_list, none, ◌▸◌, no_elements, element, size_bits}
+use Rattle.capnp_model.specs.Trees.{Tree, Trees, Elements, null, capability, none, no_elements, size_bits}
 use Rattle.capnp_model.specs.Traversal.{Tag, tag_of, tag_in, each, each_element, ListKind, of_bits, of_pointers, of_structs, list_kind, list_words, list_tree, tree_of, tree_at, leaf_of, cost_each, cost_elements, tag_cost, list_cost, object_cost, found_cost, cost_at}
 use Rattle.capnp_model.specs.Coverage.{from_each, from_elements}
 use Rattle.capnp_model.specs.Faults.{faults_of, list_faults, object_faults, leaf_faults, faults_at}
@@ -149,6 +149,10 @@ values_tell (suc n) s p t e =
     let a = bind_found (found_at s p) _ t e in
     subst (λ (x : Result Found Kind). Tells (visits_of (λ f. object_visits s (visits n s) f.pads f.object) x) (found_cost (object_cost s (cost_at n s)) x) (pointers_of t)) (sym a.1)
     (object_tells (tree_at n s) (cost_at n s) (visits n s) (values_tell n s) s a.0.pads t a.0.object a.2)
+
+-- The same of values in a row.
+pub rows_tell : (n : ℕ) (s : Segments) (p : Place) (k : ℕ) (ts : Trees) → each (tree_at n s) p k ≡ Some ts → Tells (from_each (visits n s) p k) (cost_each (cost_at n s) p k) (each_pointers_of ts)
+rows_tell n s p k ts e = each_tells (tree_at n s) (cost_at n s) (visits n s) (values_tell n s) k p ts e
 
 -- ---- faults
 

@@ -6,11 +6,11 @@ ghost use Rattle.capnp_model.specs.Sections.{bits_at, with_bits, numbers_in, num
 ghost use Rattle.capnp_model.specs.Segments.{Segments, Place, root, word_at, words_at};
 ghost use Rattle.capnp_model.specs.Trees.{Tree, structure, plain_list, Trees, tree_count, with_child, widened, depth, has_capability};
 ghost use Rattle.capnp_model.specs.Trimming.{trim};
-ghost use Rattle.capnp_model.specs.Traversal.{tree_at, cost_at};
+ghost use Rattle.capnp_model.specs.Traversal.{tree_at, cost_at, each, cost_each};
 ghost use Rattle.capnp_model.specs.Means.{Means};
 ghost use Rattle.capnp_model.specs.Coverage.{from_each, covered, cover, Keeps, Grows};
 ghost use Rattle.capnp_model.specs.Faults.{faults_at};
-ghost use Rattle.capnp_model.specs.Visits.{Visit, visits, visits_cost, faults_among, pointers_of};
+ghost use Rattle.capnp_model.specs.Visits.{Visit, visits, visits_cost, faults_among, pointers_of, each_pointers_of};
 ghost use Rattle.capnp_model.specs.Encoding.{body, canonical_words};
 ghost use Rattle.capnp_model.specs.Canonical.{is_canonical_at, is_canonical_message};
 ghost use Rattle.capnp_model.specs.Sizes.{object_words, capability_count};
@@ -205,6 +205,8 @@ pub fn views_along_versions()
 pub fn values_on_walks()
     ensures cost { (n : ℕ) (s : Segments) (p : Place) (t : Tree) → tree_at n s p ≡ Some t → visits_cost (visits n s p) ≡ Some (cost_at n s p) }
     ensures count { (n : ℕ) (s : Segments) (p : Place) (t : Tree) → tree_at n s p ≡ Some t → length (visits n s p) ≡ pointers_of t }
+    ensures row_cost { (n : ℕ) (s : Segments) (p : Place) (k : ℕ) (ts : Trees) → each (tree_at n s) p k ≡ Some ts → visits_cost (from_each (visits n s) p k) ≡ Some (cost_each (cost_at n s) p k) }
+    ensures row_count { (n : ℕ) (s : Segments) (p : Place) (k : ℕ) (ts : Trees) → each (tree_at n s) p k ≡ Some ts → length (from_each (visits n s) p k) ≡ each_pointers_of ts }
     ensures faults { (n : ℕ) (s : Segments) (p : Place) → faults_among (visits n s p) ≡ faults_at n s p }
     ensures few { (n : ℕ) (s : Segments) (p : Place) (before : List Visit) (last : Visit) (rest : List Visit) (paid : ℕ) → visits n s p ≡ before ++ last ∷ rest → visits_cost before ≡ Some paid → length before ≤ paid }
     ensures few_in_row { (n : ℕ) (s : Segments) (p : Place) (k : ℕ) (before : List Visit) (last : Visit) (rest : List Visit) (paid : ℕ) → from_each (visits n s) p k ≡ before ++ last ∷ rest → visits_cost before ≡ Some paid → length before + 1 ≤ k + paid }

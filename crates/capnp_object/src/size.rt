@@ -67,7 +67,7 @@ fn size_of_leaf(object: Object) -> MessageSize
 ///
 /// Pointers are followed in the order of reading, nulls too, each object's own before those of the next. At the first fault within so many levels it is refused by that kind, and with `ReadLimitExceeded` at the first object that is there and costs more words than are left; then the objects before it are paid for, and the pointer to it counts as followed.
 ///
-/// Each step follows a pointer, and what isn't null grants a word or ends there, so the pointers followed are no more than the words granted and one: elements without pointers aren't walked, be they voids or structs without words. Words that several pointers lead to are granted as often, so without a limit only the levels bound the steps. Each level takes about 200 bytes of stack (176 as LLVM builds it, 208 as Rattle's own compiler does), and levels past the end of the stack end the process: a stack of 8 MiB holds some 40,000.
+/// It takes a step for each pointer that it follows, which are no more than the words that it grants, and one: elements without pointers aren't walked, be they voids or structs without words. Words that several pointers lead to are granted as often, so without a limit the levels alone bound the steps. Each level takes about 200 bytes of stack (176 as LLVM builds it, 208 as Rattle's own compiler does), and a walk past the end of the stack ends the process: 8 MiB hold some 40,000 levels.
 #[cycle(size)]
 pub fn size_at<A: ReaderArena>(
     arena: &A,
