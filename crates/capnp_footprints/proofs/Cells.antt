@@ -1,25 +1,23 @@
 -- Elements of a list of structs, of which one gets another value.
-use Rattle.std.proofs.Common.{◌≡◌, ℕ, zero, suc, ◌+◌, ◌-◌, ◌*◌, ◌<◌, ◌≤◌, List, [], ◌∷◌, ◌++◌, length, take, drop, Option, Some, Result, Ok, refl, ap, sym, ◌∙◌, subst, arith}
-use Rattle.std.specs.List.{slice_get, AllByRecursion}
+use Rattle.std.proofs.Common.{◌≡◌, ℕ, zero, suc, ◌+◌, ◌-◌, ◌*◌, ◌<◌, ◌≤◌, List, [], ◌∷◌, ◌++◌, length, take, drop, Option, Some, Ok, refl, ap, sym, ◌∙◌, subst, arith}
+use Rattle.std.specs.List.{AllByRecursion}
 use Rattle.std.specs.Result.{result_ok}
 use Rattle.std.proofs.lemmas.List.{take-take, take_at, drop_at, length-append, take-append-le}
-use Rattle.capnp_model.specs.Kinds.{Kind}
 use Rattle.capnp_model.specs.Chains.{◌>>=◌}
 use Rattle.capnp_model.specs.Sections.{section_of}
-use Rattle.capnp_model.specs.Segments.{Segments, Place, place, after, word_at, words_at}
-use Rattle.capnp_model.specs.Pointers.{pointer_of, Object, a_struct, a_list}
+use Rattle.capnp_model.specs.Segments.{Segments, Place, place, after, words_at}
+use Rattle.capnp_model.specs.Pointers.{a_struct, a_list}
 use Rattle.capnp_model.specs.Trees.{Tree, structure, struct_list, Trees, Elements, no_elements, element, element_count}
-use Rattle.capnp_model.specs.Traversal.{Tag, tag_of, tag_in, each, each_element, tree_of, tree_at}
-use Rattle.capnp_model.specs.Coverage.{Span, span, times_held, from_each, from_elements, covered_tag, covered_object, Keeps, Grows}
-use Rattle.capnp_model.proofs.Chaining.{bind_some, bind_found, bind_ok, some_is}
-use Rattle.capnp_footprints.specs.Footprints.{behind, footprint, object_footprint, OwnsObject}
+use Rattle.capnp_model.specs.Traversal.{Tag, tag_in, each, each_element, tree_of, tree_at}
+use Rattle.capnp_model.specs.Coverage.{Span, span, times_held, from_each, from_elements, covered_tag, covered_object, Keeps}
+use Rattle.capnp_model.proofs.Chaining.{bind_some, bind_found, some_is}
+use Rattle.capnp_footprints.specs.Footprints.{behind, object_footprint, OwnsObject}
 use Rattle.capnp_footprints.specs.Changes.{Changes, ReplacesObject}
 use Rattle.capnp_footprints.specs.Elements.{element_at, with_element}
 use Rattle.capnp_footprints.proofs.Spans.{held, held_is, held_split, times_held_append, words_front, words_back, words_join, keeps_front, keeps_back}
 use Rattle.capnp_footprints.proofs.Kept.{each_same, elements_same, value_same, words_length, tag_fits}
 use Rattle.capnp_footprints.proofs.Algebra.{changes_lift, beside_kept}
-use Rattle.capnp_footprints.proofs.Rows.{after_none, after_sum}
-use Rattle.capnp_footprints.proofs.Lift.{StructParts, struct_parts}
+use Rattle.capnp_footprints.proofs.Lift.{struct_parts}
 
 -- how often so many words, with what lies behind the pointers of the elements in them, take a word
 abbrev pub cells : ℕ → Segments → Place → ℕ → ℕ → ℕ → ℕ → Place → ℕ

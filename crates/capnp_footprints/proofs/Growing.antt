@@ -118,7 +118,7 @@ held_not_by : (p : Place) (n : ℕ) (q : Place) (a : ℕ) → a ≡ held p n q �
 held_not_by p n q zero e f = sym e
 held_not_by p n q (suc a) e f = absurd (f (omega (arith, e)))
 
-held_not : (p : Place) (n : ℕ) (q : Place) → ((0 < held p n q) → ⊥) → held p n q ≡ 0
+pub held_not : (p : Place) (n : ℕ) (q : Place) → ((0 < held p n q) → ⊥) → held p n q ≡ 0
 held_not p n q f = held_not_by p n q (held p n q) refl f
 
 some_word : (xs : List ℕ) (k : ℕ) → k < length xs → (w : ℕ) × (slice_get xs k ≡ Some w)

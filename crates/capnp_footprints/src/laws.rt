@@ -1,16 +1,17 @@
 //! Laws of writing, each the contract of a function that does nothing.
 //!
 //! A caller that changes a value deep inside another one goes down from the root by the clauses `down`, to what belongs to the part, and comes back with its change by the clauses `up`.
-ghost use Rattle.std.specs.Prelude.{◌≡◌, ℕ, suc, ◌+◌, ◌*◌, ◌%◌, ◌^◌, ◌<◌, ◌≤◌, List, length, Some, Ok};
+ghost use Rattle.std.specs.Prelude.{◌≡◌, ℕ, suc, ◌+◌, ◌-◌, ◌*◌, ◌%◌, ◌^◌, ◌<◌, ◌≤◌, List, [], ◌∷◌, length, Some, Ok};
 ghost use Rattle.capnp_model.specs.Sections.{section_of, words_for};
-ghost use Rattle.capnp_model.specs.Segments.{Segments, Place, after, words_at};
+ghost use Rattle.capnp_model.specs.Segments.{Segments, Place, place, after, word_at, words_at};
 ghost use Rattle.capnp_model.specs.Pointers.{Object, a_struct, a_list, Found, found_at};
-ghost use Rattle.capnp_model.specs.Trees.{Tree, structure, plain_list, pointer_list, struct_list, Trees, child, with_child, Elements, element_count, size_bits};
+ghost use Rattle.capnp_model.specs.Trees.{Tree, structure, plain_list, pointer_list, struct_list, Trees, none, child, with_child, resized, Elements, element_count, size_bits};
 ghost use Rattle.capnp_model.specs.Traversal.{tree_at, of_bits, list_kind};
+ghost use Rattle.capnp_model.specs.Encoding.{struct_pointer};
 ghost use Rattle.capnp_footprints.specs.Footprints.{footprint, Owns, OwnsObject};
 ghost use Rattle.capnp_footprints.specs.Changes.{Changes, Replaces, ReplacesObject, ZeroBeside};
 ghost use Rattle.capnp_footprints.specs.Elements.{element_at, with_element};
-ghost use Rattle.capnp_footprints.specs.Writes.{spliced, with_words, with_zeros};
+ghost use Rattle.capnp_footprints.specs.Writes.{spliced, with_words, with_zeros, segment_end};
 
 /// A value may be replaced again and again, no word of it is taken twice afterwards, and the words beside it that were zero are.
 pub fn changes_of_values()
@@ -66,4 +67,13 @@ pub fn words_of_data()
 pub fn elements_of_lists()
     ensures down { (n : ℕ) (s : Segments) (p : Place) (m d k i : ℕ) (es : Elements) → i < element_count es → OwnsObject n s (a_list p 7 m) (struct_list d k es) → OwnsObject n s (a_struct (after (after p 1) (i * (d + k))) d k) (element_at d es i) }
     ensures up { (n : ℕ) (s u : Segments) (p : Place) (m d k i section : ℕ) (kids : Trees) (es : Elements) → i < element_count es → OwnsObject n s (a_list p 7 m) (struct_list d k es) → ReplacesObject n s u (a_struct (after (after p 1) (i * (d + k))) d k) (structure d section kids) → ReplacesObject n s u (a_list p 7 m) (struct_list d k (with_element es i section kids)) }
+{}
+
+/// A null pointer gets a new struct of zeros and nulls: one without words lies at the pointer itself, another behind the end of the pointer's segment, or in any segment behind a pad of one word. Nothing else changes.
+pub fn new_structs()
+    ensures empty { (n : ℕ) (s : Segments) (p : Place) → word_at s p ≡ Some 0 → Replaces (suc n) s (with_words s p (struct_pointer (2 ^ 30 - 1) 0 0 ∷ [])) p (structure 0 0 none) }
+    ensures near { (n : ℕ) (s : Segments) (p : Place) (d k offset : ℕ) → p.segment < length s → word_at s p ≡ Some 0 → 0 < d + k → p.position + 1 + offset ≡ segment_end s p.segment → offset < 2 ^ 29 → d < 2 ^ 16 → k < 2 ^ 16
+        → Replaces (suc n) s (with_words (with_zeros s p.segment (d + k)) p (struct_pointer offset d k ∷ [])) p (structure d 0 (resized k none)) }
+    ensures far { (n : ℕ) (s : Segments) (p : Place) (i d k : ℕ) → i ≤ length s → i < 2 ^ 32 → word_at s p ≡ Some 0 → segment_end s i < 2 ^ 29 → d < 2 ^ 16 → k < 2 ^ 16
+        → Replaces (suc n) s (with_words (with_words (with_zeros s i (1 + (d + k))) (place i (segment_end s i)) (struct_pointer 0 d k ∷ [])) p ((2 + 8 * segment_end s i + 2 ^ 32 * i) ∷ [])) p (structure d 0 (resized k none)) }
 {}
