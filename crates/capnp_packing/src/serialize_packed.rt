@@ -1,12 +1,8 @@
 //! Packed messages of any number of segments, over segments and a limit of words.
-ghost use Rattle.std.specs.Prelude.{◌≡◌, ◌≢◌, ◌<◌, ◌⊎◌, [], ◌∷◌, length, IfSome, IfNone, IfOk, IfErr, OnOk, OnErr};
-ghost use Rattle.std.specs.Io.KnownBytes.{Keeps, Appends, IsAtEnd};
-ghost use Rattle.capnp_units.specs.declared.kinds.ErrorKind.{ErrorKind};
+ghost use Rattle.std.specs.Prelude.{◌<◌, ◌⊎◌, [], ◌∷◌, length};
 ghost use Rattle.capnp_units.specs.Segments.{whole_words, words_in};
 ghost use Rattle.capnp_model.specs.Packing.{unpacked};
 ghost use Rattle.capnp_model.specs.Messages.{packed_message};
-ghost use Rattle.capnp_model.specs.Spelling.{CanSpell};
-ghost use Rattle.capnp_stream.specs.Counting.{Counts};
 ghost use Rattle.capnp_stream.specs.Reading.{TriesMessage, ReadsMessage, source_seen};
 ghost use Rattle.capnp_stream.specs.Filling.{TriesFilling, FillsMessage};
 ghost use Rattle.capnp_packing.specs.Streams.{is_packed_fault};

@@ -1,5 +1,5 @@
 //! The streams of a program, over std's readers and writers.
-ghost use Rattle.std.specs.Prelude.{◌≡◌, ◌≤◌, ◌<◌, ◌↔◌, ℕ, List, [], length, drop, vec_len, IfOk, IfErr, OnOk, IsTrue};
+ghost use Rattle.std.specs.Prelude.{◌≡◌, ◌≤◌, ◌<◌, ◌↔◌, [], length, drop, vec_len, IfOk, IfErr, OnOk, IsTrue};
 ghost use Rattle.std.specs.Io.KnownBytes.{Keeps, IsAtEnd, prepend_known};
 ghost use Rattle.std.specs.Io.Buffered.{writer_inner, writer_buffer};
 ghost use Rattle.capnp_units.specs.declared.kinds.ErrorKind.{ErrorKind};

@@ -1,11 +1,11 @@
 //! The segments of framed messages that lie in a buffer as a whole.
-ghost use Rattle.std.specs.Prelude.{◌≡◌, ◌≢◌, ◌≤◌, ◌<◌, ℕ, List, ◌+◌, ◌*◌, length, drop, sum, slice_get, option_copied, All, Ok, Err, IfOk, IfErr, OnErr};
+ghost use Rattle.std.specs.Prelude.{◌≡◌, ◌≢◌, ◌≤◌, ◌<◌, ℕ, List, ◌+◌, ◌*◌, length, drop, sum, All, Ok, Err, IfOk, IfErr, OnErr};
 ghost use Rattle.capnp_units.specs.Errors.{kind_of};
 ghost use Rattle.capnp_units.specs.declared.kinds.ErrorKind.{ErrorKind};
 ghost use Rattle.capnp_units.specs.Segments.{words_in};
 ghost use Rattle.capnp_model.specs.Messages.{flat_at};
 ghost use Rattle.capnp_stream.specs.Ranges.{bytes_at, ranges_from};
-ghost use Rattle.capnp_stream.specs.Flat.{table_lengths, table_bytes, frame_segments, Describes};
+ghost use Rattle.capnp_stream.specs.Flat.{frame_segments, Describes};
 
 use crate::flat::{NoAllocSegmentTableInfo, info_at, length_in, words_before};
 use crate::segments::SegmentLengthsBuilder;

@@ -1,8 +1,8 @@
 //! Messages of any number of segments, read in their forms.
-ghost use Rattle.std.specs.Prelude.{◌≡◌, ◌≢◌, ◌≤◌, ℕ, ◌+◌, ◌*◌, ◌/◌, ◌%◌, ◌^◌, ◌<◌, ◌↔◌, [], ◌∷◌, length, take, sum, IfSome, IfNone, IfOk, IfErr, OnOk, OnErr, IsTrue};
-ghost use Rattle.std.specs.Io.KnownBytes.{Keeps, Consumes, Appends, IsAtEnd};
+ghost use Rattle.std.specs.Prelude.{◌≡◌, ◌≤◌, ◌*◌, ◌^◌, ◌<◌, ◌↔◌, [], length, sum, IfSome, IfOk, IfErr, OnErr, IsTrue};
+ghost use Rattle.std.specs.Io.KnownBytes.{Keeps};
 ghost use Rattle.capnp_units.specs.declared.kinds.ErrorKind.{ErrorKind};
-ghost use Rattle.capnp_model.specs.Messages.{frame, halves, plain_words, within};
+ghost use Rattle.capnp_model.specs.Messages.{plain_words, within};
 ghost use Rattle.capnp_model.specs.Spelling.{AreShort, CanSpell};
 ghost use Rattle.capnp_stream.specs.Counting.{Counts};
 ghost use Rattle.capnp_stream.specs.Pieces.{TakesPiece, is_framed_fault};
@@ -10,7 +10,6 @@ ghost use Rattle.capnp_stream.specs.Segments.{AreBytes, whole_words, lengths_of,
 ghost use Rattle.capnp_stream.specs.Frames.{TellsFault, TakesMessage, TakesStart, TakesTable, IsReadKind, IsCut};
 ghost use Rattle.capnp_stream.specs.Reading.{WantsBetweenPieces, TriesMessage, ReadsMessage, source_seen};
 ghost use Rattle.capnp_stream.specs.Writing.{AreWritable};
-ghost use Rattle.capnp_stream.specs.Streams.{AppendsPart, RoomFalls, IsWriteRefusal};
 
 use crate::forms::{Framed, MessageForm};
 use crate::segments::{OwnedSegments, SegmentLengthsBuilder};

@@ -1,15 +1,13 @@
 //! Messages that are read into a buffer of the caller, which take no memory.
-ghost use Rattle.std.specs.Prelude.{◌≡◌, ◌≢◌, ◌≤◌, ℕ, ◌+◌, ◌*◌, ◌/◌, ◌%◌, ◌^◌, ◌<◌, [], true, length, take, sum, IfSome, IfNone, IfOk, IfErr, OnOk, OnErr};
+ghost use Rattle.std.specs.Prelude.{◌≡◌, ◌≤◌, ◌+◌, ◌*◌, ◌/◌, ◌%◌, ◌^◌, ◌<◌, true, length, sum, IfOk, IfErr, OnErr};
 ghost use Rattle.std.specs.Int.{from_le_bytes, w64};
-ghost use Rattle.std.specs.Io.KnownBytes.{Keeps, IsAtEnd};
 ghost use Rattle.capnp_units.specs.declared.kinds.ErrorKind.{ErrorKind};
-ghost use Rattle.capnp_units.specs.Segments.{whole_words, words_in};
+ghost use Rattle.capnp_units.specs.Segments.{words_in};
 ghost use Rattle.capnp_model.specs.Messages.{plain_words, within};
 ghost use Rattle.capnp_stream.specs.Counting.{Counts};
 ghost use Rattle.capnp_stream.specs.Pieces.{is_framed_fault};
 ghost use Rattle.capnp_stream.specs.Frames.{TellsFault, TakesMessage, TakesStart, TakesTable};
 ghost use Rattle.capnp_stream.specs.Flat.{table_lengths, table_bytes, frame_segments, Describes};
-ghost use Rattle.capnp_stream.specs.Buffers.{found_segments};
 ghost use Rattle.capnp_stream.specs.Lent.{TellsNeed, LacksBetweenPieces, IsFillKind};
 ghost use Rattle.capnp_stream.specs.Reading.{source_seen};
 ghost use Rattle.capnp_stream.specs.Filling.{TriesFilling, FillsMessage};

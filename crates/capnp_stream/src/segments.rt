@@ -1,5 +1,5 @@
 //! The segments of a message that was read, and the table of their lengths.
-ghost use Rattle.std.specs.Prelude.{◌≡◌, ◌≢◌, ◌≤◌, ◌<◌, ◌↔◌, ◌+◌, ◌*◌, ◌%◌, ◌^◌, ℕ, [], ◌∷◌, ◌++◌, length, drop, slice_get, sum, option_copied, replicate, All, Some, None, OnOk, OnErr, IfOk, IfSome, IfNone, IsSome, IsTrue, IfErr};
+ghost use Rattle.std.specs.Prelude.{◌≡◌, ◌≢◌, ◌≤◌, ◌<◌, ◌↔◌, ◌+◌, ◌*◌, ◌%◌, ◌^◌, [], ◌∷◌, ◌++◌, length, drop, slice_get, sum, option_copied, replicate, All, Some, None, OnOk, OnErr, IfOk, IfSome, IfNone, IsSome, IsTrue, IfErr};
 ghost use Rattle.capnp_units.specs.declared.kinds.ErrorKind.{ErrorKind};
 ghost use Rattle.capnp_units.specs.Segments.{whole_words};
 ghost use Rattle.capnp_stream.specs.Ranges.{bytes_at, ranges_from, range_lengths};

@@ -1,5 +1,5 @@
 //! Tables of messages, read in their forms into the front of a buffer.
-ghost use Rattle.std.specs.Prelude.{◌≡◌, ℕ, Option, ◌+◌, ◌*◌, ◌/◌, ◌%◌, ◌^◌, ◌<◌, ◌≤◌, [], ◌∷◌, length, take, drop, IfSome, IfOk, IfErr, OnOk, OnErr};
+ghost use Rattle.std.specs.Prelude.{◌≡◌, ℕ, Option, ◌+◌, ◌*◌, ◌/◌, ◌%◌, ◌^◌, ◌<◌, ◌≤◌, [], ◌∷◌, length, take, drop, IfOk, IfErr, OnOk, OnErr};
 ghost use Rattle.std.specs.Int.{from_le_bytes, w64};
 ghost use Rattle.capnp_units.specs.declared.kinds.ErrorKind.{ErrorKind};
 ghost use Rattle.capnp_units.specs.Segments.{whole_words};

@@ -1,12 +1,9 @@
 //! Messages of any number of segments, written in their forms.
-ghost use Rattle.std.specs.Prelude.{◌≡◌, ◌≢◌, ◌≤◌, ◌<◌, ◌⊎◌, ℕ, ◌+◌, ◌*◌, ◌/◌, ◌%◌, ◌^◌, [], ◌∷◌, ◌++◌, length, drop, map, slice_index_or, IfOk, IfErr, OnOk, OnErr, All};
+ghost use Rattle.std.specs.Prelude.{◌≡◌, ◌<◌, ◌⊎◌, ◌+◌, ◌*◌, ◌/◌, ◌%◌, ◌^◌, [], ◌∷◌, ◌++◌, length, drop, map, slice_index_or, IfOk, IfErr};
 ghost use Rattle.std.specs.List.{flat_map};
-ghost use Rattle.std.specs.Io.KnownBytes.{Appends};
 ghost use Rattle.capnp_units.specs.declared.kinds.ErrorKind.{ErrorKind};
 ghost use Rattle.capnp_units.specs.Segments.{whole_words, words_in};
 ghost use Rattle.capnp_model.specs.Messages.{frame, paired, spelled};
-ghost use Rattle.capnp_stream.specs.Counting.{Counts};
-ghost use Rattle.capnp_stream.specs.Streams.{AppendsPart, RoomFalls, IsWriteRefusal};
 ghost use Rattle.capnp_stream.specs.Writing.{IsSegment, AreWritable};
 ghost use Rattle.capnp_stream.specs.Writes.{Writes, sink_seen};
 
