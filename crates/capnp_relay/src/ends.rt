@@ -27,7 +27,7 @@ pub enum Fault {
     /// A growth was refused.
     #[error("memory")]
     Memory,
-    /// A size or the number of a message would pass its bound.
+    /// A text that is set, a message that would be written or the number of a message would pass its bound.
     #[error("size")]
     Size,
 }

@@ -17,9 +17,9 @@ use std::alloc::Global;
 
 /// Answers each message of the source, to the end of input or the first bytes that begin with no message.
 ///
-/// A message is read within the options' limits. The calls run at its trimmed root, a null root as the empty struct, and the edited value is written as one canonical message, in the output form. A message without a value within the limits, or with a capability, is skipped as `value`, one whose root is a list as `root`, one that the calls nest too deep as `depth`. Either way the log gets one line.
+/// A message is read within the options' limits. The calls run at its trimmed root, a null root as the empty struct, and the edited value is written as one canonical message, in the output form. A message without a value within the limits, or with a capability, is skipped as `value`, one whose root is a list as `root`, one that the calls nest too deep as `depth`. Either way the log gets one line. Where the lists of a message are in kind, what is written reads as the record that the calls make of the message's record.
 ///
-/// The region has 8 bytes for each word of the word limit and 8 more; at every exit it is all zeros. `Framing`: what is left of the source begins with no message. `Source`, `Out`, `Log`: the device failed, or a slice was too short. `Memory`: a growth was refused. `Size`: a size or the number of a message would pass its bound. What was written before stands.
+/// The region has 8 bytes for each word of the word limit and 8 more; at every exit it is all zeros. `Framing`: what is left of the source begins with no message. `Source`, `Out`, `Log`: the device failed, or a slice was too short. `Memory`: a growth was refused. `Size`: a call sets a text to 2^29 - 1 bytes or more, the message that would be written has 2^29 words or more, or it is message number 2^64. What was written before stands.
 pub fn relay<R: BufRead, W: Write, L: Write>(
     alloc: Global,
     source: &mut R,
