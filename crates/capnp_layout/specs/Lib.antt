@@ -15,3 +15,4 @@ pub use Rattle.capnp_wire.specs.Reads
 pub use Rattle.capnp_object.specs.Inside
 pub use Rattle.capnp_object.specs.Walks
 pub use Rattle.capnp_wire.specs.Laws
+pub use Rattle.capnp_wire.specs.ValueSizes
