@@ -99,11 +99,7 @@ fn push_new(ids: &mut Vec<u64>, seen: &mut HashSet<u64>, id: u64) -> Result<(), 
 }
 
 /// Appends ids, each unless it is among those that are seen.
-fn push_all_new(
-    ids: &mut Vec<u64>,
-    seen: &mut HashSet<u64>,
-    more: &[u64],
-) -> Result<(), AllocError>
+fn push_all_new(ids: &mut Vec<u64>, seen: &mut HashSet<u64>, more: &[u64]) -> Result<(), AllocError>
     requires { PassSame seen.old.keys ids.old.items }
     ensures same { IfOk result (λ _. PassSame seen.new.keys ids.new.items) }
     ensures more { IfOk result (λ _. PassMore ids.old.items ids.new.items more.now) }
@@ -197,7 +193,9 @@ pub(crate) fn is_good_group(
     if !is_group(node) {
         return Ok(true);
     }
-    Ok(count(groups, node.id) == 1
-        && !meets_itself(alloc, nodes, node)?
-        && fits_in(node, holder_of(nodes, node.id)))
+    Ok(
+        count(groups, node.id) == 1
+            && !meets_itself(alloc, nodes, node)?
+            && fits_in(node, holder_of(nodes, node.id)),
+    )
 }
