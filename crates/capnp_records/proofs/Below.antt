@@ -113,8 +113,8 @@ module _ (nodes : List Node) (id : ℕ) where
   next_levels levels gs =
       any_or (λ g. g == id) (λ g. meets_below nodes (suc levels) id (find_node nodes g)) gs
       ∙ ap (λ b. list_any (λ g. g == id) gs || b)
-        (list_any-same (λ g. meets_below nodes (suc levels) id (find_node nodes g)) (λ g. meets_in levels (groups_below nodes g)) (λ g. below_node levels (find_node nodes g)) gs
-        ∙ sym (list_any-flat_map (λ g. g == id || meets_below nodes levels id (find_node nodes g)) (groups_below nodes) gs))
+      (list_any-same (λ g. meets_below nodes (suc levels) id (find_node nodes g)) (λ g. meets_in levels (groups_below nodes g)) (λ g. below_node levels (find_node nodes g)) gs
+      ∙ sym (list_any-flat_map (λ g. g == id || meets_below nodes levels id (find_node nodes g)) (groups_below nodes) gs))
 
   last_level : (gs : List ℕ) → meets_in 0 gs ≡ list_any (λ g. g == id) gs
   last_level gs = list_any-same (λ g. g == id || meets_below nodes 0 id (find_node nodes g)) (λ g. g == id) (λ g. ap (λ b. g == id || b) (nothing_below (find_node nodes g)) ∙ or_false (g == id)) gs

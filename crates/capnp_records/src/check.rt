@@ -1,14 +1,15 @@
 //! The check of node records: the rules by number, each over the nodes in order.
 
 ghost use Rattle.std.specs.Prelude.{◌≡◌, ◌||◌, not, map, length, None, IfOk, IfErr, OnOk};
-ghost use Rattle.capnp_model.specs.Accepted.{is_kept_by, first_break, fault_of, on_struct, has_good_union, is_struct_node, has_no_overlap, shape_in};
+ghost use Rattle.std.specs.List.{flat_map};
+ghost use Rattle.capnp_model.specs.Accepted.{groups_used, is_kept_by, first_break, fault_of, on_struct, has_good_union, is_struct_node, has_no_overlap, shape_in};
 ghost use Rattle.capnp_records.specs.NodeViews.{node_of};
 ghost use Rattle.capnp_records.specs.Faults.{IsRefusalOf};
 
 use crate::defaults::has_good_defaults;
 use crate::fault::SchemaFault;
 use crate::find::{has_id, is_struct};
-use crate::groups::is_good_group;
+use crate::groups::{all_groups, is_good_group};
 use crate::names::{has_good_names, is_short};
 use crate::node::{NodeBody, NodeRecord};
 use crate::overlap::has_no_overlap;
@@ -40,10 +41,12 @@ fn keeps_places(alloc: Global, nodes: &[NodeRecord], node: &NodeRecord) -> Resul
 fn keeps(
     alloc: Global,
     nodes: &[NodeRecord],
+    groups: &[u64],
     earlier: &[NodeRecord],
     node: &NodeRecord,
     rule: u32,
 ) -> Result<bool, AllocError>
+    requires { groups.now ≡ flat_map groups_used (map node_of nodes.now) }
     ensures { IfOk result (λ b. b ≡ is_kept_by (map node_of nodes.now) (map node_of earlier.now) (node_of node.now) rule) }
 {
     match rule {
@@ -52,7 +55,7 @@ fn keeps(
         3 => has_good_names(alloc, node),
         4 => has_no_float(alloc, node),
         5 => has_good_ids(alloc, nodes, node),
-        6 => is_good_group(alloc, nodes, node),
+        6 => is_good_group(alloc, nodes, groups, node),
         7 => keeps_union(alloc, node),
         8 => Ok(has_places(node)),
         9 => keeps_places(alloc, nodes, node),
@@ -64,11 +67,17 @@ fn keeps(
 }
 
 /// The place of the first node that breaks the rule of a number.
-fn first_break(alloc: Global, nodes: &[NodeRecord], rule: u32) -> Result<Option<usize>, AllocError>
+fn first_break(
+    alloc: Global,
+    nodes: &[NodeRecord],
+    groups: &[u64],
+    rule: u32,
+) -> Result<Option<usize>, AllocError>
+    requires { groups.now ≡ flat_map groups_used (map node_of nodes.now) }
     ensures { IfOk result (λ place. place ≡ first_break (map node_of nodes.now) rule) }
 {
     for i in 0..nodes.len() {
-        if !keeps(alloc, nodes, &nodes[..i], &nodes[i], rule)? {
+        if !keeps(alloc, nodes, groups, &nodes[..i], &nodes[i], rule)? {
             return Ok(Some(i));
         }
     }
@@ -80,8 +89,9 @@ pub(crate) fn check(alloc: Global, nodes: &[NodeRecord]) -> Result<(), SchemaFau
     ensures kept { OnOk result (fault_of (map node_of nodes.now) ≡ None) }
     ensures refused { IfErr result (λ fault. IsRefusalOf (map node_of nodes.now) fault) }
 {
+    let groups = all_groups(alloc, nodes)?;
     for rule in 1..RULES + 1 {
-        if let Some(node) = first_break(alloc, nodes, rule)? {
+        if let Some(node) = first_break(alloc, nodes, &groups, rule)? {
             return Err(SchemaFault::Rule { rule, node });
         }
     }

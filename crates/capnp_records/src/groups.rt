@@ -99,11 +99,7 @@ fn push_new(ids: &mut Vec<u64>, seen: &mut HashSet<u64>, id: u64) -> Result<(), 
 }
 
 /// Appends ids, each unless it is among those that are seen.
-fn push_all_new(
-    ids: &mut Vec<u64>,
-    seen: &mut HashSet<u64>,
-    more: &[u64],
-) -> Result<(), AllocError>
+fn push_all_new(ids: &mut Vec<u64>, seen: &mut HashSet<u64>, more: &[u64]) -> Result<(), AllocError>
     requires { PassSame seen.old.keys ids.old.items }
     ensures same { IfOk result (λ _. PassSame seen.new.keys ids.new.items) }
     ensures more { IfOk result (λ _. PassMore ids.old.items ids.new.items more.now) }
@@ -173,28 +169,32 @@ fn meets_itself(alloc: Global, nodes: &[NodeRecord], node: &NodeRecord) -> Resul
 
 // ---- the rule
 
-fn is_used_once(alloc: Global, nodes: &[NodeRecord], id: u64) -> Result<bool, AllocError>
-    ensures { IfOk result (λ b. b ≡ (uses_of (map node_of nodes.now) id == 1)) }
+/// The ids of all groups that fields are, node by node.
+pub(crate) fn all_groups(alloc: Global, nodes: &[NodeRecord]) -> Result<Vec<u64>, AllocError>
+    ensures { IfOk result (λ v. v.items ≡ flat_map groups_used (map node_of nodes.now)) }
 {
     let mut groups = Vec::new(alloc);
     for node in nodes {
         push_groups_of(&mut groups, node)?;
     }
-    Ok(count(&groups, id) == 1)
+    Ok(groups)
 }
 
+/// Whether a node keeps the rule among nodes whose fields are these groups.
 pub(crate) fn is_good_group(
     alloc: Global,
     nodes: &[NodeRecord],
+    groups: &[u64],
     node: &NodeRecord,
 ) -> Result<bool, AllocError>
+    requires { groups.now ≡ flat_map groups_used (map node_of nodes.now) }
     ensures { IfOk result (λ b. b ≡ is_good_group (map node_of nodes.now) (node_of node.now)) }
 {
     if !is_group(node) {
         return Ok(true);
     }
     Ok(
-        is_used_once(alloc, nodes, node.id)?
+        count(groups, node.id) == 1
             && !meets_itself(alloc, nodes, node)?
             && fits_in(node, holder_of(nodes, node.id)),
     )
