@@ -1,14 +1,13 @@
 -- Values of one trimmed value, and cells that hold the same.
-use Rattle.std.proofs.Common.{◌≡◌, ℕ, zero, suc, ◌*◌, ◌+◌, ◌^◌, ◌<◌, ◌≤◌, max, Option, Some, None, refl, sym, ◌∙◌, ap, subst, arith}
-use Rattle.capnp_model.specs.Trees.{Tree, null, capability, structure, plain_list, pointer_list, struct_list, Trees, none, ◌▸◌, child, with_child, padded_to, resized, widened}
-use Rattle.capnp_model.specs.Sections.{needed_words, with_bits}
-use Rattle.capnp_model.specs.Trimming.{after_stripping, stripped, trim, trim_each, trim_elements}
+use Rattle.std.proofs.Common.{◌≡◌, ℕ, zero, suc, ◌*◌, ◌+◌, ◌^◌, ◌<◌, ◌≤◌, refl, sym, ◌∙◌, ap, subst, arith}
+use Rattle.capnp_model.specs.Trees.{Tree, null, capability, structure, plain_list, pointer_list, struct_list, Trees, none, ◌▸◌, child}
+use Rattle.capnp_model.specs.Sections.{with_bits}
+use Rattle.capnp_model.specs.Trimming.{after_stripping, stripped, trim, trim_each}
 use Rattle.capnp_model.specs.Edits.{Cell, put_bits, put_child}
 use Rattle.capnp_model.proofs.Bounds.{with_bits_lt}
-use Rattle.capnp_model.proofs.Numbers.{wider}
-use Rattle.capnp_model.proofs.Widening.{bare, bare-with_child, bare-padded_to, trim-structure}
+use Rattle.capnp_model.proofs.Widening.{bare, bare-with_child, trim-structure}
 use Rattle.capnp_versions.specs.Whole.{IsWhole, AreWhole}
-use Rattle.capnp_versions.proofs.WholeValues.{whole-child, whole-with_child, whole-padded_to, whole-resized}
+use Rattle.capnp_versions.proofs.WholeValues.{whole-child, whole-with_child}
 
 -- one trimmed value
 pub record Alike (t u : Tree) : Type 0 where

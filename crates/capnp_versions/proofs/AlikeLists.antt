@@ -1,18 +1,17 @@
 -- Lists on the path of a call, under two versions.
-use Rattle.std.proofs.Common.{◌≡◌, ℕ, zero, suc, ◌*◌, ◌^◌, ◌<◌, ◌≤◌, max, Bool, true, false, not, ◌&&◌, ◌==◌, nat_le, List, [], ◌∷◌, refl, sym, ◌∙◌, ap, subst, arith}
+use Rattle.std.proofs.Common.{◌≡◌, ℕ, zero, suc, ◌*◌, ◌^◌, ◌<◌, ◌≤◌, max, List, [], ◌∷◌, refl, sym, ◌∙◌, ap, arith}
 use Rattle.std.specs.List.{AllByRecursion}
-use Rattle.capnp_model.specs.Trees.{Tree, null, capability, structure, plain_list, pointer_list, struct_list, Trees, none, ◌▸◌, Elements, no_elements, element, child, resized, padded_to, size_bits, plain_elements}
+use Rattle.capnp_model.specs.Trees.{Tree, null, capability, structure, plain_list, pointer_list, struct_list, Trees, none, ◌▸◌, Elements, size_bits, plain_elements}
 use Rattle.capnp_model.specs.Sections.{number_of}
-use Rattle.capnp_model.specs.Trimming.{after_stripping, stripped, trim, trim_each}
-use Rattle.capnp_model.specs.Schemas.{width, Ty, plain, struct, list, Shape, shape, Schema}
-use Rattle.capnp_model.specs.Edits.{Cell, Edit, elements_of_plain, elements_of_pointers, padded_elements, least_words, widened_list, on_plain, on_pointers, on_elements, edit_list}
+use Rattle.capnp_model.specs.Trimming.{after_stripping, trim, trim_each}
+use Rattle.capnp_model.specs.Edits.{Cell, Edit, elements_of_plain, elements_of_pointers, padded_elements, least_words, on_plain, on_pointers, on_elements, edit_list}
 use Rattle.capnp_model.proofs.Numbers.{numbers_in_lt, wider}
-use Rattle.capnp_model.proofs.Widening.{bare, bare-padded_to}
-use Rattle.capnp_versions.specs.Whole.{IsWhole, AreWhole, HaveWhole}
-use Rattle.capnp_versions.proofs.WholeValues.{whole-child, whole-padded_to, whole-resized, whole-more}
+use Rattle.capnp_model.proofs.Widening.{bare-padded_to}
+use Rattle.capnp_versions.specs.Whole.{AreWhole, HaveWhole}
+use Rattle.capnp_versions.proofs.WholeValues.{whole-padded_to, whole-resized, whole-more}
 use Rattle.capnp_versions.proofs.Alike.{Alike, SameCell, Agree, alike-child}
-use Rattle.capnp_versions.proofs.SameLists.{SameElements, IsListLike, list_like, list-like, alike-elements, same-padded, whole-padded_elements, AtElement, SameWhole, edited-elements}
-use Rattle.capnp_versions.proofs.SameContents.{shape_words, bare_nulls}
+use Rattle.capnp_versions.proofs.SameLists.{SameElements, alike-elements, same-padded, whole-padded_elements, AtElement, SameWhole, edited-elements}
+use Rattle.capnp_versions.proofs.SameContents.{bare_nulls}
 use Rattle.capnp_versions.proofs.WroteLists.{AtPlain, AtChild}
 
 -- ---- what a list of a list's trimmed value is

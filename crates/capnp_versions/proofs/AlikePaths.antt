@@ -1,29 +1,29 @@
 -- Calls that are carried out leave values of one trimmed value, under schemas that have their paths in common.
-use Rattle.std.proofs.Common.{◌≡◌, ℕ, zero, suc, ◌+◌, ◌*◌, ◌^◌, ◌<◌, ◌≤◌, max, Bool, true, false, not, ◌&&◌, ◌==◌, nat_le, nat_lt, if◌then◌else◌, List, [], ◌∷◌, Option, Some, None, refl, sym, ◌∙◌, ap, subst, arith}
+use Rattle.std.proofs.Common.{◌≡◌, ℕ, ◌*◌, ◌^◌, ◌<◌, ◌≤◌, max, Bool, true, false, not, ◌&&◌, ◌==◌, nat_le, if◌then◌else◌, List, [], ◌∷◌, Option, Some, None, refl, sym, ◌∙◌, ap, subst, arith}
 use Rattle.std.proofs.lemmas.Nat.{pow_pos}
-use Rattle.capnp_model.specs.Trees.{Tree, null, capability, structure, plain_list, pointer_list, struct_list, Trees, none, ◌▸◌, Elements, child, resized, padded_to, size_bits, size_of_width}
+use Rattle.capnp_model.specs.Trees.{Tree, null, capability, structure, plain_list, pointer_list, struct_list, none, Elements, child, resized, padded_to, size_bits, size_of_width}
 use Rattle.capnp_model.specs.Trimming.{trim}
 use Rattle.capnp_model.specs.Schemas.{PlainType, width, Ty, void, plain, text, blob, untyped, interface, struct, list, Shape, shape, Fields, Body, void_slot, plain_slot, pointer_slot, group_slot, Schema, default_or_null}
-use Rattle.capnp_model.specs.Readings.{Children, Reading, inactive, number, record_as, no_children, whole_words, shape_record, only_if, body_of, element_as, read, read_child, record_by_shape, expected_size, have_room, is_list_of}
+use Rattle.capnp_model.specs.Readings.{Children, inactive, number, record_as, no_children, whole_words, shape_record, only_if, body_of, element_as, read, read_child, record_by_shape, have_room, is_list_of}
 use Rattle.capnp_model.specs.Printing.{fields_in}
 use Rattle.capnp_model.specs.Calls.{Step, name, index, Verb}
-use Rattle.capnp_model.specs.Steps.{target, target_of, on_name, opened, through_value, through_field, step_field, step_element}
-use Rattle.capnp_model.specs.Edits.{Cell, Edit, mark, edit_target, edit_named, edit_struct, widened_list, as_list, edit_list, edit_value, edit_through, edit_through_element, edit_field, edit_element, opened_tree, put_child, put_field}
-use Rattle.capnp_model.specs.Admitted.{is_group_write, is_set, is_struct_type}
+use Rattle.capnp_model.specs.Steps.{on_name, opened, through_value, through_field, step_field, step_element}
+use Rattle.capnp_model.specs.Edits.{Cell, mark, edit_target, edit_named, edit_struct, widened_list, as_list, edit_list, edit_value, edit_field, edit_element, opened_tree, put_child, put_field}
+use Rattle.capnp_model.specs.Admitted.{is_group_write, is_struct_type}
 use Rattle.capnp_model.proofs.Numbers.{wider}
-use Rattle.capnp_model.proofs.Widening.{bare, bare-padded_to}
-use Rattle.capnp_model.proofs.KeptRules.{and_left, and_right}
+use Rattle.capnp_model.proofs.Widening.{bare-padded_to}
+use Rattle.capnp_model.proofs.KeptRules.{and_left}
 use Rattle.capnp_model.proofs.OlderReading.{same_bool, same_int, same_uint, same_enum, Related, related_void, related_plain', related_text, related_blob, related_untyped, related_interface, related_struct, related_list}
-use Rattle.capnp_versions.specs.Whole.{IsWhole, AreWhole, IsWholeVerb}
+use Rattle.capnp_versions.specs.Whole.{IsWhole, IsWholeVerb}
 use Rattle.capnp_versions.proofs.WholeValues.{whole-padded_to, whole-resized}
-use Rattle.capnp_versions.proofs.Alike.{Alike, SameCell, Agree, agree-more, agree-then, agree-put_bits, agree-put_child, agree-same, alike-child, alike-structure, IsStructLike, struct_like, struct-like}
+use Rattle.capnp_versions.proofs.Alike.{Alike, SameCell, Agree, agree-more, agree-then, agree-put_bits, agree-put_child, alike-child, alike-structure, IsStructLike, struct_like, struct-like}
 use Rattle.capnp_versions.proofs.SameLists.{IsListLike, list_like, list-like}
-use Rattle.capnp_versions.proofs.SameShapes.{Congruent, no_change, AnyPair, SameBody}
+use Rattle.capnp_versions.proofs.SameShapes.{Congruent, no_change, AnyPair}
 use Rattle.capnp_versions.specs.SameReplies.{IsWrite}
 use Rattle.capnp_versions.proofs.SameContents.{shape_words, element_bits, bare_nulls, congruent-field, congruent-element}
 use Rattle.capnp_versions.proofs.Wrote.{Wrote, wrote-map, field-is-write, element-is-write, group-is-write, WritesField, WritesElement, WritesName, FoundName, found_name, find_name, WritesStruct, into_struct, WritesList, into_list, no-name, no-index, through-pointer, reads-nothing, reads-padded}
 use Rattle.capnp_versions.proofs.WroteLists.{at-plain, at-plain-element, at-child, at-pointer-element, at-element, at-padded-element}
-use Rattle.capnp_versions.proofs.Follows.{SameMark, IsNarrow, HasWords, NameFollows, ValueFollows, PointerFollows, ThroughFollows, EndFollows, FieldFollows, ElementFollows}
+use Rattle.capnp_versions.proofs.Follows.{SameMark, IsNarrow, HasWords, NameFollows, ValueFollows, PointerFollows, EndFollows, FieldFollows, ElementFollows}
 use Rattle.capnp_versions.proofs.AlikeLists.{plain-like, IsPointersLike, pointers_like, pointers-like, edited-structs, widened-plain, widened-pointers, widened-structs, edited-plain, edited-pointers}
 
 congruent_marks : (bits : ℕ) (u m u' m' : Option ℕ) → SameMark bits u m u' m' → Congruent bits (mark u m) (mark u' m')
@@ -357,11 +357,11 @@ module _ (o n : Schema) (verb : Verb) (whole : IsWholeVerb verb) where
         let known = subst (λ z. Wrote (through_value n st (step_field n path verb) (step_element n path verb) ty' (opened n ty' z (read n (child e.kids i) ty')))) (sym follows.2) moved in
         subst
         (λ z. Agree bits c (put_child i (edit_value o st (edit_field o path verb) (edit_element o path verb) ty (opened_tree ty (default_or_null d) (child c.kids i))) c)
-            (put_child z (edit_value n st (edit_field n path verb) (edit_element n path verb) ty' (opened_tree ty' (default_or_null d') (child e.kids z))) e))
+        (put_child z (edit_value n st (edit_field n path verb) (edit_element n path verb) ty' (opened_tree ty' (default_or_null d') (child e.kids z))) e))
         follows.0
         (subst
         (λ z. Agree bits c (put_child i (edit_value o st (edit_field o path verb) (edit_element o path verb) ty (opened_tree ty (default_or_null d) (child c.kids i))) c)
-            (put_child i (edit_value n st (edit_field n path verb) (edit_element n path verb) ty' (opened_tree ty' z (child e.kids i))) e))
+        (put_child i (edit_value n st (edit_field n path verb) (edit_element n path verb) ty' (opened_tree ty' z (child e.kids i))) e))
         follows.2
         (at_pointer st bits i ty ty' (default_or_null d) follows.1 follows.3 follows.4 c e s (pointer_reads o st i ty d c k) known))
 

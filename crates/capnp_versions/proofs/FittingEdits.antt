@@ -6,14 +6,14 @@ use Rattle.std.specs.List.{AllByRecursion}
 use Rattle.std.proofs.lemmas.Nat.{pow_pos}
 use lib.Bits.{bit_xor, xor_lt}
 use Rattle.capnp_model.specs.Kinds.{Kind, TypeMismatch, InitnIsOnlyValidForListTextOrDataFields, ExpectedAListOrBlob}
-use Rattle.capnp_model.specs.Sections.{number_of, bits_at, with_bits, numbers_in}
-use Rattle.capnp_model.specs.Trees.{Tree, null, capability, structure, plain_list, pointer_list, struct_list, Trees, none, ◌▸◌, Elements, no_elements, element, child, with_child, resized, padded_to, widened, plain_elements, size_bits, size_of_width, tree_count, element_count}
+use Rattle.capnp_model.specs.Sections.{number_of, numbers_in}
+use Rattle.capnp_model.specs.Trees.{Tree, null, capability, structure, plain_list, pointer_list, struct_list, Trees, none, ◌▸◌, Elements, no_elements, element, child, with_child, resized, padded_to, plain_elements, size_bits, size_of_width, tree_count}
 use Rattle.capnp_model.specs.Schemas.{PlainType, bool, int, uint, «enum», width, Ty, void, plain, text, blob, untyped, interface, struct, list, Shape, shape, Fields, no_fields, field, Body, void_slot, plain_slot, pointer_slot, group_slot, Schema, default_or_null}
-use Rattle.capnp_model.specs.Readings.{Reading, Record, record_as, is_list_of, is_accepted_as, have_room, expected_size, is_active, discriminant, whole_words, field_bits, Children, only_if, body_of, element_as, shape_record, read, read_child, record_by_shape, no_children}
-use Rattle.capnp_model.specs.Calls.{Step, name, index, CallValue, whole_number, truth, enumerant, text_value, blob_value, message, Verb, get, set_to, init, initn, clear, Content, refused_by, bits_of, object, plain_content, struct_content, message_root, value_content, blob_tree, text_tree, empty_elements, empty_structs, empty_struct, new_list, init_content, initn_content, slot_content, element_content}
+use Rattle.capnp_model.specs.Readings.{Reading, Record, record_as, is_list_of, have_room, discriminant, whole_words, field_bits, only_if, body_of, element_as, read, read_child, record_by_shape, no_children}
+use Rattle.capnp_model.specs.Calls.{Step, name, index, CallValue, whole_number, truth, enumerant, text_value, blob_value, message, Verb, get, set_to, init, initn, clear, Content, refused_by, bits_of, object, plain_content, struct_content, message_root, value_content, blob_tree, empty_elements, empty_structs, empty_struct, new_list, init_content, initn_content, slot_content, element_content}
 use Rattle.capnp_model.specs.Groups.{empty_tree, source_tree}
-use Rattle.capnp_model.specs.Steps.{Target, no_target, target, target_if, target_of, on_name, step_path, step_field, step_element, through_value, through_field, opened}
-use Rattle.capnp_model.specs.Edits.{Cell, Edit, put_bits, put_child, mark, put_content, is_kept, edit_if, cleared, cleared_fields, cleared_body, pointer_writes, has_turn, group_writes, field_writes, body_writes, after_writes, from_message, put_group, put_field, put_in_element, opened_tree, edit_target, edit_named, in_struct, edit_struct, elements_of_plain, elements_of_pointers, padded_elements, least_words, widened_list, as_list, on_plain, on_pointers, on_elements, edit_list, edit_value, edit_through, edit_through_element, edit_field, edit_element, write_path}
+use Rattle.capnp_model.specs.Steps.{target, target_if, target_of, on_name, step_path, step_field, step_element, through_value, through_field, opened}
+use Rattle.capnp_model.specs.Edits.{Cell, Edit, put_bits, put_child, mark, put_content, is_kept, edit_if, cleared, cleared_fields, cleared_body, pointer_writes, has_turn, group_writes, field_writes, body_writes, after_writes, from_message, put_group, put_field, put_in_element, opened_tree, edit_target, edit_named, edit_struct, elements_of_plain, elements_of_pointers, padded_elements, least_words, widened_list, as_list, on_plain, on_pointers, on_elements, edit_list, edit_value, edit_through, edit_through_element, edit_field, edit_element, write_path}
 use Rattle.capnp_model.specs.NamedPaths.{IsInRange, IsOpen}
 use Rattle.capnp_model.specs.Printing.{fields_in}
 use Rattle.capnp_model.specs.Fits.{Fits, FitEach, FitElements}
@@ -25,7 +25,7 @@ use Rattle.capnp_model.proofs.FitCalls.{IsPointer, IsGoodSlot, contents_fit}
 use Rattle.capnp_model.proofs.KeptRules.{and_left, and_right}
 use Rattle.capnp_versions.proofs.SameContents.{IsWrite}
 use Rattle.capnp_versions.proofs.SameLists.{AtElement}
-use Rattle.capnp_versions.proofs.WroteLists.{AtPlain, AtChild, at-plain-element, at-child, at-pointer-element, at-element, at-padded-element}
+use Rattle.capnp_versions.proofs.WroteLists.{AtChild, at-plain-element, at-child, at-pointer-element, at-element, at-padded-element}
 use Rattle.capnp_versions.proofs.Wrote.{Wrote, wrote-map, field-is-write, element-is-write, WritesField, WritesElement, WritesName, FoundName, found_name, find_name, WritesStruct, into_struct, WritesList, into_list, no-name, no-index, through-pointer, reads-padded, reads-nothing}
 use Rattle.capnp_versions.proofs.Within.{AllNarrow}
 use Rattle.capnp_versions.specs.Fitting.{NumbersFit, AllNumbersFit, ElementNumbersFit, HasShortLists, AllHaveShortLists, ElementsHaveShortLists, IsSpelledVerb}
@@ -506,9 +506,10 @@ module _ (s : Schema) (fits : SchemaFits s) where
 
         group-keep : (g : Shape) (before : Edit) → ShapeFits w q g → KeepsGood w q before → AllKeep (group_writes s g before from)
         group-keep (shape nid x p u fs) before h b =
-            let active : Option ℕ = discriminant u whole_words from.section in
-            ((λ c good. cleared-keeps w q (shape nid x p u fs) h (before c) (b c good)),
-             keep-both (field_writes s true fs u active from) (field_writes s false fs u active from) (fields-keep true fs u active h.0 h.1) (fields-keep false fs u active h.0 h.1))
+            let active : Option ℕ = discriminant u whole_words from.section in (
+              (λ c good. cleared-keeps w q (shape nid x p u fs) h (before c) (b c good)),
+              keep-both (field_writes s true fs u active from) (field_writes s false fs u active from) (fields-keep true fs u active h.0 h.1) (fields-keep false fs u active h.0 h.1),
+            )
 
         fields-keep : (members : Bool) (fs : Fields) (u active : Option ℕ) → UnionFits w u → FieldsFit w q fs → AllKeep (field_writes s members fs u active from)
         fields-keep members no_fields u active g h = tt
@@ -603,7 +604,6 @@ struct-ok id (pointer_list ts) = tt
 struct-ok id (struct_list w p es) = tt
 
 element-ok : (s : Schema) (verb : Verb) → IsInRange verb → (ty : Ty) → ElementOk ty (element_content s verb ty)
-
 element-ok s (set_to (whole_number z)) r void = tt
 element-ok s (set_to (whole_number z)) r (plain p) = slot-number p (plain_content p (whole_number z)) (contents_fit s (plain_slot p 0 0) (pow_pos (width p)) (set_to (whole_number z)) r)
 element-ok s (set_to (whole_number z)) r text = tt
@@ -889,7 +889,7 @@ module _ (s : Schema) (fits : SchemaFits s) (verb : Verb) (spelled : IsSpelledVe
         let k = count-padded y ts in
         let inside = shape-wider x y (max x n) (max y (tree_count ts)) (shape nid x y u fs) (omega arith) (omega arith) g.inside in
         let good = name-keeps l nid x y (max x n) (max y (tree_count ts)) u fs c inside (record { size = whole_words; section = section; kids = read_child s ts; reads = λ i ty. reads-padded s y ts i ty; wrote = wrote })
-            (wider section (64 * n) (64 * max x n) (omega arith) h.2, k, all-padded y ts h.3) in
+        (wider section (64 * n) (64 * max x n) (omega arith) h.2, k, all-padded y ts h.3) in
         let few = good.1 in let a = g.words in let b = g.pointers in let e = h.0 in let f = h.1 in
         (omega arith, omega arith, good.0, good.2)
     struct-by l g f (capability i) h o wrote = absurd o
@@ -907,19 +907,28 @@ module _ (s : Schema) (fits : SchemaFits s) (verb : Verb) (spelled : IsSpelledVe
     structs-by : (k id : ℕ) (g : Shape) → s.shape_of id ≡ g → StructFits g → (t : Tree) → NumbersFit t → WritesList s verb path k (struct id) t → NumbersFit (edit_list (edit_element s path verb (struct id)) k (widened_list g t))
     structs-by k id (shape nid w p u fs) is g (plain_list z n x) h write =
         let whole = widened-list-fits (shape nid w p u fs) g (plain_list z n x) h in
-        let at = at-plain-element s verb path (struct id) (size_bits z) p k (plain_elements z n x) write.1 in
-        (whole.0, whole.1, elements-keep (WritesElement s verb path (struct id)) (max w (least_words z)) p (edit_element s path verb (struct id) (max w (least_words z)) p)
-            (λ c writes good. elements (struct id) (max w (least_words z)) p c tt (wider-room id (max w (least_words z)) p (rw is (omega arith)) (rw is (omega arith))) writes good) k (elements_of_plain p (plain_elements z n x)) at whole.2)
+        let at = at-plain-element s verb path (struct id) (size_bits z) p k (plain_elements z n x) write.1 in (
+          whole.0,
+          whole.1,
+          elements-keep (WritesElement s verb path (struct id)) (max w (least_words z)) p (edit_element s path verb (struct id) (max w (least_words z)) p)
+              (λ c writes good. elements (struct id) (max w (least_words z)) p c tt (wider-room id (max w (least_words z)) p (rw is (omega arith)) (rw is (omega arith))) writes good) k (elements_of_plain p (plain_elements z n x)) at whole.2,
+        )
     structs-by k id (shape nid w p u fs) is g (pointer_list ts) h write =
         let whole = widened-list-fits (shape nid w p u fs) g (pointer_list ts) h in
-        let at = at-pointer-element s verb path (struct id) p k ts write.1 in
-        (whole.0, whole.1, elements-keep (WritesElement s verb path (struct id)) w (max p 1) (edit_element s path verb (struct id) w (max p 1))
-            (λ c writes good. elements (struct id) w (max p 1) c tt (wider-room id w (max p 1) (rw is (omega arith)) (rw is (omega arith))) writes good) k (elements_of_pointers p ts) at whole.2)
+        let at = at-pointer-element s verb path (struct id) p k ts write.1 in (
+          whole.0,
+          whole.1,
+          elements-keep (WritesElement s verb path (struct id)) w (max p 1) (edit_element s path verb (struct id) w (max p 1))
+              (λ c writes good. elements (struct id) w (max p 1) c tt (wider-room id w (max p 1) (rw is (omega arith)) (rw is (omega arith))) writes good) k (elements_of_pointers p ts) at whole.2,
+        )
     structs-by k id (shape nid w p u fs) is g (struct_list d e es) h write =
         let whole = widened-list-fits (shape nid w p u fs) g (struct_list d e es) h in
-        let at = at-padded-element s verb path (struct id) p k es write.1 in
-        (whole.0, whole.1, elements-keep (WritesElement s verb path (struct id)) (max w d) (max p e) (edit_element s path verb (struct id) (max w d) (max p e))
-            (λ c writes good. elements (struct id) (max w d) (max p e) c tt (wider-room id (max w d) (max p e) (rw is (omega arith)) (rw is (omega arith))) writes good) k (padded_elements p es) at whole.2)
+        let at = at-padded-element s verb path (struct id) p k es write.1 in (
+          whole.0,
+          whole.1,
+          elements-keep (WritesElement s verb path (struct id)) (max w d) (max p e) (edit_element s path verb (struct id) (max w d) (max p e))
+              (λ c writes good. elements (struct id) (max w d) (max p e) c tt (wider-room id (max w d) (max p e) (rw is (omega arith)) (rw is (omega arith))) writes good) k (padded_elements p es) at whole.2,
+        )
     structs-by k id g is f null h write = absurd write
     structs-by k id g is f (capability i) h write = absurd write
     structs-by k id g is f (structure n x ts) h write = absurd write

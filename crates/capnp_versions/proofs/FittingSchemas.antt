@@ -1,30 +1,28 @@
 -- In accepted node records every slot lies in its struct's sections, so that edited values fit their spelling.
-use Rattle.std.proofs.Common.{◌≡◌, ℕ, zero, suc, ◌+◌, ◌*◌, ◌^◌, ◌<◌, ◌≤◌, ◌==◌, max, Bool, true, false, not, ◌&&◌, ◌||◌, nat_le, nat_lt, if◌then◌else◌, length, Option, Some, None, List, [], ◌∷◌, ◌++◌, refl, sym, ◌∙◌, ap, subst, arith}
+use Rattle.std.proofs.Common.{◌≡◌, ℕ, zero, suc, ◌*◌, ◌^◌, ◌<◌, ◌≤◌, ◌==◌, Bool, true, false, nat_lt, if◌then◌else◌, length, Option, Some, None, List, [], ◌∷◌, refl, sym, ◌∙◌, subst, arith}
 use Rattle.std.specs.List.{list_all, list_any, flat_map, AllByRecursion}
 use Rattle.std.proofs.lemmas.Bool.{or_left, or_right}
 use Rattle.std.proofs.lemmas.List.Folds.{list_any-append}
-use Rattle.capnp_model.specs.Trees.{Tree, null, capability, structure, plain_list, pointer_list, struct_list, widened}
-use Rattle.capnp_model.specs.Schemas.{width, Ty, void, plain, text, blob, untyped, interface, struct, list, type_of, Value, FieldKind, slot, group, Field, StructNode, NodeKind, struct_node, enum_node, Node, Shape, shape, Fields, no_fields, field, Body, void_slot, plain_slot, pointer_slot, group_slot, Schema, default_or_null}
+use Rattle.capnp_model.specs.Trees.{Tree, null, capability, structure, plain_list, pointer_list, struct_list}
+use Rattle.capnp_model.specs.Schemas.{Ty, void, plain, text, blob, untyped, interface, struct, list, type_of, Value, FieldKind, slot, group, Field, StructNode, NodeKind, struct_node, enum_node, Node, Shape, shape, Fields, no_fields, field, Body, void_slot, plain_slot, pointer_slot, group_slot, Schema, default_or_null}
 use Rattle.capnp_model.specs.Readings.{Record, record_of, record_by_shape}
 use Rattle.capnp_model.specs.Printing.{fields_in}
-use Rattle.capnp_model.specs.Accepted.{find_node, fields_of_kind, groups_of_field, groups_used, sizes_of, slot_body, field_body, fields_from, union_place, no_shape, shape_of_node, shape_in, schema_of, is_inside, has_its_place, has_places, on_struct, IsAccepted}
+use Rattle.capnp_model.specs.Accepted.{find_node, fields_of_kind, groups_of_field, sizes_of, slot_body, field_body, fields_from, union_place, no_shape, shape_of_node, shape_in, schema_of, is_inside, has_its_place, has_places, on_struct, IsAccepted}
 use Rattle.capnp_model.specs.Calls.{Step, name, index, Verb, Call}
 use Rattle.capnp_model.specs.Steps.{Outcome, refused, shown, done, step, step_path}
-use Rattle.capnp_model.specs.Edits.{edit_struct, edit_field, write_path, if_done, edit}
+use Rattle.capnp_model.specs.Edits.{write_path, if_done, edit}
 use Rattle.capnp_model.specs.Answers.{edits}
-use Rattle.capnp_model.specs.NamedPaths.{IsOpen}
 use Rattle.capnp_model.specs.Fits.{Fits}
 use Rattle.capnp_model.proofs.KeptRules.{and_left, and_right, found_passes}
-use Rattle.capnp_model.proofs.FitCalls.{IsGoodSlot}
 use Rattle.capnp_model.proofs.FineShapes.{IsGoodMember, IsGood, AreGood, IsGoodBody}
 use Rattle.capnp_model.proofs.SoundRules.{RulesKept, rules_kept, good_shape}
 use Rattle.capnp_versions.specs.Fitting.{NumbersFit, HasShortLists, IsSpelledVerb, HasSmallSections, HaveSmallSections}
 use Rattle.capnp_versions.proofs.SameContents.{shape_words}
 use Rattle.capnp_versions.proofs.SameShapes.{UnionWithin}
 use Rattle.capnp_versions.proofs.Holders.{PlacesKept, places_kept, uses, group_fits}
-use Rattle.capnp_versions.proofs.Within.{FitsDefault, AllNarrow, IsWithin, AreWithin, BodyWithin, shape-within}
-use Rattle.capnp_versions.proofs.Wrote.{Wrote, wrote-done}
-use Rattle.capnp_versions.proofs.FittingEdits.{numbers-of, fits-by-parts, UnionFits, MemberFits, ShapeFits, FieldsFit, BodyFits, words_of_shape, pointers_of_shape, StructFits, SchemaFits, written-fits}
+use Rattle.capnp_versions.proofs.Within.{FitsDefault, IsWithin, AreWithin, BodyWithin, shape-within}
+use Rattle.capnp_versions.proofs.Wrote.{Wrote}
+use Rattle.capnp_versions.proofs.FittingEdits.{numbers-of, fits-by-parts, UnionFits, MemberFits, ShapeFits, FieldsFit, BodyFits, words_of_shape, pointers_of_shape, SchemaFits, written-fits}
 
 -- ---- pointers
 
@@ -69,9 +67,9 @@ module _ (groups : ℕ → Shape) (s : StructNode) (room : ℕ) (le : s.pointers
   fields_pointers (f ∷ fs) good h =
       let rest = flat_map (λ (g : Field). groups_of_field g.kind) fs in (
         kind_pointers f.kind (λ g x. good g (list_any-append (λ y. y == g) (groups_of_field f.kind) rest ∙ or_left (list_any (λ y. y == g) (groups_of_field f.kind)) (list_any (λ y. y == g) rest) x))
-        (and_left (has_its_place s f.kind) _ h),
+            (and_left (has_its_place s f.kind) _ h),
         fields_pointers fs (λ g x. good g (list_any-append (λ y. y == g) (groups_of_field f.kind) rest ∙ or_right (list_any (λ y. y == g) (groups_of_field f.kind)) (list_any (λ y. y == g) rest) x))
-        (and_right (has_its_place s f.kind) _ h),
+            (and_right (has_its_place s f.kind) _ h),
       )
 
 module _ (nodes : List Node) (r : RulesKept nodes) (q : PlacesKept nodes) where

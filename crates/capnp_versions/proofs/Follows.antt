@@ -1,5 +1,5 @@
 -- What two schemas must have in common along a path, so that a call does the same under both.
-use Rattle.std.proofs.Common.{◌≡◌, ℕ, ◌+◌, ◌*◌, ◌^◌, ◌<◌, ◌≤◌, Bool, true, false, ◌&&◌, List, [], ◌∷◌, Option, Some, None}
+use Rattle.std.proofs.Common.{◌≡◌, ℕ, ◌+◌, ◌*◌, ◌^◌, ◌<◌, ◌≤◌, true, false, ◌&&◌, List, [], ◌∷◌, Option, Some, None}
 use Rattle.capnp_model.specs.Trees.{Tree}
 use Rattle.capnp_model.specs.Schemas.{width, Ty, plain, struct, list, Shape, shape, Body, void_slot, plain_slot, pointer_slot, group_slot, Schema, default_or_null}
 use Rattle.capnp_model.specs.Calls.{Step, name, index, Verb}

@@ -1,18 +1,18 @@
 -- A group that the newer does not extend is set alike under both: the same faults, and the older view of the same record.
-use Rattle.std.proofs.Common.{◌≡◌, ℕ, zero, suc, ◌<◌, ◌≤◌, ◌==◌, ◌&&◌, nat_le, Bool, true, false, List, Option, Some, None, refl, sym, ◌∙◌, ap, subst, arith}
+use Rattle.std.proofs.Common.{◌≡◌, ℕ, zero, suc, ◌≤◌, ◌==◌, ◌&&◌, nat_le, Bool, true, false, List, Option, Some, None, refl, sym, ◌∙◌, ap, arith}
 use Rattle.std.specs.Str.{bytes_eq}
 use Rattle.capnp_model.specs.Kinds.{Kind}
 use Rattle.capnp_model.specs.Trees.{Tree, null, capability, structure, plain_list, pointer_list, struct_list}
-use Rattle.capnp_model.specs.Schemas.{Ty, void, plain, text, blob, untyped, interface, struct, list, Shape, shape, Fields, no_fields, field, Body, void_slot, plain_slot, pointer_slot, group_slot, Schema, default_or_null}
+use Rattle.capnp_model.specs.Schemas.{Ty, void, plain, text, blob, untyped, interface, struct, list, Shape, Fields, no_fields, field, Body, void_slot, plain_slot, pointer_slot, group_slot, Schema, default_or_null}
 use Rattle.capnp_model.specs.Readings.{Readings, Reading, inactive, null_pointer, fault, number, text_of, blob_of, list_of, record_as, opaque, Record, entry, Children, no_children, Extent, whole_words, discriminant, is_active, only_if, shape_record, fields_of, body_of, read, read_child, record_by_shape}
 use Rattle.capnp_model.specs.Printing.{As, as_type, as_body, as_group, fields_in}
 use Rattle.capnp_model.specs.Projection.{project, project_fields}
-use Rattle.capnp_model.specs.Calls.{CallValue, whole_number, truth, enumerant, text_value, blob_value, message, Verb, get, set_to, init, initn, clear, message_root}
+use Rattle.capnp_model.specs.Calls.{whole_number, truth, enumerant, text_value, blob_value, message, Verb, get, set_to, init, initn, clear, message_root}
 use Rattle.capnp_model.specs.Groups.{empty_tree, source_tree, or_else, pointer_fault, field_fault, is_turn, group_fault, fields_fault, body_fault, has_active, copied_record, copied_entries, copied_reading}
-use Rattle.capnp_model.specs.Steps.{Outcome, refused, done, outcome_map, at_field, copied_or_refused, set_group_from, set_group, cleared_group}
+use Rattle.capnp_model.specs.Steps.{done, outcome_map, at_field, copied_or_refused, set_group_from}
 use Rattle.capnp_model.specs.Compatible.{Pairs, related, same_option, is_new, member_count, keeps_union, same_default, keeps, keeps_fields, keeps_body}
 use Rattle.capnp_model.specs.Admitted.{is_group_write}
-use Rattle.capnp_model.proofs.KeptRules.{and_left, and_right, and_three, and_four}
+use Rattle.capnp_model.proofs.KeptRules.{and_right, and_three, and_four}
 use Rattle.capnp_model.proofs.KeptShapes.{HasPair}
 use Rattle.capnp_model.proofs.FineShapes.{IsGood, AreGood, IsGoodBody}
 use Rattle.capnp_model.proofs.OlderReading.{same_bool, same_int, same_uint, same_enum, Related, related_void, related_plain', related_text, related_blob, related_untyped, related_interface, related_struct, related_list, KeptShape, KidsAgree, shape_record-project, body_of-project, no_children_agree, read-project, read_child-project}

@@ -1,10 +1,9 @@
 -- In accepted node records a group is no larger than the struct or the group that has it.
-use Rattle.std.proofs.Common.{◌≡◌, ℕ, zero, suc, ◌+◌, ◌*◌, ◌<◌, ◌≤◌, Bool, true, false, not, ◌&&◌, ◌||◌, ◌==◌, cond, nat_le, if◌then◌else◌, Option, Some, None, List, [], ◌∷◌, ◌++◌, length, refl, sym, ◌∙◌, ap, subst, arith}
+use Rattle.std.proofs.Common.{◌≡◌, ℕ, ◌+◌, ◌≤◌, Bool, true, false, not, ◌||◌, ◌==◌, cond, nat_le, if◌then◌else◌, Option, Some, None, List, [], ◌∷◌, ◌++◌, length, refl, sym, ◌∙◌, ap, subst, arith}
 use Rattle.std.specs.List.{list_all, list_any, flat_map, count_by}
-use Rattle.std.proofs.lemmas.Bool.{or_left, or_right}
 use Rattle.std.proofs.lemmas.List.Recursion.{is_count_by}
-use Rattle.capnp_model.specs.Schemas.{FieldKind, slot, group, Field, StructNode, NodeKind, struct_node, enum_node, Node, Shape}
-use Rattle.capnp_model.specs.Accepted.{find_node, fields_of_kind, groups_of_field, groups_used, names_a, is_group_node, names_its_sort, types_in, has_good_ids, uses_of, holder_of, sizes_of, fits_in, meets_below, is_good_group, has_places, on_struct, default_reads, IsAccepted}
+use Rattle.capnp_model.specs.Schemas.{Node}
+use Rattle.capnp_model.specs.Accepted.{find_node, fields_of_kind, groups_used, names_a, is_group_node, names_its_sort, types_in, has_good_ids, uses_of, holder_of, sizes_of, fits_in, meets_below, is_good_group, has_places, on_struct, default_reads, IsAccepted}
 use Rattle.capnp_model.proofs.KeptRules.{and_left, and_right, and_three, behind, no_break, found_passes}
 
 -- what each node keeps

@@ -1,23 +1,23 @@
 -- Compatible schemas have the paths of admitted calls in common.
-use Rattle.std.proofs.Common.{◌≡◌, ℕ, zero, suc, ◌+◌, ◌*◌, ◌^◌, ◌<◌, ◌≤◌, ◌⊎◌, inl, inr, Bool, true, false, not, ◌&&◌, ◌||◌, ◌==◌, nat_le, List, [], ◌∷◌, Option, Some, None, length, refl, sym, ◌∙◌, ap, subst, arith}
+use Rattle.std.proofs.Common.{◌≡◌, ℕ, ◌*◌, ◌≤◌, ◌⊎◌, inl, inr, Bool, true, false, not, ◌&&◌, ◌||◌, ◌==◌, nat_le, List, [], ◌∷◌, Option, Some, None, refl, sym, ◌∙◌, ap, subst, arith}
 use Rattle.std.specs.Str.{bytes_eq}
 use Rattle.std.proofs.lemmas.Slice.Eq.{bytes_eq-Decides}
 use Rattle.capnp_model.specs.Trees.{Tree}
 use Rattle.capnp_model.specs.Encoding.{canonical_words}
-use Rattle.capnp_model.specs.Schemas.{PlainType, bool, int, uint, «enum», width, Ty, void, plain, text, blob, untyped, interface, struct, list, Shape, shape, Fields, no_fields, field, Body, void_slot, plain_slot, pointer_slot, group_slot, Schema, default_or_null}
+use Rattle.capnp_model.specs.Schemas.{PlainType, bool, int, uint, «enum», Ty, void, plain, text, blob, untyped, interface, struct, list, Shape, shape, Fields, no_fields, field, Body, void_slot, plain_slot, pointer_slot, group_slot, Schema, default_or_null}
 use Rattle.capnp_model.specs.Printing.{fields_in}
 use Rattle.capnp_model.specs.Calls.{Step, name, index, Verb}
 use Rattle.capnp_model.specs.Steps.{Target, no_target, target, target_if, target_of}
 use Rattle.capnp_model.specs.Compatible.{Pairs, has_pair, related_plain, related, same_option, is_new, member_count, keeps_union, same_default, keeps, keeps_fields, keeps_body}
-use Rattle.capnp_model.specs.Admitted.{is_extended, extends_fields, extends_field, is_group_write, is_set, is_struct_type, At, at_body, at_element, nowhere, is_admitted_end, into_fields, into_type, into_at, is_admitted_from}
-use Rattle.capnp_model.proofs.KeptRules.{and_left, and_right, and_three, and_four}
+use Rattle.capnp_model.specs.Admitted.{is_extended, extends_fields, extends_field, is_group_write, is_set, is_struct_type, At, at_body, at_element, nowhere, into_fields, into_type, is_admitted_from}
+use Rattle.capnp_model.proofs.KeptRules.{and_right, and_three, and_four}
 use Rattle.capnp_model.proofs.KeptShapes.{option_is}
 use Rattle.capnp_model.proofs.OlderReading.{SamePlain, same_bool, same_int, same_uint, same_enum, Related, related_void, related_plain', related_text, related_blob, related_untyped, related_interface, related_struct, related_list}
-use Rattle.capnp_model.proofs.FineShapes.{HasUnion, IsGoodMember, IsNewName, IsNewMember, IsGood, AreGood, IsGoodBody}
+use Rattle.capnp_model.proofs.FineShapes.{HasUnion, IsGoodMember, IsNewName, IsGood, AreGood, IsGoodBody}
 use Rattle.capnp_model.proofs.RoundTrip.{enc_is}
-use Rattle.capnp_versions.proofs.SameShapes.{UnionWithin, MarkWithin, AnyPair, SameShape, same_shape, SameFields, same_none, same_field, SameBody, same_void, same_plain', same_pointer, same_group}
+use Rattle.capnp_versions.proofs.SameShapes.{UnionWithin, AnyPair, SameShape, same_shape, SameFields, same_none, same_field, SameBody, same_void, same_plain', same_pointer, same_group}
 use Rattle.capnp_versions.proofs.SameContents.{shape_words}
-use Rattle.capnp_versions.proofs.Follows.{SameMark, IsNarrow, HasWords, NameFollows, ValueFollows, PointerFollows, EndFollows, FieldFollows, ElementFollows}
+use Rattle.capnp_versions.proofs.Follows.{SameMark, HasWords, NameFollows, ValueFollows, PointerFollows, FieldFollows, ElementFollows}
 use Rattle.capnp_versions.proofs.Within.{FitsDefault, AllNarrow, HasMember, IsWithin, AreWithin, BodyWithin}
 use Rattle.capnp_versions.proofs.SelfFollows.{default-whole, narrow, mark-within, AllFields, all-found}
 use Rattle.capnp_versions.proofs.Partners.{not_found, absent, partner}
@@ -215,8 +215,8 @@ module _ (o n : Schema) (pairs : Pairs) where
   all_newer bits u (field l m b fs) h k = ((h.0, k.3), all_newer bits u fs h.1 k.4)
 
   module _ (verb : Verb) (closed : (i j : ℕ) → has_pair pairs i j ≡ true → keeps o n pairs (o.shape_of i) (n.shape_of j) ≡ true)
-    (within : (id : ℕ) → IsWithin (64 * shape_words (o.shape_of id)) (o.shape_of id)) (within' : (id : ℕ) → IsWithin (64 * shape_words (n.shape_of id)) (n.shape_of id))
-    (good : (id : ℕ) → IsGood o (o.shape_of id)) (good' : (id : ℕ) → IsGood n (n.shape_of id)) where
+      (within : (id : ℕ) → IsWithin (64 * shape_words (o.shape_of id)) (o.shape_of id)) (within' : (id : ℕ) → IsWithin (64 * shape_words (n.shape_of id)) (n.shape_of id))
+      (good : (id : ℕ) → IsGood o (o.shape_of id)) (good' : (id : ℕ) → IsGood n (n.shape_of id)) where
     abbrev FieldKept : List Step → Type 0
     FieldKept path =
         (bits bits' : ℕ) (b b' : Body) → keeps_body o n pairs b b' ≡ true → is_admitted_from o n path verb (at_body b b') ≡ true → BodyWithin bits b → BodyWithin bits' b' → IsGoodBody o b → IsGoodBody n b' → FieldFollows o n verb path bits b b'

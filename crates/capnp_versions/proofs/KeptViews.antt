@@ -1,13 +1,11 @@
 -- What compatible schemas keep, as data, from what good shapes are.
-use Rattle.std.proofs.Common.{◌≡◌, ℕ, ◌==◌, ◌&&◌, Bool, true, false, Option, Some, None, refl, sym, ap, subst, arith}
-use Rattle.capnp_model.specs.Trees.{Tree}
+use Rattle.std.proofs.Common.{◌≡◌, ℕ, ◌==◌, true, Option, Some, None, refl, subst, arith}
 use Rattle.capnp_model.specs.Schemas.{PlainType, bool, int, uint, «enum», Ty, void, plain, text, blob, untyped, interface, struct, list, Shape, shape, Fields, no_fields, field, Body, void_slot, plain_slot, pointer_slot, group_slot, Schema}
-use Rattle.capnp_model.specs.Readings.{read}
 use Rattle.capnp_model.specs.Compatible.{Pairs, related_plain, related, same_default, keeps, keeps_body}
-use Rattle.capnp_model.proofs.KeptRules.{and_left, and_right, and_three, MembersIn, OwnsMembers, AllOwn, OwnBody}
+use Rattle.capnp_model.proofs.KeptRules.{and_three, MembersIn, OwnsMembers, AllOwn, OwnBody}
 use Rattle.capnp_model.proofs.KeptShapes.{HasPair, shape_is_kept}
 use Rattle.capnp_model.proofs.FineShapes.{IsGood, AreGood, IsGoodBody}
-use Rattle.capnp_model.proofs.OlderReading.{SamePlain, same_bool, same_int, same_uint, same_enum, Related, related_void, related_plain', related_text, related_blob, related_untyped, related_interface, related_struct, related_list, KeptShape, KeptBody, kept_void, kept_plain, kept_pointer, kept_group, KidsAgree, read-project}
+use Rattle.capnp_model.proofs.OlderReading.{SamePlain, same_bool, same_int, same_uint, same_enum, Related, related_void, related_plain', related_text, related_blob, related_untyped, related_interface, related_struct, related_list, KeptShape, KeptBody, kept_void, kept_plain, kept_pointer, kept_group}
 
 members_in : (s : Schema) (u : Option ℕ) (fs : Fields) → AreGood s u fs → MembersIn u fs
 members_in s (Some at) fs h = tt

@@ -1,14 +1,14 @@
 -- What a call puts into a slot or an element reads, under the older schema, as the older view of what it reads as under the newer.
-use Rattle.std.proofs.Common.{◌≡◌, ℕ, zero, suc, ◌*◌, ◌==◌, ◌&&◌, not, Bool, true, false, if◌then◌else◌, List, Option, refl, sym, ◌∙◌, ap, arith}
+use Rattle.std.proofs.Common.{◌≡◌, ℕ, zero, suc, ◌*◌, true, if◌then◌else◌, Option, refl, sym, ◌∙◌, ap, arith}
 use Rattle.std.specs.Prelude.{pos, negsuc}
 use Rattle.capnp_model.specs.Kinds.{Kind, TypeMismatch, InitnIsOnlyValidForListTextOrDataFields, ExpectedAListOrBlob}
-use Rattle.capnp_model.specs.Trees.{Tree, null, structure, plain_list, pointer_list, struct_list, none, Elements, no_elements, resized}
-use Rattle.capnp_model.specs.Schemas.{PlainType, bool, int, uint, «enum», Ty, void, plain, text, blob, untyped, interface, struct, list, Shape, shape, Body, void_slot, plain_slot, pointer_slot, group_slot, Schema, default_or_null}
-use Rattle.capnp_model.specs.Readings.{Reading, null_pointer, record_as, Readings, ◌▹◌, Children, no_children, whole_words, shape_record, read, read_child, struct_elements, is_list_of, list_reading, have_room}
-use Rattle.capnp_model.specs.Printing.{As, as_type, as_body}
+use Rattle.capnp_model.specs.Trees.{Tree, null, plain_list, pointer_list, struct_list, none, Elements, resized}
+use Rattle.capnp_model.specs.Schemas.{PlainType, Ty, void, plain, text, blob, untyped, interface, struct, list, Shape, shape, void_slot, plain_slot, pointer_slot, Schema, default_or_null}
+use Rattle.capnp_model.specs.Readings.{Reading, null_pointer, record_as, ◌▹◌, Children, whole_words, shape_record, read, read_child, struct_elements, is_list_of, list_reading, have_room}
+use Rattle.capnp_model.specs.Printing.{as_type, as_body}
 use Rattle.capnp_model.specs.Projection.{project}
-use Rattle.capnp_model.specs.Calls.{CallValue, whole_number, truth, enumerant, text_value, blob_value, message, Verb, get, set_to, init, initn, clear, Content, refused_by, bits_of, object, plain_content, value_content, empty_struct, empty_elements, empty_structs, new_list, init_content, initn_content, slot_content, element_content}
-use Rattle.capnp_model.specs.Steps.{Outcome, done, outcome_map, slot_type, reading_after, at_field, at_element}
+use Rattle.capnp_model.specs.Calls.{CallValue, whole_number, truth, enumerant, text_value, blob_value, message, Verb, get, set_to, init, initn, clear, Content, refused_by, bits_of, object, plain_content, value_content, empty_struct, empty_elements, empty_structs, new_list, init_content, initn_content, element_content}
+use Rattle.capnp_model.specs.Steps.{done, outcome_map, reading_after, at_field, at_element}
 use Rattle.capnp_model.proofs.OlderReading.{SamePlain, same_bool, same_int, same_uint, same_enum, Related, related_void, related_plain', related_text, related_blob, related_untyped, related_interface, related_struct, related_list, KeptShape, read-project}
 use Rattle.capnp_model.proofs.Paths.{read_child-is}
 use Rattle.capnp_versions.specs.SameReplies.{IsWrite}

@@ -1,26 +1,26 @@
 -- The older record machine at the older view of a newer record makes the older view of what the newer machine makes.
-use Rattle.std.proofs.Common.{◌≡◌, ℕ, zero, suc, ◌*◌, ◌≤◌, ◌==◌, ◌&&◌, nat_le, Bool, true, false, List, [], ◌∷◌, Option, Some, None, refl, sym, ◌∙◌, ap, subst, arith}
+use Rattle.std.proofs.Common.{◌≡◌, ℕ, zero, suc, ◌*◌, ◌==◌, nat_le, Bool, true, false, List, [], ◌∷◌, Option, Some, None, refl, sym, ◌∙◌, ap, subst}
 use Rattle.std.specs.Str.{bytes_eq}
 use Rattle.capnp_model.specs.Kinds.{Kind}
 use Rattle.capnp_model.specs.Trees.{Tree, null, capability, structure, plain_list, pointer_list, struct_list, Trees, none, ◌▸◌, Elements, no_elements, element, child, size_bits, plain_elements}
 use Rattle.capnp_model.specs.Schemas.{PlainType, Ty, void, plain, text, blob, untyped, interface, struct, list, Shape, shape, Fields, no_fields, field, Body, void_slot, plain_slot, pointer_slot, group_slot, Schema, default_or_null}
-use Rattle.capnp_model.specs.Readings.{Reading, inactive, null_pointer, fault, number, text_of, blob_of, list_of, record_as, opaque, Readings, no_readings, ◌▹◌, Record, Children, no_children, only_child, Extent, whole_words, just_bits, discriminant, is_active, only_if, shape_record, fields_of, body_of, element_as, is_list_of, list_reading, plain_readings, read, read_child, pointer_elements, struct_elements}
+use Rattle.capnp_model.specs.Readings.{Reading, inactive, null_pointer, fault, number, text_of, blob_of, list_of, record_as, opaque, Readings, no_readings, ◌▹◌, Record, Children, no_children, only_child, Extent, whole_words, just_bits, discriminant, is_active, only_if, shape_record, fields_of, body_of, element_as, list_reading, plain_readings, read, read_child, pointer_elements, struct_elements}
 use Rattle.capnp_model.specs.Printing.{As, as_type, as_body, as_group, fields_in}
 use Rattle.capnp_model.specs.Projection.{project, project_items, project_fields}
 use Rattle.capnp_model.specs.Calls.{Step, name, index, Verb}
 use Rattle.capnp_model.specs.Steps.{Outcome, refused, shown, done, outcome_map, Target, no_target, target, target_if, target_of, entry_of, replaced, at_target, on_name, on_index, empty_reading, opened, or_empty, through_value, through_field, step_field, step_element}
-use Rattle.capnp_model.specs.Compatible.{Pairs, has_pair, related_plain, related, member_count, keeps_union, same_default, keeps, keeps_fields, keeps_body}
-use Rattle.capnp_model.specs.Admitted.{is_group_write, At, at_body, at_element, nowhere, into_fields, into_type, into_at, is_admitted_from}
-use Rattle.capnp_model.proofs.KeptRules.{and_left, and_right, and_three, and_four}
+use Rattle.capnp_model.specs.Compatible.{Pairs, has_pair, related, member_count, keeps_union, same_default, keeps, keeps_fields, keeps_body}
+use Rattle.capnp_model.specs.Admitted.{At, at_body, at_element, nowhere, into_fields, into_type, is_admitted_from}
+use Rattle.capnp_model.proofs.KeptRules.{and_three, and_four}
 use Rattle.capnp_model.proofs.KeptShapes.{option_is, HasPair}
-use Rattle.capnp_model.proofs.FineShapes.{HasUnion, IsGoodMember, IsNewName, IsGood, AreGood, IsGoodBody}
-use Rattle.capnp_model.proofs.OlderReading.{SamePlain, Related, related_void, related_plain', related_text, related_blob, related_untyped, related_interface, related_struct, related_list, KeptShape, kept, KeptFields, KeptBody, kept_void, kept_plain, kept_pointer, kept_group, KidsAgree, shape_record-project, body_of-project, no_children_agree, read-project}
+use Rattle.capnp_model.proofs.FineShapes.{IsGoodMember, IsNewName, IsGood, IsGoodBody}
+use Rattle.capnp_model.proofs.OlderReading.{SamePlain, Related, related_void, related_plain', related_text, related_blob, related_untyped, related_interface, related_struct, related_list, KeptShape, kept, KeptBody, kept_plain, KidsAgree, shape_record-project, body_of-project, no_children_agree, read-project}
 use Rattle.capnp_model.proofs.Paths.{read_child-is, entry_of-fields_of}
 use Rattle.capnp_versions.proofs.SameShapes.{SameShape, SameBody, same_group}
 use Rattle.capnp_versions.specs.SameReplies.{IsWrite}
 use Rattle.capnp_versions.proofs.SameContents.{shape_words}
-use Rattle.capnp_versions.proofs.Within.{FitsDefault, AllNarrow, IsWithin, AreWithin, BodyWithin}
-use Rattle.capnp_versions.proofs.SelfFollows.{AllFields, all-found}
+use Rattle.capnp_versions.proofs.Within.{FitsDefault, IsWithin, BodyWithin}
+use Rattle.capnp_versions.proofs.SelfFollows.{all-found}
 use Rattle.capnp_versions.proofs.Partners.{not_found, absent, partner}
 use Rattle.capnp_versions.proofs.KeptFollows.{default-same, IsOlder, all_older, IsNewer, all_newer, field-kept}
 use Rattle.capnp_versions.proofs.ReplacedViews.{NamedIs, named-is, view-only_if, replaced-view}
@@ -145,8 +145,8 @@ module _ (n : Schema) where
 -- ---- steps
 
 module _ (o n : Schema) (pairs : Pairs) (verb : Verb) (write : IsWrite verb) (closed : (i j : ℕ) → has_pair pairs i j ≡ true → keeps o n pairs (o.shape_of i) (n.shape_of j) ≡ true)
-  (within : (id : ℕ) → IsWithin (64 * shape_words (o.shape_of id)) (o.shape_of id)) (within' : (id : ℕ) → IsWithin (64 * shape_words (n.shape_of id)) (n.shape_of id))
-  (good : (id : ℕ) → IsGood o (o.shape_of id)) (good' : (id : ℕ) → IsGood n (n.shape_of id)) where
+    (within : (id : ℕ) → IsWithin (64 * shape_words (o.shape_of id)) (o.shape_of id)) (within' : (id : ℕ) → IsWithin (64 * shape_words (n.shape_of id)) (n.shape_of id))
+    (good : (id : ℕ) → IsGood o (o.shape_of id)) (good' : (id : ℕ) → IsGood n (n.shape_of id)) where
   abbrev R : ℕ → ℕ → Type 0
   R i j = HasPair o n pairs i j
 

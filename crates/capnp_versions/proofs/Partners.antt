@@ -1,19 +1,13 @@
 -- The partner in a newer schema of an older field.
-use Rattle.std.proofs.Common.{◌≡◌, ℕ, zero, suc, ◌+◌, ◌*◌, ◌^◌, ◌<◌, ◌≤◌, ◌⊎◌, inl, inr, Bool, true, false, not, ◌&&◌, ◌||◌, ◌==◌, nat_le, List, [], ◌∷◌, Option, Some, None, length, refl, sym, ◌∙◌, ap, subst, arith}
+use Rattle.std.proofs.Common.{◌≡◌, ℕ, Bool, true, false, ◌&&◌, List, Option, refl, sym, ◌∙◌, ap, subst}
 use Rattle.std.specs.Str.{bytes_eq}
 use Rattle.std.proofs.lemmas.Slice.Eq.{bytes_eq-Decides}
-use Rattle.capnp_model.specs.Trees.{Tree}
-use Rattle.capnp_model.specs.Encoding.{canonical_words}
-use Rattle.capnp_model.specs.Schemas.{Ty, void, plain, text, blob, untyped, interface, struct, list, Shape, shape, Fields, no_fields, field, Body, void_slot, plain_slot, pointer_slot, group_slot, Schema, default_or_null}
-use Rattle.capnp_model.specs.Printing.{fields_in}
-use Rattle.capnp_model.specs.Steps.{Target, no_target, target, target_if, target_of}
-use Rattle.capnp_model.specs.Compatible.{Pairs, has_pair, related, same_option, is_new, member_count, keeps_union, same_default, keeps, keeps_fields, keeps_body}
-use Rattle.capnp_model.specs.Admitted.{is_extended, extends_fields, extends_field}
-use Rattle.capnp_model.proofs.KeptRules.{and_left, and_right, and_three, and_four}
-use Rattle.capnp_model.proofs.KeptShapes.{option_is, HasPair}
-use Rattle.capnp_model.proofs.OlderReading.{SamePlain, same_bool, same_int, same_uint, same_enum, Related, related_void, related_plain', related_text, related_blob, related_untyped, related_interface, related_struct, related_list}
-use Rattle.capnp_model.proofs.FineShapes.{HasUnion, IsGoodMember, IsNewName, IsNewMember, IsGood, AreGood, IsGoodBody}
-use Rattle.capnp_model.proofs.RoundTrip.{enc_is}
+use Rattle.capnp_model.specs.Schemas.{Fields, no_fields, field, Body, Schema}
+use Rattle.capnp_model.specs.Steps.{no_target, target, target_if, target_of}
+use Rattle.capnp_model.specs.Compatible.{Pairs, same_option, is_new, keeps, keeps_fields, keeps_body}
+use Rattle.capnp_model.proofs.KeptRules.{and_right, and_three}
+use Rattle.capnp_model.proofs.KeptShapes.{option_is}
+use Rattle.capnp_model.proofs.FineShapes.{IsNewName, AreGood}
 
 other_name : (k l : List ℕ) → bytes_eq l k ≡ false → bytes_eq k l ≡ false
 other_name k l h = by (bytes_eq k l) refl

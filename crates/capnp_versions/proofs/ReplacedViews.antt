@@ -2,8 +2,8 @@
 use Rattle.std.proofs.Common.{◌≡◌, ℕ, Bool, true, false, List, Option, Some, None, refl, sym, ◌∙◌, ap, subst}
 use Rattle.std.specs.Str.{bytes_eq}
 use Rattle.std.proofs.lemmas.Slice.Eq.{bytes_eq-Decides}
-use Rattle.capnp_model.specs.Schemas.{Shape, shape, Fields, no_fields, field, Body, void_slot, plain_slot, pointer_slot, group_slot, Schema}
-use Rattle.capnp_model.specs.Readings.{Reading, inactive, Record, entry, Children, Extent, discriminant, is_active, only_if, shape_record, fields_of, body_of}
+use Rattle.capnp_model.specs.Schemas.{Fields, no_fields, field, Body, Schema}
+use Rattle.capnp_model.specs.Readings.{Reading, Record, entry, Children, Extent, discriminant, is_active, only_if, shape_record, fields_of, body_of}
 use Rattle.capnp_model.specs.Printing.{as_body}
 use Rattle.capnp_model.specs.Projection.{project, project_fields}
 use Rattle.capnp_model.specs.Steps.{target, target_if, target_of, choose, unless_member, replaced}

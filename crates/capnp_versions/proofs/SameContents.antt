@@ -1,27 +1,27 @@
 -- What a call puts into a slot or an element is the same under two versions, but for the sizes of new structs.
-use Rattle.std.proofs.Common.{◌≡◌, ℕ, zero, suc, ◌+◌, ◌-◌, ◌*◌, ◌^◌, ◌<◌, ◌≤◌, Bool, true, false, ◌&&◌, nat_lt, if◌then◌else◌, Option, Some, None, refl, sym, ◌∙◌, ap, subst, arith}
+use Rattle.std.proofs.Common.{◌≡◌, ℕ, zero, suc, ◌+◌, ◌-◌, ◌*◌, ◌^◌, ◌<◌, ◌≤◌, Bool, true, false, ◌&&◌, nat_lt, if◌then◌else◌, Option, refl, sym, ◌∙◌, ap, subst, arith}
 use Rattle.std.specs.Prelude.{pos, negsuc}
 use Rattle.std.proofs.lemmas.Nat.{pow_pos}
 use lib.Bits.{bit_xor, xor_lt}
 use Rattle.capnp_model.specs.Kinds.{Kind, TypeMismatch, InitnIsOnlyValidForListTextOrDataFields, ExpectedAListOrBlob}
-use Rattle.capnp_model.specs.Trees.{Tree, null, capability, structure, plain_list, pointer_list, struct_list, Trees, none, ◌▸◌, Elements, no_elements, element, resized, size_of_width}
-use Rattle.capnp_model.specs.Schemas.{PlainType, bool, int, uint, «enum», width, Ty, void, plain, text, blob, untyped, interface, struct, list, Shape, shape, Body, void_slot, plain_slot, pointer_slot, group_slot, Schema, default_or_null}
+use Rattle.capnp_model.specs.Trees.{Tree, null, capability, structure, plain_list, pointer_list, struct_list, none, resized}
+use Rattle.capnp_model.specs.Schemas.{PlainType, bool, int, uint, «enum», width, Ty, void, plain, text, blob, untyped, interface, struct, list, Shape, shape, Body, plain_slot, pointer_slot, group_slot, Schema}
 use Rattle.capnp_model.specs.Readings.{is_list_of}
 use Rattle.capnp_model.specs.Calls.{CallValue, whole_number, truth, enumerant, text_value, blob_value, message, Verb, get, set_to, init, initn, clear, Content, refused_by, bits_of, object, plain_content, message_root, struct_content, blob_tree, text_tree, value_content, empty_struct, empty_elements, empty_structs, new_list, init_content, initn_content, slot_content, element_content}
 use Rattle.capnp_model.specs.Admitted.{is_set, is_struct_type}
 use Rattle.capnp_model.specs.NamedPaths.{IsInRange}
-use Rattle.capnp_model.specs.Edits.{Cell, Edit, put_bits, put_child, put_content, put_in_element, put_group, put_field}
-use Rattle.capnp_model.specs.Trimming.{after_stripping, stripped, trim, trim_each}
+use Rattle.capnp_model.specs.Edits.{put_bits, put_content, put_in_element, put_group, put_field}
+use Rattle.capnp_model.specs.Trimming.{after_stripping, trim}
 use Rattle.capnp_model.proofs.SoundShapes.{FitsSlot}
 use Rattle.capnp_model.proofs.FitCalls.{contents_fit}
 use Rattle.capnp_model.proofs.Widening.{bare}
 use Rattle.capnp_model.proofs.OlderReading.{SamePlain, same_bool, same_int, same_uint, same_enum, Related, related_void, related_plain', related_text, related_blob, related_untyped, related_interface, related_struct, related_list}
 pub use Rattle.capnp_versions.specs.SameReplies.{IsWrite}
-use Rattle.capnp_versions.specs.Whole.{IsWhole, AreWhole, HaveWhole, IsWholeVerb}
+use Rattle.capnp_versions.specs.Whole.{IsWhole, HaveWhole, IsWholeVerb}
 use Rattle.capnp_versions.proofs.WholeValues.{whole-resized}
-use Rattle.capnp_versions.proofs.Alike.{Alike, SameCell, Agree, agree-more, agree-put_bits, agree-put_child, alike-structure}
+use Rattle.capnp_versions.proofs.Alike.{Alike, Agree, agree-more, agree-put_bits, agree-put_child, alike-structure}
 use Rattle.capnp_versions.proofs.SameLists.{SameElements, alike-elements}
-use Rattle.capnp_versions.proofs.SameShapes.{Congruent, no_change, AnyPair, SameType, SameBody, same_void, same_plain', same_pointer, same_group, width-same, congruent-cleared, congruent-message}
+use Rattle.capnp_versions.proofs.SameShapes.{Congruent, no_change, AnyPair, SameBody, same_void, same_plain', same_pointer, same_group, width-same, congruent-cleared, congruent-message}
 
 -- ---- new structs
 

@@ -1,13 +1,13 @@
 -- Lists of structs of one trimmed value.
 use Rattle.std.proofs.Common.{◌≡◌, ℕ, zero, suc, ◌*◌, ◌^◌, ◌<◌, ◌≤◌, max, refl, sym, ◌∙◌, ap, subst, arith}
-use Rattle.capnp_model.specs.Trees.{Tree, null, capability, structure, plain_list, pointer_list, struct_list, Trees, none, ◌▸◌, Elements, no_elements, element, tree_count, child, with_child, padded_to, resized}
+use Rattle.capnp_model.specs.Trees.{Tree, null, capability, structure, plain_list, pointer_list, struct_list, Elements, no_elements, element, tree_count, resized}
 use Rattle.capnp_model.specs.Sections.{needed_words}
-use Rattle.capnp_model.specs.Trimming.{stripped, common_words, common_pointers, with_pointers, least_list, trim, trim_each, trim_elements}
+use Rattle.capnp_model.specs.Trimming.{stripped, common_words, common_pointers, with_pointers, trim, trim_each, trim_elements}
 use Rattle.capnp_model.specs.Edits.{Cell, Edit, on_elements, padded_elements}
 use Rattle.capnp_model.proofs.Numbers.{needed_words-more}
 use Rattle.capnp_model.proofs.Stripping.{resized-stripped, stripped-resized}
 use Rattle.capnp_model.proofs.Widening.{bare, bare-padded_to}
-use Rattle.capnp_versions.specs.Whole.{IsWhole, AreWhole, HaveWhole}
+use Rattle.capnp_versions.specs.Whole.{HaveWhole}
 use Rattle.capnp_versions.proofs.WholeValues.{whole-padded_to}
 use Rattle.capnp_versions.proofs.Alike.{Alike, SameCell, Agree}
 
@@ -58,8 +58,8 @@ alike-elements w p v q es es' h h' s =
     let pointers : common_pointers (trim_elements es) ≡ common_pointers (trim_elements es') = common_pointers-same es es' s in
     record {
       trims = ap (λ z. struct_list z (common_pointers (trim_elements es)) (with_pointers (common_pointers (trim_elements es)) (trim_elements es))) words
-      ∙ ap (λ z. struct_list (common_words v (trim_elements es')) z (with_pointers z (trim_elements es))) pointers
-      ∙ ap (struct_list (common_words v (trim_elements es')) (common_pointers (trim_elements es'))) (with_pointers-same (common_pointers (trim_elements es')) es es' s);
+          ∙ ap (λ z. struct_list (common_words v (trim_elements es')) z (with_pointers z (trim_elements es))) pointers
+          ∙ ap (struct_list (common_words v (trim_elements es')) (common_pointers (trim_elements es'))) (with_pointers-same (common_pointers (trim_elements es')) es es' s);
       whole = h;
       whole' = h';
     }

@@ -1,21 +1,21 @@
 -- An accepted schema has each path in common with itself.
-use Rattle.std.proofs.Common.{◌≡◌, ℕ, zero, suc, ◌+◌, ◌*◌, ◌^◌, ◌<◌, ◌≤◌, Bool, true, false, ◌&&◌, List, [], ◌∷◌, Option, Some, None, refl, sym, ◌∙◌, ap, subst, arith}
+use Rattle.std.proofs.Common.{◌≡◌, ℕ, ◌*◌, Bool, true, false, ◌&&◌, List, [], ◌∷◌, Option, Some, None, refl, sym, ◌∙◌, ap, subst, arith}
 use Rattle.std.specs.Str.{bytes_eq}
 use Rattle.capnp_model.specs.Trees.{Tree}
-use Rattle.capnp_model.specs.Schemas.{PlainType, bool, int, uint, «enum», width, Ty, void, plain, text, blob, untyped, interface, struct, list, Shape, shape, Fields, no_fields, field, Body, void_slot, plain_slot, pointer_slot, group_slot, Schema, default_or_null}
+use Rattle.capnp_model.specs.Schemas.{PlainType, bool, int, uint, «enum», Ty, void, plain, text, blob, untyped, interface, struct, list, Shape, shape, Fields, no_fields, field, Body, void_slot, plain_slot, pointer_slot, group_slot, Schema, default_or_null}
 use Rattle.capnp_model.specs.Printing.{fields_in}
 use Rattle.capnp_model.specs.Calls.{Step, name, index, Verb}
-use Rattle.capnp_model.specs.Steps.{Target, no_target, target, target_if, target_of}
-use Rattle.capnp_model.specs.Admitted.{is_set, is_struct_type}
-use Rattle.capnp_model.specs.InKindCalls.{PathEnd, at_slot, at_value, nowhere, end_at, end_of}
+use Rattle.capnp_model.specs.Steps.{target, target_if, target_of}
+use Rattle.capnp_model.specs.Admitted.{is_set}
+use Rattle.capnp_model.specs.InKindCalls.{PathEnd, at_slot, at_value, end_at, end_of}
 use Rattle.capnp_model.proofs.OlderReading.{SamePlain, same_bool, same_int, same_uint, same_enum, Related, related_void, related_plain', related_text, related_blob, related_untyped, related_interface, related_struct, related_list}
-use Rattle.capnp_model.proofs.FineShapes.{HasUnion, IsGoodMember, IsGood, AreGood, IsGoodBody}
+use Rattle.capnp_model.proofs.FineShapes.{IsGoodMember, IsGood, AreGood, IsGoodBody}
 use Rattle.capnp_versions.specs.Whole.{IsWhole}
 use Rattle.capnp_versions.specs.StructElements.{is_struct_value}
 use Rattle.capnp_versions.proofs.WholeValues.{fits-whole}
 use Rattle.capnp_versions.proofs.SameShapes.{UnionWithin, MarkWithin, AnyPair, SameShape, same_shape, SameFields, same_none, same_field, SameBody, same_void, same_plain', same_pointer, same_group}
 use Rattle.capnp_versions.proofs.SameContents.{shape_words}
-use Rattle.capnp_versions.proofs.Follows.{SameMark, IsNarrow, HasWords, NameFollows, ValueFollows, PointerFollows, FieldFollows, ElementFollows}
+use Rattle.capnp_versions.proofs.Follows.{SameMark, IsNarrow, HasWords, NameFollows, ValueFollows, FieldFollows, ElementFollows}
 use Rattle.capnp_versions.proofs.Within.{FitsDefault, AllNarrow, IsWithin, AreWithin, BodyWithin}
 
 -- ---- parts

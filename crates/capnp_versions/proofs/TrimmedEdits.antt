@@ -1,11 +1,11 @@
 -- Edits of values of one trimmed value.
-use Rattle.std.proofs.Common.{◌≡◌, ℕ, zero, suc, ◌*◌, ◌≤◌, Bool, true, false, ◌&&◌, List, [], ◌∷◌, refl, sym, ◌∙◌, ap, subst, arith}
+use Rattle.std.proofs.Common.{◌≡◌, ℕ, ◌*◌, ◌≤◌, true, false, ◌&&◌, List, [], ◌∷◌, refl, sym, ◌∙◌, ap, subst, arith}
 use Rattle.capnp_model.specs.Trees.{Tree, null, capability, structure, plain_list, pointer_list, struct_list}
 use Rattle.capnp_model.specs.Trimming.{trim}
-use Rattle.capnp_model.specs.Schemas.{struct, Node, Shape, Schema}
+use Rattle.capnp_model.specs.Schemas.{struct, Node, Schema}
 use Rattle.capnp_model.specs.Readings.{Record, record_by_shape, record_of}
 use Rattle.capnp_model.specs.Printing.{fields_in}
-use Rattle.capnp_model.specs.Calls.{Step, name, index, Verb, Call}
+use Rattle.capnp_model.specs.Calls.{Step, name, index, Call}
 use Rattle.capnp_model.specs.Steps.{Outcome, refused, shown, done, step, step_path}
 use Rattle.capnp_model.specs.Edits.{edit, if_done, write_path}
 use Rattle.capnp_model.specs.Accepted.{schema_of, IsAccepted}
@@ -21,7 +21,7 @@ use Rattle.capnp_versions.specs.Whole.{IsWhole, IsWholeVerb}
 use Rattle.capnp_versions.specs.StructElements.{is_struct_value, sets_struct_element}
 use Rattle.capnp_versions.proofs.WholeValues.{whole-trim}
 use Rattle.capnp_versions.proofs.Alike.{Alike}
-use Rattle.capnp_versions.proofs.Wrote.{Wrote, wrote-done, WritesStruct}
+use Rattle.capnp_versions.proofs.Wrote.{Wrote, wrote-done}
 use Rattle.capnp_versions.proofs.SameContents.{shape_words}
 use Rattle.capnp_versions.proofs.Follows.{NameFollows, FieldFollows}
 use Rattle.capnp_versions.proofs.AlikePaths.{structs_agree}
@@ -35,7 +35,7 @@ accepted-good nodes h id = good_shape nodes (rules_kept nodes h) _ id
 -- ---- one call under two schemas
 
 module _ (o n : Schema) (c : Call) (whole : IsWholeVerb c.verb) (i j : ℕ) (words : shape_words (o.shape_of i) ≤ shape_words (n.shape_of j))
-  (follows : (l : List ℕ) (path : List Step) → c.path ≡ name l ∷ path → NameFollows o n c.verb (FieldFollows o n c.verb path) l (64 * shape_words (o.shape_of i)) (o.shape_of i) (n.shape_of j)) where
+    (follows : (l : List ℕ) (path : List Step) → c.path ≡ name l ∷ path → NameFollows o n c.verb (FieldFollows o n c.verb path) l (64 * shape_words (o.shape_of i)) (o.shape_of i) (n.shape_of j)) where
   written : (path : List Step) → c.path ≡ path → (t u : Tree) → Alike t u → IsOpen t → IsOpen u
       → Wrote (step_path o (fields_in (o.shape_of i)) path c.verb (record_by_shape o (o.shape_of i) t)) → Wrote (step_path n (fields_in (n.shape_of j)) path c.verb (record_by_shape n (n.shape_of j) u))
       → Alike (write_path o (o.shape_of i) path c.verb t) (write_path n (n.shape_of j) path c.verb u)

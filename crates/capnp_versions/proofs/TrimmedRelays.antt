@@ -1,9 +1,8 @@
 -- Calls in turn at values of one trimmed value, and two relays in a row.
-use Rattle.std.proofs.Common.{ℤ, ◌≡◌, ℕ, ◌*◌, ◌^◌, ◌<◌, ◌≤◌, max, Bool, true, false, not, ◌&&◌, if◌then◌else◌, Option, Some, None, List, [], ◌∷◌, ◌++◌, length, refl, sym, ◌∙◌, ap, subst, arith}
-use Rattle.std.specs.List.{AllByRecursion}
+use Rattle.std.proofs.Common.{◌≡◌, ℕ, ◌*◌, ◌^◌, ◌≤◌, max, Bool, true, false, not, ◌&&◌, if◌then◌else◌, Option, Some, None, List, [], ◌∷◌, ◌++◌, length, refl, sym, ◌∙◌, ap, subst, arith}
 use Rattle.capnp_model.specs.Chains.{◌>>=◌, ◌provided◌}
 use Rattle.capnp_model.specs.Segments.{Segments, root}
-use Rattle.capnp_model.specs.Trees.{Tree, null, capability, structure, plain_list, pointer_list, struct_list, Trees, none, widened, depth, has_capability, resized, padded_to}
+use Rattle.capnp_model.specs.Trees.{Tree, null, capability, structure, plain_list, pointer_list, struct_list, Trees, none, widened, depth, has_capability}
 use Rattle.capnp_model.specs.Sections.{needed_words}
 use Rattle.capnp_model.specs.Trimming.{trim}
 use Rattle.capnp_model.specs.Traversal.{tree_at, cost_at}
@@ -15,31 +14,30 @@ use Rattle.capnp_model.specs.Readings.{Record, record_of}
 use Rattle.capnp_model.specs.Calls.{Step, name, index, Verb, Call}
 use Rattle.capnp_model.specs.Steps.{Outcome, refused, shown, done, step}
 use Rattle.capnp_model.specs.Edits.{edit, if_done, write_path}
-use Rattle.capnp_model.specs.Accepted.{schema_of, IsAccepted}
+use Rattle.capnp_model.specs.Accepted.{schema_of}
 use Rattle.capnp_model.specs.InKind.{in_kind}
 use Rattle.capnp_model.specs.NamedPaths.{IsOpen}
 use Rattle.capnp_model.specs.CallRuns.{IsStart}
-use Rattle.capnp_model.specs.Answers.{Reply, Answer, written, refused_value, refused_root, refused_depth, Limits, levels, keeps_nesting, value_within, widened_root, opened_root, answer_struct, answer_value, answer, edits, replies}
+use Rattle.capnp_model.specs.Answers.{Reply, written, refused_depth, Limits, levels, value_within, widened_root, opened_root, answer_value, answer, edits}
 use Rattle.capnp_model.proofs.Chaining.{bind_some, provided_some, some_is}
-use Rattle.capnp_model.proofs.Depth.{tree_at_deep, tree_at_more}
+use Rattle.capnp_model.proofs.Depth.{tree_at_more}
 use Rattle.capnp_model.proofs.ReadFits.{tree_at_fits}
 use Rattle.capnp_model.proofs.RoundTrip.{enc_means}
-use Rattle.capnp_model.proofs.TrimFits.{Fits-trim, depth-trim}
+use Rattle.capnp_model.proofs.TrimFits.{Fits-trim}
 use Rattle.capnp_model.proofs.TrimTwice.{trim-trim}
 use Rattle.capnp_model.proofs.Widening.{bare, trim-widened}
 use Rattle.capnp_model.proofs.TrimmedAnswers.{trimmed_record}
 use Rattle.capnp_model.proofs.Numbers.{wider}
 use Rattle.std.proofs.lemmas.Nat.{pow_pos}
 use Rattle.std.proofs.lemmas.List.{append-nil}
-use Rattle.capnp_versions.specs.Whole.{IsWhole, IsWholeVerb}
-use Rattle.capnp_versions.specs.StructElements.{sets_struct_element, ArePlain}
+use Rattle.capnp_versions.specs.Whole.{IsWhole}
+use Rattle.capnp_versions.specs.StructElements.{ArePlain}
 use Rattle.capnp_versions.proofs.WholeValues.{fits-whole, whole-trim, whole-resized, whole-padded_to}
 use Rattle.capnp_versions.proofs.Alike.{Alike}
 use Rattle.capnp_versions.proofs.SameContents.{alike-self}
 use Rattle.capnp_versions.proofs.TrimmedEdits.{alike-edits, open-trim}
 use Rattle.capnp_model.proofs.TrimmedKinds.{in_kind-trim, opened_start}
 use Rattle.capnp_model.proofs.EditLaws.{next_start}
-use Rattle.capnp_versions.proofs.Versions.{open-edit}
 
 -- ---- calls in turn
 

@@ -1,13 +1,13 @@
 -- Calls under an older schema and under a compatible newer one.
-use Rattle.std.proofs.Common.{◌≡◌, ℕ, ◌*◌, ◌≤◌, Bool, true, false, List, [], ◌∷◌, refl, sym, ◌∙◌, ap, subst}
+use Rattle.std.proofs.Common.{◌≡◌, ℕ, ◌*◌, ◌≤◌, true, false, List, [], ◌∷◌, refl, sym, ◌∙◌, ap, subst}
 use Rattle.std.specs.List.{AllByRecursion}
 use Rattle.capnp_model.specs.Trees.{Tree, null, capability, structure, plain_list, pointer_list, struct_list, child}
 use Rattle.capnp_model.specs.Trimming.{trim}
 use Rattle.capnp_model.specs.Schemas.{struct, Node, Shape, shape, Schema}
-use Rattle.capnp_model.specs.Readings.{Record, whole_words, shape_record, read_child, record_by_shape, record_of}
+use Rattle.capnp_model.specs.Readings.{Record, whole_words, shape_record, record_by_shape, record_of}
 use Rattle.capnp_model.specs.Printing.{fields_in}
 use Rattle.capnp_model.specs.Calls.{Step, name, index, Verb, get, set_to, init, initn, clear, Call}
-use Rattle.capnp_model.specs.Steps.{Outcome, refused, shown, done, outcome_map, on_name, step_field, step, step_path, record_after, after_outcome}
+use Rattle.capnp_model.specs.Steps.{Outcome, refused, shown, done, outcome_map, on_name, step_field, step, step_path}
 use Rattle.capnp_model.specs.Edits.{edit, if_done, write_path}
 use Rattle.capnp_model.specs.Accepted.{schema_of, IsAccepted}
 use Rattle.capnp_model.specs.Compatible.{has_pair, keeps, IsCompatible}
@@ -16,8 +16,7 @@ use Rattle.capnp_model.specs.Projection.{project_fields, projected}
 use Rattle.capnp_model.specs.InKind.{in_kind}
 use Rattle.capnp_model.specs.NamedPaths.{IsOpen}
 use Rattle.capnp_model.specs.CallRuns.{IsStart, records_after, record_replies}
-use Rattle.capnp_model.specs.Answers.{Reply, reply_of, replies, edits}
-use Rattle.capnp_model.proofs.FineShapes.{IsGood}
+use Rattle.capnp_model.specs.Answers.{reply_of, replies, edits}
 use Rattle.capnp_model.proofs.KeptShapes.{pair_is_kept, older_record}
 use Rattle.capnp_model.proofs.TrimmedAnswers.{trimmed_record}
 use Rattle.capnp_model.proofs.TrimmedKinds.{in_kind-trim}
@@ -85,12 +84,12 @@ module _ (nodes nodes' : List Node) (accepted : IsAccepted nodes) (accepted' : I
           by (structure w x ts) =
               subst
               (λ z. on_name (step_field o path c.verb) l (fields_in (o.shape_of older)) (project_fields o (fields_in (o.shape_of older)) (shape_record (n.shape_of newer) whole_words x z))
-                  ≡ outcome_map (project_fields o (fields_in (o.shape_of older))) (on_name (step_field n path c.verb) l (fields_in (n.shape_of newer)) (shape_record (n.shape_of newer) whole_words x z)))
+              ≡ outcome_map (project_fields o (fields_in (o.shape_of older))) (on_name (step_field n path c.verb) l (fields_in (n.shape_of newer)) (shape_record (n.shape_of newer) whole_words x z)))
               (sym (child_seen n ts)) (seen x (child ts))
           by t =
               subst
               (λ z. on_name (step_field o path c.verb) l (fields_in (o.shape_of older)) (project_fields o (fields_in (o.shape_of older)) (shape_record (n.shape_of newer) whole_words 0 z))
-                  ≡ outcome_map (project_fields o (fields_in (o.shape_of older))) (on_name (step_field n path c.verb) l (fields_in (n.shape_of newer)) (shape_record (n.shape_of newer) whole_words 0 z)))
+              ≡ outcome_map (project_fields o (fields_in (o.shape_of older))) (on_name (step_field n path c.verb) l (fields_in (n.shape_of newer)) (shape_record (n.shape_of newer) whole_words 0 z)))
               (sym (nothing_seen n)) (seen 0 (λ i. null))
 
       at_path : (path : List Step) → is_admitted_from o n path c.verb (at_element (struct older) (struct newer)) ≡ true → (t : Tree) → let r : Record = record_by_shape n (n.shape_of newer) t in

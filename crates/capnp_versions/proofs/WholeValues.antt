@@ -1,6 +1,6 @@
 -- Values whose sections lie within their words.
 use Rattle.capnp_model.specs.Trees.{Tree, null, capability, structure, plain_list, pointer_list, struct_list, Trees, none, ◌▸◌, Elements, no_elements, element, child, with_child, padded_to, resized}
-use Rattle.std.proofs.Common.{◌≡◌, ℕ, zero, suc, ◌*◌, ◌^◌, ◌<◌, ◌≤◌, refl, sym, ◌∙◌, ap, arith}
+use Rattle.std.proofs.Common.{ℕ, zero, suc, ◌*◌, ◌≤◌, arith}
 use Rattle.capnp_model.specs.Fits.{Fits, FitEach, FitElements}
 use Rattle.capnp_model.specs.Trimming.{after_stripping, stripped, common_words, with_pointers, trim, trim_each, trim_elements}
 use Rattle.capnp_model.proofs.Numbers.{wider, needed_words_hold}

@@ -6,19 +6,19 @@ use Rattle.std.proofs.lemmas.Bool.{or_left, or_right}
 use Rattle.std.proofs.lemmas.Slice.Eq.{bytes_eq-Decides}
 use Rattle.std.proofs.lemmas.List.{length-append, append-nil}
 use Rattle.std.proofs.lemmas.List.Folds.{list_any-append}
-use Rattle.capnp_model.specs.Chains.{◌>>=◌, ◌provided◌}
+use Rattle.capnp_model.specs.Chains.{◌provided◌}
 use Rattle.capnp_model.specs.Segments.{root}
 use Rattle.capnp_model.specs.Sections.{number_of, words_for}
-use Rattle.capnp_model.specs.Trees.{Tree, null, plain_list, depth, has_capability}
+use Rattle.capnp_model.specs.Trees.{Tree, depth, has_capability}
 use Rattle.capnp_model.specs.Trimming.{trim}
 use Rattle.capnp_model.specs.Traversal.{tree_at}
 use Rattle.capnp_model.specs.Fits.{Fits}
-use Rattle.capnp_model.specs.Encoding.{body, canonical_words}
+use Rattle.capnp_model.specs.Encoding.{canonical_words}
 use Rattle.capnp_model.specs.Bytes.{bytes_of_words, words_in_bytes}
 use Rattle.capnp_model.specs.Decoding.{decode}
-use Rattle.capnp_model.specs.Schemas.{PlainType, width, Ty, void, plain, text, blob, untyped, interface, struct, list, BaseType, base_type, lists_of, type_of, TypeRecord, Value, no_value, bits, text_bytes, blob_bytes, list_segment, struct_segment, untyped_value, interface_value, FieldKind, slot, group, Field, StructNode, NodeKind, struct_node, enum_node, Node, Shape, shape, Fields, no_fields, field, Body, void_slot, plain_slot, pointer_slot, group_slot, Schema, default_or_null}
+use Rattle.capnp_model.specs.Schemas.{width, Ty, void, plain, text, blob, untyped, interface, struct, list, BaseType, base_type, lists_of, type_of, Value, no_value, bits, text_bytes, blob_bytes, list_segment, struct_segment, untyped_value, interface_value, FieldKind, slot, group, Field, StructNode, NodeKind, struct_node, enum_node, Node, Shape, shape, Fields, no_fields, field, Body, void_slot, plain_slot, pointer_slot, group_slot}
 use Rattle.capnp_model.specs.Calls.{text_tree, blob_tree}
-use Rattle.capnp_model.specs.Accepted.{find_node, fields_of_kind, on_struct, groups_of_field, groups_used, sizes_of, default_bits, default_tree, slot_body, field_body, fields_from, union_place, no_shape, shape_of_node, shape_in, schema_of, members_of, are_once, has_good_union, is_inside, has_its_place, has_places, has_good_ids, is_default_of, has_good_default, opens_as, is_good_segment, is_good_value, default_reads, IsAccepted}
+use Rattle.capnp_model.specs.Accepted.{find_node, fields_of_kind, on_struct, groups_of_field, sizes_of, default_tree, slot_body, field_body, fields_from, union_place, no_shape, shape_of_node, shape_in, schema_of, members_of, are_once, has_good_union, is_inside, has_its_place, has_places, is_default_of, has_good_default, opens_as, is_good_segment, is_good_value, default_reads, IsAccepted}
 use Rattle.capnp_model.proofs.Chaining.{bind_some, provided_some, some_is}
 use Rattle.capnp_model.proofs.TrimFits.{Fits-trim, depth-trim}
 use Rattle.capnp_model.proofs.ByteWords.{words_back, bytes_length}
@@ -31,7 +31,6 @@ use Rattle.capnp_model.proofs.KeptRules.{and_left, and_right, and_three, found_p
 use Rattle.capnp_model.proofs.SoundRules.{RulesKept, rules_kept}
 use Rattle.capnp_versions.proofs.SameShapes.{UnionWithin}
 use Rattle.capnp_versions.proofs.SameContents.{shape_words}
-use Rattle.capnp_versions.proofs.Follows.{IsNarrow}
 use Rattle.capnp_versions.proofs.Holders.{PlacesKept, places_kept, uses, group_fits}
 
 -- ---- what holds of a shape
@@ -201,9 +200,9 @@ module _ (groups : ℕ → Shape) (s : StructNode) (room : ℕ) (le : 64 * s.wor
   fields_within (f ∷ fs) good h k r =
       let rest = flat_map (λ (g : Field). groups_of_field g.kind) fs in (
         kind_within f.kind (λ g x. good g (list_any-append (λ y. y == g) (groups_of_field f.kind) rest ∙ or_left (list_any (λ y. y == g) (groups_of_field f.kind)) (list_any (λ y. y == g) rest) x))
-        (and_left (has_its_place s f.kind) _ h) (and_left (has_good_default f.kind) _ k) (and_left (default_reads f.kind) _ r),
+            (and_left (has_its_place s f.kind) _ h) (and_left (has_good_default f.kind) _ k) (and_left (default_reads f.kind) _ r),
         fields_within fs (λ g x. good g (list_any-append (λ y. y == g) (groups_of_field f.kind) rest ∙ or_right (list_any (λ y. y == g) (groups_of_field f.kind)) (list_any (λ y. y == g) rest) x))
-        (and_right (has_its_place s f.kind) _ h) (and_right (has_good_default f.kind) _ k) (and_right (default_reads f.kind) _ r),
+            (and_right (has_its_place s f.kind) _ h) (and_right (has_good_default f.kind) _ k) (and_right (default_reads f.kind) _ r),
       )
 
   some_member : (at : ℕ) (fs : List Field) → 0 < length (filter_map (λ (f : Field). f.member) fs) → HasMember (Some at) (fields_from groups fs)

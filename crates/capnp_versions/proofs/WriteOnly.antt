@@ -1,14 +1,14 @@
 -- A `get` writes nothing, and no other verb shows anything.
 use Rattle.std.proofs.Common.{ℕ, zero, suc, Bool, true, false, List, [], ◌∷◌, Option, Some, None}
 use Rattle.capnp_model.specs.Trees.{Tree}
-use Rattle.capnp_model.specs.Schemas.{Ty, void, plain, text, blob, untyped, interface, struct, list, Shape, Fields, Body, void_slot, plain_slot, pointer_slot, group_slot, Schema, default_or_null}
+use Rattle.capnp_model.specs.Schemas.{Ty, struct, list, Shape, Fields, Body, void_slot, plain_slot, pointer_slot, group_slot, Schema, default_or_null}
 use Rattle.capnp_model.specs.Readings.{Reading, inactive, null_pointer, fault, number, text_of, blob_of, list_of, record_as, opaque, Readings, no_readings, ◌▹◌, Record, record_by_shape}
 use Rattle.capnp_model.specs.Printing.{As, fields_in}
-use Rattle.capnp_model.specs.Calls.{Step, name, index, CallValue, whole_number, truth, enumerant, text_value, blob_value, message, message_root, Verb, get, set_to, init, initn, clear, Content, refused_by, bits_of, object, slot_content, element_content, Call}
+use Rattle.capnp_model.specs.Calls.{Step, name, index, CallValue, message, message_root, Verb, get, set_to, init, initn, clear, Content, refused_by, bits_of, object, slot_content, element_content}
 use Rattle.capnp_model.specs.Groups.{group_fault}
 use Rattle.capnp_model.specs.Kinds.{Kind}
 use Rattle.capnp_model.specs.Trees.{null, capability, structure, plain_list, pointer_list, struct_list}
-use Rattle.capnp_model.specs.Steps.{Outcome, refused, shown, done, outcome_map, Target, no_target, target, target_of, at_target, on_name, on_index, got, reading_after, slot_type, copied_or_refused, set_group_from, set_group, at_field, at_element, opened, through_value, through_field, step_field, step_element, step_path, step}
+use Rattle.capnp_model.specs.Steps.{Outcome, refused, shown, done, outcome_map, Target, no_target, target, target_of, at_target, on_index, got, reading_after, slot_type, copied_or_refused, set_group_from, set_group, at_field, at_element, opened, through_value, through_field, step_field, step_element, step_path}
 use Rattle.capnp_versions.specs.SameReplies.{IsWrite}
 
 -- it is done, or it is shown

@@ -1,8 +1,8 @@
 -- What a call that the record machine carries out met on its way.
-use Rattle.std.proofs.Common.{◌≡◌, ℕ, zero, suc, ◌*◌, ◌≤◌, Bool, true, false, List, [], ◌∷◌, Option, Some, None, refl, sym, ◌∙◌, ap, subst}
-use Rattle.capnp_model.specs.Trees.{Tree, null, capability, structure, plain_list, pointer_list, struct_list, Trees, none, ◌▸◌, Elements, no_elements, element, child, plain_elements, size_bits, resized, padded_to}
-use Rattle.capnp_model.specs.Schemas.{Ty, void, plain, text, blob, untyped, interface, struct, list, Shape, shape, Fields, no_fields, field, Body, void_slot, plain_slot, pointer_slot, group_slot, Schema, default_or_null}
-use Rattle.capnp_model.specs.Readings.{Reading, inactive, null_pointer, fault, number, text_of, blob_of, list_of, record_as, opaque, Readings, no_readings, ◌▹◌, Record, Children, no_children, only_child, Extent, whole_words, just_bits, discriminant, is_active, only_if, shape_record, fields_of, body_of, is_list_of, element_as, list_reading, plain_readings, read, read_child, pointer_elements, struct_elements, record_by_shape}
+use Rattle.std.proofs.Common.{◌≡◌, ℕ, zero, suc, Bool, true, false, List, Option, refl, sym, ◌∙◌, ap, subst}
+use Rattle.capnp_model.specs.Trees.{Tree, null, capability, structure, plain_list, pointer_list, struct_list, Trees, none, child, plain_elements, size_bits, resized, padded_to}
+use Rattle.capnp_model.specs.Schemas.{Ty, struct, list, Shape, shape, Fields, Body, pointer_slot, group_slot, Schema, default_or_null}
+use Rattle.capnp_model.specs.Readings.{Reading, inactive, null_pointer, fault, number, text_of, blob_of, list_of, record_as, opaque, Readings, Record, Children, Extent, discriminant, is_active, only_if, shape_record, fields_of, body_of, is_list_of, element_as, list_reading, plain_readings, read, read_child, pointer_elements, struct_elements, record_by_shape}
 use Rattle.capnp_model.specs.Printing.{As, fields_in}
 use Rattle.capnp_model.specs.Calls.{Step, name, index, Verb, get, set_to, init, initn, clear}
 use Rattle.capnp_model.specs.Steps.{Outcome, refused, shown, done, outcome_map, Target, no_target, target, target_of, entry_of, replaced, at_target, on_name, on_index, at_field, at_element, got, opened, or_empty, through_value, through_field, step_field, step_element}

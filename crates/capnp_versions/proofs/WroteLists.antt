@@ -1,8 +1,8 @@
 -- What a call that is carried out met at an element of a list.
-use Rattle.std.proofs.Common.{◌≡◌, ℕ, zero, suc, List, [], ◌∷◌, refl, sym, ap}
-use Rattle.capnp_model.specs.Trees.{Tree, null, Trees, none, ◌▸◌, Elements, no_elements, element, child, resized, padded_to}
+use Rattle.std.proofs.Common.{◌≡◌, ℕ, zero, suc, List, [], ◌∷◌}
+use Rattle.capnp_model.specs.Trees.{Tree, Trees, none, ◌▸◌, Elements, no_elements, element, child, padded_to}
 use Rattle.capnp_model.specs.Schemas.{Ty, Schema}
-use Rattle.capnp_model.specs.Readings.{Children, no_children, only_child, whole_words, just_bits, plain_readings, read, read_child, pointer_elements, struct_elements}
+use Rattle.capnp_model.specs.Readings.{no_children, only_child, whole_words, just_bits, plain_readings, read, read_child, pointer_elements, struct_elements}
 use Rattle.capnp_model.specs.Calls.{Step, Verb}
 use Rattle.capnp_model.specs.Steps.{on_index, step_element}
 use Rattle.capnp_model.specs.Edits.{Cell, elements_of_plain, elements_of_pointers, padded_elements}

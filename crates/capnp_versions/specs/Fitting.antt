@@ -1,9 +1,9 @@
 -- Values that fit their spelling, by parts: the numbers in them, and the lengths of their lists.
-use Rattle.std.specs.Prelude.{ℕ, ◌+◌, ◌*◌, ◌^◌, ◌≡◌, ◌<◌, true, List, Option}
+use Rattle.std.specs.Prelude.{ℕ, ◌+◌, ◌*◌, ◌^◌, ◌≡◌, ◌<◌, List}
 use Rattle.std.specs.List.{AllByRecursion}
 use Rattle.capnp_model.specs.Trees.{Tree, null, capability, structure, plain_list, pointer_list, struct_list, Trees, none, ◌▸◌, Elements, no_elements, element, size_bits, tree_count, element_count}
 use Rattle.capnp_model.specs.Schemas.{NodeKind, struct_node, enum_node, Node}
-use Rattle.capnp_model.specs.Calls.{Verb, set_to, enumerant, message, Call}
+use Rattle.capnp_model.specs.Calls.{Verb, set_to, enumerant, message}
 
 abbrev mutual
   -- Every number of a value is within the bits that spell it, and every section within its words.
