@@ -1,14 +1,11 @@
 -- Words of bytes that are written or put behind others.
-use Rattle.std.proofs.Common.{◌≡◌, ℕ, zero, suc, ◌+◌, ◌-◌, ◌*◌, ◌/◌, ◌<◌, ◌≤◌, List, [], ◌∷◌, ◌++◌, length, take, drop, replicate, refl, ap, sym, ◌∙◌, subst, arith}
+use Rattle.std.proofs.Common.{◌≡◌, ℕ, zero, suc, ◌+◌, ◌*◌, ◌≤◌, List, [], ◌∷◌, ◌++◌, length, take, drop, replicate, refl, ap, sym, ◌∙◌, arith}
 use Rattle.std.specs.Int.{from_le_bytes, w64}
-use Rattle.std.proofs.lemmas.List.{length-append, length-replicate, length-take, length-drop, append_assoc, drop-drop, drop_at, drop-replicate, drop-take, take-take, take-append-le}
-use Rattle.std.proofs.Math.Seq.{take-add}
+use Rattle.std.proofs.lemmas.List.{length-take, length-drop, drop-drop, drop-take, take-take, take-append-le}
 use Rattle.capnp_model.specs.Bytes.{words_in_bytes}
-use Rattle.capnp_units.specs.Segments.{whole_words}
 use Rattle.capnp_object.proofs.Words.{word_of_eight}
 use Rattle.capnp_footprints.specs.Writes.{spliced}
-use Rattle.capnp_footprints.proofs.Splices.{spliced_nothing}
-use Rattle.capnp_copy.specs.Memory.{ZeroFrom, overwritten}
+use Rattle.capnp_copy.specs.Memory.{overwritten}
 
 -- a word is known by its eight bytes
 word_alike : (xs ys : List ℕ) → take 8 xs ≡ take 8 ys → from_le_bytes w64 xs ≡ from_le_bytes w64 ys

@@ -2,7 +2,6 @@
 use Rattle.std.proofs.Common.{◌≡◌, ℕ, zero, suc, Bool, false, not, eqb, bit_xor, ◌+◌, ◌-◌, ◌*◌, ◌/◌, ◌%◌, ◌^◌, ◌<◌, ◌≤◌, List, [], ◌∷◌, length, take, set, get_or, Some, None, refl, ap, sym, ◌∙◌, subst, arith, true}
 use Rattle.std.specs.List.{slice_get}
 use Rattle.std.specs.Bool.{beq}
-use Rattle.std.specs.Option.{is_some}
 use Rattle.std.proofs.lemmas.Option.{get_or_from_slice_get}
 use Rattle.capnp_model.specs.Sections.{bits_at, with_bits, section_of}
 use Rattle.capnp_model.specs.Segments.{Segments, Place, after, word_at, words_at}
@@ -13,7 +12,6 @@ use Rattle.std.proofs.lemmas.Nat.{pow_pos}
 use Rattle.capnp_wire.specs.Views.{bit_of_bool}
 use Rattle.capnp_copy.specs.declared.fields.StructPlace.{StructPlace}
 use Rattle.capnp_copy.specs.Structs.{SetsBits}
-use Rattle.capnp_model.proofs.Chaining.{some_is}
 use Rattle.capnp_model.proofs.WordBits.{section_of-put, bits_at-section_of}
 use Rattle.capnp_footprints.specs.Footprints.{OwnsObject}
 use Rattle.capnp_footprints.specs.Changes.{ReplacesObject}

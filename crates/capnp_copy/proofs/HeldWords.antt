@@ -1,13 +1,13 @@
 -- Lists of segments, one of which is changed.
-use Rattle.std.proofs.Common.{◌≡◌, ℕ, zero, suc, ◌+◌, ◌-◌, ◌*◌, ◌/◌, ◌^◌, ◌<◌, ◌≤◌, Bool, true, false, leb, List, [], ◌∷◌, ◌++◌, length, map, take, drop, set, get_or, replicate, Option, Some, None, Result, Ok, Err, refl, ap, sym, ◌∙◌, subst, arith}
-use Rattle.std.specs.List.{slice_get, flat_map}
+use Rattle.std.proofs.Common.{◌≡◌, ℕ, zero, suc, ◌+◌, ◌-◌, ◌*◌, ◌/◌, ◌^◌, ◌<◌, ◌≤◌, Bool, true, false, leb, List, [], ◌∷◌, ◌++◌, length, map, take, drop, set, get_or, replicate, Option, Some, None, Result, Ok, Err, refl, ap, sym, ◌∙◌, arith}
+use Rattle.std.specs.List.{flat_map}
 use Rattle.std.specs.Option.{is_some, IfSome}
 use Rattle.std.specs.Result.{IfOk, OnOk, IfErr}
-use Rattle.std.proofs.lemmas.Bool.{le-leb, leb-true}
-use Rattle.std.proofs.lemmas.List.{length-append, length-take, length-drop, length-map, drop-drop, drop-take, take-take, take-replicate}
+use Rattle.std.proofs.lemmas.Bool.{leb-true}
+use Rattle.std.proofs.lemmas.List.{length-take, length-drop, length-map, drop-take, take-take, take-replicate}
 use Rattle.std.proofs.Math.Seq.{take-add, take-append-add}
 use Rattle.capnp_model.specs.Bytes.{words_in_bytes}
-use Rattle.capnp_model.specs.Chains.{◌>>=◌, ◌provided◌}
+use Rattle.capnp_model.specs.Chains.{◌provided◌}
 use Rattle.capnp_model.specs.Segments.{Segments, Place, place, words_at}
 use Rattle.capnp_units.specs.Segments.{whole_words, words_in}
 use Rattle.std.specs.Int.{to_le_bytes, w64}

@@ -1,4 +1,4 @@
-use Rattle.std.proofs.Common.{◌≡◌, ℕ, ◌+◌, ◌*◌, ◌/◌, ◌%◌, ◌<◌, List, [], ◌∷◌, ap, sym, ◌∙◌, subst, arith, rules}
+use Rattle.std.proofs.Common.{ℕ, ◌/◌, [], ◌∷◌, ap, sym, ◌∙◌, subst, arith, rules}
 use Rattle.capnp_model.specs.Sections.{with_bits}
 use Rattle.capnp_model.specs.Segments.{Segments, after}
 use Rattle.capnp_model.specs.Pointers.{a_struct}

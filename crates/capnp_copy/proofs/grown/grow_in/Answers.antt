@@ -1,7 +1,7 @@
-use Rattle.std.proofs.Common.{◌≡◌, ℕ, ◌+◌, ◌*◌, ◌/◌, ◌<◌, ◌≤◌, List, ◌++◌, length, map, replicate, get_or, ap, sym, ◌∙◌, arith, rules}
+use Rattle.std.proofs.Common.{◌≡◌, ℕ, ◌+◌, length, get_or, ap, sym, ◌∙◌, arith}
 use Rattle.std.proofs.lemmas.Option.{IfSome_then}
-use Rattle.capnp_copy.specs.Allocations.{total_of, words_used}
-use Rattle.capnp_copy.proofs.HeldWords.{splice_map, zeros_map, end_map, total_set, in_range, in_words, used_length, used_more, used_overwritten}
+use Rattle.capnp_copy.specs.Allocations.{words_used}
+use Rattle.capnp_copy.proofs.HeldWords.{zeros_map, end_map, total_set, used_length, used_more}
 use Rattle.capnp_copy.proofs.grown.grow_in.Goals as goal
 
 pub returns-clause-at : goal.returns-clause-at

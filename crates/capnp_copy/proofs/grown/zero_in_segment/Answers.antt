@@ -1,9 +1,8 @@
-use Rattle.std.proofs.Common.{◌≡◌, ℕ, ◌+◌, ◌*◌, ◌/◌, ◌<◌, ◌≤◌, List, ◌++◌, length, map, replicate, get_or, ap, sym, ◌∙◌, arith, rules}
+use Rattle.std.proofs.Common.{◌≡◌, ℕ, ◌*◌, List, replicate, get_or, ap, ◌∙◌, arith}
 use Rattle.std.proofs.lemmas.List.{length-replicate}
-use Rattle.capnp_model.specs.Bytes.{words_in_bytes}
 use Rattle.capnp_footprints.specs.Writes.{spliced}
 use Rattle.capnp_copy.specs.Memory.{overwritten}
-use Rattle.capnp_copy.specs.Allocations.{total_of, words_used}
+use Rattle.capnp_copy.specs.Allocations.{words_used}
 use Rattle.capnp_copy.proofs.HeldWords.{written_map, total_set, in_range, in_words, used_length, used_overwritten, words_of_zero_bytes}
 use Rattle.capnp_copy.proofs.grown.zero_in_segment.Goals as goal
 

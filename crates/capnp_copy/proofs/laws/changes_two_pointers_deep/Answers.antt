@@ -1,4 +1,4 @@
-use Rattle.std.proofs.Common.{ℕ, suc}
+use Rattle.std.proofs.Common.{suc}
 use Rattle.capnp_model.specs.Segments.{after}
 use Rattle.capnp_copy.proofs.laws.changes_two_pointers_deep.Goals as goal
 

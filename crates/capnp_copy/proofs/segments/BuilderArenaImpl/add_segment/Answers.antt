@@ -1,4 +1,4 @@
-use Rattle.std.proofs.Common.{refl, min, ◌-◌, ◌^◌, ◌≡◌, ℕ, ◌+◌, ◌*◌, ◌<◌, ◌≤◌, List, [], ◌∷◌, ◌++◌, length, map, ap, sym, ◌∙◌, arith, rules}
+use Rattle.std.proofs.Common.{◌≡◌, ℕ, [], ◌∷◌, ◌++◌, length, map, ap, ◌∙◌, arith, rules}
 use Rattle.std.proofs.lemmas.List.{length-append}
 use Rattle.capnp_copy.specs.Allocations.{total_of, words_used}
 use Rattle.capnp_copy.proofs.HeldWords.{total_push, push_map, used_zeros}

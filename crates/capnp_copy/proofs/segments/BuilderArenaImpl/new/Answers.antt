@@ -1,4 +1,4 @@
-use Rattle.std.proofs.Common.{refl, min, ◌-◌, ◌^◌, ◌≡◌, ℕ, length, ap, arith}
+use Rattle.std.proofs.Common.{length, ap, arith}
 use Rattle.capnp_copy.proofs.HeldWords.{total_none}
 use Rattle.capnp_copy.proofs.segments.BuilderArenaImpl.new.Goals as goal
 

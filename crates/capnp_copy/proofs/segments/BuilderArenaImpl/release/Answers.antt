@@ -1,4 +1,4 @@
-use Rattle.std.proofs.Common.{◌≡◌, ◌≤◌, arith}
+use Rattle.std.proofs.Common.{arith}
 use Rattle.capnp_copy.proofs.HeldWords.{total_popped}
 use Rattle.capnp_copy.proofs.segments.BuilderArenaImpl.release.Goals as goal
 

@@ -1,13 +1,7 @@
-use Rattle.std.proofs.Common.{refl, min, ◌-◌, ◌^◌, ◌≡◌, ℕ, ◌+◌, ◌*◌, ◌/◌, ◌<◌, ◌≤◌, List, ◌∷◌, [], length, map, take, replicate, ap, sym, ◌∙◌, arith, rules}
-use Rattle.std.proofs.lemmas.Option.{IfSome_then}
-use Rattle.std.proofs.lemmas.Result.{IfOk-weaker}
-use Rattle.std.proofs.lemmas.List.{length-map}
-use Rattle.capnp_units.specs.Segments.{whole_words, words_in}
-use Rattle.capnp_model.specs.Bytes.{words_in_bytes}
-use Rattle.capnp_footprints.specs.Writes.{with_words, with_zeros, segment_end}
-use Rattle.capnp_wire.specs.Places.{place_view}
-use Rattle.capnp_copy.specs.Allocations.{total_of, words_used, total_words}
-use Rattle.capnp_copy.proofs.HeldWords.{both_ok, if_err, end_past, used_length, total_is, allocates_of, written_of, there_of, written_back, one_word, counted}
+use Rattle.std.proofs.Common.{ℕ, ◌*◌, length, map, take, ap, sym, ◌∙◌, arith}
+use Rattle.capnp_footprints.specs.Writes.{with_zeros, segment_end}
+use Rattle.capnp_copy.specs.Allocations.{words_used}
+use Rattle.capnp_copy.proofs.HeldWords.{both_ok, if_err, end_past, used_length, total_is, allocates_of}
 use Rattle.capnp_copy.proofs.segments.BuilderArenaImplBuilderArena.allocate_anywhere.Goals as goal
 
 pub returns-then-words-self-clause-kind : goal.returns-then-words-self-clause-kind

@@ -1,13 +1,9 @@
-use Rattle.std.proofs.Common.{refl, min, ◌-◌, ◌^◌, ◌≡◌, ℕ, ◌+◌, ◌*◌, ◌/◌, ◌<◌, ◌≤◌, List, ◌∷◌, [], length, map, take, replicate, ap, sym, ◌∙◌, arith, rules}
-use Rattle.std.proofs.lemmas.Option.{IfSome_then}
-use Rattle.std.proofs.lemmas.Result.{IfOk-weaker}
-use Rattle.std.proofs.lemmas.List.{length-map}
-use Rattle.capnp_units.specs.Segments.{whole_words, words_in}
-use Rattle.capnp_model.specs.Bytes.{words_in_bytes}
+use Rattle.std.proofs.Common.{refl, ◌*◌, length, map, take, replicate, ap, sym, ◌∙◌}
+use Rattle.capnp_units.specs.Segments.{words_in}
 use Rattle.capnp_footprints.specs.Writes.{with_words}
 use Rattle.capnp_wire.specs.Places.{place_view}
-use Rattle.capnp_copy.specs.Allocations.{total_of, words_used, total_words}
-use Rattle.capnp_copy.proofs.HeldWords.{used_length, total_is, allocates_of, written_of, there_of, written_back, one_word, counted}
+use Rattle.capnp_copy.specs.Allocations.{words_used}
+use Rattle.capnp_copy.proofs.HeldWords.{used_length, written_of, there_of, written_back}
 use Rattle.capnp_copy.proofs.segments.BuilderArenaImplBuilderArena.zero_words.Goals as goal
 
 pub zero_in_segment-requires : goal.zero_in_segment-requires

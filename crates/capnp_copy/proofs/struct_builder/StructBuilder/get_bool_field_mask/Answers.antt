@@ -1,4 +1,4 @@
-use Rattle.std.proofs.Common.{◌≡◌, ◌∙◌, ap, Bool, not}
+use Rattle.std.proofs.Common.{◌∙◌, ap, Bool, not}
 use Rattle.std.specs.Bool.{beq}
 use Rattle.capnp_model.specs.Sections.{bits_at}
 use Rattle.capnp_copy.proofs.FieldLaws.{masked_back, bits_below}

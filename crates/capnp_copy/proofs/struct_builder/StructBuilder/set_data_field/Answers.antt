@@ -1,4 +1,4 @@
-use Rattle.std.proofs.Common.{◌≡◌, ℕ, ◌*◌, ap, sym, ◌∙◌, subst, rules}
+use Rattle.std.proofs.Common.{◌≡◌, ℕ, ◌*◌, subst, rules}
 use Rattle.capnp_model.specs.Sections.{with_bits}
 use Rattle.capnp_model.specs.Pointers.{a_struct}
 use Rattle.capnp_model.specs.Trees.{structure}
