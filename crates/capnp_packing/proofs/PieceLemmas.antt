@@ -1,13 +1,11 @@
 -- The words of a piece, one behind the other.
-use Rattle.std.proofs.Common.{◌≡◌, ℕ, zero, suc, ◌+◌, ◌-◌, ◌*◌, ◌/◌, ◌%◌, ◌<◌, ◌≤◌, List, [], ◌∷◌, ◌++◌, length, take, drop, None, Result, Ok, Err, refl, sym, ap, subst, ◌∙◌, append_assoc, append-nil, arith, take-append-drop, take_at, drop_at, length-append, length-take-le}
+use Rattle.std.proofs.Common.{◌≡◌, ℕ, zero, suc, ◌+◌, ◌-◌, ◌*◌, ◌/◌, ◌%◌, ◌<◌, ◌≤◌, List, [], ◌++◌, length, take, None, Ok, refl, sym, ap, subst, ◌∙◌, append-nil, arith, length-take-le}
 use Rattle.std.specs.declared.option.Option.{Option}
-use Rattle.std.specs.Int.{w64, from_le_bytes}
 use Rattle.std.proofs.lemmas.List.{take_all}
 use Rattle.std.specs.Io.KnownBytes.{Keeps}
 use Rattle.std.proofs.KnownBytes.{Consumes-nil, Consumes-kept}
 use Rattle.capnp_units.specs.declared.kinds.ErrorKind.{ErrorKind}
 use Rattle.capnp_units.specs.declared.kinds.ErrorKind.TheVariants.{FailedToFillTheWholeBuffer, PrematureEndOfPackedInput, PackedInputDidNotEndCleanlyOnASegmentBoundary, Device}
-use Rattle.capnp_model.specs.Kinds.{Kind}
 use Rattle.capnp_model.specs.Bytes.{words_in_bytes}
 use Rattle.capnp_model.specs.Packing.{first, unpacked_from, unpacked}
 use Rattle.capnp_stream.specs.Pieces.{EachIsNeeded, TakesPiece, TakesPieceStart}
@@ -15,7 +13,7 @@ use Rattle.capnp_stream.specs.Segments.{whole_words}
 use Rattle.capnp_stream.specs.Streams.{ConsumesFewer}
 use Rattle.capnp_stream.proofs.KnownLemmas.{Consumes-of_kept}
 use Rattle.capnp_stream.proofs.EarlyLemmas.{none-needed}
-use Rattle.capnp_stream.proofs.WordLemmas.{words_in_bytes-take, words_in_bytes-drop, words_in_bytes-length, whole_words-of_length}
+use Rattle.capnp_stream.proofs.WordLemmas.{words_in_bytes-length, whole_words-of_length}
 use Rattle.capnp_packing.specs.Parts.{Rule, Leads, Takes, IsFault, Refuses, with_front}
 use Rattle.capnp_packing.specs.Streams.{IsUnpackingKind}
 use Rattle.capnp_packing.specs.Runs.{run_view}

@@ -1,14 +1,11 @@
 -- Whole groups and runs at the front of bytes that are shown.
-use Rattle.std.proofs.Common.{◌≡◌, ◌≢◌, ℕ, zero, suc, ◌+◌, ◌-◌, ◌*◌, ◌/◌, ◌%◌, ◌<◌, ◌≤◌, Bool, true, false, cond, mod-lt, eqb, leb, List, [], ◌∷◌, ◌++◌, length, take, drop, get_or, replicate, Result, Ok, Err, refl, sym, ap, subst, ◌∙◌, append_assoc, append-nil, add-one, arith, take_at, drop_at, take-append-drop, length-append, length-drop, length-take-le}
+use Rattle.std.proofs.Common.{◌≡◌, ◌≢◌, ℕ, zero, suc, ◌+◌, ◌-◌, ◌*◌, ◌/◌, ◌%◌, ◌<◌, ◌≤◌, mod-lt, true, false, leb, List, [], ◌∷◌, ◌++◌, length, take, drop, get_or, replicate, Result, Ok, Err, refl, sym, ap, subst, ◌∙◌, append_assoc, append-nil, arith, take_at, drop_at, take-append-drop, length-append, length-drop, length-take-le}
 use Rattle.std.specs.Int.{w64, from_le_bytes}
-use Rattle.std.specs.List.{range_with_len}
-use Rattle.std.specs.Simd.Lanes.{pick_l}
 use Rattle.std.proofs.lemmas.Bool.{le-leb, ne_eqb}
-use Rattle.std.proofs.lemmas.List.{take-append-le, drop-append-le, take_more, take_all, drop-take, take-replicate, drop-replicate}
+use Rattle.std.proofs.lemmas.List.{take-append-le, drop-append-le, take_more, take_all}
 use Rattle.std.proofs.lemmas.Simd.{pick_l_whole}
-use Rattle.std.proofs.Math.Seq.{take-append-add}
 use Rattle.capnp_model.specs.Kinds.{Kind, PackedInputDidNotEndCleanlyOnASegmentBoundary}
-use Rattle.capnp_model.specs.Chains.{◌and_then◌, guard}
+use Rattle.capnp_model.specs.Chains.{◌and_then◌}
 use Rattle.capnp_model.specs.Bytes.{words_in_bytes, taken}
 use Rattle.capnp_model.specs.Packing as model
 use Rattle.capnp_model.specs.Packing.{spread, run_at, group_at, with_word, unpacked_from}

@@ -1,17 +1,17 @@
 -- The bytes that a tag marks.
-use Rattle.std.proofs.Common.{◌≡◌, ℕ, zero, suc, ◌+◌, ◌-◌, ◌*◌, ◌/◌, ◌%◌, ◌^◌, ◌<◌, ◌≤◌, Bool, true, false, cond, eqb, leb, List, [], ◌∷◌, ◌++◌, length, take, drop, get_or, map, replicate, refl, sym, ap, subst, ◌∙◌, arith}
+use Rattle.std.proofs.Common.{◌≡◌, ℕ, zero, suc, ◌+◌, ◌-◌, ◌*◌, ◌/◌, ◌%◌, ◌^◌, ◌<◌, ◌≤◌, Bool, true, false, cond, eqb, leb, List, [], ◌∷◌, ◌++◌, length, take, drop, get_or, map, replicate, refl, sym, ap, ◌∙◌, arith}
 use Rattle.std.specs.List.{range_with_len}
 use Rattle.std.specs.Int.RustNames.{count_ones}
 use Rattle.std.proofs.lemmas.List.FromFn.{get_or-map-range_with_len}
 use Rattle.std.proofs.lemmas.Simd.{pick_l_whole}
 use Rattle.std.specs.Simd.Lanes.{pick_l}
-use Rattle.std.proofs.Common.{Result, Ok, add-one, drop-cons, not, take_at, length-append}
+use Rattle.std.proofs.Common.{Result, Ok, add-one, drop-cons, not, take_at}
 use Rattle.std.specs.Int.{w8, w64, from_le_bytes, to_le_bytes}
 use Rattle.std.specs.Simd.Lanes.{mask_l, top, zip2}
 use Rattle.std.proofs.lemmas.Simd.{bitmask_splat}
 use Rattle.std.proofs.lemmas.List.{length-map, map-append}
 use Rattle.capnp_stream.specs.Segments.{AreBytes}
-use Rattle.capnp_packing.proofs.RunLemmas.{bytes-again, tag-small}
+use Rattle.capnp_packing.proofs.RunLemmas.{bytes-again}
 use Rattle.capnp_model.specs.Kinds.{Kind}
 use Rattle.std.proofs.lemmas.List.{get_or_past}
 use Rattle.capnp_model.specs.Chains.{◌and_then◌}

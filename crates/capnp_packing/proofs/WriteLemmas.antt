@@ -14,7 +14,7 @@ use Rattle.capnp_stream.specs.Streams.{AppendsPart, RoomFalls, IsWriteRefusal}
 use Rattle.capnp_stream.proofs.KnownLemmas.{AppendsPart-more, AppendsPart-next}
 use Rattle.capnp_stream.proofs.WordLemmas.{words_in_bytes-take, words_in_bytes-drop, bytes_of_words-back}
 use Rattle.capnp_packing.specs.Runs.{run_view, run_words, run_bytes}
-use Rattle.std.proofs.Common.{◌<◌, ◌%◌, ◌⊎◌, inl, inr, set, length-set}
+use Rattle.std.proofs.Common.{◌%◌, ◌⊎◌, inl, inr, set, length-set}
 use Rattle.std.proofs.lemmas.List.{take_more_set}
 use borrow.Rule.Slice.PartMut.{put_mid}
 use Rattle.capnp_stream.proofs.Filling.{take-put_mid_more}

@@ -1,4 +1,4 @@
-use Rattle.std.proofs.Common.{◌≡◌, List, ℕ, ◌++◌, length, take, subst, sym, ap, ◌∙◌, arith, rules}
+use Rattle.std.proofs.Common.{take}
 use Rattle.std.proofs.lemmas.Result.{err_from_is_err_and}
 use Rattle.capnp_stream.specs.Segments.{whole_words}
 use Rattle.capnp_packing.proofs.WriteLemmas.{group-cut, group-refusal, run-cut, run-refusal, group-written}

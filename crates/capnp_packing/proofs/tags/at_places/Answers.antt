@@ -1,4 +1,4 @@
-use Rattle.std.proofs.Common.{◌≡◌, ◌<◌, ℕ, List, length, get_or, map, ap, ◌∙◌, arith}
+use Rattle.std.proofs.Common.{ℕ, get_or, map, ap, ◌∙◌, arith}
 use Rattle.std.proofs.lemmas.Simd.{pick_l_whole}
 use Rattle.capnp_packing.proofs.TagLemmas.{lane, eight_alike}
 use Rattle.capnp_packing.proofs.tags.at_places.Goals as goal

@@ -1,4 +1,4 @@
-use Rattle.std.proofs.Common.{◌≡◌, ◌<◌, ℕ, List, get_or, sym, subst, arith}
+use Rattle.std.proofs.Common.{◌<◌, ℕ, List, get_or, sym, subst, arith}
 use Rattle.capnp_packing.proofs.TagLemmas.{gathers-small, gather-is}
 use Rattle.capnp_packing.proofs.tags.gather.Goals as goal
 

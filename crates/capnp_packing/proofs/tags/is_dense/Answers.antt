@@ -1,4 +1,4 @@
-use Rattle.std.proofs.Common.{ℕ, leb, ap, ◌∙◌, arith}
+use Rattle.std.proofs.Common.{leb, ap, ◌∙◌, arith}
 use Rattle.capnp_packing.specs.Tags.{marks}
 use Rattle.capnp_packing.proofs.TagLemmas.{dense-is}
 use Rattle.capnp_packing.proofs.tags.is_dense.Goals as goal

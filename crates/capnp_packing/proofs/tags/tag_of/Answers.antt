@@ -1,5 +1,4 @@
 use Rattle.std.proofs.Common.{◌<◌, ◌^◌, ℕ, sym, subst, arith}
-use Rattle.std.specs.Int.{w8}
 use Rattle.capnp_packing.proofs.RunLemmas.{tag-small}
 use Rattle.capnp_packing.proofs.TagLemmas.{tag-is}
 use Rattle.capnp_packing.proofs.tags.tag_of.Goals as goal

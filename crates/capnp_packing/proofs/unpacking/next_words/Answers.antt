@@ -1,4 +1,4 @@
-use Rattle.std.proofs.Common.{◌≡◌, ◌/◌, ◌<◌, ℕ, length, ap, sym, arith, rules}
+use Rattle.std.proofs.Common.{◌≡◌, ◌/◌, ℕ, length, ap, arith, rules}
 use Rattle.std.proofs.lemmas.Result.{err_from_is_err_and, IfOk-weaker, IfErr-weaker}
 use Rattle.capnp_packing.specs.Runs.{run_view, NeedsBytes}
 use Rattle.capnp_packing.proofs.StepLemmas.{failed-look, empty-read, empty-refused, refused-count}

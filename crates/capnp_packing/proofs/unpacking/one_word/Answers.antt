@@ -1,4 +1,4 @@
-use Rattle.std.proofs.Common.{◌≡◌, ◌+◌, ◌-◌, ◌/◌, ◌≤◌, ℕ, List, ◌++◌, length, take, drop, refl, ap, subst, sym, arith, take_at, length-drop, length-append, length-take-le, ◌∙◌}
+use Rattle.std.proofs.Common.{◌≡◌, ◌+◌, ◌-◌, ◌/◌, ◌≤◌, ℕ, ◌++◌, length, drop, refl, ap, sym, arith, take_at, length-drop, length-append, length-take-le, ◌∙◌}
 use Rattle.std.proofs.lemmas.Result.{err_from_is_err_and}
 use Rattle.capnp_packing.specs.Runs.{run_view}
 use Rattle.capnp_packing.proofs.StepLemmas.{Reads-word, refused-count}

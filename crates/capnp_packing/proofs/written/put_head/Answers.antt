@@ -1,8 +1,7 @@
-use Rattle.std.proofs.Common.{◌≡◌, ◌+◌, ◌≤◌, ℕ, List, [], ◌∷◌, ◌++◌, length, take, set, ap, sym, ◌∙◌, arith, rules}
+use Rattle.std.proofs.Common.{◌≡◌, ◌+◌, ℕ, List, [], ◌∷◌, ◌++◌, length, take, set, ap, sym, ◌∙◌, arith, rules}
 use Rattle.std.proofs.lemmas.List.{take_more_set}
 use borrow.Rule.Slice.PartMut.{put_mid}
-use Rattle.capnp_model.specs.Packing.{nonzero, count_byte}
-use Rattle.capnp_packing.specs.Runs.{run_view}
+use Rattle.capnp_model.specs.Packing.{nonzero}
 use Rattle.capnp_packing.proofs.WriteLemmas.{head-front, no-count, one-count}
 use Rattle.capnp_packing.proofs.written.put_head.Goals as goal
 

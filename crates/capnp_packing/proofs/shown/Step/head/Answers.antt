@@ -1,5 +1,4 @@
-use Rattle.std.proofs.Common.{◌≡◌, ◌+◌, ℕ, [], ◌∷◌, get_or, subst, arith, ◌≢◌, ap, ◌∙◌, sym}
-use Rattle.capnp_packing.specs.Runs.{run_view}
+use Rattle.std.proofs.Common.{◌+◌, get_or, arith}
 use Rattle.capnp_packing.specs.declared.runs.Run.TheVariants.{Zeros, Verbatim}
 use Rattle.capnp_packing.proofs.StepLemmas.{head-next, head-counted, run-zeros, run-verbatim, early-zeros, early-verbatim}
 use Rattle.capnp_packing.proofs.shown.Step.head.Goals as goal

@@ -1,4 +1,4 @@
-use Rattle.std.proofs.Common.{◌≡◌, ◌*◌, ℕ, List, ◌++◌, length, take, drop, ap, sym, ◌∙◌, arith, take_at, length-take-le, replicate}
+use Rattle.std.proofs.Common.{◌≡◌, ◌*◌, ℕ, ◌++◌, length, take, drop, ap, ◌∙◌, arith, take_at, length-take-le, replicate}
 use Rattle.std.proofs.lemmas.List.{length-replicate}
 use Rattle.capnp_packing.proofs.StepLemmas.{unpacks-zeros, unpacks-verbatim}
 use Rattle.capnp_packing.proofs.shown.Step.of_run.Goals as goal

@@ -1,4 +1,4 @@
-use Rattle.std.proofs.Common.{◌≡◌, ◌+◌, ◌-◌, ℕ, length, drop, arith, rules, ◌∙◌}
+use Rattle.std.proofs.Common.{◌≡◌, ◌-◌, length, arith, rules, ◌∙◌}
 use Rattle.capnp_stream.proofs.Filling.{take-put_mid_more}
 use borrow.Rule.Slice.PartMut.{put_mid}
 use Rattle.capnp_packing.proofs.StepLemmas.{Unpacks-then}
