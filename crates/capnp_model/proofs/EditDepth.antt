@@ -395,9 +395,10 @@ module _ (m : ℕ) (one : 1 ≤ m) (s : Schema) (from : Cell) (shallow : depths 
 
     group_deepens : (g : Shape) (before : Edit) → DefaultsWithin m g → Deepens m before → AllDeepen m (group_writes s g before from)
     group_deepens (shape nid w p u fs) before h b =
-        let active : Option ℕ = discriminant u whole_words from.section in
-        (then_deepens m before (cleared (shape nid w p u fs)) b (cleared_deepens m (shape nid w p u fs)),
-         deepen_both m (field_writes s true fs u active from) (field_writes s false fs u active from) (fields_deepen true fs u active h) (fields_deepen false fs u active h))
+        let active : Option ℕ = discriminant u whole_words from.section in (
+          then_deepens m before (cleared (shape nid w p u fs)) b (cleared_deepens m (shape nid w p u fs)),
+          deepen_both m (field_writes s true fs u active from) (field_writes s false fs u active from) (fields_deepen true fs u active h) (fields_deepen false fs u active h),
+        )
 
     fields_deepen : (members : Bool) (fs : Fields) (u active : Option ℕ) → AllDefaultsWithin m fs → AllDeepen m (field_writes s members fs u active from)
     fields_deepen members no_fields u active h = tt
@@ -730,7 +731,7 @@ edit_deepens nodes id c t =
     let m : ℕ = max 64 (verb_depth c.verb) in
     let defaults : (x : ℕ) → DefaultsWithin m (s.shape_of x) = λ x. shape_default m (omega arith) nodes (length nodes) x in
     done_deeper (step s id c (record_of s id t)) (write_path s (s.shape_of id) c.path c.verb t) t (length c.path + m)
-        (path_deepens s m (omega arith) defaults c.verb (omega arith) (s.shape_of id) (defaults id) c.path t)
+    (path_deepens s m (omega arith) defaults c.verb (omega arith) (s.shape_of id) (defaults id) c.path t)
 
 -- THE LAW, of calls in turn
 pub edits_deepen : (nodes : List Node) (id : ℕ) (k : ℕ) (calls : List Call) (t : Tree) → AllByRecursion (λ c. call_depth c ≤ k) calls → depth (edits (schema_of nodes) id calls t) ≤ max (depth t) k

@@ -184,9 +184,10 @@ module _ (write : Writer) (is_answer : Segments → Answer → Type 0) (once : A
       let ys : y.answers ≡ p.0 ++ b ∷ p.1 = q.2 ∙ ap (λ z. z ++ b ∷ q.1) same_before ∙ ap (λ z. p.0 ++ b ∷ z) same_behind in
       let n = same_length front p.0 p.3 in
       let at : (c : Answer) → lines_of 1 (p.0 ++ c ∷ p.1) ≡ lines_of 1 p.0 ++ (line_of (1 + length front) c ++ lines_of (1 + length front + 1) p.1)
-             = λ c. subst (λ k. lines_of 1 (p.0 ++ c ∷ p.1) ≡ lines_of 1 p.0 ++ (line_of (1 + k) c ++ lines_of (1 + k + 1) p.1)) n (lines_around 1 p.0 p.1 c) in
-      (x.writes ∙ ap (outputs_of write) p.2 ∙ written_around p.0 p.1 a ra ∙ sym (y.writes ∙ ap (outputs_of write) ys ∙ written_around p.0 p.1 b rb),
-       (lines_of 1 p.0, lines_of (1 + length front + 1) p.1, x.logs ∙ ap (lines_of 1) p.2 ∙ at a, y.logs ∙ ap (lines_of 1) ys ∙ at b))
+      = λ c. subst (λ k. lines_of 1 (p.0 ++ c ∷ p.1) ≡ lines_of 1 p.0 ++ (line_of (1 + k) c ++ lines_of (1 + k + 1) p.1)) n (lines_around 1 p.0 p.1 c) in (
+        x.writes ∙ ap (outputs_of write) p.2 ∙ written_around p.0 p.1 a ra ∙ sym (y.writes ∙ ap (outputs_of write) ys ∙ written_around p.0 p.1 b rb),
+        (lines_of 1 p.0, lines_of (1 + length front + 1) p.1, x.logs ∙ ap (lines_of 1) p.2 ∙ at a, y.logs ∙ ap (lines_of 1) ys ∙ at b),
+      )
 
 -- ---- THE LAWS
 

@@ -43,5 +43,5 @@ pub fn runs_past_a_refused_message()
         → (front back : List Segments) (s u : Segments) (a b : Answer) → x.messages ≡ front ++ s ∷ back → y.messages ≡ front ++ u ∷ back
         → IsAnswerIn w s a → IsAnswerIn w u b → IsRefused a → IsRefused b
         → (output ≡ others) × ((before behind : List ℕ) × (log ≡ before ++ (line_of (1 + length front) a ++ behind))
-            × (lines ≡ before ++ (line_of (1 + length front) b ++ behind))) }
+        × (lines ≡ before ++ (line_of (1 + length front) b ++ behind))) }
 {}

@@ -118,8 +118,8 @@ unfolding tagged
 group-needed n tag marked word tail read first second zero below = tt
 group-needed n tag marked word tail read first second (suc k) below =
     let both = needed-joined (λ b. tagged tag b and_then tagged_run n tag) (run_at n tag) marked tail
-        (λ more h. early-same _ _ (ok_then (tagged tag (marked ++ more)) (tagged_run n tag) (word, more) _ (read more) refl) (early-then (run_at n tag more) (counted_run word) h))
-        (λ j l. early-then (tagged tag (take j marked)) (tagged_run n tag) (first j l)) second in
+    (λ more h. early-same _ _ (ok_then (tagged tag (marked ++ more)) (tagged_run n tag) (word, more) _ (read more) refl) (early-then (run_at n tag more) (counted_run word) h))
+    (λ j l. early-then (tagged tag (take j marked)) (tagged_run n tag) (first j l)) second in
     both k (omega arith)
 
 -- a group whose parts were worked out
