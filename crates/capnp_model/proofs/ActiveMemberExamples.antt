@@ -1,9 +1,8 @@
 -- Paths that a call spares, and one that it doesn't: a union of two numbers with a number beside it.
-use Rattle.std.proofs.Common.{◌≡◌, ℕ, Option, Some, None, true, false, List, [], ◌∷◌, codes, refl, sym, subst, ap}
-use Rattle.std.specs.Str.{bytes_eq}
-use Rattle.capnp_model.specs.Schemas.{Fields, no_fields, field, Body, plain_slot, uint, Schema}
+use Rattle.std.proofs.Common.{◌≡◌, ℕ, Option, Some, None, [], ◌∷◌, codes, refl, sym, subst, ap}
+use Rattle.capnp_model.specs.Schemas.{Fields, no_fields, field, plain_slot, uint, Schema}
 use Rattle.capnp_model.specs.Calls.{name}
-use Rattle.capnp_model.specs.Steps.{Target, target, target_of}
+use Rattle.capnp_model.specs.Steps.{Target, target}
 use Rattle.capnp_model.specs.ActiveMembers.{AreMembers, Spares}
 
 abbrev beside : Fields

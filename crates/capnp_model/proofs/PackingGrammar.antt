@@ -1,8 +1,8 @@
 -- The machine that unpacks and the packing grammar are the same.
-use Rattle.std.proofs.Common.{◌≡◌, ◌≢◌, ℕ, zero, suc, ◌+◌, ◌/◌, ◌%◌, ◌<◌, ◌≤◌, ◌⊎◌, inl, inr, Bool, true, false, cond, eqb, leb, List, [], ◌∷◌, ◌++◌, length, take, drop, take-append-drop, length-take-le, replicate, Result, Ok, Err, refl, ap, subst, sym, ◌∙◌, append_assoc, arith, length-append}
+use Rattle.std.proofs.Common.{◌≡◌, ◌≢◌, ℕ, zero, suc, ◌/◌, ◌%◌, ◌<◌, ◌≤◌, ◌⊎◌, inl, inr, Bool, true, false, eqb, leb, List, [], ◌∷◌, ◌++◌, length, take, drop, take-append-drop, length-take-le, replicate, Result, Ok, refl, ap, subst, sym, ◌∙◌, append_assoc, arith, length-append}
 use Rattle.std.specs.Int.{w64, from_le_bytes}
 use Rattle.std.proofs.lemmas.Bool.{le-leb, leb-true, eqb-true, eqb-false, ne_eqb}
-use Rattle.std.proofs.lemmas.List.{append-nil, length-replicate}
+use Rattle.std.proofs.lemmas.List.{length-replicate}
 use Rattle.capnp_model.specs.Kinds.{Kind, FailedToFillTheWholeBuffer, PackedInputDidNotEndCleanlyOnASegmentBoundary}
 use Rattle.capnp_model.specs.Chains.{◌and_then◌, guard}
 use Rattle.capnp_model.specs.Bytes.{taken}

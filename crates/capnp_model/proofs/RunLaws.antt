@@ -1,14 +1,12 @@
 -- Runs over streams of messages: what of the bytes decides them.
-use Rattle.std.proofs.Common.{◌≡◌, ℕ, ◌+◌, ◌⊎◌, inl, inr, Option, List, [], ◌∷◌, ◌++◌, length, Ok, Err, refl, sym, ap, subst, ◌∙◌, append_assoc, suc, arith}
+use Rattle.std.proofs.Common.{◌≡◌, ℕ, ◌+◌, inl, inr, Option, List, [], ◌∷◌, ◌++◌, length, Ok, Err, refl, sym, ap, subst, ◌∙◌, append_assoc, suc, arith}
 use Rattle.std.specs.List.{flat_map, AllByRecursion}
-use Rattle.capnp_model.specs.Kinds.{Kind}
-use Rattle.capnp_model.specs.Chains.{◌and_then◌}
 use Rattle.capnp_model.specs.Segments.{Segments}
-use Rattle.capnp_model.specs.Packing.{first, unpacked, unpacked_from}
+use Rattle.capnp_model.specs.Packing.{unpacked, unpacked_from}
 use Rattle.capnp_model.specs.Messages.{Reader, Writer, plain_words, message_at, frame, packed_message}
-use Rattle.capnp_model.specs.Answers.{Answer, refused_value, refused_root, refused_depth, written, Limits, IsAnswer, answer}
+use Rattle.capnp_model.specs.Answers.{Answer, refused_value, refused_root, refused_depth, written, Limits, IsAnswer}
 use Rattle.capnp_model.specs.Runs.{output_of, outputs_of, line_of, lines_of, AnswerEach, BeginWith, End, finished, broken, EndsBy, IsRun}
-use Rattle.capnp_model.specs.SameRuns.{IsFormReader, IsRefused, HaveOneValue, HaveOneValueEach, Work, IsAnswerIn, Relays}
+use Rattle.capnp_model.specs.SameRuns.{IsFormReader, IsRefused, HaveOneValueEach, Work, IsAnswerIn, Relays}
 use Rattle.capnp_model.specs.Spelling.{CanSpell}
 use Rattle.capnp_model.specs.Schemas.{Schema}
 use Rattle.capnp_model.specs.Calls.{Call}

@@ -1,5 +1,5 @@
 -- Fields that a path leads to, and the calls that leave them there.
-use Rattle.std.specs.Prelude.{◌≡◌, ℕ, zero, suc, true, false, ◌==◌, Option, Some, None, List, [], ◌∷◌}
+use Rattle.std.specs.Prelude.{◌≡◌, ℕ, zero, suc, true, false, ◌==◌, Option, Some, List, [], ◌∷◌}
 use Rattle.std.specs.Str.{bytes_eq}
 use Rattle.capnp_model.specs.Schemas.{Ty, struct, list, Fields, Body, pointer_slot, group_slot, Schema}
 use Rattle.capnp_model.specs.Readings.{Reading, inactive, list_of, record_as, Readings, no_readings, ◌▹◌}

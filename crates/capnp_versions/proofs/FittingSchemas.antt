@@ -22,7 +22,8 @@ use Rattle.capnp_versions.proofs.SameShapes.{UnionWithin}
 use Rattle.capnp_versions.proofs.Holders.{PlacesKept, places_kept, uses, group_fits}
 use Rattle.capnp_versions.proofs.Within.{FitsDefault, IsWithin, AreWithin, BodyWithin, shape-within}
 use Rattle.capnp_versions.proofs.Wrote.{Wrote}
-use Rattle.capnp_versions.proofs.FittingEdits.{numbers-of, fits-by-parts, UnionFits, MemberFits, ShapeFits, FieldsFit, BodyFits, words_of_shape, pointers_of_shape, SchemaFits, written-fits}
+use Rattle.capnp_versions.proofs.FittingParts.{numbers-of, fits-by-parts, UnionFits, MemberFits, ShapeFits, FieldsFit, BodyFits, words_of_shape, pointers_of_shape, SchemaFits}
+use Rattle.capnp_versions.proofs.FittingEdits.{written-fits}
 
 -- ---- pointers
 

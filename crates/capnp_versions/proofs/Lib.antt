@@ -13,6 +13,10 @@ pub mod Within
 pub mod SelfFollows
 pub mod TrimmedEdits
 pub mod Partners
+pub mod FittingParts
+pub mod FittingContents
+pub mod FittingCells
+pub mod FittingLists
 pub mod FittingEdits
 pub mod FittingSchemas
 pub mod OwnOutput

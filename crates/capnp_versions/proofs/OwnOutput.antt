@@ -35,7 +35,7 @@ use Rattle.capnp_model.proofs.Written.{ReadsBack, plain_back, packed_back, messa
 use Rattle.capnp_model.proofs.RunLaws.{form_nothing, same_messages}
 use Rattle.capnp_versions.specs.Fitting.{HasShortLists, IsSpelledVerb, HaveSmallSections}
 use Rattle.capnp_versions.specs.OwnOutput.{edited_value, SizesSuffice, IsWritten, with_calls, relay_of}
-use Rattle.capnp_versions.proofs.FittingEdits.{StructFits}
+use Rattle.capnp_versions.proofs.FittingParts.{StructFits}
 use Rattle.capnp_versions.proofs.FittingSchemas.{schema-fits, edits-fit}
 
 -- ---- a message that is read within a limit is read without one
