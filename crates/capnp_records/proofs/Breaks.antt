@@ -1,8 +1,8 @@
 -- The first node that breaks a rule, and the first broken rule, step by step.
-use Rattle.std.proofs.Common.{◌≡◌, ℕ, zero, suc, ◌+◌, ◌-◌, ◌<◌, ◌≤◌, Bool, true, false, Option, Some, None, List, [], ◌∷◌, ◌++◌, map, length, take, drop, get_or, drop-cons, refl, sym, ◌∙◌, ap, arith}
+use Rattle.std.proofs.Common.{◌≡◌, ℕ, suc, ◌+◌, ◌-◌, ◌<◌, Bool, true, false, Option, Some, None, List, [], ◌∷◌, ◌++◌, map, length, take, drop, get_or, drop-cons, sym, ◌∙◌, ap, arith}
 use Rattle.std.proofs.lemmas.List.{map_more}
 use Rattle.capnp_model.specs.Schemas.{Node}
-use Rattle.capnp_model.specs.Accepted.{first_break_from, first_break, first_fault_from, fault_of}
+use Rattle.capnp_model.specs.Accepted.{first_break_from, first_break, first_fault_from}
 
 step_kept : (kept : List Node → Node → Bool) (earlier : List Node) (i : ℕ) (n : Node) (ns : List Node) → kept earlier n ≡ true → first_break_from kept earlier i (n ∷ ns) ≡ first_break_from kept (earlier ++ n ∷ []) (suc i) ns
 step_kept kept earlier i n ns h = ap (λ b. elim b as (λ (x : Bool). Option ℕ) [ false ↦ Some i | true ↦ first_break_from kept (earlier ++ n ∷ []) (suc i) ns ]) h

@@ -1,8 +1,8 @@
 -- Overlaps by what each field takes.
-use Rattle.std.proofs.Common.{◌≡◌, ℕ, zero, suc, ◌<◌, ◌≤◌, ◌-◌, Bool, true, false, not, ◌&&◌, ◌||◌, Option, Some, None, is_some, List, [], ◌∷◌, ◌++◌, map, append_assoc, refl, sym, ◌∙◌, ap, arith}
+use Rattle.std.proofs.Common.{◌≡◌, ℕ, zero, suc, ◌<◌, ◌-◌, Bool, true, false, not, ◌&&◌, ◌||◌, Option, Some, None, is_some, List, [], ◌∷◌, ◌++◌, map, append_assoc, refl, sym, ◌∙◌, ap, arith}
 use Rattle.std.specs.List.{list_all}
 use Rattle.std.proofs.lemmas.List.Folds.{list_all-append}
-use Rattle.capnp_model.specs.Schemas.{Enumerant, TypeRecord, Ty, void, plain, text, blob, untyped, interface, struct, list, type_of, Value, FieldKind, slot, group, Field, StructNode, NodeKind, struct_node, enum_node, Node, Shape, shape}
+use Rattle.capnp_model.specs.Schemas.{Enumerant, Ty, void, plain, text, blob, untyped, interface, struct, list, Value, group, Field, StructNode, NodeKind, struct_node, enum_node, Node, Shape, shape}
 use Rattle.capnp_model.specs.Accepted.{find_node, Area, share, are_apart, union_place, union_area, slot_body, field_body, fields_from, shape_of_node, no_shape, shape_in, areas_of, areas_of_fields, areas_of_body, are_members, is_apart_from, has_no_overlap, fields_are_apart, body_has_no_overlap}
 use Rattle.capnp_records.specs.Claims.{claim_in, claims_in, areas_claimed, claims_are_apart, groups_have_no_overlap, IsWritten, IsUnwritten}
 

@@ -1,14 +1,14 @@
 -- What is known of a plain struct of an accepted set.
-use Rattle.std.proofs.Common.{◌≡◌, ◌<◌, ◌≤◌, ℕ, zero, suc, Bool, true, false, not, ◌&&◌, ◌||◌, ◌==◌, ◌*◌, if◌then◌else◌, Option, Some, None, is_some, List, [], ◌∷◌, ◌++◌, map, length, get_or, slice_get, refl, sym, ◌∙◌, ap, subst, arith}
+use Rattle.std.proofs.Common.{◌≡◌, ◌<◌, ℕ, zero, suc, Bool, true, false, not, ◌&&◌, ◌||◌, ◌==◌, ◌*◌, if◌then◌else◌, Option, Some, None, is_some, List, [], ◌∷◌, ◌++◌, map, length, get_or, slice_get, refl, sym, ◌∙◌, ap, subst, arith}
 use Rattle.std.specs.List.{list_all, list_any}
-use Rattle.capnp_model.specs.Schemas.{Annotation, type_of, FieldKind, slot, group, Field, StructNode, NodeKind, struct_node, enum_node, Node, Shape, shape, Fields, no_fields, field}
+use Rattle.capnp_model.specs.Schemas.{FieldKind, slot, group, Field, StructNode, NodeKind, struct_node, enum_node, Node, Shape, shape, field}
 use Rattle.capnp_model.specs.Accepted.{find_node, is_group_node, is_struct_node, on_struct, has_new_id, first_break_from, union_place, field_body, fields_from, shape_of_node, no_shape, shape_in, schema_of, names_a, has_places, IsAccepted}
 use Rattle.capnp_model.proofs.KeptRules.{behind, no_break, and_left, and_right}
-use Rattle.capnp_records.specs.NodeViews.{field_of, struct_of}
+use Rattle.capnp_records.specs.NodeViews.{struct_of}
 use Rattle.capnp_records.specs.Taken.{has_none, is_taken_kind, is_taken_field, is_taken_body, is_taken_node}
 use Rattle.capnp_records.specs.declared.node.StructRecord.{StructRecord}
 use Rattle.capnp_records.specs.declared.raw.RawBrandedStructSchema.{RawBrandedStructSchema}
-use Rattle.capnp_records.specs.Sets.{IsPlainStructOf, IsRecordOf}
+use Rattle.capnp_records.specs.Sets.{IsRecordOf}
 use Rattle.capnp_records.proofs.ListTests.{list_any-append}
 
 same_number : (a b : ℕ) → (a == b) ≡ true → a ≡ b

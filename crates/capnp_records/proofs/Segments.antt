@@ -1,10 +1,10 @@
 -- Values that stand as bytes.
-use Rattle.std.proofs.Common.{◌≡◌, ℕ, zero, suc, ◌+◌, ◌-◌, ◌*◌, ◌^◌, ◌<◌, ◌≤◌, Bool, true, false, not, ◌&&◌, nat_lt, ◌/◌, Option, Some, None, List, [], ◌∷◌, length, refl, sym, ◌∙◌, ap, subst, arith}
+use Rattle.std.proofs.Common.{◌≡◌, ℕ, ◌-◌, ◌*◌, ◌^◌, ◌<◌, ◌≤◌, Bool, true, false, not, ◌&&◌, nat_lt, ◌/◌, Option, Some, None, List, [], ◌∷◌, length, refl, sym, ◌∙◌, ap, subst, arith}
 use Rattle.std.specs.Str.{bytes_eq}
 use Rattle.std.proofs.lemmas.Slice.Eq.{bytes_eq-Decides}
 use Rattle.capnp_model.specs.Chains.{◌>>=◌, ◌provided◌}
 use Rattle.capnp_model.specs.Segments.{Segments, root}
-use Rattle.capnp_model.specs.Trees.{Tree, null, capability, structure, plain_list, pointer_list, struct_list, Trees, Elements, has_capability}
+use Rattle.capnp_model.specs.Trees.{Tree, plain_list, pointer_list, struct_list, Trees, Elements, has_capability}
 use Rattle.capnp_model.specs.Traversal.{tree_at}
 use Rattle.capnp_model.specs.Trimming.{trim}
 use Rattle.capnp_model.specs.Encoding.{canonical_words}
@@ -16,7 +16,7 @@ use Rattle.capnp_model.proofs.ByteWords.{bytes_length}
 use Rattle.capnp_model.proofs.ReadFits.{tree_at_fits}
 use Rattle.capnp_value.specs.Reads.{clean_at}
 use Rattle.capnp_value.proofs.Clean.{clean_is}
-use Rattle.capnp_model.specs.Schemas.{Ty, list, lists_of}
+use Rattle.capnp_model.specs.Schemas.{Ty, lists_of}
 use Rattle.capnp_model.specs.Accepted.{opens_as, is_good_segment}
 use Rattle.capnp_records.proofs.Stored.{is_list}
 

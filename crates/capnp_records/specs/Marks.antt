@@ -1,5 +1,5 @@
 -- Which bits and pointers are taken so far.
-use Rattle.std.specs.Prelude.{ℕ, ◌≡◌, ◌+◌, ◌<◌, ◌≤◌, max, Bool, true, false, not, ◌&&◌, ◌==◌, nat_lt, nat_le, List, get_or, ⊤, MatchBool}
+use Rattle.std.specs.Prelude.{ℕ, ◌≡◌, ◌+◌, ◌<◌, ◌≤◌, max, Bool, true, false, ◌&&◌, ◌==◌, nat_lt, nat_le, List, get_or}
 use Rattle.std.specs.List.{list_any}
 use Rattle.capnp_model.specs.Accepted.{Area, bit_area, pointer_area}
 use Rattle.capnp_records.specs.declared.marks.Marks.{Marks}

@@ -1,5 +1,5 @@
 -- Plain structs: no group, no union, no annotations, and fields that are slots of Void, Bool, numbers or Text, with defaults that are zero or absent.
-use Rattle.std.specs.Prelude.{ℕ, Bool, true, false, not, ◌&&◌, ◌==◌, Option, Some, None, is_some, if◌then◌else◌, List, [], ◌∷◌}
+use Rattle.std.specs.Prelude.{Bool, true, false, not, ◌&&◌, ◌==◌, Option, Some, None, is_some, List, [], ◌∷◌}
 use Rattle.std.specs.List.{list_all}
 use Rattle.capnp_model.specs.Schemas.{bool, int, uint, BaseType, Value, no_value, bits, Annotation, FieldKind, slot, group, Field, NodeKind, struct_node, enum_node, Node}
 

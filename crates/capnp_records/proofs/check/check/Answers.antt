@@ -1,4 +1,4 @@
-use Rattle.std.proofs.Common.{◌≡◌, map, sym, ◌∙◌, arith}
+use Rattle.std.proofs.Common.{map, sym, ◌∙◌, arith}
 use Rattle.capnp_records.specs.NodeViews.{node_of}
 use Rattle.capnp_records.proofs.Breaks.{rule_kept}
 use Rattle.capnp_records.proofs.check.check.Goals as goal

@@ -1,4 +1,4 @@
-use Rattle.std.proofs.Common.{◌≡◌, map, sym, ◌∙◌}
+use Rattle.std.proofs.Common.{map, sym, ◌∙◌}
 use Rattle.capnp_model.specs.Accepted.{is_kept_by}
 use Rattle.capnp_records.specs.NodeViews.{node_of}
 use Rattle.capnp_records.proofs.Breaks.{node_kept}

@@ -1,6 +1,5 @@
 -- the rest decides
-use Rattle.std.proofs.Common.{◌≡◌, ◌==◌, not, map, length}
-use Rattle.std.specs.List.{list_all, list_any}
+use Rattle.std.proofs.Common.{◌≡◌, map, length}
 use Rattle.capnp_model.specs.Accepted.{find_node}
 use Rattle.capnp_records.specs.NodeViews.{node_of}
 use Rattle.capnp_records.proofs.find.find_node.Given as goal

@@ -1,4 +1,4 @@
-use Rattle.std.proofs.Common.{◌≡◌, ◌==◌, ◌^◌, nat_lt, not, map, length, sym, ◌∙◌, rules}
+use Rattle.std.proofs.Common.{◌==◌, sym, ◌∙◌, rules}
 use Rattle.std.proofs.lemmas.Iterator.{YieldsList-from_slice}
 use Rattle.std.proofs.lemmas.Iterator.Search.{any_from_yields_List}
 use Rattle.capnp_records.proofs.ListTests.{list_any-map}

@@ -1,6 +1,5 @@
 -- the rest decides
-use Rattle.std.proofs.Common.{◌≡◌, ◌==◌, not, map, length}
-use Rattle.std.specs.List.{list_all, list_any}
+use Rattle.std.proofs.Common.{◌≡◌, map, length}
 use Rattle.capnp_model.specs.Accepted.{holder_of}
 use Rattle.capnp_records.specs.NodeViews.{node_of}
 use Rattle.capnp_records.proofs.groups.holder_of.Given as goal

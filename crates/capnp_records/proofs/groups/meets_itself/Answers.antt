@@ -1,10 +1,10 @@
-use Rattle.std.proofs.Common.{◌≡◌, ◌==◌, ◌-◌, ◌<◌, ◌≤◌, ℕ, Bool, true, false, List, [], Some, map, length, sym, ◌∙◌, ap, subst, arith}
+use Rattle.std.proofs.Common.{◌≡◌, ◌==◌, ◌-◌, ◌<◌, ℕ, Bool, true, false, List, [], Some, map, length, sym, ◌∙◌, ap, subst, arith}
 use Rattle.std.specs.List.{list_any, flat_map}
 use Rattle.std.proofs.lemmas.Bool.Decides.{nat_tests}
-use Rattle.capnp_model.specs.Accepted.{groups_used, meets_below}
+use Rattle.capnp_model.specs.Accepted.{meets_below}
 use Rattle.capnp_records.specs.NodeViews.{node_of}
 use Rattle.capnp_records.specs.Levels.{groups_below, PassSame}
-use Rattle.capnp_records.proofs.Below.{meets_in, from_node, met_here, one_down, no_more_below, at_the_end}
+use Rattle.capnp_records.proofs.Below.{meets_in, from_node, met_here, one_down, no_more_below}
 use Rattle.capnp_records.proofs.groups.meets_itself.Goals as goal
 
 pub loop-left-init : goal.loop-left-init

@@ -1,6 +1,6 @@
 -- the rest decides
-use Rattle.std.proofs.Common.{◌≡◌, ◌==◌, not, map, length}
-use Rattle.std.specs.List.{list_all, list_any}
+use Rattle.std.proofs.Common.{◌≡◌, not, map, length}
+use Rattle.std.specs.List.{list_all}
 use Rattle.capnp_model.specs.Accepted.{is_empty_name}
 use Rattle.capnp_records.proofs.names.are_named.Given as goal
 

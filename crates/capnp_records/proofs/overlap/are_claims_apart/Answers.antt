@@ -1,10 +1,10 @@
-use Rattle.std.proofs.Common.{◌≡◌, ℕ, Bool, true, false, ◌&&◌, ◌+◌, ◌++◌, ◌∷◌, [], not, List, map, take, drop, length, get_or, refl, sym, ◌∙◌, ap, subst}
+use Rattle.std.proofs.Common.{◌≡◌, ℕ, Bool, true, false, ◌&&◌, ◌+◌, ◌++◌, ◌∷◌, [], not, List, map, take, drop, sym, ◌∙◌, ap, subst}
 use Rattle.std.proofs.lemmas.List.{map_more}
 use Rattle.std.specs.List.{list_any}
 use Rattle.capnp_model.specs.Accepted.{Area as ModelArea}
 use Rattle.capnp_records.specs.declared.area.Area.{Area}
 use Rattle.capnp_records.specs.Storage.{areas_seen}
-use Rattle.capnp_records.specs.Claims.{claim_of, claims_are_apart}
+use Rattle.capnp_records.specs.Claims.{claim_of}
 use Rattle.capnp_records.specs.Marks.{AllowsAll, Refuses, Puts, most_mark, level_mark}
 use Rattle.capnp_records.proofs.Forward.{forward, forward_all, forward_step}
 use Rattle.capnp_records.proofs.Marked.{clash, IsMarked, apart_is_pairs, allowed, refused, marked_more, nothing_marked, wide_claim, wide_claims}

@@ -1,9 +1,6 @@
-use Rattle.std.proofs.Common.{◌≡◌, List, [], ◌∷◌, ◌++◌, map, take, length, get_or, sym, ◌∙◌, ap, subst, refl, append_assoc, arith}
+use Rattle.std.proofs.Common.{arith}
 use Rattle.std.proofs.lemmas.List.{map_more}
 use Rattle.std.proofs.lemmas.Grind.{flat_map-append, common_steps}
-use Rattle.capnp_model.specs.Accepted.{Area}
-use Rattle.capnp_records.specs.Storage.{areas_in, areas_seen}
-use Rattle.capnp_records.specs.Claims.{claim_of, areas_claimed}
 use Rattle.capnp_records.proofs.Overlaps.{areas_and_more}
 use Rattle.capnp_records.proofs.overlap.areas_in_claims.Goals as goal
 

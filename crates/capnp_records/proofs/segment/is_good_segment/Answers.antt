@@ -1,6 +1,4 @@
-use Rattle.std.proofs.Common.{◌≡◌, ◌/◌, ◌*◌, ◌^◌, nat_lt, true, false, ◌&&◌, List, [], ◌∷◌, length, Option, Some, None, option_map, sym, ◌∙◌, ap, arith}
-use Rattle.capnp_model.specs.Trees.{Tree}
-use Rattle.capnp_value.specs.declared.value.Value.{Value}
+use Rattle.std.proofs.Common.{◌≡◌, ◌*◌, ◌^◌, nat_lt, true, ◌&&◌, [], ◌∷◌, length, Some, None, option_map, sym, ◌∙◌, ap, arith}
 use Rattle.capnp_value.specs.Values.{tree_of_value}
 use Rattle.capnp_units.specs.Segments.{whole_words}
 use Rattle.capnp_records.specs.Segments.{wants}

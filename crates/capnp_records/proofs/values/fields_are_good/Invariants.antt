@@ -1,6 +1,6 @@
 -- the rest decides
-use Rattle.std.proofs.Common.{◌≡◌, ◌==◌, ◌&&◌, ◌||◌, Some, not, true, map, length}
-use Rattle.std.specs.List.{list_all, list_any, flat_map}
+use Rattle.std.proofs.Common.{◌≡◌, Some, true, map, length}
+use Rattle.std.specs.List.{list_all, flat_map}
 use Rattle.capnp_model.specs.Accepted.{is_good_value}
 use Rattle.capnp_records.specs.NodeViews.{field_of}
 use Rattle.capnp_records.proofs.values.fields_are_good.Given as goal

@@ -1,4 +1,4 @@
-use Rattle.std.proofs.Common.{◌≡◌, ◌&&◌, ◌==◌, ap}
+use Rattle.std.proofs.Common.{◌&&◌, ◌==◌, ap}
 use Rattle.capnp_model.specs.Schemas.{Node}
 use Rattle.capnp_model.specs.Accepted.{is_struct_node}
 use Rattle.capnp_records.specs.NodeViews.{node_of, kind_of}
