@@ -4,31 +4,14 @@ use Rattle.std.specs.declared.option.Option.{Option}
 use Rattle.std.specs.Io.KnownBytes.{Keeps, Appends}
 use Rattle.capnp_stream.specs.Counting.{Rose}
 use Rattle.capnp_stream.specs.Streams.{AppendsPart, RoomFalls}
-
--- What is seen of a source: the bytes that are left, and how often its device has failed.
-pub record SourceSeen : Type 0 where
-  pub remaining : Option (List ℕ)
-  pub failures : ℕ
-
--- What is seen of a sink: the bytes that it holds, how often its device has failed, and its room.
-pub record SinkSeen : Type 0 where
-  pub contents : Option (List ℕ)
-  pub failures : ℕ
-  pub room : Option ℕ
+pub use Rattle.capnp_stream.specs.Reading.{SourceSeen, source_seen}
+pub use Rattle.capnp_stream.specs.Writes.{SinkSeen, sink_seen}
 
 -- What is seen of the source, the output and the log.
 pub record Streams : Type 0 where
   pub source : SourceSeen
   pub out : SinkSeen
   pub log : SinkSeen
-
--- What is seen of a source, by its own words.
-abbrev pub source_seen : {S : Type 0} → (S → Option (List ℕ)) → (S → ℕ) → S → SourceSeen
-source_seen remaining failures s = record { remaining = remaining s; failures = failures s }
-
--- What is seen of a sink, by its own words.
-abbrev pub sink_seen : {S : Type 0} → (S → Option (List ℕ)) → (S → ℕ) → (S → Option ℕ) → S → SinkSeen
-sink_seen contents failures room s = record { contents = contents s; failures = failures s; room = room s }
 
 -- What is seen of the three.
 abbrev pub streams : SourceSeen → SinkSeen → SinkSeen → Streams
