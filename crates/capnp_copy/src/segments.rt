@@ -89,6 +89,7 @@ impl<A: Allocator> BuilderArenaImpl<A> {
     pub fn allocate_segment(&mut self, minimum: u32) -> Result<()>
         ensures words { OnOk result (map (λ h. words_used h.used (A.Segment.bytes h.segment)) self.new.segments.items ≡ with_zeros (map (λ h. words_used h.used (A.Segment.bytes h.segment)) self.old.segments.items) (length self.old.segments.items) 0) }
         ensures refused { OnErr result (self.new.segments.items ≡ self.old.segments.items) }
+        ensures kind { IfErr result (λ e. e.kind ≢ SizeOverflow) }
         ensures place { A.place self.new.allocator ≡ A.place self.old.allocator }
         ensures loans { flat_map (λ h. A.Segment.loans h.segment) self.new.segments.items ++ A.loans self.new.allocator ≡ flat_map (λ h. A.Segment.loans h.segment) self.old.segments.items ++ A.loans self.old.allocator }
     {

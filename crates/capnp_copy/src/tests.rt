@@ -162,3 +162,34 @@ fn an_allocator_refuses(rt: HostRuntime) -> std::result::Result<(), Fail> {
     assert_eq!(rt; allocator.left, 0);
     Ok(())
 }
+
+/// Where words were allocated in a segment of 300 words that is all the allocator has: in it, anywhere, behind its end, and in a segment that isn't there.
+#[test]
+fn room_in_a_segment_is_used(rt: HostRuntime) -> std::result::Result<(), Fail> {
+    let allocator = Exact {
+        alloc: rt.alloc(),
+        left: 1,
+    };
+    let mut arena = BuilderArenaImpl::new(rt.alloc(), allocator);
+    let added = arena.allocate_segment(300);
+    let first = arena.allocate(0, 200);
+    let second = arena.allocate_anywhere(99);
+    let third = arena.allocate(0, 1);
+    let full = arena.allocate(0, 1);
+    let elsewhere = arena.allocate(1, 1);
+    let refused = arena.allocate_anywhere(1);
+    let words = arena.size_in_words();
+    let segments = arena.len();
+    let allocator = arena.into_allocator();
+    added?;
+    assert_eq!(rt; first, Some(0));
+    assert_eq!(rt; second?, (0, 200));
+    assert_eq!(rt; third, Some(299));
+    assert_eq!(rt; full, None);
+    assert_eq!(rt; elsewhere, None);
+    assert_eq!(rt; refused.err(), Some(Error::from(ErrorKind::OutOfMemory)));
+    assert_eq!(rt; words, 300);
+    assert_eq!(rt; segments, 1);
+    assert_eq!(rt; allocator.left, 0);
+    Ok(())
+}
