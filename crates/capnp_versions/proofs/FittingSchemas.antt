@@ -16,7 +16,7 @@ use Rattle.capnp_model.specs.Fits.{Fits}
 use Rattle.capnp_model.proofs.KeptRules.{and_left, and_right, found_passes}
 use Rattle.capnp_model.proofs.FineShapes.{IsGoodMember, IsGood, AreGood, IsGoodBody}
 use Rattle.capnp_model.proofs.SoundRules.{RulesKept, rules_kept, good_shape}
-use Rattle.capnp_versions.specs.Fitting.{NumbersFit, HasShortLists, IsSpelledVerb, HasSmallSections, HaveSmallSections}
+use Rattle.capnp_versions.specs.Fitting.{NumbersFit, HasShortLists, IsSpelledVerb, HasSmallSections, HaveSmallSections, AreSpelled}
 use Rattle.capnp_versions.proofs.SameContents.{shape_words}
 use Rattle.capnp_versions.proofs.SameShapes.{UnionWithin}
 use Rattle.capnp_versions.proofs.Holders.{PlacesKept, places_kept, uses, group_fits}
@@ -218,11 +218,12 @@ module _ (nodes : List Node) (accepted : IsAccepted nodes) (small : HaveSmallSec
       by (shown how r) f = h
       by (done r) f = f tt
 
-  all-edited-numbers : (id : ℕ) (calls : List Call) → AllByRecursion (λ c. IsSpelledVerb c.verb) calls → (t : Tree) → NumbersFit t → NumbersFit (edits (schema_of nodes) id calls t)
+  pub all-edited-numbers : (id : ℕ) (calls : List Call) → AllByRecursion (λ c. IsSpelledVerb c.verb) calls → (t : Tree) → NumbersFit t → NumbersFit (edits (schema_of nodes) id calls t)
   unfolding edits
   all-edited-numbers id [] spelled t h = h
   all-edited-numbers id (c ∷ cs) spelled t h = all-edited-numbers id cs spelled.1 (edit (schema_of nodes) id c t) (edited-numbers id c spelled.0 t h)
 
 -- THE LAW: edited values fit, where no list gets too long.
-pub edits-fit : (nodes : List Node) → IsAccepted nodes → HaveSmallSections nodes → (id : ℕ) (calls : List Call) → AllByRecursion (λ c. IsSpelledVerb c.verb) calls → (t : Tree) → Fits t → HasShortLists (edits (schema_of nodes) id calls t) → Fits (edits (schema_of nodes) id calls t)
-edits-fit nodes accepted small id calls spelled t h short = fits-by-parts (edits (schema_of nodes) id calls t) (all-edited-numbers nodes accepted small id calls spelled t (numbers-of t h)) short
+pub edits-fit : (nodes : List Node) (id : ℕ) (calls : List Call) (t : Tree) → AreSpelled nodes calls → Fits t → HasShortLists (edits (schema_of nodes) id calls t) → Fits (edits (schema_of nodes) id calls t)
+edits-fit nodes id calls t spelled h short =
+    fits-by-parts (edits (schema_of nodes) id calls t) (all-edited-numbers nodes spelled.accepted spelled.small id calls spelled.verbs t (numbers-of t h)) short

@@ -11,7 +11,9 @@ pub mod AlikePaths
 pub mod Holders
 pub mod Within
 pub mod SelfFollows
+pub mod Structs
 pub mod TrimmedEdits
+pub mod TrimmedCalls
 pub mod Partners
 pub mod FittingParts
 pub mod FittingContents
@@ -19,6 +21,8 @@ pub mod FittingCells
 pub mod FittingLists
 pub mod FittingEdits
 pub mod FittingSchemas
+pub mod FittingTrims
+pub mod WrittenValues
 pub mod OwnOutput
 pub mod KeptFollows
 pub mod ReplacedViews
@@ -29,3 +33,4 @@ pub mod OlderSteps
 pub mod WriteOnly
 pub mod Versions
 pub mod TrimmedRelays
+pub mod SizeExamples

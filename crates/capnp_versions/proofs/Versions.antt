@@ -23,6 +23,7 @@ use Rattle.capnp_model.proofs.TrimmedKinds.{in_kind-trim}
 use Rattle.capnp_model.proofs.EditLaws.{next_start, last_start, record_after_calls, replies_to_calls}
 use Rattle.capnp_versions.specs.Whole.{IsWhole, IsWholeVerb}
 use Rattle.capnp_versions.specs.SameReplies.{IsWrite, SameUnlessGet, SameReplies}
+use Rattle.capnp_versions.specs.TwoVersions.{TwoVersions, older, newer, newer_record, older_view, CanEdit, CanStep, CanRun}
 use Rattle.capnp_versions.proofs.Alike.{Alike}
 use Rattle.capnp_versions.proofs.SameContents.{shape_words, alike-self}
 use Rattle.capnp_versions.proofs.Follows.{NameFollows, FieldFollows}
@@ -191,21 +192,38 @@ module _ (nodes nodes' : List Node) (accepted : IsAccepted nodes) (accepted' : I
       let rest = are-after quoted cs admitted.1 whole.1 (edit o older c t) (edit n newer c u) (versions-alike c admitted.0 whole.0 t u a x start.opens same) (open-edit o older c t x) (next_start nodes' newer c cs u start) in
       record { alike = rest.alike; replied = (replies-same c admitted.0 quoted t u same, rest.replied) }
 
-  -- THE LAWS
-  pub edits-across : (c : Call) → IsAdmitted o n older newer c → IsWholeVerb c.verb → (t : Tree) → IsWhole t → IsOpen t → trim (edit o older c t) ≡ trim (edit n newer c t)
+  -- ---- the laws
+  edits-across : (c : Call) → IsAdmitted o n older newer c → IsWholeVerb c.verb → (t : Tree) → IsWhole t → IsOpen t → trim (edit o older c t) ≡ trim (edit n newer c t)
   edits-across c admitted whole t h x = (versions-alike c admitted whole t t (alike-self t h) x x refl).trims
 
-  pub calls-across : (calls : List Call) → AllByRecursion (λ c. IsAdmitted o n older newer c) calls → AllByRecursion (λ c. IsWholeVerb c.verb) calls → (t : Tree) → IsWhole t → IsStart nodes' newer calls t → trim (edits o older calls t) ≡ trim (edits n newer calls t)
+  calls-across : (calls : List Call) → AllByRecursion (λ c. IsAdmitted o n older newer c) calls → AllByRecursion (λ c. IsWholeVerb c.verb) calls → (t : Tree) → IsWhole t → IsStart nodes' newer calls t → trim (edits o older calls t) ≡ trim (edits n newer calls t)
   calls-across calls admitted whole t h start = (are-after (λ bs. bs) calls admitted whole t t (alike-self t h) start.opens start).alike.trims
 
-  pub records-across : (calls : List Call) → AllByRecursion (λ c. IsAdmitted o n older newer c) calls → AllByRecursion (λ c. IsWholeVerb c.verb) calls → (t : Tree) → IsWhole t → IsStart nodes' newer calls t
+  records-across : (calls : List Call) → AllByRecursion (λ c. IsAdmitted o n older newer c) calls → AllByRecursion (λ c. IsWholeVerb c.verb) calls → (t : Tree) → IsWhole t → IsStart nodes' newer calls t
       → record_of n newer (trim (edits o older calls t)) ≡ records_after n newer calls (record_of n newer t)
   records-across calls admitted whole t h start =
       let last = last_start nodes' newer calls t start in
       let both = same_records (edits o older calls t) (edits n newer calls t) (calls-across calls admitted whole t h start) last.kinds.of_tree in
       trimmed_record n newer (edits o older calls t) both.0 ∙ both.1 ∙ record_after_calls nodes' newer calls t start
 
-  pub replies-across : (quoted : List ℕ → List ℕ) (calls : List Call) → AllByRecursion (λ c. IsAdmitted o n older newer c) calls → AllByRecursion (λ c. IsWholeVerb c.verb) calls → (t : Tree) → IsWhole t → IsStart nodes' newer calls t
+  replies-across : (quoted : List ℕ → List ℕ) (calls : List Call) → AllByRecursion (λ c. IsAdmitted o n older newer c) calls → AllByRecursion (λ c. IsWholeVerb c.verb) calls → (t : Tree) → IsWhole t → IsStart nodes' newer calls t
       → SameReplies calls (replies o quoted older calls t) (record_replies n quoted newer calls (record_of n newer t))
   replies-across quoted calls admitted whole t h start =
       subst (SameReplies calls (replies o quoted older calls t)) (replies_to_calls nodes' newer quoted calls t start) (are-after quoted calls admitted whole t t (alike-self t h) start.opens start).replied
+
+-- THE LAWS
+pub steps-across-versions : (v : TwoVersions) (c : Call) (t : Tree) → CanStep v c → step (older v) v.older_root c (older_view v (newer_record v t)) ≡ outcome_map (older_view v) (step (newer v) v.newer_root c (newer_record v t))
+steps-across-versions v c t h = older-step v.older_nodes v.newer_nodes h.versions.older_accepted h.versions.newer_accepted v.older_root v.newer_root h.versions.compatible c h.admitted h.writes t
+
+pub edits-across-versions : (v : TwoVersions) (c : Call) (t : Tree) → CanEdit v c t → trim (edit (older v) v.older_root c t) ≡ trim (edit (newer v) v.newer_root c t)
+edits-across-versions v c t h = edits-across v.older_nodes v.newer_nodes h.versions.older_accepted h.versions.newer_accepted v.older_root v.newer_root h.versions.compatible c h.admitted h.whole_verb t h.whole h.opens
+
+pub values-across-versions : (v : TwoVersions) (calls : List Call) (t : Tree) → CanRun v calls t → trim (edits (older v) v.older_root calls t) ≡ trim (edits (newer v) v.newer_root calls t)
+values-across-versions v calls t h = calls-across v.older_nodes v.newer_nodes h.versions.older_accepted h.versions.newer_accepted v.older_root v.newer_root h.versions.compatible calls h.admitted h.whole_verbs t h.whole h.start
+
+pub records-across-versions : (v : TwoVersions) (calls : List Call) (t : Tree) → CanRun v calls t → newer_record v (trim (edits (older v) v.older_root calls t)) ≡ records_after (newer v) v.newer_root calls (newer_record v t)
+records-across-versions v calls t h = records-across v.older_nodes v.newer_nodes h.versions.older_accepted h.versions.newer_accepted v.older_root v.newer_root h.versions.compatible calls h.admitted h.whole_verbs t h.whole h.start
+
+pub replies-across-versions : (v : TwoVersions) (calls : List Call) (t : Tree) (quoted : List ℕ → List ℕ) → CanRun v calls t
+    → SameReplies calls (replies (older v) quoted v.older_root calls t) (record_replies (newer v) quoted v.newer_root calls (newer_record v t))
+replies-across-versions v calls t quoted h = replies-across v.older_nodes v.newer_nodes h.versions.older_accepted h.versions.newer_accepted v.older_root v.newer_root h.versions.compatible quoted calls h.admitted h.whole_verbs t h.whole h.start

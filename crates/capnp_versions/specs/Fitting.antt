@@ -3,7 +3,8 @@ use Rattle.std.specs.Prelude.{ℕ, ◌+◌, ◌*◌, ◌^◌, ◌≡◌, ◌<◌
 use Rattle.std.specs.List.{AllByRecursion}
 use Rattle.capnp_model.specs.Trees.{Tree, null, capability, structure, plain_list, pointer_list, struct_list, Trees, none, ◌▸◌, Elements, no_elements, element, size_bits, tree_count, element_count}
 use Rattle.capnp_model.specs.Schemas.{NodeKind, struct_node, enum_node, Node}
-use Rattle.capnp_model.specs.Calls.{Verb, set_to, enumerant, message}
+use Rattle.capnp_model.specs.Accepted.{IsAccepted}
+use Rattle.capnp_model.specs.Calls.{Verb, set_to, enumerant, message, Call}
 
 abbrev mutual
   -- Every number of a value is within the bits that spell it, and every section within its words.
@@ -58,3 +59,9 @@ HasSmallSections (enum_node es) = Unit {0}
 -- All of the nodes have.
 abbrev pub HaveSmallSections : List Node → Type 0
 HaveSmallSections nodes = AllByRecursion (λ n. HasSmallSections n.kind) nodes
+
+-- An accepted schema with section sizes of sixteen bits, and calls as calls hold them.
+pub record AreSpelled (nodes : List Node) (calls : List Call) : Type 0 where
+  pub accepted : IsAccepted nodes
+  pub small : HaveSmallSections nodes
+  pub verbs : AllByRecursion (λ c. IsSpelledVerb c.verb) calls

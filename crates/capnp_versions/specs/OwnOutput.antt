@@ -15,9 +15,9 @@ use Rattle.capnp_versions.specs.Fitting.{HasShortLists}
 abbrev pub edited_value : Work → Tree → Tree
 edited_value w t = edits w.schema w.root w.calls (opened_root w.schema w.root t)
 
--- The value that the calls make of a message has no list that is too long, and its words are few enough for a segment.
+-- The value that is written for a message has no list that is too long, and its words are few enough for a segment.
 abbrev pub SizesSuffice : Work → Segments → Type 0
-SizesSuffice w s = (t : Tree) → value_within w.limits s ≡ Some t → HasShortLists (edited_value w t) × (length (canonical_words (trim (edited_value w t))) ≤ 2 ^ 29)
+SizesSuffice w s = (t : Tree) → value_within w.limits s ≡ Some t → HasShortLists (trim (edited_value w t)) × (length (canonical_words (trim (edited_value w t))) ≤ 2 ^ 29)
 
 -- A message is written.
 abbrev pub IsWritten : Answer → Type 0

@@ -6,26 +6,27 @@ ghost use Rattle.capnp_model.specs.Trees.{Tree};
 ghost use Rattle.capnp_model.specs.Fits.{Fits};
 ghost use Rattle.capnp_model.specs.Messages.{Reader, Writer};
 ghost use Rattle.capnp_model.specs.Schemas.{Node};
-ghost use Rattle.capnp_model.specs.Accepted.{IsAccepted, schema_of};
+ghost use Rattle.capnp_model.specs.Accepted.{schema_of};
 ghost use Rattle.capnp_model.specs.Calls.{Call};
 ghost use Rattle.capnp_model.specs.Answers.{Limits, edits};
 ghost use Rattle.capnp_model.specs.Runs.{End, finished};
 ghost use Rattle.capnp_model.specs.SameRuns.{IsForm, Relays};
-ghost use Rattle.capnp_versions.specs.Fitting.{HasShortLists, IsSpelledVerb, HaveSmallSections};
+ghost use Rattle.capnp_versions.specs.Fitting.{HasShortLists, AreSpelled};
 ghost use Rattle.capnp_versions.specs.OwnOutput.{SizesSuffice, IsWritten, relay_of};
 
 /// Calls in turn leave a value that fits its spelling, where no list in it gets too long.
 pub fn edited_values_that_fit()
-    ensures { (nodes : List Node) → IsAccepted nodes → HaveSmallSections nodes → (id : ℕ) (calls : List Call)
-        → AllByRecursion (λ c. IsSpelledVerb c.verb) calls → (t : Tree) → Fits t
+    ensures { (nodes : List Node) (id : ℕ) (calls : List Call) (t : Tree)
+        → AreSpelled nodes calls → Fits t
         → HasShortLists (edits (schema_of nodes) id calls t) → Fits (edits (schema_of nodes) id calls t) }
 {}
 
 /// A relay's own output, relayed again in its form without calls, gives the same bytes, where sizes sufficed and the second run writes every message.
 pub fn own_output_again()
-    ensures { (nodes : List Node) → IsAccepted nodes → HaveSmallSections nodes → (quoted : List ℕ → List ℕ) (id : ℕ) (calls : List Call)
-        (limits again : Limits) → AllByRecursion (λ c. IsSpelledVerb c.verb) calls
-        → (read other : Reader) (write : Writer) (bytes output log others lines : List ℕ) (end : End) → IsForm other write
+    ensures { (nodes : List Node) (quoted : List ℕ → List ℕ) (id : ℕ) (calls : List Call)
+        (limits again : Limits) (read other : Reader) (write : Writer)
+        (bytes output log others lines : List ℕ) (end : End)
+        → AreSpelled nodes calls → IsForm other write
         → (x : Relays (relay_of nodes quoted id calls limits) read write bytes output log end)
         → AllByRecursion (SizesSuffice (relay_of nodes quoted id calls limits)) x.messages
         → (y : Relays (relay_of nodes quoted id [] again) other write output others lines finished)
