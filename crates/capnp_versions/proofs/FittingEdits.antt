@@ -14,6 +14,7 @@ use Rattle.capnp_model.proofs.Numbers.{wider}
 use Rattle.capnp_model.proofs.Stripping.{count-resized}
 use Rattle.capnp_versions.proofs.WroteLists.{at-plain-element, at-child, at-pointer-element, at-element, at-padded-element}
 use Rattle.capnp_versions.proofs.Wrote.{Wrote, wrote-map, field-is-write, element-is-write, WritesField, WritesElement, WritesName, FoundName, found_name, find_name, WritesStruct, into_struct, WritesList, into_list, no-name, no-index, through-pointer, reads-padded, reads-nothing}
+use Rattle.capnp_versions.proofs.OpenedValues.{null_default}
 use Rattle.capnp_versions.proofs.Within.{AllNarrow}
 use Rattle.capnp_versions.specs.Fitting.{NumbersFit, IsSpelledVerb}
 use Rattle.capnp_versions.proofs.FittingParts.{all-padded, child-fits, count-padded, UnionFits, MemberFits, ShapeFits, FieldsFit, BodyFits, words_of_shape, pointers_of_shape, StructFits, SchemaFits, shape-wider}
@@ -38,14 +39,6 @@ opened-fits ty d (structure w n ts) h k = k
 opened-fits ty d (plain_list z n x) h k = k
 opened-fits ty d (pointer_list ts) h k = k
 opened-fits ty d (struct_list w p es) h k = k
-
-opened-null : (ty : Ty) (t : Tree) → opened_tree (list ty) null t ≡ t
-opened-null ty null = refl
-opened-null ty (capability i) = refl
-opened-null ty (structure w n ts) = refl
-opened-null ty (plain_list z n x) = refl
-opened-null ty (pointer_list ts) = refl
-opened-null ty (struct_list w p es) = refl
 
 module _ (s : Schema) (fits : SchemaFits s) (verb : Verb) (spelled : IsSpelledVerb verb) where
   abbrev FieldKeeps : List Step → Type 0
@@ -183,7 +176,7 @@ module _ (s : Schema) (fits : SchemaFits s) (verb : Verb) (spelled : IsSpelledVe
         put-child-keeps w q i _ h.0 (value-fits (index k) ty (default_or_null d) (child c.kids i) h.1 h.2 (child-fits c.kids i good.2) (active-pointer (index k) i ty d write.active (write.kids i ty) (child c.kids i) (write.reads i ty) write.wrote)) c good
 
     list-element : (i : ℕ) (ty : Ty) (t : Tree) → AllNarrow ty → NumbersFit t → Wrote (through_value s (index i) (step_field s path verb) (step_element s path verb) (list ty) (opened s (list ty) null (read s t (list ty)))) → NumbersFit (edit_value s (index i) (edit_field s path verb) (edit_element s path verb) (list ty) t)
-    list-element i ty t narrow h write = subst (λ z. NumbersFit (edit_value s (index i) (edit_field s path verb) (edit_element s path verb) (list ty) z)) (opened-null ty t) (value-fits (index i) (list ty) null t narrow tt h write)
+    list-element i ty t narrow h write = subst (λ z. NumbersFit (edit_value s (index i) (edit_field s path verb) (edit_element s path verb) (list ty) z)) (null_default (list ty) t) (value-fits (index i) (list ty) null t narrow tt h write)
 
     named-element : (l : List ℕ) (g : Shape) (w q : ℕ) (c : Cell) → StructFits g → words_of_shape g ≤ w → pointers_of_shape g ≤ q → WritesName s verb path l g c → Good w q c → Good w q (elim g as (λ x. Cell) [ shape nid x y u fs ↦ edit_named (edit_field s path verb) l u fs c ])
     named-element l (shape nid x y u fs) w q c g a b write good = name-keeps l nid x y w q u fs c (shape-wider x y w q (shape nid x y u fs) a b g.inside) write good

@@ -12,6 +12,8 @@ use Rattle.capnp_model.proofs.Stripping.{count-resized}
 use Rattle.capnp_model.proofs.KeptRules.{and_left, and_right}
 use Rattle.capnp_versions.proofs.SameLists.{AtElement}
 use Rattle.capnp_versions.proofs.WroteLists.{AtChild}
+use Rattle.capnp_versions.proofs.Comparisons.{le_is}
+use Rattle.capnp_versions.proofs.RelatedTypes.{a-word}
 use Rattle.capnp_versions.proofs.Within.{AllNarrow}
 use Rattle.capnp_versions.specs.Fitting.{NumbersFit, AllNumbersFit, ElementNumbersFit}
 use Rattle.capnp_versions.proofs.FittingParts.{all-padded, child-fits, count-padded, StructFits}
@@ -97,22 +99,6 @@ no-bits w = by (w == 1) (w == 8) (w == 16) (w == 32)
     by false false false true h = absurd (cc h)
     by false false false false h = absurd (cc h)
 
-pub nat_le_is : (a b : ℕ) → nat_le a b ≡ true → a ≤ b
-nat_le_is a b h = grind arith
-
-pub a-word : (v w p : ℕ) → (not (size_of_width v == 1) && have_room (64 * w) p (size_of_width v)) ≡ true → 1 ≤ w
-a-word v w p = by (v == 1) (v == 8) (v == 16) (v == 32)
-  where
-    some : (bits : ℕ) → 1 ≤ bits → nat_le bits (64 * w) ≡ true → 1 ≤ w
-    some bits l h = let g = nat_le_is bits (64 * w) h in omega arith
-
-    by : (a b c d : Bool) → (not ((if a then 1 else (if b then 2 else (if c then 3 else (if d then 4 else 5)))) == 1) && have_room (64 * w) p (if a then 1 else (if b then 2 else (if c then 3 else (if d then 4 else 5))))) ≡ true → 1 ≤ w
-    by true b c d h = absurd (cc h)
-    by false true c d h = some 8 (omega arith) (and_left (nat_le 8 (64 * w)) (nat_le 0 p) h)
-    by false false true d h = some 16 (omega arith) (and_left (nat_le 16 (64 * w)) (nat_le 0 p) h)
-    by false false false true h = some 32 (omega arith) (and_left (nat_le 32 (64 * w)) (nat_le 0 p) h)
-    by false false false false h = some 64 (omega arith) (and_left (nat_le 64 (64 * w)) (nat_le 0 p) h)
-
 abbrev pub NoStruct : Ty → Type 0
 NoStruct (struct id) = ⊥
 NoStruct ty = Unit {0}
@@ -130,9 +116,9 @@ pointer-room s ts (list ty) n h = omega arith
 pub struct-room : (s : Schema) (w p : ℕ) (es : Elements) (ty : Ty) → NoStruct ty → AllNarrow ty → is_list_of (struct_list w p es) ty ≡ true → Room s w p ty
 struct-room s w p es void n x h = tt
 struct-room s w p es (plain v) n x h = let g = a-word (width v) w p h in let l = x in omega arith
-struct-room s w p es text n x h = nat_le_is 1 p (and_right (nat_le 0 (64 * w)) (nat_le 1 p) h)
-struct-room s w p es blob n x h = nat_le_is 1 p (and_right (nat_le 0 (64 * w)) (nat_le 1 p) h)
-struct-room s w p es untyped n x h = nat_le_is 1 p (and_right (nat_le 0 (64 * w)) (nat_le 1 p) h)
-struct-room s w p es interface n x h = nat_le_is 1 p (and_right (nat_le 0 (64 * w)) (nat_le 1 p) h)
+struct-room s w p es text n x h = le_is 1 p (and_right (nat_le 0 (64 * w)) (nat_le 1 p) h)
+struct-room s w p es blob n x h = le_is 1 p (and_right (nat_le 0 (64 * w)) (nat_le 1 p) h)
+struct-room s w p es untyped n x h = le_is 1 p (and_right (nat_le 0 (64 * w)) (nat_le 1 p) h)
+struct-room s w p es interface n x h = le_is 1 p (and_right (nat_le 0 (64 * w)) (nat_le 1 p) h)
 struct-room s w p es (struct id) n x h = absurd n
-struct-room s w p es (list ty) n x h = nat_le_is 1 p (and_right (nat_le 0 (64 * w)) (nat_le 1 p) h)
+struct-room s w p es (list ty) n x h = le_is 1 p (and_right (nat_le 0 (64 * w)) (nat_le 1 p) h)

@@ -17,6 +17,7 @@ use Rattle.capnp_model.proofs.KeptRules.{and_left, and_right, found_passes}
 use Rattle.capnp_model.proofs.FineShapes.{IsGoodMember, IsGood, AreGood, IsGoodBody}
 use Rattle.capnp_model.proofs.SoundRules.{RulesKept, rules_kept, good_shape}
 use Rattle.capnp_versions.specs.Fitting.{NumbersFit, HasShortLists, IsSpelledVerb, HasSmallSections, HaveSmallSections, AreSpelled}
+use Rattle.capnp_versions.proofs.Comparisons.{lt_is}
 use Rattle.capnp_versions.proofs.SameContents.{shape_words}
 use Rattle.capnp_versions.proofs.SameShapes.{UnionWithin}
 use Rattle.capnp_versions.proofs.Holders.{PlacesKept, places_kept, uses, group_fits}
@@ -40,9 +41,6 @@ abbrev mutual
   PointerWithin room (plain_slot p at d) = Unit {0}
   PointerWithin room (pointer_slot i ty d) = i < room
   PointerWithin room (group_slot g) = PointersWithin room g
-
-lt_is : (a b : ℕ) → nat_lt a b ≡ true → a < b
-lt_is a b x = grind arith
 
 slot_pointer : (s : StructNode) (room offset : ℕ) (ty : Ty) (d : Option Value) → s.pointers ≤ room → is_inside s offset ty ≡ true → PointerWithin room (slot_body offset ty d)
 slot_pointer s room offset void d le h = tt

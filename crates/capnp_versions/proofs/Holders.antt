@@ -5,6 +5,7 @@ use Rattle.std.proofs.lemmas.List.Recursion.{is_count_by}
 use Rattle.capnp_model.specs.Schemas.{Node}
 use Rattle.capnp_model.specs.Accepted.{find_node, fields_of_kind, groups_used, names_a, is_group_node, names_its_sort, types_in, has_good_ids, uses_of, holder_of, sizes_of, fits_in, meets_below, is_good_group, has_places, on_struct, default_reads, IsAccepted}
 use Rattle.capnp_model.proofs.KeptRules.{and_left, and_right, and_three, behind, no_break, found_passes}
+use Rattle.capnp_versions.proofs.Comparisons.{le_is, same_number}
 
 -- what each node keeps
 pub record PlacesKept (nodes : List Node) : Type 0 where
@@ -130,9 +131,3 @@ group_fits nodes r ids id h g n e k f =
     let held : holder_of nodes n.id ≡ Some h = ap (holder_of nodes) same ∙ holder nodes id h g e k counts in
     let fits : fits_in n (Some h) ≡ true = ap (fits_in n) (sym held) ∙ three.2 in
     (le_is (sizes_of n).0 (sizes_of h).0 (and_left (nat_le (sizes_of n).0 (sizes_of h).0) (nat_le (sizes_of n).1 (sizes_of h).1) fits), le_is (sizes_of n).1 (sizes_of h).1 (and_right (nat_le (sizes_of n).0 (sizes_of h).0) (nat_le (sizes_of n).1 (sizes_of h).1) fits))
-  where
-    le_is : (a b : ℕ) → nat_le a b ≡ true → a ≤ b
-    le_is a b x = grind arith
-
-    same_number : (a b : ℕ) → (a == b) ≡ true → a ≡ b
-    same_number a b x = grind arith

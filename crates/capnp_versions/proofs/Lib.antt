@@ -1,3 +1,4 @@
+pub mod Comparisons
 pub mod WholeValues
 pub mod Alike
 pub mod SameLists
@@ -6,6 +7,8 @@ pub mod SameContents
 pub mod Wrote
 pub mod WroteLists
 pub mod Follows
+pub mod RelatedTypes
+pub mod OpenedValues
 pub mod AlikeLists
 pub mod AlikePaths
 pub mod Holders
@@ -29,6 +32,7 @@ pub mod ReplacedViews
 pub mod OlderContents
 pub mod KeptViews
 pub mod GroupViews
+pub mod SeenValues
 pub mod OlderSteps
 pub mod WriteOnly
 pub mod Versions

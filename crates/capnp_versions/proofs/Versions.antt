@@ -20,7 +20,7 @@ use Rattle.capnp_model.specs.Answers.{reply_of, replies, edits}
 use Rattle.capnp_model.proofs.KeptShapes.{pair_is_kept, older_record}
 use Rattle.capnp_model.proofs.TrimmedAnswers.{trimmed_record}
 use Rattle.capnp_model.proofs.TrimmedKinds.{in_kind-trim}
-use Rattle.capnp_model.proofs.EditLaws.{next_start, last_start, record_after_calls, replies_to_calls}
+use Rattle.capnp_model.proofs.EditLaws.{edit_open, next_start, last_start, record_after_calls, replies_to_calls}
 use Rattle.capnp_versions.specs.Whole.{IsWhole, IsWholeVerb}
 use Rattle.capnp_versions.specs.SameReplies.{IsWrite, SameUnlessGet, SameReplies}
 use Rattle.capnp_versions.specs.TwoVersions.{TwoVersions, older, newer, newer_record, older_view, CanEdit, CanStep, CanRun}
@@ -30,29 +30,9 @@ use Rattle.capnp_versions.proofs.Follows.{NameFollows, FieldFollows}
 use Rattle.capnp_versions.proofs.Within.{accepted-within}
 use Rattle.capnp_versions.proofs.TrimmedEdits.{accepted-good, written-alike, left}
 use Rattle.capnp_versions.proofs.KeptFollows.{words_kept, root-kept}
-use Rattle.capnp_versions.proofs.OlderSteps.{kids_of, nothing_seen, child_seen, root-view}
+use Rattle.capnp_versions.proofs.SeenValues.{kids_of, nothing_seen, child_seen}
+use Rattle.capnp_versions.proofs.OlderSteps.{root-view}
 use Rattle.capnp_versions.proofs.WriteOnly.{Sees, not-seen}
-
--- ---- structs stay structs
-
-open_written : (s : Schema) (g : Shape) (path : List Step) (verb : Verb) (t : Tree) → IsOpen t → IsOpen (write_path s g path verb t)
-open_written s g [] verb t h = h
-open_written s g (index k ∷ path) verb t h = h
-open_written s (shape nid w p u fs) (name l ∷ path) verb null h = tt
-open_written s (shape nid w p u fs) (name l ∷ path) verb (structure x m ts) h = tt
-open_written s g (name l ∷ path) verb (capability i) h = absurd h
-open_written s g (name l ∷ path) verb (plain_list z m x) h = absurd h
-open_written s g (name l ∷ path) verb (pointer_list ts) h = absurd h
-open_written s g (name l ∷ path) verb (struct_list w p es) h = absurd h
-
-pub open-edit : (s : Schema) (id : ℕ) (c : Call) (t : Tree) → IsOpen t → IsOpen (edit s id c t)
-unfolding edit
-open-edit s id c t h = by (step s id c (record_of s id t))
-  where
-    by : (x : Outcome Record) → IsOpen (if_done x (write_path s (s.shape_of id) c.path c.verb t) t)
-    by (refused k) = h
-    by (shown how z) = h
-    by (done r) = open_written s (s.shape_of id) c.path c.verb t h
 
 -- ---- two schemas
 
@@ -189,7 +169,7 @@ module _ (nodes nodes' : List Node) (accepted : IsAccepted nodes) (accepted' : I
   are-after quoted [] admitted whole t u a x start = record { alike = a; replied = tt }
   are-after quoted (c ∷ cs) admitted whole t u a x start =
       let same = (same_records t u a.trims start.kinds.of_tree).1 in
-      let rest = are-after quoted cs admitted.1 whole.1 (edit o older c t) (edit n newer c u) (versions-alike c admitted.0 whole.0 t u a x start.opens same) (open-edit o older c t x) (next_start nodes' newer c cs u start) in
+      let rest = are-after quoted cs admitted.1 whole.1 (edit o older c t) (edit n newer c u) (versions-alike c admitted.0 whole.0 t u a x start.opens same) (edit_open o older c t x) (next_start nodes' newer c cs u start) in
       record { alike = rest.alike; replied = (replies-same c admitted.0 quoted t u same, rest.replied) }
 
   -- ---- the laws
