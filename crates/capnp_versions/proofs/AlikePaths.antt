@@ -1,10 +1,10 @@
 -- Calls that are carried out leave values of one trimmed value, under schemas that have their paths in common.
-use Rattle.std.proofs.Common.{◌≡◌, ℕ, ◌*◌, ◌^◌, ◌<◌, ◌≤◌, max, Bool, true, false, not, ◌&&◌, ◌==◌, nat_le, if◌then◌else◌, List, [], ◌∷◌, Option, Some, None, refl, sym, ◌∙◌, ap, subst, arith}
+use Rattle.std.proofs.Common.{◌≡◌, ℕ, ◌*◌, ◌^◌, ◌<◌, ◌≤◌, max, Bool, true, false, List, [], ◌∷◌, Option, Some, None, refl, sym, ◌∙◌, ap, subst, arith}
 use Rattle.std.proofs.lemmas.Nat.{pow_pos}
-use Rattle.capnp_model.specs.Trees.{Tree, null, capability, structure, plain_list, pointer_list, struct_list, none, Elements, child, resized, padded_to, size_bits, size_of_width}
+use Rattle.capnp_model.specs.Trees.{Tree, null, capability, structure, plain_list, pointer_list, struct_list, none, child, resized, padded_to, size_bits}
 use Rattle.capnp_model.specs.Trimming.{trim}
-use Rattle.capnp_model.specs.Schemas.{PlainType, width, Ty, void, plain, text, blob, untyped, interface, struct, list, Shape, shape, Fields, Body, void_slot, plain_slot, pointer_slot, group_slot, Schema, default_or_null}
-use Rattle.capnp_model.specs.Readings.{Children, inactive, number, record_as, no_children, whole_words, shape_record, only_if, body_of, element_as, read, read_child, record_by_shape, have_room, is_list_of}
+use Rattle.capnp_model.specs.Schemas.{PlainType, Ty, void, plain, text, blob, untyped, interface, struct, list, Shape, shape, Fields, Body, void_slot, plain_slot, pointer_slot, group_slot, Schema, default_or_null}
+use Rattle.capnp_model.specs.Readings.{Children, inactive, number, record_as, no_children, whole_words, shape_record, only_if, body_of, element_as, read, read_child, record_by_shape}
 use Rattle.capnp_model.specs.Printing.{fields_in}
 use Rattle.capnp_model.specs.Calls.{Step, name, index, Verb}
 use Rattle.capnp_model.specs.Steps.{on_name, opened, through_value, through_field, step_field, step_element}
@@ -12,8 +12,7 @@ use Rattle.capnp_model.specs.Edits.{Cell, mark, edit_target, edit_named, edit_st
 use Rattle.capnp_model.specs.Admitted.{is_group_write, is_struct_type}
 use Rattle.capnp_model.proofs.Numbers.{wider}
 use Rattle.capnp_model.proofs.Widening.{bare-padded_to}
-use Rattle.capnp_model.proofs.KeptRules.{and_left}
-use Rattle.capnp_model.proofs.OlderReading.{same_bool, same_int, same_uint, same_enum, Related, related_void, related_plain', related_text, related_blob, related_untyped, related_interface, related_struct, related_list}
+use Rattle.capnp_model.proofs.OlderReading.{Related, related_void, related_plain', related_text, related_blob, related_untyped, related_interface, related_struct, related_list}
 use Rattle.capnp_versions.specs.Whole.{IsWhole, IsWholeVerb}
 use Rattle.capnp_versions.proofs.WholeValues.{whole-padded_to, whole-resized}
 use Rattle.capnp_versions.proofs.Alike.{Alike, SameCell, Agree, agree-more, agree-then, agree-put_bits, agree-put_child, alike-child, alike-structure, IsStructLike, struct_like, struct-like}

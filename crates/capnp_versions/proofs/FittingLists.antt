@@ -1,5 +1,5 @@
 -- Changes of lists keep what fits.
-use Rattle.std.proofs.Common.{◌≡◌, ℕ, zero, suc, ◌*◌, ◌/◌, ◌^◌, ◌<◌, ◌≤◌, ◌==◌, not, ◌&&◌, max, Bool, true, false, nat_le, if◌then◌else◌, mod-lt, List, [], ◌∷◌, length, refl, ◌∙◌, ap, subst, arith}
+use Rattle.std.proofs.Common.{◌≡◌, ℕ, zero, suc, ◌*◌, ◌/◌, ◌^◌, ◌<◌, ◌≤◌, ◌==◌, max, Bool, true, false, nat_le, if◌then◌else◌, mod-lt, List, [], ◌∷◌, length, refl, ◌∙◌, ap, subst, arith}
 use Rattle.std.specs.List.{AllByRecursion}
 use Rattle.std.proofs.lemmas.Nat.{pow_pos}
 use Rattle.capnp_model.specs.Sections.{number_of, numbers_in}
@@ -9,7 +9,7 @@ use Rattle.capnp_model.specs.Readings.{is_list_of, have_room}
 use Rattle.capnp_model.specs.Edits.{Cell, Edit, elements_of_plain, elements_of_pointers, padded_elements, least_words, widened_list, on_plain, on_pointers, on_elements}
 use Rattle.capnp_model.proofs.Numbers.{number_of_lt, wider, length-numbers_in}
 use Rattle.capnp_model.proofs.Stripping.{count-resized}
-use Rattle.capnp_model.proofs.KeptRules.{and_left, and_right}
+use Rattle.capnp_model.proofs.KeptRules.{and_right}
 use Rattle.capnp_versions.proofs.SameLists.{AtElement}
 use Rattle.capnp_versions.proofs.WroteLists.{AtChild}
 use Rattle.capnp_versions.proofs.Comparisons.{le_is}

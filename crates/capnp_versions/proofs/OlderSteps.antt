@@ -1,10 +1,9 @@
 -- The older record machine at the older view of a newer record makes the older view of what the newer machine makes.
-use Rattle.std.proofs.Common.{◌≡◌, ℕ, zero, suc, ◌*◌, ◌==◌, nat_le, Bool, true, false, List, [], ◌∷◌, Option, Some, None, refl, sym, ◌∙◌, ap, subst}
+use Rattle.std.proofs.Common.{◌≡◌, ℕ, zero, suc, ◌*◌, ◌==◌, nat_le, Bool, true, false, List, [], ◌∷◌, Option, Some, None, refl, sym, ◌∙◌, ap}
 use Rattle.std.specs.Str.{bytes_eq}
-use Rattle.capnp_model.specs.Kinds.{Kind}
-use Rattle.capnp_model.specs.Trees.{Tree, null, capability, structure, plain_list, pointer_list, struct_list, Trees, none, ◌▸◌, Elements, no_elements, element, child, size_bits, plain_elements}
+use Rattle.capnp_model.specs.Trees.{Tree, null}
 use Rattle.capnp_model.specs.Schemas.{PlainType, Ty, void, plain, text, blob, untyped, interface, struct, list, Shape, shape, Fields, no_fields, field, Body, void_slot, plain_slot, pointer_slot, group_slot, Schema, default_or_null}
-use Rattle.capnp_model.specs.Readings.{Reading, inactive, null_pointer, fault, number, text_of, blob_of, list_of, record_as, opaque, Readings, no_readings, ◌▹◌, Record, Children, no_children, only_child, Extent, whole_words, just_bits, discriminant, is_active, only_if, shape_record, fields_of, body_of, element_as, list_reading, plain_readings, read, read_child, pointer_elements, struct_elements}
+use Rattle.capnp_model.specs.Readings.{Reading, inactive, null_pointer, fault, number, text_of, blob_of, list_of, record_as, opaque, Readings, no_readings, ◌▹◌, Record, no_children, Extent, whole_words, discriminant, is_active, only_if, shape_record, fields_of, body_of, element_as, read}
 use Rattle.capnp_model.specs.Printing.{As, as_type, as_body, as_group, fields_in}
 use Rattle.capnp_model.specs.Projection.{project, project_items, project_fields}
 use Rattle.capnp_model.specs.Calls.{Step, name, index, Verb}
@@ -15,7 +14,7 @@ use Rattle.capnp_model.proofs.KeptRules.{and_three, and_four}
 use Rattle.capnp_model.proofs.KeptShapes.{option_is, HasPair}
 use Rattle.capnp_model.proofs.FineShapes.{IsGoodMember, IsNewName, IsGood, IsGoodBody}
 use Rattle.capnp_model.proofs.OlderReading.{SamePlain, Related, related_void, related_plain', related_text, related_blob, related_untyped, related_interface, related_struct, related_list, KeptShape, kept, KeptBody, kept_plain, KidsAgree, shape_record-project, body_of-project, no_children_agree, read-project}
-use Rattle.capnp_model.proofs.Paths.{read_child-is, entry_of-fields_of}
+use Rattle.capnp_model.proofs.Paths.{entry_of-fields_of}
 use Rattle.capnp_versions.proofs.SameShapes.{SameShape, SameBody, same_group}
 use Rattle.capnp_versions.specs.SameReplies.{IsWrite}
 use Rattle.capnp_versions.proofs.SameContents.{shape_words}

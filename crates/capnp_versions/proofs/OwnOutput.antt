@@ -1,36 +1,22 @@
 -- A relay's own output, relayed again without calls.
-use Rattle.std.proofs.Common.{◌≡◌, ℕ, ◌+◌, max, Bool, true, false, if◌then◌else◌, inl, inr, Option, Some, None, List, [], ◌∷◌, ◌++◌, sum, take, Ok, refl, sym, ◌∙◌, ap, subst, ltb, ◌/◌, arith}
+use Rattle.std.proofs.Common.{◌≡◌, ℕ, ◌+◌, Bool, true, false, inl, inr, Option, None, List, [], ◌∷◌, ◌++◌, sum, take, Ok, refl, sym, ◌∙◌, ap, subst, ltb, ◌/◌}
 use Rattle.std.specs.List.{flat_map, AllByRecursion}
 use Rattle.capnp_model.specs.Kinds.{Kind, InvalidNumberOfSegments, MessageTooLarge}
 use Rattle.capnp_model.specs.Chains.{guard}
-use Rattle.capnp_model.specs.Segments.{Segments, root}
-use Rattle.capnp_model.specs.Trees.{Tree, null, capability, structure, plain_list, pointer_list, struct_list, depth}
+use Rattle.capnp_model.specs.Segments.{Segments}
+use Rattle.capnp_model.specs.Trees.{Tree}
 use Rattle.capnp_model.specs.Trimming.{trim}
-use Rattle.capnp_model.specs.Fits.{Fits}
-use Rattle.capnp_model.specs.Traversal.{tree_at}
 use Rattle.capnp_model.specs.Encoding.{canonical_words}
 use Rattle.capnp_model.specs.Packing.{unpacked}
 use Rattle.capnp_model.specs.Messages.{Reader, Writer, plain_words, within, halves, behind_lengths, behind_first, message_at, spelled}
 use Rattle.capnp_model.specs.Spelling.{CanSpell}
-use Rattle.capnp_model.specs.Schemas.{Shape, shape, Body, Schema, Node}
-use Rattle.capnp_model.specs.Accepted.{IsAccepted}
-use Rattle.capnp_model.specs.Readings.{Record, record_of}
-use Rattle.capnp_model.specs.Calls.{Step, name, index, Verb, Call}
-use Rattle.capnp_model.specs.Steps.{Outcome, refused, shown, done, step}
-use Rattle.capnp_model.specs.Edits.{Edit, edit, edit_struct, edit_field, if_done, write_path}
-use Rattle.capnp_model.specs.NamedPaths.{IsOpen}
-use Rattle.capnp_model.specs.Answers.{Reply, Answer, refused_value, refused_root, refused_depth, written, Limits, levels, keeps_nesting, value_within, opened_root, widened_root, edits, replies, answer_struct, answer_value, answer}
+use Rattle.capnp_model.specs.Schemas.{Node}
+use Rattle.capnp_model.specs.Calls.{Call}
+use Rattle.capnp_model.specs.Answers.{Answer, refused_value, refused_root, refused_depth, written, Limits, opened_root, widened_root, edits}
 use Rattle.capnp_model.specs.Runs.{outputs_of, AnswerEach, BeginWith, End, finished}
 use Rattle.capnp_model.specs.SameRuns.{IsFormReader, IsForm, Work, IsAnswerIn, Relays}
-use Rattle.capnp_model.proofs.Chaining.{bind_some, provided_some, some_is, ok_then, bind_ok}
-use Rattle.capnp_model.proofs.Depth.{tree_at_more}
-use Rattle.capnp_model.proofs.ReadFits.{tree_at_fits}
+use Rattle.capnp_model.proofs.Chaining.{ok_then, bind_ok}
 use Rattle.capnp_model.proofs.TrimTwice.{trim-trim}
-use Rattle.capnp_model.proofs.TrimFits.{Fits-trim}
-use Rattle.capnp_model.proofs.Widening.{trim-widened}
-use Rattle.capnp_model.proofs.FittingValues.{Fits-widened}
-use Rattle.capnp_model.proofs.RoundTrip.{enc_means}
-use Rattle.capnp_model.proofs.CanonicalWords.{canonical_can_spell}
 use Rattle.capnp_model.proofs.Written.{ReadsBack, plain_back, packed_back, message_back}
 use Rattle.capnp_model.proofs.RunLaws.{form_nothing, same_messages}
 use Rattle.capnp_versions.specs.Fitting.{AreSpelled}

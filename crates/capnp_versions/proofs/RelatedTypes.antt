@@ -1,22 +1,15 @@
 -- Related types, and the room that lists have for the elements of a type.
-use Rattle.std.proofs.Common.{◌≡◌, ℕ, ◌*◌, ◌^◌, ◌<◌, ◌≤◌, max, Bool, true, false, not, ◌&&◌, ◌==◌, nat_le, if◌then◌else◌, List, [], ◌∷◌, Option, Some, None, refl, sym, ◌∙◌, ap, subst, arith}
-use Rattle.std.proofs.lemmas.Nat.{pow_pos}
-use Rattle.capnp_model.specs.Trees.{Tree, null, capability, structure, plain_list, pointer_list, struct_list, none, Elements, child, resized, padded_to, size_bits, size_of_width}
-use Rattle.capnp_model.specs.Trimming.{trim}
-use Rattle.capnp_model.specs.Schemas.{PlainType, width, Ty, void, plain, text, blob, untyped, interface, struct, list, Shape, shape, Fields, Body, void_slot, plain_slot, pointer_slot, group_slot, Schema, default_or_null}
-use Rattle.capnp_model.specs.Readings.{Children, inactive, number, record_as, no_children, whole_words, shape_record, only_if, body_of, element_as, read, read_child, record_by_shape, have_room, is_list_of}
-use Rattle.capnp_model.specs.Printing.{fields_in}
-use Rattle.capnp_model.specs.Calls.{Step, name, index, Verb}
-use Rattle.capnp_model.specs.Steps.{on_name, opened, through_value, through_field, step_field, step_element}
-use Rattle.capnp_model.specs.Edits.{Cell, mark, edit_target, edit_named, edit_struct, widened_list, as_list, edit_list, edit_value, edit_field, edit_element, opened_tree, put_child, put_field}
-use Rattle.capnp_model.specs.Admitted.{is_group_write, is_struct_type}
-use Rattle.capnp_model.proofs.Numbers.{wider}
-use Rattle.capnp_model.proofs.Widening.{bare-padded_to}
+use Rattle.std.proofs.Common.{◌≡◌, ℕ, ◌*◌, ◌≤◌, Bool, true, false, not, ◌&&◌, ◌==◌, nat_le, if◌then◌else◌, refl, subst, arith}
+use Rattle.capnp_model.specs.Trees.{Tree, struct_list, Elements, size_of_width}
+use Rattle.capnp_model.specs.Schemas.{PlainType, width, Ty, void, plain, text, blob, untyped, interface, struct, list, Schema}
+use Rattle.capnp_model.specs.Readings.{have_room, is_list_of}
+use Rattle.capnp_model.specs.Edits.{as_list}
+use Rattle.capnp_model.specs.Admitted.{is_struct_type}
 use Rattle.capnp_model.proofs.KeptRules.{and_left}
 use Rattle.capnp_model.proofs.OlderReading.{same_bool, same_int, same_uint, same_enum, Related, related_void, related_plain', related_text, related_blob, related_untyped, related_interface, related_struct, related_list}
-use Rattle.capnp_versions.proofs.SameShapes.{Congruent, no_change, AnyPair}
-use Rattle.capnp_versions.proofs.SameContents.{shape_words, element_bits, bare_nulls, congruent-field, congruent-element}
-use Rattle.capnp_versions.proofs.Follows.{SameMark, IsNarrow, HasWords, NameFollows, ValueFollows, PointerFollows, EndFollows, FieldFollows, ElementFollows}
+use Rattle.capnp_versions.proofs.SameShapes.{AnyPair}
+use Rattle.capnp_versions.proofs.SameContents.{element_bits}
+use Rattle.capnp_versions.proofs.Follows.{IsNarrow}
 use Rattle.capnp_model.specs.Compatible.{Pairs, has_pair, related_plain, related}
 use Rattle.capnp_model.specs.Schemas.{bool, int, uint, «enum»}
 use Rattle.capnp_model.proofs.OlderReading.{SamePlain}

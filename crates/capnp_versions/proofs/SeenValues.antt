@@ -1,21 +1,11 @@
 -- What the record machine sees of a value: a struct, a list of elements, or a fault.
-use Rattle.std.proofs.Common.{◌≡◌, ℕ, zero, suc, ◌*◌, ◌==◌, nat_le, Bool, true, false, List, [], ◌∷◌, Option, Some, None, refl, sym, ◌∙◌, ap, subst}
-use Rattle.std.specs.Str.{bytes_eq}
+use Rattle.std.proofs.Common.{◌≡◌, ℕ, zero, suc, Bool, true, false, List, [], ◌∷◌, refl, sym, subst}
 use Rattle.capnp_model.specs.Kinds.{Kind}
 use Rattle.capnp_model.specs.Trees.{Tree, null, capability, structure, plain_list, pointer_list, struct_list, Trees, none, ◌▸◌, Elements, no_elements, element, child, size_bits, plain_elements}
-use Rattle.capnp_model.specs.Schemas.{PlainType, Ty, void, plain, text, blob, untyped, interface, struct, list, Shape, shape, Fields, no_fields, field, Body, void_slot, plain_slot, pointer_slot, group_slot, Schema, default_or_null}
-use Rattle.capnp_model.specs.Readings.{Reading, inactive, null_pointer, fault, number, text_of, blob_of, list_of, record_as, opaque, Readings, no_readings, ◌▹◌, Record, Children, no_children, only_child, Extent, whole_words, just_bits, discriminant, is_active, only_if, shape_record, fields_of, body_of, element_as, list_reading, plain_readings, read, read_child, pointer_elements, struct_elements}
-use Rattle.capnp_model.specs.Printing.{As, as_type, as_body, as_group, fields_in}
-use Rattle.capnp_model.specs.Projection.{project, project_items, project_fields}
-use Rattle.capnp_model.specs.Calls.{Step, name, index, Verb}
-use Rattle.capnp_model.specs.Steps.{Outcome, refused, shown, done, outcome_map, Target, no_target, target, target_if, target_of, entry_of, replaced, at_target, on_name, on_index, empty_reading, opened, or_empty, through_value, through_field, step_field, step_element}
-use Rattle.capnp_model.specs.Compatible.{Pairs, has_pair, related, member_count, keeps_union, same_default, keeps, keeps_fields, keeps_body}
-use Rattle.capnp_model.specs.Admitted.{At, at_body, at_element, nowhere, into_fields, into_type, is_admitted_from}
-use Rattle.capnp_model.proofs.KeptRules.{and_three, and_four}
-use Rattle.capnp_model.proofs.KeptShapes.{option_is, HasPair}
-use Rattle.capnp_model.proofs.FineShapes.{IsGoodMember, IsNewName, IsGood, IsGoodBody}
-use Rattle.capnp_model.proofs.OlderReading.{SamePlain, Related, related_void, related_plain', related_text, related_blob, related_untyped, related_interface, related_struct, related_list, KeptShape, kept, KeptBody, kept_plain, KidsAgree, shape_record-project, body_of-project, no_children_agree, read-project}
-use Rattle.capnp_model.proofs.Paths.{read_child-is, entry_of-fields_of}
+use Rattle.capnp_model.specs.Schemas.{Ty, struct, list, Schema}
+use Rattle.capnp_model.specs.Readings.{Reading, fault, list_of, record_as, Readings, no_readings, ◌▹◌, Children, no_children, only_child, Extent, whole_words, just_bits, shape_record, element_as, list_reading, plain_readings, read, read_child, pointer_elements, struct_elements}
+use Rattle.capnp_model.specs.Steps.{opened, or_empty}
+use Rattle.capnp_model.proofs.Paths.{read_child-is}
 
 -- what the children at places read as
 abbrev pub kids_of : Schema → (ℕ → Tree) → Children

@@ -5,7 +5,7 @@ use Rattle.capnp_model.specs.Traversal.{tree_at, cost_at}
 use Rattle.capnp_model.specs.Trees.{has_capability}
 use Rattle.capnp_model.specs.Trimming.{trim}
 use Rattle.capnp_model.specs.Encoding.{canonical_words}
-use Rattle.capnp_model.specs.Schemas.{BaseType, slot, Field, struct_node, Node}
+use Rattle.capnp_model.specs.Schemas.{BaseType, slot, struct_node, Node}
 use Rattle.capnp_model.specs.Readings.{record_of, record_by_shape, shape_record, read, read_child}
 use Rattle.capnp_model.specs.Calls.{name, initn, Call}
 use Rattle.capnp_model.specs.Steps.{step, step_field}

@@ -1,6 +1,6 @@
 -- Edits of values of one trimmed value.
-use Rattle.std.proofs.Common.{◌≡◌, ℕ, ◌*◌, ◌≤◌, true, false, ◌&&◌, List, [], ◌∷◌, refl, sym, ◌∙◌, ap, subst, arith}
-use Rattle.capnp_model.specs.Trees.{Tree, null, capability, structure, plain_list, pointer_list, struct_list}
+use Rattle.std.proofs.Common.{◌≡◌, ℕ, ◌*◌, ◌≤◌, false, ◌&&◌, List, [], ◌∷◌, refl, sym, ◌∙◌, ap, subst, arith}
+use Rattle.capnp_model.specs.Trees.{Tree}
 use Rattle.capnp_model.specs.Trimming.{trim}
 use Rattle.capnp_model.specs.Schemas.{struct, Node, Schema}
 use Rattle.capnp_model.specs.Readings.{Record, record_by_shape, record_of}
@@ -9,7 +9,6 @@ use Rattle.capnp_model.specs.Calls.{Step, name, index, Call}
 use Rattle.capnp_model.specs.Steps.{Outcome, refused, shown, done, step, step_path}
 use Rattle.capnp_model.specs.Edits.{edit, if_done, write_path}
 use Rattle.capnp_model.specs.Accepted.{schema_of, IsAccepted}
-use Rattle.capnp_model.specs.InKind.{in_kind}
 use Rattle.capnp_model.specs.InKindCalls.{at_value, end_of}
 use Rattle.capnp_model.specs.Admitted.{is_set}
 use Rattle.capnp_model.specs.NamedPaths.{IsOpen}
@@ -17,7 +16,7 @@ use Rattle.capnp_model.proofs.FineShapes.{IsGood}
 use Rattle.capnp_model.proofs.SoundRules.{rules_kept, good_shape}
 use Rattle.capnp_model.proofs.TrimmedAnswers.{trimmed_record}
 use Rattle.capnp_model.proofs.TrimTwice.{trim-trim}
-use Rattle.capnp_versions.specs.Whole.{IsWhole, IsWholeVerb}
+use Rattle.capnp_versions.specs.Whole.{IsWholeVerb}
 use Rattle.capnp_versions.specs.StructElements.{is_struct_value, sets_struct_element, IsPlain}
 use Rattle.capnp_versions.specs.Roots.{IsRootInKind}
 use Rattle.capnp_versions.proofs.Structs.{open-trim}

@@ -1,14 +1,14 @@
 -- Calls under an older schema and under a compatible newer one.
 use Rattle.std.proofs.Common.{◌≡◌, ℕ, ◌*◌, ◌≤◌, true, false, List, [], ◌∷◌, refl, sym, ◌∙◌, ap, subst}
 use Rattle.std.specs.List.{AllByRecursion}
-use Rattle.capnp_model.specs.Trees.{Tree, null, capability, structure, plain_list, pointer_list, struct_list, child}
+use Rattle.capnp_model.specs.Trees.{Tree, null, structure, child}
 use Rattle.capnp_model.specs.Trimming.{trim}
-use Rattle.capnp_model.specs.Schemas.{struct, Node, Shape, shape, Schema}
+use Rattle.capnp_model.specs.Schemas.{struct, Node, Schema}
 use Rattle.capnp_model.specs.Readings.{Record, whole_words, shape_record, record_by_shape, record_of}
 use Rattle.capnp_model.specs.Printing.{fields_in}
 use Rattle.capnp_model.specs.Calls.{Step, name, index, Verb, get, set_to, init, initn, clear, Call}
 use Rattle.capnp_model.specs.Steps.{Outcome, refused, shown, done, outcome_map, on_name, step_field, step, step_path}
-use Rattle.capnp_model.specs.Edits.{edit, if_done, write_path}
+use Rattle.capnp_model.specs.Edits.{edit}
 use Rattle.capnp_model.specs.Accepted.{schema_of, IsAccepted}
 use Rattle.capnp_model.specs.Compatible.{has_pair, keeps, IsCompatible}
 use Rattle.capnp_model.specs.Admitted.{at_element, is_admitted_from, IsAdmitted}

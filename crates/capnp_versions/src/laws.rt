@@ -55,7 +55,7 @@ pub fn edits_across_versions()
 pub fn steps_across_versions()
     ensures { (v : TwoVersions) (c : Call) (t : Tree) → CanStep v c
         → step (older v) v.older_root c (older_view v (newer_record v t))
-            ≡ outcome_map (older_view v) (step (newer v) v.newer_root c (newer_record v t)) }
+        ≡ outcome_map (older_view v) (step (newer v) v.newer_root c (newer_record v t)) }
 {}
 
 /// Editing under an older schema commutes with reading under a compatible newer one: admitted calls leave one trimmed value under both, whose newer record is what the newer machine makes of the newer record, and the replies to calls other than `get` are the same.
@@ -64,9 +64,9 @@ pub fn calls_across_versions()
         → trim (edits (older v) v.older_root calls t) ≡ trim (edits (newer v) v.newer_root calls t) }
     ensures records { (v : TwoVersions) (calls : List Call) (t : Tree) → CanRun v calls t
         → newer_record v (trim (edits (older v) v.older_root calls t))
-            ≡ records_after (newer v) v.newer_root calls (newer_record v t) }
+        ≡ records_after (newer v) v.newer_root calls (newer_record v t) }
     ensures replies { (v : TwoVersions) (calls : List Call) (t : Tree) (quoted : List ℕ → List ℕ)
         → CanRun v calls t
         → SameReplies calls (replies (older v) quoted v.older_root calls t)
-            (record_replies (newer v) quoted v.newer_root calls (newer_record v t)) }
+        (record_replies (newer v) quoted v.newer_root calls (newer_record v t)) }
 {}
