@@ -35,7 +35,8 @@ pub fn edits_of_trimmed_values()
 pub fn calls_at_trimmed_values()
     ensures { (nodes : List Node) (id : ℕ) (calls : List Call) (t : Tree)
         → ArePlain (schema_of nodes) id calls → IsWhole t → IsStart nodes id calls t
-        → trim (edits (schema_of nodes) id calls (trim t)) ≡ trim (edits (schema_of nodes) id calls t) }
+        → trim (edits (schema_of nodes) id calls (trim t))
+        ≡ trim (edits (schema_of nodes) id calls t) }
 {}
 
 /// Two relays in a row write the words of one with the joined calls, where the message is written on both roads and sizes suffice for what the first relay writes.
@@ -61,7 +62,8 @@ pub fn steps_across_versions()
 /// Editing under an older schema commutes with reading under a compatible newer one: admitted calls leave one trimmed value under both, whose newer record is what the newer machine makes of the newer record, and the replies to calls other than `get` are the same.
 pub fn calls_across_versions()
     ensures values { (v : TwoVersions) (calls : List Call) (t : Tree) → CanRun v calls t
-        → trim (edits (older v) v.older_root calls t) ≡ trim (edits (newer v) v.newer_root calls t) }
+        → trim (edits (older v) v.older_root calls t)
+        ≡ trim (edits (newer v) v.newer_root calls t) }
     ensures records { (v : TwoVersions) (calls : List Call) (t : Tree) → CanRun v calls t
         → newer_record v (trim (edits (older v) v.older_root calls t))
         ≡ records_after (newer v) v.newer_root calls (newer_record v t) }

@@ -18,7 +18,8 @@ ghost use Rattle.capnp_versions.specs.OwnOutput.{SizesSuffice, IsWritten, relay_
 pub fn edited_values_that_fit()
     ensures { (nodes : List Node) (id : ℕ) (calls : List Call) (t : Tree)
         → AreSpelled nodes calls → Fits t
-        → HasShortLists (edits (schema_of nodes) id calls t) → Fits (edits (schema_of nodes) id calls t) }
+        → HasShortLists (edits (schema_of nodes) id calls t)
+        → Fits (edits (schema_of nodes) id calls t) }
 {}
 
 /// A relay's own output, relayed again in its form without calls, gives the same bytes, where sizes sufficed and the second run writes every message.
