@@ -19,11 +19,11 @@ use Rattle.capnp_model.proofs.TrimFits.{Fits-trim}
 use Rattle.capnp_model.proofs.FittingValues.{Fits-widened}
 use Rattle.capnp_model.proofs.RoundTrip.{enc_means}
 use Rattle.capnp_model.proofs.CanonicalWords.{canonical_can_spell}
-use Rattle.capnp_versions.specs.Fitting.{NumbersFit, AreSpelled}
+use Rattle.capnp_versions.specs.Fitting.{AreSpelled}
 use Rattle.capnp_versions.specs.OwnOutput.{edited_value, SizesSuffice, relay_of}
-use Rattle.capnp_versions.proofs.FittingParts.{numbers-of, fits-by-parts, StructFits}
+use Rattle.capnp_versions.proofs.FittingParts.{any_lengths, FitsBy, fits-by-parts, StructFits}
 use Rattle.capnp_versions.proofs.FittingTrims.{numbers-trim}
-use Rattle.capnp_versions.proofs.FittingSchemas.{schema-fits, all-edited-numbers}
+use Rattle.capnp_versions.proofs.FittingSchemas.{schema-fits, edited-by-any}
 
 -- ---- what is written is that of a value
 
@@ -72,7 +72,7 @@ value-fits limits s t e = let found = read_value limits s t e in tree_at_fits fo
 
 -- ---- what is written can be spelled, and is read as its value
 
-opened_fits : (g : Shape) (t : Tree) → StructFits g → Fits t → Fits (widened_root g (trim t))
+opened_fits : (g : Shape) (t : Tree) → StructFits any_lengths g → Fits t → Fits (widened_root g (trim t))
 opened_fits (shape nid x y u fs) t h f = Fits-widened x y (trim t) h.words h.pointers (Fits-trim t f)
 
 -- what is written of a value fits, can be spelled and is read as the trimmed value
@@ -81,14 +81,14 @@ pub record IsReadBack (w : Work) (segments : Segments) (value : Tree) : Type 0 w
   pub spells : CanSpell None segments
   pub again : (limits : Limits) (t : Tree) → value_within limits segments ≡ Some t → t ≡ trim (edited_value w value)
 
-module _ (w : Work) (struct_fits : StructFits (w.schema.shape_of w.root)) (numbers : (t : Tree) → NumbersFit t → NumbersFit (edits w.schema w.root w.calls t))
+module _ (w : Work) (struct_fits : StructFits any_lengths (w.schema.shape_of w.root)) (numbers : (t : Tree) → Fits t → FitsBy any_lengths (edits w.schema w.root w.calls t))
     (message segments : Segments) (sizes : SizesSuffice w message) (h : HasWritten w message segments) where
   written_fits : Fits (trim (edited_value w h.value))
   unfolding opened_root
   written_fits =
       let e : Tree = edited_value w h.value in
       let opened = opened_fits (w.schema.shape_of w.root) h.value struct_fits (value-fits w.limits message h.value h.is_value) in
-      fits-by-parts (trim e) (numbers-trim e (numbers (opened_root w.schema w.root h.value) (numbers-of (opened_root w.schema w.root h.value) opened))) (sizes h.value h.is_value).0
+      fits-by-parts any_lengths (trim e) (numbers-trim any_lengths e (numbers (opened_root w.schema w.root h.value) opened)) (sizes h.value h.is_value).0
 
   value_again : (limits : Limits) (t : Tree) → value_within limits segments ≡ Some t → t ≡ trim (edited_value w h.value)
   value_again limits t v =
@@ -111,4 +111,4 @@ module _ (w : Work) (struct_fits : StructFits (w.schema.shape_of w.root)) (numbe
 pub read-back : (nodes : List Node) (quoted : List ℕ → List ℕ) (id : ℕ) (calls : List Call) (limits : Limits) → AreSpelled nodes calls → (message segments : Segments)
     → SizesSuffice (relay_of nodes quoted id calls limits) message → (h : HasWritten (relay_of nodes quoted id calls limits) message segments) → IsReadBack (relay_of nodes quoted id calls limits) segments h.value
 read-back nodes quoted id calls limits spelled message segments sizes h =
-    is_read_back (relay_of nodes quoted id calls limits) (schema-fits nodes spelled.accepted spelled.small id) (λ t f. all-edited-numbers nodes spelled.accepted spelled.small id calls spelled.verbs t f) message segments sizes h
+    is_read_back (relay_of nodes quoted id calls limits) (schema-fits any_lengths nodes spelled.accepted spelled.small id) (λ t f. edited-by-any nodes id calls t spelled f) message segments sizes h
