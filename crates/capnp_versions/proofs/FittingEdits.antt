@@ -2,7 +2,7 @@
 use Rattle.std.proofs.Common.{◌≡◌, ℕ, ◌*◌, ◌≤◌, max, Bool, true, false, Option, List, [], ◌∷◌, refl, sym, subst, arith}
 use Rattle.std.specs.Str.{bytes_eq}
 use Rattle.std.proofs.lemmas.Nat.{pow_pos}
-use Rattle.capnp_model.specs.Trees.{element_count, Tree, null, capability, structure, plain_list, pointer_list, struct_list, none, child, resized, padded_to, plain_elements, size_bits, tree_count}
+use Rattle.capnp_model.specs.Trees.{Tree, null, capability, structure, plain_list, pointer_list, struct_list, none, child, resized, padded_to, plain_elements, size_bits, tree_count}
 use Rattle.capnp_model.specs.Schemas.{Ty, void, plain, text, blob, untyped, interface, struct, list, Shape, shape, Fields, no_fields, field, Body, void_slot, plain_slot, pointer_slot, group_slot, Schema, default_or_null}
 use Rattle.capnp_model.specs.Readings.{Reading, Record, record_as, whole_words, only_if, body_of, element_as, read, read_child, record_by_shape, no_children}
 use Rattle.capnp_model.specs.Calls.{Step, name, index, Verb, element_content}

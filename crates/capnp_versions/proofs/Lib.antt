@@ -26,6 +26,7 @@ pub mod FittingEdits
 pub mod FittingSchemas
 pub mod FittingTrims
 pub mod WrittenValues
+pub mod SufficientSizes
 pub mod OwnOutput
 pub mod KeptFollows
 pub mod ReplacedViews

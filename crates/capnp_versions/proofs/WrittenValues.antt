@@ -21,7 +21,7 @@ use Rattle.capnp_model.proofs.RoundTrip.{enc_means}
 use Rattle.capnp_model.proofs.CanonicalWords.{canonical_can_spell}
 use Rattle.capnp_versions.specs.Fitting.{AreSpelled}
 use Rattle.capnp_versions.specs.OwnOutput.{edited_value, SizesSuffice, relay_of}
-use Rattle.capnp_versions.proofs.FittingParts.{any_lengths, FitsBy, fits-by-parts, StructFits}
+use Rattle.capnp_versions.proofs.FittingParts.{Lengths, any_lengths, FitsBy, fits-by-parts, StructFits}
 use Rattle.capnp_versions.proofs.FittingTrims.{numbers-trim}
 use Rattle.capnp_versions.proofs.FittingSchemas.{schema-fits, edited-by-any}
 
@@ -72,8 +72,8 @@ value-fits limits s t e = let found = read_value limits s t e in tree_at_fits fo
 
 -- ---- what is written can be spelled, and is read as its value
 
-opened_fits : (g : Shape) (t : Tree) → StructFits any_lengths g → Fits t → Fits (widened_root g (trim t))
-opened_fits (shape nid x y u fs) t h f = Fits-widened x y (trim t) h.words h.pointers (Fits-trim t f)
+pub opened-fits : (L : Lengths) (g : Shape) (t : Tree) → StructFits L g → Fits t → Fits (widened_root g (trim t))
+opened-fits L (shape nid x y u fs) t h f = Fits-widened x y (trim t) h.words h.pointers (Fits-trim t f)
 
 -- what is written of a value fits, can be spelled and is read as the trimmed value
 pub record IsReadBack (w : Work) (segments : Segments) (value : Tree) : Type 0 where
@@ -87,7 +87,7 @@ module _ (w : Work) (struct_fits : StructFits any_lengths (w.schema.shape_of w.r
   unfolding opened_root
   written_fits =
       let e : Tree = edited_value w h.value in
-      let opened = opened_fits (w.schema.shape_of w.root) h.value struct_fits (value-fits w.limits message h.value h.is_value) in
+      let opened = opened-fits any_lengths (w.schema.shape_of w.root) h.value struct_fits (value-fits w.limits message h.value h.is_value) in
       fits-by-parts any_lengths (trim e) (numbers-trim any_lengths e (numbers (opened_root w.schema w.root h.value) opened)) (sizes h.value h.is_value).0
 
   value_again : (limits : Limits) (t : Tree) → value_within limits segments ≡ Some t → t ≡ trim (edited_value w h.value)

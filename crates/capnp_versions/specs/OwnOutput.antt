@@ -1,5 +1,6 @@
 -- What a relay's own output needs to be relayed again.
 use Rattle.std.specs.Prelude.{◌≡◌, ℕ, ◌^◌, ◌≤◌, List, length, Some}
+use Rattle.std.specs.List.{AllByRecursion}
 use Rattle.capnp_model.specs.Segments.{Segments}
 use Rattle.capnp_model.specs.Trees.{Tree}
 use Rattle.capnp_model.specs.Trimming.{trim}
@@ -15,9 +16,15 @@ use Rattle.capnp_versions.specs.Fitting.{HasShortLists}
 abbrev pub edited_value : Work → Tree → Tree
 edited_value w t = edits w.schema w.root w.calls (opened_root w.schema w.root t)
 
--- The value that is written for a message has no list that is too long, and its words are few enough for a segment.
+-- What is written for a message has no list that is too long, and its words are few enough for a segment.
 abbrev pub SizesSuffice : Work → Segments → Type 0
-SizesSuffice w s = (t : Tree) → value_within w.limits s ≡ Some t → HasShortLists (trim (edited_value w t)) × (length (canonical_words (trim (edited_value w t))) ≤ 2 ^ 29)
+SizesSuffice w s =
+    (t : Tree) → value_within w.limits s ≡ Some t
+    → HasShortLists (trim (edited_value w t)) × (length (canonical_words (trim (edited_value w t))) ≤ 2 ^ 29)
+
+-- Each segment has few enough words for lists and structs to be found in it.
+abbrev pub HaveFewWords : Segments → Type 0
+HaveFewWords segments = AllByRecursion (λ words. length words ≤ 2 ^ 29) segments
 
 -- A message is written.
 abbrev pub IsWritten : Answer → Type 0

@@ -10,7 +10,7 @@ use Rattle.capnp_model.specs.Answers.{Reply, written, Limits, value_within}
 use Rattle.capnp_model.specs.SameRuns.{Work, IsAnswerIn}
 use Rattle.capnp_versions.specs.StructElements.{ArePlain}
 use Rattle.capnp_versions.specs.Fitting.{AreSpelled}
-use Rattle.capnp_versions.specs.OwnOutput.{SizesSuffice, relay_of}
+use Rattle.capnp_versions.specs.OwnOutput.{relay_of}
 
 -- Two relays under one schema, of which the second reads what the first writes.
 pub record TwoRelays : Type 0 where
@@ -38,11 +38,9 @@ joined r = relay_of r.nodes r.quoted r.root (r.calls ++ r.later_calls) r.limits
 abbrev pub Writes : Work → Segments → Segments → Type 0
 Writes w message segments = (replies : List Reply) × IsAnswerIn w message (written segments replies)
 
--- The calls of both can start from the message's value, none sets a whole element of a list of structs, the first ones can be spelled,
--- and sizes suffice for what the first relay writes.
+-- The calls of both can start from the message's value, none sets a whole element of a list of structs, and the first ones can be spelled.
 pub record CanRelay (r : TwoRelays) (message : Segments) : Type 0 where
   pub spelled : AreSpelled r.nodes r.calls
   pub plain : ArePlain (schema_of r.nodes) r.root r.calls
   pub later_plain : ArePlain (schema_of r.nodes) r.root r.later_calls
   pub start : (t : Tree) → value_within r.limits message ≡ Some t → IsStart r.nodes r.root (r.calls ++ r.later_calls) t
-  pub sizes : SizesSuffice (first r) message

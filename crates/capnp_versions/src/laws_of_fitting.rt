@@ -2,6 +2,7 @@
 
 ghost use Rattle.std.specs.Prelude.{◌≡◌, ℕ, List, []};
 ghost use Rattle.std.specs.List.{AllByRecursion};
+ghost use Rattle.capnp_model.specs.Segments.{Segments};
 ghost use Rattle.capnp_model.specs.Trees.{Tree};
 ghost use Rattle.capnp_model.specs.Fits.{Fits};
 ghost use Rattle.capnp_model.specs.Messages.{Reader, Writer};
@@ -11,8 +12,9 @@ ghost use Rattle.capnp_model.specs.Calls.{Call};
 ghost use Rattle.capnp_model.specs.Answers.{Limits, edits};
 ghost use Rattle.capnp_model.specs.Runs.{End, finished};
 ghost use Rattle.capnp_model.specs.SameRuns.{IsForm, Relays};
-ghost use Rattle.capnp_versions.specs.Fitting.{HasShortLists, AreSpelled};
-ghost use Rattle.capnp_versions.specs.OwnOutput.{SizesSuffice, IsWritten, relay_of};
+ghost use Rattle.capnp_versions.specs.Fitting.{HasShortLists, HoldsShortLists, AreSpelled};
+ghost use Rattle.capnp_versions.specs.OwnOutput.{SizesSuffice, HaveFewWords, IsWritten, relay_of};
+ghost use Rattle.capnp_versions.specs.TwoRelays.{Writes};
 
 /// Calls in turn leave a value that fits its spelling, where no list in it gets too long.
 pub fn edited_values_that_fit()
@@ -20,6 +22,15 @@ pub fn edited_values_that_fit()
         → AreSpelled nodes calls → Fits t
         → HasShortLists (edits (schema_of nodes) id calls t)
         → Fits (edits (schema_of nodes) id calls t) }
+{}
+
+/// Sizes suffice for what a relay writes, where its calls hold no list that is too long and at most 2^29 words are written.
+pub fn sizes_that_suffice()
+    ensures { (nodes : List Node) (quoted : List ℕ → List ℕ) (id : ℕ) (calls : List Call)
+        (limits : Limits) (message segments : Segments)
+        → AreSpelled nodes calls → AllByRecursion (λ c. HoldsShortLists c.verb) calls
+        → Writes (relay_of nodes quoted id calls limits) message segments → HaveFewWords segments
+        → SizesSuffice (relay_of nodes quoted id calls limits) message }
 {}
 
 /// A relay's own output, relayed again in its form without calls, gives the same bytes, where sizes sufficed and the second run writes every message.
