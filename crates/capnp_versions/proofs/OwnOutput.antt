@@ -23,7 +23,7 @@ use Rattle.capnp_versions.specs.Fitting.{AreSpelled}
 use Rattle.capnp_versions.specs.OwnOutput.{edited_value, SizesSuffice, IsWritten, with_calls, relay_of}
 use Rattle.capnp_versions.proofs.WholeValues.{fits-whole}
 use Rattle.capnp_versions.proofs.Structs.{edits_are_structs, trim_struct, opened_is_struct, reopened}
-use Rattle.capnp_versions.proofs.WrittenValues.{HasWritten, has-written, IsReadBack, read-back}
+use Rattle.capnp_versions.proofs.WrittenValues.{HasWritten, has-written, IsReadBack, read-back, sizes-fit}
 
 -- ---- a message that is read within a limit is read without one
 
@@ -139,4 +139,4 @@ pub own-output-again : (nodes : List Node) (quoted : List ℕ → List ℕ) (id 
     → (x : Relays (relay_of nodes quoted id calls limits) read write bytes output log end) → AllByRecursion (SizesSuffice (relay_of nodes quoted id calls limits)) x.messages
     → (y : Relays (relay_of nodes quoted id [] again) other write output others lines finished) → AllByRecursion IsWritten y.answers → others ≡ output
 own-output-again nodes quoted id calls limits again read other write bytes output log others lines end spelled form x sizes y all =
-    own_output (relay_of nodes quoted id calls limits) (λ message segments enough h. read-back nodes quoted id calls limits spelled message segments enough h) again read other write bytes output log others lines end form x sizes y all
+    own_output (relay_of nodes quoted id calls limits) (λ message segments enough h. read-back (relay_of nodes quoted id calls limits) message segments (sizes-fit nodes quoted id calls limits message spelled enough) h) again read other write bytes output log others lines end form x sizes y all

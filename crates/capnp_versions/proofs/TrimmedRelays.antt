@@ -1,6 +1,5 @@
 -- Two relays in a row.
 use Rattle.std.proofs.Common.{◌≡◌, ℕ, ◌*◌, max, [], ◌∷◌, ◌++◌, sym, ◌∙◌, ap, subst, arith}
-use Rattle.std.specs.List.{AllByRecursion}
 use Rattle.std.proofs.lemmas.Nat.{pow_pos}
 use Rattle.std.proofs.lemmas.List.{append-nil}
 use Rattle.capnp_model.specs.Segments.{Segments}
@@ -16,14 +15,13 @@ use Rattle.capnp_model.proofs.TrimTwice.{trim-trim}
 use Rattle.capnp_model.proofs.TrimmedKinds.{opened_start}
 use Rattle.capnp_model.proofs.Numbers.{wider}
 use Rattle.capnp_versions.specs.Whole.{IsWhole}
-use Rattle.capnp_versions.specs.Fitting.{HoldsShortLists}
-use Rattle.capnp_versions.specs.OwnOutput.{SizesSuffice, HaveFewWords}
-use Rattle.capnp_versions.specs.TwoRelays.{TwoRelays, first, second, joined, Writes, CanRelay}
+use Rattle.capnp_versions.specs.OwnOutput.{WritesFitting, HaveFewWords}
+use Rattle.capnp_versions.specs.TwoRelays.{TwoRelays, first, second, joined, Writes, CanRelay, AreShort}
 use Rattle.capnp_versions.proofs.WholeValues.{fits-whole, whole-trim, whole-resized, whole-padded_to}
 use Rattle.capnp_versions.proofs.Alike.{Alike}
 use Rattle.capnp_versions.proofs.SameContents.{alike-self}
 use Rattle.capnp_versions.proofs.Structs.{IsStruct, trim_struct, edits_are_structs, opened_is_struct, reopened}
-use Rattle.capnp_versions.proofs.WrittenValues.{has-written, value-fits, read-back}
+use Rattle.capnp_versions.proofs.WrittenValues.{has-written, value-fits, read-back, sizes-fit}
 use Rattle.capnp_versions.proofs.SufficientSizes.{sizes-suffice}
 use Rattle.capnp_versions.proofs.TrimmedCalls.{edits-append, alike-calls, trimmed_start}
 
@@ -52,8 +50,8 @@ unfolding opened_root
 whole_opened s id t h = whole_root (s.shape_of id) (trim t) (whole-trim t h)
 
 -- THE LAWS
-pub relays-by-sizes : (r : TwoRelays) (message one two both : Segments) → CanRelay r message → SizesSuffice (first r) message → Writes (first r) message one → Writes (second r) one two → Writes (joined r) message both → two ≡ both
-relays-by-sizes r message one two both can sizes writes writes' writes'' =
+pub relays-by-values : (r : TwoRelays) (message one two both : Segments) → CanRelay r message → WritesFitting (first r) message → Writes (first r) message one → Writes (second r) one two → Writes (joined r) message both → two ≡ both
+relays-by-values r message one two both can fitting writes writes' writes'' =
     let s : Schema = schema_of r.nodes in
     let w = has-written (first r) message one writes.0 writes.1 in
     let w' = has-written (second r) one two writes'.0 writes'.1 in
@@ -67,7 +65,7 @@ relays-by-sizes r message one two both can sizes writes writes' writes'' =
     -- what the first relay leaves
     let left : Tree = edits s r.root r.calls opened in
     let is_struct : IsStruct left = edits_are_structs s r.root r.calls opened (opened_is_struct s r.root t start.opens) in
-    let back : w'.value ≡ trim left = (read-back r.nodes r.quoted r.root r.calls r.limits can.spelled message one sizes w).again r.later_limits w'.value w'.is_value in
+    let back : w'.value ≡ trim left = (read-back (first r) message one fitting w).again r.later_limits w'.value w'.is_value in
     let rest : IsStart r.nodes r.root (r.later_calls ++ []) left = subst (λ z. IsStart r.nodes r.root z left) (sym (append-nil r.later_calls)) after.start in
     let later = alike-calls r.nodes r.root r.later_calls [] can.later_plain (opened_root s r.root (trim left)) left (opened_again s r.root left is_struct after.alike.whole)
     (opened_start r.nodes r.root (r.later_calls ++ []) (trim left) (trimmed_start r.nodes r.root (r.later_calls ++ []) left rest)) rest in
@@ -77,6 +75,7 @@ relays-by-sizes r message one two both can sizes writes writes' writes'' =
     ∙ ap (λ z. canonical_words (trim z) ∷ []) (sym (edits-append s r.root r.calls r.later_calls opened))
     ∙ sym (w''.is_written ∙ ap (λ z. canonical_words (trim (edits s r.root (r.calls ++ r.later_calls) (opened_root s r.root z))) ∷ []) same)
 
-pub relays-by-words : (r : TwoRelays) (message one two both : Segments) → CanRelay r message → AllByRecursion (λ c. HoldsShortLists c.verb) r.calls → HaveFewWords one → Writes (first r) message one → Writes (second r) one two → Writes (joined r) message both → two ≡ both
-relays-by-words r message one two both can short few writes writes' writes'' =
-    relays-by-sizes r message one two both can (sizes-suffice r.nodes r.quoted r.root r.calls r.limits message one can.spelled short writes few) writes writes' writes''
+pub relays-by-words : (r : TwoRelays) (message one two both : Segments) → CanRelay r message → AreShort r → HaveFewWords one → Writes (first r) message one → Writes (second r) one two → Writes (joined r) message both → two ≡ both
+relays-by-words r message one two both can are few writes writes' writes'' =
+    let enough = sizes-suffice r.nodes r.quoted r.root r.calls r.limits message one are.spelled are.short writes few in
+    relays-by-values r message one two both can (sizes-fit r.nodes r.quoted r.root r.calls r.limits message are.spelled enough) writes writes' writes''

@@ -8,6 +8,7 @@ use Rattle.capnp_model.specs.Traversal.{tree_at}
 use Rattle.capnp_model.specs.Encoding.{canonical_words}
 use Rattle.capnp_model.specs.Spelling.{CanSpell}
 use Rattle.capnp_model.specs.Schemas.{Shape, shape, Node}
+use Rattle.capnp_model.specs.Accepted.{schema_of}
 use Rattle.capnp_model.specs.Calls.{Call}
 use Rattle.capnp_model.specs.NamedPaths.{IsOpen}
 use Rattle.capnp_model.specs.Answers.{Reply, refused_depth, written, Limits, levels, keeps_nesting, value_within, opened_root, widened_root, edits, replies, answer_struct, answer_value, answer}
@@ -20,7 +21,7 @@ use Rattle.capnp_model.proofs.FittingValues.{Fits-widened}
 use Rattle.capnp_model.proofs.RoundTrip.{enc_means}
 use Rattle.capnp_model.proofs.CanonicalWords.{canonical_can_spell}
 use Rattle.capnp_versions.specs.Fitting.{AreSpelled}
-use Rattle.capnp_versions.specs.OwnOutput.{edited_value, SizesSuffice, relay_of}
+use Rattle.capnp_versions.specs.OwnOutput.{edited_value, SizesSuffice, WritesFitting, relay_of}
 use Rattle.capnp_versions.proofs.FittingParts.{Lengths, any_lengths, FitsBy, fits-by-parts, StructFits}
 use Rattle.capnp_versions.proofs.FittingTrims.{numbers-trim}
 use Rattle.capnp_versions.proofs.FittingSchemas.{schema-fits, edited-by-any}
@@ -81,34 +82,34 @@ pub record IsReadBack (w : Work) (segments : Segments) (value : Tree) : Type 0 w
   pub spells : CanSpell None segments
   pub again : (limits : Limits) (t : Tree) → value_within limits segments ≡ Some t → t ≡ trim (edited_value w value)
 
-module _ (w : Work) (struct_fits : StructFits any_lengths (w.schema.shape_of w.root)) (numbers : (t : Tree) → Fits t → FitsBy any_lengths (edits w.schema w.root w.calls t))
-    (message segments : Segments) (sizes : SizesSuffice w message) (h : HasWritten w message segments) where
-  written_fits : Fits (trim (edited_value w h.value))
-  unfolding opened_root
-  written_fits =
-      let e : Tree = edited_value w h.value in
-      let opened = opened-fits any_lengths (w.schema.shape_of w.root) h.value struct_fits (value-fits w.limits message h.value h.is_value) in
-      fits-by-parts any_lengths (trim e) (numbers-trim any_lengths e (numbers (opened_root w.schema w.root h.value) opened)) (sizes h.value h.is_value).0
-
+module _ (w : Work) (message segments : Segments) (fitting : WritesFitting w message) (h : HasWritten w message segments) where
   value_again : (limits : Limits) (t : Tree) → value_within limits segments ≡ Some t → t ≡ trim (edited_value w h.value)
   value_again limits t v =
       let e : Tree = trim (edited_value w h.value) in
+      let fits = fitting h.value h.is_value in
       let found = read_value limits segments t v in
       let n = found.0 in
       let k : ℕ = max n (depth e) in
       let one : tree_at k segments root ≡ Some t = tree_at_more n k segments root t (omega arith) found.1 in
-      let two : tree_at k segments root ≡ Some e = subst (λ s. tree_at k s root ≡ Some e) (sym h.is_written) (enc_means e k written_fits (omega arith) (sizes h.value h.is_value).1) in
+      let two : tree_at k segments root ≡ Some e = subst (λ s. tree_at k s root ≡ Some e) (sym h.is_written) (enc_means e k fits.0 (omega arith) fits.1) in
       some_is t e (sym one ∙ two)
 
-  is_read_back : IsReadBack w segments h.value
-  is_read_back = record {
-    fits = written_fits;
-    spells = subst (λ s. CanSpell None s) (sym h.is_written) (canonical_can_spell None (trim (edited_value w h.value)) written_fits (sizes h.value h.is_value).1 refl);
-    again = value_again;
-  }
+  pub read-back : IsReadBack w segments h.value
+  read-back =
+      let fits = fitting h.value h.is_value in
+      record {
+        fits = fits.0;
+        spells = subst (λ s. CanSpell None s) (sym h.is_written) (canonical_can_spell None (trim (edited_value w h.value)) fits.0 fits.1 refl);
+        again = value_again;
+      }
 
--- of calls that can be spelled
-pub read-back : (nodes : List Node) (quoted : List ℕ → List ℕ) (id : ℕ) (calls : List Call) (limits : Limits) → AreSpelled nodes calls → (message segments : Segments)
-    → SizesSuffice (relay_of nodes quoted id calls limits) message → (h : HasWritten (relay_of nodes quoted id calls limits) message segments) → IsReadBack (relay_of nodes quoted id calls limits) segments h.value
-read-back nodes quoted id calls limits spelled message segments sizes h =
-    is_read_back (relay_of nodes quoted id calls limits) (schema-fits any_lengths nodes spelled.accepted spelled.small id) (λ t f. edited-by-any nodes id calls t spelled f) message segments sizes h
+-- ---- where sizes suffice, it fits
+
+pub sizes-fit : (nodes : List Node) (quoted : List ℕ → List ℕ) (id : ℕ) (calls : List Call) (limits : Limits) (message : Segments) → AreSpelled nodes calls
+    → SizesSuffice (relay_of nodes quoted id calls limits) message → WritesFitting (relay_of nodes quoted id calls limits) message
+unfolding opened_root
+sizes-fit nodes quoted id calls limits message spelled sizes t is_value =
+    let e : Tree = edited_value (relay_of nodes quoted id calls limits) t in
+    let opened : Fits (opened_root (schema_of nodes) id t) = opened-fits any_lengths ((schema_of nodes).shape_of id) t (schema-fits any_lengths nodes spelled.accepted spelled.small id) (value-fits limits message t is_value) in
+    let enough = sizes t is_value in
+    (fits-by-parts any_lengths (trim e) (numbers-trim any_lengths e (edited-by-any nodes id calls (opened_root (schema_of nodes) id t) spelled opened)) enough.0, enough.1)

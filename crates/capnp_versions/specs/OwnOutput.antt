@@ -4,6 +4,7 @@ use Rattle.std.specs.List.{AllByRecursion}
 use Rattle.capnp_model.specs.Segments.{Segments}
 use Rattle.capnp_model.specs.Trees.{Tree}
 use Rattle.capnp_model.specs.Trimming.{trim}
+use Rattle.capnp_model.specs.Fits.{Fits}
 use Rattle.capnp_model.specs.Encoding.{canonical_words}
 use Rattle.capnp_model.specs.Schemas.{Node}
 use Rattle.capnp_model.specs.Accepted.{schema_of}
@@ -21,6 +22,12 @@ abbrev pub SizesSuffice : Work → Segments → Type 0
 SizesSuffice w s =
     (t : Tree) → value_within w.limits s ≡ Some t
     → HasShortLists (trim (edited_value w t)) × (length (canonical_words (trim (edited_value w t))) ≤ 2 ^ 29)
+
+-- What is written for a message fits its spelling, and its words are few enough for a segment.
+abbrev pub WritesFitting : Work → Segments → Type 0
+WritesFitting w s =
+    (t : Tree) → value_within w.limits s ≡ Some t
+    → Fits (trim (edited_value w t)) × (length (canonical_words (trim (edited_value w t))) ≤ 2 ^ 29)
 
 -- Each segment has few enough words for lists and structs to be found in it.
 abbrev pub HaveFewWords : Segments → Type 0

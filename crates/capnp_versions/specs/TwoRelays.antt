@@ -1,5 +1,6 @@
 -- Two relays in a row, and one relay with the calls of both.
 use Rattle.std.specs.Prelude.{◌≡◌, ℕ, List, ◌++◌, Some}
+use Rattle.std.specs.List.{AllByRecursion}
 use Rattle.capnp_model.specs.Segments.{Segments}
 use Rattle.capnp_model.specs.Trees.{Tree}
 use Rattle.capnp_model.specs.Schemas.{Node}
@@ -9,7 +10,7 @@ use Rattle.capnp_model.specs.CallRuns.{IsStart}
 use Rattle.capnp_model.specs.Answers.{Reply, written, Limits, value_within}
 use Rattle.capnp_model.specs.SameRuns.{Work, IsAnswerIn}
 use Rattle.capnp_versions.specs.StructElements.{ArePlain}
-use Rattle.capnp_versions.specs.Fitting.{AreSpelled}
+use Rattle.capnp_versions.specs.Fitting.{AreSpelled, HoldsShortLists}
 use Rattle.capnp_versions.specs.OwnOutput.{relay_of}
 
 -- Two relays under one schema, of which the second reads what the first writes.
@@ -38,9 +39,13 @@ joined r = relay_of r.nodes r.quoted r.root (r.calls ++ r.later_calls) r.limits
 abbrev pub Writes : Work → Segments → Segments → Type 0
 Writes w message segments = (replies : List Reply) × IsAnswerIn w message (written segments replies)
 
--- The calls of both can start from the message's value, none sets a whole element of a list of structs, and the first ones can be spelled.
+-- The calls of both can start from the message's value, and none sets a whole element of a list of structs.
 pub record CanRelay (r : TwoRelays) (message : Segments) : Type 0 where
-  pub spelled : AreSpelled r.nodes r.calls
   pub plain : ArePlain (schema_of r.nodes) r.root r.calls
   pub later_plain : ArePlain (schema_of r.nodes) r.root r.later_calls
   pub start : (t : Tree) → value_within r.limits message ≡ Some t → IsStart r.nodes r.root (r.calls ++ r.later_calls) t
+
+-- The calls of the first can be spelled, and neither hold nor make a list that is too long.
+pub record AreShort (r : TwoRelays) : Type 0 where
+  pub spelled : AreSpelled r.nodes r.calls
+  pub short : AllByRecursion (λ c. HoldsShortLists c.verb) r.calls

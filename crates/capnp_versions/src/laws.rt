@@ -1,7 +1,6 @@
 //! Laws of versions, each the contract of a function that does nothing.
 
 ghost use Rattle.std.specs.Prelude.{◌≡◌, ℕ, List};
-ghost use Rattle.std.specs.List.{AllByRecursion};
 ghost use Rattle.capnp_model.specs.Segments.{Segments};
 ghost use Rattle.capnp_model.specs.Trees.{Tree};
 ghost use Rattle.capnp_model.specs.Trimming.{trim};
@@ -18,9 +17,8 @@ ghost use Rattle.capnp_versions.specs.StructElements.{IsPlain, ArePlain};
 ghost use Rattle.capnp_versions.specs.Roots.{IsRootInKind};
 ghost use Rattle.capnp_versions.specs.SameReplies.{SameReplies};
 ghost use Rattle.capnp_versions.specs.TwoVersions.{TwoVersions, older, newer, newer_record, older_view, CanEdit, CanStep, CanRun};
-ghost use Rattle.capnp_versions.specs.Fitting.{HoldsShortLists};
-ghost use Rattle.capnp_versions.specs.OwnOutput.{SizesSuffice, HaveFewWords};
-ghost use Rattle.capnp_versions.specs.TwoRelays.{TwoRelays, first, second, joined, Writes, CanRelay};
+ghost use Rattle.capnp_versions.specs.OwnOutput.{WritesFitting, HaveFewWords};
+ghost use Rattle.capnp_versions.specs.TwoRelays.{TwoRelays, first, second, joined, Writes, CanRelay, AreShort};
 
 /// In a value that fits its spelling every section lies within its words.
 pub fn fitting_values_are_whole()
@@ -42,14 +40,14 @@ pub fn calls_at_trimmed_values()
         ≡ trim (edits (schema_of nodes) id calls t) }
 {}
 
-/// Two relays in a row write the words of one with the joined calls, where the message is written on both roads and sizes suffice for what the first relay writes; so too where its calls hold no list that is too long and it writes at most 2^29 words.
+/// Two relays in a row write the words of one with the joined calls, where the message is written on both roads, the first relay's calls hold no list that is too long and it writes at most 2^29 words; so too wherever what it writes fits its spelling.
 pub fn relays_in_a_row()
-    ensures by_sizes { (r : TwoRelays) (message one two both : Segments) → CanRelay r message
-        → SizesSuffice (first r) message
+    ensures by_words { (r : TwoRelays) (message one two both : Segments) → CanRelay r message
+        → AreShort r → HaveFewWords one
         → Writes (first r) message one → Writes (second r) one two
         → Writes (joined r) message both → two ≡ both }
-    ensures by_words { (r : TwoRelays) (message one two both : Segments) → CanRelay r message
-        → AllByRecursion (λ c. HoldsShortLists c.verb) r.calls → HaveFewWords one
+    ensures by_values { (r : TwoRelays) (message one two both : Segments) → CanRelay r message
+        → WritesFitting (first r) message
         → Writes (first r) message one → Writes (second r) one two
         → Writes (joined r) message both → two ≡ both }
 {}

@@ -13,7 +13,7 @@ ghost use Rattle.capnp_model.specs.Answers.{Limits, edits};
 ghost use Rattle.capnp_model.specs.Runs.{End, finished};
 ghost use Rattle.capnp_model.specs.SameRuns.{IsForm, Relays};
 ghost use Rattle.capnp_versions.specs.Fitting.{HasShortLists, HoldsShortLists, AreSpelled};
-ghost use Rattle.capnp_versions.specs.OwnOutput.{SizesSuffice, HaveFewWords, IsWritten, relay_of};
+ghost use Rattle.capnp_versions.specs.OwnOutput.{SizesSuffice, WritesFitting, HaveFewWords, IsWritten, relay_of};
 ghost use Rattle.capnp_versions.specs.TwoRelays.{Writes};
 
 /// Calls in turn leave a value that fits its spelling, where no list in it gets too long.
@@ -24,13 +24,17 @@ pub fn edited_values_that_fit()
         → Fits (edits (schema_of nodes) id calls t) }
 {}
 
-/// Sizes suffice for what a relay writes, where its calls hold no list that is too long and at most 2^29 words are written.
+/// Sizes suffice for what a relay writes, where its calls hold no list that is too long and at most 2^29 words are written; and what is written fits its spelling, where sizes suffice.
 pub fn sizes_that_suffice()
-    ensures { (nodes : List Node) (quoted : List ℕ → List ℕ) (id : ℕ) (calls : List Call)
+    ensures sizes { (nodes : List Node) (quoted : List ℕ → List ℕ) (id : ℕ) (calls : List Call)
         (limits : Limits) (message segments : Segments)
         → AreSpelled nodes calls → AllByRecursion (λ c. HoldsShortLists c.verb) calls
         → Writes (relay_of nodes quoted id calls limits) message segments → HaveFewWords segments
         → SizesSuffice (relay_of nodes quoted id calls limits) message }
+    ensures fits { (nodes : List Node) (quoted : List ℕ → List ℕ) (id : ℕ) (calls : List Call)
+        (limits : Limits) (message : Segments)
+        → AreSpelled nodes calls → SizesSuffice (relay_of nodes quoted id calls limits) message
+        → WritesFitting (relay_of nodes quoted id calls limits) message }
 {}
 
 /// A relay's own output, relayed again in its form without calls, gives the same bytes, where sizes sufficed and the second run writes every message.
