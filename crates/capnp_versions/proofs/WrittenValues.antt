@@ -11,7 +11,7 @@ use Rattle.capnp_model.specs.Schemas.{Shape, shape, Node}
 use Rattle.capnp_model.specs.Accepted.{schema_of}
 use Rattle.capnp_model.specs.Calls.{Call}
 use Rattle.capnp_model.specs.NamedPaths.{IsOpen}
-use Rattle.capnp_model.specs.Answers.{Reply, refused_depth, written, Limits, levels, keeps_nesting, value_within, opened_root, widened_root, edits, replies, answer_struct, answer_value, answer}
+use Rattle.capnp_model.specs.Answers.{Reply, refused_depth, written, Limits, levels, keeps_nesting, value_within, opened_root, widened_root, replies, answer_struct, answer_value, answer}
 use Rattle.capnp_model.specs.SameRuns.{Work, IsAnswerIn}
 use Rattle.capnp_model.proofs.Chaining.{bind_some, provided_some, some_is}
 use Rattle.capnp_model.proofs.Depth.{tree_at_more}
@@ -22,7 +22,7 @@ use Rattle.capnp_model.proofs.RoundTrip.{enc_means}
 use Rattle.capnp_model.proofs.CanonicalWords.{canonical_can_spell}
 use Rattle.capnp_versions.specs.Fitting.{AreSpelled}
 use Rattle.capnp_versions.specs.OwnOutput.{edited_value, SizesSuffice, WritesFitting, relay_of}
-use Rattle.capnp_versions.proofs.FittingParts.{Lengths, any_lengths, FitsBy, fits-by-parts, StructFits}
+use Rattle.capnp_versions.proofs.FittingParts.{Lengths, any_lengths, fits-by-parts, StructFits}
 use Rattle.capnp_versions.proofs.FittingTrims.{numbers-trim}
 use Rattle.capnp_versions.proofs.FittingSchemas.{schema-fits, edited-by-any}
 

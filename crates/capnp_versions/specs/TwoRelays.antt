@@ -43,7 +43,8 @@ Writes w message segments = (replies : List Reply) × IsAnswerIn w message (writ
 pub record CanRelay (r : TwoRelays) (message : Segments) : Type 0 where
   pub plain : ArePlain (schema_of r.nodes) r.root r.calls
   pub later_plain : ArePlain (schema_of r.nodes) r.root r.later_calls
-  pub start : (t : Tree) → value_within r.limits message ≡ Some t → IsStart r.nodes r.root (r.calls ++ r.later_calls) t
+  pub start : (t : Tree) → value_within r.limits message ≡ Some t
+      → IsStart r.nodes r.root (r.calls ++ r.later_calls) t
 
 -- The calls of the first can be spelled, and neither hold nor make a list that is too long.
 pub record AreShort (r : TwoRelays) : Type 0 where
