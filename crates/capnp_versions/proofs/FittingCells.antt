@@ -14,15 +14,15 @@ use Rattle.capnp_model.proofs.Bounds.{with_bits_lt}
 use Rattle.capnp_model.proofs.Stripping.{count-resized}
 use Rattle.capnp_model.proofs.SoundShapes.{FitsSlot}
 use Rattle.capnp_model.proofs.FitCalls.{IsGoodSlot, contents_fit}
-use Rattle.capnp_versions.proofs.SameContents.{IsWrite}
-use Rattle.capnp_versions.proofs.FittingParts.{Lengths, FitsBy, AllFitBy, SpelledBy, count-with, all-with, all-resized, child-fits, UnionFits, MemberFits, ShapeFits, FieldsFit, BodyFits, words_of_shape, pointers_of_shape, SchemaFits}
+use Rattle.capnp_versions.proofs.SameContents.{shape_words, IsWrite}
+use Rattle.capnp_versions.proofs.FittingParts.{Lengths, FitsBy, AllFitBy, SpelledBy, count-with, all-with, all-resized, child-fits, UnionFits, MemberFits, ShapeFits, FieldsFit, BodyFits, pointers_of_shape, SchemaFits}
 use Rattle.capnp_versions.proofs.FittingContents.{ContentFits, blob-fits, text-fits, root-fits, new-list-fits, slot-content}
 
 -- an element has room for its type
 abbrev pub Room : Schema → ℕ → ℕ → Ty → Type 0
 Room s w q void = Unit {0}
 Room s w q (plain p) = width p ≤ 64 * w
-Room s w q (struct id) = (words_of_shape (s.shape_of id) ≤ w) × (pointers_of_shape (s.shape_of id) ≤ q)
+Room s w q (struct id) = (shape_words (s.shape_of id) ≤ w) × (pointers_of_shape (s.shape_of id) ≤ q)
 Room s w q ty = 0 < q
 
 -- what is put into an element is of its type

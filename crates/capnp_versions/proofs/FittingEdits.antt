@@ -16,7 +16,8 @@ use Rattle.capnp_versions.proofs.WroteLists.{at-plain-element, at-child, at-poin
 use Rattle.capnp_versions.proofs.Wrote.{Wrote, wrote-map, field-is-write, element-is-write, WritesField, WritesElement, WritesName, FoundName, found_name, find_name, WritesStruct, into_struct, WritesList, into_list, no-name, no-index, through-pointer, reads-padded, reads-nothing}
 use Rattle.capnp_versions.proofs.OpenedValues.{null_default}
 use Rattle.capnp_versions.proofs.Within.{AllNarrow}
-use Rattle.capnp_versions.proofs.FittingParts.{Lengths, FitsBy, SpelledBy, all-padded, child-fits, count-padded, UnionFits, MemberFits, ShapeFits, FieldsFit, BodyFits, words_of_shape, pointers_of_shape, StructFits, SchemaFits, shape-wider}
+use Rattle.capnp_versions.proofs.SameContents.{shape_words}
+use Rattle.capnp_versions.proofs.FittingParts.{Lengths, FitsBy, SpelledBy, all-padded, child-fits, count-padded, UnionFits, MemberFits, ShapeFits, FieldsFit, BodyFits, pointers_of_shape, StructFits, SchemaFits, shape-wider}
 use Rattle.capnp_versions.proofs.FittingContents.{nulls-fit, element-content}
 use Rattle.capnp_versions.proofs.FittingCells.{Good, put-child-keeps, mark-keeps, in-range, field-put, Room, element-ok, element-put}
 use Rattle.capnp_versions.proofs.FittingLists.{count-on-elements, count-on-pointers, widened-list-fits, plain-list-fits, elements-keep, pointers-keep, NoStruct, pointer-room, struct-room}
@@ -80,7 +81,7 @@ module _ (L : Lengths) where
       struct-fits l id t h write = struct-by l (s.shape_of id) (fits id) t h write.open' write.wrote
 
       -- an element of a list of structs of larger sizes
-      wider-room : (id w q : ℕ) → words_of_shape (s.shape_of id) ≤ w → pointers_of_shape (s.shape_of id) ≤ q → Room s w q (struct id)
+      wider-room : (id w q : ℕ) → shape_words (s.shape_of id) ≤ w → pointers_of_shape (s.shape_of id) ≤ q → Room s w q (struct id)
       wider-room id w q a b = (a, b)
 
       structs-by : (k id : ℕ) (g : Shape) → s.shape_of id ≡ g → StructFits L g → (t : Tree) → FitsBy L t → WritesList s verb path k (struct id) t → FitsBy L (edit_list (edit_element s path verb (struct id)) k (widened_list g t))
@@ -181,7 +182,7 @@ module _ (L : Lengths) where
       list-element : (i : ℕ) (ty : Ty) (t : Tree) → AllNarrow ty → FitsBy L t → Wrote (through_value s (index i) (step_field s path verb) (step_element s path verb) (list ty) (opened s (list ty) null (read s t (list ty)))) → FitsBy L (edit_value s (index i) (edit_field s path verb) (edit_element s path verb) (list ty) t)
       list-element i ty t narrow h write = subst (λ z. FitsBy L (edit_value s (index i) (edit_field s path verb) (edit_element s path verb) (list ty) z)) (null_default (list ty) t) (value-fits (index i) (list ty) null t narrow tt h write)
 
-      named-element : (l : List ℕ) (g : Shape) (w q : ℕ) (c : Cell) → StructFits L g → words_of_shape g ≤ w → pointers_of_shape g ≤ q → WritesName s verb path l g c → Good L w q c → Good L w q (elim g as (λ x. Cell) [ shape nid x y u fs ↦ edit_named (edit_field s path verb) l u fs c ])
+      named-element : (l : List ℕ) (g : Shape) (w q : ℕ) (c : Cell) → StructFits L g → shape_words g ≤ w → pointers_of_shape g ≤ q → WritesName s verb path l g c → Good L w q c → Good L w q (elim g as (λ x. Cell) [ shape nid x y u fs ↦ edit_named (edit_field s path verb) l u fs c ])
       named-element l (shape nid x y u fs) w q c g a b write good = name-keeps l nid x y w q u fs c (shape-wider L x y w q (shape nid x y u fs) a b g.inside) write good
 
       through-element : (st : Step) (ty : Ty) (w q : ℕ) (c : Cell) → AllNarrow ty → Room s w q ty → WritesElement s verb (st ∷ path) ty c → Good L w q c → Good L w q (edit_through_element s st (edit_field s path verb) (edit_element s path verb) ty c)

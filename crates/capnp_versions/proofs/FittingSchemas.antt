@@ -23,7 +23,7 @@ use Rattle.capnp_versions.proofs.SameShapes.{UnionWithin}
 use Rattle.capnp_versions.proofs.Holders.{PlacesKept, places_kept, uses, group_fits}
 use Rattle.capnp_versions.proofs.Within.{FitsDefault, IsWithin, AreWithin, BodyWithin, shape-within}
 use Rattle.capnp_versions.proofs.Wrote.{Wrote}
-use Rattle.capnp_versions.proofs.FittingParts.{Lengths, any_lengths, FitsBy, SpelledBy, of-any, numbers-of, fits-by-parts, UnionFits, MemberFits, ShapeFits, FieldsFit, BodyFits, words_of_shape, pointers_of_shape, SchemaFits}
+use Rattle.capnp_versions.proofs.FittingParts.{Lengths, any_lengths, FitsBy, SpelledBy, of-any, numbers-of, fits-by-parts, UnionFits, MemberFits, ShapeFits, FieldsFit, BodyFits, pointers_of_shape, SchemaFits}
 use Rattle.capnp_versions.proofs.FittingEdits.{written-fits}
 
 -- ---- pointers
@@ -137,9 +137,6 @@ module _ (L : Lengths) where
     body-fit s w p (pointer_slot i ty d) h good k = (k, h.0, default_numbers d h.1, good.0)
     body-fit s w p (group_slot g) h good k = both-fit s w p g h good k
 
-  same_words : (g : Shape) → shape_words g ≡ words_of_shape g
-  same_words (shape nid w p u fs) = refl
-
   module _ (nodes : List Node) (accepted : IsAccepted nodes) (small : HaveSmallSections nodes) where
     found_small : (ns : List Node) → HaveSmallSections ns → (id : ℕ) (n : Node) → find_node ns id ≡ Some n → HasSmallSections n.kind
     found_small [] h id n e = absurd (cc e)
@@ -149,16 +146,16 @@ module _ (L : Lengths) where
         by true more x = let is : m ≡ n = cc in subst (λ (z : Node). HasSmallSections z.kind) is h.0
         by false more x = more x
 
-    node_small : (groups : ℕ → Shape) (o : Option Node) → ((n : Node) → o ≡ Some n → HasSmallSections n.kind) → (words_of_shape (shape_of_node groups o) < 2 ^ 16) × (pointers_of_shape (shape_of_node groups o) < 2 ^ 16)
+    node_small : (groups : ℕ → Shape) (o : Option Node) → ((n : Node) → o ≡ Some n → HasSmallSections n.kind) → (shape_words (shape_of_node groups o) < 2 ^ 16) × (pointers_of_shape (shape_of_node groups o) < 2 ^ 16)
     node_small groups None h = (omega arith, omega arith)
     node_small groups (Some n) h = by n.kind (h n refl)
       where
-        by : (k : NodeKind) → HasSmallSections k → (words_of_shape (elim k as (λ (x : NodeKind). Shape) [ struct_node s ↦ shape n.id s.words s.pointers (union_place s) (fields_from groups s.fields) | enum_node es ↦ no_shape ]) < 2 ^ 16)
+        by : (k : NodeKind) → HasSmallSections k → (shape_words (elim k as (λ (x : NodeKind). Shape) [ struct_node s ↦ shape n.id s.words s.pointers (union_place s) (fields_from groups s.fields) | enum_node es ↦ no_shape ]) < 2 ^ 16)
             × (pointers_of_shape (elim k as (λ (x : NodeKind). Shape) [ struct_node s ↦ shape n.id s.words s.pointers (union_place s) (fields_from groups s.fields) | enum_node es ↦ no_shape ]) < 2 ^ 16)
         by (struct_node s) g = g
         by (enum_node es) g = (omega arith, omega arith)
 
-    shape_small : (levels id : ℕ) → (words_of_shape (shape_in nodes levels id) < 2 ^ 16) × (pointers_of_shape (shape_in nodes levels id) < 2 ^ 16)
+    shape_small : (levels id : ℕ) → (shape_words (shape_in nodes levels id) < 2 ^ 16) × (pointers_of_shape (shape_in nodes levels id) < 2 ^ 16)
     unfolding shape_in
     shape_small zero id = (omega arith, omega arith)
     shape_small (suc levels) id = node_small (λ g. shape_in nodes levels g) (find_node nodes id) (λ n e. found_small nodes small id n e)
@@ -170,12 +167,11 @@ module _ (L : Lengths) where
         let q = places_kept nodes accepted in
         let g = shape_in nodes (length nodes) id in
         let sizes = shape_small (length nodes) id in
-        let e = same_words g in
         record {
           words = sizes.0;
           pointers = sizes.1;
-          inside = both-fit (schema_of nodes) (words_of_shape g) (pointers_of_shape g) g
-              (shape-within nodes r q (length nodes) id (64 * words_of_shape g) (omega arith)) (good_shape nodes r (length nodes) id) (shape_pointers nodes r q (length nodes) id (pointers_of_shape g) (omega arith));
+          inside = both-fit (schema_of nodes) (shape_words g) (pointers_of_shape g) g
+              (shape-within nodes r q (length nodes) id (64 * shape_words g) (omega arith)) (good_shape nodes r (length nodes) id) (shape_pointers nodes r q (length nodes) id (pointers_of_shape g) (omega arith));
         }
 
     written-numbers : (id : ℕ) (path : List Step) (verb : Verb) → SpelledBy L verb → (t : Tree) → FitsBy L t

@@ -18,8 +18,7 @@ use Rattle.capnp_versions.specs.Whole.{IsWhole}
 use Rattle.capnp_versions.specs.OwnOutput.{WritesFitting, HaveFewWords}
 use Rattle.capnp_versions.specs.TwoRelays.{TwoRelays, first, second, joined, Writes, CanRelay, AreShort}
 use Rattle.capnp_versions.proofs.WholeValues.{fits-whole, whole-trim, whole-resized, whole-padded_to}
-use Rattle.capnp_versions.proofs.Alike.{Alike}
-use Rattle.capnp_versions.proofs.SameContents.{alike-self}
+use Rattle.capnp_versions.proofs.Alike.{Alike, alike-self}
 use Rattle.capnp_versions.proofs.Structs.{IsStruct, trim_struct, edits_are_structs, opened_is_struct, reopened}
 use Rattle.capnp_versions.proofs.WrittenValues.{has-written, value-fits, read-back, sizes-fit}
 use Rattle.capnp_versions.proofs.SufficientSizes.{sizes-suffice}

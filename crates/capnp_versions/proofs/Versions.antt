@@ -24,8 +24,8 @@ use Rattle.capnp_model.proofs.EditLaws.{edit_open, next_start, last_start, recor
 use Rattle.capnp_versions.specs.Whole.{IsWhole, IsWholeVerb}
 use Rattle.capnp_versions.specs.SameReplies.{IsWrite, SameUnlessGet, SameReplies}
 use Rattle.capnp_versions.specs.TwoVersions.{TwoVersions, older, newer, newer_record, older_view, CanEdit, CanStep, CanRun}
-use Rattle.capnp_versions.proofs.Alike.{Alike}
-use Rattle.capnp_versions.proofs.SameContents.{shape_words, alike-self}
+use Rattle.capnp_versions.proofs.Alike.{Alike, alike-self}
+use Rattle.capnp_versions.proofs.SameContents.{shape_words}
 use Rattle.capnp_versions.proofs.Follows.{NameFollows, FieldFollows}
 use Rattle.capnp_versions.proofs.Within.{accepted-within}
 use Rattle.capnp_versions.proofs.TrimmedEdits.{accepted-good, written-alike, left}

@@ -51,7 +51,7 @@ IsSpelledVerb (set_to (enumerant n)) = n < 2 ^ 16
 IsSpelledVerb (set_to (message t)) = NumbersFit t
 IsSpelledVerb _ = Unit {0}
 
--- A verb that neither holds nor makes a list that is too long. A text has a zero byte at its end.
+-- A verb that neither holds nor makes a list that is too long, of whatever type. A text has a zero byte at its end.
 abbrev pub HoldsShortLists : Verb → Type 0
 HoldsShortLists (set_to (text_value bs)) = length bs + 1 < 2 ^ 29
 HoldsShortLists (set_to (blob_value bs)) = length bs < 2 ^ 29
