@@ -1,5 +1,5 @@
 -- Whole groups and runs at the front of bytes that are shown.
-use Rattle.std.proofs.Common.{◌≡◌, ◌≢◌, ℕ, zero, suc, ◌+◌, ◌-◌, ◌*◌, ◌/◌, ◌%◌, ◌<◌, ◌≤◌, mod-lt, true, false, leb, List, [], ◌∷◌, ◌++◌, length, take, drop, get_or, replicate, Result, Ok, Err, refl, sym, ap, subst, ◌∙◌, append_assoc, append-nil, arith, take_at, drop_at, take-append-drop, length-append, length-drop, length-take-le}
+use Rattle.std.proofs.Common.{◌≡◌, ◌≢◌, ℕ, zero, suc, ◌+◌, ◌-◌, ◌*◌, ◌/◌, ◌%◌, ◌<◌, ◌≤◌, mod-lt, true, false, leb, List, [], ◌∷◌, ◌++◌, length, take, drop, get_or, replicate, Result, Ok, Err, refl, sym, ap, subst, ◌∙◌, append_assoc, append-nil, arith, take_at, drop_at, take-append-drop, length-append, length-drop, length-take-le, drop-drop}
 use Rattle.std.specs.Int.{w64, from_le_bytes}
 use Rattle.std.proofs.lemmas.Bool.{le-leb, ne_eqb}
 use Rattle.std.proofs.lemmas.List.{take-append-le, drop-append-le, take_more, take_all}
@@ -22,7 +22,7 @@ use Rattle.capnp_stream.specs.Streams.{Drops}
 use Rattle.capnp_packing.specs.Parts.{Leads, Refuses, tagged, with_front}
 use Rattle.capnp_packing.specs.Tags.{marks}
 use Rattle.capnp_packing.specs.Runs.{run_view, IsOver, NeedsBytes}
-use Rattle.capnp_packing.specs.Steps.{IsGroup, Spells, Unpacks, Reads}
+use Rattle.capnp_packing.specs.Steps.{IsFirst, IsGroup, Spells, Unpacks, Reads}
 use Rattle.capnp_packing.specs.declared.runs.Run.{Run}
 use Rattle.capnp_packing.specs.declared.runs.Run.TheVariants.{First, Next, Zeros, Verbatim}
 use Rattle.capnp_packing.specs.declared.shown.Head.{Head}
@@ -123,30 +123,43 @@ group-needed n tag marked word tail read first second (suc k) below =
     both k (omega arith)
 
 -- a group whose parts were worked out
-module _ (n : ℕ) (bytes word : List ℕ) (m : ℕ) (ten : length bytes ≡ 10) (count : m ≡ marks 8 (get_or bytes 0 0)) (most : m ≤ 8)
-    (spelled : (more : List ℕ) → tagged (get_or bytes 0 0) (take (marks 8 (get_or bytes 0 0)) (behind_tag bytes) ++ more) ≡ Ok (word, more)) where
-  head-by : (tail : List ℕ) (run : Run) (len : ℕ) → take len bytes ≡ take (1 + m) bytes ++ tail → len ≤ 10 → ((more : List ℕ) → run_at n (get_or bytes 0 0) (tail ++ more) ≡ Ok (run_view run, more)) → EachIsNeeded (run_at n (get_or bytes 0 0)) tail
-      → IsGroup n bytes (record { word = word; len = len; run = run })
-  head-by tail run len cut within read needed = record {
+module _ (n : ℕ) (bytes : List ℕ) (tag : ℕ) (word : List ℕ) (m : ℕ) (ten : length bytes ≡ 10) (here : tag ≡ get_or bytes 0 0) (count : m ≡ marks 8 tag) (most : m ≤ 8)
+    (spelled : (more : List ℕ) → tagged tag (take (marks 8 tag) (behind_tag bytes) ++ more) ≡ Ok (word, more)) where
+  head-by : (tail : List ℕ) (run : Run) (len next : ℕ) → take len bytes ≡ take (1 + m) bytes ++ tail → len ≤ 10 → ((more : List ℕ) → run_at n (tag) (tail ++ more) ≡ Ok (run_view run, more)) → EachIsNeeded (run_at n (tag)) tail
+      → IsGroup n bytes (record { word = word; len = len; run = run; next = next })
+  head-by tail run len next cut within read needed = record {
     within = omega arith;
     needed =
-        let tag = get_or bytes 0 0 in
         let marked = take (marks 8 tag) (behind_tag bytes) in
-        let front : take len bytes ≡ tag ∷ (marked ++ tail) = cut ∙ ap (λ (l : List ℕ). l ++ tail) (front-of_group bytes m ten most ∙ ap (λ (k : ℕ). tag ∷ take k (behind_tag bytes)) count) in
+        let front : take len bytes ≡ tag ∷ (marked ++ tail) = cut ∙ ap (λ (l : List ℕ). l ++ tail) (front-of_group bytes m ten most ∙ ap (λ (t : ℕ). t ∷ take m (behind_tag bytes)) (sym here) ∙ ap (λ (k : ℕ). tag ∷ take k (behind_tag bytes)) count) in
         subst (λ (l : List ℕ). EachIsNeeded (group_at n) l) (sym front) (group-needed n tag marked word tail spelled (tagged-needed tag (behind_tag bytes)) needed);
     says = λ more.
-        let tag = get_or bytes 0 0 in
         let marked = take (marks 8 tag) (behind_tag bytes) in
-        let front : take len bytes ≡ tag ∷ (marked ++ tail) = cut ∙ ap (λ (l : List ℕ). l ++ tail) (front-of_group bytes m ten most ∙ ap (λ (k : ℕ). tag ∷ take k (behind_tag bytes)) count) in
+        let front : take len bytes ≡ tag ∷ (marked ++ tail) = cut ∙ ap (λ (l : List ℕ). l ++ tail) (front-of_group bytes m ten most ∙ ap (λ (t : ℕ). t ∷ take m (behind_tag bytes)) (sym here) ∙ ap (λ (k : ℕ). tag ∷ take k (behind_tag bytes)) count) in
         ap (λ (l : List ℕ). group_at n (l ++ more)) front ∙ ap (λ (l : List ℕ). group_at n (tag ∷ l)) (append_assoc marked tail more) ∙ group-says n tag marked word tail (run_view run) spelled read more;
   }
 
-  pub head-next : get_or bytes 0 0 ≢ 0 → get_or bytes 0 0 ≢ 255 → IsGroup n bytes (record { word = word; len = 1 + m; run = Next })
-  head-next some full = head-by [] Next (1 + m) (sym (append-nil (take (1 + m) bytes))) (omega arith) (run-next n (get_or bytes 0 0) some full) (none-needed (run_at n (get_or bytes 0 0)))
+  pub head-next : (next : ℕ) → tag ≢ 0 → tag ≢ 255 → IsGroup n bytes (record { word = word; len = 1 + m; run = Next; next = next })
+  head-next next some full = head-by [] Next (1 + m) next (sym (append-nil (take (1 + m) bytes))) (omega arith) (run-next n (tag) some full) (none-needed (run_at n (tag)))
 
-  pub head-counted : (run : Run) → get_or bytes (1 + m) 0 ≤ n → ((more : List ℕ) → run_at n (get_or bytes 0 0) (get_or bytes (1 + m) 0 ∷ [] ++ more) ≡ Ok (run_view run, more)) → EndsEarly (run_at n (get_or bytes 0 0) [])
-      → IsGroup n bytes (record { word = word; len = 1 + m + 1; run = run })
-  head-counted run within read early = head-by (get_or bytes (1 + m) 0 ∷ []) run (1 + m + 1) (take_more bytes (1 + m) 0 (omega arith)) (omega arith) read (byte-needed (run_at n (get_or bytes 0 0)) (get_or bytes (1 + m) 0) early)
+  pub head-counted : (run : Run) → get_or bytes (1 + m) 0 ≤ n → ((more : List ℕ) → run_at n (tag) (get_or bytes (1 + m) 0 ∷ [] ++ more) ≡ Ok (run_view run, more)) → EndsEarly (run_at n (tag) [])
+      → IsGroup n bytes (record { word = word; len = 1 + m + 1; run = run; next = 0 })
+  head-counted run within read early = head-by (get_or bytes (1 + m) 0 ∷ []) run (1 + m + 1) 0 (take_more bytes (1 + m) 0 (omega arith)) (omega arith) read (byte-needed (run_at n (tag)) (get_or bytes (1 + m) 0) early)
+
+-- the byte behind a group without a count
+pub behind-at : (bytes : List ℕ) (b m k : ℕ) → length bytes ≡ 10 → k < 8 → m ≡ k → b ≡ get_or (behind_tag bytes) k 0 → b ≡ get_or bytes (1 + m) 0
+behind-at bytes b m k ten below same at = at ∙ by k below ∙ ap (λ (n : ℕ). get_or bytes n 0) (omega arith)
+  where
+    by : (k : ℕ) → k < 8 → get_or (behind_tag bytes) k 0 ≡ get_or bytes (1 + k) 0
+    by zero below = refl
+    by (suc zero) below = refl
+    by (suc (suc zero)) below = refl
+    by (suc (suc (suc zero))) below = refl
+    by (suc (suc (suc (suc zero)))) below = refl
+    by (suc (suc (suc (suc (suc zero))))) below = refl
+    by (suc (suc (suc (suc (suc (suc zero)))))) below = refl
+    by (suc (suc (suc (suc (suc (suc (suc zero))))))) below = refl
+    by (suc (suc (suc (suc (suc (suc (suc (suc k)))))))) below = absurd (omega arith)
 
 -- ---- one behind the other
 
@@ -324,8 +337,12 @@ words-append j k a b wide behind =
     ap (λ (l : List ℕ). l ++ words_in_bytes k b) (sym start) ∙ ap (λ (l : List ℕ). take j (words_in_bytes (j + k) all) ++ l) (sym end) ∙ take-append-drop j (words_in_bytes (j + k) all)
 
 -- the bytes behind the first n, as a slice has them
-rest-of : (n : ℕ) (bytes : List ℕ) → take (length bytes - n) (drop n bytes) ≡ drop n bytes
+pub rest-of : (n : ℕ) (bytes : List ℕ) → take (length bytes - n) (drop n bytes) ≡ drop n bytes
 rest-of n bytes = take_all (length bytes - n) (drop n bytes) (omega (arith, length-drop n bytes))
+
+-- the byte behind what was taken, of the bytes behind what was taken before
+pub first-behind : (shown : List ℕ) (m n b : ℕ) → IsFirst b (drop n (take (length shown - m) (drop m shown))) → IsFirst b (drop (m + n) shown)
+first-behind shown m n b first = subst (IsFirst b) (ap (drop n) (rest-of m shown) ∙ drop-drop n m shown) first
 
 pub Unpacks-then : (run : Run) (shown buf tail after : List ℕ) (s next : Step) → Unpacks run shown buf s → Unpacks s.run (take (length shown - s.taken) (drop s.taken shown)) tail next → length tail ≡ length buf - s.filled → length after ≡ length buf
     → take (s.filled + next.filled) after ≡ take s.filled buf ++ take next.filled tail
