@@ -86,6 +86,9 @@ early-verbatim n t is = rw is tt
 abbrev pub behind_tag : List ℕ → List ℕ
 behind_tag bytes = get_or bytes 1 0 ∷ get_or bytes 2 0 ∷ get_or bytes 3 0 ∷ get_or bytes 4 0 ∷ get_or bytes 5 0 ∷ get_or bytes 6 0 ∷ get_or bytes 7 0 ∷ get_or bytes 8 0 ∷ []
 
+pub eight-behind : (bytes behind : List ℕ) (k : ℕ) → length bytes ≡ 10 → 8 ≤ k → behind ≡ take 8 (take k (drop 1 bytes)) → behind ≡ behind_tag bytes
+eight-behind bytes behind k ten most is = is ∙ take-take 8 k (drop 1 bytes) most ∙ ap (λ (l : List ℕ). take 8 (drop 1 l)) (sym (pick_l_whole 0 bytes 10 ten))
+
 front-of_group : (bytes : List ℕ) (m : ℕ) → length bytes ≡ 10 → m ≤ 8 → take (1 + m) bytes ≡ get_or bytes 0 0 ∷ take m (behind_tag bytes)
 front-of_group bytes m ten most =
     let one : 1 + m ≡ suc m = omega arith in

@@ -48,12 +48,13 @@ impl Step {
         ensures group { IfSome result (λ h. IsGroup left bytes.now h) }
         ensures next { IfSome result (λ h. h.run ≡ Run.Next → (h.len < 10) × (h.next ≡ slice_index bytes.now h.len)) }
     {
-        let [_, a, b, c, d, e, f, g, h, _] = *bytes;
-        let behind = [a, b, c, d, e, f, g, h];
-        let word = spread(tag, &behind);
+        let Some(behind) = bytes[1..].first_chunk::<8>() else {
+            unreachable!()
+        };
+        let word = spread(tag, behind);
         let len = 1 + marked(tag);
         if tag != 0 && tag != 255 {
-            let next = byte_behind(tag, &behind);
+            let next = byte_behind(tag, behind);
             let run = Run::Next;
             return Some(Head { word, len, run, next });
         }
