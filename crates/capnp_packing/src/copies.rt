@@ -39,6 +39,27 @@ fn clear_chunk<const N: usize>(len: usize, to: &mut [u8]) -> bool
     true
 }
 
+/// Copies so many bytes by a call, which keeps the code around short runs small.
+#[inline(never)]
+fn copy_long(len: usize, from: &[u8], to: &mut [u8])
+    requires here { len ≤ length from.now }
+    requires room { len ≤ length to.old }
+    ensures copied { take len to.new ≡ take len from.now }
+    ensures kept { length to.new ≡ length to.old }
+{
+    to[..len].copy_from_slice(&from[..len]);
+}
+
+/// Clears so many bytes by a call.
+#[inline(never)]
+fn clear_long(len: usize, to: &mut [u8])
+    requires { len ≤ length to.old }
+    ensures cleared { take len to.new ≡ replicate len 0 }
+    ensures kept { length to.new ≡ length to.old }
+{
+    to[..len].fill(0);
+}
+
 /// Copies so many bytes.
 #[inline(always)]
 pub(crate) fn copy_front(len: usize, from: &[u8], to: &mut [u8])
@@ -51,7 +72,7 @@ pub(crate) fn copy_front(len: usize, from: &[u8], to: &mut [u8])
         || copy_chunk::<16>(len, from, to)
         || copy_chunk::<8>(len, from, to);
     if !is_copied {
-        to[..len].copy_from_slice(&from[..len]);
+        copy_long(len, from, to);
     }
 }
 
@@ -65,6 +86,6 @@ pub(crate) fn clear_front(len: usize, to: &mut [u8])
     let is_cleared =
         clear_chunk::<32>(len, to) || clear_chunk::<16>(len, to) || clear_chunk::<8>(len, to);
     if !is_cleared {
-        to[..len].fill(0);
+        clear_long(len, to);
     }
 }
