@@ -1,8 +1,8 @@
-use Rattle.std.proofs.Common.{◌≡◌, ◌+◌, ◌<◌, ℕ, List, ◌++◌, Ok, take, get_or, sym, ap, ◌∙◌, subst, arith}
+use Rattle.std.proofs.Common.{◌≡◌, ◌+◌, ℕ, List, ◌++◌, Ok, take, get_or, ap, ◌∙◌, subst, arith}
 use Rattle.capnp_packing.specs.Parts.{tagged}
 use Rattle.capnp_packing.specs.Tags.{marks}
 use Rattle.capnp_packing.specs.declared.runs.Run.TheVariants.{Zeros, Verbatim}
-use Rattle.capnp_packing.proofs.StepLemmas.{head-next, head-counted, run-zeros, run-verbatim, early-zeros, early-verbatim, behind_tag, eight-behind, behind-at}
+use Rattle.capnp_packing.proofs.HeadLemmas.{head-next, head-counted, run-zeros, run-verbatim, early-zeros, early-verbatim, eight-behind, behind-at}
 use Rattle.capnp_packing.proofs.TagLemmas.{not-full}
 use Rattle.capnp_packing.proofs.shown.Step.head.Goals as goal
 use Rattle.capnp_packing.proofs.shown.Step.head.Goals.{then-tag-eq0, else-tag-eq0}

@@ -1,5 +1,5 @@
 use Rattle.std.proofs.Common.{arith}
-use Rattle.capnp_packing.proofs.StepLemmas.{unpacks-zeros, unpacks-verbatim}
+use Rattle.capnp_packing.proofs.UnpackLemmas.{unpacks-zeros, unpacks-verbatim}
 use Rattle.capnp_packing.proofs.shown.Step.of_run.Goals as goal
 
 pub returns-in-Zeros-clause-unpacked : goal.returns-in-Zeros-clause-unpacked
