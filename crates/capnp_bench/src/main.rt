@@ -2,9 +2,10 @@
 //!
 //! The number that is given to the program is that of the structs, of 16 bytes each; the text has 16 times as many bytes. What was read is printed on standard output, and how fast on standard error.
 //!
-//! With the word `unpack`, a packed file and a number the program unpacks the file's messages so many times over; with `pack` and a framed file it packs them.
+//! With the word `unpack`, a packed file and a number the program unpacks the file's messages so many times over; with `pack` and a framed file it packs them. With `compare`, a packed file, a framed file and a number it does both in turn with the code of before, which went byte by byte, and says how many times as fast the fastest rounds were.
 #![tactic(auto)]
 
+mod bytewise;
 mod packing;
 mod reading;
 mod samples;
@@ -58,28 +59,39 @@ fn read_text(rt: &HostRuntime, alloc: Global, len: u32) -> io::Result<()> {
     }
 }
 
-/// The file, and how many times, that stand behind the first word.
-fn file_and_rounds(rt: &HostRuntime) -> io::Result<Option<(String, u32)>> {
+/// What the program is asked to do with files, so many times.
+enum Task {
+    Unpack(String, u32),
+    Pack(String, u32),
+    Compare(String, String, u32),
+}
+
+/// A word, its files and how many times, if there are such.
+fn task_of(rt: &HostRuntime) -> io::Result<Option<Task>> {
     let mut given = env::args(rt)?;
-    let path = given.nth(2);
-    let rounds = given.next();
-    Ok(match (path, rounds) {
-        (Some(path), Some(rounds)) => Some((path, rounds.parse::<u32>().unwrap_or(1))),
+    let (Some(word), Some(file), Some(next)) = (given.nth(1), given.next(), given.next()) else {
+        return Ok(None);
+    };
+    let rounds = |text: &String| text.parse::<u32>().unwrap_or(1);
+    Ok(match (word.as_str(), given.next()) {
+        ("unpack", None) => Some(Task::Unpack(file, rounds(&next))),
+        ("pack", None) => Some(Task::Pack(file, rounds(&next))),
+        ("compare", Some(last)) => Some(Task::Compare(file, next, rounds(&last))),
         _ => None,
     })
 }
 
 fn main(rt: HostRuntime) -> io::Result<()> {
-    if let Some((path, rounds)) = file_and_rounds(&rt)? {
-        let word = env::args(&rt)?.nth(1);
-        let is_pack = word.is_some_and(|w| w.as_str() == "pack");
-        return if is_pack {
-            streams::pack(&rt, path.as_str(), rounds)
-        } else {
-            streams::unpack(&rt, path.as_str(), rounds)
-        };
+    match task_of(&rt)? {
+        Some(Task::Unpack(file, rounds)) => streams::unpack(&rt, file.as_str(), rounds),
+        Some(Task::Pack(file, rounds)) => streams::pack(&rt, file.as_str(), rounds),
+        Some(Task::Compare(packed, framed, rounds)) => {
+            streams::compare(&rt, packed.as_str(), framed.as_str(), rounds)
+        }
+        None => {
+            let count = count(&rt)?.min(MOST);
+            read_structs(&rt, rt.alloc(), count)?;
+            read_text(&rt, rt.alloc(), 16 * count)
+        }
     }
-    let count = count(&rt)?.min(MOST);
-    read_structs(&rt, rt.alloc(), count)?;
-    read_text(&rt, rt.alloc(), 16 * count)
 }

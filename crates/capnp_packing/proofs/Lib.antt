@@ -1,6 +1,8 @@
 pub mod TagLemmas
 pub mod PartLemmas
-pub mod StepLemmas
+pub mod HeadLemmas
+pub mod UnpackLemmas
+pub mod ReadLemmas
 pub mod GroupLemmas
 pub mod PieceLemmas
 pub mod RunLemmas

@@ -21,7 +21,7 @@ use Rattle.capnp_packing.specs.Steps.{Reads}
 use Rattle.capnp_packing.specs.declared.runs.Run.{Run}
 use Rattle.capnp_packing.specs.declared.shown.Step.{Step}
 use Rattle.capnp_packing.proofs.PartLemmas.{with_front-nil, with_front-more, Leads-by, Leads-trans, Leads-front, Refuses-behind, Refuses-front}
-use Rattle.capnp_packing.proofs.StepLemmas.{words-append}
+use Rattle.capnp_packing.proofs.UnpackLemmas.{words-append}
 
 pub piece-start : (n m : ℕ) (a : Option (List ℕ)) → n ≡ m → Leads (unpacked n) a a (λ more. with_front [] (unpacked_from m first more))
 piece-start n m a e = Leads-by (unpacked n) _ a (λ more. ap (λ (k : ℕ). unpacked_from k first more) e ∙ sym (with_front-nil (unpacked_from m first more)))

@@ -1,5 +1,5 @@
 -- The bytes that a tag marks.
-use Rattle.std.proofs.Common.{◌≡◌, ℕ, zero, suc, ◌+◌, ◌-◌, ◌*◌, ◌/◌, ◌%◌, ◌^◌, ◌<◌, ◌≤◌, Bool, true, false, cond, eqb, leb, List, [], ◌∷◌, ◌++◌, length, take, drop, get_or, map, replicate, refl, sym, ap, ◌∙◌, arith}
+use Rattle.std.proofs.Common.{◌≡◌, ◌≢◌, ℕ, zero, suc, ◌+◌, ◌-◌, ◌*◌, ◌/◌, ◌%◌, ◌^◌, ◌<◌, ◌≤◌, Bool, true, false, cond, eqb, leb, List, [], ◌∷◌, ◌++◌, length, take, drop, get_or, map, replicate, refl, sym, ap, ◌∙◌, arith}
 use Rattle.std.specs.List.{range_with_len}
 use Rattle.std.specs.Int.RustNames.{count_ones}
 use Rattle.std.proofs.lemmas.List.FromFn.{get_or-map-range_with_len}
@@ -202,3 +202,31 @@ dense-is word eight small =
     let sum = tag-zeros 8 word eight in
     let same : leb 7 (marks 8 (byte_tag word)) ≡ leb (zero_bytes word) 1 = grind arith in
     same ∙ ap (λ (bytes : List ℕ). leb (zero_bytes bytes) 1) (sym (bytes-again word eight small))
+
+-- ---- the byte behind those that a tag marks
+
+full-tag : (n t : ℕ) → t < 2 ^ n → marks n t ≡ n → t + 1 ≡ 2 ^ n
+unfolding marks
+full-tag zero t small all = omega arith
+full-tag (suc n) t small all =
+    let most = marks-most n (t / 2) in
+    let rest = full-tag n (t / 2) (omega arith) (omega arith) in
+    omega arith
+
+pub not-full : (t : ℕ) → t < 256 → t ≢ 255 → marks 8 t < 8
+not-full t small other = let most = marks-most 8 t in let full = full-tag 8 t small in grind arith
+
+pub byte-shifted : (bytes : List ℕ) (word k m : ℕ) → length bytes ≡ 8 → AreBytes bytes → m < 8 → word ≡ from_le_bytes w64 bytes → k ≡ m → word / 2 ^ (8 * k) % 256 ≡ get_or bytes m 0
+byte-shifted bytes word k m eight small below is same = ap (λ (n : ℕ). word / 2 ^ (8 * n) % 256) same ∙ ap (λ (w : ℕ). w / 2 ^ (8 * m) % 256) is ∙ by m below (small 0) (small 1) (small 2) (small 3) (small 4) (small 5) (small 6) (small 7)
+  where
+    by : (m : ℕ) → m < 8 → get_or bytes 0 0 < 256 → get_or bytes 1 0 < 256 → get_or bytes 2 0 < 256 → get_or bytes 3 0 < 256 → get_or bytes 4 0 < 256 → get_or bytes 5 0 < 256 → get_or bytes 6 0 < 256 → get_or bytes 7 0 < 256
+        → from_le_bytes w64 bytes / 2 ^ (8 * m) % 256 ≡ get_or bytes m 0
+    by zero below a b c d e f g h = omega arith
+    by (suc zero) below a b c d e f g h = omega arith
+    by (suc (suc zero)) below a b c d e f g h = omega arith
+    by (suc (suc (suc zero))) below a b c d e f g h = omega arith
+    by (suc (suc (suc (suc zero)))) below a b c d e f g h = omega arith
+    by (suc (suc (suc (suc (suc zero))))) below a b c d e f g h = omega arith
+    by (suc (suc (suc (suc (suc (suc zero)))))) below a b c d e f g h = omega arith
+    by (suc (suc (suc (suc (suc (suc (suc zero))))))) below a b c d e f g h = omega arith
+    by (suc (suc (suc (suc (suc (suc (suc (suc m)))))))) below a b c d e f g h = absurd (omega arith)

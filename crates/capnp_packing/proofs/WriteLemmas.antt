@@ -108,6 +108,15 @@ written-step word behind tag run group verbatim rest eight small others marks is
 
 -- ---- groups in a buffer
 
+-- the bytes of a run are those at the front
+pub run-front : (run : Run) (bytes verbatim : List ℕ) → 8 * run_words run ≤ length bytes → verbatim ≡ run_bytes run bytes → (length verbatim ≤ length bytes) × (take (length verbatim) bytes ≡ verbatim)
+run-front First bytes verbatim fits is = rw is (omega arith, refl)
+run-front Next bytes verbatim fits is = rw is (omega arith, refl)
+run-front (Zeros k) bytes verbatim fits is = rw is (omega arith, refl)
+run-front (Verbatim k) bytes verbatim fits is =
+    let long : length verbatim ≡ 8 * k = ap length is ∙ length-take-le (8 * k) bytes fits in
+    (omega arith, ap (λ (n : ℕ). take n bytes) long ∙ sym is)
+
 -- the tag, and the first bytes that were put behind it
 pub head-front : (buf bytes : List ℕ) (tag m : ℕ) → 1 ≤ length buf → m ≤ length bytes → take (1 + m) (put_mid 1 8 (set buf 0 tag) bytes) ≡ tag ∷ take m bytes
 head-front buf bytes tag m some most =

@@ -1,5 +1,5 @@
 -- What was unpacked of bytes that are shown. (Encoding, "Packing")
-use Rattle.std.specs.Prelude.{◌≡◌, ℕ, ◌-◌, ◌/◌, ◌%◌, ◌≤◌, List, ◌++◌, length, take, Ok}
+use Rattle.std.specs.Prelude.{◌≡◌, ℕ, ◌-◌, ◌/◌, ◌%◌, ◌≤◌, ◌<◌, List, ◌++◌, length, take, get_or, Ok}
 use Rattle.std.specs.Int.{w64, from_le_bytes}
 use Rattle.capnp_model.specs.Bytes.{words_in_bytes}
 use Rattle.capnp_model.specs.Packing as model
@@ -22,6 +22,10 @@ pub record IsGroup (n : ℕ) (bytes : List ℕ) (head : Head) : Type 0 where
 pub record Spells (n : ℕ) (run : model.Run) (bytes words : List ℕ) (m : ℕ) (then_run : model.Run) : Type 0 where
   pub says : (more : List ℕ) → unpacked_from n run (bytes ++ more) ≡ with_front words (unpacked_from m then_run more)
   pub needed : EachIsNeeded (unpacked_from n run) bytes
+
+-- The byte at the front of some, if there is one.
+abbrev pub IsFirst : ℕ → List ℕ → Type 0
+IsFirst byte bytes = 0 < length bytes → byte ≡ get_or bytes 0 0
 
 -- Bytes at the front of those that are shown spell the words at the front of a buffer, which has room for all words of the piece.
 pub record Unpacks (run : Run) (shown buf : List ℕ) (step : Step) : Type 0 where

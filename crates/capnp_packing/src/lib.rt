@@ -4,6 +4,7 @@
 #![tactic(auto)]
 
 mod bytes;
+mod copies;
 #[cfg(test)]
 mod cut_tests;
 pub mod form;

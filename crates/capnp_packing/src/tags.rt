@@ -7,7 +7,7 @@
 //! tag   0  0  1  0  0  1  0  0    = 24, the lowest bit first
 //! group 24 0c 22
 //! ```
-ghost use Rattle.std.specs.Prelude.{◌≡◌, ◌≤◌, ◌<◌, ◌++◌, ℕ, List, Ok, take, map, slice_index, All};
+ghost use Rattle.std.specs.Prelude.{◌≡◌, ◌≢◌, ◌≤◌, ◌<◌, ◌++◌, ℕ, List, Ok, take, map, slice_index, All};
 ghost use Rattle.std.specs.Int.{w64, from_le_bytes};
 ghost use Rattle.capnp_model.specs.Packing.{byte_tag, nonzero, is_dense};
 ghost use Rattle.capnp_packing.specs.Parts.{tagged};
@@ -47,6 +47,17 @@ pub(crate) fn spread(tag: u8, behind: &[u8; 8]) -> [u8; 8]
     ensures { (more : List ℕ) → tagged tag (take (marks 8 tag) behind.now ++ more) ≡ Ok (result, more) }
 {
     at_places(behind, sources_of(tag))
+}
+
+/// The byte behind those that the tag marks, of the eight bytes behind the tag: where the group has no count, it is the next tag. It is shifted out of bytes that were read already, so that no further read has to wait for the tag.
+#[inline(always)]
+pub(crate) fn byte_behind(tag: u8, behind: &[u8; 8]) -> u8
+    requires { tag ≢ 255 }
+    ensures { result ≡ slice_index behind.now (marks 8 tag) }
+{
+    are_bytes(behind);
+    let left = u64::from_le_bytes(*behind) >> (8 * marked(tag));
+    left.to_le_bytes()[0]
 }
 
 /// The tag of a word.

@@ -1,5 +1,5 @@
 //! Reads packed pieces.
-ghost use Rattle.std.specs.Prelude.{◌≡◌, ◌+◌, ◌/◌, ◌%◌, ◌<◌, length, IfOk, IfErr, OnOk, OnErr};
+ghost use Rattle.std.specs.Prelude.{◌≡◌, ◌+◌, ◌/◌, ◌%◌, ◌<◌, length, replicate, IfOk, IfErr, OnOk, OnErr};
 ghost use Rattle.std.specs.Int.{w64, from_le_bytes};
 ghost use Rattle.std.specs.Io.KnownBytes.{Keeps};
 ghost use Rattle.capnp_units.specs.declared.kinds.ErrorKind.{ErrorKind};
@@ -172,7 +172,23 @@ fn next_words<R: BufRead>(source: &mut R, run: Run, buf: &mut [u8]) -> Result<St
     one_word(source, step.run, buf)
 }
 
-/// Fills the buffer with the words of one piece, which are as many as it holds.
+/// Fills the front of the buffer as `next_words` does, or refuses, and then clears the buffer: what it holds doesn't depend on how the bytes were shown.
+fn next_words_or_zeros<R: BufRead>(source: &mut R, run: Run, buf: &mut [u8]) -> Result<Step>
+    requires whole { length buf.old % 8 ≡ 0 }
+    requires some { 0 < length buf.old }
+    ensures words { IfOk result (λ s. Reads run (R.remaining source.old) (R.remaining source.new) buf.new s × (0 < s.filled)) }
+    ensures refused { IfErr result (λ e. Refuses (unpacked_from (length buf.old / 8) (run_view run)) (R.remaining source.old) (R.remaining source.new) e.kind) }
+    ensures cleared { OnErr result (buf.new ≡ replicate (length buf.old) 0) }
+    ensures count { Counts result (R.failures source.old) (R.failures source.new) }
+{
+    let step = next_words(source, run, buf);
+    if step.is_err() {
+        buf.fill(0);
+    }
+    step
+}
+
+/// Fills the buffer with the words of one piece, which are as many as it holds. After a refusal it holds the words in front of the fault, and zeros behind them.
 pub(crate) fn read_words<R: BufRead>(source: &mut R, buf: &mut [u8]) -> Result<()>
     requires { length buf.old % 8 ≡ 0 }
     ensures ok { OnOk result (Takes (unpacked (length buf.old / 8)) (R.remaining source.old) (R.remaining source.new) (whole_words buf.new)) }
@@ -182,7 +198,7 @@ pub(crate) fn read_words<R: BufRead>(source: &mut R, buf: &mut [u8]) -> Result<(
     let mut run = Run::First;
     let mut at = 0;
     while at < buf.len() {
-        let step = next_words(source, run, &mut buf[at..])?;
+        let step = next_words_or_zeros(source, run, &mut buf[at..])?;
         run = step.run;
         at += step.filled;
     }

@@ -4,6 +4,7 @@ ghost use Rattle.capnp_model.specs.Packing.{byte_tag, nonzero, count_byte};
 ghost use Rattle.capnp_packing.specs.Runs.{run_view};
 ghost use Rattle.capnp_packing.specs.Written.{Packs};
 
+use crate::copies::copy_front;
 use crate::groups::{are_bytes, longest_run};
 use crate::runs::Run;
 use crate::shown::GROUP_LEN;
@@ -57,7 +58,7 @@ fn pack_group<'a>(bytes: &'a [u8], buf: &mut [u8]) -> Written<'a>
     if run.is_empty() || run.len() > buf.len() - len {
         return Written { len, run, rest };
     }
-    buf[len..len + run.len()].copy_from_slice(run);
+    copy_front(run.len(), behind, &mut buf[len..]);
     Written {
         len: len + run.len(),
         run: &[],

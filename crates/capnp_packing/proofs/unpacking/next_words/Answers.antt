@@ -1,7 +1,7 @@
 use Rattle.std.proofs.Common.{◌≡◌, ◌/◌, ℕ, length, ap, arith, rules}
 use Rattle.std.proofs.lemmas.Result.{err_from_is_err_and, IfOk-weaker, IfErr-weaker}
 use Rattle.capnp_packing.specs.Runs.{run_view, NeedsBytes}
-use Rattle.capnp_packing.proofs.StepLemmas.{failed-look, empty-read, empty-refused, refused-count}
+use Rattle.capnp_packing.proofs.ReadLemmas.{failed-look, empty-read, empty-refused, refused-count}
 use Rattle.capnp_packing.proofs.unpacking.next_words.Goals as goal
 
 pub returns-in_err-step-clause-refused : goal.returns-in_err-step-clause-refused

@@ -1,7 +1,7 @@
 use Rattle.std.proofs.Common.{◌≡◌, ◌+◌, ◌-◌, ◌/◌, ◌≤◌, ℕ, ◌++◌, length, drop, refl, ap, sym, arith, take_at, length-drop, length-append, length-take-le, ◌∙◌}
 use Rattle.std.proofs.lemmas.Result.{err_from_is_err_and}
 use Rattle.capnp_packing.specs.Runs.{run_view}
-use Rattle.capnp_packing.proofs.StepLemmas.{Reads-word, refused-count}
+use Rattle.capnp_packing.proofs.ReadLemmas.{Reads-word, refused-count}
 use Rattle.capnp_packing.proofs.unpacking.one_word.Goals as goal
 
 pub returns-clause-word : goal.returns-clause-word

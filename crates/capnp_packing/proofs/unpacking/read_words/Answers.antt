@@ -12,7 +12,7 @@ pub loop-at-preserved : goal.loop-at-preserved
 loop-at-preserved g c =
     let l = c.loop-at in
     let step = c.in_ok-step.step in
-    let tail = c.next_words.new.buf in
+    let tail = c.next_words_or_zeros.new.buf in
     let p = c.in_ok-step.ensures.words.0 in
     let after = put_mid l.at (length l.buf - l.at) l.buf tail in
     let kept : length after ≡ length l.buf = search rules in

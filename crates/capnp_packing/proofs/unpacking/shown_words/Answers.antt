@@ -1,4 +1,4 @@
-use Rattle.capnp_packing.proofs.StepLemmas.{Reads-shown}
+use Rattle.capnp_packing.proofs.ReadLemmas.{Reads-shown}
 use Rattle.capnp_packing.proofs.unpacking.shown_words.Goals as goal
 
 pub returns-clause-words : goal.returns-clause-words

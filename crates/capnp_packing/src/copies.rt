@@ -1,0 +1,91 @@
+//! Puts bytes to the front of a buffer. Few are put there in one piece of a fixed size, and then any bytes stand behind them: no call and no loop depends on how many they are.
+ghost use Rattle.std.specs.Prelude.{◌≡◌, ◌≤◌, length, take, replicate, IsTrue};
+
+/// Copies a chunk of so many bytes, if both have one and these `len` are in it.
+#[inline(always)]
+fn copy_chunk<const N: usize>(len: usize, from: &[u8], to: &mut [u8]) -> bool
+    requires { N ≤ 32 }
+    ensures copied { IsTrue result → take len to.new ≡ take len from.now }
+    ensures kept { length to.new ≡ length to.old }
+{
+    if len > N {
+        return false;
+    }
+    let Some(from) = from.first_chunk::<N>() else {
+        return false;
+    };
+    let Some(to) = to.first_chunk_mut::<N>() else {
+        return false;
+    };
+    *to = *from;
+    true
+}
+
+/// Clears a chunk of so many bytes, if there is one and these `len` are in it.
+#[inline(always)]
+fn clear_chunk<const N: usize>(len: usize, to: &mut [u8]) -> bool
+    requires { N ≤ 32 }
+    ensures cleared { IsTrue result → take len to.new ≡ replicate len 0 }
+    ensures kept { length to.new ≡ length to.old }
+{
+    if len > N {
+        return false;
+    }
+    let Some(to) = to.first_chunk_mut::<N>() else {
+        return false;
+    };
+    let zeros = [0; N];
+    *to = zeros;
+    true
+}
+
+/// Copies so many bytes by a call, which keeps the code around short runs small.
+#[inline(never)]
+fn copy_long(len: usize, from: &[u8], to: &mut [u8])
+    requires here { len ≤ length from.now }
+    requires room { len ≤ length to.old }
+    ensures copied { take len to.new ≡ take len from.now }
+    ensures kept { length to.new ≡ length to.old }
+{
+    to[..len].copy_from_slice(&from[..len]);
+}
+
+/// Clears so many bytes by a call.
+#[inline(never)]
+fn clear_long(len: usize, to: &mut [u8])
+    requires { len ≤ length to.old }
+    ensures cleared { take len to.new ≡ replicate len 0 }
+    ensures kept { length to.new ≡ length to.old }
+{
+    to[..len].fill(0);
+}
+
+/// Copies so many bytes.
+#[inline(always)]
+pub(crate) fn copy_front(len: usize, from: &[u8], to: &mut [u8])
+    requires here { len ≤ length from.now }
+    requires room { len ≤ length to.old }
+    ensures copied { take len to.new ≡ take len from.now }
+    ensures kept { length to.new ≡ length to.old }
+{
+    let is_copied = copy_chunk::<32>(len, from, to)
+        || copy_chunk::<16>(len, from, to)
+        || copy_chunk::<8>(len, from, to);
+    if !is_copied {
+        copy_long(len, from, to);
+    }
+}
+
+/// Clears so many bytes.
+#[inline(always)]
+pub(crate) fn clear_front(len: usize, to: &mut [u8])
+    requires { len ≤ length to.old }
+    ensures cleared { take len to.new ≡ replicate len 0 }
+    ensures kept { length to.new ≡ length to.old }
+{
+    let is_cleared =
+        clear_chunk::<32>(len, to) || clear_chunk::<16>(len, to) || clear_chunk::<8>(len, to);
+    if !is_cleared {
+        clear_long(len, to);
+    }
+}
