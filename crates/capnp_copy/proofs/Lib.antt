@@ -3,3 +3,11 @@ pub mod ByteWords
 pub mod HeldWords
 pub mod Shifts
 pub mod FieldLaws
+mod Ends
+mod ZeroedWords
+mod NullValues
+mod ClearedKids
+mod ClearedElements
+mod ClearedObjects
+mod ClearedSlots
+mod RoomLaws

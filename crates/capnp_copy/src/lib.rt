@@ -4,10 +4,16 @@
 pub mod allocator;
 pub mod arena;
 mod bits;
+#[cfg(test)]
+mod build_tests;
+pub mod clear;
 pub mod fields;
 mod grown;
 pub mod held;
+pub mod init;
+pub mod room;
 pub mod laws;
+pub mod pointer_builder;
 pub mod segments;
 pub mod struct_builder;
 #[cfg(test)]

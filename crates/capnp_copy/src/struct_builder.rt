@@ -1,7 +1,7 @@
 //! Structs that are built.
 ghost use Rattle.std.specs.Prelude.{◌≡◌, ◌+◌, ◌*◌, ◌<◌, ◌≤◌, ◌^◌, ◌==◌, ℕ, true, bit_xor};
 ghost use Rattle.std.specs.Option.{is_some};
-ghost use Rattle.capnp_model.specs.Segments.{words_at};
+ghost use Rattle.capnp_model.specs.Segments.{after, words_at};
 ghost use Rattle.capnp_units.specs.Segments.{words_in};
 ghost use Rattle.capnp_wire.specs.Places.{place_view};
 ghost use Rattle.capnp_wire.specs.Views.{bit_of_bool};
@@ -10,8 +10,10 @@ ghost use Rattle.capnp_copy.specs.Structs.{HasBits, SetsBits};
 use crate::arena::{BuilderArena, Memory};
 use crate::bits::{bit_of, bits_of, number_in};
 use crate::fields::{StructPlace, bit_at, get_bits, set_bits};
+use crate::pointer_builder::PointerBuilder;
 use capnp_units::primitive::{Mask, Primitive};
-use capnp_units::units::ElementCount;
+use capnp_units::units::{ElementCount, WirePointerCount};
+use capnp_wire::place::Place;
 
 /// A struct that is built, where it lies in an arena. Its words are there.
 #[derive(Drop)]
@@ -21,6 +23,24 @@ pub struct StructBuilder<'a, A> {
 }
 
 impl<'a, A: BuilderArena> StructBuilder<'a, A> {
+    /// A pointer of the struct, by its index. It is one of the struct's.
+    pub fn get_pointer_field(self, ptr_index: WirePointerCount) -> PointerBuilder<'a, A>
+        requires near { self.place.start.position + (self.place.data_words + self.place.pointers) < 2 ^ 61 }
+        requires inside { ptr_index < self.place.pointers }
+        ensures same { result.memory.ghost_name ≡ self.entry.memory.ghost_name }
+        ensures now { result.memory.now ≡ self.entry.memory.now }
+        ensures place { place_view result.place ≡ after (after (place_view self.entry.place.start) self.entry.place.data_words) ptr_index }
+        ensures near { result.place.position < 2 ^ 61 }
+    {
+        let StructBuilder { memory, place } = self;
+        let start = place.start;
+        let place = Place {
+            segment: start.segment,
+            position: start.position + place.data_words as usize + ptr_index,
+        };
+        PointerBuilder { memory, place }
+    }
+
     /// A number of the data section, counted in its own width. The field lies in the section.
     pub fn get_data_field<T: Primitive>(&self, offset: ElementCount) -> T
         requires near { self.now.place.start.position < 2 ^ 61 }

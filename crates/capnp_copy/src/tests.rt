@@ -17,9 +17,9 @@ use std::test::Fail;
 
 /// Hands out so many segments, each of just the words that are asked for.
 #[derive(Drop)]
-struct Exact {
-    alloc: Global,
-    left: u32,
+pub(crate) struct Exact {
+    pub(crate) alloc: Global,
+    pub(crate) left: u32,
 }
 
 impl Allocator for Exact {
@@ -44,7 +44,7 @@ impl Allocator for Exact {
     }
 }
 
-fn written<A: BuilderArena>(memory: &mut Memory<A>, place: Place, word: u64) -> Result<()>
+pub(crate) fn written<A: BuilderArena>(memory: &mut Memory<A>, place: Place, word: u64) -> Result<()>
     ensures { A.books memory.new.arena ≡ A.books memory.old.arena }
 {
     if !has_words(&memory.arena, place, 1) {

@@ -1,0 +1,85 @@
+//! Pointers that are built.
+ghost use Rattle.std.specs.Prelude.{◌≡◌, ◌+◌, ◌<◌, ◌≤◌, ◌^◌, ◌↔◌, ◌==◌, ℕ, Some, true, unwrap_or, IfOk, IfErr};
+ghost use Rattle.std.specs.Borrow.{sem, RestsIfErr};
+ghost use Rattle.std.specs.Option.{is_some};
+ghost use Rattle.capnp_model.specs.Segments.{root, word_at, words_at};
+ghost use Rattle.capnp_model.specs.Trees.{structure, none, resized};
+ghost use Rattle.capnp_units.specs.Segments.{words_in};
+ghost use Rattle.capnp_units.specs.declared.kinds.ErrorKind.TheVariants.{SizeOverflow};
+ghost use Rattle.capnp_wire.specs.Places.{place_view};
+ghost use Rattle.capnp_copy.specs.Allocations.{total_words};
+ghost use Rattle.capnp_copy.specs.Clearing.{Clears};
+ghost use Rattle.capnp_copy.specs.Structs.{struct_at};
+ghost use Rattle.capnp_copy.specs.Values.{Becomes, LeadsTo};
+ghost use Rattle.capnp_copy.specs.contracts.arena.Memory.{the_row};
+
+use crate::arena::{BuilderArena, Memory};
+use crate::clear::clear;
+use crate::init::init_struct;
+use crate::struct_builder::StructBuilder;
+use capnp_units::errors::Result;
+use capnp_units::sizes::StructSize;
+use capnp_wire::place::{Place, word_at};
+
+/// A pointer that is built, where it lies in an arena.
+#[derive(Drop)]
+pub struct PointerBuilder<'a, A> {
+    pub memory: &'a mut Memory<A>,
+    pub place: Place,
+}
+
+impl<'a, A: BuilderArena> PointerBuilder<'a, A> {
+    /// The root pointer, the first word of the first segment.
+    pub fn get_root(memory: &'a mut Memory<A>) -> Self
+        ensures same { result.memory.ghost_name ≡ memory.entry.ghost_name }
+        ensures now { result.memory.now ≡ memory.old }
+        ensures place { place_view result.place ≡ root }
+    {
+        PointerBuilder {
+            memory,
+            place: Place {
+                segment: 0,
+                position: 0,
+            },
+        }
+    }
+
+    /// Whether it is null, a word of zeros.
+    pub fn is_null(&self) -> bool
+        ensures { result ≡ (unwrap_or (word_at (words_in (A.segments self.now.memory.now.arena)) (place_view self.now.place)) 0 == 0) }
+    {
+        word_at(&self.memory.arena, self.place).unwrap_or(0) == 0
+    }
+
+    /// Clears the value: the pointer becomes null, and all words of its value become zero. Nothing else changes, and nothing is allocated.
+    pub fn clear(&mut self)
+        ensures same { self.new.memory.ghost_name ≡ self.old.memory.ghost_name }
+        ensures place { self.new.place ≡ self.old.place }
+        ensures books { A.books self.new.memory.now.arena ≡ A.books self.old.memory.now.arena }
+        ensures clears { Clears (words_in (A.segments self.old.memory.now.arena)) (words_in (A.segments self.new.memory.now.arena)) (place_view self.old.place) }
+    {
+        let place = self.place;
+        clear(&mut self.memory.arena, place);
+    }
+
+    /// Puts a struct of zeros and nulls in place of the value, which is cleared.
+    ///
+    /// It is refused with `SizeOverflow` just where the message's words would pass 2^29 - 1 with a pad counted, else as the allocator refuses; then all stands as it was.
+    pub fn init_struct(self, size: StructSize) -> Result<StructBuilder<'a, A>>
+        requires there { is_some (words_at (words_in (A.segments self.memory.now.arena)) (place_view self.place) 1) ≡ true }
+        requires near { self.place.position < 2 ^ 61 }
+        ensures same { IfOk result (λ o. o.memory.ghost_name ≡ self.entry.memory.ghost_name) }
+        ensures value { IfOk result (λ o. Becomes (words_in (A.segments self.entry.memory.now.arena)) (words_in (A.segments o.memory.now.arena)) (place_view self.entry.place) (structure size.data_words 0 (resized size.pointers none))) }
+        ensures object { IfOk result (λ o. LeadsTo (words_in (A.segments o.memory.now.arena)) (place_view self.entry.place) (struct_at o.place)) }
+        ensures size { IfOk result (λ o. (o.place.data_words ≡ size.data_words) × (o.place.pointers ≡ size.pointers)) }
+        ensures there { IfOk result (λ o. is_some (words_at (words_in (A.segments o.memory.now.arena)) (place_view o.place.start) (o.place.data_words + o.place.pointers)) ≡ true) }
+        ensures near { IfOk result (λ o. o.place.start.position + (o.place.data_words + o.place.pointers) < 2 ^ 61) }
+        ensures books { IfOk result (λ o. A.books o.memory.now.arena ≡ A.books self.entry.memory.now.arena) }
+        ensures kind { IfErr result (λ e. (e.kind ≡ SizeOverflow) ↔ (2 ^ 29 ≤ total_words (words_in (A.segments self.entry.memory.now.arena)) + (size.data_words + size.pointers + 1))) }
+        ensures* refused { sem 𝓛 (RestsIfErr (the_row A.row) self.entry.memory (λ o. o.memory.ghost_name) result (λ n. (A.segments n.arena ≡ A.segments self.entry.memory.now.arena) × (A.books n.arena ≡ A.books self.entry.memory.now.arena))) }
+    {
+        let PointerBuilder { memory, place } = self;
+        let place = init_struct(&mut memory.arena, place, size)?;
+        Ok(StructBuilder { memory, place })
+    }
+}
