@@ -9,4 +9,6 @@ pub mod Growing
 pub mod Writing
 pub mod Levels
 pub mod Cells
+pub mod Zeros
+pub mod Nulls
 pub mod NewObjects

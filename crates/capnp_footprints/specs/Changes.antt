@@ -19,6 +19,10 @@ pub record Changes (s u : Segments) (c d : Place → ℕ) : Type 0 where
   pub within : (q : Place) → d q ≤ c q + absent s q
   pub cleared : (q : Place) (w : ℕ) → word_at u q ≡ Some w → d q ≡ 0 → 0 < c q + absent s q → w ≡ 0
 
+-- What c counts becomes zero, and nothing else changes.
+abbrev pub Clears : Segments → Segments → (Place → ℕ) → Type 0
+Clears s u c = Changes s u c (λ q. 0)
+
 -- The value at a place becomes t, and nothing else changes.
 pub record Replaces (n : ℕ) (s u : Segments) (p : Place) (t : Tree) : Type 0 where
   pub means : tree_at n u p ≡ Some t

@@ -2,3 +2,4 @@ pub mod Footprints
 pub mod Changes
 pub mod Writes
 pub mod Elements
+pub mod Children
