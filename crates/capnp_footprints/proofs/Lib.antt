@@ -11,4 +11,6 @@ pub mod Levels
 pub mod Cells
 pub mod Zeros
 pub mod Nulls
+pub mod Clearing
+pub mod Cleared
 pub mod NewObjects

@@ -1,39 +1,34 @@
 -- A null pointer gets a new object, whose words are zero.
-use Rattle.std.proofs.Common.{◌≡◌, ℕ, zero, suc, ◌+◌, ◌-◌, ◌*◌, ◌^◌, ◌<◌, ◌≤◌, false, eqb, List, [], ◌∷◌, ◌++◌, length, take, drop, replicate, Option, Some, Result, Ok, refl, ap, sym, ◌∙◌, arith}
-use Rattle.std.proofs.lemmas.List.{take-replicate}
+use Rattle.std.proofs.Common.{◌≡◌, ℕ, zero, suc, ◌+◌, List, drop, Some, refl, ◌∙◌, arith, ◌*◌, ◌^◌, ◌≤◌, ◌<◌, ap, false, Ok, [], ◌∷◌, eqb, length, take, replicate, Result, Option, ◌-◌}
 use Rattle.std.proofs.lemmas.Bool.Decides.{nat_tests}
-use Rattle.capnp_model.specs.Kinds.{Kind}
 use Rattle.capnp_model.specs.Chains.{◌and_then◌}
-use Rattle.capnp_model.specs.Sections.{bits_at, section_of}
-use Rattle.capnp_model.specs.Segments.{Segments, Place, place, after, word_at, words_at}
-use Rattle.capnp_model.specs.Pointers.{pointer_of, to_struct, to_pad, begins, Object, nothing, a_struct, Found, found_by, found_at}
-use Rattle.capnp_model.specs.Trees.{null, structure, none, resized}
-use Rattle.capnp_model.specs.Traversal.{each, tree_of, tree_at}
-use Rattle.capnp_model.specs.Coverage.{Span, span, times_held, pad_of, pads_by, pads_at, from_each, covered_found, covered_object, Grows}
+use Rattle.capnp_model.specs.Coverage.{Span, times_held, Grows, span, pad_of, pads_by, pads_at}
+use Rattle.capnp_model.specs.Edits.{cleared}
 use Rattle.capnp_model.specs.Encoding.{struct_pointer}
+use Rattle.capnp_model.specs.Kinds.{Kind}
+use Rattle.capnp_model.specs.Messages.{within}
+use Rattle.capnp_model.specs.Packing.{zeros}
+use Rattle.capnp_model.specs.Pointers.{Object, a_struct, found_at, to_struct, to_pad, pointer_of, begins, Found, found_by}
+use Rattle.capnp_model.specs.Readings.{no_more}
+use Rattle.capnp_model.specs.Sections.{bits_at}
+use Rattle.capnp_model.specs.Segments.{Segments, Place, after, words_at, place, word_at}
+use Rattle.capnp_model.specs.Traversal.{tree_at}
+use Rattle.capnp_model.specs.Trees.{structure, none, resized}
+use Rattle.capnp_model.proofs.FineShapes.{found}
+use Rattle.capnp_model.proofs.Locality.{word_was, word_is}
 use Rattle.capnp_model.proofs.PointerWords.{struct_says, begins_behind, begins_here}
-use Rattle.capnp_model.proofs.SectionElements.{section_of-zeros}
-use Rattle.capnp_model.proofs.Locality.{word_is, word_was}
-use Rattle.capnp_footprints.specs.Footprints.{behind, footprint, object_footprint}
-use Rattle.capnp_footprints.specs.Changes.{absent, Changes, Replaces}
-use Rattle.capnp_footprints.specs.Writes.{spliced, with_words, with_zeros, segment_end}
-use Rattle.capnp_footprints.proofs.Spans.{held, held_is, held_split, held_self, held_low, held_high, words_front, words_back, there, grows_same, grows_then, held_le}
-use Rattle.capnp_footprints.proofs.There.{words_there}
+use Rattle.capnp_model.proofs.SoundRules.{apart}
+use Rattle.capnp_footprints.specs.Changes.{Changes, Replaces, absent}
+use Rattle.capnp_footprints.specs.Footprints.{footprint}
+use Rattle.capnp_footprints.specs.Writes.{with_words, with_zeros, segment_end}
+use Rattle.capnp_footprints.proofs.Growing.{Extends, zeros_extend}
+use Rattle.capnp_footprints.proofs.Lift.{slot_is}
 use Rattle.capnp_footprints.proofs.Rows.{after_none}
-use Rattle.capnp_footprints.proofs.Lift.{slot_is, struct_of_parts}
-use Rattle.capnp_footprints.proofs.Splices.{Rewrites, splice_rewrites, splice_words}
-use Rattle.capnp_footprints.proofs.Growing.{Extends, zeros_extend, held_not}
-use Rattle.capnp_footprints.proofs.Writing.{rewrites_keep}
+use Rattle.capnp_footprints.proofs.Spans.{words_back, held, held_is, held_split, held_self, there, words_front, grows_then, grows_same, held_le}
+use Rattle.capnp_footprints.proofs.Splices.{Rewrites, splice_rewrites}
+use Rattle.capnp_footprints.proofs.There.{words_there}
+use Rattle.capnp_footprints.proofs.Writing.{rewrites_keep, written_word}
 use Rattle.capnp_footprints.proofs.Zeros.{held_none, null_footprint, zero_struct, zero_struct_takes}
-
--- ---- a written word
-
-pub written_word : (m : Segments) (p : Place) (v w : ℕ) → word_at m p ≡ Some v → word_at (with_words m p (w ∷ [])) p ≡ Some w
-unfolding spliced
-written_word m p v w e =
-    let l : 0 + length (w ∷ []) ≤ 1 = omega arith in
-    let now : words_at (with_words m (after p 0) (w ∷ [])) p 1 ≡ Some (w ∷ []) = splice_words m p 0 1 (w ∷ []) (v ∷ []) l (word_is m p v e) in
-    word_was (with_words m p (w ∷ [])) p w (ap (λ (q : Place). words_at (with_words m q (w ∷ [])) p 1) (sym (after_none p)) ∙ now)
 
 -- ---- the change
 

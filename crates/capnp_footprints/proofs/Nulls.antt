@@ -53,7 +53,7 @@ no_nothing_in_pad p (w ∷ []) o e z = not_nothing (begins (after p 1)) (pointer
 no_nothing_in_pad p (far ∷ (w ∷ [])) o e z = not_nothing (λ _. Ok (place (bits_at 32 32 far) (bits_at 3 29 far))) (pointer_of w) o e z
 no_nothing_in_pad p (far ∷ (w ∷ (x ∷ xs))) o e z = absurd cc
 
-from_described : (r : Result Object Kind) (k : ℕ) (f : Found) → (r and_then λ o. (let g : Result Found Kind = Ok (record { pads = k; object = o }) in g)) ≡ Ok f → (r ≡ Ok f.object) × (f.pads ≡ k)
+pub from_described : (r : Result Object Kind) (k : ℕ) (f : Found) → (r and_then λ o. (let g : Result Found Kind = Ok (record { pads = k; object = o }) in g)) ≡ Ok f → (r ≡ Ok f.object) × (f.pads ≡ k)
 from_described r k f e =
     let x = bind_ok r _ f e in
     let is : record { pads = k; object = x.0 } ≡ f = ok_is _ _ x.2 in
