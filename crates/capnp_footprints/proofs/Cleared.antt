@@ -7,7 +7,7 @@ use Rattle.capnp_model.specs.Segments.{Segments, Place, after, words_at, place, 
 use Rattle.capnp_model.specs.Traversal.{of_bits, list_kind, tree_of, tree_at}
 use Rattle.capnp_model.specs.Trees.{Tree, Elements, null, structure, pointer_list, struct_list, none, element_count, size_bits, resized}
 use Rattle.capnp_model.proofs.SoundRules.{apart}
-use Rattle.capnp_footprints.specs.Changes.{Changes, ReplacesObject, Replaces}
+use Rattle.capnp_footprints.specs.Changes.{Changes, ReplacesObject, Replaces, Clears}
 use Rattle.capnp_footprints.specs.Children.{childless}
 use Rattle.capnp_footprints.specs.Footprints.{behind, object_footprint, OwnsObject, footprint, Owns, own_words}
 use Rattle.capnp_footprints.specs.Writes.{with_words}
@@ -152,3 +152,6 @@ childless_structs n s u p m d k es r =
     let x = element_parts n u p m d k (childless k es) r.means in
     let none_behind = childless_behind n u (after p 1) (drop 1 x.words) d k (element_count (childless k es)) (childless k es) es x.elements_are refl in
     own_alone n s u (a_list p 7 m) (struct_list d k (childless k es)) p (1 + m) r (λ q. (let e : times_held (from_elements (behind n u) (after p 1) d k (element_count (childless k es))) q ≡ 0 = ap (λ (xs : List Span). times_held xs q) none_behind in omega (arith, e, list_is n u p m d k (childless k es) q x, held_split p 1 m q)))
+
+pub cleared_span : (s : Segments) (p : Place) (k : ℕ) (ws : List ℕ) → words_at s p k ≡ Some ws → Clears s (with_words s p (replicate k 0)) (times_held (span p k ∷ []))
+cleared_span s p k ws e = changes_alike s (with_words s p (replicate k 0)) (held p k) (λ q. 0) (times_held (span p k ∷ [])) (λ q. 0) (clears_words s p k (λ q l. (ws, e))) (λ q. omega (arith, held_is p k [] q)) (λ q. refl)

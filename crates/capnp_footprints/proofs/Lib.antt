@@ -13,4 +13,5 @@ pub mod Zeros
 pub mod Nulls
 pub mod Clearing
 pub mod Cleared
+pub mod Turns
 pub mod NewObjects
