@@ -14,4 +14,7 @@ pub mod Nulls
 pub mod Clearing
 pub mod Cleared
 pub mod Turns
+pub mod Pointing
+pub mod NewKinds
+pub mod Prepared
 pub mod NewObjects

@@ -65,7 +65,7 @@ held_part p i m d q l =
 zero_less : (a b : ℕ) → a ≤ b → b ≡ 0 → a ≡ 0
 zero_less a b l e = omega (arith, l, e)
 
-wider : (s u : Segments) (p : Place) (i m d : ℕ) → i + m ≤ d → Rewrites s u (after p i) m → Rewrites s u p d
+pub wider : (s u : Segments) (p : Place) (i m d : ℕ) → i + m ≤ d → Rewrites s u (after p i) m → Rewrites s u p d
 wider s u p i m d l r = record { grows = r.grows; no_more = r.no_more; others = λ q w z e. r.others q w (zero_less _ _ (held_part p i m d q l) z) e }
 
 -- some of the data words of a struct become others
@@ -80,7 +80,7 @@ plain_is n s p size count q k =
     let e : covered_object s (behind n s) (a_list p size count) ≡ span p (words_for (size_bits size * count)) ∷ [] = rw k refl in
     ap (λ (xs : List Span). times_held xs q) e ∙ omega (arith, held_is p (words_for (size_bits size * count)) [] q)
 
-plain_tree : (n : ℕ) (u : Segments) (p : Place) (size count : ℕ) (vs : List ℕ) → list_kind size ≡ of_bits → words_at u p (words_for (size_bits size * count)) ≡ Some vs → tree_of u (tree_at n u) (a_list p size count) ≡ Some (plain_list size count (section_of vs % 2 ^ (size_bits size * count)))
+pub plain_tree : (n : ℕ) (u : Segments) (p : Place) (size count : ℕ) (vs : List ℕ) → list_kind size ≡ of_bits → words_at u p (words_for (size_bits size * count)) ≡ Some vs → tree_of u (tree_at n u) (a_list p size count) ≡ Some (plain_list size count (section_of vs % 2 ^ (size_bits size * count)))
 plain_tree n u p size count vs k e = rw (k, e) refl
 
 -- the words of a list of plain elements become others

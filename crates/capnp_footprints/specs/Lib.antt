@@ -3,3 +3,4 @@ pub mod Changes
 pub mod Writes
 pub mod Elements
 pub mod Children
+pub mod NewObjects

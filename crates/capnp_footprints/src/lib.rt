@@ -3,3 +3,4 @@
 
 pub mod laws;
 pub mod laws_of_clearing;
+pub mod laws_of_new_objects;
