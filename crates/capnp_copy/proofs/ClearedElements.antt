@@ -21,8 +21,9 @@ use Rattle.capnp_footprints.specs.Elements.{element_at, with_element}
 use Rattle.capnp_footprints.proofs.Algebra.{changes_nothing}
 use Rattle.capnp_footprints.proofs.Lift.{object_replaced_owned, object_replaced_then}
 use Rattle.capnp_footprints.proofs.Cells.{element_parts, element_of_list, list_of_element}
-use Rattle.capnp_copy.specs.Clearing.{childless, ClearsKids, ClearsElements}
-use Rattle.capnp_copy.proofs.NullValues.{nulls_behind}
+use Rattle.capnp_footprints.specs.Children.{childless}
+use Rattle.capnp_copy.specs.Clearing.{ClearsKids, ClearsElements}
+use Rattle.capnp_footprints.proofs.Nulls.{nulls_behind}
 
 -- the children of the first of them are null
 pub childless_to : ℕ → ℕ → Elements → Elements

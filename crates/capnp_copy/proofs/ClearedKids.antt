@@ -9,7 +9,7 @@ use Rattle.capnp_footprints.specs.Footprints.{object_footprint, OwnsObject}
 use Rattle.capnp_footprints.specs.Changes.{ReplacesObject}
 use Rattle.capnp_footprints.proofs.Algebra.{changes_nothing}
 use Rattle.capnp_footprints.proofs.Lift.{struct_parts, object_replaced_owned, object_replaced_then, child_of_struct, struct_of_child}
-use Rattle.capnp_copy.specs.Clearing.{Clears, ClearsKids}
+use Rattle.capnp_copy.specs.Clearing.{ClearsValue, ClearsKids}
 
 -- the first of them are null
 pub nulled : ℕ → Trees → Trees
@@ -41,7 +41,7 @@ pub kids_none : (s : Segments) (p : Place) (d k : ℕ) → KidsSoFar s s p d k 0
 unfolding KidsSoFar nulled
 kids_none s p d k = λ n w section kids o. record { means = o.means; changes = changes_nothing s (object_footprint n s (a_struct p d k)) }
 
-pub kids_next : (s u v : Segments) (p : Place) (d k i : ℕ) → i < k → KidsSoFar s u p d k i → Clears u v (after (after p d) i) → KidsSoFar s v p d k (suc i)
+pub kids_next : (s u v : Segments) (p : Place) (d k i : ℕ) → i < k → KidsSoFar s u p d k i → ClearsValue u v (after (after p d) i) → KidsSoFar s v p d k (suc i)
 unfolding KidsSoFar
 kids_next s u v p d k i l h c = λ n w section kids o. (
     let now = h n w section kids o in

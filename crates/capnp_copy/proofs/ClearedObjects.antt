@@ -23,18 +23,19 @@ use Rattle.capnp_footprints.proofs.Levels.{changes_alike}
 use Rattle.capnp_footprints.proofs.Lift.{struct_parts, struct_of_parts, list_parts}
 use Rattle.capnp_footprints.proofs.Writing.{plain_is}
 use Rattle.capnp_footprints.proofs.Cells.{element_parts}
-use Rattle.capnp_copy.specs.Clearing.{zeroed, childless, ClearsObject, ClearsKids, ClearsElements}
-use Rattle.capnp_copy.proofs.NullValues.{nulls_behind}
+use Rattle.capnp_footprints.specs.Children.{childless}
+use Rattle.capnp_copy.specs.Clearing.{zeroed_there, ClearsObject, ClearsKids, ClearsElements}
+use Rattle.capnp_footprints.proofs.Nulls.{nulls_behind}
 use Rattle.capnp_copy.proofs.ClearedElements.{childless_behind}
 use Rattle.capnp_copy.proofs.ZeroedWords.{vanish}
 
 -- an object whose words alone are left loses them
-words_go : (s u : Segments) (c : Place → ℕ) (p : Place) (m : ℕ) (ws : List ℕ) (xs : List Span) (d : Place → ℕ) → xs ≡ [] → ((q : Place) → d q ≡ times_held (span p m ∷ xs) q) → words_at u p m ≡ Some ws → Changes s u c d → Changes s (zeroed u p m) c (λ q. 0)
+words_go : (s u : Segments) (c : Place → ℕ) (p : Place) (m : ℕ) (ws : List ℕ) (xs : List Span) (d : Place → ℕ) → xs ≡ [] → ((q : Place) → d q ≡ times_held (span p m ∷ xs) q) → words_at u p m ≡ Some ws → Changes s u c d → Changes s (zeroed_there u p m) c (λ q. 0)
 words_go s u c p m ws xs d e is there h =
     let alone : (q : Place) → held p m q ≡ d q = λ q. (let a : times_held (span p m ∷ xs) q ≡ times_held (span p m ∷ []) q = ap (λ (ys : List Span). times_held (span p m ∷ ys) q) e in let b = held_is p m [] q in omega (arith, a, b, is q)) in
     let own : Changes s u c (held p m) = changes_alike s u c d c (held p m) h (λ q. refl) alone in
     let on : On u (held p m) = λ q l. words_there u (span p m ∷ []) q ((ws, there), tt) (omega (arith, l, held_is p m [] q)) in
-    changes_then s u (zeroed u p m) c (held p m) (λ q. 0) own (vanish u p m (λ l. ap is_some there)) on
+    changes_then s u (zeroed_there u p m) c (held p m) (λ q. 0) own (vanish u p m (λ l. ap is_some there)) on
 
 pub nothing_goes : (s : Segments) → ClearsObject s s nothing
 nothing_goes s = λ n t o. changes_nothing s (object_footprint n s nothing)
@@ -42,7 +43,7 @@ nothing_goes s = λ n t o. changes_nothing s (object_footprint n s nothing)
 pub capability_goes : (s : Segments) (i : ℕ) → ClearsObject s s (a_capability i)
 capability_goes s i = λ n t o. changes_nothing s (object_footprint n s (a_capability i))
 
-pub struct_goes : (s u : Segments) (p : Place) (d k : ℕ) → ClearsKids s u p d k → ClearsObject s (zeroed u p (d + k)) (a_struct p d k)
+pub struct_goes : (s u : Segments) (p : Place) (d k : ℕ) → ClearsKids s u p d k → ClearsObject s (zeroed_there u p (d + k)) (a_struct p d k)
 struct_goes s u p d k h = λ n t o. (
     let x = bind_some (words_at s p (d + k)) _ t o.means in
     let y = bind_some (each (tree_at n s) (after p d) k) _ t x.2 in
@@ -53,7 +54,7 @@ struct_goes s u p d k h = λ n t o. (
     words_go s u (object_footprint n s (a_struct p d k)) p (d + k) parts.words (from_each (behind n u) (after p d) k) (object_footprint n u (a_struct p d k)) (nulls_behind n u (after p d) k parts.kids_are) (λ q. refl) parts.there r.changes
     )
 
-pub pointers_go : (s u : Segments) (p : Place) (k : ℕ) → ClearsKids s u p 0 k → ClearsObject s (zeroed u p k) (a_list p 6 k)
+pub pointers_go : (s u : Segments) (p : Place) (k : ℕ) → ClearsKids s u p 0 k → ClearsObject s (zeroed_there u p k) (a_list p 6 k)
 pointers_go s u p k h = λ n t o. (
     let x = bind_some (words_at s p k) _ t o.means in
     let y = bind_some (each (tree_at n s) p k) _ t x.2 in
@@ -65,11 +66,11 @@ pointers_go s u p k h = λ n t o. (
     let r = h n 0 0 y.0 o' in
     let parts = (struct_parts n u p 0 k 0 0 (resized k none) r.means).1 in
     let all = words_go s u (object_footprint n s (a_struct p 0 k)) p (0 + k) parts.words (from_each (behind n u) (after p 0) k) (object_footprint n u (a_struct p 0 k)) (nulls_behind n u (after p 0) k parts.kids_are) (λ q. refl) parts.there r.changes in
-    let all' : Changes s (zeroed u p k) (object_footprint n s (a_struct p 0 k)) (λ q. 0) = subst (λ (m : ℕ). Changes s (zeroed u p m) (object_footprint n s (a_struct p 0 k)) (λ q. 0)) sum all in
-    changes_alike s (zeroed u p k) (object_footprint n s (a_struct p 0 k)) (λ q. 0) (object_footprint n s (a_list p 6 k)) (λ q. 0) all' (λ q. alike s q) (λ q. refl)
+    let all' : Changes s (zeroed_there u p k) (object_footprint n s (a_struct p 0 k)) (λ q. 0) = subst (λ (m : ℕ). Changes s (zeroed_there u p m) (object_footprint n s (a_struct p 0 k)) (λ q. 0)) sum all in
+    changes_alike s (zeroed_there u p k) (object_footprint n s (a_struct p 0 k)) (λ q. 0) (object_footprint n s (a_list p 6 k)) (λ q. 0) all' (λ q. alike s q) (λ q. refl)
     )
 
-pub plain_goes : (s : Segments) (p : Place) (size count : ℕ) → list_kind size ≡ of_bits → ClearsObject s (zeroed s p (words_for (size_bits size * count))) (a_list p size count)
+pub plain_goes : (s : Segments) (p : Place) (size count : ℕ) → list_kind size ≡ of_bits → ClearsObject s (zeroed_there s p (words_for (size_bits size * count))) (a_list p size count)
 plain_goes s p size count k = λ n t o. (
     let m = words_for (size_bits size * count) in
     let e : tree_of s (tree_at n s) (a_list p size count) ≡ Some t = o.means in
@@ -80,7 +81,7 @@ plain_goes s p size count k = λ n t o. (
     plain_there : (n : ℕ) (t : Tree) → tree_of s (tree_at n s) (a_list p size count) ≡ Some t → (ws : List ℕ) × (words_at s p (words_for (size_bits size * count)) ≡ Some ws)
     plain_there n t e = let e' = subst (λ (kind : ListKind). (words_at s p (list_words kind size count) >>= λ ws. list_tree (tree_at n s) p kind size count ws) ≡ Some t) k e in let x = bind_some (words_at s p (words_for (size_bits size * count))) _ t e' in (x.0, x.1)
 
-pub elements_go : (s u : Segments) (p : Place) (m : ℕ) → ClearsElements s u p m → ClearsObject s (zeroed u p (1 + m)) (a_list p 7 m)
+pub elements_go : (s u : Segments) (p : Place) (m : ℕ) → ClearsElements s u p m → ClearsObject s (zeroed_there u p (1 + m)) (a_list p 7 m)
 elements_go s u p m h = λ n t o. (
     let x = bind_some (words_at s p (1 + m)) _ t o.means in
     let y = bind_found (tag_in x.0) _ t x.2 in
@@ -100,20 +101,20 @@ elements_go s u p m h = λ n t o. (
 
 -- ---- as the code goes
 
-pub after_kids : (s v u : Segments) (p : Place) (d k m : ℕ) (o : Object) → o ≡ a_struct p d k → m ≡ d + k → ClearsKids s v p d k → u ≡ zeroed v p m → ClearsObject s u o
+pub after_kids : (s v u : Segments) (p : Place) (d k m : ℕ) (o : Object) → o ≡ a_struct p d k → m ≡ d + k → ClearsKids s v p d k → u ≡ zeroed_there v p m → ClearsObject s u o
 after_kids s v u p d k m o oe me h ue =
-    let there : zeroed v p (d + k) ≡ u = ap (zeroed v p) (sym me) ∙ sym ue in
+    let there : zeroed_there v p (d + k) ≡ u = ap (zeroed_there v p) (sym me) ∙ sym ue in
     subst (λ (x : Object). ClearsObject s u x) (sym oe) (subst (λ (x : Segments). ClearsObject s x (a_struct p d k)) there (struct_goes s v p d k h))
 
-pub after_pointers : (s v u : Segments) (p : Place) (size k : ℕ) → size ≡ 6 → ClearsKids s v p 0 k → u ≡ zeroed v p k → ClearsObject s u (a_list p size k)
+pub after_pointers : (s v u : Segments) (p : Place) (size k : ℕ) → size ≡ 6 → ClearsKids s v p 0 k → u ≡ zeroed_there v p k → ClearsObject s u (a_list p size k)
 after_pointers s v u p size k e h ue = subst (λ (x : ℕ). ClearsObject s u (a_list p x k)) (sym e) (subst (λ (x : Segments). ClearsObject s x (a_list p 6 k)) (sym ue) (pointers_go s v p k h))
 
-pub after_elements : (s v u : Segments) (p : Place) (size k : ℕ) → size ≡ 7 → ClearsElements s v p k → u ≡ zeroed v p (1 + k) → ClearsObject s u (a_list p size k)
+pub after_elements : (s v u : Segments) (p : Place) (size k : ℕ) → size ≡ 7 → ClearsElements s v p k → u ≡ zeroed_there v p (1 + k) → ClearsObject s u (a_list p size k)
 after_elements s v u p size k e h ue = subst (λ (x : ℕ). ClearsObject s u (a_list p x k)) (sym e) (subst (λ (x : Segments). ClearsObject s x (a_list p 7 k)) (sym ue) (elements_go s v p k h))
 
-pub after_plain : (s u : Segments) (p : Place) (size k m : ℕ) → size < 6 → m ≡ words_for (data_bits size * k) → u ≡ zeroed s p m → ClearsObject s u (a_list p size k)
+pub after_plain : (s u : Segments) (p : Place) (size k m : ℕ) → size < 6 → m ≡ words_for (data_bits size * k) → u ≡ zeroed_there s p m → ClearsObject s u (a_list p size k)
 after_plain s u p size k m l me ue =
     let small : ltb size 6 ≡ true = lt-ltb size 6 l in
     let bits : data_bits size ≡ size_bits size = rw small refl in
-    let there : zeroed s p (words_for (size_bits size * k)) ≡ u = ap (λ (b : ℕ). zeroed s p (words_for (b * k))) (sym bits) ∙ ap (zeroed s p) (sym me) ∙ sym ue in
+    let there : zeroed_there s p (words_for (size_bits size * k)) ≡ u = ap (λ (b : ℕ). zeroed_there s p (words_for (b * k))) (sym bits) ∙ ap (zeroed_there s p) (sym me) ∙ sym ue in
     subst (λ (x : Segments). ClearsObject s x (a_list p size k)) there (plain_goes s p size k (list_kind_small size l))

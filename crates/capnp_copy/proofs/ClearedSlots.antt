@@ -23,10 +23,9 @@ use Rattle.capnp_footprints.proofs.Algebra.{On, changes_lift, changes_then}
 use Rattle.capnp_footprints.proofs.Levels.{replaced_by_itself, owned_more, footprint_more, changes_alike}
 use Rattle.capnp_footprints.proofs.Lift.{value_on, slot_is, object_of_pointer}
 use Rattle.capnp_footprints.proofs.Splices.{Rewrites, splice_rewrites}
-use Rattle.capnp_footprints.proofs.Writing.{rewrites_keep}
-use Rattle.capnp_footprints.proofs.NewObjects.{written_word}
-use Rattle.capnp_copy.specs.Clearing.{zeroed, Clears, ClearsObject}
-use Rattle.capnp_copy.proofs.NullValues.{null_read, null_footprint}
+use Rattle.capnp_footprints.proofs.Writing.{rewrites_keep, written_word}
+use Rattle.capnp_copy.specs.Clearing.{zeroed_there, ClearsValue, ClearsObject}
+use Rattle.capnp_footprints.proofs.Zeros.{null_read, null_footprint}
 use Rattle.capnp_copy.proofs.ZeroedWords.{held_none, vanish}
 
 -- ---- the pad
@@ -118,10 +117,10 @@ object_left n s p f t e o =
 -- ---- the pointer, when its object's words and the pads are zero
 
 pub object_gone : (n : ℕ) (s v : Segments) (p : Place) (f : Found) (t : Tree) (w : ℕ) → found_at s p ≡ Ok f → word_at s p ≡ Some w → Owns n s p t
-    → Changes (with_words s p (0 ∷ [])) v (object_footprint n (with_words s p (0 ∷ [])) f.object) (λ q. 0) → Replaces n s (zeroed v (pad_place w) f.pads) p null
+    → Changes (with_words s p (0 ∷ [])) v (object_footprint n (with_words s p (0 ∷ [])) f.object) (λ q. 0) → Replaces n s (zeroed_there v (pad_place w) f.pads) p null
 object_gone n s v p f t w e word o h =
     let u = with_words s p (0 ∷ []) in
-    let v' = zeroed v (pad_place w) f.pads in
+    let v' = zeroed_there v (pad_place w) f.pads in
     let o1 = owned_more n (suc n) s p t (omega arith) o in
     let r : Rewrites s (with_words s p (0 ∷ [])) p 1 = splice_rewrites s p (0 ∷ []) in
     let pad = slot_pad s p w f word e in
@@ -135,14 +134,14 @@ object_gone n s v p f t w e word o h =
     let both = changes_then s (with_words s p (0 ∷ [])) v (footprint (suc n) s p) (footprint (suc n) s p) (λ q. times_held (span p 1 ∷ pads_at s p) q) first second on_u in
     let on_v : On v (λ q. times_held (span p 1 ∷ pads_at s p) q) = λ q l. (let y = value_on (suc n) s p t o1.means q (omega (arith, l, all_is q)) in still_there s v q y.0 both.grows y.1) in
     let pads = vanish v (pad_place w) f.pads (λ l. (let x = pad.is_there l in let y = words_grown s v (pad_place w) f.pads x.0 both.grows x.1 in ap is_some y.1)) in
-    let third : Changes v (zeroed v (pad_place w) f.pads) (λ q. times_held (span p 1 ∷ pads_at s p) q) (held p 1) = changes_lift v (zeroed v (pad_place w) f.pads) (held (pad_place w) f.pads) (λ q. 0) (λ q. times_held (span p 1 ∷ pads_at s p) q) (held p 1) pads (λ q. omega (arith, own_is q)) (λ q. omega (arith, own_is q)) in
-    let whole = changes_then s v (zeroed v (pad_place w) f.pads) (footprint (suc n) s p) (λ q. times_held (span p 1 ∷ pads_at s p) q) (held p 1) both third on_v in
+    let third : Changes v (zeroed_there v (pad_place w) f.pads) (λ q. times_held (span p 1 ∷ pads_at s p) q) (held p 1) = changes_lift v (zeroed_there v (pad_place w) f.pads) (held (pad_place w) f.pads) (λ q. 0) (λ q. times_held (span p 1 ∷ pads_at s p) q) (held p 1) pads (λ q. omega (arith, own_is q)) (λ q. omega (arith, own_is q)) in
+    let whole = changes_then s v (zeroed_there v (pad_place w) f.pads) (footprint (suc n) s p) (λ q. times_held (span p 1 ∷ pads_at s p) q) (held p 1) both third on_v in
     let in_u : word_at (with_words s p (0 ∷ [])) p ≡ Some 0 = written_word s p w 0 word in
     let in_v : word_at v p ≡ Some 0 = h.kept p 0 in_u (omega (arith, o1.apart p, all_is p, own_is p, held_self p)) in
-    let null_now : word_at (zeroed v (pad_place w) f.pads) p ≡ Some 0 = pads.kept p 0 in_v (omega (arith, o1.apart p, all_is p, own_is p, held_self p)) in
+    let null_now : word_at (zeroed_there v (pad_place w) f.pads) p ≡ Some 0 = pads.kept p 0 in_v (omega (arith, o1.apart p, all_is p, own_is p, held_self p)) in
     record {
-      means = null_read n (zeroed v (pad_place w) f.pads) p null_now;
-      changes = changes_alike s (zeroed v (pad_place w) f.pads) (footprint (suc n) s p) (held p 1) (footprint n s p) (footprint n (zeroed v (pad_place w) f.pads) p) whole (λ q. sym (footprint_more n (suc n) s p t q (omega arith) o.means)) (λ q. null_footprint n (zeroed v (pad_place w) f.pads) p q null_now);
+      means = null_read n (zeroed_there v (pad_place w) f.pads) p null_now;
+      changes = changes_alike s (zeroed_there v (pad_place w) f.pads) (footprint (suc n) s p) (held p 1) (footprint n s p) (footprint n (zeroed_there v (pad_place w) f.pads) p) whole (λ q. sym (footprint_more n (suc n) s p t q (omega arith) o.means)) (λ q. null_footprint n (zeroed_there v (pad_place w) f.pads) p q null_now);
     }
   where
     rewritten : (s u : Segments) (p : Place) (m : ℕ) (c : Place → ℕ) → Rewrites s u p m → ((q : Place) → held p m q ≤ c q) → Changes s u c c
@@ -161,10 +160,10 @@ unfolding tree_at
 owned_found zero s p t e = let x = bind_found (found_at s p) _ t e in (x.0, x.1)
 owned_found (suc n) s p t e = let x = bind_found (found_at s p) _ t e in (x.0, x.1)
 
-pub clears_fault : (s u : Segments) (p : Place) (k : Kind) → found_at s p ≡ Err k → Clears s u p
+pub clears_fault : (s u : Segments) (p : Place) (k : Kind) → found_at s p ≡ Err k → ClearsValue s u p
 clears_fault s u p k e = λ n t o. (let x = owned_found n s p t o.means in let is : ◌≡◌ {A = Result Found Kind} (Ok x.0) (Err k) = sym x.1 ∙ e in absurd cc)
 
-pub clears_null : (s : Segments) (p : Place) → unwrap_or (word_at s p) 0 ≡ 0 → Clears s s p
+pub clears_null : (s : Segments) (p : Place) → unwrap_or (word_at s p) 0 ≡ 0 → ClearsValue s s p
 clears_null s p e = λ n t o. by_cases n t o (word_at s p) refl
   where
     by_cases : (n : ℕ) (t : Tree) → Owns n s p t → (w : Option ℕ) → word_at s p ≡ w → Replaces n s s p null
@@ -181,12 +180,12 @@ some_word : (o : Option ℕ) (w : ℕ) → w ≡ unwrap_or o 0 → 0 < w → o �
 some_word None w e l = absurd (omega (arith, e, l))
 some_word (Some v) w e l = ap (λ (n : ℕ). let x : Option ℕ = Some n in x) (sym e)
 
-pub clears_found : (s m v u : Segments) (p pad : Place) (f : Found) (w : ℕ) → w ≡ unwrap_or (word_at s p) 0 → 0 < w → Ok f ≡ found_at s p → m ≡ with_words s p (0 ∷ []) → ClearsObject m v f.object → pad ≡ place (bits_at 32 32 w) (bits_at 3 29 w) → u ≡ zeroed v pad f.pads → Clears s u p
+pub clears_found : (s m v u : Segments) (p pad : Place) (f : Found) (w : ℕ) → w ≡ unwrap_or (word_at s p) 0 → 0 < w → Ok f ≡ found_at s p → m ≡ with_words s p (0 ∷ []) → ClearsObject m v f.object → pad ≡ place (bits_at 32 32 w) (bits_at 3 29 w) → u ≡ zeroed_there v pad f.pads → ClearsValue s u p
 unfolding pad_place
 clears_found s m v u p pad f w we l fe me h pe ue = λ n t o. (
     let word = some_word (word_at s p) w we l in
     let h' : ClearsObject (with_words s p (0 ∷ [])) v f.object = subst (λ (x : Segments). ClearsObject x v f.object) me h in
     let all = object_gone n s v p f t w (sym fe) word o (h' n t (object_left n s p f t (sym fe) o)) in
-    let there : zeroed v (place (bits_at 32 32 w) (bits_at 3 29 w)) f.pads ≡ u = ap (λ (q : Place). zeroed v q f.pads) (sym pe) ∙ sym ue in
+    let there : zeroed_there v (place (bits_at 32 32 w) (bits_at 3 29 w)) f.pads ≡ u = ap (λ (q : Place). zeroed_there v q f.pads) (sym pe) ∙ sym ue in
     subst (λ (x : Segments). Replaces n s x p null) there all
     )

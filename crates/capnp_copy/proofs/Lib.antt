@@ -5,9 +5,9 @@ pub mod Shifts
 pub mod FieldLaws
 mod Ends
 mod ZeroedWords
-mod NullValues
 mod ClearedKids
 mod ClearedElements
 mod ClearedObjects
 mod ClearedSlots
 mod RoomLaws
+mod Making

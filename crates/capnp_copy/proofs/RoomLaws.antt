@@ -16,7 +16,7 @@ use Rattle.capnp_footprints.proofs.Growing.{Extends, zeros_extend}
 use Rattle.capnp_copy.specs.Allocations.{total_words, Allocates}
 use Rattle.capnp_copy.specs.declared.room.Room.{Room}
 use Rattle.capnp_copy.specs.declared.room.Room.TheVariants.{Here, Near, Far}
-use Rattle.capnp_copy.specs.Rooms.{RoomFor, IsAddressed, HasPad, begin_of, with_pad}
+use Rattle.capnp_copy.specs.Rooms.{RoomFor, IsAddressed, HasPad, begin_of, slot_word, with_pad, linked}
 use Rattle.capnp_copy.proofs.Ends.{end_within}
 
 -- ---- what is there stays
@@ -98,3 +98,11 @@ room_words s u p n (Near offset) e r =
     let f : words_at u (after p (1 + offset)) n ≡ Some (replicate n 0) = ap (λ (k : ℕ). words_at u (place p.segment k) n) (sym sum) ∙ z in
     ap is_some f
 room_words s u p n (Far pad) e r = ap is_some (words_back u (place_view pad) 1 n _ (zeros_now s u pad.segment pad.position (1 + n) r.1))
+
+pub still_linked : (s : Segments) (p : Place) (room : Room) (w : ℕ) (q : Place) (n : ℕ) → is_some (words_at s q n) ≡ true → is_some (words_at (linked s p room w) q n) ≡ true
+still_linked s p room w q n e = still_written (with_pad s room w) p q (slot_word room w ∷ []) n (still_padded s q room w n e)
+
+pub room_near : (s u : Segments) (p : Place) (n : ℕ) (room : Room) → p.position < 2 ^ 61 → RoomFor s u p n room → (begin_of p room).position + n < 2 ^ 61
+room_near s u p n Here l r = omega (arith, l, r.0)
+room_near s u p n (Near offset) l r = let e = end_within s p.segment in let a = r.1 in omega (arith, e, a.end, a.few)
+room_near s u p n (Far pad) l r = let e = end_within s pad.segment in let a = r.1 in omega (arith, e, a.end, a.few)

@@ -13,7 +13,7 @@ use Rattle.capnp_footprints.proofs.Rows.{after_none}
 use Rattle.capnp_footprints.proofs.Splices.{Rewrites, splice_rewrites, splice_words, spliced_length, spliced_whole}
 use Rattle.capnp_footprints.proofs.Growing.{zero_held, held_not}
 use Rattle.capnp_footprints.proofs.Kept.{words_length}
-use Rattle.capnp_copy.specs.Clearing.{nonzero_of, nonzero_words, zeroed}
+use Rattle.capnp_copy.specs.Clearing.{nonzero_of, nonzero_words, zeroed_there}
 
 -- ---- segments keep their lengths
 
@@ -26,7 +26,7 @@ pub written_sizes : (s : Segments) (p : Place) (vs : List ℕ) → map length (w
 unfolding with_words
 written_sizes s p vs = spliced_sizes s p.segment p.position vs
 
-pub zeroed_sizes : (s : Segments) (p : Place) (n : ℕ) → map length (zeroed s p n) ≡ map length s
+pub zeroed_sizes : (s : Segments) (p : Place) (n : ℕ) → map length (zeroed_there s p n) ≡ map length s
 zeroed_sizes s p n = by_cases (is_some (words_at s p n))
   where
     by_cases : (b : Bool) → map length (cond b (with_words s p (replicate n 0)) s) ≡ map length s
@@ -92,7 +92,7 @@ pub zeroes_fewer : (s : Segments) (p : Place) (n : ℕ) → nonzero_words (with_
 unfolding with_words
 zeroes_fewer s p n = zeros_fewer_in s p.segment p.position n
 
-pub zeroed_fewer : (s : Segments) (p : Place) (n : ℕ) → nonzero_words (zeroed s p n) ≤ nonzero_words s
+pub zeroed_fewer : (s : Segments) (p : Place) (n : ℕ) → nonzero_words (zeroed_there s p n) ≤ nonzero_words s
 unfolding with_words
 zeroed_fewer s p n = by_cases (is_some (words_at s p n))
   where
@@ -127,7 +127,7 @@ vanish_there s p n ws e =
       cleared = λ q w f z l. zero_held u p n q w zeros f (let a = r.no_more q in let b = there u q w f in omega (arith, a, b, l));
     }
 
-pub vanish : (s : Segments) (p : Place) (n : ℕ) → ((0 < n) → is_some (words_at s p n) ≡ true) → Changes s (zeroed s p n) (held p n) (λ q. 0)
+pub vanish : (s : Segments) (p : Place) (n : ℕ) → ((0 < n) → is_some (words_at s p n) ≡ true) → Changes s (zeroed_there s p n) (held p n) (λ q. 0)
 vanish s p n h = by_cases (words_at s p n) refl n refl
   where
     by_cases : (o : Option (List ℕ)) → words_at s p n ≡ o → (m : ℕ) → m ≡ n → Changes s (cond (is_some o) (with_words s p (replicate n 0)) s) (held p n) (λ q. 0)

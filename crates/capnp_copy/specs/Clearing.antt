@@ -3,9 +3,10 @@ use Rattle.std.specs.Prelude.{◌≡◌, ℕ, zero, suc, ◌+◌, if◌then◌el
 use Rattle.std.specs.Option.{is_some}
 use Rattle.capnp_model.specs.Segments.{Segments, Place, words_at}
 use Rattle.capnp_model.specs.Pointers.{Object, a_struct, a_list}
-use Rattle.capnp_model.specs.Trees.{Tree, null, structure, struct_list, Trees, none, resized, Elements, no_elements, element}
+use Rattle.capnp_model.specs.Trees.{Tree, null, structure, struct_list, Trees, none, resized, Elements}
 use Rattle.capnp_footprints.specs.Footprints.{object_footprint, Owns, OwnsObject}
 use Rattle.capnp_footprints.specs.Changes.{Changes, Replaces, ReplacesObject}
+use Rattle.capnp_footprints.specs.Children.{childless}
 use Rattle.capnp_footprints.specs.Writes.{with_words}
 
 -- How many of the words aren't zero.
@@ -20,17 +21,12 @@ nonzero_words [] = 0
 nonzero_words (ws ∷ s) = nonzero_of ws + nonzero_words s
 
 -- The segments with zeros in place of so many words, where they are there.
-abbrev pub zeroed : Segments → Place → ℕ → Segments
-zeroed s p n = if is_some (words_at s p n) then with_words s p (replicate n 0) else s
-
--- The elements with null children.
-abbrev pub childless : ℕ → Elements → Elements
-childless k no_elements = no_elements
-childless k (element section kids es) = element section (resized k none) (childless k es)
+abbrev pub zeroed_there : Segments → Place → ℕ → Segments
+zeroed_there s p n = if is_some (words_at s p n) then with_words s p (replicate n 0) else s
 
 -- Whatever value is owned there becomes null: all its words, with those of its pads, become zero, and nothing else changes.
-abbrev pub Clears : Segments → Segments → Place → Type 0
-Clears s u p = (n : ℕ) (t : Tree) → Owns n s p t → Replaces n s u p null
+abbrev pub ClearsValue : Segments → Segments → Place → Type 0
+ClearsValue s u p = (n : ℕ) (t : Tree) → Owns n s p t → Replaces n s u p null
 
 -- All words that the object and the values in it own become zero, and nothing else changes.
 abbrev pub ClearsObject : Segments → Segments → Object → Type 0

@@ -12,7 +12,7 @@ use Rattle.capnp_copy.specs.declared.room.Room.TheVariants.{Here, Near, Far}
 abbrev pub RoomFor : Segments → Segments → Place → ℕ → Room → Type 0
 RoomFor s u p n Here = (n ≡ 0) × (u ≡ s)
 RoomFor s u p n (Near offset) = (0 < n) × Allocates s u p.segment (p.position + 1 + offset) n
-RoomFor s u p n (Far pad) = (0 < n) × Allocates s u pad.segment pad.position (1 + n)
+RoomFor s u p n (Far pad) = (0 < n) × Allocates s u pad.segment pad.position (1 + n) × (pad.segment < 2 ^ 32)
 
 -- A pointer can tell it: an offset has thirty bits with its sign, a pad's position 29.
 abbrev pub IsAddressed : Room → Type 0

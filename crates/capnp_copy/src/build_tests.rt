@@ -78,7 +78,7 @@ fn nonzero<A: ReaderArena>(arena: &A, segments: u32) -> usize {
 
 /// What was seen of two structs that were built, then built anew at the root, then cleared: the numbers, what is nonzero after each, and the words of the arena.
 #[derive(Drop)]
-struct Seen {
+struct Observed {
     first: Result<(u64, u64, u64)>,
     built: usize,
     again: Result<(u64, u64, u64)>,
@@ -94,7 +94,7 @@ fn clear_root<A: BuilderArena>(memory: &mut Memory<A>)
     root.clear();
 }
 
-fn seen<A: Allocator + Drop>(alloc: Global, allocator: A, room: u32) -> (Result<Seen>, A)
+fn seen<A: Allocator + Drop>(alloc: Global, allocator: A, room: u32) -> (Result<Observed>, A)
     requires { length (A.loans allocator) ≤ 1 }
 {
     let mut memory = Memory {
@@ -123,7 +123,7 @@ fn seen<A: Allocator + Drop>(alloc: Global, allocator: A, room: u32) -> (Result<
     let cleared = nonzero(&memory.arena, 8);
     let words = memory.arena.size_in_words();
     let Memory { arena } = memory;
-    let seen = Seen {
+    let seen = Observed {
         first,
         built,
         again,

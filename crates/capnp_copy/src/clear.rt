@@ -7,7 +7,7 @@ ghost use Rattle.capnp_units.specs.Sizes.{size_number};
 ghost use Rattle.capnp_wire.specs.Places.{place_view};
 ghost use Rattle.capnp_object.specs.Named.{named_view};
 ghost use Rattle.capnp_footprints.specs.Writes.{with_words};
-ghost use Rattle.capnp_copy.specs.Clearing.{nonzero_words, zeroed, Clears, ClearsObject, ClearsKids, ClearsElements};
+ghost use Rattle.capnp_copy.specs.Clearing.{nonzero_words, zeroed_there, ClearsValue, ClearsObject, ClearsKids, ClearsElements};
 
 use crate::arena::BuilderArena;
 use capnp_object::named::{NamedObject, found_at};
@@ -17,7 +17,7 @@ use capnp_wire::place::{Place, has_words, place_in_word, word_at};
 
 /// Writes zeros over so many words from a place on, where they are there.
 fn zero_there<A: BuilderArena>(arena: &mut A, place: Place, count: usize)
-    ensures words { words_in (A.segments arena.new) ≡ zeroed (words_in (A.segments arena.old)) (place_view place) count }
+    ensures words { words_in (A.segments arena.new) ≡ zeroed_there (words_in (A.segments arena.old)) (place_view place) count }
     ensures sizes { map length (words_in (A.segments arena.new)) ≡ map length (words_in (A.segments arena.old)) }
     ensures nonzero { nonzero_words (words_in (A.segments arena.new)) ≤ nonzero_words (words_in (A.segments arena.old)) }
     ensures books { A.books arena.new ≡ A.books arena.old }
@@ -27,7 +27,7 @@ fn zero_there<A: BuilderArena>(arena: &mut A, place: Place, count: usize)
     }
 }
 
-/// Clears a list of plain elements.
+/// ClearsValue a list of plain elements.
 fn clear_plain<A: BuilderArena>(arena: &mut A, start: Place, size: ElementSize, count: u32)
     requires { size_number size < 6 }
     ensures clears { ClearsObject (words_in (A.segments arena.old)) (words_in (A.segments arena.new)) (a_list (place_view start) (size_number size) count) }
@@ -50,12 +50,12 @@ fn write_null<A: BuilderArena>(arena: &mut A, slot: Place)
     arena.write_word(slot, 0);
 }
 
-/// Clears the pointer at a place: it becomes null, and all words of its value become zero, with those of its pads and of all values in it. Nothing else changes, and nothing is allocated.
+/// ClearsValue the pointer at a place: it becomes null, and all words of its value become zero, with those of its pads and of all values in it. Nothing else changes, and nothing is allocated.
 ///
 /// It takes a step for each pointer that isn't null, and for each pointer of the objects on the way: lists of plain elements and of structs without pointers take one, whatever they count. Each level of pointers takes stack.
 #[cycle(clear)]
 pub fn clear<A: BuilderArena>(arena: &mut A, slot: Place)
-    ensures clears { Clears (words_in (A.segments arena.old)) (words_in (A.segments arena.new)) (place_view slot) }
+    ensures clears { ClearsValue (words_in (A.segments arena.old)) (words_in (A.segments arena.new)) (place_view slot) }
     ensures sizes { map length (words_in (A.segments arena.new)) ≡ map length (words_in (A.segments arena.old)) }
     ensures nonzero { nonzero_words (words_in (A.segments arena.new)) ≤ nonzero_words (words_in (A.segments arena.old)) }
     ensures books { A.books arena.new ≡ A.books arena.old }
@@ -72,7 +72,7 @@ pub fn clear<A: BuilderArena>(arena: &mut A, slot: Place)
     }
 }
 
-/// Clears what an object's pointers name, and then the object's own words.
+/// ClearsValue what an object's pointers name, and then the object's own words.
 #[cycle(clear)]
 fn clear_object<A: BuilderArena>(arena: &mut A, object: NamedObject)
     ensures clears { ClearsObject (words_in (A.segments arena.old)) (words_in (A.segments arena.new)) (named_view object) }
@@ -121,7 +121,7 @@ fn clear_list<A: BuilderArena>(arena: &mut A, start: Place, size: ElementSize, c
     }
 }
 
-/// Clears the pointers of a struct, where its words are there.
+/// ClearsValue the pointers of a struct, where its words are there.
 #[cycle(clear)]
 fn clear_kids<A: BuilderArena>(arena: &mut A, start: Place, data_words: u16, pointers: u32)
     ensures clears { ClearsKids (words_in (A.segments arena.old)) (words_in (A.segments arena.new)) (place_view start) data_words pointers }
@@ -144,7 +144,7 @@ fn clear_kids<A: BuilderArena>(arena: &mut A, start: Place, data_words: u16, poi
     }
 }
 
-/// Clears the pointers of a list's structs, where the list is there. The list begins at its tag, and its pointer claims so many words behind it.
+/// ClearsValue the pointers of a list's structs, where the list is there. The list begins at its tag, and its pointer claims so many words behind it.
 #[cycle(clear)]
 fn clear_elements<A: BuilderArena>(arena: &mut A, start: Place, words: u32)
     ensures clears { ClearsElements (words_in (A.segments arena.old)) (words_in (A.segments arena.new)) (place_view start) words }

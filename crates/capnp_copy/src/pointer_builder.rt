@@ -8,7 +8,7 @@ ghost use Rattle.capnp_units.specs.Segments.{words_in};
 ghost use Rattle.capnp_units.specs.declared.kinds.ErrorKind.TheVariants.{SizeOverflow};
 ghost use Rattle.capnp_wire.specs.Places.{place_view};
 ghost use Rattle.capnp_copy.specs.Allocations.{total_words};
-ghost use Rattle.capnp_copy.specs.Clearing.{Clears};
+ghost use Rattle.capnp_copy.specs.Clearing.{ClearsValue};
 ghost use Rattle.capnp_copy.specs.Structs.{struct_at};
 ghost use Rattle.capnp_copy.specs.Values.{Becomes, LeadsTo};
 ghost use Rattle.capnp_copy.specs.contracts.arena.Memory.{the_row};
@@ -51,12 +51,12 @@ impl<'a, A: BuilderArena> PointerBuilder<'a, A> {
         word_at(&self.memory.arena, self.place).unwrap_or(0) == 0
     }
 
-    /// Clears the value: the pointer becomes null, and all words of its value become zero. Nothing else changes, and nothing is allocated.
+    /// ClearsValue the value: the pointer becomes null, and all words of its value become zero. Nothing else changes, and nothing is allocated.
     pub fn clear(&mut self)
         ensures same { self.new.memory.ghost_name ≡ self.old.memory.ghost_name }
         ensures place { self.new.place ≡ self.old.place }
         ensures books { A.books self.new.memory.now.arena ≡ A.books self.old.memory.now.arena }
-        ensures clears { Clears (words_in (A.segments self.old.memory.now.arena)) (words_in (A.segments self.new.memory.now.arena)) (place_view self.old.place) }
+        ensures clears { ClearsValue (words_in (A.segments self.old.memory.now.arena)) (words_in (A.segments self.new.memory.now.arena)) (place_view self.old.place) }
     {
         let place = self.place;
         clear(&mut self.memory.arena, place);

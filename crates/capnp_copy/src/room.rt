@@ -45,6 +45,7 @@ pub enum Room {
 pub(crate) fn struct_word(size: StructSize) -> u64
     ensures word { result ≡ struct_pointer 0 size.data_words size.pointers }
     ensures offset { result < 2 ^ 64 - 2 ^ 32 + 4 }
+    ensures fits { (size.data_words < 2 ^ 16) × (size.pointers < 2 ^ 16) }
 {
     size.data_words as u64 * UPPER_HALF + size.pointers as u64 * POINTERS
 }

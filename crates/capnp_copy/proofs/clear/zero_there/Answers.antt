@@ -3,7 +3,7 @@ use Rattle.capnp_model.specs.Segments.{Segments}
 use Rattle.capnp_units.specs.Segments.{words_in}
 use Rattle.capnp_wire.specs.Places.{place_view}
 use Rattle.capnp_footprints.specs.Writes.{with_words}
-use Rattle.capnp_copy.specs.Clearing.{nonzero_words, zeroed}
+use Rattle.capnp_copy.specs.Clearing.{nonzero_words, zeroed_there}
 use Rattle.capnp_copy.proofs.ZeroedWords.{written_sizes, zeroes_fewer}
 use Rattle.capnp_copy.proofs.clear.zero_there.Goals as goal
 
