@@ -11,3 +11,5 @@ mod ClearedObjects
 mod ClearedSlots
 mod RoomLaws
 mod Making
+mod ListWords
+mod MakingStructs

@@ -50,7 +50,7 @@ positive o n (new_structs count d k) e l = some_list o 7 (count * (d + k))
 
 -- ---- the slot
 
-some_word : (s : Segments) (p : Place) → is_some (word_at s p) ≡ true → (w : ℕ) × (word_at s p ≡ Some w)
+pub some_word : (s : Segments) (p : Place) → is_some (word_at s p) ≡ true → (w : ℕ) × (word_at s p ≡ Some w)
 some_word s p e = by_cases (word_at s p) refl
   where
     by_cases : (o : Option ℕ) → word_at s p ≡ o → (w : ℕ) × (word_at s p ≡ Some w)
@@ -63,7 +63,7 @@ segment_there (xs ∷ s) zero k e = omega arith
 segment_there (xs ∷ s) (suc i) k e = let l = segment_there s i k e in omega (arith, l)
 
 -- a place at the end of its segment is another one
-beyond : (s : Segments) (p r : Place) → is_some (word_at s p) ≡ true → r.position ≡ segment_end s r.segment → p ≢ r
+pub beyond : (s : Segments) (p r : Place) → is_some (word_at s p) ≡ true → r.position ≡ segment_end s r.segment → p ≢ r
 beyond s p r e end same =
     let l = word_before_end s p.segment p.position e in
     let ends : segment_end s p.segment ≡ segment_end s r.segment = ap (λ (q : Place). segment_end s q.segment) same in
@@ -75,7 +75,7 @@ beyond s p r e end same =
 grown : (n : ℕ) (s : Segments) (p : Place) (t : Tree) (i k : ℕ) → i ≤ length s → Owns n s p t → Owns n (with_zeros s i k) p t
 grown n s p t i k l o = replaced_owned n s (with_zeros s i k) p t t o (grown_owned n s (with_zeros s i k) p (place i (segment_end s i)) k t o (zeros_extend s i k l))
 
-nulled_in : (n : ℕ) (s m u : Segments) (p : Place) (t : Tree) (i k : ℕ) → i ≤ length s → m ≡ with_zeros s i k → ClearsValue m u p → Owns (suc n) s p t → Replaces (suc n) (with_zeros s i k) u p null
+pub nulled_in : (n : ℕ) (s m u : Segments) (p : Place) (t : Tree) (i k : ℕ) → i ≤ length s → m ≡ with_zeros s i k → ClearsValue m u p → Owns (suc n) s p t → Replaces (suc n) (with_zeros s i k) u p null
 nulled_in n s m u p t i k l e c o = subst (λ (x : Segments). ClearsValue x u p) e c (suc n) t (grown (suc n) s p t i k l o)
 
 pub made : (s m u : Segments) (p : Place) (k : ℕ) (room : Room) (x : New) → is_some (words_at s p 1) ≡ true → RoomFor s m p k room → ClearsValue m u p → new_words x ≡ replicate k 0 → Fits x → Becomes s (linked u p room (new_pointer 0 x)) p (new_tree x)
@@ -107,7 +107,7 @@ made s m u p k (Far pad) x e r c ws fits = λ n t o. (
 
 -- ---- where the pointer leads
 
-word_later : (s m u : Segments) (p : Place) → is_some (words_at s p 1) ≡ true → Grows s m → Grows m u → (w : ℕ) × (word_at u p ≡ Some w)
+pub word_later : (s m u : Segments) (p : Place) → is_some (words_at s p 1) ≡ true → Grows s m → Grows m u → (w : ℕ) × (word_at u p ≡ Some w)
 word_later s m u p e g h =
     let x = some_word s p (word_there s p e) in
     let y = still_there s m p x.0 g x.1 in

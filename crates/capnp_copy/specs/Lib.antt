@@ -5,3 +5,4 @@ pub mod Structs
 pub mod Values
 pub mod Rooms
 pub mod Clearing
+pub mod Lists
