@@ -106,3 +106,6 @@ pub room_near : (s u : Segments) (p : Place) (n : ℕ) (room : Room) → p.posit
 room_near s u p n Here l r = omega (arith, l, r.0)
 room_near s u p n (Near offset) l r = let e = end_within s p.segment in let a = r.1 in omega (arith, e, a.end, a.few)
 room_near s u p n (Far pad) l r = let e = end_within s pad.segment in let a = r.1 in omega (arith, e, a.end, a.few)
+
+pub first_there : (s : Segments) (p : Place) (n : ℕ) → is_some (words_at s p (1 + n)) ≡ true → is_some (words_at s p 1) ≡ true
+first_there s p n e = let x = some_of s p (1 + n) e in ap is_some (words_front s p 1 n x.0 x.1)

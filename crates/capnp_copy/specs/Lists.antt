@@ -8,9 +8,9 @@ use Rattle.capnp_wire.specs.Places.{place_view}
 use Rattle.capnp_footprints.specs.NewObjects.{New, new_list, new_pointers}
 use Rattle.capnp_copy.specs.declared.init.ListPlace.{ListPlace}
 
--- The list there, of plain elements or of pointers.
+-- The list there.
 abbrev pub list_at : ListPlace → Object
-list_at o = a_list (place_view o.start) (size_number o.size) o.count
+list_at o = a_list (place_view o.start) (size_number o.size) o.claimed
 
 -- A list of zeros, or of nulls where the elements are pointers.
 abbrev pub zeros_of : ℕ → ℕ → New

@@ -16,7 +16,7 @@ use capnp_wire::pointer::PointerReader;
 use std::alloc::Global;
 use std::test::Fail;
 
-const ROOT: Place = Place {
+pub(crate) const ROOT: Place = Place {
     segment: 0,
     position: 0,
 };
@@ -63,7 +63,7 @@ fn read_back<A: ReaderArena>(arena: &A) -> Result<(u64, u64, u64)> {
 }
 
 /// How many words aren't zero.
-fn nonzero<A: ReaderArena>(arena: &A, segments: u32) -> usize {
+pub(crate) fn nonzero<A: ReaderArena>(arena: &A, segments: u32) -> usize {
     let mut count: usize = 0;
     for segment in 0..segments {
         for position in 0..400 {
@@ -87,7 +87,7 @@ struct Observed {
     words: usize,
 }
 
-fn clear_root<A: BuilderArena>(memory: &mut Memory<A>)
+pub(crate) fn clear_root<A: BuilderArena>(memory: &mut Memory<A>)
     ensures { A.books memory.new.arena ≡ A.books memory.old.arena }
 {
     let mut root = PointerBuilder::get_root(memory);

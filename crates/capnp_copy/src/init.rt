@@ -24,12 +24,15 @@ use capnp_units::sizes::{ElementSize, StructSize};
 use capnp_wire::object::words_of_elements;
 use capnp_wire::place::Place;
 
-/// Where a list lies: its first element, the size of each, and how many there are.
+/// Where a list lies: its first element, or the tag of structs; the size of an element; what the pointer counts, which is the elements, or the words of structs; how many elements there are; and the two sections of structs.
 #[derive(Clone, Copy, Debug, PartialEq, Eq)]
 pub struct ListPlace {
     pub start: Place,
     pub size: ElementSize,
+    pub claimed: u32,
     pub count: u32,
+    pub data_words: u16,
+    pub pointers: u16,
 }
 
 /// Puts an object of so many zero words in place of the value of the pointer at a place, which is cleared, and answers where the object begins. The new pointer's word is told with offset 0.
@@ -100,7 +103,7 @@ pub fn init_list<A: BuilderArena>(arena: &mut A, slot: Place, size: ElementSize,
     requires plain { size_number size < 7 }
     ensures value { IfOk result (λ o. Becomes (words_in (A.segments arena.old)) (words_in (A.segments arena.new)) (place_view slot) (new_tree (zeros_of (size_number size) count))) }
     ensures object { IfOk result (λ o. LeadsTo (words_in (A.segments arena.new)) (place_view slot) (list_at o)) }
-    ensures list { IfOk result (λ o. (o.size ≡ size) × (o.count ≡ count)) }
+    ensures list { IfOk result (λ o. (o.size ≡ size) × (o.claimed ≡ count) × (o.count ≡ count)) }
     ensures there { IfOk result (λ o. is_some (words_at (words_in (A.segments arena.new)) (place_view o.start) (words_of (size_number size) count)) ≡ true) }
     ensures near { IfOk result (λ o. o.start.position + words_of (size_number size) count < 2 ^ 61) }
     ensures refused { OnErr result (A.segments arena.new ≡ A.segments arena.old) }
@@ -111,5 +114,12 @@ pub fn init_list<A: BuilderArena>(arena: &mut A, slot: Place, size: ElementSize,
         return Err(Error::from(ErrorKind::SizeOverflow));
     }
     let start = init_zeros(arena, slot, words_of(size, count), list_word(size, count))?;
-    Ok(ListPlace { start, size, count })
+    Ok(ListPlace {
+        start,
+        size,
+        claimed: count,
+        count,
+        data_words: 0,
+        pointers: 0,
+    })
 }

@@ -13,8 +13,10 @@ pub mod held;
 pub mod init;
 pub mod room;
 pub mod laws;
+pub mod list_builder;
 pub mod pointer_builder;
 pub mod segments;
 pub mod struct_builder;
+pub mod struct_lists;
 #[cfg(test)]
 mod tests;

@@ -1,24 +1,30 @@
 //! Pointers that are built.
-ghost use Rattle.std.specs.Prelude.{◌≡◌, ◌+◌, ◌<◌, ◌≤◌, ◌^◌, ◌↔◌, ◌==◌, ℕ, Some, true, unwrap_or, IfOk, IfErr};
+ghost use Rattle.std.specs.Prelude.{◌≡◌, ◌+◌, ◌*◌, ◌<◌, ◌≤◌, ◌^◌, ◌↔◌, ◌⊎◌, ◌==◌, ℕ, true, unwrap_or, IfOk, IfErr};
 ghost use Rattle.std.specs.Borrow.{sem, RestsIfErr};
 ghost use Rattle.std.specs.Option.{is_some};
 ghost use Rattle.capnp_model.specs.Segments.{root, word_at, words_at};
-ghost use Rattle.capnp_model.specs.Trees.{structure, none, resized};
+ghost use Rattle.capnp_model.specs.Trees.{structure, struct_list, none, resized};
 ghost use Rattle.capnp_units.specs.Segments.{words_in};
+ghost use Rattle.capnp_units.specs.Sizes.{size_number};
 ghost use Rattle.capnp_units.specs.declared.kinds.ErrorKind.TheVariants.{SizeOverflow};
 ghost use Rattle.capnp_wire.specs.Places.{place_view};
+ghost use Rattle.capnp_footprints.specs.NewObjects.{new_tree, zero_elements};
 ghost use Rattle.capnp_copy.specs.Allocations.{total_words};
 ghost use Rattle.capnp_copy.specs.Clearing.{ClearsValue};
+ghost use Rattle.capnp_copy.specs.Lists.{list_at, zeros_of, words_of};
 ghost use Rattle.capnp_copy.specs.Structs.{struct_at};
 ghost use Rattle.capnp_copy.specs.Values.{Becomes, LeadsTo};
 ghost use Rattle.capnp_copy.specs.contracts.arena.Memory.{the_row};
 
 use crate::arena::{BuilderArena, Memory};
 use crate::clear::clear;
-use crate::init::init_struct;
+use crate::init::{init_list, init_struct};
+use crate::list_builder::ListBuilder;
 use crate::struct_builder::StructBuilder;
+use crate::struct_lists::init_struct_list;
 use capnp_units::errors::Result;
-use capnp_units::sizes::StructSize;
+use capnp_units::sizes::{ElementSize, StructSize};
+use capnp_units::units::ElementCount32;
 use capnp_wire::place::{Place, word_at};
 
 /// A pointer that is built, where it lies in an arena.
@@ -81,5 +87,56 @@ impl<'a, A: BuilderArena> PointerBuilder<'a, A> {
         let PointerBuilder { memory, place } = self;
         let place = init_struct(&mut memory.arena, place, size)?;
         Ok(StructBuilder { memory, place })
+    }
+
+    /// Puts a list of zeros, or of nulls, in place of the value, which is cleared. The elements are plain ones or pointers.
+    ///
+    /// It is refused with `SizeOverflow` just where the count or the message's words, a pad counted, would pass 2^29 - 1, else as the allocator refuses; then all stands as it was.
+    pub fn init_list(
+        self,
+        element_size: ElementSize,
+        element_count: ElementCount32,
+    ) -> Result<ListBuilder<'a, A>>
+        requires there { is_some (words_at (words_in (A.segments self.memory.now.arena)) (place_view self.place) 1) ≡ true }
+        requires near { self.place.position < 2 ^ 61 }
+        requires plain { size_number element_size < 7 }
+        ensures same { IfOk result (λ o. o.memory.ghost_name ≡ self.entry.memory.ghost_name) }
+        ensures value { IfOk result (λ o. Becomes (words_in (A.segments self.entry.memory.now.arena)) (words_in (A.segments o.memory.now.arena)) (place_view self.entry.place) (new_tree (zeros_of (size_number element_size) element_count))) }
+        ensures object { IfOk result (λ o. LeadsTo (words_in (A.segments o.memory.now.arena)) (place_view self.entry.place) (list_at o.place)) }
+        ensures list { IfOk result (λ o. (o.place.size ≡ element_size) × (o.place.claimed ≡ element_count) × (o.place.count ≡ element_count)) }
+        ensures there { IfOk result (λ o. is_some (words_at (words_in (A.segments o.memory.now.arena)) (place_view o.place.start) (words_of (size_number element_size) element_count)) ≡ true) }
+        ensures near { IfOk result (λ o. o.place.start.position + words_of (size_number element_size) element_count < 2 ^ 61) }
+        ensures books { IfOk result (λ o. A.books o.memory.now.arena ≡ A.books self.entry.memory.now.arena) }
+        ensures kind { IfErr result (λ e. (e.kind ≡ SizeOverflow) ↔ ((2 ^ 29 ≤ element_count) ⊎ (2 ^ 29 ≤ total_words (words_in (A.segments self.entry.memory.now.arena)) + (words_of (size_number element_size) element_count + 1)))) }
+        ensures* refused { sem 𝓛 (RestsIfErr (the_row A.row) self.entry.memory (λ o. o.memory.ghost_name) result (λ n. (A.segments n.arena ≡ A.segments self.entry.memory.now.arena) × (A.books n.arena ≡ A.books self.entry.memory.now.arena))) }
+    {
+        let PointerBuilder { memory, place } = self;
+        let place = init_list(&mut memory.arena, place, element_size, element_count)?;
+        Ok(ListBuilder { memory, place })
+    }
+
+    /// Puts a list of structs of zeros and nulls in place of the value, which is cleared.
+    ///
+    /// It is refused with `SizeOverflow` just where the count, the structs' words or the message's words, with the tag and a pad counted, would pass 2^29 - 1, else as the allocator refuses; then all stands as it was.
+    pub fn init_struct_list(
+        self,
+        element_count: ElementCount32,
+        element_size: StructSize,
+    ) -> Result<ListBuilder<'a, A>>
+        requires there { is_some (words_at (words_in (A.segments self.memory.now.arena)) (place_view self.place) 1) ≡ true }
+        requires near { self.place.position < 2 ^ 61 }
+        ensures same { IfOk result (λ o. o.memory.ghost_name ≡ self.entry.memory.ghost_name) }
+        ensures value { IfOk result (λ o. Becomes (words_in (A.segments self.entry.memory.now.arena)) (words_in (A.segments o.memory.now.arena)) (place_view self.entry.place) (struct_list element_size.data_words element_size.pointers (zero_elements element_count element_size.pointers))) }
+        ensures object { IfOk result (λ o. LeadsTo (words_in (A.segments o.memory.now.arena)) (place_view self.entry.place) (list_at o.place)) }
+        ensures list { IfOk result (λ o. (size_number o.place.size ≡ 7) × (o.place.claimed ≡ element_count * (element_size.data_words + element_size.pointers)) × (o.place.count ≡ element_count) × (o.place.data_words ≡ element_size.data_words) × (o.place.pointers ≡ element_size.pointers)) }
+        ensures there { IfOk result (λ o. is_some (words_at (words_in (A.segments o.memory.now.arena)) (place_view o.place.start) (1 + o.place.claimed)) ≡ true) }
+        ensures near { IfOk result (λ o. o.place.start.position + (1 + o.place.claimed) < 2 ^ 61) }
+        ensures books { IfOk result (λ o. A.books o.memory.now.arena ≡ A.books self.entry.memory.now.arena) }
+        ensures kind { IfErr result (λ e. (e.kind ≡ SizeOverflow) ↔ ((2 ^ 29 ≤ element_count) ⊎ (2 ^ 29 ≤ element_count * (element_size.data_words + element_size.pointers)) ⊎ (2 ^ 29 ≤ total_words (words_in (A.segments self.entry.memory.now.arena)) + (element_count * (element_size.data_words + element_size.pointers) + 2)))) }
+        ensures* refused { sem 𝓛 (RestsIfErr (the_row A.row) self.entry.memory (λ o. o.memory.ghost_name) result (λ n. (A.segments n.arena ≡ A.segments self.entry.memory.now.arena) × (A.books n.arena ≡ A.books self.entry.memory.now.arena))) }
+    {
+        let PointerBuilder { memory, place } = self;
+        let place = init_struct_list(&mut memory.arena, place, element_count, element_size)?;
+        Ok(ListBuilder { memory, place })
     }
 }
