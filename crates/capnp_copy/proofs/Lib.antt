@@ -3,13 +3,13 @@ pub mod ByteWords
 pub mod HeldWords
 pub mod Shifts
 pub mod FieldLaws
-mod Ends
-mod ZeroedWords
-mod ClearedKids
-mod ClearedElements
-mod ClearedObjects
-mod ClearedSlots
-mod RoomLaws
-mod Making
-mod ListWords
-mod MakingStructs
+pub mod Ends
+pub mod ZeroedWords
+pub mod ClearedKids
+pub mod ClearedElements
+pub mod ClearedObjects
+pub mod ClearedSlots
+pub mod RoomLaws
+pub mod Making
+pub mod ListWords
+pub mod MakingStructs

@@ -1,22 +1,15 @@
-//! What builders stand on: segments that an allocator hands out and takes back, arenas in which words are allocated and written.
+//! What builders stand on: segments that an allocator hands out and takes back, arenas in which words are allocated and written, and places in them where values are made and cleared.
 #![tactic(auto)]
 
 pub mod allocator;
 pub mod arena;
-mod bits;
-#[cfg(test)]
-mod build_tests;
+pub mod bits;
 pub mod clear;
 pub mod fields;
 mod grown;
 pub mod held;
 pub mod init;
-pub mod room;
 pub mod laws;
-pub mod list_builder;
-pub mod pointer_builder;
+pub mod room;
 pub mod segments;
-pub mod struct_builder;
 pub mod struct_lists;
-#[cfg(test)]
-mod tests;

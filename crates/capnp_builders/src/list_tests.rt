@@ -1,11 +1,11 @@
 //! Lists that are built near their pointers and far from them, and cleared.
 ghost use Rattle.std.specs.Prelude.{◌≡◌, ◌≤◌, [], length};
 
-use crate::allocator::Allocator;
-use crate::arena::{BuilderArena, Memory};
+use capnp_copy::allocator::Allocator;
+use capnp_copy::arena::{BuilderArena, Memory};
 use crate::build_tests::{ROOT, clear_root, nonzero};
 use crate::pointer_builder::PointerBuilder;
-use crate::segments::BuilderArenaImpl;
+use capnp_copy::segments::BuilderArenaImpl;
 use crate::tests::Exact;
 use capnp_units::errors::{Error, Result};
 use capnp_units::kinds::ErrorKind;

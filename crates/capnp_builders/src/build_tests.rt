@@ -1,10 +1,10 @@
 //! Structs that are built near their pointers and far from them, cleared, and built anew.
 ghost use Rattle.std.specs.Prelude.{◌≡◌, ◌≤◌, [], length};
 
-use crate::allocator::Allocator;
-use crate::arena::{BuilderArena, Memory};
+use capnp_copy::allocator::Allocator;
+use capnp_copy::arena::{BuilderArena, Memory};
 use crate::pointer_builder::PointerBuilder;
-use crate::segments::BuilderArenaImpl;
+use capnp_copy::segments::BuilderArenaImpl;
 use crate::tests::{Exact, written};
 use capnp_units::errors::{Error, Result};
 use capnp_units::kinds::ErrorKind;

@@ -5,7 +5,7 @@ use Rattle.capnp_model.specs.Trees.{structure}
 use Rattle.capnp_units.specs.Segments.{words_in}
 use Rattle.capnp_wire.specs.Places.{place_view}
 use Rattle.capnp_footprints.specs.Changes.{ReplacesObject}
-use Rattle.capnp_copy.proofs.struct_builder.StructBuilder.set_data_field.Goals as goal
+use Rattle.capnp_builders.proofs.struct_builder.StructBuilder.set_data_field.Goals as goal
 
 pub returns-clause-sets : goal.returns-clause-sets
 returns-clause-sets g c = λ n section kids o.

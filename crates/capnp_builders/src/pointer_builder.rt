@@ -16,12 +16,12 @@ ghost use Rattle.capnp_copy.specs.Structs.{struct_at};
 ghost use Rattle.capnp_copy.specs.Values.{Becomes, LeadsTo};
 ghost use Rattle.capnp_copy.specs.contracts.arena.Memory.{the_row};
 
-use crate::arena::{BuilderArena, Memory};
-use crate::clear::clear;
-use crate::init::{init_list, init_struct};
+use capnp_copy::arena::{BuilderArena, Memory};
+use capnp_copy::clear::clear;
+use capnp_copy::init::{init_list, init_struct};
 use crate::list_builder::ListBuilder;
 use crate::struct_builder::StructBuilder;
-use crate::struct_lists::init_struct_list;
+use capnp_copy::struct_lists::init_struct_list;
 use capnp_units::errors::Result;
 use capnp_units::sizes::{ElementSize, StructSize};
 use capnp_units::units::ElementCount32;

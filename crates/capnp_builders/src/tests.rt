@@ -1,10 +1,10 @@
 //! Segments that an arena takes on demand, written and read back.
 ghost use Rattle.std.specs.Prelude.{◌≡◌, ◌≤◌, [], length};
 
-use crate::allocator::Allocator;
-use crate::arena::{BuilderArena, Memory};
-use crate::fields::StructPlace;
-use crate::segments::BuilderArenaImpl;
+use capnp_copy::allocator::Allocator;
+use capnp_copy::arena::{BuilderArena, Memory};
+use capnp_copy::fields::StructPlace;
+use capnp_copy::segments::BuilderArenaImpl;
 use crate::struct_builder::StructBuilder;
 use capnp_units::errors::{Error, Result};
 use capnp_units::kinds::ErrorKind;
