@@ -33,19 +33,22 @@ fn two_structs<A: BuilderArena>(memory: &mut Memory<A>, first: u64, second: u64)
         data_words: 1,
         pointers: 2,
     })?;
-    if !has_words(&outer.memory.arena, outer.place.start, 1) {
+    let start = outer.place.start;
+    if !has_words(&outer.memory.arena, start, 1) {
         return Err(Error::from(ErrorKind::OutOfBounds));
     }
     outer.set_data_field::<u64>(0, first);
     let slot = outer.get_pointer_field(1);
-    if !has_words(&slot.memory.arena, slot.place, 1) {
+    let at = slot.place;
+    if !has_words(&slot.memory.arena, at, 1) {
         return Err(Error::from(ErrorKind::OutOfBounds));
     }
     let mut inner = slot.init_struct(StructSize {
         data_words: 2,
         pointers: 0,
     })?;
-    if !has_words(&inner.memory.arena, inner.place.start, 2) {
+    let start = inner.place.start;
+    if !has_words(&inner.memory.arena, start, 2) {
         return Err(Error::from(ErrorKind::OutOfBounds));
     }
     inner.set_data_field::<u64>(1, second);

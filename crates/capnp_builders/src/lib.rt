@@ -2,6 +2,8 @@
 #![tactic(auto)]
 
 #[cfg(test)]
+mod blob_tests;
+#[cfg(test)]
 mod build_tests;
 pub mod list_builder;
 #[cfg(test)]

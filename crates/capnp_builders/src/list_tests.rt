@@ -33,17 +33,20 @@ fn lists<A: BuilderArena>(memory: &mut Memory<A>) -> Result<()>
         },
     )?;
     let mut last = structs.get_struct_element(2);
-    if !has_words(&last.memory.arena, last.place.start, 1) {
+    let start = last.place.start;
+    if !has_words(&last.memory.arena, start, 1) {
         return Err(Error::from(ErrorKind::OutOfBounds));
     }
     last.set_data_field::<u64>(0, 55);
     let slot = last.get_pointer_field(0);
-    if !has_words(&slot.memory.arena, slot.place, 1) {
+    let at = slot.place;
+    if !has_words(&slot.memory.arena, at, 1) {
         return Err(Error::from(ErrorKind::OutOfBounds));
     }
     let pointers = slot.init_list(ElementSize::Pointer, 2)?;
     let second = pointers.get_pointer_element(1);
-    if !has_words(&second.memory.arena, second.place, 1) {
+    let at = second.place;
+    if !has_words(&second.memory.arena, at, 1) {
         return Err(Error::from(ErrorKind::OutOfBounds));
     }
     let numbers = second.init_list(ElementSize::FourBytes, 3)?;

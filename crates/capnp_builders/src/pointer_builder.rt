@@ -1,9 +1,10 @@
 //! Pointers that are built.
-ghost use Rattle.std.specs.Prelude.{◌≡◌, ◌+◌, ◌*◌, ◌<◌, ◌≤◌, ◌^◌, ◌↔◌, ◌⊎◌, ◌==◌, ℕ, true, unwrap_or, IfOk, IfErr};
+ghost use Rattle.std.specs.Prelude.{◌≡◌, ◌+◌, ◌*◌, ◌<◌, ◌≤◌, ◌^◌, ◌↔◌, ◌⊎◌, ◌==◌, ℕ, true, length, unwrap_or, IfOk, IfErr, OnErr};
 ghost use Rattle.std.specs.Borrow.{sem, RestsIfErr};
 ghost use Rattle.std.specs.Option.{is_some};
+ghost use Rattle.capnp_model.specs.Sections.{number_of, words_for};
 ghost use Rattle.capnp_model.specs.Segments.{root, word_at, words_at};
-ghost use Rattle.capnp_model.specs.Trees.{structure, struct_list, none, resized};
+ghost use Rattle.capnp_model.specs.Trees.{structure, plain_list, struct_list, none, resized};
 ghost use Rattle.capnp_units.specs.Segments.{words_in};
 ghost use Rattle.capnp_units.specs.Sizes.{size_number};
 ghost use Rattle.capnp_units.specs.declared.kinds.ErrorKind.TheVariants.{SizeOverflow};
@@ -17,6 +18,7 @@ ghost use Rattle.capnp_copy.specs.Values.{Becomes, LeadsTo};
 ghost use Rattle.capnp_copy.specs.contracts.arena.Memory.{the_row};
 
 use capnp_copy::arena::{BuilderArena, Memory};
+use capnp_copy::blobs::{set_data, set_text};
 use capnp_copy::clear::clear;
 use capnp_copy::init::{init_list, init_struct};
 use crate::list_builder::ListBuilder;
@@ -138,5 +140,39 @@ impl<'a, A: BuilderArena> PointerBuilder<'a, A> {
         let PointerBuilder { memory, place } = self;
         let place = init_struct_list(&mut memory.arena, place, element_count, element_size)?;
         Ok(ListBuilder { memory, place })
+    }
+
+    /// Puts data in place of the value, which is cleared.
+    ///
+    /// It is refused with `SizeOverflow` just where the bytes or the message's words, a pad counted, would pass 2^29 - 1, else as the allocator refuses; then all stands as it was.
+    pub fn set_data(&mut self, value: &[u8]) -> Result<()>
+        requires there { is_some (words_at (words_in (A.segments self.old.memory.now.arena)) (place_view self.old.place) 1) ≡ true }
+        requires near { self.old.place.position < 2 ^ 61 }
+        ensures same { self.new.memory.ghost_name ≡ self.old.memory.ghost_name }
+        ensures place { self.new.place ≡ self.old.place }
+        ensures books { A.books self.new.memory.now.arena ≡ A.books self.old.memory.now.arena }
+        ensures value { IfOk result (λ o. Becomes (words_in (A.segments self.old.memory.now.arena)) (words_in (A.segments self.new.memory.now.arena)) (place_view self.old.place) (plain_list 2 (length value.now) (number_of 8 value.now))) }
+        ensures refused { OnErr result (A.segments self.new.memory.now.arena ≡ A.segments self.old.memory.now.arena) }
+        ensures kind { IfErr result (λ e. (e.kind ≡ SizeOverflow) ↔ ((2 ^ 29 ≤ length value.now) ⊎ (2 ^ 29 ≤ total_words (words_in (A.segments self.old.memory.now.arena)) + (words_for (8 * length value.now) + 1)))) }
+    {
+        let place = self.place;
+        set_data(&mut self.memory.arena, place, value)
+    }
+
+    /// Puts a text in place of the value, which is cleared: its bytes, and a zero byte behind them.
+    ///
+    /// It is refused with `SizeOverflow` just where the bytes with the zero byte or the message's words, a pad counted, would pass 2^29 - 1, else as the allocator refuses; then all stands as it was.
+    pub fn set_text(&mut self, value: &[u8]) -> Result<()>
+        requires there { is_some (words_at (words_in (A.segments self.old.memory.now.arena)) (place_view self.old.place) 1) ≡ true }
+        requires near { self.old.place.position < 2 ^ 61 }
+        ensures same { self.new.memory.ghost_name ≡ self.old.memory.ghost_name }
+        ensures place { self.new.place ≡ self.old.place }
+        ensures books { A.books self.new.memory.now.arena ≡ A.books self.old.memory.now.arena }
+        ensures value { IfOk result (λ o. Becomes (words_in (A.segments self.old.memory.now.arena)) (words_in (A.segments self.new.memory.now.arena)) (place_view self.old.place) (plain_list 2 (length value.now + 1) (number_of 8 value.now))) }
+        ensures refused { OnErr result (A.segments self.new.memory.now.arena ≡ A.segments self.old.memory.now.arena) }
+        ensures kind { IfErr result (λ e. (e.kind ≡ SizeOverflow) ↔ ((2 ^ 29 ≤ length value.now + 1) ⊎ (2 ^ 29 ≤ total_words (words_in (A.segments self.old.memory.now.arena)) + (words_for (8 * (length value.now + 1)) + 1)))) }
+    {
+        let place = self.place;
+        set_text(&mut self.memory.arena, place, value)
     }
 }

@@ -13,3 +13,5 @@ pub mod RoomLaws
 pub mod Making
 pub mod ListWords
 pub mod MakingStructs
+pub mod BlobNumbers
+pub mod BlobValues

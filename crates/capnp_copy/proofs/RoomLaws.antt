@@ -1,5 +1,5 @@
 -- Room that was allocated, and what stays in it.
-use Rattle.std.proofs.Common.{◌≡◌, ℕ, zero, suc, ◌+◌, ◌*◌, ◌^◌, ◌<◌, ◌≤◌, Bool, true, false, List, [], ◌∷◌, length, map, replicate, Option, Some, None, refl, ap, sym, ◌∙◌, subst, arith}
+use Rattle.std.proofs.Common.{◌≡◌, ℕ, zero, suc, ◌+◌, ◌-◌, ◌*◌, ◌^◌, ◌<◌, ◌≤◌, Bool, true, false, List, [], ◌∷◌, length, map, replicate, Option, Some, None, refl, ap, sym, ◌∙◌, subst, arith}
 use Rattle.std.specs.List.{slice_get}
 use Rattle.std.specs.Option.{is_some}
 use Rattle.capnp_model.specs.Segments.{Segments, Place, place, after, word_at, words_at}
@@ -21,7 +21,7 @@ use Rattle.capnp_copy.proofs.Ends.{end_within}
 
 -- ---- what is there stays
 
-some_of : (s : Segments) (p : Place) (n : ℕ) → is_some (words_at s p n) ≡ true → (ws : List ℕ) × (words_at s p n ≡ Some ws)
+pub some_of : (s : Segments) (p : Place) (n : ℕ) → is_some (words_at s p n) ≡ true → (ws : List ℕ) × (words_at s p n ≡ Some ws)
 some_of s p n e = by_cases (words_at s p n) refl
   where
     by_cases : (o : Option (List ℕ)) → words_at s p n ≡ o → (ws : List ℕ) × (words_at s p n ≡ Some ws)
@@ -109,3 +109,10 @@ room_near s u p n (Far pad) l r = let e = end_within s pad.segment in let a = r.
 
 pub first_there : (s : Segments) (p : Place) (n : ℕ) → is_some (words_at s p (1 + n)) ≡ true → is_some (words_at s p 1) ≡ true
 first_there s p n e = let x = some_of s p (1 + n) e in ap is_some (words_front s p 1 n x.0 x.1)
+
+pub part_there : (s : Segments) (p : Place) (i w : ℕ) → i < w → is_some (words_at s p w) ≡ true → is_some (words_at s (after p i) 1) ≡ true
+part_there s p i w l e =
+    let sum : w ≡ i + (1 + (w - i - 1)) = omega (arith, l) in
+    let x = some_of s p w e in
+    let all : words_at s p (i + (1 + (w - i - 1))) ≡ Some x.0 = subst (λ (k : ℕ). words_at s p k ≡ Some x.0) sum x.1 in
+    ap is_some (words_front s (after p i) 1 (w - i - 1) _ (words_back s p i (1 + (w - i - 1)) x.0 all))

@@ -6,3 +6,4 @@ pub mod Values
 pub mod Rooms
 pub mod Clearing
 pub mod Lists
+pub mod Blobs

@@ -4,6 +4,7 @@
 pub mod allocator;
 pub mod arena;
 pub mod bits;
+pub mod blobs;
 pub mod clear;
 pub mod fields;
 mod grown;
