@@ -89,8 +89,13 @@ fn near_blobs_are_written(rt: HostRuntime) -> std::result::Result<(), Fail> {
         alloc: rt.alloc(),
         left: 1,
     };
-    let (data, text, written, cleared, _allocator) =
-        seen(rt.alloc(), allocator, 20, b"eleven more", b"12345678");
+    let (data, text, written, cleared, _allocator) = seen(
+        rt.alloc(),
+        allocator,
+        20,
+        b"eleven more",
+        b"12345678",
+    );
     assert_eq!(rt; data?, true);
     assert_eq!(rt; text?, true);
     assert_eq!(rt; written, 2);
@@ -104,8 +109,13 @@ fn far_blobs_are_written(rt: HostRuntime) -> std::result::Result<(), Fail> {
         alloc: rt.alloc(),
         left: 3,
     };
-    let (data, text, written, cleared, allocator) =
-        seen(rt.alloc(), allocator, 1, b"12345678", b"ten bytes.");
+    let (data, text, written, cleared, allocator) = seen(
+        rt.alloc(),
+        allocator,
+        1,
+        b"12345678",
+        b"ten bytes.",
+    );
     assert_eq!(rt; data?, true);
     assert_eq!(rt; text?, true);
     assert_eq!(rt; written, 4);

@@ -1,11 +1,11 @@
 //! Structs that are built near their pointers and far from them, cleared, and built anew.
 ghost use Rattle.std.specs.Prelude.{◌≡◌, ◌≤◌, [], length};
 
+use crate::pointer_builder::PointerBuilder;
+use crate::tests::{Exact, written};
 use capnp_copy::allocator::Allocator;
 use capnp_copy::arena::{BuilderArena, Memory};
-use crate::pointer_builder::PointerBuilder;
 use capnp_copy::segments::BuilderArenaImpl;
-use crate::tests::{Exact, written};
 use capnp_units::errors::{Error, Result};
 use capnp_units::kinds::ErrorKind;
 use capnp_units::limiter::ReadLimiter;
@@ -104,7 +104,10 @@ fn seen<A: Allocator + Drop>(alloc: Global, allocator: A, room: u32) -> (Result<
         arena: BuilderArenaImpl::new(alloc, allocator),
     };
     let begun = match memory.arena.allocate_segment(room) {
-        Ok(()) => memory.arena.allocate(0, 1).ok_or(Error::from(ErrorKind::OutOfBounds)),
+        Ok(()) => memory
+            .arena
+            .allocate(0, 1)
+            .ok_or(Error::from(ErrorKind::OutOfBounds)),
         Err(e) => Err(e),
     };
     let done = match begun {
@@ -155,7 +158,9 @@ fn near_structs_are_built_and_cleared(rt: HostRuntime) -> std::result::Result<()
 }
 
 #[test]
-fn far_structs_are_built_and_cleared_with_their_pads(rt: HostRuntime) -> std::result::Result<(), Fail> {
+fn far_structs_are_built_and_cleared_with_their_pads(
+    rt: HostRuntime,
+) -> std::result::Result<(), Fail> {
     let allocator = Exact {
         alloc: rt.alloc(),
         left: 5,
@@ -174,7 +179,9 @@ fn far_structs_are_built_and_cleared_with_their_pads(rt: HostRuntime) -> std::re
 
 /// The allocator has no more words for the second struct of the second time: what it replaces stands.
 #[test]
-fn what_was_built_stands_where_the_allocator_refuses(rt: HostRuntime) -> std::result::Result<(), Fail> {
+fn what_was_built_stands_where_the_allocator_refuses(
+    rt: HostRuntime,
+) -> std::result::Result<(), Fail> {
     let allocator = Exact {
         alloc: rt.alloc(),
         left: 3,
@@ -207,7 +214,12 @@ fn cleared_list<A: BuilderArena>(memory: &mut Memory<A>, word: u64, tag: u64) ->
     Ok(nonzero(&memory.arena, 1))
 }
 
-fn list_seen<A: Allocator + Drop>(alloc: Global, allocator: A, word: u64, tag: u64) -> (Result<usize>, A)
+fn list_seen<A: Allocator + Drop>(
+    alloc: Global,
+    allocator: A,
+    word: u64,
+    tag: u64,
+) -> (Result<usize>, A)
     requires { length (A.loans allocator) ≤ 1 }
 {
     let mut memory = Memory {

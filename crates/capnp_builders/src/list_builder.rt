@@ -4,11 +4,11 @@ ghost use Rattle.capnp_model.specs.Segments.{after};
 ghost use Rattle.capnp_units.specs.Sizes.{size_number};
 ghost use Rattle.capnp_wire.specs.Places.{place_view};
 
+use crate::pointer_builder::PointerBuilder;
+use crate::struct_builder::StructBuilder;
 use capnp_copy::arena::{BuilderArena, Memory};
 use capnp_copy::fields::StructPlace;
 use capnp_copy::init::ListPlace;
-use crate::pointer_builder::PointerBuilder;
-use crate::struct_builder::StructBuilder;
 use capnp_units::units::ElementCount32;
 use capnp_wire::place::Place;
 

@@ -1,12 +1,12 @@
 //! Lists that are built near their pointers and far from them, and cleared.
 ghost use Rattle.std.specs.Prelude.{◌≡◌, ◌≤◌, [], length};
 
-use capnp_copy::allocator::Allocator;
-use capnp_copy::arena::{BuilderArena, Memory};
 use crate::build_tests::{ROOT, clear_root, nonzero};
 use crate::pointer_builder::PointerBuilder;
-use capnp_copy::segments::BuilderArenaImpl;
 use crate::tests::Exact;
+use capnp_copy::allocator::Allocator;
+use capnp_copy::arena::{BuilderArena, Memory};
+use capnp_copy::segments::BuilderArenaImpl;
 use capnp_units::errors::{Error, Result};
 use capnp_units::kinds::ErrorKind;
 use capnp_units::limiter::ReadLimiter;
@@ -198,7 +198,10 @@ fn counts_end_at_their_bound(rt: HostRuntime) -> std::result::Result<(), Fail> {
     assert_eq!(rt; voids?, most);
     assert_eq!(rt; structs?, most);
     assert_eq!(rt; more.err(), Some(Error::from(ErrorKind::SizeOverflow)));
-    assert_eq!(rt; more_structs.err(), Some(Error::from(ErrorKind::SizeOverflow)));
+    assert_eq!(rt;
+        more_structs.err(),
+        Some(Error::from(ErrorKind::SizeOverflow))
+    );
     assert_eq!(rt; words.err(), Some(Error::from(ErrorKind::SizeOverflow)));
     assert_eq!(rt; full.err(), Some(Error::from(ErrorKind::OutOfMemory)));
     assert_eq!(rt; used, 2);

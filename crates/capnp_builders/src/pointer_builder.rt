@@ -17,12 +17,12 @@ ghost use Rattle.capnp_copy.specs.Structs.{struct_at};
 ghost use Rattle.capnp_copy.specs.Values.{Becomes, LeadsTo};
 ghost use Rattle.capnp_copy.specs.contracts.arena.Memory.{the_row};
 
+use crate::list_builder::ListBuilder;
+use crate::struct_builder::StructBuilder;
 use capnp_copy::arena::{BuilderArena, Memory};
 use capnp_copy::blobs::{set_data, set_text};
 use capnp_copy::clear::clear;
 use capnp_copy::init::{init_list, init_struct};
-use crate::list_builder::ListBuilder;
-use crate::struct_builder::StructBuilder;
 use capnp_copy::struct_lists::init_struct_list;
 use capnp_units::errors::Result;
 use capnp_units::sizes::{ElementSize, StructSize};

@@ -7,10 +7,10 @@ ghost use Rattle.capnp_wire.specs.Places.{place_view};
 ghost use Rattle.capnp_wire.specs.Views.{bit_of_bool};
 ghost use Rattle.capnp_copy.specs.Structs.{HasBits, SetsBits};
 
+use crate::pointer_builder::PointerBuilder;
 use capnp_copy::arena::{BuilderArena, Memory};
 use capnp_copy::bits::{bit_of, bits_of, number_in};
 use capnp_copy::fields::{StructPlace, bit_at, get_bits, set_bits};
-use crate::pointer_builder::PointerBuilder;
 use capnp_units::primitive::{Mask, Primitive};
 use capnp_units::units::{ElementCount, WirePointerCount};
 use capnp_wire::place::Place;

@@ -1,11 +1,11 @@
 //! Segments that an arena takes on demand, written and read back.
 ghost use Rattle.std.specs.Prelude.{◌≡◌, ◌≤◌, [], length};
 
+use crate::struct_builder::StructBuilder;
 use capnp_copy::allocator::Allocator;
 use capnp_copy::arena::{BuilderArena, Memory};
 use capnp_copy::fields::StructPlace;
 use capnp_copy::segments::BuilderArenaImpl;
-use crate::struct_builder::StructBuilder;
 use capnp_units::errors::{Error, Result};
 use capnp_units::kinds::ErrorKind;
 use capnp_units::limiter::ReadLimiter;
@@ -44,7 +44,11 @@ impl Allocator for Exact {
     }
 }
 
-pub(crate) fn written<A: BuilderArena>(memory: &mut Memory<A>, place: Place, word: u64) -> Result<()>
+pub(crate) fn written<A: BuilderArena>(
+    memory: &mut Memory<A>,
+    place: Place,
+    word: u64,
+) -> Result<()>
     ensures { A.books memory.new.arena ≡ A.books memory.old.arena }
 {
     if !has_words(&memory.arena, place, 1) {

@@ -157,13 +157,15 @@ fn clear_elements<A: BuilderArena>(arena: &mut A, start: Place, words: u32)
         size: ElementSize::InlineComposite,
         count: words,
     };
-    let Ok(Object::StructList {
-        start: first,
-        count,
-        data_words,
-        pointers,
-        ..
-    }) = whole(arena, list)
+    let Ok(
+        Object::StructList {
+            start: first,
+            count,
+            data_words,
+            pointers,
+            ..
+        },
+    ) = whole(arena, list)
     else {
         return;
     };

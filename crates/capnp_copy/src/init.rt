@@ -38,7 +38,12 @@ pub struct ListPlace {
 /// Puts an object of so many zero words in place of the value of the pointer at a place, which is cleared, and answers where the object begins. The new pointer's word is told with offset 0.
 ///
 /// It is refused with `SizeOverflow` just where the message's words would pass 2^29 - 1 with a pad counted, else as the allocator refuses; then all stands as it was.
-fn init_zeros<A: BuilderArena>(arena: &mut A, slot: Place, words: u32, pointer: u64) -> Result<Place>
+fn init_zeros<A: BuilderArena>(
+    arena: &mut A,
+    slot: Place,
+    words: u32,
+    pointer: u64,
+) -> Result<Place>
     requires there { is_some (words_at (words_in (A.segments arena.old)) (place_view slot) 1) ≡ true }
     requires near { slot.position < 2 ^ 61 }
     requires few { words ≤ 2 ^ 29 }
@@ -60,7 +65,11 @@ fn init_zeros<A: BuilderArena>(arena: &mut A, slot: Place, words: u32, pointer: 
 /// Puts a struct of zeros and nulls in place of the value of the pointer at a place, which is cleared.
 ///
 /// It is refused with `SizeOverflow` just where the message's words would pass 2^29 - 1 with a pad counted, else as the allocator refuses; then all stands as it was.
-pub fn init_struct<A: BuilderArena>(arena: &mut A, slot: Place, size: StructSize) -> Result<StructPlace>
+pub fn init_struct<A: BuilderArena>(
+    arena: &mut A,
+    slot: Place,
+    size: StructSize,
+) -> Result<StructPlace>
     requires there { is_some (words_at (words_in (A.segments arena.old)) (place_view slot) 1) ≡ true }
     requires near { slot.position < 2 ^ 61 }
     ensures value { IfOk result (λ o. Becomes (words_in (A.segments arena.old)) (words_in (A.segments arena.new)) (place_view slot) (structure size.data_words 0 (resized size.pointers none))) }
@@ -97,7 +106,12 @@ fn words_of(size: ElementSize, count: u32) -> u32
 /// Puts a list of zeros, or of nulls, in place of the value of the pointer at a place, which is cleared. The elements are plain ones or pointers.
 ///
 /// It is refused with `SizeOverflow` just where the count or the message's words, a pad counted, would pass 2^29 - 1, else as the allocator refuses; then all stands as it was.
-pub fn init_list<A: BuilderArena>(arena: &mut A, slot: Place, size: ElementSize, count: u32) -> Result<ListPlace>
+pub fn init_list<A: BuilderArena>(
+    arena: &mut A,
+    slot: Place,
+    size: ElementSize,
+    count: u32,
+) -> Result<ListPlace>
     requires there { is_some (words_at (words_in (A.segments arena.old)) (place_view slot) 1) ≡ true }
     requires near { slot.position < 2 ^ 61 }
     requires plain { size_number size < 7 }

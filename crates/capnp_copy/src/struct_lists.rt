@@ -70,7 +70,12 @@ pub fn init_struct_list<A: BuilderArena>(
     clear(arena, slot);
     let tag = begin_of(slot, room);
     arena.write_word(tag, tag_word(count, size));
-    link(arena, slot, room, list_word(ElementSize::InlineComposite, words));
+    link(
+        arena,
+        slot,
+        room,
+        list_word(ElementSize::InlineComposite, words),
+    );
     Ok(ListPlace {
         start: tag,
         size: ElementSize::InlineComposite,
