@@ -3,3 +3,15 @@ pub mod ByteWords
 pub mod HeldWords
 pub mod Shifts
 pub mod FieldLaws
+pub mod Ends
+pub mod ZeroedWords
+pub mod ClearedKids
+pub mod ClearedElements
+pub mod ClearedObjects
+pub mod ClearedSlots
+pub mod RoomLaws
+pub mod Making
+pub mod ListWords
+pub mod MakingStructs
+pub mod BlobNumbers
+pub mod BlobValues

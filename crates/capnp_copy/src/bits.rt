@@ -7,7 +7,7 @@ use capnp_units::primitive::Primitive;
 
 /// The number in so many bits of a word.
 
-pub(crate) fn bits_in(word: u64, at: u32, width: u32) -> u64
+pub fn bits_in(word: u64, at: u32, width: u32) -> u64
     requires { (at + width ≤ 64) × (0 < width) }
     ensures { result ≡ bits_at at width word }
 {
@@ -18,7 +18,7 @@ pub(crate) fn bits_in(word: u64, at: u32, width: u32) -> u64
 }
 
 /// The word after a number is written into so many of its bits.
-pub(crate) fn word_with(word: u64, at: u32, width: u32, value: u64) -> u64
+pub fn word_with(word: u64, at: u32, width: u32, value: u64) -> u64
     requires within { (at + width ≤ 64) × (0 < width) }
     requires fits { value < 2 ^ width }
     ensures bits { result ≡ with_bits at width value word }
@@ -33,14 +33,14 @@ pub(crate) fn word_with(word: u64, at: u32, width: u32, value: u64) -> u64
 }
 
 /// The bit of a truth value.
-pub(crate) fn bit_of(value: bool) -> u64
+pub fn bit_of(value: bool) -> u64
     ensures { result ≡ bit_of_bool value }
 {
     if value { 1 } else { 0 }
 }
 
 /// The bits of a number, as a word.
-pub(crate) fn bits_of<T: Primitive>(value: T) -> u64
+pub fn bits_of<T: Primitive>(value: T) -> u64
     ensures bits { result ≡ T.bits value }
     ensures fits { result < 2 ^ (8 * T.BYTES) }
 {
@@ -50,7 +50,7 @@ pub(crate) fn bits_of<T: Primitive>(value: T) -> u64
 }
 
 /// The number that has the lowest bits of a word.
-pub(crate) fn number_in<T: Primitive>(word: u64) -> T
+pub fn number_in<T: Primitive>(word: u64) -> T
     ensures { result ≡ T.from_bits (bits_at 0 (8 * T.BYTES) word) }
 {
     T::get(&word.to_le_bytes())

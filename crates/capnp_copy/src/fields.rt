@@ -20,7 +20,7 @@ pub struct StructPlace {
 }
 
 /// The first bit of a number that is counted in its own width, where it lies in a data section of so many words.
-pub(crate) fn bit_at(bytes: usize, offset: usize, data_words: u16) -> usize
+pub fn bit_at(bytes: usize, offset: usize, data_words: u16) -> usize
     requires { bytes * offset + bytes ≤ 8 * data_words }
     ensures { result ≡ 8 * (bytes * offset) }
 {

@@ -1,14 +1,16 @@
-//! What builders stand on: segments that an allocator hands out and takes back, arenas in which words are allocated and written.
+//! What builders stand on: segments that an allocator hands out and takes back, arenas in which words are allocated and written, and places in them where values are made and cleared.
 #![tactic(auto)]
 
 pub mod allocator;
 pub mod arena;
-mod bits;
+pub mod bits;
+pub mod blobs;
+pub mod clear;
 pub mod fields;
 mod grown;
 pub mod held;
+pub mod init;
 pub mod laws;
+pub mod room;
 pub mod segments;
-pub mod struct_builder;
-#[cfg(test)]
-mod tests;
+pub mod struct_lists;

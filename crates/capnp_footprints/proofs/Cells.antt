@@ -30,10 +30,10 @@ rest_of d k c m l = omega (arith, l)
 rest_fits : (d k c m : ℕ) → suc c * (d + k) ≤ m → c * (d + k) ≤ m - (d + k)
 rest_fits d k c m l = omega (arith, l)
 
-struct_cells : (n : ℕ) (s : Segments) (p : Place) (d k : ℕ) (q : Place) → object_footprint n s (a_struct p d k) q ≡ held p (d + k) q + times_held (from_each (behind n s) (after p d) k) q
+pub struct_cells : (n : ℕ) (s : Segments) (p : Place) (d k : ℕ) (q : Place) → object_footprint n s (a_struct p d k) q ≡ held p (d + k) q + times_held (from_each (behind n s) (after p d) k) q
 struct_cells n s p d k q = held_is p (d + k) (from_each (behind n s) (after p d) k) q
 
-cells_next : (n : ℕ) (s : Segments) (p : Place) (m d k c : ℕ) (q : Place) → suc c * (d + k) ≤ m → cells n s p m d k (suc c) q ≡ object_footprint n s (a_struct p d k) q + cells n s (after p (d + k)) (m - (d + k)) d k c q
+pub cells_next : (n : ℕ) (s : Segments) (p : Place) (m d k c : ℕ) (q : Place) → suc c * (d + k) ≤ m → cells n s p m d k (suc c) q ≡ object_footprint n s (a_struct p d k) q + cells n s (after p (d + k)) (m - (d + k)) d k c q
 cells_next n s p m d k c q l =
     let e : held p m q ≡ held p ((d + k) + (m - (d + k))) q = ap (λ (x : ℕ). held p x q) (rest_of d k c m l) in
     let f = held_split p (d + k) (m - (d + k)) q in
@@ -156,14 +156,14 @@ module _ (n : ℕ) (s u : Segments) (r : Place) (d k section : ℕ) (kids : Tree
 
 -- ---- the list
 
-counted : (f : Place → Option Tree) (p : Place) (ws : List ℕ) (d k c : ℕ) (es : Elements) → each_element f p ws d k c ≡ Some es → element_count es ≡ c
+pub counted : (f : Place → Option Tree) (p : Place) (ws : List ℕ) (d k c : ℕ) (es : Elements) → each_element f p ws d k c ≡ Some es → element_count es ≡ c
 counted f p ws d k zero es e = sym (ap element_count (some_is _ _ e))
 counted f p ws d k (suc c) es e =
     let x = bind_some (each f (after p d) k) _ es e in
     let y = bind_some (each_element f (after p (d + k)) (drop (d + k) ws) d k c) _ es x.2 in
     sym (ap element_count (some_is _ _ y.2)) ∙ ap suc (counted f (after p (d + k)) (drop (d + k) ws) d k c y.0 y.1)
 
-tag_alike : (ws vs : List ℕ) (t : Tag) → take 1 vs ≡ take 1 ws → length vs ≡ length ws → tag_in ws ≡ Ok t → tag_in vs ≡ Ok t
+pub tag_alike : (ws vs : List ℕ) (t : Tag) → take 1 vs ≡ take 1 ws → length vs ≡ length ws → tag_in ws ≡ Ok t → tag_in vs ≡ Ok t
 tag_alike [] vs t e l f = absurd cc
 tag_alike (w ∷ ws) [] t e l f = absurd cc
 tag_alike (w ∷ ws) (v ∷ vs) t e l f =
@@ -206,14 +206,14 @@ list_of_parts n s p m d k es x =
     let elements : each_element (tree_at n s) (after p 1) (drop 1 x.words) d k (element_count es) ≡ Some es = x.elements_are in
     rw (there, tag, elements) refl
 
-list_is : (n : ℕ) (s : Segments) (p : Place) (m d k : ℕ) (es : Elements) (q : Place) → ElementParts n s p m d k es → object_footprint n s (a_list p 7 m) q ≡ held p 1 q + cells n s (after p 1) m d k (element_count es) q
+pub list_is : (n : ℕ) (s : Segments) (p : Place) (m d k : ℕ) (es : Elements) (q : Place) → ElementParts n s p m d k es → object_footprint n s (a_list p 7 m) q ≡ held p 1 q + cells n s (after p 1) m d k (element_count es) q
 list_is n s p m d k es q x =
     let there : words_at s p (1 + m) ≡ Some x.words = x.there in
     let read : (words_at s p (1 + m) >>= λ ws. result_ok (tag_in ws)) ≡ Some (record { count = element_count es; data_words = d; pointers = k }) = rw there (ap result_ok x.tag_is) in
     let e : times_held (covered_object s (behind n s) (a_list p 7 m)) q ≡ times_held (span p (1 + m) ∷ from_elements (behind n s) (after p 1) d k (element_count es)) q = ap (λ (t : Option Tag). times_held (span p (1 + m) ∷ covered_tag (behind n s) p t) q) read in
     omega (arith, e, held_is p (1 + m) (from_elements (behind n s) (after p 1) d k (element_count es)) q, held_split p 1 m q)
 
-parts_fit : (n : ℕ) (s : Segments) (p : Place) (m d k : ℕ) (es : Elements) → ElementParts n s p m d k es → element_count es * (d + k) ≤ m
+pub parts_fit : (n : ℕ) (s : Segments) (p : Place) (m d k : ℕ) (es : Elements) → ElementParts n s p m d k es → element_count es * (d + k) ≤ m
 parts_fit n s p m d k es x =
     let long : length (drop 1 x.words) ≡ m = words_length s (after p 1) m (drop 1 x.words) (words_back s p 1 m x.words x.there) in
     omega (arith, tag_fits x.words _ x.tag_is, long)
@@ -227,7 +227,7 @@ element_of_list n s p m d k i es l o =
       apart = λ q. omega (arith, o.apart q, list_is n s p m d k es q x, element_le n s (after p 1) (after (after p 1) (i * (d + k))) m d k (element_count es) i refl l fits q);
     }
 
-same_count : (es : Elements) (i section : ℕ) (kids : Trees) → element_count (with_element es i section kids) ≡ element_count es
+pub same_count : (es : Elements) (i section : ℕ) (kids : Trees) → element_count (with_element es i section kids) ≡ element_count es
 same_count no_elements i section kids = refl
 same_count (element s ts es) zero section kids = refl
 same_count (element s ts es) (suc i) section kids = ap suc (same_count es i section kids)

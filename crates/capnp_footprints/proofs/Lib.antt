@@ -9,4 +9,12 @@ pub mod Growing
 pub mod Writing
 pub mod Levels
 pub mod Cells
+pub mod Zeros
+pub mod Nulls
+pub mod Clearing
+pub mod Cleared
+pub mod Turns
+pub mod Pointing
+pub mod NewKinds
+pub mod Prepared
 pub mod NewObjects

@@ -1,102 +1,34 @@
 -- A null pointer gets a new object, whose words are zero.
-use Rattle.std.proofs.Common.{◌≡◌, ℕ, zero, suc, ◌+◌, ◌-◌, ◌*◌, ◌^◌, ◌<◌, ◌≤◌, false, eqb, List, [], ◌∷◌, ◌++◌, length, take, drop, replicate, Option, Some, Result, Ok, refl, ap, sym, ◌∙◌, arith}
-use Rattle.std.proofs.lemmas.List.{take-replicate}
+use Rattle.std.proofs.Common.{◌≡◌, ℕ, zero, suc, ◌+◌, List, drop, Some, refl, ◌∙◌, arith, ◌*◌, ◌^◌, ◌≤◌, ◌<◌, ap, false, Ok, [], ◌∷◌, eqb, length, take, replicate, Result, Option, ◌-◌}
 use Rattle.std.proofs.lemmas.Bool.Decides.{nat_tests}
-use Rattle.capnp_model.specs.Kinds.{Kind}
 use Rattle.capnp_model.specs.Chains.{◌and_then◌}
-use Rattle.capnp_model.specs.Sections.{bits_at, section_of}
-use Rattle.capnp_model.specs.Segments.{Segments, Place, place, after, word_at, words_at}
-use Rattle.capnp_model.specs.Pointers.{pointer_of, to_struct, to_pad, begins, Object, nothing, a_struct, Found, found_by, found_at}
-use Rattle.capnp_model.specs.Trees.{null, structure, none, resized}
-use Rattle.capnp_model.specs.Traversal.{each, tree_of, tree_at}
-use Rattle.capnp_model.specs.Coverage.{Span, span, times_held, pad_of, pads_by, pads_at, from_each, covered_found, covered_object, Grows}
+use Rattle.capnp_model.specs.Coverage.{Span, times_held, Grows, span, pad_of, pads_by, pads_at}
+use Rattle.capnp_model.specs.Edits.{cleared}
 use Rattle.capnp_model.specs.Encoding.{struct_pointer}
+use Rattle.capnp_model.specs.Kinds.{Kind}
+use Rattle.capnp_model.specs.Messages.{within}
+use Rattle.capnp_model.specs.Packing.{zeros}
+use Rattle.capnp_model.specs.Pointers.{Object, a_struct, found_at, to_struct, to_pad, pointer_of, begins, Found, found_by}
+use Rattle.capnp_model.specs.Readings.{no_more}
+use Rattle.capnp_model.specs.Sections.{bits_at}
+use Rattle.capnp_model.specs.Segments.{Segments, Place, after, words_at, place, word_at}
+use Rattle.capnp_model.specs.Traversal.{tree_at}
+use Rattle.capnp_model.specs.Trees.{structure, none, resized}
+use Rattle.capnp_model.proofs.FineShapes.{found}
+use Rattle.capnp_model.proofs.Locality.{word_was, word_is}
 use Rattle.capnp_model.proofs.PointerWords.{struct_says, begins_behind, begins_here}
-use Rattle.capnp_model.proofs.SectionElements.{section_of-zeros}
-use Rattle.capnp_model.proofs.Locality.{word_is, word_was}
-use Rattle.capnp_footprints.specs.Footprints.{behind, footprint, object_footprint}
-use Rattle.capnp_footprints.specs.Changes.{absent, Changes, Replaces}
-use Rattle.capnp_footprints.specs.Writes.{spliced, with_words, with_zeros, segment_end}
-use Rattle.capnp_footprints.proofs.Spans.{held, held_is, held_split, held_self, held_low, held_high, words_front, words_back, there, grows_same, grows_then, held_le}
-use Rattle.capnp_footprints.proofs.There.{words_there}
+use Rattle.capnp_model.proofs.SoundRules.{apart}
+use Rattle.capnp_footprints.specs.Changes.{Changes, Replaces, absent}
+use Rattle.capnp_footprints.specs.Footprints.{footprint}
+use Rattle.capnp_footprints.specs.Writes.{with_words, with_zeros, segment_end}
+use Rattle.capnp_footprints.proofs.Growing.{Extends, zeros_extend}
+use Rattle.capnp_footprints.proofs.Lift.{slot_is}
 use Rattle.capnp_footprints.proofs.Rows.{after_none}
-use Rattle.capnp_footprints.proofs.Lift.{slot_is, struct_of_parts}
-use Rattle.capnp_footprints.proofs.Splices.{Rewrites, splice_rewrites, splice_words}
-use Rattle.capnp_footprints.proofs.Growing.{Extends, zeros_extend, held_not}
-use Rattle.capnp_footprints.proofs.Writing.{rewrites_keep}
-
--- ---- zeros
-
-null_found : (s : Segments) (p : Place) → word_at s p ≡ Some 0 → found_at s p ≡ Ok (record { pads = 0; object = nothing })
-null_found s p e = rw e refl
-
-null_read : (n : ℕ) (s : Segments) (p : Place) → word_at s p ≡ Some 0 → tree_at n s p ≡ Some null
-unfolding tree_at
-null_read zero s p e = rw (null_found s p e) refl
-null_read (suc n) s p e = rw (null_found s p e) refl
-
-null_behind : (n : ℕ) (s : Segments) (p : Place) → word_at s p ≡ Some 0 → behind n s p ≡ []
-unfolding behind
-null_behind zero s p e = ap pads_by e
-null_behind (suc n) s p e =
-    ap (λ (o : Option ℕ). pads_by o ++ covered_found (covered_object s (behind n s)) (found_at s p)) e
-    ∙ ap (covered_found (covered_object s (behind n s))) (null_found s p e)
-
-null_footprint : (n : ℕ) (s : Segments) (p q : Place) → word_at s p ≡ Some 0 → footprint n s p q ≡ held p 1 q
-null_footprint n s p q e = ap (λ (xs : List Span). times_held (span p 1 ∷ xs) q) (null_behind n s p e) ∙ omega (arith, held_is p 1 [] q)
-
-first_zero : (s : Segments) (p : Place) (k : ℕ) → words_at s p (suc k) ≡ Some (replicate (suc k) 0) → (word_at s p ≡ Some 0) × (words_at s (after p 1) k ≡ Some (replicate k 0))
-first_zero s p k e =
-    let sum : suc k ≡ 1 + k = omega arith in
-    let e' : words_at s p (1 + k) ≡ Some (replicate (suc k) 0) = ap (words_at s p) (sym sum) ∙ e in
-    (word_was s p 0 (words_front s p 1 k _ e'), words_back s p 1 k _ e')
-
-zeros_read : (n : ℕ) (s : Segments) (p : Place) (k : ℕ) → words_at s p k ≡ Some (replicate k 0) → each (tree_at n s) p k ≡ Some (resized k none)
-zeros_read n s p zero e = refl
-zeros_read n s p (suc k) e =
-    let x = first_zero s p k e in
-    let here : tree_at n s p ≡ Some null = null_read n s p x.0 in
-    let rest : each (tree_at n s) (after p 1) k ≡ Some (resized k none) = zeros_read n s (after p 1) k x.1 in
-    rw (here, rest) refl
-
-zeros_behind : (n : ℕ) (s : Segments) (p : Place) (k : ℕ) → words_at s p k ≡ Some (replicate k 0) → from_each (behind n s) p k ≡ []
-zeros_behind n s p zero e = refl
-zeros_behind n s p (suc k) e =
-    let x = first_zero s p k e in
-    ap (λ (xs : List Span). xs ++ from_each (behind n s) (after p 1) k) (null_behind n s p x.0) ∙ zeros_behind n s (after p 1) k x.1
-
-zero_struct : (n : ℕ) (s : Segments) (p : Place) (d k : ℕ) → words_at s p (d + k) ≡ Some (replicate (d + k) 0) → tree_of s (tree_at n s) (a_struct p d k) ≡ Some (structure d 0 (resized k none))
-zero_struct n s p d k e =
-    let l : d ≤ d + k = omega arith in
-    let back : words_at s (after p d) k ≡ Some (replicate k 0) = words_back s p d k _ e ∙ ap (λ (xs : List ℕ). Some xs) (drop_zeros d k) in
-    struct_of_parts n s p d k 0 (resized k none) (record {
-      words = replicate (d + k) 0;
-      there = e;
-      section_is = ap section_of (take-replicate d (d + k) 0 l) ∙ section_of-zeros d;
-      kids_are = zeros_read n s (after p d) k back;
-    })
-  where
-    drop_zeros : (d k : ℕ) → drop d (replicate {A = ℕ} (d + k) 0) ≡ replicate {A = ℕ} k 0
-    drop_zeros zero k = let e : 0 + k ≡ k = omega arith in ap (λ (n : ℕ). replicate {A = ℕ} n 0) e
-    drop_zeros (suc d) k = let e : suc d + k ≡ suc (d + k) = omega arith in ap (λ (n : ℕ). drop (suc d) (replicate {A = ℕ} n 0)) e ∙ drop_zeros d k
-
-zero_struct_takes : (n : ℕ) (s : Segments) (p : Place) (d k : ℕ) (q : Place) → words_at s p (d + k) ≡ Some (replicate (d + k) 0) → object_footprint n s (a_struct p d k) q ≡ held p (d + k) q
-zero_struct_takes n s p d k q e =
-    let back : words_at s (after p d) k ≡ Some (replicate k 0) = words_back s p d k _ e ∙ ap (λ (xs : List ℕ). Some xs) (drop_zeros d k) in
-    ap (λ (xs : List Span). times_held (span p (d + k) ∷ xs) q) (zeros_behind n s (after p d) k back) ∙ omega (arith, held_is p (d + k) [] q)
-  where
-    drop_zeros : (d k : ℕ) → drop d (replicate {A = ℕ} (d + k) 0) ≡ replicate {A = ℕ} k 0
-    drop_zeros zero k = let e : 0 + k ≡ k = omega arith in ap (λ (n : ℕ). replicate {A = ℕ} n 0) e
-    drop_zeros (suc d) k = let e : suc d + k ≡ suc (d + k) = omega arith in ap (λ (n : ℕ). drop (suc d) (replicate {A = ℕ} n 0)) e ∙ drop_zeros d k
-
--- ---- a written word
-
-pub written_word : (m : Segments) (p : Place) (v w : ℕ) → word_at m p ≡ Some v → word_at (with_words m p (w ∷ [])) p ≡ Some w
-unfolding spliced
-written_word m p v w e =
-    let l : 0 + length (w ∷ []) ≤ 1 = omega arith in
-    let now : words_at (with_words m (after p 0) (w ∷ [])) p 1 ≡ Some (w ∷ []) = splice_words m p 0 1 (w ∷ []) (v ∷ []) l (word_is m p v e) in
-    word_was (with_words m p (w ∷ [])) p w (ap (λ (q : Place). words_at (with_words m q (w ∷ [])) p 1) (sym (after_none p)) ∙ now)
+use Rattle.capnp_footprints.proofs.Spans.{words_back, held, held_is, held_split, held_self, there, words_front, grows_then, grows_same, held_le}
+use Rattle.capnp_footprints.proofs.Splices.{Rewrites, splice_rewrites}
+use Rattle.capnp_footprints.proofs.There.{words_there}
+use Rattle.capnp_footprints.proofs.Writing.{rewrites_keep, written_word}
+use Rattle.capnp_footprints.proofs.Zeros.{held_none, null_footprint, zero_struct, zero_struct_takes}
 
 -- ---- the change
 
@@ -172,9 +104,6 @@ near_struct n s p d k o l was some at lo ld lk =
     }
 
 -- ---- an empty struct, at the pointer itself
-
-held_none : (p q : Place) → held p 0 q ≡ 0
-held_none p q = held_not p 0 q (λ h. absurd (omega (arith, held_low p 0 q h, held_high p 0 q h)))
 
 pub empty_struct : (n : ℕ) (s : Segments) (p : Place) → word_at s p ≡ Some 0 → Replaces (suc n) s (with_words s p (struct_pointer (2 ^ 30 - 1) 0 0 ∷ [])) p (structure 0 0 none)
 unfolding tree_at

@@ -1,28 +1,34 @@
 -- Plain data written into an object.
-use Rattle.std.proofs.Common.{◌≡◌, ℕ, ◌+◌, ◌-◌, ◌*◌, ◌%◌, ◌^◌, ◌≤◌, List, [], ◌∷◌, ◌++◌, length, drop, Some, refl, ap, sym, ◌∙◌, arith}
-use Rattle.std.specs.List.{AllByRecursion}
+use Rattle.std.proofs.Common.{◌≡◌, ℕ, ◌+◌, List, drop, Some, refl, sym, ◌∙◌, arith, ◌*◌, ◌^◌, ◌≤◌, ap, [], ◌∷◌, ◌%◌, ◌++◌, length, sum, ◌-◌}
 use Rattle.std.proofs.lemmas.List.{take_at}
-use Rattle.capnp_model.specs.Sections.{section_of, words_for}
-use Rattle.capnp_model.specs.Segments.{Segments, Place, after, words_at}
+use Rattle.std.specs.List.{AllByRecursion}
+use Rattle.capnp_model.specs.Coverage.{Span, times_held, Keeps, span, from_each, covered_object}
+use Rattle.capnp_model.specs.Edits.{cleared}
+use Rattle.capnp_model.specs.Messages.{within}
 use Rattle.capnp_model.specs.Pointers.{a_struct, a_list}
-use Rattle.capnp_model.specs.Trees.{Tree, structure, plain_list, Trees, size_bits}
+use Rattle.capnp_model.specs.Readings.{no_more}
+use Rattle.capnp_model.specs.Sections.{section_of, words_for}
+use Rattle.capnp_model.specs.Segments.{Segments, Place, after, words_at, word_at}
 use Rattle.capnp_model.specs.Traversal.{of_bits, list_kind, tree_of, tree_at}
-use Rattle.capnp_model.specs.Coverage.{Span, span, times_held, from_each, covered_object, Keeps}
-use Rattle.capnp_footprints.specs.Footprints.{behind, object_footprint, OwnsObject}
+use Rattle.capnp_model.specs.Trees.{Tree, Trees, structure, plain_list, size_bits}
+use Rattle.capnp_model.proofs.Locality.{word_was, word_is}
+use Rattle.capnp_model.proofs.SoundRules.{apart}
 use Rattle.capnp_footprints.specs.Changes.{Changes, ReplacesObject}
-use Rattle.capnp_footprints.specs.Writes.{spliced, with_words}
-use Rattle.capnp_footprints.proofs.Spans.{held, held_is, held_split, words_back, words_join, there}
-use Rattle.capnp_footprints.proofs.Kept.{each_same, value_same, words_length}
-use Rattle.capnp_footprints.proofs.There.{spans_kept}
-use Rattle.capnp_footprints.proofs.Lift.{StructParts, struct_parts, struct_of_parts, struct_is}
+use Rattle.capnp_footprints.specs.Footprints.{behind, object_footprint, OwnsObject}
+use Rattle.capnp_footprints.specs.Writes.{with_words, spliced}
+use Rattle.capnp_footprints.proofs.Kept.{words_length, value_same, each_same}
+use Rattle.capnp_footprints.proofs.Lift.{struct_parts, StructParts, struct_of_parts, struct_is}
+use Rattle.capnp_footprints.proofs.Rows.{after_none}
+use Rattle.capnp_footprints.proofs.Spans.{words_back, held, held_is, held_split, words_join, there}
 use Rattle.capnp_footprints.proofs.Splices.{Rewrites, splice_rewrites, splice_words}
+use Rattle.capnp_footprints.proofs.There.{spans_kept}
 
 -- words that are not rewritten are kept
 pub rewrites_keep : (s u : Segments) (p : Place) (n : ℕ) (xs : List Span) → Rewrites s u p n → ((q : Place) → times_held xs q + held p n q ≤ 1) → AllByRecursion (Keeps s u) xs
 rewrites_keep s u p n xs r apart = spans_kept s u xs r.grows (λ q w l e. r.others q w (omega (arith, apart q, l)) e)
 
 -- what an object takes stays, and only words of its own change
-changes_inside : (s u : Segments) (p : Place) (n : ℕ) (c d : Place → ℕ) → Rewrites s u p n → ((q : Place) → d q ≡ c q) → ((q : Place) → held p n q ≤ c q) → Changes s u c d
+pub changes_inside : (s u : Segments) (p : Place) (n : ℕ) (c d : Place → ℕ) → Rewrites s u p n → ((q : Place) → d q ≡ c q) → ((q : Place) → held p n q ≤ c q) → Changes s u c d
 changes_inside s u p n c d r same le =
     record {
       grows = r.grows;
@@ -59,7 +65,7 @@ held_part p i m d q l =
 zero_less : (a b : ℕ) → a ≤ b → b ≡ 0 → a ≡ 0
 zero_less a b l e = omega (arith, l, e)
 
-wider : (s u : Segments) (p : Place) (i m d : ℕ) → i + m ≤ d → Rewrites s u (after p i) m → Rewrites s u p d
+pub wider : (s u : Segments) (p : Place) (i m d : ℕ) → i + m ≤ d → Rewrites s u (after p i) m → Rewrites s u p d
 wider s u p i m d l r = record { grows = r.grows; no_more = r.no_more; others = λ q w z e. r.others q w (zero_less _ _ (held_part p i m d q l) z) e }
 
 -- some of the data words of a struct become others
@@ -74,7 +80,7 @@ plain_is n s p size count q k =
     let e : covered_object s (behind n s) (a_list p size count) ≡ span p (words_for (size_bits size * count)) ∷ [] = rw k refl in
     ap (λ (xs : List Span). times_held xs q) e ∙ omega (arith, held_is p (words_for (size_bits size * count)) [] q)
 
-plain_tree : (n : ℕ) (u : Segments) (p : Place) (size count : ℕ) (vs : List ℕ) → list_kind size ≡ of_bits → words_at u p (words_for (size_bits size * count)) ≡ Some vs → tree_of u (tree_at n u) (a_list p size count) ≡ Some (plain_list size count (section_of vs % 2 ^ (size_bits size * count)))
+pub plain_tree : (n : ℕ) (u : Segments) (p : Place) (size count : ℕ) (vs : List ℕ) → list_kind size ≡ of_bits → words_at u p (words_for (size_bits size * count)) ≡ Some vs → tree_of u (tree_at n u) (a_list p size count) ≡ Some (plain_list size count (section_of vs % 2 ^ (size_bits size * count)))
 plain_tree n u p size count vs k e = rw (k, e) refl
 
 -- the words of a list of plain elements become others
@@ -90,3 +96,12 @@ plain_data n s u p size count t vs k o r e =
 pub plain_words : (n : ℕ) (s : Segments) (p : Place) (size count i : ℕ) (t : Tree) (vs ws : List ℕ) → list_kind size ≡ of_bits → i + length vs ≤ words_for (size_bits size * count) → words_at s p (words_for (size_bits size * count)) ≡ Some ws → OwnsObject n s (a_list p size count) t → ReplacesObject n s (with_words s (after p i) vs) (a_list p size count) (plain_list size count (section_of (spliced i vs ws) % 2 ^ (size_bits size * count)))
 plain_words n s p size count i t vs ws k l e o =
     plain_data n s (with_words s (after p i) vs) p size count t (spliced i vs ws) k o (wider s (with_words s (after p i) vs) p i (length vs) (words_for (size_bits size * count)) l (splice_rewrites s (after p i) vs)) (splice_words s p i (words_for (size_bits size * count)) vs ws l e)
+
+-- ---- a written word
+
+pub written_word : (m : Segments) (p : Place) (v w : ℕ) → word_at m p ≡ Some v → word_at (with_words m p (w ∷ [])) p ≡ Some w
+unfolding spliced
+written_word m p v w e =
+    let l : 0 + length (w ∷ []) ≤ 1 = omega arith in
+    let now : words_at (with_words m (after p 0) (w ∷ [])) p 1 ≡ Some (w ∷ []) = splice_words m p 0 1 (w ∷ []) (v ∷ []) l (word_is m p v e) in
+    word_was (with_words m p (w ∷ [])) p w (ap (λ (q : Place). words_at (with_words m q (w ∷ [])) p 1) (sym (after_none p)) ∙ now)

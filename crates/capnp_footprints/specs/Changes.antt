@@ -1,8 +1,9 @@
 -- What writing changes: one value becomes another, and nothing else.
-use Rattle.std.specs.Prelude.{◌≡◌, ℕ, ◌+◌, ◌<◌, ◌≤◌, if◌then◌else◌, Some}
+use Rattle.std.specs.Prelude.{◌≡◌, ℕ, ◌+◌, ◌<◌, ◌≤◌, if◌then◌else◌, Some, Ok}
 use Rattle.std.specs.Option.{is_some}
-use Rattle.capnp_model.specs.Segments.{Segments, Place, word_at}
-use Rattle.capnp_model.specs.Pointers.{Object}
+use Rattle.capnp_model.specs.Sections.{bits_at}
+use Rattle.capnp_model.specs.Segments.{Segments, Place, place, word_at}
+use Rattle.capnp_model.specs.Pointers.{Object, Found, found_at}
 use Rattle.capnp_model.specs.Trees.{Tree}
 use Rattle.capnp_model.specs.Traversal.{tree_of, tree_at}
 use Rattle.capnp_model.specs.Coverage.{Grows}
@@ -19,6 +20,10 @@ pub record Changes (s u : Segments) (c d : Place → ℕ) : Type 0 where
   pub within : (q : Place) → d q ≤ c q + absent s q
   pub cleared : (q : Place) (w : ℕ) → word_at u q ≡ Some w → d q ≡ 0 → 0 < c q + absent s q → w ≡ 0
 
+-- What c counts becomes zero, and nothing else changes.
+abbrev pub Clears : Segments → Segments → (Place → ℕ) → Type 0
+Clears s u c = Changes s u c (λ q. 0)
+
 -- The value at a place becomes t, and nothing else changes.
 pub record Replaces (n : ℕ) (s u : Segments) (p : Place) (t : Tree) : Type 0 where
   pub means : tree_at n u p ≡ Some t
@@ -32,3 +37,10 @@ pub record ReplacesObject (n : ℕ) (s u : Segments) (o : Object) (t : Tree) : T
 -- Every word that c doesn't count is zero.
 abbrev pub ZeroBeside : Segments → (Place → ℕ) → Type 0
 ZeroBeside s c = (q : Place) (w : ℕ) → word_at s q ≡ Some w → c q ≡ 0 → w ≡ 0
+
+-- The pointer at a place leads to what was found, and its pads, where it has any, begin at this place.
+pub record Leads (s : Segments) (p pad : Place) (f : Found) : Type 0 where
+  pub found : found_at s p ≡ Ok f
+  pub word : ℕ
+  pub there : word_at s p ≡ Some word
+  pub pad_is : pad ≡ place (bits_at 32 32 word) (bits_at 3 29 word)

@@ -1,9 +1,9 @@
 -- The words that belong to a value. A pointer lies in the object that holds it, so it isn't counted apart from that object; `cover` of the model counts it twice.
-use Rattle.std.specs.Prelude.{◌≡◌, ℕ, zero, suc, ◌≤◌, List, ◌∷◌, ◌++◌, Some}
+use Rattle.std.specs.Prelude.{◌≡◌, ℕ, zero, suc, ◌+◌, ◌≤◌, List, [], ◌∷◌, ◌++◌, Some}
 use Rattle.capnp_model.specs.Segments.{Segments, Place}
-use Rattle.capnp_model.specs.Pointers.{Object, found_at}
+use Rattle.capnp_model.specs.Pointers.{Object, nothing, a_struct, a_list, a_capability, found_at}
 use Rattle.capnp_model.specs.Trees.{Tree}
-use Rattle.capnp_model.specs.Traversal.{tree_of, tree_at}
+use Rattle.capnp_model.specs.Traversal.{list_kind, list_words, tree_of, tree_at}
 use Rattle.capnp_model.specs.Coverage.{Span, span, pads_at, covered_object, covered_found, times_held}
 
 -- What lies behind the pointer at a place, n levels deep: its pads, the object, and what lies behind the object's pointers.
@@ -18,6 +18,13 @@ footprint n s p q = times_held (span p 1 ∷ behind n s p) q
 -- The same of an object, in which its pointers lie.
 abbrev pub object_footprint : ℕ → Segments → Object → Place → ℕ
 object_footprint n s o q = times_held (covered_object s (behind n s) o) q
+
+-- The words of an object itself.
+abbrev pub own_words : Object → List Span
+own_words nothing = []
+own_words (a_capability i) = []
+own_words (a_struct p d k) = span p (d + k) ∷ []
+own_words (a_list p size count) = span p (list_words (list_kind size) size count) ∷ []
 
 -- The value at a place, read n levels deep, and no word of it is taken twice.
 pub record Owns (n : ℕ) (s : Segments) (p : Place) (t : Tree) : Type 0 where

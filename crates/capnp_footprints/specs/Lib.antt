@@ -2,3 +2,5 @@ pub mod Footprints
 pub mod Changes
 pub mod Writes
 pub mod Elements
+pub mod Children
+pub mod NewObjects

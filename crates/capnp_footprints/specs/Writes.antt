@@ -19,6 +19,10 @@ spliced_in (xs ∷ s) (suc i) k vs = xs ∷ spliced_in s i k vs
 unfoldable pub with_words : Segments → Place → List ℕ → Segments
 with_words s p vs = spliced_in s p.segment p.position vs
 
+-- The segments with so many words zero from a place on.
+abbrev pub zeroed : Segments → Place → ℕ → Segments
+zeroed s p n = with_words s p (replicate n 0)
+
 -- The segments with so many zero words behind the ith, which is a new one where there were just i.
 unfoldable pub with_zeros : Segments → ℕ → ℕ → Segments
 with_zeros [] i n = replicate n 0 ∷ []

@@ -2,3 +2,5 @@
 #![tactic(auto)]
 
 pub mod laws;
+pub mod laws_of_clearing;
+pub mod laws_of_new_objects;

@@ -1,0 +1,2 @@
+pub use Rattle.capnp_copy.specs.Structs
+pub use Rattle.capnp_copy.specs.Values

@@ -1,0 +1,14 @@
+//! Builders: pointers, structs and lists of a message that is written, as handles on an arena.
+#![tactic(auto)]
+
+#[cfg(test)]
+mod blob_tests;
+#[cfg(test)]
+mod build_tests;
+pub mod list_builder;
+#[cfg(test)]
+mod list_tests;
+pub mod pointer_builder;
+pub mod struct_builder;
+#[cfg(test)]
+mod tests;

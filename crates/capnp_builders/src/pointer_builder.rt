@@ -1,0 +1,178 @@
+//! Pointers that are built.
+ghost use Rattle.std.specs.Prelude.{◌≡◌, ◌+◌, ◌*◌, ◌<◌, ◌≤◌, ◌^◌, ◌↔◌, ◌⊎◌, ◌==◌, ℕ, true, length, unwrap_or, IfOk, IfErr, OnErr};
+ghost use Rattle.std.specs.Borrow.{sem, RestsIfErr};
+ghost use Rattle.std.specs.Option.{is_some};
+ghost use Rattle.capnp_model.specs.Sections.{number_of, words_for};
+ghost use Rattle.capnp_model.specs.Segments.{root, word_at, words_at};
+ghost use Rattle.capnp_model.specs.Trees.{structure, plain_list, struct_list, none, resized};
+ghost use Rattle.capnp_units.specs.Segments.{words_in};
+ghost use Rattle.capnp_units.specs.Sizes.{size_number};
+ghost use Rattle.capnp_units.specs.declared.kinds.ErrorKind.TheVariants.{SizeOverflow};
+ghost use Rattle.capnp_wire.specs.Places.{place_view};
+ghost use Rattle.capnp_footprints.specs.NewObjects.{new_tree, zero_elements};
+ghost use Rattle.capnp_copy.specs.Allocations.{total_words};
+ghost use Rattle.capnp_copy.specs.Clearing.{ClearsValue};
+ghost use Rattle.capnp_copy.specs.Lists.{list_at, zeros_of, words_of};
+ghost use Rattle.capnp_copy.specs.Structs.{struct_at};
+ghost use Rattle.capnp_copy.specs.Values.{Becomes, LeadsTo};
+ghost use Rattle.capnp_copy.specs.contracts.arena.Memory.{the_row};
+
+use crate::list_builder::ListBuilder;
+use crate::struct_builder::StructBuilder;
+use capnp_copy::arena::{BuilderArena, Memory};
+use capnp_copy::blobs::{set_data, set_text};
+use capnp_copy::clear::clear;
+use capnp_copy::init::{init_list, init_struct};
+use capnp_copy::struct_lists::init_struct_list;
+use capnp_units::errors::Result;
+use capnp_units::sizes::{ElementSize, StructSize};
+use capnp_units::units::ElementCount32;
+use capnp_wire::place::{Place, word_at};
+
+/// A pointer that is built, where it lies in an arena.
+#[derive(Drop)]
+pub struct PointerBuilder<'a, A> {
+    pub memory: &'a mut Memory<A>,
+    pub place: Place,
+}
+
+impl<'a, A: BuilderArena> PointerBuilder<'a, A> {
+    /// The root pointer, the first word of the first segment.
+    pub fn get_root(memory: &'a mut Memory<A>) -> Self
+        ensures same { result.memory.ghost_name ≡ memory.entry.ghost_name }
+        ensures now { result.memory.now ≡ memory.old }
+        ensures place { place_view result.place ≡ root }
+    {
+        PointerBuilder {
+            memory,
+            place: Place {
+                segment: 0,
+                position: 0,
+            },
+        }
+    }
+
+    /// Whether it is null, a word of zeros.
+    pub fn is_null(&self) -> bool
+        ensures { result ≡ (unwrap_or (word_at (words_in (A.segments self.now.memory.now.arena)) (place_view self.now.place)) 0 == 0) }
+    {
+        word_at(&self.memory.arena, self.place).unwrap_or(0) == 0
+    }
+
+    /// ClearsValue the value: the pointer becomes null, and all words of its value become zero. Nothing else changes, and nothing is allocated.
+    pub fn clear(&mut self)
+        ensures same { self.new.memory.ghost_name ≡ self.old.memory.ghost_name }
+        ensures place { self.new.place ≡ self.old.place }
+        ensures books { A.books self.new.memory.now.arena ≡ A.books self.old.memory.now.arena }
+        ensures clears { ClearsValue (words_in (A.segments self.old.memory.now.arena)) (words_in (A.segments self.new.memory.now.arena)) (place_view self.old.place) }
+    {
+        let place = self.place;
+        clear(&mut self.memory.arena, place);
+    }
+
+    /// Puts a struct of zeros and nulls in place of the value, which is cleared.
+    ///
+    /// It is refused with `SizeOverflow` just where the message's words would pass 2^29 - 1 with a pad counted, else as the allocator refuses; then all stands as it was.
+    pub fn init_struct(self, size: StructSize) -> Result<StructBuilder<'a, A>>
+        requires there { is_some (words_at (words_in (A.segments self.memory.now.arena)) (place_view self.place) 1) ≡ true }
+        requires near { self.place.position < 2 ^ 61 }
+        ensures same { IfOk result (λ o. o.memory.ghost_name ≡ self.entry.memory.ghost_name) }
+        ensures value { IfOk result (λ o. Becomes (words_in (A.segments self.entry.memory.now.arena)) (words_in (A.segments o.memory.now.arena)) (place_view self.entry.place) (structure size.data_words 0 (resized size.pointers none))) }
+        ensures object { IfOk result (λ o. LeadsTo (words_in (A.segments o.memory.now.arena)) (place_view self.entry.place) (struct_at o.place)) }
+        ensures size { IfOk result (λ o. (o.place.data_words ≡ size.data_words) × (o.place.pointers ≡ size.pointers)) }
+        ensures there { IfOk result (λ o. is_some (words_at (words_in (A.segments o.memory.now.arena)) (place_view o.place.start) (o.place.data_words + o.place.pointers)) ≡ true) }
+        ensures near { IfOk result (λ o. o.place.start.position + (o.place.data_words + o.place.pointers) < 2 ^ 61) }
+        ensures books { IfOk result (λ o. A.books o.memory.now.arena ≡ A.books self.entry.memory.now.arena) }
+        ensures kind { IfErr result (λ e. (e.kind ≡ SizeOverflow) ↔ (2 ^ 29 ≤ total_words (words_in (A.segments self.entry.memory.now.arena)) + (size.data_words + size.pointers + 1))) }
+        ensures* refused { sem 𝓛 (RestsIfErr (the_row A.row) self.entry.memory (λ o. o.memory.ghost_name) result (λ n. (A.segments n.arena ≡ A.segments self.entry.memory.now.arena) × (A.books n.arena ≡ A.books self.entry.memory.now.arena))) }
+    {
+        let PointerBuilder { memory, place } = self;
+        let place = init_struct(&mut memory.arena, place, size)?;
+        Ok(StructBuilder { memory, place })
+    }
+
+    /// Puts a list of zeros, or of nulls, in place of the value, which is cleared. The elements are plain ones or pointers.
+    ///
+    /// It is refused with `SizeOverflow` just where the count or the message's words, a pad counted, would pass 2^29 - 1, else as the allocator refuses; then all stands as it was.
+    pub fn init_list(
+        self,
+        element_size: ElementSize,
+        element_count: ElementCount32,
+    ) -> Result<ListBuilder<'a, A>>
+        requires there { is_some (words_at (words_in (A.segments self.memory.now.arena)) (place_view self.place) 1) ≡ true }
+        requires near { self.place.position < 2 ^ 61 }
+        requires plain { size_number element_size < 7 }
+        ensures same { IfOk result (λ o. o.memory.ghost_name ≡ self.entry.memory.ghost_name) }
+        ensures value { IfOk result (λ o. Becomes (words_in (A.segments self.entry.memory.now.arena)) (words_in (A.segments o.memory.now.arena)) (place_view self.entry.place) (new_tree (zeros_of (size_number element_size) element_count))) }
+        ensures object { IfOk result (λ o. LeadsTo (words_in (A.segments o.memory.now.arena)) (place_view self.entry.place) (list_at o.place)) }
+        ensures list { IfOk result (λ o. (o.place.size ≡ element_size) × (o.place.claimed ≡ element_count) × (o.place.count ≡ element_count)) }
+        ensures there { IfOk result (λ o. is_some (words_at (words_in (A.segments o.memory.now.arena)) (place_view o.place.start) (words_of (size_number element_size) element_count)) ≡ true) }
+        ensures near { IfOk result (λ o. o.place.start.position + words_of (size_number element_size) element_count < 2 ^ 61) }
+        ensures books { IfOk result (λ o. A.books o.memory.now.arena ≡ A.books self.entry.memory.now.arena) }
+        ensures kind { IfErr result (λ e. (e.kind ≡ SizeOverflow) ↔ ((2 ^ 29 ≤ element_count) ⊎ (2 ^ 29 ≤ total_words (words_in (A.segments self.entry.memory.now.arena)) + (words_of (size_number element_size) element_count + 1)))) }
+        ensures* refused { sem 𝓛 (RestsIfErr (the_row A.row) self.entry.memory (λ o. o.memory.ghost_name) result (λ n. (A.segments n.arena ≡ A.segments self.entry.memory.now.arena) × (A.books n.arena ≡ A.books self.entry.memory.now.arena))) }
+    {
+        let PointerBuilder { memory, place } = self;
+        let place = init_list(&mut memory.arena, place, element_size, element_count)?;
+        Ok(ListBuilder { memory, place })
+    }
+
+    /// Puts a list of structs of zeros and nulls in place of the value, which is cleared.
+    ///
+    /// It is refused with `SizeOverflow` just where the count, the structs' words or the message's words, with the tag and a pad counted, would pass 2^29 - 1, else as the allocator refuses; then all stands as it was.
+    pub fn init_struct_list(
+        self,
+        element_count: ElementCount32,
+        element_size: StructSize,
+    ) -> Result<ListBuilder<'a, A>>
+        requires there { is_some (words_at (words_in (A.segments self.memory.now.arena)) (place_view self.place) 1) ≡ true }
+        requires near { self.place.position < 2 ^ 61 }
+        ensures same { IfOk result (λ o. o.memory.ghost_name ≡ self.entry.memory.ghost_name) }
+        ensures value { IfOk result (λ o. Becomes (words_in (A.segments self.entry.memory.now.arena)) (words_in (A.segments o.memory.now.arena)) (place_view self.entry.place) (struct_list element_size.data_words element_size.pointers (zero_elements element_count element_size.pointers))) }
+        ensures object { IfOk result (λ o. LeadsTo (words_in (A.segments o.memory.now.arena)) (place_view self.entry.place) (list_at o.place)) }
+        ensures list { IfOk result (λ o. (size_number o.place.size ≡ 7) × (o.place.claimed ≡ element_count * (element_size.data_words + element_size.pointers)) × (o.place.count ≡ element_count) × (o.place.data_words ≡ element_size.data_words) × (o.place.pointers ≡ element_size.pointers)) }
+        ensures there { IfOk result (λ o. is_some (words_at (words_in (A.segments o.memory.now.arena)) (place_view o.place.start) (1 + o.place.claimed)) ≡ true) }
+        ensures near { IfOk result (λ o. o.place.start.position + (1 + o.place.claimed) < 2 ^ 61) }
+        ensures books { IfOk result (λ o. A.books o.memory.now.arena ≡ A.books self.entry.memory.now.arena) }
+        ensures kind { IfErr result (λ e. (e.kind ≡ SizeOverflow) ↔ ((2 ^ 29 ≤ element_count) ⊎ (2 ^ 29 ≤ element_count * (element_size.data_words + element_size.pointers)) ⊎ (2 ^ 29 ≤ total_words (words_in (A.segments self.entry.memory.now.arena)) + (element_count * (element_size.data_words + element_size.pointers) + 2)))) }
+        ensures* refused { sem 𝓛 (RestsIfErr (the_row A.row) self.entry.memory (λ o. o.memory.ghost_name) result (λ n. (A.segments n.arena ≡ A.segments self.entry.memory.now.arena) × (A.books n.arena ≡ A.books self.entry.memory.now.arena))) }
+    {
+        let PointerBuilder { memory, place } = self;
+        let place = init_struct_list(&mut memory.arena, place, element_count, element_size)?;
+        Ok(ListBuilder { memory, place })
+    }
+
+    /// Puts data in place of the value, which is cleared.
+    ///
+    /// It is refused with `SizeOverflow` just where the bytes or the message's words, a pad counted, would pass 2^29 - 1, else as the allocator refuses; then all stands as it was.
+    pub fn set_data(&mut self, value: &[u8]) -> Result<()>
+        requires there { is_some (words_at (words_in (A.segments self.old.memory.now.arena)) (place_view self.old.place) 1) ≡ true }
+        requires near { self.old.place.position < 2 ^ 61 }
+        ensures same { self.new.memory.ghost_name ≡ self.old.memory.ghost_name }
+        ensures place { self.new.place ≡ self.old.place }
+        ensures books { A.books self.new.memory.now.arena ≡ A.books self.old.memory.now.arena }
+        ensures value { IfOk result (λ o. Becomes (words_in (A.segments self.old.memory.now.arena)) (words_in (A.segments self.new.memory.now.arena)) (place_view self.old.place) (plain_list 2 (length value.now) (number_of 8 value.now))) }
+        ensures refused { OnErr result (A.segments self.new.memory.now.arena ≡ A.segments self.old.memory.now.arena) }
+        ensures kind { IfErr result (λ e. (e.kind ≡ SizeOverflow) ↔ ((2 ^ 29 ≤ length value.now) ⊎ (2 ^ 29 ≤ total_words (words_in (A.segments self.old.memory.now.arena)) + (words_for (8 * length value.now) + 1)))) }
+    {
+        let place = self.place;
+        set_data(&mut self.memory.arena, place, value)
+    }
+
+    /// Puts a text in place of the value, which is cleared: its bytes, and a zero byte behind them.
+    ///
+    /// It is refused with `SizeOverflow` just where the bytes with the zero byte or the message's words, a pad counted, would pass 2^29 - 1, else as the allocator refuses; then all stands as it was.
+    pub fn set_text(&mut self, value: &[u8]) -> Result<()>
+        requires there { is_some (words_at (words_in (A.segments self.old.memory.now.arena)) (place_view self.old.place) 1) ≡ true }
+        requires near { self.old.place.position < 2 ^ 61 }
+        ensures same { self.new.memory.ghost_name ≡ self.old.memory.ghost_name }
+        ensures place { self.new.place ≡ self.old.place }
+        ensures books { A.books self.new.memory.now.arena ≡ A.books self.old.memory.now.arena }
+        ensures value { IfOk result (λ o. Becomes (words_in (A.segments self.old.memory.now.arena)) (words_in (A.segments self.new.memory.now.arena)) (place_view self.old.place) (plain_list 2 (length value.now + 1) (number_of 8 value.now))) }
+        ensures refused { OnErr result (A.segments self.new.memory.now.arena ≡ A.segments self.old.memory.now.arena) }
+        ensures kind { IfErr result (λ e. (e.kind ≡ SizeOverflow) ↔ ((2 ^ 29 ≤ length value.now + 1) ⊎ (2 ^ 29 ≤ total_words (words_in (A.segments self.old.memory.now.arena)) + (words_for (8 * (length value.now + 1)) + 1)))) }
+    {
+        let place = self.place;
+        set_text(&mut self.memory.arena, place, value)
+    }
+}

@@ -1,0 +1,145 @@
+//! Structs that are built.
+ghost use Rattle.std.specs.Prelude.{◌≡◌, ◌+◌, ◌*◌, ◌<◌, ◌≤◌, ◌^◌, ◌==◌, ℕ, true, bit_xor};
+ghost use Rattle.std.specs.Option.{is_some};
+ghost use Rattle.capnp_model.specs.Segments.{after, words_at};
+ghost use Rattle.capnp_units.specs.Segments.{words_in};
+ghost use Rattle.capnp_wire.specs.Places.{place_view};
+ghost use Rattle.capnp_wire.specs.Views.{bit_of_bool};
+ghost use Rattle.capnp_copy.specs.Structs.{HasBits, SetsBits};
+
+use crate::pointer_builder::PointerBuilder;
+use capnp_copy::arena::{BuilderArena, Memory};
+use capnp_copy::bits::{bit_of, bits_of, number_in};
+use capnp_copy::fields::{StructPlace, bit_at, get_bits, set_bits};
+use capnp_units::primitive::{Mask, Primitive};
+use capnp_units::units::{ElementCount, WirePointerCount};
+use capnp_wire::place::Place;
+
+/// A struct that is built, where it lies in an arena. Its words are there.
+#[derive(Drop)]
+pub struct StructBuilder<'a, A> {
+    pub memory: &'a mut Memory<A>,
+    pub place: StructPlace,
+}
+
+impl<'a, A: BuilderArena> StructBuilder<'a, A> {
+    /// A pointer of the struct, by its index. It is one of the struct's.
+    pub fn get_pointer_field(self, ptr_index: WirePointerCount) -> PointerBuilder<'a, A>
+        requires near { self.place.start.position + (self.place.data_words + self.place.pointers) < 2 ^ 61 }
+        requires inside { ptr_index < self.place.pointers }
+        ensures same { result.memory.ghost_name ≡ self.entry.memory.ghost_name }
+        ensures now { result.memory.now ≡ self.entry.memory.now }
+        ensures place { place_view result.place ≡ after (after (place_view self.entry.place.start) self.entry.place.data_words) ptr_index }
+        ensures near { result.place.position < 2 ^ 61 }
+    {
+        let StructBuilder { memory, place } = self;
+        let start = place.start;
+        let place = Place {
+            segment: start.segment,
+            position: start.position + place.data_words as usize + ptr_index,
+        };
+        PointerBuilder { memory, place }
+    }
+
+    /// A number of the data section, counted in its own width. The field lies in the section.
+    pub fn get_data_field<T: Primitive>(&self, offset: ElementCount) -> T
+        requires near { self.now.place.start.position < 2 ^ 61 }
+        requires inside { T.BYTES * offset + T.BYTES ≤ 8 * self.now.place.data_words }
+        ensures { HasBits (words_in (A.segments self.now.memory.now.arena)) self.now.place (8 * (T.BYTES * offset)) (8 * T.BYTES) (λ bits. result ≡ T.from_bits bits) }
+    {
+        let place = self.place;
+        let at = bit_at(T::BYTES, offset, place.data_words);
+        let bits = get_bits(&self.memory.arena, place, at, 8 * T::BYTES as u32);
+        number_in(bits)
+    }
+
+    /// The same, exclusive or the field's default.
+    pub fn get_data_field_mask<T: Primitive + Mask>(&self, offset: ElementCount, mask: T::T) -> T
+        requires near { self.now.place.start.position < 2 ^ 61 }
+        requires inside { T.BYTES * offset + T.BYTES ≤ 8 * self.now.place.data_words }
+        ensures { HasBits (words_in (A.segments self.now.memory.now.arena)) self.now.place (8 * (T.BYTES * offset)) (8 * T.BYTES) (λ bits. result ≡ T.from_bits (bit_xor bits (T.mask_bits mask))) }
+    {
+        T::mask(self.get_data_field::<T>(offset), mask)
+    }
+
+    /// A bit of the data section, counted in bits. The field lies in the section.
+    pub fn get_bool_field(&self, offset: ElementCount) -> bool
+        requires near { self.now.place.start.position < 2 ^ 61 }
+        requires inside { offset < 64 * self.now.place.data_words }
+        ensures { HasBits (words_in (A.segments self.now.memory.now.arena)) self.now.place offset 1 (λ bits. result ≡ (bits == 1)) }
+    {
+        let place = self.place;
+        get_bits(&self.memory.arena, place, offset, 1) == 1
+    }
+
+    /// The same, exclusive or the field's default.
+    pub fn get_bool_field_mask(&self, offset: ElementCount, mask: bool) -> bool
+        requires near { self.now.place.start.position < 2 ^ 61 }
+        requires inside { offset < 64 * self.now.place.data_words }
+        ensures { HasBits (words_in (A.segments self.now.memory.now.arena)) self.now.place offset 1 (λ bits. result ≡ (bit_xor bits (bit_of_bool mask) == 1)) }
+    {
+        self.get_bool_field(offset) != mask
+    }
+
+    /// Writes a number of the data section, counted in its own width. The field lies in the section; its neighbours keep their bits.
+    pub fn set_data_field<T: Primitive>(&mut self, offset: ElementCount, value: T)
+        requires there { is_some (words_at (words_in (A.segments self.old.memory.now.arena)) (place_view self.old.place.start) self.old.place.data_words) ≡ true }
+        requires near { self.old.place.start.position < 2 ^ 61 }
+        requires inside { T.BYTES * offset + T.BYTES ≤ 8 * self.old.place.data_words }
+        ensures same { self.new.memory.ghost_name ≡ self.old.memory.ghost_name }
+        ensures place { self.new.place ≡ self.old.place }
+        ensures books { A.books self.new.memory.now.arena ≡ A.books self.old.memory.now.arena }
+        ensures sets { SetsBits (words_in (A.segments self.old.memory.now.arena)) (words_in (A.segments self.new.memory.now.arena)) self.old.place (8 * (T.BYTES * offset)) (8 * T.BYTES) (T.bits value) }
+    {
+        let place = self.place;
+        let at = bit_at(T::BYTES, offset, place.data_words);
+        let bits = bits_of(value);
+        set_bits(&mut self.memory.arena, place, at, 8 * T::BYTES as u32, bits);
+    }
+
+    /// The same, exclusive or the field's default: read with the same mask, the field is the value.
+    pub fn set_data_field_mask<T: Primitive + Mask>(
+        &mut self,
+        offset: ElementCount,
+        value: T,
+        mask: T::T,
+    )
+        requires there { is_some (words_at (words_in (A.segments self.old.memory.now.arena)) (place_view self.old.place.start) self.old.place.data_words) ≡ true }
+        requires near { self.old.place.start.position < 2 ^ 61 }
+        requires inside { T.BYTES * offset + T.BYTES ≤ 8 * self.old.place.data_words }
+        ensures same { self.new.memory.ghost_name ≡ self.old.memory.ghost_name }
+        ensures place { self.new.place ≡ self.old.place }
+        ensures books { A.books self.new.memory.now.arena ≡ A.books self.old.memory.now.arena }
+        ensures sets { SetsBits (words_in (A.segments self.old.memory.now.arena)) (words_in (A.segments self.new.memory.now.arena)) self.old.place (8 * (T.BYTES * offset)) (8 * T.BYTES) (bit_xor (T.bits value) (T.mask_bits mask)) }
+    {
+        self.set_data_field(offset, T::mask(value, mask));
+    }
+
+    /// Writes a bit of the data section, counted in bits. The field lies in the section; its neighbours keep their bits.
+    pub fn set_bool_field(&mut self, offset: ElementCount, value: bool)
+        requires there { is_some (words_at (words_in (A.segments self.old.memory.now.arena)) (place_view self.old.place.start) self.old.place.data_words) ≡ true }
+        requires near { self.old.place.start.position < 2 ^ 61 }
+        requires inside { offset < 64 * self.old.place.data_words }
+        ensures same { self.new.memory.ghost_name ≡ self.old.memory.ghost_name }
+        ensures place { self.new.place ≡ self.old.place }
+        ensures books { A.books self.new.memory.now.arena ≡ A.books self.old.memory.now.arena }
+        ensures sets { SetsBits (words_in (A.segments self.old.memory.now.arena)) (words_in (A.segments self.new.memory.now.arena)) self.old.place offset 1 (bit_of_bool value) }
+    {
+        let place = self.place;
+        let bit = bit_of(value);
+        set_bits(&mut self.memory.arena, place, offset, 1, bit);
+    }
+
+    /// The same, exclusive or the field's default.
+    pub fn set_bool_field_mask(&mut self, offset: ElementCount, value: bool, mask: bool)
+        requires there { is_some (words_at (words_in (A.segments self.old.memory.now.arena)) (place_view self.old.place.start) self.old.place.data_words) ≡ true }
+        requires near { self.old.place.start.position < 2 ^ 61 }
+        requires inside { offset < 64 * self.old.place.data_words }
+        ensures same { self.new.memory.ghost_name ≡ self.old.memory.ghost_name }
+        ensures place { self.new.place ≡ self.old.place }
+        ensures books { A.books self.new.memory.now.arena ≡ A.books self.old.memory.now.arena }
+        ensures sets { SetsBits (words_in (A.segments self.old.memory.now.arena)) (words_in (A.segments self.new.memory.now.arena)) self.old.place offset 1 (bit_xor (bit_of_bool value) (bit_of_bool mask)) }
+    {
+        self.set_bool_field(offset, value != mask);
+    }
+}

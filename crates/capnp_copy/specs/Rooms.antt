@@ -1,0 +1,47 @@
+-- Room for new objects, and the pointers to them.
+use Rattle.std.specs.Prelude.{◌≡◌, ℕ, ◌+◌, ◌-◌, ◌*◌, ◌^◌, ◌<◌, [], ◌∷◌, true}
+use Rattle.std.specs.Option.{is_some}
+use Rattle.capnp_model.specs.Segments.{Segments, Place, after, words_at}
+use Rattle.capnp_wire.specs.Places.{place_view}
+use Rattle.capnp_footprints.specs.Writes.{with_words}
+use Rattle.capnp_copy.specs.Allocations.{Allocates}
+use Rattle.capnp_copy.specs.declared.room.Room.{Room}
+use Rattle.capnp_copy.specs.declared.room.Room.TheVariants.{Here, Near, Far}
+
+-- So many new words for an object that the pointer at a place will name: none, at the pointer itself; in its segment; or in any, behind one word more, which is for the pad. (Encoding, "Inter-Segment Pointers")
+abbrev pub RoomFor : Segments → Segments → Place → ℕ → Room → Type 0
+RoomFor s u p n Here = (n ≡ 0) × (u ≡ s)
+RoomFor s u p n (Near offset) = (0 < n) × Allocates s u p.segment (p.position + 1 + offset) n
+RoomFor s u p n (Far pad) = (0 < n) × Allocates s u pad.segment pad.position (1 + n) × (pad.segment < 2 ^ 32)
+
+-- A pointer can tell it: an offset has thirty bits with its sign, a pad's position 29.
+abbrev pub IsAddressed : Room → Type 0
+IsAddressed Here = Unit {0}
+IsAddressed (Near offset) = offset < 2 ^ 29
+IsAddressed (Far pad) = pad.position < 2 ^ 29
+
+-- The pad's word is there.
+abbrev pub HasPad : Segments → Room → Type 0
+HasPad s (Far pad) = is_some (words_at s (place_view pad) 1) ≡ true
+HasPad s _ = Unit {0}
+
+-- Where an object begins in such room.
+abbrev pub begin_of : Place → Room → Place
+begin_of p Here = p
+begin_of p (Near offset) = after p (1 + offset)
+begin_of p (Far pad) = after (place_view pad) 1
+
+-- The word of a pointer that is told with offset 0. An object without words lies in front of the pointer's end.
+abbrev pub slot_word : Room → ℕ → ℕ
+slot_word Here w = w + 4 * (2 ^ 30 - 1)
+slot_word (Near offset) w = w + 4 * offset
+slot_word (Far pad) w = 2 + 8 * pad.position + 2 ^ 32 * pad.segment
+
+-- The segments after the pad, where there is one, is written.
+abbrev pub with_pad : Segments → Room → ℕ → Segments
+with_pad s (Far pad) w = with_words s (place_view pad) (w ∷ [])
+with_pad s _ w = s
+
+-- The segments after the pointer at a place names the object in such room, the pad first.
+abbrev pub linked : Segments → Place → Room → ℕ → Segments
+linked s p room w = with_words (with_pad s room w) p (slot_word room w ∷ [])
