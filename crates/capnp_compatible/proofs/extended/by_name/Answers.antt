@@ -25,6 +25,6 @@ loop-left-preserved c =
       inside = omega arith;
       found = λ n.
           ap (option_map (λ f. f.now)) (c.in_ok-insert.ensures.updates.0 (record { ref_ptr = (0, 0); now = n }))
-          ∙ named_step c.as_str.result.now n x (drop c.loop-left.left fields) _ _ (sym c.index-fields-left.is) (c.as_str.ensures.value ∙ ap (λ (y : FieldRecord). string_bytes y.name) (sym c.index-fields-left.is)) (c.loop-left.invariant.found n)
+          ∙ named_step c.as_str.result.now n x (drop c.loop-left.left fields) _ _ refl c.as_str.ensures.value (c.loop-left.invariant.found n)
           ∙ ap (first_named n) (sym cut);
     }
