@@ -77,8 +77,8 @@ abbrev pub bodies_test : Versions → Levels → FieldBody → FieldBody → Pai
 bodies_test v levels a b pairs = keeps_body (schema_in v.older) (schema_in v.newer) pairs (older_body v levels a) (newer_body v levels b)
 
 module _ (v : Versions) (levels : Levels) (a b : ℕ) (t u : TypeRecord) (d e : Option Value)
-  (sound : is_sound_kind (kind_of_field (B.Slot a t d)) ≡ true) (other : is_sound_kind (kind_of_field (B.Slot b u e)) ≡ true)
-  (x : AllBytes (default_bytes (option_map value_of d))) (y : AllBytes (default_bytes (option_map value_of e))) where
+    (sound : is_sound_kind (kind_of_field (B.Slot a t d)) ≡ true) (other : is_sound_kind (kind_of_field (B.Slot b u e)) ≡ true)
+    (x : AllBytes (default_bytes (option_map value_of d))) (y : AllBytes (default_bytes (option_map value_of e))) where
   slots : (pairs : Pairs) → bodies_test v levels (B.Slot a t d) (B.Slot b u e) pairs ≡ ((a == b && same_value (option_map value_of d) (option_map value_of e)) && types_test v t u pairs)
   slots pairs =
       slots_kept (schema_in v.older) (schema_in v.newer) pairs a b (type_of (type_record_of t)) (type_of (type_record_of u)) (option_map value_of d) (option_map value_of e) (type_wide t)
@@ -208,8 +208,8 @@ pub nothing_to_keep : (v : Versions) (levels : Levels) (r : Reached) (i j : ℕ)
 nothing_to_keep v levels r i j h s = decides_here v r true _ s (λ pairs. ap (λ (g : Shape). keeps (schema_in v.older) (schema_in v.newer) pairs g (shape_in (nodes_in v.newer) levels.newer j)) h ∙ keeps_nothing v pairs (shape_in (nodes_in v.newer) levels.newer j))
 
 module _ (v : Versions) (levels below : Levels) (i j : ℕ) (a b : Holder)
-  (older : shape_in (nodes_in v.older) levels.older i ≡ shape_by (λ g. shape_in (nodes_in v.older) below.older g) a)
-  (newer : shape_in (nodes_in v.newer) levels.newer j ≡ shape_by (λ g. shape_in (nodes_in v.newer) below.newer g) b) where
+    (older : shape_in (nodes_in v.older) levels.older i ≡ shape_by (λ g. shape_in (nodes_in v.older) below.older g) a)
+    (newer : shape_in (nodes_in v.newer) levels.newer j ≡ shape_by (λ g. shape_in (nodes_in v.newer) below.newer g) b) where
   holders : (pairs : Pairs) → keeps_at v levels i j pairs ≡ (has_room a b && rest_test v below (member_count (older_fields v below a.fields.now)) a.fields.now (newer_fields v below b.fields.now) pairs)
   unfolding keeps
   holders pairs =
@@ -239,8 +239,8 @@ rest_sound left f fs e h = and_right (is_sound_kind (kind_of_field f.body)) (are
 -- ---- the fields in turn
 
 module _ (v : Versions) (levels : Levels) (start old : Reached) (whole : Pairs → Bool) (count : ℕ) (left rest : List FieldRecord)
-  (grows : IsFront (pairs_of start) (pairs_of old))
-  (tested : (pairs : Pairs) → (has_each pairs (pairs_of start) && whole pairs) ≡ (has_each pairs (pairs_of old) && rest_test v levels count left (newer_fields v levels rest) pairs)) where
+    (grows : IsFront (pairs_of start) (pairs_of old))
+    (tested : (pairs : Pairs) → (has_each pairs (pairs_of start) && whole pairs) ≡ (has_each pairs (pairs_of old) && rest_test v levels count left (newer_fields v levels rest) pairs)) where
   pub fields_stop : (new : Reached) (next : FieldRecord) (more : List FieldRecord) → rest ≡ next ∷ more → Moves v levels old new count left next None → Decides v start new false whole
   fields_stop new next more e m = record {
     sound = m.sound;

@@ -78,8 +78,8 @@ unfolding is_extended
 nothing_extends g = refl
 
 module _ (v : Versions) (levels below : Levels) (i j : ℕ) (a b : Holder)
-  (older : shape_in (nodes_in v.older) levels.older i ≡ shape_by (λ g. shape_in (nodes_in v.older) below.older g) a)
-  (newer : shape_in (nodes_in v.newer) levels.newer j ≡ shape_by (λ g. shape_in (nodes_in v.newer) below.newer g) b) where
+    (older : shape_in (nodes_in v.older) levels.older i ≡ shape_by (λ g. shape_in (nodes_in v.older) below.older g) a)
+    (newer : shape_in (nodes_in v.newer) levels.newer j ≡ shape_by (λ g. shape_in (nodes_in v.newer) below.newer g) b) where
   pub groups_extended : is_extended (older_shape v levels i) (newer_shape v levels j) ≡ extends_fields (older_fields v below a.fields.now) (newer_fields v below b.fields.now)
   unfolding is_extended
   groups_extended = ap (λ (g : Shape). is_extended g (newer_shape v levels j)) older ∙ ap (λ (g : Shape). is_extended (shape_by (λ h. shape_in (nodes_in v.older) below.older h) a) g) newer

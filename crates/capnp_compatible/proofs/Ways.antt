@@ -403,4 +403,3 @@ module _ (o n : Schema) where
       → into_fields l fs fs' go ≡ elim s [ no_target ↦ false | target m b ↦ elim t as (λ (x : Target). Bool) [ no_target ↦ go nowhere | target m' b' ↦ go (at_body b b') ] ]
   into_found l fs fs' go s t h k = ap (λ (x : Target). elim x as (λ (y : Target). Bool) [ no_target ↦ false | target m b ↦ elim (target_of l fs') as (λ (z : Target). Bool) [ no_target ↦ go nowhere | target m' b' ↦ go (at_body b b') ] ]) h
       ∙ ap (λ (x : Target). elim s as (λ (y : Target). Bool) [ no_target ↦ false | target m b ↦ elim x as (λ (z : Target). Bool) [ no_target ↦ go nowhere | target m' b' ↦ go (at_body b b') ] ]) k
-

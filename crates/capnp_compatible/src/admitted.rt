@@ -36,11 +36,21 @@ pub enum Admission {
 #[derive(Clone, Copy)]
 enum At {
     /// at a group of both versions, so many levels above the last
-    Group { levels: Levels, older: u64, newer: u64 },
+    Group {
+        levels: Levels,
+        older: u64,
+        newer: u64,
+    },
     /// at a slot of both versions
-    Slot { older: TypeRecord, newer: TypeRecord },
+    Slot {
+        older: TypeRecord,
+        newer: TypeRecord,
+    },
     /// at an element of a list of both versions
-    Element { older: TypeRecord, newer: TypeRecord },
+    Element {
+        older: TypeRecord,
+        newer: TypeRecord,
+    },
     /// at nothing that a step fits
     Nowhere,
 }
@@ -93,13 +103,7 @@ fn at_fields(levels: Levels, older: &FieldBody, newer: &FieldBody) -> At
 }
 
 /// Where a name leads from a struct or a group.
-fn into_fields(
-    versions: &Versions<'_>,
-    levels: Levels,
-    older: u64,
-    newer: u64,
-    name: &str,
-) -> Next
+fn into_fields(versions: &Versions<'_>, levels: Levels, older: u64, newer: u64, name: &str) -> Next
     requires { AreIndexed versions.now }
     ensures { (path : List ModelStep) (verb : ModelVerb) → into_fields name.now (fields_in (older_shape versions.now levels older)) (fields_in (newer_shape versions.now levels newer)) (goes_on versions.now path verb) ≡ next_seen versions.now result path verb }
 {
@@ -272,7 +276,12 @@ fn struct_type(id: u64) -> TypeRecord
 /// Whether each call under the older schema is admitted beside the newer: it goes by fields that the older has, writes no
 /// group as a whole that the newer extends, and sets no list element of struct type. Takes time linear in the steps of the
 /// calls times the fields of the structs on their ways, and of the groups that they write. `OutOfMemory` is the one error.
-pub fn admitted(alloc: Global, calls: &[Call], older: Root<'_>, newer: Root<'_>) -> Result<Admission>
+pub fn admitted(
+    alloc: Global,
+    calls: &[Call],
+    older: Root<'_>,
+    newer: Root<'_>,
+) -> Result<Admission>
     ensures answer { IfOk result (IsAdmissionOf (is_admitted (schema_of (nodes_of older.entry.set.now)) (schema_of (nodes_of newer.entry.set.now)) older.entry.id newer.entry.id) (map call_view calls.now)) }
     ensures refusal { IfErr result (λ e. e.kind ≡ OutOfMemory) }
 {

@@ -76,7 +76,10 @@ pub fn compatible(alloc: Global, older: Root<'_>, newer: Root<'_>) -> Result<boo
     ensures refusal { IfErr result (λ e. e.kind ≡ OutOfMemory) }
 {
     let versions = versions(alloc, older, newer)?;
-    if !are_alike(versions.older.is_group(older.id), versions.newer.is_group(newer.id)) {
+    if !are_alike(
+        versions.older.is_group(older.id),
+        versions.newer.is_group(newer.id),
+    ) {
         return Ok(false);
     }
     let levels = versions.levels();

@@ -83,10 +83,7 @@ fn has_room(older: Holder<'_>, newer: Holder<'_>) -> bool
 }
 
 /// The first field, where it has the name, and those behind it.
-fn partner<'f>(
-    left: &'f [FieldRecord],
-    name: &str,
-) -> Option<(&'f FieldRecord, &'f [FieldRecord])>
+fn partner<'f>(left: &'f [FieldRecord], name: &str) -> Option<(&'f FieldRecord, &'f [FieldRecord])>
     ensures missing { IfNone result (begins_with left.now name.now ≡ false) }
     ensures found { IfSome result (λ p. left.now ≡ p.0.now ∷ p.1.now) }
     ensures name { IfSome result (λ p. bytes_eq (string_bytes p.0.now.name) name.now ≡ true) }
@@ -225,7 +222,11 @@ fn keeps_body(
         (older_body versions.now levels older.now) (newer_body versions.now levels newer.now))) }
 {
     match older {
-        FieldBody::Slot { offset, ty, default } => match newer {
+        FieldBody::Slot {
+            offset,
+            ty,
+            default,
+        } => match newer {
             FieldBody::Slot {
                 offset: place,
                 ty: kind,

@@ -39,22 +39,13 @@ fn plain(base: BaseType) -> TypeRecord {
 }
 
 /// A number of 16 bits.
-fn number(
-    alloc: Global,
-    name: &str,
-    offset: u32,
-    default: u16,
-) -> Result<FieldRecord, AllocError> {
+fn number(alloc: Global, name: &str, offset: u32, default: u16) -> Result<FieldRecord, AllocError> {
     let value = Some(Value::UInt16(default));
     slot(alloc, name, plain(BaseType::UInt16), offset, value)
 }
 
 /// A number that is a union member.
-fn member(
-    alloc: Global,
-    name: &str,
-    discriminant: u16,
-) -> Result<FieldRecord, AllocError> {
+fn member(alloc: Global, name: &str, discriminant: u16) -> Result<FieldRecord, AllocError> {
     let mut field = number(alloc, name, 0, 0)?;
     field.discriminant_value = discriminant;
     Ok(field)
@@ -115,7 +106,12 @@ fn wider_pair(alloc: Global) -> Result<NodeRecord, AllocError> {
     node(alloc, 1, 2, 1, fields)
 }
 
-fn is_compatible(alloc: Global, older: &SchemaSet, newer: &SchemaSet, id: u64) -> Result<bool, Fail> {
+fn is_compatible(
+    alloc: Global,
+    older: &SchemaSet,
+    newer: &SchemaSet,
+    id: u64,
+) -> Result<bool, Fail> {
     Ok(compatible(alloc, Root { set: older, id }, Root { set: newer, id })?)
 }
 
@@ -295,14 +291,30 @@ fn path(alloc: Global, names: &[&str]) -> Result<Vec<Step>, AllocError> {
     Ok(steps)
 }
 
-fn one_call(alloc: Global, path: Vec<Step>, verb: Verb, value: Option<CallValue>) -> Result<Vec<Call>, Fail> {
+fn one_call(
+    alloc: Global,
+    path: Vec<Step>,
+    verb: Verb,
+    value: Option<CallValue>,
+) -> Result<Vec<Call>, Fail> {
     let mut calls = Vec::new(alloc);
     calls.push(Call::new(path, verb, value)?)?;
     Ok(calls)
 }
 
-fn admission(alloc: Global, calls: &[Call], older: &SchemaSet, newer: &SchemaSet, id: u64) -> Result<Admission, Fail> {
-    Ok(admitted(alloc, calls, Root { set: older, id }, Root { set: newer, id })?)
+fn admission(
+    alloc: Global,
+    calls: &[Call],
+    older: &SchemaSet,
+    newer: &SchemaSet,
+    id: u64,
+) -> Result<Admission, Fail> {
+    Ok(admitted(
+        alloc,
+        calls,
+        Root { set: older, id },
+        Root { set: newer, id },
+    )?)
 }
 
 #[test]
@@ -314,10 +326,22 @@ fn extended_groups_are_not_written_as_a_whole(rt: HostRuntime) -> Result<(), Fai
     let init = one_call(alloc, path(alloc, &["g"])?, Verb::Init, None)?;
     let inner = one_call(alloc, path(alloc, &["g", "x"])?, Verb::Clear, None)?;
     let get = one_call(alloc, path(alloc, &["g"])?, Verb::Get, None)?;
-    assert_eq!(rt; admission(alloc, &init, &older, &newer, 5)?, Admission::Refused(1));
-    assert_eq!(rt; admission(alloc, &init, &older, &older, 5)?, Admission::Admitted);
-    assert_eq!(rt; admission(alloc, &inner, &older, &newer, 5)?, Admission::Admitted);
-    assert_eq!(rt; admission(alloc, &get, &older, &newer, 5)?, Admission::Admitted);
+    assert_eq!(rt;
+        admission(alloc, &init, &older, &newer, 5)?,
+        Admission::Refused(1)
+    );
+    assert_eq!(rt;
+        admission(alloc, &init, &older, &older, 5)?,
+        Admission::Admitted
+    );
+    assert_eq!(rt;
+        admission(alloc, &inner, &older, &newer, 5)?,
+        Admission::Admitted
+    );
+    assert_eq!(rt;
+        admission(alloc, &get, &older, &newer, 5)?,
+        Admission::Admitted
+    );
     Ok(())
 }
 
@@ -327,11 +351,25 @@ fn calls_go_by_older_fields(rt: HostRuntime) -> Result<(), Fail> {
     let older = set_of(alloc, pair(alloc, "a", 0)?)?;
     let newer = set_of(alloc, wider_pair(alloc)?)?;
     let unknown = one_call(alloc, path(alloc, &["b"])?, Verb::Get, None)?;
-    let known = one_call(alloc, path(alloc, &["a"])?, Verb::Set, Some(CallValue::Number(7)))?;
+    let known = one_call(
+        alloc,
+        path(alloc, &["a"])?,
+        Verb::Set,
+        Some(CallValue::Number(7)),
+    )?;
     let behind = one_call(alloc, path(alloc, &["t", "b"])?, Verb::Get, None)?;
-    assert_eq!(rt; admission(alloc, &unknown, &older, &newer, 1)?, Admission::Refused(1));
-    assert_eq!(rt; admission(alloc, &known, &older, &newer, 1)?, Admission::Admitted);
-    assert_eq!(rt; admission(alloc, &behind, &older, &newer, 1)?, Admission::Admitted);
+    assert_eq!(rt;
+        admission(alloc, &unknown, &older, &newer, 1)?,
+        Admission::Refused(1)
+    );
+    assert_eq!(rt;
+        admission(alloc, &known, &older, &newer, 1)?,
+        Admission::Admitted
+    );
+    assert_eq!(rt;
+        admission(alloc, &behind, &older, &newer, 1)?,
+        Admission::Admitted
+    );
     Ok(())
 }
 
@@ -347,7 +385,55 @@ fn elements_of_struct_type_are_not_set(rt: HostRuntime) -> Result<(), Fail> {
     let mut calls = one_call(alloc, path(alloc, &["items"])?, Verb::Get, None)?;
     calls.push(Call::new(element, Verb::Set, Some(CallValue::Number(1)))?)?;
     let inside = one_call(alloc, inner, Verb::Set, Some(CallValue::Number(1)))?;
-    assert_eq!(rt; admission(alloc, &calls, &set, &set, 2)?, Admission::Refused(2));
-    assert_eq!(rt; admission(alloc, &inside, &set, &set, 2)?, Admission::Admitted);
+    assert_eq!(rt;
+        admission(alloc, &calls, &set, &set, 2)?,
+        Admission::Refused(2)
+    );
+    assert_eq!(rt;
+        admission(alloc, &inside, &set, &set, 2)?,
+        Admission::Admitted
+    );
+    Ok(())
+}
+
+/// So many structs, each with a pointer to the next, the last with so many words.
+fn chain(alloc: Global, count: u64, words: u16) -> Result<SchemaSet, Fail> {
+    let mut nodes = Vec::new(alloc);
+    for id in 1..count {
+        let mut fields = Vec::new(alloc);
+        fields.push(slot(alloc, "next", plain(BaseType::Struct(id + 1)), 0, None)?)?;
+        nodes.push(node(alloc, id, 0, 1, fields)?)?;
+    }
+    nodes.push(node(alloc, count, words, 0, Vec::new(alloc))?)?;
+    Ok(SchemaSet::new(nodes)?)
+}
+
+#[test]
+fn the_last_of_many_structs_is_looked_at(rt: HostRuntime) -> Result<(), Fail> {
+    let alloc = rt.alloc();
+    let older = chain(alloc, 300, 1)?;
+    let newer = chain(alloc, 300, 2)?;
+    assert!(rt; is_compatible(alloc, &older, &newer, 1)?);
+    assert!(rt; !is_compatible(alloc, &newer, &older, 1)?);
+    Ok(())
+}
+
+#[test]
+fn the_last_of_many_calls_is_looked_at(rt: HostRuntime) -> Result<(), Fail> {
+    let alloc = rt.alloc();
+    let set = set_of(alloc, pair(alloc, "a", 0)?)?;
+    let mut calls = Vec::new(alloc);
+    for _ in 0..100 {
+        calls.push(Call::new(path(alloc, &["a"])?, Verb::Get, None)?)?;
+    }
+    assert_eq!(rt;
+        admission(alloc, &calls, &set, &set, 1)?,
+        Admission::Admitted
+    );
+    calls.push(Call::new(path(alloc, &["b"])?, Verb::Get, None)?)?;
+    assert_eq!(rt;
+        admission(alloc, &calls, &set, &set, 1)?,
+        Admission::Refused(101)
+    );
     Ok(())
 }

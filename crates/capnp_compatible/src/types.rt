@@ -70,7 +70,10 @@ fn related_enums(
     if reached.knows(older, newer) {
         return Ok(true);
     }
-    if !same_names(versions.older.enumerants(older), versions.newer.enumerants(newer)) {
+    if !same_names(
+        versions.older.enumerants(older),
+        versions.newer.enumerants(newer),
+    ) {
         return Ok(false);
     }
     reached.know(older, newer)?;

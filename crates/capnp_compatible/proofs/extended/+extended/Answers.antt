@@ -49,7 +49,7 @@ extends_fields-returns-in_default-find t c =
     let more = take (length rest - 1) (drop 1 rest) in
     let split : rest ≡ first ∷ more = first_and_rest rest first c.in-len1-up.len_at_least c.first-item.is in
     let whole : extends_fields (older_fields v c.args.levels c.args.older.now) (newer_fields v c.args.levels (first ∷ more)) ≡ extends_fields (older_fields v c.args.levels c.args.older.now) (newer_fields v c.args.levels c.args.newer.now)
-        = ap (λ (xs : List FieldRecord). extends_fields (older_fields v c.args.levels c.args.older.now) (newer_fields v c.args.levels xs)) (sym split) ∙ c.loop-rest.invariant in
+    = ap (λ (xs : List FieldRecord). extends_fields (older_fields v c.args.levels c.args.older.now) (newer_fields v c.args.levels xs)) (sym split) ∙ c.loop-rest.invariant in
     let found : option_copied c.find.result ≡ first_named (string_bytes first.name) c.args.older.now = c.find.ensures ∙ c.in_ok-names.ensures c.as_str.result.now ∙ ap (λ (n : List ℕ). first_named n c.args.older.now) c.as_str.ensures.value in
     sym (lacking v c.args.levels c.args.older.now first more (sym found ∙ ap option_copied c.in_default-find.is)) ∙ whole
 
@@ -61,7 +61,7 @@ extends_fields-returns-then-branch t c =
     let more = take (length rest - 1) (drop 1 rest) in
     let split : rest ≡ first ∷ more = first_and_rest rest first c.in-len1-up.len_at_least c.first-item.is in
     let whole : extends_fields (older_fields v c.args.levels c.args.older.now) (newer_fields v c.args.levels (first ∷ more)) ≡ extends_fields (older_fields v c.args.levels c.args.older.now) (newer_fields v c.args.levels c.args.newer.now)
-        = ap (λ (xs : List FieldRecord). extends_fields (older_fields v c.args.levels c.args.older.now) (newer_fields v c.args.levels xs)) (sym split) ∙ c.loop-rest.invariant in
+    = ap (λ (xs : List FieldRecord). extends_fields (older_fields v c.args.levels c.args.older.now) (newer_fields v c.args.levels xs)) (sym split) ∙ c.loop-rest.invariant in
     let found : option_copied c.find.result ≡ first_named (string_bytes first.name) c.args.older.now = c.find.ensures ∙ c.in_ok-names.ensures c.as_str.result.now ∙ ap (λ (n : List ℕ). first_named n c.args.older.now) c.as_str.ensures.value in
     sym (with_partner v c.args.levels c.args.older.now first more c.in-Some.partner.now (sym found ∙ ap option_copied c.in-Some.is) true (sym c.if-branch.true ∙ c.in_ok-extends_field.ensures)) ∙ whole
 
@@ -73,7 +73,7 @@ extends_fields-loop-rest-preserved t c =
     let more = take (length rest - 1) (drop 1 rest) in
     let split : rest ≡ first ∷ more = first_and_rest rest first c.in-len1-up.len_at_least c.first-item.is in
     let whole : extends_fields (older_fields v c.args.levels c.args.older.now) (newer_fields v c.args.levels (first ∷ more)) ≡ extends_fields (older_fields v c.args.levels c.args.older.now) (newer_fields v c.args.levels c.args.newer.now)
-        = ap (λ (xs : List FieldRecord). extends_fields (older_fields v c.args.levels c.args.older.now) (newer_fields v c.args.levels xs)) (sym split) ∙ c.loop-rest.invariant in
+    = ap (λ (xs : List FieldRecord). extends_fields (older_fields v c.args.levels c.args.older.now) (newer_fields v c.args.levels xs)) (sym split) ∙ c.loop-rest.invariant in
     let found : option_copied c.find.result ≡ first_named (string_bytes first.name) c.args.older.now = c.find.ensures ∙ c.in_ok-names.ensures c.as_str.result.now ∙ ap (λ (n : List ℕ). first_named n c.args.older.now) c.as_str.ensures.value in
     sym (with_partner v c.args.levels c.args.older.now first more c.in-Some.partner.now (sym found ∙ ap option_copied c.in-Some.is) false (sym c.if-branch.false ∙ c.in_ok-extends_field.ensures)) ∙ whole
 
@@ -93,5 +93,5 @@ is_extended-returns t c =
     let v = c.args.versions.now in
     let below : Levels = record { older = c.saturating_sub.result; newer = c.args.levels.newer - 1 } in
     let first : shape_in (nodes_in v.older) c.args.levels.older c.args.older ≡ shape_by (λ g. shape_in (nodes_in v.older) c.saturating_sub.result g) c.holder-a.result
-        = c.holder-a.ensures.shape ∙ ap (λ (k : ℕ). shape_by (λ g. shape_in (nodes_in v.older) k g) c.holder-a.result) (sym c.saturating_sub.ensures) in
+    = c.holder-a.ensures.shape ∙ ap (λ (k : ℕ). shape_by (λ g. shape_in (nodes_in v.older) k g) c.holder-a.result) (sym c.saturating_sub.ensures) in
     IfOk-weaker c.extends_fields.result _ _ (λ b h. h ∙ sym (groups_extended v c.args.levels below c.args.older c.args.newer c.holder-a.result c.holder-b.result first c.holder-b.ensures.shape)) c.extends_fields.ensures

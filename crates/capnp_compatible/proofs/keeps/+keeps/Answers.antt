@@ -29,7 +29,7 @@ pub keeps-returns : goal.keeps-returns
 keeps-returns t c =
     let below : Levels = record { older = c.args.levels.older - 1; newer = c.saturating_sub.result } in
     let newer : shape_in (nodes_in c.args.versions.now.newer) c.args.levels.newer c.args.newer ≡ shape_by (λ g. shape_in (nodes_in c.args.versions.now.newer) c.saturating_sub.result g) c.holder-b.result
-        = c.holder-b.ensures.shape ∙ ap (λ (k : ℕ). shape_by (λ g. shape_in (nodes_in c.args.versions.now.newer) k g) c.holder-b.result) (sym c.saturating_sub.ensures) in
+    = c.holder-b.ensures.shape ∙ ap (λ (k : ℕ). shape_by (λ g. shape_in (nodes_in c.args.versions.now.newer) k g) c.holder-b.result) (sym c.saturating_sub.ensures) in
     IfOk-weaker c.keeps_fields.result _ _ (λ b h. with_room c.args.versions.now c.args.levels below c.args.older c.args.newer c.holder-a.result c.holder-b.result c.holder-a.ensures.shape newer c.args.reached.now c.keeps_fields.new.reached b (sym c.has_room.ensures ∙ c.if-not-has_room.false) h) c.keeps_fields.ensures
 
 pub keeps_body-returns-then-not-same : goal.keeps_body-returns-then-not-same
