@@ -36,6 +36,14 @@ action_view action.Init = init
 action_view (action.Initn n) = initn n
 action_view action.Clear = clear
 
+-- The verb, without what it sets.
+abbrev pub verb_of : ModelVerb → Verb
+verb_of get = verb.Get
+verb_of (set_to v) = verb.Set
+verb_of init = verb.Init
+verb_of (initn n) = verb.Initn n
+verb_of clear = verb.Clear
+
 -- A call.
 abbrev pub call_view : Call → ModelCall
 call_view c = record { path = map step_view c.path.items; verb = action_view c.action }

@@ -82,9 +82,9 @@ pub struct Call {
 }
 
 impl Call {
-    ghost use Rattle.std.specs.Prelude.{◌≡◌};
+    ghost use Rattle.std.specs.Prelude.{◌≡◌, map};
     ghost use Rattle.std.specs.Result.{result_map_both};
-    ghost use Rattle.capnp_calls.specs.CallViews.{call_view, call_from};
+    ghost use Rattle.capnp_calls.specs.CallViews.{step_view, verb_of, call_view, call_from};
 
     /// A call along a path, which has a step. `Set` takes a value, the other verbs take none; `Initn` at most 2^29 - 1
     /// elements. A message is refused. What is given is gone after a refusal.
@@ -96,6 +96,26 @@ impl Call {
         }
         let action = Action::new(verb, value)?;
         Ok(Call { path, action })
+    }
+
+    /// The path, which has a step.
+    pub fn path(&self) -> &[Step]
+        ensures { map step_view result.now ≡ (call_view self.now).path }
+    {
+        &self.path
+    }
+
+    /// What is done at its end.
+    pub fn verb(&self) -> Verb
+        ensures { result ≡ verb_of (call_view self.now).verb }
+    {
+        match &self.action {
+            Action::Get => Verb::Get,
+            Action::Set(_) => Verb::Set,
+            Action::Init => Verb::Init,
+            Action::Initn(count) => Verb::Initn(*count),
+            Action::Clear => Verb::Clear,
+        }
     }
 }
 

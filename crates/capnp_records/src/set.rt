@@ -38,6 +38,13 @@ impl SchemaSet {
         Ok(SchemaSet { nodes })
     }
 
+    /// The nodes of the set, in the order in which they were given.
+    pub fn nodes(&self) -> &[NodeRecord]
+        ensures { map node_of result.now ≡ nodes_of self.now }
+    {
+        &self.nodes
+    }
+
     /// The struct of an id. A group is none.
     pub fn struct_by_id(&self, id: u64) -> Option<RawBrandedStructSchema>
         ensures missing { IfNone result (names_a is_struct_node (nodes_of self.now) id ≡ false) }

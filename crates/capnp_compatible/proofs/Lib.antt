@@ -1,0 +1,12 @@
+pub mod Relations
+pub mod Scans
+pub mod EqualBytes
+pub mod EqualDefaults
+pub mod Slots
+pub mod Known
+pub mod NodesFound
+pub mod Bodies
+pub mod Ways
+pub mod AllKept
+pub mod ExtendedGroups
+pub mod FirstRefused

@@ -1,0 +1,68 @@
+-- Steps of a walk, one after the other.
+use Rattle.std.proofs.Common.{◌≡◌, ℕ, Bool, true, false, ◌&&◌, ◌||◌, ◌==◌, List, [], ◌∷◌, ◌++◌, append_assoc, refl, sym, ◌∙◌, ap, arith}
+use Rattle.std.specs.List.{list_all, list_any}
+use Rattle.std.proofs.lemmas.List.Folds.{list_all-append}
+use Rattle.std.proofs.lemmas.Bool.Decides.{nat_tests}
+use Rattle.capnp_model.specs.Schemas.{Schema}
+use Rattle.capnp_model.specs.Compatible.{Pairs, has_pair}
+use Rattle.capnp_compatible.specs.declared.reached.Reached.{Reached}
+use Rattle.capnp_compatible.specs.declared.keeps.Versions.{Versions}
+use Rattle.capnp_compatible.specs.Pairs.{has_each, pairs_of, IsFront}
+use Rattle.capnp_compatible.specs.Walks.{IsSoundFor, Decides}
+
+pub and_assoc : (a b c : Bool) → ((a && b) && c) ≡ (a && (b && c))
+and_assoc true b c = refl
+and_assoc false b c = refl
+
+pub and_swap : (a b : Bool) → (a && b) ≡ (b && a)
+and_swap true true = refl
+and_swap true false = refl
+and_swap false true = refl
+and_swap false false = refl
+
+pub and_false : (b : Bool) → (b && false) ≡ false
+and_false true = refl
+and_false false = refl
+
+pub and_true : (b : Bool) → (b && true) ≡ b
+and_true true = refl
+and_true false = refl
+
+append_none : (xs : Pairs) → xs ++ [] ≡ xs
+append_none [] = refl
+append_none (x ∷ xs) = ap (λ ys. x ∷ ys) (append_none xs)
+
+pub front_itself : (xs : Pairs) → IsFront xs xs
+front_itself xs = record { rest = []; parts = sym (append_none xs) }
+
+pub front_of_front : (xs ys zs : Pairs) → IsFront xs ys → IsFront ys zs → IsFront xs zs
+front_of_front xs ys zs a b = record { rest = a.rest ++ b.rest; parts = b.parts ∙ ap (λ ws. ws ++ b.rest) a.parts ∙ append_assoc xs a.rest b.rest }
+
+module _ (v : Versions) where
+  -- nothing is reached, and the test does not look at pairs
+  pub decides_here : (r : Reached) (ok : Bool) (test : Pairs → Bool) → IsSoundFor v r → ((pairs : Pairs) → test pairs ≡ ok) → Decides v r r ok test
+  decides_here r ok test s h = record { sound = s; grows = front_itself (pairs_of r); tested = λ pairs. ap (λ b. has_each pairs (pairs_of r) && b) (h pairs) ∙ and_swap (has_each pairs (pairs_of r)) ok }
+
+  -- another test that is the same
+  pub decides_same : (old new : Reached) (ok : Bool) (test other : Pairs → Bool) → Decides v old new ok test → ((pairs : Pairs) → other pairs ≡ test pairs) → Decides v old new ok other
+  decides_same old new ok test other d h = record { sound = d.sound; grows = d.grows; tested = λ pairs. ap (λ b. has_each pairs (pairs_of old) && b) (h pairs) ∙ d.tested pairs }
+
+  -- a test that fails
+  pub decides_not : (old new : Reached) (test : Pairs → Bool) → IsSoundFor v new → IsFront (pairs_of old) (pairs_of new) → ((pairs : Pairs) → (has_each pairs (pairs_of old) && test pairs) ≡ false) → Decides v old new false test
+  decides_not old new test s g h = record { sound = s; grows = g; tested = h }
+
+  -- two tests, one after the other
+  pub decides_both : (old mid new : Reached) (ok : Bool) (first second : Pairs → Bool) → Decides v old mid true first → Decides v mid new ok second → Decides v old new ok (λ pairs. first pairs && second pairs)
+  decides_both old mid new ok first second d e = record {
+    sound = e.sound;
+    grows = front_of_front (pairs_of old) (pairs_of mid) (pairs_of new) d.grows e.grows;
+    tested = λ pairs. sym (and_assoc (has_each pairs (pairs_of old)) (first pairs) (second pairs)) ∙ ap (λ b. b && second pairs) (d.tested pairs) ∙ e.tested pairs;
+  }
+
+  -- the first of two tests fails
+  pub decides_first_not : (old new : Reached) (first second : Pairs → Bool) → Decides v old new false first → Decides v old new false (λ pairs. first pairs && second pairs)
+  decides_first_not old new first second d = record {
+    sound = d.sound;
+    grows = d.grows;
+    tested = λ pairs. sym (and_assoc (has_each pairs (pairs_of old)) (first pairs) (second pairs)) ∙ ap (λ b. b && second pairs) (d.tested pairs);
+  }

@@ -1,0 +1,25 @@
+use Rattle.std.proofs.Common.{Bool, sym, ◌∙◌, subst}
+use Rattle.capnp_compatible.specs.Holders.{schema_in}
+use Rattle.capnp_compatible.specs.Walks.{Decides, keeps_at}
+use Rattle.capnp_compatible.proofs.AllKept.{begun, walked_on, walked_all, walked_into}
+use Rattle.capnp_compatible.proofs.compatible.all_kept.Goals as goal
+
+pub loop-i-init : goal.loop-i-init
+loop-i-init c =
+    let o = schema_in c.args.versions.now.older in
+    let n = schema_in c.args.versions.now.newer in
+    let s = c.new-reached.ensures.sound o n in
+    begun c.args.versions.now c.args.levels c.args.older c.args.newer c.new-reached.result c.reach.new.self c.new-reached.ensures.none (c.in_ok-reach.ensures.pairs o n s) (c.in_ok-reach.ensures.sound o n s)
+
+pub returns-in_default : goal.returns-in_default
+returns-in_default c = walked_all c.args.versions.now c.args.levels c.args.older c.args.newer c.loop-i.i c.loop-i.reached c.loop-i.invariant (sym c.in_default.is ∙ c.pair.ensures)
+
+pub loop-i-preserved : goal.loop-i-preserved
+loop-i-preserved c =
+    walked_on c.args.versions.now c.args.levels c.args.older c.args.newer c.loop-i.i c.in-Some.a c.in-Some.b c.loop-i.reached c.keeps.new.reached c.loop-i.invariant (sym c.in-Some.ensures)
+    (subst (λ (x : Bool). Decides c.args.versions.now c.loop-i.reached c.keeps.new.reached x (keeps_at c.args.versions.now c.args.levels c.in-Some.a c.in-Some.b)) c.if-not-branch.false c.in_ok-keeps.ensures)
+
+pub returns-then-not-branch : goal.returns-then-not-branch
+returns-then-not-branch c =
+    walked_into c.args.versions.now c.args.levels c.args.older c.args.newer c.loop-i.i c.in-Some.a c.in-Some.b c.loop-i.reached c.keeps.new.reached c.loop-i.invariant (sym c.in-Some.ensures)
+    (subst (λ (x : Bool). Decides c.args.versions.now c.loop-i.reached c.keeps.new.reached x (keeps_at c.args.versions.now c.args.levels c.in-Some.a c.in-Some.b)) c.if-not-branch.true c.in_ok-keeps.ensures)

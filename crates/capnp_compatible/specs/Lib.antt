@@ -1,0 +1,10 @@
+pub mod Pairs
+pub mod Types
+pub mod Defaults
+pub mod Holders
+pub mod Walks
+pub mod Ways
+pub use Rattle.capnp_model.specs.Schemas
+pub use Rattle.capnp_model.specs.Accepted
+pub use Rattle.capnp_model.specs.Compatible
+pub use Rattle.capnp_model.specs.Admitted

@@ -1,0 +1,88 @@
+-- What a step of the walk over pairs of structs says.
+use Rattle.std.specs.Prelude.{ℕ, ◌≡◌, Bool, true, false, not, ◌&&◌, nat_le, Option, Some, None, List, [], ◌∷◌, map, length, string_bytes}
+use Rattle.std.specs.List.{list_all}
+use Rattle.std.specs.Str.{bytes_eq}
+use Rattle.capnp_model.specs.Schemas.{Fields, field, Body}
+use Rattle.capnp_model.specs.Accepted.{shape_in, field_body, fields_from}
+use Rattle.capnp_model.specs.Compatible.{Pairs, has_pair, keeps_union, keeps, keeps_fields}
+use Rattle.capnp_records.specs.NodeViews.{field_of, member_of, kind_of_field}
+use Rattle.capnp_records.specs.declared.node.FieldRecord.{FieldRecord}
+use Rattle.capnp_records.specs.declared.node.FieldBody.{FieldBody}
+use Rattle.capnp_compatible.specs.declared.reached.Reached.{Reached}
+use Rattle.capnp_compatible.specs.declared.nodes.Holder.{Holder}
+use Rattle.capnp_compatible.specs.declared.keeps.Versions.{Versions}
+use Rattle.capnp_compatible.specs.declared.keeps.Levels.{Levels}
+use Rattle.capnp_compatible.specs.Holders.{nodes_in, schema_in, IsIndexed}
+use Rattle.capnp_compatible.specs.Pairs.{has_each, pairs_of, IsSound, IsFront}
+
+-- Both versions are indexed.
+pub record AreIndexed (v : Versions) : Type 0 where
+  pub older : IsIndexed v.older
+  pub newer : IsIndexed v.newer
+
+-- What is reached is sound for the versions.
+abbrev pub IsSoundFor : Versions → Reached → Type 0
+IsSoundFor v r = IsSound (schema_in v.older) (schema_in v.newer) r
+
+-- The test holds just over those pairs that have all that are reached now, as far as they had all that were reached before.
+pub record Decides (v : Versions) (old new : Reached) (ok : Bool) (test : Pairs → Bool) : Type 0 where
+  pub sound : IsSoundFor v new
+  pub grows : IsFront (pairs_of old) (pairs_of new)
+  pub tested : (pairs : Pairs) → (has_each pairs (pairs_of old) && test pairs) ≡ (ok && has_each pairs (pairs_of new))
+
+-- The newer struct or group of an id keeps the older, each with so many levels of groups.
+abbrev pub keeps_at : Versions → Levels → ℕ → ℕ → Pairs → Bool
+keeps_at v levels i j pairs = keeps (schema_in v.older) (schema_in v.newer) pairs (shape_in (nodes_in v.older) levels.older i) (shape_in (nodes_in v.newer) levels.newer j)
+
+-- Fields of the older version, with so many levels of groups.
+abbrev pub older_fields : Versions → Levels → List FieldRecord → Fields
+older_fields v levels fs = fields_from (λ g. shape_in (nodes_in v.older) levels.older g) (map field_of fs)
+
+-- Fields of the newer version.
+abbrev pub newer_fields : Versions → Levels → List FieldRecord → Fields
+newer_fields v levels fs = fields_from (λ g. shape_in (nodes_in v.newer) levels.newer g) (map field_of fs)
+
+-- What a field of the older version is.
+abbrev pub older_body : Versions → Levels → FieldBody → Body
+older_body v levels b = field_body (λ g. shape_in (nodes_in v.older) levels.older g) (kind_of_field b)
+
+-- What a field of the newer version is.
+abbrev pub newer_body : Versions → Levels → FieldBody → Body
+newer_body v levels b = field_body (λ g. shape_in (nodes_in v.newer) levels.newer g) (kind_of_field b)
+
+-- The first of the fields has the name.
+abbrev pub begins_with : List FieldRecord → List ℕ → Bool
+begins_with [] n = false
+begins_with (f ∷ fs) n = bytes_eq (string_bytes f.name) n
+
+-- The newer's sections are at least as large, and the union stays where it is.
+abbrev pub has_room : Holder → Holder → Bool
+has_room a b = nat_le a.words b.words && nat_le a.pointers b.pointers && keeps_union a.union b.union
+
+-- Behind a newer field these older ones are left, where it keeps the first of them or is new.
+pub record Moves (v : Versions) (levels : Levels) (old new : Reached) (count : ℕ) (left : List FieldRecord) (next : FieldRecord) (o : Option (List FieldRecord)) : Type 0 where
+  pub sound : IsSoundFor v new
+  pub grows : IsFront (pairs_of old) (pairs_of new)
+  pub tested : (pairs : Pairs) (rest : Fields)
+      → (has_each pairs (pairs_of old) && keeps_fields (schema_in v.older) (schema_in v.newer) pairs count (older_fields v levels left) (field (string_bytes next.name) (member_of next.discriminant_value) (newer_body v levels next.body) rest))
+      ≡ elim o [ None ↦ false | Some others ↦ has_each pairs (pairs_of new) && keeps_fields (schema_in v.older) (schema_in v.newer) pairs count (older_fields v levels others) rest ]
+
+-- Each pair is kept, as far as the structs that it names are among the pairs.
+abbrev pub keeps_all : Versions → Levels → Pairs → Pairs → Bool
+keeps_all v levels pairs some = list_all (λ p. keeps_at v levels p.0 p.1 pairs) some
+
+-- Some set of pairs has the two roots, and each of its pairs is kept and names only its pairs.
+pub record IsKeptFrom (v : Versions) (levels : Levels) (older newer : ℕ) : Type 0 where
+  pub pairs : Pairs
+  pub has_roots : has_pair pairs older newer ≡ true
+  pub are_kept : keeps_all v levels pairs pairs ≡ true
+
+-- So many levels as there are nodes.
+pub record AreEnough (v : Versions) (levels : Levels) : Type 0 where
+  pub older : levels.older ≡ length (nodes_in v.older)
+  pub newer : levels.newer ≡ length (nodes_in v.newer)
+
+-- Both hold or neither does.
+abbrev pub are_alike : Bool → Bool → Bool
+are_alike true b = b
+are_alike false b = not b

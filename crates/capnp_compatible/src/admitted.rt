@@ -1,0 +1,295 @@
+//! Admitted calls.
+
+ghost use Rattle.std.specs.Prelude.{◌≡◌, List, map, option_map, option_copied, IfOk, IfErr};
+ghost use Rattle.capnp_model.specs.Schemas.{struct, type_of};
+ghost use Rattle.capnp_model.specs.Printing.{fields_in};
+ghost use Rattle.capnp_model.specs.Calls.{Step as ModelStep, Verb as ModelVerb};
+ghost use Rattle.capnp_model.specs.Accepted.{schema_of};
+ghost use Rattle.capnp_model.specs.Admitted.{at_body, is_admitted_end, into_fields, into_type, into_at, is_admitted};
+ghost use Rattle.capnp_units.specs.declared.kinds.ErrorKind.TheVariants.{OutOfMemory};
+ghost use Rattle.capnp_records.specs.Sets.{nodes_of};
+ghost use Rattle.capnp_records.specs.NodeViews.{type_record_of};
+ghost use Rattle.capnp_calls.specs.CallViews.{step_view, call_view};
+ghost use Rattle.capnp_compatible.specs.Holders.{schema_in};
+ghost use Rattle.capnp_compatible.specs.Walks.{AreIndexed, older_body, newer_body};
+ghost use Rattle.capnp_compatible.specs.declared.keeps.Versions.{Versions};
+ghost use Rattle.capnp_compatible.specs.Ways.{first_named, struct_id_in, element_in, older_shape, newer_shape, at_seen, goes_on, next_seen, writes_group, sets, IsAdmissionOf};
+
+use crate::compatible::versions;
+use crate::extended::is_extended;
+use crate::keeps::{Levels, Versions};
+use crate::root::Root;
+use capnp_calls::{Call, Step, Verb};
+use capnp_records::node::{BaseType, FieldBody, FieldRecord, TypeRecord};
+use capnp_units::errors::Result;
+use std::alloc::{AllocError, Global};
+
+/// Whether calls are admitted.
+#[derive(Clone, Copy, PartialEq, Eq, Debug)]
+pub enum Admission {
+    Admitted,
+    /// The first call that is not, counted from 1.
+    Refused(usize),
+}
+
+/// Where the walk along a path stands.
+#[derive(Clone, Copy)]
+enum At {
+    /// at a group of both versions, so many levels above the last
+    Group {
+        levels: Levels,
+        older: u64,
+        newer: u64,
+    },
+    /// at a slot of both versions
+    Slot {
+        older: TypeRecord,
+        newer: TypeRecord,
+    },
+    /// at an element of a list of both versions
+    Element {
+        older: TypeRecord,
+        newer: TypeRecord,
+    },
+    /// at nothing that a step fits
+    Nowhere,
+}
+
+/// What a step leads to.
+#[derive(Clone, Copy)]
+enum Next {
+    /// The older version has no field of the name.
+    Unknown,
+    /// The step does not fit: nothing behind it is looked at.
+    Unfit,
+    To(At),
+}
+
+/// The first field of a name.
+fn find_field<'a>(fields: &'a [FieldRecord], name: &str) -> Option<&'a FieldRecord>
+    ensures { option_copied result ≡ first_named name.now fields.now }
+{
+    let mut rest = fields;
+    while let [first, others @ ..] = rest {
+        if first.name.as_str() == name {
+            return Some(first);
+        }
+        rest = others;
+    }
+    None
+}
+
+/// At a field of both versions.
+fn at_fields(levels: Levels, older: &FieldBody, newer: &FieldBody) -> At
+    ensures { (v : Versions) (path : List ModelStep) (verb : ModelVerb) → goes_on v path verb (at_body (older_body v levels older.now) (newer_body v levels newer.now)) ≡ goes_on v path verb (at_seen v result) }
+{
+    match older {
+        FieldBody::Slot { ty, .. } => match newer {
+            FieldBody::Slot { ty: other, .. } => At::Slot {
+                older: *ty,
+                newer: *other,
+            },
+            FieldBody::Group { .. } => At::Nowhere,
+        },
+        FieldBody::Group { node } => match newer {
+            FieldBody::Slot { .. } => At::Nowhere,
+            FieldBody::Group { node: other } => At::Group {
+                levels,
+                older: *node,
+                newer: *other,
+            },
+        },
+    }
+}
+
+/// Where a name leads from a struct or a group.
+fn into_fields(versions: &Versions<'_>, levels: Levels, older: u64, newer: u64, name: &str) -> Next
+    requires { AreIndexed versions.now }
+    ensures { (path : List ModelStep) (verb : ModelVerb) → into_fields name.now (fields_in (older_shape versions.now levels older)) (fields_in (newer_shape versions.now levels newer)) (goes_on versions.now path verb) ≡ next_seen versions.now result path verb }
+{
+    let a = versions.older.holder(levels.older, older);
+    let b = versions.newer.holder(levels.newer, newer);
+    let below = Levels {
+        older: levels.older.saturating_sub(1),
+        newer: levels.newer.saturating_sub(1),
+    };
+    let Some(field) = find_field(a.fields, name) else {
+        return Next::Unknown;
+    };
+    match find_field(b.fields, name) {
+        None => Next::To(At::Nowhere),
+        Some(other) => Next::To(at_fields(below, &field.body, &other.body)),
+    }
+}
+
+/// The struct that a type names.
+fn struct_id(ty: TypeRecord) -> Option<u64>
+    ensures { result ≡ struct_id_in (type_of (type_record_of ty)) }
+{
+    if ty.list_count > 0 {
+        return None;
+    }
+    match ty.base {
+        BaseType::Struct(id) => Some(id),
+        _ => None,
+    }
+}
+
+/// The type of a list's elements.
+fn element_of(ty: TypeRecord) -> Option<TypeRecord>
+    ensures { option_map (λ t. type_of (type_record_of t)) result ≡ element_in (type_of (type_record_of ty)) }
+{
+    if ty.list_count == 0 {
+        return None;
+    }
+    Some(TypeRecord {
+        list_count: ty.list_count - 1,
+        base: ty.base,
+    })
+}
+
+/// Where a step leads behind a pointer of a type.
+fn into_type(versions: &Versions<'_>, step: &Step, older: TypeRecord, newer: TypeRecord) -> Next
+    requires { AreIndexed versions.now }
+    ensures { (path : List ModelStep) (verb : ModelVerb) → into_type (schema_in versions.now.older) (schema_in versions.now.newer) (step_view step.now) (type_of (type_record_of older)) (type_of (type_record_of newer)) (goes_on versions.now path verb) ≡ next_seen versions.now result path verb }
+{
+    match step {
+        Step::Name(name) => {
+            let Some(id) = struct_id(older) else {
+                return Next::Unfit;
+            };
+            let Some(other) = struct_id(newer) else {
+                return Next::Unfit;
+            };
+            into_fields(versions, versions.levels(), id, other, name.as_str())
+        }
+        Step::Index(_) => {
+            let Some(element) = element_of(older) else {
+                return Next::Unfit;
+            };
+            let Some(other) = element_of(newer) else {
+                return Next::Unfit;
+            };
+            Next::To(At::Element {
+                older: element,
+                newer: other,
+            })
+        }
+    }
+}
+
+/// Where a step leads.
+fn into_at(versions: &Versions<'_>, step: &Step, at: At) -> Next
+    requires { AreIndexed versions.now }
+    ensures { (path : List ModelStep) (verb : ModelVerb) → into_at (schema_in versions.now.older) (schema_in versions.now.newer) (step_view step.now) (at_seen versions.now at) (goes_on versions.now path verb) ≡ next_seen versions.now result path verb }
+{
+    match at {
+        At::Group {
+            levels,
+            older,
+            newer,
+        } => match step {
+            Step::Name(name) => into_fields(versions, levels, older, newer, name.as_str()),
+            Step::Index(_) => Next::Unfit,
+        },
+        At::Slot { older, newer } => into_type(versions, step, older, newer),
+        At::Element { older, newer } => into_type(versions, step, older, newer),
+        At::Nowhere => Next::Unfit,
+    }
+}
+
+/// Whether the verb writes a group as a whole.
+fn is_group_write(verb: Verb) -> bool
+    ensures { result ≡ writes_group verb }
+{
+    matches!(verb, Verb::Set | Verb::Init | Verb::Clear)
+}
+
+fn is_set(verb: Verb) -> bool
+    ensures { result ≡ sets verb }
+{
+    matches!(verb, Verb::Set)
+}
+
+/// Whether a call that ends here is admitted.
+fn is_admitted_end(
+    alloc: Global,
+    versions: &Versions<'_>,
+    call: &Call,
+    at: At,
+) -> std::result::Result<bool, AllocError>
+    requires { AreIndexed versions.now }
+    ensures { IfOk result (λ b. b ≡ is_admitted_end (call_view call.now).verb (at_seen versions.now at)) }
+{
+    match at {
+        At::Group {
+            levels,
+            older,
+            newer,
+        } => {
+            if !is_group_write(call.verb()) {
+                return Ok(true);
+            }
+            Ok(!is_extended(alloc, versions, levels, older, newer)?)
+        }
+        At::Element { older, .. } => Ok(!is_set(call.verb()) || struct_id(older).is_none()),
+        At::Slot { .. } | At::Nowhere => Ok(true),
+    }
+}
+
+/// Whether a call is admitted from the two roots.
+fn is_admitted(
+    alloc: Global,
+    versions: &Versions<'_>,
+    older: u64,
+    newer: u64,
+    call: &Call,
+) -> std::result::Result<bool, AllocError>
+    requires { AreIndexed versions.now }
+    ensures { IfOk result (λ b. b ≡ is_admitted (schema_in versions.now.older) (schema_in versions.now.newer) older newer (call_view call.now)) }
+{
+    let mut at = At::Element {
+        older: struct_type(older),
+        newer: struct_type(newer),
+    };
+    let mut rest = call.path();
+    while let [step, more @ ..] = rest {
+        match into_at(versions, step, at) {
+            Next::Unknown => return Ok(false),
+            Next::Unfit => return Ok(true),
+            Next::To(next) => at = next,
+        }
+        rest = more;
+    }
+    is_admitted_end(alloc, versions, call, at)
+}
+
+fn struct_type(id: u64) -> TypeRecord
+    ensures { type_of (type_record_of result) ≡ struct id }
+{
+    TypeRecord {
+        list_count: 0,
+        base: BaseType::Struct(id),
+    }
+}
+
+/// Whether each call under the older schema is admitted beside the newer: it goes by fields that the older has, writes no
+/// group as a whole that the newer extends, and sets no list element of struct type. Takes time linear in the steps of the
+/// calls times the fields of the structs on their ways, and of the groups that they write. `OutOfMemory` is the one error.
+pub fn admitted(
+    alloc: Global,
+    calls: &[Call],
+    older: Root<'_>,
+    newer: Root<'_>,
+) -> Result<Admission>
+    ensures answer { IfOk result (IsAdmissionOf (is_admitted (schema_of (nodes_of older.entry.set.now)) (schema_of (nodes_of newer.entry.set.now)) older.entry.id newer.entry.id) (map call_view calls.now)) }
+    ensures refusal { IfErr result (λ e. e.kind ≡ OutOfMemory) }
+{
+    let versions = versions(alloc, older, newer)?;
+    for i in 0..calls.len() {
+        if !is_admitted(alloc, &versions, older.id, newer.id, &calls[i])? {
+            return Ok(Admission::Refused(i + 1));
+        }
+    }
+    Ok(Admission::Admitted)
+}

@@ -1,0 +1,87 @@
+//! Compatible schemas.
+
+ghost use Rattle.std.specs.Prelude.{◌≡◌, IfOk, IfErr};
+ghost use Rattle.std.specs.Bool.{MatchBool};
+ghost use Rattle.capnp_model.specs.Compatible.{IsCompatible};
+ghost use Rattle.capnp_model.specs.Accepted.{schema_of};
+ghost use Rattle.capnp_units.specs.declared.kinds.ErrorKind.TheVariants.{OutOfMemory};
+ghost use Rattle.capnp_records.specs.Sets.{nodes_of};
+ghost use Rattle.capnp_compatible.specs.Holders.{nodes_in};
+ghost use Rattle.capnp_compatible.specs.Walks.{AreIndexed, IsKeptFrom, are_alike};
+
+use crate::keeps::{Levels, Versions, keeps};
+use crate::nodes::Nodes;
+use crate::reached::Reached;
+use crate::root::Root;
+use capnp_units::errors::Result;
+use std::alloc::{AllocError, Global};
+
+/// The two versions.
+pub(crate) fn versions<'a>(
+    alloc: Global,
+    older: Root<'a>,
+    newer: Root<'a>,
+) -> std::result::Result<Versions<'a>, AllocError>
+    ensures index { IfOk result AreIndexed }
+    ensures older { IfOk result (λ v. nodes_in v.older ≡ nodes_of older.entry.set.now) }
+    ensures newer { IfOk result (λ v. nodes_in v.newer ≡ nodes_of newer.entry.set.now) }
+{
+    let first = Nodes::new(alloc, older.set.nodes())?;
+    let second = Nodes::new(alloc, newer.set.nodes())?;
+    Ok(Versions {
+        older: first,
+        newer: second,
+    })
+}
+
+/// Whether both hold or neither does.
+fn are_alike(older: bool, newer: bool) -> bool
+    ensures { result ≡ are_alike older newer }
+{
+    if older { newer } else { !newer }
+}
+
+/// Whether each pair that is reached from the roots is kept.
+fn all_kept(
+    alloc: Global,
+    versions: &Versions<'_>,
+    levels: Levels,
+    older: u64,
+    newer: u64,
+) -> std::result::Result<bool, AllocError>
+    requires { AreIndexed versions.now }
+    ensures { IfOk result (λ b. MatchBool b (IsKeptFrom versions.now levels older newer) (IsKeptFrom versions.now levels older newer → ⊥)) }
+{
+    let mut reached = Reached::new(alloc);
+    reached.reach(older, newer)?;
+    for i in 0..usize::MAX {
+        let Some((a, b)) = reached.pair(i) else {
+            return Ok(true);
+        };
+        if !keeps(versions, levels, a, b, &mut reached)? {
+            return Ok(false);
+        }
+    }
+    // No memory holds so many pairs.
+    Err(AllocError)
+}
+
+/// Whether the newer schema is compatible with the older from the two roots on: whatever is written under the older reads
+/// the same under the newer, field by field. Takes time linear in the pairs of structs that are reached times their fields.
+/// `OutOfMemory` is the one error.
+pub fn compatible(alloc: Global, older: Root<'_>, newer: Root<'_>) -> Result<bool>
+    ensures answer { IfOk result (λ b. MatchBool b
+        (IsCompatible (schema_of (nodes_of older.entry.set.now)) (schema_of (nodes_of newer.entry.set.now)) older.entry.id newer.entry.id)
+        (IsCompatible (schema_of (nodes_of older.entry.set.now)) (schema_of (nodes_of newer.entry.set.now)) older.entry.id newer.entry.id → ⊥)) }
+    ensures refusal { IfErr result (λ e. e.kind ≡ OutOfMemory) }
+{
+    let versions = versions(alloc, older, newer)?;
+    if !are_alike(
+        versions.older.is_group(older.id),
+        versions.newer.is_group(newer.id),
+    ) {
+        return Ok(false);
+    }
+    let levels = versions.levels();
+    Ok(all_kept(alloc, &versions, levels, older.id, newer.id)?)
+}

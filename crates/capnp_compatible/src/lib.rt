@@ -1,0 +1,14 @@
+//! Versions of schemas: whether a newer schema keeps an older one, and which calls under the older may be answered under the newer.
+#![tactic(auto)]
+
+pub mod admitted;
+pub mod compatible;
+mod defaults;
+mod extended;
+mod keeps;
+mod nodes;
+mod reached;
+pub mod root;
+#[cfg(test)]
+mod tests;
+mod types;
