@@ -1,0 +1,2 @@
+pub mod Types
+pub use Rattle.capnp_model.specs.Schemas
