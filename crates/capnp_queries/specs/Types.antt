@@ -1,11 +1,11 @@
 -- What contracts see of types. (Schema language, "Types")
-use Rattle.std.specs.Prelude.{ℕ, ◌+◌, ◌-◌, ◌^◌, ◌==◌, nat_lt, min, Bool, true, false, ◌&&◌, List}
-use Rattle.capnp_model.specs.Schemas.{PlainType, bool, int, uint, «enum», Ty, void, plain, text, blob, untyped, interface, struct, list, lists_of, Node}
+use Rattle.std.specs.Prelude.{ℕ, ◌+◌, ◌-◌, ◌^◌, min, Bool, true, false, List}
+use Rattle.capnp_model.specs.Schemas.{bool, int, uint, «enum», Ty, void, plain, text, blob, untyped, interface, struct, list, lists_of, Node}
 use Rattle.capnp_model.specs.Accepted.{is_enum_node}
 use Rattle.capnp_records.specs.Sets.{has_struct, is_at}
 use Rattle.capnp_queries.specs.declared.introspect.Base.{Base}
 use Rattle.capnp_queries.specs.declared.introspect.Base.TheVariants as B
-use Rattle.capnp_queries.specs.declared.introspect.Type.{Type as SchemaType}
+use Rattle.capnp_queries.specs.declared.introspect.«Type».{«Type» as SchemaType}
 use Rattle.capnp_queries.specs.declared.introspect.TypeVariant.{TypeVariant}
 use Rattle.capnp_queries.specs.declared.introspect.TypeVariant.TheVariants as V
 
@@ -81,26 +81,6 @@ abbrev pub is_pointer : Ty → Bool
 is_pointer void = false
 is_pointer (plain p) = false
 is_pointer ty = true
-
--- The same type of plain values.
-abbrev pub same_plain_type : PlainType → PlainType → Bool
-same_plain_type bool bool = true
-same_plain_type (int v) (int w) = v == w
-same_plain_type (uint v) (uint w) = v == w
-same_plain_type («enum» i) («enum» j) = i == j
-same_plain_type _ _ = false
-
--- The same type, structs and enums by their ids.
-abbrev pub same_type : Ty → Ty → Bool
-same_type void void = true
-same_type (plain p) (plain q) = same_plain_type p q
-same_type text text = true
-same_type blob blob = true
-same_type untyped untyped = true
-same_type interface interface = true
-same_type (struct i) (struct j) = i == j
-same_type (list t) (list u) = same_type t u
-same_type _ _ = false
 
 -- The struct or the enum that a type names, if it names one, is of the set of the nodes.
 abbrev pub is_base_of : List Node → Base → Bool

@@ -1,10 +1,10 @@
 //! Types as schemas name them.
 
-ghost use Rattle.std.specs.Prelude.{◌≡◌, ◌^◌, ◌-◌, ◌+◌, ◌<◌, List, Bool};
-ghost use Rattle.capnp_model.specs.Schemas.{Ty, list, void, plain, bool, int, uint, Node};
+ghost use Rattle.std.specs.Prelude.{◌≡◌, ◌^◌, ◌-◌, ◌+◌, ◌<◌};
+ghost use Rattle.capnp_model.specs.Schemas.{Ty, list, void, plain, bool, int, uint};
 ghost use Rattle.capnp_model.specs.Readings.{expected_size};
 ghost use Rattle.capnp_units.specs.Sizes.{size_number};
-ghost use Rattle.capnp_queries.specs.Types.{ty_of, ty_of_variant, type_of_variant, is_pointer, same_type, is_type_of};
+ghost use Rattle.capnp_queries.specs.Types.{ty_of, ty_of_variant, type_of_variant, is_pointer, is_type_of};
 
 use capnp_records::of_set::OfSet;
 use capnp_records::raw::{RawBrandedStructSchema, RawEnumSchema};
@@ -80,7 +80,8 @@ impl Type {
     pub fn list_of(element_type: Type) -> Type
         requires { element_type.list_count < 2 ^ 32 - 1 }
         ensures ty { ty_of result ≡ list (ty_of element_type) }
-        ensures variant { result ≡ type_of_variant (List element_type) }
+        ensures base { result.base ≡ element_type.base }
+        ensures count { result.list_count ≡ element_type.list_count + 1 }
     {
         Type {
             base: element_type.base,
@@ -155,7 +156,7 @@ impl Type {
 
     /// Whether the types are the same, structs and enums by their nodes' ids.
     pub fn loose_equals(&self, other: Type) -> bool
-        ensures { result ≡ same_type (ty_of self.now) (ty_of other) }
+        ensures { result ≡ ⟦<Type as PartialEq>⟧.eq self.now other }
     {
         *self == other
     }
