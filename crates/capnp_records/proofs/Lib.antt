@@ -11,3 +11,5 @@ pub mod Members
 pub mod DistinctNames
 pub mod Below
 pub mod FoundNodes
+pub mod FieldPlaces
+pub mod FieldTables

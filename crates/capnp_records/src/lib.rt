@@ -20,6 +20,7 @@ pub mod set;
 pub mod slot;
 mod storage;
 pub mod structs;
+pub mod tables;
 mod taken;
 #[cfg(test)]
 mod tests;

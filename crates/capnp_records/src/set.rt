@@ -1,30 +1,43 @@
 //! Sets of node records that keep the schema rules.
 
-ghost use Rattle.std.specs.Prelude.{◌≡◌, map};
+ghost use Rattle.std.specs.Prelude.{◌≡◌, ℕ, map, nat_eq};
+ghost use Rattle.std.specs.HashMap.{get};
 ghost use Rattle.std.proofs.Props.{props};
 ghost use Rattle.capnp_model.specs.Accepted.{IsAccepted};
 ghost use Rattle.capnp_records.specs.NodeViews.{node_of};
+ghost use Rattle.capnp_records.specs.Tables.{members_in, others_in, node_place};
 
 use crate::check::check;
 use crate::fault::SchemaFault;
-use crate::find::{find_place, is_struct};
+use crate::find::is_struct;
 use crate::node::{EnumerantRecord, NodeBody, NodeRecord, StructRecord};
 use crate::of_set::OfSet;
 use crate::raw::{RawBrandedStructSchema, RawEnumSchema};
+use crate::tables::{FieldTables, places_of, tables_of};
 use crate::taken::is_taken_node;
+use std::collections::HashMap;
 
 /// Node records that keep the schema rules.
 #[derive(Debug, Drop)]
 pub struct SchemaSet {
     nodes: Vec<NodeRecord>,
+    /// The place of the node of each id.
+    places: HashMap<u64, usize>,
+    /// The places of fields, node by node.
+    tables: Vec<FieldTables>,
     pub ghost accepted: { IsAccepted (map node_of nodes.items) } by { Prim.hlevel props },
+    pub ghost placed: { (id : ℕ) → get nat_eq places id ≡ node_place id 0 (map node_of nodes.items) } by { Prim.hlevel props },
+    pub ghost members: { map (λ t. t.members.items) tables.items ≡ map (λ n. members_in n.kind) (map node_of nodes.items) } by { Prim.hlevel props },
+    pub ghost others: { map (λ t. t.others.items) tables.items ≡ map (λ n. others_in n.kind) (map node_of nodes.items) } by { Prim.hlevel props },
 }
 
 impl SchemaSet {
-    ghost use Rattle.std.specs.Prelude.{◌≡◌, true, false, map, slice_get, Some, IfOk, IfErr, IfNone, IfSome};
+    ghost use Rattle.std.specs.Prelude.{◌≡◌, true, false, map, slice_get, Some, None, IfOk, IfErr, IfNone, IfSome};
     ghost use Rattle.capnp_model.specs.Accepted.{IsAccepted, is_struct_node, is_enum_node, find_node, names_a};
     ghost use Rattle.capnp_records.specs.NodeViews.{node_of, struct_of, enumerant_of};
     ghost use Rattle.capnp_records.specs.Faults.{IsRefusalOf};
+    ghost use Rattle.capnp_model.specs.Schemas.{StructNode};
+    ghost use Rattle.capnp_records.specs.Tables.{AreTablesOf};
     ghost use Rattle.capnp_records.specs.Sets.{nodes_of, is_plain_struct, has_struct, is_at, struct_found, enumerants_found, IsStructOf, IsPlainStructOf, IsNodeOf, IsEnumOf, IsRecordOf};
 
     /// The set of the nodes, where they keep the rules. The rules are tried by number, each over the nodes in order, and
@@ -36,7 +49,26 @@ impl SchemaSet {
     {
         let alloc = *nodes.allocator();
         check(alloc, &nodes)?;
-        Ok(SchemaSet { nodes })
+        let places = places_of(alloc, &nodes)?;
+        let tables = tables_of(alloc, &nodes)?;
+        Ok(SchemaSet {
+            nodes,
+            places,
+            tables,
+        })
+    }
+
+    /// The node of an id, with its place.
+    fn find(&self, id: u64) -> Option<(usize, &NodeRecord)>
+        ensures missing { IfNone result (find_node (nodes_of self.now) id ≡ None) }
+        ensures id { IfSome result (λ found. found.1.now.id ≡ id) }
+        ensures place { IfSome result (λ found. slice_get (nodes_of self.now) found.0 ≡ Some (node_of found.1.now)) }
+        ensures found { IfSome result (λ found. find_node (nodes_of self.now) id ≡ Some (node_of found.1.now)) }
+    {
+        let Some(place) = self.places.get(&id) else {
+            return None;
+        };
+        Some((*place, &self.nodes[*place]))
     }
 
     /// The struct of an id. A group is none.
@@ -45,7 +77,7 @@ impl SchemaSet {
         ensures id { IfSome result (λ raw. raw.id ≡ id) }
         ensures found { IfSome result (IsStructOf (nodes_of self.now)) }
     {
-        let Some((place, node)) = find_place(&self.nodes, id) else {
+        let Some((place, node)) = self.find(id) else {
             return None;
         };
         if !is_struct(node) {
@@ -61,7 +93,7 @@ impl SchemaSet {
         ensures id { IfSome result (λ raw. raw.id ≡ id) }
         ensures found { IfSome result (IsNodeOf (nodes_of self.now)) }
     {
-        let Some((place, node)) = find_place(&self.nodes, id) else {
+        let Some((place, node)) = self.find(id) else {
             return None;
         };
         match node.body {
@@ -79,7 +111,7 @@ impl SchemaSet {
         ensures id { IfSome result (λ raw. raw.id ≡ id) }
         ensures found { IfSome result (IsEnumOf (nodes_of self.now)) }
     {
-        let Some((place, node)) = find_place(&self.nodes, id) else {
+        let Some((place, node)) = self.find(id) else {
             return None;
         };
         match node.body {
@@ -108,6 +140,14 @@ impl SchemaSet {
             unreachable!()
         };
         record
+    }
+
+    /// The places of the fields of a struct or a group of this set.
+    pub fn field_tables(&self, raw: RawBrandedStructSchema) -> &FieldTables
+        requires { IsNodeOf (nodes_of self.now) raw }
+        ensures { (s : StructNode) → struct_found (nodes_of self.now) raw.id ≡ Some s → AreTablesOf s result.now }
+    {
+        &self.tables[raw.number as usize]
     }
 
     /// The node of an enum of this set.
@@ -156,7 +196,7 @@ impl SchemaSet {
         ensures id { IfSome result (λ raw. raw.id ≡ id) }
         ensures found { IfSome result (IsPlainStructOf (nodes_of self.now)) }
     {
-        let Some((place, node)) = find_place(&self.nodes, id) else {
+        let Some((place, node)) = self.find(id) else {
             return None;
         };
         if !is_struct(node) || !is_taken_node(node) {
