@@ -1,5 +1,5 @@
 -- What is known of the nodes of an accepted set.
-use Rattle.std.proofs.Common.{◌≡◌, ℕ, zero, suc, ◌+◌, ◌<◌, ◌≤◌, nat_lt, nat_le, ◌^◌, Bool, true, false, not, ◌&&◌, Option, Some, None, option_map, List, [], ◌∷◌, ◌++◌, map, length, get_or, slice_get, refl, sym, ◌∙◌, ap, subst, arith}
+use Rattle.std.proofs.Common.{◌≡◌, ℕ, zero, suc, ◌+◌, ◌<◌, ◌≤◌, nat_lt, nat_le, ◌^◌, Bool, true, false, not, ◌&&◌, Option, Some, None, option_map, List, [], ◌∷◌, ◌++◌, map, length, drop, get_or, slice_get, refl, sym, ◌∙◌, ap, subst, arith}
 use Rattle.std.specs.List.{list_all, flat_map}
 use Rattle.std.proofs.lemmas.List.Folds.{list_all-append}
 use Rattle.std.proofs.lemmas.Bool.Decides.{nat_tests}
@@ -10,7 +10,7 @@ use Rattle.capnp_model.proofs.KeptRules.{and_left, and_right, found_passes}
 use Rattle.capnp_model.proofs.SoundRules.{rules_kept, found_id}
 use Rattle.capnp_records.specs.Sets.{has_struct, struct_in, struct_found, enumerants_in, enumerants_found}
 use Rattle.capnp_records.proofs.ListTests.{list_all-flat_map}
-use Rattle.capnp_queries.specs.Fields.{Entry, field_at, field_count, shape_id, entry_in, names_kind, are_named, is_named}
+use Rattle.capnp_queries.specs.Fields.{Entry, field_at, field_count, shape_id, entry_in, names_kind, are_named, are_few, is_named}
 use Rattle.capnp_queries.specs.Structs.{IsRecordOf}
 use Rattle.capnp_queries.proofs.Shapes.{shape_fixed}
 
@@ -26,6 +26,10 @@ entry_from groups [] zero = refl
 entry_from groups [] (suc i) = refl
 entry_from groups (f ∷ fs) zero = refl
 entry_from groups (f ∷ fs) (suc i) = entry_from groups fs i
+
+pub length_map : {A B : Type 0} (f : A → B) (xs : List A) → length (map f xs) ≡ length xs
+length_map f [] = refl
+length_map f (x ∷ xs) = let h = length_map f xs in omega (arith, h)
 
 -- ---- tests of parts
 
@@ -104,8 +108,9 @@ fields_named : (nodes : List Node) (fs : List Field)
     → list_all (λ t. names_its_sort nodes t.base) (flat_map (λ f. slot_types f.kind) fs) ≡ true
     → list_all (names_a is_group_node nodes) (flat_map (λ f. groups_of_field f.kind) fs) ≡ true
     → list_all (list_all (λ a. names_its_sort nodes a.type.base)) (map (λ f. f.annotations) fs) ≡ true
+    → list_all are_few (map (λ f. f.annotations) fs) ≡ true
     → list_all (is_named nodes) fs ≡ true
-fields_named nodes fs types groups annotations =
+fields_named nodes fs types groups annotations few =
     let p = λ (t : TypeRecord). names_its_sort nodes t.base in
     let g = names_a is_group_node nodes in
     let each = sym (list_all-flat_map p (λ (f : Field). slot_types f.kind) fs) ∙ types in
@@ -114,7 +119,8 @@ fields_named nodes fs types groups annotations =
     all_mono (λ (f : Field). list_all p (slot_types f.kind) && list_all g (groups_of_field f.kind)) (λ f. names_kind nodes f.kind)
     (λ f h. kind_named nodes f.kind (and_left (list_all p (slot_types f.kind)) (list_all g (groups_of_field f.kind)) h) (and_right (list_all p (slot_types f.kind)) (list_all g (groups_of_field f.kind)) h))
     fs (all_both (λ (f : Field). list_all p (slot_types f.kind)) (λ f. list_all g (groups_of_field f.kind)) fs each each_group) in
-    all_both (λ (f : Field). names_kind nodes f.kind) (λ f. are_named nodes f.annotations) fs kinds (sym (all_map (are_named nodes) (λ (f : Field). f.annotations) fs) ∙ annotations)
+    all_both (λ (f : Field). names_kind nodes f.kind) (λ f. are_named nodes f.annotations && are_few f.annotations) fs kinds
+    (all_both (λ (f : Field). are_named nodes f.annotations) (λ f. are_few f.annotations) fs (sym (all_map (are_named nodes) (λ (f : Field). f.annotations) fs) ∙ annotations) (sym (all_map are_few (λ (f : Field). f.annotations) fs) ∙ few))
 
 -- the annotations of a node, those of its fields and those of its enumerants
 record NamedParts (nodes : List Node) (n : Node) : Type 0 where
@@ -151,6 +157,26 @@ named_parts nodes accepted id n e =
       groups = and_right (list_all p (types_in n)) (list_all (names_a is_group_node nodes) (groups_used n)) ids;
     }
 
+-- the annotations of a node, of each of its fields and of each of its enumerants are few
+record FewParts (n : Node) : Type 0 where
+  pub own : are_few n.annotations ≡ true
+  pub fields : list_all are_few (map (λ f. f.annotations) (fields_of_kind n.kind)) ≡ true
+  pub enumerants : list_all are_few (map (λ e. e.annotations) (enumerants_of_kind n.kind)) ≡ true
+
+few_parts : (nodes : List Node) → IsAccepted nodes → (id : ℕ) (n : Node) → find_node nodes id ≡ Some n → FewParts n
+few_parts nodes accepted id n e =
+    let r = rules_kept nodes accepted in
+    let short = found_passes is_short nodes id n r.short e in
+    let all = and_right (nat_le (length (names_of_kind n.kind)) 65535) (list_all are_few (annotation_lists n)) short in
+    let fs = map (λ (f : Field). f.annotations) (fields_of_kind n.kind) in
+    let es = map (λ (x : Enumerant). x.annotations) (enumerants_of_kind n.kind) in
+    let rest : (list_all are_few fs && list_all are_few es) ≡ true = sym (list_all-append are_few fs es) ∙ and_right (are_few n.annotations) (list_all are_few (fs ++ es)) all in
+    record {
+      own = and_left (are_few n.annotations) (list_all are_few (fs ++ es)) all;
+      fields = and_left (list_all are_few fs) (list_all are_few es) rest;
+      enumerants = and_right (list_all are_few fs) (list_all are_few es) rest;
+    }
+
 -- what an accepted set has said of a struct
 pub record_known : (nodes : List Node) → IsAccepted nodes → (id : ℕ) (s : StructNode) → struct_found nodes id ≡ Some s → IsRecordOf nodes id s
 unfolding schema_of
@@ -168,11 +194,37 @@ record_known nodes accepted id s h =
       named = fields_named nodes s.fields
       (ap (λ fs. list_all (λ t. names_its_sort nodes t.base) (flat_map (λ g. slot_types g.kind) fs)) (sym fields) ∙ parts.types)
       (ap (λ fs. list_all (names_a is_group_node nodes) (flat_map (λ g. groups_of_field g.kind) fs)) (sym fields) ∙ parts.groups)
-      (ap (λ fs. list_all (list_all (λ a. names_its_sort nodes a.type.base)) (map (λ g. g.annotations) fs)) (sym fields) ∙ parts.fields);
+      (ap (λ fs. list_all (list_all (λ a. names_its_sort nodes a.type.base)) (map (λ g. g.annotations) fs)) (sym fields) ∙ parts.fields)
+      (ap (λ fs. list_all are_few (map (λ g. g.annotations) fs)) (sym fields) ∙ (few_parts nodes accepted id f.node f.found).fields);
     }
 
-pub node_named : (nodes : List Node) → IsAccepted nodes → (id : ℕ) (n : Node) → find_node nodes id ≡ Some n → are_named nodes n.annotations ≡ true
-node_named nodes accepted id n e = (named_parts nodes accepted id n e).own
+pub node_named : (nodes : List Node) → IsAccepted nodes → (id : ℕ) (n : Node) → find_node nodes id ≡ Some n → (are_named nodes n.annotations ≡ true) × (are_few n.annotations ≡ true)
+node_named nodes accepted id n e = ((named_parts nodes accepted id n e).own, (few_parts nodes accepted id n e).own)
+
+-- what the annotations of an enum's enumerants name is there, and they are few
+pub enumerants_named : (nodes : List Node) → IsAccepted nodes → (id : ℕ) (es : List Enumerant) → enumerants_found nodes id ≡ Some es → (list_all (λ e. are_named nodes e.annotations && are_few e.annotations) es ≡ true) × (length es ≤ 65535)
+enumerants_named nodes accepted id es h = by (find_node nodes id) refl h
+  where
+    by_kind : (n : Node) → find_node nodes id ≡ Some n → (k : NodeKind) → n.kind ≡ k → enumerants_in k ≡ Some es → (list_all (λ e. are_named nodes e.annotations && are_few e.annotations) es ≡ true) × (length es ≤ 65535)
+    by_kind n e (struct_node s) q g = absurd (cc g)
+    by_kind n e (enum_node xs) q g =
+        let is : xs ≡ es = cc g in
+        let here : enumerants_of_kind n.kind ≡ es = ap enumerants_of_kind q ∙ is in
+        let named = (named_parts nodes accepted id n e).enumerants in
+        let few = (few_parts nodes accepted id n e).enumerants in
+        let r = rules_kept nodes accepted in
+        let short = and_left (nat_le (length (names_of_kind n.kind)) 65535) (list_all are_few (annotation_lists n)) (found_passes is_short nodes id n r.short e) in
+        let names : nat_le (length (map (λ (x : Enumerant). x.name) es)) 65535 ≡ true = ap (λ k. nat_le (length (names_of_kind k)) 65535) (sym (q ∙ ap enum_node is)) ∙ short in
+        let long = length_map (λ (x : Enumerant). x.name) es in (
+          all_both (λ (x : Enumerant). are_named nodes x.annotations) (λ x. are_few x.annotations) es
+          (sym (all_map (are_named nodes) (λ (x : Enumerant). x.annotations) es) ∙ ap (λ xs. list_all (are_named nodes) (map (λ (x : Enumerant). x.annotations) xs)) (sym here) ∙ named)
+          (sym (all_map are_few (λ (x : Enumerant). x.annotations) es) ∙ ap (λ xs. list_all are_few (map (λ (x : Enumerant). x.annotations) xs)) (sym here) ∙ few),
+          grind (arith, nat_tests),
+        )
+
+    by : (o : Option Node) → find_node nodes id ≡ o → (elim o as (λ (p : Option Node). Option (List Enumerant)) [ None ↦ None | Some n ↦ enumerants_in n.kind ]) ≡ Some es → (list_all (λ e. are_named nodes e.annotations && are_few e.annotations) es ≡ true) × (length es ≤ 65535)
+    by None e g = absurd (cc g)
+    by (Some n) e g = by_kind n e n.kind refl g
 
 -- a group's shape has the group's id
 pub group_id : (nodes : List Node) → IsAccepted nodes → (id : ℕ) → names_a has_struct nodes id ≡ true → shape_id ((schema_of nodes).shape_of id) ≡ id
@@ -193,10 +245,6 @@ group_id nodes accepted id h = ap shape_id (shape_fixed nodes accepted id) ∙ b
 pub count_is : (nodes : List Node) (id : ℕ) (s : StructNode) → IsRecordOf nodes id s → field_count (fields_in ((schema_of nodes).shape_of id)) ≡ length s.fields
 count_is nodes id s r = ap (λ g. field_count (fields_in g)) r.shape ∙ count_from (schema_of nodes).shape_of s.fields
 
-pub length_map : {A B : Type 0} (f : A → B) (xs : List A) → length (map f xs) ≡ length xs
-length_map f [] = refl
-length_map f (x ∷ xs) = let h = length_map f xs in omega (arith, h)
-
 pub is_group_struct : (nodes : List Node) (id : ℕ) → names_a is_group_node nodes id ≡ true → names_a has_struct nodes id ≡ true
 is_group_struct nodes id h = by (find_node nodes id) h
   where
@@ -207,3 +255,25 @@ is_group_struct nodes id h = by (find_node nodes id) h
     by : (o : Option Node) → (elim o as (λ (x : Option Node). Bool) [ None ↦ false | Some n ↦ is_group_node n ]) ≡ true → (elim o as (λ (x : Option Node). Bool) [ None ↦ false | Some n ↦ has_struct n ]) ≡ true
     by None e = e
     by (Some n) e = by_kind n.kind e
+
+few_is : {A B : Type 0} (f : A → B) (xs : List A) → nat_lt (length (map f xs)) (2 ^ 29) ≡ true → length xs < 536870912
+few_is f xs h = let same = length_map f xs in grind (arith, nat_tests)
+
+pub few_annotations : {A : Type 0} (f : A → Annotation) (xs : List A) → are_few (map f xs) ≡ true → length xs < 536870912
+few_annotations f xs h = few_is f xs h
+
+pub item_passes : {A B : Type 0} (f : A → B) (test : B → Bool) (xs : List A) (i : ℕ) (d : A) → i < length xs → list_all test (map f xs) ≡ true → test (f (get_or xs i d)) ≡ true
+item_passes f test [] i d lt h = absurd (omega arith)
+item_passes f test (y ∷ ys) zero d lt h = and_left (test (f y)) (list_all test (map f ys)) h
+item_passes f test (y ∷ ys) (suc i) d lt h = item_passes f test ys i d (omega arith) (and_right (test (f y)) (list_all test (map f ys)) h)
+
+pub item_there : {A : Type 0} (xs : List A) (i : ℕ) (d : A) → i < length xs → slice_get xs i ≡ Some (get_or xs i d)
+item_there [] i d lt = absurd (omega arith)
+item_there (y ∷ ys) zero d lt = refl
+item_there (y ∷ ys) (suc i) d lt = item_there ys i d (omega arith)
+
+pub rest_from : {A : Type 0} (xs : List A) (i : ℕ) (x : A) → slice_get xs i ≡ Some x → drop i xs ≡ x ∷ drop (i + 1) xs
+rest_from [] zero x h = absurd (cc h)
+rest_from [] (suc i) x h = absurd (cc h)
+rest_from (y ∷ ys) zero x h = let is : y ≡ x = cc h in ap (λ z. z ∷ ys) is
+rest_from (y ∷ ys) (suc i) x h = let next : suc (i + 1) ≡ suc i + 1 = omega arith in rest_from ys i x h ∙ ap (λ k. x ∷ drop k (y ∷ ys)) next
