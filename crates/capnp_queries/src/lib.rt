@@ -10,3 +10,5 @@ mod named;
 pub mod slots;
 pub mod structs;
 pub mod subsets;
+#[cfg(test)]
+mod tests;
