@@ -10,3 +10,6 @@ pub mod Marked
 pub mod Members
 pub mod DistinctNames
 pub mod Below
+pub mod FoundNodes
+pub mod FieldPlaces
+pub mod FieldTables

@@ -9,6 +9,7 @@ pub mod Levels
 pub mod Segments
 pub mod Slots
 pub mod Structs
+pub mod Tables
 pub use Rattle.capnp_model.specs.Schemas
 pub use Rattle.capnp_model.specs.Printing
 pub use Rattle.capnp_model.specs.Steps

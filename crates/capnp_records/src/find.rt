@@ -1,6 +1,6 @@
 //! Nodes by their ids.
 
-ghost use Rattle.std.specs.Prelude.{◌≡◌, ◌==◌, None, Some, map, slice_get, option_map, option_copied, IfNone, IfSome};
+ghost use Rattle.std.specs.Prelude.{◌≡◌, ◌==◌, None, Some, map, option_map, option_copied};
 ghost use Rattle.std.specs.List.{list_any};
 ghost use Rattle.capnp_model.specs.Accepted.{find_node, is_group_node, is_struct_node, is_enum_node, names_a};
 ghost use Rattle.capnp_records.specs.NodeViews.{node_of};
@@ -17,22 +17,6 @@ pub(crate) fn find_node(nodes: &[NodeRecord], id: u64) -> Option<&NodeRecord>
             return Some(first);
         }
         rest = others;
-    }
-    None
-}
-
-/// The first node of an id, with its place.
-pub(crate) fn find_place(nodes: &[NodeRecord], id: u64) -> Option<(usize, &NodeRecord)>
-    ensures missing { IfNone result (find_node (map node_of nodes.now) id ≡ None) }
-    ensures id { IfSome result (λ found. found.1.now.id ≡ id) }
-    ensures place { IfSome result (λ found. slice_get (map node_of nodes.now) found.0 ≡ Some (node_of found.1.now)) }
-    ensures found { IfSome result (λ found. find_node (map node_of nodes.now) id ≡ Some (node_of found.1.now)) }
-{
-    for i in 0..nodes.len() {
-        let node = &nodes[i];
-        if node.id == id {
-            return Some((i, node));
-        }
     }
     None
 }

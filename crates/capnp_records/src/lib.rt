@@ -10,6 +10,7 @@ mod groups;
 mod marks;
 mod names;
 pub mod node;
+pub mod of_set;
 mod overlap;
 mod parts;
 mod places;
@@ -19,6 +20,7 @@ pub mod set;
 pub mod slot;
 mod storage;
 pub mod structs;
+pub mod tables;
 mod taken;
 #[cfg(test)]
 mod tests;

@@ -1,0 +1,10 @@
+pub mod Types
+pub mod Fields
+pub mod Structs
+pub mod Handles
+pub mod Names
+pub mod Enums
+pub mod Ordinals
+pub mod Annotations
+pub use Rattle.capnp_model.specs.Schemas
+pub use Rattle.capnp_model.specs.Accepted
