@@ -2,4 +2,6 @@
 #![tactic(auto)]
 
 pub mod data;
+#[cfg(test)]
+mod tests;
 pub mod text;

@@ -3,11 +3,13 @@
 //! On the wire a text ends with a zero byte, which isn't part of it; here it is left out. (Encoding, "Blobs")
 ghost use Rattle.std.specs.Prelude.{◌≡◌, ◌+◌, ◌<◌, ◌≤◌, ◌==◌, ◌++◌, length, take, drop, replicate, slice_set, nat_eq, IfOk, string_bytes};
 ghost use Rattle.std.specs.Ordering.{nat_cmp};
-ghost use Rattle.std.specs.Cmp.Lexicographic.{pointwise, slice_cmp};
+ghost use Rattle.std.specs.Cmp.{partial_equiv_from_equiv, on_per};
+ghost use Rattle.std.specs.Cmp.Lexicographic.{pointwise, slice_cmp, nat_list_eq_equiv};
 ghost use Rattle.capnp_text.specs.Texts.{IsText, IsTextIfAny};
 
 use std::alloc::{AllocError, Global};
 use std::cmp::Ordering;
+use std::fmt;
 use std::str::Utf8Error;
 
 /// The type of texts.
@@ -37,7 +39,8 @@ impl<'a> Reader<'a> {
     pub fn as_bytes(self) -> &'a [u8]
         ensures { result.now ≡ self.entry.0.now }
     {
-        self.0
+        let Reader(bytes) = self;
+        bytes
     }
 
     /// The text as a `str`. It is refused where the bytes aren't UTF-8.
@@ -72,6 +75,17 @@ impl<'a> Reader<'a> {
     }
 }
 
+/// Writes a text as Rust does, between quotes, and the bytes of one that isn't UTF-8.
+impl fmt::Debug for Reader<'_> {
+    fn fmt<W: fmt::Write>(&self, f: &mut fmt::Formatter<W>) -> fmt::Result {
+        let bytes = self.0;
+        match std::str::from_utf8(bytes) {
+            Ok(text) => write!(f, "{text:?}"),
+            Err(_) => write!(f, "<invalid utf-8: {bytes:?}>"),
+        }
+    }
+}
+
 impl<'a> From<&'a str> for Reader<'a> {
     ghost from_gives = { λ text r. r.0.now ≡ text.now };
 
@@ -92,7 +106,7 @@ impl<'a, const N: usize> From<&'a [u8; N]> for Reader<'a> {
     ghost from_gives = { λ bytes r. r.0.now ≡ bytes.now };
 
     fn from(value: &'a [u8; N]) -> Self {
-        Reader(value)
+        Reader(value.as_slice())
     }
 }
 
@@ -150,8 +164,7 @@ impl<'a> Builder<'a> {
     pub fn as_bytes(self) -> &'a [u8]
         ensures { result.now ≡ self.entry.bytes.now }
     {
-        let bytes = self.bytes;
-        bytes
+        self.into_reader().as_bytes()
     }
 
     /// The text as a `str`. It is refused where the bytes aren't UTF-8.
@@ -173,7 +186,8 @@ impl<'a> Builder<'a> {
         ensures same { result.ghost_name ≡ self.entry.bytes.ghost_name }
         ensures bytes { result.now ≡ self.entry.bytes.now }
     {
-        self.bytes
+        let Builder { bytes, .. } = self;
+        bytes
     }
 
     /// Writes a character of ASCII at the position, and goes on behind it. There must be a byte left for it.
@@ -217,7 +231,7 @@ impl<'a> Builder<'a> {
     {
         let pos = self.pos;
         let bytes = &mut *self.bytes;
-        Builder { bytes, pos }
+        Builder::with_pos(bytes, pos)
     }
 
     /// The text, to read.
@@ -233,5 +247,26 @@ impl<'a> Builder<'a> {
         ensures { result.0.now ≡ self.now.bytes.now }
     {
         Reader(self.bytes)
+    }
+}
+
+/// Texts to write compare by their bytes, wherever they go on.
+impl PartialEq for Builder<'_> {
+    ghost eq = { λ x y. pointwise nat_eq x.bytes.now y.bytes.now };
+
+    ghost laws = { on_per (λ b. b.bytes.now) (partial_equiv_from_equiv nat_list_eq_equiv) };
+
+    fn eq(&self, other: &Self) -> bool {
+        *self.bytes == *other.bytes
+    }
+}
+
+/// Writes a text as Rust does, between quotes.
+impl fmt::Debug for Builder<'_> {
+    fn fmt<W: fmt::Write>(&self, f: &mut fmt::Formatter<W>) -> fmt::Result {
+        match std::str::from_utf8(self.bytes) {
+            Ok(text) => write!(f, "{text:?}"),
+            Err(_) => f.write_str("<invalid utf-8>"),
+        }
     }
 }
