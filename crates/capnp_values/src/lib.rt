@@ -1,0 +1,6 @@
+//! Values whose type is known at run time: what they are read as, and their text.
+#![tactic(auto)]
+
+mod defaults;
+mod single;
+mod source;
