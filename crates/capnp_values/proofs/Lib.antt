@@ -1,3 +1,4 @@
+pub mod Bits
 pub mod TextLemmas
 pub mod TwoBlanks
 pub mod Unlimited

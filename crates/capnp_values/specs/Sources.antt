@@ -1,5 +1,9 @@
 -- What dynamic readers stand on.
-use Rattle.std.specs.Prelude.{ℕ, ◌/◌, List, [], ◌∷◌, length, replicate, true, false, Option, Some, Result}
+use Rattle.std.specs.Prelude.{ℕ, ◌/◌, List, [], ◌∷◌, length, replicate, true, false, bit_xor, Option, Some, None, Result, ◌≡◌}
+use Rattle.capnp_units.specs.declared.errors.Error.{Error}
+use Rattle.capnp_units.specs.declared.limiter.ReadLimiter.{ReadLimiter}
+use Rattle.capnp_units.specs.Limits.{left_of}
+use Rattle.capnp_model.specs.Readings.{field_bits, just_bits}
 use Rattle.std.specs.Simd.{first_chunks}
 use Rattle.capnp_model.specs.Kinds.{Kind}
 use Rattle.capnp_model.specs.Chains.{◌and_then◌}
@@ -46,3 +50,11 @@ struct_seen bytes (structure.Default s) = seen_struct default_segments s
 abbrev pub list_seen : {A : Type 0} → (A → List (List ℕ)) → ListSource A → ListView
 list_seen bytes (list.Message l) = seen_list bytes l
 list_seen bytes (list.Default l) = seen_list default_segments l
+
+-- The bits of a field of a struct, exclusive or those of its default; outside the section there are zeros.
+abbrev pub masked_bits : StructView → ℕ → ℕ → ℕ → ℕ
+masked_bits v at width default = bit_xor (field_bits (just_bits v.bits) v.section at width) default
+
+-- What a call answers that has a budget without a limit.
+abbrev pub WithoutLimit : {X : Type 0} → (ReadLimiter → Result X Error → ReadLimiter → Type 0) → Result X Error → Type 0
+WithoutLimit gives result = (old : ReadLimiter) × (new : ReadLimiter) × (left_of old ≡ None) × gives old result new

@@ -1,17 +1,17 @@
 //! What dynamic readers stand on: a message, or a default value.
-ghost use Rattle.std.specs.Prelude.{◌≡◌, ◌≢◌, ◌<◌, ◌==◌, ◌*◌, bit_xor, IfOk};
-ghost use Rattle.capnp_model.specs.Readings.{field_bits, just_bits};
+ghost use Rattle.std.specs.Prelude.{◌≡◌, ◌≢◌, ◌<◌, ◌==◌, ◌*◌, ◌^◌, IfOk};
 ghost use Rattle.capnp_object.specs.Places.{seen};
 ghost use Rattle.capnp_units.specs.Sizes.{size_number};
 ghost use Rattle.capnp_wire.specs.Views.{seen_pointer, seen_struct, seen_list, pointer_field, element_of, element_number, bit_of_bool};
 ghost use Rattle.capnp_wire.specs.Reads.{is_null, read_struct, read_list, read_blob, read_text};
-ghost use Rattle.capnp_values.specs.Sources.{read_behind, pointer_seen, struct_seen, list_seen, default_segments};
+ghost use Rattle.capnp_wire.specs.ValueSizes.{PointerSize, StructSizeOf};
+ghost use Rattle.capnp_values.specs.Sources.{read_behind, pointer_seen, struct_seen, list_seen, default_segments, WithoutLimit, masked_bits};
 
 use crate::defaults::Defaults;
 use capnp_units::errors::Result;
 use capnp_units::limiter::ReadLimiter;
 use capnp_units::primitive::{Mask, Primitive, Zero};
-use capnp_units::sizes::ElementSize;
+use capnp_units::sizes::{ElementSize, MessageSize};
 use capnp_wire::arena::ReaderArena;
 use capnp_wire::element::PrimitiveElement;
 use capnp_wire::list::ListReader;
@@ -77,6 +77,35 @@ fn list_behind<'a, A: ReaderArena>(
     pointer.get_list(&mut unlimited, expected, None)
 }
 
+fn size_behind<A: ReaderArena>(pointer: &PointerReader<'_, A>) -> Result<MessageSize>
+    ensures { WithoutLimit (PointerSize (seen_pointer A.segments pointer.now)) result }
+{
+    let mut unlimited = ReadLimiter::new(None);
+    pointer.total_size(&mut unlimited)
+}
+
+fn size_of_struct<A: ReaderArena>(reader: &StructReader<'_, A>) -> Result<MessageSize>
+    ensures { WithoutLimit (StructSizeOf (seen_struct A.segments reader.now)) result }
+{
+    let mut unlimited = ReadLimiter::new(None);
+    reader.total_size(&mut unlimited)
+}
+
+// ---- numbers of a struct
+
+fn number_of<T: Primitive + Zero + Mask, A: ReaderArena>(
+    reader: &StructReader<'_, A>,
+    offset: usize,
+    mask: T::T,
+) -> T
+    requires { T.mask_bits mask < 2 ^ (8 * T.BYTES) }
+    ensures { T.bits result ≡ masked_bits (seen_struct A.segments reader.now) (8 * (T.BYTES * offset)) (8 * T.BYTES) (T.mask_bits mask) }
+{
+    reader.get_data_field_mask::<T>(offset, mask)
+}
+
+// ---- sources
+
 impl<'a, A: ReaderArena> PointerSource<'a, A> {
     /// Whether the pointer is null.
     pub(crate) fn is_null(&self) -> bool
@@ -85,6 +114,16 @@ impl<'a, A: ReaderArena> PointerSource<'a, A> {
         match self {
             PointerSource::Message(pointer) => pointer.is_null(),
             PointerSource::Default(pointer) => pointer.is_null(),
+        }
+    }
+
+    /// The size of the pointer's value.
+    pub(crate) fn total_size(&self) -> Result<MessageSize>
+        ensures { WithoutLimit (PointerSize (pointer_seen A.segments self.now)) result }
+    {
+        match self {
+            PointerSource::Message(pointer) => size_behind(pointer),
+            PointerSource::Default(pointer) => size_behind(pointer),
         }
     }
 
@@ -133,17 +172,28 @@ impl<'a, A: ReaderArena> PointerSource<'a, A> {
 impl<'a, A: ReaderArena> StructSource<'a, A> {
     /// A number of the data section, exclusive or its default; just the default where it doesn't lie wholly in the section.
     pub(crate) fn number<T: Primitive + Zero + Mask>(&self, offset: usize, mask: T::T) -> T
-        ensures { let s = struct_seen A.segments self.now in result ≡ T.from_bits (bit_xor (field_bits (just_bits s.bits) s.section (8 * (T.BYTES * offset)) (8 * T.BYTES)) (T.mask_bits mask)) }
+        requires { T.mask_bits mask < 2 ^ (8 * T.BYTES) }
+        ensures { T.bits result ≡ masked_bits (struct_seen A.segments self.now) (8 * (T.BYTES * offset)) (8 * T.BYTES) (T.mask_bits mask) }
     {
         match self {
-            StructSource::Message(reader) => reader.get_data_field_mask::<T>(offset, mask),
-            StructSource::Default(reader) => reader.get_data_field_mask::<T>(offset, mask),
+            StructSource::Message(reader) => number_of(reader, offset, mask),
+            StructSource::Default(reader) => number_of(reader, offset, mask),
+        }
+    }
+
+    /// The size of the struct: its sections and the objects behind its pointers.
+    pub(crate) fn total_size(&self) -> Result<MessageSize>
+        ensures { WithoutLimit (StructSizeOf (struct_seen A.segments self.now)) result }
+    {
+        match self {
+            StructSource::Message(reader) => size_of_struct(reader),
+            StructSource::Default(reader) => size_of_struct(reader),
         }
     }
 
     /// A bit of the data section, exclusive or its default.
     pub(crate) fn bit(&self, offset: usize, mask: bool) -> bool
-        ensures { let s = struct_seen A.segments self.now in result ≡ (bit_xor (field_bits (just_bits s.bits) s.section offset 1) (bit_of_bool mask) == 1) }
+        ensures { result ≡ (masked_bits (struct_seen A.segments self.now) offset 1 (bit_of_bool mask) == 1) }
     {
         match self {
             StructSource::Message(reader) => reader.get_bool_field_mask(offset, mask),
