@@ -10,3 +10,4 @@ pub mod Marked
 pub mod Members
 pub mod DistinctNames
 pub mod Below
+pub mod FoundNodes

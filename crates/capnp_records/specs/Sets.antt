@@ -1,13 +1,14 @@
 -- What contracts see of schema sets.
-use Rattle.std.specs.Prelude.{ℕ, Bool, ◌≡◌, true, false, ◌&&◌, ◌==◌, Some, None, slice_get, List, map}
+use Rattle.std.specs.Prelude.{ℕ, Bool, ◌≡◌, true, false, ◌&&◌, ◌==◌, Option, Some, None, slice_get, List, map}
 use Rattle.std.specs.List.{list_all}
-use Rattle.capnp_model.specs.Schemas.{Node, shape}
-use Rattle.capnp_model.specs.Accepted.{is_struct_node, schema_of, no_shape, fields_from, has_places}
+use Rattle.capnp_model.specs.Schemas.{Enumerant, StructNode, NodeKind, struct_node, enum_node, Node, shape}
+use Rattle.capnp_model.specs.Accepted.{find_node, is_struct_node, is_enum_node, schema_of, no_shape, fields_from, has_places}
 use Rattle.capnp_records.specs.NodeViews.{node_of, field_of, struct_of}
 use Rattle.capnp_records.specs.Taken.{is_taken_field, is_taken_node}
 use Rattle.capnp_records.specs.declared.node.StructRecord.{StructRecord}
 use Rattle.capnp_records.specs.declared.set.SchemaSet.{SchemaSet}
 use Rattle.capnp_records.specs.declared.raw.RawBrandedStructSchema.{RawBrandedStructSchema}
+use Rattle.capnp_records.specs.declared.raw.RawEnumSchema.{RawEnumSchema}
 
 -- The nodes of a set.
 abbrev pub nodes_of : SchemaSet → List Node
@@ -31,3 +32,37 @@ pub record IsRecordOf (nodes : List Node) (id : ℕ) (r : StructRecord) : Type 0
   pub shape : (schema_of nodes).shape_of id ≡ shape id r.data_word_count r.pointer_count None (fields_from (λ g. no_shape) (map field_of r.fields.items))
   pub taken : list_all is_taken_field (map field_of r.fields.items) ≡ true
   pub places : has_places (struct_of r) ≡ true
+
+-- A struct or a group.
+abbrev pub has_struct : Node → Bool
+has_struct n = elim n.kind [ struct_node s ↦ true | enum_node es ↦ false ]
+
+-- At a place stands the node of an id, and it passes the test.
+abbrev pub is_at : (Node → Bool) → List Node → ℕ → ℕ → Bool
+is_at test nodes number id = elim (slice_get nodes number) [ None ↦ false | Some n ↦ n.id == id && test n ]
+
+-- At the raw schema's place stands the struct or the group of its id.
+abbrev pub IsNodeOf : List Node → RawBrandedStructSchema → Type 0
+IsNodeOf nodes raw = is_at has_struct nodes raw.number raw.id ≡ true
+
+-- At the raw schema's place stands the enum of its id.
+abbrev pub IsEnumOf : List Node → RawEnumSchema → Type 0
+IsEnumOf nodes raw = is_at is_enum_node nodes raw.number raw.id ≡ true
+
+-- What a node says of a struct or a group.
+abbrev pub struct_in : NodeKind → Option StructNode
+struct_in (struct_node s) = Some s
+struct_in (enum_node es) = None
+
+-- The struct or the group of an id.
+abbrev pub struct_found : List Node → ℕ → Option StructNode
+struct_found nodes id = elim (find_node nodes id) [ None ↦ None | Some n ↦ struct_in n.kind ]
+
+-- The enumerants of an enum.
+abbrev pub enumerants_in : NodeKind → Option (List Enumerant)
+enumerants_in (struct_node s) = None
+enumerants_in (enum_node es) = Some es
+
+-- The enumerants of the enum of an id.
+abbrev pub enumerants_found : List Node → ℕ → Option (List Enumerant)
+enumerants_found nodes id = elim (find_node nodes id) [ None ↦ None | Some n ↦ enumerants_in n.kind ]

@@ -10,6 +10,7 @@ mod groups;
 mod marks;
 mod names;
 pub mod node;
+pub mod of_set;
 mod overlap;
 mod parts;
 mod places;

@@ -1,0 +1,55 @@
+-- The fields of a shape, one by one. (Encoding, "Structs")
+use Rattle.std.specs.Prelude.{ℕ, zero, suc, Bool, true, false, ◌&&◌, Option, Some, None, List}
+use Rattle.std.specs.List.{list_all}
+use Rattle.capnp_model.specs.Schemas.{Ty, void, plain, struct, Annotation, FieldKind, slot, group, Field, Node, Shape, shape, Fields, no_fields, field, Body, void_slot, plain_slot, pointer_slot, group_slot, Schema}
+use Rattle.capnp_model.specs.Accepted.{field_body, is_group_node, names_a, names_its_sort}
+
+-- A field of a shape.
+pub record Entry : Type 0 where
+  pub name : List ℕ
+  -- the value of the discriminant at which the field is its union's active member
+  pub member : Option ℕ
+  pub body : Body
+
+-- The field of an index.
+abbrev pub field_at : Fields → ℕ → Option Entry
+field_at no_fields i = None
+field_at (field n m b fs) zero = Some (record { name = n; member = m; body = b })
+field_at (field n m b fs) (suc i) = field_at fs i
+
+-- How many fields there are.
+abbrev pub field_count : Fields → ℕ
+field_count no_fields = 0
+field_count (field n m b fs) = suc (field_count fs)
+
+-- The first bit of the discriminant, if there is a union.
+abbrev pub union_in : Shape → Option ℕ
+union_in (shape id w p u fs) = u
+
+-- The id of a shape's node.
+abbrev pub shape_id : Shape → ℕ
+shape_id (shape id w p u fs) = id
+
+-- The type of a field; a group's is its struct.
+abbrev pub type_of_body : Body → Ty
+type_of_body (void_slot j) = void
+type_of_body (plain_slot p at d) = plain p
+type_of_body (pointer_slot i ty d) = ty
+type_of_body (group_slot g) = struct (shape_id g)
+
+-- The field that a node record says.
+abbrev pub entry_in : Schema → Field → Entry
+entry_in s f = record { name = f.name; member = f.member; body = field_body s.shape_of f.kind }
+
+-- What a field of a node names is there, of its sort.
+abbrev pub names_kind : List Node → FieldKind → Bool
+names_kind nodes (slot offset ty d) = names_its_sort nodes ty.base
+names_kind nodes (group id) = names_a is_group_node nodes id
+
+-- What annotations name is there, of its sort.
+abbrev pub are_named : List Node → List Annotation → Bool
+are_named nodes as' = list_all (λ a. names_its_sort nodes a.type.base) as'
+
+-- What a field and its annotations name is there, of its sort.
+abbrev pub is_named : List Node → Field → Bool
+is_named nodes f = names_kind nodes f.kind && are_named nodes f.annotations
