@@ -15,7 +15,7 @@ use capnp_wire::pointer::PointerReader;
 /// A pointer of no type, of a message or of a default.
 #[derive_where(Clone, Copy)]
 pub struct Reader<'a, A> {
-    source: PointerSource<'a, A>,
+    pub(crate) source: PointerSource<'a, A>,
 }
 
 impl<'a, A: ReaderArena> Reader<'a, A> {

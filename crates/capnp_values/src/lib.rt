@@ -3,5 +3,9 @@
 
 pub mod any_pointer;
 mod defaults;
+pub mod dynamic_list;
+pub mod dynamic_struct;
+pub mod dynamic_value;
+mod opening;
 mod single;
-mod source;
+pub mod source;

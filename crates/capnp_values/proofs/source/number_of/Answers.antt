@@ -10,4 +10,4 @@ returns g c =
     let at = 8 * (g.T.Primitive.BYTES * c.args.offset) in
     let width = 8 * g.T.Primitive.BYTES in
     let mask = g.T.Mask.mask_bits c.args.mask in
-    ap g.T.Primitive.bits c.get_data_field_mask.ensures ∙ g.T.Primitive.same_bits (masked_bits v at width mask) (masked_bits-lt v at width mask c.requires)
+    ap g.T.Primitive.bits c.get_data_field_mask.ensures ∙ g.met.T.Primitive.same_bits (masked_bits v at width mask) (masked_bits-lt v at width mask c.requires)
