@@ -1,4 +1,5 @@
 pub mod Bits
+pub mod Named
 pub mod TextLemmas
 pub mod TwoBlanks
 pub mod Unlimited

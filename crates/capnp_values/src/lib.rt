@@ -7,5 +7,6 @@ pub mod dynamic_list;
 pub mod dynamic_struct;
 pub mod dynamic_value;
 mod opening;
+mod plain;
 mod single;
 pub mod source;
