@@ -1,5 +1,6 @@
 pub mod Bits
 pub mod Named
+pub mod PlainDefaults
 pub mod TextLemmas
 pub mod TwoBlanks
 pub mod Unlimited

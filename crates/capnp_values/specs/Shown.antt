@@ -123,3 +123,9 @@ shown bytes (value.Struct r) = a_struct (shape_of_struct r.schema) (struct_seen 
 shown bytes (value.List l) = a_list (schema_of (nodes_of l.set.now)) (ty_of l.element_type) (list_seen bytes l.source)
 shown bytes (value.AnyPointer p) = a_pointer (pointer_seen bytes p.source)
 shown bytes (value.Capability c) = a_capability
+
+-- What a get of a field answers: what the field shows of the struct at its place.
+pub record ShowsField {A : Type 0} (bytes : A → List (List ℕ)) (v : StructView) (f : Field) (r : Result (Reader A) Error) : Type 0 where
+  pub place : FieldPlace
+  pub is : option_map (λ e. e.body) (entry_of f) ≡ Some (body_of_place place)
+  pub shows : seen (shown bytes) r ≡ place_shown (schema_around f.parent) v place

@@ -3,8 +3,14 @@ ghost use Rattle.std.specs.Prelude.{◌≡◌};
 ghost use Rattle.capnp_wire.specs.Views.{seen_struct};
 ghost use Rattle.capnp_wire.specs.ValueSizes.{StructSizeOf};
 ghost use Rattle.capnp_values.specs.Sources.{struct_seen, WithoutLimit};
+ghost use Rattle.capnp_values.specs.Shown.{ShowsField};
 
+use crate::dynamic_value;
+use crate::opening::open_slot;
+use crate::plain::plain_value;
 use crate::source::StructSource;
+use capnp_queries::fields::Field;
+use capnp_queries::slots::FieldPlace;
 use capnp_queries::structs::StructSchema;
 use capnp_units::errors::Result;
 use capnp_units::sizes::MessageSize;
@@ -42,5 +48,29 @@ impl<'a, A: ReaderArena> Reader<'a, A> {
         ensures { WithoutLimit (StructSizeOf (struct_seen A.segments self.now.source)) result }
     {
         self.source.total_size()
+    }
+
+    /// What a field of the struct is read as: a plain one by its bits, exclusive or those of its default; one behind a pointer by what the pointer names, a null one by its default, which has levels of its own, else as the empty value; a group as the same struct under its own schema. A union member that isn't the active one is read all the same. It takes no memory, and has no limit of words.
+    ///
+    /// It is refused by the kind of the fault at the field's pointer, with `NestingLimitExceeded` where no level is left for it, and with `WrongPointerKind`, `WrongElementSize` or `TextWithoutZeroByte` where what is there can't be read as the field's type.
+    pub fn get(self, field: Field<'a>) -> Result<dynamic_value::Reader<'a, A>>
+        ensures { ShowsField A.segments (struct_seen A.segments self.entry.source) field.entry result }
+    {
+        let set = field.parent().set();
+        match field.place() {
+            FieldPlace::Void { .. } => Ok(dynamic_value::Reader::Void),
+            FieldPlace::Plain {
+                ty,
+                offset,
+                default_bits,
+            } => Ok(plain_value(&self.source, set, ty, offset as usize, default_bits)),
+            FieldPlace::Pointer { index, default, .. } => {
+                open_slot(self.source.pointer(index as usize), set, field.get_type(), default)
+            }
+            FieldPlace::Group { schema } => Ok(dynamic_value::Reader::Struct(Reader {
+                source: self.source,
+                schema,
+            })),
+        }
     }
 }
