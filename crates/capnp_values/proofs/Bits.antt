@@ -11,7 +11,7 @@ use Rattle.capnp_values.specs.Sources.{masked_bits}
 pub bits_at-lt : (at width section : ℕ) → bits_at at width section < 2 ^ width
 bits_at-lt at width section = mod-lt (section / 2 ^ at) (pow_pos width)
 
-either_lt : (b : Bool) (x y : ℕ) → x < 2 ^ y → (if b then x else 0) < 2 ^ y
+pub either_lt : (b : Bool) (x y : ℕ) → x < 2 ^ y → (if b then x else 0) < 2 ^ y
 either_lt true x y h = h
 either_lt false x y h = pow_pos y
 

@@ -1,4 +1,5 @@
 pub mod Bits
+pub mod Elements
 pub mod Named
 pub mod PlainDefaults
 pub mod TextLemmas

@@ -20,3 +20,9 @@ pointer_type (Some e) i a b t h k =
     let is : e.body ≡ pointer_slot i a t = cc h in
     let of : type_of_body e.body ≡ b = cc k in
     sym of ∙ ap type_of_body is
+
+-- the type of a list's elements is of the set as the list's type is
+pub named_list : (nodes : List Node) (ty t : SchemaType) → is_type_of nodes ty ≡ true → type_of_variant (V.List t) ≡ ty → is_type_of nodes t ≡ true
+named_list nodes ty t h e = ap (is_type_of nodes) e ∙ h
+
+pub ruleset named_rules = (named_struct, named_list)

@@ -4,10 +4,7 @@ use Rattle.std.specs.Int.{w8, w16, w32, w64, cast_unsigned}
 use Rattle.capnp_model.specs.Kinds.{Kind}
 use Rattle.capnp_model.specs.Chains.{◌and_then◌}
 use Rattle.capnp_model.specs.Schemas.{bool, int, uint, «enum», width, Ty, void, plain, text, blob, untyped, interface, struct, list, Value as ModelValue, no_value, bits, text_bytes, blob_bytes, list_segment, struct_segment, untyped_value, interface_value, Shape, Schema}
-use Rattle.capnp_model.specs.Readings.{expected_size}
 use Rattle.capnp_units.specs.declared.errors.Error.{Error}
-use Rattle.capnp_units.specs.declared.sizes.ElementSize.{ElementSize}
-use Rattle.capnp_units.specs.declared.sizes.ElementSize.TheVariants as size
 use Rattle.capnp_object.specs.Places.{seen}
 use Rattle.capnp_records.specs.NodeViews.{value_of}
 use Rattle.capnp_wire.specs.Views.{PointerView, StructView, ListView, pointer_field, element_of, element_number, bit_of_bool}
@@ -20,6 +17,7 @@ use Rattle.capnp_queries.specs.declared.slots.FieldPlace.{FieldPlace}
 use Rattle.capnp_queries.specs.declared.slots.FieldPlace.TheVariants as place
 use Rattle.capnp_records.specs.Sets.{nodes_of}
 use Rattle.capnp_model.specs.Accepted.{schema_of}
+use Rattle.capnp_values.specs.ListSizes.{size_of}
 use Rattle.capnp_values.specs.Sources.{read_behind, default_pointer, masked_bits, pointer_seen, struct_seen, list_seen}
 use Rattle.capnp_values.specs.declared.dynamic_value.Reader.{Reader}
 use Rattle.capnp_values.specs.declared.dynamic_value.Reader.TheVariants as value
@@ -36,17 +34,6 @@ pub data Shown : Type 0 where
   a_list : Schema → Ty → ListView → Shown
   a_pointer : PointerView → Shown
   a_capability : Shown
-
--- The size that lists of the type are asked for with.
-abbrev pub size_of : Ty → ElementSize
-size_of void = size.Void
-size_of (plain p) = if width p == 1 then size.Bit else (if width p == 8 then size.Byte else (if width p == 16 then size.TwoBytes else (if width p == 32 then size.FourBytes else size.EightBytes)))
-size_of (struct id) = size.InlineComposite
-size_of text = size.Pointer
-size_of blob = size.Pointer
-size_of untyped = size.Pointer
-size_of interface = size.Pointer
-size_of (list ty) = size.Pointer
 
 -- What a pointer shows under a type, else the kind of its fault; null shows the empty value.
 abbrev pub opened : Schema → Ty → PointerView → Result Shown Kind

@@ -1,5 +1,6 @@
 -- What dynamic readers stand on.
 use Rattle.std.specs.Prelude.{ℕ, ◌/◌, List, [], ◌∷◌, length, replicate, true, false, bit_xor, Option, Some, None, Result, ◌≡◌}
+use Rattle.capnp_units.specs.declared.sizes.ElementSize.{ElementSize}
 use Rattle.capnp_units.specs.declared.errors.Error.{Error}
 use Rattle.capnp_units.specs.declared.limiter.ReadLimiter.{ReadLimiter}
 use Rattle.capnp_units.specs.Limits.{left_of}
@@ -58,3 +59,8 @@ masked_bits v at width default = bit_xor (field_bits (just_bits v.bits) v.sectio
 -- What a call answers that has a budget without a limit.
 abbrev pub WithoutLimit : {X : Type 0} → (ReadLimiter → Result X Error → ReadLimiter → Type 0) → Result X Error → Type 0
 WithoutLimit gives result = (old : ReadLimiter) × (new : ReadLimiter) × (left_of old ≡ None) × gives old result new
+
+-- The size of the elements of a list.
+abbrev pub size_in : {A : Type 0} → ListSource A → ElementSize
+size_in (list.Message l) = l.size
+size_in (list.Default l) = l.size

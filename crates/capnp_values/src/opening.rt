@@ -1,5 +1,5 @@
 //! What pointers are read as under types.
-ghost use Rattle.std.specs.Prelude.{◌≡◌, true, Ok, option_map, option_copied};
+ghost use Rattle.std.specs.Prelude.{◌≡◌, ◌≢◌, true, Ok, option_map, option_copied};
 ghost use Rattle.capnp_model.specs.Chains.{◌and_then◌};
 ghost use Rattle.capnp_model.specs.Schemas.{struct, list};
 ghost use Rattle.capnp_model.specs.Accepted.{schema_of};
@@ -8,8 +8,10 @@ ghost use Rattle.capnp_wire.specs.Reads.{read_text, read_blob};
 ghost use Rattle.capnp_records.specs.NodeViews.{value_of};
 ghost use Rattle.capnp_records.specs.Sets.{nodes_of, IsNodeOf};
 ghost use Rattle.capnp_queries.specs.Types.{ty_of, is_type_of};
-ghost use Rattle.capnp_values.specs.Sources.{read_behind, pointer_seen, struct_seen, list_seen, default_pointer};
-ghost use Rattle.capnp_values.specs.Shown.{a_text, a_blob, a_struct, a_list, shown, size_of, opened, segment_opened, default_opened, slot_opened};
+ghost use Rattle.capnp_values.specs.Sources.{read_behind, pointer_seen, struct_seen, list_seen, size_in, default_pointer};
+ghost use Rattle.capnp_units.specs.Sizes.{size_number};
+ghost use Rattle.capnp_values.specs.ListSizes.{size_of};
+ghost use Rattle.capnp_values.specs.Shown.{a_text, a_blob, a_struct, a_list, shown, opened, segment_opened, default_opened, slot_opened};
 
 use crate::any_pointer;
 use crate::defaults::{default_list, default_struct};
@@ -60,7 +62,7 @@ fn open_data<'a, A: ReaderArena>(pointer: PointerSource<'a, A>) -> Result<Reader
 }
 
 /// The struct of an id of the set.
-fn struct_value<'a, A: ReaderArena>(
+pub(crate) fn struct_value<'a, A: ReaderArena>(
     source: StructSource<'a, A>,
     set: &'a SchemaSet,
     raw: RawBrandedStructSchema,
@@ -78,13 +80,11 @@ fn list_value<'a, A: ReaderArena>(
     set: &'a SchemaSet,
     element_type: Type,
 ) -> Reader<'a, A>
+    requires known { is_type_of (nodes_of set.now) element_type ≡ true }
+    requires bytewise { size_number (size_of (ty_of element_type)) ≢ 1 → size_number (size_in source) ≢ 1 }
     ensures { shown A.segments result ≡ a_list (schema_of (nodes_of set.now)) (ty_of element_type) (list_seen A.segments source.entry) }
 {
-    Reader::List(dynamic_list::Reader {
-        source,
-        set,
-        element_type,
-    })
+    Reader::List(dynamic_list::Reader::of_source(source, set, element_type))
 }
 
 fn open_struct<'a, A: ReaderArena>(
@@ -103,6 +103,7 @@ fn open_list<'a, A: ReaderArena>(
     set: &'a SchemaSet,
     element_type: Type,
 ) -> Result<Reader<'a, A>>
+    requires { is_type_of (nodes_of set.now) element_type ≡ true }
     ensures { seen (shown A.segments) result ≡ opened (schema_of (nodes_of set.now)) (list (ty_of element_type)) (pointer_seen A.segments pointer.entry) }
 {
     let source = pointer.list(element_size(element_type))?;
@@ -110,7 +111,7 @@ fn open_list<'a, A: ReaderArena>(
 }
 
 /// What a pointer is read as under a type of the set; null is the empty value. A plain type has no pointers.
-#[tactic(auto, using(crate::proofs::Named::named_struct))]
+#[tactic(auto, using(crate::proofs::Named::named_rules))]
 pub(crate) fn open<'a, A: ReaderArena>(
     pointer: PointerSource<'a, A>,
     set: &'a SchemaSet,
@@ -149,6 +150,7 @@ fn list_of_default<'a, A: ReaderArena>(
     set: &'a SchemaSet,
     element_type: Type,
 ) -> Result<Reader<'a, A>>
+    requires { is_type_of (nodes_of set.now) element_type ≡ true }
     ensures { seen (shown A.segments) result ≡ opened (schema_of (nodes_of set.now)) (list (ty_of element_type)) (default_pointer bytes.now) }
 {
     let source = default_list(bytes, element_size(element_type))?;
@@ -156,7 +158,7 @@ fn list_of_default<'a, A: ReaderArena>(
 }
 
 /// What the bytes of a default are read as in place of a null pointer.
-#[tactic(auto, using(crate::proofs::Named::named_struct))]
+#[tactic(auto, using(crate::proofs::Named::named_rules))]
 fn open_segment<'a, A: ReaderArena>(
     pointer: PointerSource<'a, A>,
     set: &'a SchemaSet,

@@ -5,7 +5,7 @@ ghost use Rattle.capnp_units.specs.Sizes.{size_number};
 ghost use Rattle.capnp_wire.specs.Views.{seen_pointer, seen_struct, seen_list, pointer_field, element_of, element_number, bit_of_bool};
 ghost use Rattle.capnp_wire.specs.Reads.{is_null, read_struct, read_list, read_blob, read_text};
 ghost use Rattle.capnp_wire.specs.ValueSizes.{PointerSize, StructSizeOf};
-ghost use Rattle.capnp_values.specs.Sources.{read_behind, pointer_seen, struct_seen, list_seen, default_segments, WithoutLimit, masked_bits};
+ghost use Rattle.capnp_values.specs.Sources.{read_behind, pointer_seen, struct_seen, list_seen, size_in, default_segments, WithoutLimit, masked_bits};
 
 use crate::defaults::Defaults;
 use capnp_units::errors::Result;
@@ -160,7 +160,7 @@ impl<'a, A: ReaderArena> PointerSource<'a, A> {
     /// The list behind the pointer, whose elements can be read as ones of the expected size; null is the empty one.
     pub(crate) fn list(self, expected: ElementSize) -> Result<ListSource<'a, A>>
         ensures list { let p = pointer_seen A.segments self.entry in seen (list_seen A.segments) result ≡ read_behind (read_list p.basis p.levels expected) p }
-        ensures bytewise { size_number expected ≢ 1 → IfOk result (λ l. size_number (list_seen A.segments l).size ≢ 1) }
+        ensures bytewise { size_number expected ≢ 1 → IfOk result (λ l. size_number (size_in l) ≢ 1) }
     {
         match self {
             PointerSource::Message(pointer) => Ok(ListSource::Message(list_behind(pointer, expected)?)),
@@ -237,7 +237,7 @@ impl<'a, A: ReaderArena> ListSource<'a, A> {
     /// An element as a struct; elements of one bit can't be read so.
     pub(crate) fn structure(&self, index: u32) -> StructSource<'a, A>
         requires index { index < (list_seen A.segments self.now).count }
-        requires bytes { size_number (list_seen A.segments self.now).size ≢ 1 }
+        requires bytes { size_number (size_in self.now) ≢ 1 }
         ensures { struct_seen A.segments result ≡ element_of (list_seen A.segments self.now) index }
     {
         match self {
