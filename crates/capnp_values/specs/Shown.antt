@@ -1,9 +1,12 @@
 -- What dynamic readers show. (Encoding, "Value Encoding")
-use Rattle.std.specs.Prelude.{ℕ, ◌≡◌, ◌*◌, ◌==◌, if◌then◌else◌, Option, Some, None, option_map, option_copied, List, Result, Ok, Err}
+use Rattle.std.specs.Prelude.{ℕ, ◌≡◌, ◌*◌, if◌then◌else◌, Bool, true, false, not, ◌&&◌, Option, Some, None, option_map, option_copied, List, Result, Ok, Err}
 use Rattle.std.specs.Int.{w8, w16, w32, w64, cast_unsigned}
 use Rattle.capnp_model.specs.Kinds.{Kind}
 use Rattle.capnp_model.specs.Chains.{◌and_then◌}
-use Rattle.capnp_model.specs.Schemas.{bool, int, uint, «enum», width, Ty, void, plain, text, blob, untyped, interface, struct, list, Value as ModelValue, no_value, bits, text_bytes, blob_bytes, list_segment, struct_segment, untyped_value, interface_value, Shape, Schema}
+use Rattle.capnp_model.specs.Schemas.{bool, int, uint, «enum», width, Ty, void, plain, text, blob, untyped, interface, struct, list, Value as ModelValue, no_value, bits, text_bytes, blob_bytes, list_segment, struct_segment, untyped_value, interface_value, Shape, Schema, Body, void_slot, plain_slot, pointer_slot, group_slot}
+use Rattle.capnp_model.specs.Readings.{just_bits, discriminant, is_active}
+use Rattle.capnp_queries.specs.Fields.{union_in}
+use Rattle.capnp_queries.specs.declared.structs.StructSchema.{StructSchema}
 use Rattle.capnp_units.specs.declared.errors.Error.{Error}
 use Rattle.capnp_object.specs.Places.{seen}
 use Rattle.capnp_records.specs.NodeViews.{value_of}
@@ -116,3 +119,27 @@ pub record ShowsField {A : Type 0} (bytes : A → List (List ℕ)) (v : StructVi
   pub place : FieldPlace
   pub is : option_map (λ e. e.body) (entry_of f) ≡ Some (body_of_place place)
   pub shows : seen (shown bytes) r ≡ place_shown (schema_around f.parent) v place
+
+-- ---- whether a field is there
+
+-- The discriminant of a struct under a schema, if that has a union; 0 where it isn't in the section.
+abbrev pub discriminant_shown : StructSchema → StructView → Option ℕ
+discriminant_shown s v = discriminant (union_in (shape_of_struct s)) (just_bits v.bits) v.section
+
+-- A field of this member's value, if there is a field, is active.
+abbrev pub is_active_field : Option ℕ → Option (Option ℕ) → Bool
+is_active_field d None = false
+is_active_field d (Some member) = is_active member d
+
+-- The field lies behind a pointer, and that is null.
+abbrev pub is_null_slot : StructView → Option Body → Bool
+is_null_slot v None = false
+is_null_slot v (Some (void_slot j)) = false
+is_null_slot v (Some (plain_slot p at d)) = false
+is_null_slot v (Some (pointer_slot i ty d)) = is_null (pointer_field v i)
+is_null_slot v (Some (group_slot g)) = false
+
+-- The field is no inactive member, and no null pointer.
+abbrev pub has_field : StructView → Field → Bool
+has_field v f =
+    is_active_field (discriminant_shown f.parent v) (option_map (λ e. e.member) (entry_of f)) && not (is_null_slot v (option_map (λ e. e.body) (entry_of f)))

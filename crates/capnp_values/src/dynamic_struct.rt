@@ -1,9 +1,10 @@
 //! Structs whose schema is known at run time.
-ghost use Rattle.std.specs.Prelude.{◌≡◌};
+ghost use Rattle.std.specs.Prelude.{◌≡◌, Ok, option_map};
 ghost use Rattle.capnp_wire.specs.Views.{seen_struct};
 ghost use Rattle.capnp_wire.specs.ValueSizes.{StructSizeOf};
 ghost use Rattle.capnp_values.specs.Sources.{struct_seen, WithoutLimit};
-ghost use Rattle.capnp_values.specs.Shown.{ShowsField};
+ghost use Rattle.capnp_queries.specs.Handles.{entry_of};
+ghost use Rattle.capnp_values.specs.Shown.{ShowsField, discriminant_shown, is_active_field, is_null_slot, has_field};
 
 use crate::dynamic_value;
 use crate::opening::open_slot;
@@ -12,6 +13,7 @@ use crate::source::StructSource;
 use capnp_queries::fields::Field;
 use capnp_queries::slots::FieldPlace;
 use capnp_queries::structs::StructSchema;
+use capnp_records::node::NO_DISCRIMINANT;
 use capnp_units::errors::Result;
 use capnp_units::sizes::MessageSize;
 use capnp_wire::arena::ReaderArena;
@@ -72,5 +74,47 @@ impl<'a, A: ReaderArena> Reader<'a, A> {
                 schema,
             })),
         }
+    }
+
+    /// The value of the discriminant, where the schema has a union; 0 where it doesn't lie in the section.
+    #[tactic(auto, using(crate::proofs::Bits::tag_bits))]
+    fn discriminant(&self, schema: StructSchema<'a>) -> Option<u16>
+        ensures { result ≡ discriminant_shown schema.entry (struct_seen A.segments self.now.source) }
+    {
+        match schema.discriminant_offset() {
+            None => None,
+            Some(offset) => Some(self.source.number(offset as usize, 0)),
+        }
+    }
+
+    /// Whether a field is no union member, or the active one.
+    fn is_active(&self, field: Field<'a>) -> bool
+        ensures { result ≡ is_active_field (discriminant_shown field.entry.parent (struct_seen A.segments self.now.source)) (option_map (λ e. e.member) (entry_of field.entry)) }
+    {
+        let member = field.get_proto().discriminant_value;
+        if member == NO_DISCRIMINANT {
+            return true;
+        }
+        match self.discriminant(field.parent()) {
+            None => false,
+            Some(active) => member == active,
+        }
+    }
+
+    /// Whether a field lies behind a pointer that is null.
+    fn is_null_slot(&self, field: Field<'a>) -> bool
+        ensures { result ≡ is_null_slot (struct_seen A.segments self.now.source) (option_map (λ e. e.body) (entry_of field.entry)) }
+    {
+        match field.place() {
+            FieldPlace::Pointer { index, .. } => self.source.pointer(index as usize).is_null(),
+            _ => false,
+        }
+    }
+
+    /// Whether a field of the struct is there: false for a union member that isn't the active one, and where the field's pointer is null; else true, for groups too. It never refuses.
+    pub fn has(&self, field: Field<'a>) -> Result<bool>
+        ensures { result ≡ Ok (has_field (struct_seen A.segments self.now.source) field.entry) }
+    {
+        Ok(self.is_active(field) && !self.is_null_slot(field))
     }
 }
