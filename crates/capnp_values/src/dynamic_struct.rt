@@ -67,7 +67,12 @@ impl<'a, A: ReaderArena> Reader<'a, A> {
                 default_bits,
             } => Ok(plain_value(&self.source, set, ty, offset as usize, default_bits)),
             FieldPlace::Pointer { index, default, .. } => {
-                open_slot(self.source.pointer(index as usize), set, field.get_type(), default)
+                open_slot(
+                    self.source.pointer(index as usize),
+                    set,
+                    field.get_type(),
+                    default,
+                )
             }
             FieldPlace::Group { schema } => Ok(dynamic_value::Reader::Struct(Reader {
                 source: self.source,

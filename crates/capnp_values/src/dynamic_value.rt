@@ -1,13 +1,10 @@
 //! Values whose type is known at run time.
 ghost use Rattle.std.specs.Prelude.{◌≡◌};
 
-use crate::any_pointer;
-use crate::dynamic_list;
-use crate::dynamic_struct;
+use crate::{any_pointer, dynamic_list, dynamic_struct};
 use capnp_records::raw::RawEnumSchema;
 use capnp_records::set::SchemaSet;
-use capnp_text::data;
-use capnp_text::text;
+use capnp_text::{data, text};
 
 /// A value to read, by its type.
 #[derive_where(Clone, Copy)]

@@ -10,3 +10,5 @@ mod opening;
 mod plain;
 mod single;
 pub mod source;
+#[cfg(test)]
+mod tests;

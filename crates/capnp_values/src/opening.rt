@@ -13,12 +13,10 @@ ghost use Rattle.capnp_units.specs.Sizes.{size_number};
 ghost use Rattle.capnp_values.specs.ListSizes.{size_of};
 ghost use Rattle.capnp_values.specs.Shown.{a_text, a_blob, a_struct, a_list, shown, opened, segment_opened, default_opened, slot_opened};
 
-use crate::any_pointer;
 use crate::defaults::{default_list, default_struct};
-use crate::dynamic_list;
-use crate::dynamic_struct;
 use crate::dynamic_value::{Capability, Reader};
 use crate::source::{ListSource, PointerSource, StructSource};
+use crate::{any_pointer, dynamic_list, dynamic_struct};
 use capnp_queries::introspect::{Type, TypeVariant};
 use capnp_queries::structs::StructSchema;
 use capnp_records::node::Value;

@@ -163,8 +163,12 @@ impl<'a, A: ReaderArena> PointerSource<'a, A> {
         ensures bytewise { size_number expected ≢ 1 → IfOk result (λ l. size_number (size_in l) ≢ 1) }
     {
         match self {
-            PointerSource::Message(pointer) => Ok(ListSource::Message(list_behind(pointer, expected)?)),
-            PointerSource::Default(pointer) => Ok(ListSource::Default(list_behind(pointer, expected)?)),
+            PointerSource::Message(pointer) => Ok(ListSource::Message(list_behind(
+                pointer, expected,
+            )?)),
+            PointerSource::Default(pointer) => Ok(ListSource::Default(list_behind(
+                pointer, expected,
+            )?)),
         }
     }
 }
@@ -206,8 +210,12 @@ impl<'a, A: ReaderArena> StructSource<'a, A> {
         ensures { pointer_seen A.segments result ≡ pointer_field (struct_seen A.segments self.now) index }
     {
         match self {
-            StructSource::Message(reader) => PointerSource::Message(reader.get_pointer_field(index)),
-            StructSource::Default(reader) => PointerSource::Default(reader.get_pointer_field(index)),
+            StructSource::Message(reader) => PointerSource::Message(reader.get_pointer_field(
+                index,
+            )),
+            StructSource::Default(reader) => PointerSource::Default(reader.get_pointer_field(
+                index,
+            )),
         }
     }
 }
@@ -252,8 +260,12 @@ impl<'a, A: ReaderArena> ListSource<'a, A> {
         ensures { pointer_seen A.segments result ≡ pointer_field (element_of (list_seen A.segments self.now) index) 0 }
     {
         match self {
-            ListSource::Message(reader) => PointerSource::Message(reader.get_pointer_element(index)),
-            ListSource::Default(reader) => PointerSource::Default(reader.get_pointer_element(index)),
+            ListSource::Message(reader) => PointerSource::Message(reader.get_pointer_element(
+                index,
+            )),
+            ListSource::Default(reader) => PointerSource::Default(reader.get_pointer_element(
+                index,
+            )),
         }
     }
 }

@@ -32,7 +32,7 @@ returns-in-Pointer g c =
       place = place.Pointer c.in-Pointer.index c.in-Pointer.ty c.in-Pointer.default;
       is = c.in-Pointer.ensures;
       shows = c.open_slot.ensures
-        ∙ ap (λ nodes. slot_opened (schema_of nodes) got d p) (c.set-set.ensures ∙ ap nodes_around c.parent.ensures)
-        ∙ ap (λ t. slot_opened (schema_around s) t d p) same
-        ∙ ap (λ q. slot_opened (schema_around s) ty d q) c.pointer.ensures;
+          ∙ ap (λ nodes. slot_opened (schema_of nodes) got d p) (c.set-set.ensures ∙ ap nodes_around c.parent.ensures)
+          ∙ ap (λ t. slot_opened (schema_around s) t d p) same
+          ∙ ap (λ q. slot_opened (schema_around s) ty d q) c.pointer.ensures;
     }
