@@ -1,0 +1,85 @@
+use crate::text::{Builder, Reader};
+use std::cmp::Ordering;
+use std::test::Fail;
+
+#[test]
+fn texts_are_bytes(rt: HostRuntime) -> Result<(), Fail> {
+    let hi = Reader(b"hi");
+    assert_eq!(rt; hi.len(), 2);
+    assert!(rt; !hi.is_empty());
+    assert!(rt; Reader(b"").is_empty());
+    assert_eq!(rt; hi.as_bytes(), b"hi".as_slice());
+    assert_eq!(rt; hi.to_str().ok(), Some("hi"));
+    let text = hi.to_string(rt.alloc())?.ok_or("UTF-8")?;
+    assert_eq!(rt; text.as_str(), "hi");
+    Ok(())
+}
+
+#[test]
+fn other_bytes_are_refused(rt: HostRuntime) -> Result<(), Fail> {
+    let bytes = [104, 255];
+    let text = Reader(&bytes);
+    let error = text.to_str().err().ok_or("refused")?;
+    assert_eq!(rt; error.valid_up_to(), 1);
+    assert!(rt; text.to_string(rt.alloc())?.is_none());
+    let slice = <&str>::try_from(text);
+    assert!(rt; slice.is_err());
+    let shown = format!(in rt.alloc(); "{text:?}")?;
+    assert_eq!(rt; shown.as_str(), "<invalid utf-8: [104, 255]>");
+    Ok(())
+}
+
+#[test]
+fn texts_compare_by_bytes(rt: HostRuntime) -> Result<(), Fail> {
+    let a = Reader::from("a");
+    let ab = Reader::from(b"ab");
+    let b = Reader::from(b"b".as_slice());
+    assert!(rt; a == Reader(b"a"));
+    assert!(rt; a != ab);
+    assert!(rt; a < ab && ab < b);
+    assert!(rt; ab.eq_str("ab") && !ab.eq_str("a"));
+    assert_eq!(rt; ab.cmp_str("b"), Ordering::Less);
+    assert_eq!(rt; ab.cmp_str("a"), Ordering::Greater);
+    assert_eq!(rt; ab.cmp_str("ab"), Ordering::Equal);
+    assert_eq!(rt; <&str>::try_from(ab).ok(), Some("ab"));
+    Ok(())
+}
+
+#[test]
+fn texts_are_written(rt: HostRuntime) -> Result<(), Fail> {
+    let mut bytes = [0; 5];
+    let mut text = Builder::new(&mut bytes);
+    text.push_ascii(b'a');
+    text.push_str("bc");
+    text.reborrow().push_ascii(b'x');
+    text.push_ascii(b'd');
+    assert_eq!(rt; text.len(), 5);
+    assert!(rt; !text.is_empty());
+    assert!(rt; text.reborrow_as_reader() == Reader(b"abcd\0"));
+    let shown = format!(in rt.alloc(); "{text:?}")?;
+    assert_eq!(rt; shown.as_str(), "\"abcd\\0\"");
+    assert_eq!(rt; text.to_str().ok(), Some("abcd\0"));
+    let mut again = Builder::with_pos(&mut bytes, 1);
+    again.push_str("BC");
+    let owned = again.to_string(rt.alloc())?.ok_or("UTF-8")?;
+    assert_eq!(rt; owned.as_str(), "aBCd\0");
+    Builder::new(&mut bytes).as_bytes_mut()[4] = b'!';
+    assert_eq!(rt; Builder::new(&mut bytes).as_bytes(), b"aBCd!".as_slice());
+    Ok(())
+}
+
+#[test]
+fn clearing_zeroes_all(rt: HostRuntime) -> Result<(), Fail> {
+    let mut bytes = *b"abc";
+    let mut other = [0; 3];
+    let mut text = Builder::with_pos(&mut bytes, 1);
+    text.clear();
+    assert!(rt; text == Builder::with_pos(&mut other, 2));
+    text.push_ascii(b'z');
+    assert!(rt; text.into_reader() == Reader(b"z\0\0"));
+    let mut wrong = [255];
+    let text = Builder::new(&mut wrong);
+    let shown = format!(in rt.alloc(); "{text:?}")?;
+    assert_eq!(rt; shown.as_str(), "<invalid utf-8>");
+    Ok(())
+}

@@ -1,0 +1,272 @@
+//! Texts: bytes that should be UTF-8 and needn't be.
+//!
+//! On the wire a text ends with a zero byte, which isn't part of it; here it is left out. (Encoding, "Blobs")
+ghost use Rattle.std.specs.Prelude.{◌≡◌, ◌+◌, ◌<◌, ◌≤◌, ◌==◌, ◌++◌, length, take, drop, replicate, slice_set, nat_eq, IfOk, string_bytes};
+ghost use Rattle.std.specs.Ordering.{nat_cmp};
+ghost use Rattle.std.specs.Cmp.{partial_equiv_from_equiv, on_per};
+ghost use Rattle.std.specs.Cmp.Lexicographic.{pointwise, slice_cmp, nat_list_eq_equiv};
+ghost use Rattle.capnp_text.specs.Texts.{IsText, IsTextIfAny};
+
+use std::alloc::{AllocError, Global};
+use std::cmp::Ordering;
+use std::fmt;
+use std::str::Utf8Error;
+
+/// The type of texts.
+#[derive(Clone, Copy, Debug, PartialEq, Eq)]
+pub struct Owned;
+
+/// A text to read, lent in place. Texts compare by their bytes.
+#[derive(Clone, Copy, PartialEq, PartialOrd)]
+pub struct Reader<'a>(pub &'a [u8]);
+
+impl<'a> Reader<'a> {
+    /// How many bytes the text has.
+    pub fn len(&self) -> usize
+        ensures { result ≡ length self.now.0.now }
+    {
+        self.0.len()
+    }
+
+    /// Whether the text has no byte.
+    pub fn is_empty(&self) -> bool
+        ensures { result ≡ (length self.now.0.now == 0) }
+    {
+        self.0.is_empty()
+    }
+
+    /// The bytes of the text.
+    pub fn as_bytes(self) -> &'a [u8]
+        ensures { result.now ≡ self.entry.0.now }
+    {
+        let Reader(bytes) = self;
+        bytes
+    }
+
+    /// The text as a `str`. It is refused where the bytes aren't UTF-8.
+    pub fn to_str(self) -> Result<&'a str, Utf8Error>
+        ensures { IsText (λ text. text.now) self.entry.0.now result }
+    {
+        std::str::from_utf8(self.0)
+    }
+
+    /// The text as a `String`, or none where the bytes aren't UTF-8.
+    pub fn to_string(self, alloc: Global) -> Result<Option<String>, AllocError>
+        ensures { IfOk result (IsTextIfAny string_bytes self.entry.0.now) }
+    {
+        match std::str::from_utf8(self.0) {
+            Ok(text) => Ok(Some(String::from_str(alloc, text)?)),
+            Err(_) => Ok(None),
+        }
+    }
+
+    /// Whether the text has just the bytes of a `str`.
+    pub fn eq_str(&self, other: &str) -> bool
+        ensures { result ≡ pointwise nat_eq self.now.0.now other.now }
+    {
+        self.0 == other.as_bytes()
+    }
+
+    /// How the text compares with a `str`: by the first bytes that differ, else by length.
+    pub fn cmp_str(&self, other: &str) -> Ordering
+        ensures { result ≡ slice_cmp nat_cmp self.now.0.now other.now }
+    {
+        self.0.cmp(other.as_bytes())
+    }
+}
+
+/// Writes a text as Rust does, between quotes, and the bytes of one that isn't UTF-8.
+impl fmt::Debug for Reader<'_> {
+    fn fmt<W: fmt::Write>(&self, f: &mut fmt::Formatter<W>) -> fmt::Result {
+        let bytes = self.0;
+        match std::str::from_utf8(bytes) {
+            Ok(text) => write!(f, "{text:?}"),
+            Err(_) => write!(f, "<invalid utf-8: {bytes:?}>"),
+        }
+    }
+}
+
+impl<'a> From<&'a str> for Reader<'a> {
+    ghost from_gives = { λ text r. r.0.now ≡ text.now };
+
+    fn from(value: &'a str) -> Self {
+        Reader(value.as_bytes())
+    }
+}
+
+impl<'a> From<&'a [u8]> for Reader<'a> {
+    ghost from_gives = { λ bytes r. r.0.now ≡ bytes.now };
+
+    fn from(value: &'a [u8]) -> Self {
+        Reader(value)
+    }
+}
+
+impl<'a, const N: usize> From<&'a [u8; N]> for Reader<'a> {
+    ghost from_gives = { λ bytes r. r.0.now ≡ bytes.now };
+
+    fn from(value: &'a [u8; N]) -> Self {
+        Reader(value.as_slice())
+    }
+}
+
+impl<'a> TryFrom<Reader<'a>> for &'a str {
+    type Error = Utf8Error;
+
+    ghost try_from_gives = { λ text r. IsText (λ s. s.now) text.0.now r };
+
+    fn try_from(value: Reader<'a>) -> Result<&'a str, Utf8Error> {
+        value.to_str()
+    }
+}
+
+/// A text to write, whose bytes are lent by a message, with a position at which pushes write. The text has all of its bytes, those behind the position too.
+#[derive(Drop)]
+pub struct Builder<'a> {
+    bytes: &'a mut [u8],
+    pos: usize,
+}
+
+impl<'a> Builder<'a> {
+    /// A text to write from its first byte on.
+    pub fn new(bytes: &'a mut [u8]) -> Self
+        ensures same { result.bytes.ghost_name ≡ bytes.entry.ghost_name }
+        ensures bytes { result.bytes.now ≡ bytes.entry.now }
+        ensures pos { result.pos ≡ 0 }
+    {
+        Builder { bytes, pos: 0 }
+    }
+
+    /// A text to write from a position on, in bytes.
+    pub fn with_pos(bytes: &'a mut [u8], pos: usize) -> Self
+        ensures same { result.bytes.ghost_name ≡ bytes.entry.ghost_name }
+        ensures bytes { result.bytes.now ≡ bytes.entry.now }
+        ensures pos { result.pos ≡ pos }
+    {
+        Builder { bytes, pos }
+    }
+
+    /// How many bytes the text has, whatever was pushed.
+    pub fn len(&self) -> usize
+        ensures { result ≡ length self.now.bytes.now }
+    {
+        self.bytes.len()
+    }
+
+    /// Whether the text has no byte.
+    pub fn is_empty(&self) -> bool
+        ensures { result ≡ (length self.now.bytes.now == 0) }
+    {
+        self.bytes.is_empty()
+    }
+
+    /// The bytes of the text.
+    pub fn as_bytes(self) -> &'a [u8]
+        ensures { result.now ≡ self.entry.bytes.now }
+    {
+        self.into_reader().as_bytes()
+    }
+
+    /// The text as a `str`. It is refused where the bytes aren't UTF-8.
+    pub fn to_str(self) -> Result<&'a str, Utf8Error>
+        ensures { IsText (λ text. text.now) self.entry.bytes.now result }
+    {
+        self.into_reader().to_str()
+    }
+
+    /// The text as a `String`, or none where the bytes aren't UTF-8.
+    pub fn to_string(self, alloc: Global) -> Result<Option<String>, AllocError>
+        ensures { IfOk result (IsTextIfAny string_bytes self.entry.bytes.now) }
+    {
+        self.into_reader().to_string(alloc)
+    }
+
+    /// The bytes of the text, to write.
+    pub fn as_bytes_mut(self) -> &'a mut [u8]
+        ensures same { result.ghost_name ≡ self.entry.bytes.ghost_name }
+        ensures bytes { result.now ≡ self.entry.bytes.now }
+    {
+        let Builder { bytes, .. } = self;
+        bytes
+    }
+
+    /// Writes a character of ASCII at the position, and goes on behind it. There must be a byte left for it.
+    pub fn push_ascii(&mut self, ascii: u8)
+        requires ascii { ascii < 128 }
+        requires room { self.old.pos < length self.old.bytes.now }
+        ensures same { self.new.bytes.ghost_name ≡ self.old.bytes.ghost_name }
+        ensures bytes { self.new.bytes.now ≡ slice_set self.old.bytes.now self.old.pos ascii }
+        ensures pos { self.new.pos ≡ self.old.pos + 1 }
+    {
+        self.bytes[self.pos] = ascii;
+        self.pos += 1;
+    }
+
+    /// Writes a text at the position, and goes on behind it. There must be bytes left for it.
+    pub fn push_str(&mut self, string: &str)
+        requires { self.old.pos + length string.now ≤ length self.old.bytes.now }
+        ensures same { self.new.bytes.ghost_name ≡ self.old.bytes.ghost_name }
+        ensures bytes { self.new.bytes.now ≡ take self.old.pos self.old.bytes.now ++ string.now ++ drop (self.old.pos + length string.now) self.old.bytes.now }
+        ensures pos { self.new.pos ≡ self.old.pos + length string.now }
+    {
+        let end = self.pos + string.len();
+        self.bytes[self.pos..end].copy_from_slice(string.as_bytes());
+        self.pos = end;
+    }
+
+    /// Writes zeros over all bytes, and goes back to the first.
+    pub fn clear(&mut self)
+        ensures same { self.new.bytes.ghost_name ≡ self.old.bytes.ghost_name }
+        ensures bytes { self.new.bytes.now ≡ replicate (length self.old.bytes.now) 0 }
+        ensures pos { self.new.pos ≡ 0 }
+    {
+        self.bytes.fill(0);
+        self.pos = 0;
+    }
+
+    /// The same text and position, lent for a while. What is written stays; where the lent one then stands isn't taken over.
+    pub fn reborrow(&mut self) -> Builder<'_>
+        ensures bytes { result.bytes.now ≡ self.old.bytes.now }
+        ensures pos { result.pos ≡ self.old.pos }
+    {
+        let pos = self.pos;
+        let bytes = &mut *self.bytes;
+        Builder::with_pos(bytes, pos)
+    }
+
+    /// The text, to read.
+    pub fn into_reader(self) -> Reader<'a>
+        ensures { result.0.now ≡ self.entry.bytes.now }
+    {
+        let bytes = self.bytes;
+        Reader(bytes)
+    }
+
+    /// The text, to read for a while.
+    pub fn reborrow_as_reader(&self) -> Reader<'_>
+        ensures { result.0.now ≡ self.now.bytes.now }
+    {
+        Reader(self.bytes)
+    }
+}
+
+/// Texts to write compare by their bytes, wherever they go on.
+impl PartialEq for Builder<'_> {
+    ghost eq = { λ x y. pointwise nat_eq x.bytes.now y.bytes.now };
+
+    ghost laws = { on_per (λ b. b.bytes.now) (partial_equiv_from_equiv nat_list_eq_equiv) };
+
+    fn eq(&self, other: &Self) -> bool {
+        *self.bytes == *other.bytes
+    }
+}
+
+/// Writes a text as Rust does, between quotes.
+impl fmt::Debug for Builder<'_> {
+    fn fmt<W: fmt::Write>(&self, f: &mut fmt::Formatter<W>) -> fmt::Result {
+        match std::str::from_utf8(self.bytes) {
+            Ok(text) => write!(f, "{text:?}"),
+            Err(_) => f.write_str("<invalid utf-8>"),
+        }
+    }
+}

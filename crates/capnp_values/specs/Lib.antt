@@ -1,0 +1,4 @@
+pub mod Texts
+pub mod Sources
+pub mod ListSizes
+pub mod Shown

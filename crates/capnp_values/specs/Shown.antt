@@ -1,0 +1,145 @@
+-- What dynamic readers show. (Encoding, "Value Encoding")
+use Rattle.std.specs.Prelude.{ℕ, ◌≡◌, ◌*◌, if◌then◌else◌, Bool, true, false, not, ◌&&◌, Option, Some, None, option_map, option_copied, List, Result, Ok, Err}
+use Rattle.std.specs.Int.{w8, w16, w32, w64, cast_unsigned}
+use Rattle.capnp_model.specs.Kinds.{Kind}
+use Rattle.capnp_model.specs.Chains.{◌and_then◌}
+use Rattle.capnp_model.specs.Schemas.{bool, int, uint, «enum», width, Ty, void, plain, text, blob, untyped, interface, struct, list, Value as ModelValue, no_value, bits, text_bytes, blob_bytes, list_segment, struct_segment, untyped_value, interface_value, Shape, Schema, Body, void_slot, plain_slot, pointer_slot, group_slot}
+use Rattle.capnp_model.specs.Readings.{just_bits, discriminant, is_active}
+use Rattle.capnp_queries.specs.Fields.{union_in}
+use Rattle.capnp_queries.specs.declared.structs.StructSchema.{StructSchema}
+use Rattle.capnp_units.specs.declared.errors.Error.{Error}
+use Rattle.capnp_object.specs.Places.{seen}
+use Rattle.capnp_records.specs.NodeViews.{value_of}
+use Rattle.capnp_wire.specs.Views.{PointerView, StructView, ListView, pointer_field, element_of, element_number, bit_of_bool}
+use Rattle.capnp_wire.specs.Reads.{is_null, read_struct, read_blob, read_text, read_list}
+use Rattle.capnp_queries.specs.Types.{ty_of}
+use Rattle.capnp_queries.specs.Structs.{shape_of_struct, schema_around}
+use Rattle.capnp_queries.specs.Handles.{entry_of, plain_of, body_of_place}
+use Rattle.capnp_queries.specs.declared.fields.Field.{Field}
+use Rattle.capnp_queries.specs.declared.slots.FieldPlace.{FieldPlace}
+use Rattle.capnp_queries.specs.declared.slots.FieldPlace.TheVariants as place
+use Rattle.capnp_records.specs.Sets.{nodes_of}
+use Rattle.capnp_model.specs.Accepted.{schema_of}
+use Rattle.capnp_values.specs.ListSizes.{size_of}
+use Rattle.capnp_values.specs.Sources.{read_behind, default_pointer, masked_bits, pointer_seen, struct_seen, list_seen}
+use Rattle.capnp_values.specs.declared.dynamic_value.Reader.{Reader}
+use Rattle.capnp_values.specs.declared.dynamic_value.Reader.TheVariants as value
+
+-- What a dynamic reader shows.
+pub data Shown : Type 0 where
+  -- a plain value by its bits, with its type; Void by 0
+  a_number : Ty → ℕ → Shown
+  a_text : List ℕ → Shown
+  a_blob : List ℕ → Shown
+  -- a struct or a group, by its shape
+  a_struct : Shape → StructView → Shown
+  -- a list, by the type of its elements, whose ids a schema explains
+  a_list : Schema → Ty → ListView → Shown
+  a_pointer : PointerView → Shown
+  a_capability : Shown
+
+-- What a pointer shows under a type, else the kind of its fault; null shows the empty value.
+abbrev pub opened : Schema → Ty → PointerView → Result Shown Kind
+opened s void p = Ok (a_number void 0)
+opened s (plain q) p = Ok (a_number void 0)
+opened s text p = read_behind (read_text p.basis p.levels) p and_then λ bytes. Ok (a_text bytes)
+opened s blob p = read_behind (read_blob p.basis p.levels) p and_then λ bytes. Ok (a_blob bytes)
+opened s untyped p = Ok (a_pointer p)
+opened s interface p = Ok a_capability
+opened s (struct id) p = read_behind (read_struct p.basis p.levels) p and_then λ v. Ok (a_struct (s.shape_of id) v)
+opened s (list ty) p = read_behind (read_list p.basis p.levels (size_of ty)) p and_then λ l. Ok (a_list s ty l)
+
+-- What a struct or a list as a default shows; other types have none.
+abbrev pub segment_opened : Schema → Ty → PointerView → List ℕ → Result Shown Kind
+segment_opened s void p bytes = opened s void p
+segment_opened s (plain q) p bytes = opened s (plain q) p
+segment_opened s text p bytes = opened s text p
+segment_opened s blob p bytes = opened s blob p
+segment_opened s untyped p bytes = opened s untyped p
+segment_opened s interface p bytes = opened s interface p
+segment_opened s (struct id) p bytes = opened s (struct id) (default_pointer bytes)
+segment_opened s (list ty) p bytes = opened s (list ty) (default_pointer bytes)
+
+-- What a default shows in place of a null pointer.
+abbrev pub default_opened : Schema → Ty → PointerView → ModelValue → Result Shown Kind
+default_opened s ty p (text_bytes bytes) = Ok (a_text bytes)
+default_opened s ty p (blob_bytes bytes) = Ok (a_blob bytes)
+default_opened s ty p (list_segment bytes) = segment_opened s ty p bytes
+default_opened s ty p (struct_segment bytes) = segment_opened s ty p bytes
+default_opened s ty p no_value = opened s ty p
+default_opened s ty p (bits q n) = opened s ty p
+default_opened s ty p untyped_value = opened s ty p
+default_opened s ty p interface_value = opened s ty p
+
+-- What a pointer slot shows: a null one its default.
+abbrev pub slot_opened : Schema → Ty → Option ModelValue → PointerView → Result Shown Kind
+slot_opened s ty None p = opened s ty p
+slot_opened s ty (Some d) p = if is_null p then default_opened s ty p d else opened s ty p
+
+-- What a field at a place shows of a struct; a group shows the same struct under its own shape.
+abbrev pub place_shown : Schema → StructView → FieldPlace → Result Shown Kind
+place_shown s v (place.Void offset) = Ok (a_number void 0)
+place_shown s v (place.Plain ty offset default) = Ok (a_number (plain (plain_of ty)) (masked_bits v (width (plain_of ty) * offset) (width (plain_of ty)) default))
+place_shown s v (place.Pointer index ty default) = slot_opened s (ty_of ty) (option_map value_of (option_copied default)) (pointer_field v index)
+place_shown s v (place.Group g) = Ok (a_struct (shape_of_struct g) v)
+
+-- What an element of a list of the type shows.
+abbrev pub element_shown : Schema → Ty → ListView → ℕ → Result Shown Kind
+element_shown s void l i = Ok (a_number void 0)
+element_shown s (plain p) l i = Ok (a_number (plain p) (element_number l i (width p)))
+element_shown s (struct id) l i = Ok (a_struct (s.shape_of id) (element_of l i))
+element_shown s text l i = opened s text (pointer_field (element_of l i) 0)
+element_shown s blob l i = opened s blob (pointer_field (element_of l i) 0)
+element_shown s untyped l i = opened s untyped (pointer_field (element_of l i) 0)
+element_shown s interface l i = opened s interface (pointer_field (element_of l i) 0)
+element_shown s (list ty) l i = opened s (list ty) (pointer_field (element_of l i) 0)
+
+-- What a value shows.
+abbrev pub shown : {A : Type 0} → (A → List (List ℕ)) → Reader A → Shown
+shown bytes value.Void = a_number void 0
+shown bytes (value.Bool b) = a_number (plain bool) (bit_of_bool b)
+shown bytes (value.Int8 z) = a_number (plain (int 8)) (cast_unsigned w8 z)
+shown bytes (value.Int16 z) = a_number (plain (int 16)) (cast_unsigned w16 z)
+shown bytes (value.Int32 z) = a_number (plain (int 32)) (cast_unsigned w32 z)
+shown bytes (value.Int64 z) = a_number (plain (int 64)) (cast_unsigned w64 z)
+shown bytes (value.UInt8 n) = a_number (plain (uint 8)) n
+shown bytes (value.UInt16 n) = a_number (plain (uint 16)) n
+shown bytes (value.UInt32 n) = a_number (plain (uint 32)) n
+shown bytes (value.UInt64 n) = a_number (plain (uint 64)) n
+shown bytes (value.Enum e) = a_number (plain («enum» e.raw.id)) e.value
+shown bytes (value.Text t) = a_text t.0.now
+shown bytes (value.Data d) = a_blob d.now
+shown bytes (value.Struct r) = a_struct (shape_of_struct r.schema) (struct_seen bytes r.source)
+shown bytes (value.List l) = a_list (schema_of (nodes_of l.set.now)) (ty_of l.element_type) (list_seen bytes l.source)
+shown bytes (value.AnyPointer p) = a_pointer (pointer_seen bytes p.source)
+shown bytes (value.Capability c) = a_capability
+
+-- What a get of a field answers: what the field shows of the struct at its place.
+pub record ShowsField {A : Type 0} (bytes : A → List (List ℕ)) (v : StructView) (f : Field) (r : Result (Reader A) Error) : Type 0 where
+  pub place : FieldPlace
+  pub is : option_map (λ e. e.body) (entry_of f) ≡ Some (body_of_place place)
+  pub shows : seen (shown bytes) r ≡ place_shown (schema_around f.parent) v place
+
+-- ---- whether a field is there
+
+-- The discriminant of a struct under a schema, if that has a union; 0 where it isn't in the section.
+abbrev pub discriminant_shown : StructSchema → StructView → Option ℕ
+discriminant_shown s v = discriminant (union_in (shape_of_struct s)) (just_bits v.bits) v.section
+
+-- A field of this member's value, if there is a field, is active.
+abbrev pub is_active_field : Option ℕ → Option (Option ℕ) → Bool
+is_active_field d None = false
+is_active_field d (Some member) = is_active member d
+
+-- The field lies behind a pointer, and that is null.
+abbrev pub is_null_slot : StructView → Option Body → Bool
+is_null_slot v None = false
+is_null_slot v (Some (void_slot j)) = false
+is_null_slot v (Some (plain_slot p at d)) = false
+is_null_slot v (Some (pointer_slot i ty d)) = is_null (pointer_field v i)
+is_null_slot v (Some (group_slot g)) = false
+
+-- The field is no inactive member, and no null pointer.
+abbrev pub has_field : StructView → Field → Bool
+has_field v f =
+    is_active_field (discriminant_shown f.parent v) (option_map (λ e. e.member) (entry_of f)) && not (is_null_slot v (option_map (λ e. e.body) (entry_of f)))

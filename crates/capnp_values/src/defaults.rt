@@ -1,0 +1,80 @@
+//! Defaults of pointers, read in place.
+ghost use Rattle.std.specs.Prelude.{◌≡◌, ◌≢◌, pos, IfOk};
+ghost use Rattle.capnp_object.specs.Places.{seen};
+ghost use Rattle.capnp_units.specs.Sizes.{size_number};
+ghost use Rattle.capnp_wire.specs.Views.{seen_pointer, seen_struct, seen_list};
+ghost use Rattle.capnp_wire.specs.Reads.{read_struct, read_list};
+ghost use Rattle.capnp_values.specs.Sources.{default_segments, null_default, default_pointer, read_behind};
+
+use capnp_units::errors::Result;
+use capnp_units::limiter::ReadLimiter;
+use capnp_units::sizes::{ElementSize, SegmentId};
+use capnp_wire::arena::ReaderArena;
+use capnp_wire::list::ListReader;
+use capnp_wire::pointer::PointerReader;
+use capnp_wire::structs::StructReader;
+
+/// Where a default is read when a pointer is null: an arena whose root is null. A default has levels of its own, the 64 to which the schema rules bound it, whatever the message has left.
+#[derive(Clone, Copy, Debug, PartialEq, Eq)]
+pub struct Defaults;
+
+/// The levels of a default.
+const LEVELS: i32 = 64;
+
+static DEFAULTS: Defaults = Defaults;
+
+static NULL: [u8; 8] = [0; 8];
+
+impl ReaderArena for Defaults {
+    ghost segments = { default_segments };
+
+    ghost nesting = { λ a. pos 64 };
+
+    fn get_segment(&self, id: SegmentId) -> Option<&[u8]> {
+        if id == 0 { Some(&NULL) } else { None }
+    }
+
+    fn nesting_limit(&self) -> i32 {
+        LEVELS
+    }
+
+    fn size_in_words(&self) -> usize {
+        1
+    }
+}
+
+/// The null pointer in whose place a default is read.
+fn null<'a>() -> PointerReader<'a, Defaults>
+    ensures { seen_pointer default_segments result ≡ null_default }
+{
+    match PointerReader::get_root_from_arena(&DEFAULTS) {
+        Ok(root) => root,
+        Err(_) => unreachable!(),
+    }
+}
+
+/// The struct that a default's bytes hold; a default whose root is null is the empty struct.
+///
+/// It is refused as `PointerReader::get_struct` is; over an accepted set it isn't.
+pub(crate) fn default_struct<'a>(bytes: &'a [u8]) -> Result<StructReader<'a, Defaults>>
+    ensures { let p = default_pointer bytes.now in seen (seen_struct default_segments) result ≡ read_behind (read_struct p.basis p.levels) p }
+{
+    let (words, _) = bytes.as_chunks::<8>();
+    let mut unlimited = ReadLimiter::new(None);
+    null().get_struct(&mut unlimited, Some(words))
+}
+
+/// The list that a default's bytes hold; a default whose root is null is the empty list.
+///
+/// It is refused as `PointerReader::get_list` is; over an accepted set it isn't.
+pub(crate) fn default_list<'a>(
+    bytes: &'a [u8],
+    expected: ElementSize,
+) -> Result<ListReader<'a, Defaults>>
+    ensures list { let p = default_pointer bytes.now in seen (seen_list default_segments) result ≡ read_behind (read_list p.basis p.levels expected) p }
+    ensures bytewise { size_number expected ≢ 1 → IfOk result (λ l. size_number (seen_list default_segments l).size ≢ 1) }
+{
+    let (words, _) = bytes.as_chunks::<8>();
+    let mut unlimited = ReadLimiter::new(None);
+    null().get_list(&mut unlimited, expected, Some(words))
+}

@@ -1,0 +1,122 @@
+//! Lists whose elements' type is known at run time.
+ghost use Rattle.std.specs.Prelude.{◌≡◌, ◌≢◌, ◌==◌, ◌<◌, true};
+ghost use Rattle.capnp_units.specs.Sizes.{size_number};
+ghost use Rattle.capnp_records.specs.Sets.{nodes_of};
+ghost use Rattle.capnp_queries.specs.Types.{ty_of, is_type_of};
+ghost use Rattle.capnp_values.specs.ListSizes.{size_of};
+ghost use Rattle.capnp_values.specs.Sources.{size_in};
+
+use crate::dynamic_value;
+use crate::dynamic_value::Enum;
+use crate::opening::{open, struct_value};
+use crate::source::ListSource;
+use capnp_queries::introspect::{Type, TypeVariant};
+use capnp_records::set::SchemaSet;
+use capnp_units::errors::Result;
+use capnp_wire::arena::ReaderArena;
+use std::alloc::AllocError;
+
+/// A list to read, of a message or of a default, whose elements can be read as its type's.
+pub struct Reader<'a, A> {
+    source: ListSource<'a, A>,
+    set: &'a SchemaSet,
+    element_type: Type,
+    ghost known: { is_type_of (nodes_of set.now) element_type ≡ true },
+    ghost bytewise: { size_number (size_of (ty_of element_type)) ≢ 1 → size_number (size_in source) ≢ 1 },
+}
+
+impl<A> Clone for Reader<'_, A> {
+    ghost is_clone = { λ x y. y ≡ x };
+
+    ghost is_infallible = { λ _. Unit {0} };
+
+    fn clone(&self) -> std::result::Result<Self, AllocError> {
+        Ok(*self)
+    }
+}
+
+impl<A> Copy for Reader<'_, A> {}
+
+impl<'a, A: ReaderArena> Reader<'a, A> {
+    ghost use Rattle.capnp_object.specs.Places.{seen};
+    ghost use Rattle.capnp_model.specs.Accepted.{schema_of};
+    ghost use Rattle.capnp_values.specs.Sources.{list_seen};
+    ghost use Rattle.capnp_values.specs.Shown.{shown, element_shown};
+
+    /// A list of elements of a type of the set.
+    pub(crate) fn of_source(
+        source: ListSource<'a, A>,
+        set: &'a SchemaSet,
+        element_type: Type,
+    ) -> Self
+        requires known { is_type_of (nodes_of set.now) element_type ≡ true }
+        requires bytewise { size_number (size_of (ty_of element_type)) ≢ 1 → size_number (size_in source) ≢ 1 }
+        ensures source { result.source ≡ source.entry }
+        ensures set { nodes_of result.set.now ≡ nodes_of set.now }
+        ensures element_type { result.element_type ≡ element_type }
+    {
+        Reader {
+            source,
+            set,
+            element_type,
+        }
+    }
+
+    /// How many elements there are.
+    pub fn len(&self) -> u32
+        ensures { result ≡ (list_seen A.segments self.now.source).count }
+    {
+        self.source.len()
+    }
+
+    /// Whether there is no element.
+    pub fn is_empty(&self) -> bool
+        ensures { result ≡ ((list_seen A.segments self.now.source).count == 0) }
+    {
+        self.len() == 0
+    }
+
+    /// The type of the elements.
+    pub fn element_type(&self) -> Type
+        ensures { result ≡ self.now.element_type }
+    {
+        self.element_type
+    }
+
+    /// What an element is read as: a plain one by the bits at its front, 0 where it is narrower; a struct in place; one behind a pointer by what the pointer names, a null one as the empty value. It takes no memory, and has no limit of words.
+    ///
+    /// It is refused by the kind of the fault at the element's pointer, with `NestingLimitExceeded` where no level is left for it, and with `WrongPointerKind`, `WrongElementSize` or `TextWithoutZeroByte` where what is there can't be read as the elements' type.
+    #[tactic(auto, using(crate::proofs::Elements::element_rules))]
+    pub fn get(self, index: u32) -> Result<dynamic_value::Reader<'a, A>>
+        requires { index < (list_seen A.segments self.source).count }
+        ensures { let l = self.entry in seen (shown A.segments) result ≡ element_shown (schema_of (nodes_of l.set.now)) (ty_of l.element_type) (list_seen A.segments l.source) index }
+    {
+        match self.element_type.which() {
+            TypeVariant::Void => Ok(dynamic_value::Reader::Void),
+            TypeVariant::Bool => Ok(dynamic_value::Reader::Bool(self.source.number(index))),
+            TypeVariant::Int8 => Ok(dynamic_value::Reader::Int8(self.source.number(index))),
+            TypeVariant::Int16 => Ok(dynamic_value::Reader::Int16(self.source.number(index))),
+            TypeVariant::Int32 => Ok(dynamic_value::Reader::Int32(self.source.number(index))),
+            TypeVariant::Int64 => Ok(dynamic_value::Reader::Int64(self.source.number(index))),
+            TypeVariant::UInt8 => Ok(dynamic_value::Reader::UInt8(self.source.number(index))),
+            TypeVariant::UInt16 => Ok(dynamic_value::Reader::UInt16(self.source.number(index))),
+            TypeVariant::UInt32 => Ok(dynamic_value::Reader::UInt32(self.source.number(index))),
+            TypeVariant::UInt64 => Ok(dynamic_value::Reader::UInt64(self.source.number(index))),
+            TypeVariant::Enum(raw) => Ok(dynamic_value::Reader::Enum(Enum {
+                value: self.source.number(index),
+                set: self.set,
+                raw,
+            })),
+            TypeVariant::Struct(raw) => {
+                Ok(struct_value(self.source.structure(index), self.set, raw))
+            }
+            TypeVariant::Text
+            | TypeVariant::Data
+            | TypeVariant::AnyPointer
+            | TypeVariant::Capability
+            | TypeVariant::List(_) => {
+                open(self.source.pointer(index), self.set, self.element_type)
+            }
+        }
+    }
+}

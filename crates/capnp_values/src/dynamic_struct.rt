@@ -1,0 +1,125 @@
+//! Structs whose schema is known at run time.
+ghost use Rattle.std.specs.Prelude.{◌≡◌, Ok, option_map};
+ghost use Rattle.capnp_wire.specs.Views.{seen_struct};
+ghost use Rattle.capnp_wire.specs.ValueSizes.{StructSizeOf};
+ghost use Rattle.capnp_values.specs.Sources.{struct_seen, WithoutLimit};
+ghost use Rattle.capnp_queries.specs.Handles.{entry_of};
+ghost use Rattle.capnp_values.specs.Shown.{ShowsField, discriminant_shown, is_active_field, is_null_slot, has_field};
+
+use crate::dynamic_value;
+use crate::opening::open_slot;
+use crate::plain::plain_value;
+use crate::source::StructSource;
+use capnp_queries::fields::Field;
+use capnp_queries::slots::FieldPlace;
+use capnp_queries::structs::StructSchema;
+use capnp_records::node::NO_DISCRIMINANT;
+use capnp_units::errors::Result;
+use capnp_units::sizes::MessageSize;
+use capnp_wire::arena::ReaderArena;
+use capnp_wire::structs::StructReader;
+
+/// A struct or a group to read, of a message or of a default. It may have other sizes than its schema says.
+#[derive_where(Clone, Copy)]
+pub struct Reader<'a, A> {
+    pub(crate) source: StructSource<'a, A>,
+    pub(crate) schema: StructSchema<'a>,
+}
+
+impl<'a, A: ReaderArena> Reader<'a, A> {
+    /// A message's struct under a schema.
+    pub fn new(reader: StructReader<'a, A>, schema: StructSchema<'a>) -> Self
+        ensures source { struct_seen A.segments result.source ≡ seen_struct A.segments reader.entry }
+        ensures schema { result.schema ≡ schema.entry }
+    {
+        Reader {
+            source: StructSource::Message(reader),
+            schema,
+        }
+    }
+
+    /// The struct's schema.
+    pub fn get_schema(&self) -> StructSchema<'a>
+        ensures { result ≡ self.now.schema }
+    {
+        self.schema
+    }
+
+    /// The words of the struct's sections and of the objects behind its pointers, and its capabilities. It is refused as `StructReader::total_size` is where there is no limit of words, and bounded in time and stack likewise.
+    pub fn total_size(&self) -> Result<MessageSize>
+        ensures { WithoutLimit (StructSizeOf (struct_seen A.segments self.now.source)) result }
+    {
+        self.source.total_size()
+    }
+
+    /// What a field of the struct is read as: a plain one by its bits, exclusive or those of its default; one behind a pointer by what the pointer names, a null one by its default, which has levels of its own, else as the empty value; a group as the same struct under its own schema. A union member that isn't the active one is read all the same. It takes no memory, and has no limit of words.
+    ///
+    /// It is refused by the kind of the fault at the field's pointer, with `NestingLimitExceeded` where no level is left for it, and with `WrongPointerKind`, `WrongElementSize` or `TextWithoutZeroByte` where what is there can't be read as the field's type.
+    pub fn get(self, field: Field<'a>) -> Result<dynamic_value::Reader<'a, A>>
+        ensures { ShowsField A.segments (struct_seen A.segments self.entry.source) field.entry result }
+    {
+        let set = field.parent().set();
+        match field.place() {
+            FieldPlace::Void { .. } => Ok(dynamic_value::Reader::Void),
+            FieldPlace::Plain {
+                ty,
+                offset,
+                default_bits,
+            } => Ok(plain_value(&self.source, set, ty, offset as usize, default_bits)),
+            FieldPlace::Pointer { index, default, .. } => {
+                open_slot(
+                    self.source.pointer(index as usize),
+                    set,
+                    field.get_type(),
+                    default,
+                )
+            }
+            FieldPlace::Group { schema } => Ok(dynamic_value::Reader::Struct(Reader {
+                source: self.source,
+                schema,
+            })),
+        }
+    }
+
+    /// The value of the discriminant, where the schema has a union; 0 where it doesn't lie in the section.
+    #[tactic(auto, using(crate::proofs::Bits::tag_bits))]
+    fn discriminant(&self, schema: StructSchema<'a>) -> Option<u16>
+        ensures { result ≡ discriminant_shown schema.entry (struct_seen A.segments self.now.source) }
+    {
+        match schema.discriminant_offset() {
+            None => None,
+            Some(offset) => Some(self.source.number(offset as usize, 0)),
+        }
+    }
+
+    /// Whether a field is no union member, or the active one.
+    fn is_active(&self, field: Field<'a>) -> bool
+        ensures { result ≡ is_active_field (discriminant_shown field.entry.parent (struct_seen A.segments self.now.source)) (option_map (λ e. e.member) (entry_of field.entry)) }
+    {
+        let member = field.get_proto().discriminant_value;
+        if member == NO_DISCRIMINANT {
+            return true;
+        }
+        match self.discriminant(field.parent()) {
+            None => false,
+            Some(active) => member == active,
+        }
+    }
+
+    /// Whether a field lies behind a pointer that is null.
+    fn is_null_slot(&self, field: Field<'a>) -> bool
+        ensures { result ≡ is_null_slot (struct_seen A.segments self.now.source) (option_map (λ e. e.body) (entry_of field.entry)) }
+    {
+        match field.place() {
+            FieldPlace::Pointer { index, .. } => self.source.pointer(index as usize).is_null(),
+            _ => false,
+        }
+    }
+
+    /// Whether a field of the struct is there: false for a union member that isn't the active one, and where the field's pointer is null; else true, for groups too. It never refuses.
+    pub fn has(&self, field: Field<'a>) -> Result<bool>
+        ensures { result ≡ Ok (has_field (struct_seen A.segments self.now.source) field.entry) }
+    {
+        Ok(self.is_active(field) && !self.is_null_slot(field))
+    }
+}

@@ -1,0 +1,14 @@
+//! Values whose type is known at run time: what they are read as, and their text.
+#![tactic(auto)]
+
+pub mod any_pointer;
+mod defaults;
+pub mod dynamic_list;
+pub mod dynamic_struct;
+pub mod dynamic_value;
+mod opening;
+mod plain;
+mod single;
+pub mod source;
+#[cfg(test)]
+mod tests;

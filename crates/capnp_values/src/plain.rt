@@ -1,0 +1,44 @@
+//! Plain values of structs.
+ghost use Rattle.std.specs.Prelude.{◌≡◌, ◌*◌, ◌^◌, ◌<◌};
+ghost use Rattle.capnp_model.specs.Schemas.{plain, width};
+ghost use Rattle.capnp_queries.specs.Handles.{plain_of};
+ghost use Rattle.capnp_values.specs.Sources.{struct_seen, masked_bits};
+ghost use Rattle.capnp_values.specs.Shown.{a_number, shown};
+
+use crate::dynamic_value::{Enum, Reader};
+use crate::source::StructSource;
+use capnp_queries::slots::PlainType;
+use capnp_records::set::SchemaSet;
+use capnp_wire::arena::ReaderArena;
+
+/// A plain value of a struct: its bits, exclusive or those of its default, which alone are there outside the section.
+pub(crate) fn plain_value<'a, A: ReaderArena>(
+    source: &StructSource<'a, A>,
+    set: &'a SchemaSet,
+    ty: PlainType,
+    offset: usize,
+    default_bits: u64,
+) -> Reader<'a, A>
+    requires { default_bits < 2 ^ width (plain_of ty) }
+    ensures { shown A.segments result ≡ a_number (plain (plain_of ty)) (masked_bits (struct_seen A.segments source.now) (width (plain_of ty) * offset) (width (plain_of ty)) default_bits) }
+{
+    match ty {
+        PlainType::Bool => Reader::Bool(source.bit(offset, default_bits == 1)),
+        PlainType::Int8 => Reader::Int8(source.number(offset, (default_bits as u8).cast_signed())),
+        PlainType::Int16 => {
+            Reader::Int16(source.number(offset, (default_bits as u16).cast_signed()))
+        }
+        PlainType::Int32 => {
+            Reader::Int32(source.number(offset, (default_bits as u32).cast_signed()))
+        }
+        PlainType::Int64 => Reader::Int64(source.number(offset, default_bits.cast_signed())),
+        PlainType::UInt8 => Reader::UInt8(source.number(offset, default_bits as u8)),
+        PlainType::UInt16 => Reader::UInt16(source.number(offset, default_bits as u16)),
+        PlainType::UInt32 => Reader::UInt32(source.number(offset, default_bits as u32)),
+        PlainType::UInt64 => Reader::UInt64(source.number(offset, default_bits)),
+        PlainType::Enum(raw) => {
+            let value = source.number(offset, default_bits as u16);
+            Reader::Enum(Enum { value, set, raw })
+        }
+    }
+}
