@@ -39,6 +39,7 @@ pub record TriesMessage (read : Reader) (faults : ErrorKind → Type 0) (limit :
   pub kind : IfErr result (λ e. IsReadKind faults e.kind)
   pub part : OnErr result (TakesStart read limit old.remaining new.remaining)
   pub wanted : WantsBetweenPieces read limit old.remaining new.remaining result
+  pub begun : IfErr result (λ e. e.kind ≡ OutOfMemory → IfSome old.remaining (λ xs. xs ≢ []))
   pub count : Counts result old.failures new.failures
 
 -- The same, where the end is a refusal.
@@ -51,4 +52,5 @@ pub record ReadsMessage (read : Reader) (faults : ErrorKind → Type 0) (limit :
   pub kind : IfErr result (λ e. e.kind ≢ PrematureEndOfFile → IsReadKind faults e.kind)
   pub part : OnErr result (TakesStart read limit old.remaining new.remaining)
   pub wanted : WantsBetweenPieces read limit old.remaining new.remaining result
+  pub begun : IfErr result (λ e. e.kind ≡ OutOfMemory → IfSome old.remaining (λ xs. xs ≢ []))
   pub count : Counts result old.failures new.failures
