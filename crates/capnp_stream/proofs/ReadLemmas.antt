@@ -35,6 +35,7 @@ module _ (read : Reader) (fronts : ReadsFronts read) (faults : ErrorKind → Typ
   tries-failed a b m n e failed kept count = record {
     message = tt;
     kept = tt;
+    joined = tt;
     writable = tt;
     none = tt;
     refused = λ framing. let no : IsFramingKind Device = subst IsFramingKind failed framing in absurd no;
@@ -52,6 +53,7 @@ module _ (read : Reader) (fronts : ReadsFronts read) (faults : ErrorKind → Typ
   tries-refused a b c m n e look at unseen kept refused kind part wanted count = record {
     message = tt;
     kept = tt;
+    joined = tt;
     writable = tt;
     none = tt;
     refused = λ framing. fault-of_kept read limit a b e.kind look at unseen kept (refused framing);
@@ -68,6 +70,7 @@ module _ (read : Reader) (fronts : ReadsFronts read) (faults : ErrorKind → Typ
   reads-none a b m n e end at kept count = record {
     message = tt;
     kept = tt;
+    joined = tt;
     writable = tt;
     no_byte = λ _. (at, kept);
     refused = λ framing. let no : IsFramingKind PrematureEndOfFile = subst IsFramingKind end framing in absurd no;
