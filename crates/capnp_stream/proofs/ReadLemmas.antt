@@ -1,5 +1,5 @@
 -- From the parts of a reader's promise to the whole.
-use Rattle.std.proofs.Common.{◌≡◌, inl, inr, ℕ, [], List, Bool, true, false, None, Some, IsTrue, ◌↔◌, IfSome, Err, subst, sym}
+use Rattle.std.proofs.Common.{◌≡◌, ◌≢◌, inl, inr, ℕ, [], List, Bool, true, false, None, Some, IsTrue, ◌↔◌, IfSome, Err, subst, sym}
 use Rattle.std.specs.declared.convert.AsSlice.{Ghosts}
 use Rattle.std.specs.declared.option.Option.{Option}
 use Rattle.std.specs.Io.KnownBytes.{Keeps, IsAtEnd}
@@ -23,6 +23,11 @@ module _ (read : Reader) (limit : Option ℕ) where
   pieces-of_kept a b c kept (inr (inl p)) = let q = p.1 in inr (inl (p.0, (q.0, q.1, Consumes-of_kept a b c q.0 kept q.2, q.3)))
   pieces-of_kept a b c kept (inr (inr p)) = let q = p.1 in inr (inr (p.0, (q.0, Consumes-of_kept a b c q.0 kept q.1, q.2, q.3)))
 
+-- a look that finds a byte
+some-seen : (a : Option (List ℕ)) (look : Bool) → IfSome a (λ xs. IsTrue look ↔ (xs ≡ [])) → look ≡ false → IfSome a (λ xs. xs ≢ [])
+some-seen None look at unseen = tt
+some-seen (Some x) look at unseen = λ e. let yes : look ≡ true = at.1 e in absurd cc
+
 module _ (read : Reader) (fronts : ReadsFronts read) (faults : ErrorKind → Type 0) (limit : Option ℕ) where
   -- the source failed at the look
   pub tries-failed : (a b : Option (List ℕ)) (m n : ℕ) (e : Error) → e.kind ≡ Device → Keeps a b → KindCounts e.kind m n
@@ -30,12 +35,14 @@ module _ (read : Reader) (fronts : ReadsFronts read) (faults : ErrorKind → Typ
   tries-failed a b m n e failed kept count = record {
     message = tt;
     kept = tt;
+    joined = tt;
     writable = tt;
     none = tt;
     refused = λ framing. let no : IsFramingKind Device = subst IsFramingKind failed framing in absurd no;
     kind = let device : IsReadKind faults Device = tt in subst (IsReadKind faults) (sym failed) device;
     part = part-of_kept read fronts limit a b kept;
     wanted = λ w. absurd cc;
+    begun = λ w. absurd cc;
     count = count;
   }
 
@@ -46,12 +53,14 @@ module _ (read : Reader) (fronts : ReadsFronts read) (faults : ErrorKind → Typ
   tries-refused a b c m n e look at unseen kept refused kind part wanted count = record {
     message = tt;
     kept = tt;
+    joined = tt;
     writable = tt;
     none = tt;
     refused = λ framing. fault-of_kept read limit a b e.kind look at unseen kept (refused framing);
     kind = kind;
     part = TakesStart-of_kept read limit a b c kept part;
     wanted = λ w. pieces-of_kept read limit a b c kept (wanted w);
+    begun = λ w. some-seen a look at unseen;
     count = count;
   }
 
@@ -61,12 +70,14 @@ module _ (read : Reader) (fronts : ReadsFronts read) (faults : ErrorKind → Typ
   reads-none a b m n e end at kept count = record {
     message = tt;
     kept = tt;
+    joined = tt;
     writable = tt;
     no_byte = λ _. (at, kept);
     refused = λ framing. let no : IsFramingKind PrematureEndOfFile = subst IsFramingKind end framing in absurd no;
     kind = λ other. absurd (other end);
     part = part-of_kept read fronts limit a b kept;
     wanted = λ w. absurd cc;
+    begun = λ w. absurd cc;
     count = let same : KindCounts PrematureEndOfFile m n = count in subst (λ k. KindCounts k m n) (sym end) same;
   }
 
@@ -93,6 +104,7 @@ module _ {T : Type 0} {g : Ghosts T ℕ} (read : Reader) (fronts : ReadsFronts r
       none = tt;
       refused = λ framing. absurd (no_framing e.kind failed framing);
       short = λ w. absurd cc;
+      begun = λ w. absurd cc;
       kind = device-fills faults e.kind failed;
       part = part-of_kept read fronts limit a b kept;
       room = λ w. absurd cc;
@@ -105,6 +117,7 @@ module _ {T : Type 0} {g : Ghosts T ℕ} (read : Reader) (fronts : ReadsFronts r
       no_byte = λ w. absurd cc;
       refused = λ framing. absurd (no_framing e.kind failed framing);
       short = λ w. absurd cc;
+      begun = λ w. absurd cc;
       kind = λ _. device-fills faults e.kind failed;
       part = part-of_kept read fronts limit a b kept;
       room = λ w. absurd cc;
@@ -118,6 +131,7 @@ module _ {T : Type 0} {g : Ghosts T ℕ} (read : Reader) (fronts : ReadsFronts r
     no_byte = λ _. (at, kept);
     refused = λ framing. let no : IsFramingKind PrematureEndOfFile = subst IsFramingKind end framing in absurd no;
     short = λ w. absurd cc;
+    begun = λ w. absurd cc;
     kind = λ other. absurd (other end);
     part = part-of_kept read fronts limit a b kept;
     room = λ w. absurd cc;

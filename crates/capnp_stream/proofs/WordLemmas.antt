@@ -1,7 +1,7 @@
 -- Words in bytes, and the segments that they are cut into.
 use Rattle.std.proofs.Common.{◌≡◌, ℕ, zero, suc, ◌+◌, ◌-◌, ◌*◌, ◌/◌, ◌%◌, ◌^◌, ◌<◌, ◌≤◌, subst, append_assoc, append-nil, List, [], ◌∷◌, ◌++◌, length, take, drop, sum, refl, sym, ap, ◌∙◌, arith, length-drop, length-take-le, take-append-drop}
 use Rattle.std.specs.Prelude.{All}
-use Rattle.std.specs.List.{slice_range}
+use Rattle.std.specs.List.{slice_range, concat}
 use Rattle.std.specs.Int.{from_le_bytes, to_le_bytes, w64}
 use Rattle.std.proofs.lemmas.Nat.{le_bytes_8}
 use Rattle.std.proofs.lemmas.List.{drop-take, drop-drop, get_or-drop, nil_from_length, map-append, length-append}
@@ -77,6 +77,23 @@ pub cut-of_joined : (bytes body : List ℕ) (ranges : List (ℕ × ℕ)) (ns : L
     → words_in (bytes_at bytes ranges) ≡ cut ns (words_in_bytes (sum ns) body)
 cut-of_joined bytes body ranges ns same joined fits =
     ap (λ b. words_in (bytes_at b ranges)) same ∙ ap (λ r. words_in (bytes_at body r)) joined ∙ segments-of_ranges body 0 ns (omega arith)
+
+-- segments that lie one after the other to the end of the bytes are all of them
+pub concat-of_ranges : (bytes : List ℕ) (at : ℕ) (ns : List ℕ) → length bytes ≡ 8 * (at + sum ns) → concat (bytes_at bytes (ranges_from at ns)) ≡ drop (8 * at) bytes
+concat-of_ranges bytes at [] fits = sym (nil_from_length (drop (8 * at) bytes) (omega (arith, length-drop (8 * at) bytes, fits)))
+concat-of_ranges bytes at (n ∷ ns) fits =
+    let rest = drop (8 * at) bytes in
+    let width : 8 * (at + n) - 8 * at ≡ 8 * n = omega arith in
+    let next : 8 * (at + n) ≡ 8 * at + 8 * n = omega arith in
+    let one : slice_range bytes (8 * at) (8 * (at + n)) ≡ take (8 * n) rest = ap (λ k. take k rest) width in
+    let behind : drop (8 * (at + n)) bytes ≡ drop (8 * n) rest = ap (λ k. drop k bytes) next ∙ sym (drop-drop (8 * n) (8 * at) bytes) in
+    let others = concat-of_ranges bytes (at + n) ns (omega (arith, sum-cons n ns, fits)) ∙ behind in
+    rw (one, others) (take-append-drop (8 * n) rest)
+
+pub concat-of_joined : (bytes body : List ℕ) (ranges : List (ℕ × ℕ)) (ns : List ℕ) → bytes ≡ body → ranges ≡ ranges_from 0 ns → length body ≡ 8 * sum ns → bytes ≡ concat (bytes_at bytes ranges)
+concat-of_joined bytes body ranges ns same joined fits =
+    let whole : length body ≡ 8 * (0 + sum ns) = omega (arith, fits) in
+    rw (same, joined) (sym (concat-of_ranges body 0 ns whole))
 
 -- The range lies within so many bytes.
 abbrev pub IsWithin : ℕ → ℕ × ℕ → Type 0

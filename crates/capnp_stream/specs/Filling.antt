@@ -7,7 +7,7 @@ use Rattle.std.specs.Io.KnownBytes.{Keeps, IsAtEnd}
 use Rattle.capnp_units.specs.Segments.{words_in}
 use Rattle.capnp_units.specs.declared.errors.Error.{Error}
 use Rattle.capnp_units.specs.declared.kinds.ErrorKind.{ErrorKind}
-use Rattle.capnp_units.specs.declared.kinds.ErrorKind.TheVariants.{PrematureEndOfFile}
+use Rattle.capnp_units.specs.declared.kinds.ErrorKind.TheVariants.{BufferNotLargeEnough, PrematureEndOfFile}
 use Rattle.capnp_model.specs.Messages.{Reader}
 use Rattle.capnp_stream.specs.Counting.{Counts}
 use Rattle.capnp_stream.specs.Frames.{IsFrameFault, TakesMessage, TakesStart, IsFramingKind}
@@ -24,6 +24,7 @@ pub record TriesFilling {T : Type 0} {g : Ghosts T ℕ} (read : Reader) (faults 
   -- The bytes that are left begin with no message, and the kind says why; or the message has more bytes than the buffer, which is seen between pieces.
   pub refused : IfErr result (λ e. IsFramingKind e.kind → IfSome old.remaining (λ xs. (xs ≢ []) × IsFrameFault read limit xs e.kind))
   pub short : TellsNeed read limit size old.remaining result
+  pub begun : IfErr result (λ e. e.kind ≡ BufferNotLargeEnough → IfSome old.remaining (λ xs. xs ≢ []))
   pub kind : IfErr result (λ e. IsFillKind faults e.kind)
   pub part : OnErr result (TakesStart read limit old.remaining new.remaining)
   pub room : LacksBetweenPieces read limit old.remaining new.remaining result
@@ -35,6 +36,7 @@ pub record FillsMessage {T : Type 0} {g : Ghosts T ℕ} (read : Reader) (faults 
   pub no_byte : IfErr result (λ e. e.kind ≡ PrematureEndOfFile → IsAtEnd old.remaining × Keeps old.remaining new.remaining)
   pub refused : IfErr result (λ e. IsFramingKind e.kind → IfSome old.remaining (λ xs. (xs ≢ []) × IsFrameFault read limit xs e.kind))
   pub short : TellsNeed read limit size old.remaining result
+  pub begun : IfErr result (λ e. e.kind ≡ BufferNotLargeEnough → IfSome old.remaining (λ xs. xs ≢ []))
   pub kind : IfErr result (λ e. e.kind ≢ PrematureEndOfFile → IsFillKind faults e.kind)
   pub part : OnErr result (TakesStart read limit old.remaining new.remaining)
   pub room : LacksBetweenPieces read limit old.remaining new.remaining result

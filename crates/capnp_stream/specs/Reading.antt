@@ -1,5 +1,6 @@
 -- What the readers of one message on a stream promise. (Encoding, "Serialization Over a Stream")
 use Rattle.std.specs.Prelude.{◌≡◌, ◌≢◌, ℕ, List, [], IfSome, IfNone, IfOk, IfErr, OnErr}
+use Rattle.std.specs.List.{concat}
 use Rattle.std.specs.declared.result.Result.{Result}
 use Rattle.std.specs.declared.option.Option.{Option}
 use Rattle.std.specs.Io.KnownBytes.{Keeps, IsAtEnd}
@@ -10,7 +11,7 @@ use Rattle.capnp_model.specs.Messages.{Reader}
 use Rattle.capnp_model.specs.Spelling.{CanSpell}
 use Rattle.capnp_stream.specs.Counting.{Counts}
 use Rattle.capnp_stream.specs.Frames.{IsFrameFault, TakesMessage, TakesStart, TakesWholePieces, IsFramingKind, IsReadKind}
-use Rattle.capnp_stream.specs.Segments.{segment_bytes, segments_of}
+use Rattle.capnp_stream.specs.Segments.{owned_bytes, segment_bytes, segments_of}
 use Rattle.capnp_stream.specs.Writing.{AreWritable}
 use Rattle.capnp_stream.specs.declared.segments.OwnedSegments.{OwnedSegments}
 
@@ -32,6 +33,7 @@ pub record TriesMessage (read : Reader) (faults : ErrorKind → Type 0) (limit :
   -- One message is taken, whatever follows it, and can be written again.
   pub message : IfOk result (λ o. IfSome o (λ m. TakesMessage read limit old.remaining new.remaining (segments_of m)))
   pub kept : IfOk result (λ o. IfSome o (λ m. CanSpell limit (segments_of m)))
+  pub joined : IfOk result (λ o. IfSome o (λ m. owned_bytes m ≡ concat (segment_bytes m)))
   pub writable : IfOk result (λ o. IfSome o (λ m. AreWritable (segment_bytes m)))
   pub none : IfOk result (λ o. IfNone o (IsAtEnd old.remaining × Keeps old.remaining new.remaining))
   -- The bytes that are left begin with no message, and the kind says why. Memory is wanted between pieces.
@@ -39,16 +41,19 @@ pub record TriesMessage (read : Reader) (faults : ErrorKind → Type 0) (limit :
   pub kind : IfErr result (λ e. IsReadKind faults e.kind)
   pub part : OnErr result (TakesStart read limit old.remaining new.remaining)
   pub wanted : WantsBetweenPieces read limit old.remaining new.remaining result
+  pub begun : IfErr result (λ e. e.kind ≡ OutOfMemory → IfSome old.remaining (λ xs. xs ≢ []))
   pub count : Counts result old.failures new.failures
 
 -- The same, where the end is a refusal.
 pub record ReadsMessage (read : Reader) (faults : ErrorKind → Type 0) (limit : Option ℕ) (old : SourceSeen) (result : Result OwnedSegments Error) (new : SourceSeen) : Type 0 where
   pub message : IfOk result (λ m. TakesMessage read limit old.remaining new.remaining (segments_of m))
   pub kept : IfOk result (λ m. CanSpell limit (segments_of m))
+  pub joined : IfOk result (λ m. owned_bytes m ≡ concat (segment_bytes m))
   pub writable : IfOk result (λ m. AreWritable (segment_bytes m))
   pub no_byte : IfErr result (λ e. e.kind ≡ PrematureEndOfFile → IsAtEnd old.remaining × Keeps old.remaining new.remaining)
   pub refused : IfErr result (λ e. IsFramingKind e.kind → IfSome old.remaining (λ xs. (xs ≢ []) × IsFrameFault read limit xs e.kind))
   pub kind : IfErr result (λ e. e.kind ≢ PrematureEndOfFile → IsReadKind faults e.kind)
   pub part : OnErr result (TakesStart read limit old.remaining new.remaining)
   pub wanted : WantsBetweenPieces read limit old.remaining new.remaining result
+  pub begun : IfErr result (λ e. e.kind ≡ OutOfMemory → IfSome old.remaining (λ xs. xs ≢ []))
   pub count : Counts result old.failures new.failures

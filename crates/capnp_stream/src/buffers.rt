@@ -1,5 +1,5 @@
 //! The segments of framed messages that lie in a buffer as a whole.
-ghost use Rattle.std.specs.Prelude.{◌≡◌, ◌≢◌, ◌≤◌, ◌<◌, ℕ, List, ◌+◌, ◌*◌, length, drop, sum, All, Ok, Err, IfOk, IfErr, OnErr};
+ghost use Rattle.std.specs.Prelude.{◌≡◌, ◌≢◌, ◌≤◌, ◌<◌, ℕ, List, ◌+◌, ◌*◌, length, drop, sum, All, Ok, Err, IsOk, IfOk, IfErr, OnErr};
 ghost use Rattle.capnp_units.specs.Errors.{kind_of};
 ghost use Rattle.capnp_units.specs.declared.kinds.ErrorKind.{ErrorKind};
 ghost use Rattle.capnp_units.specs.Segments.{words_in};
@@ -33,13 +33,15 @@ impl<T: AsSlice<u8> + Drop> BufferSegments<T> {
 
     /// The segments of the framed message at the front of the buffer.
     ///
-    /// Refused by the kind of the first part that can't be read, and by `OutOfMemory`.
+    /// Refused by the kind of the first part that can't be read, and by `OutOfMemory` where all can.
     pub fn new(alloc: Global, buffer: T, limit: Option<usize>) -> Result<BufferSegments<T>>
         ensures buffer { IfOk result (λ s. buffer_of s ≡ buffer) }
         ensures message { IfOk result (λ s. (rest : List ℕ)
             × (flat_at limit (T.items buffer) ≡ Ok (words_in (buffer_segments s), rest))) }
         ensures refused { IfErr result (λ e. e.kind ≢ ErrorKind.OutOfMemory
             → flat_at limit (T.items buffer) ≡ Err (kind_of e.kind)) }
+        ensures wanted { IfErr result
+            (λ e. e.kind ≡ ErrorKind.OutOfMemory → IsOk (flat_at limit (T.items buffer))) }
     {
         let info = info_at(buffer.as_slice(), limit)?;
         BufferSegments::described(alloc, buffer, info)
@@ -100,6 +102,8 @@ impl<'a> BufferSegments<&'a [u8]> {
             (λ s. flat_at limit slice.old.now ≡ Ok (words_in (buffer_segments s), slice.new.now)) }
         ensures refused { IfErr result (λ e. e.kind ≢ ErrorKind.OutOfMemory
             → flat_at limit slice.old.now ≡ Err (kind_of e.kind)) }
+        ensures wanted { IfErr result
+            (λ e. e.kind ≡ ErrorKind.OutOfMemory → IsOk (flat_at limit slice.old.now)) }
         ensures kept { OnErr result (slice.new.now ≡ slice.old.now) }
     {
         let all: &'a [u8] = *slice;

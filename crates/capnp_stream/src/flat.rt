@@ -1,6 +1,7 @@
 //! Tables of framed messages at the front of a buffer.
-ghost use Rattle.std.specs.Prelude.{◌≡◌, ◌≤◌, ◌<◌, ◌↔◌, ◌+◌, ◌*◌, ◌/◌, ◌^◌, length, drop, sum, slice_index, IsTrue, Ok, Err, IfOk, IfErr};
+ghost use Rattle.std.specs.Prelude.{◌≡◌, ◌≢◌, ◌≤◌, ◌<◌, ◌↔◌, ◌+◌, ◌*◌, ◌/◌, ◌^◌, length, drop, sum, slice_index, IsTrue, Ok, Err, IfOk, IfErr};
 ghost use Rattle.capnp_units.specs.Errors.{kind_of};
+ghost use Rattle.capnp_units.specs.declared.kinds.ErrorKind.{ErrorKind};
 ghost use Rattle.capnp_units.specs.Segments.{whole_words, words_in};
 ghost use Rattle.capnp_model.specs.Messages.{halves, flat_at};
 ghost use Rattle.capnp_stream.specs.Flat.{table_lengths, table_bytes, frame_segments, Describes};
@@ -75,6 +76,7 @@ pub(crate) fn info_at(bytes: &[u8], limit: Option<usize>) -> Result<NoAllocSegme
           drop (i.segment_table_length_bytes + i.total_segments_length_bytes) bytes.now,
         )) }
     ensures refused { IfErr result (λ e. flat_at limit bytes.now ≡ Err (kind_of e.kind)) }
+    ensures no_memory { IfErr result (λ e. e.kind ≢ ErrorKind.OutOfMemory) }
 {
     if bytes.is_empty() {
         return Err(Error::from(ErrorKind::MessageEndsPrematurely));

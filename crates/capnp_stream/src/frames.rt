@@ -1,12 +1,13 @@
 //! Messages of any number of segments, read in their forms.
 ghost use Rattle.std.specs.Prelude.{◌≡◌, ◌≤◌, ◌*◌, ◌^◌, ◌<◌, ◌↔◌, [], length, sum, IfSome, IfOk, IfErr, OnErr, IsTrue};
+ghost use Rattle.std.specs.List.{concat};
 ghost use Rattle.std.specs.Io.KnownBytes.{Keeps};
 ghost use Rattle.capnp_units.specs.declared.kinds.ErrorKind.{ErrorKind};
 ghost use Rattle.capnp_model.specs.Messages.{plain_words, within};
 ghost use Rattle.capnp_model.specs.Spelling.{AreShort, CanSpell};
 ghost use Rattle.capnp_stream.specs.Counting.{Counts};
 ghost use Rattle.capnp_stream.specs.Pieces.{TakesPiece, is_framed_fault};
-ghost use Rattle.capnp_stream.specs.Segments.{AreBytes, whole_words, lengths_of, segment_bytes, segments_of};
+ghost use Rattle.capnp_stream.specs.Segments.{AreBytes, whole_words, lengths_of, owned_bytes, segment_bytes, segments_of};
 ghost use Rattle.capnp_stream.specs.Frames.{TellsFault, TakesMessage, TakesStart, TakesTable, IsReadKind, IsCut};
 ghost use Rattle.capnp_stream.specs.Reading.{WantsBetweenPieces, TriesMessage, ReadsMessage, source_seen};
 ghost use Rattle.capnp_stream.specs.Writing.{AreWritable};
@@ -110,6 +111,7 @@ fn read_segments<F: MessageForm, R: BufRead>(
     ensures message { IfOk result (λ m. TakesMessage F.reader limit (R.remaining source.old)
         (R.remaining source.new) (segments_of m)) }
     ensures kept { IfOk result (λ m. CanSpell limit (segments_of m)) }
+    ensures joined { IfOk result (λ m. owned_bytes m ≡ concat (segment_bytes m)) }
     ensures writable { IfOk result (λ m. AreWritable (segment_bytes m)) }
     ensures refused { TellsFault F.reader limit (R.remaining source.old) result }
     ensures kind { IfErr result (λ e. IsReadKind F.faults e.kind) }
@@ -131,7 +133,7 @@ fn read_segments<F: MessageForm, R: BufRead>(
 
 /// The segments of the next message in a form, or `None` where no byte is left.
 ///
-/// A message of more words than the limit is refused. After a refusal less than a message was taken, and no byte behind the first that is at fault.
+/// A message of more words than the limit is refused. `OutOfMemory`: some byte is left, and the memory for the table or the segments was refused. After a refusal less than a message was taken, and no byte behind the first that is at fault.
 pub fn try_read_message_in<F: MessageForm, R: BufRead>(
     alloc: Global,
     source: &mut R,
@@ -166,7 +168,7 @@ pub fn read_message_in<F: MessageForm, R: BufRead>(
 
 /// The segments of the next framed message, or `None` where no byte is left.
 ///
-/// A message of more words than the limit is refused. After a refusal less than a message was taken, and no byte behind the first that is at fault.
+/// A message of more words than the limit is refused. `OutOfMemory`: some byte is left, and the memory for the table or the segments was refused. After a refusal less than a message was taken, and no byte behind the first that is at fault.
 pub fn try_read_message<R: BufRead>(
     alloc: Global,
     source: &mut R,

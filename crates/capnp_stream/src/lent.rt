@@ -92,7 +92,7 @@ fn fill_message<F: MessageForm, R: BufRead>(
 
 /// The segments of the next message in a form, or `None` where no byte is left. Its table and its segments lie unpacked in the buffer.
 ///
-/// A message of more words than the limit is refused. `BufferNotLargeEnough`: the buffer has fewer bytes than the table and the segments unpacked; one of fewer than 8 bytes is refused before any byte is taken. After a refusal less than a message was taken, and no byte behind the first that is at fault.
+/// A message of more words than the limit is refused. `BufferNotLargeEnough`: some byte is left, and the buffer has fewer bytes than the table and the segments unpacked; one of fewer than 8 bytes is refused before any byte is taken. After a refusal less than a message was taken, and no byte behind the first that is at fault.
 pub fn try_read_message_no_alloc_in<'a, F: MessageForm, R: BufRead>(
     source: &mut R,
     buffer: &'a mut [u8],
@@ -130,7 +130,7 @@ pub fn read_message_no_alloc_in<'a, F: MessageForm, R: BufRead>(
 
 /// The segments of the next framed message, or `None` where no byte is left. The message lies in the buffer as it was read.
 ///
-/// A message of more words than the limit is refused. `BufferNotLargeEnough`: the buffer has fewer bytes than the message. After a refusal less than a message was taken, and no byte behind the first that is at fault.
+/// A message of more words than the limit is refused. `BufferNotLargeEnough`: some byte is left, and the buffer has fewer bytes than the message. After a refusal less than a message was taken, and no byte behind the first that is at fault.
 pub fn try_read_message_no_alloc<'a, R: BufRead>(
     source: &mut R,
     buffer: &'a mut [u8],

@@ -24,7 +24,7 @@ pub struct SegmentLengthsBuilder {
 }
 
 impl SegmentLengthsBuilder {
-    ghost use Rattle.capnp_stream.specs.Buffers.{buffer_segments};
+    ghost use Rattle.capnp_stream.specs.Buffers.{buffer_of, buffer_segments};
     ghost use Rattle.capnp_stream.specs.Segments.{lengths_of, capacity_of, owned_bytes, owned_ranges};
 
     /// The table of the first `count` segments at the front of bytes.
@@ -82,11 +82,12 @@ impl SegmentLengthsBuilder {
         }
     }
 
-    /// No segment yet, and memory for so many.
+    /// No segment yet, and memory for so many. `OutOfMemory`: it was refused; none is asked for no segment.
     pub fn with_capacity(alloc: Global, capacity: usize) -> Result<SegmentLengthsBuilder>
         ensures empty { IfOk result (λ t. lengths_of t ≡ []) }
         ensures room { IfOk result (λ t. capacity ≤ capacity_of t) }
         ensures refusal { IfErr result (λ e. e.kind ≡ ErrorKind.OutOfMemory) }
+        ensures some { OnErr result (0 < capacity) }
     {
         let indices = Vec::with_capacity(alloc, capacity)?;
         Ok(SegmentLengthsBuilder {
@@ -95,10 +96,13 @@ impl SegmentLengthsBuilder {
         })
     }
 
-    /// Adds a segment of so many words behind the others. `MessageTooLarge`: the words of all pass `usize`. After a refusal the table is as it was.
+    /// Adds a segment of so many words behind the others. `MessageTooLarge`: the words of all pass `usize`. `OutOfMemory`: all the memory for segments is used, and more was refused. After a refusal the table is as it was.
     pub fn try_push_segment(&mut self, length_in_words: usize) -> Result<()>
         ensures pushed { OnOk result
             (lengths_of self.new ≡ lengths_of self.old ++ length_in_words ∷ []) }
+        ensures room { capacity_of self.old ≤ capacity_of self.new }
+        ensures full { IfErr result (λ e. e.kind ≡ ErrorKind.OutOfMemory
+            → capacity_of self.old ≤ length (lengths_of self.old)) }
         ensures large { IfErr result (λ e. e.kind ≢ ErrorKind.OutOfMemory
             → (e.kind ≡ ErrorKind.MessageTooLarge)
             × (2 ^ 64 ≤ sum (lengths_of self.old) + length_in_words)) }
@@ -154,7 +158,8 @@ impl SegmentLengthsBuilder {
         segment_table_bytes_len: usize,
     ) -> SliceSegments<'_>
         requires { segment_table_bytes_len + 8 * sum (lengths_of self) ≤ length slice.now }
-        ensures { buffer_segments result
+        ensures buffer { (buffer_of result).now ≡ slice.now }
+        ensures segments { buffer_segments result
             ≡ bytes_at (drop segment_table_bytes_len slice.now) (ranges_from 0 (lengths_of self)) }
     {
         BufferSegments::behind_table(slice, segment_table_bytes_len, self)
@@ -168,10 +173,10 @@ impl SegmentLengthsBuilder {
     }
 }
 
-/// The words of bytes, the lowest byte of each first; those past the last whole word aren't looked at.
+/// The words of bytes, the lowest byte of each first; those past the last whole word aren't looked at. `OutOfMemory`: there is a word, and the memory for them was refused.
 pub fn words_of(alloc: Global, bytes: &[u8]) -> Result<Vec<u64>>
     ensures words { IfOk result (λ v. v.items ≡ whole_words bytes.now) }
-    ensures refusal { IfErr result (λ e. e.kind ≡ ErrorKind.OutOfMemory) }
+    ensures refusal { IfErr result (λ e. (e.kind ≡ ErrorKind.OutOfMemory) × (8 ≤ length bytes.now)) }
 {
     let mut words = Vec::new(alloc);
     let mut left = bytes;
@@ -220,12 +225,13 @@ impl OwnedSegments {
         &mut self.bytes
     }
 
-    /// The words of a segment, or none past the last.
+    /// The words of a segment, or none past the last. `OutOfMemory`: there is a segment, and the memory for its words was refused.
     pub fn segment_words(&self, alloc: Global, id: SegmentId) -> Result<Option<Vec<u64>>>
         ensures words { IfOk result
             (λ o. IfSome o (λ v. slice_get (segments_of self.now) id ≡ Some v.items)) }
         ensures none { IfOk result (λ o. IfNone o (slice_get (segments_of self.now) id ≡ None)) }
-        ensures refusal { IfErr result (λ e. e.kind ≡ ErrorKind.OutOfMemory) }
+        ensures refusal { IfErr result
+            (λ e. (e.kind ≡ ErrorKind.OutOfMemory) × (id < length (segments_of self.now))) }
     {
         match self.get_segment(id) {
             Some(bytes) => Ok(Some(words_of(alloc, bytes)?)),

@@ -1,5 +1,5 @@
 //! Framed messages at the front of a slice.
-ghost use Rattle.std.specs.Prelude.{◌≡◌, ◌≢◌, Ok, Err, IfOk, IfErr, OnErr};
+ghost use Rattle.std.specs.Prelude.{◌≡◌, ◌≢◌, Ok, Err, IsOk, IfOk, IfErr, OnErr};
 ghost use Rattle.capnp_units.specs.Errors.{kind_of};
 ghost use Rattle.capnp_units.specs.declared.kinds.ErrorKind.{ErrorKind};
 ghost use Rattle.capnp_units.specs.Segments.{words_in};
@@ -12,7 +12,7 @@ use std::alloc::Global;
 
 /// The segments of the framed message at the front of the slice, which then begins behind it.
 ///
-/// A message of more words than the limit is refused. Refused by the kind of the first part that can't be read, and by `OutOfMemory`; the slice is then as it was.
+/// A message of more words than the limit is refused. Refused by the kind of the first part that can't be read, and by `OutOfMemory` where all can; the slice is then as it was.
 pub fn read_message_from_flat_slice<'a>(
     alloc: Global,
     slice: &mut &'a [u8],
@@ -22,6 +22,8 @@ pub fn read_message_from_flat_slice<'a>(
         (λ s. flat_at limit slice.old.now ≡ Ok (words_in (buffer_segments s), slice.new.now)) }
     ensures refused { IfErr result
         (λ e. e.kind ≢ ErrorKind.OutOfMemory → flat_at limit slice.old.now ≡ Err (kind_of e.kind)) }
+    ensures wanted { IfErr result
+        (λ e. e.kind ≡ ErrorKind.OutOfMemory → IsOk (flat_at limit slice.old.now)) }
     ensures kept { OnErr result (slice.new.now ≡ slice.old.now) }
 {
     BufferSegments::from_slice(alloc, slice, limit)

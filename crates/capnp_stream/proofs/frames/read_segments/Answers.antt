@@ -7,7 +7,7 @@ use Rattle.capnp_model.specs.Spelling.{CanSpell}
 use Rattle.capnp_stream.specs.Ranges.{AreBytes}
 use Rattle.capnp_stream.specs.Segments.{whole_words, lengths_of, segments_of}
 use Rattle.capnp_stream.specs.Frames.{TakesMessage, IsCut}
-use Rattle.capnp_stream.proofs.WordLemmas.{whole_words-of_length, words_in_bytes-length, cut-of_joined, writable-joined}
+use Rattle.capnp_stream.proofs.WordLemmas.{whole_words-of_length, words_in_bytes-length, cut-of_joined, concat-of_joined, writable-joined}
 use Rattle.capnp_stream.proofs.SpellLemmas.{CanSpell-of_cut}
 use Rattle.capnp_stream.proofs.FrameLemmas.{large-part, body-part, message-of_pieces}
 use Rattle.capnp_stream.proofs.ReadLemmas.{table-wanted}
@@ -55,6 +55,13 @@ returns-clause-writable g c =
     let body = c.in_ok-bytes.bytes.items in
     let long : length body ≡ 8 * sum ns = c.in_ok-bytes.ensures.len ∙ ap (λ n. 8 * n) c.total_words-total.ensures in
     writable-joined _ body _ ns c.new.ensures.bytes c.new.ensures.ranges (omega (arith, long)) c.in_ok-table.ensures.short c.in_ok-table.ensures.few.0 c.in_ok-table.ensures.few.1
+
+pub returns-clause-joined : goal.returns-clause-joined
+returns-clause-joined g c =
+    let ns = lengths_of c.in_ok-table.table in
+    let body = c.in_ok-bytes.bytes.items in
+    let long : length body ≡ 8 * sum ns = c.in_ok-bytes.ensures.len ∙ ap (λ n. 8 * n) c.total_words-total.ensures in
+    concat-of_joined _ body _ ns c.new.ensures.bytes c.new.ensures.ranges long
 
 pub returns-in_err-bytes-clause-wanted : goal.returns-in_err-bytes-clause-wanted
 returns-in_err-bytes-clause-wanted g c =
