@@ -1,0 +1,2 @@
+pub mod OnlyMembers
+pub mod JsonTexts
