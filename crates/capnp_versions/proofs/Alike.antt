@@ -15,6 +15,9 @@ pub record Alike (t u : Tree) : Type 0 where
   pub whole : IsWhole t
   pub whole' : IsWhole u
 
+pub alike-self : (t : Tree) → IsWhole t → Alike t t
+alike-self t h = record { trims = refl; whole = h; whole' = h }
+
 -- one section, and children of which trimming leaves the same
 pub record SameCell (c d : Cell) : Type 0 where
   pub sections : c.section ≡ d.section

@@ -1,10 +1,10 @@
 -- Calls that are carried out leave values of one trimmed value, under schemas that have their paths in common.
-use Rattle.std.proofs.Common.{◌≡◌, ℕ, ◌*◌, ◌^◌, ◌<◌, ◌≤◌, max, Bool, true, false, not, ◌&&◌, ◌==◌, nat_le, if◌then◌else◌, List, [], ◌∷◌, Option, Some, None, refl, sym, ◌∙◌, ap, subst, arith}
+use Rattle.std.proofs.Common.{◌≡◌, ℕ, ◌*◌, ◌^◌, ◌<◌, ◌≤◌, max, Bool, true, false, List, [], ◌∷◌, Option, Some, None, refl, sym, ◌∙◌, ap, subst, arith}
 use Rattle.std.proofs.lemmas.Nat.{pow_pos}
-use Rattle.capnp_model.specs.Trees.{Tree, null, capability, structure, plain_list, pointer_list, struct_list, none, Elements, child, resized, padded_to, size_bits, size_of_width}
+use Rattle.capnp_model.specs.Trees.{Tree, null, capability, structure, plain_list, pointer_list, struct_list, none, child, resized, padded_to, size_bits}
 use Rattle.capnp_model.specs.Trimming.{trim}
-use Rattle.capnp_model.specs.Schemas.{PlainType, width, Ty, void, plain, text, blob, untyped, interface, struct, list, Shape, shape, Fields, Body, void_slot, plain_slot, pointer_slot, group_slot, Schema, default_or_null}
-use Rattle.capnp_model.specs.Readings.{Children, inactive, number, record_as, no_children, whole_words, shape_record, only_if, body_of, element_as, read, read_child, record_by_shape, have_room, is_list_of}
+use Rattle.capnp_model.specs.Schemas.{PlainType, Ty, void, plain, text, blob, untyped, interface, struct, list, Shape, shape, Fields, Body, void_slot, plain_slot, pointer_slot, group_slot, Schema, default_or_null}
+use Rattle.capnp_model.specs.Readings.{Children, inactive, number, record_as, no_children, whole_words, shape_record, only_if, body_of, element_as, read, read_child, record_by_shape}
 use Rattle.capnp_model.specs.Printing.{fields_in}
 use Rattle.capnp_model.specs.Calls.{Step, name, index, Verb}
 use Rattle.capnp_model.specs.Steps.{on_name, opened, through_value, through_field, step_field, step_element}
@@ -12,8 +12,7 @@ use Rattle.capnp_model.specs.Edits.{Cell, mark, edit_target, edit_named, edit_st
 use Rattle.capnp_model.specs.Admitted.{is_group_write, is_struct_type}
 use Rattle.capnp_model.proofs.Numbers.{wider}
 use Rattle.capnp_model.proofs.Widening.{bare-padded_to}
-use Rattle.capnp_model.proofs.KeptRules.{and_left}
-use Rattle.capnp_model.proofs.OlderReading.{same_bool, same_int, same_uint, same_enum, Related, related_void, related_plain', related_text, related_blob, related_untyped, related_interface, related_struct, related_list}
+use Rattle.capnp_model.proofs.OlderReading.{Related, related_void, related_plain', related_text, related_blob, related_untyped, related_interface, related_struct, related_list}
 use Rattle.capnp_versions.specs.Whole.{IsWhole, IsWholeVerb}
 use Rattle.capnp_versions.proofs.WholeValues.{whole-padded_to, whole-resized}
 use Rattle.capnp_versions.proofs.Alike.{Alike, SameCell, Agree, agree-more, agree-then, agree-put_bits, agree-put_child, alike-child, alike-structure, IsStructLike, struct_like, struct-like}
@@ -24,6 +23,8 @@ use Rattle.capnp_versions.proofs.SameContents.{shape_words, element_bits, bare_n
 use Rattle.capnp_versions.proofs.Wrote.{Wrote, wrote-map, field-is-write, element-is-write, group-is-write, WritesField, WritesElement, WritesName, FoundName, found_name, find_name, WritesStruct, into_struct, WritesList, into_list, no-name, no-index, through-pointer, reads-nothing, reads-padded}
 use Rattle.capnp_versions.proofs.WroteLists.{at-plain, at-plain-element, at-child, at-pointer-element, at-element, at-padded-element}
 use Rattle.capnp_versions.proofs.Follows.{SameMark, IsNarrow, HasWords, NameFollows, ValueFollows, PointerFollows, EndFollows, FieldFollows, ElementFollows}
+use Rattle.capnp_versions.proofs.RelatedTypes.{not_struct, same_sort, same_bits, roomy}
+use Rattle.capnp_versions.proofs.OpenedValues.{opened_alike, null_default}
 use Rattle.capnp_versions.proofs.AlikeLists.{plain-like, IsPointersLike, pointers_like, pointers-like, edited-structs, widened-plain, widened-pointers, widened-structs, edited-plain, edited-pointers}
 
 congruent_marks : (bits : ℕ) (u m u' m' : Option ℕ) → SameMark bits u m u' m' → Congruent bits (mark u m) (mark u' m')
@@ -35,21 +36,6 @@ congruent_marks bits (Some a) (Some k) (Some b) (Some j) h =
     subst (λ z. Congruent bits (mark (Some a) (Some k)) (mark (Some z) (Some j))) h.0
     (subst (λ z. Congruent bits (mark (Some a) (Some k)) (mark (Some a) (Some z))) h.1 (λ c d s. agree-put_bits bits a 16 k c d h.3 h.2 s))
 congruent_marks bits u m u' m' h = absurd h
-
--- a list of structs that is read as one of plain elements has a word
-has_a_word : (p : PlainType) (w q : ℕ) → width p ≤ 64 → (not (size_of_width (width p) == 1) && have_room (64 * w) q (size_of_width (width p))) ≡ true → width p ≤ 64 * w
-has_a_word p w q narrow h = by (width p == 1) (width p == 8) (width p == 16) (width p == 32) refl refl refl refl h
-  where
-    word : (size w : ℕ) → 0 < size → nat_le size (64 * w) ≡ true → 1 ≤ w
-    word size w some e = let le : size ≤ 64 * w = grind arith in omega arith
-
-    by : (a b c d : Bool) → (width p == 1) ≡ a → (width p == 8) ≡ b → (width p == 16) ≡ c → (width p == 32) ≡ d
-        → (not ((if a then 1 else (if b then 2 else (if c then 3 else (if d then 4 else 5)))) == 1) && have_room (64 * w) q (if a then 1 else (if b then 2 else (if c then 3 else (if d then 4 else 5))))) ≡ true → width p ≤ 64 * w
-    by true b c d ea eb ec ed e = absurd (cc e)
-    by false true c d ea eb ec ed e = let some = word 8 w (omega arith) (and_left (nat_le 8 (64 * w)) (nat_le 0 q) e) in omega arith
-    by false false true d ea eb ec ed e = let some = word 16 w (omega arith) (and_left (nat_le 16 (64 * w)) (nat_le 0 q) e) in omega arith
-    by false false false true ea eb ec ed e = let some = word 32 w (omega arith) (and_left (nat_le 32 (64 * w)) (nat_le 0 q) e) in omega arith
-    by false false false false ea eb ec ed e = let some = word 64 w (omega arith) (and_left (nat_le 64 (64 * w)) (nat_le 0 q) e) in omega arith
 
 module _ (o n : Schema) (verb : Verb) (whole : IsWholeVerb verb) where
   -- what the rest of a path does to a field, and to an element
@@ -131,50 +117,6 @@ module _ (o n : Schema) (verb : Verb) (whole : IsWholeVerb verb) where
 
     -- into a list
 
-    not_struct : (s : Schema) (ty : Ty) (t : Tree) → is_struct_type ty ≡ false → as_list s ty t ≡ t
-    not_struct s void t e = refl
-    not_struct s (plain p) t e = refl
-    not_struct s text t e = refl
-    not_struct s blob t e = refl
-    not_struct s untyped t e = refl
-    not_struct s interface t e = refl
-    not_struct s (struct i) t e = absurd (cc e)
-    not_struct s (list ty) t e = refl
-
-    same_sort : (ty ty' : Ty) → Related o n AnyPair ty ty' → is_struct_type ty ≡ is_struct_type ty'
-    same_sort ty ty' related_void = refl
-    same_sort ty ty' (related_plain' r) = refl
-    same_sort ty ty' related_text = refl
-    same_sort ty ty' related_blob = refl
-    same_sort ty ty' related_untyped = refl
-    same_sort ty ty' related_interface = refl
-    same_sort ty ty' (related_struct r) = refl
-    same_sort ty ty' (related_list r) = refl
-
-    -- elements have the bits that are written
-    roomy : (s : Schema) (ty : Ty) (w q : ℕ) (es : Elements) → is_struct_type ty ≡ false → IsNarrow ty → is_list_of (struct_list w q es) ty ≡ true → element_bits s ty ≤ 64 * w
-    roomy s void w q es e k h = omega arith
-    roomy s (plain p) w q es e k h = has_a_word p w q k h
-    roomy s text w q es e k h = omega arith
-    roomy s blob w q es e k h = omega arith
-    roomy s untyped w q es e k h = omega arith
-    roomy s interface w q es e k h = omega arith
-    roomy s (struct i) w q es e k h = absurd (cc e)
-    roomy s (list ty) w q es e k h = omega arith
-
-    same_bits : (ty ty' : Ty) → Related o n AnyPair ty ty' → is_struct_type ty ≡ false → IsNarrow ty → (element_bits o ty ≡ element_bits n ty') × IsNarrow ty'
-    same_bits ty ty' related_void e k = (refl, tt)
-    same_bits ty ty' (related_plain' same_bool) e k = (refl, k)
-    same_bits ty ty' (related_plain' (same_int w)) e k = (refl, k)
-    same_bits ty ty' (related_plain' (same_uint w)) e k = (refl, k)
-    same_bits ty ty' (related_plain' (same_enum i j)) e k = (refl, k)
-    same_bits ty ty' related_text e k = (refl, tt)
-    same_bits ty ty' related_blob e k = (refl, tt)
-    same_bits ty ty' related_untyped e k = (refl, tt)
-    same_bits ty ty' related_interface e k = (refl, tt)
-    same_bits ty ty' (related_struct r) e k = absurd (cc e)
-    same_bits ty ty' (related_list r) e k = (refl, tt)
-
     module _ (ty ty' : Ty) (r : Related o n AnyPair ty ty') (follows : ElementFollows o n verb path ty ty') where
       agree : (w p v q : ℕ) (c d : Cell) → SameCell c d → WritesElement o verb path ty c → WritesElement n verb path ty' d → Agree (element_bits o ty) c (edit_element o path verb ty w p c) (edit_element n path verb ty' v q d)
       agree w p v q c d s k l = elements ty ty' r follows w p v q c d s k l
@@ -197,8 +139,8 @@ module _ (o n : Schema) (verb : Verb) (whole : IsWholeVerb verb) where
         where
           by : (t' : Tree) → IsListLike w es t' → WritesList n verb path k ty' t' → Alike (edit_list (edit_element o path verb ty) k (struct_list w p es)) (edit_list (edit_element n path verb ty') k t')
           by t' (list_like v q es' s x y) h' =
-              let newer = same_bits ty ty' r e narrow in
-              let room = roomy n ty' v q es' (sym (same_sort ty ty' r) ∙ e) newer.1 h'.0 in
+              let newer = same_bits o n ty ty' r e narrow in
+              let room = roomy n ty' v q es' (sym (same_sort o n ty ty' r) ∙ e) newer.1 h'.0 in
               let sizes = newer.0 in
               edited-structs (WritesElement o verb path ty) (WritesElement n verb path ty') (element_bits o ty) (edit_element o path verb ty) (edit_element n path verb ty') agree k w p v q es es'
               (roomy o ty w p es e narrow h.0) (omega arith) (at-element o verb path ty k es h.1) (at-element n verb path ty' k es' h'.1) s x y
@@ -210,7 +152,7 @@ module _ (o n : Schema) (verb : Verb) (whole : IsWholeVerb verb) where
           → Alike (edit_list (edit_element o path verb ty) k (as_list o ty t)) (edit_list (edit_element n path verb ty') k (as_list n ty' t'))
       other_list k t t' e narrow a h h' =
           subst (λ z. Alike (edit_list (edit_element o path verb ty) k z) (edit_list (edit_element n path verb ty') k (as_list n ty' t'))) (sym (not_struct o ty t e))
-          (subst (λ z. Alike (edit_list (edit_element o path verb ty) k t) (edit_list (edit_element n path verb ty') k z)) (sym (not_struct n ty' t' (sym (same_sort ty ty' r) ∙ e))) (other_lists k t t' e narrow a h h'))
+          (subst (λ z. Alike (edit_list (edit_element o path verb ty) k t) (edit_list (edit_element n path verb ty') k z)) (sym (not_struct n ty' t' (sym (same_sort o n ty ty' r) ∙ e))) (other_lists k t t' e narrow a h h'))
 
     struct_lists : (i j k : ℕ) (g g' : Shape) → o.shape_of i ≡ g → n.shape_of j ≡ g' → ElementFollows o n verb path (struct i) (struct j) → shape_words g ≤ shape_words g' → (t t' : Tree) → Alike t t'
         → WritesList o verb path k (struct i) t → WritesList n verb path k (struct j) t'
@@ -241,21 +183,6 @@ module _ (o n : Schema) (verb : Verb) (whole : IsWholeVerb verb) where
     struct_lists i j k g g' e e' follows le (structure w m ts) t' a h h' = absurd h
 
     -- ---- through a pointer
-
-    opened_alike : (ty ty' : Ty) (d t t' : Tree) → Alike t t' → IsWhole d → Alike (opened_tree ty d t) (opened_tree ty' d t')
-    unfolding trim
-    opened_alike ty ty' d null null a h = record { trims = refl; whole = h; whole' = h }
-    opened_alike ty ty' d null (capability i) a h = absurd (cc (a.trims))
-    opened_alike ty ty' d null (structure w m ts) a h = absurd (cc (a.trims))
-    opened_alike ty ty' d null (plain_list z m x) a h = absurd (cc (a.trims))
-    opened_alike ty ty' d null (pointer_list ts) a h = absurd (cc (a.trims))
-    opened_alike ty ty' d null (struct_list w p es) a h = absurd (cc (a.trims))
-    opened_alike ty ty' d (capability i) null a h = absurd (cc (a.trims))
-    opened_alike ty ty' d (structure w m ts) null a h = absurd (cc (a.trims))
-    opened_alike ty ty' d (plain_list z m x) null a h = absurd (cc (a.trims))
-    opened_alike ty ty' d (pointer_list ts) null a h = absurd (cc (a.trims))
-    opened_alike ty ty' d (struct_list w p es) null a h = absurd (cc (a.trims))
-    opened_alike ty ty' d t t' a h = a
 
     into_value : (st : Step) (ty ty' : Ty) → Related o n AnyPair ty ty' → ValueFollows o n verb st (FieldFollows o n verb path) (ElementFollows o n verb path) ty ty' → (d t t' : Tree) → IsWhole d → Alike t t'
         → Wrote (through_value o st (step_field o path verb) (step_element o path verb) ty (opened o ty d (read o t ty))) → Wrote (through_value n st (step_field n path verb) (step_element n path verb) ty' (opened n ty' d (read n t' ty')))
@@ -291,9 +218,6 @@ module _ (o n : Schema) (verb : Verb) (whole : IsWholeVerb verb) where
     into_value (index i) ty ty' (related_struct {i = z} r) follows d t t' h a k k' = absurd (no-index o verb path i (struct z) _ (λ x e. cc e) k)
 
     -- ---- through a field
-
-    kids_alike : (c d : Cell) (i : ℕ) → SameCell c d → Alike (child c.kids i) (child d.kids i)
-    kids_alike c d i s = alike-child c d i s
 
     at_pointer : (st : Step) (bits i : ℕ) (ty ty' : Ty) (x : Tree) → Related o n AnyPair ty ty' → IsWhole x → ValueFollows o n verb st (FieldFollows o n verb path) (ElementFollows o n verb path) ty ty' → (c d : Cell) → SameCell c d
         → Wrote (through_value o st (step_field o path verb) (step_element o path verb) ty (opened o ty x (read o (child c.kids i) ty))) → Wrote (through_value n st (step_field n path verb) (step_element n path verb) ty' (opened n ty' x (read n (child d.kids i) ty')))
@@ -382,15 +306,6 @@ module _ (o n : Schema) (verb : Verb) (whole : IsWholeVerb verb) where
     element_reads : (s : Schema) (st : Step) (ty : Ty) (c : Cell) (kids : Children) → ((i : ℕ) (t : Ty) → kids i t ≡ read s (child c.kids i) t) → Wrote (through_value s st (step_field s path verb) (step_element s path verb) ty (opened s ty null (kids 0 ty)))
         → Wrote (through_value s st (step_field s path verb) (step_element s path verb) ty (opened s ty null (read s (child c.kids 0) ty)))
     element_reads s st ty c kids reads h = subst (λ z. Wrote (through_value s st (step_field s path verb) (step_element s path verb) ty (opened s ty null z))) (reads 0 ty) h
-
-    -- a null under no default stays null
-    null_default : (ty : Ty) (t : Tree) → opened_tree ty null t ≡ t
-    null_default ty null = refl
-    null_default ty (capability i) = refl
-    null_default ty (structure w m ts) = refl
-    null_default ty (plain_list z m x) = refl
-    null_default ty (pointer_list ts) = refl
-    null_default ty (struct_list w p es) = refl
 
     pointer_element : (st : Step) (bits : ℕ) (ty ty' : Ty) → Related o n AnyPair ty ty' → ValueFollows o n verb st (FieldFollows o n verb path) (ElementFollows o n verb path) ty ty' → (c d : Cell) → SameCell c d
         → Wrote (through_value o st (step_field o path verb) (step_element o path verb) ty (opened o ty null (read o (child c.kids 0) ty))) → Wrote (through_value n st (step_field n path verb) (step_element n path verb) ty' (opened n ty' null (read n (child d.kids 0) ty')))

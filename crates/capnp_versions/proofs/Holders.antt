@@ -5,6 +5,7 @@ use Rattle.std.proofs.lemmas.List.Recursion.{is_count_by}
 use Rattle.capnp_model.specs.Schemas.{Node}
 use Rattle.capnp_model.specs.Accepted.{find_node, fields_of_kind, groups_used, names_a, is_group_node, names_its_sort, types_in, has_good_ids, uses_of, holder_of, sizes_of, fits_in, meets_below, is_good_group, has_places, on_struct, default_reads, IsAccepted}
 use Rattle.capnp_model.proofs.KeptRules.{and_left, and_right, and_three, behind, no_break, found_passes}
+use Rattle.capnp_versions.proofs.Comparisons.{le_is, same_number}
 
 -- what each node keeps
 pub record PlacesKept (nodes : List Node) : Type 0 where
@@ -67,32 +68,26 @@ found_uses : (ns : List Node) (id : ℕ) (h : Node) (g : ℕ) → find_node ns i
 found_uses [] id h g e k = absurd (cc e)
 found_uses (m ∷ ns) id h g e k = let more = found_uses ns id h g in by (m.id == id) more e
   where
-    sum : counted g (groups_used m ++ flat_map groups_used ns) ≡ counted g (groups_used m) + counted g (flat_map groups_used ns)
-    sum = counted_append g (groups_used m) (flat_map groups_used ns)
-
     by : (b : Bool) → (find_node ns id ≡ Some h → uses h g ≡ true → 1 ≤ counted g (flat_map groups_used ns)) → (if b then Some m else find_node ns id) ≡ Some h → 1 ≤ counted g (groups_used m ++ flat_map groups_used ns)
     by true more e =
         let is : m ≡ h = cc in
         let some : 1 ≤ counted g (groups_used m) = counted_some g (groups_used m) (ap (λ z. uses z g) is ∙ k) in
-        let s = sum in omega arith
-    by false more e = let some = more e k in let s = sum in omega arith
+        let s = counted_append g (groups_used m) (flat_map groups_used ns) in omega arith
+    by false more e = let some = more e k in let s = counted_append g (groups_used m) (flat_map groups_used ns) in omega arith
 
 -- where an id is used once, the one that uses it is found
 holder : (ns : List Node) (id : ℕ) (h : Node) (g : ℕ) → find_node ns id ≡ Some h → uses h g ≡ true → counted g (flat_map groups_used ns) ≤ 1 → holder_of ns g ≡ Some h
 holder [] id h g e k le = absurd (cc e)
 holder (m ∷ ns) id h g e k le = by (m.id == id) (uses m g) refl (holder ns id h g) e
   where
-    sum : counted g (groups_used m ++ flat_map groups_used ns) ≡ counted g (groups_used m) + counted g (flat_map groups_used ns)
-    sum = counted_append g (groups_used m) (flat_map groups_used ns)
-
     by : (a b : Bool) → uses m g ≡ b → (find_node ns id ≡ Some h → uses h g ≡ true → counted g (flat_map groups_used ns) ≤ 1 → holder_of ns g ≡ Some h) → (if a then Some m else find_node ns id) ≡ Some h → (if b then Some m else holder_of ns g) ≡ Some h
     by true true u more x = x
     by true false u more x = let is : m ≡ h = cc in absurd (cc (sym u ∙ ap (λ z. uses z g) is ∙ k))
     by false true u more x =
         let here : 1 ≤ counted g (groups_used m) = counted_some g (groups_used m) u in
         let there : 1 ≤ counted g (flat_map groups_used ns) = found_uses ns id h g x k in
-        let s = sum in absurd (omega arith)
-    by false false u more x = let s = sum in more x k (omega arith)
+        let s = counted_append g (groups_used m) (flat_map groups_used ns) in absurd (omega arith)
+    by false false u more x = let s = counted_append g (groups_used m) (flat_map groups_used ns) in more x k (omega arith)
 
 -- ---- sizes
 
@@ -130,9 +125,3 @@ group_fits nodes r ids id h g n e k f =
     let held : holder_of nodes n.id ≡ Some h = ap (holder_of nodes) same ∙ holder nodes id h g e k counts in
     let fits : fits_in n (Some h) ≡ true = ap (fits_in n) (sym held) ∙ three.2 in
     (le_is (sizes_of n).0 (sizes_of h).0 (and_left (nat_le (sizes_of n).0 (sizes_of h).0) (nat_le (sizes_of n).1 (sizes_of h).1) fits), le_is (sizes_of n).1 (sizes_of h).1 (and_right (nat_le (sizes_of n).0 (sizes_of h).0) (nat_le (sizes_of n).1 (sizes_of h).1) fits))
-  where
-    le_is : (a b : ℕ) → nat_le a b ≡ true → a ≤ b
-    le_is a b x = grind arith
-
-    same_number : (a b : ℕ) → (a == b) ≡ true → a ≡ b
-    same_number a b x = grind arith

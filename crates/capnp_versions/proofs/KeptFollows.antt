@@ -1,10 +1,10 @@
 -- Compatible schemas have the paths of admitted calls in common.
-use Rattle.std.proofs.Common.{◌≡◌, ℕ, ◌*◌, ◌≤◌, ◌⊎◌, inl, inr, Bool, true, false, not, ◌&&◌, ◌||◌, ◌==◌, nat_le, List, [], ◌∷◌, Option, Some, None, refl, sym, ◌∙◌, ap, subst, arith}
+use Rattle.std.proofs.Common.{◌≡◌, ℕ, ◌*◌, ◌≤◌, ◌⊎◌, inl, inr, Bool, true, false, not, ◌&&◌, ◌||◌, ◌==◌, nat_le, List, [], ◌∷◌, Option, Some, None, refl, sym, ◌∙◌, ap, subst}
 use Rattle.std.specs.Str.{bytes_eq}
 use Rattle.std.proofs.lemmas.Slice.Eq.{bytes_eq-Decides}
 use Rattle.capnp_model.specs.Trees.{Tree}
 use Rattle.capnp_model.specs.Encoding.{canonical_words}
-use Rattle.capnp_model.specs.Schemas.{PlainType, bool, int, uint, «enum», Ty, void, plain, text, blob, untyped, interface, struct, list, Shape, shape, Fields, no_fields, field, Body, void_slot, plain_slot, pointer_slot, group_slot, Schema, default_or_null}
+use Rattle.capnp_model.specs.Schemas.{Ty, struct, list, Shape, shape, Fields, no_fields, field, Body, void_slot, plain_slot, pointer_slot, group_slot, Schema, default_or_null}
 use Rattle.capnp_model.specs.Printing.{fields_in}
 use Rattle.capnp_model.specs.Calls.{Step, name, index, Verb}
 use Rattle.capnp_model.specs.Steps.{Target, no_target, target, target_if, target_of}
@@ -12,20 +12,19 @@ use Rattle.capnp_model.specs.Compatible.{Pairs, has_pair, related_plain, related
 use Rattle.capnp_model.specs.Admitted.{is_extended, extends_fields, extends_field, is_group_write, is_set, is_struct_type, At, at_body, at_element, nowhere, into_fields, into_type, is_admitted_from}
 use Rattle.capnp_model.proofs.KeptRules.{and_right, and_three, and_four}
 use Rattle.capnp_model.proofs.KeptShapes.{option_is}
-use Rattle.capnp_model.proofs.OlderReading.{SamePlain, same_bool, same_int, same_uint, same_enum, Related, related_void, related_plain', related_text, related_blob, related_untyped, related_interface, related_struct, related_list}
+use Rattle.capnp_model.proofs.OlderReading.{Related}
 use Rattle.capnp_model.proofs.FineShapes.{HasUnion, IsGoodMember, IsNewName, IsGood, AreGood, IsGoodBody}
 use Rattle.capnp_model.proofs.RoundTrip.{enc_is}
 use Rattle.capnp_versions.proofs.SameShapes.{UnionWithin, AnyPair, SameShape, same_shape, SameFields, same_none, same_field, SameBody, same_void, same_plain', same_pointer, same_group}
 use Rattle.capnp_versions.proofs.SameContents.{shape_words}
+use Rattle.capnp_versions.proofs.Comparisons.{le_is, same_number}
+use Rattle.capnp_versions.proofs.RelatedTypes.{plain_is, related-by}
 use Rattle.capnp_versions.proofs.Follows.{SameMark, HasWords, NameFollows, ValueFollows, PointerFollows, FieldFollows, ElementFollows}
 use Rattle.capnp_versions.proofs.Within.{FitsDefault, AllNarrow, HasMember, IsWithin, AreWithin, BodyWithin}
 use Rattle.capnp_versions.proofs.SelfFollows.{default-whole, narrow, mark-within, AllFields, all-found}
 use Rattle.capnp_versions.proofs.Partners.{not_found, absent, partner}
 
 -- ---- parts
-
-same_number : (a b : ℕ) → (a == b) ≡ true → a ≡ b
-same_number a b h = grind arith
 
 pub default-same : (d d' : Option Tree) → same_default d d' ≡ true → FitsDefault d → FitsDefault d' → d ≡ d'
 default-same None None h f g = refl
@@ -53,23 +52,8 @@ neither false true h = absurd (cc h)
 neither true b h = absurd (cc h)
 
 module _ (o n : Schema) (pairs : Pairs) where
-  plain_is : (p q : PlainType) → related_plain o n p q ≡ true → SamePlain p q
-  plain_is bool bool h = same_bool
-  plain_is (int v) (int w) h = subst (λ z. SamePlain (int v) (int z)) (same_number v w h) (same_int v)
-  plain_is (uint v) (uint w) h = subst (λ z. SamePlain (uint v) (uint z)) (same_number v w h) (same_uint v)
-  plain_is («enum» i) («enum» j) h = same_enum i j
-  plain_is _ _ h = absurd (cc h)
-
   types_related : (a b : Ty) → related o n pairs a b ≡ true → Related o n AnyPair a b
-  types_related void void h = related_void
-  types_related (plain p) (plain q) h = related_plain' (plain_is p q h)
-  types_related text text h = related_text
-  types_related blob blob h = related_blob
-  types_related untyped untyped h = related_untyped
-  types_related interface interface h = related_interface
-  types_related (struct i) (struct j) h = related_struct tt
-  types_related (list a) (list b) h = related_list (types_related a b h)
-  types_related _ _ h = absurd (cc h)
+  types_related a b h = related-by o n pairs AnyPair (λ i j x. tt) a b h
 
   -- a member's union is the same in both
   union_is : (u u' : Option ℕ) (k : ℕ) → keeps_union u u' ≡ true → HasUnion u → u ≡ u'
@@ -161,7 +145,7 @@ module _ (o n : Schema) (pairs : Pairs) where
       body_same (plain_slot p at d) (plain_slot q at' d') h e x y good good' =
           let three = and_three (related_plain o n p q) (at == at') (d == d') h in
           subst (λ z. SameBody o n bits (plain_slot p at d) (plain_slot q z d')) (same_number at at' three.1)
-          (subst (λ z. SameBody o n bits (plain_slot p at d) (plain_slot q at z)) (same_number d d' three.2) (same_plain' (plain_is p q three.0) x good))
+          (subst (λ z. SameBody o n bits (plain_slot p at d) (plain_slot q at z)) (same_number d d' three.2) (same_plain' (plain_is o n p q three.0) x good))
       body_same (pointer_slot i ty d) (pointer_slot j ty' d') h e x y good good' =
           let three = and_three (i == j) (related o n pairs ty ty') (same_default d d') h in
           subst (λ z. SameBody o n bits (pointer_slot i ty d) (pointer_slot z ty' d')) (same_number i j three.0)
@@ -195,9 +179,6 @@ module _ (o n : Schema) (pairs : Pairs) where
   pub words_kept : (g g' : Shape) → keeps o n pairs g g' ≡ true → shape_words g ≤ shape_words g'
   unfolding keeps
   words_kept (shape nid w p u fs) (shape nid' w' p' u' fs') h = le_is w w' (and_four (nat_le w w') (nat_le p p') (keeps_union u u') (keeps_fields o n pairs (member_count fs) fs fs') h).0
-    where
-      le_is : (a b : ℕ) → nat_le a b ≡ true → a ≤ b
-      le_is a b x = grind arith
 
   -- what each field of a struct keeps
   abbrev pub IsOlder : ℕ → Option ℕ → Option ℕ → Body → Type 0

@@ -1,11 +1,13 @@
 -- What compatible schemas keep, as data, from what good shapes are.
-use Rattle.std.proofs.Common.{◌≡◌, ℕ, ◌==◌, true, Option, Some, None, refl, subst, arith}
-use Rattle.capnp_model.specs.Schemas.{PlainType, bool, int, uint, «enum», Ty, void, plain, text, blob, untyped, interface, struct, list, Shape, shape, Fields, no_fields, field, Body, void_slot, plain_slot, pointer_slot, group_slot, Schema}
+use Rattle.std.proofs.Common.{◌≡◌, ℕ, ◌==◌, true, Option, Some, None, refl, subst}
+use Rattle.capnp_model.specs.Schemas.{Ty, Shape, shape, Fields, no_fields, field, Body, void_slot, plain_slot, pointer_slot, group_slot, Schema}
 use Rattle.capnp_model.specs.Compatible.{Pairs, related_plain, related, same_default, keeps, keeps_body}
 use Rattle.capnp_model.proofs.KeptRules.{and_three, MembersIn, OwnsMembers, AllOwn, OwnBody}
 use Rattle.capnp_model.proofs.KeptShapes.{HasPair, shape_is_kept}
 use Rattle.capnp_model.proofs.FineShapes.{IsGood, AreGood, IsGoodBody}
-use Rattle.capnp_model.proofs.OlderReading.{SamePlain, same_bool, same_int, same_uint, same_enum, Related, related_void, related_plain', related_text, related_blob, related_untyped, related_interface, related_struct, related_list, KeptShape, KeptBody, kept_void, kept_plain, kept_pointer, kept_group}
+use Rattle.capnp_model.proofs.OlderReading.{Related, KeptShape, KeptBody, kept_void, kept_plain, kept_pointer, kept_group}
+use Rattle.capnp_versions.proofs.Comparisons.{same_number}
+use Rattle.capnp_versions.proofs.RelatedTypes.{plain_is, related-by}
 
 members_in : (s : Schema) (u : Option ℕ) (fs : Fields) → AreGood s u fs → MembersIn u fs
 members_in s (Some at) fs h = tt
@@ -27,27 +29,9 @@ mutual
   own_body s (pointer_slot i ty d) h = tt
   own_body s (group_slot g) h = good-owns s g h
 
-same_number : (a b : ℕ) → (a == b) ≡ true → a ≡ b
-same_number a b h = grind arith
-
 module _ (o n : Schema) (pairs : Pairs) where
-  plain_is : (p q : PlainType) → related_plain o n p q ≡ true → SamePlain p q
-  plain_is bool bool h = same_bool
-  plain_is (int v) (int w) h = subst (λ z. SamePlain (int v) (int z)) (same_number v w h) (same_int v)
-  plain_is (uint v) (uint w) h = subst (λ z. SamePlain (uint v) (uint z)) (same_number v w h) (same_uint v)
-  plain_is («enum» i) («enum» j) h = same_enum i j
-  plain_is _ _ h = absurd (cc h)
-
   pub related-pairs : (a b : Ty) → related o n pairs a b ≡ true → Related o n (HasPair o n pairs) a b
-  related-pairs void void h = related_void
-  related-pairs (plain p) (plain q) h = related_plain' (plain_is p q h)
-  related-pairs text text h = related_text
-  related-pairs blob blob h = related_blob
-  related-pairs untyped untyped h = related_untyped
-  related-pairs interface interface h = related_interface
-  related-pairs (struct i) (struct j) h = related_struct h
-  related-pairs (list a) (list b) h = related_list (related-pairs a b h)
-  related-pairs _ _ h = absurd (cc h)
+  related-pairs a b h = related-by o n pairs (HasPair o n pairs) (λ i j x. x) a b h
 
   pub shape-kept : (g g' : Shape) → keeps o n pairs g g' ≡ true → IsGood o g → KeptShape o n (HasPair o n pairs) g g'
   shape-kept g g' h good = shape_is_kept o n pairs g g' h (good-owns o g good)
@@ -58,7 +42,7 @@ module _ (o n : Schema) (pairs : Pairs) where
   body-kept (plain_slot p at d) (plain_slot q at' d') h good =
       let three = and_three (related_plain o n p q) (at == at') (d == d') h in
       subst (λ z. KeptBody o n (HasPair o n pairs) (plain_slot p at d) (plain_slot q z d')) (same_number at at' three.1)
-      (subst (λ z. KeptBody o n (HasPair o n pairs) (plain_slot p at d) (plain_slot q at z)) (same_number d d' three.2) (kept_plain (plain_is p q three.0)))
+      (subst (λ z. KeptBody o n (HasPair o n pairs) (plain_slot p at d) (plain_slot q at z)) (same_number d d' three.2) (kept_plain (plain_is o n p q three.0)))
   body-kept (pointer_slot i ty d) (pointer_slot j ty' d') h good =
       let three = and_three (i == j) (related o n pairs ty ty') (same_default d d') h in
       subst (λ z. KeptBody o n (HasPair o n pairs) (pointer_slot i ty d) (pointer_slot z ty' d')) (same_number i j three.0) (kept_pointer (related-pairs ty ty' three.1))

@@ -19,7 +19,7 @@ use Rattle.capnp_model.proofs.OlderReading.{SamePlain, same_bool, same_int, same
 pub use Rattle.capnp_versions.specs.SameReplies.{IsWrite}
 use Rattle.capnp_versions.specs.Whole.{IsWhole, HaveWhole, IsWholeVerb}
 use Rattle.capnp_versions.proofs.WholeValues.{whole-resized}
-use Rattle.capnp_versions.proofs.Alike.{Alike, Agree, agree-more, agree-put_bits, agree-put_child, alike-structure}
+use Rattle.capnp_versions.proofs.Alike.{alike-self, Alike, Agree, agree-more, agree-put_bits, agree-put_child, alike-structure}
 use Rattle.capnp_versions.proofs.SameLists.{SameElements, alike-elements}
 use Rattle.capnp_versions.proofs.SameShapes.{Congruent, no_change, AnyPair, SameBody, same_void, same_plain', same_pointer, same_group, width-same, congruent-cleared, congruent-message}
 
@@ -53,9 +53,6 @@ SameContent (refused_by k) (refused_by l) = Unit {0}
 SameContent (bits_of m) (bits_of k) = m ≡ k
 SameContent (object t) (object u) = Alike t u
 SameContent _ _ = ⊥
-
-pub alike-self : (t : Tree) → IsWhole t → Alike t t
-alike-self t h = record { trims = refl; whole = h; whole' = h }
 
 checked : (b : Bool) (x : ℕ) → SameContent (if b then bits_of x else refused_by TypeMismatch) (if b then bits_of x else refused_by TypeMismatch)
 checked true x = refl

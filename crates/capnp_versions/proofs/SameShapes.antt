@@ -11,7 +11,7 @@ use Rattle.capnp_model.specs.Edits.{Cell, Edit, put_bits, put_child, mark, is_ke
 use Rattle.capnp_model.proofs.OlderReading.{SamePlain, same_bool, same_int, same_uint, same_enum, Related, related_void, related_plain', related_text, related_blob, related_untyped, related_interface, related_struct, related_list}
 use Rattle.capnp_versions.specs.Whole.{IsWhole, AreWhole}
 use Rattle.capnp_versions.proofs.WholeValues.{whole-child}
-use Rattle.capnp_versions.proofs.Alike.{Alike, SameCell, Agree, agree-same, agree-more, agree-then, agree-put_bits, agree-put_child}
+use Rattle.capnp_versions.proofs.Alike.{alike-self, Alike, SameCell, Agree, agree-same, agree-more, agree-then, agree-put_bits, agree-put_child}
 
 -- ---- edits that do the same
 
@@ -127,36 +127,33 @@ module _ (o n : Schema) (bits : ℕ) where
 
   -- ---- what is set for a pointer
 
-  alike-same : (t : Tree) → IsWhole t → Alike t t
-  alike-same t h = record { trims = refl; whole = h; whole' = h }
-
   alike-empty : (ty ty' : Ty) → SameType ty ty' → Alike (empty_tree o ty) (empty_tree n ty')
   alike-empty ty ty' related_void = alike-null
   alike-empty ty ty' (related_plain' same) = alike-null
-  alike-empty ty ty' related_text = alike-same (empty_tree o text) tt
-  alike-empty ty ty' related_blob = alike-same (empty_tree o blob) tt
+  alike-empty ty ty' related_text = alike-self (empty_tree o text) tt
+  alike-empty ty ty' related_blob = alike-self (empty_tree o blob) tt
   alike-empty ty ty' related_untyped = alike-null
   alike-empty ty ty' related_interface = alike-null
-  alike-empty ty ty' (related_struct r) = alike-same (structure 0 0 none) (omega arith, tt)
-  alike-empty ty ty' (related_list related_void) = alike-same (plain_list 0 0 0) tt
-  alike-empty ty ty' (related_list (related_plain' same_bool)) = alike-same (empty_tree o (list (plain bool))) tt
-  alike-empty ty ty' (related_list (related_plain' (same_int w))) = alike-same (empty_tree o (list (plain (int w)))) tt
-  alike-empty ty ty' (related_list (related_plain' (same_uint w))) = alike-same (empty_tree o (list (plain (uint w)))) tt
-  alike-empty ty ty' (related_list (related_plain' (same_enum i j))) = alike-same (empty_tree o (list (plain («enum» i)))) tt
-  alike-empty ty ty' (related_list related_text) = alike-same (pointer_list none) tt
-  alike-empty ty ty' (related_list related_blob) = alike-same (pointer_list none) tt
-  alike-empty ty ty' (related_list related_untyped) = alike-same (pointer_list none) tt
-  alike-empty ty ty' (related_list related_interface) = alike-same (pointer_list none) tt
-  alike-empty ty ty' (related_list (related_struct r)) = alike-same (struct_list 0 0 no_elements) tt
-  alike-empty ty ty' (related_list (related_list h)) = alike-same (pointer_list none) tt
+  alike-empty ty ty' (related_struct r) = alike-self (structure 0 0 none) (omega arith, tt)
+  alike-empty ty ty' (related_list related_void) = alike-self (plain_list 0 0 0) tt
+  alike-empty ty ty' (related_list (related_plain' same_bool)) = alike-self (empty_tree o (list (plain bool))) tt
+  alike-empty ty ty' (related_list (related_plain' (same_int w))) = alike-self (empty_tree o (list (plain (int w)))) tt
+  alike-empty ty ty' (related_list (related_plain' (same_uint w))) = alike-self (empty_tree o (list (plain (uint w)))) tt
+  alike-empty ty ty' (related_list (related_plain' (same_enum i j))) = alike-self (empty_tree o (list (plain («enum» i)))) tt
+  alike-empty ty ty' (related_list related_text) = alike-self (pointer_list none) tt
+  alike-empty ty ty' (related_list related_blob) = alike-self (pointer_list none) tt
+  alike-empty ty ty' (related_list related_untyped) = alike-self (pointer_list none) tt
+  alike-empty ty ty' (related_list related_interface) = alike-self (pointer_list none) tt
+  alike-empty ty ty' (related_list (related_struct r)) = alike-self (struct_list 0 0 no_elements) tt
+  alike-empty ty ty' (related_list (related_list h)) = alike-self (pointer_list none) tt
 
   alike-default : (ty ty' : Ty) (d : Tree) → SameType ty ty' → IsWhole d → Alike (source_tree o ty d null) (source_tree n ty' d null)
   alike-default ty ty' null h k = alike-empty ty ty' h
-  alike-default ty ty' (capability i) h k = alike-same (capability i) k
-  alike-default ty ty' (structure w m ts) h k = alike-same (structure w m ts) k
-  alike-default ty ty' (plain_list z m x) h k = alike-same (plain_list z m x) k
-  alike-default ty ty' (pointer_list ts) h k = alike-same (pointer_list ts) k
-  alike-default ty ty' (struct_list w p es) h k = alike-same (struct_list w p es) k
+  alike-default ty ty' (capability i) h k = alike-self (capability i) k
+  alike-default ty ty' (structure w m ts) h k = alike-self (structure w m ts) k
+  alike-default ty ty' (plain_list z m x) h k = alike-self (plain_list z m x) k
+  alike-default ty ty' (pointer_list ts) h k = alike-self (pointer_list ts) k
+  alike-default ty ty' (struct_list w p es) h k = alike-self (struct_list w p es) k
 
   source_given : (s : Schema) (ty : Ty) (d t : Tree) → is_null t ≡ false → source_tree s ty d t ≡ t
   source_given s ty null null h = absurd (cc h)

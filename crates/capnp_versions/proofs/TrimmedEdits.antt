@@ -1,6 +1,6 @@
 -- Edits of values of one trimmed value.
-use Rattle.std.proofs.Common.{◌≡◌, ℕ, ◌*◌, ◌≤◌, true, false, ◌&&◌, List, [], ◌∷◌, refl, sym, ◌∙◌, ap, subst, arith}
-use Rattle.capnp_model.specs.Trees.{Tree, null, capability, structure, plain_list, pointer_list, struct_list}
+use Rattle.std.proofs.Common.{◌≡◌, ℕ, ◌*◌, ◌≤◌, false, ◌&&◌, List, [], ◌∷◌, refl, sym, ◌∙◌, ap, subst, arith}
+use Rattle.capnp_model.specs.Trees.{Tree}
 use Rattle.capnp_model.specs.Trimming.{trim}
 use Rattle.capnp_model.specs.Schemas.{struct, Node, Schema}
 use Rattle.capnp_model.specs.Readings.{Record, record_by_shape, record_of}
@@ -9,7 +9,6 @@ use Rattle.capnp_model.specs.Calls.{Step, name, index, Call}
 use Rattle.capnp_model.specs.Steps.{Outcome, refused, shown, done, step, step_path}
 use Rattle.capnp_model.specs.Edits.{edit, if_done, write_path}
 use Rattle.capnp_model.specs.Accepted.{schema_of, IsAccepted}
-use Rattle.capnp_model.specs.InKind.{in_kind}
 use Rattle.capnp_model.specs.InKindCalls.{at_value, end_of}
 use Rattle.capnp_model.specs.Admitted.{is_set}
 use Rattle.capnp_model.specs.NamedPaths.{IsOpen}
@@ -17,8 +16,10 @@ use Rattle.capnp_model.proofs.FineShapes.{IsGood}
 use Rattle.capnp_model.proofs.SoundRules.{rules_kept, good_shape}
 use Rattle.capnp_model.proofs.TrimmedAnswers.{trimmed_record}
 use Rattle.capnp_model.proofs.TrimTwice.{trim-trim}
-use Rattle.capnp_versions.specs.Whole.{IsWhole, IsWholeVerb}
-use Rattle.capnp_versions.specs.StructElements.{is_struct_value, sets_struct_element}
+use Rattle.capnp_versions.specs.Whole.{IsWholeVerb}
+use Rattle.capnp_versions.specs.StructElements.{is_struct_value, sets_struct_element, IsPlain}
+use Rattle.capnp_versions.specs.Roots.{IsRootInKind}
+use Rattle.capnp_versions.proofs.Structs.{open-trim}
 use Rattle.capnp_versions.proofs.WholeValues.{whole-trim}
 use Rattle.capnp_versions.proofs.Alike.{Alike}
 use Rattle.capnp_versions.proofs.Wrote.{Wrote, wrote-done}
@@ -85,17 +86,7 @@ module _ (nodes : List Node) (accepted : IsAccepted nodes) (id : ℕ) (c : Call)
       by (refused k) e = both_left t u a (λ r h. cc (sym e ∙ h)) same
       by (shown how z) e = both_left t u a (λ r h. cc (sym e ∙ h)) same
 
-pub open-trim : (t : Tree) → IsOpen t → IsOpen (trim t)
-unfolding trim
-open-trim null h = tt
-open-trim (structure w n ts) h = tt
-open-trim (capability i) h = absurd h
-open-trim (plain_list z k x) h = absurd h
-open-trim (pointer_list ts) h = absurd h
-open-trim (struct_list w p es) h = absurd h
-
 -- THE LAW: trimming before or after a call gives one trimmed value
-pub trimmed-edit : (nodes : List Node) → IsAccepted nodes → (id : ℕ) (c : Call) → IsWholeVerb c.verb → sets_struct_element (schema_of nodes) id c ≡ false → (t : Tree) → IsWhole t → IsOpen t → in_kind (schema_of nodes) t (struct id) ≡ true
-    → trim (edit (schema_of nodes) id c (trim t)) ≡ trim (edit (schema_of nodes) id c t)
-trimmed-edit nodes accepted id c whole sets t h x kind =
-    (alike-edits nodes accepted id c whole sets (trim t) t (record { trims = trim-trim t; whole = whole-trim t h; whole' = h }) (open-trim t x) x (trimmed_record (schema_of nodes) id t kind)).trims
+pub trimmed-edit : (nodes : List Node) (id : ℕ) (c : Call) (t : Tree) → IsPlain (schema_of nodes) id c → IsRootInKind nodes id t → trim (edit (schema_of nodes) id c (trim t)) ≡ trim (edit (schema_of nodes) id c t)
+trimmed-edit nodes id c t plain h =
+    (alike-edits nodes h.accepted id c plain.whole plain.sets_none (trim t) t (record { trims = trim-trim t; whole = whole-trim t h.whole; whole' = h.whole }) (open-trim t h.opens) h.opens (trimmed_record (schema_of nodes) id t h.kinds)).trims

@@ -1,14 +1,14 @@
 -- Calls under an older schema and under a compatible newer one.
 use Rattle.std.proofs.Common.{◌≡◌, ℕ, ◌*◌, ◌≤◌, true, false, List, [], ◌∷◌, refl, sym, ◌∙◌, ap, subst}
 use Rattle.std.specs.List.{AllByRecursion}
-use Rattle.capnp_model.specs.Trees.{Tree, null, capability, structure, plain_list, pointer_list, struct_list, child}
+use Rattle.capnp_model.specs.Trees.{Tree, null, structure, child}
 use Rattle.capnp_model.specs.Trimming.{trim}
-use Rattle.capnp_model.specs.Schemas.{struct, Node, Shape, shape, Schema}
+use Rattle.capnp_model.specs.Schemas.{struct, Node, Schema}
 use Rattle.capnp_model.specs.Readings.{Record, whole_words, shape_record, record_by_shape, record_of}
 use Rattle.capnp_model.specs.Printing.{fields_in}
 use Rattle.capnp_model.specs.Calls.{Step, name, index, Verb, get, set_to, init, initn, clear, Call}
 use Rattle.capnp_model.specs.Steps.{Outcome, refused, shown, done, outcome_map, on_name, step_field, step, step_path}
-use Rattle.capnp_model.specs.Edits.{edit, if_done, write_path}
+use Rattle.capnp_model.specs.Edits.{edit}
 use Rattle.capnp_model.specs.Accepted.{schema_of, IsAccepted}
 use Rattle.capnp_model.specs.Compatible.{has_pair, keeps, IsCompatible}
 use Rattle.capnp_model.specs.Admitted.{at_element, is_admitted_from, IsAdmitted}
@@ -20,38 +20,19 @@ use Rattle.capnp_model.specs.Answers.{reply_of, replies, edits}
 use Rattle.capnp_model.proofs.KeptShapes.{pair_is_kept, older_record}
 use Rattle.capnp_model.proofs.TrimmedAnswers.{trimmed_record}
 use Rattle.capnp_model.proofs.TrimmedKinds.{in_kind-trim}
-use Rattle.capnp_model.proofs.EditLaws.{next_start, last_start, record_after_calls, replies_to_calls}
+use Rattle.capnp_model.proofs.EditLaws.{edit_open, next_start, last_start, record_after_calls, replies_to_calls}
 use Rattle.capnp_versions.specs.Whole.{IsWhole, IsWholeVerb}
 use Rattle.capnp_versions.specs.SameReplies.{IsWrite, SameUnlessGet, SameReplies}
-use Rattle.capnp_versions.proofs.Alike.{Alike}
-use Rattle.capnp_versions.proofs.SameContents.{shape_words, alike-self}
+use Rattle.capnp_versions.specs.TwoVersions.{TwoVersions, older, newer, newer_record, older_view, CanEdit, CanStep, CanRun}
+use Rattle.capnp_versions.proofs.Alike.{Alike, alike-self}
+use Rattle.capnp_versions.proofs.SameContents.{shape_words}
 use Rattle.capnp_versions.proofs.Follows.{NameFollows, FieldFollows}
 use Rattle.capnp_versions.proofs.Within.{accepted-within}
 use Rattle.capnp_versions.proofs.TrimmedEdits.{accepted-good, written-alike, left}
 use Rattle.capnp_versions.proofs.KeptFollows.{words_kept, root-kept}
-use Rattle.capnp_versions.proofs.OlderSteps.{kids_of, nothing_seen, child_seen, root-view}
+use Rattle.capnp_versions.proofs.SeenValues.{kids_of, nothing_seen, child_seen}
+use Rattle.capnp_versions.proofs.OlderSteps.{root-view}
 use Rattle.capnp_versions.proofs.WriteOnly.{Sees, not-seen}
-
--- ---- structs stay structs
-
-open_written : (s : Schema) (g : Shape) (path : List Step) (verb : Verb) (t : Tree) → IsOpen t → IsOpen (write_path s g path verb t)
-open_written s g [] verb t h = h
-open_written s g (index k ∷ path) verb t h = h
-open_written s (shape nid w p u fs) (name l ∷ path) verb null h = tt
-open_written s (shape nid w p u fs) (name l ∷ path) verb (structure x m ts) h = tt
-open_written s g (name l ∷ path) verb (capability i) h = absurd h
-open_written s g (name l ∷ path) verb (plain_list z m x) h = absurd h
-open_written s g (name l ∷ path) verb (pointer_list ts) h = absurd h
-open_written s g (name l ∷ path) verb (struct_list w p es) h = absurd h
-
-pub open-edit : (s : Schema) (id : ℕ) (c : Call) (t : Tree) → IsOpen t → IsOpen (edit s id c t)
-unfolding edit
-open-edit s id c t h = by (step s id c (record_of s id t))
-  where
-    by : (x : Outcome Record) → IsOpen (if_done x (write_path s (s.shape_of id) c.path c.verb t) t)
-    by (refused k) = h
-    by (shown how z) = h
-    by (done r) = open_written s (s.shape_of id) c.path c.verb t h
 
 -- ---- two schemas
 
@@ -188,24 +169,41 @@ module _ (nodes nodes' : List Node) (accepted : IsAccepted nodes) (accepted' : I
   are-after quoted [] admitted whole t u a x start = record { alike = a; replied = tt }
   are-after quoted (c ∷ cs) admitted whole t u a x start =
       let same = (same_records t u a.trims start.kinds.of_tree).1 in
-      let rest = are-after quoted cs admitted.1 whole.1 (edit o older c t) (edit n newer c u) (versions-alike c admitted.0 whole.0 t u a x start.opens same) (open-edit o older c t x) (next_start nodes' newer c cs u start) in
+      let rest = are-after quoted cs admitted.1 whole.1 (edit o older c t) (edit n newer c u) (versions-alike c admitted.0 whole.0 t u a x start.opens same) (edit_open o older c t x) (next_start nodes' newer c cs u start) in
       record { alike = rest.alike; replied = (replies-same c admitted.0 quoted t u same, rest.replied) }
 
-  -- THE LAWS
-  pub edits-across : (c : Call) → IsAdmitted o n older newer c → IsWholeVerb c.verb → (t : Tree) → IsWhole t → IsOpen t → trim (edit o older c t) ≡ trim (edit n newer c t)
+  -- ---- the laws
+  edits-across : (c : Call) → IsAdmitted o n older newer c → IsWholeVerb c.verb → (t : Tree) → IsWhole t → IsOpen t → trim (edit o older c t) ≡ trim (edit n newer c t)
   edits-across c admitted whole t h x = (versions-alike c admitted whole t t (alike-self t h) x x refl).trims
 
-  pub calls-across : (calls : List Call) → AllByRecursion (λ c. IsAdmitted o n older newer c) calls → AllByRecursion (λ c. IsWholeVerb c.verb) calls → (t : Tree) → IsWhole t → IsStart nodes' newer calls t → trim (edits o older calls t) ≡ trim (edits n newer calls t)
+  calls-across : (calls : List Call) → AllByRecursion (λ c. IsAdmitted o n older newer c) calls → AllByRecursion (λ c. IsWholeVerb c.verb) calls → (t : Tree) → IsWhole t → IsStart nodes' newer calls t → trim (edits o older calls t) ≡ trim (edits n newer calls t)
   calls-across calls admitted whole t h start = (are-after (λ bs. bs) calls admitted whole t t (alike-self t h) start.opens start).alike.trims
 
-  pub records-across : (calls : List Call) → AllByRecursion (λ c. IsAdmitted o n older newer c) calls → AllByRecursion (λ c. IsWholeVerb c.verb) calls → (t : Tree) → IsWhole t → IsStart nodes' newer calls t
+  records-across : (calls : List Call) → AllByRecursion (λ c. IsAdmitted o n older newer c) calls → AllByRecursion (λ c. IsWholeVerb c.verb) calls → (t : Tree) → IsWhole t → IsStart nodes' newer calls t
       → record_of n newer (trim (edits o older calls t)) ≡ records_after n newer calls (record_of n newer t)
   records-across calls admitted whole t h start =
       let last = last_start nodes' newer calls t start in
       let both = same_records (edits o older calls t) (edits n newer calls t) (calls-across calls admitted whole t h start) last.kinds.of_tree in
       trimmed_record n newer (edits o older calls t) both.0 ∙ both.1 ∙ record_after_calls nodes' newer calls t start
 
-  pub replies-across : (quoted : List ℕ → List ℕ) (calls : List Call) → AllByRecursion (λ c. IsAdmitted o n older newer c) calls → AllByRecursion (λ c. IsWholeVerb c.verb) calls → (t : Tree) → IsWhole t → IsStart nodes' newer calls t
+  replies-across : (quoted : List ℕ → List ℕ) (calls : List Call) → AllByRecursion (λ c. IsAdmitted o n older newer c) calls → AllByRecursion (λ c. IsWholeVerb c.verb) calls → (t : Tree) → IsWhole t → IsStart nodes' newer calls t
       → SameReplies calls (replies o quoted older calls t) (record_replies n quoted newer calls (record_of n newer t))
   replies-across quoted calls admitted whole t h start =
       subst (SameReplies calls (replies o quoted older calls t)) (replies_to_calls nodes' newer quoted calls t start) (are-after quoted calls admitted whole t t (alike-self t h) start.opens start).replied
+
+-- THE LAWS
+pub steps-across-versions : (v : TwoVersions) (c : Call) (t : Tree) → CanStep v c → step (older v) v.older_root c (older_view v (newer_record v t)) ≡ outcome_map (older_view v) (step (newer v) v.newer_root c (newer_record v t))
+steps-across-versions v c t h = older-step v.older_nodes v.newer_nodes h.versions.older_accepted h.versions.newer_accepted v.older_root v.newer_root h.versions.compatible c h.admitted h.writes t
+
+pub edits-across-versions : (v : TwoVersions) (c : Call) (t : Tree) → CanEdit v c t → trim (edit (older v) v.older_root c t) ≡ trim (edit (newer v) v.newer_root c t)
+edits-across-versions v c t h = edits-across v.older_nodes v.newer_nodes h.versions.older_accepted h.versions.newer_accepted v.older_root v.newer_root h.versions.compatible c h.admitted h.whole_verb t h.whole h.opens
+
+pub values-across-versions : (v : TwoVersions) (calls : List Call) (t : Tree) → CanRun v calls t → trim (edits (older v) v.older_root calls t) ≡ trim (edits (newer v) v.newer_root calls t)
+values-across-versions v calls t h = calls-across v.older_nodes v.newer_nodes h.versions.older_accepted h.versions.newer_accepted v.older_root v.newer_root h.versions.compatible calls h.admitted h.whole_verbs t h.whole h.start
+
+pub records-across-versions : (v : TwoVersions) (calls : List Call) (t : Tree) → CanRun v calls t → newer_record v (trim (edits (older v) v.older_root calls t)) ≡ records_after (newer v) v.newer_root calls (newer_record v t)
+records-across-versions v calls t h = records-across v.older_nodes v.newer_nodes h.versions.older_accepted h.versions.newer_accepted v.older_root v.newer_root h.versions.compatible calls h.admitted h.whole_verbs t h.whole h.start
+
+pub replies-across-versions : (v : TwoVersions) (calls : List Call) (t : Tree) (quoted : List ℕ → List ℕ) → CanRun v calls t
+    → SameReplies calls (replies (older v) quoted v.older_root calls t) (record_replies (newer v) quoted v.newer_root calls (newer_record v t))
+replies-across-versions v calls t quoted h = replies-across v.older_nodes v.newer_nodes h.versions.older_accepted h.versions.newer_accepted v.older_root v.newer_root h.versions.compatible quoted calls h.admitted h.whole_verbs t h.whole h.start

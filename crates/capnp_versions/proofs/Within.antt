@@ -29,6 +29,7 @@ use Rattle.capnp_model.proofs.ReadFits.{tree_at_fits}
 use Rattle.capnp_model.proofs.RoundTrip.{enc_means}
 use Rattle.capnp_model.proofs.KeptRules.{and_left, and_right, and_three, found_passes}
 use Rattle.capnp_model.proofs.SoundRules.{RulesKept, rules_kept}
+use Rattle.capnp_versions.proofs.Comparisons.{le_is, lt_is}
 use Rattle.capnp_versions.proofs.SameShapes.{UnionWithin}
 use Rattle.capnp_versions.proofs.SameContents.{shape_words}
 use Rattle.capnp_versions.proofs.Holders.{PlacesKept, places_kept, uses, group_fits}
@@ -69,12 +70,6 @@ abbrev mutual
   BodyWithin room (group_slot g) = IsWithin room g
 
 -- ---- defaults
-
-le_is : (a b : ℕ) → nat_le a b ≡ true → a ≤ b
-le_is a b x = grind arith
-
-lt_is : (a b : ℕ) → nat_lt a b ≡ true → a < b
-lt_is a b x = grind arith
 
 blob_fits : (bs : List ℕ) → length bs < 2 ^ 29 → FitsDefault (Some (blob_tree bs))
 unfolding canonical_words

@@ -1,9 +1,10 @@
 -- Values that fit their spelling, by parts: the numbers in them, and the lengths of their lists.
-use Rattle.std.specs.Prelude.{ℕ, ◌+◌, ◌*◌, ◌^◌, ◌≡◌, ◌<◌, List}
+use Rattle.std.specs.Prelude.{ℕ, ◌+◌, ◌*◌, ◌^◌, ◌≡◌, ◌<◌, List, length}
 use Rattle.std.specs.List.{AllByRecursion}
 use Rattle.capnp_model.specs.Trees.{Tree, null, capability, structure, plain_list, pointer_list, struct_list, Trees, none, ◌▸◌, Elements, no_elements, element, size_bits, tree_count, element_count}
 use Rattle.capnp_model.specs.Schemas.{NodeKind, struct_node, enum_node, Node}
-use Rattle.capnp_model.specs.Calls.{Verb, set_to, enumerant, message}
+use Rattle.capnp_model.specs.Accepted.{IsAccepted}
+use Rattle.capnp_model.specs.Calls.{Verb, set_to, initn, enumerant, text_value, blob_value, message, Call}
 
 abbrev mutual
   -- Every number of a value is within the bits that spell it, and every section within its words.
@@ -50,6 +51,14 @@ IsSpelledVerb (set_to (enumerant n)) = n < 2 ^ 16
 IsSpelledVerb (set_to (message t)) = NumbersFit t
 IsSpelledVerb _ = Unit {0}
 
+-- A verb that neither holds nor makes a list that is too long, of whatever type. A text has a zero byte at its end.
+abbrev pub HoldsShortLists : Verb → Type 0
+HoldsShortLists (set_to (text_value bs)) = length bs + 1 < 2 ^ 29
+HoldsShortLists (set_to (blob_value bs)) = length bs < 2 ^ 29
+HoldsShortLists (set_to (message t)) = HasShortLists t
+HoldsShortLists (initn n) = n + 1 < 2 ^ 29
+HoldsShortLists _ = Unit {0}
+
 -- Section sizes of sixteen bits, as a struct pointer spells them.
 abbrev pub HasSmallSections : NodeKind → Type 0
 HasSmallSections (struct_node s) = (s.words < 2 ^ 16) × (s.pointers < 2 ^ 16)
@@ -58,3 +67,9 @@ HasSmallSections (enum_node es) = Unit {0}
 -- All of the nodes have.
 abbrev pub HaveSmallSections : List Node → Type 0
 HaveSmallSections nodes = AllByRecursion (λ n. HasSmallSections n.kind) nodes
+
+-- An accepted schema with section sizes of sixteen bits, and calls as calls hold them.
+pub record AreSpelled (nodes : List Node) (calls : List Call) : Type 0 where
+  pub accepted : IsAccepted nodes
+  pub small : HaveSmallSections nodes
+  pub verbs : AllByRecursion (λ c. IsSpelledVerb c.verb) calls

@@ -1,8 +1,10 @@
 -- What a relay's own output needs to be relayed again.
 use Rattle.std.specs.Prelude.{◌≡◌, ℕ, ◌^◌, ◌≤◌, List, length, Some}
+use Rattle.std.specs.List.{AllByRecursion}
 use Rattle.capnp_model.specs.Segments.{Segments}
 use Rattle.capnp_model.specs.Trees.{Tree}
 use Rattle.capnp_model.specs.Trimming.{trim}
+use Rattle.capnp_model.specs.Fits.{Fits}
 use Rattle.capnp_model.specs.Encoding.{canonical_words}
 use Rattle.capnp_model.specs.Schemas.{Node}
 use Rattle.capnp_model.specs.Accepted.{schema_of}
@@ -15,9 +17,21 @@ use Rattle.capnp_versions.specs.Fitting.{HasShortLists}
 abbrev pub edited_value : Work → Tree → Tree
 edited_value w t = edits w.schema w.root w.calls (opened_root w.schema w.root t)
 
--- The value that the calls make of a message has no list that is too long, and its words are few enough for a segment.
+-- What is written for a message has no list that is too long, and its words are few enough for a segment.
 abbrev pub SizesSuffice : Work → Segments → Type 0
-SizesSuffice w s = (t : Tree) → value_within w.limits s ≡ Some t → HasShortLists (edited_value w t) × (length (canonical_words (trim (edited_value w t))) ≤ 2 ^ 29)
+SizesSuffice w s =
+    (t : Tree) → value_within w.limits s ≡ Some t
+    → HasShortLists (trim (edited_value w t)) × (length (canonical_words (trim (edited_value w t))) ≤ 2 ^ 29)
+
+-- What is written for a message fits its spelling, and its words are few enough for a segment.
+abbrev pub WritesFitting : Work → Segments → Type 0
+WritesFitting w s =
+    (t : Tree) → value_within w.limits s ≡ Some t
+    → Fits (trim (edited_value w t)) × (length (canonical_words (trim (edited_value w t))) ≤ 2 ^ 29)
+
+-- Each segment has few enough words for lists and structs to be found in it.
+abbrev pub HaveFewWords : Segments → Type 0
+HaveFewWords segments = AllByRecursion (λ words. length words ≤ 2 ^ 29) segments
 
 -- A message is written.
 abbrev pub IsWritten : Answer → Type 0

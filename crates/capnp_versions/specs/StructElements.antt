@@ -17,6 +17,11 @@ is_struct_value nowhere = false
 abbrev pub sets_struct_element : Schema → ℕ → Call → Bool
 sets_struct_element s id c = is_set c.verb && is_struct_value (end_of s c.path (at_value (struct id)))
 
--- Calls with what calls hold, of which none sets a whole element of a list of structs.
+-- A call with what calls hold, which sets no whole element of a list of structs.
+pub record IsPlain (s : Schema) (id : ℕ) (c : Call) : Type 0 where
+  pub whole : IsWholeVerb c.verb
+  pub sets_none : sets_struct_element s id c ≡ false
+
+-- Calls of which each is such.
 abbrev pub ArePlain : Schema → ℕ → List Call → Type 0
-ArePlain s id calls = AllByRecursion (λ c. IsWholeVerb c.verb) calls × AllByRecursion (λ c. sets_struct_element s id c ≡ false) calls
+ArePlain s id calls = AllByRecursion (IsPlain s id) calls

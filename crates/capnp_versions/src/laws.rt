@@ -1,28 +1,24 @@
 //! Laws of versions, each the contract of a function that does nothing.
 
-ghost use Rattle.std.specs.Prelude.{◌≡◌, ℕ, ◌^◌, ◌≤◌, true, false, List, ◌++◌, length, Some};
-ghost use Rattle.std.specs.List.{AllByRecursion};
+ghost use Rattle.std.specs.Prelude.{◌≡◌, ℕ, List};
 ghost use Rattle.capnp_model.specs.Segments.{Segments};
 ghost use Rattle.capnp_model.specs.Trees.{Tree};
 ghost use Rattle.capnp_model.specs.Trimming.{trim};
 ghost use Rattle.capnp_model.specs.Fits.{Fits};
-ghost use Rattle.capnp_model.specs.Encoding.{canonical_words};
-ghost use Rattle.capnp_model.specs.Schemas.{struct, Node};
-ghost use Rattle.capnp_model.specs.Readings.{record_of};
+ghost use Rattle.capnp_model.specs.Schemas.{Node};
 ghost use Rattle.capnp_model.specs.Calls.{Call};
 ghost use Rattle.capnp_model.specs.Steps.{step, outcome_map};
 ghost use Rattle.capnp_model.specs.Edits.{edit};
-ghost use Rattle.capnp_model.specs.Accepted.{schema_of, IsAccepted};
-ghost use Rattle.capnp_model.specs.Compatible.{IsCompatible};
-ghost use Rattle.capnp_model.specs.Admitted.{IsAdmitted};
-ghost use Rattle.capnp_model.specs.Projection.{projected};
-ghost use Rattle.capnp_model.specs.InKind.{in_kind};
-ghost use Rattle.capnp_model.specs.NamedPaths.{IsOpen};
+ghost use Rattle.capnp_model.specs.Accepted.{schema_of};
 ghost use Rattle.capnp_model.specs.CallRuns.{IsStart, records_after, record_replies};
-ghost use Rattle.capnp_model.specs.Answers.{Reply, Limits, written, value_within, opened_root, answer, edits, replies};
-ghost use Rattle.capnp_versions.specs.Whole.{IsWhole, IsWholeVerb};
-ghost use Rattle.capnp_versions.specs.StructElements.{sets_struct_element, ArePlain};
-ghost use Rattle.capnp_versions.specs.SameReplies.{IsWrite, SameReplies};
+ghost use Rattle.capnp_model.specs.Answers.{edits, replies};
+ghost use Rattle.capnp_versions.specs.Whole.{IsWhole};
+ghost use Rattle.capnp_versions.specs.StructElements.{IsPlain, ArePlain};
+ghost use Rattle.capnp_versions.specs.Roots.{IsRootInKind};
+ghost use Rattle.capnp_versions.specs.SameReplies.{SameReplies};
+ghost use Rattle.capnp_versions.specs.TwoVersions.{TwoVersions, older, newer, newer_record, older_view, CanEdit, CanStep, CanRun};
+ghost use Rattle.capnp_versions.specs.OwnOutput.{WritesFitting, HaveFewWords};
+ghost use Rattle.capnp_versions.specs.TwoRelays.{TwoRelays, first, second, joined, Writes, CanRelay, AreShort};
 
 /// In a value that fits its spelling every section lies within its words.
 pub fn fitting_values_are_whole()
@@ -31,41 +27,54 @@ pub fn fitting_values_are_whole()
 
 /// Trimming a struct before or after a call gives one trimmed value, where lists are in kind and the call sets no whole struct element.
 pub fn edits_of_trimmed_values()
-    ensures { (nodes : List Node) → IsAccepted nodes → (id : ℕ) (c : Call) → IsWholeVerb c.verb → sets_struct_element (schema_of nodes) id c ≡ false → (t : Tree) → IsWhole t → IsOpen t → in_kind (schema_of nodes) t (struct id) ≡ true → trim (edit (schema_of nodes) id c (trim t)) ≡ trim (edit (schema_of nodes) id c t) }
+    ensures { (nodes : List Node) (id : ℕ) (c : Call) (t : Tree)
+        → IsPlain (schema_of nodes) id c → IsRootInKind nodes id t
+        → trim (edit (schema_of nodes) id c (trim t)) ≡ trim (edit (schema_of nodes) id c t) }
 {}
 
 /// Trimming a struct before or after calls gives one trimmed value, where lists are in kind and no call sets a whole struct element.
 pub fn calls_at_trimmed_values()
-    ensures { (nodes : List Node) (id : ℕ) (calls : List Call) → ArePlain (schema_of nodes) id calls → (t : Tree) → IsWhole t → IsStart nodes id calls t → trim (edits (schema_of nodes) id calls (trim t)) ≡ trim (edits (schema_of nodes) id calls t) }
+    ensures { (nodes : List Node) (id : ℕ) (calls : List Call) (t : Tree)
+        → ArePlain (schema_of nodes) id calls → IsWhole t → IsStart nodes id calls t
+        → trim (edits (schema_of nodes) id calls (trim t))
+        ≡ trim (edits (schema_of nodes) id calls t) }
 {}
 
-/// Two relays in a row write the words of one with the joined calls, where the message is written on both roads.
+/// Two relays in a row write the words of one with the joined calls, where the message is written on both roads, the first relay's calls hold no list that is too long and it writes at most 2^29 words; so too wherever what it writes fits its spelling.
 pub fn relays_in_a_row()
-    ensures { (nodes : List Node) (id : ℕ) (quoted : List ℕ → List ℕ) (cs ds : List Call) (first second : Limits) (message one two both : Segments) (rs rs' rs'' : List Reply) (t : Tree) → ArePlain (schema_of nodes) id cs → ArePlain (schema_of nodes) id ds
-        → value_within first message ≡ Some t → IsStart nodes id (cs ++ ds) t → Fits (edits (schema_of nodes) id cs (opened_root (schema_of nodes) id t)) → length (canonical_words (trim (edits (schema_of nodes) id cs (opened_root (schema_of nodes) id t)))) ≤ 2 ^ 29
-        → answer (schema_of nodes) quoted id cs first message ≡ written one rs → answer (schema_of nodes) quoted id ds second one ≡ written two rs' → answer (schema_of nodes) quoted id (cs ++ ds) first message ≡ written both rs'' → two ≡ both }
+    ensures by_words { (r : TwoRelays) (message one two both : Segments) → CanRelay r message
+        → AreShort r → HaveFewWords one
+        → Writes (first r) message one → Writes (second r) one two
+        → Writes (joined r) message both → two ≡ both }
+    ensures by_values { (r : TwoRelays) (message one two both : Segments) → CanRelay r message
+        → WritesFitting (first r) message
+        → Writes (first r) message one → Writes (second r) one two
+        → Writes (joined r) message both → two ≡ both }
 {}
 
 /// An admitted call leaves one trimmed value under an older schema and under a compatible newer one.
 pub fn edits_across_versions()
-    ensures { (nodes newer_nodes : List Node) → IsAccepted nodes → IsAccepted newer_nodes → (older newer : ℕ) → IsCompatible (schema_of nodes) (schema_of newer_nodes) older newer → (c : Call) → IsAdmitted (schema_of nodes) (schema_of newer_nodes) older newer c → IsWholeVerb c.verb → (t : Tree) → IsWhole t → IsOpen t → trim (edit (schema_of nodes) older c t) ≡ trim (edit (schema_of newer_nodes) newer c t) }
+    ensures { (v : TwoVersions) (c : Call) (t : Tree) → CanEdit v c t
+        → trim (edit (older v) v.older_root c t) ≡ trim (edit (newer v) v.newer_root c t) }
 {}
 
 /// At the older view of a newer record the older machine gives the older view of the newer machine's outcome, for admitted calls other than `get`.
 pub fn steps_across_versions()
-    ensures { (nodes newer_nodes : List Node) → IsAccepted nodes → IsAccepted newer_nodes → (older newer : ℕ) → IsCompatible (schema_of nodes) (schema_of newer_nodes) older newer → (c : Call) → IsAdmitted (schema_of nodes) (schema_of newer_nodes) older newer c → IsWrite c.verb → (t : Tree)
-        → step (schema_of nodes) older c (projected (schema_of nodes) older (record_of (schema_of newer_nodes) newer t)) ≡ outcome_map (projected (schema_of nodes) older) (step (schema_of newer_nodes) newer c (record_of (schema_of newer_nodes) newer t)) }
+    ensures { (v : TwoVersions) (c : Call) (t : Tree) → CanStep v c
+        → step (older v) v.older_root c (older_view v (newer_record v t))
+        ≡ outcome_map (older_view v) (step (newer v) v.newer_root c (newer_record v t)) }
 {}
 
 /// Editing under an older schema commutes with reading under a compatible newer one: admitted calls leave one trimmed value under both, whose newer record is what the newer machine makes of the newer record, and the replies to calls other than `get` are the same.
 pub fn calls_across_versions()
-    ensures values { (nodes newer_nodes : List Node) → IsAccepted nodes → IsAccepted newer_nodes → (older newer : ℕ) → IsCompatible (schema_of nodes) (schema_of newer_nodes) older newer → (calls : List Call)
-        → AllByRecursion (λ c. IsAdmitted (schema_of nodes) (schema_of newer_nodes) older newer c) calls → AllByRecursion (λ c. IsWholeVerb c.verb) calls → (t : Tree) → IsWhole t → IsStart newer_nodes newer calls t
-        → trim (edits (schema_of nodes) older calls t) ≡ trim (edits (schema_of newer_nodes) newer calls t) }
-    ensures records { (nodes newer_nodes : List Node) → IsAccepted nodes → IsAccepted newer_nodes → (older newer : ℕ) → IsCompatible (schema_of nodes) (schema_of newer_nodes) older newer → (calls : List Call)
-        → AllByRecursion (λ c. IsAdmitted (schema_of nodes) (schema_of newer_nodes) older newer c) calls → AllByRecursion (λ c. IsWholeVerb c.verb) calls → (t : Tree) → IsWhole t → IsStart newer_nodes newer calls t
-        → record_of (schema_of newer_nodes) newer (trim (edits (schema_of nodes) older calls t)) ≡ records_after (schema_of newer_nodes) newer calls (record_of (schema_of newer_nodes) newer t) }
-    ensures replies { (nodes newer_nodes : List Node) → IsAccepted nodes → IsAccepted newer_nodes → (older newer : ℕ) → IsCompatible (schema_of nodes) (schema_of newer_nodes) older newer → (quoted : List ℕ → List ℕ) (calls : List Call)
-        → AllByRecursion (λ c. IsAdmitted (schema_of nodes) (schema_of newer_nodes) older newer c) calls → AllByRecursion (λ c. IsWholeVerb c.verb) calls → (t : Tree) → IsWhole t → IsStart newer_nodes newer calls t
-        → SameReplies calls (replies (schema_of nodes) quoted older calls t) (record_replies (schema_of newer_nodes) quoted newer calls (record_of (schema_of newer_nodes) newer t)) }
+    ensures values { (v : TwoVersions) (calls : List Call) (t : Tree) → CanRun v calls t
+        → trim (edits (older v) v.older_root calls t)
+        ≡ trim (edits (newer v) v.newer_root calls t) }
+    ensures records { (v : TwoVersions) (calls : List Call) (t : Tree) → CanRun v calls t
+        → newer_record v (trim (edits (older v) v.older_root calls t))
+        ≡ records_after (newer v) v.newer_root calls (newer_record v t) }
+    ensures replies { (v : TwoVersions) (calls : List Call) (t : Tree) (quoted : List ℕ → List ℕ)
+        → CanRun v calls t
+        → SameReplies calls (replies (older v) quoted v.older_root calls t)
+        (record_replies (newer v) quoted v.newer_root calls (newer_record v t)) }
 {}

@@ -1,5 +1,5 @@
-use Rattle.capnp_versions.proofs.Versions.{calls-across, records-across, replies-across}
+use Rattle.capnp_versions.proofs.Versions.{values-across-versions, records-across-versions, replies-across-versions}
 use Rattle.capnp_versions.proofs.laws.calls_across_versions.Goals as goal
 
 pub returns : goal.returns
-returns c = record { values = calls-across; records = records-across; replies = replies-across }
+returns c = record { values = values-across-versions; records = records-across-versions; replies = replies-across-versions }

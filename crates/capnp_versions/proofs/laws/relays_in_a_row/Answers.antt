@@ -1,5 +1,5 @@
-use Rattle.capnp_versions.proofs.TrimmedRelays.{relays-in-a-row}
+use Rattle.capnp_versions.proofs.TrimmedRelays.{relays-by-words, relays-by-values}
 use Rattle.capnp_versions.proofs.laws.relays_in_a_row.Goals as goal
 
 pub returns : goal.returns
-returns c = relays-in-a-row
+returns c = record { by_words = relays-by-words; by_values = relays-by-values }
