@@ -24,29 +24,37 @@ fn read(alloc: Global, text: &str) -> Result<Vec<NodeRecord>, FileFault> {
 #[test]
 fn nodes_are_those_of_the_file(rt: HostRuntime) -> Result<(), FileFault> {
     let nodes = read(rt.alloc(), NODES)?;
-    assert_eq!(rt; nodes.len(), 3);
-    let NodeBody::Struct(first) = &nodes[0].body else {
+    let [plain, group, names] = nodes.as_slice() else {
         return Err(FileFault::Form);
     };
-    assert_eq!(rt; (first.data_word_count, first.pointer_count), (1, 2));
-    assert_eq!(rt; (first.discriminant_count, first.discriminant_offset), (2, 1));
-    assert_eq!(rt; first.fields[2].discriminant_value, NO_DISCRIMINANT);
-    let FieldBody::Slot { offset, ty, .. } = &first.fields[2].body else {
+    let NodeBody::Struct(holder) = &plain.body else {
         return Err(FileFault::Form);
     };
-    let rows = TypeRecord {
+    assert_eq!(rt; (holder.data_word_count, holder.pointer_count), (1, 2));
+    assert_eq!(rt; (holder.discriminant_count, holder.discriminant_offset), (2, 1));
+    let [_, _, rows, last] = holder.fields.as_slice() else {
+        return Err(FileFault::Form);
+    };
+    assert_eq!(rt; rows.discriminant_value, NO_DISCRIMINANT);
+    let FieldBody::Slot { offset, ty, .. } = &rows.body else {
+        return Err(FileFault::Form);
+    };
+    let lists = TypeRecord {
         list_count: 2,
         base: BaseType::Int8,
     };
-    assert_eq!(rt; (*offset, *ty), (1, rows));
-    let FieldBody::Group { node } = &first.fields[3].body else {
+    assert_eq!(rt; (*offset, *ty), (1, lists));
+    let FieldBody::Group { node } = &last.body else {
         return Err(FileFault::Form);
     };
-    assert_eq!(rt; *node, nodes[1].id);
-    let NodeBody::Enum(names) = &nodes[2].body else {
+    assert_eq!(rt; *node, group.id);
+    let NodeBody::Enum(enumerants) = &names.body else {
         return Err(FileFault::Form);
     };
-    assert_eq!(rt; names[1].name.as_str(), "y");
+    let [_, second] = enumerants.as_slice() else {
+        return Err(FileFault::Form);
+    };
+    assert_eq!(rt; second.name.as_str(), "y");
     Ok(())
 }
 
@@ -82,23 +90,24 @@ const CALLS: &str = r#"{"calls": [
 fn calls_are_those_of_the_file(rt: HostRuntime) -> Result<(), FileFault> {
     let file = calls_file(rt.alloc(), CALLS.as_bytes())?;
     assert_eq!(rt; (file.words, file.nesting), (8_388_608, -1));
-    assert_eq!(rt; file.calls.len(), 4);
-    let (path, verb, value) = &file.calls[0];
-    let [Step::Name(items), Step::Index(0), Step::Name(a)] = path.as_slice() else {
+    let [first, second, third, fourth] = file.calls.as_slice() else {
+        return Err(FileFault::Form);
+    };
+    let [Step::Name(items), Step::Index(0), Step::Name(a)] = first.0.as_slice() else {
         return Err(FileFault::Form);
     };
     assert_eq!(rt; (items.as_str(), a.as_str()), ("items", "a"));
-    assert_eq!(rt; *verb, Verb::Set);
-    let Some(CallValue::Number(number)) = value else {
+    assert_eq!(rt; first.1, Verb::Set);
+    let Some(CallValue::Number(number)) = &first.2 else {
         return Err(FileFault::Form);
     };
     assert_eq!(rt; *number, -7);
-    assert_eq!(rt; file.calls[1].1, Verb::Initn(4_294_967_295));
-    let Some(CallValue::Data(bytes)) = &file.calls[2].2 else {
+    assert_eq!(rt; second.1, Verb::Initn(4_294_967_295));
+    let Some(CallValue::Data(bytes)) = &third.2 else {
         return Err(FileFault::Form);
     };
     assert_eq!(rt; bytes.as_slice(), [10, 255].as_slice());
-    assert_eq!(rt; file.calls[3].1, Verb::Get);
+    assert_eq!(rt; fourth.1, Verb::Get);
     Ok(())
 }
 
