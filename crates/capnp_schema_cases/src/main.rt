@@ -4,13 +4,10 @@
 //! `rule R node I` for the first broken rule and the first node that breaks it. The answers are those of independent software.
 #![tactic(auto)]
 
-mod fields;
-mod nodes;
-mod values;
-
+use capnp_files::fault::FileFault;
+use capnp_files::schema_file::schema_file;
 use capnp_records::fault::SchemaFault;
 use capnp_records::set::SchemaSet;
-use nodes::nodes_of;
 use serde_json::Value as Json;
 use std::alloc::{AllocError, AllocFailed, Global};
 use std::process::ExitCode;
@@ -31,6 +28,15 @@ impl From<AllocError> for Fault {
     }
 }
 
+impl From<FileFault> for Fault {
+    fn from(fault: FileFault) -> Fault {
+        match fault {
+            FileFault::Memory => Fault::Memory,
+            FileFault::Form => Fault::Shape,
+        }
+    }
+}
+
 impl<T: Drop> From<AllocFailed<T>> for Fault {
     fn from(_e: AllocFailed<T>) -> Fault {
         Fault::Memory
@@ -46,7 +52,8 @@ struct Counts {
 
 /// What is answered to the nodes.
 fn answer_to(alloc: Global, schema: &Json) -> Result<String, Fault> {
-    match SchemaSet::new(nodes_of(alloc, schema)?) {
+    let text = schema.to_string(alloc)?;
+    match SchemaSet::new(schema_file(alloc, text.as_bytes())?) {
         Ok(_) => Ok(String::from_str(alloc, "accepted")?),
         Err(SchemaFault::Rule { rule, node }) => {
             Ok(format!(in alloc; "rule {rule} node {node}")?)

@@ -1,0 +1,3 @@
+pub mod OnlyMembers
+pub mod JsonTexts
+pub mod FileExamples

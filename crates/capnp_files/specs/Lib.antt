@@ -1,0 +1,5 @@
+pub mod Json
+pub mod Faults
+pub mod SchemaFiles
+pub mod CallsFiles
+pub mod CallViews

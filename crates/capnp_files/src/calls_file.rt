@@ -1,0 +1,62 @@
+//! Calls files.
+
+ghost use Rattle.std.specs.Prelude.{◌≡◌, Some, IfOk, IfErr};
+ghost use Rattle.serde_json.specs.View.{view};
+ghost use Rattle.capnp_files.specs.CallsFiles.{nesting_in, calls_text, calls_in};
+ghost use Rattle.capnp_files.specs.CallViews.{file_of};
+ghost use Rattle.capnp_files.specs.Faults.{IsRefusalOf};
+
+use crate::calls::{CallParts, calls_of};
+use crate::fault::FileFault;
+use crate::json::{items_at, number_or, value_in, with_keys};
+use serde_json::Value as Json;
+use std::alloc::Global;
+
+/// What a calls file says.
+#[derive(Debug, Drop)]
+pub struct CallsFile {
+    /// For each call what `Call::new` takes.
+    pub calls: Vec<CallParts>,
+    /// How many words a message may have.
+    pub words: usize,
+    /// How deep a message may be nested.
+    pub nesting: i32,
+}
+
+/// How deep messages may be nested; 64 where nothing is said.
+fn nesting_of(json: &Json) -> Option<i32>
+    ensures { result ≡ nesting_in (view json.now) }
+{
+    match json.get("nesting") {
+        None => Some(64),
+        Some(value) => i32::try_from(value.as_i64()?).ok(),
+    }
+}
+
+fn file_of(alloc: Global, json: &Json) -> Result<CallsFile, FileFault>
+    ensures ok { IfOk result (λ f. calls_text (view json.now) ≡ Some (file_of f)) }
+    ensures refused { IfErr result (IsRefusalOf (calls_text (view json.now))) }
+{
+    let keys = ["calls", "words", "nesting"];
+    let json = with_keys(json, &keys).ok_or(FileFault::Form)?;
+    let items = items_at(json, "calls").ok_or(FileFault::Form)?;
+    let calls = calls_of(alloc, items)?;
+    let words = number_or(8_388_608, json, "words", u64::MAX).ok_or(FileFault::Form)?;
+    let nesting = nesting_of(json).ok_or(FileFault::Form)?;
+    Ok(CallsFile {
+        calls,
+        words: words as usize,
+        nesting,
+    })
+}
+
+/// The calls of a calls file, in their order, and the limits of messages: 8,388,608 words and a nesting of 64 where the file doesn't
+/// say other ones. It is refused with `Form` just where the text is no JSON or has another form, and with `Memory` where memory is
+/// wanting. Which calls are refused `Call::new` decides.
+pub fn calls_file(alloc: Global, bytes: &[u8]) -> Result<CallsFile, FileFault>
+    ensures ok { IfOk result (λ f. calls_in bytes.now ≡ Some (file_of f)) }
+    ensures refused { IfErr result (IsRefusalOf (calls_in bytes.now)) }
+{
+    let json = value_in(alloc, bytes)?;
+    file_of(alloc, &json)
+}
