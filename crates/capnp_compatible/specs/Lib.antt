@@ -4,6 +4,7 @@ pub mod Defaults
 pub mod Holders
 pub mod Walks
 pub mod Ways
+pub mod Roots
 pub use Rattle.capnp_model.specs.Schemas
 pub use Rattle.capnp_model.specs.Accepted
 pub use Rattle.capnp_model.specs.Compatible

@@ -4,14 +4,13 @@ ghost use Rattle.std.specs.Prelude.{◌≡◌, List, map, option_map, option_cop
 ghost use Rattle.capnp_model.specs.Schemas.{struct, type_of};
 ghost use Rattle.capnp_model.specs.Printing.{fields_in};
 ghost use Rattle.capnp_model.specs.Calls.{Step as ModelStep, Verb as ModelVerb};
-ghost use Rattle.capnp_model.specs.Accepted.{schema_of};
 ghost use Rattle.capnp_model.specs.Admitted.{at_body, is_admitted_end, into_fields, into_type, into_at, is_admitted};
 ghost use Rattle.capnp_units.specs.declared.kinds.ErrorKind.TheVariants.{OutOfMemory};
-ghost use Rattle.capnp_records.specs.Sets.{nodes_of};
 ghost use Rattle.capnp_records.specs.NodeViews.{type_record_of};
 ghost use Rattle.capnp_calls.specs.CallViews.{step_view, call_view};
 ghost use Rattle.capnp_compatible.specs.Holders.{schema_in};
 ghost use Rattle.capnp_compatible.specs.Walks.{AreIndexed, older_body, newer_body};
+ghost use Rattle.capnp_compatible.specs.Roots.{is_admitted_at};
 ghost use Rattle.capnp_compatible.specs.declared.keeps.Versions.{Versions};
 ghost use Rattle.capnp_compatible.specs.Ways.{first_named, struct_id_in, element_in, older_shape, newer_shape, at_seen, goes_on, next_seen, writes_group, sets, IsAdmissionOf};
 
@@ -282,7 +281,7 @@ pub fn admitted(
     older: Root<'_>,
     newer: Root<'_>,
 ) -> Result<Admission>
-    ensures answer { IfOk result (IsAdmissionOf (is_admitted (schema_of (nodes_of older.entry.set.now)) (schema_of (nodes_of newer.entry.set.now)) older.entry.id newer.entry.id) (map call_view calls.now)) }
+    ensures answer { IfOk result (IsAdmissionOf (is_admitted_at older.entry newer.entry) (map call_view calls.now)) }
     ensures refusal { IfErr result (λ e. e.kind ≡ OutOfMemory) }
 {
     let versions = versions(alloc, older, newer)?;

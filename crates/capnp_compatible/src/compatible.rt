@@ -2,11 +2,10 @@
 
 ghost use Rattle.std.specs.Prelude.{◌≡◌, IfOk, IfErr};
 ghost use Rattle.std.specs.Bool.{MatchBool};
-ghost use Rattle.capnp_model.specs.Compatible.{IsCompatible};
-ghost use Rattle.capnp_model.specs.Accepted.{schema_of};
 ghost use Rattle.capnp_units.specs.declared.kinds.ErrorKind.TheVariants.{OutOfMemory};
 ghost use Rattle.capnp_records.specs.Sets.{nodes_of};
 ghost use Rattle.capnp_compatible.specs.Holders.{nodes_in};
+ghost use Rattle.capnp_compatible.specs.Roots.{AreCompatible};
 ghost use Rattle.capnp_compatible.specs.Walks.{AreIndexed, IsKeptFrom, are_alike};
 
 use crate::keeps::{Levels, Versions, keeps};
@@ -70,9 +69,7 @@ fn all_kept(
 /// the same under the newer, field by field. Takes time linear in the pairs of structs that are reached times their fields.
 /// `OutOfMemory` is the one error.
 pub fn compatible(alloc: Global, older: Root<'_>, newer: Root<'_>) -> Result<bool>
-    ensures answer { IfOk result (λ b. MatchBool b
-        (IsCompatible (schema_of (nodes_of older.entry.set.now)) (schema_of (nodes_of newer.entry.set.now)) older.entry.id newer.entry.id)
-        (IsCompatible (schema_of (nodes_of older.entry.set.now)) (schema_of (nodes_of newer.entry.set.now)) older.entry.id newer.entry.id → ⊥)) }
+    ensures answer { IfOk result (λ b. MatchBool b (AreCompatible older.entry newer.entry) (AreCompatible older.entry newer.entry → ⊥)) }
     ensures refusal { IfErr result (λ e. e.kind ≡ OutOfMemory) }
 {
     let versions = versions(alloc, older, newer)?;
