@@ -11,11 +11,10 @@ use Rattle.capnp_footprints.specs.Changes.{Changes, ReplacesObject, Replaces, Cl
 use Rattle.capnp_footprints.specs.Children.{childless}
 use Rattle.capnp_footprints.specs.Footprints.{behind, object_footprint, OwnsObject, footprint, Owns, own_words}
 use Rattle.capnp_footprints.specs.Writes.{with_words}
-use Rattle.capnp_footprints.proofs.Algebra.{On, changes_lift, changes_then, changes_nothing}
+use Rattle.capnp_footprints.proofs.Algebra.{On, changes_lift, changes_then, changes_nothing, changes_alike}
 use Rattle.capnp_footprints.proofs.Cells.{element_parts, list_is}
 use Rattle.capnp_footprints.proofs.Clearing.{on_later, clears_words, null_now, own_le, own_there, no_own, pads_are}
 use Rattle.capnp_footprints.proofs.Kept.{value_same, object_same}
-use Rattle.capnp_footprints.proofs.Levels.{changes_alike}
 use Rattle.capnp_footprints.proofs.Lift.{struct_parts, value_on, slot_is, object_of_pointer, list_parts}
 use Rattle.capnp_footprints.proofs.Nulls.{nulls_behind, childless_behind}
 use Rattle.capnp_footprints.proofs.Rows.{words_grown, footprint_is}

@@ -18,10 +18,10 @@ use Rattle.capnp_footprints.specs.Changes.{Changes, Replaces, absent}
 use Rattle.capnp_footprints.specs.Footprints.{footprint, Owns}
 use Rattle.capnp_footprints.specs.NewObjects.{Fits, new_list, New, new_struct, filled_list, new_pointers, new_structs, new_pointer, new_object, far_pointer, IsNamed, new_words, new_tree, pointed, pointed_far, Prepared, IsNear}
 use Rattle.capnp_footprints.specs.Writes.{with_words, spliced, with_zeros, segment_end}
-use Rattle.capnp_footprints.proofs.Algebra.{On, changes_then, beside_kept}
+use Rattle.capnp_footprints.proofs.Algebra.{On, changes_then, changes_alike, beside_kept}
 use Rattle.capnp_footprints.proofs.Growing.{zeros_extend, held_not}
 use Rattle.capnp_footprints.proofs.Kept.{words_length}
-use Rattle.capnp_footprints.proofs.Levels.{changes_alike, grown_value}
+use Rattle.capnp_footprints.proofs.Levels.{grown_value}
 use Rattle.capnp_footprints.proofs.Lift.{value_on, slot_is}
 use Rattle.capnp_footprints.proofs.NewKinds.{is_new}
 use Rattle.capnp_footprints.proofs.Nulls.{null_word}
