@@ -17,4 +17,5 @@ pub mod Turns
 pub mod Pointing
 pub mod NewKinds
 pub mod Prepared
+pub mod Detached
 pub mod NewObjects

@@ -202,7 +202,7 @@ far_leads s p r v w x e f ne named fits =
     let word : word_at (pointed_far s p r (new_pointer 0 x)) p ≡ Some (far_pointer r) = written_word (pointed s r (new_pointer 0 x)) p v (far_pointer r) slot_was in
     far_found (pointed_far s p r (new_pointer 0 x)) p r (new_pointer 0 x) (λ q. new_object q x) (new_names 0 x (omega arith) fits) named word pad_now
 
-first_of_more : (k : ℕ) → replicate {A = ℕ} (1 + k) 0 ≡ 0 ∷ replicate {A = ℕ} k 0
+pub first_of_more : (k : ℕ) → replicate {A = ℕ} (1 + k) 0 ≡ 0 ∷ replicate {A = ℕ} k 0
 first_of_more k = let e : 1 + k ≡ suc k = omega arith in ap (λ (m : ℕ). replicate {A = ℕ} m 0) e
 
 -- ---- from before the words were allocated
@@ -239,7 +239,7 @@ rest_written n s u p r k w vs ws l h =
     let long : length (w ∷ ws) ≡ 1 + k = words_length u r (1 + k) (w ∷ ws) h.words_there in
     subst (λ (xs : List ℕ). Prepared n s (with_words u (after r 1) vs) p r (1 + k) xs) (behind_first w vs ws (omega (arith, l, long))) (prepared_written n s u p r 1 (1 + k) vs (w ∷ ws) (omega (arith, l)) h)
 
-tag_in_front : (tag : ℕ) (v : ℕ) (xs : List ℕ) → spliced 0 (tag ∷ []) (v ∷ xs) ≡ tag ∷ xs
+pub tag_in_front : (tag : ℕ) (v : ℕ) (xs : List ℕ) → spliced 0 (tag ∷ []) (v ∷ xs) ≡ tag ∷ xs
 unfolding spliced
 tag_in_front tag v [] = refl
 tag_in_front tag v (x ∷ xs) = refl
