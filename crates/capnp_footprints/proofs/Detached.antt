@@ -98,7 +98,7 @@ part_changed n s u w p t v t' v' spare spare' o o' h c e f z =
     }
 
 -- the object beside a change stays
-object_beside : (n : ℕ) (s u : Segments) (o : Object) (v : Tree) (c d : Place → ℕ) → Changes s u c d → ((q : Place) → object_footprint n s o q + c q ≤ 1) → tree_of s (tree_at n s) o ≡ Some v → (tree_of u (tree_at n u) o ≡ Some v) × (covered_object u (behind n u) o ≡ covered_object s (behind n s) o)
+pub object_beside : (n : ℕ) (s u : Segments) (o : Object) (v : Tree) (c d : Place → ℕ) → Changes s u c d → ((q : Place) → object_footprint n s o q + c q ≤ 1) → tree_of s (tree_at n s) o ≡ Some v → (tree_of u (tree_at n u) o ≡ Some v) × (covered_object u (behind n u) o ≡ covered_object s (behind n s) o)
 object_beside n s u o v c d h apart e =
     object_same s u (tree_at n s) (tree_at n u) (behind n s) (behind n u) (λ q x a g. value_same n n s u q x (omega arith) a g) o v (beside_kept s u c d (covered_object s (behind n s) o) h apart) e
 

@@ -18,4 +18,5 @@ pub mod Pointing
 pub mod NewKinds
 pub mod Prepared
 pub mod Detached
+pub mod FarPointing
 pub mod NewObjects

@@ -3,4 +3,5 @@
 
 pub mod laws;
 pub mod laws_of_clearing;
+pub mod laws_of_detached_objects;
 pub mod laws_of_new_objects;
