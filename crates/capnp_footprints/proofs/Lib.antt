@@ -19,4 +19,5 @@ pub mod NewKinds
 pub mod Prepared
 pub mod Detached
 pub mod FarPointing
+pub mod Moving
 pub mod NewObjects
