@@ -85,7 +85,7 @@ detached_start n s p t o =
     }
 
 -- one part of what stands there changes
-part_changed : (n : ℕ) (s u w : Segments) (p : Place) (t v t' v' : Tree) (spare spare' : List Span) (o o' : Object) → Detached n s u p t spare o v → Changes u w (all_taken n u p spare o) (all_taken n w p spare' o')
+pub part_changed : (n : ℕ) (s u w : Segments) (p : Place) (t v t' v' : Tree) (spare spare' : List Span) (o o' : Object) → Detached n s u p t spare o v → Changes u w (all_taken n u p spare o) (all_taken n w p spare' o')
     → tree_at (suc n) w p ≡ Some t' → tree_of w (tree_at n w) o' ≡ Some v' → AllByRecursion (AreZero w) spare' → Detached n s w p t' spare' o' v'
 part_changed n s u w p t v t' v' spare spare' o o' h c e f z =
     let on = all_on n s u p t v spare o h in

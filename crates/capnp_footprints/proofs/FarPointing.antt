@@ -93,7 +93,7 @@ detached_far n s u p pad v r offset x spare h named at fits =
 
 -- ---- pads of two words
 
-double_says : (pad : Place) → IsNamed pad → pointer_of (double_far_pointer pad) ≡ to_pad 2 pad
+pub double_says : (pad : Place) → IsNamed pad → pointer_of (double_far_pointer pad) ≡ to_pad 2 pad
 double_says pad l =
     let lj = l.position_fits in
     let li = l.segment_fits in
@@ -103,7 +103,7 @@ double_says pad l =
     let position : bits_at 3 29 (6 + 8 * pad.position + 2 ^ 32 * pad.segment) ≡ pad.position = omega (arith, lj, li) in
     rw (kind, one, segment, position) refl
 
-double_found : (s : Segments) (p pad r : Place) (w : ℕ) (make : Place → Object) → Names w 0 make → IsNamed pad → IsNamed r → word_at s p ≡ Some (double_far_pointer pad) → words_at s pad 2 ≡ Some (far_pointer r ∷ w ∷ []) → found_at s p ≡ Ok (record { pads = 2; object = make r })
+pub double_found : (s : Segments) (p pad r : Place) (w : ℕ) (make : Place → Object) → Names w 0 make → IsNamed pad → IsNamed r → word_at s p ≡ Some (double_far_pointer pad) → words_at s pad 2 ≡ Some (far_pointer r ∷ w ∷ []) → found_at s p ≡ Ok (record { pads = 2; object = make r })
 double_found s p pad r w make h l m e e' =
     let nz : eqb (double_far_pointer pad) 0 ≡ false = not_zero (double_far_pointer pad) (omega arith) in
     let lj = m.position_fits in

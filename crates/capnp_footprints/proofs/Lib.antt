@@ -20,4 +20,5 @@ pub mod Prepared
 pub mod Detached
 pub mod FarPointing
 pub mod Moving
+pub mod MovedChildren
 pub mod NewObjects
