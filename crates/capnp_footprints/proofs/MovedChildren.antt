@@ -6,7 +6,7 @@ use Rattle.capnp_model.specs.Schemas.{slot}
 use Rattle.capnp_model.specs.Segments.{Segments, Place, after}
 use Rattle.capnp_model.specs.Traversal.{tree_of, tree_at}
 use Rattle.capnp_model.specs.Trees.{Tree, Trees, null, structure, pointer_list, with_child}
-use Rattle.capnp_model.proofs.ApartAreas.{all_right}
+use Rattle.capnp_model.proofs.Locality.{all_right}
 use Rattle.capnp_model.proofs.SoundRules.{apart}
 use Rattle.capnp_footprints.specs.Changes.{Changes}
 use Rattle.capnp_footprints.specs.Detached.{all_taken, Detached, AreZero, Moves}

@@ -1,12 +1,12 @@
 -- Objects that no pointer names yet, and values that move from one pointer to another.
 use Rattle.std.specs.Prelude.{◌≡◌, ℕ, suc, ◌+◌, ◌^◌, ◌<◌, ◌≤◌, List, replicate, Some, Ok}
 use Rattle.std.specs.List.{AllByRecursion}
-use Rattle.capnp_model.specs.Segments.{Segments, Place, after, words_at}
-use Rattle.capnp_model.specs.Pointers.{Object, begins}
+use Rattle.capnp_model.specs.Segments.{Segments, Place, after, word_at, words_at}
+use Rattle.capnp_model.specs.Pointers.{Object, begins, Found, found_at}
 use Rattle.capnp_model.specs.Trees.{Tree, null}
 use Rattle.capnp_model.specs.Traversal.{tree_of, tree_at}
 use Rattle.capnp_model.specs.Coverage.{Span, times_held}
-use Rattle.capnp_footprints.specs.Footprints.{footprint, object_footprint}
+use Rattle.capnp_footprints.specs.Footprints.{footprint, object_footprint, Owns}
 use Rattle.capnp_footprints.specs.Changes.{Changes}
 
 -- What the value at a place, spare words and an object beside it take.
@@ -35,3 +35,12 @@ pub record Moves (n : ℕ) (s u : Segments) (a b : Place) (spare : List Span) (t
   pub from : tree_at n u a ≡ Some null
   pub to : tree_at n u b ≡ Some t
   pub changes : Changes s u (λ q. footprint n s a q + (footprint n s b q + times_held spare q)) (λ q. footprint n u a q + footprint n u b q)
+
+-- The value at a place can move to another: what its word leads to, no word taken twice, null at the other place, and spare zeros.
+pub record IsMovable (n : ℕ) (s : Segments) (a b : Place) (spare : List Span) (w : ℕ) (f : Found) (t : Tree) : Type 0 where
+  pub there : word_at s a ≡ Some w
+  pub found : found_at s a ≡ Ok f
+  pub owned : Owns n s a t
+  pub null_there : word_at s b ≡ Some 0
+  pub zeros : AllByRecursion (AreZero s) spare
+  pub apart : (q : Place) → footprint n s a q + (footprint n s b q + times_held spare q) ≤ 1
