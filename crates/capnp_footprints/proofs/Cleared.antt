@@ -138,7 +138,7 @@ childless_struct n s u p d k w section r =
 pub plain_alone : (n : ℕ) (s : Segments) (p : Place) (size count : ℕ) → list_kind size ≡ of_bits → Changes s s (object_footprint n s (a_list p size count)) (times_held (span p (words_for (size_bits size * count)) ∷ []))
 plain_alone n s p size count k =
     changes_alike s s (object_footprint n s (a_list p size count)) (object_footprint n s (a_list p size count)) (object_footprint n s (a_list p size count)) (times_held (span p (words_for (size_bits size * count)) ∷ [])) (changes_nothing s (object_footprint n s (a_list p size count))) (λ q. refl)
-        (λ q. omega (arith, plain_is n s p size count q k, held_is p (words_for (size_bits size * count)) [] q))
+    (λ q. omega (arith, plain_is n s p size count q k, held_is p (words_for (size_bits size * count)) [] q))
 
 pub childless_list : (n : ℕ) (s u : Segments) (p : Place) (k : ℕ) → ReplacesObject n s u (a_list p 6 k) (pointer_list (resized k none)) → Changes s u (object_footprint n s (a_list p 6 k)) (times_held (span p k ∷ []))
 childless_list n s u p k r =

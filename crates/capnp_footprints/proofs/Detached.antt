@@ -250,10 +250,10 @@ detached_near n s u p v r offset x spare h at some fits =
     let a = object_beside n u (pointed u p (new_pointer offset x)) (new_object r x) v (held p 1) (held p 1) c (λ q. omega (arith, h.apart q, slot q)) h.object in
     let same : (q : Place) → object_footprint n (pointed u p (new_pointer offset x)) (new_object r x) q ≡ object_footprint n u (new_object r x) q = λ q. ap (λ (xs : List Span). times_held xs q) a.1 in
     let whole : (q : Place) → footprint (suc n) (pointed u p (new_pointer offset x)) p q ≡ held p 1 q + object_footprint n u (new_object r x) q = λ q. (
-        let b = slot_is n (pointed u p (new_pointer offset x)) p (record { pads = 0; object = new_object r x }) q found in
-        let d : times_held (span p 1 ∷ pads_at (pointed u p (new_pointer offset x)) p) q ≡ times_held (span p 1 ∷ []) q = ap (λ (xs : List Span). times_held (span p 1 ∷ xs) q) pads in
-        omega (arith, b, d, held_is p 1 [] q, same q)
-        ) in
+    let b = slot_is n (pointed u p (new_pointer offset x)) p (record { pads = 0; object = new_object r x }) q found in
+    let d : times_held (span p 1 ∷ pads_at (pointed u p (new_pointer offset x)) p) q ≡ times_held (span p 1 ∷ []) q = ap (λ (xs : List Span). times_held (span p 1 ∷ xs) q) pads in
+    omega (arith, b, d, held_is p 1 [] q, same q)
+    ) in
     let lifted : Changes u (pointed u p (new_pointer offset x)) (all_taken n u p spare (new_object r x)) (λ q. footprint (suc n) (pointed u p (new_pointer offset x)) p q + times_held spare q) = changes_lift u (pointed u p (new_pointer offset x)) (held p 1) (held p 1) (all_taken n u p spare (new_object r x)) (λ q. footprint (suc n) (pointed u p (new_pointer offset x)) p q + times_held spare q) c (λ q. omega (arith, whole q, slot q)) (λ q. omega (arith, slot q)) in
     let all = changes_then s u (pointed u p (new_pointer offset x)) (footprint (suc n) s p) (all_taken n u p spare (new_object r x)) (λ q. footprint (suc n) (pointed u p (new_pointer offset x)) p q + times_held spare q) h.changes lifted (all_on n s u p null v spare (new_object r x) h) in
     let spare_now = zeros_kept u (pointed u p (new_pointer offset x)) spare (rewrites_keep u (pointed u p (new_pointer offset x)) p 1 spare y (λ q. omega (arith, h.apart q, slot q))) h.zeros in

@@ -50,10 +50,10 @@ pointed_by_pad n s u w p pad v a o spare h g more others found pads =
     let b = object_beside n u w o v (λ q. held p 1 q + held pad a q) (λ q. held p 1 q + held pad a q) c (λ q. omega (arith, h.apart q, slot q, part q)) h.object in
     let same : (q : Place) → object_footprint n w o q ≡ object_footprint n u o q = λ q. ap (λ (xs : List Span). times_held xs q) b.1 in
     let whole : (q : Place) → footprint (suc n) w p q ≡ held p 1 q + held pad a q + object_footprint n u o q = λ q. (
-        let d = slot_is n w p (record { pads = a; object = o }) q found in
-        let e : times_held (span p 1 ∷ pads_at w p) q ≡ times_held (span p 1 ∷ span pad a ∷ []) q = ap (λ (xs : List Span). times_held (span p 1 ∷ xs) q) pads in
-        omega (arith, d, e, held_is p 1 (span pad a ∷ []) q, held_is pad a [] q, same q)
-        ) in
+    let d = slot_is n w p (record { pads = a; object = o }) q found in
+    let e : times_held (span p 1 ∷ pads_at w p) q ≡ times_held (span p 1 ∷ span pad a ∷ []) q = ap (λ (xs : List Span). times_held (span p 1 ∷ xs) q) pads in
+    omega (arith, d, e, held_is p 1 (span pad a ∷ []) q, held_is pad a [] q, same q)
+    ) in
     let lifted : Changes u w (all_taken n u p (span pad a ∷ spare) o) (λ q. footprint (suc n) w p q + times_held spare q) = changes_lift u w (λ q. held p 1 q + held pad a q) (λ q. held p 1 q + held pad a q) (all_taken n u p (span pad a ∷ spare) o) (λ q. footprint (suc n) w p q + times_held spare q) c (λ q. omega (arith, whole q, slot q, part q)) (λ q. omega (arith, slot q, part q)) in
     let all = changes_then s u w (footprint (suc n) s p) (all_taken n u p (span pad a ∷ spare) o) (λ q. footprint (suc n) w p q + times_held spare q) h.changes lifted (all_on n s u p null v (span pad a ∷ spare) o h) in
     let spare_now = zeros_kept u w spare (beside_kept u w (λ q. held p 1 q + held pad a q) (λ q. held p 1 q + held pad a q) spare c (λ q. omega (arith, h.apart q, slot q, part q))) h.zeros.1 in

@@ -73,8 +73,7 @@ pointer_of_object_with n s u p f t v c d e o apart means h =
     let kept = beside_kept s u (λ q. object_footprint n s f.object q + c q) (λ q. object_footprint n u f.object q + d q) (span p 1 ∷ pads_at s p) h (λ q. omega (arith, apart q, slot_is n s p f q e)) in
     let here : found_at u p ≡ Ok f = found_kept s u p f kept.0 kept.1 e in
     let x = bind_ok (ok_or (word_at s p) OutOfBounds) _ f e in
-    let pads : pads_at u p ≡ pads_at s p = pads_kept s u p x.0 kept.0 (ok_or_some _ _ _ x.1) in
-    (
+    let pads : pads_at u p ≡ pads_at s p = pads_kept s u p x.0 kept.0 (ok_or_some _ _ _ x.1) in (
       rw here means,
       here,
       changes_lift s u (λ q. object_footprint n s f.object q + c q) (λ q. object_footprint n u f.object q + d q) (λ q. footprint (suc n) s p q + c q) (λ q. footprint (suc n) u p q + d q) h
@@ -137,8 +136,7 @@ struct_of_child_with n s u p d k i w section kids t e f l o apart means h =
       there = words_join u p d k _ _ front back.1;
       section_is = ap section_of (take_at (take d a.words) back.0 d long) ∙ a.section_is;
       kids_are = new.0;
-    } in
-    (
+    } in (
       struct_of_parts n u p d k section (with_child kids i t) parts ∙ ap (λ (m : ℕ). Some (structure m section (with_child kids i t))) x.0,
       changes_lift s u (λ q. footprint n s (after (after p d) i) q + e q) (λ q. footprint n u (after (after p d) i) q + f q) (λ q. object_footprint n s (a_struct p d k) q + e q) (λ q. object_footprint n u (a_struct p d k) q + f q) h
           (λ q. omega (arith, struct_is n s p d k q, struct_is n u p d k q, new.1 q))
@@ -185,8 +183,7 @@ list_of_child_with n s u p k i kids t e f l o apart means h =
     let new = row_replaced n s u (after p i) t (λ q. footprint n s (after p i) q + e q) (λ q. footprint n u (after p i) q + f q) e h (λ q. refl) means p k i a.words kids refl l a.there (λ q. omega (arith, apart q, pointers_are n s p k q)) a.kids_are in
     let there = words_grown s u p k a.words h.grows a.there in
     let is : words_at u p k ≡ Some there.0 = there.1 in
-    let kids' : each (tree_at n u) p k ≡ Some (with_child kids i t) = new.0 in
-    (
+    let kids' : each (tree_at n u) p k ≡ Some (with_child kids i t) = new.0 in (
       rw (is, kids') refl,
       changes_lift s u (λ q. footprint n s (after p i) q + e q) (λ q. footprint n u (after p i) q + f q) (λ q. object_footprint n s (a_list p 6 k) q + e q) (λ q. object_footprint n u (a_list p 6 k) q + f q) h
           (λ q. omega (arith, pointers_are n s p k q, pointers_are n u p k q, new.1 q))

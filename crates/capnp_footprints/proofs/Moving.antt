@@ -109,6 +109,7 @@ slots_apart n s a b xs apart q = omega (arith, apart q, footprint_is n s a q, fo
 module _ (n : ℕ) (s : Segments) (a b : Place) (w : ℕ) (e : word_at s b ≡ Some 0) (v : ℕ) (f : word_at s a ≡ Some v) (apart : (q : Place) → held a 1 q + held b 1 q ≤ 1) where
   z : Segments
   z = zeroed s a 1
+
   u : Segments
   u = pointed (zeroed s a 1) b w
 

@@ -35,8 +35,7 @@ zero_elements_read n s p d k (suc c) e =
     let inner = zero_elements_read n s (after p (d + k)) d k c rest in
     let more : d ≤ (d + k) + c * (d + k) = omega arith in
     let front : section_of (take d (replicate ((d + k) + c * (d + k)) 0)) ≡ 0 = ap section_of (take-replicate d ((d + k) + c * (d + k)) 0 more) ∙ section_of-zeros d in
-    let tail_read : each_element (tree_at n s) (after p (d + k)) (drop (d + k) (replicate ((d + k) + c * (d + k)) 0)) d k c ≡ Some (zero_elements c k) = ap (λ (xs : List ℕ). each_element (tree_at n s) (after p (d + k)) xs d k c) tail ∙ inner.0 in
-    (
+    let tail_read : each_element (tree_at n s) (after p (d + k)) (drop (d + k) (replicate ((d + k) + c * (d + k)) 0)) d k c ≡ Some (zero_elements c k) = ap (λ (xs : List ℕ). each_element (tree_at n s) (after p (d + k)) xs d k c) tail ∙ inner.0 in (
       subst (λ (m : ℕ). each_element (tree_at n s) p (replicate m 0) d k (suc c) ≡ Some (zero_elements (suc c) k)) (sym sum) (rw (kids, tail_read) (ap (λ (x : ℕ). Some (element x (resized k none) (zero_elements c k))) front)),
       ap (λ (xs : List Span). xs ++ from_elements (behind n s) (after p (d + k)) d k c) (zeros_behind n s (after p d) k kids_there) ∙ inner.1,
     )

@@ -130,10 +130,10 @@ near_new n s u p r offset k x h start lo some fits =
     let words : words_at (pointed u p (new_pointer offset x)) r k ≡ Some (new_words x) = (rewrites_keep u (pointed u p (new_pointer offset x)) p 1 (span r k ∷ []) y (λ q. omega (arith, h.apart q, both p r k q, held_is r k [] q))).0 (new_words x) h.words_there in
     let new = is_new n (pointed u p (new_pointer offset x)) r k x fits words in
     let whole : (q : Place) → footprint (suc n) (pointed u p (new_pointer offset x)) p q ≡ times_held (span p 1 ∷ span r k ∷ []) q = λ q. (
-        let a = slot_is n (pointed u p (new_pointer offset x)) p (record { pads = 0; object = new_object r x }) q found in
-        let b : times_held (span p 1 ∷ pads_at (pointed u p (new_pointer offset x)) p) q ≡ times_held (span p 1 ∷ []) q = ap (λ (xs : List Span). times_held (span p 1 ∷ xs) q) pads in
-        omega (arith, a, b, held_is p 1 [] q, new.takes q, both p r k q)
-        ) in
+    let a = slot_is n (pointed u p (new_pointer offset x)) p (record { pads = 0; object = new_object r x }) q found in
+    let b : times_held (span p 1 ∷ pads_at (pointed u p (new_pointer offset x)) p) q ≡ times_held (span p 1 ∷ []) q = ap (λ (xs : List Span). times_held (span p 1 ∷ xs) q) pads in
+    omega (arith, a, b, held_is p 1 [] q, new.takes q, both p r k q)
+    ) in
     let change = rewritten n s u (pointed u p (new_pointer offset x)) p r k (new_words x) h y.grows y.no_more (λ q z a b e. y.others q z a e) in
     record {
       means = rw found new.means;
@@ -162,10 +162,10 @@ far_new n s u p r k w x h named fits =
     let words : words_at (pointed_far u p r (new_pointer 0 x)) (after r 1) k ≡ Some (new_words x) = (rewrites_keep (pointed u r (new_pointer 0 x)) (pointed_far u p r (new_pointer 0 x)) p 1 (span (after r 1) k ∷ []) b (λ q. omega (arith, apart q, held_is (after r 1) k [] q))).0 (new_words x) tail1 in
     let new = is_new n (pointed_far u p r (new_pointer 0 x)) (after r 1) k x fits words in
     let whole : (q : Place) → footprint (suc n) (pointed_far u p r (new_pointer 0 x)) p q ≡ times_held (span p 1 ∷ span r (1 + k) ∷ []) q = λ q. (
-        let c = slot_is n (pointed_far u p r (new_pointer 0 x)) p (record { pads = 1; object = new_object (after r 1) x }) q found in
-        let d : times_held (span p 1 ∷ pads_at (pointed_far u p r (new_pointer 0 x)) p) q ≡ times_held (span p 1 ∷ span r 1 ∷ []) q = ap (λ (xs : List Span). times_held (span p 1 ∷ xs) q) pads in
-        omega (arith, c, d, held_is p 1 (span r 1 ∷ []) q, held_is r 1 [] q, new.takes q, both p r (1 + k) q, split q)
-        ) in
+    let c = slot_is n (pointed_far u p r (new_pointer 0 x)) p (record { pads = 1; object = new_object (after r 1) x }) q found in
+    let d : times_held (span p 1 ∷ pads_at (pointed_far u p r (new_pointer 0 x)) p) q ≡ times_held (span p 1 ∷ span r 1 ∷ []) q = ap (λ (xs : List Span). times_held (span p 1 ∷ xs) q) pads in
+    omega (arith, c, d, held_is p 1 (span r 1 ∷ []) q, held_is r 1 [] q, new.takes q, both p r (1 + k) q, split q)
+    ) in
     let change = rewritten n s u (pointed_far u p r (new_pointer 0 x)) p r (1 + k) (w ∷ new_words x) h (grows_then u (pointed u r (new_pointer 0 x)) (pointed_far u p r (new_pointer 0 x)) a.grows b.grows) (λ q. a.no_more q ∙ b.no_more q) (λ q y e f g. b.others q y e (a.others q y (omega (arith, f, split q)) g)) in
     record {
       means = rw found new.means;
