@@ -2,10 +2,7 @@
 use Rattle.std.proofs.Common.{◌≡◌, ℕ, zero, suc, ◌+◌, List, Some, refl, sym, ◌∙◌, arith, ◌≤◌, ◌<◌}
 use Rattle.std.specs.List.{AllByRecursion}
 use Rattle.capnp_model.specs.Coverage.{Span, times_held, Keeps}
-use Rattle.capnp_model.specs.Edits.{cleared}
-use Rattle.capnp_model.specs.Messages.{within}
 use Rattle.capnp_model.specs.Segments.{Segments, Place, word_at}
-use Rattle.capnp_model.specs.Trees.{none}
 use Rattle.capnp_model.proofs.SoundRules.{apart}
 use Rattle.capnp_footprints.specs.Changes.{Changes, absent, ZeroBeside}
 use Rattle.capnp_footprints.proofs.Spans.{there, grows_then, Whether, it_is, it_is_not, whether, not_there, absent_le, absent_shrinks, grows_same}

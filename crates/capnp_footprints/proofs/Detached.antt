@@ -3,18 +3,12 @@ use Rattle.std.proofs.Common.{◌≡◌, ℕ, zero, suc, ◌+◌, List, Some, re
 use Rattle.std.proofs.lemmas.List.{length-replicate, take-replicate}
 use Rattle.std.specs.List.{AllByRecursion}
 use Rattle.capnp_model.specs.Coverage.{Span, times_held, Keeps, span, pads_at, covered_object}
-use Rattle.capnp_model.specs.Edits.{cleared}
 use Rattle.capnp_model.specs.Encoding.{struct_pointer}
-use Rattle.capnp_model.specs.Messages.{within}
-use Rattle.capnp_model.specs.Packing.{zeros}
 use Rattle.capnp_model.specs.Pointers.{Object, nothing}
-use Rattle.capnp_model.specs.Schemas.{slot}
 use Rattle.capnp_model.specs.Segments.{Segments, Place, after, words_at, place, word_at}
 use Rattle.capnp_model.specs.Traversal.{tree_of, tree_at}
 use Rattle.capnp_model.specs.Trees.{Tree, null}
 use Rattle.capnp_model.proofs.Chaining.{some_is}
-use Rattle.capnp_model.proofs.FineShapes.{found}
-use Rattle.capnp_model.proofs.Locality.{word_was}
 use Rattle.capnp_model.proofs.SoundRules.{apart}
 use Rattle.capnp_footprints.specs.Changes.{Changes, ReplacesObject, Replaces, Clears, absent}
 use Rattle.capnp_footprints.specs.Detached.{all_taken, Detached, AreZero, Reaches}

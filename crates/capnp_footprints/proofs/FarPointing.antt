@@ -3,19 +3,14 @@ use Rattle.std.proofs.Common.{◌≡◌, ℕ, suc, ◌+◌, List, Some, refl, sy
 use Rattle.std.proofs.lemmas.Bool.{le-leb}
 use Rattle.std.proofs.lemmas.Bool.Decides.{nat_tests}
 use Rattle.capnp_model.specs.Coverage.{Span, times_held, Grows, span, pad_of, pads_by, pads_at}
-use Rattle.capnp_model.specs.Edits.{cleared}
 use Rattle.capnp_model.specs.Kinds.{Kind}
-use Rattle.capnp_model.specs.Messages.{within}
-use Rattle.capnp_model.specs.Packing.{zeros}
 use Rattle.capnp_model.specs.Pointers.{Object, found_at, to_pad, pointer_of, begins, described, found_by}
-use Rattle.capnp_model.specs.Schemas.{slot}
 use Rattle.capnp_model.specs.Sections.{bits_at}
 use Rattle.capnp_model.specs.Segments.{Segments, Place, after, words_at, place, word_at}
 use Rattle.capnp_model.specs.Traversal.{tree_at}
 use Rattle.capnp_model.specs.Trees.{Tree, null}
 use Rattle.capnp_model.proofs.FineShapes.{found}
 use Rattle.capnp_model.proofs.Locality.{word_was, word_is}
-use Rattle.capnp_model.proofs.SoundRules.{apart}
 use Rattle.capnp_footprints.specs.Changes.{Changes, Replaces, absent}
 use Rattle.capnp_footprints.specs.Detached.{all_taken, Detached, AreZero, Reaches}
 use Rattle.capnp_footprints.specs.Footprints.{object_footprint, footprint}

@@ -2,9 +2,6 @@
 use Rattle.std.proofs.Common.{◌≡◌, ℕ, ◌+◌, List, Some, arith, ◌≤◌, ◌<◌, ap, [], ◌∷◌}
 use Rattle.std.specs.List.{AllByRecursion}
 use Rattle.capnp_model.specs.Coverage.{Span, times_held, Keeps, span}
-use Rattle.capnp_model.specs.Edits.{cleared}
-use Rattle.capnp_model.specs.Messages.{within}
-use Rattle.capnp_model.specs.Packing.{zeros}
 use Rattle.capnp_model.specs.Segments.{Segments, Place, word_at}
 use Rattle.capnp_model.specs.Traversal.{tree_at}
 use Rattle.capnp_model.specs.Trees.{Tree}

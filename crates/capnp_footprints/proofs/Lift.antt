@@ -5,7 +5,6 @@ use Rattle.std.specs.Option.{ok_or}
 use Rattle.capnp_model.specs.Coverage.{Span, times_held, span, pads_at, from_each, covered_object, covered_found}
 use Rattle.capnp_model.specs.Kinds.{OutOfBounds, Kind}
 use Rattle.capnp_model.specs.Pointers.{Object, a_struct, a_list, found_at, Found}
-use Rattle.capnp_model.specs.Schemas.{slot}
 use Rattle.capnp_model.specs.Sections.{section_of}
 use Rattle.capnp_model.specs.Segments.{Segments, Place, after, words_at, word_at}
 use Rattle.capnp_model.specs.Traversal.{each, tree_of, tree_at}

@@ -2,7 +2,6 @@
 use Rattle.std.proofs.Common.{◌≡◌, ℕ, suc, ◌+◌, List, Some, refl, arith, ◌≤◌, ◌<◌, Ok, ◌∷◌, ◌++◌}
 use Rattle.capnp_model.specs.Coverage.{Span, times_held, span, pads_at}
 use Rattle.capnp_model.specs.Pointers.{Object, a_struct, a_list, found_at, Found}
-use Rattle.capnp_model.specs.Schemas.{slot}
 use Rattle.capnp_model.specs.Segments.{Segments, Place, after}
 use Rattle.capnp_model.specs.Traversal.{tree_of, tree_at}
 use Rattle.capnp_model.specs.Trees.{Tree, Trees, null, structure, pointer_list, with_child}

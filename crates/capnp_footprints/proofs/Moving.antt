@@ -4,9 +4,7 @@ use Rattle.std.proofs.lemmas.List.{length-replicate}
 use Rattle.std.specs.List.{AllByRecursion}
 use Rattle.std.specs.Option.{ok_or}
 use Rattle.capnp_model.specs.Coverage.{Span, times_held, Keeps, Grows, span, pad_of, pads_by, pads_at, covered_object}
-use Rattle.capnp_model.specs.Edits.{cleared}
 use Rattle.capnp_model.specs.Kinds.{OutOfBounds}
-use Rattle.capnp_model.specs.Messages.{within}
 use Rattle.capnp_model.specs.Pointers.{Object, nothing, a_struct, a_list, a_capability, found_at, Pointer, to_struct, to_list, to_pad, to_capability, to_nothing_known, pointer_of_kind, pointer_of, Found, found_by}
 use Rattle.capnp_model.specs.Sections.{bits_at}
 use Rattle.capnp_model.specs.Segments.{Segments, Place, after, words_at, place, word_at}

@@ -4,7 +4,6 @@ use Rattle.std.proofs.lemmas.Bool.{le-leb}
 use Rattle.std.proofs.lemmas.List.{length-replicate, take-replicate}
 use Rattle.capnp_model.specs.Coverage.{Span, times_held, span, from_elements}
 use Rattle.capnp_model.specs.Encoding.{struct_pointer}
-use Rattle.capnp_model.specs.Readings.{number}
 use Rattle.capnp_model.specs.Sections.{section_of, words_for}
 use Rattle.capnp_model.specs.Segments.{Segments, Place, after, words_at}
 use Rattle.capnp_model.specs.Traversal.{tag_in, each, each_element, tree_of, tree_at, Tag}
@@ -15,7 +14,7 @@ use Rattle.capnp_footprints.specs.Footprints.{behind, object_footprint}
 use Rattle.capnp_footprints.specs.NewObjects.{Fits, new_list, New, new_struct, filled_list, new_pointers, new_structs, new_object, new_words, zero_elements, new_tree}
 use Rattle.capnp_footprints.proofs.Cells.{list_is, ElementParts, list_of_parts}
 use Rattle.capnp_footprints.proofs.Kept.{words_length}
-use Rattle.capnp_footprints.proofs.Spans.{words_back, held, held_is, held_split, there, words_front}
+use Rattle.capnp_footprints.proofs.Spans.{words_back, held, held_is, held_split, words_front}
 use Rattle.capnp_footprints.proofs.Writing.{plain_is, plain_tree}
 use Rattle.capnp_footprints.proofs.Zeros.{zero_struct, zero_struct_takes, zeros_read, zeros_behind, drop_zeros}
 

@@ -1,19 +1,13 @@
 -- A pointer to words that were prepared for it.
 use Rattle.std.proofs.Common.{◌≡◌, ℕ, zero, suc, ◌+◌, List, Some, refl, subst, sym, ◌∙◌, arith, ◌^◌, ◌≤◌, ◌<◌, ap, Ok, [], ◌∷◌, ◌≢◌, length, replicate, Result, ◌-◌}
 use Rattle.capnp_model.specs.Coverage.{Span, times_held, Grows, span, pads_at}
-use Rattle.capnp_model.specs.Edits.{cleared}
 use Rattle.capnp_model.specs.Kinds.{Kind}
-use Rattle.capnp_model.specs.Messages.{within}
-use Rattle.capnp_model.specs.Packing.{zeros}
 use Rattle.capnp_model.specs.Pointers.{found_at, begins}
-use Rattle.capnp_model.specs.Schemas.{slot}
 use Rattle.capnp_model.specs.Segments.{Segments, Place, after, words_at, place, word_at}
 use Rattle.capnp_model.specs.Traversal.{tree_at}
 use Rattle.capnp_model.specs.Trees.{Tree, null}
-use Rattle.capnp_model.proofs.FineShapes.{found}
 use Rattle.capnp_model.proofs.Locality.{word_was, word_is}
 use Rattle.capnp_model.proofs.PointerWords.{begins_behind, begins_here}
-use Rattle.capnp_model.proofs.SoundRules.{apart}
 use Rattle.capnp_footprints.specs.Changes.{Changes, Replaces, absent}
 use Rattle.capnp_footprints.specs.Footprints.{footprint, Owns}
 use Rattle.capnp_footprints.specs.NewObjects.{Fits, new_list, New, new_struct, filled_list, new_pointers, new_structs, new_pointer, new_object, far_pointer, IsNamed, new_words, new_tree, pointed, pointed_far, Prepared, IsNear}

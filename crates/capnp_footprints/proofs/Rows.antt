@@ -1,5 +1,5 @@
 -- Pointers in a row, of which one gets another value.
-use Rattle.std.proofs.Common.{◌≡◌, ℕ, zero, suc, ◌+◌, List, drop, Some, refl, subst, sym, ◌∙◌, arith, ◌≤◌, ◌<◌, ap, true, [], ◌∷◌, leb, length, take, Option, sum}
+use Rattle.std.proofs.Common.{◌≡◌, ℕ, zero, suc, ◌+◌, List, drop, Some, refl, subst, sym, ◌∙◌, arith, ◌≤◌, ◌<◌, ap, true, [], ◌∷◌, leb, length, take, Option}
 use Rattle.std.proofs.lemmas.Bool.{le-leb, leb-true}
 use Rattle.std.specs.List.{slice_get}
 use Rattle.capnp_model.specs.Coverage.{Span, times_held, Grows, span, from_each}

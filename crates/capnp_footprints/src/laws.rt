@@ -63,7 +63,8 @@ pub fn children_of_structs()
     ensures down { (n : ℕ) (s : Segments) (p : Place) (d k i w section : ℕ) (kids : Trees) → i < k
         → OwnsObject n s (a_struct p d k) (structure w section kids)
         → Owns n s (after (after p d) i) (child kids i) }
-    ensures up { (n : ℕ) (s u : Segments) (p : Place) (d k i w section : ℕ) (kids : Trees) (t : Tree)
+    ensures up { (n : ℕ) (s u : Segments) (p : Place) (d k i w section : ℕ) (kids : Trees)
+        (t : Tree)
         → i < k → OwnsObject n s (a_struct p d k) (structure w section kids)
         → Replaces n s u (after (after p d) i) t
         → ReplacesObject n s u (a_struct p d k) (structure w section (with_child kids i t)) }
@@ -80,15 +81,19 @@ pub fn children_of_lists()
 
 /// Words written into a data section, or into a list of plain elements, change the section, and nothing else.
 pub fn words_of_data()
-    ensures structs { (n : ℕ) (s : Segments) (p : Place) (d k i w section : ℕ) (kids : Trees) (vs ws : List ℕ)
+    ensures structs { (n : ℕ) (s : Segments) (p : Place) (d k i w section : ℕ) (kids : Trees)
+        (vs ws : List ℕ)
         → i + length vs ≤ d → words_at s p d ≡ Some ws
         → OwnsObject n s (a_struct p d k) (structure w section kids)
-        → ReplacesObject n s (with_words s (after p i) vs) (a_struct p d k) (structure w (section_of (spliced i vs ws)) kids) }
-    ensures lists { (n : ℕ) (s : Segments) (p : Place) (size count i : ℕ) (t : Tree) (vs ws : List ℕ)
+        → ReplacesObject n s (with_words s (after p i) vs) (a_struct p d k) (structure w
+        (section_of (spliced i vs ws)) kids) }
+    ensures lists { (n : ℕ) (s : Segments) (p : Place) (size count i : ℕ) (t : Tree)
+        (vs ws : List ℕ)
         → list_kind size ≡ of_bits → i + length vs ≤ words_for (size_bits size * count)
         → words_at s p (words_for (size_bits size * count)) ≡ Some ws
         → OwnsObject n s (a_list p size count) t
-        → ReplacesObject n s (with_words s (after p i) vs) (a_list p size count) (plain_list size count (section_of (spliced i vs ws) % 2 ^ (size_bits size * count))) }
+        → ReplacesObject n s (with_words s (after p i) vs) (a_list p size count)
+        (plain_list size count (section_of (spliced i vs ws) % 2 ^ (size_bits size * count))) }
 {}
 
 /// From a list of structs, or its element's struct, to the other: the element's new section and children are those of the list.
@@ -96,21 +101,28 @@ pub fn elements_of_lists()
     ensures down { (n : ℕ) (s : Segments) (p : Place) (m d k i : ℕ) (es : Elements)
         → i < element_count es → OwnsObject n s (a_list p 7 m) (struct_list d k es)
         → OwnsObject n s (a_struct (after (after p 1) (i * (d + k))) d k) (element_at d es i) }
-    ensures up { (n : ℕ) (s u : Segments) (p : Place) (m d k i section : ℕ) (kids : Trees) (es : Elements)
+    ensures up { (n : ℕ) (s u : Segments) (p : Place) (m d k i section : ℕ) (kids : Trees)
+        (es : Elements)
         → i < element_count es → OwnsObject n s (a_list p 7 m) (struct_list d k es)
-        → ReplacesObject n s u (a_struct (after (after p 1) (i * (d + k))) d k) (structure d section kids)
+        → ReplacesObject n s u (a_struct (after (after p 1) (i * (d + k))) d k)
+        (structure d section kids)
         → ReplacesObject n s u (a_list p 7 m) (struct_list d k (with_element es i section kids)) }
 {}
 
 /// A null pointer gets a new struct of zeros and nulls: one without words lies at the pointer itself, another behind the end of the pointer's segment, or in any segment behind a pad of one word. Nothing else changes.
 pub fn new_structs()
     ensures empty { (n : ℕ) (s : Segments) (p : Place) → word_at s p ≡ Some 0
-        → Replaces (suc n) s (with_words s p (struct_pointer (2 ^ 30 - 1) 0 0 ∷ [])) p (structure 0 0 none) }
+        → Replaces (suc n) s (with_words s p (struct_pointer (2 ^ 30 - 1) 0 0
+        ∷ [])) p (structure 0 0 none) }
     ensures near { (n : ℕ) (s : Segments) (p : Place) (d k offset : ℕ) → p.segment < length s
         → word_at s p ≡ Some 0 → 0 < d + k → p.position + 1 + offset ≡ segment_end s p.segment
         → offset < 2 ^ 29 → d < 2 ^ 16 → k < 2 ^ 16
-        → Replaces (suc n) s (with_words (with_zeros s p.segment (d + k)) p (struct_pointer offset d k ∷ [])) p (structure d 0 (resized k none)) }
+        → Replaces (suc n) s (with_words (with_zeros s p.segment (d + k)) p
+        (struct_pointer offset d k ∷ [])) p (structure d 0 (resized k none)) }
     ensures far { (n : ℕ) (s : Segments) (p : Place) (i d k : ℕ) → i ≤ length s → i < 2 ^ 32
         → word_at s p ≡ Some 0 → segment_end s i < 2 ^ 29 → d < 2 ^ 16 → k < 2 ^ 16
-        → Replaces (suc n) s (with_words (with_words (with_zeros s i (1 + (d + k))) (place i (segment_end s i)) (struct_pointer 0 d k ∷ [])) p ((2 + 8 * segment_end s i + 2 ^ 32 * i) ∷ [])) p (structure d 0 (resized k none)) }
+        → Replaces (suc n) s (with_words (with_words (with_zeros s i (1 + (d + k))) (place i
+        (segment_end s i)) (struct_pointer 0 d k
+        ∷ [])) p ((2 + 8 * segment_end s i + 2 ^ 32 * i)
+        ∷ [])) p (structure d 0 (resized k none)) }
 {}

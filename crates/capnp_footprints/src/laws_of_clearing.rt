@@ -34,7 +34,8 @@ pub fn cleared_pointers()
         → Replaces n s (zeroed (zeroed s p 1) pad f.pads) p null }
     ensures up { (n : ℕ) (s u : Segments) (p pad r : Place) (m : ℕ) (f : Found) (t : Tree)
         → Leads s p pad f → own_words f.object ≡ span r m ∷ [] → Owns (suc n) s p t
-        → Changes (zeroed s p 1) u (object_footprint n (zeroed s p 1) f.object) (times_held (span r m ∷ []))
+        → Changes (zeroed s p 1) u (object_footprint n (zeroed s p 1) f.object) (times_held
+        (span r m ∷ []))
         → Replaces (suc n) s (zeroed (zeroed u r m) pad f.pads) p null }
 {}
 
@@ -44,7 +45,8 @@ pub fn childless_objects()
         → ReplacesObject n s u (a_struct p d k) (structure w section (resized k none))
         → Changes s u (object_footprint n s (a_struct p d k)) (times_held (span p (d + k) ∷ [])) }
     ensures plain { (n : ℕ) (s : Segments) (p : Place) (size count : ℕ) → list_kind size ≡ of_bits
-        → Changes s s (object_footprint n s (a_list p size count)) (times_held (span p (words_for (size_bits size * count)) ∷ [])) }
+        → Changes s s (object_footprint n s (a_list p size count)) (times_held (span p
+        (words_for (size_bits size * count)) ∷ [])) }
     ensures pointers { (n : ℕ) (s u : Segments) (p : Place) (k : ℕ)
         → ReplacesObject n s u (a_list p 6 k) (pointer_list (resized k none))
         → Changes s u (object_footprint n s (a_list p 6 k)) (times_held (span p k ∷ [])) }
@@ -95,18 +97,22 @@ pub fn list_children_in_turn()
 pub fn elements_in_turn()
     ensures shape { (n : ℕ) (s : Segments) (p : Place) (m : ℕ) (ws : List ℕ) (tag : Tag) (t : Tree)
         → words_at s p (1 + m) ≡ Some ws → tag_in ws ≡ Ok tag → OwnsObject n s (a_list p 7 m) t
-        → (es : Elements) × (t ≡ struct_list tag.data_words tag.pointers es) × (element_count es ≡ tag.count) }
+        → (es : Elements) × (t ≡ struct_list tag.data_words tag.pointers es) ×
+        (element_count es ≡ tag.count) }
     ensures here { (n : ℕ) (s u : Segments) (p : Place) (m d k i : ℕ) (es fs : Elements)
         → i < element_count fs
         → OwnsObject n s (a_list p 7 m) (struct_list d k fs)
         → ReplacesObject n s u (a_list p 7 m) (struct_list d k (with_first_elements i es fs))
         → OwnsObject n u (a_struct (after (after p 1) (i * (d + k))) d k) (element_at d fs i) }
-    ensures next { (n : ℕ) (s u v : Segments) (p : Place) (m d k i section : ℕ) (kids : Trees) (es fs : Elements)
+    ensures next { (n : ℕ) (s u v : Segments) (p : Place) (m d k i section : ℕ) (kids : Trees)
+        (es fs : Elements)
         → i < element_count es → i < element_count fs → element_at d es i ≡ structure d section kids
         → OwnsObject n s (a_list p 7 m) (struct_list d k fs)
         → ReplacesObject n s u (a_list p 7 m) (struct_list d k (with_first_elements i es fs))
-        → ReplacesObject n u v (a_struct (after (after p 1) (i * (d + k))) d k) (structure d section kids)
-        → ReplacesObject n s v (a_list p 7 m) (struct_list d k (with_first_elements (suc i) es fs)) }
+        → ReplacesObject n u v (a_struct (after (after p 1) (i * (d + k))) d k)
+        (structure d section kids)
+        → ReplacesObject n s v (a_list p 7 m) (struct_list d k (with_first_elements
+        (suc i) es fs)) }
     ensures done { (es fs : Elements) → element_count es ≡ element_count fs
         → with_first_elements (element_count fs) es fs ≡ es }
     ensures childless_at { (k d i section : ℕ) (kids : Trees) (es : Elements) → i < element_count es

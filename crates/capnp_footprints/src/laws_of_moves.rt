@@ -27,27 +27,35 @@ pub fn moved_values()
     ensures far { (n : ℕ) (s : Segments) (a b pad r : Place) (w offset : ℕ) (x : New) (t : Tree)
         → IsMovable n s a b (span pad 1 ∷ []) w (record { pads = 0; object = new_object r x }) t
         → IsNamed pad → Reaches pad r offset → Fits x
-        → Moves n s (pointed_far (zeroed s a 1) b pad (new_pointer offset x)) a b (span pad 1 ∷ []) t }
+        → Moves n s (pointed_far (zeroed s a 1) b pad (new_pointer offset x)) a b (span pad 1
+        ∷ []) t }
     ensures double_far { (n : ℕ) (s : Segments) (a b pad r : Place) (w : ℕ) (x : New) (t : Tree)
         → IsMovable n s a b (span pad 2 ∷ []) w (record { pads = 0; object = new_object r x }) t
         → IsNamed pad → IsNamed r → Fits x
-        → Moves n s (pointed_double_far (zeroed s a 1) b pad r (new_pointer 0 x)) a b (span pad 2 ∷ []) t }
+        → Moves n s (pointed_double_far (zeroed s a 1) b pad r (new_pointer 0 x)) a b
+        (span pad 2 ∷ []) t }
 {}
 
 /// A struct's child moves to a struct that stands beside the value: the slots share no word, and both structs change by it alone.
 pub fn moved_children()
-    ensures apart { (n : ℕ) (s u : Segments) (p a b : Place) (pads d k i d' k' j : ℕ) (t v : Tree) (xs spare : List Span)
+    ensures apart { (n : ℕ) (s u : Segments) (p a b : Place) (pads d k i d' k' j : ℕ)
+        (t v : Tree) (xs spare : List Span)
         → i < k → j < k'
         → found_at u p ≡ Ok (record { pads = pads; object = a_struct a d k })
         → Detached n s u p t (xs ++ spare) (a_struct b d' k') v
         → (q : Place)
-        → footprint n u (after (after a d) i) q + (footprint n u (after (after b d') j) q + times_held xs q) ≤ 1 }
-    ensures structs { (n : ℕ) (s u w : Segments) (p a b : Place) (pads d k i d' k' j words section words' section' : ℕ) (kids kids' : Trees) (t : Tree) (xs spare : List Span)
+        → footprint n u (after (after a d) i) q + (footprint n u (after
+        (after b d') j) q + times_held xs q) ≤ 1 }
+    ensures structs { (n : ℕ) (s u w : Segments) (p a b : Place)
+        (pads d k i d' k' j words section words' section' : ℕ) (kids kids' : Trees)
+        (t : Tree) (xs spare : List Span)
         → i < k → j < k'
         → found_at u p ≡ Ok (record { pads = pads; object = a_struct a d k })
-        → Detached n s u p (structure words section kids) (xs ++ spare) (a_struct b d' k') (structure words' section' kids')
+        → Detached n s u p (structure words section kids) (xs ++ spare) (a_struct b d' k')
+        (structure words' section' kids')
         → Moves n u w (after (after a d) i) (after (after b d') j) xs t
-        → Detached n s w p (structure words section (with_child kids i null)) spare (a_struct b d' k') (structure words' section' (with_child kids' j t)) }
+        → Detached n s w p (structure words section (with_child kids i null)) spare
+        (a_struct b d' k') (structure words' section' (with_child kids' j t)) }
 {}
 
 /// Children in turn: the first i of others in place of theirs, up to all; in a row of nulls that is wider, the children padded.

@@ -67,17 +67,21 @@ pub fn objects_of_zeros()
         → new_words x ≡ replicate k 0 → Owns (suc n) s p t
         → Replaces (suc n) (with_zeros s i (1 + k)) u p null → IsNamed (place i (segment_end s i))
         → Fits x
-        → Replaces (suc n) s (pointed_far u p (place i (segment_end s i)) (new_pointer 0 x)) p (new_tree x) }
+        → Replaces (suc n) s (pointed_far u p (place i (segment_end s i)) (new_pointer 0 x)) p
+        (new_tree x) }
 {}
 
 /// What the words of a pointer lead to, once they are written.
 pub fn written_pointers()
     ensures empty { (s : Segments) (p : Place) (v : ℕ) (x : New) → word_at s p ≡ Some v → Fits x
-        → found_at (pointed s p (new_pointer (2 ^ 30 - 1) x)) p ≡ Ok (record { pads = 0; object = new_object p x }) }
+        → found_at (pointed s p (new_pointer (2 ^ 30 - 1) x)) p
+        ≡ Ok (record { pads = 0; object = new_object p x }) }
     ensures near { (s : Segments) (p r : Place) (offset v : ℕ) (x : New) → word_at s p ≡ Some v
         → IsNear p r offset → 0 < new_pointer offset x → Fits x
-        → found_at (pointed s p (new_pointer offset x)) p ≡ Ok (record { pads = 0; object = new_object r x }) }
+        → found_at (pointed s p (new_pointer offset x)) p
+        ≡ Ok (record { pads = 0; object = new_object r x }) }
     ensures far { (s : Segments) (p r : Place) (v w : ℕ) (x : New) → word_at s p ≡ Some v
         → word_at s r ≡ Some w → p ≢ r → IsNamed r → Fits x
-        → found_at (pointed_far s p r (new_pointer 0 x)) p ≡ Ok (record { pads = 1; object = new_object (after r 1) x }) }
+        → found_at (pointed_far s p r (new_pointer 0 x)) p
+        ≡ Ok (record { pads = 1; object = new_object (after r 1) x }) }
 {}
