@@ -1,10 +1,11 @@
 -- Laws of changes.
-use Rattle.std.proofs.Common.{◌≡◌, ℕ, zero, suc, ◌+◌, ◌<◌, ◌≤◌, List, Some, refl, sym, ◌∙◌, arith}
+use Rattle.std.proofs.Common.{◌≡◌, ℕ, zero, suc, ◌+◌, List, Some, refl, sym, ◌∙◌, arith, ◌≤◌, ◌<◌}
 use Rattle.std.specs.List.{AllByRecursion}
-use Rattle.capnp_model.specs.Segments.{Segments, Place, word_at}
 use Rattle.capnp_model.specs.Coverage.{Span, times_held, Keeps}
-use Rattle.capnp_footprints.specs.Changes.{absent, Changes, ZeroBeside}
-use Rattle.capnp_footprints.proofs.Spans.{Whether, it_is, it_is_not, whether, there, not_there, absent_le, absent_shrinks, grows_same, grows_then}
+use Rattle.capnp_model.specs.Segments.{Segments, Place, word_at}
+use Rattle.capnp_model.proofs.SoundRules.{apart}
+use Rattle.capnp_footprints.specs.Changes.{Changes, absent, ZeroBeside}
+use Rattle.capnp_footprints.proofs.Spans.{there, grows_then, Whether, it_is, it_is_not, whether, not_there, absent_le, absent_shrinks, grows_same}
 use Rattle.capnp_footprints.proofs.There.{spans_kept}
 
 -- what counts stands on words that are there
@@ -28,6 +29,15 @@ changes_lift s u c c' d d' h e l =
       kept = λ q w f z. h.kept q w f (omega (arith, l q, z));
       within = λ q. omega (arith, h.within q, e q);
       cleared = λ q w f z k. h.cleared q w f (omega (arith, e q, l q, z)) (omega (arith, e q, l q, z, k));
+    }
+
+pub changes_alike : (s u : Segments) (c d c' d' : Place → ℕ) → Changes s u c d → ((q : Place) → c' q ≡ c q) → ((q : Place) → d' q ≡ d q) → Changes s u c' d'
+changes_alike s u c d c' d' h e f =
+    record {
+      grows = h.grows;
+      kept = λ q w a z. h.kept q w a (omega (arith, e q, z));
+      within = λ q. omega (arith, h.within q, e q, f q);
+      cleared = λ q w a z l. h.cleared q w a (omega (arith, f q, z)) (omega (arith, e q, l));
     }
 
 within_then : (s u : Segments) (c c' c'' : ℕ) (q : Place) → c' ≤ c + absent s q → c'' ≤ c' + absent u q → absent u q ≤ absent s q → ((0 < c') → (w : ℕ) × (word_at u q ≡ Some w)) → Whether u q → c'' ≤ c + absent s q

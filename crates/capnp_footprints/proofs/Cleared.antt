@@ -11,11 +11,10 @@ use Rattle.capnp_footprints.specs.Changes.{Changes, ReplacesObject, Replaces, Cl
 use Rattle.capnp_footprints.specs.Children.{childless}
 use Rattle.capnp_footprints.specs.Footprints.{behind, object_footprint, OwnsObject, footprint, Owns, own_words}
 use Rattle.capnp_footprints.specs.Writes.{with_words}
-use Rattle.capnp_footprints.proofs.Algebra.{On, changes_lift, changes_then, changes_nothing}
+use Rattle.capnp_footprints.proofs.Algebra.{On, changes_lift, changes_then, changes_nothing, changes_alike}
 use Rattle.capnp_footprints.proofs.Cells.{element_parts, list_is}
 use Rattle.capnp_footprints.proofs.Clearing.{on_later, clears_words, null_now, own_le, own_there, no_own, pads_are}
 use Rattle.capnp_footprints.proofs.Kept.{value_same, object_same}
-use Rattle.capnp_footprints.proofs.Levels.{changes_alike}
 use Rattle.capnp_footprints.proofs.Lift.{struct_parts, value_on, slot_is, object_of_pointer, list_parts}
 use Rattle.capnp_footprints.proofs.Nulls.{nulls_behind, childless_behind}
 use Rattle.capnp_footprints.proofs.Rows.{words_grown, footprint_is}
@@ -139,7 +138,7 @@ childless_struct n s u p d k w section r =
 pub plain_alone : (n : ℕ) (s : Segments) (p : Place) (size count : ℕ) → list_kind size ≡ of_bits → Changes s s (object_footprint n s (a_list p size count)) (times_held (span p (words_for (size_bits size * count)) ∷ []))
 plain_alone n s p size count k =
     changes_alike s s (object_footprint n s (a_list p size count)) (object_footprint n s (a_list p size count)) (object_footprint n s (a_list p size count)) (times_held (span p (words_for (size_bits size * count)) ∷ [])) (changes_nothing s (object_footprint n s (a_list p size count))) (λ q. refl)
-        (λ q. omega (arith, plain_is n s p size count q k, held_is p (words_for (size_bits size * count)) [] q))
+    (λ q. omega (arith, plain_is n s p size count q k, held_is p (words_for (size_bits size * count)) [] q))
 
 pub childless_list : (n : ℕ) (s u : Segments) (p : Place) (k : ℕ) → ReplacesObject n s u (a_list p 6 k) (pointer_list (resized k none)) → Changes s u (object_footprint n s (a_list p 6 k)) (times_held (span p k ∷ []))
 childless_list n s u p k r =

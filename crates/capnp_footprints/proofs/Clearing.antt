@@ -4,28 +4,23 @@ use Rattle.std.proofs.lemmas.Bool.{eqb-true}
 use Rattle.std.proofs.lemmas.List.{length-replicate}
 use Rattle.std.specs.Option.{ok_or}
 use Rattle.capnp_model.specs.Coverage.{Span, times_held, Grows, span, pad_of, pads_by, pads_at, from_each, covered_list}
-use Rattle.capnp_model.specs.Edits.{cleared}
 use Rattle.capnp_model.specs.Kinds.{OutOfBounds}
-use Rattle.capnp_model.specs.Messages.{within}
-use Rattle.capnp_model.specs.Packing.{zeros}
 use Rattle.capnp_model.specs.Pointers.{Object, nothing, a_struct, a_list, a_capability, found_at, Pointer, to_struct, to_list, to_pad, to_capability, to_nothing_known, pointer_of_kind, pointer_of, begins, in_pad, described, Found, found_by}
-use Rattle.capnp_model.specs.Readings.{no_more}
 use Rattle.capnp_model.specs.Sections.{bits_at}
 use Rattle.capnp_model.specs.Segments.{Segments, Place, after, words_at, place, word_at}
 use Rattle.capnp_model.specs.Traversal.{list_kind, list_words, tree_of}
-use Rattle.capnp_model.specs.Trees.{Tree, null, none}
+use Rattle.capnp_model.specs.Trees.{Tree, null}
 use Rattle.capnp_model.proofs.Chaining.{bind_some, some_is, ok_is, bind_ok, ok_or_some}
-use Rattle.capnp_footprints.specs.Changes.{Changes, Replaces, absent, Clears}
+use Rattle.capnp_footprints.specs.Changes.{Changes, Replaces, Clears, absent}
 use Rattle.capnp_footprints.specs.Footprints.{behind, object_footprint, footprint, Owns, own_words}
 use Rattle.capnp_footprints.specs.Writes.{with_words, spliced}
-use Rattle.capnp_footprints.proofs.Algebra.{On}
+use Rattle.capnp_footprints.proofs.Algebra.{On, changes_alike}
 use Rattle.capnp_footprints.proofs.Growing.{zero_held}
 use Rattle.capnp_footprints.proofs.Kept.{words_length}
-use Rattle.capnp_footprints.proofs.Levels.{changes_alike}
 use Rattle.capnp_footprints.proofs.Lift.{value_on}
 use Rattle.capnp_footprints.proofs.Nulls.{from_described}
 use Rattle.capnp_footprints.proofs.Rows.{footprint_is, after_none}
-use Rattle.capnp_footprints.proofs.Spans.{held, held_is, held_self, there, Whether, it_is, it_is_not, whether, grows_then, still_there}
+use Rattle.capnp_footprints.proofs.Spans.{held, held_is, held_self, there, grows_then, Whether, it_is, it_is_not, whether, still_there}
 use Rattle.capnp_footprints.proofs.Splices.{Rewrites, splice_rewrites, splice_words, spliced_whole}
 use Rattle.capnp_footprints.proofs.There.{AreThere}
 use Rattle.capnp_footprints.proofs.Zeros.{held_none, null_footprint, null_read}

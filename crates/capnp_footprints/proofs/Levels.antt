@@ -1,17 +1,18 @@
 -- What belongs to a value is the same at each nesting limit that the value keeps.
-use Rattle.std.proofs.Common.{◌≡◌, ℕ, ◌+◌, ◌<◌, ◌≤◌, List, [], ◌∷◌, Some, ap, arith}
+use Rattle.std.proofs.Common.{◌≡◌, ℕ, ◌+◌, List, Some, arith, ◌≤◌, ◌<◌, ap, [], ◌∷◌}
 use Rattle.std.specs.List.{AllByRecursion}
+use Rattle.capnp_model.specs.Coverage.{Span, times_held, Keeps, span}
 use Rattle.capnp_model.specs.Segments.{Segments, Place, word_at}
-use Rattle.capnp_model.specs.Trees.{Tree}
 use Rattle.capnp_model.specs.Traversal.{tree_at}
-use Rattle.capnp_model.specs.Coverage.{Span, span, times_held, Keeps}
-use Rattle.capnp_footprints.specs.Footprints.{behind, footprint, Owns}
+use Rattle.capnp_model.specs.Trees.{Tree}
+use Rattle.capnp_model.proofs.SoundRules.{apart}
 use Rattle.capnp_footprints.specs.Changes.{Changes, Replaces}
-use Rattle.capnp_footprints.proofs.Spans.{there, held}
+use Rattle.capnp_footprints.specs.Footprints.{behind, footprint, Owns}
+use Rattle.capnp_footprints.proofs.Algebra.{changes_nothing, changes_alike, beside_kept}
+use Rattle.capnp_footprints.proofs.Growing.{zero_held, Extends}
 use Rattle.capnp_footprints.proofs.Kept.{value_same}
-use Rattle.capnp_footprints.proofs.Algebra.{changes_nothing, beside_kept}
+use Rattle.capnp_footprints.proofs.Spans.{held, there}
 use Rattle.capnp_footprints.proofs.There.{spans_kept}
-use Rattle.capnp_footprints.proofs.Growing.{Extends, zero_held}
 
 all_same : (s : Segments) (xs : List Span) → AllByRecursion (Keeps s s) xs
 all_same s [] = tt
@@ -28,15 +29,6 @@ owned_more n m s p t l o =
     record {
       means = (value_same n m s s p t l (all_same s (span p 1 ∷ behind n s p)) o.means).0;
       apart = λ q. omega (arith, o.apart q, footprint_more n m s p t q l o.means);
-    }
-
-pub changes_alike : (s u : Segments) (c d c' d' : Place → ℕ) → Changes s u c d → ((q : Place) → c' q ≡ c q) → ((q : Place) → d' q ≡ d q) → Changes s u c' d'
-changes_alike s u c d c' d' h e f =
-    record {
-      grows = h.grows;
-      kept = λ q w a z. h.kept q w a (omega (arith, e q, z));
-      within = λ q. omega (arith, h.within q, e q, f q);
-      cleared = λ q w a z l. h.cleared q w a (omega (arith, f q, z)) (omega (arith, e q, l));
     }
 
 pub replaced_more : (n m : ℕ) (s u : Segments) (p : Place) (t v : Tree) → n ≤ m → Owns n s p t → Replaces n s u p v → Replaces m s u p v

@@ -17,4 +17,8 @@ pub mod Turns
 pub mod Pointing
 pub mod NewKinds
 pub mod Prepared
+pub mod Detached
+pub mod FarPointing
+pub mod Moving
+pub mod MovedChildren
 pub mod NewObjects

@@ -4,7 +4,6 @@ use Rattle.std.proofs.lemmas.Bool.{le-leb}
 use Rattle.std.proofs.lemmas.List.{length-replicate, take-replicate}
 use Rattle.capnp_model.specs.Coverage.{Span, times_held, span, from_elements}
 use Rattle.capnp_model.specs.Encoding.{struct_pointer}
-use Rattle.capnp_model.specs.Readings.{number}
 use Rattle.capnp_model.specs.Sections.{section_of, words_for}
 use Rattle.capnp_model.specs.Segments.{Segments, Place, after, words_at}
 use Rattle.capnp_model.specs.Traversal.{tag_in, each, each_element, tree_of, tree_at, Tag}
@@ -15,7 +14,7 @@ use Rattle.capnp_footprints.specs.Footprints.{behind, object_footprint}
 use Rattle.capnp_footprints.specs.NewObjects.{Fits, new_list, New, new_struct, filled_list, new_pointers, new_structs, new_object, new_words, zero_elements, new_tree}
 use Rattle.capnp_footprints.proofs.Cells.{list_is, ElementParts, list_of_parts}
 use Rattle.capnp_footprints.proofs.Kept.{words_length}
-use Rattle.capnp_footprints.proofs.Spans.{words_back, held, held_is, held_split, there, words_front}
+use Rattle.capnp_footprints.proofs.Spans.{words_back, held, held_is, held_split, words_front}
 use Rattle.capnp_footprints.proofs.Writing.{plain_is, plain_tree}
 use Rattle.capnp_footprints.proofs.Zeros.{zero_struct, zero_struct_takes, zeros_read, zeros_behind, drop_zeros}
 
@@ -35,8 +34,7 @@ zero_elements_read n s p d k (suc c) e =
     let inner = zero_elements_read n s (after p (d + k)) d k c rest in
     let more : d ≤ (d + k) + c * (d + k) = omega arith in
     let front : section_of (take d (replicate ((d + k) + c * (d + k)) 0)) ≡ 0 = ap section_of (take-replicate d ((d + k) + c * (d + k)) 0 more) ∙ section_of-zeros d in
-    let tail_read : each_element (tree_at n s) (after p (d + k)) (drop (d + k) (replicate ((d + k) + c * (d + k)) 0)) d k c ≡ Some (zero_elements c k) = ap (λ (xs : List ℕ). each_element (tree_at n s) (after p (d + k)) xs d k c) tail ∙ inner.0 in
-    (
+    let tail_read : each_element (tree_at n s) (after p (d + k)) (drop (d + k) (replicate ((d + k) + c * (d + k)) 0)) d k c ≡ Some (zero_elements c k) = ap (λ (xs : List ℕ). each_element (tree_at n s) (after p (d + k)) xs d k c) tail ∙ inner.0 in (
       subst (λ (m : ℕ). each_element (tree_at n s) p (replicate m 0) d k (suc c) ≡ Some (zero_elements (suc c) k)) (sym sum) (rw (kids, tail_read) (ap (λ (x : ℕ). Some (element x (resized k none) (zero_elements c k))) front)),
       ap (λ (xs : List Span). xs ++ from_elements (behind n s) (after p (d + k)) d k c) (zeros_behind n s (after p d) k kids_there) ∙ inner.1,
     )

@@ -3,21 +3,15 @@ use Rattle.std.proofs.Common.{◌≡◌, ℕ, zero, suc, ◌+◌, List, drop, So
 use Rattle.std.proofs.lemmas.Bool.Decides.{nat_tests}
 use Rattle.capnp_model.specs.Chains.{◌and_then◌}
 use Rattle.capnp_model.specs.Coverage.{Span, times_held, Grows, span, pad_of, pads_by, pads_at}
-use Rattle.capnp_model.specs.Edits.{cleared}
 use Rattle.capnp_model.specs.Encoding.{struct_pointer}
 use Rattle.capnp_model.specs.Kinds.{Kind}
-use Rattle.capnp_model.specs.Messages.{within}
-use Rattle.capnp_model.specs.Packing.{zeros}
 use Rattle.capnp_model.specs.Pointers.{Object, a_struct, found_at, to_struct, to_pad, pointer_of, begins, Found, found_by}
-use Rattle.capnp_model.specs.Readings.{no_more}
 use Rattle.capnp_model.specs.Sections.{bits_at}
 use Rattle.capnp_model.specs.Segments.{Segments, Place, after, words_at, place, word_at}
 use Rattle.capnp_model.specs.Traversal.{tree_at}
 use Rattle.capnp_model.specs.Trees.{structure, none, resized}
-use Rattle.capnp_model.proofs.FineShapes.{found}
 use Rattle.capnp_model.proofs.Locality.{word_was, word_is}
 use Rattle.capnp_model.proofs.PointerWords.{struct_says, begins_behind, begins_here}
-use Rattle.capnp_model.proofs.SoundRules.{apart}
 use Rattle.capnp_footprints.specs.Changes.{Changes, Replaces, absent}
 use Rattle.capnp_footprints.specs.Footprints.{footprint}
 use Rattle.capnp_footprints.specs.Writes.{with_words, with_zeros, segment_end}

@@ -1,27 +1,21 @@
 -- A pointer to words that were prepared for it.
 use Rattle.std.proofs.Common.{◌≡◌, ℕ, zero, suc, ◌+◌, List, Some, refl, subst, sym, ◌∙◌, arith, ◌^◌, ◌≤◌, ◌<◌, ap, Ok, [], ◌∷◌, ◌≢◌, length, replicate, Result, ◌-◌}
 use Rattle.capnp_model.specs.Coverage.{Span, times_held, Grows, span, pads_at}
-use Rattle.capnp_model.specs.Edits.{cleared}
 use Rattle.capnp_model.specs.Kinds.{Kind}
-use Rattle.capnp_model.specs.Messages.{within}
-use Rattle.capnp_model.specs.Packing.{zeros}
 use Rattle.capnp_model.specs.Pointers.{found_at, begins}
-use Rattle.capnp_model.specs.Schemas.{slot}
 use Rattle.capnp_model.specs.Segments.{Segments, Place, after, words_at, place, word_at}
 use Rattle.capnp_model.specs.Traversal.{tree_at}
 use Rattle.capnp_model.specs.Trees.{Tree, null}
-use Rattle.capnp_model.proofs.FineShapes.{found}
 use Rattle.capnp_model.proofs.Locality.{word_was, word_is}
 use Rattle.capnp_model.proofs.PointerWords.{begins_behind, begins_here}
-use Rattle.capnp_model.proofs.SoundRules.{apart}
 use Rattle.capnp_footprints.specs.Changes.{Changes, Replaces, absent}
 use Rattle.capnp_footprints.specs.Footprints.{footprint, Owns}
 use Rattle.capnp_footprints.specs.NewObjects.{Fits, new_list, New, new_struct, filled_list, new_pointers, new_structs, new_pointer, new_object, far_pointer, IsNamed, new_words, new_tree, pointed, pointed_far, Prepared, IsNear}
 use Rattle.capnp_footprints.specs.Writes.{with_words, spliced, with_zeros, segment_end}
-use Rattle.capnp_footprints.proofs.Algebra.{On, changes_then, beside_kept}
+use Rattle.capnp_footprints.proofs.Algebra.{On, changes_then, changes_alike, beside_kept}
 use Rattle.capnp_footprints.proofs.Growing.{zeros_extend, held_not}
 use Rattle.capnp_footprints.proofs.Kept.{words_length}
-use Rattle.capnp_footprints.proofs.Levels.{changes_alike, grown_value}
+use Rattle.capnp_footprints.proofs.Levels.{grown_value}
 use Rattle.capnp_footprints.proofs.Lift.{value_on, slot_is}
 use Rattle.capnp_footprints.proofs.NewKinds.{is_new}
 use Rattle.capnp_footprints.proofs.Nulls.{null_word}
@@ -130,10 +124,10 @@ near_new n s u p r offset k x h start lo some fits =
     let words : words_at (pointed u p (new_pointer offset x)) r k ≡ Some (new_words x) = (rewrites_keep u (pointed u p (new_pointer offset x)) p 1 (span r k ∷ []) y (λ q. omega (arith, h.apart q, both p r k q, held_is r k [] q))).0 (new_words x) h.words_there in
     let new = is_new n (pointed u p (new_pointer offset x)) r k x fits words in
     let whole : (q : Place) → footprint (suc n) (pointed u p (new_pointer offset x)) p q ≡ times_held (span p 1 ∷ span r k ∷ []) q = λ q. (
-        let a = slot_is n (pointed u p (new_pointer offset x)) p (record { pads = 0; object = new_object r x }) q found in
-        let b : times_held (span p 1 ∷ pads_at (pointed u p (new_pointer offset x)) p) q ≡ times_held (span p 1 ∷ []) q = ap (λ (xs : List Span). times_held (span p 1 ∷ xs) q) pads in
-        omega (arith, a, b, held_is p 1 [] q, new.takes q, both p r k q)
-        ) in
+    let a = slot_is n (pointed u p (new_pointer offset x)) p (record { pads = 0; object = new_object r x }) q found in
+    let b : times_held (span p 1 ∷ pads_at (pointed u p (new_pointer offset x)) p) q ≡ times_held (span p 1 ∷ []) q = ap (λ (xs : List Span). times_held (span p 1 ∷ xs) q) pads in
+    omega (arith, a, b, held_is p 1 [] q, new.takes q, both p r k q)
+    ) in
     let change = rewritten n s u (pointed u p (new_pointer offset x)) p r k (new_words x) h y.grows y.no_more (λ q z a b e. y.others q z a e) in
     record {
       means = rw found new.means;
@@ -162,10 +156,10 @@ far_new n s u p r k w x h named fits =
     let words : words_at (pointed_far u p r (new_pointer 0 x)) (after r 1) k ≡ Some (new_words x) = (rewrites_keep (pointed u r (new_pointer 0 x)) (pointed_far u p r (new_pointer 0 x)) p 1 (span (after r 1) k ∷ []) b (λ q. omega (arith, apart q, held_is (after r 1) k [] q))).0 (new_words x) tail1 in
     let new = is_new n (pointed_far u p r (new_pointer 0 x)) (after r 1) k x fits words in
     let whole : (q : Place) → footprint (suc n) (pointed_far u p r (new_pointer 0 x)) p q ≡ times_held (span p 1 ∷ span r (1 + k) ∷ []) q = λ q. (
-        let c = slot_is n (pointed_far u p r (new_pointer 0 x)) p (record { pads = 1; object = new_object (after r 1) x }) q found in
-        let d : times_held (span p 1 ∷ pads_at (pointed_far u p r (new_pointer 0 x)) p) q ≡ times_held (span p 1 ∷ span r 1 ∷ []) q = ap (λ (xs : List Span). times_held (span p 1 ∷ xs) q) pads in
-        omega (arith, c, d, held_is p 1 (span r 1 ∷ []) q, held_is r 1 [] q, new.takes q, both p r (1 + k) q, split q)
-        ) in
+    let c = slot_is n (pointed_far u p r (new_pointer 0 x)) p (record { pads = 1; object = new_object (after r 1) x }) q found in
+    let d : times_held (span p 1 ∷ pads_at (pointed_far u p r (new_pointer 0 x)) p) q ≡ times_held (span p 1 ∷ span r 1 ∷ []) q = ap (λ (xs : List Span). times_held (span p 1 ∷ xs) q) pads in
+    omega (arith, c, d, held_is p 1 (span r 1 ∷ []) q, held_is r 1 [] q, new.takes q, both p r (1 + k) q, split q)
+    ) in
     let change = rewritten n s u (pointed_far u p r (new_pointer 0 x)) p r (1 + k) (w ∷ new_words x) h (grows_then u (pointed u r (new_pointer 0 x)) (pointed_far u p r (new_pointer 0 x)) a.grows b.grows) (λ q. a.no_more q ∙ b.no_more q) (λ q y e f g. b.others q y e (a.others q y (omega (arith, f, split q)) g)) in
     record {
       means = rw found new.means;
@@ -202,7 +196,7 @@ far_leads s p r v w x e f ne named fits =
     let word : word_at (pointed_far s p r (new_pointer 0 x)) p ≡ Some (far_pointer r) = written_word (pointed s r (new_pointer 0 x)) p v (far_pointer r) slot_was in
     far_found (pointed_far s p r (new_pointer 0 x)) p r (new_pointer 0 x) (λ q. new_object q x) (new_names 0 x (omega arith) fits) named word pad_now
 
-first_of_more : (k : ℕ) → replicate {A = ℕ} (1 + k) 0 ≡ 0 ∷ replicate {A = ℕ} k 0
+pub first_of_more : (k : ℕ) → replicate {A = ℕ} (1 + k) 0 ≡ 0 ∷ replicate {A = ℕ} k 0
 first_of_more k = let e : 1 + k ≡ suc k = omega arith in ap (λ (m : ℕ). replicate {A = ℕ} m 0) e
 
 -- ---- from before the words were allocated
@@ -239,7 +233,7 @@ rest_written n s u p r k w vs ws l h =
     let long : length (w ∷ ws) ≡ 1 + k = words_length u r (1 + k) (w ∷ ws) h.words_there in
     subst (λ (xs : List ℕ). Prepared n s (with_words u (after r 1) vs) p r (1 + k) xs) (behind_first w vs ws (omega (arith, l, long))) (prepared_written n s u p r 1 (1 + k) vs (w ∷ ws) (omega (arith, l)) h)
 
-tag_in_front : (tag : ℕ) (v : ℕ) (xs : List ℕ) → spliced 0 (tag ∷ []) (v ∷ xs) ≡ tag ∷ xs
+pub tag_in_front : (tag : ℕ) (v : ℕ) (xs : List ℕ) → spliced 0 (tag ∷ []) (v ∷ xs) ≡ tag ∷ xs
 unfolding spliced
 tag_in_front tag v [] = refl
 tag_in_front tag v (x ∷ xs) = refl

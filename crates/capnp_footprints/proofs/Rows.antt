@@ -1,17 +1,18 @@
 -- Pointers in a row, of which one gets another value.
-use Rattle.std.proofs.Common.{◌≡◌, ℕ, zero, suc, ◌+◌, ◌<◌, ◌≤◌, List, [], ◌∷◌, length, take, drop, Option, Some, refl, ap, sym, ◌∙◌, subst, arith, leb, true}
-use Rattle.std.specs.List.{slice_get}
+use Rattle.std.proofs.Common.{◌≡◌, ℕ, zero, suc, ◌+◌, List, drop, Some, refl, subst, sym, ◌∙◌, arith, ◌≤◌, ◌<◌, ap, true, [], ◌∷◌, leb, length, take, Option}
 use Rattle.std.proofs.lemmas.Bool.{le-leb, leb-true}
-use Rattle.capnp_model.specs.Segments.{Segments, Place, place, after, words_at}
-use Rattle.capnp_model.specs.Trees.{Tree, Trees, child, with_child}
+use Rattle.std.specs.List.{slice_get}
+use Rattle.capnp_model.specs.Coverage.{Span, times_held, Grows, span, from_each}
+use Rattle.capnp_model.specs.Segments.{Segments, Place, after, words_at, place}
 use Rattle.capnp_model.specs.Traversal.{each, tree_at}
-use Rattle.capnp_model.specs.Coverage.{Span, span, times_held, from_each, Grows}
-use Rattle.capnp_model.proofs.Chaining.{bind_some, provided_some, some_is}
-use Rattle.capnp_footprints.specs.Footprints.{behind, footprint}
+use Rattle.capnp_model.specs.Trees.{Tree, Trees, with_child, child}
+use Rattle.capnp_model.proofs.Chaining.{bind_some, some_is, provided_some}
+use Rattle.capnp_model.proofs.SoundRules.{apart}
 use Rattle.capnp_footprints.specs.Changes.{Changes}
-use Rattle.capnp_footprints.proofs.Spans.{held, held_is, held_split, times_held_append, words_back}
-use Rattle.capnp_footprints.proofs.Kept.{each_same, value_same}
+use Rattle.capnp_footprints.specs.Footprints.{behind, footprint}
 use Rattle.capnp_footprints.proofs.Algebra.{beside_kept}
+use Rattle.capnp_footprints.proofs.Kept.{value_same, each_same}
+use Rattle.capnp_footprints.proofs.Spans.{words_back, held, held_is, held_split, times_held_append}
 
 -- ---- places
 
@@ -71,27 +72,27 @@ child_read f p r (suc k) (suc i) ts e l h =
     let y = bind_some (each f (after p 1) k) _ ts x.2 in
     child_read f (after p 1) r k i y.0 (e ∙ sym (after_sum p 1 i (suc i) one)) (omega (arith, l)) y.1 ∙ ap (λ (us : Trees). Some (child us (suc i))) (some_is _ _ y.2)
 
--- the value at r becomes t
-module _ (n : ℕ) (s u : Segments) (r : Place) (t : Tree) (h : Changes s u (footprint n s r) (footprint n u r)) (m : tree_at n u r ≡ Some t) where
+-- the value at r becomes t, and other words change with it
+module _ (n : ℕ) (s u : Segments) (r : Place) (t : Tree) (c d e : Place → ℕ) (h : Changes s u c d) (le : (q : Place) → c q ≡ footprint n s r q + e q) (m : tree_at n u r ≡ Some t) where
   -- a value beside it stays
-  value_beside : (p : Place) (v : Tree) → ((q : Place) → footprint n s p q + footprint n s r q ≤ 1) → tree_at n s p ≡ Some v → (tree_at n u p ≡ Some v) × (behind n u p ≡ behind n s p)
-  value_beside p v apart e = value_same n n s u p v (omega arith) (beside_kept s u (footprint n s r) (footprint n u r) (span p 1 ∷ behind n s p) h apart) e
+  value_beside : (p : Place) (v : Tree) → ((q : Place) → footprint n s p q + c q ≤ 1) → tree_at n s p ≡ Some v → (tree_at n u p ≡ Some v) × (behind n u p ≡ behind n s p)
+  value_beside p v apart g = value_same n n s u p v (omega arith) (beside_kept s u c d (span p 1 ∷ behind n s p) h apart) g
 
-  pub row_beside : (p : Place) (k : ℕ) (ws : List ℕ) (ts : Trees) → words_at s p k ≡ Some ws → ((q : Place) → row n s p k q + footprint n s r q ≤ 1) → each (tree_at n s) p k ≡ Some ts → (each (tree_at n u) p k ≡ Some ts) × (from_each (behind n u) p k ≡ from_each (behind n s) p k)
-  row_beside p k ws ts w apart e =
+  pub row_beside : (p : Place) (k : ℕ) (ws : List ℕ) (ts : Trees) → words_at s p k ≡ Some ws → ((q : Place) → row n s p k q + c q ≤ 1) → each (tree_at n s) p k ≡ Some ts → (each (tree_at n u) p k ≡ Some ts) × (from_each (behind n u) p k ≡ from_each (behind n s) p k)
+  row_beside p k ws ts w apart g =
       each_same s u (tree_at n s) (tree_at n u) (behind n s) (behind n u) (λ q v a f. value_same n n s u q v (omega arith) a f) p k ws ts w
-      (beside_kept s u (footprint n s r) (footprint n u r) (span p k ∷ []) h (λ q. omega (arith, apart q, held_is p k [] q))).0
-      (beside_kept s u (footprint n s r) (footprint n u r) (from_each (behind n s) p k) h (λ q. omega (arith, apart q))) e
+      (beside_kept s u c d (span p k ∷ []) h (λ q. omega (arith, apart q, held_is p k [] q))).0
+      (beside_kept s u c d (from_each (behind n s) p k) h (λ q. omega (arith, apart q))) g
 
-  pub row_replaced : (p : Place) (k i : ℕ) (ws : List ℕ) (ts : Trees) → r ≡ after p i → i < k → words_at s p k ≡ Some ws → ((q : Place) → row n s p k q ≤ 1) → each (tree_at n s) p k ≡ Some ts → (each (tree_at n u) p k ≡ Some (with_child ts i t)) × ((q : Place) → row n u p k q + footprint n s r q ≡ row n s p k q + footprint n u r q)
-  row_replaced p zero i ws ts e l w apart f = absurd (omega (arith, l))
-  row_replaced p (suc k) zero ws ts e l w apart f =
-      let at : r ≡ p = e ∙ after_none p in
+  pub row_replaced : (p : Place) (k i : ℕ) (ws : List ℕ) (ts : Trees) → r ≡ after p i → i < k → words_at s p k ≡ Some ws → ((q : Place) → row n s p k q + e q ≤ 1) → each (tree_at n s) p k ≡ Some ts → (each (tree_at n u) p k ≡ Some (with_child ts i t)) × ((q : Place) → row n u p k q + footprint n s r q ≡ row n s p k q + footprint n u r q)
+  row_replaced p zero i ws ts ei l w apart f = absurd (omega (arith, l))
+  row_replaced p (suc k) zero ws ts ei l w apart f =
+      let at : r ≡ p = ei ∙ after_none p in
       let sum : suc k ≡ 1 + k = omega arith in
       let w' : words_at s p (1 + k) ≡ Some ws = subst (λ (j : ℕ). words_at s p j ≡ Some ws) sum w in
       let x = bind_some (tree_at n s p) _ ts f in
       let y = bind_some (each (tree_at n s) (after p 1) k) _ ts x.2 in
-      let beside = row_beside (after p 1) k _ y.0 (words_back s p 1 k ws w') (λ q. (let same : footprint n s r q ≡ footprint n s p q = ap (λ (z : Place). footprint n s z q) at in omega (arith, apart q, row_next n s p k q, same))) y.1 in
+      let beside = row_beside (after p 1) k _ y.0 (words_back s p 1 k ws w') (λ q. (let same : footprint n s r q ≡ footprint n s p q = ap (λ (z : Place). footprint n s z q) at in omega (arith, apart q, row_next n s p k q, same, le q))) y.1 in
       let new : tree_at n u p ≡ Some t = subst (λ (z : Place). tree_at n u z ≡ Some t) at m in
       let rest : each (tree_at n u) (after p 1) k ≡ Some y.0 = beside.0 in (
         rw (new, rest) (ap (λ (us : Trees). Some (with_child us 0 t)) (some_is _ _ y.2)),
@@ -102,14 +103,14 @@ module _ (n : ℕ) (s u : Segments) (r : Place) (t : Tree) (h : Changes s u (foo
             omega (arith, row_next n s p k q, row_next n u p k q, same, same', tail)
             ),
       )
-  row_replaced p (suc k) (suc i) ws ts e l w apart f =
+  row_replaced p (suc k) (suc i) ws ts ei l w apart f =
       let one : 1 + i ≡ suc i = omega arith in
-      let at : r ≡ after (after p 1) i = e ∙ sym (after_sum p 1 i (suc i) one) in
+      let at : r ≡ after (after p 1) i = ei ∙ sym (after_sum p 1 i (suc i) one) in
       let sum : suc k ≡ 1 + k = omega arith in
       let w' : words_at s p (1 + k) ≡ Some ws = subst (λ (j : ℕ). words_at s p j ≡ Some ws) sum w in
       let x = bind_some (tree_at n s p) _ ts f in
       let y = bind_some (each (tree_at n s) (after p 1) k) _ ts x.2 in
-      let beside = value_beside p x.0 (λ q. omega (arith, apart q, row_next n s p k q, child_le n s (after p 1) r k i at (omega (arith, l)) q)) x.1 in
+      let beside = value_beside p x.0 (λ q. omega (arith, apart q, le q, row_next n s p k q, child_le n s (after p 1) r k i at (omega (arith, l)) q)) x.1 in
       let inner = row_replaced (after p 1) k i _ y.0 at (omega (arith, l)) (words_back s p 1 k ws w') (λ q. omega (arith, apart q, row_next n s p k q)) y.1 in
       let head : tree_at n u p ≡ Some x.0 = beside.0 in
       let rest : each (tree_at n u) (after p 1) k ≡ Some (with_child y.0 i t) = inner.0 in (

@@ -1,10 +1,10 @@
 -- The children of an object changed one after the other.
-use Rattle.std.proofs.Common.{◌≡◌, ℕ, zero, suc, ◌+◌, List, drop, Some, refl, subst, sym, ◌∙◌, arith, ◌*◌, ◌<◌, ap, Ok, take, Option}
+use Rattle.std.proofs.Common.{◌≡◌, ℕ, zero, suc, ◌+◌, List, drop, Some, refl, subst, sym, ◌∙◌, arith, ◌*◌, ◌≤◌, ◌<◌, ap, Ok, take, Option}
 use Rattle.capnp_model.specs.Pointers.{a_struct, a_list}
 use Rattle.capnp_model.specs.Sections.{section_of}
 use Rattle.capnp_model.specs.Segments.{Segments, Place, after, words_at}
 use Rattle.capnp_model.specs.Traversal.{tag_in, each, each_element, tree_at, Tag}
-use Rattle.capnp_model.specs.Trees.{Tree, Trees, Elements, null, structure, pointer_list, struct_list, none, ◌▸◌, no_elements, element, tree_count, element_count, with_child, resized, child}
+use Rattle.capnp_model.specs.Trees.{Tree, Trees, Elements, null, structure, pointer_list, struct_list, none, ◌▸◌, no_elements, element, tree_count, element_count, with_child, padded_to, resized, child}
 use Rattle.capnp_model.proofs.Chaining.{bind_some, bind_found, some_is, ok_is}
 use Rattle.capnp_footprints.specs.Changes.{ReplacesObject, Replaces}
 use Rattle.capnp_footprints.specs.Children.{childless, with_first, with_first_elements}
@@ -15,7 +15,7 @@ use Rattle.capnp_footprints.proofs.Lift.{struct_parts, list_parts, object_replac
 
 -- ---- trees
 
-first_next : (i : ℕ) (ts us : Trees) → i < tree_count us → with_child (with_first i ts us) i (child ts i) ≡ with_first (suc i) ts us
+pub first_next : (i : ℕ) (ts us : Trees) → i < tree_count us → with_child (with_first i ts us) i (child ts i) ≡ with_first (suc i) ts us
 first_next zero ts none l = absurd (omega (arith, l))
 first_next zero none (u ▸ us) l = refl
 first_next zero (t ▸ ts) (u ▸ us) l = refl
@@ -23,18 +23,36 @@ first_next (suc i) ts none l = absurd (omega (arith, l))
 first_next (suc i) none (u ▸ us) l = ap (λ (vs : Trees). null ▸ vs) (first_next i none us (omega (arith, l)))
 first_next (suc i) (t ▸ ts) (u ▸ us) l = ap (λ (vs : Trees). t ▸ vs) (first_next i ts us (omega (arith, l)))
 
-first_here : (i : ℕ) (ts us : Trees) → child (with_first i ts us) i ≡ child us i
+pub first_here : (i : ℕ) (ts us : Trees) → child (with_first i ts us) i ≡ child us i
 first_here zero ts us = refl
 first_here (suc i) ts none = refl
 first_here (suc i) none (u ▸ us) = first_here i none us
 first_here (suc i) (t ▸ ts) (u ▸ us) = first_here i ts us
 
-first_all : (k : ℕ) (ts us : Trees) → tree_count us ≡ k → with_first k ts us ≡ resized k ts
+pub first_all : (k : ℕ) (ts us : Trees) → tree_count us ≡ k → with_first k ts us ≡ resized k ts
 first_all zero ts none e = refl
 first_all zero ts (u ▸ us) e = absurd (omega (arith, e))
 first_all (suc k) ts none e = absurd (omega (arith, e))
 first_all (suc k) none (u ▸ us) e = ap (λ (vs : Trees). null ▸ vs) (first_all k none us (omega (arith, e)))
 first_all (suc k) (t ▸ ts) (u ▸ us) e = ap (λ (vs : Trees). t ▸ vs) (first_all k ts us (omega (arith, e)))
+
+pub first_wider : (k m : ℕ) (ts : Trees) → k ≤ m → tree_count ts ≡ k → with_first k ts (resized m none) ≡ resized m ts
+first_wider zero m none l e = refl
+first_wider zero m (t ▸ ts) l e = absurd (omega (arith, e))
+first_wider (suc k) m none l e = absurd (omega (arith, e))
+first_wider (suc k) zero (t ▸ ts) l e = absurd (omega (arith, l))
+first_wider (suc k) (suc m) (t ▸ ts) l e = ap (λ (vs : Trees). t ▸ vs) (first_wider k m ts (omega (arith, l)) (omega (arith, e)))
+
+pub resized_padded : (k : ℕ) (ts : Trees) → tree_count ts ≤ k → resized k ts ≡ padded_to k ts
+resized_padded zero none l = refl
+resized_padded zero (t ▸ ts) l = absurd (omega (arith, l))
+resized_padded (suc k) none l = ap (λ (vs : Trees). null ▸ vs) (resized_padded k none (omega arith))
+resized_padded (suc k) (t ▸ ts) l = ap (λ (vs : Trees). t ▸ vs) (resized_padded k ts (omega (arith, l)))
+
+pub resized_count : (k : ℕ) (ts : Trees) → tree_count (resized k ts) ≡ k
+resized_count zero ts = refl
+resized_count (suc k) none = ap suc (resized_count k none)
+resized_count (suc k) (t ▸ ts) = ap suc (resized_count k ts)
 
 pub each_counted : (f : Place → Option Tree) (p : Place) (k : ℕ) (ts : Trees) → each f p k ≡ Some ts → tree_count ts ≡ k
 each_counted f p zero ts e = sym (ap tree_count (some_is _ _ e))

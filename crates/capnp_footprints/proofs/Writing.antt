@@ -1,12 +1,9 @@
 -- Plain data written into an object.
-use Rattle.std.proofs.Common.{◌≡◌, ℕ, ◌+◌, List, drop, Some, refl, sym, ◌∙◌, arith, ◌*◌, ◌^◌, ◌≤◌, ap, [], ◌∷◌, ◌%◌, ◌++◌, length, sum, ◌-◌}
+use Rattle.std.proofs.Common.{◌≡◌, ℕ, ◌+◌, List, drop, Some, refl, sym, ◌∙◌, arith, ◌*◌, ◌^◌, ◌≤◌, ap, [], ◌∷◌, ◌%◌, ◌++◌, length, ◌-◌}
 use Rattle.std.proofs.lemmas.List.{take_at}
 use Rattle.std.specs.List.{AllByRecursion}
 use Rattle.capnp_model.specs.Coverage.{Span, times_held, Keeps, span, from_each, covered_object}
-use Rattle.capnp_model.specs.Edits.{cleared}
-use Rattle.capnp_model.specs.Messages.{within}
 use Rattle.capnp_model.specs.Pointers.{a_struct, a_list}
-use Rattle.capnp_model.specs.Readings.{no_more}
 use Rattle.capnp_model.specs.Sections.{section_of, words_for}
 use Rattle.capnp_model.specs.Segments.{Segments, Place, after, words_at, word_at}
 use Rattle.capnp_model.specs.Traversal.{of_bits, list_kind, tree_of, tree_at}

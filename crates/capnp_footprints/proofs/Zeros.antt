@@ -1,5 +1,5 @@
 -- Null pointers, and objects whose words are zero.
-use Rattle.std.proofs.Common.{◌≡◌, ℕ, zero, suc, ◌+◌, List, drop, Some, refl, sym, ◌∙◌, arith, ◌≤◌, ap, Ok, [], ◌∷◌, ◌++◌, replicate, Option, sum}
+use Rattle.std.proofs.Common.{◌≡◌, ℕ, zero, suc, ◌+◌, List, drop, Some, refl, sym, ◌∙◌, arith, ◌≤◌, ap, Ok, [], ◌∷◌, ◌++◌, replicate, Option}
 use Rattle.std.proofs.lemmas.List.{take-replicate}
 use Rattle.capnp_model.specs.Coverage.{Span, times_held, span, pads_by, from_each, covered_object, covered_found}
 use Rattle.capnp_model.specs.Pointers.{nothing, a_struct, found_at}
@@ -12,7 +12,7 @@ use Rattle.capnp_model.proofs.SectionElements.{section_of-zeros}
 use Rattle.capnp_footprints.specs.Footprints.{behind, object_footprint, footprint}
 use Rattle.capnp_footprints.proofs.Growing.{held_not}
 use Rattle.capnp_footprints.proofs.Lift.{struct_of_parts}
-use Rattle.capnp_footprints.proofs.Spans.{words_back, held, held_is, there, words_front, held_low, held_high}
+use Rattle.capnp_footprints.proofs.Spans.{words_back, held, held_is, words_front, held_low, held_high}
 
 pub held_none : (p q : Place) → held p 0 q ≡ 0
 held_none p q = held_not p 0 q (λ h. absurd (omega (arith, held_low p 0 q h, held_high p 0 q h)))

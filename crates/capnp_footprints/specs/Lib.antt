@@ -4,3 +4,4 @@ pub mod Writes
 pub mod Elements
 pub mod Children
 pub mod NewObjects
+pub mod Detached

@@ -74,6 +74,10 @@ Fits (new_structs count d k) = (count < 2 ^ 29) × (d < 2 ^ 16) × (k < 2 ^ 16) 
 abbrev pub far_pointer : Place → ℕ
 far_pointer pad = 2 + 8 * pad.position + 2 ^ 32 * pad.segment
 
+-- The word of a far pointer to a pad of two words. (Encoding, "Inter-Segment Pointers")
+abbrev pub double_far_pointer : Place → ℕ
+double_far_pointer pad = 6 + 8 * pad.position + 2 ^ 32 * pad.segment
+
 -- A pointer's word is written.
 abbrev pub pointed : Segments → Place → ℕ → Segments
 pointed s p w = with_words s p (w ∷ [])
@@ -81,6 +85,10 @@ pointed s p w = with_words s p (w ∷ [])
 -- A pointer's word is written into a pad, and a far pointer to the pad.
 abbrev pub pointed_far : Segments → Place → Place → ℕ → Segments
 pointed_far s p pad w = pointed (pointed s pad w) p (far_pointer pad)
+
+-- A pad of two words is written, where the object begins and what it is, and a far pointer to the pad.
+abbrev pub pointed_double_far : Segments → Place → Place → Place → ℕ → Segments
+pointed_double_far s p pad r w = pointed (with_words s pad (far_pointer r ∷ (w ∷ []))) p (double_far_pointer pad)
 
 -- So many words lie between the pointer and the place.
 pub record IsNear (p r : Place) (offset : ℕ) : Type 0 where

@@ -16,70 +16,108 @@ ghost use Rattle.capnp_footprints.specs.Writes.{with_words, zeroed};
 
 /// Words become zero, in turn; where all words of a value did, it is null.
 pub fn cleared_words()
-    ensures words { (s : Segments) (p : Place) (k : ℕ) (ws : List ℕ) → words_at s p k ≡ Some ws → Clears s (zeroed s p k) (times_held (span p k ∷ [])) }
-    ensures turn { (s u v : Segments) (c d : Place → ℕ) → Clears s u c → Clears u v d → Clears s v (λ q. c q + d q) }
-    ensures value { (n : ℕ) (s u : Segments) (p : Place) (t : Tree) → Owns n s p t → Clears s u (footprint n s p) → Replaces n s u p null }
+    ensures words { (s : Segments) (p : Place) (k : ℕ) (ws : List ℕ) → words_at s p k ≡ Some ws
+        → Clears s (zeroed s p k) (times_held (span p k ∷ [])) }
+    ensures turn { (s u v : Segments) (c d : Place → ℕ) → Clears s u c → Clears u v d
+        → Clears s v (λ q. c q + d q) }
+    ensures value { (n : ℕ) (s u : Segments) (p : Place) (t : Tree) → Owns n s p t
+        → Clears s u (footprint n s p) → Replaces n s u p null }
 {}
 
 /// The word of a pointer is zero first, and its object as it was (`down`); once the children of the object are null, its own words and the pads become zero (`up`). A null pointer or a capability has no such object (`leaf`).
 pub fn cleared_pointers()
-    ensures down { (n : ℕ) (s : Segments) (p : Place) (f : Found) (t : Tree) → found_at s p ≡ Ok f → Owns (suc n) s p t
+    ensures down { (n : ℕ) (s : Segments) (p : Place) (f : Found) (t : Tree) → found_at s p ≡ Ok f
+        → Owns (suc n) s p t
         → OwnsObject n (zeroed s p 1) f.object t }
-    ensures leaf { (n : ℕ) (s : Segments) (p pad : Place) (f : Found) (t : Tree) → Leads s p pad f → own_words f.object ≡ [] → Owns n s p t
+    ensures leaf { (n : ℕ) (s : Segments) (p pad : Place) (f : Found) (t : Tree) → Leads s p pad f
+        → own_words f.object ≡ [] → Owns n s p t
         → Replaces n s (zeroed (zeroed s p 1) pad f.pads) p null }
-    ensures up { (n : ℕ) (s u : Segments) (p pad r : Place) (m : ℕ) (f : Found) (t : Tree) → Leads s p pad f → own_words f.object ≡ span r m ∷ [] → Owns (suc n) s p t
-        → Changes (zeroed s p 1) u (object_footprint n (zeroed s p 1) f.object) (times_held (span r m ∷ []))
+    ensures up { (n : ℕ) (s u : Segments) (p pad r : Place) (m : ℕ) (f : Found) (t : Tree)
+        → Leads s p pad f → own_words f.object ≡ span r m ∷ [] → Owns (suc n) s p t
+        → Changes (zeroed s p 1) u (object_footprint n (zeroed s p 1) f.object) (times_held
+        (span r m ∷ []))
         → Replaces (suc n) s (zeroed (zeroed u r m) pad f.pads) p null }
 {}
 
 /// An object without children takes its own words alone.
 pub fn childless_objects()
-    ensures structs { (n : ℕ) (s u : Segments) (p : Place) (d k w section : ℕ) → ReplacesObject n s u (a_struct p d k) (structure w section (resized k none))
+    ensures structs { (n : ℕ) (s u : Segments) (p : Place) (d k w section : ℕ)
+        → ReplacesObject n s u (a_struct p d k) (structure w section (resized k none))
         → Changes s u (object_footprint n s (a_struct p d k)) (times_held (span p (d + k) ∷ [])) }
     ensures plain { (n : ℕ) (s : Segments) (p : Place) (size count : ℕ) → list_kind size ≡ of_bits
-        → Changes s s (object_footprint n s (a_list p size count)) (times_held (span p (words_for (size_bits size * count)) ∷ [])) }
-    ensures pointers { (n : ℕ) (s u : Segments) (p : Place) (k : ℕ) → ReplacesObject n s u (a_list p 6 k) (pointer_list (resized k none))
+        → Changes s s (object_footprint n s (a_list p size count)) (times_held (span p
+        (words_for (size_bits size * count)) ∷ [])) }
+    ensures pointers { (n : ℕ) (s u : Segments) (p : Place) (k : ℕ)
+        → ReplacesObject n s u (a_list p 6 k) (pointer_list (resized k none))
         → Changes s u (object_footprint n s (a_list p 6 k)) (times_held (span p k ∷ [])) }
-    ensures structs_in_lists { (n : ℕ) (s u : Segments) (p : Place) (m d k : ℕ) (es : Elements) → ReplacesObject n s u (a_list p 7 m) (struct_list d k (childless k es))
+    ensures structs_in_lists { (n : ℕ) (s u : Segments) (p : Place) (m d k : ℕ) (es : Elements)
+        → ReplacesObject n s u (a_list p 7 m) (struct_list d k (childless k es))
         → Changes s u (object_footprint n s (a_list p 7 m)) (times_held (span p (1 + m) ∷ [])) }
 {}
 
 /// The first i children of a struct became others; the next is as it was (`here`), and becomes another (`next`), up to the last (`done`).
 pub fn struct_children_in_turn()
-    ensures shape { (n : ℕ) (s : Segments) (p : Place) (d k : ℕ) (t : Tree) → OwnsObject n s (a_struct p d k) t → (section : ℕ) × (kids : Trees) × (t ≡ structure d section kids) }
-    ensures here { (n : ℕ) (s u : Segments) (p : Place) (d k i w section : ℕ) (ts kids : Trees) → i < k
-        → OwnsObject n s (a_struct p d k) (structure w section kids) → ReplacesObject n s u (a_struct p d k) (structure w section (with_first i ts kids))
+    ensures shape { (n : ℕ) (s : Segments) (p : Place) (d k : ℕ) (t : Tree)
+        → OwnsObject n s (a_struct p d k) t
+        → (section : ℕ) × (kids : Trees) × (t ≡ structure d section kids) }
+    ensures here { (n : ℕ) (s u : Segments) (p : Place) (d k i w section : ℕ) (ts kids : Trees)
+        → i < k
+        → OwnsObject n s (a_struct p d k) (structure w section kids)
+        → ReplacesObject n s u (a_struct p d k) (structure w section (with_first i ts kids))
         → Owns n u (after (after p d) i) (child kids i) }
-    ensures next { (n : ℕ) (s u v : Segments) (p : Place) (d k i w section : ℕ) (ts kids : Trees) → i < k
-        → OwnsObject n s (a_struct p d k) (structure w section kids) → ReplacesObject n s u (a_struct p d k) (structure w section (with_first i ts kids))
-        → Replaces n u v (after (after p d) i) (child ts i) → ReplacesObject n s v (a_struct p d k) (structure w section (with_first (suc i) ts kids)) }
-    ensures done { (n : ℕ) (s : Segments) (p : Place) (d k w section : ℕ) (ts kids : Trees) → OwnsObject n s (a_struct p d k) (structure w section kids) → with_first k ts kids ≡ resized k ts }
+    ensures next { (n : ℕ) (s u v : Segments) (p : Place) (d k i w section : ℕ) (ts kids : Trees)
+        → i < k
+        → OwnsObject n s (a_struct p d k) (structure w section kids)
+        → ReplacesObject n s u (a_struct p d k) (structure w section (with_first i ts kids))
+        → Replaces n u v (after (after p d) i) (child ts i)
+        → ReplacesObject n s v (a_struct p d k) (structure w section (with_first (suc i) ts kids)) }
+    ensures done { (n : ℕ) (s : Segments) (p : Place) (d k w section : ℕ) (ts kids : Trees)
+        → OwnsObject n s (a_struct p d k) (structure w section kids)
+        → with_first k ts kids ≡ resized k ts }
 {}
 
 /// The same of the children of a list of pointers.
 pub fn list_children_in_turn()
-    ensures shape { (n : ℕ) (s : Segments) (p : Place) (k : ℕ) (t : Tree) → OwnsObject n s (a_list p 6 k) t → (kids : Trees) × (t ≡ pointer_list kids) }
+    ensures shape { (n : ℕ) (s : Segments) (p : Place) (k : ℕ) (t : Tree)
+        → OwnsObject n s (a_list p 6 k) t → (kids : Trees) × (t ≡ pointer_list kids) }
     ensures here { (n : ℕ) (s u : Segments) (p : Place) (k i : ℕ) (ts kids : Trees) → i < k
-        → OwnsObject n s (a_list p 6 k) (pointer_list kids) → ReplacesObject n s u (a_list p 6 k) (pointer_list (with_first i ts kids))
+        → OwnsObject n s (a_list p 6 k) (pointer_list kids)
+        → ReplacesObject n s u (a_list p 6 k) (pointer_list (with_first i ts kids))
         → Owns n u (after p i) (child kids i) }
     ensures next { (n : ℕ) (s u v : Segments) (p : Place) (k i : ℕ) (ts kids : Trees) → i < k
-        → OwnsObject n s (a_list p 6 k) (pointer_list kids) → ReplacesObject n s u (a_list p 6 k) (pointer_list (with_first i ts kids))
-        → Replaces n u v (after p i) (child ts i) → ReplacesObject n s v (a_list p 6 k) (pointer_list (with_first (suc i) ts kids)) }
-    ensures done { (n : ℕ) (s : Segments) (p : Place) (k : ℕ) (ts kids : Trees) → OwnsObject n s (a_list p 6 k) (pointer_list kids) → with_first k ts kids ≡ resized k ts }
+        → OwnsObject n s (a_list p 6 k) (pointer_list kids)
+        → ReplacesObject n s u (a_list p 6 k) (pointer_list (with_first i ts kids))
+        → Replaces n u v (after p i) (child ts i)
+        → ReplacesObject n s v (a_list p 6 k) (pointer_list (with_first (suc i) ts kids)) }
+    ensures done { (n : ℕ) (s : Segments) (p : Place) (k : ℕ) (ts kids : Trees)
+        → OwnsObject n s (a_list p 6 k) (pointer_list kids) → with_first k ts kids ≡ resized k ts }
 {}
 
 /// The same of the elements of a list of structs, each of which is changed as a struct.
 pub fn elements_in_turn()
-    ensures shape { (n : ℕ) (s : Segments) (p : Place) (m : ℕ) (ws : List ℕ) (tag : Tag) (t : Tree) → words_at s p (1 + m) ≡ Some ws → tag_in ws ≡ Ok tag → OwnsObject n s (a_list p 7 m) t
-        → (es : Elements) × (t ≡ struct_list tag.data_words tag.pointers es) × (element_count es ≡ tag.count) }
-    ensures here { (n : ℕ) (s u : Segments) (p : Place) (m d k i : ℕ) (es fs : Elements) → i < element_count fs
-        → OwnsObject n s (a_list p 7 m) (struct_list d k fs) → ReplacesObject n s u (a_list p 7 m) (struct_list d k (with_first_elements i es fs))
+    ensures shape { (n : ℕ) (s : Segments) (p : Place) (m : ℕ) (ws : List ℕ) (tag : Tag) (t : Tree)
+        → words_at s p (1 + m) ≡ Some ws → tag_in ws ≡ Ok tag → OwnsObject n s (a_list p 7 m) t
+        → (es : Elements) × (t ≡ struct_list tag.data_words tag.pointers es) ×
+        (element_count es ≡ tag.count) }
+    ensures here { (n : ℕ) (s u : Segments) (p : Place) (m d k i : ℕ) (es fs : Elements)
+        → i < element_count fs
+        → OwnsObject n s (a_list p 7 m) (struct_list d k fs)
+        → ReplacesObject n s u (a_list p 7 m) (struct_list d k (with_first_elements i es fs))
         → OwnsObject n u (a_struct (after (after p 1) (i * (d + k))) d k) (element_at d fs i) }
-    ensures next { (n : ℕ) (s u v : Segments) (p : Place) (m d k i section : ℕ) (kids : Trees) (es fs : Elements) → i < element_count es → i < element_count fs → element_at d es i ≡ structure d section kids
-        → OwnsObject n s (a_list p 7 m) (struct_list d k fs) → ReplacesObject n s u (a_list p 7 m) (struct_list d k (with_first_elements i es fs))
-        → ReplacesObject n u v (a_struct (after (after p 1) (i * (d + k))) d k) (structure d section kids)
-        → ReplacesObject n s v (a_list p 7 m) (struct_list d k (with_first_elements (suc i) es fs)) }
-    ensures done { (es fs : Elements) → element_count es ≡ element_count fs → with_first_elements (element_count fs) es fs ≡ es }
-    ensures childless_at { (k d i section : ℕ) (kids : Trees) (es : Elements) → i < element_count es → element_at d es i ≡ structure d section kids → element_at d (childless k es) i ≡ structure d section (resized k none) }
-    ensures childless_count { (k : ℕ) (es : Elements) → element_count (childless k es) ≡ element_count es }
+    ensures next { (n : ℕ) (s u v : Segments) (p : Place) (m d k i section : ℕ) (kids : Trees)
+        (es fs : Elements)
+        → i < element_count es → i < element_count fs → element_at d es i ≡ structure d section kids
+        → OwnsObject n s (a_list p 7 m) (struct_list d k fs)
+        → ReplacesObject n s u (a_list p 7 m) (struct_list d k (with_first_elements i es fs))
+        → ReplacesObject n u v (a_struct (after (after p 1) (i * (d + k))) d k)
+        (structure d section kids)
+        → ReplacesObject n s v (a_list p 7 m) (struct_list d k (with_first_elements
+        (suc i) es fs)) }
+    ensures done { (es fs : Elements) → element_count es ≡ element_count fs
+        → with_first_elements (element_count fs) es fs ≡ es }
+    ensures childless_at { (k d i section : ℕ) (kids : Trees) (es : Elements) → i < element_count es
+        → element_at d es i ≡ structure d section kids
+        → element_at d (childless k es) i ≡ structure d section (resized k none) }
+    ensures childless_count { (k : ℕ) (es : Elements)
+        → element_count (childless k es) ≡ element_count es }
 {}

@@ -3,4 +3,6 @@
 
 pub mod laws;
 pub mod laws_of_clearing;
+pub mod laws_of_detached_objects;
+pub mod laws_of_moves;
 pub mod laws_of_new_objects;

@@ -1,0 +1,71 @@
+//! Laws of moving: what a pointer leads to stays where it lies, another pointer gets it, and the first becomes null.
+//!
+//! A caller zeroes the old pointer's word, writes a pad where one is needed, and last the new pointer.
+ghost use Rattle.std.specs.Prelude.{◌≡◌, ℕ, suc, ◌+◌, ◌<◌, ◌≤◌, List, [], ◌∷◌, ◌++◌, Some, Ok};
+ghost use Rattle.capnp_model.specs.Sections.{bits_at};
+ghost use Rattle.capnp_model.specs.Segments.{Segments, Place, after, word_at};
+ghost use Rattle.capnp_model.specs.Pointers.{a_struct, Found, found_at};
+ghost use Rattle.capnp_model.specs.Trees.{Tree, null, structure, Trees, none, child, with_child, tree_count, resized, padded_to};
+ghost use Rattle.capnp_model.specs.Coverage.{Span, span, times_held};
+ghost use Rattle.capnp_footprints.specs.Footprints.{footprint};
+ghost use Rattle.capnp_footprints.specs.Children.{with_first};
+ghost use Rattle.capnp_footprints.specs.Detached.{Detached, Reaches, Moves, IsMovable};
+ghost use Rattle.capnp_footprints.specs.NewObjects.{New, new_pointer, new_object, Fits, pointed, pointed_far, pointed_double_far, IsNamed};
+ghost use Rattle.capnp_footprints.specs.Writes.{zeroed};
+
+/// A value moves: null as it is, a capability or what lies behind a far pointer by the same word, and what has no pad by a new pointer, near or behind a new pad.
+pub fn moved_values()
+    ensures null { (n : ℕ) (s : Segments) (a b : Place) → word_at s a ≡ Some 0
+        → word_at s b ≡ Some 0 → Moves n s s a b [] null }
+    ensures verbatim { (n : ℕ) (s : Segments) (a b : Place) (w : ℕ) (f : Found) (t : Tree)
+        → IsMovable n s a b [] w f t → 2 ≤ bits_at 0 2 w
+        → Moves n s (pointed (zeroed s a 1) b w) a b [] t }
+    ensures near { (n : ℕ) (s : Segments) (a b r : Place) (w offset : ℕ) (x : New) (t : Tree)
+        → IsMovable n s a b [] w (record { pads = 0; object = new_object r x }) t
+        → Reaches b r offset → 0 < new_pointer offset x → Fits x
+        → Moves n s (pointed (zeroed s a 1) b (new_pointer offset x)) a b [] t }
+    ensures far { (n : ℕ) (s : Segments) (a b pad r : Place) (w offset : ℕ) (x : New) (t : Tree)
+        → IsMovable n s a b (span pad 1 ∷ []) w (record { pads = 0; object = new_object r x }) t
+        → IsNamed pad → Reaches pad r offset → Fits x
+        → Moves n s (pointed_far (zeroed s a 1) b pad (new_pointer offset x)) a b (span pad 1
+        ∷ []) t }
+    ensures double_far { (n : ℕ) (s : Segments) (a b pad r : Place) (w : ℕ) (x : New) (t : Tree)
+        → IsMovable n s a b (span pad 2 ∷ []) w (record { pads = 0; object = new_object r x }) t
+        → IsNamed pad → IsNamed r → Fits x
+        → Moves n s (pointed_double_far (zeroed s a 1) b pad r (new_pointer 0 x)) a b
+        (span pad 2 ∷ []) t }
+{}
+
+/// A struct's child moves to a struct that stands beside the value: the slots share no word, and both structs change by it alone.
+pub fn moved_children()
+    ensures apart { (n : ℕ) (s u : Segments) (p a b : Place) (pads d k i d' k' j : ℕ)
+        (t v : Tree) (xs spare : List Span)
+        → i < k → j < k'
+        → found_at u p ≡ Ok (record { pads = pads; object = a_struct a d k })
+        → Detached n s u p t (xs ++ spare) (a_struct b d' k') v
+        → (q : Place)
+        → footprint n u (after (after a d) i) q + (footprint n u (after
+        (after b d') j) q + times_held xs q) ≤ 1 }
+    ensures structs { (n : ℕ) (s u w : Segments) (p a b : Place)
+        (pads d k i d' k' j words section words' section' : ℕ) (kids kids' : Trees)
+        (t : Tree) (xs spare : List Span)
+        → i < k → j < k'
+        → found_at u p ≡ Ok (record { pads = pads; object = a_struct a d k })
+        → Detached n s u p (structure words section kids) (xs ++ spare) (a_struct b d' k')
+        (structure words' section' kids')
+        → Moves n u w (after (after a d) i) (after (after b d') j) xs t
+        → Detached n s w p (structure words section (with_child kids i null)) spare
+        (a_struct b d' k') (structure words' section' (with_child kids' j t)) }
+{}
+
+/// Children in turn: the first i of others in place of theirs, up to all; in a row of nulls that is wider, the children padded.
+pub fn children_in_turn()
+    ensures here { (i : ℕ) (ts us : Trees) → child (with_first i ts us) i ≡ child us i }
+    ensures next { (i : ℕ) (ts us : Trees) → i < tree_count us
+        → with_child (with_first i ts us) i (child ts i) ≡ with_first (suc i) ts us }
+    ensures all { (k : ℕ) (ts us : Trees) → tree_count us ≡ k → with_first k ts us ≡ resized k ts }
+    ensures wider { (k m : ℕ) (ts : Trees) → k ≤ m → tree_count ts ≡ k
+        → with_first k ts (resized m none) ≡ resized m ts }
+    ensures padded { (k : ℕ) (ts : Trees) → tree_count ts ≤ k → resized k ts ≡ padded_to k ts }
+    ensures count { (k : ℕ) (ts : Trees) → tree_count (resized k ts) ≡ k }
+{}
