@@ -53,7 +53,9 @@ pub enum FieldPlace<'a> {
         default: Option<&'a Value>,
     },
     /// In the same two sections, under the schema of the group.
-    Group { schema: StructSchema<'a> },
+    Group {
+        schema: StructSchema<'a>,
+    },
 }
 
 /// The bits of a plain default.
