@@ -4,3 +4,4 @@ pub mod FieldRecords
 pub mod Places
 pub mod Tabled
 pub mod EnumRecords
+pub mod RawNodes

@@ -192,10 +192,10 @@ record_known nodes accepted id s h =
       shape = shape_fixed nodes accepted id ∙ ap (shape_of_node groups) f.found ∙ ap (kind_shape groups f.node.id) f.kind ∙ ap (λ i. kind_shape groups i (struct_node s)) f.same;
       few = fields_short f.node.kind s f.kind (and_left (nat_le (length (names_of_kind f.node.kind)) 65535) (list_all (λ l. nat_lt (length l) (2 ^ 29)) (annotation_lists f.node)) short);
       named = fields_named nodes s.fields
-      (ap (λ fs. list_all (λ t. names_its_sort nodes t.base) (flat_map (λ g. slot_types g.kind) fs)) (sym fields) ∙ parts.types)
-      (ap (λ fs. list_all (names_a is_group_node nodes) (flat_map (λ g. groups_of_field g.kind) fs)) (sym fields) ∙ parts.groups)
-      (ap (λ fs. list_all (list_all (λ a. names_its_sort nodes a.type.base)) (map (λ g. g.annotations) fs)) (sym fields) ∙ parts.fields)
-      (ap (λ fs. list_all are_few (map (λ g. g.annotations) fs)) (sym fields) ∙ (few_parts nodes accepted id f.node f.found).fields);
+          (ap (λ fs. list_all (λ t. names_its_sort nodes t.base) (flat_map (λ g. slot_types g.kind) fs)) (sym fields) ∙ parts.types)
+          (ap (λ fs. list_all (names_a is_group_node nodes) (flat_map (λ g. groups_of_field g.kind) fs)) (sym fields) ∙ parts.groups)
+          (ap (λ fs. list_all (list_all (λ a. names_its_sort nodes a.type.base)) (map (λ g. g.annotations) fs)) (sym fields) ∙ parts.fields)
+          (ap (λ fs. list_all are_few (map (λ g. g.annotations) fs)) (sym fields) ∙ (few_parts nodes accepted id f.node f.found).fields);
     }
 
 pub node_named : (nodes : List Node) → IsAccepted nodes → (id : ℕ) (n : Node) → find_node nodes id ≡ Some n → (are_named nodes n.annotations ≡ true) × (are_few n.annotations ≡ true)
@@ -217,8 +217,8 @@ enumerants_named nodes accepted id es h = by (find_node nodes id) refl h
         let names : nat_le (length (map (λ (x : Enumerant). x.name) es)) 65535 ≡ true = ap (λ k. nat_le (length (names_of_kind k)) 65535) (sym (q ∙ ap enum_node is)) ∙ short in
         let long = length_map (λ (x : Enumerant). x.name) es in (
           all_both (λ (x : Enumerant). are_named nodes x.annotations) (λ x. are_few x.annotations) es
-          (sym (all_map (are_named nodes) (λ (x : Enumerant). x.annotations) es) ∙ ap (λ xs. list_all (are_named nodes) (map (λ (x : Enumerant). x.annotations) xs)) (sym here) ∙ named)
-          (sym (all_map are_few (λ (x : Enumerant). x.annotations) es) ∙ ap (λ xs. list_all are_few (map (λ (x : Enumerant). x.annotations) xs)) (sym here) ∙ few),
+              (sym (all_map (are_named nodes) (λ (x : Enumerant). x.annotations) es) ∙ ap (λ xs. list_all (are_named nodes) (map (λ (x : Enumerant). x.annotations) xs)) (sym here) ∙ named)
+              (sym (all_map are_few (λ (x : Enumerant). x.annotations) es) ∙ ap (λ xs. list_all are_few (map (λ (x : Enumerant). x.annotations) xs)) (sym here) ∙ few),
           grind (arith, nat_tests),
         )
 

@@ -55,11 +55,11 @@ tabled nodes accepted k id at t tables =
       members = λ d lt. member d s (subst (λ (n : ℕ). d < n) count lt) r u a;
       no_more = λ d le. ap (place_of_member d) fields ∙ not_placed groups s.fields d (no_member_there s u d (subst (λ (n : ℕ). n ≤ d) count le));
       members_inside = ap (λ xs. list_all (λ i. nat_lt i (field_count (fields_in ((schema_of nodes).shape_of id)))) xs) a.members
-      ∙ ap (λ n. list_all (λ i. nat_lt i n) (members_from s.fields 0 s.discriminant_count)) (sym whole) ∙ table_inside s u 0 s.discriminant_count (omega arith);
+          ∙ ap (λ n. list_all (λ i. nat_lt i n) (members_from s.fields 0 s.discriminant_count)) (sym whole) ∙ table_inside s u 0 s.discriminant_count (omega arith);
       few_members = omega (arith, count, same_count, short, few);
       others = a.others ∙ others_same groups 0 s.fields ∙ ap (others_at 0) (sym fields);
       others_inside = ap (λ xs. list_all (λ i. nat_lt i (field_count (fields_in ((schema_of nodes).shape_of id)))) xs) a.others
-      ∙ ap (λ n. list_all (λ i. nat_lt i n) (others_from 0 s.fields)) (sym whole) ∙ others_inside 0 (length s.fields) s.fields (omega arith);
+          ∙ ap (λ n. list_all (λ i. nat_lt i n) (others_from 0 s.fields)) (sym whole) ∙ others_inside 0 (length s.fields) s.fields (omega arith);
       few_others = omega (arith, others_length, others_few, few);
     }
   where

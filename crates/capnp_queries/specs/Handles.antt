@@ -1,9 +1,10 @@
 -- What contracts see of fields.
-use Rattle.std.specs.Prelude.{ℕ, ◌≡◌, ◌<◌, true, Option, Some, IfSome, option_map, option_copied, length, slice_get, slice_index, ◌*◌}
-use Rattle.capnp_model.specs.Schemas.{PlainType, bool, int, uint, «enum», width, Field as FieldNode, Body, void_slot, plain_slot, pointer_slot, group_slot}
-use Rattle.capnp_model.specs.Accepted.{default_tree}
+use Rattle.std.specs.Prelude.{ℕ, ◌≡◌, ◌<◌, Bool, true, ⊤, List, Option, Some, IfSome, option_map, option_copied, length, slice_get, slice_index, ◌*◌}
+use Rattle.capnp_model.specs.Schemas.{PlainType, bool, int, uint, «enum», width, Field as FieldNode, Body, void_slot, plain_slot, pointer_slot, group_slot, Node}
+use Rattle.capnp_model.specs.Accepted.{is_enum_node, default_tree}
+use Rattle.capnp_records.specs.Sets.{is_at}
 use Rattle.capnp_records.specs.NodeViews.{value_of}
-use Rattle.capnp_queries.specs.Types.{ty_of}
+use Rattle.capnp_queries.specs.Types.{ty_of, is_type_of}
 use Rattle.capnp_queries.specs.Fields.{Entry, field_at, place_of_member, member_count, others_at, entry_in, is_named}
 use Rattle.capnp_queries.specs.Structs.{nodes_around, schema_around, shape_of_struct, fields_of_struct, fields_recorded}
 use Rattle.capnp_queries.specs.declared.structs.StructSchema.{StructSchema}
@@ -44,6 +45,18 @@ body_of_place (F.Void offset) = void_slot offset
 body_of_place (F.Plain ty offset bits) = plain_slot (plain_of ty) (width (plain_of ty) * offset) bits
 body_of_place (F.Pointer index ty default) = pointer_slot index (ty_of ty) (default_tree (option_map value_of (option_copied default)))
 body_of_place (F.Group g) = group_slot (shape_of_struct g)
+
+-- The plain type is of the set of the nodes, if it is an enum.
+abbrev pub is_plain_of : List Node → Plain → Bool
+is_plain_of nodes (P.Enum raw) = is_at is_enum_node nodes raw.number raw.id
+is_plain_of nodes _ = true
+
+-- What the place names is of the set of the nodes.
+abbrev pub IsPlaceIn : List Node → FieldPlace → Type 0
+IsPlaceIn nodes (F.Void offset) = ⊤
+IsPlaceIn nodes (F.Plain ty offset bits) = is_plain_of nodes ty ≡ true
+IsPlaceIn nodes (F.Pointer index ty default) = is_type_of nodes ty ≡ true
+IsPlaceIn nodes (F.Group g) = nodes_around g ≡ nodes
 
 -- The field of an index of the struct was found, or none where there is no index.
 pub record IsFieldAt (s : StructSchema) (place : Option ℕ) (found : Option Field) : Type 0 where

@@ -78,10 +78,7 @@ impl<'a> EnumSchema<'a> {
     pub fn get_annotations(self) -> Result<AnnotationList<'a>>
         ensures { IsOkAnd result (λ list. (nodes_of list.set.now ≡ nodes_of_enum self.entry) × (map annotation_of list.annotations.now ≡ annotations_found (nodes_of_enum self.entry) (enum_id self.entry))) }
     {
-        Ok(AnnotationList::new(
-            self.set,
-            &self.set.enum_node(self.raw).annotations,
-        ))
+        Ok(AnnotationList::new(self.set, &self.set.enum_node(self.raw).annotations))
     }
 }
 

@@ -33,7 +33,7 @@ impl<'a> Field<'a> {
     ghost use Rattle.capnp_queries.specs.Types.{ty_of, is_type_of};
     ghost use Rattle.capnp_queries.specs.Fields.{field_count, type_of_body};
     ghost use Rattle.capnp_queries.specs.Structs.{nodes_around, fields_of_struct, fields_recorded};
-    ghost use Rattle.capnp_queries.specs.Handles.{entry_of, IsFieldRecord, body_of_place};
+    ghost use Rattle.capnp_queries.specs.Handles.{entry_of, IsFieldRecord, body_of_place, IsPlaceIn};
 
     pub(crate) fn new(parent: StructSchema<'a>, index: u16) -> Field<'a>
         requires { index < field_count (fields_of_struct parent) }
@@ -86,7 +86,8 @@ impl<'a> Field<'a> {
 
     /// Where the field lies in its struct, with its default, or the group that it is.
     pub fn place(&self) -> FieldPlace<'a>
-        ensures { option_map (λ e. e.body) (entry_of self.now) ≡ Some (body_of_place result) }
+        ensures body { option_map (λ e. e.body) (entry_of self.now) ≡ Some (body_of_place result) }
+        ensures of_set { IsPlaceIn (nodes_around self.now.parent) result }
     {
         let set = self.parent.set();
         match &self.get_proto().body {

@@ -146,11 +146,7 @@ impl Type {
         self.list_count > 0
             || matches!(
                 self.base,
-                Base::Text
-                    | Base::Data
-                    | Base::Struct(_)
-                    | Base::AnyPointer
-                    | Base::Capability
+                Base::Text | Base::Data | Base::Struct(_) | Base::AnyPointer | Base::Capability
             )
     }
 

@@ -6,6 +6,7 @@ pub mod enumerants;
 pub mod enums;
 pub mod fields;
 pub mod introspect;
+pub mod laws;
 mod named;
 pub mod slots;
 pub mod structs;

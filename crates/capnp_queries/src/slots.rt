@@ -5,7 +5,7 @@ ghost use Rattle.capnp_model.specs.Schemas.{plain, type_of};
 ghost use Rattle.capnp_model.specs.Accepted.{default_bits, names_its_sort, slot_body};
 ghost use Rattle.capnp_records.specs.NodeViews.{base_of, type_record_of, value_of};
 ghost use Rattle.capnp_records.specs.Sets.{nodes_of};
-ghost use Rattle.capnp_queries.specs.Handles.{body_of_place};
+ghost use Rattle.capnp_queries.specs.Handles.{body_of_place, IsPlaceIn};
 
 use crate::introspect::{Type, TypeVariant};
 use crate::named::type_in;
@@ -53,7 +53,9 @@ pub enum FieldPlace<'a> {
         default: Option<&'a Value>,
     },
     /// In the same two sections, under the schema of the group.
-    Group { schema: StructSchema<'a> },
+    Group {
+        schema: StructSchema<'a>,
+    },
 }
 
 /// The bits of a plain default.
@@ -83,7 +85,8 @@ pub(crate) fn slot_place<'a>(
     default: Option<&'a Value>,
 ) -> FieldPlace<'a>
     requires { names_its_sort (nodes_of set.now) (base_of base.base) ≡ true }
-    ensures { body_of_place result ≡ slot_body offset (type_of (type_record_of base)) (option_map value_of (option_copied default.entry)) }
+    ensures of_set { IsPlaceIn (nodes_of set.now) result }
+    ensures body { body_of_place result ≡ slot_body offset (type_of (type_record_of base)) (option_map value_of (option_copied default.entry)) }
 {
     let named = type_in(set, base);
     let ty = match named.which() {

@@ -159,10 +159,7 @@ impl<'a> StructSchema<'a> {
     pub fn get_annotations(self) -> Result<AnnotationList<'a>>
         ensures { IsOkAnd result (λ list. (nodes_of list.set.now ≡ nodes_around self.entry) × (map annotation_of list.annotations.now ≡ annotations_recorded self.entry)) }
     {
-        Ok(AnnotationList::new(
-            self.set,
-            &self.set.struct_node(self.raw).annotations,
-        ))
+        Ok(AnnotationList::new(self.set, &self.set.struct_node(self.raw).annotations))
     }
 }
 

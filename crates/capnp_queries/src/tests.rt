@@ -164,18 +164,54 @@ fn fields_have_places(rt: HostRuntime) -> Result<(), Fail> {
     let raw = set.struct_or_group_by_id(1).ok_or("struct")?;
     let schema = StructSchema::new(&set, raw);
     let a = schema.get_field_by_name("a")?.place();
-    assert!(rt; matches!(a, FieldPlace::Plain { ty: PlainType::UInt16, offset: 0, default_bits: 7 }));
+    assert!(rt;
+        matches!(
+            a,
+            FieldPlace::Plain {
+                ty: PlainType::UInt16,
+                offset: 0,
+                default_bits: 7
+            }
+        )
+    );
     let e = schema.get_field_by_name("e")?;
-    assert!(rt; matches!(e.place(), FieldPlace::Plain { ty: PlainType::Enum(_), offset: 1, default_bits: 1 }));
+    assert!(rt;
+        matches!(
+            e.place(),
+            FieldPlace::Plain {
+                ty: PlainType::Enum(_),
+                offset: 1,
+                default_bits: 1
+            }
+        )
+    );
     assert!(rt; matches!(e.get_type().which(), TypeVariant::Enum(_)));
     let t = schema.get_field_by_name("t")?.place();
-    assert!(rt; matches!(t, FieldPlace::Pointer { index: 0, default: None, .. }));
+    assert!(rt;
+        matches!(
+            t,
+            FieldPlace::Pointer {
+                index: 0,
+                default: None,
+                ..
+            }
+        )
+    );
     let g = schema.get_field_by_name("g")?;
     let FieldPlace::Group { schema: inner } = g.place() else {
         return Err("group".into());
     };
     let z = inner.get_field_by_name("z")?.place();
-    assert!(rt; matches!(z, FieldPlace::Plain { ty: PlainType::Int32, offset: 2, default_bits: 4294967295 }));
+    assert!(rt;
+        matches!(
+            z,
+            FieldPlace::Plain {
+                ty: PlainType::Int32,
+                offset: 2,
+                default_bits: 4294967295
+            }
+        )
+    );
     assert!(rt; set.holds(g.get_type()));
     assert!(rt; !set.holds(RawBrandedStructSchema::new(0, 2)));
     Ok(())
@@ -215,7 +251,10 @@ fn types_and_annotations(rt: HostRuntime) -> Result<(), Fail> {
     let list = Type::list_of(bool::introspect());
     assert_eq!(rt; list.which(), TypeVariant::List(bool::introspect()));
     assert_eq!(rt; list.list_count(), 1);
-    assert_eq!(rt; bool::introspect().expected_element_size(), ElementSize::Bit);
+    assert_eq!(rt;
+        bool::introspect().expected_element_size(),
+        ElementSize::Bit
+    );
     assert_eq!(rt; list.expected_element_size(), ElementSize::Pointer);
     assert!(rt; list.is_pointer_type() && !bool::introspect().is_pointer_type());
     assert!(rt; Type::from(TypeVariant::UInt8).loose_equals(u8::introspect()));

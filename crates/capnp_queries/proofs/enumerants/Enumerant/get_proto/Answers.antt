@@ -1,6 +1,5 @@
 use Rattle.std.proofs.Common.{◌≡◌, ◌<◌, ℕ, map, length, sym, ◌∙◌, ap, subst}
 use Rattle.capnp_records.specs.NodeViews.{enumerant_of}
-use Rattle.capnp_queries.specs.Enums.{IsEnumerantRecord}
 use Rattle.capnp_queries.proofs.Records.{length_map}
 use Rattle.capnp_queries.proofs.EnumRecords.{recorded_are, enumerant_known}
 use Rattle.capnp_queries.proofs.enumerants.Enumerant.get_proto.Goals as goal
@@ -11,4 +10,4 @@ returns c =
     let xs = c.records.result.now in
     let count = ap length (recorded_are parent (map enumerant_of xs) c.records.ensures) ∙ length_map enumerant_of xs in
     let lt = subst (λ (n : ℕ). c.args.self.ordinal < n) count c.args.self.inside in
-    subst (λ x. IsEnumerantRecord parent c.args.self.ordinal (enumerant_of x)) c.index-records-self.is (enumerant_known parent xs c.records.ensures c.args.self.ordinal c.index-records-self.result lt c.index-records-self.is)
+    enumerant_known parent xs c.records.ensures c.args.self.ordinal c.index-records-self.result lt c.index-records-self.is
