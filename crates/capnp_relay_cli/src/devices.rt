@@ -1,5 +1,5 @@
 //! Devices that fail after some bytes.
-ghost use Rattle.std.specs.Prelude.{◌≡◌};
+ghost use Rattle.std.specs.Prelude.{◌≡◌, []};
 ghost use Rattle.capnp_units.specs.declared.kinds.ErrorKind.{ErrorKind};
 
 use crate::sinks::Flush;
@@ -85,6 +85,8 @@ impl Write for Device {
 }
 
 impl Flush for Device {
+    ghost held = { λ _. [] };
+
     fn flush(&mut self) -> Result<()> {
         if self.flushes {
             return Ok(());

@@ -1,5 +1,7 @@
 //! The program but for its streams.
-ghost use Rattle.std.specs.Prelude.{◌≤◌};
+ghost use Rattle.std.specs.Prelude.{◌≡◌, ◌≤◌, [], OnOk};
+ghost use Rattle.capnp_relay.specs.Streams.{source_seen, sink_seen, streams};
+ghost use Rattle.capnp_relay_cli.specs.Program.{RelaysAll};
 
 use crate::settings::{ROOT, Stop, calls, options, schema};
 use crate::sinks::Flush;
@@ -15,7 +17,14 @@ fn relay_all<R: BufRead, W: Flush, L: Flush>(
     source: &mut R,
     out: &mut W,
     log: &mut L,
-) -> Result<(), Stop> {
+) -> Result<(), Stop>
+    ensures run { OnOk result (RelaysAll W.may_grow L.may_grow
+        (streams (source_seen R.remaining R.failures source.old)
+        (sink_seen W.contents W.failures W.room out.old) (sink_seen L.contents L.failures L.room log.old))
+        (streams (source_seen R.remaining R.failures source.new)
+        (sink_seen W.contents W.failures W.room out.new) (sink_seen L.contents L.failures L.room log.new))) }
+    ensures flushed { OnOk result ((W.held out.new ≡ []) × (L.held log.new ≡ [])) }
+{
     let set = schema(alloc)?;
     let Some(raw) = set.plain_struct_by_id(ROOT) else {
         return Err(Stop::Root);
@@ -54,7 +63,13 @@ pub fn program<R: BufRead, W: Flush, L: Flush>(
     out: &mut W,
     log: &mut L,
 ) -> u8
-    ensures { result ≤ 1 }
+    ensures status { result ≤ 1 }
+    ensures run { result ≡ 0 → RelaysAll W.may_grow L.may_grow
+        (streams (source_seen R.remaining R.failures source.old)
+        (sink_seen W.contents W.failures W.room out.old) (sink_seen L.contents L.failures L.room log.old))
+        (streams (source_seen R.remaining R.failures source.new)
+        (sink_seen W.contents W.failures W.room out.new) (sink_seen L.contents L.failures L.room log.new)) }
+    ensures flushed { result ≡ 0 → (W.held out.new ≡ []) × (L.held log.new ≡ []) }
 {
     match relay_all(alloc, source, out, log) {
         Ok(()) => 0,

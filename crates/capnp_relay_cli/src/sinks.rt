@@ -1,5 +1,8 @@
 //! Sinks that hold bytes back.
+ghost use Rattle.std.specs.Prelude.{◌≡◌, ℕ, List, [], OnOk};
 ghost use Rattle.std.specs.Io.KnownBytes.{Keeps};
+ghost use Rattle.std.specs.Io.Buffered.{writer_buffer};
+ghost use Rattle.capnp_stream.specs.Adapters.{sink_inner};
 ghost use Rattle.capnp_stream.specs.Counting.{Counts};
 
 use capnp_stream::adapters::Sink;
@@ -10,13 +13,19 @@ use std::io::BufWriter;
 
 /// A sink that may hold bytes back.
 pub trait Flush: Write {
-    /// Hands on what is held back.
+    /// The bytes that are held back.
+    ghost held: { Self → List ℕ };
+
+    /// Hands on what is held back, all of it where it is Ok.
     fn flush(&mut self) -> Result<()>
+        ensures empty { OnOk result (held self.new ≡ []) }
         ensures kept { Keeps (Self.contents self.old) (Self.contents self.new) }
         ensures count { Counts result (Self.failures self.old) (Self.failures self.new) };
 }
 
 impl<S: io::Write + Drop> Flush for Sink<BufWriter<S>> {
+    ghost held = { λ s. writer_buffer (sink_inner s) };
+
     fn flush(&mut self) -> Result<()> {
         self.flush()
     }
