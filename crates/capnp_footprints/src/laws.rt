@@ -11,6 +11,7 @@ ghost use Rattle.capnp_model.specs.Encoding.{struct_pointer};
 ghost use Rattle.capnp_footprints.specs.Footprints.{footprint, Owns, OwnsObject};
 ghost use Rattle.capnp_footprints.specs.Changes.{Changes, Replaces, ReplacesObject, ZeroBeside};
 ghost use Rattle.capnp_footprints.specs.Elements.{element_at, with_element};
+ghost use Rattle.capnp_footprints.specs.NewObjects.{pointed, pointed_far};
 ghost use Rattle.capnp_footprints.specs.Writes.{spliced, with_words, with_zeros, segment_end};
 
 /// A value may be replaced again and again, no word of it is taken twice afterwards, and the words beside it that were zero are.
@@ -112,17 +113,14 @@ pub fn elements_of_lists()
 /// A null pointer gets a new struct of zeros and nulls: one without words lies at the pointer itself, another behind the end of the pointer's segment, or in any segment behind a pad of one word. Nothing else changes.
 pub fn new_structs()
     ensures empty { (n : ℕ) (s : Segments) (p : Place) → word_at s p ≡ Some 0
-        → Replaces (suc n) s (with_words s p (struct_pointer (2 ^ 30 - 1) 0 0
-        ∷ [])) p (structure 0 0 none) }
+        → Replaces (suc n) s (pointed s p (struct_pointer (2 ^ 30 - 1) 0 0)) p (structure 0 0 none) }
     ensures near { (n : ℕ) (s : Segments) (p : Place) (d k offset : ℕ) → p.segment < length s
         → word_at s p ≡ Some 0 → 0 < d + k → p.position + 1 + offset ≡ segment_end s p.segment
         → offset < 2 ^ 29 → d < 2 ^ 16 → k < 2 ^ 16
-        → Replaces (suc n) s (with_words (with_zeros s p.segment (d + k)) p
-        (struct_pointer offset d k ∷ [])) p (structure d 0 (resized k none)) }
+        → Replaces (suc n) s (pointed (with_zeros s p.segment (d + k)) p (struct_pointer offset d k))
+            p (structure d 0 (resized k none)) }
     ensures far { (n : ℕ) (s : Segments) (p : Place) (i d k : ℕ) → i ≤ length s → i < 2 ^ 32
         → word_at s p ≡ Some 0 → segment_end s i < 2 ^ 29 → d < 2 ^ 16 → k < 2 ^ 16
-        → Replaces (suc n) s (with_words (with_words (with_zeros s i (1 + (d + k))) (place i
-        (segment_end s i)) (struct_pointer 0 d k
-        ∷ [])) p ((2 + 8 * segment_end s i + 2 ^ 32 * i)
-        ∷ [])) p (structure d 0 (resized k none)) }
+        → Replaces (suc n) s (pointed_far (with_zeros s i (1 + (d + k))) p
+            (place i (segment_end s i)) (struct_pointer 0 d k)) p (structure d 0 (resized k none)) }
 {}
