@@ -1,6 +1,6 @@
 //! Sinks that hold bytes back.
 ghost use Rattle.std.specs.Io.KnownBytes.{Keeps};
-ghost use Rattle.capnp_stream.specs.Counting.{Counts};
+ghost use Rattle.capnp_io.specs.Counting.{Counts};
 
 use capnp_stream::adapters::Sink;
 use capnp_stream::traits::Write;
