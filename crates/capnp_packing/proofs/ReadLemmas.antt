@@ -11,7 +11,7 @@ use Rattle.std.specs.Io.KnownBytes.{Keeps, Consumes}
 use Rattle.std.proofs.KnownBytes.{Consumes-nil, Consumes-kept}
 use Rattle.capnp_units.specs.declared.kinds.ErrorKind.{ErrorKind}
 use Rattle.capnp_units.specs.declared.kinds.ErrorKind.TheVariants.{Device}
-use Rattle.capnp_stream.specs.Streams.{Drops}
+use Rattle.capnp_io.specs.Streams.{Drops}
 use Rattle.capnp_packing.specs.Parts.{Leads, Refuses, with_front}
 use Rattle.capnp_packing.specs.Runs.{run_view, NeedsBytes}
 use Rattle.capnp_packing.specs.Steps.{Unpacks, Reads}

@@ -4,7 +4,7 @@ use Rattle.std.specs.declared.option.Option.{Option}
 use Rattle.std.specs.Io.KnownBytes.{Appends}
 use Rattle.capnp_model.specs.Packing.{next, packed_from}
 use Rattle.capnp_stream.specs.Segments.{whole_words}
-use Rattle.capnp_stream.specs.Streams.{RoomFalls}
+use Rattle.capnp_io.specs.Streams.{RoomFalls}
 
 -- The written spelling of further words of a piece, from a group on.
 unfoldable pub packed_on : List ℕ → List ℕ

@@ -3,7 +3,7 @@ ghost use Rattle.std.specs.Prelude.{◌≡◌, ◌↔◌, [], IfSome, IfOk, IfEr
 ghost use Rattle.std.specs.Io.KnownBytes.{Keeps};
 ghost use Rattle.capnp_units.specs.Errors.{kind_of};
 ghost use Rattle.capnp_units.specs.declared.kinds.ErrorKind.{ErrorKind};
-ghost use Rattle.capnp_stream.specs.Counting.{Counts};
+ghost use Rattle.capnp_io.specs.Counting.{Counts};
 ghost use Rattle.capnp_packing.specs.Parts.{Takes, Refuses, TakesByte, IsEndKind, byte_or};
 
 use capnp_stream::traits::{BufRead, Read};

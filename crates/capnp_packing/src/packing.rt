@@ -2,9 +2,9 @@
 ghost use Rattle.std.specs.Prelude.{◌≡◌, ◌≤◌, ◌<◌, ◌%◌, length, IfOk, IfErr, OnOk, OnErr};
 ghost use Rattle.std.specs.Io.KnownBytes.{Appends};
 ghost use Rattle.capnp_model.specs.Packing.{packed};
-ghost use Rattle.capnp_stream.specs.Counting.{Counts};
+ghost use Rattle.capnp_io.specs.Counting.{Counts};
 ghost use Rattle.capnp_stream.specs.Segments.{whole_words};
-ghost use Rattle.capnp_stream.specs.Streams.{AppendsPart, RoomFalls, IsWriteRefusal};
+ghost use Rattle.capnp_io.specs.Streams.{AppendsPart, RoomFalls, IsWriteRefusal};
 ghost use Rattle.capnp_packing.specs.Written.{packed_on, WritesUpTo};
 
 use crate::written::pack_groups;

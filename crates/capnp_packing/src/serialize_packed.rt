@@ -7,7 +7,7 @@ ghost use Rattle.capnp_stream.specs.Reading.{TriesMessage, ReadsMessage, source_
 ghost use Rattle.capnp_stream.specs.Filling.{TriesFilling, FillsMessage};
 ghost use Rattle.capnp_packing.specs.Streams.{is_packed_fault};
 ghost use Rattle.capnp_stream.specs.Writing.{IsSegment, AreWritable};
-ghost use Rattle.capnp_stream.specs.Writes.{Writes, sink_seen};
+ghost use Rattle.capnp_io.specs.Writes.{Writes, sink_seen};
 
 use crate::form::Packed;
 use capnp_stream::buffers::NoAllocSliceSegments;

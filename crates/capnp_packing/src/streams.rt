@@ -4,10 +4,10 @@ ghost use Rattle.std.specs.Io.{ReadsAtMost};
 ghost use Rattle.std.specs.Io.KnownBytes.{Keeps, Consumes, Appends, ReadConsumes, IsAtEnd};
 ghost use Rattle.capnp_units.specs.declared.kinds.ErrorKind.{ErrorKind};
 ghost use Rattle.capnp_model.specs.Packing.{packed, unpacked};
-ghost use Rattle.capnp_stream.specs.Counting.{Counts};
+ghost use Rattle.capnp_io.specs.Counting.{Counts};
 ghost use Rattle.capnp_stream.specs.Pieces.{TakesPiece, TakesPieceStart, IsPieceFault};
 ghost use Rattle.capnp_stream.specs.Segments.{whole_words};
-ghost use Rattle.capnp_stream.specs.Streams.{AppendsPart, ConsumesFewer, EndsBefore, RoomFalls, IsWriteRefusal};
+ghost use Rattle.capnp_io.specs.Streams.{AppendsPart, ConsumesFewer, EndsBefore, RoomFalls, IsWriteRefusal};
 ghost use Rattle.capnp_packing.specs.Streams.{IsUnpackingKind};
 
 use crate::bytes::is_at_end;

@@ -5,7 +5,7 @@ ghost use Rattle.std.specs.Io.KnownBytes.{Keeps};
 ghost use Rattle.capnp_units.specs.declared.kinds.ErrorKind.{ErrorKind};
 ghost use Rattle.capnp_model.specs.Bytes.{taken};
 ghost use Rattle.capnp_model.specs.Packing.{byte_at, run_at, with_word, unpacked_from, unpacked};
-ghost use Rattle.capnp_stream.specs.Counting.{Counts};
+ghost use Rattle.capnp_io.specs.Counting.{Counts};
 ghost use Rattle.capnp_stream.specs.Segments.{whole_words};
 ghost use Rattle.capnp_packing.specs.Parts.{Leads, Takes, Refuses, count_at, tagged};
 ghost use Rattle.capnp_packing.specs.Runs.{run_view, IsOver};

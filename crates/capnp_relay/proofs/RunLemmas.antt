@@ -10,7 +10,7 @@ use Rattle.capnp_model.specs.Answers.{Answer, refused_value, refused_root, refus
 use Rattle.capnp_model.specs.Runs.{BeginWith, AnswerEach, output_of, outputs_of, line_of, lines_of}
 use Rattle.capnp_stream.specs.Pieces.{ReadsFronts}
 use Rattle.capnp_stream.proofs.PieceLemmas.{message_more}
-use Rattle.capnp_stream.specs.Streams.{RoomFalls}
+use Rattle.capnp_io.specs.Streams.{RoomFalls}
 use Rattle.capnp_relay.specs.declared.ends.Counts.{Counts}
 use Rattle.capnp_relay.specs.Answers.{written_one, refused_one}
 use Rattle.capnp_relay.specs.Streams.{Streams, SinkSeen, SinkTakes}

@@ -3,8 +3,8 @@ use Rattle.std.proofs.Common.{◌≡◌, ◌≢◌, ℕ, ◌+◌, ◌-◌, ◌^�
 use Rattle.std.specs.Prelude.{◌⊎◌}
 use Rattle.capnp_units.specs.declared.kinds.ErrorKind.{ErrorKind}
 use Rattle.capnp_units.specs.declared.kinds.ErrorKind.TheVariants.{OutOfMemory, BufferNotLargeEnough, Device}
-use Rattle.capnp_stream.specs.Counting.{KindCounts}
-use Rattle.capnp_stream.specs.Streams.{IsWriteRefusal}
+use Rattle.capnp_io.specs.Counting.{KindCounts}
+use Rattle.capnp_io.specs.Streams.{IsWriteRefusal}
 use Rattle.capnp_stream.specs.Frames.{TakesMessage}
 use Rattle.capnp_stream.proofs.FrameLemmas.{TakesPart-of_message}
 use Rattle.capnp_model.specs.Segments.{Segments}

@@ -4,7 +4,7 @@ use Rattle.capnp_model.specs.Segments.{Segments}
 use Rattle.capnp_model.specs.Messages.{spelled}
 use Rattle.capnp_model.specs.Answers.{Answer, Reply, written}
 use Rattle.capnp_model.specs.Runs.{line_of, output_of}
-use Rattle.capnp_stream.specs.Counting.{Rose}
+use Rattle.capnp_io.specs.Counting.{Rose}
 use Rattle.capnp_stream.specs.Frames.{IsFrameFault, IsFramingKind, TakesMessage, TakesPart}
 use Rattle.capnp_relay.specs.declared.ends.Counts.{Counts}
 use Rattle.capnp_relay.specs.declared.ends.Fault.{Fault}

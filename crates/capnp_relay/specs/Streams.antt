@@ -2,10 +2,10 @@
 use Rattle.std.specs.Prelude.{◌≡◌, ℕ, ◌<◌, List, length, ◌⊎◌, IsSomeAnd}
 use Rattle.std.specs.declared.option.Option.{Option}
 use Rattle.std.specs.Io.KnownBytes.{Keeps, Appends}
-use Rattle.capnp_stream.specs.Counting.{Rose}
-use Rattle.capnp_stream.specs.Streams.{AppendsPart, RoomFalls}
+use Rattle.capnp_io.specs.Counting.{Rose}
+use Rattle.capnp_io.specs.Streams.{AppendsPart, RoomFalls}
 pub use Rattle.capnp_stream.specs.Reading.{SourceSeen, source_seen}
-pub use Rattle.capnp_stream.specs.Writes.{SinkSeen, sink_seen}
+pub use Rattle.capnp_io.specs.Writes.{SinkSeen, sink_seen}
 
 -- What is seen of the source, the output and the log.
 pub record Streams : Type 0 where

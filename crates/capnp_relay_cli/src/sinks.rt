@@ -2,8 +2,8 @@
 ghost use Rattle.std.specs.Prelude.{◌≡◌, ℕ, List, [], OnOk};
 ghost use Rattle.std.specs.Io.KnownBytes.{Keeps};
 ghost use Rattle.std.specs.Io.Buffered.{writer_buffer};
-ghost use Rattle.capnp_stream.specs.Adapters.{sink_inner};
-ghost use Rattle.capnp_stream.specs.Counting.{Counts};
+ghost use Rattle.capnp_io.specs.Adapters.{sink_inner};
+ghost use Rattle.capnp_io.specs.Counting.{Counts};
 
 use capnp_stream::adapters::Sink;
 use capnp_stream::traits::Write;

@@ -17,7 +17,7 @@ use Rattle.capnp_stream.specs.Pieces.{EndsEarly, EachIsNeeded, ReadsFronts, Take
 use Rattle.capnp_stream.specs.Frames.{IsFrameFault, HasNoMessage, TakesMessage, TakesStart, TakesPart, TakesTable, IsFramingKind, IsCut}
 use Rattle.capnp_stream.specs.Flat.{table_bytes}
 use Rattle.capnp_stream.specs.Lent.{NeedsMore}
-use Rattle.capnp_stream.proofs.KnownLemmas.{IfSome-of_front, IfSome-of_behind, Consumes-of_kept}
+use Rattle.capnp_io.proofs.KnownLemmas.{IfSome-of_front, IfSome-of_behind, Consumes-of_kept}
 use Rattle.capnp_stream.proofs.EarlyLemmas.{early-same, early-then, early-guard, early-none, wants-some, none-needed, needed-joined}
 use Rattle.capnp_stream.proofs.PieceLemmas.{err_then, guard_err, message_more}
 

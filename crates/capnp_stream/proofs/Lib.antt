@@ -1,5 +1,3 @@
-pub mod Filling
-pub mod KnownLemmas
 pub mod WordLemmas
 pub mod EarlyLemmas
 pub mod PieceLemmas

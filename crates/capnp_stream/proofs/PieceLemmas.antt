@@ -14,7 +14,7 @@ use Rattle.capnp_model.specs.Bytes.{words_in_bytes, bytes_of_words, taken}
 use Rattle.capnp_model.specs.Messages.{Reader, within, plain_words, halves, behind_lengths, behind_first, message_at}
 use Rattle.capnp_model.proofs.Chaining.{ok_is, ok_then, bind_ok}
 use Rattle.capnp_model.proofs.ByteWords.{taken_front}
-use Rattle.capnp_stream.specs.Streams.{ConsumesFewer, EndsBefore}
+use Rattle.capnp_io.specs.Streams.{ConsumesFewer, EndsBefore}
 use Rattle.capnp_stream.specs.Pieces.{EachIsNeeded, ReadsFronts, TakesPiece, TakesPieceStart, IsPieceFault}
 use Rattle.capnp_stream.specs.Frames.{IsCut}
 use Rattle.capnp_stream.proofs.EarlyLemmas.{EndsEarly-of}

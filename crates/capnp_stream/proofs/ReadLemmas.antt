@@ -8,13 +8,13 @@ use Rattle.capnp_units.specs.declared.errors.Error.{Error}
 use Rattle.capnp_units.specs.declared.kinds.ErrorKind.{ErrorKind}
 use Rattle.capnp_units.specs.declared.kinds.ErrorKind.TheVariants.{OutOfMemory, PrematureEndOfFile, Device}
 use Rattle.capnp_model.specs.Messages.{Reader}
-use Rattle.capnp_stream.specs.Counting.{KindCounts}
+use Rattle.capnp_io.specs.Counting.{KindCounts}
 use Rattle.capnp_stream.specs.Pieces.{ReadsFronts}
 use Rattle.capnp_stream.specs.Frames.{IsFrameFault, TakesStart, TakesWholePieces, TakesTable, IsFramingKind, IsReadKind, IsCut}
 use Rattle.capnp_stream.specs.Reading.{TriesMessage, ReadsMessage}
 use Rattle.capnp_stream.specs.Lent.{IsFillKind}
 use Rattle.capnp_stream.specs.Filling.{TriesFilling, FillsMessage}
-use Rattle.capnp_stream.proofs.KnownLemmas.{Consumes-of_kept}
+use Rattle.capnp_io.proofs.KnownLemmas.{Consumes-of_kept}
 use Rattle.capnp_stream.proofs.FrameLemmas.{part-of_kept, TakesStart-of_kept, fault-of_kept}
 
 module _ (read : Reader) (limit : Option ℕ) where

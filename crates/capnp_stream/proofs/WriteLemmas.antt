@@ -13,7 +13,7 @@ use Rattle.capnp_units.specs.Segments.{whole_words, words_in}
 use Rattle.capnp_stream.specs.Writing.{IsSegment, AreWritable}
 use Rattle.capnp_model.specs.Segments.{Segments}
 use Rattle.capnp_model.specs.Messages.{Writer, paired, spelled, frame}
-use Rattle.capnp_stream.specs.Streams.{RoomFalls, IsWriteRefusal}
+use Rattle.capnp_io.specs.Streams.{RoomFalls, IsWriteRefusal}
 use Rattle.std.proofs.lemmas.List.Elements.{All-map, All-replicate}
 use Rattle.std.specs.Prelude.{All, replicate}
 use Rattle.std.proofs.lemmas.Grind.{flat_map-append}

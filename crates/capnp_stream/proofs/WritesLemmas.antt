@@ -2,9 +2,9 @@
 use Rattle.std.proofs.Common.{◌≡◌, ◌⊎◌, ℕ, List, [], ◌++◌, length, Result, Ok, Err, subst, ◌∙◌, refl}
 use Rattle.std.proofs.KnownBytes.{Appends-trans, Appends-nil}
 use Rattle.capnp_units.specs.declared.errors.Error.{Error}
-use Rattle.capnp_stream.specs.Counting.{KindCounts}
-use Rattle.capnp_stream.specs.Writes.{SinkSeen, Writes}
-use Rattle.capnp_stream.proofs.KnownLemmas.{AppendsPart-more, AppendsPart-next}
+use Rattle.capnp_io.specs.Counting.{KindCounts}
+use Rattle.capnp_io.specs.Writes.{SinkSeen, Writes}
+use Rattle.capnp_io.proofs.KnownLemmas.{AppendsPart-more, AppendsPart-next}
 use Rattle.capnp_stream.proofs.WriteLemmas.{RoomFalls-none, RoomFalls-next, IsWriteRefusal-first, IsWriteRefusal-next, IsWriteRefusal-or}
 
 pub writes-nothing : (grows : Type 0) (a : SinkSeen) → Writes grows [] a (Ok tt) a

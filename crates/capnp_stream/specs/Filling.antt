@@ -9,7 +9,7 @@ use Rattle.capnp_units.specs.declared.errors.Error.{Error}
 use Rattle.capnp_units.specs.declared.kinds.ErrorKind.{ErrorKind}
 use Rattle.capnp_units.specs.declared.kinds.ErrorKind.TheVariants.{BufferNotLargeEnough, PrematureEndOfFile}
 use Rattle.capnp_model.specs.Messages.{Reader}
-use Rattle.capnp_stream.specs.Counting.{Counts}
+use Rattle.capnp_io.specs.Counting.{Counts}
 use Rattle.capnp_stream.specs.Frames.{IsFrameFault, TakesMessage, TakesStart, IsFramingKind}
 use Rattle.capnp_stream.specs.Reading.{SourceSeen}
 use Rattle.capnp_stream.specs.Buffers.{found_segments}

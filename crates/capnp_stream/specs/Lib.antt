@@ -1,7 +1,3 @@
-pub mod Counting
-pub mod Streams
-pub mod Adapters
-pub mod SliceWriters
 pub mod Ranges
 pub mod Segments
 pub mod Pieces
@@ -9,7 +5,6 @@ pub mod Fronts
 pub mod Frames
 pub use Rattle.capnp_units.specs.Errors
 pub mod Writing
-pub mod Writes
 pub mod Reading
 pub mod Flat
 pub mod Buffers

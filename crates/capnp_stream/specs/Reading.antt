@@ -9,7 +9,7 @@ use Rattle.capnp_units.specs.declared.kinds.ErrorKind.{ErrorKind}
 use Rattle.capnp_units.specs.declared.kinds.ErrorKind.TheVariants.{OutOfMemory, PrematureEndOfFile}
 use Rattle.capnp_model.specs.Messages.{Reader}
 use Rattle.capnp_model.specs.Spelling.{CanSpell}
-use Rattle.capnp_stream.specs.Counting.{Counts}
+use Rattle.capnp_io.specs.Counting.{Counts}
 use Rattle.capnp_stream.specs.Frames.{IsFrameFault, TakesMessage, TakesStart, TakesWholePieces, IsFramingKind, IsReadKind}
 use Rattle.capnp_stream.specs.Segments.{owned_bytes, segment_bytes, segments_of}
 use Rattle.capnp_stream.specs.Writing.{AreWritable}

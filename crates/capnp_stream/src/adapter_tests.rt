@@ -1,8 +1,8 @@
 //! Readers and writers of a program that are interrupted, end and fail.
-use crate::adapters::{Sink, Source};
+use capnp_io::adapters::{Sink, Source};
 use crate::frames::try_read_message;
 use crate::tests::{TWO, WRITTEN, expect_two};
-use crate::traits::{BufRead, Read, Write};
+use capnp_io::traits::{BufRead, Read, Write};
 use crate::writing::write_segment;
 use capnp_units::errors::Error;
 use capnp_units::kinds::ErrorKind;

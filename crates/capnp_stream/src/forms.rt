@@ -3,12 +3,12 @@ ghost use Rattle.std.specs.Prelude.{◌≡◌, ◌/◌, ◌%◌, length, IfErr, 
 ghost use Rattle.capnp_units.specs.declared.kinds.ErrorKind.{ErrorKind};
 ghost use Rattle.capnp_model.specs.Bytes.{bytes_of_words};
 ghost use Rattle.capnp_model.specs.Messages.{Reader, Writer, plain_words};
-ghost use Rattle.capnp_stream.specs.Counting.{Counts};
+ghost use Rattle.capnp_io.specs.Counting.{Counts};
 ghost use Rattle.capnp_stream.specs.Pieces.{ReadsFronts, TakesPiece, TakesPieceStart, IsPieceFault, IsPieceKind, is_framed_fault};
 ghost use Rattle.capnp_stream.specs.Segments.{whole_words};
-ghost use Rattle.capnp_stream.specs.Writes.{Writes, sink_seen};
+ghost use Rattle.capnp_io.specs.Writes.{Writes, sink_seen};
 
-use crate::traits::{BufRead, Read, Write};
+use capnp_io::traits::{BufRead, Read, Write};
 use capnp_units::errors::Result;
 
 /// How words are spelled on streams, a piece at a time. The pieces of a message that is read are its first word, the rest of its table, and all segments together; of one that is written the first two, and each segment.

@@ -1,7 +1,7 @@
 //! Messages of a mebibyte, which no smaller bound of memory lets through.
 ghost use Rattle.std.specs.Prelude.{◌≡◌, ◌<◌, ◌*◌, ◌^◌, IfOk, length};
 
-use crate::adapters::{Sink, Source};
+use capnp_io::adapters::{Sink, Source};
 use crate::frames::{read_message, try_read_message};
 use crate::lent::read_message_no_alloc;
 use crate::segments::SegmentLengthsBuilder;

@@ -4,7 +4,7 @@ ghost use Rattle.std.specs.Int.{from_le_bytes, w64};
 ghost use Rattle.capnp_units.specs.declared.kinds.ErrorKind.{ErrorKind};
 ghost use Rattle.capnp_units.specs.Segments.{words_in};
 ghost use Rattle.capnp_model.specs.Messages.{plain_words, within};
-ghost use Rattle.capnp_stream.specs.Counting.{Counts};
+ghost use Rattle.capnp_io.specs.Counting.{Counts};
 ghost use Rattle.capnp_stream.specs.Pieces.{is_framed_fault};
 ghost use Rattle.capnp_stream.specs.Frames.{TellsFault, TakesMessage, TakesStart, TakesTable};
 ghost use Rattle.capnp_stream.specs.Flat.{table_lengths, table_bytes, frame_segments, Describes};
@@ -17,7 +17,7 @@ use crate::flat::{NoAllocSegmentTableInfo, words_before};
 use crate::forms::{Framed, MessageForm};
 use crate::frames::{is_at_end, is_within};
 use crate::tables::{fill_count, fill_front, fill_others};
-use crate::traits::BufRead;
+use capnp_io::traits::BufRead;
 use capnp_units::errors::{Error, Result};
 use capnp_units::kinds::ErrorKind;
 

@@ -10,10 +10,9 @@ use crate::lent::{
     read_message_no_alloc, read_message_no_alloc_in, try_read_message_no_alloc,
     try_read_message_no_alloc_in,
 };
-use crate::memory::copy_beginning;
 use crate::segments::{SegmentLengthsBuilder, words_of};
 use crate::slices::{read_message_from_flat_slice, read_message_from_flat_slice_no_alloc};
-use crate::traits::{BufRead, Read};
+use capnp_io::traits::{BufRead, Read};
 use crate::writing::{
     compute_serialized_size_in_words, write_message_segments, write_message_segments_in,
     write_message_segments_to_words, write_segment_in,
@@ -39,13 +38,9 @@ impl Read for Pieces<'_> {
 
     fn read(&mut self, buf: &mut [u8]) -> Result<usize> {
         if self.front.is_empty() {
-            let n = copy_beginning(self.back, buf);
-            self.back = &self.back[n..];
-            return Ok(n);
+            return self.back.read(buf);
         }
-        let n = copy_beginning(self.front, buf);
-        self.front = &self.front[n..];
-        Ok(n)
+        self.front.read(buf)
     }
 
     fn failures(&self) -> u64 {

@@ -5,11 +5,11 @@ ghost use Rattle.capnp_units.specs.declared.kinds.ErrorKind.{ErrorKind};
 ghost use Rattle.capnp_units.specs.Segments.{whole_words, words_in};
 ghost use Rattle.capnp_model.specs.Messages.{frame, paired, spelled};
 ghost use Rattle.capnp_stream.specs.Writing.{IsSegment, AreWritable};
-ghost use Rattle.capnp_stream.specs.Writes.{Writes, sink_seen};
+ghost use Rattle.capnp_io.specs.Writes.{Writes, sink_seen};
 
 use crate::forms::{Framed, MessageForm};
 use crate::frames::HALF;
-use crate::traits::Write;
+use capnp_io::traits::Write;
 use capnp_units::errors::Result;
 use capnp_units::segments::ReaderSegments;
 use capnp_units::sizes::SegmentId;

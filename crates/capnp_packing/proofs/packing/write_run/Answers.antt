@@ -3,7 +3,7 @@ use Rattle.std.specs.Io.KnownBytes.{Appends}
 use Rattle.std.proofs.KnownBytes.{Appends-nil}
 use Rattle.std.proofs.lemmas.Bool.{eqb-true}
 use Rattle.std.proofs.lemmas.List.{nil_from_length}
-use Rattle.capnp_stream.specs.Streams.{RoomFalls}
+use Rattle.capnp_io.specs.Streams.{RoomFalls}
 use Rattle.capnp_packing.proofs.WriteLemmas.{RoomFalls-nil}
 use Rattle.capnp_packing.proofs.packing.write_run.Goals as goal
 

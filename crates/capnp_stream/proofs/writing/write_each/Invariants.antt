@@ -1,7 +1,7 @@
 use Rattle.std.proofs.Common.{Ok, ◌-◌, length, take}
 use Rattle.std.specs.List.{flat_map}
 use Rattle.capnp_units.specs.Segments.{words_in}
-use Rattle.capnp_stream.specs.Writes.{Writes, sink_seen}
+use Rattle.capnp_io.specs.Writes.{Writes, sink_seen}
 use Rattle.capnp_stream.proofs.writing.write_each.Given as goal
 
 abbrev pub invariant-loop-bytes : goal.invariant-loop-bytes

@@ -4,7 +4,7 @@ use Rattle.std.proofs.lemmas.List.{length-map}
 use Rattle.std.proofs.lemmas.Result.{err_from_is_err_and}
 use Rattle.capnp_model.specs.Messages.{spelled}
 use Rattle.capnp_units.specs.Segments.{whole_words, words_in}
-use Rattle.capnp_stream.specs.Writes.{sink_seen}
+use Rattle.capnp_io.specs.Writes.{sink_seen}
 use Rattle.capnp_stream.proofs.WriteLemmas.{whole-text}
 use Rattle.capnp_stream.proofs.WritesLemmas.{writes-text, writes-stop, writes-then, writes-or}
 use Rattle.capnp_stream.proofs.writing.write_message_segments_in.Goals as goal

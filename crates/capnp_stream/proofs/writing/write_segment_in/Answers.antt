@@ -2,7 +2,7 @@ use Rattle.std.proofs.Common.{◌≡◌, [], ◌∷◌, ◌*◌, ◌/◌, ◌^�
 use Rattle.std.proofs.lemmas.Result.{err_from_is_err_and}
 use Rattle.capnp_units.specs.Segments.{whole_words}
 use Rattle.capnp_model.specs.Messages.{spelled}
-use Rattle.capnp_stream.specs.Writes.{sink_seen}
+use Rattle.capnp_io.specs.Writes.{sink_seen}
 use Rattle.capnp_stream.proofs.WordLemmas.{words_in_bytes-length}
 use Rattle.capnp_stream.proofs.WriteLemmas.{one-text}
 use Rattle.capnp_stream.proofs.WritesLemmas.{writes-text, writes-stop, writes-then}

@@ -1,7 +1,7 @@
 use Rattle.std.proofs.Common.{arith, ◌≡◌, [], ◌∷◌, ℕ, List, Err, Ok, subst}
 use Rattle.std.proofs.lemmas.Result.{err_from_is_err_and}
 use Rattle.capnp_units.specs.Segments.{whole_words}
-use Rattle.capnp_stream.specs.Writes.{Writes, sink_seen}
+use Rattle.capnp_io.specs.Writes.{Writes, sink_seen}
 use Rattle.capnp_stream.proofs.WriteLemmas.{word-bytes}
 use Rattle.capnp_stream.proofs.WritesLemmas.{writes-stop, writes-then}
 use Rattle.capnp_stream.proofs.writing.write_table.Goals as goal

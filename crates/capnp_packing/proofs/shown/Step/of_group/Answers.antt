@@ -1,6 +1,6 @@
 use Rattle.std.proofs.Common.{◌≡◌, ◌+◌, ◌-◌, ◌/◌, ◌<◌, ◌++◌, length, drop, sym, subst, ◌∙◌, arith, rules, take_at, length-take-le, ◌≤◌, length-drop, length-append}
 use Rattle.std.proofs.lemmas.Bool.{eqb-false}
-use Rattle.capnp_stream.proofs.Filling.{take-put_mid_more}
+use Rattle.capnp_io.proofs.Filling.{take-put_mid_more}
 use Rattle.capnp_packing.specs.Steps.{IsFirst, Unpacks}
 use Rattle.capnp_packing.specs.declared.runs.Run.{Run}
 use Rattle.capnp_packing.proofs.UnpackLemmas.{unpacks-group, Unpacks-then, rest-of}

@@ -1,5 +1,5 @@
 use Rattle.std.proofs.Common.{◌≡◌, ◌-◌, length, arith, rules, ◌∙◌}
-use Rattle.capnp_stream.proofs.Filling.{take-put_mid_more}
+use Rattle.capnp_io.proofs.Filling.{take-put_mid_more}
 use borrow.Rule.Slice.PartMut.{put_mid}
 use Rattle.capnp_packing.proofs.UnpackLemmas.{Unpacks-then, first-behind}
 use Rattle.capnp_packing.proofs.shown.Step.of_shown.Goals as goal

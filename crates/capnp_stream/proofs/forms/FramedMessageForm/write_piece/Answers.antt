@@ -1,5 +1,5 @@
 use Rattle.std.proofs.Common.{arith, sym}
-use Rattle.capnp_stream.specs.Writes.{sink_seen}
+use Rattle.capnp_io.specs.Writes.{sink_seen}
 use Rattle.capnp_stream.proofs.PieceLemmas.{plain-bytes}
 use Rattle.capnp_stream.proofs.WritesLemmas.{writes-text}
 use Rattle.capnp_stream.proofs.forms.FramedMessageForm.write_piece.Goals as goal

@@ -1,0 +1,68 @@
+//! A sink in a slice.
+ghost use Rattle.std.specs.Prelude.{◌≡◌, ◌≤◌, ◌-◌, ◌+◌, [], Some, length};
+ghost use Rattle.capnp_units.specs.declared.kinds.ErrorKind.{ErrorKind};
+
+use crate::traits::Write;
+use capnp_units::errors::{Error, Result};
+use capnp_units::kinds::ErrorKind;
+
+/// A lent slice that is written from its front on. It shows the bytes that were written.
+#[derive(Drop)]
+pub struct SliceWriter<'a> {
+    slice: &'a mut [u8],
+    written: usize,
+    ghost within: { written ≤ length slice.now },
+}
+
+impl<'a> SliceWriter<'a> {
+    ghost use Rattle.capnp_io.specs.SliceWriters.{writer_slice, writer_contents, writer_room};
+
+    /// Nothing is written yet.
+    pub fn new(slice: &'a mut [u8]) -> SliceWriter<'a>
+        ensures same_reference { (writer_slice result).ghost_name ≡ slice.entry.ghost_name }
+        ensures slice { (writer_slice result).now ≡ slice.old }
+        ensures empty { writer_contents result ≡ [] }
+        ensures room { writer_room result ≡ length slice.old }
+    {
+        SliceWriter { slice, written: 0 }
+    }
+
+    /// The bytes that were written.
+    pub fn as_slice(&self) -> &[u8]
+        ensures { result.now ≡ writer_contents self.now }
+    {
+        &self.slice[..self.written]
+    }
+
+    /// How many bytes still fit.
+    pub fn room(&self) -> usize
+        ensures { result ≡ writer_room self.now }
+    {
+        self.slice.len() - self.written
+    }
+}
+
+/// The bytes go behind those that were written. Where they don't fit none is taken.
+impl Write for SliceWriter<'_> {
+    ghost use Rattle.capnp_io.specs.SliceWriters.{writer_slice, writer_contents, writer_room};
+
+    ghost contents = { λ w. Some (writer_contents w) };
+
+    ghost failures = { λ _. 0 };
+
+    ghost room = { λ w. Some (writer_room w) };
+
+    fn write_all(&mut self, buf: &[u8]) -> Result<()> {
+        if self.room() < buf.len() {
+            return Err(Error::from(ErrorKind::BufferNotLargeEnough));
+        }
+        let end = self.written + buf.len();
+        self.slice[self.written..end].copy_from_slice(buf);
+        self.written = end;
+        Ok(())
+    }
+
+    fn failures(&self) -> u64 {
+        0
+    }
+}
