@@ -74,9 +74,7 @@ fn verbatim_word<R: BufRead>(source: &mut R) -> Result<[u8; 8]> {
 fn read_count<R: BufRead>(source: &mut R, left: usize) -> Result<u8> {
     let count = byte_or(source, ErrorKind::PrematureEndOfPackedInput)?;
     if count as usize > left {
-        return Err(Error::from(
-            ErrorKind::PackedInputDidNotEndCleanlyOnASegmentBoundary,
-        ));
+        return Err(Error::from(ErrorKind::PackedInputDidNotEndCleanlyOnASegmentBoundary));
     }
     Ok(count)
 }

@@ -90,11 +90,7 @@ pub fn unpack_message<P: Pieces>(source: &mut &[u8], words: &mut [u8]) -> Result
 }
 
 /// Writes the first bytes as a segment, and answers those behind it.
-fn pack_segment<'a, P: Pieces>(
-    out: &mut Vec<u8>,
-    words: &'a [u8],
-    len: usize,
-) -> Result<&'a [u8]>
+fn pack_segment<'a, P: Pieces>(out: &mut Vec<u8>, words: &'a [u8], len: usize) -> Result<&'a [u8]>
     requires { len % 8 ≡ 0 }
 {
     if len > words.len() {

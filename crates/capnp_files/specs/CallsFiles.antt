@@ -80,12 +80,12 @@ value_of_call d = elim (get (codes "value") d) [ None ↦ Some None | Some x ↦
 -- A call.
 abbrev pub call_in : Data → Option CallParts
 call_in d =
-  with_keys (codes "path" ∷ codes "verb" ∷ codes "size" ∷ codes "value" ∷ []) d >>= λ o.
-  items_at (codes "path") step_in o >>= λ path.
-  text_at (codes "verb") o >>= λ n.
-  verb_by n o >>= λ v.
-  value_of_call o >>= λ x.
-  Some (record { path = path; verb = v; value = x })
+    with_keys (codes "path" ∷ codes "verb" ∷ codes "size" ∷ codes "value" ∷ []) d >>= λ o.
+    items_at (codes "path") step_in o >>= λ path.
+    text_at (codes "verb") o >>= λ n.
+    verb_by n o >>= λ v.
+    value_of_call o >>= λ x.
+    Some (record { path = path; verb = v; value = x })
 
 -- A number that 32 bits hold with a sign.
 abbrev pub in_32_bits : ℤ → Option ℤ
@@ -99,11 +99,11 @@ nesting_in d = elim (get (codes "nesting") d) [ None ↦ Some (pos 64) | Some x 
 -- The calls and the limits of an object.
 abbrev pub calls_text : Data → Option CallsText
 calls_text d =
-  with_keys (codes "calls" ∷ codes "words" ∷ codes "nesting" ∷ []) d >>= λ o.
-  items_at (codes "calls") call_in o >>= λ cs.
-  number_or 8388608 (codes "words") (2 ^ 64 - 1) o >>= λ w.
-  nesting_in o >>= λ n.
-  Some (record { calls = cs; words = w; nesting = n })
+    with_keys (codes "calls" ∷ codes "words" ∷ codes "nesting" ∷ []) d >>= λ o.
+    items_at (codes "calls") call_in o >>= λ cs.
+    number_or 8388608 (codes "words") (2 ^ 64 - 1) o >>= λ w.
+    nesting_in o >>= λ n.
+    Some (record { calls = cs; words = w; nesting = n })
 
 -- What a calls file says.
 abbrev pub calls_in : List ℕ → Option CallsText

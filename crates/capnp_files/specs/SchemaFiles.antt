@@ -14,11 +14,11 @@ use Rattle.capnp_files.specs.Json.{value_in, find_named, with_keys, number_in, n
 abbrev pub named_bases : List (List ℕ × BaseType)
 named_bases =
     (codes "Void", BaseType.Void) ∷ (codes "Bool", BaseType.Boolean)
-  ∷ (codes "Int8", BaseType.Int8) ∷ (codes "Int16", BaseType.Int16) ∷ (codes "Int32", BaseType.Int32) ∷ (codes "Int64", BaseType.Int64)
-  ∷ (codes "UInt8", BaseType.UInt8) ∷ (codes "UInt16", BaseType.UInt16) ∷ (codes "UInt32", BaseType.UInt32) ∷ (codes "UInt64", BaseType.UInt64)
-  ∷ (codes "Float32", BaseType.Float32) ∷ (codes "Float64", BaseType.Float64)
-  ∷ (codes "Text", BaseType.Text) ∷ (codes "Data", BaseType.Data)
-  ∷ (codes "AnyPointer", BaseType.AnyPointer) ∷ (codes "Capability", BaseType.Capability) ∷ []
+    ∷ (codes "Int8", BaseType.Int8) ∷ (codes "Int16", BaseType.Int16) ∷ (codes "Int32", BaseType.Int32) ∷ (codes "Int64", BaseType.Int64)
+    ∷ (codes "UInt8", BaseType.UInt8) ∷ (codes "UInt16", BaseType.UInt16) ∷ (codes "UInt32", BaseType.UInt32) ∷ (codes "UInt64", BaseType.UInt64)
+    ∷ (codes "Float32", BaseType.Float32) ∷ (codes "Float64", BaseType.Float64)
+    ∷ (codes "Text", BaseType.Text) ∷ (codes "Data", BaseType.Data)
+    ∷ (codes "AnyPointer", BaseType.AnyPointer) ∷ (codes "Capability", BaseType.Capability) ∷ []
 
 -- A base by itself.
 abbrev pub no_list : BaseType → TypeRecord
@@ -118,23 +118,23 @@ member_in d = elim (get (codes "discriminant") d) [ None ↦ Some None | Some x 
 -- A slot.
 abbrev pub slot_in : Data → Option Field
 slot_in d =
-  with_keys (codes "name" ∷ codes "type" ∷ codes "offset" ∷ codes "discriminant" ∷ codes "default" ∷ []) d >>= λ o.
-  text_at (codes "name") o >>= λ n.
-  member_in o >>= λ m.
-  get (codes "type") o >>= λ x.
-  type_in x >>= λ t.
-  number_at (codes "offset") (2 ^ 32 - 1) o >>= λ at.
-  slot_default t o >>= λ v.
-  Some (record { name = n; member = m; annotations = []; kind = slot at t v })
+    with_keys (codes "name" ∷ codes "type" ∷ codes "offset" ∷ codes "discriminant" ∷ codes "default" ∷ []) d >>= λ o.
+    text_at (codes "name") o >>= λ n.
+    member_in o >>= λ m.
+    get (codes "type") o >>= λ x.
+    type_in x >>= λ t.
+    number_at (codes "offset") (2 ^ 32 - 1) o >>= λ at.
+    slot_default t o >>= λ v.
+    Some (record { name = n; member = m; annotations = []; kind = slot at t v })
 
 -- A group.
 abbrev pub group_in : Data → Option Field
 group_in d =
-  with_keys (codes "name" ∷ codes "group" ∷ codes "discriminant" ∷ []) d >>= λ o.
-  text_at (codes "name") o >>= λ n.
-  member_in o >>= λ m.
-  number_at (codes "group") (2 ^ 64 - 1) o >>= λ id.
-  Some (record { name = n; member = m; annotations = []; kind = group id })
+    with_keys (codes "name" ∷ codes "group" ∷ codes "discriminant" ∷ []) d >>= λ o.
+    text_at (codes "name") o >>= λ n.
+    member_in o >>= λ m.
+    number_at (codes "group") (2 ^ 64 - 1) o >>= λ id.
+    Some (record { name = n; member = m; annotations = []; kind = group id })
 
 -- A field: a group where it has that key, else a slot.
 abbrev pub field_in : Data → Option Field
@@ -153,16 +153,27 @@ group_mark d = elim (get (codes "group") d) [ None ↦ Some false | Some x ↦ a
 -- A struct.
 abbrev pub struct_in : Data → Option Node
 struct_in d =
-  with_keys (codes "id" ∷ codes "name" ∷ codes "data" ∷ codes "pointers" ∷ codes "fields" ∷ codes "group" ∷ codes "union" ∷ []) d >>= λ o.
-  number_at (codes "id") (2 ^ 64 - 1) o >>= λ id.
-  text_at (codes "name") o >>= λ n.
-  number_at (codes "data") 65535 o >>= λ words.
-  number_at (codes "pointers") 65535 o >>= λ pointers.
-  group_mark o >>= λ g.
-  number_or 0 (codes "union") (2 ^ 32 - 1) o >>= λ at.
-  items_at (codes "fields") field_in o >>= λ fs.
-  Some (record { id = id; name = n; annotations = []; kind = struct_node (record {
-    words = words; pointers = pointers; is_group = g; discriminant_count = members_among fs; discriminant_offset = at; fields = fs }) })
+    with_keys (codes "id" ∷ codes "name" ∷ codes "data" ∷ codes "pointers" ∷ codes "fields" ∷ codes "group" ∷ codes "union" ∷ []) d >>= λ o.
+    number_at (codes "id") (2 ^ 64 - 1) o >>= λ id.
+    text_at (codes "name") o >>= λ n.
+    number_at (codes "data") 65535 o >>= λ words.
+    number_at (codes "pointers") 65535 o >>= λ pointers.
+    group_mark o >>= λ g.
+    number_or 0 (codes "union") (2 ^ 32 - 1) o >>= λ at.
+    items_at (codes "fields") field_in o >>= λ fs.
+    Some (record {
+      id = id;
+      name = n;
+      annotations = [];
+      kind = struct_node (record {
+        words = words;
+        pointers = pointers;
+        is_group = g;
+        discriminant_count = members_among fs;
+        discriminant_offset = at;
+        fields = fs;
+      });
+    })
 
 -- An enumerant.
 abbrev pub enumerant_in : Data → Option Enumerant
@@ -171,11 +182,11 @@ enumerant_in d = option_map (λ n. record { name = n; annotations = [] }) (as_st
 -- An enum.
 abbrev pub enum_in : Data → Option Node
 enum_in d =
-  with_keys (codes "id" ∷ codes "name" ∷ codes "enumerants" ∷ []) d >>= λ o.
-  number_at (codes "id") (2 ^ 64 - 1) o >>= λ id.
-  text_at (codes "name") o >>= λ n.
-  items_at (codes "enumerants") enumerant_in o >>= λ es.
-  Some (record { id = id; name = n; annotations = []; kind = enum_node es })
+    with_keys (codes "id" ∷ codes "name" ∷ codes "enumerants" ∷ []) d >>= λ o.
+    number_at (codes "id") (2 ^ 64 - 1) o >>= λ id.
+    text_at (codes "name") o >>= λ n.
+    items_at (codes "enumerants") enumerant_in o >>= λ es.
+    Some (record { id = id; name = n; annotations = []; kind = enum_node es })
 
 -- A node: an enum where it has enumerants, else a struct.
 abbrev pub node_in : Data → Option Node

@@ -9,6 +9,6 @@ mod fields;
 mod json;
 mod nodes;
 pub mod schema_file;
-mod types;
 #[cfg(test)]
 mod tests;
+mod types;

@@ -31,7 +31,10 @@ fn nodes_are_those_of_the_file(rt: HostRuntime) -> Result<(), FileFault> {
         return Err(FileFault::Form);
     };
     assert_eq!(rt; (holder.data_word_count, holder.pointer_count), (1, 2));
-    assert_eq!(rt; (holder.discriminant_count, holder.discriminant_offset), (2, 1));
+    assert_eq!(rt;
+        (holder.discriminant_count, holder.discriminant_offset),
+        (2, 1)
+    );
     let [_, _, rows, last] = holder.fields.as_slice() else {
         return Err(FileFault::Form);
     };

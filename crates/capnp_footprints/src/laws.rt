@@ -118,9 +118,9 @@ pub fn new_structs()
         → word_at s p ≡ Some 0 → 0 < d + k → p.position + 1 + offset ≡ segment_end s p.segment
         → offset < 2 ^ 29 → d < 2 ^ 16 → k < 2 ^ 16
         → Replaces (suc n) s (pointed (with_zeros s p.segment (d + k)) p (struct_pointer offset d k))
-            p (structure d 0 (resized k none)) }
+        p (structure d 0 (resized k none)) }
     ensures far { (n : ℕ) (s : Segments) (p : Place) (i d k : ℕ) → i ≤ length s → i < 2 ^ 32
         → word_at s p ≡ Some 0 → segment_end s i < 2 ^ 29 → d < 2 ^ 16 → k < 2 ^ 16
         → Replaces (suc n) s (pointed_far (with_zeros s i (1 + (d + k))) p
-            (place i (segment_end s i)) (struct_pointer 0 d k)) p (structure d 0 (resized k none)) }
+        (place i (segment_end s i)) (struct_pointer 0 d k)) p (structure d 0 (resized k none)) }
 {}

@@ -83,8 +83,9 @@ pub(crate) fn clear_front(len: usize, to: &mut [u8])
     ensures cleared { take len to.new ≡ replicate len 0 }
     ensures kept { length to.new ≡ length to.old }
 {
-    let is_cleared =
-        clear_chunk::<32>(len, to) || clear_chunk::<16>(len, to) || clear_chunk::<8>(len, to);
+    let is_cleared = clear_chunk::<32>(len, to)
+        || clear_chunk::<16>(len, to)
+        || clear_chunk::<8>(len, to);
     if !is_cleared {
         clear_long(len, to);
     }

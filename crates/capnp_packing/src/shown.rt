@@ -3,8 +3,8 @@ ghost use Rattle.std.specs.Prelude.{◌≡◌, ◌<◌, ◌%◌, length, drop, s
 ghost use Rattle.capnp_packing.specs.Runs.{IsOver, NeedsBytes};
 ghost use Rattle.capnp_packing.specs.Steps.{IsFirst};
 
-use crate::runs::Run;
 use crate::copies::{clear_front, copy_front};
+use crate::runs::Run;
 use crate::tags::{byte_behind, marked, spread};
 
 /// A group that isn't followed by words as they are has at most a tag, eight bytes and a count.
@@ -56,7 +56,12 @@ impl Step {
         if tag != 0 && tag != 255 {
             let next = byte_behind(tag, behind);
             let run = Run::Next;
-            return Some(Head { word, len, run, next });
+            return Some(Head {
+                word,
+                len,
+                run,
+                next,
+            });
         }
         let count = bytes[len];
         if count as usize > left {
@@ -69,7 +74,12 @@ impl Step {
         };
         let len = len + 1;
         let next = 0;
-        Some(Head { word, len, run, next })
+        Some(Head {
+            word,
+            len,
+            run,
+            next,
+        })
     }
 
     /// Fills the front of the buffer with what is left of a run, as far as the words as they are are shown.

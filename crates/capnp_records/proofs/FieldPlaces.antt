@@ -38,13 +38,13 @@ pub put_member : (fs : List FieldRecord) (left d v count : ℕ) (x : FieldRecord
     → get_or xs d 0 ≡ place_from d (suc left) (map field_of (drop (suc left) fs)) → get_or (set xs v left) d 0 ≡ place_from d left (map field_of (drop left fs))
 put_member fs left d v count x xs lt e is small few len below h =
     by (v == d) refl
-    where
-      here : (b : Bool) → (v == d) ≡ b → place_from d left (map field_of (drop left fs)) ≡ (if b then left else place_from d (suc left) (map field_of (drop (suc left) fs)))
-      here b q = one_back fs left d x lt e ∙ ap (λ t. if t then left else place_from d (suc left) (map field_of (drop (suc left) fs))) (member_is x d (omega arith) ∙ ap (λ y. y == d) is ∙ q)
+  where
+    here : (b : Bool) → (v == d) ≡ b → place_from d left (map field_of (drop left fs)) ≡ (if b then left else place_from d (suc left) (map field_of (drop (suc left) fs)))
+    here b q = one_back fs left d x lt e ∙ ap (λ t. if t then left else place_from d (suc left) (map field_of (drop (suc left) fs))) (member_is x d (omega arith) ∙ ap (λ y. y == d) is ∙ q)
 
-      by : (b : Bool) → (v == d) ≡ b → get_or (set xs v left) d 0 ≡ place_from d left (map field_of (drop left fs))
-      by true q = let same : v ≡ d = grind arith in ap (λ k. get_or (set xs v left) k 0) (sym same) ∙ get_or-set_same xs v left 0 (omega (arith, small, len)) ∙ sym (here true q)
-      by false q = get_or-set_other xs v d left 0 (λ k. let no : (v == d) ≡ true = grind (arith, nat_tests) in absurd (cc (sym no ∙ q))) ∙ h ∙ sym (here false q)
+    by : (b : Bool) → (v == d) ≡ b → get_or (set xs v left) d 0 ≡ place_from d left (map field_of (drop left fs))
+    by true q = let same : v ≡ d = grind arith in ap (λ k. get_or (set xs v left) k 0) (sym same) ∙ get_or-set_same xs v left 0 (omega (arith, small, len)) ∙ sym (here true q)
+    by false q = get_or-set_other xs v d left 0 (λ k. let no : (v == d) ≡ true = grind (arith, nat_tests) in absurd (cc (sym no ∙ q))) ∙ h ∙ sym (here false q)
 
 -- another field is passed over
 pub pass_member : (fs : List FieldRecord) (left d v count : ℕ) (x : FieldRecord) → left < length fs → x ≡ get_or fs left x → x.discriminant_value ≡ v → count ≤ v → count ≤ 65535 → d < count

@@ -20,11 +20,7 @@ pub struct FieldTables {
     pub others: Vec<u16>,
 }
 
-fn members_of(
-    alloc: Global,
-    fields: &[FieldRecord],
-    count: u16,
-) -> Result<Vec<u16>, AllocError>
+fn members_of(alloc: Global, fields: &[FieldRecord], count: u16) -> Result<Vec<u16>, AllocError>
     requires { length fields.now ≤ 65535 }
     ensures { IfOk result (λ v. v.items ≡ members_from (map field_of fields.now) 0 count) }
 {
@@ -71,10 +67,7 @@ fn tables_of_node(alloc: Global, node: &NodeRecord) -> Result<FieldTables, Alloc
 }
 
 /// The tables of the nodes, in order.
-pub(crate) fn tables_of(
-    alloc: Global,
-    nodes: &[NodeRecord],
-) -> Result<Vec<FieldTables>, AllocError>
+pub(crate) fn tables_of(alloc: Global, nodes: &[NodeRecord]) -> Result<Vec<FieldTables>, AllocError>
     requires { list_all is_short (map node_of nodes.now) ≡ true }
     ensures members { IfOk result (λ v. map (λ t. t.members.items) v.items ≡ map (λ n. members_in n.kind) (map node_of nodes.now)) }
     ensures others { IfOk result (λ v. map (λ t. t.others.items) v.items ≡ map (λ n. others_in n.kind) (map node_of nodes.now)) }

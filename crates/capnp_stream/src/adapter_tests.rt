@@ -1,9 +1,9 @@
 //! Readers and writers of a program that are interrupted, end and fail.
-use capnp_io::adapters::{Sink, Source};
 use crate::frames::try_read_message;
 use crate::tests::{TWO, WRITTEN, expect_two};
-use capnp_io::traits::{BufRead, Read, Write};
 use crate::writing::write_segment;
+use capnp_io::adapters::{Sink, Source};
+use capnp_io::traits::{BufRead, Read, Write};
 use capnp_units::errors::Error;
 use capnp_units::kinds::ErrorKind;
 use std::io;

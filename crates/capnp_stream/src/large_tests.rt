@@ -1,11 +1,11 @@
 //! Messages of a mebibyte, which no smaller bound of memory lets through.
 ghost use Rattle.std.specs.Prelude.{◌≡◌, ◌<◌, ◌*◌, ◌^◌, IfOk, length};
 
-use capnp_io::adapters::{Sink, Source};
 use crate::frames::{read_message, try_read_message};
 use crate::lent::read_message_no_alloc;
 use crate::segments::SegmentLengthsBuilder;
 use crate::writing::{write_message_segments, write_message_segments_to_words, write_segment};
+use capnp_io::adapters::{Sink, Source};
 use capnp_units::errors::Result;
 use capnp_units::kinds::ErrorKind;
 use capnp_units::segments::ReaderSegments;

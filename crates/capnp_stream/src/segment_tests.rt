@@ -12,11 +12,11 @@ use crate::lent::{
 };
 use crate::segments::{SegmentLengthsBuilder, words_of};
 use crate::slices::{read_message_from_flat_slice, read_message_from_flat_slice_no_alloc};
-use capnp_io::traits::{BufRead, Read};
 use crate::writing::{
     compute_serialized_size_in_words, write_message_segments, write_message_segments_in,
     write_message_segments_to_words, write_segment_in,
 };
+use capnp_io::traits::{BufRead, Read};
 use capnp_units::errors::Result;
 use capnp_units::kinds::ErrorKind;
 use capnp_units::segments::ReaderSegments;

@@ -2,11 +2,11 @@
 ghost use Rattle.std.specs.Prelude.{◌≡◌, ◌≤◌, length};
 ghost use Rattle.capnp_units.specs.declared.kinds.ErrorKind.{ErrorKind};
 
-use capnp_io::adapters::Source;
 use crate::frames::{read_message, try_read_message};
+use crate::writing::write_segment;
+use capnp_io::adapters::Source;
 use capnp_io::slice_writer::SliceWriter;
 use capnp_io::traits::{BufRead, Read, Write};
-use crate::writing::write_segment;
 use capnp_units::errors::{Error, Result};
 use capnp_units::kinds::ErrorKind;
 use capnp_units::segments::ReaderSegments;

@@ -10,6 +10,6 @@ loop-first-preserved c =
     let f : List ℕ → ℕ = from_le_bytes w64 in
     record {
       words = words-step c.loop-first.words.items c.push.new.self.items c.loop-first.left.now c.in-Some.rest.now c.from_le_bytes.result _
-      long parts.1 (c.from_le_bytes.ensures ∙ ap f parts.0) c.in_ok-push.ensures.items c.loop-first.invariant.words;
+          long parts.1 (c.from_le_bytes.ensures ∙ ap f parts.0) c.in_ok-push.ensures.items c.loop-first.invariant.words;
       behind = omega (arith, parts.2, c.loop-first.invariant.behind);
     }
