@@ -75,7 +75,7 @@ impl SchemaSet {
     pub fn nodes(&self) -> &[NodeRecord]
         ensures { map node_of result.now ≡ nodes_of self.now }
     {
-        &self.nodes
+        self.nodes.as_slice()
     }
 
     /// The struct of an id. A group is none.
