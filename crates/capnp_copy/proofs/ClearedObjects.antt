@@ -18,8 +18,7 @@ use Rattle.capnp_footprints.specs.Changes.{Changes, ReplacesObject}
 use Rattle.capnp_footprints.proofs.Spans.{held, held_is}
 use Rattle.capnp_footprints.proofs.Rows.{after_none}
 use Rattle.capnp_footprints.proofs.There.{words_there}
-use Rattle.capnp_footprints.proofs.Algebra.{On, changes_nothing, changes_then}
-use Rattle.capnp_footprints.proofs.Levels.{changes_alike}
+use Rattle.capnp_footprints.proofs.Algebra.{On, changes_nothing, changes_then, changes_alike}
 use Rattle.capnp_footprints.proofs.Lift.{struct_parts, struct_of_parts, list_parts}
 use Rattle.capnp_footprints.proofs.Writing.{plain_is}
 use Rattle.capnp_footprints.proofs.Cells.{element_parts}

@@ -19,8 +19,8 @@ use Rattle.capnp_footprints.proofs.Spans.{held, held_is, held_le, held_self, the
 use Rattle.capnp_footprints.proofs.There.{words_there}
 use Rattle.capnp_footprints.proofs.Rows.{words_grown}
 use Rattle.capnp_footprints.proofs.Kept.{object_same, value_same}
-use Rattle.capnp_footprints.proofs.Algebra.{On, changes_lift, changes_then}
-use Rattle.capnp_footprints.proofs.Levels.{replaced_by_itself, owned_more, footprint_more, changes_alike}
+use Rattle.capnp_footprints.proofs.Algebra.{On, changes_lift, changes_then, changes_alike}
+use Rattle.capnp_footprints.proofs.Levels.{replaced_by_itself, owned_more, footprint_more}
 use Rattle.capnp_footprints.proofs.Lift.{value_on, slot_is, object_of_pointer}
 use Rattle.capnp_footprints.proofs.Splices.{Rewrites, splice_rewrites}
 use Rattle.capnp_footprints.proofs.Writing.{rewrites_keep, written_word}

@@ -51,7 +51,6 @@ fn texts_are_written(rt: HostRuntime) -> Result<(), Fail> {
     let mut text = Builder::new(&mut bytes);
     text.push_ascii(b'a');
     text.push_str("bc");
-    text.reborrow().push_ascii(b'x');
     text.push_ascii(b'd');
     assert_eq!(rt; text.len(), 5);
     assert!(rt; !text.is_empty());
@@ -65,6 +64,9 @@ fn texts_are_written(rt: HostRuntime) -> Result<(), Fail> {
     assert_eq!(rt; owned.as_str(), "aBCd\0");
     Builder::new(&mut bytes).as_bytes_mut()[4] = b'!';
     assert_eq!(rt; Builder::new(&mut bytes).as_bytes(), b"aBCd!".as_slice());
+    let mut last = Builder::with_pos(&mut bytes, 4);
+    last.reborrow().push_ascii(b'?');
+    assert_eq!(rt; last.as_bytes(), b"aBCd?".as_slice());
     Ok(())
 }
 
