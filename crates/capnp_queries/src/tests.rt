@@ -248,8 +248,10 @@ fn schemas_are_keys(rt: HostRuntime) -> Result<(), Fail> {
 fn types_and_annotations(rt: HostRuntime) -> Result<(), Fail> {
     assert_eq!(rt; u32::introspect().which(), TypeVariant::UInt32);
     assert!(rt; u32::introspect().which() != TypeVariant::Int32);
-    let list = Type::list_of(bool::introspect());
-    assert_eq!(rt; list.which(), TypeVariant::List(bool::introspect()));
+    let base = bool::introspect();
+    assert_eq!(rt; base.list_count(), 0);
+    let list = Type::list_of(base);
+    assert_eq!(rt; list.which(), TypeVariant::List(base));
     assert_eq!(rt; list.list_count(), 1);
     assert_eq!(rt;
         bool::introspect().expected_element_size(),
