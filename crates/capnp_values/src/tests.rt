@@ -181,12 +181,12 @@ fn lists_of_structs(rt: HostRuntime) -> Result<(), Fail> {
         return Ok(None.ok_or("a list")?);
     };
     assert_eq!(rt; items.len(), 2);
-    let mut total = 0;
+    let mut total: u32 = 0;
     for index in 0..items.len() {
         if let Some(Reader::Struct(item)) = items.get(index).ok() {
             if let Reader::UInt16(a) = get(item, 0)? {
                 assert_eq!(rt; a as u32, 5 + index);
-                total += 1;
+                total = total.saturating_add(1);
             }
         }
     }

@@ -18,7 +18,7 @@ pub plain_value-requires : goal.plain_value-requires
 plain_value-requires g c =
     let s = c.args.field.parent in
     let ty = plain_of c.in-Plain.ty in
-    default_fits (nodes_around s) s.set.now.accepted (id_of s) c.args.field.index ty (width ty * c.in-Plain.offset) c.in-Plain.default_bits c.in-Plain.ensures
+    default_fits (nodes_around s) s.set.now.accepted (id_of s) c.args.field.index ty (width ty * c.in-Plain.offset) c.in-Plain.default_bits c.in-Plain.ensures.body
 
 pub returns-in-Pointer : goal.returns-in-Pointer
 returns-in-Pointer g c =
@@ -27,10 +27,10 @@ returns-in-Pointer g c =
     let ty = ty_of c.in-Pointer.ty in
     let d = option_map value_of (option_copied c.in-Pointer.default) in
     let p = pointer_seen g.A.ReaderArena.segments c.pointer.result in
-    let same : got ≡ ty = pointer_type (entry_of c.args.field) c.in-Pointer.index ty got (default_tree d) c.in-Pointer.ensures c.get_type.ensures.ty in
+    let same : got ≡ ty = pointer_type (entry_of c.args.field) c.in-Pointer.index ty got (default_tree d) c.in-Pointer.ensures.body c.get_type.ensures.ty in
     record {
       place = place.Pointer c.in-Pointer.index c.in-Pointer.ty c.in-Pointer.default;
-      is = c.in-Pointer.ensures;
+      is = c.in-Pointer.ensures.body;
       shows = c.open_slot.ensures
           ∙ ap (λ nodes. slot_opened (schema_of nodes) got d p) (c.set-set.ensures ∙ ap nodes_around c.parent.ensures)
           ∙ ap (λ t. slot_opened (schema_around s) t d p) same
