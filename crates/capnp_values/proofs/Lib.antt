@@ -1,6 +1,8 @@
 pub mod Bits
 pub mod Elements
+pub mod FieldKinds
 pub mod Named
+pub mod PointerReadings
 pub mod PlainDefaults
 pub mod TextLemmas
 pub mod TwoBlanks

@@ -2,3 +2,5 @@ pub mod Texts
 pub mod Sources
 pub mod ListSizes
 pub mod Shown
+pub mod Variants
+pub mod Standing

@@ -1,27 +1,31 @@
 -- What dynamic readers show. (Encoding, "Value Encoding")
-use Rattle.std.specs.Prelude.{ℕ, ◌≡◌, ◌*◌, if◌then◌else◌, Bool, true, false, not, ◌&&◌, Option, Some, None, option_map, option_copied, List, Result, Ok, Err}
+use Rattle.std.specs.Prelude.{ℕ, ◌≡◌, ◌*◌, ◌⊎◌, nat_lt, IsErrAnd, if◌then◌else◌, Bool, true, false, not, ◌&&◌, Option, Some, None, option_map, List, Result, Ok, Err}
 use Rattle.std.specs.Int.{w8, w16, w32, w64, cast_unsigned}
 use Rattle.capnp_model.specs.Kinds.{Kind}
 use Rattle.capnp_model.specs.Chains.{◌and_then◌}
-use Rattle.capnp_model.specs.Schemas.{bool, int, uint, «enum», width, Ty, void, plain, text, blob, untyped, interface, struct, list, Value as ModelValue, no_value, bits, text_bytes, blob_bytes, list_segment, struct_segment, untyped_value, interface_value, Shape, Schema, Body, void_slot, plain_slot, pointer_slot, group_slot}
+use Rattle.capnp_model.specs.Schemas.{PlainType, bool, int, uint, «enum», width, Ty, void, plain, text, blob, untyped, interface, struct, list, Value as ModelValue, no_value, bits, text_bytes, blob_bytes, list_segment, struct_segment, untyped_value, interface_value, type_of, FieldKind, slot, group, Field as FieldNode, Shape, Schema, Body, void_slot, plain_slot, pointer_slot, group_slot}
 use Rattle.capnp_model.specs.Readings.{just_bits, discriminant, is_active}
-use Rattle.capnp_queries.specs.Fields.{union_in}
+use Rattle.capnp_queries.specs.Fields.{union_in, place_of_member, place_of_name}
 use Rattle.capnp_queries.specs.declared.structs.StructSchema.{StructSchema}
 use Rattle.capnp_units.specs.declared.errors.Error.{Error}
+use Rattle.capnp_units.specs.declared.kinds.ErrorKind.TheVariants.{FieldNotFound}
 use Rattle.capnp_object.specs.Places.{seen}
 use Rattle.capnp_records.specs.NodeViews.{value_of}
 use Rattle.capnp_wire.specs.Views.{PointerView, StructView, ListView, pointer_field, element_of, element_number, bit_of_bool}
 use Rattle.capnp_wire.specs.Reads.{is_null, read_struct, read_blob, read_text, read_list}
 use Rattle.capnp_queries.specs.Types.{ty_of}
-use Rattle.capnp_queries.specs.Structs.{shape_of_struct, schema_around}
-use Rattle.capnp_queries.specs.Handles.{entry_of, plain_of, body_of_place}
+use Rattle.capnp_queries.specs.Structs.{shape_of_struct, schema_around, fields_of_struct}
+use Rattle.capnp_queries.specs.Enums.{nodes_of_enum, enum_id, enumerant_count}
+use Rattle.capnp_queries.specs.Ordinals.{seen_enumerant}
+use Rattle.capnp_queries.specs.declared.enums.EnumSchema.{EnumSchema}
+use Rattle.capnp_queries.specs.declared.enumerants.Enumerant.{Enumerant}
+use Rattle.capnp_queries.specs.Handles.{entry_of, IsFieldRecord, IsFieldAt}
 use Rattle.capnp_queries.specs.declared.fields.Field.{Field}
-use Rattle.capnp_queries.specs.declared.slots.FieldPlace.{FieldPlace}
-use Rattle.capnp_queries.specs.declared.slots.FieldPlace.TheVariants as place
 use Rattle.capnp_records.specs.Sets.{nodes_of}
-use Rattle.capnp_model.specs.Accepted.{schema_of}
+use Rattle.capnp_model.specs.Accepted.{schema_of, default_bits}
 use Rattle.capnp_values.specs.ListSizes.{size_of}
 use Rattle.capnp_values.specs.Sources.{read_behind, default_pointer, masked_bits, pointer_seen, struct_seen, list_seen}
+use Rattle.capnp_values.specs.declared.dynamic_list.Reader as dynamic
 use Rattle.capnp_values.specs.declared.dynamic_value.Reader.{Reader}
 use Rattle.capnp_values.specs.declared.dynamic_value.Reader.TheVariants as value
 
@@ -29,14 +33,23 @@ use Rattle.capnp_values.specs.declared.dynamic_value.Reader.TheVariants as value
 pub data Shown : Type 0 where
   -- a plain value by its bits, with its type; Void by 0
   a_number : Ty → ℕ → Shown
+  -- a value of the enum of an id, which a schema explains
+  an_enum : Schema → ℕ → ℕ → Shown
   a_text : List ℕ → Shown
   a_blob : List ℕ → Shown
-  -- a struct or a group, by its shape
-  a_struct : Shape → StructView → Shown
+  -- a struct or a group, by its shape, whose ids a schema explains
+  a_struct : Schema → Shape → StructView → Shown
   -- a list, by the type of its elements, whose ids a schema explains
   a_list : Schema → Ty → ListView → Shown
   a_pointer : PointerView → Shown
   a_capability : Shown
+
+-- What the bits of a plain value show.
+abbrev pub number_shown : Schema → PlainType → ℕ → Shown
+number_shown s bool n = a_number (plain bool) n
+number_shown s (int w) n = a_number (plain (int w)) n
+number_shown s (uint w) n = a_number (plain (uint w)) n
+number_shown s («enum» id) n = an_enum s id n
 
 -- What a pointer shows under a type, else the kind of its fault; null shows the empty value.
 abbrev pub opened : Schema → Ty → PointerView → Result Shown Kind
@@ -46,7 +59,7 @@ opened s text p = read_behind (read_text p.basis p.levels) p and_then λ bytes. 
 opened s blob p = read_behind (read_blob p.basis p.levels) p and_then λ bytes. Ok (a_blob bytes)
 opened s untyped p = Ok (a_pointer p)
 opened s interface p = Ok a_capability
-opened s (struct id) p = read_behind (read_struct p.basis p.levels) p and_then λ v. Ok (a_struct (s.shape_of id) v)
+opened s (struct id) p = read_behind (read_struct p.basis p.levels) p and_then λ v. Ok (a_struct s (s.shape_of id) v)
 opened s (list ty) p = read_behind (read_list p.basis p.levels (size_of ty)) p and_then λ l. Ok (a_list s ty l)
 
 -- What a struct or a list as a default shows; other types have none.
@@ -76,18 +89,32 @@ abbrev pub slot_opened : Schema → Ty → Option ModelValue → PointerView →
 slot_opened s ty None p = opened s ty p
 slot_opened s ty (Some d) p = if is_null p then default_opened s ty p d else opened s ty p
 
--- What a field at a place shows of a struct; a group shows the same struct under its own shape.
-abbrev pub place_shown : Schema → StructView → FieldPlace → Result Shown Kind
-place_shown s v (place.Void offset) = Ok (a_number void 0)
-place_shown s v (place.Plain ty offset default) = Ok (a_number (plain (plain_of ty)) (masked_bits v (width (plain_of ty) * offset) (width (plain_of ty)) default))
-place_shown s v (place.Pointer index ty default) = slot_opened s (ty_of ty) (option_map value_of (option_copied default)) (pointer_field v index)
-place_shown s v (place.Group g) = Ok (a_struct (shape_of_struct g) v)
+-- What a slot shows of a struct, by its offset, its type and its default. (Encoding, "Structs" and "Default Values")
+abbrev pub slot_shown : Schema → StructView → ℕ → Ty → Option ModelValue → Result Shown Kind
+slot_shown s v offset void d = Ok (a_number void 0)
+slot_shown s v offset (plain p) d = Ok (number_shown s p (masked_bits v (width p * offset) (width p) (default_bits d)))
+slot_shown s v offset text d = slot_opened s text d (pointer_field v offset)
+slot_shown s v offset blob d = slot_opened s blob d (pointer_field v offset)
+slot_shown s v offset untyped d = slot_opened s untyped d (pointer_field v offset)
+slot_shown s v offset interface d = slot_opened s interface d (pointer_field v offset)
+slot_shown s v offset (struct id) d = slot_opened s (struct id) d (pointer_field v offset)
+slot_shown s v offset (list ty) d = slot_opened s (list ty) d (pointer_field v offset)
+
+-- The default that a field's node says.
+abbrev pub default_said : FieldKind → Option ModelValue
+default_said (slot offset ty d) = d
+default_said (group id) = None
+
+-- What a field shows of a struct, by what its node says of it; a group shows the same struct under its own shape.
+abbrev pub kind_shown : Schema → StructView → FieldKind → Result Shown Kind
+kind_shown s v (slot offset ty d) = slot_shown s v offset (type_of ty) d
+kind_shown s v (group id) = Ok (a_struct s (s.shape_of id) v)
 
 -- What an element of a list of the type shows.
 abbrev pub element_shown : Schema → Ty → ListView → ℕ → Result Shown Kind
 element_shown s void l i = Ok (a_number void 0)
-element_shown s (plain p) l i = Ok (a_number (plain p) (element_number l i (width p)))
-element_shown s (struct id) l i = Ok (a_struct (s.shape_of id) (element_of l i))
+element_shown s (plain p) l i = Ok (number_shown s p (element_number l i (width p)))
+element_shown s (struct id) l i = Ok (a_struct s (s.shape_of id) (element_of l i))
 element_shown s text l i = opened s text (pointer_field (element_of l i) 0)
 element_shown s blob l i = opened s blob (pointer_field (element_of l i) 0)
 element_shown s untyped l i = opened s untyped (pointer_field (element_of l i) 0)
@@ -106,19 +133,23 @@ shown bytes (value.UInt8 n) = a_number (plain (uint 8)) n
 shown bytes (value.UInt16 n) = a_number (plain (uint 16)) n
 shown bytes (value.UInt32 n) = a_number (plain (uint 32)) n
 shown bytes (value.UInt64 n) = a_number (plain (uint 64)) n
-shown bytes (value.Enum e) = a_number (plain («enum» e.raw.id)) e.value
+shown bytes (value.Enum e) = an_enum (schema_of (nodes_of_enum e.schema)) (enum_id e.schema) e.value
 shown bytes (value.Text t) = a_text t.0.now
 shown bytes (value.Data d) = a_blob d.now
-shown bytes (value.Struct r) = a_struct (shape_of_struct r.schema) (struct_seen bytes r.source)
+shown bytes (value.Struct r) = a_struct (schema_around r.schema) (shape_of_struct r.schema) (struct_seen bytes r.source)
 shown bytes (value.List l) = a_list (schema_of (nodes_of l.set.now)) (ty_of l.element_type) (list_seen bytes l.source)
 shown bytes (value.AnyPointer p) = a_pointer (pointer_seen bytes p.source)
 shown bytes (value.Capability c) = a_capability
 
--- What a get of a field answers: what the field shows of the struct at its place.
+-- What the element of a list at an index shows.
+abbrev pub shown_at : {A : Type 0} → (A → List (List ℕ)) → dynamic.Reader A → ℕ → Result Shown Kind
+shown_at bytes l i = element_shown (schema_of (nodes_of l.set.now)) (ty_of l.element_type) (list_seen bytes l.source) i
+
+-- What a get of a field answers: what the field shows of the struct, by its own record.
 pub record ShowsField {A : Type 0} (bytes : A → List (List ℕ)) (v : StructView) (f : Field) (r : Result (Reader A) Error) : Type 0 where
-  pub place : FieldPlace
-  pub is : option_map (λ e. e.body) (entry_of f) ≡ Some (body_of_place place)
-  pub shows : seen (shown bytes) r ≡ place_shown (schema_around f.parent) v place
+  pub said : FieldNode
+  pub is : IsFieldRecord f.parent f.index said
+  pub shows : seen (shown bytes) r ≡ kind_shown (schema_around f.parent) v said.kind
 
 -- ---- whether a field is there
 
@@ -143,3 +174,21 @@ is_null_slot v (Some (group_slot g)) = false
 abbrev pub has_field : StructView → Field → Bool
 has_field v f =
     is_active_field (discriminant_shown f.parent v) (option_map (λ e. e.member) (entry_of f)) && not (is_null_slot v (option_map (λ e. e.body) (entry_of f)))
+
+-- ---- the active member, and fields by name
+
+-- The index of the union's active member, if there is one.
+abbrev pub active_index : StructSchema → StructView → Option ℕ
+active_index s v = elim (discriminant_shown s v) [ None ↦ None | Some d ↦ place_of_member d (fields_of_struct s) ]
+
+-- What is answered of the field of a name, or `FieldNotFound` where no field has it.
+abbrev pub AnswersNamed : {X : Type 0} → StructSchema → List ℕ → (Field → Result X Error → Type 0) → Result X Error → Type 0
+AnswersNamed s name answers r =
+    let index = place_of_name name (fields_of_struct s) in
+    ((f : Field) × IsFieldAt s index (Some f) × answers f r) ⊎ ((index ≡ None) × IsErrAnd r (λ e. e.kind ≡ FieldNotFound))
+
+-- ---- enumerants
+
+-- The enumerant of a value, if the enum has so many.
+abbrev pub IsEnumerantAt : EnumSchema → ℕ → Option Enumerant → Type 0
+IsEnumerantAt s value found = option_map seen_enumerant found ≡ (if nat_lt value (enumerant_count s) then Some (s, value) else None)

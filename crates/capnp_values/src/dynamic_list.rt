@@ -10,9 +10,11 @@ use crate::dynamic_value;
 use crate::dynamic_value::Enum;
 use crate::opening::{open, struct_value};
 use crate::source::ListSource;
+use capnp_queries::enums::EnumSchema;
 use capnp_queries::introspect::{Type, TypeVariant};
 use capnp_records::set::SchemaSet;
 use capnp_units::errors::Result;
+use capnp_units::iter::{IndexMove, ListIter};
 use capnp_wire::arena::ReaderArena;
 use std::alloc::AllocError;
 
@@ -39,9 +41,9 @@ impl<A> Copy for Reader<'_, A> {}
 
 impl<'a, A: ReaderArena> Reader<'a, A> {
     ghost use Rattle.capnp_object.specs.Places.{seen};
-    ghost use Rattle.capnp_model.specs.Accepted.{schema_of};
     ghost use Rattle.capnp_values.specs.Sources.{list_seen};
-    ghost use Rattle.capnp_values.specs.Shown.{shown, element_shown};
+    ghost use Rattle.capnp_units.specs.Items.{items_from, items_left};
+    ghost use Rattle.capnp_values.specs.Shown.{shown, shown_at};
 
     /// A list of elements of a type of the set.
     pub(crate) fn of_source(
@@ -89,7 +91,7 @@ impl<'a, A: ReaderArena> Reader<'a, A> {
     #[tactic(auto, using(crate::proofs::Elements::element_rules))]
     pub fn get(self, index: u32) -> Result<dynamic_value::Reader<'a, A>>
         requires { index < (list_seen A.segments self.source).count }
-        ensures { let l = self.entry in seen (shown A.segments) result ≡ element_shown (schema_of (nodes_of l.set.now)) (ty_of l.element_type) (list_seen A.segments l.source) index }
+        ensures { seen (shown A.segments) result ≡ shown_at A.segments self.entry index }
     {
         match self.element_type.which() {
             TypeVariant::Void => Ok(dynamic_value::Reader::Void),
@@ -102,11 +104,10 @@ impl<'a, A: ReaderArena> Reader<'a, A> {
             TypeVariant::UInt16 => Ok(dynamic_value::Reader::UInt16(self.source.number(index))),
             TypeVariant::UInt32 => Ok(dynamic_value::Reader::UInt32(self.source.number(index))),
             TypeVariant::UInt64 => Ok(dynamic_value::Reader::UInt64(self.source.number(index))),
-            TypeVariant::Enum(raw) => Ok(dynamic_value::Reader::Enum(Enum {
-                value: self.source.number(index),
-                set: self.set,
-                raw,
-            })),
+            TypeVariant::Enum(raw) => {
+                let schema = EnumSchema::new(self.set, raw);
+                Ok(dynamic_value::Reader::Enum(Enum::new(self.source.number(index), schema)))
+            }
             TypeVariant::Struct(raw) => {
                 Ok(struct_value(self.source.structure(index), self.set, raw))
             }
@@ -118,5 +119,48 @@ impl<'a, A: ReaderArena> Reader<'a, A> {
                 open(self.source.pointer(index), self.set, self.element_type)
             }
         }
+    }
+
+    /// What the elements are read as, in order, from both ends; each is read when it is asked for.
+    pub fn iter(self) -> ListIter<Reader<'a, A>, Result<dynamic_value::Reader<'a, A>>>
+        ensures { items_left (shown_at A.segments) result ≡ items_from (shown_at A.segments self.entry) 0 (list_seen A.segments self.entry.source).count }
+    {
+        ListIter::new(self, self.len())
+    }
+}
+
+impl<'a, A: ReaderArena> IndexMove<u32, Result<dynamic_value::Reader<'a, A>>> for Reader<'a, A> {
+    ghost use Rattle.std.specs.Prelude.{Result};
+    ghost use Rattle.capnp_model.specs.Kinds.{Kind};
+    ghost use Rattle.capnp_object.specs.Places.{seen};
+    ghost use Rattle.capnp_values.specs.Sources.{list_seen};
+    ghost use Rattle.capnp_values.specs.Shown.{Shown as What, shown, shown_at};
+
+    ghost Shown = { Result What Kind };
+
+    ghost shown = { seen (shown A.segments) };
+
+    ghost count = { λ l. (list_seen A.segments l.source).count };
+
+    ghost at = { shown_at A.segments };
+
+    fn index_move(&self, index: u32) -> Result<dynamic_value::Reader<'a, A>> {
+        self.get(index)
+    }
+}
+
+impl<'a, A: ReaderArena> IntoIterator for Reader<'a, A> {
+    ghost use Rattle.capnp_units.specs.Items.{items_from, items_left};
+    ghost use Rattle.capnp_values.specs.Sources.{list_seen};
+    ghost use Rattle.capnp_values.specs.Shown.{shown_at};
+
+    type Item = Result<dynamic_value::Reader<'a, A>>;
+
+    type IntoIter = ListIter<Reader<'a, A>, Result<dynamic_value::Reader<'a, A>>>;
+
+    ghost into_iter_gives = { λ l it. items_left (shown_at A.segments) it ≡ items_from (shown_at A.segments l) 0 (list_seen A.segments l.source).count };
+
+    fn into_iter(self) -> ListIter<Reader<'a, A>, Result<dynamic_value::Reader<'a, A>>> {
+        self.iter()
     }
 }

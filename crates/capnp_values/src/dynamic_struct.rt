@@ -1,10 +1,11 @@
 //! Structs whose schema is known at run time.
-ghost use Rattle.std.specs.Prelude.{◌≡◌, Ok, option_map};
+ghost use Rattle.std.specs.Prelude.{◌≡◌, Ok, IsOkAnd, option_map, option_copied};
 ghost use Rattle.capnp_wire.specs.Views.{seen_struct};
 ghost use Rattle.capnp_wire.specs.ValueSizes.{StructSizeOf};
 ghost use Rattle.capnp_values.specs.Sources.{struct_seen, WithoutLimit};
-ghost use Rattle.capnp_queries.specs.Handles.{entry_of};
-ghost use Rattle.capnp_values.specs.Shown.{ShowsField, discriminant_shown, is_active_field, is_null_slot, has_field};
+ghost use Rattle.capnp_records.specs.NodeViews.{kind_of_field, value_of};
+ghost use Rattle.capnp_queries.specs.Handles.{entry_of, IsFieldAt};
+ghost use Rattle.capnp_values.specs.Shown.{default_said, ShowsField, discriminant_shown, is_active_field, is_null_slot, has_field, active_index, AnswersNamed};
 
 use crate::dynamic_value;
 use crate::opening::open_slot;
@@ -13,11 +14,21 @@ use crate::source::StructSource;
 use capnp_queries::fields::Field;
 use capnp_queries::slots::FieldPlace;
 use capnp_queries::structs::StructSchema;
-use capnp_records::node::NO_DISCRIMINANT;
+use capnp_records::node::{FieldBody, NO_DISCRIMINANT, Value};
 use capnp_units::errors::Result;
 use capnp_units::sizes::MessageSize;
 use capnp_wire::arena::ReaderArena;
 use capnp_wire::structs::StructReader;
+
+/// The default that a slot's record says.
+fn default_of(body: &FieldBody) -> Option<&Value>
+    ensures { option_map value_of (option_copied result) ≡ default_said (kind_of_field body.now) }
+{
+    match body {
+        FieldBody::Slot { default, .. } => default.as_ref(),
+        FieldBody::Group { .. } => None,
+    }
+}
 
 /// A struct or a group to read, of a message or of a default. It may have other sizes than its schema says.
 #[derive_where(Clone, Copy)]
@@ -59,6 +70,7 @@ impl<'a, A: ReaderArena> Reader<'a, A> {
         ensures { ShowsField A.segments (struct_seen A.segments self.entry.source) field.entry result }
     {
         let set = field.parent().set();
+        let said = field.get_proto();
         match field.place() {
             FieldPlace::Void { .. } => Ok(dynamic_value::Reader::Void),
             FieldPlace::Plain {
@@ -66,12 +78,12 @@ impl<'a, A: ReaderArena> Reader<'a, A> {
                 offset,
                 default_bits,
             } => Ok(plain_value(&self.source, set, ty, offset as usize, default_bits)),
-            FieldPlace::Pointer { index, default, .. } => {
+            FieldPlace::Pointer { index, .. } => {
                 open_slot(
                     self.source.pointer(index as usize),
                     set,
                     field.get_type(),
-                    default,
+                    default_of(&said.body),
                 )
             }
             FieldPlace::Group { schema } => Ok(dynamic_value::Reader::Struct(Reader {
@@ -121,5 +133,31 @@ impl<'a, A: ReaderArena> Reader<'a, A> {
         ensures { result ≡ Ok (has_field (struct_seen A.segments self.now.source) field.entry) }
     {
         Ok(self.is_active(field) && !self.is_null_slot(field))
+    }
+
+    /// The union's active member: none without a union, and where the discriminant is that of no member. It never refuses.
+    pub fn which(self) -> Result<Option<Field<'a>>>
+        ensures { let r = self.entry in IsOkAnd result (λ found. IsFieldAt r.schema (active_index r.schema (struct_seen A.segments r.source)) found) }
+    {
+        match self.discriminant(self.schema) {
+            None => Ok(None),
+            Some(active) => self.schema.get_field_by_discriminant(active),
+        }
+    }
+
+    /// What the field of a name is read as, as by `get`. A name that the struct lacks is refused by `FieldNotFound`.
+    pub fn get_named(self, name: &str) -> Result<dynamic_value::Reader<'a, A>>
+        ensures { let r = self.entry in AnswersNamed r.schema name.now (λ f. ShowsField A.segments (struct_seen A.segments r.source) f) result }
+    {
+        let field = self.schema.get_field_by_name(name)?;
+        self.get(field)
+    }
+
+    /// Whether the field of a name is there, as by `has`. A name that the struct lacks is refused by `FieldNotFound`, and nothing else is.
+    pub fn has_named(&self, name: &str) -> Result<bool>
+        ensures { AnswersNamed self.now.schema name.now (λ f told. told ≡ Ok (has_field (struct_seen A.segments self.now.source) f)) result }
+    {
+        let field = self.schema.get_field_by_name(name)?;
+        self.has(field)
     }
 }

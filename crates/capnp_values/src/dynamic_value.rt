@@ -1,10 +1,10 @@
 //! Values whose type is known at run time.
-ghost use Rattle.std.specs.Prelude.{◌≡◌};
-
+use crate::downcast::DowncastReader;
 use crate::{any_pointer, dynamic_list, dynamic_struct};
-use capnp_records::raw::RawEnumSchema;
-use capnp_records::set::SchemaSet;
+use capnp_queries::enumerants::Enumerant;
+use capnp_queries::enums::EnumSchema;
 use capnp_text::{data, text};
+use capnp_units::errors::Result;
 
 /// A value to read, by its type.
 #[derive_where(Clone, Copy)]
@@ -28,20 +28,54 @@ pub enum Reader<'a, A> {
     Capability(Capability),
 }
 
+impl<'a, A> Reader<'a, A> {
+    ghost use Rattle.std.specs.Prelude.{◌≡◌, Some, is_some, true};
+
+    /// The value in the variant of a type, of which the value is; `fits` of the type tells.
+    pub fn downcast<T: DowncastReader<'a, A>>(self) -> T
+        requires { is_some (T.variant self) ≡ true }
+        ensures { T.variant self.entry ≡ Some result }
+    {
+        T::downcast_reader(self)
+    }
+}
+
 /// A value of an enum. It may have no enumerant in the schema.
 #[derive(Clone, Copy, Debug)]
 pub struct Enum<'a> {
-    pub(crate) value: u16,
-    pub(crate) set: &'a SchemaSet,
-    pub(crate) raw: RawEnumSchema,
+    value: u16,
+    schema: EnumSchema<'a>,
 }
 
-impl Enum<'_> {
+impl<'a> Enum<'a> {
+    ghost use Rattle.std.specs.Prelude.{◌≡◌, IsOkAnd};
+    ghost use Rattle.capnp_values.specs.Shown.{IsEnumerantAt};
+
+    /// A value of an enum.
+    pub fn new(value: u16, schema: EnumSchema<'a>) -> Enum<'a>
+        ensures value { result.value ≡ value }
+        ensures schema { result.schema ≡ schema.entry }
+    {
+        Enum { value, schema }
+    }
+
     /// The value.
     pub fn get_value(&self) -> u16
         ensures { result ≡ self.now.value }
     {
         self.value
+    }
+
+    /// The enumerant of the value, or none where the schema has none. It never refuses.
+    pub fn get_enumerant(self) -> Result<Option<Enumerant<'a>>>
+        ensures { IsOkAnd result (λ found. IsEnumerantAt self.entry.schema self.entry.value found) }
+    {
+        let enumerants = self.schema.get_enumerants()?;
+        if self.value < enumerants.len() {
+            Ok(Some(enumerants.get(self.value)))
+        } else {
+            Ok(None)
+        }
     }
 }
 

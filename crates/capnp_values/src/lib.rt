@@ -2,10 +2,13 @@
 #![tactic(auto)]
 
 pub mod any_pointer;
+pub mod conversions;
 mod defaults;
+pub mod downcast;
 pub mod dynamic_list;
 pub mod dynamic_struct;
 pub mod dynamic_value;
+pub mod laws;
 mod opening;
 mod plain;
 mod single;

@@ -66,7 +66,7 @@ pub(crate) fn struct_value<'a, A: ReaderArena>(
     raw: RawBrandedStructSchema,
 ) -> Reader<'a, A>
     requires { IsNodeOf (nodes_of set.now) raw }
-    ensures { shown A.segments result ≡ a_struct ((schema_of (nodes_of set.now)).shape_of raw.id) (struct_seen A.segments source.entry) }
+    ensures { let s = schema_of (nodes_of set.now) in shown A.segments result ≡ a_struct s (s.shape_of raw.id) (struct_seen A.segments source.entry) }
 {
     let schema = StructSchema::new(set, raw);
     Reader::Struct(dynamic_struct::Reader { source, schema })

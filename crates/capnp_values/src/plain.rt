@@ -1,12 +1,15 @@
 //! Plain values of structs.
-ghost use Rattle.std.specs.Prelude.{◌≡◌, ◌*◌, ◌^◌, ◌<◌};
-ghost use Rattle.capnp_model.specs.Schemas.{plain, width};
-ghost use Rattle.capnp_queries.specs.Handles.{plain_of};
+ghost use Rattle.std.specs.Prelude.{◌≡◌, ◌*◌, ◌^◌, ◌<◌, true};
+ghost use Rattle.capnp_model.specs.Schemas.{width};
+ghost use Rattle.capnp_model.specs.Accepted.{schema_of};
+ghost use Rattle.capnp_records.specs.Sets.{nodes_of};
+ghost use Rattle.capnp_queries.specs.Handles.{plain_of, is_plain_of};
 ghost use Rattle.capnp_values.specs.Sources.{struct_seen, masked_bits};
-ghost use Rattle.capnp_values.specs.Shown.{a_number, shown};
+ghost use Rattle.capnp_values.specs.Shown.{number_shown, shown};
 
 use crate::dynamic_value::{Enum, Reader};
 use crate::source::StructSource;
+use capnp_queries::enums::EnumSchema;
 use capnp_queries::slots::PlainType;
 use capnp_records::set::SchemaSet;
 use capnp_wire::arena::ReaderArena;
@@ -19,8 +22,9 @@ pub(crate) fn plain_value<'a, A: ReaderArena>(
     offset: usize,
     default_bits: u64,
 ) -> Reader<'a, A>
-    requires { default_bits < 2 ^ width (plain_of ty) }
-    ensures { shown A.segments result ≡ a_number (plain (plain_of ty)) (masked_bits (struct_seen A.segments source.now) (width (plain_of ty) * offset) (width (plain_of ty)) default_bits) }
+    requires fits { default_bits < 2 ^ width (plain_of ty) }
+    requires known { is_plain_of (nodes_of set.now) ty ≡ true }
+    ensures { shown A.segments result ≡ number_shown (schema_of (nodes_of set.now)) (plain_of ty) (masked_bits (struct_seen A.segments source.now) (width (plain_of ty) * offset) (width (plain_of ty)) default_bits) }
 {
     match ty {
         PlainType::Bool => Reader::Bool(source.bit(offset, default_bits == 1)),
@@ -38,7 +42,7 @@ pub(crate) fn plain_value<'a, A: ReaderArena>(
         PlainType::UInt64 => Reader::UInt64(source.number(offset, default_bits)),
         PlainType::Enum(raw) => {
             let value = source.number(offset, default_bits as u16);
-            Reader::Enum(Enum { value, set, raw })
+            Reader::Enum(Enum::new(value, EnumSchema::new(set, raw)))
         }
     }
 }

@@ -1,5 +1,6 @@
 //! Structs, lists and defaults read by their schemas, over messages of worked bytes.
 
+use crate::downcast::DowncastReader;
 use crate::dynamic_struct;
 use crate::dynamic_value::Reader;
 use capnp_queries::structs::StructSchema;
@@ -190,7 +191,12 @@ fn lists_of_structs(rt: HostRuntime) -> Result<(), Fail> {
             }
         }
     }
-    assert_eq!(rt; total, 2);
+    for item in items {
+        if let Some(Reader::Struct(_)) = item.ok() {
+            total = total.saturating_add(1);
+        }
+    }
+    assert_eq!(rt; total, 4);
     Ok(())
 }
 
@@ -253,5 +259,73 @@ fn texts_without_a_zero_byte(rt: HostRuntime) -> Result<(), Fail> {
         assert_eq!(rt; error.kind, ErrorKind::TextWithoutZeroByte);
     }
     assert!(rt; matches!(get(p, 0)?, Reader::UInt16(0)));
+    Ok(())
+}
+
+/// The name of the active member of a union.
+fn active<'a>(reader: dynamic_struct::Reader<'a, Arena<'a>>) -> Result<Option<&'a str>, Fail> {
+    let found = reader.which().ok().ok_or("told")?;
+    Ok(match found {
+        Some(field) => Some(field.get_proto().name.as_str()),
+        None => None,
+    })
+}
+
+#[test]
+fn active_members(rt: HostRuntime) -> Result<(), Fail> {
+    let set = schemas(rt.alloc())?;
+    for tag in 0u8..3 {
+        let bytes = [0, 0, 0, 0, 1, 0, 0, 0, 7, 0, tag, 0, 0, 0, 0, 0];
+        let segments = [bytes.as_slice()];
+        let arena = ReaderArenaImpl::new(segments.as_slice(), 64);
+        let expected = match tag {
+            0 => Some("u"),
+            1 => Some("v"),
+            _ => None,
+        };
+        assert_eq!(rt; active(root(&arena, &set, 3)?)?, expected);
+    }
+    let null = [0; 8];
+    let segments = [null.as_slice()];
+    let arena = ReaderArenaImpl::new(segments.as_slice(), 64);
+    assert_eq!(rt; active(root(&arena, &set, 1)?)?, None);
+    Ok(())
+}
+
+#[test]
+fn fields_by_name(rt: HostRuntime) -> Result<(), Fail> {
+    let bytes = [0, 0, 0, 0, 1, 0, 0, 0, 7, 0, 0, 0, 0, 0, 0, 0];
+    let set = schemas(rt.alloc())?;
+    let segments = [bytes.as_slice()];
+    let arena = ReaderArenaImpl::new(segments.as_slice(), 64);
+    let p = root(&arena, &set, 1)?;
+    assert!(rt; matches!(p.get_named("a").ok().ok_or("read")?, Reader::UInt16(7)));
+    assert!(rt; p.has_named("a").ok().ok_or("told")?);
+    assert!(rt; !p.has_named("t").ok().ok_or("told")?);
+    let missing = p.get_named("zz").err().ok_or("refused")?;
+    assert_eq!(rt; missing.kind, ErrorKind::FieldNotFound);
+    let missing = p.has_named("zz").err().ok_or("refused")?;
+    assert_eq!(rt; missing.kind, ErrorKind::FieldNotFound);
+    Ok(())
+}
+
+#[test]
+fn values_of_known_types(rt: HostRuntime) -> Result<(), Fail> {
+    let value: Reader<'_, Arena<'_>> = Reader::from(7u16);
+    assert!(rt; u16::fits(&value));
+    assert!(rt; !bool::fits(&value));
+    let number = if u16::fits(&value) {
+        value.downcast()
+    } else {
+        0u16
+    };
+    assert_eq!(rt; number, 7);
+    let value: Reader<'_, Arena<'_>> = Reader::from("hi");
+    let is_hi = if let Reader::Text(text) = value {
+        text.eq_str("hi")
+    } else {
+        false
+    };
+    assert!(rt; is_hi);
     Ok(())
 }

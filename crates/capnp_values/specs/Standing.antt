@@ -1,0 +1,114 @@
+-- Where what is shown stands at a value, and what it reads as there. (Encoding, "Value Encoding")
+use Rattle.std.specs.Prelude.{ℕ, ◌≡◌, ◌*◌, ◌^◌, ◌<◌, ◌≤◌, List, [], Option, Some, None, Result, Ok, Err}
+use Rattle.capnp_model.specs.Kinds.{Kind}
+use Rattle.capnp_model.specs.Trees.{Tree, null, structure, Trees, none, child}
+use Rattle.capnp_model.specs.Trimming.{trim}
+use Rattle.capnp_model.specs.Traversal.{tree_at}
+use Rattle.capnp_model.specs.Schemas.{Ty, void, plain, text, blob, untyped, interface, struct, list, Value, FieldKind, Shape, Schema}
+use Rattle.capnp_model.specs.Accepted.{field_body}
+use Rattle.capnp_model.specs.Readings.{Reading, inactive, null_pointer, fault, number, text_of, blob_of, list_of, record_as, opaque, no_readings, Extent, whole_words, just_bits, no_children, shape_record, body_of, read, read_child}
+use Rattle.capnp_wire.specs.Views.{PointerView, StructView, ListView, pointer_field}
+use Rattle.capnp_wire.specs.Laws.{reads_behind, ShowsList}
+use Rattle.capnp_values.specs.Shown.{Shown, a_number, an_enum, a_text, a_blob, a_struct, a_list, a_pointer, a_capability, opened, slot_opened}
+
+-- The pointer leads to a value of so many levels at most, and they are left.
+pub record Leads (n : ℕ) (p : PointerView) (t : Tree) : Type 0 where
+  pub left : ℕ
+  pub levels : p.levels ≡ Some left
+  pub enough : n ≤ left
+  pub tree : reads_behind (tree_at n p.basis.segments) p.place ≡ Some t
+
+-- The data section goes so far.
+abbrev pub IsExtent : Extent → StructView → Type 0
+IsExtent (just_bits size) v = v.bits ≡ size
+IsExtent whole_words v = (words : ℕ) × (v.bits ≡ 64 * words) × (v.section < 2 ^ (64 * words))
+
+-- The struct has this section, and the pointer at each index leads to the child there; past the last to null.
+pub record Stands (n : ℕ) (v : StructView) (e : Extent) (section : ℕ) (kids : Trees) : Type 0 where
+  pub extent : IsExtent e v
+  pub same : v.section ≡ section
+  pub children : (i : ℕ) → Leads n (pointer_field v i) (child kids i)
+
+-- The list shows a value of so many levels at most, and they are left.
+pub record Lists (n : ℕ) (l : ListView) (t : Tree) : Type 0 where
+  pub left : ℕ
+  pub levels : l.levels ≡ Some left
+  pub enough : n ≤ left
+  pub shows : ShowsList (tree_at n l.basis.segments) l t
+
+-- The empty value of a type.
+abbrev pub empty_reading : Schema → Ty → Reading
+empty_reading s void = number 0
+empty_reading s (plain p) = number 0
+empty_reading s text = text_of []
+empty_reading s blob = blob_of []
+empty_reading s untyped = opaque null
+empty_reading s interface = opaque null
+empty_reading s (struct id) = record_as (shape_record (s.shape_of id) whole_words 0 no_children)
+empty_reading s (list ty) = list_of no_readings
+
+-- A reading, null as the empty value of the type.
+abbrev pub or_empty : Schema → Ty → Reading → Reading
+or_empty s ty inactive = inactive
+or_empty s ty null_pointer = empty_reading s ty
+or_empty s ty (fault kind) = fault kind
+or_empty s ty (number n) = number n
+or_empty s ty (text_of bytes) = text_of bytes
+or_empty s ty (blob_of bytes) = blob_of bytes
+or_empty s ty (list_of rs) = list_of rs
+or_empty s ty (record_as r) = record_as r
+or_empty s ty (opaque t) = opaque t
+
+-- A struct stands where its record is the reading.
+pub record IsRecord (s : Schema) (g : Shape) (v : StructView) (r : Reading) : Type 0 where
+  pub levels : ℕ
+  pub extent : Extent
+  pub section : ℕ
+  pub kids : Trees
+  pub stands : Stands levels v extent section kids
+  pub is : r ≡ record_as (shape_record g extent section (read_child s kids))
+
+-- A list stands where its elements are the reading.
+pub record AreItems (s : Schema) (ty : Ty) (l : ListView) (r : Reading) : Type 0 where
+  pub levels : ℕ
+  pub tree : Tree
+  pub lists : Lists levels l tree
+  pub is : r ≡ or_empty s (list ty) (read s tree (list ty))
+
+-- A pointer leads to the reading's value.
+pub record IsOpaque (p : PointerView) (r : Reading) : Type 0 where
+  pub levels : ℕ
+  pub tree : Tree
+  pub leads : Leads levels p tree
+  pub is : r ≡ opaque (trim tree)
+
+-- What is shown is the reading, under a schema.
+abbrev pub IsReading : Schema → Shown → Reading → Type 0
+IsReading s (a_number ty n) r = r ≡ number n
+IsReading s (an_enum s' id n) r = (s' ≡ s) × (r ≡ number n)
+IsReading s (a_text bytes) r = r ≡ text_of bytes
+IsReading s (a_blob bytes) r = r ≡ blob_of bytes
+IsReading s (a_struct s' g v) r = (s' ≡ s) × IsRecord s g v r
+IsReading s (a_list s' ty l) r = (s' ≡ s) × AreItems s ty l r
+IsReading s (a_pointer p) r = IsOpaque p r
+IsReading s a_capability r = (t : Tree) × (r ≡ opaque t)
+
+-- What is answered is the reading, or the kind of its fault.
+abbrev pub Answers : Schema → Result Shown Kind → Reading → Type 0
+Answers s (Ok x) r = IsReading s x r
+Answers s (Err kind) r = r ≡ fault kind
+
+-- Values of the type stand behind a pointer.
+abbrev pub IsPointerType : Ty → Type 0
+IsPointerType void = ⊥
+IsPointerType (plain p) = ⊥
+IsPointerType text = Unit {0}
+IsPointerType blob = Unit {0}
+IsPointerType untyped = Unit {0}
+IsPointerType interface = Unit {0}
+IsPointerType (struct id) = Unit {0}
+IsPointerType (list ty) = Unit {0}
+
+-- What a pointer shows is what its value reads as.
+abbrev pub PointersAreRead : Type 0
+PointersAreRead = (n : ℕ) (p : PointerView) (t : Tree) (s : Schema) (ty : Ty) → IsPointerType ty → Leads n p t → Answers s (opened s ty p) (or_empty s ty (read s t ty))
