@@ -1,0 +1,6 @@
+pub mod Built
+pub mod Loans
+pub mod Messages
+pub mod Segments
+pub mod Options
+pub mod Roots

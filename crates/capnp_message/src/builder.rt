@@ -1,0 +1,113 @@
+//! Whole messages that are built.
+ghost use Rattle.std.specs.Prelude.{◌≡◌, ◌-◌, ◌*◌, ◌^◌, ◌<◌, ◌≤◌, ◌++◌, ◌∷◌, [], length, map, min, take, IfOk, IfErr, OnOk, OnErr};
+ghost use Rattle.std.specs.List.{flat_map};
+ghost use Rattle.capnp_units.specs.declared.kinds.ErrorKind.TheVariants.{OutOfMemory};
+ghost use Rattle.capnp_object.specs.Arenas.{words_before};
+ghost use Rattle.capnp_message.specs.Built.{used_bytes, used_words};
+
+use crate::heap::HeapAllocator;
+use capnp_copy::allocator::{Allocator, SegmentBytes};
+use capnp_copy::arena::{BuilderArena, Memory};
+use capnp_copy::segments::BuilderArenaImpl;
+use capnp_units::errors::Result;
+use capnp_units::segments::ReaderSegments;
+use capnp_units::sizes::SegmentId;
+use capnp_wire::arena::ReaderArena;
+use std::alloc::Global;
+
+/// A message that is built, over the segments of an allocator. Handles of its values hold `&mut builder.memory`.
+///
+/// It is no value that may be dropped: it ends by `into_allocator`, which gives every segment back.
+pub struct Builder<A: Allocator> {
+    pub memory: Memory<BuilderArenaImpl<A>>,
+}
+
+impl<A: Allocator> Builder<A> {
+    /// A message without segments. Memory for the list of them comes from `alloc`, their bytes come from the allocator.
+    pub fn new(alloc: Global, allocator: A) -> Builder<A>
+        ensures allocator { result.memory.arena.allocator ≡ allocator }
+        ensures empty { result.memory.arena.segments.items ≡ [] }
+    {
+        Builder {
+            memory: Memory {
+                arena: BuilderArenaImpl::new(alloc, allocator),
+            },
+        }
+    }
+
+    /// Makes the root pointer, which is null, where the message has no segment yet.
+    ///
+    /// It is refused as the allocator refuses, or with `OutOfMemory` where the list of segments can't grow; then the message is as it was.
+    pub fn allocate_root(&mut self) -> Result<()>
+        ensures made { OnOk result (self.old.memory.arena.segments.items ≡ []
+            → used_words (λ h. h.used) (λ h. A.Segment.bytes h.segment)
+            self.new.memory.arena.segments.items ≡ (0 ∷ []) ∷ []) }
+        ensures had { OnOk result (0 < length self.old.memory.arena.segments.items
+            → self.new.memory.arena.segments.items ≡ self.old.memory.arena.segments.items) }
+        ensures refused { OnErr result (used_words (λ h. h.used) (λ h. A.Segment.bytes h.segment)
+            self.new.memory.arena.segments.items ≡ used_words (λ h. h.used)
+            (λ h. A.Segment.bytes h.segment) self.old.memory.arena.segments.items) }
+        ensures place { A.place self.new.memory.arena.allocator
+            ≡ A.place self.old.memory.arena.allocator }
+        ensures loans { flat_map (λ h. A.Segment.loans h.segment) self.new.memory.arena.segments.items
+            ++ A.loans self.new.memory.arena.allocator
+            ≡ flat_map (λ h. A.Segment.loans h.segment) self.old.memory.arena.segments.items
+            ++ A.loans self.old.memory.arena.allocator }
+    {
+        if self.memory.arena.len() == 0 {
+            self.memory.arena.allocate_anywhere(1)?;
+        }
+        Ok(())
+    }
+
+    /// The used bytes of each segment, in order. Memory for the list alone comes from `alloc`; `OutOfMemory`: it was refused.
+    pub fn get_segments_for_output(&self, alloc: Global) -> Result<Vec<&[u8]>>
+        ensures segments { IfOk result (λ v. map (λ bytes. bytes.now) v.items
+            ≡ used_bytes (λ h. h.used) (λ h. A.Segment.bytes h.segment) self.now.memory.arena.segments.items) }
+        ensures kind { IfErr result (λ e. e.kind ≡ OutOfMemory) }
+    {
+        self.memory.arena.get_segments_for_output(alloc)
+    }
+
+    /// The used words of all segments.
+    pub fn size_in_words(&self) -> usize
+        ensures { result ≡ min (words_before (map (λ h. take (8 * h.used) (A.Segment.bytes h.segment))
+            self.now.memory.arena.segments.items)
+            (min (length self.now.memory.arena.segments.items) (2 ^ 32))) (2 ^ 64 - 1) }
+    {
+        self.memory.arena.size_in_words()
+    }
+
+    /// The allocator, to which every segment was given back. There is one lent slice at most among them and in the allocator.
+    pub fn into_allocator(self) -> A
+        requires { length (flat_map (λ h. A.Segment.loans h.segment) self.memory.arena.segments.items ++ A.loans self.memory.arena.allocator) ≤ 1 }
+        ensures place { A.place result ≡ A.place self.memory.arena.allocator }
+        ensures loans { A.loans result ≡ flat_map (λ h. A.Segment.loans h.segment) self.memory.arena.segments.items ++ A.loans self.memory.arena.allocator }
+    {
+        let Builder { memory } = self;
+        let Memory { arena } = memory;
+        arena.into_allocator()
+    }
+}
+
+impl Builder<HeapAllocator> {
+    /// A message over the heap, with the suggested sizes of segments.
+    pub fn new_default(alloc: Global) -> Builder<HeapAllocator>
+        ensures { result.memory.arena.segments.items ≡ [] }
+    {
+        Builder::new(alloc, HeapAllocator::new(alloc))
+    }
+}
+
+/// The used bytes of each segment.
+impl<A: Allocator> ReaderSegments for Builder<A> {
+    ghost segments = { λ b. map (λ h. take (8 * h.used) (A.Segment.bytes h.segment)) b.memory.arena.segments.items };
+
+    fn get_segment(&self, id: SegmentId) -> Option<&[u8]> {
+        self.memory.arena.get_segment(id)
+    }
+
+    fn len(&self) -> usize {
+        self.memory.arena.len()
+    }
+}

@@ -1,0 +1,60 @@
+//! How many words an allocator asks for, where fewer would do.
+ghost use Rattle.std.specs.Prelude.{◌≤◌};
+
+/// How the segments of a message grow.
+#[derive(Clone, Copy, Debug, PartialEq, Eq)]
+pub enum AllocationStrategy {
+    /// Each has the words of the first, or more where more are asked for.
+    FixedSize,
+    /// Each has about the words of all before it.
+    GrowHeuristically,
+}
+
+/// The words of a message's first segment, unless others are set.
+pub const SUGGESTED_FIRST_SEGMENT_WORDS: u32 = 1024;
+
+/// How segments grow, unless it is set.
+pub const SUGGESTED_ALLOCATION_STRATEGY: AllocationStrategy = AllocationStrategy::GrowHeuristically;
+
+/// The most words of a segment, unless others are set or more are asked for at once.
+pub(crate) const MOST_SEGMENT_WORDS: u32 = 0x1fff_ffff;
+
+/// The words of the next segment, where no more are asked for.
+#[derive(Clone, Copy, Debug)]
+pub(crate) struct Growth {
+    pub(crate) first: u32,
+    pub(crate) next: u32,
+    pub(crate) most: u32,
+    pub(crate) strategy: AllocationStrategy,
+}
+
+impl Growth {
+    /// What is suggested.
+    pub(crate) fn new() -> Growth {
+        Growth {
+            first: SUGGESTED_FIRST_SEGMENT_WORDS,
+            next: SUGGESTED_FIRST_SEGMENT_WORDS,
+            most: MOST_SEGMENT_WORDS,
+            strategy: SUGGESTED_ALLOCATION_STRATEGY,
+        }
+    }
+
+    /// The words of the next segment, of which at least so many are asked for.
+    pub(crate) fn words_for(&self, minimum: u32) -> u32
+        ensures { minimum ≤ result }
+    {
+        minimum.max(self.next.min(self.most))
+    }
+
+    /// A segment of so many words was handed out.
+    pub(crate) fn grow(&mut self, words: u32) {
+        if self.strategy == AllocationStrategy::GrowHeuristically {
+            self.next = self.next.saturating_add(words);
+        }
+    }
+
+    /// The segments were given back.
+    pub(crate) fn restart(&mut self) {
+        self.next = self.first;
+    }
+}

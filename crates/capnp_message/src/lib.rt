@@ -1,0 +1,21 @@
+//! Messages: where their memory comes from, how far they are read, and whole messages that are read from streams and slices.
+#![tactic(auto)]
+
+#[cfg(test)]
+mod allocator_tests;
+pub mod builder;
+pub mod growth;
+pub mod heap;
+pub mod laws;
+pub mod options;
+#[cfg(test)]
+mod packed_tests;
+pub mod reader;
+#[cfg(test)]
+mod reader_tests;
+pub mod scratch;
+pub mod segment;
+pub mod serialize;
+pub mod serialize_packed;
+pub mod single;
+pub mod typed;

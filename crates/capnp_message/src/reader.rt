@@ -1,0 +1,114 @@
+//! Whole messages that are read.
+ghost use Rattle.std.specs.Prelude.{◌≡◌, ◌-◌, ◌^◌, length, map, min};
+ghost use Rattle.capnp_object.specs.Arenas.{words_before};
+ghost use Rattle.capnp_wire.specs.Reads.{root_of};
+ghost use Rattle.capnp_message.specs.Roots.{ReadsRoot};
+
+use crate::options::ReaderOptions;
+use capnp_units::errors::Result;
+use capnp_units::limiter::ReadLimiter;
+use capnp_units::segments::ReaderSegments;
+use capnp_units::sizes::SegmentId;
+use capnp_wire::arena::{ReaderArena, ReaderArenaImpl};
+use capnp_wire::pointer::PointerReader;
+use capnp_wire::traits::FromPointerReader;
+
+/// Segments in a lent slice of slices.
+#[derive(Clone, Copy)]
+pub struct SegmentArray<'a> {
+    segments: &'a [&'a [u8]],
+}
+
+impl<'a> SegmentArray<'a> {
+    /// These segments.
+    pub fn new(segments: &'a [&'a [u8]]) -> SegmentArray<'a>
+        ensures { result.segments.now ≡ segments.now }
+    {
+        SegmentArray { segments }
+    }
+}
+
+impl ReaderSegments for SegmentArray<'_> {
+    ghost segments = { λ s. map (λ bytes. bytes.now) s.segments.now };
+
+    fn get_segment(&self, id: SegmentId) -> Option<&[u8]> {
+        match self.segments.get(id as usize) {
+            Some(bytes) => Some(*bytes),
+            None => None,
+        }
+    }
+
+    fn len(&self) -> usize {
+        self.segments.len()
+    }
+}
+
+/// A message: its segments, and how deep a value in it may be nested. It is the arena that its handles read.
+#[derive(Drop)]
+pub struct Reader<S> {
+    segments: S,
+    options: ReaderOptions,
+}
+
+impl<S: ReaderSegments> Reader<S> {
+    /// The message of these segments, read under these options; what is followed in it is paid for from the limiter that each call takes.
+    pub fn new(segments: S, options: ReaderOptions) -> Reader<S>
+        ensures segments { result.segments ≡ segments }
+        ensures options { result.options ≡ options }
+    {
+        Reader { segments, options }
+    }
+
+    /// The root, read as a caller's type. It is refused with `OutOfBounds` where the first segment has no word, at no cost; else as the type reads a pointer.
+    pub fn get_root<'a, T: FromPointerReader<'a, Reader<S>>>(
+        &'a self,
+        limiter: &mut ReadLimiter,
+    ) -> Result<T>
+        ensures { ReadsRoot T.reads
+            (root_of (S.segments self.now.segments) self.now.options.nesting_limit)
+            limiter.old result limiter.new }
+    {
+        let root = PointerReader::get_root_from_arena(self)?;
+        T::get_from_pointer(&root, limiter, None)
+    }
+
+    /// The segments, given back.
+    pub fn into_segments(self) -> S
+        ensures { result ≡ self.segments }
+    {
+        self.segments
+    }
+
+    /// The segments, lent.
+    pub fn get_segments(&self) -> &S
+        ensures { result.now ≡ self.now.segments }
+    {
+        &self.segments
+    }
+
+    /// The words of the segments that a pointer can name, the first 2^32; past the last whole word of each none counts. The count stops at 2^64 - 1.
+    pub fn size_in_words(&self) -> usize
+        ensures { result ≡ min (words_before (S.segments self.now.segments)
+            (min (length (S.segments self.now.segments)) (2 ^ 32))) (2 ^ 64 - 1) }
+    {
+        ReaderArenaImpl::new(&self.segments, self.options.nesting_limit).size_in_words()
+    }
+}
+
+impl<S: ReaderSegments> ReaderArena for Reader<S> {
+    ghost segments = { λ m. S.segments m.segments };
+
+    ghost nesting = { λ m. m.options.nesting_limit };
+
+    fn get_segment(&self, id: SegmentId) -> Option<&[u8]> {
+        self.segments.get_segment(id)
+    }
+
+    fn nesting_limit(&self) -> i32 {
+        self.options.nesting_limit
+    }
+
+    fn size_in_words(&self) -> usize {
+        Reader::size_in_words(self)
+    }
+}

@@ -1,0 +1,118 @@
+//! Packed messages, read from streams.
+ghost use Rattle.std.specs.Prelude.{◌≡◌, ◌<◌, ◌⊎◌, length, IfOk, IfSome};
+ghost use Rattle.capnp_model.specs.Packing.{unpacked};
+ghost use Rattle.capnp_model.specs.Messages.{packed_message};
+ghost use Rattle.capnp_io.specs.Writes.{Writes, sink_seen};
+ghost use Rattle.capnp_packing.specs.Streams.{is_packed_fault};
+ghost use Rattle.capnp_stream.specs.Reading.{TriesMessage, ReadsMessage, source_seen};
+ghost use Rattle.capnp_stream.specs.Filling.{TriesFilling, FillsMessage};
+ghost use Rattle.capnp_message.specs.Messages.{segments_read, segments_tried};
+ghost use Rattle.capnp_message.specs.Built.{used_words};
+
+use crate::builder::Builder;
+use crate::laws::built_segments_can_be_written;
+use crate::options::ReaderOptions;
+use crate::reader::Reader;
+use capnp_copy::allocator::{Allocator, SegmentBytes};
+use capnp_packing::serialize_packed as segments_packed;
+pub use capnp_packing::serialize_packed::{write_message_segments, write_segment};
+pub use capnp_packing::streams::{PackedRead, PackedWrite};
+use capnp_stream::buffers::NoAllocSliceSegments;
+use capnp_stream::segments::OwnedSegments;
+use capnp_stream::traits::{BufRead, Write};
+use capnp_units::errors::Result;
+use std::alloc::Global;
+
+/// The next packed message, or `None` where no byte is left.
+///
+/// `InvalidNumberOfSegments`: its table counts more than 511. `MessageTooLarge`: it has more words than the options' limit. `PrematureEndOfPackedInput`, `FailedToFillTheWholeBuffer` and `PackedInputDidNotEndCleanlyOnASegmentBoundary`: a piece of it can't be read. `Device`: the source failed. `OutOfMemory`: there is none for the segments. After a refusal less than a message was taken, and no byte behind the first that is at fault.
+pub fn try_read_message<R: BufRead>(
+    alloc: Global,
+    source: &mut R,
+    options: ReaderOptions,
+) -> Result<Option<Reader<OwnedSegments>>>
+    ensures message { TriesMessage unpacked is_packed_fault options.traversal_limit_in_words
+        (source_seen R.remaining R.failures source.old) (segments_tried result)
+        (source_seen R.remaining R.failures source.new) }
+    ensures options { IfOk result (λ o. IfSome o (λ m. m.options ≡ options)) }
+{
+    match segments_packed::try_read_message(alloc, source, options.traversal_limit_in_words) {
+        Ok(Some(segments)) => Ok(Some(Reader::new(segments, options))),
+        Ok(None) => Ok(None),
+        Err(e) => Err(e),
+    }
+}
+
+/// The next packed message. `PrematureEndOfFile`: no byte is left. Else it refuses as `try_read_message` does.
+pub fn read_message<R: BufRead>(
+    alloc: Global,
+    source: &mut R,
+    options: ReaderOptions,
+) -> Result<Reader<OwnedSegments>>
+    ensures message { ReadsMessage unpacked is_packed_fault options.traversal_limit_in_words
+        (source_seen R.remaining R.failures source.old) (segments_read result)
+        (source_seen R.remaining R.failures source.new) }
+    ensures options { IfOk result (λ m. m.options ≡ options) }
+{
+    match segments_packed::read_message(alloc, source, options.traversal_limit_in_words) {
+        Ok(segments) => Ok(Reader::new(segments, options)),
+        Err(e) => Err(e),
+    }
+}
+
+/// The next packed message, or `None` where no byte is left. Its table and its segments lie unpacked in the buffer, and no memory is taken.
+///
+/// `BufferNotLargeEnough`: the buffer has fewer bytes than the table and the segments unpacked. Else it refuses as `try_read_message` does, but never by `OutOfMemory`.
+pub fn try_read_message_no_alloc<'a, R: BufRead>(
+    source: &mut R,
+    buffer: &'a mut [u8],
+    options: ReaderOptions,
+) -> Result<Option<Reader<NoAllocSliceSegments<'a>>>>
+    ensures message { TriesFilling unpacked is_packed_fault options.traversal_limit_in_words
+        (length buffer.old) (source_seen R.remaining R.failures source.old)
+        (segments_tried result) (source_seen R.remaining R.failures source.new) }
+    ensures options { IfOk result (λ o. IfSome o (λ m. m.options ≡ options)) }
+{
+    let limit = options.traversal_limit_in_words;
+    match segments_packed::try_read_message_no_alloc(source, buffer, limit) {
+        Ok(Some(segments)) => Ok(Some(Reader::new(segments, options))),
+        Ok(None) => Ok(None),
+        Err(e) => Err(e),
+    }
+}
+
+/// The next packed message, which lies unpacked in the buffer behind its table. `PrematureEndOfFile`: no byte is left. Else it refuses as `try_read_message_no_alloc` does.
+pub fn read_message_no_alloc<'a, R: BufRead>(
+    source: &mut R,
+    buffer: &'a mut [u8],
+    options: ReaderOptions,
+) -> Result<Reader<NoAllocSliceSegments<'a>>>
+    ensures message { FillsMessage unpacked is_packed_fault options.traversal_limit_in_words
+        (length buffer.old) (source_seen R.remaining R.failures source.old)
+        (segments_read result) (source_seen R.remaining R.failures source.new) }
+    ensures options { IfOk result (λ m. m.options ≡ options) }
+{
+    match segments_packed::read_message_no_alloc(source, buffer, options.traversal_limit_in_words) {
+        Ok(segments) => Ok(Reader::new(segments, options)),
+        Err(e) => Err(e),
+    }
+}
+
+/// Writes the packed message of the used words of a builder's segments, of which there is one at least.
+///
+/// After a refusal a beginning of it was written. `OutOfMemory`: the sink wants memory, or the table of more than one segment does. `BufferNotLargeEnough`: the sink has an end, and less room than the message has bytes. `Device`: the sink failed.
+pub fn write_message<W: Write, A: Allocator>(
+    alloc: Global,
+    out: &mut W,
+    message: &Builder<A>,
+) -> Result<()>
+    requires { 0 < length message.now.memory.arena.segments.items }
+    ensures { Writes (W.may_grow ⊎ (1 < length message.now.memory.arena.segments.items))
+        (packed_message (used_words (λ h. h.used) (λ h. A.Segment.bytes h.segment)
+        message.now.memory.arena.segments.items))
+        (sink_seen W.contents W.failures W.room out.old) result
+        (sink_seen W.contents W.failures W.room out.new) }
+{
+    built_segments_can_be_written(message);
+    write_message_segments(alloc, out, message)
+}

@@ -1,0 +1,63 @@
+//! Messages whose root's type is known.
+ghost use Rattle.std.specs.Prelude.{◌≡◌};
+ghost use Rattle.capnp_wire.specs.Reads.{root_of};
+ghost use Rattle.capnp_message.specs.Roots.{ReadsRoot};
+
+use crate::reader::Reader;
+use capnp_units::errors::Result;
+use capnp_units::limiter::ReadLimiter;
+use capnp_units::segments::ReaderSegments;
+use capnp_wire::traits::Owned;
+use std::marker::PhantomData;
+
+/// A message whose root is read as what `T` says.
+#[derive(Drop)]
+pub struct TypedReader<S, T> {
+    message: Reader<S>,
+    root: PhantomData<T>,
+}
+
+impl<S: ReaderSegments, T> TypedReader<S, T> {
+    /// This message.
+    pub fn new(message: Reader<S>) -> TypedReader<S, T>
+        ensures { result.message ≡ message }
+    {
+        TypedReader {
+            message,
+            root: PhantomData,
+        }
+    }
+
+    /// The root. It is refused with `OutOfBounds` where the first segment has no word, at no cost; else as the type reads a pointer.
+    pub fn get<'a>(&'a self, limiter: &mut ReadLimiter) -> Result<T::Reader>
+    where
+        T: Owned<'a, Reader<S>>,
+        ensures { ReadsRoot T.Reader.reads
+            (root_of (S.segments self.now.message.segments) self.now.message.options.nesting_limit)
+            limiter.old result limiter.new }
+    {
+        self.message.get_root(limiter)
+    }
+
+    /// The message.
+    pub fn into_inner(self) -> Reader<S>
+        ensures { result ≡ self.message }
+    {
+        self.message
+    }
+
+    /// The segments, lent.
+    pub fn get_segments(&self) -> &S
+        ensures { result.now ≡ self.now.message.segments }
+    {
+        self.message.get_segments()
+    }
+}
+
+impl<S: ReaderSegments, T> From<Reader<S>> for TypedReader<S, T> {
+    ghost from_gives = { λ message typed. typed.message ≡ message };
+
+    fn from(message: Reader<S>) -> TypedReader<S, T> {
+        TypedReader::new(message)
+    }
+}
