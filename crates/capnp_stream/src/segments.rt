@@ -1,5 +1,5 @@
 //! The segments of a message that was read, and the table of their lengths.
-ghost use Rattle.std.specs.Prelude.{◌≡◌, ◌≢◌, ◌≤◌, ◌<◌, ◌↔◌, ◌+◌, ◌*◌, ◌%◌, ◌^◌, [], ◌∷◌, ◌++◌, length, drop, slice_get, sum, option_copied, replicate, All, Some, None, OnOk, OnErr, IfOk, IfSome, IfNone, IsSome, IsTrue, IfErr};
+ghost use Rattle.std.specs.Prelude.{◌≡◌, ◌≢◌, ◌≤◌, ◌<◌, ◌↔◌, ◌+◌, ◌*◌, ◌%◌, ◌^◌, [], ◌∷◌, ◌++◌, length, drop, slice_get, sum, option_copied, replicate, All, Some, None, OnOk, OnErr, IfOk, IfSome, IfNone, IsSome, IsSomeAnd, IsTrue, IfErr};
 ghost use Rattle.capnp_units.specs.declared.kinds.ErrorKind.{ErrorKind};
 ghost use Rattle.capnp_units.specs.Segments.{whole_words};
 ghost use Rattle.capnp_stream.specs.Ranges.{bytes_at, ranges_from, range_lengths};
@@ -198,7 +198,7 @@ pub struct OwnedSegments {
 impl OwnedSegments {
     ghost use Rattle.std.specs.Borrow.{sem};
     ghost use Rattle.capnp_stream.specs.Lending.{LendsBytes};
-    ghost use Rattle.capnp_stream.specs.Segments.{lengths_of, owned_bytes, owned_ranges, segments_of};
+    ghost use Rattle.capnp_stream.specs.Segments.{lengths_of, owned_bytes, owned_ranges, segment_bytes, segments_of};
 
     /// The segments of a table, one after the other in the bytes.
     pub(crate) fn new(bytes: Vec<u8>, table: SegmentLengthsBuilder) -> OwnedSegments
@@ -225,13 +225,13 @@ impl OwnedSegments {
         &mut self.bytes
     }
 
-    /// The words of a segment, or none past the last. `OutOfMemory`: there is a segment, and the memory for its words was refused.
+    /// The words of a segment, or none past the last. `OutOfMemory`: the segment has a word, and the memory for its words was refused.
     pub fn segment_words(&self, alloc: Global, id: SegmentId) -> Result<Option<Vec<u64>>>
         ensures words { IfOk result
             (λ o. IfSome o (λ v. slice_get (segments_of self.now) id ≡ Some v.items)) }
         ensures none { IfOk result (λ o. IfNone o (slice_get (segments_of self.now) id ≡ None)) }
-        ensures refusal { IfErr result
-            (λ e. (e.kind ≡ ErrorKind.OutOfMemory) × (id < length (segments_of self.now))) }
+        ensures refusal { IfErr result (λ e. (e.kind ≡ ErrorKind.OutOfMemory)
+            × IsSomeAnd (slice_get (segment_bytes self.now) id) (λ bytes. 8 ≤ length bytes)) }
     {
         match self.get_segment(id) {
             Some(bytes) => Ok(Some(words_of(alloc, bytes)?)),
