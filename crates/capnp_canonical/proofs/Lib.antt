@@ -1,0 +1,13 @@
+pub mod Scanning
+pub mod Parts
+pub mod Copying
+pub mod Putting
+pub mod Kept
+pub mod Masks
+pub mod Fronts
+pub mod Following
+pub mod Nulls
+pub mod Rows
+pub mod Objects
+pub mod Steps
+pub mod Finals

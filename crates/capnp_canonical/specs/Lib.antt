@@ -1,0 +1,4 @@
+pub mod Writes
+pub mod Widths
+pub mod Copies
+pub mod Objects

@@ -1,0 +1,18 @@
+-- How many of an object's own words a canonical message keeps.
+use Rattle.std.specs.Prelude.{ℕ, zero, suc, max, ◌==◌, if◌then◌else◌, List, [], ◌∷◌}
+use Rattle.capnp_model.specs.Segments.{Place, after}
+
+-- A word before so many that are kept.
+abbrev pub keeps : ℕ → ℕ → ℕ
+keeps w zero = if w == 0 then 0 else 1
+keeps w (suc n) = suc (suc n)
+
+-- The words without zeros at the end.
+abbrev pub kept : List ℕ → ℕ
+kept [] = 0
+kept (w ∷ ws) = keeps w (kept ws)
+
+-- The most that is needed at so many places, each so far from the next.
+abbrev pub widest : (Place → ℕ) → Place → ℕ → ℕ → ℕ
+widest needed p width zero = 0
+widest needed p width (suc n) = max (needed p) (widest needed (after p width) width n)

@@ -1,0 +1,63 @@
+//! Following pointers of values without capabilities.
+ghost use Rattle.std.specs.Prelude.{◌≡◌, Some, None, MatchResult};
+ghost use Rattle.capnp_units.specs.Errors.{kind_of};
+ghost use Rattle.capnp_units.specs.Segments.{words_in};
+ghost use Rattle.capnp_units.specs.Limits.{Spends, Follows};
+ghost use Rattle.capnp_object.specs.Places.{place_view};
+ghost use Rattle.capnp_object.specs.Named.{named_view};
+ghost use Rattle.capnp_canonical.specs.Copies.{FollowsData, fault_of};
+
+use capnp_object::arena::ReaderArena;
+use capnp_object::follow::own_cost;
+use capnp_object::named::{NamedObject, found_at};
+use capnp_object::object::{Object, whole};
+use capnp_object::place::Place;
+use capnp_units::errors::{Error, Result};
+use capnp_units::kinds::ErrorKind;
+use capnp_units::limiter::ReadLimiter;
+
+/// Refuses a capability, and an object that takes a level where none is left.
+fn ask_data(named: NamedObject, levels: u32) -> Result<()>
+    ensures { MatchResult result (λ u. fault_of levels (named_view named) ≡ None) (λ e. fault_of levels (named_view named) ≡ Some (kind_of e.kind)) }
+{
+    match named {
+        NamedObject::Null => Ok(()),
+        NamedObject::Capability { .. } => Err(Error::from(ErrorKind::CapabilityInCanonical)),
+        NamedObject::Struct { .. } | NamedObject::List { .. } => {
+            if levels > 0 {
+                Ok(())
+            } else {
+                Err(Error::from(ErrorKind::NestingLimitExceeded))
+            }
+        }
+    }
+}
+
+/// What the pointer at a place names on a walk of at most so many levels. It is counted as followed, and its pads and the object's own words are granted.
+///
+/// It is refused as `follow_within` is, and a capability with `CapabilityInCanonical`.
+pub(crate) fn follow_data<A: ReaderArena>(
+    arena: &A,
+    limiter: &mut ReadLimiter,
+    place: Place,
+    levels: u32,
+) -> Result<Object>
+    ensures { FollowsData levels (words_in (A.segments arena.now)) (place_view place) limiter.old result limiter.new }
+{
+    limiter.follow();
+    let found = found_at(arena, place)?;
+    ask_data(found.object, levels)?;
+    let object = whole(arena, found.object)?;
+    limiter.charge(found.pads as u64 + own_cost(object))?;
+    Ok(object)
+}
+
+/// Counts so many nulls as followed.
+pub(crate) fn follow_nulls(limiter: &mut ReadLimiter, count: u32)
+    ensures followed { Follows limiter.old limiter.new count }
+    ensures granted { Spends limiter.old limiter.new 0 }
+{
+    for _i in 0..count {
+        limiter.follow();
+    }
+}

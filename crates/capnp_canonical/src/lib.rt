@@ -1,0 +1,7 @@
+//! Canonical words of values, written from the segments that hold them into a slice of words in one walk.
+#![tactic(auto)]
+
+pub mod copy;
+mod follow;
+mod own_words;
+mod words;
