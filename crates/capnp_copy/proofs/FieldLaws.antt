@@ -25,7 +25,7 @@ use Rattle.capnp_footprints.proofs.Splices.{spliced_one}
 use Rattle.capnp_footprints.proofs.Growing.{word_held}
 use Rattle.capnp_footprints.proofs.Writing.{struct_words}
 
-word_in : (s : Segments) (p : Place) (d i w : ℕ) (ws : List ℕ) → i < d → words_at s p d ≡ Some ws → word_at s (after p i) ≡ Some w → get_or ws i 0 ≡ w
+pub word_in : (s : Segments) (p : Place) (d i w : ℕ) (ws : List ℕ) → i < d → words_at s p d ≡ Some ws → word_at s (after p i) ≡ Some w → get_or ws i 0 ≡ w
 word_in s p d i w ws l e f =
     let one = held_in p d (after p i) refl (omega arith) (omega (arith, l)) in
     let same : p.position + i - p.position ≡ i = omega arith in

@@ -15,3 +15,4 @@ pub mod ListWords
 pub mod MakingStructs
 pub mod BlobNumbers
 pub mod BlobValues
+pub mod ElementLaws

@@ -7,3 +7,4 @@ pub mod Rooms
 pub mod Clearing
 pub mod Lists
 pub mod Blobs
+pub mod Elements

@@ -43,6 +43,7 @@ pub fn bit_of(value: bool) -> u64
 pub fn bits_of<T: Primitive>(value: T) -> u64
     ensures bits { result ≡ T.bits value }
     ensures fits { result < 2 ^ (8 * T.BYTES) }
+    ensures back { T.from_bits result ≡ value }
 {
     let mut bytes = [0; 8];
     T::set(&mut bytes[..], value);

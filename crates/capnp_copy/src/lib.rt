@@ -6,6 +6,7 @@ pub mod arena;
 pub mod bits;
 pub mod blobs;
 pub mod clear;
+pub mod elements;
 pub mod fields;
 mod grown;
 pub mod held;

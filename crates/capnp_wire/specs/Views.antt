@@ -4,7 +4,7 @@ unfoldable pub use Rattle.capnp_object.specs.Inside.{section_at}
 use Rattle.std.specs.Prelude.{ℕ, ℤ, ◌+◌, ◌*◌, ◌%◌, ◌^◌, nat_lt, nat_le, if◌then◌else◌, Bool, true, false, List, [], ◌∷◌, length, Option, Some, None}
 use Rattle.std.specs.List.{flat_map}
 use Rattle.capnp_model.specs.Answers.{levels}
-use Rattle.capnp_model.specs.Sections.{bits_at, number_of}
+use Rattle.capnp_model.specs.Sections.{bits_at, number_of, words_for}
 use Rattle.capnp_model.specs.Segments.{Segments, Place, root, after}
 use Rattle.capnp_units.specs.declared.sizes.ElementSize.{ElementSize}
 use Rattle.capnp_units.specs.Segments.{words_in}
@@ -120,3 +120,21 @@ element_number l i width =
 -- The root pointer of an arena.
 abbrev pub arena_root : List (List ℕ) → ℤ → PointerView
 arena_root bytes nesting = record { basis = record { segments = words_in bytes; paid = true }; place = Some root; levels = levels nesting }
+
+-- An arena, in which is paid.
+abbrev pub arena_ground : List (List ℕ) → Ground
+arena_ground bytes = record { segments = words_in bytes; paid = true }
+
+-- The pointer at a place of an arena.
+abbrev pub pointer_at : List (List ℕ) → ℤ → Place → PointerView
+pointer_at bytes nesting p = record { basis = arena_ground bytes; place = Some p; levels = levels nesting }
+
+-- The struct at a place of an arena.
+abbrev pub struct_at : List (List ℕ) → ℤ → Place → ℕ → ℕ → StructView
+struct_at bytes nesting p d k =
+    struct_view (arena_ground bytes) (section_at (words_in bytes) p d) (64 * d) (after p d) k (levels nesting)
+
+-- The list at a place of an arena, whose first element begins there.
+abbrev pub list_at : List (List ℕ) → ℤ → Place → ElementSize → ℕ → ℕ → ℕ → ListView
+list_at bytes nesting p size count d k =
+    list_view (arena_ground bytes) size count (section_at (words_in bytes) p (words_for (step_bits (size_number size) d k * count))) p d k (levels nesting)

@@ -1,12 +1,16 @@
 //! Lists to read.
 ghost use Rattle.std.specs.Prelude.{◌≡◌, ◌≢◌, ◌+◌, ◌*◌, ◌/◌, ◌%◌, ◌<◌, ◌≤◌, ◌^◌, ◌==◌, nat_le, length};
-ghost use Rattle.capnp_model.specs.Sections.{bits_at, number_of};
+ghost use Rattle.capnp_model.specs.Sections.{bits_at, number_of, words_for};
+ghost use Rattle.capnp_units.specs.Segments.{words_in};
+ghost use Rattle.capnp_object.specs.Objects.{AreThere};
 ghost use Rattle.capnp_model.specs.Readings.{is_accepted_as};
 ghost use Rattle.capnp_units.specs.Sizes.{size_number, data_bits};
 ghost use Rattle.capnp_wire.specs.Elements.{step_bits, element_bits, step_words, element_pointers};
 
 use crate::arena::ReaderArena;
 use crate::backing::Backing;
+use crate::levels::levels_of;
+use crate::object::words_of_elements;
 use crate::place::Place;
 use crate::pointer::PointerReader;
 use crate::section::bit_of;
@@ -41,10 +45,20 @@ impl<A> Clone for ListReader<'_, A> {
 
 impl<A> Copy for ListReader<'_, A> {}
 
+/// The words from the first of so many elements to the end of the last; those of pointers aren't counted.
+fn words_of_steps(size: ElementSize, count: u32, data_words: u16, pointers: u16) -> usize
+    ensures { result ≡ words_for (step_bits (size_number size) data_words pointers * count) }
+{
+    match size {
+        ElementSize::InlineComposite => count as usize * (data_words as usize + pointers as usize),
+        _ => words_of_elements(size, count) as usize,
+    }
+}
+
 impl<'a, A: ReaderArena> ListReader<'a, A> {
     ghost use Rattle.capnp_model.specs.Segments.{root};
     ghost use Rattle.capnp_object.specs.Places.{place_view};
-    ghost use Rattle.capnp_wire.specs.Views.{ground_of, seen_pointer, seen_struct, seen_list, list_view, element_of, element_number, pointer_field};
+    ghost use Rattle.capnp_wire.specs.Views.{ground_of, seen_pointer, seen_struct, seen_list, list_view, list_at, element_of, element_number, pointer_field};
 
     /// A list of these parts.
     pub(crate) fn of_parts(
@@ -90,6 +104,28 @@ impl<'a, A: ReaderArena> ListReader<'a, A> {
             pointers: 0,
             levels,
         }
+    }
+
+    /// The list of so many elements of a size that begins at a place of an arena, where its words are: behind the tag for structs, which have such sections. Its pointers are followed under the arena's nesting limit.
+    pub fn at(
+        arena: &'a A,
+        start: Place,
+        count: u32,
+        size: ElementSize,
+        data_words: u16,
+        pointers: u16,
+    ) -> Self
+        requires there { AreThere (words_in (A.segments arena.now)) (place_view start) (words_for (step_bits (size_number size) data_words pointers * count)) }
+        requires near { start.position + step_words (size_number size) data_words pointers * count < 2 ^ 61 }
+        ensures { seen_list A.segments result ≡ list_at (A.segments arena.now) (A.nesting arena.now) (place_view start) size count data_words pointers }
+    {
+        let words = words_of_steps(size, count, data_words, pointers);
+        let backing = Backing::Arena(arena);
+        let bytes = backing.lend(start, words);
+        let levels = levels_of(arena.nesting_limit());
+        ListReader::of_parts(
+            backing, bytes, start, count, size, data_words, pointers, levels,
+        )
     }
 
     /// How many elements there are.

@@ -6,7 +6,7 @@ ghost use Rattle.capnp_model.specs.Chains.{◌and_then◌, guard};
 ghost use Rattle.capnp_model.specs.Segments.{words_at};
 ghost use Rattle.capnp_units.specs.Segments.{words_in};
 ghost use Rattle.capnp_units.specs.Limits.{left_of};
-ghost use Rattle.capnp_wire.specs.Views.{backing_bytes, ground_of, seen_pointer, seen_struct, seen_list, list_view};
+ghost use Rattle.capnp_wire.specs.Views.{backing_bytes, ground_of, seen_pointer, seen_struct, seen_list, list_view, pointer_at};
 ghost use Rattle.capnp_wire.specs.Reads.{root_of, is_null, with_default, GetGives, read_struct, read_bytes, read_blob, read_text, read_list, read_elements, list_head, type_behind};
 ghost use Rattle.capnp_object.specs.Places.{seen, place_view};
 ghost use Rattle.capnp_wire.specs.Elements.{step_bits, step_words};
@@ -53,11 +53,18 @@ impl<'a, A: ReaderArena> PointerReader<'a, A> {
         if word_at(arena, place).is_none() {
             return Err(Error::from(ErrorKind::OutOfBounds));
         }
-        Ok(PointerReader {
+        Ok(PointerReader::at(arena, place))
+    }
+
+    /// The pointer at a place of an arena, under the arena's nesting limit. Whether its word is there is seen when it is read.
+    pub fn at(arena: &'a A, place: Place) -> Self
+        ensures { seen_pointer A.segments result ≡ pointer_at (A.segments arena.now) (A.nesting arena.now) (place_view place) }
+    {
+        PointerReader {
             backing: Backing::Arena(arena),
             place: Some(place),
             levels: levels_of(arena.nesting_limit()),
-        })
+        }
     }
 
     /// The same pointer.

@@ -1,10 +1,13 @@
 //! Structs to read.
-ghost use Rattle.std.specs.Prelude.{◌≡◌, ◌+◌, ◌*◌, ◌<◌, ◌^◌, ◌==◌, bit_xor, length};
+ghost use Rattle.std.specs.Prelude.{◌≡◌, ◌+◌, ◌*◌, ◌<◌, ◌≤◌, ◌^◌, ◌==◌, bit_xor, length};
 ghost use Rattle.capnp_model.specs.Sections.{number_of};
 ghost use Rattle.capnp_model.specs.Readings.{field_bits, just_bits};
+ghost use Rattle.capnp_units.specs.Segments.{words_in};
+ghost use Rattle.capnp_object.specs.Objects.{AreThere};
 
 use crate::arena::ReaderArena;
 use crate::backing::Backing;
+use crate::levels::levels_of;
 use crate::place::Place;
 use crate::pointer::PointerReader;
 use crate::section::{bit_of, bytes_from};
@@ -41,7 +44,7 @@ impl<A> Copy for StructReader<'_, A> {}
 
 impl<'a, A: ReaderArena> StructReader<'a, A> {
     ghost use Rattle.capnp_object.specs.Places.{place_view};
-    ghost use Rattle.capnp_wire.specs.Views.{ground_of, seen_pointer, seen_struct, struct_view, pointer_field, bit_of_bool};
+    ghost use Rattle.capnp_wire.specs.Views.{ground_of, seen_pointer, seen_struct, struct_view, struct_at, pointer_field, bit_of_bool};
     ghost use Rattle.capnp_wire.specs.Reads.{empty_struct, is_null};
     ghost use Rattle.capnp_wire.specs.ValueSizes.{SizeOn, StructSizeOf};
     ghost use Rattle.capnp_model.specs.Traversal.{tree_at, each};
@@ -83,6 +86,22 @@ impl<'a, A: ReaderArena> StructReader<'a, A> {
             pointers: 0,
             levels,
         }
+    }
+
+    /// The struct at a place of an arena, of so many data words and pointers, which are there. Its pointers are followed under the arena's nesting limit.
+    pub fn at(arena: &'a A, start: Place, data_words: u16, pointers: u16) -> Self
+        requires there { AreThere (words_in (A.segments arena.now)) (place_view start) data_words }
+        requires near { start.position + (data_words + pointers) < 2 ^ 62 }
+        ensures { seen_struct A.segments result ≡ struct_at (A.segments arena.now) (A.nesting arena.now) (place_view start) data_words pointers }
+    {
+        let backing = Backing::Arena(arena);
+        let section = backing.lend(start, data_words as usize);
+        let first = Place {
+            segment: start.segment,
+            position: start.position + data_words as usize,
+        };
+        let levels = levels_of(arena.nesting_limit());
+        StructReader::of_parts(backing, section, first, pointers, levels)
     }
 
     /// A number of the data section, counted in its own width; 0 where it doesn't lie wholly in the section.

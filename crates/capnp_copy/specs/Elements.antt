@@ -1,0 +1,42 @@
+-- The elements of lists that are built.
+use Rattle.std.specs.Prelude.{ℕ, ◌+◌, ◌*◌, ◌<◌, ◌≤◌, ◌^◌, ◌==◌, if◌then◌else◌}
+use Rattle.capnp_model.specs.Sections.{words_for, bits_at, with_bits}
+use Rattle.capnp_model.specs.Segments.{Segments, Place, after}
+use Rattle.capnp_model.specs.Pointers.{Object, a_list}
+use Rattle.capnp_model.specs.Trees.{plain_list, size_bits}
+use Rattle.capnp_units.specs.Sizes.{size_number}
+use Rattle.capnp_wire.specs.Places.{place_view}
+use Rattle.capnp_wire.specs.Elements.{step_bits, step_words}
+use Rattle.capnp_object.specs.Objects.{AreThere}
+use Rattle.capnp_footprints.specs.Footprints.{OwnsObject}
+use Rattle.capnp_footprints.specs.Changes.{ReplacesObject}
+use Rattle.capnp_copy.specs.declared.init.ListPlace.{ListPlace}
+
+-- Where the first element begins: behind the tag, where the elements are structs. (Encoding, "Lists")
+abbrev pub first_element : ListPlace → Place
+first_element o = after (place_view o.start) (if size_number o.size == 7 then 1 else 0)
+
+-- Its elements' words are there.
+abbrev pub HasElements : Segments → ListPlace → Type 0
+HasElements s o =
+    AreThere s (first_element o) (words_for (step_bits (size_number o.size) o.data_words o.pointers * o.count))
+    × (o.start.position + 1 + step_words (size_number o.size) o.data_words o.pointers * o.count < 2 ^ 61)
+
+-- The list of plain elements there.
+abbrev pub plain_at : ListPlace → Object
+plain_at o = a_list (place_view o.start) (size_number o.size) o.count
+
+-- So many bits at the front of an element: it is one of the list's, and has as many.
+abbrev pub IsInElement : ListPlace → ℕ → ℕ → Type 0
+IsInElement o index width = (index < o.count) × (width ≤ size_bits (size_number o.size)) × (size_number o.size < 6)
+
+-- Whatever plain elements the list there has: the bits at the front of this one are the number.
+abbrev pub HasElement : Segments → ListPlace → ℕ → ℕ → (ℕ → Type 0) → Type 0
+HasElement s o index width Is =
+    (n section : ℕ) → OwnsObject n s (plain_at o) (plain_list (size_number o.size) o.count section) → Is (bits_at (size_bits (size_number o.size) * index) width section)
+
+-- Whatever plain elements the list there has: the bits at the front of this one become the number, and nothing else changes.
+abbrev pub SetsElement : Segments → Segments → ListPlace → ℕ → ℕ → ℕ → Type 0
+SetsElement s u o index width value =
+    (n section : ℕ) → OwnsObject n s (plain_at o) (plain_list (size_number o.size) o.count section)
+    → ReplacesObject n s u (plain_at o) (plain_list (size_number o.size) o.count (with_bits (size_bits (size_number o.size) * index) width value section))
