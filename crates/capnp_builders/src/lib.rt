@@ -5,6 +5,9 @@
 mod blob_tests;
 #[cfg(test)]
 mod build_tests;
+pub mod element;
+#[cfg(test)]
+mod element_tests;
 pub mod list_builder;
 #[cfg(test)]
 mod list_tests;

@@ -2,15 +2,38 @@
 ghost use Rattle.std.specs.Prelude.{◌≡◌, ◌+◌, ◌*◌, ◌<◌, ◌≤◌, ◌^◌, ◌==◌, ℕ};
 ghost use Rattle.capnp_model.specs.Segments.{after};
 ghost use Rattle.capnp_units.specs.Sizes.{size_number};
+ghost use Rattle.std.specs.Borrow.{sem};
+ghost use Rattle.capnp_units.specs.Segments.{words_in};
 ghost use Rattle.capnp_wire.specs.Places.{place_view};
+ghost use Rattle.capnp_wire.specs.Views.{seen_list, list_at};
+ghost use Rattle.capnp_copy.specs.Elements.{first_element, HasElements, IsInElement, HasElement, SetsElement};
 
+use crate::element::BuilderElement;
 use crate::pointer_builder::PointerBuilder;
 use crate::struct_builder::StructBuilder;
 use capnp_copy::arena::{BuilderArena, Memory};
+use capnp_copy::elements::{first_element, get_element, set_element};
 use capnp_copy::fields::StructPlace;
 use capnp_copy::init::ListPlace;
+use capnp_units::sizes::data_bits_per_element;
 use capnp_units::units::ElementCount32;
+use capnp_wire::list::ListReader;
 use capnp_wire::place::Place;
+
+/// The list at a place, to read.
+fn read_at<'a, A: BuilderArena>(arena: &'a A, place: ListPlace) -> ListReader<'a, A>
+    requires { HasElements (words_in (A.segments arena.now)) place }
+    ensures { seen_list A.segments result ≡ list_at (A.segments arena.now) (A.nesting arena.now) (first_element place) place.size place.count place.data_words place.pointers }
+{
+    ListReader::at(
+        arena,
+        first_element(place),
+        place.count,
+        place.size,
+        place.data_words,
+        place.pointers,
+    )
+}
 
 /// A list that is built, where it lies in an arena. Its words are there.
 #[derive(Drop)]
@@ -20,6 +43,36 @@ pub struct ListBuilder<'a, A> {
 }
 
 impl<'a, A: BuilderArena> ListBuilder<'a, A> {
+    ghost use Rattle.capnp_builders.specs.Lending.{LendsList};
+
+    /// The same list, lent.
+    pub fn reborrow(&mut self) -> ListBuilder<'_, A>
+        ensures* lends { sem 𝓛 (LendsList A.row self.entry result) }
+        ensures now { result.memory.now ≡ self.old.memory.now }
+        ensures place { result.place ≡ self.old.place }
+    {
+        let place = self.place;
+        let memory = &mut *self.memory;
+        ListBuilder { memory, place }
+    }
+
+    /// The list to read. Its pointers are followed under the arena's nesting limit.
+    pub fn as_reader(&self) -> ListReader<'_, A>
+        requires { HasElements (words_in (A.segments self.now.memory.now.arena)) self.now.place }
+        ensures { let o = self.now.place in seen_list A.segments result ≡ list_at (A.segments self.now.memory.now.arena) (A.nesting self.now.memory.now.arena) (first_element o) o.size o.count o.data_words o.pointers }
+    {
+        read_at(&self.memory.arena, self.place)
+    }
+
+    /// The same, of which no handle to write is left.
+    pub fn into_reader(self) -> ListReader<'a, A>
+        requires { HasElements (words_in (A.segments self.memory.now.arena)) self.place }
+        ensures { seen_list A.segments result ≡ list_at (A.segments self.entry.memory.now.arena) (A.nesting self.entry.memory.now.arena) (first_element self.entry.place) self.entry.place.size self.entry.place.count self.entry.place.data_words self.entry.place.pointers }
+    {
+        let ListBuilder { memory, place } = self;
+        read_at(&memory.arena, place)
+    }
+
     /// How many elements there are.
     pub fn len(&self) -> ElementCount32
         ensures { result ≡ self.now.place.count }
@@ -32,6 +85,33 @@ impl<'a, A: BuilderArena> ListBuilder<'a, A> {
         ensures { result ≡ (self.now.place.count == 0) }
     {
         self.place.count == 0
+    }
+
+    /// An element of a list of plain elements, by its index: the value in its lowest bits. It is one of the list's, and has as many.
+    pub fn get<T: BuilderElement>(&self, index: ElementCount32) -> T
+        requires near { self.now.place.start.position < 2 ^ 61 }
+        requires inside { IsInElement self.now.place index T.width }
+        ensures { HasElement (words_in (A.segments self.now.memory.now.arena)) self.now.place index T.width (λ bits. result ≡ T.of_bits bits) }
+    {
+        let place = self.place;
+        let width = data_bits_per_element(T::element_size());
+        let bits = get_element(&self.memory.arena, place, index, width);
+        T::element_of_bits(bits)
+    }
+
+    /// Writes an element of a list of plain elements, by its index, into its lowest bits. It is one of the list's, and has as many; its neighbours keep theirs.
+    pub fn set<T: BuilderElement>(&mut self, index: ElementCount32, value: T)
+        requires near { self.old.place.start.position < 2 ^ 61 }
+        requires inside { IsInElement self.old.place index T.width }
+        ensures same { self.new.memory.ghost_name ≡ self.old.memory.ghost_name }
+        ensures place { self.new.place ≡ self.old.place }
+        ensures books { A.books self.new.memory.now.arena ≡ A.books self.old.memory.now.arena }
+        ensures sets { SetsElement (words_in (A.segments self.old.memory.now.arena)) (words_in (A.segments self.new.memory.now.arena)) self.old.place index T.width (T.bits value) }
+    {
+        let place = self.place;
+        let width = data_bits_per_element(T::element_size());
+        let bits = T::bits_of_element(value);
+        set_element(&mut self.memory.arena, place, index, width, bits);
     }
 
     /// An element of a list of pointers, by its index. It is one of the list's.

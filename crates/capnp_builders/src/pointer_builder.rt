@@ -28,6 +28,7 @@ use capnp_units::errors::Result;
 use capnp_units::sizes::{ElementSize, StructSize};
 use capnp_units::units::ElementCount32;
 use capnp_wire::place::{Place, word_at};
+use capnp_wire::pointer::PointerReader;
 
 /// A pointer that is built, where it lies in an arena.
 #[derive(Drop)]
@@ -37,6 +38,9 @@ pub struct PointerBuilder<'a, A> {
 }
 
 impl<'a, A: BuilderArena> PointerBuilder<'a, A> {
+    ghost use Rattle.capnp_builders.specs.Lending.{LendsPointer};
+    ghost use Rattle.capnp_wire.specs.Views.{seen_pointer, pointer_at};
+
     /// The root pointer, the first word of the first segment.
     pub fn get_root(memory: &'a mut Memory<A>) -> Self
         ensures same { result.memory.ghost_name ≡ memory.entry.ghost_name }
@@ -50,6 +54,32 @@ impl<'a, A: BuilderArena> PointerBuilder<'a, A> {
                 position: 0,
             },
         }
+    }
+
+    /// The same pointer, lent.
+    pub fn reborrow(&mut self) -> PointerBuilder<'_, A>
+        ensures* lends { sem 𝓛 (LendsPointer A.row self.entry result) }
+        ensures now { result.memory.now ≡ self.old.memory.now }
+        ensures place { result.place ≡ self.old.place }
+    {
+        let place = self.place;
+        let memory = &mut *self.memory;
+        PointerBuilder { memory, place }
+    }
+
+    /// The pointer to read, under the arena's nesting limit.
+    pub fn as_reader(&self) -> PointerReader<'_, A>
+        ensures { seen_pointer A.segments result ≡ pointer_at (A.segments self.now.memory.now.arena) (A.nesting self.now.memory.now.arena) (place_view self.now.place) }
+    {
+        PointerReader::at(&self.memory.arena, self.place)
+    }
+
+    /// The same, of which no handle to write is left.
+    pub fn into_reader(self) -> PointerReader<'a, A>
+        ensures { seen_pointer A.segments result ≡ pointer_at (A.segments self.entry.memory.now.arena) (A.nesting self.entry.memory.now.arena) (place_view self.entry.place) }
+    {
+        let PointerBuilder { memory, place } = self;
+        PointerReader::at(&memory.arena, place)
     }
 
     /// Whether it is null, a word of zeros.

@@ -1,10 +1,11 @@
 //! Structs that are built.
 ghost use Rattle.std.specs.Prelude.{◌≡◌, ◌+◌, ◌*◌, ◌<◌, ◌≤◌, ◌^◌, ◌==◌, ℕ, true, bit_xor};
+ghost use Rattle.std.specs.Borrow.{sem};
 ghost use Rattle.std.specs.Option.{is_some};
 ghost use Rattle.capnp_model.specs.Segments.{after, words_at};
 ghost use Rattle.capnp_units.specs.Segments.{words_in};
 ghost use Rattle.capnp_wire.specs.Places.{place_view};
-ghost use Rattle.capnp_wire.specs.Views.{bit_of_bool};
+ghost use Rattle.capnp_wire.specs.Views.{bit_of_bool, seen_struct, struct_at};
 ghost use Rattle.capnp_copy.specs.Structs.{HasBits, SetsBits};
 
 use crate::pointer_builder::PointerBuilder;
@@ -14,6 +15,16 @@ use capnp_copy::fields::{StructPlace, bit_at, get_bits, set_bits};
 use capnp_units::primitive::{Mask, Primitive};
 use capnp_units::units::{ElementCount, WirePointerCount};
 use capnp_wire::place::Place;
+use capnp_wire::structs::StructReader;
+
+/// The struct at a place, to read.
+fn read_at<'a, A: BuilderArena>(arena: &'a A, place: StructPlace) -> StructReader<'a, A>
+    requires there { is_some (words_at (words_in (A.segments arena.now)) (place_view place.start) place.data_words) ≡ true }
+    requires near { place.start.position + (place.data_words + place.pointers) < 2 ^ 61 }
+    ensures { seen_struct A.segments result ≡ struct_at (A.segments arena.now) (A.nesting arena.now) (place_view place.start) place.data_words place.pointers }
+{
+    StructReader::at(arena, place.start, place.data_words, place.pointers)
+}
 
 /// A struct that is built, where it lies in an arena. Its words are there.
 #[derive(Drop)]
@@ -23,6 +34,38 @@ pub struct StructBuilder<'a, A> {
 }
 
 impl<'a, A: BuilderArena> StructBuilder<'a, A> {
+    ghost use Rattle.capnp_builders.specs.Lending.{LendsStruct};
+
+    /// The same struct, lent.
+    pub fn reborrow(&mut self) -> StructBuilder<'_, A>
+        ensures* lends { sem 𝓛 (LendsStruct A.row self.entry result) }
+        ensures now { result.memory.now ≡ self.old.memory.now }
+        ensures place { result.place ≡ self.old.place }
+    {
+        let place = self.place;
+        let memory = &mut *self.memory;
+        StructBuilder { memory, place }
+    }
+
+    /// The struct to read. Its pointers are followed under the arena's nesting limit.
+    pub fn as_reader(&self) -> StructReader<'_, A>
+        requires there { is_some (words_at (words_in (A.segments self.now.memory.now.arena)) (place_view self.now.place.start) self.now.place.data_words) ≡ true }
+        requires near { self.now.place.start.position + (self.now.place.data_words + self.now.place.pointers) < 2 ^ 61 }
+        ensures { seen_struct A.segments result ≡ struct_at (A.segments self.now.memory.now.arena) (A.nesting self.now.memory.now.arena) (place_view self.now.place.start) self.now.place.data_words self.now.place.pointers }
+    {
+        read_at(&self.memory.arena, self.place)
+    }
+
+    /// The same, of which no handle to write is left.
+    pub fn into_reader(self) -> StructReader<'a, A>
+        requires there { is_some (words_at (words_in (A.segments self.memory.now.arena)) (place_view self.place.start) self.place.data_words) ≡ true }
+        requires near { self.place.start.position + (self.place.data_words + self.place.pointers) < 2 ^ 61 }
+        ensures { seen_struct A.segments result ≡ struct_at (A.segments self.entry.memory.now.arena) (A.nesting self.entry.memory.now.arena) (place_view self.entry.place.start) self.entry.place.data_words self.entry.place.pointers }
+    {
+        let StructBuilder { memory, place } = self;
+        read_at(&memory.arena, place)
+    }
+
     /// A pointer of the struct, by its index. It is one of the struct's.
     pub fn get_pointer_field(self, ptr_index: WirePointerCount) -> PointerBuilder<'a, A>
         requires near { self.place.start.position + (self.place.data_words + self.place.pointers) < 2 ^ 61 }
