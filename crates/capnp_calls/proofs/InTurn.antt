@@ -5,7 +5,7 @@ use Rattle.capnp_model.specs.Readings.{Record}
 use Rattle.capnp_model.specs.Calls.{Call}
 use Rattle.capnp_model.specs.CallRuns.{records_after}
 use Rattle.capnp_model.specs.Answers.{Reply, replies, edits}
-use Rattle.capnp_records.specs.declared.structs.StructSchema.{StructSchema}
+use Rattle.capnp_queries.specs.declared.structs.StructSchema.{StructSchema}
 use Rattle.capnp_calls.specs.Taken.{reply_to, tree_after, replies_to, tree_after_all, record_by, record_by_all}
 
 pub replies_to-more : (root : StructSchema) (before : List Reply) (call : Call) (rest : List Call) (t t' : Tree) (x : Reply) → x ≡ reply_to root call t → t' ≡ tree_after root call t

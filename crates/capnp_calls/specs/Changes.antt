@@ -3,11 +3,9 @@ use Rattle.std.specs.Prelude.{ℕ, ◌^◌, ◌<◌, Option, Some, None}
 use Rattle.capnp_units.specs.declared.kinds.ErrorKind.TheVariants as kind
 use Rattle.capnp_units.specs.Errors.{kind_of}
 use Rattle.capnp_model.specs.Fits.{Fits}
+use Rattle.capnp_model.specs.Schemas.{width, Body, plain_slot}
 use Rattle.capnp_model.specs.Calls.{Content, refused_by, bits_of, object}
 use Rattle.capnp_value.specs.Values.{tree_of_value}
-use Rattle.capnp_records.specs.Slots.{bits_of_width}
-use Rattle.capnp_records.specs.declared.slot.Slot.{Slot}
-use Rattle.capnp_records.specs.declared.slot.Slot.TheVariants as slot
 use Rattle.capnp_calls.specs.declared.change.Change.{Change}
 use Rattle.capnp_calls.specs.declared.change.Change.TheVariants as change
 
@@ -23,15 +21,12 @@ change_of_bits None = change.Refused kind.TypeMismatch
 change_of_bits (Some n) = change.Bits n
 
 -- The bits of a slot.
-abbrev pub width_of : Slot → ℕ
-width_of (slot.Void offset) = 64
-width_of (slot.Bool bit) = 1
-width_of (slot.Int width first) = bits_of_width width
-width_of (slot.UInt width first) = bits_of_width width
-width_of (slot.Text pointer) = 64
+abbrev pub width_of : Body → ℕ
+width_of (plain_slot p at d) = width p
+width_of _ = 64
 
 -- Bits are within those of the slot, and a value fits.
-abbrev pub FitsInto : Slot → Change → Type 0
-FitsInto s (change.Refused k) = Unit {0}
-FitsInto s (change.Bits n) = n < 2 ^ width_of s
-FitsInto s (change.Pointer v) = Fits (tree_of_value v)
+abbrev pub FitsInto : Body → Change → Type 0
+FitsInto body (change.Refused k) = Unit {0}
+FitsInto body (change.Bits n) = n < 2 ^ width_of body
+FitsInto body (change.Pointer v) = Fits (tree_of_value v)

@@ -4,7 +4,7 @@ use Rattle.capnp_units.specs.declared.kinds.ErrorKind.{ErrorKind}
 use Rattle.capnp_model.specs.Trees.{Tree}
 use Rattle.capnp_model.specs.Calls.{Call}
 use Rattle.capnp_model.specs.Answers.{Reply}
-use Rattle.capnp_records.specs.declared.structs.StructSchema.{StructSchema}
+use Rattle.capnp_queries.specs.declared.structs.StructSchema.{StructSchema}
 use Rattle.capnp_calls.specs.Taken.{replies_to, tree_after_all, record_at, record_by_all}
 use Rattle.capnp_calls.specs.Sizes.{BeginsLong, IsWant}
 

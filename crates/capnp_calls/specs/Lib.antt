@@ -3,8 +3,10 @@ pub mod CallViews
 pub mod Texts
 pub mod Contents
 pub mod RootViews
-pub mod Replies
+pub mod Slots
+pub mod Finding
 pub mod Taken
+pub mod Replies
 pub mod Sizes
 pub mod Changes
 pub mod Ends

@@ -1,5 +1,5 @@
 -- The lists that calls put into slots and elements, and those that are too long for a message.
-use Rattle.std.specs.Prelude.{ℕ, ◌^◌, ◌≤◌, List, [], ◌∷◌}
+use Rattle.std.specs.Prelude.{ℕ, ◌+◌, ◌*◌, ◌^◌, ◌≤◌, max, List, [], ◌∷◌}
 use Rattle.capnp_units.specs.declared.kinds.ErrorKind.{ErrorKind}
 use Rattle.capnp_units.specs.declared.kinds.ErrorKind.TheVariants as kind
 use Rattle.capnp_model.specs.Kinds.{WrongStep}
@@ -8,18 +8,18 @@ use Rattle.capnp_model.specs.Schemas.{struct, Schema}
 use Rattle.capnp_model.specs.Calls.{Verb, Call, Content, refused_by, object, slot_content, element_content}
 use Rattle.capnp_model.specs.InKindCalls.{PathEnd, at_slot, at_value, nowhere, end_of}
 use Rattle.capnp_model.specs.Steps.{Outcome, done}
-use Rattle.capnp_records.specs.Structs.{id_of}
-use Rattle.capnp_records.specs.declared.structs.StructSchema.{StructSchema}
-use Rattle.capnp_calls.specs.Taken.{taken_call, schema_around, outcome_of}
+use Rattle.capnp_queries.specs.Structs.{schema_around, id_of}
+use Rattle.capnp_queries.specs.declared.structs.StructSchema.{StructSchema}
+use Rattle.capnp_calls.specs.Taken.{taken_call, outcome_of}
 
--- The elements of a list; what is no list has none.
+-- The elements of a list, or the words of a list of structs where these are more; what is no list has none.
 abbrev pub list_len : Tree → ℕ
 list_len (plain_list size n section) = n
 list_len (pointer_list ts) = tree_count ts
-list_len (struct_list words pointers es) = element_count es
+list_len (struct_list words pointers es) = max (element_count es) (element_count es * (words + pointers))
 list_len _ = 0
 
--- The elements of the list that is put into a slot or an element.
+-- The elements, or the words, of the list that is put into a slot or an element.
 abbrev pub content_len : Content → ℕ
 content_len (object t) = list_len t
 content_len _ = 0
@@ -32,14 +32,14 @@ end_content s verb nowhere = refused_by WrongStep
 
 -- What a call puts where its path ends.
 abbrev pub content_of : StructSchema → Call → Content
-content_of root c = end_content (schema_around root) c.verb (end_of (schema_around root) (taken_call c).path (at_value (struct (id_of root))))
+content_of root c = end_content (schema_around root) c.verb (end_of (schema_around root) (taken_call root c).path (at_value (struct (id_of root))))
 
 -- A write that is not refused.
 abbrev pub IsDone : {A : Type 0} → Outcome A → Type 0
 IsDone (done x) = Unit {0}
 IsDone _ = ⊥
 
--- The call is not refused at a struct of this tree, and puts a list of 2^29 elements or more. (Encoding, "Lists")
+-- The call is not refused at a struct of this tree, and puts a list of 2^29 elements or more, or one of structs of 2^29 words or more. (Encoding, "Lists")
 pub record PutsLongList (root : StructSchema) (c : Call) (t : Tree) : Type 0 where
   pub is_done : IsDone (outcome_of root c t)
   pub is_long : 2 ^ 29 ≤ content_len (content_of root c)

@@ -1,53 +1,109 @@
 //! One call at a struct.
 
-ghost use Rattle.std.specs.Prelude.{◌≡◌, ◌≤◌, ◌^◌, IfOk, OnOk, IfErr, OnErr, vec_len};
+ghost use Rattle.std.specs.Prelude.{◌≡◌, ◌≤◌, ◌^◌, true, IsTrue, IfOk, OnOk, IfErr, OnErr, vec_len};
 ghost use Rattle.std.specs.Option.{option_copied};
-ghost use Rattle.capnp_model.specs.Schemas.{Schema};
-ghost use Rattle.capnp_model.specs.Calls.{slot_content};
-ghost use Rattle.capnp_records.specs.Slots.{body_of_slot, IsInside};
-ghost use Rattle.capnp_records.specs.Structs.{words_in, pointers_in, shape_of_struct};
+ghost use Rattle.capnp_model.specs.Accepted.{schema_of};
+ghost use Rattle.capnp_model.specs.Calls.{get, slot_content};
+ghost use Rattle.capnp_records.specs.Sets.{nodes_of};
+ghost use Rattle.capnp_queries.specs.Structs.{shape_of_struct};
+ghost use Rattle.capnp_calls.specs.Actions.{is_in_range};
 ghost use Rattle.capnp_calls.specs.CallViews.{action_view, call_view};
 ghost use Rattle.capnp_calls.specs.RootViews.{cell_of, struct_tree, HasFitting, SameSizes};
+ghost use Rattle.capnp_calls.specs.Slots.{words_in, pointers_in, body_of_slot, IsUnionInside, IsSlotOf};
+ghost use Rattle.capnp_calls.specs.Finding.{IsPlaced};
 ghost use Rattle.capnp_calls.specs.Sizes.{content_len, PutsLongList, IsWant};
-ghost use Rattle.capnp_calls.specs.Replies.{reply_view, slot_reply, slot_edit};
-ghost use Rattle.capnp_calls.specs.Taken.{only_name, reply_to, tree_after, record_at, record_by};
+ghost use Rattle.capnp_calls.specs.Taken.{IsRoot, only_name, is_taken_at};
+ghost use Rattle.capnp_calls.specs.Replies.{is_active_in, reply_view, slot_reply, slot_edit, AnswersCall};
 
 use crate::call::{Action, Call, Step};
-use crate::change::{clear_change, initn_change, set_change};
+use crate::change::{clear_change, init_change, initn_change, set_change};
+use crate::find::{Found, NamedSlot, find_slot};
 use crate::get::get_slot;
 use crate::put::put_change;
 use crate::reply::Reply;
-use crate::root::StructValue;
+use crate::root::{StructValue, bits};
+use crate::slot::Slot;
 use capnp_model::{laws, laws_of_edits};
-use capnp_records::slot::Slot;
-use capnp_records::structs::StructSchema;
-use capnp_units::errors::Result;
+use capnp_queries::structs::StructSchema;
+use capnp_records::set::SchemaSet;
+use capnp_units::errors;
 use capnp_units::kinds::ErrorKind;
-use std::alloc::Global;
+use std::alloc::{AllocError, Global};
 
-/// Does what an action says at a slot.
-#[tactic(auto, using(crate::proofs::OneStep::slot_rules))]
-fn answer_slot(alloc: Global, root: &mut StructValue, slot: Slot, action: &Action) -> Result<Reply>
-    requires { IsInside (vec_len root.old.words) (vec_len root.old.children) slot }
-    ensures reply { IfOk result (λ r. (s : Schema) → reply_view r ≡ slot_reply s (action_view action.now) (body_of_slot slot) (cell_of root.old)) }
-    ensures cell { OnOk result ((s : Schema) → cell_of root.new ≡ slot_edit s (action_view action.now) (body_of_slot slot) (cell_of root.old)) }
+/// Whether a slot is no member, or the active one of its union.
+fn is_active(root: &StructValue, union: Option<u32>, member: Option<u16>) -> bool
+    requires { IsUnionInside (vec_len root.now.words) union }
+    ensures { result ≡ is_active_in union member (cell_of root.now) }
+{
+    match (union, member) {
+        (_, None) => true,
+        (None, Some(_)) => false,
+        (Some(first_bit), Some(member)) => bits(root, first_bit, 16) == member as u64,
+    }
+}
+
+/// Whether an action is taken at a slot: a struct or a list is not read.
+fn is_taken(action: &Action, slot: Slot<'_>) -> bool
+    ensures { result ≡ is_taken_at (action_view action.now) (body_of_slot slot.entry) }
+{
+    match (action, slot) {
+        (Action::Get, Slot::Struct { .. } | Slot::List { .. }) => false,
+        _ => true,
+    }
+}
+
+/// The text of a slot that is no member, or the active one of its union; else a refusal.
+fn get_active(
+    alloc: Global,
+    set: &SchemaSet,
+    root: &StructValue,
+    named: NamedSlot<'_>,
+) -> Result<Reply, AllocError>
+    requires taken { is_taken_at get (body_of_slot named.slot) ≡ true }
+    requires placed { IsPlaced (vec_len root.now.words) (vec_len root.now.children) named }
+    requires of_set { IsSlotOf (nodes_of set.now) named.slot }
+    ensures { IfOk result (λ r. reply_view r ≡ slot_reply (schema_of (nodes_of set.now)) get named.entry (cell_of root.now)) }
+{
+    if !is_active(root, named.union, named.member) {
+        return Ok(Reply::Refused(ErrorKind::InactiveMember));
+    }
+    get_slot(alloc, set, root, named.slot)
+}
+
+/// Does what an action says at a slot, at which it is taken.
+fn answer_slot(
+    alloc: Global,
+    set: &SchemaSet,
+    root: &mut StructValue,
+    named: NamedSlot<'_>,
+    action: &Action,
+) -> errors::Result<Reply>
+    requires taken { is_taken_at (action_view action.now) (body_of_slot named.slot) ≡ true }
+    requires in_range { IsTrue (is_in_range action.now) }
+    requires placed { IsPlaced (vec_len root.old.words) (vec_len root.old.children) named }
+    requires of_set { IsSlotOf (nodes_of set.now) named.slot }
+    ensures reply { IfOk result (λ r. reply_view r ≡ slot_reply (schema_of (nodes_of set.now)) (action_view action.now) named.entry (cell_of root.old)) }
+    ensures cell { OnOk result (cell_of root.new ≡ slot_edit (schema_of (nodes_of set.now)) (action_view action.now) named.entry (cell_of root.old)) }
     ensures sizes { SameSizes root.old root.new }
     ensures fitting { HasFitting root.old → HasFitting root.new }
     ensures stays { OnErr result (cell_of root.new ≡ cell_of root.old) }
-    ensures refusal { IfErr result (λ e. (s : Schema) → IsWant (2 ^ 29 ≤ content_len (slot_content s (action_view action.now) (body_of_slot slot))) e.kind) }
+    ensures refusal { IfErr result (λ e. IsWant (2 ^ 29 ≤ content_len (slot_content (schema_of (nodes_of set.now)) (action_view action.now) (body_of_slot named.entry.slot))) e.kind) }
 {
     match action {
-        Action::Get => Ok(get_slot(alloc, root, slot)?),
+        Action::Get => Ok(get_active(alloc, set, root, named)?),
         Action::Set(value) => {
-            let change = set_change(alloc, slot, value)?;
-            Ok(put_change(root, slot, change))
+            let change = set_change(alloc, named.slot, value)?;
+            Ok(put_change(root, named, change))
         }
-        Action::Init => Ok(Reply::Refused(ErrorKind::InitIsOnlyValidForStructAndAnyPointerFields)),
+        Action::Init => {
+            let change = init_change(alloc, set, named.slot)?;
+            Ok(put_change(root, named, change))
+        }
         Action::Initn(len) => {
-            let change = initn_change(alloc, slot, *len)?;
-            Ok(put_change(root, slot, change))
+            let change = initn_change(alloc, set, named.slot, *len)?;
+            Ok(put_change(root, named, change))
         }
-        Action::Clear => Ok(put_change(root, slot, clear_change(slot))),
+        Action::Clear => Ok(put_change(root, named, clear_change(named.slot))),
     }
 }
 
@@ -62,31 +118,35 @@ fn field_name(call: &Call) -> Option<&str>
 }
 
 /// Answers a call. A refused call and a `get` leave the struct as it was, and so does an error.
-/// `SizeOverflow`: the call sets a text slot to 2^29 - 1 bytes or more.
-pub fn answer_call(
+/// `SizeOverflow`: the call puts a list that is too long.
+pub(crate) fn answer_call(
     alloc: Global,
     schema: StructSchema<'_>,
     root: &mut StructValue,
     call: &Call,
-) -> Result<Reply>
+) -> errors::Result<Reply>
+    requires root { IsRoot schema }
     requires words { words_in (shape_of_struct schema) ≤ vec_len root.old.words }
     requires pointers { pointers_in (shape_of_struct schema) ≤ vec_len root.old.children }
-    ensures reply { IfOk result (λ r. reply_view r ≡ reply_to schema.entry (call_view call.now) (struct_tree root.old)) }
-    ensures tree { OnOk result (struct_tree root.new ≡ tree_after schema.entry (call_view call.now) (struct_tree root.old)) }
+    ensures answer { IfOk result (λ r. AnswersCall schema.entry (call_view call.now) (struct_tree root.old) (struct_tree root.new) (reply_view r)) }
     ensures sizes { SameSizes root.old root.new }
     ensures fitting { HasFitting root.old → HasFitting root.new }
-    ensures record { OnOk result (record_at schema.entry (struct_tree root.new) ≡ record_by schema.entry (call_view call.now) (record_at schema.entry (struct_tree root.old))) }
     ensures stays { OnErr result (struct_tree root.new ≡ struct_tree root.old) }
     ensures refusal { IfErr result (λ e. IsWant (PutsLongList schema.entry (call_view call.now) (struct_tree root.old)) e.kind) }
 {
     laws::fields_by_name();
     laws_of_edits::records_of_edited_values();
-    let _id = schema.id();
     let Some(name) = field_name(call) else {
         return Ok(Reply::Refused(ErrorKind::WrongStep));
     };
-    let Some(slot) = schema.find_slot(name) else {
-        return Ok(Reply::Refused(ErrorKind::FieldNotFound));
-    };
-    answer_slot(alloc, root, slot, &call.action)
+    match find_slot(schema, name) {
+        Found::Nothing => Ok(Reply::Refused(ErrorKind::FieldNotFound)),
+        Found::Group => Ok(Reply::Refused(ErrorKind::WrongStep)),
+        Found::Slot(named) => {
+            if !is_taken(&call.action, named.slot) {
+                return Ok(Reply::Refused(ErrorKind::WrongStep));
+            }
+            answer_slot(alloc, schema.set(), root, named, &call.action)
+        }
+    }
 }

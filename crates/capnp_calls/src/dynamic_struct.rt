@@ -1,10 +1,25 @@
 //! Structs under a schema.
 
 ghost use Rattle.std.specs.Prelude.{◌≡◌, ◌≤◌, vec_len};
-ghost use Rattle.capnp_records.specs.Structs.{words_in, pointers_in, shape_of_struct};
+ghost use Rattle.capnp_queries.specs.Structs.{shape_of_struct};
+ghost use Rattle.capnp_calls.specs.Slots.{words_in, pointers_in};
 
 use crate::root::StructValue;
-use capnp_records::structs::StructSchema;
+use capnp_queries::structs::StructSchema;
+
+/// How many words the data section of a struct has under its schema.
+pub fn data_words(schema: StructSchema<'_>) -> u16
+    ensures { result ≡ words_in (shape_of_struct schema.entry) }
+{
+    schema.record().data_word_count
+}
+
+/// How many pointers a struct has under its schema.
+pub fn pointers(schema: StructSchema<'_>) -> u16
+    ensures { result ≡ pointers_in (shape_of_struct schema.entry) }
+{
+    schema.record().pointer_count
+}
 
 /// A struct to be edited under its schema. It has at least the words and pointers that the schema says.
 #[derive(Drop)]

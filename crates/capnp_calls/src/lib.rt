@@ -2,10 +2,13 @@
 #![tactic(auto)]
 
 mod answer;
+mod blank;
 mod bytes;
 mod call;
 mod change;
+mod data_text;
 pub mod dynamic_struct;
+mod find;
 mod get;
 pub mod laws;
 mod number;
@@ -17,6 +20,7 @@ pub mod root;
 pub mod run;
 mod section;
 mod shown;
+mod slot;
 #[cfg(test)]
 mod tests;
 mod text;

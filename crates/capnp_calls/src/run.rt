@@ -2,7 +2,9 @@
 
 ghost use Rattle.std.specs.Prelude.{◌≡◌, ◌≤◌, IfOk, IfErr, map, vec_len};
 ghost use Rattle.capnp_model.specs.Fits.{Fits};
-ghost use Rattle.capnp_records.specs.Structs.{words_in, pointers_in, shape_of_struct};
+ghost use Rattle.capnp_queries.specs.Structs.{shape_of_struct};
+ghost use Rattle.capnp_calls.specs.Slots.{words_in, pointers_in};
+ghost use Rattle.capnp_calls.specs.Taken.{IsRoot};
 ghost use Rattle.capnp_calls.specs.CallViews.{call_view};
 ghost use Rattle.capnp_calls.specs.RootViews.{struct_tree, SameSizes};
 ghost use Rattle.capnp_calls.specs.Replies.{reply_view};
@@ -14,7 +16,7 @@ use crate::dynamic_struct::Builder;
 use crate::reply::Reply;
 use crate::root::StructValue;
 use capnp_model::laws;
-use capnp_records::structs::StructSchema;
+use capnp_queries::structs::StructSchema;
 use capnp_units::errors::Result;
 use std::alloc::Global;
 
@@ -25,6 +27,7 @@ fn run_at(
     root: &mut StructValue,
     calls: &[Call],
 ) -> Result<Vec<Reply>>
+    requires root { IsRoot schema }
     requires words { words_in (shape_of_struct schema) ≤ vec_len root.old.words }
     requires pointers { pointers_in (shape_of_struct schema) ≤ vec_len root.old.children }
     ensures all { IfOk result (λ replies. RunsAll schema.entry (map call_view calls.now)
@@ -44,8 +47,9 @@ fn run_at(
 
 /// Answers the calls in turn at a struct, each at the struct that the calls before it left.
 ///
-/// A refused call and a `get` change nothing, and don't stop the next. An error is want of memory, or `SizeOverflow` where a call sets a text slot to 2^29 - 1 bytes or more; then the calls before have their effect, and no other has.
+/// A refused call and a `get` change nothing, and don't stop the next. An error is want of memory, or `SizeOverflow` where a call puts a text or data of 2^29 bytes or more with its last zero, or a list of structs of 2^29 words or more; then the calls before have their effect, and no other has.
 pub fn run(alloc: Global, root: Builder<'_>, calls: &[Call]) -> Result<Vec<Reply>>
+    requires root { IsRoot root.schema }
     ensures all { IfOk result (λ replies. RunsAll root.entry.schema (map call_view calls.now)
         (struct_tree root.entry.root.now) (struct_tree root.exit.0.now) (map reply_view replies.items)) }
     ensures early { IfErr result (λ e. EndsEarly root.entry.schema (map call_view calls.now)

@@ -4,12 +4,13 @@ use Rattle.capnp_model.specs.Trees.{Tree, null, capability, structure, plain_lis
 use Rattle.capnp_model.specs.Trimming.{trim}
 use Rattle.capnp_model.specs.Schemas.{Shape, shape}
 use Rattle.capnp_model.specs.Answers.{Answer, refused_value, refused_root, refused_depth, written, widened_root, opened_root}
-use Rattle.capnp_records.specs.Structs.{words_in, pointers_in, shape_of_struct, id_of}
-use Rattle.capnp_records.specs.declared.structs.StructSchema.{StructSchema}
+use Rattle.capnp_queries.specs.Structs.{schema_around, shape_of_struct, id_of}
+use Rattle.capnp_calls.specs.Slots.{words_in, pointers_in}
+use Rattle.capnp_queries.specs.declared.structs.StructSchema.{StructSchema}
 use Rattle.capnp_calls.specs.declared.call.Call.{Call}
 use Rattle.capnp_calls.specs.RootViews.{struct_from}
 use Rattle.capnp_calls.specs.CallViews.{call_view}
-use Rattle.capnp_calls.specs.Taken.{schema_around, tree_after_all}
+use Rattle.capnp_calls.specs.Taken.{tree_after_all}
 use Rattle.capnp_relay.specs.Answers.{MeansTree}
 use Rattle.capnp_relay.specs.Messages.{answer_from, answer_to, MeansAfter, IsTooLargeFrom, IsTooLargeAt}
 

@@ -11,13 +11,13 @@ use Rattle.capnp_model.specs.Accepted.{schema_of, IsAccepted}
 use Rattle.capnp_model.specs.NamedPaths.{IsOpen}
 use Rattle.capnp_model.specs.CallRuns.{AreGiven, IsStart, records_after}
 use Rattle.capnp_model.specs.Answers.{Answer, refused_value, refused_root, refused_depth, written, Reply, edits, opened_root, value_within}
-use Rattle.capnp_records.specs.Structs.{nodes_around, id_of}
-use Rattle.capnp_records.specs.declared.structs.StructSchema.{StructSchema}
+use Rattle.capnp_queries.specs.Structs.{nodes_around, schema_around, id_of}
+use Rattle.capnp_queries.specs.declared.structs.StructSchema.{StructSchema}
 use Rattle.capnp_value.specs.Reads.{limits_view}
 use Rattle.capnp_value.specs.declared.value.read.Bounds.{Bounds}
 use Rattle.capnp_calls.specs.declared.call.Call.{Call}
 use Rattle.capnp_calls.specs.CallViews.{call_view}
-use Rattle.capnp_calls.specs.Taken.{taken_call, schema_around, tree_after_all}
+use Rattle.capnp_calls.specs.Taken.{taken_call, tree_after_all}
 use Rattle.capnp_relay.specs.Messages.{answer_to, MeansAfter, ReadsAsMade}
 
 -- two facts of one result
@@ -41,12 +41,12 @@ module _ (root : StructSchema) (calls : List Call) (bounds : Bounds) where
   opens_of (pointer_list ts) segments replies e = absurd (cc e)
   opens_of (struct_list w p es) segments replies e = absurd (cc e)
 
-  pub ReadsAsMade-of : WrittenRecords → IsAccepted (nodes_around root) → (schema_around root).is_group (id_of root) ≡ false → AreGiven (map taken_call (map call_view calls)) → (s : Segments) (a : Answer)
+  pub ReadsAsMade-of : WrittenRecords → IsAccepted (nodes_around root) → (schema_around root).is_group (id_of root) ≡ false → AreGiven (map (taken_call root) (map call_view calls)) → (s : Segments) (a : Answer)
       → a ≡ answer_to root calls (pos bounds.nesting) (value_within (limits_view bounds) s) → MeansAfter root calls bounds.nesting (value_within (limits_view bounds) s) a → ReadsAsMade root calls bounds s a
   ReadsAsMade-of law accepted no_group given s (written segments replies) e means = λ t found kinds. (
     trim (tree_after_all root (map call_view calls) (opened_root (schema_around root) (id_of root) t)),
     means t found,
-    law (nodes_around root) (id_of root) (map taken_call (map call_view calls)) t
+    law (nodes_around root) (id_of root) (map (taken_call root) (map call_view calls)) t
         (record { accepted = accepted; root = no_group; given = given; opens = opens_of t segments replies (e ∙ ap (answer_to root calls (pos bounds.nesting)) found); kinds = kinds }),
   )
   ReadsAsMade-of law accepted no_group given s refused_value e means = tt

@@ -1,6 +1,6 @@
 -- What a relay is asked by its arguments.
 use Rattle.std.specs.Prelude.{Some, List}
-use Rattle.capnp_records.specs.declared.structs.StructSchema.{StructSchema}
+use Rattle.capnp_queries.specs.declared.structs.StructSchema.{StructSchema}
 use Rattle.capnp_calls.specs.declared.call.Call.{Call}
 use Rattle.capnp_relay.specs.declared.options.RelayOptions.{RelayOptions}
 use Rattle.capnp_relay.specs.Messages.{IsAnswerBy, IsTooLargeBy}

@@ -2,7 +2,7 @@
 ghost use Rattle.std.specs.Prelude.{List, IfSome};
 ghost use Rattle.capnp_units.specs.declared.kinds.ErrorKind.{ErrorKind};
 ghost use Rattle.capnp_units.specs.Errors.{kind_of};
-ghost use Rattle.capnp_records.specs.declared.structs.StructSchema.{StructSchema};
+ghost use Rattle.capnp_queries.specs.declared.structs.StructSchema.{StructSchema};
 ghost use Rattle.capnp_calls.specs.declared.call.Call.{Call};
 ghost use Rattle.capnp_model.specs.Runs.{finished, broken};
 ghost use Rattle.capnp_stream.specs.Pieces.{ReadsFronts};

@@ -2,12 +2,15 @@
 #![tactic(auto)]
 
 mod answers;
+mod at_root;
 pub mod ends;
 pub mod laws;
 mod logging;
 mod message;
 pub mod options;
 pub mod relay;
+#[cfg(test)]
+mod rows;
 mod run;
 mod step;
 #[cfg(test)]

@@ -2,24 +2,26 @@
 ghost use Rattle.std.specs.Prelude.{◌≡◌, ◌^◌, ◌<◌, ◌≤◌, pos, map, length, vec_len, IfOk, IfSome, option_map};
 ghost use Rattle.capnp_units.specs.declared.kinds.ErrorKind.{ErrorKind};
 ghost use Rattle.capnp_model.specs.Fits.{Fits};
-ghost use Rattle.capnp_records.specs.Structs.{words_in, pointers_in, shape_of_struct};
+ghost use Rattle.capnp_queries.specs.Structs.{shape_of_struct};
+ghost use Rattle.capnp_calls.specs.Slots.{words_in, pointers_in};
 ghost use Rattle.capnp_value.specs.Values.{tree_of_value};
 ghost use Rattle.capnp_model.specs.Trimming.{trim};
 ghost use Rattle.capnp_calls.specs.CallViews.{call_view};
-ghost use Rattle.capnp_calls.specs.Taken.{tree_after_all};
+ghost use Rattle.capnp_calls.specs.Taken.{IsRoot, tree_after_all};
 ghost use Rattle.capnp_calls.specs.RootViews.{struct_tree};
 ghost use Rattle.capnp_relay.specs.Answers.{answer_view, HasFewWords, MeansTree};
 ghost use Rattle.capnp_relay.specs.Messages.{answer_from, answer_to, MeansAfter, IsAnswerOf, IsTooLargeFrom, IsTooLargeAt, IsTooLarge};
 
 use crate::answers::{Answers, MessageAnswer, Reason, Want};
+use crate::at_root::CallsAtRoot;
 use capnp_calls::Call;
-use capnp_calls::dynamic_struct::Builder;
-use capnp_calls::laws::calls_are_given;
+use capnp_calls::dynamic_struct::{Builder, data_words, pointers};
+use capnp_calls::laws::{calls_are_given, roots_are_no_groups};
 use capnp_calls::open::{close_struct, open_struct};
 use capnp_calls::root::StructValue;
 use capnp_calls::run::run;
 use capnp_model::{laws, laws_of_edits};
-use capnp_records::structs::StructSchema;
+use capnp_queries::structs::StructSchema;
 use capnp_stream::segments::OwnedSegments;
 use capnp_units::errors::Error;
 use capnp_units::kinds::ErrorKind;
@@ -45,6 +47,7 @@ fn answer_struct(
     nesting: u32,
     mut root: StructValue,
 ) -> Result<MessageAnswer, Want>
+    requires root { IsRoot schema }
     requires words { words_in (shape_of_struct schema) ≤ vec_len root.words }
     requires pointers { pointers_in (shape_of_struct schema) ≤ vec_len root.children }
     requires fits { Fits (struct_tree root) }
@@ -81,6 +84,7 @@ fn answer_value(
     nesting: u32,
     value: Option<Value>,
 ) -> Result<MessageAnswer, Want>
+    requires root { IsRoot schema }
     requires fits { IfSome value (λ v. Fits (tree_of_value v)) }
     ensures answer { IfOk result (λ a. answer_view a ≡ answer_to schema.entry calls.now (pos nesting) (option_map tree_of_value value)) }
     ensures means { IfOk result (λ a. MeansAfter schema.entry calls.now nesting (option_map tree_of_value value) (answer_view a)) }
@@ -91,19 +95,11 @@ fn answer_value(
         return Ok(MessageAnswer::Refused(Reason::Value));
     };
     trim_whole(&mut value);
-    match open_struct(alloc, value, schema.data_words(), schema.pointers()) {
+    match open_struct(alloc, value, data_words(schema), pointers(schema)) {
         Ok(Some(root)) => answer_struct(alloc, schema, calls, nesting, root),
         Ok(None) => Ok(MessageAnswer::Refused(Reason::Root)),
         Err(_) => Err(Want::Memory),
     }
-}
-
-/// Calls at the roots of messages: the schema of a root, the calls, and how far a message is followed.
-#[derive(Clone, Copy)]
-pub(crate) struct CallsAtRoot<'a> {
-    pub(crate) schema: StructSchema<'a>,
-    pub(crate) calls: &'a [Call],
-    pub(crate) bounds: Bounds,
 }
 
 impl<'a> Answers for CallsAtRoot<'a> {
@@ -114,7 +110,7 @@ impl<'a> Answers for CallsAtRoot<'a> {
     fn answer(&self, alloc: Global, message: &OwnedSegments) -> Result<MessageAnswer, Want> {
         laws_of_edits::records_of_written_values();
         calls_are_given();
-        let _id = self.schema.id();
+        roots_are_no_groups();
         match read_value(alloc, message, self.bounds) {
             Ok(value) => {
                 answer_value(alloc, self.schema, self.calls, self.bounds.nesting, value)

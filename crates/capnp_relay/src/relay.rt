@@ -1,16 +1,17 @@
 //! The relay.
 ghost use Rattle.std.specs.Prelude.{◌≡◌, ◌+◌, ◌*◌, length, replicate};
+ghost use Rattle.capnp_calls.specs.Taken.{IsRoot};
 ghost use Rattle.capnp_relay.specs.Streams.{source_seen, sink_seen, streams};
 ghost use Rattle.capnp_relay.specs.Run.{Relays};
 ghost use Rattle.capnp_relay.specs.Relaying.{relay_work};
 
+use crate::at_root::CallsAtRoot;
 use crate::ends::{Counts, RelayFault};
-use crate::message::CallsAtRoot;
 use crate::options::{Form, RelayOptions};
 use crate::run::answer_all;
 use capnp_calls::Call;
 use capnp_packing::form::Packed;
-use capnp_records::structs::StructSchema;
+use capnp_queries::structs::StructSchema;
 use capnp_stream::forms::Framed;
 use capnp_stream::traits::{BufRead, Read, Write};
 use std::alloc::Global;
@@ -19,7 +20,7 @@ use std::alloc::Global;
 ///
 /// A message is read within the options' limits. The calls run at its trimmed root, a null root as the empty struct, and the edited value is written as one canonical message, in the output form. A message without a value within the limits, or with a capability, is skipped as `value`, one whose root is a list as `root`, one that the calls nest too deep as `depth`. Either way the log gets one line. Where the lists of a message are in kind, what is written reads as the record that the calls make of the message's record.
 ///
-/// The region has 8 bytes for each word of the word limit and 8 more; at every exit it is all zeros. `Framing`: what is left of the source begins with no message. `Source`, `Out`, `Log`: the device failed, or a slice was too short. `Memory`: a growth was refused. `Size`: a call sets a text to 2^29 - 1 bytes or more, the message that would be written has 2^29 words or more, or it is message number 2^64. What was written before stands.
+/// The region has 8 bytes for each word of the word limit and 8 more; at every exit it is all zeros. `Framing`: what is left of the source begins with no message. `Source`, `Out`, `Log`: the device failed, or a slice was too short. `Memory`: a growth was refused. `Size`: a call puts a text or data of 2^29 bytes or more with its last zero, or a list of structs of 2^29 words or more, the message that would be written has 2^29 words or more, or it is message number 2^64. What was written before stands.
 pub fn relay<R: BufRead, W: Write, L: Write>(
     alloc: Global,
     source: &mut R,
@@ -30,7 +31,8 @@ pub fn relay<R: BufRead, W: Write, L: Write>(
     options: RelayOptions,
     region: &mut [u8],
 ) -> Result<Counts, RelayFault>
-    requires { length region.old ≡ 8 * (options.bounds.words + 1) }
+    requires region { length region.old ≡ 8 * (options.bounds.words + 1) }
+    requires root { IsRoot root }
     ensures run { Relays (relay_work root.entry calls.now options W.may_grow L.may_grow)
         (streams (source_seen R.remaining R.failures source.old)
         (sink_seen W.contents W.failures W.room out.old) (sink_seen L.contents L.failures L.room log.old))

@@ -1,7 +1,7 @@
 -- What status 0 says of a run of the program.
 use Rattle.std.specs.Prelude.{◌≡◌, pos, Some, List, [], ◌∷◌, map}
-use Rattle.capnp_records.specs.Structs.{nodes_around, id_of}
-use Rattle.capnp_records.specs.declared.structs.StructSchema.{StructSchema}
+use Rattle.capnp_queries.specs.Structs.{nodes_around, id_of}
+use Rattle.capnp_queries.specs.declared.structs.StructSchema.{StructSchema}
 use Rattle.capnp_calls.specs.declared.call.Call.{Call}
 use Rattle.capnp_calls.specs.CallViews.{call_view}
 use Rattle.capnp_relay.specs.declared.ends.Counts.{Counts}

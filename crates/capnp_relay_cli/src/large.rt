@@ -2,7 +2,7 @@
 
 use super::settings::{ROOT, Stop, schema};
 use capnp_calls::{Call, CallValue, Step, Verb};
-use capnp_records::structs::StructSchema;
+use capnp_queries::structs::StructSchema;
 use capnp_relay::ends::{Counts, RelayFault};
 use capnp_relay::options::{Form, ReaderOptions, RelayOptions};
 use capnp_relay::relay::relay;
@@ -28,7 +28,7 @@ fn relay_words(
     calls: &[Call],
 ) -> Result<Relayed, Stop> {
     let set = schema(alloc)?;
-    let Some(raw) = set.plain_struct_by_id(ROOT) else {
+    let Some(raw) = set.struct_by_id(ROOT) else {
         return Err(Stop::Root);
     };
     let limits = ReaderOptions {
@@ -42,6 +42,7 @@ fn relay_words(
     let mut source = input;
     let mut out = Vec::new(alloc);
     let mut log = Vec::new(alloc);
+    capnp_queries::laws::struct_is_node();
     let root = StructSchema::new(&set, raw);
     let end = relay(
         alloc,

@@ -5,7 +5,7 @@ ghost use Rattle.capnp_relay_cli.specs.Program.{RelaysAll};
 
 use crate::settings::{ROOT, Stop, calls, options, schema};
 use crate::sinks::Flush;
-use capnp_records::structs::StructSchema;
+use capnp_queries::structs::StructSchema;
 use capnp_relay::ends::Fault;
 use capnp_relay::relay::relay;
 use capnp_stream::traits::BufRead;
@@ -26,9 +26,10 @@ fn relay_all<R: BufRead, W: Flush, L: Flush>(
     ensures flushed { OnOk result ((W.held out.new ≡ []) × (L.held log.new ≡ [])) }
 {
     let set = schema(alloc)?;
-    let Some(raw) = set.plain_struct_by_id(ROOT) else {
+    let Some(raw) = set.struct_by_id(ROOT) else {
         return Err(Stop::Root);
     };
+    capnp_queries::laws::struct_is_node();
     let root = StructSchema::new(&set, raw);
     let calls = calls(alloc)?;
     let options = options()?;

@@ -50,14 +50,14 @@ loop-call-preserved c =
     record {
       replies =
           ap (λ x. x ++ replies_to c.args.schema (map call_view behind) new) pushed
-          ∙ replies_to-more c.args.schema before (call_view this) (map call_view behind) old new (reply_view c.in_ok-answer_call.field-0) c.in_ok-answer_call.ensures.reply c.in_ok-answer_call.ensures.tree
+          ∙ replies_to-more c.args.schema before (call_view this) (map call_view behind) old new (reply_view c.in_ok-answer_call.field-0) c.in_ok-answer_call.ensures.answer.replied c.in_ok-answer_call.ensures.answer.tree
           ∙ ap (λ x. before ++ replies_to c.args.schema x old) (sym seen) ∙ c.loop-call.invariant.replies;
       tree =
-          c.in_ok-answer_call.ensures.tree ∙ ap (tree_after c.args.schema (call_view this)) c.loop-call.invariant.tree
+          c.in_ok-answer_call.ensures.answer.tree ∙ ap (tree_after c.args.schema (call_view this)) c.loop-call.invariant.tree
           ∙ sym (tree_after_all-more c.args.schema (map call_view (take i calls)) (call_view this) first)
           ∙ ap (λ x. tree_after_all c.args.schema x first) (sym done);
       fields =
-          c.in_ok-answer_call.ensures.record ∙ ap (record_by c.args.schema (call_view this)) c.loop-call.invariant.fields
+          c.in_ok-answer_call.ensures.answer.fields ∙ ap (record_by c.args.schema (call_view this)) c.loop-call.invariant.fields
           ∙ sym (record_by_all-more c.args.schema (map call_view (take i calls)) (call_view this) (record_at c.args.schema first))
           ∙ ap (λ x. record_by_all c.args.schema x (record_at c.args.schema first)) (sym done);
       sizes = record { words = c.answer_call.ensures.sizes.words ∙ c.loop-call.invariant.sizes.words; pointers = c.answer_call.ensures.sizes.pointers ∙ c.loop-call.invariant.sizes.pointers };
@@ -120,7 +120,7 @@ returns-in_err-push-clause-early c =
       behind = map call_view (drop (suc i) calls);
       split = in_two (suc i) calls;
       tree =
-          c.in_ok-answer_call.ensures.tree ∙ ap (tree_after c.args.schema (call_view this)) c.loop-call.invariant.tree
+          c.in_ok-answer_call.ensures.answer.tree ∙ ap (tree_after c.args.schema (call_view this)) c.loop-call.invariant.tree
           ∙ sym (tree_after_all-more c.args.schema (map call_view (take i calls)) (call_view this) first)
           ∙ ap (λ x. tree_after_all c.args.schema x first) (sym done);
       cause = let P : ErrorKind → Type 0 = λ k. IsWant (BeginsLong c.args.schema (map call_view (drop (suc i) calls)) (struct_tree c.answer_call.new.root)) k in subst P (sym p.2) tt;

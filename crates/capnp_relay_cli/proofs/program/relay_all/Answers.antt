@@ -11,7 +11,7 @@ returns-clause-run g c =
     let mid = streams (source_seen g.R.Read.remaining g.R.Read.failures c.relay-end.new.source) (sink_seen g.W.Write.contents g.W.Write.failures g.W.Write.room c.relay-end.new.out) (sink_seen g.L.Write.contents g.L.Write.failures g.L.Write.room c.relay-end.new.log) in
     let built_in : IsBuiltIn c.new-root.result c.deref.result.now c.in_ok-options.options = record {
       nodes = c.new-root.ensures.nodes ∙ c.in_ok-set.ensures.nodes;
-      id = c.new-root.ensures.id ∙ c.in-Some.ensures.id;
+      id = ap (λ raw. raw.id) c.new-root.ensures.raw ∙ c.in-Some.ensures.id;
       are_calls = ap (λ (calls : List Call). map call_view calls) c.deref.ensures.value ∙ c.in_ok-calls.ensures.calls;
       are_options = c.in_ok-options.ensures.limits;
     } in

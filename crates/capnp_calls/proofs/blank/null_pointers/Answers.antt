@@ -1,0 +1,26 @@
+use Rattle.std.proofs.Common.{rules, ◌≡◌, ◌+◌, ◌*◌, ◌^◌, ◌<◌, ◌≤◌, length, sym, ap, ◌∙◌, subst}
+use Rattle.capnp_model.specs.Sections.{section_of}
+use Rattle.capnp_model.specs.Trees.{none, resized, structure, pointer_list, struct_list}
+use Rattle.capnp_model.specs.Fits.{Fits}
+use Rattle.capnp_model.specs.Calls.{empty_elements}
+use Rattle.capnp_records.specs.NodeViews.{struct_of}
+use Rattle.capnp_records.specs.Sets.{nodes_of}
+use Rattle.capnp_queries.specs.Structs.{nodes_around, id_of}
+use Rattle.capnp_value.specs.declared.value.Value.{Struct, Pointers, Structs, the_lemmas}
+use Rattle.capnp_value.specs.Values.{tree_of_value, trees_of, trees_view, elements_of}
+use Rattle.capnp_calls.specs.Sizes.{list_len, IsWant}
+use Rattle.capnp_calls.proofs.Blanks.{trees_of-nulls, elements_of-nulls, pointers-fit, structure-fit, structs-fit, structs-long, blank_at, blanks_at}
+use Rattle.capnp_calls.proofs.blank.null_pointers.Goals as goal
+
+pub returns-clause-tree : goal.returns-clause-tree
+returns-clause-tree c =
+    let v = c.in_ok-nulls.field-0 in
+    let one : tree_of_value (Pointers v) ≡ pointer_list (trees_of (trees_view v.items)) = search (rules, the_lemmas) in
+    one ∙ ap (λ ts. pointer_list (trees_of ts)) c.in_ok-nulls.ensures ∙ ap pointer_list (trees_of-nulls c.args.count)
+
+pub returns-clause-fits : goal.returns-clause-fits
+returns-clause-fits c =
+    let v = c.in_ok-nulls.field-0 in
+    let one : tree_of_value (Pointers v) ≡ pointer_list (trees_of (trees_view v.items)) = search (rules, the_lemmas) in
+    let tree = one ∙ ap (λ ts. pointer_list (trees_of ts)) c.in_ok-nulls.ensures ∙ ap pointer_list (trees_of-nulls c.args.count) in
+    subst Fits (sym tree) (pointers-fit c.args.count c.requires.few)
