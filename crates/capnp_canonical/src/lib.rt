@@ -4,4 +4,6 @@
 pub mod copy;
 mod follow;
 mod own_words;
+#[cfg(test)]
+mod tests;
 mod words;
