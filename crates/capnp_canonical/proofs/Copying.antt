@@ -1,6 +1,6 @@
 -- Copies one after the other.
-use Rattle.std.proofs.Common.{◌≡◌, ℕ, ◌+◌, ◌-◌, ◌^◌, ◌<◌, ◌≤◌, min, Bool, false, List, [], ◌∷◌, ◌++◌, length, drop, Option, Some, Result, Ok, Err, refl, ap, sym, ◌∙◌, subst, inl, inr, arith}
-use Rattle.std.proofs.lemmas.List.{append_assoc, append-nil, length-append, drop-drop}
+use Rattle.std.proofs.Common.{◌≡◌, ℕ, ◌+◌, ◌-◌, ◌^◌, ◌<◌, ◌≤◌, min, Bool, false, List, [], ◌++◌, length, drop, Option, Some, Result, Ok, Err, refl, ap, sym, ◌∙◌, subst, inl, inr, arith}
+use Rattle.std.proofs.lemmas.List.{append_assoc, append-nil, drop-drop}
 use Rattle.capnp_model.specs.Visits.{Visit, visits_cost}
 use Rattle.capnp_model.proofs.Chaining.{some_is}
 use Rattle.capnp_model.proofs.Visits.{cost_together}
@@ -78,6 +78,11 @@ halted_at path most old l m e x = record { paid = x.paid; spends = x.spends; beh
 
 pub halts_is : {X : Type 0} (there : Option X) (bad : X → Bool) (put : X → List ℕ → List ℕ) (path : List Visit) (most used : ℕ) (old new : List (List ℕ)) (l m : ReadLimiter) (r : Result ℕ Error) (x e : Error) → r ≡ Err x → x ≡ e → Halted path most old l e new m → Writes there bad put path most used old l r new m
 halts_is there bad put path most used old new l m r x e a b w = subst (λ (y : Result ℕ Error). Writes there bad put path most used old l y new m) (sym (a ∙ ap (λ (y : Error). Err y) b)) w
+
+-- no room for the first words
+pub no_room : {X : Type 0} (there : Option X) (bad : X → Bool) (put : X → List ℕ → List ℕ) (path : List Visit) (most used : ℕ) (old : List (List ℕ)) (l : ReadLimiter) (r : Result ℕ Error) (e : Error) → r ≡ Err e → e.kind ≡ BufferNotLargeEnough → room_of old < most → Writes there bad put path most used old l r old l
+no_room there bad put path most used old l r e is why full =
+    halts_is there bad put path most used old old l l r e e is refl (halted_first [] path path 0 most old l l e refl refl (walked_none l) why (omega arith))
 
 -- ---- several in a row
 

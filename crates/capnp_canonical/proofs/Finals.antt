@@ -1,5 +1,5 @@
 -- What is written of each kind of object.
-use Rattle.std.proofs.Common.{◌≡◌, ℕ, zero, suc, ◌+◌, ◌-◌, ◌*◌, ◌/◌, ◌%◌, ◌^◌, ◌<◌, ◌≤◌, nat_lt, Bool, true, false, List, [], ◌∷◌, ◌++◌, length, take, drop, set, Option, Some, Result, Ok, Err, refl, ap, sym, ◌∙◌, subst, arith, eqb, if◌then◌else◌, ◌==◌, append-nil}
+use Rattle.std.proofs.Common.{◌≡◌, ℕ, ◌+◌, ◌-◌, ◌*◌, ◌/◌, ◌^◌, ◌<◌, ◌≤◌, nat_lt, Bool, true, false, List, [], ◌∷◌, ◌++◌, length, take, drop, set, Option, Some, Result, Ok, refl, ap, sym, ◌∙◌, subst, arith, eqb, if◌then◌else◌, ◌==◌}
 use Rattle.std.specs.Option.{is_some}
 use Rattle.std.specs.Int.{from_le_bytes, w64}
 use Rattle.std.proofs.lemmas.Bool.{eqb-true}
@@ -9,9 +9,9 @@ use Rattle.std.proofs.lemmas.List.{length-map, take_more_set}
 use Rattle.capnp_model.specs.Chains.{◌>>=◌}
 use Rattle.capnp_model.specs.Sections.{words_for, words_of, needed_words}
 use Rattle.capnp_model.specs.Segments.{Segments, Place, place, after, word_at, words_at}
-use Rattle.capnp_model.specs.Trees.{Tree, structure, pointer_list, struct_list, Trees, none, Elements, no_elements, element, tree_count, element_count, resized, size_bits, has_capability, have_capability, elements_have_capability}
+use Rattle.capnp_model.specs.Trees.{Tree, structure, pointer_list, struct_list, Trees, Elements, no_elements, element, tree_count, resized, size_bits, has_capability, have_capability, elements_have_capability}
 use Rattle.capnp_model.specs.Traversal.{tree_at, each, each_element}
-use Rattle.capnp_model.specs.Trimming.{stripped, common_words, common_pointers, with_pointers, trim, trim_each, trim_elements}
+use Rattle.capnp_model.specs.Trimming.{stripped, with_pointers, trim, trim_each, trim_elements}
 use Rattle.capnp_model.specs.Coverage.{from_each, from_elements}
 use Rattle.capnp_model.specs.Encoding.{struct_pointer, list_pointer, pointer}
 use Rattle.capnp_model.specs.Visits.{Visit, visits_cost}
@@ -36,7 +36,7 @@ use Rattle.capnp_canonical.proofs.Parts.{there_length, section_is, word_is, part
 use Rattle.capnp_canonical.proofs.Kept.{widest_at}
 use Rattle.capnp_canonical.proofs.Fronts.{front_words}
 use Rattle.capnp_canonical.proofs.Putting.{struct_cell, take_with_words}
-use Rattle.capnp_canonical.proofs.Nulls.{free, free_cost, free_length, nulls_read, each_nulls, met_both, no_capability_more, kept_front, kept_zeros, kept_count}
+use Rattle.capnp_canonical.proofs.Nulls.{free, free_cost, free_length, nulls_read, each_nulls, met_both, no_capability_more, kept_front, kept_zeros}
 use Rattle.capnp_canonical.proofs.Rows.{least_words, least_pointers, elements_count, empty_elements}
 use Rattle.capnp_canonical.proofs.Objects.{filled_length, filled_part, filled_put, struct_written, pointers_written, structs_written}
 

@@ -1,5 +1,5 @@
 -- What a canonical copy meets at a pointer.
-use Rattle.std.proofs.Common.{◌≡◌, ℕ, zero, suc, ◌+◌, ◌*◌, ◌%◌, ◌^◌, nat_lt, Bool, true, false, List, [], ◌∷◌, Option, Some, None, Result, Ok, Err, refl, ap, sym, ◌∙◌, subst, arith}
+use Rattle.std.proofs.Common.{◌≡◌, ℕ, zero, suc, ◌+◌, ◌*◌, ◌%◌, ◌^◌, nat_lt, true, List, [], ◌∷◌, Option, Some, None, Result, Ok, Err, refl, ap, sym, ◌∙◌, subst, arith}
 use Rattle.std.specs.Option.{ok_or}
 use Rattle.std.proofs.lemmas.Bool.Decides.{nat_tests}
 use Rattle.capnp_model.specs.Kinds.{Kind, OutOfBounds, NestingLimitExceeded, CapabilityInCanonical}
@@ -14,14 +14,13 @@ use Rattle.capnp_model.proofs.Chaining.{bind_ok, ok_is, ok_or_some}
 use Rattle.capnp_model.proofs.ReadFits.{tree_at_fits}
 use Rattle.capnp_units.specs.declared.errors.Error.{Error}
 use Rattle.capnp_units.specs.declared.limiter.ReadLimiter.{ReadLimiter}
-use Rattle.capnp_units.specs.Limits.{Spends, Follows}
+use Rattle.capnp_units.specs.Limits.{Follows}
 use Rattle.capnp_units.specs.Errors.{kind_of}
 use Rattle.capnp_units.proofs.Spending.{spends_nothing}
 use Rattle.capnp_object.specs.declared.object.Object.{Object}
 use Rattle.capnp_object.specs.Objects.{whole_list, whole}
 use Rattle.capnp_object.specs.Follow.{own_cost, KeepsBudget, is_within}
 use Rattle.capnp_object.specs.Inside.{met_in}
-use Rattle.capnp_object.specs.Walks.{Stopped}
 use Rattle.capnp_object.proofs.Linking.{IsPlain, IsSized, visits_whole}
 use Rattle.capnp_object.proofs.Walks.{stopped_first}
 use Rattle.capnp_object.proofs.Paying.{spends_later}

@@ -11,3 +11,4 @@ pub mod Rows
 pub mod Objects
 pub mod Steps
 pub mod Finals
+pub mod Elements

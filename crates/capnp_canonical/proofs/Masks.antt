@@ -1,11 +1,11 @@
 -- Words of a section whose last one is cut.
-use Rattle.std.proofs.Common.{◌≡◌, ℕ, zero, suc, ◌+◌, ◌-◌, ◌*◌, ◌/◌, ◌%◌, ◌^◌, ◌<◌, ◌≤◌, List, [], ◌∷◌, ◌++◌, length, get_or, take, drop, set, refl, ap, sym, ◌∙◌, arith, zero-add}
+use Rattle.std.proofs.Common.{◌≡◌, ℕ, zero, suc, ◌+◌, ◌-◌, ◌*◌, ◌/◌, ◌%◌, ◌^◌, ◌<◌, List, [], ◌∷◌, ◌++◌, length, get_or, set, refl, ap, sym, ◌∙◌, arith}
 use Rattle.std.proofs.Math.Nat.{mod-lt, mod-eq_of_lt}
 use Rattle.std.proofs.lemmas.Nat.{pow_pos}
 use Rattle.std.proofs.lemmas.List.{length-append}
 use lib.Pow as pow
-use Rattle.capnp_model.specs.Sections.{section_of, words_of, words_for}
-use Rattle.capnp_model.proofs.Numbers.{length-numbers_in, in_words_for}
+use Rattle.capnp_model.specs.Sections.{words_of, words_for}
+use Rattle.capnp_model.proofs.Numbers.{length-numbers_in}
 
 -- the lowest word, and those behind it
 low_word : (s j : ℕ) → s % 2 ^ (j + 64) % 2 ^ 64 ≡ s % 2 ^ 64

@@ -1,5 +1,5 @@
 -- Words of segments, one by one.
-use Rattle.std.proofs.Common.{◌≡◌, ℕ, zero, suc, ◌+◌, ◌-◌, ◌*◌, ◌≤◌, ◌<◌, ◌^◌, leb, Bool, true, false, List, [], ◌∷◌, ◌++◌, length, get_or, take, drop, Option, Some, None, refl, ap, sym, ◌∙◌, arith}
+use Rattle.std.proofs.Common.{◌≡◌, ℕ, zero, suc, ◌+◌, ◌-◌, ◌*◌, ◌≤◌, ◌<◌, leb, Bool, true, false, List, [], ◌∷◌, length, get_or, take, drop, Option, Some, None, refl, ap, sym, ◌∙◌, arith}
 use Rattle.std.specs.Prelude.{unwrap_or}
 use Rattle.std.proofs.Math.Nat.{mul-le-mul_right}
 use Rattle.std.specs.List.{slice_get}
@@ -7,7 +7,7 @@ use Rattle.std.specs.Option.{is_some}
 use Rattle.std.proofs.lemmas.List.{length-take, length-drop, drop-drop, take-take, drop-take}
 use Rattle.capnp_model.specs.Chains.{◌>>=◌, ◌provided◌}
 use Rattle.capnp_model.specs.Sections.{section_of}
-use Rattle.capnp_model.specs.Segments.{Segments, Place, place, after, word_at, words_at}
+use Rattle.capnp_model.specs.Segments.{Segments, Place, after, word_at, words_at}
 use Rattle.capnp_object.specs.Inside.{section_in, section_at, words_there}
 use Rattle.capnp_object.proofs.Linking.{section_front}
 use Rattle.capnp_object.proofs.Tags.{words_from, words_are}

@@ -1,10 +1,9 @@
 -- Pointers and elements that are copied one by one.
-use Rattle.std.proofs.Common.{◌≡◌, ℕ, zero, suc, ◌+◌, ◌-◌, ◌*◌, ◌<◌, ◌≤◌, max, Bool, true, false, ◌||◌, List, [], ◌∷◌, ◌++◌, length, get_or, take, drop, Option, Some, refl, ap, sym, ◌∙◌, subst, arith}
+use Rattle.std.proofs.Common.{◌≡◌, ℕ, zero, suc, ◌+◌, ◌-◌, ◌*◌, ◌<◌, ◌≤◌, max, true, false, List, [], ◌∷◌, ◌++◌, length, take, drop, Option, Some, refl, ap, sym, ◌∙◌, arith}
 use Rattle.std.specs.Option.{is_some}
-use Rattle.std.proofs.lemmas.List.{length-take, length-drop, drop-drop, take-take, take-append-drop, append-nil}
-use Rattle.capnp_model.specs.Chains.{◌>>=◌}
-use Rattle.capnp_model.specs.Sections.{section_of, words_of, needed_words}
-use Rattle.capnp_model.specs.Segments.{Segments, Place, place, after, word_at, words_at}
+use Rattle.std.proofs.lemmas.List.{length-drop, take-append-drop, append-nil}
+use Rattle.capnp_model.specs.Sections.{section_of, needed_words}
+use Rattle.capnp_model.specs.Segments.{Segments, Place, place, after, words_at}
 use Rattle.capnp_model.specs.Trees.{Tree, Trees, none, ◌▸◌, Elements, no_elements, element, tree_count, element_count, resized, has_capability, have_capability, elements_have_capability}
 use Rattle.capnp_model.specs.Traversal.{tree_at, each, each_element}
 use Rattle.capnp_model.specs.Encoding.{cells, element_bodies}
@@ -13,11 +12,10 @@ use Rattle.capnp_model.proofs.Chaining.{bind_some, some_is}
 use Rattle.capnp_model.proofs.TrimFits.{count-trim_each, count-with_pointers, count-trim_elements}
 use Rattle.capnp_model.proofs.Stripping.{count-resized}
 use Rattle.capnp_object.specs.Inside.{section_at, words_there}
-use Rattle.capnp_object.proofs.Linking.{section_front}
 use Rattle.capnp_object.proofs.Rows.{each_next, element_next, each_count}
 use Rattle.capnp_canonical.specs.Widths.{kept, widest}
 use Rattle.capnp_canonical.specs.Writes.{with_link, with_links, with_cells}
-use Rattle.capnp_canonical.proofs.Parts.{there_is, there_length, section_is, word_is, part_there, part_is}
+use Rattle.capnp_canonical.proofs.Parts.{there_length, section_is, word_is, part_there, part_is}
 use Rattle.capnp_canonical.proofs.Putting.{link_step, cell_step}
 use Rattle.capnp_canonical.proofs.Nulls.{kept_count}
 

@@ -1,12 +1,11 @@
 -- What is written at a pointer.
-use Rattle.std.proofs.Common.{◌≡◌, ℕ, zero, suc, ◌+◌, ◌-◌, ◌*◌, ◌/◌, ◌^◌, ◌<◌, ◌≤◌, nat_lt, nat_le, eqb, if◌then◌else◌, Bool, true, false, List, [], ◌∷◌, ◌++◌, length, take, set, Option, Some, None, Result, Ok, Err, refl, ap, sym, ◌∙◌, subst, arith}
+use Rattle.std.proofs.Common.{◌≡◌, ℕ, zero, suc, ◌+◌, ◌*◌, ◌/◌, ◌^◌, ◌<◌, ◌≤◌, nat_lt, nat_le, eqb, if◌then◌else◌, Bool, true, false, List, [], ◌∷◌, length, take, set, Option, Some, None, Result, Ok, refl, ap, sym, ◌∙◌, subst, arith}
 use Rattle.std.specs.Option.{ok_or}
 use Rattle.std.proofs.Math.Seq.{take-set-lt}
 use Rattle.std.proofs.Math.Nat.{mod-lt}
 use Rattle.std.proofs.lemmas.Nat.{pow_pos}
 use Rattle.std.proofs.lemmas.Bool.Decides.{nat_tests}
 use Rattle.capnp_model.specs.Kinds.{OutOfBounds}
-use Rattle.capnp_model.specs.Chains.{◌and_then◌}
 use Rattle.capnp_model.specs.Sections.{bits_at}
 use Rattle.capnp_model.specs.Segments.{Segments, Place, words_at}
 use Rattle.capnp_model.specs.Pointers as model
@@ -23,7 +22,6 @@ use Rattle.capnp_object.specs.declared.object.Object.TheVariants as object
 use Rattle.capnp_object.specs.Objects.{whole_list, whole}
 use Rattle.capnp_object.specs.Follow.{own_cost, Pays, is_within}
 use Rattle.capnp_object.specs.Inside.{tree_in, met_in}
-use Rattle.capnp_object.specs.Walks.{Walked}
 use Rattle.capnp_object.proofs.Walking.{object_found, link_tree}
 use Rattle.capnp_object.proofs.Walks.{walked_none, walked_one}
 use Rattle.capnp_canonical.specs.Writes.{words_view, filled, with_link}

@@ -1,5 +1,5 @@
 -- A canonical copy against a budget.
-use Rattle.std.specs.Prelude.{◌≡◌, ℕ, zero, suc, ◌+◌, ◌-◌, ◌^◌, ◌<◌, ◌≤◌, min, nat_lt, Bool, true, false, List, [], ◌∷◌, ◌++◌, length, take, drop, Option, Some, None, ◌⊎◌, Result, Ok, Err}
+use Rattle.std.specs.Prelude.{◌≡◌, ℕ, zero, suc, ◌+◌, ◌-◌, ◌^◌, ◌<◌, ◌≤◌, min, Bool, true, false, List, [], ◌∷◌, ◌++◌, length, drop, Option, Some, None, ◌⊎◌, Result, Ok, Err}
 use Rattle.capnp_model.specs.Kinds.{Kind, NestingLimitExceeded, CapabilityInCanonical}
 use Rattle.capnp_model.specs.Segments.{Segments, Place}
 use Rattle.capnp_model.specs.Pointers.{Object, nothing, a_struct, a_list, a_capability, found_at}
@@ -7,7 +7,7 @@ use Rattle.capnp_model.specs.Visits.{Visit, visits_of, object_visits, leaf_visit
 use Rattle.capnp_units.specs.declared.errors.Error.{Error}
 use Rattle.capnp_units.specs.declared.kinds.ErrorKind.TheVariants.{BufferNotLargeEnough}
 use Rattle.capnp_units.specs.declared.limiter.ReadLimiter.{ReadLimiter}
-use Rattle.capnp_units.specs.Limits.{Spends, Follows}
+use Rattle.capnp_units.specs.Limits.{Spends}
 use Rattle.capnp_object.specs.declared.object.Object.{Object as Seen}
 use Rattle.capnp_object.specs.declared.object.Object.TheVariants as seen
 use Rattle.capnp_object.specs.Follow.{Pays, is_within}

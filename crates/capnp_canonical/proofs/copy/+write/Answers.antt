@@ -1,35 +1,35 @@
 -- What each step writes and pays.
-use Rattle.std.proofs.Common.{◌≡◌, ℕ, suc, ◌+◌, ◌-◌, ◌*◌, ◌≤◌, ◌<◌, List, [], ◌∷◌, ◌++◌, length, drop, take, refl, ap, sym, ◌∙◌, subst, inl, inr, arith}
-use Rattle.std.proofs.Common.{Ok}
+use Rattle.std.proofs.Common.{◌≡◌, ℕ, ◌+◌, ◌-◌, ◌*◌, ◌≤◌, refl, ap, sym, ◌∙◌, subst, inl, inr, arith}
+use Rattle.std.proofs.Common.{Ok, Err}
 use Rattle.std.specs.Option.{is_some}
 use Rattle.std.proofs.lemmas.Result.{err_from_is_err_and}
 use Rattle.capnp_model.specs.Sections.{needed_words}
-use Rattle.capnp_model.specs.Segments.{Segments, Place, place, after, words_at}
-use Rattle.capnp_model.specs.Trees.{Trees, none, Elements, no_elements, element, resized, has_capability, have_capability, elements_have_capability}
+use Rattle.capnp_model.specs.Segments.{Segments, Place, after, words_at}
+use Rattle.capnp_model.specs.Trees.{none, no_elements, element, resized, has_capability, have_capability, elements_have_capability}
 use Rattle.capnp_model.specs.Traversal.{tree_at, each, each_element}
 use Rattle.capnp_model.specs.Trimming.{trim, trim_each, trim_elements, with_pointers}
 use Rattle.capnp_model.specs.Coverage.{from_each, from_elements}
+use Rattle.capnp_units.specs.declared.errors.Error.{Error}
 use Rattle.capnp_units.specs.Segments.{words_in}
 use Rattle.capnp_object.specs.declared.object.Object.{Object}
 use Rattle.capnp_object.specs.declared.object.Object.TheVariants as object
 use Rattle.capnp_object.specs.Places.{place_view}
-use Rattle.capnp_object.specs.Objects.{AreThere}
 use Rattle.capnp_object.specs.Inside.{tree_in, met_in, section_at, words_there}
-use Rattle.capnp_object.proofs.Walks.{walked_none}
-use Rattle.capnp_object.proofs.Rows.{row_start, row_end, met_next, elements_start, elements_met_next}
+use Rattle.capnp_object.proofs.Rows.{row_start, row_end, met_next}
 use Rattle.capnp_canonical.specs.Writes.{words_view, filled, with_link, with_links, with_cells}
 use Rattle.capnp_canonical.specs.Widths.{kept}
 use Rattle.capnp_canonical.specs.Copies.{copy_visits, IsData, Writes, Halted}
-use Rattle.capnp_canonical.specs.Objects.{WritesObject, IsCut}
-use Rattle.capnp_canonical.proofs.Copying.{halted_at, halted_first, halts_is, begun, next, ended, stopped}
+use Rattle.capnp_canonical.specs.Objects.{WritesObject}
+use Rattle.capnp_canonical.proofs.Copying.{halted_at, no_room, halts_is, begun, next, ended, stopped}
 use Rattle.capnp_canonical.proofs.Steps.{null_put, leaf_at, deep_at, short_at}
-use Rattle.capnp_canonical.proofs.Rows.{row_join, element_join, part_section}
-use Rattle.capnp_canonical.proofs.Kept.{widest_one, widest_at, no_wider}
+use Rattle.capnp_canonical.proofs.Rows.{row_join}
+use Rattle.capnp_canonical.proofs.Kept.{widest_one, no_wider}
 use Rattle.capnp_canonical.proofs.Nulls.{kept_count}
-use Rattle.capnp_canonical.proofs.Parts.{part_there, front_there, there_length, word_is, part_room}
+use Rattle.capnp_canonical.proofs.Parts.{part_there, front_there, there_length, word_is}
 use Rattle.capnp_canonical.proofs.Finals.{struct_gives, pointers_gives, same_words, element_halts, element_gives, structs_gives, empty_gives, cut_parts}
 use Rattle.capnp_canonical.proofs.Objects.{filled_length}
-use Rattle.capnp_canonical.proofs.Putting.{links_all, cells_all}
+use Rattle.capnp_canonical.proofs.Putting.{links_all}
+use Rattle.capnp_canonical.proofs.Elements.{elements_put, elements_begun, elements_stopped, elements_next, elements_ended}
 use Rattle.capnp_canonical.proofs.copy.+write.Goals as goal
 
 pub write_at-returns-in_err-object : goal.write_at-returns-in_err-object
@@ -148,8 +148,7 @@ write_object-returns-in_err-end-in-PointerList g t c =
     let r = err_from_is_err_and c.from_residual.result c.from_residual.ensures.1 in
     let full = c.in_err-end-in-PointerList.ensures.1 in
     subst (λ (o : Object). WritesObject s n o c.args.at c.args.used old l c.from_residual.result old l) (sym c.in-PointerList.is)
-    (λ most room. halts_is (tree_in s (tree_at n s) o) has_capability (λ t. with_link c.args.at (trim t)) (met_in (copy_visits n s) o) most c.args.used old old l l c.from_residual.result r.0 e r.1 r.2
-    (halted_first [] (met_in (copy_visits n s) o) (met_in (copy_visits n s) o) 0 most old l l e refl refl (walked_none l) c.in_err-end-in-PointerList.ensures.0 (omega arith)))
+    (λ most room. no_room (tree_in s (tree_at n s) o) has_capability (λ t. with_link c.args.at (trim t)) (met_in (copy_visits n s) o) most c.args.used old l c.from_residual.result e (r.1 ∙ ap (λ (y : Error). Err y) r.2) c.in_err-end-in-PointerList.ensures.0 (omega arith))
 
 pub write_object-returns-in_ok-end-in-PointerList : goal.write_object-returns-in_ok-end-in-PointerList
 write_object-returns-in_ok-end-in-PointerList g t c =
@@ -180,8 +179,7 @@ write_struct-returns-in_err-end g t c = λ most room.
     let full = c.in_err-end.ensures.1 in
     let few = c.cut_of-cut.ensures.sizes.2 in
     let few_too = c.cut_of-cut.ensures.sizes.3 in
-    halts_is (tree_in s (tree_at n s) o) has_capability (λ t. with_link c.args.at (trim t)) (met_in (copy_visits n s) o) most c.args.used old old l l c.from_residual.result r.0 e r.1 r.2
-    (halted_first [] (met_in (copy_visits n s) o) (met_in (copy_visits n s) o) 0 most old l l e refl refl (walked_none l) c.in_err-end.ensures.0 (omega arith))
+    no_room (tree_in s (tree_at n s) o) has_capability (λ t. with_link c.args.at (trim t)) (met_in (copy_visits n s) o) most c.args.used old l c.from_residual.result e (r.1 ∙ ap (λ (y : Error). Err y) r.2) c.in_err-end.ensures.0 (omega arith)
 
 pub write_element-returns-in_err-end : goal.write_element-returns-in_err-end
 write_element-returns-in_err-end g t c =
@@ -283,8 +281,7 @@ write_structs-returns-in_err-end g t c = λ most room.
     let full = c.in_err-end.ensures.1 in
     let fit = c.requires.fit in
     let own = no_wider c.args.count c.cut_of-cut.result.kept_words c.cut_of-cut.result.kept_pointers c.args.data_words c.args.pointers c.cut_of-cut.ensures.sizes.2 c.cut_of-cut.ensures.sizes.3 in
-    halts_is (tree_in s (tree_at n s) o) has_capability (λ t. with_link c.args.at (trim t)) (met_in (copy_visits n s) o) most c.args.used old old l l c.from_residual.result r.0 e r.1 r.2
-    (halted_first [] (met_in (copy_visits n s) o) (met_in (copy_visits n s) o) 0 most old l l e refl refl (walked_none l) c.in_err-end.ensures.0 (omega arith))
+    no_room (tree_in s (tree_at n s) o) has_capability (λ t. with_link c.args.at (trim t)) (met_in (copy_visits n s) o) most c.args.used old l c.from_residual.result e (r.1 ∙ ap (λ (y : Error). Err y) r.2) c.in_err-end.ensures.0 (omega arith)
 
 pub write_structs-returns : goal.write_structs-returns
 write_structs-returns g t c = λ most room.
@@ -333,25 +330,8 @@ pub write_elements-loop-i-init : goal.write_elements-loop-i-init
 write_elements-loop-i-init g t c =
     let s : Segments = words_in (g.A.ReaderArena.segments c.args.arena.now) in
     let p : Place = place_view c.args.start in
-    let n = c.args.levels in
     let cut = c.args.cut in
-    let d = cut.data_words in
-    let k = cut.pointers in
-    let a = cut.kept_words in
-    let b = cut.kept_pointers in
-    let count = c.args.count in
-    let at = c.args.at in
-    let ws = words_there s p c.args.words in
-    let f = tree_at n s in
-    let v = copy_visits n s in
-    let none_before : 0 * (d + k) ≡ 0 = omega arith in
-    let start : at + 0 * (a + b) ≡ at = omega arith in
-    let words : drop (0 * (d + k)) ws ≡ ws = ap (λ (m : ℕ). drop m ws) none_before in
-    begun (each_element f p ws d k count) (each_element f (after p (0 * (d + k))) (drop (0 * (d + k)) ws) d k (count - 0)) elements_have_capability
-    (λ es. with_cells at (at + count * (a + b)) a b (with_pointers b (trim_elements es))) (λ es. with_cells (at + 0 * (a + b)) (at + count * (a + b)) a b (with_pointers b (trim_elements es)))
-    (from_elements v p d k count) (from_elements v (after p (0 * (d + k))) d k (count - 0)) c.args.used c.args.into.now c.args.limiter.now
-    (ap (λ (xs : List ℕ). each_element f (after p (0 * (d + k))) xs d k (count - 0)) words ∙ elements_start p d k count (λ q m. each_element f q ws d k m)) (elements_start p d k count (λ q m. from_elements v q d k m)) c.requires.place.1 c.requires.place.2
-    (λ es. ap (λ (j : ℕ). with_cells j (at + count * (a + b)) a b (with_pointers b (trim_elements es)) (filled c.args.used c.args.into.now)) start)
+    elements_begun c.args.levels s p cut.data_words cut.pointers cut.kept_words cut.kept_pointers c.args.count c.args.at c.args.used c.args.into.now c.args.limiter.now (words_there s p c.args.words) c.requires.place.1 c.requires.place.2
 
 pub write_elements-returns-in_err-next : goal.write_elements-returns-in_err-next
 write_elements-returns-in_err-next g t c =
@@ -365,85 +345,28 @@ write_elements-returns-in_err-next g t c =
     let b = cut.kept_pointers in
     let count = c.args.count in
     let at = c.args.at in
-    let i = c.loop-i.i in
-    let in_row = c.loop-i-test.true in
     let ws = words_there s p c.args.words in
-    let f = tree_at n s in
-    let v = copy_visits n s in
-    let here = after p (i * (d + k)) in
-    let behind = after p ((i + 1) * (d + k)) in
     let r = err_from_is_err_and c.from_residual.result c.from_residual.ensures.1 in
     let e = c.in_err-next.field-0.0 in
-    let put = λ (es : Elements). with_cells at (at + count * (a + b)) a b (with_pointers b (trim_elements es)) in
-    let put' = λ (es : Elements). with_cells (at + i * (a + b)) (at + count * (a + b)) a b (with_pointers b (trim_elements es)) in
-    halts_is (each_element f p ws d k count) elements_have_capability put (from_elements v p d k count) c.args.used c.args.used c.args.into.now c.write_element.new.into c.args.limiter.now c.write_element.new.limiter c.from_residual.result r.0 e r.1 r.2
-    (stopped (each_element f p ws d k count) (each_element f here (drop (i * (d + k)) ws) d k (count - i)) elements_have_capability put put' (from_elements v p d k count) (from_elements v here d k (count - i)) (from_each v (after here d) k) (from_elements v behind d k (count - (i + 1)))
-    c.args.used c.args.into.now c.loop-i.into c.write_element.new.into c.args.limiter.now c.loop-i.limiter c.write_element.new.limiter c.loop-i.end e (elements_met_next p d k i count in_row v) c.in_err-next.ensures c.loop-i.invariant)
+    halts_is (each_element (tree_at n s) p ws d k count) elements_have_capability (elements_put at (at + count * (a + b)) a b) (from_elements (copy_visits n s) p d k count) c.args.used c.args.used c.args.into.now c.write_element.new.into c.args.limiter.now c.write_element.new.limiter c.from_residual.result r.0 e r.1 r.2
+    (elements_stopped n s p d k a b count at c.args.used c.args.into.now c.args.limiter.now ws c.loop-i.i c.loop-i.end c.loop-i.into c.write_element.new.into c.loop-i.limiter c.write_element.new.limiter e c.loop-i-test.true c.in_err-next.ensures c.loop-i.invariant)
 
 pub write_elements-loop-i-preserved : goal.write_elements-loop-i-preserved
 write_elements-loop-i-preserved g t c =
     let s : Segments = words_in (g.A.ReaderArena.segments c.args.arena.now) in
     let p : Place = place_view c.args.start in
-    let n = c.args.levels in
     let cut = c.args.cut in
-    let d = cut.data_words in
-    let k = cut.pointers in
-    let a = cut.kept_words in
-    let b = cut.kept_pointers in
-    let count = c.args.count in
-    let at = c.args.at in
-    let i = c.loop-i.i in
-    let in_row = c.loop-i-test.true in
-    let ws = words_there s p c.args.words in
-    let f = tree_at n s in
-    let v = copy_visits n s in
-    let here = after p (i * (d + k)) in
-    let behind = after p ((i + 1) * (d + k)) in
-    let rest = count - (i + 1) in
-    let mid = c.loop-i.into in
-    let used = c.loop-i.end in
-    let inv = c.loop-i.invariant in
-    let more = inv.more in
-    let inside = c.requires.place.0 in
-    let size = filled_length used mid inv.bound in
-    let room = part_room i count (d + k) in_row in
-    let fit = c.requires.fit in
-    let section = section_at s here d in
-    let put = λ (es : Elements). with_cells at (at + count * (a + b)) a b (with_pointers b (trim_elements es)) in
-    let put' = λ (es : Elements). with_cells (at + i * (a + b)) (at + count * (a + b)) a b (with_pointers b (trim_elements es)) in
-    let put'' = λ (es : Elements). with_cells (at + (i + 1) * (a + b)) (at + count * (a + b)) a b (with_pointers b (trim_elements es)) in
-    next (each_element f p ws d k count) (each_element f here (drop (i * (d + k)) ws) d k (count - i)) (each_element f behind (drop ((i + 1) * (d + k)) ws) d k rest) elements_have_capability put put' put''
-    (each f (after here d) k) have_capability (λ ts. with_cells (at + i * (a + b)) (at + i * (a + b) + (a + b)) a b (element section (resized b (trim_each ts)) no_elements))
-    (from_elements v p d k count) (from_elements v here d k (count - i)) (from_elements v behind d k rest) (from_each v (after here d) k) c.args.used c.args.into.now mid c.write_element.new.into c.args.limiter.now c.loop-i.limiter c.write_element.new.limiter used c.in_ok-next.next
-    (elements_met_next p d k i count in_row v)
-    (λ x y is rest_is clean cleans. element_join at a b d k i count section (filled used mid) ws f p x y in_row (omega arith) is rest_is (sym (part_section s p c.args.words c.requires.inside.0 (i * (d + k)) d (omega arith))) clean cleans) c.in_ok-next.ensures inv
+    elements_next c.args.levels s p cut.data_words cut.pointers cut.kept_words cut.kept_pointers c.args.count c.args.at c.args.used c.args.into.now c.args.limiter.now c.args.words c.loop-i.i c.loop-i.end c.in_ok-next.next c.loop-i.into c.write_element.new.into c.loop-i.limiter c.write_element.new.limiter
+    c.loop-i-test.true c.requires.inside c.requires.fit c.requires.place.0 c.in_ok-next.ensures c.loop-i.invariant
 
 pub write_elements-returns : goal.write_elements-returns
-unfolding has_capability trim
 write_elements-returns g t c =
     let s : Segments = words_in (g.A.ReaderArena.segments c.args.arena.now) in
     let p : Place = place_view c.args.start in
-    let n = c.args.levels in
     let cut = c.args.cut in
-    let d = cut.data_words in
-    let k = cut.pointers in
-    let a = cut.kept_words in
-    let b = cut.kept_pointers in
-    let count = c.args.count in
-    let at = c.args.at in
-    let i = c.loop-i.i in
     let past = c.loop-i-test.false in
     let last = c.loop-i.auto.i-end in
-    let ws = words_there s p c.args.words in
-    let f = tree_at n s in
-    let v = copy_visits n s in
-    let here = after p (i * (d + k)) in
-    let same : i ≡ count = omega arith in
-    let end : at + i * (a + b) ≡ at + count * (a + b) = ap (λ (j : ℕ). at + j * (a + b)) same in
-    ended (each_element f p ws d k count) (each_element f here (drop (i * (d + k)) ws) d k (count - i)) elements_have_capability
-    (λ es. with_cells at (at + count * (a + b)) a b (with_pointers b (trim_elements es))) (λ es. with_cells (at + i * (a + b)) (at + count * (a + b)) a b (with_pointers b (trim_elements es)))
-    (from_elements v p d k count) (from_elements v here d k (count - i)) c.args.used c.args.into.now c.loop-i.into c.args.limiter.now c.loop-i.limiter c.loop-i.end no_elements
-    (row_end count i (each_element f here (drop (i * (d + k)) ws) d k) past) refl (cells_all (at + i * (a + b)) (at + count * (a + b)) a b (filled c.loop-i.end c.loop-i.into) end) (row_end count i (from_elements v here d k) past) c.loop-i.invariant
+    elements_ended c.args.levels s p cut.data_words cut.pointers cut.kept_words cut.kept_pointers c.args.count c.args.at c.args.used c.args.into.now c.args.limiter.now (words_there s p c.args.words) c.loop-i.i c.loop-i.end c.loop-i.into c.loop-i.limiter (omega arith) c.loop-i.invariant
 
 pub write_structs-write_elements-requires : goal.write_structs-write_elements-requires
 write_structs-write_elements-requires g t c =

@@ -1,7 +1,7 @@
 -- Each struct's words are among those that are there.
-use Rattle.std.proofs.Common.{◌≡◌, ℕ, ◌+◌, ◌*◌, ◌≤◌, ◌<◌, true, ap, sym, ◌∙◌, arith}
+use Rattle.std.proofs.Common.{◌≡◌, ℕ, ◌+◌, ◌*◌, ap, sym, ◌∙◌, arith}
 use Rattle.std.specs.Option.{is_some}
-use Rattle.capnp_model.specs.Segments.{Segments, Place, place, after, words_at}
+use Rattle.capnp_model.specs.Segments.{Segments, Place, place, words_at}
 use Rattle.capnp_units.specs.Segments.{words_in}
 use Rattle.capnp_object.specs.Places.{place_view}
 use Rattle.capnp_canonical.proofs.Parts.{part_there, part_room}

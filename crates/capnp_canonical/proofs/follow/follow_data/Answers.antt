@@ -1,13 +1,11 @@
 -- Each refusal is the one fault there, or the cost there passes what is left.
-use Rattle.std.proofs.Common.{◌≡◌, ◌+◌, ℕ, List, Some, Result, Ok, Err, ap, sym, ◌∙◌, subst, arith}
+use Rattle.std.proofs.Common.{◌≡◌, ◌+◌, ℕ, Result, Ok, Err, ap, sym, ◌∙◌, subst, arith}
 use Rattle.std.proofs.lemmas.Result.{err_from_is_err_and}
 use Rattle.capnp_model.specs.Segments.{Segments, Place}
-use Rattle.capnp_model.specs.Visits.{Visit}
 use Rattle.capnp_units.specs.declared.errors.Error.{Error}
 use Rattle.capnp_units.specs.declared.limiter.ReadLimiter.{ReadLimiter}
-use Rattle.capnp_units.specs.Errors.{kind_of}
 use Rattle.capnp_units.specs.Segments.{words_in}
-use Rattle.capnp_units.specs.Limits.{left_of, IsPassed, Follows}
+use Rattle.capnp_units.specs.Limits.{left_of, IsPassed}
 use Rattle.capnp_units.proofs.Spending.{spends_nothing}
 use Rattle.capnp_object.specs.declared.object.Object.{Object}
 use Rattle.capnp_object.specs.Places.{place_view}

@@ -1,9 +1,7 @@
 -- The last word is cut, or none needs to be.
-use Rattle.std.proofs.Common.{◌≡◌, ℕ, ◌+◌, ◌-◌, ◌%◌, ◌^◌, ◌<◌, ◌≤◌, ◌++◌, List, length, get_or, take, set, ap, sym, ◌∙◌, arith}
-use Rattle.std.specs.Int.{from_le_bytes, w64}
+use Rattle.std.proofs.Common.{◌≡◌, ℕ, ◌-◌, ◌%◌, ◌^◌, ◌<◌, ◌++◌, List, get_or, take, set, ap, sym, ◌∙◌, arith}
 use Rattle.std.proofs.Math.Seq.{take-set-lt}
-use Rattle.std.proofs.lemmas.List.{length-map, get_or-take}
-use Rattle.capnp_model.specs.Sections.{words_for, words_of}
+use Rattle.std.proofs.lemmas.List.{get_or-take}
 use Rattle.capnp_canonical.specs.Writes.{words_view, filled}
 use Rattle.capnp_canonical.proofs.Objects.{filled_length}
 use Rattle.capnp_canonical.proofs.Masks.{last_cut, nothing_cut, shifted}
