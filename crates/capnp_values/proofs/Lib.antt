@@ -1,7 +1,9 @@
 pub mod Bits
 pub mod Elements
 pub mod FieldKinds
+pub mod FieldReadings
 pub mod Named
+pub mod Nulls
 pub mod PointerReadings
 pub mod PlainDefaults
 pub mod TextLemmas

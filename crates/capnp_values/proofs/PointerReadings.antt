@@ -7,11 +7,11 @@ use Rattle.capnp_model.specs.Chains.{◌>>=◌, ◌and_then◌, guard}
 use Rattle.capnp_model.specs.Segments.{Segments, Place, root, after, words_at}
 use Rattle.capnp_model.specs.Pointers as model
 use Rattle.std.proofs.lemmas.Bool.Decides.{nat_tests}
-use Rattle.capnp_model.specs.Trees.{plain_elements, Tree, null, capability, structure, plain_list, pointer_list, struct_list, Trees, none, child}
+use Rattle.capnp_model.specs.Trees.{size_bits, plain_elements, Tree, null, capability, structure, plain_list, pointer_list, struct_list, Trees, none, child}
 use Rattle.capnp_model.specs.Trimming.{trim}
-use Rattle.capnp_model.specs.Traversal.{tree_at, tree_of, leaf_of, list_tree, ListKind, of_bits, of_pointers, of_structs, list_kind, list_words, tag_in}
+use Rattle.capnp_model.specs.Traversal.{each, each_element, tree_at, tree_of, leaf_of, list_tree, ListKind, of_bits, of_pointers, of_structs, list_kind, list_words, tag_in}
 use Rattle.capnp_model.specs.Schemas.{width, Shape, Schema, Ty, void, plain, text, blob, untyped, interface, struct, list}
-use Rattle.capnp_model.specs.Readings.{Reading, inactive, null_pointer, fault, number, text_of, blob_of, list_of, record_as, opaque, read, text_reading, is_accepted_as, expected_size, whole_words, no_children, shape_record, read_child}
+use Rattle.capnp_model.specs.Readings.{Reading, inactive, null_pointer, fault, number, text_of, blob_of, list_of, record_as, opaque, read, text_reading, list_reading, is_list_of, plain_readings, pointer_elements, struct_elements, Readings, no_readings, is_accepted_as, expected_size, whole_words, no_children, shape_record, read_child}
 use Rattle.capnp_model.specs.Fits.{Fits}
 use Rattle.capnp_model.proofs.Chaining.{guard_ok, ok_then, bind_some, bind_found, some_is, ok_is, bind_ok}
 use Rattle.capnp_model.proofs.ReadFits.{tree_at_fits}
@@ -19,11 +19,13 @@ use Rattle.capnp_object.specs.declared.object.Object.{Object}
 use Rattle.capnp_object.specs.declared.object.Object.TheVariants as object
 use Rattle.capnp_object.specs.declared.object.Found.{Found}
 use Rattle.capnp_object.specs.Objects.{plain_size, whole, whole_list, object_at}
-use Rattle.capnp_object.specs.Places.{placed}
+use Rattle.capnp_object.specs.Places.{placed, place_view}
+use Rattle.capnp_object.specs.Inside.{words_there, tree_in}
+use Rattle.capnp_object.specs.Laws.{TreesByLevels}
 use Rattle.capnp_wire.specs.Levels.{level_below}
 use Rattle.capnp_wire.specs.Views.{Ground, PointerView, StructView, ListView, list_view, pointer_field}
 use Rattle.capnp_units.specs.declared.sizes.ElementSize.{ElementSize}
-use Rattle.capnp_units.specs.declared.sizes.ElementSize.TheVariants.{Bit, Byte, TwoBytes, FourBytes, EightBytes, Pointer, InlineComposite}
+use Rattle.capnp_units.specs.declared.sizes.ElementSize.TheVariants.{Void, Bit, Byte, TwoBytes, FourBytes, EightBytes, Pointer, InlineComposite}
 use Rattle.capnp_units.specs.Sizes.{size_number}
 use Rattle.capnp_wire.specs.Reads.{read_elements, list_head, empty_struct, found_behind, object_behind, read_struct, read_blob, read_text, read_list}
 use Rattle.capnp_wire.specs.Laws.{bytes_read, reads_behind, ShowsStruct, ShowsList, IsRead, BytesAreRead, StructsAreRead, ListsAreRead}
@@ -235,6 +237,43 @@ size_asked interface = refl
 size_asked (struct id) = refl
 size_asked (list ty) = refl
 
+-- a list that was read is one for the model
+abbrev IsListOf : Schema → Ty → Tree → Type 0
+IsListOf s ty t = (rs : Readings) × (or_empty s (list ty) (read s t (list ty)) ≡ list_of rs)
+
+plain_items : (s : Schema) (ty : Ty) (size n section : ℕ) → is_list_of (plain_list size n section) ty ≡ true → IsListOf s ty (plain_list size n section)
+unfolding read
+plain_items s ty size n section h = (plain_readings s (size_bits size) (plain_elements size n section) ty, ap (λ b. or_empty s (list ty) (list_reading b (plain_readings s (size_bits size) (plain_elements size n section) ty))) h)
+
+elements_accepted : (l : ℕ) (expected : ElementSize) (view : Option ℕ → ListView) (size : ElementSize) (d k : ℕ) (v : ListView) (ty : Ty) → size_number expected ≡ expected_size ty → read_elements (Some (suc l)) expected view size d k ≡ Ok v
+    → is_accepted_as (expected_size ty) (list_head size d k) ≡ true
+elements_accepted l expected view size d k v ty same e =
+    let a = bind_ok (level_below (Some (suc l))) _ v e in
+    let b = guard_ok (is_accepted_as (size_number expected) (list_head size d k)) WrongElementSize _ v a.2 in
+    ap (λ x. is_accepted_as x (list_head size d k)) (sym same) ∙ b.0
+
+list_items : (below : Place → Option Tree) (g : Ground) (l : ℕ) (expected : ElementSize) (s : Schema) (ty : Ty) (o : Object) (t : Tree) (v : ListView) → size_number expected ≡ expected_size ty → Fits t → tree_in g.segments below o ≡ Some t → read_list g (Some (suc l)) expected o ≡ Ok v → IsListOf s ty t
+unfolding read
+list_items below g l expected s ty object.Null t v same fits e h = subst (IsListOf s ty) (some_is null t e) (no_readings, refl)
+list_items below g l expected s ty (object.Capability i) t v same fits e h = absurd cc
+list_items below g l expected s ty (object.Struct p d k) t v same fits e h = absurd cc
+list_items below g l expected s ty (object.List p Void n) t v same fits e h = subst (IsListOf s ty) (some_is _ t e) (plain_items s ty 0 n _ (elements_accepted l expected _ Void 0 0 v ty same h))
+list_items below g l expected s ty (object.List p Bit n) t v same fits e h = subst (IsListOf s ty) (some_is _ t e) (plain_items s ty 1 n _ (elements_accepted l expected _ Bit 0 0 v ty same h))
+list_items below g l expected s ty (object.List p Byte n) t v same fits e h = subst (IsListOf s ty) (some_is _ t e) (plain_items s ty 2 n _ (elements_accepted l expected _ Byte 0 0 v ty same h))
+list_items below g l expected s ty (object.List p TwoBytes n) t v same fits e h = subst (IsListOf s ty) (some_is _ t e) (plain_items s ty 3 n _ (elements_accepted l expected _ TwoBytes 0 0 v ty same h))
+list_items below g l expected s ty (object.List p FourBytes n) t v same fits e h = subst (IsListOf s ty) (some_is _ t e) (plain_items s ty 4 n _ (elements_accepted l expected _ FourBytes 0 0 v ty same h))
+list_items below g l expected s ty (object.List p EightBytes n) t v same fits e h = subst (IsListOf s ty) (some_is _ t e) (plain_items s ty 5 n _ (elements_accepted l expected _ EightBytes 0 0 v ty same h))
+list_items below g l expected s ty (object.List p Pointer n) t v same fits e h = let small = (subst Fits (sym (some_is _ t e)) fits).0 in absurd (omega arith)
+list_items below g l expected s ty (object.List p InlineComposite n) t v same fits e h = let small = (subst Fits (sym (some_is _ t e)) fits).0 in absurd (omega arith)
+list_items below g l expected s ty (object.PointerList p n) t v same fits e h =
+    let a = bind_some (each below (place_view p) n) _ t e in
+    let ok = elements_accepted l expected _ Pointer 0 0 v ty same h in
+    subst (IsListOf s ty) (some_is _ t a.2) (pointer_elements s a.0 ty, ap (λ b. or_empty s (list ty) (list_reading b (pointer_elements s a.0 ty))) ok)
+list_items below g l expected s ty (object.StructList p w n d k) t v same fits e h =
+    let a = bind_some (each_element below (place_view p) (words_there g.segments (place_view p) w) d k n) _ t e in
+    let ok = elements_accepted l expected _ InlineComposite d k v ty same h in
+    subst (IsListOf s ty) (some_is _ t a.2) (struct_elements s a.0 ty, ap (λ b. or_empty s (list ty) (list_reading b (struct_elements s a.0 ty))) ok)
+
 -- ---- each type
 
 untyped_read : (s : Schema) (t : Tree) → or_empty s untyped (read s t untyped) ≡ opaque (trim t)
@@ -302,19 +341,19 @@ module _ (n : ℕ) (p : PointerView) (t : Tree) (s : Schema) (leads : Leads n p 
           (refl, struct_record m l p s id v t (tree_at_fits (suc m) p.basis.segments q t is.tree) k.0 k.1 k.2 (omega arith) ((structs m q f t p.basis p.levels is).0 v h))
       by (Err kind) h = ap (or_empty s (struct id)) ((structs m q f t p.basis p.levels is).1 kind s id h)
 
-  list_case : ListsAreRead → (ty : Ty) → Reach n p t → Answers s (opened s (list ty) p) (or_empty s (list ty) (read s t (list ty)))
+  list_case : TreesByLevels → ListsAreRead → (ty : Ty) → Reach n p t → Answers s (opened s (list ty) p) (or_empty s (list ty) (read s t (list ty)))
   unfolding read
-  list_case lists ty (at_null pads e is) =
+  list_case trees lists ty (at_null pads e is) =
       let R : Tree → Reading = λ u. or_empty s (list ty) (read s u (list ty)) in
       let P : Result Found Kind → Type 0 = λ r. Answers s ((r and_then λ f. read_list p.basis p.levels (size_of ty) f.object) and_then λ v. Ok (a_list s ty v)) (R t) in
       let v : ListView = list_view p.basis (size_of ty) 0 0 root 0 0 p.levels in
-      let items : AreItems s ty v (R null) = record { levels = n; tree = null; lists = record { left = leads.left; levels = leads.levels; enough = leads.enough; shows = refl }; is = refl } in
+      let items : AreItems s ty v (R null) = record { levels = n; tree = null; lists = record { left = leads.left; levels = leads.levels; enough = leads.enough; shows = refl }; items = no_readings; reads = refl; is = refl } in
       let Q : Tree → Type 0 = λ u. (s ≡ s) × AreItems s ty v (R u) in
       subst P (sym e) (subst Q (sym is) (refl, items))
-  list_case lists ty (at_capability pads i e is) =
+  list_case trees lists ty (at_capability pads i e is) =
       let P : Result Found Kind → Type 0 = λ r. Answers s ((r and_then λ f. read_list p.basis p.levels (size_of ty) f.object) and_then λ v. Ok (a_list s ty v)) (or_empty s (list ty) (read s t (list ty))) in
       subst P (sym e) (ap (λ u. or_empty s (list ty) (read s u (list ty))) is)
-  list_case lists ty (at_level m l q f e levels enough is) =
+  list_case trees lists ty (at_level m l q f e levels enough is) =
       let P : Result Found Kind → Type 0 = λ r. Answers s ((r and_then λ f. read_list p.basis p.levels (size_of ty) f.object) and_then λ v. Ok (a_list s ty v)) (or_empty s (list ty) (read s t (list ty))) in
       subst P (sym e) (by (read_list p.basis p.levels (size_of ty) f.object) refl)
     where
@@ -323,15 +362,17 @@ module _ (n : ℕ) (p : PointerView) (t : Tree) (s : Schema) (leads : Leads n p 
           let k = list_left p.basis l (size_of ty) f.object v (ap (λ lv. read_list p.basis lv (size_of ty) f.object) (sym levels) ∙ h) in
           let shows : ShowsList (tree_at m p.basis.segments) v t = (lists m q f t p.basis p.levels (size_of ty) is).0 v h in
           let P : Ground → Type 0 = λ g. ShowsList (tree_at m g.segments) v t in
-          (refl, record { levels = m; tree = t; lists = record { left = k.1; levels = k.2; enough = omega arith; shows = subst P (sym k.0) shows }; is = refl })
+          let there : tree_in p.basis.segments (tree_at m p.basis.segments) f.object ≡ Some t = sym (trees m p.basis.segments q f is.found) ∙ is.tree in
+          let items = list_items (tree_at m p.basis.segments) p.basis l (size_of ty) s ty f.object t v (size_asked ty) (tree_at_fits (suc m) p.basis.segments q t is.tree) there (ap (λ lv. read_list p.basis lv (size_of ty) f.object) (sym levels) ∙ h) in
+          (refl, record { levels = m; tree = t; lists = record { left = k.1; levels = k.2; enough = omega arith; shows = subst P (sym k.0) shows }; items = items.0; reads = items.1; is = items.1 })
       by (Err kind) h = ap (or_empty s (list ty)) ((lists m q f t p.basis p.levels (size_of ty) is).1 kind s ty (size_asked ty) h)
 
-pub pointers : BytesAreRead → StructsAreRead → ListsAreRead → PointersAreRead
-pointers bytes structs lists n p t s void pointer leads = absurd pointer
-pointers bytes structs lists n p t s (plain q) pointer leads = absurd pointer
-pointers bytes structs lists n p t s text pointer leads = text_case n p t s leads bytes (reach n p t leads)
-pointers bytes structs lists n p t s blob pointer leads = blob_case n p t s leads bytes (reach n p t leads)
-pointers bytes structs lists n p t s untyped pointer leads = record { levels = n; tree = t; leads = leads; is = untyped_read s t }
-pointers bytes structs lists n p t s interface pointer leads = (trim t, interface_read s t)
-pointers bytes structs lists n p t s (struct id) pointer leads = struct_case n p t s leads structs id (reach n p t leads)
-pointers bytes structs lists n p t s (list ty) pointer leads = list_case n p t s leads lists ty (reach n p t leads)
+pub pointers : TreesByLevels → BytesAreRead → StructsAreRead → ListsAreRead → PointersAreRead
+pointers trees bytes structs lists n p t s void pointer leads = absurd pointer
+pointers trees bytes structs lists n p t s (plain q) pointer leads = absurd pointer
+pointers trees bytes structs lists n p t s text pointer leads = text_case n p t s leads bytes (reach n p t leads)
+pointers trees bytes structs lists n p t s blob pointer leads = blob_case n p t s leads bytes (reach n p t leads)
+pointers trees bytes structs lists n p t s untyped pointer leads = record { levels = n; tree = t; leads = leads; is = untyped_read s t }
+pointers trees bytes structs lists n p t s interface pointer leads = (trim t, interface_read s t)
+pointers trees bytes structs lists n p t s (struct id) pointer leads = struct_case n p t s leads structs id (reach n p t leads)
+pointers trees bytes structs lists n p t s (list ty) pointer leads = list_case n p t s leads trees lists ty (reach n p t leads)

@@ -1,15 +1,16 @@
 -- Where what is shown stands at a value, and what it reads as there. (Encoding, "Value Encoding")
-use Rattle.std.specs.Prelude.{ℕ, ◌≡◌, ◌*◌, ◌^◌, ◌<◌, ◌≤◌, List, [], Option, Some, None, Result, Ok, Err}
+use Rattle.std.specs.Prelude.{ℕ, ◌≡◌, ◌*◌, ◌^◌, ◌<◌, ◌≤◌, List, [], Option, Some, None, option_map, Result, Ok, Err}
 use Rattle.capnp_model.specs.Kinds.{Kind}
-use Rattle.capnp_model.specs.Trees.{Tree, null, structure, Trees, none, child}
+use Rattle.capnp_model.specs.Trees.{Tree, null, is_null, structure, Trees, none, child}
 use Rattle.capnp_model.specs.Trimming.{trim}
 use Rattle.capnp_model.specs.Traversal.{tree_at}
-use Rattle.capnp_model.specs.Schemas.{Ty, void, plain, text, blob, untyped, interface, struct, list, Value, FieldKind, Shape, Schema}
+use Rattle.capnp_model.specs.Schemas.{Ty, void, plain, text, blob, untyped, interface, struct, list, FieldKind, slot, group, Shape, Schema, Body, void_slot, plain_slot, pointer_slot, group_slot}
 use Rattle.capnp_model.specs.Accepted.{field_body}
-use Rattle.capnp_model.specs.Readings.{Reading, inactive, null_pointer, fault, number, text_of, blob_of, list_of, record_as, opaque, no_readings, Extent, whole_words, just_bits, no_children, shape_record, body_of, read, read_child}
+use Rattle.capnp_model.specs.Readings.{Reading, inactive, null_pointer, fault, number, text_of, blob_of, list_of, record_as, opaque, Readings, no_readings, Extent, whole_words, just_bits, no_children, discriminant, shape_record, body_of, read, read_child}
 use Rattle.capnp_wire.specs.Views.{PointerView, StructView, ListView, pointer_field}
+use Rattle.capnp_wire.specs.Reads.{is_null as pointer_is_null}
 use Rattle.capnp_wire.specs.Laws.{reads_behind, ShowsList}
-use Rattle.capnp_values.specs.Shown.{Shown, a_number, an_enum, a_text, a_blob, a_struct, a_list, a_pointer, a_capability, opened, slot_opened}
+use Rattle.capnp_values.specs.Shown.{Shown, a_number, an_enum, a_text, a_blob, a_struct, a_list, a_pointer, a_capability, opened, kind_shown}
 
 -- The pointer leads to a value of so many levels at most, and they are left.
 pub record Leads (n : ℕ) (p : PointerView) (t : Tree) : Type 0 where
@@ -73,7 +74,9 @@ pub record AreItems (s : Schema) (ty : Ty) (l : ListView) (r : Reading) : Type 0
   pub levels : ℕ
   pub tree : Tree
   pub lists : Lists levels l tree
-  pub is : r ≡ or_empty s (list ty) (read s tree (list ty))
+  pub items : Readings
+  pub reads : or_empty s (list ty) (read s tree (list ty)) ≡ list_of items
+  pub is : r ≡ list_of items
 
 -- A pointer leads to the reading's value.
 pub record IsOpaque (p : PointerView) (r : Reading) : Type 0 where
@@ -112,3 +115,29 @@ IsPointerType (list ty) = Unit {0}
 -- What a pointer shows is what its value reads as.
 abbrev pub PointersAreRead : Type 0
 PointersAreRead = (n : ℕ) (p : PointerView) (t : Tree) (s : Schema) (ty : Ty) → IsPointerType ty → Leads n p t → Answers s (opened s ty p) (or_empty s ty (read s t ty))
+
+-- A field's reading, a null pointer as the empty value of its type.
+abbrev pub filled : Schema → Body → Reading → Reading
+filled s (void_slot j) r = r
+filled s (plain_slot p at d) r = r
+filled s (pointer_slot i ty d) r = or_empty s ty r
+filled s (group_slot g) r = r
+
+-- The field lies behind a pointer that isn't null, or that has no default.
+abbrev pub HasNoNullDefault : Trees → FieldKind → Type 0
+HasNoNullDefault kids (slot offset ty d) = child kids offset ≡ null → d ≡ None
+HasNoNullDefault kids (group id) = Unit {0}
+
+-- What is shown of a field is what the model reads of the struct there.
+abbrev pub FieldsAreRead : Type 0
+FieldsAreRead = (n : ℕ) (v : StructView) (e : Extent) (section : ℕ) (kids : Trees) (s : Schema) (k : FieldKind) → Stands n v e section kids → HasNoNullDefault kids k
+    → let body = field_body s.shape_of k in Answers s (kind_shown s v k) (filled s body (body_of body e section (read_child s kids)))
+
+-- The discriminant that is shown is the one that the model reads, at a place counted in 16 bits.
+abbrev pub DiscriminantsAreRead : Type 0
+DiscriminantsAreRead = (n : ℕ) (v : StructView) (e : Extent) (section : ℕ) (kids : Trees) (offset : Option ℕ) → Stands n v e section kids
+    → let at = option_map (λ o. 16 * o) offset in discriminant at (just_bits v.bits) v.section ≡ discriminant at e section
+
+-- A pointer is null where it leads to null.
+abbrev pub NullsAreRead : Type 0
+NullsAreRead = (n : ℕ) (p : PointerView) (t : Tree) → Leads n p t → pointer_is_null p ≡ is_null t

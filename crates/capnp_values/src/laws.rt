@@ -1,11 +1,29 @@
 //! Laws of what is shown, each the contract of an empty function: a call of it brings its clauses.
-ghost use Rattle.capnp_values.specs.Standing.{PointersAreRead};
+ghost use Rattle.capnp_values.specs.Standing.{PointersAreRead, FieldsAreRead, DiscriminantsAreRead, NullsAreRead};
 
-use capnp_wire::laws::gets_are_readings;
+use capnp_wire::laws::{gets_are_readings, values_by_levels};
 
 /// What a pointer shows under a type is what the model reads there, where the levels of the value are left: a text and data by their bytes; a struct by its record, with the section and the children that the value has; a list by the value's elements; an untyped pointer by the value that it leads to; null as the empty value. What is refused is refused by the kind of the reading's fault.
 pub fn pointers_are_read()
     ensures { PointersAreRead }
 {
+    values_by_levels();
     gets_are_readings();
 }
+
+/// What a field shows of a struct that stands at a value is what the model reads of it there, at every type: a plain field its bits, a group the record of the same section and children, one behind a pointer what the child reads as. A null pointer that has a default isn't spoken of.
+pub fn fields_are_read()
+    ensures { FieldsAreRead }
+{
+    pointers_are_read();
+}
+
+/// The discriminant that a struct shows, by which `which` and `has` go, is the one that the model reads of the value.
+pub fn discriminants_are_read()
+    ensures { DiscriminantsAreRead }
+{}
+
+/// A pointer is null just where the value is, so that `has` of a pointer slot goes by the value.
+pub fn nulls_are_read()
+    ensures { NullsAreRead }
+{}

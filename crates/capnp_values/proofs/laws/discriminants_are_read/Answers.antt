@@ -1,0 +1,5 @@
+use Rattle.capnp_values.proofs.FieldReadings.{discriminants}
+use Rattle.capnp_values.proofs.laws.discriminants_are_read.Goals as goal
+
+pub returns : goal.returns
+returns c = discriminants

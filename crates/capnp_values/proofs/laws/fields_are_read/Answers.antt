@@ -1,0 +1,5 @@
+use Rattle.capnp_values.proofs.FieldReadings.{fields}
+use Rattle.capnp_values.proofs.laws.fields_are_read.Goals as goal
+
+pub returns : goal.returns
+returns c = fields c.pointers_are_read.ensures
