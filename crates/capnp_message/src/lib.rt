@@ -7,6 +7,7 @@ pub mod builder;
 pub mod growth;
 pub mod heap;
 pub mod laws;
+pub mod message;
 pub mod options;
 #[cfg(test)]
 mod packed_tests;
@@ -19,3 +20,5 @@ pub mod serialize;
 pub mod serialize_packed;
 pub mod single;
 pub mod typed;
+
+pub use capnp_stream::{adapters, memory, slice_writer, traits};

@@ -1,6 +1,5 @@
 //! Framed messages that are read from streams and slices, and their roots.
-use crate::options::{DEFAULT_READER_OPTIONS, ReaderOptions};
-use crate::reader::{Reader, SegmentArray};
+use crate::message::{DEFAULT_READER_OPTIONS, Reader, ReaderOptions, SegmentArray, TypedReader};
 use crate::serialize::{
     read_message, read_message_from_flat_slice, read_message_from_flat_slice_no_alloc,
     read_message_no_alloc, try_read_message, try_read_message_no_alloc,
@@ -9,7 +8,9 @@ use capnp_units::errors::{Error, Result};
 use capnp_units::kinds::ErrorKind;
 use capnp_units::limiter::ReadLimiter;
 use capnp_units::segments::ReaderSegments;
+use capnp_wire::arena::ReaderArena;
 use capnp_wire::pointer::PointerReader;
+use capnp_wire::traits::Owned;
 use std::alloc::Global;
 use std::test::Fail;
 
@@ -84,6 +85,28 @@ fn roots_are_read_under_the_limits(rt: HostRuntime) -> std::result::Result<(), F
     let refused = holds_data(&empty, b"").err();
     assert_eq!(rt; refused, Some(Error::from(ErrorKind::OutOfBounds)));
     assert_eq!(rt; empty.size_in_words(), 0);
+    Ok(())
+}
+
+/// Roots that are data.
+#[derive(Drop)]
+struct Bytes;
+
+impl<'a, A: ReaderArena> Owned<'a, A> for Bytes {
+    type Reader = &'a [u8];
+}
+
+#[test]
+fn a_typed_root_is_read(rt: HostRuntime) -> std::result::Result<(), Fail> {
+    let segments = [&DATA[8..24]];
+    let message = Reader::new(SegmentArray::new(&segments), DEFAULT_READER_OPTIONS);
+    let typed = message.into_typed::<Bytes>();
+    let mut limiter = ReadLimiter::new(Some(1));
+    assert_eq!(rt; typed.get(&mut limiter)?, &b"hi"[..]);
+    assert_eq!(rt; limiter.granted(), 1);
+    assert_eq!(rt; typed.get_segments().len(), 1);
+    let again: TypedReader<_, Bytes> = TypedReader::from(typed.into_inner());
+    assert!(rt; again.get(&mut limiter).is_err());
     Ok(())
 }
 

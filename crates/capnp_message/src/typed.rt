@@ -54,6 +54,15 @@ impl<S: ReaderSegments, T> TypedReader<S, T> {
     }
 }
 
+impl<S: ReaderSegments> Reader<S> {
+    /// The same message, whose root is read as what `T` says.
+    pub fn into_typed<T>(self) -> TypedReader<S, T>
+        ensures { result.message ≡ self }
+    {
+        TypedReader::new(self)
+    }
+}
+
 impl<S: ReaderSegments, T> From<Reader<S>> for TypedReader<S, T> {
     ghost from_gives = { λ message typed. typed.message ≡ message };
 
