@@ -12,3 +12,4 @@ pub mod Objects
 pub mod Steps
 pub mod Finals
 pub mod Elements
+pub mod Pointers

@@ -5,7 +5,7 @@ use Rattle.std.specs.Option.{is_some}
 use Rattle.std.proofs.lemmas.Result.{err_from_is_err_and}
 use Rattle.capnp_model.specs.Sections.{needed_words}
 use Rattle.capnp_model.specs.Segments.{Segments, Place, after, words_at}
-use Rattle.capnp_model.specs.Trees.{none, no_elements, element, resized, has_capability, have_capability, elements_have_capability}
+use Rattle.capnp_model.specs.Trees.{no_elements, element, resized, has_capability, have_capability, elements_have_capability}
 use Rattle.capnp_model.specs.Traversal.{tree_at, each, each_element}
 use Rattle.capnp_model.specs.Trimming.{trim, trim_each, trim_elements, with_pointers}
 use Rattle.capnp_model.specs.Coverage.{from_each, from_elements}
@@ -15,21 +15,18 @@ use Rattle.capnp_object.specs.declared.object.Object.{Object}
 use Rattle.capnp_object.specs.declared.object.Object.TheVariants as object
 use Rattle.capnp_object.specs.Places.{place_view}
 use Rattle.capnp_object.specs.Inside.{tree_in, met_in, section_at, words_there}
-use Rattle.capnp_object.proofs.Rows.{row_start, row_end, met_next}
-use Rattle.capnp_canonical.specs.Writes.{words_view, filled, with_link, with_links, with_cells}
+use Rattle.capnp_canonical.specs.Writes.{words_view, with_link, with_links, with_cells}
 use Rattle.capnp_canonical.specs.Widths.{kept}
 use Rattle.capnp_canonical.specs.Copies.{copy_visits, IsData, Writes, Halted}
 use Rattle.capnp_canonical.specs.Objects.{WritesObject}
-use Rattle.capnp_canonical.proofs.Copying.{halted_at, no_room, halts_is, begun, next, ended, stopped}
+use Rattle.capnp_canonical.proofs.Copying.{halted_at, no_room, halts_is}
 use Rattle.capnp_canonical.proofs.Steps.{null_put, leaf_at, deep_at, short_at}
-use Rattle.capnp_canonical.proofs.Rows.{row_join}
 use Rattle.capnp_canonical.proofs.Kept.{widest_one, no_wider}
 use Rattle.capnp_canonical.proofs.Nulls.{kept_count}
 use Rattle.capnp_canonical.proofs.Parts.{part_there, front_there, there_length, word_is}
 use Rattle.capnp_canonical.proofs.Finals.{struct_gives, pointers_gives, same_words, element_halts, element_gives, structs_gives, empty_gives, cut_parts}
-use Rattle.capnp_canonical.proofs.Objects.{filled_length}
-use Rattle.capnp_canonical.proofs.Putting.{links_all}
 use Rattle.capnp_canonical.proofs.Elements.{elements_put, elements_begun, elements_stopped, elements_next, elements_ended}
+use Rattle.capnp_canonical.proofs.Pointers.{trees_put, pointers_begun, pointers_stopped, pointers_next, pointers_ended}
 use Rattle.capnp_canonical.proofs.copy.+write.Goals as goal
 
 pub write_at-returns-in_err-object : goal.write_at-returns-in_err-object
@@ -74,68 +71,32 @@ write_object-returns-in-StructList g t c =
 pub write_row-loop-i-init : goal.write_row-loop-i-init
 write_row-loop-i-init g t c =
     let s : Segments = words_in (g.A.ReaderArena.segments c.args.arena.now) in
-    let p : Place = place_view c.args.first in
-    let n = c.args.levels in
-    let count = c.args.count in
-    let at = c.args.at in
-    let start : at + 0 ≡ at = omega arith in
-    begun (each (tree_at n s) p count) (each (tree_at n s) (after p 0) (count - 0)) have_capability (λ ts. with_links at (at + count) (trim_each ts)) (λ ts. with_links (at + 0) (at + count) (trim_each ts))
-    (from_each (copy_visits n s) p count) (from_each (copy_visits n s) (after p 0) (count - 0)) c.args.used c.args.into.now c.args.limiter.now (row_start p count (each (tree_at n s))) (row_start p count (from_each (copy_visits n s))) c.requires.place.1 c.requires.place.2
-    (λ ts. ap (λ (j : ℕ). with_links j (at + count) (trim_each ts) (filled c.args.used c.args.into.now)) start)
+    pointers_begun c.args.levels s (place_view c.args.first) c.args.count c.args.at c.args.used c.args.into.now c.args.limiter.now c.requires.place.1 c.requires.place.2
 
 pub write_row-returns-in_err-next : goal.write_row-returns-in_err-next
 write_row-returns-in_err-next g t c =
     let s : Segments = words_in (g.A.ReaderArena.segments c.args.arena.now) in
     let p : Place = place_view c.args.first in
     let n = c.args.levels in
-    let i = c.loop-i.i in
     let count = c.args.count in
     let at = c.args.at in
-    let in_row = c.loop-i-test.true in
-    let v = copy_visits n s in
     let r = err_from_is_err_and c.from_residual.result c.from_residual.ensures.1 in
     let e = c.in_err-next.field-0.0 in
-    halts_is (each (tree_at n s) p count) have_capability (λ ts. with_links at (at + count) (trim_each ts)) (from_each v p count) c.args.used c.args.used c.args.into.now c.write_at.new.into c.args.limiter.now c.write_at.new.limiter c.from_residual.result r.0 e r.1 r.2
-    (stopped (each (tree_at n s) p count) (each (tree_at n s) (after p i) (count - i)) have_capability (λ ts. with_links at (at + count) (trim_each ts)) (λ ts. with_links (at + i) (at + count) (trim_each ts)) (from_each v p count) (from_each v (after p i) (count - i)) (v (after p i)) (from_each v (after p (i + 1)) (count - (i + 1)))
-    c.args.used c.args.into.now c.loop-i.into c.write_at.new.into c.args.limiter.now c.loop-i.limiter c.write_at.new.limiter c.loop-i.end e (met_next p i count in_row v) c.in_err-next.ensures c.loop-i.invariant)
+    halts_is (each (tree_at n s) p count) have_capability (trees_put at (at + count)) (from_each (copy_visits n s) p count) c.args.used c.args.used c.args.into.now c.write_at.new.into c.args.limiter.now c.write_at.new.limiter c.from_residual.result r.0 e r.1 r.2
+    (pointers_stopped c.args.levels s (place_view c.args.first) c.args.count c.args.at c.args.used c.args.into.now c.args.limiter.now c.loop-i.i c.loop-i.end c.loop-i.into c.write_at.new.into c.loop-i.limiter c.write_at.new.limiter e c.loop-i-test.true c.in_err-next.ensures c.loop-i.invariant)
 
 pub write_row-loop-i-preserved : goal.write_row-loop-i-preserved
 write_row-loop-i-preserved g t c =
     let s : Segments = words_in (g.A.ReaderArena.segments c.args.arena.now) in
-    let p : Place = place_view c.args.first in
-    let n = c.args.levels in
-    let i = c.loop-i.i in
-    let count = c.args.count in
-    let at = c.args.at in
-    let in_row = c.loop-i-test.true in
-    let v = copy_visits n s in
-    let f = tree_at n s in
-    let rest = count - (i + 1) in
-    let mid = c.loop-i.into in
-    let used = c.loop-i.end in
-    let inv = c.loop-i.invariant in
-    let more = inv.more in
-    let inside = c.requires.place.0 in
-    let size = filled_length used mid inv.bound in
-    next (each f p count) (each f (after p i) (count - i)) (each f (after p (i + 1)) rest) have_capability (λ ts. with_links at (at + count) (trim_each ts)) (λ ts. with_links (at + i) (at + count) (trim_each ts)) (λ ts. with_links (at + (i + 1)) (at + count) (trim_each ts))
-    (f (after p i)) has_capability (λ t. with_link (at + i) (trim t)) (from_each v p count) (from_each v (after p i) (count - i)) (from_each v (after p (i + 1)) rest) (v (after p i)) c.args.used c.args.into.now mid c.write_at.new.into c.args.limiter.now c.loop-i.limiter c.write_at.new.limiter used c.in_ok-next.next
-    (met_next p i count in_row v) (λ x y is rest_is clean cleans. row_join at i count (filled used mid) f p x y in_row (omega arith) is rest_is clean cleans) c.in_ok-next.ensures inv
+    pointers_next c.args.levels s (place_view c.args.first) c.args.count c.args.at c.args.used c.args.into.now c.args.limiter.now c.loop-i.i c.loop-i.end c.in_ok-next.next c.loop-i.into c.write_at.new.into c.loop-i.limiter c.write_at.new.limiter
+    c.loop-i-test.true c.requires.place.0 c.in_ok-next.ensures c.loop-i.invariant
 
 pub write_row-returns : goal.write_row-returns
-unfolding has_capability trim
 write_row-returns g t c =
     let s : Segments = words_in (g.A.ReaderArena.segments c.args.arena.now) in
-    let p : Place = place_view c.args.first in
-    let n = c.args.levels in
-    let i = c.loop-i.i in
-    let count = c.args.count in
-    let at = c.args.at in
     let past = c.loop-i-test.false in
     let last = c.loop-i.auto.i-end in
-    let v = copy_visits n s in
-    let f = tree_at n s in
-    ended (each f p count) (each f (after p i) (count - i)) have_capability (λ ts. with_links at (at + count) (trim_each ts)) (λ ts. with_links (at + i) (at + count) (trim_each ts)) (from_each v p count) (from_each v (after p i) (count - i)) c.args.used c.args.into.now c.loop-i.into c.args.limiter.now c.loop-i.limiter c.loop-i.end none
-    (row_end count i (each f (after p i)) past) refl (links_all (at + i) (at + count) (filled c.loop-i.end c.loop-i.into) (omega arith)) (row_end count i (from_each v (after p i)) past) c.loop-i.invariant
+    pointers_ended c.args.levels s (place_view c.args.first) c.args.count c.args.at c.args.used c.args.into.now c.args.limiter.now c.loop-i.i c.loop-i.end c.loop-i.into c.loop-i.limiter (omega arith) c.loop-i.invariant
 
 pub write_object-returns-in_err-end-in-PointerList : goal.write_object-returns-in_err-end-in-PointerList
 write_object-returns-in_err-end-in-PointerList g t c =

@@ -1,17 +1,10 @@
 -- A value takes a level less than what it stands in, and within a level each calls the next.
-use Rattle.std.proofs.Common.{◌+◌, ◌-◌, ◌*◌}
-use Rattle.capnp_model.specs.Segments.{after}
-use Rattle.capnp_model.specs.Trees.{have_capability}
-use Rattle.capnp_model.specs.Traversal.{tree_at, each}
-use Rattle.capnp_model.specs.Trimming.{trim_each}
-use Rattle.capnp_model.specs.Coverage.{from_each}
+use Rattle.std.proofs.Common.{◌+◌, ◌*◌}
 use Rattle.capnp_units.specs.Segments.{words_in}
 use Rattle.capnp_object.specs.Places.{place_view}
 use Rattle.capnp_object.specs.Inside.{words_there}
-use Rattle.capnp_canonical.specs.Writes.{with_links}
-use Rattle.capnp_canonical.specs.Copies.{copy_visits}
-use Rattle.capnp_canonical.proofs.Copying.{SoFar}
 use Rattle.capnp_canonical.proofs.Elements.{ElementsSoFar}
+use Rattle.capnp_canonical.proofs.Pointers.{PointersSoFar}
 use Rattle.capnp_canonical.proofs.copy.+write.Given as goal
 
 abbrev pub decreases-write_object : goal.decreases-write_object
@@ -40,8 +33,7 @@ abbrev pub invariant-write_row-loop-i : goal.invariant-write_row-loop-i
 invariant-write_row-loop-i g l =
     let s = words_in (g.A.ReaderArena.segments l.arena) in
     let p = place_view l.first in
-    SoFar (each (tree_at l.levels s) p l.count) (each (tree_at l.levels s) (after p l.i) (l.count - l.i)) have_capability (λ ts. with_links l.at (l.at + l.count) (trim_each ts)) (λ ts. with_links (l.at + l.i) (l.at + l.count) (trim_each ts))
-    (from_each (copy_visits l.levels s) p l.count) (from_each (copy_visits l.levels s) (after p l.i) (l.count - l.i)) l.used l.fn.into l.fn.limiter l.end l.into l.limiter
+    PointersSoFar l.levels s p l.count l.at l.i l.used l.fn.into l.fn.limiter l.end l.into l.limiter
 
 abbrev pub invariant-write_elements-loop-i : goal.invariant-write_elements-loop-i
 invariant-write_elements-loop-i g l =
