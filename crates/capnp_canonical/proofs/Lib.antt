@@ -13,3 +13,4 @@ pub mod Steps
 pub mod Finals
 pub mod Elements
 pub mod Pointers
+pub mod SameVisits

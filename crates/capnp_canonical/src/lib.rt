@@ -3,6 +3,7 @@
 
 pub mod copy;
 mod follow;
+pub mod laws;
 mod own_words;
 #[cfg(test)]
 mod tests;
