@@ -1,26 +1,25 @@
 -- What fields show is what the model reads.
-use Rattle.std.proofs.Common.{◌≡◌, ℕ, zero, suc, ◌+◌, ◌*◌, ◌/◌, ◌%◌, ◌^◌, ◌<◌, ◌≤◌, ◌==◌, ◌⊎◌, inl, inr, nat_le, Bool, true, false, if◌then◌else◌, Option, Some, None, Result, Ok, Err, refl, ap, sym, ◌∙◌, subst, arith}
+use Rattle.std.proofs.Common.{◌≡◌, ℕ, zero, suc, ◌+◌, ◌*◌, ◌%◌, ◌^◌, ◌<◌, ◌≤◌, ◌==◌, ◌⊎◌, inl, inr, nat_le, Bool, true, false, if◌then◌else◌, Option, Some, None, Ok, refl, ap, sym, ◌∙◌, subst, arith}
 use Rattle.std.specs.Prelude.{bit_xor}
 use Rattle.std.specs.Option.{ok_or}
 use Rattle.std.proofs.Math.Nat.{div-eq_of_lt, pow-le-pow_right, zero-mod}
 use Rattle.std.proofs.lemmas.Bool.Decides.{nat_tests}
-use Rattle.capnp_model.specs.Kinds.{Kind, OutOfBounds}
-use Rattle.capnp_model.specs.Chains.{◌>>=◌, ◌and_then◌, passes}
+use Rattle.capnp_model.specs.Kinds.{OutOfBounds}
+use Rattle.capnp_model.specs.Chains.{◌and_then◌, passes}
 use Rattle.capnp_model.specs.Sections.{bits_at}
 use Rattle.capnp_model.specs.Segments.{Segments, Place, word_at}
-use Rattle.capnp_model.specs.Pointers.{found_at, found_by, pointer_of, nothing, Found}
+use Rattle.capnp_model.specs.Pointers.{found_at, found_by, pointer_of, nothing}
 use Rattle.capnp_model.specs.Trees.{Tree, null, Trees, none, ◌▸◌, child}
 use Rattle.capnp_model.specs.Traversal.{tree_at}
 use Rattle.capnp_model.specs.Schemas.{PlainType, bool, int, uint, «enum», width, BaseType, TypeRecord, lists_of, base_type, type_of, Ty, void, plain, text, blob, untyped, interface, struct, list, Value, FieldKind, slot, group, Schema}
 use Rattle.capnp_model.specs.Readings.{Reading, number, body_of, field_bits, Extent, whole_words, just_bits, read, read_child}
 use Rattle.capnp_model.specs.Accepted.{default_bits, slot_body, field_body}
-use Rattle.capnp_model.proofs.Chaining.{some_is, ok_then}
+use Rattle.capnp_model.proofs.Chaining.{some_is}
 use Rattle.capnp_wire.specs.Views.{PointerView, StructView, pointer_field}
 use Rattle.capnp_wire.specs.Reads.{is_null_at, is_null}
 use Rattle.capnp_wire.specs.Laws.{reads_behind}
-use Rattle.capnp_values.specs.Sources.{masked_bits}
-use Rattle.capnp_values.specs.Shown.{Shown, number_shown, opened, default_opened, slot_opened, slot_shown, kind_shown}
-use Rattle.capnp_values.specs.Standing.{Leads, Stands, IsExtent, or_empty, filled, HasNoNullDefault, Answers, IsReading, IsPointerType, PointersAreRead, FieldsAreRead, DiscriminantsAreRead}
+use Rattle.capnp_values.specs.Shown.{number_shown, opened, default_opened, slot_opened, slot_shown, kind_shown}
+use Rattle.capnp_values.specs.Standing.{Leads, Stands, IsExtent, or_empty, filled, HasNoNullDefault, Answers, IsPointerType, PointersAreRead, FieldsAreRead, DiscriminantsAreRead}
 
 -- ---- bits
 
@@ -29,7 +28,7 @@ abbrev Aligned : ℕ → Type 0
 Aligned w = (o words : ℕ) → (w * o + w ≤ 64 * words) ⊎ (64 * words ≤ w * o)
 
 -- the type of a plain slot is of a width that divides a word
-plain_base : (b : BaseType) (p : PlainType) → base_type b ≡ plain p → (width p ≡ 1) ⊎ (width p ≡ 8) ⊎ (width p ≡ 16) ⊎ (width p ≡ 32) ⊎ (width p ≡ 64)
+pub plain_base : (b : BaseType) (p : PlainType) → base_type b ≡ plain p → (width p ≡ 1) ⊎ (width p ≡ 8) ⊎ (width p ≡ 16) ⊎ (width p ≡ 32) ⊎ (width p ≡ 64)
 plain_base BaseType.Void p e = absurd cc
 plain_base BaseType.Boolean p e = let is : bool ≡ p = cc in inl (ap width (sym is))
 plain_base BaseType.Int8 p e = let is : int 8 ≡ p = cc in inr (inl (ap width (sym is)))
@@ -49,7 +48,7 @@ plain_base (BaseType.Struct id) p e = absurd cc
 plain_base BaseType.AnyPointer p e = absurd cc
 plain_base BaseType.Capability p e = absurd cc
 
-plain_type : (n : ℕ) (b : BaseType) (p : PlainType) → lists_of n (base_type b) ≡ plain p → base_type b ≡ plain p
+pub plain_type : (n : ℕ) (b : BaseType) (p : PlainType) → lists_of n (base_type b) ≡ plain p → base_type b ≡ plain p
 plain_type zero b p e = e
 plain_type (suc n) b p e = absurd cc
 
@@ -154,14 +153,14 @@ child_read s none i ty = refl
 child_read s (t ▸ ts) zero ty = refl
 child_read s (t ▸ ts) (suc i) ty = child_read s ts i ty
 
-number_read : (s : Schema) (p : PlainType) (x y : ℕ) → x ≡ y → Answers s (Ok (number_shown s p x)) (number y)
+pub number_read : (s : Schema) (p : PlainType) (x y : ℕ) → x ≡ y → Answers s (Ok (number_shown s p x)) (number y)
 number_read s bool x y e = ap number (sym e)
 number_read s (int w) x y e = ap number (sym e)
 number_read s (uint w) x y e = ap number (sym e)
 number_read s («enum» id) x y e = (refl, ap number (sym e))
 
 module _ (pointers : PointersAreRead) (n : ℕ) (v : StructView) (e : Extent) (section : ℕ) (kids : Trees) (s : Schema) (stands : Stands n v e section kids) where
-  pointer_read : (i : ℕ) (ty : Ty) → IsPointerType ty → Answers s (opened s ty (pointer_field v i)) (or_empty s ty (read_child s kids i ty))
+  pub pointer_read : (i : ℕ) (ty : Ty) → IsPointerType ty → Answers s (opened s ty (pointer_field v i)) (or_empty s ty (read_child s kids i ty))
   pointer_read i ty pointer =
       let P : Reading → Type 0 = λ r. Answers s (opened s ty (pointer_field v i)) (or_empty s ty r) in
       subst P (sym (child_read s kids i ty)) (pointers n (pointer_field v i) (child kids i) s ty pointer (stands.children i))

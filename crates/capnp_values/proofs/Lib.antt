@@ -1,4 +1,5 @@
 pub mod Bits
+pub mod ElementReadings
 pub mod Elements
 pub mod FieldKinds
 pub mod FieldReadings

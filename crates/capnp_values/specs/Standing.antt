@@ -1,16 +1,17 @@
 -- Where what is shown stands at a value, and what it reads as there. (Encoding, "Value Encoding")
-use Rattle.std.specs.Prelude.{ℕ, ◌≡◌, ◌*◌, ◌^◌, ◌<◌, ◌≤◌, List, [], Option, Some, None, option_map, Result, Ok, Err}
+use Rattle.std.specs.Prelude.{ℕ, ◌≡◌, ◌*◌, ◌^◌, ◌<◌, ◌≤◌, [], Option, Some, None, option_map, Result, Ok, Err}
 use Rattle.capnp_model.specs.Kinds.{Kind}
-use Rattle.capnp_model.specs.Trees.{Tree, null, is_null, structure, Trees, none, child}
+use Rattle.capnp_model.specs.Trees.{Tree, null, is_null, Trees, child}
 use Rattle.capnp_model.specs.Trimming.{trim}
 use Rattle.capnp_model.specs.Traversal.{tree_at}
-use Rattle.capnp_model.specs.Schemas.{Ty, void, plain, text, blob, untyped, interface, struct, list, FieldKind, slot, group, Shape, Schema, Body, void_slot, plain_slot, pointer_slot, group_slot}
+use Rattle.capnp_model.specs.Schemas.{TypeRecord, type_of, Ty, void, plain, text, blob, untyped, interface, struct, list, FieldKind, slot, group, Shape, Schema, Body, void_slot, plain_slot, pointer_slot, group_slot}
 use Rattle.capnp_model.specs.Accepted.{field_body}
 use Rattle.capnp_model.specs.Readings.{Reading, inactive, null_pointer, fault, number, text_of, blob_of, list_of, record_as, opaque, Readings, no_readings, Extent, whole_words, just_bits, no_children, discriminant, shape_record, body_of, read, read_child}
+use Rattle.capnp_model.specs.ActiveMembers.{element_of as reading_of}
 use Rattle.capnp_wire.specs.Views.{PointerView, StructView, ListView, pointer_field}
 use Rattle.capnp_wire.specs.Reads.{is_null as pointer_is_null}
 use Rattle.capnp_wire.specs.Laws.{reads_behind, ShowsList}
-use Rattle.capnp_values.specs.Shown.{Shown, a_number, an_enum, a_text, a_blob, a_struct, a_list, a_pointer, a_capability, opened, kind_shown}
+use Rattle.capnp_values.specs.Shown.{Shown, a_number, an_enum, a_text, a_blob, a_struct, a_list, a_pointer, a_capability, opened, kind_shown, element_shown}
 
 -- The pointer leads to a value of so many levels at most, and they are left.
 pub record Leads (n : ℕ) (p : PointerView) (t : Tree) : Type 0 where
@@ -132,6 +133,12 @@ HasNoNullDefault kids (group id) = Unit {0}
 abbrev pub FieldsAreRead : Type 0
 FieldsAreRead = (n : ℕ) (v : StructView) (e : Extent) (section : ℕ) (kids : Trees) (s : Schema) (k : FieldKind) → Stands n v e section kids → HasNoNullDefault kids k
     → let body = field_body s.shape_of k in Answers s (kind_shown s v k) (filled s body (body_of body e section (read_child s kids)))
+
+-- What each element of a list shows is what the value's element reads as, a null pointer as the empty value of its type; past the last there is none.
+abbrev pub ElementsAreRead : Type 0
+ElementsAreRead = (s : Schema) (ty : TypeRecord) (l : ListView) (r : Reading) (are : AreItems s (type_of ty) l r) (i : ℕ)
+    → (i < l.count → Answers s (element_shown s (type_of ty) l i) (or_empty s (type_of ty) (reading_of i are.items)))
+    × (l.count ≤ i → reading_of i are.items ≡ inactive)
 
 -- The discriminant that is shown is the one that the model reads, at a place counted in 16 bits.
 abbrev pub DiscriminantsAreRead : Type 0

@@ -1,5 +1,5 @@
 //! Laws of what is shown, each the contract of an empty function: a call of it brings its clauses.
-ghost use Rattle.capnp_values.specs.Standing.{PointersAreRead, FieldsAreRead, DiscriminantsAreRead, NullsAreRead};
+ghost use Rattle.capnp_values.specs.Standing.{PointersAreRead, FieldsAreRead, ElementsAreRead, DiscriminantsAreRead, NullsAreRead};
 
 use capnp_wire::laws::{gets_are_readings, values_by_levels};
 
@@ -14,6 +14,13 @@ pub fn pointers_are_read()
 /// What a field shows of a struct that stands at a value is what the model reads of it there, at every type: a plain field its bits, a group the record of the same section and children, one behind a pointer what the child reads as. A null pointer that has a default isn't spoken of.
 pub fn fields_are_read()
     ensures { FieldsAreRead }
+{
+    pointers_are_read();
+}
+
+/// What each element of a list shows, of a list that stands where its elements are read, is what the model reads of it, at every type that a schema names and at every size of elements that the type is read from: a plain element its bits, a struct the record of the element's section and children, one behind a pointer what that pointer reads as. There are as many elements as the list counts.
+pub fn elements_are_read()
+    ensures { ElementsAreRead }
 {
     pointers_are_read();
 }
