@@ -1,7 +1,6 @@
 -- The bits of fields.
 use Rattle.std.specs.Int.Bits.{xor_zero_r}
-use Rattle.std.proofs.Common.{◌≡◌, ap, ◌∙◌, ℕ, ◌+◌, ◌*◌, ◌^◌, ◌<◌, ◌%◌, ◌/◌, Bool, true, false, if◌then◌else◌, nat_le, arith}
-use Rattle.std.specs.Prelude.{bit_xor}
+use Rattle.std.proofs.Common.{◌≡◌, ap, ◌∙◌, ℕ, ◌+◌, ◌*◌, ◌^◌, ◌<◌, ◌/◌, Bool, true, false, if◌then◌else◌, nat_le, arith}
 use Rattle.std.proofs.Math.Nat.{mod-lt}
 use Rattle.std.proofs.lemmas.Nat.{xor_lt, pow_pos}
 use Rattle.capnp_model.specs.Sections.{bits_at}

@@ -1,5 +1,5 @@
 -- The elements of lists.
-use Rattle.std.proofs.Common.{◌≡◌, ℕ, ◌<◌, ◌*◌, ◌^◌, Bool, true, false, nat_le, if◌then◌else◌}
+use Rattle.std.proofs.Common.{ℕ, ◌<◌, ◌*◌, ◌^◌, nat_le}
 use Rattle.capnp_model.specs.Sections.{bits_at}
 use Rattle.capnp_units.specs.Sizes.{size_number}
 use Rattle.capnp_wire.specs.Elements.{step_bits, element_bits}

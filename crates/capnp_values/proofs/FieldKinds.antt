@@ -1,9 +1,8 @@
 -- What a field shows, by where it lies.
-use Rattle.std.proofs.Common.{◌≡◌, ◌*◌, ℕ, Option, Some, None, option_map, Result, Ok, refl, ap, sym, ◌∙◌}
+use Rattle.std.proofs.Common.{◌≡◌, ℕ, Option, Some, option_map, Result, Ok, refl, ap, sym, ◌∙◌}
 use Rattle.capnp_model.specs.Kinds.{Kind}
-use Rattle.capnp_model.specs.Trees.{Tree}
-use Rattle.capnp_model.specs.Schemas.{PlainType, width, Ty, void, plain, text, blob, untyped, interface, struct, list, type_of, Value, FieldKind, slot, group, Shape, Schema, Body, void_slot, plain_slot, pointer_slot, group_slot}
-use Rattle.capnp_model.specs.Accepted.{default_bits, slot_body, field_body}
+use Rattle.capnp_model.specs.Schemas.{width, Ty, void, plain, text, blob, untyped, interface, struct, list, type_of, Value, FieldKind, slot, group, Schema, Body, void_slot, plain_slot, pointer_slot, group_slot}
+use Rattle.capnp_model.specs.Accepted.{slot_body, field_body}
 use Rattle.capnp_wire.specs.Views.{StructView, pointer_field}
 use Rattle.capnp_queries.specs.Fields.{Entry}
 use Rattle.capnp_values.specs.Sources.{masked_bits}

@@ -1,8 +1,8 @@
 -- Pointers that lead to null.
-use Rattle.std.proofs.Common.{◌≡◌, ℕ, zero, suc, ◌+◌, ◌==◌, drop, subst, Bool, true, false, if◌then◌else◌, List, [], ◌∷◌, Option, Some, None, Result, Ok, Err, refl, ap, sym, ◌∙◌}
+use Rattle.std.proofs.Common.{◌≡◌, ℕ, zero, suc, ◌+◌, ◌==◌, drop, subst, Bool, true, false, if◌then◌else◌, List, [], ◌∷◌, Option, Some, None, Result, Ok, refl, ap, sym, ◌∙◌}
 use Rattle.std.specs.Option.{ok_or}
 use Rattle.capnp_model.specs.Kinds.{Kind, OutOfBounds}
-use Rattle.capnp_model.specs.Chains.{◌and_then◌, ◌>>=◌, passes}
+use Rattle.capnp_model.specs.Chains.{◌and_then◌, passes}
 use Rattle.capnp_model.specs.Segments.{Segments, Place, place, after, word_at, words_at}
 use Rattle.capnp_model.specs.Sections.{bits_at}
 use Rattle.capnp_model.specs.Pointers as model

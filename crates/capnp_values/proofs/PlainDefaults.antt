@@ -1,10 +1,10 @@
 -- The defaults of plain slots in accepted sets.
-use Rattle.std.proofs.Common.{◌≡◌, ℕ, zero, suc, ◌<◌, ◌^◌, ◌&&◌, nat_lt, Bool, true, false, Option, Some, None, option_map, List, [], ◌∷◌, length, refl, sym, ◌∙◌, ap, subst, arith}
+use Rattle.std.proofs.Common.{◌≡◌, ℕ, zero, suc, ◌<◌, ◌^◌, nat_lt, true, Option, Some, None, option_map, List, [], ◌∷◌, length, refl, sym, ◌∙◌, ap, subst, arith}
 use Rattle.std.specs.List.{list_all}
 use Rattle.std.proofs.lemmas.Bool.Decides.{nat_tests}
-use Rattle.capnp_model.specs.Schemas.{PlainType, width, Ty, void, plain, text, blob, untyped, interface, struct, list, type_of, Value, no_value, bits, text_bytes, blob_bytes, list_segment, struct_segment, untyped_value, interface_value, FieldKind, slot, group, Field, StructNode, NodeKind, struct_node, enum_node, Node, Shape, shape, Fields, no_fields, field, Body, void_slot, plain_slot, pointer_slot, group_slot}
+use Rattle.capnp_model.specs.Schemas.{PlainType, width, Ty, void, plain, text, blob, untyped, interface, struct, list, type_of, Value, no_value, bits, text_bytes, blob_bytes, list_segment, struct_segment, untyped_value, interface_value, FieldKind, slot, group, Field, NodeKind, struct_node, enum_node, Node, Shape, shape, no_fields, plain_slot}
 use Rattle.capnp_model.specs.Printing.{fields_in}
-use Rattle.capnp_model.specs.Accepted.{find_node, fields_of_kind, default_bits, slot_body, field_body, fields_from, union_place, no_shape, shape_of_node, shape_in, schema_of, same_plain, is_default_of, has_good_default, IsAccepted}
+use Rattle.capnp_model.specs.Accepted.{find_node, fields_of_kind, slot_body, field_body, fields_from, union_place, no_shape, shape_of_node, shape_in, schema_of, same_plain, is_default_of, has_good_default, IsAccepted}
 use Rattle.capnp_model.proofs.KeptRules.{and_left, and_right, found_passes}
 use Rattle.capnp_model.proofs.SoundRules.{rules_kept}
 use Rattle.capnp_queries.specs.Fields.{Entry, field_at}

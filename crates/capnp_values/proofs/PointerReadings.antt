@@ -2,16 +2,16 @@
 use Rattle.std.proofs.Common.{◌≡◌, ℕ, zero, suc, ◌+◌, ◌-◌, ◌*◌, ◌^◌, ◌<◌, ◌≤◌, ◌==◌, Bool, true, false, if◌then◌else◌, List, [], ◌∷◌, length, take, Option, Some, None, Result, Ok, Err, refl, ap, sym, ◌∙◌, subst, arith}
 use Rattle.std.specs.Prelude.{nat_lt, slice_index}
 use Rattle.std.specs.Option.{ok_or}
-use Rattle.capnp_model.specs.Kinds.{Kind, NestingLimitExceeded, OutOfBounds, WrongPointerKind, WrongElementSize, TextWithoutZeroByte}
-use Rattle.capnp_model.specs.Chains.{◌>>=◌, ◌and_then◌, guard}
+use Rattle.capnp_model.specs.Kinds.{Kind, NestingLimitExceeded, OutOfBounds, WrongElementSize, TextWithoutZeroByte}
+use Rattle.capnp_model.specs.Chains.{◌and_then◌}
 use Rattle.capnp_model.specs.Segments.{Segments, Place, root, after, words_at}
 use Rattle.capnp_model.specs.Pointers as model
 use Rattle.std.proofs.lemmas.Bool.Decides.{nat_tests}
-use Rattle.capnp_model.specs.Trees.{size_bits, plain_elements, Tree, null, capability, structure, plain_list, pointer_list, struct_list, Trees, none, child}
+use Rattle.capnp_model.specs.Trees.{size_bits, plain_elements, Tree, null, capability, structure, plain_list, pointer_list, struct_list, none}
 use Rattle.capnp_model.specs.Trimming.{trim}
 use Rattle.capnp_model.specs.Traversal.{each, each_element, tree_at, tree_of, leaf_of, list_tree, ListKind, of_bits, of_pointers, of_structs, list_kind, list_words, tag_in}
 use Rattle.capnp_model.specs.Schemas.{width, Shape, Schema, Ty, void, plain, text, blob, untyped, interface, struct, list}
-use Rattle.capnp_model.specs.Readings.{Reading, inactive, null_pointer, fault, number, text_of, blob_of, list_of, record_as, opaque, read, text_reading, list_reading, is_list_of, plain_readings, pointer_elements, struct_elements, Readings, no_readings, is_accepted_as, expected_size, whole_words, no_children, shape_record, read_child}
+use Rattle.capnp_model.specs.Readings.{Reading, null_pointer, fault, text_of, blob_of, list_of, record_as, opaque, read, text_reading, list_reading, is_list_of, plain_readings, pointer_elements, struct_elements, Readings, no_readings, is_accepted_as, expected_size, whole_words, no_children, shape_record}
 use Rattle.capnp_model.specs.Fits.{Fits}
 use Rattle.capnp_model.proofs.Chaining.{guard_ok, ok_then, bind_some, bind_found, some_is, ok_is, bind_ok}
 use Rattle.capnp_model.proofs.ReadFits.{tree_at_fits}
@@ -29,9 +29,9 @@ use Rattle.capnp_units.specs.declared.sizes.ElementSize.TheVariants.{Void, Bit, 
 use Rattle.capnp_units.specs.Sizes.{size_number}
 use Rattle.capnp_wire.specs.Reads.{read_elements, list_head, empty_struct, found_behind, object_behind, read_struct, read_blob, read_text, read_list}
 use Rattle.capnp_wire.specs.Laws.{bytes_read, reads_behind, ShowsStruct, ShowsList, IsRead, BytesAreRead, StructsAreRead, ListsAreRead}
-use Rattle.capnp_values.specs.Shown.{Shown, a_text, a_blob, a_struct, a_list, a_pointer, a_capability, opened}
+use Rattle.capnp_values.specs.Shown.{a_text, a_blob, a_struct, a_list, opened}
 use Rattle.capnp_values.specs.ListSizes.{size_of}
-use Rattle.capnp_values.specs.Standing.{Leads, Stands, IsRecord, Lists, AreItems, IsOpaque, empty_reading, or_empty, IsReading, Answers, IsPointerType, PointersAreRead}
+use Rattle.capnp_values.specs.Standing.{Leads, IsRecord, AreItems, or_empty, Answers, PointersAreRead}
 
 -- ---- objects that are there
 

@@ -1,6 +1,6 @@
 -- Blanks in front of lines, and signs of bytes in hex.
 use Rattle.std.specs.Fmt.{digits}
-use Rattle.std.proofs.Common.{◌≡◌, ℕ, zero, suc, ◌+◌, ◌*◌, ◌<◌, ◌≤◌, List, [], ◌∷◌, ◌++◌, replicate, ◌-◌, nat_lt, if◌then◌else◌, false, refl, ap, sym, ◌∙◌, arith, append_assoc}
+use Rattle.std.proofs.Common.{◌≡◌, ℕ, zero, suc, ◌+◌, ◌*◌, ◌<◌, ◌≤◌, List, [], ◌∷◌, ◌++◌, replicate, ◌-◌, nat_lt, if◌then◌else◌, false, refl, ap, ◌∙◌, arith, append_assoc}
 
 replicate-join : (m n x : ℕ) → replicate m x ++ replicate n x ≡ replicate (m + n) x
 replicate-join zero n x = ap (λ k. replicate k x) (omega arith)

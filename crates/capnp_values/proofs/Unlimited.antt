@@ -1,18 +1,16 @@
 -- Gets without a limit of words.
-use Rattle.std.proofs.Common.{◌≡◌, ℕ, refl, sym, ◌∙◌, ap, subst, Bool, true, false, List, length, ◌/◌, Option, Some, None, Result, Ok, Err, inl, inr}
+use Rattle.std.proofs.Common.{◌≡◌, ℕ, sym, ◌∙◌, ap, subst, Bool, true, false, List, length, ◌/◌, Option, Some, None, Result, Ok, Err, inl, inr}
 use Rattle.std.specs.Simd.{first_chunks}
 use Rattle.capnp_model.specs.Kinds.{Kind}
 use Rattle.capnp_model.specs.Chains.{◌and_then◌}
 use Rattle.capnp_object.specs.declared.object.Object.{Object}
-use Rattle.capnp_object.specs.declared.object.Found.{Found}
 use Rattle.capnp_object.specs.Places.{seen}
 use Rattle.capnp_object.specs.Follow.{found_cost}
 use Rattle.capnp_units.specs.declared.errors.Error.{Error}
 use Rattle.capnp_units.specs.declared.limiter.ReadLimiter.{ReadLimiter}
-use Rattle.capnp_units.specs.Errors.{kind_of}
 use Rattle.capnp_units.specs.Limits.{left_of, IsPassed}
 use Rattle.capnp_wire.specs.Views.{PointerView}
-use Rattle.capnp_wire.specs.Reads.{object_behind, is_charged, IsTooDear, GetGives, with_default, unless_null, default_root}
+use Rattle.capnp_wire.specs.Reads.{is_charged, IsTooDear, GetGives, with_default, unless_null, default_root}
 use Rattle.capnp_values.specs.Sources.{read_behind, null_default, default_pointer}
 
 -- without a limit nothing is too dear

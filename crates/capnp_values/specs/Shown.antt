@@ -1,5 +1,5 @@
 -- What dynamic readers show. (Encoding, "Value Encoding")
-use Rattle.std.specs.Prelude.{ℕ, ◌≡◌, ◌*◌, ◌⊎◌, nat_lt, IsErrAnd, if◌then◌else◌, Bool, true, false, not, ◌&&◌, Option, Some, None, option_map, List, Result, Ok, Err}
+use Rattle.std.specs.Prelude.{ℕ, ◌≡◌, ◌*◌, ◌⊎◌, nat_lt, IsErrAnd, if◌then◌else◌, Bool, false, not, ◌&&◌, Option, Some, None, option_map, List, Result, Ok}
 use Rattle.std.specs.Int.{w8, w16, w32, w64, cast_unsigned}
 use Rattle.capnp_model.specs.Kinds.{Kind}
 use Rattle.capnp_model.specs.Chains.{◌and_then◌}
@@ -10,7 +10,6 @@ use Rattle.capnp_queries.specs.declared.structs.StructSchema.{StructSchema}
 use Rattle.capnp_units.specs.declared.errors.Error.{Error}
 use Rattle.capnp_units.specs.declared.kinds.ErrorKind.TheVariants.{FieldNotFound}
 use Rattle.capnp_object.specs.Places.{seen}
-use Rattle.capnp_records.specs.NodeViews.{value_of}
 use Rattle.capnp_wire.specs.Views.{PointerView, StructView, ListView, pointer_field, element_of, element_number, bit_of_bool}
 use Rattle.capnp_wire.specs.Reads.{is_null, read_struct, read_blob, read_text, read_list}
 use Rattle.capnp_queries.specs.Types.{ty_of}

@@ -1,4 +1,4 @@
-use Rattle.std.proofs.Common.{◌≡◌, ap, sym, ◌∙◌, Result, Ok, Err}
+use Rattle.std.proofs.Common.{ap, sym, ◌∙◌, Result, Ok, Err}
 use Rattle.capnp_model.specs.Kinds.{Kind}
 use Rattle.capnp_object.specs.Places.{seen}
 use Rattle.capnp_wire.specs.Views.{PointerView, seen_pointer}

@@ -1,4 +1,4 @@
-use Rattle.std.proofs.Common.{◌≡◌, ◌∷◌, [], ◌≤◌, false, rules, arith}
+use Rattle.std.proofs.Common.{◌≡◌, ◌∷◌, [], ◌≤◌, false, rules}
 use Rattle.std.specs.Fmt.{digits}
 use Rattle.capnp_values.proofs.TwoBlanks.{two_signs}
 use Rattle.capnp_values.proofs.single.push_control.Goals as goal

@@ -1,4 +1,4 @@
-use Rattle.std.proofs.Common.{◌≡◌, ◌++◌, ◌∷◌, [], ap, ◌∙◌}
+use Rattle.std.proofs.Common.{◌++◌, ◌∷◌, [], ap, ◌∙◌}
 use Rattle.capnp_values.proofs.TwoBlanks.{more_blanks}
 use Rattle.capnp_values.proofs.single.push_line.Goals as goal
 

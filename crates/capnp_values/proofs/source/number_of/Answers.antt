@@ -1,4 +1,4 @@
-use Rattle.std.proofs.Common.{◌≡◌, ◌*◌, ap, ◌∙◌}
+use Rattle.std.proofs.Common.{◌*◌, ap, ◌∙◌}
 use Rattle.capnp_wire.specs.Views.{seen_struct}
 use Rattle.capnp_values.specs.Sources.{masked_bits}
 use Rattle.capnp_values.proofs.Bits.{masked_bits-lt}

@@ -1,4 +1,4 @@
-use Rattle.std.proofs.Common.{◌≡◌, ◌*◌, Option, option_map, Result, Ok, ap, sym, ◌∙◌}
+use Rattle.std.proofs.Common.{◌≡◌, ◌*◌, option_map, Result, Ok, ap, sym, ◌∙◌}
 use Rattle.std.specs.Prelude.{option_copied}
 use Rattle.capnp_model.specs.Kinds.{Kind}
 use Rattle.capnp_model.specs.Schemas.{width}
@@ -11,7 +11,7 @@ use Rattle.capnp_queries.specs.Handles.{entry_of, plain_of, is_plain_of, body_of
 use Rattle.capnp_queries.specs.Fields.{entry_in}
 use Rattle.capnp_queries.specs.declared.slots.FieldPlace.TheVariants as place
 use Rattle.capnp_values.specs.Sources.{pointer_seen, struct_seen, masked_bits}
-use Rattle.capnp_values.specs.Shown.{Shown, a_struct, number_shown, slot_opened, default_said}
+use Rattle.capnp_values.specs.Shown.{Shown, a_struct, number_shown, slot_opened}
 use Rattle.capnp_values.proofs.FieldKinds.{body_said, shown_by_body}
 use Rattle.capnp_values.proofs.Named.{pointer_type}
 use Rattle.capnp_values.proofs.PlainDefaults.{default_fits}
