@@ -1,8 +1,8 @@
 -- Lists of segments, one of which is changed.
-use Rattle.std.proofs.Common.{◌≡◌, ℕ, zero, suc, ◌+◌, ◌-◌, ◌*◌, ◌/◌, ◌^◌, ◌<◌, ◌≤◌, Bool, true, false, leb, List, [], ◌∷◌, ◌++◌, length, map, take, drop, set, get_or, replicate, Option, Some, None, Result, Ok, Err, refl, ap, sym, ◌∙◌, arith}
+use Rattle.std.proofs.Common.{◌≡◌, ℕ, zero, suc, ◌+◌, ◌-◌, ◌*◌, ◌/◌, ◌^◌, ◌<◌, ◌≤◌, ◌⊎◌, inl, inr, Bool, true, false, leb, List, [], ◌∷◌, ◌++◌, length, map, take, drop, set, get_or, replicate, Option, Some, None, Result, Ok, Err, refl, ap, sym, ◌∙◌, arith}
 use Rattle.std.specs.List.{flat_map}
-use Rattle.std.specs.Option.{is_some, IfSome}
-use Rattle.std.specs.Result.{IfOk, OnOk, IfErr}
+use Rattle.std.specs.Option.{is_some, IfSome, IfNone, OnSome}
+use Rattle.std.specs.Result.{IfOk, OnOk, IfErr, OnErr}
 use Rattle.std.proofs.lemmas.Bool.{leb-true}
 use Rattle.std.proofs.lemmas.List.{length-take, length-drop, length-map, drop-take, take-take, take-replicate}
 use Rattle.std.proofs.Math.Seq.{take-add, take-append-add}
@@ -25,6 +25,34 @@ use Rattle.capnp_copy.proofs.ByteWords.{words_append, words_of_zeros, words_over
 pub both_some : {X : Type 0} (o : Option X) {P Q R : X → Type 0} → IfSome o P → IfSome o Q → ((x : X) → P x → Q x → R x) → IfSome o R
 both_some None p q f = tt
 both_some (Some x) p q f = f x p q
+
+pub if_none : {X : Type 0} (o : Option X) {P Q : Type 0} → IfNone o P → (P → Q) → IfNone o Q
+if_none None p f = f p
+if_none (Some x) p f = tt
+
+pub on_some : {X : Type 0} (o : Option X) {P : X → Type 0} {Q : Type 0} → IfSome o P → ((x : X) → P x → Q) → OnSome o Q
+on_some None p f = tt
+on_some (Some x) p f = f x p
+
+pub on_both : {X : Type 0} (o : Option X) {P : X → Type 0} {Q R : Type 0} → IfSome o P → OnSome o Q → ((x : X) → P x → Q → R) → OnSome o R
+on_both None p q f = tt
+on_both (Some x) p q f = f x p q
+
+pub no_room : (n i free w : ℕ) → ((n ≤ i) ⊎ (free < w)) → i < n → w ≤ free → ⊥
+no_room n i free w (inl l) h k = omega (arith, l, h)
+no_room n i free w (inr l) h k = omega (arith, l, k)
+
+pub all_ok : {X Y : Type 0} (o : Result X Y) {P : X → Type 0} → ((x : X) → P x) → IfOk o P
+all_ok (Ok x) f = f x
+all_ok (Err e) f = tt
+
+pub all_err : {X Y : Type 0} (o : Result X Y) {P : Type 0} → P → OnErr o P
+all_err (Ok x) p = tt
+all_err (Err e) p = p
+
+pub no_last_room : (n free w : ℕ) → ((n ≡ 0) ⊎ (free < w)) → n - 1 < n → w ≤ free → ⊥
+no_last_room n free w (inl l) h k = omega (arith, l, h)
+no_last_room n free w (inr l) h k = omega (arith, l, k)
 
 pub both_ok : {X Y : Type 0} (o : Result X Y) {P R : X → Type 0} {Q : Type 0} → IfOk o P → OnOk o Q → ((x : X) → P x → Q → R x) → IfOk o R
 both_ok (Ok x) p q f = f x p q
@@ -75,6 +103,12 @@ unfolding total_of
 total_set f [] i y d l = absurd (omega (arith, l))
 total_set f (x ∷ xs) zero y d l = omega arith
 total_set f (x ∷ xs) (suc i) y d l = omega (arith, total_set f xs i y d (omega (arith, l)))
+
+pub total_at : {X : Type 0} (f : X → ℕ) (xs : List X) (i : ℕ) (d : X) → i < length xs → f (get_or xs i d) ≤ total_of f xs
+unfolding total_of
+total_at f [] i d l = absurd (omega (arith, l))
+total_at f (x ∷ xs) zero d l = omega arith
+total_at f (x ∷ xs) (suc i) d l = omega (arith, total_at f xs i d (omega (arith, l)))
 
 pub total_push : {X : Type 0} (f : X → ℕ) (xs : List X) (y : X) → total_of f (xs ++ y ∷ []) ≡ total_of f xs + f y
 unfolding total_of

@@ -1,10 +1,10 @@
 -- Room for new objects, and the pointers to them.
-use Rattle.std.specs.Prelude.{◌≡◌, ℕ, ◌+◌, ◌-◌, ◌*◌, ◌^◌, ◌<◌, [], ◌∷◌, true}
+use Rattle.std.specs.Prelude.{◌≡◌, ℕ, ◌+◌, ◌-◌, ◌*◌, ◌^◌, ◌<◌, List, [], ◌∷◌, true}
 use Rattle.std.specs.Option.{is_some}
 use Rattle.capnp_model.specs.Segments.{Segments, Place, after, words_at}
 use Rattle.capnp_wire.specs.Places.{place_view}
 use Rattle.capnp_footprints.specs.Writes.{with_words}
-use Rattle.capnp_copy.specs.Allocations.{Allocates}
+use Rattle.capnp_copy.specs.Allocations.{Allocates, HasRoom}
 use Rattle.capnp_copy.specs.declared.room.Room.{Room}
 use Rattle.capnp_copy.specs.declared.room.Room.TheVariants.{Here, Near, Far}
 
@@ -13,6 +13,12 @@ abbrev pub RoomFor : Segments → Segments → Place → ℕ → Room → Type 0
 RoomFor s u p n Here = (n ≡ 0) × (u ≡ s)
 RoomFor s u p n (Near offset) = (0 < n) × Allocates s u p.segment (p.position + 1 + offset) n
 RoomFor s u p n (Far pad) = (0 < n) × Allocates s u pad.segment pad.position (1 + n) × (pad.segment < 2 ^ 32)
+
+-- There is a pad just where the pointer's segment has no room. The list tells the free words of each segment.
+abbrev pub IsNearWhereRoom : Segments → List ℕ → ℕ → ℕ → Room → Type 0
+IsNearWhereRoom s free i n Here = Unit {0}
+IsNearWhereRoom s free i n (Near offset) = HasRoom s free i n
+IsNearWhereRoom s free i n (Far pad) = HasRoom s free i n → ⊥
 
 -- A pointer can tell it: an offset has thirty bits with its sign, a pad's position 29.
 abbrev pub IsAddressed : Room → Type 0

@@ -1,5 +1,5 @@
 //! Arenas in which values are built.
-ghost use Rattle.std.specs.Prelude.{◌≡◌, ◌+◌, ◌*◌, ◌/◌, ◌<◌, ◌≤◌, ◌^◌, ◌∷◌, [], ◌↔◌, ℕ, List, length, replicate, true, IfOk, IfErr, OnErr, IfSome, IfNone};
+ghost use Rattle.std.specs.Prelude.{◌≡◌, ◌⊎◌, ◌+◌, ◌-◌, ◌*◌, ◌/◌, ◌<◌, ◌≤◌, ◌^◌, ◌∷◌, [], ◌↔◌, ℕ, List, length, replicate, true, IfOk, IfErr, OnErr, OnSome, IfSome, IfNone};
 ghost use Rattle.std.specs.Option.{is_some};
 ghost use Rattle.capnp_model.specs.Bytes.{words_in_bytes};
 ghost use Rattle.capnp_model.specs.Segments.{words_at};
@@ -7,7 +7,7 @@ ghost use Rattle.capnp_units.specs.Segments.{words_in};
 ghost use Rattle.capnp_units.specs.declared.kinds.ErrorKind.TheVariants.{SizeOverflow};
 ghost use Rattle.capnp_wire.specs.Places.{place_view};
 ghost use Rattle.capnp_footprints.specs.Writes.{with_words};
-ghost use Rattle.capnp_copy.specs.Allocations.{total_words, Allocates};
+ghost use Rattle.capnp_copy.specs.Allocations.{total_words, Allocates, HasRoom};
 
 use capnp_units::errors::Result;
 use capnp_units::sizes::SegmentId;
@@ -19,14 +19,21 @@ pub trait BuilderArena: ReaderArena {
     /// The names of what it borrows: those that stay, then the lent slices.
     ghost books: { Self → List (List ℕ) };
 
-    /// Allocates zero words at the end of a segment, and answers their position; none where the segment isn't there or has no room for them.
+    /// The words of each segment that are free, behind those that were allocated.
+    ghost room: { Self → List ℕ };
+
+    /// Allocates zero words at the end of a segment, and answers their position; none just where the segment isn't there, has fewer free ones, or the message's words would pass 2^29 - 1.
     fn allocate(&mut self, segment: SegmentId, words: u32) -> Option<u32>
         ensures some { IfSome result (λ at. (segment < length (Self.segments self.old)) × Allocates (words_in (Self.segments self.old)) (words_in (Self.segments self.new)) segment at words) }
+        ensures room { OnSome result (HasRoom (words_in (Self.segments self.old)) (room self.old) segment words) }
+        ensures full { IfNone result (HasRoom (words_in (Self.segments self.old)) (room self.old) segment words → ⊥) }
         ensures none { IfNone result (Self.segments self.new ≡ Self.segments self.old) }
         ensures books { books self.new ≡ books self.old };
 
-    /// Allocates zero words in any segment, which may be a new one. It is refused with `SizeOverflow` just where the message's words would pass 2^29 - 1, else as the allocator refuses; then nothing is allocated.
+    /// Allocates zero words in any segment, which is a new one only where the last has no room. It is refused with `SizeOverflow` just where the message's words would pass 2^29 - 1, else as the allocator refuses; then nothing is allocated.
     fn allocate_anywhere(&mut self, words: u32) -> Result<(SegmentId, u32)>
+        ensures last { IfOk result (λ p. (p.0 < length (Self.segments self.old)) ⊎ (HasRoom (words_in (Self.segments self.old)) (room self.old) (length (Self.segments self.old) - 1) words → ⊥)) }
+        ensures full { OnErr result (HasRoom (words_in (Self.segments self.old)) (room self.old) (length (Self.segments self.old) - 1) words → ⊥) }
         ensures ok { IfOk result (λ p. Allocates (words_in (Self.segments self.old)) (words_in (Self.segments self.new)) p.0 p.1 words) }
         ensures refused { OnErr result (Self.segments self.new ≡ Self.segments self.old) }
         ensures kind { IfErr result (λ e. (e.kind ≡ SizeOverflow) ↔ (2 ^ 29 ≤ total_words (words_in (Self.segments self.old)) + words)) }

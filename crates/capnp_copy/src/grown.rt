@@ -1,5 +1,5 @@
 //! Words used and written in one of the segments that are held.
-ghost use Rattle.std.specs.Prelude.{◌≡◌, ◌+◌, ◌*◌, ◌/◌, ◌<◌, ◌≤◌, ℕ, List, length, map, take, slice_get, option_copied, replicate, true, IfSome, IfNone};
+ghost use Rattle.std.specs.Prelude.{◌≡◌, ◌⊎◌, ◌+◌, ◌-◌, ◌*◌, ◌/◌, ◌<◌, ◌≤◌, ◌^◌, ℕ, List, length, map, take, get_or, slice_get, option_copied, replicate, true, OnSome, IfSome, IfNone};
 ghost use Rattle.std.specs.List.{flat_map};
 ghost use Rattle.std.specs.Option.{is_some};
 ghost use Rattle.capnp_model.specs.Bytes.{words_in_bytes};
@@ -19,6 +19,8 @@ pub(crate) fn grow_in<S: SegmentBytes>(all: &mut [Held<S>], index: usize, words:
     ensures at { IfSome result (λ at. (index < length all.old) × (at ≡ segment_end (map (λ h. words_used h.used (S.bytes h.segment)) all.old) index)) }
     ensures words { IfSome result (λ at. map (λ h. words_used h.used (S.bytes h.segment)) all.new ≡ with_zeros (map (λ h. words_used h.used (S.bytes h.segment)) all.old) index words) }
     ensures total { IfSome result (λ at. total_of (λ h. h.used) all.new ≡ total_of (λ h. h.used) all.old + words) }
+    ensures room { OnSome result (words ≤ get_or (map (λ h. length (S.bytes h.segment) / 8 - h.used) all.old) index 0) }
+    ensures full { IfNone result ((length all.old ≤ index) ⊎ (get_or (map (λ h. length (S.bytes h.segment) / 8 - h.used) all.old) index 0 < words) ⊎ (2 ^ 32 ≤ total_of (λ h. h.used) all.old + words)) }
     ensures none { IfNone result (all.new ≡ all.old) }
     ensures len { length all.new ≡ length all.old }
     ensures loans { flat_map (λ h. S.loans h.segment) all.new ≡ flat_map (λ h. S.loans h.segment) all.old }

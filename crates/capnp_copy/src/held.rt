@@ -1,5 +1,5 @@
 //! Segments that an arena holds, and how much of each is used.
-ghost use Rattle.std.specs.Prelude.{◌≡◌, ◌+◌, ◌*◌, ◌/◌, ◌<◌, ◌≤◌, ◌^◌, ℕ, List, length, take, replicate, IfSome, IfNone};
+ghost use Rattle.std.specs.Prelude.{◌≡◌, ◌⊎◌, ◌+◌, ◌*◌, ◌/◌, ◌<◌, ◌≤◌, ◌^◌, ℕ, List, length, take, replicate, IfSome, IfNone};
 ghost use Rattle.capnp_copy.specs.Memory.{AllZero, ZeroFrom, overwritten};
 
 use crate::allocator::SegmentBytes;
@@ -40,13 +40,17 @@ impl<S: SegmentBytes> Held<S> {
         ensures some { IfSome result (λ at. (at ≡ self.old.used) × (self.new.used ≡ self.old.used + words)) }
         ensures segment { self.new.segment ≡ self.old.segment }
         ensures none { IfNone result (self.new ≡ self.old) }
+        ensures full { IfNone result ((length (S.bytes self.old.segment) / 8 < self.old.used + words) ⊎ (2 ^ 32 ≤ self.old.used + words)) }
     {
         let used = self.used;
         let room = {
             let segment = &self.segment;
             segment.as_bytes().len() / 8
         };
-        if used as usize + words as usize > room || words > u32::MAX - used {
+        if used as usize + words as usize > room {
+            return None;
+        }
+        if words > u32::MAX - used {
             return None;
         }
         self.used = used + words;

@@ -8,7 +8,7 @@ ghost use Rattle.capnp_units.specs.Sizes.{size_number};
 ghost use Rattle.capnp_units.specs.declared.kinds.ErrorKind.TheVariants.{SizeOverflow};
 ghost use Rattle.capnp_wire.specs.Places.{place_view};
 ghost use Rattle.capnp_copy.specs.Allocations.{total_words};
-ghost use Rattle.capnp_copy.specs.Rooms.{RoomFor, IsAddressed, HasPad, begin_of, slot_word, with_pad, linked};
+ghost use Rattle.capnp_copy.specs.Rooms.{RoomFor, IsNearWhereRoom, IsAddressed, HasPad, begin_of, slot_word, with_pad, linked};
 
 use crate::arena::BuilderArena;
 use capnp_units::errors::Result;
@@ -59,13 +59,14 @@ pub(crate) fn list_word(size: ElementSize, count: u32) -> u64
     1 + size.number() * UPPER_HALF + count as u64 * ELEMENTS
 }
 
-/// Allocates words for an object that the pointer at a place will name: in the pointer's segment, else behind a pad of one word in any segment, which may be a new one. An object without words takes none. Nothing is written.
+/// Allocates words for an object that the pointer at a place will name: in the pointer's segment where that has room for them, else behind a pad of one word in any segment, which may be a new one. An object without words takes none. Nothing is written.
 ///
 /// It is refused with `SizeOverflow` just where the message's words would pass 2^29 - 1, the pad counted, else as the allocator refuses; then nothing is allocated.
 pub fn allocate_near<A: BuilderArena>(arena: &mut A, slot: Place, words: u32) -> Result<Room>
     requires there { is_some (word_at (words_in (A.segments arena.old)) (place_view slot)) ≡ true }
     requires few { words ≤ 2 ^ 29 }
     ensures ok { IfOk result (RoomFor (words_in (A.segments arena.old)) (words_in (A.segments arena.new)) (place_view slot) words) }
+    ensures near { IfOk result (IsNearWhereRoom (words_in (A.segments arena.old)) (A.room arena.old) slot.segment words) }
     ensures refused { OnErr result (A.segments arena.new ≡ A.segments arena.old) }
     ensures kind { IfErr result (λ e. (0 < words) × ((e.kind ≡ SizeOverflow) ↔ (2 ^ 29 ≤ total_words (words_in (A.segments arena.old)) + (words + 1)))) }
     ensures books { A.books arena.new ≡ A.books arena.old }

@@ -1,5 +1,5 @@
 //! An arena that takes its segments from an allocator.
-ghost use Rattle.std.specs.Prelude.{◌≡◌, ◌≢◌, ◌+◌, ◌-◌, ◌*◌, ◌/◌, ◌<◌, ◌≤◌, ◌^◌, ◌++◌, ◌∷◌, [], ℕ, List, length, map, take, pos, IfSome, IfNone, IfOk, IfErr, OnOk, OnErr};
+ghost use Rattle.std.specs.Prelude.{◌≡◌, ◌≢◌, ◌⊎◌, ◌+◌, ◌-◌, ◌*◌, ◌/◌, ◌<◌, ◌≤◌, ◌^◌, ◌++◌, ◌∷◌, [], ℕ, List, length, map, take, get_or, pos, OnSome, IfSome, IfNone, IfOk, IfErr, OnOk, OnErr};
 ghost use Rattle.std.specs.List.{flat_map};
 ghost use Rattle.capnp_footprints.specs.Writes.{with_zeros, segment_end};
 ghost use Rattle.capnp_copy.specs.Allocations.{total_of, words_used};
@@ -101,6 +101,8 @@ impl<A: Allocator> BuilderArenaImpl<A> {
         requires { self.old.words + words < 2 ^ 29 }
         ensures at { IfSome result (λ at. (segment < length self.old.segments.items) × (at ≡ segment_end (map (λ h. words_used h.used (A.Segment.bytes h.segment)) self.old.segments.items) segment)) }
         ensures words { IfSome result (λ at. map (λ h. words_used h.used (A.Segment.bytes h.segment)) self.new.segments.items ≡ with_zeros (map (λ h. words_used h.used (A.Segment.bytes h.segment)) self.old.segments.items) segment words) }
+        ensures room { OnSome result (words ≤ get_or (map (λ h. length (A.Segment.bytes h.segment) / 8 - h.used) self.old.segments.items) segment 0) }
+        ensures full { IfNone result ((length self.old.segments.items ≤ segment) ⊎ (get_or (map (λ h. length (A.Segment.bytes h.segment) / 8 - h.used) self.old.segments.items) segment 0 < words)) }
         ensures none { IfNone result (self.new.segments.items ≡ self.old.segments.items) }
         ensures place { A.place self.new.allocator ≡ A.place self.old.allocator }
         ensures loans { flat_map (λ h. A.Segment.loans h.segment) self.new.segments.items ++ A.loans self.new.allocator ≡ flat_map (λ h. A.Segment.loans h.segment) self.old.segments.items ++ A.loans self.old.allocator }
@@ -115,6 +117,7 @@ impl<A: Allocator> BuilderArenaImpl<A> {
         requires { self.old.words + words < 2 ^ 29 }
         ensures at { IfSome result (λ p. (p.0 < length self.old.segments.items) × (p.1 ≡ segment_end (map (λ h. words_used h.used (A.Segment.bytes h.segment)) self.old.segments.items) p.0)) }
         ensures words { IfSome result (λ p. map (λ h. words_used h.used (A.Segment.bytes h.segment)) self.new.segments.items ≡ with_zeros (map (λ h. words_used h.used (A.Segment.bytes h.segment)) self.old.segments.items) p.0 words) }
+        ensures full { IfNone result ((length self.old.segments.items ≡ 0) ⊎ (get_or (map (λ h. length (A.Segment.bytes h.segment) / 8 - h.used) self.old.segments.items) (length self.old.segments.items - 1) 0 < words)) }
         ensures none { IfNone result (self.new.segments.items ≡ self.old.segments.items) }
         ensures place { A.place self.new.allocator ≡ A.place self.old.allocator }
         ensures loans { flat_map (λ h. A.Segment.loans h.segment) self.new.segments.items ++ A.loans self.new.allocator ≡ flat_map (λ h. A.Segment.loans h.segment) self.old.segments.items ++ A.loans self.old.allocator }
@@ -194,6 +197,8 @@ impl<A: Allocator> ReaderArena for BuilderArenaImpl<A> {
 
 impl<A: Allocator> BuilderArena for BuilderArenaImpl<A> {
     ghost books = { λ a. A.place a.allocator ∷ (flat_map (λ h. A.Segment.loans h.segment) a.segments.items ++ A.loans a.allocator) ∷ [] };
+
+    ghost room = { λ a. map (λ h. length (A.Segment.bytes h.segment) / 8 - h.used) a.segments.items };
 
     fn allocate(&mut self, segment: SegmentId, words: u32) -> Option<u32> {
         if words > MOST_WORDS - self.words {

@@ -1,7 +1,8 @@
-use Rattle.std.proofs.Common.{◌≡◌, ℕ, ◌+◌, length, get_or, ap, sym, ◌∙◌, arith}
+use Rattle.std.proofs.Common.{◌≡◌, ℕ, ◌+◌, ◌-◌, ◌/◌, ◌<◌, length, map, get_or, inl, inr, ap, sym, ◌∙◌, arith}
+use Rattle.std.proofs.lemmas.List.{get_or-map}
 use Rattle.std.proofs.lemmas.Option.{IfSome_then}
 use Rattle.capnp_copy.specs.Allocations.{words_used}
-use Rattle.capnp_copy.proofs.HeldWords.{zeros_map, end_map, total_set, used_length, used_more}
+use Rattle.capnp_copy.proofs.HeldWords.{zeros_map, end_map, total_set, used_length, used_more, total_at, if_none, on_some}
 use Rattle.capnp_copy.proofs.grown.grow_in.Goals as goal
 
 pub returns-clause-at : goal.returns-clause-at
@@ -30,3 +31,22 @@ returns-clause-total g c =
     let d = c.index-all-index.result in
     let t = total_set (λ h. h.used) c.args.all.now c.args.index c.grow.new.self d c.if-index-all.false in
     IfSome_then c.grow.result c.grow.ensures.some (λ at e. omega (arith, e.1, t))
+
+pub returns-clause-room : goal.returns-clause-room
+returns-clause-room g c =
+    let d = c.index-all-index.result in
+    let old = get_or c.args.all.now c.args.index c.index-all-index.result in
+    let new = c.grow.new.self in
+    let bytes = g.S.SegmentBytes.bytes in
+    let long : length (bytes new.segment) ≡ length (bytes old.segment) = ap (λ s. length (bytes s)) c.grow.ensures.segment in
+    let is = get_or-map (λ h. length (bytes h.segment) / 8 - h.used) c.args.all.now c.args.index d 0 c.if-index-all.false in
+    on_some c.grow.result c.grow.ensures.some (λ at e. omega (arith, is, long, new.inside, e.1))
+
+pub returns-clause-full : goal.returns-clause-full
+returns-clause-full g c =
+    let d = c.index-all-index.result in
+    let old = get_or c.args.all.now c.args.index c.index-all-index.result in
+    let bytes = g.S.SegmentBytes.bytes in
+    let is = get_or-map (λ h. length (bytes h.segment) / 8 - h.used) c.args.all.now c.args.index d 0 c.if-index-all.false in
+    let t = total_at (λ h. h.used) c.args.all.now c.args.index d c.if-index-all.false in
+    if_none c.grow.result c.grow.ensures.full (elim [ inl l ↦ inr (inl (omega (arith, is, old.inside, l))) | inr l ↦ inr (inr (omega (arith, t, l))) ])
