@@ -6,7 +6,6 @@ ghost use Rattle.capnp_wire.specs.Views.{bit_of_bool};
 use capnp_units::primitive::Primitive;
 
 /// The number in so many bits of a word.
-
 pub fn bits_in(word: u64, at: u32, width: u32) -> u64
     requires { (at + width ≤ 64) × (0 < width) }
     ensures { result ≡ bits_at at width word }

@@ -27,7 +27,7 @@ fn zero_there<A: BuilderArena>(arena: &mut A, place: Place, count: usize)
     }
 }
 
-/// ClearsValue a list of plain elements.
+/// Clears a list of plain elements.
 fn clear_plain<A: BuilderArena>(arena: &mut A, start: Place, size: ElementSize, count: u32)
     requires { size_number size < 6 }
     ensures clears { ClearsObject (words_in (A.segments arena.old)) (words_in (A.segments arena.new)) (a_list (place_view start) (size_number size) count) }
@@ -50,7 +50,7 @@ fn write_null<A: BuilderArena>(arena: &mut A, slot: Place)
     arena.write_word(slot, 0);
 }
 
-/// ClearsValue the pointer at a place: it becomes null, and all words of its value become zero, with those of its pads and of all values in it. Nothing else changes, and nothing is allocated.
+/// Clears the pointer at a place: it becomes null, and all words of its value become zero, with those of its pads and of all values in it. Nothing else changes, and nothing is allocated.
 ///
 /// It takes a step for each pointer that isn't null, and for each pointer of the objects on the way: lists of plain elements and of structs without pointers take one, whatever they count. Each level of pointers takes stack.
 #[cycle(clear)]
@@ -72,7 +72,7 @@ pub fn clear<A: BuilderArena>(arena: &mut A, slot: Place)
     }
 }
 
-/// ClearsValue what an object's pointers name, and then the object's own words.
+/// Clears what an object's pointers name, and then the object's own words.
 #[cycle(clear)]
 fn clear_object<A: BuilderArena>(arena: &mut A, object: NamedObject)
     ensures clears { ClearsObject (words_in (A.segments arena.old)) (words_in (A.segments arena.new)) (named_view object) }
@@ -121,7 +121,7 @@ fn clear_list<A: BuilderArena>(arena: &mut A, start: Place, size: ElementSize, c
     }
 }
 
-/// ClearsValue the pointers of a struct, where its words are there.
+/// Clears the pointers of a struct, where its words are there.
 #[cycle(clear)]
 fn clear_kids<A: BuilderArena>(arena: &mut A, start: Place, data_words: u16, pointers: u32)
     ensures clears { ClearsKids (words_in (A.segments arena.old)) (words_in (A.segments arena.new)) (place_view start) data_words pointers }
@@ -144,7 +144,7 @@ fn clear_kids<A: BuilderArena>(arena: &mut A, start: Place, data_words: u16, poi
     }
 }
 
-/// ClearsValue the pointers of a list's structs, where the list is there. The list begins at its tag, and its pointer claims so many words behind it.
+/// Clears the pointers of a list's structs, where the list is there. The list begins at its tag, and its pointer claims so many words behind it.
 #[cycle(clear)]
 fn clear_elements<A: BuilderArena>(arena: &mut A, start: Place, words: u32)
     ensures clears { ClearsElements (words_in (A.segments arena.old)) (words_in (A.segments arena.new)) (place_view start) words }
