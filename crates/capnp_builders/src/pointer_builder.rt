@@ -89,7 +89,7 @@ impl<'a, A: BuilderArena> PointerBuilder<'a, A> {
         word_at(&self.memory.arena, self.place).unwrap_or(0) == 0
     }
 
-    /// ClearsValue the value: the pointer becomes null, and all words of its value become zero. Nothing else changes, and nothing is allocated.
+    /// Clears the value: the pointer becomes null, and all words of its value become zero. Nothing else changes, and nothing is allocated.
     pub fn clear(&mut self)
         ensures same { self.new.memory.ghost_name ≡ self.old.memory.ghost_name }
         ensures place { self.new.place ≡ self.old.place }
