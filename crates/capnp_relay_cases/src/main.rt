@@ -7,6 +7,7 @@
 
 mod faults;
 mod runs;
+mod whole;
 
 use faults::Fault;
 use runs::{Compared, compare};
@@ -15,30 +16,28 @@ use std::alloc::Global;
 use std::process::ExitCode;
 use std::{env, fs, io};
 
-/// How many runs there were, how many of them were answered as they should be, and how many weren't compared.
-#[derive(Clone, Copy)]
+/// How many runs there were, how many of them are as they should be, whole or before a message is read, and how many weren't compared.
+#[derive(Clone, Copy, Default)]
 struct Counts {
-    right: u64,
+    whole: u64,
+    begun: u64,
+    other: u64,
     passed_over: u64,
-    all: u64,
 }
 
 fn count(alloc: Global, text: &str) -> Result<Counts, Fault> {
-    let mut counts = Counts {
-        right: 0,
-        passed_over: 0,
-        all: 0,
-    };
+    let mut counts = Counts::default();
     for line in text.lines() {
-        counts.all = counts.all.saturating_add(1);
         let Ok(run) = Json::from_str(alloc, line) else {
             return Err(Fault::Shape);
         };
-        match compare(alloc, &run)? {
-            Compared::Same => counts.right = counts.right.saturating_add(1),
-            Compared::PassedOver => counts.passed_over = counts.passed_over.saturating_add(1),
-            Compared::Other => {}
-        }
+        let place = match compare(alloc, &run)? {
+            Compared::Whole => &mut counts.whole,
+            Compared::Begun => &mut counts.begun,
+            Compared::Other => &mut counts.other,
+            Compared::PassedOver => &mut counts.passed_over,
+        };
+        *place = place.saturating_add(1);
     }
     Ok(counts)
 }
@@ -52,15 +51,19 @@ fn run(rt: &HostRuntime) -> io::Result<ExitCode> {
     match count(rt.alloc(), text.as_str()) {
         Ok(
             Counts {
-                right,
+                whole,
+                begun,
+                other,
                 passed_over,
-                all,
             },
         ) => {
+            println!(rt; "{whole} runs are as they should be")?;
             println!(rt;
-                "{right} of {all} runs are answered as they should be before a message is read, {passed_over} are not compared"
+                "{begun} runs that the relay doesn't take are answered as they should be before a message is read"
             )?;
-            if all > 0 && all.checked_sub(right) == Some(passed_over) {
+            println!(rt; "{passed_over} runs are not compared: a call of theirs sets a message")?;
+            println!(rt; "{other} runs differ")?;
+            if other == 0 && whole > 0 {
                 Ok(ExitCode::SUCCESS)
             } else {
                 Ok(ExitCode::FAILURE)

@@ -1,6 +1,7 @@
 //! Runs of the program, and what they are answered.
 
 use crate::faults::{Answer, Fault, calls_answer, schema_answer};
+use crate::whole::compare_whole;
 use hex::FromHexError;
 use serde_json::Value as Json;
 use std::alloc::Global;
@@ -8,12 +9,20 @@ use std::alloc::Global;
 /// How a run compares.
 #[derive(Clone, Copy, PartialEq, Eq, Debug)]
 pub enum Compared {
-    Same,
+    /// The whole run is as it should be.
+    Whole,
+    /// What is answered before a message is read is as it should be; the relay doesn't take the rest.
+    Begun,
     Other,
     PassedOver,
 }
 
-fn hex_of(alloc: Global, json: &Json) -> Result<Vec<u8>, Fault> {
+/// The bytes of a run's member.
+pub fn hex_of(alloc: Global, run: &Json, member: &str) -> Result<Vec<u8>, Fault> {
+    bytes_of(alloc, run.get(member).ok_or(Fault::Shape)?)
+}
+
+fn bytes_of(alloc: Global, json: &Json) -> Result<Vec<u8>, Fault> {
     let text = json.as_str().ok_or(Fault::Shape)?;
     match hex::decode(alloc, text.as_bytes()) {
         Ok(bytes) => Ok(bytes),
@@ -22,13 +31,12 @@ fn hex_of(alloc: Global, json: &Json) -> Result<Vec<u8>, Fault> {
     }
 }
 
-/// The bytes of the file that an argument names; none of one that isn't there.
-fn file_of(alloc: Global, run: &Json, word: &Json) -> Result<Option<Vec<u8>>, Fault> {
-    let name = word.as_str().ok_or(Fault::Shape)?;
+/// The bytes of the file of a name; none of one that isn't there.
+pub fn file_of(alloc: Global, run: &Json, name: &str) -> Result<Option<Vec<u8>>, Fault> {
     let files = run.get("files").ok_or(Fault::Shape)?;
     match files.get(name) {
         None => Ok(None),
-        Some(bytes) => Ok(Some(hex_of(alloc, bytes)?)),
+        Some(bytes) => Ok(Some(bytes_of(alloc, bytes)?)),
     }
 }
 
@@ -72,10 +80,10 @@ fn answer_of(alloc: Global, run: &Json, words: &Words) -> Result<Answer, Fault> 
 /// The arguments of a run.
 #[derive(Clone, Copy)]
 struct Words<'j> {
-    schema: &'j Json,
-    calls: &'j Json,
+    schema: &'j str,
+    calls: &'j str,
     root: u64,
-    newer: Option<&'j Json>,
+    newer: Option<&'j str>,
 }
 
 /// The arguments, where they are files, a number and a form.
@@ -86,16 +94,25 @@ fn words_of(run: &Json) -> Option<Words<'_>> {
     };
     let root = root.as_str()?.parse::<u64>().ok()?;
     Some(Words {
-        schema,
-        calls,
+        schema: schema.as_str()?,
+        calls: calls.as_str()?,
         root,
-        newer: newer.first(),
+        newer: newer.first().and_then(Json::as_str),
     })
 }
 
-/// Compares what a run is answered with what it should be.
+/// Compares a run with what it should be: whole where the relay takes it, else what it is answered before a message is read.
 pub fn compare(alloc: Global, run: &Json) -> Result<Compared, Fault> {
-    let errors = hex_of(alloc, run.get("stderr").ok_or(Fault::Shape)?)?;
+    match compare_whole(alloc, run)? {
+        Some(true) => Ok(Compared::Whole),
+        Some(false) => Ok(Compared::Other),
+        None => compare_beginning(alloc, run),
+    }
+}
+
+/// Compares what a run is answered before a message is read with what it should be.
+fn compare_beginning(alloc: Global, run: &Json) -> Result<Compared, Fault> {
+    let errors = hex_of(alloc, run, "stderr")?;
     let Ok(errors) = std::str::from_utf8(&errors) else {
         return Ok(Compared::PassedOver);
     };
@@ -103,9 +120,6 @@ pub fn compare(alloc: Global, run: &Json) -> Result<Compared, Fault> {
     let Some(words) = words_of(run) else {
         return Ok(Compared::PassedOver);
     };
-    if last == "fault: arguments" {
-        return Ok(Compared::PassedOver);
-    }
     let answer = answer_of(alloc, run, &words)?;
     let same = match line_of(alloc, answer)? {
         Some(line) => line.as_str() == last,
@@ -113,7 +127,7 @@ pub fn compare(alloc: Global, run: &Json) -> Result<Compared, Fault> {
         None => got_further(last),
     };
     Ok(if same {
-        Compared::Same
+        Compared::Begun
     } else {
         Compared::Other
     })

@@ -1,42 +1,70 @@
-//! Relays framed messages from standard input to standard output, with the log on standard error.
+//! Relays Cap'n Proto messages from standard input to standard output, with the log on standard error.
 //!
-//! The schema, the call and the limits are built in: a struct of one data word and one pointer with the fields `a`, a UInt16, and `t`, a Text; the call `set a = 7`; 1000 words and 64 levels. A fault is the last line on standard error, and makes the status 1.
+//! The arguments name a schema file, a calls file, the root's node and the form of the messages; `--help` says more. A fault is the last line on standard error, and makes the status 1.
 #![tactic(auto)]
 
-#[cfg(test)]
-mod devices;
-#[cfg(test)]
-mod large;
-mod program;
-#[cfg(test)]
-mod runs;
-mod settings;
-mod sinks;
-#[cfg(test)]
-mod tests;
-
+use capnp_program::program::program;
 use capnp_stream::adapters::{Sink, Source};
-use program::program;
-use std::io;
 use std::process::ExitCode;
+use std::{env, fs, io};
 
-/// Says that there is no memory for the streams.
+/// Says that there is no memory for the program.
 fn no_memory(rt: &impl Eprint) -> io::Result<()> {
     eprintln!(rt; "fault: memory")
 }
 
-fn main(rt: HostRuntime) -> ExitCode {
+/// The words behind the program's name.
+fn words(rt: &HostRuntime) -> io::Result<Vec<String>> {
+    let mut words = env::args(rt)?;
+    let _name = words.next();
+    Ok(words.collect(rt.alloc())?)
+}
+
+/// The file that a word names; none where no word does, or where it can't be read.
+fn file(rt: &HostRuntime, words: &[String], place: usize) -> io::Result<Option<Vec<u8>>> {
+    let Some(name) = words.get(place) else {
+        return Ok(None);
+    };
+    match fs::read(rt, name.as_str()) {
+        Ok(bytes) => Ok(Some(bytes)),
+        Err(e) if e.kind() == io::ErrorKind::OutOfMemory => Err(e),
+        Err(_) => Ok(None),
+    }
+}
+
+/// The status of the program over the files that the words name; an error where memory is wanting.
+fn run(rt: &HostRuntime) -> io::Result<u8> {
     let alloc = rt.alloc();
+    let words = words(rt)?;
+    let schema = file(rt, &words, 0)?;
+    let calls = file(rt, &words, 1)?;
+    let newer = file(rt, &words, 4)?;
     let source = Source::new(alloc, rt.stdin());
     let out = Sink::buffered(alloc, rt.stdout());
     let log = Sink::buffered(alloc, rt.stderr());
     let (Ok(mut source), Ok(mut out), Ok(mut log)) = (source, out, log) else {
-        // Where standard error is closed there is nowhere to say so.
-        let _said = no_memory(&rt);
-        return ExitCode::FAILURE;
+        return Err(io::Error::from(io::ErrorKind::OutOfMemory));
     };
-    match program(alloc, &mut source, &mut out, &mut log) {
-        0 => ExitCode::SUCCESS,
-        _ => ExitCode::FAILURE,
+    Ok(program(
+        alloc,
+        &words,
+        schema.as_deref(),
+        calls.as_deref(),
+        newer.as_deref(),
+        &mut source,
+        &mut out,
+        &mut log,
+    ))
+}
+
+fn main(rt: HostRuntime) -> ExitCode {
+    match run(&rt) {
+        Ok(0) => ExitCode::SUCCESS,
+        Ok(_) => ExitCode::FAILURE,
+        Err(_) => {
+            // Where standard error is closed there is nowhere to say so.
+            let _said = no_memory(&rt);
+            ExitCode::FAILURE
+        }
     }
 }

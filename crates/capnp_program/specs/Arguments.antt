@@ -1,0 +1,49 @@
+-- What the words of a run say.
+use Rattle.std.specs.Prelude.{ℕ, ◌+◌, ◌-◌, ◌*◌, ◌^◌, Bool, true, false, not, ◌&&◌, nat_lt, Option, Some, None, List, [], ◌∷◌, length, codes}
+use Rattle.std.specs.Str.{bytes_eq, all_ascii_digits}
+use Rattle.capnp_model.specs.Chains.{◌>>=◌, ◌provided◌}
+use Rattle.capnp_files.specs.Json.{find_named}
+use Rattle.capnp_relay.specs.declared.options.Form.{Form}
+use Rattle.capnp_relay.specs.declared.options.Form.TheVariants.{Framed, Packed}
+use Rattle.capnp_program.specs.declared.arguments.Arguments.{Arguments}
+
+-- The number that decimal digits spell, by the weight of each.
+unfoldable pub digits_number : List ℕ → ℕ
+digits_number [] = 0
+digits_number (d ∷ ds) = (d - 48) * 10 ^ length ds + digits_number ds
+
+-- There is no word there.
+abbrev pub is_empty : List ℕ → Bool
+is_empty [] = true
+is_empty (b ∷ bs) = false
+
+-- The number of a word that is decimal digits alone, at least one, where it is below 2^64.
+abbrev pub decimal_in : List ℕ → Option ℕ
+decimal_in word = digits_number word provided (all_ascii_digits word && (not (is_empty word) && nat_lt (digits_number word) (2 ^ 64)))
+
+-- The words for the forms of the input and the output.
+abbrev pub named_forms : List (List ℕ × (Form × Form))
+named_forms = (codes "framed", (Framed, Framed)) ∷ (codes "packed", (Packed, Packed)) ∷ (codes "framed-packed", (Framed, Packed)) ∷ (codes "packed-framed", (Packed, Framed)) ∷ []
+
+-- The forms of a word.
+abbrev pub forms_named : List ℕ → Option (Form × Form)
+forms_named word = find_named word named_forms
+
+-- A root and forms.
+abbrev pub arguments_of : List ℕ → List ℕ → Option Arguments
+arguments_of root form = decimal_in root >>= λ id. forms_named form >>= λ fs. Some (record { root = id; input = fs.0; output = fs.1 })
+
+-- Four words: a schema file, a calls file, the root and the forms.
+abbrev pub arguments_in : List (List ℕ) → Option Arguments
+arguments_in [] = None
+arguments_in (schema ∷ []) = None
+arguments_in (schema ∷ calls ∷ []) = None
+arguments_in (schema ∷ calls ∷ root ∷ []) = None
+arguments_in (schema ∷ calls ∷ root ∷ form ∷ []) = arguments_of root form
+arguments_in (schema ∷ calls ∷ root ∷ form ∷ more ∷ words) = None
+
+-- The one word that asks for the usage.
+abbrev pub is_help : List (List ℕ) → Bool
+is_help [] = false
+is_help (word ∷ []) = bytes_eq word (codes "--help")
+is_help (word ∷ more ∷ words) = false

@@ -1,0 +1,32 @@
+-- The lines that tell faults.
+use Rattle.std.specs.Prelude.{ℕ, List, ◌++◌, codes, decimal}
+use Rattle.capnp_units.specs.Errors.{kind_of}
+use Rattle.capnp_model.specs.Kinds.{kind_name}
+use Rattle.capnp_relay.specs.declared.ends.Fault.{Fault}
+use Rattle.capnp_relay.specs.declared.ends.Fault.TheVariants as fault
+use Rattle.capnp_program.specs.declared.stop.Stop.{Stop}
+use Rattle.capnp_program.specs.declared.stop.Stop.TheVariants as stop
+
+-- What the line says of a fault of the relay.
+abbrev pub fault_words : Fault → List ℕ
+fault_words fault.Source = codes "source"
+fault_words (fault.Framing kind) = codes "framing " ++ kind_name (kind_of kind)
+fault_words fault.Out = codes "out"
+fault_words fault.Log = codes "log"
+fault_words fault.Memory = codes "memory"
+fault_words fault.Size = codes "size"
+
+-- What the line says of a fault.
+abbrev pub stop_words : Stop → List ℕ
+stop_words stop.Arguments = codes "arguments"
+stop_words stop.SchemaFile = codes "schema file"
+stop_words (stop.SchemaRule rule node) = codes "schema rule " ++ (decimal rule ++ (codes " node " ++ decimal node))
+stop_words stop.Root = codes "root"
+stop_words stop.CallsFile = codes "calls file"
+stop_words (stop.Call number) = codes "call " ++ decimal number
+stop_words stop.Options = codes "options"
+stop_words (stop.Relay fault) = fault_words fault
+
+-- The line that tells a fault.
+abbrev pub line_of : Stop → List ℕ
+line_of stop = codes "fault: " ++ (stop_words stop ++ codes "\n")

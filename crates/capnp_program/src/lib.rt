@@ -1,0 +1,23 @@
+//! The relay's program but for its files and streams: the words and the files of a run, and the run.
+#![tactic(auto)]
+
+pub mod arguments;
+#[cfg(test)]
+mod devices;
+#[cfg(test)]
+mod faults;
+#[cfg(test)]
+mod large;
+mod lines;
+pub mod program;
+mod run;
+#[cfg(test)]
+mod runs;
+#[cfg(test)]
+mod samples;
+pub mod settings;
+pub mod sinks;
+pub mod stop;
+#[cfg(test)]
+mod tests;
+mod usage;

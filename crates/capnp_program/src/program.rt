@@ -1,0 +1,75 @@
+//! The program but for its files.
+ghost use Rattle.std.specs.Prelude.{◌≡◌, ◌≤◌, [], map, string_bytes};
+ghost use Rattle.std.specs.Option.{option_copied};
+ghost use Rattle.capnp_relay.specs.Streams.{source_seen, sink_seen, streams};
+ghost use Rattle.capnp_program.specs.Program.{RelaysAll, Told, ToldFault};
+
+use crate::arguments::asks_for_help;
+use crate::lines::fault_line;
+use crate::run::relay_all;
+use crate::sinks::Flush;
+use crate::stop::Stop;
+use crate::usage::USAGE;
+use capnp_stream::traits::BufRead;
+use std::alloc::Global;
+
+/// Writes a text and hands it on; it is given up where the sink refuses it.
+fn put<L: Flush>(sink: &mut L, text: &[u8])
+    ensures { Told L.may_grow text.now
+        (sink_seen L.contents L.failures L.room sink.old) (sink_seen L.contents L.failures L.room sink.new) }
+{
+    if sink.write_all(text).is_ok() {
+        // A sink that fails now has nowhere to say so.
+        let _flushed = sink.flush();
+    }
+}
+
+/// Writes the line of a fault behind the log, and gives it up where the log takes none.
+fn put_fault<L: Flush>(alloc: Global, log: &mut L, stop: Stop)
+    ensures { ToldFault L.may_grow stop
+        (sink_seen L.contents L.failures L.room log.old) (sink_seen L.contents L.failures L.room log.new) }
+{
+    match fault_line(alloc, stop) {
+        Ok(line) => put(log, &line),
+        Err(_) => put(log, b"fault: memory\n"),
+    }
+}
+
+/// The program over the words behind its name and the files that they name; a file that can't be read, or that no word names, is
+/// `None`. Messages come from the source, edited messages go to the output and a line for each to the log. The status: 0, or 1
+/// where there was a fault, which is told in the last line of the log.
+///
+/// The first fault is told: of the words, the schema file, its rules, the root, the calls file, the calls and the limits, in this
+/// order, before anything is read or written; then those of the run. The one word `--help` has the usage written to the output,
+/// and is a fault of the words. A newer schema isn't taken yet: five words are refused.
+pub fn program<R: BufRead, W: Flush, L: Flush>(
+    alloc: Global,
+    words: &[String],
+    schema: Option<&[u8]>,
+    calls: Option<&[u8]>,
+    _newer: Option<&[u8]>,
+    source: &mut R,
+    out: &mut W,
+    log: &mut L,
+) -> u8
+    ensures status { result ≤ 1 }
+    ensures run { result ≡ 0 → RelaysAll (map string_bytes words.now) (option_copied schema.entry) W.may_grow L.may_grow
+        (streams (source_seen R.remaining R.failures source.old)
+        (sink_seen W.contents W.failures W.room out.old) (sink_seen L.contents L.failures L.room log.old))
+        (streams (source_seen R.remaining R.failures source.new)
+        (sink_seen W.contents W.failures W.room out.new) (sink_seen L.contents L.failures L.room log.new)) }
+    ensures held { result ≡ 0 → (W.held out.new ≡ []) × (L.held log.new ≡ []) }
+{
+    if asks_for_help(words) {
+        put(out, USAGE.as_bytes());
+        put_fault(alloc, log, Stop::Arguments);
+        return 1;
+    }
+    match relay_all(alloc, words, schema, calls, source, out, log) {
+        Ok(()) => 0,
+        Err(stop) => {
+            put_fault(alloc, log, stop);
+            1
+        }
+    }
+}

@@ -1,0 +1,19 @@
+//! What the program says of itself.
+
+/// How the program is called, with an example.
+pub const USAGE: &str = "capnp_relay_cli SCHEMA CALLS ROOT FORM
+
+Reads Cap'n Proto messages from standard input, makes the calls on the root of each, writes each edited message in canonical
+form to standard output, and a line for each on standard error. A fault is told in the last line there, and the status is 1.
+
+SCHEMA  a JSON file of the nodes
+CALLS   a JSON file of the calls
+ROOT    the id of the root's node, in decimal digits
+FORM    framed, packed, framed-packed or packed-framed: the form of the input, then that of the output
+
+Example, where out/capnp_relay_cli is the program: a message whose root is null gets a = 7.
+
+  printf '%s' '[{\"id\":1,\"name\":\"P\",\"data\":1,\"pointers\":0,\"fields\":[{\"name\":\"a\",\"type\":\"UInt16\",\"offset\":0}]}]' > p.json
+  printf '%s' '{\"calls\":[{\"path\":[\"a\"],\"verb\":\"set\",\"value\":{\"number\":7}}]}' > set_a.json
+  printf '\\0\\0\\0\\0\\1\\0\\0\\0\\0\\0\\0\\0\\0\\0\\0\\0' | out/capnp_relay_cli p.json set_a.json 1 framed | od -An -tx1
+";
