@@ -18,7 +18,7 @@ numerals = numerals_by_weight (λ ds. all_ascii_digits ds ≡ true) tells_all_as
 
 both : (a b : Bool) → (a && b) ≡ true → (a ≡ true) × (b ≡ true)
 both true b e = (refl, e)
-both false b e = absurd e
+both false b e = absurd cc
 
 none_unless : (n : ℕ) (b : Bool) → (b ≡ true → ⊥) → None ≡ (n provided b)
 none_unless n true h = absurd (h refl)
@@ -26,7 +26,7 @@ none_unless n false h = refl
 
 some_where : (n : ℕ) (b : Bool) → b ≡ true → Some n ≡ (n provided b)
 some_where n true e = refl
-some_where n false e = absurd e
+some_where n false e = absurd cc
 
 -- Whether a word is a number that 64 bits hold.
 abbrev pub is_number : List ℕ → Bool
@@ -40,7 +40,7 @@ is_number_of [] h = absurd (omega (arith, h.1))
 is_number_of (b ∷ bs) h = both_true h.0 (lt-ltb (digits_number (b ∷ bs)) (2 ^ 64) h.2)
 
 number_of : (word : List ℕ) → is_number word ≡ true → IsNumber word
-number_of [] e = absurd e
+number_of [] e = let k : false ≡ true = e in absurd cc
 number_of (b ∷ bs) e =
     let k = both (all_ascii_digits (b ∷ bs)) (nat_lt (digits_number (b ∷ bs)) (2 ^ 64)) e in
     (k.0, omega arith, ltb-true (digits_number (b ∷ bs)) (2 ^ 64) k.1)
