@@ -2,8 +2,7 @@
 use Rattle.std.specs.Prelude.{◌≡◌, ℕ, if◌then◌else◌, Option, Some, None, ok_or, Result, Ok, Err, List, ◌⊎◌}
 use Rattle.capnp_model.specs.Chains.{◌>>=◌}
 use Rattle.capnp_model.specs.Schemas.{Node}
-use Rattle.capnp_model.specs.Accepted.{fault_of, names_a}
-use Rattle.capnp_records.specs.Sets.{is_plain_struct}
+use Rattle.capnp_model.specs.Accepted.{fault_of, names_a, is_struct_node}
 use Rattle.capnp_files.specs.SchemaFiles.{schema_in}
 use Rattle.capnp_files.specs.CallsFiles.{CallsText, calls_in}
 use Rattle.capnp_relay.specs.declared.ends.Fault.TheVariants.{Memory}
@@ -30,9 +29,9 @@ accepted_nodes nodes = elim (fault_of nodes) [ None ↦ Ok nodes | Some broken �
 abbrev pub nodes_in : Option (List ℕ) → Result (List Node) Stop
 nodes_in file = ok_or (file >>= schema_in) stop.SchemaFile and_then accepted_nodes
 
--- The root, where its id names a struct that is taken.
+-- The root, where its id names a struct that is no group.
 abbrev pub root_in : List Node → ℕ → Result ℕ Stop
-root_in nodes id = if names_a is_plain_struct nodes id then Ok id else Err stop.Root
+root_in nodes id = if names_a is_struct_node nodes id then Ok id else Err stop.Root
 
 -- ---- the calls
 

@@ -5,8 +5,8 @@ use Rattle.std.specs.declared.result.Result.{Result}
 use Rattle.std.specs.Io.KnownBytes.{Keeps}
 use Rattle.capnp_units.specs.declared.errors.Error.{Error}
 use Rattle.capnp_io.specs.Writes.{Writes}
-use Rattle.capnp_records.specs.declared.structs.StructSchema.{StructSchema}
-use Rattle.capnp_records.specs.Structs.{nodes_around, id_of}
+use Rattle.capnp_queries.specs.declared.structs.StructSchema.{StructSchema}
+use Rattle.capnp_queries.specs.Structs.{nodes_around, id_of}
 use Rattle.capnp_calls.specs.declared.call.Call.{Call}
 use Rattle.capnp_relay.specs.declared.ends.Counts.{Counts}
 use Rattle.capnp_relay.specs.declared.ends.Fault.TheVariants as faults

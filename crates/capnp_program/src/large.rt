@@ -3,6 +3,7 @@
 use super::samples::{ROOT, schema};
 use super::stop::Stop;
 use capnp_calls::{Call, CallValue, Step, Verb};
+use capnp_queries::laws::struct_is_node;
 use capnp_queries::structs::StructSchema;
 use capnp_relay::ends::{Counts, RelayFault};
 use capnp_relay::options::{Form, ReaderOptions, RelayOptions};
@@ -43,7 +44,7 @@ fn relay_words(
     let mut source = input;
     let mut out = Vec::new(alloc);
     let mut log = Vec::new(alloc);
-    capnp_queries::laws::struct_is_node();
+    struct_is_node();
     let root = StructSchema::new(&set, raw);
     let end = relay(
         alloc,

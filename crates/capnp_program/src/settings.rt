@@ -1,8 +1,9 @@
 //! What the words and the files of a run ask for.
 ghost use Rattle.std.specs.Prelude.{◌≡◌, Some, None, Ok, Err, map, string_bytes, IfOk, IfErr};
 ghost use Rattle.std.specs.Option.{option_copied};
-ghost use Rattle.capnp_records.specs.Sets.{nodes_of, IsPlainStructOf};
-ghost use Rattle.capnp_records.specs.Structs.{nodes_around, id_of};
+ghost use Rattle.capnp_records.specs.Sets.{nodes_of, IsStructOf};
+ghost use Rattle.capnp_queries.specs.Structs.{nodes_around, id_of};
+ghost use Rattle.capnp_calls.specs.Taken.{IsRoot};
 ghost use Rattle.capnp_files.specs.CallViews.{file_of};
 ghost use Rattle.capnp_program.specs.declared.stop.Stop.{Stop};
 ghost use Rattle.capnp_program.specs.Arguments.{arguments_in};
@@ -14,10 +15,11 @@ use capnp_calls::{Call, CallFault, CallValue, Step, Verb};
 use capnp_files::calls_file::{CallsFile, calls_file};
 use capnp_files::fault::FileFault;
 use capnp_files::schema_file::schema_file;
+use capnp_queries::laws::struct_is_node;
+use capnp_queries::structs::StructSchema;
 use capnp_records::fault::SchemaFault;
 use capnp_records::raw::RawBrandedStructSchema;
 use capnp_records::set::SchemaSet;
-use capnp_records::structs::StructSchema;
 use capnp_relay::ends::Fault;
 use capnp_relay::options::{ReaderOptions, RelayOptions};
 use std::alloc::Global;
@@ -29,7 +31,7 @@ pub struct Settings {
     root: RawBrandedStructSchema,
     pub calls: Vec<Call>,
     pub options: RelayOptions,
-    ghost known: { IsPlainStructOf (nodes_of set) root },
+    ghost known: { IsStructOf (nodes_of set) root },
 }
 
 /// The set of a schema file; none is read where there is no file.
@@ -53,10 +55,10 @@ pub(crate) fn schema_set(alloc: Global, file: Option<&[u8]>) -> Result<SchemaSet
 /// The root's struct.
 pub(crate) fn root(set: &SchemaSet, id: u64) -> Result<RawBrandedStructSchema, Stop>
     ensures id { IfOk result (λ raw. raw.id ≡ id) }
-    ensures known { IfOk result (IsPlainStructOf (nodes_of set.now)) }
+    ensures known { IfOk result (IsStructOf (nodes_of set.now)) }
     ensures refused { IfErr result (λ stop. root_in (nodes_of set.now) id ≡ Err stop) }
 {
-    set.plain_struct_by_id(id).ok_or(Stop::Root)
+    set.struct_by_id(id).ok_or(Stop::Root)
 }
 
 /// What a calls file says; none is read where there is no file.
@@ -126,7 +128,9 @@ impl Settings {
     pub fn root(&self) -> StructSchema<'_>
         ensures nodes { nodes_around result ≡ nodes_of self.now.set }
         ensures id { id_of result ≡ self.now.root.id }
+        ensures known { IsRoot result }
     {
+        struct_is_node();
         StructSchema::new(&self.set, self.root)
     }
 }

@@ -15,7 +15,7 @@ pub enum Stop {
     SchemaFile,
     /// A rule of schemas is broken, by the node of this number, counted from 0.
     SchemaRule { rule: u32, node: usize },
-    /// The root's id names no struct that is taken.
+    /// The root's id names no struct, or a group.
     Root,
     /// The calls file can't be read, or has another form.
     CallsFile,

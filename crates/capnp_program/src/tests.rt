@@ -3,6 +3,7 @@
 use super::samples::{ROOT, schema};
 use super::stop::Stop;
 use capnp_calls::{Call, CallValue, Step, Verb};
+use capnp_queries::laws::struct_is_node;
 use capnp_queries::structs::StructSchema;
 use capnp_relay::ends::{Counts, Fault, RelayFault};
 use capnp_relay::options::{Form, ReaderOptions, RelayOptions};
@@ -80,7 +81,7 @@ fn relay_in(
     let mut source = input;
     let mut out = Vec::new(alloc);
     let mut log = Vec::new(alloc);
-    capnp_queries::laws::struct_is_node();
+    struct_is_node();
     let root = StructSchema::new(&set, raw);
     let ended = relay(
         alloc,

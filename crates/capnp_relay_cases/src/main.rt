@@ -16,30 +16,60 @@ use std::alloc::Global;
 use std::process::ExitCode;
 use std::{env, fs, io};
 
-/// How many runs there were, how many of them are as they should be, whole or before a message is read, and how many weren't compared.
-#[derive(Clone, Copy, Default)]
+/// How many runs are as they should be, whole or before a message is read, how many weren't compared, and the lines of those that differ.
+#[derive(Drop)]
 struct Counts {
     whole: u64,
     begun: u64,
-    other: u64,
     passed_over: u64,
+    differing: Vec<u64>,
 }
 
 fn count(alloc: Global, text: &str) -> Result<Counts, Fault> {
-    let mut counts = Counts::default();
+    let mut counts = Counts {
+        whole: 0,
+        begun: 0,
+        passed_over: 0,
+        differing: Vec::new(alloc),
+    };
+    let mut number: u64 = 0;
     for line in text.lines() {
+        number = number.saturating_add(1);
         let Ok(run) = Json::from_str(alloc, line) else {
             return Err(Fault::Shape);
         };
-        let place = match compare(alloc, &run)? {
-            Compared::Whole => &mut counts.whole,
-            Compared::Begun => &mut counts.begun,
-            Compared::Other => &mut counts.other,
-            Compared::PassedOver => &mut counts.passed_over,
-        };
-        *place = place.saturating_add(1);
+        match compare(alloc, &run)? {
+            Compared::Whole => counts.whole = counts.whole.saturating_add(1),
+            Compared::Begun => counts.begun = counts.begun.saturating_add(1),
+            Compared::PassedOver => counts.passed_over = counts.passed_over.saturating_add(1),
+            Compared::Other => counts.differing.push(number)?,
+        }
     }
     Ok(counts)
+}
+
+/// Prints the counts; the status is 0 where no run differs.
+fn report(rt: &HostRuntime, counts: &Counts) -> io::Result<ExitCode> {
+    let Counts {
+        whole,
+        begun,
+        passed_over,
+        differing,
+    } = counts;
+    println!(rt; "{whole} runs are as they should be")?;
+    println!(rt;
+        "{begun} runs that the relay doesn't take are answered as they should be before a message is read"
+    )?;
+    println!(rt; "{passed_over} runs are not compared: a call of theirs sets a message")?;
+    for line in differing {
+        println!(rt; "the run of line {line} differs")?;
+    }
+    println!(rt; "{} runs differ", differing.len())?;
+    if differing.is_empty() && *whole > 0 {
+        Ok(ExitCode::SUCCESS)
+    } else {
+        Ok(ExitCode::FAILURE)
+    }
 }
 
 fn run(rt: &HostRuntime) -> io::Result<ExitCode> {
@@ -49,26 +79,7 @@ fn run(rt: &HostRuntime) -> io::Result<ExitCode> {
     };
     let text = fs::read_to_string(rt, name.as_str())?;
     match count(rt.alloc(), text.as_str()) {
-        Ok(
-            Counts {
-                whole,
-                begun,
-                other,
-                passed_over,
-            },
-        ) => {
-            println!(rt; "{whole} runs are as they should be")?;
-            println!(rt;
-                "{begun} runs that the relay doesn't take are answered as they should be before a message is read"
-            )?;
-            println!(rt; "{passed_over} runs are not compared: a call of theirs sets a message")?;
-            println!(rt; "{other} runs differ")?;
-            if other == 0 && whole > 0 {
-                Ok(ExitCode::SUCCESS)
-            } else {
-                Ok(ExitCode::FAILURE)
-            }
-        }
+        Ok(counts) => report(rt, &counts),
         Err(fault) => {
             println!(rt; "{fault}")?;
             Ok(ExitCode::FAILURE)

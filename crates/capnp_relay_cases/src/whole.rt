@@ -6,18 +6,86 @@ use capnp_calls::{CallValue, Step, Verb};
 use capnp_files::calls_file::calls_file;
 use capnp_files::fault::FileFault;
 use capnp_files::schema_file::schema_file;
+use capnp_program::arguments::Arguments;
 use capnp_program::program::program;
+use capnp_queries::introspect::TypeVariant;
+use capnp_queries::laws::struct_is_node;
+use capnp_queries::structs::StructSchema;
 use capnp_records::fault::SchemaFault;
+use capnp_records::node::FieldBody;
 use capnp_records::set::SchemaSet;
 use serde_json::Value as Json;
 use std::alloc::Global;
 
-/// The greatest word limit of the runs that are compared whole; with a greater one the region of a run would be as large.
-const MOST_WORDS: usize = 1 << 24;
+/// The greatest word limit of the runs that are compared whole: 2^16. The region of a run is as large as its limit.
+const MOST_WORDS: usize = 65536;
 
-/// Whether the relay takes the root, or the schema file or the root is refused.
-fn takes_root(alloc: Global, schema: &[u8], root: &str) -> Result<bool, Fault> {
-    let Ok(root) = root.parse::<u64>() else {
+/// What stands behind the calls of a file that names no limit, in place of the last brace.
+const WORDS_MEMBER: &[u8] = b",\"words\":65536}";
+
+/// Whether the relay takes a call of one name: one that finds nothing, or a slot, unless it gets a struct or a list.
+fn takes_name(root: StructSchema<'_>, name: &str, verb: Verb) -> Result<bool, Fault> {
+    let Ok(found) = root.find_field_by_name(name) else {
+        return Err(Fault::Shape);
+    };
+    let Some(field) = found else {
+        return Ok(true);
+    };
+    if let FieldBody::Group { node: _ } = field.get_proto().body {
+        return Ok(false);
+    }
+    Ok(
+        verb != Verb::Get
+            || !matches!(
+                field.get_type().which(),
+                TypeVariant::Struct(_) | TypeVariant::List(_)
+            ),
+    )
+}
+
+/// Whether the relay takes a call, which sets no message; a call without a step is refused.
+fn takes_call(
+    root: StructSchema<'_>,
+    path: &[Step],
+    verb: Verb,
+    value: Option<&CallValue>,
+) -> Result<bool, Fault> {
+    if matches!(value, Some(CallValue::Message(_))) {
+        return Ok(false);
+    }
+    match path {
+        [] | [Step::Index(_)] => Ok(true),
+        [Step::Name(name)] => takes_name(root, name.as_str(), verb),
+        [_, _, ..] => Ok(false),
+    }
+}
+
+/// Whether the relay takes the calls at a root, within a region that isn't too large, or their file or the limits are refused.
+fn takes_calls(alloc: Global, root: StructSchema<'_>, calls: &[u8]) -> Result<bool, Fault> {
+    let file = match calls_file(alloc, calls) {
+        Ok(file) => file,
+        Err(FileFault::Form) => return Ok(true),
+        Err(FileFault::Memory) => return Err(Fault::Memory),
+    };
+    if file.words > MOST_WORDS && file.words < 0x1fff_ffff {
+        return Ok(false);
+    }
+    for (path, verb, value) in &file.calls {
+        if !takes_call(root, path, *verb, value.as_ref())? {
+            return Ok(false);
+        }
+    }
+    Ok(true)
+}
+
+/// Whether the relay takes the calls at the root of an id, or one of the files or the root is refused.
+fn takes(
+    alloc: Global,
+    root: u64,
+    schema: Option<&[u8]>,
+    calls: Option<&[u8]>,
+) -> Result<bool, Fault> {
+    let (Some(schema), Some(calls)) = (schema, calls) else {
         return Ok(true);
     };
     let nodes = match schema_file(alloc, schema) {
@@ -25,30 +93,16 @@ fn takes_root(alloc: Global, schema: &[u8], root: &str) -> Result<bool, Fault> {
         Err(FileFault::Form) => return Ok(true),
         Err(FileFault::Memory) => return Err(Fault::Memory),
     };
-    match SchemaSet::new(nodes) {
-        Err(SchemaFault::Memory) => Err(Fault::Memory),
-        Err(SchemaFault::Rule { rule: _, node: _ }) => Ok(true),
-        Ok(set) => Ok(set.struct_by_id(root).is_none() || set.plain_struct_by_id(root).is_some()),
-    }
-}
-
-/// Whether the relay takes a call: one of one step, or one that is refused.
-fn takes_call(path: &[Step], value: Option<&CallValue>) -> bool {
-    path.len() < 2 && !matches!(value, Some(CallValue::Message(_)))
-}
-
-/// Whether the relay takes the calls, within a region that isn't too large, or their file or the limits are refused.
-fn takes_calls(alloc: Global, calls: &[u8]) -> Result<bool, Fault> {
-    match calls_file(alloc, calls) {
-        Ok(file) if file.words > MOST_WORDS && file.words < 0x1fff_ffff => Ok(false),
-        Ok(file) => Ok(
-            file.calls
-                .iter()
-                .all(|(path, _verb, value)| takes_call(path, value.as_ref())),
-        ),
-        Err(FileFault::Form) => Ok(true),
-        Err(FileFault::Memory) => Err(Fault::Memory),
-    }
+    let set = match SchemaSet::new(nodes) {
+        Ok(set) => set,
+        Err(SchemaFault::Rule { rule: _, node: _ }) => return Ok(true),
+        Err(SchemaFault::Memory) => return Err(Fault::Memory),
+    };
+    let Some(raw) = set.struct_by_id(root) else {
+        return Ok(true);
+    };
+    struct_is_node();
+    takes_calls(alloc, StructSchema::new(&set, raw), calls)
 }
 
 /// The words of a run.
@@ -78,18 +132,38 @@ fn file_at(
     }
 }
 
-/// Whether the program does what it should, where the relay takes the schema and the calls; none where it doesn't.
+/// A calls file that names no word limit, with the limit 2^16 in place of 2^23, which would make each run clear 64 MiB; no message
+/// of the runs comes near it. Other files are as they are.
+fn limited(calls: Vec<u8>) -> Result<Vec<u8>, Fault> {
+    let mut calls = calls;
+    let is_open = match std::str::from_utf8(&calls) {
+        Ok(text) => {
+            text.starts_with("{\"calls\":") && text.ends_with('}') && !text.contains("\"words\"")
+        }
+        Err(_) => false,
+    };
+    if is_open {
+        let _brace = calls.pop();
+        calls.extend_from_slice(WORDS_MEMBER)?;
+    }
+    Ok(calls)
+}
+
+/// Whether the program does what it should, where the relay takes the calls; none where it doesn't.
 pub fn compare_whole(alloc: Global, run: &Json) -> Result<Option<bool>, Fault> {
     let words = words_of(alloc, run)?;
     let schema = file_at(alloc, run, &words, 0)?;
-    let calls = file_at(alloc, run, &words, 1)?;
-    if let ([_, _, root, _], Some(schema), Some(calls)) = (words.as_slice(), &schema, &calls) {
-        if !takes_root(alloc, schema, root.as_str())? || !takes_calls(alloc, calls)? {
-            return Ok(None);
-        }
-    }
+    let calls = match file_at(alloc, run, &words, 1)? {
+        Some(calls) => Some(limited(calls)?),
+        None => None,
+    };
     if words.len() == 5 {
         return Ok(None);
+    }
+    if let Some(arguments) = Arguments::new(&words) {
+        if !takes(alloc, arguments.root, schema.as_deref(), calls.as_deref())? {
+            return Ok(None);
+        }
     }
     let input = hex_of(alloc, run, "stdin")?;
     let mut source = input.as_slice();
