@@ -1,6 +1,5 @@
 -- What fields show is what the model reads.
 use Rattle.std.proofs.Common.{◌≡◌, ℕ, zero, suc, ◌+◌, ◌*◌, ◌%◌, ◌^◌, ◌<◌, ◌≤◌, ◌==◌, ◌⊎◌, inl, inr, nat_le, Bool, true, false, if◌then◌else◌, Option, Some, None, Ok, refl, ap, sym, ◌∙◌, subst, arith}
-use Rattle.std.specs.Prelude.{bit_xor}
 use Rattle.std.specs.Option.{ok_or}
 use Rattle.std.proofs.Math.Nat.{div-eq_of_lt, pow-le-pow_right, zero-mod}
 use Rattle.std.proofs.lemmas.Bool.Decides.{nat_tests}
@@ -11,15 +10,14 @@ use Rattle.capnp_model.specs.Segments.{Segments, Place, word_at}
 use Rattle.capnp_model.specs.Pointers.{found_at, found_by, pointer_of, nothing}
 use Rattle.capnp_model.specs.Trees.{Tree, null, Trees, none, ◌▸◌, child}
 use Rattle.capnp_model.specs.Traversal.{tree_at}
-use Rattle.capnp_model.specs.Schemas.{PlainType, bool, int, uint, «enum», width, BaseType, TypeRecord, lists_of, base_type, type_of, Ty, void, plain, text, blob, untyped, interface, struct, list, Value, FieldKind, slot, group, Schema}
-use Rattle.capnp_model.specs.Readings.{Reading, number, body_of, field_bits, Extent, whole_words, just_bits, read, read_child}
-use Rattle.capnp_model.specs.Accepted.{default_bits, slot_body, field_body}
+use Rattle.capnp_model.specs.Schemas.{PlainType, bool, int, uint, «enum», width, BaseType, lists_of, base_type, Ty, plain, Schema}
+use Rattle.capnp_model.specs.Readings.{Reading, number, field_bits, Extent, whole_words, just_bits, read, read_child}
 use Rattle.capnp_model.proofs.Chaining.{some_is}
 use Rattle.capnp_wire.specs.Views.{PointerView, StructView, pointer_field}
 use Rattle.capnp_wire.specs.Reads.{is_null_at, is_null}
 use Rattle.capnp_wire.specs.Laws.{reads_behind}
-use Rattle.capnp_values.specs.Shown.{number_shown, opened, default_opened, slot_opened, slot_shown, kind_shown}
-use Rattle.capnp_values.specs.Standing.{Leads, Stands, IsExtent, or_empty, filled, HasNoNullDefault, Answers, IsPointerType, PointersAreRead, FieldsAreRead, DiscriminantsAreRead}
+use Rattle.capnp_values.specs.Shown.{number_shown, opened}
+use Rattle.capnp_values.specs.Standing.{Leads, Stands, IsExtent, or_empty, Answers, IsPointerType, PointersAreRead, DiscriminantsAreRead}
 
 -- ---- bits
 
@@ -91,7 +89,7 @@ sixty_four : aligned 64
 unfolding aligned
 sixty_four o words e = grind (arith, nat_tests)
 
-aligned_by : (w : ℕ) → (w ≡ 1) ⊎ (w ≡ 8) ⊎ (w ≡ 16) ⊎ (w ≡ 32) ⊎ (w ≡ 64) → Aligned w
+pub aligned_by : (w : ℕ) → (w ≡ 1) ⊎ (w ≡ 8) ⊎ (w ≡ 16) ⊎ (w ≡ 32) ⊎ (w ≡ 64) → Aligned w
 aligned_by w (inl e) = subst Aligned (sym e) (behind 1 one)
 aligned_by w (inr (inl e)) = subst Aligned (sym e) (behind 8 eight)
 aligned_by w (inr (inr (inl e))) = subst Aligned (sym e) (behind 16 sixteen)
@@ -114,14 +112,14 @@ word_bits x a n k h l = by (nat_le (a + n) k) refl
     by false e = elim l [ inl f ↦ absurd (no_le (a + n) k e f) | inr f ↦ sym (none_above x a n k h f) ]
 
 -- the bits that a struct shows are those of the value's section
-bits_shown : (v : StructView) (e : Extent) (section w o : ℕ) → IsExtent e v → v.section ≡ section → Aligned w → field_bits (just_bits v.bits) v.section (w * o) w ≡ field_bits e section (w * o) w
+pub bits_shown : (v : StructView) (e : Extent) (section w o : ℕ) → IsExtent e v → v.section ≡ section → Aligned w → field_bits (just_bits v.bits) v.section (w * o) w ≡ field_bits e section (w * o) w
 bits_shown v (just_bits size) section w o extent same h = ap (λ b. field_bits (just_bits b) v.section (w * o) w) extent ∙ ap (λ x. field_bits (just_bits size) x (w * o) w) same
 bits_shown v whole_words section w o extent same h =
     ap (λ b. field_bits (just_bits b) v.section (w * o) w) extent.1 ∙ word_bits v.section (w * o) w (64 * extent.0) extent.2 (h o extent.0) ∙ ap (λ x. bits_at (w * o) w x) same
 
 -- ---- null pointers
 
-word_null : (s : Segments) (q : Place) → is_null_at s (Some q) ≡ true → found_at s q ≡ Ok (record { pads = 0; object = nothing })
+pub word_null : (s : Segments) (q : Place) → is_null_at s (Some q) ≡ true → found_at s q ≡ Ok (record { pads = 0; object = nothing })
 word_null s q e = by (word_at s q) e
   where
     word : (w : ℕ) (b : Bool) → (w == 0) ≡ b → b ≡ true → (if b then Ok (record { pads = 0; object = nothing }) else found_by s q (pointer_of w)) ≡ Ok (record { pads = 0; object = nothing })
@@ -132,7 +130,7 @@ word_null s q e = by (word_at s q) e
     by None f = absurd cc
     by (Some w) f = word w (w == 0) refl f
 
-null_tree : (n : ℕ) (s : Segments) (q : Place) → found_at s q ≡ Ok (record { pads = 0; object = nothing }) → tree_at n s q ≡ Some null
+pub null_tree : (n : ℕ) (s : Segments) (q : Place) → found_at s q ≡ Ok (record { pads = 0; object = nothing }) → tree_at n s q ≡ Some null
 unfolding tree_at
 null_tree zero s q e = rw e refl
 null_tree (suc n) s q e = rw e refl
@@ -147,7 +145,7 @@ null_behind n p t leads e = by p.place e leads.tree
 
 -- ---- slots
 
-child_read : (s : Schema) (ts : Trees) (i : ℕ) (ty : Ty) → read_child s ts i ty ≡ read s (child ts i) ty
+pub child_read : (s : Schema) (ts : Trees) (i : ℕ) (ty : Ty) → read_child s ts i ty ≡ read s (child ts i) ty
 unfolding read
 child_read s none i ty = refl
 child_read s (t ▸ ts) zero ty = refl
@@ -164,34 +162,6 @@ module _ (pointers : PointersAreRead) (n : ℕ) (v : StructView) (e : Extent) (s
   pointer_read i ty pointer =
       let P : Reading → Type 0 = λ r. Answers s (opened s ty (pointer_field v i)) (or_empty s ty r) in
       subst P (sym (child_read s kids i ty)) (pointers n (pointer_field v i) (child kids i) s ty pointer (stands.children i))
-
-  slot_read : (i : ℕ) (ty : Ty) (d : Option Value) → IsPointerType ty → (child kids i ≡ null → d ≡ None) → Answers s (slot_opened s ty d (pointer_field v i)) (or_empty s ty (read_child s kids i ty))
-  slot_read i ty None pointer h = pointer_read i ty pointer
-  slot_read i ty (Some d) pointer h = by (is_null (pointer_field v i)) refl
-    where
-      by : (b : Bool) → is_null (pointer_field v i) ≡ b → Answers s (if b then default_opened s ty (pointer_field v i) d else opened s ty (pointer_field v i)) (or_empty s ty (read_child s kids i ty))
-      by true f = let none_is : ◌≡◌ {A = Option Value} (Some d) None = h (null_behind n (pointer_field v i) (child kids i) (stands.children i) f) in absurd cc
-      by false f = pointer_read i ty pointer
-
-  slot_type_read : (o : ℕ) (ty : TypeRecord) (d : Option Value) (t : Ty) → type_of ty ≡ t → (child kids o ≡ null → d ≡ None) → Answers s (slot_shown s v o t d) (filled s (slot_body o t d) (body_of (slot_body o t d) e section (read_child s kids)))
-  unfolding body_of
-  slot_type_read o ty d void is h = refl
-  slot_type_read o ty d (plain p) is h =
-      number_read s p _ _ (ap (λ x. bit_xor x (default_bits d)) (bits_shown v e section (width p) o stands.extent stands.same (aligned_by (width p) (plain_base ty.base p (plain_type ty.list_count ty.base p is)))))
-  slot_type_read o ty d text is h = slot_read o text d tt h
-  slot_type_read o ty d blob is h = slot_read o blob d tt h
-  slot_type_read o ty d untyped is h = slot_read o untyped d tt h
-  slot_type_read o ty d interface is h = slot_read o interface d tt h
-  slot_type_read o ty d (struct id) is h = slot_read o (struct id) d tt h
-  slot_type_read o ty d (list t) is h = slot_read o (list t) d tt h
-
-  field_read : (k : FieldKind) → HasNoNullDefault kids k → Answers s (kind_shown s v k) (filled s (field_body s.shape_of k) (body_of (field_body s.shape_of k) e section (read_child s kids)))
-  unfolding body_of
-  field_read (slot o ty d) h = slot_type_read o ty d (type_of ty) refl h
-  field_read (group id) h = (refl, record { levels = n; extent = e; section = section; kids = kids; stands = stands; is = refl })
-
-pub fields : PointersAreRead → FieldsAreRead
-fields pointers n v e section kids s k stands h = field_read pointers n v e section kids s stands k h
 
 pub discriminants : DiscriminantsAreRead
 discriminants n v e section kids None stands = refl

@@ -23,6 +23,7 @@ use Rattle.capnp_queries.specs.declared.fields.Field.{Field}
 use Rattle.capnp_records.specs.Sets.{nodes_of}
 use Rattle.capnp_model.specs.Accepted.{schema_of, default_bits}
 use Rattle.capnp_values.specs.ListSizes.{size_of}
+use Rattle.capnp_values.specs.GoodDefaults.{KeepsDefault}
 use Rattle.capnp_values.specs.Sources.{read_behind, default_pointer, masked_bits, pointer_seen, struct_seen, list_seen}
 use Rattle.capnp_values.specs.declared.dynamic_list.Reader as dynamic
 use Rattle.capnp_values.specs.declared.dynamic_value.Reader.{Reader}
@@ -144,10 +145,11 @@ shown bytes (value.Capability c) = a_capability
 abbrev pub shown_at : {A : Type 0} → (A → List (List ℕ)) → dynamic.Reader A → ℕ → Result Shown Kind
 shown_at bytes l i = element_shown (schema_of (nodes_of l.set.now)) (ty_of l.element_type) (list_seen bytes l.source) i
 
--- What a get of a field answers: what the field shows of the struct, by its own record.
+-- What a get of a field answers: what the field shows of the struct, by its own record, whose default keeps the rules.
 pub record ShowsField {A : Type 0} (bytes : A → List (List ℕ)) (v : StructView) (f : Field) (r : Result (Reader A) Error) : Type 0 where
   pub said : FieldNode
   pub is : IsFieldRecord f.parent f.index said
+  pub default : KeepsDefault said.kind
   pub shows : seen (shown bytes) r ≡ kind_shown (schema_around f.parent) v said.kind
 
 -- ---- whether a field is there

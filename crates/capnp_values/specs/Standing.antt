@@ -1,16 +1,17 @@
 -- Where what is shown stands at a value, and what it reads as there. (Encoding, "Value Encoding")
-use Rattle.std.specs.Prelude.{ℕ, ◌≡◌, ◌*◌, ◌^◌, ◌<◌, ◌≤◌, [], Option, Some, None, option_map, Result, Ok, Err}
+use Rattle.std.specs.Prelude.{ℕ, ◌≡◌, ◌*◌, ◌^◌, ◌<◌, ◌≤◌, [], Option, Some, option_map, Result, Ok, Err}
 use Rattle.capnp_model.specs.Kinds.{Kind}
 use Rattle.capnp_model.specs.Trees.{Tree, null, is_null, Trees, child}
 use Rattle.capnp_model.specs.Trimming.{trim}
 use Rattle.capnp_model.specs.Traversal.{tree_at}
-use Rattle.capnp_model.specs.Schemas.{TypeRecord, type_of, Ty, void, plain, text, blob, untyped, interface, struct, list, FieldKind, slot, group, Shape, Schema, Body, void_slot, plain_slot, pointer_slot, group_slot}
+use Rattle.capnp_model.specs.Schemas.{TypeRecord, type_of, Ty, void, plain, text, blob, untyped, interface, struct, list, FieldKind, slot, group, Shape, Schema, Body, void_slot, plain_slot, pointer_slot, group_slot, default_or_null}
 use Rattle.capnp_model.specs.Accepted.{field_body}
 use Rattle.capnp_model.specs.Readings.{Reading, inactive, null_pointer, fault, number, text_of, blob_of, list_of, record_as, opaque, Readings, no_readings, Extent, whole_words, just_bits, no_children, discriminant, shape_record, body_of, read, read_child}
 use Rattle.capnp_model.specs.ActiveMembers.{element_of as reading_of}
 use Rattle.capnp_wire.specs.Views.{PointerView, StructView, ListView, pointer_field}
 use Rattle.capnp_wire.specs.Reads.{is_null as pointer_is_null}
 use Rattle.capnp_wire.specs.Laws.{reads_behind, ShowsList}
+use Rattle.capnp_values.specs.GoodDefaults.{IsGoodDefault}
 use Rattle.capnp_values.specs.Shown.{Shown, a_number, an_enum, a_text, a_blob, a_struct, a_list, a_pointer, a_capability, opened, kind_shown, element_shown}
 
 -- The pointer leads to a value of so many levels at most, and they are left.
@@ -117,21 +118,33 @@ IsPointerType (list ty) = Unit {0}
 abbrev pub PointersAreRead : Type 0
 PointersAreRead = (n : ℕ) (p : PointerView) (t : Tree) (s : Schema) (ty : Ty) → IsPointerType ty → Leads n p t → Answers s (opened s ty p) (or_empty s ty (read s t ty))
 
--- A field's reading, a null pointer as the empty value of its type.
+-- A reading, a null pointer as its default, which is null where there is none, or else as the empty value of the type.
+abbrev pub or_default : Schema → Ty → Tree → Reading → Reading
+or_default s ty d inactive = inactive
+or_default s ty d null_pointer = or_empty s ty (read s d ty)
+or_default s ty d (fault kind) = fault kind
+or_default s ty d (number n) = number n
+or_default s ty d (text_of bytes) = text_of bytes
+or_default s ty d (blob_of bytes) = blob_of bytes
+or_default s ty d (list_of rs) = list_of rs
+or_default s ty d (record_as r) = record_as r
+or_default s ty d (opaque t) = opaque t
+
+-- A field's reading, a null pointer as its default, else as the empty value of its type.
 abbrev pub filled : Schema → Body → Reading → Reading
 filled s (void_slot j) r = r
 filled s (plain_slot p at d) r = r
-filled s (pointer_slot i ty d) r = or_empty s ty r
+filled s (pointer_slot i ty d) r = or_default s ty (default_or_null d) r
 filled s (group_slot g) r = r
 
--- The field lies behind a pointer that isn't null, or that has no default.
-abbrev pub HasNoNullDefault : Trees → FieldKind → Type 0
-HasNoNullDefault kids (slot offset ty d) = child kids offset ≡ null → d ≡ None
-HasNoNullDefault kids (group id) = Unit {0}
+-- The field lies behind a pointer that isn't null, or its default keeps the rules.
+abbrev pub HasGoodDefault : Trees → FieldKind → Type 0
+HasGoodDefault kids (slot offset ty d) = child kids offset ≡ null → IsGoodDefault (type_of ty) d
+HasGoodDefault kids (group id) = Unit {0}
 
--- What is shown of a field is what the model reads of the struct there.
+-- What is shown of a field is what the model reads of the struct there, or of the field's default where the pointer is null.
 abbrev pub FieldsAreRead : Type 0
-FieldsAreRead = (n : ℕ) (v : StructView) (e : Extent) (section : ℕ) (kids : Trees) (s : Schema) (k : FieldKind) → Stands n v e section kids → HasNoNullDefault kids k
+FieldsAreRead = (n : ℕ) (v : StructView) (e : Extent) (section : ℕ) (kids : Trees) (s : Schema) (k : FieldKind) → Stands n v e section kids → HasGoodDefault kids k
     → let body = field_body s.shape_of k in Answers s (kind_shown s v k) (filled s body (body_of body e section (read_child s kids)))
 
 -- What each element of a list shows is what the value's element reads as, a null pointer as the empty value of its type; past the last there is none.

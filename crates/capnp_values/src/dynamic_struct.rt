@@ -1,10 +1,12 @@
 //! Structs whose schema is known at run time.
-ghost use Rattle.std.specs.Prelude.{◌≡◌, Ok, IsOkAnd, option_map, option_copied};
+ghost use Rattle.std.specs.Prelude.{◌≡◌, ◌<◌, ◌^◌, Ok, IsOkAnd, IfSome, option_map, option_copied};
+ghost use Rattle.std.specs.List.{AllByRecursion};
 ghost use Rattle.capnp_wire.specs.Views.{seen_struct};
 ghost use Rattle.capnp_wire.specs.ValueSizes.{StructSizeOf};
 ghost use Rattle.capnp_values.specs.Sources.{struct_seen, WithoutLimit};
 ghost use Rattle.capnp_records.specs.NodeViews.{kind_of_field, value_of};
 ghost use Rattle.capnp_queries.specs.Handles.{entry_of, IsFieldAt};
+ghost use Rattle.capnp_values.specs.GoodDefaults.{HasBytes};
 ghost use Rattle.capnp_values.specs.Shown.{default_said, ShowsField, discriminant_shown, is_active_field, is_null_slot, has_field, active_index, AnswersNamed};
 
 use crate::dynamic_value;
@@ -20,13 +22,34 @@ use capnp_units::sizes::MessageSize;
 use capnp_wire::arena::ReaderArena;
 use capnp_wire::structs::StructReader;
 
+/// A text's or data's bytes are bytes.
+fn are_bytes(bytes: &[u8])
+    ensures { AllByRecursion (λ b. b < 2 ^ 8) bytes.now }
+{}
+
+/// A default, whose bytes are bytes.
+fn with_bytes(value: &Value) -> &Value
+    ensures same { result.now ≡ value.now }
+    ensures bytes { HasBytes (value_of value.now) }
+{
+    match value {
+        Value::Text(bytes) | Value::Data(bytes) => are_bytes(bytes),
+        _ => {}
+    }
+    value
+}
+
 /// The default that a slot's record says.
 fn default_of(body: &FieldBody) -> Option<&Value>
-    ensures { option_map value_of (option_copied result) ≡ default_said (kind_of_field body.now) }
+    ensures said { option_map value_of (option_copied result) ≡ default_said (kind_of_field body.now) }
+    ensures bytes { IfSome (default_said (kind_of_field body.now)) HasBytes }
 {
     match body {
-        FieldBody::Slot { default, .. } => default.as_ref(),
-        FieldBody::Group { .. } => None,
+        FieldBody::Slot {
+            default: Some(value),
+            ..
+        } => Some(with_bytes(value)),
+        _ => None,
     }
 }
 
@@ -71,6 +94,7 @@ impl<'a, A: ReaderArena> Reader<'a, A> {
     {
         let set = field.parent().set();
         let said = field.get_proto();
+        let default = default_of(&said.body);
         match field.place() {
             FieldPlace::Void { .. } => Ok(dynamic_value::Reader::Void),
             FieldPlace::Plain {
@@ -83,7 +107,7 @@ impl<'a, A: ReaderArena> Reader<'a, A> {
                     self.source.pointer(index as usize),
                     set,
                     field.get_type(),
-                    default_of(&said.body),
+                    default,
                 )
             }
             FieldPlace::Group { schema } => Ok(dynamic_value::Reader::Struct(Reader {

@@ -1,4 +1,5 @@
 //! Laws of what is shown, each the contract of an empty function: a call of it brings its clauses.
+ghost use Rattle.capnp_values.specs.Records.{FieldsOfRecords, MembersOfRecords};
 ghost use Rattle.capnp_values.specs.Standing.{PointersAreRead, FieldsAreRead, ElementsAreRead, DiscriminantsAreRead, NullsAreRead};
 
 use capnp_wire::laws::{gets_are_readings, values_by_levels};
@@ -11,7 +12,7 @@ pub fn pointers_are_read()
     gets_are_readings();
 }
 
-/// What a field shows of a struct that stands at a value is what the model reads of it there, at every type: a plain field its bits, a group the record of the same section and children, one behind a pointer what the child reads as. A null pointer that has a default isn't spoken of.
+/// What a field shows of a struct that stands at a value is what the model reads of it there, at every type: a plain field its bits, a group the record of the same section and children, one behind a pointer what the child reads as, and a null pointer what the value of the default reads as, with 64 levels of its own whatever the message has left, else the empty value. A default has to keep the schema rules only where the pointer is null.
 pub fn fields_are_read()
     ensures { FieldsAreRead }
 {
@@ -34,3 +35,11 @@ pub fn discriminants_are_read()
 pub fn nulls_are_read()
     ensures { NullsAreRead }
 {}
+
+/// All that a struct shows, which stands where its record is read, is that record: `has` of a field says whether the record has it, neither a member that isn't active nor a null pointer; what `get` shows of one that is no such member is what the record has, a null pointer as its default, else as the empty value; and `which` gives the first union member that the record has.
+pub fn records_are_read()
+    ensures fields { FieldsOfRecords }
+    ensures members { MembersOfRecords }
+{
+    pointers_are_read();
+}

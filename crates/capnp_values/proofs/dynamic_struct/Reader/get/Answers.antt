@@ -12,6 +12,7 @@ use Rattle.capnp_queries.specs.Fields.{entry_in}
 use Rattle.capnp_queries.specs.declared.slots.FieldPlace.TheVariants as place
 use Rattle.capnp_values.specs.Sources.{pointer_seen, struct_seen, masked_bits}
 use Rattle.capnp_values.specs.Shown.{Shown, a_struct, number_shown, slot_opened}
+use Rattle.capnp_values.proofs.GoodDefaults.{good_default}
 use Rattle.capnp_values.proofs.FieldKinds.{body_said, shown_by_body}
 use Rattle.capnp_values.proofs.Named.{pointer_type}
 use Rattle.capnp_values.proofs.PlainDefaults.{default_fits}
@@ -37,7 +38,7 @@ returns-in-Void g c =
     let said = field_of c.get_proto-said.result.now in
     let b = body_of_place (place.Void c.in-Void.offset) in
     let is = body_said (entry_of c.args.field) (entry_in s said) b c.get_proto-said.ensures.entry c.in-Void.ensures.body in
-    record { said = said; is = c.get_proto-said.ensures; shows = sym (shown_by_body s (struct_seen g.A.ReaderArena.segments c.args.self.source) said.kind b is) }
+    record { said = said; is = c.get_proto-said.ensures; default = good_default c.args.field.parent c.args.field.index said c.get_proto-said.ensures c.default_of-default.ensures.bytes; shows = sym (shown_by_body s (struct_seen g.A.ReaderArena.segments c.args.self.source) said.kind b is) }
 
 pub returns-in-Plain : goal.returns-in-Plain
 returns-in-Plain g c =
@@ -48,7 +49,7 @@ returns-in-Plain g c =
     let v = struct_seen g.A.ReaderArena.segments c.args.self.source in
     let ty = plain_of c.in-Plain.ty in
     let bits = masked_bits v (width ty * c.in-Plain.offset) (width ty) c.in-Plain.default_bits in
-    record { said = said; is = c.get_proto-said.ensures; shows = ap (λ (x : Shown). answered x) (c.plain_value.ensures ∙ ap (λ nodes. number_shown (schema_of nodes) ty bits) (c.set-set.ensures ∙ ap nodes_around c.parent.ensures)) ∙ sym (shown_by_body s v said.kind b is) }
+    record { said = said; is = c.get_proto-said.ensures; default = good_default c.args.field.parent c.args.field.index said c.get_proto-said.ensures c.default_of-default.ensures.bytes; shows = ap (λ (x : Shown). answered x) (c.plain_value.ensures ∙ ap (λ nodes. number_shown (schema_of nodes) ty bits) (c.set-set.ensures ∙ ap nodes_around c.parent.ensures)) ∙ sym (shown_by_body s v said.kind b is) }
 
 pub returns-in-Group : goal.returns-in-Group
 returns-in-Group g c =
@@ -58,7 +59,7 @@ returns-in-Group g c =
     let v = struct_seen g.A.ReaderArena.segments c.args.self.source in
     let inner = shape_of_struct c.in-Group.schema in
     let is = body_said (entry_of c.args.field) (entry_in s said) b c.get_proto-said.ensures.entry c.in-Group.ensures.body in
-    record { said = said; is = c.get_proto-said.ensures; shows = ap (λ nodes. answered (a_struct (schema_of nodes) inner v)) c.in-Group.ensures.of_set ∙ sym (shown_by_body s v said.kind b is) }
+    record { said = said; is = c.get_proto-said.ensures; default = good_default c.args.field.parent c.args.field.index said c.get_proto-said.ensures c.default_of-default.ensures.bytes; shows = ap (λ nodes. answered (a_struct (schema_of nodes) inner v)) c.in-Group.ensures.of_set ∙ sym (shown_by_body s v said.kind b is) }
 
 pub returns-in-Pointer : goal.returns-in-Pointer
 returns-in-Pointer g c =
@@ -70,16 +71,17 @@ returns-in-Pointer g c =
     let is = body_said (entry_of f) (entry_in s said) b c.get_proto-said.ensures.entry c.in-Pointer.ensures.body in
     let got = ty_of c.get_type.result in
     let ty = ty_of c.in-Pointer.ty in
-    let d = option_map value_of (option_copied c.default_of.result) in
+    let d = option_map value_of (option_copied c.default_of-default.result) in
     let p = pointer_seen g.A.ReaderArena.segments c.pointer.result in
     let same : got ≡ ty = pointer_type (entry_of f) c.in-Pointer.index ty got (default_tree (option_map value_of (option_copied c.in-Pointer.default))) c.in-Pointer.ensures.body c.get_type.ensures.ty in
     record {
       said = said;
       is = c.get_proto-said.ensures;
+      default = good_default f.parent f.index said c.get_proto-said.ensures c.default_of-default.ensures.bytes;
       shows = c.open_slot.ensures
           ∙ ap (λ nodes. slot_opened (schema_of nodes) got d p) (c.set-set.ensures ∙ ap nodes_around c.parent.ensures)
           ∙ ap (λ t. slot_opened s t d p) same
           ∙ ap (λ q. slot_opened s ty d q) c.pointer.ensures
-          ∙ ap (λ x. slot_opened s ty x (pointer_field v c.in-Pointer.index)) c.default_of.ensures
+          ∙ ap (λ x. slot_opened s ty x (pointer_field v c.in-Pointer.index)) c.default_of-default.ensures.said
           ∙ sym (shown_by_body s v said.kind b is);
     }
