@@ -6,7 +6,7 @@ use Rattle.std.proofs.lemmas.List.{take-take, take_at, drop_at, length-append, t
 use Rattle.capnp_model.specs.Chains.{◌>>=◌}
 use Rattle.capnp_model.specs.Sections.{section_of}
 use Rattle.capnp_model.specs.Segments.{Segments, Place, place, after, words_at}
-use Rattle.capnp_model.specs.Pointers.{a_struct, a_list}
+use Rattle.capnp_model.specs.Pointers.{Object, a_struct, a_list}
 use Rattle.capnp_model.specs.Trees.{Tree, structure, struct_list, Trees, Elements, no_elements, element, element_count}
 use Rattle.capnp_model.specs.Traversal.{Tag, tag_in, each, each_element, tree_of, tree_at}
 use Rattle.capnp_model.specs.Coverage.{Span, span, times_held, from_each, from_elements, covered_tag, covered_object, Keeps}
@@ -17,7 +17,7 @@ use Rattle.capnp_footprints.specs.Elements.{element_at, with_element}
 use Rattle.capnp_footprints.proofs.Spans.{held, held_is, held_split, times_held_append, words_front, words_back, words_join, keeps_front, keeps_back}
 use Rattle.capnp_footprints.proofs.Kept.{each_same, elements_same, value_same, words_length, tag_fits}
 use Rattle.capnp_footprints.proofs.Algebra.{changes_lift, beside_kept}
-use Rattle.capnp_footprints.proofs.Lift.{struct_parts}
+use Rattle.capnp_footprints.proofs.Lift.{struct_parts, alone, not_with}
 
 -- how often so many words, with what lies behind the pointers of the elements in them, take a word
 abbrev pub cells : ℕ → Segments → Place → ℕ → ℕ → ℕ → ℕ → Place → ℕ
@@ -84,18 +84,18 @@ pub record Replaced (n : ℕ) (s u : Segments) (p r : Place) (m d k c : ℕ) (es
   pub cells_are : (q : Place) → cells n u p m d k c q + object_footprint n s (a_struct r d k) q ≡ cells n s p m d k c q + object_footprint n u (a_struct r d k) q
 
 -- the struct at r becomes another
-module _ (n : ℕ) (s u : Segments) (r : Place) (d k section : ℕ) (kids : Trees) (h : Changes s u (object_footprint n s (a_struct r d k)) (object_footprint n u (a_struct r d k))) (new : tree_of u (tree_at n u) (a_struct r d k) ≡ Some (structure d section kids)) where
-  kept : (xs : List Span) → ((q : Place) → times_held xs q + object_footprint n s (a_struct r d k) q ≤ 1) → AllByRecursion (Keeps s u) xs
-  kept xs apart = beside_kept s u (object_footprint n s (a_struct r d k)) (object_footprint n u (a_struct r d k)) xs h apart
+module _ (n : ℕ) (s u : Segments) (r : Place) (d k section : ℕ) (kids : Trees) (e f : Place → ℕ) (h : Changes s u (λ q. object_footprint n s (a_struct r d k) q + e q) (λ q. object_footprint n u (a_struct r d k) q + f q)) (new : tree_of u (tree_at n u) (a_struct r d k) ≡ Some (structure d section kids)) where
+  kept : (xs : List Span) → ((q : Place) → times_held xs q + (object_footprint n s (a_struct r d k) q + e q) ≤ 1) → AllByRecursion (Keeps s u) xs
+  kept xs apart = beside_kept s u (λ q. object_footprint n s (a_struct r d k) q + e q) (λ q. object_footprint n u (a_struct r d k) q + f q) xs h apart
 
-  pub element_replaced : (p : Place) (m c i : ℕ) (ws : List ℕ) (es : Elements) → r ≡ after p (i * (d + k)) → i < c → c * (d + k) ≤ m → words_at s p m ≡ Some ws → ((q : Place) → cells n s p m d k c q ≤ 1) → each_element (tree_at n s) p ws d k c ≡ Some es → Replaced n s u p r m d k c (with_element es i section kids)
-  element_replaced p m zero i ws es e l fits w apart f = absurd (omega (arith, l))
-  element_replaced p m (suc c) zero ws es e l fits w apart f =
-      let at : r ≡ p = e ∙ first_place p (d + k) in
+  pub element_replaced : (p : Place) (m c i : ℕ) (ws : List ℕ) (es : Elements) → r ≡ after p (i * (d + k)) → i < c → c * (d + k) ≤ m → words_at s p m ≡ Some ws → ((q : Place) → cells n s p m d k c q + e q ≤ 1) → each_element (tree_at n s) p ws d k c ≡ Some es → Replaced n s u p r m d k c (with_element es i section kids)
+  element_replaced p m zero i ws es at_r l fits w apart is_e = absurd (omega (arith, l))
+  element_replaced p m (suc c) zero ws es at_r l fits w apart is_e =
+      let at : r ≡ p = at_r ∙ first_place p (d + k) in
       let sum = rest_of d k c m fits in
       let w' : words_at s p ((d + k) + (m - (d + k))) ≡ Some ws = subst (λ (x : ℕ). words_at s p x ≡ Some ws) sum w in
       let behind_it = words_back s p (d + k) (m - (d + k)) ws w' in
-      let x = bind_some (each (tree_at n s) (after p d) k) _ es f in
+      let x = bind_some (each (tree_at n s) (after p d) k) _ es is_e in
       let y = bind_some (each_element (tree_at n s) (after p (d + k)) (drop (d + k) ws) d k c) _ es x.2 in
       let same : (q : Place) → object_footprint n s (a_struct r d k) q ≡ object_footprint n s (a_struct p d k) q = λ q. ap (λ (z : Place). object_footprint n s (a_struct z d k) q) at in
       let same' : (q : Place) → object_footprint n u (a_struct r d k) q ≡ object_footprint n u (a_struct p d k) q = λ q. ap (λ (z : Place). object_footprint n u (a_struct z d k) q) at in
@@ -124,13 +124,13 @@ module _ (n : ℕ) (s u : Segments) (r : Place) (d k section : ℕ) (kids : Tree
             omega (arith, cells_next n s p m d k c q fits, cells_next n u p m d k c q fits, same q, same' q, t)
             );
       }
-  element_replaced p m (suc c) (suc i) ws es e l fits w apart f =
-      let at : r ≡ after (after p (d + k)) (i * (d + k)) = e ∙ next_place p (d + k) i in
+  element_replaced p m (suc c) (suc i) ws es at_r l fits w apart is_e =
+      let at : r ≡ after (after p (d + k)) (i * (d + k)) = at_r ∙ next_place p (d + k) i in
       let sum = rest_of d k c m fits in
       let w' : words_at s p ((d + k) + (m - (d + k))) ≡ Some ws = subst (λ (x : ℕ). words_at s p x ≡ Some ws) sum w in
       let here_it = words_front s p (d + k) (m - (d + k)) ws w' in
       let behind_it = words_back s p (d + k) (m - (d + k)) ws w' in
-      let x = bind_some (each (tree_at n s) (after p d) k) _ es f in
+      let x = bind_some (each (tree_at n s) (after p d) k) _ es is_e in
       let y = bind_some (each_element (tree_at n s) (after p (d + k)) (drop (d + k) ws) d k c) _ es x.2 in
       let le = element_le n s (after p (d + k)) r (m - (d + k)) d k c i at (omega (arith, l)) (rest_fits d k c m fits) in
       let words_kept : Keeps s u (span p (d + k)) = (kept (span p (d + k) ∷ []) (λ q. omega (arith, apart q, cells_next n s p m d k c q fits, struct_cells n s p d k q, le q, held_is p (d + k) [] q))).0 in
@@ -232,15 +232,17 @@ same_count no_elements i section kids = refl
 same_count (element s ts es) zero section kids = refl
 same_count (element s ts es) (suc i) section kids = ap suc (same_count es i section kids)
 
-pub list_of_element : (n : ℕ) (s u : Segments) (p : Place) (m d k i section : ℕ) (kids : Trees) (es : Elements) → i < element_count es → OwnsObject n s (a_list p 7 m) (struct_list d k es) → ReplacesObject n s u (a_struct (after (after p 1) (i * (d + k))) d k) (structure d section kids) → ReplacesObject n s u (a_list p 7 m) (struct_list d k (with_element es i section kids))
-list_of_element n s u p m d k i section kids es l o r =
+pub list_of_element_with : (n : ℕ) (s u : Segments) (p : Place) (m d k i section : ℕ) (kids : Trees) (es : Elements) (e f : Place → ℕ) → i < element_count es → OwnsObject n s (a_list p 7 m) (struct_list d k es) → ((q : Place) → object_footprint n s (a_list p 7 m) q + e q ≤ 1) → tree_of u (tree_at n u) (a_struct (after (after p 1) (i * (d + k))) d k) ≡ Some (structure d section kids)
+    → Changes s u (λ q. object_footprint n s (a_struct (after (after p 1) (i * (d + k))) d k) q + e q) (λ q. object_footprint n u (a_struct (after (after p 1) (i * (d + k))) d k) q + f q)
+    → (tree_of u (tree_at n u) (a_list p 7 m) ≡ Some (struct_list d k (with_element es i section kids))) × Changes s u (λ q. object_footprint n s (a_list p 7 m) q + e q) (λ q. object_footprint n u (a_list p 7 m) q + f q)
+list_of_element_with n s u p m d k i section kids es e f l o apart means changes =
     let x = element_parts n s p m d k es o.means in
     let fits = parts_fit n s p m d k es x in
     let slot : Place = after (after p 1) (i * (d + k)) in
     let le = element_le n s (after p 1) (after (after p 1) (i * (d + k))) m d k (element_count es) i refl l fits in
     let w1 = words_back s p 1 m x.words x.there in
-    let new = element_replaced n s u (after (after p 1) (i * (d + k))) d k section kids r.changes r.means (after p 1) m (element_count es) i (drop 1 x.words) es refl l fits w1 (λ q. omega (arith, o.apart q, list_is n s p m d k es q x)) x.elements_are in
-    let front : words_at u p 1 ≡ Some (take 1 x.words) = (beside_kept s u (object_footprint n s (a_struct (after (after p 1) (i * (d + k))) d k)) (object_footprint n u (a_struct (after (after p 1) (i * (d + k))) d k)) (span p 1 ∷ []) r.changes (λ q. omega (arith, o.apart q, list_is n s p m d k es q x, le q, held_is p 1 [] q))).0 _ (words_front s p 1 m x.words x.there) in
+    let new = element_replaced n s u (after (after p 1) (i * (d + k))) d k section kids e f changes means (after p 1) m (element_count es) i (drop 1 x.words) es refl l fits w1 (λ q. omega (arith, apart q, list_is n s p m d k es q x)) x.elements_are in
+    let front : words_at u p 1 ≡ Some (take 1 x.words) = (beside_kept s u (λ q. object_footprint n s (a_struct (after (after p 1) (i * (d + k))) d k) q + e q) (λ q. object_footprint n u (a_struct (after (after p 1) (i * (d + k))) d k) q + f q) (span p 1 ∷ []) changes (λ q. omega (arith, apart q, list_is n s p m d k es q x, le q, held_is p 1 [] q))).0 _ (words_front s p 1 m x.words x.there) in
     let one : length (take 1 x.words) ≡ 1 = words_length u p 1 _ front in
     let whole : length x.words ≡ 1 + m = words_length s p (1 + m) x.words x.there in
     let longer : length new.words ≡ m = words_length u (after p 1) m new.words new.there in
@@ -252,10 +254,14 @@ list_of_element n s u p m d k i section kids es l o r =
       there = words_join u p 1 m _ _ front new.there;
       tag_is = tag_alike x.words (take 1 x.words ++ new.words) _ head (omega (arith, whole, longer, one, length-append (take 1 x.words) new.words)) x.tag_is ∙ ap (λ (c : ℕ). let t : Tag = record { count = c; data_words = d; pointers = k } in Ok t) (sym count);
       elements_are = ap (λ (vs : List ℕ). each_element (tree_at n u) (after p 1) vs d k (element_count (with_element es i section kids))) tail ∙ ap (λ (c : ℕ). each_element (tree_at n u) (after p 1) new.words d k c) count ∙ new.elements_are;
-    } in
-    record {
-      means = list_of_parts n u p m d k (with_element es i section kids) parts;
-      changes = changes_lift s u (object_footprint n s (a_struct (after (after p 1) (i * (d + k))) d k)) (object_footprint n u (a_struct (after (after p 1) (i * (d + k))) d k)) (object_footprint n s (a_list p 7 m)) (object_footprint n u (a_list p 7 m)) r.changes
+    } in (
+      list_of_parts n u p m d k (with_element es i section kids) parts,
+      changes_lift s u (λ q. object_footprint n s (a_struct (after (after p 1) (i * (d + k))) d k) q + e q) (λ q. object_footprint n u (a_struct (after (after p 1) (i * (d + k))) d k) q + f q) (λ q. object_footprint n s (a_list p 7 m) q + e q) (λ q. object_footprint n u (a_list p 7 m) q + f q) changes
           (λ q. (let same : cells n u (after p 1) m d k (element_count (with_element es i section kids)) q ≡ cells n u (after p 1) m d k (element_count es) q = ap (λ (c : ℕ). cells n u (after p 1) m d k c q) count in omega (arith, list_is n s p m d k es q x, list_is n u p m d k (with_element es i section kids) q parts, same, new.cells_are q)))
-          (λ q. omega (arith, list_is n s p m d k es q x, le q));
-    }
+          (λ q. omega (arith, list_is n s p m d k es q x, le q)),
+    )
+
+pub list_of_element : (n : ℕ) (s u : Segments) (p : Place) (m d k i section : ℕ) (kids : Trees) (es : Elements) → i < element_count es → OwnsObject n s (a_list p 7 m) (struct_list d k es) → ReplacesObject n s u (a_struct (after (after p 1) (i * (d + k))) d k) (structure d section kids) → ReplacesObject n s u (a_list p 7 m) (struct_list d k (with_element es i section kids))
+list_of_element n s u p m d k i section kids es l o r =
+    let x = list_of_element_with n s u p m d k i section kids es (λ q. 0) (λ q. 0) l o (λ q. omega (arith, o.apart q)) r.means (alone s u (object_footprint n s (a_struct (after (after p 1) (i * (d + k))) d k)) (object_footprint n u (a_struct (after (after p 1) (i * (d + k))) d k)) r.changes) in
+    record { means = x.0; changes = not_with s u (object_footprint n s (a_list p 7 m)) (object_footprint n u (a_list p 7 m)) x.1 }

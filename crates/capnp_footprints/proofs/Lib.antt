@@ -21,4 +21,7 @@ pub mod Detached
 pub mod FarPointing
 pub mod Moving
 pub mod MovedChildren
+pub mod PointerRows
+pub mod SpareMoves
+pub mod Direct
 pub mod NewObjects

@@ -60,10 +60,10 @@ object_of_pointer n s p f t e o =
     }
 
 -- a part changes, and other words with it
-alone : (s u : Segments) (c d : Place → ℕ) → Changes s u c d → Changes s u (λ q. c q + 0) (λ q. d q + 0)
+pub alone : (s u : Segments) (c d : Place → ℕ) → Changes s u c d → Changes s u (λ q. c q + 0) (λ q. d q + 0)
 alone s u c d h = changes_alike s u c d (λ q. c q + 0) (λ q. d q + 0) h (λ q. omega arith) (λ q. omega arith)
 
-not_with : (s u : Segments) (c d : Place → ℕ) → Changes s u (λ q. c q + 0) (λ q. d q + 0) → Changes s u c d
+pub not_with : (s u : Segments) (c d : Place → ℕ) → Changes s u (λ q. c q + 0) (λ q. d q + 0) → Changes s u c d
 not_with s u c d h = changes_alike s u (λ q. c q + 0) (λ q. d q + 0) c d h (λ q. omega arith) (λ q. omega arith)
 
 pub pointer_of_object_with : (n : ℕ) (s u : Segments) (p : Place) (f : Found) (t v : Tree) (c d : Place → ℕ) → found_at s p ≡ Ok f → Owns (suc n) s p t → ((q : Place) → footprint (suc n) s p q + c q ≤ 1) → tree_of u (tree_at n u) f.object ≡ Some v → Changes s u (λ q. object_footprint n s f.object q + c q) (λ q. object_footprint n u f.object q + d q) → (tree_at (suc n) u p ≡ Some v) × (found_at u p ≡ Ok f) × Changes s u (λ q. footprint (suc n) s p q + c q) (λ q. footprint (suc n) u p q + d q)

@@ -10,18 +10,15 @@ use Rattle.capnp_model.proofs.SoundRules.{apart}
 use Rattle.capnp_footprints.specs.Changes.{Changes}
 use Rattle.capnp_footprints.specs.Detached.{all_taken, Detached, AreZero, Moves}
 use Rattle.capnp_footprints.specs.Footprints.{object_footprint, OwnsObject, footprint}
+use Rattle.capnp_footprints.specs.Rows.{Lifts}
 use Rattle.capnp_footprints.proofs.Algebra.{changes_lift, changes_alike, beside_kept}
 use Rattle.capnp_footprints.proofs.Detached.{zeros_kept, part_changed, detached_owns}
 use Rattle.capnp_footprints.proofs.Lift.{slot_is, object_of_pointer, struct_is, pointer_of_object_with, struct_of_child_with, pointers_are, list_of_child_with}
 use Rattle.capnp_footprints.proofs.Rows.{child_le}
 use Rattle.capnp_footprints.proofs.Spans.{times_held_append}
 
--- how a change of a child changes the object that has it, with what else changes
-abbrev pub Lifts : ℕ → Segments → Segments → Place → Object → Tree → Type 0
-Lifts n u w a o v = (e f : Place → ℕ) → ((q : Place) → object_footprint n u o q + e q ≤ 1) → Changes u w (λ q. footprint n u a q + e q) (λ q. footprint n w a q + f q) → (tree_of w (tree_at n w) o ≡ Some v) × Changes u w (λ q. object_footprint n u o q + e q) (λ q. object_footprint n w o q + f q)
-
 pub child_moved : (n : ℕ) (s u w : Segments) (p : Place) (t v t' v' c : Tree) (xs spare : List Span) (o : Object) (f : Found) (a b : Place) → Detached n s u p t (xs ++ spare) o v → found_at u p ≡ Ok f
-    → ((q : Place) → footprint n u a q ≤ object_footprint n u f.object q) → ((q : Place) → footprint n u b q ≤ object_footprint n u o q) → Moves n u w a b xs c → Lifts n u w a f.object t' → Lifts n u w b o v' → Detached n s w p t' spare o v'
+    → ((q : Place) → footprint n u a q ≤ object_footprint n u f.object q) → ((q : Place) → footprint n u b q ≤ object_footprint n u o q) → Moves n u w a b xs c → Lifts n u w a f.object t' → Lifts n u w b o v' → Detached n s w p t' spare o v' × (found_at w p ≡ Ok f)
 child_moved n s u w p t v t' v' c xs spare o f a b h e la lb m lift_a lift_b =
     let own = detached_owns n s u p t v (xs ++ spare) o h in
     let slot : (q : Place) → footprint (suc n) u p q ≡ times_held (span p 1 ∷ pads_at u p) q + object_footprint n u f.object q = λ q. slot_is n u p f q e in
@@ -33,7 +30,7 @@ child_moved n s u w p t v t' v' c xs spare o f a b h e la lb m lift_a lift_b =
     let three = lift_b (λ q. footprint (suc n) u p q + times_held xs q) (λ q. footprint (suc n) w p q) (λ q. omega (arith, h.apart q, parts q)) turned in
     let all : Changes u w (all_taken n u p (xs ++ spare) o) (all_taken n w p spare o) = changes_lift u w (λ q. object_footprint n u o q + (footprint (suc n) u p q + times_held xs q)) (λ q. object_footprint n w o q + footprint (suc n) w p q) (all_taken n u p (xs ++ spare) o) (all_taken n w p spare o) three.1 (λ q. omega (arith, parts q)) (λ q. omega (arith, parts q)) in
     let spare_kept = beside_kept u w (λ q. object_footprint n u o q + (footprint (suc n) u p q + times_held xs q)) (λ q. object_footprint n w o q + footprint (suc n) w p q) spare three.1 (λ q. omega (arith, h.apart q, parts q)) in
-    part_changed n s u w p t v t' v' (xs ++ spare) spare o o h all two.0 three.0 (zeros_kept u w spare spare_kept (all_right (AreZero u) xs spare h.zeros))
+    (part_changed n s u w p t v t' v' (xs ++ spare) spare o o h all two.0 three.0 (zeros_kept u w spare spare_kept (all_right (AreZero u) xs spare h.zeros)), two.1)
 
 -- ---- the kinds of objects
 
@@ -57,8 +54,8 @@ pub struct_child_moved : (n : ℕ) (s u w : Segments) (p a b : Place) (pads d k 
 struct_child_moved n s u w p a b pads d k i d' k' j words section words' section' kids kids' c xs spare li lj e h m =
     let own = detached_owns n s u p (structure words section kids) (structure words' section' kids') (xs ++ spare) (a_struct b d' k') h in
     let inner = object_of_pointer n u p (record { pads = pads; object = a_struct a d k }) (structure words section kids) e own.0 in
-    child_moved n s u w p (structure words section kids) (structure words' section' kids') (structure words section (with_child kids i null)) (structure words' section' (with_child kids' j c)) c xs spare (a_struct b d' k') (record { pads = pads; object = a_struct a d k }) (after (after a d) i) (after (after b d') j) h e
-    (λ q. child_in_struct n u a d k i q li) (λ q. child_in_struct n u b d' k' j q lj) m (struct_lifts n u w a d k i words section kids null li inner m.from) (struct_lifts n u w b d' k' j words' section' kids' c lj own.1 m.to)
+    (child_moved n s u w p (structure words section kids) (structure words' section' kids') (structure words section (with_child kids i null)) (structure words' section' (with_child kids' j c)) c xs spare (a_struct b d' k') (record { pads = pads; object = a_struct a d k }) (after (after a d) i) (after (after b d') j) h e
+    (λ q. child_in_struct n u a d k i q li) (λ q. child_in_struct n u b d' k' j q lj) m (struct_lifts n u w a d k i words section kids null li inner m.from) (struct_lifts n u w b d' k' j words' section' kids' c lj own.1 m.to)).0
 
 -- what a move needs to know of the two slots
 pub struct_slots_apart : (n : ℕ) (s u : Segments) (p a b : Place) (pads d k i d' k' j : ℕ) (t v : Tree) (xs spare : List Span) → i < k → j < k' → found_at u p ≡ Ok (record { pads = pads; object = a_struct a d k }) → Detached n s u p t (xs ++ spare) (a_struct b d' k') v

@@ -100,7 +100,7 @@ null_moves n s a b e f =
 
 -- ---- the slots are two words
 
-slots_apart : (n : ℕ) (s : Segments) (a b : Place) (xs : List Span) → ((q : Place) → footprint n s a q + (footprint n s b q + times_held xs q) ≤ 1) → (q : Place) → held a 1 q + (held b 1 q + times_held xs q) ≤ 1
+pub slots_apart : (n : ℕ) (s : Segments) (a b : Place) (xs : List Span) → ((q : Place) → footprint n s a q + (footprint n s b q + times_held xs q) ≤ 1) → (q : Place) → held a 1 q + (held b 1 q + times_held xs q) ≤ 1
 slots_apart n s a b xs apart q = omega (arith, apart q, footprint_is n s a q, footprint_is n s b q)
 
 -- a and b are written, in this order
@@ -132,7 +132,7 @@ module _ (n : ℕ) (s : Segments) (a b : Place) (w : ℕ) (e : word_at s b ≡ S
   pub two_now : word_at (pointed (zeroed s a 1) b w) b ≡ Some w
   two_now = written_word (zeroed s a 1) b 0 w (first_write.others b 0 (omega (arith, apart b, held_self b)) e)
 
-without_pads : (s : Segments) (a : Place) (f : Found) (v : ℕ) (q : Place) → found_at s a ≡ Ok f → word_at s a ≡ Some v → f.pads ≡ 0 → times_held (pads_at s a) q ≡ 0
+pub without_pads : (s : Segments) (a : Place) (f : Found) (v : ℕ) (q : Place) → found_at s a ≡ Ok f → word_at s a ≡ Some v → f.pads ≡ 0 → times_held (pads_at s a) q ≡ 0
 without_pads s a f v q e w z =
     let pad = place (bits_at 32 32 v) (bits_at 3 29 v) in
     (pads_are s a (place (bits_at 32 32 v) (bits_at 3 29 v)) f v e w refl).counts q ∙ ap (λ (k : ℕ). held (place (bits_at 32 32 v) (bits_at 3 29 v)) k q) z ∙ held_none (place (bits_at 32 32 v) (bits_at 3 29 v)) q

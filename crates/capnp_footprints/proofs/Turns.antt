@@ -63,7 +63,7 @@ each_counted f p (suc k) ts e =
 
 -- ---- structs
 
-struct_counted : (n : ℕ) (s : Segments) (p : Place) (d k w section : ℕ) (kids : Trees) → OwnsObject n s (a_struct p d k) (structure w section kids) → tree_count kids ≡ k
+pub struct_counted : (n : ℕ) (s : Segments) (p : Place) (d k w section : ℕ) (kids : Trees) → OwnsObject n s (a_struct p d k) (structure w section kids) → tree_count kids ≡ k
 struct_counted n s p d k w section kids o = each_counted (tree_at n s) (after p d) k kids (struct_parts n s p d k w section kids o.means).1.kids_are
 
 pub struct_here : (n : ℕ) (s u : Segments) (p : Place) (d k i w section : ℕ) (ts kids : Trees) → i < k → OwnsObject n s (a_struct p d k) (structure w section kids) → ReplacesObject n s u (a_struct p d k) (structure w section (with_first i ts kids)) → Owns n u (after (after p d) i) (child kids i)
@@ -87,7 +87,7 @@ struct_shape n s p d k t o =
 
 -- ---- lists of pointers
 
-list_counted : (n : ℕ) (s : Segments) (p : Place) (k : ℕ) (kids : Trees) → OwnsObject n s (a_list p 6 k) (pointer_list kids) → tree_count kids ≡ k
+pub list_counted : (n : ℕ) (s : Segments) (p : Place) (k : ℕ) (kids : Trees) → OwnsObject n s (a_list p 6 k) (pointer_list kids) → tree_count kids ≡ k
 list_counted n s p k kids o = each_counted (tree_at n s) p k kids (list_parts n s p k kids o.means).kids_are
 
 pub list_here : (n : ℕ) (s u : Segments) (p : Place) (k i : ℕ) (ts kids : Trees) → i < k → OwnsObject n s (a_list p 6 k) (pointer_list kids) → ReplacesObject n s u (a_list p 6 k) (pointer_list (with_first i ts kids)) → Owns n u (after p i) (child kids i)

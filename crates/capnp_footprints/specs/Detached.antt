@@ -8,6 +8,7 @@ use Rattle.capnp_model.specs.Traversal.{tree_of, tree_at}
 use Rattle.capnp_model.specs.Coverage.{Span, times_held}
 use Rattle.capnp_footprints.specs.Footprints.{footprint, object_footprint, Owns}
 use Rattle.capnp_footprints.specs.Changes.{Changes}
+use Rattle.capnp_footprints.specs.NewObjects.{New, new_object, new_pointer, Fits}
 
 -- What the value at a place, spare words and an object beside it take.
 abbrev pub all_taken : ℕ → Segments → Place → List Span → Object → Place → ℕ
@@ -44,3 +45,10 @@ pub record IsMovable (n : ℕ) (s : Segments) (a b : Place) (spare : List Span) 
   pub null_there : word_at s b ≡ Some 0
   pub zeros : AllByRecursion (AreZero s) spare
   pub apart : (q : Place) → footprint n s a q + (footprint n s b q + times_held spare q) ≤ 1
+
+-- The word of a pointer leads, without a pad, to an object as a new one, and this is its offset.
+pub record IsDirect (p : Place) (w : ℕ) (f : Found) (r : Place) (offset : ℕ) (x : New) : Type 0 where
+  pub found : f ≡ record { pads = 0; object = new_object r x }
+  pub word : w ≡ new_pointer offset x
+  pub fits : Fits x
+  pub starts : begins (after p 1) offset ≡ Ok r

@@ -5,3 +5,4 @@ pub mod Elements
 pub mod Children
 pub mod NewObjects
 pub mod Detached
+pub mod Rows

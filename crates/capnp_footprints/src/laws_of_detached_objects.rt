@@ -25,6 +25,9 @@ pub fn spare_words()
         (spare : List Span) (o : Object)
         → Detached n s u p t (span r (a + b) ∷ spare) o v
         → Detached n s u p t (span (after r a) b ∷ (span r a ∷ spare)) o v }
+    ensures swapped { (n : ℕ) (s u : Segments) (p : Place) (t v : Tree) (x y : Span)
+        (spare : List Span) (o : Object)
+        → Detached n s u p t (x ∷ (y ∷ spare)) o v → Detached n s u p t (y ∷ (x ∷ spare)) o v }
     ensures fewer { (n : ℕ) (s u : Segments) (p : Place) (t v : Tree) (spare : List Span)
         (x : Span) (o : Object)
         → Detached n s u p t (x ∷ spare) o v → Detached n s u p t spare o v }

@@ -1,19 +1,21 @@
 //! Laws of moving: what a pointer leads to stays where it lies, another pointer gets it, and the first becomes null.
 //!
 //! A caller zeroes the old pointer's word, writes a pad where one is needed, and last the new pointer.
-ghost use Rattle.std.specs.Prelude.{◌≡◌, ℕ, suc, ◌+◌, ◌<◌, ◌≤◌, List, [], ◌∷◌, ◌++◌, Some, Ok};
+ghost use Rattle.std.specs.Prelude.{◌≡◌, ℕ, suc, ◌+◌, ◌-◌, ◌^◌, ◌<◌, ◌≤◌, List, [], ◌∷◌, ◌++◌, Some, Ok};
+ghost use Rattle.std.specs.List.{AllByRecursion};
 ghost use Rattle.capnp_model.specs.Sections.{bits_at};
 ghost use Rattle.capnp_model.specs.Segments.{Segments, Place, after, word_at};
 ghost use Rattle.capnp_model.specs.Pointers.{a_struct, Found, found_at};
 ghost use Rattle.capnp_model.specs.Trees.{Tree, null, structure, Trees, none, child, with_child, tree_count, resized, padded_to};
 ghost use Rattle.capnp_model.specs.Coverage.{Span, span, times_held};
+ghost use Rattle.capnp_model.specs.Encoding.{struct_pointer};
 ghost use Rattle.capnp_footprints.specs.Footprints.{footprint};
 ghost use Rattle.capnp_footprints.specs.Children.{with_first};
-ghost use Rattle.capnp_footprints.specs.Detached.{Detached, Reaches, Moves, IsMovable};
+ghost use Rattle.capnp_footprints.specs.Detached.{Detached, AreZero, Reaches, Moves, IsMovable, IsDirect};
 ghost use Rattle.capnp_footprints.specs.NewObjects.{New, new_pointer, new_object, Fits, pointed, pointed_far, pointed_double_far, IsNamed};
 ghost use Rattle.capnp_footprints.specs.Writes.{zeroed};
 
-/// A value moves: null as it is, a capability or what lies behind a far pointer by the same word, and what has no pad by a new pointer, near or behind a new pad.
+/// A value moves: null as it is, a capability or what lies behind a far pointer by the same word, and what has no pad by a new pointer, near or behind a new pad, an empty struct at the pointer itself. Spare words that it doesn't take may be counted with it.
 pub fn moved_values()
     ensures null { (n : ℕ) (s : Segments) (a b : Place) → word_at s a ≡ Some 0
         → word_at s b ≡ Some 0 → Moves n s s a b [] null }
@@ -34,6 +36,20 @@ pub fn moved_values()
         → IsNamed pad → IsNamed r → Fits x
         → Moves n s (pointed_double_far (zeroed s a 1) b pad r (new_pointer 0 x)) a b
         (span pad 2 ∷ []) t }
+    ensures empty { (n : ℕ) (s : Segments) (a b r : Place) (w : ℕ) (t : Tree)
+        → IsMovable n s a b [] w (record { pads = 0; object = a_struct r 0 0 }) t
+        → Moves n s (pointed (zeroed s a 1) b (struct_pointer (2 ^ 30 - 1) 0 0)) a b [] t }
+    ensures unused { (n : ℕ) (s u : Segments) (a b : Place) (spare : List Span) (t : Tree)
+        → AllByRecursion (AreZero s) spare
+        → ((q : Place) → footprint n s a q + (footprint n s b q + times_held spare q) ≤ 1)
+        → Moves n s u a b [] t → Moves n s u a b spare t }
+{}
+
+/// A pointer that isn't null and has no pad, of a word of 64 bits, leads to an object as a new one: its word is that of a new one's pointer, and its offset reaches the object.
+pub fn direct_pointers()
+    ensures { (s : Segments) (p : Place) (w : ℕ) (f : Found) → word_at s p ≡ Some w → 0 < w
+        → w < 2 ^ 64 → bits_at 0 2 w < 2 → found_at s p ≡ Ok f
+        → (r : Place) × (offset : ℕ) × (x : New) × IsDirect p w f r offset x }
 {}
 
 /// A struct's child moves to a struct that stands beside the value: the slots share no word, and both structs change by it alone.

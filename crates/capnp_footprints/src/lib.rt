@@ -6,3 +6,4 @@ pub mod laws_of_clearing;
 pub mod laws_of_detached_objects;
 pub mod laws_of_moves;
 pub mod laws_of_new_objects;
+pub mod laws_of_rows;

@@ -1,0 +1,5 @@
+use Rattle.capnp_footprints.proofs.Direct.{direct}
+use Rattle.capnp_footprints.proofs.laws_of_moves.direct_pointers.Goals as goal
+
+pub returns : goal.returns
+returns c = direct
