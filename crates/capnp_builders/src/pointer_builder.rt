@@ -10,7 +10,7 @@ ghost use Rattle.capnp_units.specs.Sizes.{size_number};
 ghost use Rattle.capnp_units.specs.declared.kinds.ErrorKind.TheVariants.{SizeOverflow};
 ghost use Rattle.capnp_wire.specs.Places.{place_view};
 ghost use Rattle.capnp_footprints.specs.NewObjects.{new_tree, zero_elements};
-ghost use Rattle.capnp_copy.specs.Allocations.{total_words};
+ghost use Rattle.capnp_copy.specs.Allocations.{total_words, TakesJust};
 ghost use Rattle.capnp_copy.specs.Clearing.{ClearsValue};
 ghost use Rattle.capnp_copy.specs.Lists.{list_at, zeros_of, words_of};
 ghost use Rattle.capnp_copy.specs.Structs.{struct_at};
@@ -112,6 +112,7 @@ impl<'a, A: BuilderArena> PointerBuilder<'a, A> {
         ensures size { IfOk result (λ o. (o.place.data_words ≡ size.data_words) × (o.place.pointers ≡ size.pointers)) }
         ensures there { IfOk result (λ o. is_some (words_at (words_in (A.segments o.memory.now.arena)) (place_view o.place.start) (o.place.data_words + o.place.pointers)) ≡ true) }
         ensures near { IfOk result (λ o. o.place.start.position + (o.place.data_words + o.place.pointers) < 2 ^ 61) }
+        ensures taken { IfOk result (λ o. TakesJust (words_in (A.segments self.entry.memory.now.arena)) (A.room self.entry.memory.now.arena) (words_in (A.segments o.memory.now.arena)) self.entry.place.segment (size.data_words + size.pointers)) }
         ensures books { IfOk result (λ o. A.books o.memory.now.arena ≡ A.books self.entry.memory.now.arena) }
         ensures kind { IfErr result (λ e. (e.kind ≡ SizeOverflow) ↔ (2 ^ 29 ≤ total_words (words_in (A.segments self.entry.memory.now.arena)) + (size.data_words + size.pointers + 1))) }
         ensures* refused { sem 𝓛 (RestsIfErr (the_row A.row) self.entry.memory (λ o. o.memory.ghost_name) result (λ n. (A.segments n.arena ≡ A.segments self.entry.memory.now.arena) × (A.books n.arena ≡ A.books self.entry.memory.now.arena))) }
@@ -138,6 +139,7 @@ impl<'a, A: BuilderArena> PointerBuilder<'a, A> {
         ensures list { IfOk result (λ o. (o.place.size ≡ element_size) × (o.place.claimed ≡ element_count) × (o.place.count ≡ element_count)) }
         ensures there { IfOk result (λ o. is_some (words_at (words_in (A.segments o.memory.now.arena)) (place_view o.place.start) (words_of (size_number element_size) element_count)) ≡ true) }
         ensures near { IfOk result (λ o. o.place.start.position + words_of (size_number element_size) element_count < 2 ^ 61) }
+        ensures taken { IfOk result (λ o. TakesJust (words_in (A.segments self.entry.memory.now.arena)) (A.room self.entry.memory.now.arena) (words_in (A.segments o.memory.now.arena)) self.entry.place.segment (words_of (size_number element_size) element_count)) }
         ensures books { IfOk result (λ o. A.books o.memory.now.arena ≡ A.books self.entry.memory.now.arena) }
         ensures kind { IfErr result (λ e. (e.kind ≡ SizeOverflow) ↔ ((2 ^ 29 ≤ element_count) ⊎ (2 ^ 29 ≤ total_words (words_in (A.segments self.entry.memory.now.arena)) + (words_of (size_number element_size) element_count + 1)))) }
         ensures* refused { sem 𝓛 (RestsIfErr (the_row A.row) self.entry.memory (λ o. o.memory.ghost_name) result (λ n. (A.segments n.arena ≡ A.segments self.entry.memory.now.arena) × (A.books n.arena ≡ A.books self.entry.memory.now.arena))) }
@@ -163,6 +165,7 @@ impl<'a, A: BuilderArena> PointerBuilder<'a, A> {
         ensures list { IfOk result (λ o. (size_number o.place.size ≡ 7) × (o.place.claimed ≡ element_count * (element_size.data_words + element_size.pointers)) × (o.place.count ≡ element_count) × (o.place.data_words ≡ element_size.data_words) × (o.place.pointers ≡ element_size.pointers)) }
         ensures there { IfOk result (λ o. is_some (words_at (words_in (A.segments o.memory.now.arena)) (place_view o.place.start) (1 + o.place.claimed)) ≡ true) }
         ensures near { IfOk result (λ o. o.place.start.position + (1 + o.place.claimed) < 2 ^ 61) }
+        ensures taken { IfOk result (λ o. TakesJust (words_in (A.segments self.entry.memory.now.arena)) (A.room self.entry.memory.now.arena) (words_in (A.segments o.memory.now.arena)) self.entry.place.segment (1 + element_count * (element_size.data_words + element_size.pointers))) }
         ensures books { IfOk result (λ o. A.books o.memory.now.arena ≡ A.books self.entry.memory.now.arena) }
         ensures kind { IfErr result (λ e. (e.kind ≡ SizeOverflow) ↔ ((2 ^ 29 ≤ element_count) ⊎ (2 ^ 29 ≤ element_count * (element_size.data_words + element_size.pointers)) ⊎ (2 ^ 29 ≤ total_words (words_in (A.segments self.entry.memory.now.arena)) + (element_count * (element_size.data_words + element_size.pointers) + 2)))) }
         ensures* refused { sem 𝓛 (RestsIfErr (the_row A.row) self.entry.memory (λ o. o.memory.ghost_name) result (λ n. (A.segments n.arena ≡ A.segments self.entry.memory.now.arena) × (A.books n.arena ≡ A.books self.entry.memory.now.arena))) }
@@ -182,6 +185,7 @@ impl<'a, A: BuilderArena> PointerBuilder<'a, A> {
         ensures place { self.new.place ≡ self.old.place }
         ensures books { A.books self.new.memory.now.arena ≡ A.books self.old.memory.now.arena }
         ensures value { IfOk result (λ o. Becomes (words_in (A.segments self.old.memory.now.arena)) (words_in (A.segments self.new.memory.now.arena)) (place_view self.old.place) (plain_list 2 (length value.now) (number_of 8 value.now))) }
+        ensures taken { IfOk result (λ o. TakesJust (words_in (A.segments self.old.memory.now.arena)) (A.room self.old.memory.now.arena) (words_in (A.segments self.new.memory.now.arena)) self.old.place.segment (words_for (8 * length value.now))) }
         ensures refused { OnErr result (A.segments self.new.memory.now.arena ≡ A.segments self.old.memory.now.arena) }
         ensures kind { IfErr result (λ e. (e.kind ≡ SizeOverflow) ↔ ((2 ^ 29 ≤ length value.now) ⊎ (2 ^ 29 ≤ total_words (words_in (A.segments self.old.memory.now.arena)) + (words_for (8 * length value.now) + 1)))) }
     {
@@ -199,6 +203,7 @@ impl<'a, A: BuilderArena> PointerBuilder<'a, A> {
         ensures place { self.new.place ≡ self.old.place }
         ensures books { A.books self.new.memory.now.arena ≡ A.books self.old.memory.now.arena }
         ensures value { IfOk result (λ o. Becomes (words_in (A.segments self.old.memory.now.arena)) (words_in (A.segments self.new.memory.now.arena)) (place_view self.old.place) (plain_list 2 (length value.now + 1) (number_of 8 value.now))) }
+        ensures taken { IfOk result (λ o. TakesJust (words_in (A.segments self.old.memory.now.arena)) (A.room self.old.memory.now.arena) (words_in (A.segments self.new.memory.now.arena)) self.old.place.segment (words_for (8 * (length value.now + 1)))) }
         ensures refused { OnErr result (A.segments self.new.memory.now.arena ≡ A.segments self.old.memory.now.arena) }
         ensures kind { IfErr result (λ e. (e.kind ≡ SizeOverflow) ↔ ((2 ^ 29 ≤ length value.now + 1) ⊎ (2 ^ 29 ≤ total_words (words_in (A.segments self.old.memory.now.arena)) + (words_for (8 * (length value.now + 1)) + 1)))) }
     {

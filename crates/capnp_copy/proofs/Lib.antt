@@ -16,3 +16,4 @@ pub mod MakingStructs
 pub mod BlobNumbers
 pub mod BlobValues
 pub mod ElementLaws
+pub mod Taken

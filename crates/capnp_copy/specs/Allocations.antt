@@ -1,5 +1,5 @@
 -- Words that an arena allocates.
-use Rattle.std.specs.Prelude.{◌≡◌, ℕ, ◌+◌, ◌^◌, ◌*◌, ◌<◌, ◌≤◌, List, [], ◌∷◌, length, take, get_or}
+use Rattle.std.specs.Prelude.{◌≡◌, ℕ, ◌+◌, ◌^◌, ◌*◌, ◌<◌, ◌≤◌, List, [], ◌∷◌, length, map, take, get_or}
 use Rattle.capnp_model.specs.Segments.{Segments}
 use Rattle.capnp_units.specs.Segments.{whole_words}
 use Rattle.capnp_footprints.specs.Writes.{with_zeros, segment_end}
@@ -19,6 +19,10 @@ pub record Allocates (s u : Segments) (i at n : ℕ) : Type 0 where
 -- The ith segment is there, so many words of it are free, and the message may have as many more. The list tells the free words of each segment.
 abbrev pub HasRoom : Segments → List ℕ → ℕ → ℕ → Type 0
 HasRoom s free i n = (i < length s) × (n ≤ get_or free i 0) × (total_words s + n < 2 ^ 29)
+
+-- Where the ith segment had room for so many words, just these are new in the message, so that no word is a new pad. The list tells the free words of each segment.
+abbrev pub TakesJust : Segments → List ℕ → Segments → ℕ → ℕ → Type 0
+TakesJust s free u i n = HasRoom s free i n → map length u ≡ map length (with_zeros s i n)
 
 -- What is told of each, summed up.
 unfoldable pub total_of : {X : Type 0} → (X → ℕ) → List X → ℕ

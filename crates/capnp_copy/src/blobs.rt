@@ -1,5 +1,5 @@
 //! Texts and data in place of other values.
-ghost use Rattle.std.specs.Prelude.{◌≡◌, ◌+◌, ◌-◌, ◌*◌, ◌/◌, ◌<◌, ◌≤◌, ◌^◌, ◌↔◌, ◌⊎◌, ℕ, true, length, IfOk, IfErr, OnErr};
+ghost use Rattle.std.specs.Prelude.{◌≡◌, ◌+◌, ◌-◌, ◌*◌, ◌/◌, ◌<◌, ◌≤◌, ◌^◌, ◌↔◌, ◌⊎◌, ℕ, true, length, IfOk, IfErr, OnOk, OnErr};
 ghost use Rattle.std.specs.Option.{is_some};
 ghost use Rattle.capnp_model.specs.Sections.{number_of, words_for};
 ghost use Rattle.capnp_model.specs.Segments.{words_at};
@@ -7,7 +7,7 @@ ghost use Rattle.capnp_model.specs.Trees.{plain_list};
 ghost use Rattle.capnp_units.specs.Segments.{words_in};
 ghost use Rattle.capnp_units.specs.declared.kinds.ErrorKind.TheVariants.{SizeOverflow};
 ghost use Rattle.capnp_wire.specs.Places.{place_view};
-ghost use Rattle.capnp_copy.specs.Allocations.{total_words};
+ghost use Rattle.capnp_copy.specs.Allocations.{total_words, TakesJust};
 ghost use Rattle.capnp_copy.specs.Blobs.{with_bytes, whole_of};
 ghost use Rattle.capnp_copy.specs.Values.{Becomes};
 
@@ -56,6 +56,7 @@ fn set_bytes<A: BuilderArena>(arena: &mut A, slot: Place, bytes: &[u8], count: u
     requires near { slot.position < 2 ^ 61 }
     requires all { (length bytes.now ≤ count) × (count ≤ length bytes.now + 1) }
     ensures value { IfOk result (λ o. Becomes (words_in (A.segments arena.old)) (words_in (A.segments arena.new)) (place_view slot) (plain_list 2 count (number_of 8 bytes.now))) }
+    ensures taken { OnOk result (TakesJust (words_in (A.segments arena.old)) (A.room arena.old) (words_in (A.segments arena.new)) slot.segment (words_for (8 * count))) }
     ensures refused { OnErr result (A.segments arena.new ≡ A.segments arena.old) }
     ensures kind { IfErr result (λ e. (e.kind ≡ SizeOverflow) ↔ ((2 ^ 29 ≤ count) ⊎ (2 ^ 29 ≤ total_words (words_in (A.segments arena.old)) + (words_for (8 * count) + 1)))) }
     ensures books { A.books arena.new ≡ A.books arena.old }
@@ -73,6 +74,7 @@ pub fn set_data<A: BuilderArena>(arena: &mut A, slot: Place, bytes: &[u8]) -> Re
     requires there { is_some (words_at (words_in (A.segments arena.old)) (place_view slot) 1) ≡ true }
     requires near { slot.position < 2 ^ 61 }
     ensures value { IfOk result (λ o. Becomes (words_in (A.segments arena.old)) (words_in (A.segments arena.new)) (place_view slot) (plain_list 2 (length bytes.now) (number_of 8 bytes.now))) }
+    ensures taken { OnOk result (TakesJust (words_in (A.segments arena.old)) (A.room arena.old) (words_in (A.segments arena.new)) slot.segment (words_for (8 * length bytes.now))) }
     ensures refused { OnErr result (A.segments arena.new ≡ A.segments arena.old) }
     ensures kind { IfErr result (λ e. (e.kind ≡ SizeOverflow) ↔ ((2 ^ 29 ≤ length bytes.now) ⊎ (2 ^ 29 ≤ total_words (words_in (A.segments arena.old)) + (words_for (8 * length bytes.now) + 1)))) }
     ensures books { A.books arena.new ≡ A.books arena.old }
@@ -90,6 +92,7 @@ pub fn set_text<A: BuilderArena>(arena: &mut A, slot: Place, text: &[u8]) -> Res
     requires there { is_some (words_at (words_in (A.segments arena.old)) (place_view slot) 1) ≡ true }
     requires near { slot.position < 2 ^ 61 }
     ensures value { IfOk result (λ o. Becomes (words_in (A.segments arena.old)) (words_in (A.segments arena.new)) (place_view slot) (plain_list 2 (length text.now + 1) (number_of 8 text.now))) }
+    ensures taken { OnOk result (TakesJust (words_in (A.segments arena.old)) (A.room arena.old) (words_in (A.segments arena.new)) slot.segment (words_for (8 * (length text.now + 1)))) }
     ensures refused { OnErr result (A.segments arena.new ≡ A.segments arena.old) }
     ensures kind { IfErr result (λ e. (e.kind ≡ SizeOverflow) ↔ ((2 ^ 29 ≤ length text.now + 1) ⊎ (2 ^ 29 ≤ total_words (words_in (A.segments arena.old)) + (words_for (8 * (length text.now + 1)) + 1)))) }
     ensures books { A.books arena.new ≡ A.books arena.old }

@@ -1,5 +1,5 @@
 //! New values of zeros and nulls in place of others.
-ghost use Rattle.std.specs.Prelude.{◌≡◌, ◌+◌, ◌-◌, ◌*◌, ◌<◌, ◌≤◌, ◌^◌, ◌↔◌, ◌⊎◌, ℕ, true, IfOk, IfErr, OnErr};
+ghost use Rattle.std.specs.Prelude.{◌≡◌, ◌+◌, ◌-◌, ◌*◌, ◌<◌, ◌≤◌, ◌^◌, ◌↔◌, ◌⊎◌, ℕ, true, IfOk, IfErr, OnOk, OnErr};
 ghost use Rattle.std.specs.Option.{is_some};
 ghost use Rattle.capnp_model.specs.Segments.{words_at};
 ghost use Rattle.capnp_model.specs.Trees.{structure, none, resized};
@@ -8,7 +8,7 @@ ghost use Rattle.capnp_units.specs.Sizes.{size_number};
 ghost use Rattle.capnp_units.specs.declared.kinds.ErrorKind.TheVariants.{SizeOverflow};
 ghost use Rattle.capnp_wire.specs.Places.{place_view};
 ghost use Rattle.capnp_footprints.specs.NewObjects.{new_tree};
-ghost use Rattle.capnp_copy.specs.Allocations.{total_words};
+ghost use Rattle.capnp_copy.specs.Allocations.{total_words, TakesJust};
 ghost use Rattle.capnp_copy.specs.Lists.{list_at, zeros_of, words_of};
 ghost use Rattle.capnp_copy.specs.Structs.{struct_at};
 ghost use Rattle.capnp_copy.specs.Values.{Becomes, BecomesZeros, LeadsTo, LeadsToZeros};
@@ -52,6 +52,7 @@ fn init_zeros<A: BuilderArena>(
     ensures object { IfOk result (λ r. LeadsToZeros (words_in (A.segments arena.new)) (place_view slot) (place_view r) words pointer) }
     ensures there { IfOk result (λ r. is_some (words_at (words_in (A.segments arena.new)) (place_view r) words) ≡ true) }
     ensures near { IfOk result (λ r. r.position + words < 2 ^ 61) }
+    ensures taken { OnOk result (TakesJust (words_in (A.segments arena.old)) (A.room arena.old) (words_in (A.segments arena.new)) slot.segment words) }
     ensures refused { OnErr result (A.segments arena.new ≡ A.segments arena.old) }
     ensures kind { IfErr result (λ e. (0 < words) × ((e.kind ≡ SizeOverflow) ↔ (2 ^ 29 ≤ total_words (words_in (A.segments arena.old)) + (words + 1)))) }
     ensures books { A.books arena.new ≡ A.books arena.old }
@@ -77,6 +78,7 @@ pub fn init_struct<A: BuilderArena>(
     ensures size { IfOk result (λ o. (o.data_words ≡ size.data_words) × (o.pointers ≡ size.pointers)) }
     ensures there { IfOk result (λ o. is_some (words_at (words_in (A.segments arena.new)) (place_view o.start) (o.data_words + o.pointers)) ≡ true) }
     ensures near { IfOk result (λ o. o.start.position + (o.data_words + o.pointers) < 2 ^ 61) }
+    ensures taken { OnOk result (TakesJust (words_in (A.segments arena.old)) (A.room arena.old) (words_in (A.segments arena.new)) slot.segment (size.data_words + size.pointers)) }
     ensures refused { OnErr result (A.segments arena.new ≡ A.segments arena.old) }
     ensures kind { IfErr result (λ e. (e.kind ≡ SizeOverflow) ↔ (2 ^ 29 ≤ total_words (words_in (A.segments arena.old)) + (size.data_words + size.pointers + 1))) }
     ensures books { A.books arena.new ≡ A.books arena.old }
@@ -120,6 +122,7 @@ pub fn init_list<A: BuilderArena>(
     ensures list { IfOk result (λ o. (o.size ≡ size) × (o.claimed ≡ count) × (o.count ≡ count)) }
     ensures there { IfOk result (λ o. is_some (words_at (words_in (A.segments arena.new)) (place_view o.start) (words_of (size_number size) count)) ≡ true) }
     ensures near { IfOk result (λ o. o.start.position + words_of (size_number size) count < 2 ^ 61) }
+    ensures taken { OnOk result (TakesJust (words_in (A.segments arena.old)) (A.room arena.old) (words_in (A.segments arena.new)) slot.segment (words_of (size_number size) count)) }
     ensures refused { OnErr result (A.segments arena.new ≡ A.segments arena.old) }
     ensures kind { IfErr result (λ e. (e.kind ≡ SizeOverflow) ↔ ((2 ^ 29 ≤ count) ⊎ (2 ^ 29 ≤ total_words (words_in (A.segments arena.old)) + (words_of (size_number size) count + 1)))) }
     ensures books { A.books arena.new ≡ A.books arena.old }

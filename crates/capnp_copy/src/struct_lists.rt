@@ -1,5 +1,5 @@
 //! New lists of structs in place of other values.
-ghost use Rattle.std.specs.Prelude.{◌≡◌, ◌+◌, ◌-◌, ◌*◌, ◌<◌, ◌≤◌, ◌^◌, ◌↔◌, ◌⊎◌, ℕ, true, IfOk, IfErr, OnErr};
+ghost use Rattle.std.specs.Prelude.{◌≡◌, ◌+◌, ◌-◌, ◌*◌, ◌<◌, ◌≤◌, ◌^◌, ◌↔◌, ◌⊎◌, ℕ, true, IfOk, IfErr, OnOk, OnErr};
 ghost use Rattle.std.specs.Option.{is_some};
 ghost use Rattle.capnp_model.specs.Segments.{words_at};
 ghost use Rattle.capnp_model.specs.Trees.{struct_list};
@@ -9,7 +9,7 @@ ghost use Rattle.capnp_units.specs.Sizes.{size_number};
 ghost use Rattle.capnp_units.specs.declared.kinds.ErrorKind.TheVariants.{SizeOverflow};
 ghost use Rattle.capnp_wire.specs.Places.{place_view};
 ghost use Rattle.capnp_footprints.specs.NewObjects.{zero_elements};
-ghost use Rattle.capnp_copy.specs.Allocations.{total_words};
+ghost use Rattle.capnp_copy.specs.Allocations.{total_words, TakesJust};
 ghost use Rattle.capnp_copy.specs.Lists.{list_at};
 ghost use Rattle.capnp_copy.specs.Values.{Becomes, LeadsTo};
 
@@ -61,6 +61,7 @@ pub fn init_struct_list<A: BuilderArena>(
     ensures list { IfOk result (λ o. (size_number o.size ≡ 7) × (o.claimed ≡ count * (size.data_words + size.pointers)) × (o.count ≡ count) × (o.data_words ≡ size.data_words) × (o.pointers ≡ size.pointers)) }
     ensures there { IfOk result (λ o. is_some (words_at (words_in (A.segments arena.new)) (place_view o.start) (1 + o.claimed)) ≡ true) }
     ensures near { IfOk result (λ o. o.start.position + (1 + o.claimed) < 2 ^ 61) }
+    ensures taken { OnOk result (TakesJust (words_in (A.segments arena.old)) (A.room arena.old) (words_in (A.segments arena.new)) slot.segment (1 + count * (size.data_words + size.pointers))) }
     ensures refused { OnErr result (A.segments arena.new ≡ A.segments arena.old) }
     ensures kind { IfErr result (λ e. (e.kind ≡ SizeOverflow) ↔ ((2 ^ 29 ≤ count) ⊎ (2 ^ 29 ≤ count * (size.data_words + size.pointers)) ⊎ (2 ^ 29 ≤ total_words (words_in (A.segments arena.old)) + (count * (size.data_words + size.pointers) + 2)))) }
     ensures books { A.books arena.new ≡ A.books arena.old }

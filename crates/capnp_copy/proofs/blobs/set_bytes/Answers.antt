@@ -1,4 +1,4 @@
-use Rattle.std.proofs.Common.{◌≡◌, ◌+◌, ◌*◌, ◌/◌, ◌<◌, ◌≤◌, ◌^◌, ℕ, true, ap, sym, ◌∙◌, refl, subst, arith, rules}
+use Rattle.std.proofs.Common.{◌≡◌, ◌+◌, ◌*◌, ◌/◌, ◌<◌, ◌≤◌, ◌^◌, ℕ, true, ap, sym, ◌∙◌, refl, subst, arith, rules, length, map}
 use Rattle.std.specs.Option.{is_some}
 use Rattle.capnp_model.specs.Sections.{number_of, words_for}
 use Rattle.capnp_model.specs.Segments.{Segments, words_at}
@@ -10,6 +10,7 @@ use Rattle.capnp_units.specs.declared.sizes.ElementSize.{ElementSize}
 use Rattle.capnp_units.specs.Sizes.{size_number}
 use Rattle.capnp_copy.specs.Values.{Becomes, LeadsTo}
 use Rattle.capnp_copy.proofs.BlobValues.{blob_made}
+use Rattle.capnp_copy.proofs.Taken.{bytes_sizes, takes_so}
 use Rattle.capnp_copy.proofs.blobs.set_bytes.Goals as goal
 
 pub write_bytes-requires-clause-there : goal.write_bytes-requires-clause-there
@@ -40,3 +41,12 @@ returns-clause-value g c =
     let leads : LeadsTo m p (a_list (place_view list.list.start) 2 c.args.count) = subst (λ (k : ℕ). LeadsTo m p (a_list (place_view list.list.start) 2 k)) l.1 (subst (λ (z : ElementSize). LeadsTo m p (a_list (place_view list.list.start) (size_number z) list.list.claimed)) l.0 list.ensures.object) in
     let all = blob_made s m p (place_view list.list.start) c.args.count ((c.args.count + 7) / 8) c.args.bytes.now (λ i. let h = c.type_inv.bytes i in omega (arith, h)) a.0 same (omega (arith, a.0, a.1)) (omega (arith, a.0, a.1)) there list.ensures.value leads in
     subst (λ (u : Segments). Becomes s u p (plain_list 2 c.args.count (number_of 8 c.args.bytes.now))) (sym c.write_bytes.ensures.words) all
+
+pub returns-clause-taken : goal.returns-clause-taken
+returns-clause-taken g c =
+    let s = words_in (g.A.ReaderArena.segments c.args.arena.now) in
+    let free = g.A.BuilderArena.room c.args.arena.now in
+    let m = words_in (g.A.ReaderArena.segments c.init_list.new.arena) in
+    let list = c.in_ok-list.list in
+    let same = ap (λ (x : Segments). map length x) c.write_bytes.ensures.words ∙ bytes_sizes m (place_view list.start) ((c.args.count + 7) / 8) c.args.bytes.now in
+    takes_so s free m (words_in (g.A.ReaderArena.segments c.write_bytes.new.arena)) c.args.slot.segment (words_for (8 * c.args.count)) same c.in_ok-list.ensures.taken

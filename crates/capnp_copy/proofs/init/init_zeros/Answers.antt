@@ -1,4 +1,4 @@
-use Rattle.std.proofs.Common.{◌≡◌, ◌+◌, ◌<◌, ◌≤◌, ◌^◌, ℕ, ap, refl, true, replicate, ◌∙◌, sym, subst, arith, rules}
+use Rattle.std.proofs.Common.{◌≡◌, ◌+◌, ◌<◌, ◌≤◌, ◌^◌, ℕ, ap, refl, true, replicate, ◌∙◌, sym, subst, arith, rules, length, map}
 use Rattle.std.specs.Option.{is_some}
 use Rattle.capnp_model.specs.Segments.{Segments, Place, words_at}
 use Rattle.capnp_units.specs.Segments.{words_in}
@@ -8,6 +8,7 @@ use Rattle.capnp_copy.specs.Rooms.{RoomFor, begin_of, linked}
 use Rattle.capnp_copy.specs.Values.{Becomes, LeadsTo}
 use Rattle.capnp_copy.proofs.RoomLaws.{word_there, sizes_grow, still_some, still_linked, room_addressed, room_grows, room_pad, pad_stays, room_words, room_near}
 use Rattle.capnp_copy.proofs.Making.{made, leads}
+use Rattle.capnp_copy.proofs.Taken.{room_takes, linked_sizes, takes_so}
 use Rattle.capnp_copy.proofs.init.init_zeros.Goals as goal
 
 pub allocate_near-requires-clause-there : goal.allocate_near-requires-clause-there
@@ -77,3 +78,15 @@ returns-clause-near g c =
     let l = room_near s m p c.args.words c.in_ok-room.room c.requires.near c.in_ok-room.ensures.ok in
     let at : c.begin_of.result.position ≡ (begin_of p c.in_ok-room.room).position = ap (λ (q : Place). q.position) c.begin_of.ensures in
     omega (arith, l, at)
+
+pub returns-clause-taken : goal.returns-clause-taken
+returns-clause-taken g c =
+    let s = words_in (g.A.ReaderArena.segments c.args.arena.now) in
+    let free = g.A.BuilderArena.room c.args.arena.now in
+    let m = words_in (g.A.ReaderArena.segments c.allocate_near.new.arena) in
+    let u = words_in (g.A.ReaderArena.segments c.clear.new.arena) in
+    let p = place_view c.args.slot in
+    let room = c.in_ok-room.room in
+    let taken = room_takes s free m p c.args.words room c.in_ok-room.ensures.ok c.in_ok-room.ensures.near in
+    let same = ap (λ (x : Segments). map length x) c.link.ensures.words ∙ (linked_sizes u p room c.args.pointer ∙ c.clear.ensures.sizes) in
+    takes_so s free m (words_in (g.A.ReaderArena.segments c.link.new.arena)) p.segment c.args.words same taken

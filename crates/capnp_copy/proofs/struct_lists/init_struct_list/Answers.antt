@@ -1,4 +1,4 @@
-use Rattle.std.proofs.Common.{◌≡◌, ◌+◌, ◌*◌, ◌<◌, ◌≤◌, ◌^◌, ℕ, [], ◌∷◌, ap, refl, true, ◌∙◌, sym, subst, arith, rules}
+use Rattle.std.proofs.Common.{◌≡◌, ◌+◌, ◌*◌, ◌<◌, ◌≤◌, ◌^◌, ℕ, [], ◌∷◌, ap, refl, true, ◌∙◌, sym, subst, arith, rules, length, map}
 use Rattle.std.specs.Option.{is_some}
 use Rattle.capnp_model.specs.Segments.{Segments, Place, words_at}
 use Rattle.capnp_model.specs.Pointers.{a_list}
@@ -14,6 +14,9 @@ use Rattle.capnp_copy.specs.Values.{Becomes, LeadsTo}
 use Rattle.capnp_copy.proofs.RoomLaws.{word_there, sizes_grow, still_some, still_written, still_linked, first_there, room_addressed, room_grows, room_pad, pad_stays, room_words, room_near}
 use Rattle.capnp_footprints.proofs.Splices.{splice_grows}
 use Rattle.capnp_copy.proofs.MakingStructs.{structs_made, structs_lead}
+use Rattle.capnp_copy.specs.Allocations.{TakesJust}
+use Rattle.capnp_copy.proofs.ZeroedWords.{written_sizes}
+use Rattle.capnp_copy.proofs.Taken.{room_takes, linked_sizes, takes_so}
 use Rattle.capnp_copy.proofs.struct_lists.init_struct_list.Goals as goal
 
 pub allocate_near-requires-clause-there : goal.allocate_near-requires-clause-there
@@ -112,3 +115,19 @@ returns-clause-near g c =
     let l = room_near s m p (1 + c.in_ok-words.words) c.in_ok-room.room c.requires.near c.in_ok-room.ensures.ok in
     let at : c.begin_of-tag.result.position ≡ (begin_of p c.in_ok-room.room).position = ap (λ (q : Place). q.position) c.begin_of-tag.ensures in
     omega (arith, l, at)
+
+pub returns-clause-taken : goal.returns-clause-taken
+returns-clause-taken g c =
+    let s = words_in (g.A.ReaderArena.segments c.args.arena.now) in
+    let free = g.A.BuilderArena.room c.args.arena.now in
+    let m = words_in (g.A.ReaderArena.segments c.allocate_near.new.arena) in
+    let u = words_in (g.A.ReaderArena.segments c.clear.new.arena) in
+    let v = words_in (g.A.ReaderArena.segments c.write_word.new.self) in
+    let p = place_view c.args.slot in
+    let room = c.in_ok-room.room in
+    let n = c.in_ok-words.words in
+    let taken = room_takes s free m p (1 + n) room c.in_ok-room.ensures.ok c.in_ok-room.ensures.near in
+    let tagged = ap (λ (x : Segments). map length x) c.write_word.ensures.words ∙ (written_sizes u (place_view c.begin_of-tag.result) (c.tag_word.result ∷ []) ∙ c.clear.ensures.sizes) in
+    let same = ap (λ (x : Segments). map length x) c.link.ensures.words ∙ (linked_sizes v p room c.list_word.result ∙ tagged) in
+    let all = takes_so s free m (words_in (g.A.ReaderArena.segments c.link.new.arena)) p.segment (1 + n) same taken in
+    subst (λ (k : ℕ). TakesJust s free (words_in (g.A.ReaderArena.segments c.link.new.arena)) p.segment (1 + k)) c.in_ok-words.ensures.words all
