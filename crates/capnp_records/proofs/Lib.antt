@@ -1,6 +1,5 @@
 pub mod ListTests
 pub mod Stored
-pub mod SlotBodies
 pub mod Overlaps
 pub mod Breaks
 pub mod PlainStructs

@@ -1,5 +1,4 @@
 pub mod NodeViews
-pub mod Taken
 pub mod Faults
 pub mod Sets
 pub mod Storage
@@ -7,10 +6,6 @@ pub mod Claims
 pub mod Marks
 pub mod Levels
 pub mod Segments
-pub mod Slots
-pub mod Structs
 pub mod Tables
 pub use Rattle.capnp_model.specs.Schemas
-pub use Rattle.capnp_model.specs.Printing
-pub use Rattle.capnp_model.specs.Steps
 pub use Rattle.capnp_model.specs.Accepted

@@ -17,11 +17,8 @@ mod places;
 pub mod raw;
 mod segment;
 pub mod set;
-pub mod slot;
 mod storage;
-pub mod structs;
 pub mod tables;
-mod taken;
 #[cfg(test)]
 mod tests;
 mod types;

@@ -14,7 +14,6 @@ use crate::node::{EnumerantRecord, NodeBody, NodeRecord, StructRecord};
 use crate::of_set::OfSet;
 use crate::raw::{RawBrandedStructSchema, RawEnumSchema};
 use crate::tables::{FieldTables, places_of, tables_of};
-use crate::taken::is_taken_node;
 use std::collections::HashMap;
 
 /// Node records that keep the schema rules.
@@ -38,7 +37,7 @@ impl SchemaSet {
     ghost use Rattle.capnp_records.specs.Faults.{IsRefusalOf};
     ghost use Rattle.capnp_model.specs.Schemas.{StructNode};
     ghost use Rattle.capnp_records.specs.Tables.{AreTablesOf};
-    ghost use Rattle.capnp_records.specs.Sets.{nodes_of, is_plain_struct, has_struct, is_at, struct_found, enumerants_found, IsStructOf, IsPlainStructOf, IsNodeOf, IsEnumOf, IsRecordOf};
+    ghost use Rattle.capnp_records.specs.Sets.{nodes_of, has_struct, is_at, struct_found, enumerants_found, IsStructOf, IsNodeOf, IsEnumOf};
 
     /// The set of the nodes, where they keep the rules. The rules are tried by number, each over the nodes in order, and
     /// the first that is broken is answered with the place of the first node that breaks it.
@@ -194,32 +193,5 @@ impl SchemaSet {
             return None;
         }
         Some(&self.nodes[place])
-    }
-
-    /// The struct of an id, where it is plain: it has no annotations, no union and no groups, and its fields are Void, Bool,
-    /// whole numbers or Text whose defaults are zero or absent.
-    pub fn plain_struct_by_id(&self, id: u64) -> Option<RawBrandedStructSchema>
-        ensures missing { IfNone result (names_a is_plain_struct (nodes_of self.now) id ≡ false) }
-        ensures id { IfSome result (λ raw. raw.id ≡ id) }
-        ensures found { IfSome result (IsPlainStructOf (nodes_of self.now)) }
-    {
-        let Some((place, node)) = self.find(id) else {
-            return None;
-        };
-        if !is_struct(node) || !is_taken_node(node) {
-            return None;
-        }
-        let number = place as u64;
-        Some(RawBrandedStructSchema { number, id })
-    }
-
-    pub(crate) fn record(&self, raw: RawBrandedStructSchema) -> &StructRecord
-        requires { IsPlainStructOf (nodes_of self.now) raw }
-        ensures { IsRecordOf (nodes_of self.now) raw.id result.now }
-    {
-        let NodeBody::Struct(record) = &self.nodes[raw.number as usize].body else {
-            unreachable!()
-        };
-        record
     }
 }

@@ -1,4 +1,4 @@
-//! Worked node records: the rule and the node that each breaks, large sets, and the slots that names find.
+//! Worked node records: the rule and the node that each breaks, and large sets.
 
 use crate::fault::SchemaFault;
 use crate::node::{
@@ -6,8 +6,6 @@ use crate::node::{
     NodeRecord, StructRecord, TypeRecord, Value,
 };
 use crate::set::SchemaSet;
-use crate::slot::{Slot, Width};
-use crate::structs::StructSchema;
 use std::alloc::{AllocError, Global};
 use std::test::Fail;
 
@@ -298,7 +296,6 @@ fn many_nodes(rt: HostRuntime) -> Result<(), Fail> {
     }
     let set = SchemaSet::new(nodes)?;
     assert!(rt; set.struct_by_id(1999).is_some());
-    assert!(rt; set.plain_struct_by_id(1999).is_none());
     assert!(rt; set.struct_by_id(2000).is_none());
     Ok(())
 }
@@ -318,33 +315,6 @@ fn many_fields(rt: HostRuntime) -> Result<(), Fail> {
     let alloc = rt.alloc();
     assert_eq!(rt; fault_of(alloc, bytes(alloc, 65535)?)?, None);
     assert_eq!(rt; fault_of(alloc, bytes(alloc, 65536)?)?, rule(2, 0));
-    Ok(())
-}
-
-#[test]
-fn names_find_slots(rt: HostRuntime) -> Result<(), Fail> {
-    let alloc = rt.alloc();
-    let mut nodes = Vec::new(alloc);
-    nodes.push(pair(alloc, 1, None)?)?;
-    let set = SchemaSet::new(nodes)?;
-    assert!(rt; set.plain_struct_by_id(2).is_none());
-    let Some(raw) = set.plain_struct_by_id(1) else {
-        return Err(Fail::from("the struct is missing"));
-    };
-    let pair = StructSchema::new(&set, raw);
-    assert_eq!(rt; pair.id(), 1);
-    assert_eq!(rt; pair.data_words(), 1);
-    assert_eq!(rt; pair.pointers(), 1);
-    assert_eq!(rt;
-        pair.find_slot("a"),
-        Some(Slot::UInt {
-            width: Width::Sixteen,
-            first_bit: 16
-        })
-    );
-    assert_eq!(rt; pair.find_slot("t"), Some(Slot::Text { pointer: 0 }));
-    assert_eq!(rt; pair.find_slot("zz"), None);
-    assert_eq!(rt; Width::Sixteen.bits(), 16);
     Ok(())
 }
 
