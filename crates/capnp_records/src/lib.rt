@@ -7,6 +7,7 @@ mod defaults;
 pub mod fault;
 mod find;
 mod groups;
+pub mod laws;
 mod marks;
 mod names;
 pub mod node;
