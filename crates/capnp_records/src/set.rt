@@ -134,7 +134,8 @@ impl SchemaSet {
         requires { IsNodeOf (nodes_of self.now) raw }
         ensures { find_node (nodes_of self.now) raw.id ≡ Some (node_of result.now) }
     {
-        &self.nodes[raw.number as usize]
+        let number = raw.number as usize;
+        &self.nodes[number]
     }
 
     /// What the node of a struct or a group of this set says.
@@ -161,7 +162,8 @@ impl SchemaSet {
         requires { IsEnumOf (nodes_of self.now) raw }
         ensures { find_node (nodes_of self.now) raw.id ≡ Some (node_of result.now) }
     {
-        &self.nodes[raw.number as usize]
+        let place = raw.number as usize;
+        &self.nodes[place]
     }
 
     /// The enumerants of an enum of this set.
