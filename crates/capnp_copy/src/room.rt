@@ -42,7 +42,7 @@ pub enum Room {
 }
 
 /// The word of a pointer to a struct of a size, with offset 0.
-pub(crate) fn struct_word(size: StructSize) -> u64
+pub fn struct_word(size: StructSize) -> u64
     ensures word { result ≡ struct_pointer 0 size.data_words size.pointers }
     ensures offset { result < 2 ^ 64 - 2 ^ 32 + 4 }
     ensures fits { (size.data_words < 2 ^ 16) × (size.pointers < 2 ^ 16) }
@@ -51,7 +51,7 @@ pub(crate) fn struct_word(size: StructSize) -> u64
 }
 
 /// The word of a pointer to a list, with offset 0.
-pub(crate) fn list_word(size: ElementSize, count: u32) -> u64
+pub fn list_word(size: ElementSize, count: u32) -> u64
     requires { count < 2 ^ 29 }
     ensures word { result ≡ list_pointer 0 (size_number size) count }
     ensures offset { result < 2 ^ 64 - 2 ^ 32 + 4 }

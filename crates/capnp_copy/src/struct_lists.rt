@@ -24,7 +24,7 @@ use capnp_units::sizes::{ElementSize, StructSize};
 use capnp_wire::place::Place;
 
 /// The words of so many structs of a size, where neither they nor the count pass 2^29 - 1.
-fn words_of_structs(count: u32, size: StructSize) -> Result<u32>
+pub fn words_of_structs(count: u32, size: StructSize) -> Result<u32>
     ensures words { IfOk result (λ n. n ≡ count * (size.data_words + size.pointers)) }
     ensures few { IfOk result (λ n. (n < 2 ^ 29) × (count < 2 ^ 29)) }
     ensures kind { IfErr result (λ e. (e.kind ≡ SizeOverflow) × ((2 ^ 29 ≤ count) ⊎ (2 ^ 29 ≤ count * (size.data_words + size.pointers)))) }
@@ -37,7 +37,7 @@ fn words_of_structs(count: u32, size: StructSize) -> Result<u32>
 }
 
 /// The tag of a list of so many structs of a size.
-fn tag_word(count: u32, size: StructSize) -> u64
+pub fn tag_word(count: u32, size: StructSize) -> u64
     requires { count < 2 ^ 29 }
     ensures word { result ≡ struct_pointer count size.data_words size.pointers }
     ensures fits { (size.data_words < 2 ^ 16) × (size.pointers < 2 ^ 16) }
