@@ -72,9 +72,9 @@ pub fn clear<A: BuilderArena>(arena: &mut A, slot: Place)
     }
 }
 
-/// Clears what an object's pointers name, and then the object's own words.
+/// Clears what an object's pointers name, and then the object's own words. No pointer needs to name the object.
 #[cycle(clear)]
-fn clear_object<A: BuilderArena>(arena: &mut A, object: NamedObject)
+pub fn clear_object<A: BuilderArena>(arena: &mut A, object: NamedObject)
     ensures clears { ClearsObject (words_in (A.segments arena.old)) (words_in (A.segments arena.new)) (named_view object) }
     ensures sizes { map length (words_in (A.segments arena.new)) ≡ map length (words_in (A.segments arena.old)) }
     ensures nonzero { nonzero_words (words_in (A.segments arena.new)) ≤ nonzero_words (words_in (A.segments arena.old)) }
