@@ -1,0 +1,13 @@
+pub mod ByteParts
+pub mod Parts
+pub mod Leaves
+pub mod Allocated
+pub mod Linked
+pub mod Filling
+pub mod Refusals
+pub mod Following
+pub mod Rows
+pub mod Made
+pub mod Elements
+pub mod Placed
+pub mod Counting

@@ -1,0 +1,200 @@
+-- Copies that are linked, and those that are given up.
+use Rattle.std.specs.Bool.{⊤}
+use Rattle.std.proofs.Common.{◌≡◌, ◌⊎◌, ◌↔◌, ℕ, zero, suc, ◌+◌, ◌<◌, ◌≤◌, true, false, List, [], ◌∷◌, length, map, Option, Result, Ok, refl, ap, sym, subst, inl, inr, arith}
+use Rattle.std.specs.Option.{is_some}
+use Rattle.std.proofs.lemmas.List.{append-nil}
+use Rattle.capnp_model.specs.Segments.{Segments, Place, words_at}
+use Rattle.capnp_model.specs.Pointers as model
+use Rattle.capnp_model.specs.Trees.{Tree, null, capability}
+use Rattle.capnp_model.specs.Traversal.{tree_at}
+use Rattle.capnp_model.specs.Coverage.{span, times_held, Grows}
+use Rattle.capnp_model.specs.Visits.{Visit, visits}
+use Rattle.capnp_units.specs.declared.errors.Error.{Error}
+use Rattle.capnp_units.specs.declared.kinds.ErrorKind.TheVariants.{SizeOverflow}
+use Rattle.capnp_units.specs.declared.limiter.ReadLimiter.{ReadLimiter}
+use Rattle.capnp_units.specs.Sizes.{size_number}
+use Rattle.capnp_object.specs.declared.object.Object.{Object}
+use Rattle.capnp_object.specs.declared.object.Object.TheVariants as object
+use Rattle.capnp_object.specs.Objects.{IsInside}
+use Rattle.capnp_object.specs.Follow.{own_cost, Pays}
+use Rattle.capnp_object.specs.Inside.{tree_in, met_in}
+use Rattle.capnp_object.proofs.Walks.{walked_none, walked_both}
+use Rattle.capnp_footprints.specs.Footprints.{object_footprint, Owns}
+use Rattle.capnp_footprints.specs.Changes.{Replaces}
+use Rattle.capnp_footprints.specs.Detached.{Detached}
+use Rattle.capnp_footprints.specs.NewObjects.{New, new_struct, new_list, new_pointers, new_structs, new_pointer, new_object, Fits}
+use Rattle.capnp_footprints.proofs.Algebra.{changes_nothing, changes_alike}
+use Rattle.capnp_footprints.proofs.Detached.{detached_owns, detached_value}
+use Rattle.capnp_footprints.proofs.Spans.{held_is, grows_same, grows_then}
+use Rattle.capnp_footprints.proofs.Splices.{splice_grows}
+use Rattle.capnp_footprints.proofs.Zeros.{held_none}
+use Rattle.capnp_wire.specs.Places.{place_view}
+use Rattle.capnp_copy.specs.Allocations.{total_words}
+use Rattle.capnp_copy.specs.Clearing.{ClearsValue, ClearsObject}
+use Rattle.capnp_copy.specs.declared.room.Room.{Room}
+use Rattle.capnp_copy.specs.declared.room.Room.TheVariants.{Here, Near, Far}
+use Rattle.capnp_copy.specs.Rooms.{RoomFor, begin_of, slot_word, with_pad, linked}
+use Rattle.capnp_copy.proofs.RoomLaws.{room_grows}
+use Rattle.capnp_copy_from.specs.Objects.{copied_words, copied_at, copied_pointer, IsTooLarge, IsSpelled, is_leaf}
+use Rattle.capnp_copy_from.specs.Copies.{BecomesCopy, GrowsByZeros, Copied, Refused, CopyGives, Fills}
+use Rattle.capnp_copy_from.proofs.Allocated.{pads_in, allocated, room_new}
+use Rattle.capnp_copy_from.proofs.Filling.{filled_detached, given_up}
+use Rattle.capnp_copy_from.proofs.Following.{paid_walk}
+use Rattle.capnp_copy_from.proofs.Linked.{linked_value}
+use Rattle.capnp_copy_from.proofs.Refusals.{why_later}
+
+-- ---- the object that is new
+
+pub new_of : Object → New
+new_of object.Null = new_struct 0 0
+new_of (object.Capability i) = new_struct 0 0
+new_of (object.Struct p d k) = new_struct d k
+new_of (object.List p size n) = new_list (size_number size) n
+new_of (object.PointerList p n) = new_pointers n
+new_of (object.StructList p words n d k) = new_structs n d k
+
+pub pointer_is : (o : Object) → is_leaf o ≡ false → copied_pointer o ≡ new_pointer 0 (new_of o)
+unfolding new_of
+pointer_is object.Null l = absurd cc
+pointer_is (object.Capability i) l = absurd cc
+pointer_is (object.Struct p d k) l = refl
+pointer_is (object.List p size n) l = refl
+pointer_is (object.PointerList p n) l = refl
+pointer_is (object.StructList p words n d k) l = refl
+
+pub object_is : (r : Place) (o : Object) → is_leaf o ≡ false → copied_at r o ≡ new_object r (new_of o)
+unfolding new_of
+object_is r object.Null l = absurd cc
+object_is r (object.Capability i) l = absurd cc
+object_is r (object.Struct p d k) l = refl
+object_is r (object.List p size n) l = refl
+object_is r (object.PointerList p n) l = refl
+object_is r (object.StructList p words n d k) l = refl
+
+new_fits : (s : Segments) (o : Object) → is_leaf o ≡ false → IsInside s o → IsSpelled o → Fits (new_of o)
+unfolding new_of
+new_fits s object.Null l i f = absurd cc
+new_fits s (object.Capability j) l i f = absurd cc
+new_fits s (object.Struct p d k) l i f = f
+new_fits s (object.List p size n) l i f = (i.0, f)
+new_fits s (object.PointerList p n) l i f = f
+new_fits s (object.StructList p words n d k) l i f = f
+
+new_some : (o : Object) → is_leaf o ≡ false → (offset : ℕ) → 0 < copied_words o → 0 < new_pointer offset (new_of o)
+unfolding new_of
+new_some object.Null l offset h = absurd cc
+new_some (object.Capability i) l offset h = absurd cc
+new_some (object.Struct p d k) l offset h = omega (arith, h)
+new_some (object.List p size n) l offset h = omega arith
+new_some (object.PointerList p n) l offset h = omega arith
+new_some (object.StructList p words n d k) l offset h = omega arith
+
+-- ---- linked
+
+pub linked_grows : (s : Segments) (p : Place) (room : Room) (w : ℕ) → Grows s (linked s p room w)
+linked_grows s p room w = grows_then s (with_pad s room w) (linked s p room w) (padded s room w) (splice_grows (with_pad s room w) p (slot_word room w ∷ []))
+  where
+    padded : (s : Segments) (room : Room) (w : ℕ) → Grows s (with_pad s room w)
+    padded s Here w = grows_same s
+    padded s (Near offset) w = grows_same s
+    padded s (Far pad) w = splice_grows s (place_view pad) (w ∷ [])
+
+becomes : (levels n : ℕ) (from s m u y : Segments) (p : Place) (o : Object) (room : Room) (t v : Tree) → suc levels ≤ n → is_some (words_at s p 1) ≡ true → is_leaf o ≡ false → RoomFor s m p (copied_words o) room → IsInside from o → IsSpelled o
+    → ((j : ℕ) → levels ≤ j → Fills j m u (begin_of p room) (copied_words o) (copied_at (begin_of p room) o) v) → ClearsValue u y p → Owns n s p t → Replaces n s (linked y p room (copied_pointer o)) p v
+becomes levels zero from s m u y p o room t v h e l r i f fill c own = absurd (omega (arith, h))
+becomes levels (suc n) from s m u y p o room t v h e l r i f fill c own =
+    let r0 = begin_of p room in
+    let d0 = allocated n s m p (copied_words o) room t e r own in
+    let d1 = filled_detached n s m u p t (begin_of p room) (copied_words o) (pads_in room) (copied_at (begin_of p room) o) v d0 (fill n (omega (arith, h))) in
+    let mine = (detached_owns n s u p t v (pads_in room) (copied_at (begin_of p room) o) d1).0 in
+    let d2 = detached_value n s u y p t null v (pads_in room) (copied_at (begin_of p room) o) d1 (c (suc n) t mine) in
+    let d3 = subst (λ (x : model.Object). Detached n s y p null (pads_in room) x v) (object_is (begin_of p room) o l) d2 in
+    subst (λ (w : ℕ). Replaces (suc n) s (linked y p room w) p v) (sym (pointer_is o l)) (linked_value n s m y p (copied_words o) room (new_of o) v r (new_some o l) (new_fits from o l i f) d3)
+
+pub copied_object : (levels : ℕ) (from s m u y z : Segments) (p q : Place) (o : Object) (room : Room) (there : Option Tree) (path : List Visit) (old mid new : ReadLimiter) → is_some (words_at s p 1) ≡ true → is_leaf o ≡ false → RoomFor s m p (copied_words o) room → IsInside from o → IsSpelled o
+    → (x : Pays from q old o mid)
+    → Copied there path (λ v. (n : ℕ) → levels ≤ n → Fills n m u (begin_of p room) (copied_words o) (copied_at (begin_of p room) o) v) m u mid new → ClearsValue u y p → Grows u y → z ≡ linked y p room (copied_pointer o)
+    → Copied there (Ok (x.pads + own_cost o) ∷ path) (BecomesCopy (suc levels) s z p) s z old new
+copied_object levels from s m u y z p q o room there path old mid new e l r i f x g c grows now = record {
+  value = g.value;
+  there_is = g.there_is;
+  walked = walked_both (Ok (x.pads + own_cost o) ∷ []) path old mid new (paid_walk from q old mid o x) g.walked;
+  grows = grows_then s m z (room_grows s m p (copied_words o) room r) (grows_then m u z g.grows (grows_then u y z grows (subst (λ (v : Segments). Grows y v) (sym now) (linked_grows y p room (copied_pointer o)))));
+  made = λ n t h own. subst (λ (v : Segments). Replaces n s v p g.value) (sym now) (becomes levels n from s m u y p o room t g.value h e l r i f g.made c own);
+}
+
+-- ---- given up
+
+total_alike : (u y : Segments) → map length y ≡ map length u → total_words u ≡ total_words y
+unfolding total_words
+total_alike [] [] e = refl
+total_alike [] (xs ∷ y) e = absurd cc
+total_alike (xs ∷ u) [] e = absurd cc
+total_alike (xs ∷ u) (ys ∷ y) e =
+    let first : length ys ≡ length xs = cc in
+    let rest : map length y ≡ map length u = cc in
+    omega (arith, first, total_alike u y rest)
+
+pub refused_object : (levels : ℕ) (from s m u y : Segments) (p q : Place) (o : Object) (room : Room) (path : List Visit) (old mid new : ReadLimiter) (e : Error) → is_some (words_at s p 1) ≡ true → RoomFor s m p (copied_words o) room
+    → (x : Pays from q old o mid)
+    → Refused from path ((t : Tree) × Fills levels m u (begin_of p room) (copied_words o) (copied_at (begin_of p room) o) t) u mid e new → ClearsObject u y (copied_at (begin_of p room) o) → map length y ≡ map length u
+    → Refused from (Ok (x.pads + own_cost o) ∷ path) (GrowsByZeros s y) y old e new
+refused_object levels from s m u y p q o room path old mid new e there r x g clears sizes = record {
+  left = given_up levels s m u y (begin_of p room) (copied_words o) (copied_at (begin_of p room) o) g.left.0 (room_new s m p (copied_words o) room there r) g.left.1 clears;
+  why = why_later from (Ok (x.pads + own_cost o) ∷ []) path (Ok (x.pads + own_cost o) ∷ path) [] u y old mid new e (ap (λ (vs : List Visit). Ok (x.pads + own_cost o) ∷ vs) (sym (append-nil path))) (total_alike u y sizes) (paid_walk from q old mid o x) g.why;
+}
+
+pub no_room : (from s u : Segments) (q : Place) (o : Object) (path : List Visit) (old new : ReadLimiter) (e : Error) → u ≡ s → (x : Pays from q old o new) → (e.kind ≡ SizeOverflow) ↔ IsTooLarge o (total_words s)
+    → Refused from (Ok (x.pads + own_cost o) ∷ path) (GrowsByZeros s u) u old e new
+no_room from s u q o path old new e now x kind = subst (λ (v : Segments). Refused from (Ok (x.pads + own_cost o) ∷ path) (GrowsByZeros s v) v old e new) (sym now) (record {
+  left = changes_nothing s (λ q. 0);
+  why = inr (record {
+    before = [];
+    rest = path;
+    at = q;
+    found = record { pads = x.pads; object = o };
+    found_is = x.is;
+    path_is = refl;
+    walked = paid_walk from q old new o x;
+    kind = kind;
+  });
+})
+
+-- ---- null and capabilities
+
+pub leaf_is : (o : Object) → (o ≡ object.Null) ⊎ ((i : ℕ) × (o ≡ object.Capability i)) → is_leaf o ≡ true
+leaf_is o (inl e) = ap is_leaf e
+leaf_is o (inr e) = ap is_leaf e.1
+
+pub no_leaf : (o : Object) → ((o ≡ object.Null) → ⊥) → ((i : ℕ) → o ≡ object.Capability i → ⊥) → is_leaf o ≡ false
+no_leaf object.Null a b = absurd (a refl)
+no_leaf (object.Capability i) a b = absurd (b i refl)
+no_leaf (object.Struct p d k) a b = refl
+no_leaf (object.List p size n) a b = refl
+no_leaf (object.PointerList p n) a b = refl
+no_leaf (object.StructList p words n d k) a b = refl
+
+pub leaf_filled : (levels : ℕ) (from s : Segments) (r : Place) (o : Object) (l : ReadLimiter) → is_leaf o ≡ true
+    → Copied (tree_in from (tree_at levels from) o) (met_in (visits levels from) o) (λ v. (n : ℕ) → levels ≤ n → Fills n s s r (copied_words o) (copied_at r o) v) s s l l
+leaf_filled levels from s r object.Null l h = record {
+  value = null;
+  there_is = refl;
+  walked = walked_none l;
+  grows = grows_same s;
+  made = λ n g. record { means = refl; changes = changes_alike s s (λ q. 0) (λ q. 0) (times_held (span r 0 ∷ [])) (object_footprint n s model.nothing) (changes_nothing s (λ q. 0)) (λ q. omega (arith, held_is r 0 [] q, held_none r q)) (λ q. refl) };
+}
+leaf_filled levels from s r (object.Capability i) l h = record {
+  value = capability i;
+  there_is = refl;
+  walked = walked_none l;
+  grows = grows_same s;
+  made = λ n g. record { means = refl; changes = changes_alike s s (λ q. 0) (λ q. 0) (times_held (span r 0 ∷ [])) (object_footprint n s (model.a_capability i)) (changes_nothing s (λ q. 0)) (λ q. omega (arith, held_is r 0 [] q, held_none r q)) (λ q. refl) };
+}
+leaf_filled levels from s r (object.Struct p d k) l h = absurd cc
+leaf_filled levels from s r (object.List p size n) l h = absurd cc
+leaf_filled levels from s r (object.PointerList p n) l h = absurd cc
+leaf_filled levels from s r (object.StructList p words n d k) l h = absurd cc
+
+-- what is made of zero words
+abbrev pub FillGives : ℕ → Segments → Segments → Segments → Place → Object → ReadLimiter → Result ⊤ Error → ReadLimiter → Type 0
+FillGives levels from s u r o old x new = CopyGives from (tree_in from (tree_at levels from) o) (met_in (visits levels from) o) (λ v. (n : ℕ) → levels ≤ n → Fills n s u r (copied_words o) (copied_at r o) v) ((t : Tree) × Fills levels s u r (copied_words o) (copied_at r o) t) s u old x new

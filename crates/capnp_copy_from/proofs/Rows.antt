@@ -1,0 +1,166 @@
+-- Pointers in a row, copied one after the other.
+use Rattle.std.proofs.Common.{◌≡◌, ℕ, zero, suc, ◌+◌, ◌-◌, ◌<◌, ◌≤◌, List, [], ◌++◌, Option, Some, refl, ap, sym, ◌∙◌, subst, arith}
+use Rattle.std.proofs.lemmas.List.{append_assoc, append-nil}
+use Rattle.capnp_model.specs.Chains.{◌>>=◌}
+use Rattle.capnp_model.specs.Segments.{Segments, Place, after}
+use Rattle.capnp_model.specs.Pointers.{a_struct}
+use Rattle.capnp_model.specs.Trees.{Tree, structure, Trees, none, ◌▸◌, tree_count, child, with_child, resized}
+use Rattle.capnp_model.specs.Traversal.{tree_at, each}
+use Rattle.capnp_model.specs.Coverage.{Grows, from_each}
+use Rattle.capnp_model.specs.Visits.{Visit, visits}
+use Rattle.capnp_units.specs.declared.errors.Error.{Error}
+use Rattle.capnp_units.specs.declared.limiter.ReadLimiter.{ReadLimiter}
+use Rattle.capnp_object.specs.Walks.{Walked}
+use Rattle.capnp_object.proofs.Rows.{each_next, met_next, row_start, row_end}
+use Rattle.capnp_object.proofs.Walks.{walked_none, walked_both}
+use Rattle.capnp_footprints.specs.Children.{with_first}
+use Rattle.capnp_footprints.specs.Footprints.{OwnsObject}
+use Rattle.capnp_footprints.specs.Changes.{Replaces, ReplacesObject}
+use Rattle.capnp_footprints.proofs.Algebra.{changes_nothing}
+use Rattle.capnp_footprints.proofs.Lift.{child_of_struct, struct_of_child, object_replaced_owned, object_replaced_then}
+use Rattle.capnp_footprints.proofs.Spans.{grows_same, grows_then}
+use Rattle.capnp_footprints.proofs.Turns.{struct_here, struct_next, struct_done}
+use Rattle.capnp_copy_from.specs.Copies.{BecomesCopy, GrowsByZeros, Copied, Refused, FillsRow, LeavesStruct}
+use Rattle.capnp_copy_from.proofs.Filling.{value_stands}
+use Rattle.capnp_copy_from.proofs.Refusals.{why_later}
+
+-- ---- trees one behind the other
+
+pub joined : Trees → Trees → Trees
+joined none us = us
+joined (t ▸ ts) us = t ▸ joined ts us
+
+pub joined_none : (ts : Trees) → joined ts none ≡ ts
+unfolding joined
+joined_none none = refl
+joined_none (t ▸ ts) = ap (λ (xs : Trees). t ▸ xs) (joined_none ts)
+
+joined_next : (ts : Trees) (t : Tree) (us : Trees) → joined ts (t ▸ us) ≡ joined (joined ts (t ▸ none)) us
+unfolding joined
+joined_next none t us = refl
+joined_next (u ▸ ts) t us = ap (λ (xs : Trees). u ▸ xs) (joined_next ts t us)
+
+joined_count : (ts : Trees) (t : Tree) (i : ℕ) → tree_count ts ≡ i → tree_count (joined ts (t ▸ none)) ≡ i + 1
+unfolding joined
+joined_count none t i e = omega (arith, e)
+joined_count (u ▸ ts) t i e = let more : tree_count (joined ts (t ▸ none)) ≡ tree_count ts + 1 = joined_count ts t (tree_count ts) refl in omega (arith, e, more)
+
+joined_child : (ts : Trees) (t : Tree) (i : ℕ) → tree_count ts ≡ i → child (joined ts (t ▸ none)) i ≡ t
+unfolding joined
+joined_child none t zero e = refl
+joined_child none t (suc i) e = absurd (omega (arith, e))
+joined_child (u ▸ ts) t zero e = absurd (omega (arith, e))
+joined_child (u ▸ ts) t (suc i) e = joined_child ts t i (omega (arith, e))
+
+-- what is behind the first of them isn't looked at
+first_joined : (ts : Trees) (us kids : Trees) (i : ℕ) → tree_count ts ≡ i → with_first i (joined ts us) kids ≡ with_first i ts kids
+unfolding joined
+first_joined none us kids zero e = refl
+first_joined none us kids (suc i) e = absurd (omega (arith, e))
+first_joined (t ▸ ts) us kids zero e = absurd (omega (arith, e))
+first_joined (t ▸ ts) us none (suc i) e = refl
+first_joined (t ▸ ts) us (k ▸ kids) (suc i) e = ap (λ (xs : Trees). t ▸ xs) (first_joined ts us kids i (omega (arith, e)))
+
+-- just as many
+resized_same : (k : ℕ) (ts : Trees) → tree_count ts ≡ k → resized k ts ≡ ts
+resized_same zero none e = refl
+resized_same zero (t ▸ ts) e = absurd (omega (arith, e))
+resized_same (suc k) none e = absurd (omega (arith, e))
+resized_same (suc k) (t ▸ ts) e = ap (λ (xs : Trees). t ▸ xs) (resized_same k ts (omega (arith, e)))
+
+-- ---- the row
+
+-- the first i are copied, and paid
+pub record RowSoFar (levels : ℕ) (from : Segments) (p : Place) (k i : ℕ) (s u : Segments) (r : Place) (d : ℕ) (old new : ReadLimiter) : Type 0 where
+  pub first : Trees
+  pub count : tree_count first ≡ i
+  pub past : List Visit
+  pub walked : Walked past old new
+  pub path_is : from_each (visits levels from) p k ≡ past ++ from_each (visits levels from) (after p i) (k - i)
+  pub grows : Grows s u
+  pub read : (ts : Trees) → each (tree_at levels from) (after p i) (k - i) ≡ Some ts → each (tree_at levels from) p k ≡ Some (joined first ts)
+  pub made : (n own : ℕ) (kids : Trees) → levels ≤ n → OwnsObject n s (a_struct r d k) (structure d own kids) → ReplacesObject n s u (a_struct r d k) (structure d own (with_first i first kids))
+
+module _ (levels : ℕ) (from : Segments) (p : Place) (k : ℕ) (s : Segments) (r : Place) (d : ℕ) (l : ReadLimiter) where
+  f : Place → Option Tree
+  f = tree_at levels from
+
+  v : Place → List Visit
+  v = visits levels from
+
+  pub row_begun : RowSoFar levels from p k 0 s s r d l l
+  unfolding joined f v
+  row_begun = record {
+    first = none;
+    count = refl;
+    past = [];
+    walked = walked_none l;
+    path_is = sym (row_start p k (from_each (visits levels from)));
+    grows = grows_same s;
+    read = λ ts e. sym (row_start p k (each (tree_at levels from))) ∙ e;
+    made = λ n own kids h o. record { means = o.means; changes = changes_nothing s _ };
+  }
+
+  module _ (i : ℕ) (u w : Segments) (m m' : ReadLimiter) (in_row : i < k) (so : RowSoFar levels from p k i s u r d l m) where
+    pub row_next : Copied (tree_at levels from (after p i)) (visits levels from (after p i)) (BecomesCopy levels u w (after (after r d) i)) u w m m' → RowSoFar levels from p k (i + 1) s w r d l m'
+    row_next x = record {
+      first = joined so.first (x.value ▸ none);
+      count = joined_count so.first x.value i so.count;
+      past = so.past ++ visits levels from (after p i);
+      walked = walked_both so.past (visits levels from (after p i)) l m m' so.walked x.walked;
+      path_is = so.path_is ∙ ap (λ (vs : List Visit). so.past ++ vs) (met_next p i k in_row (visits levels from)) ∙ sym (append_assoc so.past (visits levels from (after p i)) (from_each (visits levels from) (after p (i + 1)) (k - (i + 1))));
+      grows = grows_then s u w so.grows x.grows;
+      read = λ ts e. so.read (x.value ▸ ts) (each_next p i k in_row (tree_at levels from) ∙ found x.value ts x.there_is e) ∙ ap (λ (us : Trees). Some us) (more x.value ts);
+      made = λ n own kids h o. (
+          let now = so.made n own kids h o in
+          let first = joined so.first (x.value ▸ none) in
+          let same : with_first i (joined so.first (x.value ▸ none)) kids ≡ with_first i so.first kids = first_joined so.first (x.value ▸ none) kids i so.count in
+          let before : ReplacesObject n s u (a_struct r d k) (structure d own (with_first i (joined so.first (x.value ▸ none)) kids)) = subst (λ (ts : Trees). ReplacesObject n s u (a_struct r d k) (structure d own ts)) (sym same) now in
+          let slot = struct_here n s u r d k i d own (joined so.first (x.value ▸ none)) kids in_row o before in
+          let one = x.made n _ h slot in
+          let one' : Replaces n u w (after (after r d) i) (child (joined so.first (x.value ▸ none)) i) = subst (Replaces n u w (after (after r d) i)) (sym (joined_child so.first x.value i so.count)) one in
+          let all = struct_next n s u w r d k i d own (joined so.first (x.value ▸ none)) kids in_row o before one' in
+          let number : suc i ≡ i + 1 = omega arith in
+          subst (λ (j : ℕ). ReplacesObject n s w (a_struct r d k) (structure d own (with_first j (joined so.first (x.value ▸ none)) kids))) number all
+          );
+    }
+      where
+        found : (t : Tree) (ts : Trees) → tree_at levels from (after p i) ≡ Some t → each (tree_at levels from) (after p (i + 1)) (k - (i + 1)) ≡ Some ts → (tree_at levels from (after p i) >>= λ t. each (tree_at levels from) (after p (i + 1)) (k - (i + 1)) >>= λ ts. Some (t ▸ ts)) ≡ Some (t ▸ ts)
+        found t ts e g = rw (e, g) refl
+
+        more : (t : Tree) (ts : Trees) → joined so.first (t ▸ ts) ≡ joined (joined so.first (t ▸ none)) ts
+        more t ts = joined_next so.first t ts
+
+    -- a child that is refused leaves the row as it was
+    pub row_stopped : (e : Error) → Refused from (visits levels from (after p i)) (GrowsByZeros u w) w m e m' → Refused from (from_each (visits levels from) p k) (LeavesStruct levels s w r d k) w l e m'
+    row_stopped e x = record {
+      left = λ n own kids h o. (
+          let now = so.made n own kids h o in
+          let mine = object_replaced_owned n s u (a_struct r d k) _ _ o now in
+          let slot = child_of_struct n u r d k i d own (with_first i so.first kids) in_row mine in
+          let same = value_stands n u w (after (after r d) i) (child (with_first i so.first kids) i) slot x.left in
+          let next = struct_of_child n u w r d k i d own (with_first i so.first kids) (child (with_first i so.first kids) i) in_row mine same in
+          (own, with_child (with_first i so.first kids) i (child (with_first i so.first kids) i), object_replaced_then n s u w (a_struct r d k) _ _ now next)
+          );
+      why = why_later from so.past (visits levels from (after p i)) (from_each (visits levels from) p k) (from_each (visits levels from) (after p (i + 1)) (k - (i + 1))) w w l m m' e
+          (so.path_is ∙ ap (λ (vs : List Visit). so.past ++ vs) (met_next p i k in_row (visits levels from))) refl so.walked x.why;
+    }
+
+  pub row_ended : (i : ℕ) (u : Segments) (m : ReadLimiter) → i ≡ k → RowSoFar levels from p k i s u r d l m → Copied (each (tree_at levels from) p k) (from_each (visits levels from) p k) (FillsRow levels s u r d k) s u l m
+  row_ended i u m all so =
+      let past : k ≤ i = omega (arith, all) in
+      let nothing : each (tree_at levels from) (after p i) (k - i) ≡ Some none = row_end k i (each (tree_at levels from) (after p i)) past in
+      let no_more : from_each (visits levels from) (after p i) (k - i) ≡ [] = row_end k i (from_each (visits levels from) (after p i)) past in
+      let whole : from_each (visits levels from) p k ≡ so.past = so.path_is ∙ ap (λ (vs : List Visit). so.past ++ vs) no_more ∙ append-nil so.past in
+      record {
+        value = so.first;
+        there_is = so.read none nothing ∙ ap (λ (ts : Trees). Some ts) (joined_none so.first);
+        walked = subst (λ (vs : List Visit). Walked vs l m) (sym whole) so.walked;
+        grows = so.grows;
+        made = λ n own kids h o. (
+            let now = so.made n own kids h o in
+            let number : with_first i so.first kids ≡ with_first k so.first kids = ap (λ (j : ℕ). with_first j so.first kids) all in
+            let same : with_first i so.first kids ≡ so.first = number ∙ struct_done n s r d k d own so.first kids o ∙ resized_same k so.first (so.count ∙ all) in
+            subst (λ (ts : Trees). ReplacesObject n s u (a_struct r d k) (structure d own ts)) same now
+            );
+      }

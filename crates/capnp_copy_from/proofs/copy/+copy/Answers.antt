@@ -1,0 +1,421 @@
+-- What each step makes, keeps and pays.
+use Rattle.std.proofs.Common.{◌≡◌, inl, ℕ, suc, ◌+◌, ◌-◌, ◌*◌, ◌%◌, ◌^◌, ◌<◌, ◌≤◌, true, [], ◌∷◌, replicate, Some, Ok, refl, ap, sym, ◌∙◌, subst, arith, rules}
+use Rattle.std.specs.Option.{is_some}
+use Rattle.std.proofs.lemmas.Result.{err_from_is_err_and}
+use Rattle.capnp_model.specs.Sections.{section_of, words_for}
+use Rattle.capnp_model.specs.Segments.{Segments, Place, after, words_at}
+use Rattle.capnp_model.specs.Trees.{Tree, plain_list}
+use Rattle.capnp_model.specs.Traversal.{tree_at, each, each_element}
+use Rattle.capnp_model.specs.Coverage.{Grows, from_each, from_elements}
+use Rattle.capnp_model.specs.Encoding.{struct_pointer}
+use Rattle.capnp_model.specs.Visits.{visits}
+use Rattle.capnp_units.specs.Segments.{words_in}
+use Rattle.capnp_units.specs.Sizes.{size_number, data_bits}
+use Rattle.capnp_object.specs.Places.{place_view}
+use Rattle.capnp_object.specs.Objects.{IsInside}
+use Rattle.capnp_object.specs.Follow.{own_cost}
+use Rattle.capnp_object.specs.Inside.{tree_in, met_in, section_at, words_there}
+use Rattle.capnp_object.specs.declared.object.Object.{Object}
+use Rattle.capnp_object.specs.declared.object.Object.TheVariants as object
+use Rattle.capnp_object.proofs.Walks.{walked_none}
+use Rattle.capnp_footprints.specs.Writes.{with_words}
+use Rattle.capnp_footprints.proofs.Algebra.{changes_nothing}
+use Rattle.capnp_footprints.proofs.Rows.{after_sum}
+use Rattle.capnp_footprints.proofs.Splices.{splice_grows}
+use Rattle.capnp_copy.specs.Clearing.{ClearsObject}
+use Rattle.capnp_copy.specs.Rooms.{begin_of, linked}
+use Rattle.capnp_copy.proofs.RoomLaws.{word_there, sizes_grow, still_some, room_addressed, room_grows, room_pad, pad_stays, room_near}
+use Rattle.capnp_copy_from.specs.Copies.{BecomesCopy, GrowsByZeros, Copied, Refused, Fills, LeavesStruct, FillsRow, FillsElements, LeavesElements}
+use Rattle.capnp_copy_from.specs.Objects.{copied_words, most_counted, copied_at, copied_pointer}
+use Rattle.capnp_copy_from.proofs.Parts.{section_is, part_there, front_there, part_is}
+use Rattle.capnp_copy_from.proofs.Allocated.{room_new}
+use Rattle.capnp_copy_from.proofs.Following.{stopped_at, leaf_copied, deep_at, leaf_put}
+use Rattle.capnp_copy_from.proofs.Counting.{stopped_few, copy_few}
+use Rattle.capnp_copy_from.proofs.Refusals.{refused_is}
+use Rattle.capnp_copy_from.proofs.Rows.{row_begun, row_next, row_stopped, row_ended}
+use Rattle.capnp_copy_from.proofs.Elements.{elements_begun, elements_next, elements_stopped, elements_ended, elements_at_once, element_within}
+use Rattle.capnp_copy_from.proofs.Made.{struct_copied, struct_fills, pointers_fill, list_fills, structs_fill}
+use Rattle.capnp_copy_from.proofs.Placed.{copied_object, refused_object, no_room, leaf_is, no_leaf, leaf_filled, FillGives}
+use Rattle.capnp_copy_from.proofs.copy.+copy.Goals as goal
+
+pub copy_from-returns-in_err-object-clause-copy : goal.copy_from-returns-in_err-object-clause-copy
+copy_from-returns-in_err-object-clause-copy g t c =
+    let from : Segments = words_in (g.B.ReaderArena.segments c.args.source.now) in
+    let s : Segments = words_in (g.A.ReaderArena.segments c.args.arena.now) in
+    let p : Place = place_view c.args.place in
+    let n = c.args.levels in
+    let r = err_from_is_err_and c.from_residual.result c.from_residual.ensures.1 in
+    refused_is from (tree_at n from p) (visits n from p) (BecomesCopy n s s (place_view c.args.slot)) (GrowsByZeros s s) s s c.args.limiter.now c.follow_within.new.limiter c.from_residual.result r.0 c.in_err-object.field-0.0 r.1 r.2
+    (record { left = changes_nothing s (λ q. 0); why = inl (stopped_at n from p c.args.limiter.now c.follow_within.new.limiter c.in_err-object.field-0.0 c.in_err-object.ensures) })
+
+pub copy_from-returns-then-levels-eq0-clause-copy : goal.copy_from-returns-then-levels-eq0-clause-copy
+copy_from-returns-then-levels-eq0-clause-copy g t c =
+    let from : Segments = words_in (g.B.ReaderArena.segments c.args.source.now) in
+    let s : Segments = words_in (g.A.ReaderArena.segments c.args.arena.now) in
+    let u : Segments = words_in (g.A.ReaderArena.segments c.put_leaf.new.arena) in
+    leaf_copied c.args.levels from (place_view c.args.place) c.in_ok-object.object c.args.limiter.now c.follow_within.new.limiter s u (place_view c.args.slot) c.if-levels-eq0.true c.in_ok-object.ensures.0 c.in_ok-object.ensures.1 c.put_leaf.ensures.becomes c.put_leaf.ensures.grows
+
+pub copy_from-returns-clause-copy : goal.copy_from-returns-clause-copy
+copy_from-returns-clause-copy g t c =
+    let from : Segments = words_in (g.B.ReaderArena.segments c.args.source.now) in
+    let s : Segments = words_in (g.A.ReaderArena.segments c.args.arena.now) in
+    let u : Segments = words_in (g.A.ReaderArena.segments c.copy_object.new.arena) in
+    let some = c.if-levels-eq0.false in
+    let pays = c.in_ok-object.ensures.0 in
+    deep_at c.args.levels (c.args.levels - 1) from (place_view c.args.place) c.in_ok-object.object c.args.limiter.now c.follow_within.new.limiter c.copy_object.new.limiter s u (place_view c.args.slot) c.copy_object.result (omega arith) pays
+    (c.copy_object.ensures.copy c.args.limiter.now (place_view c.args.place) pays)
+
+pub copy_from-returns-in_err-object-clause-few : goal.copy_from-returns-in_err-object-clause-few
+copy_from-returns-in_err-object-clause-few g t c =
+    let from : Segments = words_in (g.B.ReaderArena.segments c.args.source.now) in
+    let p : Place = place_view c.args.place in
+    let e = c.in_err-object.field-0.0 in
+    stopped_few c.args.levels from p c.args.limiter.now c.follow_within.new.limiter e (stopped_at c.args.levels from p c.args.limiter.now c.follow_within.new.limiter e c.in_err-object.ensures)
+
+pub copy_from-returns-clause-few : goal.copy_from-returns-clause-few
+copy_from-returns-clause-few g t c =
+    let from : Segments = words_in (g.B.ReaderArena.segments c.args.source.now) in
+    let s : Segments = words_in (g.A.ReaderArena.segments c.args.arena.now) in
+    let u : Segments = words_in (g.A.ReaderArena.segments c.copy_object.new.arena) in
+    copy_few c.args.levels from (place_view c.args.place) s u (place_view c.args.slot) c.args.limiter.now c.copy_object.new.limiter c.copy_object.result (copy_from-returns-clause-copy g t c)
+
+pub copy_object-returns-in-Null-clause-copy : goal.copy_object-returns-in-Null-clause-copy
+copy_object-returns-in-Null-clause-copy g t c = λ l p pays.
+    let from : Segments = words_in (g.B.ReaderArena.segments c.args.source.now) in
+    let s : Segments = words_in (g.A.ReaderArena.segments c.args.arena.now) in
+    let u : Segments = words_in (g.A.ReaderArena.segments c.put_leaf.new.arena) in
+    let n = c.args.levels in
+    leaf_put n (tree_at n from) (visits n from) from p c.args.object l c.args.limiter.now s u (place_view c.args.slot) (leaf_is c.args.object c.in-Null.is) pays c.put_leaf.ensures.becomes c.put_leaf.ensures.grows
+
+pub copy_object-room_for-requires : goal.copy_object-room_for-requires
+copy_object-room_for-requires g t c = word_there (words_in (g.A.ReaderArena.segments c.args.arena.now)) (place_view c.args.slot) c.requires.there
+
+pub copy_object-returns-in_err-room : goal.copy_object-returns-in_err-room
+copy_object-returns-in_err-room g t c =
+    let from : Segments = words_in (g.B.ReaderArena.segments c.args.source.now) in
+    let s : Segments = words_in (g.A.ReaderArena.segments c.args.arena.now) in
+    let u : Segments = words_in (g.A.ReaderArena.segments c.room_for.new.arena) in
+    let n = c.args.levels in
+    let o = c.args.object in
+    let r = err_from_is_err_and c.from_residual.result c.from_residual.ensures.1 in
+    let e = c.in_err-room.field-0.0 in
+    record {
+      copy = λ l p pays. refused_is from (tree_in from (tree_at n from) o) (Ok (pays.pads + own_cost o) ∷ met_in (visits n from) o) (BecomesCopy (suc n) s u (place_view c.args.slot)) (GrowsByZeros s u) s u l c.args.limiter.now c.from_residual.result r.0 e r.1 r.2
+          (no_room from s u p o (met_in (visits n from) o) l c.args.limiter.now e (ap words_in c.in_err-room.ensures.refused) pays c.in_err-room.ensures.kind);
+      books = c.in_err-room.ensures.books;
+    }
+
+pub copy_object-begin_of-start-requires : goal.copy_object-begin_of-start-requires
+copy_object-begin_of-start-requires g t c =
+    let s : Segments = words_in (g.A.ReaderArena.segments c.args.arena.now) in
+    let m : Segments = words_in (g.A.ReaderArena.segments c.room_for.new.arena) in
+    record { slot = c.requires.near; room = room_addressed s m (place_view c.args.slot) (copied_words c.args.object) c.in_ok-room.room c.in_ok-room.ensures.ok }
+
+pub copy_object-fill-requires : goal.copy_object-fill-requires
+copy_object-fill-requires g t c =
+    let s : Segments = words_in (g.A.ReaderArena.segments c.args.arena.now) in
+    let m : Segments = words_in (g.A.ReaderArena.segments c.room_for.new.arena) in
+    let p : Place = place_view c.args.slot in
+    let k = copied_words c.args.object in
+    let room = c.in_ok-room.room in
+    let begins : place_view c.begin_of-start.result ≡ begin_of p c.in_ok-room.room = c.begin_of-start.ensures in
+    let new = room_new s m p (copied_words c.args.object) c.in_ok-room.room c.requires.there c.in_ok-room.ensures.ok in
+    let zeros : words_at m (place_view c.begin_of-start.result) (copied_words c.args.object) ≡ Some (replicate (copied_words c.args.object) 0) = subst (λ (q : Place). words_at m q (copied_words c.args.object) ≡ Some (replicate (copied_words c.args.object) 0)) (sym begins) new.zeros in
+    let near = room_near s m p (copied_words c.args.object) c.in_ok-room.room c.requires.near c.in_ok-room.ensures.ok in
+    let at : c.begin_of-start.result.position ≡ (begin_of p c.in_ok-room.room).position = ap (λ (q : Place). q.position) begins in
+    λ κs lives. (omega arith, (lives.0, (lives.1, (zeros, (omega (arith, near, at), (c.in_ok-room.ensures.few, c.requires.inside))))))
+
+pub copy_object-link-requires : goal.copy_object-link-requires
+copy_object-link-requires g t c =
+    let s : Segments = words_in (g.A.ReaderArena.segments c.args.arena.now) in
+    let m : Segments = words_in (g.A.ReaderArena.segments c.room_for.new.arena) in
+    let u : Segments = words_in (g.A.ReaderArena.segments c.fill.new.arena) in
+    let y : Segments = words_in (g.A.ReaderArena.segments c.clear.new.arena) in
+    let p : Place = place_view c.args.slot in
+    let room = c.in_ok-room.room in
+    let first = room_grows s m p (copied_words c.args.object) c.in_ok-room.room c.in_ok-room.ensures.ok in
+    let then = c.in-Ok.ensures.copy.grows in
+    let last = sizes_grow u y c.clear.ensures.sizes in
+    record {
+      slot = still_some u y p 1 last (still_some m u p 1 then (still_some s m p 1 first c.requires.there));
+      pad = pad_stays u y room last (pad_stays m u room then (room_pad s m p (copied_words c.args.object) c.in_ok-room.room c.in_ok-room.ensures.ok));
+      room = room_addressed s m p (copied_words c.args.object) c.in_ok-room.room c.in_ok-room.ensures.ok;
+      offset = c.pointer_word.ensures.offset;
+    }
+
+pub copy_object-returns-in-Ok : goal.copy_object-returns-in-Ok
+copy_object-returns-in-Ok g t c =
+    let from : Segments = words_in (g.B.ReaderArena.segments c.args.source.now) in
+    let s : Segments = words_in (g.A.ReaderArena.segments c.args.arena.now) in
+    let m : Segments = words_in (g.A.ReaderArena.segments c.room_for.new.arena) in
+    let u : Segments = words_in (g.A.ReaderArena.segments c.fill.new.arena) in
+    let y : Segments = words_in (g.A.ReaderArena.segments c.clear.new.arena) in
+    let z : Segments = words_in (g.A.ReaderArena.segments c.link.new.arena) in
+    let p : Place = place_view c.args.slot in
+    let n = c.args.levels in
+    let o = c.args.object in
+    let room = c.in_ok-room.room in
+    let begins : place_view c.begin_of-start.result ≡ begin_of p c.in_ok-room.room = c.begin_of-start.ensures in
+    let kind = no_leaf c.args.object c.in_default.not-Null c.in_default.not-Capability in
+    let filled = subst (λ (r : Place). Copied (tree_in from (tree_at n from) o) (met_in (visits n from) o) (λ v. (j : ℕ) → n ≤ j → Fills j m u r (copied_words o) (copied_at r o) v) m u c.args.limiter.now c.fill.new.limiter) begins c.in-Ok.ensures.copy in
+    let now : z ≡ linked y p room (copied_pointer o) = c.link.ensures.words ∙ ap (linked y p room) c.pointer_word.ensures.word in
+    record {
+      copy = λ l q pays. copied_object n from s m u y z p q o room (tree_in from (tree_at n from) o) (met_in (visits n from) o) l c.args.limiter.now c.fill.new.limiter c.requires.there kind c.in_ok-room.ensures.ok c.requires.inside c.in_ok-room.ensures.spelled pays filled c.clear.ensures.clears (sizes_grow u y c.clear.ensures.sizes) now;
+      books = c.link.ensures.books ∙ c.clear.ensures.books ∙ c.in-Ok.ensures.books ∙ c.in_ok-room.ensures.books;
+    }
+
+pub copy_object-returns-in-Err : goal.copy_object-returns-in-Err
+copy_object-returns-in-Err g t c =
+    let from : Segments = words_in (g.B.ReaderArena.segments c.args.source.now) in
+    let s : Segments = words_in (g.A.ReaderArena.segments c.args.arena.now) in
+    let m : Segments = words_in (g.A.ReaderArena.segments c.room_for.new.arena) in
+    let u : Segments = words_in (g.A.ReaderArena.segments c.fill.new.arena) in
+    let y : Segments = words_in (g.A.ReaderArena.segments c.clear_object.new.arena) in
+    let p : Place = place_view c.args.slot in
+    let n = c.args.levels in
+    let o = c.args.object in
+    let e = c.in-Err.error in
+    let begins : place_view c.begin_of-start.result ≡ begin_of p c.in_ok-room.room = c.begin_of-start.ensures in
+    let left = subst (λ (r : Place). Refused from (met_in (visits n from) o) ((t : Tree) × Fills n m u r (copied_words o) (copied_at r o) t) u c.args.limiter.now e c.fill.new.limiter) begins c.in-Err.ensures.copy in
+    let clears : ClearsObject u y (copied_at (begin_of p c.in_ok-room.room) o) = subst (λ (r : Place). ClearsObject u y (copied_at r o)) begins (subst (ClearsObject u y) c.copy_at.ensures c.clear_object.ensures.clears) in
+    record {
+      copy = λ l q pays. refused_object n from s m u y p q o c.in_ok-room.room (met_in (visits n from) o) l c.args.limiter.now c.fill.new.limiter e c.requires.there c.in_ok-room.ensures.ok pays left clears c.clear_object.ensures.sizes;
+      books = c.clear_object.ensures.books ∙ c.in-Err.ensures.books ∙ c.in_ok-room.ensures.books;
+    }
+
+-- ---- by kind
+
+pub fill-returns-in-Null-clause-copy : goal.fill-returns-in-Null-clause-copy
+fill-returns-in-Null-clause-copy g t c =
+    let from : Segments = words_in (g.B.ReaderArena.segments c.args.source.now) in
+    let s : Segments = words_in (g.A.ReaderArena.segments c.args.arena.now) in
+    leaf_filled c.args.levels from s (place_view c.args.start) c.args.object c.args.limiter.now (leaf_is c.args.object c.in-Null.is)
+
+pub fill-returns-in-Struct-clause-copy : goal.fill-returns-in-Struct-clause-copy
+fill-returns-in-Struct-clause-copy g t c =
+    let from : Segments = words_in (g.B.ReaderArena.segments c.args.source.now) in
+    let s : Segments = words_in (g.A.ReaderArena.segments c.args.arena.now) in
+    let u : Segments = words_in (g.A.ReaderArena.segments c.fill_struct.new.arena) in
+    let n = c.args.levels in
+    let r : Place = place_view c.args.start in
+    let x = c.in-Struct in
+    let p : Place = place_view x.from in
+    let zeros = subst (λ (o : Object). words_at s r (copied_words o) ≡ Some (replicate (copied_words o) 0)) x.is c.requires.zeros in
+    subst (λ (o : Object). FillGives n from s u r o c.args.limiter.now c.fill_struct.result c.fill_struct.new.limiter) (sym x.is)
+    (struct_fills n from (each (tree_at n from) (after p x.data_words) x.pointers) (from_each (visits n from) (after p x.data_words) x.pointers) (section_at from p x.data_words) s u r x.data_words x.pointers c.args.limiter.now c.fill_struct.new.limiter c.fill_struct.result zeros c.fill_struct.ensures.copy)
+
+pub fill-returns-in-List-clause-copy : goal.fill-returns-in-List-clause-copy
+fill-returns-in-List-clause-copy g t c =
+    let from : Segments = words_in (g.B.ReaderArena.segments c.args.source.now) in
+    let s : Segments = words_in (g.A.ReaderArena.segments c.args.arena.now) in
+    let u : Segments = words_in (g.A.ReaderArena.segments c.copy_words.new.arena) in
+    let n = c.args.levels in
+    let r : Place = place_view c.args.start in
+    let x = c.in-List in
+    let p : Place = place_view x.from in
+    let size = size_number x.size in
+    let k = words_for (data_bits (size_number x.size) * x.count) in
+    let zeros = subst (λ (o : Object). words_at s r (copied_words o) ≡ Some (replicate (copied_words o) 0)) x.is c.requires.zeros in
+    let inside = subst (IsInside from) x.is c.requires.inside in
+    let words : c.words_of_elements-words.result ≡ words_for (data_bits (size_number x.size) * x.count) = c.words_of_elements-words.ensures.words in
+    let now : u ≡ with_words s r (words_there from p (words_for (data_bits (size_number x.size) * x.count))) = c.copy_words.ensures.words ∙ ap (λ (j : ℕ). with_words s r (words_there from p j)) words in
+    let gives : Copied (tree_in from (tree_at n from) (object.List x.from x.size x.count)) (met_in (visits n from) (object.List x.from x.size x.count)) (λ v. (j : ℕ) → n ≤ j → Fills j s u r (words_for (data_bits (size_number x.size) * x.count)) (copied_at r (object.List x.from x.size x.count)) v) s u c.args.limiter.now c.args.limiter.now = record {
+      value = plain_list (size_number x.size) x.count (section_at from p (words_for (data_bits (size_number x.size) * x.count)) % 2 ^ (data_bits (size_number x.size) * x.count));
+      there_is = refl;
+      walked = walked_none c.args.limiter.now;
+      grows = subst (λ (v : Segments). Grows s v) (sym now) (splice_grows s r _);
+      made = λ j h. list_fills j from p s u r (size_number x.size) x.count (words_for (data_bits (size_number x.size) * x.count)) inside.0 refl inside.1.0 zeros now;
+    } in
+    subst (λ (o : Object). FillGives n from s u r o c.args.limiter.now (Ok tt) c.args.limiter.now) (sym x.is) gives
+
+pub fill-returns-in-PointerList-clause-copy : goal.fill-returns-in-PointerList-clause-copy
+fill-returns-in-PointerList-clause-copy g t c =
+    let from : Segments = words_in (g.B.ReaderArena.segments c.args.source.now) in
+    let s : Segments = words_in (g.A.ReaderArena.segments c.args.arena.now) in
+    let u : Segments = words_in (g.A.ReaderArena.segments c.fill_row.new.arena) in
+    let n = c.args.levels in
+    let r : Place = place_view c.args.start in
+    let x = c.in-PointerList in
+    let p : Place = place_view x.from in
+    let zeros = subst (λ (o : Object). words_at s r (copied_words o) ≡ Some (replicate (copied_words o) 0)) x.is c.requires.zeros in
+    subst (λ (o : Object). FillGives n from s u r o c.args.limiter.now c.fill_row.result c.fill_row.new.limiter) (sym x.is)
+    (pointers_fill n from (each (tree_at n from) p x.count) (from_each (visits n from) p x.count) s u r x.count c.args.limiter.now c.fill_row.new.limiter c.fill_row.result zeros c.fill_row.ensures.copy)
+
+pub fill-returns-in-StructList-clause-copy : goal.fill-returns-in-StructList-clause-copy
+fill-returns-in-StructList-clause-copy g t c =
+    let from : Segments = words_in (g.B.ReaderArena.segments c.args.source.now) in
+    let s : Segments = words_in (g.A.ReaderArena.segments c.args.arena.now) in
+    let m : Segments = words_in (g.A.ReaderArena.segments c.write_word.new.self) in
+    let u : Segments = words_in (g.A.ReaderArena.segments c.fill_elements.new.arena) in
+    let n = c.args.levels in
+    let r : Place = place_view c.args.start in
+    let x = c.in-StructList in
+    let p : Place = place_view x.from in
+    let zeros = subst (λ (o : Object). words_at s r (copied_words o) ≡ Some (replicate (copied_words o) 0)) x.is c.requires.zeros in
+    let few = subst (λ (o : Object). most_counted o < 2 ^ 29) x.is c.requires.few in
+    let now : m ≡ with_words s r (struct_pointer x.count x.data_words x.pointers ∷ []) = c.write_word.ensures.words ∙ ap (λ (w : ℕ). with_words s r (w ∷ [])) c.tag_word.ensures in
+    subst (λ (o : Object). FillGives n from s u r o c.args.limiter.now c.fill_elements.result c.fill_elements.new.limiter) (sym x.is)
+    (structs_fill n from (each_element (tree_at n from) p (words_there from p x.words) x.data_words x.pointers x.count) (from_elements (visits n from) p x.data_words x.pointers x.count) s m u r x.data_words x.pointers x.count c.args.limiter.now c.fill_elements.new.limiter c.fill_elements.result
+    (omega (arith, few), search rules, search rules, omega (arith, few)) zeros now c.fill_elements.ensures.copy)
+
+pub fill-fill_elements-requires : goal.fill-fill_elements-requires
+fill-fill_elements-requires g t c =
+    let from : Segments = words_in (g.B.ReaderArena.segments c.args.source.now) in
+    let s : Segments = words_in (g.A.ReaderArena.segments c.args.arena.now) in
+    let m : Segments = words_in (g.A.ReaderArena.segments c.write_word.new.self) in
+    let r : Place = place_view c.args.start in
+    let x = c.in-StructList in
+    let zeros = subst (λ (o : Object). words_at s r (copied_words o) ≡ Some (replicate (copied_words o) 0)) x.is c.requires.zeros in
+    let near = subst (λ (o : Object). c.args.start.position + copied_words o < 2 ^ 61) x.is c.requires.near in
+    let inside = subst (IsInside from) x.is c.requires.inside in
+    let there : is_some (words_at m r (1 + x.count * (x.data_words + x.pointers))) ≡ true = still_some s m r (1 + x.count * (x.data_words + x.pointers)) (subst (λ (v : Segments). Grows s v) (sym c.write_word.ensures.words) (splice_grows s r _)) (ap is_some zeros) in
+    λ κs lives. (omega arith, (lives.0, (lives.1, (there, (near, (inside.0, inside.1))))))
+
+-- ---- structs of a list
+
+pub fill_elements-returns-then-pointers-eq0-clause-copy : goal.fill_elements-returns-then-pointers-eq0-clause-copy
+fill_elements-returns-then-pointers-eq0-clause-copy g t c =
+    let from : Segments = words_in (g.B.ReaderArena.segments c.args.source.now) in
+    let s : Segments = words_in (g.A.ReaderArena.segments c.args.arena.now) in
+    let u : Segments = words_in (g.A.ReaderArena.segments c.copy_words.new.arena) in
+    elements_at_once c.args.levels from (place_view c.args.from) c.args.words c.args.data_words c.args.pointers c.args.count s u (place_view c.args.start) c.args.limiter.now c.if-pointers-eq0.true c.requires.inside.0 c.requires.fit c.copy_words.ensures.words
+
+pub fill_elements-loop-i-init : goal.fill_elements-loop-i-init
+fill_elements-loop-i-init g t c =
+    let from : Segments = words_in (g.B.ReaderArena.segments c.args.source.now) in
+    let s : Segments = words_in (g.A.ReaderArena.segments c.args.arena.now) in
+    let p : Place = place_view c.args.from in
+    (elements_begun c.args.levels from p (words_there from p c.args.words) c.args.data_words c.args.pointers c.args.count s (place_view c.args.start) c.args.limiter.now, refl)
+
+pub fill_elements-fill_struct-requires : goal.fill_elements-fill_struct-requires
+fill_elements-fill_struct-requires g t c =
+    let from : Segments = words_in (g.B.ReaderArena.segments c.args.source.now) in
+    let s : Segments = words_in (g.A.ReaderArena.segments c.args.arena.now) in
+    let u : Segments = words_in (g.A.ReaderArena.segments c.loop-i.arena) in
+    let p : Place = place_view c.args.from in
+    let r : Place = place_view c.args.start in
+    let w = c.args.data_words + c.args.pointers in
+    let i = c.loop-i.i in
+    let in_row = c.loop-i-test.true in
+    let all = still_some s u r (1 + c.args.count * (c.args.data_words + c.args.pointers)) c.loop-i.invariant.0.grows c.requires.there in
+    let within = element_within i c.args.count w w (c.args.count * w) in_row (omega arith) (omega arith) in
+    let inside = element_within i c.args.count w w c.args.words in_row (omega arith) c.requires.fit in
+    let sum : 1 + i * w ≡ 1 + i * w = refl in
+    let there : is_some (words_at u (after (after r 1) (i * (c.args.data_words + c.args.pointers))) (c.args.data_words + c.args.pointers)) ≡ true = subst (λ (q : Place). is_some (words_at u q (c.args.data_words + c.args.pointers)) ≡ true) (sym (after_sum r 1 (i * (c.args.data_words + c.args.pointers)) (1 + i * (c.args.data_words + c.args.pointers)) refl)) (part_there u r (1 + c.args.count * (c.args.data_words + c.args.pointers)) all (1 + i * (c.args.data_words + c.args.pointers)) (c.args.data_words + c.args.pointers) (omega (arith, within))) in
+    let source = part_there from p c.args.words c.requires.inside.0 (i * (c.args.data_words + c.args.pointers)) (c.args.data_words + c.args.pointers) inside in
+    let near = c.requires.near in
+    let near_too = c.requires.inside.1 in
+    λ κs lives. (omega arith, (lives.0, (lives.1, (there, (omega (arith, near, within), (source, omega (arith, near_too, inside)))))))
+
+pub fill_elements-returns-in_err-fill_struct-clause-copy : goal.fill_elements-returns-in_err-fill_struct-clause-copy
+fill_elements-returns-in_err-fill_struct-clause-copy g t c =
+    let from : Segments = words_in (g.B.ReaderArena.segments c.args.source.now) in
+    let s : Segments = words_in (g.A.ReaderArena.segments c.args.arena.now) in
+    let u : Segments = words_in (g.A.ReaderArena.segments c.loop-i.arena) in
+    let w : Segments = words_in (g.A.ReaderArena.segments c.fill_struct.new.arena) in
+    let p : Place = place_view c.args.from in
+    let q : Place = place_view c.args.start in
+    let n = c.args.levels in
+    let d = c.args.data_words in
+    let k = c.args.pointers in
+    let count = c.args.count in
+    let ws = words_there from p c.args.words in
+    let r = err_from_is_err_and c.from_residual.result c.from_residual.ensures.1 in
+    let e = c.in_err-fill_struct.field-0.0 in
+    refused_is from (each_element (tree_at n from) p ws d k count) (from_elements (visits n from) p d k count) (FillsElements n s w q d k count) (LeavesElements n s w q d k count) s w c.args.limiter.now c.fill_struct.new.limiter c.from_residual.result r.0 e r.1 r.2
+    (elements_stopped n from p ws d k count s q c.args.limiter.now c.loop-i.i u w c.loop-i.limiter c.fill_struct.new.limiter c.loop-i-test.true c.loop-i.invariant.0 e c.in_err-fill_struct.ensures.copy)
+
+pub fill_elements-loop-i-preserved : goal.fill_elements-loop-i-preserved
+fill_elements-loop-i-preserved g t c =
+    let from : Segments = words_in (g.B.ReaderArena.segments c.args.source.now) in
+    let s : Segments = words_in (g.A.ReaderArena.segments c.args.arena.now) in
+    let u : Segments = words_in (g.A.ReaderArena.segments c.loop-i.arena) in
+    let w : Segments = words_in (g.A.ReaderArena.segments c.fill_struct.new.arena) in
+    let p : Place = place_view c.args.from in
+    let q : Place = place_view c.args.start in
+    let n = c.args.levels in
+    let d = c.args.data_words in
+    let k = c.args.pointers in
+    let i = c.loop-i.i in
+    let inside = element_within i c.args.count (d + k) d c.args.words c.loop-i-test.true (omega arith) c.requires.fit in
+    let there = part_there from p c.args.words c.requires.inside.0 (i * (d + k)) d inside in
+    let section = section_is from (after p (i * (d + k))) d there ∙ ap section_of (part_is from p c.args.words c.requires.inside.0 (i * (d + k)) d inside) in (
+      elements_next n from p (words_there from p c.args.words) d k c.args.count s q c.args.limiter.now i u w c.loop-i.limiter c.fill_struct.new.limiter c.loop-i-test.true c.loop-i.invariant.0 (section_at from (after p (i * (d + k))) d) section c.in_ok-fill_struct.ensures.copy,
+      c.in_ok-fill_struct.ensures.books ∙ c.loop-i.invariant.1,
+    )
+
+pub fill_elements-returns-clause-copy : goal.fill_elements-returns-clause-copy
+fill_elements-returns-clause-copy g t c =
+    let from : Segments = words_in (g.B.ReaderArena.segments c.args.source.now) in
+    let s : Segments = words_in (g.A.ReaderArena.segments c.args.arena.now) in
+    let u : Segments = words_in (g.A.ReaderArena.segments c.loop-i.arena) in
+    let p : Place = place_view c.args.from in
+    let past = c.loop-i-test.false in
+    let last = c.loop-i.auto.i-end in
+    elements_ended c.args.levels from p (words_there from p c.args.words) c.args.data_words c.args.pointers c.args.count s (place_view c.args.start) c.args.limiter.now c.loop-i.i u c.loop-i.limiter (omega arith) c.loop-i.invariant.0
+
+-- ---- a row
+
+pub fill_row-loop-i-init : goal.fill_row-loop-i-init
+fill_row-loop-i-init g t c =
+    let from : Segments = words_in (g.B.ReaderArena.segments c.args.source.now) in
+    let s : Segments = words_in (g.A.ReaderArena.segments c.args.arena.now) in
+    (row_begun c.args.levels from (place_view c.args.first) c.args.count s (place_view c.args.start) c.args.data_words c.args.limiter.now, refl)
+
+pub fill_row-returns-in_err-copy_from-clause-copy : goal.fill_row-returns-in_err-copy_from-clause-copy
+fill_row-returns-in_err-copy_from-clause-copy g t c =
+    let from : Segments = words_in (g.B.ReaderArena.segments c.args.source.now) in
+    let s : Segments = words_in (g.A.ReaderArena.segments c.args.arena.now) in
+    let u : Segments = words_in (g.A.ReaderArena.segments c.loop-i.arena) in
+    let w : Segments = words_in (g.A.ReaderArena.segments c.copy_from.new.arena) in
+    let p : Place = place_view c.args.first in
+    let q : Place = place_view c.args.start in
+    let n = c.args.levels in
+    let d = c.args.data_words in
+    let count = c.args.count in
+    let r = err_from_is_err_and c.from_residual.result c.from_residual.ensures.1 in
+    let e = c.in_err-copy_from.field-0.0 in
+    refused_is from (each (tree_at n from) p count) (from_each (visits n from) p count) (FillsRow n s w q d count) (LeavesStruct n s w q d count) s w c.args.limiter.now c.copy_from.new.limiter c.from_residual.result r.0 e r.1 r.2
+    (row_stopped n from p count s q d c.args.limiter.now c.loop-i.i u w c.loop-i.limiter c.copy_from.new.limiter c.loop-i-test.true c.loop-i.invariant.0 e c.in_err-copy_from.ensures.copy)
+
+pub fill_row-loop-i-preserved : goal.fill_row-loop-i-preserved
+fill_row-loop-i-preserved g t c =
+    let from : Segments = words_in (g.B.ReaderArena.segments c.args.source.now) in
+    let s : Segments = words_in (g.A.ReaderArena.segments c.args.arena.now) in
+    let u : Segments = words_in (g.A.ReaderArena.segments c.loop-i.arena) in
+    let w : Segments = words_in (g.A.ReaderArena.segments c.copy_from.new.arena) in (
+      row_next c.args.levels from (place_view c.args.first) c.args.count s (place_view c.args.start) c.args.data_words c.args.limiter.now c.loop-i.i u w c.loop-i.limiter c.copy_from.new.limiter c.loop-i-test.true c.loop-i.invariant.0 c.in_ok-copy_from.ensures.copy,
+      c.in_ok-copy_from.ensures.books ∙ c.loop-i.invariant.1,
+    )
+
+pub fill_row-returns-clause-copy : goal.fill_row-returns-clause-copy
+fill_row-returns-clause-copy g t c =
+    let from : Segments = words_in (g.B.ReaderArena.segments c.args.source.now) in
+    let s : Segments = words_in (g.A.ReaderArena.segments c.args.arena.now) in
+    let u : Segments = words_in (g.A.ReaderArena.segments c.loop-i.arena) in
+    let past = c.loop-i-test.false in
+    let last = c.loop-i.auto.i-end in
+    row_ended c.args.levels from (place_view c.args.first) c.args.count s (place_view c.args.start) c.args.data_words c.args.limiter.now c.loop-i.i u c.loop-i.limiter (omega arith) c.loop-i.invariant.0
+
+-- ---- a struct
+
+pub fill_struct-fill_row-requires : goal.fill_struct-fill_row-requires
+fill_struct-fill_row-requires g t c =
+    let s : Segments = words_in (g.A.ReaderArena.segments c.args.arena.now) in
+    let m : Segments = words_in (g.A.ReaderArena.segments c.copy_words.new.arena) in
+    let r : Place = place_view c.args.start in
+    let there = still_some s m r (c.args.data_words + c.args.pointers) (subst (λ (v : Segments). Grows s v) (sym c.copy_words.ensures.words) (splice_grows s r _)) c.requires.there in
+    let near = c.requires.near in
+    let near_too = c.requires.inside.1 in
+    λ κs lives. (omega arith, (lives.0, (lives.1, (there, (near, omega (arith, near_too))))))
+
+pub fill_struct-returns-clause-copy : goal.fill_struct-returns-clause-copy
+fill_struct-returns-clause-copy g t c =
+    let b : Segments = words_in (g.B.ReaderArena.segments c.args.source.now) in
+    let s : Segments = words_in (g.A.ReaderArena.segments c.args.arena.now) in
+    let m : Segments = words_in (g.A.ReaderArena.segments c.copy_words.new.arena) in
+    let u : Segments = words_in (g.A.ReaderArena.segments c.fill_row.new.arena) in
+    let p : Place = place_view c.args.from in
+    let n = c.args.levels in
+    struct_copied n b (each (tree_at n b) (after p c.args.data_words) c.args.pointers) (from_each (visits n b) (after p c.args.data_words) c.args.pointers) p s m u (place_view c.args.start) c.args.data_words c.args.pointers c.args.limiter.now c.fill_row.new.limiter c.fill_row.result
+    (front_there b p (c.args.data_words + c.args.pointers) c.requires.inside.0 c.args.data_words (omega arith)) c.requires.there c.copy_words.ensures.words c.fill_row.ensures.copy

@@ -1,0 +1,42 @@
+-- A value takes a level less than what it stands in, and within a level each calls the next.
+use Rattle.std.proofs.Common.{◌≡◌, ◌+◌, ◌*◌}
+use Rattle.capnp_units.specs.Segments.{words_in}
+use Rattle.capnp_object.specs.Places.{place_view}
+use Rattle.capnp_object.specs.Inside.{words_there}
+use Rattle.capnp_copy_from.proofs.Rows.{RowSoFar}
+use Rattle.capnp_copy_from.proofs.Elements.{ElementsSoFar}
+use Rattle.capnp_copy_from.proofs.copy.+copy.Given as goal
+
+abbrev pub decreases-copy_from : goal.decreases-copy_from
+decreases-copy_from g l = 6 * l.levels
+
+abbrev pub decreases-copy_object : goal.decreases-copy_object
+decreases-copy_object g l = 6 * l.levels + 5
+
+abbrev pub decreases-fill : goal.decreases-fill
+decreases-fill g l = 6 * l.levels + 4
+
+abbrev pub decreases-fill_elements : goal.decreases-fill_elements
+decreases-fill_elements g l = 6 * l.levels + 3
+
+abbrev pub decreases-fill_struct : goal.decreases-fill_struct
+decreases-fill_struct g l = 6 * l.levels + 2
+
+abbrev pub decreases-fill_row : goal.decreases-fill_row
+decreases-fill_row g l = 6 * l.levels + 1
+
+-- the first i are copied, and paid
+abbrev pub invariant-fill_row-loop-i : goal.invariant-fill_row-loop-i
+invariant-fill_row-loop-i g l =
+    let from = words_in (g.B.ReaderArena.segments l.source) in
+    let s = words_in (g.A.ReaderArena.segments l.fn.arena) in
+    let u = words_in (g.A.ReaderArena.segments l.arena) in
+    RowSoFar l.levels from (place_view l.first) l.count l.i s u (place_view l.start) l.data_words l.fn.limiter l.limiter × (g.A.BuilderArena.books l.arena ≡ g.A.BuilderArena.books l.fn.arena)
+
+abbrev pub invariant-fill_elements-loop-i : goal.invariant-fill_elements-loop-i
+invariant-fill_elements-loop-i g l =
+    let from = words_in (g.B.ReaderArena.segments l.source) in
+    let s = words_in (g.A.ReaderArena.segments l.fn.arena) in
+    let u = words_in (g.A.ReaderArena.segments l.arena) in
+    let p = place_view l.from in
+    ElementsSoFar l.levels from p (words_there from p l.words) l.data_words l.pointers l.count l.i s u (place_view l.start) l.fn.limiter l.limiter × (g.A.BuilderArena.books l.arena ≡ g.A.BuilderArena.books l.fn.arena)

@@ -1,0 +1,99 @@
+-- Copies of values from one arena into another, against a budget.
+use Rattle.std.specs.Prelude.{◌≡◌, ◌↔◌, ◌⊎◌, ⊤, ℕ, ◌+◌, ◌*◌, ◌≤◌, List, [], ◌∷◌, ◌++◌, Option, Some, Result, Ok, Err}
+use Rattle.capnp_model.specs.Segments.{Segments, Place}
+use Rattle.capnp_model.specs.Pointers.{Object, a_struct, a_list}
+use Rattle.capnp_model.specs.Trees.{Tree, structure, struct_list, Trees, Elements, element_count}
+use Rattle.capnp_model.specs.Traversal.{tree_of, tree_at}
+use Rattle.capnp_model.specs.Coverage.{span, times_held, Grows}
+use Rattle.capnp_model.specs.Visits.{Visit, visits}
+use Rattle.capnp_units.specs.declared.errors.Error.{Error}
+use Rattle.capnp_units.specs.declared.kinds.ErrorKind.TheVariants.{SizeOverflow}
+use Rattle.capnp_units.specs.declared.limiter.ReadLimiter.{ReadLimiter}
+use Rattle.capnp_units.specs.Limits.{Spends, Follows}
+use Rattle.capnp_object.specs.declared.object.Found.{Found}
+use Rattle.capnp_object.specs.Objects.{object_at}
+use Rattle.capnp_object.specs.Follow.{found_cost}
+use Rattle.capnp_object.specs.Walks.{Walked, Stopped}
+use Rattle.capnp_footprints.specs.Footprints.{object_footprint, Owns, OwnsObject}
+use Rattle.capnp_footprints.specs.Changes.{Changes, Replaces, ReplacesObject}
+use Rattle.capnp_copy.specs.Allocations.{total_words}
+use Rattle.capnp_copy_from.specs.Objects.{IsTooLarge}
+
+-- Whatever value is owned there becomes the tree, which has so many levels at most, and nothing else changes.
+abbrev pub BecomesCopy : ℕ → Segments → Segments → Place → Tree → Type 0
+BecomesCopy levels s u p v = (n : ℕ) (t : Tree) → levels ≤ n → Owns n s p t → Replaces n s u p v
+
+-- All words stand, and new ones are zero.
+abbrev pub GrowsByZeros : Segments → Segments → Type 0
+GrowsByZeros s u = Changes s u (λ q. 0) (λ q. 0)
+
+-- A copy found no room for an object on the way, whose pointer was followed and paid for. The message is too large with its copy just where the kind says so; else the allocator refused.
+pub record Unplaced (from : Segments) (path : List Visit) (u : Segments) (old : ReadLimiter) (e : Error) (new : ReadLimiter) : Type 0 where
+  pub before : List Visit
+  pub rest : List Visit
+  pub at : Place
+  pub found : Found
+  pub found_is : object_at from at ≡ Ok found
+  pub path_is : path ≡ before ++ Ok (found_cost found) ∷ rest
+  pub walked : Walked (before ++ Ok (found_cost found) ∷ []) old new
+  pub kind : (e.kind ≡ SizeOverflow) ↔ IsTooLarge found.object (total_words u)
+
+-- What was read is there, its visits were made, and it was made of it what it says.
+pub record Copied {X : Type 0} (there : Option X) (path : List Visit) (Made : X → Type 0) (s u : Segments) (old new : ReadLimiter) : Type 0 where
+  pub value : X
+  pub there_is : there ≡ Some value
+  pub walked : Walked path old new
+  pub grows : Grows s u
+  pub made : Made value
+
+-- The walk over what is read was stopped, or there was no room; what is left is as it says.
+pub record Refused (from : Segments) (path : List Visit) (Left : Type 0) (u : Segments) (old : ReadLimiter) (e : Error) (new : ReadLimiter) : Type 0 where
+  pub left : Left
+  pub why : Stopped path old e new ⊎ Unplaced from path u old e new
+
+-- A copy of what is read from segments, or a refusal.
+abbrev pub CopyGives : {X : Type 0} → Segments → Option X → List Visit → (X → Type 0) → Type 0 → Segments → Segments → ReadLimiter → Result ⊤ Error → ReadLimiter → Type 0
+CopyGives from there path Made Left s u old (Ok _) new = Copied there path Made s u old new
+CopyGives from there path Made Left s u old (Err e) new = Refused from path Left u old e new
+
+-- The value of the pointer at q is put in place of that at p, as its whole tree; or it is refused, and all words stand.
+abbrev pub CopiesValue : ℕ → Segments → Place → Segments → Segments → Place → ReadLimiter → Result ⊤ Error → ReadLimiter → Type 0
+CopiesValue levels from q s u p old result new = CopyGives from (tree_at levels from q) (visits levels from q) (BecomesCopy levels s u p) (GrowsByZeros s u) s u old result new
+
+-- No more source pointers were followed than words were granted, and one.
+pub record FollowsFew (old new : ReadLimiter) : Type 0 where
+  pub granted : ℕ
+  pub followed : ℕ
+  pub spends : Spends old new granted
+  pub follows : Follows old new followed
+  pub few : followed ≤ granted + 1
+
+-- So many zero words from a place on become an object with a value, and nothing else changes.
+pub record Fills (n : ℕ) (s u : Segments) (r : Place) (k : ℕ) (o : Object) (v : Tree) : Type 0 where
+  pub means : tree_of u (tree_at n u) o ≡ Some v
+  pub changes : Changes s u (times_held (span r k ∷ [])) (object_footprint n u o)
+
+-- Whatever struct is there: its section and children become these, which have so many levels at most.
+abbrev pub FillsStruct : ℕ → Segments → Segments → Place → ℕ → ℕ → ℕ → Trees → Type 0
+FillsStruct levels s u r d k section ts =
+    (n own : ℕ) (kids : Trees) → levels ≤ n → OwnsObject n s (a_struct r d k) (structure d own kids) → ReplacesObject n s u (a_struct r d k) (structure d section ts)
+
+-- Whatever struct is there has some other section and children.
+abbrev pub LeavesStruct : ℕ → Segments → Segments → Place → ℕ → ℕ → Type 0
+LeavesStruct levels s u r d k =
+    (n own : ℕ) (kids : Trees) → levels ≤ n → OwnsObject n s (a_struct r d k) (structure d own kids) → (section : ℕ) × (ts : Trees) × ReplacesObject n s u (a_struct r d k) (structure d section ts)
+
+-- Whatever struct is there: its children become these, and its section stays.
+abbrev pub FillsRow : ℕ → Segments → Segments → Place → ℕ → ℕ → Trees → Type 0
+FillsRow levels s u r d k ts =
+    (n own : ℕ) (kids : Trees) → levels ≤ n → OwnsObject n s (a_struct r d k) (structure d own kids) → ReplacesObject n s u (a_struct r d k) (structure d own ts)
+
+-- Whatever structs a list has there, so many: they become these.
+abbrev pub FillsElements : ℕ → Segments → Segments → Place → ℕ → ℕ → ℕ → Elements → Type 0
+FillsElements levels s u r d k count es =
+    (n : ℕ) (fs : Elements) → levels ≤ n → element_count fs ≡ count → OwnsObject n s (a_list r 7 (count * (d + k))) (struct_list d k fs) → ReplacesObject n s u (a_list r 7 (count * (d + k))) (struct_list d k es)
+
+-- The list has some other structs.
+abbrev pub LeavesElements : ℕ → Segments → Segments → Place → ℕ → ℕ → ℕ → Type 0
+LeavesElements levels s u r d k count =
+    (n : ℕ) (fs : Elements) → levels ≤ n → element_count fs ≡ count → OwnsObject n s (a_list r 7 (count * (d + k))) (struct_list d k fs) → (es : Elements) × ReplacesObject n s u (a_list r 7 (count * (d + k))) (struct_list d k es)
