@@ -1,8 +1,8 @@
 -- The group at the front of bytes that are shown.
-use Rattle.std.proofs.Common.{◌≡◌, ◌≢◌, ℕ, zero, suc, ◌+◌, ◌/◌, ◌%◌, ◌<◌, ◌≤◌, mod-lt, leb, List, [], ◌∷◌, ◌++◌, length, take, drop, get_or, Result, Ok, refl, sym, ap, subst, ◌∙◌, append_assoc, append-nil, arith}
+use Rattle.std.proofs.Common.{◌≡◌, ◌≢◌, ℕ, zero, suc, ◌+◌, ◌/◌, ◌%◌, ◌<◌, ◌≤◌, mod-lt, leb, List, [], ◌∷◌, ◌++◌, length, take, drop, get_or, Result, Ok, refl, sym, ap, subst, ◌∙◌, append_assoc, append-nil, arith, take-append-drop, length-take-le, length-drop}
 use Rattle.std.specs.Int.{w64, from_le_bytes}
 use Rattle.std.proofs.lemmas.Bool.{le-leb, ne_eqb}
-use Rattle.std.proofs.lemmas.List.{take-append-le, take_more}
+use Rattle.std.proofs.lemmas.List.{take-append-le, drop-append-le, take_more, get_or_append_left}
 use Rattle.std.proofs.lemmas.Simd.{pick_l_whole}
 use Rattle.capnp_model.specs.Kinds.{Kind, PackedInputDidNotEndCleanlyOnASegmentBoundary}
 use Rattle.capnp_model.specs.Chains.{◌and_then◌}
@@ -15,7 +15,7 @@ use Rattle.capnp_packing.specs.Tags.{marks}
 use Rattle.capnp_packing.specs.Runs.{run_view}
 use Rattle.capnp_packing.specs.Steps.{IsGroup}
 use Rattle.capnp_packing.specs.declared.runs.Run.{Run}
-use Rattle.capnp_packing.specs.declared.runs.Run.TheVariants.{Next}
+use Rattle.capnp_packing.specs.declared.runs.Run.TheVariants.{Next, Zeros, Verbatim}
 use Rattle.capnp_stream.specs.Pieces.{EndsEarly, EachIsNeeded}
 use Rattle.capnp_stream.proofs.EarlyLemmas.{early-same, early-then, none-needed, needed-joined}
 use Rattle.capnp_packing.proofs.PartLemmas.{byte-needed}
@@ -62,8 +62,8 @@ early-verbatim n t is = rw is tt
 abbrev pub behind_tag : List ℕ → List ℕ
 behind_tag bytes = get_or bytes 1 0 ∷ get_or bytes 2 0 ∷ get_or bytes 3 0 ∷ get_or bytes 4 0 ∷ get_or bytes 5 0 ∷ get_or bytes 6 0 ∷ get_or bytes 7 0 ∷ get_or bytes 8 0 ∷ []
 
-pub eight-behind : (bytes behind : List ℕ) (k : ℕ) → length bytes ≡ 10 → 8 ≤ k → behind ≡ take 8 (take k (drop 1 bytes)) → behind ≡ behind_tag bytes
-eight-behind bytes behind k ten most is = is ∙ take-take 8 k (drop 1 bytes) most ∙ ap (λ (l : List ℕ). take 8 (drop 1 l)) (sym (pick_l_whole 0 bytes 10 ten))
+eight-behind : (bytes : List ℕ) → length bytes ≡ 10 → take 8 (drop 1 bytes) ≡ behind_tag bytes
+eight-behind bytes ten = ap (λ (l : List ℕ). take 8 (drop 1 l)) (sym (pick_l_whole 0 bytes 10 ten))
 
 front-of_group : (bytes : List ℕ) (m : ℕ) → length bytes ≡ 10 → m ≤ 8 → take (1 + m) bytes ≡ get_or bytes 0 0 ∷ take m (behind_tag bytes)
 front-of_group bytes m ten most =
@@ -104,9 +104,9 @@ group-needed n tag marked word tail read first second (suc k) below =
 -- a group whose parts were worked out
 module _ (n : ℕ) (bytes : List ℕ) (tag : ℕ) (word : List ℕ) (m : ℕ) (ten : length bytes ≡ 10) (here : tag ≡ get_or bytes 0 0) (count : m ≡ marks 8 tag) (most : m ≤ 8)
     (spelled : (more : List ℕ) → tagged tag (take (marks 8 tag) (behind_tag bytes) ++ more) ≡ Ok (word, more)) where
-  head-by : (tail : List ℕ) (run : Run) (len next : ℕ) → take len bytes ≡ take (1 + m) bytes ++ tail → len ≤ 10 → ((more : List ℕ) → run_at n (tag) (tail ++ more) ≡ Ok (run_view run, more)) → EachIsNeeded (run_at n (tag)) tail
-      → IsGroup n bytes (record { word = word; len = len; run = run; next = next })
-  head-by tail run len next cut within read needed = record {
+  head-by : (tail : List ℕ) (run : Run) (len : ℕ) → take len bytes ≡ take (1 + m) bytes ++ tail → len ≤ 10 → ((more : List ℕ) → run_at n (tag) (tail ++ more) ≡ Ok (run_view run, more)) → EachIsNeeded (run_at n (tag)) tail
+      → IsGroup n bytes len word run
+  head-by tail run len cut within read needed = record {
     within = omega arith;
     needed =
         let marked = take (marks 8 tag) (behind_tag bytes) in
@@ -118,12 +118,57 @@ module _ (n : ℕ) (bytes : List ℕ) (tag : ℕ) (word : List ℕ) (m : ℕ) (t
         ap (λ (l : List ℕ). group_at n (l ++ more)) front ∙ ap (λ (l : List ℕ). group_at n (tag ∷ l)) (append_assoc marked tail more) ∙ group-says n tag marked word tail (run_view run) spelled read more;
   }
 
-  pub head-next : (next : ℕ) → tag ≢ 0 → tag ≢ 255 → IsGroup n bytes (record { word = word; len = 1 + m; run = Next; next = next })
-  head-next next some full = head-by [] Next (1 + m) next (sym (append-nil (take (1 + m) bytes))) (omega arith) (run-next n (tag) some full) (none-needed (run_at n (tag)))
+  pub head-next : tag ≢ 0 → tag ≢ 255 → IsGroup n bytes (1 + m) word Next
+  head-next some full = head-by [] Next (1 + m) (sym (append-nil (take (1 + m) bytes))) (omega arith) (run-next n (tag) some full) (none-needed (run_at n (tag)))
 
   pub head-counted : (run : Run) → get_or bytes (1 + m) 0 ≤ n → ((more : List ℕ) → run_at n (tag) (get_or bytes (1 + m) 0 ∷ [] ++ more) ≡ Ok (run_view run, more)) → EndsEarly (run_at n (tag) [])
-      → IsGroup n bytes (record { word = word; len = 1 + m + 1; run = run; next = 0 })
-  head-counted run within read early = head-by (get_or bytes (1 + m) 0 ∷ []) run (1 + m + 1) 0 (take_more bytes (1 + m) 0 (omega arith)) (omega arith) read (byte-needed (run_at n (tag)) (get_or bytes (1 + m) 0) early)
+      → IsGroup n bytes (1 + m + 1) word run
+  head-counted run within read early = head-by (get_or bytes (1 + m) 0 ∷ []) run (1 + m + 1) (take_more bytes (1 + m) 0 (omega arith)) (omega arith) read (byte-needed (run_at n (tag)) (get_or bytes (1 + m) 0) early)
+
+-- ---- a group at the front of more bytes
+
+module _ (shown : List ℕ) (long : 10 ≤ length shown) where
+  ten : length (take 10 shown) ≡ 10
+  ten = length-take-le 10 shown long
+
+  -- the eight bytes behind the tag
+  pub behind-shown : take 8 (drop 1 shown) ≡ behind_tag (take 10 shown)
+  behind-shown =
+      let front : drop 1 shown ≡ drop 1 (take 10 shown) ++ drop 10 shown = ap (drop 1) (sym (take-append-drop 10 shown)) ∙ drop-append-le 1 (take 10 shown) (drop 10 shown) (omega (arith, ten)) in
+      ap (take 8) front ∙ take-append-le 8 (drop 1 (take 10 shown)) (drop 10 shown) (omega (arith, ten, length-drop 1 (take 10 shown))) ∙ eight-behind (take 10 shown) ten
+
+  pub behind-front : take 8 (drop 1 (take 10 shown)) ≡ take 8 (drop 1 shown)
+  behind-front = eight-behind (take 10 shown) ten ∙ sym behind-shown
+
+  -- one of the ten bytes
+  pub byte-shown : (k : ℕ) → k < 10 → get_or (take 10 shown) k 0 ≡ get_or shown k 0
+  byte-shown k below = sym (get_or_append_left (take 10 shown) (drop 10 shown) 0 k (omega (arith, ten))) ∙ ap (λ (l : List ℕ). get_or l k 0) (take-append-drop 10 shown)
+
+  module _ (n tag : ℕ) (word : List ℕ) (here : tag ≡ get_or shown 0 0) (spelled : (more : List ℕ) → tagged tag (take (marks 8 tag) (take 8 (drop 1 shown)) ++ more) ≡ Ok (word, more)) where
+    at-front : tag ≡ get_or (take 10 shown) 0 0
+    at-front = here ∙ sym (byte-shown 0 (omega arith))
+
+    spelled-front : (more : List ℕ) → tagged tag (take (marks 8 tag) (behind_tag (take 10 shown)) ++ more) ≡ Ok (word, more)
+    spelled-front = subst (λ (l : List ℕ). (more : List ℕ) → tagged tag (take (marks 8 tag) l ++ more) ≡ Ok (word, more)) behind-shown spelled
+
+    pub shown-next : (m : ℕ) → m ≡ marks 8 tag → m ≤ 8 → tag ≢ 0 → tag ≢ 255 → IsGroup n (take 10 shown) (1 + m) word Next
+    shown-next m count most some full = head-next n (take 10 shown) tag word m ten at-front count most spelled-front some full
+
+    pub shown-zeros : (k : ℕ) → tag ≡ 0 → k ≡ get_or shown 1 0 → k ≤ n → IsGroup n (take 10 shown) 2 word (Zeros k)
+    unfolding marks
+    shown-zeros k is count within =
+        let same : get_or (take 10 shown) 1 0 ≡ k = byte-shown 1 (omega arith) ∙ sym count in
+        let none : 0 ≡ marks 8 tag = sym (ap (marks 8) is) in
+        subst (λ (j : ℕ). IsGroup n (take 10 shown) 2 word (Zeros j)) same
+        (head-counted n (take 10 shown) tag word 0 ten at-front none (omega arith) spelled-front (Zeros (get_or (take 10 shown) 1 0)) (omega (arith, same)) (run-zeros n tag (get_or (take 10 shown) 1 0) is (omega (arith, same))) (early-zeros n tag is))
+
+    pub shown-words : (k : ℕ) → tag ≡ 255 → k ≡ get_or shown 9 0 → k ≤ n → IsGroup n (take 10 shown) 10 word (Verbatim k)
+    unfolding marks
+    shown-words k is count within =
+        let same : get_or (take 10 shown) 9 0 ≡ k = byte-shown 9 (omega arith) ∙ sym count in
+        let all : 8 ≡ marks 8 tag = sym (ap (marks 8) is) in
+        subst (λ (j : ℕ). IsGroup n (take 10 shown) 10 word (Verbatim j)) same
+        (head-counted n (take 10 shown) tag word 8 ten at-front all (omega arith) spelled-front (Verbatim (get_or (take 10 shown) 9 0)) (omega (arith, same)) (run-verbatim n tag (get_or (take 10 shown) 9 0) is (omega (arith, same))) (early-verbatim n tag is))
 
 -- the byte behind a group without a count
 pub behind-at : (bytes : List ℕ) (b m k : ℕ) → length bytes ≡ 10 → k < 8 → m ≡ k → b ≡ get_or (behind_tag bytes) k 0 → b ≡ get_or bytes (1 + m) 0
@@ -139,3 +184,9 @@ behind-at bytes b m k ten below same at = at ∙ by k below ∙ ap (λ (n : ℕ)
     by (suc (suc (suc (suc (suc (suc zero)))))) below = refl
     by (suc (suc (suc (suc (suc (suc (suc zero))))))) below = refl
     by (suc (suc (suc (suc (suc (suc (suc (suc k)))))))) below = absurd (omega arith)
+
+-- the byte behind a group without a count, of the bytes that are shown
+pub next-shown : (shown : List ℕ) (b tag m : ℕ) → 10 ≤ length shown → marks 8 tag < 8 → m ≡ marks 8 tag → b ≡ get_or (take 8 (drop 1 shown)) (marks 8 tag) 0 → b ≡ get_or shown (1 + m) 0
+next-shown shown b tag m long below same at =
+    let front : b ≡ get_or (behind_tag (take 10 shown)) (marks 8 tag) 0 = at ∙ ap (λ (l : List ℕ). get_or l (marks 8 tag) 0) (behind-shown shown long) in
+    behind-at (take 10 shown) b m (marks 8 tag) (length-take-le 10 shown long) below same front ∙ byte-shown shown long (1 + m) (omega arith)

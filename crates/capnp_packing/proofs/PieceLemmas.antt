@@ -7,7 +7,8 @@ use Rattle.std.proofs.KnownBytes.{Consumes-nil, Consumes-kept}
 use Rattle.capnp_units.specs.declared.kinds.ErrorKind.{ErrorKind}
 use Rattle.capnp_units.specs.declared.kinds.ErrorKind.TheVariants.{FailedToFillTheWholeBuffer, PrematureEndOfPackedInput, PackedInputDidNotEndCleanlyOnASegmentBoundary, Device}
 use Rattle.capnp_model.specs.Bytes.{words_in_bytes}
-use Rattle.capnp_model.specs.Packing.{first, unpacked_from, unpacked}
+use Rattle.capnp_model.specs.Packing as model
+use Rattle.capnp_model.specs.Packing.{unpacked_from, unpacked}
 use Rattle.capnp_stream.specs.Pieces.{EachIsNeeded, TakesPiece, TakesPieceStart}
 use Rattle.capnp_stream.specs.Segments.{whole_words}
 use Rattle.capnp_io.specs.Streams.{ConsumesFewer}
@@ -23,8 +24,8 @@ use Rattle.capnp_packing.specs.declared.shown.Step.{Step}
 use Rattle.capnp_packing.proofs.PartLemmas.{with_front-nil, with_front-more, Leads-by, Leads-trans, Leads-front, Refuses-behind, Refuses-front}
 use Rattle.capnp_packing.proofs.UnpackLemmas.{words-append}
 
-pub piece-start : (n m : ℕ) (a : Option (List ℕ)) → n ≡ m → Leads (unpacked n) a a (λ more. with_front [] (unpacked_from m first more))
-piece-start n m a e = Leads-by (unpacked n) _ a (λ more. ap (λ (k : ℕ). unpacked_from k first more) e ∙ sym (with_front-nil (unpacked_from m first more)))
+pub piece-start : (n m : ℕ) (run : model.Run) (a : Option (List ℕ)) → n ≡ m → Leads (unpacked_from n run) a a (λ more. with_front [] (unpacked_from m run more))
+piece-start n m run a e = Leads-by (unpacked_from n run) _ a (λ more. ap (λ (k : ℕ). unpacked_from k run more) e ∙ sym (with_front-nil (unpacked_from m run more)))
 
 module _ (f : Rule (List ℕ)) (a b : Option (List ℕ)) (buf : List ℕ) (at : ℕ) (run : Run)
     (before : Leads f a b (λ more. with_front (words_in_bytes (at / 8) (take at buf)) (unpacked_from ((length buf - at) / 8) (run_view run) more)))
@@ -66,6 +67,21 @@ module _ (f : Rule (List ℕ)) (a b : Option (List ℕ)) (buf : List ℕ) (at : 
       let last : (more : List ℕ) → with_front (words_in_bytes (at / 8) (take at buf)) (unpacked_from ((length buf - at) / 8) (run_view run) more) ≡ Ok (whole_words buf, more) = λ more.
       ap (λ (k : ℕ). with_front (words_in_bytes (at / 8) (take at buf)) (unpacked_from k (run_view run) more)) none ∙ ap (λ (ws : List ℕ). Ok (ws, more)) (append-nil (words_in_bytes (at / 8) (take at buf)) ∙ words) in
       Leads-trans f _ (λ more. Ok (whole_words buf, more)) a b b before (Leads-by _ _ b last)
+
+-- words at the front of a buffer, and those behind them
+pub piece-joined : (f : Rule (List ℕ)) (a b c : Option (List ℕ)) (buf tail after : List ℕ) (step : Step) → Leads f a b (λ more. with_front (words_in_bytes (step.filled / 8) (take step.filled buf)) (unpacked_from ((length buf - step.filled) / 8) (run_view step.run) more))
+    → step.filled ≤ length buf → step.filled % 8 ≡ 0 → length buf % 8 ≡ 0 → length tail ≡ length buf - step.filled → length after ≡ length buf → after ≡ take step.filled buf ++ tail
+    → Takes (unpacked_from (length tail / 8) (run_view step.run)) b c (whole_words tail) → Takes f a c (whole_words after)
+piece-joined f a b c buf tail after step before fits place whole behind same joined rest =
+    let j = step.filled / 8 in
+    let k = length tail / 8 in
+    let front = words_in_bytes j (take step.filled buf) in
+    let size : length (take step.filled buf) ≡ 8 * j = omega (arith, length-take-le step.filled buf fits) in
+    let words : front ++ whole_words tail ≡ whole_words after =
+    ap (λ (l : List ℕ). front ++ l) (whole_words-of_length k tail (omega arith)) ∙ words-append j k (take step.filled buf) tail size (omega arith) ∙ ap (words_in_bytes (j + k)) (sym joined) ∙ sym (whole_words-of_length (j + k) after (omega arith)) in
+    let now : Leads f a b (λ more. with_front front (unpacked_from k (run_view step.run) more)) =
+    subst (λ (n : ℕ). Leads f a b (λ more. with_front front (unpacked_from (n / 8) (run_view step.run) more))) (sym behind) before in
+    Leads-trans f _ _ a b c now (Leads-trans _ _ _ b c c (Leads-front front (unpacked_from k (run_view step.run)) (λ more. Ok (whole_words tail, more)) b c rest) (Leads-by _ _ c (λ more. ap (λ (l : List ℕ). Ok (l, more)) words)))
 
 -- the words that a buffer was filled with are a piece
 pub piece-taken : (a b : Option (List ℕ)) (buf : List ℕ) → Takes (unpacked (length buf / 8)) a b (whole_words buf) → TakesPiece unpacked a b (whole_words buf)

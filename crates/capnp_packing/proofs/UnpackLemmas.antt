@@ -1,8 +1,8 @@
 -- Bytes that are shown, and the words that they spell.
-use Rattle.std.proofs.Common.{◌≡◌, ℕ, zero, suc, ◌+◌, ◌-◌, ◌*◌, ◌/◌, ◌<◌, ◌≤◌, true, false, leb, List, [], ◌∷◌, ◌++◌, length, take, drop, replicate, Result, Ok, Err, refl, sym, ap, subst, ◌∙◌, append_assoc, arith, take_at, drop_at, take-append-drop, length-append, length-drop, length-take-le, drop-drop}
+use Rattle.std.proofs.Common.{◌≡◌, ◌≢◌, ℕ, zero, suc, ◌+◌, ◌-◌, ◌*◌, ◌/◌, ◌<◌, ◌≤◌, true, false, leb, List, [], ◌∷◌, ◌++◌, length, take, drop, get_or, replicate, Result, Ok, Err, refl, sym, ap, subst, ◌∙◌, append_assoc, arith, take_at, drop_at, take-append-drop, length-append, length-drop, length-take-le, drop-drop}
 use Rattle.std.specs.Int.{w64, from_le_bytes}
 use Rattle.std.proofs.lemmas.Bool.{le-leb}
-use Rattle.std.proofs.lemmas.List.{take-append-le, drop-append-le, take_all}
+use Rattle.std.proofs.lemmas.List.{take-append-le, drop-append-le, take_all, get_or-drop, drop-take}
 use Rattle.capnp_model.specs.Kinds.{Kind}
 use Rattle.capnp_model.specs.Chains.{◌and_then◌}
 use Rattle.capnp_model.specs.Bytes.{words_in_bytes, taken}
@@ -12,16 +12,16 @@ use Rattle.capnp_model.proofs.Chaining.{ok_then}
 use Rattle.capnp_stream.proofs.WordLemmas.{from_le_bytes-take, words_in_bytes-take, words_in_bytes-drop}
 use lib.Seq.{take-add}
 use Rattle.capnp_packing.specs.Parts.{with_front}
+use Rattle.capnp_packing.specs.Tags.{marks}
 use Rattle.capnp_packing.specs.Runs.{run_view, IsOver}
-use Rattle.capnp_packing.specs.Steps.{IsFirst, IsGroup, Spells, Unpacks}
+use Rattle.capnp_packing.specs.Steps.{BeginsWith, IsFirst, IsGroup, Spells, Unpacks}
 use Rattle.capnp_packing.specs.declared.runs.Run.{Run}
 use Rattle.capnp_packing.specs.declared.runs.Run.TheVariants.{First, Next, Zeros, Verbatim}
-use Rattle.capnp_packing.specs.declared.shown.Head.{Head}
 use Rattle.capnp_packing.specs.declared.shown.Step.{Step}
 use Rattle.capnp_stream.specs.Pieces.{EndsEarly, EachIsNeeded}
 use Rattle.capnp_stream.proofs.EarlyLemmas.{early-same, early-then, none-needed, needed-joined}
 use Rattle.capnp_packing.proofs.PartLemmas.{early-front, with_front-nil, with_front-more}
-use Rattle.capnp_packing.proofs.HeadLemmas.{length-take-le-any}
+use Rattle.capnp_packing.proofs.HeadLemmas.{length-take-le-any, shown-next, shown-zeros, shown-words}
 
 -- ---- bytes that are too few
 
@@ -187,21 +187,20 @@ pub one-word : (w : ℕ) (r : Result (List ℕ × List ℕ) Kind) → with_word 
 one-word w (Ok x) = refl
 one-word w (Err k) = refl
 
-pub unpacks-group : (run : Run) → IsOver run → (shown buf group : List ℕ) (head : Head) (n : ℕ) → group ≡ take 10 shown → 10 ≤ length shown → n ≡ length buf / 8 - 1 → 8 ≤ length buf → IsGroup n group head → take 8 buf ≡ head.word
-    → Unpacks run shown buf (record { taken = head.len; filled = 8; run = head.run })
-unpacks-group run over shown buf group head n front long left room is word =
-    let ten : length group ≡ 10 = ap length front ∙ length-take-le 10 shown long in
-    let cut : take head.len group ≡ take head.len shown =
-    ap (take head.len) front ∙ sym (take-append-le head.len (take 10 shown) (drop 10 shown) (omega (arith, is.within, ap length front, length-take-le 10 shown long))) ∙ ap (take head.len) (take-append-drop 10 shown) in
-    let made : Spells (suc n) (run_view run) (take head.len group) (from_le_bytes w64 head.word ∷ []) n (run_view head.run) = record {
-      says = λ more. over-group n run over (take head.len group ++ more) (from_le_bytes w64 head.word, run_view head.run, more) (is.says more) ∙ one-word (from_le_bytes w64 head.word) (unpacked_from n (run_view head.run) more);
-      needed = λ i below. over-early n run over (take i (take head.len group)) (is.needed i below);
+unpacks-group : (run : Run) → IsOver run → (shown buf word : List ℕ) (len n : ℕ) (behind : Run) → 10 ≤ length shown → n ≡ length buf / 8 - 1 → 8 ≤ length buf → IsGroup n (take 10 shown) len word behind → take 8 buf ≡ word
+    → Unpacks run shown buf (record { taken = len; filled = 8; run = behind })
+unpacks-group run over shown buf word len n behind long left room is front =
+    let ten : length (take 10 shown) ≡ 10 = length-take-le 10 shown long in
+    let cut : take len (take 10 shown) ≡ take len shown = sym (take-append-le len (take 10 shown) (drop 10 shown) is.within) ∙ ap (take len) (take-append-drop 10 shown) in
+    let made : Spells (suc n) (run_view run) (take len (take 10 shown)) (from_le_bytes w64 word ∷ []) n (run_view behind) = record {
+      says = λ more. over-group n run over (take len (take 10 shown) ++ more) (from_le_bytes w64 word, run_view behind, more) (is.says more) ∙ one-word (from_le_bytes w64 word) (unpacked_from n (run_view behind) more);
+      needed = λ i below. over-early n run over (take i (take len (take 10 shown))) (is.needed i below);
     } in
     record {
       within = omega (arith, is.within, ten);
       fits = room;
       whole = omega arith;
-      spells = Spells-as _ _ _ _ _ _ _ _ _ _ _ _ (omega arith) (omega arith) refl refl cut (ap (λ (l : List ℕ). from_le_bytes w64 l ∷ []) (sym word)) made;
+      spells = Spells-as _ _ _ _ _ _ _ _ _ _ _ _ (omega arith) (omega arith) refl refl cut (ap (λ (l : List ℕ). from_le_bytes w64 l ∷ []) (sym front)) made;
     }
 
 pub words-append : (j k : ℕ) (a b : List ℕ) → length a ≡ 8 * j → length b ≡ 8 * k → words_in_bytes j a ++ words_in_bytes k b ≡ words_in_bytes (j + k) (a ++ b)
@@ -219,11 +218,19 @@ rest-of n bytes = take_all (length bytes - n) (drop n bytes) (omega (arith, leng
 pub first-behind : (shown : List ℕ) (m n b : ℕ) → IsFirst b (drop n (take (length shown - m) (drop m shown))) → IsFirst b (drop (m + n) shown)
 first-behind shown m n b first = subst (IsFirst b) (ap (drop n) (rest-of m shown) ∙ drop-drop n m shown) first
 
-pub Unpacks-then : (run : Run) (shown buf tail after : List ℕ) (s next : Step) → Unpacks run shown buf s → Unpacks s.run (take (length shown - s.taken) (drop s.taken shown)) tail next → length tail ≡ length buf - s.filled → length after ≡ length buf
+-- what was unpacked, of a buffer whose front stands in another
+pub Unpacks-front : (run : Run) (shown buf after : List ℕ) (s : Step) → length after ≡ length buf → take s.filled after ≡ take s.filled buf → Unpacks run shown buf s → Unpacks run shown after s
+Unpacks-front run shown buf after s same front p = record {
+  within = p.within;
+  fits = omega (arith, p.fits);
+  whole = p.whole;
+  spells = Spells-as _ _ _ _ _ _ _ _ _ _ _ _ (ap (λ (n : ℕ). n / 8) (sym same)) (ap (λ (n : ℕ). (n - s.filled) / 8) (sym same)) refl refl refl (ap (words_in_bytes (s.filled / 8)) (sym front)) p.spells;
+}
+
+Unpacks-behind : (run : Run) (shown buf tail after : List ℕ) (s next : Step) → Unpacks run shown buf s → Unpacks s.run (drop s.taken shown) tail next → length tail ≡ length buf - s.filled → length after ≡ length buf
     → take (s.filled + next.filled) after ≡ take s.filled buf ++ take next.filled tail
     → Unpacks run shown after (record { taken = s.taken + next.taken; filled = s.filled + next.filled; run = next.run })
-Unpacks-then run shown buf tail after s next first rest behind same joined =
-    let second : Unpacks s.run (drop s.taken shown) tail next = subst (λ (l : List ℕ). Unpacks s.run l tail next) (rest-of s.taken shown) rest in
+Unpacks-behind run shown buf tail after s next first second behind same joined =
     let a = s.filled / 8 in
     let b = next.filled / 8 in
     let size : length (drop s.taken shown) ≡ length shown - s.taken = length-drop s.taken shown in
@@ -240,3 +247,105 @@ Unpacks-then run shown buf tail after s next first rest behind same joined =
       spells = Spells-as _ _ _ _ _ _ _ _ _ _ _ _ (ap (λ (n : ℕ). n / 8) (sym same)) (ap (λ (n : ℕ). n / 8) (omega arith)) refl refl (sym (take-add s.taken next.taken shown)) words
           (Spells-trans _ _ _ _ _ _ _ _ _ _ first.spells then_more);
     }
+
+pub Unpacks-then : (run : Run) (shown buf tail after : List ℕ) (s next : Step) → Unpacks run shown buf s → Unpacks s.run (take (length shown - s.taken) (drop s.taken shown)) tail next → length tail ≡ length buf - s.filled → length after ≡ length buf
+    → take (s.filled + next.filled) after ≡ take s.filled buf ++ take next.filled tail
+    → Unpacks run shown after (record { taken = s.taken + next.taken; filled = s.filled + next.filled; run = next.run })
+Unpacks-then run shown buf tail after s next first rest =
+    Unpacks-behind run shown buf tail after s next first (subst (λ (l : List ℕ). Unpacks s.run l tail next) (rest-of s.taken shown) rest)
+
+-- ---- whole groups with their whole runs
+
+-- behind a run that is over a further group comes
+over-next : (n : ℕ) (more : List ℕ) → unpacked_from n (model.verbatim 0) more ≡ unpacked_from n model.next more
+unfolding unpacked_from
+over-next zero more = refl
+over-next (suc n) more = refl
+
+over-zeros : (n : ℕ) (more : List ℕ) → unpacked_from n (model.zeros 0) more ≡ unpacked_from n model.next more
+unfolding unpacked_from
+over-zeros zero more = refl
+over-zeros (suc n) more = refl
+
+Spells-next : (n m : ℕ) (r s : model.Run) (p xs : List ℕ) → ((more : List ℕ) → unpacked_from m s more ≡ unpacked_from m model.next more) → Spells n r p xs m s → Spells n r p xs m model.next
+Spells-next n m r s p xs same made = record { says = λ more. made.says more ∙ ap (with_front xs) (same more); needed = made.needed }
+
+Unpacks-next : (run : Run) (shown buf : List ℕ) (taken filled : ℕ) (s : Run) → ((n : ℕ) (more : List ℕ) → unpacked_from n (run_view s) more ≡ unpacked_from n model.next more) → Unpacks run shown buf (record { taken = taken; filled = filled; run = s })
+    → Unpacks run shown buf (record { taken = taken; filled = filled; run = Next })
+Unpacks-next run shown buf taken filled s same p = record { within = p.within; fits = p.fits; whole = p.whole; spells = Spells-next _ _ _ _ _ _ (λ more. same ((length buf - filled) / 8) more) p.spells }
+
+module _ (shown after word : List ℕ) (tag : ℕ) (long : 10 ≤ length shown) (room : 8 ≤ length after) (group : BeginsWith tag word shown) (front : take 8 after ≡ word) (run : Run) (over : IsOver run) where
+  abbrev left_words : ℕ
+  left_words = length after / 8 - 1
+
+  joins : (k : ℕ) → take (8 + k) after ≡ take 8 after ++ take k (drop 8 after)
+  joins k = take-add 8 k after
+
+  pub plain-unpacks : (m : ℕ) → m ≡ marks 8 tag → m ≤ 8 → tag ≢ 0 → tag ≢ 255 → Unpacks run shown after (record { taken = 1 + m; filled = 8; run = Next })
+  plain-unpacks m count most some full = unpacks-group run over shown after word (1 + m) left_words Next long refl room (shown-next shown long left_words tag word group.here group.spells m count most some full) front
+
+  pub zeros-unpack : (k : ℕ) → tag ≡ 0 → k ≡ get_or shown 1 0 → 8 * k ≤ length after - 8 → take (8 * k) (drop 8 after) ≡ replicate (8 * k) 0 → Unpacks run shown after (record { taken = 2; filled = 8 + 8 * k; run = Next })
+  zeros-unpack k is count fits cleared =
+      let size : length (drop 8 after) ≡ length after - 8 = length-drop 8 after in
+      let first = unpacks-group run over shown after word 2 left_words (Zeros k) long refl room (shown-zeros shown long left_words tag word group.here group.spells k is count (omega arith)) front in
+      let second = unpacks-zeros k k (drop 2 shown) (drop 8 after) (omega arith) (omega (arith, size)) cleared in
+      let none : k - k ≡ 0 = omega arith in
+      let both = Unpacks-behind run shown after (drop 8 after) after (record { taken = 2; filled = 8; run = Zeros k }) _ first second size refl (joins (8 * k)) in
+      Unpacks-next run shown after 2 (8 + 8 * k) (Zeros (k - k)) (λ n more. ap (λ (j : ℕ). unpacked_from n (model.zeros j) more) none ∙ over-zeros n more) both
+
+  pub words-unpack : (k : ℕ) → tag ≡ 255 → k ≡ get_or shown 9 0 → 8 * k ≤ length after - 8 → 8 * k ≤ length shown - 10 → take (8 * k) (drop 8 after) ≡ take (8 * k) (drop 10 shown) → Unpacks run shown after (record { taken = 10 + 8 * k; filled = 8 + 8 * k; run = Next })
+  words-unpack k is count fits whole copied =
+      let size : length (drop 8 after) ≡ length after - 8 = length-drop 8 after in
+      let more_size : length (drop 10 shown) ≡ length shown - 10 = length-drop 10 shown in
+      let first = unpacks-group run over shown after word 10 left_words (Verbatim k) long refl room (shown-words shown long left_words tag word group.here group.spells k is count (omega arith)) front in
+      let second = unpacks-verbatim k k (drop 10 shown) (drop 8 after) (omega arith) (omega (arith, size)) (omega (arith, more_size)) copied in
+      let none : k - k ≡ 0 = omega arith in
+      let both = Unpacks-behind run shown after (drop 8 after) after (record { taken = 10; filled = 8; run = Verbatim k }) _ first second size refl (joins (8 * k)) in
+      Unpacks-next run shown after (10 + 8 * k) (8 + 8 * k) (Verbatim (k - k)) (λ n more. ap (λ (j : ℕ). unpacked_from n (model.verbatim j) more) none ∙ over-next n more) both
+
+-- the byte at a place is the first of those behind it
+pub first-at : (shown : List ℕ) (b n : ℕ) → b ≡ get_or shown n 0 → IsFirst b (drop n shown)
+first-at shown b n at some = at ∙ ap (λ (k : ℕ). get_or shown k 0) (omega arith) ∙ sym (get_or-drop n shown 0 0)
+
+-- the run behind the first groups, of which there may be none
+abbrev pub then_run : ℕ → Run → Run
+then_run zero run = run
+then_run (suc n) run = Next
+
+pub then-over : (n : ℕ) (run : Run) → IsOver run → IsOver (then_run n run)
+then-over zero run over = over
+then-over (suc n) run over = tt
+
+pub then-some : (n : ℕ) (run : Run) → 0 < n → then_run n run ≡ Next
+then-some zero run some = absurd (omega arith)
+then-some (suc n) run some = refl
+
+-- the run behind a word, of bytes that were copied from two before the word's place on
+pub run-copied : (k : ℕ) (copied shown : List ℕ) → take (8 * k + 8) copied ≡ take (8 * k + 8) (drop 2 shown) → take (8 * k) (drop 8 copied) ≡ take (8 * k) (drop 10 shown)
+run-copied k copied shown same =
+    let turn : 8 * k + 8 ≡ 8 + 8 * k = omega arith in
+    let both : take (8 + 8 * k) copied ≡ take (8 + 8 * k) (drop 2 shown) = rw turn at same in
+    sym (drop-take 8 (8 * k) copied) ∙ ap (drop 8) both ∙ drop-take 8 (8 * k) (drop 2 shown) ∙ ap (take (8 * k)) (drop-drop 8 2 shown)
+
+-- ---- one group behind the others
+
+module _ (shown left new : List ℕ) (n : ℕ) (within : length left ≤ length shown) (rest : left ≡ drop (length shown - length left) shown) (here : n ≤ length left) (is : new ≡ drop n left) where
+  new-size : length new ≡ length left - n
+  new-size = ap length is ∙ length-drop n left
+
+  new-place : length shown - length left + n ≡ length shown - length new
+  new-place = omega (arith, new-size)
+
+  pub left-within : length new ≤ length shown
+  left-within = omega (arith, new-size)
+
+  pub left-rest : new ≡ drop (length shown - length new) shown
+  left-rest = is ∙ ap (drop n) rest ∙ drop-drop n (length shown - length left) shown ∙ ap (λ (k : ℕ). drop k shown) new-place
+
+  pub groups-more : (run : Run) (filled more : ℕ) (buf tail after : List ℕ) → 0 < more → Unpacks run shown buf (record { taken = length shown - length left; filled = filled; run = then_run filled run })
+      → Unpacks (then_run filled run) left tail (record { taken = n; filled = more; run = Next }) → length tail ≡ length buf - filled → length after ≡ length buf → take (filled + more) after ≡ take filled buf ++ take more tail
+      → Unpacks run shown after (record { taken = length shown - length new; filled = filled + more; run = then_run (filled + more) run })
+  groups-more run filled more buf tail after some first second behind same joined =
+      let last : then_run (filled + more) run ≡ Next = then-some (filled + more) run (omega arith) in
+      let next = subst (λ (l : List ℕ). Unpacks (then_run filled run) l tail (record { taken = n; filled = more; run = Next })) rest second in
+      rw (last, ← new-place) (Unpacks-behind run shown buf tail after (record { taken = length shown - length left; filled = filled; run = then_run filled run }) (record { taken = n; filled = more; run = Next }) first next behind same joined)

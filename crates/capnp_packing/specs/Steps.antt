@@ -1,22 +1,29 @@
 -- What was unpacked of bytes that are shown. (Encoding, "Packing")
-use Rattle.std.specs.Prelude.{◌≡◌, ℕ, ◌-◌, ◌/◌, ◌%◌, ◌≤◌, ◌<◌, List, ◌++◌, length, take, get_or, Ok}
+use Rattle.std.specs.Prelude.{◌≡◌, ℕ, ◌-◌, ◌/◌, ◌%◌, ◌≤◌, ◌<◌, List, ◌++◌, length, take, drop, get_or, Ok}
 use Rattle.std.specs.Int.{w64, from_le_bytes}
 use Rattle.capnp_model.specs.Bytes.{words_in_bytes}
 use Rattle.capnp_model.specs.Packing as model
 use Rattle.capnp_model.specs.Packing.{group_at, unpacked_from}
 use Rattle.std.specs.declared.option.Option.{Option}
 use Rattle.capnp_stream.specs.Pieces.{EachIsNeeded}
-use Rattle.capnp_packing.specs.Parts.{Leads, with_front}
-use Rattle.capnp_packing.specs.Runs.{run_view}
+use Rattle.capnp_packing.specs.Parts.{Leads, with_front, tagged}
+use Rattle.capnp_packing.specs.Tags.{marks}
+use Rattle.capnp_packing.specs.Runs.{run_view, IsOver}
 use Rattle.capnp_packing.specs.declared.runs.Run.{Run}
-use Rattle.capnp_packing.specs.declared.shown.Head.{Head}
+use Rattle.capnp_packing.specs.declared.runs.Run.TheVariants.{Next}
+use Rattle.capnp_packing.specs.declared.shown.Group.{Group}
 use Rattle.capnp_packing.specs.declared.shown.Step.{Step}
 
--- The group at the front of these bytes, of which each is needed, whatever follows it, in a piece that has n words behind its own.
-pub record IsGroup (n : ℕ) (bytes : List ℕ) (head : Head) : Type 0 where
-  pub within : head.len ≤ length bytes
-  pub says : (more : List ℕ) → group_at n (take head.len bytes ++ more) ≡ Ok (from_le_bytes w64 head.word, run_view head.run, more)
-  pub needed : EachIsNeeded (group_at n) (take head.len bytes)
+-- The byte at the front is this tag, and those behind it that it marks spell this word.
+pub record BeginsWith (tag : ℕ) (word bytes : List ℕ) : Type 0 where
+  pub here : tag ≡ get_or bytes 0 0
+  pub spells : (more : List ℕ) → tagged tag (take (marks 8 tag) (take 8 (drop 1 bytes)) ++ more) ≡ Ok (word, more)
+
+-- The first so many of these bytes are a group of this word and this run, each of them needed, whatever follows it, in a piece that has n words behind its own.
+pub record IsGroup (n : ℕ) (bytes : List ℕ) (len : ℕ) (word : List ℕ) (run : Run) : Type 0 where
+  pub within : len ≤ length bytes
+  pub says : (more : List ℕ) → group_at n (take len bytes ++ more) ≡ Ok (from_le_bytes w64 word, run_view run, more)
+  pub needed : EachIsNeeded (group_at n) (take len bytes)
 
 -- Of a piece that has n more words, from inside a run on, these bytes, of which each is needed, spell the first, and m words are left, from inside another run on.
 pub record Spells (n : ℕ) (run : model.Run) (bytes words : List ℕ) (m : ℕ) (then_run : model.Run) : Type 0 where
@@ -33,6 +40,12 @@ pub record Unpacks (run : Run) (shown buf : List ℕ) (step : Step) : Type 0 whe
   pub fits : step.filled ≤ length buf
   pub whole : step.filled % 8 ≡ 0
   pub spells : Spells (length buf / 8) (run_view run) (take step.taken shown) (words_in_bytes (step.filled / 8) (take step.filled buf)) ((length buf - step.filled) / 8) (run_view step.run)
+
+-- A whole group and its whole run, where no run is open, were unpacked of bytes that are shown, and which byte is behind them, if there is one.
+pub record Fills (shown buf : List ℕ) (group : Group) : Type 0 where
+  pub some : 0 < group.filled
+  pub unpacked : (run : Run) → IsOver run → Unpacks run shown buf (record { taken = group.taken; filled = group.filled; run = Next })
+  pub next : IsFirst group.next (drop group.taken shown)
 
 -- Bytes were taken that spell the words at the front of a buffer, which has room for all words of the piece.
 pub record Reads (run : Run) (old new : Option (List ℕ)) (buf : List ℕ) (step : Step) : Type 0 where

@@ -1,5 +1,5 @@
 //! Puts bytes to the front of a buffer. Few are put there in one piece of a fixed size, and then any bytes stand behind them: no call and no loop depends on how many they are.
-ghost use Rattle.std.specs.Prelude.{◌≡◌, ◌≤◌, length, take, replicate, IsTrue};
+ghost use Rattle.std.specs.Prelude.{◌≡◌, ◌≤◌, ◌+◌, ◌*◌, length, take, replicate, IsTrue};
 
 /// Copies a chunk of so many bytes, if both have one and these `len` are in it.
 #[inline(always)]
@@ -76,9 +76,9 @@ pub(crate) fn copy_front(len: usize, from: &[u8], to: &mut [u8])
     }
 }
 
-/// Clears so many bytes.
-#[inline(always)]
-pub(crate) fn clear_front(len: usize, to: &mut [u8])
+/// Clears so many bytes, by a call.
+#[inline(never)]
+fn clear_some(len: usize, to: &mut [u8])
     requires { len ≤ length to.old }
     ensures cleared { take len to.new ≡ replicate len 0 }
     ensures kept { length to.new ≡ length to.old }
@@ -89,4 +89,46 @@ pub(crate) fn clear_front(len: usize, to: &mut [u8])
     if !is_cleared {
         clear_long(len, to);
     }
+}
+
+/// Clears so many bytes. Mostly these are none.
+#[inline(always)]
+pub(crate) fn clear_front(len: usize, to: &mut [u8])
+    requires { len ≤ length to.old }
+    ensures cleared { take len to.new ≡ replicate len 0 }
+    ensures kept { length to.new ≡ length to.old }
+{
+    if len > 0 {
+        clear_some(len, to);
+    }
+}
+
+/// Copies the word behind so many bytes, which are the same already.
+#[inline(always)]
+fn copy_word(at: usize, from: &[u8], to: &mut [u8])
+    requires here { at + 8 ≤ length from.now }
+    requires room { at + 8 ≤ length to.old }
+    requires same { take at to.old ≡ take at from.now }
+    ensures copied { take (at + 8) to.new ≡ take (at + 8) from.now }
+    ensures kept { length to.new ≡ length to.old }
+{
+    to[at..at + 8].copy_from_slice(&from[at..at + 8]);
+}
+
+/// Copies a word and so many behind it. Up to three behind it are copied without a branch: where there are fewer the last is copied again, so that no room behind it is needed.
+#[inline(always)]
+pub(crate) fn copy_words(behind: usize, from: &[u8], to: &mut [u8])
+    requires here { 8 * behind + 8 ≤ length from.now }
+    requires room { 8 * behind + 8 ≤ length to.old }
+    ensures copied { take (8 * behind + 8) to.new ≡ take (8 * behind + 8) from.now }
+    ensures kept { length to.new ≡ length to.old }
+{
+    if behind > 3 {
+        copy_long(8 * behind + 8, from, to);
+        return;
+    }
+    copy_word(0, from, to);
+    copy_word(8 * behind.min(1), from, to);
+    copy_word(8 * behind.min(2), from, to);
+    copy_word(8 * behind, from, to);
 }

@@ -1,9 +1,9 @@
 //! Unpacks whole groups of the bytes that a source shows, without a look at their end between the bytes of a group.
-ghost use Rattle.std.specs.Prelude.{◌≡◌, ◌<◌, ◌%◌, length, drop, slice_index, IfSome};
+ghost use Rattle.std.specs.Prelude.{◌≡◌, ◌<◌, ◌≤◌, ◌%◌, ◌⊎◌, length, take, drop, IfSome};
 ghost use Rattle.capnp_packing.specs.Runs.{IsOver, NeedsBytes};
 ghost use Rattle.capnp_packing.specs.Steps.{IsFirst};
 
-use crate::copies::{clear_front, copy_front};
+use crate::copies::{clear_front, copy_front, copy_words};
 use crate::runs::Run;
 use crate::tags::{byte_behind, marked, spread};
 
@@ -21,13 +21,91 @@ fn first_byte(bytes: &[u8]) -> u8
     }
 }
 
-/// A group of so many bytes: its word, the run behind it, and the byte behind the group, if it has no count.
+/// The eight bytes behind a tag.
+#[inline(always)]
+fn behind_tag(bytes: &[u8; GROUP_LEN]) -> &[u8; 8]
+    ensures { result.now ≡ take 8 (drop 1 bytes.now) }
+{
+    let Some(behind) = bytes[1..].first_chunk::<8>() else {
+        unreachable!()
+    };
+    behind
+}
+
+/// A whole group and its whole run: so many bytes were taken and so many of a buffer filled. Then the byte behind them, if there is one.
 #[derive(Clone, Copy)]
-pub(crate) struct Head {
-    word: [u8; 8],
-    len: usize,
-    run: Run,
+pub(crate) struct Group {
+    taken: usize,
+    filled: usize,
     next: u8,
+}
+
+impl Group {
+    ghost use Rattle.capnp_packing.specs.Steps.{BeginsWith, Fills};
+
+    /// The group of the tag 0 at the front of these bytes, and its run, of which the group has the count. `None`: it has more words than the buffer has room for.
+    #[inline(always)]
+    fn of_zeros(word: [u8; 8], shown: &[u8], buf: &mut [u8]) -> Option<Group>
+        requires long { 10 ≤ length shown.now }
+        requires front { BeginsWith 0 word shown.now }
+        requires whole { length buf.old % 8 ≡ 0 }
+        requires some { 0 < length buf.old }
+        ensures { IfSome result (λ g. Fills shown.now buf.new g) }
+    {
+        let len = 8 * shown[1] as usize;
+        if len > buf.len() - 8 {
+            return None;
+        }
+        clear_front(len, &mut buf[8..]);
+        buf[..8].copy_from_slice(&word);
+        Some(Group {
+            taken: 2,
+            filled: 8 + len,
+            next: first_byte(&shown[2..]),
+        })
+    }
+
+    /// The group of the tag 255 at the front of these bytes, and its run, of which the group has the count. `None`: it isn't shown whole, or has more words than the buffer has room for.
+    #[inline(always)]
+    fn of_words(word: [u8; 8], shown: &[u8], buf: &mut [u8]) -> Option<Group>
+        requires long { 10 ≤ length shown.now }
+        requires front { BeginsWith 255 word shown.now }
+        requires whole { length buf.old % 8 ≡ 0 }
+        requires some { 0 < length buf.old }
+        ensures { IfSome result (λ g. Fills shown.now buf.new g) }
+    {
+        let words = shown[9] as usize;
+        let len = 8 * words;
+        if len > buf.len() - 8 || len > shown.len() - GROUP_LEN {
+            return None;
+        }
+        // The eight bytes in front of the run take the place of the group's word, which is put there then.
+        copy_words(words, &shown[2..], buf);
+        buf[..8].copy_from_slice(&word);
+        let taken = GROUP_LEN + len;
+        Some(Group {
+            taken,
+            filled: 8 + len,
+            next: first_byte(&shown[taken..]),
+        })
+    }
+
+    /// The group of the tag 0 or 255 at the front of these bytes, and its run. `None`: it isn't shown whole, or has more words than the buffer has room for.
+    #[inline(always)]
+    fn with_run(tag: u8, word: [u8; 8], shown: &[u8], buf: &mut [u8]) -> Option<Group>
+        requires long { 10 ≤ length shown.now }
+        requires front { BeginsWith tag word shown.now }
+        requires counted { (tag ≡ 0) ⊎ (tag ≡ 255) }
+        requires whole { length buf.old % 8 ≡ 0 }
+        requires some { 0 < length buf.old }
+        ensures { IfSome result (λ g. Fills shown.now buf.new g) }
+    {
+        if tag == 0 {
+            Group::of_zeros(word, shown, buf)
+        } else {
+            Group::of_words(word, shown, buf)
+        }
+    }
 }
 
 /// So many bytes were taken and so many of a buffer filled, up to where a run stands.
@@ -39,48 +117,7 @@ pub(crate) struct Step {
 }
 
 impl Step {
-    ghost use Rattle.capnp_packing.specs.Steps.{IsGroup, IsFirst, Unpacks};
-
-    /// The group of this tag at the front of these bytes, or `None` where its run has more words than `left`.
-    #[inline(always)]
-    fn head(tag: u8, bytes: &[u8; GROUP_LEN], left: usize) -> Option<Head>
-        requires { tag ≡ slice_index bytes.now 0 }
-        ensures group { IfSome result (λ h. IsGroup left bytes.now h) }
-        ensures next { IfSome result (λ h. h.run ≡ Run.Next → (h.len < 10) × (h.next ≡ slice_index bytes.now h.len)) }
-    {
-        let Some(behind) = bytes[1..].first_chunk::<8>() else {
-            unreachable!()
-        };
-        let word = spread(tag, behind);
-        let len = 1 + marked(tag);
-        if tag != 0 && tag != 255 {
-            let next = byte_behind(tag, behind);
-            let run = Run::Next;
-            return Some(Head {
-                word,
-                len,
-                run,
-                next,
-            });
-        }
-        let count = bytes[len];
-        if count as usize > left {
-            return None;
-        }
-        let run = if tag == 0 {
-            Run::Zeros(count)
-        } else {
-            Run::Verbatim(count)
-        };
-        let len = len + 1;
-        let next = 0;
-        Some(Head {
-            word,
-            len,
-            run,
-            next,
-        })
-    }
+    ghost use Rattle.capnp_packing.specs.Steps.{Unpacks};
 
     /// Fills the front of the buffer with what is left of a run, as far as the words as they are are shown.
     #[inline(always)]
@@ -116,71 +153,63 @@ impl Step {
         }
     }
 
-    /// Fills the front of the buffer with the word of the next group, of this tag, and with its run as `of_run` does. Nothing is filled where no whole group is shown, or its run has more words than the buffer has room for. Answers the byte behind too, if one is shown.
+    /// Fills the front of the buffer with whole groups and their whole runs, as far as they are shown and the buffer has room for them.
     #[inline(always)]
-    fn of_group(run: Run, tag: u8, shown: &[u8], buf: &mut [u8]) -> (Step, u8)
+    fn of_groups(run: Run, shown: &[u8], buf: &mut [u8]) -> Step
         requires whole { length buf.old % 8 ≡ 0 }
         requires over { IsOver run }
-        requires tag { IsFirst tag shown.now }
-        ensures unpacked { Unpacks run shown.now buf.new result.0 }
-        ensures next { IsFirst result.1 (drop result.0.taken shown.now) }
+        ensures { Unpacks run shown.now buf.new result }
     {
-        let none = Step {
-            taken: 0,
-            filled: 0,
-            run,
-        };
-        let Some(group) = shown.first_chunk::<GROUP_LEN>() else {
-            return (none, tag);
-        };
-        if buf.is_empty() {
-            return (none, tag);
-        }
-        let Some(head) = Step::head(tag, group, buf.len() / 8 - 1) else {
-            return (none, tag);
-        };
-        buf[..8].copy_from_slice(&head.word);
-        if let Run::Next = head.run {
-            let step = Step {
-                taken: head.len,
-                filled: 8,
-                run: Run::Next,
+        let mut left = shown;
+        let mut filled = 0;
+        let mut tag = first_byte(shown);
+        while filled < buf.len() {
+            let Some(group) = left.first_chunk::<GROUP_LEN>() else {
+                break;
             };
-            return (step, head.next);
+            let behind = behind_tag(group);
+            // Loads and stores stand before the branch, so that the next tag is shifted out of bytes that were read.
+            let word = spread(tag, behind);
+            buf[filled..filled + 8].copy_from_slice(&word);
+            if tag != 0 && tag != 255 {
+                left = &left[1 + marked(tag)..];
+                filled += 8;
+                tag = byte_behind(tag, behind);
+                continue;
+            }
+            let Some(next) = Group::with_run(tag, word, left, &mut buf[filled..]) else {
+                break;
+            };
+            left = &left[next.taken..];
+            filled += next.filled;
+            tag = next.next;
         }
-        let behind = Step::of_run(head.run, &shown[head.len..], &mut buf[8..]);
-        let step = Step {
-            taken: head.len + behind.taken,
-            filled: 8 + behind.filled,
-            run: behind.run,
-        };
-        (step, first_byte(&shown[step.taken..]))
+        Step {
+            taken: shown.len() - left.len(),
+            filled,
+            run: if filled == 0 { run } else { Run::Next },
+        }
     }
 
     /// Fills the front of the buffer with what is left of a run and with whole groups, as far as they are shown.
+    #[inline(always)]
     pub(crate) fn of_shown(run: Run, shown: &[u8], buf: &mut [u8]) -> Step
         requires { length buf.old % 8 ≡ 0 }
         ensures { Unpacks run shown.now buf.new result }
     {
-        let mut step = Step::of_run(run, shown, buf);
-        let mut tag = first_byte(&shown[step.taken..]);
-        while step.run.is_over() {
-            let (next, behind) = Step::of_group(
-                step.run,
-                tag,
-                &shown[step.taken..],
-                &mut buf[step.filled..],
-            );
-            if next.filled == 0 {
-                break;
-            }
-            step = Step {
-                taken: step.taken + next.taken,
-                filled: step.filled + next.filled,
-                run: next.run,
-            };
-            tag = behind;
+        let step = Step::of_run(run, shown, buf);
+        if !step.run.is_over() {
+            return step;
         }
-        step
+        let behind = Step::of_groups(
+            step.run,
+            &shown[step.taken..],
+            &mut buf[step.filled..],
+        );
+        Step {
+            taken: step.taken + behind.taken,
+            filled: step.filled + behind.filled,
+            run: behind.run,
+        }
     }
 }

@@ -124,6 +124,7 @@ pub(crate) fn next_word<R: BufRead>(source: &mut R, run: Run, left: usize) -> Re
 }
 
 /// Fills the front of the buffer with what is left of a run and with whole groups, as far as the source shows them.
+#[inline(always)]
 fn shown_words<R: BufRead>(source: &mut R, run: Run, buf: &mut [u8]) -> Result<Step>
     requires { length buf.old % 8 ≡ 0 }
     ensures words { IfOk result (λ s. Reads run (R.remaining source.old) (R.remaining source.new) buf.new s) }
@@ -137,6 +138,7 @@ fn shown_words<R: BufRead>(source: &mut R, run: Run, buf: &mut [u8]) -> Result<S
 }
 
 /// Fills the front of the buffer with the next word of a piece, whose words it has room for, byte by byte.
+#[inline(never)]
 fn one_word<R: BufRead>(source: &mut R, run: Run, buf: &mut [u8]) -> Result<Step>
     requires whole { length buf.old % 8 ≡ 0 }
     requires some { 0 < length buf.old }
@@ -154,6 +156,7 @@ fn one_word<R: BufRead>(source: &mut R, run: Run, buf: &mut [u8]) -> Result<Step
 }
 
 /// Fills the front of the buffer with the next words of a piece, whose words it has room for. What a source shows is taken in whole groups; a group that isn't shown whole is read byte by byte.
+#[inline(always)]
 fn next_words<R: BufRead>(source: &mut R, run: Run, buf: &mut [u8]) -> Result<Step>
     requires whole { length buf.old % 8 ≡ 0 }
     requires some { 0 < length buf.old }
@@ -173,6 +176,7 @@ fn next_words<R: BufRead>(source: &mut R, run: Run, buf: &mut [u8]) -> Result<St
 }
 
 /// Fills the front of the buffer as `next_words` does, or refuses, and then clears the buffer: what it holds doesn't depend on how the bytes were shown.
+#[inline(always)]
 fn next_words_or_zeros<R: BufRead>(source: &mut R, run: Run, buf: &mut [u8]) -> Result<Step>
     requires whole { length buf.old % 8 ≡ 0 }
     requires some { 0 < length buf.old }
@@ -188,14 +192,15 @@ fn next_words_or_zeros<R: BufRead>(source: &mut R, run: Run, buf: &mut [u8]) -> 
     step
 }
 
-/// Fills the buffer with the words of one piece, which are as many as it holds. After a refusal it holds the words in front of the fault, and zeros behind them.
-pub(crate) fn read_words<R: BufRead>(source: &mut R, buf: &mut [u8]) -> Result<()>
+/// Fills the buffer with the words of a piece that are left, which are as many as it holds, from inside a run on. After a refusal it holds the words in front of the fault, and zeros behind them.
+#[inline(never)]
+fn read_rest<R: BufRead>(source: &mut R, run: Run, buf: &mut [u8]) -> Result<()>
     requires { length buf.old % 8 ≡ 0 }
-    ensures ok { OnOk result (Takes (unpacked (length buf.old / 8)) (R.remaining source.old) (R.remaining source.new) (whole_words buf.new)) }
-    ensures refused { IfErr result (λ e. Refuses (unpacked (length buf.old / 8)) (R.remaining source.old) (R.remaining source.new) e.kind) }
+    ensures ok { OnOk result (Takes (unpacked_from (length buf.old / 8) (run_view run)) (R.remaining source.old) (R.remaining source.new) (whole_words buf.new)) }
+    ensures refused { IfErr result (λ e. Refuses (unpacked_from (length buf.old / 8) (run_view run)) (R.remaining source.old) (R.remaining source.new) e.kind) }
     ensures count { Counts result (R.failures source.old) (R.failures source.new) }
 {
-    let mut run = Run::First;
+    let mut run = run;
     let mut at = 0;
     while at < buf.len() {
         let step = next_words_or_zeros(source, run, &mut buf[at..])?;
@@ -203,4 +208,22 @@ pub(crate) fn read_words<R: BufRead>(source: &mut R, buf: &mut [u8]) -> Result<(
         at += step.filled;
     }
     Ok(())
+}
+
+/// Fills the buffer with the words of one piece, which are as many as it holds. After a refusal it holds the words in front of the fault, and zeros behind them.
+pub(crate) fn read_words<R: BufRead>(source: &mut R, buf: &mut [u8]) -> Result<()>
+    requires { length buf.old % 8 ≡ 0 }
+    ensures ok { OnOk result (Takes (unpacked (length buf.old / 8)) (R.remaining source.old) (R.remaining source.new) (whole_words buf.new)) }
+    ensures refused { IfErr result (λ e. Refuses (unpacked (length buf.old / 8)) (R.remaining source.old) (R.remaining source.new) e.kind) }
+    ensures count { Counts result (R.failures source.old) (R.failures source.new) }
+{
+    if buf.is_empty() {
+        return Ok(());
+    }
+    // Mostly a source shows all of a piece.
+    let step = next_words_or_zeros(source, Run::First, buf)?;
+    if step.filled == buf.len() {
+        return Ok(());
+    }
+    read_rest(source, step.run, &mut buf[step.filled..])
 }

@@ -1,36 +1,55 @@
-use Rattle.std.proofs.Common.{◌≡◌, ◌-◌, length, refl, rules, arith, ◌∙◌}
-use Rattle.std.proofs.lemmas.Result.{err_from_is_err_and}
+use Rattle.std.proofs.Common.{◌≡◌, ℕ, ◌+◌, ◌-◌, ◌/◌, List, ◌++◌, length, take, refl, sym, ap, subst, ◌∙◌, rules, arith}
+use Rattle.std.proofs.lemmas.List.{take_all}
+use Rattle.std.proofs.lemmas.Result.{on_ok_weaker, IfErr-weaker}
 use borrow.Rule.Slice.PartMut.{put_mid}
 use Rattle.capnp_io.proofs.Filling.{take-put_mid_more}
-use Rattle.capnp_packing.proofs.PieceLemmas.{piece-start, piece-refused, piece-more, piece-end}
+use Rattle.capnp_model.specs.Bytes.{words_in_bytes}
+use Rattle.capnp_model.specs.Packing.{unpacked_from, unpacked}
+use Rattle.capnp_stream.specs.Segments.{whole_words}
+use Rattle.capnp_packing.specs.Parts.{Leads, Takes, with_front}
+use Rattle.capnp_packing.specs.Runs.{run_view}
+use Rattle.capnp_packing.specs.declared.runs.Run.TheVariants.{First}
+use Rattle.capnp_packing.proofs.PieceLemmas.{piece-start, piece-refused, piece-end, piece-joined}
 use Rattle.capnp_packing.proofs.unpacking.read_words.Goals as goal
 
-pub loop-at-init : goal.loop-at-init
-loop-at-init g c = record { whole = refl; within = omega arith; same = refl; read = piece-start _ _ _ (omega arith); count = refl }
+pub returns-then-is_empty-clause-ok : goal.returns-then-is_empty-clause-ok
+returns-then-is_empty-clause-ok g c =
+    let none : length c.args.buf.now ≡ 0 = search rules in
+    piece-end _ _ _ c.args.buf.now 0 First (piece-start _ _ _ _ (omega arith)) refl (omega arith) (omega arith) (omega (arith, none))
 
-pub loop-at-preserved : goal.loop-at-preserved
-loop-at-preserved g c =
-    let l = c.loop-at in
+pub returns-then-step-buf-clause-ok : goal.returns-then-step-buf-clause-ok
+returns-then-step-buf-clause-ok g c =
     let step = c.in_ok-step.step in
-    let tail = c.next_words_or_zeros.new.buf in
-    let p = c.in_ok-step.ensures.words.0 in
-    let after = put_mid l.at (length l.buf - l.at) l.buf tail in
-    let kept : length after ≡ length l.buf = search rules in
-    record {
-      whole = omega (arith, p.whole, l.invariant.whole);
-      within = omega (arith, p.fits, kept);
-      same = kept ∙ l.invariant.same;
-      read = piece-more _ _ _ l.buf l.at l.run l.invariant.read l.invariant.whole (omega arith) c.loop-at-test.true tail (omega arith) _ after step p kept (take-put_mid_more l.at _ step.filled l.buf tail l.invariant.within p.fits);
-      count = search rules;
-    }
-
-pub returns-in_err-step-clause-refused : goal.returns-in_err-step-clause-refused
-returns-in_err-step-clause-refused g c =
-    let l = c.loop-at in
-    let p = err_from_is_err_and c.from_residual.result c.from_residual.ensures.1 in
-    rw (p.1, p.2) (piece-refused _ _ _ l.buf l.at l.run l.invariant.read l.invariant.whole (omega arith) c.loop-at-test.true _ (omega arith) _ _ c.in_err-step.ensures.refused)
+    let buf = c.next_words_or_zeros.new.buf in
+    let read = c.in_ok-step.ensures.words.0 in
+    let same : length buf / 8 ≡ length c.args.buf.now / 8 = ap (λ (n : ℕ). n / 8) c.next_words_or_zeros.auto.buf in
+    let leads = subst (λ (n : ℕ). Leads (unpacked n) (g.R.Read.remaining c.args.source.now) (g.R.Read.remaining c.next_words_or_zeros.new.source) (λ more. with_front (words_in_bytes (step.filled / 8) (take step.filled buf)) (unpacked_from ((length buf - step.filled) / 8) (run_view step.run) more))) same read.leads in
+    piece-end _ _ _ buf step.filled step.run leads read.whole (omega arith) read.fits (omega arith)
 
 pub returns-clause-ok : goal.returns-clause-ok
 returns-clause-ok g c =
-    let l = c.loop-at in
-    piece-end _ _ _ l.buf l.at l.run l.invariant.read l.invariant.whole (omega arith) l.invariant.within c.loop-at-test.false
+    let step = c.in_ok-step.step in
+    let buf = c.next_words_or_zeros.new.buf in
+    let tail = c.read_rest.new.buf in
+    let read = c.in_ok-step.ensures.words.0 in
+    let same : length buf / 8 ≡ length c.args.buf.now / 8 = ap (λ (n : ℕ). n / 8) c.next_words_or_zeros.auto.buf in
+    let leads = subst (λ (n : ℕ). Leads (unpacked n) (g.R.Read.remaining c.args.source.now) (g.R.Read.remaining c.next_words_or_zeros.new.source) (λ more. with_front (words_in_bytes (step.filled / 8) (take step.filled buf)) (unpacked_from ((length buf - step.filled) / 8) (run_view step.run) more))) same read.leads in
+    let after = put_mid step.filled (length buf - step.filled) buf tail in
+    let behind : length tail ≡ length buf - step.filled = search rules in
+    let kept : length after ≡ length buf = search rules in
+    let joined : after ≡ take step.filled buf ++ tail =
+    sym (take_all (step.filled + length tail) after (omega (arith, read.fits)))
+    ∙ take-put_mid_more step.filled (length buf - step.filled) (length tail) buf tail read.fits (omega arith) ∙ ap (λ (l : List ℕ). take step.filled buf ++ l) (take_all (length tail) tail (omega arith)) in
+    let count : (length buf - step.filled) / 8 ≡ length tail / 8 = ap (λ (n : ℕ). n / 8) (sym behind) in
+    on_ok_weaker c.read_rest.result
+        (λ h. piece-joined _ _ _ (g.R.Read.remaining c.read_rest.new.source) buf tail after step leads read.fits read.whole (omega arith) behind kept joined
+        (subst (λ (n : ℕ). Takes (unpacked_from n (run_view step.run)) (g.R.Read.remaining c.next_words_or_zeros.new.source) (g.R.Read.remaining c.read_rest.new.source) (whole_words tail)) (search rules) h)) c.read_rest.ensures.ok
+
+pub returns-clause-refused : goal.returns-clause-refused
+returns-clause-refused g c =
+    let step = c.in_ok-step.step in
+    let buf = c.next_words_or_zeros.new.buf in
+    let read = c.in_ok-step.ensures.words.0 in
+    let same : length buf / 8 ≡ length c.args.buf.now / 8 = ap (λ (n : ℕ). n / 8) c.next_words_or_zeros.auto.buf in
+    let leads = subst (λ (n : ℕ). Leads (unpacked n) (g.R.Read.remaining c.args.source.now) (g.R.Read.remaining c.next_words_or_zeros.new.source) (λ more. with_front (words_in_bytes (step.filled / 8) (take step.filled buf)) (unpacked_from ((length buf - step.filled) / 8) (run_view step.run) more))) same read.leads in
+    IfErr-weaker c.read_rest.result _ _ (λ e h. piece-refused _ _ _ buf step.filled step.run leads read.whole (omega arith) (omega arith) _ (omega arith) _ e.kind h) c.read_rest.ensures.refused

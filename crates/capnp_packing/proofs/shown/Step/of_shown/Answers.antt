@@ -1,20 +1,17 @@
-use Rattle.std.proofs.Common.{◌≡◌, ◌-◌, length, arith, rules, ◌∙◌}
-use Rattle.capnp_io.proofs.Filling.{take-put_mid_more}
+use Rattle.std.proofs.Common.{◌≡◌, ◌-◌, length, arith, rules}
 use borrow.Rule.Slice.PartMut.{put_mid}
-use Rattle.capnp_packing.proofs.UnpackLemmas.{Unpacks-then, first-behind}
+use Rattle.capnp_io.proofs.Filling.{take-put_mid_more}
+use Rattle.capnp_packing.proofs.UnpackLemmas.{Unpacks-then}
 use Rattle.capnp_packing.proofs.shown.Step.of_shown.Goals as goal
 
-pub loop-buf-preserved : goal.loop-buf-preserved
-loop-buf-preserved c =
-    let step = c.loop-buf.step in
-    let group = c.of_group-behind in
-    let next = group.result.0 in
-    let buf = c.loop-buf.buf in
-    let tail = group.new.buf in
+pub returns : goal.returns
+returns c =
+    let step = c.of_run-step.result in
+    let first = c.of_run-step.ensures.unpacked in
+    let next = c.of_groups-behind.result in
+    let buf = c.of_run-step.new.buf in
+    let tail = c.of_groups-behind.new.buf in
     let after = put_mid step.filled (length buf - step.filled) buf tail in
+    let size : length tail ≡ length buf - step.filled = search rules in
     let kept : length after ≡ length buf = search rules in
-    record {
-      same = kept ∙ c.loop-buf.invariant.same;
-      unpacked = Unpacks-then c.args.run c.args.shown.now buf tail after step next c.loop-buf.invariant.unpacked group.ensures.unpacked (omega arith) kept (take-put_mid_more step.filled _ next.filled buf tail (omega arith) group.ensures.unpacked.fits);
-      tag = first-behind c.args.shown.now step.taken next.taken group.result.1 group.ensures.next;
-    }
+    Unpacks-then c.args.run c.args.shown.now buf tail after step next first c.of_groups-behind.ensures size kept (take-put_mid_more step.filled _ next.filled buf tail (omega (arith, first.fits)) c.of_groups-behind.ensures.fits)
