@@ -1,5 +1,7 @@
 -- What contracts see of annotations.
-use Rattle.std.specs.Prelude.{ℕ, Option, slice_get}
+use Rattle.std.specs.Prelude.{ℕ, List, Option, Some, slice_get}
+use Rattle.capnp_model.specs.Schemas.{Node}
+use Rattle.capnp_records.specs.Sets.{nodes_of}
 use Rattle.capnp_records.specs.declared.node.AnnotationRecord.{AnnotationRecord}
 use Rattle.capnp_queries.specs.declared.annotations.Annotation.{Annotation}
 use Rattle.capnp_queries.specs.declared.annotations.AnnotationList.{AnnotationList}
@@ -8,6 +10,13 @@ use Rattle.capnp_queries.specs.declared.annotations.AnnotationList.{AnnotationLi
 abbrev pub annotation_seen : Annotation → AnnotationRecord
 annotation_seen a = a.proto.now
 
+-- What a clause reads of an annotation: the nodes of its set, and its record, if it is there.
+abbrev pub SeenAnnotation : Type 0
+SeenAnnotation = List Node × Option AnnotationRecord
+
+abbrev pub seen_annotation : Annotation → SeenAnnotation
+seen_annotation a = (nodes_of a.set.now, Some a.proto.now)
+
 -- The annotation at an index.
-abbrev pub annotated_at : AnnotationList → ℕ → Option AnnotationRecord
-annotated_at list i = slice_get list.annotations.now i
+abbrev pub annotated_at : AnnotationList → ℕ → SeenAnnotation
+annotated_at list i = (nodes_of list.set.now, slice_get list.annotations.now i)

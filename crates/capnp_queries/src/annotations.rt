@@ -123,4 +123,42 @@ impl<'a> AnnotationList<'a> {
         }
         None
     }
+
+    /// The annotations in order, from both ends.
+    pub fn iter(self) -> ListIter<AnnotationList<'a>, Annotation<'a>>
+        ensures { items_left annotated_at result ≡ items_from (annotated_at self.entry) 0 (length self.entry.annotations.now) }
+    {
+        ListIter::new(self, self.len())
+    }
+}
+
+impl<'a> IndexMove<u32, Annotation<'a>> for AnnotationList<'a> {
+    ghost use Rattle.capnp_queries.specs.Annotations.{SeenAnnotation, seen_annotation, annotated_at};
+
+    ghost Shown = { SeenAnnotation };
+
+    ghost shown = { seen_annotation };
+
+    ghost count = { λ list. length list.annotations.now };
+
+    ghost at = { annotated_at };
+
+    fn index_move(&self, index: u32) -> Annotation<'a> {
+        self.get(index)
+    }
+}
+
+impl<'a> IntoIterator for AnnotationList<'a> {
+    ghost use Rattle.capnp_units.specs.Items.{items_from, items_left};
+    ghost use Rattle.capnp_queries.specs.Annotations.{annotated_at};
+
+    type Item = Annotation<'a>;
+
+    type IntoIter = ListIter<AnnotationList<'a>, Annotation<'a>>;
+
+    ghost into_iter_gives = { λ list it. items_left annotated_at it ≡ items_from (annotated_at list) 0 (length list.annotations.now) };
+
+    fn into_iter(self) -> ListIter<AnnotationList<'a>, Annotation<'a>> {
+        self.iter()
+    }
 }

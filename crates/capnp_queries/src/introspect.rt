@@ -1,7 +1,7 @@
 //! Types as schemas name them.
 
 ghost use Rattle.std.specs.Prelude.{◌≡◌, ◌^◌, ◌-◌, ◌+◌, ◌<◌};
-ghost use Rattle.capnp_model.specs.Schemas.{Ty, list, void, plain, bool, int, uint};
+ghost use Rattle.capnp_model.specs.Schemas.{Ty, list, void, plain, bool, int, uint, text, blob};
 ghost use Rattle.capnp_model.specs.Readings.{expected_size};
 ghost use Rattle.capnp_units.specs.Sizes.{size_number};
 ghost use Rattle.capnp_queries.specs.Types.{ty_of, ty_of_variant, type_of_variant, is_pointer, is_type_of};
@@ -9,6 +9,7 @@ ghost use Rattle.capnp_queries.specs.Types.{ty_of, ty_of_variant, type_of_varian
 use capnp_records::of_set::OfSet;
 use capnp_records::raw::{RawBrandedStructSchema, RawEnumSchema};
 use capnp_records::set::SchemaSet;
+use capnp_text::{data, text};
 use capnp_units::sizes::ElementSize;
 
 /// A type that is no list.
@@ -292,5 +293,21 @@ impl Introspect for u64 {
 
     fn introspect() -> Type {
         Type::new(Base::UInt64, 0)
+    }
+}
+
+impl Introspect for text::Owned {
+    ghost ty = { text };
+
+    fn introspect() -> Type {
+        Type::new(Base::Text, 0)
+    }
+}
+
+impl Introspect for data::Owned {
+    ghost ty = { blob };
+
+    fn introspect() -> Type {
+        Type::new(Base::Data, 0)
     }
 }

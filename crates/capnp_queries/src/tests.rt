@@ -10,6 +10,7 @@ use capnp_records::node::{
 };
 use capnp_records::raw::RawBrandedStructSchema;
 use capnp_records::set::SchemaSet;
+use capnp_text::{data, text};
 use capnp_units::kinds::ErrorKind;
 use capnp_units::sizes::ElementSize;
 use std::alloc::{AllocError, Global};
@@ -268,5 +269,32 @@ fn types_and_annotations(rt: HostRuntime) -> Result<(), Fail> {
     assert_eq!(rt; note.get_type(), u16::introspect());
     assert!(rt; matches!(note.get_value(), Value::UInt16(5)));
     assert!(rt; notes.find(98).is_none());
+    let mut noted = notes.iter();
+    assert_eq!(rt; noted.len(), 1);
+    assert_eq!(rt; noted.next_back().map(|note| note.get_id()), Some(99));
+    assert!(rt; noted.next().is_none());
+    let mut ids: u64 = 0;
+    for note in notes {
+        ids = ids.saturating_add(note.get_id());
+    }
+    assert_eq!(rt; ids, 99);
+    assert_eq!(rt; text::Owned::introspect().which(), TypeVariant::Text);
+    assert_eq!(rt; data::Owned::introspect().which(), TypeVariant::Data);
+    Ok(())
+}
+
+#[test]
+fn types_are_keys(rt: HostRuntime) -> Result<(), Fail> {
+    let raw = RawBrandedStructSchema::new(0, 1);
+    let elsewhere = RawBrandedStructSchema::new(3, 1);
+    let one = Type::from(TypeVariant::Struct(raw));
+    let same = Type::from(TypeVariant::Struct(elsewhere));
+    let lists = Type::list_of(one);
+    let mut types = HashSet::new(rt.alloc());
+    assert!(rt; types.insert(one)? && types.insert(lists)? && !types.insert(same)?);
+    let mut variants = HashSet::new(rt.alloc());
+    assert!(rt; variants.insert(TypeVariant::Struct(raw))? && variants.insert(lists.which())?);
+    assert!(rt; variants.contains(&TypeVariant::Struct(elsewhere)));
+    assert!(rt; variants.contains(&TypeVariant::List(same)));
     Ok(())
 }
