@@ -6,3 +6,4 @@ pub mod Shown
 pub mod Variants
 pub mod Standing
 pub mod Records
+pub mod ValuesShown

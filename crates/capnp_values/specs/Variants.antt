@@ -1,10 +1,15 @@
 -- What the variants of dynamic values hold.
-use Rattle.std.specs.Prelude.{ℕ, ℤ, Bool, List, ◌≡◌, Option, Some, None, option_map, ⊤}
+use Rattle.std.specs.Prelude.{ℕ, ℤ, Bool, false, ◌==◌, List, ◌≡◌, Option, Some, None, option_map, ⊤}
 use Rattle.std.specs.Borrow.{Bor}
+use Rattle.capnp_model.specs.Schemas.{Ty, void, plain, text, blob, untyped, interface, struct, list}
+use Rattle.capnp_wire.specs.declared.structs.StructReader.{StructReader}
+use Rattle.capnp_queries.specs.Structs.{id_of}
 use Rattle.capnp_text.specs.declared.text.Reader.{Reader as Text}
 use Rattle.capnp_values.specs.declared.any_pointer.Reader.{Reader as Untyped}
 use Rattle.capnp_values.specs.declared.dynamic_list.Reader.{Reader as DynamicList}
 use Rattle.capnp_values.specs.declared.dynamic_struct.Reader.{Reader as DynamicStruct}
+use Rattle.capnp_values.specs.declared.source.StructSource.{StructSource}
+use Rattle.capnp_values.specs.declared.source.StructSource.TheVariants as structure
 use Rattle.capnp_values.specs.declared.dynamic_value.Enum.{Enum}
 use Rattle.capnp_values.specs.declared.dynamic_value.Reader.{Reader}
 use Rattle.capnp_values.specs.declared.dynamic_value.Reader.TheVariants as value
@@ -92,3 +97,33 @@ untyped_in _ = None
 -- The value is a text of these bytes.
 abbrev pub IsTextOf : {A : Type 0} → List ℕ → Reader A → Type 0
 IsTextOf bytes v = option_map (λ t. t.0.now) (text_in v) ≡ Some bytes
+
+-- ---- structs as callers' types
+
+-- The struct's reader, where it is a message's.
+abbrev pub message_struct : {A : Type 0} → StructSource A → Option (StructReader A)
+message_struct (structure.Message s) = Some s
+message_struct (structure.Default s) = None
+
+-- The type is that of the struct of an id.
+abbrev pub is_struct_of : ℕ → Ty → Bool
+is_struct_of id void = false
+is_struct_of id (plain p) = false
+is_struct_of id text = false
+is_struct_of id blob = false
+is_struct_of id untyped = false
+is_struct_of id interface = false
+is_struct_of id (struct i) = i == id
+is_struct_of id (list ty) = false
+
+-- The struct is a message's, and of the type by its id.
+abbrev pub fits_type : {A : Type 0} → Ty → DynamicStruct A → Bool
+fits_type ty r = elim (message_struct r.source) [ None ↦ false | Some s ↦ is_struct_of (id_of r.schema) ty ]
+
+-- The value is such a struct.
+abbrev pub fits_struct : {A : Type 0} → Ty → Reader A → Bool
+fits_struct ty v = elim (struct_in v) [ None ↦ false | Some r ↦ fits_type ty r ]
+
+-- The reader of the struct that the value is.
+abbrev pub struct_behind : {A : Type 0} → Reader A → Option (StructReader A)
+struct_behind v = elim (struct_in v) [ None ↦ None | Some r ↦ message_struct r.source ]

@@ -1,11 +1,16 @@
 //! Pointers of no type.
-ghost use Rattle.std.specs.Prelude.{◌≡◌};
-ghost use Rattle.capnp_wire.specs.Views.{seen_pointer};
-ghost use Rattle.capnp_wire.specs.Reads.{is_null};
+ghost use Rattle.std.specs.Prelude.{◌≡◌, Result, Ok};
+ghost use Rattle.capnp_model.specs.Schemas.{Ty, untyped};
+ghost use Rattle.capnp_units.specs.declared.errors.Error.{Error};
+ghost use Rattle.capnp_object.specs.Places.{seen};
+ghost use Rattle.capnp_wire.specs.Views.{PointerView, seen_pointer};
+ghost use Rattle.capnp_wire.specs.Reads.{is_null, read_text, read_blob};
 ghost use Rattle.capnp_wire.specs.ValueSizes.{PointerSize};
-ghost use Rattle.capnp_values.specs.Sources.{pointer_seen, WithoutLimit};
+ghost use Rattle.capnp_values.specs.Sources.{read_behind, pointer_seen, WithoutLimit};
 
 use crate::source::PointerSource;
+use capnp_queries::introspect::{Introspect, Type, TypeVariant};
+use capnp_text::text;
 use capnp_units::errors::Result;
 use capnp_units::limiter::ReadLimiter;
 use capnp_units::sizes::MessageSize;
@@ -47,5 +52,69 @@ impl<'a, A: ReaderArena> Reader<'a, A> {
         ensures { WithoutLimit (PointerSize (pointer_seen A.segments self.now.source)) result }
     {
         self.source.total_size()
+    }
+
+    /// The pointer read as a type: a text, data, or an untyped pointer. It has no limit of words.
+    ///
+    /// It is refused as `PointerReader::get_text` and `get_data` are.
+    pub fn get_as<T: FromAnyPointer<'a, A>>(&self) -> Result<T>
+        ensures { T.reads (pointer_seen A.segments self.now.source) result }
+    {
+        T::from_any_pointer(*self)
+    }
+}
+
+/// The type of untyped pointers.
+#[derive(Clone, Copy, Debug, PartialEq, Eq)]
+pub struct Owned;
+
+impl Introspect for Owned {
+    ghost ty = { untyped };
+
+    fn introspect() -> Type {
+        Type::from(TypeVariant::AnyPointer)
+    }
+}
+
+/// What an untyped pointer can be read as, be it a message's or a default's.
+pub trait FromAnyPointer<'a, A: ReaderArena>: Sized {
+    /// What reading the pointer gives.
+    ghost reads: { PointerView → Result Self Error → Type 0 };
+
+    /// Reads the pointer.
+    fn from_any_pointer(pointer: Reader<'a, A>) -> Result<Self>
+        ensures { reads (pointer_seen A.segments pointer.entry.source) result };
+}
+
+/// A text: the bytes of a byte list in front of its last, which is zero; null is the empty text.
+impl<'a, A: ReaderArena> FromAnyPointer<'a, A> for text::Reader<'a> {
+    ghost reads = { λ p r. seen (λ t. t.0.now) r ≡ read_behind (read_text p.basis p.levels) p };
+
+    fn from_any_pointer(pointer: Reader<'a, A>) -> Result<text::Reader<'a>>
+        ensures { let p = pointer_seen A.segments pointer.entry.source in seen (λ t. t.0.now) result ≡ read_behind (read_text p.basis p.levels) p }
+    {
+        Ok(text::Reader(pointer.source.text()?))
+    }
+}
+
+/// Data: the bytes of a byte list; null is none.
+impl<'a, A: ReaderArena> FromAnyPointer<'a, A> for &'a [u8] {
+    ghost reads = { λ p r. seen (λ bytes. bytes.now) r ≡ read_behind (read_blob p.basis p.levels) p };
+
+    fn from_any_pointer(pointer: Reader<'a, A>) -> Result<&'a [u8]>
+        ensures { let p = pointer_seen A.segments pointer.entry.source in seen (λ bytes. bytes.now) result ≡ read_behind (read_blob p.basis p.levels) p }
+    {
+        pointer.source.data()
+    }
+}
+
+/// The pointer itself.
+impl<'a, A: ReaderArena> FromAnyPointer<'a, A> for Reader<'a, A> {
+    ghost reads = { λ p r. seen (λ q. pointer_seen A.segments q.source) r ≡ Ok p };
+
+    fn from_any_pointer(pointer: Reader<'a, A>) -> Result<Reader<'a, A>>
+        ensures { seen (λ q. pointer_seen A.segments q.source) result ≡ Ok (pointer_seen A.segments pointer.entry.source) }
+    {
+        Ok(pointer)
     }
 }

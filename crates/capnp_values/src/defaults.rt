@@ -44,7 +44,7 @@ impl ReaderArena for Defaults {
 }
 
 /// The null pointer in whose place a default is read.
-fn null<'a>() -> PointerReader<'a, Defaults>
+pub(crate) fn null<'a>() -> PointerReader<'a, Defaults>
     ensures { seen_pointer default_segments result ≡ null_default }
 {
     match PointerReader::get_root_from_arena(&DEFAULTS) {

@@ -1,5 +1,5 @@
 //! Structs whose schema is known at run time.
-ghost use Rattle.std.specs.Prelude.{◌≡◌, ◌<◌, ◌^◌, Ok, IsOkAnd, IfSome, option_map, option_copied};
+ghost use Rattle.std.specs.Prelude.{◌≡◌, ◌<◌, ◌^◌, true, Some, Ok, IsOkAnd, IfSome, option_map, option_copied};
 ghost use Rattle.std.specs.List.{AllByRecursion};
 ghost use Rattle.capnp_wire.specs.Views.{seen_struct};
 ghost use Rattle.capnp_wire.specs.ValueSizes.{StructSizeOf};
@@ -8,12 +8,14 @@ ghost use Rattle.capnp_records.specs.NodeViews.{kind_of_field, value_of};
 ghost use Rattle.capnp_queries.specs.Handles.{entry_of, IsFieldAt};
 ghost use Rattle.capnp_values.specs.GoodDefaults.{HasBytes};
 ghost use Rattle.capnp_values.specs.Shown.{default_said, ShowsField, discriminant_shown, is_active_field, is_null_slot, has_field, active_index, AnswersNamed};
+ghost use Rattle.capnp_values.specs.Variants.{message_struct, fits_type};
 
 use crate::dynamic_value;
 use crate::opening::open_slot;
 use crate::plain::plain_value;
 use crate::source::StructSource;
 use capnp_queries::fields::Field;
+use capnp_queries::introspect::{Introspect, TypeVariant};
 use capnp_queries::slots::FieldPlace;
 use capnp_queries::structs::StructSchema;
 use capnp_records::node::{FieldBody, NO_DISCRIMINANT, Value};
@@ -21,6 +23,7 @@ use capnp_units::errors::Result;
 use capnp_units::sizes::MessageSize;
 use capnp_wire::arena::ReaderArena;
 use capnp_wire::structs::StructReader;
+use capnp_wire::traits::OwnedStruct;
 
 /// A text's or data's bytes are bytes.
 fn are_bytes(bytes: &[u8])
@@ -183,5 +186,26 @@ impl<'a, A: ReaderArena> Reader<'a, A> {
     {
         let field = self.schema.get_field_by_name(name)?;
         self.has(field)
+    }
+
+    /// Whether the struct can be handed on as a caller's type: its schema's id is that of the type, and it is a message's. One of a default can't be, since a caller's types read messages alone.
+    pub fn fits<T: Introspect>(&self) -> bool
+        ensures { result ≡ fits_type T.ty self.now }
+    {
+        match (self.source, T::introspect().which()) {
+            (StructSource::Message(_), TypeVariant::Struct(raw)) => raw == self.schema.raw(),
+            _ => false,
+        }
+    }
+
+    /// The struct as a caller's type, which `fits` tells. Its reader is the one that it was made from.
+    pub fn downcast<T: OwnedStruct<'a, A> + Introspect>(self) -> T::Reader
+        requires { fits_type T.ty self ≡ true }
+        ensures { message_struct self.entry.source ≡ Some (T.Reader.inner_struct result) }
+    {
+        let StructSource::Message(reader) = self.source else {
+            unreachable!()
+        };
+        <T::Reader as From<StructReader<'a, A>>>::from(reader)
     }
 }

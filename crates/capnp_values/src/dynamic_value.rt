@@ -3,8 +3,11 @@ use crate::downcast::DowncastReader;
 use crate::{any_pointer, dynamic_list, dynamic_struct};
 use capnp_queries::enumerants::Enumerant;
 use capnp_queries::enums::EnumSchema;
+use capnp_queries::introspect::Introspect;
 use capnp_text::{data, text};
 use capnp_units::errors::Result;
+use capnp_wire::arena::ReaderArena;
+use capnp_wire::traits::OwnedStruct;
 
 /// A value to read, by its type.
 #[derive_where(Clone, Copy)]
@@ -37,6 +40,32 @@ impl<'a, A> Reader<'a, A> {
         ensures { T.variant self.entry ≡ Some result }
     {
         T::downcast_reader(self)
+    }
+}
+
+impl<'a, A: ReaderArena> Reader<'a, A> {
+    ghost use Rattle.std.specs.Prelude.{◌≡◌, Some, true};
+    ghost use Rattle.capnp_values.specs.Variants.{fits_struct, struct_behind};
+
+    /// Whether the value is a struct that can be handed on as a caller's type, as `dynamic_struct::Reader::fits` says.
+    pub fn fits_struct<T: Introspect>(&self) -> bool
+        ensures { result ≡ fits_struct T.ty self.now }
+    {
+        match self {
+            Reader::Struct(inner) => inner.fits::<T>(),
+            _ => false,
+        }
+    }
+
+    /// The struct as a caller's type, which `fits_struct` tells.
+    pub fn downcast_struct<T: OwnedStruct<'a, A> + Introspect>(self) -> T::Reader
+        requires { fits_struct T.ty self ≡ true }
+        ensures { struct_behind self.entry ≡ Some (T.Reader.inner_struct result) }
+    {
+        let Reader::Struct(inner) = self else {
+            unreachable!()
+        };
+        inner.downcast::<T>()
     }
 }
 

@@ -9,9 +9,12 @@ pub mod dynamic_list;
 pub mod dynamic_struct;
 pub mod dynamic_value;
 pub mod laws;
+pub mod of_value;
 mod opening;
 mod plain;
 mod single;
 pub mod source;
 #[cfg(test)]
 mod tests;
+#[cfg(test)]
+mod typed_tests;

@@ -130,7 +130,7 @@ pub(crate) fn open<'a, A: ReaderArena>(
 }
 
 /// The struct that a default's bytes hold.
-fn struct_of_default<'a, A: ReaderArena>(
+pub(crate) fn struct_of_default<'a, A: ReaderArena>(
     bytes: &'a [u8],
     set: &'a SchemaSet,
     raw: RawBrandedStructSchema,
@@ -143,7 +143,7 @@ fn struct_of_default<'a, A: ReaderArena>(
 }
 
 /// The list that a default's bytes hold.
-fn list_of_default<'a, A: ReaderArena>(
+pub(crate) fn list_of_default<'a, A: ReaderArena>(
     bytes: &'a [u8],
     set: &'a SchemaSet,
     element_type: Type,

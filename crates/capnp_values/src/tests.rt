@@ -16,9 +16,9 @@ use capnp_wire::pointer::PointerReader;
 use std::alloc::{AllocError, Global};
 use std::test::Fail;
 
-type Arena<'a> = ReaderArenaImpl<&'a [&'a [u8]]>;
+pub(crate) type Arena<'a> = ReaderArenaImpl<&'a [&'a [u8]]>;
 
-fn slot(
+pub(crate) fn slot(
     alloc: Global,
     name: &str,
     ty: TypeRecord,
@@ -38,7 +38,7 @@ fn slot(
     })
 }
 
-fn of(base: BaseType) -> TypeRecord {
+pub(crate) fn of(base: BaseType) -> TypeRecord {
     TypeRecord {
         list_count: 0,
         base,
@@ -57,7 +57,7 @@ fn number(alloc: Global, name: &str, offset: u32, default: u16) -> Result<FieldR
     )
 }
 
-fn node(
+pub(crate) fn node(
     alloc: Global,
     id: u64,
     words: u16,
@@ -81,7 +81,7 @@ fn node(
 }
 
 /// P (1): a UInt16, t Text. Q (2): items List(P). U (3): u, v in a union. D (4): n with default 5, t Text with default "hi", p P with default (a = 7).
-fn schemas(alloc: Global) -> Result<SchemaSet, Fail> {
+pub(crate) fn schemas(alloc: Global) -> Result<SchemaSet, Fail> {
     let text = of(BaseType::Text);
     let none = NO_DISCRIMINANT;
     let items = TypeRecord {
@@ -114,7 +114,7 @@ fn schemas(alloc: Global) -> Result<SchemaSet, Fail> {
     Ok(SchemaSet::new(nodes).ok().ok_or("accepted")?)
 }
 
-fn root<'a>(
+pub(crate) fn root<'a>(
     arena: &'a Arena<'a>,
     set: &'a SchemaSet,
     id: u64,
@@ -129,7 +129,7 @@ fn root<'a>(
 }
 
 /// The value of a field of a struct.
-fn get<'a>(
+pub(crate) fn get<'a>(
     reader: dynamic_struct::Reader<'a, Arena<'a>>,
     index: u16,
 ) -> Result<Reader<'a, Arena<'a>>, Fail> {
