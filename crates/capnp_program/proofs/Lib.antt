@@ -1,2 +1,7 @@
 mod Digits
 mod Keeping
+pub mod MadeCalls
+pub mod AskedExamples
+pub mod Asking
+pub mod Telling
+pub mod Running

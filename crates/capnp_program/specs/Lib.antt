@@ -1,4 +1,7 @@
 pub mod Arguments
+pub mod Faults
+pub mod Calls
 pub mod Asked
+pub mod Settings
 pub mod Lines
 pub mod Program

@@ -1,35 +1,66 @@
 -- What the program does to its streams.
-use Rattle.std.specs.Prelude.{◌≡◌, ℕ, Some, List, Ok, ◌⊎◌}
+use Rattle.std.specs.Prelude.{◌≡◌, ℕ, ◌≤◌, Bool, true, false, Some, None, List, Ok, Err, ◌⊎◌, IfErr}
 use Rattle.std.specs.declared.option.Option.{Option}
 use Rattle.std.specs.declared.result.Result.{Result}
 use Rattle.std.specs.Io.KnownBytes.{Keeps}
 use Rattle.capnp_units.specs.declared.errors.Error.{Error}
+use Rattle.capnp_units.specs.declared.kinds.ErrorKind.TheVariants.{Device}
+use Rattle.capnp_io.specs.Counting.{Counts as CountsFailures}
 use Rattle.capnp_io.specs.Writes.{Writes}
 use Rattle.capnp_queries.specs.declared.structs.StructSchema.{StructSchema}
-use Rattle.capnp_queries.specs.Structs.{nodes_around, id_of}
 use Rattle.capnp_calls.specs.declared.call.Call.{Call}
 use Rattle.capnp_relay.specs.declared.ends.Counts.{Counts}
+use Rattle.capnp_relay.specs.declared.ends.Fault.{Fault}
 use Rattle.capnp_relay.specs.declared.ends.Fault.TheVariants as faults
+use Rattle.capnp_relay.specs.declared.ends.RelayFault.{RelayFault}
 use Rattle.capnp_relay.specs.declared.options.RelayOptions.{RelayOptions}
 use Rattle.capnp_relay.specs.Relaying.{relay_work}
-use Rattle.capnp_relay.specs.Run.{RunsOut}
-use Rattle.capnp_relay.specs.Streams.{Streams, SinkSeen, SinkStays}
+use Rattle.capnp_relay.specs.Run.{Relays}
+use Rattle.capnp_relay.specs.Streams.{Streams, SinkSeen}
 use Rattle.capnp_program.specs.declared.stop.Stop.{Stop}
 use Rattle.capnp_program.specs.declared.stop.Stop.TheVariants as stop
-use Rattle.capnp_program.specs.Arguments.{arguments_in}
-use Rattle.capnp_program.specs.Asked.{nodes_in}
+use Rattle.capnp_program.specs.Arguments.{is_help}
+use Rattle.capnp_program.specs.Asked.{Request, Asked, asked, IsRefused, asked_by}
 use Rattle.capnp_program.specs.Lines.{line_of}
 
--- The root and the forms are those of the words and the schema file.
-pub record AreAsked (words : List (List ℕ)) (schema : Option (List ℕ)) (root : StructSchema) (options : RelayOptions) : Type 0 where
-  pub nodes : nodes_in schema ≡ Ok (nodes_around root)
-  pub arguments : arguments_in words ≡ Some (record { root = id_of root; input = options.input; output = options.output })
+-- ---- the run
 
--- The relay that is asked for came to the end of input; then the sinks stayed as they were.
-abbrev pub RelaysAll : List (List ℕ) → Option (List ℕ) → Type 0 → Type 0 → Streams → Streams → Type 0
-RelaysAll words schema out_grows log_grows old new = (root : StructSchema) × (calls : List Call) × (options : RelayOptions) × (counts : Counts) × (mid : Streams)
-    × AreAsked words schema root options × RunsOut (relay_work root calls options out_grows log_grows) old mid counts
-    × (new.source ≡ mid.source) × SinkStays mid.out new.out × SinkStays mid.log new.log
+-- A sink was flushed: it keeps its bytes, and a refusal is a failure of its device.
+pub record Flushes (old : SinkSeen) (result : Result (Unit {0}) Error) (new : SinkSeen) : Type 0 where
+  pub kept : Keeps old.contents new.contents
+  pub refusal : IfErr result (λ e. e.kind ≡ Device)
+  pub count : CountsFailures result old.failures new.failures
+
+-- The fault of a run and the flushes of the output and the log behind it: the first that there is.
+abbrev pub fault_behind : Result Counts RelayFault → Result (Unit {0}) Error → Result (Unit {0}) Error → Option Fault
+fault_behind (Err e) out log = Some e.fault
+fault_behind (Ok counts) (Err e) log = Some faults.Out
+fault_behind (Ok counts) (Ok done) (Err e) = Some faults.Log
+fault_behind (Ok counts) (Ok done) (Ok gone) = None
+
+-- The relay that is asked for ran, and then both sinks were flushed.
+pub record Runs (a : Asked) (out_grows log_grows : Type 0) (old new : Streams) (fault : Option Fault) : Type 0 where
+  pub root : StructSchema
+  pub calls : List Call
+  pub options : RelayOptions
+  pub asks : asked_by root calls options ≡ a
+  pub result : Result Counts RelayFault
+  pub mid : Streams
+  pub relays : Relays (relay_work root calls options out_grows log_grows) old mid result
+  pub source : new.source ≡ mid.source
+  pub out_flushed : Result (Unit {0}) Error
+  pub out : Flushes mid.out out_flushed new.out
+  pub log_flushed : Result (Unit {0}) Error
+  pub log : Flushes mid.log log_flushed new.log
+  pub is_fault : fault ≡ fault_behind result out_flushed log_flushed
+
+-- The run that is asked for, to its end or to a fault of its own; or none, and then the streams are as they were.
+abbrev pub RelaysAll : Request → Type 0 → Type 0 → Streams → Streams → Result (Unit {0}) Stop → Type 0
+RelaysAll r out_grows log_grows old new (Ok done) = (a : Asked) × (asked r ≡ Ok a) × Runs a out_grows log_grows old new None
+RelaysAll r out_grows log_grows old new (Err e) = (IsRefused r e × (new ≡ old))
+    ⊎ ((a : Asked) × (fault : Fault) × (asked r ≡ Ok a) × (e ≡ stop.Relay fault) × Runs a out_grows log_grows old new (Some fault))
+
+-- ---- what is told
 
 -- A sink was given a text, which it took or refused, and may have been flushed.
 abbrev pub Told : Type 0 → List ℕ → SinkSeen → SinkSeen → Type 0
@@ -38,3 +69,24 @@ Told grows text old new = (result : Result (Unit {0}) Error) × (mid : SinkSeen)
 -- The log was given the line of the fault, or of want of memory.
 abbrev pub ToldFault : Type 0 → Stop → SinkSeen → SinkSeen → Type 0
 ToldFault grows e old new = Told grows (line_of e) old new ⊎ Told grows (line_of (stop.Relay faults.Memory)) old new
+
+-- The fault of the words that ask for the usage, which the output was given, and of the other words.
+abbrev pub Meets : Bool → Request → Type 0 → Type 0 → Streams → Streams → Stop → Type 0
+Meets true r out_grows log_grows old new e = (e ≡ stop.Arguments) × (new.source ≡ old.source) × (new.log ≡ old.log)
+    × ((usage : List ℕ) × Told out_grows usage old.out new.out)
+Meets false r out_grows log_grows old new e = RelaysAll r out_grows log_grows old new (Err e)
+
+-- A fault was met, and then told on the log.
+pub record TellsFault (r : Request) (out_grows log_grows : Type 0) (old new : Streams) : Type 0 where
+  pub stop : Stop
+  pub mid : Streams
+  pub meets : Meets (is_help r.words) r out_grows log_grows old mid stop
+  pub source : new.source ≡ mid.source
+  pub out : new.out ≡ mid.out
+  pub told : ToldFault log_grows stop mid.log new.log
+
+-- How the program ends, by its status.
+pub record Ends (r : Request) (out_grows log_grows : Type 0) (old new : Streams) (status : ℕ) : Type 0 where
+  pub either : status ≤ 1
+  pub done : status ≡ 0 → RelaysAll r out_grows log_grows old new (Ok tt)
+  pub fault : status ≡ 1 → TellsFault r out_grows log_grows old new

@@ -1,8 +1,9 @@
 //! The program but for its files.
-ghost use Rattle.std.specs.Prelude.{◌≡◌, ◌≤◌, [], map, string_bytes};
+ghost use Rattle.std.specs.Prelude.{◌≡◌, [], map, string_bytes};
 ghost use Rattle.std.specs.Option.{option_copied};
 ghost use Rattle.capnp_relay.specs.Streams.{source_seen, sink_seen, streams};
-ghost use Rattle.capnp_program.specs.Program.{RelaysAll, Told, ToldFault};
+ghost use Rattle.capnp_program.specs.Asked.{request};
+ghost use Rattle.capnp_program.specs.Program.{Told, ToldFault, Ends};
 
 use crate::arguments::asks_for_help;
 use crate::lines::fault_line;
@@ -16,7 +17,8 @@ use std::alloc::Global;
 /// Writes a text and hands it on; it is given up where the sink refuses it.
 fn put<L: Flush>(sink: &mut L, text: &[u8])
     ensures { Told L.may_grow text.now
-        (sink_seen L.contents L.failures L.room sink.old) (sink_seen L.contents L.failures L.room sink.new) }
+        (sink_seen L.contents L.failures L.room sink.old)
+        (sink_seen L.contents L.failures L.room sink.new) }
 {
     if sink.write_all(text).is_ok() {
         // A sink that fails now has nowhere to say so.
@@ -27,7 +29,8 @@ fn put<L: Flush>(sink: &mut L, text: &[u8])
 /// Writes the line of a fault behind the log, and gives it up where the log takes none.
 fn put_fault<L: Flush>(alloc: Global, log: &mut L, stop: Stop)
     ensures { ToldFault L.may_grow stop
-        (sink_seen L.contents L.failures L.room log.old) (sink_seen L.contents L.failures L.room log.new) }
+        (sink_seen L.contents L.failures L.room log.old)
+        (sink_seen L.contents L.failures L.room log.new) }
 {
     match fault_line(alloc, stop) {
         Ok(line) => put(log, &line),
@@ -52,12 +55,14 @@ pub fn program<R: BufRead, W: Flush, L: Flush>(
     out: &mut W,
     log: &mut L,
 ) -> u8
-    ensures status { result ≤ 1 }
-    ensures run { result ≡ 0 → RelaysAll (map string_bytes words.now) (option_copied schema.entry) W.may_grow L.may_grow
+    ensures ends { Ends (request (map string_bytes words.now) (option_copied schema.entry)
+        (option_copied calls.entry)) W.may_grow L.may_grow
         (streams (source_seen R.remaining R.failures source.old)
-        (sink_seen W.contents W.failures W.room out.old) (sink_seen L.contents L.failures L.room log.old))
+        (sink_seen W.contents W.failures W.room out.old)
+        (sink_seen L.contents L.failures L.room log.old))
         (streams (source_seen R.remaining R.failures source.new)
-        (sink_seen W.contents W.failures W.room out.new) (sink_seen L.contents L.failures L.room log.new)) }
+        (sink_seen W.contents W.failures W.room out.new)
+        (sink_seen L.contents L.failures L.room log.new)) result }
     ensures held { result ≡ 0 → (W.held out.new ≡ []) × (L.held log.new ≡ []) }
 {
     if asks_for_help(words) {

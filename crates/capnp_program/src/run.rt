@@ -2,6 +2,7 @@
 ghost use Rattle.std.specs.Prelude.{◌≡◌, [], map, string_bytes, OnOk};
 ghost use Rattle.std.specs.Option.{option_copied};
 ghost use Rattle.capnp_relay.specs.Streams.{source_seen, sink_seen, streams};
+ghost use Rattle.capnp_program.specs.Asked.{request};
 ghost use Rattle.capnp_program.specs.Program.{RelaysAll};
 
 use crate::settings::Settings;
@@ -22,11 +23,14 @@ pub(crate) fn relay_all<R: BufRead, W: Flush, L: Flush>(
     out: &mut W,
     log: &mut L,
 ) -> Result<(), Stop>
-    ensures run { OnOk result (RelaysAll (map string_bytes words.now) (option_copied schema.entry) W.may_grow L.may_grow
+    ensures run { RelaysAll (request (map string_bytes words.now) (option_copied schema.entry)
+        (option_copied calls.entry)) W.may_grow L.may_grow
         (streams (source_seen R.remaining R.failures source.old)
-        (sink_seen W.contents W.failures W.room out.old) (sink_seen L.contents L.failures L.room log.old))
+        (sink_seen W.contents W.failures W.room out.old)
+        (sink_seen L.contents L.failures L.room log.old))
         (streams (source_seen R.remaining R.failures source.new)
-        (sink_seen W.contents W.failures W.room out.new) (sink_seen L.contents L.failures L.room log.new))) }
+        (sink_seen W.contents W.failures W.room out.new)
+        (sink_seen L.contents L.failures L.room log.new)) result }
     ensures held { OnOk result ((W.held out.new ≡ []) × (L.held log.new ≡ [])) }
 {
     let settings = Settings::new(alloc, words, schema, calls)?;
@@ -43,12 +47,12 @@ pub(crate) fn relay_all<R: BufRead, W: Flush, L: Flush>(
         settings.options,
         &mut region,
     );
-    let is_out = out.flush().is_ok();
-    let is_log = log.flush().is_ok();
-    match end {
-        Err(e) => Err(Stop::Relay(e.fault)),
-        Ok(_) if !is_out => Err(Stop::Relay(Fault::Out)),
-        Ok(_) if !is_log => Err(Stop::Relay(Fault::Log)),
-        Ok(_) => Ok(()),
+    let flushed_out = out.flush();
+    let flushed_log = log.flush();
+    match (end, flushed_out, flushed_log) {
+        (Err(e), _, _) => Err(Stop::Relay(e.fault)),
+        (Ok(_), Err(_), _) => Err(Stop::Relay(Fault::Out)),
+        (Ok(_), Ok(()), Err(_)) => Err(Stop::Relay(Fault::Log)),
+        (Ok(_), Ok(()), Ok(())) => Ok(()),
     }
 }

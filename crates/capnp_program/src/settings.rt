@@ -1,13 +1,14 @@
 //! What the words and the files of a run ask for.
-ghost use Rattle.std.specs.Prelude.{◌≡◌, Some, None, Ok, Err, map, string_bytes, IfOk, IfErr};
+ghost use Rattle.std.specs.Prelude.{◌≡◌, Ok, Err, map, string_bytes, IsSome, IfOk, IfErr, ⊤};
 ghost use Rattle.std.specs.Option.{option_copied};
 ghost use Rattle.capnp_records.specs.Sets.{nodes_of, IsStructOf};
 ghost use Rattle.capnp_queries.specs.Structs.{nodes_around, id_of};
 ghost use Rattle.capnp_calls.specs.Taken.{IsRoot};
-ghost use Rattle.capnp_files.specs.CallViews.{file_of};
-ghost use Rattle.capnp_program.specs.declared.stop.Stop.{Stop};
-ghost use Rattle.capnp_program.specs.Arguments.{arguments_in};
-ghost use Rattle.capnp_program.specs.Asked.{IsRefusalOf, nodes_in, root_in, text_in};
+ghost use Rattle.capnp_calls.specs.CallViews.{call_view};
+ghost use Rattle.capnp_files.specs.CallViews.{parts_of, file_of};
+ghost use Rattle.capnp_program.specs.Faults.{IsRefusalOf};
+ghost use Rattle.capnp_program.specs.Calls.{calls_from};
+ghost use Rattle.capnp_program.specs.Asked.{nodes_in, root_in, text_in, request, asked, IsRefused};
 
 use crate::arguments::Arguments;
 use crate::stop::Stop;
@@ -18,6 +19,7 @@ use capnp_files::schema_file::schema_file;
 use capnp_queries::laws::struct_is_node;
 use capnp_queries::structs::StructSchema;
 use capnp_records::fault::SchemaFault;
+use capnp_records::laws::struct_is_named;
 use capnp_records::raw::RawBrandedStructSchema;
 use capnp_records::set::SchemaSet;
 use capnp_relay::ends::Fault;
@@ -37,7 +39,8 @@ pub struct Settings {
 /// The set of a schema file; none is read where there is no file.
 pub(crate) fn schema_set(alloc: Global, file: Option<&[u8]>) -> Result<SchemaSet, Stop>
     ensures ok { IfOk result (λ set. nodes_in (option_copied file.entry) ≡ Ok (nodes_of set)) }
-    ensures refused { IfErr result (IsRefusalOf (nodes_in (option_copied file.entry))) }
+    ensures refused { IfErr result (IsRefusalOf (IsSome file.entry)
+        (nodes_in (option_copied file.entry))) }
 {
     let bytes = file.ok_or(Stop::SchemaFile)?;
     let nodes = match schema_file(alloc, bytes) {
@@ -54,17 +57,19 @@ pub(crate) fn schema_set(alloc: Global, file: Option<&[u8]>) -> Result<SchemaSet
 
 /// The root's struct.
 pub(crate) fn root(set: &SchemaSet, id: u64) -> Result<RawBrandedStructSchema, Stop>
-    ensures id { IfOk result (λ raw. raw.id ≡ id) }
+    ensures ok { IfOk result (λ raw. root_in (nodes_of set.now) id ≡ Ok raw.id) }
     ensures known { IfOk result (IsStructOf (nodes_of set.now)) }
     ensures refused { IfErr result (λ stop. root_in (nodes_of set.now) id ≡ Err stop) }
 {
+    struct_is_named();
     set.struct_by_id(id).ok_or(Stop::Root)
 }
 
 /// What a calls file says; none is read where there is no file.
 fn calls_text(alloc: Global, file: Option<&[u8]>) -> Result<CallsFile, Stop>
     ensures ok { IfOk result (λ text. text_in (option_copied file.entry) ≡ Ok (file_of text)) }
-    ensures refused { IfErr result (IsRefusalOf (text_in (option_copied file.entry))) }
+    ensures refused { IfErr result (IsRefusalOf (IsSome file.entry)
+        (text_in (option_copied file.entry))) }
 {
     let bytes = file.ok_or(Stop::CallsFile)?;
     match calls_file(alloc, bytes) {
@@ -78,7 +83,11 @@ fn calls_text(alloc: Global, file: Option<&[u8]>) -> Result<CallsFile, Stop>
 fn made_calls(
     alloc: Global,
     parts: Vec<(Vec<Step>, Verb, Option<CallValue>)>,
-) -> Result<Vec<Call>, Stop> {
+) -> Result<Vec<Call>, Stop>
+    ensures ok { IfOk result (λ calls. calls_from 1 (map parts_of parts.items)
+        ≡ Ok (map call_view calls.items)) }
+    ensures refused { IfErr result (IsRefusalOf ⊤ (calls_from 1 (map parts_of parts.items))) }
+{
     let mut calls = Vec::new(alloc);
     for (path, verb, value) in parts {
         match Call::new(path, verb, value) {
@@ -91,6 +100,8 @@ fn made_calls(
 }
 
 impl Settings {
+    ghost use Rattle.capnp_program.specs.Settings.{asked_of};
+
     /// What the words and the files ask for, or the first fault: of the arguments, the schema file, its rules, the root, the calls
     /// file, the calls and the limits, in this order. A file that can't be read is `None`. `Relay(Memory)`: a growth was refused.
     pub fn new(
@@ -99,10 +110,10 @@ impl Settings {
         schema: Option<&[u8]>,
         calls: Option<&[u8]>,
     ) -> Result<Settings, Stop>
-        ensures nodes { IfOk result (λ s. nodes_in (option_copied schema.entry) ≡ Ok (nodes_of s.set)) }
-        ensures arguments { IfOk result (λ s. arguments_in (map string_bytes words.now)
-            ≡ Some (record { root = s.root.id; input = s.options.input; output = s.options.output })) }
-        ensures refused { arguments_in (map string_bytes words.now) ≡ None → result ≡ Err Stop.Arguments }
+        ensures ok { IfOk result (λ s. asked (request (map string_bytes words.now)
+            (option_copied schema.entry) (option_copied calls.entry)) ≡ Ok (asked_of s)) }
+        ensures refused { IfErr result (IsRefused (request (map string_bytes words.now)
+            (option_copied schema.entry) (option_copied calls.entry))) }
     {
         let arguments = Arguments::new(words).ok_or(Stop::Arguments)?;
         let set = schema_set(alloc, schema)?;

@@ -1,0 +1,82 @@
+-- What words and files ask for, computed: faults in their order, calls with their numbers, and limits.
+use Rattle.std.proofs.Common.{◌≡◌, ℕ, pos, negsuc, Option, Some, None, Result, Ok, Err, List, [], ◌∷◌, codes, refl}
+use Rattle.capnp_model.specs.Calls.{name, whole_number, Verb, get, set_to, Call}
+use Rattle.capnp_calls.specs.declared.call.Verb.TheVariants as verb
+use Rattle.capnp_files.specs.CallsFiles.{CallParts, given_number, given_message}
+use Rattle.capnp_program.specs.declared.stop.Stop.TheVariants as stop
+use Rattle.capnp_program.specs.Arguments.{digits_number}
+use Rattle.capnp_program.specs.Calls.{calls_from}
+use Rattle.capnp_program.specs.Asked.{root_in, limits_in, request, asked}
+
+-- p.json c.json 1 framed
+words : List (List ℕ)
+words = codes "p.json" ∷ codes "c.json" ∷ codes "1" ∷ codes "framed" ∷ []
+
+-- Three words, and no files.
+few_words : asked (request (codes "p.json" ∷ codes "c.json" ∷ codes "1" ∷ []) None None) ≡ Err stop.Arguments
+few_words = refl
+
+-- A root that is no number, and no files.
+no_number : asked (request (codes "p.json" ∷ codes "c.json" ∷ codes "+1" ∷ codes "framed" ∷ []) None None) ≡ Err stop.Arguments
+unfolding digits_number
+no_number = refl
+
+-- Neither file: the schema file's fault is the first.
+no_files : asked (request words None None) ≡ Err stop.SchemaFile
+unfolding digits_number words
+no_files = refl
+
+-- A schema of no nodes: the root is missing before the calls file is.
+no_nodes : root_in [] 1 ≡ Err stop.Root
+no_nodes = refl
+
+-- A calls file's parts of a call.
+get_a : CallParts
+get_a = record { path = name (codes "a") ∷ []; verb = verb.Get; value = None }
+
+set_a : CallParts
+set_a = record { path = name (codes "a") ∷ []; verb = verb.Set; value = Some (given_number (pos 7)) }
+
+set_without_value : CallParts
+set_without_value = record { path = name (codes "a") ∷ []; verb = verb.Set; value = None }
+
+set_to_message : CallParts
+set_to_message = record { path = name (codes "a") ∷ []; verb = verb.Set; value = Some (given_message []) }
+
+no_path : CallParts
+no_path = record { path = []; verb = verb.Get; value = None }
+
+many_elements : ℕ → CallParts
+many_elements n = record { path = name (codes "t") ∷ []; verb = verb.Initn n; value = None }
+
+call_on_a : Verb → Call
+call_on_a v = record { path = name (codes "a") ∷ []; verb = v }
+
+two_calls : calls_from 1 (set_a ∷ get_a ∷ []) ≡ Ok (call_on_a (set_to (whole_number (pos 7))) ∷ call_on_a get ∷ [])
+unfolding set_a get_a call_on_a
+two_calls = refl
+
+second_call : calls_from 1 (set_a ∷ set_without_value ∷ no_path ∷ []) ≡ Err (stop.Call 2)
+unfolding set_a set_without_value no_path
+second_call = refl
+
+first_call : calls_from 1 (no_path ∷ set_without_value ∷ []) ≡ Err (stop.Call 1)
+unfolding set_without_value no_path
+first_call = refl
+
+message_call : calls_from 1 (set_to_message ∷ []) ≡ Err (stop.Call 1)
+unfolding set_to_message
+message_call = refl
+
+large_list : calls_from 1 (many_elements 536870912 ∷ []) ≡ Err (stop.Call 1)
+unfolding many_elements
+large_list = refl
+
+most_words : limits_in (record { calls = []; words = 536870910; nesting = pos 0 }) ≡ Ok (record { words = 536870910; nesting = 0 })
+most_words = refl
+
+too_many_words : limits_in (record { calls = []; words = 536870911; nesting = pos 64 }) ≡ Err stop.Options
+too_many_words = refl
+
+negative_nesting : limits_in (record { calls = []; words = 1000; nesting = negsuc 0 }) ≡ Err stop.Options
+negative_nesting = refl
