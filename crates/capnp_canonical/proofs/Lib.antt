@@ -14,3 +14,13 @@ pub mod Finals
 pub mod Elements
 pub mod Pointers
 pub mod SameVisits
+pub mod Holding
+pub mod StandingRows
+pub mod Checking
+pub mod CheckedRows
+pub mod CheckedElements
+pub mod StandingPlaces
+pub mod StandingObjects
+pub mod StandingLists
+pub mod StandingValues
+pub mod Telling

@@ -32,7 +32,7 @@ null_written at w = sym (append-nil (set w at 0))
 
 -- ---- a struct
 
-stripped_front : (ts : Trees) → resized (tree_count (stripped ts)) ts ≡ stripped ts
+pub stripped_front : (ts : Trees) → resized (tree_count (stripped ts)) ts ≡ stripped ts
 stripped_front ts = sym (resized-stripped (tree_count (stripped ts)) ts) ∙ resized_all (tree_count (stripped ts)) (stripped ts) refl
 
 pub struct_written : (at used d d' k' section word : ℕ) (us : Trees) (w grown : List ℕ) → length w ≡ used → take used grown ≡ set w at word → length grown ≡ used + (d' + k') → d' ≡ needed_words d section → tree_count (stripped (trim_each us)) ≡ k'

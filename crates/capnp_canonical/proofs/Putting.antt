@@ -51,7 +51,7 @@ links_all at end out e = ap (λ (xs : List ℕ). take at out ++ xs) (append-nil 
 
 -- ---- elements
 
-links_sum : (b c : ℕ) (ts : Trees) → links b c ts ≡ links 0 (b + c) ts
+pub links_sum : (b c : ℕ) (ts : Trees) → links b c ts ≡ links 0 (b + c) ts
 links_sum b c none = refl
 links_sum b c (t ▸ ts) =
     let gap : tree_count ts + b + c ≡ tree_count ts + 0 + (b + c) = omega arith in

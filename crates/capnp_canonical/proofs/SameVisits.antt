@@ -13,11 +13,11 @@ use Rattle.capnp_model.specs.Visits.{Visit, visits_of, list_visits, object_visit
 use Rattle.capnp_model.proofs.Chaining.{bind_some, some_is}
 use Rattle.capnp_canonical.specs.Copies.{unless_capability, copy_visits}
 
-or_left : (a b : Bool) → a || b ≡ false → a ≡ false
+pub or_left : (a b : Bool) → a || b ≡ false → a ≡ false
 or_left true b h = absurd cc
 or_left false b h = refl
 
-or_right : (a b : Bool) → a || b ≡ false → b ≡ false
+pub or_right : (a b : Bool) → a || b ≡ false → b ≡ false
 or_right true b h = absurd cc
 or_right false b h = h
 

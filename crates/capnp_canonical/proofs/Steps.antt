@@ -33,12 +33,12 @@ use Rattle.capnp_canonical.proofs.Objects.{null_written}
 
 -- ---- what was followed
 
-list_followed : (p : Place) (kind : ListKind) (size c : ℕ) (ws : List ℕ) (o : Object) → whole_list p kind size c ws ≡ Ok o → is_within 0 o ≡ nat_lt 0 0
+pub list_followed : (p : Place) (kind : ListKind) (size c : ℕ) (ws : List ℕ) (o : Object) → whole_list p kind size c ws ≡ Ok o → is_within 0 o ≡ nat_lt 0 0
 list_followed p of_bits size c ws o e = ap (is_within 0) (sym (ok_is _ _ e))
 list_followed p of_pointers size c ws o e = ap (is_within 0) (sym (ok_is _ _ e))
 list_followed p of_structs size c ws o e = let a = bind_ok (tag_in ws) _ o e in ap (is_within 0) (sym (ok_is _ _ a.2))
 
-no_levels : (b : Bool) → b ≡ true → b ≡ nat_lt 0 0 → ⊥
+pub no_levels : (b : Bool) → b ≡ true → b ≡ nat_lt 0 0 → ⊥
 no_levels b h e = let t : nat_lt 0 0 ≡ true = sym e ∙ h in grind (arith, nat_tests)
 
 no_fault : (s : Segments) (m : model.Object) (n : ℕ) (o : Object) → whole s m ≡ Ok o → is_within n o ≡ true → IsData o → fault_of n m ≡ None

@@ -2,3 +2,5 @@ pub mod Writes
 pub mod Widths
 pub mod Copies
 pub mod Objects
+pub mod Standing
+pub mod Checks

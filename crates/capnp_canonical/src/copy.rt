@@ -30,11 +30,11 @@ use capnp_units::sizes::{ElementSize, Word, data_bits_per_element};
 
 /// How the words of a struct are cut: those of its data and its pointers, and of each how many are kept.
 #[derive(Clone, Copy)]
-struct Cut {
-    data_words: u16,
-    pointers: u16,
-    kept_words: u16,
-    kept_pointers: u16,
+pub(crate) struct Cut {
+    pub(crate) data_words: u16,
+    pub(crate) pointers: u16,
+    pub(crate) kept_words: u16,
+    pub(crate) kept_pointers: u16,
 }
 
 /// Writes the canonical words of the value of the pointer at a place: the word of the pointer to it, and the words of its objects behind that, each before those that it points to. The answer is how many there are; the slice behind them stays as it was.
@@ -225,7 +225,7 @@ fn write_list<A: ReaderArena>(
 }
 
 /// The least sizes that so many structs in a row can do with.
-fn cut_of<A: ReaderArena>(
+pub(crate) fn cut_of<A: ReaderArena>(
     arena: &A,
     start: Place,
     data_words: u16,
@@ -234,6 +234,7 @@ fn cut_of<A: ReaderArena>(
 ) -> Cut
     requires { AreThere (words_in (A.segments arena.now)) (place_view start) (count * (data_words + pointers)) }
     ensures sizes { (result.data_words ≡ data_words) × (result.pointers ≡ pointers) × (result.kept_words ≤ data_words) × (result.kept_pointers ≤ pointers) }
+    ensures narrow { (result.kept_words < 2 ^ 16) × (result.kept_pointers < 2 ^ 16) }
     ensures words { let s = words_in (A.segments arena.now) in result.kept_words ≡ widest (λ p. needed_words data_words (section_at s p data_words)) (place_view start) (data_words + pointers) count }
     ensures pointers { let s = words_in (A.segments arena.now) in result.kept_pointers ≡ widest (λ p. kept (words_there s p pointers)) (after (place_view start) data_words) (data_words + pointers) count }
 {
@@ -251,7 +252,7 @@ fn cut_of<A: ReaderArena>(
 }
 
 /// The pointer to a struct that begins so many words behind it. An empty one lies at the pointer itself.
-fn pointer_to_cut(gap: usize, cut: Cut) -> u64
+pub(crate) fn pointer_to_cut(gap: usize, cut: Cut) -> u64
     requires { gap < 2 ^ 29 }
     ensures { (section : ℕ) (ts : Trees) → tree_count ts ≡ cut.kept_pointers → result ≡ pointer gap (structure cut.kept_words section ts) }
 {

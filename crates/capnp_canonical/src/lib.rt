@@ -1,6 +1,9 @@
 //! Canonical words of values, written from the segments that hold them into a slice of words in one walk.
 #![tactic(auto)]
 
+pub mod check;
+#[cfg(test)]
+mod check_tests;
 pub mod copy;
 mod follow;
 pub mod laws;

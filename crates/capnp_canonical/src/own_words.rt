@@ -16,7 +16,7 @@ use capnp_object::place::{Place, word_at};
 use capnp_units::sizes::Word;
 
 /// The word at a place, or 0 where there is none.
-fn word_or_zero<A: ReaderArena>(arena: &A, place: Place) -> u64
+pub(crate) fn word_or_zero<A: ReaderArena>(arena: &A, place: Place) -> u64
     ensures word { result ≡ unwrap_or (word_at (words_in (A.segments arena.now)) (place_view place)) 0 }
     ensures fits { result < 2 ^ 64 }
 {

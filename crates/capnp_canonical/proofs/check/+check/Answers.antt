@@ -1,0 +1,433 @@
+-- What each step of the check tells.
+use Rattle.std.proofs.Common.{◌≡◌, ℕ, suc, ◌+◌, ◌-◌, ◌*◌, ◌^◌, ◌<◌, ◌≤◌, true, List, [], Option, Some, None, Result, Ok, Err, refl, ap, sym, ◌∙◌, subst, inl, inr, arith}
+use Rattle.std.specs.Option.{is_some}
+use Rattle.std.proofs.lemmas.Result.{err_from_is_err_and}
+use Rattle.capnp_model.specs.Sections.{needed_words}
+use Rattle.capnp_model.specs.Segments.{Segments, Place, place, after, word_at, words_at}
+use Rattle.capnp_model.specs.Trees.{Tree, Trees, Elements, structure, pointer_list, struct_list, tree_count, has_capability, have_capability, elements_have_capability}
+use Rattle.capnp_model.specs.Traversal.{tree_at, each, each_element}
+use Rattle.capnp_model.specs.Trimming.{stripped, common_words, common_pointers, trim, trim_each, trim_elements}
+use Rattle.capnp_model.specs.Coverage.{from_each, from_elements}
+use Rattle.capnp_model.specs.Encoding.{struct_pointer, list_pointer, pointer}
+use Rattle.capnp_model.specs.Spelling.{AreWords}
+use Rattle.capnp_model.specs.Visits.{visits}
+use Rattle.capnp_model.proofs.Chaining.{some_is}
+use Rattle.capnp_units.specs.declared.errors.Error.{Error}
+use Rattle.capnp_units.specs.Segments.{words_in}
+use Rattle.capnp_object.specs.declared.object.Object.{Object}
+use Rattle.capnp_object.specs.declared.object.Object.TheVariants as object
+use Rattle.capnp_object.specs.Places.{place_view}
+use Rattle.capnp_object.specs.Objects.{AreThere}
+use Rattle.capnp_object.specs.Inside.{section_at, words_there, tree_in, met_in}
+use Rattle.capnp_object.proofs.Measuring.{unfollowed_at}
+use Rattle.capnp_canonical.specs.Widths.{kept, widest}
+use Rattle.capnp_canonical.specs.Standing.{Stands, StandEach, StandElements, segment_words, IsSmall, HasHead, LeadsTo}
+use Rattle.capnp_canonical.specs.Checks.{Tests, TestsObject, TestsRow, TestsElements}
+use Rattle.capnp_canonical.proofs.Checking.{refused_is, differs_at}
+use Rattle.capnp_canonical.proofs.CheckedRows.{row_begun, row_next, row_differs, row_stopped, row_ended}
+use Rattle.capnp_canonical.proofs.CheckedElements.{elements_begun, elements_next, elements_differ, elements_stopped, elements_ended, plain_elements}
+use Rattle.capnp_canonical.proofs.Kept.{widest_one}
+use Rattle.capnp_canonical.proofs.Nulls.{kept_count}
+use Rattle.capnp_canonical.proofs.Parts.{part_there, front_there, there_length, word_is}
+use Rattle.capnp_canonical.proofs.Rows.{least_words, least_pointers}
+use Rattle.capnp_canonical.proofs.StandingObjects.{within_reach, wide_pointer, struct_tests, struct_word, struct_head, lead_word, word_matches, word_differs}
+use Rattle.capnp_canonical.proofs.StandingLists.{pointers_tests, pointers_word, structs_tests, structs_words}
+use Rattle.capnp_canonical.proofs.StandingPlaces.{IsThere, struct_where, pointers_where, structs_where}
+use Rattle.capnp_canonical.proofs.StandingValues.{null_tests, capability_tests, deep_tests, null_leaf, other_leaf}
+use Rattle.capnp_canonical.proofs.Steps.{short_at}
+use Rattle.capnp_canonical.proofs.check.+check.Goals as goal
+
+-- ---- pointers in a row
+
+pub row_end-loop-i-init : goal.row_end-loop-i-init
+row_end-loop-i-init g t c = row_begun c.args.levels (words_in (g.A.ReaderArena.segments c.args.arena.now)) (place_view c.args.first) c.args.count c.args.head c.args.limiter.now c.requires.head
+
+pub row_end-returns-in_err-next : goal.row_end-returns-in_err-next
+row_end-returns-in_err-next g t c =
+    let s : Segments = words_in (g.A.ReaderArena.segments c.args.arena.now) in
+    let p : Place = place_view c.args.first in
+    let n = c.args.levels in
+    let count = c.args.count in
+    let head = c.args.head in
+    let l = c.args.limiter.now in
+    let given = c.loop-i.invariant.there in
+    let r = err_from_is_err_and c.from_residual.result c.from_residual.ensures.1 in
+    let e = c.in_err-next.field-0.0 in
+    refused_is (each (tree_at n s) p count) have_capability (λ ts. StandEach s p head (trim_each ts)) (IsSmall s p) (from_each (visits n s) p count) l c.value_end.new.limiter c.from_residual.result r.0 e r.1 r.2
+    (row_stopped n s p count head l c.loop-i.i c.loop-i.end c.loop-i-test.true given.behind c.loop-i.limiter c.value_end.new.limiter e c.in_err-next.ensures c.loop-i.invariant)
+
+pub row_end-returns-in-None : goal.row_end-returns-in-None
+row_end-returns-in-None g t c =
+    let s : Segments = words_in (g.A.ReaderArena.segments c.args.arena.now) in
+    let given = c.loop-i.invariant.there in
+    row_differs c.args.levels s (place_view c.args.first) c.args.count c.args.head c.args.limiter.now c.loop-i.i c.loop-i.end c.loop-i-test.true given.behind c.loop-i.limiter c.value_end.new.limiter (rw c.in-None.is at c.in_ok-next.ensures) c.loop-i.invariant
+
+pub row_end-loop-i-preserved : goal.row_end-loop-i-preserved
+row_end-loop-i-preserved g t c =
+    let s : Segments = words_in (g.A.ReaderArena.segments c.args.arena.now) in
+    let given = c.loop-i.invariant.there in
+    row_next c.args.levels s (place_view c.args.first) c.args.count c.args.head c.args.limiter.now c.loop-i.i c.loop-i.end c.loop-i-test.true given.behind c.in-Some.next c.loop-i.limiter c.value_end.new.limiter (rw c.in-Some.is at c.in_ok-next.ensures) c.loop-i.invariant
+
+pub row_end-returns : goal.row_end-returns
+row_end-returns g t c =
+    let s : Segments = words_in (g.A.ReaderArena.segments c.args.arena.now) in
+    let past = c.loop-i-test.false in
+    let last = c.loop-i.auto.i-end in
+    row_ended c.args.levels s (place_view c.args.first) c.args.count c.args.head c.args.limiter.now c.loop-i.i c.loop-i.end c.loop-i.limiter (omega arith) c.requires.inside c.loop-i.invariant
+
+-- ---- elements
+
+pub elements_end-loop-i-init : goal.elements_end-loop-i-init
+elements_end-loop-i-init g t c = elements_begun c.args.levels (words_in (g.A.ReaderArena.segments c.args.arena.now)) (place_view c.args.start) c.args.count c.args.size.data_words c.args.size.pointers c.args.head c.args.limiter.now c.requires.head
+
+pub elements_end-returns-then-size-eq0 : goal.elements_end-returns-then-size-eq0
+elements_end-returns-then-size-eq0 g t c =
+    let s : Segments = words_in (g.A.ReaderArena.segments c.args.arena.now) in
+    let p : Place = place_view c.args.start in
+    let n = c.args.levels in
+    let count = c.args.count in
+    let d = c.args.size.data_words in
+    let l = c.args.limiter.now in
+    let none = c.if-size-eq0.true in
+    subst (λ (j : ℕ). TestsElements n s p count d j c.args.head l (Ok (Some c.args.head)) l) (sym none)
+    (plain_elements n s p count d c.args.head l (subst (λ (j : ℕ). AreThere s p (count * (d + j))) none c.requires.inside) (subst (λ (j : ℕ). HasHead s p (count * (d + j)) c.args.head) none c.requires.head))
+
+pub elements_end-returns-in_err-next : goal.elements_end-returns-in_err-next
+elements_end-returns-in_err-next g t c =
+    let s : Segments = words_in (g.A.ReaderArena.segments c.args.arena.now) in
+    let p : Place = place_view c.args.start in
+    let n = c.args.levels in
+    let count = c.args.count in
+    let d = c.args.size.data_words in
+    let k = c.args.size.pointers in
+    let head = c.args.head in
+    let l = c.args.limiter.now in
+    let r = err_from_is_err_and c.from_residual.result c.from_residual.ensures.1 in
+    let e = c.in_err-next.field-0.0 in
+    refused_is (each_element (tree_at n s) p (words_there s p (count * (d + k))) d k count) elements_have_capability (λ es. StandElements s p d k head (trim_elements es)) (IsSmall s p) (from_elements (visits n s) p d k count) l c.row_end.new.limiter c.from_residual.result r.0 e r.1 r.2
+    (elements_stopped n s p count d k head l c.loop-i.i c.loop-i.end c.loop-i-test.true c.requires.inside c.loop-i.invariant.there c.loop-i.limiter c.row_end.new.limiter e c.in_err-next.ensures c.loop-i.invariant)
+
+pub elements_end-returns-in-None : goal.elements_end-returns-in-None
+elements_end-returns-in-None g t c =
+    let s : Segments = words_in (g.A.ReaderArena.segments c.args.arena.now) in
+    elements_differ c.args.levels s (place_view c.args.start) c.args.count c.args.size.data_words c.args.size.pointers c.args.head c.args.limiter.now c.loop-i.i c.loop-i.end c.loop-i-test.true c.requires.inside c.loop-i.invariant.there c.loop-i.limiter c.row_end.new.limiter
+    (rw c.in-None.is at c.in_ok-next.ensures) c.loop-i.invariant
+
+pub elements_end-loop-i-preserved : goal.elements_end-loop-i-preserved
+elements_end-loop-i-preserved g t c =
+    let s : Segments = words_in (g.A.ReaderArena.segments c.args.arena.now) in
+    elements_next c.args.levels s (place_view c.args.start) c.args.count c.args.size.data_words c.args.size.pointers c.args.head c.args.limiter.now c.loop-i.i c.loop-i.end c.loop-i-test.true c.requires.inside c.loop-i.invariant.there c.in-Some.next c.loop-i.limiter c.row_end.new.limiter
+    (rw c.in-Some.is at c.in_ok-next.ensures) c.loop-i.invariant
+
+pub elements_end-returns : goal.elements_end-returns
+elements_end-returns g t c =
+    let s : Segments = words_in (g.A.ReaderArena.segments c.args.arena.now) in
+    let past = c.loop-i-test.false in
+    let last = c.loop-i.auto.i-end in
+    elements_ended c.args.levels s (place_view c.args.start) c.args.count c.args.size.data_words c.args.size.pointers c.args.head c.args.limiter.now c.loop-i.i c.loop-i.end c.loop-i.limiter (omega arith) c.requires.inside c.loop-i.invariant
+
+-- ---- values
+
+pub value_end-returns-in_err-object : goal.value_end-returns-in_err-object
+value_end-returns-in_err-object g t c =
+    let s : Segments = words_in (g.A.ReaderArena.segments c.args.arena.now) in
+    let p : Place = place_view c.args.place in
+    let n = c.args.levels in
+    let l = c.args.limiter.now in
+    let e = c.in_err-object.field-0.0 in
+    let r = err_from_is_err_and c.from_residual.result c.from_residual.ensures.1 in
+    refused_is (tree_at n s p) has_capability (λ u. Stands s p c.args.head (trim u)) (IsSmall s p) (visits n s p) l c.follow_within.new.limiter c.from_residual.result r.0 e r.1 r.2
+    (unfollowed_at n s p l c.follow_within.new.limiter (Err e) e e refl refl c.in_err-object.ensures)
+
+pub value_end-returns-in-Null : goal.value_end-returns-in-Null
+value_end-returns-in-Null g t c =
+    let s : Segments = words_in (g.A.ReaderArena.segments c.args.arena.now) in
+    null_leaf c.args.levels s (place_view c.args.place) c.args.head c.in_ok-object.object c.args.limiter.now c.follow_within.new.limiter c.in_ok-object.ensures.0 c.if-levels-eq0.true c.in_ok-object.ensures.1 c.in-Null.is c.requires
+
+pub value_end-returns-in_default : goal.value_end-returns-in_default
+value_end-returns-in_default g t c =
+    let s : Segments = words_in (g.A.ReaderArena.segments c.args.arena.now) in
+    other_leaf c.args.levels s (place_view c.args.place) c.args.head c.in_ok-object.object c.args.limiter.now c.follow_within.new.limiter c.in_ok-object.ensures.0 c.if-levels-eq0.true c.in_ok-object.ensures.1 c.in_default.not-Null
+
+pub value_end-object_end-requires : goal.value_end-object_end-requires
+value_end-object_end-requires g t c =
+    let s : Segments = words_in (g.A.ReaderArena.segments c.args.arena.now) in
+    let some = c.if-levels-eq0.false in
+    let pay = c.in_ok-object.ensures.0 in
+    λ κs lives. (omega arith, (lives, (pay.inside, (short_at s (place_view c.args.place) c.in_ok-object.object c.args.limiter.now c.follow_within.new.limiter pay, ((pay.pads, pay.is), c.requires)))))
+
+pub value_end-returns : goal.value_end-returns
+value_end-returns g t c =
+    let s : Segments = words_in (g.A.ReaderArena.segments c.args.arena.now) in
+    let some = c.if-levels-eq0.false in
+    deep_tests c.args.levels s (place_view c.args.place) c.args.head c.in_ok-object.object c.args.limiter.now c.follow_within.new.limiter c.object_end.new.limiter c.object_end.result c.in_ok-object.ensures.0 (c.args.levels - 1) (omega arith) c.object_end.ensures
+
+-- ---- objects
+
+pub object_end-returns-then-head-place-gt-REACH : goal.object_end-returns-then-head-place-gt-REACH
+object_end-returns-then-head-place-gt-REACH g t c =
+    let s : Segments = words_in (g.A.ReaderArena.segments c.args.arena.now) in
+    let p : Place = place_view c.args.place in
+    let n = c.args.levels in
+    let o = c.args.object in
+    let far = c.if-head-place-gt-REACH.true in
+    differs_at (tree_in s (tree_at n s) o) has_capability (λ u. Stands s p c.args.head (trim u)) (IsSmall s p) (met_in (visits n s) o) c.args.limiter.now
+    (λ small u end is clean stand. let near = within_reach s p 1 c.args.head small c.requires.head in omega arith)
+
+pub object_end-returns-in-Null : goal.object_end-returns-in-Null
+object_end-returns-in-Null g t c =
+    let s : Segments = words_in (g.A.ReaderArena.segments c.args.arena.now) in
+    let p : Place = place_view c.args.place in
+    let l = c.args.limiter.now in
+    subst (λ (o : Object). TestsObject c.args.levels s p c.args.head o l (Ok (Some c.args.head)) l) (sym c.in-Null.is)
+    (null_tests s p c.args.head l (subst (LeadsTo s p) c.in-Null.is c.requires.leads) c.requires.head)
+
+pub object_end-returns-in-Capability : goal.object_end-returns-in-Capability
+object_end-returns-in-Capability g t c =
+    let s : Segments = words_in (g.A.ReaderArena.segments c.args.arena.now) in
+    let p : Place = place_view c.args.place in
+    let l = c.args.limiter.now in
+    subst (λ (o : Object). TestsObject c.args.levels s p c.args.head o l (Ok None) l) (sym c.in-Capability.is) (capability_tests s p c.args.head c.in-Capability.index l)
+
+pub object_end-returns-in-List : goal.object_end-returns-in-List
+object_end-returns-in-List g t c =
+    let s : Segments = words_in (g.A.ReaderArena.segments c.args.arena.now) in
+    let p : Place = place_view c.args.place in
+    let l = c.args.limiter.now in
+    subst (λ (o : Object). TestsObject c.args.levels s p c.args.head o l (Ok c.list_end.result) l) (sym c.in-List.is) (c.list_end.ensures c.args.levels l)
+
+-- ---- a struct
+
+pub struct_end-returns-then-word_or_zero-pointer_to_cut : goal.struct_end-returns-then-word_or_zero-pointer_to_cut
+struct_end-returns-then-word_or_zero-pointer_to_cut g t c =
+    let s : Segments = words_in (g.A.ReaderArena.segments c.args.arena.now) in
+    let p : Place = place_view c.args.place in
+    let q : Place = place_view c.args.start in
+    let n = c.args.levels in
+    let f = tree_at n s in
+    let d = c.args.size.data_words in
+    let k = c.args.size.pointers in
+    let head = c.args.head in
+    let cut = c.cut_of-cut.result in
+    let section = section_at s q d in
+    let x = c.pointer_to_cut.result in
+    let there = part_there s q (d + k) c.requires.inside.0 d k (omega arith) in
+    let ws = words_there s (after q d) k in
+    let long = there_length s (after q d) k there in
+    let is = c.cut_of-cut.ensures.pointers ∙ widest_one (λ r. kept (words_there s r k)) (after q d) (d + k) in
+    let words = c.cut_of-cut.ensures.words ∙ widest_one (λ r. needed_words d (section_at s r d)) q (d + k) in
+    differs_at (tree_in s f (object.Struct c.args.start d k)) has_capability (λ u. Stands s p head (trim u)) (IsSmall s p) (met_in (visits n s) (object.Struct c.args.start d k)) c.args.limiter.now
+    (λ small u end e clean stand. word_differs s p c.word_or_zero.result x c.word_or_zero.ensures.word c.if-word_or_zero-pointer_to_cut.true
+    (struct_word s p (after q d) head d k cut.kept_words cut.kept_pointers x section end f u words (λ ts y. kept_count n s ws (after q d) ts (λ i h. word_is s (after q d) k there i (omega arith)) (ap (each f (after q d)) long ∙ y) ∙ sym is) (c.pointer_to_cut.ensures section) e stand))
+
+pub struct_end-row_end-requires : goal.struct_end-row_end-requires
+struct_end-row_end-requires g t c =
+    let s : Segments = words_in (g.A.ReaderArena.segments c.args.arena.now) in
+    let p : Place = place_view c.args.place in
+    let q : Place = place_view c.args.start in
+    let o = object.Struct c.args.start c.args.size.data_words c.args.size.pointers in
+    let d = c.args.size.data_words in
+    let k = c.args.size.pointers in
+    let head = c.args.head in
+    let cut = c.cut_of-cut.result in
+    let behind = c.requires.link.given.behind in
+    let reach = c.requires.link.near in
+    let bound = c.requires.inside.1 in
+    let w = lead_word s p o c.requires.link.leads in
+    let word = word_matches s p c.word_or_zero.result c.pointer_to_cut.result w.0 w.1 c.word_or_zero.ensures.word c.if-word_or_zero-pointer_to_cut.false in
+    let here = struct_where s p head c.args.start d k c.requires.link.leads (head - p.position - 1) cut.kept_words cut.kept_pointers c.pointer_to_cut.result (omega arith) (omega arith) c.cut_of-cut.ensures.narrow.0 c.cut_of-cut.ensures.narrow.1 c.pointer_to_cut.ensures word in
+    λ κs lives. (omega arith, (lives, ((part_there s q (d + k) c.requires.inside.0 d k (omega arith), omega arith), struct_head c.args.levels s p head c.args.start d k c.requires.inside c.requires.link.given here.2)))
+
+pub struct_end-returns : goal.struct_end-returns
+struct_end-returns g t c =
+    let s : Segments = words_in (g.A.ReaderArena.segments c.args.arena.now) in
+    let p : Place = place_view c.args.place in
+    let q : Place = place_view c.args.start in
+    let n = c.args.levels in
+    let f = tree_at n s in
+    let o = object.Struct c.args.start c.args.size.data_words c.args.size.pointers in
+    let d = c.args.size.data_words in
+    let k = c.args.size.pointers in
+    let head = c.args.head in
+    let cut = c.cut_of-cut.result in
+    let section = section_at s q d in
+    let x = c.pointer_to_cut.result in
+    let behind = c.requires.link.given.behind in
+    let reach = c.requires.link.near in
+    let there = part_there s q (d + k) c.requires.inside.0 d k (omega arith) in
+    let ws = words_there s (after q d) k in
+    let long = there_length s (after q d) k there in
+    let is = c.cut_of-cut.ensures.pointers ∙ widest_one (λ r. kept (words_there s r k)) (after q d) (d + k) in
+    let words = c.cut_of-cut.ensures.words ∙ widest_one (λ r. needed_words d (section_at s r d)) q (d + k) in
+    let w = lead_word s p o c.requires.link.leads in
+    let word = word_matches s p c.word_or_zero.result x w.0 w.1 c.word_or_zero.ensures.word c.if-word_or_zero-pointer_to_cut.false in
+    let here = struct_where s p head c.args.start d k c.requires.link.leads (head - p.position - 1) cut.kept_words cut.kept_pointers x (omega arith) (omega arith) c.cut_of-cut.ensures.narrow.0 c.cut_of-cut.ensures.narrow.1 c.pointer_to_cut.ensures word in
+    struct_tests n s p head c.args.start d k c.requires.inside c.requires.link.given here.2 (here.0 ∙ words)
+    (λ ts y. kept_count n s ws (after q d) ts (λ i h. word_is s (after q d) k there i (omega arith)) (ap (each f (after q d)) long ∙ y) ∙ sym is ∙ sym here.1)
+    (λ ts count. word ∙ ap (λ (j : ℕ). Some j) (c.pointer_to_cut.ensures section ts (count ∙ here.1)) ∙ ap (λ (j : ℕ). Some (pointer (head - p.position - 1) (structure j section ts))) (sym here.0))
+    c.args.limiter.now c.row_end.new.limiter c.row_end.result c.row_end.ensures
+
+-- ---- a list of pointers
+
+pub pointers_end-returns-then-count-ge-REACH : goal.pointers_end-returns-then-count-ge-REACH
+pointers_end-returns-then-count-ge-REACH g t c =
+    let s : Segments = words_in (g.A.ReaderArena.segments c.args.arena.now) in
+    let p : Place = place_view c.args.place in
+    let q : Place = place_view c.args.start in
+    let n = c.args.levels in
+    let o = object.PointerList c.args.start c.args.count in
+    differs_at (tree_in s (tree_at n s) o) has_capability (λ u. Stands s p c.args.head (trim u)) (IsSmall s p) (met_in (visits n s) o) c.args.limiter.now
+    (λ small u end e clean stand. wide_pointer s p (c.args.head - p.position - 1) 6 c.args.count c.requires.link.given.whole c.if-count-ge-REACH.true (pointers_word s p q c.args.head c.args.count end (tree_at n s) u e stand))
+
+pub pointers_end-returns-then-word_or_zero-pointer_to_list : goal.pointers_end-returns-then-word_or_zero-pointer_to_list
+pointers_end-returns-then-word_or_zero-pointer_to_list g t c =
+    let s : Segments = words_in (g.A.ReaderArena.segments c.args.arena.now) in
+    let p : Place = place_view c.args.place in
+    let q : Place = place_view c.args.start in
+    let n = c.args.levels in
+    let o = object.PointerList c.args.start c.args.count in
+    differs_at (tree_in s (tree_at n s) o) has_capability (λ u. Stands s p c.args.head (trim u)) (IsSmall s p) (met_in (visits n s) o) c.args.limiter.now
+    (λ small u end e clean stand. word_differs s p c.word_or_zero.result c.pointer_to_list.result c.word_or_zero.ensures.word c.if-word_or_zero-pointer_to_list.true (pointers_word s p q c.args.head c.args.count end (tree_at n s) u e stand ∙ ap (λ (j : ℕ). Some j) (sym c.pointer_to_list.ensures)))
+
+pub pointers_end-row_end-requires : goal.pointers_end-row_end-requires
+pointers_end-row_end-requires g t c =
+    let s : Segments = words_in (g.A.ReaderArena.segments c.args.arena.now) in
+    let p : Place = place_view c.args.place in
+    let q : Place = place_view c.args.start in
+    let o = object.PointerList c.args.start c.args.count in
+    let head = c.args.head in
+    let behind = c.requires.link.given.behind in
+    let reach = c.requires.link.near in
+    let bound = c.requires.inside.1 in
+    let w = lead_word s p o c.requires.link.leads in
+    let word = word_matches s p c.word_or_zero.result c.pointer_to_list.result w.0 w.1 c.word_or_zero.ensures.word c.if-word_or_zero-pointer_to_list.false ∙ ap (λ (j : ℕ). Some j) c.pointer_to_list.ensures in
+    let here = pointers_where s p head (head - p.position - 1) (omega arith) (omega arith) c.args.start c.args.count c.if-count-ge-REACH.false c.requires.link.leads word in
+    let end : is_some (words_at s (after q c.args.count) 0) ≡ true = part_there s q c.args.count c.requires.inside.0 c.args.count 0 (omega arith) in
+    λ κs lives. (omega arith, (lives, (c.requires.inside, record { behind = omega arith; there = (end, omega arith); whole = subst (λ (i : ℕ). AreWords (segment_words s i)) (sym (ap (λ (r : Place). r.segment) here)) c.requires.link.given.whole })))
+
+pub pointers_end-returns : goal.pointers_end-returns
+pointers_end-returns g t c =
+    let s : Segments = words_in (g.A.ReaderArena.segments c.args.arena.now) in
+    let p : Place = place_view c.args.place in
+    let q : Place = place_view c.args.start in
+    let o = object.PointerList c.args.start c.args.count in
+    let head = c.args.head in
+    let behind = c.requires.link.given.behind in
+    let reach = c.requires.link.near in
+    let w = lead_word s p o c.requires.link.leads in
+    let word = word_matches s p c.word_or_zero.result c.pointer_to_list.result w.0 w.1 c.word_or_zero.ensures.word c.if-word_or_zero-pointer_to_list.false ∙ ap (λ (j : ℕ). Some j) c.pointer_to_list.ensures in
+    let here = pointers_where s p head (head - p.position - 1) (omega arith) (omega arith) c.args.start c.args.count c.if-count-ge-REACH.false c.requires.link.leads word in
+    pointers_tests c.args.levels s p head c.args.start c.args.count c.requires.inside c.requires.link.given.whole here word c.args.limiter.now c.row_end.new.limiter c.row_end.result c.row_end.ensures
+
+-- ---- a list of structs
+
+-- the least sizes of elements that are read
+least_of : (n : ℕ) (s : Segments) (q : Place) (words c d k a b : ℕ) → is_some (words_at s q words) ≡ true → c * (d + k) ≤ words → a ≡ widest (λ r. needed_words d (section_at s r d)) q (d + k) c → b ≡ widest (λ r. kept (words_there s r k)) (after q d) (d + k) c
+    → (es : Elements) → each_element (tree_at n s) q (words_there s q words) d k c ≡ Some es → (common_words d (trim_elements es) ≡ a) × (common_pointers (trim_elements es) ≡ b)
+least_of n s q words c d k a b there fit ais bis es e = (least_words c s q words d k (tree_at n s) es there fit e ∙ sym ais, least_pointers c n s q (words_there s q words) words d k es there fit e ∙ sym bis)
+
+pub structs_end-returns-then-own-ge-REACH : goal.structs_end-returns-then-own-ge-REACH
+structs_end-returns-then-own-ge-REACH g t c =
+    let s : Segments = words_in (g.A.ReaderArena.segments c.args.arena.now) in
+    let p : Place = place_view c.args.place in
+    let q : Place = place_view c.args.start in
+    let n = c.args.levels in
+    let count = c.args.count in
+    let d = c.args.size.data_words in
+    let k = c.args.size.pointers in
+    let head = c.args.head in
+    let cut = c.cut_of-cut.result in
+    let o = object.StructList c.args.start c.args.words count d k in
+    let ws = words_there s q c.args.words in
+    differs_at (tree_in s (tree_at n s) o) has_capability (λ u. Stands s p head (trim u)) (IsSmall s p) (met_in (visits n s) o) c.args.limiter.now
+    (λ small u end e clean stand. wide_pointer s p (head - p.position - 1) 7 (count * (cut.kept_words + cut.kept_pointers)) c.requires.link.given.whole c.if-own-ge-REACH.true
+    (structs_words s p q head count d k cut.kept_words cut.kept_pointers end (tree_at n s) ws u (least_of n s q c.args.words count d k cut.kept_words cut.kept_pointers c.requires.inside.0 c.requires.fit c.cut_of-cut.ensures.words c.cut_of-cut.ensures.pointers) e stand).0)
+
+pub structs_end-returns-then-word_or_zero-pointer_to_list : goal.structs_end-returns-then-word_or_zero-pointer_to_list
+structs_end-returns-then-word_or_zero-pointer_to_list g t c =
+    let s : Segments = words_in (g.A.ReaderArena.segments c.args.arena.now) in
+    let p : Place = place_view c.args.place in
+    let q : Place = place_view c.args.start in
+    let n = c.args.levels in
+    let count = c.args.count in
+    let d = c.args.size.data_words in
+    let k = c.args.size.pointers in
+    let head = c.args.head in
+    let cut = c.cut_of-cut.result in
+    let o = object.StructList c.args.start c.args.words count d k in
+    let ws = words_there s q c.args.words in
+    differs_at (tree_in s (tree_at n s) o) has_capability (λ u. Stands s p head (trim u)) (IsSmall s p) (met_in (visits n s) o) c.args.limiter.now
+    (λ small u end e clean stand. word_differs s p c.word_or_zero.result c.pointer_to_list.result c.word_or_zero.ensures.word c.if-word_or_zero-pointer_to_list.true
+    ((structs_words s p q head count d k cut.kept_words cut.kept_pointers end (tree_at n s) ws u (least_of n s q c.args.words count d k cut.kept_words cut.kept_pointers c.requires.inside.0 c.requires.fit c.cut_of-cut.ensures.words c.cut_of-cut.ensures.pointers) e stand).0
+    ∙ ap (λ (j : ℕ). Some j) (sym c.pointer_to_list.ensures)))
+
+pub structs_end-returns-then-word_or_zero-tag : goal.structs_end-returns-then-word_or_zero-tag
+structs_end-returns-then-word_or_zero-tag g t c =
+    let s : Segments = words_in (g.A.ReaderArena.segments c.args.arena.now) in
+    let p : Place = place_view c.args.place in
+    let q : Place = place_view c.args.start in
+    let n = c.args.levels in
+    let count = c.args.count in
+    let d = c.args.size.data_words in
+    let k = c.args.size.pointers in
+    let head = c.args.head in
+    let cut = c.cut_of-cut.result in
+    let o = object.StructList c.args.start c.args.words count d k in
+    let ws = words_there s q c.args.words in
+    differs_at (tree_in s (tree_at n s) o) has_capability (λ u. Stands s p head (trim u)) (IsSmall s p) (met_in (visits n s) o) c.args.limiter.now
+    (λ small u end e clean stand. word_differs s (place p.segment head) c.word_or_zero-2.result c.pointer_to_struct-tag.result c.word_or_zero-2.ensures.word c.if-word_or_zero-tag.true
+    ((structs_words s p q head count d k cut.kept_words cut.kept_pointers end (tree_at n s) ws u (least_of n s q c.args.words count d k cut.kept_words cut.kept_pointers c.requires.inside.0 c.requires.fit c.cut_of-cut.ensures.words c.cut_of-cut.ensures.pointers) e stand).1
+    ∙ ap (λ (j : ℕ). Some j) (sym c.pointer_to_struct-tag.ensures)))
+
+pub structs_end-elements_end-requires : goal.structs_end-elements_end-requires
+structs_end-elements_end-requires g t c =
+    let s : Segments = words_in (g.A.ReaderArena.segments c.args.arena.now) in
+    let p : Place = place_view c.args.place in
+    let q : Place = place_view c.args.start in
+    let count = c.args.count in
+    let d = c.args.size.data_words in
+    let k = c.args.size.pointers in
+    let head = c.args.head in
+    let cut = c.cut_of-cut.result in
+    let o = object.StructList c.args.start c.args.words count d k in
+    let behind = c.requires.link.given.behind in
+    let reach = c.requires.link.near in
+    let bound = c.requires.inside.1 in
+    let fit = c.requires.fit in
+    let w = lead_word s p o c.requires.link.leads in
+    let word = word_matches s p c.word_or_zero.result c.pointer_to_list.result w.0 w.1 c.word_or_zero.ensures.word c.if-word_or_zero-pointer_to_list.false ∙ ap (λ (j : ℕ). Some j) c.pointer_to_list.ensures in
+    let here = structs_where s p head (head - p.position - 1) (omega arith) (omega arith) c.args.start c.args.words count d k cut.kept_words cut.kept_pointers (count * (cut.kept_words + cut.kept_pointers)) c.if-own-ge-REACH.false c.requires.few c.cut_of-cut.ensures.narrow.0 c.cut_of-cut.ensures.narrow.1 c.requires.link.leads word in
+    let end : is_some (words_at s (after q c.args.words) 0) ≡ true = part_there s q c.args.words c.requires.inside.0 c.args.words 0 (omega arith) in
+    λ κs lives. (omega arith, (lives, ((front_there s q c.args.words c.requires.inside.0 (count * (d + k)) fit, omega arith), record { behind = omega arith; there = (end, omega arith); whole = subst (λ (i : ℕ). AreWords (segment_words s i)) (sym (ap (λ (r : Place). r.segment) here.0)) c.requires.link.given.whole })))
+
+pub structs_end-returns : goal.structs_end-returns
+structs_end-returns g t c =
+    let s : Segments = words_in (g.A.ReaderArena.segments c.args.arena.now) in
+    let p : Place = place_view c.args.place in
+    let q : Place = place_view c.args.start in
+    let n = c.args.levels in
+    let count = c.args.count in
+    let d = c.args.size.data_words in
+    let k = c.args.size.pointers in
+    let head = c.args.head in
+    let cut = c.cut_of-cut.result in
+    let a = cut.kept_words in
+    let b = cut.kept_pointers in
+    let l = c.args.limiter.now in
+    let m = c.elements_end.new.limiter in
+    let o = object.StructList c.args.start c.args.words count d k in
+    let behind = c.requires.link.given.behind in
+    let reach = c.requires.link.near in
+    let w = lead_word s p o c.requires.link.leads in
+    let word = word_matches s p c.word_or_zero.result c.pointer_to_list.result w.0 w.1 c.word_or_zero.ensures.word c.if-word_or_zero-pointer_to_list.false ∙ ap (λ (j : ℕ). Some j) c.pointer_to_list.ensures in
+    let here = structs_where s p head (head - p.position - 1) (omega arith) (omega arith) c.args.start c.args.words count d k a b (count * (a + b)) c.if-own-ge-REACH.false c.requires.few c.cut_of-cut.ensures.narrow.0 c.cut_of-cut.ensures.narrow.1 c.requires.link.leads word in
+    let tag = word_matches s (place p.segment head) c.word_or_zero-2.result c.pointer_to_struct-tag.result here.2 here.3 c.word_or_zero-2.ensures.word c.if-word_or_zero-tag.false ∙ ap (λ (j : ℕ). Some j) c.pointer_to_struct-tag.ensures in
+    let sizes = here.4 (some_is _ _ (sym here.3 ∙ tag)) in
+    let rows : count * (a + b) ≡ count * (d + k) = ap (λ (j : ℕ). count * (j + b)) (sym sizes.0) ∙ ap (λ (j : ℕ). count * (d + j)) (sym sizes.1) in
+    let own : c.args.words ≡ count * (d + k) = here.1 ∙ rows in
+    let there = front_there s q c.args.words c.requires.inside.0 (count * (d + k)) c.requires.fit in
+    structs_tests n s p head c.args.start c.args.words count d k here.0 own
+    (least_of n s q (count * (d + k)) count d k d k there (omega arith) (sizes.0 ∙ c.cut_of-cut.ensures.words) (sizes.1 ∙ c.cut_of-cut.ensures.pointers))
+    (word ∙ ap (λ (j : ℕ). Some (list_pointer (head - p.position - 1) 7 j)) rows)
+    (tag ∙ ap (λ (j : ℕ). Some (struct_pointer count j b)) (sym sizes.0) ∙ ap (λ (j : ℕ). Some (struct_pointer count d j)) (sym sizes.1))
+    l m c.elements_end.result (subst (λ (j : ℕ). TestsElements n s q count d k (q.position + j) l c.elements_end.result m) own c.elements_end.ensures)

@@ -1,0 +1,431 @@
+//! Whether values stand as their canonical words.
+ghost use Rattle.std.specs.Prelude.{◌≡◌, ℕ, ◌+◌, ◌*◌, ◌^◌, ◌≤◌, ◌<◌, Some, None, slice_index};
+ghost use Rattle.std.specs.Bool.{OnTrue, OnFalse};
+ghost use Rattle.capnp_model.specs.Spelling.{AreWords};
+ghost use Rattle.capnp_model.specs.Sections.{words_for};
+ghost use Rattle.capnp_units.specs.Segments.{words_in};
+ghost use Rattle.capnp_units.specs.Sizes.{size_number, data_bits};
+ghost use Rattle.capnp_object.specs.declared.object.Object.TheVariants as seen;
+ghost use Rattle.capnp_object.specs.Places.{place_view};
+ghost use Rattle.capnp_object.specs.Objects.{AreThere, IsInside};
+ghost use Rattle.capnp_canonical.specs.Objects.{IsShort};
+ghost use Rattle.capnp_canonical.specs.Standing.{segment_words, HasHead, LeadsTo, Reaches};
+ghost use Rattle.capnp_canonical.specs.Checks.{TestsValue, TestsObject, TestsRow, TestsElements, IsBehind, TellsValue, TellsRow, TellsMessage};
+
+use crate::copy::{cut_of, pointer_to_cut};
+use crate::own_words::word_or_zero;
+use crate::words::{pointer_to_list, pointer_to_struct};
+use capnp_object::arena::ReaderArena;
+use capnp_object::follow::follow_within;
+use capnp_object::object::{Object, words_of_elements};
+use capnp_object::place::{Place, has_words};
+use capnp_units::errors::Result;
+use capnp_units::limiter::ReadLimiter;
+use capnp_units::sizes::{ElementSize, StructSize, data_bits_per_element};
+
+/// A message has fewer words than this, and an offset or a count of words reaches no further.
+const REACH: usize = 0x2000_0000;
+
+/// Where the root pointer of a message stands.
+const ROOT: Place = Place {
+    segment: 0,
+    position: 0,
+};
+
+/// Whether the pointer at a place and its value stand as the value's canonical words: at the place is the pointer, and from the head on, a place behind it in its segment, are the words of what it leads to, trimmed. On a yes the head is left behind those words, else where it was.
+///
+/// Pointers are followed, and objects paid for, as by `size_at`, up to the first difference. A capability is one, and so is a head that lies in another segment or not behind the pointer (the pointer itself is followed even then). It is refused only where a walk over the whole value would be, by the kind of the first fault, or with `ReadLimitExceeded` at the first object that costs more words than are left. A no is exact in a segment of at most 2^29 - 1 words, the most that a message has; a yes is so everywhere, and says that the value is within the levels and the budget.
+///
+/// It takes no memory, and a step for each pointer that it follows and each word of an object, so none for an element without words. Each level takes a few hundred bytes of stack.
+pub fn is_canonical<A: ReaderArena>(
+    arena: &A,
+    limiter: &mut ReadLimiter,
+    place: Place,
+    levels: u32,
+    head: &mut Place,
+) -> Result<bool>
+    ensures { TellsValue levels (words_in (A.segments arena.now)) (place_view place)
+        (place_view head.old) limiter.old result (place_view head.new) limiter.new }
+{
+    if !is_behind(arena, place, 1, *head) {
+        follow_within(arena, limiter, place, levels)?;
+        return Ok(false);
+    }
+    are_words(arena, place.segment);
+    let end = value_end(arena, limiter, place, levels, head.position)?;
+    Ok(move_on(head, end))
+}
+
+/// The same of so many pointers in a row, as those of a struct: from the head on are the words of what each leads to, one after the other. Where the head lies elsewhere none is followed.
+pub fn are_canonical<A: ReaderArena>(
+    arena: &A,
+    limiter: &mut ReadLimiter,
+    first: Place,
+    count: u32,
+    levels: u32,
+    head: &mut Place,
+) -> Result<bool>
+    requires { AreThere (words_in (A.segments arena.now)) (place_view first) count }
+    ensures { TellsRow levels (words_in (A.segments arena.now)) (place_view first) count
+        (place_view head.old) limiter.old result (place_view head.new) limiter.new }
+{
+    if !is_behind(arena, first, count as usize, *head) {
+        return Ok(false);
+    }
+    are_words(arena, first.segment);
+    let end = row_end(arena, limiter, first, count, levels, head.position)?;
+    Ok(move_on(head, end))
+}
+
+/// Whether a message is one segment of the canonical words of its value. Where there is a second segment no pointer is followed.
+///
+/// It is refused as `is_canonical` is. A no is exact where the segment has at most 2^29 - 1 words.
+pub fn is_canonical_message<A: ReaderArena>(
+    arena: &A,
+    limiter: &mut ReadLimiter,
+    levels: u32,
+) -> Result<bool>
+    ensures { TellsMessage levels (words_in (A.segments arena.now)) limiter.old result limiter.new }
+{
+    let second = Place {
+        segment: 1,
+        position: 0,
+    };
+    if has_words(arena, second, 0) {
+        return Ok(false);
+    }
+    let mut head = Place {
+        segment: 0,
+        position: 1,
+    };
+    let begins = is_canonical(arena, limiter, ROOT, levels, &mut head)?;
+    Ok(begins && !has_words(arena, head, 1))
+}
+
+/// Whether a place lies behind another in its segment, at least so many words on.
+fn is_behind<A: ReaderArena>(arena: &A, place: Place, words: usize, head: Place) -> bool
+    ensures behind { let s = words_in (A.segments arena.now) in
+        OnTrue result (IsBehind s (place_view place) words (place_view head) × (head.position < 2 ^ 61)) }
+    ensures elsewhere { let s = words_in (A.segments arena.now) in
+        OnFalse result (IsBehind s (place_view place) words (place_view head) → ⊥) }
+{
+    head.segment == place.segment
+        && place.position <= head.position
+        && words <= head.position - place.position
+        && has_words(arena, head, 0)
+}
+
+/// Bytes are numbers below 256.
+fn are_bytes(bytes: &[u8])
+    ensures { (i : ℕ) → slice_index bytes.now i < 256 }
+{}
+
+/// The words of a segment are numbers of 64 bits.
+fn are_words<A: ReaderArena>(arena: &A, segment: u32)
+    ensures { AreWords (segment_words (words_in (A.segments arena.now)) segment) }
+{
+    match arena.get_segment(segment) {
+        Some(bytes) => are_bytes(bytes),
+        None => {}
+    }
+}
+
+/// Moves the head to the end, where there is one.
+fn move_on(head: &mut Place, end: Option<usize>) -> bool
+    ensures some { OnTrue result
+        ((end ≡ Some head.new.position) × (head.new.segment ≡ head.old.segment)) }
+    ensures none { OnFalse result ((end ≡ None) × (head.new ≡ head.old)) }
+{
+    match end {
+        Some(position) => {
+            head.position = position;
+            true
+        }
+        None => false,
+    }
+}
+
+/// Where the words of the value of the pointer at a place end, if they stand from the head on.
+#[cycle(check)]
+fn value_end<A: ReaderArena>(
+    arena: &A,
+    limiter: &mut ReadLimiter,
+    place: Place,
+    levels: u32,
+    head: usize,
+) -> Result<Option<usize>>
+    requires { HasHead (words_in (A.segments arena.now)) (place_view place) 1 head }
+    ensures { TestsValue levels (words_in (A.segments arena.now)) (place_view place) head
+        limiter.old result limiter.new }
+{
+    let object = follow_within(arena, limiter, place, levels)?;
+    if levels == 0 {
+        return Ok(match object {
+            Object::Null => Some(head),
+            _ => None,
+        });
+    }
+    object_end(arena, limiter, object, place, levels - 1, head)
+}
+
+/// The same of the object that the pointer at a place leads to, which is paid for.
+#[cycle(check)]
+fn object_end<A: ReaderArena>(
+    arena: &A,
+    limiter: &mut ReadLimiter,
+    object: Object,
+    place: Place,
+    levels: u32,
+    head: usize,
+) -> Result<Option<usize>>
+    requires inside { IsInside (words_in (A.segments arena.now)) object }
+    requires short { IsShort object }
+    requires leads { LeadsTo (words_in (A.segments arena.now)) (place_view place) object }
+    requires head { HasHead (words_in (A.segments arena.now)) (place_view place) 1 head }
+    ensures { TestsObject levels (words_in (A.segments arena.now)) (place_view place) head object
+        limiter.old result limiter.new }
+{
+    if head - place.position > REACH {
+        return Ok(None);
+    }
+    match object {
+        Object::Null => Ok(Some(head)),
+        Object::Capability { .. } => Ok(None),
+        Object::Struct {
+            start,
+            data_words,
+            pointers,
+        } => {
+            let size = StructSize {
+                data_words,
+                pointers,
+            };
+            struct_end(arena, limiter, place, start, size, levels, head)
+        }
+        Object::List { start, size, count } => Ok(list_end(arena, place, start, size, count, head)),
+        Object::PointerList { start, count } => {
+            pointers_end(arena, limiter, place, start, count, levels, head)
+        }
+        Object::StructList {
+            start,
+            words,
+            count,
+            data_words,
+            pointers,
+        } => {
+            let size = StructSize {
+                data_words,
+                pointers,
+            };
+            structs_end(
+                arena, limiter, place, start, words, count, size, levels, head,
+            )
+        }
+    }
+}
+
+/// The same of a struct.
+#[cycle(check)]
+fn struct_end<A: ReaderArena>(
+    arena: &A,
+    limiter: &mut ReadLimiter,
+    place: Place,
+    start: Place,
+    size: StructSize,
+    levels: u32,
+    head: usize,
+) -> Result<Option<usize>>
+    requires inside { AreThere (words_in (A.segments arena.now)) (place_view start)
+        (size.data_words + size.pointers) }
+    requires link { Reaches (words_in (A.segments arena.now)) (place_view place) head
+        (seen.Struct start size.data_words size.pointers) }
+    ensures { TestsObject levels (words_in (A.segments arena.now)) (place_view place) head
+        (seen.Struct start size.data_words size.pointers) limiter.old result limiter.new }
+{
+    let cut = cut_of(arena, start, size.data_words, size.pointers, 1);
+    if word_or_zero(arena, place) != pointer_to_cut(head - place.position - 1, cut) {
+        return Ok(None);
+    }
+    let first = Place {
+        segment: start.segment,
+        position: start.position + size.data_words as usize,
+    };
+    let behind = head + (size.data_words as usize + size.pointers as usize);
+    row_end(arena, limiter, first, size.pointers as u32, levels, behind)
+}
+
+/// The same of a list of plain elements. The bits behind its last element are 0 there.
+fn list_end<A: ReaderArena>(
+    arena: &A,
+    place: Place,
+    start: Place,
+    size: ElementSize,
+    count: u32,
+    head: usize,
+) -> Option<usize>
+    requires plain { size_number size < 6 }
+    requires inside { AreThere (words_in (A.segments arena.now)) (place_view start)
+        (words_for (data_bits (size_number size) * count)) }
+    requires short { count < 2 ^ 29 }
+    requires link { Reaches (words_in (A.segments arena.now)) (place_view place) head
+        (seen.List start size count) }
+    ensures { (levels : ℕ) (l : ReadLimiter) → TestsObject levels (words_in (A.segments arena.now))
+        (place_view place) head (seen.List start size count) l (Ok result) l }
+{
+    let gap = (head - place.position - 1) as u64;
+    if word_or_zero(arena, place) != pointer_to_list(gap, size.number(), count as u64) {
+        return None;
+    }
+    let end = start.position + words_of_elements(size, count) as usize;
+    let spare = data_bits_per_element(size) as u64 * count as u64 % 64;
+    if spare != 0 {
+        let last = Place {
+            segment: start.segment,
+            position: end - 1,
+        };
+        let word = word_or_zero(arena, last);
+        if word % (1 << spare) != word {
+            return None;
+        }
+    }
+    Some(end)
+}
+
+/// The same of a list of pointers.
+#[cycle(check)]
+fn pointers_end<A: ReaderArena>(
+    arena: &A,
+    limiter: &mut ReadLimiter,
+    place: Place,
+    start: Place,
+    count: u32,
+    levels: u32,
+    head: usize,
+) -> Result<Option<usize>>
+    requires inside { AreThere (words_in (A.segments arena.now)) (place_view start) count }
+    requires link { Reaches (words_in (A.segments arena.now)) (place_view place) head
+        (seen.PointerList start count) }
+    ensures { TestsObject levels (words_in (A.segments arena.now)) (place_view place) head
+        (seen.PointerList start count) limiter.old result limiter.new }
+{
+    if count as usize >= REACH {
+        return Ok(None);
+    }
+    let gap = (head - place.position - 1) as u64;
+    if word_or_zero(arena, place) != pointer_to_list(gap, 6, count as u64) {
+        return Ok(None);
+    }
+    let behind = start.position + count as usize;
+    row_end(arena, limiter, start, count, levels, behind)
+}
+
+/// The same of a list of structs.
+#[cycle(check)]
+fn structs_end<A: ReaderArena>(
+    arena: &A,
+    limiter: &mut ReadLimiter,
+    place: Place,
+    start: Place,
+    words: u32,
+    count: u32,
+    size: StructSize,
+    levels: u32,
+    head: usize,
+) -> Result<Option<usize>>
+    requires inside { AreThere (words_in (A.segments arena.now)) (place_view start) words }
+    requires fit { count * (size.data_words + size.pointers) ≤ words }
+    requires few { count < 2 ^ 30 }
+    requires link { Reaches (words_in (A.segments arena.now)) (place_view place) head
+        (seen.StructList start words count size.data_words size.pointers) }
+    ensures { TestsObject levels (words_in (A.segments arena.now)) (place_view place) head
+        (seen.StructList start words count size.data_words size.pointers) limiter.old result limiter.new }
+{
+    let cut = cut_of(arena, start, size.data_words, size.pointers, count);
+    let own = count as usize * (cut.kept_words as usize + cut.kept_pointers as usize);
+    if own >= REACH {
+        return Ok(None);
+    }
+    let gap = (head - place.position - 1) as u64;
+    if word_or_zero(arena, place) != pointer_to_list(gap, 7, own as u64) {
+        return Ok(None);
+    }
+    let first = Place {
+        segment: place.segment,
+        position: head,
+    };
+    let tag = pointer_to_struct(
+        count as u64,
+        cut.kept_words as u64,
+        cut.kept_pointers as u64,
+    );
+    if word_or_zero(arena, first) != tag {
+        return Ok(None);
+    }
+    let behind = start.position + words as usize;
+    elements_end(arena, limiter, start, count, size, levels, behind)
+}
+
+/// Where the words end of what the pointers in a row lead to, if they stand from the head on.
+#[cycle(check)]
+fn row_end<A: ReaderArena>(
+    arena: &A,
+    limiter: &mut ReadLimiter,
+    first: Place,
+    count: u32,
+    levels: u32,
+    head: usize,
+) -> Result<Option<usize>>
+    requires inside { AreThere (words_in (A.segments arena.now)) (place_view first) count }
+    requires head { HasHead (words_in (A.segments arena.now)) (place_view first) count head }
+    ensures { TestsRow levels (words_in (A.segments arena.now)) (place_view first) count head
+        limiter.old result limiter.new }
+{
+    let mut end = head;
+    for i in 0..count {
+        let place = Place {
+            segment: first.segment,
+            position: first.position + i as usize,
+        };
+        match value_end(arena, limiter, place, levels, end)? {
+            Some(next) => end = next,
+            None => return Ok(None),
+        }
+    }
+    Ok(Some(end))
+}
+
+/// The same of the pointers in the elements of a list of structs. Elements without pointers take no step.
+#[cycle(check)]
+fn elements_end<A: ReaderArena>(
+    arena: &A,
+    limiter: &mut ReadLimiter,
+    start: Place,
+    count: u32,
+    size: StructSize,
+    levels: u32,
+    head: usize,
+) -> Result<Option<usize>>
+    requires inside { AreThere (words_in (A.segments arena.now)) (place_view start)
+        (count * (size.data_words + size.pointers)) }
+    requires head { HasHead (words_in (A.segments arena.now)) (place_view start)
+        (count * (size.data_words + size.pointers)) head }
+    ensures { TestsElements levels (words_in (A.segments arena.now)) (place_view start) count
+        size.data_words size.pointers head limiter.old result limiter.new }
+{
+    if size.pointers == 0 {
+        return Ok(Some(head));
+    }
+    let mut end = head;
+    for i in 0..count {
+        let width = size.data_words as usize + size.pointers as usize;
+        let first = Place {
+            segment: start.segment,
+            position: start.position + i as usize * width + size.data_words as usize,
+        };
+        match row_end(arena, limiter, first, size.pointers as u32, levels, end)? {
+            Some(next) => end = next,
+            None => return Ok(None),
+        }
+    }
+    Ok(Some(end))
+}
