@@ -1,0 +1,78 @@
+//! Makes builder calls so many times, so that their instructions can be counted.
+//!
+//! The words that are given to the program are what to do and how often: `fields` tests that a struct's words are there and sets a number through a handle, `tests` tests once more behind that, `structs` makes structs of four words, `bytes` makes lists of 64 KiB, and `fill` fills as many bytes with zeros. What was made is printed on standard output.
+#![tactic(auto)]
+
+ghost use Rattle.std.specs.Prelude.{◌≡◌, ◌≤◌, length};
+
+mod building;
+mod segments;
+
+use building::Task;
+use capnp_copy::allocator::Allocator;
+use capnp_copy::arena::Memory;
+use capnp_copy::segments::BuilderArenaImpl;
+use capnp_units::errors::Result;
+use segments::Large;
+use std::alloc::Global;
+use std::{env, io};
+
+/// What is done where no word is given, and how often.
+const COUNT: u32 = 100;
+
+/// Builds a message in segments of an allocator, which is handed back.
+fn build_in<A: Allocator + Drop>(
+    alloc: Global,
+    allocator: A,
+    task: Task,
+    count: u32,
+) -> (Result<u64>, A)
+    requires { length (A.loans allocator) ≤ 1 }
+{
+    let mut memory = Memory {
+        arena: BuilderArenaImpl::new(alloc, allocator),
+    };
+    let made = building::build(&mut memory, task, count);
+    let Memory { arena } = memory;
+    (made, arena.into_allocator())
+}
+
+/// Fills 64 KiB with zeros so many times.
+fn fill(alloc: Global, count: u32) -> Result<u64> {
+    let mut all = Vec::new(alloc);
+    all.resize(building::BYTES as usize, 1)?;
+    for i in 0..count {
+        all.as_mut_slice().fill((i % 2) as u8);
+    }
+    Ok(all.as_slice().first().copied().unwrap_or(0) as u64)
+}
+
+/// What is done, and what came of it.
+fn made(alloc: Global, word: &str, count: u32) -> Result<u64> {
+    let task = match word {
+        "fields" => Task::Fields,
+        "tests" => Task::Tests,
+        "structs" => Task::Structs,
+        "bytes" => Task::Bytes,
+        _ => return fill(alloc, count),
+    };
+    let (made, _allocator) = build_in(alloc, Large { alloc }, task, count);
+    made
+}
+
+fn main(rt: HostRuntime) -> io::Result<()> {
+    let mut given = env::args(&rt)?;
+    let (word, times) = (given.nth(1), given.next());
+    let count = match times {
+        Some(text) => text.parse::<u32>().unwrap_or(COUNT),
+        None => COUNT,
+    };
+    let word = match &word {
+        Some(word) => word.as_str(),
+        None => "fields",
+    };
+    match made(rt.alloc(), word, count) {
+        Ok(made) => println!(rt; "{word}: {made}"),
+        Err(e) => println!(rt; "{word}: {e}"),
+    }
+}
