@@ -33,9 +33,11 @@ use Rattle.capnp_footprints.proofs.Spans.{held, held_is, grows_same, grows_then}
 use Rattle.capnp_footprints.proofs.Splices.{Rewrites, splice_rewrites, splice_words, splice_grows, spliced_whole}
 use Rattle.capnp_footprints.proofs.Turns.{structs_here, structs_next, elements_done}
 use Rattle.capnp_footprints.proofs.Writing.{wider, changes_inside}
-use Rattle.capnp_copy_from.specs.Copies.{Copied, Refused, FillsStruct, LeavesStruct, FillsElements, LeavesElements}
+use Rattle.capnp_copy_from.specs.Copies.{TakesFew, Copied, Refused, FillsStruct, LeavesStruct, FillsElements, LeavesElements}
 use Rattle.capnp_copy_from.proofs.Parts.{there_length, front_there, part_is}
 use Rattle.capnp_copy_from.proofs.Refusals.{why_later}
+use Rattle.capnp_copy.specs.Allocations.{total_words}
+use Rattle.capnp_copy_from.proofs.Taking.{takes_none, takes_both, written_total}
 
 -- ---- elements one behind the other
 
@@ -107,6 +109,7 @@ pub record ElementsSoFar (levels : ℕ) (from : Segments) (p : Place) (ws : List
   pub walked : Walked past old new
   pub path_is : from_elements (visits levels from) p d k count ≡ past ++ from_elements (visits levels from) (after p (i * (d + k))) d k (count - i)
   pub grows : Grows s u
+  pub takes : TakesFew s u old new
   pub read : (es : Elements) → each_element (tree_at levels from) (after p (i * (d + k))) (drop (i * (d + k)) ws) d k (count - i) ≡ Some es → each_element (tree_at levels from) p ws d k count ≡ Some (chained first es)
   pub made : (n : ℕ) (fs : Elements) → levels ≤ n → element_count fs ≡ count → OwnsObject n s (a_list r 7 (count * (d + k))) (struct_list d k fs) → ReplacesObject n s u (a_list r 7 (count * (d + k))) (struct_list d k (with_first_elements i first fs))
 
@@ -124,6 +127,7 @@ module _ (levels : ℕ) (from : Segments) (p : Place) (ws : List ℕ) (d k count
         walked = walked_none l;
         path_is = sym (elements_start p d k count (λ q m. from_elements (visits levels from) q d k m));
         grows = grows_same s;
+        takes = takes_none s s l refl;
         read = λ es e. sym same ∙ e;
         made = λ n fs h c o. record { means = o.means; changes = changes_nothing s _ };
       }
@@ -139,6 +143,7 @@ module _ (levels : ℕ) (from : Segments) (p : Place) (ws : List ℕ) (d k count
       walked = walked_both so.past (from_each (visits levels from) (after (after p (i * (d + k))) d) k) l m m' so.walked x.walked;
       path_is = so.path_is ∙ ap (λ (vs : List Visit). so.past ++ vs) (elements_met_next p d k i count in_row (visits levels from)) ∙ sym (append_assoc so.past (from_each (visits levels from) (after (after p (i * (d + k))) d) k) (from_elements (visits levels from) (after p ((i + 1) * (d + k))) d k (count - (i + 1))));
       grows = grows_then s u w so.grows x.grows;
+      takes = takes_both s u w l m m' so.takes x.takes;
       read = λ es e. so.read (element section x.value es) (element_next p d k i count in_row (tree_at levels from) ws ∙ found x.value es x.there_is e ∙ ap (λ (a : ℕ). Some (element a x.value es)) (sym is)) ∙ ap (λ (gs : Elements). Some gs) (chained_next so.first section x.value es);
       made = λ n fs h c o. (
           let now = so.made n fs h c o in
@@ -161,8 +166,8 @@ module _ (levels : ℕ) (from : Segments) (p : Place) (ws : List ℕ) (d k count
             → (each (tree_at levels from) (after (after p (i * (d + k))) d) k >>= λ ts. each_element (tree_at levels from) (after p ((i + 1) * (d + k))) (drop ((i + 1) * (d + k)) ws) d k (count - (i + 1)) >>= λ es. Some (element (section_of (take d (drop (i * (d + k)) ws))) ts es)) ≡ Some (element (section_of (take d (drop (i * (d + k)) ws))) ts es)
         found ts es e g = rw (e, g) refl
 
-    pub elements_stopped : (e : Error) → Refused from (from_each (visits levels from) (after (after p (i * (d + k))) d) k) (LeavesStruct levels u w (after (after r 1) (i * (d + k))) d k) w m e m'
-        → Refused from (from_elements (visits levels from) p d k count) (LeavesElements levels s w r d k count) w l e m'
+    pub elements_stopped : (e : Error) → Refused from (from_each (visits levels from) (after (after p (i * (d + k))) d) k) (LeavesStruct levels u w (after (after r 1) (i * (d + k))) d k) u w m e m'
+        → Refused from (from_elements (visits levels from) p d k count) (LeavesElements levels s w r d k count) s w l e m'
     elements_stopped e x = record {
       left = λ n fs h c o. (
           let now = so.made n fs h c o in
@@ -177,6 +182,7 @@ module _ (levels : ℕ) (from : Segments) (p : Place) (ws : List ℕ) (d k count
           let next = list_of_element n u w r (count * (d + k)) d k i y.0 y.1 (with_first_elements i so.first fs) (omega (arith, long, inside)) mine y.2 in
           (with_element (with_first_elements i so.first fs) i y.0 y.1, object_replaced_then n s u w (a_list r 7 (count * (d + k))) _ _ now next)
           );
+      takes = takes_both s u w l m m' so.takes x.takes;
       why = why_later from so.past (from_each (visits levels from) (after (after p (i * (d + k))) d) k) (from_elements (visits levels from) p d k count) (from_elements (visits levels from) (after p ((i + 1) * (d + k))) d k (count - (i + 1))) w w l m m' e
           (so.path_is ∙ ap (λ (vs : List Visit). so.past ++ vs) (elements_met_next p d k i count in_row (visits levels from))) refl so.walked x.why;
     }
@@ -194,6 +200,7 @@ module _ (levels : ℕ) (from : Segments) (p : Place) (ws : List ℕ) (d k count
         there_is = so.read no_elements nothing ∙ ap (λ (es : Elements). Some es) (chained_none so.first);
         walked = subst (λ (vs : List Visit). Walked vs l m) (sym whole) so.walked;
         grows = so.grows;
+        takes = so.takes;
         made = λ n fs h c o. (
             let now = so.made n fs h c o in
             let same : with_first_elements i so.first fs ≡ so.first = ap (λ (j : ℕ). with_first_elements j so.first fs) (all ∙ sym c) ∙ elements_done so.first fs (so.number ∙ all ∙ sym c) in
@@ -276,6 +283,7 @@ plain_at_once levels from p words d count s u r l there fit now =
       there_is = read.1;
       walked = subst (λ (vs : List Visit). Walked vs l l) (sym (nothing_met (visits levels from) p d count)) (walked_none l);
       grows = subst (λ (v : Segments). Grows s v) (sym now) (splice_grows s (after r 1) (words_there from p (count * d)));
+      takes = takes_none s u l (ap total_words now ∙ written_total s (after r 1) (words_there from p (count * d)));
       made = λ n fs h c o. plain_replaced n s u r (count * (d + 0)) d fs read.0 (words_there from p (count * d)) long (c ∙ sym number) now reads o;
     }
   where

@@ -23,6 +23,8 @@ use Rattle.capnp_object.proofs.LevelLaws.{trees, visited}
 use Rattle.capnp_object.proofs.Measuring.{unfollowed_at}
 use Rattle.capnp_object.proofs.Walking.{object_found, leaf_visited}
 use Rattle.capnp_object.proofs.Walks.{walked_one}
+use Rattle.capnp_copy.specs.Allocations.{total_words}
+use Rattle.capnp_copy_from.proofs.Taking.{none_taken}
 use Rattle.capnp_copy_from.specs.Objects.{is_leaf, leaf_value}
 use Rattle.capnp_copy_from.specs.Copies.{BecomesCopy, Copied, CopyGives, GrowsByZeros}
 use Rattle.capnp_copy_from.proofs.Refusals.{gives_is}
@@ -62,9 +64,9 @@ leaf_there n s p o old new z x h =
     let g = object_found s p (record { pads = x.pads; object = o }) x.is in
     (leaf_read s p g.0 g.0.object o g.1 refl g.2 (subst (λ (m : ℕ). is_within m o ≡ true) z h)).2
 
-pub leaf_copied : (n : ℕ) (from : Segments) (p : Place) (o : Object) (old new : ReadLimiter) (s u : Segments) (r : Place) → n ≡ 0 → Pays from p old o new → is_within n o ≡ true → BecomesCopy 0 s u r (leaf_value o) → Grows s u
+pub leaf_copied : (n : ℕ) (from : Segments) (p : Place) (o : Object) (old new : ReadLimiter) (s u : Segments) (r : Place) → n ≡ 0 → Pays from p old o new → is_within n o ≡ true → BecomesCopy 0 s u r (leaf_value o) → Grows s u → total_words u ≡ total_words s
     → Copied (tree_at n from p) (visits n from p) (BecomesCopy n s u r) s u old new
-leaf_copied n from p o old new s u r z x h b grows =
+leaf_copied n from p o old new s u r z x h b grows same =
     subst (λ (m : ℕ). Copied (tree_at m from p) (visits m from p) (BecomesCopy m s u r) s u old new) (sym z) at_zero
   where
     at_zero : Copied (tree_at 0 from p) (visits 0 from p) (BecomesCopy 0 s u r) s u old new
@@ -77,6 +79,7 @@ leaf_copied n from p o old new s u r z x h b grows =
           there_is = l.0;
           walked = subst (λ (vs : List Visit). Walked vs old new) (sym one) (paid_walk from p old new o x);
           grows = grows;
+          takes = none_taken from s u p o old new same x;
           made = b;
         }
 
@@ -99,14 +102,15 @@ leaf_inside f v from (object.List q size n) l = absurd cc
 leaf_inside f v from (object.PointerList q n) l = absurd cc
 leaf_inside f v from (object.StructList q words n d k) l = absurd cc
 
-pub leaf_put : (levels : ℕ) (f : Place → Option Tree) (v : Place → List Visit) (from : Segments) (p : Place) (o : Object) (old new : ReadLimiter) (s u : Segments) (q : Place) → is_leaf o ≡ true → (x : Pays from p old o new) → BecomesCopy 0 s u q (leaf_value o) → Grows s u
+pub leaf_put : (levels : ℕ) (f : Place → Option Tree) (v : Place → List Visit) (from : Segments) (p : Place) (o : Object) (old new : ReadLimiter) (s u : Segments) (q : Place) → is_leaf o ≡ true → (x : Pays from p old o new) → BecomesCopy 0 s u q (leaf_value o) → Grows s u → total_words u ≡ total_words s
     → Copied (tree_in from f o) (Ok (x.pads + own_cost o) ∷ met_in v o) (BecomesCopy (suc levels) s u q) s u old new
-leaf_put levels f v from p o old new s u q l x b grows =
+leaf_put levels f v from p o old new s u q l x b grows same =
     let y = leaf_inside f v from o l in
     record {
       value = leaf_value o;
       there_is = y.0;
       walked = subst (λ (vs : List Visit). Walked (Ok (x.pads + own_cost o) ∷ vs) old new) (sym y.1) (paid_walk from p old new o x);
       grows = grows;
+      takes = none_taken from s u p o old new same x;
       made = λ n t h o'. b n t (omega arith) o';
     }

@@ -11,3 +11,4 @@ pub mod Made
 pub mod Elements
 pub mod Placed
 pub mod Counting
+pub mod Taking

@@ -32,6 +32,8 @@ use Rattle.capnp_footprints.proofs.Splices.{Rewrites, splice_rewrites, splice_wo
 use Rattle.capnp_footprints.proofs.Writing.{wider, changes_inside, plain_is, plain_tree, struct_data}
 use Rattle.capnp_footprints.proofs.Zeros.{zero_struct, zero_struct_takes}
 use Rattle.capnp_copy_from.specs.Copies.{CopyGives, Fills, FillsStruct, LeavesStruct, FillsRow, FillsElements, LeavesElements}
+use Rattle.capnp_copy.specs.Allocations.{total_words}
+use Rattle.capnp_copy_from.proofs.Taking.{takes_none, takes_both, written_total}
 use Rattle.capnp_copy_from.proofs.Filling.{fills_of, fills_replaced, held_owned}
 use Rattle.capnp_copy_from.proofs.Parts.{there_is, there_length, section_is, front_there}
 
@@ -53,6 +55,7 @@ struct_fills levels from there path section s u r d k old new (Ok x) z g =
       there_is = ap (λ (o : Option Trees). o >>= λ ts. Some (structure d section ts)) g.there_is;
       walked = g.walked;
       grows = g.grows;
+      takes = g.takes;
       made = λ n h. (
           let own = held_owned n s r (d + k) (a_struct r d k) (structure d 0 (resized k none)) (zero_struct n s r d k z) (λ q. zero_struct_takes n s r d k q z) in
           fills_replaced n s u r (d + k) (a_struct r d k) (structure d section g.value) (λ q. zero_struct_takes n s r d k q z) (g.made n 0 (resized k none) h own)
@@ -65,6 +68,7 @@ struct_fills levels from there path section s u r d k old new (Err e) z g =
           let x = g.left levels 0 (resized k none) (omega arith) own in
           (structure d x.0 x.1, fills_replaced levels s u r (d + k) (a_struct r d k) (structure d x.0 x.1) (λ q. zero_struct_takes levels s r d k q z) x.2)
           );
+      takes = g.takes;
       why = g.why;
     }
 
@@ -106,11 +110,13 @@ pointers_fill levels from there path s u r k old new (Ok x) z g =
       there_is = ap (λ (o : Option Trees). o >>= λ ts. Some (pointer_list ts)) g.there_is;
       walked = g.walked;
       grows = g.grows;
+      takes = g.takes;
       made = λ n h. row_fills levels n s u r k 0 g.value z (g.made n 0 (resized k none) h (zero_row n s r k z));
     }
 pointers_fill levels from there path s u r k old new (Err e) z g =
     record {
       left = (let x = g.left levels 0 (resized k none) (omega arith) (zero_row levels s r k z) in (pointer_list x.1, row_fills levels levels s u r k x.0 x.1 z x.2));
+      takes = g.takes;
       why = g.why;
     }
 
@@ -180,6 +186,7 @@ structs_fill levels from there path s m u r d k count old new (Ok x) fits z now 
       there_is = ap (λ (o : Option Elements). o >>= λ es. Some (struct_list d k es)) g.there_is;
       walked = g.walked;
       grows = grows_then s m u (subst (λ (v : Segments). Grows s v) (sym now) (splice_grows s r (struct_pointer count d k ∷ []))) g.grows;
+      takes = takes_both s m u old old new (takes_none s m old (ap total_words now ∙ written_total s r (struct_pointer count d k ∷ []))) g.takes;
       made = λ n h. (let t = tagged n s m r d k count fits z now in elements_fill n s m u r d k count g.value t (g.made n (zero_elements count k) h (zero_count count k) t.owned));
     }
 structs_fill levels from there path s m u r d k count old new (Err e) fits z now g =
@@ -189,6 +196,7 @@ structs_fill levels from there path s m u r d k count old new (Err e) fits z now
           let x = g.left levels (zero_elements count k) (omega arith) (zero_count count k) t.owned in
           (struct_list d k x.0, elements_fill levels s m u r d k count x.0 t x.1)
           );
+      takes = takes_both s m u old old new (takes_none s m old (ap total_words now ∙ written_total s r (struct_pointer count d k ∷ []))) g.takes;
       why = g.why;
     }
 
@@ -214,6 +222,7 @@ struct_copied levels from there path p s m u r d k old new (Ok x) e f now g =
       there_is = g.there_is;
       walked = g.walked;
       grows = grows_then s m u (subst (λ (v : Segments). Grows s v) (sym now) (splice_grows s r (words_there from p d))) g.grows;
+      takes = takes_both s m u old old new (takes_none s m old (ap total_words now ∙ written_total s r (words_there from p d))) g.takes;
       made = λ n own kids h o. (
           let first = data_copied n from p s m r d k own kids e f now o in
           let mine = object_replaced_owned n s m (a_struct r d k) _ _ o first in
@@ -228,5 +237,6 @@ struct_copied levels from there path p s m u r d k old new (Err x) e f now g =
           let y = g.left n (section_at from p d) kids h mine in
           (y.0, y.1, object_replaced_then n s m u (a_struct r d k) _ _ first y.2)
           );
+      takes = takes_both s m u old old new (takes_none s m old (ap total_words now ∙ written_total s r (words_there from p d))) g.takes;
       why = g.why;
     }

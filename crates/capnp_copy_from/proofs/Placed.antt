@@ -1,6 +1,6 @@
 -- Copies that are linked, and those that are given up.
 use Rattle.std.specs.Bool.{⊤}
-use Rattle.std.proofs.Common.{◌≡◌, ◌⊎◌, ◌↔◌, ℕ, zero, suc, ◌+◌, ◌<◌, ◌≤◌, true, false, List, [], ◌∷◌, length, map, Option, Result, Ok, refl, ap, sym, subst, inl, inr, arith}
+use Rattle.std.proofs.Common.{◌∙◌, ◌≡◌, ◌⊎◌, ◌↔◌, ℕ, zero, suc, ◌+◌, ◌<◌, ◌≤◌, true, false, List, [], ◌∷◌, length, map, Option, Result, Ok, refl, ap, sym, subst, inl, inr, arith}
 use Rattle.std.specs.Option.{is_some}
 use Rattle.std.proofs.lemmas.List.{append-nil}
 use Rattle.capnp_model.specs.Segments.{Segments, Place, words_at}
@@ -18,6 +18,7 @@ use Rattle.capnp_object.specs.declared.object.Object.TheVariants as object
 use Rattle.capnp_object.specs.Objects.{IsInside}
 use Rattle.capnp_object.specs.Follow.{own_cost, Pays}
 use Rattle.capnp_object.specs.Inside.{tree_in, met_in}
+use Rattle.capnp_object.specs.Walks.{Stopped}
 use Rattle.capnp_object.proofs.Walks.{walked_none, walked_both}
 use Rattle.capnp_footprints.specs.Footprints.{object_footprint, Owns}
 use Rattle.capnp_footprints.specs.Changes.{Replaces}
@@ -34,7 +35,7 @@ use Rattle.capnp_copy.specs.Clearing.{ClearsValue, ClearsObject}
 use Rattle.capnp_copy.specs.declared.room.Room.{Room}
 use Rattle.capnp_copy.specs.declared.room.Room.TheVariants.{Here, Near, Far}
 use Rattle.capnp_copy.specs.Rooms.{RoomFor, begin_of, slot_word, with_pad, linked}
-use Rattle.capnp_copy.proofs.RoomLaws.{room_grows}
+use Rattle.capnp_copy.proofs.RoomLaws.{sizes_grow, room_grows}
 use Rattle.capnp_copy_from.specs.Objects.{copied_words, copied_at, copied_pointer, IsTooLarge, IsSpelled, is_leaf}
 use Rattle.capnp_copy_from.specs.Copies.{BecomesCopy, GrowsByZeros, Copied, Refused, CopyGives, Fills}
 use Rattle.capnp_copy_from.proofs.Allocated.{pads_in, allocated, room_new}
@@ -42,6 +43,7 @@ use Rattle.capnp_copy_from.proofs.Filling.{filled_detached, given_up}
 use Rattle.capnp_copy_from.proofs.Following.{paid_walk}
 use Rattle.capnp_copy_from.proofs.Linked.{linked_value}
 use Rattle.capnp_copy_from.proofs.Refusals.{why_later}
+use Rattle.capnp_copy_from.proofs.Taking.{total_alike, written_total, takes_none, takes_same, takes_both, room_taken, none_taken}
 
 -- ---- the object that is new
 
@@ -99,6 +101,14 @@ linked_grows s p room w = grows_then s (with_pad s room w) (linked s p room w) (
     padded s (Near offset) w = grows_same s
     padded s (Far pad) w = splice_grows s (place_view pad) (w ∷ [])
 
+linked_total : (s : Segments) (p : Place) (room : Room) (w : ℕ) → total_words (linked s p room w) ≡ total_words s
+linked_total s p room w = written_total (with_pad s room w) p (slot_word room w ∷ []) ∙ padded s room w
+  where
+    padded : (s : Segments) (room : Room) (w : ℕ) → total_words (with_pad s room w) ≡ total_words s
+    padded s Here w = refl
+    padded s (Near offset) w = refl
+    padded s (Far pad) w = written_total s (place_view pad) (w ∷ [])
+
 becomes : (levels n : ℕ) (from s m u y : Segments) (p : Place) (o : Object) (room : Room) (t v : Tree) → suc levels ≤ n → is_some (words_at s p 1) ≡ true → is_leaf o ≡ false → RoomFor s m p (copied_words o) room → IsInside from o → IsSpelled o
     → ((j : ℕ) → levels ≤ j → Fills j m u (begin_of p room) (copied_words o) (copied_at (begin_of p room) o) v) → ClearsValue u y p → Owns n s p t → Replaces n s (linked y p room (copied_pointer o)) p v
 becomes levels zero from s m u y p o room t v h e l r i f fill c own = absurd (omega (arith, h))
@@ -113,41 +123,34 @@ becomes levels (suc n) from s m u y p o room t v h e l r i f fill c own =
 
 pub copied_object : (levels : ℕ) (from s m u y z : Segments) (p q : Place) (o : Object) (room : Room) (there : Option Tree) (path : List Visit) (old mid new : ReadLimiter) → is_some (words_at s p 1) ≡ true → is_leaf o ≡ false → RoomFor s m p (copied_words o) room → IsInside from o → IsSpelled o
     → (x : Pays from q old o mid)
-    → Copied there path (λ v. (n : ℕ) → levels ≤ n → Fills n m u (begin_of p room) (copied_words o) (copied_at (begin_of p room) o) v) m u mid new → ClearsValue u y p → Grows u y → z ≡ linked y p room (copied_pointer o)
+    → Copied there path (λ v. (n : ℕ) → levels ≤ n → Fills n m u (begin_of p room) (copied_words o) (copied_at (begin_of p room) o) v) m u mid new → ClearsValue u y p → map length y ≡ map length u → z ≡ linked y p room (copied_pointer o)
     → Copied there (Ok (x.pads + own_cost o) ∷ path) (BecomesCopy (suc levels) s z p) s z old new
-copied_object levels from s m u y z p q o room there path old mid new e l r i f x g c grows now = record {
+copied_object levels from s m u y z p q o room there path old mid new e l r i f x g c sizes now = record {
   value = g.value;
   there_is = g.there_is;
   walked = walked_both (Ok (x.pads + own_cost o) ∷ []) path old mid new (paid_walk from q old mid o x) g.walked;
-  grows = grows_then s m z (room_grows s m p (copied_words o) room r) (grows_then m u z g.grows (grows_then u y z grows (subst (λ (v : Segments). Grows y v) (sym now) (linked_grows y p room (copied_pointer o)))));
+  grows = grows_then s m z (room_grows s m p (copied_words o) room r) (grows_then m u z g.grows (grows_then u y z (sizes_grow u y sizes) (subst (λ (v : Segments). Grows y v) (sym now) (linked_grows y p room (copied_pointer o)))));
+  takes = takes_same s u z old new (ap total_words now ∙ linked_total y p room (copied_pointer o) ∙ sym (total_alike u y sizes)) (takes_both s m u old mid new (room_taken from s m p q o room old mid r i x) g.takes);
   made = λ n t h own. subst (λ (v : Segments). Replaces n s v p g.value) (sym now) (becomes levels n from s m u y p o room t g.value h e l r i f g.made c own);
 }
 
 -- ---- given up
 
-total_alike : (u y : Segments) → map length y ≡ map length u → total_words u ≡ total_words y
-unfolding total_words
-total_alike [] [] e = refl
-total_alike [] (xs ∷ y) e = absurd cc
-total_alike (xs ∷ u) [] e = absurd cc
-total_alike (xs ∷ u) (ys ∷ y) e =
-    let first : length ys ≡ length xs = cc in
-    let rest : map length y ≡ map length u = cc in
-    omega (arith, first, total_alike u y rest)
-
-pub refused_object : (levels : ℕ) (from s m u y : Segments) (p q : Place) (o : Object) (room : Room) (path : List Visit) (old mid new : ReadLimiter) (e : Error) → is_some (words_at s p 1) ≡ true → RoomFor s m p (copied_words o) room
+pub refused_object : (levels : ℕ) (from s m u y : Segments) (p q : Place) (o : Object) (room : Room) (path : List Visit) (old mid new : ReadLimiter) (e : Error) → is_some (words_at s p 1) ≡ true → RoomFor s m p (copied_words o) room → IsInside from o
     → (x : Pays from q old o mid)
-    → Refused from path ((t : Tree) × Fills levels m u (begin_of p room) (copied_words o) (copied_at (begin_of p room) o) t) u mid e new → ClearsObject u y (copied_at (begin_of p room) o) → map length y ≡ map length u
-    → Refused from (Ok (x.pads + own_cost o) ∷ path) (GrowsByZeros s y) y old e new
-refused_object levels from s m u y p q o room path old mid new e there r x g clears sizes = record {
+    → Refused from path ((t : Tree) × Fills levels m u (begin_of p room) (copied_words o) (copied_at (begin_of p room) o) t) m u mid e new → ClearsObject u y (copied_at (begin_of p room) o) → map length y ≡ map length u
+    → Refused from (Ok (x.pads + own_cost o) ∷ path) (GrowsByZeros s y) s y old e new
+refused_object levels from s m u y p q o room path old mid new e there r i x g clears sizes = record {
   left = given_up levels s m u y (begin_of p room) (copied_words o) (copied_at (begin_of p room) o) g.left.0 (room_new s m p (copied_words o) room there r) g.left.1 clears;
+  takes = takes_same s u y old new (sym (total_alike u y sizes)) (takes_both s m u old mid new (room_taken from s m p q o room old mid r i x) g.takes);
   why = why_later from (Ok (x.pads + own_cost o) ∷ []) path (Ok (x.pads + own_cost o) ∷ path) [] u y old mid new e (ap (λ (vs : List Visit). Ok (x.pads + own_cost o) ∷ vs) (sym (append-nil path))) (total_alike u y sizes) (paid_walk from q old mid o x) g.why;
 }
 
 pub no_room : (from s u : Segments) (q : Place) (o : Object) (path : List Visit) (old new : ReadLimiter) (e : Error) → u ≡ s → (x : Pays from q old o new) → (e.kind ≡ SizeOverflow) ↔ IsTooLarge o (total_words s)
-    → Refused from (Ok (x.pads + own_cost o) ∷ path) (GrowsByZeros s u) u old e new
-no_room from s u q o path old new e now x kind = subst (λ (v : Segments). Refused from (Ok (x.pads + own_cost o) ∷ path) (GrowsByZeros s v) v old e new) (sym now) (record {
+    → Refused from (Ok (x.pads + own_cost o) ∷ path) (GrowsByZeros s u) s u old e new
+no_room from s u q o path old new e now x kind = subst (λ (v : Segments). Refused from (Ok (x.pads + own_cost o) ∷ path) (GrowsByZeros s v) s v old e new) (sym now) (record {
   left = changes_nothing s (λ q. 0);
+  takes = none_taken from s s q o old new refl x;
   why = inr (record {
     before = [];
     rest = path;
@@ -181,6 +184,7 @@ leaf_filled levels from s r object.Null l h = record {
   there_is = refl;
   walked = walked_none l;
   grows = grows_same s;
+  takes = takes_none s s l refl;
   made = λ n g. record { means = refl; changes = changes_alike s s (λ q. 0) (λ q. 0) (times_held (span r 0 ∷ [])) (object_footprint n s model.nothing) (changes_nothing s (λ q. 0)) (λ q. omega (arith, held_is r 0 [] q, held_none r q)) (λ q. refl) };
 }
 leaf_filled levels from s r (object.Capability i) l h = record {
@@ -188,6 +192,7 @@ leaf_filled levels from s r (object.Capability i) l h = record {
   there_is = refl;
   walked = walked_none l;
   grows = grows_same s;
+  takes = takes_none s s l refl;
   made = λ n g. record { means = refl; changes = changes_alike s s (λ q. 0) (λ q. 0) (times_held (span r 0 ∷ [])) (object_footprint n s (model.a_capability i)) (changes_nothing s (λ q. 0)) (λ q. omega (arith, held_is r 0 [] q, held_none r q)) (λ q. refl) };
 }
 leaf_filled levels from s r (object.Struct p d k) l h = absurd cc
@@ -198,3 +203,8 @@ leaf_filled levels from s r (object.StructList p words n d k) l h = absurd cc
 -- what is made of zero words
 abbrev pub FillGives : ℕ → Segments → Segments → Segments → Place → Object → ReadLimiter → Result ⊤ Error → ReadLimiter → Type 0
 FillGives levels from s u r o old x new = CopyGives from (tree_in from (tree_at levels from) o) (met_in (visits levels from) o) (λ v. (n : ℕ) → levels ≤ n → Fills n s u r (copied_words o) (copied_at r o) v) ((t : Tree) × Fills levels s u r (copied_words o) (copied_at r o) t) s u old x new
+
+-- ---- a walk that is stopped at once
+
+pub stopped_gives : (n : ℕ) (from : Segments) (p : Place) (s : Segments) (old new : ReadLimiter) (e : Error) → Stopped (visits n from p) old e new → Refused from (visits n from p) (GrowsByZeros s s) s s old e new
+stopped_gives n from p s old new e x = record { left = changes_nothing s (λ q. 0); takes = record { granted = x.paid; spends = x.spends; few = omega arith }; why = inl x }

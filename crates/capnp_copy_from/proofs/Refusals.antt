@@ -36,7 +36,7 @@ why_later from a b path more u v old mid new e is same w (inl x) = inl (stopped_
 why_later from a b path more u v old mid new e is same w (inr x) = inr (unplaced_later from a b path more u v old mid new e is same w x)
 
 -- a refusal that is passed on
-pub refused_is : {X : Type 0} (from : Segments) (there : Option X) (path : List Visit) (Made : X → Type 0) (Left : Type 0) (s u : Segments) (old new : ReadLimiter) (r : Result ⊤ Error) (d e : Error) → r ≡ Err d → d ≡ e → Refused from path Left u old e new → CopyGives from there path Made Left s u old r new
+pub refused_is : {X : Type 0} (from : Segments) (there : Option X) (path : List Visit) (Made : X → Type 0) (Left : Type 0) (s u : Segments) (old new : ReadLimiter) (r : Result ⊤ Error) (d e : Error) → r ≡ Err d → d ≡ e → Refused from path Left s u old e new → CopyGives from there path Made Left s u old r new
 refused_is from there path Made Left s u old new r d e is same x =
     subst (λ (y : Result ⊤ Error). CopyGives from there path Made Left s u old y new) (sym (is ∙ ap (λ (y : Error). Err y) same)) x
 

@@ -20,9 +20,10 @@ use Rattle.capnp_footprints.proofs.Algebra.{changes_nothing}
 use Rattle.capnp_footprints.proofs.Lift.{child_of_struct, struct_of_child, object_replaced_owned, object_replaced_then}
 use Rattle.capnp_footprints.proofs.Spans.{grows_same, grows_then}
 use Rattle.capnp_footprints.proofs.Turns.{struct_here, struct_next, struct_done}
-use Rattle.capnp_copy_from.specs.Copies.{BecomesCopy, GrowsByZeros, Copied, Refused, FillsRow, LeavesStruct}
+use Rattle.capnp_copy_from.specs.Copies.{TakesFew, BecomesCopy, GrowsByZeros, Copied, Refused, FillsRow, LeavesStruct}
 use Rattle.capnp_copy_from.proofs.Filling.{value_stands}
 use Rattle.capnp_copy_from.proofs.Refusals.{why_later}
+use Rattle.capnp_copy_from.proofs.Taking.{takes_none, takes_both}
 
 -- ---- trees one behind the other
 
@@ -78,6 +79,7 @@ pub record RowSoFar (levels : ℕ) (from : Segments) (p : Place) (k i : ℕ) (s 
   pub walked : Walked past old new
   pub path_is : from_each (visits levels from) p k ≡ past ++ from_each (visits levels from) (after p i) (k - i)
   pub grows : Grows s u
+  pub takes : TakesFew s u old new
   pub read : (ts : Trees) → each (tree_at levels from) (after p i) (k - i) ≡ Some ts → each (tree_at levels from) p k ≡ Some (joined first ts)
   pub made : (n own : ℕ) (kids : Trees) → levels ≤ n → OwnsObject n s (a_struct r d k) (structure d own kids) → ReplacesObject n s u (a_struct r d k) (structure d own (with_first i first kids))
 
@@ -97,6 +99,7 @@ module _ (levels : ℕ) (from : Segments) (p : Place) (k : ℕ) (s : Segments) (
     walked = walked_none l;
     path_is = sym (row_start p k (from_each (visits levels from)));
     grows = grows_same s;
+    takes = takes_none s s l refl;
     read = λ ts e. sym (row_start p k (each (tree_at levels from))) ∙ e;
     made = λ n own kids h o. record { means = o.means; changes = changes_nothing s _ };
   }
@@ -110,6 +113,7 @@ module _ (levels : ℕ) (from : Segments) (p : Place) (k : ℕ) (s : Segments) (
       walked = walked_both so.past (visits levels from (after p i)) l m m' so.walked x.walked;
       path_is = so.path_is ∙ ap (λ (vs : List Visit). so.past ++ vs) (met_next p i k in_row (visits levels from)) ∙ sym (append_assoc so.past (visits levels from (after p i)) (from_each (visits levels from) (after p (i + 1)) (k - (i + 1))));
       grows = grows_then s u w so.grows x.grows;
+      takes = takes_both s u w l m m' so.takes x.takes;
       read = λ ts e. so.read (x.value ▸ ts) (each_next p i k in_row (tree_at levels from) ∙ found x.value ts x.there_is e) ∙ ap (λ (us : Trees). Some us) (more x.value ts);
       made = λ n own kids h o. (
           let now = so.made n own kids h o in
@@ -132,7 +136,7 @@ module _ (levels : ℕ) (from : Segments) (p : Place) (k : ℕ) (s : Segments) (
         more t ts = joined_next so.first t ts
 
     -- a child that is refused leaves the row as it was
-    pub row_stopped : (e : Error) → Refused from (visits levels from (after p i)) (GrowsByZeros u w) w m e m' → Refused from (from_each (visits levels from) p k) (LeavesStruct levels s w r d k) w l e m'
+    pub row_stopped : (e : Error) → Refused from (visits levels from (after p i)) (GrowsByZeros u w) u w m e m' → Refused from (from_each (visits levels from) p k) (LeavesStruct levels s w r d k) s w l e m'
     row_stopped e x = record {
       left = λ n own kids h o. (
           let now = so.made n own kids h o in
@@ -142,6 +146,7 @@ module _ (levels : ℕ) (from : Segments) (p : Place) (k : ℕ) (s : Segments) (
           let next = struct_of_child n u w r d k i d own (with_first i so.first kids) (child (with_first i so.first kids) i) in_row mine same in
           (own, with_child (with_first i so.first kids) i (child (with_first i so.first kids) i), object_replaced_then n s u w (a_struct r d k) _ _ now next)
           );
+      takes = takes_both s u w l m m' so.takes x.takes;
       why = why_later from so.past (visits levels from (after p i)) (from_each (visits levels from) p k) (from_each (visits levels from) (after p (i + 1)) (k - (i + 1))) w w l m m' e
           (so.path_is ∙ ap (λ (vs : List Visit). so.past ++ vs) (met_next p i k in_row (visits levels from))) refl so.walked x.why;
     }
@@ -157,6 +162,7 @@ module _ (levels : ℕ) (from : Segments) (p : Place) (k : ℕ) (s : Segments) (
         there_is = so.read none nothing ∙ ap (λ (ts : Trees). Some ts) (joined_none so.first);
         walked = subst (λ (vs : List Visit). Walked vs l m) (sym whole) so.walked;
         grows = so.grows;
+        takes = so.takes;
         made = λ n own kids h o. (
             let now = so.made n own kids h o in
             let number : with_first i so.first kids ≡ with_first k so.first kids = ap (λ (j : ℕ). with_first j so.first kids) all in

@@ -38,23 +38,31 @@ pub record Unplaced (from : Segments) (path : List Visit) (u : Segments) (old : 
   pub walked : Walked (before ++ Ok (found_cost found) ∷ []) old new
   pub kind : (e.kind ≡ SizeOverflow) ↔ IsTooLarge found.object (total_words u)
 
+-- No more words were allocated than twice those that were granted: an object's own, and one for its pad.
+pub record TakesFew (s u : Segments) (old new : ReadLimiter) : Type 0 where
+  pub granted : ℕ
+  pub spends : Spends old new granted
+  pub few : total_words u ≤ total_words s + 2 * granted
+
 -- What was read is there, its visits were made, and it was made of it what it says.
 pub record Copied {X : Type 0} (there : Option X) (path : List Visit) (Made : X → Type 0) (s u : Segments) (old new : ReadLimiter) : Type 0 where
   pub value : X
   pub there_is : there ≡ Some value
   pub walked : Walked path old new
   pub grows : Grows s u
+  pub takes : TakesFew s u old new
   pub made : Made value
 
 -- The walk over what is read was stopped, or there was no room; what is left is as it says.
-pub record Refused (from : Segments) (path : List Visit) (Left : Type 0) (u : Segments) (old : ReadLimiter) (e : Error) (new : ReadLimiter) : Type 0 where
+pub record Refused (from : Segments) (path : List Visit) (Left : Type 0) (s u : Segments) (old : ReadLimiter) (e : Error) (new : ReadLimiter) : Type 0 where
   pub left : Left
+  pub takes : TakesFew s u old new
   pub why : Stopped path old e new ⊎ Unplaced from path u old e new
 
 -- A copy of what is read from segments, or a refusal.
 abbrev pub CopyGives : {X : Type 0} → Segments → Option X → List Visit → (X → Type 0) → Type 0 → Segments → Segments → ReadLimiter → Result ⊤ Error → ReadLimiter → Type 0
 CopyGives from there path Made Left s u old (Ok _) new = Copied there path Made s u old new
-CopyGives from there path Made Left s u old (Err e) new = Refused from path Left u old e new
+CopyGives from there path Made Left s u old (Err e) new = Refused from path Left s u old e new
 
 -- The value of the pointer at q is put in place of that at p, as its whole tree; or it is refused, and all words stand.
 abbrev pub CopiesValue : ℕ → Segments → Place → Segments → Segments → Place → ReadLimiter → Result ⊤ Error → ReadLimiter → Type 0

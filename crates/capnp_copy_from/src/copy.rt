@@ -1,5 +1,5 @@
 //! The plain copy of a value into an arena, in place of another.
-ghost use Rattle.std.specs.Prelude.{◌≡◌, ℕ, ◌∷◌, ◌+◌, ◌*◌, ◌^◌, ◌<◌, ◌≤◌, suc, true, Some, Ok, replicate};
+ghost use Rattle.std.specs.Prelude.{◌≡◌, ℕ, ◌∷◌, ◌+◌, ◌*◌, ◌^◌, ◌<◌, ◌≤◌, suc, true, Some, Ok, length, map, replicate};
 ghost use Rattle.std.specs.Option.{is_some};
 ghost use Rattle.capnp_model.specs.Segments.{Place as ModelPlace, after, words_at};
 ghost use Rattle.capnp_model.specs.Trees.{Tree, struct_list};
@@ -28,7 +28,7 @@ use capnp_wire::place::Place;
 
 /// Puts a copy of the value of a pointer in a source in place of the value of the pointer at a place, which is cleared: the whole tree, with its capabilities' indices as they are.
 ///
-/// The source's pointers are followed in the order of reading, nulls too, and its objects are paid for, as by `size_at`. At the first fault within so many levels it is refused by that kind, and with `ReadLimitExceeded` at the first object that costs more words than are left; with `SizeOverflow` just where a count, or the message's words with the next object and a pad, would pass 2^29 - 1; else as the allocator refuses. After a refusal all words stand as they were, and those that were allocated are zero.
+/// The source's pointers are followed in the order of reading, nulls too, and its objects are paid for, as by `size_at`. At the first fault within so many levels it is refused by that kind, and with `ReadLimitExceeded` at the first object that costs more words than are left; with `SizeOverflow` just where a count, or the message's words with the next object and a pad, would pass 2^29 - 1; else as the allocator refuses. After a refusal all words stand as they were, and those that were allocated are zero. Refused or not, it allocates no more words than twice those that it grants.
 ///
 /// It takes a step for each pointer that it follows, which are no more than the words that it grants, and one, and goes over data by whole slices. New words are filled first, the old value is cleared then, and the pointer is written last. Each level takes a few hundred bytes of stack.
 #[cycle(copy)]
@@ -61,7 +61,7 @@ fn put_leaf<A: BuilderArena>(arena: &mut A, slot: Place, object: Object)
     requires there { is_some (words_at (words_in (A.segments arena.old)) (place_view slot) 1) ≡ true }
     requires leaf { is_leaf object ≡ true }
     ensures becomes { BecomesCopy 0 (words_in (A.segments arena.old)) (words_in (A.segments arena.new)) (place_view slot) (leaf_value object) }
-    ensures grows { Grows (words_in (A.segments arena.old)) (words_in (A.segments arena.new)) }
+    ensures sizes { map length (words_in (A.segments arena.new)) ≡ map length (words_in (A.segments arena.old)) }
     ensures books { A.books arena.new ≡ A.books arena.old }
 {
     clear(arena, slot);

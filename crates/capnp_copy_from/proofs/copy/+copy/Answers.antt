@@ -35,7 +35,9 @@ use Rattle.capnp_copy_from.proofs.Refusals.{refused_is}
 use Rattle.capnp_copy_from.proofs.Rows.{row_begun, row_next, row_stopped, row_ended}
 use Rattle.capnp_copy_from.proofs.Elements.{elements_begun, elements_next, elements_stopped, elements_ended, elements_at_once, element_within}
 use Rattle.capnp_copy_from.proofs.Made.{struct_copied, struct_fills, pointers_fill, list_fills, structs_fill}
-use Rattle.capnp_copy_from.proofs.Placed.{copied_object, refused_object, no_room, leaf_is, no_leaf, leaf_filled, FillGives}
+use Rattle.capnp_copy.specs.Allocations.{total_words}
+use Rattle.capnp_copy_from.proofs.Taking.{total_alike, written_total, takes_none}
+use Rattle.capnp_copy_from.proofs.Placed.{stopped_gives, copied_object, refused_object, no_room, leaf_is, no_leaf, leaf_filled, FillGives}
 use Rattle.capnp_copy_from.proofs.copy.+copy.Goals as goal
 
 pub copy_from-returns-in_err-object-clause-copy : goal.copy_from-returns-in_err-object-clause-copy
@@ -46,14 +48,14 @@ copy_from-returns-in_err-object-clause-copy g t c =
     let n = c.args.levels in
     let r = err_from_is_err_and c.from_residual.result c.from_residual.ensures.1 in
     refused_is from (tree_at n from p) (visits n from p) (BecomesCopy n s s (place_view c.args.slot)) (GrowsByZeros s s) s s c.args.limiter.now c.follow_within.new.limiter c.from_residual.result r.0 c.in_err-object.field-0.0 r.1 r.2
-    (record { left = changes_nothing s (λ q. 0); why = inl (stopped_at n from p c.args.limiter.now c.follow_within.new.limiter c.in_err-object.field-0.0 c.in_err-object.ensures) })
+    (stopped_gives n from p s c.args.limiter.now c.follow_within.new.limiter c.in_err-object.field-0.0 (stopped_at n from p c.args.limiter.now c.follow_within.new.limiter c.in_err-object.field-0.0 c.in_err-object.ensures))
 
 pub copy_from-returns-then-levels-eq0-clause-copy : goal.copy_from-returns-then-levels-eq0-clause-copy
 copy_from-returns-then-levels-eq0-clause-copy g t c =
     let from : Segments = words_in (g.B.ReaderArena.segments c.args.source.now) in
     let s : Segments = words_in (g.A.ReaderArena.segments c.args.arena.now) in
     let u : Segments = words_in (g.A.ReaderArena.segments c.put_leaf.new.arena) in
-    leaf_copied c.args.levels from (place_view c.args.place) c.in_ok-object.object c.args.limiter.now c.follow_within.new.limiter s u (place_view c.args.slot) c.if-levels-eq0.true c.in_ok-object.ensures.0 c.in_ok-object.ensures.1 c.put_leaf.ensures.becomes c.put_leaf.ensures.grows
+    leaf_copied c.args.levels from (place_view c.args.place) c.in_ok-object.object c.args.limiter.now c.follow_within.new.limiter s u (place_view c.args.slot) c.if-levels-eq0.true c.in_ok-object.ensures.0 c.in_ok-object.ensures.1 c.put_leaf.ensures.becomes (sizes_grow s u c.put_leaf.ensures.sizes) (sym (total_alike s u c.put_leaf.ensures.sizes))
 
 pub copy_from-returns-clause-copy : goal.copy_from-returns-clause-copy
 copy_from-returns-clause-copy g t c =
@@ -85,7 +87,7 @@ copy_object-returns-in-Null-clause-copy g t c = λ l p pays.
     let s : Segments = words_in (g.A.ReaderArena.segments c.args.arena.now) in
     let u : Segments = words_in (g.A.ReaderArena.segments c.put_leaf.new.arena) in
     let n = c.args.levels in
-    leaf_put n (tree_at n from) (visits n from) from p c.args.object l c.args.limiter.now s u (place_view c.args.slot) (leaf_is c.args.object c.in-Null.is) pays c.put_leaf.ensures.becomes c.put_leaf.ensures.grows
+    leaf_put n (tree_at n from) (visits n from) from p c.args.object l c.args.limiter.now s u (place_view c.args.slot) (leaf_is c.args.object c.in-Null.is) pays c.put_leaf.ensures.becomes (sizes_grow s u c.put_leaf.ensures.sizes) (sym (total_alike s u c.put_leaf.ensures.sizes))
 
 pub copy_object-room_for-requires : goal.copy_object-room_for-requires
 copy_object-room_for-requires g t c = word_there (words_in (g.A.ReaderArena.segments c.args.arena.now)) (place_view c.args.slot) c.requires.there
@@ -160,7 +162,7 @@ copy_object-returns-in-Ok g t c =
     let filled = subst (λ (r : Place). Copied (tree_in from (tree_at n from) o) (met_in (visits n from) o) (λ v. (j : ℕ) → n ≤ j → Fills j m u r (copied_words o) (copied_at r o) v) m u c.args.limiter.now c.fill.new.limiter) begins c.in-Ok.ensures.copy in
     let now : z ≡ linked y p room (copied_pointer o) = c.link.ensures.words ∙ ap (linked y p room) c.pointer_word.ensures.word in
     record {
-      copy = λ l q pays. copied_object n from s m u y z p q o room (tree_in from (tree_at n from) o) (met_in (visits n from) o) l c.args.limiter.now c.fill.new.limiter c.requires.there kind c.in_ok-room.ensures.ok c.requires.inside c.in_ok-room.ensures.spelled pays filled c.clear.ensures.clears (sizes_grow u y c.clear.ensures.sizes) now;
+      copy = λ l q pays. copied_object n from s m u y z p q o room (tree_in from (tree_at n from) o) (met_in (visits n from) o) l c.args.limiter.now c.fill.new.limiter c.requires.there kind c.in_ok-room.ensures.ok c.requires.inside c.in_ok-room.ensures.spelled pays filled c.clear.ensures.clears c.clear.ensures.sizes now;
       books = c.link.ensures.books ∙ c.clear.ensures.books ∙ c.in-Ok.ensures.books ∙ c.in_ok-room.ensures.books;
     }
 
@@ -176,10 +178,10 @@ copy_object-returns-in-Err g t c =
     let o = c.args.object in
     let e = c.in-Err.error in
     let begins : place_view c.begin_of-start.result ≡ begin_of p c.in_ok-room.room = c.begin_of-start.ensures in
-    let left = subst (λ (r : Place). Refused from (met_in (visits n from) o) ((t : Tree) × Fills n m u r (copied_words o) (copied_at r o) t) u c.args.limiter.now e c.fill.new.limiter) begins c.in-Err.ensures.copy in
+    let left = subst (λ (r : Place). Refused from (met_in (visits n from) o) ((t : Tree) × Fills n m u r (copied_words o) (copied_at r o) t) m u c.args.limiter.now e c.fill.new.limiter) begins c.in-Err.ensures.copy in
     let clears : ClearsObject u y (copied_at (begin_of p c.in_ok-room.room) o) = subst (λ (r : Place). ClearsObject u y (copied_at r o)) begins (subst (ClearsObject u y) c.copy_at.ensures c.clear_object.ensures.clears) in
     record {
-      copy = λ l q pays. refused_object n from s m u y p q o c.in_ok-room.room (met_in (visits n from) o) l c.args.limiter.now c.fill.new.limiter e c.requires.there c.in_ok-room.ensures.ok pays left clears c.clear_object.ensures.sizes;
+      copy = λ l q pays. refused_object n from s m u y p q o c.in_ok-room.room (met_in (visits n from) o) l c.args.limiter.now c.fill.new.limiter e c.requires.there c.in_ok-room.ensures.ok c.requires.inside pays left clears c.clear_object.ensures.sizes;
       books = c.clear_object.ensures.books ∙ c.in-Err.ensures.books ∙ c.in_ok-room.ensures.books;
     }
 
@@ -224,6 +226,7 @@ fill-returns-in-List-clause-copy g t c =
       there_is = refl;
       walked = walked_none c.args.limiter.now;
       grows = subst (λ (v : Segments). Grows s v) (sym now) (splice_grows s r _);
+      takes = takes_none s u c.args.limiter.now (ap total_words now ∙ written_total s r _);
       made = λ j h. list_fills j from p s u r (size_number x.size) x.count (words_for (data_bits (size_number x.size) * x.count)) inside.0 refl inside.1.0 zeros now;
     } in
     subst (λ (o : Object). FillGives n from s u r o c.args.limiter.now (Ok tt) c.args.limiter.now) (sym x.is) gives

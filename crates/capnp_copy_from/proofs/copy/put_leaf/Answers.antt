@@ -1,4 +1,4 @@
-use Rattle.std.proofs.Common.{◌≡◌, ◌+◌, ◌*◌, ◌∷◌, [], ◌^◌, ℕ, ap, sym, ◌∙◌, subst, rules}
+use Rattle.std.proofs.Common.{length, map, ◌≡◌, ◌+◌, ◌*◌, ◌∷◌, [], ◌^◌, ℕ, ap, sym, ◌∙◌, subst, rules}
 use Rattle.capnp_model.specs.Segments.{Segments}
 use Rattle.capnp_model.specs.Coverage.{Grows}
 use Rattle.capnp_units.specs.Segments.{words_in}
@@ -7,6 +7,7 @@ use Rattle.capnp_object.specs.declared.object.Object.{Object}
 use Rattle.capnp_footprints.specs.Writes.{with_words}
 use Rattle.capnp_footprints.proofs.Spans.{grows_then}
 use Rattle.capnp_footprints.proofs.Splices.{splice_grows}
+use Rattle.capnp_copy.proofs.ZeroedWords.{written_sizes}
 use Rattle.capnp_copy.proofs.RoomLaws.{sizes_grow, still_some}
 use Rattle.capnp_copy_from.specs.Copies.{BecomesCopy}
 use Rattle.capnp_copy_from.specs.Objects.{leaf_value, copied_pointer}
@@ -31,13 +32,10 @@ returns-in-Capability-clause-becomes g c =
     let all = capability_now s u v p i (search rules) c.clear.ensures.clears now in
     subst (λ (o : Object). BecomesCopy 0 s v p (leaf_value o)) (sym c.in-Capability.is) all
 
-pub returns-in-Capability-clause-grows : goal.returns-in-Capability-clause-grows
-returns-in-Capability-clause-grows g c =
-    let s = words_in (g.A.ReaderArena.segments c.args.arena.now) in
+pub returns-in-Capability-clause-sizes : goal.returns-in-Capability-clause-sizes
+returns-in-Capability-clause-sizes g c =
     let u = words_in (g.A.ReaderArena.segments c.clear.new.arena) in
-    let v = words_in (g.A.ReaderArena.segments c.write_word.new.self) in
-    let p = place_view c.args.slot in
-    grows_then s u v (sizes_grow s u c.clear.ensures.sizes) (subst (λ (x : Segments). Grows u x) (sym c.write_word.ensures.words) (splice_grows u p _))
+    ap (λ (x : Segments). map length x) c.write_word.ensures.words ∙ written_sizes u (place_view c.args.slot) _ ∙ c.clear.ensures.sizes
 
 pub returns-in_default : goal.returns-in_default
 returns-in_default g c =
@@ -46,6 +44,6 @@ returns-in_default g c =
     let p = place_view c.args.slot in
     record {
       becomes = leaf_null s u p c.args.object c.requires.leaf c.in_default.not-Capability (null_now s u p c.clear.ensures.clears);
-      grows = sizes_grow s u c.clear.ensures.sizes;
+      sizes = c.clear.ensures.sizes;
       books = c.clear.ensures.books;
     }
