@@ -2,6 +2,7 @@
 #![tactic(auto)]
 
 pub mod copy;
+pub mod defaults;
 mod objects;
 #[cfg(test)]
 mod tests;

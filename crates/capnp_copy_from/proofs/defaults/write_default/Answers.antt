@@ -1,0 +1,34 @@
+-- The default's segment is that of its words.
+use Rattle.std.proofs.Common.{◌≡◌, ◌||◌, not, Bool, true, false, List, refl, ap, sym, ◌∙◌, subst, rules}
+use Rattle.capnp_model.specs.Segments.{Segments, Place, root}
+use Rattle.capnp_units.specs.Segments.{words_in}
+use Rattle.capnp_object.specs.Places.{place_view}
+use Rattle.capnp_wire.specs.Views.{Ground}
+use Rattle.capnp_copy_from.specs.Copies.{CopiesValue}
+use Rattle.capnp_copy_from.specs.Defaults.{default_segments, is_null_at}
+use Rattle.capnp_copy_from.proofs.defaults.write_default.Goals as goal
+
+both : (a b : Bool) → a ≡ true → b ≡ false → (not a || b) ≡ true → ⊥
+both true true e f h = cc
+both true false e f h = cc
+both false b e f h = cc
+
+pub returns-clause-default : goal.returns-clause-default
+returns-clause-default g c =
+    let s : Segments = words_in (g.A.ReaderArena.segments c.args.arena.now) in
+    let u : Segments = words_in (g.A.ReaderArena.segments c.copy_from.new.arena) in
+    let p : Place = place_view c.args.slot in
+    let is = ap (λ (x : Ground). x.segments) c.default_backing-source.ensures in
+    let null_there : c.is_null_at.result ≡ true = search rules in
+    let null_here : is_null_at s p ≡ true = sym c.is_null_at.ensures ∙ null_there in
+    let some_there : c.is_null_at-else-not-is_null_at.result ≡ false = search rules in
+    let some_here : is_null_at (default_segments c.args.default.now) root ≡ false = subst (λ (f : Segments). is_null_at f root ≡ false) is (sym c.is_null_at-else-not-is_null_at.ensures ∙ some_there) in
+    record {
+      written = λ a b. record {
+        old = c.new-limiter.result;
+        new = c.copy_from.new.limiter;
+        endless = c.new-limiter.ensures.limit;
+        copies = subst (λ (f : Segments). CopiesValue 64 f root s u p c.new-limiter.result c.copy_from.result c.copy_from.new.limiter) is c.copy_from.ensures.copy;
+      };
+      kept = λ e. absurd (both (is_null_at s p) (is_null_at (default_segments c.args.default.now) root) null_here some_here e);
+    }

@@ -1,0 +1,29 @@
+-- Defaults that are written in place of null.
+use Rattle.std.specs.Prelude.{◌≡◌, ⊤, ℕ, ◌==◌, Bool, true, false, ◌||◌, not, List, [], ◌∷◌, None, Result, Ok, unwrap_or}
+use Rattle.std.specs.List.{flat_map}
+use Rattle.capnp_model.specs.Segments.{Segments, Place, root, word_at}
+use Rattle.capnp_units.specs.declared.errors.Error.{Error}
+use Rattle.capnp_units.specs.declared.limiter.ReadLimiter.{ReadLimiter}
+use Rattle.capnp_units.specs.Limits.{limit_of}
+use Rattle.capnp_units.specs.Segments.{words_in}
+use Rattle.capnp_copy_from.specs.Copies.{CopiesValue}
+
+-- The one segment that has these words.
+abbrev pub default_segments : List (List ℕ) → Segments
+default_segments words = words_in (flat_map (λ word. word) words ∷ [])
+
+-- Whether the pointer at a place is null, or not there.
+abbrev pub is_null_at : Segments → Place → Bool
+is_null_at s p = unwrap_or (word_at s p) 0 == 0
+
+-- A default's root was copied, under no limit of words.
+pub record CopiesDefault (default s u : Segments) (p : Place) (result : Result ⊤ Error) : Type 0 where
+  pub old : ReadLimiter
+  pub new : ReadLimiter
+  pub endless : limit_of old ≡ None
+  pub copies : CopiesValue 64 default root s u p old result new
+
+-- It was just where there was null, and the default's root isn't; else all stands as it was.
+pub record WritesDefault (default s u : Segments) (p : Place) (result : Result ⊤ Error) : Type 0 where
+  pub written : is_null_at s p ≡ true → is_null_at default root ≡ false → CopiesDefault default s u p result
+  pub kept : (not (is_null_at s p) || is_null_at default root) ≡ true → (u ≡ s) × (result ≡ Ok tt)
