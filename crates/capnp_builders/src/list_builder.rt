@@ -1,5 +1,5 @@
 //! Lists that are built.
-ghost use Rattle.std.specs.Prelude.{◌≡◌, ◌+◌, ◌*◌, ◌<◌, ◌≤◌, ◌^◌, ◌==◌, ℕ};
+ghost use Rattle.std.specs.Prelude.{◌≡◌, ◌+◌, ◌*◌, ◌<◌, ◌≤◌, ◌^◌, ◌==◌, ℕ, length, map};
 ghost use Rattle.capnp_model.specs.Segments.{after};
 ghost use Rattle.capnp_units.specs.Sizes.{size_number};
 ghost use Rattle.std.specs.Borrow.{sem};
@@ -106,6 +106,7 @@ impl<'a, A: BuilderArena> ListBuilder<'a, A> {
         ensures same { self.new.memory.ghost_name ≡ self.old.memory.ghost_name }
         ensures place { self.new.place ≡ self.old.place }
         ensures books { A.books self.new.memory.now.arena ≡ A.books self.old.memory.now.arena }
+        ensures sizes { map length (words_in (A.segments self.new.memory.now.arena)) ≡ map length (words_in (A.segments self.old.memory.now.arena)) }
         ensures sets { SetsElement (words_in (A.segments self.old.memory.now.arena)) (words_in (A.segments self.new.memory.now.arena)) self.old.place index T.width (T.bits value) }
     {
         let place = self.place;

@@ -1,5 +1,5 @@
 //! Structs that are built.
-ghost use Rattle.std.specs.Prelude.{◌≡◌, ◌+◌, ◌*◌, ◌<◌, ◌≤◌, ◌^◌, ◌==◌, ℕ, true, bit_xor};
+ghost use Rattle.std.specs.Prelude.{◌≡◌, ◌+◌, ◌*◌, ◌<◌, ◌≤◌, ◌^◌, ◌==◌, ℕ, true, bit_xor, length, map};
 ghost use Rattle.std.specs.Borrow.{sem};
 ghost use Rattle.std.specs.Option.{is_some};
 ghost use Rattle.capnp_model.specs.Segments.{after, words_at};
@@ -132,6 +132,7 @@ impl<'a, A: BuilderArena> StructBuilder<'a, A> {
         ensures same { self.new.memory.ghost_name ≡ self.old.memory.ghost_name }
         ensures place { self.new.place ≡ self.old.place }
         ensures books { A.books self.new.memory.now.arena ≡ A.books self.old.memory.now.arena }
+        ensures sizes { map length (words_in (A.segments self.new.memory.now.arena)) ≡ map length (words_in (A.segments self.old.memory.now.arena)) }
         ensures sets { SetsBits (words_in (A.segments self.old.memory.now.arena)) (words_in (A.segments self.new.memory.now.arena)) self.old.place (8 * (T.BYTES * offset)) (8 * T.BYTES) (T.bits value) }
     {
         let place = self.place;
@@ -153,6 +154,7 @@ impl<'a, A: BuilderArena> StructBuilder<'a, A> {
         ensures same { self.new.memory.ghost_name ≡ self.old.memory.ghost_name }
         ensures place { self.new.place ≡ self.old.place }
         ensures books { A.books self.new.memory.now.arena ≡ A.books self.old.memory.now.arena }
+        ensures sizes { map length (words_in (A.segments self.new.memory.now.arena)) ≡ map length (words_in (A.segments self.old.memory.now.arena)) }
         ensures sets { SetsBits (words_in (A.segments self.old.memory.now.arena)) (words_in (A.segments self.new.memory.now.arena)) self.old.place (8 * (T.BYTES * offset)) (8 * T.BYTES) (bit_xor (T.bits value) (T.mask_bits mask)) }
     {
         self.set_data_field(offset, T::mask(value, mask));
@@ -166,6 +168,7 @@ impl<'a, A: BuilderArena> StructBuilder<'a, A> {
         ensures same { self.new.memory.ghost_name ≡ self.old.memory.ghost_name }
         ensures place { self.new.place ≡ self.old.place }
         ensures books { A.books self.new.memory.now.arena ≡ A.books self.old.memory.now.arena }
+        ensures sizes { map length (words_in (A.segments self.new.memory.now.arena)) ≡ map length (words_in (A.segments self.old.memory.now.arena)) }
         ensures sets { SetsBits (words_in (A.segments self.old.memory.now.arena)) (words_in (A.segments self.new.memory.now.arena)) self.old.place offset 1 (bit_of_bool value) }
     {
         let place = self.place;
@@ -181,6 +184,7 @@ impl<'a, A: BuilderArena> StructBuilder<'a, A> {
         ensures same { self.new.memory.ghost_name ≡ self.old.memory.ghost_name }
         ensures place { self.new.place ≡ self.old.place }
         ensures books { A.books self.new.memory.now.arena ≡ A.books self.old.memory.now.arena }
+        ensures sizes { map length (words_in (A.segments self.new.memory.now.arena)) ≡ map length (words_in (A.segments self.old.memory.now.arena)) }
         ensures sets { SetsBits (words_in (A.segments self.old.memory.now.arena)) (words_in (A.segments self.new.memory.now.arena)) self.old.place offset 1 (bit_xor (bit_of_bool value) (bit_of_bool mask)) }
     {
         self.set_bool_field(offset, value != mask);

@@ -41,6 +41,9 @@ sizes_grow (ws ∷ s) (vs ∷ u) e zero xs f =
     (vs, refl, omega (arith, same, long))
 sizes_grow (ws ∷ s) (vs ∷ u) e (suc i) xs f = let rest : map length u ≡ map length s = cc in sizes_grow s u rest i xs f
 
+pub words_stay : (s u : Segments) (p : Place) (n : ℕ) → map length u ≡ map length s → is_some (words_at s p n) ≡ true → is_some (words_at u p n) ≡ true
+words_stay s u p n e there = still_some s u p n (sizes_grow s u e) there
+
 pub still_written : (s : Segments) (q p : Place) (vs : List ℕ) (n : ℕ) → is_some (words_at s p n) ≡ true → is_some (words_at (with_words s q vs) p n) ≡ true
 still_written s q p vs n e = still_some s (with_words s q vs) p n (splice_grows s q vs) e
 

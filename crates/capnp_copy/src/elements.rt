@@ -1,5 +1,5 @@
 //! Numbers in lists of plain elements, in place.
-ghost use Rattle.std.specs.Prelude.{◌≡◌, ◌+◌, ◌*◌, ◌/◌, ◌%◌, ◌<◌, ◌≤◌, ◌^◌, ℕ};
+ghost use Rattle.std.specs.Prelude.{◌≡◌, ◌+◌, ◌*◌, ◌/◌, ◌%◌, ◌<◌, ◌≤◌, ◌^◌, ℕ, length, map};
 ghost use Rattle.capnp_model.specs.Trees.{size_bits};
 ghost use Rattle.capnp_units.specs.Segments.{words_in};
 ghost use Rattle.capnp_units.specs.Sizes.{size_number};
@@ -71,6 +71,7 @@ pub fn set_element<A: BuilderArena>(
     requires inside { IsInElement list index width }
     requires fits { value < 2 ^ width }
     ensures sets { SetsElement (words_in (A.segments arena.old)) (words_in (A.segments arena.new)) list index width value }
+    ensures sizes { map length (words_in (A.segments arena.new)) ≡ map length (words_in (A.segments arena.old)) }
     ensures books { A.books arena.new ≡ A.books arena.old }
 {
     if width == 0 {

@@ -1,5 +1,5 @@
 //! Numbers in the data sections of structs, in place.
-ghost use Rattle.std.specs.Prelude.{◌≡◌, ◌+◌, ◌*◌, ◌<◌, ◌≤◌, ◌^◌, ℕ, true};
+ghost use Rattle.std.specs.Prelude.{◌≡◌, ◌+◌, ◌*◌, ◌<◌, ◌≤◌, ◌^◌, ℕ, true, length, map};
 ghost use Rattle.std.specs.Option.{is_some};
 ghost use Rattle.capnp_model.specs.Segments.{words_at};
 ghost use Rattle.capnp_units.specs.Segments.{words_in};
@@ -56,6 +56,7 @@ pub fn set_bits<A: BuilderArena>(
     requires inside { AreInWord object at width }
     requires fits { value < 2 ^ width }
     ensures sets { SetsBits (words_in (A.segments arena.old)) (words_in (A.segments arena.new)) object at width value }
+    ensures sizes { map length (words_in (A.segments arena.new)) ≡ map length (words_in (A.segments arena.old)) }
     ensures books { A.books arena.new ≡ A.books arena.old }
 {
     let place = Place {

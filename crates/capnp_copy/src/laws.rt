@@ -1,6 +1,7 @@
 //! Laws for callers that build, each the contract of a function that does nothing.
-ghost use Rattle.std.specs.Prelude.{◌≡◌, ℕ, suc, ◌<◌, Ok};
-ghost use Rattle.capnp_model.specs.Segments.{Segments, Place, after};
+ghost use Rattle.std.specs.Prelude.{◌≡◌, ℕ, suc, ◌<◌, Ok, length, map, true};
+ghost use Rattle.std.specs.Option.{is_some};
+ghost use Rattle.capnp_model.specs.Segments.{Segments, Place, after, words_at};
 ghost use Rattle.capnp_model.specs.Pointers.{Object, a_struct, Found, found_at};
 ghost use Rattle.capnp_model.specs.Trees.{Tree, structure, Trees, with_child};
 ghost use Rattle.capnp_footprints.specs.Footprints.{Owns};
@@ -17,3 +18,8 @@ pub fn changes_two_pointers_deep()
     objects_of_pointers();
     children_of_structs();
 }
+
+/// What is there stays there where no segment changes its length.
+pub fn words_that_stay()
+    ensures { (s u : Segments) (p : Place) (n : ℕ) → map length u ≡ map length s → is_some (words_at s p n) ≡ true → is_some (words_at u p n) ≡ true }
+{}

@@ -1,4 +1,4 @@
-use Rattle.std.proofs.Common.{◌≡◌, ◌+◌, ◌*◌, ◌/◌, ◌%◌, ◌<◌, ◌^◌, ℕ, [], ◌∷◌, ap, sym, ◌∙◌, subst, arith, rules}
+use Rattle.std.proofs.Common.{◌≡◌, ◌+◌, ◌*◌, ◌/◌, ◌%◌, ◌<◌, ◌^◌, ℕ, [], ◌∷◌, ap, sym, ◌∙◌, subst, arith, rules, length, map}
 use Rattle.std.specs.Option.{is_some}
 use Rattle.capnp_model.specs.Sections.{with_bits}
 use Rattle.capnp_model.specs.Segments.{Segments, after}
@@ -11,6 +11,7 @@ use Rattle.capnp_footprints.specs.Changes.{ReplacesObject}
 use Rattle.capnp_footprints.specs.Writes.{with_words}
 use Rattle.capnp_model.proofs.Locality.{word_is}
 use Rattle.capnp_copy.proofs.ElementLaws.{is_plain, set_plain, no_plain_word, same_list}
+use Rattle.capnp_copy.proofs.ZeroedWords.{written_sizes}
 use Rattle.capnp_copy.proofs.elements.set_element.Goals as goal
 
 pub returns-then-width-eq0-clause-sets : goal.returns-then-width-eq0-clause-sets
@@ -47,3 +48,6 @@ returns-in_default-clause-sets g c = λ n section o.
     let size : ℕ = size_number c.args.list.size in
     let some : 0 < c.args.width = search rules in
     absurd (no_plain_word n (words_in (g.A.ReaderArena.segments c.args.arena.now)) (place_view c.args.list.start) size c.args.list.count (c.bit_of_element-at.result / 64) section (is_plain size c.requires.inside.2) (omega (arith, x.far, some)) o (search rules))
+
+pub returns-in-Some-clause-sizes : goal.returns-in-Some-clause-sizes
+returns-in-Some-clause-sizes g c = ap (λ (x : Segments). map length x) c.write_word.ensures.words ∙ written_sizes (words_in (g.A.ReaderArena.segments c.args.arena.now)) (after (place_view c.args.list.start) (c.bit_of_element-at.result / 64)) (c.word_with-word.result ∷ [])

@@ -1,4 +1,4 @@
-use Rattle.std.proofs.Common.{ℕ, ◌/◌, [], ◌∷◌, ap, sym, ◌∙◌, subst, arith, rules}
+use Rattle.std.proofs.Common.{ℕ, ◌/◌, [], ◌∷◌, ap, sym, ◌∙◌, subst, arith, rules, length, map}
 use Rattle.capnp_model.specs.Sections.{with_bits}
 use Rattle.capnp_model.specs.Segments.{Segments, after}
 use Rattle.capnp_model.specs.Pointers.{a_struct}
@@ -8,6 +8,7 @@ use Rattle.capnp_wire.specs.Places.{place_view}
 use Rattle.capnp_footprints.specs.Changes.{ReplacesObject}
 use Rattle.capnp_footprints.specs.Writes.{with_words}
 use Rattle.capnp_copy.proofs.FieldLaws.{set_field, no_word}
+use Rattle.capnp_copy.proofs.ZeroedWords.{written_sizes}
 use Rattle.capnp_copy.proofs.fields.set_bits.Goals as goal
 
 pub returns-in-Some-clause-sets : goal.returns-in-Some-clause-sets
@@ -23,3 +24,6 @@ pub returns-in_default-clause-sets : goal.returns-in_default-clause-sets
 returns-in_default-clause-sets g c = λ n section kids o.
     let i = c.requires.inside in
     absurd (no_word n (words_in (g.A.ReaderArena.segments c.args.arena.now)) (place_view c.args.object.start) c.args.object.data_words c.args.object.pointers (c.args.at / 64) c.args.object.data_words section kids (omega (arith, i.0, i.2)) o (search rules))
+
+pub returns-in-Some-clause-sizes : goal.returns-in-Some-clause-sizes
+returns-in-Some-clause-sizes g c = ap (λ (x : Segments). map length x) c.write_word.ensures.words ∙ written_sizes (words_in (g.A.ReaderArena.segments c.args.arena.now)) (after (place_view c.args.object.start) (c.args.at / 64)) (c.word_with-word.result ∷ [])
