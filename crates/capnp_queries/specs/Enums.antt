@@ -1,7 +1,7 @@
 -- What contracts see of enums and enumerants.
-use Rattle.std.specs.Prelude.{ℕ, ◌≡◌, ◌≤◌, ◌&&◌, Bool, true, Option, Some, None, List, [], length, slice_get}
+use Rattle.std.specs.Prelude.{ℕ, ◌≡◌, ◌≤◌, ◌&&◌, Bool, true, Option, Some, None, option_map, List, [], length, slice_get}
 use Rattle.std.specs.List.{list_all}
-use Rattle.capnp_model.specs.Schemas.{Enumerant as EnumerantNode, Node}
+use Rattle.capnp_model.specs.Schemas.{Annotation, Enumerant as EnumerantNode, Node}
 use Rattle.capnp_records.specs.Sets.{nodes_of, enumerants_found}
 use Rattle.capnp_queries.specs.Fields.{are_named, are_few}
 use Rattle.capnp_queries.specs.declared.enums.EnumSchema.{EnumSchema}
@@ -17,6 +17,10 @@ enum_id e = e.raw.id
 -- The enumerants as the node says them.
 abbrev pub enumerants_recorded : EnumSchema → List EnumerantNode
 enumerants_recorded e = elim (enumerants_found (nodes_of_enum e) (enum_id e)) [ None ↦ [] | Some es ↦ es ]
+
+-- The annotations of the enumerant of an ordinal as the node says them.
+abbrev pub enumerant_annotations : EnumSchema → ℕ → Option (List Annotation)
+enumerant_annotations e i = option_map (λ x. x.annotations) (slice_get (enumerants_recorded e) i)
 
 -- How many enumerants there are.
 abbrev pub enumerant_count : EnumSchema → ℕ

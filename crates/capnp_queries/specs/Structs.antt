@@ -1,12 +1,12 @@
 -- What contracts see of the schema of a struct or a group.
-use Rattle.std.specs.Prelude.{ℕ, ◌≡◌, ◌≤◌, ◌<◌, nat_lt, slice_index, true, Option, Some, None, List, [], length, slice_get}
+use Rattle.std.specs.Prelude.{ℕ, ◌≡◌, ◌≤◌, ◌<◌, nat_lt, slice_index, true, Option, Some, None, option_map, List, [], length, slice_get}
 use Rattle.std.specs.List.{list_all}
 use Rattle.capnp_model.specs.Schemas.{Annotation, Field as FieldNode, StructNode, Node, Shape, shape, Fields, Schema}
 use Rattle.capnp_model.specs.Printing.{fields_in}
 use Rattle.capnp_model.specs.Accepted.{find_node, union_place, fields_from, schema_of}
 use Rattle.capnp_records.specs.Sets.{nodes_of, struct_found}
 use Rattle.capnp_records.specs.declared.tables.FieldTables.{FieldTables}
-use Rattle.capnp_queries.specs.Fields.{field_count, place_of_member, member_count, others_at, is_named}
+use Rattle.capnp_queries.specs.Fields.{field_count, place_of_name, place_of_member, member_count, others_at, is_named}
 use Rattle.capnp_queries.specs.declared.structs.StructSchema.{StructSchema}
 
 -- The nodes of the struct's set.
@@ -40,6 +40,18 @@ annotations_found nodes id = elim (find_node nodes id) [ None ↦ [] | Some n �
 -- The annotations of the struct as the node says them.
 abbrev pub annotations_recorded : StructSchema → List Annotation
 annotations_recorded s = annotations_found (nodes_around s) (id_of s)
+
+-- The annotations of the field of an index as the node says them.
+abbrev pub field_annotations : StructSchema → ℕ → Option (List Annotation)
+field_annotations s i = option_map (λ f. f.annotations) (slice_get (fields_recorded s) i)
+
+-- The index of the first field of a name.
+abbrev pub index_named : StructSchema → List ℕ → Option ℕ
+index_named s name = place_of_name name (fields_of_struct s)
+
+-- The index of the union's member of a value.
+abbrev pub index_of_member : StructSchema → ℕ → Option ℕ
+index_of_member s d = place_of_member d (fields_of_struct s)
 
 -- What a node says of the struct or the group of an id, in nodes that are accepted.
 pub record IsRecordOf (nodes : List Node) (id : ℕ) (r : StructNode) : Type 0 where

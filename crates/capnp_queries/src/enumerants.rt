@@ -23,10 +23,10 @@ pub struct Enumerant<'a> {
 }
 
 impl<'a> Enumerant<'a> {
-    ghost use Rattle.std.specs.Prelude.{◌≡◌, ◌<◌, map, slice_get, Some, option_map, IsOkAnd};
-    ghost use Rattle.capnp_records.specs.NodeViews.{annotation_of, enumerant_of};
-    ghost use Rattle.capnp_records.specs.Sets.{nodes_of};
-    ghost use Rattle.capnp_queries.specs.Enums.{nodes_of_enum, enumerants_recorded, enumerant_count, IsEnumerantRecord};
+    ghost use Rattle.std.specs.Prelude.{◌≡◌, ◌<◌, IsOkAnd};
+    ghost use Rattle.capnp_records.specs.NodeViews.{enumerant_of};
+    ghost use Rattle.capnp_queries.specs.Enums.{nodes_of_enum, enumerant_annotations, enumerant_count, IsEnumerantRecord};
+    ghost use Rattle.capnp_queries.specs.Annotations.{AreAnnotationsOf};
 
     pub(crate) fn new(parent: EnumSchema<'a>, ordinal: u16) -> Enumerant<'a>
         requires { ordinal < enumerant_count parent }
@@ -59,7 +59,7 @@ impl<'a> Enumerant<'a> {
 
     /// The annotations of the enumerant.
     pub fn get_annotations(self) -> Result<AnnotationList<'a>>
-        ensures { IsOkAnd result (λ list. (nodes_of list.set.now ≡ nodes_of_enum self.entry.parent) × (Some (map annotation_of list.annotations.now) ≡ option_map (λ e. e.annotations) (slice_get (enumerants_recorded self.entry.parent) self.entry.ordinal))) }
+        ensures { let e = self.entry.parent in IsOkAnd result (AreAnnotationsOf (nodes_of_enum e) (enumerant_annotations e self.entry.ordinal)) }
     {
         let set = self.parent.set();
         Ok(AnnotationList::new(set, &self.get_proto().annotations))

@@ -26,10 +26,11 @@ pub struct EnumSchema<'a> {
 impl<'a> EnumSchema<'a> {
     ghost use Rattle.std.specs.Prelude.{◌≡◌, map, Some, IsOkAnd};
     ghost use Rattle.capnp_model.specs.Accepted.{find_node};
-    ghost use Rattle.capnp_records.specs.NodeViews.{annotation_of, enumerant_of, node_of};
+    ghost use Rattle.capnp_records.specs.NodeViews.{enumerant_of, node_of};
     ghost use Rattle.capnp_records.specs.Sets.{nodes_of, IsEnumOf, enumerants_found};
     ghost use Rattle.capnp_queries.specs.Structs.{annotations_found};
     ghost use Rattle.capnp_queries.specs.Enums.{nodes_of_enum, enum_id, AreEnumerantsOf};
+    ghost use Rattle.capnp_queries.specs.Annotations.{AreAnnotations};
 
     /// The schema of an enum of the set.
     pub fn new(set: &'a SchemaSet, raw: RawEnumSchema) -> EnumSchema<'a>
@@ -76,7 +77,7 @@ impl<'a> EnumSchema<'a> {
 
     /// The annotations of the enum.
     pub fn get_annotations(self) -> Result<AnnotationList<'a>>
-        ensures { IsOkAnd result (λ list. (nodes_of list.set.now ≡ nodes_of_enum self.entry) × (map annotation_of list.annotations.now ≡ annotations_found (nodes_of_enum self.entry) (enum_id self.entry))) }
+        ensures { let e = self.entry in IsOkAnd result (AreAnnotations (nodes_of_enum e) (annotations_found (nodes_of_enum e) (enum_id e))) }
     {
         Ok(AnnotationList::new(self.set, &self.set.enum_node(self.raw).annotations))
     }

@@ -27,12 +27,12 @@ pub struct Field<'a> {
 }
 
 impl<'a> Field<'a> {
-    ghost use Rattle.std.specs.Prelude.{◌≡◌, ◌<◌, true, map, slice_get, Some, option_map, IsOkAnd};
-    ghost use Rattle.capnp_records.specs.NodeViews.{annotation_of, field_of};
-    ghost use Rattle.capnp_records.specs.Sets.{nodes_of};
+    ghost use Rattle.std.specs.Prelude.{◌≡◌, ◌<◌, true, Some, option_map, IsOkAnd};
+    ghost use Rattle.capnp_records.specs.NodeViews.{field_of};
     ghost use Rattle.capnp_queries.specs.Types.{ty_of, is_type_of};
     ghost use Rattle.capnp_queries.specs.Fields.{field_count, type_of_body};
-    ghost use Rattle.capnp_queries.specs.Structs.{nodes_around, fields_of_struct, fields_recorded};
+    ghost use Rattle.capnp_queries.specs.Structs.{nodes_around, fields_of_struct, field_annotations};
+    ghost use Rattle.capnp_queries.specs.Annotations.{AreAnnotationsOf};
     ghost use Rattle.capnp_queries.specs.Handles.{entry_of, IsFieldRecord, body_of_place, IsPlaceIn};
 
     pub(crate) fn new(parent: StructSchema<'a>, index: u16) -> Field<'a>
@@ -78,7 +78,7 @@ impl<'a> Field<'a> {
 
     /// The annotations of the field.
     pub fn get_annotations(self) -> Result<AnnotationList<'a>>
-        ensures { IsOkAnd result (λ list. (nodes_of list.set.now ≡ nodes_around self.entry.parent) × (Some (map annotation_of list.annotations.now) ≡ option_map (λ f. f.annotations) (slice_get (fields_recorded self.entry.parent) self.entry.index))) }
+        ensures { let s = self.entry.parent in IsOkAnd result (AreAnnotationsOf (nodes_around s) (field_annotations s self.entry.index)) }
     {
         let set = self.parent.set();
         Ok(AnnotationList::new(set, &self.get_proto().annotations))

@@ -29,13 +29,14 @@ pub struct StructSchema<'a> {
 }
 
 impl<'a> StructSchema<'a> {
-    ghost use Rattle.std.specs.Prelude.{◌≡◌, ◌*◌, map, Some, None, option_map, IsOkAnd, IfOk, IfErr};
+    ghost use Rattle.std.specs.Prelude.{◌≡◌, ◌*◌, Some, None, option_map, IsOkAnd, IfOk, IfErr};
     ghost use Rattle.capnp_model.specs.Accepted.{find_node};
     ghost use Rattle.capnp_units.specs.declared.kinds.ErrorKind.TheVariants.{FieldNotFound};
-    ghost use Rattle.capnp_records.specs.NodeViews.{annotation_of, node_of, struct_of};
+    ghost use Rattle.capnp_records.specs.NodeViews.{node_of, struct_of};
     ghost use Rattle.capnp_records.specs.Sets.{nodes_of, IsNodeOf};
-    ghost use Rattle.capnp_queries.specs.Fields.{union_in, place_of_member, place_of_name};
-    ghost use Rattle.capnp_queries.specs.Structs.{nodes_around, id_of, shape_of_struct, fields_of_struct, annotations_recorded, IsRecordOf, IsTabled};
+    ghost use Rattle.capnp_queries.specs.Fields.{union_in};
+    ghost use Rattle.capnp_queries.specs.Structs.{nodes_around, id_of, shape_of_struct, fields_of_struct, annotations_recorded, index_named, index_of_member, IsRecordOf, IsTabled};
+    ghost use Rattle.capnp_queries.specs.Annotations.{AreAnnotations};
     ghost use Rattle.capnp_queries.specs.Handles.{IsFieldAt, AreMembers, AreOthers};
 
     /// The schema of a struct or a group of the set.
@@ -102,7 +103,7 @@ impl<'a> StructSchema<'a> {
 
     /// The field that is the union's member of a discriminant.
     pub fn get_field_by_discriminant(self, discriminant: u16) -> Result<Option<Field<'a>>>
-        ensures { IsOkAnd result (λ found. IsFieldAt self.entry (place_of_member discriminant (fields_of_struct self.entry)) found) }
+        ensures { IsOkAnd result (λ found. IsFieldAt self.entry (index_of_member self.entry discriminant) found) }
     {
         let members = self.tables().members.as_slice();
         if discriminant as usize >= members.len() {
@@ -129,7 +130,7 @@ impl<'a> StructSchema<'a> {
     }
 
     fn find(self, name: &str) -> Option<Field<'a>>
-        ensures { IsFieldAt self.entry (place_of_name name.now (fields_of_struct self.entry)) result }
+        ensures { IsFieldAt self.entry (index_named self.entry name.now) result }
     {
         match place_of(&self.record().fields, name) {
             None => None,
@@ -139,15 +140,15 @@ impl<'a> StructSchema<'a> {
 
     /// The field of a name.
     pub fn find_field_by_name(&self, name: &str) -> Result<Option<Field<'a>>>
-        ensures { IsOkAnd result (λ found. IsFieldAt self.now (place_of_name name.now (fields_of_struct self.now)) found) }
+        ensures { IsOkAnd result (λ found. IsFieldAt self.now (index_named self.now name.now) found) }
     {
         Ok(self.find(name))
     }
 
     /// The field of a name. A name that the struct lacks is refused by `FieldNotFound`.
     pub fn get_field_by_name(&self, name: &str) -> Result<Field<'a>>
-        ensures found { IfOk result (λ field. IsFieldAt self.now (place_of_name name.now (fields_of_struct self.now)) (Some field)) }
-        ensures missing { IfErr result (λ e. (e.kind ≡ FieldNotFound) × (place_of_name name.now (fields_of_struct self.now) ≡ None)) }
+        ensures found { IfOk result (λ field. IsFieldAt self.now (index_named self.now name.now) (Some field)) }
+        ensures missing { IfErr result (λ e. (e.kind ≡ FieldNotFound) × (index_named self.now name.now ≡ None)) }
     {
         match self.find(name) {
             Some(field) => Ok(field),
@@ -157,7 +158,7 @@ impl<'a> StructSchema<'a> {
 
     /// The annotations of the struct.
     pub fn get_annotations(self) -> Result<AnnotationList<'a>>
-        ensures { IsOkAnd result (λ list. (nodes_of list.set.now ≡ nodes_around self.entry) × (map annotation_of list.annotations.now ≡ annotations_recorded self.entry)) }
+        ensures { IsOkAnd result (AreAnnotations (nodes_around self.entry) (annotations_recorded self.entry)) }
     {
         Ok(AnnotationList::new(self.set, &self.set.struct_node(self.raw).annotations))
     }
