@@ -93,6 +93,9 @@ joined (suc n) bs h =
     let less : length (drop 8 bs) ≡ 8 * n = omega (arith, length-drop 8 bs) in
     ap (λ (x : List ℕ). take 8 bs ++ x) (joined n (drop 8 bs) less) ∙ take-append-drop 8 bs
 
+pub null_leads : Leads 64 null_default null
+null_leads = record { left = 64; levels = refl; enough = omega arith; tree = null_tree 64 (words_in (replicate 8 0 ∷ [])) root (word_null (words_in (replicate 8 0 ∷ [])) root refl) }
+
 module _ (bs : List ℕ) (t : Tree) (is : Encoded bs t) where
   default_words : PointerView
   default_words = default_root (first_chunks 8 (length bs / 8) bs) (Some 64)
@@ -106,9 +109,6 @@ module _ (bs : List ℕ) (t : Tree) (is : Encoded bs t) where
   unfolding default_words
   words_lead = record { left = 64; levels = refl; enough = omega arith; tree = ap (λ (x : List ℕ). tree_at 64 (words_in (x ∷ [])) root) same_words ∙ is.tree }
 
-  null_leads : Leads 64 null_default null
-  null_leads = record { left = 64; levels = refl; enough = omega arith; tree = null_tree 64 (words_in (replicate 8 0 ∷ [])) root (word_null (words_in (replicate 8 0 ∷ [])) root refl) }
-
   -- a default's pointer leads to its value, with 64 levels
   default_leads : Leads 64 (default_pointer bs) t
   unfolding default_words
@@ -121,7 +121,7 @@ module _ (bs : List ℕ) (t : Tree) (is : Encoded bs t) where
 -- ---- each default
 
 module _ (pointers : PointersAreRead) (s : Schema) where
-  segment_read : (test : Tree → Bool) (ty : Ty) (bs : List ℕ) → IsPointerType ty → is_good_segment test bs ≡ true → Answers s (opened s ty (default_pointer bs)) (or_empty s ty (read s (default_or_null (decode bs)) ty))
+  pub segment_read : (test : Tree → Bool) (ty : Ty) (bs : List ℕ) → IsPointerType ty → is_good_segment test bs ≡ true → Answers s (opened s ty (default_pointer bs)) (or_empty s ty (read s (default_or_null (decode bs)) ty))
   segment_read test ty bs pointer good =
       let d = decoded test bs good in
       let P : Option Tree → Type 0 = λ o. Answers s (opened s ty (default_pointer bs)) (or_empty s ty (read s (default_or_null o) ty)) in

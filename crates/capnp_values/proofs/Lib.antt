@@ -15,3 +15,4 @@ pub mod RecordReadings
 pub mod TextLemmas
 pub mod TwoBlanks
 pub mod Unlimited
+pub mod ValueReadings

@@ -1,6 +1,7 @@
 //! Laws of what is shown, each the contract of an empty function: a call of it brings its clauses.
 ghost use Rattle.capnp_values.specs.Records.{FieldsOfRecords, MembersOfRecords};
 ghost use Rattle.capnp_values.specs.Standing.{PointersAreRead, FieldsAreRead, ElementsAreRead, DiscriminantsAreRead, NullsAreRead};
+ghost use Rattle.capnp_values.specs.ValuesShown.{ValuesAreRead};
 
 use capnp_wire::laws::{gets_are_readings, values_by_levels};
 
@@ -40,6 +41,13 @@ pub fn nulls_are_read()
 pub fn records_are_read()
     ensures fields { FieldsOfRecords }
     ensures members { MembersOfRecords }
+{
+    pointers_are_read();
+}
+
+/// What a value of a node record shows under a type of its sort, as `dynamic_value::Reader::new` reads it, is what the model reads of it: a number, a text or data as they stand, a struct or a list by the value that its bytes hold, which is canonical as the schema rules ask of annotations and defaults, an untyped one as null.
+pub fn values_are_read()
+    ensures { ValuesAreRead }
 {
     pointers_are_read();
 }
