@@ -1,5 +1,4 @@
 mod Digits
-mod Keeping
 pub mod MadeCalls
 pub mod AskedExamples
 pub mod Asking

@@ -14,13 +14,13 @@ use Rattle.capnp_relay.specs.Run.{Relays}
 use Rattle.capnp_relay.specs.Streams.{Streams}
 use Rattle.capnp_program.specs.declared.settings.Settings.{Settings}
 use Rattle.capnp_program.specs.Settings.{asked_of}
-use Rattle.capnp_program.specs.Program.{Flushes, fault_behind, Runs}
+use Rattle.capnp_program.specs.Program.{Seen, Flushes, fault_behind, Runs}
 use Rattle.capnp_program.proofs.Asking.{relay_asks}
 
-pub ran : (root : StructSchema) (calls : List Call) (s : Settings) (out_grows log_grows : Type 0) (old mid new : Streams) (result : Result Counts RelayFault) (out log : Result (Unit {0}) Error) (fault : Option Fault)
+pub ran : (root : StructSchema) (calls : List Call) (s : Settings) (out_grows log_grows : Type 0) (old : Seen) (mid : Streams) (new : Seen) (result : Result Counts RelayFault) (out log : Result (Unit {0}) Error) (fault : Option Fault)
     → nodes_around root ≡ nodes_of s.set → id_of root ≡ s.root.id → calls ≡ s.calls.items
-    → Relays (relay_work root calls s.options out_grows log_grows) old mid result → new.source ≡ mid.source
-    → Flushes mid.out out new.out → Flushes mid.log log new.log → fault ≡ fault_behind result out log
+    → Relays (relay_work root calls s.options out_grows log_grows) old.streams mid result → new.streams.source ≡ mid.source
+    → Flushes mid.out out new.streams.out new.out_held → Flushes mid.log log new.streams.log new.log_held → fault ≡ fault_behind result out log
     → Runs (asked_of s) out_grows log_grows old new fault
 ran root calls s out_grows log_grows old mid new result out log fault nodes id same relays source flushed_out flushed_log behind = record {
   root = root;

@@ -1,5 +1,5 @@
 -- What the program does to its streams.
-use Rattle.std.specs.Prelude.{◌≡◌, ℕ, ◌≤◌, Bool, true, false, Some, None, List, Ok, Err, ◌⊎◌, IfErr}
+use Rattle.std.specs.Prelude.{◌≡◌, ℕ, ◌≤◌, Bool, true, false, Some, None, List, [], Ok, Err, ◌⊎◌, IfErr, OnOk}
 use Rattle.std.specs.declared.option.Option.{Option}
 use Rattle.std.specs.declared.result.Result.{Result}
 use Rattle.std.specs.Io.KnownBytes.{Keeps}
@@ -23,11 +23,22 @@ use Rattle.capnp_program.specs.Arguments.{is_help}
 use Rattle.capnp_program.specs.Asked.{Request, Asked, asked, IsRefused, asked_by}
 use Rattle.capnp_program.specs.Lines.{line_of}
 
+-- What is seen of the source, the output and the log, and the bytes that the output and the log hold back.
+pub record Seen : Type 0 where
+  pub streams : Streams
+  pub out_held : List ℕ
+  pub log_held : List ℕ
+
+-- The same, one after the other.
+abbrev pub seen : Streams → List ℕ → List ℕ → Seen
+seen streams out_held log_held = record { streams = streams; out_held = out_held; log_held = log_held }
+
 -- ---- the run
 
--- A sink was flushed: it keeps its bytes, and a refusal is a failure of its device.
-pub record Flushes (old : SinkSeen) (result : Result (Unit {0}) Error) (new : SinkSeen) : Type 0 where
+-- A sink was flushed: it keeps its bytes and holds none back, or its device failed.
+pub record Flushes (old : SinkSeen) (result : Result (Unit {0}) Error) (new : SinkSeen) (held : List ℕ) : Type 0 where
   pub kept : Keeps old.contents new.contents
+  pub empty : OnOk result (held ≡ [])
   pub refusal : IfErr result (λ e. e.kind ≡ Device)
   pub count : CountsFailures result old.failures new.failures
 
@@ -39,54 +50,55 @@ fault_behind (Ok counts) (Ok done) (Err e) = Some faults.Log
 fault_behind (Ok counts) (Ok done) (Ok gone) = None
 
 -- The relay that is asked for ran, and then both sinks were flushed.
-pub record Runs (a : Asked) (out_grows log_grows : Type 0) (old new : Streams) (fault : Option Fault) : Type 0 where
+pub record Runs (a : Asked) (out_grows log_grows : Type 0) (old new : Seen) (fault : Option Fault) : Type 0 where
   pub root : StructSchema
   pub calls : List Call
   pub options : RelayOptions
   pub asks : asked_by root calls options ≡ a
   pub result : Result Counts RelayFault
   pub mid : Streams
-  pub relays : Relays (relay_work root calls options out_grows log_grows) old mid result
-  pub source : new.source ≡ mid.source
+  pub relays : Relays (relay_work root calls options out_grows log_grows) old.streams mid result
+  pub source : new.streams.source ≡ mid.source
   pub out_flushed : Result (Unit {0}) Error
-  pub out : Flushes mid.out out_flushed new.out
+  pub out : Flushes mid.out out_flushed new.streams.out new.out_held
   pub log_flushed : Result (Unit {0}) Error
-  pub log : Flushes mid.log log_flushed new.log
+  pub log : Flushes mid.log log_flushed new.streams.log new.log_held
   pub is_fault : fault ≡ fault_behind result out_flushed log_flushed
 
 -- The run that is asked for, to its end or to a fault of its own; or none, and then the streams are as they were.
-abbrev pub RelaysAll : Request → Type 0 → Type 0 → Streams → Streams → Result (Unit {0}) Stop → Type 0
+abbrev pub RelaysAll : Request → Type 0 → Type 0 → Seen → Seen → Result (Unit {0}) Stop → Type 0
 RelaysAll r out_grows log_grows old new (Ok done) = (a : Asked) × (asked r ≡ Ok a) × Runs a out_grows log_grows old new None
 RelaysAll r out_grows log_grows old new (Err e) = (IsRefused r e × (new ≡ old))
     ⊎ ((a : Asked) × (fault : Fault) × (asked r ≡ Ok a) × (e ≡ stop.Relay fault) × Runs a out_grows log_grows old new (Some fault))
 
 -- ---- what is told
 
--- A sink was given a text, which it took or refused, and may have been flushed.
-abbrev pub Told : Type 0 → List ℕ → SinkSeen → SinkSeen → Type 0
-Told grows text old new = (result : Result (Unit {0}) Error) × (mid : SinkSeen) × Writes grows text old result mid × Keeps mid.contents new.contents
+-- A sink was given a text, which it took or refused, and was flushed.
+abbrev pub Told : Type 0 → List ℕ → SinkSeen → SinkSeen → List ℕ → Type 0
+Told grows text old new held = (written flushed : Result (Unit {0}) Error) × (mid : SinkSeen) × Writes grows text old written mid × Flushes mid flushed new held
 
 -- The log was given the line of the fault, or of want of memory.
-abbrev pub ToldFault : Type 0 → Stop → SinkSeen → SinkSeen → Type 0
-ToldFault grows e old new = Told grows (line_of e) old new ⊎ Told grows (line_of (stop.Relay faults.Memory)) old new
+abbrev pub ToldFault : Type 0 → Stop → SinkSeen → SinkSeen → List ℕ → Type 0
+ToldFault grows e old new held = Told grows (line_of e) old new held ⊎ Told grows (line_of (stop.Relay faults.Memory)) old new held
 
 -- The fault of the words that ask for the usage, which the output was given, and of the other words.
-abbrev pub Meets : Bool → Request → Type 0 → Type 0 → Streams → Streams → Stop → Type 0
-Meets true r out_grows log_grows old new e = (e ≡ stop.Arguments) × (new.source ≡ old.source) × (new.log ≡ old.log)
-    × ((usage : List ℕ) × Told out_grows usage old.out new.out)
+abbrev pub Meets : Bool → Request → Type 0 → Type 0 → Seen → Seen → Stop → Type 0
+Meets true r out_grows log_grows old new e = (e ≡ stop.Arguments) × (new.streams.source ≡ old.streams.source) × (new.streams.log ≡ old.streams.log)
+    × ((usage : List ℕ) × Told out_grows usage old.streams.out new.streams.out new.out_held)
 Meets false r out_grows log_grows old new e = RelaysAll r out_grows log_grows old new (Err e)
 
 -- A fault was met, and then told on the log.
-pub record TellsFault (r : Request) (out_grows log_grows : Type 0) (old new : Streams) : Type 0 where
+pub record TellsFault (r : Request) (out_grows log_grows : Type 0) (old new : Seen) : Type 0 where
   pub stop : Stop
-  pub mid : Streams
+  pub mid : Seen
   pub meets : Meets (is_help r.words) r out_grows log_grows old mid stop
-  pub source : new.source ≡ mid.source
-  pub out : new.out ≡ mid.out
-  pub told : ToldFault log_grows stop mid.log new.log
+  pub source : new.streams.source ≡ mid.streams.source
+  pub out : new.streams.out ≡ mid.streams.out
+  pub out_held : new.out_held ≡ mid.out_held
+  pub told : ToldFault log_grows stop mid.streams.log new.streams.log new.log_held
 
 -- How the program ends, by its status.
-pub record Ends (r : Request) (out_grows log_grows : Type 0) (old new : Streams) (status : ℕ) : Type 0 where
+pub record Ends (r : Request) (out_grows log_grows : Type 0) (old new : Seen) (status : ℕ) : Type 0 where
   pub either : status ≤ 1
   pub done : status ≡ 0 → RelaysAll r out_grows log_grows old new (Ok tt)
   pub fault : status ≡ 1 → TellsFault r out_grows log_grows old new

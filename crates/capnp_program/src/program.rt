@@ -3,7 +3,7 @@ ghost use Rattle.std.specs.Prelude.{◌≡◌, [], map, string_bytes};
 ghost use Rattle.std.specs.Option.{option_copied};
 ghost use Rattle.capnp_relay.specs.Streams.{source_seen, sink_seen, streams};
 ghost use Rattle.capnp_program.specs.Asked.{request};
-ghost use Rattle.capnp_program.specs.Program.{Told, ToldFault, Ends};
+ghost use Rattle.capnp_program.specs.Program.{seen, Told, ToldFault, Ends};
 
 use crate::arguments::asks_for_help;
 use crate::lines::fault_line;
@@ -14,23 +14,22 @@ use crate::usage::USAGE;
 use capnp_stream::traits::BufRead;
 use std::alloc::Global;
 
-/// Writes a text and hands it on; it is given up where the sink refuses it.
+/// Writes a text and hands on what the sink holds; what it refuses is given up.
 fn put<L: Flush>(sink: &mut L, text: &[u8])
     ensures { Told L.may_grow text.now
         (sink_seen L.contents L.failures L.room sink.old)
-        (sink_seen L.contents L.failures L.room sink.new) }
+        (sink_seen L.contents L.failures L.room sink.new) (L.held sink.new) }
 {
-    if sink.write_all(text).is_ok() {
-        // A sink that fails now has nowhere to say so.
-        let _flushed = sink.flush();
-    }
+    // A sink that fails now has nowhere to say so.
+    let _written = sink.write_all(text);
+    let _flushed = sink.flush();
 }
 
 /// Writes the line of a fault behind the log, and gives it up where the log takes none.
 fn put_fault<L: Flush>(alloc: Global, log: &mut L, stop: Stop)
     ensures { ToldFault L.may_grow stop
         (sink_seen L.contents L.failures L.room log.old)
-        (sink_seen L.contents L.failures L.room log.new) }
+        (sink_seen L.contents L.failures L.room log.new) (L.held log.new) }
 {
     match fault_line(alloc, stop) {
         Ok(line) => put(log, &line),
@@ -57,12 +56,12 @@ pub fn program<R: BufRead, W: Flush, L: Flush>(
 ) -> u8
     ensures ends { Ends (request (map string_bytes words.now) (option_copied schema.entry)
         (option_copied calls.entry)) W.may_grow L.may_grow
-        (streams (source_seen R.remaining R.failures source.old)
+        (seen (streams (source_seen R.remaining R.failures source.old)
         (sink_seen W.contents W.failures W.room out.old)
-        (sink_seen L.contents L.failures L.room log.old))
-        (streams (source_seen R.remaining R.failures source.new)
+        (sink_seen L.contents L.failures L.room log.old)) (W.held out.old) (L.held log.old))
+        (seen (streams (source_seen R.remaining R.failures source.new)
         (sink_seen W.contents W.failures W.room out.new)
-        (sink_seen L.contents L.failures L.room log.new)) result }
+        (sink_seen L.contents L.failures L.room log.new)) (W.held out.new) (L.held log.new)) result }
     ensures held { result ≡ 0 → (W.held out.new ≡ []) × (L.held log.new ≡ []) }
 {
     if asks_for_help(words) {

@@ -3,7 +3,7 @@ ghost use Rattle.std.specs.Prelude.{◌≡◌, [], map, string_bytes, OnOk};
 ghost use Rattle.std.specs.Option.{option_copied};
 ghost use Rattle.capnp_relay.specs.Streams.{source_seen, sink_seen, streams};
 ghost use Rattle.capnp_program.specs.Asked.{request};
-ghost use Rattle.capnp_program.specs.Program.{RelaysAll};
+ghost use Rattle.capnp_program.specs.Program.{seen, RelaysAll};
 
 use crate::settings::Settings;
 use crate::sinks::Flush;
@@ -25,12 +25,12 @@ pub(crate) fn relay_all<R: BufRead, W: Flush, L: Flush>(
 ) -> Result<(), Stop>
     ensures run { RelaysAll (request (map string_bytes words.now) (option_copied schema.entry)
         (option_copied calls.entry)) W.may_grow L.may_grow
-        (streams (source_seen R.remaining R.failures source.old)
+        (seen (streams (source_seen R.remaining R.failures source.old)
         (sink_seen W.contents W.failures W.room out.old)
-        (sink_seen L.contents L.failures L.room log.old))
-        (streams (source_seen R.remaining R.failures source.new)
+        (sink_seen L.contents L.failures L.room log.old)) (W.held out.old) (L.held log.old))
+        (seen (streams (source_seen R.remaining R.failures source.new)
         (sink_seen W.contents W.failures W.room out.new)
-        (sink_seen L.contents L.failures L.room log.new)) result }
+        (sink_seen L.contents L.failures L.room log.new)) (W.held out.new) (L.held log.new)) result }
     ensures held { OnOk result ((W.held out.new ≡ []) × (L.held log.new ≡ [])) }
 {
     let settings = Settings::new(alloc, words, schema, calls)?;
