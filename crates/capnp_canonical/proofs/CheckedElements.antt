@@ -1,5 +1,5 @@
 -- The elements of a list of structs, checked one after the other.
-use Rattle.std.proofs.Common.{◌≡◌, ℕ, zero, suc, ◌+◌, ◌-◌, ◌*◌, ◌^◌, ◌<◌, ◌≤◌, ◌||◌, false, List, length, drop, take, Option, Some, Result, Ok, Err, refl, ap, sym, ◌∙◌, subst, arith}
+use Rattle.std.proofs.Common.{◌≡◌, ℕ, zero, suc, ◌+◌, ◌-◌, ◌*◌, ◌<◌, ◌≤◌, ◌||◌, false, List, length, drop, take, Option, Some, refl, ap, sym, ◌∙◌, subst, arith}
 use Rattle.capnp_model.specs.Sections.{words_of, section_of}
 use Rattle.capnp_model.specs.Segments.{Segments, Place, place, after}
 use Rattle.capnp_model.specs.Trees.{Trees, Elements, no_elements, element, has_capability, have_capability, elements_have_capability, tree_count, element_count}

@@ -1,12 +1,12 @@
 -- Pointers in a row, checked one after the other.
-use Rattle.std.proofs.Common.{◌≡◌, ℕ, suc, ◌+◌, ◌-◌, ◌^◌, ◌<◌, ◌≤◌, ◌||◌, true, false, List, length, Option, Some, Result, Ok, Err, refl, ap, sym, ◌∙◌, subst, arith}
+use Rattle.std.proofs.Common.{◌≡◌, ℕ, ◌+◌, ◌-◌, ◌^◌, ◌<◌, ◌≤◌, ◌||◌, true, false, List, length, Some, refl, ap, sym, ◌∙◌, subst, arith}
 use Rattle.std.specs.Option.{is_some}
 use Rattle.capnp_model.specs.Segments.{Segments, Place, place, after, words_at}
-use Rattle.capnp_model.specs.Trees.{Tree, Trees, none, ◌▸◌, tree_count, has_capability, have_capability}
+use Rattle.capnp_model.specs.Trees.{Tree, Trees, none, ◌▸◌, has_capability, have_capability}
 use Rattle.capnp_model.specs.Traversal.{tree_at, each}
 use Rattle.capnp_model.specs.Trimming.{trim, trim_each}
 use Rattle.capnp_model.specs.Coverage.{from_each}
-use Rattle.capnp_model.specs.Visits.{Visit, visits}
+use Rattle.capnp_model.specs.Visits.{visits}
 use Rattle.capnp_model.specs.Encoding.{body}
 use Rattle.capnp_model.proofs.Chaining.{bind_some, some_is}
 use Rattle.capnp_model.proofs.TrimFits.{count-trim_each}
@@ -16,7 +16,7 @@ use Rattle.capnp_object.specs.Objects.{AreThere}
 use Rattle.capnp_object.specs.Walks.{Stopped}
 use Rattle.capnp_object.proofs.Rows.{row_start, row_end, met_next, each_next, each_count}
 use Rattle.capnp_canonical.specs.Standing.{Stands, StandEach, IsSmall, HasHead}
-use Rattle.capnp_canonical.specs.Checks.{Agrees, Differs, Tests}
+use Rattle.capnp_canonical.specs.Checks.{Agrees, Differs}
 use Rattle.capnp_canonical.proofs.Checking.{SoFar, Parts, begun, next, differs, stopped, ended}
 use Rattle.capnp_canonical.proofs.Holding.{hold_none, hold_end}
 use Rattle.capnp_canonical.proofs.Parts.{part_there}

@@ -24,3 +24,4 @@ pub mod StandingObjects
 pub mod StandingLists
 pub mod StandingValues
 pub mod Telling
+pub mod Rowing

@@ -1,17 +1,17 @@
 -- Whether lists stand that are paid for.
-use Rattle.std.proofs.Common.{◌≡◌, ℕ, zero, suc, ◌+◌, ◌-◌, ◌*◌, ◌%◌, ◌^◌, ◌<◌, ◌≤◌, max, true, false, List, [], ◌∷◌, ◌++◌, length, get_or, take, set, Option, Some, None, Result, Ok, Err, refl, ap, sym, ◌∙◌, subst, arith}
+use Rattle.std.proofs.Common.{◌≡◌, ℕ, zero, suc, ◌+◌, ◌-◌, ◌*◌, ◌%◌, ◌^◌, ◌<◌, ◌≤◌, true, List, [], ◌∷◌, ◌++◌, length, get_or, take, set, Option, Some, Result, Ok, refl, ap, sym, ◌∙◌, subst, arith}
 use Rattle.std.specs.Option.{is_some}
 use Rattle.std.proofs.lemmas.List.{length-append, set-get_or, get_or-set_same}
 use Rattle.capnp_model.specs.Chains.{◌>>=◌}
-use Rattle.capnp_model.specs.Sections.{words_of, words_for, section_of}
+use Rattle.capnp_model.specs.Sections.{words_of, words_for, section_of, needed_words}
 use Rattle.capnp_model.specs.Segments.{Segments, Place, place, after, word_at, words_at}
 use Rattle.capnp_model.specs.Spelling.{AreWords}
-use Rattle.capnp_model.specs.Trees.{Tree, plain_list, pointer_list, struct_list, Trees, Elements, no_elements, element, tree_count, element_count, size_bits, resized, has_capability, have_capability, elements_have_capability}
+use Rattle.capnp_model.specs.Trees.{Tree, plain_list, pointer_list, struct_list, Trees, Elements, no_elements, element, tree_count, element_count, size_bits, has_capability, have_capability, elements_have_capability}
 use Rattle.capnp_model.specs.Traversal.{tree_at, each, each_element}
 use Rattle.capnp_model.specs.Coverage.{from_each, from_elements}
 use Rattle.capnp_model.specs.Visits.{visits}
 use Rattle.capnp_model.specs.Trimming.{common_words, common_pointers, with_pointers, trim, trim_each, trim_elements}
-use Rattle.capnp_model.specs.Encoding.{struct_pointer, list_pointer, pointer, body, links, bodies, cells, element_bodies}
+use Rattle.capnp_model.specs.Encoding.{struct_pointer, list_pointer, links, bodies, cells, element_bodies}
 use Rattle.capnp_model.proofs.Chaining.{bind_some, some_is}
 use Rattle.capnp_model.proofs.Locality.{word_is, word_was}
 use Rattle.capnp_model.proofs.Numbers.{length-numbers_in}
@@ -22,22 +22,22 @@ use Rattle.capnp_units.specs.declared.limiter.ReadLimiter.{ReadLimiter}
 use Rattle.capnp_units.specs.declared.sizes.ElementSize.{ElementSize}
 use Rattle.capnp_units.specs.Sizes.{size_number, data_bits}
 use Rattle.capnp_object.specs.declared.place.Place as wire
-use Rattle.capnp_object.specs.declared.object.Object.{Object}
 use Rattle.capnp_object.specs.declared.object.Object.TheVariants as object
 use Rattle.capnp_object.specs.Places.{place_view}
 use Rattle.capnp_object.specs.Objects.{AreThere}
 use Rattle.capnp_object.specs.Inside.{section_at, words_there}
 use Rattle.capnp_object.proofs.Rows.{each_count}
 use Rattle.capnp_object.proofs.Walks.{walked_none}
-use Rattle.capnp_canonical.specs.Standing.{Hold, Stands, StandEach, StandElements, segment_words, IsSmall, HasHead}
+use Rattle.capnp_canonical.specs.Widths.{kept, widest}
+use Rattle.capnp_canonical.specs.Standing.{Hold, Stands, StandEach, StandElements, segment_words, IsSmall}
 use Rattle.capnp_canonical.specs.Checks.{Tests, TestsObject, TestsRow, TestsElements}
 use Rattle.capnp_canonical.proofs.Checking.{made_of}
 use Rattle.capnp_canonical.proofs.Finals.{data_bits_plain}
 use Rattle.capnp_canonical.proofs.Holding.{hold_parts, hold_both, hold_at, hold_own, own_words_are}
-use Rattle.capnp_canonical.proofs.Masks.{last_cut, nothing_cut}
+use Rattle.capnp_canonical.proofs.Masks.{last_cut}
 use Rattle.capnp_canonical.proofs.Parts.{there_is, front_there}
 use Rattle.capnp_canonical.proofs.Putting.{resized_all}
-use Rattle.capnp_canonical.proofs.Rows.{elements_count}
+use Rattle.capnp_canonical.proofs.Rows.{elements_count, least_words, least_pointers}
 use Rattle.capnp_canonical.proofs.StandingObjects.{body_both, body_parts}
 
 -- ---- the bits behind the last element
@@ -282,7 +282,7 @@ module _ (n : ℕ) (s : Segments) (p : Place) (head : ℕ) (start : wire.Place) 
       subst (λ (j : ℕ). Tests (each_element f q (words_there s q j) d k c >>= λ es. Some (struct_list d k es)) has_capability (λ t. Stands s p head (trim t)) (IsSmall s p) (from_elements (visits n s) q d k c) l r m) (sym own) y
 
 -- the words of the pointer to a list of structs that stands, and of its tag
-pub structs_words : (s : Segments) (p q : Place) (head c d k a b end : ℕ) (f : Place → Option Tree) (ws : List ℕ) (t : Tree) → ((es : Elements) → each_element f q ws d k c ≡ Some es → (common_words d (trim_elements es) ≡ a) × (common_pointers (trim_elements es) ≡ b))
+structs_words : (s : Segments) (p q : Place) (head c d k a b end : ℕ) (f : Place → Option Tree) (ws : List ℕ) (t : Tree) → ((es : Elements) → each_element f q ws d k c ≡ Some es → (common_words d (trim_elements es) ≡ a) × (common_pointers (trim_elements es) ≡ b))
     → (each_element f q ws d k c >>= λ es. Some (struct_list d k es)) ≡ Some t → Stands s p head (trim t) end → (word_at s p ≡ Some (list_pointer (head - p.position - 1) 7 (c * (a + b)))) × (word_at s (place p.segment head) ≡ Some (struct_pointer c a b))
 unfolding trim
 structs_words s p q head c d k a b end f ws t least e y =
@@ -298,3 +298,12 @@ structs_words s p q head c d k a b end f ws t least e y =
       x.link ∙ ap (λ (m : ℕ). Some (list_pointer (head - p.position - 1) 7 (m * (i + j)))) count ∙ ap (λ (m : ℕ). Some (list_pointer (head - p.position - 1) 7 (c * (m + j)))) is.0 ∙ ap (λ (m : ℕ). Some (list_pointer (head - p.position - 1) 7 (c * (a + m)))) is.1,
       word_was s (place p.segment head) _ first.0 ∙ ap (λ (m : ℕ). Some (struct_pointer m i j)) count ∙ ap (λ (m : ℕ). Some (struct_pointer c m j)) is.0 ∙ ap (λ (m : ℕ). Some (struct_pointer c a m)) is.1,
     )
+
+-- the least sizes of elements that are read
+pub least_of : (n : ℕ) (s : Segments) (q : Place) (words c d k a b : ℕ) → is_some (words_at s q words) ≡ true → c * (d + k) ≤ words → a ≡ widest (λ r. needed_words d (section_at s r d)) q (d + k) c → b ≡ widest (λ r. kept (words_there s r k)) (after q d) (d + k) c
+    → (es : Elements) → each_element (tree_at n s) q (words_there s q words) d k c ≡ Some es → (common_words d (trim_elements es) ≡ a) × (common_pointers (trim_elements es) ≡ b)
+least_of n s q words c d k a b there fit ais bis es e = (least_words c s q words d k (tree_at n s) es there fit e ∙ sym ais, least_pointers c n s q (words_there s q words) words d k es there fit e ∙ sym bis)
+
+pub structs_read : (n : ℕ) (s : Segments) (p q : Place) (head words c d k a b end : ℕ) (t : Tree) → is_some (words_at s q words) ≡ true → c * (d + k) ≤ words → a ≡ widest (λ r. needed_words d (section_at s r d)) q (d + k) c → b ≡ widest (λ r. kept (words_there s r k)) (after q d) (d + k) c
+    → (each_element (tree_at n s) q (words_there s q words) d k c >>= λ es. Some (struct_list d k es)) ≡ Some t → Stands s p head (trim t) end → (word_at s p ≡ Some (list_pointer (head - p.position - 1) 7 (c * (a + b)))) × (word_at s (place p.segment head) ≡ Some (struct_pointer c a b))
+structs_read n s p q head words c d k a b end t there fit ais bis e y = structs_words s p q head c d k a b end (tree_at n s) (words_there s q words) t (least_of n s q words c d k a b there fit ais bis) e y

@@ -1,5 +1,5 @@
 -- Whether objects stand that are paid for.
-use Rattle.std.proofs.Common.{◌≡◌, ℕ, zero, suc, ◌+◌, ◌-◌, ◌*◌, ◌%◌, ◌^◌, ◌<◌, ◌≤◌, true, false, List, [], ◌∷◌, ◌++◌, length, Option, Some, None, Result, Ok, Err, refl, ap, sym, ◌∙◌, subst, inl, inr, arith}
+use Rattle.std.proofs.Common.{◌≡◌, ℕ, zero, suc, ◌+◌, ◌-◌, ◌^◌, ◌<◌, ◌≤◌, true, List, [], ◌∷◌, ◌++◌, length, Option, Some, Result, refl, ap, sym, ◌∙◌, subst, inl, inr, arith}
 use Rattle.std.specs.Prelude.{unwrap_or}
 use Rattle.std.specs.List.{slice_get}
 use Rattle.std.specs.Option.{ok_or, is_some}
@@ -8,38 +8,38 @@ use Rattle.capnp_model.specs.Kinds.{OutOfBounds}
 use Rattle.capnp_model.specs.Chains.{◌>>=◌}
 use Rattle.capnp_model.specs.Sections.{words_of, needed_words}
 use Rattle.capnp_model.specs.Segments.{Segments, Place, place, after, word_at, words_at}
-use Rattle.capnp_model.specs.Pointers as model
 use Rattle.capnp_model.specs.Spelling.{AreWords}
-use Rattle.capnp_model.specs.Trees.{Tree, null, capability, structure, pointer_list, struct_list, Trees, none, ◌▸◌, Elements, no_elements, element, tree_count, element_count, resized, has_capability, have_capability, elements_have_capability}
-use Rattle.capnp_model.specs.Traversal.{tree_at, each, each_element}
-use Rattle.capnp_model.specs.Coverage.{from_each, from_elements}
+use Rattle.capnp_model.specs.Trees.{Tree, null, structure, Trees, none, ◌▸◌, tree_count, resized, has_capability, have_capability}
+use Rattle.capnp_model.specs.Traversal.{tree_at, each}
+use Rattle.capnp_model.specs.Coverage.{from_each}
 use Rattle.capnp_model.specs.Visits.{visits}
-use Rattle.capnp_model.specs.Trimming.{stripped, common_words, common_pointers, with_pointers, trim, trim_each, trim_elements}
-use Rattle.capnp_model.specs.Encoding.{struct_pointer, list_pointer, pointer, body, links, bodies, cells, element_bodies}
+use Rattle.capnp_model.specs.Trimming.{stripped, trim, trim_each}
+use Rattle.capnp_model.specs.Encoding.{list_pointer, pointer, body, links, bodies}
 use Rattle.capnp_model.proofs.Chaining.{bind_some, bind_ok, ok_or_some, some_is}
-use Rattle.capnp_model.proofs.Locality.{word_is, word_was}
 use Rattle.capnp_model.proofs.Numbers.{length-numbers_in}
 use Rattle.capnp_model.proofs.RoundTrip.{links_length}
-use Rattle.capnp_model.proofs.TrimFits.{count-trim_each, count-trim_elements}
+use Rattle.capnp_model.proofs.TrimFits.{count-trim_each}
 use Rattle.capnp_object.specs.declared.place.Place as wire
 use Rattle.capnp_object.specs.declared.object.Object.{Object}
 use Rattle.capnp_object.specs.declared.object.Object.TheVariants as object
 use Rattle.capnp_object.specs.Places.{place_view}
 use Rattle.capnp_object.specs.Objects.{AreThere}
-use Rattle.capnp_object.specs.Inside.{section_at, words_there, tree_in, met_in}
+use Rattle.capnp_object.specs.Inside.{section_at, words_there}
 use Rattle.capnp_object.proofs.Rows.{each_count}
 use Rattle.capnp_object.proofs.Walking.{object_found, link_tree}
 use Rattle.capnp_units.specs.declared.errors.Error.{Error}
 use Rattle.capnp_units.specs.declared.limiter.ReadLimiter.{ReadLimiter}
-use Rattle.capnp_canonical.specs.Standing.{Hold, Stands, StandEach, StandElements, segment_words, IsSmall, HasHead, LeadsTo}
-use Rattle.capnp_canonical.specs.Checks.{Tests, TestsObject, TestsRow, TestsElements}
+use Rattle.capnp_canonical.specs.Widths.{kept, widest}
+use Rattle.capnp_canonical.specs.Standing.{Hold, Stands, StandEach, segment_words, IsSmall, HasHead, LeadsTo}
+use Rattle.capnp_canonical.specs.Checks.{TestsObject, TestsRow}
 use Rattle.capnp_canonical.proofs.Checking.{made_of}
 use Rattle.capnp_canonical.proofs.Holding.{hold_parts, hold_both, hold_at, hold_none, hold_own, place_within}
-use Rattle.capnp_canonical.proofs.Nulls.{some_read}
+use Rattle.capnp_canonical.proofs.Kept.{widest_one}
+use Rattle.capnp_canonical.proofs.Nulls.{some_read, kept_count}
 use Rattle.capnp_canonical.proofs.Objects.{stripped_front}
-use Rattle.capnp_canonical.proofs.Parts.{front_there, part_there}
+use Rattle.capnp_canonical.proofs.Parts.{front_there, part_there, there_length}
+use Rattle.capnp_canonical.proofs.Parts as parts
 use Rattle.capnp_canonical.proofs.Putting.{resized_all}
-use Rattle.capnp_canonical.proofs.Rows.{elements_count}
 use Rattle.capnp_canonical.proofs.StandingPlaces.{IsThere}
 
 -- ---- the pointer's word
@@ -271,3 +271,15 @@ struct_word s p q head d k a b x section end f t words count is e y =
     let whole : structure d section r.0 ≡ t = some_is _ _ r.2 in
     let link : word_at s p ≡ Some (pointer (head - p.position - 1) (trim t)) = y.link in
     link ∙ ap (λ (u : Tree). Some (pointer (head - p.position - 1) (trim u))) (sym whole) ∙ ap (λ (j : ℕ). Some (pointer (head - p.position - 1) (structure j section us))) (sym words) ∙ ap (λ (w : ℕ). Some w) (sym (is us (count r.0 r.1)))
+
+-- the least sizes of a struct that is read
+pub least_struct : (n : ℕ) (s : Segments) (q : Place) (d k a b : ℕ) → is_some (words_at s q (d + k)) ≡ true → a ≡ widest (λ r. needed_words d (section_at s r d)) q (d + k) 1 → b ≡ widest (λ r. kept (words_there s r k)) (after q d) (d + k) 1
+    → (a ≡ needed_words d (section_at s q d)) × ((ts : Trees) → each (tree_at n s) (after q d) k ≡ Some ts → tree_count (stripped (trim_each ts)) ≡ b)
+least_struct n s q d k a b inside words pointers =
+    let there = part_there s q (d + k) inside d k (omega arith) in
+    let ws = words_there s (after q d) k in
+    let long = there_length s (after q d) k there in
+    let is = pointers ∙ widest_one (λ r. kept (words_there s r k)) (after q d) (d + k) in (
+      words ∙ widest_one (λ r. needed_words d (section_at s r d)) q (d + k),
+      λ ts y. kept_count n s ws (after q d) ts (λ i h. parts.word_is s (after q d) k there i (omega arith)) (ap (each (tree_at n s) (after q d)) long ∙ y) ∙ sym is,
+    )

@@ -1,12 +1,12 @@
 -- Where objects begin whose pointers are such as canonical words have.
-use Rattle.std.proofs.Common.{◌≡◌, ℕ, zero, suc, ◌+◌, ◌-◌, ◌*◌, ◌^◌, ◌<◌, ◌≤◌, ◌⊎◌, eqb, false, true, List, [], ◌∷◌, Option, Some, Result, Ok, Err, refl, ap, sym, ◌∙◌, subst, inl, inr, arith}
+use Rattle.std.proofs.Common.{◌≡◌, ℕ, zero, suc, ◌+◌, ◌-◌, ◌^◌, ◌<◌, ◌⊎◌, eqb, false, ◌∷◌, Some, Ok, refl, ap, sym, ◌∙◌, subst, inl, inr, arith}
 use Rattle.std.specs.Option.{ok_or, is_some}
 use Rattle.std.proofs.lemmas.Bool.{ne_eqb}
 use Rattle.capnp_model.specs.Kinds.{OutOfBounds}
 use Rattle.capnp_model.specs.Segments.{Segments, Place, place, after, word_at, words_at}
 use Rattle.capnp_model.specs.Pointers as model
 use Rattle.capnp_model.specs.Trees.{structure, Trees, none, tree_count, resized}
-use Rattle.capnp_model.specs.Traversal.{Tag, tag_of, tag_in, of_bits, of_pointers, of_structs, list_kind, list_words}
+use Rattle.capnp_model.specs.Traversal.{Tag, tag_of, tag_in, of_bits, list_kind, list_words}
 use Rattle.capnp_model.specs.Encoding.{struct_pointer, list_pointer, pointer}
 use Rattle.capnp_model.proofs.Chaining.{bind_ok, ok_is, ok_or_some, some_is, guard_ok}
 use Rattle.capnp_model.proofs.PointerWords.{struct_says, list_says, begins_behind, begins_here, list_kind_small}
@@ -16,9 +16,8 @@ use Rattle.capnp_units.specs.Sizes.{size_number}
 use Rattle.capnp_object.specs.declared.place.Place as wire
 use Rattle.capnp_object.specs.declared.object.Object.{Object}
 use Rattle.capnp_object.specs.declared.object.Object.TheVariants as object
-use Rattle.capnp_object.specs.declared.object.Found.{Found}
 use Rattle.capnp_object.specs.Places.{place_view, placed}
-use Rattle.capnp_object.specs.Objects.{whole_list, whole, object_at}
+use Rattle.capnp_object.specs.Objects.{whole_list, whole}
 use Rattle.capnp_object.proofs.Walking.{object_found}
 use Rattle.capnp_object.proofs.Tags.{front_word}
 use Rattle.capnp_canonical.specs.Standing.{LeadsTo}

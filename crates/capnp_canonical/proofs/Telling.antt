@@ -1,12 +1,12 @@
 -- What is told of values that stand, and of messages.
-use Rattle.std.proofs.Common.{◌≡◌, ℕ, zero, suc, ◌+◌, ◌-◌, ◌*◌, ◌^◌, ◌<◌, ◌≤◌, Bool, true, false, not, List, [], ◌∷◌, ◌++◌, length, take, drop, Option, Some, None, Result, Ok, Err, refl, ap, sym, ◌∙◌, subst, inl, inr, arith}
+use Rattle.std.proofs.Common.{◌≡◌, ℕ, zero, suc, ◌+◌, ◌-◌, ◌≤◌, Bool, true, false, not, List, [], ◌∷◌, length, take, Option, Some, None, Ok, refl, ap, sym, ◌∙◌, subst, inl, inr, arith}
 use Rattle.std.specs.Bool.{OnTrue, OnFalse}
 use Rattle.std.specs.List.{slice_get}
 use Rattle.std.specs.Option.{is_some}
 use Rattle.std.proofs.lemmas.Bool.{cases_lt}
 use Rattle.std.proofs.Math.Seq.{take-length}
 use Rattle.std.proofs.lemmas.List.{append-nil}
-use Rattle.capnp_model.specs.Segments.{Segments, Place, place, root, after, word_at, words_at}
+use Rattle.capnp_model.specs.Segments.{Segments, Place, place, root, after, words_at}
 use Rattle.capnp_model.specs.Canonical.{is_canonical_message}
 use Rattle.capnp_model.specs.Encoding.{pointer, body, canonical_words}
 use Rattle.capnp_model.specs.Trees.{Tree, has_capability}
@@ -14,7 +14,7 @@ use Rattle.capnp_model.specs.Traversal.{tree_at}
 use Rattle.capnp_model.specs.Trimming.{trim}
 use Rattle.capnp_model.specs.Visits.{Visit, visits}
 use Rattle.capnp_model.proofs.CanonicalTests.{message_test, test_message}
-use Rattle.capnp_model.proofs.Chaining.{bind_some, some_is}
+use Rattle.capnp_model.proofs.Chaining.{some_is}
 use Rattle.capnp_model.proofs.Locality.{word_is, word_was}
 use Rattle.capnp_units.specs.declared.limiter.ReadLimiter.{ReadLimiter}
 use Rattle.capnp_object.specs.declared.place.Place as wire

@@ -1,7 +1,5 @@
 //! Whether values stand as their canonical words.
-ghost use Rattle.std.specs.Prelude.{◌≡◌, ℕ, ◌+◌, ◌*◌, ◌^◌, ◌≤◌, ◌<◌, Some, None, slice_index};
-ghost use Rattle.std.specs.Bool.{OnTrue, OnFalse};
-ghost use Rattle.capnp_model.specs.Spelling.{AreWords};
+ghost use Rattle.std.specs.Prelude.{◌≡◌, ℕ, ◌+◌, ◌*◌, ◌^◌, ◌≤◌, ◌<◌};
 ghost use Rattle.capnp_model.specs.Sections.{words_for};
 ghost use Rattle.capnp_units.specs.Segments.{words_in};
 ghost use Rattle.capnp_units.specs.Sizes.{size_number, data_bits};
@@ -9,11 +7,12 @@ ghost use Rattle.capnp_object.specs.declared.object.Object.TheVariants as seen;
 ghost use Rattle.capnp_object.specs.Places.{place_view};
 ghost use Rattle.capnp_object.specs.Objects.{AreThere, IsInside};
 ghost use Rattle.capnp_canonical.specs.Objects.{IsShort};
-ghost use Rattle.capnp_canonical.specs.Standing.{segment_words, HasHead, LeadsTo, Reaches};
-ghost use Rattle.capnp_canonical.specs.Checks.{TestsValue, TestsObject, TestsRow, TestsElements, IsBehind, TellsValue, TellsRow, TellsMessage};
+ghost use Rattle.capnp_canonical.specs.Standing.{HasHead, LeadsTo, Reaches};
+ghost use Rattle.capnp_canonical.specs.Checks.{TestsValue, TestsObject, TestsRow, TestsElements, TellsValue, TellsRow, TellsMessage};
 
 use crate::copy::{cut_of, pointer_to_cut};
-use crate::own_words::word_or_zero;
+use crate::heads::{is_behind, move_on};
+use crate::own_words::{are_words, word_or_zero};
 use crate::words::{pointer_to_list, pointer_to_struct};
 use capnp_object::arena::ReaderArena;
 use capnp_object::follow::follow_within;
@@ -100,49 +99,6 @@ pub fn is_canonical_message<A: ReaderArena>(
     };
     let begins = is_canonical(arena, limiter, ROOT, levels, &mut head)?;
     Ok(begins && !has_words(arena, head, 1))
-}
-
-/// Whether a place lies behind another in its segment, at least so many words on.
-fn is_behind<A: ReaderArena>(arena: &A, place: Place, words: usize, head: Place) -> bool
-    ensures behind { let s = words_in (A.segments arena.now) in
-        OnTrue result (IsBehind s (place_view place) words (place_view head) × (head.position < 2 ^ 61)) }
-    ensures elsewhere { let s = words_in (A.segments arena.now) in
-        OnFalse result (IsBehind s (place_view place) words (place_view head) → ⊥) }
-{
-    head.segment == place.segment
-        && place.position <= head.position
-        && words <= head.position - place.position
-        && has_words(arena, head, 0)
-}
-
-/// Bytes are numbers below 256.
-fn are_bytes(bytes: &[u8])
-    ensures { (i : ℕ) → slice_index bytes.now i < 256 }
-{}
-
-/// The words of a segment are numbers of 64 bits.
-fn are_words<A: ReaderArena>(arena: &A, segment: u32)
-    ensures { AreWords (segment_words (words_in (A.segments arena.now)) segment) }
-{
-    match arena.get_segment(segment) {
-        Some(bytes) => are_bytes(bytes),
-        None => {}
-    }
-}
-
-/// Moves the head to the end, where there is one.
-fn move_on(head: &mut Place, end: Option<usize>) -> bool
-    ensures some { OnTrue result
-        ((end ≡ Some head.new.position) × (head.new.segment ≡ head.old.segment)) }
-    ensures none { OnFalse result ((end ≡ None) × (head.new ≡ head.old)) }
-{
-    match end {
-        Some(position) => {
-            head.position = position;
-            true
-        }
-        None => false,
-    }
 }
 
 /// Where the words of the value of the pointer at a place end, if they stand from the head on.

@@ -6,6 +6,7 @@ pub mod check;
 mod check_tests;
 pub mod copy;
 mod follow;
+mod heads;
 pub mod laws;
 mod own_words;
 #[cfg(test)]

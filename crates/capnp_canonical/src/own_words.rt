@@ -1,16 +1,17 @@
 //! An object's own words: how many of them are kept, and their copy.
-ghost use Rattle.std.specs.Prelude.{◌≡◌, ◌+◌, ◌*◌, ◌≤◌, ◌<◌, ◌^◌, ℕ, length, unwrap_or};
+ghost use Rattle.std.specs.Prelude.{◌≡◌, ◌+◌, ◌*◌, ◌≤◌, ◌<◌, ◌^◌, ◌++◌, ℕ, length, take, drop, slice_index, unwrap_or};
 ghost use Rattle.capnp_model.specs.Segments.{after, word_at};
 ghost use Rattle.capnp_model.specs.Sections.{needed_words};
+ghost use Rattle.capnp_model.specs.Spelling.{AreWords};
 ghost use Rattle.capnp_units.specs.Segments.{words_in};
 ghost use Rattle.capnp_object.specs.Places.{place_view};
 ghost use Rattle.capnp_object.specs.Objects.{AreThere};
 ghost use Rattle.capnp_object.specs.Inside.{section_at, words_there};
 ghost use Rattle.capnp_canonical.specs.Copies.{Behind};
+ghost use Rattle.capnp_canonical.specs.Standing.{segment_words};
 ghost use Rattle.capnp_canonical.specs.Writes.{words_view, with_words};
 ghost use Rattle.capnp_canonical.specs.Widths.{kept, widest};
 
-use crate::words::put;
 use capnp_object::arena::ReaderArena;
 use capnp_object::place::{Place, word_at};
 use capnp_units::sizes::Word;
@@ -72,6 +73,44 @@ pub(crate) fn most_needed<A: ReaderArena>(
     most
 }
 
+/// Bytes are numbers below 256.
+fn are_bytes(bytes: &[u8])
+    ensures { (i : ℕ) → slice_index bytes.now i < 256 }
+{}
+
+/// The words of a segment are numbers of 64 bits.
+pub(crate) fn are_words<A: ReaderArena>(arena: &A, segment: u32)
+    ensures { AreWords (segment_words (words_in (A.segments arena.now)) segment) }
+{
+    match arena.get_segment(segment) {
+        Some(bytes) => are_bytes(bytes),
+        None => {}
+    }
+}
+
+/// So many words from a place on, where they are there.
+fn row_of<A: ReaderArena>(arena: &A, start: Place, count: usize) -> &[Word]
+    requires { AreThere (words_in (A.segments arena.now)) (place_view start) count }
+    ensures words { words_view result.now ≡ words_there (words_in (A.segments arena.now)) (place_view start) count }
+    ensures len { length result.now ≡ count }
+{
+    match arena.get_segment(start.segment) {
+        Some(bytes) => {
+            let (words, _) = bytes.as_chunks::<8>();
+            &words[start.position..start.position + count]
+        }
+        None => &[],
+    }
+}
+
+/// Puts words over those from a place on.
+fn lay(into: &mut [Word], at: usize, row: &[Word])
+    requires { at + length row.now ≤ length into.old }
+    ensures { into.new ≡ take at into.old ++ (row.now ++ drop (at + length row.now) into.old) }
+{
+    into[at..at + row.len()].copy_from_slice(row);
+}
+
 /// Copies so many words over those from a place on.
 pub(crate) fn copy_words<A: ReaderArena>(
     arena: &A,
@@ -85,11 +124,6 @@ pub(crate) fn copy_words<A: ReaderArena>(
     ensures words { words_view into.new ≡ with_words at count (section_at (words_in (A.segments arena.now)) (place_view start) count) (words_view into.old) }
     ensures behind { Behind (at + count) into.old into.new }
 {
-    for i in 0..count {
-        let place = Place {
-            segment: start.segment,
-            position: start.position + i,
-        };
-        put(into, at + i, word_or_zero(arena, place));
-    }
+    are_words(arena, start.segment);
+    lay(into, at, row_of(arena, start, count));
 }

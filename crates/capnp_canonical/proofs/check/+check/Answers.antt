@@ -1,18 +1,16 @@
 -- What each step of the check tells.
-use Rattle.std.proofs.Common.{◌≡◌, ℕ, suc, ◌+◌, ◌-◌, ◌*◌, ◌^◌, ◌<◌, ◌≤◌, true, List, [], Option, Some, None, Result, Ok, Err, refl, ap, sym, ◌∙◌, subst, inl, inr, arith}
+use Rattle.std.proofs.Common.{◌≡◌, ℕ, ◌+◌, ◌-◌, ◌*◌, true, Some, None, Ok, Err, refl, ap, sym, ◌∙◌, subst, arith}
 use Rattle.std.specs.Option.{is_some}
 use Rattle.std.proofs.lemmas.Result.{err_from_is_err_and}
-use Rattle.capnp_model.specs.Sections.{needed_words}
-use Rattle.capnp_model.specs.Segments.{Segments, Place, place, after, word_at, words_at}
-use Rattle.capnp_model.specs.Trees.{Tree, Trees, Elements, structure, pointer_list, struct_list, tree_count, has_capability, have_capability, elements_have_capability}
+use Rattle.capnp_model.specs.Segments.{Segments, Place, place, after, words_at}
+use Rattle.capnp_model.specs.Trees.{structure, has_capability, have_capability, elements_have_capability}
 use Rattle.capnp_model.specs.Traversal.{tree_at, each, each_element}
-use Rattle.capnp_model.specs.Trimming.{stripped, common_words, common_pointers, trim, trim_each, trim_elements}
+use Rattle.capnp_model.specs.Trimming.{trim, trim_each, trim_elements}
 use Rattle.capnp_model.specs.Coverage.{from_each, from_elements}
 use Rattle.capnp_model.specs.Encoding.{struct_pointer, list_pointer, pointer}
 use Rattle.capnp_model.specs.Spelling.{AreWords}
 use Rattle.capnp_model.specs.Visits.{visits}
 use Rattle.capnp_model.proofs.Chaining.{some_is}
-use Rattle.capnp_units.specs.declared.errors.Error.{Error}
 use Rattle.capnp_units.specs.Segments.{words_in}
 use Rattle.capnp_object.specs.declared.object.Object.{Object}
 use Rattle.capnp_object.specs.declared.object.Object.TheVariants as object
@@ -20,24 +18,18 @@ use Rattle.capnp_object.specs.Places.{place_view}
 use Rattle.capnp_object.specs.Objects.{AreThere}
 use Rattle.capnp_object.specs.Inside.{section_at, words_there, tree_in, met_in}
 use Rattle.capnp_object.proofs.Measuring.{unfollowed_at}
-use Rattle.capnp_canonical.specs.Widths.{kept, widest}
 use Rattle.capnp_canonical.specs.Standing.{Stands, StandEach, StandElements, segment_words, IsSmall, HasHead, LeadsTo}
-use Rattle.capnp_canonical.specs.Checks.{Tests, TestsObject, TestsRow, TestsElements}
+use Rattle.capnp_canonical.specs.Checks.{TestsObject, TestsElements}
 use Rattle.capnp_canonical.proofs.Checking.{refused_is, differs_at}
 use Rattle.capnp_canonical.proofs.CheckedRows.{row_begun, row_next, row_differs, row_stopped, row_ended}
 use Rattle.capnp_canonical.proofs.CheckedElements.{elements_begun, elements_next, elements_differ, elements_stopped, elements_ended, plain_elements}
-use Rattle.capnp_canonical.proofs.Kept.{widest_one}
-use Rattle.capnp_canonical.proofs.Nulls.{kept_count}
-use Rattle.capnp_canonical.proofs.Parts.{part_there, front_there, there_length, word_is}
-use Rattle.capnp_canonical.proofs.Rows.{least_words, least_pointers}
-use Rattle.capnp_canonical.proofs.StandingObjects.{within_reach, wide_pointer, struct_tests, struct_word, struct_head, lead_word, word_matches, word_differs}
-use Rattle.capnp_canonical.proofs.StandingLists.{pointers_tests, pointers_word, structs_tests, structs_words}
-use Rattle.capnp_canonical.proofs.StandingPlaces.{IsThere, struct_where, pointers_where, structs_where}
+use Rattle.capnp_canonical.proofs.Parts.{part_there, front_there}
+use Rattle.capnp_canonical.proofs.StandingObjects.{least_struct, within_reach, wide_pointer, struct_tests, struct_word, struct_head, lead_word, word_matches, word_differs}
+use Rattle.capnp_canonical.proofs.StandingLists.{pointers_tests, pointers_word, structs_tests, structs_read, least_of}
+use Rattle.capnp_canonical.proofs.StandingPlaces.{struct_where, pointers_where, structs_where}
 use Rattle.capnp_canonical.proofs.StandingValues.{null_tests, capability_tests, deep_tests, null_leaf, other_leaf}
 use Rattle.capnp_canonical.proofs.Steps.{short_at}
 use Rattle.capnp_canonical.proofs.check.+check.Goals as goal
-
--- ---- pointers in a row
 
 pub row_end-loop-i-init : goal.row_end-loop-i-init
 row_end-loop-i-init g t c = row_begun c.args.levels (words_in (g.A.ReaderArena.segments c.args.arena.now)) (place_view c.args.first) c.args.count c.args.head c.args.limiter.now c.requires.head
@@ -74,8 +66,6 @@ row_end-returns g t c =
     let past = c.loop-i-test.false in
     let last = c.loop-i.auto.i-end in
     row_ended c.args.levels s (place_view c.args.first) c.args.count c.args.head c.args.limiter.now c.loop-i.i c.loop-i.end c.loop-i.limiter (omega arith) c.requires.inside c.loop-i.invariant
-
--- ---- elements
 
 pub elements_end-loop-i-init : goal.elements_end-loop-i-init
 elements_end-loop-i-init g t c = elements_begun c.args.levels (words_in (g.A.ReaderArena.segments c.args.arena.now)) (place_view c.args.start) c.args.count c.args.size.data_words c.args.size.pointers c.args.head c.args.limiter.now c.requires.head
@@ -126,8 +116,6 @@ elements_end-returns g t c =
     let last = c.loop-i.auto.i-end in
     elements_ended c.args.levels s (place_view c.args.start) c.args.count c.args.size.data_words c.args.size.pointers c.args.head c.args.limiter.now c.loop-i.i c.loop-i.end c.loop-i.limiter (omega arith) c.requires.inside c.loop-i.invariant
 
--- ---- values
-
 pub value_end-returns-in_err-object : goal.value_end-returns-in_err-object
 value_end-returns-in_err-object g t c =
     let s : Segments = words_in (g.A.ReaderArena.segments c.args.arena.now) in
@@ -162,8 +150,6 @@ value_end-returns g t c =
     let some = c.if-levels-eq0.false in
     deep_tests c.args.levels s (place_view c.args.place) c.args.head c.in_ok-object.object c.args.limiter.now c.follow_within.new.limiter c.object_end.new.limiter c.object_end.result c.in_ok-object.ensures.0 (c.args.levels - 1) (omega arith) c.object_end.ensures
 
--- ---- objects
-
 pub object_end-returns-then-head-place-gt-REACH : goal.object_end-returns-then-head-place-gt-REACH
 object_end-returns-then-head-place-gt-REACH g t c =
     let s : Segments = words_in (g.A.ReaderArena.segments c.args.arena.now) in
@@ -196,8 +182,6 @@ object_end-returns-in-List g t c =
     let l = c.args.limiter.now in
     subst (λ (o : Object). TestsObject c.args.levels s p c.args.head o l (Ok c.list_end.result) l) (sym c.in-List.is) (c.list_end.ensures c.args.levels l)
 
--- ---- a struct
-
 pub struct_end-returns-then-word_or_zero-pointer_to_cut : goal.struct_end-returns-then-word_or_zero-pointer_to_cut
 struct_end-returns-then-word_or_zero-pointer_to_cut g t c =
     let s : Segments = words_in (g.A.ReaderArena.segments c.args.arena.now) in
@@ -211,14 +195,10 @@ struct_end-returns-then-word_or_zero-pointer_to_cut g t c =
     let cut = c.cut_of-cut.result in
     let section = section_at s q d in
     let x = c.pointer_to_cut.result in
-    let there = part_there s q (d + k) c.requires.inside.0 d k (omega arith) in
-    let ws = words_there s (after q d) k in
-    let long = there_length s (after q d) k there in
-    let is = c.cut_of-cut.ensures.pointers ∙ widest_one (λ r. kept (words_there s r k)) (after q d) (d + k) in
-    let words = c.cut_of-cut.ensures.words ∙ widest_one (λ r. needed_words d (section_at s r d)) q (d + k) in
+    let least = least_struct n s q d k cut.kept_words cut.kept_pointers c.requires.inside.0 c.cut_of-cut.ensures.words c.cut_of-cut.ensures.pointers in
     differs_at (tree_in s f (object.Struct c.args.start d k)) has_capability (λ u. Stands s p head (trim u)) (IsSmall s p) (met_in (visits n s) (object.Struct c.args.start d k)) c.args.limiter.now
     (λ small u end e clean stand. word_differs s p c.word_or_zero.result x c.word_or_zero.ensures.word c.if-word_or_zero-pointer_to_cut.true
-    (struct_word s p (after q d) head d k cut.kept_words cut.kept_pointers x section end f u words (λ ts y. kept_count n s ws (after q d) ts (λ i h. word_is s (after q d) k there i (omega arith)) (ap (each f (after q d)) long ∙ y) ∙ sym is) (c.pointer_to_cut.ensures section) e stand))
+    (struct_word s p (after q d) head d k cut.kept_words cut.kept_pointers x section end f u least.0 least.1 (c.pointer_to_cut.ensures section) e stand))
 
 pub struct_end-row_end-requires : goal.struct_end-row_end-requires
 struct_end-row_end-requires g t c =
@@ -254,20 +234,14 @@ struct_end-returns g t c =
     let x = c.pointer_to_cut.result in
     let behind = c.requires.link.given.behind in
     let reach = c.requires.link.near in
-    let there = part_there s q (d + k) c.requires.inside.0 d k (omega arith) in
-    let ws = words_there s (after q d) k in
-    let long = there_length s (after q d) k there in
-    let is = c.cut_of-cut.ensures.pointers ∙ widest_one (λ r. kept (words_there s r k)) (after q d) (d + k) in
-    let words = c.cut_of-cut.ensures.words ∙ widest_one (λ r. needed_words d (section_at s r d)) q (d + k) in
+    let least = least_struct n s q d k cut.kept_words cut.kept_pointers c.requires.inside.0 c.cut_of-cut.ensures.words c.cut_of-cut.ensures.pointers in
     let w = lead_word s p o c.requires.link.leads in
     let word = word_matches s p c.word_or_zero.result x w.0 w.1 c.word_or_zero.ensures.word c.if-word_or_zero-pointer_to_cut.false in
     let here = struct_where s p head c.args.start d k c.requires.link.leads (head - p.position - 1) cut.kept_words cut.kept_pointers x (omega arith) (omega arith) c.cut_of-cut.ensures.narrow.0 c.cut_of-cut.ensures.narrow.1 c.pointer_to_cut.ensures word in
-    struct_tests n s p head c.args.start d k c.requires.inside c.requires.link.given here.2 (here.0 ∙ words)
-    (λ ts y. kept_count n s ws (after q d) ts (λ i h. word_is s (after q d) k there i (omega arith)) (ap (each f (after q d)) long ∙ y) ∙ sym is ∙ sym here.1)
+    struct_tests n s p head c.args.start d k c.requires.inside c.requires.link.given here.2 (here.0 ∙ least.0)
+    (λ ts y. least.1 ts y ∙ sym here.1)
     (λ ts count. word ∙ ap (λ (j : ℕ). Some j) (c.pointer_to_cut.ensures section ts (count ∙ here.1)) ∙ ap (λ (j : ℕ). Some (pointer (head - p.position - 1) (structure j section ts))) (sym here.0))
     c.args.limiter.now c.row_end.new.limiter c.row_end.result c.row_end.ensures
-
--- ---- a list of pointers
 
 pub pointers_end-returns-then-count-ge-REACH : goal.pointers_end-returns-then-count-ge-REACH
 pointers_end-returns-then-count-ge-REACH g t c =
@@ -319,13 +293,6 @@ pointers_end-returns g t c =
     let here = pointers_where s p head (head - p.position - 1) (omega arith) (omega arith) c.args.start c.args.count c.if-count-ge-REACH.false c.requires.link.leads word in
     pointers_tests c.args.levels s p head c.args.start c.args.count c.requires.inside c.requires.link.given.whole here word c.args.limiter.now c.row_end.new.limiter c.row_end.result c.row_end.ensures
 
--- ---- a list of structs
-
--- the least sizes of elements that are read
-least_of : (n : ℕ) (s : Segments) (q : Place) (words c d k a b : ℕ) → is_some (words_at s q words) ≡ true → c * (d + k) ≤ words → a ≡ widest (λ r. needed_words d (section_at s r d)) q (d + k) c → b ≡ widest (λ r. kept (words_there s r k)) (after q d) (d + k) c
-    → (es : Elements) → each_element (tree_at n s) q (words_there s q words) d k c ≡ Some es → (common_words d (trim_elements es) ≡ a) × (common_pointers (trim_elements es) ≡ b)
-least_of n s q words c d k a b there fit ais bis es e = (least_words c s q words d k (tree_at n s) es there fit e ∙ sym ais, least_pointers c n s q (words_there s q words) words d k es there fit e ∙ sym bis)
-
 pub structs_end-returns-then-own-ge-REACH : goal.structs_end-returns-then-own-ge-REACH
 structs_end-returns-then-own-ge-REACH g t c =
     let s : Segments = words_in (g.A.ReaderArena.segments c.args.arena.now) in
@@ -338,10 +305,9 @@ structs_end-returns-then-own-ge-REACH g t c =
     let head = c.args.head in
     let cut = c.cut_of-cut.result in
     let o = object.StructList c.args.start c.args.words count d k in
-    let ws = words_there s q c.args.words in
     differs_at (tree_in s (tree_at n s) o) has_capability (λ u. Stands s p head (trim u)) (IsSmall s p) (met_in (visits n s) o) c.args.limiter.now
     (λ small u end e clean stand. wide_pointer s p (head - p.position - 1) 7 (count * (cut.kept_words + cut.kept_pointers)) c.requires.link.given.whole c.if-own-ge-REACH.true
-    (structs_words s p q head count d k cut.kept_words cut.kept_pointers end (tree_at n s) ws u (least_of n s q c.args.words count d k cut.kept_words cut.kept_pointers c.requires.inside.0 c.requires.fit c.cut_of-cut.ensures.words c.cut_of-cut.ensures.pointers) e stand).0)
+    (structs_read n s p q head c.args.words count d k cut.kept_words cut.kept_pointers end u c.requires.inside.0 c.requires.fit c.cut_of-cut.ensures.words c.cut_of-cut.ensures.pointers e stand).0)
 
 pub structs_end-returns-then-word_or_zero-pointer_to_list : goal.structs_end-returns-then-word_or_zero-pointer_to_list
 structs_end-returns-then-word_or_zero-pointer_to_list g t c =
@@ -355,10 +321,9 @@ structs_end-returns-then-word_or_zero-pointer_to_list g t c =
     let head = c.args.head in
     let cut = c.cut_of-cut.result in
     let o = object.StructList c.args.start c.args.words count d k in
-    let ws = words_there s q c.args.words in
     differs_at (tree_in s (tree_at n s) o) has_capability (λ u. Stands s p head (trim u)) (IsSmall s p) (met_in (visits n s) o) c.args.limiter.now
     (λ small u end e clean stand. word_differs s p c.word_or_zero.result c.pointer_to_list.result c.word_or_zero.ensures.word c.if-word_or_zero-pointer_to_list.true
-    ((structs_words s p q head count d k cut.kept_words cut.kept_pointers end (tree_at n s) ws u (least_of n s q c.args.words count d k cut.kept_words cut.kept_pointers c.requires.inside.0 c.requires.fit c.cut_of-cut.ensures.words c.cut_of-cut.ensures.pointers) e stand).0
+    ((structs_read n s p q head c.args.words count d k cut.kept_words cut.kept_pointers end u c.requires.inside.0 c.requires.fit c.cut_of-cut.ensures.words c.cut_of-cut.ensures.pointers e stand).0
     ∙ ap (λ (j : ℕ). Some j) (sym c.pointer_to_list.ensures)))
 
 pub structs_end-returns-then-word_or_zero-tag : goal.structs_end-returns-then-word_or_zero-tag
@@ -373,10 +338,9 @@ structs_end-returns-then-word_or_zero-tag g t c =
     let head = c.args.head in
     let cut = c.cut_of-cut.result in
     let o = object.StructList c.args.start c.args.words count d k in
-    let ws = words_there s q c.args.words in
     differs_at (tree_in s (tree_at n s) o) has_capability (λ u. Stands s p head (trim u)) (IsSmall s p) (met_in (visits n s) o) c.args.limiter.now
     (λ small u end e clean stand. word_differs s (place p.segment head) c.word_or_zero-2.result c.pointer_to_struct-tag.result c.word_or_zero-2.ensures.word c.if-word_or_zero-tag.true
-    ((structs_words s p q head count d k cut.kept_words cut.kept_pointers end (tree_at n s) ws u (least_of n s q c.args.words count d k cut.kept_words cut.kept_pointers c.requires.inside.0 c.requires.fit c.cut_of-cut.ensures.words c.cut_of-cut.ensures.pointers) e stand).1
+    ((structs_read n s p q head c.args.words count d k cut.kept_words cut.kept_pointers end u c.requires.inside.0 c.requires.fit c.cut_of-cut.ensures.words c.cut_of-cut.ensures.pointers e stand).1
     ∙ ap (λ (j : ℕ). Some j) (sym c.pointer_to_struct-tag.ensures)))
 
 pub structs_end-elements_end-requires : goal.structs_end-elements_end-requires

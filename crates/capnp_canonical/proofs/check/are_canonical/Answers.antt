@@ -1,5 +1,4 @@
 -- The row from the head on.
-use Rattle.std.proofs.Common.{ℕ}
 use Rattle.capnp_model.specs.Segments.{Segments, Place}
 use Rattle.capnp_model.specs.Trees.{have_capability}
 use Rattle.capnp_model.specs.Traversal.{tree_at, each}

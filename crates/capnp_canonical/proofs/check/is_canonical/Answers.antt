@@ -1,5 +1,5 @@
 -- The walk from the head on, or the first pointer alone.
-use Rattle.std.proofs.Common.{◌≡◌, ℕ, Result, Ok, Err, Bool, false, refl, ap, sym, ◌∙◌, subst}
+use Rattle.std.proofs.Common.{Result, Err, Bool, refl, ap, sym, ◌∙◌, subst}
 use Rattle.std.proofs.lemmas.Result.{err_from_is_err_and}
 use Rattle.capnp_model.specs.Segments.{Segments, Place}
 use Rattle.capnp_model.specs.Trees.{has_capability}

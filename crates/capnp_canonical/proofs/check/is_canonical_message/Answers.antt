@@ -1,5 +1,5 @@
 -- One segment, and each of its words.
-use Rattle.std.proofs.Common.{◌≡◌, ℕ, Bool, true, false, not, Ok, ap, sym, ◌∙◌, subst}
+use Rattle.std.proofs.Common.{Bool, Ok, sym, ◌∙◌, subst}
 use Rattle.capnp_model.specs.Segments.{Segments, Place, root, place}
 use Rattle.capnp_units.specs.Segments.{words_in}
 use Rattle.capnp_object.specs.Places.{place_view}

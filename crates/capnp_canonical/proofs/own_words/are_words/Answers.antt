@@ -1,5 +1,5 @@
 -- The words of a segment are those of its bytes.
-use Rattle.std.proofs.Common.{◌≡◌, ℕ, zero, suc, ◌+◌, ◌*◌, ◌/◌, ◌^◌, ◌<◌, List, [], ◌∷◌, length, get_or, drop, Option, Some, None, refl, ap, sym, ◌∙◌, subst, arith}
+use Rattle.std.proofs.Common.{◌≡◌, ℕ, zero, suc, ◌+◌, ◌/◌, ◌^◌, ◌<◌, List, [], length, drop, Option, Some, None, ap, sym, subst, arith}
 use Rattle.std.specs.Prelude.{unwrap_or, slice_index}
 use Rattle.std.specs.List.{slice_get}
 use Rattle.std.specs.Int.{from_le_bytes, w64}
@@ -9,7 +9,7 @@ use Rattle.capnp_model.specs.Spelling.{AreWords}
 use Rattle.capnp_units.specs.Segments.{words_in}
 use Rattle.capnp_object.proofs.Words.{segment_there, segment_past}
 use Rattle.capnp_canonical.specs.Standing.{segment_words}
-use Rattle.capnp_canonical.proofs.check.are_words.Goals as goal
+use Rattle.capnp_canonical.proofs.own_words.are_words.Goals as goal
 
 abbrev AreBytes : List ℕ → Type 0
 AreBytes bytes = (i : ℕ) → slice_index bytes i < 256

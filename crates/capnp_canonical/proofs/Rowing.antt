@@ -1,0 +1,51 @@
+-- Rows of words in bytes.
+use Rattle.std.proofs.Common.{◌≡◌, ℕ, zero, suc, ◌+◌, ◌/◌, ◌≤◌, true, List, ◌∷◌, ◌++◌, length, take, drop, Some, refl, ap, sym, ◌∙◌, arith}
+use Rattle.std.specs.Int.{from_le_bytes, w64}
+use Rattle.std.specs.List.{slice_get}
+use Rattle.std.specs.Option.{is_some}
+use Rattle.std.specs.Simd.{first_chunks}
+use Rattle.std.proofs.Math.Seq.{drop-append_seam}
+use Rattle.std.proofs.lemmas.List.{map-append, take-map, drop-map, length-append, length-take, length-drop, append_assoc}
+use Rattle.capnp_model.specs.Bytes.{words_in_bytes}
+use Rattle.capnp_model.specs.Sections.{words_of}
+use Rattle.capnp_model.specs.Segments.{place, words_at}
+use Rattle.capnp_model.proofs.Chaining.{some_is}
+use Rattle.capnp_units.specs.Segments.{whole_words, words_in}
+use Rattle.capnp_object.specs.Inside.{words_there}
+use Rattle.capnp_object.proofs.Words.{word_of_eight, segment_there}
+use Rattle.capnp_canonical.specs.Copies.{Behind}
+use Rattle.capnp_canonical.specs.Writes.{words_view, with_words}
+use Rattle.capnp_canonical.proofs.Parts.{segment_of, there_words}
+
+-- words of eight bytes each
+pub chunks_are_words : (n : ℕ) (bytes : List ℕ) → words_view (first_chunks 8 n bytes) ≡ words_in_bytes n bytes
+chunks_are_words zero bytes = refl
+chunks_are_words (suc n) bytes = ap (λ (w : ℕ). w ∷ words_view (first_chunks 8 n (drop 8 bytes))) (word_of_eight bytes) ∙ ap (λ (ws : List ℕ). from_le_bytes w64 bytes ∷ ws) (chunks_are_words n (drop 8 bytes))
+
+-- a part of them is what is there
+pub part_is_there : (s : List (List ℕ)) (i p n : ℕ) (bytes : List ℕ) → Some bytes ≡ slice_get s i → is_some (words_at (words_in s) (place i p) n) ≡ true → words_view (take n (drop p (first_chunks 8 (length bytes / 8) bytes))) ≡ words_there (words_in s) (place i p) n
+part_is_there s i p n bytes e there =
+    let a = segment_of (words_in s) (place i p) n there in
+    let f = from_le_bytes w64 in
+    let chunks = first_chunks 8 (length bytes / 8) bytes in
+    let same : whole_words bytes ≡ a.0 = some_is _ _ (sym (segment_there s i bytes e) ∙ a.1) in
+    sym (take-map f n (drop p chunks)) ∙ ap (take n) (sym (drop-map f p chunks)) ∙ ap (λ (ws : List ℕ). take n (drop p ws)) (chunks_are_words (length bytes / 8) bytes ∙ same) ∙ sym (there_words (words_in s) (place i p) n there)
+
+-- words over those from a place on
+pub row_put : (at count section : ℕ) (old new row : List (List ℕ)) → new ≡ take at old ++ (row ++ drop (at + count) old) → words_view row ≡ words_of count section → words_view new ≡ with_words at count section (words_view old)
+unfolding with_words
+row_put at count section old new row is e =
+    let f = from_le_bytes w64 in
+    ap words_view is ∙ map-append f (take at old) (row ++ drop (at + count) old) ∙ ap (λ (ws : List ℕ). words_view (take at old) ++ ws) (map-append f row (drop (at + count) old))
+    ∙ ap (λ (ws : List ℕ). ws ++ (words_view row ++ words_view (drop (at + count) old))) (sym (take-map f at old))
+    ∙ ap (λ (ws : List ℕ). take at (words_view old) ++ (words_view row ++ ws)) (sym (drop-map f (at + count) old))
+    ∙ ap (λ (ws : List ℕ). take at (words_view old) ++ (ws ++ drop (at + count) (words_view old))) e
+
+pub row_behind : (at count : ℕ) (old new row : List (List ℕ)) → new ≡ take at old ++ (row ++ drop (at + count) old) → length row ≡ count → at + count ≤ length old → Behind (at + count) old new
+row_behind at count old new row is long room =
+    let front = take at old ++ row in
+    let size : length front ≡ at + count = omega (arith, length-append (take at old) row, length-take at old) in
+    let whole : new ≡ front ++ drop (at + count) old = is ∙ sym (append_assoc (take at old) row (drop (at + count) old)) in (
+      ap length whole ∙ omega (arith, length-append front (drop (at + count) old), length-drop (at + count) old),
+      ap (drop (at + count)) whole ∙ ap (λ (j : ℕ). drop j (front ++ drop (at + count) old)) (sym size) ∙ drop-append_seam front (drop (at + count) old),
+    )

@@ -1,0 +1,37 @@
+//! Heads: the places where the next words have to stand.
+ghost use Rattle.std.specs.Prelude.{◌≡◌, ◌^◌, ◌<◌, Some, None};
+ghost use Rattle.std.specs.Bool.{OnTrue, OnFalse};
+ghost use Rattle.capnp_units.specs.Segments.{words_in};
+ghost use Rattle.capnp_object.specs.Places.{place_view};
+ghost use Rattle.capnp_canonical.specs.Checks.{IsBehind};
+
+use capnp_object::arena::ReaderArena;
+use capnp_object::place::{Place, has_words};
+
+/// Whether a place lies behind another in its segment, at least so many words on.
+pub(crate) fn is_behind<A: ReaderArena>(arena: &A, place: Place, words: usize, head: Place) -> bool
+    ensures behind { let s = words_in (A.segments arena.now) in
+        OnTrue result (IsBehind s (place_view place) words (place_view head) × (head.position < 2 ^ 61)) }
+    ensures elsewhere { let s = words_in (A.segments arena.now) in
+        OnFalse result (IsBehind s (place_view place) words (place_view head) → ⊥) }
+{
+    head.segment == place.segment
+        && place.position <= head.position
+        && words <= head.position - place.position
+        && has_words(arena, head, 0)
+}
+
+/// Moves the head to the end, where there is one.
+pub(crate) fn move_on(head: &mut Place, end: Option<usize>) -> bool
+    ensures some { OnTrue result
+        ((end ≡ Some head.new.position) × (head.new.segment ≡ head.old.segment)) }
+    ensures none { OnFalse result ((end ≡ None) × (head.new ≡ head.old)) }
+{
+    match end {
+        Some(position) => {
+            head.position = position;
+            true
+        }
+        None => false,
+    }
+}
