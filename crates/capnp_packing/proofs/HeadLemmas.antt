@@ -1,5 +1,5 @@
 -- The group at the front of bytes that are shown.
-use Rattle.std.proofs.Common.{◌≡◌, ◌≢◌, ℕ, zero, suc, ◌+◌, ◌/◌, ◌%◌, ◌<◌, ◌≤◌, mod-lt, leb, List, [], ◌∷◌, ◌++◌, length, take, drop, get_or, Result, Ok, refl, sym, ap, subst, ◌∙◌, append_assoc, append-nil, arith, take-append-drop, length-take-le, length-drop}
+use Rattle.std.proofs.Common.{◌≡◌, ◌≢◌, ℕ, zero, suc, ◌+◌, ◌/◌, ◌%◌, ◌<◌, ◌≤◌, mod-lt, leb, List, [], ◌∷◌, ◌++◌, length, take, drop, get_or, Result, Ok, Err, refl, sym, ap, subst, ◌∙◌, append_assoc, append-nil, arith, take-append-drop, length-take-le, length-drop}
 use Rattle.std.specs.Int.{w64, from_le_bytes}
 use Rattle.std.proofs.lemmas.Bool.{le-leb, ne_eqb}
 use Rattle.std.proofs.lemmas.List.{take-append-le, drop-append-le, take_more, get_or_append_left}
@@ -13,7 +13,7 @@ use Rattle.std.proofs.Common.{take-take}
 use Rattle.capnp_packing.specs.Parts.{tagged}
 use Rattle.capnp_packing.specs.Tags.{marks}
 use Rattle.capnp_packing.specs.Runs.{run_view}
-use Rattle.capnp_packing.specs.Steps.{IsGroup}
+use Rattle.capnp_packing.specs.Steps.{IsGroup, BeginsWith}
 use Rattle.capnp_packing.specs.declared.runs.Run.{Run}
 use Rattle.capnp_packing.specs.declared.runs.Run.TheVariants.{Next, Zeros, Verbatim}
 use Rattle.capnp_stream.specs.Pieces.{EndsEarly, EachIsNeeded}
@@ -190,3 +190,28 @@ pub next-shown : (shown : List ℕ) (b tag m : ℕ) → 10 ≤ length shown → 
 next-shown shown b tag m long below same at =
     let front : b ≡ get_or (behind_tag (take 10 shown)) (marks 8 tag) 0 = at ∙ ap (λ (l : List ℕ). get_or l (marks 8 tag) 0) (behind-shown shown long) in
     behind-at (take 10 shown) b m (marks 8 tag) (length-take-le 10 shown long) below same front ∙ byte-shown shown long (1 + m) (omega arith)
+
+-- a tag that marks all bytes leaves them as they are
+front_of : Result (List ℕ × List ℕ) Kind → List ℕ
+front_of (Ok x) = x.0
+front_of (Err k) = []
+
+all-marked : (b : List ℕ) → length b ≡ 8 → tagged 255 (take (marks 8 255) b ++ []) ≡ Ok (b, [])
+unfolding tagged marks
+all-marked (b0 ∷ b1 ∷ b2 ∷ b3 ∷ b4 ∷ b5 ∷ b6 ∷ b7 ∷ []) e = refl
+all-marked (b0 ∷ b1 ∷ b2 ∷ b3 ∷ b4 ∷ b5 ∷ b6 ∷ b7 ∷ b8 ∷ b) e = absurd (omega arith)
+all-marked [] e = absurd (omega arith)
+all-marked (b0 ∷ []) e = absurd (omega arith)
+all-marked (b0 ∷ b1 ∷ []) e = absurd (omega arith)
+all-marked (b0 ∷ b1 ∷ b2 ∷ []) e = absurd (omega arith)
+all-marked (b0 ∷ b1 ∷ b2 ∷ b3 ∷ []) e = absurd (omega arith)
+all-marked (b0 ∷ b1 ∷ b2 ∷ b3 ∷ b4 ∷ []) e = absurd (omega arith)
+all-marked (b0 ∷ b1 ∷ b2 ∷ b3 ∷ b4 ∷ b5 ∷ []) e = absurd (omega arith)
+all-marked (b0 ∷ b1 ∷ b2 ∷ b3 ∷ b4 ∷ b5 ∷ b6 ∷ []) e = absurd (omega arith)
+
+pub full-word : (word shown : List ℕ) → 10 ≤ length shown → BeginsWith 255 word shown → take 8 (drop 1 shown) ≡ word
+unfolding front_of
+full-word word shown long group =
+    let b = take 8 (drop 1 shown) in
+    let eight : length b ≡ 8 = length-take-le 8 (drop 1 shown) (omega (arith, length-drop 1 shown)) in
+    ap front_of (sym (all-marked b eight) ∙ group.spells [])

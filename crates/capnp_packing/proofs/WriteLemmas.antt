@@ -1,5 +1,5 @@
 -- Packed words, group by group.
-use Rattle.std.proofs.Common.{◌≡◌, ℕ, zero, suc, ◌+◌, ◌-◌, ◌*◌, ◌/◌, ◌≤◌, List, [], ◌∷◌, ◌++◌, length, take, drop, None, Some, refl, sym, ap, subst, ◌∙◌, append_assoc, append-nil, arith, length-append, length-drop, length-take-le}
+use Rattle.std.proofs.Common.{◌≡◌, ◌≢◌, ℕ, zero, suc, ◌+◌, ◌-◌, ◌*◌, ◌/◌, ◌<◌, ◌≤◌, List, [], ◌∷◌, ◌++◌, length, take, drop, None, Some, refl, sym, ap, subst, ◌∙◌, append_assoc, append-nil, arith, length-append, length-drop, length-take-le}
 use Rattle.std.specs.declared.option.Option.{Option}
 use Rattle.std.specs.Int.{w64, from_le_bytes, to_le_bytes}
 use Rattle.std.specs.Io.KnownBytes.{Appends}
@@ -15,6 +15,7 @@ use Rattle.capnp_io.proofs.KnownLemmas.{AppendsPart-more, AppendsPart-next}
 use Rattle.capnp_stream.proofs.WordLemmas.{words_in_bytes-take, words_in_bytes-drop, bytes_of_words-back}
 use Rattle.capnp_packing.specs.Runs.{run_view, run_words, run_bytes}
 use Rattle.std.proofs.Common.{◌%◌, ◌⊎◌, inl, inr, set, length-set}
+use Rattle.std.proofs.lemmas.Bool.{ne_eqb}
 use Rattle.std.proofs.lemmas.List.{take_more_set}
 use borrow.Rule.Slice.PartMut.{put_mid}
 use Rattle.capnp_io.proofs.Filling.{take-put_mid_more}
@@ -158,17 +159,49 @@ module _ (word behind : List ℕ) (tag : ℕ) (run : Run) (bytes buf verbatim re
         spells = group-step ∙ ap (λ (l : List ℕ). l ++ packed_on (whole_words rest)) (sym joined ∙ sym (append-nil (take (len + length verbatim) after)));
       }
 
-pub Packs-then : (bytes buf tail after rest run behind : List ℕ) (len k : ℕ) → Packs bytes buf len [] rest → Packs rest tail k run behind → length tail ≡ length buf - len → length after ≡ length buf
+-- so many bytes of a buffer spell the words in front of those that are left, of which there are fewer once there are such bytes
+pub record Spelled (bytes buf : List ℕ) (len : ℕ) (left : List ℕ) : Type 0 where
+  pub within : len ≤ length buf
+  pub whole : length left % 8 ≡ 0
+  pub most : length left ≤ length bytes
+  pub fewer : 0 < len → length left < length bytes
+  pub spells : packed_on (whole_words bytes) ≡ take len buf ++ packed_on (whole_words left)
+
+pub Spelled-none : (bytes buf : List ℕ) → length bytes % 8 ≡ 0 → Spelled bytes buf 0 bytes
+Spelled-none bytes buf whole = record { within = omega arith; whole = whole; most = omega arith; fewer = λ some. absurd (omega arith); spells = refl }
+
+pub Spelled-of : (bytes buf : List ℕ) (len : ℕ) (left : List ℕ) → Packs bytes buf len [] left → Spelled bytes buf len left
+Spelled-of bytes buf len left p = record {
+  within = p.within;
+  whole = p.whole;
+  most = omega (arith, p.shorter);
+  fewer = λ some. p.shorter;
+  spells = p.spells ∙ ap (λ (l : List ℕ). l ++ packed_on (whole_words left)) (append-nil (take len buf));
+}
+
+pub Spelled-all : (bytes buf : List ℕ) (len : ℕ) (left : List ℕ) → length left < length bytes → Spelled bytes buf len left → Packs bytes buf len [] left
+Spelled-all bytes buf len left fewer p = record {
+  within = p.within;
+  shorter = fewer;
+  whole = p.whole;
+  spells = p.spells ∙ ap (λ (l : List ℕ). l ++ packed_on (whole_words left)) (sym (append-nil (take len buf)));
+}
+
+pub Spelled-then : (bytes buf tail after left run behind : List ℕ) (len k : ℕ) → Spelled bytes buf len left → Packs left tail k run behind → length tail ≡ length buf - len → length after ≡ length buf
     → take (len + k) after ≡ take len buf ++ take k tail → Packs bytes after (len + k) run behind
-Packs-then bytes buf tail after rest run behind len k first second size same joined =
+Spelled-then bytes buf tail after left run behind len k first second size same joined =
     let words = packed_on (whole_words behind) in
     record {
       within = omega (arith, first.within, second.within);
-      shorter = omega (arith, first.shorter, second.shorter);
+      shorter = omega (arith, first.most, second.shorter);
       whole = second.whole;
-      spells = first.spells ∙ ap (λ (l : List ℕ). l ++ packed_on (whole_words rest)) (append-nil (take len buf)) ∙ ap (λ (l : List ℕ). take len buf ++ l) second.spells
-          ∙ sym (append_assoc (take len buf) (take k tail ++ run) words) ∙ ap (λ (l : List ℕ). l ++ words) (sym (append_assoc (take len buf) (take k tail) run)) ∙ ap (λ (l : List ℕ). (l ++ run) ++ words) (sym joined);
+      spells = first.spells ∙ ap (λ (l : List ℕ). take len buf ++ l) second.spells ∙ sym (append_assoc (take len buf) (take k tail ++ run) words)
+          ∙ ap (λ (l : List ℕ). l ++ words) (sym (append_assoc (take len buf) (take k tail) run)) ∙ ap (λ (l : List ℕ). (l ++ run) ++ words) (sym joined);
     }
+
+-- a tag that marks some bytes and not all has no run
+pub next-longest : (tag : ℕ) (ws : List ℕ) → tag ≢ 0 → tag ≢ 255 → model.next ≡ longest_run tag ws
+next-longest tag ws some full = let a = ne_eqb tag 0 some in let b = ne_eqb tag 255 full in rw (a, b) refl
 
 -- ---- the packed words of a piece
 

@@ -1,5 +1,5 @@
 //! Puts bytes to the front of a buffer. Few are put there in one piece of a fixed size, and then any bytes stand behind them: no call and no loop depends on how many they are.
-ghost use Rattle.std.specs.Prelude.{◌≡◌, ◌≤◌, ◌+◌, ◌*◌, length, take, replicate, IsTrue};
+ghost use Rattle.std.specs.Prelude.{◌≡◌, ◌≤◌, ◌+◌, ◌*◌, ◌++◌, length, take, drop, replicate, IsTrue};
 
 /// Copies a chunk of so many bytes, if both have one and these `len` are in it.
 #[inline(always)]
@@ -103,6 +103,18 @@ pub(crate) fn clear_front(len: usize, to: &mut [u8])
     }
 }
 
+/// Copies the eight bytes at the front. By way of an array it takes one load and one store, whether or not both lie apart.
+#[inline(always)]
+pub(crate) fn copy_first(from: &[u8], to: &mut [u8])
+    requires here { 8 ≤ length from.now }
+    requires room { 8 ≤ length to.old }
+    ensures { to.new ≡ take 8 from.now ++ drop 8 to.old }
+{
+    let mut word = [0u8; 8];
+    word.copy_from_slice(&from[..8]);
+    to[..8].copy_from_slice(&word);
+}
+
 /// Copies the word behind so many bytes, which are the same already.
 #[inline(always)]
 fn copy_word(at: usize, from: &[u8], to: &mut [u8])
@@ -112,7 +124,7 @@ fn copy_word(at: usize, from: &[u8], to: &mut [u8])
     ensures copied { take (at + 8) to.new ≡ take (at + 8) from.now }
     ensures kept { length to.new ≡ length to.old }
 {
-    to[at..at + 8].copy_from_slice(&from[at..at + 8]);
+    copy_first(&from[at..], &mut to[at..]);
 }
 
 /// Copies a word and so many behind it. Up to three behind it are copied without a branch: where there are fewer the last is copied again, so that no room behind it is needed.

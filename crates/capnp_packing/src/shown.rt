@@ -3,7 +3,7 @@ ghost use Rattle.std.specs.Prelude.{◌≡◌, ◌<◌, ◌≤◌, ◌%◌, ◌�
 ghost use Rattle.capnp_packing.specs.Runs.{IsOver, NeedsBytes};
 ghost use Rattle.capnp_packing.specs.Steps.{IsFirst};
 
-use crate::copies::{clear_front, copy_front, copy_words};
+use crate::copies::{clear_front, copy_first, copy_front, copy_words};
 use crate::runs::Run;
 use crate::tags::{byte_behind, marked, spread};
 
@@ -43,11 +43,11 @@ pub(crate) struct Group {
 impl Group {
     ghost use Rattle.capnp_packing.specs.Steps.{BeginsWith, Fills};
 
-    /// The group of the tag 0 at the front of these bytes, and its run, of which the group has the count. `None`: it has more words than the buffer has room for.
+    /// The group of the tag 0 at the front of these bytes, and its run, of which the group has the count. The group's word stands in the buffer. `None`: the run has more words than the buffer has room for.
     #[inline(always)]
-    fn of_zeros(word: [u8; 8], shown: &[u8], buf: &mut [u8]) -> Option<Group>
+    fn of_zeros(shown: &[u8], buf: &mut [u8]) -> Option<Group>
         requires long { 10 ≤ length shown.now }
-        requires front { BeginsWith 0 word shown.now }
+        requires front { BeginsWith 0 (take 8 buf.old) shown.now }
         requires whole { length buf.old % 8 ≡ 0 }
         requires some { 0 < length buf.old }
         ensures { IfSome result (λ g. Fills shown.now buf.new g) }
@@ -57,7 +57,6 @@ impl Group {
             return None;
         }
         clear_front(len, &mut buf[8..]);
-        buf[..8].copy_from_slice(&word);
         Some(Group {
             taken: 2,
             filled: 8 + len,
@@ -65,11 +64,11 @@ impl Group {
         })
     }
 
-    /// The group of the tag 255 at the front of these bytes, and its run, of which the group has the count. `None`: it isn't shown whole, or has more words than the buffer has room for.
+    /// The group of the tag 255 at the front of these bytes, and its run, of which the group has the count. The group's word stands in the buffer. `None`: the run isn't shown whole, or has more words than the buffer has room for.
     #[inline(always)]
-    fn of_words(word: [u8; 8], shown: &[u8], buf: &mut [u8]) -> Option<Group>
+    fn of_words(shown: &[u8], buf: &mut [u8]) -> Option<Group>
         requires long { 10 ≤ length shown.now }
-        requires front { BeginsWith 255 word shown.now }
+        requires front { BeginsWith 255 (take 8 buf.old) shown.now }
         requires whole { length buf.old % 8 ≡ 0 }
         requires some { 0 < length buf.old }
         ensures { IfSome result (λ g. Fills shown.now buf.new g) }
@@ -79,9 +78,9 @@ impl Group {
         if len > buf.len() - 8 || len > shown.len() - GROUP_LEN {
             return None;
         }
-        // The eight bytes in front of the run take the place of the group's word, which is put there then.
+        // The eight bytes in front of the run take the place of the group's word, which is put back then.
         copy_words(words, &shown[2..], buf);
-        buf[..8].copy_from_slice(&word);
+        copy_first(&shown[1..], buf);
         let taken = GROUP_LEN + len;
         Some(Group {
             taken,
@@ -90,20 +89,20 @@ impl Group {
         })
     }
 
-    /// The group of the tag 0 or 255 at the front of these bytes, and its run. `None`: it isn't shown whole, or has more words than the buffer has room for.
+    /// The group of the tag 0 or 255 at the front of these bytes, and its run. The group's word stands in the buffer. `None`: the run isn't shown whole, or has more words than the buffer has room for.
     #[inline(always)]
-    fn with_run(tag: u8, word: [u8; 8], shown: &[u8], buf: &mut [u8]) -> Option<Group>
+    fn with_run(tag: u8, shown: &[u8], buf: &mut [u8]) -> Option<Group>
         requires long { 10 ≤ length shown.now }
-        requires front { BeginsWith tag word shown.now }
+        requires front { BeginsWith tag (take 8 buf.old) shown.now }
         requires counted { (tag ≡ 0) ⊎ (tag ≡ 255) }
         requires whole { length buf.old % 8 ≡ 0 }
         requires some { 0 < length buf.old }
         ensures { IfSome result (λ g. Fills shown.now buf.new g) }
     {
         if tag == 0 {
-            Group::of_zeros(word, shown, buf)
+            Group::of_zeros(shown, buf)
         } else {
-            Group::of_words(word, shown, buf)
+            Group::of_words(shown, buf)
         }
     }
 }
@@ -177,7 +176,7 @@ impl Step {
                 tag = byte_behind(tag, behind);
                 continue;
             }
-            let Some(next) = Group::with_run(tag, word, left, &mut buf[filled..]) else {
+            let Some(next) = Group::with_run(tag, left, &mut buf[filled..]) else {
                 break;
             };
             left = &left[next.taken..];
@@ -197,15 +196,14 @@ impl Step {
         requires { length buf.old % 8 ≡ 0 }
         ensures { Unpacks run shown.now buf.new result }
     {
+        if run.is_over() {
+            return Step::of_groups(run, shown, buf);
+        }
         let step = Step::of_run(run, shown, buf);
         if !step.run.is_over() {
             return step;
         }
-        let behind = Step::of_groups(
-            step.run,
-            &shown[step.taken..],
-            &mut buf[step.filled..],
-        );
+        let behind = Step::of_groups(step.run, &shown[step.taken..], &mut buf[step.filled..]);
         Step {
             taken: step.taken + behind.taken,
             filled: step.filled + behind.filled,

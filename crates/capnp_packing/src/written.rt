@@ -73,14 +73,34 @@ pub(crate) fn pack_groups<'a>(bytes: &'a [u8], buf: &mut [u8]) -> Written<'a>
     requires room { 10 ≤ length buf.old }
     ensures { Packs bytes.now buf.new result.len result.run.now result.rest.now }
 {
-    let mut made = pack_group(bytes, buf);
-    while made.run.is_empty() && !made.rest.is_empty() && buf.len() - made.len >= GROUP_LEN {
-        let next = pack_group(made.rest, &mut buf[made.len..]);
-        made = Written {
-            len: made.len + next.len,
-            run: next.run,
-            rest: next.rest,
+    let mut len = 0;
+    let mut left = bytes;
+    while buf.len() - len >= GROUP_LEN {
+        let Some((word, behind)) = left.split_first_chunk::<8>() else {
+            break;
         };
+        let tag = tag_of(word);
+        if tag != 0 && tag != 255 {
+            are_bytes(word);
+            are_bytes(behind);
+            len += put_head(word, tag, Run::Next, &mut buf[len..]);
+            left = behind;
+            continue;
+        }
+        let made = pack_group(left, &mut buf[len..]);
+        len += made.len;
+        left = made.rest;
+        if !made.run.is_empty() {
+            return Written {
+                len,
+                run: made.run,
+                rest: left,
+            };
+        }
     }
-    made
+    Written {
+        len,
+        run: &[],
+        rest: left,
+    }
 }

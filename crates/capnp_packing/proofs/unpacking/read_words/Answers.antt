@@ -42,8 +42,8 @@ returns-clause-ok g c =
     ∙ take-put_mid_more step.filled (length buf - step.filled) (length tail) buf tail read.fits (omega arith) ∙ ap (λ (l : List ℕ). take step.filled buf ++ l) (take_all (length tail) tail (omega arith)) in
     let count : (length buf - step.filled) / 8 ≡ length tail / 8 = ap (λ (n : ℕ). n / 8) (sym behind) in
     on_ok_weaker c.read_rest.result
-        (λ h. piece-joined _ _ _ (g.R.Read.remaining c.read_rest.new.source) buf tail after step leads read.fits read.whole (omega arith) behind kept joined
-        (subst (λ (n : ℕ). Takes (unpacked_from n (run_view step.run)) (g.R.Read.remaining c.next_words_or_zeros.new.source) (g.R.Read.remaining c.read_rest.new.source) (whole_words tail)) (search rules) h)) c.read_rest.ensures.ok
+    (λ h. piece-joined _ _ _ (g.R.Read.remaining c.read_rest.new.source) buf tail after step leads read.fits read.whole (omega arith) behind kept joined
+    (subst (λ (n : ℕ). Takes (unpacked_from n (run_view step.run)) (g.R.Read.remaining c.next_words_or_zeros.new.source) (g.R.Read.remaining c.read_rest.new.source) (whole_words tail)) (search rules) h)) c.read_rest.ensures.ok
 
 pub returns-clause-refused : goal.returns-clause-refused
 returns-clause-refused g c =

@@ -1,5 +1,6 @@
-use Rattle.std.proofs.Common.{◌≡◌, ℕ, ◌-◌, ◌*◌, ◌≤◌, List, ◌++◌, length, take, drop, replicate, get_or, refl, sym, ap, subst, ◌∙◌, arith, rules, take_at, drop_at, length-take-le, length-drop, length-append}
+use Rattle.std.proofs.Common.{◌≡◌, ℕ, ◌-◌, ◌*◌, ◌≤◌, List, length, take, drop, replicate, get_or, refl, sym, ap, subst, ◌∙◌, arith, rules, drop_at, length-take-le, length-drop}
 use Rattle.std.proofs.lemmas.List.{drop-take}
+use Rattle.std.proofs.lemmas.Slice.{take-put_mid_below}
 use borrow.Rule.Slice.PartMut.{put_mid}
 use Rattle.capnp_io.proofs.Filling.{take-put_mid_more}
 use Rattle.capnp_packing.specs.Steps.{IsFirst}
@@ -13,22 +14,16 @@ put-behind n k xs ys room fits =
 pub returns : goal.returns
 returns c =
     let shown = c.args.shown.now in
-    let word = c.args.word in
     let buf = c.args.buf.now in
     let k = get_or shown 1 0 in
-    let put = c.copy_from_slice.new.self in
-    let mid = put_mid 8 (length buf - 8) buf c.clear_front.new.to in
-    let after = put ++ drop 8 mid in
+    let after = put_mid 8 (length buf - 8) buf c.clear_front.new.to in
     let room : 8 ≤ length buf = omega (arith, c.requires.whole, c.requires.some) in
     let size : length c.clear_front.new.to ≡ length buf - 8 = omega (arith, c.clear_front.ensures.kept, length-drop 8 buf) in
-    let kept : length mid ≡ length buf = search rules in
-    let same : word ≡ put = cc in
-    let eight : length put ≡ 8 = omega (arith, length-take-le 8 mid (omega arith)) in
-    let whole : length after ≡ length buf = omega (arith, length-append put (drop 8 mid), length-drop 8 mid) in
-    let cleared : take (8 * k) (drop 8 after) ≡ replicate (8 * k) 0 =
-    ap (take (8 * k)) (drop_at put (drop 8 mid) 8 eight) ∙ put-behind (8 * k) (length buf - 8) buf c.clear_front.new.to room (omega (arith, c.if-len-buf.false)) ∙ c.clear_front.ensures.cleared in
+    let kept : length after ≡ length buf = search rules in
+    let front : take 8 after ≡ take 8 buf = take-put_mid_below 8 (length buf - 8) buf c.clear_front.new.to 8 (omega arith) room in
+    let cleared : take (8 * k) (drop 8 after) ≡ replicate (8 * k) 0 = put-behind (8 * k) (length buf - 8) buf c.clear_front.new.to room (omega (arith, c.if-len-buf.false)) ∙ c.clear_front.ensures.cleared in
     record {
       some = omega arith;
-      unpacked = λ r over. zeros-unpack shown after word 0 c.requires.long (omega arith) c.requires.front (take_at put (drop 8 mid) 8 eight ∙ sym same) r over k refl refl (omega (arith, whole, c.if-len-buf.false)) cleared;
+      unpacked = λ r over. zeros-unpack shown after (take 8 buf) 0 c.requires.long (omega arith) c.requires.front front r over k refl refl (omega (arith, kept, c.if-len-buf.false)) cleared;
       next = subst (IsFirst c.first_byte.result) (rest-of 2 shown) c.first_byte.ensures;
     }

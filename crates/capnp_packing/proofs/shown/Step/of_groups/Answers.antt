@@ -1,5 +1,5 @@
-use Rattle.std.proofs.Common.{◌≡◌, ℕ, ◌+◌, ◌-◌, ◌<◌, ◌≤◌, List, ◌++◌, length, take, drop, get_or, Ok, sym, ap, subst, ◌∙◌, arith, rules, take_at, length-drop, length-append}
-use Rattle.std.proofs.lemmas.List.{take_all, get_or-drop}
+use Rattle.std.proofs.Common.{◌≡◌, ℕ, ◌+◌, ◌-◌, ◌<◌, ◌≤◌, List, ◌++◌, length, take, drop, get_or, Ok, sym, ap, subst, ◌∙◌, arith, rules, take_at, drop_at, length-take-le, length-drop, length-append}
+use Rattle.std.proofs.lemmas.List.{take_all, get_or-drop, drop-take}
 use Rattle.std.proofs.lemmas.Slice.{take-put_mid_below}
 use borrow.Rule.Slice.PartMut.{put_mid}
 use Rattle.capnp_io.proofs.Filling.{take-put_mid_more}
@@ -80,3 +80,21 @@ loop-filled-preserved c =
       unpacked = groups-more shown left new next.taken i.within i.rest here is c.args.run l.filled next.filled l.buf tail after fills.some i.unpacked second size kept joined;
       tag = subst (IsFirst next.next) (sym is) fills.next;
     }
+
+pub with_run-requires-clause-front : goal.with_run-requires-clause-front
+with_run-requires-clause-front c =
+    let l = c.loop-filled in
+    let left = l.left.now in
+    let tag = l.tag in
+    let word = c.copy_from_slice.new.self in
+    let mid = put_mid l.filled (l.filled + 8 - l.filled) l.buf word in
+    let long : 10 ≤ length left = omega (arith, c.in-Some.ensures.cases.enough) in
+    let behind : c.behind_tag-behind.result.now ≡ take 8 (drop 1 left) = c.behind_tag-behind.ensures ∙ ap (λ (x : List ℕ). take 8 (drop 1 x)) c.in-Some.ensures.cases.same ∙ behind-front left long in
+    let group : BeginsWith tag c.spread-word.result left = record { here = l.invariant.tag (omega arith); spells = subst (λ (x : List ℕ). (more : List ℕ) → tagged tag (take (marks 8 tag) x ++ more) ≡ Ok (c.spread-word.result, more)) behind c.spread-word.ensures } in
+    let same : c.spread-word.result ≡ word = cc in
+    let eight : length word ≡ 8 = search rules in
+    let within : l.filled ≤ length l.buf = omega (arith, l.invariant.unpacked.fits) in
+    let front : take 8 (drop l.filled mid) ≡ word = sym (drop-take l.filled 8 mid) ∙ ap (drop l.filled) (take-put_mid_more l.filled _ 8 l.buf word within (omega arith))
+    ∙ drop_at (take l.filled l.buf) (take 8 word) l.filled (length-take-le l.filled l.buf within) ∙ take_all 8 word (omega arith) in
+    let put : take 8 (take (length mid - l.filled) (drop l.filled mid)) ≡ c.spread-word.result = ap (take 8) (rest-of l.filled mid) ∙ front ∙ sym same in
+    subst (λ (x : List ℕ). BeginsWith tag x left) (sym put) group
