@@ -1,0 +1,16 @@
+//! The schema layer under one name: node records and sets of them, types and schemas, dynamic readers, texts and data.
+#![tactic(auto)]
+
+pub mod dynamic_value;
+pub mod introspect;
+pub mod schema;
+
+pub use capnp_records::fault::SchemaFault;
+pub use capnp_records::node::{
+    AnnotationRecord, BaseType, EnumerantRecord, FieldBody, FieldRecord, NO_DISCRIMINANT, NodeBody,
+    NodeRecord, StructRecord, TypeRecord, Value,
+};
+pub use capnp_records::of_set::OfSet;
+pub use capnp_records::set::SchemaSet;
+pub use capnp_text::{data, text};
+pub use capnp_values::{any_pointer, dynamic_list, dynamic_struct, laws};
