@@ -7,6 +7,8 @@ use Rattle.capnp_model.specs.Schemas.{PlainType, bool, int, uint, «enum», widt
 use Rattle.capnp_model.specs.Readings.{just_bits, discriminant, is_active}
 use Rattle.capnp_queries.specs.Fields.{union_in, place_of_member, place_of_name}
 use Rattle.capnp_queries.specs.declared.structs.StructSchema.{StructSchema}
+use Rattle.capnp_units.specs.Items.{items_from, items_left}
+use Rattle.capnp_units.specs.declared.iter.ItemIter.{ItemIter}
 use Rattle.capnp_units.specs.declared.errors.Error.{Error}
 use Rattle.capnp_units.specs.declared.kinds.ErrorKind.TheVariants.{FieldNotFound}
 use Rattle.capnp_object.specs.Places.{seen}
@@ -21,11 +23,13 @@ use Rattle.capnp_queries.specs.declared.enumerants.Enumerant.{Enumerant}
 use Rattle.capnp_queries.specs.Handles.{entry_of, IsFieldRecord, IsFieldAt}
 use Rattle.capnp_queries.specs.declared.fields.Field.{Field}
 use Rattle.capnp_records.specs.Sets.{nodes_of}
+use Rattle.capnp_records.specs.declared.set.SchemaSet.{SchemaSet}
 use Rattle.capnp_model.specs.Accepted.{schema_of, default_bits}
 use Rattle.capnp_values.specs.ListSizes.{size_of}
 use Rattle.capnp_values.specs.GoodDefaults.{KeepsDefault}
 use Rattle.capnp_values.specs.Sources.{read_behind, default_pointer, masked_bits, pointer_seen, struct_seen, list_seen}
 use Rattle.capnp_values.specs.declared.dynamic_list.Reader as dynamic
+use Rattle.capnp_values.specs.declared.dynamic_struct.Reader.{Reader as DynamicStruct}
 use Rattle.capnp_values.specs.declared.dynamic_value.Reader.{Reader}
 use Rattle.capnp_values.specs.declared.dynamic_value.Reader.TheVariants as value
 
@@ -43,6 +47,10 @@ pub data Shown : Type 0 where
   a_list : Schema → Ty → ListView → Shown
   a_pointer : PointerView → Shown
   a_capability : Shown
+
+-- The schema that the nodes of a set make.
+abbrev pub schema_in : SchemaSet → Schema
+schema_in set = schema_of (nodes_of set)
 
 -- What the bits of a plain value show.
 abbrev pub number_shown : Schema → PlainType → ℕ → Shown
@@ -89,10 +97,14 @@ abbrev pub slot_opened : Schema → Ty → Option ModelValue → PointerView →
 slot_opened s ty None p = opened s ty p
 slot_opened s ty (Some d) p = if is_null p then default_opened s ty p d else opened s ty p
 
+-- What a plain slot shows of a struct, by its offset and the bits of its default.
+abbrev pub plain_shown : Schema → StructView → PlainType → ℕ → ℕ → Shown
+plain_shown s v p offset default = number_shown s p (masked_bits v (width p * offset) (width p) default)
+
 -- What a slot shows of a struct, by its offset, its type and its default. (Encoding, "Structs" and "Default Values")
 abbrev pub slot_shown : Schema → StructView → ℕ → Ty → Option ModelValue → Result Shown Kind
 slot_shown s v offset void d = Ok (a_number void 0)
-slot_shown s v offset (plain p) d = Ok (number_shown s p (masked_bits v (width p * offset) (width p) (default_bits d)))
+slot_shown s v offset (plain p) d = Ok (plain_shown s v p offset (default_bits d))
 slot_shown s v offset text d = slot_opened s text d (pointer_field v offset)
 slot_shown s v offset blob d = slot_opened s blob d (pointer_field v offset)
 slot_shown s v offset untyped d = slot_opened s untyped d (pointer_field v offset)
@@ -145,6 +157,10 @@ shown bytes (value.Capability c) = a_capability
 abbrev pub shown_at : {A : Type 0} → (A → List (List ℕ)) → dynamic.Reader A → ℕ → Result Shown Kind
 shown_at bytes l i = element_shown (schema_of (nodes_of l.set.now)) (ty_of l.element_type) (list_seen bytes l.source) i
 
+-- An iterator gives what the elements of a list show, in order.
+abbrev pub GivesElements : {A I T : Type 0} {index : _} {bound : _} → (A → List (List ℕ)) → dynamic.Reader A → ItemIter I (dynamic.Reader A) T index bound → Type 0
+GivesElements bytes l it = items_left (shown_at bytes) it ≡ items_from (shown_at bytes l) 0 (list_seen bytes l.source).count
+
 -- What a get of a field answers: what the field shows of the struct, by its own record, whose default keeps the rules.
 pub record ShowsField {A : Type 0} (bytes : A → List (List ℕ)) (v : StructView) (f : Field) (r : Result (Reader A) Error) : Type 0 where
   pub said : FieldNode
@@ -171,16 +187,31 @@ is_null_slot v (Some (plain_slot p at d)) = false
 is_null_slot v (Some (pointer_slot i ty d)) = is_null (pointer_field v i)
 is_null_slot v (Some (group_slot g)) = false
 
+-- The field is no inactive member.
+abbrev pub is_active_in : StructView → Field → Bool
+is_active_in v f = is_active_field (discriminant_shown f.parent v) (option_map (λ e. e.member) (entry_of f))
+
+-- The field lies behind a null pointer.
+abbrev pub is_null_in : StructView → Field → Bool
+is_null_in v f = is_null_slot v (option_map (λ e. e.body) (entry_of f))
+
 -- The field is no inactive member, and no null pointer.
 abbrev pub has_field : StructView → Field → Bool
-has_field v f =
-    is_active_field (discriminant_shown f.parent v) (option_map (λ e. e.member) (entry_of f)) && not (is_null_slot v (option_map (λ e. e.body) (entry_of f)))
+has_field v f = is_active_in v f && not (is_null_in v f)
 
 -- ---- the active member, and fields by name
 
 -- The index of the union's active member, if there is one.
 abbrev pub active_index : StructSchema → StructView → Option ℕ
 active_index s v = elim (discriminant_shown s v) [ None ↦ None | Some d ↦ place_of_member d (fields_of_struct s) ]
+
+-- The active member of a struct.
+abbrev pub active_in : {A : Type 0} → (A → List (List ℕ)) → DynamicStruct A → Option ℕ
+active_in bytes r = active_index r.schema (struct_seen bytes r.source)
+
+-- What is told of a field is whether it is there.
+abbrev pub TellsField : StructView → Field → Result Bool Error → Type 0
+TellsField v f told = told ≡ Ok (has_field v f)
 
 -- What is answered of the field of a name, or `FieldNotFound` where no field has it.
 abbrev pub AnswersNamed : {X : Type 0} → StructSchema → List ℕ → (Field → Result X Error → Type 0) → Result X Error → Type 0

@@ -12,7 +12,7 @@ use Rattle.capnp_model.specs.Segments.{root}
 use Rattle.capnp_units.specs.Segments.{words_in}
 use Rattle.capnp_object.specs.declared.object.Object.{Object}
 use Rattle.capnp_wire.specs.Views.{PointerView, seen_pointer, StructView, seen_struct, ListView, seen_list}
-use Rattle.capnp_wire.specs.Reads.{object_behind, unless_null, default_root}
+use Rattle.capnp_wire.specs.Reads.{object_behind, read_text, read_blob, read_struct, read_list, unless_null, default_root}
 use Rattle.capnp_values.specs.declared.defaults.Defaults.{Defaults}
 use Rattle.capnp_values.specs.declared.source.PointerSource.{PointerSource}
 use Rattle.capnp_values.specs.declared.source.PointerSource.TheVariants as pointer
@@ -24,6 +24,19 @@ use Rattle.capnp_values.specs.declared.source.ListSource.TheVariants as list
 -- What the object that a pointer names reads as, else the kind of its fault.
 abbrev pub read_behind : {Y : Type 0} → (Object → Result Y Kind) → PointerView → Result Y Kind
 read_behind read p = object_behind p and_then λ f. read f.object
+
+-- The text behind a pointer, its data, its struct, and its list with elements of an expected size.
+abbrev pub text_at : PointerView → Result (List ℕ) Kind
+text_at p = read_behind (read_text p.basis p.levels) p
+
+abbrev pub data_at : PointerView → Result (List ℕ) Kind
+data_at p = read_behind (read_blob p.basis p.levels) p
+
+abbrev pub struct_at : PointerView → Result StructView Kind
+struct_at p = read_behind (read_struct p.basis p.levels) p
+
+abbrev pub list_at : ElementSize → PointerView → Result ListView Kind
+list_at size p = read_behind (read_list p.basis p.levels size) p
 
 -- The one segment of the arena in which defaults are read: a null root.
 abbrev pub default_segments : Defaults → List (List ℕ)

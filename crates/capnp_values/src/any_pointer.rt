@@ -1,12 +1,12 @@
 //! Pointers of no type.
 ghost use Rattle.std.specs.Prelude.{◌≡◌, Result, Ok};
-ghost use Rattle.capnp_model.specs.Schemas.{Ty, untyped};
+ghost use Rattle.capnp_model.specs.Schemas.{untyped};
 ghost use Rattle.capnp_units.specs.declared.errors.Error.{Error};
 ghost use Rattle.capnp_object.specs.Places.{seen};
 ghost use Rattle.capnp_wire.specs.Views.{PointerView, seen_pointer};
-ghost use Rattle.capnp_wire.specs.Reads.{is_null, read_text, read_blob};
+ghost use Rattle.capnp_wire.specs.Reads.{is_null};
 ghost use Rattle.capnp_wire.specs.ValueSizes.{PointerSize};
-ghost use Rattle.capnp_values.specs.Sources.{read_behind, pointer_seen, WithoutLimit};
+ghost use Rattle.capnp_values.specs.Sources.{pointer_seen, WithoutLimit, text_at, data_at};
 
 use crate::source::PointerSource;
 use capnp_queries::introspect::{Introspect, Type, TypeVariant};
@@ -88,10 +88,10 @@ pub trait FromAnyPointer<'a, A: ReaderArena>: Sized {
 
 /// A text: the bytes of a byte list in front of its last, which is zero; null is the empty text.
 impl<'a, A: ReaderArena> FromAnyPointer<'a, A> for text::Reader<'a> {
-    ghost reads = { λ p r. seen (λ t. t.0.now) r ≡ read_behind (read_text p.basis p.levels) p };
+    ghost reads = { λ p r. seen (λ t. t.0.now) r ≡ text_at p };
 
     fn from_any_pointer(pointer: Reader<'a, A>) -> Result<text::Reader<'a>>
-        ensures { let p = pointer_seen A.segments pointer.entry.source in seen (λ t. t.0.now) result ≡ read_behind (read_text p.basis p.levels) p }
+        ensures { seen (λ t. t.0.now) result ≡ text_at (pointer_seen A.segments pointer.entry.source) }
     {
         Ok(text::Reader(pointer.source.text()?))
     }
@@ -99,10 +99,10 @@ impl<'a, A: ReaderArena> FromAnyPointer<'a, A> for text::Reader<'a> {
 
 /// Data: the bytes of a byte list; null is none.
 impl<'a, A: ReaderArena> FromAnyPointer<'a, A> for &'a [u8] {
-    ghost reads = { λ p r. seen (λ bytes. bytes.now) r ≡ read_behind (read_blob p.basis p.levels) p };
+    ghost reads = { λ p r. seen (λ bytes. bytes.now) r ≡ data_at p };
 
     fn from_any_pointer(pointer: Reader<'a, A>) -> Result<&'a [u8]>
-        ensures { let p = pointer_seen A.segments pointer.entry.source in seen (λ bytes. bytes.now) result ≡ read_behind (read_blob p.basis p.levels) p }
+        ensures { seen (λ bytes. bytes.now) result ≡ data_at (pointer_seen A.segments pointer.entry.source) }
     {
         pointer.source.data()
     }

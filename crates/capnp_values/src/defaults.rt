@@ -3,8 +3,7 @@ ghost use Rattle.std.specs.Prelude.{◌≡◌, ◌≢◌, pos, IfOk};
 ghost use Rattle.capnp_object.specs.Places.{seen};
 ghost use Rattle.capnp_units.specs.Sizes.{size_number};
 ghost use Rattle.capnp_wire.specs.Views.{seen_pointer, seen_struct, seen_list};
-ghost use Rattle.capnp_wire.specs.Reads.{read_struct, read_list};
-ghost use Rattle.capnp_values.specs.Sources.{default_segments, null_default, default_pointer, read_behind};
+ghost use Rattle.capnp_values.specs.Sources.{default_segments, null_default, default_pointer, struct_at, list_at};
 
 use capnp_units::errors::Result;
 use capnp_units::limiter::ReadLimiter;
@@ -57,7 +56,7 @@ pub(crate) fn null<'a>() -> PointerReader<'a, Defaults>
 ///
 /// It is refused as `PointerReader::get_struct` is; over an accepted set it isn't.
 pub(crate) fn default_struct<'a>(bytes: &'a [u8]) -> Result<StructReader<'a, Defaults>>
-    ensures { let p = default_pointer bytes.now in seen (seen_struct default_segments) result ≡ read_behind (read_struct p.basis p.levels) p }
+    ensures { seen (seen_struct default_segments) result ≡ struct_at (default_pointer bytes.now) }
 {
     let (words, _) = bytes.as_chunks::<8>();
     let mut unlimited = ReadLimiter::new(None);
@@ -71,7 +70,7 @@ pub(crate) fn default_list<'a>(
     bytes: &'a [u8],
     expected: ElementSize,
 ) -> Result<ListReader<'a, Defaults>>
-    ensures list { let p = default_pointer bytes.now in seen (seen_list default_segments) result ≡ read_behind (read_list p.basis p.levels expected) p }
+    ensures list { seen (seen_list default_segments) result ≡ list_at expected (default_pointer bytes.now) }
     ensures bytewise { size_number expected ≢ 1 → IfOk result (λ l. size_number (seen_list default_segments l).size ≢ 1) }
 {
     let (words, _) = bytes.as_chunks::<8>();

@@ -42,8 +42,7 @@ impl<A> Copy for Reader<'_, A> {}
 impl<'a, A: ReaderArena> Reader<'a, A> {
     ghost use Rattle.capnp_object.specs.Places.{seen};
     ghost use Rattle.capnp_values.specs.Sources.{list_seen};
-    ghost use Rattle.capnp_units.specs.Items.{items_from, items_left};
-    ghost use Rattle.capnp_values.specs.Shown.{shown, shown_at};
+    ghost use Rattle.capnp_values.specs.Shown.{shown, shown_at, GivesElements};
 
     /// A list of elements of a type of the set.
     pub(crate) fn of_source(
@@ -123,7 +122,7 @@ impl<'a, A: ReaderArena> Reader<'a, A> {
 
     /// What the elements are read as, in order, from both ends; each is read when it is asked for.
     pub fn iter(self) -> ListIter<Reader<'a, A>, Result<dynamic_value::Reader<'a, A>>>
-        ensures { items_left (shown_at A.segments) result ≡ items_from (shown_at A.segments self.entry) 0 (list_seen A.segments self.entry.source).count }
+        ensures { GivesElements A.segments self.entry result }
     {
         ListIter::new(self, self.len())
     }
@@ -150,15 +149,13 @@ impl<'a, A: ReaderArena> IndexMove<u32, Result<dynamic_value::Reader<'a, A>>> fo
 }
 
 impl<'a, A: ReaderArena> IntoIterator for Reader<'a, A> {
-    ghost use Rattle.capnp_units.specs.Items.{items_from, items_left};
-    ghost use Rattle.capnp_values.specs.Sources.{list_seen};
-    ghost use Rattle.capnp_values.specs.Shown.{shown_at};
+    ghost use Rattle.capnp_values.specs.Shown.{GivesElements};
 
     type Item = Result<dynamic_value::Reader<'a, A>>;
 
     type IntoIter = ListIter<Reader<'a, A>, Result<dynamic_value::Reader<'a, A>>>;
 
-    ghost into_iter_gives = { λ l it. items_left (shown_at A.segments) it ≡ items_from (shown_at A.segments l) 0 (list_seen A.segments l.source).count };
+    ghost into_iter_gives = { GivesElements A.segments };
 
     fn into_iter(self) -> ListIter<Reader<'a, A>, Result<dynamic_value::Reader<'a, A>>> {
         self.iter()

@@ -5,9 +5,9 @@ ghost use Rattle.capnp_wire.specs.Views.{seen_struct};
 ghost use Rattle.capnp_wire.specs.ValueSizes.{StructSizeOf};
 ghost use Rattle.capnp_values.specs.Sources.{struct_seen, WithoutLimit};
 ghost use Rattle.capnp_records.specs.NodeViews.{kind_of_field, value_of};
-ghost use Rattle.capnp_queries.specs.Handles.{entry_of, IsFieldAt};
+ghost use Rattle.capnp_queries.specs.Handles.{IsFieldAt};
 ghost use Rattle.capnp_values.specs.GoodDefaults.{HasBytes};
-ghost use Rattle.capnp_values.specs.Shown.{default_said, ShowsField, discriminant_shown, is_active_field, is_null_slot, has_field, active_index, AnswersNamed};
+ghost use Rattle.capnp_values.specs.Shown.{default_said, ShowsField, discriminant_shown, is_active_in, is_null_in, has_field, active_in, TellsField, AnswersNamed};
 ghost use Rattle.capnp_values.specs.Variants.{message_struct, fits_type};
 
 use crate::dynamic_value;
@@ -133,7 +133,7 @@ impl<'a, A: ReaderArena> Reader<'a, A> {
 
     /// Whether a field is no union member, or the active one.
     fn is_active(&self, field: Field<'a>) -> bool
-        ensures { result ≡ is_active_field (discriminant_shown field.entry.parent (struct_seen A.segments self.now.source)) (option_map (λ e. e.member) (entry_of field.entry)) }
+        ensures { result ≡ is_active_in (struct_seen A.segments self.now.source) field.entry }
     {
         let member = field.get_proto().discriminant_value;
         if member == NO_DISCRIMINANT {
@@ -147,7 +147,7 @@ impl<'a, A: ReaderArena> Reader<'a, A> {
 
     /// Whether a field lies behind a pointer that is null.
     fn is_null_slot(&self, field: Field<'a>) -> bool
-        ensures { result ≡ is_null_slot (struct_seen A.segments self.now.source) (option_map (λ e. e.body) (entry_of field.entry)) }
+        ensures { result ≡ is_null_in (struct_seen A.segments self.now.source) field.entry }
     {
         match field.place() {
             FieldPlace::Pointer { index, .. } => self.source.pointer(index as usize).is_null(),
@@ -164,7 +164,7 @@ impl<'a, A: ReaderArena> Reader<'a, A> {
 
     /// The union's active member: none without a union, and where the discriminant is that of no member. It never refuses.
     pub fn which(self) -> Result<Option<Field<'a>>>
-        ensures { let r = self.entry in IsOkAnd result (λ found. IsFieldAt r.schema (active_index r.schema (struct_seen A.segments r.source)) found) }
+        ensures { IsOkAnd result (IsFieldAt self.entry.schema (active_in A.segments self.entry)) }
     {
         match self.discriminant(self.schema) {
             None => Ok(None),
@@ -174,7 +174,7 @@ impl<'a, A: ReaderArena> Reader<'a, A> {
 
     /// What the field of a name is read as, as by `get`. A name that the struct lacks is refused by `FieldNotFound`.
     pub fn get_named(self, name: &str) -> Result<dynamic_value::Reader<'a, A>>
-        ensures { let r = self.entry in AnswersNamed r.schema name.now (λ f. ShowsField A.segments (struct_seen A.segments r.source) f) result }
+        ensures { let r = self.entry in AnswersNamed r.schema name.now (ShowsField A.segments (struct_seen A.segments r.source)) result }
     {
         let field = self.schema.get_field_by_name(name)?;
         self.get(field)
@@ -182,7 +182,7 @@ impl<'a, A: ReaderArena> Reader<'a, A> {
 
     /// Whether the field of a name is there, as by `has`. A name that the struct lacks is refused by `FieldNotFound`, and nothing else is.
     pub fn has_named(&self, name: &str) -> Result<bool>
-        ensures { AnswersNamed self.now.schema name.now (λ f told. told ≡ Ok (has_field (struct_seen A.segments self.now.source) f)) result }
+        ensures { let r = self.now in AnswersNamed r.schema name.now (TellsField (struct_seen A.segments r.source)) result }
     {
         let field = self.schema.get_field_by_name(name)?;
         self.has(field)

@@ -1,11 +1,10 @@
 //! Values of node records, as annotations have them.
 ghost use Rattle.std.specs.Prelude.{◌≡◌, true};
-ghost use Rattle.capnp_model.specs.Accepted.{schema_of};
 ghost use Rattle.capnp_object.specs.Places.{seen};
 ghost use Rattle.capnp_records.specs.NodeViews.{value_of};
 ghost use Rattle.capnp_records.specs.Sets.{nodes_of};
 ghost use Rattle.capnp_queries.specs.Types.{ty_of, is_type_of};
-ghost use Rattle.capnp_values.specs.Shown.{shown};
+ghost use Rattle.capnp_values.specs.Shown.{shown, schema_in};
 ghost use Rattle.capnp_values.specs.ValuesShown.{value_shown};
 
 use crate::any_pointer;
@@ -29,7 +28,7 @@ impl<'a, A: ReaderArena> Reader<'a, A> {
     #[tactic(auto, using(crate::proofs::Named::named_rules))]
     pub fn new(set: &'a SchemaSet, value: &'a Value, ty: Type) -> Result<Self>
         requires { is_type_of (nodes_of set.now) ty ≡ true }
-        ensures { seen (shown A.segments) result ≡ value_shown (schema_of (nodes_of set.now)) (ty_of ty) (value_of value.now) }
+        ensures { seen (shown A.segments) result ≡ value_shown (schema_in set.now) (ty_of ty) (value_of value.now) }
     {
         match (value, ty.which()) {
             (Value::Void, TypeVariant::Void) => Ok(Reader::Void),

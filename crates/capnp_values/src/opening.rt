@@ -2,16 +2,14 @@
 ghost use Rattle.std.specs.Prelude.{◌≡◌, ◌≢◌, true, Ok, option_map, option_copied};
 ghost use Rattle.capnp_model.specs.Chains.{◌and_then◌};
 ghost use Rattle.capnp_model.specs.Schemas.{struct, list};
-ghost use Rattle.capnp_model.specs.Accepted.{schema_of};
 ghost use Rattle.capnp_object.specs.Places.{seen};
-ghost use Rattle.capnp_wire.specs.Reads.{read_text, read_blob};
 ghost use Rattle.capnp_records.specs.NodeViews.{value_of};
 ghost use Rattle.capnp_records.specs.Sets.{nodes_of, IsNodeOf};
 ghost use Rattle.capnp_queries.specs.Types.{ty_of, is_type_of};
-ghost use Rattle.capnp_values.specs.Sources.{read_behind, pointer_seen, struct_seen, list_seen, size_in, default_pointer};
+ghost use Rattle.capnp_values.specs.Sources.{pointer_seen, struct_seen, list_seen, size_in, default_pointer, text_at, data_at};
 ghost use Rattle.capnp_units.specs.Sizes.{size_number};
 ghost use Rattle.capnp_values.specs.ListSizes.{size_of};
-ghost use Rattle.capnp_values.specs.Shown.{a_text, a_blob, a_struct, a_list, shown, opened, segment_opened, default_opened, slot_opened};
+ghost use Rattle.capnp_values.specs.Shown.{a_text, a_blob, a_struct, a_list, shown, opened, segment_opened, default_opened, slot_opened, schema_in};
 
 use crate::defaults::{default_list, default_struct};
 use crate::dynamic_value::{Capability, Reader};
@@ -48,13 +46,13 @@ pub(crate) fn element_size(ty: Type) -> ElementSize
 }
 
 fn open_text<'a, A: ReaderArena>(pointer: PointerSource<'a, A>) -> Result<Reader<'a, A>>
-    ensures { let p = pointer_seen A.segments pointer.entry in seen (shown A.segments) result ≡ (read_behind (read_text p.basis p.levels) p and_then λ bytes. Ok (a_text bytes)) }
+    ensures { seen (shown A.segments) result ≡ (text_at (pointer_seen A.segments pointer.entry) and_then λ bytes. Ok (a_text bytes)) }
 {
     Ok(Reader::Text(text::Reader(pointer.text()?)))
 }
 
 fn open_data<'a, A: ReaderArena>(pointer: PointerSource<'a, A>) -> Result<Reader<'a, A>>
-    ensures { let p = pointer_seen A.segments pointer.entry in seen (shown A.segments) result ≡ (read_behind (read_blob p.basis p.levels) p and_then λ bytes. Ok (a_blob bytes)) }
+    ensures { seen (shown A.segments) result ≡ (data_at (pointer_seen A.segments pointer.entry) and_then λ bytes. Ok (a_blob bytes)) }
 {
     Ok(Reader::Data(pointer.data()?))
 }
@@ -66,7 +64,7 @@ pub(crate) fn struct_value<'a, A: ReaderArena>(
     raw: RawBrandedStructSchema,
 ) -> Reader<'a, A>
     requires { IsNodeOf (nodes_of set.now) raw }
-    ensures { let s = schema_of (nodes_of set.now) in shown A.segments result ≡ a_struct s (s.shape_of raw.id) (struct_seen A.segments source.entry) }
+    ensures { let s = schema_in set.now in shown A.segments result ≡ a_struct s (s.shape_of raw.id) (struct_seen A.segments source.entry) }
 {
     let schema = StructSchema::new(set, raw);
     Reader::Struct(dynamic_struct::Reader { source, schema })
@@ -80,7 +78,7 @@ fn list_value<'a, A: ReaderArena>(
 ) -> Reader<'a, A>
     requires known { is_type_of (nodes_of set.now) element_type ≡ true }
     requires bytewise { size_number (size_of (ty_of element_type)) ≢ 1 → size_number (size_in source) ≢ 1 }
-    ensures { shown A.segments result ≡ a_list (schema_of (nodes_of set.now)) (ty_of element_type) (list_seen A.segments source.entry) }
+    ensures { shown A.segments result ≡ a_list (schema_in set.now) (ty_of element_type) (list_seen A.segments source.entry) }
 {
     Reader::List(dynamic_list::Reader::of_source(source, set, element_type))
 }
@@ -91,7 +89,7 @@ fn open_struct<'a, A: ReaderArena>(
     raw: RawBrandedStructSchema,
 ) -> Result<Reader<'a, A>>
     requires { IsNodeOf (nodes_of set.now) raw }
-    ensures { seen (shown A.segments) result ≡ opened (schema_of (nodes_of set.now)) (struct raw.id) (pointer_seen A.segments pointer.entry) }
+    ensures { seen (shown A.segments) result ≡ opened (schema_in set.now) (struct raw.id) (pointer_seen A.segments pointer.entry) }
 {
     Ok(struct_value(pointer.structure()?, set, raw))
 }
@@ -102,7 +100,7 @@ fn open_list<'a, A: ReaderArena>(
     element_type: Type,
 ) -> Result<Reader<'a, A>>
     requires { is_type_of (nodes_of set.now) element_type ≡ true }
-    ensures { seen (shown A.segments) result ≡ opened (schema_of (nodes_of set.now)) (list (ty_of element_type)) (pointer_seen A.segments pointer.entry) }
+    ensures { seen (shown A.segments) result ≡ opened (schema_in set.now) (list (ty_of element_type)) (pointer_seen A.segments pointer.entry) }
 {
     let source = pointer.list(element_size(element_type))?;
     Ok(list_value(source, set, element_type))
@@ -116,7 +114,7 @@ pub(crate) fn open<'a, A: ReaderArena>(
     ty: Type,
 ) -> Result<Reader<'a, A>>
     requires { is_type_of (nodes_of set.now) ty ≡ true }
-    ensures { seen (shown A.segments) result ≡ opened (schema_of (nodes_of set.now)) (ty_of ty) (pointer_seen A.segments pointer.entry) }
+    ensures { seen (shown A.segments) result ≡ opened (schema_in set.now) (ty_of ty) (pointer_seen A.segments pointer.entry) }
 {
     match ty.which() {
         TypeVariant::Text => open_text(pointer),
@@ -136,7 +134,7 @@ pub(crate) fn struct_of_default<'a, A: ReaderArena>(
     raw: RawBrandedStructSchema,
 ) -> Result<Reader<'a, A>>
     requires { IsNodeOf (nodes_of set.now) raw }
-    ensures { seen (shown A.segments) result ≡ opened (schema_of (nodes_of set.now)) (struct raw.id) (default_pointer bytes.now) }
+    ensures { seen (shown A.segments) result ≡ opened (schema_in set.now) (struct raw.id) (default_pointer bytes.now) }
 {
     let source = default_struct(bytes)?;
     Ok(struct_value(StructSource::Default(source), set, raw))
@@ -149,7 +147,7 @@ pub(crate) fn list_of_default<'a, A: ReaderArena>(
     element_type: Type,
 ) -> Result<Reader<'a, A>>
     requires { is_type_of (nodes_of set.now) element_type ≡ true }
-    ensures { seen (shown A.segments) result ≡ opened (schema_of (nodes_of set.now)) (list (ty_of element_type)) (default_pointer bytes.now) }
+    ensures { seen (shown A.segments) result ≡ opened (schema_in set.now) (list (ty_of element_type)) (default_pointer bytes.now) }
 {
     let source = default_list(bytes, element_size(element_type))?;
     Ok(list_value(ListSource::Default(source), set, element_type))
@@ -164,7 +162,7 @@ fn open_segment<'a, A: ReaderArena>(
     bytes: &'a [u8],
 ) -> Result<Reader<'a, A>>
     requires { is_type_of (nodes_of set.now) ty ≡ true }
-    ensures { seen (shown A.segments) result ≡ segment_opened (schema_of (nodes_of set.now)) (ty_of ty) (pointer_seen A.segments pointer.entry) bytes.now }
+    ensures { seen (shown A.segments) result ≡ segment_opened (schema_in set.now) (ty_of ty) (pointer_seen A.segments pointer.entry) bytes.now }
 {
     match ty.which() {
         TypeVariant::Struct(raw) => struct_of_default(bytes, set, raw),
@@ -181,7 +179,7 @@ fn open_default<'a, A: ReaderArena>(
     default: &'a Value,
 ) -> Result<Reader<'a, A>>
     requires { is_type_of (nodes_of set.now) ty ≡ true }
-    ensures { seen (shown A.segments) result ≡ default_opened (schema_of (nodes_of set.now)) (ty_of ty) (pointer_seen A.segments pointer.entry) (value_of default.now) }
+    ensures { seen (shown A.segments) result ≡ default_opened (schema_in set.now) (ty_of ty) (pointer_seen A.segments pointer.entry) (value_of default.now) }
 {
     match default {
         Value::Text(bytes) => Ok(Reader::Text(text::Reader(bytes))),
@@ -199,7 +197,7 @@ pub(crate) fn open_slot<'a, A: ReaderArena>(
     default: Option<&'a Value>,
 ) -> Result<Reader<'a, A>>
     requires { is_type_of (nodes_of set.now) ty ≡ true }
-    ensures { seen (shown A.segments) result ≡ slot_opened (schema_of (nodes_of set.now)) (ty_of ty) (option_map value_of (option_copied default.entry)) (pointer_seen A.segments pointer.entry) }
+    ensures { seen (shown A.segments) result ≡ slot_opened (schema_in set.now) (ty_of ty) (option_map value_of (option_copied default.entry)) (pointer_seen A.segments pointer.entry) }
 {
     match default {
         Some(value) if pointer.is_null() => open_default(pointer, set, ty, value),

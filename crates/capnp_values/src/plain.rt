@@ -1,11 +1,10 @@
 //! Plain values of structs.
 ghost use Rattle.std.specs.Prelude.{◌≡◌, ◌*◌, ◌^◌, ◌<◌, true};
 ghost use Rattle.capnp_model.specs.Schemas.{width};
-ghost use Rattle.capnp_model.specs.Accepted.{schema_of};
 ghost use Rattle.capnp_records.specs.Sets.{nodes_of};
 ghost use Rattle.capnp_queries.specs.Handles.{plain_of, is_plain_of};
-ghost use Rattle.capnp_values.specs.Sources.{struct_seen, masked_bits};
-ghost use Rattle.capnp_values.specs.Shown.{number_shown, shown};
+ghost use Rattle.capnp_values.specs.Sources.{struct_seen};
+ghost use Rattle.capnp_values.specs.Shown.{shown, schema_in, plain_shown};
 
 use crate::dynamic_value::{Enum, Reader};
 use crate::source::StructSource;
@@ -24,7 +23,7 @@ pub(crate) fn plain_value<'a, A: ReaderArena>(
 ) -> Reader<'a, A>
     requires fits { default_bits < 2 ^ width (plain_of ty) }
     requires known { is_plain_of (nodes_of set.now) ty ≡ true }
-    ensures { shown A.segments result ≡ number_shown (schema_of (nodes_of set.now)) (plain_of ty) (masked_bits (struct_seen A.segments source.now) (width (plain_of ty) * offset) (width (plain_of ty)) default_bits) }
+    ensures { shown A.segments result ≡ plain_shown (schema_in set.now) (struct_seen A.segments source.now) (plain_of ty) offset default_bits }
 {
     match ty {
         PlainType::Bool => Reader::Bool(source.bit(offset, default_bits == 1)),

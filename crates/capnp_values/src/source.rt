@@ -3,9 +3,9 @@ ghost use Rattle.std.specs.Prelude.{◌≡◌, ◌≢◌, ◌<◌, ◌==◌, ◌
 ghost use Rattle.capnp_object.specs.Places.{seen};
 ghost use Rattle.capnp_units.specs.Sizes.{size_number};
 ghost use Rattle.capnp_wire.specs.Views.{seen_pointer, seen_struct, seen_list, pointer_field, element_of, element_number, bit_of_bool};
-ghost use Rattle.capnp_wire.specs.Reads.{is_null, read_struct, read_list, read_blob, read_text};
+ghost use Rattle.capnp_wire.specs.Reads.{is_null};
 ghost use Rattle.capnp_wire.specs.ValueSizes.{PointerSize, StructSizeOf};
-ghost use Rattle.capnp_values.specs.Sources.{read_behind, pointer_seen, struct_seen, list_seen, size_in, default_segments, WithoutLimit, masked_bits};
+ghost use Rattle.capnp_values.specs.Sources.{pointer_seen, struct_seen, list_seen, size_in, default_segments, WithoutLimit, masked_bits, text_at, data_at, struct_at, list_at};
 
 use crate::defaults::Defaults;
 use capnp_units::errors::Result;
@@ -43,7 +43,7 @@ pub enum ListSource<'a, A> {
 
 #[tactic(auto, using(crate::proofs::Unlimited::answers_reading))]
 fn text_behind<'a, A: ReaderArena>(pointer: PointerReader<'a, A>) -> Result<&'a [u8]>
-    ensures { let p = seen_pointer A.segments pointer.entry in seen (λ r. r.now) result ≡ read_behind (read_text p.basis p.levels) p }
+    ensures { seen (λ r. r.now) result ≡ text_at (seen_pointer A.segments pointer.entry) }
 {
     let mut unlimited = ReadLimiter::new(None);
     pointer.get_text(&mut unlimited, None)
@@ -51,7 +51,7 @@ fn text_behind<'a, A: ReaderArena>(pointer: PointerReader<'a, A>) -> Result<&'a 
 
 #[tactic(auto, using(crate::proofs::Unlimited::answers_reading))]
 fn data_behind<'a, A: ReaderArena>(pointer: PointerReader<'a, A>) -> Result<&'a [u8]>
-    ensures { let p = seen_pointer A.segments pointer.entry in seen (λ r. r.now) result ≡ read_behind (read_blob p.basis p.levels) p }
+    ensures { seen (λ r. r.now) result ≡ data_at (seen_pointer A.segments pointer.entry) }
 {
     let mut unlimited = ReadLimiter::new(None);
     pointer.get_data(&mut unlimited, None)
@@ -59,7 +59,7 @@ fn data_behind<'a, A: ReaderArena>(pointer: PointerReader<'a, A>) -> Result<&'a 
 
 #[tactic(auto, using(crate::proofs::Unlimited::answers_reading))]
 fn struct_behind<'a, A: ReaderArena>(pointer: PointerReader<'a, A>) -> Result<StructReader<'a, A>>
-    ensures { let p = seen_pointer A.segments pointer.entry in seen (seen_struct A.segments) result ≡ read_behind (read_struct p.basis p.levels) p }
+    ensures { seen (seen_struct A.segments) result ≡ struct_at (seen_pointer A.segments pointer.entry) }
 {
     let mut unlimited = ReadLimiter::new(None);
     pointer.get_struct(&mut unlimited, None)
@@ -70,7 +70,7 @@ fn list_behind<'a, A: ReaderArena>(
     pointer: PointerReader<'a, A>,
     expected: ElementSize,
 ) -> Result<ListReader<'a, A>>
-    ensures list { let p = seen_pointer A.segments pointer.entry in seen (seen_list A.segments) result ≡ read_behind (read_list p.basis p.levels expected) p }
+    ensures list { seen (seen_list A.segments) result ≡ list_at expected (seen_pointer A.segments pointer.entry) }
     ensures bytewise { size_number expected ≢ 1 → IfOk result (λ l. size_number (seen_list A.segments l).size ≢ 1) }
 {
     let mut unlimited = ReadLimiter::new(None);
@@ -129,7 +129,7 @@ impl<'a, A: ReaderArena> PointerSource<'a, A> {
 
     /// The text behind the pointer; null is the empty one.
     pub(crate) fn text(self) -> Result<&'a [u8]>
-        ensures { let p = pointer_seen A.segments self.entry in seen (λ r. r.now) result ≡ read_behind (read_text p.basis p.levels) p }
+        ensures { seen (λ r. r.now) result ≡ text_at (pointer_seen A.segments self.entry) }
     {
         match self {
             PointerSource::Message(pointer) => text_behind(pointer),
@@ -139,7 +139,7 @@ impl<'a, A: ReaderArena> PointerSource<'a, A> {
 
     /// The data behind the pointer; null is none.
     pub(crate) fn data(self) -> Result<&'a [u8]>
-        ensures { let p = pointer_seen A.segments self.entry in seen (λ r. r.now) result ≡ read_behind (read_blob p.basis p.levels) p }
+        ensures { seen (λ r. r.now) result ≡ data_at (pointer_seen A.segments self.entry) }
     {
         match self {
             PointerSource::Message(pointer) => data_behind(pointer),
@@ -149,7 +149,7 @@ impl<'a, A: ReaderArena> PointerSource<'a, A> {
 
     /// The struct behind the pointer; null is the empty one.
     pub(crate) fn structure(self) -> Result<StructSource<'a, A>>
-        ensures { let p = pointer_seen A.segments self.entry in seen (struct_seen A.segments) result ≡ read_behind (read_struct p.basis p.levels) p }
+        ensures { seen (struct_seen A.segments) result ≡ struct_at (pointer_seen A.segments self.entry) }
     {
         match self {
             PointerSource::Message(pointer) => Ok(StructSource::Message(struct_behind(pointer)?)),
@@ -159,7 +159,7 @@ impl<'a, A: ReaderArena> PointerSource<'a, A> {
 
     /// The list behind the pointer, whose elements can be read as ones of the expected size; null is the empty one.
     pub(crate) fn list(self, expected: ElementSize) -> Result<ListSource<'a, A>>
-        ensures list { let p = pointer_seen A.segments self.entry in seen (list_seen A.segments) result ≡ read_behind (read_list p.basis p.levels expected) p }
+        ensures list { seen (list_seen A.segments) result ≡ list_at expected (pointer_seen A.segments self.entry) }
         ensures bytewise { size_number expected ≢ 1 → IfOk result (λ l. size_number (size_in l) ≢ 1) }
     {
         match self {
