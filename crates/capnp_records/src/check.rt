@@ -32,7 +32,9 @@ fn keeps_union(alloc: Global, node: &NodeRecord) -> Result<bool, AllocError>
 }
 
 fn keeps_places(alloc: Global, nodes: &[NodeRecord], node: &NodeRecord) -> Result<bool, AllocError>
-    ensures { IfOk result (λ b. b ≡ (not (is_struct_node (node_of node.now)) || has_no_overlap (shape_in (map node_of nodes.now) (length nodes.now) (node_of node.now).id))) }
+    ensures { IfOk result (λ b. b ≡ (not (is_struct_node (node_of node.now))
+        || has_no_overlap (shape_in (map node_of nodes.now) (length nodes.now)
+        (node_of node.now).id))) }
 {
     Ok(!is_struct(node) || has_no_overlap(alloc, nodes, nodes.len(), node.id)?)
 }
@@ -47,7 +49,8 @@ fn keeps(
     rule: u32,
 ) -> Result<bool, AllocError>
     requires { groups.now ≡ flat_map groups_used (map node_of nodes.now) }
-    ensures { IfOk result (λ b. b ≡ is_kept_by (map node_of nodes.now) (map node_of earlier.now) (node_of node.now) rule) }
+    ensures { IfOk result (λ b. b ≡ is_kept_by (map node_of nodes.now) (map node_of earlier.now)
+        (node_of node.now) rule) }
 {
     match rule {
         1 => Ok(!has_id(earlier, node.id)),

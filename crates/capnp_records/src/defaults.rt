@@ -92,7 +92,8 @@ fn is_default_of_list(default: &Option<Value>) -> bool
 
 #[tactic(auto, using(crate::proofs::Stored::types))]
 fn is_default_of(ty: TypeRecord, default: &Option<Value>) -> bool
-    ensures { result ≡ is_default_of (type_of (type_record_of ty)) (option_map value_of default.now) }
+    ensures { result ≡ is_default_of (type_of (type_record_of ty))
+        (option_map value_of default.now) }
 {
     if ty.list_count > 0 {
         return is_default_of_list(default);
@@ -116,7 +117,8 @@ fn have_good_defaults(fields: &[FieldRecord]) -> bool
 }
 
 pub(crate) fn has_good_defaults(node: &NodeRecord) -> bool
-    ensures { result ≡ list_all (λ f. has_good_default f.kind) (fields_of_kind (node_of node.now).kind) }
+    ensures { result ≡ list_all (λ f. has_good_default f.kind) (fields_of_kind
+        (node_of node.now).kind) }
 {
     match &node.body {
         NodeBody::Struct(holder) => have_good_defaults(&holder.fields),

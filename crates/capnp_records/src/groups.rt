@@ -30,7 +30,8 @@ fn is_field_of(body: &FieldBody, id: u64) -> bool
 }
 
 fn are_fields_of(fields: &[FieldRecord], id: u64) -> bool
-    ensures { result ≡ list_any (λ g. g == id) (flat_map (λ f. groups_of_field f.kind) (map field_of fields.now)) }
+    ensures { result ≡ list_any (λ g. g == id) (flat_map (λ f. groups_of_field f.kind)
+        (map field_of fields.now)) }
 {
     fields.iter().any(|field| is_field_of(&field.body, id))
 }
@@ -71,7 +72,8 @@ fn sizes_of(node: &NodeRecord) -> (u16, u16)
 
 /// Whether a group is no larger than its holder.
 fn fits_in(node: &NodeRecord, holder: Option<&NodeRecord>) -> bool
-    ensures { result ≡ fits_in (node_of node.now) (option_map node_of (option_copied holder.entry)) }
+    ensures { result ≡ fits_in (node_of node.now) (option_map node_of
+        (option_copied holder.entry)) }
 {
     match holder {
         None => false,
@@ -122,7 +124,8 @@ fn groups_below(alloc: Global, nodes: &[NodeRecord], id: u64) -> Result<Vec<u64>
 
 /// The ids of the groups one level below those of the ids, each once.
 fn next_level(alloc: Global, nodes: &[NodeRecord], ids: &[u64]) -> Result<Vec<u64>, AllocError>
-    ensures { IfOk result (λ v. PassSame v.items (flat_map (groups_below (map node_of nodes.now)) ids.now)) }
+    ensures { IfOk result (λ v. PassSame v.items (flat_map (groups_below
+        (map node_of nodes.now)) ids.now)) }
 {
     let mut next = Vec::new(alloc);
     let mut seen = HashSet::new(alloc);
@@ -147,7 +150,8 @@ fn is_nothing(ids: &[u64]) -> bool
 
 /// Whether a group's id is met going down through its group fields, level by level.
 fn meets_itself(alloc: Global, nodes: &[NodeRecord], node: &NodeRecord) -> Result<bool, AllocError>
-    ensures { IfOk result (λ b. b ≡ meets_below (map node_of nodes.now) (length nodes.now) (node_of node.now).id (Some (node_of node.now))) }
+    ensures { IfOk result (λ b. b ≡ meets_below (map node_of nodes.now) (length nodes.now)
+        (node_of node.now).id (Some (node_of node.now))) }
 {
     if nodes.is_empty() {
         return Ok(false);

@@ -8,6 +8,7 @@ ghost use Rattle.capnp_records.specs.declared.raw.RawBrandedStructSchema.{RawBra
 
 /// The id of the raw schema of a struct names a struct that is no group, among nodes that keep the rules.
 pub fn struct_is_named()
-    ensures { (nodes : List Node) (raw : RawBrandedStructSchema) → IsAccepted nodes → IsStructOf nodes raw
+    ensures { (nodes : List Node) (raw : RawBrandedStructSchema) → IsAccepted nodes
+        → IsStructOf nodes raw
         → names_a is_struct_node nodes raw.id ≡ true }
 {}

@@ -24,7 +24,8 @@ pub(crate) fn mark_at(marks: &[u8], place: usize) -> u8
 
 /// Whether no mark from a place up to another is above the highest.
 fn are_at_most(marks: &[u8], first: usize, end: usize, most: u8) -> bool
-    ensures { MatchBool result (AllAtMost marks.now first end most) (OneAbove marks.now first end most) }
+    ensures { MatchBool result (AllAtMost marks.now first end most)
+        (OneAbove marks.now first end most) }
 {
     for k in first..end {
         if mark_at(marks, k) > most {
@@ -72,7 +73,8 @@ impl Marks {
 
     /// Whether no mark of the area is above the highest.
     pub(crate) fn allows(&self, area: Area, most: u8) -> bool
-        ensures { MatchBool result (AllowsAll self.now (areas_in area) most) (Refuses self.now (areas_in area) most) }
+        ensures { MatchBool result (AllowsAll self.now (areas_in area) most) (Refuses self.now
+            (areas_in area) most) }
     {
         match area {
             Area::Empty => true,

@@ -19,13 +19,15 @@ fn are_few(annotations: &[AnnotationRecord]) -> bool
 }
 
 fn have_few(fields: &[FieldRecord]) -> bool
-    ensures { result ≡ list_all (λ l. nat_lt (length l) (2 ^ 29)) (map (λ f. f.annotations) (map field_of fields.now)) }
+    ensures { result ≡ list_all (λ l. nat_lt (length l) (2 ^ 29)) (map (λ f. f.annotations)
+        (map field_of fields.now)) }
 {
     fields.iter().all(|field| are_few(&field.annotations))
 }
 
 fn have_few_each(enumerants: &[EnumerantRecord]) -> bool
-    ensures { result ≡ list_all (λ l. nat_lt (length l) (2 ^ 29)) (map (λ e. e.annotations) (map enumerant_of enumerants.now)) }
+    ensures { result ≡ list_all (λ l. nat_lt (length l) (2 ^ 29)) (map (λ e. e.annotations)
+        (map enumerant_of enumerants.now)) }
 {
     enumerants
         .iter()

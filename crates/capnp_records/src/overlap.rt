@@ -27,7 +27,8 @@ pub(crate) struct Claim {
 /// The struct or the group that is written out of an id at so many levels.
 fn struct_at(nodes: &[NodeRecord], levels: usize, id: u64) -> Option<&StructRecord>
     ensures missing { IfNone result (IsUnwritten (map node_of nodes.now) levels id) }
-    ensures found { IfSome result (λ holder. IsWritten (map node_of nodes.now) levels id (struct_of holder.now)) }
+    ensures found { IfSome result (λ holder. IsWritten (map node_of nodes.now) levels id
+        (struct_of holder.now)) }
 {
     if levels == 0 {
         return None;
@@ -50,7 +51,9 @@ fn areas_of_body(
     levels: usize,
     body: &FieldBody,
 ) -> Result<Vec<Area>, AllocError>
-    ensures { IfOk result (λ v. areas_seen v.items ≡ areas_of_body (field_body (λ id. shape_in (map node_of nodes.now) levels id) (kind_of_field body.now))) }
+    ensures { IfOk result (λ v. areas_seen v.items
+        ≡ areas_of_body (field_body (λ id. shape_in (map node_of nodes.now) levels id)
+        (kind_of_field body.now))) }
 {
     match body {
         FieldBody::Slot { offset, ty, .. } => {
@@ -70,7 +73,8 @@ fn areas_of(
     levels: usize,
     id: u64,
 ) -> Result<Vec<Area>, AllocError>
-    ensures { IfOk result (λ v. areas_seen v.items ≡ areas_of (shape_in (map node_of nodes.now) levels id)) }
+    ensures { IfOk result (λ v. areas_seen v.items
+        ≡ areas_of (shape_in (map node_of nodes.now) levels id)) }
 {
     match struct_at(nodes, levels, id) {
         None => Ok(Vec::new(alloc)),
@@ -89,7 +93,8 @@ fn claim_of(
     levels: usize,
     field: &FieldRecord,
 ) -> Result<Claim, AllocError>
-    ensures { IfOk result (λ c. claim_of c ≡ claim_in (λ id. shape_in (map node_of nodes.now) levels id) (field_of field.now)) }
+    ensures { IfOk result (λ c. claim_of c ≡ claim_in (λ id. shape_in
+        (map node_of nodes.now) levels id) (field_of field.now)) }
 {
     let areas = areas_of_body(alloc, nodes, levels, &field.body)?;
     let is_member = field.discriminant_value != NO_DISCRIMINANT;
@@ -104,7 +109,8 @@ fn claims_of(
     levels: usize,
     holder: &StructRecord,
 ) -> Result<Vec<Claim>, AllocError>
-    ensures { IfOk result (λ v. map claim_of v.items ≡ claims_in (λ id. shape_in (map node_of nodes.now) levels id) (struct_of holder.now)) }
+    ensures { IfOk result (λ v. map claim_of v.items
+        ≡ claims_in (λ id. shape_in (map node_of nodes.now) levels id) (struct_of holder.now)) }
 {
     let mut claims = Vec::new(alloc);
     claims.push(discriminant(alloc, holder)?)?;
@@ -116,7 +122,11 @@ fn claims_of(
 
 /// What a struct's discriminant takes.
 fn discriminant(alloc: Global, holder: &StructRecord) -> Result<Claim, AllocError>
-    ensures { IfOk result (λ c. claim_of c ≡ (false, union_area (union_place (struct_of holder.now)))) }
+    ensures { IfOk result (λ c. claim_of c ≡ (
+      false,
+      union_area (union_place
+          (struct_of holder.now)),
+    )) }
 {
     let mut areas = Vec::new(alloc);
     if holder.discriminant_count != 0 {
@@ -146,7 +156,8 @@ fn areas_in_claims(alloc: Global, claims: &[Claim]) -> Result<Vec<Area>, AllocEr
 
 /// Whether no mark of the areas is above the highest.
 fn allows_all(marks: &Marks, areas: &[Area], most: u8) -> bool
-    ensures { MatchBool result (AllowsAll marks.now (areas_seen areas.now) most) (Refuses marks.now (areas_seen areas.now) most) }
+    ensures { MatchBool result (AllowsAll marks.now (areas_seen areas.now) most)
+        (Refuses marks.now (areas_seen areas.now) most) }
 {
     for area in areas {
         if !marks.allows(*area, most) {
@@ -227,7 +238,8 @@ fn body_has_no_overlap(
     levels: usize,
     body: &FieldBody,
 ) -> Result<bool, AllocError>
-    ensures { IfOk result (λ b. b ≡ body_has_no_overlap (field_body (λ id. shape_in (map node_of nodes.now) levels id) (kind_of_field body.now))) }
+    ensures { IfOk result (λ b. b ≡ body_has_no_overlap (field_body (λ id. shape_in
+        (map node_of nodes.now) levels id) (kind_of_field body.now))) }
 {
     match body {
         FieldBody::Slot { .. } => Ok(true),
@@ -243,7 +255,8 @@ fn have_no_overlap(
     levels: usize,
     fields: &[FieldRecord],
 ) -> Result<bool, AllocError>
-    ensures { IfOk result (λ b. b ≡ groups_have_no_overlap (λ id. shape_in (map node_of nodes.now) levels id) (map field_of fields.now)) }
+    ensures { IfOk result (λ b. b ≡ groups_have_no_overlap (λ id. shape_in
+        (map node_of nodes.now) levels id) (map field_of fields.now)) }
 {
     let mut rest = fields;
     while let [first, others @ ..] = rest {

@@ -16,7 +16,9 @@ fn push_types(
     types: &mut Vec<TypeRecord>,
     annotations: &[AnnotationRecord],
 ) -> Result<(), AllocError>
-    ensures { IfOk result (λ _. map type_record_of types.new.items ≡ map type_record_of types.old.items ++ map (λ a. a.type) (map annotation_of annotations.now)) }
+    ensures { IfOk result (λ _. map type_record_of types.new.items
+        ≡ map type_record_of types.old.items ++ map (λ a. a.type)
+        (map annotation_of annotations.now)) }
 {
     for annotation in annotations {
         types.push(annotation.ty)?;
@@ -25,7 +27,9 @@ fn push_types(
 }
 
 fn push_slot_types(types: &mut Vec<TypeRecord>, fields: &[FieldRecord]) -> Result<(), AllocError>
-    ensures { IfOk result (λ _. map type_record_of types.new.items ≡ map type_record_of types.old.items ++ flat_map (λ f. slot_types f.kind) (map field_of fields.now)) }
+    ensures { IfOk result (λ _. map type_record_of types.new.items
+        ≡ map type_record_of types.old.items ++ flat_map (λ f. slot_types f.kind)
+        (map field_of fields.now)) }
 {
     for field in fields {
         if let FieldBody::Slot { ty, .. } = &field.body {
@@ -36,7 +40,9 @@ fn push_slot_types(types: &mut Vec<TypeRecord>, fields: &[FieldRecord]) -> Resul
 }
 
 fn push_field_types(types: &mut Vec<TypeRecord>, fields: &[FieldRecord]) -> Result<(), AllocError>
-    ensures { IfOk result (λ _. map type_record_of types.new.items ≡ map type_record_of types.old.items ++ map (λ a. a.type) (flat_map (λ as'. as') (map (λ f. f.annotations) (map field_of fields.now)))) }
+    ensures { IfOk result (λ _. map type_record_of types.new.items
+        ≡ map type_record_of types.old.items ++ map (λ a. a.type) (flat_map (λ as'. as') (map
+        (λ f. f.annotations) (map field_of fields.now)))) }
 {
     for field in fields {
         push_types(types, &field.annotations)?;
@@ -48,7 +54,9 @@ fn push_enumerant_types(
     types: &mut Vec<TypeRecord>,
     enumerants: &[EnumerantRecord],
 ) -> Result<(), AllocError>
-    ensures { IfOk result (λ _. map type_record_of types.new.items ≡ map type_record_of types.old.items ++ map (λ a. a.type) (flat_map (λ as'. as') (map (λ e. e.annotations) (map enumerant_of enumerants.now)))) }
+    ensures { IfOk result (λ _. map type_record_of types.new.items
+        ≡ map type_record_of types.old.items ++ map (λ a. a.type) (flat_map (λ as'. as') (map
+        (λ e. e.annotations) (map enumerant_of enumerants.now)))) }
 {
     for enumerant in enumerants {
         push_types(types, &enumerant.annotations)?;
@@ -78,7 +86,8 @@ pub(crate) fn types_of(alloc: Global, node: &NodeRecord) -> Result<Vec<TypeRecor
 // ---- groups
 
 fn push_groups(groups: &mut Vec<u64>, fields: &[FieldRecord]) -> Result<(), AllocError>
-    ensures { IfOk result (λ _. groups.new.items ≡ groups.old.items ++ flat_map (λ f. groups_of_field f.kind) (map field_of fields.now)) }
+    ensures { IfOk result (λ _. groups.new.items
+        ≡ groups.old.items ++ flat_map (λ f. groups_of_field f.kind) (map field_of fields.now)) }
 {
     for field in fields {
         if let FieldBody::Group { node } = &field.body {
@@ -90,7 +99,8 @@ fn push_groups(groups: &mut Vec<u64>, fields: &[FieldRecord]) -> Result<(), Allo
 
 /// Appends the ids of the groups that a node's fields are.
 pub(crate) fn push_groups_of(groups: &mut Vec<u64>, node: &NodeRecord) -> Result<(), AllocError>
-    ensures { IfOk result (λ _. groups.new.items ≡ groups.old.items ++ groups_used (node_of node.now)) }
+    ensures { IfOk result (λ _. groups.new.items
+        ≡ groups.old.items ++ groups_used (node_of node.now)) }
 {
     match &node.body {
         NodeBody::Struct(record) => push_groups(groups, &record.fields),
@@ -113,7 +123,8 @@ fn push_field_names<'a>(
     names: &mut Vec<&'a str>,
     fields: &'a [FieldRecord],
 ) -> Result<(), AllocError>
-    ensures { IfOk result (λ _. map (λ s. s.now) names.new.items ≡ map (λ s. s.now) names.old.items ++ map (λ f. f.name) (map field_of fields.now)) }
+    ensures { IfOk result (λ _. map (λ s. s.now) names.new.items
+        ≡ map (λ s. s.now) names.old.items ++ map (λ f. f.name) (map field_of fields.now)) }
 {
     for field in fields {
         names.push(field.name.as_str())?;
@@ -125,7 +136,8 @@ fn push_enumerant_names<'a>(
     names: &mut Vec<&'a str>,
     enumerants: &'a [EnumerantRecord],
 ) -> Result<(), AllocError>
-    ensures { IfOk result (λ _. map (λ s. s.now) names.new.items ≡ map (λ s. s.now) names.old.items ++ map (λ e. e.name) (map enumerant_of enumerants.now)) }
+    ensures { IfOk result (λ _. map (λ s. s.now) names.new.items
+        ≡ map (λ s. s.now) names.old.items ++ map (λ e. e.name) (map enumerant_of enumerants.now)) }
 {
     for enumerant in enumerants {
         names.push(enumerant.name.as_str())?;

@@ -167,7 +167,8 @@ fn bytes_of_words(alloc: Global, words: &[u64]) -> Result<Vec<u8>, AllocError>
 fn is_spelled(alloc: Global, mut value: Value, bytes: &[u8]) -> Result<bool, AllocError>
     requires fits { Fits (tree_of_value value) }
     requires few { length bytes.now < 8 * 2 ^ 29 }
-    ensures { IfOk result (λ b. b ≡ bytes_eq (bytes_of_words (canonical_words (trim (tree_of_value value)))) bytes.now) }
+    ensures { IfOk result (λ b. b ≡ bytes_eq (bytes_of_words (canonical_words (trim
+        (tree_of_value value)))) bytes.now) }
 {
     trim_whole(&mut value);
     if !is_short(&value) {
@@ -180,7 +181,8 @@ fn is_spelled(alloc: Global, mut value: Value, bytes: &[u8]) -> Result<bool, All
 
 /// The value of the root that the words of the bytes hold, without capabilities, of at most 64 levels.
 fn read_root(alloc: Global, bytes: &[u8]) -> Result<Option<Value>, AllocError>
-    ensures { IfOk result (λ found. option_map tree_of_value found ≡ clean_at 64 (whole_words bytes.now ∷ []) root) }
+    ensures { IfOk result (λ found. option_map tree_of_value found
+        ≡ clean_at 64 (whole_words bytes.now ∷ []) root) }
 {
     let owners: [&[u8]; 1] = [bytes];
     read_whole(alloc, &owners.as_slice(), MOST_LEVELS)

@@ -61,8 +61,10 @@ impl SchemaSet {
     fn find(&self, id: u64) -> Option<(usize, &NodeRecord)>
         ensures missing { IfNone result (find_node (nodes_of self.now) id ≡ None) }
         ensures id { IfSome result (λ found. found.1.now.id ≡ id) }
-        ensures place { IfSome result (λ found. slice_get (nodes_of self.now) found.0 ≡ Some (node_of found.1.now)) }
-        ensures found { IfSome result (λ found. find_node (nodes_of self.now) id ≡ Some (node_of found.1.now)) }
+        ensures place { IfSome result (λ found. slice_get (nodes_of self.now) found.0
+            ≡ Some (node_of found.1.now)) }
+        ensures found { IfSome result (λ found. find_node (nodes_of self.now) id
+            ≡ Some (node_of found.1.now)) }
     {
         let Some(place) = self.places.get(&id) else {
             return None;
@@ -152,7 +154,8 @@ impl SchemaSet {
     /// The places of the fields of a struct or a group of this set.
     pub fn field_tables(&self, raw: RawBrandedStructSchema) -> &FieldTables
         requires { IsNodeOf (nodes_of self.now) raw }
-        ensures { (s : StructNode) → struct_found (nodes_of self.now) raw.id ≡ Some s → AreTablesOf s result.now }
+        ensures { (s : StructNode) → struct_found (nodes_of self.now) raw.id
+            ≡ Some s → AreTablesOf s result.now }
     {
         &self.tables[raw.number as usize]
     }
@@ -187,7 +190,8 @@ impl SchemaSet {
     /// The node at a place, where it is that of the id.
     pub(crate) fn node_at(&self, number: u64, id: u64) -> Option<&NodeRecord>
         ensures missing { IfNone result (is_at (λ n. true) (nodes_of self.now) number id ≡ false) }
-        ensures found { IfSome result (λ node. slice_get (nodes_of self.now) number ≡ Some (node_of node.now)) }
+        ensures found { IfSome result (λ node. slice_get (nodes_of self.now) number
+            ≡ Some (node_of node.now)) }
         ensures id { IfSome result (λ node. node.now.id ≡ id) }
     {
         let place = number as usize;

@@ -72,7 +72,8 @@ pub(crate) fn has_its_place(holder: &StructRecord, body: &FieldBody) -> bool
 /// What a slot takes.
 #[tactic(auto, using(crate::proofs::Stored::areas))]
 pub(crate) fn area_of(offset: u32, ty: TypeRecord) -> Area
-    ensures { (d : Option Value) → areas_in result ≡ areas_of_body (slot_body offset (type_of (type_record_of ty)) d) }
+    ensures { (d : Option Value) → areas_in result
+        ≡ areas_of_body (slot_body offset (type_of (type_record_of ty)) d) }
 {
     match storage_of(ty) {
         Storage::Nothing => Area::Empty,

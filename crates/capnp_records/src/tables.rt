@@ -69,8 +69,10 @@ fn tables_of_node(alloc: Global, node: &NodeRecord) -> Result<FieldTables, Alloc
 /// The tables of the nodes, in order.
 pub(crate) fn tables_of(alloc: Global, nodes: &[NodeRecord]) -> Result<Vec<FieldTables>, AllocError>
     requires { list_all is_short (map node_of nodes.now) ≡ true }
-    ensures members { IfOk result (λ v. map (λ t. t.members.items) v.items ≡ map (λ n. members_in n.kind) (map node_of nodes.now)) }
-    ensures others { IfOk result (λ v. map (λ t. t.others.items) v.items ≡ map (λ n. others_in n.kind) (map node_of nodes.now)) }
+    ensures members { IfOk result (λ v. map (λ t. t.members.items) v.items
+        ≡ map (λ n. members_in n.kind) (map node_of nodes.now)) }
+    ensures others { IfOk result (λ v. map (λ t. t.others.items) v.items
+        ≡ map (λ n. others_in n.kind) (map node_of nodes.now)) }
 {
     let mut tables = Vec::new(alloc);
     for node in nodes {
@@ -84,7 +86,8 @@ pub(crate) fn places_of(
     alloc: Global,
     nodes: &[NodeRecord],
 ) -> Result<HashMap<u64, usize>, AllocError>
-    ensures { IfOk result (λ m. (id : ℕ) → get nat_eq m id ≡ node_place id 0 (map node_of nodes.now)) }
+    ensures { IfOk result (λ m. (id : ℕ) → get nat_eq m id
+        ≡ node_place id 0 (map node_of nodes.now)) }
 {
     let mut places = HashMap::new(alloc);
     let mut left = nodes.len();

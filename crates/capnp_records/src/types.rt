@@ -44,7 +44,8 @@ fn names_its_sort(nodes: &[NodeRecord], base: BaseType) -> bool
 }
 
 fn name_their_sorts(nodes: &[NodeRecord], types: &[TypeRecord]) -> bool
-    ensures { result ≡ list_all (λ t. names_its_sort (map node_of nodes.now) t.base) (map type_record_of types.now) }
+    ensures { result ≡ list_all (λ t. names_its_sort (map node_of nodes.now) t.base)
+        (map type_record_of types.now) }
 {
     types.iter().all(|ty| names_its_sort(nodes, ty.base))
 }

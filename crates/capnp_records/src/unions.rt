@@ -21,7 +21,8 @@ fn member_of(field: &FieldRecord) -> Option<u16>
 }
 
 fn push_members(members: &mut Vec<u16>, fields: &[FieldRecord]) -> Result<(), AllocError>
-    ensures { IfOk result (λ _. members.new.items ≡ members.old.items ++ filter_map (λ f. f.member) (map field_of fields.now)) }
+    ensures { IfOk result (λ _. members.new.items
+        ≡ members.old.items ++ filter_map (λ f. f.member) (map field_of fields.now)) }
 {
     for field in fields {
         if let Some(member) = member_of(field) {
@@ -33,7 +34,8 @@ fn push_members(members: &mut Vec<u16>, fields: &[FieldRecord]) -> Result<(), Al
 
 /// Whether the members are below the count and none stands twice.
 fn are_once_below(alloc: Global, members: &[u16], count: u16) -> Result<bool, AllocError>
-    ensures { IfOk result (λ b. b ≡ (list_all (λ m. nat_lt m count) members.now && are_once members.now)) }
+    ensures { IfOk result (λ b. b ≡ (list_all
+        (λ m. nat_lt m count) members.now && are_once members.now)) }
 {
     let mut seen = Vec::new(alloc);
     for member in members {

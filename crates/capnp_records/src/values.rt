@@ -37,7 +37,8 @@ fn default_reads(alloc: Global, body: &FieldBody) -> Result<bool, AllocError>
 }
 
 fn defaults_read(alloc: Global, fields: &[FieldRecord]) -> Result<bool, AllocError>
-    ensures { IfOk result (λ b. b ≡ list_all (λ f. default_reads f.kind) (map field_of fields.now)) }
+    ensures { IfOk result (λ b. b ≡ list_all (λ f. default_reads f.kind)
+        (map field_of fields.now)) }
 {
     let mut rest = fields;
     while let [first, others @ ..] = rest {
@@ -50,7 +51,8 @@ fn defaults_read(alloc: Global, fields: &[FieldRecord]) -> Result<bool, AllocErr
 }
 
 pub(crate) fn has_good_default_values(alloc: Global, node: &NodeRecord) -> Result<bool, AllocError>
-    ensures { IfOk result (λ b. b ≡ list_all (λ f. default_reads f.kind) (fields_of_kind (node_of node.now).kind)) }
+    ensures { IfOk result (λ b. b ≡ list_all (λ f. default_reads f.kind) (fields_of_kind
+        (node_of node.now).kind)) }
 {
     match &node.body {
         NodeBody::Struct(holder) => defaults_read(alloc, &holder.fields),
@@ -61,7 +63,8 @@ pub(crate) fn has_good_default_values(alloc: Global, node: &NodeRecord) -> Resul
 // ---- annotations
 
 fn are_good(alloc: Global, annotations: &[AnnotationRecord]) -> Result<bool, AllocError>
-    ensures { IfOk result (λ b. b ≡ list_all (λ a. is_good_value (λ t. true) (Some a.value)) (map annotation_of annotations.now)) }
+    ensures { IfOk result (λ b. b ≡ list_all (λ a. is_good_value (λ t. true) (Some a.value))
+        (map annotation_of annotations.now)) }
 {
     let mut rest = annotations;
     while let [first, others @ ..] = rest {
@@ -74,7 +77,8 @@ fn are_good(alloc: Global, annotations: &[AnnotationRecord]) -> Result<bool, All
 }
 
 fn fields_are_good(alloc: Global, fields: &[FieldRecord]) -> Result<bool, AllocError>
-    ensures { IfOk result (λ b. b ≡ list_all (λ a. is_good_value (λ t. true) (Some a.value)) (flat_map (λ as'. as') (map (λ f. f.annotations) (map field_of fields.now)))) }
+    ensures { IfOk result (λ b. b ≡ list_all (λ a. is_good_value (λ t. true) (Some a.value))
+        (flat_map (λ as'. as') (map (λ f. f.annotations) (map field_of fields.now)))) }
 {
     let mut rest = fields;
     while let [first, others @ ..] = rest {
@@ -87,7 +91,8 @@ fn fields_are_good(alloc: Global, fields: &[FieldRecord]) -> Result<bool, AllocE
 }
 
 fn enumerants_are_good(alloc: Global, enumerants: &[EnumerantRecord]) -> Result<bool, AllocError>
-    ensures { IfOk result (λ b. b ≡ list_all (λ a. is_good_value (λ t. true) (Some a.value)) (flat_map (λ as'. as') (map (λ e. e.annotations) (map enumerant_of enumerants.now)))) }
+    ensures { IfOk result (λ b. b ≡ list_all (λ a. is_good_value (λ t. true) (Some a.value))
+        (flat_map (λ as'. as') (map (λ e. e.annotations) (map enumerant_of enumerants.now)))) }
 {
     let mut rest = enumerants;
     while let [first, others @ ..] = rest {
@@ -100,7 +105,8 @@ fn enumerants_are_good(alloc: Global, enumerants: &[EnumerantRecord]) -> Result<
 }
 
 pub(crate) fn has_good_annotations(alloc: Global, node: &NodeRecord) -> Result<bool, AllocError>
-    ensures { IfOk result (λ b. b ≡ list_all (λ a. is_good_value (λ t. true) (Some a.value)) (annotations_in (node_of node.now))) }
+    ensures { IfOk result (λ b. b ≡ list_all (λ a. is_good_value (λ t. true) (Some a.value))
+        (annotations_in (node_of node.now))) }
 {
     let own = are_good(alloc, &node.annotations)?;
     let others = match &node.body {
