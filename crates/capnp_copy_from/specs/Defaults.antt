@@ -4,7 +4,7 @@ use Rattle.std.specs.List.{flat_map}
 use Rattle.capnp_model.specs.Segments.{Segments, Place, root, word_at}
 use Rattle.capnp_units.specs.declared.errors.Error.{Error}
 use Rattle.capnp_units.specs.declared.limiter.ReadLimiter.{ReadLimiter}
-use Rattle.capnp_units.specs.Limits.{limit_of}
+use Rattle.capnp_units.specs.Limits.{limit_of, granted_of}
 use Rattle.capnp_units.specs.Segments.{words_in}
 use Rattle.capnp_copy_from.specs.Copies.{CopiesValue}
 
@@ -16,11 +16,12 @@ default_segments words = words_in (flat_map (λ word. word) words ∷ [])
 abbrev pub is_null_at : Segments → Place → Bool
 is_null_at s p = unwrap_or (word_at s p) 0 == 0
 
--- A default's root was copied, under no limit of words.
+-- A default's root was copied, under no limit of words, from a count of none on.
 pub record CopiesDefault (default s u : Segments) (p : Place) (result : Result ⊤ Error) : Type 0 where
   pub old : ReadLimiter
   pub new : ReadLimiter
   pub endless : limit_of old ≡ None
+  pub unused : granted_of old ≡ 0
   pub copies : CopiesValue 64 default root s u p old result new
 
 -- It was just where there was null, and the default's root isn't; else all stands as it was.

@@ -28,6 +28,7 @@ returns-clause-default g c =
         old = c.new-limiter.result;
         new = c.copy_from.new.limiter;
         endless = c.new-limiter.ensures.limit;
+        unused = c.new-limiter.ensures.granted;
         copies = subst (λ (f : Segments). CopiesValue 64 f root s u p c.new-limiter.result c.copy_from.result c.copy_from.new.limiter) is c.copy_from.ensures.copy;
       };
       kept = λ e. absurd (both (is_null_at s p) (is_null_at (default_segments c.args.default.now) root) null_here some_here e);
