@@ -2,7 +2,7 @@
 use Rattle.std.proofs.Common.{◌≡◌, ℕ, zero, suc, ◌*◌, ◌==◌, Bool, true, false, not, ◌&&◌, if◌then◌else◌, Option, Some, None, option_map, List, length, refl, ap, sym, ◌∙◌, subst}
 use Rattle.capnp_model.specs.Trees.{Tree, null, capability, structure, plain_list, pointer_list, struct_list, Trees, child, is_null as is_null_tree}
 use Rattle.capnp_model.specs.Schemas.{Ty, FieldKind, slot, group, StructNode, NodeKind, struct_node, enum_node, Node, Shape, shape, Fields, no_fields, field, Body, void_slot, plain_slot, pointer_slot, group_slot, Schema}
-use Rattle.capnp_model.specs.Readings.{Reading, inactive, null_pointer, fault, number, text_of, blob_of, list_of, record_as, opaque, Record, Extent, just_bits, Children, discriminant, is_active, only_if, shape_record, fields_of, body_of, read, read_child}
+use Rattle.capnp_model.specs.Readings.{Reading, inactive, null_pointer, fault, number, text_of, blob_of, list_of, record_as, opaque, Record, Extent, just_bits, Children, discriminant, is_active, only_if, shape_record, fields_of, body_of, read, read_child, record_of, record_by_shape}
 use Rattle.capnp_model.specs.Printing.{fields_in}
 use Rattle.capnp_model.specs.Accepted.{find_node, field_body, fields_from, union_place, no_shape, shape_of_node, shape_in, schema_of}
 use Rattle.capnp_wire.specs.Views.{StructView, pointer_field}
@@ -12,7 +12,7 @@ use Rattle.capnp_queries.specs.declared.structs.StructSchema.{StructSchema}
 use Rattle.capnp_values.specs.GoodDefaults.{KeepsDefault}
 use Rattle.capnp_values.specs.Shown.{kind_shown, discriminant_shown, is_active_field, is_null_slot}
 use Rattle.capnp_values.specs.Standing.{Stands, HasGoodDefault, filled, Answers, PointersAreRead}
-use Rattle.capnp_values.specs.Records.{reading_at, is_live, is_there, active_place, FieldsOfRecords, MembersOfRecords}
+use Rattle.capnp_values.specs.Records.{reading_at, is_live, is_there, active_place, FieldsOfRecords, MembersOfRecords, ValuesOfRecords}
 use Rattle.capnp_values.proofs.FieldReadings.{child_read, discriminants}
 use Rattle.capnp_values.proofs.Nulls.{nulls}
 use Rattle.capnp_values.proofs.Presence.{there}
@@ -182,3 +182,12 @@ members_of_records sch v r rec =
     ap (λ (x : Option ℕ). elim x as (λ (y : Option ℕ). Option ℕ) [ None ↦ None | Some k ↦ place_of_member k (fields_in g) ]) (discriminant_read sch rec.levels v rec.extent rec.section rec.kids rec.stands)
     ∙ active_read rec.levels v rec.extent rec.section rec.kids s rec.stands d (fields_in g)
     ∙ ap (active_place (fields_in g)) (sym same)
+
+pub values_of_records : ValuesOfRecords
+unfolding read record_of record_by_shape
+values_of_records s id null h = refl
+values_of_records s id (capability i) h = absurd (cc h)
+values_of_records s id (structure w n ts) h = refl
+values_of_records s id (plain_list size n section) h = absurd (cc h)
+values_of_records s id (pointer_list ts) h = absurd (cc h)
+values_of_records s id (struct_list w k es) h = absurd (cc h)

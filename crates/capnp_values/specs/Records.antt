@@ -1,8 +1,9 @@
 -- Structs that show a record. (Encoding, "Structs")
 use Rattle.std.specs.Prelude.{ℕ, zero, suc, ◌≡◌, Bool, true, false, ◌&&◌, if◌then◌else◌, Option, Some, None, is_some, option_map}
-use Rattle.capnp_model.specs.Schemas.{Field as FieldNode, Fields, no_fields, field}
-use Rattle.capnp_model.specs.Readings.{Reading, inactive, null_pointer, fault, number, text_of, blob_of, list_of, record_as, opaque, Record, no_more, entry}
-use Rattle.capnp_model.specs.Accepted.{field_body}
+use Rattle.capnp_model.specs.Trees.{Tree}
+use Rattle.capnp_model.specs.Schemas.{struct, Field as FieldNode, Fields, no_fields, field, Schema}
+use Rattle.capnp_model.specs.Readings.{Reading, inactive, null_pointer, fault, number, text_of, blob_of, list_of, record_as, opaque, Record, no_more, entry, read, record_of}
+use Rattle.capnp_model.specs.Accepted.{field_body, opens_as}
 use Rattle.capnp_wire.specs.Views.{StructView}
 use Rattle.capnp_queries.specs.Structs.{schema_around, shape_of_struct, fields_of_struct}
 use Rattle.capnp_queries.specs.Handles.{IsFieldRecord}
@@ -10,7 +11,7 @@ use Rattle.capnp_queries.specs.declared.structs.StructSchema.{StructSchema}
 use Rattle.capnp_queries.specs.declared.fields.Field.{Field}
 use Rattle.capnp_values.specs.GoodDefaults.{KeepsDefault}
 use Rattle.capnp_values.specs.Shown.{kind_shown, has_field, active_index}
-use Rattle.capnp_values.specs.Standing.{IsRecord, filled, Answers}
+use Rattle.capnp_values.specs.Standing.{IsRecord, or_empty, filled, Answers}
 
 -- What a record has at an index; nothing past its last field.
 abbrev pub reading_at : ℕ → Record → Reading
@@ -61,3 +62,7 @@ FieldsOfRecords = (f : Field) (said : FieldNode) (v : StructView) (r : Record) �
 -- Its active member is that of the record.
 abbrev pub MembersOfRecords : Type 0
 MembersOfRecords = (s : StructSchema) (v : StructView) (r : Record) → IsRecord (schema_around s) (shape_of_struct s) v (record_as r) → active_index s v ≡ active_place (fields_of_struct s) r
+
+-- What a struct's value, or null, reads as is its record.
+abbrev pub ValuesOfRecords : Type 0
+ValuesOfRecords = (s : Schema) (id : ℕ) (t : Tree) → opens_as t (struct id) ≡ true → or_empty s (struct id) (read s t (struct id)) ≡ record_as (record_of s id t)

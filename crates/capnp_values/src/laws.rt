@@ -1,5 +1,5 @@
 //! Laws of what is shown, each the contract of an empty function: a call of it brings its clauses.
-ghost use Rattle.capnp_values.specs.Records.{FieldsOfRecords, MembersOfRecords};
+ghost use Rattle.capnp_values.specs.Records.{FieldsOfRecords, MembersOfRecords, ValuesOfRecords};
 ghost use Rattle.capnp_values.specs.Standing.{PointersAreRead, FieldsAreRead, ElementsAreRead, DiscriminantsAreRead, NullsAreRead};
 ghost use Rattle.capnp_values.specs.ValuesShown.{ValuesAreRead};
 
@@ -37,10 +37,11 @@ pub fn nulls_are_read()
     ensures { NullsAreRead }
 {}
 
-/// All that a struct shows, which stands where its record is read, is that record: `has` of a field says whether the record has it, neither a member that isn't active nor a null pointer; what `get` shows of one that is no such member is what the record has, a null pointer as its default, else as the empty value; and `which` gives the first union member that the record has.
+/// All that a struct shows, which stands where its record is read, is that record: `has` of a field says whether the record has it, neither a member that isn't active nor a null pointer; what `get` shows of one that is no such member is what the record has, a null pointer as its default, else as the empty value; and `which` gives the first union member that the record has. What a struct's value reads as, or null, is its record.
 pub fn records_are_read()
     ensures fields { FieldsOfRecords }
     ensures members { MembersOfRecords }
+    ensures values { ValuesOfRecords }
 {
     pointers_are_read();
 }
