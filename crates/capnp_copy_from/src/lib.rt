@@ -2,8 +2,13 @@
 #![tactic(auto)]
 
 pub mod copy;
+#[cfg(test)]
+mod default_tests;
 pub mod defaults;
+pub mod laws;
 mod objects;
+#[cfg(test)]
+mod refusal_tests;
 #[cfg(test)]
 mod tests;
 mod words;

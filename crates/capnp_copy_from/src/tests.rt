@@ -1,8 +1,7 @@
-//! Values that are copied, and what is left of those that are refused.
+//! Values that are copied, as they lie afterwards.
 ghost use Rattle.std.specs.Prelude.{◌≡◌, ◌≤◌, [], length};
 
 use crate::copy::copy_from;
-use crate::defaults::write_default;
 use capnp_copy::allocator::Allocator;
 use capnp_copy::arena::BuilderArena;
 use capnp_copy::blobs::set_data;
@@ -10,24 +9,23 @@ use capnp_copy::segments::BuilderArenaImpl;
 use capnp_units::errors::{Error, Result as Answer};
 use capnp_units::kinds::ErrorKind;
 use capnp_units::limiter::ReadLimiter;
-use capnp_units::sizes::Word;
 use capnp_wire::arena::{ReaderArena, ReaderArenaImpl};
 use capnp_wire::place::{Place, has_words, word_at};
 use std::alloc::{AllocError, Global};
 use std::process::Abort;
 use std::test::Fail;
 
-const ROOT: Place = Place {
+pub(crate) const ROOT: Place = Place {
     segment: 0,
     position: 0,
 };
 
 /// Hands out so many segments, each of so many words, or of more where more are asked for.
 #[derive(Drop)]
-struct Slabs {
-    alloc: Global,
-    left: u32,
-    words: u32,
+pub(crate) struct Slabs {
+    pub(crate) alloc: Global,
+    pub(crate) left: u32,
+    pub(crate) words: u32,
 }
 
 impl Allocator for Slabs {
@@ -54,15 +52,15 @@ impl Allocator for Slabs {
 
 /// What a value is copied under, and into how many segments of so many words.
 #[derive(Clone, Copy)]
-struct Setting {
-    budget: Option<u64>,
-    levels: u32,
-    segments: u32,
-    words: u32,
+pub(crate) struct Setting {
+    pub(crate) budget: Option<u64>,
+    pub(crate) levels: u32,
+    pub(crate) segments: u32,
+    pub(crate) words: u32,
 }
 
 /// One large segment.
-const WIDE: Setting = Setting {
+pub(crate) const WIDE: Setting = Setting {
     budget: Some(1000),
     levels: 64,
     segments: 1,
@@ -70,7 +68,7 @@ const WIDE: Setting = Setting {
 };
 
 /// A segment for each object.
-const NARROW: Setting = Setting {
+pub(crate) const NARROW: Setting = Setting {
     budget: Some(1000),
     levels: 64,
     segments: 100,
@@ -79,15 +77,15 @@ const NARROW: Setting = Setting {
 
 /// What came of a copy: what it answered, the words granted, the pointers followed, and the words in use of each segment.
 #[derive(Drop)]
-struct Outcome {
-    answer: Answer<()>,
-    granted: u64,
-    followed: u64,
-    segments: Vec<Vec<u64>>,
+pub(crate) struct Outcome {
+    pub(crate) answer: Answer<()>,
+    pub(crate) granted: u64,
+    pub(crate) followed: u64,
+    pub(crate) segments: Vec<Vec<u64>>,
 }
 
 /// The bytes of words, the lowest byte of each first.
-fn bytes_of(alloc: Global, words: &[u64]) -> Result<Vec<u8>, AllocError> {
+pub(crate) fn bytes_of(alloc: Global, words: &[u64]) -> Result<Vec<u8>, AllocError> {
     let mut bytes = Vec::new(alloc);
     for word in words {
         bytes.extend_from_slice(&word.to_le_bytes())?;
@@ -96,7 +94,7 @@ fn bytes_of(alloc: Global, words: &[u64]) -> Result<Vec<u8>, AllocError> {
 }
 
 /// The words of a segment.
-fn words_of<A: ReaderArena>(
+pub(crate) fn words_of<A: ReaderArena>(
     alloc: Global,
     arena: &A,
     segment: u32,
@@ -115,7 +113,7 @@ fn words_of<A: ReaderArena>(
 }
 
 /// A root pointer's word, with a value of these data where there are some.
-fn begun<A: BuilderArena>(arena: &mut A, before: Option<&[u8]>) -> Answer<()>
+pub(crate) fn begun<A: BuilderArena>(arena: &mut A, before: Option<&[u8]>) -> Answer<()>
     ensures { A.books arena.new ≡ A.books arena.old }
 {
     arena.allocate_anywhere(1)?;
@@ -144,7 +142,7 @@ fn copied_over<A: BuilderArena, B: ReaderArena>(
 }
 
 /// Copies the root of a message over a root that is null or has data.
-fn copied(
+pub(crate) fn copied(
     alloc: Global,
     source: &Vec<Vec<u8>>,
     setting: Setting,
@@ -183,7 +181,7 @@ fn copied(
 }
 
 /// Asserts that the segments have these words.
-fn expect_segments(
+pub(crate) fn expect_segments(
     rt: &impl Abort,
     segments: &Vec<Vec<u64>>,
     expected: &[&[u64]],
@@ -201,7 +199,7 @@ fn expect_segments(
 }
 
 /// Asserts that the copy of a message, over a null root, has these words.
-fn expect_copy(
+pub(crate) fn expect_copy(
     rt: &impl Abort,
     alloc: Global,
     message: &[&[u64]],
@@ -218,7 +216,7 @@ fn expect_copy(
 }
 
 /// Asserts that the copy of a message, over the data 1, 2, 3, is refused by a kind, and leaves these words.
-fn expect_refused(
+pub(crate) fn expect_refused(
     rt: &impl Abort,
     alloc: Global,
     message: &[&[u64]],
@@ -236,7 +234,7 @@ fn expect_refused(
 }
 
 /// A struct of one data word 7 and one pointer to the text `hi`, whose list comes behind it.
-const WITH_TEXT: [u64; 4] = [0x0001_0001_0000_0000, 7, 0x0000_001a_0000_0001, 0x6968];
+pub(crate) const WITH_TEXT: [u64; 4] = [0x0001_0001_0000_0000, 7, 0x0000_001a_0000_0001, 0x6968];
 
 #[test]
 fn null_empty_struct_and_capability(rt: HostRuntime) -> Result<(), Fail> {
@@ -282,157 +280,6 @@ fn far_sources(rt: HostRuntime) -> Result<(), Fail> {
     expect_copy(&rt, rt.alloc(), &message, WIDE, &[&near])
 }
 
-/// The value of a struct of one word costs that word and those of its pad.
-#[test]
-fn budgets(rt: HostRuntime) -> Result<(), Fail> {
-    let message: [&[u64]; 3] = [
-        &[0x0000_0001_0000_0006],
-        &[0x0000_0002_0000_0002, 0x0000_0001_0000_0000],
-        &[7],
-    ];
-    let enough = Setting {
-        budget: Some(3),
-        ..WIDE
-    };
-    let near: [u64; 2] = [0x0000_0001_0000_0000, 7];
-    expect_copy(&rt, rt.alloc(), &message, enough, &[&near])?;
-    let short = Setting {
-        budget: Some(2),
-        ..WIDE
-    };
-    let stands: [u64; 2] = [0x0000_001a_0000_0001, 0x0003_0201];
-    let passed = ErrorKind::ReadLimitExceeded;
-    expect_refused(&rt, rt.alloc(), &message, short, passed, &[&stands])?;
-    let message: [&[u64]; 2] = [&[0x0000_0001_0000_0002], &[0x0000_0001_0000_0000, 7]];
-    expect_copy(&rt, rt.alloc(), &message, short, &[&near])?;
-    let shorter = Setting {
-        budget: Some(1),
-        ..WIDE
-    };
-    expect_refused(&rt, rt.alloc(), &message, shorter, passed, &[&stands])
-}
-
-/// Two pointers of a struct to one struct: it is copied twice, and paid for twice.
-#[test]
-fn shared_targets(rt: HostRuntime) -> Result<(), Fail> {
-    let alloc = rt.alloc();
-    let message = [
-        0x0002_0000_0000_0000,
-        0x0000_0001_0000_0004,
-        0x0000_0001_0000_0000,
-        9,
-    ];
-    let copy = [
-        0x0002_0000_0000_0000,
-        0x0000_0001_0000_0004,
-        0x0000_0001_0000_0004,
-        9,
-        9,
-    ];
-    let source = vec![in alloc; bytes_of(alloc, &message)?]?;
-    let done = copied(alloc, &source, WIDE, None)?;
-    done.answer?;
-    assert_eq!(rt; done.granted, 4);
-    assert_eq!(rt; done.followed, 3);
-    expect_segments(&rt, &done.segments, &[&copy])
-}
-
-/// A struct within a struct keeps two levels. After a refusal the old value stands, and the words that were allocated are zero.
-#[test]
-fn levels(rt: HostRuntime) -> Result<(), Fail> {
-    let message: [u64; 3] = [0x0001_0000_0000_0000, 0x0000_0001_0000_0000, 9];
-    let two = Setting { levels: 2, ..WIDE };
-    expect_copy(&rt, rt.alloc(), &[&message], two, &[&message])?;
-    let one = Setting { levels: 1, ..WIDE };
-    expect_refused(
-        &rt,
-        rt.alloc(),
-        &[&message],
-        one,
-        ErrorKind::NestingLimitExceeded,
-        &[&[0x0000_001a_0000_0001, 0x0003_0201, 0]],
-    )?;
-    let none = Setting { levels: 0, ..WIDE };
-    expect_copy(&rt, rt.alloc(), &[&[0]], none, &[&[0]])
-}
-
-/// The second child is past the end of the segment: the first is given up, with its pad.
-#[test]
-fn a_fault_behind_copied_children(rt: HostRuntime) -> Result<(), Fail> {
-    let message: [u64; 4] = [
-        0x0002_0000_0000_0000,
-        0x0000_0001_0000_0004,
-        0x0000_0001_0000_0040,
-        9,
-    ];
-    expect_refused(
-        &rt,
-        rt.alloc(),
-        &[&message],
-        WIDE,
-        ErrorKind::OutOfBounds,
-        &[&[0x0000_001a_0000_0001, 0x0003_0201, 0, 0, 0]],
-    )?;
-    expect_refused(
-        &rt,
-        rt.alloc(),
-        &[&message],
-        NARROW,
-        ErrorKind::OutOfBounds,
-        &[
-            &[0x0000_0001_0000_0002],
-            &[0x0000_001a_0000_0001, 0x0003_0201],
-            &[0, 0, 0],
-            &[0, 0],
-        ],
-    )
-}
-
-/// The old value is cleared where the copy stands.
-#[test]
-fn the_old_value_goes(rt: HostRuntime) -> Result<(), Fail> {
-    let alloc = rt.alloc();
-    let source = vec![in alloc; bytes_of(alloc, &[0x0000_0001_0000_0000, 7])?]?;
-    let done = copied(alloc, &source, WIDE, Some(&[1, 2, 3]))?;
-    done.answer?;
-    expect_segments(&rt, &done.segments, &[&[0x0000_0001_0000_0004, 0, 7]])?;
-    let source = vec![in alloc; bytes_of(alloc, &[0])?]?;
-    let done = copied(alloc, &source, WIDE, Some(&[1, 2, 3]))?;
-    done.answer?;
-    expect_segments(&rt, &done.segments, &[&[0, 0]])
-}
-
-/// There is a segment for the root and its data alone, or one more, for the struct without its text.
-#[test]
-fn the_allocator_refuses(rt: HostRuntime) -> Result<(), Fail> {
-    let full = Setting {
-        segments: 1,
-        words: 2,
-        ..WIDE
-    };
-    expect_refused(
-        &rt,
-        rt.alloc(),
-        &[&WITH_TEXT],
-        full,
-        ErrorKind::OutOfMemory,
-        &[&[0x0000_001a_0000_0001, 0x0003_0201]],
-    )?;
-    let one_more = Setting {
-        segments: 2,
-        words: 2,
-        ..WIDE
-    };
-    expect_refused(
-        &rt,
-        rt.alloc(),
-        &[&WITH_TEXT],
-        one_more,
-        ErrorKind::OutOfMemory,
-        &[&[0x0000_001a_0000_0001, 0x0003_0201], &[0, 0, 0]],
-    )
-}
-
 /// Words that a list of structs claims behind its elements aren't copied.
 #[test]
 fn lists_of_structs(rt: HostRuntime) -> Result<(), Fail> {
@@ -465,81 +312,4 @@ fn lists_of_structs(rt: HostRuntime) -> Result<(), Fail> {
 fn lists_of_pointers_and_bits(rt: HostRuntime) -> Result<(), Fail> {
     let message: [u64; 4] = [0x0000_0016_0000_0001, 0x0000_0051_0000_0005, 0, 0x3ff];
     expect_copy(&rt, rt.alloc(), &[&message], WIDE, &[&message])
-}
-
-/// As many voids, or structs without words, as a list can count: no step is taken for an element.
-#[test]
-fn lists_without_words(rt: HostRuntime) -> Result<(), Fail> {
-    let alloc = rt.alloc();
-    let endless = Setting {
-        budget: None,
-        ..WIDE
-    };
-    let voids: [u64; 1] = [0xffff_fff8_0000_0001];
-    let copied: [u64; 1] = [0xffff_fff8_ffff_fffd];
-    expect_copy(&rt, alloc, &[&voids], endless, &[&copied])?;
-    let structs: [u64; 2] = [0x0000_0007_0000_0001, 0x7fff_fffc];
-    expect_copy(&rt, alloc, &[&structs], endless, &[&structs])?;
-    let more: [u64; 2] = [0x0000_0007_0000_0001, 0x8000_0000];
-    expect_refused(
-        &rt,
-        alloc,
-        &[&more],
-        endless,
-        ErrorKind::SizeOverflow,
-        &[&[0x0000_001a_0000_0001, 0x0003_0201]],
-    )
-}
-
-/// Writes a default over a root that is null or has data.
-fn defaulted(
-    alloc: Global,
-    default: &[Word],
-    before: Option<&[u8]>,
-) -> Result<(Answer<()>, Vec<u64>), Fail> {
-    let allocator = Slabs {
-        alloc,
-        left: 1,
-        words: 10,
-    };
-    let mut arena = BuilderArenaImpl::new(alloc, allocator);
-    let ready = begun(&mut arena, before);
-    let answer = defaulted_over(&mut arena, default);
-    let words = words_of(alloc, &arena, 0);
-    let allocator = arena.into_allocator();
-    drop(allocator);
-    ready?;
-    Ok((answer, words?))
-}
-
-/// Writes a default over a root, where there is one.
-fn defaulted_over<A: BuilderArena>(arena: &mut A, default: &[Word]) -> Answer<()>
-    ensures { A.books arena.new ≡ A.books arena.old }
-{
-    if !has_words(arena, ROOT, 1) {
-        return Err(Error::from(ErrorKind::OutOfBounds));
-    }
-    write_default(arena, ROOT, default)
-}
-
-/// The text `hi` as a default, in place of null and of data; and null as a default.
-#[test]
-fn defaults_in_place_of_null(rt: HostRuntime) -> Result<(), Fail> {
-    let alloc = rt.alloc();
-    let text: [Word; 2] = [[1, 0, 0, 0, 0x1a, 0, 0, 0], [0x68, 0x69, 0, 0, 0, 0, 0, 0]];
-    let null: [Word; 1] = [[0; 8]];
-    let (answer, words) = defaulted(alloc, &text, None)?;
-    answer?;
-    assert_eq!(rt; words.len(), 2);
-    assert_eq!(rt; words.get(0).copied(), Some(0x0000_001a_0000_0001));
-    assert_eq!(rt; words.get(1).copied(), Some(0x6968));
-    let (answer, words) = defaulted(alloc, &text, Some(&[1, 2, 3]))?;
-    answer?;
-    assert_eq!(rt; words.len(), 2);
-    assert_eq!(rt; words.get(1).copied(), Some(0x0003_0201));
-    let (answer, words) = defaulted(alloc, &null, None)?;
-    answer?;
-    assert_eq!(rt; words.len(), 1);
-    assert_eq!(rt; words.get(0).copied(), Some(0));
-    Ok(())
 }
