@@ -2,9 +2,9 @@
 ghost use Rattle.std.specs.Prelude.{◌≡◌, ℕ, ◌∷◌, ◌+◌, ◌*◌, ◌^◌, ◌<◌, ◌≤◌, suc, true, Some, Ok, length, map, replicate};
 ghost use Rattle.std.specs.Option.{is_some};
 ghost use Rattle.capnp_model.specs.Segments.{Place as ModelPlace, after, words_at};
-ghost use Rattle.capnp_model.specs.Trees.{Tree, struct_list};
+ghost use Rattle.capnp_model.specs.Trees.{Tree};
 ghost use Rattle.capnp_model.specs.Traversal.{tree_at, each, each_element};
-ghost use Rattle.capnp_model.specs.Coverage.{Grows, from_each, from_elements};
+ghost use Rattle.capnp_model.specs.Coverage.{from_each, from_elements};
 ghost use Rattle.capnp_model.specs.Visits.{visits};
 ghost use Rattle.capnp_units.specs.Segments.{words_in};
 ghost use Rattle.capnp_object.specs.Places.{place_view};

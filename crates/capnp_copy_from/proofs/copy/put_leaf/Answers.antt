@@ -1,12 +1,9 @@
 use Rattle.std.proofs.Common.{length, map, ◌≡◌, ◌+◌, ◌*◌, ◌∷◌, [], ◌^◌, ℕ, ap, sym, ◌∙◌, subst, rules}
 use Rattle.capnp_model.specs.Segments.{Segments}
-use Rattle.capnp_model.specs.Coverage.{Grows}
 use Rattle.capnp_units.specs.Segments.{words_in}
 use Rattle.capnp_object.specs.Places.{place_view}
 use Rattle.capnp_object.specs.declared.object.Object.{Object}
 use Rattle.capnp_footprints.specs.Writes.{with_words}
-use Rattle.capnp_footprints.proofs.Spans.{grows_then}
-use Rattle.capnp_footprints.proofs.Splices.{splice_grows}
 use Rattle.capnp_copy.proofs.ZeroedWords.{written_sizes}
 use Rattle.capnp_copy.proofs.RoomLaws.{sizes_grow, still_some}
 use Rattle.capnp_copy_from.specs.Copies.{BecomesCopy}

@@ -1,5 +1,5 @@
 -- The default's segment is that of its words.
-use Rattle.std.proofs.Common.{◌≡◌, ◌||◌, not, Bool, true, false, List, refl, ap, sym, ◌∙◌, subst, rules}
+use Rattle.std.proofs.Common.{◌≡◌, ◌||◌, not, Bool, true, false, ap, sym, ◌∙◌, subst, rules}
 use Rattle.capnp_model.specs.Segments.{Segments, Place, root}
 use Rattle.capnp_units.specs.Segments.{words_in}
 use Rattle.capnp_object.specs.Places.{place_view}

@@ -1,4 +1,4 @@
-use Rattle.std.proofs.Common.{ℕ, ◌+◌, ◌≤◌, arith}
+use Rattle.std.proofs.Common.{◌+◌, arith}
 use Rattle.capnp_footprints.proofs.Levels.{owned_more}
 use Rattle.capnp_copy_from.proofs.Filling.{value_stands}
 use Rattle.capnp_copy_from.proofs.laws.values_after_copies.Goals as goal
