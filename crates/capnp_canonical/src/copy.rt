@@ -2,11 +2,8 @@
 ghost use Rattle.std.specs.Prelude.{◌≡◌, ℕ, ◌+◌, ◌*◌, ◌^◌, ◌≤◌, ◌<◌};
 ghost use Rattle.capnp_model.specs.Sections.{words_for, needed_words};
 ghost use Rattle.capnp_model.specs.Segments.{after};
-ghost use Rattle.capnp_model.specs.Trees.{Trees, structure, element, no_elements, tree_count, resized, has_capability, have_capability, elements_have_capability};
-ghost use Rattle.capnp_model.specs.Traversal.{tree_at, each, each_element};
-ghost use Rattle.capnp_model.specs.Trimming.{trim, trim_each, trim_elements, with_pointers};
-ghost use Rattle.capnp_model.specs.Coverage.{from_each, from_elements};
-ghost use Rattle.capnp_model.specs.Encoding.{pointer, canonical_words};
+ghost use Rattle.capnp_model.specs.Trees.{Trees, structure, tree_count};
+ghost use Rattle.capnp_model.specs.Encoding.{pointer};
 ghost use Rattle.capnp_units.specs.Segments.{words_in};
 ghost use Rattle.capnp_units.specs.Sizes.{size_number, data_bits};
 ghost use Rattle.capnp_object.specs.declared.object.Object.TheVariants as seen;
@@ -14,9 +11,8 @@ ghost use Rattle.capnp_object.specs.Places.{place_view};
 ghost use Rattle.capnp_object.specs.Objects.{AreThere, IsInside};
 ghost use Rattle.capnp_object.specs.Inside.{section_at, words_there};
 ghost use Rattle.capnp_canonical.specs.Widths.{kept, widest};
-ghost use Rattle.capnp_canonical.specs.Writes.{with_link, with_links, with_cells};
-ghost use Rattle.capnp_canonical.specs.Copies.{copy_visits, IsData, Writes};
-ghost use Rattle.capnp_canonical.specs.Objects.{IsShort, WritesObject, HasPlace, IsCut};
+ghost use Rattle.capnp_canonical.specs.Copies.{IsData};
+ghost use Rattle.capnp_canonical.specs.Objects.{IsShort, WritesObject, HasPlace, IsCut, WritesCanonical, WritesValue, WritesRow, WritesElement, WritesElements};
 
 use crate::follow::{follow_data, follow_nulls};
 use crate::own_words::{copy_words, most_needed};
@@ -49,7 +45,8 @@ pub fn write_canonical<A: ReaderArena>(
     levels: u32,
     into: &mut [Word],
 ) -> Result<usize>
-    ensures { let s = words_in (A.segments arena.now) in Writes (tree_at levels s (place_view place)) has_capability (λ t words. canonical_words (trim t)) (copy_visits levels s (place_view place)) 1 1 into.old limiter.old result into.new limiter.new }
+    ensures { WritesCanonical levels (words_in (A.segments arena.now)) (place_view place)
+        into.old limiter.old result into.new limiter.new }
 {
     let used = end_of(into, 0, 1)?;
     write_at(arena, limiter, place, levels, into, 0, used)
@@ -67,7 +64,8 @@ fn write_at<A: ReaderArena>(
     used: usize,
 ) -> Result<usize>
     requires { HasPlace (at + 1) used into.old }
-    ensures { let s = words_in (A.segments arena.now) in Writes (tree_at levels s (place_view place)) has_capability (λ t. with_link at (trim t)) (copy_visits levels s (place_view place)) used used into.old limiter.old result into.new limiter.new }
+    ensures { WritesValue levels (words_in (A.segments arena.now)) (place_view place) at used
+        into.old limiter.old result into.new limiter.new }
 {
     let object = follow_data(arena, limiter, place, levels)?;
     if levels == 0 {
@@ -92,7 +90,8 @@ fn write_object<A: ReaderArena>(
     requires data { IsData object }
     requires short { IsShort object }
     requires place { HasPlace (at + 1) used into.old }
-    ensures { WritesObject (words_in (A.segments arena.now)) levels object at used into.old limiter.old result into.new limiter.new }
+    ensures { WritesObject (words_in (A.segments arena.now)) levels object at used
+        into.old limiter.old result into.new limiter.new }
 {
     match object {
         Object::Null | Object::Capability { .. } => {
@@ -140,9 +139,12 @@ fn write_struct<A: ReaderArena>(
     at: usize,
     used: usize,
 ) -> Result<usize>
-    requires inside { AreThere (words_in (A.segments arena.now)) (place_view start) (data_words + pointers) }
+    requires inside { AreThere (words_in (A.segments arena.now)) (place_view start)
+        (data_words + pointers) }
     requires place { HasPlace (at + 1) used into.old }
-    ensures { WritesObject (words_in (A.segments arena.now)) levels (seen.Struct start data_words pointers) at used into.old limiter.old result into.new limiter.new }
+    ensures { WritesObject (words_in (A.segments arena.now)) levels
+        (seen.Struct start data_words pointers) at used
+        into.old limiter.old result into.new limiter.new }
 {
     let cut = cut_of(arena, start, data_words, pointers, 1);
     let words = cut.kept_words as usize + cut.kept_pointers as usize;
@@ -171,7 +173,9 @@ fn write_structs<A: ReaderArena>(
     requires fit { count * (data_words + pointers) ≤ words }
     requires few { count < 2 ^ 30 }
     requires place { HasPlace (at + 1) used into.old }
-    ensures { WritesObject (words_in (A.segments arena.now)) levels (seen.StructList start words count data_words pointers) at used into.old limiter.old result into.new limiter.new }
+    ensures { WritesObject (words_in (A.segments arena.now)) levels
+        (seen.StructList start words count data_words pointers) at used
+        into.old limiter.old result into.new limiter.new }
 {
     let cut = cut_of(arena, start, data_words, pointers, count);
     let width = cut.kept_words as usize + cut.kept_pointers as usize;
@@ -210,10 +214,12 @@ fn write_list<A: ReaderArena>(
     used: usize,
 ) -> Result<usize>
     requires plain { size_number size < 6 }
-    requires inside { AreThere (words_in (A.segments arena.now)) (place_view start) (words_for (data_bits (size_number size) * count)) }
+    requires inside { AreThere (words_in (A.segments arena.now)) (place_view start)
+        (words_for (data_bits (size_number size) * count)) }
     requires short { count < 2 ^ 29 }
     requires place { HasPlace (at + 1) used into.old }
-    ensures { (levels : ℕ) (l : ReadLimiter) → WritesObject (words_in (A.segments arena.now)) levels (seen.List start size count) at used into.old l result into.new l }
+    ensures { (levels : ℕ) (l : ReadLimiter) → WritesObject (words_in (A.segments arena.now)) levels
+        (seen.List start size count) at used into.old l result into.new l }
 {
     let words = words_of_elements(size, count) as usize;
     let end = end_of(into, used, words)?;
@@ -232,11 +238,17 @@ pub(crate) fn cut_of<A: ReaderArena>(
     pointers: u16,
     count: u32,
 ) -> Cut
-    requires { AreThere (words_in (A.segments arena.now)) (place_view start) (count * (data_words + pointers)) }
-    ensures sizes { (result.data_words ≡ data_words) × (result.pointers ≡ pointers) × (result.kept_words ≤ data_words) × (result.kept_pointers ≤ pointers) }
+    requires { AreThere (words_in (A.segments arena.now)) (place_view start)
+        (count * (data_words + pointers)) }
+    ensures sizes { (result.data_words ≡ data_words) × (result.pointers ≡ pointers)
+        × (result.kept_words ≤ data_words) × (result.kept_pointers ≤ pointers) }
     ensures narrow { (result.kept_words < 2 ^ 16) × (result.kept_pointers < 2 ^ 16) }
-    ensures words { let s = words_in (A.segments arena.now) in result.kept_words ≡ widest (λ p. needed_words data_words (section_at s p data_words)) (place_view start) (data_words + pointers) count }
-    ensures pointers { let s = words_in (A.segments arena.now) in result.kept_pointers ≡ widest (λ p. kept (words_there s p pointers)) (after (place_view start) data_words) (data_words + pointers) count }
+    ensures words { let s = words_in (A.segments arena.now) in result.kept_words
+        ≡ widest (λ p. needed_words data_words (section_at s p data_words))
+        (place_view start) (data_words + pointers) count }
+    ensures pointers { let s = words_in (A.segments arena.now) in result.kept_pointers
+        ≡ widest (λ p. kept (words_there s p pointers))
+        (after (place_view start) data_words) (data_words + pointers) count }
 {
     let width = data_words as usize + pointers as usize;
     let first = Place {
@@ -254,7 +266,8 @@ pub(crate) fn cut_of<A: ReaderArena>(
 /// The pointer to a struct that begins so many words behind it. An empty one lies at the pointer itself.
 pub(crate) fn pointer_to_cut(gap: usize, cut: Cut) -> u64
     requires { gap < 2 ^ 29 }
-    ensures { (section : ℕ) (ts : Trees) → tree_count ts ≡ cut.kept_pointers → result ≡ pointer gap (structure cut.kept_words section ts) }
+    ensures { (section : ℕ) (ts : Trees) → tree_count ts ≡ cut.kept_pointers
+        → result ≡ pointer gap (structure cut.kept_words section ts) }
 {
     if cut.kept_words == 0 && cut.kept_pointers == 0 {
         return pointer_to_struct(0x3fff_ffff, 0, 0);
@@ -276,7 +289,8 @@ fn write_row<A: ReaderArena>(
 ) -> Result<usize>
     requires first { first.position + count < 2 ^ 62 }
     requires place { HasPlace (at + count) used into.old }
-    ensures { let s = words_in (A.segments arena.now) in Writes (each (tree_at levels s) (place_view first) count) have_capability (λ ts. with_links at (at + count) (trim_each ts)) (from_each (copy_visits levels s) (place_view first) count) used used into.old limiter.old result into.new limiter.new }
+    ensures { WritesRow levels (words_in (A.segments arena.now)) (place_view first) count at used
+        into.old limiter.old result into.new limiter.new }
 {
     let mut end = used;
     for i in 0..count {
@@ -304,7 +318,8 @@ fn write_element<A: ReaderArena>(
 ) -> Result<usize>
     requires cut { IsCut (words_in (A.segments arena.now)) (place_view start) cut }
     requires place { HasPlace (at + (cut.kept_words + cut.kept_pointers)) used into.old }
-    ensures { let s = words_in (A.segments arena.now) in let first = after (place_view start) cut.data_words in Writes (each (tree_at levels s) first cut.pointers) have_capability (λ ts. with_cells at (at + (cut.kept_words + cut.kept_pointers)) cut.kept_words cut.kept_pointers (element (section_at s (place_view start) cut.data_words) (resized cut.kept_pointers (trim_each ts)) no_elements)) (from_each (copy_visits levels s) first cut.pointers) used used into.old limiter.old result into.new limiter.new }
+    ensures { WritesElement levels (words_in (A.segments arena.now)) (place_view start) cut at used
+        into.old limiter.old result into.new limiter.new }
 {
     let kept = cut.kept_words as usize;
     copy_words(arena, start, kept, into, at);
@@ -344,9 +359,11 @@ fn write_elements<A: ReaderArena>(
     requires inside { AreThere (words_in (A.segments arena.now)) (place_view start) words }
     requires fit { count * (cut.data_words + cut.pointers) ≤ words }
     requires sizes { (cut.kept_words ≤ cut.data_words) × (cut.kept_pointers ≤ cut.pointers) }
-    requires cut { (i : ℕ) → i < count → IsCut (words_in (A.segments arena.now)) (after (place_view start) (i * (cut.data_words + cut.pointers))) cut }
+    requires cut { (i : ℕ) → i < count → IsCut (words_in (A.segments arena.now))
+        (after (place_view start) (i * (cut.data_words + cut.pointers))) cut }
     requires place { HasPlace (at + count * (cut.kept_words + cut.kept_pointers)) used into.old }
-    ensures { let s = words_in (A.segments arena.now) in Writes (each_element (tree_at levels s) (place_view start) (words_there s (place_view start) words) cut.data_words cut.pointers count) elements_have_capability (λ es. with_cells at (at + count * (cut.kept_words + cut.kept_pointers)) cut.kept_words cut.kept_pointers (with_pointers cut.kept_pointers (trim_elements es))) (from_elements (copy_visits levels s) (place_view start) cut.data_words cut.pointers count) used used into.old limiter.old result into.new limiter.new }
+    ensures { WritesElements levels (words_in (A.segments arena.now)) (place_view start)
+        words count cut at used into.old limiter.old result into.new limiter.new }
 {
     if cut.data_words == 0 && cut.pointers == 0 {
         return Ok(used);
