@@ -32,7 +32,8 @@ fn step_of(alloc: Global, json: &Json) -> Result<Step, FileFault>
 }
 
 fn path_of(alloc: Global, items: &[Json]) -> Result<Vec<Step>, FileFault>
-    ensures ok { IfOk result (λ v. each_item step_in (items_view items.now) ≡ Some (map step_view v.items)) }
+    ensures ok { IfOk result (λ v. each_item step_in (items_view items.now)
+        ≡ Some (map step_view v.items)) }
     ensures refused { IfErr result (IsRefusalOf (each_item step_in (items_view items.now))) }
 {
     let mut path = Vec::new(alloc);
@@ -134,7 +135,8 @@ fn call_of(alloc: Global, json: &Json) -> Result<CallParts, FileFault>
 
 /// The calls of an array.
 pub(crate) fn calls_of(alloc: Global, items: &[Json]) -> Result<Vec<CallParts>, FileFault>
-    ensures ok { IfOk result (λ v. each_item call_in (items_view items.now) ≡ Some (map parts_of v.items)) }
+    ensures ok { IfOk result (λ v. each_item call_in (items_view items.now)
+        ≡ Some (map parts_of v.items)) }
     ensures refused { IfErr result (IsRefusalOf (each_item call_in (items_view items.now))) }
 {
     let mut calls = Vec::new(alloc);

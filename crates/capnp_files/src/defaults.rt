@@ -41,7 +41,8 @@ fn plain_default(base: BaseType, json: &Json) -> Option<Value>
 
 /// The default of a slot of a base.
 fn base_default(alloc: Global, base: BaseType, json: &Json) -> Result<Value, FileFault>
-    ensures ok { IfOk result (λ v. base_default (base_of base) (view json.now) ≡ Some (value_of v)) }
+    ensures ok { IfOk result (λ v. base_default (base_of base) (view json.now)
+        ≡ Some (value_of v)) }
     ensures refused { IfErr result (IsRefusalOf (base_default (base_of base) (view json.now))) }
 {
     match base {
@@ -71,7 +72,8 @@ fn base_default(alloc: Global, base: BaseType, json: &Json) -> Result<Value, Fil
 
 /// The default that the file gives to a slot of a type.
 fn default_in(alloc: Global, ty: TypeRecord, json: &Json) -> Result<Value, FileFault>
-    ensures ok { IfOk result (λ v. default_in (type_record_of ty) (view json.now) ≡ Some (value_of v)) }
+    ensures ok { IfOk result (λ v. default_in (type_record_of ty) (view json.now)
+        ≡ Some (value_of v)) }
     ensures refused { IfErr result (IsRefusalOf (default_in (type_record_of ty) (view json.now))) }
 {
     if ty.list_count > 0 {
@@ -110,8 +112,10 @@ pub(crate) fn slot_default(
     ty: TypeRecord,
     json: &Json,
 ) -> Result<Option<Value>, FileFault>
-    ensures ok { IfOk result (λ v. slot_default (type_record_of ty) (view json.now) ≡ Some (option_map value_of v)) }
-    ensures refused { IfErr result (IsRefusalOf (slot_default (type_record_of ty) (view json.now))) }
+    ensures ok { IfOk result (λ v. slot_default (type_record_of ty) (view json.now)
+        ≡ Some (option_map value_of v)) }
+    ensures refused { IfErr result (IsRefusalOf (slot_default (type_record_of ty)
+        (view json.now))) }
 {
     match json.get("default") {
         None => Ok(absent_default(ty)),

@@ -56,7 +56,8 @@ fn has_only(members: &Map<String, Json>, keys: &[&str]) -> bool
 
 /// The value, where it is an object without other keys than these.
 pub(crate) fn with_keys<'j>(json: &'j Json, keys: &[&str]) -> Option<&'j Json>
-    ensures { option_map (λ v. view v.now) result ≡ with_keys (map (λ k. k.now) keys.now) (view json.now) }
+    ensures { option_map (λ v. view v.now) result
+        ≡ with_keys (map (λ k. k.now) keys.now) (view json.now) }
 {
     if has_only(json.as_object()?, keys) {
         Some(json)
@@ -67,7 +68,8 @@ pub(crate) fn with_keys<'j>(json: &'j Json, keys: &[&str]) -> Option<&'j Json>
 
 /// The key and the value of the only member.
 pub(crate) fn only_member(members: &Map<String, Json>) -> Option<(&str, &Json)>
-    ensures { option_map (λ m. (m.0.now, view m.1.now)) result ≡ only_member (members_view members.now.entries) }
+    ensures { option_map (λ m. (m.0.now, view m.1.now)) result
+        ≡ only_member (members_view members.now.entries) }
 {
     let mut entries = members.iter();
     let (key, value) = entries.next()?;
@@ -111,7 +113,8 @@ pub(crate) fn text_at<'j>(json: &'j Json, key: &str) -> Option<&'j str>
 
 /// The items of a key.
 pub(crate) fn items_at<'j>(json: &'j Json, key: &str) -> Option<&'j [Json]>
-    ensures { option_map (λ v. items_view v.now) result ≡ option_and_then as_array (get key.now (view json.now)) }
+    ensures { option_map (λ v. items_view v.now) result
+        ≡ option_and_then as_array (get key.now (view json.now)) }
 {
     Some(json.get(key)?.as_array()?.as_slice())
 }

@@ -17,7 +17,8 @@ use serde_json::Value as Json;
 use std::alloc::Global;
 
 fn fields_of(alloc: Global, items: &[Json]) -> Result<Vec<FieldRecord>, FileFault>
-    ensures ok { IfOk result (λ v. each_item field_in (items_view items.now) ≡ Some (map field_of v.items)) }
+    ensures ok { IfOk result (λ v. each_item field_in (items_view items.now)
+        ≡ Some (map field_of v.items)) }
     ensures refused { IfErr result (IsRefusalOf (each_item field_in (items_view items.now))) }
 {
     let mut fields = Vec::new(alloc);
@@ -94,7 +95,8 @@ fn enumerant_of(alloc: Global, json: &Json) -> Result<EnumerantRecord, FileFault
 }
 
 fn enumerants_of(alloc: Global, items: &[Json]) -> Result<Vec<EnumerantRecord>, FileFault>
-    ensures ok { IfOk result (λ v. each_item enumerant_in (items_view items.now) ≡ Some (map enumerant_of v.items)) }
+    ensures ok { IfOk result (λ v. each_item enumerant_in (items_view items.now)
+        ≡ Some (map enumerant_of v.items)) }
     ensures refused { IfErr result (IsRefusalOf (each_item enumerant_in (items_view items.now))) }
 {
     let mut enumerants = Vec::new(alloc);

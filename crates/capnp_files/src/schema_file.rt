@@ -15,7 +15,8 @@ use serde_json::Value as Json;
 use std::alloc::Global;
 
 fn nodes_of(alloc: Global, items: &[Json]) -> Result<Vec<NodeRecord>, FileFault>
-    ensures ok { IfOk result (λ v. each_item node_in (items_view items.now) ≡ Some (map node_of v.items)) }
+    ensures ok { IfOk result (λ v. each_item node_in (items_view items.now)
+        ≡ Some (map node_of v.items)) }
     ensures refused { IfErr result (IsRefusalOf (each_item node_in (items_view items.now))) }
 {
     let mut nodes = Vec::new(alloc);
