@@ -60,6 +60,7 @@ by_kind s p w zero f l e small h =
         found = sym is ∙ ap (λ (o : Object). let g : Found = record { pads = 0; object = o } in g) (sym object);
         word = struct_word w l e;
         fits = (omega arith, omega arith);
+        small = omega arith;
         starts = z.1;
       },
     )
@@ -76,6 +77,7 @@ by_kind s p w (suc zero) f l e small h =
         found = sym is ∙ ap (λ (o : Object). let g : Found = record { pads = 0; object = o } in g) (sym object ∙ like.object z.0);
         word = list_word w l e ∙ like.word (bits_at 2 30 w);
         fits = like.fits;
+        small = omega arith;
         starts = z.1;
       },
     )

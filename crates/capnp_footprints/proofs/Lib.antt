@@ -24,4 +24,5 @@ pub mod MovedChildren
 pub mod PointerRows
 pub mod SpareMoves
 pub mod Direct
+pub mod MovedElements
 pub mod NewObjects

@@ -111,7 +111,7 @@ list_shape n s p k t o =
 
 -- ---- lists of structs
 
-elements_next : (d i section : ℕ) (kids : Trees) (es fs : Elements) → i < element_count es → i < element_count fs → element_at d es i ≡ structure d section kids → with_element (with_first_elements i es fs) i section kids ≡ with_first_elements (suc i) es fs
+pub elements_next : (d i section : ℕ) (kids : Trees) (es fs : Elements) → i < element_count es → i < element_count fs → element_at d es i ≡ structure d section kids → with_element (with_first_elements i es fs) i section kids ≡ with_first_elements (suc i) es fs
 elements_next d i section kids no_elements fs l m e = absurd (omega (arith, l))
 elements_next d i section kids es no_elements l m e = absurd (omega (arith, m))
 elements_next d zero section kids (element a ts es) (element b us fs) l m e =
@@ -120,13 +120,13 @@ elements_next d zero section kids (element a ts es) (element b us fs) l m e =
     ap (λ (z : ℕ). element z kids fs) (sym x) ∙ ap (λ (zs : Trees). element a zs fs) (sym y)
 elements_next d (suc i) section kids (element a ts es) (element b us fs) l m e = ap (λ (gs : Elements). element a ts gs) (elements_next d i section kids es fs (omega (arith, l)) (omega (arith, m)) e)
 
-elements_here : (d i : ℕ) (es fs : Elements) → element_at d (with_first_elements i es fs) i ≡ element_at d fs i
+pub elements_here : (d i : ℕ) (es fs : Elements) → element_at d (with_first_elements i es fs) i ≡ element_at d fs i
 elements_here d zero es fs = refl
 elements_here d (suc i) es no_elements = refl
 elements_here d (suc i) no_elements (element b us fs) = refl
 elements_here d (suc i) (element a ts es) (element b us fs) = elements_here d i es fs
 
-elements_counted : (i : ℕ) (es fs : Elements) → element_count (with_first_elements i es fs) ≡ element_count fs
+pub elements_counted : (i : ℕ) (es fs : Elements) → element_count (with_first_elements i es fs) ≡ element_count fs
 elements_counted zero es fs = refl
 elements_counted (suc i) es no_elements = refl
 elements_counted (suc i) no_elements (element b us fs) = refl

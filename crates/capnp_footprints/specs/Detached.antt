@@ -51,4 +51,5 @@ pub record IsDirect (p : Place) (w : ℕ) (f : Found) (r : Place) (offset : ℕ)
   pub found : f ≡ record { pads = 0; object = new_object r x }
   pub word : w ≡ new_pointer offset x
   pub fits : Fits x
+  pub small : offset < 2 ^ 30
   pub starts : begins (after p 1) offset ≡ Ok r
