@@ -1,0 +1,48 @@
+-- Structs that are widened. (Encoding, "Structs")
+use Rattle.std.specs.Prelude.{◌≡◌, ◌↔◌, ◌⊎◌, ℕ, suc, max, ◌+◌, ◌*◌, ◌^◌, ◌<◌, ◌≤◌, Option, Some, None, Result, Ok, Err}
+use Rattle.capnp_model.specs.Kinds.{Kind}
+use Rattle.capnp_model.specs.Segments.{Segments, Place, after}
+use Rattle.capnp_model.specs.Pointers.{a_struct}
+use Rattle.capnp_model.specs.Trees.{Tree, widened}
+use Rattle.capnp_units.specs.declared.errors.Error.{Error}
+use Rattle.capnp_units.specs.declared.kinds.ErrorKind.TheVariants.{SizeOverflow, WrongPointerKind}
+use Rattle.capnp_units.specs.Errors.{kind_of}
+use Rattle.capnp_wire.specs.Places.{place_view}
+use Rattle.capnp_object.specs.declared.place.Place as code
+use Rattle.capnp_object.specs.declared.object.Object.{Object}
+use Rattle.capnp_object.specs.declared.object.Object.TheVariants as object
+use Rattle.capnp_object.specs.declared.object.Found.{Found}
+use Rattle.capnp_footprints.specs.Footprints.{Owns}
+use Rattle.capnp_footprints.specs.Changes.{Replaces}
+use Rattle.capnp_copy.specs.Allocations.{total_words}
+use Rattle.capnp_copy.specs.Rooms.{RoomFor, begin_of}
+use Rattle.capnp_copy.specs.Values.{LeadsTo}
+use Rattle.capnp_copy.specs.declared.room.Room.{Room}
+
+-- Room for a wider object that the pointer at a place will name: in the old object's segment, or anywhere, and then so many words more are there behind it, for pads of the pointers that move to it.
+abbrev pub WiderRoom : Segments → Segments → Place → ℕ → ℕ → ℕ → Room → Option code.Place → Type 0
+WiderRoom s u p segment n pads room None = RoomFor s u p n room × ((begin_of p room).segment ≡ segment)
+WiderRoom s u p segment n pads room (Some q) = RoomFor s u p (n + pads) room × (place_view q ≡ after (begin_of p room) n)
+
+-- Whatever value is owned there is widened to at least so many data words and pointers, null to a struct of just these, and nothing else changes.
+abbrev pub Widens : Segments → Segments → Place → ℕ → ℕ → Type 0
+Widens s u p d k = (n : ℕ) (t : Tree) → Owns n s p t → Replaces (suc n) s u p (widened d k t)
+
+-- The pointer at a place leads to a struct of at least these sizes.
+abbrev pub IsWide : Segments → Place → ℕ → ℕ → Type 0
+IsWide s p d k = (a : Place) × (w : ℕ) × (m : ℕ) × LeadsTo s p (a_struct a w m) × (d ≤ w) × (k ≤ m)
+
+-- So many words more are refused: with `SizeOverflow` just where the message's words would pass 2^29 - 1.
+abbrev pub GrowthRefused : Segments → ℕ → Error → Type 0
+GrowthRefused s n e = (e.kind ≡ SizeOverflow) ↔ (2 ^ 29 ≤ total_words s + n)
+
+-- Why an object isn't given as a struct of at least these sizes: it is another one, or the words of a new struct and a pad are refused, and for a narrower one also two for each pointer of the old.
+abbrev pub ObjectRefused : Segments → Object → ℕ → ℕ → Error → Type 0
+ObjectRefused s object.Null d k e = GrowthRefused s (d + k + 1) e
+ObjectRefused s (object.Struct p w m) d k e = ((w < d) ⊎ (m < k)) × GrowthRefused s (max d w + max k m + 1 + 2 * m) e
+ObjectRefused s _ d k e = e.kind ≡ WrongPointerKind
+
+-- Why no such struct is given: the fault of what is there, or the object.
+abbrev pub StructRefused : Segments → Result Found Kind → ℕ → ℕ → Error → Type 0
+StructRefused s (Err kind) d k e = kind ≡ kind_of e.kind
+StructRefused s (Ok f) d k e = ObjectRefused s f.object d k e

@@ -1,0 +1,55 @@
+//! Room for wider objects.
+ghost use Rattle.std.specs.Prelude.{◌≡◌, ◌+◌, ◌-◌, ◌*◌, ◌<◌, ◌≤◌, ◌^◌, ◌↔◌, ℕ, true, IfOk, IfErr, OnErr};
+ghost use Rattle.std.specs.Option.{is_some};
+ghost use Rattle.capnp_model.specs.Segments.{word_at};
+ghost use Rattle.capnp_units.specs.Segments.{words_in};
+ghost use Rattle.capnp_wire.specs.Places.{place_view};
+ghost use Rattle.capnp_widening.specs.Widened.{WiderRoom, GrowthRefused};
+
+use capnp_copy::arena::BuilderArena;
+use capnp_copy::room::Room;
+use capnp_units::errors::Result;
+use capnp_units::sizes::SegmentId;
+use capnp_wire::place::Place;
+
+/// Allocates words for a wider object that the pointer at a place will name: in the old object's segment where that has room for them, behind a pad of one word where the pointer is in another, so that the pointers that move to it reach what they lead to. Else behind a pad in any segment, with so many words more, for pads of those pointers, whose place is answered. Nothing is written.
+///
+/// It is refused with `SizeOverflow` just where the message's words would pass 2^29 - 1, all pads counted, else as the allocator refuses; then nothing is allocated.
+pub fn allocate_wider<A: BuilderArena>(
+    arena: &mut A,
+    slot: Place,
+    segment: SegmentId,
+    words: u32,
+    pads: u32,
+) -> Result<(Room, Option<Place>)>
+    requires there { is_some (word_at (words_in (A.segments arena.old)) (place_view slot)) ≡ true }
+    requires some { 0 < words }
+    requires few { (words ≤ 2 ^ 29) × (pads ≤ 2 ^ 30) }
+    ensures ok { IfOk result (λ r. WiderRoom (words_in (A.segments arena.old)) (words_in (A.segments arena.new)) (place_view slot) segment words pads r.0 r.1) }
+    ensures refused { OnErr result (A.segments arena.new ≡ A.segments arena.old) }
+    ensures kind { IfErr result (GrowthRefused (words_in (A.segments arena.old)) (1 + (words + pads))) }
+    ensures books { A.books arena.new ≡ A.books arena.old }
+{
+    if slot.segment == segment {
+        if let Some(at) = arena.allocate(segment, words) {
+            let offset = (at as usize - (slot.position + 1)) as u32;
+            return Ok((Room::Near { offset }, None));
+        }
+    } else if let Some(at) = arena.allocate(segment, 1 + words) {
+        let pad = Place {
+            segment,
+            position: at as usize,
+        };
+        return Ok((Room::Far { pad }, None));
+    }
+    let (segment, at) = arena.allocate_anywhere(1 + (words + pads))?;
+    let pad = Place {
+        segment,
+        position: at as usize,
+    };
+    let first = Place {
+        segment,
+        position: at as usize + 1 + words as usize,
+    };
+    Ok((Room::Far { pad }, Some(first)))
+}
