@@ -1,0 +1,84 @@
+-- The root of a default, and what stands there.
+use Rattle.std.proofs.Common.{◌≡◌, ℕ, zero, suc, ◌*◌, ◌/◌, ◌^◌, ◌<◌, Bool, true, false, not, ◌==◌, if◌then◌else◌, List, [], ◌∷◌, ◌++◌, length, take, drop, replicate, Option, Some, None, Result, Ok, Err, refl, ap, sym, ◌∙◌, subst, arith}
+use Rattle.std.specs.Prelude.{nat_lt, pos}
+use Rattle.std.specs.Option.{ok_or}
+use Rattle.std.specs.List.{flat_map}
+use Rattle.std.specs.Simd.{first_chunks}
+use Rattle.std.specs.Str.{bytes_eq}
+use Rattle.std.proofs.lemmas.Slice.Eq.{bytes_eq-Decides}
+use Rattle.std.proofs.lemmas.List.{length-drop, take-append-drop}
+use Rattle.capnp_model.specs.Kinds.{Kind, OutOfBounds}
+use Rattle.capnp_model.specs.Chains.{◌and_then◌, passes}
+use Rattle.capnp_model.specs.Bytes.{bytes_of_words, words_in_bytes}
+use Rattle.capnp_model.specs.Segments.{Segments, Place, root, word_at}
+use Rattle.capnp_model.specs.Trees.{Tree, null, is_null as is_null_tree, has_capability}
+use Rattle.capnp_model.specs.Trimming.{trim}
+use Rattle.capnp_model.specs.Traversal.{tree_at}
+use Rattle.capnp_model.specs.Encoding.{canonical_words}
+use Rattle.capnp_model.specs.Decoding.{decode}
+use Rattle.capnp_model.specs.Accepted.{is_good_segment}
+use Rattle.capnp_model.proofs.Chaining.{bind_some, provided_some}
+use Rattle.capnp_model.proofs.KeptRules.{and_right}
+use Rattle.capnp_model.proofs.ByteWords.{bytes_length}
+use Rattle.capnp_units.specs.Segments.{words_in}
+use Rattle.capnp_wire.specs.Views.{PointerView, arena_root}
+use Rattle.capnp_wire.specs.Reads.{is_null_at, is_null, default_root, root_of}
+use Rattle.capnp_values.specs.Sources.{null_default, default_pointer}
+use Rattle.capnp_values.specs.Standing.{Leads, NullsAreRead}
+use Rattle.capnp_print.specs.Defaults.{is_null_segment}
+
+found : (test : Tree → Bool) (o : Option Tree) → (elim o as (λ (x : Option Tree). Bool) [ None ↦ false | Some t ↦ test t ]) ≡ true → (t : Tree) × (o ≡ Some t)
+found test None h = absurd cc
+found test (Some t) h = (t, refl)
+
+pub decoded : (test : Tree → Bool) (bs : List ℕ) → is_good_segment test bs ≡ true → (t : Tree) × (decode bs ≡ Some t)
+decoded test bs h = found test (decode bs) (and_right (nat_lt (length bs) (8 * 2 ^ 29)) _ h)
+
+-- the words of a default stand in one segment
+pub record Encoded (bs : List ℕ) (t : Tree) : Type 0 where
+  pub tree : tree_at 64 (words_in_bytes (length bs / 8) bs ∷ []) root ≡ Some t
+  pub words : ℕ
+  pub long : length bs ≡ 8 * words
+  pub same : bytes_of_words (canonical_words (trim t)) ≡ bs
+
+pub encoded : (bs : List ℕ) (t : Tree) → decode bs ≡ Some t → Encoded bs t
+unfolding decode
+encoded bs t e =
+    let a = bind_some (tree_at 64 (words_in_bytes (length bs / 8) bs ∷ []) root) _ t e in
+    let b = provided_some a.0 t _ a.2 in
+    let ws : List ℕ = canonical_words (trim a.0) in
+    let same : bytes_of_words ws ≡ bs = (bytes_eq-Decides (bytes_of_words ws) bs).0 (and_right (not (has_capability a.0)) (bytes_eq (bytes_of_words ws) bs) b.0) in
+    record { tree = a.1 ∙ ap (λ (x : Tree). Some x) b.1; words = length ws; long = ap length (sym same) ∙ bytes_length ws; same = ap (λ (x : Tree). bytes_of_words (canonical_words (trim x))) (sym b.1) ∙ same }
+
+joined : (n : ℕ) (bs : List ℕ) → length bs ≡ 8 * n → flat_map (λ w. w) (first_chunks 8 n bs) ≡ bs
+joined zero [] h = refl
+joined zero (b ∷ bs) h = absurd (omega arith)
+joined (suc n) bs h =
+    let less : length (drop 8 bs) ≡ 8 * n = omega (arith, length-drop 8 bs) in
+    ap (λ (x : List ℕ). take 8 bs ++ x) (joined n (drop 8 bs) less) ∙ take-append-drop 8 bs
+
+-- the root is null where the value is
+root_null : (bs : List ℕ) → is_null_segment bs ≡ is_null (arena_root (bs ∷ []) (pos 64))
+root_null bs = by (word_at (words_in (bs ∷ [])) root) refl
+  where
+    by : (o : Option ℕ) → word_at (words_in (bs ∷ [])) root ≡ o → (elim (ok_or o OutOfBounds and_then λ _. Ok (arena_root (bs ∷ []) (pos 64))) as (λ (r : Result PointerView Kind). Bool) [ Ok p ↦ is_null p | Err kind ↦ false ]) ≡ is_null (arena_root (bs ∷ []) (pos 64))
+    by None e = sym (ap (passes (λ w. w == 0)) e)
+    by (Some w) e = refl
+
+module _ (nulls : NullsAreRead) (bs : List ℕ) (t : Tree) (is : Encoded bs t) where
+  pub segment_null : is_null_segment bs ≡ is_null_tree t
+  segment_null = root_null bs ∙ nulls 64 (arena_root (bs ∷ []) (pos 64)) t (record { left = 64; levels = refl; enough = omega arith; tree = is.tree })
+
+  same_words : flat_map (λ w. w) (first_chunks 8 (length bs / 8) bs) ≡ bs
+  same_words =
+      let eighth : length bs / 8 ≡ is.words = omega (arith, is.long) in
+      ap (λ (k : ℕ). flat_map (λ w. w) (first_chunks 8 k bs)) eighth ∙ joined is.words bs is.long
+
+  -- a default whose root is null is read at a null pointer
+  pub null_pointed : is_null_tree t ≡ true → default_pointer bs ≡ null_default
+  null_pointed e =
+      let same : is_null (default_root (first_chunks 8 (length bs / 8) bs) (Some 64)) ≡ true = ap (λ (x : List ℕ). is_null_at (words_in (x ∷ [])) (Some root)) same_words ∙ sym (root_null bs) ∙ segment_null ∙ e in
+      ap (λ b. if b then null_default else default_root (first_chunks 8 (length bs / 8) bs) (Some 64)) same
+
+pub null_is_null : is_null null_default ≡ true
+null_is_null = refl

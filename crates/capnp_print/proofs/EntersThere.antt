@@ -1,0 +1,53 @@
+-- Which fields that are printed enter their defaults.
+use Rattle.std.proofs.Common.{◌≡◌, ℕ, ◌&&◌, not, Bool, true, false, Option, Some, None, option_map, Result, Ok, refl, ap, sym, ◌∙◌, subst, slice_get}
+use Rattle.capnp_model.specs.Schemas.{Field as FieldNode, FieldKind}
+use Rattle.capnp_model.specs.Readings.{is_active, only_if}
+use Rattle.capnp_model.specs.Printing.{is_shown}
+use Rattle.capnp_model.specs.Accepted.{field_body}
+use Rattle.capnp_queries.specs.Fields.{Entry, entry_in}
+use Rattle.capnp_queries.specs.Structs.{schema_around, fields_recorded}
+use Rattle.capnp_queries.specs.Handles.{entry_of, IsFieldRecord}
+use Rattle.capnp_queries.specs.declared.structs.StructSchema.{StructSchema}
+use Rattle.capnp_queries.specs.declared.fields.Field.{Field}
+use Rattle.capnp_wire.specs.Views.{StructView}
+use Rattle.capnp_values.specs.Shown.{discriminant_shown, is_active_field, is_null_slot, has_field}
+use Rattle.capnp_print.specs.ShownReadings.{left_of}
+use Rattle.capnp_print.specs.Defaults.{enters}
+use Rattle.capnp_print.specs.Members.{field_shown}
+use Rattle.capnp_print.specs.Parts.{IsPrinted, enters_there}
+use Rattle.capnp_print.proofs.Shows.{Read}
+
+module _ (s : StructSchema) (v : StructView) (f : Field) (said : FieldNode) (parent : f.parent ≡ s) (is : IsFieldRecord f.parent f.index said) (shown : IsPrinted s v f) where
+  active : is_active said.member (discriminant_shown s v) ≡ true
+  active = by said.member (is_active said.member (discriminant_shown s v)) (shown (entry_in (schema_around f.parent) said) is.entry)
+    where
+      by : (m : Option ℕ) (a : Bool) → is_shown m (only_if a (Read (left_of v.levels) (schema_around s) v (field_body (schema_around f.parent).shape_of said.kind))) ≡ true → a ≡ true
+      by m true g = refl
+      by m false g = absurd cc
+
+  has_is : has_field v f ≡ not (is_null_slot v (Some (field_body (schema_around f.parent).shape_of said.kind)))
+  has_is =
+      ap (λ (o : Option Entry). is_active_field (discriminant_shown f.parent v) (option_map (λ x. x.member) o) && not (is_null_slot v (option_map (λ x. x.body) o))) is.entry
+      ∙ ap (λ (z : StructSchema). is_active said.member (discriminant_shown z v) && not (is_null_slot v (Some (field_body (schema_around f.parent).shape_of said.kind)))) parent
+      ∙ ap (λ a. a && not (is_null_slot v (Some (field_body (schema_around f.parent).shape_of said.kind)))) active
+
+  -- one that is there enters none
+  pub by_presence : has_field v f ≡ true → false ≡ enters_there v (schema_around f.parent) said.kind
+  by_presence h = by (is_null_slot v (Some (field_body (schema_around f.parent).shape_of said.kind))) (sym has_is ∙ h)
+    where
+      by : (n : Bool) → not n ≡ true → false ≡ (n && enters said.kind)
+      by true g = absurd cc
+      by false g = refl
+
+  -- a null one by its record
+  pub by_default : has_field v f ≡ false → (b : Bool) (other : FieldNode) → IsFieldRecord f.parent f.index other → b ≡ enters other.kind → b ≡ enters_there v (schema_around f.parent) said.kind
+  by_default h b other its told =
+      let same : other ≡ said = first (slice_get (fields_recorded f.parent) f.index) other said its.recorded is.recorded in
+      told ∙ ap (λ (x : FieldNode). enters x.kind) same ∙ by (is_null_slot v (Some (field_body (schema_around f.parent).shape_of said.kind))) (sym has_is ∙ h)
+    where
+      first : (o : Option FieldNode) (x y : FieldNode) → o ≡ Some x → o ≡ Some y → x ≡ y
+      first o x y p q = cc
+
+      by : (n : Bool) → not n ≡ false → enters said.kind ≡ (n && enters said.kind)
+      by true g = refl
+      by false g = absurd cc

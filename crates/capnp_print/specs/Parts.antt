@@ -1,0 +1,41 @@
+-- The texts of the parts of structs and lists.
+use Rattle.std.specs.Prelude.{ℕ, ◌≡◌, Bool, true, ◌&&◌, Some}
+use Rattle.capnp_model.specs.Trees.{null}
+use Rattle.capnp_model.specs.Schemas.{Ty, FieldKind, Schema}
+use Rattle.capnp_model.specs.Accepted.{field_body}
+use Rattle.capnp_model.specs.Printing.{Style, as_type, as_body}
+use Rattle.capnp_queries.specs.Fields.{Entry}
+use Rattle.capnp_queries.specs.Structs.{schema_around, shape_of_struct, fields_of_struct}
+use Rattle.capnp_queries.specs.Handles.{entry_of}
+use Rattle.capnp_queries.specs.declared.structs.StructSchema.{StructSchema}
+use Rattle.capnp_queries.specs.declared.fields.Field.{Field}
+use Rattle.capnp_wire.specs.Views.{StructView, ListView}
+use Rattle.capnp_values.specs.Shown.{discriminant_shown, is_null_slot}
+use Rattle.capnp_print.specs.Texts.{as_it_is}
+use Rattle.capnp_print.specs.ShownReadings.{record_read, elements_read, reading_within, left_of}
+use Rattle.capnp_print.specs.Printed.{Text, printed, items_printed, fields_printed, null_printed}
+use Rattle.capnp_print.specs.Defaults.{enters}
+use Rattle.capnp_print.specs.Members.{field_read, field_shown}
+
+-- The fields of a struct, each behind its mark and its name.
+abbrev pub fields_text : ℕ → Style → StructSchema → StructView → Text
+fields_text left style s v = let around = schema_around s in
+    fields_printed around as_it_is (null_printed around as_it_is left) style true (fields_of_struct s) (record_read (reading_within (left_of v.levels)) around (shape_of_struct s) v)
+
+-- The value of a field.
+abbrev pub member_text : ℕ → Style → StructSchema → StructView → Entry → Text
+member_text left style s v e = let around = schema_around s in
+    printed around as_it_is (null_printed around as_it_is left) style (as_body e.body) (field_read around v (discriminant_shown s v) e)
+
+-- The elements of a list, each behind its mark.
+abbrev pub elements_text : ℕ → Style → Schema → Ty → ListView → Text
+elements_text left style s ty l =
+    items_printed s as_it_is (null_printed s as_it_is left) style (as_type ty null) true (elements_read (reading_within (left_of l.levels)) s ty l 0 l.count)
+
+-- The field is printed.
+abbrev pub IsPrinted : StructSchema → StructView → Field → Type 0
+IsPrinted s v f = (e : Entry) → entry_of f ≡ Some e → field_shown (schema_around s) v (discriminant_shown s v) e ≡ true
+
+-- The field lies behind a null pointer and has a default whose root isn't null.
+abbrev pub enters_there : StructView → Schema → FieldKind → Bool
+enters_there v s k = is_null_slot v (Some (field_body s.shape_of k)) && enters k

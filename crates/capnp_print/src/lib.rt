@@ -1,0 +1,9 @@
+//! The printed text of values whose type is known at run time.
+#![tactic(auto)]
+
+mod defaults;
+mod members;
+mod names;
+mod single;
+pub mod stringify;
+mod values;
