@@ -12,7 +12,5 @@ pub mod PointerReadings
 pub mod PlainDefaults
 pub mod Presence
 pub mod RecordReadings
-pub mod TextLemmas
-pub mod TwoBlanks
 pub mod Unlimited
 pub mod ValueReadings

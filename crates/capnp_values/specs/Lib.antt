@@ -1,4 +1,3 @@
-pub mod Texts
 pub mod Sources
 pub mod ListSizes
 pub mod GoodDefaults

@@ -12,7 +12,6 @@ pub mod laws;
 pub mod of_value;
 mod opening;
 mod plain;
-mod single;
 pub mod source;
 #[cfg(test)]
 mod tests;
