@@ -1,4 +1,4 @@
-//! Values whose type is known at run time: what they are read as, and their text.
+//! Values whose type is known at run time: what they are read as.
 #![tactic(auto)]
 
 pub mod any_pointer;
