@@ -31,7 +31,7 @@ fn put<A: BuilderArena>(memory: &mut Memory<A>, bytes: &[u8], text: bool) -> Res
 }
 
 /// Whether the root holds these bytes, read as a text or as data.
-fn holds<A: ReaderArena>(arena: &A, bytes: &[u8], text: bool) -> Result<bool> {
+pub(crate) fn holds<A: ReaderArena>(arena: &A, bytes: &[u8], text: bool) -> Result<bool> {
     let mut limiter = ReadLimiter::new(None);
     let root = PointerReader::get_root_from_arena(arena)?;
     let found = if text {

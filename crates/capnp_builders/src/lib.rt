@@ -8,6 +8,8 @@ mod build_tests;
 pub mod element;
 #[cfg(test)]
 mod element_tests;
+#[cfg(test)]
+mod input_tests;
 pub mod list_builder;
 #[cfg(test)]
 mod list_tests;
@@ -15,3 +17,4 @@ pub mod pointer_builder;
 pub mod struct_builder;
 #[cfg(test)]
 mod tests;
+pub mod traits;
