@@ -6,4 +6,6 @@ mod members;
 mod names;
 mod single;
 pub mod stringify;
+#[cfg(test)]
+mod tests;
 mod values;
