@@ -30,6 +30,7 @@ impl ReaderOptions {
 
     /// Sets the most levels of pointers.
     pub fn nesting_limit(&mut self, value: i32) -> &mut Self
+        ensures same { result.ghost_name ≡ self.entry.ghost_name }
         ensures set { result.now.nesting_limit ≡ value }
         ensures kept { result.now.traversal_limit_in_words ≡ self.old.traversal_limit_in_words }
     {
@@ -39,6 +40,7 @@ impl ReaderOptions {
 
     /// Sets the most words.
     pub fn traversal_limit_in_words(&mut self, value: Option<usize>) -> &mut Self
+        ensures same { result.ghost_name ≡ self.entry.ghost_name }
         ensures set { result.now.traversal_limit_in_words ≡ value }
         ensures kept { result.now.nesting_limit ≡ self.old.nesting_limit }
     {

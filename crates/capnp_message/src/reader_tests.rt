@@ -1,4 +1,7 @@
 //! Framed messages that are read from streams and slices, and their roots.
+ghost use Rattle.std.specs.Prelude.{◌≡◌, None};
+ghost use Rattle.capnp_message.specs.Options.{default_options};
+
 use crate::message::{DEFAULT_READER_OPTIONS, Reader, ReaderOptions, SegmentArray, TypedReader};
 use crate::serialize::{
     read_message, read_message_from_flat_slice, read_message_from_flat_slice_no_alloc,
@@ -25,10 +28,36 @@ const DATA: [u8; 25] = [
     0, 0, 0, 0, 2, 0, 0, 0, 1, 0, 0, 0, 18, 0, 0, 0, 0x68, 0x69, 0, 0, 0, 0, 0, 0, 0xee,
 ];
 
-fn options(words: Option<usize>, levels: i32) -> ReaderOptions {
+/// Options that are set one after the other.
+fn options(words: Option<usize>, levels: i32) -> ReaderOptions
+    ensures words { result.traversal_limit_in_words ≡ words }
+    ensures levels { result.nesting_limit ≡ levels }
+{
     let mut options = ReaderOptions::new();
     options.traversal_limit_in_words(words);
     options.nesting_limit(levels);
+    options
+}
+
+/// Options that are set in a chain.
+fn chained(words: Option<usize>, levels: i32) -> ReaderOptions
+    ensures words { result.traversal_limit_in_words ≡ words }
+    ensures levels { result.nesting_limit ≡ levels }
+{
+    let mut options = ReaderOptions::new();
+    options
+        .nesting_limit(levels)
+        .traversal_limit_in_words(words);
+    options
+}
+
+/// Options of which one alone is set keep the other.
+fn boundless() -> ReaderOptions
+    ensures words { result.traversal_limit_in_words ≡ None }
+    ensures levels { result.nesting_limit ≡ default_options.nesting_limit }
+{
+    let mut options = ReaderOptions::new();
+    options.traversal_limit_in_words(None);
     options
 }
 
@@ -58,6 +87,9 @@ fn options_are_set(rt: HostRuntime) -> std::result::Result<(), Fail> {
     let few = options(Some(10), 3);
     assert_eq!(rt; few.traversal_limit_in_words, Some(10));
     assert_eq!(rt; few.nesting_limit, 3);
+    assert!(rt; chained(Some(10), 3) == few);
+    assert_eq!(rt; boundless().traversal_limit_in_words, None);
+    assert_eq!(rt; boundless().nesting_limit, 64);
     let mut limiter = few.read_limiter();
     assert!(rt; limiter.charge(10).is_ok());
     assert!(rt; limiter.charge(1).is_err());
