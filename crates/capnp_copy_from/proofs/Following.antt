@@ -22,11 +22,11 @@ use Rattle.capnp_object.specs.Walks.{Walked, Stopped}
 use Rattle.capnp_object.proofs.LevelLaws.{trees, visited}
 use Rattle.capnp_object.proofs.Measuring.{unfollowed_at}
 use Rattle.capnp_object.proofs.Walking.{object_found, leaf_visited}
-use Rattle.capnp_object.proofs.Walks.{walked_one}
+use Rattle.capnp_object.proofs.Walks.{walked_none, walked_one}
 use Rattle.capnp_copy.specs.Allocations.{total_words}
-use Rattle.capnp_copy_from.proofs.Taking.{none_taken}
-use Rattle.capnp_copy_from.specs.Objects.{is_leaf, leaf_value}
-use Rattle.capnp_copy_from.specs.Copies.{BecomesCopy, Copied, CopyGives, GrowsByZeros}
+use Rattle.capnp_copy_from.proofs.Taking.{none_taken, object_untaken}
+use Rattle.capnp_copy_from.specs.Objects.{copied_words, is_leaf, leaf_value}
+use Rattle.capnp_copy_from.specs.Copies.{BecomesCopy, Copied, CopyGives, GrowsByZeros, ObjectCopied}
 use Rattle.capnp_copy_from.proofs.Refusals.{gives_is}
 
 pub stopped_at : (n : ℕ) (s : Segments) (p : Place) (old new : ReadLimiter) (e : Error) → FollowsWithin n s p old (Err e) new → Stopped (visits n s p) old e new
@@ -102,15 +102,15 @@ leaf_inside f v from (object.List q size n) l = absurd cc
 leaf_inside f v from (object.PointerList q n) l = absurd cc
 leaf_inside f v from (object.StructList q words n d k) l = absurd cc
 
-pub leaf_put : (levels : ℕ) (f : Place → Option Tree) (v : Place → List Visit) (from : Segments) (p : Place) (o : Object) (old new : ReadLimiter) (s u : Segments) (q : Place) → is_leaf o ≡ true → (x : Pays from p old o new) → BecomesCopy 0 s u q (leaf_value o) → Grows s u → total_words u ≡ total_words s
-    → Copied (tree_in from f o) (Ok (x.pads + own_cost o) ∷ met_in v o) (BecomesCopy (suc levels) s u q) s u old new
-leaf_put levels f v from p o old new s u q l x b grows same =
-    let y = leaf_inside f v from o l in
+pub leaf_put : (levels : ℕ) (f : Place → Option Tree) (v : Place → List Visit) (from : Segments) (o : Object) (l : ReadLimiter) (s u : Segments) (q : Place) → is_leaf o ≡ true → BecomesCopy 0 s u q (leaf_value o) → Grows s u → total_words u ≡ total_words s
+    → ObjectCopied levels o (tree_in from f o) (met_in v o) s u q l l
+leaf_put levels f v from o l s u q leaf b grows same =
+    let y = leaf_inside f v from o leaf in
     record {
       value = leaf_value o;
       there_is = y.0;
-      walked = subst (λ (vs : List Visit). Walked (Ok (x.pads + own_cost o) ∷ vs) old new) (sym y.1) (paid_walk from p old new o x);
+      walked = subst (λ (vs : List Visit). Walked vs l l) (sym y.1) (walked_none l);
       grows = grows;
-      takes = none_taken from s u p o old new same x;
-      made = λ n t h o'. b n t (omega arith) o';
+      takes = object_untaken (copied_words o) s u l same;
+      becomes = λ n t h o'. b n t (omega arith) o';
     }

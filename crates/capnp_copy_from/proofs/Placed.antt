@@ -1,6 +1,6 @@
 -- Copies that are linked, and those that are given up.
 use Rattle.std.specs.Bool.{⊤}
-use Rattle.std.proofs.Common.{◌∙◌, ◌≡◌, ◌⊎◌, ◌↔◌, ℕ, zero, suc, ◌+◌, ◌<◌, ◌≤◌, true, false, List, [], ◌∷◌, length, map, Option, Result, Ok, refl, ap, sym, subst, inl, inr, arith}
+use Rattle.std.proofs.Common.{◌∙◌, ◌≡◌, ◌⊎◌, ◌↔◌, ℕ, zero, suc, ◌+◌, ◌<◌, ◌≤◌, true, false, List, [], ◌∷◌, length, map, Option, Result, Ok, Err, refl, ap, sym, subst, inl, inr, arith}
 use Rattle.std.specs.Option.{is_some}
 use Rattle.std.proofs.lemmas.List.{append-nil}
 use Rattle.capnp_model.specs.Segments.{Segments, Place, words_at}
@@ -18,7 +18,7 @@ use Rattle.capnp_object.specs.declared.object.Object.TheVariants as object
 use Rattle.capnp_object.specs.Objects.{IsInside}
 use Rattle.capnp_object.specs.Follow.{own_cost, Pays}
 use Rattle.capnp_object.specs.Inside.{tree_in, met_in}
-use Rattle.capnp_object.specs.Walks.{Stopped}
+use Rattle.capnp_object.specs.Walks.{Walked, Stopped}
 use Rattle.capnp_object.proofs.Walks.{walked_none, walked_both}
 use Rattle.capnp_footprints.specs.Footprints.{object_footprint, Owns}
 use Rattle.capnp_footprints.specs.Changes.{Replaces}
@@ -37,13 +37,13 @@ use Rattle.capnp_copy.specs.declared.room.Room.TheVariants.{Here, Near, Far}
 use Rattle.capnp_copy.specs.Rooms.{RoomFor, begin_of, slot_word, with_pad, linked}
 use Rattle.capnp_copy.proofs.RoomLaws.{sizes_grow, room_grows}
 use Rattle.capnp_copy_from.specs.Objects.{copied_words, copied_at, copied_pointer, IsTooLarge, IsSpelled, is_leaf}
-use Rattle.capnp_copy_from.specs.Copies.{BecomesCopy, GrowsByZeros, Copied, Refused, CopyGives, Fills}
+use Rattle.capnp_copy_from.specs.Copies.{BecomesCopy, GrowsByZeros, Copied, Refused, Unplaced, CopyGives, Fills, ObjectCopied, HasNoPlace, ObjectRefused, ObjectGives}
 use Rattle.capnp_copy_from.proofs.Allocated.{pads_in, allocated, room_new}
 use Rattle.capnp_copy_from.proofs.Filling.{filled_detached, given_up}
 use Rattle.capnp_copy_from.proofs.Following.{paid_walk}
 use Rattle.capnp_copy_from.proofs.Linked.{linked_value}
 use Rattle.capnp_copy_from.proofs.Refusals.{why_later}
-use Rattle.capnp_copy_from.proofs.Taking.{total_alike, written_total, takes_none, takes_same, takes_both, room_taken, none_taken}
+use Rattle.capnp_copy_from.proofs.Taking.{total_alike, written_total, takes_none, object_taken, object_untaken, object_same, visit_taken}
 
 -- ---- the object that is new
 
@@ -73,7 +73,7 @@ object_is r (object.List p size n) l = refl
 object_is r (object.PointerList p n) l = refl
 object_is r (object.StructList p words n d k) l = refl
 
-new_fits : (s : Segments) (o : Object) → is_leaf o ≡ false → IsInside s o → IsSpelled o → Fits (new_of o)
+pub new_fits : (s : Segments) (o : Object) → is_leaf o ≡ false → IsInside s o → IsSpelled o → Fits (new_of o)
 unfolding new_of
 new_fits s object.Null l i f = absurd cc
 new_fits s (object.Capability j) l i f = absurd cc
@@ -109,59 +109,84 @@ linked_total s p room w = written_total (with_pad s room w) p (slot_word room w 
     padded s (Near offset) w = refl
     padded s (Far pad) w = written_total s (place_view pad) (w ∷ [])
 
-becomes : (levels n : ℕ) (from s m u y : Segments) (p : Place) (o : Object) (room : Room) (t v : Tree) → suc levels ≤ n → is_some (words_at s p 1) ≡ true → is_leaf o ≡ false → RoomFor s m p (copied_words o) room → IsInside from o → IsSpelled o
+becomes : (levels n : ℕ) (s m u y : Segments) (p : Place) (o : Object) (room : Room) (t v : Tree) → suc levels ≤ n → is_some (words_at s p 1) ≡ true → is_leaf o ≡ false → RoomFor s m p (copied_words o) room → Fits (new_of o)
     → ((j : ℕ) → levels ≤ j → Fills j m u (begin_of p room) (copied_words o) (copied_at (begin_of p room) o) v) → ClearsValue u y p → Owns n s p t → Replaces n s (linked y p room (copied_pointer o)) p v
-becomes levels zero from s m u y p o room t v h e l r i f fill c own = absurd (omega (arith, h))
-becomes levels (suc n) from s m u y p o room t v h e l r i f fill c own =
+becomes levels zero s m u y p o room t v h e l r fits fill c own = absurd (omega (arith, h))
+becomes levels (suc n) s m u y p o room t v h e l r fits fill c own =
     let r0 = begin_of p room in
     let d0 = allocated n s m p (copied_words o) room t e r own in
     let d1 = filled_detached n s m u p t (begin_of p room) (copied_words o) (pads_in room) (copied_at (begin_of p room) o) v d0 (fill n (omega (arith, h))) in
     let mine = (detached_owns n s u p t v (pads_in room) (copied_at (begin_of p room) o) d1).0 in
     let d2 = detached_value n s u y p t null v (pads_in room) (copied_at (begin_of p room) o) d1 (c (suc n) t mine) in
     let d3 = subst (λ (x : model.Object). Detached n s y p null (pads_in room) x v) (object_is (begin_of p room) o l) d2 in
-    subst (λ (w : ℕ). Replaces (suc n) s (linked y p room w) p v) (sym (pointer_is o l)) (linked_value n s m y p (copied_words o) room (new_of o) v r (new_some o l) (new_fits from o l i f) d3)
+    subst (λ (w : ℕ). Replaces (suc n) s (linked y p room w) p v) (sym (pointer_is o l)) (linked_value n s m y p (copied_words o) room (new_of o) v r (new_some o l) fits d3)
 
-pub copied_object : (levels : ℕ) (from s m u y z : Segments) (p q : Place) (o : Object) (room : Room) (there : Option Tree) (path : List Visit) (old mid new : ReadLimiter) → is_some (words_at s p 1) ≡ true → is_leaf o ≡ false → RoomFor s m p (copied_words o) room → IsInside from o → IsSpelled o
-    → (x : Pays from q old o mid)
-    → Copied there path (λ v. (n : ℕ) → levels ≤ n → Fills n m u (begin_of p room) (copied_words o) (copied_at (begin_of p room) o) v) m u mid new → ClearsValue u y p → map length y ≡ map length u → z ≡ linked y p room (copied_pointer o)
-    → Copied there (Ok (x.pads + own_cost o) ∷ path) (BecomesCopy (suc levels) s z p) s z old new
-copied_object levels from s m u y z p q o room there path old mid new e l r i f x g c sizes now = record {
+pub copied_object : (levels : ℕ) (s m u y z : Segments) (p : Place) (o : Object) (room : Room) (there : Option Tree) (path : List Visit) (old new : ReadLimiter) → is_some (words_at s p 1) ≡ true → is_leaf o ≡ false → RoomFor s m p (copied_words o) room → Fits (new_of o)
+    → Copied there path (λ v. (n : ℕ) → levels ≤ n → Fills n m u (begin_of p room) (copied_words o) (copied_at (begin_of p room) o) v) m u old new → ClearsValue u y p → map length y ≡ map length u → z ≡ linked y p room (copied_pointer o)
+    → ObjectCopied levels o there path s z p old new
+copied_object levels s m u y z p o room there path old new e l r fits g c sizes now = record {
   value = g.value;
   there_is = g.there_is;
-  walked = walked_both (Ok (x.pads + own_cost o) ∷ []) path old mid new (paid_walk from q old mid o x) g.walked;
+  walked = g.walked;
   grows = grows_then s m z (room_grows s m p (copied_words o) room r) (grows_then m u z g.grows (grows_then u y z (sizes_grow u y sizes) (subst (λ (v : Segments). Grows y v) (sym now) (linked_grows y p room (copied_pointer o)))));
-  takes = takes_same s u z old new (ap total_words now ∙ linked_total y p room (copied_pointer o) ∙ sym (total_alike u y sizes)) (takes_both s m u old mid new (room_taken from s m p q o room old mid r i x) g.takes);
-  made = λ n t h own. subst (λ (v : Segments). Replaces n s v p g.value) (sym now) (becomes levels n from s m u y p o room t g.value h e l r i f g.made c own);
+  takes = object_same (copied_words o) s u z old new (ap total_words now ∙ linked_total y p room (copied_pointer o) ∙ sym (total_alike u y sizes)) (object_taken s m u p (copied_words o) room old new r g.takes);
+  becomes = λ n t h own. subst (λ (v : Segments). Replaces n s v p g.value) (sym now) (becomes levels n s m u y p o room t g.value h e l r fits g.made c own);
 }
 
 -- ---- given up
 
-pub refused_object : (levels : ℕ) (from s m u y : Segments) (p q : Place) (o : Object) (room : Room) (path : List Visit) (old mid new : ReadLimiter) (e : Error) → is_some (words_at s p 1) ≡ true → RoomFor s m p (copied_words o) room → IsInside from o
-    → (x : Pays from q old o mid)
-    → Refused from path ((t : Tree) × Fills levels m u (begin_of p room) (copied_words o) (copied_at (begin_of p room) o) t) m u mid e new → ClearsObject u y (copied_at (begin_of p room) o) → map length y ≡ map length u
-    → Refused from (Ok (x.pads + own_cost o) ∷ path) (GrowsByZeros s y) s y old e new
-refused_object levels from s m u y p q o room path old mid new e there r i x g clears sizes = record {
+pub refused_object : (levels : ℕ) (from s m u y : Segments) (p : Place) (o : Object) (room : Room) (path : List Visit) (old new : ReadLimiter) (e : Error) → is_some (words_at s p 1) ≡ true → RoomFor s m p (copied_words o) room
+    → Refused from path ((t : Tree) × Fills levels m u (begin_of p room) (copied_words o) (copied_at (begin_of p room) o) t) m u old e new → ClearsObject u y (copied_at (begin_of p room) o) → map length y ≡ map length u
+    → ObjectRefused from o path s y old e new
+refused_object levels from s m u y p o room path old new e there r g clears sizes = record {
   left = given_up levels s m u y (begin_of p room) (copied_words o) (copied_at (begin_of p room) o) g.left.0 (room_new s m p (copied_words o) room there r) g.left.1 clears;
-  takes = takes_same s u y old new (sym (total_alike u y sizes)) (takes_both s m u old mid new (room_taken from s m p q o room old mid r i x) g.takes);
-  why = why_later from (Ok (x.pads + own_cost o) ∷ []) path (Ok (x.pads + own_cost o) ∷ path) [] u y old mid new e (ap (λ (vs : List Visit). Ok (x.pads + own_cost o) ∷ vs) (sym (append-nil path))) (total_alike u y sizes) (paid_walk from q old mid o x) g.why;
+  takes = object_same (copied_words o) s u y old new (sym (total_alike u y sizes)) (object_taken s m u p (copied_words o) room old new r g.takes);
+  why = inr (why_later from [] path path [] u y old old new e (sym (append-nil path)) (total_alike u y sizes) (walked_none old) g.why);
 }
 
-pub no_room : (from s u : Segments) (q : Place) (o : Object) (path : List Visit) (old new : ReadLimiter) (e : Error) → u ≡ s → (x : Pays from q old o new) → (e.kind ≡ SizeOverflow) ↔ IsTooLarge o (total_words s)
-    → Refused from (Ok (x.pads + own_cost o) ∷ path) (GrowsByZeros s u) s u old e new
-no_room from s u q o path old new e now x kind = subst (λ (v : Segments). Refused from (Ok (x.pads + own_cost o) ∷ path) (GrowsByZeros s v) s v old e new) (sym now) (record {
-  left = changes_nothing s (λ q. 0);
-  takes = none_taken from s s q o old new refl x;
-  why = inr (record {
-    before = [];
-    rest = path;
-    at = q;
-    found = record { pads = x.pads; object = o };
-    found_is = x.is;
-    path_is = refl;
-    walked = paid_walk from q old new o x;
-    kind = kind;
-  });
-})
+pub no_room : (from s u : Segments) (o : Object) (path : List Visit) (l : ReadLimiter) (e : Error) → u ≡ s → (e.kind ≡ SizeOverflow) ↔ IsTooLarge o (total_words s)
+    → ObjectRefused from o path s u l e l
+no_room from s u o path l e now kind = record {
+  left = subst (λ (v : Segments). GrowsByZeros s v) (sym now) (changes_nothing s (λ q. 0));
+  takes = object_untaken (copied_words o) s u l (ap total_words now);
+  why = inl (record { stands = now; unread = refl; kind = kind });
+}
+
+-- a refusal that is passed on
+pub object_refused : (levels : ℕ) (from : Segments) (o : Object) (there : Option Tree) (path : List Visit) (s u : Segments) (p : Place) (old new : ReadLimiter) (r : Result ⊤ Error) (d e : Error) → r ≡ Err d → d ≡ e → ObjectRefused from o path s u old e new → ObjectGives levels from o there path s u p old r new
+object_refused levels from o there path s u p old new r d e is same x =
+    subst (λ (y : Result ⊤ Error). ObjectGives levels from o there path s u p old y new) (sym (is ∙ ap (λ (y : Error). Err y) same)) x
+
+-- ---- behind the visit of the object's own pointer
+
+pub with_visit : (levels : ℕ) (from s u : Segments) (p q : Place) (o : Object) (there : Option Tree) (path : List Visit) (old mid new : ReadLimiter) (r : Result ⊤ Error) → (x : Pays from q old o mid)
+    → ObjectGives levels from o there path s u p mid r new → CopyGives from there (Ok (x.pads + own_cost o) ∷ path) (BecomesCopy (suc levels) s u p) (GrowsByZeros s u) s u old r new
+with_visit levels from s u p q o there path old mid new (Ok y) x g = record {
+  value = g.value;
+  there_is = g.there_is;
+  walked = walked_both (Ok (x.pads + own_cost o) ∷ []) path old mid new (paid_walk from q old mid o x) g.walked;
+  grows = g.grows;
+  takes = visit_taken from s u q o old mid new x.inside x g.takes;
+  made = g.becomes;
+}
+with_visit levels from s u p q o there path old mid new (Err e) x g = record {
+  left = g.left;
+  takes = visit_taken from s u q o old mid new x.inside x g.takes;
+  why = by g.why;
+}
+  where
+    by : HasNoPlace o s u mid e new ⊎ (Stopped path mid e new ⊎ Unplaced from path u mid e new) → Stopped (Ok (x.pads + own_cost o) ∷ path) old e new ⊎ Unplaced from (Ok (x.pads + own_cost o) ∷ path) u old e new
+    by (inl y) = inr (record {
+      before = [];
+      rest = path;
+      at = q;
+      found = record { pads = x.pads; object = o };
+      found_is = x.is;
+      path_is = refl;
+      walked = subst (λ (l : ReadLimiter). Walked (Ok (x.pads + own_cost o) ∷ []) old l) (sym y.unread) (paid_walk from q old mid o x);
+      kind = subst (λ (v : Segments). (e.kind ≡ SizeOverflow) ↔ IsTooLarge o (total_words v)) (sym y.stands) y.kind;
+    })
+    by (inr y) = why_later from (Ok (x.pads + own_cost o) ∷ []) path (Ok (x.pads + own_cost o) ∷ path) [] u u old mid new e (ap (λ (vs : List Visit). Ok (x.pads + own_cost o) ∷ vs) (sym (append-nil path))) refl (paid_walk from q old mid o x) y
 
 -- ---- null and capabilities
 

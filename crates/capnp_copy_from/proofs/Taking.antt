@@ -18,7 +18,7 @@ use Rattle.capnp_copy.specs.declared.room.Room.TheVariants.{Here, Near, Far}
 use Rattle.capnp_copy.specs.Rooms.{RoomFor}
 use Rattle.capnp_copy.proofs.ZeroedWords.{written_sizes}
 use Rattle.capnp_copy_from.specs.Objects.{copied_words}
-use Rattle.capnp_copy_from.specs.Copies.{TakesFew}
+use Rattle.capnp_copy_from.specs.Copies.{TakesFew, TakesObject}
 
 -- ---- words in all
 
@@ -73,8 +73,21 @@ own_enough from (object.List p size n) i = by (size_number size) refl
 own_enough from (object.PointerList p n) i = omega arith
 own_enough from (object.StructList p words n d k) i = let fit = i.1 in omega (arith, fit)
 
-pub room_taken : (from s m : Segments) (p q : Place) (o : Object) (room : Room) (old mid : ReadLimiter) → RoomFor s m p (copied_words o) room → IsInside from o → Pays from q old o mid → TakesFew s m old mid
-room_taken from s m p q o room old mid r i x = record { granted = x.pads + own_cost o; spends = x.spends; few = omega (arith, room_total s m p (copied_words o) room r, own_enough from o i) }
+-- its room, and what is behind it
+pub object_taken : (s m u : Segments) (p : Place) (k : ℕ) (room : Room) (old new : ReadLimiter) → RoomFor s m p k room → TakesFew m u old new → TakesObject k s u old new
+object_taken s m u p k room old new r t = let few = t.few in record { granted = t.granted; spends = t.spends; few = omega (arith, few, room_total s m p k room r) }
+
+pub object_untaken : (k : ℕ) (s u : Segments) (l : ReadLimiter) → total_words u ≡ total_words s → TakesObject k s u l l
+object_untaken k s u l e = record { granted = 0; spends = spends_nothing l; few = omega (arith, e) }
+
+pub object_same : (k : ℕ) (s u v : Segments) (old new : ReadLimiter) → total_words v ≡ total_words u → TakesObject k s u old new → TakesObject k s v old new
+object_same k s u v old new e t = let few = t.few in record { granted = t.granted; spends = t.spends; few = omega (arith, few, e) }
+
+-- paid for by the pointer to it
+pub visit_taken : (from s u : Segments) (q : Place) (o : Object) (old mid new : ReadLimiter) → IsInside from o → Pays from q old o mid → TakesObject (copied_words o) s u mid new → TakesFew s u old new
+visit_taken from s u q o old mid new i x t =
+    let few = t.few in
+    record { granted = x.pads + own_cost o + t.granted; spends = spends_both old mid new (x.pads + own_cost o) t.granted x.spends t.spends; few = omega (arith, few, own_enough from o i) }
 
 pub none_taken : (from s u : Segments) (q : Place) (o : Object) (old mid : ReadLimiter) → total_words u ≡ total_words s → Pays from q old o mid → TakesFew s u old mid
 none_taken from s u q o old mid e x = record { granted = x.pads + own_cost o; spends = x.spends; few = omega (arith, e) }

@@ -1,5 +1,5 @@
 -- Copies of values from one arena into another, against a budget.
-use Rattle.std.specs.Prelude.{◌≡◌, ◌↔◌, ◌⊎◌, ⊤, ℕ, ◌+◌, ◌*◌, ◌≤◌, List, [], ◌∷◌, ◌++◌, Option, Some, Result, Ok, Err}
+use Rattle.std.specs.Prelude.{◌≡◌, ◌↔◌, ◌⊎◌, ⊤, ℕ, suc, ◌+◌, ◌*◌, ◌≤◌, List, [], ◌∷◌, ◌++◌, Option, Some, Result, Ok, Err}
 use Rattle.capnp_model.specs.Segments.{Segments, Place}
 use Rattle.capnp_model.specs.Pointers.{Object, a_struct, a_list}
 use Rattle.capnp_model.specs.Trees.{Tree, structure, struct_list, Trees, Elements, element_count}
@@ -11,13 +11,15 @@ use Rattle.capnp_units.specs.declared.kinds.ErrorKind.TheVariants.{SizeOverflow}
 use Rattle.capnp_units.specs.declared.limiter.ReadLimiter.{ReadLimiter}
 use Rattle.capnp_units.specs.Limits.{Spends, Follows}
 use Rattle.capnp_object.specs.declared.object.Found.{Found}
+use Rattle.capnp_object.specs.declared.object.Object as wire
 use Rattle.capnp_object.specs.Objects.{object_at}
 use Rattle.capnp_object.specs.Follow.{found_cost}
+use Rattle.capnp_object.specs.Inside.{tree_in, met_in}
 use Rattle.capnp_object.specs.Walks.{Walked, Stopped}
 use Rattle.capnp_footprints.specs.Footprints.{object_footprint, Owns, OwnsObject}
 use Rattle.capnp_footprints.specs.Changes.{Changes, Replaces, ReplacesObject}
 use Rattle.capnp_copy.specs.Allocations.{total_words}
-use Rattle.capnp_copy_from.specs.Objects.{IsTooLarge}
+use Rattle.capnp_copy_from.specs.Objects.{copied_words, IsTooLarge}
 
 -- Whatever value is owned there becomes the tree, which has so many levels at most, and nothing else changes.
 abbrev pub BecomesCopy : ℕ → Segments → Segments → Place → Tree → Type 0
@@ -67,6 +69,42 @@ CopyGives from there path Made Left s u old (Err e) new = Refused from path Left
 -- The value of the pointer at q is put in place of that at p, as its whole tree; or it is refused, and all words stand.
 abbrev pub CopiesValue : ℕ → Segments → Place → Segments → Segments → Place → ReadLimiter → Result ⊤ Error → ReadLimiter → Type 0
 CopiesValue levels from q s u p old result new = CopyGives from (tree_at levels from q) (visits levels from q) (BecomesCopy levels s u p) (GrowsByZeros s u) s u old result new
+
+-- No more words were allocated than twice those of an object that was paid for before, and those that were granted.
+pub record TakesObject (k : ℕ) (s u : Segments) (old new : ReadLimiter) : Type 0 where
+  pub granted : ℕ
+  pub spends : Spends old new granted
+  pub few : total_words u ≤ total_words s + 2 * (k + granted)
+
+-- An object was put in place of a value, and the visits behind it were made.
+pub record ObjectCopied (levels : ℕ) (o : wire.Object) (there : Option Tree) (path : List Visit) (s u : Segments) (p : Place) (old new : ReadLimiter) : Type 0 where
+  pub value : Tree
+  pub there_is : there ≡ Some value
+  pub walked : Walked path old new
+  pub grows : Grows s u
+  pub takes : TakesObject (copied_words o) s u old new
+  pub becomes : BecomesCopy (suc levels) s u p value
+
+-- There was no room for the object itself, and nothing was read. The message is too large with it just where the kind says so; else the allocator refused.
+pub record HasNoPlace (o : wire.Object) (s u : Segments) (old : ReadLimiter) (e : Error) (new : ReadLimiter) : Type 0 where
+  pub stands : u ≡ s
+  pub unread : new ≡ old
+  pub kind : (e.kind ≡ SizeOverflow) ↔ IsTooLarge o (total_words s)
+
+-- There was no room for the object, or what is behind it was refused; all words stand.
+pub record ObjectRefused (from : Segments) (o : wire.Object) (path : List Visit) (s u : Segments) (old : ReadLimiter) (e : Error) (new : ReadLimiter) : Type 0 where
+  pub left : GrowsByZeros s u
+  pub takes : TakesObject (copied_words o) s u old new
+  pub why : HasNoPlace o s u old e new ⊎ (Stopped path old e new ⊎ Unplaced from path u old e new)
+
+-- An object of the size of this one is put in place of the value of the pointer at p, as the tree that is read; or it is refused.
+abbrev pub ObjectGives : ℕ → Segments → wire.Object → Option Tree → List Visit → Segments → Segments → Place → ReadLimiter → Result ⊤ Error → ReadLimiter → Type 0
+ObjectGives levels from o there path s u p old (Ok _) new = ObjectCopied levels o there path s u p old new
+ObjectGives levels from o there path s u p old (Err e) new = ObjectRefused from o path s u old e new
+
+-- An object whose words are there is put in place of that value, as its whole tree; so many levels may be followed from each of its pointers.
+abbrev pub CopiesObject : ℕ → Segments → wire.Object → Segments → Segments → Place → ReadLimiter → Result ⊤ Error → ReadLimiter → Type 0
+CopiesObject levels from o s u p old result new = ObjectGives levels from o (tree_in from (tree_at levels from) o) (met_in (visits levels from) o) s u p old result new
 
 -- No more source pointers were followed than words were granted, and one.
 pub record FollowsFew (old new : ReadLimiter) : Type 0 where

@@ -1,7 +1,7 @@
 //! The plain copy of a value into an arena, in place of another.
-ghost use Rattle.std.specs.Prelude.{◌≡◌, ℕ, ◌∷◌, ◌+◌, ◌*◌, ◌^◌, ◌<◌, ◌≤◌, suc, true, Some, Ok, length, map, replicate};
+ghost use Rattle.std.specs.Prelude.{◌≡◌, ℕ, ◌+◌, ◌*◌, ◌^◌, ◌<◌, ◌≤◌, true, Some, length, map, replicate};
 ghost use Rattle.std.specs.Option.{is_some};
-ghost use Rattle.capnp_model.specs.Segments.{Place as ModelPlace, after, words_at};
+ghost use Rattle.capnp_model.specs.Segments.{after, words_at};
 ghost use Rattle.capnp_model.specs.Trees.{Tree};
 ghost use Rattle.capnp_model.specs.Traversal.{tree_at, each, each_element};
 ghost use Rattle.capnp_model.specs.Coverage.{from_each, from_elements};
@@ -9,9 +9,8 @@ ghost use Rattle.capnp_model.specs.Visits.{visits};
 ghost use Rattle.capnp_units.specs.Segments.{words_in};
 ghost use Rattle.capnp_object.specs.Places.{place_view};
 ghost use Rattle.capnp_object.specs.Objects.{AreThere, IsInside};
-ghost use Rattle.capnp_object.specs.Follow.{own_cost, Pays};
 ghost use Rattle.capnp_object.specs.Inside.{tree_in, met_in, section_at, words_there};
-ghost use Rattle.capnp_copy_from.specs.Copies.{BecomesCopy, GrowsByZeros, CopyGives, CopiesValue, FollowsFew, Fills, FillsStruct, LeavesStruct, FillsRow, FillsElements, LeavesElements};
+ghost use Rattle.capnp_copy_from.specs.Copies.{BecomesCopy, CopyGives, CopiesValue, CopiesObject, FollowsFew, Fills, FillsStruct, LeavesStruct, FillsRow, FillsElements, LeavesElements};
 ghost use Rattle.capnp_copy_from.specs.Objects.{copied_words, most_counted, copied_at, is_leaf, leaf_value};
 
 use crate::objects::{copy_at, pointer_word, room_for, tag_word};
@@ -70,9 +69,13 @@ fn put_leaf<A: BuilderArena>(arena: &mut A, slot: Place, object: Object)
     }
 }
 
-/// Puts a copy of an object, which is paid for, in place of the value of the pointer at a place.
+/// Puts a copy of an object of a source in place of the value of the pointer at a place, which is cleared: of a struct or a list that a reader stands on, as `set_struct` and `set_list` copy it. So many levels may be followed from each of its pointers. A list is copied as it lies, its structs with all their words, however it was read.
+///
+/// The object's own words were paid for already: it is refused as by `copy_from` behind it, with `SizeOverflow` just where its counts, or the message's words with it and a pad, would pass 2^29 - 1, else as the allocator refuses. After a refusal all words stand as they were, and those that were allocated are zero. Refused or not, it allocates no more words than twice those of the copy and those that it grants.
+///
+/// Each pointer in the object is followed, and from there on it takes the steps of `copy_from`. Lists of plain elements and of structs without pointers take one step, whatever they count.
 #[cycle(copy)]
-fn copy_object<A: BuilderArena, B: ReaderArena>(
+pub fn copy_object<A: BuilderArena, B: ReaderArena>(
     arena: &mut A,
     slot: Place,
     limiter: &mut ReadLimiter,
@@ -83,7 +86,8 @@ fn copy_object<A: BuilderArena, B: ReaderArena>(
     requires there { is_some (words_at (words_in (A.segments arena.old)) (place_view slot) 1) ≡ true }
     requires near { slot.position < 2 ^ 61 }
     requires inside { IsInside (words_in (B.segments source.now)) object }
-    ensures copy { let from = words_in (B.segments source.now) in let s = words_in (A.segments arena.old) in let u = words_in (A.segments arena.new) in (l : ReadLimiter) (p : ModelPlace) (pays : Pays from p l object limiter.old) → CopyGives from (tree_in from (tree_at levels from) object) (Ok (pays.pads + own_cost object) ∷ met_in (visits levels from) object) (BecomesCopy (suc levels) s u (place_view slot)) (GrowsByZeros s u) s u l result limiter.new }
+    ensures copy { CopiesObject levels (words_in (B.segments source.now)) object (words_in (A.segments arena.old))
+        (words_in (A.segments arena.new)) (place_view slot) limiter.old result limiter.new }
     ensures books { A.books arena.new ≡ A.books arena.old }
 {
     if let Object::Null | Object::Capability { .. } = object {

@@ -6,6 +6,8 @@ pub mod copy;
 mod default_tests;
 pub mod defaults;
 pub mod laws;
+#[cfg(test)]
+mod object_tests;
 mod objects;
 #[cfg(test)]
 mod refusal_tests;

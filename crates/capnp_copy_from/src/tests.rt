@@ -1,11 +1,12 @@
 //! Values that are copied, as they lie afterwards.
 ghost use Rattle.std.specs.Prelude.{◌≡◌, ◌≤◌, [], length};
 
-use crate::copy::copy_from;
+use crate::copy::{copy_from, copy_object};
 use capnp_copy::allocator::Allocator;
 use capnp_copy::arena::BuilderArena;
 use capnp_copy::blobs::set_data;
 use capnp_copy::segments::BuilderArenaImpl;
+use capnp_object::follow::follow_within;
 use capnp_units::errors::{Error, Result as Answer};
 use capnp_units::kinds::ErrorKind;
 use capnp_units::limiter::ReadLimiter;
@@ -57,6 +58,8 @@ pub(crate) struct Setting {
     pub(crate) levels: u32,
     pub(crate) segments: u32,
     pub(crate) words: u32,
+    /// Whether the root's own object is paid for already, and no longer followed.
+    pub(crate) paid: bool,
 }
 
 /// One large segment.
@@ -65,6 +68,7 @@ pub(crate) const WIDE: Setting = Setting {
     levels: 64,
     segments: 1,
     words: 100,
+    paid: false,
 };
 
 /// A segment for each object.
@@ -73,6 +77,7 @@ pub(crate) const NARROW: Setting = Setting {
     levels: 64,
     segments: 100,
     words: 1,
+    paid: false,
 };
 
 /// What came of a copy: what it answered, the words granted, the pointers followed, and the words in use of each segment.
@@ -131,12 +136,25 @@ fn copied_over<A: BuilderArena, B: ReaderArena>(
     arena: &mut A,
     limiter: &mut ReadLimiter,
     source: &B,
-    levels: u32,
+    setting: Setting,
 ) -> Answer<()>
     ensures { A.books arena.new ≡ A.books arena.old }
 {
     if !has_words(arena, ROOT, 1) {
         return Err(Error::from(ErrorKind::OutOfBounds));
+    }
+    let levels = setting.levels;
+    if setting.paid {
+        let mut before = ReadLimiter::new(None);
+        let object = follow_within(source, &mut before, ROOT, levels)?;
+        return copy_object(
+            arena,
+            ROOT,
+            limiter,
+            source,
+            object,
+            levels.saturating_sub(1),
+        );
     }
     copy_from(arena, ROOT, limiter, source, ROOT, levels)
 }
@@ -157,7 +175,7 @@ pub(crate) fn copied(
     let mut limiter = ReadLimiter::new(setting.budget);
     let source = ReaderArenaImpl::new(source, 64);
     let ready = begun(&mut arena, before);
-    let answer = copied_over(&mut arena, &mut limiter, &source, setting.levels);
+    let answer = copied_over(&mut arena, &mut limiter, &source, setting);
     let mut segments = Vec::new(alloc);
     let mut full = false;
     for i in 0..arena.len() {

@@ -1,5 +1,5 @@
 -- What each step makes, keeps and pays.
-use Rattle.std.proofs.Common.{◌≡◌, ℕ, suc, ◌+◌, ◌-◌, ◌*◌, ◌%◌, ◌^◌, ◌<◌, ◌≤◌, true, [], ◌∷◌, replicate, Some, Ok, refl, ap, sym, ◌∙◌, subst, arith, rules}
+use Rattle.std.proofs.Common.{◌≡◌, ℕ, ◌+◌, ◌-◌, ◌*◌, ◌%◌, ◌^◌, ◌<◌, ◌≤◌, true, [], ◌∷◌, replicate, Some, Ok, refl, ap, sym, ◌∙◌, subst, arith, rules}
 use Rattle.std.specs.Option.{is_some}
 use Rattle.std.proofs.lemmas.Result.{err_from_is_err_and}
 use Rattle.capnp_model.specs.Sections.{section_of, words_for}
@@ -13,7 +13,6 @@ use Rattle.capnp_units.specs.Segments.{words_in}
 use Rattle.capnp_units.specs.Sizes.{size_number, data_bits}
 use Rattle.capnp_object.specs.Places.{place_view}
 use Rattle.capnp_object.specs.Objects.{IsInside}
-use Rattle.capnp_object.specs.Follow.{own_cost}
 use Rattle.capnp_object.specs.Inside.{tree_in, met_in, section_at, words_there}
 use Rattle.capnp_object.specs.declared.object.Object.{Object}
 use Rattle.capnp_object.specs.declared.object.Object.TheVariants as object
@@ -36,7 +35,7 @@ use Rattle.capnp_copy_from.proofs.Elements.{elements_begun, elements_next, eleme
 use Rattle.capnp_copy_from.proofs.Made.{struct_copied, struct_fills, pointers_fill, list_fills, structs_fill}
 use Rattle.capnp_copy.specs.Allocations.{total_words}
 use Rattle.capnp_copy_from.proofs.Taking.{total_alike, written_total, takes_none}
-use Rattle.capnp_copy_from.proofs.Placed.{stopped_gives, copied_object, refused_object, no_room, leaf_is, no_leaf, leaf_filled, FillGives}
+use Rattle.capnp_copy_from.proofs.Placed.{stopped_gives, copied_object, refused_object, no_room, object_refused, with_visit, new_fits, leaf_is, no_leaf, leaf_filled, FillGives}
 use Rattle.capnp_copy_from.proofs.copy.+copy.Goals as goal
 
 pub copy_from-returns-in_err-object-clause-copy : goal.copy_from-returns-in_err-object-clause-copy
@@ -64,7 +63,7 @@ copy_from-returns-clause-copy g t c =
     let some = c.if-levels-eq0.false in
     let pays = c.in_ok-object.ensures.0 in
     deep_at c.args.levels (c.args.levels - 1) from (place_view c.args.place) c.in_ok-object.object c.args.limiter.now c.follow_within.new.limiter c.copy_object.new.limiter s u (place_view c.args.slot) c.copy_object.result (omega arith) pays
-    (c.copy_object.ensures.copy c.args.limiter.now (place_view c.args.place) pays)
+    (with_visit (c.args.levels - 1) from s u (place_view c.args.slot) (place_view c.args.place) c.in_ok-object.object (tree_in from (tree_at (c.args.levels - 1) from) c.in_ok-object.object) (met_in (visits (c.args.levels - 1) from) c.in_ok-object.object) c.args.limiter.now c.follow_within.new.limiter c.copy_object.new.limiter c.copy_object.result pays c.copy_object.ensures.copy)
 
 pub copy_from-returns-in_err-object-clause-few : goal.copy_from-returns-in_err-object-clause-few
 copy_from-returns-in_err-object-clause-few g t c =
@@ -81,12 +80,12 @@ copy_from-returns-clause-few g t c =
     copy_few c.args.levels from (place_view c.args.place) s u (place_view c.args.slot) c.args.limiter.now c.copy_object.new.limiter c.copy_object.result (copy_from-returns-clause-copy g t c)
 
 pub copy_object-returns-in-Null-clause-copy : goal.copy_object-returns-in-Null-clause-copy
-copy_object-returns-in-Null-clause-copy g t c = λ l p pays.
+copy_object-returns-in-Null-clause-copy g t c =
     let from : Segments = words_in (g.B.ReaderArena.segments c.args.source.now) in
     let s : Segments = words_in (g.A.ReaderArena.segments c.args.arena.now) in
     let u : Segments = words_in (g.A.ReaderArena.segments c.put_leaf.new.arena) in
     let n = c.args.levels in
-    leaf_put n (tree_at n from) (visits n from) from p c.args.object l c.args.limiter.now s u (place_view c.args.slot) (leaf_is c.args.object c.in-Null.is) pays c.put_leaf.ensures.becomes (sizes_grow s u c.put_leaf.ensures.sizes) (sym (total_alike s u c.put_leaf.ensures.sizes))
+    leaf_put n (tree_at n from) (visits n from) from c.args.object c.args.limiter.now s u (place_view c.args.slot) (leaf_is c.args.object c.in-Null.is) c.put_leaf.ensures.becomes (sizes_grow s u c.put_leaf.ensures.sizes) (sym (total_alike s u c.put_leaf.ensures.sizes))
 
 pub copy_object-room_for-requires : goal.copy_object-room_for-requires
 copy_object-room_for-requires g t c = word_there (words_in (g.A.ReaderArena.segments c.args.arena.now)) (place_view c.args.slot) c.requires.there
@@ -101,8 +100,8 @@ copy_object-returns-in_err-room g t c =
     let r = err_from_is_err_and c.from_residual.result c.from_residual.ensures.1 in
     let e = c.in_err-room.field-0.0 in
     record {
-      copy = λ l p pays. refused_is from (tree_in from (tree_at n from) o) (Ok (pays.pads + own_cost o) ∷ met_in (visits n from) o) (BecomesCopy (suc n) s u (place_view c.args.slot)) (GrowsByZeros s u) s u l c.args.limiter.now c.from_residual.result r.0 e r.1 r.2
-          (no_room from s u p o (met_in (visits n from) o) l c.args.limiter.now e (ap words_in c.in_err-room.ensures.refused) pays c.in_err-room.ensures.kind);
+      copy = object_refused n from o (tree_in from (tree_at n from) o) (met_in (visits n from) o) s u (place_view c.args.slot) c.args.limiter.now c.args.limiter.now c.from_residual.result r.0 e r.1 r.2
+          (no_room from s u o (met_in (visits n from) o) c.args.limiter.now e (ap words_in c.in_err-room.ensures.refused) c.in_err-room.ensures.kind);
       books = c.in_err-room.ensures.books;
     }
 
@@ -161,7 +160,7 @@ copy_object-returns-in-Ok g t c =
     let filled = subst (λ (r : Place). Copied (tree_in from (tree_at n from) o) (met_in (visits n from) o) (λ v. (j : ℕ) → n ≤ j → Fills j m u r (copied_words o) (copied_at r o) v) m u c.args.limiter.now c.fill.new.limiter) begins c.in-Ok.ensures.copy in
     let now : z ≡ linked y p room (copied_pointer o) = c.link.ensures.words ∙ ap (linked y p room) c.pointer_word.ensures.word in
     record {
-      copy = λ l q pays. copied_object n from s m u y z p q o room (tree_in from (tree_at n from) o) (met_in (visits n from) o) l c.args.limiter.now c.fill.new.limiter c.requires.there kind c.in_ok-room.ensures.ok c.requires.inside c.in_ok-room.ensures.spelled pays filled c.clear.ensures.clears c.clear.ensures.sizes now;
+      copy = copied_object n s m u y z p o room (tree_in from (tree_at n from) o) (met_in (visits n from) o) c.args.limiter.now c.fill.new.limiter c.requires.there kind c.in_ok-room.ensures.ok (new_fits from o kind c.requires.inside c.in_ok-room.ensures.spelled) filled c.clear.ensures.clears c.clear.ensures.sizes now;
       books = c.link.ensures.books ∙ c.clear.ensures.books ∙ c.in-Ok.ensures.books ∙ c.in_ok-room.ensures.books;
     }
 
@@ -180,7 +179,7 @@ copy_object-returns-in-Err g t c =
     let left = subst (λ (r : Place). Refused from (met_in (visits n from) o) ((t : Tree) × Fills n m u r (copied_words o) (copied_at r o) t) m u c.args.limiter.now e c.fill.new.limiter) begins c.in-Err.ensures.copy in
     let clears : ClearsObject u y (copied_at (begin_of p c.in_ok-room.room) o) = subst (λ (r : Place). ClearsObject u y (copied_at r o)) begins (subst (ClearsObject u y) c.copy_at.ensures c.clear_object.ensures.clears) in
     record {
-      copy = λ l q pays. refused_object n from s m u y p q o c.in_ok-room.room (met_in (visits n from) o) l c.args.limiter.now c.fill.new.limiter e c.requires.there c.in_ok-room.ensures.ok c.requires.inside pays left clears c.clear_object.ensures.sizes;
+      copy = refused_object n from s m u y p o c.in_ok-room.room (met_in (visits n from) o) c.args.limiter.now c.fill.new.limiter e c.requires.there c.in_ok-room.ensures.ok left clears c.clear_object.ensures.sizes;
       books = c.clear_object.ensures.books ∙ c.in-Err.ensures.books ∙ c.in_ok-room.ensures.books;
     }
 
