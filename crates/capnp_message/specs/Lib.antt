@@ -4,3 +4,4 @@ pub mod Messages
 pub mod Segments
 pub mod Options
 pub mod Roots
+pub mod Growth

@@ -1,5 +1,6 @@
 //! How many words an allocator asks for, where fewer would do.
-ghost use Rattle.std.specs.Prelude.{◌≤◌};
+ghost use Rattle.std.specs.Prelude.{◌≡◌};
+ghost use Rattle.capnp_message.specs.Growth.{grown, suggested_growth, words_handed};
 
 /// How the segments of a message grow.
 #[derive(Clone, Copy, Debug, PartialEq, Eq)]
@@ -30,7 +31,9 @@ pub(crate) struct Growth {
 
 impl Growth {
     /// What is suggested.
-    pub(crate) fn new() -> Growth {
+    pub(crate) fn new() -> Growth
+        ensures { result ≡ suggested_growth }
+    {
         Growth {
             first: SUGGESTED_FIRST_SEGMENT_WORDS,
             next: SUGGESTED_FIRST_SEGMENT_WORDS,
@@ -41,20 +44,33 @@ impl Growth {
 
     /// The words of the next segment, of which at least so many are asked for.
     pub(crate) fn words_for(&self, minimum: u32) -> u32
-        ensures { minimum ≤ result }
+        ensures { result ≡ words_handed self.now minimum }
     {
         minimum.max(self.next.min(self.most))
     }
 
+    /// The first segment has so many words.
+    pub(crate) fn start_with(&mut self, words: u32)
+        ensures { self.new ≡ record self.old { first = words; next = words } }
+    {
+        self.first = words;
+        self.next = words;
+    }
+
     /// A segment of so many words was handed out.
-    pub(crate) fn grow(&mut self, words: u32) {
-        if self.strategy == AllocationStrategy::GrowHeuristically {
-            self.next = self.next.saturating_add(words);
+    pub(crate) fn grow(&mut self, words: u32)
+        ensures { self.new ≡ grown self.old words }
+    {
+        match self.strategy {
+            AllocationStrategy::FixedSize => {}
+            AllocationStrategy::GrowHeuristically => self.next = self.next.saturating_add(words),
         }
     }
 
     /// The segments were given back.
-    pub(crate) fn restart(&mut self) {
+    pub(crate) fn restart(&mut self)
+        ensures { self.new ≡ record self.old { next = self.old.first } }
+    {
         self.next = self.first;
     }
 }

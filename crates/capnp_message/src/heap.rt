@@ -1,6 +1,7 @@
 //! Segments on the heap.
-ghost use Rattle.std.specs.Prelude.{◌≡◌, ◌*◌, ◌≤◌, [], length, replicate, IfOk, IfErr};
+ghost use Rattle.std.specs.Prelude.{◌≡◌, ◌*◌, ◌≤◌, [], length, replicate, IfOk, IfErr, OnOk, OnErr};
 ghost use Rattle.capnp_copy.specs.Memory.{AllZero};
+ghost use Rattle.capnp_message.specs.Growth.{grown, suggested_growth, words_handed};
 ghost use Rattle.capnp_units.specs.declared.kinds.ErrorKind.TheVariants.{OutOfMemory};
 
 use crate::growth::{AllocationStrategy, Growth};
@@ -23,12 +24,14 @@ pub(crate) fn zeros(alloc: Global, bytes: usize) -> Result<Vec<u8>>
 #[derive(Drop)]
 pub struct HeapAllocator {
     alloc: Global,
-    growth: Growth,
+    pub(crate) growth: Growth,
 }
 
 impl HeapAllocator {
     /// An allocator with the suggested sizes.
-    pub fn new(alloc: Global) -> HeapAllocator {
+    pub fn new(alloc: Global) -> HeapAllocator
+        ensures { result.growth ≡ suggested_growth }
+    {
         HeapAllocator {
             alloc,
             growth: Growth::new(),
@@ -36,20 +39,25 @@ impl HeapAllocator {
     }
 
     /// The same with so many words in the first segment.
-    pub fn first_segment_words(mut self, value: u32) -> HeapAllocator {
-        self.growth.first = value;
-        self.growth.next = value;
+    pub fn first_segment_words(mut self, value: u32) -> HeapAllocator
+        ensures { result.growth ≡ record self.growth { first = value; next = value } }
+    {
+        self.growth.start_with(value);
         self
     }
 
     /// The same with segments that grow so.
-    pub fn allocation_strategy(mut self, value: AllocationStrategy) -> HeapAllocator {
+    pub fn allocation_strategy(mut self, value: AllocationStrategy) -> HeapAllocator
+        ensures { result.growth ≡ record self.growth { strategy = value } }
+    {
         self.growth.strategy = value;
         self
     }
 
     /// The same with at most so many words in a segment, unless more are asked for at once.
-    pub fn max_segment_words(mut self, value: u32) -> HeapAllocator {
+    pub fn max_segment_words(mut self, value: u32) -> HeapAllocator
+        ensures { result.growth ≡ record self.growth { most = value } }
+    {
         self.growth.most = value;
         self
     }
@@ -65,7 +73,12 @@ impl Allocator for HeapAllocator {
     fn allocate_segment(&mut self, minimum: u32) -> Result<Vec<u8>>
         ensures zeros { IfOk result (λ v. AllZero v.items) }
         ensures room { IfOk result (λ v. 8 * minimum ≤ length v.items) }
+        ensures words { IfOk result
+            (λ v. length v.items ≡ 8 * words_handed self.old.growth minimum) }
         ensures refusal { IfErr result (λ e. e.kind ≡ OutOfMemory) }
+        ensures grown { OnOk result
+            (self.new.growth ≡ grown self.old.growth (words_handed self.old.growth minimum)) }
+        ensures kept { OnErr result (self.new.growth ≡ self.old.growth) }
     {
         let words = self.growth.words_for(minimum);
         let bytes = zeros(self.alloc, 8 * words as usize)?;
@@ -73,7 +86,9 @@ impl Allocator for HeapAllocator {
         Ok(bytes)
     }
 
-    fn deallocate_segment(&mut self, segment: Vec<u8>, _words_used: u32) {
+    fn deallocate_segment(&mut self, segment: Vec<u8>, _words_used: u32)
+        ensures { self.new.growth ≡ record self.old.growth { next = self.old.growth.first } }
+    {
         drop(segment);
         self.growth.restart();
     }

@@ -1,5 +1,5 @@
 //! A lent slice as the one segment.
-ghost use Rattle.std.specs.Prelude.{◌≡◌, ◌≢◌, ◌*◌, ◌≤◌, ◌++◌, ◌↔◌, [], false, length, IsOk, IfOk, IfErr, OnErr};
+ghost use Rattle.std.specs.Prelude.{◌≡◌, ◌≢◌, ◌*◌, ◌≤◌, ◌++◌, ◌∷◌, ◌↔◌, [], false, length, IsOk, IfOk, IfErr, OnErr};
 ghost use Rattle.capnp_units.specs.declared.kinds.ErrorKind.TheVariants.{BufferNotLargeEnough, SizeOverflow};
 ghost use Rattle.capnp_copy.specs.Memory.{AllZero};
 ghost use Rattle.capnp_message.specs.Loans.{loans_of};
@@ -52,6 +52,7 @@ impl<'a> Allocator for SingleSegmentAllocator<'a> {
             ≡ loans_of self.old.taken self.old.region.ghost_name) }
         ensures refusal { IfErr result (λ e. e.kind ≡ BufferNotLargeEnough) }
         ensures other { IfErr result (λ e. e.kind ≢ SizeOverflow) }
+        ensures lent { IfOk result (λ s. loans_of_segment s ≡ self.old.region.ghost_name ∷ []) }
         ensures there { IsOk result
             ↔ ((self.old.taken ≡ false) × (8 * minimum ≤ length self.old.region.now)) }
     {
