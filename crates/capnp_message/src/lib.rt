@@ -4,6 +4,7 @@
 #[cfg(test)]
 mod allocator_tests;
 pub mod builder;
+pub mod forms;
 pub mod growth;
 pub mod heap;
 pub mod laws;

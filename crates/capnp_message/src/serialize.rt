@@ -13,6 +13,10 @@ ghost use Rattle.capnp_message.specs.Messages.{segments_read, segments_tried};
 ghost use Rattle.capnp_message.specs.Built.{used_words};
 
 use crate::builder::Builder;
+use crate::forms::{
+    read_message_in, read_message_no_alloc_in, try_read_message_in, try_read_message_no_alloc_in,
+    write_message_in,
+};
 use crate::laws::built_segments_can_be_written;
 use crate::options::ReaderOptions;
 use crate::reader::Reader;
@@ -21,13 +25,14 @@ pub use capnp_stream::buffers::{
     BufferSegments, NoAllocBufferSegments, NoAllocSliceSegments, SliceSegments,
 };
 pub use capnp_stream::flat::NoAllocSegmentTableInfo;
+pub use capnp_stream::forms::Framed;
 pub use capnp_stream::frames::SEGMENTS_COUNT_LIMIT;
 pub use capnp_stream::segments::{OwnedSegments, SegmentLengthsBuilder};
+use capnp_stream::slices;
 use capnp_stream::traits::{BufRead, Write};
 pub use capnp_stream::writing::{
     compute_serialized_size_in_words, write_message_segments, write_message_segments_to_words,
 };
-use capnp_stream::{frames, lent, slices};
 use capnp_units::errors::Result;
 use std::alloc::Global;
 
@@ -44,11 +49,7 @@ pub fn try_read_message<R: BufRead>(
         (source_seen R.remaining R.failures source.new) }
     ensures options { IfOk result (λ o. IfSome o (λ m. m.options ≡ options)) }
 {
-    match frames::try_read_message(alloc, source, options.traversal_limit_in_words) {
-        Ok(Some(segments)) => Ok(Some(Reader::new(segments, options))),
-        Ok(None) => Ok(None),
-        Err(e) => Err(e),
-    }
+    try_read_message_in::<Framed, R>(alloc, source, options)
 }
 
 /// The next framed message. `PrematureEndOfFile`: no byte is left. Else it refuses as `try_read_message` does.
@@ -62,10 +63,7 @@ pub fn read_message<R: BufRead>(
         (source_seen R.remaining R.failures source.new) }
     ensures options { IfOk result (λ m. m.options ≡ options) }
 {
-    match frames::read_message(alloc, source, options.traversal_limit_in_words) {
-        Ok(segments) => Ok(Reader::new(segments, options)),
-        Err(e) => Err(e),
-    }
+    read_message_in::<Framed, R>(alloc, source, options)
 }
 
 /// The next framed message, or `None` where no byte is left. It lies in the buffer as it was read, and no memory is taken.
@@ -81,11 +79,7 @@ pub fn try_read_message_no_alloc<'a, R: BufRead>(
         (segments_tried result) (source_seen R.remaining R.failures source.new) }
     ensures options { IfOk result (λ o. IfSome o (λ m. m.options ≡ options)) }
 {
-    match lent::try_read_message_no_alloc(source, buffer, options.traversal_limit_in_words) {
-        Ok(Some(segments)) => Ok(Some(Reader::new(segments, options))),
-        Ok(None) => Ok(None),
-        Err(e) => Err(e),
-    }
+    try_read_message_no_alloc_in::<Framed, R>(source, buffer, options)
 }
 
 /// The next framed message, which lies in the buffer as it was read. `PrematureEndOfFile`: no byte is left. Else it refuses as `try_read_message_no_alloc` does.
@@ -99,10 +93,7 @@ pub fn read_message_no_alloc<'a, R: BufRead>(
         (segments_read result) (source_seen R.remaining R.failures source.new) }
     ensures options { IfOk result (λ m. m.options ≡ options) }
 {
-    match lent::read_message_no_alloc(source, buffer, options.traversal_limit_in_words) {
-        Ok(segments) => Ok(Reader::new(segments, options)),
-        Err(e) => Err(e),
-    }
+    read_message_no_alloc_in::<Framed, R>(source, buffer, options)
 }
 
 /// The framed message at the front of the slice, which then begins behind it. Its segments are lent from the slice.
@@ -161,8 +152,7 @@ pub fn write_message<W: Write, A: Allocator>(
         (sink_seen W.contents W.failures W.room out.old) result
         (sink_seen W.contents W.failures W.room out.new) }
 {
-    built_segments_can_be_written(message);
-    write_message_segments(alloc, out, message)
+    write_message_in::<Framed, W, A>(alloc, out, message)
 }
 
 /// The framed message of the used words of a builder's segments, of which there is one at least, as bytes. `OutOfMemory`: they, or the table of more than one segment, want memory.

@@ -10,11 +10,14 @@ ghost use Rattle.capnp_message.specs.Messages.{segments_read, segments_tried};
 ghost use Rattle.capnp_message.specs.Built.{used_words};
 
 use crate::builder::Builder;
-use crate::laws::built_segments_can_be_written;
+use crate::forms::{
+    read_message_in, read_message_no_alloc_in, try_read_message_in, try_read_message_no_alloc_in,
+    write_message_in,
+};
 use crate::options::ReaderOptions;
 use crate::reader::Reader;
 use capnp_copy::allocator::{Allocator, SegmentBytes};
-use capnp_packing::serialize_packed as segments_packed;
+pub use capnp_packing::form::Packed;
 pub use capnp_packing::serialize_packed::{write_message_segments, write_segment};
 pub use capnp_packing::streams::{PackedRead, PackedWrite};
 use capnp_stream::buffers::NoAllocSliceSegments;
@@ -36,11 +39,7 @@ pub fn try_read_message<R: BufRead>(
         (source_seen R.remaining R.failures source.new) }
     ensures options { IfOk result (λ o. IfSome o (λ m. m.options ≡ options)) }
 {
-    match segments_packed::try_read_message(alloc, source, options.traversal_limit_in_words) {
-        Ok(Some(segments)) => Ok(Some(Reader::new(segments, options))),
-        Ok(None) => Ok(None),
-        Err(e) => Err(e),
-    }
+    try_read_message_in::<Packed, R>(alloc, source, options)
 }
 
 /// The next packed message. `PrematureEndOfFile`: no byte is left. Else it refuses as `try_read_message` does.
@@ -54,10 +53,7 @@ pub fn read_message<R: BufRead>(
         (source_seen R.remaining R.failures source.new) }
     ensures options { IfOk result (λ m. m.options ≡ options) }
 {
-    match segments_packed::read_message(alloc, source, options.traversal_limit_in_words) {
-        Ok(segments) => Ok(Reader::new(segments, options)),
-        Err(e) => Err(e),
-    }
+    read_message_in::<Packed, R>(alloc, source, options)
 }
 
 /// The next packed message, or `None` where no byte is left. Its table and its segments lie unpacked in the buffer, and no memory is taken.
@@ -73,12 +69,7 @@ pub fn try_read_message_no_alloc<'a, R: BufRead>(
         (segments_tried result) (source_seen R.remaining R.failures source.new) }
     ensures options { IfOk result (λ o. IfSome o (λ m. m.options ≡ options)) }
 {
-    let limit = options.traversal_limit_in_words;
-    match segments_packed::try_read_message_no_alloc(source, buffer, limit) {
-        Ok(Some(segments)) => Ok(Some(Reader::new(segments, options))),
-        Ok(None) => Ok(None),
-        Err(e) => Err(e),
-    }
+    try_read_message_no_alloc_in::<Packed, R>(source, buffer, options)
 }
 
 /// The next packed message, which lies unpacked in the buffer behind its table. `PrematureEndOfFile`: no byte is left. Else it refuses as `try_read_message_no_alloc` does.
@@ -92,10 +83,7 @@ pub fn read_message_no_alloc<'a, R: BufRead>(
         (segments_read result) (source_seen R.remaining R.failures source.new) }
     ensures options { IfOk result (λ m. m.options ≡ options) }
 {
-    match segments_packed::read_message_no_alloc(source, buffer, options.traversal_limit_in_words) {
-        Ok(segments) => Ok(Reader::new(segments, options)),
-        Err(e) => Err(e),
-    }
+    read_message_no_alloc_in::<Packed, R>(source, buffer, options)
 }
 
 /// Writes the packed message of the used words of a builder's segments, of which there is one at least.
@@ -113,6 +101,5 @@ pub fn write_message<W: Write, A: Allocator>(
         (sink_seen W.contents W.failures W.room out.old) result
         (sink_seen W.contents W.failures W.room out.new) }
 {
-    built_segments_can_be_written(message);
-    write_message_segments(alloc, out, message)
+    write_message_in::<Packed, W, A>(alloc, out, message)
 }
