@@ -1,11 +1,13 @@
 -- Segments of used words can be written.
-use Rattle.std.proofs.Common.{◌≡◌, ℕ, zero, suc, ◌*◌, ◌<◌, ◌≤◌, ◌^◌, List, [], ◌∷◌, length, map, slice_index_or, arith}
+use Rattle.std.proofs.Common.{◌≡◌, refl, ◌≢◌, ◌↔◌, ℕ, zero, suc, ◌+◌, ◌*◌, ◌<◌, ◌≤◌, ◌^◌, List, [], ◌∷◌, length, map, slice_index_or, arith}
 use Rattle.std.specs.List.{All}
 use Rattle.std.proofs.lemmas.List.{length-map}
 use Rattle.std.proofs.lemmas.List.Elements.{All-map}
 use Rattle.capnp_model.specs.Segments.{Segments}
 use Rattle.capnp_footprints.specs.Writes.{with_zeros}
-use Rattle.capnp_copy.specs.Allocations.{total_of, Allocates}
+use Rattle.capnp_copy.specs.Allocations.{total_of, total_words, Allocates}
+use Rattle.capnp_units.specs.declared.kinds.ErrorKind.{ErrorKind}
+use Rattle.capnp_units.specs.declared.kinds.ErrorKind.TheVariants.{SizeOverflow}
 use Rattle.capnp_stream.specs.Writing.{IsSegment, AreWritable}
 
 each_at_most : {X : Type 0} (u : X → ℕ) (xs : List X) (k : ℕ) (d : X) → k < length xs → u (slice_index_or xs k d) ≤ total_of u xs
@@ -27,3 +29,14 @@ pub root_made : (s u : Segments) (i at : ℕ) → s ≡ [] → Allocates s u i a
 unfolding with_zeros
 root_made [] u i at e a = a.now
 root_made (x ∷ s) u i at e a = absurd cc
+
+-- one word more than none is no word too many
+pub not_too_many : (s : Segments) (k : ErrorKind) → s ≡ [] → ((k ≡ SizeOverflow) ↔ (2 ^ 29 ≤ total_words s + 1)) → k ≢ SizeOverflow
+unfolding total_words
+not_too_many [] k e f q = absurd (omega (arith, f.0 q))
+not_too_many (x ∷ s) k e f q = absurd cc
+
+-- no items where their count is none
+pub no_items : {X : Type 0} (xs : List X) (n : ℕ) → n ≡ 0 → n ≡ length xs → xs ≡ []
+no_items [] n z l = refl
+no_items (x ∷ xs) n z l = absurd (omega (arith, z, l))

@@ -1,9 +1,10 @@
 //! Whole messages that are built.
-ghost use Rattle.std.specs.Prelude.{◌≡◌, ◌-◌, ◌*◌, ◌^◌, ◌<◌, ◌≤◌, ◌++◌, ◌∷◌, [], length, map, min, take, IfOk, IfErr, OnOk, OnErr};
+ghost use Rattle.std.specs.Prelude.{◌≡◌, ◌≢◌, ◌-◌, ◌*◌, ◌^◌, ◌<◌, ◌≤◌, ◌++◌, ◌∷◌, [], length, map, min, take, IfOk, IfErr, OnOk, OnErr};
 ghost use Rattle.std.specs.List.{flat_map};
-ghost use Rattle.capnp_units.specs.declared.kinds.ErrorKind.TheVariants.{OutOfMemory};
+ghost use Rattle.capnp_units.specs.declared.kinds.ErrorKind.TheVariants.{OutOfMemory, SizeOverflow};
 ghost use Rattle.capnp_object.specs.Arenas.{words_before};
 ghost use Rattle.capnp_message.specs.Built.{used_bytes, used_words};
+ghost use Rattle.capnp_message.specs.Growth.{suggested_growth};
 
 use crate::heap::HeapAllocator;
 use capnp_copy::allocator::{Allocator, SegmentBytes};
@@ -37,7 +38,7 @@ impl<A: Allocator> Builder<A> {
 
     /// Makes the root pointer, which is null, where the message has no segment yet.
     ///
-    /// It is refused as the allocator refuses, or with `OutOfMemory` where the list of segments can't grow; then the message is as it was.
+    /// It is refused where there is none, as the allocator refuses, or with `OutOfMemory` where the list of segments can't grow; then there is none still.
     pub fn allocate_root(&mut self) -> Result<()>
         ensures made { OnOk result (self.old.memory.arena.segments.items ≡ []
             → used_words (λ h. h.used) (λ h. A.Segment.bytes h.segment)
@@ -47,6 +48,8 @@ impl<A: Allocator> Builder<A> {
         ensures refused { OnErr result (used_words (λ h. h.used) (λ h. A.Segment.bytes h.segment)
             self.new.memory.arena.segments.items ≡ used_words (λ h. h.used)
             (λ h. A.Segment.bytes h.segment) self.old.memory.arena.segments.items) }
+        ensures there { OnErr result (self.old.memory.arena.segments.items ≡ []) }
+        ensures kind { IfErr result (λ e. e.kind ≢ SizeOverflow) }
         ensures place { A.place self.new.memory.arena.allocator
             ≡ A.place self.old.memory.arena.allocator }
         ensures loans { flat_map (λ h. A.Segment.loans h.segment) self.new.memory.arena.segments.items
@@ -55,7 +58,10 @@ impl<A: Allocator> Builder<A> {
             ++ A.loans self.old.memory.arena.allocator }
     {
         if self.memory.arena.len() == 0 {
-            self.memory.arena.allocate_anywhere(1)?;
+            return match self.memory.arena.allocate_anywhere(1) {
+                Ok(_) => Ok(()),
+                Err(e) => Err(e),
+            };
         }
         Ok(())
     }
@@ -93,7 +99,8 @@ impl<A: Allocator> Builder<A> {
 impl Builder<HeapAllocator> {
     /// A message over the heap, with the suggested sizes of segments.
     pub fn new_default(alloc: Global) -> Builder<HeapAllocator>
-        ensures { result.memory.arena.segments.items ≡ [] }
+        ensures empty { result.memory.arena.segments.items ≡ [] }
+        ensures growth { result.memory.arena.allocator.growth ≡ suggested_growth }
     {
         Builder::new(alloc, HeapAllocator::new(alloc))
     }
