@@ -1,4 +1,5 @@
 pub use Rattle.capnp_copy.specs.Structs
 pub use Rattle.capnp_copy.specs.Values
+pub mod Gets
 pub mod Lending
 pub mod Inputs

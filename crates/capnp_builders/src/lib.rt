@@ -9,6 +9,9 @@ pub mod element;
 #[cfg(test)]
 mod element_tests;
 #[cfg(test)]
+mod get_tests;
+mod gets;
+#[cfg(test)]
 mod input_tests;
 pub mod list_builder;
 #[cfg(test)]

@@ -1,0 +1,87 @@
+-- A default in place of null, and what is made of it.
+use Rattle.std.proofs.Common.{◌≡◌, ℕ, zero, suc, ◌+◌, ◌≤◌, ◌==◌, ◌||◌, not, unwrap_or, if◌then◌else◌, Bool, true, false, List, Option, Some, None, Result, Ok, Err, IfOk, refl, ap, sym, ◌∙◌, subst, arith}
+use Rattle.std.specs.Bool.{⊤}
+use Rattle.std.specs.Option.{ok_or}
+use Rattle.capnp_model.specs.Kinds.{Kind, OutOfBounds}
+use Rattle.capnp_model.specs.Chains.{◌and_then◌}
+use Rattle.capnp_model.specs.Segments.{Segments, Place, root, word_at}
+use Rattle.capnp_model.specs.Pointers.{Object, nothing, a_struct, Found, found_by, pointer_of}
+use Rattle.capnp_model.specs.Trees.{Tree, widened}
+use Rattle.capnp_footprints.specs.Footprints.{Owns}
+use Rattle.capnp_footprints.specs.Changes.{Replaces}
+use Rattle.capnp_copy_from.specs.Defaults.{WritesDefault, is_null_at}
+use Rattle.capnp_widening.specs.Widened.{Widens, IsWide}
+use Rattle.capnp_builders.specs.Gets.{Begins, in_place, begun, Gets}
+
+pub ok_then : {X E : Type 0} (P Q : X → Type 0) → ((x : X) → P x → Q x) → (r : Result X E) → IfOk r P → IfOk r Q
+ok_then P Q f (Ok x) h = f x h
+ok_then P Q f (Err e) h = tt
+
+-- what the laws of changes say
+pub record Laws : Type 0 where
+  pub none : (n : ℕ) (s : Segments) (p : Place) (t : Tree) → Owns n s p t → Replaces n s s p t
+  pub again : (n : ℕ) (s u v : Segments) (p : Place) (t w : Tree) → Replaces n s u p t → Replaces n u v p w → Replaces n s v p w
+  pub owned : (n : ℕ) (s u : Segments) (p : Place) (t v : Tree) → Owns n s p t → Replaces n s u p v → Owns n u p v
+  pub more_owned : (n m : ℕ) (s : Segments) (p : Place) (t : Tree) → n ≤ m → Owns n s p t → Owns m s p t
+  pub more_replaced : (n m : ℕ) (s u : Segments) (p : Place) (t v : Tree) → n ≤ m → Owns n s p t → Replaces n s u p v → Replaces m s u p v
+
+-- ---- where nothing is written
+
+kept_by : (a b : Bool) (f s : Segments) (p : Place) → is_null_at s p ≡ a → is_null_at f root ≡ b → (not a || b) ≡ true → (not (is_null_at s p) || is_null_at f root) ≡ true
+kept_by a b f s p ea eb h = subst (λ (x : Bool). (not x || is_null_at f root) ≡ true) (sym ea) (subst (λ (y : Bool). (not a || y) ≡ true) (sym eb) h)
+
+stays : (l : Laws) (s m : Segments) (p : Place) (n : ℕ) (t : Tree) → m ≡ s → Owns n s p t → Replaces (n + 64) s m p t
+stays l s m p n t e o = subst (λ (x : Segments). Replaces (n + 64) s x p t) (sym e) (l.none (n + 64) s p t (l.more_owned n (n + 64) s p t (omega arith) o))
+
+-- ---- the value to begin with
+
+begun_by : (l : Laws) (a b : Bool) (f s m : Segments) (p : Place) (n : ℕ) (t : Tree) (x : ⊤) → is_null_at s p ≡ a → is_null_at f root ≡ b → WritesDefault f s m p (Ok x) → Owns n s p t → (v : Tree) × (in_place a b f t ≡ Some v) × Replaces (n + 64) s m p v
+begun_by l false b f s m p n t x ea eb w o = (t, refl, stays l s m p n t (w.kept (kept_by false b f s p ea eb refl)).0 o)
+begun_by l true true f s m p n t x ea eb w o = (t, refl, stays l s m p n t (w.kept (kept_by true true f s p ea eb refl)).0 o)
+begun_by l true false f s m p n t x ea eb w o =
+    let c = (w.written ea eb).copies in
+    (c.value, c.there_is, c.made (n + 64) t (omega arith) (l.more_owned n (n + 64) s p t (omega arith) o))
+
+pub begun_value : (l : Laws) (default : Option (List (List ℕ))) (s m : Segments) (p : Place) (n : ℕ) (t : Tree) (x : ⊤) → Begins default s m p (Ok x) → Owns n s p t → (v : Tree) × (begun default s p t ≡ Some v) × Replaces (n + 64) s m p v
+begun_value l None s m p n t x b o = (t, refl, stays l s m p n t b.0 o)
+begun_value l (Some words) s m p n t x b o = begun_by l _ _ _ s m p n t x refl refl b o
+
+-- ---- what is made of it
+
+pub widened_then : (l : Laws) (default : Option (List (List ℕ))) (s m u : Segments) (p : Place) (d k : ℕ) (x : ⊤) → Begins default s m p (Ok x) → Widens m u p d k → Gets default s u p (widened d k)
+widened_then l default s m u p d k x b w n t o =
+    let y = begun_value l default s m p n t x b o in
+    let first = l.more_owned n (n + 64) s p t (omega arith) o in
+    let own : Owns (n + 64) m p y.0 = l.owned (n + 64) s m p t y.0 first y.2 in
+    let one : suc (n + 64) ≡ n + 65 = omega arith in
+    let wide : Replaces (n + 65) m u p (widened d k y.0) = subst (λ (i : ℕ). Replaces i m u p (widened d k y.0)) one (w (n + 64) y.0 own) in
+    (y.0, y.1, l.again (n + 65) s m u p y.0 (widened d k y.0) (l.more_replaced (n + 64) (n + 65) s m p t y.0 (omega arith) first y.2) wide)
+
+pub listed_then : (l : Laws) (default : Option (List (List ℕ))) (s u : Segments) (p : Place) (x : ⊤) → Begins default s u p (Ok x) → Gets default s u p (λ v. v)
+listed_then l default s u p x b n t o =
+    let y = begun_value l default s u p n t x b o in
+    let first = l.more_owned n (n + 64) s p t (omega arith) o in
+    (y.0, y.1, l.more_replaced (n + 64) (n + 65) s u p t y.0 (omega arith) first y.2)
+
+-- ---- a struct isn't null
+
+found_is : (a b : Found) → (let r : Result Found Kind = Ok a in r) ≡ Ok b → a ≡ b
+found_is a b h = cc
+
+struct_named : (s : Segments) (p a : Place) (pads d k : ℕ) (x : Option ℕ) → (ok_or x OutOfBounds and_then λ w. if w == 0 then Ok (record { pads = 0; object = nothing }) else found_by s p (pointer_of w)) ≡ Ok (record { pads = pads; object = a_struct a d k }) → (unwrap_or x 0 == 0) ≡ false
+struct_named s p a pads d k None h = absurd cc
+struct_named s p a pads d k (Some zero) h = let e : nothing ≡ a_struct a d k = ap (λ (f : Found). f.object) (found_is (record { pads = 0; object = nothing }) (record { pads = pads; object = a_struct a d k }) h) in absurd cc
+struct_named s p a pads d k (Some (suc w)) h = grind arith
+
+kept_if : (f s m : Segments) (p : Place) (x : ⊤) → is_null_at s p ≡ false → WritesDefault f s m p (Ok x) → m ≡ s
+kept_if f s m p x e w = (w.kept (kept_by false (is_null_at f root) f s p e refl refl)).0
+
+pub wide_stays : (default : Option (List (List ℕ))) (s m : Segments) (p : Place) (d k : ℕ) (x : ⊤) → Begins default s m p (Ok x) → IsWide s p d k → m ≡ s
+wide_stays None s m p d k x b w = b.0
+wide_stays (Some words) s m p d k x b w = kept_if _ s m p x (struct_named s p w.0 w.3.0 w.1 w.2 (word_at s p) w.3.1) b
+
+-- ---- answers
+
+pub always : {X E P : Type 0} → P → (r : Result X E) → IfOk r (λ _. P)
+always h (Ok x) = h
+always h (Err e) = tt

@@ -1,0 +1,51 @@
+-- Values that are got, with a default in place of null. (Encoding, "Default Values")
+use Rattle.std.specs.Prelude.{◌≡◌, ◌⊎◌, ⊤, ℕ, ◌+◌, Bool, true, false, List, Option, Some, None, Result, Ok, Err}
+use Rattle.capnp_model.specs.Kinds.{Kind}
+use Rattle.capnp_model.specs.Chains.{◌and_then◌}
+use Rattle.capnp_model.specs.Segments.{Segments, Place, root}
+use Rattle.capnp_model.specs.Trees.{Tree, widened}
+use Rattle.capnp_model.specs.Traversal.{tree_at}
+use Rattle.capnp_units.specs.declared.errors.Error.{Error}
+use Rattle.capnp_units.specs.declared.sizes.ElementSize.{ElementSize}
+use Rattle.capnp_units.specs.Errors.{kind_of}
+use Rattle.capnp_object.specs.declared.place.Place as code
+use Rattle.capnp_object.specs.Objects.{object_at}
+use Rattle.capnp_wire.specs.Places.{place_view}
+use Rattle.capnp_footprints.specs.Footprints.{Owns}
+use Rattle.capnp_footprints.specs.Changes.{Replaces}
+use Rattle.capnp_copy_from.specs.Defaults.{WritesDefault, default_segments, is_null_at}
+use Rattle.capnp_copy.specs.declared.init.ListPlace.{ListPlace}
+use Rattle.capnp_widening.specs.Widened.{StructRefused}
+use Rattle.capnp_widening.specs.Got.{list_in}
+
+-- A default, where there is one, is written in place of null; else all stands as it was.
+abbrev pub Begins : Option (List (List ℕ)) → Segments → Segments → Place → Result ⊤ Error → Type 0
+Begins None s u p result = (u ≡ s) × (result ≡ Ok tt)
+Begins (Some words) s u p result = WritesDefault (default_segments words) s u p result
+
+-- The root's value in place of another, where that is null and the root isn't.
+abbrev pub in_place : Bool → Bool → Segments → Tree → Option Tree
+in_place false null_root default t = Some t
+in_place true true default t = Some t
+in_place true false default t = tree_at 64 default root
+
+-- The value to begin with, where the pointer at a place has this one: the default's in place of null.
+abbrev pub begun : Option (List (List ℕ)) → Segments → Place → Tree → Option Tree
+begun None s p t = Some t
+begun (Some words) s p t = in_place (is_null_at s p) (is_null_at (default_segments words) root) (default_segments words) t
+
+-- Whatever value is owned there, or the default in place of null, becomes what the function makes of it, and nothing else changes. A default has 64 levels at most, and a widening may add one.
+abbrev pub Gets : Option (List (List ℕ)) → Segments → Segments → Place → (Tree → Tree) → Type 0
+Gets default s u p made = (n : ℕ) (t : Tree) → Owns n s p t → (v : Tree) × (begun default s p t ≡ Some v) × Replaces (n + 65) s u p (made v)
+
+-- Why no struct of at least these sizes is given, and what stands then: the default is refused; or it stands, where there was one to write, and what is there is refused.
+abbrev pub NoStructGot : Option (List (List ℕ)) → Segments → Segments → Place → ℕ → ℕ → Error → Type 0
+NoStructGot default s u p d k e = Begins default s u p (Err e) ⊎ (Begins default s u p (Ok tt) × StructRefused u (object_at u p) d k e)
+
+-- The list that the pointer at a place names, where elements of a size are expected, else the kind of the fault.
+abbrev pub list_named : Segments → code.Place → ElementSize → Result ListPlace Kind
+list_named s slot expected = object_at s (place_view slot) and_then λ f. list_in slot expected f.object
+
+-- Why no list is given, and what stands then, as of structs.
+abbrev pub NoListGot : Option (List (List ℕ)) → Segments → Segments → code.Place → ElementSize → Error → Type 0
+NoListGot default s u slot expected e = Begins default s u (place_view slot) (Err e) ⊎ (Begins default s u (place_view slot) (Ok tt) × (list_named u slot expected ≡ Err (kind_of e.kind)))
