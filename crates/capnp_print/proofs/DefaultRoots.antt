@@ -1,5 +1,5 @@
 -- The root of a default, and what stands there.
-use Rattle.std.proofs.Common.{◌≡◌, ℕ, zero, suc, ◌*◌, ◌/◌, ◌^◌, ◌<◌, Bool, true, false, not, ◌==◌, if◌then◌else◌, List, [], ◌∷◌, ◌++◌, length, take, drop, replicate, Option, Some, None, Result, Ok, Err, refl, ap, sym, ◌∙◌, subst, arith}
+use Rattle.std.proofs.Common.{◌≡◌, ℕ, zero, suc, ◌*◌, ◌/◌, ◌^◌, Bool, true, false, not, ◌==◌, if◌then◌else◌, List, [], ◌∷◌, ◌++◌, length, take, drop, Option, Some, None, Result, Ok, Err, refl, ap, sym, ◌∙◌, arith}
 use Rattle.std.specs.Prelude.{nat_lt, pos}
 use Rattle.std.specs.Option.{ok_or}
 use Rattle.std.specs.List.{flat_map}
@@ -10,8 +10,8 @@ use Rattle.std.proofs.lemmas.List.{length-drop, take-append-drop}
 use Rattle.capnp_model.specs.Kinds.{Kind, OutOfBounds}
 use Rattle.capnp_model.specs.Chains.{◌and_then◌, passes}
 use Rattle.capnp_model.specs.Bytes.{bytes_of_words, words_in_bytes}
-use Rattle.capnp_model.specs.Segments.{Segments, Place, root, word_at}
-use Rattle.capnp_model.specs.Trees.{Tree, null, is_null as is_null_tree, has_capability}
+use Rattle.capnp_model.specs.Segments.{root, word_at}
+use Rattle.capnp_model.specs.Trees.{Tree, is_null as is_null_tree, has_capability}
 use Rattle.capnp_model.specs.Trimming.{trim}
 use Rattle.capnp_model.specs.Traversal.{tree_at}
 use Rattle.capnp_model.specs.Encoding.{canonical_words}
@@ -22,9 +22,9 @@ use Rattle.capnp_model.proofs.KeptRules.{and_right}
 use Rattle.capnp_model.proofs.ByteWords.{bytes_length}
 use Rattle.capnp_units.specs.Segments.{words_in}
 use Rattle.capnp_wire.specs.Views.{PointerView, arena_root}
-use Rattle.capnp_wire.specs.Reads.{is_null_at, is_null, default_root, root_of}
+use Rattle.capnp_wire.specs.Reads.{is_null_at, is_null, default_root}
 use Rattle.capnp_values.specs.Sources.{null_default, default_pointer}
-use Rattle.capnp_values.specs.Standing.{Leads, NullsAreRead}
+use Rattle.capnp_values.specs.Standing.{NullsAreRead}
 use Rattle.capnp_print.specs.Defaults.{is_null_segment}
 
 found : (test : Tree → Bool) (o : Option Tree) → (elim o as (λ (x : Option Tree). Bool) [ None ↦ false | Some t ↦ test t ]) ≡ true → (t : Tree) × (o ≡ Some t)

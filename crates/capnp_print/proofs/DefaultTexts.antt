@@ -1,19 +1,19 @@
 -- A null pointer prints as its default.
-use Rattle.std.proofs.Common.{◌≡◌, ℕ, zero, suc, ◌+◌, ◌^◌, ◌<◌, ◌==◌, not, Bool, true, false, if◌then◌else◌, Option, Some, None, List, [], ◌∷◌, ◌++◌, length, take, Result, Ok, Err, refl, ap, sym, ◌∙◌, subst, arith}
+use Rattle.std.proofs.Common.{◌≡◌, ℕ, suc, ◌^◌, ◌<◌, ◌==◌, not, Bool, true, false, if◌then◌else◌, Option, Some, None, List, [], ◌∷◌, ◌++◌, length, take, Result, Ok, Err, refl, ap, sym, ◌∙◌, arith}
 use Rattle.std.specs.Prelude.{slice_index}
 use Rattle.std.specs.List.{AllByRecursion}
 use Rattle.std.proofs.lemmas.List.{length-append, take_at}
 use Rattle.capnp_model.specs.Kinds.{Kind, TextWithoutZeroByte, NestingLimitExceeded}
-use Rattle.capnp_model.specs.Trees.{Tree, null, is_null as is_null_tree}
+use Rattle.capnp_model.specs.Trees.{Tree, is_null as is_null_tree}
 use Rattle.capnp_model.specs.Trimming.{trim}
 use Rattle.capnp_model.specs.Encoding.{canonical_words}
 use Rattle.capnp_model.specs.Bytes.{bytes_of_words}
 use Rattle.capnp_model.specs.Decoding.{decode}
 use Rattle.capnp_model.specs.Calls.{text_tree, blob_tree}
-use Rattle.capnp_model.specs.Schemas.{Ty, void, plain, text, blob, untyped, interface, struct, list, type_of, Value, no_value, bits, text_bytes, blob_bytes, list_segment, struct_segment, untyped_value, interface_value, FieldKind, slot, group, Body, pointer_slot, Schema, default_or_null}
-use Rattle.capnp_model.specs.Readings.{Reading, null_pointer, fault, text_of, blob_of, just_bits, body_of, read, text_reading}
+use Rattle.capnp_model.specs.Schemas.{Ty, void, plain, text, blob, untyped, interface, struct, list, type_of, Value, no_value, bits, text_bytes, blob_bytes, list_segment, struct_segment, untyped_value, interface_value, FieldKind, slot, group, pointer_slot, Schema, default_or_null}
+use Rattle.capnp_model.specs.Readings.{null_pointer, fault, text_of, blob_of, body_of, read, text_reading}
 use Rattle.capnp_model.specs.Printing.{Style, as_type, as_body}
-use Rattle.capnp_model.specs.Accepted.{slot_body, field_body, default_tree, is_default_of, is_good_segment, opens_as}
+use Rattle.capnp_model.specs.Accepted.{slot_body, field_body, default_tree, is_good_segment, opens_as}
 use Rattle.capnp_model.proofs.Numbers.{numbers_in-number_of}
 use Rattle.capnp_wire.specs.Views.{PointerView, StructView, pointer_field}
 use Rattle.capnp_wire.specs.Reads.{is_null}
@@ -24,11 +24,11 @@ use Rattle.capnp_values.specs.Shown.{Shown, a_text, a_blob, opened, segment_open
 use Rattle.capnp_print.specs.Texts.{as_it_is}
 use Rattle.capnp_print.specs.ShownReadings.{read_or_fault, reading_within, left_of}
 use Rattle.capnp_print.specs.Defaults.{is_null_segment, is_entered, enters}
-use Rattle.capnp_print.specs.Printed.{Text, printed, empty_printed, bytes_read, default_shown, text_shown, null_printed, shown_text}
-use Rattle.capnp_print.proofs.DefaultRoots.{decoded, Encoded, encoded, segment_null, null_pointed, null_is_null}
+use Rattle.capnp_print.specs.Printed.{printed, empty_printed, bytes_read, default_shown, text_shown, null_printed}
+use Rattle.capnp_print.proofs.DefaultRoots.{decoded, encoded, segment_null, null_pointed, null_is_null}
 use Rattle.capnp_print.proofs.ElementTexts.{text_or_fault}
 use Rattle.capnp_print.proofs.FieldTexts.{Prints, field_without}
-use Rattle.capnp_print.proofs.NullTexts.{empty_shown, null_opened, empty_text_shown, no_default, a_default, no_more_defaults}
+use Rattle.capnp_print.proofs.NullTexts.{null_opened, empty_text_shown, no_default, a_default, no_more_defaults}
 use Rattle.capnp_print.proofs.Shows.{Read}
 
 -- ---- texts and data as defaults

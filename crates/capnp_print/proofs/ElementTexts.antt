@@ -1,11 +1,10 @@
 -- An element of a list prints as what it reads as.
-use Rattle.std.proofs.Common.{◌≡◌, ℕ, zero, suc, Bool, true, false, if◌then◌else◌, Result, Ok, Err, refl, ap, sym, ◌∙◌, subst}
+use Rattle.std.proofs.Common.{◌≡◌, ℕ, suc, Bool, true, false, if◌then◌else◌, Result, Ok, Err, refl, ap, sym, ◌∙◌}
 use Rattle.capnp_model.specs.Kinds.{Kind}
 use Rattle.capnp_model.specs.Trees.{Tree, null, is_null as is_null_tree}
 use Rattle.capnp_model.specs.Schemas.{Ty, void, plain, text, blob, untyped, interface, struct, list, Schema}
-use Rattle.capnp_model.specs.Readings.{Reading, null_pointer, fault}
+use Rattle.capnp_model.specs.Readings.{null_pointer}
 use Rattle.capnp_model.specs.Printing.{Style, as_type}
-use Rattle.capnp_model.proofs.Chaining.{ok_is}
 use Rattle.capnp_wire.specs.Views.{PointerView, ListView, pointer_field, element_of}
 use Rattle.capnp_wire.specs.Reads.{is_null}
 use Rattle.capnp_values.specs.Shown.{Shown, a_struct, opened, element_shown}
@@ -14,7 +13,7 @@ use Rattle.capnp_print.specs.Texts.{as_it_is}
 use Rattle.capnp_print.specs.ShownReadings.{read_or_fault, pointer_reading, element_read, reading_within, left_of}
 use Rattle.capnp_print.specs.Printed.{Text, printed, null_printed, shown_text}
 use Rattle.capnp_print.proofs.Children.{within, number_shown_text, child_text}
-use Rattle.capnp_print.proofs.NullTexts.{empty_shown, null_opened, empty_text_shown, no_default}
+use Rattle.capnp_print.proofs.NullTexts.{null_opened, empty_text_shown, no_default}
 
 -- The text of what is shown, or its fault.
 abbrev pub text_or_fault : ℕ → Style → Result Shown Kind → Text

@@ -1,12 +1,12 @@
 -- The empty struct asks for no null pointer, however it is read.
-use Rattle.std.proofs.Common.{◌≡◌, ℕ, zero, suc, ◌==◌, Bool, true, false, Option, Some, None, List, ◌++◌, Ok, refl, ap, sym, ◌∙◌, arith}
-use Rattle.std.specs.Prelude.{codes, bit_xor}
+use Rattle.std.proofs.Common.{◌≡◌, ℕ, zero, suc, ◌==◌, Bool, true, false, Option, Some, None, List, ◌++◌, Ok, refl, ap, ◌∙◌, arith}
+use Rattle.std.specs.Prelude.{bit_xor}
 use Rattle.std.proofs.lemmas.Bool.Decides.{nat_tests}
 use Rattle.capnp_model.specs.Chains.{◌and_then◌}
 use Rattle.capnp_model.specs.Schemas.{width, Ty, Shape, shape, Fields, no_fields, field, Body, void_slot, plain_slot, pointer_slot, group_slot, Schema}
-use Rattle.capnp_model.specs.Readings.{Reading, inactive, null_pointer, number, record_as, entry, Extent, whole_words, just_bits, Children, no_children, discriminant, field_bits, is_active, only_if, shape_record, fields_of, body_of}
-use Rattle.capnp_model.specs.Printing.{Style, inner, as_group, as_body, is_shown, fields_in}
-use Rattle.capnp_print.specs.Printed.{Text, NullTexts, mark, field_and_rest, struct_between, printed, fields_printed}
+use Rattle.capnp_model.specs.Readings.{Reading, number, record_as, entry, Extent, whole_words, just_bits, Children, no_children, discriminant, field_bits, is_active, only_if, shape_record, fields_of, body_of}
+use Rattle.capnp_model.specs.Printing.{Style, inner, as_body, is_shown, fields_in}
+use Rattle.capnp_print.specs.Printed.{Text, NullTexts, field_and_rest, struct_between, printed, fields_printed}
 
 -- bits of nothing are zero
 pub no_bits : (at n : ℕ) → field_bits whole_words 0 at n ≡ 0

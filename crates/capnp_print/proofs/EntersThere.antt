@@ -1,19 +1,18 @@
 -- Which fields that are printed enter their defaults.
-use Rattle.std.proofs.Common.{◌≡◌, ℕ, ◌&&◌, not, Bool, true, false, Option, Some, None, option_map, Result, Ok, refl, ap, sym, ◌∙◌, subst, slice_get}
-use Rattle.capnp_model.specs.Schemas.{Field as FieldNode, FieldKind}
+use Rattle.std.proofs.Common.{◌≡◌, ℕ, ◌&&◌, not, Bool, true, false, Option, Some, option_map, refl, ap, sym, ◌∙◌, slice_get}
+use Rattle.capnp_model.specs.Schemas.{Field as FieldNode}
 use Rattle.capnp_model.specs.Readings.{is_active, only_if}
 use Rattle.capnp_model.specs.Printing.{is_shown}
 use Rattle.capnp_model.specs.Accepted.{field_body}
 use Rattle.capnp_queries.specs.Fields.{Entry, entry_in}
 use Rattle.capnp_queries.specs.Structs.{schema_around, fields_recorded}
-use Rattle.capnp_queries.specs.Handles.{entry_of, IsFieldRecord}
+use Rattle.capnp_queries.specs.Handles.{IsFieldRecord}
 use Rattle.capnp_queries.specs.declared.structs.StructSchema.{StructSchema}
 use Rattle.capnp_queries.specs.declared.fields.Field.{Field}
 use Rattle.capnp_wire.specs.Views.{StructView}
 use Rattle.capnp_values.specs.Shown.{discriminant_shown, is_active_field, is_null_slot, has_field}
 use Rattle.capnp_print.specs.ShownReadings.{left_of}
 use Rattle.capnp_print.specs.Defaults.{enters}
-use Rattle.capnp_print.specs.Members.{field_shown}
 use Rattle.capnp_print.specs.Parts.{IsPrinted, enters_there}
 use Rattle.capnp_print.proofs.Shows.{Read}
 

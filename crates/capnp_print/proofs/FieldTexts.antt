@@ -1,9 +1,9 @@
 -- A field of a struct prints as what it reads as.
-use Rattle.std.proofs.Common.{◌≡◌, ℕ, zero, suc, Bool, true, false, if◌then◌else◌, Option, Some, None, Result, Ok, Err, refl, ap, sym, ◌∙◌, subst}
+use Rattle.std.proofs.Common.{◌≡◌, ℕ, suc, false, if◌then◌else◌, Option, Some, None, Result, refl, ap, sym, ◌∙◌}
 use Rattle.capnp_model.specs.Kinds.{Kind}
-use Rattle.capnp_model.specs.Trees.{Tree, null, is_null as is_null_tree}
+use Rattle.capnp_model.specs.Trees.{null}
 use Rattle.capnp_model.specs.Schemas.{Ty, void, plain, text, blob, untyped, interface, struct, list, TypeRecord, type_of, Value, FieldKind, slot, group, Body, pointer_slot, Schema, default_or_null}
-use Rattle.capnp_model.specs.Readings.{Reading, null_pointer, just_bits, body_of}
+use Rattle.capnp_model.specs.Readings.{null_pointer, body_of}
 use Rattle.capnp_model.specs.Printing.{Style, as_type, as_body}
 use Rattle.capnp_model.specs.Accepted.{slot_body, field_body, default_tree}
 use Rattle.capnp_wire.specs.Views.{PointerView, StructView, pointer_field}
@@ -12,7 +12,7 @@ use Rattle.capnp_values.specs.Shown.{Shown, a_number, a_struct, opened, default_
 use Rattle.capnp_values.specs.Standing.{IsPointerType}
 use Rattle.capnp_print.specs.Texts.{as_it_is}
 use Rattle.capnp_print.specs.ShownReadings.{read_or_fault, reading_within, left_of}
-use Rattle.capnp_print.specs.Printed.{Text, printed, null_printed, shown_text}
+use Rattle.capnp_print.specs.Printed.{printed, null_printed}
 use Rattle.capnp_print.proofs.Children.{within, number_shown_text}
 use Rattle.capnp_print.proofs.ElementTexts.{text_or_fault, there_text, pointer_text}
 use Rattle.capnp_print.proofs.Shows.{Read}

@@ -1,27 +1,18 @@
 -- What is printed within a value weighs less.
-use Rattle.std.proofs.Common.{◌≡◌, ℕ, zero, suc, ◌+◌, ◌*◌, ◌<◌, ◌≤◌, ◌==◌, ◌&&◌, ◌⊎◌, inl, inr, nat_lt, not, Bool, true, false, if◌then◌else◌, Option, Some, None, Result, Ok, Err, refl, ap, sym, ◌∙◌, subst, arith}
+use Rattle.std.proofs.Common.{◌≡◌, ℕ, suc, ◌+◌, ◌*◌, ◌<◌, ◌≤◌, ◌==◌, ◌&&◌, ◌⊎◌, inl, inr, Bool, true, false, if◌then◌else◌, Ok, refl, ap, ◌∙◌, subst, arith}
 use Rattle.std.proofs.Math.Nat.{mul-le-mul_left, mul-suc}
 use Rattle.std.proofs.lemmas.Bool.Decides.{nat_tests}
-use Rattle.capnp_model.specs.Kinds.{Kind}
-use Rattle.capnp_model.specs.Chains.{◌and_then◌}
-use Rattle.capnp_model.specs.Schemas.{PlainType, bool, int, uint, «enum», width, Ty, void, plain, text, blob, untyped, interface, struct, list, Value, no_value, bits, text_bytes, blob_bytes, list_segment, struct_segment, untyped_value, interface_value, FieldKind, slot, group, type_of, Shape, shape, Fields, Body, void_slot, plain_slot, pointer_slot, group_slot, Schema}
-use Rattle.capnp_model.specs.Readings.{null_pointer, just_bits, discriminant, field_bits, is_active, only_if, body_of}
-use Rattle.capnp_model.specs.Printing.{is_shown, fields_in}
-use Rattle.capnp_model.specs.Accepted.{slot_body, field_body}
+use Rattle.capnp_model.specs.Schemas.{PlainType, bool, int, uint, «enum», width, Ty, void, plain, text, blob, untyped, interface, struct, list, Schema}
 use Rattle.capnp_model.proofs.Chaining.{bind_ok, ok_is}
-use Rattle.capnp_queries.specs.Fields.{Entry, field_at, union_in}
 use Rattle.capnp_wire.specs.Views.{PointerView, StructView, ListView, pointer_field, element_of, element_number}
-use Rattle.capnp_wire.specs.Reads.{is_null, empty_struct, read_struct, read_list, object_behind}
+use Rattle.capnp_wire.specs.Reads.{empty_struct, read_struct, read_list, object_behind}
 use Rattle.capnp_values.specs.ListSizes.{size_of}
-use Rattle.capnp_values.specs.Sources.{read_behind, default_pointer}
-use Rattle.capnp_values.specs.Shown.{Shown, a_number, an_enum, a_text, a_blob, a_struct, a_list, a_pointer, a_capability, number_shown, opened, segment_opened, default_opened, slot_opened, slot_shown, kind_shown, element_shown}
-use Rattle.capnp_values.specs.Standing.{IsPointerType}
-use Rattle.capnp_print.specs.ShownReadings.{left_of, children_read, reading_within, read_or_fault}
-use Rattle.capnp_print.specs.Members.{field_read}
+use Rattle.capnp_values.specs.Sources.{read_behind}
+use Rattle.capnp_values.specs.Shown.{Shown, a_list, number_shown, opened, element_shown}
+use Rattle.capnp_print.specs.ShownReadings.{left_of}
 use Rattle.capnp_print.proofs.Children.{struct_levels, list_levels}
 use Rattle.capnp_print.proofs.NullTexts.{empty_shown}
-use Rattle.capnp_print.proofs.Shows.{Read}
-use Rattle.capnp_print.proofs.Weights.{shape_depth, fields_depth, body_depth, entry_depth, deep, far, far_is, some_depth, struct_height, list_height, weight, IsShallow}
+use Rattle.capnp_print.proofs.Weights.{shape_depth, deep, some_depth, struct_height, list_height, weight, IsShallow}
 
 height_le : (v : StructView) → struct_height v ≤ suc (left_of v.levels)
 height_le v = by (v.bits == 0 && v.pointers == 0)

@@ -1,18 +1,16 @@
 -- Texts that grow, item by item.
-use Rattle.std.proofs.Common.{◌≡◌, ℕ, zero, suc, ◌+◌, ◌-◌, ◌==◌, ◌<◌, ◌≤◌, ◌⊎◌, inl, inr, Bool, true, false, if◌then◌else◌, Option, Some, None, option_map, List, [], ◌∷◌, ◌++◌, Result, Ok, Err, refl, ap, sym, ◌∙◌, subst, arith, append_assoc, append-nil}
+use Rattle.std.proofs.Common.{◌≡◌, ℕ, zero, suc, ◌==◌, ◌≤◌, inl, inr, Bool, true, false, Option, Some, List, [], ◌++◌, Result, Ok, Err, refl, ap, sym, ◌∙◌, subst, arith, append_assoc, append-nil}
 use Rattle.std.specs.Prelude.{codes, IsErrAnd}
 use Rattle.std.proofs.lemmas.Bool.Decides.{nat_tests}
 use Rattle.std.proofs.lemmas.Result.{err_from_is_err_and}
-use Rattle.capnp_model.specs.Kinds.{Kind}
 use Rattle.capnp_model.specs.Chains.{◌and_then◌}
 use Rattle.capnp_model.specs.Trees.{null}
-use Rattle.capnp_model.specs.Schemas.{Ty, Shape, shape, Fields, no_fields, field, Body, Schema}
-use Rattle.capnp_model.specs.Readings.{Reading, Readings, no_readings, ◌▹◌, Extent, Children, discriminant, is_active, only_if, shape_record, fields_of, body_of}
+use Rattle.capnp_model.specs.Schemas.{Ty, Shape, shape, Fields, no_fields, field, Schema}
+use Rattle.capnp_model.specs.Readings.{Reading, Extent, Children, discriminant, is_active, only_if, shape_record, fields_of, body_of}
 use Rattle.capnp_model.specs.Printing.{Style, inner, closing, as_type, as_body, is_shown, fields_in}
 use Rattle.capnp_queries.specs.Fields.{Entry, field_at, field_count, union_in}
 use Rattle.capnp_units.specs.declared.errors.Error.{Error}
 use Rattle.capnp_units.specs.declared.kinds.ErrorKind.TheVariants.{OutOfMemory}
-use Rattle.capnp_units.specs.Errors.{kind_of}
 use Rattle.capnp_wire.specs.Views.{ListView}
 use Rattle.capnp_values.specs.Shown.{Shown}
 use Rattle.capnp_print.specs.ShownReadings.{element_read, elements_read}

@@ -1,18 +1,17 @@
 -- The value of a field that is printed is lighter than its struct, or a default.
-use Rattle.std.proofs.Common.{◌≡◌, ℕ, zero, suc, ◌+◌, ◌*◌, ◌/◌, ◌<◌, ◌≤◌, ◌==◌, ◌&&◌, ◌⊎◌, inl, inr, nat_lt, nat_le, not, Bool, true, false, if◌then◌else◌, Option, Some, None, List, length, Result, Ok, Err, refl, ap, sym, ◌∙◌, subst, arith}
+use Rattle.std.proofs.Common.{◌≡◌, ℕ, zero, suc, ◌+◌, ◌*◌, ◌/◌, ◌<◌, ◌≤◌, ◌==◌, ◌⊎◌, inl, inr, nat_lt, nat_le, not, Bool, true, false, if◌then◌else◌, Option, Some, None, List, length, Ok, refl, ap, sym, ◌∙◌, subst, arith}
 use Rattle.std.specs.Simd.{first_chunks}
 use Rattle.std.proofs.Math.Nat.{mul-suc}
 use Rattle.capnp_model.specs.Sections.{bits_at}
 use Rattle.std.proofs.lemmas.Bool.Decides.{nat_tests}
-use Rattle.capnp_model.specs.Kinds.{Kind}
-use Rattle.capnp_model.specs.Trees.{Tree, is_null as is_null_tree}
-use Rattle.capnp_model.specs.Schemas.{width, Ty, void, plain, text, blob, untyped, interface, struct, list, Value, no_value, bits, text_bytes, blob_bytes, list_segment, struct_segment, untyped_value, interface_value, FieldKind, slot, group, type_of, Shape, shape, Fields, Body, void_slot, plain_slot, pointer_slot, group_slot, Schema}
+use Rattle.capnp_model.specs.Trees.{Tree}
+use Rattle.capnp_model.specs.Schemas.{width, Ty, void, plain, text, blob, untyped, interface, struct, list, Value, no_value, bits, text_bytes, blob_bytes, list_segment, struct_segment, untyped_value, interface_value, FieldKind, slot, group, type_of, Shape, shape, Body, pointer_slot, group_slot, Schema}
 use Rattle.capnp_model.specs.Readings.{null_pointer, just_bits, discriminant, field_bits, is_active, only_if, body_of}
 use Rattle.capnp_model.specs.Printing.{is_shown, fields_in}
 use Rattle.capnp_model.specs.Segments.{after}
 use Rattle.capnp_model.specs.Accepted.{slot_body, field_body, default_bits, default_tree, is_good_segment, opens_as}
 use Rattle.capnp_model.proofs.Chaining.{ok_is, bind_ok}
-use Rattle.capnp_queries.specs.Fields.{Entry, field_at, union_in}
+use Rattle.capnp_queries.specs.Fields.{Entry, field_at}
 use Rattle.capnp_wire.specs.Views.{PointerView, StructView, pointer_field}
 use Rattle.capnp_wire.specs.Reads.{is_null, is_null_at, default_root}
 use Rattle.capnp_values.specs.GoodDefaults.{IsGoodDefault, KeepsDefault}
@@ -26,7 +25,7 @@ use Rattle.capnp_print.proofs.NullTexts.{empty_shown, null_opened}
 use Rattle.capnp_print.proofs.DefaultRoots.{decoded, encoded, segment_null, null_pointed, null_is_null}
 use Rattle.capnp_print.proofs.Lighter.{heavy, plain_weight, child_weight, empty_weight}
 use Rattle.capnp_print.proofs.Shows.{Read}
-use Rattle.capnp_print.proofs.Weights.{shape_depth, fields_depth, body_depth, entry_depth, deep, far, far_is, some_depth, struct_height, weight, IsShallow}
+use Rattle.capnp_print.proofs.Weights.{shape_depth, fields_depth, body_depth, entry_depth, deep, far, far_is, struct_height, weight, IsShallow}
 
 -- ---- a struct with a pointer field that is printed has sections
 

@@ -1,12 +1,11 @@
 -- The texts of this crate are those of the model.
-use Rattle.std.proofs.Common.{◌≡◌, ℕ, zero, suc, Bool, true, false, Option, Some, None, option_map, List, [], ◌∷◌, ◌++◌, Result, Ok, Err, refl, ap, sym, ◌∙◌, append_assoc, append-nil}
+use Rattle.std.proofs.Common.{◌≡◌, ℕ, Bool, true, false, Option, Some, None, option_map, List, [], ◌∷◌, ◌++◌, Ok, Err, refl, ap, sym, ◌∙◌, append_assoc, append-nil}
 use Rattle.std.specs.Prelude.{codes}
-use Rattle.capnp_model.specs.Kinds.{Kind}
 use Rattle.capnp_model.specs.Chains.{◌and_then◌}
-use Rattle.capnp_model.specs.Trees.{Tree, null, is_null}
+use Rattle.capnp_model.specs.Trees.{Tree, null}
 use Rattle.capnp_model.specs.Schemas.{Ty, Fields, no_fields, field, Body, Schema}
 use Rattle.capnp_model.specs.Readings.{Reading, inactive, null_pointer, fault, number, text_of, blob_of, list_of, record_as, opaque, Readings, no_readings, ◌▹◌, Record, no_more, entry}
-use Rattle.capnp_model.specs.Printing.{joined, Style, inner, opening, between, closing, enclosed, list_text, struct_text, As, as_type, as_body, type_of_as, element_type, shape_as, is_shown, cons_if, Nulls, print, print_items, print_fields}
+use Rattle.capnp_model.specs.Printing.{joined, Style, inner, opening, between, closing, list_text, struct_text, As, as_type, as_body, type_of_as, element_type, shape_as, is_shown, cons_if, Nulls, print, print_items, print_fields}
 use Rattle.capnp_print.specs.Printed.{Text, NullTexts, text_in, mark, field_and_rest, list_between, struct_between, printed, items_printed, fields_printed}
 
 -- items, each behind its mark

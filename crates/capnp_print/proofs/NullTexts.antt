@@ -1,6 +1,5 @@
 -- A null pointer shows the empty value, and prints as it.
-use Rattle.std.proofs.Common.{◌≡◌, ℕ, zero, suc, ◌==◌, Bool, true, false, if◌then◌else◌, Option, Some, None, List, [], ◌++◌, Result, Ok, Err, refl, ap, sym, ◌∙◌, subst}
-use Rattle.std.specs.Prelude.{codes}
+use Rattle.std.proofs.Common.{◌≡◌, ℕ, zero, suc, ◌==◌, Bool, true, false, if◌then◌else◌, Option, Some, None, List, [], Result, Ok, Err, refl, ap, ◌∙◌}
 use Rattle.std.specs.Option.{ok_or}
 use Rattle.std.proofs.lemmas.Str.{IsUtf8-nil}
 use Rattle.capnp_model.specs.Kinds.{Kind, OutOfBounds, NestingLimitExceeded}
@@ -8,22 +7,20 @@ use Rattle.capnp_model.specs.Chains.{◌and_then◌, passes}
 use Rattle.capnp_model.specs.Segments.{Segments, Place, root, word_at}
 use Rattle.capnp_model.specs.Pointers as model
 use Rattle.capnp_model.specs.Trees.{Tree, null, is_null as is_null_tree}
-use Rattle.capnp_model.specs.Schemas.{Ty, void, plain, text, blob, untyped, interface, struct, list, Shape, Schema}
-use Rattle.capnp_model.specs.Readings.{Reading, record_as, list_of, no_readings, whole_words, no_children, shape_record}
+use Rattle.capnp_model.specs.Schemas.{Ty, void, plain, text, blob, untyped, interface, struct, list, Schema}
+use Rattle.capnp_model.specs.Readings.{record_as, list_of}
 use Rattle.capnp_model.specs.Printing.{Style, as_type, as_group, fields_in}
-use Rattle.capnp_object.specs.declared.object.Object.{Object}
 use Rattle.capnp_object.specs.declared.object.Object.TheVariants as object
 use Rattle.capnp_object.specs.declared.object.Found.{Found}
 use Rattle.capnp_object.specs.Objects.{object_at, whole}
 use Rattle.capnp_wire.specs.Views.{PointerView, list_view}
-use Rattle.capnp_wire.specs.Reads.{is_null_at, is_null, found_behind, object_behind, empty_struct, read_struct, read_list, read_blob, read_text}
+use Rattle.capnp_wire.specs.Reads.{is_null_at, is_null, found_behind, empty_struct, read_struct, read_list, read_blob, read_text}
 use Rattle.capnp_values.specs.ListSizes.{size_of}
-use Rattle.capnp_values.specs.Sources.{read_behind}
 use Rattle.capnp_values.specs.Shown.{Shown, a_number, a_text, a_blob, a_struct, a_list, a_pointer, a_capability, opened}
 use Rattle.capnp_values.specs.Standing.{IsPointerType}
 use Rattle.capnp_print.specs.Texts.{as_it_is}
-use Rattle.capnp_print.specs.ShownReadings.{reading_within, reading_by, levels_of, reading_of}
-use Rattle.capnp_print.specs.Printed.{Text, NullTexts, struct_between, printed, empty_printed, text_shown, default_shown, null_printed, shown_text}
+use Rattle.capnp_print.specs.ShownReadings.{levels_of}
+use Rattle.capnp_print.specs.Printed.{Text, struct_between, printed, empty_printed, text_shown, default_shown, null_printed, shown_text}
 use Rattle.capnp_print.proofs.Empties.{empty_same}
 use Rattle.capnp_print.proofs.Children.{below, within, empty_record, no_elements_read}
 use Rattle.capnp_print.proofs.TextLemmas.{text_text-utf8}

@@ -1,11 +1,11 @@
 -- Texts of worked readings.
-use Rattle.std.specs.Prelude.{◌≡◌, ℕ, zero, suc, Option, Some, None, List, [], ◌∷◌, codes, Result, Ok, Err, refl}
+use Rattle.std.specs.Prelude.{◌≡◌, Some, None, codes, Ok, Err, refl}
 use Rattle.std.specs.Str.{is_utf8, chars}
 use Rattle.std.specs.Fmt.{digits}
 use Rattle.capnp_model.specs.Kinds.{TextWithoutZeroByte, NestingLimitExceeded}
-use Rattle.capnp_model.specs.Trees.{Tree, null, structure, none}
-use Rattle.capnp_model.specs.Schemas.{uint, plain, text, struct, list, shape, no_fields, field, plain_slot, pointer_slot, Fields, Schema}
-use Rattle.capnp_model.specs.Readings.{null_pointer, fault, number, text_of, list_of, record_as, inactive, no_readings, ◌▹◌, Record, no_more, entry, read, shape_record}
+use Rattle.capnp_model.specs.Trees.{null, structure, none}
+use Rattle.capnp_model.specs.Schemas.{uint, plain, text, struct, list, shape, no_fields, field, plain_slot, pointer_slot, Fields}
+use Rattle.capnp_model.specs.Readings.{null_pointer, fault, number, text_of, list_of, record_as, inactive, no_readings, ◌▹◌, Record, no_more, entry}
 use Rattle.capnp_model.specs.Printing.{Style, on_one_line, indented, as_group, as_type}
 use Rattle.capnp_print.specs.Texts.{as_it_is}
 use Rattle.capnp_print.specs.Printed.{Text, no_schema, printed, null_printed}

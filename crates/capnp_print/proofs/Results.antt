@@ -1,5 +1,5 @@
 -- What `print` answers.
-use Rattle.std.proofs.Common.{◌≡◌, ℕ, List, ◌++◌, Some, Result, Ok, Err, refl, ap, sym, ◌∙◌, subst, inl, inr}
+use Rattle.std.proofs.Common.{◌≡◌, ℕ, List, Result, Ok, Err, refl, ap, sym, ◌∙◌, subst, inl}
 use Rattle.std.specs.Prelude.{IsErrAnd}
 use Rattle.std.proofs.lemmas.Result.{err_from_is_err_and}
 use Rattle.capnp_model.specs.Printing.{Style}
@@ -8,7 +8,7 @@ use Rattle.capnp_units.specs.declared.kinds.ErrorKind.TheVariants.{OutOfMemory}
 use Rattle.capnp_values.specs.Shown.{Shown}
 use Rattle.capnp_print.specs.Texts.{as_it_is}
 use Rattle.capnp_print.specs.ShownReadings.{reading_of}
-use Rattle.capnp_print.specs.Printed.{Text, text_in, null_printed, schema_shown, as_shown, shown_text}
+use Rattle.capnp_print.specs.Printed.{text_in, null_printed, schema_shown, as_shown, shown_text}
 use Rattle.capnp_print.specs.Answers.{IsRefused, IsTextOf, Prints}
 use Rattle.capnp_print.proofs.Models.{printed_print}
 

@@ -1,15 +1,15 @@
 -- Which fields are printed.
-use Rattle.std.proofs.Common.{◌≡◌, ℕ, zero, suc, ◌==◌, ◌&&◌, not, Bool, true, false, if◌then◌else◌, Option, Some, None, option_map, List, Result, Ok, Err, refl, arith, ap, sym, ◌∙◌, subst}
+use Rattle.std.proofs.Common.{◌≡◌, ℕ, zero, suc, ◌==◌, ◌&&◌, not, Bool, true, false, if◌then◌else◌, Option, Some, None, option_map, List, Result, Ok, Err, refl, arith, ap, sym, ◌∙◌}
 use Rattle.std.proofs.lemmas.Bool.Decides.{nat_tests}
 use Rattle.capnp_model.specs.Kinds.{Kind}
-use Rattle.capnp_model.specs.Schemas.{Ty, Fields, no_fields, field, Body, void_slot, plain_slot, pointer_slot, group_slot, Schema}
+use Rattle.capnp_model.specs.Schemas.{Fields, no_fields, field, Body, void_slot, plain_slot, pointer_slot, group_slot, Schema}
 use Rattle.capnp_model.specs.Readings.{Reading, null_pointer, just_bits, is_active, only_if, body_of}
 use Rattle.capnp_model.specs.Printing.{is_shown}
 use Rattle.capnp_queries.specs.Fields.{Entry, field_at, index_of, is_value, place_of_member}
-use Rattle.capnp_wire.specs.Views.{PointerView, StructView, pointer_field}
+use Rattle.capnp_wire.specs.Views.{StructView, pointer_field}
 use Rattle.capnp_wire.specs.Reads.{is_null}
 use Rattle.capnp_values.specs.Shown.{Shown, a_number, an_enum, a_text, a_blob, a_struct, a_list, a_pointer, a_capability, opened, is_null_slot}
-use Rattle.capnp_print.specs.ShownReadings.{read_or_fault, pointer_reading, children_read, reading_by, reading_within}
+use Rattle.capnp_print.specs.ShownReadings.{read_or_fault, children_read, reading_by, reading_within}
 use Rattle.capnp_print.proofs.Children.{below, within}
 
 -- ---- the members that are active

@@ -1,7 +1,7 @@
 -- Values that hold no others print as they are.
-use Rattle.std.proofs.Common.{◌≡◌, ℕ, List, Ok, refl, ap}
+use Rattle.std.proofs.Common.{◌≡◌, ℕ, List, Ok, refl}
 use Rattle.capnp_model.specs.Printing.{Style}
-use Rattle.capnp_values.specs.Shown.{Shown, a_number, an_enum, a_text, a_blob, a_pointer, a_capability, shown}
+use Rattle.capnp_values.specs.Shown.{shown}
 use Rattle.capnp_values.specs.declared.dynamic_value.Reader.{Reader}
 use Rattle.capnp_values.specs.declared.dynamic_value.Reader.TheVariants as value
 use Rattle.capnp_values.specs.declared.dynamic_struct.Reader as structs

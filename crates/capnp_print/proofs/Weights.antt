@@ -1,9 +1,8 @@
 -- How far what is shown goes down: each value that is printed within another weighs less.
-use Rattle.std.proofs.Common.{◌≡◌, ℕ, zero, suc, ◌+◌, ◌*◌, ◌^◌, ◌<◌, ◌≤◌, ◌==◌, ◌&&◌, if◌then◌else◌, map, max, Bool, true, false, Option, Some, None, List, [], ◌∷◌, length, refl, ap, sym, ◌∙◌, subst, arith}
+use Rattle.std.proofs.Common.{◌≡◌, ℕ, zero, suc, ◌+◌, ◌*◌, ◌^◌, ◌<◌, ◌≤◌, ◌==◌, ◌&&◌, if◌then◌else◌, max, Option, Some, None, List, [], ◌∷◌, length, refl, ap, subst, arith}
 use Rattle.std.proofs.lemmas.List.{length-map}
 use Rattle.capnp_model.specs.Schemas.{Ty, void, plain, text, blob, untyped, interface, struct, list, Value, FieldKind, slot, group, Field, Node, NodeKind, struct_node, enum_node, type_of, Shape, shape, Fields, no_fields, field, Body, void_slot, plain_slot, pointer_slot, group_slot, Schema}
 use Rattle.capnp_model.specs.Accepted.{slot_body, field_body, fields_from, no_shape, shape_of_node, shape_in, schema_of, find_node, union_place}
-use Rattle.capnp_model.specs.Printing.{fields_in}
 use Rattle.capnp_queries.specs.Fields.{Entry, field_at}
 use Rattle.capnp_records.specs.Sets.{nodes_of}
 use Rattle.capnp_records.specs.declared.set.SchemaSet.{SchemaSet}

@@ -1,13 +1,12 @@
 -- Structs and lists print as their parts do.
-use Rattle.std.proofs.Common.{◌≡◌, ℕ, zero, suc, ◌+◌, ◌-◌, ◌<◌, ◌≤◌, ◌==◌, ◌&&◌, ◌⊎◌, inl, inr, not, Bool, true, false, if◌then◌else◌, Option, Some, None, option_map, List, [], ◌∷◌, ◌++◌, Result, Ok, Err, refl, ap, sym, ◌∙◌, subst, arith, add-one}
+use Rattle.std.proofs.Common.{◌≡◌, ℕ, zero, suc, ◌+◌, ◌<◌, ◌≤◌, ◌==◌, ◌&&◌, ◌⊎◌, inl, inr, not, Bool, true, false, Option, Some, List, [], ◌++◌, Result, Ok, Err, refl, ap, sym, ◌∙◌, subst, arith}
 use Rattle.std.specs.Prelude.{codes}
 use Rattle.std.proofs.lemmas.Bool.Decides.{nat_tests}
 use Rattle.capnp_model.specs.Kinds.{Kind, NestingLimitExceeded}
 use Rattle.capnp_model.specs.Chains.{◌and_then◌}
-use Rattle.capnp_model.specs.Trees.{null}
-use Rattle.capnp_model.specs.Schemas.{Ty, Field as FieldNode, FieldKind, Schema, Fields, no_fields, field}
-use Rattle.capnp_model.specs.Readings.{Reading, just_bits, discriminant, is_active, only_if, body_of}
-use Rattle.capnp_model.specs.Printing.{Style, inner, closing, as_type, as_group, as_body, is_shown, fields_in}
+use Rattle.capnp_model.specs.Schemas.{Ty, Field as FieldNode, Schema, Fields, no_fields, field}
+use Rattle.capnp_model.specs.Readings.{just_bits, is_active, only_if}
+use Rattle.capnp_model.specs.Printing.{Style, inner, closing, as_group, as_body, is_shown}
 use Rattle.capnp_model.specs.Accepted.{field_body}
 use Rattle.capnp_queries.specs.Fields.{Entry, entry_in, field_at, field_count, union_in}
 use Rattle.capnp_queries.specs.Structs.{schema_around, shape_of_struct, fields_of_struct}
@@ -17,18 +16,18 @@ use Rattle.capnp_queries.specs.declared.fields.Field.{Field}
 use Rattle.capnp_wire.specs.Views.{StructView, ListView}
 use Rattle.capnp_values.specs.GoodDefaults.{KeepsDefault}
 use Rattle.capnp_values.specs.Standing.{NullsAreRead}
-use Rattle.capnp_values.specs.Shown.{Shown, a_struct, a_list, kind_shown, discriminant_shown, is_active_field, is_null_slot, has_field, element_shown}
+use Rattle.capnp_values.specs.Shown.{Shown, a_struct, a_list, kind_shown, discriminant_shown, is_null_slot, element_shown}
 use Rattle.capnp_print.specs.Texts.{as_it_is}
-use Rattle.capnp_print.specs.ShownReadings.{children_read, record_read, elements_read, element_read, reading_within, left_of}
+use Rattle.capnp_print.specs.ShownReadings.{children_read, elements_read, reading_within, left_of}
 use Rattle.capnp_print.specs.Defaults.{enters}
 use Rattle.capnp_print.specs.Members.{field_read, field_shown}
-use Rattle.capnp_print.specs.Parts.{fields_text, member_text, elements_text, IsPrinted, enters_there}
-use Rattle.capnp_print.specs.Printed.{Text, mark, list_between, struct_between, printed, items_printed, null_printed, shown_text}
+use Rattle.capnp_print.specs.Parts.{fields_text, member_text, elements_text, enters_there}
+use Rattle.capnp_print.specs.Printed.{Text, mark, list_between, struct_between, printed, null_printed, shown_text}
 use Rattle.capnp_print.proofs.Children.{within}
 use Rattle.capnp_print.proofs.DefaultTexts.{field_entered, field_refused, field_empty}
 use Rattle.capnp_print.proofs.ElementTexts.{text_or_fault, element_text}
 use Rattle.capnp_print.proofs.FieldTexts.{field_there}
-use Rattle.capnp_print.proofs.Loops.{Left, Rest, Going, begins, record_is, fields_after, left_out, left_in, none_left, element_next, elements_end, list_text_is, list_text_empty, struct_text_is, struct_text_empty, goes_same}
+use Rattle.capnp_print.proofs.Loops.{Left, Rest, Going, begins, record_is, fields_after, left_out, left_in, none_left, element_next, elements_end, list_text_is, list_text_empty, struct_text_is, struct_text_empty}
 use Rattle.capnp_print.proofs.MemberWeights.{field_lighter, field_far}
 use Rattle.capnp_print.proofs.Shows.{Read}
 use Rattle.capnp_print.proofs.Weights.{IsShallow, weight, far}

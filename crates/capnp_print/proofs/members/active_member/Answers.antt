@@ -1,7 +1,7 @@
-use Rattle.std.proofs.Common.{◌≡◌, ℕ, Option, Some, None, option_map, ap, sym, ◌∙◌, subst, refl}
+use Rattle.std.proofs.Common.{◌≡◌, Some, ap, sym, subst, refl}
 use Rattle.capnp_model.specs.Readings.{is_active}
 use Rattle.capnp_records.specs.NodeViews.{field_of}
-use Rattle.capnp_queries.specs.Fields.{Entry, entry_in, field_at}
+use Rattle.capnp_queries.specs.Fields.{entry_in, field_at}
 use Rattle.capnp_queries.specs.Structs.{schema_around, fields_of_struct}
 use Rattle.capnp_queries.specs.declared.structs.StructSchema.{StructSchema}
 use Rattle.capnp_values.specs.Sources.{struct_seen}

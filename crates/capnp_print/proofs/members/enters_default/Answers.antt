@@ -1,5 +1,4 @@
-use Rattle.std.proofs.Common.{◌≡◌, ℕ, Bool, true, false, Option, Some, None, Result, Ok, ap, sym, ◌∙◌, subst, refl}
-use Rattle.capnp_model.specs.Schemas.{Field as FieldNode}
+use Rattle.std.proofs.Common.{◌≡◌, Bool, true, false, Result, Ok, sym, ◌∙◌}
 use Rattle.capnp_records.specs.NodeViews.{field_of}
 use Rattle.capnp_units.specs.declared.errors.Error.{Error}
 use Rattle.capnp_values.specs.Sources.{struct_seen}

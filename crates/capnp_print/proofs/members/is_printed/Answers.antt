@@ -1,4 +1,4 @@
-use Rattle.std.proofs.Common.{◌≡◌, ℕ, suc, ◌==◌, Bool, true, false, ◌⊎◌, inl, inr, Result, Ok, Option, Some, None, ap, sym, ◌∙◌, subst, refl, IsOkAnd}
+use Rattle.std.proofs.Common.{◌≡◌, suc, ◌==◌, Bool, inl, inr, Result, Some, ap, sym, ◌∙◌, subst, refl, IsOkAnd}
 use Rattle.capnp_model.specs.Readings.{is_active}
 use Rattle.capnp_records.specs.NodeViews.{field_of}
 use Rattle.capnp_queries.specs.Fields.{Entry}

@@ -1,4 +1,4 @@
-use Rattle.std.proofs.Common.{◌≡◌, ◌++◌, List, ℕ, ap, sym, subst, rules}
+use Rattle.std.proofs.Common.{◌≡◌, ◌++◌, sym, subst, rules}
 use Rattle.std.specs.Prelude.{OnOk}
 use Rattle.capnp_records.specs.NodeViews.{enumerant_of}
 use Rattle.capnp_print.proofs.EnumNames.{name_text, value_text}

@@ -1,4 +1,4 @@
-use Rattle.std.proofs.Common.{◌≡◌, ℕ, List, [], ◌++◌, refl, ap, sym, ◌∙◌, subst}
+use Rattle.std.proofs.Common.{ℕ, List, ◌++◌, refl, ap, sym, ◌∙◌, subst}
 use Rattle.capnp_model.specs.Printing.{Style}
 use Rattle.capnp_values.specs.Shown.{shown}
 use Rattle.capnp_print.specs.Answers.{IsRefused, style_named}

@@ -1,17 +1,16 @@
-use Rattle.std.proofs.Common.{rules, ◌≡◌, ℕ, suc, ◌+◌, ◌-◌, ◌*◌, ◌<◌, ◌≤◌, ◌==◌, ◌⊎◌, inl, inr, Bool, true, false, Option, Some, None, List, [], ◌∷◌, ◌++◌, Result, Ok, Err, refl, ap, sym, ◌∙◌, subst, arith}
+use Rattle.std.proofs.Common.{rules, ◌≡◌, ℕ, suc, ◌+◌, ◌-◌, ◌*◌, ◌<◌, ◌≤◌, ◌==◌, inr, true, false, Some, List, ◌++◌, Ok, Err, refl, ap, sym, ◌∙◌, subst, arith}
 use Rattle.std.specs.Prelude.{codes}
 use Rattle.std.proofs.Math.Nat.{mul-suc}
 use Rattle.capnp_units.specs.Errors.{kind_of}
 use Rattle.capnp_object.specs.Places.{seen}
 use Rattle.capnp_model.specs.Accepted.{schema_of}
 use Rattle.capnp_model.specs.Printing.{Style, inner, closing}
-use Rattle.capnp_model.specs.Schemas.{Field as FieldNode}
 use Rattle.capnp_records.specs.NodeViews.{field_of}
 use Rattle.capnp_records.specs.Sets.{nodes_of}
 use Rattle.capnp_queries.specs.Types.{ty_of}
-use Rattle.capnp_queries.specs.Fields.{Entry, entry_in, field_at, field_count}
+use Rattle.capnp_queries.specs.Fields.{entry_in, field_count}
 use Rattle.capnp_queries.specs.Structs.{schema_around, shape_of_struct, fields_of_struct}
-use Rattle.capnp_queries.specs.Handles.{entry_of, IsFieldRecord}
+use Rattle.capnp_queries.specs.Handles.{entry_of}
 use Rattle.capnp_queries.specs.declared.structs.StructSchema.{StructSchema}
 use Rattle.capnp_values.specs.Sources.{struct_seen, list_seen}
 use Rattle.capnp_values.specs.Shown.{a_struct, a_list, shown, kind_shown, discriminant_shown, element_shown}

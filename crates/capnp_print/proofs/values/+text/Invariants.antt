@@ -1,6 +1,5 @@
 -- Levels and groups grow less on the way down, and defaults that may be entered; within a value each calls the next.
-use Rattle.std.proofs.Common.{◌≡◌, ◌+◌, ◌-◌, ◌*◌, ◌≤◌}
-use Rattle.capnp_model.specs.Trees.{null}
+use Rattle.std.proofs.Common.{◌+◌, ◌-◌, ◌*◌}
 use Rattle.capnp_model.specs.Accepted.{schema_of}
 use Rattle.capnp_model.specs.Readings.{just_bits}
 use Rattle.capnp_records.specs.Sets.{nodes_of}
