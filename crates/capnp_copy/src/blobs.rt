@@ -31,8 +31,8 @@ fn last_word(rest: &[u8]) -> u64
     u64::get(&last)
 }
 
-/// Writes bytes in place of so many words, which they fill but for the last.
-fn write_bytes<A: BuilderArena>(arena: &mut A, start: Place, words: usize, bytes: &[u8])
+/// Writes bytes in place of so many words, which they fill but for the last; what they lack of that one becomes zero.
+pub fn write_bytes<A: BuilderArena>(arena: &mut A, start: Place, words: usize, bytes: &[u8])
     requires near { start.position + words < 2 ^ 61 }
     requires there { is_some (words_at (words_in (A.segments arena.old)) (place_view start) words) ≡ true }
     requires fill { (whole_of bytes.now ≤ words) × (words ≤ whole_of bytes.now + 1) }
