@@ -12,3 +12,4 @@ pub mod Elements
 pub mod Placed
 pub mod Counting
 pub mod Taking
+pub mod SectionBytes

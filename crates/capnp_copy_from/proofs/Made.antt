@@ -213,30 +213,39 @@ data_copied n from p s m r d k own kids there here now o =
     let z' : ReplacesObject n s (with_words s r (words_there from p d)) (a_struct r d k) (structure d (section_at from p d) kids) = subst (λ (a : ℕ). ReplacesObject n s (with_words s r (words_there from p d)) (a_struct r d k) (structure d a kids)) (sym (section_is from p d there)) z in
     subst (λ (v : Segments). ReplacesObject n s v (a_struct r d k) (structure d (section_at from p d) kids)) (sym now) z'
 
-pub struct_copied : (levels : ℕ) (from : Segments) (there : Option Trees) (path : List Visit) (p : Place) (s m u : Segments) (r : Place) (d k : ℕ) (old new : ReadLimiter) (x : Result ⊤ Error) → is_some (words_at from p d) ≡ true → is_some (words_at s r (d + k)) ≡ true → m ≡ with_words s r (words_there from p d)
+-- whatever was written of the data: the row is filled then
+pub section_copied : (levels : ℕ) (from : Segments) (there : Option Trees) (path : List Visit) (section : ℕ) (s m u : Segments) (r : Place) (d k : ℕ) (old new : ReadLimiter) (x : Result ⊤ Error) → Grows s m → total_words m ≡ total_words s
+    → ((n own : ℕ) (kids : Trees) → OwnsObject n s (a_struct r d k) (structure d own kids) → ReplacesObject n s m (a_struct r d k) (structure d section kids))
     → CopyGives from there path (FillsRow levels m u r d k) (LeavesStruct levels m u r d k) m u old x new
-    → CopyGives from there path (FillsStruct levels s u r d k (section_at from p d)) (LeavesStruct levels s u r d k) s u old x new
-struct_copied levels from there path p s m u r d k old new (Ok x) e f now g =
+    → CopyGives from there path (FillsStruct levels s u r d k section) (LeavesStruct levels s u r d k) s u old x new
+section_copied levels from there path section s m u r d k old new (Ok x) grows same write g =
     record {
       value = g.value;
       there_is = g.there_is;
       walked = g.walked;
-      grows = grows_then s m u (subst (λ (v : Segments). Grows s v) (sym now) (splice_grows s r (words_there from p d))) g.grows;
-      takes = takes_both s m u old old new (takes_none s m old (ap total_words now ∙ written_total s r (words_there from p d))) g.takes;
+      grows = grows_then s m u grows g.grows;
+      takes = takes_both s m u old old new (takes_none s m old same) g.takes;
       made = λ n own kids h o. (
-          let first = data_copied n from p s m r d k own kids e f now o in
+          let first = write n own kids o in
           let mine = object_replaced_owned n s m (a_struct r d k) _ _ o first in
-          object_replaced_then n s m u (a_struct r d k) _ _ first (g.made n (section_at from p d) kids h mine)
+          object_replaced_then n s m u (a_struct r d k) _ _ first (g.made n section kids h mine)
           );
     }
-struct_copied levels from there path p s m u r d k old new (Err x) e f now g =
+section_copied levels from there path section s m u r d k old new (Err x) grows same write g =
     record {
       left = λ n own kids h o. (
-          let first = data_copied n from p s m r d k own kids e f now o in
+          let first = write n own kids o in
           let mine = object_replaced_owned n s m (a_struct r d k) _ _ o first in
-          let y = g.left n (section_at from p d) kids h mine in
+          let y = g.left n section kids h mine in
           (y.0, y.1, object_replaced_then n s m u (a_struct r d k) _ _ first y.2)
           );
-      takes = takes_both s m u old old new (takes_none s m old (ap total_words now ∙ written_total s r (words_there from p d))) g.takes;
+      takes = takes_both s m u old old new (takes_none s m old same) g.takes;
       why = g.why;
     }
+
+pub struct_copied : (levels : ℕ) (from : Segments) (there : Option Trees) (path : List Visit) (p : Place) (s m u : Segments) (r : Place) (d k : ℕ) (old new : ReadLimiter) (x : Result ⊤ Error) → is_some (words_at from p d) ≡ true → is_some (words_at s r (d + k)) ≡ true → m ≡ with_words s r (words_there from p d)
+    → CopyGives from there path (FillsRow levels m u r d k) (LeavesStruct levels m u r d k) m u old x new
+    → CopyGives from there path (FillsStruct levels s u r d k (section_at from p d)) (LeavesStruct levels s u r d k) s u old x new
+struct_copied levels from there path p s m u r d k old new x e f now g =
+    section_copied levels from there path (section_at from p d) s m u r d k old new x (subst (λ (v : Segments). Grows s v) (sym now) (splice_grows s r (words_there from p d))) (ap total_words now ∙ written_total s r (words_there from p d))
+    (λ n own kids o. data_copied n from p s m r d k own kids e f now o) g

@@ -14,6 +14,7 @@ use Rattle.capnp_units.specs.declared.kinds.ErrorKind.TheVariants.{SizeOverflow}
 use Rattle.capnp_units.specs.declared.limiter.ReadLimiter.{ReadLimiter}
 use Rattle.capnp_units.specs.Sizes.{size_number}
 use Rattle.capnp_object.specs.declared.object.Object.{Object}
+use Rattle.capnp_object.specs.declared.place.Place as wire
 use Rattle.capnp_object.specs.declared.object.Object.TheVariants as object
 use Rattle.capnp_object.specs.Objects.{IsInside}
 use Rattle.capnp_object.specs.Follow.{own_cost, Pays}
@@ -81,6 +82,10 @@ new_fits s (object.Struct p d k) l i f = f
 new_fits s (object.List p size n) l i f = (i.0, f)
 new_fits s (object.PointerList p n) l i f = f
 new_fits s (object.StructList p words n d k) l i f = f
+
+pub struct_fits : (q : wire.Place) (d k : ℕ) → IsSpelled (object.Struct q d k) → Fits (new_of (object.Struct q d k))
+unfolding new_of
+struct_fits q d k f = f
 
 new_some : (o : Object) → is_leaf o ≡ false → (offset : ℕ) → 0 < copied_words o → 0 < new_pointer offset (new_of o)
 unfolding new_of

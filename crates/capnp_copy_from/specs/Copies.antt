@@ -1,10 +1,12 @@
 -- Copies of values from one arena into another, against a budget.
-use Rattle.std.specs.Prelude.{◌≡◌, ◌↔◌, ◌⊎◌, ⊤, ℕ, suc, ◌+◌, ◌*◌, ◌≤◌, List, [], ◌∷◌, ◌++◌, Option, Some, Result, Ok, Err}
+use Rattle.std.specs.Prelude.{◌≡◌, ◌↔◌, ◌⊎◌, ⊤, ℕ, suc, ◌+◌, ◌*◌, ◌≤◌, List, [], ◌∷◌, ◌++◌, length, Option, Some, Result, Ok, Err}
+use Rattle.capnp_model.specs.Chains.{◌>>=◌}
+use Rattle.capnp_model.specs.Sections.{number_of, words_for}
 use Rattle.capnp_model.specs.Segments.{Segments, Place}
 use Rattle.capnp_model.specs.Pointers.{Object, a_struct, a_list}
 use Rattle.capnp_model.specs.Trees.{Tree, structure, struct_list, Trees, Elements, element_count}
-use Rattle.capnp_model.specs.Traversal.{tree_of, tree_at}
-use Rattle.capnp_model.specs.Coverage.{span, times_held, Grows}
+use Rattle.capnp_model.specs.Traversal.{tree_of, tree_at, each}
+use Rattle.capnp_model.specs.Coverage.{span, times_held, Grows, from_each}
 use Rattle.capnp_model.specs.Visits.{Visit, visits}
 use Rattle.capnp_units.specs.declared.errors.Error.{Error}
 use Rattle.capnp_units.specs.declared.kinds.ErrorKind.TheVariants.{SizeOverflow}
@@ -12,6 +14,9 @@ use Rattle.capnp_units.specs.declared.limiter.ReadLimiter.{ReadLimiter}
 use Rattle.capnp_units.specs.Limits.{Spends, Follows}
 use Rattle.capnp_object.specs.declared.object.Found.{Found}
 use Rattle.capnp_object.specs.declared.object.Object as wire
+use Rattle.capnp_object.specs.declared.object.Object.TheVariants as object
+use Rattle.capnp_object.specs.declared.place.Place as location
+use Rattle.capnp_object.specs.Places.{place_view}
 use Rattle.capnp_object.specs.Objects.{object_at}
 use Rattle.capnp_object.specs.Follow.{found_cost}
 use Rattle.capnp_object.specs.Inside.{tree_in, met_in}
@@ -105,6 +110,23 @@ ObjectGives levels from o there path s u p old (Err e) new = ObjectRefused from 
 -- An object whose words are there is put in place of that value, as its whole tree; so many levels may be followed from each of its pointers.
 abbrev pub CopiesObject : ℕ → Segments → wire.Object → Segments → Segments → Place → ReadLimiter → Result ⊤ Error → ReadLimiter → Type 0
 CopiesObject levels from o s u p old result new = ObjectGives levels from o (tree_in from (tree_at levels from) o) (met_in (visits levels from) o) s u p old result new
+
+-- A struct that is read: the number of its data section, the words of that, where its first pointer stands and how many there are.
+pub record StructSource : Type 0 where
+  pub section : ℕ
+  pub data_words : ℕ
+  pub first : location.Place
+  pub pointers : ℕ
+
+-- Its data section has these bytes, in whole words.
+abbrev pub struct_source : List ℕ → location.Place → ℕ → StructSource
+struct_source bytes first k = record { section = number_of 8 bytes; data_words = words_for (8 * length bytes); first = first; pointers = k }
+
+-- A struct of its size is put in place of that value, as its whole tree; so many levels may be followed from each of its pointers.
+abbrev pub CopiesStruct : ℕ → Segments → StructSource → Segments → Segments → Place → ReadLimiter → Result ⊤ Error → ReadLimiter → Type 0
+CopiesStruct levels from x s u p old result new =
+    let there = each (tree_at levels from) (place_view x.first) x.pointers >>= λ ts. Some (structure x.data_words x.section ts) in
+    ObjectGives levels from (object.Struct x.first x.data_words x.pointers) there (from_each (visits levels from) (place_view x.first) x.pointers) s u p old result new
 
 -- No more source pointers were followed than words were granted, and one.
 pub record FollowsFew (old new : ReadLimiter) : Type 0 where

@@ -164,7 +164,7 @@ fn fill<A: BuilderArena, B: ReaderArena>(
 
 /// Copies so many pointers in a row of a source over those of a struct, whose data words lie before them.
 #[cycle(copy)]
-fn fill_row<A: BuilderArena, B: ReaderArena>(
+pub(crate) fn fill_row<A: BuilderArena, B: ReaderArena>(
     arena: &mut A,
     start: Place,
     data_words: u16,

@@ -11,6 +11,7 @@ mod object_tests;
 mod objects;
 #[cfg(test)]
 mod refusal_tests;
+pub mod structs;
 #[cfg(test)]
 mod tests;
 mod words;

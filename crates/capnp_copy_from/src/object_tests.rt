@@ -1,7 +1,7 @@
 //! Structs and lists that were read before, as they are copied.
 
 use crate::tests::{
-    NARROW, Setting, WIDE, WITH_TEXT, bytes_of, copied, expect_copy, expect_refused,
+    NARROW, Setting, WIDE, WITH_TEXT, What, bytes_of, copied, expect_copy, expect_refused,
     expect_segments,
 };
 use capnp_units::kinds::ErrorKind;
@@ -10,14 +10,14 @@ use std::test::Fail;
 /// What was read already, with one word left to pay for.
 const ONE_LEFT: Setting = Setting {
     budget: Some(1),
-    paid: true,
+    what: What::Object,
     ..WIDE
 };
 
 /// What was read already, with nothing left.
 const NOTHING_LEFT: Setting = Setting {
     budget: Some(0),
-    paid: true,
+    what: What::Object,
     ..WIDE
 };
 
@@ -32,7 +32,7 @@ fn structs_that_are_paid_for(rt: HostRuntime) -> Result<(), Fail> {
     assert_eq!(rt; done.followed, 1);
     expect_segments(&rt, &done.segments, &[&WITH_TEXT])?;
     let far = Setting {
-        paid: true,
+        what: What::Object,
         ..NARROW
     };
     let pad = 0x0001_0001_0000_0000;
@@ -111,4 +111,75 @@ fn long_lists(rt: HostRuntime) -> Result<(), Fail> {
     expect_copy(&rt, alloc, &[&[voids]], NOTHING_LEFT, &[&[here]])?;
     let empty = [0x0000_0007_0000_0001, 0x0000_0000_7fff_fffc];
     expect_copy(&rt, alloc, &[&empty], NOTHING_LEFT, &[&empty])
+}
+
+/// Nine bytes and a pointer to a text: two words of data, the last of one byte.
+const PARTED: [u64; 5] = [
+    0,
+    0x0807_0605_0403_0201,
+    0x1817_1615_1413_1211,
+    0x0000_001a_0000_0001,
+    0x6968,
+];
+
+/// Structs by their sections: the bytes that the last word lacks are zero.
+#[test]
+fn structs_by_their_sections(rt: HostRuntime) -> Result<(), Fail> {
+    let alloc = rt.alloc();
+    let nine = Setting {
+        what: What::Struct {
+            bytes: 9,
+            first: 3,
+            pointers: 1,
+        },
+        ..ONE_LEFT
+    };
+    let copy = [
+        0x0001_0002_0000_0000,
+        0x0807_0605_0403_0201,
+        0x11,
+        0x0000_001a_0000_0001,
+        0x6968,
+    ];
+    expect_copy(&rt, alloc, &[&PARTED], nine, &[&copy])?;
+    let three = Setting {
+        what: What::Struct {
+            bytes: 3,
+            first: 3,
+            pointers: 0,
+        },
+        ..NOTHING_LEFT
+    };
+    let copy = [0x0000_0001_0000_0000, 0x0003_0201];
+    expect_copy(&rt, alloc, &[&PARTED], three, &[&copy])?;
+    let empty = Setting {
+        what: What::Struct {
+            bytes: 0,
+            first: 3,
+            pointers: 0,
+        },
+        ..NOTHING_LEFT
+    };
+    expect_copy(&rt, alloc, &[&PARTED], empty, &[&[0xffff_fffc]])
+}
+
+/// A text behind the struct that costs more than is left, and an allocator with no room: the old value stands.
+#[test]
+fn structs_that_are_refused(rt: HostRuntime) -> Result<(), Fail> {
+    let alloc = rt.alloc();
+    let nine = Setting {
+        what: What::Struct {
+            bytes: 9,
+            first: 3,
+            pointers: 1,
+        },
+        ..NOTHING_LEFT
+    };
+    let passed = ErrorKind::ReadLimitExceeded;
+    let zeros = [0x0000_001a_0000_0001, 0x0003_0201, 0, 0, 0];
+    expect_refused(&rt, alloc, &[&PARTED], nine, passed, &[&zeros])?;
+    let full = Setting { words: 2, ..nine };
+    let stands = [0x0000_001a_0000_0001, 0x0003_0201];
+    let none = ErrorKind::OutOfMemory;
+    expect_refused(&rt, alloc, &[&PARTED], full, none, &[&stands])
 }

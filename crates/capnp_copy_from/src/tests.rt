@@ -2,6 +2,7 @@
 ghost use Rattle.std.specs.Prelude.{◌≡◌, ◌≤◌, [], length};
 
 use crate::copy::{copy_from, copy_object};
+use crate::structs::set_struct;
 use capnp_copy::allocator::Allocator;
 use capnp_copy::arena::BuilderArena;
 use capnp_copy::blobs::set_data;
@@ -58,8 +59,19 @@ pub(crate) struct Setting {
     pub(crate) levels: u32,
     pub(crate) segments: u32,
     pub(crate) words: u32,
-    /// Whether the root's own object is paid for already, and no longer followed.
-    pub(crate) paid: bool,
+    pub(crate) what: What,
+}
+
+/// What is copied of a message: the root's value; the object that it names, which is paid for already; or a struct, of so many bytes from the second word of the first segment on, and of so many pointers from a word of it on.
+#[derive(Clone, Copy)]
+pub(crate) enum What {
+    Value,
+    Object,
+    Struct {
+        bytes: usize,
+        first: u32,
+        pointers: u16,
+    },
 }
 
 /// One large segment.
@@ -68,7 +80,7 @@ pub(crate) const WIDE: Setting = Setting {
     levels: 64,
     segments: 1,
     words: 100,
-    paid: false,
+    what: What::Value,
 };
 
 /// A segment for each object.
@@ -77,7 +89,7 @@ pub(crate) const NARROW: Setting = Setting {
     levels: 64,
     segments: 100,
     words: 1,
-    paid: false,
+    what: What::Value,
 };
 
 /// What came of a copy: what it answered, the words granted, the pointers followed, and the words in use of each segment.
@@ -144,19 +156,36 @@ fn copied_over<A: BuilderArena, B: ReaderArena>(
         return Err(Error::from(ErrorKind::OutOfBounds));
     }
     let levels = setting.levels;
-    if setting.paid {
-        let mut before = ReadLimiter::new(None);
-        let object = follow_within(source, &mut before, ROOT, levels)?;
-        return copy_object(
-            arena,
-            ROOT,
-            limiter,
-            source,
-            object,
-            levels.saturating_sub(1),
-        );
+    match setting.what {
+        What::Value => copy_from(arena, ROOT, limiter, source, ROOT, levels),
+        What::Object => {
+            let mut before = ReadLimiter::new(None);
+            let object = follow_within(source, &mut before, ROOT, levels)?;
+            let levels = levels.saturating_sub(1);
+            copy_object(arena, ROOT, limiter, source, object, levels)
+        }
+        What::Struct {
+            bytes,
+            first,
+            pointers,
+        } => {
+            let none = Error::from(ErrorKind::OutOfBounds);
+            let Some(words) = source.get_segment(0) else {
+                return Err(none);
+            };
+            if bytes > 100 || words.len() < 8 + bytes {
+                return Err(none);
+            }
+            let section = &words[8..8 + bytes];
+            let first = Place {
+                segment: 0,
+                position: first as usize,
+            };
+            set_struct(
+                arena, ROOT, limiter, source, section, first, pointers, levels,
+            )
+        }
     }
-    copy_from(arena, ROOT, limiter, source, ROOT, levels)
 }
 
 /// Copies the root of a message over a root that is null or has data.

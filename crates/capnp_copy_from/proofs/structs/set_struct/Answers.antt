@@ -1,0 +1,151 @@
+-- The struct is made of zero words, and linked or given up.
+use Rattle.std.proofs.Common.{◌≡◌, ℕ, ◌+◌, ◌*◌, ◌/◌, ◌≤◌, true, length, replicate, Some, Ok, Err, refl, ap, sym, ◌∙◌, subst, arith}
+use Rattle.std.specs.Option.{is_some}
+use Rattle.std.proofs.lemmas.Result.{err_from_is_err_and}
+use Rattle.capnp_model.specs.Chains.{◌>>=◌}
+use Rattle.capnp_model.specs.Sections.{number_of, words_for}
+use Rattle.capnp_model.specs.Segments.{Segments, Place, words_at}
+use Rattle.capnp_model.specs.Trees.{Tree, structure}
+use Rattle.capnp_model.specs.Traversal.{tree_at, each}
+use Rattle.capnp_model.specs.Coverage.{Grows, from_each}
+use Rattle.capnp_model.specs.Visits.{visits}
+use Rattle.capnp_units.specs.Segments.{words_in}
+use Rattle.capnp_object.specs.Places.{place_view}
+use Rattle.capnp_object.specs.declared.object.Object.TheVariants as object
+use Rattle.capnp_copy.specs.Clearing.{ClearsObject}
+use Rattle.capnp_copy.specs.Rooms.{begin_of, linked}
+use Rattle.capnp_copy.proofs.RoomLaws.{sizes_grow, still_some, room_addressed, room_grows, room_pad, pad_stays, room_near}
+use Rattle.capnp_copy_from.specs.Copies.{Copied, Refused, Fills, ObjectCopied, ObjectRefused, ObjectGives}
+use Rattle.capnp_copy_from.specs.Objects.{copied_words, copied_at, copied_pointer}
+use Rattle.capnp_copy_from.proofs.Allocated.{room_new}
+use Rattle.capnp_copy_from.proofs.Parts.{front_there}
+use Rattle.capnp_copy_from.proofs.Placed.{copied_object, refused_object, no_room, object_refused, struct_fits}
+use Rattle.capnp_copy_from.proofs.SectionBytes.{bytes_grow, section_fills}
+use Rattle.capnp_copy_from.proofs.structs.set_struct.Goals as goal
+
+-- in whole words
+whole : (n : ℕ) → (n + 7) / 8 ≡ words_for (8 * n)
+whole n = omega arith
+
+pub returns-in_err-room-clause-copy : goal.returns-in_err-room-clause-copy
+returns-in_err-room-clause-copy g c =
+    let from : Segments = words_in (g.B.ReaderArena.segments c.args.source.now) in
+    let s : Segments = words_in (g.A.ReaderArena.segments c.args.arena.now) in
+    let u : Segments = words_in (g.A.ReaderArena.segments c.room_for.new.arena) in
+    let r = err_from_is_err_and c.from_residual.result c.from_residual.ensures.1 in
+    let e = c.in_err-room.field-0.0 in
+    subst (λ (d : ℕ). ObjectGives c.args.levels from (object.Struct c.args.first d c.args.pointers) (each (tree_at c.args.levels from) (place_view c.args.first) c.args.pointers >>= λ ts. Some (structure d (number_of 8 c.args.section.now) ts)) (from_each (visits c.args.levels from) (place_view c.args.first) c.args.pointers) s u (place_view c.args.slot) c.args.limiter.now c.from_residual.result c.args.limiter.now) (whole (length c.args.section.now))
+    (object_refused c.args.levels from (object.Struct c.args.first ((length c.args.section.now + 7) / 8) c.args.pointers) (each (tree_at c.args.levels from) (place_view c.args.first) c.args.pointers >>= λ ts. Some (structure ((length c.args.section.now + 7) / 8) (number_of 8 c.args.section.now) ts)) (from_each (visits c.args.levels from) (place_view c.args.first) c.args.pointers) s u (place_view c.args.slot) c.args.limiter.now c.args.limiter.now c.from_residual.result r.0 e r.1 r.2
+    (no_room from s u (object.Struct c.args.first ((length c.args.section.now + 7) / 8) c.args.pointers) (from_each (visits c.args.levels from) (place_view c.args.first) c.args.pointers) c.args.limiter.now e (ap words_in c.in_err-room.ensures.refused) c.in_err-room.ensures.kind))
+
+pub begin_of-start-requires-clause-room : goal.begin_of-start-requires-clause-room
+begin_of-start-requires-clause-room g c =
+    let s : Segments = words_in (g.A.ReaderArena.segments c.args.arena.now) in
+    let m : Segments = words_in (g.A.ReaderArena.segments c.room_for.new.arena) in
+    room_addressed s m (place_view c.args.slot) (((length c.args.section.now + 7) / 8) + c.args.pointers) c.in_ok-room.room c.in_ok-room.ensures.ok
+
+pub write_bytes-requires-clause-near : goal.write_bytes-requires-clause-near
+write_bytes-requires-clause-near g c =
+    let s : Segments = words_in (g.A.ReaderArena.segments c.args.arena.now) in
+    let m : Segments = words_in (g.A.ReaderArena.segments c.room_for.new.arena) in
+    let near = room_near s m (place_view c.args.slot) (((length c.args.section.now + 7) / 8) + c.args.pointers) c.in_ok-room.room c.requires.near.0 c.in_ok-room.ensures.ok in
+    let at : c.begin_of-start.result.position ≡ (begin_of (place_view c.args.slot) c.in_ok-room.room).position = ap (λ (q : Place). q.position) c.begin_of-start.ensures in
+    omega (arith, near, at)
+
+pub write_bytes-requires-clause-there : goal.write_bytes-requires-clause-there
+write_bytes-requires-clause-there g c =
+    let s : Segments = words_in (g.A.ReaderArena.segments c.args.arena.now) in
+    let m : Segments = words_in (g.A.ReaderArena.segments c.room_for.new.arena) in
+    let new = room_new s m (place_view c.args.slot) (((length c.args.section.now + 7) / 8) + c.args.pointers) c.in_ok-room.room c.requires.there c.in_ok-room.ensures.ok in
+    let there = front_there m (begin_of (place_view c.args.slot) c.in_ok-room.room) (((length c.args.section.now + 7) / 8) + c.args.pointers) (ap is_some new.zeros) ((length c.args.section.now + 7) / 8) (omega arith) in
+    subst (λ (q : Place). is_some (words_at m q ((length c.args.section.now + 7) / 8)) ≡ true) (sym c.begin_of-start.ensures) there
+
+pub fill_row-requires-clause-there : goal.fill_row-requires-clause-there
+fill_row-requires-clause-there g c =
+    let s : Segments = words_in (g.A.ReaderArena.segments c.args.arena.now) in
+    let m : Segments = words_in (g.A.ReaderArena.segments c.room_for.new.arena) in
+    let w : Segments = words_in (g.A.ReaderArena.segments c.write_bytes.new.arena) in
+    let r : Place = place_view c.begin_of-start.result in
+    let new = room_new s m (place_view c.args.slot) (((length c.args.section.now + 7) / 8) + c.args.pointers) c.in_ok-room.room c.requires.there c.in_ok-room.ensures.ok in
+    let there : is_some (words_at m r (((length c.args.section.now + 7) / 8) + c.args.pointers)) ≡ true = subst (λ (q : Place). is_some (words_at m q (((length c.args.section.now + 7) / 8) + c.args.pointers)) ≡ true) (sym c.begin_of-start.ensures) (ap is_some new.zeros) in
+    still_some m w r (((length c.args.section.now + 7) / 8) + c.args.pointers) (subst (λ (v : Segments). Grows m v) (sym c.write_bytes.ensures.words) (bytes_grow m r ((length c.args.section.now + 7) / 8) c.args.section.now)) there
+
+pub fill_row-requires-clause-near : goal.fill_row-requires-clause-near
+fill_row-requires-clause-near g c =
+    let s : Segments = words_in (g.A.ReaderArena.segments c.args.arena.now) in
+    let m : Segments = words_in (g.A.ReaderArena.segments c.room_for.new.arena) in
+    let near = room_near s m (place_view c.args.slot) (((length c.args.section.now + 7) / 8) + c.args.pointers) c.in_ok-room.room c.requires.near.0 c.in_ok-room.ensures.ok in
+    let at : c.begin_of-start.result.position ≡ (begin_of (place_view c.args.slot) c.in_ok-room.room).position = ap (λ (q : Place). q.position) c.begin_of-start.ensures in
+    (omega (arith, near, at), c.requires.near.1)
+
+pub link-requires-clause-slot : goal.link-requires-clause-slot
+link-requires-clause-slot g c =
+    let s : Segments = words_in (g.A.ReaderArena.segments c.args.arena.now) in
+    let m : Segments = words_in (g.A.ReaderArena.segments c.room_for.new.arena) in
+    let w : Segments = words_in (g.A.ReaderArena.segments c.write_bytes.new.arena) in
+    let u : Segments = words_in (g.A.ReaderArena.segments c.fill_row.new.arena) in
+    let y : Segments = words_in (g.A.ReaderArena.segments c.clear.new.arena) in
+    let p : Place = place_view c.args.slot in
+    let r : Place = place_view c.begin_of-start.result in
+    let first = room_grows s m p (((length c.args.section.now + 7) / 8) + c.args.pointers) c.in_ok-room.room c.in_ok-room.ensures.ok in
+    let then = subst (λ (v : Segments). Grows m v) (sym c.write_bytes.ensures.words) (bytes_grow m r ((length c.args.section.now + 7) / 8) c.args.section.now) in
+    still_some u y p 1 (sizes_grow u y c.clear.ensures.sizes) (still_some w u p 1 c.in-Ok.ensures.copy.grows (still_some m w p 1 then (still_some s m p 1 first c.requires.there)))
+
+pub link-requires-clause-pad : goal.link-requires-clause-pad
+link-requires-clause-pad g c =
+    let s : Segments = words_in (g.A.ReaderArena.segments c.args.arena.now) in
+    let m : Segments = words_in (g.A.ReaderArena.segments c.room_for.new.arena) in
+    let w : Segments = words_in (g.A.ReaderArena.segments c.write_bytes.new.arena) in
+    let u : Segments = words_in (g.A.ReaderArena.segments c.fill_row.new.arena) in
+    let y : Segments = words_in (g.A.ReaderArena.segments c.clear.new.arena) in
+    let r : Place = place_view c.begin_of-start.result in
+    let room = c.in_ok-room.room in
+    let then = subst (λ (v : Segments). Grows m v) (sym c.write_bytes.ensures.words) (bytes_grow m r ((length c.args.section.now + 7) / 8) c.args.section.now) in
+    pad_stays u y room (sizes_grow u y c.clear.ensures.sizes) (pad_stays w u room c.in-Ok.ensures.copy.grows (pad_stays m w room then (room_pad s m (place_view c.args.slot) (((length c.args.section.now + 7) / 8) + c.args.pointers) c.in_ok-room.room c.in_ok-room.ensures.ok)))
+
+pub link-requires-clause-room : goal.link-requires-clause-room
+link-requires-clause-room g c =
+    let s : Segments = words_in (g.A.ReaderArena.segments c.args.arena.now) in
+    let m : Segments = words_in (g.A.ReaderArena.segments c.room_for.new.arena) in
+    room_addressed s m (place_view c.args.slot) (((length c.args.section.now + 7) / 8) + c.args.pointers) c.in_ok-room.room c.in_ok-room.ensures.ok
+
+pub returns-in-Ok-clause-copy : goal.returns-in-Ok-clause-copy
+returns-in-Ok-clause-copy g c =
+    let from : Segments = words_in (g.B.ReaderArena.segments c.args.source.now) in
+    let s : Segments = words_in (g.A.ReaderArena.segments c.args.arena.now) in
+    let m : Segments = words_in (g.A.ReaderArena.segments c.room_for.new.arena) in
+    let w : Segments = words_in (g.A.ReaderArena.segments c.write_bytes.new.arena) in
+    let u : Segments = words_in (g.A.ReaderArena.segments c.fill_row.new.arena) in
+    let y : Segments = words_in (g.A.ReaderArena.segments c.clear.new.arena) in
+    let z : Segments = words_in (g.A.ReaderArena.segments c.link.new.arena) in
+    let p : Place = place_view c.args.slot in
+    let n = c.args.levels in
+    let room = c.in_ok-room.room in
+    let begins : place_view c.begin_of-start.result ≡ begin_of p c.in_ok-room.room = c.begin_of-start.ensures in
+    let new = room_new s m p (((length c.args.section.now + 7) / 8) + c.args.pointers) c.in_ok-room.room c.requires.there c.in_ok-room.ensures.ok in
+    let zeros = subst (λ (q : Place). words_at m q (((length c.args.section.now + 7) / 8) + c.args.pointers) ≡ Some (replicate (((length c.args.section.now + 7) / 8) + c.args.pointers) 0)) (sym begins) new.zeros in
+    let made = section_fills n from (each (tree_at c.args.levels from) (place_view c.args.first) c.args.pointers) (from_each (visits c.args.levels from) (place_view c.args.first) c.args.pointers) c.args.section.now m w u (place_view c.begin_of-start.result) ((length c.args.section.now + 7) / 8) c.args.pointers c.args.limiter.now c.fill_row.new.limiter (Ok tt) (λ i. let h = c.type_inv.section i in omega (arith, h)) (whole (length c.args.section.now)) zeros c.write_bytes.ensures.words c.in-Ok.ensures.copy in
+    let filled = subst (λ (r : Place). Copied (each (tree_at c.args.levels from) (place_view c.args.first) c.args.pointers >>= λ ts. Some (structure ((length c.args.section.now + 7) / 8) (number_of 8 c.args.section.now) ts)) (from_each (visits c.args.levels from) (place_view c.args.first) c.args.pointers) (λ v. (j : ℕ) → n ≤ j → Fills j m u r (copied_words (object.Struct c.args.first ((length c.args.section.now + 7) / 8) c.args.pointers)) (copied_at r (object.Struct c.args.first ((length c.args.section.now + 7) / 8) c.args.pointers)) v) m u c.args.limiter.now c.fill_row.new.limiter) begins made in
+    let now : z ≡ linked y p room (copied_pointer (object.Struct c.args.first ((length c.args.section.now + 7) / 8) c.args.pointers)) = c.link.ensures.words ∙ ap (linked y p room) c.pointer_word.ensures.word in
+    subst (λ (d : ℕ). ObjectCopied n (object.Struct c.args.first d c.args.pointers) (each (tree_at c.args.levels from) (place_view c.args.first) c.args.pointers >>= λ ts. Some (structure d (number_of 8 c.args.section.now) ts)) (from_each (visits c.args.levels from) (place_view c.args.first) c.args.pointers) s z p c.args.limiter.now c.fill_row.new.limiter) (whole (length c.args.section.now))
+    (copied_object n s m u y z p (object.Struct c.args.first ((length c.args.section.now + 7) / 8) c.args.pointers) room (each (tree_at c.args.levels from) (place_view c.args.first) c.args.pointers >>= λ ts. Some (structure ((length c.args.section.now + 7) / 8) (number_of 8 c.args.section.now) ts)) (from_each (visits c.args.levels from) (place_view c.args.first) c.args.pointers) c.args.limiter.now c.fill_row.new.limiter c.requires.there refl c.in_ok-room.ensures.ok (struct_fits c.args.first ((length c.args.section.now + 7) / 8) c.args.pointers c.in_ok-room.ensures.spelled) filled c.clear.ensures.clears c.clear.ensures.sizes now)
+
+pub returns-in-Err-clause-copy : goal.returns-in-Err-clause-copy
+returns-in-Err-clause-copy g c =
+    let from : Segments = words_in (g.B.ReaderArena.segments c.args.source.now) in
+    let s : Segments = words_in (g.A.ReaderArena.segments c.args.arena.now) in
+    let m : Segments = words_in (g.A.ReaderArena.segments c.room_for.new.arena) in
+    let w : Segments = words_in (g.A.ReaderArena.segments c.write_bytes.new.arena) in
+    let u : Segments = words_in (g.A.ReaderArena.segments c.fill_row.new.arena) in
+    let y : Segments = words_in (g.A.ReaderArena.segments c.clear_object.new.arena) in
+    let p : Place = place_view c.args.slot in
+    let n = c.args.levels in
+    let e = c.in-Err.error in
+    let begins : place_view c.begin_of-start.result ≡ begin_of p c.in_ok-room.room = c.begin_of-start.ensures in
+    let new = room_new s m p (((length c.args.section.now + 7) / 8) + c.args.pointers) c.in_ok-room.room c.requires.there c.in_ok-room.ensures.ok in
+    let zeros = subst (λ (q : Place). words_at m q (((length c.args.section.now + 7) / 8) + c.args.pointers) ≡ Some (replicate (((length c.args.section.now + 7) / 8) + c.args.pointers) 0)) (sym begins) new.zeros in
+    let made = section_fills n from (each (tree_at c.args.levels from) (place_view c.args.first) c.args.pointers) (from_each (visits c.args.levels from) (place_view c.args.first) c.args.pointers) c.args.section.now m w u (place_view c.begin_of-start.result) ((length c.args.section.now + 7) / 8) c.args.pointers c.args.limiter.now c.fill_row.new.limiter (Err e) (λ i. let h = c.type_inv.section i in omega (arith, h)) (whole (length c.args.section.now)) zeros c.write_bytes.ensures.words c.in-Err.ensures.copy in
+    let left = subst (λ (r : Place). Refused from (from_each (visits c.args.levels from) (place_view c.args.first) c.args.pointers) ((t : Tree) × Fills n m u r (copied_words (object.Struct c.args.first ((length c.args.section.now + 7) / 8) c.args.pointers)) (copied_at r (object.Struct c.args.first ((length c.args.section.now + 7) / 8) c.args.pointers)) t) m u c.args.limiter.now e c.fill_row.new.limiter) begins made in
+    let clears : ClearsObject u y (copied_at (begin_of p c.in_ok-room.room) (object.Struct c.args.first ((length c.args.section.now + 7) / 8) c.args.pointers)) = subst (λ (r : Place). ClearsObject u y (copied_at r (object.Struct c.args.first ((length c.args.section.now + 7) / 8) c.args.pointers))) begins (subst (ClearsObject u y) c.copy_at.ensures c.clear_object.ensures.clears) in
+    subst (λ (d : ℕ). ObjectRefused from (object.Struct c.args.first d c.args.pointers) (from_each (visits c.args.levels from) (place_view c.args.first) c.args.pointers) s y c.args.limiter.now e c.fill_row.new.limiter) (whole (length c.args.section.now))
+    (refused_object n from s m u y p (object.Struct c.args.first ((length c.args.section.now + 7) / 8) c.args.pointers) c.in_ok-room.room (from_each (visits c.args.levels from) (place_view c.args.first) c.args.pointers) c.args.limiter.now c.fill_row.new.limiter e c.requires.there c.in_ok-room.ensures.ok left clears c.clear_object.ensures.sizes)
