@@ -5,3 +5,4 @@ pub mod Segments
 pub mod Options
 pub mod Roots
 pub mod Growth
+pub mod Unbuffered

@@ -21,5 +21,8 @@ pub mod serialize;
 pub mod serialize_packed;
 pub mod single;
 pub mod typed;
+pub mod unbuffered;
+#[cfg(test)]
+mod unbuffered_tests;
 
 pub use capnp_stream::{adapters, memory, slice_writer, traits};
