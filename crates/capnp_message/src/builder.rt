@@ -69,7 +69,8 @@ impl<A: Allocator> Builder<A> {
     /// The used bytes of each segment, in order. Memory for the list alone comes from `alloc`; `OutOfMemory`: it was refused.
     pub fn get_segments_for_output(&self, alloc: Global) -> Result<Vec<&[u8]>>
         ensures segments { IfOk result (λ v. map (λ bytes. bytes.now) v.items
-            ≡ used_bytes (λ h. h.used) (λ h. A.Segment.bytes h.segment) self.now.memory.arena.segments.items) }
+            ≡ used_bytes (λ h. h.used) (λ h. A.Segment.bytes h.segment)
+            self.now.memory.arena.segments.items) }
         ensures kind { IfErr result (λ e. e.kind ≡ OutOfMemory) }
     {
         self.memory.arena.get_segments_for_output(alloc)
@@ -86,9 +87,12 @@ impl<A: Allocator> Builder<A> {
 
     /// The allocator, to which every segment was given back. There is one lent slice at most among them and in the allocator.
     pub fn into_allocator(self) -> A
-        requires { length (flat_map (λ h. A.Segment.loans h.segment) self.memory.arena.segments.items ++ A.loans self.memory.arena.allocator) ≤ 1 }
+        requires { length (flat_map (λ h. A.Segment.loans h.segment) self.memory.arena.segments.items
+            ++ A.loans self.memory.arena.allocator) ≤ 1 }
         ensures place { A.place result ≡ A.place self.memory.arena.allocator }
-        ensures loans { A.loans result ≡ flat_map (λ h. A.Segment.loans h.segment) self.memory.arena.segments.items ++ A.loans self.memory.arena.allocator }
+        ensures loans { A.loans result
+            ≡ flat_map (λ h. A.Segment.loans h.segment) self.memory.arena.segments.items
+            ++ A.loans self.memory.arena.allocator }
     {
         let Builder { memory } = self;
         let Memory { arena } = memory;
