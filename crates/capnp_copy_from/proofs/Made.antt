@@ -18,6 +18,7 @@ use Rattle.capnp_units.specs.declared.errors.Error.{Error}
 use Rattle.capnp_units.specs.declared.limiter.ReadLimiter.{ReadLimiter}
 use Rattle.capnp_units.specs.Sizes.{data_bits}
 use Rattle.capnp_object.specs.Inside.{section_at, words_there}
+use Rattle.capnp_footprints.specs.Children.{with_first}
 use Rattle.capnp_footprints.specs.Footprints.{behind, object_footprint, OwnsObject}
 use Rattle.capnp_footprints.specs.Changes.{Changes, ReplacesObject}
 use Rattle.capnp_footprints.specs.NewObjects.{new_structs, zero_elements, Fits}
@@ -31,10 +32,11 @@ use Rattle.capnp_footprints.proofs.Spans.{held, grows_then}
 use Rattle.capnp_footprints.proofs.Splices.{Rewrites, splice_rewrites, splice_words, splice_grows, spliced_whole}
 use Rattle.capnp_footprints.proofs.Writing.{wider, changes_inside, plain_is, plain_tree, struct_data}
 use Rattle.capnp_footprints.proofs.Zeros.{zero_struct, zero_struct_takes}
-use Rattle.capnp_copy_from.specs.Copies.{CopyGives, Fills, FillsStruct, LeavesStruct, FillsRow, FillsElements, LeavesElements}
+use Rattle.capnp_copy_from.specs.Copies.{CopyGives, Fills, FillsStruct, LeavesStruct, FillsRow, LeavesRow, FillsElements, LeavesElements}
 use Rattle.capnp_copy.specs.Allocations.{total_words}
 use Rattle.capnp_copy_from.proofs.Taking.{takes_none, takes_both, written_total}
 use Rattle.capnp_copy_from.proofs.Filling.{fills_of, fills_replaced, held_owned}
+use Rattle.capnp_copy_from.proofs.Rows.{row_whole}
 use Rattle.capnp_copy_from.proofs.Parts.{there_is, there_length, section_is, front_there}
 
 -- ---- words that are written over zeros
@@ -101,21 +103,24 @@ zero_row n s r k z =
     let z' : words_at s r (0 + k) ≡ Some (replicate (0 + k) 0) = subst (λ (m : ℕ). words_at s r m ≡ Some (replicate m 0)) sum z in
     held_owned n s r (0 + k) (a_struct r 0 k) (structure 0 0 (resized k none)) (zero_struct n s r 0 k z') (λ q. zero_struct_takes n s r 0 k q z')
 
-pub pointers_fill : (levels : ℕ) (from : Segments) (there : Option Trees) (path : List Visit) (s u : Segments) (r : Place) (k : ℕ) (old new : ReadLimiter) (x : Result ⊤ Error) → words_at s r k ≡ Some (replicate k 0)
-    → CopyGives from there path (FillsRow levels s u r 0 k) (LeavesStruct levels s u r 0 k) s u old x new
+pub pointers_fill : (levels : ℕ) (b : Segments) (p : Place) (from : Segments) (there : Option Trees) (path : List Visit) (s u : Segments) (r : Place) (k : ℕ) (old new : ReadLimiter) (x : Result ⊤ Error) → words_at s r k ≡ Some (replicate k 0)
+    → CopyGives from there path (FillsRow levels s u r 0 k) (LeavesRow levels b p s u r 0 k) s u old x new
     → CopyGives from (there >>= λ ts. Some (pointer_list ts)) path (λ v. (n : ℕ) → levels ≤ n → Fills n s u r k (a_list r 6 k) v) ((t : Tree) × Fills levels s u r k (a_list r 6 k) t) s u old x new
-pointers_fill levels from there path s u r k old new (Ok x) z g =
+pointers_fill levels b p from there path s u r k old new (Ok x) z g =
     record {
       value = pointer_list g.value;
       there_is = ap (λ (o : Option Trees). o >>= λ ts. Some (pointer_list ts)) g.there_is;
       walked = g.walked;
       grows = g.grows;
       takes = g.takes;
-      made = λ n h. row_fills levels n s u r k 0 g.value z (g.made n 0 (resized k none) h (zero_row n s r k z));
+      made = λ n h. (
+          let all = row_whole n s r 0 k 0 g.value (resized k none) g.made.count (zero_row n s r k z) in
+          row_fills levels n s u r k 0 g.value z (subst (λ (ts : Trees). ReplacesObject n s u (a_struct r 0 k) (structure 0 0 ts)) all (g.made.first n 0 k (resized k none) h (omega arith) (zero_row n s r k z)))
+          );
     }
-pointers_fill levels from there path s u r k old new (Err e) z g =
+pointers_fill levels b p from there path s u r k old new (Err e) z g =
     record {
-      left = (let x = g.left levels 0 (resized k none) (omega arith) (zero_row levels s r k z) in (pointer_list x.1, row_fills levels levels s u r k x.0 x.1 z x.2));
+      left = (pointer_list (with_first g.left.copied g.left.read (resized k none)), row_fills levels levels s u r k 0 (with_first g.left.copied g.left.read (resized k none)) z (g.left.left levels 0 k (resized k none) (omega arith) (omega arith) (zero_row levels s r k z)));
       takes = g.takes;
       why = g.why;
     }
@@ -214,11 +219,11 @@ data_copied n from p s m r d k own kids there here now o =
     subst (λ (v : Segments). ReplacesObject n s v (a_struct r d k) (structure d (section_at from p d) kids)) (sym now) z'
 
 -- whatever was written of the data: the row is filled then
-pub section_copied : (levels : ℕ) (from : Segments) (there : Option Trees) (path : List Visit) (section : ℕ) (s m u : Segments) (r : Place) (d k : ℕ) (old new : ReadLimiter) (x : Result ⊤ Error) → Grows s m → total_words m ≡ total_words s
+pub section_copied : (levels : ℕ) (b : Segments) (q : Place) (from : Segments) (there : Option Trees) (path : List Visit) (section : ℕ) (s m u : Segments) (r : Place) (d k : ℕ) (old new : ReadLimiter) (x : Result ⊤ Error) → Grows s m → total_words m ≡ total_words s
     → ((n own : ℕ) (kids : Trees) → OwnsObject n s (a_struct r d k) (structure d own kids) → ReplacesObject n s m (a_struct r d k) (structure d section kids))
-    → CopyGives from there path (FillsRow levels m u r d k) (LeavesStruct levels m u r d k) m u old x new
+    → CopyGives from there path (FillsRow levels m u r d k) (LeavesRow levels b q m u r d k) m u old x new
     → CopyGives from there path (FillsStruct levels s u r d k section) (LeavesStruct levels s u r d k) s u old x new
-section_copied levels from there path section s m u r d k old new (Ok x) grows same write g =
+section_copied levels b q from there path section s m u r d k old new (Ok x) grows same write g =
     record {
       value = g.value;
       there_is = g.there_is;
@@ -228,24 +233,24 @@ section_copied levels from there path section s m u r d k old new (Ok x) grows s
       made = λ n own kids h o. (
           let first = write n own kids o in
           let mine = object_replaced_owned n s m (a_struct r d k) _ _ o first in
-          object_replaced_then n s m u (a_struct r d k) _ _ first (g.made n section kids h mine)
+          let all = row_whole n m r d k section g.value kids g.made.count mine in
+          object_replaced_then n s m u (a_struct r d k) _ _ first (subst (λ (ts : Trees). ReplacesObject n m u (a_struct r d k) (structure d section ts)) all (g.made.first n section k kids h (omega arith) mine))
           );
     }
-section_copied levels from there path section s m u r d k old new (Err x) grows same write g =
+section_copied levels b q from there path section s m u r d k old new (Err x) grows same write g =
     record {
       left = λ n own kids h o. (
           let first = write n own kids o in
           let mine = object_replaced_owned n s m (a_struct r d k) _ _ o first in
-          let y = g.left n section kids h mine in
-          (y.0, y.1, object_replaced_then n s m u (a_struct r d k) _ _ first y.2)
+          (section, with_first g.left.copied g.left.read kids, object_replaced_then n s m u (a_struct r d k) _ _ first (g.left.left n section k kids h (omega arith) mine))
           );
       takes = takes_both s m u old old new (takes_none s m old same) g.takes;
       why = g.why;
     }
 
-pub struct_copied : (levels : ℕ) (from : Segments) (there : Option Trees) (path : List Visit) (p : Place) (s m u : Segments) (r : Place) (d k : ℕ) (old new : ReadLimiter) (x : Result ⊤ Error) → is_some (words_at from p d) ≡ true → is_some (words_at s r (d + k)) ≡ true → m ≡ with_words s r (words_there from p d)
-    → CopyGives from there path (FillsRow levels m u r d k) (LeavesStruct levels m u r d k) m u old x new
+pub struct_copied : (levels : ℕ) (b : Segments) (q : Place) (from : Segments) (there : Option Trees) (path : List Visit) (p : Place) (s m u : Segments) (r : Place) (d k : ℕ) (old new : ReadLimiter) (x : Result ⊤ Error) → is_some (words_at from p d) ≡ true → is_some (words_at s r (d + k)) ≡ true → m ≡ with_words s r (words_there from p d)
+    → CopyGives from there path (FillsRow levels m u r d k) (LeavesRow levels b q m u r d k) m u old x new
     → CopyGives from there path (FillsStruct levels s u r d k (section_at from p d)) (LeavesStruct levels s u r d k) s u old x new
-struct_copied levels from there path p s m u r d k old new x e f now g =
-    section_copied levels from there path (section_at from p d) s m u r d k old new x (subst (λ (v : Segments). Grows s v) (sym now) (splice_grows s r (words_there from p d))) (ap total_words now ∙ written_total s r (words_there from p d))
+struct_copied levels b q from there path p s m u r d k old new x e f now g =
+    section_copied levels b q from there path (section_at from p d) s m u r d k old new x (subst (λ (v : Segments). Grows s v) (sym now) (splice_grows s r (words_there from p d))) (ap total_words now ∙ written_total s r (words_there from p d))
     (λ n own kids o. data_copied n from p s m r d k own kids e f now o) g

@@ -27,7 +27,7 @@ use Rattle.capnp_copy.specs.Allocations.{total_words}
 use Rattle.capnp_copy.specs.Blobs.{whole_of, last_of, front_of, with_bytes}
 use Rattle.capnp_copy.proofs.RoomLaws.{some_of}
 use Rattle.capnp_copy.proofs.BlobNumbers.{front_words_length, front_section, all_words, number_fits, filled}
-use Rattle.capnp_copy_from.specs.Copies.{CopyGives, Fills, LeavesStruct, FillsRow}
+use Rattle.capnp_copy_from.specs.Copies.{CopyGives, Fills, FillsRow, LeavesRow}
 use Rattle.capnp_copy_from.proofs.Made.{struct_fills, section_copied}
 use Rattle.capnp_copy_from.proofs.Parts as parts
 use Rattle.capnp_copy_from.proofs.Taking.{written_total}
@@ -95,11 +95,11 @@ section_written n m r d k own kids bytes small fit there o = by_cases (ltb (whol
         subst (λ (j : ℕ). ReplacesObject n m (with_words m r (words_in_bytes (whole_of bytes) (front_of bytes))) (a_struct r d k) (structure d j kids)) number first
 
 -- zero words that become a struct of these bytes, and of the pointers that are copied
-pub section_fills : (levels : ℕ) (from : Segments) (there : Option Trees) (path : List Visit) (bytes : List ℕ) (m w u : Segments) (r : Place) (d k : ℕ) (old new : ReadLimiter) (x : Result ⊤ Error) → AreBytes bytes → d ≡ words_for (8 * length bytes) → words_at m r (d + k) ≡ Some (replicate (d + k) 0) → w ≡ with_bytes m r d bytes
-    → CopyGives from there path (FillsRow levels w u r d k) (LeavesStruct levels w u r d k) w u old x new
+pub section_fills : (levels : ℕ) (b : Segments) (p : Place) (from : Segments) (there : Option Trees) (path : List Visit) (bytes : List ℕ) (m w u : Segments) (r : Place) (d k : ℕ) (old new : ReadLimiter) (x : Result ⊤ Error) → AreBytes bytes → d ≡ words_for (8 * length bytes) → words_at m r (d + k) ≡ Some (replicate (d + k) 0) → w ≡ with_bytes m r d bytes
+    → CopyGives from there path (FillsRow levels w u r d k) (LeavesRow levels b p w u r d k) w u old x new
     → CopyGives from (there >>= λ ts. Some (structure d (number_of 8 bytes) ts)) path (λ v. (n : ℕ) → levels ≤ n → Fills n m u r (d + k) (a_struct r d k) v) ((t : Tree) × Fills levels m u r (d + k) (a_struct r d k) t) m u old x new
-section_fills levels from there path bytes m w u r d k old new x small fit zeros now g =
+section_fills levels b p from there path bytes m w u r d k old new x small fit zeros now g =
     let front : is_some (words_at m r d) ≡ true = parts.front_there m r (d + k) (ap is_some zeros) d (omega arith) in
     struct_fills levels from there path (number_of 8 bytes) m u r d k old new x zeros
-    (section_copied levels from there path (number_of 8 bytes) m w u r d k old new x (subst (λ (v : Segments). Grows m v) (sym now) (bytes_grow m r d bytes)) (ap total_words now ∙ bytes_total m r d bytes)
+    (section_copied levels b p from there path (number_of 8 bytes) m w u r d k old new x (subst (λ (v : Segments). Grows m v) (sym now) (bytes_grow m r d bytes)) (ap total_words now ∙ bytes_total m r d bytes)
     (λ n own kids o. subst (λ (v : Segments). ReplacesObject n m v (a_struct r d k) (structure d (number_of 8 bytes) kids)) (sym now) (section_written n m r d k own kids bytes small fit front o)) g)

@@ -4,7 +4,7 @@ use Rattle.capnp_model.specs.Chains.{◌>>=◌}
 use Rattle.capnp_model.specs.Sections.{number_of, words_for}
 use Rattle.capnp_model.specs.Segments.{Segments, Place}
 use Rattle.capnp_model.specs.Pointers.{Object, a_struct, a_list}
-use Rattle.capnp_model.specs.Trees.{Tree, structure, struct_list, Trees, Elements, element_count}
+use Rattle.capnp_model.specs.Trees.{Tree, structure, struct_list, Trees, tree_count, Elements, element_count}
 use Rattle.capnp_model.specs.Traversal.{tree_of, tree_at, each}
 use Rattle.capnp_model.specs.Coverage.{span, times_held, Grows, from_each}
 use Rattle.capnp_model.specs.Visits.{Visit, visits}
@@ -21,6 +21,7 @@ use Rattle.capnp_object.specs.Objects.{object_at}
 use Rattle.capnp_object.specs.Follow.{found_cost}
 use Rattle.capnp_object.specs.Inside.{tree_in, met_in}
 use Rattle.capnp_object.specs.Walks.{Walked, Stopped}
+use Rattle.capnp_footprints.specs.Children.{with_first}
 use Rattle.capnp_footprints.specs.Footprints.{object_footprint, Owns, OwnsObject}
 use Rattle.capnp_footprints.specs.Changes.{Changes, Replaces, ReplacesObject}
 use Rattle.capnp_copy.specs.Allocations.{total_words}
@@ -151,10 +152,18 @@ abbrev pub LeavesStruct : ℕ → Segments → Segments → Place → ℕ → �
 LeavesStruct levels s u r d k =
     (n own : ℕ) (kids : Trees) → levels ≤ n → OwnsObject n s (a_struct r d k) (structure d own kids) → (section : ℕ) × (ts : Trees) × ReplacesObject n s u (a_struct r d k) (structure d section ts)
 
--- Whatever struct is there: its children become these, and its section stays.
-abbrev pub FillsRow : ℕ → Segments → Segments → Place → ℕ → ℕ → Trees → Type 0
-FillsRow levels s u r d k ts =
-    (n own : ℕ) (kids : Trees) → levels ≤ n → OwnsObject n s (a_struct r d k) (structure d own kids) → ReplacesObject n s u (a_struct r d k) (structure d own ts)
+-- Whatever struct is there with no fewer pointers: its first children become these, so many, and the others and its section stay.
+pub record FillsRow (levels : ℕ) (s u : Segments) (r : Place) (d k : ℕ) (ts : Trees) : Type 0 where
+  pub count : tree_count ts ≡ k
+  pub first : (n own w : ℕ) (kids : Trees) → levels ≤ n → k ≤ w → OwnsObject n s (a_struct r d w) (structure d own kids) → ReplacesObject n s u (a_struct r d w) (structure d own (with_first k ts kids))
+
+-- Only some of them did, the first that are read from a place on.
+pub record LeavesRow (levels : ℕ) (from : Segments) (p : Place) (s u : Segments) (r : Place) (d k : ℕ) : Type 0 where
+  pub copied : ℕ
+  pub few : copied ≤ k
+  pub read : Trees
+  pub read_is : each (tree_at levels from) p copied ≡ Some read
+  pub left : (n own w : ℕ) (kids : Trees) → levels ≤ n → k ≤ w → OwnsObject n s (a_struct r d w) (structure d own kids) → ReplacesObject n s u (a_struct r d w) (structure d own (with_first copied read kids))
 
 -- Whatever structs a list has there, so many: they become these.
 abbrev pub FillsElements : ℕ → Segments → Segments → Place → ℕ → ℕ → ℕ → Elements → Type 0

@@ -10,7 +10,7 @@ ghost use Rattle.capnp_units.specs.Segments.{words_in};
 ghost use Rattle.capnp_object.specs.Places.{place_view};
 ghost use Rattle.capnp_object.specs.Objects.{AreThere, IsInside};
 ghost use Rattle.capnp_object.specs.Inside.{tree_in, met_in, section_at, words_there};
-ghost use Rattle.capnp_copy_from.specs.Copies.{BecomesCopy, CopyGives, CopiesValue, CopiesObject, FollowsFew, Fills, FillsStruct, LeavesStruct, FillsRow, FillsElements, LeavesElements};
+ghost use Rattle.capnp_copy_from.specs.Copies.{BecomesCopy, CopyGives, CopiesValue, CopiesObject, FollowsFew, Fills, FillsStruct, LeavesStruct, FillsRow, LeavesRow, FillsElements, LeavesElements};
 ghost use Rattle.capnp_copy_from.specs.Objects.{copied_words, most_counted, copied_at, is_leaf, leaf_value};
 
 use crate::objects::{copy_at, pointer_word, room_for, tag_word};
@@ -162,7 +162,7 @@ fn fill<A: BuilderArena, B: ReaderArena>(
     }
 }
 
-/// Copies so many pointers in a row of a source over those of a struct, whose data words lie before them.
+/// Copies so many pointers in a row of a source over the first of a struct's, whose data words lie before them.
 #[cycle(copy)]
 pub(crate) fn fill_row<A: BuilderArena, B: ReaderArena>(
     arena: &mut A,
@@ -176,7 +176,7 @@ pub(crate) fn fill_row<A: BuilderArena, B: ReaderArena>(
 ) -> Result<()>
     requires there { is_some (words_at (words_in (A.segments arena.old)) (place_view start) (data_words + count)) ≡ true }
     requires near { (start.position + (data_words + count) < 2 ^ 61) × (first.position + count < 2 ^ 62) }
-    ensures copy { let from = words_in (B.segments source.now) in let s = words_in (A.segments arena.old) in let u = words_in (A.segments arena.new) in let r = place_view start in let p = place_view first in CopyGives from (each (tree_at levels from) p count) (from_each (visits levels from) p count) (FillsRow levels s u r data_words count) (LeavesStruct levels s u r data_words count) s u limiter.old result limiter.new }
+    ensures copy { let from = words_in (B.segments source.now) in let s = words_in (A.segments arena.old) in let u = words_in (A.segments arena.new) in let r = place_view start in let p = place_view first in CopyGives from (each (tree_at levels from) p count) (from_each (visits levels from) p count) (FillsRow levels s u r data_words count) (LeavesRow levels from p s u r data_words count) s u limiter.old result limiter.new }
     ensures books { A.books arena.new ≡ A.books arena.old }
 {
     for i in 0..count {

@@ -23,7 +23,7 @@ use Rattle.capnp_footprints.proofs.Splices.{splice_grows}
 use Rattle.capnp_copy.specs.Clearing.{ClearsObject}
 use Rattle.capnp_copy.specs.Rooms.{begin_of, linked}
 use Rattle.capnp_copy.proofs.RoomLaws.{word_there, sizes_grow, still_some, room_addressed, room_grows, room_pad, pad_stays, room_near}
-use Rattle.capnp_copy_from.specs.Copies.{BecomesCopy, GrowsByZeros, Copied, Refused, Fills, LeavesStruct, FillsRow, FillsElements, LeavesElements}
+use Rattle.capnp_copy_from.specs.Copies.{BecomesCopy, GrowsByZeros, Copied, Refused, Fills, FillsRow, LeavesRow, FillsElements, LeavesElements}
 use Rattle.capnp_copy_from.specs.Objects.{copied_words, most_counted, copied_at, copied_pointer}
 use Rattle.capnp_copy_from.proofs.Parts.{section_is, part_there, front_there, part_is}
 use Rattle.capnp_copy_from.proofs.Allocated.{room_new}
@@ -240,7 +240,7 @@ fill-returns-in-PointerList-clause-copy g t c =
     let p : Place = place_view x.from in
     let zeros = subst (λ (o : Object). words_at s r (copied_words o) ≡ Some (replicate (copied_words o) 0)) x.is c.requires.zeros in
     subst (λ (o : Object). FillGives n from s u r o c.args.limiter.now c.fill_row.result c.fill_row.new.limiter) (sym x.is)
-    (pointers_fill n from (each (tree_at n from) p x.count) (from_each (visits n from) p x.count) s u r x.count c.args.limiter.now c.fill_row.new.limiter c.fill_row.result zeros c.fill_row.ensures.copy)
+    (pointers_fill n from p from (each (tree_at n from) p x.count) (from_each (visits n from) p x.count) s u r x.count c.args.limiter.now c.fill_row.new.limiter c.fill_row.result zeros c.fill_row.ensures.copy)
 
 pub fill-returns-in-StructList-clause-copy : goal.fill-returns-in-StructList-clause-copy
 fill-returns-in-StructList-clause-copy g t c =
@@ -376,7 +376,7 @@ fill_row-returns-in_err-copy_from-clause-copy g t c =
     let count = c.args.count in
     let r = err_from_is_err_and c.from_residual.result c.from_residual.ensures.1 in
     let e = c.in_err-copy_from.field-0.0 in
-    refused_is from (each (tree_at n from) p count) (from_each (visits n from) p count) (FillsRow n s w q d count) (LeavesStruct n s w q d count) s w c.args.limiter.now c.copy_from.new.limiter c.from_residual.result r.0 e r.1 r.2
+    refused_is from (each (tree_at n from) p count) (from_each (visits n from) p count) (FillsRow n s w q d count) (LeavesRow n from p s w q d count) s w c.args.limiter.now c.copy_from.new.limiter c.from_residual.result r.0 e r.1 r.2
     (row_stopped n from p count s q d c.args.limiter.now c.loop-i.i u w c.loop-i.limiter c.copy_from.new.limiter c.loop-i-test.true c.loop-i.invariant.0 e c.in_err-copy_from.ensures.copy)
 
 pub fill_row-loop-i-preserved : goal.fill_row-loop-i-preserved
@@ -418,5 +418,5 @@ fill_struct-returns-clause-copy g t c =
     let u : Segments = words_in (g.A.ReaderArena.segments c.fill_row.new.arena) in
     let p : Place = place_view c.args.from in
     let n = c.args.levels in
-    struct_copied n b (each (tree_at n b) (after p c.args.data_words) c.args.pointers) (from_each (visits n b) (after p c.args.data_words) c.args.pointers) p s m u (place_view c.args.start) c.args.data_words c.args.pointers c.args.limiter.now c.fill_row.new.limiter c.fill_row.result
+    struct_copied n b (after p c.args.data_words) b (each (tree_at n b) (after p c.args.data_words) c.args.pointers) (from_each (visits n b) (after p c.args.data_words) c.args.pointers) p s m u (place_view c.args.start) c.args.data_words c.args.pointers c.args.limiter.now c.fill_row.new.limiter c.fill_row.result
     (front_there b p (c.args.data_words + c.args.pointers) c.requires.inside.0 c.args.data_words (omega arith)) c.requires.there c.copy_words.ensures.words c.fill_row.ensures.copy

@@ -124,7 +124,7 @@ returns-in-Ok-clause-copy g c =
     let begins : place_view c.begin_of-start.result ≡ begin_of p c.in_ok-room.room = c.begin_of-start.ensures in
     let new = room_new s m p (((length c.args.section.now + 7) / 8) + c.args.pointers) c.in_ok-room.room c.requires.there c.in_ok-room.ensures.ok in
     let zeros = subst (λ (q : Place). words_at m q (((length c.args.section.now + 7) / 8) + c.args.pointers) ≡ Some (replicate (((length c.args.section.now + 7) / 8) + c.args.pointers) 0)) (sym begins) new.zeros in
-    let made = section_fills n from (each (tree_at c.args.levels from) (place_view c.args.first) c.args.pointers) (from_each (visits c.args.levels from) (place_view c.args.first) c.args.pointers) c.args.section.now m w u (place_view c.begin_of-start.result) ((length c.args.section.now + 7) / 8) c.args.pointers c.args.limiter.now c.fill_row.new.limiter (Ok tt) (λ i. let h = c.type_inv.section i in omega (arith, h)) (whole (length c.args.section.now)) zeros c.write_bytes.ensures.words c.in-Ok.ensures.copy in
+    let made = section_fills n from (place_view c.args.first) from (each (tree_at c.args.levels from) (place_view c.args.first) c.args.pointers) (from_each (visits c.args.levels from) (place_view c.args.first) c.args.pointers) c.args.section.now m w u (place_view c.begin_of-start.result) ((length c.args.section.now + 7) / 8) c.args.pointers c.args.limiter.now c.fill_row.new.limiter (Ok tt) (λ i. let h = c.type_inv.section i in omega (arith, h)) (whole (length c.args.section.now)) zeros c.write_bytes.ensures.words c.in-Ok.ensures.copy in
     let filled = subst (λ (r : Place). Copied (each (tree_at c.args.levels from) (place_view c.args.first) c.args.pointers >>= λ ts. Some (structure ((length c.args.section.now + 7) / 8) (number_of 8 c.args.section.now) ts)) (from_each (visits c.args.levels from) (place_view c.args.first) c.args.pointers) (λ v. (j : ℕ) → n ≤ j → Fills j m u r (copied_words (object.Struct c.args.first ((length c.args.section.now + 7) / 8) c.args.pointers)) (copied_at r (object.Struct c.args.first ((length c.args.section.now + 7) / 8) c.args.pointers)) v) m u c.args.limiter.now c.fill_row.new.limiter) begins made in
     let now : z ≡ linked y p room (copied_pointer (object.Struct c.args.first ((length c.args.section.now + 7) / 8) c.args.pointers)) = c.link.ensures.words ∙ ap (linked y p room) c.pointer_word.ensures.word in
     subst (λ (d : ℕ). ObjectCopied n (object.Struct c.args.first d c.args.pointers) (each (tree_at c.args.levels from) (place_view c.args.first) c.args.pointers >>= λ ts. Some (structure d (number_of 8 c.args.section.now) ts)) (from_each (visits c.args.levels from) (place_view c.args.first) c.args.pointers) s z p c.args.limiter.now c.fill_row.new.limiter) (whole (length c.args.section.now))
@@ -144,7 +144,7 @@ returns-in-Err-clause-copy g c =
     let begins : place_view c.begin_of-start.result ≡ begin_of p c.in_ok-room.room = c.begin_of-start.ensures in
     let new = room_new s m p (((length c.args.section.now + 7) / 8) + c.args.pointers) c.in_ok-room.room c.requires.there c.in_ok-room.ensures.ok in
     let zeros = subst (λ (q : Place). words_at m q (((length c.args.section.now + 7) / 8) + c.args.pointers) ≡ Some (replicate (((length c.args.section.now + 7) / 8) + c.args.pointers) 0)) (sym begins) new.zeros in
-    let made = section_fills n from (each (tree_at c.args.levels from) (place_view c.args.first) c.args.pointers) (from_each (visits c.args.levels from) (place_view c.args.first) c.args.pointers) c.args.section.now m w u (place_view c.begin_of-start.result) ((length c.args.section.now + 7) / 8) c.args.pointers c.args.limiter.now c.fill_row.new.limiter (Err e) (λ i. let h = c.type_inv.section i in omega (arith, h)) (whole (length c.args.section.now)) zeros c.write_bytes.ensures.words c.in-Err.ensures.copy in
+    let made = section_fills n from (place_view c.args.first) from (each (tree_at c.args.levels from) (place_view c.args.first) c.args.pointers) (from_each (visits c.args.levels from) (place_view c.args.first) c.args.pointers) c.args.section.now m w u (place_view c.begin_of-start.result) ((length c.args.section.now + 7) / 8) c.args.pointers c.args.limiter.now c.fill_row.new.limiter (Err e) (λ i. let h = c.type_inv.section i in omega (arith, h)) (whole (length c.args.section.now)) zeros c.write_bytes.ensures.words c.in-Err.ensures.copy in
     let left = subst (λ (r : Place). Refused from (from_each (visits c.args.levels from) (place_view c.args.first) c.args.pointers) ((t : Tree) × Fills n m u r (copied_words (object.Struct c.args.first ((length c.args.section.now + 7) / 8) c.args.pointers)) (copied_at r (object.Struct c.args.first ((length c.args.section.now + 7) / 8) c.args.pointers)) t) m u c.args.limiter.now e c.fill_row.new.limiter) begins made in
     let clears : ClearsObject u y (copied_at (begin_of p c.in_ok-room.room) (object.Struct c.args.first ((length c.args.section.now + 7) / 8) c.args.pointers)) = subst (λ (r : Place). ClearsObject u y (copied_at r (object.Struct c.args.first ((length c.args.section.now + 7) / 8) c.args.pointers))) begins (subst (ClearsObject u y) c.copy_at.ensures c.clear_object.ensures.clears) in
     subst (λ (d : ℕ). ObjectRefused from (object.Struct c.args.first d c.args.pointers) (from_each (visits c.args.levels from) (place_view c.args.first) c.args.pointers) s y c.args.limiter.now e c.fill_row.new.limiter) (whole (length c.args.section.now))
