@@ -1,21 +1,17 @@
 -- A default in place of null, and what is made of it.
-use Rattle.std.proofs.Common.{◌≡◌, ℕ, zero, suc, ◌+◌, ◌≤◌, ◌==◌, ◌||◌, not, unwrap_or, if◌then◌else◌, Bool, true, false, List, Option, Some, None, Result, Ok, Err, IfOk, refl, ap, sym, ◌∙◌, subst, arith}
+use Rattle.std.proofs.Common.{◌≡◌, ℕ, zero, suc, ◌+◌, ◌≤◌, ◌==◌, ◌||◌, not, unwrap_or, if◌then◌else◌, Bool, true, false, List, Option, Some, None, Result, Ok, refl, ap, sym, subst, arith}
 use Rattle.std.specs.Bool.{⊤}
 use Rattle.std.specs.Option.{ok_or}
 use Rattle.capnp_model.specs.Kinds.{Kind, OutOfBounds}
 use Rattle.capnp_model.specs.Chains.{◌and_then◌}
 use Rattle.capnp_model.specs.Segments.{Segments, Place, root, word_at}
-use Rattle.capnp_model.specs.Pointers.{Object, nothing, a_struct, Found, found_by, pointer_of}
+use Rattle.capnp_model.specs.Pointers.{nothing, a_struct, Found, found_by, pointer_of}
 use Rattle.capnp_model.specs.Trees.{Tree, widened}
 use Rattle.capnp_footprints.specs.Footprints.{Owns}
 use Rattle.capnp_footprints.specs.Changes.{Replaces}
 use Rattle.capnp_copy_from.specs.Defaults.{WritesDefault, is_null_at}
 use Rattle.capnp_widening.specs.Widened.{Widens, IsWide}
 use Rattle.capnp_builders.specs.Gets.{Begins, in_place, begun, Gets}
-
-pub ok_then : {X E : Type 0} (P Q : X → Type 0) → ((x : X) → P x → Q x) → (r : Result X E) → IfOk r P → IfOk r Q
-ok_then P Q f (Ok x) h = f x h
-ok_then P Q f (Err e) h = tt
 
 -- what the laws of changes say
 pub record Laws : Type 0 where
@@ -79,9 +75,3 @@ kept_if f s m p x e w = (w.kept (kept_by false (is_null_at f root) f s p e refl 
 pub wide_stays : (default : Option (List (List ℕ))) (s m : Segments) (p : Place) (d k : ℕ) (x : ⊤) → Begins default s m p (Ok x) → IsWide s p d k → m ≡ s
 wide_stays None s m p d k x b w = b.0
 wide_stays (Some words) s m p d k x b w = kept_if _ s m p x (struct_named s p w.0 w.3.0 w.1 w.2 (word_at s p) w.3.1) b
-
--- ---- answers
-
-pub always : {X E P : Type 0} → P → (r : Result X E) → IfOk r (λ _. P)
-always h (Ok x) = h
-always h (Err e) = tt

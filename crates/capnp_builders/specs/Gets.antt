@@ -1,12 +1,13 @@
 -- Values that are got, with a default in place of null. (Encoding, "Default Values")
-use Rattle.std.specs.Prelude.{◌≡◌, ◌⊎◌, ⊤, ℕ, ◌+◌, Bool, true, false, List, Option, Some, None, Result, Ok, Err}
+use Rattle.std.specs.Prelude.{◌≡◌, ◌⊎◌, ⊤, ℕ, ◌+◌, ◌≤◌, Bool, true, false, List, Option, Some, None, Result, Ok, Err}
 use Rattle.capnp_model.specs.Kinds.{Kind}
 use Rattle.capnp_model.specs.Chains.{◌and_then◌}
-use Rattle.capnp_model.specs.Segments.{Segments, Place, root}
+use Rattle.capnp_model.specs.Segments.{Segments, Place, root, word_at}
 use Rattle.capnp_model.specs.Trees.{Tree, widened}
 use Rattle.capnp_model.specs.Traversal.{tree_at}
 use Rattle.capnp_units.specs.declared.errors.Error.{Error}
 use Rattle.capnp_units.specs.declared.sizes.ElementSize.{ElementSize}
+use Rattle.capnp_units.specs.declared.sizes.StructSize.{StructSize}
 use Rattle.capnp_units.specs.Errors.{kind_of}
 use Rattle.capnp_object.specs.declared.place.Place as code
 use Rattle.capnp_object.specs.Objects.{object_at}
@@ -14,8 +15,12 @@ use Rattle.capnp_wire.specs.Places.{place_view}
 use Rattle.capnp_footprints.specs.Footprints.{Owns}
 use Rattle.capnp_footprints.specs.Changes.{Replaces}
 use Rattle.capnp_copy_from.specs.Defaults.{WritesDefault, default_segments, is_null_at}
+use Rattle.capnp_copy.specs.Lists.{list_at}
+use Rattle.capnp_copy.specs.Structs.{struct_at}
+use Rattle.capnp_copy.specs.Values.{LeadsTo}
+use Rattle.capnp_copy.specs.declared.fields.StructPlace.{StructPlace}
 use Rattle.capnp_copy.specs.declared.init.ListPlace.{ListPlace}
-use Rattle.capnp_widening.specs.Widened.{StructRefused}
+use Rattle.capnp_widening.specs.Widened.{IsWide, StructRefused}
 use Rattle.capnp_widening.specs.Got.{list_in}
 
 -- A default, where there is one, is written in place of null; else all stands as it was.
@@ -38,13 +43,30 @@ begun (Some words) s p t = in_place (is_null_at s p) (is_null_at (default_segmen
 abbrev pub Gets : Option (List (List ℕ)) → Segments → Segments → Place → (Tree → Tree) → Type 0
 Gets default s u p made = (n : ℕ) (t : Tree) → Owns n s p t → (v : Tree) × (begun default s p t ≡ Some v) × Replaces (n + 65) s u p (made v)
 
+-- A struct of at least these sizes is got: the default is written first, and then what is there widened, where it is narrower; the answered place is where the pointer leads.
+pub record StructGot (default : Option (List (List ℕ))) (s u : Segments) (p : Place) (size : StructSize) (o : StructPlace) : Type 0 where
+  pub begun_with : Segments
+  pub begins : Begins default s begun_with p (Ok tt)
+  pub stays : IsWide begun_with p size.data_words size.pointers → u ≡ begun_with
+  pub wide : IsWide s p size.data_words size.pointers → u ≡ s
+  pub value : Gets default s u p (widened size.data_words size.pointers)
+  pub object : LeadsTo u p (struct_at o)
+  pub enough : (size.data_words ≤ o.data_words) × (size.pointers ≤ o.pointers)
+
 -- Why no struct of at least these sizes is given, and what stands then: the default is refused; or it stands, where there was one to write, and what is there is refused.
-abbrev pub NoStructGot : Option (List (List ℕ)) → Segments → Segments → Place → ℕ → ℕ → Error → Type 0
-NoStructGot default s u p d k e = Begins default s u p (Err e) ⊎ (Begins default s u p (Ok tt) × StructRefused u (object_at u p) d k e)
+abbrev pub NoStructGot : Option (List (List ℕ)) → Segments → Segments → Place → StructSize → Error → Type 0
+NoStructGot default s u p size e = Begins default s u p (Err e) ⊎ (Begins default s u p (Ok tt) × StructRefused u (object_at u p) size.data_words size.pointers e)
 
 -- The list that the pointer at a place names, where elements of a size are expected, else the kind of the fault.
 abbrev pub list_named : Segments → code.Place → ElementSize → Result ListPlace Kind
 list_named s slot expected = object_at s (place_view slot) and_then λ f. list_in slot expected f.object
+
+-- A list is got: the default is written, and nothing else; the answered place is where the pointer leads, null the empty list at the pointer itself.
+pub record ListGot (default : Option (List (List ℕ))) (s u : Segments) (slot : code.Place) (expected : ElementSize) (o : ListPlace) : Type 0 where
+  pub begins : Begins default s u (place_view slot) (Ok tt)
+  pub value : Gets default s u (place_view slot) (λ v. v)
+  pub list : list_named u slot expected ≡ Ok o
+  pub object : (word_at u (place_view slot) ≡ Some 0) ⊎ LeadsTo u (place_view slot) (list_at o)
 
 -- Why no list is given, and what stands then, as of structs.
 abbrev pub NoListGot : Option (List (List ℕ)) → Segments → Segments → code.Place → ElementSize → Error → Type 0

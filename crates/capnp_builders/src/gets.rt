@@ -1,17 +1,12 @@
 //! Values that are got where a pointer names them, with a default in place of null.
-ghost use Rattle.std.specs.Prelude.{◌≡◌, ◌⊎◌, ◌+◌, ◌<◌, ◌≤◌, ◌^◌, true, Some, Ok, option_copied, IfOk, IfErr};
+ghost use Rattle.std.specs.Prelude.{◌≡◌, ◌+◌, ◌<◌, ◌^◌, true, option_copied, IfOk, IfErr};
 ghost use Rattle.std.specs.Borrow.{sem, RestsIfErr};
 ghost use Rattle.std.specs.Option.{is_some};
-ghost use Rattle.capnp_model.specs.Segments.{word_at, words_at};
-ghost use Rattle.capnp_model.specs.Trees.{widened};
+ghost use Rattle.capnp_model.specs.Segments.{words_at};
 ghost use Rattle.capnp_units.specs.Segments.{words_in};
 ghost use Rattle.capnp_wire.specs.Places.{place_view};
-ghost use Rattle.capnp_copy.specs.Lists.{list_at};
-ghost use Rattle.capnp_copy.specs.Structs.{struct_at};
-ghost use Rattle.capnp_copy.specs.Values.{LeadsTo};
 ghost use Rattle.capnp_copy.specs.contracts.arena.Memory.{the_row};
-ghost use Rattle.capnp_widening.specs.Widened.{IsWide};
-ghost use Rattle.capnp_builders.specs.Gets.{Begins, Gets, NoStructGot, list_named, NoListGot};
+ghost use Rattle.capnp_builders.specs.Gets.{Begins, StructGot, NoStructGot, ListGot, NoListGot};
 
 use crate::list_builder::ListBuilder;
 use crate::pointer_builder::PointerBuilder;
@@ -20,7 +15,6 @@ use capnp_copy::arena::BuilderArena;
 use capnp_copy::fields::StructPlace;
 use capnp_copy::init::ListPlace;
 use capnp_copy_from::defaults::write_default;
-use capnp_copy_from::laws::values_after_copies;
 use capnp_footprints::laws::{changes_of_values, changes_with_more_levels};
 use capnp_units::errors::Result;
 use capnp_units::sizes::{ElementSize, StructSize, Word};
@@ -30,7 +24,8 @@ use capnp_wire::place::Place;
 
 /// Puts a copy of a default, where there is one, in place of null, as `write_default`.
 fn begin<A: BuilderArena>(arena: &mut A, slot: Place, default: Option<&[Word]>) -> Result<()>
-    requires there { is_some (words_at (words_in (A.segments arena.old)) (place_view slot) 1) ≡ true }
+    requires there { is_some (words_at (words_in (A.segments arena.old))
+        (place_view slot) 1) ≡ true }
     requires near { slot.position < 2 ^ 61 }
     ensures begins { Begins (option_copied default.entry) (words_in (A.segments arena.old))
         (words_in (A.segments arena.new)) (place_view slot) result }
@@ -49,20 +44,20 @@ fn struct_here<A: BuilderArena>(
     size: StructSize,
     default: Option<&[Word]>,
 ) -> Result<StructPlace>
-    requires there { is_some (words_at (words_in (A.segments arena.old)) (place_view slot) 1) ≡ true }
+    requires there { is_some (words_at (words_in (A.segments arena.old))
+        (place_view slot) 1) ≡ true }
     requires near { slot.position < 2 ^ 61 }
-    ensures value { IfOk result (λ o. Gets (option_copied default.entry) (words_in (A.segments arena.old)) (words_in (A.segments arena.new)) (place_view slot) (widened size.data_words size.pointers)) }
-    ensures object { IfOk result (λ o. LeadsTo (words_in (A.segments arena.new)) (place_view slot) (struct_at o)) }
-    ensures size { IfOk result (λ o. (size.data_words ≤ o.data_words) × (size.pointers ≤ o.pointers)) }
-    ensures wide { IsWide (words_in (A.segments arena.old)) (place_view slot) size.data_words size.pointers → words_in (A.segments arena.new) ≡ words_in (A.segments arena.old) }
-    ensures there { IfOk result (λ o. is_some (words_at (words_in (A.segments arena.new)) (place_view o.start) (o.data_words + o.pointers)) ≡ true) }
+    ensures got { IfOk result (StructGot (option_copied default.entry)
+        (words_in (A.segments arena.old)) (words_in (A.segments arena.new)) (place_view slot) size) }
+    ensures there { IfOk result (λ o. is_some (words_at (words_in (A.segments arena.new))
+        (place_view o.start) (o.data_words + o.pointers)) ≡ true) }
     ensures near { IfOk result (λ o. o.start.position + (o.data_words + o.pointers) < 2 ^ 61) }
-    ensures refused { IfErr result (NoStructGot (option_copied default.entry) (words_in (A.segments arena.old)) (words_in (A.segments arena.new)) (place_view slot) size.data_words size.pointers) }
+    ensures refused { IfErr result (NoStructGot (option_copied default.entry)
+        (words_in (A.segments arena.old)) (words_in (A.segments arena.new)) (place_view slot) size) }
     ensures books { A.books arena.new ≡ A.books arena.old }
 {
     changes_of_values();
     changes_with_more_levels();
-    values_after_copies();
     begin(arena, slot, default)?;
     get_struct(arena, slot, size)
 }
@@ -74,12 +69,13 @@ fn list_here<A: BuilderArena>(
     expected: ElementSize,
     default: Option<&[Word]>,
 ) -> Result<ListPlace>
-    requires there { is_some (words_at (words_in (A.segments arena.old)) (place_view slot) 1) ≡ true }
+    requires there { is_some (words_at (words_in (A.segments arena.old))
+        (place_view slot) 1) ≡ true }
     requires near { slot.position < 2 ^ 61 }
-    ensures value { IfOk result (λ o. Gets (option_copied default.entry) (words_in (A.segments arena.old)) (words_in (A.segments arena.new)) (place_view slot) (λ v. v)) }
-    ensures list { IfOk result (λ o. list_named (words_in (A.segments arena.new)) slot expected ≡ Ok o) }
-    ensures object { IfOk result (λ o. (word_at (words_in (A.segments arena.new)) (place_view slot) ≡ Some 0) ⊎ LeadsTo (words_in (A.segments arena.new)) (place_view slot) (list_at o)) }
-    ensures refused { IfErr result (NoListGot (option_copied default.entry) (words_in (A.segments arena.old)) (words_in (A.segments arena.new)) slot expected) }
+    ensures got { IfOk result (ListGot (option_copied default.entry)
+        (words_in (A.segments arena.old)) (words_in (A.segments arena.new)) slot expected) }
+    ensures refused { IfErr result (NoListGot (option_copied default.entry)
+        (words_in (A.segments arena.old)) (words_in (A.segments arena.new)) slot expected) }
     ensures books { A.books arena.new ≡ A.books arena.old }
 {
     changes_of_values();
@@ -97,22 +93,30 @@ impl<'a, A: BuilderArena> PointerBuilder<'a, A> {
         size: StructSize,
         default: Option<&[Word]>,
     ) -> Result<StructBuilder<'a, A>>
-        requires there { is_some (words_at (words_in (A.segments self.memory.now.arena)) (place_view self.place) 1) ≡ true }
+        requires there { is_some (words_at (words_in (A.segments self.memory.now.arena))
+            (place_view self.place) 1) ≡ true }
         requires near { self.place.position < 2 ^ 61 }
         ensures same { IfOk result (λ o. o.memory.ghost_name ≡ self.entry.memory.ghost_name) }
-        ensures value { IfOk result (λ o. Gets (option_copied default.entry) (words_in (A.segments self.entry.memory.now.arena)) (words_in (A.segments o.memory.now.arena)) (place_view self.entry.place) (widened size.data_words size.pointers)) }
-        ensures object { IfOk result (λ o. LeadsTo (words_in (A.segments o.memory.now.arena)) (place_view self.entry.place) (struct_at o.place)) }
-        ensures size { IfOk result (λ o. (size.data_words ≤ o.place.data_words) × (size.pointers ≤ o.place.pointers)) }
-        ensures wide { IfOk result (λ o. IsWide (words_in (A.segments self.entry.memory.now.arena)) (place_view self.entry.place) size.data_words size.pointers → words_in (A.segments o.memory.now.arena) ≡ words_in (A.segments self.entry.memory.now.arena)) }
-        ensures there { IfOk result (λ o. is_some (words_at (words_in (A.segments o.memory.now.arena)) (place_view o.place.start) (o.place.data_words + o.place.pointers)) ≡ true) }
-        ensures near { IfOk result (λ o. o.place.start.position + (o.place.data_words + o.place.pointers) < 2 ^ 61) }
-        ensures books { IfOk result (λ o. A.books o.memory.now.arena ≡ A.books self.entry.memory.now.arena) }
-        ensures* refused { sem 𝓛 (RestsIfErr (the_row A.row) self.entry.memory (λ o. o.memory.ghost_name) result (λ n. IfErr result (NoStructGot (option_copied default.entry) (words_in (A.segments self.entry.memory.now.arena)) (words_in (A.segments n.arena)) (place_view self.entry.place) size.data_words size.pointers) × (A.books n.arena ≡ A.books self.entry.memory.now.arena))) }
+        ensures got { IfOk result (λ o. StructGot (option_copied default.entry)
+            (words_in (A.segments self.entry.memory.now.arena))
+            (words_in (A.segments o.memory.now.arena)) (place_view self.entry.place) size o.place) }
+        ensures there { IfOk result (λ o. is_some (words_at (words_in (A.segments o.memory.now.arena))
+            (place_view o.place.start) (o.place.data_words + o.place.pointers)) ≡ true) }
+        ensures near { IfOk result (λ o.
+            o.place.start.position + (o.place.data_words + o.place.pointers) < 2 ^ 61) }
+        ensures books { IfOk result (λ o.
+            A.books o.memory.now.arena ≡ A.books self.entry.memory.now.arena) }
+        ensures* refused { sem 𝓛 (RestsIfErr (the_row A.row) self.entry.memory
+            (λ o. o.memory.ghost_name) result (λ n. IfErr result (NoStructGot
+            (option_copied default.entry) (words_in (A.segments self.entry.memory.now.arena))
+            (words_in (A.segments n.arena)) (place_view self.entry.place) size)
+            × (A.books n.arena ≡ A.books self.entry.memory.now.arena))) }
     {
         let PointerBuilder { memory, place } = self;
         let place = struct_here(&mut memory.arena, place, size, default)?;
         Ok(StructBuilder { memory, place })
     }
+
     /// The list that the pointer names, near or far, with elements that can be read as ones of the size, as readers take them. In place of null the default is written, where there is one and its root isn't null, else the list is empty, of that size, at the pointer itself.
     ///
     /// It is refused as `write_default` is; then by the fault of what is there, with `WrongPointerKind` where it isn't a list, and with `WrongElementSize` where the elements can't be read so. Then all words stand as they were, and new ones are zero; only where the default was written, and is refused as a list, the default stands.
@@ -121,14 +125,20 @@ impl<'a, A: BuilderArena> PointerBuilder<'a, A> {
         element_size: ElementSize,
         default: Option<&[Word]>,
     ) -> Result<ListBuilder<'a, A>>
-        requires there { is_some (words_at (words_in (A.segments self.memory.now.arena)) (place_view self.place) 1) ≡ true }
+        requires there { is_some (words_at (words_in (A.segments self.memory.now.arena))
+            (place_view self.place) 1) ≡ true }
         requires near { self.place.position < 2 ^ 61 }
         ensures same { IfOk result (λ o. o.memory.ghost_name ≡ self.entry.memory.ghost_name) }
-        ensures value { IfOk result (λ o. Gets (option_copied default.entry) (words_in (A.segments self.entry.memory.now.arena)) (words_in (A.segments o.memory.now.arena)) (place_view self.entry.place) (λ v. v)) }
-        ensures list { IfOk result (λ o. list_named (words_in (A.segments o.memory.now.arena)) self.entry.place element_size ≡ Ok o.place) }
-        ensures object { IfOk result (λ o. (word_at (words_in (A.segments o.memory.now.arena)) (place_view self.entry.place) ≡ Some 0) ⊎ LeadsTo (words_in (A.segments o.memory.now.arena)) (place_view self.entry.place) (list_at o.place)) }
-        ensures books { IfOk result (λ o. A.books o.memory.now.arena ≡ A.books self.entry.memory.now.arena) }
-        ensures* refused { sem 𝓛 (RestsIfErr (the_row A.row) self.entry.memory (λ o. o.memory.ghost_name) result (λ n. IfErr result (NoListGot (option_copied default.entry) (words_in (A.segments self.entry.memory.now.arena)) (words_in (A.segments n.arena)) self.entry.place element_size) × (A.books n.arena ≡ A.books self.entry.memory.now.arena))) }
+        ensures got { IfOk result (λ o. ListGot (option_copied default.entry)
+            (words_in (A.segments self.entry.memory.now.arena))
+            (words_in (A.segments o.memory.now.arena)) self.entry.place element_size o.place) }
+        ensures books { IfOk result (λ o.
+            A.books o.memory.now.arena ≡ A.books self.entry.memory.now.arena) }
+        ensures* refused { sem 𝓛 (RestsIfErr (the_row A.row) self.entry.memory
+            (λ o. o.memory.ghost_name) result (λ n. IfErr result (NoListGot
+            (option_copied default.entry) (words_in (A.segments self.entry.memory.now.arena))
+            (words_in (A.segments n.arena)) self.entry.place element_size)
+            × (A.books n.arena ≡ A.books self.entry.memory.now.arena))) }
     {
         let PointerBuilder { memory, place } = self;
         let place = list_here(&mut memory.arena, place, element_size, default)?;

@@ -1,22 +1,34 @@
-use Rattle.std.proofs.Common.{◌≡◌, ap, sym, ◌∙◌, subst, option_copied}
-use Rattle.capnp_model.specs.Segments.{Segments}
-use Rattle.capnp_model.specs.Trees.{widened}
+use Rattle.std.proofs.Common.{◌≡◌, ℕ, ◌≤◌, List, Option, Result, Ok, Err, IfOk, ap, sym, ◌∙◌, subst, option_copied}
+use Rattle.capnp_model.specs.Segments.{Segments, Place}
+use Rattle.capnp_units.specs.declared.sizes.StructSize.{StructSize}
 use Rattle.capnp_units.specs.Segments.{words_in}
 use Rattle.capnp_wire.specs.Places.{place_view}
+use Rattle.capnp_copy.specs.Structs.{struct_at}
+use Rattle.capnp_copy.specs.Values.{LeadsTo}
+use Rattle.capnp_copy.specs.declared.fields.StructPlace.{StructPlace}
 use Rattle.capnp_widening.specs.Widened.{Widens, IsWide}
-use Rattle.capnp_builders.specs.Gets.{Gets}
-use Rattle.capnp_builders.proofs.Begun.{Laws, ok_then, widened_then, wide_stays}
+use Rattle.capnp_builders.specs.Gets.{Begins, StructGot}
+use Rattle.capnp_builders.proofs.Begun.{Laws, widened_then, wide_stays}
 use Rattle.capnp_builders.proofs.gets.struct_here.Goals as goal
 
-pub returns-clause-value : goal.returns-clause-value
-returns-clause-value g c =
+got_by : {E : Type 0} (l : Laws) (default : Option (List (List ℕ))) (s m u : Segments) (p : Place) (size : StructSize) → Begins default s m p (Ok tt) → (IsWide m p size.data_words size.pointers → u ≡ m) → (r : Result StructPlace E) → IfOk r (λ o. Widens m u p size.data_words size.pointers) → IfOk r (λ o. LeadsTo u p (struct_at o)) → IfOk r (λ o. (size.data_words ≤ o.data_words) × (size.pointers ≤ o.pointers)) → IfOk r (StructGot default s u p size)
+got_by l default s m u p size b stays (Err e) w o z = tt
+got_by l default s m u p size b stays (Ok x) w o z =
+    record {
+      begun_with = m;
+      begins = b;
+      stays = stays;
+      wide = λ wide. (let e : m ≡ s = wide_stays default s m p size.data_words size.pointers tt b wide in stays (subst (λ (x : Segments). IsWide x p size.data_words size.pointers) (sym e) wide) ∙ e);
+      value = widened_then l default s m u p size.data_words size.pointers tt b w;
+      object = o;
+      enough = z;
+    }
+
+pub returns-clause-got : goal.returns-clause-got
+returns-clause-got g c =
     let s : Segments = words_in (g.A.ReaderArena.segments c.args.arena.now) in
     let m : Segments = words_in (g.A.ReaderArena.segments c.begin.new.arena) in
     let u : Segments = words_in (g.A.ReaderArena.segments c.get_struct.new.arena) in
-    let p = place_view c.args.slot in
-    let default = option_copied c.args.default in
-    let d = c.args.size.data_words in
-    let k = c.args.size.pointers in
     let laws : Laws = record {
       none = c.changes_of_values.ensures.none;
       again = c.changes_of_values.ensures.again;
@@ -24,14 +36,5 @@ returns-clause-value g c =
       more_owned = c.changes_with_more_levels.ensures.owned;
       more_replaced = c.changes_with_more_levels.ensures.replaced;
     } in
-    ok_then (λ o. Widens m u p d k) (λ o. Gets default s u p (widened d k)) (λ o w. widened_then laws default s m u p d k c.in_ok-begin.field-0 c.in_ok-begin.ensures.begins w) c.get_struct.result c.get_struct.ensures.value
-
-pub returns-clause-wide : goal.returns-clause-wide
-returns-clause-wide g c = λ wide.
-    let s : Segments = words_in (g.A.ReaderArena.segments c.args.arena.now) in
-    let m : Segments = words_in (g.A.ReaderArena.segments c.begin.new.arena) in
-    let p = place_view c.args.slot in
-    let d = c.args.size.data_words in
-    let k = c.args.size.pointers in
-    let e : m ≡ s = wide_stays (option_copied c.args.default) s m p d k c.in_ok-begin.field-0 c.in_ok-begin.ensures.begins wide in
-    ap words_in (c.get_struct.ensures.wide (subst (λ (x : Segments). IsWide x p d k) (sym e) wide)) ∙ e
+    let e = c.get_struct.ensures in
+    got_by laws (option_copied c.args.default) s m u (place_view c.args.slot) c.args.size c.in_ok-begin.ensures.begins (λ wide. ap words_in (e.wide wide)) c.get_struct.result e.value e.object e.size
