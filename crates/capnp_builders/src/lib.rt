@@ -8,6 +8,8 @@ mod build_tests;
 pub mod element;
 #[cfg(test)]
 mod element_tests;
+#[cfg(test)]
+mod get_tests;
 mod gets;
 #[cfg(test)]
 mod input_tests;
