@@ -1,4 +1,5 @@
 //! Untyped pointers read as types, structs as callers' types, and values of annotations.
+ghost use Rattle.std.specs.Prelude.{◌≡◌};
 ghost use Rattle.capnp_model.specs.Schemas.{Ty, struct};
 
 use crate::dynamic_value::Reader;
@@ -140,38 +141,48 @@ fn structs_as_callers_types(rt: HostRuntime) -> Result<(), Fail> {
     Ok(())
 }
 
-/// A value under a type of the schemas, if it is of it.
-fn value_of<'a>(set: &'a SchemaSet, value: &'a Value, ty: Type) -> Option<Reader<'a, Arena<'a>>> {
-    if set.holds(ty) {
-        Reader::new(set, value, ty).ok()
-    } else {
-        None
-    }
-}
-
 #[test]
 fn values_of_annotations(rt: HostRuntime) -> Result<(), Fail> {
     let set = schemas(rt.alloc())?;
     let small = Type::from(TypeVariant::UInt16);
-    assert!(rt;
-        matches!(
-            value_of(&set, &Value::UInt16(7), small),
-            Some(Reader::UInt16(7))
-        )
-    );
-    assert!(rt; value_of(&set, &Value::UInt32(7), small).is_none());
+    let number = Value::UInt16(7);
+    let wide = Value::UInt32(7);
+    let mut read = 0u32;
+    if set.holds(small) {
+        let value = Reader::<Arena<'_>>::new(&set, &number, small)
+            .ok()
+            .ok_or("a number")?;
+        assert!(rt; matches!(value, Reader::UInt16(7)));
+        assert!(rt; Reader::<Arena<'_>>::new(&set, &wide, small).is_err());
+        read += 1;
+    }
     let any = Type::from(TypeVariant::AnyPointer);
-    let Some(Reader::AnyPointer(pointer)) = value_of(&set, &Value::AnyPointer, any) else {
-        return Ok(None.ok_or("untyped")?);
-    };
-    assert!(rt; pointer.is_null());
+    let untyped = Value::AnyPointer;
+    if set.holds(any) {
+        let value = Reader::<Arena<'_>>::new(&set, &untyped, any)
+            .ok()
+            .ok_or("untyped")?;
+        let Reader::AnyPointer(pointer) = value else {
+            return Ok(None.ok_or("untyped")?);
+        };
+        assert!(rt; pointer.is_null());
+        read += 1;
+    }
     let p = Type::from(TypeVariant::Struct(set.struct_by_id(1).ok_or("known")?));
     let words = [0, 0, 0, 0, 1, 0, 0, 0, 7, 0, 0, 0, 0, 0, 0, 0];
     let seven = Value::Struct(words.to_vec(rt.alloc())?);
-    let Some(Reader::Struct(read)) = value_of(&set, &seven, p) else {
-        return Ok(None.ok_or("a struct")?);
-    };
-    assert!(rt; matches!(get(read, 0)?, Reader::UInt16(7)));
+    if set.holds(p) {
+        let value = Reader::<Arena<'_>>::new(&set, &seven, p)
+            .ok()
+            .ok_or("a struct")?;
+        let Reader::Struct(held) = value else {
+            return Ok(None.ok_or("a struct")?);
+        };
+        let field = held.get_named("a").ok().ok_or("a")?;
+        assert!(rt; matches!(field, Reader::UInt16(7)));
+        read += 1;
+    }
+    assert_eq!(rt; read, 3);
     let text = Type::from(TypeVariant::Text);
     if set.holds(text) {
         let refused = Reader::<Arena<'_>>::new(&set, &seven, text)
