@@ -9,38 +9,42 @@ ghost use Rattle.capnp_message.specs.Segments.{bytes_of, loans_of_segment};
 
 use crate::growth::AllocationStrategy;
 use crate::heap::HeapAllocator;
-use crate::segment::Segment;
-use crate::single::SingleSegmentAllocator;
+use crate::segment::{Segment, wipe};
 use capnp_copy::allocator::Allocator;
 use capnp_units::errors::Result;
 use std::alloc::Global;
+use std::mem;
 
 /// Hands out a lent slice as a segment, and segments from the heap where the slice is out or too short. The slice is all zeros whenever it is here.
 ///
 /// A segment from the heap is refused with `OutOfMemory` alone.
 #[derive(Drop)]
 pub struct ScratchSpaceHeapAllocator<'a> {
-    pub lent: SingleSegmentAllocator<'a>,
+    pub region: &'a mut [u8],
+    pub taken: bool,
     heap: HeapAllocator,
+    ghost clean: { AllZero region.now },
 }
 
 impl<'a> ScratchSpaceHeapAllocator<'a> {
     /// An allocator that uses the whole words of this slice, all of whose bytes it makes zero. Other segments come from `alloc`, with the suggested sizes.
     pub fn new(alloc: Global, scratch_space: &'a mut [u8]) -> ScratchSpaceHeapAllocator<'a>
-        ensures same { result.lent.region.ghost_name ≡ scratch_space.entry.ghost_name }
-        ensures home { result.lent.taken ≡ false }
-        ensures kept { length result.lent.region.now ≡ length scratch_space.old }
+        ensures same { result.region.ghost_name ≡ scratch_space.entry.ghost_name }
+        ensures home { result.taken ≡ false }
+        ensures kept { length result.region.now ≡ length scratch_space.old }
         ensures growth { result.heap.growth ≡ suggested_growth }
     {
+        scratch_space.fill(0);
         ScratchSpaceHeapAllocator {
-            lent: SingleSegmentAllocator::new(scratch_space),
+            region: scratch_space,
+            taken: false,
             heap: HeapAllocator::new(alloc),
         }
     }
 
     /// Sets how many words the first segment from the heap has, unless more are asked for.
     pub fn second_segment_words(&mut self, value: u32)
-        ensures kept { self.new.lent ≡ self.old.lent }
+        ensures kept { (self.new.region ≡ self.old.region) × (self.new.taken ≡ self.old.taken) }
         ensures set { self.new.heap.growth
             ≡ record self.old.heap.growth { first = value; next = value } }
     {
@@ -49,7 +53,7 @@ impl<'a> ScratchSpaceHeapAllocator<'a> {
 
     /// Sets how segments from the heap grow.
     pub fn allocation_strategy(&mut self, value: AllocationStrategy)
-        ensures kept { self.new.lent ≡ self.old.lent }
+        ensures kept { (self.new.region ≡ self.old.region) × (self.new.taken ≡ self.old.taken) }
         ensures set { self.new.heap.growth ≡ record self.old.heap.growth { strategy = value } }
     {
         self.heap.growth.strategy = value;
@@ -59,32 +63,39 @@ impl<'a> ScratchSpaceHeapAllocator<'a> {
 impl<'a> Allocator for ScratchSpaceHeapAllocator<'a> {
     type Segment = Segment<'a>;
 
-    ghost loans = { λ s. loans_of s.lent.taken s.lent.region.ghost_name };
+    ghost loans = { λ s. loans_of s.taken s.region.ghost_name };
 
     ghost place = { λ _. [] };
 
     fn allocate_segment(&mut self, minimum: u32) -> Result<Segment<'a>>
         ensures zeros { IfOk result (λ s. AllZero (bytes_of s)) }
         ensures room { IfOk result (λ s. 8 * minimum ≤ length (bytes_of s)) }
-        ensures moved { IfOk result (λ s. loans_of self.old.lent.taken self.old.lent.region.ghost_name
-            ≡ loans_of_segment s ++ loans_of self.new.lent.taken self.new.lent.region.ghost_name) }
-        ensures kept { OnErr result (loans_of self.new.lent.taken self.new.lent.region.ghost_name
-            ≡ loans_of self.old.lent.taken self.old.lent.region.ghost_name) }
+        ensures moved { IfOk result (λ s. loans_of self.old.taken self.old.region.ghost_name
+            ≡ loans_of_segment s ++ loans_of self.new.taken self.new.region.ghost_name) }
+        ensures kept { OnErr result (loans_of self.new.taken self.new.region.ghost_name
+            ≡ loans_of self.old.taken self.old.region.ghost_name) }
         ensures refusal { IfErr result (λ e. e.kind ≡ OutOfMemory) }
         ensures other { IfErr result (λ e. e.kind ≢ SizeOverflow) }
-        ensures lent { self.old.lent.taken ≡ false → 8 * minimum ≤ length self.old.lent.region.now
-            → IsOkAnd result (λ s. loans_of_segment s ≡ self.old.lent.region.ghost_name ∷ []) }
+        ensures lent { self.old.taken ≡ false → 8 * minimum ≤ length self.old.region.now
+            → IsOkAnd result (λ s. loans_of_segment s ≡ self.old.region.ghost_name ∷ []) }
         ensures growth { IfOk result (GrowsBy self.old.heap.growth self.new.heap.growth minimum) }
     {
-        match self.lent.allocate_segment(minimum) {
-            Ok(segment) => Ok(segment),
-            Err(_) => Ok(Segment::Owned(self.heap.allocate_segment(minimum)?)),
+        let whole = &mut *self;
+        if !whole.taken && 8 * minimum as usize <= whole.region.len() {
+            whole.taken = true;
+            let slice = mem::take(&mut whole.region);
+            return Ok(Segment::Lent(slice));
         }
+        Ok(Segment::Owned(whole.heap.allocate_segment(minimum)?))
     }
 
     fn deallocate_segment(&mut self, segment: Segment<'a>, words_used: u32) {
         match segment {
-            Segment::Lent(_) => self.lent.deallocate_segment(segment, words_used),
+            Segment::Lent(slice) => {
+                wipe(slice, words_used);
+                self.region = slice;
+                self.taken = false;
+            }
             Segment::Owned(bytes) => self.heap.deallocate_segment(bytes, words_used),
         }
     }
