@@ -16,7 +16,7 @@ use crate::pointer::PointerReader;
 use crate::section::bit_of;
 use crate::structs::StructReader;
 use capnp_units::primitive::{Primitive, Zero};
-use capnp_units::sizes::{ElementSize, data_bits_per_element, pointers_per_element};
+use capnp_units::sizes::{ElementSize, StructSize, data_bits_per_element, pointers_per_element};
 use std::alloc::AllocError;
 
 /// A list to read. Its plain elements, or the words of its structs, are lent from what it stands on.
@@ -126,6 +126,57 @@ impl<'a, A: ReaderArena> ListReader<'a, A> {
         ListReader::of_parts(
             backing, bytes, start, count, size, data_words, pointers, levels,
         )
+    }
+
+    /// What the list stands on, where its pointers are followed.
+    pub fn backing(&self) -> Backing<'a, A>
+        ensures { ground_of A.segments result ≡ (seen_list A.segments self.now).basis }
+    {
+        self.backing
+    }
+
+    /// The bytes of the elements from the first to the end of the last, lent in place, with those of the structs' pointers. Bits behind the last element may be any.
+    pub fn bytes(&self) -> &'a [u8]
+        ensures section { let l = seen_list A.segments self.now in let bits = step_bits (size_number l.size) l.data_words l.pointers * l.count in
+            number_of 8 result.now % 2 ^ bits ≡ l.section }
+        ensures inside { let l = seen_list A.segments self.now in
+            step_bits (size_number l.size) l.data_words l.pointers * l.count ≤ 8 * length result.now }
+    {
+        self.bytes
+    }
+
+    /// Where the first element begins, if there is one.
+    pub fn start(&self) -> Place
+        ensures place { place_view result ≡ (seen_list A.segments self.now).start }
+        ensures near { let l = seen_list A.segments self.now in
+            result.position + step_words (size_number l.size) l.data_words l.pointers * l.count < 2 ^ 61 }
+    {
+        self.start
+    }
+
+    /// The size of the elements, as the list has it.
+    pub fn element_size(&self) -> ElementSize
+        ensures { result ≡ (seen_list A.segments self.now).size }
+    {
+        self.size
+    }
+
+    /// How many data words and pointers each struct has; 0 and 0 where there are no structs.
+    pub fn struct_size(&self) -> StructSize
+        ensures { let l = seen_list A.segments self.now in
+            (result.data_words ≡ l.data_words) × (result.pointers ≡ l.pointers) }
+    {
+        StructSize {
+            data_words: self.data_words,
+            pointers: self.pointers,
+        }
+    }
+
+    /// How many levels may be followed from each pointer; none where not even the list's own was left.
+    pub fn levels(&self) -> Option<u32>
+        ensures { result ≡ (seen_list A.segments self.now).levels }
+    {
+        self.levels
     }
 
     /// How many elements there are.

@@ -1,5 +1,5 @@
 //! Structs to read.
-ghost use Rattle.std.specs.Prelude.{◌≡◌, ◌+◌, ◌*◌, ◌<◌, ◌≤◌, ◌^◌, ◌==◌, bit_xor, length};
+ghost use Rattle.std.specs.Prelude.{◌≡◌, ◌+◌, ◌-◌, ◌*◌, ◌<◌, ◌≤◌, ◌^◌, ◌==◌, bit_xor, length};
 ghost use Rattle.capnp_model.specs.Sections.{number_of};
 ghost use Rattle.capnp_model.specs.Readings.{field_bits, just_bits};
 ghost use Rattle.capnp_units.specs.Segments.{words_in};
@@ -28,6 +28,7 @@ pub struct StructReader<'a, A> {
     pub(crate) pointers: u16,
     pub(crate) levels: Option<u32>,
     ghost near: { first.position + pointers < 2 ^ 62 },
+    ghost few: { length section.now ≤ 8 * (2 ^ 16 - 1) },
 }
 
 impl<A> Clone for StructReader<'_, A> {
@@ -60,7 +61,8 @@ impl<'a, A: ReaderArena> StructReader<'a, A> {
         pointers: u16,
         levels: Option<u32>,
     ) -> Self
-        requires { first.position + pointers < 2 ^ 62 }
+        requires near { first.position + pointers < 2 ^ 62 }
+        requires few { length section.now ≤ 8 * (2 ^ 16 - 1) }
         ensures { seen_struct A.segments result ≡ struct_view (ground_of A.segments backing.entry) (number_of 8 section.now) (8 * length section.now) (place_view first) pointers levels }
     {
         StructReader {
@@ -86,6 +88,44 @@ impl<'a, A: ReaderArena> StructReader<'a, A> {
             pointers: 0,
             levels,
         }
+    }
+
+    /// What the struct stands on, where its pointers are followed.
+    pub fn backing(&self) -> Backing<'a, A>
+        ensures { ground_of A.segments result ≡ (seen_struct A.segments self.now).basis }
+    {
+        self.backing
+    }
+
+    /// The bytes of the data section, lent in place: whole words, but for an element of a plain list, which has just its own.
+    pub fn section(&self) -> &'a [u8]
+        ensures section { number_of 8 result.now ≡ (seen_struct A.segments self.now).section }
+        ensures bits { 8 * length result.now ≡ (seen_struct A.segments self.now).bits }
+        ensures few { length result.now ≤ 8 * (2 ^ 16 - 1) }
+    {
+        self.section
+    }
+
+    /// Where the first pointer stands, if there is one; the others follow it.
+    pub fn first_pointer(&self) -> Place
+        ensures place { place_view result ≡ (seen_struct A.segments self.now).first }
+        ensures near { result.position + (seen_struct A.segments self.now).pointers < 2 ^ 62 }
+    {
+        self.first
+    }
+
+    /// How many pointers there are.
+    pub fn pointers(&self) -> u16
+        ensures { result ≡ (seen_struct A.segments self.now).pointers }
+    {
+        self.pointers
+    }
+
+    /// How many levels may be followed from each pointer; none where not even the struct's own was left.
+    pub fn levels(&self) -> Option<u32>
+        ensures { result ≡ (seen_struct A.segments self.now).levels }
+    {
+        self.levels
     }
 
     /// The struct at a place of an arena, of so many data words and pointers, which are there. Its pointers are followed under the arena's nesting limit.
