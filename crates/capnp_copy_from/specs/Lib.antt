@@ -1,3 +1,4 @@
 pub mod Copies
 pub mod Objects
 pub mod Defaults
+pub mod Contents

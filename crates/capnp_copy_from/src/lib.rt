@@ -1,6 +1,9 @@
 //! Copies of values from one arena into another, over places.
 #![tactic(auto)]
 
+#[cfg(test)]
+mod content_tests;
+pub mod contents;
 pub mod copy;
 #[cfg(test)]
 mod default_tests;

@@ -1,0 +1,93 @@
+//! Structs that take over the content of others.
+ghost use Rattle.std.specs.Prelude.{◌≡◌, ◌+◌, ◌*◌, ◌^◌, ◌<◌, ◌≤◌, true, length, map};
+ghost use Rattle.std.specs.Option.{is_some};
+ghost use Rattle.capnp_model.specs.Sections.{number_of};
+ghost use Rattle.capnp_model.specs.Segments.{words_at};
+ghost use Rattle.capnp_units.specs.Segments.{words_in};
+ghost use Rattle.capnp_object.specs.Places.{place_view};
+ghost use Rattle.capnp_copy_from.specs.Copies.{struct_source};
+ghost use Rattle.capnp_copy_from.specs.Contents.{CopiesContent, ClearsRest, SetsSection};
+
+use crate::copy::fill_row;
+use capnp_copy::arena::BuilderArena;
+use capnp_copy::blobs::write_bytes;
+use capnp_copy::clear::clear;
+use capnp_copy::fields::StructPlace;
+use capnp_units::errors::Result;
+use capnp_units::limiter::ReadLimiter;
+use capnp_wire::arena::ReaderArena;
+use capnp_wire::place::Place;
+
+/// Writes bytes over a struct's data, and zeros behind them.
+fn write_data<A: BuilderArena>(arena: &mut A, object: StructPlace, bytes: &[u8])
+    requires there { is_some (words_at (words_in (A.segments arena.old)) (place_view object.start) object.data_words) ≡ true }
+    requires near { object.start.position + object.data_words < 2 ^ 61 }
+    requires fit { length bytes.now ≤ 8 * object.data_words }
+    ensures section { SetsSection (words_in (A.segments arena.old)) (words_in (A.segments arena.new)) object (number_of 8 bytes.now) }
+    ensures sizes { map length (words_in (A.segments arena.new)) ≡ map length (words_in (A.segments arena.old)) }
+    ensures books { A.books arena.new ≡ A.books arena.old }
+{
+    let words = (bytes.len() + 7) / 8;
+    write_bytes(arena, object.start, words, bytes);
+    let behind = Place {
+        segment: object.start.segment,
+        position: object.start.position + words,
+    };
+    arena.zero_words(behind, object.data_words as usize - words);
+}
+
+/// Clears a struct's pointers behind the first, so many.
+fn clear_rest<A: BuilderArena>(arena: &mut A, object: StructPlace, kept: u16)
+    requires near { object.start.position + (object.data_words + object.pointers) < 2 ^ 61 }
+    requires few { kept ≤ object.pointers }
+    ensures rest { ClearsRest (words_in (A.segments arena.old)) (words_in (A.segments arena.new)) object kept }
+    ensures sizes { map length (words_in (A.segments arena.new)) ≡ map length (words_in (A.segments arena.old)) }
+    ensures books { A.books arena.new ≡ A.books arena.old }
+{
+    for i in kept..object.pointers {
+        let slot = Place {
+            segment: object.start.segment,
+            position: object.start.position + object.data_words as usize + i as usize,
+        };
+        clear(arena, slot);
+    }
+}
+
+/// Puts the content of a struct of a source into a struct that lies in an arena: as many bytes of its data section as fit, with zeros behind them, and copies of the values of as many pointers as it has a place for, in place of the old values, which are cleared; the struct's further pointers become null. The source's pointers stand in a row, and so many levels may be followed from each. Those that the struct has no place for aren't followed.
+///
+/// The source's own words were paid for already: its pointers are followed, nulls too, and refused as by `copy_from`. After a refusal the data are the source's, and of the pointers the first ones have the copies and the others their old values; all else stands, and the words that old values left are zero, as are new ones that have no use. Refused or not, it allocates no more words than twice those that it grants.
+pub fn copy_content_from<A: BuilderArena, B: ReaderArena>(
+    arena: &mut A,
+    object: StructPlace,
+    limiter: &mut ReadLimiter,
+    source: &B,
+    section: &[u8],
+    first: Place,
+    pointers: u16,
+    levels: u32,
+) -> Result<()>
+    requires there { is_some (words_at (words_in (A.segments arena.old)) (place_view object.start) (object.data_words + object.pointers)) ≡ true }
+    requires near { object.start.position + (object.data_words + object.pointers) < 2 ^ 61 }
+    requires source_near { first.position + pointers < 2 ^ 62 }
+    ensures content { CopiesContent levels (words_in (B.segments source.now)) (struct_source section.now first pointers)
+        (words_in (A.segments arena.old)) (words_in (A.segments arena.new)) object limiter.old result limiter.new }
+    ensures books { A.books arena.new ≡ A.books arena.old }
+{
+    let bytes = section.len().min(8 * object.data_words as usize);
+    write_data(arena, object, &section[..bytes]);
+    let shared = pointers.min(object.pointers);
+    let start = object.start;
+    let count = shared as u32;
+    fill_row(
+        arena,
+        start,
+        object.data_words,
+        count,
+        limiter,
+        source,
+        first,
+        levels,
+    )?;
+    clear_rest(arena, object, shared);
+    Ok(())
+}
