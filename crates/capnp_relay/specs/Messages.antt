@@ -38,9 +38,10 @@ ReadsAsMade root calls bounds s (written segments replies) =
     → (u : Tree) × (tree_at bounds.nesting segments message_root ≡ Some u) × (record_at root u ≡ record_by_all root (map call_view calls) (record_at root t))
 ReadsAsMade root calls bounds s _ = ⊤
 
--- This is the answer of calls to a message, and it reads as they make it.
+-- This is the answer of calls to a message; it means the trimmed value after them, and it reads as they make it.
 pub record IsAnswerBy (root : StructSchema) (calls : List Call) (bounds : Bounds) (s : Segments) (a : Answer) : Type 0 where
   pub same : IsAnswer (schema_around root) as_it_is (id_of root) (map (taken_call root) (map call_view calls)) (limits_view bounds) s a
+  pub means : MeansAfter root calls bounds.nesting (value_within (limits_view bounds) s) a
   pub reads : ReadsAsMade root calls bounds s a
 
 -- The same of the calls at a root.

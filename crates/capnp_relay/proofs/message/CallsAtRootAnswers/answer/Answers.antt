@@ -18,7 +18,9 @@ returns-in-Ok-clause-value c =
     (λ a answered means.
     let same = answered ∙ ap (answer_to here.schema here.calls.now (pos here.bounds.nesting)) value in
     let P : Option Tree → Type 0 = λ o. MeansAfter here.schema here.calls.now here.bounds.nesting o (answer_view a) in
+    let meant = subst P value means in
     record {
       same = same;
-      reads = ReadsAsMade-of here.schema here.calls.now here.bounds c.records_of_written_values.ensures.reads here.schema.set.now.accepted no_group (c.calls_are_given.ensures here.schema here.calls.now) s (answer_view a) same (subst P value means);
+      means = meant;
+      reads = ReadsAsMade-of here.schema here.calls.now here.bounds c.records_of_written_values.ensures.reads here.schema.set.now.accepted no_group (c.calls_are_given.ensures here.schema here.calls.now) s (answer_view a) same meant;
     }) c.answer_value.ensures.answer c.answer_value.ensures.means
