@@ -20,11 +20,11 @@ use Rattle.capnp_wire.specs.Reads.{is_null}
 use Rattle.capnp_values.specs.GoodDefaults.{IsGoodDefault, KeepsDefault}
 use Rattle.capnp_values.specs.Sources.{default_pointer, null_default}
 use Rattle.capnp_values.specs.Standing.{IsPointerType, NullsAreRead}
-use Rattle.capnp_values.specs.Shown.{Shown, a_text, a_blob, opened, segment_opened, default_opened, slot_opened, slot_shown, kind_shown, is_null_slot}
+use Rattle.capnp_values.specs.Shown.{Shown, opened, segment_opened, default_opened, slot_opened, slot_shown, kind_shown, is_null_slot}
 use Rattle.capnp_print.specs.Texts.{as_it_is}
 use Rattle.capnp_print.specs.ShownReadings.{read_or_fault, reading_within, left_of}
 use Rattle.capnp_print.specs.Defaults.{is_null_segment, is_entered, enters}
-use Rattle.capnp_print.specs.Printed.{printed, empty_printed, bytes_read, default_shown, text_shown, null_printed}
+use Rattle.capnp_print.specs.Printed.{printed, empty_printed, bytes_shown, default_shown, text_shown, null_printed}
 use Rattle.capnp_print.proofs.DefaultRoots.{decoded, encoded, segment_null, null_pointed, null_is_null}
 use Rattle.capnp_print.proofs.ElementTexts.{text_or_fault}
 use Rattle.capnp_print.proofs.FieldTexts.{Prints, field_without}
@@ -83,12 +83,12 @@ default_is s ty p no_value pointer good e = absurd (cc e)
 default_is s ty p (bits q n) pointer good e = absurd (cc e)
 default_is s ty p untyped_value pointer good e = absurd (cc e)
 default_is s ty p interface_value pointer good e = absurd (cc e)
-default_is s text p (text_bytes bs) pointer good e = ap (λ r. Ok (a_text (bytes_read r))) (sym (text_read s bs good.2))
+default_is s text p (text_bytes bs) pointer good e = ap bytes_shown (sym (text_read s bs good.2))
 default_is s text p (blob_bytes bs) pointer good e = absurd (cc (good.0))
 default_is s text p (list_segment bs) pointer good e = absurd (cc (good.0))
 default_is s text p (struct_segment bs) pointer good e = absurd (cc (good.0))
 default_is s blob p (text_bytes bs) pointer good e = absurd (cc (good.0))
-default_is s blob p (blob_bytes bs) pointer good e = ap (λ r. Ok (a_blob (bytes_read r))) (sym (blob_read s bs good.2))
+default_is s blob p (blob_bytes bs) pointer good e = ap bytes_shown (sym (blob_read s bs good.2))
 default_is s blob p (list_segment bs) pointer good e = absurd (cc (good.0))
 default_is s blob p (struct_segment bs) pointer good e = absurd (cc (good.0))
 default_is s untyped p (text_bytes bs) pointer good e = absurd (cc (good.0))

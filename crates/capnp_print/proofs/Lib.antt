@@ -11,12 +11,15 @@ pub mod Lighter
 pub mod Loops
 pub mod MemberWeights
 pub mod Models
+pub mod ModelTexts
 pub mod NullTexts
 pub mod PrintedFields
 pub mod PrintedExamples
 pub mod Results
 pub mod Shows
 pub mod SingleTexts
+pub mod SoundShapes
 pub mod TextLemmas
 pub mod TwoBlanks
+pub mod WholeReadings
 pub mod Wholes

@@ -9,7 +9,7 @@ use Rattle.capnp_model.specs.Printing.{joined, Style, inner, opening, between, c
 use Rattle.capnp_print.specs.Printed.{Text, NullTexts, text_in, mark, field_and_rest, list_between, struct_between, printed, items_printed, fields_printed}
 
 -- items, each behind its mark
-abbrev marked : Style → Bool → List (List ℕ) → List ℕ
+abbrev pub marked : Style → Bool → List (List ℕ) → List ℕ
 marked style first [] = []
 marked style first (x ∷ xs) = mark style first ++ x ++ marked style false xs
 
@@ -31,7 +31,7 @@ some_struct style name m b fs t (x ∷ xs) e =
     ∙ ap (λ z. (z ++ closing style) ++ codes ")") (let same : codes "(" ++ ((opening style ++ x) ++ marked style false xs) ≡ (codes "(" ++ opening style) ++ (x ++ marked style false xs) = simp append_assoc in same)
     ∙ ap (λ z. (((codes "(" ++ opening style) ++ z) ++ closing style) ++ codes ")") (sym (joined_marked style x xs))
 
-list_is : (style : Style) (r : Reading) (rs : Readings) (items : Text) (o : Option (List ℕ)) (os : Option (List (List ℕ))) → text_in items ≡ option_map (marked style true) (cons_if true o os)
+pub list_is : (style : Style) (r : Reading) (rs : Readings) (items : Text) (o : Option (List ℕ)) (os : Option (List (List ℕ))) → text_in items ≡ option_map (marked style true) (cons_if true o os)
     → text_in (list_between style (r ▹ rs) items) ≡ option_map (list_text style) (cons_if true o os)
 list_is style r rs (Err kind) None os e = refl
 list_is style r rs (Err kind) (Some x) None e = refl
@@ -40,7 +40,7 @@ list_is style r rs (Ok t) None os e = absurd cc
 list_is style r rs (Ok t) (Some x) None e = absurd cc
 list_is style r rs (Ok t) (Some x) (Some xs) e = let is : t ≡ marked style true (x ∷ xs) = cc in ap (λ z. Some z) (sym (append_assoc (codes "[" ++ t) (closing style) (codes "]")) ∙ some_list style t x xs is)
 
-struct_is : (style : Style) (fs : Fields) (items : Text) (os : Option (List (List ℕ))) → text_in items ≡ option_map (marked style true) os → (fs ≡ no_fields → os ≡ Some [])
+pub struct_is : (style : Style) (fs : Fields) (items : Text) (os : Option (List (List ℕ))) → text_in items ≡ option_map (marked style true) os → (fs ≡ no_fields → os ≡ Some [])
     → text_in (struct_between style fs items) ≡ option_map (struct_text style fs) os
 struct_is style no_fields items os e none = sym (ap (option_map (struct_text style no_fields)) (none refl))
 struct_is style (field name m b fs) (Err kind) None e none = refl
@@ -48,7 +48,7 @@ struct_is style (field name m b fs) (Err kind) (Some xs) e none = absurd cc
 struct_is style (field name m b fs) (Ok t) None e none = absurd cc
 struct_is style (field name m b fs) (Ok t) (Some xs) e none = let is : t ≡ marked style true xs = cc in ap (λ z. Some z) (sym (append_assoc (codes "(" ++ t) (closing style) (codes ")")) ∙ some_struct style name m b fs t xs is)
 
-item_is : (style : Style) (first : Bool) (value rest : Text) (o : Option (List ℕ)) (os : Option (List (List ℕ))) → text_in value ≡ o → text_in rest ≡ option_map (marked style false) os
+pub item_is : (style : Style) (first : Bool) (value rest : Text) (o : Option (List ℕ)) (os : Option (List (List ℕ))) → text_in value ≡ o → text_in rest ≡ option_map (marked style false) os
     → text_in (value and_then λ t. rest and_then λ u. Ok (mark style first ++ t ++ u)) ≡ option_map (marked style first) (cons_if true o os)
 item_is style first (Err kind) rest None os e f = refl
 item_is style first (Err kind) rest (Some x) os e f = absurd cc
@@ -67,7 +67,7 @@ named_is style first name v u x xs e f =
     ap (λ z. (((mark style first ++ name) ++ codes " = ") ++ z) ++ u) e ∙ ap (λ z. (((mark style first ++ name) ++ codes " = ") ++ x) ++ z) f
     ∙ simp append_assoc
 
-field_is : (style : Style) (first shown : Bool) (name : List ℕ) (value : Text) (rest : Bool → Text) (o : Option (List ℕ)) (os : Option (List (List ℕ)))
+pub field_is : (style : Style) (first shown : Bool) (name : List ℕ) (value : Text) (rest : Bool → Text) (o : Option (List ℕ)) (os : Option (List (List ℕ)))
     → text_in value ≡ o → ((b : Bool) → text_in (rest b) ≡ option_map (marked style b) os)
     → text_in (field_and_rest shown (mark style first ++ name ++ codes " = ") value rest first) ≡ option_map (marked style first) (cons_if shown (option_map (λ v. name ++ codes " = " ++ v) o) os)
 field_is style first false name value rest o os e f = f first
@@ -86,7 +86,7 @@ field_is style first true name (Ok v) rest (Some x) os e f = by (rest false) os 
         let more : u ≡ marked style false xs = cc in
         ap (λ z. Some z) (named_is style first name v u x xs one more)
 
-no_fields_shown : (s : Schema) (quoted : List ℕ → List ℕ) (nulls : Nulls) (style : Style) (fs : Fields) (r : Record) → fs ≡ no_fields → print_fields s quoted nulls style fs r ≡ Some []
+pub no_fields_shown : (s : Schema) (quoted : List ℕ → List ℕ) (nulls : Nulls) (style : Style) (fs : Fields) (r : Record) → fs ≡ no_fields → print_fields s quoted nulls style fs r ≡ Some []
 unfolding print
 no_fields_shown s quoted nulls style no_fields r e = refl
 no_fields_shown s quoted nulls style (field n m b fs) r e = absurd cc

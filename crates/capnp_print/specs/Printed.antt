@@ -1,6 +1,6 @@
 -- The text of a reading, or the first fault that is met on the way.
 use Rattle.std.specs.Prelude.{ℕ, zero, suc, Bool, true, false, Option, Some, None, List, [], ◌++◌, codes, Result, Ok, Err}
-use Rattle.capnp_model.specs.Kinds.{Kind, NestingLimitExceeded, InactiveMember}
+use Rattle.capnp_model.specs.Kinds.{Kind, NestingLimitExceeded, WrongPointerKind, InactiveMember}
 use Rattle.capnp_model.specs.Chains.{◌and_then◌}
 use Rattle.capnp_model.specs.Trees.{Tree, null, is_null}
 use Rattle.capnp_model.specs.Trimming.{trim}
@@ -109,16 +109,17 @@ as_shown a_capability = as_type interface null
 
 -- ---- null pointers
 
--- The bytes of a reading that is a text or data.
-abbrev pub bytes_read : Reading → List ℕ
-bytes_read (text_of bytes) = bytes
-bytes_read (blob_of bytes) = bytes
-bytes_read _ = []
+-- A text or data as it is shown, or the fault in its place.
+abbrev pub bytes_shown : Reading → Result Shown Kind
+bytes_shown (text_of bytes) = Ok (a_text bytes)
+bytes_shown (blob_of bytes) = Ok (a_blob bytes)
+bytes_shown (fault kind) = Err kind
+bytes_shown _ = Err WrongPointerKind
 
 -- What a default shows: a text or data its bytes, a struct or a list what stands in its canonical words.
 abbrev pub default_shown : Schema → Ty → Tree → Result Shown Kind
-default_shown s text d = Ok (a_text (bytes_read (read s d text)))
-default_shown s blob d = Ok (a_blob (bytes_read (read s d blob)))
+default_shown s text d = bytes_shown (read s d text)
+default_shown s blob d = bytes_shown (read s d blob)
 default_shown s (struct id) d = opened s (struct id) (default_pointer (bytes_of_words (canonical_words (trim d))))
 default_shown s (list ty) d = opened s (list ty) (default_pointer (bytes_of_words (canonical_words (trim d))))
 default_shown s void d = Ok (a_number void 0)

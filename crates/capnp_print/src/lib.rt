@@ -2,6 +2,7 @@
 #![tactic(auto)]
 
 mod defaults;
+pub mod laws;
 mod members;
 mod names;
 mod single;

@@ -9,13 +9,13 @@ use Rattle.capnp_model.specs.Sections.{bits_at}
 use Rattle.capnp_model.specs.Trees.{Tree, null, capability, structure, plain_list, pointer_list, struct_list, Trees, none, ◌▸◌, child, tree_count, Elements, no_elements, element, element_count, size_bits, size_of_width, plain_elements}
 use Rattle.capnp_model.specs.Traversal.{tree_at}
 use Rattle.capnp_model.specs.Schemas.{PlainType, width, TypeRecord, type_of, Ty, void, plain, text, blob, untyped, interface, struct, list, Schema}
-use Rattle.capnp_model.specs.Readings.{inactive, null_pointer, list_of, record_as, Readings, no_readings, Extent, whole_words, just_bits, Children, no_children, only_child, shape_record, have_room, is_list_of, element_as, list_reading, plain_readings, read, read_child, pointer_elements, struct_elements}
+use Rattle.capnp_model.specs.Readings.{Reading, inactive, null_pointer, list_of, record_as, Readings, no_readings, ◌▹◌, Extent, whole_words, just_bits, Children, no_children, only_child, shape_record, have_room, is_list_of, element_as, list_reading, plain_readings, read, read_child, pointer_elements, struct_elements}
 use Rattle.capnp_model.specs.ActiveMembers.{element_of as reading_of}
 use Rattle.capnp_model.proofs.Numbers.{length-numbers_in}
 use Rattle.capnp_wire.specs.Views.{ListView, element_of, element_number}
 use Rattle.capnp_wire.specs.Laws.{ShowsElement, ShowsElements, ShowsList}
 use Rattle.capnp_values.specs.Shown.{element_shown}
-use Rattle.capnp_values.specs.Standing.{IsExtent, Stands, or_empty, Answers, PointersAreRead, ElementsAreRead}
+use Rattle.capnp_values.specs.Standing.{IsExtent, Stands, AreItems, or_empty, Answers, PointersAreRead, ElementsAreRead}
 use Rattle.capnp_values.proofs.FieldReadings.{plain_base, plain_type, number_read, pointer_read}
 
 -- ---- numbers at the front of elements
@@ -95,28 +95,37 @@ plain_at s size [] ty i h = absurd (omega arith)
 plain_at s size (x ∷ xs) ty zero h = refl
 plain_at s size (x ∷ xs) ty (suc i) h = plain_at s size xs ty i (omega arith)
 
-plain_past : (s : Schema) (size : ℕ) (xs : List ℕ) (ty : Ty) (i : ℕ) → length xs ≤ i → reading_of i (plain_readings s size xs ty) ≡ inactive
-plain_past s size [] ty i h = refl
-plain_past s size (x ∷ xs) ty zero h = absurd (omega arith)
-plain_past s size (x ∷ xs) ty (suc i) h = plain_past s size xs ty i (omega arith)
-
 pointer_at : (s : Schema) (ts : Trees) (ty : Ty) (i : ℕ) → i < tree_count ts → element_as s ty (just_bits 0) 0 (only_child (read s (child ts i))) ≡ reading_of i (pointer_elements s ts ty)
 unfolding read
 pointer_at s none ty i h = absurd (omega arith)
 pointer_at s (t ▸ ts) ty zero h = refl
 pointer_at s (t ▸ ts) ty (suc i) h = pointer_at s ts ty i (omega arith)
 
-pointer_past : (s : Schema) (ts : Trees) (ty : Ty) (i : ℕ) → tree_count ts ≤ i → reading_of i (pointer_elements s ts ty) ≡ inactive
-unfolding read
-pointer_past s none ty i h = refl
-pointer_past s (t ▸ ts) ty zero h = absurd (omega arith)
-pointer_past s (t ▸ ts) ty (suc i) h = pointer_past s ts ty i (omega arith)
+-- how many there are
+unfoldable pub item_count : Readings → ℕ
+item_count no_readings = 0
+item_count (r ▹ rs) = suc (item_count rs)
 
-struct_past : (s : Schema) (es : Elements) (ty : Ty) (i : ℕ) → element_count es ≤ i → reading_of i (struct_elements s es ty) ≡ inactive
-unfolding read
-struct_past s no_elements ty i h = refl
-struct_past s (element section kids es) ty zero h = absurd (omega arith)
-struct_past s (element section kids es) ty (suc i) h = struct_past s es ty i (omega arith)
+past_items : (rs : Readings) (i : ℕ) → item_count rs ≤ i → reading_of i rs ≡ inactive
+unfolding item_count
+past_items no_readings i h = refl
+past_items (r ▹ rs) zero h = absurd (omega arith)
+past_items (r ▹ rs) (suc i) h = past_items rs i (omega arith)
+
+plain_count : (s : Schema) (size : ℕ) (xs : List ℕ) (ty : Ty) → item_count (plain_readings s size xs ty) ≡ length xs
+unfolding item_count
+plain_count s size [] ty = refl
+plain_count s size (x ∷ xs) ty = ap (λ (n : ℕ). suc n) (plain_count s size xs ty)
+
+pointer_count : (s : Schema) (ts : Trees) (ty : Ty) → item_count (pointer_elements s ts ty) ≡ tree_count ts
+unfolding read item_count
+pointer_count s none ty = refl
+pointer_count s (t ▸ ts) ty = ap (λ (n : ℕ). suc n) (pointer_count s ts ty)
+
+struct_count : (s : Schema) (es : Elements) (ty : Ty) → item_count (struct_elements s es ty) ≡ element_count es
+unfolding read item_count
+struct_count s no_elements ty = refl
+struct_count s (element section kids es) ty = ap (λ (n : ℕ). suc n) (struct_count s es ty)
 
 one_child : (s : Schema) (t : Tree) (j : ℕ) (ty : Ty) → only_child (read s t) j ty ≡ read_child s (t ▸ none) j ty
 unfolding read
@@ -125,97 +134,119 @@ one_child s t (suc j) ty = refl
 
 -- ---- one element
 
-module _ (pointers : PointersAreRead) (s : Schema) (n : ℕ) (l : ListView) (left : ℕ) (levels : l.levels ≡ Some left) (enough : n ≤ left) where
-  element_read : (ty : Ty) (i : ℕ) (e : Extent) (section : ℕ) (kids : Trees) (below : Children) → below ≡ read_child s kids → Stands n (element_of l i) e section kids
-      → ((p : PlainType) → ty ≡ plain p → element_number l i (width p) ≡ bits_at 0 (width p) section) → Answers s (element_shown s ty l i) (or_empty s ty (element_as s ty e section below))
-  element_read void i e section kids below same stands h = refl
-  element_read (plain p) i e section kids below same stands h = number_read s p _ _ (h p refl)
-  element_read (struct id) i e section kids below same stands h =
-      (refl, record { levels = n; extent = e; section = section; kids = kids; stands = stands; is = ap (λ k. record_as (shape_record (s.shape_of id) e section k)) same })
-  element_read text i e section kids below same stands h =
-      subst (λ (c : Children). Answers s (element_shown s text l i) (or_empty s text (c 0 text))) (sym same) (pointer_read pointers n (element_of l i) e section kids s stands 0 text tt)
-  element_read blob i e section kids below same stands h =
-      subst (λ (c : Children). Answers s (element_shown s blob l i) (or_empty s blob (c 0 blob))) (sym same) (pointer_read pointers n (element_of l i) e section kids s stands 0 blob tt)
-  element_read untyped i e section kids below same stands h =
-      subst (λ (c : Children). Answers s (element_shown s untyped l i) (or_empty s untyped (c 0 untyped))) (sym same) (pointer_read pointers n (element_of l i) e section kids s stands 0 untyped tt)
-  element_read interface i e section kids below same stands h =
-      subst (λ (c : Children). Answers s (element_shown s interface l i) (or_empty s interface (c 0 interface))) (sym same) (pointer_read pointers n (element_of l i) e section kids s stands 0 interface tt)
-  element_read (list ty) i e section kids below same stands h =
-      subst (λ (c : Children). Answers s (element_shown s (list ty) l i) (or_empty s (list ty) (c 0 (list ty)))) (sym same) (pointer_read pointers n (element_of l i) e section kids s stands 0 (list ty) tt)
+-- An element stands where a reading is.
+pub record IsElement (n : ℕ) (l : ListView) (s : Schema) (ty : Ty) (i : ℕ) (r : Reading) : Type 0 where
+  pub extent : Extent
+  pub section : ℕ
+  pub kids : Trees
+  pub stands : Stands n (element_of l i) extent section kids
+  pub number : (p : PlainType) → ty ≡ plain p → element_number l i (width p) ≡ bits_at 0 (width p) section
+  pub is : r ≡ element_as s ty extent section (read_child s kids)
 
-  shown_read : (ty : Ty) (i bits : ℕ) (e : Extent) (section : ℕ) (kids : Trees) (below : Children) → below ≡ read_child s kids → IsExtent e (element_of l i) → HasRoom ty bits → ShowsElement (tree_at n l.basis.segments) (element_of l i) bits section kids
-      → Answers s (element_shown s ty l i) (or_empty s ty (element_as s ty e section below))
-  shown_read ty i bits e section kids below same extent roomy shows =
-      element_read ty i e section kids below same
-      (record { extent = extent; same = shows.0; children = λ j. record { left = left; levels = levels; enough = enough; tree = shows.2 j } })
-      (λ p is. number_there _ (element_of l i).bits (width p) l.section section shows.0 (ap (nat_le (width p)) shows.1 ∙ roomy p is))
+module _ (s : Schema) (n : ℕ) (l : ListView) (left : ℕ) (levels : l.levels ≡ Some left) (enough : n ≤ left) where
+  element_stands : (ty : Ty) (i bits : ℕ) (e : Extent) (section : ℕ) (kids : Trees) (below : Children) → below ≡ read_child s kids → IsExtent e (element_of l i) → HasRoom ty bits → ShowsElement (tree_at n l.basis.segments) (element_of l i) bits section kids
+      → IsElement n l s ty i (element_as s ty e section below)
+  element_stands ty i bits e section kids below same extent roomy shows = record {
+    extent = e;
+    section = section;
+    kids = kids;
+    stands = record { extent = extent; same = shows.0; children = λ j. record { left = left; levels = levels; enough = enough; tree = shows.2 j } };
+    number = λ p is. number_there _ (element_of l i).bits (width p) l.section section shows.0 (ap (nat_le (width p)) shows.1 ∙ roomy p is);
+    is = ap (element_as s ty e section) same;
+  }
 
   -- ---- each kind of list
 
-  plain_read : (ty : Ty) (size section i : ℕ) → HasRoom ty (size_bits size) → ShowsElement (tree_at n l.basis.segments) (element_of l i) (size_bits size) section none
-      → Answers s (element_shown s ty l i) (or_empty s ty (element_as s ty (just_bits (size_bits size)) section no_children))
+  plain_stands : (ty : Ty) (size section i : ℕ) → HasRoom ty (size_bits size) → ShowsElement (tree_at n l.basis.segments) (element_of l i) (size_bits size) section none
+      → IsElement n l s ty i (element_as s ty (just_bits (size_bits size)) section no_children)
   unfolding read
-  plain_read ty size section i roomy shows = shown_read ty i (size_bits size) (just_bits (size_bits size)) section none no_children (λ k j t. null_pointer) shows.1 roomy shows
+  plain_stands ty size section i roomy shows = element_stands ty i (size_bits size) (just_bits (size_bits size)) section none no_children (λ k j t. null_pointer) shows.1 roomy shows
 
-  child_shown : (ty : Ty) (t : Tree) (i : ℕ) → HasRoom ty 0 → ShowsElement (tree_at n l.basis.segments) (element_of l i) 0 0 (t ▸ none)
-      → Answers s (element_shown s ty l i) (or_empty s ty (element_as s ty (just_bits 0) 0 (only_child (read s t))))
-  child_shown ty t i roomy shows = shown_read ty i 0 (just_bits 0) 0 (t ▸ none) (only_child (read s t)) (λ k j u. one_child s t j u k) shows.1 roomy shows
+  child_stands : (ty : Ty) (t : Tree) (i : ℕ) → HasRoom ty 0 → ShowsElement (tree_at n l.basis.segments) (element_of l i) 0 0 (t ▸ none)
+      → IsElement n l s ty i (element_as s ty (just_bits 0) 0 (only_child (read s t)))
+  child_stands ty t i roomy shows = element_stands ty i 0 (just_bits 0) 0 (t ▸ none) (only_child (read s t)) (λ k j u. one_child s t j u k) shows.1 roomy shows
 
-  struct_shown : (ty : Ty) (words section i : ℕ) (kids : Trees) → HasRoom ty (64 * words) → ShowsElement (tree_at n l.basis.segments) (element_of l i) (64 * words) section kids
-      → Answers s (element_shown s ty l i) (or_empty s ty (element_as s ty whole_words section (read_child s kids)))
-  struct_shown ty words section i kids roomy shows =
+  struct_stands : (ty : Ty) (words section i : ℕ) (kids : Trees) → HasRoom ty (64 * words) → ShowsElement (tree_at n l.basis.segments) (element_of l i) (64 * words) section kids
+      → IsElement n l s ty i (element_as s ty whole_words section (read_child s kids))
+  struct_stands ty words section i kids roomy shows =
       let bound : (element_of l i).section < 2 ^ (element_of l i).bits = mod-lt _ (pow_pos (element_of l i).bits) in
       let inside : (element_of l i).section < 2 ^ (64 * words) = subst (λ b. (element_of l i).section < 2 ^ b) shows.1 bound in
-      shown_read ty i (64 * words) whole_words section kids (read_child s kids) refl (words, shows.1, inside) roomy shows
+      element_stands ty i (64 * words) whole_words section kids (read_child s kids) refl (words, shows.1, inside) roomy shows
 
-  structs_shown : (ty : Ty) → HasRoom ty (64 * l.data_words) → (es : Elements) (k : ℕ) → ShowsElements (tree_at n l.basis.segments) l k es → (i j : ℕ) → j ≡ k + i → i < element_count es
-      → Answers s (element_shown s ty l j) (or_empty s ty (reading_of i (struct_elements s es ty)))
+  structs_stand : (ty : Ty) → HasRoom ty (64 * l.data_words) → (es : Elements) (k : ℕ) → ShowsElements (tree_at n l.basis.segments) l k es → (i j : ℕ) → j ≡ k + i → i < element_count es → IsElement n l s ty j (reading_of i (struct_elements s es ty))
   unfolding read
-  structs_shown ty roomy no_elements k shows i j e h = absurd (omega arith)
-  structs_shown ty roomy (element section kids es) k shows zero j e h =
+  structs_stand ty roomy no_elements k shows i j e h = absurd (omega arith)
+  structs_stand ty roomy (element section kids es) k shows zero j e h =
       let at : j ≡ k = omega arith in
-      let P : ℕ → Type 0 = λ x. Answers s (element_shown s ty l x) (or_empty s ty (element_as s ty whole_words section (read_child s kids))) in
-      subst P (sym at) (struct_shown ty l.data_words section k kids roomy shows.0)
-  structs_shown ty roomy (element section kids es) k shows (suc i) j e h = structs_shown ty roomy es (suc k) shows.1 i j (omega arith) (omega arith)
+      let P : ℕ → Type 0 = λ x. IsElement n l s ty x (element_as s ty whole_words section (read_child s kids)) in
+      subst P (sym at) (struct_stands ty l.data_words section k kids roomy shows.0)
+  structs_stand ty roomy (element section kids es) k shows (suc i) j e h = structs_stand ty roomy es (suc k) shows.1 i j (omega arith) (omega arith)
 
 -- ---- any list
 
--- The clause of one element.
-abbrev Element : Schema → Ty → ListView → Readings → ℕ → Type 0
-Element s ty l items i = (i < l.count → Answers s (element_shown s ty l i) (or_empty s ty (reading_of i items))) × (l.count ≤ i → reading_of i items ≡ inactive)
+-- The elements of a list stand where the items are, of which there are as many.
+pub record AreElements (n : ℕ) (l : ListView) (s : Schema) (ty : Ty) (items : Readings) : Type 0 where
+  pub count : item_count items ≡ l.count
+  pub each : (i : ℕ) → i < l.count → IsElement n l s ty i (reading_of i items)
 
-module _ (pointers : PointersAreRead) (s : Schema) (ty : TypeRecord) (n : ℕ) (l : ListView) (items : Readings) (left : ℕ) (levels : l.levels ≡ Some left) (enough : n ≤ left) where
-  tree_elements : (t : Tree) → ShowsList (tree_at n l.basis.segments) l t → or_empty s (list (type_of ty)) (read s t (list (type_of ty))) ≡ list_of items → (i : ℕ) → Element s (type_of ty) l items i
-  unfolding read
-  tree_elements null shows e i =
+module _ (s : Schema) (ty : TypeRecord) (n : ℕ) (l : ListView) (items : Readings) (left : ℕ) (levels : l.levels ≡ Some left) (enough : n ≤ left) where
+  tree_elements : (t : Tree) → ShowsList (tree_at n l.basis.segments) l t → or_empty s (list (type_of ty)) (read s t (list (type_of ty))) ≡ list_of items → AreElements n l s (type_of ty) items
+  unfolding read item_count
+  tree_elements null shows e =
       let empty : no_readings ≡ items = cc in
-      subst (λ rs. Element s (type_of ty) l rs i) empty ((λ h. absurd (omega arith)), (λ h. refl))
-  tree_elements (capability c) shows e i = absurd shows
-  tree_elements (structure words section kids) shows e i = absurd shows
-  tree_elements (plain_list size count section) shows e i =
+      subst (AreElements n l s (type_of ty)) empty (record { count = sym shows; each = λ i h. absurd (omega (arith, shows)) })
+  tree_elements (capability c) shows e = absurd shows
+  tree_elements (structure words section kids) shows e = absurd shows
+  tree_elements (plain_list size count section) shows e =
       let xs = plain_elements size count section in
       let are = listed s (list (type_of ty)) (is_list_of (plain_list size count section) (type_of ty)) (plain_readings s (size_bits size) xs (type_of ty)) items e in
       let many : length xs ≡ count = length-numbers_in (size_bits size) count section in
       let counted : l.count ≡ count = shows.1 in
-      subst (λ rs. Element s (type_of ty) l rs i) are.1 (
-        (λ h. subst (λ r. Answers s (element_shown s (type_of ty) l i) (or_empty s (type_of ty) r)) (plain_at s (size_bits size) xs (type_of ty) i (omega arith))
-            (plain_read pointers s n l left levels enough (type_of ty) size (slice_index xs i) i (plain_has_room ty size count section are.0) (shows.2 i (omega arith)))),
-        (λ h. plain_past s (size_bits size) xs (type_of ty) i (omega arith)),
-      )
-  tree_elements (pointer_list ts) shows e i =
+      subst (AreElements n l s (type_of ty)) are.1 (record {
+        count = plain_count s (size_bits size) xs (type_of ty) ∙ many ∙ sym counted;
+        each = λ i h. subst (IsElement n l s (type_of ty) i) (plain_at s (size_bits size) xs (type_of ty) i (omega arith))
+            (plain_stands s n l left levels enough (type_of ty) size (slice_index xs i) i (plain_has_room ty size count section are.0) (shows.2 i (omega arith)));
+      })
+  tree_elements (pointer_list ts) shows e =
       let are = listed s (list (type_of ty)) (is_list_of (pointer_list ts) (type_of ty)) (pointer_elements s ts (type_of ty)) items e in
       let counted : l.count ≡ tree_count ts = shows.1 in
-      subst (λ rs. Element s (type_of ty) l rs i) are.1 (
-        (λ h. subst (λ r. Answers s (element_shown s (type_of ty) l i) (or_empty s (type_of ty) r)) (pointer_at s ts (type_of ty) i (omega arith))
-            (child_shown pointers s n l left levels enough (type_of ty) (child ts i) i (pointers_have_room ty ts are.0) (shows.2 i (omega arith)))),
-        (λ h. pointer_past s ts (type_of ty) i (omega arith)),
-      )
-  tree_elements (struct_list words k es) shows e i =
+      subst (AreElements n l s (type_of ty)) are.1 (record {
+        count = pointer_count s ts (type_of ty) ∙ sym counted;
+        each = λ i h. subst (IsElement n l s (type_of ty) i) (pointer_at s ts (type_of ty) i (omega arith))
+            (child_stands s n l left levels enough (type_of ty) (child ts i) i (pointers_have_room ty ts are.0) (shows.2 i (omega arith)));
+      })
+  tree_elements (struct_list words k es) shows e =
       let are = listed s (list (type_of ty)) (is_list_of (struct_list words k es) (type_of ty)) (struct_elements s es (type_of ty)) items e in
       let counted : l.count ≡ element_count es = shows.1 in
       let roomy : HasRoom (type_of ty) (64 * l.data_words) = subst (λ w. HasRoom (type_of ty) (64 * w)) (sym shows.2) (structs_have_room ty words k es are.0) in
-      subst (λ rs. Element s (type_of ty) l rs i) are.1
-      ((λ h. structs_shown pointers s n l left levels enough (type_of ty) roomy es 0 shows.3 i i (omega arith) (omega arith)), (λ h. struct_past s es (type_of ty) i (omega arith)))
+      subst (AreElements n l s (type_of ty)) are.1 (record {
+        count = struct_count s es (type_of ty) ∙ sym counted;
+        each = λ i h. structs_stand s n l left levels enough (type_of ty) roomy es 0 shows.3 i i (omega arith) (omega arith);
+      })
+
+-- the elements of a list stand where they are read
+pub elements_stand : (s : Schema) (ty : TypeRecord) (l : ListView) (r : Reading) (are : AreItems s (type_of ty) l r) → AreElements are.levels l s (type_of ty) are.items
+elements_stand s ty l r are = tree_elements s ty are.levels l are.items are.lists.left are.lists.levels are.lists.enough are.tree are.lists.shows are.reads
+
+-- ---- what they show
+
+module _ (pointers : PointersAreRead) (s : Schema) (n : ℕ) (l : ListView) where
+  element_read : (ty : Ty) (i : ℕ) (e : Extent) (section : ℕ) (kids : Trees) → Stands n (element_of l i) e section kids
+      → ((p : PlainType) → ty ≡ plain p → element_number l i (width p) ≡ bits_at 0 (width p) section) → Answers s (element_shown s ty l i) (or_empty s ty (element_as s ty e section (read_child s kids)))
+  element_read void i e section kids stands h = refl
+  element_read (plain p) i e section kids stands h = number_read s p _ _ (h p refl)
+  element_read (struct id) i e section kids stands h = (refl, record { levels = n; extent = e; section = section; kids = kids; stands = stands; is = refl })
+  element_read text i e section kids stands h = pointer_read pointers n (element_of l i) e section kids s stands 0 text tt
+  element_read blob i e section kids stands h = pointer_read pointers n (element_of l i) e section kids s stands 0 blob tt
+  element_read untyped i e section kids stands h = pointer_read pointers n (element_of l i) e section kids s stands 0 untyped tt
+  element_read interface i e section kids stands h = pointer_read pointers n (element_of l i) e section kids s stands 0 interface tt
+  element_read (list ty) i e section kids stands h = pointer_read pointers n (element_of l i) e section kids s stands 0 (list ty) tt
 
 pub elements : PointersAreRead → ElementsAreRead
-elements pointers s ty l r are i = tree_elements pointers s ty are.levels l are.items are.lists.left are.lists.levels are.lists.enough are.tree are.lists.shows are.reads i
+elements pointers s ty l r are i =
+    let all = elements_stand s ty l r are in
+    (
+      (λ h. let x = all.each i h in
+          subst (λ z. Answers s (element_shown s (type_of ty) l i) (or_empty s (type_of ty) z)) (sym x.is) (element_read pointers s are.levels l (type_of ty) i x.extent x.section x.kids x.stands x.number)),
+      (λ h. past_items are.items i (omega (arith, all.count, h))),
+    )

@@ -12,11 +12,11 @@ use Rattle.capnp_values.specs.GoodDefaults.{HasBytes, KeepsDefault}
 use Rattle.capnp_values.specs.Shown.{default_said}
 
 -- what each node keeps of its defaults
-record DefaultsKept (nodes : List Node) : Type 0 where
+pub record DefaultsKept (nodes : List Node) : Type 0 where
   pub good : list_all (λ n. list_all (λ f. has_good_default f.kind) (fields_of_kind n.kind)) nodes ≡ true
   pub reads : list_all (λ n. list_all (λ f. default_reads f.kind) (fields_of_kind n.kind)) nodes ≡ true
 
-defaults_kept : (nodes : List Node) → IsAccepted nodes → DefaultsKept nodes
+pub defaults_kept : (nodes : List Node) → IsAccepted nodes → DefaultsKept nodes
 defaults_kept nodes h =
     let a = behind nodes 1 11 h in
     let b = behind nodes 2 10 a.1 in

@@ -20,7 +20,7 @@ use Rattle.capnp_values.proofs.DefaultReadings.{fields}
 
 -- ---- the discriminant
 
-union_counted : (nodes : List Node) (levels id : ℕ) → (o : Option ℕ) × (union_in (shape_in nodes levels id) ≡ option_map (λ n. 16 * n) o)
+pub union_counted : (nodes : List Node) (levels id : ℕ) → (o : Option ℕ) × (union_in (shape_in nodes levels id) ≡ option_map (λ n. 16 * n) o)
 unfolding shape_in
 union_counted nodes zero id = (None, refl)
 union_counted nodes (suc levels) id = by (find_node nodes id)
@@ -69,7 +69,7 @@ field_of_record (field n m b fs) (suc i) d e section kids x h = field_of_record 
 
 -- ---- what is there
 
-pointer_there : (s : Schema) (ty : Ty) (t : Tree) → is_there (read s t ty) ≡ not (is_null_tree t)
+pub pointer_there : (s : Schema) (ty : Ty) (t : Tree) → is_there (read s t ty) ≡ not (is_null_tree t)
 unfolding read
 pointer_there s ty null = refl
 pointer_there s ty (capability i) = there s ty (capability i) refl
@@ -89,7 +89,7 @@ there_is_live (list_of rs) h = refl
 there_is_live (record_as r) h = refl
 there_is_live (opaque t) h = refl
 
-pointer_live : (s : Schema) (ty : Ty) (t : Tree) → is_live (read s t ty) ≡ true
+pub pointer_live : (s : Schema) (ty : Ty) (t : Tree) → is_live (read s t ty) ≡ true
 unfolding read
 pointer_live s ty null = refl
 pointer_live s ty (capability i) = there_is_live _ (there s ty (capability i) refl)

@@ -1,0 +1,18 @@
+//! Laws of printed text, each the contract of an empty function: a call of it brings its clauses.
+ghost use Rattle.capnp_print.specs.Models.{WholesAreRead, TextsAreModels};
+
+use capnp_values::laws::pointers_are_read;
+
+/// All that a value of an accepted set shows, down to the last level that is left, is what the model reads of it: each field of a struct, each element of a list, a null pointer as null, a fault by its kind. What untyped pointers and capabilities lead to isn't looked at.
+pub fn wholes_are_read()
+    ensures { WholesAreRead }
+{
+    pointers_are_read();
+}
+
+/// The text of what a value of an accepted set shows is the model's text of what the model reads of it, in both forms, with null pointers as the model prints them; and there is a fault in place of the text just where the model has none.
+pub fn texts_are_models()
+    ensures { TextsAreModels }
+{
+    pointers_are_read();
+}
