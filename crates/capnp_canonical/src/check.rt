@@ -294,7 +294,8 @@ fn structs_end<A: ReaderArena>(
     requires link { Reaches (words_in (A.segments arena.now)) (place_view place) head
         (seen.StructList start words count size.data_words size.pointers) }
     ensures { TestsObject levels (words_in (A.segments arena.now)) (place_view place) head
-        (seen.StructList start words count size.data_words size.pointers) limiter.old result limiter.new }
+        (seen.StructList start words count size.data_words size.pointers) limiter.old result
+        limiter.new }
 {
     let cut = cut_of(arena, start, size.data_words, size.pointers, count);
     let own = count as usize * (cut.kept_words as usize + cut.kept_pointers as usize);

@@ -18,7 +18,10 @@ use capnp_units::limiter::ReadLimiter;
 
 /// Refuses a capability, and an object that takes a level where none is left.
 fn ask_data(named: NamedObject, levels: u32) -> Result<()>
-    ensures { MatchResult result (λ u. fault_of levels (named_view named) ≡ None) (λ e. fault_of levels (named_view named) ≡ Some (kind_of e.kind)) }
+    ensures { MatchResult
+        result (λ u.
+        fault_of levels (named_view named) ≡ None)
+        (λ e. fault_of levels (named_view named) ≡ Some (kind_of e.kind)) }
 {
     match named {
         NamedObject::Null => Ok(()),
@@ -42,7 +45,8 @@ pub(crate) fn follow_data<A: ReaderArena>(
     place: Place,
     levels: u32,
 ) -> Result<Object>
-    ensures { FollowsData levels (words_in (A.segments arena.now)) (place_view place) limiter.old result limiter.new }
+    ensures { FollowsData levels (words_in (A.segments arena.now)) (place_view place) limiter.old
+        result limiter.new }
 {
     limiter.follow();
     let found = found_at(arena, place)?;

@@ -11,7 +11,8 @@ use capnp_object::place::{Place, has_words};
 /// Whether a place lies behind another in its segment, at least so many words on.
 pub(crate) fn is_behind<A: ReaderArena>(arena: &A, place: Place, words: usize, head: Place) -> bool
     ensures behind { let s = words_in (A.segments arena.now) in
-        OnTrue result (IsBehind s (place_view place) words (place_view head) × (head.position < 2 ^ 61)) }
+        OnTrue result
+        (IsBehind s (place_view place) words (place_view head) × (head.position < 2 ^ 61)) }
     ensures elsewhere { let s = words_in (A.segments arena.now) in
         OnFalse result (IsBehind s (place_view place) words (place_view head) → ⊥) }
 {

@@ -14,19 +14,25 @@ ghost use Rattle.capnp_canonical.specs.Standing.{Hold, Stands};
 
 /// A copy of a value without a capability follows and pays what any walk over the value does.
 pub fn copies_as_walks()
-    ensures { (levels : ℕ) (s : Segments) (p : Place) (t : Tree) → tree_at levels s p ≡ Some t → has_capability t ≡ false → copy_visits levels s p ≡ visits levels s p }
+    ensures { (levels : ℕ) (s : Segments) (p : Place) (t : Tree) → tree_at levels s p ≡ Some t
+        → has_capability t ≡ false → copy_visits levels s p ≡ visits levels s p }
 {}
 
 /// A value stands at a pointer, with its head at the next word, just where its canonical words do, and to their end.
 pub fn standing_is_canonical()
-    ensures words { (s : Segments) (p : Place) (t : Tree) (end : ℕ) → Stands s p (p.position + 1) t end → Hold s p (canonical_words t) × (end ≡ p.position + length (canonical_words t)) }
-    ensures stand { (s : Segments) (p : Place) (t : Tree) → Hold s p (canonical_words t) → Stands s p (p.position + 1) t (p.position + length (canonical_words t)) }
+    ensures words { (s : Segments) (p : Place) (t : Tree) (end : ℕ)
+        → Stands s p (p.position + 1) t end → Hold s p (canonical_words t)
+        × (end ≡ p.position + length (canonical_words t)) }
+    ensures stand { (s : Segments) (p : Place) (t : Tree) → Hold s p (canonical_words t)
+        → Stands s p (p.position + 1) t (p.position + length (canonical_words t)) }
 {}
 
 /// The canonical copy of a message that is canonical is its one segment again.
 pub fn canonical_messages_are_copies()
-    ensures { (n : ℕ) (s : Segments) (old : List (List ℕ)) (l : ReadLimiter) (end : ℕ) (new : List (List ℕ)) (m : ReadLimiter)
+    ensures { (n : ℕ) (s : Segments) (old : List (List ℕ)) (l : ReadLimiter) (end : ℕ)
+        (new : List (List ℕ)) (m : ReadLimiter)
         → is_canonical_message n s ≡ true
-        → Writes (tree_at n s root) has_capability (λ t words. canonical_words (trim t)) (copy_visits n s root) 1 1 old l (Ok end) new m
+        → Writes (tree_at n s root) has_capability (λ t words. canonical_words (trim t))
+        (copy_visits n s root) 1 1 old l (Ok end) new m
         → s ≡ filled end new ∷ [] }
 {}

@@ -18,7 +18,8 @@ use capnp_units::sizes::Word;
 
 /// The word at a place, or 0 where there is none.
 pub(crate) fn word_or_zero<A: ReaderArena>(arena: &A, place: Place) -> u64
-    ensures word { result ≡ unwrap_or (word_at (words_in (A.segments arena.now)) (place_view place)) 0 }
+    ensures word { result ≡ unwrap_or
+        (word_at (words_in (A.segments arena.now)) (place_view place)) 0 }
     ensures fits { result < 2 ^ 64 }
 {
     word_at(arena, place).unwrap_or(0)
@@ -27,8 +28,10 @@ pub(crate) fn word_or_zero<A: ReaderArena>(arena: &A, place: Place) -> u64
 /// How many of so many words there are without zeros at the end.
 pub(crate) fn words_needed<A: ReaderArena>(arena: &A, start: Place, count: u16) -> u16
     requires { AreThere (words_in (A.segments arena.now)) (place_view start) count }
-    ensures needed { result ≡ needed_words count (section_at (words_in (A.segments arena.now)) (place_view start) count) }
-    ensures kept { result ≡ kept (words_there (words_in (A.segments arena.now)) (place_view start) count) }
+    ensures needed { result ≡ needed_words count
+        (section_at (words_in (A.segments arena.now)) (place_view start) count) }
+    ensures kept { result ≡ kept
+        (words_there (words_in (A.segments arena.now)) (place_view start) count) }
     ensures few { result ≤ count }
 {
     let mut n = count;
@@ -54,9 +57,14 @@ pub(crate) fn most_needed<A: ReaderArena>(
     count: u32,
 ) -> u16
     requires short { width < 2 ^ 17 }
-    requires there { (i : ℕ) → i < count → AreThere (words_in (A.segments arena.now)) (after (place_view start) (i * width)) words }
-    ensures needed { result ≡ widest (λ p. needed_words words (section_at (words_in (A.segments arena.now)) p words)) (place_view start) width count }
-    ensures kept { result ≡ widest (λ p. kept (words_there (words_in (A.segments arena.now)) p words)) (place_view start) width count }
+    requires there { (i : ℕ) → i < count
+        → AreThere (words_in (A.segments arena.now)) (after (place_view start) (i * width)) words }
+    ensures needed { result ≡ widest (λ p.
+        needed_words words (section_at (words_in (A.segments arena.now)) p words))
+        (place_view start) width count }
+    ensures kept { result ≡ widest (λ p.
+        kept (words_there (words_in (A.segments arena.now)) p words)) (place_view start) width
+        count }
     ensures few { result ≤ words }
 {
     let mut most = 0;
@@ -91,7 +99,8 @@ pub(crate) fn are_words<A: ReaderArena>(arena: &A, segment: u32)
 /// So many words from a place on, where they are there.
 fn row_of<A: ReaderArena>(arena: &A, start: Place, count: usize) -> &[Word]
     requires { AreThere (words_in (A.segments arena.now)) (place_view start) count }
-    ensures words { words_view result.now ≡ words_there (words_in (A.segments arena.now)) (place_view start) count }
+    ensures words { words_view result.now
+        ≡ words_there (words_in (A.segments arena.now)) (place_view start) count }
     ensures len { length result.now ≡ count }
 {
     match arena.get_segment(start.segment) {
@@ -121,7 +130,10 @@ pub(crate) fn copy_words<A: ReaderArena>(
 )
     requires there { AreThere (words_in (A.segments arena.now)) (place_view start) count }
     requires room { at + count ≤ length into.old }
-    ensures words { words_view into.new ≡ with_words at count (section_at (words_in (A.segments arena.now)) (place_view start) count) (words_view into.old) }
+    ensures words { words_view into.new
+        ≡ with_words at count
+        (section_at (words_in (A.segments arena.now)) (place_view start) count)
+        (words_view into.old) }
     ensures behind { Behind (at + count) into.old into.new }
 {
     are_words(arena, start.segment);

@@ -15,7 +15,9 @@ const MOST_WORDS: usize = 0x1fff_ffff;
 
 /// Where so many words end that are behind those that are used. They are refused with `BufferNotLargeEnough` where the slice, or a message, hasn't so many.
 pub(crate) fn end_of(into: &[Word], used: usize, words: usize) -> Result<usize>
-    ensures { MatchResult result (λ end. (end ≡ used + words) × (end ≤ length into.now) × (end < 2 ^ 29)) (λ e. (e.kind ≡ BufferNotLargeEnough) × (min (length into.now) (2 ^ 29 - 1) < used + words)) }
+    ensures { MatchResult
+        result (λ end. (end ≡ used + words) × (end ≤ length into.now) × (end < 2 ^ 29)) (λ e.
+        (e.kind ≡ BufferNotLargeEnough) × (min (length into.now) (2 ^ 29 - 1) < used + words)) }
 {
     let room = into.len().min(MOST_WORDS);
     if room < used || room - used < words {
@@ -65,7 +67,9 @@ fn word_in(into: &[Word], at: usize) -> u64
 pub(crate) fn mask_last(into: &mut [Word], end: usize, bits: u64)
     requires end { end ≤ length into.old }
     requires some { words_for bits ≤ end }
-    ensures words { (front : List ℕ) (section : ℕ) → filled end into.old ≡ front ++ words_of (words_for bits) section → filled end into.new ≡ front ++ words_of (words_for bits) (section % 2 ^ bits) }
+    ensures words { (front : List ℕ) (section : ℕ)
+        → filled end into.old ≡ front ++ words_of (words_for bits) section
+        → filled end into.new ≡ front ++ words_of (words_for bits) (section % 2 ^ bits) }
     ensures behind { Behind end into.old into.new }
 {
     let spare = bits % 64;

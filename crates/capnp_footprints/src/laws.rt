@@ -113,11 +113,13 @@ pub fn elements_of_lists()
 /// A null pointer gets a new struct of zeros and nulls: one without words lies at the pointer itself, another behind the end of the pointer's segment, or in any segment behind a pad of one word. Nothing else changes.
 pub fn new_structs()
     ensures empty { (n : ℕ) (s : Segments) (p : Place) → word_at s p ≡ Some 0
-        → Replaces (suc n) s (pointed s p (struct_pointer (2 ^ 30 - 1) 0 0)) p (structure 0 0 none) }
+        → Replaces (suc n) s (pointed s p (struct_pointer (2 ^ 30 - 1) 0 0)) p
+        (structure 0 0 none) }
     ensures near { (n : ℕ) (s : Segments) (p : Place) (d k offset : ℕ) → p.segment < length s
         → word_at s p ≡ Some 0 → 0 < d + k → p.position + 1 + offset ≡ segment_end s p.segment
         → offset < 2 ^ 29 → d < 2 ^ 16 → k < 2 ^ 16
-        → Replaces (suc n) s (pointed (with_zeros s p.segment (d + k)) p (struct_pointer offset d k))
+        → Replaces (suc n) s
+        (pointed (with_zeros s p.segment (d + k)) p (struct_pointer offset d k))
         p (structure d 0 (resized k none)) }
     ensures far { (n : ℕ) (s : Segments) (p : Place) (i d k : ℕ) → i ≤ length s → i < 2 ^ 32
         → word_at s p ≡ Some 0 → segment_end s i < 2 ^ 29 → d < 2 ^ 16 → k < 2 ^ 16

@@ -30,7 +30,8 @@ pub fn rows_of_objects()
 
 /// The value of a pointer in a row of the value's object can move to a null one in a row of the object beside it; where it did, both objects changed by it alone.
 pub fn moved_rows()
-    ensures movable { (n : ℕ) (s u : Segments) (p r r' : Place) (k k' i j w : ℕ) (v v' : Trees → Tree)
+    ensures movable { (n : ℕ) (s u : Segments) (p r r' : Place) (k k' i j w : ℕ)
+        (v v' : Trees → Tree)
         (kids kids' : Trees) (xs spare : List Span) (f g : Found) (o : Object)
         → i < k → j < k' → IsRowOf n f.object r k v → IsRowOf n o r' k' v' → found_at u p ≡ Ok f
         → Detached n s u p (v kids) (xs ++ spare) o (v' kids') → word_at u (after r i) ≡ Some w
@@ -79,6 +80,8 @@ pub fn moved_elements()
     ensures target { (d0 d k count j section : ℕ) (kids : Trees) (es : Elements)
         → j < element_count es → element_count es ≡ count
         → element_at d0 es j ≡ structure d0 section kids
-        → with_element (with_first_elements j (with_pointers k es) (zero_elements count k)) j section
-        (resized k kids) ≡ with_first_elements (suc j) (with_pointers k es) (zero_elements count k) }
+        → with_element (with_first_elements j (with_pointers k es) (zero_elements count k)) j
+        section
+        (resized k kids)
+        ≡ with_first_elements (suc j) (with_pointers k es) (zero_elements count k) }
 {}

@@ -16,15 +16,19 @@ ghost use Rattle.capnp_model.specs.Answers.{edits};
 
 /// A call leaves a value no deeper than the value was, or than its path, its own value and the defaults on the way allow; and so do calls in turn.
 pub fn depths_of_edited_values()
-    ensures one { (nodes : List Node) (id : ℕ) (c : Call) (t : Tree) → depth (edit (schema_of nodes) id c t) ≤ max (depth t) (call_depth c) }
-    ensures all { (nodes : List Node) (id k : ℕ) (calls : List Call) (t : Tree) → AllByRecursion (λ c. call_depth c ≤ k) calls
+    ensures one { (nodes : List Node) (id : ℕ) (c : Call) (t : Tree)
+        → depth (edit (schema_of nodes) id c t) ≤ max (depth t) (call_depth c) }
+    ensures all { (nodes : List Node) (id k : ℕ) (calls : List Call) (t : Tree)
+        → AllByRecursion (λ c. call_depth c ≤ k) calls
         → depth (edits (schema_of nodes) id calls t) ≤ max (depth t) k }
 {}
 
 /// What a path leads to is led to after a call that spares it: so a union member stays active, one that only a newer schema has as well, unless a call writes a member of that union, or a group, a pointer or a list's element that holds it.
 pub fn members_that_stay_active()
-    ensures { (nodes : List Node) → IsAccepted nodes → (id : ℕ) (c : Call) (t : Tree) (r : Record) (way : List Step)
+    ensures { (nodes : List Node) → IsAccepted nodes
+        → (id : ℕ) (c : Call) (t : Tree) (r : Record) (way : List Step)
         → step (schema_of nodes) id c (record_of (schema_of nodes) id t) ≡ done r
         → Spares (schema_of nodes) c.path way (fields_in ((schema_of nodes).shape_of id))
-        → IsActiveAt way (record_as (record_of (schema_of nodes) id t)) → IsActiveAt way (record_as r) }
+        → IsActiveAt way (record_as (record_of (schema_of nodes) id t))
+        → IsActiveAt way (record_as r) }
 {}

@@ -32,11 +32,14 @@ pub trait ReaderArena {
 
     /// The words of the segments that a pointer can name, the first 2^32. The count stops at 2^64 - 1. It takes a step for each segment.
     fn size_in_words(&self) -> usize
-        ensures { result ≡ min (words_before (segments self.now) (min (length (segments self.now)) (2 ^ 32))) (2 ^ 64 - 1) };
+        ensures { result ≡ min
+            (words_before (segments self.now) (min (length (segments self.now)) (2 ^ 32)))
+            (2 ^ 64 - 1) };
 
     /// The place so many words on from another, or back where the number is negative. It is refused with `OutOfBounds` where it lies in front of the segment or behind its last word, or the segment isn't there. Behind the last word is a place for an object without words.
     final fn check_offset(&self, start: Place, offset_in_words: i32) -> Result<Place>
-        ensures { seen place_view result ≡ moved (words_in (segments self.now)) (place_view start) offset_in_words }
+        ensures { seen place_view result
+            ≡ moved (words_in (segments self.now)) (place_view start) offset_in_words }
     {
         let words = offset_in_words.unsigned_abs() as usize;
         let position = if offset_in_words < 0 {
@@ -61,9 +64,14 @@ pub trait ReaderArena {
         start: Place,
         size: usize,
     ) -> Result<()>
-        ensures ok { OnOk result ((is_some (words_at (words_in (segments self.now)) (place_view start) size) ≡ true) × Spends limiter.old limiter.new size) }
+        ensures ok { OnOk result
+            ((is_some (words_at (words_in (segments self.now)) (place_view start) size) ≡ true)
+            × Spends limiter.old limiter.new size) }
         ensures refused { OnErr result (limiter.new ≡ limiter.old) }
-        ensures kind { IfErr result (λ e. ((e.kind ≡ ErrorKind.OutOfBounds) × (is_some (words_at (words_in (segments self.now)) (place_view start) size) ≡ false)) ⊎ ((e.kind ≡ ErrorKind.ReadLimitExceeded) × IsPassed (left_of limiter.old) size)) }
+        ensures kind { IfErr result (λ e.
+            ((e.kind ≡ ErrorKind.OutOfBounds)
+            × (is_some (words_at (words_in (segments self.now)) (place_view start) size) ≡ false))
+            ⊎ ((e.kind ≡ ErrorKind.ReadLimitExceeded) × IsPassed (left_of limiter.old) size)) }
     {
         if !has_words(self, start, size) {
             return Err(Error::from(ErrorKind::OutOfBounds));
@@ -74,7 +82,8 @@ pub trait ReaderArena {
     /// Grants so many words for what is read more often than it stands there, as the elements of a list of voids. They are refused with `ReadLimitExceeded` where they pass what is left; then nothing changes.
     final fn amplified_read(&self, limiter: &mut ReadLimiter, virtual_amount: u64) -> Result<()>
         ensures ok { OnOk result (Spends limiter.old limiter.new virtual_amount) }
-        ensures refused { OnErr result ((limiter.new ≡ limiter.old) × IsPassed (left_of limiter.old) virtual_amount) }
+        ensures refused { OnErr result
+            ((limiter.new ≡ limiter.old) × IsPassed (left_of limiter.old) virtual_amount) }
         ensures kind { IfErr result (λ e. e.kind ≡ ErrorKind.ReadLimitExceeded) }
     {
         limiter.charge(virtual_amount)
@@ -86,7 +95,9 @@ const NAMED_SEGMENTS: usize = 0x1_0000_0000;
 
 /// The words of the segments that have a number.
 fn words_in_all<S: ReaderSegments>(segments: &S) -> usize
-    ensures { result ≡ min (words_before (S.segments segments.now) (min (length (S.segments segments.now)) (2 ^ 32))) (2 ^ 64 - 1) }
+    ensures { result ≡ min
+        (words_before (S.segments segments.now) (min (length (S.segments segments.now)) (2 ^ 32)))
+        (2 ^ 64 - 1) }
 {
     let count = segments.len().min(NAMED_SEGMENTS);
     let mut words: usize = 0;

@@ -51,7 +51,8 @@ pub fn own_cost(object: Object) -> u64
 ///
 /// It is refused as `object_at` is, or with `ReadLimitExceeded` where the words pass what is left of the limit. Then it is counted all the same, and no word is granted.
 pub fn follow<A: ReaderArena>(arena: &A, limiter: &mut ReadLimiter, place: Place) -> Result<Object>
-    ensures { FollowGives (words_in (A.segments arena.now)) (place_view place) limiter.old result limiter.new }
+    ensures { FollowGives (words_in (A.segments arena.now)) (place_view place) limiter.old result
+        limiter.new }
 {
     limiter.follow();
     let found = object_at(arena, place)?;
@@ -61,7 +62,10 @@ pub fn follow<A: ReaderArena>(arena: &A, limiter: &mut ReadLimiter, place: Place
 
 /// Refuses an object that takes a level where none is left. Null and a capability take none.
 fn ask_level(named: NamedObject, levels: u32) -> Result<()>
-    ensures { MatchResult result (λ u. suffice_for levels (named_view named) ≡ true) (λ e. (e.kind ≡ ErrorKind.NestingLimitExceeded) × (suffice_for levels (named_view named) ≡ false)) }
+    ensures { MatchResult
+        result (λ u. suffice_for levels (named_view named) ≡ true) (λ e.
+        (e.kind ≡ ErrorKind.NestingLimitExceeded)
+        × (suffice_for levels (named_view named) ≡ false)) }
 {
     match named {
         NamedObject::Null | NamedObject::Capability { .. } => Ok(()),
@@ -84,7 +88,8 @@ pub fn follow_within<A: ReaderArena>(
     place: Place,
     levels: u32,
 ) -> Result<Object>
-    ensures { FollowsWithin levels (words_in (A.segments arena.now)) (place_view place) limiter.old result limiter.new }
+    ensures { FollowsWithin levels (words_in (A.segments arena.now)) (place_view place)
+        limiter.old result limiter.new }
 {
     limiter.follow();
     let found = found_at(arena, place)?;

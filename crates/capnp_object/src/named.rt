@@ -78,7 +78,8 @@ fn described_behind(end: Place, pointer: WordPointer) -> Result<NamedObject>
 
 /// The object of a describing word, where its place is told.
 fn described_at(start: Place, pointer: WordPointer) -> Result<NamedObject>
-    ensures { seen named_view result ≡ described (λ _. Ok (place_view start)) (pointer_view pointer) }
+    ensures { seen named_view result
+        ≡ described (λ _. Ok (place_view start)) (pointer_view pointer) }
 {
     match pointer {
         WordPointer::Struct {
@@ -101,7 +102,8 @@ fn described_at(start: Place, pointer: WordPointer) -> Result<NamedObject>
 
 /// The object behind a landing pad of one word, a pointer.
 fn in_short_pad<A: ReaderArena>(arena: &A, pad: Place) -> Result<NamedObject>
-    ensures { seen named_view result ≡ pad_object (words_in (A.segments arena.now)) (place_view pad) 1 }
+    ensures { seen named_view result
+        ≡ pad_object (words_in (A.segments arena.now)) (place_view pad) 1 }
 {
     let word = word_at(arena, pad).ok_or(Error::from(ErrorKind::OutOfBounds))?;
     let end = Place {
@@ -113,7 +115,8 @@ fn in_short_pad<A: ReaderArena>(arena: &A, pad: Place) -> Result<NamedObject>
 
 /// The object behind a landing pad of two words: where it begins, and a pointer whose offset isn't looked at.
 fn in_long_pad<A: ReaderArena>(arena: &A, pad: Place) -> Result<NamedObject>
-    ensures { seen named_view result ≡ pad_object (words_in (A.segments arena.now)) (place_view pad) 2 }
+    ensures { seen named_view result
+        ≡ pad_object (words_in (A.segments arena.now)) (place_view pad) 2 }
 {
     let far = word_at(arena, pad).ok_or(Error::from(ErrorKind::OutOfBounds))?;
     let second = Place {
@@ -126,7 +129,8 @@ fn in_long_pad<A: ReaderArena>(arena: &A, pad: Place) -> Result<NamedObject>
 
 /// The object that the pointer at a place names, with the words of the pads that lead to it.
 pub fn found_at<A: ReaderArena>(arena: &A, place: Place) -> Result<FoundObject>
-    ensures found { seen found_view result ≡ found_at (words_in (A.segments arena.now)) (place_view place) }
+    ensures found { seen found_view result
+        ≡ found_at (words_in (A.segments arena.now)) (place_view place) }
     ensures pads { IfOk result (λ f. f.pads ≤ 2) }
 {
     let word = word_at(arena, place).ok_or(Error::from(ErrorKind::OutOfBounds))?;

@@ -78,7 +78,9 @@ fn whole_struct<A: ReaderArena>(
     data_words: u16,
     pointers: u16,
 ) -> Result<Object>
-    ensures object { seen (λ o. o) result ≡ whole (words_in (A.segments arena.now)) (a_struct (place_view start) data_words pointers) }
+    ensures object { seen (λ o. o) result
+        ≡ whole (words_in (A.segments arena.now))
+        (a_struct (place_view start) data_words pointers) }
     ensures inside { IfOk result (IsInside (words_in (A.segments arena.now))) }
 {
     if !has_words(arena, start, data_words as usize + pointers as usize) {
@@ -99,7 +101,9 @@ fn whole_list<A: ReaderArena>(
     count: u32,
 ) -> Result<Object>
     requires { size_number size < 6 }
-    ensures object { seen (λ o. o) result ≡ whole (words_in (A.segments arena.now)) (a_list (place_view start) (size_number size) count) }
+    ensures object { seen (λ o. o) result
+        ≡ whole (words_in (A.segments arena.now))
+        (a_list (place_view start) (size_number size) count) }
     ensures inside { IfOk result (IsInside (words_in (A.segments arena.now))) }
 {
     if !has_words(arena, start, words_of_elements(size, count) as usize) {
@@ -110,7 +114,8 @@ fn whole_list<A: ReaderArena>(
 
 /// A list of pointers, where they are there.
 fn whole_pointers<A: ReaderArena>(arena: &A, start: Place, count: u32) -> Result<Object>
-    ensures object { seen (λ o. o) result ≡ whole (words_in (A.segments arena.now)) (a_list (place_view start) 6 count) }
+    ensures object { seen (λ o. o) result
+        ≡ whole (words_in (A.segments arena.now)) (a_list (place_view start) 6 count) }
     ensures inside { IfOk result (IsInside (words_in (A.segments arena.now))) }
 {
     if !has_words(arena, start, count as usize) {
@@ -121,7 +126,8 @@ fn whole_pointers<A: ReaderArena>(arena: &A, start: Place, count: u32) -> Result
 
 /// A list of structs, where its tag and the words behind it are there, the tag has the form of a struct pointer, and its elements fit into those words.
 fn whole_structs<A: ReaderArena>(arena: &A, start: Place, words: u32) -> Result<Object>
-    ensures object { seen (λ o. o) result ≡ whole (words_in (A.segments arena.now)) (a_list (place_view start) 7 words) }
+    ensures object { seen (λ o. o) result
+        ≡ whole (words_in (A.segments arena.now)) (a_list (place_view start) 7 words) }
     ensures inside { IfOk result (IsInside (words_in (A.segments arena.now))) }
 {
     if !has_words(arena, start, 1 + words as usize) {
@@ -154,7 +160,8 @@ fn whole_structs<A: ReaderArena>(arena: &A, start: Place, words: u32) -> Result<
 
 /// An object that a pointer names, where its words are there.
 pub fn whole<A: ReaderArena>(arena: &A, named: NamedObject) -> Result<Object>
-    ensures object { seen (λ o. o) result ≡ whole (words_in (A.segments arena.now)) (named_view named) }
+    ensures object { seen (λ o. o) result
+        ≡ whole (words_in (A.segments arena.now)) (named_view named) }
     ensures inside { IfOk result (IsInside (words_in (A.segments arena.now))) }
 {
     match named {
@@ -183,7 +190,8 @@ pub fn whole<A: ReaderArena>(arena: &A, named: NamedObject) -> Result<Object>
 /// It is refused with `OutOfBounds` where the pointer, a pad or a word of the object isn't there, or where a list of structs has more elements than words for them; with `MalformedFarPointer` where a pad describes its object by a far pointer; with `WrongPointerKind` where a list's tag isn't of struct form; and with `UnknownPointerType` where a pointer of the fourth form is no capability.
 #[tactic(auto, unfolding(crate::specs::Objects::object_at))]
 pub fn object_at<A: ReaderArena>(arena: &A, place: Place) -> Result<Found>
-    ensures object { seen (λ f. f) result ≡ object_at (words_in (A.segments arena.now)) (place_view place) }
+    ensures object { seen (λ f. f) result
+        ≡ object_at (words_in (A.segments arena.now)) (place_view place) }
     ensures inside { IfOk result (λ f. IsInside (words_in (A.segments arena.now)) f.object) }
     ensures pads { IfOk result (λ f. f.pads ≤ 2) }
 {

@@ -52,7 +52,8 @@ pub fn word_at<A: ReaderArena>(arena: &A, place: Place) -> Option<u64>
 
 /// Whether so many words from a place on are there.
 pub fn has_words<A: ReaderArena>(arena: &A, place: Place, count: usize) -> bool
-    ensures there { result ≡ is_some (words_at (words_in (A.segments arena.now)) (place_view place) count) }
+    ensures there { result ≡ is_some
+        (words_at (words_in (A.segments arena.now)) (place_view place) count) }
     ensures near { OnTrue result (place.position + count < 2 ^ 61) }
 {
     match arena.get_segment(place.segment) {

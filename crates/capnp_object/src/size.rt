@@ -75,7 +75,9 @@ pub fn size_at<A: ReaderArena>(
     place: Place,
     levels: u32,
 ) -> Result<MessageSize>
-    ensures { let s = words_in (A.segments arena.now) in SizeGives object_words capability_count (tree_at levels s (place_view place)) (visits levels s (place_view place)) limiter.old result limiter.new }
+    ensures { let s = words_in (A.segments arena.now) in
+        SizeGives object_words capability_count (tree_at levels s (place_view place))
+        (visits levels s (place_view place)) limiter.old result limiter.new }
 {
     let object = follow_within(arena, limiter, place, levels)?;
     if levels == 0 {
@@ -93,7 +95,9 @@ fn size_inside<A: ReaderArena>(
     levels: u32,
 ) -> Result<MessageSize>
     requires { IsInside (words_in (A.segments arena.now)) object }
-    ensures { let s = words_in (A.segments arena.now) in SizeGives object_words capability_count (tree_in s (tree_at levels s) object) (met_in (visits levels s) object) limiter.old result limiter.new }
+    ensures { let s = words_in (A.segments arena.now) in
+        SizeGives object_words capability_count (tree_in s (tree_at levels s) object)
+        (met_in (visits levels s) object) limiter.old result limiter.new }
 {
     match object {
         Object::Null => Ok(NOTHING),
@@ -140,7 +144,10 @@ pub fn size_of_row<A: ReaderArena>(
     levels: u32,
 ) -> Result<MessageSize>
     requires { first.position + count < 2 ^ 62 }
-    ensures { let s = words_in (A.segments arena.now) in SizeGives each_object_words each_capability_count (each (tree_at levels s) (place_view first) count) (from_each (visits levels s) (place_view first) count) limiter.old result limiter.new }
+    ensures { let s = words_in (A.segments arena.now) in
+        SizeGives each_object_words each_capability_count
+        (each (tree_at levels s) (place_view first) count)
+        (from_each (visits levels s) (place_view first) count) limiter.old result limiter.new }
 {
     let mut size = NOTHING;
     for i in 0..count {
@@ -166,7 +173,12 @@ fn size_of_structs<A: ReaderArena>(
     levels: u32,
 ) -> Result<MessageSize>
     requires { start.position + count * (data_words + pointers) < 2 ^ 61 }
-    ensures { let s = words_in (A.segments arena.now) in (ws : List ℕ) → SizeGives (element_object_words data_words) element_capability_count (each_element (tree_at levels s) (place_view start) ws data_words pointers count) (from_elements (visits levels s) (place_view start) data_words pointers count) limiter.old result limiter.new }
+    ensures { let s = words_in (A.segments arena.now) in
+        (ws : List ℕ)
+        → SizeGives (element_object_words data_words) element_capability_count
+        (each_element (tree_at levels s) (place_view start) ws data_words pointers count)
+        (from_elements (visits levels s) (place_view start) data_words pointers count) limiter.old
+        result limiter.new }
 {
     if pointers == 0 {
         return Ok(with_words(NOTHING, count as u64 * data_words as u64));

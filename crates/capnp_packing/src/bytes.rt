@@ -23,7 +23,8 @@ pub(crate) fn is_at_end<R: BufRead>(source: &mut R) -> Result<bool>
 
 /// The next byte, or `None` where none is left.
 pub(crate) fn next_byte<R: BufRead>(source: &mut R) -> Result<Option<u8>>
-    ensures byte { IfOk result (λ o. TakesByte (R.remaining source.old) (R.remaining source.new) o) }
+    ensures byte { IfOk result (λ o.
+        TakesByte (R.remaining source.old) (R.remaining source.new) o) }
     ensures kept { OnErr result (Keeps (R.remaining source.old) (R.remaining source.new)) }
     ensures refusal { IfErr result (λ e. e.kind ≡ ErrorKind.Device) }
     ensures count { Counts result (R.failures source.old) (R.failures source.new) }
@@ -39,8 +40,10 @@ pub(crate) fn next_byte<R: BufRead>(source: &mut R) -> Result<Option<u8>>
 /// The next byte, or this kind where none is left.
 pub(crate) fn byte_or<R: BufRead>(source: &mut R, end: ErrorKind) -> Result<u8>
     requires { IsEndKind end }
-    ensures byte { IfOk result (λ b. Takes (byte_or (kind_of end)) (R.remaining source.old) (R.remaining source.new) b) }
-    ensures refused { IfErr result (λ e. Refuses (byte_or (kind_of end)) (R.remaining source.old) (R.remaining source.new) e.kind) }
+    ensures byte { IfOk result (λ b.
+        Takes (byte_or (kind_of end)) (R.remaining source.old) (R.remaining source.new) b) }
+    ensures refused { IfErr result (λ e.
+        Refuses (byte_or (kind_of end)) (R.remaining source.old) (R.remaining source.new) e.kind) }
     ensures count { Counts result (R.failures source.old) (R.failures source.new) }
 {
     match next_byte(source)? {

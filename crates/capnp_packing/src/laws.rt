@@ -12,16 +12,23 @@ use capnp_model::laws::{packed_words, texts_of_messages, written_messages};
 
 /// Where the bytes to come are those that `Packed::write_piece` wrote, and then any others, `Packed::read_piece` gives the same words and leaves just the others; only a failed device keeps it from that.
 pub fn written_pieces_are_read()
-    ensures read { (ws rest : List ℕ) (new : Option (List ℕ)) (words : List ℕ) → AreWords ws → length words ≡ length ws → TakesPiece unpacked (Some (packed ws ++ rest)) new words → (words ≡ ws) × (new ≡ Some rest) }
-    ensures no_fault { (ws rest : List ℕ) (kind : ErrorKind) → AreWords ws → IsPieceFault unpacked (length ws) (Some (packed ws ++ rest)) kind → kind ≡ ErrorKind.Device }
+    ensures read { (ws rest : List ℕ) (new : Option (List ℕ)) (words : List ℕ) → AreWords ws
+        → length words ≡ length ws → TakesPiece unpacked (Some (packed ws ++ rest)) new words
+        → (words ≡ ws) × (new ≡ Some rest) }
+    ensures no_fault { (ws rest : List ℕ) (kind : ErrorKind) → AreWords ws
+        → IsPieceFault unpacked (length ws) (Some (packed ws ++ rest)) kind
+        → kind ≡ ErrorKind.Device }
 {
     packed_words();
 }
 
 /// Where the bytes to come are those of a packed message, and then any others, `read_message` gives its segments and leaves just the others; it finds no fault in them.
 pub fn written_messages_are_read()
-    ensures read { (limit : Option ℕ) (s u : Segments) (rest : List ℕ) (new : Option (List ℕ)) → CanSpell limit s → TakesMessage unpacked limit (Some (packed_message s ++ rest)) new u → (u ≡ s) × (new ≡ Some rest) }
-    ensures no_fault { (limit : Option ℕ) (s : Segments) (rest : List ℕ) (kind : ErrorKind) → CanSpell limit s → IsFrameFault unpacked limit (packed_message s ++ rest) kind → ⊥ }
+    ensures read { (limit : Option ℕ) (s u : Segments) (rest : List ℕ) (new : Option (List ℕ))
+        → CanSpell limit s → TakesMessage unpacked limit (Some (packed_message s ++ rest)) new u
+        → (u ≡ s) × (new ≡ Some rest) }
+    ensures no_fault { (limit : Option ℕ) (s : Segments) (rest : List ℕ) (kind : ErrorKind)
+        → CanSpell limit s → IsFrameFault unpacked limit (packed_message s ++ rest) kind → ⊥ }
 {
     texts_of_messages();
     written_messages();

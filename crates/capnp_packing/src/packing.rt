@@ -19,7 +19,8 @@ fn write_run<W: Write>(out: &mut W, run: &[u8]) -> Result<()>
     ensures ok { OnOk result (Appends (W.contents out.old) (W.contents out.new) run.now) }
     ensures falls { OnOk result (RoomFalls (W.room out.old) (W.room out.new) (length run.now)) }
     ensures err { OnErr result (AppendsPart (W.contents out.old) (W.contents out.new) run.now) }
-    ensures refusal { IfErr result (λ e. IsWriteRefusal W.may_grow (W.room out.old) (length run.now) e.kind) }
+    ensures refusal { IfErr result (λ e.
+        IsWriteRefusal W.may_grow (W.room out.old) (length run.now) e.kind) }
     ensures count { Counts result (W.failures out.old) (W.failures out.new) }
 {
     if run.is_empty() {
@@ -32,11 +33,17 @@ fn write_run<W: Write>(out: &mut W, run: &[u8]) -> Result<()>
 fn write_groups<'a, W: Write>(out: &mut W, bytes: &'a [u8]) -> Result<&'a [u8]>
     requires whole { length bytes.now % 8 ≡ 0 }
     requires some { 0 < length bytes.now }
-    ensures ok { IfOk result (λ rest. WritesUpTo (whole_words bytes.now) (whole_words rest.now) (W.contents out.old) (W.contents out.new) (W.room out.old) (W.room out.new)) }
+    ensures ok { IfOk result (λ rest.
+        WritesUpTo (whole_words bytes.now) (whole_words rest.now) (W.contents out.old)
+        (W.contents out.new) (W.room out.old) (W.room out.new)) }
     ensures rest_whole { IfOk result (λ rest. length rest.now % 8 ≡ 0) }
     ensures shorter { IfOk result (λ rest. length rest.now < length bytes.now) }
-    ensures err { OnErr result (AppendsPart (W.contents out.old) (W.contents out.new) (packed_on (whole_words bytes.now))) }
-    ensures refusal { IfErr result (λ e. IsWriteRefusal W.may_grow (W.room out.old) (length (packed_on (whole_words bytes.now))) e.kind) }
+    ensures err { OnErr result
+        (AppendsPart (W.contents out.old) (W.contents out.new)
+        (packed_on (whole_words bytes.now))) }
+    ensures refusal { IfErr result (λ e.
+        IsWriteRefusal W.may_grow (W.room out.old) (length (packed_on (whole_words bytes.now)))
+        e.kind) }
     ensures count { Counts result (W.failures out.old) (W.failures out.new) }
 {
     let mut buf = [0u8; BUFFER_LEN];
@@ -49,10 +56,15 @@ fn write_groups<'a, W: Write>(out: &mut W, bytes: &'a [u8]) -> Result<&'a [u8]>
 /// Writes the words as one piece.
 pub(crate) fn write_words<W: Write>(out: &mut W, bytes: &[u8]) -> Result<()>
     requires { length bytes.now % 8 ≡ 0 }
-    ensures ok { OnOk result (Appends (W.contents out.old) (W.contents out.new) (packed (whole_words bytes.now))) }
-    ensures falls { OnOk result (RoomFalls (W.room out.old) (W.room out.new) (length (packed (whole_words bytes.now)))) }
-    ensures err { OnErr result (AppendsPart (W.contents out.old) (W.contents out.new) (packed (whole_words bytes.now))) }
-    ensures refusal { IfErr result (λ e. IsWriteRefusal W.may_grow (W.room out.old) (length (packed (whole_words bytes.now))) e.kind) }
+    ensures ok { OnOk result
+        (Appends (W.contents out.old) (W.contents out.new) (packed (whole_words bytes.now))) }
+    ensures falls { OnOk result
+        (RoomFalls (W.room out.old) (W.room out.new) (length (packed (whole_words bytes.now)))) }
+    ensures err { OnErr result
+        (AppendsPart (W.contents out.old) (W.contents out.new) (packed (whole_words bytes.now))) }
+    ensures refusal { IfErr result (λ e.
+        IsWriteRefusal W.may_grow (W.room out.old) (length (packed (whole_words bytes.now)))
+        e.kind) }
     ensures count { Counts result (W.failures out.old) (W.failures out.new) }
 {
     let mut left = bytes;

@@ -88,7 +88,8 @@ pub fn write_message_segments<W: Write, S: ReaderSegments>(
     segments: &S,
 ) -> Result<()>
     requires { AreWritable (S.segments segments.now) }
-    ensures { Writes (W.may_grow ⊎ (1 < length (S.segments segments.now))) (packed_message (words_in (S.segments segments.now)))
+    ensures { Writes (W.may_grow ⊎ (1 < length (S.segments segments.now)))
+        (packed_message (words_in (S.segments segments.now)))
         (sink_seen W.contents W.failures W.room out.old) result
         (sink_seen W.contents W.failures W.room out.new) }
 {

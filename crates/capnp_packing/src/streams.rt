@@ -39,12 +39,26 @@ impl<R: BufRead> Read for PackedRead<R> {
         ensures refusal { IfErr result (λ e. IsUnpackingKind e.kind) }
         ensures count { Counts result (R.failures self.old.inner) (R.failures self.new.inner) }
         ensures whole { IfOk result (λ _. length buf.old % 8 ≡ 0) }
-        ensures piece { IfOk result (λ n. n ≢ 0 → (n ≡ length buf.old) × TakesPiece unpacked (R.remaining self.old.inner) (R.remaining self.new.inner) (whole_words buf.new)) }
-        ensures end { IfOk result (λ n. n ≡ 0 → Keeps (R.remaining self.old.inner) (R.remaining self.new.inner) × (0 < length buf.old → IsAtEnd (R.remaining self.old.inner))) }
-        ensures ragged { IfErr result (λ e. e.kind ≡ ErrorKind.BufferNotLargeEnough → (length buf.old % 8 ≢ 0) × Keeps (R.remaining self.old.inner) (R.remaining self.new.inner)) }
-        ensures fault { IfErr result (λ e. e.kind ≢ ErrorKind.BufferNotLargeEnough → IsPieceFault unpacked (length buf.old / 8) (R.remaining self.old.inner) e.kind) }
-        ensures some { IfErr result (λ e. e.kind ≢ ErrorKind.Device → length buf.old % 8 ≡ 0 → IfSome (R.remaining self.old.inner) (λ xs. xs ≢ [])) }
-        ensures part { IfErr result (λ e. e.kind ≢ ErrorKind.BufferNotLargeEnough → TakesPieceStart unpacked (length buf.old / 8) (R.remaining self.old.inner) (R.remaining self.new.inner)) }
+        ensures piece { IfOk result (λ n.
+            n ≢ 0 → (n ≡ length buf.old)
+            × TakesPiece unpacked (R.remaining self.old.inner) (R.remaining self.new.inner)
+            (whole_words buf.new)) }
+        ensures end { IfOk result (λ n.
+            n ≡ 0 → Keeps (R.remaining self.old.inner) (R.remaining self.new.inner)
+            × (0 < length buf.old → IsAtEnd (R.remaining self.old.inner))) }
+        ensures ragged { IfErr result (λ e.
+            e.kind ≡ ErrorKind.BufferNotLargeEnough → (length buf.old % 8 ≢ 0)
+            × Keeps (R.remaining self.old.inner) (R.remaining self.new.inner)) }
+        ensures fault { IfErr result (λ e.
+            e.kind ≢ ErrorKind.BufferNotLargeEnough
+            → IsPieceFault unpacked (length buf.old / 8) (R.remaining self.old.inner) e.kind) }
+        ensures some { IfErr result (λ e.
+            e.kind ≢ ErrorKind.Device → length buf.old % 8 ≡ 0
+            → IfSome (R.remaining self.old.inner) (λ xs. xs ≢ [])) }
+        ensures part { IfErr result (λ e.
+            e.kind ≢ ErrorKind.BufferNotLargeEnough
+            → TakesPieceStart unpacked (length buf.old / 8) (R.remaining self.old.inner)
+            (R.remaining self.new.inner)) }
     {
         if buf.len() % 8 != 0 {
             return Err(Error::from(ErrorKind::BufferNotLargeEnough));
@@ -61,14 +75,25 @@ impl<R: BufRead> Read for PackedRead<R> {
     /// `BufferNotLargeEnough`: `buf` ends in a part of a word; nothing is taken. `Device`: the source failed; any other kind says why the bytes that are left begin with no such piece. Then less than the piece was taken.
     fn read_exact(&mut self, buf: &mut [u8]) -> Result<()>
         ensures ok { OnOk result (Consumes None None buf.new) }
-        ensures part { IfErr result (λ e. (IsUnpackingKind e.kind × ConsumesFewer None None (length buf.old))
-            ⊎ ((e.kind ≡ ErrorKind.FailedToFillTheWholeBuffer) × EndsBefore None None (length buf.old))) }
+        ensures part { IfErr result (λ e.
+            (IsUnpackingKind e.kind × ConsumesFewer None None (length buf.old))
+            ⊎ ((e.kind ≡ ErrorKind.FailedToFillTheWholeBuffer)
+            × EndsBefore None None (length buf.old))) }
         ensures count { Counts result (R.failures self.old.inner) (R.failures self.new.inner) }
         ensures whole { OnOk result (length buf.old % 8 ≡ 0) }
-        ensures piece { OnOk result (TakesPiece unpacked (R.remaining self.old.inner) (R.remaining self.new.inner) (whole_words buf.new)) }
-        ensures ragged { IfErr result (λ e. e.kind ≡ ErrorKind.BufferNotLargeEnough → (length buf.old % 8 ≢ 0) × Keeps (R.remaining self.old.inner) (R.remaining self.new.inner)) }
-        ensures fault { IfErr result (λ e. e.kind ≢ ErrorKind.BufferNotLargeEnough → IsPieceFault unpacked (length buf.old / 8) (R.remaining self.old.inner) e.kind) }
-        ensures start { IfErr result (λ e. e.kind ≢ ErrorKind.BufferNotLargeEnough → TakesPieceStart unpacked (length buf.old / 8) (R.remaining self.old.inner) (R.remaining self.new.inner)) }
+        ensures piece { OnOk result
+            (TakesPiece unpacked (R.remaining self.old.inner) (R.remaining self.new.inner)
+            (whole_words buf.new)) }
+        ensures ragged { IfErr result (λ e.
+            e.kind ≡ ErrorKind.BufferNotLargeEnough → (length buf.old % 8 ≢ 0)
+            × Keeps (R.remaining self.old.inner) (R.remaining self.new.inner)) }
+        ensures fault { IfErr result (λ e.
+            e.kind ≢ ErrorKind.BufferNotLargeEnough
+            → IsPieceFault unpacked (length buf.old / 8) (R.remaining self.old.inner) e.kind) }
+        ensures start { IfErr result (λ e.
+            e.kind ≢ ErrorKind.BufferNotLargeEnough
+            → TakesPieceStart unpacked (length buf.old / 8) (R.remaining self.old.inner)
+            (R.remaining self.new.inner)) }
     {
         if buf.len() % 8 != 0 {
             return Err(Error::from(ErrorKind::BufferNotLargeEnough));
@@ -93,10 +118,18 @@ impl<W: Write> PackedWrite<W> {
     /// After a refusal a beginning of it was written. `BufferNotLargeEnough`: the sink has an end, and less room than the piece has bytes. `OutOfMemory`: the sink wants memory. `Device`: it failed.
     pub fn write_piece(&mut self, bytes: &[u8]) -> Result<()>
         requires { length bytes.now % 8 ≡ 0 }
-        ensures ok { OnOk result (Appends (W.contents self.old.inner) (W.contents self.new.inner) (packed (whole_words bytes.now))) }
-        ensures falls { OnOk result (RoomFalls (W.room self.old.inner) (W.room self.new.inner) (length (packed (whole_words bytes.now)))) }
-        ensures err { OnErr result (AppendsPart (W.contents self.old.inner) (W.contents self.new.inner) (packed (whole_words bytes.now))) }
-        ensures refusal { IfErr result (λ e. IsWriteRefusal W.may_grow (W.room self.old.inner) (length (packed (whole_words bytes.now))) e.kind) }
+        ensures ok { OnOk result
+            (Appends (W.contents self.old.inner) (W.contents self.new.inner)
+            (packed (whole_words bytes.now))) }
+        ensures falls { OnOk result
+            (RoomFalls (W.room self.old.inner) (W.room self.new.inner)
+            (length (packed (whole_words bytes.now)))) }
+        ensures err { OnErr result
+            (AppendsPart (W.contents self.old.inner) (W.contents self.new.inner)
+            (packed (whole_words bytes.now))) }
+        ensures refusal { IfErr result (λ e.
+            IsWriteRefusal W.may_grow (W.room self.old.inner)
+            (length (packed (whole_words bytes.now))) e.kind) }
         ensures count { Counts result (W.failures self.old.inner) (W.failures self.new.inner) }
     {
         write_words(&mut self.inner, bytes)
@@ -107,11 +140,22 @@ impl<W: Write> PackedWrite<W> {
     /// `BufferNotLargeEnough`: they aren't whole words, and nothing was written. Else it refuses as `write_piece` does.
     pub fn write_all(&mut self, bytes: &[u8]) -> Result<()>
         ensures whole { OnOk result (length bytes.now % 8 ≡ 0) }
-        ensures ok { OnOk result (Appends (W.contents self.old.inner) (W.contents self.new.inner) (packed (whole_words bytes.now))) }
-        ensures falls { OnOk result (RoomFalls (W.room self.old.inner) (W.room self.new.inner) (length (packed (whole_words bytes.now)))) }
-        ensures ragged { IfErr result (λ e. length bytes.now % 8 ≢ 0 → (e.kind ≡ ErrorKind.BufferNotLargeEnough) × (self.new.inner ≡ self.old.inner)) }
-        ensures err { OnErr result (AppendsPart (W.contents self.old.inner) (W.contents self.new.inner) (packed (whole_words bytes.now))) }
-        ensures refusal { IfErr result (λ e. length bytes.now % 8 ≡ 0 → IsWriteRefusal W.may_grow (W.room self.old.inner) (length (packed (whole_words bytes.now))) e.kind) }
+        ensures ok { OnOk result
+            (Appends (W.contents self.old.inner) (W.contents self.new.inner)
+            (packed (whole_words bytes.now))) }
+        ensures falls { OnOk result
+            (RoomFalls (W.room self.old.inner) (W.room self.new.inner)
+            (length (packed (whole_words bytes.now)))) }
+        ensures ragged { IfErr result (λ e.
+            length bytes.now % 8 ≢ 0 → (e.kind ≡ ErrorKind.BufferNotLargeEnough)
+            × (self.new.inner ≡ self.old.inner)) }
+        ensures err { OnErr result
+            (AppendsPart (W.contents self.old.inner) (W.contents self.new.inner)
+            (packed (whole_words bytes.now))) }
+        ensures refusal { IfErr result (λ e.
+            length bytes.now % 8 ≡ 0
+            → IsWriteRefusal W.may_grow (W.room self.old.inner)
+            (length (packed (whole_words bytes.now))) e.kind) }
         ensures count { Counts result (W.failures self.old.inner) (W.failures self.new.inner) }
     {
         if bytes.len() % 8 != 0 {

@@ -44,7 +44,8 @@ pub(crate) fn marked(tag: u8) -> usize
 /// The word whose tag this is, of the bytes behind the tag. Behind those that it marks they may be any.
 #[inline(always)]
 pub(crate) fn spread(tag: u8, behind: &[u8; 8]) -> [u8; 8]
-    ensures { (more : List ℕ) → tagged tag (take (marks 8 tag) behind.now ++ more) ≡ Ok (result, more) }
+    ensures { (more : List ℕ)
+        → tagged tag (take (marks 8 tag) behind.now ++ more) ≡ Ok (result, more) }
 {
     at_places(behind, sources_of(tag))
 }

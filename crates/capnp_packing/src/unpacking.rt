@@ -27,8 +27,10 @@ pub(crate) struct Unpacked {
 
 /// A byte of a word: the next byte where the bit marks it, else zero.
 fn byte_at<R: BufRead>(source: &mut R, bit: u8) -> Result<u8>
-    ensures byte { IfOk result (λ b. Takes (byte_at bit) (R.remaining source.old) (R.remaining source.new) b) }
-    ensures refused { IfErr result (λ e. Refuses (byte_at bit) (R.remaining source.old) (R.remaining source.new) e.kind) }
+    ensures byte { IfOk result (λ b.
+        Takes (byte_at bit) (R.remaining source.old) (R.remaining source.new) b) }
+    ensures refused { IfErr result (λ e.
+        Refuses (byte_at bit) (R.remaining source.old) (R.remaining source.new) e.kind) }
     ensures count { Counts result (R.failures source.old) (R.failures source.new) }
 {
     if bit == 0 {
@@ -39,8 +41,10 @@ fn byte_at<R: BufRead>(source: &mut R, bit: u8) -> Result<u8>
 
 /// The bytes of a word, by its tag.
 fn tagged_word<R: BufRead>(source: &mut R, tag: u8) -> Result<[u8; 8]>
-    ensures word { IfOk result (λ w. Takes (tagged tag) (R.remaining source.old) (R.remaining source.new) w) }
-    ensures refused { IfErr result (λ e. Refuses (tagged tag) (R.remaining source.old) (R.remaining source.new) e.kind) }
+    ensures word { IfOk result (λ w.
+        Takes (tagged tag) (R.remaining source.old) (R.remaining source.new) w) }
+    ensures refused { IfErr result (λ e.
+        Refuses (tagged tag) (R.remaining source.old) (R.remaining source.new) e.kind) }
     ensures count { Counts result (R.failures source.old) (R.failures source.new) }
 {
     let mut word = [0u8; 8];
@@ -54,8 +58,10 @@ fn tagged_word<R: BufRead>(source: &mut R, tag: u8) -> Result<[u8; 8]>
 
 /// The bytes of a word as they are.
 fn verbatim_word<R: BufRead>(source: &mut R) -> Result<[u8; 8]>
-    ensures word { IfOk result (λ w. Takes (taken 8) (R.remaining source.old) (R.remaining source.new) w) }
-    ensures refused { IfErr result (λ e. Refuses (taken 8) (R.remaining source.old) (R.remaining source.new) e.kind) }
+    ensures word { IfOk result (λ w.
+        Takes (taken 8) (R.remaining source.old) (R.remaining source.new) w) }
+    ensures refused { IfErr result (λ e.
+        Refuses (taken 8) (R.remaining source.old) (R.remaining source.new) e.kind) }
     ensures count { Counts result (R.failures source.old) (R.failures source.new) }
 {
     let mut word = [0u8; 8];
@@ -67,8 +73,10 @@ fn verbatim_word<R: BufRead>(source: &mut R) -> Result<[u8; 8]>
 
 /// A count of words, of which the piece has `left`.
 fn read_count<R: BufRead>(source: &mut R, left: usize) -> Result<u8>
-    ensures count_read { IfOk result (λ k. Takes (count_at left) (R.remaining source.old) (R.remaining source.new) k) }
-    ensures refused { IfErr result (λ e. Refuses (count_at left) (R.remaining source.old) (R.remaining source.new) e.kind) }
+    ensures count_read { IfOk result (λ k.
+        Takes (count_at left) (R.remaining source.old) (R.remaining source.new) k) }
+    ensures refused { IfErr result (λ e.
+        Refuses (count_at left) (R.remaining source.old) (R.remaining source.new) e.kind) }
     ensures count { Counts result (R.failures source.old) (R.failures source.new) }
 {
     let count = byte_or(source, ErrorKind::PrematureEndOfPackedInput)?;
@@ -80,8 +88,10 @@ fn read_count<R: BufRead>(source: &mut R, left: usize) -> Result<u8>
 
 /// The run behind a group of this tag, in a piece that has `left` more words.
 fn read_run<R: BufRead>(source: &mut R, tag: u8, left: usize) -> Result<Run>
-    ensures run { IfOk result (λ r. Takes (run_at left tag) (R.remaining source.old) (R.remaining source.new) (run_view r)) }
-    ensures refused { IfErr result (λ e. Refuses (run_at left tag) (R.remaining source.old) (R.remaining source.new) e.kind) }
+    ensures run { IfOk result (λ r.
+        Takes (run_at left tag) (R.remaining source.old) (R.remaining source.new) (run_view r)) }
+    ensures refused { IfErr result (λ e.
+        Refuses (run_at left tag) (R.remaining source.old) (R.remaining source.new) e.kind) }
     ensures count { Counts result (R.failures source.old) (R.failures source.new) }
 {
     match tag {
@@ -94,8 +104,13 @@ fn read_run<R: BufRead>(source: &mut R, tag: u8, left: usize) -> Result<Run>
 /// The word of a group, where the run before is over and the piece has `left` words behind this one.
 fn read_group<R: BufRead>(source: &mut R, run: Run, left: usize) -> Result<Unpacked>
     requires { IsOver run }
-    ensures word { IfOk result (λ u. Leads (unpacked_from (left + 1) (run_view run)) (R.remaining source.old) (R.remaining source.new) (λ more. with_word (from_le_bytes w64 u.word) (unpacked_from left (run_view u.run) more))) }
-    ensures refused { IfErr result (λ e. Refuses (unpacked_from (left + 1) (run_view run)) (R.remaining source.old) (R.remaining source.new) e.kind) }
+    ensures word { IfOk result (λ u.
+        Leads (unpacked_from (left + 1) (run_view run)) (R.remaining source.old)
+        (R.remaining source.new) (λ more.
+        with_word (from_le_bytes w64 u.word) (unpacked_from left (run_view u.run) more))) }
+    ensures refused { IfErr result (λ e.
+        Refuses (unpacked_from (left + 1) (run_view run)) (R.remaining source.old)
+        (R.remaining source.new) e.kind) }
     ensures count { Counts result (R.failures source.old) (R.failures source.new) }
 {
     let tag = byte_or(source, run.end_kind())?;
@@ -106,8 +121,13 @@ fn read_group<R: BufRead>(source: &mut R, run: Run, left: usize) -> Result<Unpac
 
 /// The next word of a piece that has `left` words behind it.
 pub(crate) fn next_word<R: BufRead>(source: &mut R, run: Run, left: usize) -> Result<Unpacked>
-    ensures word { IfOk result (λ u. Leads (unpacked_from (left + 1) (run_view run)) (R.remaining source.old) (R.remaining source.new) (λ more. with_word (from_le_bytes w64 u.word) (unpacked_from left (run_view u.run) more))) }
-    ensures refused { IfErr result (λ e. Refuses (unpacked_from (left + 1) (run_view run)) (R.remaining source.old) (R.remaining source.new) e.kind) }
+    ensures word { IfOk result (λ u.
+        Leads (unpacked_from (left + 1) (run_view run)) (R.remaining source.old)
+        (R.remaining source.new) (λ more.
+        with_word (from_le_bytes w64 u.word) (unpacked_from left (run_view u.run) more))) }
+    ensures refused { IfErr result (λ e.
+        Refuses (unpacked_from (left + 1) (run_view run)) (R.remaining source.old)
+        (R.remaining source.new) e.kind) }
     ensures count { Counts result (R.failures source.old) (R.failures source.new) }
 {
     match run {
@@ -127,7 +147,8 @@ pub(crate) fn next_word<R: BufRead>(source: &mut R, run: Run, left: usize) -> Re
 #[inline(always)]
 fn shown_words<R: BufRead>(source: &mut R, run: Run, buf: &mut [u8]) -> Result<Step>
     requires { length buf.old % 8 ≡ 0 }
-    ensures words { IfOk result (λ s. Reads run (R.remaining source.old) (R.remaining source.new) buf.new s) }
+    ensures words { IfOk result (λ s.
+        Reads run (R.remaining source.old) (R.remaining source.new) buf.new s) }
     ensures kept { OnErr result (Keeps (R.remaining source.old) (R.remaining source.new)) }
     ensures refusal { IfErr result (λ e. e.kind ≡ ErrorKind.Device) }
     ensures count { Counts result (R.failures source.old) (R.failures source.new) }
@@ -142,8 +163,11 @@ fn shown_words<R: BufRead>(source: &mut R, run: Run, buf: &mut [u8]) -> Result<S
 fn one_word<R: BufRead>(source: &mut R, run: Run, buf: &mut [u8]) -> Result<Step>
     requires whole { length buf.old % 8 ≡ 0 }
     requires some { 0 < length buf.old }
-    ensures word { IfOk result (λ s. Reads run (R.remaining source.old) (R.remaining source.new) buf.new s × (s.filled ≡ 8)) }
-    ensures refused { IfErr result (λ e. Refuses (unpacked_from (length buf.old / 8) (run_view run)) (R.remaining source.old) (R.remaining source.new) e.kind) }
+    ensures word { IfOk result (λ s.
+        Reads run (R.remaining source.old) (R.remaining source.new) buf.new s × (s.filled ≡ 8)) }
+    ensures refused { IfErr result (λ e.
+        Refuses (unpacked_from (length buf.old / 8) (run_view run)) (R.remaining source.old)
+        (R.remaining source.new) e.kind) }
     ensures count { Counts result (R.failures source.old) (R.failures source.new) }
 {
     let next = next_word(source, run, buf.len() / 8 - 1)?;
@@ -160,8 +184,11 @@ fn one_word<R: BufRead>(source: &mut R, run: Run, buf: &mut [u8]) -> Result<Step
 fn next_words<R: BufRead>(source: &mut R, run: Run, buf: &mut [u8]) -> Result<Step>
     requires whole { length buf.old % 8 ≡ 0 }
     requires some { 0 < length buf.old }
-    ensures words { IfOk result (λ s. Reads run (R.remaining source.old) (R.remaining source.new) buf.new s × (0 < s.filled)) }
-    ensures refused { IfErr result (λ e. Refuses (unpacked_from (length buf.old / 8) (run_view run)) (R.remaining source.old) (R.remaining source.new) e.kind) }
+    ensures words { IfOk result (λ s.
+        Reads run (R.remaining source.old) (R.remaining source.new) buf.new s × (0 < s.filled)) }
+    ensures refused { IfErr result (λ e.
+        Refuses (unpacked_from (length buf.old / 8) (run_view run)) (R.remaining source.old)
+        (R.remaining source.new) e.kind) }
     ensures count { Counts result (R.failures source.old) (R.failures source.new) }
 {
     // The zero words of a run need no byte, so that none is asked for.
@@ -180,8 +207,11 @@ fn next_words<R: BufRead>(source: &mut R, run: Run, buf: &mut [u8]) -> Result<St
 fn next_words_or_zeros<R: BufRead>(source: &mut R, run: Run, buf: &mut [u8]) -> Result<Step>
     requires whole { length buf.old % 8 ≡ 0 }
     requires some { 0 < length buf.old }
-    ensures words { IfOk result (λ s. Reads run (R.remaining source.old) (R.remaining source.new) buf.new s × (0 < s.filled)) }
-    ensures refused { IfErr result (λ e. Refuses (unpacked_from (length buf.old / 8) (run_view run)) (R.remaining source.old) (R.remaining source.new) e.kind) }
+    ensures words { IfOk result (λ s.
+        Reads run (R.remaining source.old) (R.remaining source.new) buf.new s × (0 < s.filled)) }
+    ensures refused { IfErr result (λ e.
+        Refuses (unpacked_from (length buf.old / 8) (run_view run)) (R.remaining source.old)
+        (R.remaining source.new) e.kind) }
     ensures cleared { OnErr result (buf.new ≡ replicate (length buf.old) 0) }
     ensures count { Counts result (R.failures source.old) (R.failures source.new) }
 {
@@ -196,8 +226,12 @@ fn next_words_or_zeros<R: BufRead>(source: &mut R, run: Run, buf: &mut [u8]) -> 
 #[inline(never)]
 fn read_rest<R: BufRead>(source: &mut R, run: Run, buf: &mut [u8]) -> Result<()>
     requires { length buf.old % 8 ≡ 0 }
-    ensures ok { OnOk result (Takes (unpacked_from (length buf.old / 8) (run_view run)) (R.remaining source.old) (R.remaining source.new) (whole_words buf.new)) }
-    ensures refused { IfErr result (λ e. Refuses (unpacked_from (length buf.old / 8) (run_view run)) (R.remaining source.old) (R.remaining source.new) e.kind) }
+    ensures ok { OnOk result
+        (Takes (unpacked_from (length buf.old / 8) (run_view run)) (R.remaining source.old)
+        (R.remaining source.new) (whole_words buf.new)) }
+    ensures refused { IfErr result (λ e.
+        Refuses (unpacked_from (length buf.old / 8) (run_view run)) (R.remaining source.old)
+        (R.remaining source.new) e.kind) }
     ensures count { Counts result (R.failures source.old) (R.failures source.new) }
 {
     let mut run = run;
@@ -213,8 +247,12 @@ fn read_rest<R: BufRead>(source: &mut R, run: Run, buf: &mut [u8]) -> Result<()>
 /// Fills the buffer with the words of one piece, which are as many as it holds. After a refusal it holds the words in front of the fault, and zeros behind them.
 pub(crate) fn read_words<R: BufRead>(source: &mut R, buf: &mut [u8]) -> Result<()>
     requires { length buf.old % 8 ≡ 0 }
-    ensures ok { OnOk result (Takes (unpacked (length buf.old / 8)) (R.remaining source.old) (R.remaining source.new) (whole_words buf.new)) }
-    ensures refused { IfErr result (λ e. Refuses (unpacked (length buf.old / 8)) (R.remaining source.old) (R.remaining source.new) e.kind) }
+    ensures ok { OnOk result
+        (Takes (unpacked (length buf.old / 8)) (R.remaining source.old) (R.remaining source.new)
+        (whole_words buf.new)) }
+    ensures refused { IfErr result (λ e.
+        Refuses (unpacked (length buf.old / 8)) (R.remaining source.old) (R.remaining source.new)
+        e.kind) }
     ensures count { Counts result (R.failures source.old) (R.failures source.new) }
 {
     if buf.is_empty() {

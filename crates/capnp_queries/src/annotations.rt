@@ -112,7 +112,8 @@ impl<'a> AnnotationList<'a> {
 
     /// The first annotation of an id.
     pub fn find(self, id: u64) -> Option<Annotation<'a>>
-        ensures annotation { option_map annotation_seen result ≡ find (λ a. a.id == id) self.entry.annotations.now }
+        ensures annotation { option_map annotation_seen result
+            ≡ find (λ a. a.id == id) self.entry.annotations.now }
         ensures set { IfSome result (λ a. a.set ≡ self.entry.set) }
     {
         for i in 0..self.len() {
@@ -126,7 +127,8 @@ impl<'a> AnnotationList<'a> {
 
     /// The annotations in order, from both ends.
     pub fn iter(self) -> ListIter<AnnotationList<'a>, Annotation<'a>>
-        ensures { items_left annotated_at result ≡ items_from (annotated_at self.entry) 0 (length self.entry.annotations.now) }
+        ensures { items_left annotated_at result
+            ≡ items_from (annotated_at self.entry) 0 (length self.entry.annotations.now) }
     {
         ListIter::new(self, self.len())
     }
@@ -156,7 +158,9 @@ impl<'a> IntoIterator for AnnotationList<'a> {
 
     type IntoIter = ListIter<AnnotationList<'a>, Annotation<'a>>;
 
-    ghost into_iter_gives = { λ list it. items_left annotated_at it ≡ items_from (annotated_at list) 0 (length list.annotations.now) };
+    ghost into_iter_gives = { λ list it.
+        items_left annotated_at it
+        ≡ items_from (annotated_at list) 0 (length list.annotations.now) };
 
     fn into_iter(self) -> ListIter<AnnotationList<'a>, Annotation<'a>> {
         self.iter()

@@ -59,7 +59,9 @@ impl<'a> Enumerant<'a> {
 
     /// The annotations of the enumerant.
     pub fn get_annotations(self) -> Result<AnnotationList<'a>>
-        ensures { let e = self.entry.parent in IsOkAnd result (AreAnnotationsOf (nodes_of_enum e) (enumerant_annotations e self.entry.ordinal)) }
+        ensures { let e = self.entry.parent in
+            IsOkAnd result
+            (AreAnnotationsOf (nodes_of_enum e) (enumerant_annotations e self.entry.ordinal)) }
     {
         let set = self.parent.set();
         Ok(AnnotationList::new(set, &self.get_proto().annotations))
@@ -67,7 +69,8 @@ impl<'a> Enumerant<'a> {
 }
 
 impl PartialEq for Enumerant<'_> {
-    ghost eq = { eq_of_both (on (λ enumerant. enumerant.parent.raw.id) ◌==◌) (on (λ enumerant. enumerant.ordinal) ◌==◌) };
+    ghost eq = { eq_of_both (on (λ enumerant. enumerant.parent.raw.id) ◌==◌)
+        (on (λ enumerant. enumerant.ordinal) ◌==◌) };
 
     ghost laws = { Prim.search (comparing, rules) };
 
@@ -81,7 +84,8 @@ impl Eq for Enumerant<'_> {
 }
 
 impl Hash for Enumerant<'_> {
-    ghost hash_input = { λ enumerant. fed.u64 enumerant.parent.raw.id ++ fed.u16 enumerant.ordinal };
+    ghost hash_input = { λ enumerant.
+        fed.u64 enumerant.parent.raw.id ++ fed.u16 enumerant.ordinal };
 
     ghost respects_eq = { Prim.search (hashing, rules) };
 
@@ -134,7 +138,8 @@ impl<'a> EnumerantList<'a> {
 
     /// The enumerants in order, from both ends.
     pub fn iter(self) -> ShortListIter<EnumerantList<'a>, Enumerant<'a>>
-        ensures { items_left enumerated_at result ≡ items_from (enumerated_at self.entry) 0 (enumerant_count self.entry.parent) }
+        ensures { items_left enumerated_at result
+            ≡ items_from (enumerated_at self.entry) 0 (enumerant_count self.entry.parent) }
     {
         ShortListIter::new(self, self.len())
     }
@@ -164,7 +169,9 @@ impl<'a> IntoIterator for EnumerantList<'a> {
 
     type IntoIter = ShortListIter<EnumerantList<'a>, Enumerant<'a>>;
 
-    ghost into_iter_gives = { λ list it. items_left enumerated_at it ≡ items_from (enumerated_at list) 0 (enumerant_count list.parent) };
+    ghost into_iter_gives = { λ list it.
+        items_left enumerated_at it
+        ≡ items_from (enumerated_at list) 0 (enumerant_count list.parent) };
 
     fn into_iter(self) -> ShortListIter<EnumerantList<'a>, Enumerant<'a>> {
         self.iter()

@@ -57,13 +57,15 @@ impl<'a> EnumSchema<'a> {
 
     /// The enum's node.
     pub fn get_proto(self) -> &'a NodeRecord
-        ensures { find_node (nodes_of_enum self.entry) (enum_id self.entry) ≡ Some (node_of result.now) }
+        ensures { find_node (nodes_of_enum self.entry) (enum_id self.entry)
+            ≡ Some (node_of result.now) }
     {
         self.set.enum_node(self.raw)
     }
 
     pub(crate) fn records(self) -> &'a [EnumerantRecord]
-        ensures { AreEnumerantsOf (nodes_of_enum self.entry) (enum_id self.entry) (map enumerant_of result.now) }
+        ensures { AreEnumerantsOf (nodes_of_enum self.entry) (enum_id self.entry)
+            (map enumerant_of result.now) }
     {
         self.set.enumerants(self.raw)
     }
@@ -77,7 +79,9 @@ impl<'a> EnumSchema<'a> {
 
     /// The annotations of the enum.
     pub fn get_annotations(self) -> Result<AnnotationList<'a>>
-        ensures { let e = self.entry in IsOkAnd result (AreAnnotations (nodes_of_enum e) (annotations_found (nodes_of_enum e) (enum_id e))) }
+        ensures { let e = self.entry in
+            IsOkAnd result
+            (AreAnnotations (nodes_of_enum e) (annotations_found (nodes_of_enum e) (enum_id e))) }
     {
         Ok(AnnotationList::new(self.set, &self.set.enum_node(self.raw).annotations))
     }

@@ -66,7 +66,8 @@ impl<'a> Field<'a> {
 
     /// The field's type. A group's is the struct of its node.
     pub fn get_type(&self) -> Type
-        ensures ty { option_map (λ e. type_of_body e.body) (entry_of self.now) ≡ Some (ty_of result) }
+        ensures ty { option_map (λ e. type_of_body e.body) (entry_of self.now)
+            ≡ Some (ty_of result) }
         ensures of_set { is_type_of (nodes_around self.now.parent) result ≡ true }
     {
         let set = self.parent.set();
@@ -78,7 +79,9 @@ impl<'a> Field<'a> {
 
     /// The annotations of the field.
     pub fn get_annotations(self) -> Result<AnnotationList<'a>>
-        ensures { let s = self.entry.parent in IsOkAnd result (AreAnnotationsOf (nodes_around s) (field_annotations s self.entry.index)) }
+        ensures { let s = self.entry.parent in
+            IsOkAnd result
+            (AreAnnotationsOf (nodes_around s) (field_annotations s self.entry.index)) }
     {
         let set = self.parent.set();
         Ok(AnnotationList::new(set, &self.get_proto().annotations))
@@ -104,7 +107,8 @@ impl<'a> Field<'a> {
 }
 
 impl PartialEq for Field<'_> {
-    ghost eq = { eq_of_both (on (λ field. field.parent.raw.id) ◌==◌) (on (λ field. field.index) ◌==◌) };
+    ghost eq = { eq_of_both (on (λ field. field.parent.raw.id) ◌==◌)
+        (on (λ field. field.index) ◌==◌) };
 
     ghost laws = { Prim.search (comparing, rules) };
 
@@ -172,7 +176,9 @@ impl<'a> FieldList<'a> {
 
     /// The fields in order, from both ends.
     pub fn iter(self) -> ShortListIter<FieldList<'a>, Field<'a>>
-        ensures { items_left listed_at result ≡ items_from (listed_at self.entry) 0 (field_count (fields_of_struct self.entry.parent)) }
+        ensures { items_left listed_at result
+            ≡ items_from (listed_at self.entry) 0
+            (field_count (fields_of_struct self.entry.parent)) }
     {
         ShortListIter::new(self, self.len())
     }
@@ -202,7 +208,9 @@ impl<'a> IntoIterator for FieldList<'a> {
 
     type IntoIter = ShortListIter<FieldList<'a>, Field<'a>>;
 
-    ghost into_iter_gives = { λ list it. items_left listed_at it ≡ items_from (listed_at list) 0 (field_count (fields_of_struct list.parent)) };
+    ghost into_iter_gives = { λ list it.
+        items_left listed_at it
+        ≡ items_from (listed_at list) 0 (field_count (fields_of_struct list.parent)) };
 
     fn into_iter(self) -> ShortListIter<FieldList<'a>, Field<'a>> {
         self.iter()

@@ -7,5 +7,6 @@ ghost use Rattle.capnp_records.specs.declared.raw.RawBrandedStructSchema.{RawBra
 
 /// The raw schema of a struct, as a set finds it by its id, is one of a struct or a group, as a schema is made of.
 pub fn struct_is_node()
-    ensures { (nodes : List Node) (raw : RawBrandedStructSchema) → IsStructOf nodes raw → IsNodeOf nodes raw }
+    ensures { (nodes : List Node) (raw : RawBrandedStructSchema) → IsStructOf nodes raw
+        → IsNodeOf nodes raw }
 {}

@@ -86,7 +86,9 @@ pub(crate) fn slot_place<'a>(
 ) -> FieldPlace<'a>
     requires { names_its_sort (nodes_of set.now) (base_of base.base) ≡ true }
     ensures of_set { IsPlaceIn (nodes_of set.now) result }
-    ensures body { body_of_place result ≡ slot_body offset (type_of (type_record_of base)) (option_map value_of (option_copied default.entry)) }
+    ensures body { body_of_place result
+        ≡ slot_body offset (type_of (type_record_of base))
+        (option_map value_of (option_copied default.entry)) }
 {
     let named = type_in(set, base);
     let ty = match named.which() {

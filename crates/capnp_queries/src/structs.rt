@@ -103,7 +103,8 @@ impl<'a> StructSchema<'a> {
 
     /// The field that is the union's member of a discriminant.
     pub fn get_field_by_discriminant(self, discriminant: u16) -> Result<Option<Field<'a>>>
-        ensures { IsOkAnd result (λ found. IsFieldAt self.entry (index_of_member self.entry discriminant) found) }
+        ensures { IsOkAnd result (λ found.
+            IsFieldAt self.entry (index_of_member self.entry discriminant) found) }
     {
         let members = self.tables().members.as_slice();
         if discriminant as usize >= members.len() {
@@ -140,15 +141,18 @@ impl<'a> StructSchema<'a> {
 
     /// The field of a name.
     pub fn find_field_by_name(&self, name: &str) -> Result<Option<Field<'a>>>
-        ensures { IsOkAnd result (λ found. IsFieldAt self.now (index_named self.now name.now) found) }
+        ensures { IsOkAnd result
+            (λ found. IsFieldAt self.now (index_named self.now name.now) found) }
     {
         Ok(self.find(name))
     }
 
     /// The field of a name. A name that the struct lacks is refused by `FieldNotFound`.
     pub fn get_field_by_name(&self, name: &str) -> Result<Field<'a>>
-        ensures found { IfOk result (λ field. IsFieldAt self.now (index_named self.now name.now) (Some field)) }
-        ensures missing { IfErr result (λ e. (e.kind ≡ FieldNotFound) × (index_named self.now name.now ≡ None)) }
+        ensures found { IfOk result (λ field.
+            IsFieldAt self.now (index_named self.now name.now) (Some field)) }
+        ensures missing { IfErr result (λ e.
+            (e.kind ≡ FieldNotFound) × (index_named self.now name.now ≡ None)) }
     {
         match self.find(name) {
             Some(field) => Ok(field),
@@ -158,7 +162,8 @@ impl<'a> StructSchema<'a> {
 
     /// The annotations of the struct.
     pub fn get_annotations(self) -> Result<AnnotationList<'a>>
-        ensures { IsOkAnd result (AreAnnotations (nodes_around self.entry) (annotations_recorded self.entry)) }
+        ensures { IsOkAnd result
+            (AreAnnotations (nodes_around self.entry) (annotations_recorded self.entry)) }
     {
         Ok(AnnotationList::new(self.set, &self.set.struct_node(self.raw).annotations))
     }

@@ -27,7 +27,8 @@ impl<'a> FieldSubset<'a> {
     ghost use Rattle.capnp_queries.specs.Handles.{chosen_at};
 
     pub(crate) fn new(parent: StructSchema<'a>, indices: &'a [u16]) -> FieldSubset<'a>
-        requires inside { list_all (λ i. nat_lt i (field_count (fields_of_struct parent))) indices.now ≡ true }
+        requires inside { list_all (λ i. nat_lt i (field_count (fields_of_struct parent)))
+            indices.now ≡ true }
         requires few { length indices.now ≤ 65535 }
         ensures parent { result.parent ≡ parent.entry }
         ensures indices { result.indices.now ≡ indices.now }
@@ -60,7 +61,8 @@ impl<'a> FieldSubset<'a> {
 
     /// The fields in order, from both ends.
     pub fn iter(self) -> ShortListIter<FieldSubset<'a>, Field<'a>>
-        ensures { items_left chosen_at result ≡ items_from (chosen_at self.entry) 0 (length self.entry.indices.now) }
+        ensures { items_left chosen_at result
+            ≡ items_from (chosen_at self.entry) 0 (length self.entry.indices.now) }
     {
         ShortListIter::new(self, self.len())
     }
@@ -90,7 +92,8 @@ impl<'a> IntoIterator for FieldSubset<'a> {
 
     type IntoIter = ShortListIter<FieldSubset<'a>, Field<'a>>;
 
-    ghost into_iter_gives = { λ subset it. items_left chosen_at it ≡ items_from (chosen_at subset) 0 (length subset.indices.now) };
+    ghost into_iter_gives = { λ subset it.
+        items_left chosen_at it ≡ items_from (chosen_at subset) 0 (length subset.indices.now) };
 
     fn into_iter(self) -> ShortListIter<FieldSubset<'a>, Field<'a>> {
         self.iter()

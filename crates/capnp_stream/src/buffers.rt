@@ -21,7 +21,8 @@ pub struct BufferSegments<T: AsSlice<u8>> {
     buffer: T,
     segment_table_bytes_len: usize,
     indices: Vec<(usize, usize)>,
-    ghost within: { All (λ r. (r.0 ≤ r.1) × (segment_table_bytes_len + 8 * r.1 ≤ length (T.items buffer))) indices.items },
+    ghost within: { All (λ r. (r.0 ≤ r.1)
+        × (segment_table_bytes_len + 8 * r.1 ≤ length (T.items buffer))) indices.items },
 }
 
 /// Segments in a lent slice.

@@ -49,7 +49,8 @@ impl Read for Pieces<'_> {
 }
 
 impl BufRead for Pieces<'_> {
-    ghost shown = { λ p. if length p.front.now == 0 then length p.back.now else length p.front.now };
+    ghost shown = { λ p. if length p.front.now == 0 then length p.back.now else length
+        p.front.now };
 
     fn fill_buf(&mut self) -> Result<&[u8]> {
         if self.front.is_empty() {

@@ -176,7 +176,8 @@ impl SegmentLengthsBuilder {
 /// The words of bytes, the lowest byte of each first; those past the last whole word aren't looked at. `OutOfMemory`: there is a word, and the memory for them was refused.
 pub fn words_of(alloc: Global, bytes: &[u8]) -> Result<Vec<u64>>
     ensures words { IfOk result (λ v. v.items ≡ whole_words bytes.now) }
-    ensures refusal { IfErr result (λ e. (e.kind ≡ ErrorKind.OutOfMemory) × (8 ≤ length bytes.now)) }
+    ensures refusal { IfErr result
+        (λ e. (e.kind ≡ ErrorKind.OutOfMemory) × (8 ≤ length bytes.now)) }
 {
     let mut words = Vec::new(alloc);
     let mut left = bytes;

@@ -148,7 +148,11 @@ impl<I: ListIndex, L: IndexMove<I, T> + Drop, T: Drop> Iterator for ItemIter<I, 
     /// How many items are left, twice.
     #[tactic(auto, using(crate::proofs::ItemsLemmas::length_items))]
     fn size_hint(&self) -> (usize, Option<usize>)
-        ensures exact { result ≡ (length (items_left L.at self.now), Some (length (items_left L.at self.now))) }
+        ensures exact { result ≡ (
+          length (items_left L.at self.now),
+          Some
+              (length (items_left L.at self.now)),
+        ) }
         ensures lower { IsWithinCount result.0 (item_count (items_left L.at) self.now) }
         ensures upper { IfSome result.1 (UpTo (item_count (items_left L.at) self.now)) }
     {

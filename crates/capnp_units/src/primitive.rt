@@ -31,7 +31,8 @@ pub trait Primitive: Copy {
     /// Writes the number into the first bytes, and leaves the others.
     fn set(bytes: &mut [u8], value: Self)
         requires { BYTES ≤ length bytes.old }
-        ensures bits { number_of 8 bytes.new ≡ with_bits 0 (8 * BYTES) (bits value) (number_of 8 bytes.old) }
+        ensures bits { number_of 8 bytes.new
+            ≡ with_bits 0 (8 * BYTES) (bits value) (number_of 8 bytes.old) }
         ensures len { length bytes.new ≡ length bytes.old }
         ensures within { bits value < 2 ^ (8 * BYTES) }
         ensures back { from_bits (bits value) ≡ value };

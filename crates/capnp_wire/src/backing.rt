@@ -32,7 +32,8 @@ pub fn default_backing<'a, A: ReaderArena>(words: &'a [Word]) -> Backing<'a, A>
 fn words_of(bytes: &[u8], position: usize, words: usize) -> &[u8]
     requires { position + words ≤ length bytes.now / 8 }
     ensures len { length result.now ≡ 8 * words }
-    ensures section { number_of 8 result.now ≡ section_of (take words (drop position (whole_words bytes.now))) }
+    ensures section { number_of 8 result.now
+        ≡ section_of (take words (drop position (whole_words bytes.now))) }
 {
     &bytes[8 * position..8 * (position + words)]
 }
@@ -60,7 +61,8 @@ impl<'a, A: ReaderArena> Backing<'a, A> {
     pub fn lend(self, start: Place, words: usize) -> &'a [u8]
         requires { AreThere (words_in (backing_bytes A.segments self)) (place_view start) words }
         ensures len { length result.now ≡ 8 * words }
-        ensures section { number_of 8 result.now ≡ section_at (words_in (backing_bytes A.segments self.entry)) (place_view start) words }
+        ensures section { number_of 8 result.now
+            ≡ section_at (words_in (backing_bytes A.segments self.entry)) (place_view start) words }
     {
         match self.segment(start.segment) {
             Some(bytes) => words_of(bytes, start.position, words),

@@ -29,8 +29,10 @@ pub struct ListReader<'a, A> {
     pub(crate) data_words: u16,
     pub(crate) pointers: u16,
     pub(crate) levels: Option<u32>,
-    ghost inside: { step_bits (size_number size) data_words pointers * count ≤ 8 * length bytes.now },
-    ghost near: { start.position + step_words (size_number size) data_words pointers * count < 2 ^ 61 },
+    ghost inside: { step_bits (size_number size) data_words pointers * count ≤ 8 * length
+        bytes.now },
+    ghost near: { start.position + step_words (size_number size) data_words pointers * count < 2
+        ^ 61 },
 }
 
 impl<A> Clone for ListReader<'_, A> {
@@ -71,9 +73,13 @@ impl<'a, A: ReaderArena> ListReader<'a, A> {
         pointers: u16,
         levels: Option<u32>,
     ) -> Self
-        requires inside { step_bits (size_number size) data_words pointers * count ≤ 8 * length bytes.now }
-        requires near { start.position + step_words (size_number size) data_words pointers * count < 2 ^ 61 }
-        ensures { seen_list A.segments result ≡ list_view (ground_of A.segments backing.entry) size count (number_of 8 bytes.now) (place_view start) data_words pointers levels }
+        requires inside { step_bits (size_number size) data_words pointers * count ≤ 8 * length
+            bytes.now }
+        requires near { start.position + step_words (size_number size) data_words pointers * count
+            < 2 ^ 61 }
+        ensures { seen_list A.segments result
+            ≡ list_view (ground_of A.segments backing.entry) size count (number_of 8 bytes.now)
+            (place_view start) data_words pointers levels }
     {
         ListReader {
             backing,
@@ -89,7 +95,8 @@ impl<'a, A: ReaderArena> ListReader<'a, A> {
 
     /// The empty list of elements of a size.
     pub(crate) fn empty(backing: Backing<'a, A>, size: ElementSize, levels: Option<u32>) -> Self
-        ensures { seen_list A.segments result ≡ list_view (ground_of A.segments backing.entry) size 0 0 root 0 0 levels }
+        ensures { seen_list A.segments result
+            ≡ list_view (ground_of A.segments backing.entry) size 0 0 root 0 0 levels }
     {
         ListReader {
             backing,
@@ -115,9 +122,13 @@ impl<'a, A: ReaderArena> ListReader<'a, A> {
         data_words: u16,
         pointers: u16,
     ) -> Self
-        requires there { AreThere (words_in (A.segments arena.now)) (place_view start) (words_for (step_bits (size_number size) data_words pointers * count)) }
-        requires near { start.position + step_words (size_number size) data_words pointers * count < 2 ^ 61 }
-        ensures { seen_list A.segments result ≡ list_at (A.segments arena.now) (A.nesting arena.now) (place_view start) size count data_words pointers }
+        requires there { AreThere (words_in (A.segments arena.now)) (place_view start)
+            (words_for (step_bits (size_number size) data_words pointers * count)) }
+        requires near { start.position + step_words (size_number size) data_words pointers * count
+            < 2 ^ 61 }
+        ensures { seen_list A.segments result
+            ≡ list_at (A.segments arena.now) (A.nesting arena.now) (place_view start) size count
+            data_words pointers }
     {
         let words = words_of_steps(size, count, data_words, pointers);
         let backing = Backing::Arena(arena);
@@ -137,10 +148,12 @@ impl<'a, A: ReaderArena> ListReader<'a, A> {
 
     /// The bytes of the elements from the first to the end of the last, lent in place, with those of the structs' pointers. Bits behind the last element may be any.
     pub fn bytes(&self) -> &'a [u8]
-        ensures section { let l = seen_list A.segments self.now in let bits = step_bits (size_number l.size) l.data_words l.pointers * l.count in
+        ensures section { let l = seen_list A.segments self.now in
+            let bits = step_bits (size_number l.size) l.data_words l.pointers * l.count in
             number_of 8 result.now % 2 ^ bits ≡ l.section }
         ensures inside { let l = seen_list A.segments self.now in
-            step_bits (size_number l.size) l.data_words l.pointers * l.count ≤ 8 * length result.now }
+            step_bits (size_number l.size) l.data_words l.pointers * l.count ≤ 8 * length
+            result.now }
     {
         self.bytes
     }
@@ -149,7 +162,8 @@ impl<'a, A: ReaderArena> ListReader<'a, A> {
     pub fn start(&self) -> Place
         ensures place { place_view result ≡ (seen_list A.segments self.now).start }
         ensures near { let l = seen_list A.segments self.now in
-            result.position + step_words (size_number l.size) l.data_words l.pointers * l.count < 2 ^ 61 }
+            result.position + step_words (size_number l.size) l.data_words l.pointers * l.count
+            < 2 ^ 61 }
     {
         self.start
     }
@@ -195,7 +209,8 @@ impl<'a, A: ReaderArena> ListReader<'a, A> {
 
     /// The bits from one element to the next; those of pointers aren't counted.
     fn step_bits(&self) -> usize
-        ensures { result ≡ step_bits (size_number self.now.size) self.now.data_words self.now.pointers }
+        ensures { result ≡ step_bits (size_number self.now.size) self.now.data_words
+            self.now.pointers }
     {
         match self.size {
             ElementSize::InlineComposite => {
@@ -217,7 +232,8 @@ impl<'a, A: ReaderArena> ListReader<'a, A> {
 
     /// The words from the pointers of one element to those of the next.
     fn step_words(&self) -> usize
-        ensures { result ≡ step_words (size_number self.now.size) self.now.data_words self.now.pointers }
+        ensures { result ≡ step_words (size_number self.now.size) self.now.data_words
+            self.now.pointers }
     {
         match self.size {
             ElementSize::InlineComposite => self.data_words as usize + self.pointers as usize,
@@ -240,8 +256,12 @@ impl<'a, A: ReaderArena> ListReader<'a, A> {
     fn element_section(&self, index: u32) -> &'a [u8]
         requires index { index < self.now.count }
         requires bytes { size_number self.now.size ≢ 1 }
-        ensures len { 8 * length result.now ≡ element_bits (size_number self.now.size) self.now.data_words }
-        ensures section { number_of 8 result.now ≡ bits_at (step_bits (size_number self.now.size) self.now.data_words self.now.pointers * index) (element_bits (size_number self.now.size) self.now.data_words) (seen_list A.segments self.now).section }
+        ensures len { 8 * length result.now
+            ≡ element_bits (size_number self.now.size) self.now.data_words }
+        ensures section { number_of 8 result.now
+            ≡ bits_at (step_bits (size_number self.now.size) self.now.data_words self.now.pointers
+            * index) (element_bits (size_number self.now.size) self.now.data_words)
+            (seen_list A.segments self.now).section }
     {
         let step = self.step_bits() / 8;
         let width = self.element_bits() / 8;
@@ -274,7 +294,8 @@ impl<'a, A: ReaderArena> ListReader<'a, A> {
     /// The first pointer of an element; null where it has none.
     pub fn get_pointer_element(&self, index: u32) -> PointerReader<'a, A>
         requires { index < (seen_list A.segments self.now).count }
-        ensures { seen_pointer A.segments result ≡ pointer_field (element_of (seen_list A.segments self.now) index) 0 }
+        ensures { seen_pointer A.segments result
+            ≡ pointer_field (element_of (seen_list A.segments self.now) index) 0 }
     {
         let place = if self.element_pointers() > 0 {
             Some(Place {
@@ -296,7 +317,8 @@ impl<'a, A: ReaderArena> ListReader<'a, A> {
     /// The number at the front of an element, 0 where the element is narrower.
     pub(crate) fn number<T: Primitive + Zero>(&self, index: u32) -> T
         requires { index < (seen_list A.segments self.now).count }
-        ensures { result ≡ T.from_bits (element_number (seen_list A.segments self.now) index (8 * T.BYTES)) }
+        ensures { result ≡ T.from_bits
+            (element_number (seen_list A.segments self.now) index (8 * T.BYTES)) }
     {
         if self.size == ElementSize::Bit {
             return T::zero();

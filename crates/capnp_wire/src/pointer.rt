@@ -44,7 +44,8 @@ pub struct PointerReader<'a, A> {
 impl<'a, A: ReaderArena> PointerReader<'a, A> {
     /// The root pointer of an arena, the first word of its first segment. It is refused with `OutOfBounds` where that isn't there.
     pub fn get_root_from_arena(arena: &'a A) -> Result<Self>
-        ensures { seen (seen_pointer A.segments) result ≡ root_of (A.segments arena.now) (A.nesting arena.now) }
+        ensures { seen (seen_pointer A.segments) result
+            ≡ root_of (A.segments arena.now) (A.nesting arena.now) }
     {
         let place = Place {
             segment: 0,
@@ -58,7 +59,8 @@ impl<'a, A: ReaderArena> PointerReader<'a, A> {
 
     /// The pointer at a place of an arena, under the arena's nesting limit. Whether its word is there is seen when it is read.
     pub fn at(arena: &'a A, place: Place) -> Self
-        ensures { seen_pointer A.segments result ≡ pointer_at (A.segments arena.now) (A.nesting arena.now) (place_view place) }
+        ensures { seen_pointer A.segments result
+            ≡ pointer_at (A.segments arena.now) (A.nesting arena.now) (place_view place) }
     {
         PointerReader {
             backing: Backing::Arena(arena),
@@ -86,7 +88,8 @@ impl<'a, A: ReaderArena> PointerReader<'a, A> {
 
     /// The root of a default, or the pointer itself where it isn't null or the default's root is.
     fn with_default(&self, default: Option<&'a [Word]>) -> Self
-        ensures { seen_pointer A.segments result ≡ with_default (seen_pointer A.segments self.now) (option_copied default.entry) }
+        ensures { seen_pointer A.segments result
+            ≡ with_default (seen_pointer A.segments self.now) (option_copied default.entry) }
     {
         let Some(words) = default else {
             return *self;
@@ -107,8 +110,10 @@ impl<'a, A: ReaderArena> PointerReader<'a, A> {
 
     /// What the pointer names, paid for; null is followed to nothing, and a default costs nothing.
     fn reach(&self, limiter: &mut ReadLimiter) -> Result<Object>
-        ensures object { GetGives (λ o. o) (λ o. Ok o) (seen_pointer A.segments self.now) limiter.old result limiter.new }
-        ensures inside { IfOk result (IsInside (words_in (backing_bytes A.segments self.now.backing))) }
+        ensures object { GetGives (λ o. o) (λ o. Ok o) (seen_pointer A.segments self.now)
+            limiter.old result limiter.new }
+        ensures inside { IfOk result
+            (IsInside (words_in (backing_bytes A.segments self.now.backing))) }
     {
         let Some(place) = self.place else {
             return Ok(Object::Null);
@@ -127,7 +132,9 @@ impl<'a, A: ReaderArena> PointerReader<'a, A> {
 
     /// The struct behind the pointer; null is the empty struct.
     fn struct_here(&self, limiter: &mut ReadLimiter) -> Result<StructReader<'a, A>>
-        ensures { GetGives (seen_struct A.segments) (read_struct (ground_of A.segments self.now.backing) self.now.levels) (seen_pointer A.segments self.now) limiter.old result limiter.new }
+        ensures { GetGives (seen_struct A.segments)
+            (read_struct (ground_of A.segments self.now.backing) self.now.levels)
+            (seen_pointer A.segments self.now) limiter.old result limiter.new }
     {
         match self.reach(limiter)? {
             Object::Null => Ok(StructReader::empty(self.backing, self.levels)),
@@ -150,7 +157,9 @@ impl<'a, A: ReaderArena> PointerReader<'a, A> {
 
     /// The bytes of the byte list behind the pointer, and none of null.
     fn bytes_here(&self, limiter: &mut ReadLimiter) -> Result<Option<&'a [u8]>>
-        ensures { GetGives option_copied (read_bytes (ground_of A.segments self.now.backing) self.now.levels) (seen_pointer A.segments self.now) limiter.old result limiter.new }
+        ensures { GetGives option_copied
+            (read_bytes (ground_of A.segments self.now.backing) self.now.levels)
+            (seen_pointer A.segments self.now) limiter.old result limiter.new }
     {
         match self.reach(limiter)? {
             Object::Null => Ok(None),
@@ -174,7 +183,9 @@ impl<'a, A: ReaderArena> PointerReader<'a, A> {
 
     /// The data behind the pointer; null is none.
     fn data_here(&self, limiter: &mut ReadLimiter) -> Result<&'a [u8]>
-        ensures { GetGives (λ r. r.now) (read_blob (ground_of A.segments self.now.backing) self.now.levels) (seen_pointer A.segments self.now) limiter.old result limiter.new }
+        ensures { GetGives (λ r. r.now)
+            (read_blob (ground_of A.segments self.now.backing) self.now.levels)
+            (seen_pointer A.segments self.now) limiter.old result limiter.new }
     {
         match self.bytes_here(limiter)? {
             None => Ok(&[]),
@@ -184,7 +195,9 @@ impl<'a, A: ReaderArena> PointerReader<'a, A> {
 
     /// The text behind the pointer without its zero byte; null is the empty text.
     fn text_here(&self, limiter: &mut ReadLimiter) -> Result<&'a [u8]>
-        ensures { GetGives (λ r. r.now) (read_text (ground_of A.segments self.now.backing) self.now.levels) (seen_pointer A.segments self.now) limiter.old result limiter.new }
+        ensures { GetGives (λ r. r.now)
+            (read_text (ground_of A.segments self.now.backing) self.now.levels)
+            (seen_pointer A.segments self.now) limiter.old result limiter.new }
     {
         match self.bytes_here(limiter)? {
             None => Ok(&[]),
@@ -205,7 +218,10 @@ impl<'a, A: ReaderArena> PointerReader<'a, A> {
         limiter: &mut ReadLimiter,
         default: Option<&'a [Word]>,
     ) -> Result<StructReader<'a, A>>
-        ensures { let p = with_default (seen_pointer A.segments self.now) (option_copied default.entry) in GetGives (seen_struct A.segments) (read_struct p.basis p.levels) p limiter.old result limiter.new }
+        ensures { let p = with_default (seen_pointer A.segments self.now)
+            (option_copied default.entry) in
+            GetGives (seen_struct A.segments) (read_struct p.basis p.levels) p limiter.old result
+            limiter.new }
     {
         self.with_default(default).struct_here(limiter)
     }
@@ -218,7 +234,9 @@ impl<'a, A: ReaderArena> PointerReader<'a, A> {
         limiter: &mut ReadLimiter,
         default: Option<&'a [Word]>,
     ) -> Result<&'a [u8]>
-        ensures { let p = with_default (seen_pointer A.segments self.now) (option_copied default.entry) in GetGives (λ r. r.now) (read_blob p.basis p.levels) p limiter.old result limiter.new }
+        ensures { let p = with_default (seen_pointer A.segments self.now)
+            (option_copied default.entry) in
+            GetGives (λ r. r.now) (read_blob p.basis p.levels) p limiter.old result limiter.new }
     {
         self.with_default(default).data_here(limiter)
     }
@@ -231,7 +249,9 @@ impl<'a, A: ReaderArena> PointerReader<'a, A> {
         limiter: &mut ReadLimiter,
         default: Option<&'a [Word]>,
     ) -> Result<&'a [u8]>
-        ensures { let p = with_default (seen_pointer A.segments self.now) (option_copied default.entry) in GetGives (λ r. r.now) (read_text p.basis p.levels) p limiter.old result limiter.new }
+        ensures { let p = with_default (seen_pointer A.segments self.now)
+            (option_copied default.entry) in
+            GetGives (λ r. r.now) (read_text p.basis p.levels) p limiter.old result limiter.new }
     {
         self.with_default(default).text_here(limiter)
     }
@@ -256,7 +276,10 @@ impl<'a, A: ReaderArena> PointerReader<'a, A> {
 
     /// The sort of an object that begins at a place, where that is inside its segment.
     fn type_inside(&self, start: Place, sort: PointerType) -> Result<PointerType>
-        ensures { seen (λ t. t) result ≡ (guard (is_some (words_at (words_in (backing_bytes A.segments self.now.backing)) (place_view start) 0)) OutOfBounds and_then λ _. Ok sort) }
+        ensures { seen (λ t. t) result
+            ≡ (guard (is_some
+            (words_at (words_in (backing_bytes A.segments self.now.backing)) (place_view start)
+            0)) OutOfBounds and_then λ _. Ok sort) }
     {
         if !has_words(&self.backing, start, 0) {
             return Err(Error::from(ErrorKind::OutOfBounds));
@@ -275,11 +298,17 @@ impl<'a, A: ReaderArena> PointerReader<'a, A> {
         data_words: u16,
         pointers: u16,
     ) -> Result<ListReader<'a, A>>
-        requires inside { step_bits (size_number size) data_words pointers * count ≤ 8 * length bytes.now }
-        requires near { start.position + step_words (size_number size) data_words pointers * count < 2 ^ 61 }
+        requires inside { step_bits (size_number size) data_words pointers * count ≤ 8 * length
+            bytes.now }
+        requires near { start.position + step_words (size_number size) data_words pointers * count
+            < 2 ^ 61 }
         ensures list { seen (seen_list A.segments) result
-            ≡ read_elements self.now.levels expected (list_view (ground_of A.segments self.now.backing) size count (number_of 8 bytes.now) (place_view start) data_words pointers) size data_words pointers }
-        ensures bytewise { size_number expected ≢ 1 → IfOk result (λ l. size_number (seen_list A.segments l).size ≢ 1) }
+            ≡ read_elements self.now.levels expected
+            (list_view (ground_of A.segments self.now.backing) size count
+            (number_of 8 bytes.now) (place_view start) data_words pointers) size data_words
+            pointers }
+        ensures bytewise { size_number expected ≢ 1
+            → IfOk result (λ l. size_number (seen_list A.segments l).size ≢ 1) }
     {
         let levels = level_below(self.levels)?;
         if !is_accepted(expected, size, data_words, pointers) {
@@ -303,8 +332,11 @@ impl<'a, A: ReaderArena> PointerReader<'a, A> {
         limiter: &mut ReadLimiter,
         expected: ElementSize,
     ) -> Result<ListReader<'a, A>>
-        ensures list { GetGives (seen_list A.segments) (read_list (ground_of A.segments self.now.backing) self.now.levels expected) (seen_pointer A.segments self.now) limiter.old result limiter.new }
-        ensures bytewise { size_number expected ≢ 1 → IfOk result (λ l. size_number (seen_list A.segments l).size ≢ 1) }
+        ensures list { GetGives (seen_list A.segments)
+            (read_list (ground_of A.segments self.now.backing) self.now.levels expected)
+            (seen_pointer A.segments self.now) limiter.old result limiter.new }
+        ensures bytewise { size_number expected ≢ 1
+            → IfOk result (λ l. size_number (seen_list A.segments l).size ≢ 1) }
     {
         match self.reach(limiter)? {
             Object::Null => Ok(ListReader::empty(self.backing, expected, self.levels)),
@@ -343,10 +375,14 @@ impl<'a, A: ReaderArena> PointerReader<'a, A> {
         expected: ElementSize,
         default: Option<&'a [Word]>,
     ) -> Result<ListReader<'a, A>>
-        ensures list { let p = with_default (seen_pointer A.segments self.now) (option_copied default.entry) in GetGives (seen_list A.segments) (read_list p.basis p.levels expected) p limiter.old result limiter.new }
+        ensures list { let p = with_default (seen_pointer A.segments self.now)
+            (option_copied default.entry) in
+            GetGives (seen_list A.segments) (read_list p.basis p.levels expected) p limiter.old
+            result limiter.new }
 
         // Where no single bits are expected, none are given.
-        ensures bytewise { size_number expected ≢ 1 → IfOk result (λ l. size_number (seen_list A.segments l).size ≢ 1) }
+        ensures bytewise { size_number expected ≢ 1
+            → IfOk result (λ l. size_number (seen_list A.segments l).size ≢ 1) }
     {
         self.with_default(default).list_here(limiter, expected)
     }

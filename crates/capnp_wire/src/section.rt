@@ -4,9 +4,14 @@ ghost use Rattle.capnp_model.specs.Sections.{bits_at, number_of};
 
 /// The bytes from a number of so many bytes on, which stands behind others of its width, where it lies wholly in the section.
 pub(crate) fn bytes_from(section: &[u8], index: usize, width: usize) -> Option<&[u8]>
-    ensures within { MatchOption result (length section.now < width * index + width) (λ rest. width * index + width ≤ length section.now) }
-    ensures there { MatchOption result (length section.now < width * index + width) (λ rest. width ≤ length rest.now) }
-    ensures bits { MatchOption result (length section.now < width * index + width) (λ rest. number_of 8 rest.now ≡ number_of 8 section.now / 2 ^ (8 * (width * index))) }
+    ensures within { MatchOption result
+        (length section.now < width * index + width)
+        (λ rest. width * index + width ≤ length section.now) }
+    ensures there { MatchOption result
+        (length section.now < width * index + width) (λ rest. width ≤ length rest.now) }
+    ensures bits { MatchOption result
+        (length section.now < width * index + width) (λ rest.
+        number_of 8 rest.now ≡ number_of 8 section.now / 2 ^ (8 * (width * index))) }
 {
     let start = index.checked_mul(width)?;
     if start > section.len() || width > section.len() - start {

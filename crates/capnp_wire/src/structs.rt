@@ -63,7 +63,9 @@ impl<'a, A: ReaderArena> StructReader<'a, A> {
     ) -> Self
         requires near { first.position + pointers < 2 ^ 62 }
         requires few { length section.now ≤ 8 * (2 ^ 16 - 1) }
-        ensures { seen_struct A.segments result ≡ struct_view (ground_of A.segments backing.entry) (number_of 8 section.now) (8 * length section.now) (place_view first) pointers levels }
+        ensures { seen_struct A.segments result
+            ≡ struct_view (ground_of A.segments backing.entry) (number_of 8 section.now)
+            (8 * length section.now) (place_view first) pointers levels }
     {
         StructReader {
             backing,
@@ -76,7 +78,8 @@ impl<'a, A: ReaderArena> StructReader<'a, A> {
 
     /// The struct without sections.
     pub(crate) fn empty(backing: Backing<'a, A>, levels: Option<u32>) -> Self
-        ensures { seen_struct A.segments result ≡ empty_struct (ground_of A.segments backing.entry) levels }
+        ensures { seen_struct A.segments result
+            ≡ empty_struct (ground_of A.segments backing.entry) levels }
     {
         StructReader {
             backing,
@@ -132,7 +135,9 @@ impl<'a, A: ReaderArena> StructReader<'a, A> {
     pub fn at(arena: &'a A, start: Place, data_words: u16, pointers: u16) -> Self
         requires there { AreThere (words_in (A.segments arena.now)) (place_view start) data_words }
         requires near { start.position + (data_words + pointers) < 2 ^ 62 }
-        ensures { seen_struct A.segments result ≡ struct_at (A.segments arena.now) (A.nesting arena.now) (place_view start) data_words pointers }
+        ensures { seen_struct A.segments result
+            ≡ struct_at (A.segments arena.now) (A.nesting arena.now) (place_view start) data_words
+            pointers }
     {
         let backing = Backing::Arena(arena);
         let section = backing.lend(start, data_words as usize);
@@ -146,7 +151,9 @@ impl<'a, A: ReaderArena> StructReader<'a, A> {
 
     /// A number of the data section, counted in its own width; 0 where it doesn't lie wholly in the section.
     pub fn get_data_field<T: Primitive + Zero>(&self, offset: ElementCount) -> T
-        ensures { let s = seen_struct A.segments self.now in result ≡ T.from_bits (field_bits (just_bits s.bits) s.section (8 * (T.BYTES * offset)) (8 * T.BYTES)) }
+        ensures { let s = seen_struct A.segments self.now in
+            result ≡ T.from_bits
+            (field_bits (just_bits s.bits) s.section (8 * (T.BYTES * offset)) (8 * T.BYTES)) }
     {
         match bytes_from(self.section, offset, T::BYTES) {
             Some(bytes) => T::get(bytes),
@@ -160,28 +167,35 @@ impl<'a, A: ReaderArena> StructReader<'a, A> {
         offset: ElementCount,
         mask: T::T,
     ) -> T
-        ensures { let s = seen_struct A.segments self.now in result ≡ T.from_bits (bit_xor (field_bits (just_bits s.bits) s.section (8 * (T.BYTES * offset)) (8 * T.BYTES)) (T.mask_bits mask)) }
+        ensures { let s = seen_struct A.segments self.now in
+            result ≡ T.from_bits
+            (bit_xor (field_bits (just_bits s.bits) s.section (8 * (T.BYTES * offset))
+            (8 * T.BYTES)) (T.mask_bits mask)) }
     {
         T::mask(self.get_data_field::<T>(offset), mask)
     }
 
     /// A bit of the data section, counted in bits; false where it doesn't lie in the section.
     pub fn get_bool_field(&self, offset: ElementCount) -> bool
-        ensures { let s = seen_struct A.segments self.now in result ≡ (field_bits (just_bits s.bits) s.section offset 1 == 1) }
+        ensures { let s = seen_struct A.segments self.now in
+            result ≡ (field_bits (just_bits s.bits) s.section offset 1 == 1) }
     {
         offset / 8 < self.section.len() && bit_of(self.section, offset)
     }
 
     /// The same, exclusive or the field's default.
     pub fn get_bool_field_mask(&self, offset: ElementCount, mask: bool) -> bool
-        ensures { let s = seen_struct A.segments self.now in result ≡ (bit_xor (field_bits (just_bits s.bits) s.section offset 1) (bit_of_bool mask) == 1) }
+        ensures { let s = seen_struct A.segments self.now in
+            result ≡ (bit_xor (field_bits (just_bits s.bits) s.section offset 1)
+            (bit_of_bool mask) == 1) }
     {
         self.get_bool_field(offset) != mask
     }
 
     /// A pointer of the pointer section, null past its end.
     pub fn get_pointer_field(&self, ptr_index: WirePointerCount) -> PointerReader<'a, A>
-        ensures { seen_pointer A.segments result ≡ pointer_field (seen_struct A.segments self.now) ptr_index }
+        ensures { seen_pointer A.segments result
+            ≡ pointer_field (seen_struct A.segments self.now) ptr_index }
     {
         let place = if ptr_index < self.pointers as usize {
             Some(Place {
@@ -221,7 +235,10 @@ impl<'a, A: ReaderArena> StructReader<'a, A> {
 
     /// The size of what the struct's pointers lead to.
     fn size_of_pointers(&self, limiter: &mut ReadLimiter, levels: u32) -> Result<MessageSize>
-        ensures { let v = seen_struct A.segments self.now in let s = v.basis.segments in SizeOn v.basis.paid each_object_words each_capability_count (each (tree_at levels s) v.first v.pointers) (from_each (visits levels s) v.first v.pointers) limiter.old result limiter.new }
+        ensures { let v = seen_struct A.segments self.now in let s = v.basis.segments in
+            SizeOn v.basis.paid each_object_words each_capability_count
+            (each (tree_at levels s) v.first v.pointers)
+            (from_each (visits levels s) v.first v.pointers) limiter.old result limiter.new }
     {
         let count = self.pointers as u32;
         match self.backing {

@@ -38,12 +38,14 @@ pub trait FromPointerReader<'a, A: ReaderArena>: Sized {
         limiter: &mut ReadLimiter,
         default: Option<&'a [Word]>,
     ) -> Result<Self>
-        ensures { reads (with_default (seen_pointer A.segments reader.now) (option_copied default.entry)) limiter.old result limiter.new };
+        ensures { reads (with_default (seen_pointer A.segments reader.now)
+            (option_copied default.entry)) limiter.old result limiter.new };
 }
 
 /// Data: the bytes of a byte list, lent in place.
 impl<'a, A: ReaderArena> FromPointerReader<'a, A> for &'a [u8] {
-    ghost reads = { λ p old result new. GetGives (λ bytes. bytes.now) (read_blob p.basis p.levels) p old result new };
+    ghost reads = { λ p old result new.
+        GetGives (λ bytes. bytes.now) (read_blob p.basis p.levels) p old result new };
 
     fn get_from_pointer(
         reader: &PointerReader<'a, A>,
