@@ -3,6 +3,7 @@ ghost use Rattle.std.specs.Prelude.{◌≡◌, ◌≢◌, ◌⊎◌, ◌+◌, �
 ghost use Rattle.std.specs.List.{flat_map};
 ghost use Rattle.capnp_footprints.specs.Writes.{with_zeros, segment_end};
 ghost use Rattle.capnp_copy.specs.Allocations.{total_of, words_used};
+ghost use Rattle.capnp_copy.specs.Memory.{ZeroFrom};
 ghost use Rattle.capnp_units.specs.declared.kinds.ErrorKind.TheVariants.{SizeOverflow, OutOfMemory};
 
 use crate::allocator::{Allocator, SegmentBytes};
@@ -94,6 +95,37 @@ impl<A: Allocator> BuilderArenaImpl<A> {
         ensures loans { flat_map (λ h. A.Segment.loans h.segment) self.new.segments.items ++ A.loans self.new.allocator ≡ flat_map (λ h. A.Segment.loans h.segment) self.old.segments.items ++ A.loans self.old.allocator }
     {
         self.add_segment(minimum, 0)
+    }
+
+    /// Takes a segment of which so many words are used already, from the first on, as the one segment; those behind them are zero. There is one lent slice at most in it and in the allocator.
+    ///
+    /// It is refused with `OutOfMemory` where the list of segments can't grow; then the segment was given back to the allocator.
+    pub fn hold_segment(&mut self, segment: A::Segment, used: u32) -> Result<()>
+        requires empty { self.old.segments.items ≡ [] }
+        requires inside { 8 * used ≤ length (A.Segment.bytes segment) }
+        requires rest { ZeroFrom (8 * used) (A.Segment.bytes segment) }
+        requires few { used < 2 ^ 29 }
+        requires one { length (A.Segment.loans segment) + length (A.loans self.old.allocator) ≤ 1 }
+        ensures words { OnOk result (map (λ h. words_used h.used (A.Segment.bytes h.segment)) self.new.segments.items ≡ words_used used (A.Segment.bytes segment) ∷ []) }
+        ensures refused { OnErr result (self.new.segments.items ≡ []) }
+        ensures kind { IfErr result (λ e. e.kind ≡ OutOfMemory) }
+        ensures place { A.place self.new.allocator ≡ A.place self.old.allocator }
+        ensures loans { flat_map (λ h. A.Segment.loans h.segment) self.new.segments.items ++ A.loans self.new.allocator ≡ A.Segment.loans segment ++ A.loans self.old.allocator }
+    {
+        match self.segments.push(Held { segment, used }) {
+            Ok(()) => {
+                self.words = used;
+                Ok(())
+            }
+            Err(failed) => {
+                let Held {
+                    segment,
+                    used: words,
+                } = failed.value;
+                self.allocator.deallocate_segment(segment, words);
+                Err(Error::from(ErrorKind::OutOfMemory))
+            }
+        }
     }
 
     /// Uses so many words more of a segment, where it is there and has as many.
