@@ -1,2 +1,4 @@
 pub mod Written
 pub mod Held
+pub mod Rooms
+pub mod Owning

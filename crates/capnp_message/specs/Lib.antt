@@ -3,6 +3,7 @@ pub mod Loans
 pub mod Messages
 pub mod Segments
 pub mod Options
+pub mod Canonical
 pub mod Roots
 pub mod Growth
 pub mod Unbuffered

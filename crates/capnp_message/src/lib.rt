@@ -4,6 +4,9 @@
 #[cfg(test)]
 mod allocator_tests;
 pub mod builder;
+pub mod canonical;
+#[cfg(test)]
+mod canonical_tests;
 pub mod forms;
 pub mod growth;
 pub mod heap;

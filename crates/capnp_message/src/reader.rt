@@ -47,7 +47,7 @@ impl ReaderSegments for SegmentArray<'_> {
 #[derive(Drop)]
 pub struct Reader<S> {
     segments: S,
-    options: ReaderOptions,
+    pub(crate) options: ReaderOptions,
 }
 
 impl<S: ReaderSegments> Reader<S> {

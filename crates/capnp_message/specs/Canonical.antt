@@ -1,0 +1,63 @@
+-- Canonical messages. (Encoding, "Canonicalization")
+use Rattle.std.specs.Prelude.{◌≡◌, ℕ, ◌+◌, ◌-◌, ◌^◌, ◌<◌, min, ◌⊎◌, Bool, false, List, ◌++◌, Option, Some, None, Result, Ok, Err, Vec}
+use Rattle.std.specs.declared.alloc.Global.{Global}
+use Rattle.capnp_model.specs.Segments.{Segments, root}
+use Rattle.capnp_model.specs.Encoding.{canonical_words}
+use Rattle.capnp_model.specs.Trees.{Tree, has_capability}
+use Rattle.capnp_model.specs.Traversal.{tree_at}
+use Rattle.capnp_model.specs.Trimming.{trim}
+use Rattle.capnp_model.specs.Visits.{Visit, visits_cost}
+use Rattle.capnp_units.specs.declared.errors.Error.{Error}
+use Rattle.capnp_units.specs.declared.kinds.ErrorKind.TheVariants.{NestingLimitExceeded, OutOfMemory, BufferNotLargeEnough}
+use Rattle.capnp_units.specs.declared.limiter.ReadLimiter.{ReadLimiter}
+use Rattle.capnp_object.specs.Walks.{Walked, Stopped}
+use Rattle.capnp_canonical.specs.Checks.{TellsMessage}
+use Rattle.capnp_canonical.specs.Copies.{copy_visits}
+use Rattle.capnp_canonical.specs.Writes.{words_view}
+
+-- Nothing has levels, so that every value is refused, at no cost.
+abbrev pub IsWithoutLevels : {X : Type 0} → ReadLimiter → Result X Error → ReadLimiter → Type 0
+IsWithoutLevels old result new = (result ≡ Err (record { kind = NestingLimitExceeded })) × (new ≡ old)
+
+-- What is told of a message: whether it is one segment of the canonical words of its value.
+abbrev pub TellsCanonical : Option ℕ → Segments → ReadLimiter → Result Bool Error → ReadLimiter → Type 0
+TellsCanonical None s old result new = IsWithoutLevels old result new
+TellsCanonical (Some n) s old result new = TellsMessage n s old result new
+
+-- The most words that following a message may cost so that its canonical words are written: those of the options, but no more than a message has behind its root.
+abbrev pub most_cost : Option ℕ → ℕ
+most_cost None = 2 ^ 29 - 2
+most_cost (Some words) = min words (2 ^ 29 - 2)
+
+-- The value has no capability, its visits were made, and these are its canonical words.
+pub record Canonicalized (n : ℕ) (s : Segments) (old : ReadLimiter) (words : List ℕ) (new : ReadLimiter) : Type 0 where
+  pub value : Tree
+  pub there : tree_at n s root ≡ Some value
+  pub clean : has_capability value ≡ false
+  pub words_are : words ≡ canonical_words (trim value)
+  pub walked : Walked (copy_visits n s root) old new
+
+-- The first visits were made, and they cost more than so many words.
+pub record IsTooLong (path : List Visit) (most : ℕ) (old : ReadLimiter) (e : Error) (new : ReadLimiter) : Type 0 where
+  pub before : List Visit
+  pub rest : List Visit
+  pub path_is : path ≡ before ++ rest
+  pub cost : ℕ
+  pub cost_is : visits_cost before ≡ Some cost
+  pub walked : Walked before old new
+  pub why : e.kind ≡ BufferNotLargeEnough
+  pub long : most < cost
+
+-- Where the first visits cost more than so much room has behind the root, they cost more than so many words.
+abbrev pub Suffices : List Visit → ℕ → ℕ → Type 0
+Suffices path most room = (before rest : List Visit) (cost : ℕ) → path ≡ before ++ rest → visits_cost before ≡ Some cost → room < 1 + cost → most < cost
+
+-- No memory was had, and nothing was followed.
+abbrev pub IsWithoutMemory : ReadLimiter → Error → ReadLimiter → Type 0
+IsWithoutMemory old e new = (e.kind ≡ OutOfMemory) × (new ≡ old)
+
+-- The canonical words of a message's value, within so many levels, or why there are none: its visits were stopped, it is too long, or there is no memory.
+abbrev pub GivesCanonical : Option ℕ → Option ℕ → Segments → ReadLimiter → Result (Vec (List ℕ) Global) Error → ReadLimiter → Type 0
+GivesCanonical None limit s old result new = IsWithoutLevels old result new
+GivesCanonical (Some n) limit s old (Ok words) new = Canonicalized n s old (words_view words.items) new
+GivesCanonical (Some n) limit s old (Err e) new = Stopped (copy_visits n s root) old e new ⊎ IsTooLong (copy_visits n s root) (most_cost limit) old e new ⊎ IsWithoutMemory old e new

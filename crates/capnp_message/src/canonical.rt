@@ -1,0 +1,82 @@
+//! Canonical messages.
+ghost use Rattle.capnp_model.specs.Answers.{levels};
+ghost use Rattle.capnp_units.specs.Segments.{words_in};
+ghost use Rattle.std.specs.Prelude.{◌≡◌, ◌^◌, ◌<◌};
+ghost use Rattle.capnp_model.specs.Segments.{root};
+ghost use Rattle.capnp_canonical.specs.Copies.{copy_visits};
+ghost use Rattle.capnp_message.specs.Canonical.{TellsCanonical, GivesCanonical, Suffices, most_cost};
+
+use crate::options::ReaderOptions;
+use crate::reader::Reader;
+use capnp_canonical::check::is_canonical_message;
+use capnp_canonical::copy::write_canonical;
+use capnp_object::place::Place;
+use capnp_object::size::size_at;
+use capnp_units::errors::{Error, Result};
+use capnp_units::kinds::ErrorKind;
+use capnp_units::limiter::ReadLimiter;
+use capnp_units::segments::ReaderSegments;
+use capnp_units::sizes::Word;
+use capnp_wire::arena::ReaderArena;
+use capnp_wire::levels::levels_of;
+use std::alloc::Global;
+
+/// Where the root pointer of a message stands.
+const ROOT: Place = Place {
+    segment: 0,
+    position: 0,
+};
+
+/// The most words of a message.
+const MOST_WORDS: u64 = 0x1fff_ffff;
+
+/// One word more than those that following the root costs, as far as the options' words go, and at most those of a message.
+fn room_of<A: ReaderArena>(arena: &A, options: ReaderOptions, levels: u32) -> usize
+    ensures room { Suffices (copy_visits levels (words_in (A.segments arena.now)) root)
+        (most_cost options.traversal_limit_in_words) result }
+    ensures few { result < 2 ^ 29 }
+{
+    let mut limiter = options.read_limiter();
+    let _measured = size_at(arena, &mut limiter, ROOT, levels);
+    limiter.granted().min(MOST_WORDS - 1) as usize + 1
+}
+
+impl<S: ReaderSegments> Reader<S> {
+    /// The levels of pointers; none under a negative limit.
+    fn levels(&self) -> Option<u32>
+        ensures { result ≡ levels self.now.options.nesting_limit }
+    {
+        levels_of(self.options.nesting_limit)
+    }
+
+    /// Whether the message is one segment, of the canonical words of its value. It takes no memory.
+    ///
+    /// Pointers are followed, and objects paid for, up to the first difference; a capability is one. Where there is a second segment none is followed. It is refused only where a walk over the whole value would be, by the kind of the first fault, or with `ReadLimitExceeded` at the first object that costs more words than are left; under a negative nesting limit with `NestingLimitExceeded`, at no cost. A no is exact where the segment has at most 2^29 - 1 words, the most that a message has. (Encoding, "Canonicalization")
+    pub fn is_canonical(&self, limiter: &mut ReadLimiter) -> Result<bool>
+        ensures { TellsCanonical (levels self.now.options.nesting_limit)
+            (words_in (S.segments self.now.segments)) limiter.old result limiter.new }
+    {
+        let Some(levels) = self.levels() else {
+            return Err(Error::from(ErrorKind::NestingLimitExceeded));
+        };
+        is_canonical_message(self, limiter, levels)
+    }
+
+    /// The canonical words of the message's value.
+    ///
+    /// Pointers are followed, and objects paid for, in the order of reading. It is refused at the first fault, where a capability is one (`CapabilityInCanonical`), or with `ReadLimitExceeded` at the first object that costs more words than are left; under a negative nesting limit with `NestingLimitExceeded`, at no cost. `BufferNotLargeEnough`: what is followed costs more words than the options' limit, or than the 2^29 - 2 that a message has behind its root. `OutOfMemory`: there is none for the words; then nothing was followed. It takes memory for a word more than what is followed costs. (Encoding, "Canonicalization")
+    pub fn canonicalize(&self, alloc: Global, limiter: &mut ReadLimiter) -> Result<Vec<Word>>
+        ensures { GivesCanonical (levels self.now.options.nesting_limit)
+            self.now.options.traversal_limit_in_words
+            (words_in (S.segments self.now.segments)) limiter.old result limiter.new }
+    {
+        let Some(levels) = self.levels() else {
+            return Err(Error::from(ErrorKind::NestingLimitExceeded));
+        };
+        let room = room_of(self, self.options, levels);
+        let mut words = vec![in alloc; [0u8; 8]; room]?;
+        let count = write_canonical(self, limiter, ROOT, levels, words.as_mut_slice())?;
+        words.truncate(count);
+        Ok(words)
+    }
+}
