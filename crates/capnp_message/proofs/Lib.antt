@@ -2,3 +2,4 @@ pub mod Written
 pub mod Held
 pub mod Rooms
 pub mod Owning
+pub mod Building

@@ -1,5 +1,5 @@
 -- What is written of segments that are built.
-use Rattle.std.specs.Prelude.{ℕ, ◌*◌, List, map, take}
+use Rattle.std.specs.Prelude.{ℕ, ◌*◌, List, [], ◌∷◌, map, take}
 use Rattle.capnp_model.specs.Segments.{Segments}
 use Rattle.capnp_units.specs.Segments.{words_in}
 
@@ -10,3 +10,8 @@ used_bytes used bytes segments = map (λ x. take (8 * used x) (bytes x)) segment
 -- The used words of each segment.
 abbrev pub used_words : {X : Type 0} → (X → ℕ) → (X → List ℕ) → List X → Segments
 used_words used bytes segments = words_in (used_bytes used bytes segments)
+
+-- The segments with a root pointer, which is null where there was none. (Encoding, "Messages")
+abbrev pub rooted : Segments → Segments
+rooted [] = (0 ∷ []) ∷ []
+rooted (words ∷ segments) = words ∷ segments

@@ -1,5 +1,5 @@
 -- Canonical messages. (Encoding, "Canonicalization")
-use Rattle.std.specs.Prelude.{◌≡◌, ℕ, ◌+◌, ◌-◌, ◌^◌, ◌<◌, min, ◌⊎◌, Bool, false, List, ◌++◌, Option, Some, None, Result, Ok, Err, Vec}
+use Rattle.std.specs.Prelude.{◌≡◌, ◌≢◌, ⊤, ℕ, ◌+◌, ◌-◌, ◌^◌, ◌<◌, min, ◌⊎◌, Bool, false, List, [], ◌∷◌, ◌++◌, length, Option, Some, None, Result, Ok, Err, Vec}
 use Rattle.std.specs.declared.alloc.Global.{Global}
 use Rattle.capnp_model.specs.Segments.{Segments, root}
 use Rattle.capnp_model.specs.Encoding.{canonical_words}
@@ -8,7 +8,7 @@ use Rattle.capnp_model.specs.Traversal.{tree_at}
 use Rattle.capnp_model.specs.Trimming.{trim}
 use Rattle.capnp_model.specs.Visits.{Visit, visits_cost}
 use Rattle.capnp_units.specs.declared.errors.Error.{Error}
-use Rattle.capnp_units.specs.declared.kinds.ErrorKind.TheVariants.{NestingLimitExceeded, OutOfMemory, BufferNotLargeEnough}
+use Rattle.capnp_units.specs.declared.kinds.ErrorKind.TheVariants.{NestingLimitExceeded, OutOfMemory, BufferNotLargeEnough, SizeOverflow}
 use Rattle.capnp_units.specs.declared.limiter.ReadLimiter.{ReadLimiter}
 use Rattle.capnp_object.specs.Walks.{Walked, Stopped}
 use Rattle.capnp_canonical.specs.Checks.{TellsMessage}
@@ -35,6 +35,7 @@ pub record Canonicalized (n : ℕ) (s : Segments) (old : ReadLimiter) (words : L
   pub there : tree_at n s root ≡ Some value
   pub clean : has_capability value ≡ false
   pub words_are : words ≡ canonical_words (trim value)
+  pub few : length words < 2 ^ 29
   pub walked : Walked (copy_visits n s root) old new
 
 -- The first visits were made, and they cost more than so many words.
@@ -61,3 +62,9 @@ abbrev pub GivesCanonical : Option ℕ → Option ℕ → Segments → ReadLimit
 GivesCanonical None limit s old result new = IsWithoutLevels old result new
 GivesCanonical (Some n) limit s old (Ok words) new = Canonicalized n s old (words_view words.items) new
 GivesCanonical (Some n) limit s old (Err e) new = Stopped (copy_visits n s root) old e new ⊎ IsTooLong (copy_visits n s root) (most_cost limit) old e new ⊎ IsWithoutMemory old e new
+
+-- A message without segments is set to the canonical words of a value: they are its one segment. Else it has none still: the words weren't given, or the allocator has no room for them.
+abbrev pub SetsCanonical : Option ℕ → Option ℕ → Segments → Segments → ReadLimiter → Result ⊤ Error → ReadLimiter → Type 0
+SetsCanonical levels limit s u old (Ok done) new = (n : ℕ) × (words : List ℕ) × (levels ≡ Some n) × (u ≡ words ∷ []) × Canonicalized n s old words new
+SetsCanonical levels limit s u old (Err e) new =
+    (u ≡ []) × (GivesCanonical levels limit s old (Err e) new ⊎ ((n : ℕ) × (words : List ℕ) × (levels ≡ Some n) × Canonicalized n s old words new × (e.kind ≢ SizeOverflow)))

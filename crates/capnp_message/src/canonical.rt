@@ -22,7 +22,7 @@ use capnp_wire::levels::levels_of;
 use std::alloc::Global;
 
 /// Where the root pointer of a message stands.
-const ROOT: Place = Place {
+pub(crate) const ROOT: Place = Place {
     segment: 0,
     position: 0,
 };

@@ -18,14 +18,17 @@ mod packed_tests;
 pub mod reader;
 #[cfg(test)]
 mod reader_tests;
+pub mod roots;
 pub mod scratch;
 pub mod segment;
 pub mod serialize;
 pub mod serialize_packed;
 pub mod single;
 pub mod typed;
+pub mod typed_builder;
 pub mod unbuffered;
 #[cfg(test)]
 mod unbuffered_tests;
+pub mod words;
 
 pub use capnp_stream::{adapters, memory, slice_writer, traits};

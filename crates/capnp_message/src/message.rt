@@ -9,5 +9,6 @@ pub use crate::reader::{Reader, SegmentArray};
 pub use crate::scratch::ScratchSpaceHeapAllocator;
 pub use crate::single::SingleSegmentAllocator;
 pub use crate::typed::TypedReader;
+pub use crate::typed_builder::TypedBuilder;
 pub use capnp_copy::allocator::Allocator;
 pub use capnp_units::segments::ReaderSegments;

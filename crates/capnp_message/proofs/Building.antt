@@ -1,0 +1,99 @@
+-- Messages that are made of words, and their roots.
+use Rattle.std.proofs.Common.{◌≡◌, ◌≢◌, ◌↔◌, ◌⊎◌, inl, inr, refl, ℕ, zero, suc, ◌+◌, ◌*◌, ◌/◌, ◌<◌, ◌≤◌, ◌^◌, Bool, true, List, [], ◌∷◌, ◌++◌, length, map, get_or, take, drop, replicate, Option, Some, None, Result, Ok, Err, Vec, ap, sym, ◌∙◌, arith, leb}
+use Rattle.std.specs.Bool.{⊤}
+use Rattle.std.specs.declared.alloc.Global.{Global}
+use Rattle.std.specs.List.{flat_map}
+use Rattle.std.specs.Option.{is_some}
+use Rattle.std.specs.Result.{OnOk, OnErr, IfErr}
+use Rattle.std.specs.Int.{from_le_bytes, w64}
+use Rattle.std.proofs.lemmas.Bool.{le-leb}
+use Rattle.std.proofs.lemmas.List.{take_at, drop_at, length-replicate, length-map}
+use Rattle.capnp_model.specs.Bytes.{words_in_bytes}
+use Rattle.capnp_model.specs.Chains.{◌provided◌}
+use Rattle.capnp_model.specs.Segments.{Segments, Place, place, root, words_at}
+use Rattle.capnp_model.specs.Trees.{Tree}
+use Rattle.capnp_units.specs.declared.errors.Error.{Error}
+use Rattle.capnp_units.specs.declared.kinds.ErrorKind.TheVariants.{SizeOverflow}
+use Rattle.capnp_units.specs.declared.limiter.ReadLimiter.{ReadLimiter}
+use Rattle.capnp_object.proofs.Words.{word_of_eight}
+use Rattle.capnp_canonical.specs.Writes.{words_view}
+use Rattle.capnp_footprints.specs.Writes.{spliced, with_words, with_zeros, segment_end}
+use Rattle.capnp_footprints.proofs.Splices.{spliced_whole}
+use Rattle.capnp_copy.specs.Allocations.{Allocates, total_words}
+use Rattle.capnp_copy.specs.Values.{Becomes}
+use Rattle.capnp_message.specs.Canonical.{GivesCanonical, SetsCanonical}
+
+pub on_ok : {X Y : Type 0} (r : Result X Y) {P Q : Type 0} → OnOk r P → (P → Q) → OnOk r Q
+on_ok (Ok x) p f = f p
+on_ok (Err e) p f = tt
+
+pub map_both : {X : Type 0} (f : X → List ℕ) (g : List ℕ → List ℕ) (xs : List X) → map g (map f xs) ≡ map (λ x. g (f x)) xs
+map_both f g [] = refl
+map_both f g (x ∷ xs) = ap (λ (zs : List (List ℕ)). g (f x) ∷ zs) (map_both f g xs)
+
+-- a root that is set
+pub root_set : (r : Result ⊤ Error) (s t u : Segments) (p : Place) (v : Tree) → s ≡ t → p ≡ root → OnOk r (Becomes s u p v) → OnOk r (Becomes t u root v)
+root_set r s t u p v e f h = on_ok r h (λ b. rw (sym e) (rw (sym f) b))
+
+-- ---- words of eight bytes each
+
+pub flat_words : (ws : List (List ℕ)) → ((i : ℕ) → i < length ws → length (get_or ws i []) ≡ 8) → words_in_bytes (length ws) (flat_map (λ w. w) ws) ≡ words_view ws
+flat_words [] h = refl
+flat_words (w ∷ ws) h =
+    let eight : length w ≡ 8 = h 0 (omega arith) in
+    let rest : List ℕ = flat_map (λ v. v) ws in
+    let first : from_le_bytes w64 (w ++ rest) ≡ from_le_bytes w64 w = sym (word_of_eight (w ++ rest)) ∙ ap (from_le_bytes w64) (take_at w rest 8 eight) in
+    ap (λ (n : ℕ). n ∷ words_in_bytes (length ws) (drop 8 (w ++ rest))) first
+    ∙ ap (λ (bytes : List ℕ). from_le_bytes w64 w ∷ words_in_bytes (length ws) bytes) (drop_at w rest 8 eight)
+    ∙ ap (λ (ns : List ℕ). from_le_bytes w64 w ∷ ns) (flat_words ws (λ i l. h (suc i) (omega (arith, l))))
+
+-- ---- the first segment
+
+abbrev zero_word : ℕ
+zero_word = 0
+
+first_at : (s : Segments) (i at n : ℕ) (u : Segments) → s ≡ [] → Allocates s u i at n → (i ≡ 0) × (at ≡ 0) × (u ≡ replicate n zero_word ∷ [])
+unfolding with_zeros segment_end
+first_at [] i at n u e a =
+    let none : i ≡ 0 = omega (arith, a.among) in
+    (none, a.end, a.now)
+first_at (x ∷ s) i at n u e a = absurd cc
+
+pub first_there : (s u : Segments) (i at n k : ℕ) → s ≡ [] → Allocates s u i at n → k ≡ n → is_some (words_at u (place i at) k) ≡ true
+first_there s u i at n k e a same =
+    let f = first_at s i at n u e a in
+    there i at u f.0 f.1 f.2
+  where
+    provided_true : (x : List ℕ) (b : Bool) → b ≡ true → is_some (x provided b) ≡ true
+    provided_true x b h = rw h refl
+    there : (j b : ℕ) (v : Segments) → j ≡ 0 → b ≡ 0 → v ≡ replicate n zero_word ∷ [] → is_some (words_at v (place j b) k) ≡ true
+    there j b v x y z =
+        let long : length (replicate n zero_word) ≡ n = length-replicate n zero_word in
+        rw x (rw z (provided_true (take k (drop b (replicate n zero_word))) (leb (b + k) (length (replicate n zero_word))) (le-leb (b + k) (length (replicate n zero_word)) (omega (arith, same, long, y)))))
+
+-- no segment has no word
+pub no_words : (s : Segments) → s ≡ [] → total_words s ≡ 0
+unfolding total_words
+no_words [] e = refl
+no_words (x ∷ s) e = absurd cc
+
+pub first_words : (s u w : Segments) (i at n k : ℕ) (bytes : List ℕ) (ws : List (List ℕ)) → s ≡ [] → Allocates s u i at n → w ≡ with_words u (place i at) (words_in_bytes k bytes) → bytes ≡ flat_map (λ x. x) ws → n ≡ length ws → k ≡ length ws → ((j : ℕ) → j < length ws → length (get_or ws j []) ≡ 8) → w ≡ words_view ws ∷ []
+unfolding with_words
+first_words s u w i at n k bytes ws e a is flat few many eight =
+    let f = first_at s i at n u e a in
+    let view : words_in_bytes k bytes ≡ words_view ws = ap (λ (m : ℕ). words_in_bytes m bytes) many ∙ ap (words_in_bytes (length ws)) flat ∙ flat_words ws eight in
+    let long : length (words_view ws) ≡ length (replicate n zero_word) = length-map ws (from_le_bytes w64) ∙ sym few ∙ sym (length-replicate n zero_word) in
+    is ∙ ap (with_words u (place i at)) view ∙ put i at u f.0 f.1 f.2 ∙ ap (λ (ns : List ℕ). ns ∷ []) (spliced_whole (words_view ws) (replicate n zero_word) long)
+  where
+    put : (j b : ℕ) (v : Segments) → j ≡ 0 → b ≡ 0 → v ≡ replicate n zero_word ∷ [] → with_words v (place j b) (words_view ws) ≡ spliced 0 (words_view ws) (replicate n zero_word) ∷ []
+    put j b v x y z = rw x (rw y (rw z refl))
+
+-- ---- canonical words that are set
+
+pub set_canonical : (o limit : Option ℕ) (s u : Segments) (old new : ReadLimiter) (v : Vec (List ℕ) Global) (ws : List (List ℕ)) (r : Result ⊤ Error) → GivesCanonical o limit s old (Ok v) new → ws ≡ v.items → OnOk r (u ≡ words_view ws ∷ []) → OnErr r (u ≡ []) → IfErr r (λ e. (e.kind ≡ SizeOverflow) ↔ (2 ^ 29 ≤ length ws)) → SetsCanonical o limit s u old r new
+set_canonical None limit s u old new v ws r g is done none kind = absurd (let h = g.0 in cc)
+set_canonical (Some n) limit s u old new v ws (Ok x) g is done none kind = (n, words_view v.items, refl, done ∙ ap (λ (zs : List (List ℕ)). words_view zs ∷ []) is, g)
+set_canonical (Some n) limit s u old new v ws (Err e) g is done none kind =
+    let few = g.few in
+    let long = length-map v.items (from_le_bytes w64) in
+    (none, inr (n, words_view v.items, refl, g, λ q. let more = kind.0 q in absurd (omega (arith, few, long, more, ap length is))))

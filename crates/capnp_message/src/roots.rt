@@ -1,0 +1,107 @@
+//! Roots of messages that are built.
+ghost use Rattle.std.specs.Prelude.{◌≡◌, ◌≢◌, ◌^◌, ◌<◌, ◌++◌, ◌∷◌, [], true, pos, length, IfErr, OnOk, OnErr};
+ghost use Rattle.std.specs.List.{flat_map};
+ghost use Rattle.std.specs.Option.{is_some};
+ghost use Rattle.capnp_model.specs.Segments.{root, words_at};
+ghost use Rattle.capnp_units.specs.declared.kinds.ErrorKind.TheVariants.{SizeOverflow};
+ghost use Rattle.capnp_copy.specs.Allocations.{total_words};
+ghost use Rattle.capnp_copy.specs.Values.{Becomes};
+ghost use Rattle.capnp_wire.specs.Reads.{root_of};
+ghost use Rattle.capnp_message.specs.Built.{used_bytes, used_words, rooted};
+ghost use Rattle.capnp_message.specs.Options.{boundless};
+ghost use Rattle.capnp_message.specs.Roots.{ReadsRoot};
+
+use crate::builder::Builder;
+use crate::canonical::ROOT;
+use crate::options::ReaderOptions;
+use crate::reader::Reader;
+use capnp_builders::pointer_builder::PointerBuilder;
+use capnp_builders::traits::SetterInput;
+use capnp_copy::allocator::{Allocator, SegmentBytes};
+use capnp_copy::segments::BuilderArenaImpl;
+use capnp_units::errors::{Error, Result};
+use capnp_units::kinds::ErrorKind;
+use capnp_units::limiter::ReadLimiter;
+use capnp_wire::pointer::PointerReader;
+use capnp_wire::place::has_words;
+use capnp_wire::traits::FromPointerReader;
+
+/// What is built was made here: no limit of words, and as many levels as there can be.
+const BOUNDLESS: ReaderOptions = ReaderOptions {
+    traversal_limit_in_words: None,
+    nesting_limit: i32::MAX,
+};
+
+impl<A: Allocator> Builder<A> {
+    /// Makes the root pointer where the message has no segment yet, and looks that its word is there.
+    fn begin(&mut self) -> Result<()>
+        ensures rooted { OnOk result (used_words (λ h. h.used) (λ h. A.Segment.bytes h.segment)
+            self.new.memory.arena.segments.items ≡ rooted (used_words (λ h. h.used)
+            (λ h. A.Segment.bytes h.segment) self.old.memory.arena.segments.items)) }
+        ensures there { OnOk result (is_some (words_at (used_words (λ h. h.used)
+            (λ h. A.Segment.bytes h.segment) self.new.memory.arena.segments.items) root 1) ≡ true) }
+        ensures refused { OnErr result (used_words (λ h. h.used) (λ h. A.Segment.bytes h.segment)
+            self.new.memory.arena.segments.items ≡ used_words (λ h. h.used)
+            (λ h. A.Segment.bytes h.segment) self.old.memory.arena.segments.items) }
+        ensures kind { IfErr result (λ e. e.kind ≢ SizeOverflow) }
+        ensures place { A.place self.new.memory.arena.allocator
+            ≡ A.place self.old.memory.arena.allocator }
+        ensures loans { flat_map (λ h. A.Segment.loans h.segment) self.new.memory.arena.segments.items
+            ++ A.loans self.new.memory.arena.allocator
+            ≡ flat_map (λ h. A.Segment.loans h.segment) self.old.memory.arena.segments.items
+            ++ A.loans self.old.memory.arena.allocator }
+    {
+        self.allocate_root()?;
+        if !has_words(&self.memory.arena, ROOT, 1) {
+            return Err(Error::from(ErrorKind::OutOfBounds));
+        }
+        Ok(())
+    }
+
+    /// Sets the root to a value, in place of the one that it had, which is cleared. Texts and data are copied.
+    ///
+    /// It is refused with `SizeOverflow` only where the value is too large for the message, else as the allocator refuses; or with `OutOfBounds` where the first segment was allocated by hand and has no word. Then all stands as it was, but that a root that is null may have been made.
+    pub fn set_root<T, V: SetterInput<T> + Drop>(&mut self, value: V) -> Result<()>
+        ensures value { OnOk result (Becomes (rooted (used_words (λ h. h.used)
+            (λ h. A.Segment.bytes h.segment) self.old.memory.arena.segments.items))
+            (used_words (λ h. h.used) (λ h. A.Segment.bytes h.segment)
+            self.new.memory.arena.segments.items) root (V.tree value)) }
+        ensures refused { OnErr result (rooted (used_words (λ h. h.used)
+            (λ h. A.Segment.bytes h.segment) self.new.memory.arena.segments.items)
+            ≡ rooted (used_words (λ h. h.used) (λ h. A.Segment.bytes h.segment)
+            self.old.memory.arena.segments.items)) }
+        ensures kind { IfErr result (λ e. e.kind ≡ SizeOverflow → V.is_too_large value
+            (total_words (rooted (used_words (λ h. h.used) (λ h. A.Segment.bytes h.segment)
+            self.old.memory.arena.segments.items)))) }
+        ensures place { A.place self.new.memory.arena.allocator
+            ≡ A.place self.old.memory.arena.allocator }
+        ensures loans { flat_map (λ h. A.Segment.loans h.segment) self.new.memory.arena.segments.items
+            ++ A.loans self.new.memory.arena.allocator
+            ≡ flat_map (λ h. A.Segment.loans h.segment) self.old.memory.arena.segments.items
+            ++ A.loans self.old.memory.arena.allocator }
+    {
+        self.begin()?;
+        let pointer = PointerBuilder::get_root(&mut self.memory);
+        V::set_pointer_builder(pointer, value, false)
+    }
+
+    /// The root to read, as a caller's type, at any depth. It is refused with `OutOfBounds` where no root was made, at no cost; else as the type reads a pointer.
+    pub fn get_root_as_reader<'a, T: FromPointerReader<'a, BuilderArenaImpl<A>>>(
+        &'a self,
+        limiter: &mut ReadLimiter,
+    ) -> Result<T>
+        ensures { ReadsRoot T.reads (root_of (used_bytes (λ h. h.used)
+            (λ h. A.Segment.bytes h.segment) self.now.memory.arena.segments.items)
+            boundless.nesting_limit) limiter.old result limiter.new }
+    {
+        let pointer = PointerReader::get_root_from_arena(&self.memory.arena)?;
+        T::get_from_pointer(&pointer, limiter, None)
+    }
+
+    /// The message to read, under no limit of words and as many levels as there can be. `into_segments` gives the builder back.
+    pub fn into_reader(self) -> Reader<Builder<A>>
+        ensures { result ≡ record { segments = self; options = boundless } }
+    {
+        Reader::new(self, BOUNDLESS)
+    }
+}

@@ -1,0 +1,148 @@
+//! Messages that are built, whose root's type is known.
+ghost use Rattle.std.specs.Prelude.{◌≡◌, ◌++◌, ◌∷◌, [], length, IfErr, OnOk, OnErr};
+ghost use Rattle.std.specs.Borrow.{sem};
+ghost use Rattle.std.specs.List.{flat_map};
+ghost use Rattle.capnp_model.specs.Segments.{root};
+ghost use Rattle.capnp_units.specs.declared.kinds.ErrorKind.TheVariants.{SizeOverflow};
+ghost use Rattle.capnp_copy.specs.Allocations.{total_words};
+ghost use Rattle.capnp_copy.specs.Values.{Becomes};
+ghost use Rattle.capnp_wire.specs.Reads.{root_of};
+ghost use Rattle.capnp_message.specs.Built.{used_bytes, used_words, rooted};
+ghost use Rattle.capnp_message.specs.Growth.{suggested_growth};
+ghost use Rattle.capnp_message.specs.Options.{boundless};
+ghost use Rattle.capnp_message.specs.Roots.{ReadsRoot};
+
+use crate::builder::Builder;
+use crate::heap::HeapAllocator;
+use crate::typed::TypedReader;
+use capnp_builders::traits::SetterInput;
+use capnp_copy::allocator::{Allocator, SegmentBytes};
+use capnp_copy::segments::BuilderArenaImpl;
+use capnp_units::errors::Result;
+use capnp_units::limiter::ReadLimiter;
+use capnp_wire::traits::Owned;
+use std::alloc::Global;
+use std::marker::PhantomData;
+
+/// A message that is built, whose root is what `T` says.
+///
+/// It is no value that may be dropped: its message ends by `into_allocator`.
+pub struct TypedBuilder<T, A: Allocator> {
+    message: Builder<A>,
+    root: PhantomData<T>,
+}
+
+impl<T, A: Allocator> TypedBuilder<T, A> {
+    /// This message.
+    pub fn new(message: Builder<A>) -> TypedBuilder<T, A>
+        ensures { result.message ≡ message }
+    {
+        TypedBuilder {
+            message,
+            root: PhantomData,
+        }
+    }
+
+    /// Sets the root to a value, as `Builder::set_root`.
+    pub fn set_root<V: SetterInput<T> + Drop>(&mut self, value: V) -> Result<()>
+        ensures value { OnOk result (Becomes (rooted (used_words (λ h. h.used)
+            (λ h. A.Segment.bytes h.segment) self.old.message.memory.arena.segments.items))
+            (used_words (λ h. h.used) (λ h. A.Segment.bytes h.segment)
+            self.new.message.memory.arena.segments.items) root (V.tree value)) }
+        ensures refused { OnErr result (rooted (used_words (λ h. h.used)
+            (λ h. A.Segment.bytes h.segment) self.new.message.memory.arena.segments.items)
+            ≡ rooted (used_words (λ h. h.used) (λ h. A.Segment.bytes h.segment)
+            self.old.message.memory.arena.segments.items)) }
+        ensures kind { IfErr result (λ e. e.kind ≡ SizeOverflow → V.is_too_large value
+            (total_words (rooted (used_words (λ h. h.used) (λ h. A.Segment.bytes h.segment)
+            self.old.message.memory.arena.segments.items)))) }
+        ensures place { A.place self.new.message.memory.arena.allocator
+            ≡ A.place self.old.message.memory.arena.allocator }
+        ensures loans {
+            flat_map (λ h. A.Segment.loans h.segment) self.new.message.memory.arena.segments.items
+            ++ A.loans self.new.message.memory.arena.allocator
+            ≡ flat_map (λ h. A.Segment.loans h.segment) self.old.message.memory.arena.segments.items
+            ++ A.loans self.old.message.memory.arena.allocator }
+    {
+        self.message.set_root(value)
+    }
+
+    /// The root to read, at any depth. It is refused as by `Builder::get_root_as_reader`.
+    pub fn get_root_as_reader<'a>(&'a self, limiter: &mut ReadLimiter) -> Result<T::Reader>
+    where
+        T: Owned<'a, BuilderArenaImpl<A>>,
+        ensures { ReadsRoot T.Reader.reads (root_of (used_bytes (λ h. h.used)
+            (λ h. A.Segment.bytes h.segment) self.now.message.memory.arena.segments.items)
+            boundless.nesting_limit) limiter.old result limiter.new }
+    {
+        self.message.get_root_as_reader(limiter)
+    }
+
+    /// The message.
+    pub fn into_inner(self) -> Builder<A>
+        ensures { result ≡ self.message }
+    {
+        let TypedBuilder { message, root: _ } = self;
+        message
+    }
+
+    /// The message, lent.
+    pub fn borrow_inner(&self) -> &Builder<A>
+        ensures { result.now ≡ self.now.message }
+    {
+        &self.message
+    }
+
+    /// The message to read, under no limit of words and as many levels as there can be.
+    pub fn into_reader(self) -> TypedReader<Builder<A>, T>
+        ensures { result.message ≡ record { segments = self.message; options = boundless } }
+    {
+        let TypedBuilder { message, root: _ } = self;
+        TypedReader::new(message.into_reader())
+    }
+}
+
+impl<T> TypedBuilder<T, HeapAllocator> {
+    /// A message over the heap, with the suggested sizes of segments.
+    pub fn new_default(alloc: Global) -> TypedBuilder<T, HeapAllocator>
+        ensures empty { result.message.memory.arena.segments.items ≡ [] }
+        ensures growth { result.message.memory.arena.allocator.growth ≡ suggested_growth }
+    {
+        TypedBuilder::new(Builder::new_default(alloc))
+    }
+}
+
+impl<A: Allocator> Builder<A> {
+    /// The same message, whose root is what `T` says.
+    pub fn into_typed<T>(self) -> TypedBuilder<T, A>
+        ensures { result.message ≡ self }
+    {
+        TypedBuilder::new(self)
+    }
+}
+
+impl<T, A: Allocator> From<Builder<A>> for TypedBuilder<T, A> {
+    ghost from_gives = { λ message typed. typed.message ≡ message };
+
+    fn from(message: Builder<A>) -> TypedBuilder<T, A> {
+        TypedBuilder::new(message)
+    }
+}
+
+impl<T, A: Allocator> From<Builder<A>> for TypedReader<Builder<A>, T> {
+    ghost from_gives = { λ message typed. typed.message
+        ≡ record { segments = message; options = boundless } };
+
+    fn from(message: Builder<A>) -> TypedReader<Builder<A>, T> {
+        TypedReader::new(message.into_reader())
+    }
+}
+
+impl<T, A: Allocator> From<TypedBuilder<T, A>> for TypedReader<Builder<A>, T> {
+    ghost from_gives = { λ built typed. typed.message
+        ≡ record { segments = built.message; options = boundless } };
+
+    fn from(built: TypedBuilder<T, A>) -> TypedReader<Builder<A>, T> {
+        built.into_reader()
+    }
+}

@@ -1,0 +1,107 @@
+//! Messages that are made of words: canonical ones, and those that stand in a segment.
+ghost use Rattle.std.specs.Prelude.{◌≡◌, ◌≢◌, ◌↔◌, ◌+◌, ◌*◌, ◌^◌, ◌<◌, ◌≤◌, ◌++◌, ◌∷◌, [], length, IfErr, OnOk, OnErr};
+ghost use Rattle.std.specs.List.{flat_map};
+ghost use Rattle.capnp_model.specs.Answers.{levels};
+ghost use Rattle.capnp_units.specs.Segments.{words_in};
+ghost use Rattle.capnp_units.specs.declared.kinds.ErrorKind.TheVariants.{OutOfMemory, SizeOverflow};
+ghost use Rattle.capnp_canonical.specs.Writes.{words_view};
+ghost use Rattle.capnp_copy.specs.Allocations.{words_used};
+ghost use Rattle.capnp_copy.specs.Memory.{ZeroFrom};
+ghost use Rattle.capnp_message.specs.Built.{used_words};
+ghost use Rattle.capnp_message.specs.Canonical.{SetsCanonical};
+
+use crate::builder::Builder;
+use crate::reader::Reader;
+use capnp_copy::allocator::{Allocator, SegmentBytes};
+use capnp_copy::arena::BuilderArena;
+use capnp_units::errors::{Error, Result};
+use capnp_units::kinds::ErrorKind;
+use capnp_units::limiter::ReadLimiter;
+use capnp_units::segments::ReaderSegments;
+use capnp_units::sizes::{Word, words_as_bytes};
+use capnp_wire::place::Place;
+use std::alloc::Global;
+
+/// The most words that a message may have.
+const MOST_WORDS: usize = 0x1fff_ffff;
+
+impl<A: Allocator> Builder<A> {
+    /// Makes a message that has no segment yet of these words, as its one segment; they are copied.
+    ///
+    /// It is refused with `SizeOverflow` just where there are more than 2^29 - 1, else as the allocator refuses, or with `OutOfMemory` where the list of segments can't grow; then there is no segment still.
+    pub fn set_words(&mut self, words: &[Word]) -> Result<()>
+        requires empty { self.old.memory.arena.segments.items ≡ [] }
+        ensures words { OnOk result (used_words (λ h. h.used) (λ h. A.Segment.bytes h.segment)
+            self.new.memory.arena.segments.items ≡ words_view words.now ∷ []) }
+        ensures refused { OnErr result (used_words (λ h. h.used) (λ h. A.Segment.bytes h.segment)
+            self.new.memory.arena.segments.items ≡ []) }
+        ensures kind { IfErr result (λ e. (e.kind ≡ SizeOverflow) ↔ (2 ^ 29 ≤ length words.now)) }
+        ensures place { A.place self.new.memory.arena.allocator
+            ≡ A.place self.old.memory.arena.allocator }
+        ensures loans { flat_map (λ h. A.Segment.loans h.segment) self.new.memory.arena.segments.items
+            ++ A.loans self.new.memory.arena.allocator ≡ A.loans self.old.memory.arena.allocator }
+    {
+        let count = words.len();
+        if count > MOST_WORDS {
+            return Err(Error::from(ErrorKind::SizeOverflow));
+        }
+        match self.memory.arena.allocate_anywhere(count as u32) {
+            Ok((segment, at)) => {
+                let place = Place {
+                    segment,
+                    position: at as usize,
+                };
+                let bytes = words_as_bytes(words);
+                self.memory.arena.write_words(place, bytes);
+                Ok(())
+            }
+            Err(e) => Err(e),
+        }
+    }
+
+    /// Makes a message that has no segment yet of the canonical words of a message's value, as its one segment.
+    ///
+    /// It is refused as `Reader::canonicalize` is, then as `set_words`; then there is no segment still.
+    pub fn set_root_canonical<S: ReaderSegments>(
+        &mut self,
+        alloc: Global,
+        limiter: &mut ReadLimiter,
+        source: &Reader<S>,
+    ) -> Result<()>
+        requires empty { self.old.memory.arena.segments.items ≡ [] }
+        ensures copy { SetsCanonical (levels source.now.options.nesting_limit)
+            source.now.options.traversal_limit_in_words (words_in (S.segments source.now.segments))
+            (used_words (λ h. h.used) (λ h. A.Segment.bytes h.segment)
+            self.new.memory.arena.segments.items) limiter.old result limiter.new }
+        ensures place { A.place self.new.memory.arena.allocator
+            ≡ A.place self.old.memory.arena.allocator }
+        ensures loans { flat_map (λ h. A.Segment.loans h.segment) self.new.memory.arena.segments.items
+            ++ A.loans self.new.memory.arena.allocator ≡ A.loans self.old.memory.arena.allocator }
+    {
+        let words = source.canonicalize(alloc, limiter)?;
+        self.set_words(&words)
+    }
+
+    /// Takes a segment of which so many words are used already, from the first on, as the one segment of a message that has none yet. The words behind them are zero, and there is one lent slice at most in it and in the allocator. What is built then goes on behind those words.
+    ///
+    /// `OutOfMemory`: the list of segments can't grow; then the segment was given back to the allocator, which makes it zero.
+    pub fn hold_segment(&mut self, segment: A::Segment, used: u32) -> Result<()>
+        requires empty { self.old.memory.arena.segments.items ≡ [] }
+        requires inside { 8 * used ≤ length (A.Segment.bytes segment) }
+        requires rest { ZeroFrom (8 * used) (A.Segment.bytes segment) }
+        requires few { used < 2 ^ 29 }
+        requires one { length (A.Segment.loans segment)
+            + length (A.loans self.old.memory.arena.allocator) ≤ 1 }
+        ensures words { OnOk result (used_words (λ h. h.used) (λ h. A.Segment.bytes h.segment)
+            self.new.memory.arena.segments.items ≡ words_used used (A.Segment.bytes segment) ∷ []) }
+        ensures refused { OnErr result (self.new.memory.arena.segments.items ≡ []) }
+        ensures kind { IfErr result (λ e. e.kind ≡ OutOfMemory) }
+        ensures place { A.place self.new.memory.arena.allocator
+            ≡ A.place self.old.memory.arena.allocator }
+        ensures loans { flat_map (λ h. A.Segment.loans h.segment) self.new.memory.arena.segments.items
+            ++ A.loans self.new.memory.arena.allocator
+            ≡ A.Segment.loans segment ++ A.loans self.old.memory.arena.allocator }
+    {
+        self.memory.arena.hold_segment(segment, used)
+    }
+}
