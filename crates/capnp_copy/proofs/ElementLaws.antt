@@ -62,7 +62,7 @@ word_near (suc (suc (suc (suc (suc n))))) i h = omega (arith, h)
 regrouped : (h v l a b : ℕ) → h * (a * b) + (v * a + l) ≡ (h * b + v) * a + l
 regrouped h v l a b = omega arith
 
-low_bits : (at w v s : ℕ) → v < 2 ^ w → with_bits at w v s % 2 ^ (at + w) ≡ v * 2 ^ at + s % 2 ^ at
+pub low_bits : (at w v s : ℕ) → v < 2 ^ w → with_bits at w v s % 2 ^ (at + w) ≡ v * 2 ^ at + s % 2 ^ at
 low_bits at w v s fits =
     let turned : at + w ≡ w + at = omega arith in
     let low : with_bits at w v s % 2 ^ at ≡ s % 2 ^ at = pow.low (s / 2 ^ (at + w) * 2 ^ w + v) at (mod-lt s (pow_pos at)) in
@@ -85,7 +85,7 @@ masked_by at w v s k fits =
     ∙ ap (λ (m : ℕ). (m * 2 ^ w + v) * 2 ^ at + s % 2 ^ at) (sym high)
     ∙ ap (λ (m : ℕ). (s % 2 ^ (k + (at + w)) / 2 ^ (at + w) * 2 ^ w + v) * 2 ^ at + m) (sym low)
 
-masked_with : (at w v s m : ℕ) → v < 2 ^ w → at + w ≤ m → with_bits at w v s % 2 ^ m ≡ with_bits at w v (s % 2 ^ m)
+pub masked_with : (at w v s m : ℕ) → v < 2 ^ w → at + w ≤ m → with_bits at w v s % 2 ^ m ≡ with_bits at w v (s % 2 ^ m)
 masked_with at w v s m fits l =
     let e : (m - (at + w)) + (at + w) ≡ m = omega (arith, l) in
     subst (λ (j : ℕ). with_bits at w v s % 2 ^ j ≡ with_bits at w v (s % 2 ^ j)) e (masked_by at w v s (m - (at + w)) fits)
@@ -97,12 +97,12 @@ masked_bits at w s m l =
 
 -- ---- the words of a list
 
-record PlainParts (s : Segments) (p : Place) (size count section : ℕ) : Type 0 where
-  words : List ℕ
-  there : words_at s p (words_for (size_bits size * count)) ≡ Some words
-  section_is : section_of words % 2 ^ (size_bits size * count) ≡ section
+pub record PlainParts (s : Segments) (p : Place) (size count section : ℕ) : Type 0 where
+  pub words : List ℕ
+  pub there : words_at s p (words_for (size_bits size * count)) ≡ Some words
+  pub section_is : section_of words % 2 ^ (size_bits size * count) ≡ section
 
-plain_parts : (n : ℕ) (s : Segments) (p : Place) (size count section : ℕ) → list_kind size ≡ of_bits → tree_of s (tree_at n s) (a_list p size count) ≡ Some (plain_list size count section) → PlainParts s p size count section
+pub plain_parts : (n : ℕ) (s : Segments) (p : Place) (size count section : ℕ) → list_kind size ≡ of_bits → tree_of s (tree_at n s) (a_list p size count) ≡ Some (plain_list size count section) → PlainParts s p size count section
 plain_parts n s p size count section k means = by_cases (words_at s p (words_for (size_bits size * count))) refl
   where
     by_cases : (o : Option (List ℕ)) → words_at s p (words_for (size_bits size * count)) ≡ o → PlainParts s p size count section

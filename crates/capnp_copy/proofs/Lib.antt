@@ -17,3 +17,4 @@ pub mod BlobNumbers
 pub mod BlobValues
 pub mod ElementLaws
 pub mod Taken
+pub mod ByteSets

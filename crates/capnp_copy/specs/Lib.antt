@@ -8,3 +8,4 @@ pub mod Clearing
 pub mod Lists
 pub mod Blobs
 pub mod Elements
+pub mod Bytes

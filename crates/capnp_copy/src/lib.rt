@@ -5,6 +5,7 @@ pub mod allocator;
 pub mod arena;
 pub mod bits;
 pub mod blobs;
+pub mod bytes;
 pub mod clear;
 pub mod elements;
 pub mod fields;

@@ -1,0 +1,21 @@
+-- The bytes of texts and data, in place. (Encoding, "Blobs")
+use Rattle.std.specs.Prelude.{◌≡◌, ℕ, ◌+◌, ◌*◌, ◌≤◌, List, length}
+use Rattle.capnp_model.specs.Sections.{numbers_in, number_of, with_bits}
+use Rattle.capnp_model.specs.Segments.{Segments}
+use Rattle.capnp_model.specs.Pointers.{a_list}
+use Rattle.capnp_model.specs.Trees.{plain_list}
+use Rattle.capnp_object.specs.declared.place.Place as code
+use Rattle.capnp_wire.specs.Places.{place_view}
+use Rattle.capnp_footprints.specs.Footprints.{OwnsObject}
+use Rattle.capnp_footprints.specs.Changes.{ReplacesObject}
+use Rattle.capnp_copy.specs.declared.bytes.BlobPlace.{BlobPlace}
+
+-- Whatever list of at least so many bytes lies there: these are its first.
+abbrev pub HasBytes : Segments → BlobPlace → List ℕ → Type 0
+HasBytes s o bytes = (n m section : ℕ) → o.count ≤ m → OwnsObject n s (a_list (place_view o.start) 2 m) (plain_list 2 m section) → bytes ≡ numbers_in 8 o.count section
+
+-- Whatever list of bytes lies there, with bytes enough: from one on they become these, and nothing else changes.
+abbrev pub SetsBytes : Segments → Segments → code.Place → ℕ → List ℕ → Type 0
+SetsBytes s u start at bytes =
+    (n m section : ℕ) → at + length bytes ≤ m → OwnsObject n s (a_list (place_view start) 2 m) (plain_list 2 m section)
+    → ReplacesObject n s u (a_list (place_view start) 2 m) (plain_list 2 m (with_bits (8 * at) (8 * length bytes) (number_of 8 bytes) section))
