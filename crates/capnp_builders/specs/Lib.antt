@@ -3,3 +3,4 @@ pub use Rattle.capnp_copy.specs.Values
 pub mod Gets
 pub mod Lending
 pub mod Inputs
+pub mod Blobs

@@ -23,7 +23,11 @@ use capnp_widening::structs::get_struct;
 use capnp_wire::place::Place;
 
 /// Puts a copy of a default, where there is one, in place of null, as `write_default`.
-fn begin<A: BuilderArena>(arena: &mut A, slot: Place, default: Option<&[Word]>) -> Result<()>
+pub(crate) fn begin<A: BuilderArena>(
+    arena: &mut A,
+    slot: Place,
+    default: Option<&[Word]>,
+) -> Result<()>
     requires there { is_some (words_at (words_in (A.segments arena.old))
         (place_view slot) 1) ≡ true }
     requires near { slot.position < 2 ^ 61 }

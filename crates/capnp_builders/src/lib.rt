@@ -3,8 +3,10 @@
 
 #[cfg(test)]
 mod blob_tests;
+mod blobs;
 #[cfg(test)]
 mod build_tests;
+pub mod data_builder;
 pub mod element;
 #[cfg(test)]
 mod element_tests;
@@ -20,4 +22,5 @@ pub mod pointer_builder;
 pub mod struct_builder;
 #[cfg(test)]
 mod tests;
+pub mod text_builder;
 pub mod traits;

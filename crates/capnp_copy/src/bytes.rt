@@ -104,21 +104,30 @@ fn set_from_word<A: BuilderArena>(arena: &mut A, start: Place, at: usize, bytes:
     set_in_word(arena, start, at + whole, &bytes[whole..]);
 }
 
-/// Writes bytes in place of as many from one on: those of whole words at once.
-pub fn set_bytes<A: BuilderArena>(arena: &mut A, start: Place, at: usize, bytes: &[u8])
-    requires near { start.position < 2 ^ 61 }
-    requires few { at + length bytes.now < 2 ^ 61 }
-    ensures sets { SetsBytes (words_in (A.segments arena.old)) (words_in (A.segments arena.new)) start at bytes.now }
+/// Writes bytes in place of as many of those there, from one on, and answers where they end. The bytes of whole words are written at once.
+pub fn set_bytes<A: BuilderArena>(
+    arena: &mut A,
+    blob: BlobPlace,
+    at: usize,
+    bytes: &[u8],
+) -> usize
+    requires near { blob.start.position < 2 ^ 61 }
+    requires inside { at + length bytes.now ≤ blob.count }
+    ensures end { result ≡ at + length bytes.now }
+    ensures sets { SetsBytes (words_in (A.segments arena.old)) (words_in (A.segments arena.new)) blob.start at bytes.now }
     ensures sizes { map length (words_in (A.segments arena.new)) ≡ map length (words_in (A.segments arena.old)) }
     ensures books { A.books arena.new ≡ A.books arena.old }
 {
+    let start = blob.start;
+    let end = at + bytes.len();
     let front = (8 - at % 8) % 8;
     if bytes.len() <= front {
         set_in_word(arena, start, at, bytes);
-        return;
+        return end;
     }
     set_in_word(arena, start, at, &bytes[..front]);
     set_from_word(arena, start, at + front, &bytes[front..]);
+    end
 }
 
 /// Writes zeros in place of the bytes of so many words, the first.
@@ -132,16 +141,16 @@ fn zero_front<A: BuilderArena>(arena: &mut A, start: Place, words: usize)
     }
 }
 
-/// Writes zeros in place of so many bytes, the first.
-pub fn zero_bytes<A: BuilderArena>(arena: &mut A, start: Place, count: usize)
-    requires near { start.position < 2 ^ 61 }
-    requires few { count < 2 ^ 61 }
-    ensures sets { SetsBytes (words_in (A.segments arena.old)) (words_in (A.segments arena.new)) start 0 (replicate count 0) }
+/// Writes zeros in place of the bytes there.
+pub fn zero_bytes<A: BuilderArena>(arena: &mut A, blob: BlobPlace)
+    requires { blob.start.position < 2 ^ 61 }
+    ensures sets { SetsBytes (words_in (A.segments arena.old)) (words_in (A.segments arena.new)) blob.start 0 (replicate blob.count 0) }
     ensures sizes { map length (words_in (A.segments arena.new)) ≡ map length (words_in (A.segments arena.old)) }
     ensures books { A.books arena.new ≡ A.books arena.old }
 {
-    let words = count / 8;
-    zero_front(arena, start, words);
+    let words = blob.count as usize / 8;
+    zero_front(arena, blob.start, words);
     let rest = [0; 8];
-    set_in_word(arena, start, 8 * words, &rest[..count % 8]);
+    let left = blob.count as usize % 8;
+    set_in_word(arena, blob.start, 8 * words, &rest[..left]);
 }

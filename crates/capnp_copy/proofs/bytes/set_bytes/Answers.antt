@@ -10,4 +10,4 @@ returns-clause-sets g c =
     let v = words_in (g.A.ReaderArena.segments c.set_from_word.new.arena) in
     let bytes = c.args.bytes.now in
     let l = c.if-bytes-front.false in
-    sets_then s u v c.args.start c.args.at ((8 - c.args.at % 8) % 8) bytes (omega (arith, l)) c.set_in_word-2.ensures.sets c.set_from_word.ensures.sets
+    sets_then s u v c.args.blob.start c.args.at ((8 - c.args.at % 8) % 8) bytes (omega (arith, l)) c.set_in_word-2.ensures.sets c.set_from_word.ensures.sets

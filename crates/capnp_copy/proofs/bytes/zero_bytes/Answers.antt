@@ -7,4 +7,4 @@ returns-clause-sets g c =
     let s = words_in (g.A.ReaderArena.segments c.args.arena.now) in
     let u = words_in (g.A.ReaderArena.segments c.zero_front.new.arena) in
     let v = words_in (g.A.ReaderArena.segments c.set_in_word.new.arena) in
-    zeros_then s u v c.args.start c.args.count c.zero_front.ensures.sets c.set_in_word.ensures.sets
+    zeros_then s u v c.args.blob.start c.args.blob.count c.zero_front.ensures.sets c.set_in_word.ensures.sets

@@ -1,0 +1,78 @@
+-- Texts and data that are got. (Encoding, "Blobs")
+use Rattle.std.specs.Prelude.{◌≡◌, ◌⊎◌, ⊤, ℕ, ◌+◌, ◌-◌, ◌*◌, ◌==◌, nat_lt, ◌&&◌, Bool, List, Option, Some, None, Result, Ok, Err, unwrap_or}
+use Rattle.capnp_model.specs.Kinds.{Kind, WrongElementSize, WrongPointerKind, TextWithoutZeroByte}
+use Rattle.capnp_model.specs.Chains.{◌and_then◌, guard}
+use Rattle.capnp_model.specs.Sections.{words_for, bits_at}
+use Rattle.capnp_model.specs.Segments.{Segments, Place, word_at}
+use Rattle.capnp_model.specs.Pointers.{a_list}
+use Rattle.capnp_units.specs.declared.errors.Error.{Error}
+use Rattle.capnp_units.specs.declared.sizes.ElementSize.TheVariants.{Byte}
+use Rattle.capnp_units.specs.Errors.{kind_of}
+use Rattle.capnp_object.specs.declared.object.Object.{Object}
+use Rattle.capnp_object.specs.declared.object.Object.TheVariants as object
+use Rattle.capnp_object.specs.declared.place.Place as code
+use Rattle.capnp_object.specs.Objects.{object_at}
+use Rattle.capnp_wire.specs.Places.{place_view}
+use Rattle.capnp_wire.specs.Views.{section_at}
+use Rattle.capnp_copy.specs.declared.bytes.BlobPlace.{BlobPlace}
+use Rattle.capnp_copy.specs.Values.{LeadsTo}
+use Rattle.capnp_builders.specs.Gets.{Begins, Gets}
+
+-- The bytes of a list of bytes that an object is, none of null.
+abbrev pub bytes_of : Object → Result (Option BlobPlace) Kind
+bytes_of object.Null = Ok None
+bytes_of (object.List p Byte n) = Ok (Some (record { start = p; count = n }))
+bytes_of (object.List p size n) = Err WrongElementSize
+bytes_of (object.PointerList p n) = Err WrongElementSize
+bytes_of (object.StructList p words n d k) = Err WrongElementSize
+bytes_of _ = Err WrongPointerKind
+
+-- Those of the object that the pointer at a place names, else the kind of the fault.
+abbrev pub bytes_named : Segments → Place → Result (Option BlobPlace) Kind
+bytes_named s p = object_at s p and_then λ f. bytes_of f.object
+
+-- No bytes, at a place.
+abbrev pub no_bytes : code.Place → BlobPlace
+no_bytes slot = record { start = slot; count = 0 }
+
+-- The data that the pointer at a place names; null has none, at the pointer itself.
+abbrev pub data_named : Segments → code.Place → Result BlobPlace Kind
+data_named s slot = bytes_named s (place_view slot) and_then λ found. Ok (unwrap_or found (no_bytes slot))
+
+-- There is a last byte, and it is zero.
+abbrev pub ends_in_zero : Segments → BlobPlace → Bool
+ends_in_zero s o = nat_lt 0 o.count && (bits_at (8 * (o.count - 1)) 8 (section_at s (place_view o.start) (words_for (8 * o.count))) == 0)
+
+-- The bytes in front of the last, which is zero; none where there is no list.
+abbrev pub text_of : Segments → code.Place → Option BlobPlace → Result BlobPlace Kind
+text_of s slot None = Ok (no_bytes slot)
+text_of s slot (Some o) = guard (ends_in_zero s o) TextWithoutZeroByte and_then λ _. Ok (record { start = o.start; count = o.count - 1 })
+
+-- The text that the pointer at a place names; null has none, at the pointer itself.
+abbrev pub text_named : Segments → code.Place → Result BlobPlace Kind
+text_named s slot = bytes_named s (place_view slot) and_then text_of s slot
+
+-- Data or a text, which the function names, are got: the default is written, and nothing else; where there isn't null the pointer leads to the list of their bytes, which has as many as the other function tells.
+pub record BlobGot (named : Segments → code.Place → Result BlobPlace Kind) (whole : ℕ → ℕ) (default : Option (List (List ℕ))) (s u : Segments) (slot : code.Place) (o : BlobPlace) : Type 0 where
+  pub begins : Begins default s u (place_view slot) (Ok tt)
+  pub value : Gets default s u (place_view slot) (λ v. v)
+  pub blob : named u slot ≡ Ok o
+  pub object : (word_at u (place_view slot) ≡ Some 0) ⊎ LeadsTo u (place_view slot) (a_list (place_view o.start) 2 (whole o.count))
+
+-- Why they aren't given, and what stands then, as of structs.
+abbrev pub NoBlobGot : (Segments → code.Place → Result BlobPlace Kind) → Option (List (List ℕ)) → Segments → Segments → code.Place → Error → Type 0
+NoBlobGot named default s u slot e = Begins default s u (place_view slot) (Err e) ⊎ (Begins default s u (place_view slot) (Ok tt) × (named u slot ≡ Err (kind_of e.kind)))
+
+-- data
+abbrev pub DataGot : Option (List (List ℕ)) → Segments → Segments → code.Place → BlobPlace → Type 0
+DataGot = BlobGot data_named (λ n. n)
+
+abbrev pub NoDataGot : Option (List (List ℕ)) → Segments → Segments → code.Place → Error → Type 0
+NoDataGot = NoBlobGot data_named
+
+-- a text, with its zero byte behind it
+abbrev pub TextGot : Option (List (List ℕ)) → Segments → Segments → code.Place → BlobPlace → Type 0
+TextGot = BlobGot text_named (λ n. n + 1)
+
+abbrev pub NoTextGot : Option (List (List ℕ)) → Segments → Segments → code.Place → Error → Type 0
+NoTextGot = NoBlobGot text_named
