@@ -1,0 +1,4 @@
+pub mod AcceptedSlots
+pub mod Ready
+pub mod Writes
+pub mod Marks

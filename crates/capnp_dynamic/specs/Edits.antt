@@ -1,0 +1,45 @@
+-- What is written into a struct under its schema. (Encoding, "Structs")
+use Rattle.std.specs.Prelude.{◌≡◌, ℕ, ◌+◌, ◌^◌, ◌<◌, ◌≤◌, Option, Some, None, true}
+use Rattle.std.specs.Option.{is_some}
+use Rattle.capnp_model.specs.Segments.{Segments, words_at}
+use Rattle.capnp_model.specs.Trees.{Trees, structure}
+use Rattle.capnp_model.specs.Schemas.{Shape, Body}
+use Rattle.capnp_model.specs.Calls.{Content}
+use Rattle.capnp_model.specs.Edits.{Edit, mark, put_content}
+use Rattle.capnp_wire.specs.Places.{place_view}
+use Rattle.capnp_footprints.specs.Footprints.{OwnsObject}
+use Rattle.capnp_footprints.specs.Changes.{ReplacesObject}
+use Rattle.capnp_copy.specs.Structs.{struct_at}
+use Rattle.capnp_copy.specs.declared.fields.StructPlace.{StructPlace}
+use Rattle.capnp_queries.specs.Fields.{Entry, union_in}
+use Rattle.capnp_queries.specs.Structs.{shape_of_struct}
+use Rattle.capnp_queries.specs.Handles.{entry_of}
+use Rattle.capnp_queries.specs.declared.fields.Field.{Field}
+use Rattle.capnp_dynamic.specs.Inside.{words_of_shape, pointers_of_shape}
+
+-- The struct's words are there, and it has at least the sizes of a shape.
+pub record IsReady (s : Segments) (p : StructPlace) (g : Shape) : Type 0 where
+  pub there : is_some (words_at s (place_view p.start) (p.data_words + p.pointers)) ≡ true
+  pub near : p.start.position + (p.data_words + p.pointers) < 2 ^ 61
+  pub words : words_of_shape g ≤ p.data_words
+  pub pointers : pointers_of_shape g ≤ p.pointers
+
+-- Whatever data and children the struct has become what the edit makes of them, and nothing else changes. New values may take so many levels more.
+abbrev pub EditsWith : ℕ → Segments → Segments → StructPlace → Edit → Type 0
+EditsWith levels s u p f =
+    (n section : ℕ) (kids : Trees) → OwnsObject n s (struct_at p) (structure p.data_words section kids)
+    → let c = f (record { section = section; kids = kids }) in ReplacesObject (n + levels) s u (struct_at p) (structure p.data_words c.section c.kids)
+
+-- The same of an edit that makes no new value.
+abbrev pub Edits : Segments → Segments → StructPlace → Edit → Type 0
+Edits s u p f =
+    (n section : ℕ) (kids : Trees) → OwnsObject n s (struct_at p) (structure p.data_words section kids)
+    → let c = f (record { section = section; kids = kids }) in ReplacesObject n s u (struct_at p) (structure p.data_words c.section c.kids)
+
+-- A field is made the active member of the union, if it is a member.
+abbrev pub marked_in : Option ℕ → Option Entry → Edit
+marked_in union None c = c
+marked_in union (Some e) c = mark union e.member c
+
+abbrev pub marked : Field → Edit
+marked f = marked_in (union_in (shape_of_struct f.parent)) (entry_of f)
