@@ -13,16 +13,16 @@ words : List (List ℕ)
 words = codes "p.json" ∷ codes "c.json" ∷ codes "1" ∷ codes "framed" ∷ []
 
 -- Three words, and no files.
-few_words : asked (request (codes "p.json" ∷ codes "c.json" ∷ codes "1" ∷ []) None None) ≡ Err stop.Arguments
+few_words : asked (request (codes "p.json" ∷ codes "c.json" ∷ codes "1" ∷ []) None None None) ≡ Err stop.Arguments
 few_words = refl
 
 -- A root that is no number, and no files.
-no_number : asked (request (codes "p.json" ∷ codes "c.json" ∷ codes "+1" ∷ codes "framed" ∷ []) None None) ≡ Err stop.Arguments
+no_number : asked (request (codes "p.json" ∷ codes "c.json" ∷ codes "+1" ∷ codes "framed" ∷ []) None None None) ≡ Err stop.Arguments
 unfolding digits_number
 no_number = refl
 
 -- Neither file: the schema file's fault is the first.
-no_files : asked (request words None None) ≡ Err stop.SchemaFile
+no_files : asked (request words None None None) ≡ Err stop.SchemaFile
 unfolding digits_number words
 no_files = refl
 

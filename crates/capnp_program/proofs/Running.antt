@@ -1,7 +1,6 @@
 -- A run of what the settings ask for, and the flushes behind it.
-use Rattle.std.proofs.Common.{◌≡◌, ℕ, Option, Some, None, Result, Ok, Err, List, refl, sym}
+use Rattle.std.proofs.Common.{◌≡◌, Option, Some, None, Result, Ok, Err, List, refl, sym, ◌∙◌, subst}
 use Rattle.capnp_units.specs.declared.errors.Error.{Error}
-use Rattle.capnp_records.specs.Sets.{nodes_of}
 use Rattle.capnp_queries.specs.declared.structs.StructSchema.{StructSchema}
 use Rattle.capnp_queries.specs.Structs.{nodes_around, id_of}
 use Rattle.capnp_calls.specs.declared.call.Call.{Call}
@@ -12,24 +11,40 @@ use Rattle.capnp_relay.specs.declared.ends.RelayFault.{RelayFault}
 use Rattle.capnp_relay.specs.Relaying.{relay_work}
 use Rattle.capnp_relay.specs.Run.{Relays}
 use Rattle.capnp_relay.specs.Streams.{Streams}
+use Rattle.capnp_between.specs.Ends.{RunsBetween}
+use Rattle.capnp_program.specs.declared.version.Version.{Version}
 use Rattle.capnp_program.specs.declared.settings.Settings.{Settings}
+use Rattle.capnp_program.specs.Asked.{Asked}
 use Rattle.capnp_program.specs.Settings.{asked_of}
-use Rattle.capnp_program.specs.Program.{Seen, Flushes, fault_behind, Runs}
-use Rattle.capnp_program.proofs.Asking.{relay_asks}
+use Rattle.capnp_program.specs.Versions.{nodes_at, HasRoot}
+use Rattle.capnp_program.specs.Program.{Seen, Flushes, fault_behind, Ran, Runs}
+use Rattle.capnp_program.proofs.Asking.{asks_alone, asks_beside}
 
-pub ran : (root : StructSchema) (calls : List Call) (s : Settings) (out_grows log_grows : Type 0) (old : Seen) (mid : Streams) (new : Seen) (result : Result Counts RelayFault) (out log : Result (Unit {0}) Error) (fault : Option Fault)
-    → nodes_around root ≡ nodes_of s.set → id_of root ≡ s.root.id → calls ≡ s.calls.items
-    → Relays (relay_work root calls s.options out_grows log_grows) old.streams mid result → new.streams.source ≡ mid.source
+some_same : {A : Type 0} {a b : A} → ◌≡◌ {A = Option A} (Some a) (Some b) → a ≡ b
+some_same e = cc
+
+-- ---- what ran, or was held back
+
+module _ (root : StructSchema) (calls : List Call) (s : Settings) (out_grows log_grows : Type 0) (old new : Streams)
+    (nodes : nodes_around root ≡ nodes_at s.version) (id : id_of root ≡ s.version.root.id) (same : calls ≡ s.calls.items) where
+  pub ran_alone : (result : Result Counts RelayFault) → s.newer ≡ None → Relays (relay_work root calls s.options out_grows log_grows) old new result → Ran (asked_of s) out_grows log_grows old new result
+  ran_alone result e relays = record { root = root; newer = None; calls = calls; options = s.options; asks = asks_alone root calls s nodes id same e; may = tt; relays = relays }
+
+  module _ (newer : StructSchema) (v : Version) (e : s.newer ≡ Some v) (newer_nodes : nodes_around newer ≡ nodes_at v) (newer_id : id_of newer ≡ v.root.id) where
+    same_id : v.root.id ≡ s.version.root.id
+    same_id = some_same (subst (λ o. HasRoot o s.version.root.id) e s.same_root)
+
+    pub ran_beside : (result : Result Counts RelayFault) → RunsBetween root newer calls s.options out_grows log_grows old new result → Ran (asked_of s) out_grows log_grows old new result
+    ran_beside result h = record { root = root; newer = Some newer; calls = calls; options = s.options; asks = asks_beside root calls s nodes id same newer v e newer_nodes; may = (newer_id ∙ same_id ∙ sym id, h.may); relays = h.relays }
+
+pub runs : (a : Asked) (out_grows log_grows : Type 0) (old : Seen) (mid : Streams) (new : Seen) (result : Result Counts RelayFault) (out log : Result (Unit {0}) Error) (fault : Option Fault)
+    → Ran a out_grows log_grows old.streams mid result → new.streams.source ≡ mid.source
     → Flushes mid.out out new.streams.out new.out_held → Flushes mid.log log new.streams.log new.log_held → fault ≡ fault_behind result out log
-    → Runs (asked_of s) out_grows log_grows old new fault
-ran root calls s out_grows log_grows old mid new result out log fault nodes id same relays source flushed_out flushed_log behind = record {
-  root = root;
-  calls = calls;
-  options = s.options;
-  asks = relay_asks root calls s nodes id same;
+    → Runs a out_grows log_grows old new fault
+runs a out_grows log_grows old mid new result out log fault ran source flushed_out flushed_log behind = record {
   result = result;
   mid = mid;
-  relays = relays;
+  ran = ran;
   source = source;
   out_flushed = out;
   out = flushed_out;

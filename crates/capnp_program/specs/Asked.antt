@@ -1,16 +1,21 @@
 -- What a run is asked by its words and its files.
-use Rattle.std.specs.Prelude.{ℕ, ℤ, pos, negsuc, ◌-◌, ◌^◌, nat_lt, if◌then◌else◌, Option, Some, None, ok_or, Result, Ok, Err, List, map, IsSome}
+use Rattle.std.specs.Prelude.{ℕ, ℤ, pos, negsuc, ◌-◌, ◌^◌, ◌≡◌, Bool, true, false, nat_lt, if◌then◌else◌, Option, Some, None, option_map, ok_or, Result, Ok, Err, List, map, IsSome}
+use Rattle.std.specs.Option.{is_some}
 use Rattle.capnp_model.specs.Chains.{◌>>=◌, ◌provided◌}
 use Rattle.capnp_model.specs.Schemas.{Node}
-use Rattle.capnp_model.specs.Accepted.{fault_of, names_a, is_struct_node}
+use Rattle.capnp_model.specs.Accepted.{fault_of, names_a, is_struct_node, schema_of}
+use Rattle.capnp_model.specs.Compatible.{IsCompatible}
+use Rattle.capnp_model.specs.Admitted.{is_admitted}
 use Rattle.capnp_model.specs.Calls.{Call}
 use Rattle.capnp_queries.specs.declared.structs.StructSchema.{StructSchema}
 use Rattle.capnp_queries.specs.Structs.{nodes_around, id_of}
 use Rattle.capnp_calls.specs.declared.call.Call.{Call as RustCall}
 use Rattle.capnp_calls.specs.CallViews.{call_view}
+use Rattle.capnp_compatible.specs.Ways.{IsFirstRefused}
 use Rattle.capnp_files.specs.SchemaFiles.{schema_in}
 use Rattle.capnp_files.specs.CallsFiles.{CallsText, calls_in}
 use Rattle.capnp_relay.specs.declared.options.RelayOptions.{RelayOptions}
+use Rattle.capnp_relay.specs.declared.ends.Fault.TheVariants.{Memory}
 use Rattle.capnp_program.specs.declared.arguments.Arguments.{Arguments}
 use Rattle.capnp_program.specs.declared.stop.Stop.{Stop}
 use Rattle.capnp_program.specs.declared.stop.Stop.TheVariants as stop
@@ -31,6 +36,15 @@ nodes_in file = ok_or (file >>= schema_in) stop.SchemaFile and_then accepted_nod
 -- The root, where its id names a struct that is no group.
 abbrev pub root_in : List Node → ℕ → Result ℕ Stop
 root_in nodes id = if names_a is_struct_node nodes id then Ok id else Err stop.Root
+
+-- The nodes of a schema file in which the root is found.
+abbrev pub version_in : Option (List ℕ) → ℕ → Result (List Node) Stop
+version_in file id = nodes_in file and_then λ nodes. root_in nodes id and_then λ root. Ok nodes
+
+-- Those of the newer schema file, where a word names one.
+abbrev pub newer_in : Bool → Option (List ℕ) → ℕ → Result (Option (List Node)) Stop
+newer_in false file id = Ok None
+newer_in true file id = version_in file id and_then λ nodes. Ok (Some nodes)
 
 -- ---- the calls and the limits
 
@@ -54,19 +68,21 @@ limits_in text = ok_or (levels_of text.nesting >>= λ n. (record { words = text.
 
 -- ---- all of it
 
--- The words of a run, and the bytes of the schema file and the calls file, where they can be read.
+-- The words of a run, and the bytes of the schema file, the calls file and the newer schema file, where they can be read.
 pub record Request : Type 0 where
   pub words : List (List ℕ)
   pub schema : Option (List ℕ)
   pub calls : Option (List ℕ)
+  pub newer : Option (List ℕ)
 
 -- The same, one after the other.
-abbrev pub request : List (List ℕ) → Option (List ℕ) → Option (List ℕ) → Request
-request words schema calls = record { words = words; schema = schema; calls = calls }
+abbrev pub request : List (List ℕ) → Option (List ℕ) → Option (List ℕ) → Option (List ℕ) → Request
+request words schema calls newer = record { words = words; schema = schema; calls = calls; newer = newer }
 
--- What a run is asked: the schema, its root and the forms, the calls, and the limits.
+-- What a run is asked: the schema, the newer one, if any, the root and the forms, the calls, and the limits.
 pub record Asked : Type 0 where
   pub nodes : List Node
+  pub newer : Option (List Node)
   pub arguments : Arguments
   pub calls : List Call
   pub limits : Limits
@@ -75,22 +91,44 @@ pub record Asked : Type 0 where
 abbrev pub asked : Request → Result Asked Stop
 asked r =
     ok_or (arguments_in r.words) stop.Arguments and_then λ arguments.
-    nodes_in r.schema and_then λ nodes.
-    root_in nodes arguments.root and_then λ root.
+    version_in r.schema arguments.root and_then λ nodes.
+    newer_in arguments.newer r.newer arguments.root and_then λ newer.
     text_in r.calls and_then λ text.
     calls_from 1 text.calls and_then λ calls.
     limits_in text and_then λ limits.
-    Ok (record { nodes = nodes; arguments = arguments; calls = calls; limits = limits })
+    Ok (record { nodes = nodes; newer = newer; arguments = arguments; calls = calls; limits = limits })
 
--- Why there is no run: the first fault, or want of memory, where the words are good and there is a schema file.
+-- Why nothing can be asked: the first fault, or want of memory, where the words are good and there is a schema file.
 abbrev pub IsRefused : Request → Stop → Type 0
 IsRefused r = IsRefusalOf (IsSome (arguments_in r.words) × IsSome r.schema) (asked r)
 
+-- This holds of the newer nodes, which there are.
+abbrev pub IfNewer : Option (List Node) → (List Node → Type 0) → Type 0
+IfNewer None P = ⊥
+IfNewer (Some nodes) P = P nodes
+
+-- The newer schema is compatible with the older.
+abbrev pub AreCompatible : Asked → List Node → Type 0
+AreCompatible a nodes = IsCompatible (schema_of a.nodes) (schema_of nodes) a.arguments.root a.arguments.root
+
+-- A call is admitted beside the newer schema.
+abbrev pub is_admitted_beside : Asked → List Node → Call → Bool
+is_admitted_beside a nodes c = is_admitted (schema_of a.nodes) (schema_of nodes) a.arguments.root a.arguments.root c
+
+-- Why what is asked isn't relayed: the newer schema isn't compatible, or it is and this call is the first that isn't admitted; or
+-- memory is wanting.
+abbrev pub IsHeldBack : Asked → Stop → Type 0
+IsHeldBack a stop.NotCompatible = IfNewer a.newer (λ nodes. AreCompatible a nodes → ⊥)
+IsHeldBack a (stop.NotAdmitted n) = IfNewer a.newer (λ nodes. AreCompatible a nodes × IsFirstRefused (is_admitted_beside a nodes) a.calls n)
+IsHeldBack a (stop.Relay fault) = fault ≡ Memory
+IsHeldBack a _ = ⊥
+
 -- What a relay is asked by its arguments.
-abbrev pub asked_by : StructSchema → List RustCall → RelayOptions → Asked
-asked_by root calls options = record {
+abbrev pub asked_by : StructSchema → Option StructSchema → List RustCall → RelayOptions → Asked
+asked_by root newer calls options = record {
   nodes = nodes_around root;
-  arguments = record { root = id_of root; input = options.input; output = options.output };
+  newer = option_map nodes_around newer;
+  arguments = record { root = id_of root; input = options.input; output = options.output; newer = is_some newer };
   calls = map call_view calls;
   limits = record { words = options.bounds.words; nesting = options.bounds.nesting };
 }

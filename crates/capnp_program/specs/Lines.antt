@@ -25,6 +25,8 @@ stop_words stop.Root = codes "root"
 stop_words stop.CallsFile = codes "calls file"
 stop_words (stop.Call number) = codes "call " ++ decimal number
 stop_words stop.Options = codes "options"
+stop_words stop.NotCompatible = codes "not compatible"
+stop_words (stop.NotAdmitted number) = codes "call " ++ (decimal number ++ codes " not admitted")
 stop_words (stop.Relay fault) = fault_words fault
 
 -- The line that tells a fault.

@@ -1,5 +1,5 @@
 -- What the program does to its streams.
-use Rattle.std.specs.Prelude.{◌≡◌, ℕ, ◌≤◌, Bool, true, false, Some, None, List, [], Ok, Err, ◌⊎◌, IfErr, OnOk}
+use Rattle.std.specs.Prelude.{◌≡◌, ℕ, ◌≤◌, Bool, true, false, Some, None, List, [], Ok, Err, ◌⊎◌, ⊤, IfErr, OnOk}
 use Rattle.std.specs.declared.option.Option.{Option}
 use Rattle.std.specs.declared.result.Result.{Result}
 use Rattle.std.specs.Io.KnownBytes.{Keeps}
@@ -8,6 +8,7 @@ use Rattle.capnp_units.specs.declared.kinds.ErrorKind.TheVariants.{Device}
 use Rattle.capnp_io.specs.Counting.{Counts as CountsFailures}
 use Rattle.capnp_io.specs.Writes.{Writes}
 use Rattle.capnp_queries.specs.declared.structs.StructSchema.{StructSchema}
+use Rattle.capnp_queries.specs.Structs.{id_of}
 use Rattle.capnp_calls.specs.declared.call.Call.{Call}
 use Rattle.capnp_relay.specs.declared.ends.Counts.{Counts}
 use Rattle.capnp_relay.specs.declared.ends.Fault.{Fault}
@@ -15,12 +16,16 @@ use Rattle.capnp_relay.specs.declared.ends.Fault.TheVariants as faults
 use Rattle.capnp_relay.specs.declared.ends.RelayFault.{RelayFault}
 use Rattle.capnp_relay.specs.declared.options.RelayOptions.{RelayOptions}
 use Rattle.capnp_relay.specs.Relaying.{relay_work}
+use Rattle.capnp_relay.specs.Work.{Work}
 use Rattle.capnp_relay.specs.Run.{Relays}
 use Rattle.capnp_relay.specs.Streams.{Streams, SinkSeen}
+use Rattle.capnp_between.specs.Newer.{MayRun}
+use Rattle.capnp_between.specs.Ends.{between_work}
+use Rattle.capnp_program.specs.declared.usage.TheConstants.{USAGE}
 use Rattle.capnp_program.specs.declared.stop.Stop.{Stop}
 use Rattle.capnp_program.specs.declared.stop.Stop.TheVariants as stop
 use Rattle.capnp_program.specs.Arguments.{is_help}
-use Rattle.capnp_program.specs.Asked.{Request, Asked, asked, IsRefused, asked_by}
+use Rattle.capnp_program.specs.Asked.{Request, Asked, asked, IsRefused, IsHeldBack, asked_by}
 use Rattle.capnp_program.specs.Lines.{line_of}
 
 -- What is seen of the source, the output and the log, and the bytes that the output and the log hold back.
@@ -49,15 +54,31 @@ fault_behind (Ok counts) (Err e) log = Some faults.Out
 fault_behind (Ok counts) (Ok done) (Err e) = Some faults.Log
 fault_behind (Ok counts) (Ok done) (Ok gone) = None
 
--- The relay that is asked for ran, and then both sinks were flushed.
-pub record Runs (a : Asked) (out_grows log_grows : Type 0) (old new : Seen) (fault : Option Fault) : Type 0 where
+-- The work of the relay, or of the one between two versions.
+abbrev pub work_beside : StructSchema → Option StructSchema → List Call → RelayOptions → Type 0 → Type 0 → Work
+work_beside root None calls options out_grows log_grows = relay_work root calls options out_grows log_grows
+work_beside root (Some newer) calls options out_grows log_grows = between_work root newer calls options out_grows log_grows
+
+-- The newer schema, if any, has a root of the same id and is compatible, and each call is admitted.
+abbrev pub MayRunBeside : StructSchema → Option StructSchema → List Call → Type 0
+MayRunBeside root None calls = ⊤
+MayRunBeside root (Some newer) calls = (id_of newer ≡ id_of root) × MayRun root newer calls
+
+-- The relay that is asked for ran.
+pub record Ran (a : Asked) (out_grows log_grows : Type 0) (old new : Streams) (result : Result Counts RelayFault) : Type 0 where
   pub root : StructSchema
+  pub newer : Option StructSchema
   pub calls : List Call
   pub options : RelayOptions
-  pub asks : asked_by root calls options ≡ a
+  pub asks : asked_by root newer calls options ≡ a
+  pub may : MayRunBeside root newer calls
+  pub relays : Relays (work_beside root newer calls options out_grows log_grows) old new result
+
+-- The relay that is asked for ran, and then both sinks were flushed.
+pub record Runs (a : Asked) (out_grows log_grows : Type 0) (old new : Seen) (fault : Option Fault) : Type 0 where
   pub result : Result Counts RelayFault
   pub mid : Streams
-  pub relays : Relays (relay_work root calls options out_grows log_grows) old.streams mid result
+  pub ran : Ran a out_grows log_grows old.streams mid result
   pub source : new.streams.source ≡ mid.source
   pub out_flushed : Result (Unit {0}) Error
   pub out : Flushes mid.out out_flushed new.streams.out new.out_held
@@ -65,10 +86,11 @@ pub record Runs (a : Asked) (out_grows log_grows : Type 0) (old new : Seen) (fau
   pub log : Flushes mid.log log_flushed new.streams.log new.log_held
   pub is_fault : fault ≡ fault_behind result out_flushed log_flushed
 
--- The run that is asked for, to its end or to a fault of its own; or none, and then the streams are as they were.
+-- The run that is asked for, to its end or to a fault of its own; or none, where nothing can be asked or what is asked is held
+-- back, and then the streams are as they were.
 abbrev pub RelaysAll : Request → Type 0 → Type 0 → Seen → Seen → Result (Unit {0}) Stop → Type 0
 RelaysAll r out_grows log_grows old new (Ok done) = (a : Asked) × (asked r ≡ Ok a) × Runs a out_grows log_grows old new None
-RelaysAll r out_grows log_grows old new (Err e) = (IsRefused r e × (new ≡ old))
+RelaysAll r out_grows log_grows old new (Err e) = ((IsRefused r e ⊎ ((a : Asked) × (asked r ≡ Ok a) × IsHeldBack a e)) × (new ≡ old))
     ⊎ ((a : Asked) × (fault : Fault) × (asked r ≡ Ok a) × (e ≡ stop.Relay fault) × Runs a out_grows log_grows old new (Some fault))
 
 -- ---- what is told
@@ -81,10 +103,10 @@ Told grows text old new held = (written flushed : Result (Unit {0}) Error) × (m
 abbrev pub ToldFault : Type 0 → Stop → SinkSeen → SinkSeen → List ℕ → Type 0
 ToldFault grows e old new held = Told grows (line_of e) old new held ⊎ Told grows (line_of (stop.Relay faults.Memory)) old new held
 
--- The fault of the words that ask for the usage, which the output was given, and of the other words.
+-- The fault of the words that ask for the usage, which the output was given, and what others meet.
 abbrev pub Meets : Bool → Request → Type 0 → Type 0 → Seen → Seen → Stop → Type 0
 Meets true r out_grows log_grows old new e = (e ≡ stop.Arguments) × (new.streams.source ≡ old.streams.source) × (new.streams.log ≡ old.streams.log)
-    × ((usage : List ℕ) × Told out_grows usage old.streams.out new.streams.out new.out_held)
+    × Told out_grows USAGE.now old.streams.out new.streams.out new.out_held
 Meets false r out_grows log_grows old new e = RelaysAll r out_grows log_grows old new (Err e)
 
 -- A fault was met, and then told on the log.

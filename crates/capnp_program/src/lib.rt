@@ -9,6 +9,8 @@ mod faults;
 #[cfg(test)]
 mod large;
 mod lines;
+#[cfg(test)]
+mod newer;
 pub mod program;
 mod run;
 #[cfg(test)]
@@ -21,3 +23,4 @@ pub mod stop;
 #[cfg(test)]
 mod tests;
 mod usage;
+pub mod version;

@@ -41,6 +41,11 @@ fn push_stop(alloc: Global, line: &mut Vec<u8>, stop: Stop) -> Result<(), AllocE
             line.extend_from_slice(words.as_bytes())
         }
         Stop::Options => line.extend_from_slice(b"options"),
+        Stop::NotCompatible => line.extend_from_slice(b"not compatible"),
+        Stop::NotAdmitted(number) => {
+            let words = format!(in alloc; "call {number} not admitted")?;
+            line.extend_from_slice(words.as_bytes())
+        }
         Stop::Relay(fault) => push_fault(line, fault),
     }
 }

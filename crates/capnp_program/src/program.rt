@@ -38,24 +38,24 @@ fn put_fault<L: Flush>(alloc: Global, log: &mut L, stop: Stop)
 }
 
 /// The program over the words behind its name and the files that they name; a file that can't be read, or that no word names, is
-/// `None`. Messages come from the source, edited messages go to the output and a line for each to the log. The status: 0, or 1
+/// `None`. With a newer schema file the relay is the one between two versions. Messages come from the source, edited messages go to the output and a line for each to the log. The status: 0, or 1
 /// where there was a fault, which is told in the last line of the log.
 ///
-/// The first fault is told: of the words, the schema file, its rules, the root, the calls file, the calls and the limits, in this
-/// order, before anything is read or written; then those of the run. The one word `--help` has the usage written to the output,
-/// and is a fault of the words. A newer schema isn't taken yet: five words are refused.
+/// The first fault is told: of the words, the schema file, its rules, the root, the same three of the newer file, the calls file,
+/// the calls, the limits, compatibility and the calls that aren't admitted, in this order, before anything is read or written; then
+/// those of the run. The one word `--help` has the usage written to the output, and is a fault of the words.
 pub fn program<R: BufRead, W: Flush, L: Flush>(
     alloc: Global,
     words: &[String],
     schema: Option<&[u8]>,
     calls: Option<&[u8]>,
-    _newer: Option<&[u8]>,
+    newer: Option<&[u8]>,
     source: &mut R,
     out: &mut W,
     log: &mut L,
 ) -> u8
     ensures ends { Ends (request (map string_bytes words.now) (option_copied schema.entry)
-        (option_copied calls.entry)) W.may_grow L.may_grow
+        (option_copied calls.entry) (option_copied newer.entry)) W.may_grow L.may_grow
         (seen (streams (source_seen R.remaining R.failures source.old)
         (sink_seen W.contents W.failures W.room out.old)
         (sink_seen L.contents L.failures L.room log.old)) (W.held out.old) (L.held log.old))
@@ -69,7 +69,7 @@ pub fn program<R: BufRead, W: Flush, L: Flush>(
         put_fault(alloc, log, Stop::Arguments);
         return 1;
     }
-    match relay_all(alloc, words, schema, calls, source, out, log) {
+    match relay_all(alloc, words, schema, calls, newer, source, out, log) {
         Ok(()) => 0,
         Err(stop) => {
             put_fault(alloc, log, stop);

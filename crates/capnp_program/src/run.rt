@@ -1,17 +1,63 @@
 //! The run of the program.
-ghost use Rattle.std.specs.Prelude.{◌≡◌, [], map, string_bytes, OnOk};
+ghost use Rattle.std.specs.Prelude.{◌≡◌, [], map, string_bytes, OnOk, IfOk, IfErr};
 ghost use Rattle.std.specs.Option.{option_copied};
 ghost use Rattle.capnp_relay.specs.Streams.{source_seen, sink_seen, streams};
-ghost use Rattle.capnp_program.specs.Asked.{request};
-ghost use Rattle.capnp_program.specs.Program.{seen, RelaysAll};
+ghost use Rattle.capnp_program.specs.Asked.{request, IsHeldBack};
+ghost use Rattle.capnp_program.specs.Settings.{asked_of};
+ghost use Rattle.capnp_program.specs.Program.{seen, Ran, RelaysAll};
 
 use crate::settings::Settings;
 use crate::sinks::Flush;
 use crate::stop::Stop;
-use capnp_relay::ends::Fault;
+use capnp_between::between::{BetweenFault, relay_between};
+use capnp_relay::ends::{Counts, Fault, RelayFault};
 use capnp_relay::relay::relay;
-use capnp_stream::traits::BufRead;
+use capnp_stream::traits::{BufRead, Write};
 use std::alloc::Global;
+
+/// The end of the relay that was asked for; nothing is read or written where it is held back.
+fn relay_asked<R: BufRead, W: Write, L: Write>(
+    alloc: Global,
+    settings: &Settings,
+    source: &mut R,
+    out: &mut W,
+    log: &mut L,
+) -> Result<Result<Counts, RelayFault>, Stop>
+    ensures ran { IfOk result (Ran (asked_of settings.now) W.may_grow L.may_grow
+        (streams (source_seen R.remaining R.failures source.old)
+        (sink_seen W.contents W.failures W.room out.old) (sink_seen L.contents L.failures L.room log.old))
+        (streams (source_seen R.remaining R.failures source.new)
+        (sink_seen W.contents W.failures W.room out.new) (sink_seen L.contents L.failures L.room log.new))) }
+    ensures held { IfErr result (IsHeldBack (asked_of settings.now)) }
+    ensures untouched { IfErr result (λ _. (source.new ≡ source.old)
+        × (out.new ≡ out.old) × (log.new ≡ log.old)) }
+{
+    let mut region = vec![in alloc; 0u8; settings.options.region_len()]?;
+    let root = settings.version.root();
+    let calls = settings.calls.as_slice();
+    let options = settings.options;
+    let Some(newer) = &settings.newer else {
+        return Ok(relay(alloc, source, out, log, root, calls, options, &mut region));
+    };
+    let newer = newer.root();
+    match relay_between(
+        alloc,
+        source,
+        out,
+        log,
+        root,
+        newer,
+        calls,
+        options,
+        &mut region,
+    ) {
+        Ok(counts) => Ok(Ok(counts)),
+        Err(BetweenFault::Relay(e)) => Ok(Err(e)),
+        Err(BetweenFault::NotCompatible) => Err(Stop::NotCompatible),
+        Err(BetweenFault::NotAdmitted(n)) => Err(Stop::NotAdmitted(n)),
+        Err(BetweenFault::Memory) => Err(Stop::Relay(Fault::Memory)),
+    }
+}
 
 /// Settles what the words and the files ask for, relays the messages of the source, and flushes both sinks, the output first.
 pub(crate) fn relay_all<R: BufRead, W: Flush, L: Flush>(
@@ -19,12 +65,13 @@ pub(crate) fn relay_all<R: BufRead, W: Flush, L: Flush>(
     words: &[String],
     schema: Option<&[u8]>,
     calls: Option<&[u8]>,
+    newer: Option<&[u8]>,
     source: &mut R,
     out: &mut W,
     log: &mut L,
 ) -> Result<(), Stop>
     ensures run { RelaysAll (request (map string_bytes words.now) (option_copied schema.entry)
-        (option_copied calls.entry)) W.may_grow L.may_grow
+        (option_copied calls.entry) (option_copied newer.entry)) W.may_grow L.may_grow
         (seen (streams (source_seen R.remaining R.failures source.old)
         (sink_seen W.contents W.failures W.room out.old)
         (sink_seen L.contents L.failures L.room log.old)) (W.held out.old) (L.held log.old))
@@ -33,20 +80,8 @@ pub(crate) fn relay_all<R: BufRead, W: Flush, L: Flush>(
         (sink_seen L.contents L.failures L.room log.new)) (W.held out.new) (L.held log.new)) result }
     ensures held { OnOk result ((W.held out.new ≡ []) × (L.held log.new ≡ [])) }
 {
-    let settings = Settings::new(alloc, words, schema, calls)?;
-    let mut region = vec![in alloc; 0u8; settings.options.region_len()]?;
-    let root = settings.root();
-    let calls = settings.calls.as_slice();
-    let end = relay(
-        alloc,
-        source,
-        out,
-        log,
-        root,
-        calls,
-        settings.options,
-        &mut region,
-    );
+    let settings = Settings::new(alloc, words, schema, calls, newer)?;
+    let end = relay_asked(alloc, &settings, source, out, log)?;
     let flushed_out = out.flush();
     let flushed_log = log.flush();
     match (end, flushed_out, flushed_log) {

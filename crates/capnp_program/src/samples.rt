@@ -1,9 +1,9 @@
 //! The schema of a struct of one data word and one pointer with the number `a` and the text `t`, for tests.
 
 use crate::program::program;
-use crate::settings::schema_set;
 use crate::sinks::Flush;
 use crate::stop::Stop;
+use crate::version::schema_set;
 use capnp_records::set::SchemaSet;
 use capnp_stream::traits::BufRead;
 use std::alloc::{AllocError, Global};

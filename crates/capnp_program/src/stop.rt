@@ -11,11 +11,11 @@ use std::alloc::{AllocError, AllocFailed};
 pub enum Stop {
     /// The words are no arguments of the program.
     Arguments,
-    /// The schema file can't be read, or has another form.
+    /// The schema file or the newer one can't be read, or has another form.
     SchemaFile,
     /// A rule of schemas is broken, by the node of this number, counted from 0.
     SchemaRule { rule: u32, node: usize },
-    /// The root's id names no struct, or a group.
+    /// The root's id names no struct, or a group, in one of the schemas.
     Root,
     /// The calls file can't be read, or has another form.
     CallsFile,
@@ -23,6 +23,10 @@ pub enum Stop {
     Call(usize),
     /// The limits are refused.
     Options,
+    /// The newer schema isn't compatible with the older.
+    NotCompatible,
+    /// The call of this number, counted from 1, is the first that isn't admitted beside the newer schema.
+    NotAdmitted(usize),
     /// The relay met a fault, or a growth was refused.
     Relay(Fault),
 }

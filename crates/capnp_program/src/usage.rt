@@ -1,7 +1,7 @@
 //! What the program says of itself.
 
 /// How the program is called, with an example.
-pub const USAGE: &str = "capnp_relay_cli SCHEMA CALLS ROOT FORM
+pub const USAGE: &str = "capnp_relay_cli SCHEMA CALLS ROOT FORM [NEWER]
 
 Reads Cap'n Proto messages from standard input, makes the calls on the root of each, writes each edited message in canonical
 form to standard output, and a line for each on standard error. A fault is told in the last line there, and the status is 1.
@@ -10,6 +10,7 @@ SCHEMA  a JSON file of the nodes
 CALLS   a JSON file of the calls
 ROOT    the id of the root's node, in decimal digits
 FORM    framed, packed, framed-packed or packed-framed: the form of the input, then that of the output
+NEWER   a JSON file of the nodes of a newer schema: nothing is relayed unless it is compatible with SCHEMA and takes all calls
 
 Example, where out/capnp_relay_cli is the program: a message whose root is null gets a = 7.
 

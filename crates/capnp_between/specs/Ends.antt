@@ -1,0 +1,66 @@
+-- How a relay between two versions ends.
+use Rattle.std.specs.Prelude.{⊤, Some, List, map, Result, Ok, Err}
+use Rattle.capnp_model.specs.Segments.{Segments}
+use Rattle.capnp_model.specs.Answers.{Answer}
+use Rattle.capnp_queries.specs.declared.structs.StructSchema.{StructSchema}
+use Rattle.capnp_calls.specs.declared.call.Call.{Call}
+use Rattle.capnp_calls.specs.CallViews.{call_view}
+use Rattle.capnp_value.specs.declared.value.read.Bounds.{Bounds}
+use Rattle.capnp_compatible.specs.Ways.{IsFirstRefused}
+use Rattle.capnp_relay.specs.declared.ends.Counts.{Counts}
+use Rattle.capnp_relay.specs.declared.ends.RelayFault.{RelayFault}
+use Rattle.capnp_relay.specs.declared.options.RelayOptions.{RelayOptions}
+use Rattle.capnp_relay.specs.Messages.{IsAnswerBy, IsTooLargeBy}
+use Rattle.capnp_relay.specs.Options.{reader_of, writer_of}
+use Rattle.capnp_relay.specs.Work.{Work, work}
+use Rattle.capnp_relay.specs.Run.{Relays}
+use Rattle.capnp_relay.specs.Streams.{Streams}
+use Rattle.capnp_between.specs.declared.between.BetweenFault.{BetweenFault}
+use Rattle.capnp_between.specs.declared.between.BetweenFault.TheVariants as fault
+use Rattle.capnp_between.specs.Newer.{AreCompatible, is_admitted_between, MayRun, ReadsAsNewer}
+
+-- The answer of the relay to a message, which also reads under the newer schema.
+pub record IsAnswerBetween (root newer : StructSchema) (calls : List Call) (bounds : Bounds) (s : Segments) (a : Answer) : Type 0 where
+  pub same : IsAnswerBy root calls bounds s a
+  pub reads_newer : ReadsAsNewer root newer calls bounds s a
+
+-- The work of the relay, with such answers.
+abbrev pub between_work : StructSchema → StructSchema → List Call → RelayOptions → Type 0 → Type 0 → Work
+between_work root newer calls options out_grows log_grows =
+    work (reader_of options.input) (writer_of options.output) (Some options.bounds.words) (IsAnswerBetween root newer calls options.bounds) (IsTooLargeBy root calls options.bounds) out_grows log_grows
+
+-- Why nothing is relayed: the schemas are not compatible, or they are and this call is the first that is not admitted.
+abbrev pub IsHeld : StructSchema → StructSchema → List Call → BetweenFault → Type 0
+IsHeld root newer calls fault.NotCompatible = AreCompatible root newer → ⊥
+IsHeld root newer calls (fault.NotAdmitted n) = AreCompatible root newer × IsFirstRefused (is_admitted_between root newer) (map call_view calls) n
+IsHeld root newer calls fault.Memory = ⊤
+IsHeld root newer calls (fault.Relay e) = ⊥
+
+-- A relay between two versions that ran, as it could.
+pub record RunsBetween (root newer : StructSchema) (calls : List Call) (options : RelayOptions) (out_grows log_grows : Type 0) (old new : Streams) (result : Result Counts RelayFault) : Type 0 where
+  pub may : MayRun root newer calls
+  pub relays : Relays (between_work root newer calls options out_grows log_grows) old new result
+
+-- A relay between two versions: it ran, or was held.
+abbrev pub RelaysBetween : StructSchema → StructSchema → List Call → RelayOptions → Type 0 → Type 0 → Streams → Streams → Result Counts BetweenFault → Type 0
+RelaysBetween root newer calls options out_grows log_grows old new (Ok counts) = RunsBetween root newer calls options out_grows log_grows old new (Ok counts)
+RelaysBetween root newer calls options out_grows log_grows old new (Err (fault.Relay e)) = RunsBetween root newer calls options out_grows log_grows old new (Err e)
+RelaysBetween root newer calls options out_grows log_grows old new (Err fault.NotCompatible) = IsHeld root newer calls fault.NotCompatible
+RelaysBetween root newer calls options out_grows log_grows old new (Err (fault.NotAdmitted n)) = IsHeld root newer calls (fault.NotAdmitted n)
+RelaysBetween root newer calls options out_grows log_grows old new (Err fault.Memory) = IsHeld root newer calls fault.Memory
+
+-- This holds where the relay ran.
+abbrev pub IfRun : Result Counts BetweenFault → Type 0 → Type 0
+IfRun (Ok counts) P = P
+IfRun (Err (fault.Relay e)) P = P
+IfRun (Err fault.NotCompatible) P = ⊤
+IfRun (Err (fault.NotAdmitted n)) P = ⊤
+IfRun (Err fault.Memory) P = ⊤
+
+-- This holds where the relay was held.
+abbrev pub IfHeld : Result Counts BetweenFault → Type 0 → Type 0
+IfHeld (Ok counts) P = ⊤
+IfHeld (Err (fault.Relay e)) P = ⊤
+IfHeld (Err fault.NotCompatible) P = P
+IfHeld (Err (fault.NotAdmitted n)) P = P
+IfHeld (Err fault.Memory) P = P

@@ -1,0 +1,105 @@
+//! The relay between two versions of a schema.
+ghost use Rattle.std.specs.Prelude.{◌≡◌, ◌+◌, ◌*◌, length, replicate, IfErr, OnOk};
+ghost use Rattle.capnp_calls.specs.Taken.{IsRoot};
+ghost use Rattle.capnp_relay.specs.Streams.{source_seen, sink_seen, streams};
+ghost use Rattle.capnp_between.specs.Newer.{MayRun};
+ghost use Rattle.capnp_between.specs.Ends.{IsHeld, RelaysBetween, IfRun, IfHeld};
+
+use capnp_calls::Call;
+use capnp_calls::laws::{calls_are_given, roots_are_no_groups};
+use capnp_compatible::admitted::{Admission, admitted};
+use capnp_compatible::compatible::compatible;
+use capnp_compatible::root::Root;
+use capnp_queries::structs::StructSchema;
+use capnp_relay::ends::{Counts, RelayFault};
+use capnp_relay::options::RelayOptions;
+use capnp_relay::relay::relay;
+use capnp_stream::traits::{BufRead, Read, Write};
+use capnp_versions::laws::calls_across_versions;
+use std::alloc::Global;
+
+/// Why a relay between two versions ends before the end of input.
+#[derive(Clone, Copy, Debug, PartialEq, Eq, thiserror::Error)]
+pub enum BetweenFault {
+    /// The newer schema isn't compatible with the older.
+    #[error("not compatible")]
+    NotCompatible,
+    /// The call of this number, counted from 1, is the first that isn't admitted.
+    #[error("call {0} not admitted")]
+    NotAdmitted(usize),
+    /// A growth was refused before a message was read.
+    #[error("memory")]
+    Memory,
+    /// The relay met a fault.
+    #[error("{0}")]
+    Relay(RelayFault),
+}
+
+/// Whether the calls may be relayed between the two versions.
+fn check(
+    alloc: Global,
+    root: StructSchema<'_>,
+    newer: StructSchema<'_>,
+    calls: &[Call],
+) -> Result<(), BetweenFault>
+    ensures ok { OnOk result (MayRun root.entry newer.entry calls.now) }
+    ensures held { IfErr result (IsHeld root.entry newer.entry calls.now) }
+{
+    let older = Root {
+        set: root.set(),
+        id: root.raw().id,
+    };
+    let newer = Root {
+        set: newer.set(),
+        id: newer.raw().id,
+    };
+    match compatible(alloc, older, newer) {
+        Ok(true) => {}
+        Ok(false) => return Err(BetweenFault::NotCompatible),
+        Err(_) => return Err(BetweenFault::Memory),
+    }
+    match admitted(alloc, calls, older, newer) {
+        Ok(Admission::Admitted) => Ok(()),
+        Ok(Admission::Refused(n)) => Err(BetweenFault::NotAdmitted(n)),
+        Err(_) => Err(BetweenFault::Memory),
+    }
+}
+
+/// Relays under the root's schema what is read under a newer one, as `relay` does, where the newer schema is compatible with the
+/// older and each call is admitted. Then the newer record of each message that is written is what the newer schema's record machine
+/// makes of the newer record of the message that was read, where lists are in kind: what only the newer schema knows stays.
+///
+/// The region has 8 bytes for each word of the word limit and 8 more. `NotCompatible`, `NotAdmitted` and `Memory` come, in this
+/// order, before a byte is read: source, sinks and region are as they were. `Relay` tells how `relay` ended; at that exit, and where
+/// all was answered, the region is all zeros.
+pub fn relay_between<R: BufRead, W: Write, L: Write>(
+    alloc: Global,
+    source: &mut R,
+    out: &mut W,
+    log: &mut L,
+    root: StructSchema<'_>,
+    newer: StructSchema<'_>,
+    calls: &[Call],
+    options: RelayOptions,
+    region: &mut [u8],
+) -> Result<Counts, BetweenFault>
+    requires region { length region.old ≡ 8 * (options.bounds.words + 1) }
+    requires root { IsRoot root }
+    ensures run { RelaysBetween root.entry newer.entry calls.now options W.may_grow L.may_grow
+        (streams (source_seen R.remaining R.failures source.old)
+        (sink_seen W.contents W.failures W.room out.old) (sink_seen L.contents L.failures L.room log.old))
+        (streams (source_seen R.remaining R.failures source.new)
+        (sink_seen W.contents W.failures W.room out.new) (sink_seen L.contents L.failures L.room log.new)) result }
+    ensures zeros { IfRun result (region.new ≡ replicate (length region.old) 0) }
+    ensures untouched { IfHeld result ((source.new ≡ source.old) × (out.new ≡ out.old)
+        × (log.new ≡ log.old) × (region.new ≡ region.old)) }
+{
+    calls_across_versions();
+    calls_are_given();
+    roots_are_no_groups();
+    check(alloc, root, newer, calls)?;
+    match relay(alloc, source, out, log, root, calls, options, region) {
+        Ok(counts) => Ok(counts),
+        Err(e) => Err(BetweenFault::Relay(e)),
+    }
+}

@@ -1,0 +1,6 @@
+//! A relay under an older schema whose messages are read under a newer one.
+#![tactic(auto)]
+
+pub mod between;
+#[cfg(test)]
+mod tests;
