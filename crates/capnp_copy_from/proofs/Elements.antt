@@ -3,7 +3,7 @@ use Rattle.std.proofs.Common.{◌≡◌, ℕ, zero, suc, ◌+◌, ◌-◌, ◌*�
 use Rattle.std.specs.Option.{is_some}
 use Rattle.std.specs.Result.{result_ok}
 use Rattle.std.proofs.Math.Nat.{mul-le-mul_right}
-use Rattle.std.proofs.lemmas.List.{append_assoc, append-nil, take-take, drop-take}
+use Rattle.std.proofs.lemmas.List.{append_assoc, append-nil, take-take, drop-take, length-take, take_all}
 use Rattle.capnp_model.specs.Chains.{◌>>=◌}
 use Rattle.capnp_model.specs.Sections.{section_of}
 use Rattle.capnp_model.specs.Segments.{Segments, Place, after, words_at}
@@ -34,7 +34,7 @@ use Rattle.capnp_footprints.proofs.Splices.{Rewrites, splice_rewrites, splice_wo
 use Rattle.capnp_footprints.proofs.Turns.{structs_here, structs_next, elements_done}
 use Rattle.capnp_footprints.proofs.Writing.{wider, changes_inside}
 use Rattle.capnp_copy_from.specs.Copies.{TakesFew, Copied, Refused, FillsStruct, LeavesStruct, FillsElements, LeavesElements}
-use Rattle.capnp_copy_from.proofs.Parts.{there_length, front_there, part_is}
+use Rattle.capnp_copy_from.proofs.Parts.{there_length, part_is}
 use Rattle.capnp_copy_from.proofs.Refusals.{why_later}
 use Rattle.capnp_copy.specs.Allocations.{total_words}
 use Rattle.capnp_copy_from.proofs.Taking.{takes_none, takes_both, written_total}
@@ -268,27 +268,44 @@ plain_replaced n s u r m d fs es vs long number now read o =
           changes = changes_inside s (with_words s (after r 1) vs) r (1 + m) (object_footprint n s (a_list r 7 m)) (object_footprint n (with_words s (after r 1) vs) (a_list r 7 m)) y (λ q. after_it q ∙ sym (before q)) (λ q. omega (arith, before q));
         })
 
-plain_at_once : (levels : ℕ) (from : Segments) (p : Place) (words d count : ℕ) (s u : Segments) (r : Place) (l : ReadLimiter) → is_some (words_at from p words) ≡ true → count * d ≤ words → u ≡ with_words s (after r 1) (words_there from p (count * d))
-    → Copied (each_element (tree_at levels from) p (words_there from p words) d 0 count) (from_elements (visits levels from) p d 0 count) (FillsElements levels s u r d 0 count) s u l l
-plain_at_once levels from p words d count s u r l there fit now =
-    let ws = words_there from p words in
-    let read = plain_elements_read (tree_at levels from) p (words_there from p words) d count in
-    let es = read.0 in
-    let number : element_count read.0 ≡ count = counted (tree_at levels from) p (words_there from p words) d 0 count read.0 read.1 in
-    let front : words_there from p (count * d) ≡ take (count * d) (words_there from p words) = ap (λ (q : Place). words_there from q (count * d)) (sym (after_none p)) ∙ part_is from p words there 0 (count * d) (omega (arith, fit)) in
-    let long : length (words_there from p (count * d)) ≡ count * (d + 0) = there_length from p (count * d) (front_there from p words there (count * d) fit) ∙ ap (λ (w : ℕ). count * w) (no_more d) in
-    let reads : (f : Place → Option Tree) (q : Place) → each_element f q (words_there from p (count * d)) d 0 (element_count read.0) ≡ Some read.0 = λ f q. ap (λ (xs : List ℕ). each_element f q xs d 0 (element_count read.0)) front ∙ ap (λ (c : ℕ). each_element f q (take (count * d) (words_there from p words)) d 0 c) number ∙ front_elements (tree_at levels from) f p q (words_there from p words) d count ∙ read.1 in
+words_at_once : (levels : ℕ) (from : Segments) (p : Place) (ws : List ℕ) (d count : ℕ) (s u : Segments) (r : Place) (l : ReadLimiter) → count * d ≤ length ws → u ≡ with_words s (after r 1) (take (count * d) ws)
+    → Copied (each_element (tree_at levels from) p ws d 0 count) (from_elements (visits levels from) p d 0 count) (FillsElements levels s u r d 0 count) s u l l
+words_at_once levels from p ws d count s u r l fit now =
+    let read = plain_elements_read (tree_at levels from) p ws d count in
+    let number : element_count read.0 ≡ count = counted (tree_at levels from) p ws d 0 count read.0 read.1 in
+    let long : length (take (count * d) ws) ≡ count * (d + 0) = length-take (count * d) ws ∙ omega (arith, fit) ∙ ap (λ (w : ℕ). count * w) (no_more d) in
+    let reads : (f : Place → Option Tree) (q : Place) → each_element f q (take (count * d) ws) d 0 (element_count read.0) ≡ Some read.0 = λ f q. ap (λ (c : ℕ). each_element f q (take (count * d) ws) d 0 c) number ∙ front_elements (tree_at levels from) f p q ws d count ∙ read.1 in
     record {
       value = read.0;
       there_is = read.1;
       walked = subst (λ (vs : List Visit). Walked vs l l) (sym (nothing_met (visits levels from) p d count)) (walked_none l);
-      grows = subst (λ (v : Segments). Grows s v) (sym now) (splice_grows s (after r 1) (words_there from p (count * d)));
-      takes = takes_none s u l (ap total_words now ∙ written_total s (after r 1) (words_there from p (count * d)));
-      made = λ n fs h c o. plain_replaced n s u r (count * (d + 0)) d fs read.0 (words_there from p (count * d)) long (c ∙ sym number) now reads o;
+      grows = subst (λ (v : Segments). Grows s v) (sym now) (splice_grows s (after r 1) (take (count * d) ws));
+      takes = takes_none s u l (ap total_words now ∙ written_total s (after r 1) (take (count * d) ws));
+      made = λ n fs h c o. plain_replaced n s u r (count * (d + 0)) d fs read.0 (take (count * d) ws) long (c ∙ sym number) now reads o;
     }
   where
     no_more : (d : ℕ) → d ≡ d + 0
     no_more d = omega arith
+
+-- the same, of a list of structs that are told to have no pointers
+pub all_at_once : (levels : ℕ) (from : Segments) (p : Place) (ws : List ℕ) (d k count : ℕ) (s u : Segments) (r : Place) (l : ReadLimiter) → k ≡ 0 → length ws ≡ count * (d + k) → u ≡ with_words s (after r 1) ws
+    → Copied (each_element (tree_at levels from) p ws d k count) (from_elements (visits levels from) p d k count) (FillsElements levels s u r d k count) s u l l
+all_at_once levels from p ws d k count s u r l nil long now =
+    let same : count * (d + k) ≡ count * d = ap (λ (j : ℕ). count * (d + j)) nil ∙ ap (λ (w : ℕ). count * w) (no_more d) in
+    let few : length ws ≤ count * d = omega (arith, long, same) in
+    let whole : u ≡ with_words s (after r 1) (take (count * d) ws) = now ∙ ap (with_words s (after r 1)) (sym (take_all (count * d) ws few)) in
+    subst (λ (j : ℕ). Copied (each_element (tree_at levels from) p ws d j count) (from_elements (visits levels from) p d j count) (FillsElements levels s u r d j count) s u l l) (sym nil)
+    (words_at_once levels from p ws d count s u r l (omega (arith, long, same)) whole)
+  where
+    no_more : (d : ℕ) → d + 0 ≡ d
+    no_more d = omega arith
+
+plain_at_once : (levels : ℕ) (from : Segments) (p : Place) (words d count : ℕ) (s u : Segments) (r : Place) (l : ReadLimiter) → is_some (words_at from p words) ≡ true → count * d ≤ words → u ≡ with_words s (after r 1) (words_there from p (count * d))
+    → Copied (each_element (tree_at levels from) p (words_there from p words) d 0 count) (from_elements (visits levels from) p d 0 count) (FillsElements levels s u r d 0 count) s u l l
+plain_at_once levels from p words d count s u r l there fit now =
+    let front : words_there from p (count * d) ≡ take (count * d) (words_there from p words) = ap (λ (q : Place). words_there from q (count * d)) (sym (after_none p)) ∙ part_is from p words there 0 (count * d) (omega (arith, fit)) in
+    let long = there_length from p words there in
+    words_at_once levels from p (words_there from p words) d count s u r l (omega (arith, long, fit)) (now ∙ ap (with_words s (after r 1)) front)
 
 pub elements_at_once : (levels : ℕ) (from : Segments) (p : Place) (words d k count : ℕ) (s u : Segments) (r : Place) (l : ReadLimiter) → k ≡ 0 → is_some (words_at from p words) ≡ true → count * (d + k) ≤ words → u ≡ with_words s (after r 1) (words_there from p (count * d))
     → Copied (each_element (tree_at levels from) p (words_there from p words) d k count) (from_elements (visits levels from) p d k count) (FillsElements levels s u r d k count) s u l l

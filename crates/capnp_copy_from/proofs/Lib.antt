@@ -10,6 +10,7 @@ pub mod Rows
 pub mod Made
 pub mod Elements
 pub mod Placed
+pub mod Listed
 pub mod TakenContent
 pub mod Counting
 pub mod Taking

@@ -130,24 +130,30 @@ pointers_fill levels b p from there path s u r k old new (Err e) z g =
 data_bits_plain : (n : ℕ) → n < 6 → size_bits n ≡ data_bits n
 data_bits_plain n h = let t : nat_lt n 6 ≡ true = grind (arith, nat_tests) in rw t refl
 
-pub list_fills : (n : ℕ) (from : Segments) (p : Place) (s u : Segments) (r : Place) (size count k : ℕ) → size < 6 → k ≡ words_for (data_bits size * count) → is_some (words_at from p k) ≡ true → words_at s r k ≡ Some (replicate k 0) → u ≡ with_words s r (words_there from p k)
-    → Fills n s u r k (a_list r size count) (plain_list size count (section_at from p k % 2 ^ (data_bits size * count)))
-list_fills n from p s u r size count k plain is there z now =
-    let long : length (words_there from p k) ≡ k = there_length from p k there in
+-- any words that are written
+pub words_fill : (n : ℕ) (s u : Segments) (r : Place) (size count k : ℕ) (vs : List ℕ) → size < 6 → k ≡ words_for (data_bits size * count) → length vs ≡ k → words_at s r k ≡ Some (replicate k 0) → u ≡ with_words s r vs
+    → Fills n s u r k (a_list r size count) (plain_list size count (section_of vs % 2 ^ (data_bits size * count)))
+words_fill n s u r size count k vs plain is long z now =
     let bits : size_bits size * count ≡ data_bits size * count = ap (λ (b : ℕ). b * count) (data_bits_plain size plain) in
     let kind = list_kind_small size plain in
     let all : words_for (size_bits size * count) ≡ k = ap words_for bits ∙ sym is in
-    let written : words_at (with_words s r (words_there from p k)) r k ≡ Some (words_there from p k) = written_all s r k (replicate k 0) (words_there from p k) z long (length-replicate {A = ℕ} k 0) in
-    let written' : words_at (with_words s r (words_there from p k)) r (words_for (size_bits size * count)) ≡ Some (words_there from p k) = ap (words_at (with_words s r (words_there from p k)) r) all ∙ written in
-    let y : Rewrites s (with_words s r (words_there from p k)) r k = subst (λ (m : ℕ). Rewrites s (with_words s r (words_there from p k)) r m) long (splice_rewrites s r (words_there from p k)) in
-    let c : Changes s (with_words s r (words_there from p k)) (held r k) (held r k) = changes_inside s (with_words s r (words_there from p k)) r k (held r k) (held r k) y (λ q. refl) (λ q. omega arith) in
-    let takes : (q : Place) → object_footprint n (with_words s r (words_there from p k)) (a_list r size count) q ≡ held r k q = λ q. plain_is n (with_words s r (words_there from p k)) r size count q kind ∙ ap (λ (m : ℕ). held r m q) all in
-    let tree = plain_tree n (with_words s r (words_there from p k)) r size count (words_there from p k) kind written' in
-    let section : section_of (words_there from p k) % 2 ^ (size_bits size * count) ≡ section_at from p k % 2 ^ (data_bits size * count) = ap (λ (b : ℕ). section_of (words_there from p k) % 2 ^ b) bits ∙ ap (λ (x : ℕ). x % 2 ^ (data_bits size * count)) (sym (section_is from p k there)) in
-    subst (λ (v : Segments). Fills n s v r k (a_list r size count) (plain_list size count (section_at from p k % 2 ^ (data_bits size * count)))) (sym now)
-    (fills_of n s (with_words s r (words_there from p k)) r k (a_list r size count) (plain_list size count (section_at from p k % 2 ^ (data_bits size * count)))
+    let written : words_at (with_words s r vs) r k ≡ Some vs = written_all s r k (replicate k 0) vs z long (length-replicate {A = ℕ} k 0) in
+    let written' : words_at (with_words s r vs) r (words_for (size_bits size * count)) ≡ Some vs = ap (words_at (with_words s r vs) r) all ∙ written in
+    let y : Rewrites s (with_words s r vs) r k = subst (λ (m : ℕ). Rewrites s (with_words s r vs) r m) long (splice_rewrites s r vs) in
+    let c : Changes s (with_words s r vs) (held r k) (held r k) = changes_inside s (with_words s r vs) r k (held r k) (held r k) y (λ q. refl) (λ q. omega arith) in
+    let takes : (q : Place) → object_footprint n (with_words s r vs) (a_list r size count) q ≡ held r k q = λ q. plain_is n (with_words s r vs) r size count q kind ∙ ap (λ (m : ℕ). held r m q) all in
+    let tree = plain_tree n (with_words s r vs) r size count vs kind written' in
+    let section : section_of vs % 2 ^ (size_bits size * count) ≡ section_of vs % 2 ^ (data_bits size * count) = ap (λ (b : ℕ). section_of vs % 2 ^ b) bits in
+    subst (λ (v : Segments). Fills n s v r k (a_list r size count) (plain_list size count (section_of vs % 2 ^ (data_bits size * count)))) (sym now)
+    (fills_of n s (with_words s r vs) r k (a_list r size count) (plain_list size count (section_of vs % 2 ^ (data_bits size * count)))
     (tree ∙ ap (λ (x : ℕ). Some (plain_list size count x)) section)
-    (changes_alike s (with_words s r (words_there from p k)) (held r k) (held r k) (held r k) (object_footprint n (with_words s r (words_there from p k)) (a_list r size count)) c (λ q. refl) takes))
+    (changes_alike s (with_words s r vs) (held r k) (held r k) (held r k) (object_footprint n (with_words s r vs) (a_list r size count)) c (λ q. refl) takes))
+
+pub list_fills : (n : ℕ) (from : Segments) (p : Place) (s u : Segments) (r : Place) (size count k : ℕ) → size < 6 → k ≡ words_for (data_bits size * count) → is_some (words_at from p k) ≡ true → words_at s r k ≡ Some (replicate k 0) → u ≡ with_words s r (words_there from p k)
+    → Fills n s u r k (a_list r size count) (plain_list size count (section_at from p k % 2 ^ (data_bits size * count)))
+list_fills n from p s u r size count k plain is there z now =
+    subst (λ (x : ℕ). Fills n s u r k (a_list r size count) (plain_list size count (x % 2 ^ (data_bits size * count)))) (sym (section_is from p k there))
+    (words_fill n s u r size count k (words_there from p k) plain is (there_length from p k there) z now)
 
 -- ---- lists of structs
 
@@ -207,16 +213,17 @@ structs_fill levels from there path s m u r d k count old new (Err e) fits z now
 
 -- ---- a struct's words and children
 
-data_copied : (n : ℕ) (from : Segments) (p : Place) (s m : Segments) (r : Place) (d k own : ℕ) (kids : Trees) → is_some (words_at from p d) ≡ true → is_some (words_at s r (d + k)) ≡ true → m ≡ with_words s r (words_there from p d) → OwnsObject n s (a_struct r d k) (structure d own kids) → ReplacesObject n s m (a_struct r d k) (structure d (section_at from p d) kids)
-data_copied n from p s m r d k own kids there here now o =
-    let long : length (words_there from p d) ≡ d = there_length from p d there in
+pub words_copied : (n : ℕ) (s m : Segments) (r : Place) (d k own : ℕ) (kids : Trees) (vs : List ℕ) → length vs ≡ d → is_some (words_at s r (d + k)) ≡ true → m ≡ with_words s r vs → OwnsObject n s (a_struct r d k) (structure d own kids) → ReplacesObject n s m (a_struct r d k) (structure d (section_of vs) kids)
+words_copied n s m r d k own kids vs long here now o =
     let x = there_is s r d (front_there s r (d + k) here d (omega arith)) in
     let before : length (words_there s r d) ≡ d = there_length s r d (front_there s r (d + k) here d (omega arith)) in
-    let y : Rewrites s (with_words s r (words_there from p d)) r d = subst (λ (j : ℕ). Rewrites s (with_words s r (words_there from p d)) r j) long (splice_rewrites s r (words_there from p d)) in
-    let written : words_at (with_words s r (words_there from p d)) r d ≡ Some (words_there from p d) = written_all s r d (words_there s r d) (words_there from p d) x long before in
-    let z = struct_data n s (with_words s r (words_there from p d)) r d k d own kids (words_there from p d) o y written in
-    let z' : ReplacesObject n s (with_words s r (words_there from p d)) (a_struct r d k) (structure d (section_at from p d) kids) = subst (λ (a : ℕ). ReplacesObject n s (with_words s r (words_there from p d)) (a_struct r d k) (structure d a kids)) (sym (section_is from p d there)) z in
-    subst (λ (v : Segments). ReplacesObject n s v (a_struct r d k) (structure d (section_at from p d) kids)) (sym now) z'
+    let y : Rewrites s (with_words s r vs) r d = subst (λ (j : ℕ). Rewrites s (with_words s r vs) r j) long (splice_rewrites s r vs) in
+    let written : words_at (with_words s r vs) r d ≡ Some vs = written_all s r d (words_there s r d) vs x long before in
+    subst (λ (v : Segments). ReplacesObject n s v (a_struct r d k) (structure d (section_of vs) kids)) (sym now) (struct_data n s (with_words s r vs) r d k d own kids vs o y written)
+
+data_copied : (n : ℕ) (from : Segments) (p : Place) (s m : Segments) (r : Place) (d k own : ℕ) (kids : Trees) → is_some (words_at from p d) ≡ true → is_some (words_at s r (d + k)) ≡ true → m ≡ with_words s r (words_there from p d) → OwnsObject n s (a_struct r d k) (structure d own kids) → ReplacesObject n s m (a_struct r d k) (structure d (section_at from p d) kids)
+data_copied n from p s m r d k own kids there here now o =
+    subst (λ (a : ℕ). ReplacesObject n s m (a_struct r d k) (structure d a kids)) (sym (section_is from p d there)) (words_copied n s m r d k own kids (words_there from p d) (there_length from p d there) here now o)
 
 -- whatever was written of the data: the row is filled then
 pub section_copied : (levels : ℕ) (b : Segments) (q : Place) (from : Segments) (there : Option Trees) (path : List Visit) (section : ℕ) (s m u : Segments) (r : Place) (d k : ℕ) (old new : ReadLimiter) (x : Result ⊤ Error) → Grows s m → total_words m ≡ total_words s

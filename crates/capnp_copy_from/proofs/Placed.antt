@@ -39,6 +39,10 @@ use Rattle.capnp_copy.specs.Rooms.{RoomFor, begin_of, slot_word, with_pad, linke
 use Rattle.capnp_copy.proofs.RoomLaws.{sizes_grow, room_grows}
 use Rattle.capnp_copy_from.specs.Objects.{copied_words, copied_at, copied_pointer, IsTooLarge, IsSpelled, is_leaf}
 use Rattle.capnp_copy_from.specs.Copies.{BecomesCopy, GrowsByZeros, Copied, Refused, Unplaced, CopyGives, Fills, ObjectCopied, HasNoPlace, ObjectRefused, ObjectGives}
+use Rattle.capnp_units.specs.declared.sizes.ElementSize.{ElementSize}
+use Rattle.capnp_units.specs.declared.sizes.ElementSize.TheVariants.{Void, Bit, Byte, TwoBytes, FourBytes, EightBytes, Pointer, InlineComposite}
+use Rattle.capnp_copy_from.specs.declared.lists.ListSource.{ListSource}
+use Rattle.capnp_copy_from.specs.Lists.{object_of_size}
 use Rattle.capnp_copy_from.proofs.Allocated.{pads_in, allocated, room_new}
 use Rattle.capnp_copy_from.proofs.Filling.{filled_detached, given_up}
 use Rattle.capnp_copy_from.proofs.Following.{paid_walk}
@@ -86,6 +90,27 @@ new_fits s (object.StructList p words n d k) l i f = f
 pub struct_fits : (q : wire.Place) (d k : ℕ) → IsSpelled (object.Struct q d k) → Fits (new_of (object.Struct q d k))
 unfolding new_of
 struct_fits q d k f = f
+
+pub listed_fits : (z : ElementSize) (x : ListSource) → IsSpelled (object_of_size z x) → Fits (new_of (object_of_size z x))
+unfolding new_of
+listed_fits Void x f = (omega arith, f)
+listed_fits Bit x f = (omega arith, f)
+listed_fits Byte x f = (omega arith, f)
+listed_fits TwoBytes x f = (omega arith, f)
+listed_fits FourBytes x f = (omega arith, f)
+listed_fits EightBytes x f = (omega arith, f)
+listed_fits Pointer x f = f
+listed_fits InlineComposite x f = f
+
+pub listed_no_leaf : (z : ElementSize) (x : ListSource) → is_leaf (object_of_size z x) ≡ false
+listed_no_leaf Void x = refl
+listed_no_leaf Bit x = refl
+listed_no_leaf Byte x = refl
+listed_no_leaf TwoBytes x = refl
+listed_no_leaf FourBytes x = refl
+listed_no_leaf EightBytes x = refl
+listed_no_leaf Pointer x = refl
+listed_no_leaf InlineComposite x = refl
 
 new_some : (o : Object) → is_leaf o ≡ false → (offset : ℕ) → 0 < copied_words o → 0 < new_pointer offset (new_of o)
 unfolding new_of

@@ -2,3 +2,4 @@ pub mod Copies
 pub mod Objects
 pub mod Defaults
 pub mod Contents
+pub mod Lists

@@ -10,6 +10,9 @@ mod default_tests;
 pub mod defaults;
 pub mod laws;
 #[cfg(test)]
+mod list_tests;
+pub mod lists;
+#[cfg(test)]
 mod object_tests;
 mod objects;
 #[cfg(test)]

@@ -2,6 +2,8 @@
 ghost use Rattle.std.specs.Prelude.{◌≡◌, ◌≤◌, [], length};
 
 use crate::copy::{copy_from, copy_object};
+use crate::list_tests::set_part;
+use crate::lists::ListSource;
 use crate::structs::set_struct;
 use capnp_copy::allocator::Allocator;
 use capnp_copy::arena::BuilderArena;
@@ -62,7 +64,7 @@ pub(crate) struct Setting {
     pub(crate) what: What,
 }
 
-/// What is copied of a message: the root's value; the object that it names, which is paid for already; or a struct, of so many bytes from the second word of the first segment on, and of so many pointers from a word of it on.
+/// What is copied of a message: the root's value; the object that it names, which is paid for already; a struct, of so many bytes from the second word of the first segment on, and of so many pointers from a word of it on; or a list, of so many bytes from its start on.
 #[derive(Clone, Copy)]
 pub(crate) enum What {
     Value,
@@ -71,6 +73,10 @@ pub(crate) enum What {
         bytes: usize,
         first: u32,
         pointers: u16,
+    },
+    List {
+        bytes: usize,
+        list: ListSource,
     },
 }
 
@@ -185,6 +191,7 @@ fn copied_over<A: BuilderArena, B: ReaderArena>(
                 arena, ROOT, limiter, source, section, first, pointers, levels,
             )
         }
+        What::List { bytes, list } => set_part(arena, limiter, source, bytes, list, levels),
     }
 }
 

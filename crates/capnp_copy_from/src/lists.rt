@@ -1,0 +1,231 @@
+//! Lists that are copied by their parts.
+ghost use Rattle.std.specs.Prelude.{◌≡◌, ◌≢◌, ℕ, ◌+◌, ◌*◌, ◌%◌, ◌^◌, ◌<◌, ◌≤◌, true, Some, length, map, replicate};
+ghost use Rattle.std.specs.Option.{is_some};
+ghost use Rattle.capnp_model.specs.Sections.{number_of, words_for, words_of};
+ghost use Rattle.capnp_model.specs.Segments.{after, words_at};
+ghost use Rattle.capnp_model.specs.Pointers.{a_list};
+ghost use Rattle.capnp_model.specs.Trees.{Tree, plain_list};
+ghost use Rattle.capnp_model.specs.Traversal.{tree_at, each, each_element};
+ghost use Rattle.capnp_model.specs.Coverage.{from_each, from_elements};
+ghost use Rattle.capnp_model.specs.Visits.{visits};
+ghost use Rattle.capnp_units.specs.Segments.{words_in};
+ghost use Rattle.capnp_units.specs.Sizes.{size_number, data_bits};
+ghost use Rattle.capnp_object.specs.Places.{place_view};
+ghost use Rattle.capnp_object.specs.Inside.{met_in};
+ghost use Rattle.capnp_wire.specs.Elements.{step_bits, step_words};
+ghost use Rattle.capnp_copy_from.specs.Copies.{CopyGives, Fills, FillsStruct, LeavesStruct, FillsElements, LeavesElements};
+ghost use Rattle.capnp_copy_from.specs.Objects.{copied_words, most_counted, copied_at};
+ghost use Rattle.capnp_copy_from.specs.Lists.{CopiesList, listed_object, listed_tree};
+
+use crate::copy::fill_row;
+use crate::objects::{copy_at, pointer_word, room_for, tag_word};
+use capnp_copy::arena::BuilderArena;
+use capnp_copy::blobs::write_bytes;
+use capnp_copy::clear::{clear, clear_object};
+use capnp_copy::room::{begin_of, link};
+use capnp_units::errors::Result;
+use capnp_units::limiter::ReadLimiter;
+use capnp_units::sizes::{ElementSize, data_bits_per_element};
+use capnp_wire::arena::ReaderArena;
+use capnp_wire::object::{Object, words_of_elements};
+use capnp_wire::place::Place;
+
+/// Where the elements of a list lie that is read, and what they are: for structs, each has so many data words and pointers.
+#[derive(Clone, Copy, Debug, PartialEq, Eq)]
+pub struct ListSource {
+    pub start: Place,
+    pub size: ElementSize,
+    pub count: u32,
+    pub data_words: u16,
+    pub pointers: u16,
+}
+
+/// The object that such a list is.
+fn object_of(list: ListSource) -> Object
+    ensures { result ≡ listed_object list }
+{
+    let start = list.start;
+    let count = list.count;
+    match list.size {
+        ElementSize::Pointer => Object::PointerList { start, count },
+        ElementSize::InlineComposite => Object::StructList {
+            start,
+            words: 0,
+            count,
+            data_words: list.data_words,
+            pointers: list.pointers,
+        },
+        size => Object::List { start, size, count },
+    }
+}
+
+/// Writes plain elements over as many zeros.
+fn write_elements<A: BuilderArena>(
+    arena: &mut A,
+    start: Place,
+    bytes: &[u8],
+    size: ElementSize,
+    count: u32,
+)
+    requires plain { size_number size < 6 }
+    requires zeros { let k = words_for (data_bits (size_number size) * count) in words_at (words_in (A.segments arena.old)) (place_view start) k ≡ Some (replicate k 0) }
+    requires near { start.position + words_for (data_bits (size_number size) * count) < 2 ^ 61 }
+    requires all { (data_bits (size_number size) * count ≤ 8 * length bytes.now) × (8 * length bytes.now < data_bits (size_number size) * count + 8) }
+    ensures fills { (n : ℕ) → Fills n (words_in (A.segments arena.old)) (words_in (A.segments arena.new)) (place_view start) (words_for (data_bits (size_number size) * count)) (a_list (place_view start) (size_number size) count) (plain_list (size_number size) count (number_of 8 bytes.now % 2 ^ (data_bits (size_number size) * count))) }
+    ensures sizes { map length (words_in (A.segments arena.new)) ≡ map length (words_in (A.segments arena.old)) }
+    ensures books { A.books arena.new ≡ A.books arena.old }
+{
+    let words = words_of_elements(size, count) as usize;
+    write_bytes(arena, start, words, bytes);
+}
+
+/// Writes a struct over one of the same size: its data, and copies of the values of its pointers, which stand in a row of a source.
+fn fill_element<A: BuilderArena, B: ReaderArena>(
+    arena: &mut A,
+    start: Place,
+    limiter: &mut ReadLimiter,
+    source: &B,
+    section: &[u8],
+    first: Place,
+    data_words: u16,
+    pointers: u16,
+    levels: u32,
+) -> Result<()>
+    requires there { is_some (words_at (words_in (A.segments arena.old)) (place_view start) (data_words + pointers)) ≡ true }
+    requires near { (start.position + (data_words + pointers) < 2 ^ 61) × (first.position + pointers < 2 ^ 62) }
+    requires all { length section.now ≡ 8 * data_words }
+    ensures copy { let b = words_in (B.segments source.now) in let s = words_in (A.segments arena.old) in let u = words_in (A.segments arena.new) in let r = place_view start in let p = place_view first in CopyGives b (each (tree_at levels b) p pointers) (from_each (visits levels b) p pointers) (FillsStruct levels s u r data_words pointers (number_of 8 section.now)) (LeavesStruct levels s u r data_words pointers) s u limiter.old result limiter.new }
+    ensures books { A.books arena.new ≡ A.books arena.old }
+{
+    arena.write_words(start, section);
+    let count = pointers as u32;
+    fill_row(
+        arena, start, data_words, count, limiter, source, first, levels,
+    )
+}
+
+/// Writes the structs of a list over those of a list of as many of the same size, whose tag is at a place. Structs without pointers are written as one slice.
+fn fill_structs<A: BuilderArena, B: ReaderArena>(
+    arena: &mut A,
+    start: Place,
+    limiter: &mut ReadLimiter,
+    source: &B,
+    bytes: &[u8],
+    list: ListSource,
+    levels: u32,
+) -> Result<()>
+    requires there { is_some (words_at (words_in (A.segments arena.old)) (place_view start) (1 + list.count * (list.data_words + list.pointers))) ≡ true }
+    requires near { start.position + (1 + list.count * (list.data_words + list.pointers)) < 2 ^ 61 }
+    requires source_near { list.start.position + list.count * (list.data_words + list.pointers) < 2 ^ 61 }
+    requires all { length bytes.now ≡ 8 * (list.count * (list.data_words + list.pointers)) }
+    ensures copy { let b = words_in (B.segments source.now) in let s = words_in (A.segments arena.old) in let u = words_in (A.segments arena.new) in let r = place_view start in let p = place_view list.start in let d = list.data_words in let k = list.pointers in CopyGives b (each_element (tree_at levels b) p (words_of (list.count * (d + k)) (number_of 8 bytes.now)) d k list.count) (from_elements (visits levels b) p d k list.count) (FillsElements levels s u r d k list.count) (LeavesElements levels s u r d k list.count) s u limiter.old result limiter.new }
+    ensures books { A.books arena.new ≡ A.books arena.old }
+{
+    if list.pointers == 0 {
+        let first = Place {
+            segment: start.segment,
+            position: start.position + 1,
+        };
+        arena.write_words(first, bytes);
+        return Ok(());
+    }
+    let data = list.data_words as usize;
+    let width = data + list.pointers as usize;
+    for i in 0..list.count {
+        let at = i as usize * width;
+        let element = Place {
+            segment: start.segment,
+            position: start.position + 1 + at,
+        };
+        let first = Place {
+            segment: list.start.segment,
+            position: list.start.position + at + data,
+        };
+        fill_element(
+            arena,
+            element,
+            limiter,
+            source,
+            &bytes[8 * at..8 * at + 8 * data],
+            first,
+            list.data_words,
+            list.pointers,
+            levels,
+        )?;
+    }
+    Ok(())
+}
+
+/// Makes the list of zero words, from a place on.
+fn fill_list<A: BuilderArena, B: ReaderArena>(
+    arena: &mut A,
+    start: Place,
+    limiter: &mut ReadLimiter,
+    source: &B,
+    bytes: &[u8],
+    list: ListSource,
+    levels: u32,
+) -> Result<()>
+    requires zeros { words_at (words_in (A.segments arena.old)) (place_view start) (copied_words (listed_object list)) ≡ Some (replicate (copied_words (listed_object list)) 0) }
+    requires near { start.position + copied_words (listed_object list) < 2 ^ 61 }
+    requires few { most_counted (listed_object list) < 2 ^ 29 }
+    requires inside { step_bits (size_number list.size) list.data_words list.pointers * list.count ≤ 8 * length bytes.now }
+    requires source_near { list.start.position + step_words (size_number list.size) list.data_words list.pointers * list.count < 2 ^ 61 }
+    ensures copy { let from = words_in (B.segments source.now) in let s = words_in (A.segments arena.old) in let u = words_in (A.segments arena.new) in let r = place_view start in let o = listed_object list in CopyGives from (listed_tree (tree_at levels from) list bytes.now) (met_in (visits levels from) o) (λ v. (n : ℕ) → levels ≤ n → Fills n s u r (copied_words o) (copied_at r o) v) ((t : Tree) × Fills levels s u r (copied_words o) (copied_at r o) t) s u limiter.old result limiter.new }
+    ensures books { A.books arena.new ≡ A.books arena.old }
+{
+    match list.size {
+        ElementSize::Pointer => fill_row(
+            arena, start, 0, list.count, limiter, source, list.start, levels,
+        ),
+        ElementSize::InlineComposite => {
+            let width = list.data_words as usize + list.pointers as usize;
+            let all = 8 * (list.count as usize * width);
+            arena.write_word(start, tag_word(list.count, list.data_words, list.pointers));
+            fill_structs(arena, start, limiter, source, &bytes[..all], list, levels)
+        }
+        size => {
+            let all = (data_bits_per_element(size) as usize * list.count as usize + 7) / 8;
+            write_elements(arena, start, &bytes[..all], size, list.count);
+            Ok(())
+        }
+    }
+}
+
+/// Puts a copy of a list of a source in place of the value of the pointer at a place, which is cleared: of these bytes, which are its plain elements or the words of its structs, and of the values of its pointers, by where they stand. A list of structs is copied whole, however it was read. So many levels may be followed from each pointer.
+///
+/// The list's own words were paid for already: its pointers are followed, nulls too, and refused as by `copy_from`; it is refused with `SizeOverflow` just where the count, the words of structs, or the message's words with it and a pad would pass 2^29 - 1, else as the allocator refuses. After a refusal all words stand as they were, and those that were allocated are zero. Refused or not, it allocates no more words than twice the list's and those that it grants.
+///
+/// Lists of plain elements and of structs without pointers take one step, whatever they count.
+pub fn set_list<A: BuilderArena, B: ReaderArena>(
+    arena: &mut A,
+    slot: Place,
+    limiter: &mut ReadLimiter,
+    source: &B,
+    bytes: &[u8],
+    list: ListSource,
+    levels: u32,
+) -> Result<()>
+    requires there { is_some (words_at (words_in (A.segments arena.old)) (place_view slot) 1) ≡ true }
+    requires near { slot.position < 2 ^ 61 }
+    requires inside { step_bits (size_number list.size) list.data_words list.pointers * list.count ≤ 8 * length bytes.now }
+    requires source_near { list.start.position + step_words (size_number list.size) list.data_words list.pointers * list.count < 2 ^ 61 }
+    ensures copy { CopiesList levels (words_in (B.segments source.now)) list bytes.now (words_in (A.segments arena.old))
+        (words_in (A.segments arena.new)) (place_view slot) limiter.old result limiter.new }
+    ensures books { A.books arena.new ≡ A.books arena.old }
+{
+    let object = object_of(list);
+    let room = room_for(arena, slot, object)?;
+    let start = begin_of(slot, room);
+    match fill_list(arena, start, limiter, source, bytes, list, levels) {
+        Ok(()) => {
+            clear(arena, slot);
+            link(arena, slot, room, pointer_word(object));
+            Ok(())
+        }
+        Err(error) => {
+            clear_object(arena, copy_at(start, object));
+            Err(error)
+        }
+    }
+}
