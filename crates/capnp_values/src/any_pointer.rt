@@ -24,6 +24,13 @@ pub struct Reader<'a, A> {
 }
 
 impl<'a, A: ReaderArena> Reader<'a, A> {
+    /// What the pointer is read from, for copies.
+    pub fn source(&self) -> PointerSource<'a, A>
+        ensures { result ≡ self.now.source }
+    {
+        self.source
+    }
+
     /// A message's pointer.
     pub fn new(reader: PointerReader<'a, A>) -> Self
         ensures { pointer_seen A.segments result.source ≡ seen_pointer A.segments reader.entry }

@@ -63,6 +63,13 @@ impl<'a, A: ReaderArena> Reader<'a, A> {
         }
     }
 
+    /// What the list is read from, for copies.
+    pub fn source(&self) -> ListSource<'a, A>
+        ensures { result ≡ self.now.source }
+    {
+        self.source
+    }
+
     /// How many elements there are.
     pub fn len(&self) -> u32
         ensures { result ≡ (list_seen A.segments self.now.source).count }

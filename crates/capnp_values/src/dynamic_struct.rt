@@ -75,6 +75,13 @@ impl<'a, A: ReaderArena> Reader<'a, A> {
         }
     }
 
+    /// What the struct is read from, for copies.
+    pub fn source(&self) -> StructSource<'a, A>
+        ensures { result ≡ self.now.source }
+    {
+        self.source
+    }
+
     /// The struct's schema.
     pub fn get_schema(&self) -> StructSchema<'a>
         ensures { result ≡ self.now.schema }

@@ -10,6 +10,7 @@ pub mod element;
 pub mod laws;
 pub mod levels;
 pub mod list;
+pub mod parts;
 pub mod pointer;
 mod section;
 #[cfg(test)]
