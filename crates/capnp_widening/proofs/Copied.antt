@@ -1,19 +1,17 @@
 -- Words that are copied one after the other.
-use Rattle.std.proofs.Common.{◌≡◌, ℕ, zero, suc, ◌+◌, ◌-◌, ◌*◌, ◌<◌, ◌≤◌, true, List, [], ◌∷◌, ◌++◌, length, take, drop, Option, Some, None, unwrap_or, refl, ap, sym, ◌∙◌, subst, arith}
+use Rattle.std.proofs.Common.{◌≡◌, ℕ, zero, suc, ◌+◌, ◌-◌, ◌<◌, ◌≤◌, List, [], ◌∷◌, ◌++◌, length, take, drop, Option, Some, unwrap_or, refl, ap, sym, ◌∙◌, subst, arith}
 use Rattle.std.proofs.lemmas.List.{length-take}
 use Rattle.std.proofs.Math.Seq.{take-add}
 use Rattle.capnp_model.specs.Segments.{Segments, Place, after, word_at, words_at}
-use Rattle.capnp_model.specs.Coverage.{Span, span, times_held}
-use Rattle.capnp_model.proofs.Chaining.{some_is}
+use Rattle.capnp_model.specs.Coverage.{span, times_held}
 use Rattle.capnp_model.proofs.Locality.{word_was}
 use Rattle.capnp_footprints.specs.Writes.{with_words}
 use Rattle.capnp_footprints.proofs.Spans.{held, held_is, held_split, words_front, words_back}
 use Rattle.capnp_footprints.proofs.Kept.{words_length}
-use Rattle.capnp_footprints.proofs.Rows.{after_none}
 use Rattle.capnp_footprints.proofs.Splices.{Rewrites, splice_rewrites}
 use Rattle.capnp_footprints.proofs.Writing.{rewrites_keep, held_part}
 use Rattle.capnp_widening.specs.Moves.{CopiesWords}
-use Rattle.capnp_widening.proofs.Standing.{written_then, written_none, one_word}
+use Rattle.capnp_widening.proofs.Standing.{written_then, written_none}
 
 -- the first i are copied
 pub CopiedSoFar : Segments → Segments → Place → Place → ℕ → ℕ → Type 0

@@ -1,5 +1,5 @@
 -- A struct that is got: null, wide enough, or narrower.
-use Rattle.std.proofs.Common.{◌≡◌, ◌⊎◌, inl, inr, ℕ, zero, suc, max, ◌+◌, ◌*◌, ◌<◌, ◌≤◌, Some, Result, Ok, Err, IfOk, IfErr, refl, ap, sym, ◌∙◌, subst, arith}
+use Rattle.std.proofs.Common.{◌≡◌, ◌⊎◌, inl, inr, ℕ, zero, suc, max, ◌+◌, ◌*◌, ◌<◌, ◌≤◌, Result, Ok, Err, IfOk, IfErr, refl, ap, sym, ◌∙◌, subst, arith}
 use Rattle.std.proofs.lemmas.Bool.{cases_lt}
 use Rattle.capnp_model.specs.Kinds.{Kind}
 use Rattle.capnp_model.specs.Segments.{Segments, Place}
@@ -11,9 +11,9 @@ use Rattle.capnp_object.specs.declared.object.Object.{Object}
 use Rattle.capnp_object.specs.declared.object.Object.TheVariants as object
 use Rattle.capnp_object.specs.declared.object.Found.{Found}
 use Rattle.capnp_object.specs.declared.place.Place as code
-use Rattle.capnp_object.specs.Objects.{object_at, whole}
+use Rattle.capnp_object.specs.Objects.{object_at}
 use Rattle.capnp_wire.specs.Places.{place_view}
-use Rattle.capnp_footprints.specs.Footprints.{Owns, OwnsObject}
+use Rattle.capnp_footprints.specs.Footprints.{OwnsObject}
 use Rattle.capnp_footprints.specs.Changes.{Replaces}
 use Rattle.capnp_footprints.proofs.Levels.{owned_more, replaced_by_itself}
 use Rattle.capnp_footprints.proofs.Lift.{object_of_pointer}
@@ -39,7 +39,7 @@ null_there s p f e is =
     let o = null_named s x.object_named (x.is_whole ∙ ap (λ (y : Object). let r : Result Object Kind = Ok y in r) is) in
     (f.pads, x.leads ∙ ap (λ (y : model.Object). let r : Result model.Found Kind = Ok (record { pads = f.pads; object = y }) in r) o)
 
-same_object : (s : Segments) (p : Place) (o v : model.Object) → LeadsTo s p o → LeadsTo s p v → o ≡ v
+pub same_object : (s : Segments) (p : Place) (o v : model.Object) → LeadsTo s p o → LeadsTo s p v → o ≡ v
 same_object s p o v h k =
     let is : record { pads = h.0; object = o } ≡ record { pads = k.0; object = v } = ok_is _ _ (sym h.1 ∙ k.1) in
     ap (λ (f : model.Found). f.object) is
@@ -61,12 +61,12 @@ narrow_is_not_wide s p a d k w m h less wide =
 
 -- ---- trees
 
-padded_enough : (k : ℕ) (ts : Trees) → k ≤ tree_count ts → padded_to k ts ≡ ts
+pub padded_enough : (k : ℕ) (ts : Trees) → k ≤ tree_count ts → padded_to k ts ≡ ts
 padded_enough zero ts l = refl
 padded_enough (suc k) none l = absurd (omega (arith, l))
 padded_enough (suc k) (t ▸ ts) l = ap (λ (us : Trees). t ▸ us) (padded_enough k ts (omega (arith, l)))
 
-padded_most : (k m n : ℕ) (ts : Trees) → n ≡ max k m → tree_count ts ≡ m → padded_to n ts ≡ padded_to k ts
+pub padded_most : (k m n : ℕ) (ts : Trees) → n ≡ max k m → tree_count ts ≡ m → padded_to n ts ≡ padded_to k ts
 padded_most k m n ts e count =
     elim (cases_lt k m) [
       | inl l ↦ (let is : n ≡ m = omega (arith, e, l) in padded_enough n ts (omega (arith, is, count)) ∙ sym (padded_enough k ts (omega (arith, l, count))))

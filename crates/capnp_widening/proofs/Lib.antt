@@ -6,3 +6,10 @@ pub mod WiderRooms
 pub mod WidenedStructs
 pub mod ObjectsThere
 pub mod GotStructs
+pub mod MovedLists
+pub mod FilledLists
+pub mod SpreadPointers
+pub mod CopiedNumbers
+pub mod KnownLists
+pub mod WidenedLists
+pub mod WideLists

@@ -1,13 +1,12 @@
 -- A pointer that moves, by its word.
-use Rattle.std.proofs.Common.{◌≡◌, ◌≢◌, ◌⊎◌, inl, inr, ℕ, zero, suc, ◌+◌, ◌-◌, ◌*◌, ◌/◌, ◌%◌, ◌^◌, ◌<◌, ◌≤◌, Bool, true, false, List, [], ◌∷◌, ltb, leb, cond, Option, Some, None, unwrap_or, Result, Ok, Err, IfOk, refl, ap, sym, ◌∙◌, subst, arith}
+use Rattle.std.proofs.Common.{◌≡◌, ◌≢◌, inl, inr, ℕ, zero, suc, ◌+◌, ◌-◌, ◌*◌, ◌/◌, ◌%◌, ◌^◌, ◌<◌, ◌≤◌, Bool, true, false, List, [], ◌∷◌, ltb, leb, cond, Option, Some, None, unwrap_or, Result, Ok, Err, IfOk, refl, ap, sym, ◌∙◌, subst, arith}
 use Rattle.std.specs.Option.{is_some, option_map, ok_or}
-use Rattle.std.specs.Result.{result_ok}
 use Rattle.std.proofs.lemmas.Bool.{cases_lt}
 use Rattle.capnp_model.specs.Kinds.{Kind, OutOfBounds}
 use Rattle.capnp_model.specs.Chains.{◌provided◌}
 use Rattle.capnp_model.specs.Sections.{bits_at}
 use Rattle.capnp_model.specs.Segments.{Segments, Place, place, after, word_at, words_at}
-use Rattle.capnp_model.specs.Pointers.{Object, a_struct, a_list, Found, found_at, begins}
+use Rattle.capnp_model.specs.Pointers.{Object, a_struct, Found, found_at, begins}
 use Rattle.capnp_model.specs.Trees.{Tree, null}
 use Rattle.capnp_model.specs.Traversal.{tree_of, tree_at, leaf_of, list_kind, list_words}
 use Rattle.capnp_model.specs.Coverage.{Span, span}
@@ -21,8 +20,8 @@ use Rattle.capnp_object.specs.Named.{named_view, found_view}
 use Rattle.capnp_units.specs.declared.errors.Error.{Error}
 use Rattle.capnp_footprints.specs.Footprints.{Owns}
 use Rattle.capnp_footprints.specs.Detached.{Reaches, Moves, IsMovable, IsDirect}
-use Rattle.capnp_footprints.specs.NewObjects.{New, new_struct, new_list, filled_list, new_pointers, new_structs, new_pointer, new_object, Fits, pointed, pointed_double_far, IsNear, IsNamed}
-use Rattle.capnp_footprints.specs.Writes.{zeroed, with_words}
+use Rattle.capnp_footprints.specs.NewObjects.{New, new_struct, new_list, filled_list, new_pointers, new_structs, new_pointer, new_object, Fits, pointed, pointed_double_far, IsNamed}
+use Rattle.capnp_footprints.specs.Writes.{zeroed}
 use Rattle.capnp_footprints.proofs.Direct.{direct}
 use Rattle.capnp_footprints.proofs.FarPointing.{reaches_ahead, reaches_back}
 use Rattle.capnp_footprints.proofs.Moving.{null_moves, moved_verbatim, moved_near, moved_double_far}

@@ -1,10 +1,10 @@
 -- The pointers of a row that move one after the other.
-use Rattle.std.proofs.Common.{◌≡◌, ℕ, zero, suc, ◌+◌, ◌-◌, ◌*◌, ◌<◌, ◌≤◌, ◌^◌, true, List, [], ◌∷◌, ◌++◌, Option, Some, None, Result, Ok, refl, ap, sym, ◌∙◌, subst, arith}
-use Rattle.std.specs.Option.{is_some, ok_or}
+use Rattle.std.proofs.Common.{◌≡◌, ℕ, zero, suc, ◌+◌, ◌-◌, ◌*◌, ◌<◌, ◌≤◌, List, [], ◌∷◌, ◌++◌, Option, Some, None, Ok, refl, ap, ◌∙◌, subst, arith}
+use Rattle.std.specs.Option.{ok_or}
 use Rattle.capnp_model.specs.Kinds.{OutOfBounds}
-use Rattle.capnp_model.specs.Segments.{Segments, Place, place, after, word_at, words_at}
+use Rattle.capnp_model.specs.Segments.{Segments, Place, place, after, word_at}
 use Rattle.capnp_model.specs.Pointers.{Object, Found, found_at}
-use Rattle.capnp_model.specs.Trees.{Tree, null, Trees, none, ◌▸◌, child, with_child, tree_count, resized}
+use Rattle.capnp_model.specs.Trees.{Tree, null, Trees, none, child, with_child, tree_count, resized}
 use Rattle.capnp_model.specs.Traversal.{tree_at}
 use Rattle.capnp_model.specs.Coverage.{Span, span}
 use Rattle.capnp_model.proofs.Chaining.{bind_found, bind_ok, ok_or_some}
@@ -24,11 +24,11 @@ use Rattle.capnp_widening.proofs.Standing.{part_there}
 
 -- ---- the pads that are left
 
-pub pads_left : Option code.Place → ℕ → ℕ → List Span
+unfoldable pub pads_left : Option code.Place → ℕ → ℕ → List Span
 pads_left None k i = []
 pads_left (Some p) k i = span (after (place_view p) (2 * i)) (2 * (k - i)) ∷ []
 
-all_left_first : (pads : Option code.Place) (k : ℕ) → pads_of pads k ≡ pads_left pads k 0
+pub all_left_first : (pads : Option code.Place) (k : ℕ) → pads_of pads k ≡ pads_left pads k 0
 unfolding pads_left
 all_left_first None k = refl
 all_left_first (Some p) k =
@@ -47,26 +47,26 @@ one_taken n z u p t v (Some q) k i spare o l h =
     let at : after (after (place_view q) (2 * i)) 2 ≡ after (place_view q) (2 * suc i) = after_sum (place_view q) (2 * i) 2 (2 * suc i) (omega arith) in
     subst (λ (r : Place). Detached n z u p t (span (after (place_view q) (2 * i)) 2 ∷ (span r (2 * (k - suc i)) ∷ spare)) o v) at h3
 
-none_left : (n : ℕ) (z u : Segments) (p : Place) (t v : Tree) (pads : Option code.Place) (k : ℕ) (spare : List Span) (o : Object) → Detached n z u p t (pads_left pads k k ++ spare) o v → Detached n z u p t spare o v
+pub none_left : (n : ℕ) (z u : Segments) (p : Place) (t v : Tree) (pads : Option code.Place) (k : ℕ) (spare : List Span) (o : Object) → Detached n z u p t (pads_left pads k k ++ spare) o v → Detached n z u p t spare o v
 unfolding pads_left
 none_left n z u p t v None k spare o h = h
 none_left n z u p t v (Some q) k spare o h = detached_fewer n z u p t v spare (span (after (place_view q) (2 * k)) (2 * (k - k))) o h
 
 -- ---- the row
 
-child_nulls : (m i : ℕ) → child (resized m none) i ≡ null
+pub child_nulls : (m i : ℕ) → child (resized m none) i ≡ null
 child_nulls zero i = refl
 child_nulls (suc m) zero = refl
 child_nulls (suc m) (suc i) = child_nulls m i
 
 -- a value that is read has a word that leads somewhere
-record Led (s : Segments) (p : Place) : Type 0 where
+pub record Led (s : Segments) (p : Place) : Type 0 where
   pub word : ℕ
   pub found : Found
   pub there : word_at s p ≡ Some word
   pub leads : found_at s p ≡ Ok found
 
-led : (n : ℕ) (s : Segments) (p : Place) (t : Tree) → tree_at n s p ≡ Some t → Led s p
+pub led : (n : ℕ) (s : Segments) (p : Place) (t : Tree) → tree_at n s p ≡ Some t → Led s p
 unfolding tree_at
 led zero s p t e =
     let x = bind_found (found_at s p) _ t e in

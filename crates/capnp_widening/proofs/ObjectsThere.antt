@@ -1,13 +1,12 @@
 -- What is named where an object is.
-use Rattle.std.proofs.Common.{◌≡◌, ◌⊎◌, ℕ, zero, suc, ◌+◌, ◌-◌, ◌*◌, List, Bool, true, false, cond, eqb, Option, Some, Result, Ok, Err, refl, ap, sym, ◌∙◌, subst, arith}
+use Rattle.std.proofs.Common.{◌≡◌, ℕ, ◌+◌, ◌-◌, List, Result, Ok, refl, ap, sym, ◌∙◌, subst, arith}
 use Rattle.std.specs.Option.{ok_or}
 use Rattle.capnp_model.specs.Kinds.{Kind, OutOfBounds}
-use Rattle.capnp_model.specs.Chains.{◌and_then◌}
 use Rattle.capnp_model.specs.Segments.{Segments, Place, place, after, words_at}
 use Rattle.capnp_model.specs.Pointers as model
 use Rattle.capnp_model.specs.Pointers.{found_at, nothing, a_struct, a_list, a_capability}
 use Rattle.capnp_model.specs.Traversal.{ListKind, of_bits, of_pointers, of_structs, list_kind, list_words, tag_in}
-use Rattle.capnp_model.proofs.Chaining.{bind_ok, ok_or_some, ok_is}
+use Rattle.capnp_model.proofs.Chaining.{bind_ok, ok_is}
 use Rattle.capnp_object.specs.declared.object.Object.{Object}
 use Rattle.capnp_object.specs.declared.object.Object.TheVariants as object
 use Rattle.capnp_object.specs.declared.object.Found.{Found}

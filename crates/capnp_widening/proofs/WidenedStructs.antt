@@ -1,17 +1,15 @@
 -- A struct that is widened: its data are copied, its children moved, the old one is cleared and the pointer written.
-use Rattle.std.proofs.Common.{◌≡◌, ℕ, zero, suc, max, ◌+◌, ◌-◌, ◌*◌, ◌%◌, ◌^◌, ◌<◌, ◌≤◌, List, [], ◌∷◌, ◌++◌, length, take, drop, replicate, Option, Some, Ok, true, refl, ap, sym, ◌∙◌, subst, arith}
+use Rattle.std.proofs.Common.{◌≡◌, ℕ, zero, suc, max, ◌+◌, ◌-◌, ◌*◌, ◌%◌, ◌^◌, ◌<◌, ◌≤◌, List, [], ◌∷◌, ◌++◌, length, take, replicate, Option, Some, Ok, true, refl, ap, sym, ◌∙◌, subst, arith}
 use Rattle.std.specs.Option.{is_some}
-use Rattle.std.proofs.lemmas.List.{length-replicate, take-replicate}
+use Rattle.std.proofs.lemmas.List.{take-replicate}
 use Rattle.capnp_model.specs.Sections.{section_of, number_of}
 use Rattle.capnp_model.specs.Segments.{Segments, Place, after, word_at, words_at}
-use Rattle.capnp_model.specs.Pointers.{Object, a_struct, Found, found_at}
-use Rattle.capnp_model.specs.Trees.{Tree, null, structure, Trees, none, tree_count, resized, padded_to, widened}
-use Rattle.capnp_model.specs.Traversal.{tree_at}
+use Rattle.capnp_model.specs.Pointers.{a_struct, found_at}
+use Rattle.capnp_model.specs.Trees.{Tree, null, structure, Trees, none, tree_count, resized, widened}
 use Rattle.capnp_model.specs.Coverage.{Span, span, times_held}
 use Rattle.capnp_model.specs.Encoding.{struct_pointer}
-use Rattle.capnp_wire.specs.Places.{place_view}
 use Rattle.capnp_object.specs.declared.place.Place as code
-use Rattle.capnp_footprints.specs.Footprints.{Owns, OwnsObject}
+use Rattle.capnp_footprints.specs.Footprints.{OwnsObject}
 use Rattle.capnp_footprints.specs.Changes.{Replaces, ReplacesObject}
 use Rattle.capnp_footprints.specs.Detached.{Detached}
 use Rattle.capnp_footprints.specs.NewObjects.{new_struct, new_pointer, Fits}

@@ -1,5 +1,5 @@
 -- Room for a wider object, and the pointer to what was made in it.
-use Rattle.std.proofs.Common.{◌≡◌, ◌≢◌, ℕ, zero, suc, ◌+◌, ◌-◌, ◌*◌, ◌<◌, ◌≤◌, ◌^◌, true, List, [], ◌∷◌, ◌++◌, length, map, replicate, Option, Some, None, Ok, refl, ap, sym, ◌∙◌, subst, arith}
+use Rattle.std.proofs.Common.{◌≡◌, ◌≢◌, ℕ, zero, suc, ◌+◌, ◌*◌, ◌<◌, ◌^◌, true, List, [], ◌∷◌, ◌++◌, replicate, Option, Some, None, Ok, refl, ap, sym, ◌∙◌, subst, arith}
 use Rattle.std.specs.Option.{is_some}
 use Rattle.std.proofs.lemmas.List.{length-replicate, length-append}
 use Rattle.capnp_model.specs.Segments.{Segments, Place, place, after, word_at, words_at}
@@ -10,9 +10,9 @@ use Rattle.capnp_wire.specs.Places.{place_view}
 use Rattle.capnp_object.specs.declared.place.Place as code
 use Rattle.capnp_footprints.specs.Footprints.{Owns, object_footprint}
 use Rattle.capnp_footprints.specs.Changes.{Replaces, ReplacesObject}
-use Rattle.capnp_footprints.specs.Detached.{Detached, Reaches}
-use Rattle.capnp_footprints.specs.NewObjects.{New, new_pointer, new_object, Fits, pointed, pointed_far, IsNear, IsNamed}
-use Rattle.capnp_footprints.specs.Writes.{with_zeros, segment_end, with_words}
+use Rattle.capnp_footprints.specs.Detached.{Detached}
+use Rattle.capnp_footprints.specs.NewObjects.{New, new_pointer, new_object, Fits, pointed, IsNear, IsNamed}
+use Rattle.capnp_footprints.specs.Writes.{with_zeros, segment_end}
 use Rattle.capnp_footprints.proofs.Algebra.{beside_kept}
 use Rattle.capnp_footprints.proofs.Detached.{detached_start, detached_more, detached_split, detached_near}
 use Rattle.capnp_footprints.proofs.FarPointing.{detached_far, reaches_ahead}
@@ -21,7 +21,7 @@ use Rattle.capnp_model.proofs.Locality.{found_kept}
 use Rattle.capnp_footprints.proofs.Lift.{slot_is}
 use Rattle.capnp_footprints.proofs.Prepared.{near_leads, far_leads, starts_near}
 use Rattle.capnp_footprints.proofs.Rows.{after_none}
-use Rattle.capnp_footprints.proofs.Spans.{still_there, grows_then, grows_same, words_front, words_back}
+use Rattle.capnp_footprints.proofs.Spans.{grows_same, words_front, words_back}
 use Rattle.capnp_footprints.proofs.SpareMoves.{detached_swapped}
 use Rattle.capnp_footprints.proofs.There.{spans_kept}
 use Rattle.capnp_copy.specs.Allocations.{Allocates, total_words}
@@ -32,7 +32,7 @@ use Rattle.capnp_copy.specs.declared.room.Room.TheVariants.{Here, Near, Far}
 use Rattle.capnp_widening.specs.Moves.{pads_of, HasPads}
 use Rattle.capnp_widening.specs.Widened.{WiderRoom}
 use Rattle.capnp_widening.proofs.MovedPointers.{at_offset}
-use Rattle.capnp_widening.proofs.Standing.{end_within, word_before_end, one_word, still_some, within_total, part_there}
+use Rattle.capnp_widening.proofs.Standing.{end_within, word_before_end, one_word, within_total, part_there}
 
 -- the pad's own word
 pub pad_spare : Room → List Span

@@ -1,5 +1,5 @@
 -- Lists that are got. (Encoding, "Lists")
-use Rattle.std.specs.Prelude.{ℕ, ◌-◌, Result, Ok, Err}
+use Rattle.std.specs.Prelude.{◌-◌, Result, Ok, Err}
 use Rattle.capnp_model.specs.Kinds.{Kind, WrongElementSize, WrongPointerKind}
 use Rattle.capnp_model.specs.Chains.{◌and_then◌, guard}
 use Rattle.capnp_model.specs.Readings.{is_accepted_as}

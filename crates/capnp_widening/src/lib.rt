@@ -1,9 +1,13 @@
 //! Structs and lists that are got where they lie, wide enough: a narrower one is widened in its place.
 #![tactic(auto)]
 
+mod elements;
+#[cfg(test)]
+mod list_tests;
 pub mod lists;
 mod moves;
 mod room;
+pub mod struct_lists;
 pub mod structs;
 #[cfg(test)]
 mod tests;

@@ -6,12 +6,14 @@ ghost use Rattle.capnp_model.specs.Readings.{is_accepted_as};
 ghost use Rattle.capnp_model.specs.Segments.{word_at, words_at};
 ghost use Rattle.capnp_units.specs.Segments.{words_in};
 ghost use Rattle.capnp_units.specs.Sizes.{size_number};
+ghost use Rattle.capnp_units.specs.declared.sizes.ElementSize.TheVariants.{InlineComposite};
 ghost use Rattle.capnp_wire.specs.Places.{place_view, seen};
 ghost use Rattle.capnp_wire.specs.Reads.{list_head};
 ghost use Rattle.capnp_object.specs.Objects.{object_at};
 ghost use Rattle.capnp_copy.specs.Lists.{list_at};
 ghost use Rattle.capnp_copy.specs.Values.{LeadsTo};
 ghost use Rattle.capnp_widening.specs.Got.{list_in};
+ghost use Rattle.capnp_widening.specs.MovedElements.{HasStructs};
 
 use capnp_copy::init::ListPlace;
 use capnp_object::named::found_at;
@@ -46,6 +48,7 @@ fn is_accepted(expected: ElementSize, size: ElementSize, data_words: u16, pointe
 pub fn get_list<A: ReaderArena>(arena: &A, slot: Place, expected: ElementSize) -> Result<ListPlace>
     ensures list { seen (λ o. o) result ≡ (object_at (words_in (A.segments arena.now)) (place_view slot) and_then λ f. list_in slot expected f.object) }
     ensures object { IfOk result (λ o. (word_at (words_in (A.segments arena.now)) (place_view slot) ≡ Some 0) ⊎ LeadsTo (words_in (A.segments arena.now)) (place_view slot) (list_at o)) }
+    ensures structs { IfOk result (λ o. (word_at (words_in (A.segments arena.now)) (place_view slot) ≡ Some 0) ⊎ (o.size ≡ InlineComposite → HasStructs (words_in (A.segments arena.now)) o)) }
 {
     let found = found_at(arena, slot)?;
     let list = match whole(arena, found.object)? {

@@ -147,7 +147,7 @@ fn seen(
     seen
 }
 
-fn handing_out(rt: HostRuntime, left: u32, roomy: u32, room: u32) -> Exact {
+pub(crate) fn handing_out(rt: HostRuntime, left: u32, roomy: u32, room: u32) -> Exact {
     Exact {
         alloc: rt.alloc(),
         left,

@@ -1,4 +1,4 @@
-use Rattle.std.proofs.Common.{◌≡◌, ◌⊎◌, inr, ◌-◌, ℕ, Result, Ok, ap, sym, ◌∙◌}
+use Rattle.std.proofs.Common.{inr, ℕ, Result, Ok, ap, sym, ◌∙◌}
 use Rattle.capnp_model.specs.Kinds.{Kind}
 use Rattle.capnp_model.specs.Segments.{place}
 use Rattle.capnp_model.specs.Pointers.{a_list}

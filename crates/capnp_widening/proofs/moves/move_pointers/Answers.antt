@@ -1,12 +1,11 @@
-use Rattle.std.proofs.Common.{◌≡◌, ◌+◌, ◌<◌, ℕ, suc, length, map, true, Option, refl, ap, sym, ◌∙◌, subst, rules, arith}
-use Rattle.std.specs.Option.{is_some}
-use Rattle.capnp_model.specs.Segments.{Segments, after, words_at}
+use Rattle.std.proofs.Common.{◌≡◌, ◌+◌, ◌<◌, ℕ, suc, Option, refl, sym, ◌∙◌, subst, rules, arith}
+use Rattle.capnp_model.specs.Segments.{after}
 use Rattle.capnp_units.specs.Segments.{words_in}
 use Rattle.capnp_wire.specs.Places.{place_view}
 use Rattle.capnp_object.specs.declared.place.Place as code
-use Rattle.capnp_widening.specs.Moves.{HasPads, IsReached, pads_of, pad_from, MovesValue}
+use Rattle.capnp_widening.specs.Moves.{HasPads, pads_of, pad_from, MovesValue}
 use Rattle.capnp_widening.proofs.Standing.{still_some, sizes_grow, sizes_total, part_there, pads_stay}
-use Rattle.capnp_widening.proofs.MovedRows.{RowSoFar, row_none, row_next, row_all, one_pad, near_pad, reached_pad}
+use Rattle.capnp_widening.proofs.MovedRows.{RowSoFar, row_none, row_next, row_all, one_pad}
 use Rattle.capnp_widening.proofs.moves.move_pointers.Goals as goal
 
 pub loop-i-init : goal.loop-i-init

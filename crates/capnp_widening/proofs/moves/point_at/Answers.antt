@@ -1,11 +1,11 @@
-use Rattle.std.proofs.Common.{◌≡◌, ◌+◌, ◌*◌, ℕ, [], ◌∷◌, true, Option, Some, refl, ap, sym, ◌∙◌, subst, arith}
+use Rattle.std.proofs.Common.{◌≡◌, [], ◌∷◌, true, Option, Some, refl, ap, sym, ◌∙◌, subst, arith}
 use Rattle.std.specs.Option.{is_some}
 use Rattle.capnp_model.specs.Segments.{Segments, after, words_at}
 use Rattle.capnp_units.specs.Segments.{words_in}
 use Rattle.capnp_wire.specs.Places.{place_view}
 use Rattle.capnp_object.specs.declared.place.Place as code
 use Rattle.capnp_footprints.specs.Writes.{with_words}
-use Rattle.capnp_footprints.specs.NewObjects.{far_pointer, double_far_pointer, pointed}
+use Rattle.capnp_footprints.specs.NewObjects.{far_pointer, double_far_pointer}
 use Rattle.capnp_widening.specs.Moves.{HasPads, pointed_at}
 use Rattle.capnp_widening.proofs.Standing.{still_written, part_there, written_then}
 use Rattle.capnp_widening.proofs.moves.point_at.Goals as goal

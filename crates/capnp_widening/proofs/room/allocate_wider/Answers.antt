@@ -1,4 +1,4 @@
-use Rattle.std.proofs.Common.{◌≡◌, ◌+◌, ap, rules, arith}
+use Rattle.std.proofs.Common.{◌≡◌, ap, rules, arith}
 use Rattle.capnp_units.specs.Segments.{words_in}
 use Rattle.capnp_footprints.specs.Writes.{segment_end}
 use Rattle.capnp_widening.proofs.Standing.{word_before_end, end_within}

@@ -1,9 +1,6 @@
-use Rattle.std.proofs.Common.{◌≡◌, ◌⊎◌, inl, inr, ◌+◌, ◌*◌, ◌<◌, max, ℕ, Result, Ok, ap, sym, ◌∙◌, subst, rules, arith}
-use Rattle.capnp_model.specs.Kinds.{Kind}
+use Rattle.std.proofs.Common.{◌⊎◌, inl, inr, ◌+◌, ◌*◌, ◌<◌, sym, arith}
 use Rattle.capnp_units.specs.Segments.{words_in}
 use Rattle.capnp_wire.specs.Places.{place_view}
-use Rattle.capnp_object.specs.declared.object.Found.{Found}
-use Rattle.capnp_object.specs.declared.object.Object.{Object}
 use Rattle.capnp_object.specs.Objects.{object_at}
 use Rattle.capnp_model.specs.Trees.{structure, resized, none}
 use Rattle.capnp_copy.specs.Values.{Becomes}

@@ -1,4 +1,4 @@
-use Rattle.std.proofs.Common.{◌≡◌, ◌+◌, ◌*◌, ◌<◌, ◌≤◌, ◌^◌, ℕ, length, map, true, refl, ap, sym, ◌∙◌, subst, rules, arith}
+use Rattle.std.proofs.Common.{◌≡◌, ◌+◌, ◌*◌, ◌<◌, ℕ, length, map, true, ap, sym, ◌∙◌, subst, arith}
 use Rattle.std.specs.Option.{is_some}
 use Rattle.capnp_model.specs.Segments.{Segments, Place, after, words_at}
 use Rattle.capnp_model.specs.Pointers.{a_struct}

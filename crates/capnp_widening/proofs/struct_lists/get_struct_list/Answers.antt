@@ -1,0 +1,104 @@
+use Rattle.std.proofs.Common.{◌≡◌, max, Some, Ok, ap, ◌∙◌, rules, arith}
+use Rattle.capnp_model.specs.Segments.{word_at}
+use Rattle.capnp_units.specs.Segments.{words_in}
+use Rattle.capnp_wire.specs.Places.{place_view}
+use Rattle.capnp_widening.specs.Widened.{GrowthRefused}
+use Rattle.capnp_widening.specs.WidenedLists.{list_there, WidensList, IsWideList, words_wanted, ListRefused}
+use Rattle.capnp_widening.proofs.GotStructs.{ok_then, err_then}
+use Rattle.capnp_widening.proofs.KnownLists.{known, leads_unless_null, structs_unless_null, known_short}
+use Rattle.capnp_widening.proofs.WideLists.{null_stays, wide_list_stays, most_list_widens, null_got, null_of_structs, wide_got, new_got, refused_list}
+use Rattle.capnp_widening.proofs.struct_lists.get_struct_list.Goals.{then-eq-via-then-eq, then-eq-via-else-eq+then-is_wide}
+use Rattle.capnp_widening.proofs.struct_lists.get_struct_list.Goals as goal
+
+pub widen_list-requires-clause-short : goal.widen_list-requires-clause-short
+widen_list-requires-clause-short g c = λ zeros.
+    let s = words_in (g.A.ReaderArena.segments c.args.arena.now) in
+    let p = place_view c.args.slot in
+    let old = c.in_ok-old.old in
+    let found : list_there s c.args.slot ≡ Ok c.in_ok-old.old = search rules in
+    let some : word_at s p ≡ Some 0 → ⊥ = search rules in
+    let leads = leads_unless_null s p old some c.in_ok-old.ensures.object in
+    let narrow : IsWideList c.in_ok-old.old c.args.size.data_words c.args.size.pointers → ⊥ = search rules in
+    let least = c.element_size-least.ensures in
+    known_short s old c.args.size.data_words c.args.size.pointers (known s c.args.slot old found leads) narrow (omega (arith, zeros, c.max.ensures, c.max-2.ensures, least.0, least.1))
+
+pub returns-then-eq-clause-value : goal.returns-then-eq-clause-value
+returns-then-eq-clause-value g c =
+    let s = words_in (g.A.ReaderArena.segments c.args.arena.now) in
+    let p = place_view c.args.slot in
+    let old = c.in_ok-old.old in
+    let d = c.args.size.data_words in
+    let k = c.args.size.pointers in
+    let found : list_there s c.args.slot ≡ Ok c.in_ok-old.old = search rules in
+    elim c.then-eq.branch [
+      | then-eq-via-then-eq w ↦ (let e : word_at s p ≡ Some 0 = search rules in null_stays s p d k e)
+      | then-eq-via-else-eq+then-is_wide w ↦ (
+          let some : word_at s p ≡ Some 0 → ⊥ = search rules in
+          let leads = leads_unless_null s p old some c.in_ok-old.ensures.object in
+          let wide : IsWideList c.in_ok-old.old c.args.size.data_words c.args.size.pointers = search rules in
+          wide_list_stays s p old d k leads (known s c.args.slot old found leads) wide
+          )
+    ]
+
+pub returns-then-eq-clause-list : goal.returns-then-eq-clause-list
+returns-then-eq-clause-list g c =
+    let s = words_in (g.A.ReaderArena.segments c.args.arena.now) in
+    let p = place_view c.args.slot in
+    let old = c.in_ok-old.old in
+    let d = c.args.size.data_words in
+    let k = c.args.size.pointers in
+    let found : list_there s c.args.slot ≡ Ok c.in_ok-old.old = search rules in
+    elim c.then-eq.branch [
+      | then-eq-via-then-eq w ↦ (let e : word_at s p ≡ Some 0 = search rules in null_got s c.args.slot old d k found (null_of_structs s c.args.slot old found e) e)
+      | then-eq-via-else-eq+then-is_wide w ↦ (
+          let some : word_at s p ≡ Some 0 → ⊥ = search rules in
+          let leads = leads_unless_null s p old some c.in_ok-old.ensures.object in
+          let wide : IsWideList c.in_ok-old.old c.args.size.data_words c.args.size.pointers = search rules in
+          wide_got s c.args.slot old d k found leads (structs_unless_null s p old some c.in_ok-old.ensures.structs wide.0) wide
+          )
+    ]
+
+pub returns-clause-value : goal.returns-clause-value
+returns-clause-value g c =
+    let s = words_in (g.A.ReaderArena.segments c.args.arena.now) in
+    let u = words_in (g.A.ReaderArena.segments c.widen_list.new.arena) in
+    let p = place_view c.args.slot in
+    let old = c.in_ok-old.old in
+    let d = c.args.size.data_words in
+    let k = c.args.size.pointers in
+    let found : list_there s c.args.slot ≡ Ok c.in_ok-old.old = search rules in
+    let some : word_at s p ≡ Some 0 → ⊥ = search rules in
+    let leads = leads_unless_null s p old some c.in_ok-old.ensures.object in
+    let least = c.element_size-least.ensures in
+    let ed = c.max.ensures ∙ ap (max c.args.size.data_words) least.0 in
+    let ek = c.max-2.ensures ∙ ap (max c.args.size.pointers) least.1 in
+    ok_then (λ o. WidensList s u p c.max.result c.max-2.result) (λ o. WidensList s u p c.args.size.data_words c.args.size.pointers) (λ o h. most_list_widens s u p old d k c.max.result c.max-2.result leads (known s c.args.slot old found leads) ed ek h) c.widen_list.result c.widen_list.ensures.value
+
+pub returns-clause-list : goal.returns-clause-list
+returns-clause-list g c =
+    let s = words_in (g.A.ReaderArena.segments c.args.arena.now) in
+    let u = words_in (g.A.ReaderArena.segments c.widen_list.new.arena) in
+    let p = place_view c.args.slot in
+    let old = c.in_ok-old.old in
+    let d = c.args.size.data_words in
+    let k = c.args.size.pointers in
+    let found : list_there s c.args.slot ≡ Ok c.in_ok-old.old = search rules in
+    let least = c.element_size-least.ensures in
+    let ed = c.max.ensures ∙ ap (max c.args.size.data_words) least.0 in
+    let ek = c.max-2.ensures ∙ ap (max c.args.size.pointers) least.1 in
+    new_got s u c.args.slot old d k c.max.result c.max-2.result found ed ek c.widen_list.result c.widen_list.ensures.object c.widen_list.ensures.list c.widen_list.ensures.there
+
+pub returns-clause-kind : goal.returns-clause-kind
+returns-clause-kind g c =
+    let s = words_in (g.A.ReaderArena.segments c.args.arena.now) in
+    let p = place_view c.args.slot in
+    let old = c.in_ok-old.old in
+    let d = c.args.size.data_words in
+    let k = c.args.size.pointers in
+    let found : list_there s c.args.slot ≡ Ok c.in_ok-old.old = search rules in
+    let some : word_at s p ≡ Some 0 → ⊥ = search rules in
+    let narrow : IsWideList c.in_ok-old.old c.args.size.data_words c.args.size.pointers → ⊥ = search rules in
+    let least = c.element_size-least.ensures in
+    let ed = c.max.ensures ∙ ap (max c.args.size.data_words) least.0 in
+    let ek = c.max-2.ensures ∙ ap (max c.args.size.pointers) least.1 in
+    err_then (GrowthRefused s (words_wanted old c.max.result c.max-2.result)) (ListRefused s p (list_there s c.args.slot) d k) (λ e h. refused_list s c.args.slot old d k c.max.result c.max-2.result e found some narrow ed ek h) c.widen_list.result c.widen_list.ensures.kind

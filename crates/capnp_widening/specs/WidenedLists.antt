@@ -1,0 +1,54 @@
+-- Lists that are got as lists of structs, and widened. (Encoding, "Lists")
+use Rattle.std.specs.Prelude.{◌≡◌, ◌⊎◌, ℕ, suc, max, ◌+◌, ◌*◌, ◌≤◌, Some, Result, Ok, Err}
+use Rattle.capnp_model.specs.Chains.{◌and_then◌}
+use Rattle.capnp_model.specs.Kinds.{Kind}
+use Rattle.capnp_model.specs.Segments.{Segments, Place, word_at}
+use Rattle.capnp_model.specs.Trees.{Tree}
+use Rattle.capnp_units.specs.declared.errors.Error.{Error}
+use Rattle.capnp_units.specs.declared.sizes.ElementSize.TheVariants.{InlineComposite}
+use Rattle.capnp_units.specs.Errors.{kind_of}
+use Rattle.capnp_wire.specs.Places.{place_view}
+use Rattle.capnp_object.specs.declared.place.Place as code
+use Rattle.capnp_object.specs.Objects.{object_at}
+use Rattle.capnp_footprints.specs.Footprints.{Owns}
+use Rattle.capnp_footprints.specs.Changes.{Replaces}
+use Rattle.capnp_copy.specs.Elements.{HasElements}
+use Rattle.capnp_copy.specs.Lists.{list_at}
+use Rattle.capnp_copy.specs.Values.{LeadsTo}
+use Rattle.capnp_copy.specs.declared.init.ListPlace.{ListPlace}
+use Rattle.capnp_widening.specs.Got.{list_in}
+use Rattle.capnp_widening.specs.MovedElements.{as_structs, least_words, least_pointers}
+use Rattle.capnp_widening.specs.Widened.{GrowthRefused}
+
+-- The list that the pointer at a place names, of elements that can be structs, else the kind of the fault: a list of bits can't.
+abbrev pub list_there : Segments → code.Place → Result ListPlace Kind
+list_there s slot = object_at s (place_view slot) and_then λ f. list_in slot InlineComposite f.object
+
+-- Whatever value is owned there becomes a list of structs of at least so many data words and pointers, null stays, and nothing else changes.
+abbrev pub WidensList : Segments → Segments → Place → ℕ → ℕ → Type 0
+WidensList s u p d k = (n : ℕ) (t : Tree) → Owns n s p t → Replaces (suc n) s u p (as_structs d k t)
+
+-- A list of structs of at least these sizes.
+abbrev pub IsWideList : ListPlace → ℕ → ℕ → Type 0
+IsWideList o d k = (o.size ≡ InlineComposite) × (d ≤ o.data_words) × (k ≤ o.pointers)
+
+-- Null is there, or such a list.
+abbrev pub HasWideList : Segments → code.Place → ℕ → ℕ → Type 0
+HasWideList s slot d k = (word_at s (place_view slot) ≡ Some 0) ⊎ ((o : ListPlace) × (list_there s slot ≡ Ok o) × IsWideList o d k)
+
+-- The words that a new list of structs of these sizes takes in place of one: its structs, a tag, a pad, and two for each pointer of the old list.
+abbrev pub words_wanted : ListPlace → ℕ → ℕ → ℕ
+words_wanted o d k = o.count * (d + k) + 2 + 2 * (o.count * least_pointers o)
+
+-- The list of structs that is given in place of one: as many elements, of the greater of both sizes, where the pointer leads; null's is the empty one at the pointer itself.
+pub record StructsGot (s u : Segments) (slot : code.Place) (d k : ℕ) (o : ListPlace) : Type 0 where
+  pub old : ListPlace
+  pub was_there : list_there s slot ≡ Ok old
+  pub of_structs : o.size ≡ InlineComposite
+  pub as_many : o.count ≡ old.count
+  pub given : ((word_at s (place_view slot) ≡ Some 0) × (o ≡ old)) ⊎ (LeadsTo u (place_view slot) (list_at o) × (o.data_words ≡ max d (least_words old)) × (o.pointers ≡ max k (least_pointers old)) × HasElements u o)
+
+-- Why no such list is given: what is there is no list, or one of bits; or the words of a new list in place of a narrower one are refused.
+abbrev pub ListRefused : Segments → Place → Result ListPlace Kind → ℕ → ℕ → Error → Type 0
+ListRefused s p (Err kind) d k e = kind ≡ kind_of e.kind
+ListRefused s p (Ok o) d k e = (word_at s p ≡ Some 0 → ⊥) × (IsWideList o d k → ⊥) × GrowthRefused s (words_wanted o (max d (least_words o)) (max k (least_pointers o))) e

@@ -1,0 +1,141 @@
+//! Lists that are got as lists of structs, and widened.
+ghost use Rattle.std.specs.Prelude.{◌≡◌, ◌+◌, ◌*◌, ◌<◌, ◌≤◌, ◌^◌, ◌↔◌, ℕ, true, Ok, IfOk, IfErr, OnErr};
+ghost use Rattle.std.specs.Option.{is_some};
+ghost use Rattle.capnp_model.specs.Segments.{words_at};
+ghost use Rattle.capnp_units.specs.Segments.{words_in};
+ghost use Rattle.capnp_units.specs.declared.kinds.ErrorKind.TheVariants.{SizeOverflow};
+ghost use Rattle.capnp_units.specs.declared.sizes.ElementSize.TheVariants.{InlineComposite};
+ghost use Rattle.capnp_wire.specs.Places.{place_view};
+ghost use Rattle.capnp_copy.specs.Lists.{list_at};
+ghost use Rattle.capnp_copy.specs.Values.{LeadsTo};
+ghost use Rattle.capnp_widening.specs.MovedElements.{least_words, least_pointers, HasStructs};
+ghost use Rattle.capnp_widening.specs.Widened.{GrowthRefused};
+ghost use Rattle.capnp_widening.specs.WidenedLists.{list_there, WidensList, IsWideList, HasWideList, words_wanted, StructsGot, ListRefused};
+
+use crate::elements::fill_elements;
+use crate::lists::get_list;
+use crate::room::allocate_wider;
+use capnp_copy::arena::BuilderArena;
+use capnp_copy::clear::clear;
+use capnp_copy::init::ListPlace;
+use capnp_copy::room::{begin_of, link, list_word};
+use capnp_copy::segments::MOST_WORDS;
+use capnp_copy::struct_lists::tag_word;
+use capnp_units::errors::{Error, Result};
+use capnp_units::kinds::ErrorKind;
+use capnp_units::sizes::{ElementSize, StructSize};
+use capnp_wire::place::{Place, word_at};
+
+/// The size of an element as a struct: what a plain one holds is one data word, and a pointer is one pointer.
+fn element_size(list: ListPlace) -> StructSize
+    ensures { (result.data_words ≡ least_words list) × (result.pointers ≡ least_pointers list) }
+{
+    let (data_words, pointers) = match list.size {
+        ElementSize::Void => (0, 0),
+        ElementSize::Pointer => (0, 1),
+        ElementSize::InlineComposite => (list.data_words, list.pointers),
+        _ => (1, 0),
+    };
+    StructSize {
+        data_words,
+        pointers,
+    }
+}
+
+/// Whether a list is one of structs of at least a size.
+fn is_wide(list: ListPlace, size: StructSize) -> bool
+    ensures { (result ≡ true) ↔ IsWideList list size.data_words size.pointers }
+{
+    list.size == ElementSize::InlineComposite
+        && list.data_words >= size.data_words
+        && list.pointers >= size.pointers
+}
+
+/// The words of a new list of structs without its tag, and of two for each pointer of the old list. It is refused with `SizeOverflow` where they, with the tag and a pad, pass 2^29 - 1.
+fn words_of_wider(old: ListPlace, size: StructSize) -> Result<(u32, u32)>
+    requires short { (size.data_words + size.pointers ≡ 0) → (old.count < 2 ^ 29) }
+    ensures words { IfOk result (λ r. (r.0 ≡ old.count * (size.data_words + size.pointers)) × (r.1 ≡ 2 * (old.count * least_pointers old))) }
+    ensures few { IfOk result (λ r. (old.count < 2 ^ 29) × (r.0 + 2 + r.1 < 2 ^ 29)) }
+    ensures kind { IfErr result (λ e. (e.kind ≡ SizeOverflow) × (2 ^ 29 ≤ words_wanted old size.data_words size.pointers)) }
+{
+    let words = old.count as u64 * size.total() as u64;
+    let pads = 2 * (old.count as u64 * element_size(old).pointers as u64);
+    if words + 2 + pads > MOST_WORDS as u64 {
+        return Err(Error::from(ErrorKind::SizeOverflow));
+    }
+    Ok((words as u32, pads as u32))
+}
+
+/// Puts a list of wider structs in place of one that the pointer at a place names: what its elements hold moves, and its own words and the pads become zero.
+///
+/// It is refused with `SizeOverflow` just where the message's words would pass 2^29 - 1, the tag, a pad and two words for each pointer of the old list counted, else as the allocator refuses; then all stands as it was.
+fn widen_list<A: BuilderArena>(
+    arena: &mut A,
+    slot: Place,
+    old: ListPlace,
+    size: StructSize,
+) -> Result<ListPlace>
+    requires found { list_there (words_in (A.segments arena.old)) slot ≡ Ok old }
+    requires leads { LeadsTo (words_in (A.segments arena.old)) (place_view slot) (list_at old) }
+    requires there { is_some (words_at (words_in (A.segments arena.old)) (place_view slot) 1) ≡ true }
+    requires near { slot.position < 2 ^ 61 }
+    requires wider { (least_words old ≤ size.data_words) × (least_pointers old ≤ size.pointers) }
+    requires short { (size.data_words + size.pointers ≡ 0) → (old.count < 2 ^ 29) }
+    ensures value { IfOk result (λ o. WidensList (words_in (A.segments arena.old)) (words_in (A.segments arena.new)) (place_view slot) size.data_words size.pointers) }
+    ensures object { IfOk result (λ o. LeadsTo (words_in (A.segments arena.new)) (place_view slot) (list_at o)) }
+    ensures list { IfOk result (λ o. (o.size ≡ InlineComposite) × (o.count ≡ old.count) × (o.data_words ≡ size.data_words) × (o.pointers ≡ size.pointers)) }
+    ensures there { IfOk result (HasStructs (words_in (A.segments arena.new))) }
+    ensures refused { OnErr result (A.segments arena.new ≡ A.segments arena.old) }
+    ensures kind { IfErr result (GrowthRefused (words_in (A.segments arena.old)) (words_wanted old size.data_words size.pointers)) }
+    ensures books { A.books arena.new ≡ A.books arena.old }
+{
+    let (words, pad_words) = words_of_wider(old, size)?;
+    let (room, pads) = allocate_wider(arena, slot, old.start.segment, 1 + words, pad_words)?;
+    let new = ListPlace {
+        start: begin_of(slot, room),
+        size: ElementSize::InlineComposite,
+        claimed: words,
+        count: old.count,
+        data_words: size.data_words,
+        pointers: size.pointers,
+    };
+    arena.write_word(new.start, tag_word(old.count, size));
+    fill_elements(arena, old, new, pads);
+    clear(arena, slot);
+    link(
+        arena,
+        slot,
+        room,
+        list_word(ElementSize::InlineComposite, words),
+    );
+    Ok(new)
+}
+
+/// The list that the pointer at a place names, near or far, as one of structs with at least these sections. A list of structs that are wide enough stays where it is. One of narrower structs, of numbers, of pointers or of voids is widened: each element becomes a struct with the greater of both sizes and keeps all that it holds, a number in the lowest bits of the first data word and a pointer as the first pointer; it gets zeros and nulls, and what is left behind becomes zero. Null stays, and has the empty list, at the pointer itself.
+///
+/// It is refused as a reader refuses what is there (`object_at`); with `WrongPointerKind` where a struct or a capability is there, and with `WrongElementSize` where a list of bits is; with `SizeOverflow` just where the words of a new list and its tag, of a pad, and two for each pointer of the old list, would make the message's pass 2^29 - 1; else as the allocator refuses. Then all stands as it was.
+pub fn get_struct_list<A: BuilderArena>(
+    arena: &mut A,
+    slot: Place,
+    size: StructSize,
+) -> Result<ListPlace>
+    requires there { is_some (words_at (words_in (A.segments arena.old)) (place_view slot) 1) ≡ true }
+    requires near { slot.position < 2 ^ 61 }
+    ensures value { IfOk result (λ o. WidensList (words_in (A.segments arena.old)) (words_in (A.segments arena.new)) (place_view slot) size.data_words size.pointers) }
+    ensures list { IfOk result (StructsGot (words_in (A.segments arena.old)) (words_in (A.segments arena.new)) slot size.data_words size.pointers) }
+    ensures wide { HasWideList (words_in (A.segments arena.old)) slot size.data_words size.pointers → A.segments arena.new ≡ A.segments arena.old }
+    ensures refused { OnErr result (A.segments arena.new ≡ A.segments arena.old) }
+    ensures kind { IfErr result (ListRefused (words_in (A.segments arena.old)) (place_view slot) (list_there (words_in (A.segments arena.old)) slot) size.data_words size.pointers) }
+    ensures books { A.books arena.new ≡ A.books arena.old }
+{
+    let old = get_list(arena, slot, ElementSize::InlineComposite)?;
+    if word_at(arena, slot) == Some(0) || is_wide(old, size) {
+        return Ok(old);
+    }
+    let least = element_size(old);
+    let wider = StructSize {
+        data_words: size.data_words.max(least.data_words),
+        pointers: size.pointers.max(least.pointers),
+    };
+    widen_list(arena, slot, old, wider)
+}
