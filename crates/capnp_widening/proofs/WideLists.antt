@@ -1,5 +1,5 @@
 -- Lists that are wide enough, and the greater of two sizes.
-use Rattle.std.proofs.Common.{◌≡◌, inl, inr, ℕ, zero, suc, max, ◌+◌, ◌<◌, ◌≤◌, List, drop, Option, Some, Result, Ok, Err, IfOk, refl, ap, sym, ◌∙◌, subst, arith}
+use Rattle.std.proofs.Common.{◌≡◌, inl, inr, ℕ, zero, suc, max, ◌+◌, ◌*◌, ◌<◌, ◌≤◌, List, drop, Option, Some, Result, Ok, Err, IfOk, OnOk, refl, ap, sym, ◌∙◌, subst, arith}
 use Rattle.capnp_model.specs.Kinds.{Kind}
 use Rattle.capnp_model.specs.Sections.{words_for}
 use Rattle.capnp_model.specs.Segments.{Segments, Place, after, word_at}
@@ -30,8 +30,8 @@ use Rattle.capnp_copy.specs.Lists.{list_at}
 use Rattle.capnp_copy.specs.Values.{LeadsTo}
 use Rattle.capnp_copy.proofs.ElementLaws.{is_plain}
 use Rattle.capnp_widening.specs.MovedElements.{least_words, least_pointers, IsOfList, HasStructs, as_structs}
-use Rattle.capnp_widening.specs.Widened.{GrowthRefused}
-use Rattle.capnp_widening.specs.WidenedLists.{list_there, IsWideList, WidensList, words_wanted, StructsGot, ListRefused}
+use Rattle.capnp_widening.specs.Widened.{GrowthRefused, TakesNear}
+use Rattle.capnp_widening.specs.WidenedLists.{list_there, IsWideList, WidensList, words_wanted, HasWideList, StructsGot, ListTakes, ListRefused}
 use Rattle.capnp_widening.proofs.GotStructs.{padded_enough, padded_most, same_object}
 use Rattle.capnp_widening.proofs.ObjectsThere.{named_at}
 use Rattle.capnp_widening.specs.Got.{list_in}
@@ -207,3 +207,20 @@ pub new_got : (s u : Segments) (slot : code.Place) (old : ListPlace) (d k d' k' 
     → (r : Result ListPlace Error) → IfOk r (λ o. LeadsTo u (place_view slot) (list_at o)) → IfOk r (λ o. (o.size ≡ InlineComposite) × (o.count ≡ old.count) × (o.data_words ≡ d') × (o.pointers ≡ k')) → IfOk r (HasStructs u) → IfOk r (StructsGot s u slot d k)
 new_got s u slot old d k d' k' there ed ek (Ok o) leads list has = record { old = old; was_there = there; of_structs = list.0; as_many = list.1; given = inr (leads, list.2 ∙ ed, list.3 ∙ ek, has_elements u o list.0 has) }
 new_got s u slot old d k d' k' there ed ek (Err e) leads list has = tt
+
+-- ---- the words that are taken
+
+pub nothing_taken : (s : Segments) (free : List ℕ) (slot : code.Place) (d k : ℕ) → HasWideList s slot d k → ListTakes s free s slot d k
+nothing_taken s free slot d k wide = λ o there narrow. absurd (narrow wide)
+
+pub list_takes : (s : Segments) (free : List ℕ) (u : Segments) (slot : code.Place) (old : ListPlace) (d k d' k' : ℕ) → list_there s slot ≡ Ok old → d' ≡ max d (least_words old) → k' ≡ max k (least_pointers old) → TakesNear s free u slot.segment old.start.segment (1 + old.count * (d' + k')) → ListTakes s free u slot d k
+list_takes s free u slot old d k d' k' there ed ek h = λ o is narrow. (
+    let same : old ≡ o = ok_is _ _ (sym there ∙ is) in
+    let h1 = subst (λ (x : ℕ). TakesNear s free u slot.segment old.start.segment (1 + old.count * (x + k'))) ed h in
+    let h2 = subst (λ (x : ℕ). TakesNear s free u slot.segment old.start.segment (1 + old.count * (max d (least_words old) + x))) ek h1 in
+    subst (λ (x : ListPlace). TakesNear s free u slot.segment x.start.segment (1 + x.count * (max d (least_words x) + max k (least_pointers x)))) same h2
+    )
+
+pub if_ok_then : {X E P Q : Type 0} → (P → Q) → (r : Result X E) → OnOk r P → OnOk r Q
+if_ok_then f (Ok x) h = f h
+if_ok_then f (Err e) h = tt

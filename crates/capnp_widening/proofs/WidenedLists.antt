@@ -1,5 +1,5 @@
 -- A list that is widened: the tag is written, its elements move, the old list is cleared and the pointer written.
-use Rattle.std.proofs.Common.{◌≡◌, ℕ, suc, ◌+◌, ◌-◌, ◌*◌, ◌<◌, List, [], ◌∷◌, ◌++◌, true, Option, Ok, ap, sym, ◌∙◌, subst, arith}
+use Rattle.std.proofs.Common.{◌≡◌, ℕ, suc, ◌+◌, ◌-◌, ◌*◌, ◌<◌, List, [], ◌∷◌, ◌++◌, length, map, true, Option, Ok, ap, sym, ◌∙◌, subst, arith}
 use Rattle.std.specs.Option.{is_some}
 use Rattle.capnp_model.specs.Segments.{Segments, Place, word_at}
 use Rattle.capnp_model.specs.Pointers.{Object, nothing, a_list, Found, found_at}
@@ -21,6 +21,7 @@ use Rattle.capnp_footprints.proofs.Lift.{slot_is, object_of_pointer}
 use Rattle.capnp_footprints.proofs.Spans.{held, held_is, held_split}
 use Rattle.capnp_footprints.proofs.Splices.{Rewrites, splice_rewrites}
 use Rattle.capnp_footprints.proofs.Writing.{rewrites_keep}
+use Rattle.capnp_copy.proofs.Taken.{takes_so}
 use Rattle.capnp_copy.specs.Clearing.{ClearsValue}
 use Rattle.capnp_copy.specs.Lists.{list_at}
 use Rattle.capnp_copy.specs.Rooms.{begin_of, linked}
@@ -29,7 +30,7 @@ use Rattle.capnp_copy.specs.declared.init.ListPlace.{ListPlace}
 use Rattle.capnp_copy.specs.declared.room.Room.{Room}
 use Rattle.capnp_widening.specs.Moves.{pads_of}
 use Rattle.capnp_widening.specs.MovedElements.{IsOfList, FillsElements, as_structs, zeros_at}
-use Rattle.capnp_widening.specs.Widened.{WiderRoom}
+use Rattle.capnp_widening.specs.Widened.{WiderRoom, TakesNear}
 use Rattle.capnp_widening.specs.WidenedLists.{WidensList}
 use Rattle.capnp_widening.proofs.WiderRooms.{pad_spare, room_spare, wider_extends, found_grown, linked_value}
 
@@ -76,3 +77,8 @@ list_widened s m x y z u p old new k segment room pads there leads of_list seven
     let linked_is : u ≡ linked z p room (list_pointer 0 7 (new.count * (new.data_words + new.pointers))) = links ∙ ap (λ (i : ℕ). linked z p room (list_pointer 0 7 i)) claims in
     subst (λ (v : Segments). Replaces (suc n) s v p (as_structs new.data_words new.pointers t)) (sym linked_is) all
     )
+
+-- ---- the words that are taken
+
+pub near_so : (s : Segments) (free : List ℕ) (m u : Segments) (i j n : ℕ) → map length u ≡ map length m → TakesNear s free m i j n → TakesNear s free u i j n
+near_so s free m u i j n e h = (λ same. takes_so s free m u j n e (h.0 same), λ other. takes_so s free m u j (1 + n) e (h.1 other))

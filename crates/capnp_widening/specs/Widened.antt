@@ -1,5 +1,5 @@
 -- Structs that are widened. (Encoding, "Structs")
-use Rattle.std.specs.Prelude.{◌≡◌, ◌↔◌, ◌⊎◌, ℕ, suc, max, ◌+◌, ◌*◌, ◌^◌, ◌<◌, ◌≤◌, Option, Some, None, Result, Ok, Err}
+use Rattle.std.specs.Prelude.{◌≡◌, ◌↔◌, ◌⊎◌, ℕ, suc, max, ◌+◌, ◌*◌, ◌^◌, ◌<◌, ◌≤◌, List, Option, Some, None, Result, Ok, Err}
 use Rattle.capnp_model.specs.Kinds.{Kind}
 use Rattle.capnp_model.specs.Segments.{Segments, Place, after}
 use Rattle.capnp_model.specs.Pointers.{a_struct}
@@ -14,7 +14,7 @@ use Rattle.capnp_object.specs.declared.object.Object.TheVariants as object
 use Rattle.capnp_object.specs.declared.object.Found.{Found}
 use Rattle.capnp_footprints.specs.Footprints.{Owns}
 use Rattle.capnp_footprints.specs.Changes.{Replaces}
-use Rattle.capnp_copy.specs.Allocations.{total_words}
+use Rattle.capnp_copy.specs.Allocations.{total_words, TakesJust}
 use Rattle.capnp_copy.specs.Rooms.{RoomFor, begin_of}
 use Rattle.capnp_copy.specs.Values.{LeadsTo}
 use Rattle.capnp_copy.specs.declared.room.Room.{Room}
@@ -23,6 +23,10 @@ use Rattle.capnp_copy.specs.declared.room.Room.{Room}
 abbrev pub WiderRoom : Segments → Segments → Place → ℕ → ℕ → ℕ → Room → Option code.Place → Type 0
 WiderRoom s u p segment n pads room None = RoomFor s u p n room × ((begin_of p room).segment ≡ segment)
 WiderRoom s u p segment n pads room (Some q) = RoomFor s u p (n + pads) room × (place_view q ≡ after (begin_of p room) n)
+
+-- Where a segment had room for so many words, and for a pad's where the pointer is in another, just these are new in the message. The list tells the free words of each segment.
+abbrev pub TakesNear : Segments → List ℕ → Segments → ℕ → ℕ → ℕ → Type 0
+TakesNear s free u i j n = (i ≡ j → TakesJust s free u j n) × ((i ≡ j → ⊥) → TakesJust s free u j (1 + n))
 
 -- Whatever value is owned there is widened to at least so many data words and pointers, null to a struct of just these, and nothing else changes.
 abbrev pub Widens : Segments → Segments → Place → ℕ → ℕ → Type 0

@@ -1,5 +1,5 @@
 -- Lists that are got as lists of structs, and widened. (Encoding, "Lists")
-use Rattle.std.specs.Prelude.{◌≡◌, ◌⊎◌, ℕ, suc, max, ◌+◌, ◌*◌, ◌≤◌, Some, Result, Ok, Err}
+use Rattle.std.specs.Prelude.{◌≡◌, ◌⊎◌, ℕ, suc, max, ◌+◌, ◌*◌, ◌≤◌, List, Some, Result, Ok, Err}
 use Rattle.capnp_model.specs.Chains.{◌and_then◌}
 use Rattle.capnp_model.specs.Kinds.{Kind}
 use Rattle.capnp_model.specs.Segments.{Segments, Place, word_at}
@@ -18,7 +18,7 @@ use Rattle.capnp_copy.specs.Values.{LeadsTo}
 use Rattle.capnp_copy.specs.declared.init.ListPlace.{ListPlace}
 use Rattle.capnp_widening.specs.Got.{list_in}
 use Rattle.capnp_widening.specs.MovedElements.{as_structs, least_words, least_pointers}
-use Rattle.capnp_widening.specs.Widened.{GrowthRefused}
+use Rattle.capnp_widening.specs.Widened.{GrowthRefused, TakesNear}
 
 -- The list that the pointer at a place names, of elements that can be structs, else the kind of the fault: a list of bits can't.
 abbrev pub list_there : Segments → code.Place → Result ListPlace Kind
@@ -47,6 +47,10 @@ pub record StructsGot (s u : Segments) (slot : code.Place) (d k : ℕ) (o : List
   pub of_structs : o.size ≡ InlineComposite
   pub as_many : o.count ≡ old.count
   pub given : ((word_at s (place_view slot) ≡ Some 0) × (o ≡ old)) ⊎ (LeadsTo u (place_view slot) (list_at o) × (o.data_words ≡ max d (least_words old)) × (o.pointers ≡ max k (least_pointers old)) × HasElements u o)
+
+-- Where a list is widened whose segment had room for the new one, just the words of the new one, its tag and a pad are new in the message, so that no pad is taken without need.
+abbrev pub ListTakes : Segments → List ℕ → Segments → code.Place → ℕ → ℕ → Type 0
+ListTakes s free u slot d k = (o : ListPlace) → list_there s slot ≡ Ok o → (HasWideList s slot d k → ⊥) → TakesNear s free u slot.segment o.start.segment (1 + o.count * (max d (least_words o) + max k (least_pointers o)))
 
 -- Why no such list is given: what is there is no list, or one of bits; or the words of a new list in place of a narrower one are refused.
 abbrev pub ListRefused : Segments → Place → Result ListPlace Kind → ℕ → ℕ → Error → Type 0

@@ -1,10 +1,10 @@
 //! Room for wider objects.
-ghost use Rattle.std.specs.Prelude.{◌≡◌, ◌+◌, ◌-◌, ◌*◌, ◌<◌, ◌≤◌, ◌^◌, ◌↔◌, ℕ, true, IfOk, IfErr, OnErr};
+ghost use Rattle.std.specs.Prelude.{◌≡◌, ◌+◌, ◌-◌, ◌*◌, ◌<◌, ◌≤◌, ◌^◌, ◌↔◌, ℕ, true, IfOk, IfErr, OnOk, OnErr};
 ghost use Rattle.std.specs.Option.{is_some};
 ghost use Rattle.capnp_model.specs.Segments.{word_at};
 ghost use Rattle.capnp_units.specs.Segments.{words_in};
 ghost use Rattle.capnp_wire.specs.Places.{place_view};
-ghost use Rattle.capnp_widening.specs.Widened.{WiderRoom, GrowthRefused};
+ghost use Rattle.capnp_widening.specs.Widened.{WiderRoom, TakesNear, GrowthRefused};
 
 use capnp_copy::arena::BuilderArena;
 use capnp_copy::room::Room;
@@ -26,6 +26,7 @@ pub fn allocate_wider<A: BuilderArena>(
     requires some { 0 < words }
     requires few { (words ≤ 2 ^ 29) × (pads ≤ 2 ^ 30) }
     ensures ok { IfOk result (λ r. WiderRoom (words_in (A.segments arena.old)) (words_in (A.segments arena.new)) (place_view slot) segment words pads r.0 r.1) }
+    ensures near { OnOk result (TakesNear (words_in (A.segments arena.old)) (A.room arena.old) (words_in (A.segments arena.new)) slot.segment segment words) }
     ensures refused { OnErr result (A.segments arena.new ≡ A.segments arena.old) }
     ensures kind { IfErr result (GrowthRefused (words_in (A.segments arena.old)) (1 + (words + pads))) }
     ensures books { A.books arena.new ≡ A.books arena.old }

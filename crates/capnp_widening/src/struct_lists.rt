@@ -1,5 +1,5 @@
 //! Lists that are got as lists of structs, and widened.
-ghost use Rattle.std.specs.Prelude.{◌≡◌, ◌+◌, ◌*◌, ◌<◌, ◌≤◌, ◌^◌, ◌↔◌, ℕ, true, Ok, IfOk, IfErr, OnErr};
+ghost use Rattle.std.specs.Prelude.{◌≡◌, ◌+◌, ◌*◌, ◌<◌, ◌≤◌, ◌^◌, ◌↔◌, ℕ, true, Ok, IfOk, IfErr, OnOk, OnErr};
 ghost use Rattle.std.specs.Option.{is_some};
 ghost use Rattle.capnp_model.specs.Segments.{words_at};
 ghost use Rattle.capnp_units.specs.Segments.{words_in};
@@ -9,8 +9,8 @@ ghost use Rattle.capnp_wire.specs.Places.{place_view};
 ghost use Rattle.capnp_copy.specs.Lists.{list_at};
 ghost use Rattle.capnp_copy.specs.Values.{LeadsTo};
 ghost use Rattle.capnp_widening.specs.MovedElements.{least_words, least_pointers, HasStructs};
-ghost use Rattle.capnp_widening.specs.Widened.{GrowthRefused};
-ghost use Rattle.capnp_widening.specs.WidenedLists.{list_there, WidensList, IsWideList, HasWideList, words_wanted, StructsGot, ListRefused};
+ghost use Rattle.capnp_widening.specs.Widened.{TakesNear, GrowthRefused};
+ghost use Rattle.capnp_widening.specs.WidenedLists.{list_there, WidensList, IsWideList, HasWideList, words_wanted, StructsGot, ListTakes, ListRefused};
 
 use crate::elements::fill_elements;
 use crate::lists::get_list;
@@ -85,6 +85,7 @@ fn widen_list<A: BuilderArena>(
     ensures object { IfOk result (λ o. LeadsTo (words_in (A.segments arena.new)) (place_view slot) (list_at o)) }
     ensures list { IfOk result (λ o. (o.size ≡ InlineComposite) × (o.count ≡ old.count) × (o.data_words ≡ size.data_words) × (o.pointers ≡ size.pointers)) }
     ensures there { IfOk result (HasStructs (words_in (A.segments arena.new))) }
+    ensures taken { OnOk result (TakesNear (words_in (A.segments arena.old)) (A.room arena.old) (words_in (A.segments arena.new)) slot.segment old.start.segment (1 + old.count * (size.data_words + size.pointers))) }
     ensures refused { OnErr result (A.segments arena.new ≡ A.segments arena.old) }
     ensures kind { IfErr result (GrowthRefused (words_in (A.segments arena.old)) (words_wanted old size.data_words size.pointers)) }
     ensures books { A.books arena.new ≡ A.books arena.old }
@@ -123,6 +124,7 @@ pub fn get_struct_list<A: BuilderArena>(
     requires near { slot.position < 2 ^ 61 }
     ensures value { IfOk result (λ o. WidensList (words_in (A.segments arena.old)) (words_in (A.segments arena.new)) (place_view slot) size.data_words size.pointers) }
     ensures list { IfOk result (StructsGot (words_in (A.segments arena.old)) (words_in (A.segments arena.new)) slot size.data_words size.pointers) }
+    ensures taken { OnOk result (ListTakes (words_in (A.segments arena.old)) (A.room arena.old) (words_in (A.segments arena.new)) slot size.data_words size.pointers) }
     ensures wide { HasWideList (words_in (A.segments arena.old)) slot size.data_words size.pointers → A.segments arena.new ≡ A.segments arena.old }
     ensures refused { OnErr result (A.segments arena.new ≡ A.segments arena.old) }
     ensures kind { IfErr result (ListRefused (words_in (A.segments arena.old)) (place_view slot) (list_there (words_in (A.segments arena.old)) slot) size.data_words size.pointers) }

@@ -1,4 +1,4 @@
-use Rattle.std.proofs.Common.{◌≡◌, max, Some, Ok, ap, ◌∙◌, rules, arith}
+use Rattle.std.proofs.Common.{◌≡◌, inl, inr, max, Some, Ok, ap, ◌∙◌, rules, arith}
 use Rattle.capnp_model.specs.Segments.{word_at}
 use Rattle.capnp_units.specs.Segments.{words_in}
 use Rattle.capnp_wire.specs.Places.{place_view}
@@ -6,7 +6,7 @@ use Rattle.capnp_widening.specs.Widened.{GrowthRefused}
 use Rattle.capnp_widening.specs.WidenedLists.{list_there, WidensList, IsWideList, words_wanted, ListRefused}
 use Rattle.capnp_widening.proofs.GotStructs.{ok_then, err_then}
 use Rattle.capnp_widening.proofs.KnownLists.{known, leads_unless_null, structs_unless_null, known_short}
-use Rattle.capnp_widening.proofs.WideLists.{null_stays, wide_list_stays, most_list_widens, null_got, null_of_structs, wide_got, new_got, refused_list}
+use Rattle.capnp_widening.proofs.WideLists.{null_stays, wide_list_stays, most_list_widens, null_got, null_of_structs, wide_got, new_got, refused_list, nothing_taken, list_takes, if_ok_then}
 use Rattle.capnp_widening.proofs.struct_lists.get_struct_list.Goals.{then-eq-via-then-eq, then-eq-via-else-eq+then-is_wide}
 use Rattle.capnp_widening.proofs.struct_lists.get_struct_list.Goals as goal
 
@@ -102,3 +102,31 @@ returns-clause-kind g c =
     let ed = c.max.ensures ∙ ap (max c.args.size.data_words) least.0 in
     let ek = c.max-2.ensures ∙ ap (max c.args.size.pointers) least.1 in
     err_then (GrowthRefused s (words_wanted old c.max.result c.max-2.result)) (ListRefused s p (list_there s c.args.slot) d k) (λ e h. refused_list s c.args.slot old d k c.max.result c.max-2.result e found some narrow ed ek h) c.widen_list.result c.widen_list.ensures.kind
+
+pub returns-then-eq-clause-taken : goal.returns-then-eq-clause-taken
+returns-then-eq-clause-taken g c =
+    let s = words_in (g.A.ReaderArena.segments c.args.arena.now) in
+    let free = g.A.BuilderArena.room c.args.arena.now in
+    let p = place_view c.args.slot in
+    let old = c.in_ok-old.old in
+    let d = c.args.size.data_words in
+    let k = c.args.size.pointers in
+    let found : list_there s c.args.slot ≡ Ok c.in_ok-old.old = search rules in
+    elim c.then-eq.branch [
+      | then-eq-via-then-eq w ↦ (let e : word_at s p ≡ Some 0 = search rules in nothing_taken s free c.args.slot d k (inl e))
+      | then-eq-via-else-eq+then-is_wide w ↦ (let wide : IsWideList c.in_ok-old.old c.args.size.data_words c.args.size.pointers = search rules in nothing_taken s free c.args.slot d k (inr (old, found, wide)))
+    ]
+
+pub returns-clause-taken : goal.returns-clause-taken
+returns-clause-taken g c =
+    let s = words_in (g.A.ReaderArena.segments c.args.arena.now) in
+    let u = words_in (g.A.ReaderArena.segments c.widen_list.new.arena) in
+    let free = g.A.BuilderArena.room c.args.arena.now in
+    let old = c.in_ok-old.old in
+    let d = c.args.size.data_words in
+    let k = c.args.size.pointers in
+    let found : list_there s c.args.slot ≡ Ok c.in_ok-old.old = search rules in
+    let least = c.element_size-least.ensures in
+    let ed = c.max.ensures ∙ ap (max c.args.size.data_words) least.0 in
+    let ek = c.max-2.ensures ∙ ap (max c.args.size.pointers) least.1 in
+    if_ok_then (list_takes s free u c.args.slot old d k c.max.result c.max-2.result found ed ek) c.widen_list.result c.widen_list.ensures.taken

@@ -8,14 +8,15 @@ use Rattle.capnp_units.specs.declared.sizes.ElementSize.TheVariants.{InlineCompo
 use Rattle.capnp_wire.specs.Places.{place_view}
 use Rattle.capnp_footprints.specs.NewObjects.{new_structs, Fits, pointed}
 use Rattle.capnp_footprints.specs.Writes.{with_words}
+use Rattle.capnp_copy.proofs.Taken.{linked_sizes}
 use Rattle.capnp_copy.specs.Rooms.{begin_of, linked}
 use Rattle.capnp_copy.specs.Values.{LeadsTo}
 use Rattle.capnp_widening.specs.MovedElements.{least_pointers}
-use Rattle.capnp_widening.specs.Widened.{WiderRoom, GrowthRefused}
+use Rattle.capnp_widening.specs.Widened.{WiderRoom, TakesNear, GrowthRefused}
 use Rattle.capnp_widening.proofs.Standing.{still_some, sizes_grow, sizes_total, written_sizes, part_there, front_there, has_word, pads_stay, pad_stays, still_linked, within_total}
 use Rattle.capnp_widening.proofs.KnownLists.{known, known_trees, known_list}
 use Rattle.capnp_widening.proofs.WiderRooms.{wider_addressed, wider_words, wider_extends, linked_leads}
-use Rattle.capnp_widening.proofs.WidenedLists.{list_widened, some_list}
+use Rattle.capnp_widening.proofs.WidenedLists.{list_widened, some_list, near_so}
 use Rattle.capnp_widening.proofs.struct_lists.widen_list.Goals as goal
 
 pub returns-in_err-room-clause-kind : goal.returns-in_err-room-clause-kind
@@ -278,3 +279,29 @@ returns-clause-there g c =
     let at = ap (λ (q : Place). q.position) c.begin_of.ensures in
     let all = within_total m b (1 + words) w.words_there in
     (subst (λ (q : Place). is_some (words_at u (after q 1) (c.args.old.count * (c.args.size.data_words + c.args.size.pointers))) ≡ true) (sym c.begin_of.ensures) (subst (λ (n : ℕ). is_some (words_at u (after b 1) n) ≡ true) count there), omega (arith, all, at, count, w.few))
+
+pub returns-clause-taken : goal.returns-clause-taken
+returns-clause-taken g c =
+    let s = words_in (g.A.ReaderArena.segments c.args.arena.now) in
+    let m = words_in (g.A.ReaderArena.segments c.allocate_wider.new.arena) in
+    let p = place_view c.args.slot in
+    let many = c.args.old.count * least_pointers c.args.old in
+    let segment = c.args.old.start.segment in
+    let words = c.in_ok-words.words in
+    let room = c.in_ok-room.room in
+    let pads = c.in_ok-room.pads in
+    let b = begin_of (place_view c.args.slot) c.in_ok-room.room in
+    let r : WiderRoom s m p segment (1 + c.in_ok-words.words) (2 * (c.args.old.count * least_pointers c.args.old)) room pads = subst (λ (j : ℕ). WiderRoom s m p segment (1 + c.in_ok-words.words) j room pads) c.in_ok-words.ensures.words.1 c.in_ok-room.ensures.ok in
+    let w = wider_words s m p segment (1 + words) many room pads (omega arith) r in
+    let grows = (wider_extends s m p segment (1 + words) (2 * many) room pads r).0 in
+    let x = words_in (g.A.ReaderArena.segments c.write_word.new.self) in
+    let tagged : map length x ≡ map length m = ap (λ (v : Segments). map length v) c.write_word.ensures.words ∙ written_sizes m (place_view c.begin_of.result) (c.tag_word.result ∷ []) in
+    let y = words_in (g.A.ReaderArena.segments c.fill_elements.new.arena) in
+    let z = words_in (g.A.ReaderArena.segments c.clear.new.arena) in
+    let sizes : map length z ≡ map length m = c.clear.ensures.sizes ∙ c.fill_elements.ensures.sizes ∙ tagged in
+    let u = words_in (g.A.ReaderArena.segments c.link.new.arena) in
+    let links : u ≡ linked z p room (list_pointer 0 7 c.in_ok-words.words) = c.link.ensures.words ∙ ap (linked z (place_view c.args.slot) c.in_ok-room.room) c.list_word.ensures.word in
+    let free = g.A.BuilderArena.room c.args.arena.now in
+    let same : map length u ≡ map length m = ap (λ (v : Segments). map length v) c.link.ensures.words ∙ (linked_sizes z p room c.list_word.result ∙ sizes) in
+    let all = near_so s free m u c.args.slot.segment segment (1 + words) same c.in_ok-room.ensures.near in
+    subst (λ (k : ℕ). TakesNear s free u c.args.slot.segment segment (1 + k)) c.in_ok-words.ensures.words.0 all
