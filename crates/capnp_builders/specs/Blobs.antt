@@ -1,10 +1,11 @@
 -- Texts and data that are got. (Encoding, "Blobs")
-use Rattle.std.specs.Prelude.{◌≡◌, ◌⊎◌, ⊤, ℕ, ◌+◌, ◌-◌, ◌*◌, ◌==◌, nat_lt, ◌&&◌, Bool, List, Option, Some, None, Result, Ok, Err, unwrap_or}
+use Rattle.std.specs.Prelude.{◌≡◌, ◌⊎◌, ⊤, ℕ, ◌+◌, ◌-◌, ◌*◌, ◌^◌, ◌<◌, ◌==◌, nat_lt, ◌&&◌, Bool, List, Option, Some, None, Result, Ok, Err, unwrap_or}
 use Rattle.capnp_model.specs.Kinds.{Kind, WrongElementSize, WrongPointerKind, TextWithoutZeroByte}
 use Rattle.capnp_model.specs.Chains.{◌and_then◌, guard}
 use Rattle.capnp_model.specs.Sections.{words_for, bits_at}
 use Rattle.capnp_model.specs.Segments.{Segments, Place, word_at}
 use Rattle.capnp_model.specs.Pointers.{a_list}
+use Rattle.capnp_model.specs.Trees.{plain_list}
 use Rattle.capnp_units.specs.declared.errors.Error.{Error}
 use Rattle.capnp_units.specs.declared.sizes.ElementSize.TheVariants.{Byte}
 use Rattle.capnp_units.specs.Errors.{kind_of}
@@ -15,7 +16,7 @@ use Rattle.capnp_object.specs.Objects.{object_at}
 use Rattle.capnp_wire.specs.Places.{place_view}
 use Rattle.capnp_wire.specs.Views.{section_at}
 use Rattle.capnp_copy.specs.declared.bytes.BlobPlace.{BlobPlace}
-use Rattle.capnp_copy.specs.Values.{LeadsTo}
+use Rattle.capnp_copy.specs.Values.{Becomes, LeadsTo}
 use Rattle.capnp_builders.specs.Gets.{Begins, Gets}
 
 -- The bytes of a list of bytes that an object is, none of null.
@@ -63,7 +64,16 @@ pub record BlobGot (named : Segments → code.Place → Result BlobPlace Kind) (
 abbrev pub NoBlobGot : (Segments → code.Place → Result BlobPlace Kind) → Option (List (List ℕ)) → Segments → Segments → code.Place → Error → Type 0
 NoBlobGot named default s u slot e = Begins default s u (place_view slot) (Err e) ⊎ (Begins default s u (place_view slot) (Ok tt) × (named u slot ≡ Err (kind_of e.kind)))
 
+-- A list of so many zero bytes is made in place of the value, and the answered place is where the pointer leads.
+pub record BytesMade (s u : Segments) (slot : code.Place) (n : ℕ) (start : code.Place) : Type 0 where
+  pub value : Becomes s u (place_view slot) (plain_list 2 n 0)
+  pub object : LeadsTo u (place_view slot) (a_list (place_view start) 2 n)
+  pub near : start.position < 2 ^ 61
+
 -- data
+abbrev pub DataMade : Segments → Segments → code.Place → ℕ → BlobPlace → Type 0
+DataMade s u slot n o = BytesMade s u slot n o.start × (o.count ≡ n)
+
 abbrev pub DataGot : Option (List (List ℕ)) → Segments → Segments → code.Place → BlobPlace → Type 0
 DataGot = BlobGot data_named (λ n. n)
 
@@ -71,6 +81,9 @@ abbrev pub NoDataGot : Option (List (List ℕ)) → Segments → Segments → co
 NoDataGot = NoBlobGot data_named
 
 -- a text, with its zero byte behind it
+abbrev pub TextMade : Segments → Segments → code.Place → ℕ → BlobPlace → Type 0
+TextMade s u slot n o = BytesMade s u slot (n + 1) o.start × (o.count ≡ n)
+
 abbrev pub TextGot : Option (List (List ℕ)) → Segments → Segments → code.Place → BlobPlace → Type 0
 TextGot = BlobGot text_named (λ n. n + 1)
 

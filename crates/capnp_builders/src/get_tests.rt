@@ -56,7 +56,7 @@ fn sized(data_words: u16, pointers: u16) -> Asked {
 }
 
 /// The words of a segment.
-fn words_of<A: ReaderArena>(alloc: Global, arena: &A, segment: u32) -> Result<Vec<u64>> {
+pub(crate) fn words_of<A: ReaderArena>(alloc: Global, arena: &A, segment: u32) -> Result<Vec<u64>> {
     let mut words = Vec::new(alloc);
     for position in 0..64 {
         if let Some(word) = word_at(arena, Place { segment, position }) {
@@ -67,7 +67,7 @@ fn words_of<A: ReaderArena>(alloc: Global, arena: &A, segment: u32) -> Result<Ve
 }
 
 /// Writes these words into the first segment.
-fn put_words<A: BuilderArena>(arena: &mut A, words: &[u64])
+pub(crate) fn put_words<A: BuilderArena>(arena: &mut A, words: &[u64])
     ensures { A.books arena.new ≡ A.books arena.old }
 {
     for (position, word) in words.iter().enumerate() {

@@ -41,8 +41,8 @@ pub(crate) fn begin<A: BuilderArena>(
     }
 }
 
-/// The struct at a place, with a default in place of null.
-fn struct_here<A: BuilderArena>(
+/// The struct that the pointer at a place names, with at least these sections, as `PointerBuilder::get_struct` gives it; for callers' types that are built over structs.
+pub fn struct_or_default<A: BuilderArena>(
     arena: &mut A,
     slot: Place,
     size: StructSize,
@@ -117,7 +117,7 @@ impl<'a, A: BuilderArena> PointerBuilder<'a, A> {
             × (A.books n.arena ≡ A.books self.entry.memory.now.arena))) }
     {
         let PointerBuilder { memory, place } = self;
-        let place = struct_here(&mut memory.arena, place, size, default)?;
+        let place = struct_or_default(&mut memory.arena, place, size, default)?;
         Ok(StructBuilder { memory, place })
     }
 

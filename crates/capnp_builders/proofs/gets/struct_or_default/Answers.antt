@@ -9,7 +9,7 @@ use Rattle.capnp_copy.specs.declared.fields.StructPlace.{StructPlace}
 use Rattle.capnp_widening.specs.Widened.{Widens, IsWide}
 use Rattle.capnp_builders.specs.Gets.{Begins, StructGot}
 use Rattle.capnp_builders.proofs.Begun.{Laws, widened_then, wide_stays}
-use Rattle.capnp_builders.proofs.gets.struct_here.Goals as goal
+use Rattle.capnp_builders.proofs.gets.struct_or_default.Goals as goal
 
 got_by : {E : Type 0} (l : Laws) (default : Option (List (List ℕ))) (s m u : Segments) (p : Place) (size : StructSize) → Begins default s m p (Ok tt) → (IsWide m p size.data_words size.pointers → u ≡ m) → (r : Result StructPlace E) → IfOk r (λ o. Widens m u p size.data_words size.pointers) → IfOk r (λ o. LeadsTo u p (struct_at o)) → IfOk r (λ o. (size.data_words ≤ o.data_words) × (size.pointers ≤ o.pointers)) → IfOk r (StructGot default s u p size)
 got_by l default s m u p size b stays (Err e) w o z = tt
