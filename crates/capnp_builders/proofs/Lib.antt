@@ -1,3 +1,4 @@
 pub mod Begun
 pub mod BlobEnds
 pub mod BlobsBegun
+pub mod Charging

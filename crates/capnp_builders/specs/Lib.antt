@@ -4,3 +4,4 @@ pub mod Gets
 pub mod Lending
 pub mod Inputs
 pub mod Blobs
+pub mod Copied

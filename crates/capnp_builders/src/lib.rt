@@ -6,6 +6,9 @@ mod blob_tests;
 mod blobs;
 #[cfg(test)]
 mod build_tests;
+mod copies;
+#[cfg(test)]
+mod copy_tests;
 pub mod data_builder;
 #[cfg(test)]
 mod data_tests;

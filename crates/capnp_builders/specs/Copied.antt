@@ -1,0 +1,74 @@
+-- Copies of what readers stand at.
+use Rattle.std.specs.Prelude.{◌≡◌, ⊤, ℕ, Bool, true, false, List, None, MatchOption, map, length, Result, Ok, Err}
+use Rattle.capnp_model.specs.Sections.{words_for}
+use Rattle.capnp_model.specs.Segments.{Segments, Place}
+use Rattle.capnp_units.specs.declared.errors.Error.{Error}
+use Rattle.capnp_units.specs.declared.kinds.ErrorKind.TheVariants.{NestingLimitExceeded}
+use Rattle.capnp_units.specs.declared.limiter.ReadLimiter.{ReadLimiter}
+use Rattle.capnp_units.specs.Limits.{limit_of}
+use Rattle.capnp_object.specs.Places.{place_view}
+use Rattle.capnp_wire.specs.Views.{PointerView, StructView, ListView}
+use Rattle.capnp_copy.specs.Clearing.{ClearsValue}
+use Rattle.capnp_copy.specs.declared.fields.StructPlace.{StructPlace}
+use Rattle.capnp_copy_from.specs.declared.lists.ListSource.{ListSource}
+use Rattle.capnp_copy_from.specs.Copies.{CopiesValue, CopiesStruct, StructSource}
+use Rattle.capnp_copy_from.specs.Contents.{CopiesContent}
+use Rattle.capnp_copy_from.specs.Lists.{CopiesList, listed_section}
+
+-- What is done under a limit of words, by what it answers and what it took.
+abbrev pub Walk : Type 1
+Walk = ReadLimiter → Result ⊤ Error → ReadLimiter → Type 0
+
+-- A walk over what is paid for is under this limit; one over a default is under none, and takes nothing.
+abbrev pub Charged : Bool → Walk → Walk
+Charged true W old result new = W old result new
+Charged false W old result new = (l m : ReadLimiter) × (limit_of l ≡ None) × W l result m × (new ≡ old)
+
+-- Nothing has levels: every copy is refused, and all stands.
+abbrev pub WithoutLevels : Segments → Segments → Walk
+WithoutLevels s u old result new = (result ≡ Err (record { kind = NestingLimitExceeded })) × (u ≡ s) × (new ≡ old)
+
+-- The value becomes null; nothing is read.
+abbrev pub BecomesNull : Segments → Segments → Place → Walk
+BecomesNull s u p old result new = (result ≡ Ok tt) × (new ≡ old) × (map length u ≡ map length s) × ClearsValue s u p
+
+-- A copy of a pointer's value that is read is put in place of the value at p; a pointer that stands nowhere is null.
+abbrev pub CopiesPointer : PointerView → Segments → Segments → Place → Walk
+CopiesPointer v s u p old result new =
+    MatchOption v.levels (WithoutLevels s u old result new) (λ n.
+    MatchOption v.place (BecomesNull s u p old result new) (λ q.
+    Charged v.basis.paid (CopiesValue n v.basis.segments q s u p) old result new))
+
+-- The parts of a struct that is read.
+pub record IsSourceOf (v : StructView) (x : StructSource) : Type 0 where
+  pub section : x.section ≡ v.section
+  pub data_words : x.data_words ≡ words_for v.bits
+  pub first : place_view x.first ≡ v.first
+  pub pointers : x.pointers ≡ v.pointers
+
+-- A copy of a struct that is read is put in place of the value at p.
+abbrev pub SetsStruct : StructView → Segments → Segments → Place → Walk
+SetsStruct v s u p old result new =
+    MatchOption v.levels (WithoutLevels s u old result new) (λ n.
+    Charged v.basis.paid (λ l r m. (x : StructSource) × IsSourceOf v x × CopiesStruct n v.basis.segments x s u p l r m) old result new)
+
+-- A struct takes over the content of one that is read.
+abbrev pub TakesOver : StructView → Segments → Segments → StructPlace → Walk
+TakesOver v s u o old result new =
+    MatchOption v.levels (WithoutLevels s u old result new) (λ n.
+    Charged v.basis.paid (λ l r m. (x : StructSource) × IsSourceOf v x × CopiesContent n v.basis.segments x s u o l r m) old result new)
+
+-- The parts of a list that is read.
+pub record IsListOf (v : ListView) (x : ListSource) (bytes : List ℕ) : Type 0 where
+  pub size : x.size ≡ v.size
+  pub count : x.count ≡ v.count
+  pub data_words : x.data_words ≡ v.data_words
+  pub pointers : x.pointers ≡ v.pointers
+  pub start : place_view x.start ≡ v.start
+  pub section : listed_section x bytes ≡ v.section
+
+-- A copy of a list that is read is put in place of the value at p.
+abbrev pub SetsList : ListView → Segments → Segments → Place → Walk
+SetsList v s u p old result new =
+    MatchOption v.levels (WithoutLevels s u old result new) (λ n.
+    Charged v.basis.paid (λ l r m. (x : ListSource) × (bytes : List ℕ) × IsListOf v x bytes × CopiesList n v.basis.segments x bytes s u p l r m) old result new)
