@@ -1,5 +1,5 @@
 -- Messages that are made of words, and their roots.
-use Rattle.std.proofs.Common.{◌≡◌, ◌≢◌, ◌↔◌, ◌⊎◌, inl, inr, refl, ℕ, zero, suc, ◌+◌, ◌*◌, ◌/◌, ◌<◌, ◌≤◌, ◌^◌, Bool, true, List, [], ◌∷◌, ◌++◌, length, map, get_or, take, drop, replicate, Option, Some, None, Result, Ok, Err, Vec, ap, sym, ◌∙◌, arith, leb}
+use Rattle.std.proofs.Common.{◌≡◌, ◌≢◌, ◌↔◌, ◌⊎◌, inl, inr, refl, ℕ, zero, suc, ◌+◌, ◌*◌, ◌/◌, ◌<◌, ◌≤◌, ◌^◌, Bool, true, false, List, [], ◌∷◌, ◌++◌, length, map, get_or, take, drop, replicate, Option, Some, None, Result, Ok, Err, Vec, ap, sym, ◌∙◌, arith, leb}
 use Rattle.std.specs.Bool.{⊤}
 use Rattle.std.specs.declared.alloc.Global.{Global}
 use Rattle.std.specs.List.{flat_map}
@@ -22,6 +22,7 @@ use Rattle.capnp_footprints.proofs.Splices.{spliced_whole}
 use Rattle.capnp_copy.specs.Allocations.{Allocates, total_words}
 use Rattle.capnp_copy.specs.Values.{Becomes}
 use Rattle.capnp_message.specs.Canonical.{GivesCanonical, SetsCanonical}
+use Rattle.capnp_message.specs.Built.{rooted}
 
 pub on_ok : {X Y : Type 0} (r : Result X Y) {P Q : Type 0} → OnOk r P → (P → Q) → OnOk r Q
 on_ok (Ok x) p f = f p
@@ -66,6 +67,7 @@ first_there s u i at n k e a same =
   where
     provided_true : (x : List ℕ) (b : Bool) → b ≡ true → is_some (x provided b) ≡ true
     provided_true x b h = rw h refl
+
     there : (j b : ℕ) (v : Segments) → j ≡ 0 → b ≡ 0 → v ≡ replicate n zero_word ∷ [] → is_some (words_at v (place j b) k) ≡ true
     there j b v x y z =
         let long : length (replicate n zero_word) ≡ n = length-replicate n zero_word in
@@ -97,3 +99,20 @@ set_canonical (Some n) limit s u old new v ws (Err e) g is done none kind =
     let few = g.few in
     let long = length-map v.items (from_le_bytes w64) in
     (none, inr (n, words_view v.items, refl, g, λ q. let more = kind.0 q in absurd (omega (arith, few, long, more, ap length is))))
+
+-- ---- where no root is
+
+-- no segment is the first
+pub no_first : (s : Segments) (b : Bool) → is_some (words_at s root 0) ≡ b → b ≡ false → s ≡ []
+no_first [] b e f = refl
+no_first (x ∷ s) b e f =
+    let empty : leb 0 (length x) ≡ true = le-leb 0 (length x) (omega arith) in
+    let there : is_some (words_at (x ∷ s) root 0) ≡ true = rw empty refl in
+    let wrong : true ≡ false = sym there ∙ e ∙ f in
+    absurd cc
+
+pub rooted_none : (s u : Segments) → s ≡ [] → u ≡ (0 ∷ []) ∷ [] → u ≡ rooted s
+rooted_none s u e f = rw e f
+
+pub root_there : (u : Segments) → u ≡ (0 ∷ []) ∷ [] → is_some (words_at u root 1) ≡ true
+root_there u f = rw f refl

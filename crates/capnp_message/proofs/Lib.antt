@@ -3,3 +3,4 @@ pub mod Held
 pub mod Rooms
 pub mod Owning
 pub mod Building
+pub mod NullRoot

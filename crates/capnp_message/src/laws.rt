@@ -1,7 +1,11 @@
 //! What holds of all messages.
-ghost use Rattle.std.specs.Prelude.{◌<◌, length};
+ghost use Rattle.std.specs.Prelude.{ℕ, suc, ◌<◌, [], length};
+ghost use Rattle.capnp_model.specs.Segments.{Segments, root};
+ghost use Rattle.capnp_model.specs.Trees.{Tree, null};
+ghost use Rattle.capnp_footprints.specs.Footprints.{Owns};
+ghost use Rattle.capnp_copy.specs.Values.{Becomes};
 ghost use Rattle.capnp_stream.specs.Writing.{AreWritable};
-ghost use Rattle.capnp_message.specs.Built.{used_bytes};
+ghost use Rattle.capnp_message.specs.Built.{used_bytes, rooted};
 
 use crate::builder::Builder;
 use capnp_copy::allocator::{Allocator, SegmentBytes};
@@ -11,4 +15,11 @@ pub fn built_segments_can_be_written<A: Allocator>(message: &Builder<A>)
     requires { 0 < length message.now.memory.arena.segments.items }
     ensures { AreWritable (used_bytes (λ h. h.used) (λ h. A.Segment.bytes h.segment)
         message.now.memory.arena.segments.items) }
+{}
+
+/// The root of a message that is built: where no segment was, it is null, and once it is set it is the value that it was set to; no word of it is taken twice.
+pub fn roots_that_are_built()
+    ensures null { (n : ℕ) → Owns n (rooted []) root null }
+    ensures set { (n : ℕ) (s u : Segments) (t v : Tree) → Owns n s root t
+        → Becomes s u root v → Owns (suc n) u root v }
 {}

@@ -18,6 +18,8 @@ mod packed_tests;
 pub mod reader;
 #[cfg(test)]
 mod reader_tests;
+#[cfg(test)]
+mod root_tests;
 pub mod roots;
 pub mod scratch;
 pub mod segment;

@@ -1,6 +1,10 @@
 //! Roots of messages that are built.
-ghost use Rattle.std.specs.Prelude.{◌≡◌, ◌≢◌, ◌^◌, ◌<◌, ◌++◌, ◌∷◌, [], true, pos, length, IfErr, OnOk, OnErr};
+ghost use Rattle.std.specs.Prelude.{◌≡◌, ◌≢◌, ◌^◌, ◌<◌, ◌++◌, ◌∷◌, [], true, pos, length, IfOk, IfErr, OnOk, OnErr};
+ghost use Rattle.std.specs.Borrow.{sem, RestsIfErr};
+ghost use Rattle.capnp_units.specs.Segments.{words_in};
+ghost use Rattle.capnp_copy.specs.contracts.arena.Memory.{the_row};
 ghost use Rattle.std.specs.List.{flat_map};
+ghost use Rattle.capnp_wire.specs.Places.{place_view};
 ghost use Rattle.std.specs.Option.{is_some};
 ghost use Rattle.capnp_model.specs.Segments.{root, words_at};
 ghost use Rattle.capnp_units.specs.declared.kinds.ErrorKind.TheVariants.{SizeOverflow};
@@ -18,12 +22,13 @@ use crate::reader::Reader;
 use capnp_builders::pointer_builder::PointerBuilder;
 use capnp_builders::traits::SetterInput;
 use capnp_copy::allocator::{Allocator, SegmentBytes};
+use capnp_copy::arena::{BuilderArena, Memory};
 use capnp_copy::segments::BuilderArenaImpl;
 use capnp_units::errors::{Error, Result};
 use capnp_units::kinds::ErrorKind;
 use capnp_units::limiter::ReadLimiter;
-use capnp_wire::pointer::PointerReader;
 use capnp_wire::place::has_words;
+use capnp_wire::pointer::PointerReader;
 use capnp_wire::traits::FromPointerReader;
 
 /// What is built was made here: no limit of words, and as many levels as there can be.
@@ -32,32 +37,53 @@ const BOUNDLESS: ReaderOptions = ReaderOptions {
     nesting_limit: i32::MAX,
 };
 
-impl<A: Allocator> Builder<A> {
-    /// Makes the root pointer where the message has no segment yet, and looks that its word is there.
-    fn begin(&mut self) -> Result<()>
-        ensures rooted { OnOk result (used_words (λ h. h.used) (λ h. A.Segment.bytes h.segment)
-            self.new.memory.arena.segments.items ≡ rooted (used_words (λ h. h.used)
-            (λ h. A.Segment.bytes h.segment) self.old.memory.arena.segments.items)) }
-        ensures there { OnOk result (is_some (words_at (used_words (λ h. h.used)
-            (λ h. A.Segment.bytes h.segment) self.new.memory.arena.segments.items) root 1) ≡ true) }
-        ensures refused { OnErr result (used_words (λ h. h.used) (λ h. A.Segment.bytes h.segment)
-            self.new.memory.arena.segments.items ≡ used_words (λ h. h.used)
-            (λ h. A.Segment.bytes h.segment) self.old.memory.arena.segments.items) }
-        ensures kind { IfErr result (λ e. e.kind ≢ SizeOverflow) }
-        ensures place { A.place self.new.memory.arena.allocator
-            ≡ A.place self.old.memory.arena.allocator }
-        ensures loans { flat_map (λ h. A.Segment.loans h.segment) self.new.memory.arena.segments.items
-            ++ A.loans self.new.memory.arena.allocator
-            ≡ flat_map (λ h. A.Segment.loans h.segment) self.old.memory.arena.segments.items
-            ++ A.loans self.old.memory.arena.allocator }
-    {
-        self.allocate_root()?;
-        if !has_words(&self.memory.arena, ROOT, 1) {
-            return Err(Error::from(ErrorKind::OutOfBounds));
-        }
-        Ok(())
+/// Makes the root pointer where an arena has no segment yet, and looks that its word is there.
+fn begin<A: BuilderArena>(arena: &mut A) -> Result<()>
+    ensures rooted { OnOk result (words_in (A.segments arena.new)
+        ≡ rooted (words_in (A.segments arena.old))) }
+    ensures there { OnOk result
+        (is_some (words_at (words_in (A.segments arena.new)) root 1) ≡ true) }
+    ensures refused { OnErr result (A.segments arena.new ≡ A.segments arena.old) }
+    ensures kind { IfErr result (λ e. e.kind ≢ SizeOverflow) }
+    ensures books { A.books arena.new ≡ A.books arena.old }
+{
+    if has_words(arena, ROOT, 1) {
+        return Ok(());
     }
+    if has_words(arena, ROOT, 0) {
+        return Err(Error::from(ErrorKind::OutOfBounds));
+    }
+    match arena.allocate_anywhere(1) {
+        Ok(_) => Ok(()),
+        Err(e) => Err(e),
+    }
+}
 
+/// The root pointer of a message that is built in an arena, to write; it is made, as null, where there is no segment yet.
+///
+/// It is refused as the allocator refuses, or with `OutOfBounds` where the first segment was allocated by hand and has no word; then all stands as it was.
+pub fn root_of<A: BuilderArena>(memory: &mut Memory<A>) -> Result<PointerBuilder<'_, A>>
+    ensures same { IfOk result (λ p. p.memory.ghost_name ≡ memory.entry.ghost_name) }
+    ensures place { IfOk result (λ p. place_view p.place ≡ root) }
+    ensures rooted { IfOk result (λ p. words_in (A.segments p.memory.now.arena)
+        ≡ rooted (words_in (A.segments memory.entry.now.arena))) }
+    ensures there { IfOk result (λ p.
+        is_some (words_at (words_in (A.segments p.memory.now.arena)) root 1) ≡ true) }
+    ensures books { IfOk result (λ p. A.books p.memory.now.arena
+        ≡ A.books memory.entry.now.arena) }
+    ensures kind { IfErr result (λ e. e.kind ≢ SizeOverflow) }
+    ensures* refused { sem 𝓛 (RestsIfErr (the_row A.row) memory.entry
+        (λ p. p.memory.ghost_name) result (λ n. (A.segments n.arena
+        ≡ A.segments memory.entry.now.arena) × (A.books n.arena ≡ A.books memory.entry.now.arena))) }
+{
+    begin(&mut memory.arena)?;
+    Ok(PointerBuilder {
+        memory,
+        place: ROOT,
+    })
+}
+
+impl<A: Allocator> Builder<A> {
     /// Sets the root to a value, in place of the one that it had, which is cleared. Texts and data are copied.
     ///
     /// It is refused with `SizeOverflow` only where the value is too large for the message, else as the allocator refuses; or with `OutOfBounds` where the first segment was allocated by hand and has no word. Then all stands as it was, but that a root that is null may have been made.
@@ -80,7 +106,7 @@ impl<A: Allocator> Builder<A> {
             ≡ flat_map (λ h. A.Segment.loans h.segment) self.old.memory.arena.segments.items
             ++ A.loans self.old.memory.arena.allocator }
     {
-        self.begin()?;
+        begin(&mut self.memory.arena)?;
         let pointer = PointerBuilder::get_root(&mut self.memory);
         V::set_pointer_builder(pointer, value, false)
     }
