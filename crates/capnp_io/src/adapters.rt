@@ -109,6 +109,13 @@ impl<S: io::Read> Source<S> {
         })
     }
 
+    /// How many bytes were read and are not yet taken. Where there are none the next read asks the reader, and may wait.
+    pub fn buffered(&self) -> usize
+        ensures { result ≡ length (window_bytes self.now.window) }
+    {
+        self.window.as_slice().len()
+    }
+
     /// Asks the reader for more where all that it gave is taken. At the end of input nothing comes.
     fn refill(&mut self) -> Result<()>
         ensures kept { Keeps (source_remaining S.remaining self.old)

@@ -5,3 +5,4 @@ pub mod Whole
 pub mod Opening
 pub mod Sizes
 pub mod Reading
+pub mod PauseLemmas

@@ -6,3 +6,4 @@ pub mod Run
 pub mod Messages
 pub mod Options
 pub mod Relaying
+pub mod Pauses

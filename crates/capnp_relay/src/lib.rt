@@ -8,6 +8,7 @@ pub mod laws;
 mod logging;
 mod message;
 pub mod options;
+pub mod pauses;
 pub mod relay;
 #[cfg(test)]
 mod rows;

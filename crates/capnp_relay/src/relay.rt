@@ -3,11 +3,13 @@ ghost use Rattle.std.specs.Prelude.{◌≡◌, ◌+◌, ◌*◌, length, replica
 ghost use Rattle.capnp_calls.specs.Taken.{IsRoot};
 ghost use Rattle.capnp_relay.specs.Streams.{source_seen, sink_seen, streams};
 ghost use Rattle.capnp_relay.specs.Run.{Relays};
+ghost use Rattle.capnp_relay.specs.Pauses.{RelaysPausing};
 ghost use Rattle.capnp_relay.specs.Relaying.{relay_work};
 
 use crate::at_root::CallsAtRoot;
 use crate::ends::{Counts, RelayFault};
 use crate::options::{Form, RelayOptions};
+use crate::pauses::{NoPause, Pause};
 use crate::run::answer_all;
 use capnp_calls::Call;
 use capnp_packing::form::Packed;
@@ -40,6 +42,30 @@ pub fn relay<R: BufRead, W: Write, L: Write>(
         (sink_seen W.contents W.failures W.room out.new) (sink_seen L.contents L.failures L.room log.new)) result }
     ensures zeros { region.new ≡ replicate (length region.old) 0 }
 {
+    relay_pausing::<R, W, L, NoPause>(alloc, source, out, log, root, calls, options, region)
+}
+
+/// As `relay`, with a pause before each message is read. A fault of a pause ends the run as `Out` or `Log`: the messages before it
+/// are answered whole.
+pub fn relay_pausing<R: BufRead, W: Write, L: Write, P: Pause<R, W, L>>(
+    alloc: Global,
+    source: &mut R,
+    out: &mut W,
+    log: &mut L,
+    root: StructSchema<'_>,
+    calls: &[Call],
+    options: RelayOptions,
+    region: &mut [u8],
+) -> Result<Counts, RelayFault>
+    requires region { length region.old ≡ 8 * (options.bounds.words + 1) }
+    requires root { IsRoot root }
+    ensures run { RelaysPausing P.may_fail (relay_work root.entry calls.now options W.may_grow L.may_grow)
+        (streams (source_seen R.remaining R.failures source.old)
+        (sink_seen W.contents W.failures W.room out.old) (sink_seen L.contents L.failures L.room log.old))
+        (streams (source_seen R.remaining R.failures source.new)
+        (sink_seen W.contents W.failures W.room out.new) (sink_seen L.contents L.failures L.room log.new)) result }
+    ensures zeros { region.new ≡ replicate (length region.old) 0 }
+{
     region.fill(0);
     let limit = options.bounds.words as usize;
     let answers = CallsAtRoot {
@@ -49,22 +75,22 @@ pub fn relay<R: BufRead, W: Write, L: Write>(
     };
     match (options.input, options.output) {
         (Form::Framed, Form::Framed) => {
-            answer_all::<Framed, Framed, R, W, L, CallsAtRoot<'_>>(
+            answer_all::<Framed, Framed, R, W, L, CallsAtRoot<'_>, P>(
                 alloc, source, out, log, &answers, limit,
             )
         }
         (Form::Framed, Form::Packed) => {
-            answer_all::<Framed, Packed, R, W, L, CallsAtRoot<'_>>(
+            answer_all::<Framed, Packed, R, W, L, CallsAtRoot<'_>, P>(
                 alloc, source, out, log, &answers, limit,
             )
         }
         (Form::Packed, Form::Framed) => {
-            answer_all::<Packed, Framed, R, W, L, CallsAtRoot<'_>>(
+            answer_all::<Packed, Framed, R, W, L, CallsAtRoot<'_>, P>(
                 alloc, source, out, log, &answers, limit,
             )
         }
         (Form::Packed, Form::Packed) => {
-            answer_all::<Packed, Packed, R, W, L, CallsAtRoot<'_>>(
+            answer_all::<Packed, Packed, R, W, L, CallsAtRoot<'_>, P>(
                 alloc, source, out, log, &answers, limit,
             )
         }

@@ -2,16 +2,18 @@
 ghost use Rattle.std.specs.Prelude.{Some};
 ghost use Rattle.capnp_relay.specs.Streams.{source_seen, sink_seen, streams};
 ghost use Rattle.capnp_relay.specs.Work.{work};
-ghost use Rattle.capnp_relay.specs.Run.{Relays};
+ghost use Rattle.capnp_relay.specs.Pauses.{RelaysPausing};
 
 use crate::answers::Answers;
 use crate::ends::{Counts, RelayFault};
+use crate::pauses::Pause;
 use crate::step::step;
 use capnp_stream::forms::MessageForm;
 use capnp_stream::traits::{BufRead, Read, Write};
 use std::alloc::Global;
 
 /// Answers each message of the source in turn, in one form: a message in the other for each written answer, and a line for each.
+/// Before each read there is a pause.
 pub(crate) fn answer_all<
     I: MessageForm,
     O: MessageForm,
@@ -19,6 +21,7 @@ pub(crate) fn answer_all<
     W: Write,
     L: Write,
     A: Answers,
+    P: Pause<R, W, L>,
 >(
     alloc: Global,
     source: &mut R,
@@ -27,7 +30,7 @@ pub(crate) fn answer_all<
     answers: &A,
     limit: usize,
 ) -> Result<Counts, RelayFault>
-    ensures { Relays (work I.reader O.writer (Some limit)
+    ensures { RelaysPausing P.may_fail (work I.reader O.writer (Some limit)
         (A.is_answer answers.now) (A.is_too_large answers.now) W.may_grow L.may_grow)
         (streams (source_seen R.remaining R.failures source.old)
         (sink_seen W.contents W.failures W.room out.old) (sink_seen L.contents L.failures L.room log.old))
@@ -40,6 +43,10 @@ pub(crate) fn answer_all<
     };
     let mut answered: u64 = 0;
     loop {
+        match P::pause(source, out, log) {
+            Ok(()) => {}
+            Err(fault) => return Err(RelayFault { fault, counts }),
+        }
         match step::<I, O, R, W, L, A>(
             alloc,
             source,

@@ -1,13 +1,10 @@
+use Rattle.capnp_relay.specs.Streams.{source_seen, sink_seen, streams}
+use Rattle.capnp_relay.specs.Relaying.{relay_work}
+use Rattle.capnp_relay.proofs.PauseLemmas.{never_pausing}
 use Rattle.capnp_relay.proofs.relay.relay.Goals as goal
 
-pub returns-in-Framed-Framed-clause-run : goal.returns-in-Framed-Framed-clause-run
-returns-in-Framed-Framed-clause-run g c = rw (c.in-Framed-Framed.is-0, c.in-Framed-Framed.is-1) c.answer_all.ensures
-
-pub returns-in-Framed-Packed-clause-run : goal.returns-in-Framed-Packed-clause-run
-returns-in-Framed-Packed-clause-run g c = rw (c.in-Framed-Packed.is-0, c.in-Framed-Packed.is-1) c.answer_all-in-Framed-Packed.ensures
-
-pub returns-in-Packed-Framed-clause-run : goal.returns-in-Packed-Framed-clause-run
-returns-in-Packed-Framed-clause-run g c = rw (c.in-Packed-Framed.is-0, c.in-Packed-Framed.is-1) c.answer_all-in-Packed-Framed.ensures
-
-pub returns-in-Packed-Packed-clause-run : goal.returns-in-Packed-Packed-clause-run
-returns-in-Packed-Packed-clause-run g c = rw (c.in-Packed-Packed.is-0, c.in-Packed-Packed.is-1) c.answer_all-in-Packed-Packed.ensures
+pub returns-clause-run : goal.returns-clause-run
+returns-clause-run g c =
+    let old = streams (source_seen g.R.Read.remaining g.R.Read.failures c.args.source.now) (sink_seen g.W.Write.contents g.W.Write.failures g.W.Write.room c.args.out.now) (sink_seen g.L.Write.contents g.L.Write.failures g.L.Write.room c.args.log.now) in
+    let new = streams (source_seen g.R.Read.remaining g.R.Read.failures c.relay_pausing.new.source) (sink_seen g.W.Write.contents g.W.Write.failures g.W.Write.room c.relay_pausing.new.out) (sink_seen g.L.Write.contents g.L.Write.failures g.L.Write.room c.relay_pausing.new.log) in
+    never_pausing (relay_work c.args.root c.args.calls.now c.args.options g.W.Write.may_grow g.L.Write.may_grow) old new c.relay_pausing.result c.relay_pausing.ensures.run

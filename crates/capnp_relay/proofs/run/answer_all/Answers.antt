@@ -1,24 +1,44 @@
-use Rattle.std.proofs.Common.{◌+◌, ◌∷◌, [], ◌++◌, Ok, refl, ap, arith, length-append}
+use Rattle.std.proofs.Common.{ℕ, ◌+◌, ◌∷◌, [], ◌++◌, length, Some, Ok, Err, inl, refl, sym, ap, subst, arith, length-append}
 use Rattle.capnp_relay.proofs.RunLemmas.{Answered-nil, Answered-more, one_each}
+use Rattle.capnp_relay.specs.Streams.{source_seen, sink_seen, streams}
+use Rattle.capnp_relay.specs.Work.{work}
+use Rattle.capnp_relay.specs.Stops.{Stops}
+use Rattle.capnp_relay.proofs.PauseLemmas.{Answered-rests}
 use Rattle.capnp_relay.proofs.run.answer_all.Goals as goal
 
-pub loop-answered-init : goal.loop-answered-init
-loop-answered-init g c = record { together = refl; run = ([], [], refl, Answered-nil _ g.met.I.MessageForm.fronts _ _ refl refl) }
+pub loop-fault-init : goal.loop-fault-init
+loop-fault-init g c = record { together = refl; run = ([], [], refl, Answered-nil _ g.met.I.MessageForm.fronts _ _ refl refl) }
 
-pub loop-answered-preserved : goal.loop-answered-preserved
-loop-answered-preserved g c =
-    let run = c.loop-answered.invariant.run in
+pub loop-fault-preserved : goal.loop-fault-preserved
+loop-fault-preserved g c =
+    let run = c.loop-fault.invariant.run in
     let one = c.in-Ok-true.ensures.one (ap Ok c.in-Ok-true.field-0-test) in
     let s = one.1.0 in
     let a = one.1.1 in
     let each = one_each a in
     let number = run.2 in
     record {
-      together = omega (arith, each, one.1.6.written, one.1.6.refused, c.loop-answered.invariant.together);
+      together = omega (arith, each, one.1.6.written, one.1.6.refused, c.loop-fault.invariant.together);
       run = (
         run.0 ++ s ∷ [],
         run.1 ++ a ∷ [],
         omega (arith, number, length-append run.1 (a ∷ [])),
-        Answered-more _ g.met.I.MessageForm.fronts _ _ _ _ _ _ _ _ (ap (λ k. k + 1) number) run.3 one.1,
+        Answered-more _ g.met.I.MessageForm.fronts _ _ _ _ _ _ _ _ (ap (λ k. k + 1) number) (Answered-rests _ _ _ _ _ _ _ run.3 refl c.in-Ok.ensures.ok.0 c.in-Ok.ensures.ok.1) one.1,
       );
     }
+
+pub returns-in-Err-step : goal.returns-in-Err-step
+returns-in-Err-step g c =
+    let run = c.loop-fault.invariant.run in
+    let w = work g.I.MessageForm.reader g.O.MessageForm.writer (Some c.args.limit) (g.A.Answers.is_answer c.args.answers.now) (g.A.Answers.is_too_large c.args.answers.now) g.W.Write.may_grow g.L.Write.may_grow in
+    let mid = streams (source_seen g.R.Read.remaining g.R.Read.failures c.loop-fault.source) (sink_seen g.W.Write.contents g.W.Write.failures g.W.Write.room c.pause.new.out) (sink_seen g.L.Write.contents g.L.Write.failures g.L.Write.room c.pause.new.log) in
+    let new = streams (source_seen g.R.Read.remaining g.R.Read.failures c.step.new.source) (sink_seen g.W.Write.contents g.W.Write.failures g.W.Write.room c.step.new.out) (sink_seen g.L.Write.contents g.L.Write.failures g.L.Write.room c.step.new.log) in
+    let P : ℕ → Type 0 = λ n. Stops w n c.in-Err-step.fault mid new c.loop-fault.counts c.step.new.counts in
+    inl (
+      run.0,
+      run.1,
+      mid,
+      c.loop-fault.counts,
+      Answered-rests _ _ _ _ _ _ _ run.3 refl c.in-Ok.ensures.ok.0 c.in-Ok.ensures.ok.1,
+      subst P (ap (λ (k : ℕ). k + 1) (sym run.2)) c.in-Err-step.ensures.fault,
+    )

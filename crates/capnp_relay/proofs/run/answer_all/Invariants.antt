@@ -6,8 +6,8 @@ use Rattle.capnp_relay.specs.Work.{work}
 use Rattle.capnp_relay.specs.Run.{Answered}
 use Rattle.capnp_relay.proofs.run.answer_all.Given as goal
 
-abbrev pub invariant-loop-answered : goal.invariant-loop-answered
-invariant-loop-answered g l = record {
+abbrev pub invariant-loop-fault : goal.invariant-loop-fault
+invariant-loop-fault g l = record {
   together : l.counts.written + l.counts.refused ≡ l.answered;
   run : (messages : List Segments) × (answers : List Answer) × (length answers ≡ l.answered)
       × Answered (work g.I.MessageForm.reader g.O.MessageForm.writer (Some l.limit) (g.A.Answers.is_answer l.answers) (g.A.Answers.is_too_large l.answers) g.W.Write.may_grow g.L.Write.may_grow) messages answers
@@ -16,5 +16,5 @@ invariant-loop-answered g l = record {
       l.counts;
 }
 
-abbrev pub decreases-loop-answered : goal.decreases-loop-answered
-decreases-loop-answered g l = 2 ^ 64 - l.answered
+abbrev pub decreases-loop-fault : goal.decreases-loop-fault
+decreases-loop-fault g l = 2 ^ 64 - l.answered
