@@ -12,6 +12,7 @@ use Rattle.capnp_relay.specs.Work.{Work, work}
 use Rattle.capnp_relay.specs.Streams.{Streams, SinkFails}
 use Rattle.capnp_relay.specs.Stops.{StopsInOut, StopsInLog, Stops}
 use Rattle.capnp_relay.specs.Run.{Answered, Relays}
+use Rattle.capnp_relay.specs.Pauses.{RelaysPausing}
 
 answer_each : (P Q : Segments → Answer → Type 0) → ((s : Segments) (a : Answer) → P s a → Q s a) → (messages : List Segments) (answers : List Answer) → AnswerEach P messages answers → AnswerEach Q messages answers
 answer_each P Q f [] [] h = tt
@@ -59,6 +60,12 @@ module _ (w : Work) (Q : Segments → Answer → Type 0) (f : (s : Segments) (a 
   )
   stops n faults.Size old new before after h = h
 
-  pub relays : (old new : Streams) (result : Result Counts RelayFault) → Relays w old new result → Relays asked_more old new result
+  relays : (old new : Streams) (result : Result Counts RelayFault) → Relays w old new result → Relays asked_more old new result
   relays old new (Ok counts) h = (h.0, h.1, h.2, answered h.0 h.1 old h.2 counts h.3, h.4, h.5, h.6, h.7)
   relays old new (Err e) h = (h.0, h.1, h.2, h.3, answered h.0 h.1 old h.2 h.3 h.4, stops _ e.fault h.2 new h.3 e.counts h.5)
+
+  -- the same with pauses
+  pub relays_pausing : (may_fail : Type 0) (old new : Streams) (result : Result Counts RelayFault) → RelaysPausing may_fail w old new result → RelaysPausing may_fail asked_more old new result
+  relays_pausing may_fail old new (Ok counts) h = relays old new (Ok counts) h
+  relays_pausing may_fail old new (Err e) (inl h) = inl (relays old new (Err e) h)
+  relays_pausing may_fail old new (Err e) (inr h) = inr (h.0, (h.1.0, h.1.1, h.1.2, answered h.1.0 h.1.1 old h.1.2 e.counts h.1.3, h.1.4, h.1.5))

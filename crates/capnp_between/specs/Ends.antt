@@ -13,7 +13,6 @@ use Rattle.capnp_relay.specs.declared.options.RelayOptions.{RelayOptions}
 use Rattle.capnp_relay.specs.Messages.{IsAnswerBy, IsTooLargeBy}
 use Rattle.capnp_relay.specs.Options.{reader_of, writer_of}
 use Rattle.capnp_relay.specs.Work.{Work, work}
-use Rattle.capnp_relay.specs.Run.{Relays}
 use Rattle.capnp_relay.specs.Streams.{Streams}
 use Rattle.capnp_between.specs.declared.between.BetweenFault.{BetweenFault}
 use Rattle.capnp_between.specs.declared.between.BetweenFault.TheVariants as fault
@@ -36,18 +35,22 @@ IsHeld root newer calls (fault.NotAdmitted n) = AreCompatible root newer × IsFi
 IsHeld root newer calls fault.Memory = ⊤
 IsHeld root newer calls (fault.Relay e) = ⊥
 
+-- What a run does to its streams, as it ended: `Relays`, or the same with pauses.
+abbrev pub Run : Type 1
+Run = Work → Streams → Streams → Result Counts RelayFault → Type 0
+
 -- A relay between two versions that ran, as it could.
-pub record RunsBetween (root newer : StructSchema) (calls : List Call) (options : RelayOptions) (out_grows log_grows : Type 0) (old new : Streams) (result : Result Counts RelayFault) : Type 0 where
+pub record RunsBetween (runs : Run) (root newer : StructSchema) (calls : List Call) (options : RelayOptions) (out_grows log_grows : Type 0) (old new : Streams) (result : Result Counts RelayFault) : Type 0 where
   pub may : MayRun root newer calls
-  pub relays : Relays (between_work root newer calls options out_grows log_grows) old new result
+  pub relays : runs (between_work root newer calls options out_grows log_grows) old new result
 
 -- A relay between two versions: it ran, or was held.
-abbrev pub RelaysBetween : StructSchema → StructSchema → List Call → RelayOptions → Type 0 → Type 0 → Streams → Streams → Result Counts BetweenFault → Type 0
-RelaysBetween root newer calls options out_grows log_grows old new (Ok counts) = RunsBetween root newer calls options out_grows log_grows old new (Ok counts)
-RelaysBetween root newer calls options out_grows log_grows old new (Err (fault.Relay e)) = RunsBetween root newer calls options out_grows log_grows old new (Err e)
-RelaysBetween root newer calls options out_grows log_grows old new (Err fault.NotCompatible) = IsHeld root newer calls fault.NotCompatible
-RelaysBetween root newer calls options out_grows log_grows old new (Err (fault.NotAdmitted n)) = IsHeld root newer calls (fault.NotAdmitted n)
-RelaysBetween root newer calls options out_grows log_grows old new (Err fault.Memory) = IsHeld root newer calls fault.Memory
+abbrev pub RelaysBetween : Run → StructSchema → StructSchema → List Call → RelayOptions → Type 0 → Type 0 → Streams → Streams → Result Counts BetweenFault → Type 0
+RelaysBetween runs root newer calls options out_grows log_grows old new (Ok counts) = RunsBetween runs root newer calls options out_grows log_grows old new (Ok counts)
+RelaysBetween runs root newer calls options out_grows log_grows old new (Err (fault.Relay e)) = RunsBetween runs root newer calls options out_grows log_grows old new (Err e)
+RelaysBetween runs root newer calls options out_grows log_grows old new (Err fault.NotCompatible) = IsHeld root newer calls fault.NotCompatible
+RelaysBetween runs root newer calls options out_grows log_grows old new (Err (fault.NotAdmitted n)) = IsHeld root newer calls (fault.NotAdmitted n)
+RelaysBetween runs root newer calls options out_grows log_grows old new (Err fault.Memory) = IsHeld root newer calls fault.Memory
 
 -- This holds where the relay ran.
 abbrev pub IfRun : Result Counts BetweenFault → Type 0 → Type 0

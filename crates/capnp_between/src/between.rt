@@ -2,6 +2,8 @@
 ghost use Rattle.std.specs.Prelude.{◌≡◌, ◌+◌, ◌*◌, length, replicate, IfErr, OnOk};
 ghost use Rattle.capnp_calls.specs.Taken.{IsRoot};
 ghost use Rattle.capnp_relay.specs.Streams.{source_seen, sink_seen, streams};
+ghost use Rattle.capnp_relay.specs.Run.{Relays};
+ghost use Rattle.capnp_relay.specs.Pauses.{RelaysPausing};
 ghost use Rattle.capnp_between.specs.Newer.{MayRun};
 ghost use Rattle.capnp_between.specs.Ends.{IsHeld, RelaysBetween, IfRun, IfHeld};
 
@@ -13,7 +15,8 @@ use capnp_compatible::root::Root;
 use capnp_queries::structs::StructSchema;
 use capnp_relay::ends::{Counts, RelayFault};
 use capnp_relay::options::RelayOptions;
-use capnp_relay::relay::relay;
+use capnp_relay::pauses::{NoPause, Pause};
+use capnp_relay::relay::relay_pausing;
 use capnp_stream::traits::{BufRead, Read, Write};
 use capnp_versions::laws::calls_across_versions;
 use std::alloc::Global;
@@ -85,7 +88,35 @@ pub fn relay_between<R: BufRead, W: Write, L: Write>(
 ) -> Result<Counts, BetweenFault>
     requires region { length region.old ≡ 8 * (options.bounds.words + 1) }
     requires root { IsRoot root }
-    ensures run { RelaysBetween root.entry newer.entry calls.now options W.may_grow L.may_grow
+    ensures run { RelaysBetween Relays root.entry newer.entry calls.now options W.may_grow L.may_grow
+        (streams (source_seen R.remaining R.failures source.old)
+        (sink_seen W.contents W.failures W.room out.old) (sink_seen L.contents L.failures L.room log.old))
+        (streams (source_seen R.remaining R.failures source.new)
+        (sink_seen W.contents W.failures W.room out.new) (sink_seen L.contents L.failures L.room log.new)) result }
+    ensures zeros { IfRun result (region.new ≡ replicate (length region.old) 0) }
+    ensures untouched { IfHeld result ((source.new ≡ source.old) × (out.new ≡ out.old)
+        × (log.new ≡ log.old) × (region.new ≡ region.old)) }
+{
+    relay_between_pausing::<R, W, L, NoPause>(
+        alloc, source, out, log, root, newer, calls, options, region,
+    )
+}
+
+/// As `relay_between`, with a pause before each message is read. A fault of a pause ends the run as `Out` or `Log`.
+pub fn relay_between_pausing<R: BufRead, W: Write, L: Write, P: Pause<R, W, L>>(
+    alloc: Global,
+    source: &mut R,
+    out: &mut W,
+    log: &mut L,
+    root: StructSchema<'_>,
+    newer: StructSchema<'_>,
+    calls: &[Call],
+    options: RelayOptions,
+    region: &mut [u8],
+) -> Result<Counts, BetweenFault>
+    requires region { length region.old ≡ 8 * (options.bounds.words + 1) }
+    requires root { IsRoot root }
+    ensures run { RelaysBetween (RelaysPausing P.may_fail) root.entry newer.entry calls.now options W.may_grow L.may_grow
         (streams (source_seen R.remaining R.failures source.old)
         (sink_seen W.contents W.failures W.room out.old) (sink_seen L.contents L.failures L.room log.old))
         (streams (source_seen R.remaining R.failures source.new)
@@ -98,7 +129,7 @@ pub fn relay_between<R: BufRead, W: Write, L: Write>(
     calls_are_given();
     roots_are_no_groups();
     check(alloc, root, newer, calls)?;
-    match relay(alloc, source, out, log, root, calls, options, region) {
+    match relay_pausing::<R, W, L, P>(alloc, source, out, log, root, calls, options, region) {
         Ok(counts) => Ok(counts),
         Err(e) => Err(BetweenFault::Relay(e)),
     }

@@ -1,26 +1,9 @@
-use Rattle.std.proofs.Common.{Ok, Err}
 use Rattle.capnp_relay.specs.Streams.{source_seen, sink_seen, streams}
-use Rattle.capnp_between.proofs.RunsBetween.{relays-between}
+use Rattle.capnp_between.proofs.RunsBetween.{between-never}
 use Rattle.capnp_between.proofs.between.relay_between.Goals as goal
 
-pub returns-in-Ok-clause-run : goal.returns-in-Ok-clause-run
-returns-in-Ok-clause-run g c =
-    let root = c.args.root in
-    let calls = c.args.calls.now in
-    let may = c.in_ok-check.ensures.ok in
+pub returns-clause-run : goal.returns-clause-run
+returns-clause-run g c =
     let old = streams (source_seen g.R.Read.remaining g.R.Read.failures c.args.source.now) (sink_seen g.W.Write.contents g.W.Write.failures g.W.Write.room c.args.out.now) (sink_seen g.L.Write.contents g.L.Write.failures g.L.Write.room c.args.log.now) in
-    let new = streams (source_seen g.R.Read.remaining g.R.Read.failures c.relay.new.source) (sink_seen g.W.Write.contents g.W.Write.failures g.W.Write.room c.relay.new.out) (sink_seen g.L.Write.contents g.L.Write.failures g.L.Write.room c.relay.new.log) in
-    let relays = relays-between root c.args.newer calls c.args.options c.calls_across_versions.ensures.records c.calls_across_versions.ensures.replies (c.roots_are_no_groups.ensures root c.requires.root) (c.calls_are_given.ensures root calls) may
-    g.W.Write.may_grow g.L.Write.may_grow old new (Ok c.in-Ok.counts) c.in-Ok.ensures.run in
-    record { may = may; relays = relays }
-
-pub returns-in-Err-clause-run : goal.returns-in-Err-clause-run
-returns-in-Err-clause-run g c =
-    let root = c.args.root in
-    let calls = c.args.calls.now in
-    let may = c.in_ok-check.ensures.ok in
-    let old = streams (source_seen g.R.Read.remaining g.R.Read.failures c.args.source.now) (sink_seen g.W.Write.contents g.W.Write.failures g.W.Write.room c.args.out.now) (sink_seen g.L.Write.contents g.L.Write.failures g.L.Write.room c.args.log.now) in
-    let new = streams (source_seen g.R.Read.remaining g.R.Read.failures c.relay.new.source) (sink_seen g.W.Write.contents g.W.Write.failures g.W.Write.room c.relay.new.out) (sink_seen g.L.Write.contents g.L.Write.failures g.L.Write.room c.relay.new.log) in
-    let relays = relays-between root c.args.newer calls c.args.options c.calls_across_versions.ensures.records c.calls_across_versions.ensures.replies (c.roots_are_no_groups.ensures root c.requires.root) (c.calls_are_given.ensures root calls) may
-    g.W.Write.may_grow g.L.Write.may_grow old new (Err c.in-Err.e) c.in-Err.ensures.run in
-    record { may = may; relays = relays }
+    let new = streams (source_seen g.R.Read.remaining g.R.Read.failures c.relay_between_pausing.new.source) (sink_seen g.W.Write.contents g.W.Write.failures g.W.Write.room c.relay_between_pausing.new.out) (sink_seen g.L.Write.contents g.L.Write.failures g.L.Write.room c.relay_between_pausing.new.log) in
+    between-never c.args.root c.args.newer c.args.calls.now c.args.options g.W.Write.may_grow g.L.Write.may_grow old new c.relay_between_pausing.result c.relay_between_pausing.ensures.run
