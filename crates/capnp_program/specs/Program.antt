@@ -17,7 +17,7 @@ use Rattle.capnp_relay.specs.declared.ends.RelayFault.{RelayFault}
 use Rattle.capnp_relay.specs.declared.options.RelayOptions.{RelayOptions}
 use Rattle.capnp_relay.specs.Relaying.{relay_work}
 use Rattle.capnp_relay.specs.Work.{Work}
-use Rattle.capnp_relay.specs.Run.{Relays}
+use Rattle.capnp_relay.specs.Pauses.{RelaysPausing}
 use Rattle.capnp_relay.specs.Streams.{Streams, SinkSeen}
 use Rattle.capnp_between.specs.Newer.{MayRun}
 use Rattle.capnp_between.specs.Ends.{between_work}
@@ -64,7 +64,7 @@ abbrev pub MayRunBeside : StructSchema → Option StructSchema → List Call →
 MayRunBeside root None calls = ⊤
 MayRunBeside root (Some newer) calls = (id_of newer ≡ id_of root) × MayRun root newer calls
 
--- The relay that is asked for ran.
+-- The relay that is asked for ran, with pauses in which its sinks may fail.
 pub record Ran (a : Asked) (out_grows log_grows : Type 0) (old new : Streams) (result : Result Counts RelayFault) : Type 0 where
   pub root : StructSchema
   pub newer : Option StructSchema
@@ -72,7 +72,7 @@ pub record Ran (a : Asked) (out_grows log_grows : Type 0) (old new : Streams) (r
   pub options : RelayOptions
   pub asks : asked_by root newer calls options ≡ a
   pub may : MayRunBeside root newer calls
-  pub relays : Relays (work_beside root newer calls options out_grows log_grows) old new result
+  pub relays : RelaysPausing ⊤ (work_beside root newer calls options out_grows log_grows) old new result
 
 -- The relay that is asked for ran, and then both sinks were flushed.
 pub record Runs (a : Asked) (out_grows log_grows : Type 0) (old new : Seen) (fault : Option Fault) : Type 0 where

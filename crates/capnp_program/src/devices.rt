@@ -3,6 +3,7 @@ ghost use Rattle.std.specs.Prelude.{◌≡◌, []};
 ghost use Rattle.capnp_units.specs.declared.kinds.ErrorKind.{ErrorKind};
 
 use crate::sinks::Flush;
+use crate::sources::Windowed;
 use capnp_stream::traits::{BufRead, Read, Write};
 use capnp_units::errors::{Error, Result};
 use capnp_units::kinds::ErrorKind;
@@ -40,6 +41,12 @@ impl BufRead for Broken {
     fn consume(&mut self, _amount: usize) {}
 
     ghost device_alone = { λ _ e. e };
+}
+
+impl Windowed for Broken {
+    fn buffered(&self) -> usize {
+        0
+    }
 }
 
 /// A sink that takes some bytes and then fails, and may fail at a flush.

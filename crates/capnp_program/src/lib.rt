@@ -19,8 +19,11 @@ mod runs;
 mod samples;
 pub mod settings;
 pub mod sinks;
+pub mod sources;
 pub mod stop;
 #[cfg(test)]
 mod tests;
 mod usage;
 pub mod version;
+#[cfg(test)]
+mod waits;

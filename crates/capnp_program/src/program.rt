@@ -9,9 +9,9 @@ use crate::arguments::asks_for_help;
 use crate::lines::fault_line;
 use crate::run::relay_all;
 use crate::sinks::Flush;
+use crate::sources::Windowed;
 use crate::stop::Stop;
 use crate::usage::USAGE;
-use capnp_stream::traits::BufRead;
 use std::alloc::Global;
 
 /// Writes a text and hands on what the sink holds; what it refuses is given up.
@@ -43,8 +43,8 @@ fn put_fault<L: Flush>(alloc: Global, log: &mut L, stop: Stop)
 ///
 /// The first fault is told: of the words, the schema file, its rules, the root, the same three of the newer file, the calls file,
 /// the calls, the limits, compatibility and the calls that aren't admitted, in this order, before anything is read or written; then
-/// those of the run. The one word `--help` has the usage written to the output, and is a fault of the words.
-pub fn program<R: BufRead, W: Flush, L: Flush>(
+/// those of the run. Both sinks are flushed before a message is read while the source shows no byte. The one word `--help` has the usage written to the output, and is a fault of the words.
+pub fn program<R: Windowed, W: Flush, L: Flush>(
     alloc: Global,
     words: &[String],
     schema: Option<&[u8]>,

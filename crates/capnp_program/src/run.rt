@@ -8,15 +8,15 @@ ghost use Rattle.capnp_program.specs.Program.{seen, Ran, RelaysAll};
 
 use crate::settings::Settings;
 use crate::sinks::Flush;
+use crate::sources::{FlushBeforeWait, Windowed};
 use crate::stop::Stop;
-use capnp_between::between::{BetweenFault, relay_between};
+use capnp_between::between::{BetweenFault, relay_between_pausing};
 use capnp_relay::ends::{Counts, Fault, RelayFault};
-use capnp_relay::relay::relay;
-use capnp_stream::traits::{BufRead, Write};
+use capnp_relay::relay::relay_pausing;
 use std::alloc::Global;
 
 /// The end of the relay that was asked for; nothing is read or written where it is held back.
-fn relay_asked<R: BufRead, W: Write, L: Write>(
+fn relay_asked<R: Windowed, W: Flush, L: Flush>(
     alloc: Global,
     settings: &Settings,
     source: &mut R,
@@ -37,10 +37,19 @@ fn relay_asked<R: BufRead, W: Write, L: Write>(
     let calls = settings.calls.as_slice();
     let options = settings.options;
     let Some(newer) = &settings.newer else {
-        return Ok(relay(alloc, source, out, log, root, calls, options, &mut region));
+        return Ok(relay_pausing::<R, W, L, FlushBeforeWait>(
+            alloc,
+            source,
+            out,
+            log,
+            root,
+            calls,
+            options,
+            &mut region,
+        ));
     };
     let newer = newer.root();
-    match relay_between(
+    match relay_between_pausing::<R, W, L, FlushBeforeWait>(
         alloc,
         source,
         out,
@@ -60,7 +69,7 @@ fn relay_asked<R: BufRead, W: Write, L: Write>(
 }
 
 /// Settles what the words and the files ask for, relays the messages of the source, and flushes both sinks, the output first.
-pub(crate) fn relay_all<R: BufRead, W: Flush, L: Flush>(
+pub(crate) fn relay_all<R: Windowed, W: Flush, L: Flush>(
     alloc: Global,
     words: &[String],
     schema: Option<&[u8]>,

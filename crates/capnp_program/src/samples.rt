@@ -2,10 +2,10 @@
 
 use crate::program::program;
 use crate::sinks::Flush;
+use crate::sources::Windowed;
 use crate::stop::Stop;
 use crate::version::schema_set;
 use capnp_records::set::SchemaSet;
-use capnp_stream::traits::BufRead;
 use std::alloc::{AllocError, Global};
 
 /// The id of the root's node.
@@ -34,7 +34,7 @@ pub fn words_of(alloc: Global, words: &[&str]) -> Result<Vec<String>, AllocError
 }
 
 /// The status of a run at the schema with these words and this calls file.
-pub fn run<R: BufRead, W: Flush, L: Flush>(
+pub fn run<R: Windowed, W: Flush, L: Flush>(
     alloc: Global,
     words: &[&str],
     calls: &str,
@@ -49,7 +49,7 @@ pub fn run<R: BufRead, W: Flush, L: Flush>(
 }
 
 /// The status of a framed run with the call `set a = 7`.
-pub fn set_a<R: BufRead, W: Flush, L: Flush>(
+pub fn set_a<R: Windowed, W: Flush, L: Flush>(
     alloc: Global,
     source: &mut R,
     out: &mut W,

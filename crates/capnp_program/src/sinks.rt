@@ -21,6 +21,7 @@ pub trait Flush: Write {
     fn flush(&mut self) -> Result<()>
         ensures empty { OnOk result (held self.new ≡ []) }
         ensures kept { Keeps (Self.contents self.old) (Self.contents self.new) }
+        ensures room { Self.room self.new ≡ Self.room self.old }
         ensures refusal { IfErr result (λ e. e.kind ≡ ErrorKind.Device) }
         ensures count { Counts result (Self.failures self.old) (Self.failures self.new) };
 }
