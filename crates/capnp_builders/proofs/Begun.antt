@@ -6,11 +6,11 @@ use Rattle.capnp_model.specs.Kinds.{Kind, OutOfBounds}
 use Rattle.capnp_model.specs.Chains.{◌and_then◌}
 use Rattle.capnp_model.specs.Segments.{Segments, Place, root, word_at}
 use Rattle.capnp_model.specs.Pointers.{nothing, a_struct, Found, found_by, pointer_of}
-use Rattle.capnp_model.specs.Trees.{Tree, widened}
+use Rattle.capnp_model.specs.Trees.{Tree}
 use Rattle.capnp_footprints.specs.Footprints.{Owns}
 use Rattle.capnp_footprints.specs.Changes.{Replaces}
 use Rattle.capnp_copy_from.specs.Defaults.{WritesDefault, is_null_at}
-use Rattle.capnp_widening.specs.Widened.{Widens, IsWide}
+use Rattle.capnp_widening.specs.Widened.{IsWide}
 use Rattle.capnp_builders.specs.Gets.{Begins, in_place, begun, Gets}
 
 -- what the laws of changes say
@@ -44,14 +44,14 @@ begun_value l (Some words) s m p n t x b o = begun_by l _ _ _ s m p n t x refl r
 
 -- ---- what is made of it
 
-pub widened_then : (l : Laws) (default : Option (List (List ℕ))) (s m u : Segments) (p : Place) (d k : ℕ) (x : ⊤) → Begins default s m p (Ok x) → Widens m u p d k → Gets default s u p (widened d k)
-widened_then l default s m u p d k x b w n t o =
+pub made_then : (l : Laws) (default : Option (List (List ℕ))) (s m u : Segments) (p : Place) (made : Tree → Tree) (x : ⊤) → Begins default s m p (Ok x) → ((n : ℕ) (t : Tree) → Owns n m p t → Replaces (suc n) m u p (made t)) → Gets default s u p made
+made_then l default s m u p made x b w n t o =
     let y = begun_value l default s m p n t x b o in
     let first = l.more_owned n (n + 64) s p t (omega arith) o in
     let own : Owns (n + 64) m p y.0 = l.owned (n + 64) s m p t y.0 first y.2 in
     let one : suc (n + 64) ≡ n + 65 = omega arith in
-    let wide : Replaces (n + 65) m u p (widened d k y.0) = subst (λ (i : ℕ). Replaces i m u p (widened d k y.0)) one (w (n + 64) y.0 own) in
-    (y.0, y.1, l.again (n + 65) s m u p y.0 (widened d k y.0) (l.more_replaced (n + 64) (n + 65) s m p t y.0 (omega arith) first y.2) wide)
+    let remade : Replaces (n + 65) m u p (made y.0) = subst (λ (i : ℕ). Replaces i m u p (made y.0)) one (w (n + 64) y.0 own) in
+    (y.0, y.1, l.again (n + 65) s m u p y.0 (made y.0) (l.more_replaced (n + 64) (n + 65) s m p t y.0 (omega arith) first y.2) remade)
 
 pub listed_then : (l : Laws) (default : Option (List (List ℕ))) (s u : Segments) (p : Place) (x : ⊤) → Begins default s u p (Ok x) → Gets default s u p (λ v. v)
 listed_then l default s u p x b n t o =

@@ -22,6 +22,8 @@ use Rattle.capnp_copy.specs.declared.fields.StructPlace.{StructPlace}
 use Rattle.capnp_copy.specs.declared.init.ListPlace.{ListPlace}
 use Rattle.capnp_widening.specs.Widened.{IsWide, StructRefused}
 use Rattle.capnp_widening.specs.Got.{list_in}
+use Rattle.capnp_widening.specs.MovedElements.{as_structs}
+use Rattle.capnp_widening.specs.WidenedLists.{StructsGot, HasWideList, ListRefused, list_there}
 
 -- A default, where there is one, is written in place of null; else all stands as it was.
 abbrev pub Begins : Option (List (List ℕ)) → Segments → Segments → Place → Result ⊤ Error → Type 0
@@ -71,3 +73,15 @@ pub record ListGot (default : Option (List (List ℕ))) (s u : Segments) (slot :
 -- Why no list is given, and what stands then, as of structs.
 abbrev pub NoListGot : Option (List (List ℕ)) → Segments → Segments → code.Place → ElementSize → Error → Type 0
 NoListGot default s u slot expected e = Begins default s u (place_view slot) (Err e) ⊎ (Begins default s u (place_view slot) (Ok tt) × (list_named u slot expected ≡ Err (kind_of e.kind)))
+
+-- A list of structs of at least these sizes is got: the default is written first, and then what is there widened, where its elements are narrower or no structs.
+pub record StructListGot (default : Option (List (List ℕ))) (s u : Segments) (slot : code.Place) (size : StructSize) (o : ListPlace) : Type 0 where
+  pub begun_with : Segments
+  pub begins : Begins default s begun_with (place_view slot) (Ok tt)
+  pub stays : HasWideList begun_with slot size.data_words size.pointers → u ≡ begun_with
+  pub value : Gets default s u (place_view slot) (as_structs size.data_words size.pointers)
+  pub list : StructsGot begun_with u slot size.data_words size.pointers o
+
+-- Why no such list is given, and what stands then, as of structs.
+abbrev pub NoStructListGot : Option (List (List ℕ)) → Segments → Segments → code.Place → StructSize → Error → Type 0
+NoStructListGot default s u slot size e = Begins default s u (place_view slot) (Err e) ⊎ (Begins default s u (place_view slot) (Ok tt) × ListRefused u (place_view slot) (list_there u slot) size.data_words size.pointers e)

@@ -21,6 +21,7 @@ use std::test::Fail;
 enum Asked {
     Struct(StructSize),
     List(ElementSize),
+    Structs(StructSize),
 }
 
 /// Where it was given.
@@ -98,6 +99,7 @@ fn got_at<A: BuilderArena>(
     match asked {
         Asked::Struct(size) => Ok(Given::Struct(root.get_struct(size, default)?.place)),
         Asked::List(size) => Ok(Given::List(root.get_list(size, default)?.place)),
+        Asked::Structs(size) => Ok(Given::List(root.get_struct_list(size, default)?.place)),
     }
 }
 
@@ -273,5 +275,41 @@ fn refused_lists_leave_all(rt: HostRuntime) -> std::result::Result<(), Fail> {
         Some(Error::from(ErrorKind::WrongPointerKind))
     );
     assert_eq!(rt; other.first.as_slice(), &object[..]);
+    Ok(())
+}
+
+/// Two bytes become two structs of a word and a pointer; a default does so too, and null stays null without one.
+#[test]
+fn lists_are_got_as_structs(rt: HostRuntime) -> std::result::Result<(), Fail> {
+    let asked = Asked::Structs(StructSize {
+        data_words: 1,
+        pointers: 1,
+    });
+    let there = got(rt.alloc(), &[0x12_0000_0001, 0x0605], 9, 0, asked, None)?;
+    assert_eq!(rt;
+        list_in(there.given)?,
+        (0, 2, ElementSize::InlineComposite, 2)
+    );
+    assert_eq!(rt;
+        there.first.as_slice(),
+        &[0x27_0000_0005, 0, 0x1_0001_0000_0008, 5, 0, 6, 0][..]
+    );
+    let null = got(rt.alloc(), &[0], 9, 0, asked, None)?;
+    assert_eq!(rt;
+        list_in(null.given)?,
+        (0, 0, ElementSize::InlineComposite, 0)
+    );
+    assert_eq!(rt; null.first.as_slice(), &[0][..]);
+    let default = got(rt.alloc(), &[0], 20, 0, asked, Some(&BYTES[..]))?;
+    assert_eq!(rt;
+        list_in(default.given)?,
+        (0, 2, ElementSize::InlineComposite, 3)
+    );
+    let bits = got(rt.alloc(), &[0x9_0000_0001, 1], 9, 0, asked, None)?;
+    assert_eq!(rt;
+        bits.given.err(),
+        Some(Error::from(ErrorKind::WrongElementSize))
+    );
+    assert_eq!(rt; bits.first.as_slice(), &[0x9_0000_0001, 1][..]);
     Ok(())
 }

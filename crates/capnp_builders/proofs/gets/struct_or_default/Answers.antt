@@ -1,5 +1,6 @@
 use Rattle.std.proofs.Common.{◌≡◌, ℕ, ◌≤◌, List, Option, Result, Ok, Err, IfOk, ap, sym, ◌∙◌, subst, option_copied}
 use Rattle.capnp_model.specs.Segments.{Segments, Place}
+use Rattle.capnp_model.specs.Trees.{widened}
 use Rattle.capnp_units.specs.declared.sizes.StructSize.{StructSize}
 use Rattle.capnp_units.specs.Segments.{words_in}
 use Rattle.capnp_wire.specs.Places.{place_view}
@@ -8,7 +9,7 @@ use Rattle.capnp_copy.specs.Values.{LeadsTo}
 use Rattle.capnp_copy.specs.declared.fields.StructPlace.{StructPlace}
 use Rattle.capnp_widening.specs.Widened.{Widens, IsWide}
 use Rattle.capnp_builders.specs.Gets.{Begins, StructGot}
-use Rattle.capnp_builders.proofs.Begun.{Laws, widened_then, wide_stays}
+use Rattle.capnp_builders.proofs.Begun.{Laws, made_then, wide_stays}
 use Rattle.capnp_builders.proofs.gets.struct_or_default.Goals as goal
 
 got_by : {E : Type 0} (l : Laws) (default : Option (List (List ℕ))) (s m u : Segments) (p : Place) (size : StructSize) → Begins default s m p (Ok tt) → (IsWide m p size.data_words size.pointers → u ≡ m) → (r : Result StructPlace E) → IfOk r (λ o. Widens m u p size.data_words size.pointers) → IfOk r (λ o. LeadsTo u p (struct_at o)) → IfOk r (λ o. (size.data_words ≤ o.data_words) × (size.pointers ≤ o.pointers)) → IfOk r (StructGot default s u p size)
@@ -19,7 +20,7 @@ got_by l default s m u p size b stays (Ok x) w o z =
       begins = b;
       stays = stays;
       wide = λ wide. (let e : m ≡ s = wide_stays default s m p size.data_words size.pointers tt b wide in stays (subst (λ (x : Segments). IsWide x p size.data_words size.pointers) (sym e) wide) ∙ e);
-      value = widened_then l default s m u p size.data_words size.pointers tt b w;
+      value = made_then l default s m u p (widened size.data_words size.pointers) tt b w;
       object = o;
       enough = z;
     }

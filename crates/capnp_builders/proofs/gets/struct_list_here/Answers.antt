@@ -1,0 +1,38 @@
+use Rattle.std.proofs.Common.{◌≡◌, ℕ, List, Option, Result, Ok, Err, IfOk, ap, option_copied}
+use Rattle.capnp_model.specs.Segments.{Segments}
+use Rattle.capnp_units.specs.declared.sizes.StructSize.{StructSize}
+use Rattle.capnp_units.specs.Segments.{words_in}
+use Rattle.capnp_object.specs.declared.place.Place as code
+use Rattle.capnp_wire.specs.Places.{place_view}
+use Rattle.capnp_copy.specs.declared.init.ListPlace.{ListPlace}
+use Rattle.capnp_widening.specs.MovedElements.{as_structs}
+use Rattle.capnp_widening.specs.WidenedLists.{WidensList, StructsGot, HasWideList}
+use Rattle.capnp_builders.specs.Gets.{Begins, StructListGot}
+use Rattle.capnp_builders.proofs.Begun.{Laws, made_then}
+use Rattle.capnp_builders.proofs.gets.struct_list_here.Goals as goal
+
+got_by : {E : Type 0} (l : Laws) (default : Option (List (List ℕ))) (s m u : Segments) (slot : code.Place) (size : StructSize) → Begins default s m (place_view slot) (Ok tt) → (HasWideList m slot size.data_words size.pointers → u ≡ m) → (r : Result ListPlace E) → IfOk r (λ o. WidensList m u (place_view slot) size.data_words size.pointers) → IfOk r (StructsGot m u slot size.data_words size.pointers) → IfOk r (StructListGot default s u slot size)
+got_by l default s m u slot size b stays (Err e) w o = tt
+got_by l default s m u slot size b stays (Ok x) w o =
+    record {
+      begun_with = m;
+      begins = b;
+      stays = stays;
+      value = made_then l default s m u (place_view slot) (as_structs size.data_words size.pointers) tt b w;
+      list = o;
+    }
+
+pub returns-clause-got : goal.returns-clause-got
+returns-clause-got g c =
+    let s : Segments = words_in (g.A.ReaderArena.segments c.args.arena.now) in
+    let m : Segments = words_in (g.A.ReaderArena.segments c.begin.new.arena) in
+    let u : Segments = words_in (g.A.ReaderArena.segments c.get_struct_list.new.arena) in
+    let laws : Laws = record {
+      none = c.changes_of_values.ensures.none;
+      again = c.changes_of_values.ensures.again;
+      owned = c.changes_of_values.ensures.owned;
+      more_owned = c.changes_with_more_levels.ensures.owned;
+      more_replaced = c.changes_with_more_levels.ensures.replaced;
+    } in
+    let e = c.get_struct_list.ensures in
+    got_by laws (option_copied c.args.default) s m u c.args.slot c.args.size c.in_ok-begin.ensures.begins (λ wide. ap words_in (e.wide wide)) c.get_struct_list.result e.value e.list
