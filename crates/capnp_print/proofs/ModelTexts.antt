@@ -20,8 +20,8 @@ use Rattle.capnp_values.proofs.DefaultReadings.{segment_read}
 use Rattle.capnp_values.proofs.Presence.{there}
 use Rattle.capnp_print.specs.Texts.{as_it_is}
 use Rattle.capnp_print.specs.ShownReadings.{reading_of}
-use Rattle.capnp_print.specs.Printed.{Text, NullTexts, text_in, field_and_rest, mark, printed, items_printed, fields_printed, empty_printed, no_schema, schema_shown, as_shown, bytes_shown, default_shown, text_shown, null_printed}
-use Rattle.capnp_print.specs.Models.{unopened, unopened_each, unopened_fields, TextsAreModels}
+use Rattle.capnp_print.specs.Printed.{Text, NullTexts, text_in, field_and_rest, mark, printed, items_printed, fields_printed, empty_printed, no_schema, schema_shown, as_shown, bytes_shown, default_shown, text_shown, null_printed, shown_text}
+use Rattle.capnp_print.specs.Models.{unopened, unopened_each, unopened_fields, IsOfNodes, TextsAreModels}
 use Rattle.capnp_print.proofs.Children.{within}
 use Rattle.capnp_print.proofs.DefaultRoots.{encoded}
 use Rattle.capnp_print.proofs.Models.{marked, list_is, struct_is, item_is, field_is, no_fields_shown, printed_print}
@@ -292,8 +292,19 @@ module _ (pointers : PointersAreRead) (nodes : List Node) (accepted : IsAccepted
   as_sound (a_pointer p) h = refl
   as_sound a_capability h = refl
 
-pub texts : PointersAreRead → TextsAreModels
-texts pointers nodes x r accepted of is style =
+-- the text or fault is the model's text or none
+model_text : PointersAreRead → (nodes : List Node) (x : Shown) (r : Reading) → IsAccepted nodes → IsOfNodes nodes x → IsReading (schema_of nodes) x r → (style : Style)
+    → text_in (shown_text 64 style x) ≡ print (schema_shown x) as_it_is (nulls_as (schema_shown x) as_it_is 64) style (as_shown x) r
+model_text pointers nodes x r accepted of is style =
     let s = schema_shown x in
     ap (λ z. text_in (printed s as_it_is (null_printed s as_it_is 64) style (as_shown x) z)) (wholes pointers nodes x r accepted of is)
     ∙ whole_model pointers s (sound_around pointers nodes accepted x r is) style (as_shown x) r (as_sound pointers nodes accepted x (of_nodes nodes accepted x of))
+
+pub texts : PointersAreRead → TextsAreModels
+texts pointers nodes x r accepted of is style =
+    let s = schema_shown x in
+    let same = sym (model_text pointers nodes x r accepted of is style) in
+    (
+      (λ bytes h. same ∙ printed_print s as_it_is (null_printed s as_it_is 64) (λ st ty d. text_in (null_printed s as_it_is 64 st ty d)) (λ st ty d. refl) style (as_shown x) (reading_of x) ∙ h),
+      (λ kind h. same ∙ ap text_in h),
+    )

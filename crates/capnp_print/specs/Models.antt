@@ -1,5 +1,6 @@
 -- What is shown is what the model reads and prints. (Encoding, "Value Encoding")
-use Rattle.std.specs.Prelude.{ℕ, ◌≡◌, List}
+use Rattle.std.specs.Prelude.{ℕ, ◌≡◌, Some, None, List, Err}
+use Rattle.capnp_model.specs.Kinds.{Kind}
 use Rattle.capnp_model.specs.Trees.{null}
 use Rattle.capnp_model.specs.Schemas.{TypeRecord, type_of, Node}
 use Rattle.capnp_model.specs.Accepted.{schema_of, IsAccepted}
@@ -9,7 +10,8 @@ use Rattle.capnp_values.specs.Shown.{Shown, a_number, an_enum, a_text, a_blob, a
 use Rattle.capnp_values.specs.Standing.{IsReading}
 use Rattle.capnp_print.specs.Texts.{as_it_is}
 use Rattle.capnp_print.specs.ShownReadings.{reading_of}
-use Rattle.capnp_print.specs.Printed.{text_in, schema_shown, as_shown, shown_text}
+use Rattle.capnp_print.specs.Printed.{schema_shown, as_shown, shown_text}
+use Rattle.capnp_print.specs.Answers.{IsTextOf}
 
 abbrev mutual
   -- A reading, with untyped pointers and capabilities unopened.
@@ -49,7 +51,8 @@ IsOfNodes nodes a_capability = Unit {0}
 abbrev pub WholesAreRead : Type 0
 WholesAreRead = (nodes : List Node) (x : Shown) (r : Reading) → IsAccepted nodes → IsOfNodes nodes x → IsReading (schema_of nodes) x r → reading_of x ≡ unopened r
 
--- Its text is the model's text of what the model reads; where the model has none, there is a fault.
+-- Its text is the model's text of what the model reads; where there is a fault in its place, the model has none.
 abbrev pub TextsAreModels : Type 0
 TextsAreModels = (nodes : List Node) (x : Shown) (r : Reading) → IsAccepted nodes → IsOfNodes nodes x → IsReading (schema_of nodes) x r → (style : Style)
-    → let s = schema_shown x in text_in (shown_text 64 style x) ≡ print s as_it_is (nulls_as s as_it_is 64) style (as_shown x) r
+    → let s = schema_shown x in let text = print s as_it_is (nulls_as s as_it_is 64) style (as_shown x) r in
+    ((bytes : List ℕ) → IsTextOf style x bytes → text ≡ Some bytes) × ((kind : Kind) → shown_text 64 style x ≡ Err kind → text ≡ None)

@@ -1,0 +1,5 @@
+pub mod Flat
+pub mod Framing
+pub mod Roots
+pub mod Shown
+pub mod Walks

@@ -1,0 +1,8 @@
+//! The text of a framed message, whole.
+#![tactic(auto)]
+
+mod copied;
+mod framed;
+pub mod show;
+#[cfg(test)]
+mod tests;
