@@ -3,8 +3,8 @@ use Rattle.std.proofs.Common.{◌≡◌, ℕ, zero, suc, ◌+◌, ◌*◌, ◌^�
 use Rattle.std.specs.List.{list_all}
 use Rattle.std.proofs.lemmas.Bool.Decides.{nat_tests}
 use Rattle.capnp_model.specs.Schemas.{PlainType, bool, int, uint, «enum», width, BaseType, base_type, lists_of, Value, no_value, bits, text_bytes, blob_bytes, list_segment, struct_segment, untyped_value, interface_value, FieldKind, slot, group, Field as FieldNode, StructNode, NodeKind, struct_node, enum_node, Node, Shape, plain}
-use Rattle.capnp_model.specs.Accepted.{find_node, fields_of_kind, on_struct, is_group_node, is_struct_node, names_a, default_bits, slot_body, field_body, union_place, schema_of, members_of, are_once, has_good_union, is_inside, has_its_place, has_places, same_plain, is_default_of, has_good_default, IsAccepted}
-use Rattle.capnp_model.proofs.KeptRules.{and_left, and_right, and_three, unions_are_good, found_passes}
+use Rattle.capnp_model.specs.Accepted.{find_node, fields_of_kind, on_struct, is_group_node, is_struct_node, names_a, default_bits, slot_body, field_body, union_place, schema_of, members_of, are_once, has_good_union, is_inside, has_its_place, has_places, same_plain, is_default_of, has_good_default, default_reads, IsAccepted}
+use Rattle.capnp_model.proofs.KeptRules.{and_left, and_right, and_three, unions_are_good, found_passes, behind, no_break}
 use Rattle.capnp_model.proofs.SoundRules.{rules_kept}
 use Rattle.capnp_records.specs.Sets.{struct_found, IsStructOf}
 use Rattle.capnp_records.specs.declared.raw.RawBrandedStructSchema.{RawBrandedStructSchema}
@@ -91,9 +91,26 @@ passed p [] (suc i) f h e = absurd (cc e)
 passed p (g ∷ fs) zero f h e = let is : g ≡ f = cc e in ap p (sym is) ∙ and_left (p g) (list_all p fs) h
 passed p (g ∷ fs) (suc i) f h e = passed p fs i f (and_right (p g) (list_all p fs) h) e
 
+-- the eleventh rule
+defaults_read : (nodes : List Node) → IsAccepted nodes → list_all (λ n. list_all (λ f. default_reads f.kind) (fields_of_kind n.kind)) nodes ≡ true
+defaults_read nodes h =
+    let a = behind nodes 1 11 h in
+    let b = behind nodes 2 10 a.1 in
+    let c = behind nodes 3 9 b.1 in
+    let d = behind nodes 4 8 c.1 in
+    let e = behind nodes 5 7 d.1 in
+    let f = behind nodes 6 6 e.1 in
+    let g = behind nodes 7 5 f.1 in
+    let i = behind nodes 8 4 g.1 in
+    let j = behind nodes 9 3 i.1 in
+    let k = behind nodes 10 2 j.1 in
+    let l = behind nodes 11 1 k.1 in
+    no_break (λ n. list_all (λ f. default_reads f.kind) (fields_of_kind n.kind)) [] 0 nodes l.0
+
 pub record SoundField (s : StructSchema) (f : FieldNode) : Type 0 where
   pub inside : IsInside (words_in (shape_of_struct s)) (pointers_in (shape_of_struct s)) (field_body (schema_around s).shape_of f.kind)
   pub default : has_good_default f.kind ≡ true
+  pub reads : default_reads f.kind ≡ true
 
 pub sound_field : (s : StructSchema) (i : ℕ) (f : FieldNode) → IsFieldRecord s i f → (r : StructNode) → IsRecordOf (nodes_around s) (id_of s) r → SoundField s f
 sound_field s i f is r h =
@@ -103,6 +120,8 @@ sound_field s i f is r h =
     let places : on_struct has_places n.node ≡ true = found_passes (on_struct has_places) nodes (id_of s) n.node (places_kept nodes accepted) n.found in
     let places' : has_places r ≡ true = sym (ap (λ (x : NodeKind). elim x as (λ (y : NodeKind). Bool) [ struct_node t ↦ has_places t | enum_node es ↦ true ]) n.kind) ∙ places in
     let good = found_passes (λ m. list_all (λ g. has_good_default g.kind) (fields_of_kind m.kind)) nodes (id_of s) n.node (rules_kept nodes accepted).defaults n.found in
+    let reads = found_passes (λ m. list_all (λ g. default_reads g.kind) (fields_of_kind m.kind)) nodes (id_of s) n.node (defaults_read nodes accepted) n.found in
+    let reads' : list_all (λ g. default_reads g.kind) r.fields ≡ true = sym (ap (λ k. list_all (λ g. default_reads g.kind) (fields_of_kind k)) n.kind) ∙ reads in
     let good' : list_all (λ g. has_good_default g.kind) r.fields ≡ true = sym (ap (λ k. list_all (λ g. has_good_default g.kind) (fields_of_kind k)) n.kind) ∙ good in
     let at : slice_get r.fields i ≡ Some f = sym (ap (λ (o : Option StructNode). slice_get (elim o as (λ (p : Option StructNode). List FieldNode) [ None ↦ [] | Some m ↦ m.fields ]) i) h.found) ∙ is.recorded in
     let place = passed (λ g. has_its_place r g.kind) r.fields i f places' at in
@@ -111,6 +130,7 @@ sound_field s i f is r h =
     record {
       inside = subst (λ g. IsInside (words_in g) (pointers_in g) body) (sym h.shape) (kind_inside (schema_around s).shape_of r f.kind place default);
       default = default;
+      reads = passed (λ g. default_reads g.kind) r.fields i f reads' at;
     }
 
 union_here : (r : StructNode) → has_good_union r ≡ true → IsUnionInside r.words (union_place r)

@@ -2,7 +2,7 @@
 use Rattle.std.proofs.Common.{◌≡◌, ℕ, zero, suc, ◌^◌, ◌<◌, List, [], ◌∷◌, length, get_or, refl, ap, arith}
 use Rattle.std.specs.Prelude.{slice_set}
 use Rattle.capnp_model.specs.Sections.{section_of}
-use Rattle.capnp_model.specs.Trees.{structure, Trees, ◌▸◌, child, tree_count, with_child}
+use Rattle.capnp_model.specs.Trees.{structure, Trees, none, ◌▸◌, child, tree_count, with_child}
 use Rattle.capnp_model.specs.Fits.{Fits, FitEach}
 use Rattle.capnp_calls.specs.declared.root.StructValue.{StructValue}
 use Rattle.capnp_calls.specs.RootViews.{cell_of, struct_tree, HasFitting, SameSizes}
@@ -32,3 +32,8 @@ Fits-kept old new words_fit same keep f =
     let kids : tree_count (cell_of new).kids < 2 ^ 16 =
     omega (arith, tree_count-trees_of new.children.items, new.children.ok.0, same.pointers, old.children.ok.0, tree_count-trees_of old.children.items, f.1) in
     rw (new.words.ok.0) (words_fit new.words.items (cell_of new).kids words kids (keep f.3))
+
+pub child_fits : (ts : Trees) (i : ℕ) → FitEach ts → Fits (child ts i)
+child_fits none i f = tt
+child_fits (t ▸ ts) zero f = f.0
+child_fits (t ▸ ts) (suc i) f = child_fits ts i f.1

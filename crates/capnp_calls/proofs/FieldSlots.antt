@@ -3,7 +3,7 @@ use Rattle.std.proofs.Common.{◌≡◌, ℕ, ◌*◌, true, Option, Some, None,
 use Rattle.std.specs.Prelude.{option_map}
 use Rattle.capnp_model.specs.Trees.{Tree}
 use Rattle.capnp_model.specs.Schemas.{width, Ty, void, plain, text, blob, untyped, interface, struct, list, type_of, Value, FieldKind, slot, group, Field as FieldNode, StructNode, Shape, Body, plain_slot, pointer_slot}
-use Rattle.capnp_model.specs.Accepted.{default_tree, slot_body, field_body, is_default_of, has_good_default}
+use Rattle.capnp_model.specs.Accepted.{default_tree, slot_body, field_body, is_default_of, has_good_default, opens_as, is_good_value, default_reads}
 use Rattle.capnp_queries.specs.Types.{is_pointer}
 use Rattle.capnp_queries.specs.Structs.{nodes_around, schema_around, id_of, shape_of_struct, IsRecordOf}
 use Rattle.capnp_queries.specs.Handles.{entry_of, IsFieldRecord, plain_of, is_plain_of}
@@ -25,21 +25,23 @@ body_is f r b rec h = some_same (sym (ap (option_map (λ e. e.body)) rec.entry) 
 pub record PointerKind (k : FieldKind) (t : Ty) : Type 0 where
   pub pointer : is_pointer t ≡ true
   pub default : is_default_of t (default_in k) ≡ true
+  pub good : is_good_value (λ u. opens_as u t) (default_in k) ≡ true
 
 module _ (i : ℕ) (t : Ty) (x : Option Tree) (offset : ℕ) (d : Option Value) where
   -- the type, and the place with the node's default
-  record Parts : Type 0 where
+  record Parts (u : Ty) : Type 0 where
+    type : u ≡ t
     pointer : is_pointer t ≡ true
     default : is_default_of t d ≡ true
     body : pointer_slot i t x ≡ pointer_slot i t (default_tree d)
 
-  same_parts : (u : Ty) → is_pointer u ≡ true → is_default_of u d ≡ true → pointer_slot offset u (default_tree d) ≡ pointer_slot i t x → Parts
+  same_parts : (u : Ty) → is_pointer u ≡ true → is_default_of u d ≡ true → pointer_slot offset u (default_tree d) ≡ pointer_slot i t x → Parts u
   same_parts u p g h =
       let ty : u ≡ t = cc h in
       let default : default_tree d ≡ x = cc h in
-      record { pointer = subst (λ z. is_pointer z ≡ true) ty p; default = subst (λ z. is_default_of z d ≡ true) ty g; body = ap (pointer_slot i t) (sym default) }
+      record { type = ty; pointer = subst (λ z. is_pointer z ≡ true) ty p; default = subst (λ z. is_default_of z d ≡ true) ty g; body = ap (pointer_slot i t) (sym default) }
 
-  parts : (u : Ty) → is_default_of u d ≡ true → slot_body offset u d ≡ pointer_slot i t x → Parts
+  parts : (u : Ty) → is_default_of u d ≡ true → slot_body offset u d ≡ pointer_slot i t x → Parts u
   parts void g h = absurd (cc h)
   parts (plain p) g h = absurd (cc h)
   parts text g h = same_parts text refl g h
@@ -49,9 +51,11 @@ module _ (i : ℕ) (t : Ty) (x : Option Tree) (offset : ℕ) (d : Option Value) 
   parts (struct id) g h = same_parts (struct id) refl g h
   parts (list ty) g h = same_parts (list ty) refl g h
 
-pub pointer_kind : (groups : ℕ → Shape) (k : FieldKind) (i : ℕ) (t : Ty) (x : Option Tree) → field_body groups k ≡ pointer_slot i t x → has_good_default k ≡ true → PointerKind k t
-pointer_kind groups (slot offset ty d) i t x h g = let p = parts i t x offset d (type_of ty) g h in record { pointer = p.pointer; default = p.default }
-pointer_kind groups (group id) i t x h g = absurd (cc h)
+pub pointer_kind : (groups : ℕ → Shape) (k : FieldKind) (i : ℕ) (t : Ty) (x : Option Tree) → field_body groups k ≡ pointer_slot i t x → has_good_default k ≡ true → default_reads k ≡ true → PointerKind k t
+pointer_kind groups (slot offset ty d) i t x h g reads =
+    let p = parts i t x offset d (type_of ty) g h in
+    record { pointer = p.pointer; default = p.default; good = subst (λ z. is_good_value (λ u. opens_as u z) d ≡ true) p.type reads }
+pointer_kind groups (group id) i t x h g reads = absurd (cc h)
 
 pub pointer_body : (groups : ℕ → Shape) (k : FieldKind) (i : ℕ) (t : Ty) (x : Option Tree) → field_body groups k ≡ pointer_slot i t x → has_good_default k ≡ true → field_body groups k ≡ pointer_slot i t (default_tree (default_in k))
 pointer_body groups (slot offset ty d) i t x h g = h ∙ (parts i t x offset d (type_of ty) g h).body
@@ -71,7 +75,7 @@ module _ (f : Field) (r : FieldNode) (rec : IsFieldRecord f.parent f.index r) (n
   slot_is_field s h of_set = record { body = h; inside = slot_inside (body_of_slot s) h; of_set = of_set }
 
   pub kind_of_pointer : (i : ℕ) (t : Ty) (x : Option Tree) → option_map (λ e. e.body) (entry_of f) ≡ Some (pointer_slot i t x) → PointerKind r.kind t
-  kind_of_pointer i t x h = pointer_kind (schema_around f.parent).shape_of r.kind i t x (body_is f r (pointer_slot i t x) rec h) sound.default
+  kind_of_pointer i t x h = pointer_kind (schema_around f.parent).shape_of r.kind i t x (body_is f r (pointer_slot i t x) rec h) sound.default sound.reads
 
   pub body_of_pointer : (i : ℕ) (t : Ty) (x : Option Tree) → option_map (λ e. e.body) (entry_of f) ≡ Some (pointer_slot i t x) → option_map (λ e. e.body) (entry_of f) ≡ Some (pointer_slot i t (default_tree (default_in r.kind)))
   body_of_pointer i t x h =

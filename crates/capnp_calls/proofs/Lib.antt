@@ -1,6 +1,8 @@
 pub mod TextLemmas
 pub mod HexSigns
 pub mod Children
+pub mod Widening
+pub mod Segments
 pub mod Padding
 pub mod Blanks
 pub mod EnumNames
@@ -9,10 +11,16 @@ pub mod ShownPointers
 pub mod SlotShown
 pub mod OneStep
 pub mod LongLists
+pub mod PathFields
+pub mod ReadableSteps
+pub mod OpenedStructs
+pub mod PathAnswers
+pub mod StructAnswers
 pub mod AcceptedSlots
 pub mod FieldSlots
+pub mod GroupSizes
 pub mod NamedFields
 pub mod SlotRecords
-pub mod AtAStruct
+pub mod WholeCalls
 pub mod Placed
 pub mod InTurn

@@ -1,16 +1,20 @@
--- A call that puts a list is not refused, and its path ends at the slot.
-use Rattle.std.proofs.Common.{◌≡◌, ℕ, ◌<◌, Option, List, [], ◌∷◌, ap, sym, subst, ◌∙◌, arith}
+-- A path at whose end a list is put is not refused.
+use Rattle.std.proofs.Common.{◌≡◌, ℕ, ◌^◌, ◌<◌, ◌≤◌, Option, [], arith}
 use Rattle.capnp_model.specs.Trees.{Trees, structure}
 use Rattle.capnp_model.specs.Schemas.{Ty, shape, Fields, Body, void, plain, struct, Schema}
 use Rattle.capnp_model.specs.Readings.{Reading, record_of}
 use Rattle.capnp_model.specs.Printing.{fields_in}
 use Rattle.capnp_model.specs.Calls.{name, Verb, get, set_to, init, initn, clear, Content, refused_by, bits_of, object, slot_content}
-use Rattle.capnp_model.specs.InKindCalls.{at_value, end_at, end_of}
-use Rattle.capnp_model.specs.Steps.{Outcome, refused, shown, done, outcome_map, target, target_of, at_field, reading_after, step}
-use Rattle.capnp_calls.specs.Sizes.{content_len, end_content, IsDone}
-use Rattle.capnp_calls.proofs.OneStep.{IsSlot, is_void, is_plain, is_pointer, FieldsByName, named, outcome_is}
+use Rattle.capnp_model.specs.InKindCalls.{end_of}
+use Rattle.capnp_model.specs.Steps.{Outcome, refused, shown, done, outcome_map, target, target_of, at_field, reading_after, step_field}
+use Rattle.capnp_units.specs.declared.kinds.ErrorKind.{ErrorKind}
+use Rattle.capnp_units.specs.declared.kinds.ErrorKind.TheVariants.{OutOfMemory, SizeOverflow}
+use Rattle.capnp_model.specs.Edits.{Cell}
+use Rattle.capnp_calls.specs.Sizes.{content_len, end_content, IsDone, IsWant}
+use Rattle.capnp_calls.specs.Paths.{field_outcome, FieldPutsLong}
+use Rattle.capnp_calls.proofs.OneStep.{IsSlot, is_void, is_plain, is_pointer}
 
-mapped_done : {A B : Type 0} (f : A → B) (o : Outcome A) → IsDone o → IsDone (outcome_map f o)
+pub mapped_done : {A B : Type 0} (f : A → B) (o : Outcome A) → IsDone o → IsDone (outcome_map f o)
 mapped_done f (refused k) h = absurd h
 mapped_done f (shown how r) h = absurd h
 mapped_done f (done x) h = tt
@@ -37,11 +41,20 @@ at_long s clear body (is_void j) r h = after_long s void (slot_content s clear b
 at_long s clear body (is_plain p at d) r h = after_long s (plain p) (slot_content s clear body) h
 at_long s clear body (is_pointer i ty d) r h = after_long s ty (slot_content s clear body) h
 
-module _ (law : FieldsByName) (s : Schema) (id nid w p : ℕ) (union : Option ℕ) (fs : Fields) (is_shape : s.shape_of id ≡ shape nid w p union fs) (n : List ℕ) (member : Option ℕ) (body : Body) (is_slot : IsSlot body) (found : target_of n fs ≡ target member body) where
-  pub long_is_done : (verb : Verb) (words section : ℕ) (kids : Trees) → 0 < content_len (slot_content s verb body) → IsDone (step s id (named n verb) (record_of s id (structure words section kids)))
-  long_is_done verb words section kids h =
-      subst IsDone (sym (outcome_is law s id nid w p union fs is_shape n member body is_slot found verb words section kids)) (mapped_done _ _ (at_long s verb body is_slot _ h))
+-- a list that is put at a slot is put by the path that ends there
+field_long : (s : Schema) (union member : Option ℕ) (verb : Verb) (body : Body) → IsSlot body → (c : Cell) → 2 ^ 29 ≤ content_len (slot_content s verb body) → FieldPutsLong s [] verb union member body c
+unfolding field_outcome step_field end_of
+field_long s union member verb body is c long =
+    let some : 0 < content_len (slot_content s verb body) = omega (arith, long) in
+    record { is_done = at_long s verb body is _ some; is_long = long }
 
-  pub end_is : (verb : Verb) → end_content s verb (end_of s (name n ∷ []) (at_value (struct id))) ≡ slot_content s verb body
-  unfolding end_of
-  end_is verb = ap (λ x. end_content s verb (end_at x)) (ap (λ g. target_of n (fields_in g)) is_shape ∙ found)
+pub end_want : (s : Schema) (union member : Option ℕ) (verb : Verb) (body : Body) → IsSlot body → (c : Cell) (k : ErrorKind) → IsWant (2 ^ 29 ≤ content_len (slot_content s verb body)) k → IsWant (FieldPutsLong s [] verb union member body c) k
+end_want s union member verb body is c OutOfMemory want = tt
+end_want s union member verb body is c SizeOverflow want = field_long s union member verb body is c want
+end_want s union member verb body is c _ want = absurd want
+
+-- a want is one of what follows from its cause
+pub want_of : (P Q : Type 0) → (P → Q) → (k : ErrorKind) → IsWant P k → IsWant Q k
+want_of P Q f OutOfMemory want = tt
+want_of P Q f SizeOverflow want = f want
+want_of P Q f _ want = absurd want

@@ -10,8 +10,9 @@ use Rattle.capnp_queries.specs.Handles.{entry_of, IsFieldRecord}
 use Rattle.capnp_queries.specs.declared.structs.StructSchema.{StructSchema}
 use Rattle.capnp_queries.specs.declared.fields.Field.{Field}
 use Rattle.capnp_calls.specs.Slots.{words_in, body_of_slot, IsUnionInside}
-use Rattle.capnp_calls.specs.Finding.{IsFieldSlot, IsNamed}
+use Rattle.capnp_calls.specs.Finding.{IsFieldSlot, IsFieldGroup, IsNamed, IsNamedGroup}
 use Rattle.capnp_calls.specs.declared.find.NamedSlot.{NamedSlot}
+use Rattle.capnp_calls.specs.declared.find.NamedGroup.{NamedGroup}
 use Rattle.capnp_calls.proofs.FieldSlots.{body_is}
 
 none_mapped : (o : Option ℕ) → option_map (λ i. suc i) o ≡ None → o ≡ None
@@ -56,10 +57,18 @@ module _ (n : List ℕ) (f : Field) (r : FieldNode) (rec : IsFieldRecord f.paren
       found_at n (fields_of_struct f.parent) f.index (entry_in (schema_around f.parent) r) (sym place) rec.entry
       ∙ ap (target r.member) (body_is f r b rec is)
 
-  pub group_is : (root : StructSchema) (g : Shape) → f.parent ≡ root → option_map (λ e. e.body) (entry_of f) ≡ Some (group_slot g) → Some f.index ≡ place_of_name n (fields_of_struct root)
-      → target_of n (fields_of_struct root) ≡ target r.member (group_slot g)
-  group_is root g parent is =
-      subst (λ x. Some f.index ≡ place_of_name n (fields_of_struct x) → target_of n (fields_of_struct x) ≡ target r.member (group_slot g)) parent (here (group_slot g) is)
+  pub group_is : (root : StructSchema) (g : NamedGroup) → f.parent ≡ root → IsFieldGroup f g.schema → g.member ≡ r.member → Some f.index ≡ place_of_name n (fields_of_struct root)
+      → g.union ≡ union_in (shape_of_struct root) → IsUnionInside (words_in (shape_of_struct root)) g.union → IsNamedGroup root n g
+  group_is root g parent at member =
+      subst (λ x. Some f.index ≡ place_of_name n (fields_of_struct x) → g.union ≡ union_in (shape_of_struct x) → IsUnionInside (words_in (shape_of_struct x)) g.union → IsNamedGroup x n g) parent
+      (λ place union inside. record {
+        target = here (group_slot (shape_of_struct g.schema)) at.body place ∙ ap (λ m. target m (group_slot (shape_of_struct g.schema))) (sym member);
+        union = union;
+        union_inside = inside;
+        words = at.words;
+        pointers = at.pointers;
+        nodes = at.nodes;
+      })
 
   pub named_is : (root : StructSchema) (s : NamedSlot) → f.parent ≡ root → IsFieldSlot f s.slot → s.member ≡ r.member → Some f.index ≡ place_of_name n (fields_of_struct root)
       → s.union ≡ union_in (shape_of_struct root) → IsUnionInside (words_in (shape_of_struct root)) s.union → IsNamed root n s

@@ -17,7 +17,7 @@ module _ (w p words pointers : ℕ) (wide : w ≤ words) (long : p ≤ pointers)
   inside_more (pointer_slot i ty d) h = omega (arith, long, h)
   inside_more (group_slot g) h = tt
 
-  union_more : (u : Option ℕ) → IsUnionInside w u → IsUnionInside words u
+  pub union_more : (u : Option ℕ) → IsUnionInside w u → IsUnionInside words u
   union_more None h = tt
   union_more (Some at) h = lies_more at 16 h
 

@@ -30,7 +30,7 @@ got_shown how (list_of rs) h = refl
 got_shown how (record_as r) h = refl
 got_shown how (opaque t) h = refl
 
-read_child-child : (s : Schema) (ts : Trees) (i : ℕ) (ty : Ty) → read_child s ts i ty ≡ read s (child ts i) ty
+pub read_child-child : (s : Schema) (ts : Trees) (i : ℕ) (ty : Ty) → read_child s ts i ty ≡ read s (child ts i) ty
 unfolding read_child read
 read_child-child s none i ty = refl
 read_child-child s (t ▸ ts) zero ty = refl

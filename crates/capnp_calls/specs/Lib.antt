@@ -8,6 +8,8 @@ pub mod Finding
 pub mod Taken
 pub mod Replies
 pub mod Sizes
+pub mod Readable
+pub mod Paths
 pub mod Changes
 pub mod Ends
 pub mod PointerTexts

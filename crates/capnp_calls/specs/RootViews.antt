@@ -1,7 +1,7 @@
 -- What contracts see of the struct that calls edit.
 use Rattle.std.specs.Prelude.{◌≡◌, ℕ, ◌+◌, ◌*◌, ◌%◌, ◌≤◌, ◌<◌, Option, Some, None, vec_len}
 use Rattle.capnp_model.specs.Sections.{section_of}
-use Rattle.capnp_model.specs.Trees.{Tree, null, structure, widened}
+use Rattle.capnp_model.specs.Trees.{Tree, null, structure, none, widened}
 use Rattle.capnp_model.specs.Fits.{FitEach}
 use Rattle.capnp_model.specs.Edits.{Cell}
 use Rattle.capnp_value.specs.Values.{trees_of, trees_view}
@@ -35,3 +35,8 @@ abbrev pub struct_from : ℕ → ℕ → Tree → Option Tree
 struct_from words pointers null = Some (widened words pointers null)
 struct_from words pointers (structure w section kids) = Some (widened words pointers (structure w section kids))
 struct_from words pointers _ = None
+
+-- A null as the empty struct.
+abbrev pub or_empty_struct : Tree → Tree
+or_empty_struct null = structure 0 0 none
+or_empty_struct t = t

@@ -1,8 +1,9 @@
 -- What contracts see of slots: fields that are no groups. (Encoding, "Structs")
-use Rattle.std.specs.Prelude.{ℕ, ◌≡◌, ◌*◌, ◌+◌, ◌%◌, ◌-◌, ◌^◌, ◌<◌, true, Option, Some, None, IfSome, option_map, option_copied, List, length}
-use Rattle.capnp_model.specs.Schemas.{width, Ty, text, blob, untyped, interface, struct, list, Node, Shape, shape, Body, void_slot, plain_slot, pointer_slot, group_slot}
+use Rattle.std.specs.Prelude.{ℕ, ◌≡◌, ◌*◌, ◌+◌, ◌%◌, ◌-◌, ◌^◌, ◌<◌, true, Option, Some, None, IfSome, IsSome, option_map, option_copied, List, length}
+use Rattle.capnp_model.specs.Schemas.{width, Ty, text, blob, untyped, interface, struct, list, Value, text_bytes, blob_bytes, list_segment, struct_segment, Node, Shape, shape, Body, void_slot, plain_slot, pointer_slot, group_slot}
 use Rattle.capnp_model.specs.Calls.{text_tree, blob_tree}
-use Rattle.capnp_model.specs.Accepted.{default_tree}
+use Rattle.capnp_model.specs.Decoding.{decode}
+use Rattle.capnp_model.specs.Accepted.{default_tree, is_default_of, opens_as, is_good_value}
 use Rattle.capnp_records.specs.NodeViews.{value_of}
 use Rattle.capnp_records.specs.Sets.{IsNodeOf}
 use Rattle.capnp_queries.specs.Types.{ty_of, is_type_of}
@@ -57,7 +58,20 @@ IsUnionInside words (Some at) = LiesIn words at 16
 abbrev pub IsShortDefault : ℕ → Option (List ℕ) → Type 0
 IsShortDefault most default = IfSome default (λ bytes. length bytes < most)
 
--- What the slot names is of the set of the nodes, and its default is no longer than a list can be.
+-- A default is one of the type; a segment is null or reads as the type.
+pub record HasGoodDefault (ty : Ty) (default : Option Value) : Type 0 where
+  pub is : is_default_of ty default ≡ true
+  pub reads : is_good_value (λ t. opens_as t ty) default ≡ true
+
+-- A default, if there is one, is a segment that can be read.
+abbrev pub IsSegment : Option Value → Type 0
+IsSegment (Some (list_segment bs)) = IsSome (decode bs)
+IsSegment (Some (struct_segment bs)) = IsSome (decode bs)
+IsSegment (Some (text_bytes bs)) = ⊥
+IsSegment (Some (blob_bytes bs)) = ⊥
+IsSegment _ = Unit {0}
+
+-- What the slot names is of the set of the nodes, and its default is no longer than a list can be and reads as its type.
 abbrev pub IsSlotOf : List Node → Slot → Type 0
 IsSlotOf nodes (S.Void offset) = Unit {0}
 IsSlotOf nodes (S.Plain ty first default) = is_plain_of nodes ty ≡ true
@@ -65,5 +79,5 @@ IsSlotOf nodes (S.Text i default) = IsShortDefault (2 ^ 29 - 1) (option_copied d
 IsSlotOf nodes (S.Data i default) = IsShortDefault (2 ^ 29) (option_copied default)
 IsSlotOf nodes (S.AnyPointer i) = Unit {0}
 IsSlotOf nodes (S.Capability i) = Unit {0}
-IsSlotOf nodes (S.Struct i raw default) = IsNodeOf nodes raw
-IsSlotOf nodes (S.List i element default) = is_type_of nodes element ≡ true
+IsSlotOf nodes (S.Struct i raw default) = IsNodeOf nodes raw × HasGoodDefault (struct raw.id) (option_map value_of (option_copied default))
+IsSlotOf nodes (S.List i element default) = (is_type_of nodes element ≡ true) × HasGoodDefault (list (ty_of element)) (option_map value_of (option_copied default))

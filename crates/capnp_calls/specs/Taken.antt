@@ -1,10 +1,11 @@
--- The calls that are taken: those of one name that ends at a slot; a struct or a list is written, and not read.
-use Rattle.std.specs.Prelude.{ℕ, Bool, true, false, Option, Some, None, List, [], ◌∷◌, map}
+-- The calls that are taken: those along names that end at a slot; a struct or a list is written, and not read.
+use Rattle.std.specs.Prelude.{ℕ, ◌≡◌, Bool, true, false, ◌&&◌, Option, Some, None, List, [], ◌∷◌, map}
 use Rattle.capnp_model.specs.Trees.{Tree}
-use Rattle.capnp_model.specs.Schemas.{struct, list, Fields, Body, pointer_slot, group_slot}
+use Rattle.capnp_model.specs.Schemas.{struct, list, Fields, Body, pointer_slot, group_slot, Schema}
 use Rattle.capnp_model.specs.Readings.{Record, record_of}
 use Rattle.capnp_model.specs.Calls.{Step, name, index, Verb, get, Call}
-use Rattle.capnp_model.specs.Steps.{Target, no_target, target, target_of, Outcome, step, record_after}
+use Rattle.capnp_model.specs.Steps.{target_of, Outcome, step, record_after}
+use Rattle.capnp_model.specs.InKindCalls.{PathEnd, at_slot, at_value, nowhere, end_at, end_of}
 use Rattle.capnp_model.specs.Edits.{edit}
 use Rattle.capnp_model.specs.CallRuns.{records_after}
 use Rattle.capnp_model.specs.Answers.{Reply, reply_of, replies, edits}
@@ -17,16 +18,16 @@ use Rattle.capnp_calls.specs.Texts.{as_it_is}
 abbrev pub IsRoot : StructSchema → Type 0
 IsRoot root = IsStructOf (nodes_around root) root.raw
 
--- The name of which a path of one step consists.
-abbrev pub name_in : Step → Option (List ℕ)
-name_in (name n) = Some n
-name_in (index i) = None
+-- All steps are names.
+abbrev pub are_names : List Step → Bool
+are_names [] = true
+are_names (name n ∷ path) = are_names path
+are_names (index i ∷ path) = false
 
--- The one name of a path.
-abbrev pub only_name : List Step → Option (List ℕ)
-only_name [] = None
-only_name (s ∷ []) = name_in s
-only_name (s ∷ s' ∷ path) = None
+-- A path has no step, or begins with a name before others.
+abbrev pub BeginsWith : List Step → Option (List ℕ × List Step) → Type 0
+BeginsWith path None = path ≡ []
+BeginsWith path (Some p) = path ≡ name p.0 ∷ p.1
 
 -- A verb is taken at a slot, but for `get` of a struct or a list; none is at a group.
 abbrev pub is_taken_at : Verb → Body → Bool
@@ -35,19 +36,30 @@ is_taken_at get (pointer_slot i (struct id) d) = false
 is_taken_at get (pointer_slot i (list ty) d) = false
 is_taken_at verb body = true
 
--- A name that no field has is taken, and refused.
-abbrev pub is_taken_target : Verb → Target → Bool
-is_taken_target verb no_target = true
-is_taken_target verb (target member body) = is_taken_at verb body
+-- A verb is taken where a path ends; a path that fits no field is taken, and refused.
+abbrev pub is_taken_end : Verb → PathEnd → Bool
+is_taken_end verb (at_slot body) = is_taken_at verb body
+is_taken_end verb (at_value ty) = true
+is_taken_end verb nowhere = true
 
--- The one name of a path, at the fields of a struct.
-abbrev pub is_taken_name : Verb → Fields → Option (List ℕ) → Bool
-is_taken_name verb fs None = false
-is_taken_name verb fs (Some n) = is_taken_target verb (target_of n fs)
+-- Where a path from the fields of a struct or a group on ends.
+abbrev pub end_behind : Schema → Fields → List Step → PathEnd
+end_behind s fs (name n ∷ path) = end_of s path (end_at (target_of n fs))
+end_behind s fs _ = nowhere
+
+-- The rest of a path from a struct or a group on is one of names, and taken.
+pub record IsTakenPath (root : StructSchema) (path : List Step) (verb : Verb) : Type 0 where
+  pub names : are_names path ≡ true
+  pub taken : is_taken_end verb (end_behind (schema_around root) (fields_of_struct root) path) ≡ true
+
+-- The rest of a path from a field on is one of names, and taken.
+pub record IsTakenRest (s : Schema) (body : Body) (rest : List Step) (verb : Verb) : Type 0 where
+  pub names : are_names rest ≡ true
+  pub taken : is_taken_end verb (end_of s rest (at_slot body)) ≡ true
 
 -- Whether a call at the root is taken.
 abbrev pub is_taken : StructSchema → Call → Bool
-is_taken root c = is_taken_name c.verb (fields_of_struct root) (only_name c.path)
+is_taken root c = are_names c.path && is_taken_end c.verb (end_behind (schema_around root) (fields_of_struct root) c.path)
 
 -- The path where the test holds, else none.
 abbrev pub path_if : Bool → List Step → List Step

@@ -12,18 +12,20 @@ ghost use Rattle.capnp_calls.specs.RootViews.{cell_of, struct_tree, HasFitting, 
 ghost use Rattle.capnp_calls.specs.Slots.{words_in, pointers_in, body_of_slot, IsUnionInside, IsSlotOf};
 ghost use Rattle.capnp_calls.specs.Finding.{IsPlaced};
 ghost use Rattle.capnp_calls.specs.Sizes.{content_len, PutsLongList, IsWant};
-ghost use Rattle.capnp_calls.specs.Taken.{IsRoot, only_name, is_taken_at};
+ghost use Rattle.capnp_calls.specs.Taken.{IsRoot, is_taken_at};
 ghost use Rattle.capnp_calls.specs.Replies.{is_active_in, reply_view, slot_reply, slot_edit, AnswersCall};
 
-use crate::call::{Action, Call, Step};
+use crate::call::{Action, Call};
 use crate::change::{clear_change, init_change, initn_change, set_change};
-use crate::find::{Found, NamedSlot, find_slot};
+use crate::find::NamedSlot;
 use crate::get::get_slot;
+use crate::path::answer_at;
 use crate::put::put_change;
 use crate::reply::Reply;
 use crate::root::{StructValue, bits};
 use crate::slot::Slot;
-use capnp_model::{laws, laws_of_edits};
+use crate::taken::{are_names, is_taken_behind};
+use capnp_model::laws_of_edits;
 use capnp_queries::structs::StructSchema;
 use capnp_records::set::SchemaSet;
 use capnp_units::errors;
@@ -31,7 +33,7 @@ use capnp_units::kinds::ErrorKind;
 use std::alloc::{AllocError, Global};
 
 /// Whether a slot is no member, or the active one of its union.
-fn is_active(root: &StructValue, union: Option<u32>, member: Option<u16>) -> bool
+pub(crate) fn is_active(root: &StructValue, union: Option<u32>, member: Option<u16>) -> bool
     requires { IsUnionInside (vec_len root.now.words) union }
     ensures { result ≡ is_active_in union member (cell_of root.now) }
 {
@@ -43,7 +45,7 @@ fn is_active(root: &StructValue, union: Option<u32>, member: Option<u16>) -> boo
 }
 
 /// Whether an action is taken at a slot: a struct or a list is not read.
-fn is_taken(action: &Action, slot: Slot<'_>) -> bool
+pub(crate) fn is_taken(action: &Action, slot: Slot<'_>) -> bool
     ensures { result ≡ is_taken_at (action_view action.now) (body_of_slot slot.entry) }
 {
     match (action, slot) {
@@ -71,7 +73,7 @@ fn get_active(
 }
 
 /// Does what an action says at a slot, at which it is taken.
-fn answer_slot(
+pub(crate) fn answer_slot(
     alloc: Global,
     set: &SchemaSet,
     root: &mut StructValue,
@@ -107,16 +109,6 @@ fn answer_slot(
     }
 }
 
-/// The name of which the call's path consists, where it is one name.
-fn field_name(call: &Call) -> Option<&str>
-    ensures { option_copied result ≡ only_name (call_view call.now).path }
-{
-    match call.path.as_slice() {
-        [Step::Name(name)] => Some(name.as_str()),
-        _ => None,
-    }
-}
-
 /// Answers a call. A refused call and a `get` leave the struct as it was, and so does an error.
 /// `SizeOverflow`: the call puts a list that is too long.
 pub(crate) fn answer_call(
@@ -134,19 +126,13 @@ pub(crate) fn answer_call(
     ensures stays { OnErr result (struct_tree root.new ≡ struct_tree root.old) }
     ensures refusal { IfErr result (λ e. IsWant (PutsLongList schema.entry (call_view call.now) (struct_tree root.old)) e.kind) }
 {
-    laws::fields_by_name();
     laws_of_edits::records_of_edited_values();
-    let Some(name) = field_name(call) else {
+    let path = call.path.as_slice();
+    if !are_names(path) {
         return Ok(Reply::Refused(ErrorKind::WrongStep));
-    };
-    match find_slot(schema, name) {
-        Found::Nothing => Ok(Reply::Refused(ErrorKind::FieldNotFound)),
-        Found::Group => Ok(Reply::Refused(ErrorKind::WrongStep)),
-        Found::Slot(named) => {
-            if !is_taken(&call.action, named.slot) {
-                return Ok(Reply::Refused(ErrorKind::WrongStep));
-            }
-            answer_slot(alloc, schema.set(), root, named, &call.action)
-        }
     }
+    if !is_taken_behind(schema, path, &call.action) {
+        return Ok(Reply::Refused(ErrorKind::WrongStep));
+    }
+    answer_at(alloc, schema, root, path, &call.action)
 }

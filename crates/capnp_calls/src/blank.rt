@@ -37,7 +37,7 @@ fn zeros(alloc: Global, size: u8, bits: u8, count: u32) -> Result<Value, AllocEr
 }
 
 /// So many nulls.
-fn nulls(alloc: Global, count: u32) -> Result<Vec<Value>, AllocError>
+pub(crate) fn nulls(alloc: Global, count: u32) -> Result<Vec<Value>, AllocError>
     ensures { IfOk result (λ v. trees_view v.items ≡ replicate count null) }
 {
     let mut values = Vec::new(alloc);

@@ -8,7 +8,7 @@ use capnp_model::laws;
 use std::alloc::{AllocError, Global};
 
 /// The byte at a place in words, zero behind them.
-fn byte_in(words: &[u64], place: u32) -> u8
+pub(crate) fn byte_in(words: &[u64], place: u32) -> u8
     ensures { result ≡ bits_at (8 * place) 8 (section_of words.now) }
 {
     laws::bits_in_words();

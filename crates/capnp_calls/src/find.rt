@@ -23,12 +23,28 @@ pub(crate) struct NamedSlot<'a> {
     pub(crate) member: Option<u16>,
 }
 
+/// A group of a struct, with the place of the struct's discriminant and the value at which the group is the active member.
+#[derive(Clone, Copy, Debug)]
+pub(crate) struct NamedGroup<'a> {
+    pub(crate) schema: StructSchema<'a>,
+    /// the first bit of the discriminant, if the struct has a union
+    pub(crate) union: Option<u32>,
+    /// the member's value, if the group is a member
+    pub(crate) member: Option<u16>,
+}
+
 /// What a name finds in a struct.
 #[derive(Clone, Copy, Debug)]
 pub(crate) enum Found<'a> {
     Nothing,
-    Group,
+    Group(NamedGroup<'a>),
     Slot(NamedSlot<'a>),
+}
+
+/// What a field is.
+enum Place<'a> {
+    Group(StructSchema<'a>),
+    Slot(Slot<'a>),
 }
 
 /// The first bit of the struct's discriminant, if it has a union.
@@ -65,8 +81,8 @@ fn member_of(field: &FieldRecord) -> Option<u16>
     }
 }
 
-/// The slot of a field, if that is no group.
-fn slot_of<'a>(field: Field<'a>) -> Option<Slot<'a>>
+/// The slot or the group that a field is.
+fn place_of<'a>(field: Field<'a>) -> Place<'a>
     ensures { FindsField field.entry result }
 {
     let holder = field.parent().record();
@@ -84,9 +100,9 @@ fn slot_of<'a>(field: Field<'a>) -> Option<Slot<'a>>
             default_bits,
         },
         FieldPlace::Pointer { index, ty, .. } => pointer_slot(index, ty, default_of(record)),
-        FieldPlace::Group { .. } => return None,
+        FieldPlace::Group { schema } => return Place::Group(schema),
     };
-    Some(slot)
+    Place::Slot(slot)
 }
 
 /// What a name finds among the fields of a struct.
@@ -98,12 +114,18 @@ pub(crate) fn find_slot<'a>(schema: StructSchema<'a>, name: &str) -> Found<'a>
         Err(_) => return Found::Nothing,
     };
     let record = field.get_proto();
-    match slot_of(field) {
-        Some(slot) => Found::Slot(NamedSlot {
+    let union = first_bit_of_union(schema);
+    let member = member_of(record);
+    match place_of(field) {
+        Place::Slot(slot) => Found::Slot(NamedSlot {
             slot,
-            union: first_bit_of_union(schema),
-            member: member_of(record),
+            union,
+            member,
         }),
-        None => Found::Group,
+        Place::Group(schema) => Found::Group(NamedGroup {
+            schema,
+            union,
+            member,
+        }),
     }
 }

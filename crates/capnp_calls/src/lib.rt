@@ -7,22 +7,27 @@ mod bytes;
 mod call;
 mod change;
 mod data_text;
+mod default;
 pub mod dynamic_struct;
 mod find;
 mod get;
 pub mod laws;
 mod number;
 pub mod open;
+mod path;
 mod pointer_text;
 mod put;
+mod readable;
 pub mod reply;
 pub mod root;
 pub mod run;
 mod section;
 mod shown;
 mod slot;
+mod taken;
 #[cfg(test)]
 mod tests;
 mod text;
+mod widen;
 
 pub use call::{Call, CallFault, CallValue, Step, Verb};

@@ -1,11 +1,12 @@
 //! The root of a message as a struct, and back.
 
-ghost use Rattle.std.specs.Prelude.{◌≡◌, ◌≤◌, max, IfOk, IfSome, option_map, vec_len};
+ghost use Rattle.std.specs.Prelude.{◌≡◌, ◌≤◌, max, true, false, IfOk, IfErr, IfSome, option_map, vec_len};
 ghost use Rattle.capnp_model.specs.Sections.{section_of};
 ghost use Rattle.capnp_model.specs.Fits.{Fits};
 ghost use Rattle.capnp_model.specs.Trees.{structure, padded_to};
 ghost use Rattle.capnp_value.specs.Values.{tree_of_value, trees_of, trees_view};
-ghost use Rattle.capnp_calls.specs.RootViews.{struct_tree, struct_from};
+ghost use Rattle.capnp_calls.specs.RootViews.{struct_tree, struct_from, or_empty_struct};
+ghost use Rattle.capnp_calls.specs.Readable.{is_struct};
 
 use crate::root::StructValue;
 use capnp_model::laws;
@@ -76,6 +77,21 @@ pub fn open_struct(
             Ok(Some(padded(words, children, data_words, pointers)?))
         }
         _ => Ok(None),
+    }
+}
+
+/// The struct of a value, null as the empty struct; a list is none, and comes back.
+pub(crate) fn as_struct(alloc: Global, value: Value) -> Result<StructValue, Value>
+    ensures is { IfOk result (λ r. (is_struct (tree_of_value value) ≡ true) × (struct_tree r ≡ or_empty_struct (tree_of_value value))) }
+    ensures list { IfErr result (λ v. (v ≡ value) × (is_struct (tree_of_value value) ≡ false)) }
+{
+    match value {
+        Value::Null => Ok(StructValue {
+            words: Vec::new(alloc),
+            children: Vec::new(alloc),
+        }),
+        Value::Struct { words, children } => Ok(StructValue { words, children }),
+        list => Err(list),
     }
 }
 

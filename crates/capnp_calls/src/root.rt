@@ -2,7 +2,7 @@
 
 ghost use Rattle.std.specs.Prelude.{◌≡◌, ◌+◌, ◌*◌, ◌%◌, ◌^◌, ◌<◌, ◌≤◌, vec_len};
 ghost use Rattle.capnp_model.specs.Sections.{bits_at};
-ghost use Rattle.capnp_model.specs.Trees.{with_child, child};
+ghost use Rattle.capnp_model.specs.Trees.{null, with_child, child};
 ghost use Rattle.capnp_model.specs.Fits.{Fits};
 ghost use Rattle.capnp_model.specs.Edits.{put_bits, put_child};
 ghost use Rattle.capnp_value.specs.Values.{tree_of_value};
@@ -11,6 +11,7 @@ ghost use Rattle.capnp_calls.specs.RootViews.{LiesIn, cell_of, HasFitting, SameS
 use crate::section;
 use capnp_model::laws;
 use capnp_value::value::Value;
+use std::mem;
 
 /// A struct: the words of its data section, and the values of its pointers.
 #[derive(Debug, Drop)]
@@ -55,4 +56,17 @@ pub fn set_pointer(root: &mut StructValue, index: u32, value: Value)
 {
     laws::fitting_values();
     root.children[index as usize] = value;
+}
+
+/// Takes the value of a pointer, which is null afterwards.
+pub(crate) fn take_pointer(root: &mut StructValue, index: u32) -> Value
+    requires { index < vec_len root.old.children }
+    ensures value { tree_of_value result ≡ child (cell_of root.old).kids index }
+    ensures cell { cell_of root.new ≡ put_child index null (cell_of root.old) }
+    ensures sizes { SameSizes root.old root.new }
+    ensures fits { HasFitting root.old → Fits (tree_of_value result) }
+    ensures fitting { HasFitting root.old → HasFitting root.new }
+{
+    laws::fitting_values();
+    mem::replace(&mut root.children[index as usize], Value::Null)
 }

@@ -7,7 +7,7 @@ ghost use Rattle.capnp_model.specs.Schemas.{Node};
 ghost use Rattle.capnp_records.specs.NodeViews.{value_of};
 ghost use Rattle.capnp_queries.specs.Types.{ty_of, is_pointer, is_type_of};
 ghost use Rattle.capnp_queries.specs.Handles.{plain_of};
-ghost use Rattle.capnp_calls.specs.Slots.{body_of_slot, IsSlotOf};
+ghost use Rattle.capnp_calls.specs.Slots.{body_of_slot, HasGoodDefault, IsSlotOf};
 
 use capnp_queries::introspect::{Type, TypeVariant};
 use capnp_queries::slots::PlainType;
@@ -72,6 +72,7 @@ pub(crate) fn width_of(ty: PlainType) -> u32
 pub(crate) fn pointer_slot<'a>(pointer: u32, ty: Type, default: Option<&'a Value>) -> Slot<'a>
     requires pointer { is_pointer (ty_of ty) ≡ true }
     requires default { is_default_of (ty_of ty) (option_map value_of (option_copied default)) ≡ true }
+    requires good { HasGoodDefault (ty_of ty) (option_map value_of (option_copied default)) }
     ensures body { body_of_slot result ≡ pointer_slot pointer (ty_of ty) (default_tree (option_map value_of (option_copied default.entry))) }
     ensures of_set { (nodes : List Node) → is_type_of nodes ty ≡ true → IsSlotOf nodes result }
 {

@@ -1,5 +1,7 @@
 //! Calls at the fields of small structs, and what they reply.
 
+mod paths;
+
 use crate::call::{Call, CallValue, Step, Verb};
 use crate::dynamic_struct::{Builder, data_words, pointers};
 use crate::open::open_struct;
@@ -18,7 +20,7 @@ use std::alloc::{AllocError, Global};
 use std::test::Fail;
 
 /// A field of a name that is a slot of a type.
-fn field(
+pub(crate) fn field(
     alloc: Global,
     name: &str,
     base: BaseType,
@@ -40,7 +42,7 @@ fn field(
 }
 
 /// The node of a struct or a group.
-fn node(alloc: Global, id: u64, record: StructRecord) -> Result<NodeRecord, AllocError> {
+pub(crate) fn node(alloc: Global, id: u64, record: StructRecord) -> Result<NodeRecord, AllocError> {
     Ok(NodeRecord {
         id,
         display_name: String::from_str(alloc, "Node")?,
@@ -50,7 +52,7 @@ fn node(alloc: Global, id: u64, record: StructRecord) -> Result<NodeRecord, Allo
 }
 
 /// A struct of one data word and so many pointers, without a union.
-fn plain(pointer_count: u16, fields: Vec<FieldRecord>) -> StructRecord {
+pub(crate) fn plain(pointer_count: u16, fields: Vec<FieldRecord>) -> StructRecord {
     StructRecord {
         data_word_count: 1,
         pointer_count,
@@ -125,7 +127,7 @@ fn single(
 }
 
 /// The replies to calls in turn at the struct of an id that is made of a value, with the struct after them.
-fn answered(
+pub(crate) fn answered(
     alloc: Global,
     nodes: Vec<NodeRecord>,
     id: u64,
@@ -154,7 +156,7 @@ fn at(alloc: Global, name: &str, verb: Verb, value: Option<CallValue>) -> Result
 }
 
 /// A struct of one word and no pointer.
-fn one_word(alloc: Global, word: u64) -> Result<Value, AllocError> {
+pub(crate) fn one_word(alloc: Global, word: u64) -> Result<Value, AllocError> {
     let mut words = Vec::new(alloc);
     words.push(word)?;
     Ok(Value::Struct {

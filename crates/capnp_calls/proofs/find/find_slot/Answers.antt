@@ -8,15 +8,14 @@ use Rattle.capnp_calls.proofs.find.find_slot.Goals as goal
 pub returns-in-Err : goal.returns-in-Err
 returns-in-Err c = not_found c.args.name.now (fields_of_struct c.args.schema) c.in-Err.ensures.missing.1
 
-pub returns-in-None : goal.returns-in-None
-returns-in-None c =
+pub returns-in-Group : goal.returns-in-Group
+returns-in-Group c =
     let f = c.in-Ok.field in
     let r = field_of c.get_proto-record.result.now in
-    let g = c.in-None.ensures.0 in
-    (r.member, g, group_is c.args.name.now f r c.get_proto-record.ensures c.args.schema g c.in-Ok.ensures.found.parent c.in-None.ensures.1 c.in-Ok.ensures.found.index)
+    group_is c.args.name.now f r c.get_proto-record.ensures c.args.schema (record { schema = c.in-Group.schema; union = c.first_bit_of_union-union.result; member = c.member_of-member.result }) c.in-Ok.ensures.found.parent c.in-Group.ensures c.member_of-member.ensures c.in-Ok.ensures.found.index c.first_bit_of_union-union.ensures.union c.first_bit_of_union-union.ensures.inside
 
-pub returns-in-Some : goal.returns-in-Some
-returns-in-Some c =
+pub returns-in-Slot : goal.returns-in-Slot
+returns-in-Slot c =
     let f = c.in-Ok.field in
     let r = field_of c.get_proto-record.result.now in
-    named_is c.args.name.now f r c.get_proto-record.ensures c.args.schema (record { slot = c.in-Some.slot; union = c.first_bit_of_union.result; member = c.member_of.result }) c.in-Ok.ensures.found.parent c.in-Some.ensures c.member_of.ensures c.in-Ok.ensures.found.index c.first_bit_of_union.ensures.union c.first_bit_of_union.ensures.inside
+    named_is c.args.name.now f r c.get_proto-record.ensures c.args.schema (record { slot = c.in-Slot.slot; union = c.first_bit_of_union-union.result; member = c.member_of-member.result }) c.in-Ok.ensures.found.parent c.in-Slot.ensures c.member_of-member.ensures c.in-Ok.ensures.found.index c.first_bit_of_union-union.ensures.union c.first_bit_of_union-union.ensures.inside

@@ -1,15 +1,16 @@
 use Rattle.std.proofs.Common.{rules, ◌≡◌, ◌*◌, ◌^◌, ◌<◌, Some, sym, ap, ◌∙◌, subst, arith}
 use Rattle.capnp_model.specs.Schemas.{width, plain_slot, pointer_slot}
-use Rattle.capnp_model.specs.Accepted.{default_tree, is_default_of}
+use Rattle.capnp_model.specs.Accepted.{default_tree, is_default_of, is_good_value, opens_as}
 use Rattle.capnp_records.specs.NodeViews.{field_of, struct_of}
 use Rattle.capnp_queries.specs.Types.{ty_of}
 use Rattle.capnp_queries.specs.Structs.{nodes_around, id_of, shape_of_struct, IsRecordOf}
+use Rattle.capnp_calls.proofs.GroupSizes.{group_is_field}
 use Rattle.capnp_queries.specs.Handles.{plain_of}
 use Rattle.capnp_calls.specs.Slots.{words_in}
 use Rattle.capnp_calls.specs.declared.slot.Slot.TheVariants as S
 use Rattle.capnp_calls.proofs.FieldSlots.{slot_inside, slot_is_field, kind_of_pointer, body_of_pointer}
-use Rattle.capnp_calls.proofs.find.slot_of.Goals.{in-Void, in-Plain, in-Pointer}
-use Rattle.capnp_calls.proofs.find.slot_of.Goals as goal
+use Rattle.capnp_calls.proofs.find.place_of.Goals.{in-Void, in-Plain, in-Pointer}
+use Rattle.capnp_calls.proofs.find.place_of.Goals as goal
 
 pub overflow_mul-slot : goal.overflow_mul-slot
 overflow_mul-slot c =
@@ -32,8 +33,20 @@ pointer_slot-slot-requires-clause-default c =
     let kind = kind_of_pointer f (field_of c.get_proto-record.result.now) c.get_proto-record.ensures n holder c.in-Pointer.index (ty_of c.in-Pointer.ty) _ c.in-Pointer.ensures.body in
     ap (is_default_of (ty_of c.in-Pointer.ty)) c.default_of.ensures ∙ kind.default
 
+pub pointer_slot-slot-requires-clause-good : goal.pointer_slot-slot-requires-clause-good
+pointer_slot-slot-requires-clause-good c =
+    let f = c.args.field in
+    let n = struct_of c.record-holder.result.now in
+    let holder = subst (λ p. IsRecordOf (nodes_around p) (id_of p) n) c.parent.ensures c.record-holder.ensures in
+    let kind = kind_of_pointer f (field_of c.get_proto-record.result.now) c.get_proto-record.ensures n holder c.in-Pointer.index (ty_of c.in-Pointer.ty) _ c.in-Pointer.ensures.body in
+    record { is = ap (is_default_of (ty_of c.in-Pointer.ty)) c.default_of.ensures ∙ kind.default; reads = ap (is_good_value (λ t. opens_as t (ty_of c.in-Pointer.ty))) c.default_of.ensures ∙ kind.good }
+
 pub returns-in-Group : goal.returns-in-Group
-returns-in-Group c = (shape_of_struct c.in-Group.schema, c.in-Group.ensures.body)
+returns-in-Group c =
+    let f = c.args.field in
+    let n = struct_of c.record-holder.result.now in
+    let holder = subst (λ p. IsRecordOf (nodes_around p) (id_of p) n) c.parent.ensures c.record-holder.ensures in
+    group_is_field f (field_of c.get_proto-record.result.now) c.get_proto-record.ensures n holder c.in-Group.schema c.in-Group.ensures.of_set c.in-Group.ensures.body
 
 pub returns : goal.returns
 returns c =
