@@ -2,7 +2,7 @@
 use Rattle.std.proofs.Common.{◌≡◌, ℕ, ◌+◌, Option, Some, None, refl, sym, ap, subst, ◌∙◌}
 use Rattle.capnp_model.specs.Segments.{Segments}
 use Rattle.capnp_model.specs.Trees.{Trees, structure}
-use Rattle.capnp_model.specs.Edits.{Edit, mark}
+use Rattle.capnp_model.specs.Edits.{Cell, Edit, mark}
 use Rattle.capnp_footprints.specs.Footprints.{OwnsObject}
 use Rattle.capnp_footprints.specs.Changes.{ReplacesObject}
 use Rattle.capnp_footprints.proofs.Algebra.{changes_nothing}
@@ -26,3 +26,6 @@ edits_then s u v p f g a b n section kids o =
 
 pub edits_alike : (s u : Segments) (p : StructPlace) (f g : Edit) → f ≡ g → Edits s u p f → Edits s u p g
 edits_alike s u p f g e h = subst (λ k. Edits s u p k) e h
+
+pub edits_same : (s u : Segments) (p : StructPlace) (f g : Edit) → ((c : Cell) → f c ≡ g c) → Edits s u p f → Edits s u p g
+edits_same s u p f g e h n section kids o = subst (λ (c : Cell). ReplacesObject n s u (struct_at p) (structure p.data_words c.section c.kids)) (e (record { section = section; kids = kids })) (h n section kids o)

@@ -3,9 +3,8 @@ use Rattle.std.specs.Prelude.{◌≡◌, ℕ, ◌+◌, ◌^◌, ◌<◌, ◌≤�
 use Rattle.std.specs.Option.{is_some}
 use Rattle.capnp_model.specs.Segments.{Segments, words_at}
 use Rattle.capnp_model.specs.Trees.{Trees, structure}
-use Rattle.capnp_model.specs.Schemas.{Shape, Body}
-use Rattle.capnp_model.specs.Calls.{Content}
-use Rattle.capnp_model.specs.Edits.{Edit, mark, put_content}
+use Rattle.capnp_model.specs.Schemas.{Shape}
+use Rattle.capnp_model.specs.Edits.{Edit, mark, is_kept, edit_if, cleared_body}
 use Rattle.capnp_wire.specs.Places.{place_view}
 use Rattle.capnp_footprints.specs.Footprints.{OwnsObject}
 use Rattle.capnp_footprints.specs.Changes.{ReplacesObject}
@@ -17,10 +16,13 @@ use Rattle.capnp_queries.specs.Handles.{entry_of}
 use Rattle.capnp_queries.specs.declared.fields.Field.{Field}
 use Rattle.capnp_dynamic.specs.Inside.{words_of_shape, pointers_of_shape}
 
--- The struct's words are there, and it has at least the sizes of a shape.
-pub record IsReady (s : Segments) (p : StructPlace) (g : Shape) : Type 0 where
-  pub there : is_some (words_at s (place_view p.start) (p.data_words + p.pointers)) ≡ true
+-- The struct's words are there.
+pub record IsThere (s : Segments) (p : StructPlace) : Type 0 where
+  pub words : is_some (words_at s (place_view p.start) (p.data_words + p.pointers)) ≡ true
   pub near : p.start.position + (p.data_words + p.pointers) < 2 ^ 61
+
+-- The struct has at least the sizes of a shape.
+pub record IsWide (p : StructPlace) (g : Shape) : Type 0 where
   pub words : words_of_shape g ≤ p.data_words
   pub pointers : pointers_of_shape g ≤ p.pointers
 
@@ -43,3 +45,8 @@ marked_in union (Some e) c = mark union e.member c
 
 abbrev pub marked : Field → Edit
 marked f = marked_in (union_in (shape_of_struct f.parent)) (entry_of f)
+
+-- A field of a cleared group, which is left alone where it is a member but the member 0.
+abbrev pub cleared_entry : Option Entry → Edit
+cleared_entry None c = c
+cleared_entry (Some e) c = edit_if (is_kept e.member) (cleared_body e.body) c

@@ -1,2 +1,5 @@
 pub mod Inside
 pub mod Edits
+pub mod Calls
+pub mod Given
+pub mod Builders

@@ -1,4 +1,8 @@
 //! Dynamic builders: values whose type is known at run time, written where they lie in a message.
 #![tactic(auto)]
 
+pub mod dynamic_struct;
+mod setting;
 mod slots;
+#[cfg(test)]
+mod tests;

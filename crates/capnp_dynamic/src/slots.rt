@@ -1,19 +1,27 @@
 //! Slots of a struct that is built, over places.
-ghost use Rattle.std.specs.Prelude.{◌≡◌, length, map, Some};
-ghost use Rattle.capnp_model.specs.Edits.{mark};
+ghost use Rattle.std.specs.Prelude.{◌≡◌, ◌+◌, ◌<◌, ◌^◌, length, map, Some};
+ghost use Rattle.capnp_model.specs.Accepted.{areas_of, areas_of_body, union_area};
+ghost use Rattle.capnp_model.specs.Edits.{mark, cleared, cleared_body};
+ghost use Rattle.capnp_model.specs.Segments.{after};
+ghost use Rattle.capnp_wire.specs.Places.{place_view};
 ghost use Rattle.capnp_queries.specs.Fields.{union_in};
 ghost use Rattle.capnp_model.specs.Schemas.{width};
 ghost use Rattle.capnp_units.specs.Segments.{words_in};
 ghost use Rattle.capnp_queries.specs.Structs.{shape_of_struct};
-ghost use Rattle.capnp_queries.specs.Handles.{plain_of};
-ghost use Rattle.capnp_dynamic.specs.Edits.{IsReady, Edits, marked};
+ghost use Rattle.capnp_queries.specs.Handles.{entry_of, body_of_place, plain_of};
+ghost use Rattle.capnp_model.specs.Calls.{clear};
+ghost use Rattle.capnp_dynamic.specs.Calls.{edit_of};
+ghost use Rattle.capnp_dynamic.specs.Inside.{LieIn};
+ghost use Rattle.capnp_dynamic.specs.Edits.{IsThere, Edits, marked, cleared_entry};
 
 use capnp_copy::arena::BuilderArena;
+use capnp_copy::clear::clear;
 use capnp_copy::fields::{StructPlace, set_bits};
 use capnp_queries::fields::Field;
-use capnp_queries::slots::PlainType;
+use capnp_queries::slots::{FieldPlace, PlainType};
 use capnp_queries::structs::StructSchema;
 use capnp_records::node::NO_DISCRIMINANT;
+use capnp_wire::place::Place;
 
 /// The bits of a plain type's values.
 pub(crate) fn width_of(ty: PlainType) -> u32
@@ -35,12 +43,12 @@ pub(crate) fn set_discriminant<A: BuilderArena>(
     schema: StructSchema<'_>,
     member: u16,
 )
-    requires ready { IsReady (words_in (A.segments arena.old)) object (shape_of_struct schema) }
+    requires there { IsThere (words_in (A.segments arena.old)) object }
+    requires inside { LieIn object.data_words object.pointers (union_area (union_in (shape_of_struct schema))) }
     ensures edits { Edits (words_in (A.segments arena.old)) (words_in (A.segments arena.new)) object (mark (union_in (shape_of_struct schema.entry)) (Some member)) }
     ensures sizes { map length (words_in (A.segments arena.new)) ≡ map length (words_in (A.segments arena.old)) }
     ensures books { A.books arena.new ≡ A.books arena.old }
 {
-    let _record = schema.record();
     if let Some(offset) = schema.discriminant_offset() {
         set_bits(arena, object, 16 * offset as usize, 16, member as u64);
     }
@@ -48,7 +56,8 @@ pub(crate) fn set_discriminant<A: BuilderArena>(
 
 /// Makes a field the active member of its union, if it is a member.
 pub(crate) fn mark<A: BuilderArena>(arena: &mut A, object: StructPlace, field: Field<'_>)
-    requires ready { IsReady (words_in (A.segments arena.old)) object (shape_of_struct field.parent) }
+    requires there { IsThere (words_in (A.segments arena.old)) object }
+    requires inside { LieIn object.data_words object.pointers (areas_of (shape_of_struct field.parent)) }
     ensures edits { Edits (words_in (A.segments arena.old)) (words_in (A.segments arena.new)) object (marked field.entry) }
     ensures sizes { map length (words_in (A.segments arena.new)) ≡ map length (words_in (A.segments arena.old)) }
     ensures books { A.books arena.new ≡ A.books arena.old }
@@ -57,4 +66,90 @@ pub(crate) fn mark<A: BuilderArena>(arena: &mut A, object: StructPlace, field: F
     if member != NO_DISCRIMINANT {
         set_discriminant(arena, object, field.parent(), member);
     }
+}
+
+/// The place of a pointer of the struct.
+pub(crate) fn pointer_place(object: StructPlace, index: u32) -> Place
+    requires near { object.start.position + (object.data_words + object.pointers) < 2 ^ 61 }
+    requires inside { index < object.pointers }
+    ensures place { place_view result ≡ after (after (place_view object.start) object.data_words) index }
+    ensures near { result.position < 2 ^ 61 }
+{
+    Place {
+        segment: object.start.segment,
+        position: object.start.position + object.data_words as usize + index as usize,
+    }
+}
+
+/// Zeros and nulls in a field, those of a group in its member 0 and its other fields.
+#[cycle(groups)]
+pub(crate) fn clear_body<A: BuilderArena>(
+    arena: &mut A,
+    object: StructPlace,
+    place: FieldPlace<'_>,
+)
+    requires there { IsThere (words_in (A.segments arena.old)) object }
+    requires inside { LieIn object.data_words object.pointers (areas_of_body (body_of_place place)) }
+    ensures edits { Edits (words_in (A.segments arena.old)) (words_in (A.segments arena.new)) object (cleared_body (body_of_place place.entry)) }
+    ensures sizes { map length (words_in (A.segments arena.new)) ≡ map length (words_in (A.segments arena.old)) }
+    ensures books { A.books arena.new ≡ A.books arena.old }
+{
+    match place {
+        FieldPlace::Void { .. } => {}
+        FieldPlace::Plain { ty, offset, .. } => {
+            let width = width_of(ty);
+            set_bits(arena, object, width as usize * offset as usize, width, 0);
+        }
+        FieldPlace::Pointer { index, .. } => clear(arena, pointer_place(object, index)),
+        FieldPlace::Group { schema } => clear_group(arena, object, schema),
+    }
+}
+
+/// The same of a group's field, if it is no member of its union or the member 0.
+#[cycle(groups)]
+fn clear_member<A: BuilderArena>(arena: &mut A, object: StructPlace, field: Field<'_>)
+    requires there { IsThere (words_in (A.segments arena.old)) object }
+    requires inside { LieIn object.data_words object.pointers (areas_of (shape_of_struct field.parent)) }
+    ensures edits { Edits (words_in (A.segments arena.old)) (words_in (A.segments arena.new)) object (cleared_entry (entry_of field.entry)) }
+    ensures sizes { map length (words_in (A.segments arena.new)) ≡ map length (words_in (A.segments arena.old)) }
+    ensures books { A.books arena.new ≡ A.books arena.old }
+{
+    let member = field.get_proto().discriminant_value;
+    if member == 0 || member == NO_DISCRIMINANT {
+        clear_body(arena, object, field.place());
+    }
+}
+
+/// A cleared group: its member 0 and its fields that are no members.
+#[cycle(groups)]
+pub(crate) fn clear_group<A: BuilderArena>(
+    arena: &mut A,
+    object: StructPlace,
+    schema: StructSchema<'_>,
+)
+    requires there { IsThere (words_in (A.segments arena.old)) object }
+    requires inside { LieIn object.data_words object.pointers (areas_of (shape_of_struct schema)) }
+    ensures edits { Edits (words_in (A.segments arena.old)) (words_in (A.segments arena.new)) object (cleared (shape_of_struct schema.entry)) }
+    ensures sizes { map length (words_in (A.segments arena.new)) ≡ map length (words_in (A.segments arena.old)) }
+    ensures books { A.books arena.new ≡ A.books arena.old }
+{
+    set_discriminant(arena, object, schema, 0);
+    if let Ok(fields) = schema.get_fields() {
+        for i in 0..fields.len() {
+            clear_member(arena, object, fields.get(i));
+        }
+    }
+}
+
+/// Clears a field, which becomes the active member of its union, if it is a member.
+pub(crate) fn clear_field<A: BuilderArena>(arena: &mut A, object: StructPlace, field: Field<'_>)
+    requires there { IsThere (words_in (A.segments arena.old)) object }
+    requires inside { LieIn object.data_words object.pointers (areas_of (shape_of_struct field.parent)) }
+    ensures edits { Edits (words_in (A.segments arena.old)) (words_in (A.segments arena.new)) object (edit_of field.entry clear) }
+    ensures sizes { map length (words_in (A.segments arena.new)) ≡ map length (words_in (A.segments arena.old)) }
+    ensures books { A.books arena.new ≡ A.books arena.old }
+{
+    let _said = field.get_proto();
+    mark(arena, object, field);
+    clear_body(arena, object, field.place());
 }

@@ -1,3 +1,9 @@
+use Rattle.std.proofs.Common.{◌≡◌, sym, subst}
+use Rattle.capnp_model.specs.Accepted.{union_area}
+use Rattle.capnp_queries.specs.Fields.{union_in}
+use Rattle.capnp_queries.specs.Structs.{shape_of_struct}
+use Rattle.capnp_dynamic.specs.Inside.{LieIn}
+use Rattle.capnp_dynamic.proofs.Ready.{union_areas}
 use Rattle.capnp_units.specs.Segments.{words_in}
 use Rattle.capnp_records.specs.NodeViews.{field_of}
 use Rattle.capnp_dynamic.proofs.Marks.{marks_member, marks_none}
@@ -13,3 +19,9 @@ pub returns-else-member-clause-edits : goal.returns-else-member-clause-edits
 returns-else-member-clause-edits g c =
     let s = words_in (g.A.ReaderArena.segments c.args.arena.now) in
     marks_none s c.args.object c.args.field c.get_proto.result.now c.get_proto.ensures c.if-member.false
+
+pub set_discriminant-requires-clause-inside : goal.set_discriminant-requires-clause-inside
+set_discriminant-requires-clause-inside g c =
+    let p = c.args.object in
+    let h = union_areas p.data_words p.pointers (shape_of_struct c.args.field.parent) c.requires.inside in
+    subst (λ x. LieIn p.data_words p.pointers (union_area (union_in (shape_of_struct x)))) (sym c.parent.ensures) h

@@ -1,21 +1,19 @@
-use Rattle.std.proofs.Common.{◌≡◌, ◌*◌, ◌+◌, ◌<◌, ◌≤◌, ℕ, Option, Some, None, sym, ap, subst}
+use Rattle.std.proofs.Common.{◌≡◌, ◌*◌, ◌+◌, ◌<◌, ◌≤◌, ℕ, [], Option, Some, None, sym, ap, subst, arith}
+use Rattle.capnp_model.specs.Accepted.{union_area}
 use Rattle.capnp_model.specs.Edits.{mark}
 use Rattle.capnp_units.specs.Segments.{words_in}
-use Rattle.capnp_records.specs.NodeViews.{struct_of}
 use Rattle.capnp_queries.specs.Fields.{union_in}
 use Rattle.capnp_queries.specs.Structs.{shape_of_struct}
-use Rattle.capnp_dynamic.specs.Inside.{words_of_shape, IsUnionInside}
+use Rattle.capnp_dynamic.specs.Inside.{LieIn}
 use Rattle.capnp_dynamic.specs.Edits.{Edits}
-use Rattle.capnp_dynamic.proofs.AcceptedSlots.{union_inside}
 use Rattle.capnp_dynamic.proofs.Ready.{in_word}
 use Rattle.capnp_dynamic.proofs.Writes.{edits_none, edits_alike}
 use Rattle.capnp_dynamic.proofs.slots.set_discriminant.Goals as goal
 
 pub set_bits-requires-clause-inside : goal.set_bits-requires-clause-inside
 set_bits-requires-clause-inside g c =
-    let s = c.args.schema in
-    let inside = subst (IsUnionInside (words_of_shape (shape_of_struct s))) (sym c.in-Some.ensures) (union_inside s (struct_of c.record-record.result.now) c.record-record.ensures) in
-    in_word c.args.object (words_of_shape (shape_of_struct s)) (16 * c.in-Some.offset) 16 inside c.requires.ready.words
+    let p = c.args.object in
+    in_word p (16 * c.in-Some.offset) 16 [] (omega arith) (omega arith) (subst (λ o. LieIn p.data_words p.pointers (union_area o)) (sym c.in-Some.ensures) c.requires.inside)
 
 pub returns-in-Some-clause-edits : goal.returns-in-Some-clause-edits
 returns-in-Some-clause-edits g c =

@@ -1,0 +1,43 @@
+-- What contracts see of struct builders. (Encoding, "Structs")
+use Rattle.std.specs.Prelude.{◌≡◌, ℕ, ℤ, List, length, map}
+use Rattle.capnp_model.specs.Segments.{Segments}
+use Rattle.capnp_model.specs.Edits.{Edit}
+use Rattle.capnp_units.specs.Segments.{words_in}
+use Rattle.capnp_wire.specs.Places.{place_view}
+use Rattle.capnp_wire.specs.Views.{StructView, struct_at}
+use Rattle.capnp_queries.specs.Structs.{shape_of_struct}
+use Rattle.capnp_dynamic.specs.Edits.{IsThere, IsWide, Edits, EditsWith}
+use Rattle.capnp_dynamic.specs.declared.dynamic_struct.Builder.{Builder}
+
+module _ {A : Type 0} (bytes : A → List (List ℕ)) where
+  -- The words of the message.
+  abbrev pub words_around : Builder A → Segments
+  words_around b = words_in (bytes b.memory.now.arena)
+
+  -- The struct's words are there, and it has at least its schema's sizes.
+  pub record IsReady (b : Builder A) : Type 0 where
+    pub there : IsThere (words_around b) b.place
+    pub wide : IsWide b.place (shape_of_struct b.schema)
+
+  -- The struct becomes what the edit makes of it, and nothing else changes.
+  abbrev pub Writes : Builder A → Builder A → Edit → Type 0
+  Writes old new f = Edits (words_around old) (words_around new) old.place f
+
+  -- The same of a handle that stays where it was, in a message whose segments keep their lengths.
+  pub record WritesInPlace (old new : Builder A) (f : Edit) : Type 0 where
+    pub same : new.memory.ghost_name ≡ old.memory.ghost_name
+    pub place : new.place ≡ old.place
+    pub schema : new.schema ≡ old.schema
+    pub sizes : map length (words_around new) ≡ map length (words_around old)
+    pub writes : Writes old new f
+
+  -- The handle and the message are as they were.
+  pub record Stays (old new : Builder A) : Type 0 where
+    pub same : new.memory.ghost_name ≡ old.memory.ghost_name
+    pub place : new.place ≡ old.place
+    pub schema : new.schema ≡ old.schema
+    pub bytes_stay : bytes new.memory.now.arena ≡ bytes old.memory.now.arena
+
+  -- The struct as readers see it, under the arena's nesting limit.
+  abbrev pub struct_of : (A → ℤ) → Builder A → StructView
+  struct_of nesting b = struct_at (bytes b.memory.now.arena) (nesting b.memory.now.arena) (place_view b.place.start) b.place.data_words b.place.pointers

@@ -1,0 +1,200 @@
+//! Structs whose schema is known at run time, to write.
+ghost use Rattle.std.specs.Prelude.{◌≡◌, ◌↔◌, true, Ok, IsOkAnd, OnOk, OnErr};
+ghost use Rattle.capnp_model.specs.Calls.{clear};
+ghost use Rattle.capnp_dynamic.specs.Builders.{IsReady, WritesInPlace, Stays, struct_of};
+ghost use Rattle.capnp_dynamic.specs.Calls.{edit_of};
+ghost use Rattle.capnp_dynamic.specs.Given.{is_single, set_answer, set_edit};
+ghost use Rattle.capnp_dynamic.specs.Edits.{IsThere, IsWide};
+ghost use Rattle.capnp_units.specs.Segments.{words_in};
+ghost use Rattle.capnp_queries.specs.Structs.{shape_of_struct};
+ghost use Rattle.capnp_queries.specs.Handles.{entry_of, IsFieldAt};
+ghost use Rattle.capnp_object.specs.Places.{seen};
+ghost use Rattle.capnp_wire.specs.Places.{place_view};
+ghost use Rattle.capnp_wire.specs.Views.{struct_at};
+ghost use Rattle.capnp_values.specs.Sources.{struct_seen};
+ghost use Rattle.capnp_values.specs.Shown.{has_field, active_index, AnswersNamed, TellsField};
+
+use crate::setting::set_single;
+use crate::slots::clear_field;
+use capnp_builders::struct_builder::StructBuilder;
+use capnp_copy::arena::{BuilderArena, Memory};
+use capnp_copy::fields::StructPlace;
+use capnp_queries::fields::Field;
+use capnp_queries::structs::StructSchema;
+use capnp_units::errors::Result;
+use capnp_values::{dynamic_struct, dynamic_value};
+use capnp_wire::structs::StructReader;
+
+/// Whether a struct has at least a schema's two sizes, as its builder asks.
+pub fn has_sizes<A: BuilderArena>(
+    builder: &StructBuilder<'_, A>,
+    schema: StructSchema<'_>,
+) -> bool
+    ensures { (result ≡ true) ↔ IsWide builder.now.place (shape_of_struct schema.entry) }
+{
+    let record = schema.record();
+    if record.data_word_count > builder.place.data_words {
+        return false;
+    }
+    if record.pointer_count > builder.place.pointers {
+        return false;
+    }
+    true
+}
+
+/// The struct at a place, to read.
+fn read_at<'a, A: BuilderArena>(
+    arena: &'a A,
+    place: StructPlace,
+    schema: StructSchema<'a>,
+) -> dynamic_struct::Reader<'a, A>
+    requires { IsThere (words_in (A.segments arena.now)) place }
+    ensures source { struct_seen A.segments result.source ≡ struct_at (A.segments arena.now) (A.nesting arena.now) (place_view place.start) place.data_words place.pointers }
+    ensures schema { result.schema ≡ schema.entry }
+{
+    let reader = StructReader::at(arena, place.start, place.data_words, place.pointers);
+    dynamic_struct::Reader::new(reader, schema)
+}
+
+/// A struct or a group to write, under its schema.
+#[derive(Drop)]
+pub struct Builder<'a, A> {
+    pub(crate) memory: &'a mut Memory<A>,
+    pub(crate) place: StructPlace,
+    pub(crate) schema: StructSchema<'a>,
+}
+
+impl<'a, A: BuilderArena> Builder<'a, A> {
+    /// A struct under a schema. It has at least the schema's two sizes.
+    pub fn new(builder: StructBuilder<'a, A>, schema: StructSchema<'a>) -> Self
+        requires there { IsThere (words_in (A.segments builder.memory.now.arena)) builder.place }
+        requires wide { IsWide builder.place (shape_of_struct schema) }
+        ensures same { result.memory.ghost_name ≡ builder.entry.memory.ghost_name }
+        ensures now { result.memory.now ≡ builder.entry.memory.now }
+        ensures place { result.place ≡ builder.entry.place }
+        ensures schema { result.schema ≡ schema.entry }
+        ensures ready { IsReady A.segments result }
+    {
+        let StructBuilder { memory, place } = builder;
+        Builder {
+            memory,
+            place,
+            schema,
+        }
+    }
+
+    /// The struct's schema.
+    pub fn get_schema(&self) -> StructSchema<'a>
+        ensures { result ≡ self.now.schema }
+    {
+        self.schema
+    }
+
+    /// Clears a field of the struct: zero bits, as which it reads as its default, or null, behind which all words of the old value become zero. Of a group, its member of discriminant 0 and all its fields that are no members are cleared, through nested groups. A union member becomes the active one. Nothing is allocated, and it never refuses.
+    pub fn clear(&mut self, field: Field<'_>) -> Result<()>
+        requires ready { IsReady A.segments self.old }
+        requires field { field.parent ≡ self.old.schema }
+        ensures ok { result ≡ Ok tt }
+        ensures writes { WritesInPlace A.segments self.old self.new (edit_of field.entry clear) }
+        ensures books { A.books self.new.memory.now.arena ≡ A.books self.old.memory.now.arena }
+        ensures ready { IsReady A.segments self.new }
+    {
+        let place = self.place;
+        clear_field(&mut self.memory.arena, place, field);
+        Ok(())
+    }
+
+    /// Sets a field to a value that is Void, a truth value, a number or an enum's. A plain field takes a value of its type, one of an enum any enum's; a Void field takes each. A union member becomes the active one. Nothing is allocated.
+    ///
+    /// It is refused with `CannotSetAnyPointerFieldToAPrimitiveValue` where the field is untyped, with `SettingDynamicCapabilitiesIsUnsupported` where it is a capability, and else with `TypeMismatch`, a group among them. Then the struct is as it was, its union included.
+    pub fn set<B>(&mut self, field: Field<'_>, value: dynamic_value::Reader<'_, B>) -> Result<()>
+        requires ready { IsReady A.segments self.old }
+        requires field { field.parent ≡ self.old.schema }
+        requires single { is_single value ≡ true }
+        ensures answer { seen (λ x. x) result ≡ set_answer value.entry (entry_of field.entry) }
+        ensures writes { OnOk result (WritesInPlace A.segments self.old self.new (set_edit field.entry value.entry)) }
+        ensures refused { OnErr result (Stays A.segments self.old self.new) }
+        ensures books { A.books self.new.memory.now.arena ≡ A.books self.old.memory.now.arena }
+        ensures ready { IsReady A.segments self.new }
+    {
+        let place = self.place;
+        set_single(&mut self.memory.arena, place, field, &value)
+    }
+
+    /// Sets the field of a name, as by `set`. A name that the struct lacks is refused by `FieldNotFound`, and the struct is as it was.
+    pub fn set_named<B>(&mut self, name: &str, value: dynamic_value::Reader<'_, B>) -> Result<()>
+        requires ready { IsReady A.segments self.old }
+        requires single { is_single value ≡ true }
+        ensures set { AnswersNamed self.old.schema name.now (λ f r. (seen (λ x. x) r ≡ set_answer value.entry (entry_of f)) × OnOk r (WritesInPlace A.segments self.old self.new (set_edit f value.entry))) result }
+        ensures refused { OnErr result (Stays A.segments self.old self.new) }
+        ensures books { A.books self.new.memory.now.arena ≡ A.books self.old.memory.now.arena }
+        ensures ready { IsReady A.segments self.new }
+    {
+        let place = self.place;
+        let schema = self.schema;
+        let field = schema.get_field_by_name(name)?;
+        set_single(&mut self.memory.arena, place, field, &value)
+    }
+
+    /// Clears the field of a name, as by `clear`. A name that the struct lacks is refused by `FieldNotFound`, and nothing else is; then the struct is as it was.
+    pub fn clear_named(&mut self, name: &str) -> Result<()>
+        requires ready { IsReady A.segments self.old }
+        ensures cleared { AnswersNamed self.old.schema name.now (λ f r. (r ≡ Ok tt) × WritesInPlace A.segments self.old self.new (edit_of f clear)) result }
+        ensures refused { OnErr result (Stays A.segments self.old self.new) }
+        ensures books { A.books self.new.memory.now.arena ≡ A.books self.old.memory.now.arena }
+        ensures ready { IsReady A.segments self.new }
+    {
+        let place = self.place;
+        let schema = self.schema;
+        let field = schema.get_field_by_name(name)?;
+        clear_field(&mut self.memory.arena, place, field);
+        Ok(())
+    }
+
+    /// The struct to read, under its schema. Its pointers are followed under the arena's nesting limit.
+    pub fn reborrow_as_reader(&self) -> dynamic_struct::Reader<'_, A>
+        requires ready { IsReady A.segments self.now }
+        ensures source { struct_seen A.segments result.source ≡ struct_of A.segments A.nesting self.now }
+        ensures schema { result.schema ≡ self.now.schema }
+    {
+        read_at(&self.memory.arena, self.place, self.schema)
+    }
+
+    /// The same, of which no handle to write is left.
+    pub fn into_reader(self) -> dynamic_struct::Reader<'a, A>
+        requires ready { IsReady A.segments self }
+        ensures source { struct_seen A.segments result.source ≡ struct_of A.segments A.nesting self.entry }
+        ensures schema { result.schema ≡ self.entry.schema }
+    {
+        let Builder {
+            memory,
+            place,
+            schema,
+        } = self;
+        read_at(&memory.arena, place, schema)
+    }
+
+    /// Whether a field of the struct is there: false for a union member that isn't the active one, and where the field's pointer is null; else true, for groups too. It never refuses.
+    pub fn has(&self, field: Field<'_>) -> Result<bool>
+        requires ready { IsReady A.segments self.now }
+        ensures { result ≡ Ok (has_field (struct_of A.segments A.nesting self.now) field.entry) }
+    {
+        self.reborrow_as_reader().has(field)
+    }
+
+    /// Whether the field of a name is there, as by `has`. A name that the struct lacks is refused by `FieldNotFound`, and nothing else is.
+    pub fn has_named(&self, name: &str) -> Result<bool>
+        requires ready { IsReady A.segments self.now }
+        ensures { AnswersNamed self.now.schema name.now (TellsField (struct_of A.segments A.nesting self.now)) result }
+    {
+        self.reborrow_as_reader().has_named(name)
+    }
+
+    /// The union's active member: none without a union, and where the discriminant is that of no member. It never refuses.
+    pub fn which(&self) -> Result<Option<Field<'_>>>
+        requires ready { IsReady A.segments self.now }
+        ensures { IsOkAnd result (IsFieldAt self.now.schema (active_index self.now.schema (struct_of A.segments A.nesting self.now))) }
+    {
+        self.reborrow_as_reader().which()
+    }
+}
