@@ -119,15 +119,16 @@ fn edited<L: Allocator>(
     bytes
 }
 
-/// The same over a lent slice, which comes back all zeros.
-fn edited_in_place(alloc: Global, region: &mut [u8], used: u32, value: &str) -> Result<Vec<u8>>
-    requires inside { 8 * used ≤ length region.old }
-    requires rest { ZeroFrom (8 * used) region.old }
-    requires few { used < 2 ^ 29 }
+/// A message of the canonical words of another, in a lent slice, which comes back all zeros.
+fn canonical_in(
+    alloc: Global,
+    region: &mut [u8],
+    source: &Reader<SegmentArray<'_>>,
+) -> Result<Vec<u8>>
     ensures { AllZero region.new }
 {
-    let (mut scratch, segment) = ScratchSpaceHeapAllocator::holding(alloc, region);
-    edited(alloc, &mut scratch, segment, used, value)
+    let mut scratch = ScratchSpaceHeapAllocator::new(alloc, region);
+    canonical(alloc, &mut scratch, source)
 }
 
 #[test]
@@ -156,25 +157,30 @@ fn a_root_is_set_to_canonical_words(rt: HostRuntime) -> std::result::Result<(), 
     let mut heap = HeapAllocator::new(rt.alloc());
     let bytes = canonical(rt.alloc(), &mut heap, &source)?;
     assert_eq!(rt; bytes.as_slice(), second.as_slice());
+    let mut region = [0xeeu8; 16];
+    let bytes = canonical_in(rt.alloc(), &mut region, &source)?;
+    assert_eq!(rt; bytes.as_slice(), second.as_slice());
+    assert!(rt; region.iter().all(|byte| *byte == 0));
     let empty = Reader::new(SegmentArray::new(&[]), DEFAULT_READER_OPTIONS);
     let refused = canonical(rt.alloc(), &mut heap, &empty);
     assert_eq!(rt; refused.err(), Some(Error::from(ErrorKind::OutOfBounds)));
     Ok(())
 }
 
-/// The root is the text `Hey`; the slice has two words, and room for two.
+/// The root is the text `Hey`; the segment has two words, and room for two.
 #[test]
-fn a_message_is_edited_where_it_stands(rt: HostRuntime) -> std::result::Result<(), Fail> {
-    let mut region = [
+fn a_message_goes_on_behind_its_words(rt: HostRuntime) -> std::result::Result<(), Fail> {
+    let words = [
         1u8, 0, 0, 0, 0x22, 0, 0, 0, 0x48, 0x65, 0x79, 0, 0, 0, 0, 0, 0, 0, 0, 0, 0, 0, 0, 0, 0, 0,
         0, 0, 0, 0, 0, 0,
     ];
-    let edited = edited_in_place(rt.alloc(), &mut region, 2, "hi")?;
+    let mut heap = HeapAllocator::new(rt.alloc());
+    let segment = Vec::from_slice(rt.alloc(), &words)?;
+    let bytes = edited(rt.alloc(), &mut heap, segment, 2, "hi")?;
     let expected = [
         5u8, 0, 0, 0, 0x1a, 0, 0, 0, 0, 0, 0, 0, 0, 0, 0, 0, 0x68, 0x69, 0, 0, 0, 0, 0, 0,
     ];
-    assert_eq!(rt; edited.as_slice(), expected.as_slice());
-    assert!(rt; region.iter().all(|byte| *byte == 0));
+    assert_eq!(rt; bytes.as_slice(), expected.as_slice());
     Ok(())
 }
 

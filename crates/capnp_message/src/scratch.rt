@@ -1,5 +1,5 @@
 //! A lent slice as the first segment, and the heap for the others.
-ghost use Rattle.std.specs.Prelude.{◌≡◌, ◌≢◌, ◌*◌, ◌≤◌, ◌++◌, ◌∷◌, [], true, false, length, IfOk, IfErr, OnErr};
+ghost use Rattle.std.specs.Prelude.{◌≡◌, ◌≢◌, ◌*◌, ◌≤◌, ◌++◌, ◌∷◌, [], false, length, IfOk, IfErr, OnErr};
 ghost use Rattle.std.specs.Result.{IsOkAnd};
 ghost use Rattle.capnp_units.specs.declared.kinds.ErrorKind.TheVariants.{OutOfMemory, SizeOverflow};
 ghost use Rattle.capnp_copy.specs.Memory.{AllZero};
@@ -40,26 +40,6 @@ impl<'a> ScratchSpaceHeapAllocator<'a> {
             taken: false,
             heap: HeapAllocator::new(alloc),
         }
-    }
-
-    /// An allocator whose slice is out already, and the slice as a segment, with the bytes that it has. It may be held by an arena as one of which words are used already, and comes back all zeros like any other. Other segments come from `alloc`, with the suggested sizes.
-    pub fn holding(
-        alloc: Global,
-        scratch_space: &'a mut [u8],
-    ) -> (ScratchSpaceHeapAllocator<'a>, Segment<'a>)
-        ensures out { result.0.taken ≡ true }
-        ensures growth { result.0.heap.growth ≡ suggested_growth }
-        ensures bytes { bytes_of result.1 ≡ scratch_space.old }
-        ensures lent { loans_of_segment result.1 ≡ scratch_space.entry.ghost_name ∷ [] }
-    {
-        let none: &'a mut [u8] = &mut [];
-        let heap = HeapAllocator::new(alloc);
-        let allocator = ScratchSpaceHeapAllocator {
-            region: none,
-            taken: true,
-            heap,
-        };
-        (allocator, Segment::Lent(scratch_space))
     }
 
     /// Sets how many words the first segment from the heap has, unless more are asked for.
