@@ -303,8 +303,7 @@ model_text pointers nodes x r accepted of is style =
 pub texts : PointersAreRead → TextsAreModels
 texts pointers nodes x r accepted of is style =
     let s = schema_shown x in
-    let same = sym (model_text pointers nodes x r accepted of is style) in
-    (
+    let same = sym (model_text pointers nodes x r accepted of is style) in (
       (λ bytes h. same ∙ printed_print s as_it_is (null_printed s as_it_is 64) (λ st ty d. text_in (null_printed s as_it_is 64 st ty d)) (λ st ty d. refl) style (as_shown x) (reading_of x) ∙ h),
       (λ kind h. same ∙ ap text_in h),
     )

@@ -95,7 +95,7 @@ first_same limit [] bytes = refl
 first_same limit (less_one ∷ first_length) bytes =
     then_same (guard (nat_lt less_one 511) InvalidNumberOfSegments) (guard (nat_lt less_one 511) InvalidNumberOfSegments) _ _ (guard_same (nat_lt less_one 511) InvalidNumberOfSegments refl)
     (λ u. then_same (plain_words ((less_one + 1) / 2) bytes) (plain_words ((less_one + 1) / 2) bytes) _ _ (table_same ((less_one + 1) / 2) bytes)
-        (λ others. lengths_same limit (take (less_one + 1) (first_length ++ halves others.0)) others.1))
+    (λ others. lengths_same limit (take (less_one + 1) (first_length ++ halves others.0)) others.1))
 
 message_same : (limit : Option ℕ) (bytes : List ℕ) → message_by plain_words plain_words limit bytes ≡ turned (message_by plain_words flat_words limit bytes)
 message_same limit bytes = then_same (plain_words 1 bytes) (plain_words 1 bytes) _ _ (table_same 1 bytes) (λ first. first_same limit (halves first.0) first.1)

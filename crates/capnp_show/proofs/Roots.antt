@@ -124,8 +124,8 @@ pub moved : {X : Type 0} (from r : StructSchema) (w v : StructView) (old new : L
 moved from r w v old new p q a b c d h =
     subst (λ z. Prints on_one_line (a_struct (schema_around r) (shape_of_struct r) v) [] z new) d
     (subst (λ (z : List ℕ). Prints on_one_line (a_struct (schema_around r) (shape_of_struct r) v) z p new) c
-        (subst (λ (z : StructView). Prints on_one_line (a_struct (schema_around r) (shape_of_struct r) z) old p new) b
-            (subst (λ (z : StructSchema). Prints on_one_line (a_struct (schema_around z) (shape_of_struct z) w) old p new) a h)))
+    (subst (λ (z : StructView). Prints on_one_line (a_struct (schema_around r) (shape_of_struct r) z) old p new) b
+    (subst (λ (z : StructSchema). Prints on_one_line (a_struct (schema_around z) (shape_of_struct z) w) old p new) a h)))
 
 module _ (values : ValuesOfRecords) (texts : TextsAreModels) (r : StructSchema) (v : StructView) (t : Tree) (o : Result Shown Kind) (is : o ≡ Ok (a_struct (schema_around r) (shape_of_struct r) v))
     (answers : Answers (schema_around r) o (or_empty (schema_around r) (struct (id_of r)) (read (schema_around r) t (struct (id_of r))))) where

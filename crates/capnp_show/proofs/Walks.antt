@@ -109,13 +109,15 @@ module _ (costs : Costs) (n : ℕ) (limit : Option ℕ) (s : Segments) where
 
   pub sized : (l m : ReadLimiter) (size : MessageSize) → IsFresh limit l → SizeGives object_words capability_count (tree_at n s root) (visits n s root) l (Ok size) m → (t : Tree) × IsSized size (granted_of m) t
   sized l m size fresh (t, there, counts, walked) =
-      let same : walked.cost ≡ cost_at n s root = some_is _ _ (sym walked.cost_is ∙ costs n s root t there) in
-      (t, record {
-        there = there;
-        capabilities = counts.capabilities_is;
-        within_limit = paid_within limit (cost_at n s root) (subst (λ c. Allows (less limit 0) c) same (subst (λ (o : Option ℕ). Allows o walked.cost) (fresh_left limit l fresh) walked.spends.allowed));
-        paid = walked.spends.granted ∙ ap (λ g. min (g + walked.cost) (2 ^ 64 - 1)) fresh.none ∙ (let zero : 0 + walked.cost ≡ walked.cost = omega arith in ap (λ g. min g (2 ^ 64 - 1)) zero) ∙ ap (λ c. min c (2 ^ 64 - 1)) same;
-      })
+      let same : walked.cost ≡ cost_at n s root = some_is _ _ (sym walked.cost_is ∙ costs n s root t there) in (
+        t,
+        record {
+          there = there;
+          capabilities = counts.capabilities_is;
+          within_limit = paid_within limit (cost_at n s root) (subst (λ c. Allows (less limit 0) c) same (subst (λ (o : Option ℕ). Allows o walked.cost) (fresh_left limit l fresh) walked.spends.allowed));
+          paid = walked.spends.granted ∙ ap (λ g. min (g + walked.cost) (2 ^ 64 - 1)) fresh.none ∙ (let zero : 0 + walked.cost ≡ walked.cost = omega arith in ap (λ g. min g (2 ^ 64 - 1)) zero) ∙ ap (λ c. min c (2 ^ 64 - 1)) same;
+        },
+      )
 
   module _ (no_count : (t : Tree) → has_capability t ≡ false → capability_count t ≡ 0) where
     pub counted_none : (size : MessageSize) (granted : ℕ) (t : Tree) → IsSized size granted t → (size.cap_count ≡ 0 → ⊥) → value_to n limit s ≡ None

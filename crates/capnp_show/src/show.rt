@@ -65,7 +65,10 @@ fn levels_in<A: ReaderArena>(arena: &A) -> Option<u32>
 }
 
 /// The arena of a copy, with as many levels as another.
-fn arena_like<A: ReaderArena>(arena: &A, copy: CanonicalMessage) -> ReaderArenaImpl<CanonicalMessage>
+fn arena_like<A: ReaderArena>(
+    arena: &A,
+    copy: CanonicalMessage,
+) -> ReaderArenaImpl<CanonicalMessage>
     ensures segments { result.segments ≡ copy }
     ensures nesting { result.nesting_limit ≡ A.nesting arena.now }
 {

@@ -83,7 +83,10 @@ fn node(
 /// P (1): a, t. Q (2): items List(P). U (3): u, v, w in a union. G (5): group g (6) of x, y; z. N (7): ns List(UInt16). P with b (8): a, t, b UInt64.
 fn records(alloc: Global) -> Result<SchemaSet, Fail> {
     let none = NO_DISCRIMINANT;
-    let p = vec![in alloc; number(alloc, "a", none, 0)?, behind(alloc, "t", 0, BaseType::Text)?]?;
+    let p = vec![in alloc;
+        number(alloc, "a", none, 0)?,
+        behind(alloc, "t", 0, BaseType::Text)?,
+    ]?;
     let q = vec![in alloc; behind(alloc, "items", 1, BaseType::Struct(1))?]?;
     let u = vec![in alloc;
         number(alloc, "u", 0, 0)?,
@@ -173,10 +176,22 @@ fn structs_of_numbers_and_texts(rt: HostRuntime) -> Result<(), Fail> {
         0, 0, 0, 0, 3, 0, 0, 0, 0, 0, 0, 0, 2, 0, 0, 0, 7, 0, 0, 0, 0, 0, 0, 0, 99, 0, 0, 0, 0, 0,
         0, 0,
     ];
-    assert_eq!(rt; text(alloc, 8, &newer, DEFAULT)?.as_slice(), b"(a = 7, b = 99)".as_slice());
-    assert_eq!(rt; text(alloc, 1, &newer, DEFAULT)?.as_slice(), b"(a = 7)".as_slice());
-    assert_eq!(rt; text(alloc, 1, &HI, DEFAULT)?.as_slice(), b"(a = 0, t = \"hi\")".as_slice());
-    assert_eq!(rt; text(alloc, 1, &NULL_ROOT, DEFAULT)?.as_slice(), b"(a = 0)".as_slice());
+    assert_eq!(rt;
+        text(alloc, 8, &newer, DEFAULT)?.as_slice(),
+        b"(a = 7, b = 99)".as_slice()
+    );
+    assert_eq!(rt;
+        text(alloc, 1, &newer, DEFAULT)?.as_slice(),
+        b"(a = 7)".as_slice()
+    );
+    assert_eq!(rt;
+        text(alloc, 1, &HI, DEFAULT)?.as_slice(),
+        b"(a = 0, t = \"hi\")".as_slice()
+    );
+    assert_eq!(rt;
+        text(alloc, 1, &NULL_ROOT, DEFAULT)?.as_slice(),
+        b"(a = 0)".as_slice()
+    );
     Ok(())
 }
 
@@ -186,7 +201,10 @@ fn unions_and_groups(rt: HostRuntime) -> Result<(), Fail> {
     let newest = [
         0, 0, 0, 0, 2, 0, 0, 0, 0, 0, 0, 0, 1, 0, 0, 0, 7, 0, 2, 0, 0, 0, 0, 0,
     ];
-    assert_eq!(rt; text(alloc, 3, &newest, DEFAULT)?.as_slice(), b"(w = 7)".as_slice());
+    assert_eq!(rt;
+        text(alloc, 3, &newest, DEFAULT)?.as_slice(),
+        b"(w = 7)".as_slice()
+    );
     let cleared = [
         0, 0, 0, 0, 2, 0, 0, 0, 0, 0, 0, 0, 1, 0, 0, 0, 0, 0, 0, 0, 3, 0, 0, 0,
     ];
@@ -210,10 +228,13 @@ fn lists(rt: HostRuntime) -> Result<(), Fail> {
     let items = b"(items = [(a = 5), (a = 6)])".as_slice();
     assert_eq!(rt; text(alloc, 2, &ITEMS, DEFAULT)?.as_slice(), items);
     assert_eq!(rt; text(alloc, 2, &ITEMS, limited(None, 2))?.as_slice(), items);
-    assert_eq!(rt; text(alloc, 2, &ITEMS, limited(Some(7), 2))?.as_slice(), items);
+    assert_eq!(rt;
+        text(alloc, 2, &ITEMS, limited(Some(7), 2))?.as_slice(),
+        items
+    );
     let cut = [
-        0, 0, 0, 0, 5, 0, 0, 0, 0, 0, 0, 0, 0, 0, 1, 0, 1, 0, 0, 0, 0x17, 0, 0, 0, 8, 0, 0, 0, 1, 0,
-        0, 0, 5, 0, 0, 0, 0, 0, 0, 0, 6, 0, 0, 0, 0, 0, 0, 0,
+        0, 0, 0, 0, 5, 0, 0, 0, 0, 0, 0, 0, 0, 0, 1, 0, 1, 0, 0, 0, 0x17, 0, 0, 0, 8, 0, 0, 0, 1,
+        0, 0, 0, 5, 0, 0, 0, 0, 0, 0, 0, 6, 0, 0, 0, 0, 0, 0, 0,
     ];
     assert_eq!(rt; text(alloc, 2, &cut, DEFAULT)?.as_slice(), items);
     Ok(())
@@ -223,13 +244,19 @@ fn lists(rt: HostRuntime) -> Result<(), Fail> {
 fn the_trimmed_value_is_shown(rt: HostRuntime) -> Result<(), Fail> {
     let alloc = rt.alloc();
     let filled = [
-        0, 0, 0, 0, 4, 0, 0, 0, 0, 0, 0, 0, 0, 0, 1, 0, 1, 0, 0, 0, 0x0f, 0, 0, 0, 4, 0, 0, 0, 1, 0,
-        0, 0, 5, 0, 0, 0, 0, 0, 0, 0,
+        0, 0, 0, 0, 4, 0, 0, 0, 0, 0, 0, 0, 0, 0, 1, 0, 1, 0, 0, 0, 0x0f, 0, 0, 0, 4, 0, 0, 0, 1,
+        0, 0, 0, 5, 0, 0, 0, 0, 0, 0, 0,
     ];
-    assert_eq!(rt; text(alloc, 7, &filled, DEFAULT)?.as_slice(), b"(ns = [5])".as_slice());
+    assert_eq!(rt;
+        text(alloc, 7, &filled, DEFAULT)?.as_slice(),
+        b"(ns = [5])".as_slice()
+    );
     let mut zeros = filled;
     zeros[32] = 0;
-    assert_eq!(rt; fault(alloc, 7, &zeros, DEFAULT)?, Some(ShowFault::Unreadable));
+    assert_eq!(rt;
+        fault(alloc, 7, &zeros, DEFAULT)?,
+        Some(ShowFault::Unreadable)
+    );
     Ok(())
 }
 
@@ -265,9 +292,39 @@ fn messages_without_a_value(rt: HostRuntime) -> Result<(), Fail> {
     for message in [[0, 0, 0, 0, 0, 0, 0, 0].as_slice(), &capability, &outside] {
         assert_eq!(rt; fault(alloc, 1, message, DEFAULT)?, Some(ShowFault::Value));
     }
-    assert_eq!(rt; fault(alloc, 1, &HI, limited(None, 1))?, Some(ShowFault::Value));
-    assert_eq!(rt; fault(alloc, 1, &NULL_ROOT, limited(None, -1))?, Some(ShowFault::Value));
-    assert_eq!(rt; text(alloc, 1, &NULL_ROOT, limited(None, 0))?.as_slice(), b"(a = 0)".as_slice());
+    assert_eq!(rt;
+        fault(alloc, 1, &HI, limited(None, 1))?,
+        Some(ShowFault::Value)
+    );
+    assert_eq!(rt;
+        fault(alloc, 1, &NULL_ROOT, limited(None, -1))?,
+        Some(ShowFault::Value)
+    );
+    assert_eq!(rt;
+        text(alloc, 1, &NULL_ROOT, limited(None, 0))?.as_slice(),
+        b"(a = 0)".as_slice()
+    );
+    Ok(())
+}
+
+/// A message whose root is a list of 1,000 voids, which cost a word each.
+const VOIDS: [u8; 16] = [0, 0, 0, 0, 1, 0, 0, 0, 1, 0, 0, 0, 0x40, 0x1f, 0, 0];
+
+#[test]
+fn values_are_paid_for(rt: HostRuntime) -> Result<(), Fail> {
+    let alloc = rt.alloc();
+    assert_eq!(rt;
+        fault(alloc, 1, &VOIDS, limited(Some(999), 64))?,
+        Some(ShowFault::Value)
+    );
+    assert_eq!(rt;
+        fault(alloc, 1, &VOIDS, limited(Some(1000), 64))?,
+        Some(ShowFault::Root)
+    );
+    assert_eq!(rt;
+        fault(alloc, 1, &VOIDS, limited(None, 64))?,
+        Some(ShowFault::Root)
+    );
     Ok(())
 }
 
@@ -285,6 +342,9 @@ fn what_is_no_record(rt: HostRuntime) -> Result<(), Fail> {
     assert_eq!(rt; fault(alloc, 1, &list, DEFAULT)?, Some(ShowFault::Root));
     let mut unended = HI;
     unended[20] = 0x12;
-    assert_eq!(rt; fault(alloc, 1, &unended, DEFAULT)?, Some(ShowFault::Unreadable));
+    assert_eq!(rt;
+        fault(alloc, 1, &unended, DEFAULT)?,
+        Some(ShowFault::Unreadable)
+    );
     Ok(())
 }

@@ -244,8 +244,7 @@ module _ (pointers : PointersAreRead) (s : Schema) (n : ℕ) (l : ListView) wher
 
 pub elements : PointersAreRead → ElementsAreRead
 elements pointers s ty l r are i =
-    let all = elements_stand s ty l r are in
-    (
+    let all = elements_stand s ty l r are in (
       (λ h. let x = all.each i h in
           subst (λ z. Answers s (element_shown s (type_of ty) l i) (or_empty s (type_of ty) z)) (sym x.is) (element_read pointers s are.levels l (type_of ty) i x.extent x.section x.kids x.stands x.number)),
       (λ h. past_items are.items i (omega (arith, all.count, h))),
