@@ -88,11 +88,14 @@ pub fn relay_between<R: BufRead, W: Write, L: Write>(
 ) -> Result<Counts, BetweenFault>
     requires region { length region.old ≡ 8 * (options.bounds.words + 1) }
     requires root { IsRoot root }
-    ensures run { RelaysBetween Relays root.entry newer.entry calls.now options W.may_grow L.may_grow
+    ensures run { RelaysBetween Relays root.entry newer.entry calls.now options W.may_grow
+        L.may_grow
         (streams (source_seen R.remaining R.failures source.old)
-        (sink_seen W.contents W.failures W.room out.old) (sink_seen L.contents L.failures L.room log.old))
+        (sink_seen W.contents W.failures W.room out.old)
+        (sink_seen L.contents L.failures L.room log.old))
         (streams (source_seen R.remaining R.failures source.new)
-        (sink_seen W.contents W.failures W.room out.new) (sink_seen L.contents L.failures L.room log.new)) result }
+        (sink_seen W.contents W.failures W.room out.new)
+        (sink_seen L.contents L.failures L.room log.new)) result }
     ensures zeros { IfRun result (region.new ≡ replicate (length region.old) 0) }
     ensures untouched { IfHeld result ((source.new ≡ source.old) × (out.new ≡ out.old)
         × (log.new ≡ log.old) × (region.new ≡ region.old)) }
@@ -116,11 +119,14 @@ pub fn relay_between_pausing<R: BufRead, W: Write, L: Write, P: Pause<R, W, L>>(
 ) -> Result<Counts, BetweenFault>
     requires region { length region.old ≡ 8 * (options.bounds.words + 1) }
     requires root { IsRoot root }
-    ensures run { RelaysBetween (RelaysPausing P.may_fail) root.entry newer.entry calls.now options W.may_grow L.may_grow
+    ensures run { RelaysBetween (RelaysPausing P.may_fail) root.entry newer.entry calls.now options
+        W.may_grow L.may_grow
         (streams (source_seen R.remaining R.failures source.old)
-        (sink_seen W.contents W.failures W.room out.old) (sink_seen L.contents L.failures L.room log.old))
+        (sink_seen W.contents W.failures W.room out.old)
+        (sink_seen L.contents L.failures L.room log.old))
         (streams (source_seen R.remaining R.failures source.new)
-        (sink_seen W.contents W.failures W.room out.new) (sink_seen L.contents L.failures L.room log.new)) result }
+        (sink_seen W.contents W.failures W.room out.new)
+        (sink_seen L.contents L.failures L.room log.new)) result }
     ensures zeros { IfRun result (region.new ≡ replicate (length region.old) 0) }
     ensures untouched { IfHeld result ((source.new ≡ source.old) × (out.new ≡ out.old)
         × (log.new ≡ log.old) × (region.new ≡ region.old)) }

@@ -38,14 +38,22 @@ use capnp_wire::place::{Place, word_at};
 
 /// Puts a list of so many zero bytes in place of the value of the pointer at a place.
 fn init_bytes<A: BuilderArena>(arena: &mut A, slot: Place, count: u32) -> Result<Place>
-    requires there { is_some (words_at (words_in (A.segments arena.old)) (place_view slot) 1) ≡ true }
+    requires there { is_some (words_at (words_in (A.segments arena.old)) (place_view slot) 1)
+        ≡ true }
     requires near { slot.position < 2 ^ 61 }
-    ensures value { IfOk result (λ o. Becomes (words_in (A.segments arena.old)) (words_in (A.segments arena.new)) (place_view slot) (plain_list 2 count 0)) }
-    ensures object { IfOk result (λ o. LeadsTo (words_in (A.segments arena.new)) (place_view slot) (a_list (place_view o) 2 count)) }
+    ensures value { IfOk result (λ o.
+        Becomes (words_in (A.segments arena.old)) (words_in (A.segments arena.new))
+        (place_view slot) (plain_list 2 count 0)) }
+    ensures object { IfOk result (λ o.
+        LeadsTo (words_in (A.segments arena.new)) (place_view slot)
+        (a_list (place_view o) 2 count)) }
     ensures near { IfOk result (λ o. o.position < 2 ^ 61) }
-    ensures taken { IfOk result (λ o. TakesJust (words_in (A.segments arena.old)) (A.room arena.old) (words_in (A.segments arena.new)) slot.segment (words_for (8 * count))) }
+    ensures taken { IfOk result (λ o.
+        TakesJust (words_in (A.segments arena.old)) (A.room arena.old)
+        (words_in (A.segments arena.new)) slot.segment (words_for (8 * count))) }
     ensures refused { OnErr result (A.segments arena.new ≡ A.segments arena.old) }
-    ensures kind { IfErr result (λ e. (e.kind ≡ SizeOverflow) ↔ IsTooLong count (total_words (words_in (A.segments arena.old)))) }
+    ensures kind { IfErr result (λ e.
+        (e.kind ≡ SizeOverflow) ↔ IsTooLong count (total_words (words_in (A.segments arena.old)))) }
     ensures books { A.books arena.new ≡ A.books arena.old }
 {
     let list = init_list(arena, slot, ElementSize::Byte, count)?;
@@ -55,10 +63,18 @@ fn init_bytes<A: BuilderArena>(arena: &mut A, slot: Place, count: u32) -> Result
 /// The bytes of the list of bytes that the pointer at a place names, and none of null.
 #[tactic(auto, unfolding(capnp_object::specs::Objects::object_at))]
 fn bytes_here<A: ReaderArena>(arena: &A, slot: Place) -> Result<Option<BlobPlace>>
-    ensures bytes { seen (λ o. o) result ≡ bytes_named (words_in (A.segments arena.now)) (place_view slot) }
-    ensures there { IfOk result (λ r. IfSome r (λ o. AreThere (words_in (A.segments arena.now)) (place_view o.start) (words_for (8 * o.count)))) }
-    ensures null { IfOk result (λ r. IfNone r (word_at (words_in (A.segments arena.now)) (place_view slot) ≡ Some 0)) }
-    ensures object { IfOk result (λ r. IfSome r (λ o. LeadsTo (words_in (A.segments arena.now)) (place_view slot) (a_list (place_view o.start) 2 o.count))) }
+    ensures bytes { seen (λ o. o) result
+        ≡ bytes_named (words_in (A.segments arena.now)) (place_view slot) }
+    ensures there { IfOk result (λ r.
+        IfSome r (λ o.
+        AreThere (words_in (A.segments arena.now)) (place_view o.start)
+        (words_for (8 * o.count)))) }
+    ensures null { IfOk result (λ r.
+        IfNone r (word_at (words_in (A.segments arena.now)) (place_view slot) ≡ Some 0)) }
+    ensures object { IfOk result (λ r.
+        IfSome r (λ o.
+        LeadsTo (words_in (A.segments arena.now)) (place_view slot)
+        (a_list (place_view o.start) 2 o.count))) }
 {
     let found = found_at(arena, slot)?;
     match whole(arena, found.object)? {
@@ -79,7 +95,8 @@ fn bytes_here<A: ReaderArena>(arena: &A, slot: Place) -> Result<Option<BlobPlace
 
 /// Whether there is a last byte, and it is zero.
 fn ends_in_zero<A: ReaderArena>(arena: &A, blob: BlobPlace) -> bool
-    requires { AreThere (words_in (A.segments arena.now)) (place_view blob.start) (words_for (8 * blob.count)) }
+    requires { AreThere (words_in (A.segments arena.now)) (place_view blob.start)
+        (words_for (8 * blob.count)) }
     ensures { result ≡ ends_in_zero (words_in (A.segments arena.now)) blob }
 {
     if blob.count == 0 {
@@ -100,8 +117,10 @@ fn ends_in_zero<A: ReaderArena>(arena: &A, blob: BlobPlace) -> bool
 fn data_at<A: ReaderArena>(arena: &A, slot: Place) -> Result<BlobPlace>
     requires { slot.position < 2 ^ 61 }
     ensures data { seen (λ o. o) result ≡ data_named (words_in (A.segments arena.now)) slot }
-    ensures object { IfOk result (λ o. (word_at (words_in (A.segments arena.now)) (place_view slot) ≡ Some 0)
-        ⊎ LeadsTo (words_in (A.segments arena.now)) (place_view slot) (a_list (place_view o.start) 2 o.count)) }
+    ensures object { IfOk result (λ o.
+        (word_at (words_in (A.segments arena.now)) (place_view slot) ≡ Some 0)
+        ⊎ LeadsTo (words_in (A.segments arena.now)) (place_view slot)
+        (a_list (place_view o.start) 2 o.count)) }
     ensures near { IfOk result (λ o. o.start.position < 2 ^ 61) }
 {
     match bytes_here(arena, slot)? {
@@ -117,8 +136,10 @@ fn data_at<A: ReaderArena>(arena: &A, slot: Place) -> Result<BlobPlace>
 fn text_at<A: ReaderArena>(arena: &A, slot: Place) -> Result<BlobPlace>
     requires { slot.position < 2 ^ 61 }
     ensures text { seen (λ o. o) result ≡ text_named (words_in (A.segments arena.now)) slot }
-    ensures object { IfOk result (λ o. (word_at (words_in (A.segments arena.now)) (place_view slot) ≡ Some 0)
-        ⊎ LeadsTo (words_in (A.segments arena.now)) (place_view slot) (a_list (place_view o.start) 2 (o.count + 1))) }
+    ensures object { IfOk result (λ o.
+        (word_at (words_in (A.segments arena.now)) (place_view slot) ≡ Some 0)
+        ⊎ LeadsTo (words_in (A.segments arena.now)) (place_view slot)
+        (a_list (place_view o.start) 2 (o.count + 1))) }
     ensures near { IfOk result (λ o. o.start.position < 2 ^ 61) }
 {
     match bytes_here(arena, slot)? {
@@ -144,11 +165,16 @@ fn data_here<A: BuilderArena>(
     slot: Place,
     default: Option<&[Word]>,
 ) -> Result<BlobPlace>
-    requires there { is_some (words_at (words_in (A.segments arena.old)) (place_view slot) 1) ≡ true }
+    requires there { is_some (words_at (words_in (A.segments arena.old)) (place_view slot) 1)
+        ≡ true }
     requires near { slot.position < 2 ^ 61 }
-    ensures got { IfOk result (DataGot (option_copied default.entry) (words_in (A.segments arena.old)) (words_in (A.segments arena.new)) slot) }
+    ensures got { IfOk result
+        (DataGot (option_copied default.entry) (words_in (A.segments arena.old))
+        (words_in (A.segments arena.new)) slot) }
     ensures near { IfOk result (λ o. o.start.position < 2 ^ 61) }
-    ensures refused { IfErr result (NoDataGot (option_copied default.entry) (words_in (A.segments arena.old)) (words_in (A.segments arena.new)) slot) }
+    ensures refused { IfErr result
+        (NoDataGot (option_copied default.entry) (words_in (A.segments arena.old))
+        (words_in (A.segments arena.new)) slot) }
     ensures books { A.books arena.new ≡ A.books arena.old }
 {
     changes_of_values();
@@ -163,11 +189,16 @@ fn text_here<A: BuilderArena>(
     slot: Place,
     default: Option<&[Word]>,
 ) -> Result<BlobPlace>
-    requires there { is_some (words_at (words_in (A.segments arena.old)) (place_view slot) 1) ≡ true }
+    requires there { is_some (words_at (words_in (A.segments arena.old)) (place_view slot) 1)
+        ≡ true }
     requires near { slot.position < 2 ^ 61 }
-    ensures got { IfOk result (TextGot (option_copied default.entry) (words_in (A.segments arena.old)) (words_in (A.segments arena.new)) slot) }
+    ensures got { IfOk result
+        (TextGot (option_copied default.entry) (words_in (A.segments arena.old))
+        (words_in (A.segments arena.new)) slot) }
     ensures near { IfOk result (λ o. o.start.position < 2 ^ 61) }
-    ensures refused { IfErr result (NoTextGot (option_copied default.entry) (words_in (A.segments arena.old)) (words_in (A.segments arena.new)) slot) }
+    ensures refused { IfErr result
+        (NoTextGot (option_copied default.entry) (words_in (A.segments arena.old))
+        (words_in (A.segments arena.new)) slot) }
     ensures books { A.books arena.new ≡ A.books arena.old }
 {
     changes_of_values();
@@ -178,14 +209,23 @@ fn text_here<A: BuilderArena>(
 
 /// Puts a text of so many zero bytes, and one behind them, in place of the value of the pointer at a place.
 fn init_text_bytes<A: BuilderArena>(arena: &mut A, slot: Place, count: u32) -> Result<Place>
-    requires there { is_some (words_at (words_in (A.segments arena.old)) (place_view slot) 1) ≡ true }
+    requires there { is_some (words_at (words_in (A.segments arena.old)) (place_view slot) 1)
+        ≡ true }
     requires near { slot.position < 2 ^ 61 }
-    ensures value { IfOk result (λ o. Becomes (words_in (A.segments arena.old)) (words_in (A.segments arena.new)) (place_view slot) (plain_list 2 (count + 1) 0)) }
-    ensures object { IfOk result (λ o. LeadsTo (words_in (A.segments arena.new)) (place_view slot) (a_list (place_view o) 2 (count + 1))) }
+    ensures value { IfOk result (λ o.
+        Becomes (words_in (A.segments arena.old)) (words_in (A.segments arena.new))
+        (place_view slot) (plain_list 2 (count + 1) 0)) }
+    ensures object { IfOk result (λ o.
+        LeadsTo (words_in (A.segments arena.new)) (place_view slot)
+        (a_list (place_view o) 2 (count + 1))) }
     ensures near { IfOk result (λ o. o.position < 2 ^ 61) }
-    ensures taken { IfOk result (λ o. TakesJust (words_in (A.segments arena.old)) (A.room arena.old) (words_in (A.segments arena.new)) slot.segment (words_for (8 * (count + 1)))) }
+    ensures taken { IfOk result (λ o.
+        TakesJust (words_in (A.segments arena.old)) (A.room arena.old)
+        (words_in (A.segments arena.new)) slot.segment (words_for (8 * (count + 1)))) }
     ensures refused { OnErr result (A.segments arena.new ≡ A.segments arena.old) }
-    ensures kind { IfErr result (λ e. (e.kind ≡ SizeOverflow) ↔ IsTooLong (count + 1) (total_words (words_in (A.segments arena.old)))) }
+    ensures kind { IfErr result (λ e.
+        (e.kind ≡ SizeOverflow)
+        ↔ IsTooLong (count + 1) (total_words (words_in (A.segments arena.old)))) }
     ensures books { A.books arena.new ≡ A.books arena.old }
 {
     if count >= MOST_WORDS {
@@ -199,17 +239,33 @@ impl<'a, A: BuilderArena> PointerBuilder<'a, A> {
     ///
     /// It is refused with `SizeOverflow` just where the bytes or the message's words, a pad counted, would pass 2^29 - 1, else as the allocator refuses; then all stands as it was.
     pub fn init_data(self, size: ElementCount32) -> Result<DataBuilder<'a, A>>
-        requires there { is_some (words_at (words_in (A.segments self.memory.now.arena)) (place_view self.place) 1) ≡ true }
+        requires there { is_some (words_at (words_in (A.segments self.memory.now.arena))
+            (place_view self.place) 1) ≡ true }
         requires near { self.place.position < 2 ^ 61 }
         ensures same { IfOk result (λ o. o.memory.ghost_name ≡ self.entry.memory.ghost_name) }
-        ensures value { IfOk result (λ o. Becomes (words_in (A.segments self.entry.memory.now.arena)) (words_in (A.segments o.memory.now.arena)) (place_view self.entry.place) (plain_list 2 size 0)) }
-        ensures object { IfOk result (λ o. LeadsTo (words_in (A.segments o.memory.now.arena)) (place_view self.entry.place) (a_list (place_view o.place.start) 2 size)) }
+        ensures value { IfOk result (λ o.
+            Becomes (words_in (A.segments self.entry.memory.now.arena))
+            (words_in (A.segments o.memory.now.arena)) (place_view self.entry.place)
+            (plain_list 2 size 0)) }
+        ensures object { IfOk result (λ o.
+            LeadsTo (words_in (A.segments o.memory.now.arena)) (place_view self.entry.place)
+            (a_list (place_view o.place.start) 2 size)) }
         ensures size { IfOk result (λ o. o.place.count ≡ size) }
         ensures near { IfOk result (λ o. o.place.start.position < 2 ^ 61) }
-        ensures taken { IfOk result (λ o. TakesJust (words_in (A.segments self.entry.memory.now.arena)) (A.room self.entry.memory.now.arena) (words_in (A.segments o.memory.now.arena)) self.entry.place.segment (words_for (8 * size))) }
-        ensures books { IfOk result (λ o. A.books o.memory.now.arena ≡ A.books self.entry.memory.now.arena) }
-        ensures kind { IfErr result (λ e. (e.kind ≡ SizeOverflow) ↔ IsTooLong size (total_words (words_in (A.segments self.entry.memory.now.arena)))) }
-        ensures* refused { sem 𝓛 (RestsIfErr (the_row A.row) self.entry.memory (λ o. o.memory.ghost_name) result (λ n. (A.segments n.arena ≡ A.segments self.entry.memory.now.arena) × (A.books n.arena ≡ A.books self.entry.memory.now.arena))) }
+        ensures taken { IfOk result (λ o.
+            TakesJust (words_in (A.segments self.entry.memory.now.arena))
+            (A.room self.entry.memory.now.arena) (words_in (A.segments o.memory.now.arena))
+            self.entry.place.segment (words_for (8 * size))) }
+        ensures books { IfOk result (λ o.
+            A.books o.memory.now.arena ≡ A.books self.entry.memory.now.arena) }
+        ensures kind { IfErr result (λ e.
+            (e.kind ≡ SizeOverflow)
+            ↔ IsTooLong size (total_words (words_in (A.segments self.entry.memory.now.arena)))) }
+        ensures* refused { sem 𝓛 (RestsIfErr (the_row A.row)
+            self.entry.memory (λ o. o.memory.ghost_name)
+            result (λ n.
+            (A.segments n.arena ≡ A.segments self.entry.memory.now.arena)
+            × (A.books n.arena ≡ A.books self.entry.memory.now.arena))) }
     {
         let PointerBuilder { memory, place } = self;
         let start = init_bytes(&mut memory.arena, place, size)?;
@@ -221,17 +277,34 @@ impl<'a, A: BuilderArena> PointerBuilder<'a, A> {
     ///
     /// It is refused with `SizeOverflow` just where the bytes with the zero byte or the message's words, a pad counted, would pass 2^29 - 1, else as the allocator refuses; then all stands as it was.
     pub fn init_text(self, size: ElementCount32) -> Result<TextBuilder<'a, A>>
-        requires there { is_some (words_at (words_in (A.segments self.memory.now.arena)) (place_view self.place) 1) ≡ true }
+        requires there { is_some (words_at (words_in (A.segments self.memory.now.arena))
+            (place_view self.place) 1) ≡ true }
         requires near { self.place.position < 2 ^ 61 }
         ensures same { IfOk result (λ o. o.memory.ghost_name ≡ self.entry.memory.ghost_name) }
-        ensures value { IfOk result (λ o. Becomes (words_in (A.segments self.entry.memory.now.arena)) (words_in (A.segments o.memory.now.arena)) (place_view self.entry.place) (plain_list 2 (size + 1) 0)) }
-        ensures object { IfOk result (λ o. LeadsTo (words_in (A.segments o.memory.now.arena)) (place_view self.entry.place) (a_list (place_view o.place.start) 2 (size + 1))) }
+        ensures value { IfOk result (λ o.
+            Becomes (words_in (A.segments self.entry.memory.now.arena))
+            (words_in (A.segments o.memory.now.arena)) (place_view self.entry.place)
+            (plain_list 2 (size + 1) 0)) }
+        ensures object { IfOk result (λ o.
+            LeadsTo (words_in (A.segments o.memory.now.arena)) (place_view self.entry.place)
+            (a_list (place_view o.place.start) 2 (size + 1))) }
         ensures size { IfOk result (λ o. (o.place.count ≡ size) × (o.position ≡ 0)) }
         ensures near { IfOk result (λ o. o.place.start.position < 2 ^ 61) }
-        ensures taken { IfOk result (λ o. TakesJust (words_in (A.segments self.entry.memory.now.arena)) (A.room self.entry.memory.now.arena) (words_in (A.segments o.memory.now.arena)) self.entry.place.segment (words_for (8 * (size + 1)))) }
-        ensures books { IfOk result (λ o. A.books o.memory.now.arena ≡ A.books self.entry.memory.now.arena) }
-        ensures kind { IfErr result (λ e. (e.kind ≡ SizeOverflow) ↔ IsTooLong (size + 1) (total_words (words_in (A.segments self.entry.memory.now.arena)))) }
-        ensures* refused { sem 𝓛 (RestsIfErr (the_row A.row) self.entry.memory (λ o. o.memory.ghost_name) result (λ n. (A.segments n.arena ≡ A.segments self.entry.memory.now.arena) × (A.books n.arena ≡ A.books self.entry.memory.now.arena))) }
+        ensures taken { IfOk result (λ o.
+            TakesJust (words_in (A.segments self.entry.memory.now.arena))
+            (A.room self.entry.memory.now.arena) (words_in (A.segments o.memory.now.arena))
+            self.entry.place.segment (words_for (8 * (size + 1)))) }
+        ensures books { IfOk result (λ o.
+            A.books o.memory.now.arena ≡ A.books self.entry.memory.now.arena) }
+        ensures kind { IfErr result (λ e.
+            (e.kind ≡ SizeOverflow)
+            ↔ IsTooLong (size + 1)
+            (total_words (words_in (A.segments self.entry.memory.now.arena)))) }
+        ensures* refused { sem 𝓛 (RestsIfErr (the_row A.row)
+            self.entry.memory (λ o. o.memory.ghost_name)
+            result (λ n.
+            (A.segments n.arena ≡ A.segments self.entry.memory.now.arena)
+            × (A.books n.arena ≡ A.books self.entry.memory.now.arena))) }
     {
         let PointerBuilder { memory, place } = self;
         let start = init_text_bytes(&mut memory.arena, place, size)?;
@@ -247,13 +320,24 @@ impl<'a, A: BuilderArena> PointerBuilder<'a, A> {
     ///
     /// It is refused as `write_default` is; then by the fault of what is there, with `WrongPointerKind` where it isn't a list, and with `WrongElementSize` where its elements aren't bytes. Then all words stand as they were, and new ones are zero; only where the default was written, and isn't data, the default stands.
     pub fn get_data(self, default: Option<&[Word]>) -> Result<DataBuilder<'a, A>>
-        requires there { is_some (words_at (words_in (A.segments self.memory.now.arena)) (place_view self.place) 1) ≡ true }
+        requires there { is_some (words_at (words_in (A.segments self.memory.now.arena))
+            (place_view self.place) 1) ≡ true }
         requires near { self.place.position < 2 ^ 61 }
         ensures same { IfOk result (λ o. o.memory.ghost_name ≡ self.entry.memory.ghost_name) }
-        ensures got { IfOk result (λ o. DataGot (option_copied default.entry) (words_in (A.segments self.entry.memory.now.arena)) (words_in (A.segments o.memory.now.arena)) self.entry.place o.place) }
+        ensures got { IfOk result (λ o.
+            DataGot (option_copied default.entry)
+            (words_in (A.segments self.entry.memory.now.arena))
+            (words_in (A.segments o.memory.now.arena)) self.entry.place o.place) }
         ensures near { IfOk result (λ o. o.place.start.position < 2 ^ 61) }
-        ensures books { IfOk result (λ o. A.books o.memory.now.arena ≡ A.books self.entry.memory.now.arena) }
-        ensures* refused { sem 𝓛 (RestsIfErr (the_row A.row) self.entry.memory (λ o. o.memory.ghost_name) result (λ n. IfErr result (NoDataGot (option_copied default.entry) (words_in (A.segments self.entry.memory.now.arena)) (words_in (A.segments n.arena)) self.entry.place) × (A.books n.arena ≡ A.books self.entry.memory.now.arena))) }
+        ensures books { IfOk result (λ o.
+            A.books o.memory.now.arena ≡ A.books self.entry.memory.now.arena) }
+        ensures* refused { sem 𝓛 (RestsIfErr (the_row A.row)
+            self.entry.memory (λ o. o.memory.ghost_name)
+            result (λ n.
+            IfErr result
+            (NoDataGot (option_copied default.entry)
+            (words_in (A.segments self.entry.memory.now.arena)) (words_in (A.segments n.arena))
+            self.entry.place) × (A.books n.arena ≡ A.books self.entry.memory.now.arena))) }
     {
         let PointerBuilder { memory, place } = self;
         let place = data_here(&mut memory.arena, place, default)?;
@@ -264,14 +348,25 @@ impl<'a, A: BuilderArena> PointerBuilder<'a, A> {
     ///
     /// It is refused as data are, and with `TextWithoutZeroByte` where the last byte isn't zero or there is none.
     pub fn get_text(self, default: Option<&[Word]>) -> Result<TextBuilder<'a, A>>
-        requires there { is_some (words_at (words_in (A.segments self.memory.now.arena)) (place_view self.place) 1) ≡ true }
+        requires there { is_some (words_at (words_in (A.segments self.memory.now.arena))
+            (place_view self.place) 1) ≡ true }
         requires near { self.place.position < 2 ^ 61 }
         ensures same { IfOk result (λ o. o.memory.ghost_name ≡ self.entry.memory.ghost_name) }
-        ensures got { IfOk result (λ o. TextGot (option_copied default.entry) (words_in (A.segments self.entry.memory.now.arena)) (words_in (A.segments o.memory.now.arena)) self.entry.place o.place) }
+        ensures got { IfOk result (λ o.
+            TextGot (option_copied default.entry)
+            (words_in (A.segments self.entry.memory.now.arena))
+            (words_in (A.segments o.memory.now.arena)) self.entry.place o.place) }
         ensures position { IfOk result (λ o. o.position ≡ o.place.count) }
         ensures near { IfOk result (λ o. o.place.start.position < 2 ^ 61) }
-        ensures books { IfOk result (λ o. A.books o.memory.now.arena ≡ A.books self.entry.memory.now.arena) }
-        ensures* refused { sem 𝓛 (RestsIfErr (the_row A.row) self.entry.memory (λ o. o.memory.ghost_name) result (λ n. IfErr result (NoTextGot (option_copied default.entry) (words_in (A.segments self.entry.memory.now.arena)) (words_in (A.segments n.arena)) self.entry.place) × (A.books n.arena ≡ A.books self.entry.memory.now.arena))) }
+        ensures books { IfOk result (λ o.
+            A.books o.memory.now.arena ≡ A.books self.entry.memory.now.arena) }
+        ensures* refused { sem 𝓛 (RestsIfErr (the_row A.row)
+            self.entry.memory (λ o. o.memory.ghost_name)
+            result (λ n.
+            IfErr result
+            (NoTextGot (option_copied default.entry)
+            (words_in (A.segments self.entry.memory.now.arena)) (words_in (A.segments n.arena))
+            self.entry.place) × (A.books n.arena ≡ A.books self.entry.memory.now.arena))) }
     {
         let PointerBuilder { memory, place } = self;
         let place = text_here(&mut memory.arena, place, default)?;

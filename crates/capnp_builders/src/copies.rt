@@ -33,9 +33,11 @@ fn copy_pointer<A: BuilderArena, B: ReaderArena>(
     limiter: &mut ReadLimiter,
     other: PointerReader<'_, B>,
 ) -> Result<()>
-    requires there { is_some (words_at (words_in (A.segments arena.old)) (place_view slot) 1) ≡ true }
+    requires there { is_some (words_at (words_in (A.segments arena.old)) (place_view slot) 1)
+        ≡ true }
     requires near { slot.position < 2 ^ 61 }
-    ensures copy { CopiesPointer (seen_pointer B.segments other.entry) (words_in (A.segments arena.old))
+    ensures copy { CopiesPointer (seen_pointer B.segments other.entry)
+        (words_in (A.segments arena.old))
         (words_in (A.segments arena.new)) (place_view slot) limiter.old result limiter.new }
     ensures books { A.books arena.new ≡ A.books arena.old }
 {
@@ -62,7 +64,8 @@ fn copy_struct<A: BuilderArena, B: ReaderArena>(
     limiter: &mut ReadLimiter,
     other: StructReader<'_, B>,
 ) -> Result<()>
-    requires there { is_some (words_at (words_in (A.segments arena.old)) (place_view slot) 1) ≡ true }
+    requires there { is_some (words_at (words_in (A.segments arena.old)) (place_view slot) 1)
+        ≡ true }
     requires near { slot.position < 2 ^ 61 }
     ensures copy { SetsStruct (seen_struct B.segments other.entry) (words_in (A.segments arena.old))
         (words_in (A.segments arena.new)) (place_view slot) limiter.old result limiter.new }
@@ -104,7 +107,8 @@ fn copy_list<A: BuilderArena, B: ReaderArena>(
     limiter: &mut ReadLimiter,
     other: ListReader<'_, B>,
 ) -> Result<()>
-    requires there { is_some (words_at (words_in (A.segments arena.old)) (place_view slot) 1) ≡ true }
+    requires there { is_some (words_at (words_in (A.segments arena.old)) (place_view slot) 1)
+        ≡ true }
     requires near { slot.position < 2 ^ 61 }
     ensures copy { SetsList (seen_list B.segments other.entry) (words_in (A.segments arena.old))
         (words_in (A.segments arena.new)) (place_view slot) limiter.old result limiter.new }
@@ -142,7 +146,8 @@ fn copy_content<A: BuilderArena, B: ReaderArena>(
     requires there { is_some (words_at (words_in (A.segments arena.old)) (place_view object.start)
         (object.data_words + object.pointers)) ≡ true }
     requires near { object.start.position + (object.data_words + object.pointers) < 2 ^ 61 }
-    ensures content { TakesOver (seen_struct B.segments other.entry) (words_in (A.segments arena.old))
+    ensures content { TakesOver (seen_struct B.segments other.entry)
+        (words_in (A.segments arena.old))
         (words_in (A.segments arena.new)) object limiter.old result limiter.new }
     ensures books { A.books arena.new ≡ A.books arena.old }
 {
@@ -190,7 +195,8 @@ impl<'a, A: BuilderArena> PointerBuilder<'a, A> {
         ensures same { self.new.memory.ghost_name ≡ self.old.memory.ghost_name }
         ensures place { self.new.place ≡ self.old.place }
         ensures copy { CopiesPointer (seen_pointer B.segments other.entry)
-            (words_in (A.segments self.old.memory.now.arena)) (words_in (A.segments self.new.memory.now.arena))
+            (words_in (A.segments self.old.memory.now.arena))
+            (words_in (A.segments self.new.memory.now.arena))
             (place_view self.old.place) limiter.old result limiter.new }
         ensures books { A.books self.new.memory.now.arena ≡ A.books self.old.memory.now.arena }
     {
@@ -212,7 +218,8 @@ impl<'a, A: BuilderArena> PointerBuilder<'a, A> {
         ensures same { self.new.memory.ghost_name ≡ self.old.memory.ghost_name }
         ensures place { self.new.place ≡ self.old.place }
         ensures copy { SetsStruct (seen_struct B.segments value.entry)
-            (words_in (A.segments self.old.memory.now.arena)) (words_in (A.segments self.new.memory.now.arena))
+            (words_in (A.segments self.old.memory.now.arena))
+            (words_in (A.segments self.new.memory.now.arena))
             (place_view self.old.place) limiter.old result limiter.new }
         ensures books { A.books self.new.memory.now.arena ≡ A.books self.old.memory.now.arena }
     {
@@ -234,7 +241,8 @@ impl<'a, A: BuilderArena> PointerBuilder<'a, A> {
         ensures same { self.new.memory.ghost_name ≡ self.old.memory.ghost_name }
         ensures place { self.new.place ≡ self.old.place }
         ensures copy { SetsList (seen_list B.segments value.entry)
-            (words_in (A.segments self.old.memory.now.arena)) (words_in (A.segments self.new.memory.now.arena))
+            (words_in (A.segments self.old.memory.now.arena))
+            (words_in (A.segments self.new.memory.now.arena))
             (place_view self.old.place) limiter.old result limiter.new }
         ensures books { A.books self.new.memory.now.arena ≡ A.books self.old.memory.now.arena }
     {
@@ -253,13 +261,15 @@ impl<'a, A: BuilderArena> StructBuilder<'a, A> {
         other: StructReader<'_, B>,
     ) -> Result<()>
         requires there { is_some (words_at (words_in (A.segments self.old.memory.now.arena))
-            (place_view self.old.place.start) (self.old.place.data_words + self.old.place.pointers)) ≡ true }
+            (place_view self.old.place.start)
+            (self.old.place.data_words + self.old.place.pointers)) ≡ true }
         requires near { self.old.place.start.position
             + (self.old.place.data_words + self.old.place.pointers) < 2 ^ 61 }
         ensures same { self.new.memory.ghost_name ≡ self.old.memory.ghost_name }
         ensures place { self.new.place ≡ self.old.place }
         ensures content { TakesOver (seen_struct B.segments other.entry)
-            (words_in (A.segments self.old.memory.now.arena)) (words_in (A.segments self.new.memory.now.arena))
+            (words_in (A.segments self.old.memory.now.arena))
+            (words_in (A.segments self.new.memory.now.arena))
             self.old.place limiter.old result limiter.new }
         ensures books { A.books self.new.memory.now.arena ≡ A.books self.old.memory.now.arena }
     {

@@ -44,14 +44,16 @@ impl<'a, A: BuilderArena> DataBuilder<'a, A> {
 
     /// The bytes, lent in place.
     pub fn as_bytes(&self) -> &[u8]
-        ensures { HasBytes (words_in (A.segments self.now.memory.now.arena)) self.now.place result.now }
+        ensures { HasBytes (words_in (A.segments self.now.memory.now.arena)) self.now.place
+            result.now }
     {
         get_bytes(&self.memory.arena, self.place)
     }
 
     /// The same, of which no handle to write is left.
     pub fn into_reader(self) -> &'a [u8]
-        ensures { HasBytes (words_in (A.segments self.entry.memory.now.arena)) self.entry.place result.now }
+        ensures { HasBytes (words_in (A.segments self.entry.memory.now.arena)) self.entry.place
+            result.now }
     {
         let DataBuilder { memory, place } = self;
         get_bytes(&memory.arena, place)
@@ -64,8 +66,10 @@ impl<'a, A: BuilderArena> DataBuilder<'a, A> {
         ensures same { self.new.memory.ghost_name ≡ self.old.memory.ghost_name }
         ensures place { self.new.place ≡ self.old.place }
         ensures books { A.books self.new.memory.now.arena ≡ A.books self.old.memory.now.arena }
-        ensures sizes { map length (words_in (A.segments self.new.memory.now.arena)) ≡ map length (words_in (A.segments self.old.memory.now.arena)) }
-        ensures sets { SetsBytes (words_in (A.segments self.old.memory.now.arena)) (words_in (A.segments self.new.memory.now.arena)) self.old.place.start at bytes.now }
+        ensures sizes { map length (words_in (A.segments self.new.memory.now.arena))
+            ≡ map length (words_in (A.segments self.old.memory.now.arena)) }
+        ensures sets { SetsBytes (words_in (A.segments self.old.memory.now.arena))
+            (words_in (A.segments self.new.memory.now.arena)) self.old.place.start at bytes.now }
     {
         let place = self.place;
         set_bytes(&mut self.memory.arena, place, at, bytes);
@@ -78,8 +82,11 @@ impl<'a, A: BuilderArena> DataBuilder<'a, A> {
         ensures same { self.new.memory.ghost_name ≡ self.old.memory.ghost_name }
         ensures place { self.new.place ≡ self.old.place }
         ensures books { A.books self.new.memory.now.arena ≡ A.books self.old.memory.now.arena }
-        ensures sizes { map length (words_in (A.segments self.new.memory.now.arena)) ≡ map length (words_in (A.segments self.old.memory.now.arena)) }
-        ensures sets { SetsBytes (words_in (A.segments self.old.memory.now.arena)) (words_in (A.segments self.new.memory.now.arena)) self.old.place.start index (byte ∷ []) }
+        ensures sizes { map length (words_in (A.segments self.new.memory.now.arena))
+            ≡ map length (words_in (A.segments self.old.memory.now.arena)) }
+        ensures sets { SetsBytes (words_in (A.segments self.old.memory.now.arena))
+            (words_in (A.segments self.new.memory.now.arena)) self.old.place.start index
+            (byte ∷ []) }
     {
         let place = self.place;
         set_bytes(&mut self.memory.arena, place, index, &[byte]);

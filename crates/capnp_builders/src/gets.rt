@@ -53,12 +53,14 @@ pub fn struct_or_default<A: BuilderArena>(
         (place_view slot) 1) ≡ true }
     requires near { slot.position < 2 ^ 61 }
     ensures got { IfOk result (StructGot (option_copied default.entry)
-        (words_in (A.segments arena.old)) (words_in (A.segments arena.new)) (place_view slot) size) }
+        (words_in (A.segments arena.old)) (words_in (A.segments arena.new)) (place_view slot)
+        size) }
     ensures there { IfOk result (λ o. is_some (words_at (words_in (A.segments arena.new))
         (place_view o.start) (o.data_words + o.pointers)) ≡ true) }
     ensures near { IfOk result (λ o. o.start.position + (o.data_words + o.pointers) < 2 ^ 61) }
     ensures refused { IfErr result (NoStructGot (option_copied default.entry)
-        (words_in (A.segments arena.old)) (words_in (A.segments arena.new)) (place_view slot) size) }
+        (words_in (A.segments arena.old)) (words_in (A.segments arena.new)) (place_view slot)
+        size) }
     ensures books { A.books arena.new ≡ A.books arena.old }
 {
     changes_of_values();
@@ -127,7 +129,8 @@ impl<'a, A: BuilderArena> PointerBuilder<'a, A> {
         ensures got { IfOk result (λ o. StructGot (option_copied default.entry)
             (words_in (A.segments self.entry.memory.now.arena))
             (words_in (A.segments o.memory.now.arena)) (place_view self.entry.place) size o.place) }
-        ensures there { IfOk result (λ o. is_some (words_at (words_in (A.segments o.memory.now.arena))
+        ensures there { IfOk result (λ o.
+            is_some (words_at (words_in (A.segments o.memory.now.arena))
             (place_view o.place.start) (o.place.data_words + o.place.pointers)) ≡ true) }
         ensures near { IfOk result (λ o.
             o.place.start.position + (o.place.data_words + o.place.pointers) < 2 ^ 61) }

@@ -23,7 +23,9 @@ use capnp_wire::place::Place;
 /// The list at a place, to read.
 fn read_at<'a, A: BuilderArena>(arena: &'a A, place: ListPlace) -> ListReader<'a, A>
     requires { HasElements (words_in (A.segments arena.now)) place }
-    ensures { seen_list A.segments result ≡ list_at (A.segments arena.now) (A.nesting arena.now) (first_element place) place.size place.count place.data_words place.pointers }
+    ensures { seen_list A.segments result
+        ≡ list_at (A.segments arena.now) (A.nesting arena.now) (first_element place) place.size
+        place.count place.data_words place.pointers }
 {
     ListReader::at(
         arena,
@@ -59,7 +61,10 @@ impl<'a, A: BuilderArena> ListBuilder<'a, A> {
     /// The list to read. Its pointers are followed under the arena's nesting limit.
     pub fn as_reader(&self) -> ListReader<'_, A>
         requires { HasElements (words_in (A.segments self.now.memory.now.arena)) self.now.place }
-        ensures { let o = self.now.place in seen_list A.segments result ≡ list_at (A.segments self.now.memory.now.arena) (A.nesting self.now.memory.now.arena) (first_element o) o.size o.count o.data_words o.pointers }
+        ensures { let o = self.now.place in
+            seen_list A.segments result
+            ≡ list_at (A.segments self.now.memory.now.arena) (A.nesting self.now.memory.now.arena)
+            (first_element o) o.size o.count o.data_words o.pointers }
     {
         read_at(&self.memory.arena, self.place)
     }
@@ -67,7 +72,11 @@ impl<'a, A: BuilderArena> ListBuilder<'a, A> {
     /// The same, of which no handle to write is left.
     pub fn into_reader(self) -> ListReader<'a, A>
         requires { HasElements (words_in (A.segments self.memory.now.arena)) self.place }
-        ensures { seen_list A.segments result ≡ list_at (A.segments self.entry.memory.now.arena) (A.nesting self.entry.memory.now.arena) (first_element self.entry.place) self.entry.place.size self.entry.place.count self.entry.place.data_words self.entry.place.pointers }
+        ensures { seen_list A.segments result
+            ≡ list_at (A.segments self.entry.memory.now.arena)
+            (A.nesting self.entry.memory.now.arena) (first_element self.entry.place)
+            self.entry.place.size self.entry.place.count self.entry.place.data_words
+            self.entry.place.pointers }
     {
         let ListBuilder { memory, place } = self;
         read_at(&memory.arena, place)
@@ -91,7 +100,8 @@ impl<'a, A: BuilderArena> ListBuilder<'a, A> {
     pub fn get<T: BuilderElement>(&self, index: ElementCount32) -> T
         requires near { self.now.place.start.position < 2 ^ 61 }
         requires inside { IsInElement self.now.place index T.width }
-        ensures { HasElement (words_in (A.segments self.now.memory.now.arena)) self.now.place index T.width (λ bits. result ≡ T.of_bits bits) }
+        ensures { HasElement (words_in (A.segments self.now.memory.now.arena)) self.now.place
+            index T.width (λ bits. result ≡ T.of_bits bits) }
     {
         let place = self.place;
         let width = data_bits_per_element(T::element_size());
@@ -106,8 +116,11 @@ impl<'a, A: BuilderArena> ListBuilder<'a, A> {
         ensures same { self.new.memory.ghost_name ≡ self.old.memory.ghost_name }
         ensures place { self.new.place ≡ self.old.place }
         ensures books { A.books self.new.memory.now.arena ≡ A.books self.old.memory.now.arena }
-        ensures sizes { map length (words_in (A.segments self.new.memory.now.arena)) ≡ map length (words_in (A.segments self.old.memory.now.arena)) }
-        ensures sets { SetsElement (words_in (A.segments self.old.memory.now.arena)) (words_in (A.segments self.new.memory.now.arena)) self.old.place index T.width (T.bits value) }
+        ensures sizes { map length (words_in (A.segments self.new.memory.now.arena))
+            ≡ map length (words_in (A.segments self.old.memory.now.arena)) }
+        ensures sets { SetsElement (words_in (A.segments self.old.memory.now.arena))
+            (words_in (A.segments self.new.memory.now.arena)) self.old.place index T.width
+            (T.bits value) }
     {
         let place = self.place;
         let width = data_bits_per_element(T::element_size());
@@ -138,13 +151,18 @@ impl<'a, A: BuilderArena> ListBuilder<'a, A> {
     pub fn get_struct_element(self, index: ElementCount32) -> StructBuilder<'a, A>
         requires structs { size_number self.place.size ≡ 7 }
         requires near { self.place.start.position + (1 + self.place.claimed) < 2 ^ 61 }
-        requires fits { self.place.count * (self.place.data_words + self.place.pointers) ≤ self.place.claimed }
+        requires fits { self.place.count * (self.place.data_words + self.place.pointers)
+            ≤ self.place.claimed }
         requires inside { index < self.place.count }
         ensures same { result.memory.ghost_name ≡ self.entry.memory.ghost_name }
         ensures now { result.memory.now ≡ self.entry.memory.now }
-        ensures place { place_view result.place.start ≡ after (after (place_view self.entry.place.start) 1) (index * (self.entry.place.data_words + self.entry.place.pointers)) }
-        ensures size { (result.place.data_words ≡ self.entry.place.data_words) × (result.place.pointers ≡ self.entry.place.pointers) }
-        ensures near { result.place.start.position + (result.place.data_words + result.place.pointers) < 2 ^ 61 }
+        ensures place { place_view result.place.start
+            ≡ after (after (place_view self.entry.place.start) 1)
+            (index * (self.entry.place.data_words + self.entry.place.pointers)) }
+        ensures size { (result.place.data_words ≡ self.entry.place.data_words)
+            × (result.place.pointers ≡ self.entry.place.pointers) }
+        ensures near { result.place.start.position +
+            (result.place.data_words + result.place.pointers) < 2 ^ 61 }
     {
         let ListBuilder { memory, place } = self;
         let start = place.start;

@@ -45,24 +45,47 @@ pub trait FromPointerBuilder<'a, A: BuilderArena>: Sized {
     ///
     /// It is refused as the type says; then all stands as it was.
     fn init_pointer(builder: PointerBuilder<'a, A>, length: u32) -> Result<Self>
-        requires there { is_some (words_at (words_in (A.segments builder.memory.now.arena)) (place_view builder.place) 1) ≡ true }
+        requires there { is_some (words_at (words_in (A.segments builder.memory.now.arena))
+            (place_view builder.place) 1) ≡ true }
         requires near { builder.place.position < 2 ^ 61 }
-        ensures same { IfOk result (λ o. (memory_of o).ghost_name ≡ builder.entry.memory.ghost_name) }
-        ensures made { IfOk result (λ o. is_made (words_in (A.segments builder.entry.memory.now.arena)) (words_in (A.segments (memory_of o).now.arena)) builder.entry.place length o) }
-        ensures books { IfOk result (λ o. A.books (memory_of o).now.arena ≡ A.books builder.entry.memory.now.arena) }
-        ensures kind { IfErr result (is_not_made (words_in (A.segments builder.entry.memory.now.arena)) length) }
-        ensures* refused { sem 𝓛 (RestsIfErr (the_row A.row) builder.entry.memory (λ o. (memory_of o).ghost_name) result (λ n. (A.segments n.arena ≡ A.segments builder.entry.memory.now.arena) × (A.books n.arena ≡ A.books builder.entry.memory.now.arena))) };
+        ensures same { IfOk result
+            (λ o. (memory_of o).ghost_name ≡ builder.entry.memory.ghost_name) }
+        ensures made { IfOk result (λ o.
+            is_made (words_in (A.segments builder.entry.memory.now.arena))
+            (words_in (A.segments (memory_of o).now.arena)) builder.entry.place length o) }
+        ensures books { IfOk result (λ o.
+            A.books (memory_of o).now.arena ≡ A.books builder.entry.memory.now.arena) }
+        ensures kind { IfErr result
+            (is_not_made (words_in (A.segments builder.entry.memory.now.arena)) length) }
+        ensures* refused { sem 𝓛 (RestsIfErr (the_row A.row)
+            builder.entry.memory (λ o. (memory_of o).ghost_name)
+            result (λ n.
+            (A.segments n.arena ≡ A.segments builder.entry.memory.now.arena)
+            × (A.books n.arena ≡ A.books builder.entry.memory.now.arena))) };
 
     /// The value that the pointer names, to write. In place of null the default is written, where there is one and its root isn't null.
     ///
     /// It is refused as the type says.
     fn get_from_pointer(builder: PointerBuilder<'a, A>, default: Option<&[Word]>) -> Result<Self>
-        requires there { is_some (words_at (words_in (A.segments builder.memory.now.arena)) (place_view builder.place) 1) ≡ true }
+        requires there { is_some (words_at (words_in (A.segments builder.memory.now.arena))
+            (place_view builder.place) 1) ≡ true }
         requires near { builder.place.position < 2 ^ 61 }
-        ensures same { IfOk result (λ o. (memory_of o).ghost_name ≡ builder.entry.memory.ghost_name) }
-        ensures got { IfOk result (λ o. is_got (option_copied default.entry) (words_in (A.segments builder.entry.memory.now.arena)) (words_in (A.segments (memory_of o).now.arena)) builder.entry.place o) }
-        ensures books { IfOk result (λ o. A.books (memory_of o).now.arena ≡ A.books builder.entry.memory.now.arena) }
-        ensures* refused { sem 𝓛 (RestsIfErr (the_row A.row) builder.entry.memory (λ o. (memory_of o).ghost_name) result (λ n. IfErr result (is_not_got (option_copied default.entry) (words_in (A.segments builder.entry.memory.now.arena)) (words_in (A.segments n.arena)) builder.entry.place) × (A.books n.arena ≡ A.books builder.entry.memory.now.arena))) };
+        ensures same { IfOk result
+            (λ o. (memory_of o).ghost_name ≡ builder.entry.memory.ghost_name) }
+        ensures got { IfOk result (λ o.
+            is_got (option_copied default.entry)
+            (words_in (A.segments builder.entry.memory.now.arena))
+            (words_in (A.segments (memory_of o).now.arena)) builder.entry.place o) }
+        ensures books { IfOk result (λ o.
+            A.books (memory_of o).now.arena ≡ A.books builder.entry.memory.now.arena) }
+        ensures* refused { sem 𝓛 (RestsIfErr (the_row A.row)
+            builder.entry.memory (λ o. (memory_of o).ghost_name)
+            result (λ n.
+            IfErr result
+            (is_not_got (option_copied default.entry)
+            (words_in (A.segments builder.entry.memory.now.arena))
+            (words_in (A.segments n.arena)) builder.entry.place)
+            × (A.books n.arena ≡ A.books builder.entry.memory.now.arena))) };
 }
 
 /// Data are made of so many zero bytes.
@@ -78,13 +101,24 @@ impl<'a, A: BuilderArena> FromPointerBuilder<'a, A> for DataBuilder<'a, A> {
     ghost is_not_got = { λ default s u slot e. NoDataGot default s u slot e };
 
     fn init_pointer(builder: PointerBuilder<'a, A>, length: u32) -> Result<DataBuilder<'a, A>>
-        requires there { is_some (words_at (words_in (A.segments builder.memory.now.arena)) (place_view builder.place) 1) ≡ true }
+        requires there { is_some (words_at (words_in (A.segments builder.memory.now.arena))
+            (place_view builder.place) 1) ≡ true }
         requires near { builder.place.position < 2 ^ 61 }
         ensures same { IfOk result (λ o. o.memory.ghost_name ≡ builder.entry.memory.ghost_name) }
-        ensures made { IfOk result (λ o. DataMade (words_in (A.segments builder.entry.memory.now.arena)) (words_in (A.segments o.memory.now.arena)) builder.entry.place length o.place) }
-        ensures books { IfOk result (λ o. A.books o.memory.now.arena ≡ A.books builder.entry.memory.now.arena) }
-        ensures kind { IfErr result (λ e. (e.kind ≡ SizeOverflow) ↔ IsTooLong length (total_words (words_in (A.segments builder.entry.memory.now.arena)))) }
-        ensures* refused { sem 𝓛 (RestsIfErr (the_row A.row) builder.entry.memory (λ o. o.memory.ghost_name) result (λ n. (A.segments n.arena ≡ A.segments builder.entry.memory.now.arena) × (A.books n.arena ≡ A.books builder.entry.memory.now.arena))) }
+        ensures made { IfOk result (λ o.
+            DataMade (words_in (A.segments builder.entry.memory.now.arena))
+            (words_in (A.segments o.memory.now.arena)) builder.entry.place length o.place) }
+        ensures books { IfOk result (λ o.
+            A.books o.memory.now.arena ≡ A.books builder.entry.memory.now.arena) }
+        ensures kind { IfErr result (λ e.
+            (e.kind ≡ SizeOverflow)
+            ↔ IsTooLong length
+            (total_words (words_in (A.segments builder.entry.memory.now.arena)))) }
+        ensures* refused { sem 𝓛 (RestsIfErr (the_row A.row)
+            builder.entry.memory (λ o. o.memory.ghost_name)
+            result (λ n.
+            (A.segments n.arena ≡ A.segments builder.entry.memory.now.arena)
+            × (A.books n.arena ≡ A.books builder.entry.memory.now.arena))) }
     {
         builder.init_data(length)
     }
@@ -93,12 +127,23 @@ impl<'a, A: BuilderArena> FromPointerBuilder<'a, A> for DataBuilder<'a, A> {
         builder: PointerBuilder<'a, A>,
         default: Option<&[Word]>,
     ) -> Result<DataBuilder<'a, A>>
-        requires there { is_some (words_at (words_in (A.segments builder.memory.now.arena)) (place_view builder.place) 1) ≡ true }
+        requires there { is_some (words_at (words_in (A.segments builder.memory.now.arena))
+            (place_view builder.place) 1) ≡ true }
         requires near { builder.place.position < 2 ^ 61 }
         ensures same { IfOk result (λ o. o.memory.ghost_name ≡ builder.entry.memory.ghost_name) }
-        ensures got { IfOk result (λ o. DataGot (option_copied default.entry) (words_in (A.segments builder.entry.memory.now.arena)) (words_in (A.segments o.memory.now.arena)) builder.entry.place o.place) }
-        ensures books { IfOk result (λ o. A.books o.memory.now.arena ≡ A.books builder.entry.memory.now.arena) }
-        ensures* refused { sem 𝓛 (RestsIfErr (the_row A.row) builder.entry.memory (λ o. o.memory.ghost_name) result (λ n. IfErr result (NoDataGot (option_copied default.entry) (words_in (A.segments builder.entry.memory.now.arena)) (words_in (A.segments n.arena)) builder.entry.place) × (A.books n.arena ≡ A.books builder.entry.memory.now.arena))) }
+        ensures got { IfOk result (λ o.
+            DataGot (option_copied default.entry)
+            (words_in (A.segments builder.entry.memory.now.arena))
+            (words_in (A.segments o.memory.now.arena)) builder.entry.place o.place) }
+        ensures books { IfOk result (λ o.
+            A.books o.memory.now.arena ≡ A.books builder.entry.memory.now.arena) }
+        ensures* refused { sem 𝓛 (RestsIfErr (the_row A.row)
+            builder.entry.memory (λ o. o.memory.ghost_name)
+            result (λ n.
+            IfErr result
+            (NoDataGot (option_copied default.entry)
+            (words_in (A.segments builder.entry.memory.now.arena)) (words_in (A.segments n.arena))
+            builder.entry.place) × (A.books n.arena ≡ A.books builder.entry.memory.now.arena))) }
     {
         builder.get_data(default)
     }
@@ -112,18 +157,31 @@ impl<'a, A: BuilderArena> FromPointerBuilder<'a, A> for TextBuilder<'a, A> {
 
     ghost is_not_made = { λ s n e. (e.kind ≡ SizeOverflow) ↔ IsTooLong (n + 1) (total_words s) };
 
-    ghost is_got = { λ default s u slot o. TextGot default s u slot o.place × (o.position ≡ o.place.count) };
+    ghost is_got = { λ default s u slot o.
+        TextGot default s u slot o.place × (o.position ≡ o.place.count) };
 
     ghost is_not_got = { λ default s u slot e. NoTextGot default s u slot e };
 
     fn init_pointer(builder: PointerBuilder<'a, A>, length: u32) -> Result<TextBuilder<'a, A>>
-        requires there { is_some (words_at (words_in (A.segments builder.memory.now.arena)) (place_view builder.place) 1) ≡ true }
+        requires there { is_some (words_at (words_in (A.segments builder.memory.now.arena))
+            (place_view builder.place) 1) ≡ true }
         requires near { builder.place.position < 2 ^ 61 }
         ensures same { IfOk result (λ o. o.memory.ghost_name ≡ builder.entry.memory.ghost_name) }
-        ensures made { IfOk result (λ o. TextMade (words_in (A.segments builder.entry.memory.now.arena)) (words_in (A.segments o.memory.now.arena)) builder.entry.place length o.place × (o.position ≡ 0)) }
-        ensures books { IfOk result (λ o. A.books o.memory.now.arena ≡ A.books builder.entry.memory.now.arena) }
-        ensures kind { IfErr result (λ e. (e.kind ≡ SizeOverflow) ↔ IsTooLong (length + 1) (total_words (words_in (A.segments builder.entry.memory.now.arena)))) }
-        ensures* refused { sem 𝓛 (RestsIfErr (the_row A.row) builder.entry.memory (λ o. o.memory.ghost_name) result (λ n. (A.segments n.arena ≡ A.segments builder.entry.memory.now.arena) × (A.books n.arena ≡ A.books builder.entry.memory.now.arena))) }
+        ensures made { IfOk result (λ o.
+            TextMade (words_in (A.segments builder.entry.memory.now.arena))
+            (words_in (A.segments o.memory.now.arena)) builder.entry.place length o.place
+            × (o.position ≡ 0)) }
+        ensures books { IfOk result (λ o.
+            A.books o.memory.now.arena ≡ A.books builder.entry.memory.now.arena) }
+        ensures kind { IfErr result (λ e.
+            (e.kind ≡ SizeOverflow)
+            ↔ IsTooLong (length + 1)
+            (total_words (words_in (A.segments builder.entry.memory.now.arena)))) }
+        ensures* refused { sem 𝓛 (RestsIfErr (the_row A.row)
+            builder.entry.memory (λ o. o.memory.ghost_name)
+            result (λ n.
+            (A.segments n.arena ≡ A.segments builder.entry.memory.now.arena)
+            × (A.books n.arena ≡ A.books builder.entry.memory.now.arena))) }
     {
         builder.init_text(length)
     }
@@ -132,12 +190,24 @@ impl<'a, A: BuilderArena> FromPointerBuilder<'a, A> for TextBuilder<'a, A> {
         builder: PointerBuilder<'a, A>,
         default: Option<&[Word]>,
     ) -> Result<TextBuilder<'a, A>>
-        requires there { is_some (words_at (words_in (A.segments builder.memory.now.arena)) (place_view builder.place) 1) ≡ true }
+        requires there { is_some (words_at (words_in (A.segments builder.memory.now.arena))
+            (place_view builder.place) 1) ≡ true }
         requires near { builder.place.position < 2 ^ 61 }
         ensures same { IfOk result (λ o. o.memory.ghost_name ≡ builder.entry.memory.ghost_name) }
-        ensures got { IfOk result (λ o. TextGot (option_copied default.entry) (words_in (A.segments builder.entry.memory.now.arena)) (words_in (A.segments o.memory.now.arena)) builder.entry.place o.place × (o.position ≡ o.place.count)) }
-        ensures books { IfOk result (λ o. A.books o.memory.now.arena ≡ A.books builder.entry.memory.now.arena) }
-        ensures* refused { sem 𝓛 (RestsIfErr (the_row A.row) builder.entry.memory (λ o. o.memory.ghost_name) result (λ n. IfErr result (NoTextGot (option_copied default.entry) (words_in (A.segments builder.entry.memory.now.arena)) (words_in (A.segments n.arena)) builder.entry.place) × (A.books n.arena ≡ A.books builder.entry.memory.now.arena))) }
+        ensures got { IfOk result (λ o.
+            TextGot (option_copied default.entry)
+            (words_in (A.segments builder.entry.memory.now.arena))
+            (words_in (A.segments o.memory.now.arena)) builder.entry.place o.place
+            × (o.position ≡ o.place.count)) }
+        ensures books { IfOk result (λ o.
+            A.books o.memory.now.arena ≡ A.books builder.entry.memory.now.arena) }
+        ensures* refused { sem 𝓛 (RestsIfErr (the_row A.row)
+            builder.entry.memory (λ o. o.memory.ghost_name)
+            result (λ n.
+            IfErr result
+            (NoTextGot (option_copied default.entry)
+            (words_in (A.segments builder.entry.memory.now.arena)) (words_in (A.segments n.arena))
+            builder.entry.place) × (A.books n.arena ≡ A.books builder.entry.memory.now.arena))) }
     {
         builder.get_text(default)
     }

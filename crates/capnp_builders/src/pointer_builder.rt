@@ -69,14 +69,18 @@ impl<'a, A: BuilderArena> PointerBuilder<'a, A> {
 
     /// The pointer to read, under the arena's nesting limit.
     pub fn as_reader(&self) -> PointerReader<'_, A>
-        ensures { seen_pointer A.segments result ≡ pointer_at (A.segments self.now.memory.now.arena) (A.nesting self.now.memory.now.arena) (place_view self.now.place) }
+        ensures { seen_pointer A.segments result
+            ≡ pointer_at (A.segments self.now.memory.now.arena)
+            (A.nesting self.now.memory.now.arena) (place_view self.now.place) }
     {
         PointerReader::at(&self.memory.arena, self.place)
     }
 
     /// The same, of which no handle to write is left.
     pub fn into_reader(self) -> PointerReader<'a, A>
-        ensures { seen_pointer A.segments result ≡ pointer_at (A.segments self.entry.memory.now.arena) (A.nesting self.entry.memory.now.arena) (place_view self.entry.place) }
+        ensures { seen_pointer A.segments result
+            ≡ pointer_at (A.segments self.entry.memory.now.arena)
+            (A.nesting self.entry.memory.now.arena) (place_view self.entry.place) }
     {
         let PointerBuilder { memory, place } = self;
         PointerReader::at(&memory.arena, place)
@@ -84,7 +88,9 @@ impl<'a, A: BuilderArena> PointerBuilder<'a, A> {
 
     /// Whether it is null, a word of zeros.
     pub fn is_null(&self) -> bool
-        ensures { result ≡ (unwrap_or (word_at (words_in (A.segments self.now.memory.now.arena)) (place_view self.now.place)) 0 == 0) }
+        ensures { result ≡ (unwrap_or
+            (word_at (words_in (A.segments self.now.memory.now.arena))
+            (place_view self.now.place)) 0 == 0) }
     {
         word_at(&self.memory.arena, self.place).unwrap_or(0) == 0
     }
@@ -94,8 +100,10 @@ impl<'a, A: BuilderArena> PointerBuilder<'a, A> {
         ensures same { self.new.memory.ghost_name ≡ self.old.memory.ghost_name }
         ensures place { self.new.place ≡ self.old.place }
         ensures books { A.books self.new.memory.now.arena ≡ A.books self.old.memory.now.arena }
-        ensures sizes { map length (words_in (A.segments self.new.memory.now.arena)) ≡ map length (words_in (A.segments self.old.memory.now.arena)) }
-        ensures clears { ClearsValue (words_in (A.segments self.old.memory.now.arena)) (words_in (A.segments self.new.memory.now.arena)) (place_view self.old.place) }
+        ensures sizes { map length (words_in (A.segments self.new.memory.now.arena))
+            ≡ map length (words_in (A.segments self.old.memory.now.arena)) }
+        ensures clears { ClearsValue (words_in (A.segments self.old.memory.now.arena))
+            (words_in (A.segments self.new.memory.now.arena)) (place_view self.old.place) }
     {
         let place = self.place;
         clear(&mut self.memory.arena, place);
@@ -105,18 +113,39 @@ impl<'a, A: BuilderArena> PointerBuilder<'a, A> {
     ///
     /// It is refused with `SizeOverflow` just where the message's words would pass 2^29 - 1 with a pad counted, else as the allocator refuses; then all stands as it was.
     pub fn init_struct(self, size: StructSize) -> Result<StructBuilder<'a, A>>
-        requires there { is_some (words_at (words_in (A.segments self.memory.now.arena)) (place_view self.place) 1) ≡ true }
+        requires there { is_some (words_at (words_in (A.segments self.memory.now.arena))
+            (place_view self.place) 1) ≡ true }
         requires near { self.place.position < 2 ^ 61 }
         ensures same { IfOk result (λ o. o.memory.ghost_name ≡ self.entry.memory.ghost_name) }
-        ensures value { IfOk result (λ o. Becomes (words_in (A.segments self.entry.memory.now.arena)) (words_in (A.segments o.memory.now.arena)) (place_view self.entry.place) (structure size.data_words 0 (resized size.pointers none))) }
-        ensures object { IfOk result (λ o. LeadsTo (words_in (A.segments o.memory.now.arena)) (place_view self.entry.place) (struct_at o.place)) }
-        ensures size { IfOk result (λ o. (o.place.data_words ≡ size.data_words) × (o.place.pointers ≡ size.pointers)) }
-        ensures there { IfOk result (λ o. is_some (words_at (words_in (A.segments o.memory.now.arena)) (place_view o.place.start) (o.place.data_words + o.place.pointers)) ≡ true) }
-        ensures near { IfOk result (λ o. o.place.start.position + (o.place.data_words + o.place.pointers) < 2 ^ 61) }
-        ensures taken { IfOk result (λ o. TakesJust (words_in (A.segments self.entry.memory.now.arena)) (A.room self.entry.memory.now.arena) (words_in (A.segments o.memory.now.arena)) self.entry.place.segment (size.data_words + size.pointers)) }
-        ensures books { IfOk result (λ o. A.books o.memory.now.arena ≡ A.books self.entry.memory.now.arena) }
-        ensures kind { IfErr result (λ e. (e.kind ≡ SizeOverflow) ↔ (2 ^ 29 ≤ total_words (words_in (A.segments self.entry.memory.now.arena)) + (size.data_words + size.pointers + 1))) }
-        ensures* refused { sem 𝓛 (RestsIfErr (the_row A.row) self.entry.memory (λ o. o.memory.ghost_name) result (λ n. (A.segments n.arena ≡ A.segments self.entry.memory.now.arena) × (A.books n.arena ≡ A.books self.entry.memory.now.arena))) }
+        ensures value { IfOk result (λ o.
+            Becomes (words_in (A.segments self.entry.memory.now.arena))
+            (words_in (A.segments o.memory.now.arena)) (place_view self.entry.place)
+            (structure size.data_words 0 (resized size.pointers none))) }
+        ensures object { IfOk result (λ o.
+            LeadsTo (words_in (A.segments o.memory.now.arena)) (place_view self.entry.place)
+            (struct_at o.place)) }
+        ensures size { IfOk result (λ o.
+            (o.place.data_words ≡ size.data_words) × (o.place.pointers ≡ size.pointers)) }
+        ensures there { IfOk result (λ o.
+            is_some (words_at (words_in (A.segments o.memory.now.arena))
+            (place_view o.place.start) (o.place.data_words + o.place.pointers)) ≡ true) }
+        ensures near { IfOk result (λ o.
+            o.place.start.position + (o.place.data_words + o.place.pointers) < 2 ^ 61) }
+        ensures taken { IfOk result (λ o.
+            TakesJust (words_in (A.segments self.entry.memory.now.arena))
+            (A.room self.entry.memory.now.arena) (words_in (A.segments o.memory.now.arena))
+            self.entry.place.segment (size.data_words + size.pointers)) }
+        ensures books { IfOk result (λ o.
+            A.books o.memory.now.arena ≡ A.books self.entry.memory.now.arena) }
+        ensures kind { IfErr result (λ e.
+            (e.kind ≡ SizeOverflow)
+            ↔ (2 ^ 29 ≤ total_words (words_in (A.segments self.entry.memory.now.arena)) +
+            (size.data_words + size.pointers + 1))) }
+        ensures* refused { sem 𝓛 (RestsIfErr (the_row A.row)
+            self.entry.memory (λ o. o.memory.ghost_name)
+            result (λ n.
+            (A.segments n.arena ≡ A.segments self.entry.memory.now.arena)
+            × (A.books n.arena ≡ A.books self.entry.memory.now.arena))) }
     {
         let PointerBuilder { memory, place } = self;
         let place = init_struct(&mut memory.arena, place, size)?;
@@ -131,19 +160,43 @@ impl<'a, A: BuilderArena> PointerBuilder<'a, A> {
         element_size: ElementSize,
         element_count: ElementCount32,
     ) -> Result<ListBuilder<'a, A>>
-        requires there { is_some (words_at (words_in (A.segments self.memory.now.arena)) (place_view self.place) 1) ≡ true }
+        requires there { is_some (words_at (words_in (A.segments self.memory.now.arena))
+            (place_view self.place) 1) ≡ true }
         requires near { self.place.position < 2 ^ 61 }
         requires plain { size_number element_size < 7 }
         ensures same { IfOk result (λ o. o.memory.ghost_name ≡ self.entry.memory.ghost_name) }
-        ensures value { IfOk result (λ o. Becomes (words_in (A.segments self.entry.memory.now.arena)) (words_in (A.segments o.memory.now.arena)) (place_view self.entry.place) (new_tree (zeros_of (size_number element_size) element_count))) }
-        ensures object { IfOk result (λ o. LeadsTo (words_in (A.segments o.memory.now.arena)) (place_view self.entry.place) (list_at o.place)) }
-        ensures list { IfOk result (λ o. (o.place.size ≡ element_size) × (o.place.claimed ≡ element_count) × (o.place.count ≡ element_count)) }
-        ensures there { IfOk result (λ o. is_some (words_at (words_in (A.segments o.memory.now.arena)) (place_view o.place.start) (words_of (size_number element_size) element_count)) ≡ true) }
-        ensures near { IfOk result (λ o. o.place.start.position + words_of (size_number element_size) element_count < 2 ^ 61) }
-        ensures taken { IfOk result (λ o. TakesJust (words_in (A.segments self.entry.memory.now.arena)) (A.room self.entry.memory.now.arena) (words_in (A.segments o.memory.now.arena)) self.entry.place.segment (words_of (size_number element_size) element_count)) }
-        ensures books { IfOk result (λ o. A.books o.memory.now.arena ≡ A.books self.entry.memory.now.arena) }
-        ensures kind { IfErr result (λ e. (e.kind ≡ SizeOverflow) ↔ ((2 ^ 29 ≤ element_count) ⊎ (2 ^ 29 ≤ total_words (words_in (A.segments self.entry.memory.now.arena)) + (words_of (size_number element_size) element_count + 1)))) }
-        ensures* refused { sem 𝓛 (RestsIfErr (the_row A.row) self.entry.memory (λ o. o.memory.ghost_name) result (λ n. (A.segments n.arena ≡ A.segments self.entry.memory.now.arena) × (A.books n.arena ≡ A.books self.entry.memory.now.arena))) }
+        ensures value { IfOk result (λ o.
+            Becomes (words_in (A.segments self.entry.memory.now.arena))
+            (words_in (A.segments o.memory.now.arena)) (place_view self.entry.place)
+            (new_tree (zeros_of (size_number element_size) element_count))) }
+        ensures object { IfOk result (λ o.
+            LeadsTo (words_in (A.segments o.memory.now.arena)) (place_view self.entry.place)
+            (list_at o.place)) }
+        ensures list { IfOk result (λ o.
+            (o.place.size ≡ element_size) × (o.place.claimed ≡ element_count)
+            × (o.place.count ≡ element_count)) }
+        ensures there { IfOk result (λ o.
+            is_some (words_at (words_in (A.segments o.memory.now.arena))
+            (place_view o.place.start) (words_of (size_number element_size) element_count))
+            ≡ true) }
+        ensures near { IfOk result (λ o.
+            o.place.start.position + words_of (size_number element_size) element_count < 2 ^ 61) }
+        ensures taken { IfOk result (λ o.
+            TakesJust (words_in (A.segments self.entry.memory.now.arena))
+            (A.room self.entry.memory.now.arena) (words_in (A.segments o.memory.now.arena))
+            self.entry.place.segment (words_of (size_number element_size) element_count)) }
+        ensures books { IfOk result (λ o.
+            A.books o.memory.now.arena ≡ A.books self.entry.memory.now.arena) }
+        ensures kind { IfErr result (λ e.
+            (e.kind ≡ SizeOverflow)
+            ↔ ((2 ^ 29 ≤ element_count)
+            ⊎ (2 ^ 29 ≤ total_words (words_in (A.segments self.entry.memory.now.arena)) +
+            (words_of (size_number element_size) element_count + 1)))) }
+        ensures* refused { sem 𝓛 (RestsIfErr (the_row A.row)
+            self.entry.memory (λ o. o.memory.ghost_name)
+            result (λ n.
+            (A.segments n.arena ≡ A.segments self.entry.memory.now.arena)
+            × (A.books n.arena ≡ A.books self.entry.memory.now.arena))) }
     {
         let PointerBuilder { memory, place } = self;
         let place = init_list(&mut memory.arena, place, element_size, element_count)?;
@@ -158,18 +211,46 @@ impl<'a, A: BuilderArena> PointerBuilder<'a, A> {
         element_count: ElementCount32,
         element_size: StructSize,
     ) -> Result<ListBuilder<'a, A>>
-        requires there { is_some (words_at (words_in (A.segments self.memory.now.arena)) (place_view self.place) 1) ≡ true }
+        requires there { is_some (words_at (words_in (A.segments self.memory.now.arena))
+            (place_view self.place) 1) ≡ true }
         requires near { self.place.position < 2 ^ 61 }
         ensures same { IfOk result (λ o. o.memory.ghost_name ≡ self.entry.memory.ghost_name) }
-        ensures value { IfOk result (λ o. Becomes (words_in (A.segments self.entry.memory.now.arena)) (words_in (A.segments o.memory.now.arena)) (place_view self.entry.place) (struct_list element_size.data_words element_size.pointers (zero_elements element_count element_size.pointers))) }
-        ensures object { IfOk result (λ o. LeadsTo (words_in (A.segments o.memory.now.arena)) (place_view self.entry.place) (list_at o.place)) }
-        ensures list { IfOk result (λ o. (size_number o.place.size ≡ 7) × (o.place.claimed ≡ element_count * (element_size.data_words + element_size.pointers)) × (o.place.count ≡ element_count) × (o.place.data_words ≡ element_size.data_words) × (o.place.pointers ≡ element_size.pointers)) }
-        ensures there { IfOk result (λ o. is_some (words_at (words_in (A.segments o.memory.now.arena)) (place_view o.place.start) (1 + o.place.claimed)) ≡ true) }
+        ensures value { IfOk result (λ o.
+            Becomes (words_in (A.segments self.entry.memory.now.arena))
+            (words_in (A.segments o.memory.now.arena)) (place_view self.entry.place)
+            (struct_list element_size.data_words element_size.pointers
+            (zero_elements element_count element_size.pointers))) }
+        ensures object { IfOk result (λ o.
+            LeadsTo (words_in (A.segments o.memory.now.arena)) (place_view self.entry.place)
+            (list_at o.place)) }
+        ensures list { IfOk result (λ o.
+            (size_number o.place.size ≡ 7)
+            × (o.place.claimed
+            ≡ element_count * (element_size.data_words + element_size.pointers))
+            × (o.place.count ≡ element_count) × (o.place.data_words ≡ element_size.data_words)
+            × (o.place.pointers ≡ element_size.pointers)) }
+        ensures there { IfOk result (λ o.
+            is_some (words_at (words_in (A.segments o.memory.now.arena))
+            (place_view o.place.start) (1 + o.place.claimed)) ≡ true) }
         ensures near { IfOk result (λ o. o.place.start.position + (1 + o.place.claimed) < 2 ^ 61) }
-        ensures taken { IfOk result (λ o. TakesJust (words_in (A.segments self.entry.memory.now.arena)) (A.room self.entry.memory.now.arena) (words_in (A.segments o.memory.now.arena)) self.entry.place.segment (1 + element_count * (element_size.data_words + element_size.pointers))) }
-        ensures books { IfOk result (λ o. A.books o.memory.now.arena ≡ A.books self.entry.memory.now.arena) }
-        ensures kind { IfErr result (λ e. (e.kind ≡ SizeOverflow) ↔ ((2 ^ 29 ≤ element_count) ⊎ (2 ^ 29 ≤ element_count * (element_size.data_words + element_size.pointers)) ⊎ (2 ^ 29 ≤ total_words (words_in (A.segments self.entry.memory.now.arena)) + (element_count * (element_size.data_words + element_size.pointers) + 2)))) }
-        ensures* refused { sem 𝓛 (RestsIfErr (the_row A.row) self.entry.memory (λ o. o.memory.ghost_name) result (λ n. (A.segments n.arena ≡ A.segments self.entry.memory.now.arena) × (A.books n.arena ≡ A.books self.entry.memory.now.arena))) }
+        ensures taken { IfOk result (λ o.
+            TakesJust (words_in (A.segments self.entry.memory.now.arena))
+            (A.room self.entry.memory.now.arena) (words_in (A.segments o.memory.now.arena))
+            self.entry.place.segment
+            (1 + element_count * (element_size.data_words + element_size.pointers))) }
+        ensures books { IfOk result (λ o.
+            A.books o.memory.now.arena ≡ A.books self.entry.memory.now.arena) }
+        ensures kind { IfErr result (λ e.
+            (e.kind ≡ SizeOverflow)
+            ↔ ((2 ^ 29 ≤ element_count)
+            ⊎ (2 ^ 29 ≤ element_count * (element_size.data_words + element_size.pointers))
+            ⊎ (2 ^ 29 ≤ total_words (words_in (A.segments self.entry.memory.now.arena)) +
+            (element_count * (element_size.data_words + element_size.pointers) + 2)))) }
+        ensures* refused { sem 𝓛 (RestsIfErr (the_row A.row)
+            self.entry.memory (λ o. o.memory.ghost_name)
+            result (λ n.
+            (A.segments n.arena ≡ A.segments self.entry.memory.now.arena)
+            × (A.books n.arena ≡ A.books self.entry.memory.now.arena))) }
     {
         let PointerBuilder { memory, place } = self;
         let place = init_struct_list(&mut memory.arena, place, element_count, element_size)?;
@@ -180,15 +261,27 @@ impl<'a, A: BuilderArena> PointerBuilder<'a, A> {
     ///
     /// It is refused with `SizeOverflow` just where the bytes or the message's words, a pad counted, would pass 2^29 - 1, else as the allocator refuses; then all stands as it was.
     pub fn set_data(&mut self, value: &[u8]) -> Result<()>
-        requires there { is_some (words_at (words_in (A.segments self.old.memory.now.arena)) (place_view self.old.place) 1) ≡ true }
+        requires there { is_some (words_at (words_in (A.segments self.old.memory.now.arena))
+            (place_view self.old.place) 1) ≡ true }
         requires near { self.old.place.position < 2 ^ 61 }
         ensures same { self.new.memory.ghost_name ≡ self.old.memory.ghost_name }
         ensures place { self.new.place ≡ self.old.place }
         ensures books { A.books self.new.memory.now.arena ≡ A.books self.old.memory.now.arena }
-        ensures value { IfOk result (λ o. Becomes (words_in (A.segments self.old.memory.now.arena)) (words_in (A.segments self.new.memory.now.arena)) (place_view self.old.place) (plain_list 2 (length value.now) (number_of 8 value.now))) }
-        ensures taken { IfOk result (λ o. TakesJust (words_in (A.segments self.old.memory.now.arena)) (A.room self.old.memory.now.arena) (words_in (A.segments self.new.memory.now.arena)) self.old.place.segment (words_for (8 * length value.now))) }
-        ensures refused { OnErr result (A.segments self.new.memory.now.arena ≡ A.segments self.old.memory.now.arena) }
-        ensures kind { IfErr result (λ e. (e.kind ≡ SizeOverflow) ↔ ((2 ^ 29 ≤ length value.now) ⊎ (2 ^ 29 ≤ total_words (words_in (A.segments self.old.memory.now.arena)) + (words_for (8 * length value.now) + 1)))) }
+        ensures value { IfOk result (λ o.
+            Becomes (words_in (A.segments self.old.memory.now.arena))
+            (words_in (A.segments self.new.memory.now.arena)) (place_view self.old.place)
+            (plain_list 2 (length value.now) (number_of 8 value.now))) }
+        ensures taken { IfOk result (λ o.
+            TakesJust (words_in (A.segments self.old.memory.now.arena))
+            (A.room self.old.memory.now.arena) (words_in (A.segments self.new.memory.now.arena))
+            self.old.place.segment (words_for (8 * length value.now))) }
+        ensures refused { OnErr result
+            (A.segments self.new.memory.now.arena ≡ A.segments self.old.memory.now.arena) }
+        ensures kind { IfErr result (λ e.
+            (e.kind ≡ SizeOverflow)
+            ↔ ((2 ^ 29 ≤ length value.now)
+            ⊎ (2 ^ 29 ≤ total_words (words_in (A.segments self.old.memory.now.arena)) +
+            (words_for (8 * length value.now) + 1)))) }
     {
         let place = self.place;
         set_data(&mut self.memory.arena, place, value)
@@ -198,15 +291,27 @@ impl<'a, A: BuilderArena> PointerBuilder<'a, A> {
     ///
     /// It is refused with `SizeOverflow` just where the bytes with the zero byte or the message's words, a pad counted, would pass 2^29 - 1, else as the allocator refuses; then all stands as it was.
     pub fn set_text(&mut self, value: &[u8]) -> Result<()>
-        requires there { is_some (words_at (words_in (A.segments self.old.memory.now.arena)) (place_view self.old.place) 1) ≡ true }
+        requires there { is_some (words_at (words_in (A.segments self.old.memory.now.arena))
+            (place_view self.old.place) 1) ≡ true }
         requires near { self.old.place.position < 2 ^ 61 }
         ensures same { self.new.memory.ghost_name ≡ self.old.memory.ghost_name }
         ensures place { self.new.place ≡ self.old.place }
         ensures books { A.books self.new.memory.now.arena ≡ A.books self.old.memory.now.arena }
-        ensures value { IfOk result (λ o. Becomes (words_in (A.segments self.old.memory.now.arena)) (words_in (A.segments self.new.memory.now.arena)) (place_view self.old.place) (plain_list 2 (length value.now + 1) (number_of 8 value.now))) }
-        ensures taken { IfOk result (λ o. TakesJust (words_in (A.segments self.old.memory.now.arena)) (A.room self.old.memory.now.arena) (words_in (A.segments self.new.memory.now.arena)) self.old.place.segment (words_for (8 * (length value.now + 1)))) }
-        ensures refused { OnErr result (A.segments self.new.memory.now.arena ≡ A.segments self.old.memory.now.arena) }
-        ensures kind { IfErr result (λ e. (e.kind ≡ SizeOverflow) ↔ ((2 ^ 29 ≤ length value.now + 1) ⊎ (2 ^ 29 ≤ total_words (words_in (A.segments self.old.memory.now.arena)) + (words_for (8 * (length value.now + 1)) + 1)))) }
+        ensures value { IfOk result (λ o.
+            Becomes (words_in (A.segments self.old.memory.now.arena))
+            (words_in (A.segments self.new.memory.now.arena)) (place_view self.old.place)
+            (plain_list 2 (length value.now + 1) (number_of 8 value.now))) }
+        ensures taken { IfOk result (λ o.
+            TakesJust (words_in (A.segments self.old.memory.now.arena))
+            (A.room self.old.memory.now.arena) (words_in (A.segments self.new.memory.now.arena))
+            self.old.place.segment (words_for (8 * (length value.now + 1)))) }
+        ensures refused { OnErr result
+            (A.segments self.new.memory.now.arena ≡ A.segments self.old.memory.now.arena) }
+        ensures kind { IfErr result (λ e.
+            (e.kind ≡ SizeOverflow)
+            ↔ ((2 ^ 29 ≤ length value.now + 1)
+            ⊎ (2 ^ 29 ≤ total_words (words_in (A.segments self.old.memory.now.arena)) +
+            (words_for (8 * (length value.now + 1)) + 1)))) }
     {
         let place = self.place;
         set_text(&mut self.memory.arena, place, value)

@@ -19,9 +19,12 @@ use capnp_wire::structs::StructReader;
 
 /// The struct at a place, to read.
 fn read_at<'a, A: BuilderArena>(arena: &'a A, place: StructPlace) -> StructReader<'a, A>
-    requires there { is_some (words_at (words_in (A.segments arena.now)) (place_view place.start) place.data_words) ≡ true }
+    requires there { is_some (words_at (words_in (A.segments arena.now)) (place_view place.start)
+        place.data_words) ≡ true }
     requires near { place.start.position + (place.data_words + place.pointers) < 2 ^ 61 }
-    ensures { seen_struct A.segments result ≡ struct_at (A.segments arena.now) (A.nesting arena.now) (place_view place.start) place.data_words place.pointers }
+    ensures { seen_struct A.segments result
+        ≡ struct_at (A.segments arena.now) (A.nesting arena.now) (place_view place.start)
+        place.data_words place.pointers }
 {
     StructReader::at(arena, place.start, place.data_words, place.pointers)
 }
@@ -49,18 +52,28 @@ impl<'a, A: BuilderArena> StructBuilder<'a, A> {
 
     /// The struct to read. Its pointers are followed under the arena's nesting limit.
     pub fn as_reader(&self) -> StructReader<'_, A>
-        requires there { is_some (words_at (words_in (A.segments self.now.memory.now.arena)) (place_view self.now.place.start) self.now.place.data_words) ≡ true }
-        requires near { self.now.place.start.position + (self.now.place.data_words + self.now.place.pointers) < 2 ^ 61 }
-        ensures { seen_struct A.segments result ≡ struct_at (A.segments self.now.memory.now.arena) (A.nesting self.now.memory.now.arena) (place_view self.now.place.start) self.now.place.data_words self.now.place.pointers }
+        requires there { is_some (words_at (words_in (A.segments self.now.memory.now.arena))
+            (place_view self.now.place.start) self.now.place.data_words) ≡ true }
+        requires near { self.now.place.start.position +
+            (self.now.place.data_words + self.now.place.pointers) < 2 ^ 61 }
+        ensures { seen_struct A.segments result
+            ≡ struct_at (A.segments self.now.memory.now.arena)
+            (A.nesting self.now.memory.now.arena) (place_view self.now.place.start)
+            self.now.place.data_words self.now.place.pointers }
     {
         read_at(&self.memory.arena, self.place)
     }
 
     /// The same, of which no handle to write is left.
     pub fn into_reader(self) -> StructReader<'a, A>
-        requires there { is_some (words_at (words_in (A.segments self.memory.now.arena)) (place_view self.place.start) self.place.data_words) ≡ true }
-        requires near { self.place.start.position + (self.place.data_words + self.place.pointers) < 2 ^ 61 }
-        ensures { seen_struct A.segments result ≡ struct_at (A.segments self.entry.memory.now.arena) (A.nesting self.entry.memory.now.arena) (place_view self.entry.place.start) self.entry.place.data_words self.entry.place.pointers }
+        requires there { is_some (words_at (words_in (A.segments self.memory.now.arena))
+            (place_view self.place.start) self.place.data_words) ≡ true }
+        requires near { self.place.start.position + (self.place.data_words + self.place.pointers)
+            < 2 ^ 61 }
+        ensures { seen_struct A.segments result
+            ≡ struct_at (A.segments self.entry.memory.now.arena)
+            (A.nesting self.entry.memory.now.arena) (place_view self.entry.place.start)
+            self.entry.place.data_words self.entry.place.pointers }
     {
         let StructBuilder { memory, place } = self;
         read_at(&memory.arena, place)
@@ -68,11 +81,14 @@ impl<'a, A: BuilderArena> StructBuilder<'a, A> {
 
     /// A pointer of the struct, by its index. It is one of the struct's.
     pub fn get_pointer_field(self, ptr_index: WirePointerCount) -> PointerBuilder<'a, A>
-        requires near { self.place.start.position + (self.place.data_words + self.place.pointers) < 2 ^ 61 }
+        requires near { self.place.start.position + (self.place.data_words + self.place.pointers)
+            < 2 ^ 61 }
         requires inside { ptr_index < self.place.pointers }
         ensures same { result.memory.ghost_name ≡ self.entry.memory.ghost_name }
         ensures now { result.memory.now ≡ self.entry.memory.now }
-        ensures place { place_view result.place ≡ after (after (place_view self.entry.place.start) self.entry.place.data_words) ptr_index }
+        ensures place { place_view result.place
+            ≡ after (after (place_view self.entry.place.start) self.entry.place.data_words)
+            ptr_index }
         ensures near { result.place.position < 2 ^ 61 }
     {
         let StructBuilder { memory, place } = self;
@@ -88,7 +104,8 @@ impl<'a, A: BuilderArena> StructBuilder<'a, A> {
     pub fn get_data_field<T: Primitive>(&self, offset: ElementCount) -> T
         requires near { self.now.place.start.position < 2 ^ 61 }
         requires inside { T.BYTES * offset + T.BYTES ≤ 8 * self.now.place.data_words }
-        ensures { HasBits (words_in (A.segments self.now.memory.now.arena)) self.now.place (8 * (T.BYTES * offset)) (8 * T.BYTES) (λ bits. result ≡ T.from_bits bits) }
+        ensures { HasBits (words_in (A.segments self.now.memory.now.arena)) self.now.place
+            (8 * (T.BYTES * offset)) (8 * T.BYTES) (λ bits. result ≡ T.from_bits bits) }
     {
         let place = self.place;
         let at = bit_at(T::BYTES, offset, place.data_words);
@@ -100,7 +117,9 @@ impl<'a, A: BuilderArena> StructBuilder<'a, A> {
     pub fn get_data_field_mask<T: Primitive + Mask>(&self, offset: ElementCount, mask: T::T) -> T
         requires near { self.now.place.start.position < 2 ^ 61 }
         requires inside { T.BYTES * offset + T.BYTES ≤ 8 * self.now.place.data_words }
-        ensures { HasBits (words_in (A.segments self.now.memory.now.arena)) self.now.place (8 * (T.BYTES * offset)) (8 * T.BYTES) (λ bits. result ≡ T.from_bits (bit_xor bits (T.mask_bits mask))) }
+        ensures { HasBits (words_in (A.segments self.now.memory.now.arena)) self.now.place
+            (8 * (T.BYTES * offset))
+            (8 * T.BYTES) (λ bits. result ≡ T.from_bits (bit_xor bits (T.mask_bits mask))) }
     {
         T::mask(self.get_data_field::<T>(offset), mask)
     }
@@ -109,7 +128,8 @@ impl<'a, A: BuilderArena> StructBuilder<'a, A> {
     pub fn get_bool_field(&self, offset: ElementCount) -> bool
         requires near { self.now.place.start.position < 2 ^ 61 }
         requires inside { offset < 64 * self.now.place.data_words }
-        ensures { HasBits (words_in (A.segments self.now.memory.now.arena)) self.now.place offset 1 (λ bits. result ≡ (bits == 1)) }
+        ensures { HasBits (words_in (A.segments self.now.memory.now.arena)) self.now.place offset
+            1 (λ bits. result ≡ (bits == 1)) }
     {
         let place = self.place;
         get_bits(&self.memory.arena, place, offset, 1) == 1
@@ -119,21 +139,26 @@ impl<'a, A: BuilderArena> StructBuilder<'a, A> {
     pub fn get_bool_field_mask(&self, offset: ElementCount, mask: bool) -> bool
         requires near { self.now.place.start.position < 2 ^ 61 }
         requires inside { offset < 64 * self.now.place.data_words }
-        ensures { HasBits (words_in (A.segments self.now.memory.now.arena)) self.now.place offset 1 (λ bits. result ≡ (bit_xor bits (bit_of_bool mask) == 1)) }
+        ensures { HasBits (words_in (A.segments self.now.memory.now.arena)) self.now.place offset
+            1 (λ bits. result ≡ (bit_xor bits (bit_of_bool mask) == 1)) }
     {
         self.get_bool_field(offset) != mask
     }
 
     /// Writes a number of the data section, counted in its own width. The field lies in the section; its neighbours keep their bits.
     pub fn set_data_field<T: Primitive>(&mut self, offset: ElementCount, value: T)
-        requires there { is_some (words_at (words_in (A.segments self.old.memory.now.arena)) (place_view self.old.place.start) self.old.place.data_words) ≡ true }
+        requires there { is_some (words_at (words_in (A.segments self.old.memory.now.arena))
+            (place_view self.old.place.start) self.old.place.data_words) ≡ true }
         requires near { self.old.place.start.position < 2 ^ 61 }
         requires inside { T.BYTES * offset + T.BYTES ≤ 8 * self.old.place.data_words }
         ensures same { self.new.memory.ghost_name ≡ self.old.memory.ghost_name }
         ensures place { self.new.place ≡ self.old.place }
         ensures books { A.books self.new.memory.now.arena ≡ A.books self.old.memory.now.arena }
-        ensures sizes { map length (words_in (A.segments self.new.memory.now.arena)) ≡ map length (words_in (A.segments self.old.memory.now.arena)) }
-        ensures sets { SetsBits (words_in (A.segments self.old.memory.now.arena)) (words_in (A.segments self.new.memory.now.arena)) self.old.place (8 * (T.BYTES * offset)) (8 * T.BYTES) (T.bits value) }
+        ensures sizes { map length (words_in (A.segments self.new.memory.now.arena))
+            ≡ map length (words_in (A.segments self.old.memory.now.arena)) }
+        ensures sets { SetsBits (words_in (A.segments self.old.memory.now.arena))
+            (words_in (A.segments self.new.memory.now.arena)) self.old.place
+            (8 * (T.BYTES * offset)) (8 * T.BYTES) (T.bits value) }
     {
         let place = self.place;
         let at = bit_at(T::BYTES, offset, place.data_words);
@@ -148,28 +173,36 @@ impl<'a, A: BuilderArena> StructBuilder<'a, A> {
         value: T,
         mask: T::T,
     )
-        requires there { is_some (words_at (words_in (A.segments self.old.memory.now.arena)) (place_view self.old.place.start) self.old.place.data_words) ≡ true }
+        requires there { is_some (words_at (words_in (A.segments self.old.memory.now.arena))
+            (place_view self.old.place.start) self.old.place.data_words) ≡ true }
         requires near { self.old.place.start.position < 2 ^ 61 }
         requires inside { T.BYTES * offset + T.BYTES ≤ 8 * self.old.place.data_words }
         ensures same { self.new.memory.ghost_name ≡ self.old.memory.ghost_name }
         ensures place { self.new.place ≡ self.old.place }
         ensures books { A.books self.new.memory.now.arena ≡ A.books self.old.memory.now.arena }
-        ensures sizes { map length (words_in (A.segments self.new.memory.now.arena)) ≡ map length (words_in (A.segments self.old.memory.now.arena)) }
-        ensures sets { SetsBits (words_in (A.segments self.old.memory.now.arena)) (words_in (A.segments self.new.memory.now.arena)) self.old.place (8 * (T.BYTES * offset)) (8 * T.BYTES) (bit_xor (T.bits value) (T.mask_bits mask)) }
+        ensures sizes { map length (words_in (A.segments self.new.memory.now.arena))
+            ≡ map length (words_in (A.segments self.old.memory.now.arena)) }
+        ensures sets { SetsBits (words_in (A.segments self.old.memory.now.arena))
+            (words_in (A.segments self.new.memory.now.arena)) self.old.place
+            (8 * (T.BYTES * offset)) (8 * T.BYTES) (bit_xor (T.bits value) (T.mask_bits mask)) }
     {
         self.set_data_field(offset, T::mask(value, mask));
     }
 
     /// Writes a bit of the data section, counted in bits. The field lies in the section; its neighbours keep their bits.
     pub fn set_bool_field(&mut self, offset: ElementCount, value: bool)
-        requires there { is_some (words_at (words_in (A.segments self.old.memory.now.arena)) (place_view self.old.place.start) self.old.place.data_words) ≡ true }
+        requires there { is_some (words_at (words_in (A.segments self.old.memory.now.arena))
+            (place_view self.old.place.start) self.old.place.data_words) ≡ true }
         requires near { self.old.place.start.position < 2 ^ 61 }
         requires inside { offset < 64 * self.old.place.data_words }
         ensures same { self.new.memory.ghost_name ≡ self.old.memory.ghost_name }
         ensures place { self.new.place ≡ self.old.place }
         ensures books { A.books self.new.memory.now.arena ≡ A.books self.old.memory.now.arena }
-        ensures sizes { map length (words_in (A.segments self.new.memory.now.arena)) ≡ map length (words_in (A.segments self.old.memory.now.arena)) }
-        ensures sets { SetsBits (words_in (A.segments self.old.memory.now.arena)) (words_in (A.segments self.new.memory.now.arena)) self.old.place offset 1 (bit_of_bool value) }
+        ensures sizes { map length (words_in (A.segments self.new.memory.now.arena))
+            ≡ map length (words_in (A.segments self.old.memory.now.arena)) }
+        ensures sets { SetsBits (words_in (A.segments self.old.memory.now.arena))
+            (words_in (A.segments self.new.memory.now.arena)) self.old.place offset 1
+            (bit_of_bool value) }
     {
         let place = self.place;
         let bit = bit_of(value);
@@ -178,14 +211,18 @@ impl<'a, A: BuilderArena> StructBuilder<'a, A> {
 
     /// The same, exclusive or the field's default.
     pub fn set_bool_field_mask(&mut self, offset: ElementCount, value: bool, mask: bool)
-        requires there { is_some (words_at (words_in (A.segments self.old.memory.now.arena)) (place_view self.old.place.start) self.old.place.data_words) ≡ true }
+        requires there { is_some (words_at (words_in (A.segments self.old.memory.now.arena))
+            (place_view self.old.place.start) self.old.place.data_words) ≡ true }
         requires near { self.old.place.start.position < 2 ^ 61 }
         requires inside { offset < 64 * self.old.place.data_words }
         ensures same { self.new.memory.ghost_name ≡ self.old.memory.ghost_name }
         ensures place { self.new.place ≡ self.old.place }
         ensures books { A.books self.new.memory.now.arena ≡ A.books self.old.memory.now.arena }
-        ensures sizes { map length (words_in (A.segments self.new.memory.now.arena)) ≡ map length (words_in (A.segments self.old.memory.now.arena)) }
-        ensures sets { SetsBits (words_in (A.segments self.old.memory.now.arena)) (words_in (A.segments self.new.memory.now.arena)) self.old.place offset 1 (bit_xor (bit_of_bool value) (bit_of_bool mask)) }
+        ensures sizes { map length (words_in (A.segments self.new.memory.now.arena))
+            ≡ map length (words_in (A.segments self.old.memory.now.arena)) }
+        ensures sets { SetsBits (words_in (A.segments self.old.memory.now.arena))
+            (words_in (A.segments self.new.memory.now.arena)) self.old.place offset 1
+            (bit_xor (bit_of_bool value) (bit_of_bool mask)) }
     {
         self.set_bool_field(offset, value != mask);
     }

@@ -51,21 +51,24 @@ impl<'a, A: BuilderArena> TextBuilder<'a, A> {
 
     /// The bytes of the text, lent in place.
     pub fn as_bytes(&self) -> &[u8]
-        ensures { HasBytes (words_in (A.segments self.now.memory.now.arena)) self.now.place result.now }
+        ensures { HasBytes (words_in (A.segments self.now.memory.now.arena)) self.now.place
+            result.now }
     {
         get_bytes(&self.memory.arena, self.place)
     }
 
     /// The text, to read for a while.
     pub fn reborrow_as_reader(&self) -> Reader<'_>
-        ensures { HasBytes (words_in (A.segments self.now.memory.now.arena)) self.now.place result.0.now }
+        ensures { HasBytes (words_in (A.segments self.now.memory.now.arena)) self.now.place
+            result.0.now }
     {
         Reader(get_bytes(&self.memory.arena, self.place))
     }
 
     /// The text to read, of which no handle to write is left.
     pub fn into_reader(self) -> Reader<'a>
-        ensures { HasBytes (words_in (A.segments self.entry.memory.now.arena)) self.entry.place result.0.now }
+        ensures { HasBytes (words_in (A.segments self.entry.memory.now.arena)) self.entry.place
+            result.0.now }
     {
         let TextBuilder { memory, place, .. } = self;
         Reader(get_bytes(&memory.arena, place))
@@ -76,10 +79,13 @@ impl<'a, A: BuilderArena> TextBuilder<'a, A> {
         requires near { self.old.place.start.position < 2 ^ 61 }
         requires inside { at + length bytes.now ≤ self.old.place.count }
         ensures same { self.new.memory.ghost_name ≡ self.old.memory.ghost_name }
-        ensures place { (self.new.place ≡ self.old.place) × (self.new.position ≡ self.old.position) }
+        ensures place { (self.new.place ≡ self.old.place)
+            × (self.new.position ≡ self.old.position) }
         ensures books { A.books self.new.memory.now.arena ≡ A.books self.old.memory.now.arena }
-        ensures sizes { map length (words_in (A.segments self.new.memory.now.arena)) ≡ map length (words_in (A.segments self.old.memory.now.arena)) }
-        ensures sets { SetsBytes (words_in (A.segments self.old.memory.now.arena)) (words_in (A.segments self.new.memory.now.arena)) self.old.place.start at bytes.now }
+        ensures sizes { map length (words_in (A.segments self.new.memory.now.arena))
+            ≡ map length (words_in (A.segments self.old.memory.now.arena)) }
+        ensures sets { SetsBytes (words_in (A.segments self.old.memory.now.arena))
+            (words_in (A.segments self.new.memory.now.arena)) self.old.place.start at bytes.now }
     {
         let place = self.place;
         set_bytes(&mut self.memory.arena, place, at, bytes);
@@ -91,10 +97,14 @@ impl<'a, A: BuilderArena> TextBuilder<'a, A> {
         requires ascii { ascii < 128 }
         requires room { self.old.position < self.old.place.count }
         ensures same { self.new.memory.ghost_name ≡ self.old.memory.ghost_name }
-        ensures place { (self.new.place ≡ self.old.place) × (self.new.position ≡ self.old.position + 1) }
+        ensures place { (self.new.place ≡ self.old.place)
+            × (self.new.position ≡ self.old.position + 1) }
         ensures books { A.books self.new.memory.now.arena ≡ A.books self.old.memory.now.arena }
-        ensures sizes { map length (words_in (A.segments self.new.memory.now.arena)) ≡ map length (words_in (A.segments self.old.memory.now.arena)) }
-        ensures sets { SetsBytes (words_in (A.segments self.old.memory.now.arena)) (words_in (A.segments self.new.memory.now.arena)) self.old.place.start self.old.position (ascii ∷ []) }
+        ensures sizes { map length (words_in (A.segments self.new.memory.now.arena))
+            ≡ map length (words_in (A.segments self.old.memory.now.arena)) }
+        ensures sets { SetsBytes (words_in (A.segments self.old.memory.now.arena))
+            (words_in (A.segments self.new.memory.now.arena)) self.old.place.start
+            self.old.position (ascii ∷ []) }
     {
         let place = self.place;
         let at = self.position;
@@ -106,10 +116,14 @@ impl<'a, A: BuilderArena> TextBuilder<'a, A> {
         requires near { self.old.place.start.position < 2 ^ 61 }
         requires room { self.old.position + length string.now ≤ self.old.place.count }
         ensures same { self.new.memory.ghost_name ≡ self.old.memory.ghost_name }
-        ensures place { (self.new.place ≡ self.old.place) × (self.new.position ≡ self.old.position + length string.now) }
+        ensures place { (self.new.place ≡ self.old.place)
+            × (self.new.position ≡ self.old.position + length string.now) }
         ensures books { A.books self.new.memory.now.arena ≡ A.books self.old.memory.now.arena }
-        ensures sizes { map length (words_in (A.segments self.new.memory.now.arena)) ≡ map length (words_in (A.segments self.old.memory.now.arena)) }
-        ensures sets { SetsBytes (words_in (A.segments self.old.memory.now.arena)) (words_in (A.segments self.new.memory.now.arena)) self.old.place.start self.old.position string.now }
+        ensures sizes { map length (words_in (A.segments self.new.memory.now.arena))
+            ≡ map length (words_in (A.segments self.old.memory.now.arena)) }
+        ensures sets { SetsBytes (words_in (A.segments self.old.memory.now.arena))
+            (words_in (A.segments self.new.memory.now.arena)) self.old.place.start
+            self.old.position string.now }
     {
         let place = self.place;
         let at = self.position;
@@ -122,8 +136,11 @@ impl<'a, A: BuilderArena> TextBuilder<'a, A> {
         ensures same { self.new.memory.ghost_name ≡ self.old.memory.ghost_name }
         ensures place { (self.new.place ≡ self.old.place) × (self.new.position ≡ 0) }
         ensures books { A.books self.new.memory.now.arena ≡ A.books self.old.memory.now.arena }
-        ensures sizes { map length (words_in (A.segments self.new.memory.now.arena)) ≡ map length (words_in (A.segments self.old.memory.now.arena)) }
-        ensures sets { SetsBytes (words_in (A.segments self.old.memory.now.arena)) (words_in (A.segments self.new.memory.now.arena)) self.old.place.start 0 (replicate self.old.place.count 0) }
+        ensures sizes { map length (words_in (A.segments self.new.memory.now.arena))
+            ≡ map length (words_in (A.segments self.old.memory.now.arena)) }
+        ensures sets { SetsBytes (words_in (A.segments self.old.memory.now.arena))
+            (words_in (A.segments self.new.memory.now.arena)) self.old.place.start 0
+            (replicate self.old.place.count 0) }
     {
         let place = self.place;
         zero_bytes(&mut self.memory.arena, place);

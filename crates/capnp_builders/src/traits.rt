@@ -33,12 +33,20 @@ pub trait SetterInput<T>: Sized {
         value: Self,
         canonicalize: bool,
     ) -> Result<()>
-        requires there { is_some (words_at (words_in (A.segments builder.memory.now.arena)) (place_view builder.place) 1) ≡ true }
+        requires there { is_some (words_at (words_in (A.segments builder.memory.now.arena))
+            (place_view builder.place) 1) ≡ true }
         requires near { builder.place.position < 2 ^ 61 }
         ensures books { A.books builder.exit.0.now.arena ≡ A.books builder.entry.memory.now.arena }
-        ensures value { OnOk result (Becomes (words_in (A.segments builder.entry.memory.now.arena)) (words_in (A.segments builder.exit.0.now.arena)) (place_view builder.entry.place) (tree value)) }
-        ensures refused { OnErr result (A.segments builder.exit.0.now.arena ≡ A.segments builder.entry.memory.now.arena) }
-        ensures kind { IfErr result (λ e. (e.kind ≡ SizeOverflow) ↔ is_too_large value (total_words (words_in (A.segments builder.entry.memory.now.arena)))) };
+        ensures value { OnOk result
+            (Becomes (words_in (A.segments builder.entry.memory.now.arena))
+            (words_in (A.segments builder.exit.0.now.arena)) (place_view builder.entry.place)
+            (tree value)) }
+        ensures refused { OnErr result
+            (A.segments builder.exit.0.now.arena ≡ A.segments builder.entry.memory.now.arena) }
+        ensures kind { IfErr result (λ e.
+            (e.kind ≡ SizeOverflow)
+            ↔ is_too_large value
+            (total_words (words_in (A.segments builder.entry.memory.now.arena)))) };
 }
 
 /// Data are set to these bytes.
@@ -92,7 +100,8 @@ impl SetterInput<text::Owned> for &str {
 
 /// A text is set to the bytes of a `String`, with a zero byte behind them.
 impl SetterInput<text::Owned> for &String {
-    ghost tree = { λ t. plain_list 2 (length (string_bytes t.now) + 1) (number_of 8 (string_bytes t.now)) };
+    ghost tree = { λ t. plain_list 2 (length (string_bytes t.now) + 1)
+        (number_of 8 (string_bytes t.now)) };
 
     ghost is_too_large = { λ t words. IsTooLong (length (string_bytes t.now) + 1) words };
 

@@ -67,22 +67,39 @@ impl<'a, A: BuilderArena> From<StructBuilder<'a, A>> for PersonBuilder<'a, A> {
 impl<'a, A: BuilderArena> FromPointerBuilder<'a, A> for PersonBuilder<'a, A> {
     ghost memory_of = { λ o. o.memory };
 
-    ghost is_made = { λ s u slot n o. Becomes s u (place_view slot) (structure 1 0 (resized 1 none)) × LeadsTo u (place_view slot) (struct_at o.place) };
+    ghost is_made = { λ s u slot n o.
+        Becomes s u (place_view slot) (structure 1 0 (resized 1 none))
+        × LeadsTo u (place_view slot) (struct_at o.place) };
 
     ghost is_not_made = { λ s n e. (e.kind ≡ SizeOverflow) ↔ (2 ^ 29 ≤ total_words s + 3) };
 
-    ghost is_got = { λ default s u slot o. StructGot default s u (place_view slot) (record { data_words = 1; pointers = 1 }) o.place };
+    ghost is_got = { λ default s u slot o.
+        StructGot default s u (place_view slot) (record { data_words = 1; pointers = 1 }) o.place };
 
-    ghost is_not_got = { λ default s u slot. NoStructGot default s u (place_view slot) (record { data_words = 1; pointers = 1 }) };
+    ghost is_not_got = { λ default s u slot.
+        NoStructGot default s u (place_view slot) (record { data_words = 1; pointers = 1 }) };
 
     fn init_pointer(builder: PointerBuilder<'a, A>, _length: u32) -> Result<PersonBuilder<'a, A>>
-        requires there { is_some (words_at (words_in (A.segments builder.memory.now.arena)) (place_view builder.place) 1) ≡ true }
+        requires there { is_some (words_at (words_in (A.segments builder.memory.now.arena))
+            (place_view builder.place) 1) ≡ true }
         requires near { builder.place.position < 2 ^ 61 }
         ensures same { IfOk result (λ o. o.memory.ghost_name ≡ builder.entry.memory.ghost_name) }
-        ensures made { IfOk result (λ o. Becomes (words_in (A.segments builder.entry.memory.now.arena)) (words_in (A.segments o.memory.now.arena)) (place_view builder.entry.place) (structure 1 0 (resized 1 none)) × LeadsTo (words_in (A.segments o.memory.now.arena)) (place_view builder.entry.place) (struct_at o.place)) }
-        ensures books { IfOk result (λ o. A.books o.memory.now.arena ≡ A.books builder.entry.memory.now.arena) }
-        ensures kind { IfErr result (λ e. (e.kind ≡ SizeOverflow) ↔ (2 ^ 29 ≤ total_words (words_in (A.segments builder.entry.memory.now.arena)) + 3)) }
-        ensures* refused { sem 𝓛 (RestsIfErr (the_row A.row) builder.entry.memory (λ o. o.memory.ghost_name) result (λ n. (A.segments n.arena ≡ A.segments builder.entry.memory.now.arena) × (A.books n.arena ≡ A.books builder.entry.memory.now.arena))) }
+        ensures made { IfOk result (λ o.
+            Becomes (words_in (A.segments builder.entry.memory.now.arena))
+            (words_in (A.segments o.memory.now.arena)) (place_view builder.entry.place)
+            (structure 1 0 (resized 1 none))
+            × LeadsTo (words_in (A.segments o.memory.now.arena)) (place_view builder.entry.place)
+            (struct_at o.place)) }
+        ensures books { IfOk result (λ o.
+            A.books o.memory.now.arena ≡ A.books builder.entry.memory.now.arena) }
+        ensures kind { IfErr result (λ e.
+            (e.kind ≡ SizeOverflow)
+            ↔ (2 ^ 29 ≤ total_words (words_in (A.segments builder.entry.memory.now.arena)) + 3)) }
+        ensures* refused { sem 𝓛 (RestsIfErr (the_row A.row)
+            builder.entry.memory (λ o. o.memory.ghost_name)
+            result (λ n.
+            (A.segments n.arena ≡ A.segments builder.entry.memory.now.arena)
+            × (A.books n.arena ≡ A.books builder.entry.memory.now.arena))) }
     {
         let PointerBuilder { memory, place } = builder;
         let place = init_struct(&mut memory.arena, place, SIZE)?;
@@ -93,12 +110,25 @@ impl<'a, A: BuilderArena> FromPointerBuilder<'a, A> for PersonBuilder<'a, A> {
         builder: PointerBuilder<'a, A>,
         default: Option<&[Word]>,
     ) -> Result<PersonBuilder<'a, A>>
-        requires there { is_some (words_at (words_in (A.segments builder.memory.now.arena)) (place_view builder.place) 1) ≡ true }
+        requires there { is_some (words_at (words_in (A.segments builder.memory.now.arena))
+            (place_view builder.place) 1) ≡ true }
         requires near { builder.place.position < 2 ^ 61 }
         ensures same { IfOk result (λ o. o.memory.ghost_name ≡ builder.entry.memory.ghost_name) }
-        ensures got { IfOk result (λ o. StructGot (option_copied default.entry) (words_in (A.segments builder.entry.memory.now.arena)) (words_in (A.segments o.memory.now.arena)) (place_view builder.entry.place) (record { data_words = 1; pointers = 1 }) o.place) }
-        ensures books { IfOk result (λ o. A.books o.memory.now.arena ≡ A.books builder.entry.memory.now.arena) }
-        ensures* refused { sem 𝓛 (RestsIfErr (the_row A.row) builder.entry.memory (λ o. o.memory.ghost_name) result (λ n. IfErr result (NoStructGot (option_copied default.entry) (words_in (A.segments builder.entry.memory.now.arena)) (words_in (A.segments n.arena)) (place_view builder.entry.place) (record { data_words = 1; pointers = 1 })) × (A.books n.arena ≡ A.books builder.entry.memory.now.arena))) }
+        ensures got { IfOk result (λ o.
+            StructGot (option_copied default.entry)
+            (words_in (A.segments builder.entry.memory.now.arena))
+            (words_in (A.segments o.memory.now.arena)) (place_view builder.entry.place)
+            (record { data_words = 1; pointers = 1 }) o.place) }
+        ensures books { IfOk result (λ o.
+            A.books o.memory.now.arena ≡ A.books builder.entry.memory.now.arena) }
+        ensures* refused { sem 𝓛 (RestsIfErr (the_row A.row)
+            builder.entry.memory (λ o. o.memory.ghost_name)
+            result (λ n.
+            IfErr result
+            (NoStructGot (option_copied default.entry)
+            (words_in (A.segments builder.entry.memory.now.arena)) (words_in (A.segments n.arena))
+            (place_view builder.entry.place) (record { data_words = 1; pointers = 1 }))
+            × (A.books n.arena ≡ A.books builder.entry.memory.now.arena))) }
     {
         let PointerBuilder { memory, place } = builder;
         let place = struct_or_default(&mut memory.arena, place, SIZE, default)?;

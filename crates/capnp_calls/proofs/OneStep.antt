@@ -113,4 +113,3 @@ module _ (s : Schema) (union member : Option ℕ) (verb : Verb) (body : Body) (i
 
   pub at_end : (new : Cell) (answer : Reply) → answer ≡ body_reply s verb union member body c → new ≡ body_edit s verb union member body c → AnswersField s [] verb union member body c new answer
   at_end new answer r e = record { replied = r ∙ sym slot_answer; cell = e ∙ sym slot_after }
-

@@ -64,7 +64,9 @@ fn get_active(
     requires taken { is_taken_at get (body_of_slot named.slot) ≡ true }
     requires placed { IsPlaced (vec_len root.now.words) (vec_len root.now.children) named }
     requires of_set { IsSlotOf (nodes_of set.now) named.slot }
-    ensures { IfOk result (λ r. reply_view r ≡ slot_reply (schema_of (nodes_of set.now)) get named.entry (cell_of root.now)) }
+    ensures { IfOk result (λ r.
+        reply_view r
+        ≡ slot_reply (schema_of (nodes_of set.now)) get named.entry (cell_of root.now)) }
 {
     if !is_active(root, named.union, named.member) {
         return Ok(Reply::Refused(ErrorKind::InactiveMember));
@@ -84,12 +86,21 @@ pub(crate) fn answer_slot(
     requires in_range { IsTrue (is_in_range action.now) }
     requires placed { IsPlaced (vec_len root.old.words) (vec_len root.old.children) named }
     requires of_set { IsSlotOf (nodes_of set.now) named.slot }
-    ensures reply { IfOk result (λ r. reply_view r ≡ slot_reply (schema_of (nodes_of set.now)) (action_view action.now) named.entry (cell_of root.old)) }
-    ensures cell { OnOk result (cell_of root.new ≡ slot_edit (schema_of (nodes_of set.now)) (action_view action.now) named.entry (cell_of root.old)) }
+    ensures reply { IfOk result (λ r.
+        reply_view r
+        ≡ slot_reply (schema_of (nodes_of set.now)) (action_view action.now) named.entry
+        (cell_of root.old)) }
+    ensures cell { OnOk result
+        (cell_of root.new
+        ≡ slot_edit (schema_of (nodes_of set.now)) (action_view action.now) named.entry
+        (cell_of root.old)) }
     ensures sizes { SameSizes root.old root.new }
     ensures fitting { HasFitting root.old → HasFitting root.new }
     ensures stays { OnErr result (cell_of root.new ≡ cell_of root.old) }
-    ensures refusal { IfErr result (λ e. IsWant (2 ^ 29 ≤ content_len (slot_content (schema_of (nodes_of set.now)) (action_view action.now) (body_of_slot named.entry.slot))) e.kind) }
+    ensures refusal { IfErr result (λ e.
+        IsWant (2 ^ 29 ≤ content_len
+        (slot_content (schema_of (nodes_of set.now)) (action_view action.now)
+        (body_of_slot named.entry.slot))) e.kind) }
 {
     match action {
         Action::Get => Ok(get_active(alloc, set, root, named)?),
@@ -120,11 +131,14 @@ pub(crate) fn answer_call(
     requires root { IsRoot schema }
     requires words { words_in (shape_of_struct schema) ≤ vec_len root.old.words }
     requires pointers { pointers_in (shape_of_struct schema) ≤ vec_len root.old.children }
-    ensures answer { IfOk result (λ r. AnswersCall schema.entry (call_view call.now) (struct_tree root.old) (struct_tree root.new) (reply_view r)) }
+    ensures answer { IfOk result (λ r.
+        AnswersCall schema.entry (call_view call.now) (struct_tree root.old)
+        (struct_tree root.new) (reply_view r)) }
     ensures sizes { SameSizes root.old root.new }
     ensures fitting { HasFitting root.old → HasFitting root.new }
     ensures stays { OnErr result (struct_tree root.new ≡ struct_tree root.old) }
-    ensures refusal { IfErr result (λ e. IsWant (PutsLongList schema.entry (call_view call.now) (struct_tree root.old)) e.kind) }
+    ensures refusal { IfErr result (λ e.
+        IsWant (PutsLongList schema.entry (call_view call.now) (struct_tree root.old)) e.kind) }
 {
     laws_of_edits::records_of_edited_values();
     let path = call.path.as_slice();

@@ -65,7 +65,8 @@ pub(crate) fn blank_struct(
     raw: RawBrandedStructSchema,
 ) -> Result<Value, AllocError>
     requires { IsNodeOf (nodes_of set.now) raw }
-    ensures tree { IfOk result (λ v. tree_of_value v ≡ empty_struct ((schema_of (nodes_of set.now)).shape_of raw.id)) }
+    ensures tree { IfOk result (λ v.
+        tree_of_value v ≡ empty_struct ((schema_of (nodes_of set.now)).shape_of raw.id)) }
     ensures fits { IfOk result (λ v. Fits (tree_of_value v)) }
 {
     laws::numbers_one_by_one();
@@ -85,9 +86,12 @@ fn blank_structs(
 ) -> errors::Result<Value>
     requires of_set { IsNodeOf (nodes_of set.now) raw }
     requires few { count < 2 ^ 29 }
-    ensures tree { IfOk result (λ v. tree_of_value v ≡ empty_structs ((schema_of (nodes_of set.now)).shape_of raw.id) count) }
+    ensures tree { IfOk result (λ v.
+        tree_of_value v ≡ empty_structs ((schema_of (nodes_of set.now)).shape_of raw.id) count) }
     ensures fits { IfOk result (λ v. Fits (tree_of_value v)) }
-    ensures refusal { IfErr result (λ e. IsWant (2 ^ 29 ≤ list_len (empty_structs ((schema_of (nodes_of set.now)).shape_of raw.id) count)) e.kind) }
+    ensures refusal { IfErr result (λ e.
+        IsWant (2 ^ 29 ≤ list_len
+        (empty_structs ((schema_of (nodes_of set.now)).shape_of raw.id) count)) e.kind) }
 {
     let record = StructSchema::new(set, raw).record();
     let size = record.data_word_count as u64 + record.pointer_count as u64;
@@ -110,9 +114,12 @@ pub(crate) fn blank_list(
 ) -> errors::Result<Value>
     requires of_set { is_type_of (nodes_of set.now) element ≡ true }
     requires few { count < 2 ^ 29 }
-    ensures tree { IfOk result (λ v. tree_of_value v ≡ new_list (schema_of (nodes_of set.now)) count (ty_of element)) }
+    ensures tree { IfOk result (λ v.
+        tree_of_value v ≡ new_list (schema_of (nodes_of set.now)) count (ty_of element)) }
     ensures fits { IfOk result (λ v. Fits (tree_of_value v)) }
-    ensures refusal { IfErr result (λ e. IsWant (2 ^ 29 ≤ list_len (new_list (schema_of (nodes_of set.now)) count (ty_of element))) e.kind) }
+    ensures refusal { IfErr result (λ e.
+        IsWant (2 ^ 29 ≤ list_len (new_list (schema_of (nodes_of set.now)) count (ty_of element)))
+        e.kind) }
 {
     let (size, bits) = match element.which() {
         TypeVariant::Void => (0, 0),

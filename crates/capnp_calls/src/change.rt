@@ -139,9 +139,15 @@ fn plain_change(ty: PlainType, value: &SlotValue) -> Change
 
 /// What `set` puts into a slot. `SizeOverflow`: a text or data that is too long.
 pub(crate) fn set_change(alloc: Global, slot: Slot<'_>, value: &SlotValue) -> errors::Result<Change>
-    ensures content { IfOk result (λ c. (s : Schema) → change_view c ≡ slot_content s (set_to (slot_value_view value.now)) (body_of_slot slot.entry)) }
+    ensures content { IfOk result (λ c.
+        (s : Schema)
+        → change_view c
+        ≡ slot_content s (set_to (slot_value_view value.now)) (body_of_slot slot.entry)) }
     ensures fits { IfOk result (FitsInto (body_of_slot slot.entry)) }
-    ensures refusal { IfErr result (λ e. (s : Schema) → IsWant (2 ^ 29 ≤ content_len (slot_content s (set_to (slot_value_view value.now)) (body_of_slot slot.entry))) e.kind) }
+    ensures refusal { IfErr result (λ e.
+        (s : Schema)
+        → IsWant (2 ^ 29 ≤ content_len
+        (slot_content s (set_to (slot_value_view value.now)) (body_of_slot slot.entry))) e.kind) }
 {
     match (slot, value) {
         (Slot::Void { .. }, _) => Ok(Change::Bits(0)),
@@ -172,7 +178,9 @@ pub(crate) fn init_change(
     slot: Slot<'_>,
 ) -> Result<Change, AllocError>
     requires of_set { IsSlotOf (nodes_of set.now) slot }
-    ensures content { IfOk result (λ c. change_view c ≡ slot_content (schema_of (nodes_of set.now)) init (body_of_slot slot.entry)) }
+    ensures content { IfOk result (λ c.
+        change_view c
+        ≡ slot_content (schema_of (nodes_of set.now)) init (body_of_slot slot.entry)) }
     ensures fits { IfOk result (FitsInto (body_of_slot slot.entry)) }
 {
     match slot {
@@ -191,9 +199,14 @@ pub(crate) fn initn_change(
 ) -> errors::Result<Change>
     requires of_set { IsSlotOf (nodes_of set.now) slot }
     requires few { len < 2 ^ 29 }
-    ensures content { IfOk result (λ c. change_view c ≡ slot_content (schema_of (nodes_of set.now)) (initn len) (body_of_slot slot.entry)) }
+    ensures content { IfOk result (λ c.
+        change_view c
+        ≡ slot_content (schema_of (nodes_of set.now)) (initn len) (body_of_slot slot.entry)) }
     ensures fits { IfOk result (FitsInto (body_of_slot slot.entry)) }
-    ensures refusal { IfErr result (λ e. IsWant (2 ^ 29 ≤ content_len (slot_content (schema_of (nodes_of set.now)) (initn len) (body_of_slot slot.entry))) e.kind) }
+    ensures refusal { IfErr result (λ e.
+        IsWant (2 ^ 29 ≤ content_len
+        (slot_content (schema_of (nodes_of set.now)) (initn len) (body_of_slot slot.entry)))
+        e.kind) }
 {
     match slot {
         Slot::Text { .. } => Ok(Change::Pointer(blank_bytes(alloc, len + 1)?)),
@@ -206,7 +219,8 @@ pub(crate) fn initn_change(
 /// What `clear` puts into a slot.
 pub(crate) fn clear_change(slot: Slot<'_>) -> Change
     requires { HasSmallDefault (body_of_slot slot) }
-    ensures content { (s : Schema) → change_view result ≡ slot_content s clear (body_of_slot slot.entry) }
+    ensures content { (s : Schema)
+        → change_view result ≡ slot_content s clear (body_of_slot slot.entry) }
     ensures fits { FitsInto (body_of_slot slot.entry) result }
 {
     match slot {

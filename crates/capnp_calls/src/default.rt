@@ -21,7 +21,8 @@ const MOST_LEVELS: u32 = 64;
 
 /// The value of the root that the words of the bytes hold, without capabilities, of at most 64 levels.
 fn read_root(alloc: Global, bytes: &[u8]) -> Result<Option<Value>, AllocError>
-    ensures { IfOk result (λ found. option_map tree_of_value found ≡ clean_at 64 (whole_words bytes.now ∷ []) root) }
+    ensures { IfOk result (λ found.
+        option_map tree_of_value found ≡ clean_at 64 (whole_words bytes.now ∷ []) root) }
 {
     let owners: [&[u8]; 1] = [bytes];
     read_whole(alloc, &owners.as_slice(), MOST_LEVELS)
@@ -42,7 +43,9 @@ fn value_of_segment(alloc: Global, bytes: &[u8]) -> Result<Value, AllocError>
 /// The value of a default of a struct or a list; null where there is none.
 pub(crate) fn default_value(alloc: Global, default: Option<&Default>) -> Result<Value, AllocError>
     requires { IsSegment (option_map value_of (option_copied default)) }
-    ensures tree { IfOk result (λ v. tree_of_value v ≡ default_or_null (default_tree (option_map value_of (option_copied default.entry)))) }
+    ensures tree { IfOk result (λ v.
+        tree_of_value v
+        ≡ default_or_null (default_tree (option_map value_of (option_copied default.entry)))) }
     ensures fits { IfOk result (λ v. Fits (tree_of_value v)) }
 {
     match default {

@@ -62,7 +62,8 @@ fn first_bit_of_union(schema: StructSchema<'_>) -> Option<u32>
 
 /// The default of a field.
 fn default_of(field: &FieldRecord) -> Option<&Value>
-    ensures { option_map value_of (option_copied result) ≡ default_in (kind_of_field field.now.body) }
+    ensures { option_map value_of (option_copied result)
+        ≡ default_in (kind_of_field field.now.body) }
 {
     match &field.body {
         FieldBody::Slot { default, .. } => default.as_ref(),

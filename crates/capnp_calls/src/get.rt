@@ -32,7 +32,8 @@ fn shown_enum(
     value: u64,
 ) -> Result<Vec<u8>, AllocError>
     requires { IsEnumOf (nodes_of set.now) raw }
-    ensures { IfOk result (λ v. v.items ≡ number_text (schema_of (nodes_of set.now)) (plain («enum» raw.id)) value) }
+    ensures { IfOk result (λ v.
+        v.items ≡ number_text (schema_of (nodes_of set.now)) (plain («enum» raw.id)) value) }
 {
     let enumerants = set.enumerants(raw);
     if (value as usize) < enumerants.len() {
@@ -51,7 +52,8 @@ fn shown_plain(
 ) -> Result<Vec<u8>, AllocError>
     requires of_set { is_plain_of (nodes_of set.now) ty ≡ true }
     requires fits { bits < 2 ^ width (plain_of ty) }
-    ensures { IfOk result (λ v. v.items ≡ number_text (schema_of (nodes_of set.now)) (plain (plain_of ty)) bits) }
+    ensures { IfOk result (λ v.
+        v.items ≡ number_text (schema_of (nodes_of set.now)) (plain (plain_of ty)) bits) }
 {
     match ty {
         PlainType::Bool => shown_bool(alloc, bits),
@@ -72,9 +74,12 @@ fn shown_slot(
     root: &StructValue,
     slot: Slot<'_>,
 ) -> Result<Option<Vec<u8>>, AllocError>
-    requires inside { IsInside (vec_len root.now.words) (vec_len root.now.children) (body_of_slot slot) }
+    requires inside { IsInside (vec_len root.now.words) (vec_len root.now.children)
+        (body_of_slot slot) }
     requires of_set { IsSlotOf (nodes_of set.now) slot }
-    ensures { IfOk result (λ o. option_map (λ v. v.items) o ≡ slot_text (schema_of (nodes_of set.now)) slot.entry (cell_of root.now)) }
+    ensures { IfOk result (λ o.
+        option_map (λ v. v.items) o
+        ≡ slot_text (schema_of (nodes_of set.now)) slot.entry (cell_of root.now)) }
 {
     match slot {
         Slot::Void { .. } => Ok(Some(b"()".to_vec(alloc)?)),
@@ -107,9 +112,12 @@ pub(crate) fn get_slot(
     root: &StructValue,
     slot: Slot<'_>,
 ) -> Result<Reply, AllocError>
-    requires inside { IsInside (vec_len root.now.words) (vec_len root.now.children) (body_of_slot slot) }
+    requires inside { IsInside (vec_len root.now.words) (vec_len root.now.children)
+        (body_of_slot slot) }
     requires of_set { IsSlotOf (nodes_of set.now) slot }
-    ensures { IfOk result (λ r. reply_view r ≡ text_reply (slot_text (schema_of (nodes_of set.now)) slot.entry (cell_of root.now))) }
+    ensures { IfOk result (λ r.
+        reply_view r
+        ≡ text_reply (slot_text (schema_of (nodes_of set.now)) slot.entry (cell_of root.now))) }
 {
     Ok(match shown_slot(alloc, set, root, slot)? {
         Some(text) => Reply::Text(text),

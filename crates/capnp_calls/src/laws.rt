@@ -9,10 +9,12 @@ ghost use Rattle.capnp_calls.specs.Taken.{IsRoot, taken_call};
 
 /// What calls set are values of their sorts.
 pub fn calls_are_given()
-    ensures { (root : StructSchema) (calls : List Call) → AreGiven (map (taken_call root) (map call_view calls)) }
+    ensures { (root : StructSchema) (calls : List Call)
+        → AreGiven (map (taken_call root) (map call_view calls)) }
 {}
 
 /// A root, as a set finds a struct by its id, is no group.
 pub fn roots_are_no_groups()
-    ensures { (root : StructSchema) → IsRoot root → (schema_around root).is_group (id_of root) ≡ false }
+    ensures { (root : StructSchema) → IsRoot root
+        → (schema_around root).is_group (id_of root) ≡ false }
 {}

@@ -28,7 +28,8 @@ fn padded_words(mut words: Vec<u64>, len: usize) -> Result<Vec<u64>, AllocError>
 /// Values, at least so many, the new ones null.
 fn padded_children(mut children: Vec<Value>, len: usize) -> Result<Vec<Value>, AllocError>
     ensures len { IfOk result (λ v. len ≤ vec_len v) }
-    ensures trees { IfOk result (λ v. trees_of (trees_view v.items) ≡ padded_to len (trees_of (trees_view children.items))) }
+    ensures trees { IfOk result (λ v.
+        trees_of (trees_view v.items) ≡ padded_to len (trees_of (trees_view children.items))) }
 {
     while children.len() < len {
         children.push(Value::Null)?;
@@ -43,10 +44,14 @@ fn padded(
     data_words: u16,
     pointers: u16,
 ) -> Result<StructValue, AllocError>
-    ensures tree { IfOk result (λ r. struct_tree r ≡ structure (max data_words (vec_len words)) (section_of words.items) (padded_to pointers (trees_of (trees_view children.items)))) }
+    ensures tree { IfOk result (λ r.
+        struct_tree r
+        ≡ structure (max data_words (vec_len words)) (section_of words.items)
+        (padded_to pointers (trees_of (trees_view children.items)))) }
     ensures words { IfOk result (λ r. data_words ≤ vec_len r.words) }
     ensures pointers { IfOk result (λ r. pointers ≤ vec_len r.children) }
-    ensures fits { Fits (structure (vec_len words) (section_of words.items) (trees_of (trees_view children.items))) → IfOk result (λ r. Fits (struct_tree r)) }
+    ensures fits { Fits (structure (vec_len words) (section_of words.items)
+        (trees_of (trees_view children.items))) → IfOk result (λ r. Fits (struct_tree r)) }
 {
     laws::fitting_values();
     Ok(StructValue {
@@ -63,10 +68,12 @@ pub fn open_struct(
     data_words: u16,
     pointers: u16,
 ) -> Result<Option<StructValue>, AllocError>
-    ensures tree { IfOk result (λ o. option_map struct_tree o ≡ struct_from data_words pointers (tree_of_value value)) }
+    ensures tree { IfOk result (λ o.
+        option_map struct_tree o ≡ struct_from data_words pointers (tree_of_value value)) }
     ensures words { IfOk result (λ o. IfSome o (λ r. data_words ≤ vec_len r.words)) }
     ensures pointers { IfOk result (λ o. IfSome o (λ r. pointers ≤ vec_len r.children)) }
-    ensures fits { Fits (tree_of_value value) → IfOk result (λ o. IfSome o (λ r. Fits (struct_tree r))) }
+    ensures fits { Fits (tree_of_value value)
+        → IfOk result (λ o. IfSome o (λ r. Fits (struct_tree r))) }
 {
     match value {
         Value::Null => {
@@ -82,7 +89,9 @@ pub fn open_struct(
 
 /// The struct of a value, null as the empty struct; a list is none, and comes back.
 pub(crate) fn as_struct(alloc: Global, value: Value) -> Result<StructValue, Value>
-    ensures is { IfOk result (λ r. (is_struct (tree_of_value value) ≡ true) × (struct_tree r ≡ or_empty_struct (tree_of_value value))) }
+    ensures is { IfOk result (λ r.
+        (is_struct (tree_of_value value) ≡ true)
+        × (struct_tree r ≡ or_empty_struct (tree_of_value value))) }
     ensures list { IfErr result (λ v. (v ≡ value) × (is_struct (tree_of_value value) ≡ false)) }
 {
     match value {

@@ -66,11 +66,15 @@ pub(crate) fn answer_at(
     requires pointers { pointers_in (shape_of_struct schema) ≤ vec_len root.old.children }
     requires in_range { IsTrue (is_in_range action.now) }
     requires taken { IsTakenPath schema (map step_view path.now) (action_view action.now) }
-    ensures answer { IfOk result (λ r. AnswersPath schema.entry (map step_view path.now) (action_view action.now) (cell_of root.old) (cell_of root.new) (reply_view r)) }
+    ensures answer { IfOk result (λ r.
+        AnswersPath schema.entry (map step_view path.now) (action_view action.now)
+        (cell_of root.old) (cell_of root.new) (reply_view r)) }
     ensures sizes { SameSizes root.old root.new }
     ensures fitting { HasFitting root.old → HasFitting root.new }
     ensures stays { OnErr result (cell_of root.new ≡ cell_of root.old) }
-    ensures refusal { IfErr result (λ e. IsWant (PathPutsLong schema.entry (map step_view path.now) (action_view action.now) (cell_of root.old)) e.kind) }
+    ensures refusal { IfErr result (λ e.
+        IsWant (PathPutsLong schema.entry (map step_view path.now) (action_view action.now)
+        (cell_of root.old)) e.kind) }
 {
     let Some((name, rest)) = first_name(path) else {
         return Ok(Reply::Refused(ErrorKind::WrongStep));
@@ -103,11 +107,18 @@ fn answer_group(
     requires in_range { IsTrue (is_in_range action.now) }
     requires taken { IsTakenPath group.schema (map step_view rest.now) (action_view action.now) }
     requires some { map step_view rest.now ≢ [] }
-    ensures answer { IfOk result (λ r. AnswersField (schema_around group.entry.schema) (map step_view rest.now) (action_view action.now) group.entry.union group.entry.member (group_slot (shape_of_struct group.entry.schema)) (cell_of root.old) (cell_of root.new) (reply_view r)) }
+    ensures answer { IfOk result (λ r.
+        AnswersField (schema_around group.entry.schema) (map step_view rest.now)
+        (action_view action.now) group.entry.union group.entry.member
+        (group_slot (shape_of_struct group.entry.schema)) (cell_of root.old) (cell_of root.new)
+        (reply_view r)) }
     ensures sizes { SameSizes root.old root.new }
     ensures fitting { HasFitting root.old → HasFitting root.new }
     ensures stays { OnErr result (cell_of root.new ≡ cell_of root.old) }
-    ensures refusal { IfErr result (λ e. IsWant (FieldPutsLong (schema_around group.entry.schema) (map step_view rest.now) (action_view action.now) group.entry.union group.entry.member (group_slot (shape_of_struct group.entry.schema)) (cell_of root.old)) e.kind) }
+    ensures refusal { IfErr result (λ e.
+        IsWant (FieldPutsLong (schema_around group.entry.schema) (map step_view rest.now)
+        (action_view action.now) group.entry.union group.entry.member
+        (group_slot (shape_of_struct group.entry.schema)) (cell_of root.old)) e.kind) }
 {
     if !is_active(root, group.union, group.member) {
         return Ok(Reply::Refused(ErrorKind::InactiveMember));
@@ -128,13 +139,20 @@ fn answer_behind(
     requires placed { IsPlaced (vec_len root.old.words) (vec_len root.old.children) named }
     requires of_set { IsSlotOf (nodes_of set.now) named.slot }
     requires in_range { IsTrue (is_in_range action.now) }
-    requires taken { IsTakenRest (schema_of (nodes_of set.now)) (body_of_slot named.slot) (map step_view rest.now) (action_view action.now) }
+    requires taken { IsTakenRest (schema_of (nodes_of set.now)) (body_of_slot named.slot)
+        (map step_view rest.now) (action_view action.now) }
     requires some { map step_view rest.now ≢ [] }
-    ensures answer { IfOk result (λ r. AnswersField (schema_of (nodes_of set.now)) (map step_view rest.now) (action_view action.now) named.entry.union named.entry.member (body_of_slot named.entry.slot) (cell_of root.old) (cell_of root.new) (reply_view r)) }
+    ensures answer { IfOk result (λ r.
+        AnswersField (schema_of (nodes_of set.now)) (map step_view rest.now)
+        (action_view action.now) named.entry.union named.entry.member
+        (body_of_slot named.entry.slot) (cell_of root.old) (cell_of root.new) (reply_view r)) }
     ensures sizes { SameSizes root.old root.new }
     ensures fitting { HasFitting root.old → HasFitting root.new }
     ensures stays { OnErr result (cell_of root.new ≡ cell_of root.old) }
-    ensures refusal { IfErr result (λ e. IsWant (FieldPutsLong (schema_of (nodes_of set.now)) (map step_view rest.now) (action_view action.now) named.entry.union named.entry.member (body_of_slot named.entry.slot) (cell_of root.old)) e.kind) }
+    ensures refusal { IfErr result (λ e.
+        IsWant (FieldPutsLong (schema_of (nodes_of set.now)) (map step_view rest.now)
+        (action_view action.now) named.entry.union named.entry.member
+        (body_of_slot named.entry.slot) (cell_of root.old)) e.kind) }
 {
     if !is_active(root, named.union, named.member) {
         return Ok(Reply::Refused(ErrorKind::InactiveMember));
@@ -174,11 +192,21 @@ fn answer_pointer(
     requires in_range { IsTrue (is_in_range action.now) }
     requires taken { IsTakenPath schema (map step_view rest.now) (action_view action.now) }
     requires some { map step_view rest.now ≢ [] }
-    ensures answer { IfOk result (λ r. AnswersField (schema_around schema.entry) (map step_view rest.now) (action_view action.now) None None (pointer_slot index (struct (id_of schema.entry)) (default_tree (option_map value_of (option_copied default.entry)))) (cell_of root.old) (cell_of root.new) (reply_view r)) }
+    ensures answer { IfOk result (λ r.
+        AnswersField (schema_around schema.entry) (map step_view rest.now)
+        (action_view action.now) None None
+        (pointer_slot index (struct (id_of schema.entry))
+        (default_tree (option_map value_of (option_copied default.entry)))) (cell_of root.old)
+        (cell_of root.new) (reply_view r)) }
     ensures sizes { SameSizes root.old root.new }
     ensures fitting { HasFitting root.old → HasFitting root.new }
     ensures stays { OnErr result (cell_of root.new ≡ cell_of root.old) }
-    ensures refusal { IfErr result (λ e. IsWant (FieldPutsLong (schema_around schema.entry) (map step_view rest.now) (action_view action.now) None None (pointer_slot index (struct (id_of schema.entry)) (default_tree (option_map value_of (option_copied default.entry)))) (cell_of root.old)) e.kind) }
+    ensures refusal { IfErr result (λ e.
+        IsWant (FieldPutsLong (schema_around schema.entry) (map step_view rest.now)
+        (action_view action.now) None None
+        (pointer_slot index (struct (id_of schema.entry))
+        (default_tree (option_map value_of (option_copied default.entry)))) (cell_of root.old))
+        e.kind) }
 {
     if is_null(pointer(root, index)) {
         answer_null(alloc, schema, root, index, default, rest, action)
@@ -204,11 +232,21 @@ fn answer_null(
     requires in_range { IsTrue (is_in_range action.now) }
     requires taken { IsTakenPath schema (map step_view rest.now) (action_view action.now) }
     requires some { map step_view rest.now ≢ [] }
-    ensures answer { IfOk result (λ r. AnswersField (schema_around schema.entry) (map step_view rest.now) (action_view action.now) None None (pointer_slot index (struct (id_of schema.entry)) (default_tree (option_map value_of (option_copied default.entry)))) (cell_of root.old) (cell_of root.new) (reply_view r)) }
+    ensures answer { IfOk result (λ r.
+        AnswersField (schema_around schema.entry) (map step_view rest.now)
+        (action_view action.now) None None
+        (pointer_slot index (struct (id_of schema.entry))
+        (default_tree (option_map value_of (option_copied default.entry)))) (cell_of root.old)
+        (cell_of root.new) (reply_view r)) }
     ensures sizes { SameSizes root.old root.new }
     ensures fitting { HasFitting root.old → HasFitting root.new }
     ensures stays { OnErr result (cell_of root.new ≡ cell_of root.old) }
-    ensures refusal { IfErr result (λ e. IsWant (FieldPutsLong (schema_around schema.entry) (map step_view rest.now) (action_view action.now) None None (pointer_slot index (struct (id_of schema.entry)) (default_tree (option_map value_of (option_copied default.entry)))) (cell_of root.old)) e.kind) }
+    ensures refusal { IfErr result (λ e.
+        IsWant (FieldPutsLong (schema_around schema.entry) (map step_view rest.now)
+        (action_view action.now) None None
+        (pointer_slot index (struct (id_of schema.entry))
+        (default_tree (option_map value_of (option_copied default.entry)))) (cell_of root.old))
+        e.kind) }
 {
     let opened = default_value(alloc, default)?;
     let mut inner = match as_struct(alloc, opened) {
@@ -240,11 +278,21 @@ fn answer_there(
     requires in_range { IsTrue (is_in_range action.now) }
     requires taken { IsTakenPath schema (map step_view rest.now) (action_view action.now) }
     requires some { map step_view rest.now ≢ [] }
-    ensures answer { IfOk result (λ r. AnswersField (schema_around schema.entry) (map step_view rest.now) (action_view action.now) None None (pointer_slot index (struct (id_of schema.entry)) (default_tree (option_map value_of (option_copied default.entry)))) (cell_of root.old) (cell_of root.new) (reply_view r)) }
+    ensures answer { IfOk result (λ r.
+        AnswersField (schema_around schema.entry) (map step_view rest.now)
+        (action_view action.now) None None
+        (pointer_slot index (struct (id_of schema.entry))
+        (default_tree (option_map value_of (option_copied default.entry)))) (cell_of root.old)
+        (cell_of root.new) (reply_view r)) }
     ensures sizes { SameSizes root.old root.new }
     ensures fitting { HasFitting root.old → HasFitting root.new }
     ensures stays { OnErr result (cell_of root.new ≡ cell_of root.old) }
-    ensures refusal { IfErr result (λ e. IsWant (FieldPutsLong (schema_around schema.entry) (map step_view rest.now) (action_view action.now) None None (pointer_slot index (struct (id_of schema.entry)) (default_tree (option_map value_of (option_copied default.entry)))) (cell_of root.old)) e.kind) }
+    ensures refusal { IfErr result (λ e.
+        IsWant (FieldPutsLong (schema_around schema.entry) (map step_view rest.now)
+        (action_view action.now) None None
+        (pointer_slot index (struct (id_of schema.entry))
+        (default_tree (option_map value_of (option_copied default.entry)))) (cell_of root.old))
+        e.kind) }
 {
     let opened = take_pointer(root, index);
     let mut inner = match as_struct(alloc, opened) {
@@ -270,10 +318,14 @@ fn answer_widened(
 ) -> errors::Result<Reply>
     requires in_range { IsTrue (is_in_range action.now) }
     requires taken { IsTakenPath schema (map step_view path.now) (action_view action.now) }
-    ensures answer { IfOk result (λ r. AnswersStruct schema.entry (map step_view path.now) (action_view action.now) (vec_len root.old.words) (cell_of root.old) (struct_tree root.new) (reply_view r)) }
+    ensures answer { IfOk result (λ r.
+        AnswersStruct schema.entry (map step_view path.now) (action_view action.now)
+        (vec_len root.old.words) (cell_of root.old) (struct_tree root.new) (reply_view r)) }
     ensures fitting { Fits (struct_tree root.old) → Fits (struct_tree root.new) }
     ensures stays { OnErr result (struct_tree root.new ≡ struct_tree root.old) }
-    ensures refusal { IfErr result (λ e. IsWant (PathPutsLong schema.entry (map step_view path.now) (action_view action.now) (cell_of root.old)) e.kind) }
+    ensures refusal { IfErr result (λ e.
+        IsWant (PathPutsLong schema.entry (map step_view path.now) (action_view action.now)
+        (cell_of root.old)) e.kind) }
 {
     laws::fitting_values();
     let words = root.words.len();

@@ -27,7 +27,8 @@ fn shown_bytes(alloc: Global, bytes: &[u8]) -> Result<Option<Vec<u8>>, AllocErro
 
 /// What a `get` shows of a pointer in a Text slot; none where it can't be read as one.
 fn shown_pointer(alloc: Global, value: &Value) -> Result<Option<Vec<u8>>, AllocError>
-    ensures { IfOk result (λ o. option_map (λ v. v.items) o ≡ pointer_text (tree_of_value value.now)) }
+    ensures { IfOk result (λ o.
+        option_map (λ v. v.items) o ≡ pointer_text (tree_of_value value.now)) }
 {
     match value {
         Value::Null => Ok(Some(b"\"\"".to_vec(alloc)?)),
@@ -62,7 +63,11 @@ pub(crate) fn shown_text_slot(
     default: Option<&[u8]>,
 ) -> Result<Option<Vec<u8>>, AllocError>
     requires { IsShortDefault (2 ^ 29 - 1) (option_copied default) }
-    ensures { IfOk result (λ o. option_map (λ v. v.items) o ≡ pointer_text (opened_tree text (default_or_null (option_map text_tree (option_copied default.entry))) (tree_of_value value.now))) }
+    ensures { IfOk result (λ o.
+        option_map (λ v. v.items) o
+        ≡ pointer_text
+        (opened_tree text (default_or_null (option_map text_tree (option_copied default.entry)))
+        (tree_of_value value.now))) }
 {
     match (value, default) {
         (Value::Null, Some(text)) => shown_pointer(alloc, &text_of(alloc, text)?),
@@ -77,7 +82,11 @@ pub(crate) fn shown_data_slot(
     default: Option<&[u8]>,
 ) -> Result<Option<Vec<u8>>, AllocError>
     requires { IsShortDefault (2 ^ 29) (option_copied default) }
-    ensures { IfOk result (λ o. option_map (λ v. v.items) o ≡ data_text (opened_tree blob (default_or_null (option_map blob_tree (option_copied default.entry))) (tree_of_value value.now))) }
+    ensures { IfOk result (λ o.
+        option_map (λ v. v.items) o
+        ≡ data_text
+        (opened_tree blob (default_or_null (option_map blob_tree (option_copied default.entry)))
+        (tree_of_value value.now))) }
 {
     match (value, default) {
         (Value::Null, Some(bytes)) => shown_data_pointer(alloc, &data_of(alloc, bytes)?),

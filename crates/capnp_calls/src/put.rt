@@ -32,9 +32,11 @@ fn mark_member(root: &mut StructValue, union: Option<u32>, member: Option<u16>)
 
 /// Writes a number into a plain slot, exclusive or its default.
 fn put_number(root: &mut StructValue, slot: Slot<'_>, number: u64)
-    requires inside { IsInside (vec_len root.old.words) (vec_len root.old.children) (body_of_slot slot) }
+    requires inside { IsInside (vec_len root.old.words) (vec_len root.old.children)
+        (body_of_slot slot) }
     requires fits { number < 2 ^ width_of (body_of_slot slot) }
-    ensures cell { cell_of root.new ≡ put_content (body_of_slot slot.entry) (bits_of number) (cell_of root.old) }
+    ensures cell { cell_of root.new
+        ≡ put_content (body_of_slot slot.entry) (bits_of number) (cell_of root.old) }
     ensures sizes { SameSizes root.old root.new }
     ensures fitting { HasFitting root.old → HasFitting root.new }
 {
@@ -50,9 +52,11 @@ fn put_number(root: &mut StructValue, slot: Slot<'_>, number: u64)
 
 /// Puts a value behind the pointer of a slot.
 fn put_value(root: &mut StructValue, slot: Slot<'_>, value: Value)
-    requires inside { IsInside (vec_len root.old.words) (vec_len root.old.children) (body_of_slot slot) }
+    requires inside { IsInside (vec_len root.old.words) (vec_len root.old.children)
+        (body_of_slot slot) }
     requires fits { Fits (tree_of_value value) }
-    ensures cell { cell_of root.new ≡ put_content (body_of_slot slot.entry) (object (tree_of_value value)) (cell_of root.old) }
+    ensures cell { cell_of root.new
+        ≡ put_content (body_of_slot slot.entry) (object (tree_of_value value)) (cell_of root.old) }
     ensures sizes { SameSizes root.old root.new }
     ensures fitting { HasFitting root.old → HasFitting root.new }
 {
@@ -71,7 +75,9 @@ fn put_value(root: &mut StructValue, slot: Slot<'_>, value: Value)
 pub(crate) fn put_change(root: &mut StructValue, named: NamedSlot<'_>, change: Change) -> Reply
     requires placed { IsPlaced (vec_len root.old.words) (vec_len root.old.children) named }
     requires fits { FitsInto (body_of_slot named.slot) change }
-    ensures cell { cell_of root.new ≡ put_marked named.entry.union named.entry.member (body_of_slot named.entry.slot) (change_view change) (cell_of root.old) }
+    ensures cell { cell_of root.new
+        ≡ put_marked named.entry.union named.entry.member (body_of_slot named.entry.slot)
+        (change_view change) (cell_of root.old) }
     ensures sizes { SameSizes root.old root.new }
     ensures fitting { HasFitting root.old → HasFitting root.new }
     ensures reply { reply_view result ≡ content_reply (change_view change) }

@@ -51,7 +51,8 @@ fn run_at(
 pub fn run(alloc: Global, root: Builder<'_>, calls: &[Call]) -> Result<Vec<Reply>>
     requires root { IsRoot root.schema }
     ensures all { IfOk result (λ replies. RunsAll root.entry.schema (map call_view calls.now)
-        (struct_tree root.entry.root.now) (struct_tree root.exit.0.now) (map reply_view replies.items)) }
+        (struct_tree root.entry.root.now) (struct_tree root.exit.0.now)
+        (map reply_view replies.items)) }
     ensures early { IfErr result (λ e. EndsEarly root.entry.schema (map call_view calls.now)
         (struct_tree root.entry.root.now) (struct_tree root.exit.0.now) e.kind) }
     ensures sizes { SameSizes root.entry.root.now root.exit.0.now }

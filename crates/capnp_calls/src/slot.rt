@@ -71,9 +71,12 @@ pub(crate) fn width_of(ty: PlainType) -> u32
 /// The slot of a pointer, with a default of its type.
 pub(crate) fn pointer_slot<'a>(pointer: u32, ty: Type, default: Option<&'a Value>) -> Slot<'a>
     requires pointer { is_pointer (ty_of ty) ≡ true }
-    requires default { is_default_of (ty_of ty) (option_map value_of (option_copied default)) ≡ true }
+    requires default { is_default_of (ty_of ty) (option_map value_of (option_copied default))
+        ≡ true }
     requires good { HasGoodDefault (ty_of ty) (option_map value_of (option_copied default)) }
-    ensures body { body_of_slot result ≡ pointer_slot pointer (ty_of ty) (default_tree (option_map value_of (option_copied default.entry))) }
+    ensures body { body_of_slot result
+        ≡ pointer_slot pointer (ty_of ty)
+        (default_tree (option_map value_of (option_copied default.entry))) }
     ensures of_set { (nodes : List Node) → is_type_of nodes ty ≡ true → IsSlotOf nodes result }
 {
     match (ty.which(), default) {

@@ -14,7 +14,8 @@ use capnp_queries::structs::StructSchema;
 /// The name with which a path of names begins, and the steps behind it.
 pub(crate) fn first_name(path: &[Step]) -> Option<(&str, &[Step])>
     requires { are_names (map step_view path.now) ≡ true }
-    ensures split { BeginsWith (map step_view path.now) (option_map (λ p. (p.0.now, map step_view p.1.now)) result) }
+    ensures split { BeginsWith (map step_view path.now)
+        (option_map (λ p. (p.0.now, map step_view p.1.now)) result) }
     ensures shorter { IfSome result (λ p. length p.1.now < length path.now) }
 {
     match path {
@@ -39,7 +40,9 @@ pub(crate) fn are_names(path: &[Step]) -> bool
 /// Whether an action is taken where the rest of a path of names from a struct or a group on ends; it is where the path fits no field.
 pub(crate) fn is_taken_behind(schema: StructSchema<'_>, path: &[Step], action: &Action) -> bool
     requires { are_names (map step_view path.now) ≡ true }
-    ensures { result ≡ is_taken_end (action_view action.now) (end_behind (schema_around schema.entry) (fields_of_struct schema.entry) (map step_view path.now)) }
+    ensures { result ≡ is_taken_end (action_view action.now)
+        (end_behind (schema_around schema.entry) (fields_of_struct schema.entry)
+        (map step_view path.now)) }
 {
     let Some((name, rest)) = first_name(path) else {
         return true;

@@ -32,7 +32,9 @@ fn push_escaped(alloc: Global, out: &mut Vec<u8>, byte: u8) -> Result<(), AllocE
 
 /// Appends text between quotes. Characters past ASCII stand as they are.
 fn push_quoted(alloc: Global, out: &mut Vec<u8>, bytes: &[u8]) -> Result<(), AllocError>
-    ensures { OnOk result (out.new.items ≡ out.old.items ++ (codes "\"" ++ flat_map escaped bytes.now ++ codes "\"")) }
+    ensures { OnOk result
+        (out.new.items
+        ≡ out.old.items ++ (codes "\"" ++ flat_map escaped bytes.now ++ codes "\"")) }
 {
     out.push(b'"')?;
     for byte in bytes {
@@ -68,7 +70,9 @@ fn push_numbers(alloc: Global, out: &mut Vec<u8>, bytes: &[u8]) -> Result<(), Al
 
 /// Appends what stands for bytes that are no text.
 fn push_invalid(alloc: Global, out: &mut Vec<u8>, bytes: &[u8]) -> Result<(), AllocError>
-    ensures { OnOk result (out.new.items ≡ out.old.items ++ (codes "<invalid utf-8: [" ++ number_list bytes.now ++ codes "]>")) }
+    ensures { OnOk result
+        (out.new.items
+        ≡ out.old.items ++ (codes "<invalid utf-8: [" ++ number_list bytes.now ++ codes "]>")) }
 {
     out.extend_from_slice(b"<invalid utf-8: [")?;
     push_numbers(alloc, out, bytes)?;

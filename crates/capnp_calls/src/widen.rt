@@ -15,7 +15,8 @@ pub(crate) fn widen(
     data_words: u16,
     pointers: u16,
 ) -> Result<(), AllocError>
-    ensures tree { OnOk result (struct_tree root.new ≡ widened data_words pointers (struct_tree root.old)) }
+    ensures tree { OnOk result
+        (struct_tree root.new ≡ widened data_words pointers (struct_tree root.old)) }
     ensures words { OnOk result (data_words ≤ vec_len root.new.words) }
     ensures pointers { OnOk result (pointers ≤ vec_len root.new.children) }
     ensures stays { OnErr result (struct_tree root.new ≡ struct_tree root.old) }

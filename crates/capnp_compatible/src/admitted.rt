@@ -80,7 +80,10 @@ fn find_field<'a>(fields: &'a [FieldRecord], name: &str) -> Option<&'a FieldReco
 
 /// At a field of both versions.
 fn at_fields(levels: Levels, older: &FieldBody, newer: &FieldBody) -> At
-    ensures { (v : Versions) (path : List ModelStep) (verb : ModelVerb) → goes_on v path verb (at_body (older_body v levels older.now) (newer_body v levels newer.now)) ≡ goes_on v path verb (at_seen v result) }
+    ensures { (v : Versions) (path : List ModelStep) (verb : ModelVerb)
+        → goes_on v path verb
+        (at_body (older_body v levels older.now) (newer_body v levels newer.now))
+        ≡ goes_on v path verb (at_seen v result) }
 {
     match older {
         FieldBody::Slot { ty, .. } => match newer {
@@ -104,7 +107,10 @@ fn at_fields(levels: Levels, older: &FieldBody, newer: &FieldBody) -> At
 /// Where a name leads from a struct or a group.
 fn into_fields(versions: &Versions<'_>, levels: Levels, older: u64, newer: u64, name: &str) -> Next
     requires { AreIndexed versions.now }
-    ensures { (path : List ModelStep) (verb : ModelVerb) → into_fields name.now (fields_in (older_shape versions.now levels older)) (fields_in (newer_shape versions.now levels newer)) (goes_on versions.now path verb) ≡ next_seen versions.now result path verb }
+    ensures { (path : List ModelStep) (verb : ModelVerb)
+        → into_fields name.now (fields_in (older_shape versions.now levels older))
+        (fields_in (newer_shape versions.now levels newer)) (goes_on versions.now path verb)
+        ≡ next_seen versions.now result path verb }
 {
     let a = versions.older.holder(levels.older, older);
     let b = versions.newer.holder(levels.newer, newer);
@@ -136,7 +142,8 @@ fn struct_id(ty: TypeRecord) -> Option<u64>
 
 /// The type of a list's elements.
 fn element_of(ty: TypeRecord) -> Option<TypeRecord>
-    ensures { option_map (λ t. type_of (type_record_of t)) result ≡ element_in (type_of (type_record_of ty)) }
+    ensures { option_map (λ t. type_of (type_record_of t)) result
+        ≡ element_in (type_of (type_record_of ty)) }
 {
     if ty.list_count == 0 {
         return None;
@@ -150,7 +157,10 @@ fn element_of(ty: TypeRecord) -> Option<TypeRecord>
 /// Where a step leads behind a pointer of a type.
 fn into_type(versions: &Versions<'_>, step: &Step, older: TypeRecord, newer: TypeRecord) -> Next
     requires { AreIndexed versions.now }
-    ensures { (path : List ModelStep) (verb : ModelVerb) → into_type (schema_in versions.now.older) (schema_in versions.now.newer) (step_view step.now) (type_of (type_record_of older)) (type_of (type_record_of newer)) (goes_on versions.now path verb) ≡ next_seen versions.now result path verb }
+    ensures { (path : List ModelStep) (verb : ModelVerb)
+        → into_type (schema_in versions.now.older) (schema_in versions.now.newer)
+        (step_view step.now) (type_of (type_record_of older)) (type_of (type_record_of newer))
+        (goes_on versions.now path verb) ≡ next_seen versions.now result path verb }
 {
     match step {
         Step::Name(name) => {
@@ -180,7 +190,10 @@ fn into_type(versions: &Versions<'_>, step: &Step, older: TypeRecord, newer: Typ
 /// Where a step leads.
 fn into_at(versions: &Versions<'_>, step: &Step, at: At) -> Next
     requires { AreIndexed versions.now }
-    ensures { (path : List ModelStep) (verb : ModelVerb) → into_at (schema_in versions.now.older) (schema_in versions.now.newer) (step_view step.now) (at_seen versions.now at) (goes_on versions.now path verb) ≡ next_seen versions.now result path verb }
+    ensures { (path : List ModelStep) (verb : ModelVerb)
+        → into_at (schema_in versions.now.older) (schema_in versions.now.newer)
+        (step_view step.now) (at_seen versions.now at) (goes_on versions.now path verb)
+        ≡ next_seen versions.now result path verb }
 {
     match at {
         At::Group {
@@ -218,7 +231,8 @@ fn is_admitted_end(
     at: At,
 ) -> std::result::Result<bool, AllocError>
     requires { AreIndexed versions.now }
-    ensures { IfOk result (λ b. b ≡ is_admitted_end (call_view call.now).verb (at_seen versions.now at)) }
+    ensures { IfOk result (λ b.
+        b ≡ is_admitted_end (call_view call.now).verb (at_seen versions.now at)) }
 {
     match at {
         At::Group {
@@ -245,7 +259,9 @@ fn is_admitted(
     call: &Call,
 ) -> std::result::Result<bool, AllocError>
     requires { AreIndexed versions.now }
-    ensures { IfOk result (λ b. b ≡ is_admitted (schema_in versions.now.older) (schema_in versions.now.newer) older newer (call_view call.now)) }
+    ensures { IfOk result (λ b.
+        b ≡ is_admitted (schema_in versions.now.older) (schema_in versions.now.newer) older newer
+        (call_view call.now)) }
 {
     let mut at = At::Element {
         older: struct_type(older),
@@ -281,7 +297,8 @@ pub fn admitted(
     older: Root<'_>,
     newer: Root<'_>,
 ) -> Result<Admission>
-    ensures answer { IfOk result (IsAdmissionOf (is_admitted_at older.entry newer.entry) (map call_view calls.now)) }
+    ensures answer { IfOk result
+        (IsAdmissionOf (is_admitted_at older.entry newer.entry) (map call_view calls.now)) }
     ensures refusal { IfErr result (λ e. e.kind ≡ OutOfMemory) }
 {
     let versions = versions(alloc, older, newer)?;

@@ -49,7 +49,9 @@ fn all_kept(
     newer: u64,
 ) -> std::result::Result<bool, AllocError>
     requires { AreIndexed versions.now }
-    ensures { IfOk result (λ b. MatchBool b (IsKeptFrom versions.now levels older newer) (IsKeptFrom versions.now levels older newer → ⊥)) }
+    ensures { IfOk result (λ b.
+        MatchBool b (IsKeptFrom versions.now levels older newer)
+        (IsKeptFrom versions.now levels older newer → ⊥)) }
 {
     let mut reached = Reached::new(alloc);
     reached.reach(older, newer)?;
@@ -69,7 +71,9 @@ fn all_kept(
 /// the same under the newer, field by field. Takes time linear in the pairs of structs that are reached times their fields.
 /// `OutOfMemory` is the one error.
 pub fn compatible(alloc: Global, older: Root<'_>, newer: Root<'_>) -> Result<bool>
-    ensures answer { IfOk result (λ b. MatchBool b (AreCompatible older.entry newer.entry) (AreCompatible older.entry newer.entry → ⊥)) }
+    ensures answer { IfOk result (λ b.
+        MatchBool b (AreCompatible older.entry newer.entry)
+        (AreCompatible older.entry newer.entry → ⊥)) }
     ensures refusal { IfErr result (λ e. e.kind ≡ OutOfMemory) }
 {
     let versions = versions(alloc, older, newer)?;

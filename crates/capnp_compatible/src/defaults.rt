@@ -99,7 +99,8 @@ fn same_bytes(older: Option<&[u8]>, newer: Option<&[u8]>) -> bool
 
 /// Whether the defaults of related types are equal.
 pub(crate) fn same_default(older: &Option<Value>, newer: &Option<Value>) -> bool
-    ensures same { result ≡ same_value (option_map value_of older.now) (option_map value_of newer.now) }
+    ensures same { result ≡ same_value (option_map value_of older.now)
+        (option_map value_of newer.now) }
     ensures older { AllBytes (default_bytes (option_map value_of older.now)) }
     ensures newer { AllBytes (default_bytes (option_map value_of newer.now)) }
 {

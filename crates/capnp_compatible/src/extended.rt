@@ -16,7 +16,10 @@ use std::collections::HashMap;
 
 /// The fields by their names, the first of each name.
 fn by_name(alloc: Global, fields: &[FieldRecord]) -> Result<HashMap<&str, &FieldRecord>, AllocError>
-    ensures { IfOk result (λ names. (n : List ℕ) → option_map (λ f. f.now) (lookup (λ k. bytes_eq n k.now) names.entries) ≡ first_named n fields.now) }
+    ensures { IfOk result (λ names.
+        (n : List ℕ)
+        → option_map (λ f. f.now) (lookup (λ k. bytes_eq n k.now) names.entries)
+        ≡ first_named n fields.now) }
 {
     let mut names: HashMap<&str, &FieldRecord> = HashMap::new(alloc);
     let mut left = fields.len();
@@ -30,7 +33,8 @@ fn by_name(alloc: Global, fields: &[FieldRecord]) -> Result<HashMap<&str, &Field
 
 /// The field of a name.
 fn find<'a>(names: &HashMap<&str, &'a FieldRecord>, name: &str) -> Option<&'a FieldRecord>
-    ensures { option_copied result ≡ option_map (λ f. f.now) (lookup (λ k. bytes_eq name.now k.now) names.now.entries) }
+    ensures { option_copied result
+        ≡ option_map (λ f. f.now) (lookup (λ k. bytes_eq name.now k.now) names.now.entries) }
 {
     names.get(&name).copied()
 }
@@ -45,7 +49,9 @@ pub(crate) fn is_extended(
     newer: u64,
 ) -> Result<bool, AllocError>
     requires { AreIndexed versions.now }
-    ensures { IfOk result (λ b. b ≡ is_extended (older_shape versions.now levels older) (newer_shape versions.now levels newer)) }
+    ensures { IfOk result (λ b.
+        b ≡ is_extended (older_shape versions.now levels older)
+        (newer_shape versions.now levels newer)) }
 {
     if levels.newer == 0 {
         return Ok(false);
@@ -69,7 +75,9 @@ fn extends_fields(
     newer: &[FieldRecord],
 ) -> Result<bool, AllocError>
     requires { AreIndexed versions.now }
-    ensures { IfOk result (λ b. b ≡ extends_fields (older_fields versions.now levels older.now) (newer_fields versions.now levels newer.now)) }
+    ensures { IfOk result (λ b.
+        b ≡ extends_fields (older_fields versions.now levels older.now)
+        (newer_fields versions.now levels newer.now)) }
 {
     let names = by_name(alloc, older)?;
     let mut rest = newer;
@@ -95,7 +103,11 @@ fn extends_field(
     newer: &FieldRecord,
 ) -> Result<bool, AllocError>
     requires { AreIndexed versions.now }
-    ensures { IfOk result (λ b. b ≡ extends_field (target (member_of older.now.discriminant_value) (older_body versions.now levels older.now.body)) (newer_body versions.now levels newer.now.body)) }
+    ensures { IfOk result (λ b.
+        b ≡ extends_field
+        (target (member_of older.now.discriminant_value)
+        (older_body versions.now levels older.now.body))
+        (newer_body versions.now levels newer.now.body)) }
 {
     match &newer.body {
         FieldBody::Slot { .. } => Ok(false),

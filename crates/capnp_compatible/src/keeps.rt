@@ -108,7 +108,8 @@ pub(crate) fn keeps(
 ) -> Result<bool, AllocError>
     requires index { AreIndexed versions.now }
     requires sound { IsSoundFor versions.now reached.old }
-    ensures { IfOk result (λ b. Decides versions.now reached.old reached.new b (keeps_at versions.now levels older newer)) }
+    ensures { IfOk result (λ b.
+        Decides versions.now reached.old reached.new b (keeps_at versions.now levels older newer)) }
 {
     if levels.older == 0 {
         return Ok(true);
@@ -138,8 +139,12 @@ fn keeps_fields(
     requires sound { IsSoundFor versions.now reached.old }
     requires older { are_sound older.now ≡ true }
     requires newer { are_sound newer.now ≡ true }
-    ensures { IfOk result (λ b. Decides versions.now reached.old reached.new b (λ pairs. keeps_fields (schema_in versions.now.older) (schema_in versions.now.newer) pairs
-        (member_count (older_fields versions.now levels older.now)) (older_fields versions.now levels older.now) (newer_fields versions.now levels newer.now))) }
+    ensures { IfOk result (λ b.
+        Decides versions.now reached.old reached.new
+        b (λ pairs. keeps_fields (schema_in versions.now.older) (schema_in versions.now.newer) pairs
+        (member_count (older_fields versions.now levels older.now))
+        (older_fields versions.now levels older.now)
+        (newer_fields versions.now levels newer.now))) }
 {
     let count = member_count(older);
     let mut left = older;
@@ -168,7 +173,9 @@ fn keeps_next<'f>(
     requires sound { IsSoundFor versions.now reached.old }
     requires left { are_sound left.now ≡ true }
     requires next { is_sound_kind (kind_of_field next.now.body) ≡ true }
-    ensures moves { IfOk result (λ o. Moves versions.now levels reached.old reached.new count left.now next.now (option_copied o)) }
+    ensures moves { IfOk result (λ o.
+        Moves versions.now levels reached.old reached.new count left.now next.now
+        (option_copied o)) }
     ensures left { IfOk result (λ o. IfSome o (λ others. are_sound others.now ≡ true)) }
 {
     let Some((first, others)) = partner(left, next.name.as_str()) else {
@@ -196,8 +203,13 @@ fn keeps_field(
     requires sound { IsSoundFor versions.now reached.old }
     requires older { is_sound_kind (kind_of_field older.now.body) ≡ true }
     requires newer { is_sound_kind (kind_of_field newer.now.body) ≡ true }
-    ensures { IfOk result (λ b. Decides versions.now reached.old reached.new b (λ pairs. same_option (member_of older.now.discriminant_value) (member_of newer.now.discriminant_value)
-        && keeps_body (schema_in versions.now.older) (schema_in versions.now.newer) pairs (older_body versions.now levels older.now.body) (newer_body versions.now levels newer.now.body))) }
+    ensures { IfOk result (λ b.
+        Decides versions.now reached.old reached.new
+        b (λ pairs. same_option (member_of older.now.discriminant_value)
+        (member_of newer.now.discriminant_value)
+        && keeps_body (schema_in versions.now.older) (schema_in versions.now.newer) pairs
+        (older_body versions.now levels older.now.body)
+        (newer_body versions.now levels newer.now.body))) }
 {
     if older.discriminant_value != newer.discriminant_value {
         return Ok(false);
@@ -218,7 +230,9 @@ fn keeps_body(
     requires sound { IsSoundFor versions.now reached.old }
     requires older { is_sound_kind (kind_of_field older.now) ≡ true }
     requires newer { is_sound_kind (kind_of_field newer.now) ≡ true }
-    ensures { IfOk result (λ b. Decides versions.now reached.old reached.new b (λ pairs. keeps_body (schema_in versions.now.older) (schema_in versions.now.newer) pairs
+    ensures { IfOk result (λ b.
+        Decides versions.now reached.old reached.new
+        b (λ pairs. keeps_body (schema_in versions.now.older) (schema_in versions.now.newer) pairs
         (older_body versions.now levels older.now) (newer_body versions.now levels newer.now))) }
 {
     match older {

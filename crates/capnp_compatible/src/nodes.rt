@@ -55,7 +55,8 @@ fn union_place(record: &StructRecord) -> Option<u64>
 /// What the node says.
 fn holder_of(node: &NodeRecord) -> Holder<'_>
     requires { are_sound_in (node_of node.now) ≡ true }
-    ensures shape { (groups : ℕ → Shape) → shape_by groups result ≡ shape_of_node groups (Some (node_of node.now)) }
+    ensures shape { (groups : ℕ → Shape)
+        → shape_by groups result ≡ shape_of_node groups (Some (node_of node.now)) }
     ensures sound { are_sound result.fields.now ≡ true }
 {
     match &node.body {
@@ -127,7 +128,8 @@ impl<'a> Nodes<'a> {
     /// What the struct or the group of an id says, at so many levels of groups.
     pub(crate) fn holder(&self, levels: usize, id: u64) -> Holder<'a>
         requires { IsIndexed self.now }
-        ensures shape { shape_in (nodes_in self.now) levels id ≡ shape_by (λ g. shape_in (nodes_in self.now) (levels - 1) g) result }
+        ensures shape { shape_in (nodes_in self.now) levels id
+            ≡ shape_by (λ g. shape_in (nodes_in self.now) (levels - 1) g) result }
         ensures sound { are_sound result.fields.now ≡ true }
     {
         if levels == 0 {
@@ -142,7 +144,8 @@ impl<'a> Nodes<'a> {
     /// The enumerants of the enum of an id.
     pub(crate) fn enumerants(&self, id: u64) -> &'a [EnumerantRecord]
         requires { IsIndexed self.now }
-        ensures { map (λ e. e.name) (map enumerant_of result.now) ≡ (schema_in self.now).names_of id }
+        ensures { map (λ e. e.name) (map enumerant_of result.now)
+            ≡ (schema_in self.now).names_of id }
     {
         match self.find(id) {
             Some(node) => enumerants_of(node),

@@ -36,8 +36,12 @@ impl Reached {
 
     /// Reaches a pair of structs.
     pub(crate) fn reach(&mut self, older: u64, newer: u64) -> Result<(), AllocError>
-        ensures pairs { IfOk result (λ _. (o n : Schema) → IsSound o n self.old → (pairs : Pairs) → (has_each pairs (pairs_of self.old) && has_pair pairs older newer) ≡ has_each pairs (pairs_of self.new)) }
-        ensures sound { IfOk result (λ _. (o n : Schema) → IsSound o n self.old → IsSound o n self.new) }
+        ensures pairs { IfOk result (λ _.
+            (o n : Schema) → IsSound o n self.old → (pairs : Pairs)
+            → (has_each pairs (pairs_of self.old) && has_pair pairs older newer)
+            ≡ has_each pairs (pairs_of self.new)) }
+        ensures sound { IfOk result (λ _.
+            (o n : Schema) → IsSound o n self.old → IsSound o n self.new) }
         ensures grows { IfOk result (λ _. IsFront (pairs_of self.old) (pairs_of self.new)) }
     {
         if self.seen.insert((older, newer))? {
@@ -55,7 +59,8 @@ impl Reached {
 
     /// Whether the pair of enums is known to be related.
     pub(crate) fn knows(&self, older: u64, newer: u64) -> bool
-        ensures { (o n : Schema) → IsSound o n self.now → result ≡ true → same_names (o.names_of older) (n.names_of newer) ≡ true }
+        ensures { (o n : Schema) → IsSound o n self.now → result ≡ true
+            → same_names (o.names_of older) (n.names_of newer) ≡ true }
     {
         self.related.contains(&(older, newer))
     }
@@ -63,7 +68,9 @@ impl Reached {
     /// Knows that the pair of enums is related.
     pub(crate) fn know(&mut self, older: u64, newer: u64) -> Result<(), AllocError>
         ensures pairs { IfOk result (λ _. pairs_of self.new ≡ pairs_of self.old) }
-        ensures sound { IfOk result (λ _. (o n : Schema) → IsSound o n self.old → same_names (o.names_of older) (n.names_of newer) ≡ true → IsSound o n self.new) }
+        ensures sound { IfOk result (λ _.
+            (o n : Schema) → IsSound o n self.old
+            → same_names (o.names_of older) (n.names_of newer) ≡ true → IsSound o n self.new) }
     {
         self.related.insert((older, newer))?;
         Ok(())
@@ -72,7 +79,8 @@ impl Reached {
 
 /// Whether the names of the older are the beginning of the newer's.
 pub(crate) fn same_names(older: &[EnumerantRecord], newer: &[EnumerantRecord]) -> bool
-    ensures { result ≡ same_names (map (λ e. e.name) (map enumerant_of older.now)) (map (λ e. e.name) (map enumerant_of newer.now)) }
+    ensures { result ≡ same_names (map (λ e. e.name) (map enumerant_of older.now))
+        (map (λ e. e.name) (map enumerant_of newer.now)) }
 {
     let mut left = older;
     let mut rest = newer;

@@ -39,7 +39,8 @@ fn sort_of(base: BaseType) -> (u8, u8)
 
 /// Whether bases are of one sort, their numbers of the same bits.
 fn same_sort(older: BaseType, newer: BaseType) -> bool
-    ensures { result ≡ (sort (base_type (base_of older)) == sort (base_type (base_of newer)) && bits (base_type (base_of older)) == bits (base_type (base_of newer))) }
+    ensures { result ≡ (sort (base_type (base_of older)) == sort (base_type (base_of newer)) &&
+        bits (base_type (base_of older)) == bits (base_type (base_of newer))) }
 {
     let (sort, bits) = sort_of(older);
     let (other_sort, other_bits) = sort_of(newer);
@@ -65,7 +66,10 @@ fn related_enums(
 ) -> Result<bool, AllocError>
     requires index { AreIndexed versions.now }
     requires sound { IsSoundFor versions.now reached.old }
-    ensures { IfOk result (λ b. Decides versions.now reached.old reached.new b (λ _. same_names ((schema_in versions.now.older).names_of older) ((schema_in versions.now.newer).names_of newer))) }
+    ensures { IfOk result (λ b.
+        Decides versions.now reached.old reached.new
+        b (λ _. same_names ((schema_in versions.now.older).names_of older)
+        ((schema_in versions.now.newer).names_of newer))) }
 {
     if reached.knows(older, newer) {
         return Ok(true);
@@ -89,7 +93,11 @@ fn related_bases(
 ) -> Result<bool, AllocError>
     requires index { AreIndexed versions.now }
     requires sound { IsSoundFor versions.now reached.old }
-    ensures { IfOk result (λ b. Decides versions.now reached.old reached.new b (λ pairs. related (schema_in versions.now.older) (schema_in versions.now.newer) pairs (base_type (base_of older)) (base_type (base_of newer)))) }
+    ensures { IfOk result (λ b.
+        Decides versions.now reached.old reached.new
+        b (λ pairs.
+        related (schema_in versions.now.older) (schema_in versions.now.newer) pairs
+        (base_type (base_of older)) (base_type (base_of newer)))) }
 {
     if !same_sort(older, newer) {
         return Ok(false);
@@ -128,7 +136,11 @@ pub(crate) fn related(
 ) -> Result<bool, AllocError>
     requires index { AreIndexed versions.now }
     requires sound { IsSoundFor versions.now reached.old }
-    ensures { IfOk result (λ b. Decides versions.now reached.old reached.new b (λ pairs. related (schema_in versions.now.older) (schema_in versions.now.newer) pairs (type_of (type_record_of older)) (type_of (type_record_of newer)))) }
+    ensures { IfOk result (λ b.
+        Decides versions.now reached.old reached.new
+        b (λ pairs.
+        related (schema_in versions.now.older) (schema_in versions.now.newer) pairs
+        (type_of (type_record_of older)) (type_of (type_record_of newer)))) }
 {
     if older.list_count != newer.list_count {
         return Ok(false);

@@ -24,38 +24,60 @@ pub trait BuilderArena: ReaderArena {
 
     /// Allocates zero words at the end of a segment, and answers their position; none just where the segment isn't there, has fewer free ones, or the message's words would pass 2^29 - 1.
     fn allocate(&mut self, segment: SegmentId, words: u32) -> Option<u32>
-        ensures some { IfSome result (λ at. (segment < length (Self.segments self.old)) × Allocates (words_in (Self.segments self.old)) (words_in (Self.segments self.new)) segment at words) }
-        ensures room { OnSome result (HasRoom (words_in (Self.segments self.old)) (room self.old) segment words) }
-        ensures full { IfNone result (HasRoom (words_in (Self.segments self.old)) (room self.old) segment words → ⊥) }
+        ensures some { IfSome result (λ at.
+            (segment < length (Self.segments self.old))
+            × Allocates (words_in (Self.segments self.old)) (words_in (Self.segments self.new))
+            segment at words) }
+        ensures room { OnSome result
+            (HasRoom (words_in (Self.segments self.old)) (room self.old) segment words) }
+        ensures full { IfNone result
+            (HasRoom (words_in (Self.segments self.old)) (room self.old) segment words → ⊥) }
         ensures none { IfNone result (Self.segments self.new ≡ Self.segments self.old) }
         ensures books { books self.new ≡ books self.old };
 
     /// Allocates zero words in any segment, which is a new one only where the last has no room. It is refused with `SizeOverflow` just where the message's words would pass 2^29 - 1, else as the allocator refuses; then nothing is allocated.
     fn allocate_anywhere(&mut self, words: u32) -> Result<(SegmentId, u32)>
-        ensures last { IfOk result (λ p. (p.0 < length (Self.segments self.old)) ⊎ (HasRoom (words_in (Self.segments self.old)) (room self.old) (length (Self.segments self.old) - 1) words → ⊥)) }
-        ensures full { OnErr result (HasRoom (words_in (Self.segments self.old)) (room self.old) (length (Self.segments self.old) - 1) words → ⊥) }
-        ensures ok { IfOk result (λ p. Allocates (words_in (Self.segments self.old)) (words_in (Self.segments self.new)) p.0 p.1 words) }
+        ensures last { IfOk result (λ p.
+            (p.0 < length (Self.segments self.old))
+            ⊎ (HasRoom (words_in (Self.segments self.old)) (room self.old)
+            (length (Self.segments self.old) - 1) words → ⊥)) }
+        ensures full { OnErr result
+            (HasRoom (words_in (Self.segments self.old)) (room self.old)
+            (length (Self.segments self.old) - 1) words → ⊥) }
+        ensures ok { IfOk result (λ p.
+            Allocates (words_in (Self.segments self.old)) (words_in (Self.segments self.new)) p.0
+            p.1 words) }
         ensures refused { OnErr result (Self.segments self.new ≡ Self.segments self.old) }
-        ensures kind { IfErr result (λ e. (e.kind ≡ SizeOverflow) ↔ (2 ^ 29 ≤ total_words (words_in (Self.segments self.old)) + words)) }
+        ensures kind { IfErr result (λ e.
+            (e.kind ≡ SizeOverflow)
+            ↔ (2 ^ 29 ≤ total_words (words_in (Self.segments self.old)) + words)) }
         ensures books { books self.new ≡ books self.old };
 
     /// Writes a word in place of the one at a place.
     fn write_word(&mut self, place: Place, word: u64)
-        requires { is_some (words_at (words_in (Self.segments self.old)) (place_view place) 1) ≡ true }
-        ensures words { words_in (Self.segments self.new) ≡ with_words (words_in (Self.segments self.old)) (place_view place) (word ∷ []) }
+        requires { is_some (words_at (words_in (Self.segments self.old)) (place_view place) 1)
+            ≡ true }
+        ensures words { words_in (Self.segments self.new)
+            ≡ with_words (words_in (Self.segments self.old)) (place_view place) (word ∷ []) }
         ensures books { books self.new ≡ books self.old };
 
     /// Writes whole words in place of as many from a place on.
     fn write_words(&mut self, place: Place, words: &[u8])
         requires whole { 8 * (length words.now / 8) ≡ length words.now }
-        requires there { is_some (words_at (words_in (Self.segments self.old)) (place_view place) (length words.now / 8)) ≡ true }
-        ensures words { words_in (Self.segments self.new) ≡ with_words (words_in (Self.segments self.old)) (place_view place) (words_in_bytes (length words.now / 8) words.now) }
+        requires there { is_some (words_at (words_in (Self.segments self.old)) (place_view place)
+            (length words.now / 8)) ≡ true }
+        ensures words { words_in (Self.segments self.new)
+            ≡ with_words (words_in (Self.segments self.old)) (place_view place)
+            (words_in_bytes (length words.now / 8) words.now) }
         ensures books { books self.new ≡ books self.old };
 
     /// Writes zeros in place of so many words from a place on.
     fn zero_words(&mut self, place: Place, count: usize)
-        requires { is_some (words_at (words_in (Self.segments self.old)) (place_view place) count) ≡ true }
-        ensures words { words_in (Self.segments self.new) ≡ with_words (words_in (Self.segments self.old)) (place_view place) (replicate count 0) }
+        requires { is_some (words_at (words_in (Self.segments self.old)) (place_view place) count)
+            ≡ true }
+        ensures words { words_in (Self.segments self.new)
+            ≡ with_words (words_in (Self.segments self.old)) (place_view place)
+            (replicate count 0) }
         ensures books { books self.new ≡ books self.old };
 }
 

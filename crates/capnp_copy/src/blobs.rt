@@ -34,9 +34,11 @@ fn last_word(rest: &[u8]) -> u64
 /// Writes bytes in place of so many words, which they fill but for the last; what they lack of that one becomes zero.
 pub fn write_bytes<A: BuilderArena>(arena: &mut A, start: Place, words: usize, bytes: &[u8])
     requires near { start.position + words < 2 ^ 61 }
-    requires there { is_some (words_at (words_in (A.segments arena.old)) (place_view start) words) ≡ true }
+    requires there { is_some (words_at (words_in (A.segments arena.old)) (place_view start) words)
+        ≡ true }
     requires fill { (whole_of bytes.now ≤ words) × (words ≤ whole_of bytes.now + 1) }
-    ensures words { words_in (A.segments arena.new) ≡ with_bytes (words_in (A.segments arena.old)) (place_view start) words bytes.now }
+    ensures words { words_in (A.segments arena.new)
+        ≡ with_bytes (words_in (A.segments arena.old)) (place_view start) words bytes.now }
     ensures books { A.books arena.new ≡ A.books arena.old }
 {
     let whole = bytes.len() / 8;
@@ -52,13 +54,21 @@ pub fn write_bytes<A: BuilderArena>(arena: &mut A, start: Place, words: usize, b
 
 /// Puts a list of so many bytes in place of the value of the pointer at a place, which is cleared: these, and at most one zero byte behind them.
 fn set_bytes<A: BuilderArena>(arena: &mut A, slot: Place, bytes: &[u8], count: u32) -> Result<()>
-    requires there { is_some (words_at (words_in (A.segments arena.old)) (place_view slot) 1) ≡ true }
+    requires there { is_some (words_at (words_in (A.segments arena.old)) (place_view slot) 1)
+        ≡ true }
     requires near { slot.position < 2 ^ 61 }
     requires all { (length bytes.now ≤ count) × (count ≤ length bytes.now + 1) }
-    ensures value { IfOk result (λ o. Becomes (words_in (A.segments arena.old)) (words_in (A.segments arena.new)) (place_view slot) (plain_list 2 count (number_of 8 bytes.now))) }
-    ensures taken { OnOk result (TakesJust (words_in (A.segments arena.old)) (A.room arena.old) (words_in (A.segments arena.new)) slot.segment (words_for (8 * count))) }
+    ensures value { IfOk result (λ o.
+        Becomes (words_in (A.segments arena.old)) (words_in (A.segments arena.new))
+        (place_view slot) (plain_list 2 count (number_of 8 bytes.now))) }
+    ensures taken { OnOk result
+        (TakesJust (words_in (A.segments arena.old)) (A.room arena.old)
+        (words_in (A.segments arena.new)) slot.segment (words_for (8 * count))) }
     ensures refused { OnErr result (A.segments arena.new ≡ A.segments arena.old) }
-    ensures kind { IfErr result (λ e. (e.kind ≡ SizeOverflow) ↔ ((2 ^ 29 ≤ count) ⊎ (2 ^ 29 ≤ total_words (words_in (A.segments arena.old)) + (words_for (8 * count) + 1)))) }
+    ensures kind { IfErr result (λ e.
+        (e.kind ≡ SizeOverflow)
+        ↔ ((2 ^ 29 ≤ count)
+        ⊎ (2 ^ 29 ≤ total_words (words_in (A.segments arena.old)) + (words_for (8 * count) + 1)))) }
     ensures books { A.books arena.new ≡ A.books arena.old }
 {
     let list = init_list(arena, slot, ElementSize::Byte, count)?;
@@ -71,12 +81,21 @@ fn set_bytes<A: BuilderArena>(arena: &mut A, slot: Place, bytes: &[u8], count: u
 ///
 /// It is refused with `SizeOverflow` just where the bytes or the message's words, a pad counted, would pass 2^29 - 1, else as the allocator refuses; then all stands as it was.
 pub fn set_data<A: BuilderArena>(arena: &mut A, slot: Place, bytes: &[u8]) -> Result<()>
-    requires there { is_some (words_at (words_in (A.segments arena.old)) (place_view slot) 1) ≡ true }
+    requires there { is_some (words_at (words_in (A.segments arena.old)) (place_view slot) 1)
+        ≡ true }
     requires near { slot.position < 2 ^ 61 }
-    ensures value { IfOk result (λ o. Becomes (words_in (A.segments arena.old)) (words_in (A.segments arena.new)) (place_view slot) (plain_list 2 (length bytes.now) (number_of 8 bytes.now))) }
-    ensures taken { OnOk result (TakesJust (words_in (A.segments arena.old)) (A.room arena.old) (words_in (A.segments arena.new)) slot.segment (words_for (8 * length bytes.now))) }
+    ensures value { IfOk result (λ o.
+        Becomes (words_in (A.segments arena.old)) (words_in (A.segments arena.new))
+        (place_view slot) (plain_list 2 (length bytes.now) (number_of 8 bytes.now))) }
+    ensures taken { OnOk result
+        (TakesJust (words_in (A.segments arena.old)) (A.room arena.old)
+        (words_in (A.segments arena.new)) slot.segment (words_for (8 * length bytes.now))) }
     ensures refused { OnErr result (A.segments arena.new ≡ A.segments arena.old) }
-    ensures kind { IfErr result (λ e. (e.kind ≡ SizeOverflow) ↔ ((2 ^ 29 ≤ length bytes.now) ⊎ (2 ^ 29 ≤ total_words (words_in (A.segments arena.old)) + (words_for (8 * length bytes.now) + 1)))) }
+    ensures kind { IfErr result (λ e.
+        (e.kind ≡ SizeOverflow)
+        ↔ ((2 ^ 29 ≤ length bytes.now)
+        ⊎ (2 ^ 29 ≤ total_words (words_in (A.segments arena.old)) +
+        (words_for (8 * length bytes.now) + 1)))) }
     ensures books { A.books arena.new ≡ A.books arena.old }
 {
     if bytes.len() > MOST_WORDS as usize {
@@ -89,12 +108,21 @@ pub fn set_data<A: BuilderArena>(arena: &mut A, slot: Place, bytes: &[u8]) -> Re
 ///
 /// It is refused with `SizeOverflow` just where the bytes with the zero byte or the message's words, a pad counted, would pass 2^29 - 1, else as the allocator refuses; then all stands as it was.
 pub fn set_text<A: BuilderArena>(arena: &mut A, slot: Place, text: &[u8]) -> Result<()>
-    requires there { is_some (words_at (words_in (A.segments arena.old)) (place_view slot) 1) ≡ true }
+    requires there { is_some (words_at (words_in (A.segments arena.old)) (place_view slot) 1)
+        ≡ true }
     requires near { slot.position < 2 ^ 61 }
-    ensures value { IfOk result (λ o. Becomes (words_in (A.segments arena.old)) (words_in (A.segments arena.new)) (place_view slot) (plain_list 2 (length text.now + 1) (number_of 8 text.now))) }
-    ensures taken { OnOk result (TakesJust (words_in (A.segments arena.old)) (A.room arena.old) (words_in (A.segments arena.new)) slot.segment (words_for (8 * (length text.now + 1)))) }
+    ensures value { IfOk result (λ o.
+        Becomes (words_in (A.segments arena.old)) (words_in (A.segments arena.new))
+        (place_view slot) (plain_list 2 (length text.now + 1) (number_of 8 text.now))) }
+    ensures taken { OnOk result
+        (TakesJust (words_in (A.segments arena.old)) (A.room arena.old)
+        (words_in (A.segments arena.new)) slot.segment (words_for (8 * (length text.now + 1)))) }
     ensures refused { OnErr result (A.segments arena.new ≡ A.segments arena.old) }
-    ensures kind { IfErr result (λ e. (e.kind ≡ SizeOverflow) ↔ ((2 ^ 29 ≤ length text.now + 1) ⊎ (2 ^ 29 ≤ total_words (words_in (A.segments arena.old)) + (words_for (8 * (length text.now + 1)) + 1)))) }
+    ensures kind { IfErr result (λ e.
+        (e.kind ≡ SizeOverflow)
+        ↔ ((2 ^ 29 ≤ length text.now + 1)
+        ⊎ (2 ^ 29 ≤ total_words (words_in (A.segments arena.old)) +
+        (words_for (8 * (length text.now + 1)) + 1)))) }
     ensures books { A.books arena.new ≡ A.books arena.old }
 {
     if text.len() >= MOST_WORDS as usize {

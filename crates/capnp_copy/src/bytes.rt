@@ -54,8 +54,10 @@ fn set_in_word<A: BuilderArena>(arena: &mut A, start: Place, at: usize, bytes: &
     requires near { start.position < 2 ^ 61 }
     requires few { at < 2 ^ 61 }
     requires one_word { at % 8 + length bytes.now ≤ 8 }
-    ensures sets { SetsBytes (words_in (A.segments arena.old)) (words_in (A.segments arena.new)) start at bytes.now }
-    ensures sizes { map length (words_in (A.segments arena.new)) ≡ map length (words_in (A.segments arena.old)) }
+    ensures sets { SetsBytes (words_in (A.segments arena.old)) (words_in (A.segments arena.new))
+        start at bytes.now }
+    ensures sizes { map length (words_in (A.segments arena.new))
+        ≡ map length (words_in (A.segments arena.old)) }
     ensures books { A.books arena.new ≡ A.books arena.old }
 {
     if bytes.is_empty() {
@@ -77,8 +79,10 @@ fn set_words<A: BuilderArena>(arena: &mut A, start: Place, at: usize, bytes: &[u
     requires near { start.position < 2 ^ 61 }
     requires few { at < 2 ^ 61 }
     requires whole { (at % 8 ≡ 0) × (length bytes.now % 8 ≡ 0) }
-    ensures sets { SetsBytes (words_in (A.segments arena.old)) (words_in (A.segments arena.new)) start at bytes.now }
-    ensures sizes { map length (words_in (A.segments arena.new)) ≡ map length (words_in (A.segments arena.old)) }
+    ensures sets { SetsBytes (words_in (A.segments arena.old)) (words_in (A.segments arena.new))
+        start at bytes.now }
+    ensures sizes { map length (words_in (A.segments arena.new))
+        ≡ map length (words_in (A.segments arena.old)) }
     ensures books { A.books arena.new ≡ A.books arena.old }
 {
     let place = Place {
@@ -95,8 +99,10 @@ fn set_from_word<A: BuilderArena>(arena: &mut A, start: Place, at: usize, bytes:
     requires near { start.position < 2 ^ 61 }
     requires few { at + length bytes.now < 2 ^ 61 }
     requires front { at % 8 ≡ 0 }
-    ensures sets { SetsBytes (words_in (A.segments arena.old)) (words_in (A.segments arena.new)) start at bytes.now }
-    ensures sizes { map length (words_in (A.segments arena.new)) ≡ map length (words_in (A.segments arena.old)) }
+    ensures sets { SetsBytes (words_in (A.segments arena.old)) (words_in (A.segments arena.new))
+        start at bytes.now }
+    ensures sizes { map length (words_in (A.segments arena.new))
+        ≡ map length (words_in (A.segments arena.old)) }
     ensures books { A.books arena.new ≡ A.books arena.old }
 {
     let whole = bytes.len() / 8 * 8;
@@ -105,17 +111,14 @@ fn set_from_word<A: BuilderArena>(arena: &mut A, start: Place, at: usize, bytes:
 }
 
 /// Writes bytes in place of as many of those there, from one on, and answers where they end. The bytes of whole words are written at once.
-pub fn set_bytes<A: BuilderArena>(
-    arena: &mut A,
-    blob: BlobPlace,
-    at: usize,
-    bytes: &[u8],
-) -> usize
+pub fn set_bytes<A: BuilderArena>(arena: &mut A, blob: BlobPlace, at: usize, bytes: &[u8]) -> usize
     requires near { blob.start.position < 2 ^ 61 }
     requires inside { at + length bytes.now ≤ blob.count }
     ensures end { result ≡ at + length bytes.now }
-    ensures sets { SetsBytes (words_in (A.segments arena.old)) (words_in (A.segments arena.new)) blob.start at bytes.now }
-    ensures sizes { map length (words_in (A.segments arena.new)) ≡ map length (words_in (A.segments arena.old)) }
+    ensures sets { SetsBytes (words_in (A.segments arena.old)) (words_in (A.segments arena.new))
+        blob.start at bytes.now }
+    ensures sizes { map length (words_in (A.segments arena.new))
+        ≡ map length (words_in (A.segments arena.old)) }
     ensures books { A.books arena.new ≡ A.books arena.old }
 {
     let start = blob.start;
@@ -132,8 +135,10 @@ pub fn set_bytes<A: BuilderArena>(
 
 /// Writes zeros in place of the bytes of so many words, the first.
 fn zero_front<A: BuilderArena>(arena: &mut A, start: Place, words: usize)
-    ensures sets { SetsBytes (words_in (A.segments arena.old)) (words_in (A.segments arena.new)) start 0 (replicate (8 * words) 0) }
-    ensures sizes { map length (words_in (A.segments arena.new)) ≡ map length (words_in (A.segments arena.old)) }
+    ensures sets { SetsBytes (words_in (A.segments arena.old)) (words_in (A.segments arena.new))
+        start 0 (replicate (8 * words) 0) }
+    ensures sizes { map length (words_in (A.segments arena.new))
+        ≡ map length (words_in (A.segments arena.old)) }
     ensures books { A.books arena.new ≡ A.books arena.old }
 {
     if has_words(arena, start, words) {
@@ -144,8 +149,10 @@ fn zero_front<A: BuilderArena>(arena: &mut A, start: Place, words: usize)
 /// Writes zeros in place of the bytes there.
 pub fn zero_bytes<A: BuilderArena>(arena: &mut A, blob: BlobPlace)
     requires { blob.start.position < 2 ^ 61 }
-    ensures sets { SetsBytes (words_in (A.segments arena.old)) (words_in (A.segments arena.new)) blob.start 0 (replicate blob.count 0) }
-    ensures sizes { map length (words_in (A.segments arena.new)) ≡ map length (words_in (A.segments arena.old)) }
+    ensures sets { SetsBytes (words_in (A.segments arena.old)) (words_in (A.segments arena.new))
+        blob.start 0 (replicate blob.count 0) }
+    ensures sizes { map length (words_in (A.segments arena.new))
+        ≡ map length (words_in (A.segments arena.old)) }
     ensures books { A.books arena.new ≡ A.books arena.old }
 {
     let words = blob.count as usize / 8;

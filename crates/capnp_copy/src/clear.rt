@@ -17,9 +17,12 @@ use capnp_wire::place::{Place, has_words, place_in_word, word_at};
 
 /// Writes zeros over so many words from a place on, where they are there.
 fn zero_there<A: BuilderArena>(arena: &mut A, place: Place, count: usize)
-    ensures words { words_in (A.segments arena.new) ≡ zeroed_there (words_in (A.segments arena.old)) (place_view place) count }
-    ensures sizes { map length (words_in (A.segments arena.new)) ≡ map length (words_in (A.segments arena.old)) }
-    ensures nonzero { nonzero_words (words_in (A.segments arena.new)) ≤ nonzero_words (words_in (A.segments arena.old)) }
+    ensures words { words_in (A.segments arena.new)
+        ≡ zeroed_there (words_in (A.segments arena.old)) (place_view place) count }
+    ensures sizes { map length (words_in (A.segments arena.new))
+        ≡ map length (words_in (A.segments arena.old)) }
+    ensures nonzero { nonzero_words (words_in (A.segments arena.new)) ≤ nonzero_words
+        (words_in (A.segments arena.old)) }
     ensures books { A.books arena.new ≡ A.books arena.old }
 {
     if has_words(arena, place, count) {
@@ -30,9 +33,12 @@ fn zero_there<A: BuilderArena>(arena: &mut A, place: Place, count: usize)
 /// Clears a list of plain elements.
 fn clear_plain<A: BuilderArena>(arena: &mut A, start: Place, size: ElementSize, count: u32)
     requires { size_number size < 6 }
-    ensures clears { ClearsObject (words_in (A.segments arena.old)) (words_in (A.segments arena.new)) (a_list (place_view start) (size_number size) count) }
-    ensures sizes { map length (words_in (A.segments arena.new)) ≡ map length (words_in (A.segments arena.old)) }
-    ensures nonzero { nonzero_words (words_in (A.segments arena.new)) ≤ nonzero_words (words_in (A.segments arena.old)) }
+    ensures clears { ClearsObject (words_in (A.segments arena.old))
+        (words_in (A.segments arena.new)) (a_list (place_view start) (size_number size) count) }
+    ensures sizes { map length (words_in (A.segments arena.new))
+        ≡ map length (words_in (A.segments arena.old)) }
+    ensures nonzero { nonzero_words (words_in (A.segments arena.new)) ≤ nonzero_words
+        (words_in (A.segments arena.old)) }
     ensures books { A.books arena.new ≡ A.books arena.old }
 {
     let words = words_of_elements(size, count) as usize;
@@ -42,9 +48,12 @@ fn clear_plain<A: BuilderArena>(arena: &mut A, start: Place, size: ElementSize, 
 /// Writes null over a pointer that isn't.
 fn write_null<A: BuilderArena>(arena: &mut A, slot: Place)
     requires { 0 < unwrap_or (word_at (words_in (A.segments arena.old)) (place_view slot)) 0 }
-    ensures words { words_in (A.segments arena.new) ≡ with_words (words_in (A.segments arena.old)) (place_view slot) (0 ∷ []) }
-    ensures sizes { map length (words_in (A.segments arena.new)) ≡ map length (words_in (A.segments arena.old)) }
-    ensures fewer { nonzero_words (words_in (A.segments arena.new)) < nonzero_words (words_in (A.segments arena.old)) }
+    ensures words { words_in (A.segments arena.new)
+        ≡ with_words (words_in (A.segments arena.old)) (place_view slot) (0 ∷ []) }
+    ensures sizes { map length (words_in (A.segments arena.new))
+        ≡ map length (words_in (A.segments arena.old)) }
+    ensures fewer { nonzero_words (words_in (A.segments arena.new)) < nonzero_words
+        (words_in (A.segments arena.old)) }
     ensures books { A.books arena.new ≡ A.books arena.old }
 {
     arena.write_word(slot, 0);
@@ -55,9 +64,12 @@ fn write_null<A: BuilderArena>(arena: &mut A, slot: Place)
 /// It takes a step for each pointer that isn't null, and for each pointer of the objects on the way: lists of plain elements and of structs without pointers take one, whatever they count. Each level of pointers takes stack.
 #[cycle(clear)]
 pub fn clear<A: BuilderArena>(arena: &mut A, slot: Place)
-    ensures clears { ClearsValue (words_in (A.segments arena.old)) (words_in (A.segments arena.new)) (place_view slot) }
-    ensures sizes { map length (words_in (A.segments arena.new)) ≡ map length (words_in (A.segments arena.old)) }
-    ensures nonzero { nonzero_words (words_in (A.segments arena.new)) ≤ nonzero_words (words_in (A.segments arena.old)) }
+    ensures clears { ClearsValue (words_in (A.segments arena.old))
+        (words_in (A.segments arena.new)) (place_view slot) }
+    ensures sizes { map length (words_in (A.segments arena.new))
+        ≡ map length (words_in (A.segments arena.old)) }
+    ensures nonzero { nonzero_words (words_in (A.segments arena.new)) ≤ nonzero_words
+        (words_in (A.segments arena.old)) }
     ensures books { A.books arena.new ≡ A.books arena.old }
 {
     let word = word_at(arena, slot).unwrap_or(0);
@@ -75,9 +87,12 @@ pub fn clear<A: BuilderArena>(arena: &mut A, slot: Place)
 /// Clears what an object's pointers name, and then the object's own words. No pointer needs to name the object.
 #[cycle(clear)]
 pub fn clear_object<A: BuilderArena>(arena: &mut A, object: NamedObject)
-    ensures clears { ClearsObject (words_in (A.segments arena.old)) (words_in (A.segments arena.new)) (named_view object) }
-    ensures sizes { map length (words_in (A.segments arena.new)) ≡ map length (words_in (A.segments arena.old)) }
-    ensures nonzero { nonzero_words (words_in (A.segments arena.new)) ≤ nonzero_words (words_in (A.segments arena.old)) }
+    ensures clears { ClearsObject (words_in (A.segments arena.old))
+        (words_in (A.segments arena.new)) (named_view object) }
+    ensures sizes { map length (words_in (A.segments arena.new))
+        ≡ map length (words_in (A.segments arena.old)) }
+    ensures nonzero { nonzero_words (words_in (A.segments arena.new)) ≤ nonzero_words
+        (words_in (A.segments arena.old)) }
     ensures books { A.books arena.new ≡ A.books arena.old }
 {
     match object {
@@ -98,9 +113,12 @@ pub fn clear_object<A: BuilderArena>(arena: &mut A, object: NamedObject)
 /// The same of a list.
 #[cycle(clear)]
 fn clear_list<A: BuilderArena>(arena: &mut A, start: Place, size: ElementSize, count: u32)
-    ensures clears { ClearsObject (words_in (A.segments arena.old)) (words_in (A.segments arena.new)) (a_list (place_view start) (size_number size) count) }
-    ensures sizes { map length (words_in (A.segments arena.new)) ≡ map length (words_in (A.segments arena.old)) }
-    ensures nonzero { nonzero_words (words_in (A.segments arena.new)) ≤ nonzero_words (words_in (A.segments arena.old)) }
+    ensures clears { ClearsObject (words_in (A.segments arena.old))
+        (words_in (A.segments arena.new)) (a_list (place_view start) (size_number size) count) }
+    ensures sizes { map length (words_in (A.segments arena.new))
+        ≡ map length (words_in (A.segments arena.old)) }
+    ensures nonzero { nonzero_words (words_in (A.segments arena.new)) ≤ nonzero_words
+        (words_in (A.segments arena.old)) }
     ensures books { A.books arena.new ≡ A.books arena.old }
 {
     match size {
@@ -124,9 +142,12 @@ fn clear_list<A: BuilderArena>(arena: &mut A, start: Place, size: ElementSize, c
 /// Clears the pointers of a struct, where its words are there.
 #[cycle(clear)]
 fn clear_kids<A: BuilderArena>(arena: &mut A, start: Place, data_words: u16, pointers: u32)
-    ensures clears { ClearsKids (words_in (A.segments arena.old)) (words_in (A.segments arena.new)) (place_view start) data_words pointers }
-    ensures sizes { map length (words_in (A.segments arena.new)) ≡ map length (words_in (A.segments arena.old)) }
-    ensures nonzero { nonzero_words (words_in (A.segments arena.new)) ≤ nonzero_words (words_in (A.segments arena.old)) }
+    ensures clears { ClearsKids (words_in (A.segments arena.old))
+        (words_in (A.segments arena.new)) (place_view start) data_words pointers }
+    ensures sizes { map length (words_in (A.segments arena.new))
+        ≡ map length (words_in (A.segments arena.old)) }
+    ensures nonzero { nonzero_words (words_in (A.segments arena.new)) ≤ nonzero_words
+        (words_in (A.segments arena.old)) }
     ensures books { A.books arena.new ≡ A.books arena.old }
 {
     if pointers == 0 {
@@ -147,9 +168,12 @@ fn clear_kids<A: BuilderArena>(arena: &mut A, start: Place, data_words: u16, poi
 /// Clears the pointers of a list's structs, where the list is there. The list begins at its tag, and its pointer claims so many words behind it.
 #[cycle(clear)]
 fn clear_elements<A: BuilderArena>(arena: &mut A, start: Place, words: u32)
-    ensures clears { ClearsElements (words_in (A.segments arena.old)) (words_in (A.segments arena.new)) (place_view start) words }
-    ensures sizes { map length (words_in (A.segments arena.new)) ≡ map length (words_in (A.segments arena.old)) }
-    ensures nonzero { nonzero_words (words_in (A.segments arena.new)) ≤ nonzero_words (words_in (A.segments arena.old)) }
+    ensures clears { ClearsElements (words_in (A.segments arena.old))
+        (words_in (A.segments arena.new)) (place_view start) words }
+    ensures sizes { map length (words_in (A.segments arena.new))
+        ≡ map length (words_in (A.segments arena.old)) }
+    ensures nonzero { nonzero_words (words_in (A.segments arena.new)) ≤ nonzero_words
+        (words_in (A.segments arena.old)) }
     ensures books { A.books arena.new ≡ A.books arena.old }
 {
     let list = NamedObject::List {

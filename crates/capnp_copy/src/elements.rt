@@ -43,7 +43,8 @@ fn bit_of_element(list: ListPlace, index: u32, width: u32) -> usize
 pub fn get_element<A: ReaderArena>(arena: &A, list: ListPlace, index: u32, width: u32) -> u64
     requires near { list.start.position < 2 ^ 61 }
     requires inside { IsInElement list index width }
-    ensures { HasElement (words_in (A.segments arena.now)) list index width (λ bits. result ≡ bits) }
+    ensures { HasElement (words_in (A.segments arena.now)) list index
+        width (λ bits. result ≡ bits) }
 {
     if width == 0 {
         return 0;
@@ -70,8 +71,10 @@ pub fn set_element<A: BuilderArena>(
     requires near { list.start.position < 2 ^ 61 }
     requires inside { IsInElement list index width }
     requires fits { value < 2 ^ width }
-    ensures sets { SetsElement (words_in (A.segments arena.old)) (words_in (A.segments arena.new)) list index width value }
-    ensures sizes { map length (words_in (A.segments arena.new)) ≡ map length (words_in (A.segments arena.old)) }
+    ensures sets { SetsElement (words_in (A.segments arena.old)) (words_in (A.segments arena.new))
+        list index width value }
+    ensures sizes { map length (words_in (A.segments arena.new))
+        ≡ map length (words_in (A.segments arena.old)) }
     ensures books { A.books arena.new ≡ A.books arena.old }
 {
     if width == 0 {

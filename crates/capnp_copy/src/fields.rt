@@ -51,12 +51,15 @@ pub fn set_bits<A: BuilderArena>(
     width: u32,
     value: u64,
 )
-    requires there { is_some (words_at (words_in (A.segments arena.old)) (place_view object.start) object.data_words) ≡ true }
+    requires there { is_some (words_at (words_in (A.segments arena.old)) (place_view object.start)
+        object.data_words) ≡ true }
     requires near { object.start.position < 2 ^ 61 }
     requires inside { AreInWord object at width }
     requires fits { value < 2 ^ width }
-    ensures sets { SetsBits (words_in (A.segments arena.old)) (words_in (A.segments arena.new)) object at width value }
-    ensures sizes { map length (words_in (A.segments arena.new)) ≡ map length (words_in (A.segments arena.old)) }
+    ensures sets { SetsBits (words_in (A.segments arena.old)) (words_in (A.segments arena.new))
+        object at width value }
+    ensures sizes { map length (words_in (A.segments arena.new))
+        ≡ map length (words_in (A.segments arena.old)) }
     ensures books { A.books arena.new ≡ A.books arena.old }
 {
     let place = Place {

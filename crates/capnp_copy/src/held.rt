@@ -37,10 +37,13 @@ impl<S: SegmentBytes> Held<S> {
     /// Uses so many words more, where there are as many, and answers the position of the first.
     #[tactic(auto, using(crate::proofs::Zeros::zero_from_more))]
     pub fn grow(&mut self, words: u32) -> Option<u32>
-        ensures some { IfSome result (λ at. (at ≡ self.old.used) × (self.new.used ≡ self.old.used + words)) }
+        ensures some { IfSome result (λ at.
+            (at ≡ self.old.used) × (self.new.used ≡ self.old.used + words)) }
         ensures segment { self.new.segment ≡ self.old.segment }
         ensures none { IfNone result (self.new ≡ self.old) }
-        ensures full { IfNone result ((length (S.bytes self.old.segment) / 8 < self.old.used + words) ⊎ (2 ^ 32 ≤ self.old.used + words)) }
+        ensures full { IfNone result
+            ((length (S.bytes self.old.segment) / 8 < self.old.used + words)
+            ⊎ (2 ^ 32 ≤ self.old.used + words)) }
     {
         let used = self.used;
         let room = {
@@ -62,7 +65,8 @@ impl<S: SegmentBytes> Held<S> {
     pub fn write(&mut self, position: usize, from: &[u8])
         requires { 8 * position + length from.now ≤ 8 * self.old.used }
         ensures used { self.new.used ≡ self.old.used }
-        ensures bytes { S.bytes self.new.segment ≡ overwritten (8 * position) from.now (S.bytes self.old.segment) }
+        ensures bytes { S.bytes self.new.segment
+            ≡ overwritten (8 * position) from.now (S.bytes self.old.segment) }
         ensures loans { S.loans self.new.segment ≡ S.loans self.old.segment }
     {
         let segment = &mut self.segment;
@@ -74,7 +78,8 @@ impl<S: SegmentBytes> Held<S> {
     pub fn zero(&mut self, position: usize, count: usize)
         requires { position + count ≤ self.old.used }
         ensures used { self.new.used ≡ self.old.used }
-        ensures bytes { S.bytes self.new.segment ≡ overwritten (8 * position) (replicate (8 * count) 0) (S.bytes self.old.segment) }
+        ensures bytes { S.bytes self.new.segment
+            ≡ overwritten (8 * position) (replicate (8 * count) 0) (S.bytes self.old.segment) }
         ensures loans { S.loans self.new.segment ≡ S.loans self.old.segment }
     {
         let segment = &mut self.segment;

@@ -44,17 +44,28 @@ fn init_zeros<A: BuilderArena>(
     words: u32,
     pointer: u64,
 ) -> Result<Place>
-    requires there { is_some (words_at (words_in (A.segments arena.old)) (place_view slot) 1) ≡ true }
+    requires there { is_some (words_at (words_in (A.segments arena.old)) (place_view slot) 1)
+        ≡ true }
     requires near { slot.position < 2 ^ 61 }
     requires few { words ≤ 2 ^ 29 }
     requires offset { pointer < 2 ^ 64 - 2 ^ 32 + 4 }
-    ensures value { IfOk result (λ r. BecomesZeros (words_in (A.segments arena.old)) (words_in (A.segments arena.new)) (place_view slot) words pointer) }
-    ensures object { IfOk result (λ r. LeadsToZeros (words_in (A.segments arena.new)) (place_view slot) (place_view r) words pointer) }
-    ensures there { IfOk result (λ r. is_some (words_at (words_in (A.segments arena.new)) (place_view r) words) ≡ true) }
+    ensures value { IfOk result (λ r.
+        BecomesZeros (words_in (A.segments arena.old)) (words_in (A.segments arena.new))
+        (place_view slot) words pointer) }
+    ensures object { IfOk result (λ r.
+        LeadsToZeros (words_in (A.segments arena.new)) (place_view slot) (place_view r) words
+        pointer) }
+    ensures there { IfOk result (λ r.
+        is_some (words_at (words_in (A.segments arena.new)) (place_view r) words) ≡ true) }
     ensures near { IfOk result (λ r. r.position + words < 2 ^ 61) }
-    ensures taken { OnOk result (TakesJust (words_in (A.segments arena.old)) (A.room arena.old) (words_in (A.segments arena.new)) slot.segment words) }
+    ensures taken { OnOk result
+        (TakesJust (words_in (A.segments arena.old)) (A.room arena.old)
+        (words_in (A.segments arena.new)) slot.segment words) }
     ensures refused { OnErr result (A.segments arena.new ≡ A.segments arena.old) }
-    ensures kind { IfErr result (λ e. (0 < words) × ((e.kind ≡ SizeOverflow) ↔ (2 ^ 29 ≤ total_words (words_in (A.segments arena.old)) + (words + 1)))) }
+    ensures kind { IfErr result (λ e.
+        (0 < words)
+        × ((e.kind ≡ SizeOverflow)
+        ↔ (2 ^ 29 ≤ total_words (words_in (A.segments arena.old)) + (words + 1)))) }
     ensures books { A.books arena.new ≡ A.books arena.old }
 {
     let room = allocate_near(arena, slot, words)?;
@@ -71,16 +82,28 @@ pub fn init_struct<A: BuilderArena>(
     slot: Place,
     size: StructSize,
 ) -> Result<StructPlace>
-    requires there { is_some (words_at (words_in (A.segments arena.old)) (place_view slot) 1) ≡ true }
+    requires there { is_some (words_at (words_in (A.segments arena.old)) (place_view slot) 1)
+        ≡ true }
     requires near { slot.position < 2 ^ 61 }
-    ensures value { IfOk result (λ o. Becomes (words_in (A.segments arena.old)) (words_in (A.segments arena.new)) (place_view slot) (structure size.data_words 0 (resized size.pointers none))) }
-    ensures object { IfOk result (λ o. LeadsTo (words_in (A.segments arena.new)) (place_view slot) (struct_at o)) }
-    ensures size { IfOk result (λ o. (o.data_words ≡ size.data_words) × (o.pointers ≡ size.pointers)) }
-    ensures there { IfOk result (λ o. is_some (words_at (words_in (A.segments arena.new)) (place_view o.start) (o.data_words + o.pointers)) ≡ true) }
+    ensures value { IfOk result (λ o.
+        Becomes (words_in (A.segments arena.old)) (words_in (A.segments arena.new))
+        (place_view slot) (structure size.data_words 0 (resized size.pointers none))) }
+    ensures object { IfOk result (λ o.
+        LeadsTo (words_in (A.segments arena.new)) (place_view slot) (struct_at o)) }
+    ensures size { IfOk result (λ o.
+        (o.data_words ≡ size.data_words) × (o.pointers ≡ size.pointers)) }
+    ensures there { IfOk result (λ o.
+        is_some (words_at (words_in (A.segments arena.new)) (place_view o.start)
+        (o.data_words + o.pointers)) ≡ true) }
     ensures near { IfOk result (λ o. o.start.position + (o.data_words + o.pointers) < 2 ^ 61) }
-    ensures taken { OnOk result (TakesJust (words_in (A.segments arena.old)) (A.room arena.old) (words_in (A.segments arena.new)) slot.segment (size.data_words + size.pointers)) }
+    ensures taken { OnOk result
+        (TakesJust (words_in (A.segments arena.old)) (A.room arena.old)
+        (words_in (A.segments arena.new)) slot.segment (size.data_words + size.pointers)) }
     ensures refused { OnErr result (A.segments arena.new ≡ A.segments arena.old) }
-    ensures kind { IfErr result (λ e. (e.kind ≡ SizeOverflow) ↔ (2 ^ 29 ≤ total_words (words_in (A.segments arena.old)) + (size.data_words + size.pointers + 1))) }
+    ensures kind { IfErr result (λ e.
+        (e.kind ≡ SizeOverflow)
+        ↔ (2 ^ 29 ≤ total_words (words_in (A.segments arena.old)) +
+        (size.data_words + size.pointers + 1))) }
     ensures books { A.books arena.new ≡ A.books arena.old }
 {
     let start = init_zeros(arena, slot, size.total(), struct_word(size))?;
@@ -114,17 +137,30 @@ pub fn init_list<A: BuilderArena>(
     size: ElementSize,
     count: u32,
 ) -> Result<ListPlace>
-    requires there { is_some (words_at (words_in (A.segments arena.old)) (place_view slot) 1) ≡ true }
+    requires there { is_some (words_at (words_in (A.segments arena.old)) (place_view slot) 1)
+        ≡ true }
     requires near { slot.position < 2 ^ 61 }
     requires plain { size_number size < 7 }
-    ensures value { IfOk result (λ o. Becomes (words_in (A.segments arena.old)) (words_in (A.segments arena.new)) (place_view slot) (new_tree (zeros_of (size_number size) count))) }
-    ensures object { IfOk result (λ o. LeadsTo (words_in (A.segments arena.new)) (place_view slot) (list_at o)) }
+    ensures value { IfOk result (λ o.
+        Becomes (words_in (A.segments arena.old)) (words_in (A.segments arena.new))
+        (place_view slot) (new_tree (zeros_of (size_number size) count))) }
+    ensures object { IfOk result (λ o.
+        LeadsTo (words_in (A.segments arena.new)) (place_view slot) (list_at o)) }
     ensures list { IfOk result (λ o. (o.size ≡ size) × (o.claimed ≡ count) × (o.count ≡ count)) }
-    ensures there { IfOk result (λ o. is_some (words_at (words_in (A.segments arena.new)) (place_view o.start) (words_of (size_number size) count)) ≡ true) }
-    ensures near { IfOk result (λ o. o.start.position + words_of (size_number size) count < 2 ^ 61) }
-    ensures taken { OnOk result (TakesJust (words_in (A.segments arena.old)) (A.room arena.old) (words_in (A.segments arena.new)) slot.segment (words_of (size_number size) count)) }
+    ensures there { IfOk result (λ o.
+        is_some (words_at (words_in (A.segments arena.new)) (place_view o.start)
+        (words_of (size_number size) count)) ≡ true) }
+    ensures near { IfOk result (λ o.
+        o.start.position + words_of (size_number size) count < 2 ^ 61) }
+    ensures taken { OnOk result
+        (TakesJust (words_in (A.segments arena.old)) (A.room arena.old)
+        (words_in (A.segments arena.new)) slot.segment (words_of (size_number size) count)) }
     ensures refused { OnErr result (A.segments arena.new ≡ A.segments arena.old) }
-    ensures kind { IfErr result (λ e. (e.kind ≡ SizeOverflow) ↔ ((2 ^ 29 ≤ count) ⊎ (2 ^ 29 ≤ total_words (words_in (A.segments arena.old)) + (words_of (size_number size) count + 1)))) }
+    ensures kind { IfErr result (λ e.
+        (e.kind ≡ SizeOverflow)
+        ↔ ((2 ^ 29 ≤ count)
+        ⊎ (2 ^ 29 ≤ total_words (words_in (A.segments arena.old)) +
+        (words_of (size_number size) count + 1)))) }
     ensures books { A.books arena.new ≡ A.books arena.old }
 {
     if count > MOST_WORDS {

@@ -11,9 +11,12 @@ use capnp_footprints::laws::{children_of_structs, objects_of_pointers};
 
 /// What is done to the object of a struct's pointer is done to the value that the pointer to the struct has, whether near or far.
 pub fn changes_two_pointers_deep()
-    ensures { (n : ℕ) (s u : Segments) (p q : Place) (pads d k i w section : ℕ) (kids : Trees) (inner : Found) (v : Tree)
-        → found_at s p ≡ Ok (record { pads = pads; object = a_struct q d k }) → i < k → found_at s (after (after q d) i) ≡ Ok inner
-        → Owns (suc (suc n)) s p (structure w section kids) → ReplacesObject n s u inner.object v → Replaces (suc (suc n)) s u p (structure w section (with_child kids i v)) }
+    ensures { (n : ℕ) (s u : Segments) (p q : Place) (pads d k i w section : ℕ) (kids : Trees)
+        (inner : Found) (v : Tree)
+        → found_at s p ≡ Ok (record { pads = pads; object = a_struct q d k }) → i < k
+        → found_at s (after (after q d) i) ≡ Ok inner
+        → Owns (suc (suc n)) s p (structure w section kids) → ReplacesObject n s u inner.object v
+        → Replaces (suc (suc n)) s u p (structure w section (with_child kids i v)) }
 {
     objects_of_pointers();
     children_of_structs();
@@ -21,5 +24,6 @@ pub fn changes_two_pointers_deep()
 
 /// What is there stays there where no segment changes its length.
 pub fn words_that_stay()
-    ensures { (s u : Segments) (p : Place) (n : ℕ) → map length u ≡ map length s → is_some (words_at s p n) ≡ true → is_some (words_at u p n) ≡ true }
+    ensures { (s u : Segments) (p : Place) (n : ℕ) → map length u ≡ map length s
+        → is_some (words_at s p n) ≡ true → is_some (words_at u p n) ≡ true }
 {}

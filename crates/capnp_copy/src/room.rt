@@ -65,10 +65,16 @@ pub fn list_word(size: ElementSize, count: u32) -> u64
 pub fn allocate_near<A: BuilderArena>(arena: &mut A, slot: Place, words: u32) -> Result<Room>
     requires there { is_some (word_at (words_in (A.segments arena.old)) (place_view slot)) ≡ true }
     requires few { words ≤ 2 ^ 29 }
-    ensures ok { IfOk result (RoomFor (words_in (A.segments arena.old)) (words_in (A.segments arena.new)) (place_view slot) words) }
-    ensures near { IfOk result (IsNearWhereRoom (words_in (A.segments arena.old)) (A.room arena.old) slot.segment words) }
+    ensures ok { IfOk result
+        (RoomFor (words_in (A.segments arena.old)) (words_in (A.segments arena.new))
+        (place_view slot) words) }
+    ensures near { IfOk result
+        (IsNearWhereRoom (words_in (A.segments arena.old)) (A.room arena.old) slot.segment words) }
     ensures refused { OnErr result (A.segments arena.new ≡ A.segments arena.old) }
-    ensures kind { IfErr result (λ e. (0 < words) × ((e.kind ≡ SizeOverflow) ↔ (2 ^ 29 ≤ total_words (words_in (A.segments arena.old)) + (words + 1)))) }
+    ensures kind { IfErr result (λ e.
+        (0 < words)
+        × ((e.kind ≡ SizeOverflow)
+        ↔ (2 ^ 29 ≤ total_words (words_in (A.segments arena.old)) + (words + 1)))) }
     ensures books { A.books arena.new ≡ A.books arena.old }
 {
     if words == 0 {
@@ -123,7 +129,8 @@ fn slot_word(room: Room, pointer: u64) -> u64
 /// Writes the pad, where there is one.
 fn write_pad<A: BuilderArena>(arena: &mut A, room: Room, pointer: u64)
     requires { HasPad (words_in (A.segments arena.old)) room }
-    ensures words { words_in (A.segments arena.new) ≡ with_pad (words_in (A.segments arena.old)) room pointer }
+    ensures words { words_in (A.segments arena.new)
+        ≡ with_pad (words_in (A.segments arena.old)) room pointer }
     ensures books { A.books arena.new ≡ A.books arena.old }
 {
     if let Room::Far { pad } = room {
@@ -133,11 +140,13 @@ fn write_pad<A: BuilderArena>(arena: &mut A, room: Room, pointer: u64)
 
 /// Writes the pad, where there is one, and then the pointer, whose word is told with offset 0.
 pub fn link<A: BuilderArena>(arena: &mut A, slot: Place, room: Room, pointer: u64)
-    requires slot { is_some (words_at (words_in (A.segments arena.old)) (place_view slot) 1) ≡ true }
+    requires slot { is_some (words_at (words_in (A.segments arena.old)) (place_view slot) 1)
+        ≡ true }
     requires pad { HasPad (words_in (A.segments arena.old)) room }
     requires room { IsAddressed room }
     requires offset { pointer < 2 ^ 64 - 2 ^ 32 + 4 }
-    ensures words { words_in (A.segments arena.new) ≡ linked (words_in (A.segments arena.old)) (place_view slot) room pointer }
+    ensures words { words_in (A.segments arena.new)
+        ≡ linked (words_in (A.segments arena.old)) (place_view slot) room pointer }
     ensures books { A.books arena.new ≡ A.books arena.old }
 {
     write_pad(arena, room, pointer);

@@ -27,7 +27,9 @@ use capnp_wire::place::Place;
 pub fn words_of_structs(count: u32, size: StructSize) -> Result<u32>
     ensures words { IfOk result (λ n. n ≡ count * (size.data_words + size.pointers)) }
     ensures few { IfOk result (λ n. (n < 2 ^ 29) × (count < 2 ^ 29)) }
-    ensures kind { IfErr result (λ e. (e.kind ≡ SizeOverflow) × ((2 ^ 29 ≤ count) ⊎ (2 ^ 29 ≤ count * (size.data_words + size.pointers)))) }
+    ensures kind { IfErr result (λ e.
+        (e.kind ≡ SizeOverflow)
+        × ((2 ^ 29 ≤ count) ⊎ (2 ^ 29 ≤ count * (size.data_words + size.pointers)))) }
 {
     let words = count as u64 * size.total() as u64;
     if count > MOST_WORDS || words > MOST_WORDS as u64 {
@@ -54,16 +56,32 @@ pub fn init_struct_list<A: BuilderArena>(
     count: u32,
     size: StructSize,
 ) -> Result<ListPlace>
-    requires there { is_some (words_at (words_in (A.segments arena.old)) (place_view slot) 1) ≡ true }
+    requires there { is_some (words_at (words_in (A.segments arena.old)) (place_view slot) 1)
+        ≡ true }
     requires near { slot.position < 2 ^ 61 }
-    ensures value { IfOk result (λ o. Becomes (words_in (A.segments arena.old)) (words_in (A.segments arena.new)) (place_view slot) (struct_list size.data_words size.pointers (zero_elements count size.pointers))) }
-    ensures object { IfOk result (λ o. LeadsTo (words_in (A.segments arena.new)) (place_view slot) (list_at o)) }
-    ensures list { IfOk result (λ o. (size_number o.size ≡ 7) × (o.claimed ≡ count * (size.data_words + size.pointers)) × (o.count ≡ count) × (o.data_words ≡ size.data_words) × (o.pointers ≡ size.pointers)) }
-    ensures there { IfOk result (λ o. is_some (words_at (words_in (A.segments arena.new)) (place_view o.start) (1 + o.claimed)) ≡ true) }
+    ensures value { IfOk result (λ o.
+        Becomes (words_in (A.segments arena.old)) (words_in (A.segments arena.new))
+        (place_view slot)
+        (struct_list size.data_words size.pointers (zero_elements count size.pointers))) }
+    ensures object { IfOk result (λ o.
+        LeadsTo (words_in (A.segments arena.new)) (place_view slot) (list_at o)) }
+    ensures list { IfOk result (λ o.
+        (size_number o.size ≡ 7) × (o.claimed ≡ count * (size.data_words + size.pointers))
+        × (o.count ≡ count) × (o.data_words ≡ size.data_words) × (o.pointers ≡ size.pointers)) }
+    ensures there { IfOk result (λ o.
+        is_some (words_at (words_in (A.segments arena.new)) (place_view o.start) (1 + o.claimed))
+        ≡ true) }
     ensures near { IfOk result (λ o. o.start.position + (1 + o.claimed) < 2 ^ 61) }
-    ensures taken { OnOk result (TakesJust (words_in (A.segments arena.old)) (A.room arena.old) (words_in (A.segments arena.new)) slot.segment (1 + count * (size.data_words + size.pointers))) }
+    ensures taken { OnOk result
+        (TakesJust (words_in (A.segments arena.old)) (A.room arena.old)
+        (words_in (A.segments arena.new)) slot.segment
+        (1 + count * (size.data_words + size.pointers))) }
     ensures refused { OnErr result (A.segments arena.new ≡ A.segments arena.old) }
-    ensures kind { IfErr result (λ e. (e.kind ≡ SizeOverflow) ↔ ((2 ^ 29 ≤ count) ⊎ (2 ^ 29 ≤ count * (size.data_words + size.pointers)) ⊎ (2 ^ 29 ≤ total_words (words_in (A.segments arena.old)) + (count * (size.data_words + size.pointers) + 2)))) }
+    ensures kind { IfErr result (λ e.
+        (e.kind ≡ SizeOverflow)
+        ↔ ((2 ^ 29 ≤ count) ⊎ (2 ^ 29 ≤ count * (size.data_words + size.pointers))
+        ⊎ (2 ^ 29 ≤ total_words (words_in (A.segments arena.old)) +
+        (count * (size.data_words + size.pointers) + 2)))) }
     ensures books { A.books arena.new ≡ A.books arena.old }
 {
     let words = words_of_structs(count, size)?;

@@ -20,11 +20,14 @@ use capnp_wire::place::Place;
 
 /// Writes bytes over a struct's data, and zeros behind them.
 fn write_data<A: BuilderArena>(arena: &mut A, object: StructPlace, bytes: &[u8])
-    requires there { is_some (words_at (words_in (A.segments arena.old)) (place_view object.start) object.data_words) ≡ true }
+    requires there { is_some (words_at (words_in (A.segments arena.old)) (place_view object.start)
+        object.data_words) ≡ true }
     requires near { object.start.position + object.data_words < 2 ^ 61 }
     requires fit { length bytes.now ≤ 8 * object.data_words }
-    ensures section { SetsSection (words_in (A.segments arena.old)) (words_in (A.segments arena.new)) object (number_of 8 bytes.now) }
-    ensures sizes { map length (words_in (A.segments arena.new)) ≡ map length (words_in (A.segments arena.old)) }
+    ensures section { SetsSection (words_in (A.segments arena.old))
+        (words_in (A.segments arena.new)) object (number_of 8 bytes.now) }
+    ensures sizes { map length (words_in (A.segments arena.new))
+        ≡ map length (words_in (A.segments arena.old)) }
     ensures books { A.books arena.new ≡ A.books arena.old }
 {
     let words = (bytes.len() + 7) / 8;
@@ -40,8 +43,10 @@ fn write_data<A: BuilderArena>(arena: &mut A, object: StructPlace, bytes: &[u8])
 fn clear_rest<A: BuilderArena>(arena: &mut A, object: StructPlace, kept: u16)
     requires near { object.start.position + (object.data_words + object.pointers) < 2 ^ 61 }
     requires few { kept ≤ object.pointers }
-    ensures rest { ClearsRest (words_in (A.segments arena.old)) (words_in (A.segments arena.new)) object kept }
-    ensures sizes { map length (words_in (A.segments arena.new)) ≡ map length (words_in (A.segments arena.old)) }
+    ensures rest { ClearsRest (words_in (A.segments arena.old)) (words_in (A.segments arena.new))
+        object kept }
+    ensures sizes { map length (words_in (A.segments arena.new))
+        ≡ map length (words_in (A.segments arena.old)) }
     ensures books { A.books arena.new ≡ A.books arena.old }
 {
     for i in kept..object.pointers {
@@ -66,11 +71,14 @@ pub fn copy_content_from<A: BuilderArena, B: ReaderArena>(
     pointers: u16,
     levels: u32,
 ) -> Result<()>
-    requires there { is_some (words_at (words_in (A.segments arena.old)) (place_view object.start) (object.data_words + object.pointers)) ≡ true }
+    requires there { is_some (words_at (words_in (A.segments arena.old)) (place_view object.start)
+        (object.data_words + object.pointers)) ≡ true }
     requires near { object.start.position + (object.data_words + object.pointers) < 2 ^ 61 }
     requires source_near { first.position + pointers < 2 ^ 62 }
-    ensures content { CopiesContent levels (words_in (B.segments source.now)) (struct_source section.now first pointers)
-        (words_in (A.segments arena.old)) (words_in (A.segments arena.new)) object limiter.old result limiter.new }
+    ensures content { CopiesContent levels (words_in (B.segments source.now))
+        (struct_source section.now first pointers)
+        (words_in (A.segments arena.old)) (words_in (A.segments arena.new)) object limiter.old
+        result limiter.new }
     ensures books { A.books arena.new ≡ A.books arena.old }
 {
     let bytes = section.len().min(8 * object.data_words as usize);

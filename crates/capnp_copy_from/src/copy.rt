@@ -39,7 +39,8 @@ pub fn copy_from<A: BuilderArena, B: ReaderArena>(
     place: Place,
     levels: u32,
 ) -> Result<()>
-    requires there { is_some (words_at (words_in (A.segments arena.old)) (place_view slot) 1) ≡ true }
+    requires there { is_some (words_at (words_in (A.segments arena.old)) (place_view slot) 1)
+        ≡ true }
     requires near { slot.position < 2 ^ 61 }
     ensures copy { CopiesValue levels (words_in (B.segments source.now)) (place_view place)
         (words_in (A.segments arena.old)) (words_in (A.segments arena.new)) (place_view slot)
@@ -57,10 +58,13 @@ pub fn copy_from<A: BuilderArena, B: ReaderArena>(
 
 /// Clears the pointer at a place and writes a capability over it, where the object is one.
 fn put_leaf<A: BuilderArena>(arena: &mut A, slot: Place, object: Object)
-    requires there { is_some (words_at (words_in (A.segments arena.old)) (place_view slot) 1) ≡ true }
+    requires there { is_some (words_at (words_in (A.segments arena.old)) (place_view slot) 1)
+        ≡ true }
     requires leaf { is_leaf object ≡ true }
-    ensures becomes { BecomesCopy 0 (words_in (A.segments arena.old)) (words_in (A.segments arena.new)) (place_view slot) (leaf_value object) }
-    ensures sizes { map length (words_in (A.segments arena.new)) ≡ map length (words_in (A.segments arena.old)) }
+    ensures becomes { BecomesCopy 0 (words_in (A.segments arena.old))
+        (words_in (A.segments arena.new)) (place_view slot) (leaf_value object) }
+    ensures sizes { map length (words_in (A.segments arena.new))
+        ≡ map length (words_in (A.segments arena.old)) }
     ensures books { A.books arena.new ≡ A.books arena.old }
 {
     clear(arena, slot);
@@ -83,10 +87,12 @@ pub fn copy_object<A: BuilderArena, B: ReaderArena>(
     object: Object,
     levels: u32,
 ) -> Result<()>
-    requires there { is_some (words_at (words_in (A.segments arena.old)) (place_view slot) 1) ≡ true }
+    requires there { is_some (words_at (words_in (A.segments arena.old)) (place_view slot) 1)
+        ≡ true }
     requires near { slot.position < 2 ^ 61 }
     requires inside { IsInside (words_in (B.segments source.now)) object }
-    ensures copy { CopiesObject levels (words_in (B.segments source.now)) object (words_in (A.segments arena.old))
+    ensures copy { CopiesObject levels (words_in (B.segments source.now)) object
+        (words_in (A.segments arena.old))
         (words_in (A.segments arena.new)) (place_view slot) limiter.old result limiter.new }
     ensures books { A.books arena.new ≡ A.books arena.old }
 {
@@ -119,11 +125,19 @@ fn fill<A: BuilderArena, B: ReaderArena>(
     object: Object,
     levels: u32,
 ) -> Result<()>
-    requires zeros { words_at (words_in (A.segments arena.old)) (place_view start) (copied_words object) ≡ Some (replicate (copied_words object) 0) }
+    requires zeros { words_at (words_in (A.segments arena.old)) (place_view start)
+        (copied_words object) ≡ Some (replicate (copied_words object) 0) }
     requires near { start.position + copied_words object < 2 ^ 61 }
     requires few { most_counted object < 2 ^ 29 }
     requires inside { IsInside (words_in (B.segments source.now)) object }
-    ensures copy { let from = words_in (B.segments source.now) in let s = words_in (A.segments arena.old) in let u = words_in (A.segments arena.new) in let r = place_view start in CopyGives from (tree_in from (tree_at levels from) object) (met_in (visits levels from) object) (λ v. (n : ℕ) → levels ≤ n → Fills n s u r (copied_words object) (copied_at r object) v) ((t : Tree) × Fills levels s u r (copied_words object) (copied_at r object) t) s u limiter.old result limiter.new }
+    ensures copy { let from = words_in (B.segments source.now) in
+        let s = words_in (A.segments arena.old) in let u = words_in (A.segments arena.new) in
+        let r = place_view start in
+        CopyGives from (tree_in from (tree_at levels from) object)
+        (met_in (visits levels from) object) (λ v.
+        (n : ℕ) → levels ≤ n → Fills n s u r (copied_words object) (copied_at r object) v)
+        ((t : Tree) × Fills levels s u r (copied_words object) (copied_at r object) t) s u
+        limiter.old result limiter.new }
     ensures books { A.books arena.new ≡ A.books arena.old }
 {
     match object {
@@ -174,9 +188,16 @@ pub(crate) fn fill_row<A: BuilderArena, B: ReaderArena>(
     first: Place,
     levels: u32,
 ) -> Result<()>
-    requires there { is_some (words_at (words_in (A.segments arena.old)) (place_view start) (data_words + count)) ≡ true }
-    requires near { (start.position + (data_words + count) < 2 ^ 61) × (first.position + count < 2 ^ 62) }
-    ensures copy { let from = words_in (B.segments source.now) in let s = words_in (A.segments arena.old) in let u = words_in (A.segments arena.new) in let r = place_view start in let p = place_view first in CopyGives from (each (tree_at levels from) p count) (from_each (visits levels from) p count) (FillsRow levels s u r data_words count) (LeavesRow levels from p s u r data_words count) s u limiter.old result limiter.new }
+    requires there { is_some (words_at (words_in (A.segments arena.old)) (place_view start)
+        (data_words + count)) ≡ true }
+    requires near { (start.position + (data_words + count) < 2 ^ 61)
+        × (first.position + count < 2 ^ 62) }
+    ensures copy { let from = words_in (B.segments source.now) in
+        let s = words_in (A.segments arena.old) in let u = words_in (A.segments arena.new) in
+        let r = place_view start in let p = place_view first in
+        CopyGives from (each (tree_at levels from) p count)
+        (from_each (visits levels from) p count) (FillsRow levels s u r data_words count)
+        (LeavesRow levels from p s u r data_words count) s u limiter.old result limiter.new }
     ensures books { A.books arena.new ≡ A.books arena.old }
 {
     for i in 0..count {
@@ -205,10 +226,18 @@ fn fill_struct<A: BuilderArena, B: ReaderArena>(
     pointers: u16,
     levels: u32,
 ) -> Result<()>
-    requires there { is_some (words_at (words_in (A.segments arena.old)) (place_view start) (data_words + pointers)) ≡ true }
+    requires there { is_some (words_at (words_in (A.segments arena.old)) (place_view start)
+        (data_words + pointers)) ≡ true }
     requires near { start.position + (data_words + pointers) < 2 ^ 61 }
-    requires inside { AreThere (words_in (B.segments source.now)) (place_view from) (data_words + pointers) }
-    ensures copy { let b = words_in (B.segments source.now) in let s = words_in (A.segments arena.old) in let u = words_in (A.segments arena.new) in let r = place_view start in let p = place_view from in CopyGives b (each (tree_at levels b) (after p data_words) pointers) (from_each (visits levels b) (after p data_words) pointers) (FillsStruct levels s u r data_words pointers (section_at b p data_words)) (LeavesStruct levels s u r data_words pointers) s u limiter.old result limiter.new }
+    requires inside { AreThere (words_in (B.segments source.now)) (place_view from)
+        (data_words + pointers) }
+    ensures copy { let b = words_in (B.segments source.now) in
+        let s = words_in (A.segments arena.old) in let u = words_in (A.segments arena.new) in
+        let r = place_view start in let p = place_view from in
+        CopyGives b (each (tree_at levels b) (after p data_words) pointers)
+        (from_each (visits levels b) (after p data_words) pointers)
+        (FillsStruct levels s u r data_words pointers (section_at b p data_words))
+        (LeavesStruct levels s u r data_words pointers) s u limiter.old result limiter.new }
     ensures books { A.books arena.new ≡ A.books arena.old }
 {
     copy_words(arena, start, source, from, data_words as usize);
@@ -242,11 +271,19 @@ fn fill_elements<A: BuilderArena, B: ReaderArena>(
     pointers: u16,
     levels: u32,
 ) -> Result<()>
-    requires there { is_some (words_at (words_in (A.segments arena.old)) (place_view start) (1 + count * (data_words + pointers))) ≡ true }
+    requires there { is_some (words_at (words_in (A.segments arena.old)) (place_view start)
+        (1 + count * (data_words + pointers))) ≡ true }
     requires near { start.position + (1 + count * (data_words + pointers)) < 2 ^ 61 }
     requires inside { AreThere (words_in (B.segments source.now)) (place_view from) words }
     requires fit { count * (data_words + pointers) ≤ words }
-    ensures copy { let b = words_in (B.segments source.now) in let s = words_in (A.segments arena.old) in let u = words_in (A.segments arena.new) in let r = place_view start in let p = place_view from in CopyGives b (each_element (tree_at levels b) p (words_there b p words) data_words pointers count) (from_elements (visits levels b) p data_words pointers count) (FillsElements levels s u r data_words pointers count) (LeavesElements levels s u r data_words pointers count) s u limiter.old result limiter.new }
+    ensures copy { let b = words_in (B.segments source.now) in
+        let s = words_in (A.segments arena.old) in let u = words_in (A.segments arena.new) in
+        let r = place_view start in let p = place_view from in
+        CopyGives b
+        (each_element (tree_at levels b) p (words_there b p words) data_words pointers count)
+        (from_elements (visits levels b) p data_words pointers count)
+        (FillsElements levels s u r data_words pointers count)
+        (LeavesElements levels s u r data_words pointers count) s u limiter.old result limiter.new }
     ensures books { A.books arena.new ≡ A.books arena.old }
 {
     if pointers == 0 {

@@ -29,7 +29,8 @@ fn is_null_at<A: ReaderArena>(arena: &A, place: Place) -> bool
 ///
 /// The default is read 64 levels deep, and costs nothing. It is refused as `copy_from` is; a default that can be read within its levels only for want of room, with `SizeOverflow` or as the allocator refuses. Then all words stand as they were, and those that were allocated are zero.
 pub fn write_default<A: BuilderArena>(arena: &mut A, slot: Place, default: &[Word]) -> Result<()>
-    requires there { is_some (words_at (words_in (A.segments arena.old)) (place_view slot) 1) ≡ true }
+    requires there { is_some (words_at (words_in (A.segments arena.old)) (place_view slot) 1)
+        ≡ true }
     requires near { slot.position < 2 ^ 61 }
     ensures default { WritesDefault (default_segments default.now) (words_in (A.segments arena.old))
         (words_in (A.segments arena.new)) (place_view slot) result }

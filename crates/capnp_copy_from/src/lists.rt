@@ -68,11 +68,19 @@ fn write_elements<A: BuilderArena>(
     count: u32,
 )
     requires plain { size_number size < 6 }
-    requires zeros { let k = words_for (data_bits (size_number size) * count) in words_at (words_in (A.segments arena.old)) (place_view start) k ≡ Some (replicate k 0) }
+    requires zeros { let k = words_for (data_bits (size_number size) * count) in
+        words_at (words_in (A.segments arena.old)) (place_view start) k ≡ Some (replicate k 0) }
     requires near { start.position + words_for (data_bits (size_number size) * count) < 2 ^ 61 }
-    requires all { (data_bits (size_number size) * count ≤ 8 * length bytes.now) × (8 * length bytes.now < data_bits (size_number size) * count + 8) }
-    ensures fills { (n : ℕ) → Fills n (words_in (A.segments arena.old)) (words_in (A.segments arena.new)) (place_view start) (words_for (data_bits (size_number size) * count)) (a_list (place_view start) (size_number size) count) (plain_list (size_number size) count (number_of 8 bytes.now % 2 ^ (data_bits (size_number size) * count))) }
-    ensures sizes { map length (words_in (A.segments arena.new)) ≡ map length (words_in (A.segments arena.old)) }
+    requires all { (data_bits (size_number size) * count ≤ 8 * length bytes.now)
+        × (8 * length bytes.now < data_bits (size_number size) * count + 8) }
+    ensures fills { (n : ℕ) → Fills n (words_in (A.segments arena.old))
+        (words_in (A.segments arena.new)) (place_view start)
+        (words_for (data_bits (size_number size) * count))
+        (a_list (place_view start) (size_number size) count)
+        (plain_list (size_number size) count
+        (number_of 8 bytes.now % 2 ^ (data_bits (size_number size) * count))) }
+    ensures sizes { map length (words_in (A.segments arena.new))
+        ≡ map length (words_in (A.segments arena.old)) }
     ensures books { A.books arena.new ≡ A.books arena.old }
 {
     let words = words_of_elements(size, count) as usize;
@@ -91,10 +99,17 @@ fn fill_element<A: BuilderArena, B: ReaderArena>(
     pointers: u16,
     levels: u32,
 ) -> Result<()>
-    requires there { is_some (words_at (words_in (A.segments arena.old)) (place_view start) (data_words + pointers)) ≡ true }
-    requires near { (start.position + (data_words + pointers) < 2 ^ 61) × (first.position + pointers < 2 ^ 62) }
+    requires there { is_some (words_at (words_in (A.segments arena.old)) (place_view start)
+        (data_words + pointers)) ≡ true }
+    requires near { (start.position + (data_words + pointers) < 2 ^ 61)
+        × (first.position + pointers < 2 ^ 62) }
     requires all { length section.now ≡ 8 * data_words }
-    ensures copy { let b = words_in (B.segments source.now) in let s = words_in (A.segments arena.old) in let u = words_in (A.segments arena.new) in let r = place_view start in let p = place_view first in CopyGives b (each (tree_at levels b) p pointers) (from_each (visits levels b) p pointers) (FillsStruct levels s u r data_words pointers (number_of 8 section.now)) (LeavesStruct levels s u r data_words pointers) s u limiter.old result limiter.new }
+    ensures copy { let b = words_in (B.segments source.now) in
+        let s = words_in (A.segments arena.old) in let u = words_in (A.segments arena.new) in
+        let r = place_view start in let p = place_view first in
+        CopyGives b (each (tree_at levels b) p pointers) (from_each (visits levels b) p pointers)
+        (FillsStruct levels s u r data_words pointers (number_of 8 section.now))
+        (LeavesStruct levels s u r data_words pointers) s u limiter.old result limiter.new }
     ensures books { A.books arena.new ≡ A.books arena.old }
 {
     arena.write_words(start, section);
@@ -114,11 +129,22 @@ fn fill_structs<A: BuilderArena, B: ReaderArena>(
     list: ListSource,
     levels: u32,
 ) -> Result<()>
-    requires there { is_some (words_at (words_in (A.segments arena.old)) (place_view start) (1 + list.count * (list.data_words + list.pointers))) ≡ true }
+    requires there { is_some (words_at (words_in (A.segments arena.old)) (place_view start)
+        (1 + list.count * (list.data_words + list.pointers))) ≡ true }
     requires near { start.position + (1 + list.count * (list.data_words + list.pointers)) < 2 ^ 61 }
-    requires source_near { list.start.position + list.count * (list.data_words + list.pointers) < 2 ^ 61 }
+    requires source_near { list.start.position + list.count * (list.data_words + list.pointers)
+        < 2 ^ 61 }
     requires all { length bytes.now ≡ 8 * (list.count * (list.data_words + list.pointers)) }
-    ensures copy { let b = words_in (B.segments source.now) in let s = words_in (A.segments arena.old) in let u = words_in (A.segments arena.new) in let r = place_view start in let p = place_view list.start in let d = list.data_words in let k = list.pointers in CopyGives b (each_element (tree_at levels b) p (words_of (list.count * (d + k)) (number_of 8 bytes.now)) d k list.count) (from_elements (visits levels b) p d k list.count) (FillsElements levels s u r d k list.count) (LeavesElements levels s u r d k list.count) s u limiter.old result limiter.new }
+    ensures copy { let b = words_in (B.segments source.now) in
+        let s = words_in (A.segments arena.old) in let u = words_in (A.segments arena.new) in
+        let r = place_view start in let p = place_view list.start in let d = list.data_words in
+        let k = list.pointers in
+        CopyGives b
+        (each_element (tree_at levels b) p
+        (words_of (list.count * (d + k)) (number_of 8 bytes.now)) d k list.count)
+        (from_elements (visits levels b) p d k list.count)
+        (FillsElements levels s u r d k list.count) (LeavesElements levels s u r d k list.count) s
+        u limiter.old result limiter.new }
     ensures books { A.books arena.new ≡ A.books arena.old }
 {
     if list.pointers == 0 {
@@ -166,12 +192,23 @@ fn fill_list<A: BuilderArena, B: ReaderArena>(
     list: ListSource,
     levels: u32,
 ) -> Result<()>
-    requires zeros { words_at (words_in (A.segments arena.old)) (place_view start) (copied_words (listed_object list)) ≡ Some (replicate (copied_words (listed_object list)) 0) }
+    requires zeros { words_at (words_in (A.segments arena.old)) (place_view start)
+        (copied_words (listed_object list))
+        ≡ Some (replicate (copied_words (listed_object list)) 0) }
     requires near { start.position + copied_words (listed_object list) < 2 ^ 61 }
     requires few { most_counted (listed_object list) < 2 ^ 29 }
-    requires inside { step_bits (size_number list.size) list.data_words list.pointers * list.count ≤ 8 * length bytes.now }
-    requires source_near { list.start.position + step_words (size_number list.size) list.data_words list.pointers * list.count < 2 ^ 61 }
-    ensures copy { let from = words_in (B.segments source.now) in let s = words_in (A.segments arena.old) in let u = words_in (A.segments arena.new) in let r = place_view start in let o = listed_object list in CopyGives from (listed_tree (tree_at levels from) list bytes.now) (met_in (visits levels from) o) (λ v. (n : ℕ) → levels ≤ n → Fills n s u r (copied_words o) (copied_at r o) v) ((t : Tree) × Fills levels s u r (copied_words o) (copied_at r o) t) s u limiter.old result limiter.new }
+    requires inside { step_bits (size_number list.size) list.data_words list.pointers * list.count
+        ≤ 8 * length bytes.now }
+    requires source_near { list.start.position + step_words (size_number list.size)
+        list.data_words list.pointers * list.count < 2 ^ 61 }
+    ensures copy { let from = words_in (B.segments source.now) in
+        let s = words_in (A.segments arena.old) in let u = words_in (A.segments arena.new) in
+        let r = place_view start in let o = listed_object list in
+        CopyGives from (listed_tree (tree_at levels from) list bytes.now)
+        (met_in (visits levels from) o) (λ v.
+        (n : ℕ) → levels ≤ n → Fills n s u r (copied_words o) (copied_at r o) v)
+        ((t : Tree) × Fills levels s u r (copied_words o) (copied_at r o) t) s u limiter.old
+        result limiter.new }
     ensures books { A.books arena.new ≡ A.books arena.old }
 {
     match list.size {
@@ -206,11 +243,15 @@ pub fn set_list<A: BuilderArena, B: ReaderArena>(
     list: ListSource,
     levels: u32,
 ) -> Result<()>
-    requires there { is_some (words_at (words_in (A.segments arena.old)) (place_view slot) 1) ≡ true }
+    requires there { is_some (words_at (words_in (A.segments arena.old)) (place_view slot) 1)
+        ≡ true }
     requires near { slot.position < 2 ^ 61 }
-    requires inside { step_bits (size_number list.size) list.data_words list.pointers * list.count ≤ 8 * length bytes.now }
-    requires source_near { list.start.position + step_words (size_number list.size) list.data_words list.pointers * list.count < 2 ^ 61 }
-    ensures copy { CopiesList levels (words_in (B.segments source.now)) list bytes.now (words_in (A.segments arena.old))
+    requires inside { step_bits (size_number list.size) list.data_words list.pointers * list.count
+        ≤ 8 * length bytes.now }
+    requires source_near { list.start.position + step_words (size_number list.size)
+        list.data_words list.pointers * list.count < 2 ^ 61 }
+    ensures copy { CopiesList levels (words_in (B.segments source.now)) list bytes.now
+        (words_in (A.segments arena.old))
         (words_in (A.segments arena.new)) (place_view slot) limiter.old result limiter.new }
     ensures books { A.books arena.new ≡ A.books arena.old }
 {

@@ -35,7 +35,8 @@ const SIZE_OF_STRUCTS: u64 = 7;
 
 /// The words of the copy of an object. They are refused with `SizeOverflow` just where a count that its pointer or tag tells passes 2^29 - 1.
 fn words_of_copy(object: Object) -> Result<u32>
-    ensures words { IfOk result (λ n. (n ≡ copied_words object) × (n ≤ 2 ^ 29) × (most_counted object < 2 ^ 29)) }
+    ensures words { IfOk result (λ n.
+        (n ≡ copied_words object) × (n ≤ 2 ^ 29) × (most_counted object < 2 ^ 29)) }
     ensures spelled { IfOk result (λ n. IsSpelled object) }
     ensures kind { IfErr result (λ e. (e.kind ≡ SizeOverflow) × (2 ^ 29 ≤ most_counted object)) }
 {
@@ -67,11 +68,15 @@ fn words_of_copy(object: Object) -> Result<u32>
 /// Room for the copy of an object that the pointer at a place will name, as `allocate_near` gives it. It is refused with `SizeOverflow` just where a count or the message's words, a pad counted, would pass 2^29 - 1, else as the allocator refuses; then nothing is allocated.
 pub(crate) fn room_for<A: BuilderArena>(arena: &mut A, slot: Place, object: Object) -> Result<Room>
     requires { is_some (word_at (words_in (A.segments arena.old)) (place_view slot)) ≡ true }
-    ensures ok { IfOk result (RoomFor (words_in (A.segments arena.old)) (words_in (A.segments arena.new)) (place_view slot) (copied_words object)) }
+    ensures ok { IfOk result
+        (RoomFor (words_in (A.segments arena.old)) (words_in (A.segments arena.new))
+        (place_view slot) (copied_words object)) }
     ensures few { IfOk result (λ r. most_counted object < 2 ^ 29) }
     ensures spelled { IfOk result (λ r. IsSpelled object) }
     ensures refused { OnErr result (A.segments arena.new ≡ A.segments arena.old) }
-    ensures kind { IfErr result (λ e. (e.kind ≡ SizeOverflow) ↔ IsTooLarge object (total_words (words_in (A.segments arena.old)))) }
+    ensures kind { IfErr result (λ e.
+        (e.kind ≡ SizeOverflow)
+        ↔ IsTooLarge object (total_words (words_in (A.segments arena.old)))) }
     ensures books { A.books arena.new ≡ A.books arena.old }
 {
     let words = words_of_copy(object)?;

@@ -31,11 +31,14 @@ pub fn set_struct<A: BuilderArena, B: ReaderArena>(
     pointers: u16,
     levels: u32,
 ) -> Result<()>
-    requires there { is_some (words_at (words_in (A.segments arena.old)) (place_view slot) 1) ≡ true }
+    requires there { is_some (words_at (words_in (A.segments arena.old)) (place_view slot) 1)
+        ≡ true }
     requires near { (slot.position < 2 ^ 61) × (first.position + pointers < 2 ^ 62) }
     requires few { length section.now ≤ 8 * (2 ^ 16 - 1) }
-    ensures copy { CopiesStruct levels (words_in (B.segments source.now)) (struct_source section.now first pointers)
-        (words_in (A.segments arena.old)) (words_in (A.segments arena.new)) (place_view slot) limiter.old result limiter.new }
+    ensures copy { CopiesStruct levels (words_in (B.segments source.now))
+        (struct_source section.now first pointers)
+        (words_in (A.segments arena.old)) (words_in (A.segments arena.new)) (place_view slot)
+        limiter.old result limiter.new }
     ensures books { A.books arena.new ≡ A.books arena.old }
 {
     let data_words = ((section.len() + 7) / 8) as u16;

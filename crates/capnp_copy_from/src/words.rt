@@ -21,8 +21,11 @@ pub(crate) fn copy_words<A: BuilderArena, B: ReaderArena>(
     count: usize,
 )
     requires from { AreThere (words_in (B.segments source.now)) (place_view from) count }
-    requires to { is_some (words_at (words_in (A.segments arena.old)) (place_view to) count) ≡ true }
-    ensures words { words_in (A.segments arena.new) ≡ with_words (words_in (A.segments arena.old)) (place_view to) (words_there (words_in (B.segments source.now)) (place_view from) count) }
+    requires to { is_some (words_at (words_in (A.segments arena.old)) (place_view to) count)
+        ≡ true }
+    ensures words { words_in (A.segments arena.new)
+        ≡ with_words (words_in (A.segments arena.old)) (place_view to)
+        (words_there (words_in (B.segments source.now)) (place_view from) count) }
     ensures books { A.books arena.new ≡ A.books arena.old }
 {
     if let Some(bytes) = source.get_segment(from.segment) {

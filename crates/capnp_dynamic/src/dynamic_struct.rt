@@ -26,10 +26,7 @@ use capnp_values::{dynamic_struct, dynamic_value};
 use capnp_wire::structs::StructReader;
 
 /// Whether a struct has at least a schema's two sizes, as its builder asks.
-pub fn has_sizes<A: BuilderArena>(
-    builder: &StructBuilder<'_, A>,
-    schema: StructSchema<'_>,
-) -> bool
+pub fn has_sizes<A: BuilderArena>(builder: &StructBuilder<'_, A>, schema: StructSchema<'_>) -> bool
     ensures { (result ≡ true) ↔ IsWide builder.now.place (shape_of_struct schema.entry) }
 {
     let record = schema.record();
@@ -49,7 +46,9 @@ fn read_at<'a, A: BuilderArena>(
     schema: StructSchema<'a>,
 ) -> dynamic_struct::Reader<'a, A>
     requires { IsThere (words_in (A.segments arena.now)) place }
-    ensures source { struct_seen A.segments result.source ≡ struct_at (A.segments arena.now) (A.nesting arena.now) (place_view place.start) place.data_words place.pointers }
+    ensures source { struct_seen A.segments result.source
+        ≡ struct_at (A.segments arena.now) (A.nesting arena.now) (place_view place.start)
+        place.data_words place.pointers }
     ensures schema { result.schema ≡ schema.entry }
 {
     let reader = StructReader::at(arena, place.start, place.data_words, place.pointers);
@@ -112,7 +111,8 @@ impl<'a, A: BuilderArena> Builder<'a, A> {
         requires field { field.parent ≡ self.old.schema }
         requires single { is_single value ≡ true }
         ensures answer { seen (λ x. x) result ≡ set_answer value.entry (entry_of field.entry) }
-        ensures writes { OnOk result (WritesInPlace A.segments self.old self.new (set_edit field.entry value.entry)) }
+        ensures writes { OnOk result
+            (WritesInPlace A.segments self.old self.new (set_edit field.entry value.entry)) }
         ensures refused { OnErr result (Stays A.segments self.old self.new) }
         ensures books { A.books self.new.memory.now.arena ≡ A.books self.old.memory.now.arena }
         ensures ready { IsReady A.segments self.new }
@@ -125,7 +125,10 @@ impl<'a, A: BuilderArena> Builder<'a, A> {
     pub fn set_named<B>(&mut self, name: &str, value: dynamic_value::Reader<'_, B>) -> Result<()>
         requires ready { IsReady A.segments self.old }
         requires single { is_single value ≡ true }
-        ensures set { AnswersNamed self.old.schema name.now (λ f r. (seen (λ x. x) r ≡ set_answer value.entry (entry_of f)) × OnOk r (WritesInPlace A.segments self.old self.new (set_edit f value.entry))) result }
+        ensures set { AnswersNamed self.old.schema
+            name.now (λ f r.
+            (seen (λ x. x) r ≡ set_answer value.entry (entry_of f))
+            × OnOk r (WritesInPlace A.segments self.old self.new (set_edit f value.entry))) result }
         ensures refused { OnErr result (Stays A.segments self.old self.new) }
         ensures books { A.books self.new.memory.now.arena ≡ A.books self.old.memory.now.arena }
         ensures ready { IsReady A.segments self.new }
@@ -139,7 +142,9 @@ impl<'a, A: BuilderArena> Builder<'a, A> {
     /// Clears the field of a name, as by `clear`. A name that the struct lacks is refused by `FieldNotFound`, and nothing else is; then the struct is as it was.
     pub fn clear_named(&mut self, name: &str) -> Result<()>
         requires ready { IsReady A.segments self.old }
-        ensures cleared { AnswersNamed self.old.schema name.now (λ f r. (r ≡ Ok tt) × WritesInPlace A.segments self.old self.new (edit_of f clear)) result }
+        ensures cleared { AnswersNamed self.old.schema
+            name.now (λ f r.
+            (r ≡ Ok tt) × WritesInPlace A.segments self.old self.new (edit_of f clear)) result }
         ensures refused { OnErr result (Stays A.segments self.old self.new) }
         ensures books { A.books self.new.memory.now.arena ≡ A.books self.old.memory.now.arena }
         ensures ready { IsReady A.segments self.new }
@@ -154,7 +159,8 @@ impl<'a, A: BuilderArena> Builder<'a, A> {
     /// The struct to read, under its schema. Its pointers are followed under the arena's nesting limit.
     pub fn reborrow_as_reader(&self) -> dynamic_struct::Reader<'_, A>
         requires ready { IsReady A.segments self.now }
-        ensures source { struct_seen A.segments result.source ≡ struct_of A.segments A.nesting self.now }
+        ensures source { struct_seen A.segments result.source
+            ≡ struct_of A.segments A.nesting self.now }
         ensures schema { result.schema ≡ self.now.schema }
     {
         read_at(&self.memory.arena, self.place, self.schema)
@@ -163,7 +169,8 @@ impl<'a, A: BuilderArena> Builder<'a, A> {
     /// The same, of which no handle to write is left.
     pub fn into_reader(self) -> dynamic_struct::Reader<'a, A>
         requires ready { IsReady A.segments self }
-        ensures source { struct_seen A.segments result.source ≡ struct_of A.segments A.nesting self.entry }
+        ensures source { struct_seen A.segments result.source
+            ≡ struct_of A.segments A.nesting self.entry }
         ensures schema { result.schema ≡ self.entry.schema }
     {
         let Builder {
@@ -185,7 +192,8 @@ impl<'a, A: BuilderArena> Builder<'a, A> {
     /// Whether the field of a name is there, as by `has`. A name that the struct lacks is refused by `FieldNotFound`, and nothing else is.
     pub fn has_named(&self, name: &str) -> Result<bool>
         requires ready { IsReady A.segments self.now }
-        ensures { AnswersNamed self.now.schema name.now (TellsField (struct_of A.segments A.nesting self.now)) result }
+        ensures { AnswersNamed self.now.schema name.now
+            (TellsField (struct_of A.segments A.nesting self.now)) result }
     {
         self.reborrow_as_reader().has_named(name)
     }
@@ -193,7 +201,9 @@ impl<'a, A: BuilderArena> Builder<'a, A> {
     /// The union's active member: none without a union, and where the discriminant is that of no member. It never refuses.
     pub fn which(&self) -> Result<Option<Field<'_>>>
         requires ready { IsReady A.segments self.now }
-        ensures { IsOkAnd result (IsFieldAt self.now.schema (active_index self.now.schema (struct_of A.segments A.nesting self.now))) }
+        ensures { IsOkAnd result
+            (IsFieldAt self.now.schema
+            (active_index self.now.schema (struct_of A.segments A.nesting self.now))) }
     {
         self.reborrow_as_reader().which()
     }

@@ -61,11 +61,15 @@ pub(crate) fn set_single<A: BuilderArena, B>(
     value: &Reader<'_, B>,
 ) -> Result<()>
     requires there { IsThere (words_in (A.segments arena.old)) object }
-    requires inside { LieIn object.data_words object.pointers (areas_of (shape_of_struct field.parent)) }
+    requires inside { LieIn object.data_words object.pointers
+        (areas_of (shape_of_struct field.parent)) }
     ensures answer { seen (λ x. x) result ≡ set_answer value.now (entry_of field.entry) }
-    ensures edits { OnOk result (Edits (words_in (A.segments arena.old)) (words_in (A.segments arena.new)) object (set_edit field.entry value.now)) }
+    ensures edits { OnOk result
+        (Edits (words_in (A.segments arena.old)) (words_in (A.segments arena.new)) object
+        (set_edit field.entry value.now)) }
     ensures refused { OnErr result (A.segments arena.new ≡ A.segments arena.old) }
-    ensures sizes { map length (words_in (A.segments arena.new)) ≡ map length (words_in (A.segments arena.old)) }
+    ensures sizes { map length (words_in (A.segments arena.new))
+        ≡ map length (words_in (A.segments arena.old)) }
     ensures books { A.books arena.new ≡ A.books arena.old }
 {
     let _said = field.get_proto();

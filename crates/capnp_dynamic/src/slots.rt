@@ -44,9 +44,12 @@ pub(crate) fn set_discriminant<A: BuilderArena>(
     member: u16,
 )
     requires there { IsThere (words_in (A.segments arena.old)) object }
-    requires inside { LieIn object.data_words object.pointers (union_area (union_in (shape_of_struct schema))) }
-    ensures edits { Edits (words_in (A.segments arena.old)) (words_in (A.segments arena.new)) object (mark (union_in (shape_of_struct schema.entry)) (Some member)) }
-    ensures sizes { map length (words_in (A.segments arena.new)) ≡ map length (words_in (A.segments arena.old)) }
+    requires inside { LieIn object.data_words object.pointers
+        (union_area (union_in (shape_of_struct schema))) }
+    ensures edits { Edits (words_in (A.segments arena.old)) (words_in (A.segments arena.new))
+        object (mark (union_in (shape_of_struct schema.entry)) (Some member)) }
+    ensures sizes { map length (words_in (A.segments arena.new))
+        ≡ map length (words_in (A.segments arena.old)) }
     ensures books { A.books arena.new ≡ A.books arena.old }
 {
     if let Some(offset) = schema.discriminant_offset() {
@@ -57,9 +60,12 @@ pub(crate) fn set_discriminant<A: BuilderArena>(
 /// Makes a field the active member of its union, if it is a member.
 pub(crate) fn mark<A: BuilderArena>(arena: &mut A, object: StructPlace, field: Field<'_>)
     requires there { IsThere (words_in (A.segments arena.old)) object }
-    requires inside { LieIn object.data_words object.pointers (areas_of (shape_of_struct field.parent)) }
-    ensures edits { Edits (words_in (A.segments arena.old)) (words_in (A.segments arena.new)) object (marked field.entry) }
-    ensures sizes { map length (words_in (A.segments arena.new)) ≡ map length (words_in (A.segments arena.old)) }
+    requires inside { LieIn object.data_words object.pointers
+        (areas_of (shape_of_struct field.parent)) }
+    ensures edits { Edits (words_in (A.segments arena.old)) (words_in (A.segments arena.new))
+        object (marked field.entry) }
+    ensures sizes { map length (words_in (A.segments arena.new))
+        ≡ map length (words_in (A.segments arena.old)) }
     ensures books { A.books arena.new ≡ A.books arena.old }
 {
     let member = field.get_proto().discriminant_value;
@@ -72,7 +78,8 @@ pub(crate) fn mark<A: BuilderArena>(arena: &mut A, object: StructPlace, field: F
 pub(crate) fn pointer_place(object: StructPlace, index: u32) -> Place
     requires near { object.start.position + (object.data_words + object.pointers) < 2 ^ 61 }
     requires inside { index < object.pointers }
-    ensures place { place_view result ≡ after (after (place_view object.start) object.data_words) index }
+    ensures place { place_view result
+        ≡ after (after (place_view object.start) object.data_words) index }
     ensures near { result.position < 2 ^ 61 }
 {
     Place {
@@ -83,15 +90,14 @@ pub(crate) fn pointer_place(object: StructPlace, index: u32) -> Place
 
 /// Zeros and nulls in a field, those of a group in its member 0 and its other fields.
 #[cycle(groups)]
-pub(crate) fn clear_body<A: BuilderArena>(
-    arena: &mut A,
-    object: StructPlace,
-    place: FieldPlace<'_>,
-)
+pub(crate) fn clear_body<A: BuilderArena>(arena: &mut A, object: StructPlace, place: FieldPlace<'_>)
     requires there { IsThere (words_in (A.segments arena.old)) object }
-    requires inside { LieIn object.data_words object.pointers (areas_of_body (body_of_place place)) }
-    ensures edits { Edits (words_in (A.segments arena.old)) (words_in (A.segments arena.new)) object (cleared_body (body_of_place place.entry)) }
-    ensures sizes { map length (words_in (A.segments arena.new)) ≡ map length (words_in (A.segments arena.old)) }
+    requires inside { LieIn object.data_words object.pointers
+        (areas_of_body (body_of_place place)) }
+    ensures edits { Edits (words_in (A.segments arena.old)) (words_in (A.segments arena.new))
+        object (cleared_body (body_of_place place.entry)) }
+    ensures sizes { map length (words_in (A.segments arena.new))
+        ≡ map length (words_in (A.segments arena.old)) }
     ensures books { A.books arena.new ≡ A.books arena.old }
 {
     match place {
@@ -109,9 +115,12 @@ pub(crate) fn clear_body<A: BuilderArena>(
 #[cycle(groups)]
 fn clear_member<A: BuilderArena>(arena: &mut A, object: StructPlace, field: Field<'_>)
     requires there { IsThere (words_in (A.segments arena.old)) object }
-    requires inside { LieIn object.data_words object.pointers (areas_of (shape_of_struct field.parent)) }
-    ensures edits { Edits (words_in (A.segments arena.old)) (words_in (A.segments arena.new)) object (cleared_entry (entry_of field.entry)) }
-    ensures sizes { map length (words_in (A.segments arena.new)) ≡ map length (words_in (A.segments arena.old)) }
+    requires inside { LieIn object.data_words object.pointers
+        (areas_of (shape_of_struct field.parent)) }
+    ensures edits { Edits (words_in (A.segments arena.old)) (words_in (A.segments arena.new))
+        object (cleared_entry (entry_of field.entry)) }
+    ensures sizes { map length (words_in (A.segments arena.new))
+        ≡ map length (words_in (A.segments arena.old)) }
     ensures books { A.books arena.new ≡ A.books arena.old }
 {
     let member = field.get_proto().discriminant_value;
@@ -129,8 +138,10 @@ pub(crate) fn clear_group<A: BuilderArena>(
 )
     requires there { IsThere (words_in (A.segments arena.old)) object }
     requires inside { LieIn object.data_words object.pointers (areas_of (shape_of_struct schema)) }
-    ensures edits { Edits (words_in (A.segments arena.old)) (words_in (A.segments arena.new)) object (cleared (shape_of_struct schema.entry)) }
-    ensures sizes { map length (words_in (A.segments arena.new)) ≡ map length (words_in (A.segments arena.old)) }
+    ensures edits { Edits (words_in (A.segments arena.old)) (words_in (A.segments arena.new))
+        object (cleared (shape_of_struct schema.entry)) }
+    ensures sizes { map length (words_in (A.segments arena.new))
+        ≡ map length (words_in (A.segments arena.old)) }
     ensures books { A.books arena.new ≡ A.books arena.old }
 {
     set_discriminant(arena, object, schema, 0);
@@ -144,9 +155,12 @@ pub(crate) fn clear_group<A: BuilderArena>(
 /// Clears a field, which becomes the active member of its union, if it is a member.
 pub(crate) fn clear_field<A: BuilderArena>(arena: &mut A, object: StructPlace, field: Field<'_>)
     requires there { IsThere (words_in (A.segments arena.old)) object }
-    requires inside { LieIn object.data_words object.pointers (areas_of (shape_of_struct field.parent)) }
-    ensures edits { Edits (words_in (A.segments arena.old)) (words_in (A.segments arena.new)) object (edit_of field.entry clear) }
-    ensures sizes { map length (words_in (A.segments arena.new)) ≡ map length (words_in (A.segments arena.old)) }
+    requires inside { LieIn object.data_words object.pointers
+        (areas_of (shape_of_struct field.parent)) }
+    ensures edits { Edits (words_in (A.segments arena.old)) (words_in (A.segments arena.new))
+        object (edit_of field.entry clear) }
+    ensures sizes { map length (words_in (A.segments arena.new))
+        ≡ map length (words_in (A.segments arena.old)) }
     ensures books { A.books arena.new ≡ A.books arena.old }
 {
     let _said = field.get_proto();

@@ -128,8 +128,14 @@ fn schemas(alloc: Global) -> std::result::Result<SchemaSet, Fail> {
     ]?;
     let h = vec![in alloc; field(alloc, "z", none, slot(BaseType::UInt8, 10, eight))?]?;
     let names = vec![in alloc;
-        EnumerantRecord { name: String::from_str(alloc, "red")?, annotations: Vec::new(alloc) },
-        EnumerantRecord { name: String::from_str(alloc, "blue")?, annotations: Vec::new(alloc) },
+        EnumerantRecord {
+            name: String::from_str(alloc, "red")?,
+            annotations: Vec::new(alloc)
+        },
+        EnumerantRecord {
+            name: String::from_str(alloc, "blue")?,
+            annotations: Vec::new(alloc)
+        },
     ]?;
     let colour = NodeRecord {
         id: 3,
@@ -325,7 +331,10 @@ fn plain_fields_are_set_and_cleared(rt: HostRuntime) -> std::result::Result<(), 
     assert_eq!(rt; seen.marked, (0x2_0002_0002, 0x0102_0304_0000_0001, 0));
     let mismatch = Some(ErrorKind::TypeMismatch);
     let missing = Some(ErrorKind::FieldNotFound);
-    assert_eq!(rt; seen.kinds, [mismatch, mismatch, mismatch, mismatch, missing]);
+    assert_eq!(rt;
+        seen.kinds,
+        [mismatch, mismatch, mismatch, mismatch, missing]
+    );
     assert_eq!(rt; seen.refused, seen.marked);
     assert_eq!(rt; seen.cleared, (0x2_0000_0002, 1, 0));
     assert_eq!(rt; seen.grouped, (0x2_0000_0002, 0x9_0801, 0));

@@ -52,7 +52,8 @@ impl<A: Allocator> Builder<A> {
         ensures kind { IfErr result (λ e. e.kind ≢ SizeOverflow) }
         ensures place { A.place self.new.memory.arena.allocator
             ≡ A.place self.old.memory.arena.allocator }
-        ensures loans { flat_map (λ h. A.Segment.loans h.segment) self.new.memory.arena.segments.items
+        ensures loans { flat_map (λ h. A.Segment.loans h.segment)
+            self.new.memory.arena.segments.items
             ++ A.loans self.new.memory.arena.allocator
             ≡ flat_map (λ h. A.Segment.loans h.segment) self.old.memory.arena.segments.items
             ++ A.loans self.old.memory.arena.allocator }
@@ -78,7 +79,8 @@ impl<A: Allocator> Builder<A> {
 
     /// The used words of all segments.
     pub fn size_in_words(&self) -> usize
-        ensures { result ≡ min (words_before (map (λ h. take (8 * h.used) (A.Segment.bytes h.segment))
+        ensures { result ≡ min
+            (words_before (map (λ h. take (8 * h.used) (A.Segment.bytes h.segment))
             self.now.memory.arena.segments.items)
             (min (length self.now.memory.arena.segments.items) (2 ^ 32))) (2 ^ 64 - 1) }
     {
@@ -87,7 +89,8 @@ impl<A: Allocator> Builder<A> {
 
     /// The allocator, to which every segment was given back. There is one lent slice at most among them and in the allocator.
     pub fn into_allocator(self) -> A
-        requires { length (flat_map (λ h. A.Segment.loans h.segment) self.memory.arena.segments.items
+        requires { length (flat_map (λ h. A.Segment.loans h.segment)
+            self.memory.arena.segments.items
             ++ A.loans self.memory.arena.allocator) ≤ 1 }
         ensures place { A.place result ≡ A.place self.memory.arena.allocator }
         ensures loans { A.loans result
@@ -112,7 +115,8 @@ impl Builder<HeapAllocator> {
 
 /// The used bytes of each segment.
 impl<A: Allocator> ReaderSegments for Builder<A> {
-    ghost segments = { λ b. map (λ h. take (8 * h.used) (A.Segment.bytes h.segment)) b.memory.arena.segments.items };
+    ghost segments = { λ b. map (λ h. take (8 * h.used) (A.Segment.bytes h.segment))
+        b.memory.arena.segments.items };
 
     fn get_segment(&self, id: SegmentId) -> Option<&[u8]> {
         self.memory.arena.get_segment(id)

@@ -74,7 +74,8 @@ pub fn root_of<A: BuilderArena>(memory: &mut Memory<A>) -> Result<PointerBuilder
     ensures kind { IfErr result (λ e. e.kind ≢ SizeOverflow) }
     ensures* refused { sem 𝓛 (RestsIfErr (the_row A.row) memory.entry
         (λ p. p.memory.ghost_name) result (λ n. (A.segments n.arena
-        ≡ A.segments memory.entry.now.arena) × (A.books n.arena ≡ A.books memory.entry.now.arena))) }
+        ≡ A.segments memory.entry.now.arena)
+        × (A.books n.arena ≡ A.books memory.entry.now.arena))) }
 {
     begin(&mut memory.arena)?;
     Ok(PointerBuilder {
@@ -101,7 +102,8 @@ impl<A: Allocator> Builder<A> {
             self.old.memory.arena.segments.items)))) }
         ensures place { A.place self.new.memory.arena.allocator
             ≡ A.place self.old.memory.arena.allocator }
-        ensures loans { flat_map (λ h. A.Segment.loans h.segment) self.new.memory.arena.segments.items
+        ensures loans { flat_map (λ h. A.Segment.loans h.segment)
+            self.new.memory.arena.segments.items
             ++ A.loans self.new.memory.arena.allocator
             ≡ flat_map (λ h. A.Segment.loans h.segment) self.old.memory.arena.segments.items
             ++ A.loans self.old.memory.arena.allocator }

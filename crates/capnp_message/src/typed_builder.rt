@@ -58,7 +58,8 @@ impl<T, A: Allocator> TypedBuilder<T, A> {
             self.old.message.memory.arena.segments.items)))) }
         ensures place { A.place self.new.message.memory.arena.allocator
             ≡ A.place self.old.message.memory.arena.allocator }
-        ensures loans { flat_map (λ h. A.Segment.loans h.segment) self.new.message.memory.arena.segments.items
+        ensures loans { flat_map (λ h. A.Segment.loans h.segment)
+            self.new.message.memory.arena.segments.items
             ++ A.loans self.new.message.memory.arena.allocator
             ≡ flat_map (λ h. A.Segment.loans h.segment) self.old.message.memory.arena.segments.items
             ++ A.loans self.old.message.memory.arena.allocator }

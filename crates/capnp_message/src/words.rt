@@ -38,7 +38,8 @@ impl<A: Allocator> Builder<A> {
         ensures kind { IfErr result (λ e. (e.kind ≡ SizeOverflow) ↔ (2 ^ 29 ≤ length words.now)) }
         ensures place { A.place self.new.memory.arena.allocator
             ≡ A.place self.old.memory.arena.allocator }
-        ensures loans { flat_map (λ h. A.Segment.loans h.segment) self.new.memory.arena.segments.items
+        ensures loans { flat_map (λ h. A.Segment.loans h.segment)
+            self.new.memory.arena.segments.items
             ++ A.loans self.new.memory.arena.allocator ≡ A.loans self.old.memory.arena.allocator }
     {
         let count = words.len();
@@ -75,7 +76,8 @@ impl<A: Allocator> Builder<A> {
             self.new.memory.arena.segments.items) limiter.old result limiter.new }
         ensures place { A.place self.new.memory.arena.allocator
             ≡ A.place self.old.memory.arena.allocator }
-        ensures loans { flat_map (λ h. A.Segment.loans h.segment) self.new.memory.arena.segments.items
+        ensures loans { flat_map (λ h. A.Segment.loans h.segment)
+            self.new.memory.arena.segments.items
             ++ A.loans self.new.memory.arena.allocator ≡ A.loans self.old.memory.arena.allocator }
     {
         let words = source.canonicalize(alloc, limiter)?;
@@ -98,7 +100,8 @@ impl<A: Allocator> Builder<A> {
         ensures kind { IfErr result (λ e. e.kind ≡ OutOfMemory) }
         ensures place { A.place self.new.memory.arena.allocator
             ≡ A.place self.old.memory.arena.allocator }
-        ensures loans { flat_map (λ h. A.Segment.loans h.segment) self.new.memory.arena.segments.items
+        ensures loans { flat_map (λ h. A.Segment.loans h.segment)
+            self.new.memory.arena.segments.items
             ++ A.loans self.new.memory.arena.allocator
             ≡ A.Segment.loans segment ++ A.loans self.old.memory.arena.allocator }
     {

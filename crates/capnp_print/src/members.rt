@@ -20,7 +20,9 @@ use capnp_wire::arena::ReaderArena;
 pub(crate) fn active_member<A: ReaderArena>(
     reader: dynamic_struct::Reader<'_, A>,
 ) -> Result<Option<u16>>
-    ensures { let r = reader.entry in IsOkAnd result (λ active. AreActive r.schema (discriminant_shown r.schema (struct_seen A.segments r.source)) active) }
+    ensures { let r = reader.entry in
+        IsOkAnd result (λ active.
+        AreActive r.schema (discriminant_shown r.schema (struct_seen A.segments r.source)) active) }
 {
     match reader.which()? {
         None => Ok(None),
@@ -35,8 +37,12 @@ pub(crate) fn is_printed<A: ReaderArena>(
     active: Option<u16>,
 ) -> Result<bool>
     requires parent { field.parent ≡ reader.schema }
-    requires active { AreActive reader.schema (discriminant_shown reader.schema (struct_seen A.segments reader.source)) active }
-    ensures { let r = reader.entry in let v = struct_seen A.segments r.source in IsOkAnd result (λ b. (e : Entry) → entry_of field.entry ≡ Some e → b ≡ field_shown (schema_around r.schema) v (discriminant_shown r.schema v) e) }
+    requires active { AreActive reader.schema
+        (discriminant_shown reader.schema (struct_seen A.segments reader.source)) active }
+    ensures { let r = reader.entry in let v = struct_seen A.segments r.source in
+        IsOkAnd result (λ b.
+        (e : Entry) → entry_of field.entry ≡ Some e
+        → b ≡ field_shown (schema_around r.schema) v (discriminant_shown r.schema v) e) }
 {
     let member = field.get_proto().discriminant_value;
     if member == NO_DISCRIMINANT {
@@ -58,7 +64,10 @@ pub(crate) fn enters_default<A: ReaderArena>(
 ) -> Result<bool>
     requires parent { field.parent ≡ reader.schema }
     requires printed { IsPrinted reader.schema (struct_seen A.segments reader.source) field }
-    ensures { let v = struct_seen A.segments reader.entry.source in let f = field.entry in IsOkAnd result (λ b. (said : FieldNode) → IsFieldRecord f.parent f.index said → b ≡ enters_there v (schema_around f.parent) said.kind) }
+    ensures { let v = struct_seen A.segments reader.entry.source in let f = field.entry in
+        IsOkAnd result (λ b.
+        (said : FieldNode) → IsFieldRecord f.parent f.index said
+        → b ≡ enters_there v (schema_around f.parent) said.kind) }
 {
     if reader.has(field)? {
         return Ok(false);

@@ -20,7 +20,11 @@ use std::alloc::AllocError;
 
 /// Appends an enumerant's name, or the value in decimal where the enum has none of it.
 fn push_enum(out: &mut Vec<u8>, value: Enum<'_>) -> Result<(), AllocError>
-    ensures { let e = value.entry in OnOk result (out.new.items ≡ out.old.items ++ number_text (schema_of (nodes_of_enum e.schema)) (plain («enum» (enum_id e.schema))) e.value) }
+    ensures { let e = value.entry in
+        OnOk result
+        (out.new.items
+        ≡ out.old.items ++ number_text (schema_of (nodes_of_enum e.schema))
+        (plain («enum» (enum_id e.schema))) e.value) }
 {
     match value.get_enumerant() {
         Ok(Some(enumerant)) => out.extend_from_slice(enumerant.get_proto().name.as_bytes()),
@@ -34,7 +38,8 @@ pub(crate) fn push_single<A: ReaderArena>(
     out: &mut Vec<u8>,
     value: Reader<'_, A>,
 ) -> Result<(), AllocError>
-    ensures { OnOk result (out.new.items ≡ out.old.items ++ single_text (shown A.segments value.entry)) }
+    ensures { OnOk result
+        (out.new.items ≡ out.old.items ++ single_text (shown A.segments value.entry)) }
 {
     match value {
         Reader::Void => out.extend_from_slice(b"()"),
@@ -87,7 +92,9 @@ pub(crate) fn push_name(
     first: bool,
     name: &[u8],
 ) -> Result<(), AllocError>
-    ensures { OnOk result (out.new.items ≡ out.old.items ++ (mark (style_of indent) first ++ name.now ++ codes " = ")) }
+    ensures { OnOk result
+        (out.new.items
+        ≡ out.old.items ++ (mark (style_of indent) first ++ name.now ++ codes " = ")) }
 {
     push_mark(out, indent, first)?;
     out.extend_from_slice(name)?;
@@ -96,7 +103,8 @@ pub(crate) fn push_name(
 
 /// Appends what stands behind the last item, and the closing sign.
 pub(crate) fn push_end(out: &mut Vec<u8>, indent: Indent, sign: u8) -> Result<(), AllocError>
-    ensures { OnOk result (out.new.items ≡ out.old.items ++ (closing (style_of indent) ++ sign ∷ [])) }
+    ensures { OnOk result
+        (out.new.items ≡ out.old.items ++ (closing (style_of indent) ++ sign ∷ [])) }
 {
     push_closing(out, indent)?;
     out.push(sign)?;

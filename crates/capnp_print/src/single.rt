@@ -94,7 +94,8 @@ pub(crate) fn push_data(out: &mut Vec<u8>, bytes: &[u8]) -> Result<(), AllocErro
 /// Appends a control character of ASCII as its number in hex.
 fn push_control(out: &mut Vec<u8>, byte: u8) -> Result<(), AllocError>
     requires { byte < 32 }
-    ensures { OnOk result (out.new.items ≡ out.old.items ++ (codes "\\u{" ++ digits 16 false byte ++ codes "}")) }
+    ensures { OnOk result
+        (out.new.items ≡ out.old.items ++ (codes "\\u{" ++ digits 16 false byte ++ codes "}")) }
 {
     if byte < 16 {
         let signs = [b'\\', b'u', b'{', hex_digit(byte), b'}'];
@@ -126,7 +127,9 @@ fn push_escaped(out: &mut Vec<u8>, byte: u8) -> Result<(), AllocError>
 
 /// Appends text between quotes. Characters past ASCII stand as they are.
 fn push_quoted(out: &mut Vec<u8>, bytes: &[u8]) -> Result<(), AllocError>
-    ensures { OnOk result (out.new.items ≡ out.old.items ++ (codes "\"" ++ flat_map escaped bytes.now ++ codes "\"")) }
+    ensures { OnOk result
+        (out.new.items
+        ≡ out.old.items ++ (codes "\"" ++ flat_map escaped bytes.now ++ codes "\"")) }
 {
     out.push(b'"')?;
     for byte in bytes {
@@ -154,7 +157,9 @@ fn push_numbers(out: &mut Vec<u8>, bytes: &[u8]) -> Result<(), AllocError>
 
 /// Appends what stands for bytes that are no text.
 fn push_invalid(out: &mut Vec<u8>, bytes: &[u8]) -> Result<(), AllocError>
-    ensures { OnOk result (out.new.items ≡ out.old.items ++ (codes "<invalid utf-8: [" ++ number_list bytes.now ++ codes "]>")) }
+    ensures { OnOk result
+        (out.new.items
+        ≡ out.old.items ++ (codes "<invalid utf-8: [" ++ number_list bytes.now ++ codes "]>")) }
 {
     out.extend_from_slice(b"<invalid utf-8: [")?;
     push_numbers(out, bytes)?;

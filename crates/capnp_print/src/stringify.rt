@@ -34,7 +34,8 @@ pub fn print<A: ReaderArena>(
     alternate: bool,
     out: &mut Vec<u8>,
 ) -> Result<()>
-    ensures { Prints (style_named alternate) (shown A.segments value.entry) out.old.items result out.new.items }
+    ensures { Prints (style_named alternate) (shown A.segments value.entry) out.old.items result
+        out.new.items }
 {
     let indent = form(alternate);
     let mut text = Vec::new(*out.allocator());

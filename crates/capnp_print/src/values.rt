@@ -32,7 +32,8 @@ pub(crate) fn push_value<A: ReaderArena>(
     left: u32,
     out: &mut Vec<u8>,
 ) -> Result<()>
-    ensures { Appends (shown_text left (style_of indent) (shown A.segments value.entry)) out.old.items result out.new.items }
+    ensures { Appends (shown_text left (style_of indent) (shown A.segments value.entry))
+        out.old.items result out.new.items }
 {
     match value {
         Reader::Struct(reader) => push_struct(reader, indent, left, out),
@@ -52,7 +53,10 @@ fn push_struct<A: ReaderArena>(
     left: u32,
     out: &mut Vec<u8>,
 ) -> Result<()>
-    ensures { let r = reader.entry in Appends (shown_text left (style_of indent) (a_struct (schema_around r.schema) (shape_of_struct r.schema) (struct_seen A.segments r.source))) out.old.items result out.new.items }
+    ensures { let r = reader.entry in
+        Appends (shown_text left (style_of indent)
+        (a_struct (schema_around r.schema) (shape_of_struct r.schema)
+        (struct_seen A.segments r.source))) out.old.items result out.new.items }
 {
     let fields = reader.get_schema().get_fields()?;
     if fields.is_empty() {
@@ -75,7 +79,9 @@ fn push_fields<A: ReaderArena>(
     out: &mut Vec<u8>,
 ) -> Result<()>
     requires { fields.parent ≡ reader.schema }
-    ensures { let r = reader.entry in Appends (fields_text left (style_of indent) r.schema (struct_seen A.segments r.source)) out.old.items result out.new.items }
+    ensures { let r = reader.entry in
+        Appends (fields_text left (style_of indent) r.schema (struct_seen A.segments r.source))
+        out.old.items result out.new.items }
 {
     let active = active_member(reader)?;
     let deeper = inner(indent)?;
@@ -103,7 +109,10 @@ fn push_member<A: ReaderArena>(
 ) -> Result<()>
     requires parent { field.parent ≡ reader.schema }
     requires printed { IsPrinted reader.schema (struct_seen A.segments reader.source) field }
-    ensures { let r = reader.entry in (e : Entry) → entry_of field.entry ≡ Some e → Appends (member_text left (style_of indent) r.schema (struct_seen A.segments r.source) e) out.old.items result out.new.items }
+    ensures { let r = reader.entry in
+        (e : Entry) → entry_of field.entry ≡ Some e
+        → Appends (member_text left (style_of indent) r.schema (struct_seen A.segments r.source)
+        e) out.old.items result out.new.items }
 {
     nulls_are_read();
     let enters = enters_default(reader, field)?;
@@ -127,7 +136,10 @@ fn push_list<A: ReaderArena>(
     left: u32,
     out: &mut Vec<u8>,
 ) -> Result<()>
-    ensures { let l = list.entry in Appends (shown_text left (style_of indent) (a_list (schema_of (nodes_of l.set.now)) (ty_of l.element_type) (list_seen A.segments l.source))) out.old.items result out.new.items }
+    ensures { let l = list.entry in
+        Appends (shown_text left (style_of indent)
+        (a_list (schema_of (nodes_of l.set.now)) (ty_of l.element_type)
+        (list_seen A.segments l.source))) out.old.items result out.new.items }
 {
     if list.is_empty() {
         out.extend_from_slice(b"[]")?;
@@ -147,7 +159,9 @@ fn push_elements<A: ReaderArena>(
     left: u32,
     out: &mut Vec<u8>,
 ) -> Result<()>
-    ensures { let l = list.entry in Appends (elements_text left (style_of indent) (schema_of (nodes_of l.set.now)) (ty_of l.element_type) (list_seen A.segments l.source)) out.old.items result out.new.items }
+    ensures { let l = list.entry in
+        Appends (elements_text left (style_of indent) (schema_of (nodes_of l.set.now))
+        (ty_of l.element_type) (list_seen A.segments l.source)) out.old.items result out.new.items }
 {
     let deeper = inner(indent)?;
     for i in 0..list.len() {

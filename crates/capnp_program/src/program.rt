@@ -61,7 +61,8 @@ pub fn program<R: Windowed, W: Flush, L: Flush>(
         (sink_seen L.contents L.failures L.room log.old)) (W.held out.old) (L.held log.old))
         (seen (streams (source_seen R.remaining R.failures source.new)
         (sink_seen W.contents W.failures W.room out.new)
-        (sink_seen L.contents L.failures L.room log.new)) (W.held out.new) (L.held log.new)) result }
+        (sink_seen L.contents L.failures L.room log.new)) (W.held out.new) (L.held log.new))
+        result }
     ensures held { result ≡ 0 → (W.held out.new ≡ []) × (L.held log.new ≡ []) }
 {
     if asks_for_help(words) {

@@ -95,9 +95,11 @@ impl Settings {
         calls: Option<&[u8]>,
         newer: Option<&[u8]>,
     ) -> Result<Settings, Stop>
-        ensures ok { IfOk result (λ s. asked (request (map string_bytes words.now) (option_copied schema.entry)
+        ensures ok { IfOk result (λ s.
+            asked (request (map string_bytes words.now) (option_copied schema.entry)
             (option_copied calls.entry) (option_copied newer.entry)) ≡ Ok (asked_of s)) }
-        ensures refused { IfErr result (IsRefused (request (map string_bytes words.now) (option_copied schema.entry)
+        ensures refused { IfErr result
+            (IsRefused (request (map string_bytes words.now) (option_copied schema.entry)
             (option_copied calls.entry) (option_copied newer.entry))) }
     {
         let arguments = Arguments::new(words).ok_or(Stop::Arguments)?;

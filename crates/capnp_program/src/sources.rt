@@ -36,13 +36,18 @@ pub fn flush_before_wait<R: Windowed, W: Flush, L: Flush>(
     out: &mut W,
     log: &mut L,
 ) -> Result<(), Fault>
-    ensures empty { OnOk result (R.shown source.now ≡ 0 → (W.held out.new ≡ []) × (L.held log.new ≡ [])) }
+    ensures empty { OnOk result
+        (R.shown source.now ≡ 0 → (W.held out.new ≡ []) × (L.held log.new ≡ [])) }
     ensures rests { OnOk result
-        (SinkRests (sink_seen W.contents W.failures W.room out.old) (sink_seen W.contents W.failures W.room out.new)
-        × SinkRests (sink_seen L.contents L.failures L.room log.old) (sink_seen L.contents L.failures L.room log.new)) }
+        (SinkRests (sink_seen W.contents W.failures W.room out.old)
+        (sink_seen W.contents W.failures W.room out.new)
+        × SinkRests (sink_seen L.contents L.failures L.room log.old)
+        (sink_seen L.contents L.failures L.room log.new)) }
     ensures fault { IfErr result (λ f. FailsInPause f
-        (sink_seen W.contents W.failures W.room out.old) (sink_seen W.contents W.failures W.room out.new)
-        (sink_seen L.contents L.failures L.room log.old) (sink_seen L.contents L.failures L.room log.new)) }
+        (sink_seen W.contents W.failures W.room out.old)
+        (sink_seen W.contents W.failures W.room out.new)
+        (sink_seen L.contents L.failures L.room log.old)
+        (sink_seen L.contents L.failures L.room log.new)) }
 {
     if source.buffered() > 0 {
         return Ok(());

@@ -56,7 +56,8 @@ impl Version {
     /// The version of a schema file with the root of this id, or the first fault: of the file, its rules and the root. A file that
     /// can't be read is `None`. `Relay(Memory)`: a growth was refused.
     pub fn new(alloc: Global, file: Option<&[u8]>, id: u64) -> Result<Version, Stop>
-        ensures ok { IfOk result (λ v. version_in (option_copied file.entry) id ≡ Ok (nodes_of v.set)) }
+        ensures ok { IfOk result (λ v.
+            version_in (option_copied file.entry) id ≡ Ok (nodes_of v.set)) }
         ensures root { IfOk result (λ v. v.root.id ≡ id) }
         ensures refused { IfErr result (IsRefusalOf (IsSome file.entry)
             (version_in (option_copied file.entry) id)) }

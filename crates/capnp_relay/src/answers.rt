@@ -61,7 +61,8 @@ pub(crate) trait Answers {
     ghost is_too_large: { Self → Segments → Type 0 };
 
     fn answer(&self, alloc: Global, message: &OwnedSegments) -> Result<MessageAnswer, Want>
-        ensures value { IfOk result (λ a. is_answer self.now (segments_of message.now) (answer_view a)) }
+        ensures value { IfOk result (λ a.
+            is_answer self.now (segments_of message.now) (answer_view a)) }
         ensures size { result ≡ Err Want.Size → is_too_large self.now (segments_of message.now) }
         ensures writable { IfOk result (λ a. HasFewWords (answer_view a)) };
 }

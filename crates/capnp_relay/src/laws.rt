@@ -24,12 +24,18 @@ fn reads_fronts<I: MessageForm>()
 
 /// Where the source tells its bytes, a run that ends at the end of input or at a framing fault goes over all of them: they begin with the messages that were answered, in order, and their rest ends the run; what was written and logged is that of the answers.
 pub fn runs_over_known_bytes<W: Write, L: Write>()
-    ensures finished { (root : StructSchema) (calls : List Call) (options : RelayOptions) (old new : Streams) (counts : Counts)
+    ensures finished { (root : StructSchema) (calls : List Call) (options : RelayOptions)
+        (old new : Streams) (counts : Counts)
         → RunsOut (relay_work root calls options W.may_grow L.may_grow) old new counts
-        → IfSome old.source.remaining (GoesTo (relay_work root calls options W.may_grow L.may_grow) old new finished) }
-    ensures broken { (root : StructSchema) (calls : List Call) (options : RelayOptions) (old new : Streams) (counts : Counts) (kind : ErrorKind)
-        → RunStops (relay_work root calls options W.may_grow L.may_grow) (Fault.Framing kind) old new counts
-        → IfSome old.source.remaining (GoesTo (relay_work root calls options W.may_grow L.may_grow) old new (broken (kind_of kind))) }
+        → IfSome old.source.remaining
+        (GoesTo (relay_work root calls options W.may_grow L.may_grow) old new finished) }
+    ensures broken { (root : StructSchema) (calls : List Call) (options : RelayOptions)
+        (old new : Streams) (counts : Counts) (kind : ErrorKind)
+        → RunStops (relay_work root calls options W.may_grow L.may_grow) (Fault.Framing kind) old
+        new counts
+        → IfSome old.source.remaining
+        (GoesTo (relay_work root calls options W.may_grow L.may_grow) old new
+        (broken (kind_of kind))) }
 {
     reads_fronts::<Framed>();
     reads_fronts::<Packed>();

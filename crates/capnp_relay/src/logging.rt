@@ -25,7 +25,8 @@ fn push_reply(line: &mut Vec<u8>, reply: &Reply) -> Result<(), AllocError>
 
 /// Appends what the log says of an answer.
 fn push_answer(line: &mut Vec<u8>, answer: &MessageAnswer) -> Result<(), AllocError>
-    ensures { OnOk result (line.new.items ≡ line.old.items ++ answer_words (answer_view answer.now)) }
+    ensures { OnOk result
+        (line.new.items ≡ line.old.items ++ answer_words (answer_view answer.now)) }
 {
     match answer {
         MessageAnswer::Written { words: _, replies } => {
@@ -41,7 +42,9 @@ fn push_answer(line: &mut Vec<u8>, answer: &MessageAnswer) -> Result<(), AllocEr
 
 /// Appends each reply behind a semicolon.
 fn push_replies(line: &mut Vec<u8>, replies: &[Reply]) -> Result<(), AllocError>
-    ensures { OnOk result (line.new.items ≡ line.old.items ++ flat_map (λ r. codes "; " ++ reply_words (reply_view r)) replies.now) }
+    ensures { OnOk result
+        (line.new.items
+        ≡ line.old.items ++ flat_map (λ r. codes "; " ++ reply_words (reply_view r)) replies.now) }
 {
     for reply in replies {
         line.extend_from_slice(b"; ")?;

@@ -51,10 +51,15 @@ fn answer_struct(
     requires words { words_in (shape_of_struct schema) ≤ vec_len root.words }
     requires pointers { pointers_in (shape_of_struct schema) ≤ vec_len root.children }
     requires fits { Fits (struct_tree root) }
-    ensures answer { IfOk result (λ a. answer_view a ≡ answer_from schema.entry calls.now (pos nesting) (struct_tree root)) }
-    ensures means { IfOk result (λ a. MeansTree nesting (trim (tree_after_all schema.entry (map call_view calls.now) (struct_tree root))) (answer_view a)) }
+    ensures answer { IfOk result (λ a.
+        answer_view a ≡ answer_from schema.entry calls.now (pos nesting) (struct_tree root)) }
+    ensures means { IfOk result (λ a.
+        MeansTree nesting
+        (trim (tree_after_all schema.entry (map call_view calls.now) (struct_tree root)))
+        (answer_view a)) }
     ensures few { IfOk result (λ a. HasFewWords (answer_view a)) }
-    ensures size { result ≡ Err Want.Size → IsTooLargeFrom schema.entry calls.now (pos nesting) (struct_tree root) }
+    ensures size { result ≡ Err Want.Size
+        → IsTooLargeFrom schema.entry calls.now (pos nesting) (struct_tree root) }
 {
     laws::words_mean_their_value();
     laws::trimmed_values();
@@ -86,10 +91,15 @@ fn answer_value(
 ) -> Result<MessageAnswer, Want>
     requires root { IsRoot schema }
     requires fits { IfSome value (λ v. Fits (tree_of_value v)) }
-    ensures answer { IfOk result (λ a. answer_view a ≡ answer_to schema.entry calls.now (pos nesting) (option_map tree_of_value value)) }
-    ensures means { IfOk result (λ a. MeansAfter schema.entry calls.now nesting (option_map tree_of_value value) (answer_view a)) }
+    ensures answer { IfOk result (λ a.
+        answer_view a
+        ≡ answer_to schema.entry calls.now (pos nesting) (option_map tree_of_value value)) }
+    ensures means { IfOk result (λ a.
+        MeansAfter schema.entry calls.now nesting (option_map tree_of_value value)
+        (answer_view a)) }
     ensures few { IfOk result (λ a. HasFewWords (answer_view a)) }
-    ensures size { result ≡ Err Want.Size → IsTooLargeAt schema.entry calls.now (pos nesting) (option_map tree_of_value value) }
+    ensures size { result ≡ Err Want.Size
+        → IsTooLargeAt schema.entry calls.now (pos nesting) (option_map tree_of_value value) }
 {
     let Some(mut value) = value else {
         return Ok(MessageAnswer::Refused(Reason::Value));

@@ -14,11 +14,15 @@ pub trait Pause<R: BufRead, W: Write, L: Write> {
     /// Gives no byte to a sink, and ends the run where a sink's device failed: `Out` the output's, `Log` the log's.
     fn pause(source: &R, out: &mut W, log: &mut L) -> Result<(), Fault>
         ensures ok { OnOk result
-            (SinkRests (sink_seen W.contents W.failures W.room out.old) (sink_seen W.contents W.failures W.room out.new)
-            × SinkRests (sink_seen L.contents L.failures L.room log.old) (sink_seen L.contents L.failures L.room log.new)) }
+            (SinkRests (sink_seen W.contents W.failures W.room out.old)
+            (sink_seen W.contents W.failures W.room out.new)
+            × SinkRests (sink_seen L.contents L.failures L.room log.old)
+            (sink_seen L.contents L.failures L.room log.new)) }
         ensures err { IfErr result (λ f. may_fail × FailsInPause f
-            (sink_seen W.contents W.failures W.room out.old) (sink_seen W.contents W.failures W.room out.new)
-            (sink_seen L.contents L.failures L.room log.old) (sink_seen L.contents L.failures L.room log.new)) };
+            (sink_seen W.contents W.failures W.room out.old)
+            (sink_seen W.contents W.failures W.room out.new)
+            (sink_seen L.contents L.failures L.room log.old)
+            (sink_seen L.contents L.failures L.room log.new)) };
 }
 
 /// Nothing is done before a message is read.

@@ -37,9 +37,11 @@ pub fn relay<R: BufRead, W: Write, L: Write>(
     requires root { IsRoot root }
     ensures run { Relays (relay_work root.entry calls.now options W.may_grow L.may_grow)
         (streams (source_seen R.remaining R.failures source.old)
-        (sink_seen W.contents W.failures W.room out.old) (sink_seen L.contents L.failures L.room log.old))
+        (sink_seen W.contents W.failures W.room out.old)
+        (sink_seen L.contents L.failures L.room log.old))
         (streams (source_seen R.remaining R.failures source.new)
-        (sink_seen W.contents W.failures W.room out.new) (sink_seen L.contents L.failures L.room log.new)) result }
+        (sink_seen W.contents W.failures W.room out.new)
+        (sink_seen L.contents L.failures L.room log.new)) result }
     ensures zeros { region.new ≡ replicate (length region.old) 0 }
 {
     relay_pausing::<R, W, L, NoPause>(alloc, source, out, log, root, calls, options, region)
@@ -59,11 +61,14 @@ pub fn relay_pausing<R: BufRead, W: Write, L: Write, P: Pause<R, W, L>>(
 ) -> Result<Counts, RelayFault>
     requires region { length region.old ≡ 8 * (options.bounds.words + 1) }
     requires root { IsRoot root }
-    ensures run { RelaysPausing P.may_fail (relay_work root.entry calls.now options W.may_grow L.may_grow)
+    ensures run { RelaysPausing P.may_fail
+        (relay_work root.entry calls.now options W.may_grow L.may_grow)
         (streams (source_seen R.remaining R.failures source.old)
-        (sink_seen W.contents W.failures W.room out.old) (sink_seen L.contents L.failures L.room log.old))
+        (sink_seen W.contents W.failures W.room out.old)
+        (sink_seen L.contents L.failures L.room log.old))
         (streams (source_seen R.remaining R.failures source.new)
-        (sink_seen W.contents W.failures W.room out.new) (sink_seen L.contents L.failures L.room log.new)) result }
+        (sink_seen W.contents W.failures W.room out.new)
+        (sink_seen L.contents L.failures L.room log.new)) result }
     ensures zeros { region.new ≡ replicate (length region.old) 0 }
 {
     region.fill(0);

@@ -33,9 +33,11 @@ pub(crate) fn answer_all<
     ensures { RelaysPausing P.may_fail (work I.reader O.writer (Some limit)
         (A.is_answer answers.now) (A.is_too_large answers.now) W.may_grow L.may_grow)
         (streams (source_seen R.remaining R.failures source.old)
-        (sink_seen W.contents W.failures W.room out.old) (sink_seen L.contents L.failures L.room log.old))
+        (sink_seen W.contents W.failures W.room out.old)
+        (sink_seen L.contents L.failures L.room log.old))
         (streams (source_seen R.remaining R.failures source.new)
-        (sink_seen W.contents W.failures W.room out.new) (sink_seen L.contents L.failures L.room log.new)) result }
+        (sink_seen W.contents W.failures W.room out.new)
+        (sink_seen L.contents L.failures L.room log.new)) result }
 {
     let mut counts = Counts {
         written: 0,

@@ -26,7 +26,8 @@ use std::alloc::{AllocError, Global};
 
 /// The bytes of words.
 fn bytes_of(alloc: Global, words: &[u64]) -> Result<Vec<u8>, AllocError>
-    ensures { IfOk result (λ bytes. (whole_words bytes.items ≡ words.now) × (length bytes.items ≡ 8 * length words.now)) }
+    ensures { IfOk result (λ bytes.
+        (whole_words bytes.items ≡ words.now) × (length bytes.items ≡ 8 * length words.now)) }
 {
     let mut bytes = Vec::new(alloc);
     for word in words {
@@ -62,11 +63,13 @@ fn prepare<A: Answers>(
     message: &OwnedSegments,
 ) -> Result<Prepared, Fault>
     ensures room { OnOk result (answered < 2 ^ 64 - 1) }
-    ensures answer { IfOk result (λ p. A.is_answer answers.now (segments_of message.now) (answer_view p.answer)) }
+    ensures answer { IfOk result (λ p.
+        A.is_answer answers.now (segments_of message.now) (answer_view p.answer)) }
     ensures segment { IfOk result (λ p. HoldsSegment (answer_view p.answer) p.segment.items) }
     ensures line { IfOk result (λ p. p.line.items ≡ line_of (answered + 1) (answer_view p.answer)) }
     ensures err { IfErr result (λ f. (f ≡ Fault.Memory) ⊎ (f ≡ Fault.Size)) }
-    ensures size { result ≡ Err Fault.Size → (answered ≡ 2 ^ 64 - 1) ⊎ A.is_too_large answers.now (segments_of message.now) }
+    ensures size { result ≡ Err Fault.Size → (answered ≡ 2 ^ 64 - 1)
+        ⊎ A.is_too_large answers.now (segments_of message.now) }
 {
     if answered == u64::MAX {
         return Err(Fault::Size);
@@ -94,7 +97,8 @@ fn prepare<A: Answers>(
 fn source_fault(e: Error) -> Fault
     ensures memory { e.kind ≡ ErrorKind.OutOfMemory → result ≡ Fault.Memory }
     ensures device { e.kind ≡ ErrorKind.Device → result ≡ Fault.Source }
-    ensures other { e.kind ≢ ErrorKind.OutOfMemory → e.kind ≢ ErrorKind.Device → result ≡ Fault.Framing e.kind }
+    ensures other { e.kind ≢ ErrorKind.OutOfMemory → e.kind ≢ ErrorKind.Device
+        → result ≡ Fault.Framing e.kind }
 {
     match e.kind {
         ErrorKind::OutOfMemory => Fault::Memory,
@@ -123,11 +127,17 @@ fn put_out<O: MessageForm, W: Write>(
 ) -> Result<(), Fault>
     requires holds { HoldsSegment (answer_view answer.now) segment.now }
     requires room { counts.old.written < 2 ^ 64 - 1 }
-    ensures ok { OnOk result (SinkTakes (sink_seen W.contents W.failures W.room out.old) (sink_seen W.contents W.failures W.room out.new) (output_of O.writer (answer_view answer.now))
+    ensures ok { OnOk result
+        (SinkTakes (sink_seen W.contents W.failures W.room out.old)
+        (sink_seen W.contents W.failures W.room out.new)
+        (output_of O.writer (answer_view answer.now))
         × (counts.new.written ≡ counts.old.written + written_one (answer_view answer.now))) }
     ensures refused { counts.new.refused ≡ counts.old.refused }
-    ensures err { IfErr result (λ f. (segments : Segments) × (replies : List ModelReply) × (answer_view answer.now ≡ written segments replies)
-        × SinkRefused Fault.Out W.may_grow f (sink_seen W.contents W.failures W.room out.old) (sink_seen W.contents W.failures W.room out.new) (spelled O.writer segments)
+    ensures err { IfErr result (λ f.
+        (segments : Segments) × (replies : List ModelReply)
+        × (answer_view answer.now ≡ written segments replies)
+        × SinkRefused Fault.Out W.may_grow f (sink_seen W.contents W.failures W.room out.old)
+        (sink_seen W.contents W.failures W.room out.new) (spelled O.writer segments)
         × (counts.new ≡ counts.old)) }
 {
     if let MessageAnswer::Written {
@@ -151,10 +161,14 @@ fn put_log<L: Write>(
     counts: &mut Counts,
 ) -> Result<(), Fault>
     requires room { counts.old.refused < 2 ^ 64 - 1 }
-    ensures ok { OnOk result (SinkTakes (sink_seen L.contents L.failures L.room log.old) (sink_seen L.contents L.failures L.room log.new) line.now
+    ensures ok { OnOk result
+        (SinkTakes (sink_seen L.contents L.failures L.room log.old)
+        (sink_seen L.contents L.failures L.room log.new) line.now
         × (counts.new.refused ≡ counts.old.refused + refused_one (answer_view answer.now))) }
     ensures written { counts.new.written ≡ counts.old.written }
-    ensures err { IfErr result (λ f. SinkRefused Fault.Log L.may_grow f (sink_seen L.contents L.failures L.room log.old) (sink_seen L.contents L.failures L.room log.new) line.now
+    ensures err { IfErr result (λ f.
+        SinkRefused Fault.Log L.may_grow f (sink_seen L.contents L.failures L.room log.old)
+        (sink_seen L.contents L.failures L.room log.new) line.now
         × (counts.new.refused ≡ counts.old.refused)) }
 {
     if let Err(e) = log.write_all(line) {
@@ -179,22 +193,31 @@ pub(crate) fn step<I: MessageForm, O: MessageForm, R: BufRead, W: Write, L: Writ
 ) -> Result<bool, Fault>
     requires together { counts.old.written + counts.old.refused ≡ answered }
     ensures end { result ≡ Ok false → IsAtEnd (R.remaining source.old)
-        × SourceStays (source_seen R.remaining R.failures source.old) (source_seen R.remaining R.failures source.new)
-        × SinkStays (sink_seen W.contents W.failures W.room out.old) (sink_seen W.contents W.failures W.room out.new)
-        × SinkStays (sink_seen L.contents L.failures L.room log.old) (sink_seen L.contents L.failures L.room log.new)
+        × SourceStays (source_seen R.remaining R.failures source.old)
+        (source_seen R.remaining R.failures source.new)
+        × SinkStays (sink_seen W.contents W.failures W.room out.old)
+        (sink_seen W.contents W.failures W.room out.new)
+        × SinkStays (sink_seen L.contents L.failures L.room log.old)
+        (sink_seen L.contents L.failures L.room log.new)
         × (counts.new ≡ counts.old) }
-    ensures one { result ≡ Ok true → (answered < 2 ^ 64 - 1) × AnswersOne (work I.reader O.writer (Some limit)
+    ensures one { result ≡ Ok true → (answered < 2 ^ 64 - 1)
+        × AnswersOne (work I.reader O.writer (Some limit)
         (A.is_answer answers.now) (A.is_too_large answers.now) W.may_grow L.may_grow) (answered + 1)
         (streams (source_seen R.remaining R.failures source.old)
-        (sink_seen W.contents W.failures W.room out.old) (sink_seen L.contents L.failures L.room log.old))
+        (sink_seen W.contents W.failures W.room out.old)
+        (sink_seen L.contents L.failures L.room log.old))
         (streams (source_seen R.remaining R.failures source.new)
-        (sink_seen W.contents W.failures W.room out.new) (sink_seen L.contents L.failures L.room log.new)) counts.old counts.new }
+        (sink_seen W.contents W.failures W.room out.new)
+        (sink_seen L.contents L.failures L.room log.new)) counts.old counts.new }
     ensures fault { IfErr result (λ f. Stops (work I.reader O.writer (Some limit)
-        (A.is_answer answers.now) (A.is_too_large answers.now) W.may_grow L.may_grow) (answered + 1) f
+        (A.is_answer answers.now) (A.is_too_large answers.now) W.may_grow L.may_grow) (answered + 1)
+        f
         (streams (source_seen R.remaining R.failures source.old)
-        (sink_seen W.contents W.failures W.room out.old) (sink_seen L.contents L.failures L.room log.old))
+        (sink_seen W.contents W.failures W.room out.old)
+        (sink_seen L.contents L.failures L.room log.old))
         (streams (source_seen R.remaining R.failures source.new)
-        (sink_seen W.contents W.failures W.room out.new) (sink_seen L.contents L.failures L.room log.new)) counts.old counts.new) }
+        (sink_seen W.contents W.failures W.room out.new)
+        (sink_seen L.contents L.failures L.room log.new)) counts.old counts.new) }
 {
     let message = match try_read_message_in::<I, R>(alloc, source, Some(limit)) {
         Ok(Some(message)) => message,

@@ -64,7 +64,8 @@ pub(crate) fn copied<A: ReaderArena>(
     options: ReaderOptions,
 ) -> Result<CanonicalMessage, ShowFault>
     ensures copy { IfOk result (λ v. IsCopy levels options.traversal_limit_in_words
-        (words_in (A.segments message.now)) (words_in (flat_map (λ word. word) v.words.items ∷ []))) }
+        (words_in (A.segments message.now))
+        (words_in (flat_map (λ word. word) v.words.items ∷ []))) }
     ensures refused { IfErr result (IsNoCopy levels options.traversal_limit_in_words
         (words_in (A.segments message.now))) }
 {

@@ -33,9 +33,11 @@ pub(crate) fn first_message<'a>(
     options: ReaderOptions,
 ) -> Result<Reader<NoAllocSliceSegments<'a>>>
     ensures message { IfOk result (λ m. (rest : List ℕ)
-        × (first_message options.traversal_limit_in_words bytes.now ≡ Ok (words_in (found_segments m.segments), rest))) }
+        × (first_message options.traversal_limit_in_words bytes.now
+        ≡ Ok (words_in (found_segments m.segments), rest))) }
     ensures options { IfOk result (λ m. m.options ≡ options) }
-    ensures refused { IfErr result (λ e. first_message options.traversal_limit_in_words bytes.now ≡ Err (kind_of e.kind)) }
+    ensures refused { IfErr result (λ e.
+        first_message options.traversal_limit_in_words bytes.now ≡ Err (kind_of e.kind)) }
 {
     texts_of_messages();
     let mut left = bytes;

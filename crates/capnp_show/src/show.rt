@@ -49,7 +49,8 @@ pub enum ShowFault {
 
 /// Why no text was printed.
 fn fault_of(e: Error) -> ShowFault
-    ensures { (result ≡ ShowFault.Memory) ⊎ ((result ≡ ShowFault.Unreadable) × (e.kind ≢ ErrorKind.OutOfMemory)) }
+    ensures { (result ≡ ShowFault.Memory)
+        ⊎ ((result ≡ ShowFault.Unreadable) × (e.kind ≢ ErrorKind.OutOfMemory)) }
 {
     match e.kind {
         ErrorKind::OutOfMemory => ShowFault::Memory,
@@ -81,8 +82,10 @@ fn text_of<'a, A: ReaderArena>(
     arena: &'a A,
     root: StructSchema<'a>,
 ) -> Result<Vec<u8>, ShowFault>
-    ensures text { IfOk result (λ v. IsRootText root.entry (A.nesting arena.now) (words_in (A.segments arena.now)) v.items) }
-    ensures fault { IfErr result (IsNoText root.entry (A.nesting arena.now) (words_in (A.segments arena.now))) }
+    ensures text { IfOk result (λ v.
+        IsRootText root.entry (A.nesting arena.now) (words_in (A.segments arena.now)) v.items) }
+    ensures fault { IfErr result
+        (IsNoText root.entry (A.nesting arena.now) (words_in (A.segments arena.now))) }
 {
     pointers_are_read();
     records_are_read();

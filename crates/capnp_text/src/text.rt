@@ -206,7 +206,9 @@ impl<'a> Builder<'a> {
     pub fn push_str(&mut self, string: &str)
         requires { self.old.pos + length string.now ≤ length self.old.bytes.now }
         ensures same { self.new.bytes.ghost_name ≡ self.old.bytes.ghost_name }
-        ensures bytes { self.new.bytes.now ≡ take self.old.pos self.old.bytes.now ++ string.now ++ drop (self.old.pos + length string.now) self.old.bytes.now }
+        ensures bytes { self.new.bytes.now
+            ≡ take self.old.pos self.old.bytes.now ++ string.now ++ drop
+            (self.old.pos + length string.now) self.old.bytes.now }
         ensures pos { self.new.pos ≡ self.old.pos + length string.now }
     {
         let end = self.pos + string.len();

@@ -98,7 +98,8 @@ impl<'a, A: ReaderArena> FromAnyPointer<'a, A> for text::Reader<'a> {
     ghost reads = { λ p r. seen (λ t. t.0.now) r ≡ text_at p };
 
     fn from_any_pointer(pointer: Reader<'a, A>) -> Result<text::Reader<'a>>
-        ensures { seen (λ t. t.0.now) result ≡ text_at (pointer_seen A.segments pointer.entry.source) }
+        ensures { seen (λ t. t.0.now) result
+            ≡ text_at (pointer_seen A.segments pointer.entry.source) }
     {
         Ok(text::Reader(pointer.source.text()?))
     }
@@ -109,7 +110,8 @@ impl<'a, A: ReaderArena> FromAnyPointer<'a, A> for &'a [u8] {
     ghost reads = { λ p r. seen (λ bytes. bytes.now) r ≡ data_at p };
 
     fn from_any_pointer(pointer: Reader<'a, A>) -> Result<&'a [u8]>
-        ensures { seen (λ bytes. bytes.now) result ≡ data_at (pointer_seen A.segments pointer.entry.source) }
+        ensures { seen (λ bytes. bytes.now) result
+            ≡ data_at (pointer_seen A.segments pointer.entry.source) }
     {
         pointer.source.data()
     }
@@ -120,7 +122,8 @@ impl<'a, A: ReaderArena> FromAnyPointer<'a, A> for Reader<'a, A> {
     ghost reads = { λ p r. seen (λ q. pointer_seen A.segments q.source) r ≡ Ok p };
 
     fn from_any_pointer(pointer: Reader<'a, A>) -> Result<Reader<'a, A>>
-        ensures { seen (λ q. pointer_seen A.segments q.source) result ≡ Ok (pointer_seen A.segments pointer.entry.source) }
+        ensures { seen (λ q. pointer_seen A.segments q.source) result
+            ≡ Ok (pointer_seen A.segments pointer.entry.source) }
     {
         Ok(pointer)
     }

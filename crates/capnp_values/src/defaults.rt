@@ -70,8 +70,10 @@ pub(crate) fn default_list<'a>(
     bytes: &'a [u8],
     expected: ElementSize,
 ) -> Result<ListReader<'a, Defaults>>
-    ensures list { seen (seen_list default_segments) result ≡ list_at expected (default_pointer bytes.now) }
-    ensures bytewise { size_number expected ≢ 1 → IfOk result (λ l. size_number (seen_list default_segments l).size ≢ 1) }
+    ensures list { seen (seen_list default_segments) result
+        ≡ list_at expected (default_pointer bytes.now) }
+    ensures bytewise { size_number expected ≢ 1
+        → IfOk result (λ l. size_number (seen_list default_segments l).size ≢ 1) }
 {
     let (words, _) = bytes.as_chunks::<8>();
     let mut unlimited = ReadLimiter::new(None);

@@ -24,7 +24,8 @@ pub struct Reader<'a, A> {
     set: &'a SchemaSet,
     element_type: Type,
     ghost known: { is_type_of (nodes_of set.now) element_type ≡ true },
-    ghost bytewise: { size_number (size_of (ty_of element_type)) ≢ 1 → size_number (size_in source) ≢ 1 },
+    ghost bytewise: { size_number (size_of (ty_of element_type)) ≢ 1
+        → size_number (size_in source) ≢ 1 },
 }
 
 impl<A> Clone for Reader<'_, A> {
@@ -51,7 +52,8 @@ impl<'a, A: ReaderArena> Reader<'a, A> {
         element_type: Type,
     ) -> Self
         requires known { is_type_of (nodes_of set.now) element_type ≡ true }
-        requires bytewise { size_number (size_of (ty_of element_type)) ≢ 1 → size_number (size_in source) ≢ 1 }
+        requires bytewise { size_number (size_of (ty_of element_type)) ≢ 1
+            → size_number (size_in source) ≢ 1 }
         ensures source { result.source ≡ source.entry }
         ensures set { nodes_of result.set.now ≡ nodes_of set.now }
         ensures element_type { result.element_type ≡ element_type }

@@ -44,7 +44,8 @@ fn with_bytes(value: &Value) -> &Value
 
 /// The default that a slot's record says.
 fn default_of(body: &FieldBody) -> Option<&Value>
-    ensures said { option_map value_of (option_copied result) ≡ default_said (kind_of_field body.now) }
+    ensures said { option_map value_of (option_copied result)
+        ≡ default_said (kind_of_field body.now) }
     ensures bytes { IfSome (default_said (kind_of_field body.now)) HasBytes }
 {
     match body {
@@ -66,7 +67,8 @@ pub struct Reader<'a, A> {
 impl<'a, A: ReaderArena> Reader<'a, A> {
     /// A message's struct under a schema.
     pub fn new(reader: StructReader<'a, A>, schema: StructSchema<'a>) -> Self
-        ensures source { struct_seen A.segments result.source ≡ seen_struct A.segments reader.entry }
+        ensures source { struct_seen A.segments result.source
+            ≡ seen_struct A.segments reader.entry }
         ensures schema { result.schema ≡ schema.entry }
     {
         Reader {
@@ -100,7 +102,8 @@ impl<'a, A: ReaderArena> Reader<'a, A> {
     ///
     /// It is refused by the kind of the fault at the field's pointer, with `NestingLimitExceeded` where no level is left for it, and with `WrongPointerKind`, `WrongElementSize` or `TextWithoutZeroByte` where what is there can't be read as the field's type.
     pub fn get(self, field: Field<'a>) -> Result<dynamic_value::Reader<'a, A>>
-        ensures { ShowsField A.segments (struct_seen A.segments self.entry.source) field.entry result }
+        ensures { ShowsField A.segments (struct_seen A.segments self.entry.source) field.entry
+            result }
     {
         let set = field.parent().set();
         let said = field.get_proto();
@@ -130,7 +133,8 @@ impl<'a, A: ReaderArena> Reader<'a, A> {
     /// The value of the discriminant, where the schema has a union; 0 where it doesn't lie in the section.
     #[tactic(auto, using(crate::proofs::Bits::tag_bits))]
     fn discriminant(&self, schema: StructSchema<'a>) -> Option<u16>
-        ensures { result ≡ discriminant_shown schema.entry (struct_seen A.segments self.now.source) }
+        ensures { result ≡ discriminant_shown schema.entry
+            (struct_seen A.segments self.now.source) }
     {
         match schema.discriminant_offset() {
             None => None,
@@ -181,7 +185,9 @@ impl<'a, A: ReaderArena> Reader<'a, A> {
 
     /// What the field of a name is read as, as by `get`. A name that the struct lacks is refused by `FieldNotFound`.
     pub fn get_named(self, name: &str) -> Result<dynamic_value::Reader<'a, A>>
-        ensures { let r = self.entry in AnswersNamed r.schema name.now (ShowsField A.segments (struct_seen A.segments r.source)) result }
+        ensures { let r = self.entry in
+            AnswersNamed r.schema name.now
+            (ShowsField A.segments (struct_seen A.segments r.source)) result }
     {
         let field = self.schema.get_field_by_name(name)?;
         self.get(field)
@@ -189,7 +195,8 @@ impl<'a, A: ReaderArena> Reader<'a, A> {
 
     /// Whether the field of a name is there, as by `has`. A name that the struct lacks is refused by `FieldNotFound`, and nothing else is.
     pub fn has_named(&self, name: &str) -> Result<bool>
-        ensures { let r = self.now in AnswersNamed r.schema name.now (TellsField (struct_seen A.segments r.source)) result }
+        ensures { let r = self.now in
+            AnswersNamed r.schema name.now (TellsField (struct_seen A.segments r.source)) result }
     {
         let field = self.schema.get_field_by_name(name)?;
         self.has(field)

@@ -28,7 +28,8 @@ impl<'a, A: ReaderArena> Reader<'a, A> {
     #[tactic(auto, using(crate::proofs::Named::named_rules))]
     pub fn new(set: &'a SchemaSet, value: &'a Value, ty: Type) -> Result<Self>
         requires { is_type_of (nodes_of set.now) ty ≡ true }
-        ensures { seen (shown A.segments) result ≡ value_shown (schema_in set.now) (ty_of ty) (value_of value.now) }
+        ensures { seen (shown A.segments) result
+            ≡ value_shown (schema_in set.now) (ty_of ty) (value_of value.now) }
     {
         match (value, ty.which()) {
             (Value::Void, TypeVariant::Void) => Ok(Reader::Void),

@@ -46,13 +46,15 @@ pub(crate) fn element_size(ty: Type) -> ElementSize
 }
 
 fn open_text<'a, A: ReaderArena>(pointer: PointerSource<'a, A>) -> Result<Reader<'a, A>>
-    ensures { seen (shown A.segments) result ≡ (text_at (pointer_seen A.segments pointer.entry) and_then λ bytes. Ok (a_text bytes)) }
+    ensures { seen (shown A.segments) result
+        ≡ (text_at (pointer_seen A.segments pointer.entry) and_then λ bytes. Ok (a_text bytes)) }
 {
     Ok(Reader::Text(text::Reader(pointer.text()?)))
 }
 
 fn open_data<'a, A: ReaderArena>(pointer: PointerSource<'a, A>) -> Result<Reader<'a, A>>
-    ensures { seen (shown A.segments) result ≡ (data_at (pointer_seen A.segments pointer.entry) and_then λ bytes. Ok (a_blob bytes)) }
+    ensures { seen (shown A.segments) result
+        ≡ (data_at (pointer_seen A.segments pointer.entry) and_then λ bytes. Ok (a_blob bytes)) }
 {
     Ok(Reader::Data(pointer.data()?))
 }
@@ -64,7 +66,9 @@ pub(crate) fn struct_value<'a, A: ReaderArena>(
     raw: RawBrandedStructSchema,
 ) -> Reader<'a, A>
     requires { IsNodeOf (nodes_of set.now) raw }
-    ensures { let s = schema_in set.now in shown A.segments result ≡ a_struct s (s.shape_of raw.id) (struct_seen A.segments source.entry) }
+    ensures { let s = schema_in set.now in
+        shown A.segments result
+        ≡ a_struct s (s.shape_of raw.id) (struct_seen A.segments source.entry) }
 {
     let schema = StructSchema::new(set, raw);
     Reader::Struct(dynamic_struct::Reader { source, schema })
@@ -77,8 +81,10 @@ fn list_value<'a, A: ReaderArena>(
     element_type: Type,
 ) -> Reader<'a, A>
     requires known { is_type_of (nodes_of set.now) element_type ≡ true }
-    requires bytewise { size_number (size_of (ty_of element_type)) ≢ 1 → size_number (size_in source) ≢ 1 }
-    ensures { shown A.segments result ≡ a_list (schema_in set.now) (ty_of element_type) (list_seen A.segments source.entry) }
+    requires bytewise { size_number (size_of (ty_of element_type)) ≢ 1
+        → size_number (size_in source) ≢ 1 }
+    ensures { shown A.segments result
+        ≡ a_list (schema_in set.now) (ty_of element_type) (list_seen A.segments source.entry) }
 {
     Reader::List(dynamic_list::Reader::of_source(source, set, element_type))
 }
@@ -89,7 +95,8 @@ fn open_struct<'a, A: ReaderArena>(
     raw: RawBrandedStructSchema,
 ) -> Result<Reader<'a, A>>
     requires { IsNodeOf (nodes_of set.now) raw }
-    ensures { seen (shown A.segments) result ≡ opened (schema_in set.now) (struct raw.id) (pointer_seen A.segments pointer.entry) }
+    ensures { seen (shown A.segments) result
+        ≡ opened (schema_in set.now) (struct raw.id) (pointer_seen A.segments pointer.entry) }
 {
     Ok(struct_value(pointer.structure()?, set, raw))
 }
@@ -100,7 +107,9 @@ fn open_list<'a, A: ReaderArena>(
     element_type: Type,
 ) -> Result<Reader<'a, A>>
     requires { is_type_of (nodes_of set.now) element_type ≡ true }
-    ensures { seen (shown A.segments) result ≡ opened (schema_in set.now) (list (ty_of element_type)) (pointer_seen A.segments pointer.entry) }
+    ensures { seen (shown A.segments) result
+        ≡ opened (schema_in set.now) (list (ty_of element_type))
+        (pointer_seen A.segments pointer.entry) }
 {
     let source = pointer.list(element_size(element_type))?;
     Ok(list_value(source, set, element_type))
@@ -114,7 +123,8 @@ pub(crate) fn open<'a, A: ReaderArena>(
     ty: Type,
 ) -> Result<Reader<'a, A>>
     requires { is_type_of (nodes_of set.now) ty ≡ true }
-    ensures { seen (shown A.segments) result ≡ opened (schema_in set.now) (ty_of ty) (pointer_seen A.segments pointer.entry) }
+    ensures { seen (shown A.segments) result
+        ≡ opened (schema_in set.now) (ty_of ty) (pointer_seen A.segments pointer.entry) }
 {
     match ty.which() {
         TypeVariant::Text => open_text(pointer),
@@ -134,7 +144,8 @@ pub(crate) fn struct_of_default<'a, A: ReaderArena>(
     raw: RawBrandedStructSchema,
 ) -> Result<Reader<'a, A>>
     requires { IsNodeOf (nodes_of set.now) raw }
-    ensures { seen (shown A.segments) result ≡ opened (schema_in set.now) (struct raw.id) (default_pointer bytes.now) }
+    ensures { seen (shown A.segments) result
+        ≡ opened (schema_in set.now) (struct raw.id) (default_pointer bytes.now) }
 {
     let source = default_struct(bytes)?;
     Ok(struct_value(StructSource::Default(source), set, raw))
@@ -147,7 +158,8 @@ pub(crate) fn list_of_default<'a, A: ReaderArena>(
     element_type: Type,
 ) -> Result<Reader<'a, A>>
     requires { is_type_of (nodes_of set.now) element_type ≡ true }
-    ensures { seen (shown A.segments) result ≡ opened (schema_in set.now) (list (ty_of element_type)) (default_pointer bytes.now) }
+    ensures { seen (shown A.segments) result
+        ≡ opened (schema_in set.now) (list (ty_of element_type)) (default_pointer bytes.now) }
 {
     let source = default_list(bytes, element_size(element_type))?;
     Ok(list_value(ListSource::Default(source), set, element_type))
@@ -162,7 +174,9 @@ fn open_segment<'a, A: ReaderArena>(
     bytes: &'a [u8],
 ) -> Result<Reader<'a, A>>
     requires { is_type_of (nodes_of set.now) ty ≡ true }
-    ensures { seen (shown A.segments) result ≡ segment_opened (schema_in set.now) (ty_of ty) (pointer_seen A.segments pointer.entry) bytes.now }
+    ensures { seen (shown A.segments) result
+        ≡ segment_opened (schema_in set.now) (ty_of ty) (pointer_seen A.segments pointer.entry)
+        bytes.now }
 {
     match ty.which() {
         TypeVariant::Struct(raw) => struct_of_default(bytes, set, raw),
@@ -179,7 +193,9 @@ fn open_default<'a, A: ReaderArena>(
     default: &'a Value,
 ) -> Result<Reader<'a, A>>
     requires { is_type_of (nodes_of set.now) ty ≡ true }
-    ensures { seen (shown A.segments) result ≡ default_opened (schema_in set.now) (ty_of ty) (pointer_seen A.segments pointer.entry) (value_of default.now) }
+    ensures { seen (shown A.segments) result
+        ≡ default_opened (schema_in set.now) (ty_of ty) (pointer_seen A.segments pointer.entry)
+        (value_of default.now) }
 {
     match default {
         Value::Text(bytes) => Ok(Reader::Text(text::Reader(bytes))),
@@ -197,7 +213,10 @@ pub(crate) fn open_slot<'a, A: ReaderArena>(
     default: Option<&'a Value>,
 ) -> Result<Reader<'a, A>>
     requires { is_type_of (nodes_of set.now) ty ≡ true }
-    ensures { seen (shown A.segments) result ≡ slot_opened (schema_in set.now) (ty_of ty) (option_map value_of (option_copied default.entry)) (pointer_seen A.segments pointer.entry) }
+    ensures { seen (shown A.segments) result
+        ≡ slot_opened (schema_in set.now) (ty_of ty)
+        (option_map value_of (option_copied default.entry))
+        (pointer_seen A.segments pointer.entry) }
 {
     match default {
         Some(value) if pointer.is_null() => open_default(pointer, set, ty, value),

@@ -23,7 +23,9 @@ pub(crate) fn plain_value<'a, A: ReaderArena>(
 ) -> Reader<'a, A>
     requires fits { default_bits < 2 ^ width (plain_of ty) }
     requires known { is_plain_of (nodes_of set.now) ty ≡ true }
-    ensures { shown A.segments result ≡ plain_shown (schema_in set.now) (struct_seen A.segments source.now) (plain_of ty) offset default_bits }
+    ensures { shown A.segments result
+        ≡ plain_shown (schema_in set.now) (struct_seen A.segments source.now) (plain_of ty) offset
+        default_bits }
 {
     match ty {
         PlainType::Bool => Reader::Bool(source.bit(offset, default_bits == 1)),

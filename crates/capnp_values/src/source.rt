@@ -59,7 +59,8 @@ fn data_behind<'a, A: ReaderArena>(pointer: PointerReader<'a, A>) -> Result<&'a 
 
 #[tactic(auto, using(crate::proofs::Unlimited::answers_reading))]
 fn struct_behind<'a, A: ReaderArena>(pointer: PointerReader<'a, A>) -> Result<StructReader<'a, A>>
-    ensures { seen (seen_struct A.segments) result ≡ struct_at (seen_pointer A.segments pointer.entry) }
+    ensures { seen (seen_struct A.segments) result
+        ≡ struct_at (seen_pointer A.segments pointer.entry) }
 {
     let mut unlimited = ReadLimiter::new(None);
     pointer.get_struct(&mut unlimited, None)
@@ -70,8 +71,10 @@ fn list_behind<'a, A: ReaderArena>(
     pointer: PointerReader<'a, A>,
     expected: ElementSize,
 ) -> Result<ListReader<'a, A>>
-    ensures list { seen (seen_list A.segments) result ≡ list_at expected (seen_pointer A.segments pointer.entry) }
-    ensures bytewise { size_number expected ≢ 1 → IfOk result (λ l. size_number (seen_list A.segments l).size ≢ 1) }
+    ensures list { seen (seen_list A.segments) result
+        ≡ list_at expected (seen_pointer A.segments pointer.entry) }
+    ensures bytewise { size_number expected ≢ 1
+        → IfOk result (λ l. size_number (seen_list A.segments l).size ≢ 1) }
 {
     let mut unlimited = ReadLimiter::new(None);
     pointer.get_list(&mut unlimited, expected, None)
@@ -99,7 +102,9 @@ fn number_of<T: Primitive + Zero + Mask, A: ReaderArena>(
     mask: T::T,
 ) -> T
     requires { T.mask_bits mask < 2 ^ (8 * T.BYTES) }
-    ensures { T.bits result ≡ masked_bits (seen_struct A.segments reader.now) (8 * (T.BYTES * offset)) (8 * T.BYTES) (T.mask_bits mask) }
+    ensures { T.bits result
+        ≡ masked_bits (seen_struct A.segments reader.now) (8 * (T.BYTES * offset)) (8 * T.BYTES)
+        (T.mask_bits mask) }
 {
     reader.get_data_field_mask::<T>(offset, mask)
 }
@@ -149,7 +154,8 @@ impl<'a, A: ReaderArena> PointerSource<'a, A> {
 
     /// The struct behind the pointer; null is the empty one.
     pub(crate) fn structure(self) -> Result<StructSource<'a, A>>
-        ensures { seen (struct_seen A.segments) result ≡ struct_at (pointer_seen A.segments self.entry) }
+        ensures { seen (struct_seen A.segments) result
+            ≡ struct_at (pointer_seen A.segments self.entry) }
     {
         match self {
             PointerSource::Message(pointer) => Ok(StructSource::Message(struct_behind(pointer)?)),
@@ -159,8 +165,10 @@ impl<'a, A: ReaderArena> PointerSource<'a, A> {
 
     /// The list behind the pointer, whose elements can be read as ones of the expected size; null is the empty one.
     pub(crate) fn list(self, expected: ElementSize) -> Result<ListSource<'a, A>>
-        ensures list { seen (list_seen A.segments) result ≡ list_at expected (pointer_seen A.segments self.entry) }
-        ensures bytewise { size_number expected ≢ 1 → IfOk result (λ l. size_number (size_in l) ≢ 1) }
+        ensures list { seen (list_seen A.segments) result
+            ≡ list_at expected (pointer_seen A.segments self.entry) }
+        ensures bytewise { size_number expected ≢ 1
+            → IfOk result (λ l. size_number (size_in l) ≢ 1) }
     {
         match self {
             PointerSource::Message(pointer) => Ok(ListSource::Message(list_behind(
@@ -177,7 +185,9 @@ impl<'a, A: ReaderArena> StructSource<'a, A> {
     /// A number of the data section, exclusive or its default; just the default where it doesn't lie wholly in the section.
     pub(crate) fn number<T: Primitive + Zero + Mask>(&self, offset: usize, mask: T::T) -> T
         requires { T.mask_bits mask < 2 ^ (8 * T.BYTES) }
-        ensures { T.bits result ≡ masked_bits (struct_seen A.segments self.now) (8 * (T.BYTES * offset)) (8 * T.BYTES) (T.mask_bits mask) }
+        ensures { T.bits result
+            ≡ masked_bits (struct_seen A.segments self.now) (8 * (T.BYTES * offset)) (8 * T.BYTES)
+            (T.mask_bits mask) }
     {
         match self {
             StructSource::Message(reader) => number_of(reader, offset, mask),
@@ -197,7 +207,8 @@ impl<'a, A: ReaderArena> StructSource<'a, A> {
 
     /// A bit of the data section, exclusive or its default.
     pub(crate) fn bit(&self, offset: usize, mask: bool) -> bool
-        ensures { result ≡ (masked_bits (struct_seen A.segments self.now) offset 1 (bit_of_bool mask) == 1) }
+        ensures { result ≡ (masked_bits (struct_seen A.segments self.now) offset 1
+            (bit_of_bool mask) == 1) }
     {
         match self {
             StructSource::Message(reader) => reader.get_bool_field_mask(offset, mask),
@@ -207,7 +218,8 @@ impl<'a, A: ReaderArena> StructSource<'a, A> {
 
     /// A pointer of the pointer section, null past its end.
     pub(crate) fn pointer(&self, index: usize) -> PointerSource<'a, A>
-        ensures { pointer_seen A.segments result ≡ pointer_field (struct_seen A.segments self.now) index }
+        ensures { pointer_seen A.segments result
+            ≡ pointer_field (struct_seen A.segments self.now) index }
     {
         match self {
             StructSource::Message(reader) => PointerSource::Message(reader.get_pointer_field(
@@ -234,7 +246,8 @@ impl<'a, A: ReaderArena> ListSource<'a, A> {
     /// The value at the front of an element.
     pub(crate) fn number<T: PrimitiveElement>(&self, index: u32) -> T
         requires { index < (list_seen A.segments self.now).count }
-        ensures { result ≡ T.of_bits (element_number (list_seen A.segments self.now) index T.width) }
+        ensures { result ≡ T.of_bits
+            (element_number (list_seen A.segments self.now) index T.width) }
     {
         match self {
             ListSource::Message(reader) => T::get(reader, index),
@@ -257,7 +270,8 @@ impl<'a, A: ReaderArena> ListSource<'a, A> {
     /// The first pointer of an element; null where it has none.
     pub(crate) fn pointer(&self, index: u32) -> PointerSource<'a, A>
         requires { index < (list_seen A.segments self.now).count }
-        ensures { pointer_seen A.segments result ≡ pointer_field (element_of (list_seen A.segments self.now) index) 0 }
+        ensures { pointer_seen A.segments result
+            ≡ pointer_field (element_of (list_seen A.segments self.now) index) 0 }
     {
         match self {
             ListSource::Message(reader) => PointerSource::Message(reader.get_pointer_element(

@@ -52,14 +52,18 @@ fn move_element<A: BuilderArena>(
     to: StructPlace,
     pads: Option<Place>,
 )
-    requires from { is_some (words_at (words_in (A.segments arena.old)) (place_view from.start) (from.data_words + from.pointers)) ≡ true }
-    requires to { is_some (words_at (words_in (A.segments arena.old)) (place_view to.start) (to.data_words + to.pointers)) ≡ true }
+    requires from { is_some (words_at (words_in (A.segments arena.old)) (place_view from.start)
+        (from.data_words + from.pointers)) ≡ true }
+    requires to { is_some (words_at (words_in (A.segments arena.old)) (place_view to.start)
+        (to.data_words + to.pointers)) ≡ true }
     requires wider { (from.data_words ≤ to.data_words) × (from.pointers ≤ to.pointers) }
     requires pads { HasPads (words_in (A.segments arena.old)) pads from.pointers }
     requires reached { IsReached pads from.start.segment to.start.segment }
     requires few { total_words (words_in (A.segments arena.old)) < 2 ^ 29 }
-    ensures moves { MovesElement (words_in (A.segments arena.old)) (words_in (A.segments arena.new)) from to (pads_of pads from.pointers) }
-    ensures sizes { map length (words_in (A.segments arena.new)) ≡ map length (words_in (A.segments arena.old)) }
+    ensures moves { MovesElement (words_in (A.segments arena.old))
+        (words_in (A.segments arena.new)) from to (pads_of pads from.pointers) }
+    ensures sizes { map length (words_in (A.segments arena.new))
+        ≡ map length (words_in (A.segments arena.old)) }
     ensures books { A.books arena.new ≡ A.books arena.old }
 {
     copy_words(arena, from.start, to.start, from.data_words as u32);
@@ -78,11 +82,14 @@ fn move_elements<A: BuilderArena>(
     requires structs { size_number old.size ≡ 7 }
     requires there { HasStructs (words_in (A.segments arena.old)) old }
     requires wider { HasWider (words_in (A.segments arena.old)) old new }
-    requires pads { HasPads (words_in (A.segments arena.old)) pads (old.count * least_pointers old) }
+    requires pads { HasPads (words_in (A.segments arena.old)) pads
+        (old.count * least_pointers old) }
     requires reached { IsReached pads old.start.segment new.start.segment }
     requires few { total_words (words_in (A.segments arena.old)) < 2 ^ 29 }
-    ensures fills { FillsElements (words_in (A.segments arena.old)) (words_in (A.segments arena.new)) old new (pads_of pads (old.count * least_pointers old)) }
-    ensures sizes { map length (words_in (A.segments arena.new)) ≡ map length (words_in (A.segments arena.old)) }
+    ensures fills { FillsElements (words_in (A.segments arena.old))
+        (words_in (A.segments arena.new)) old new (pads_of pads (old.count * least_pointers old)) }
+    ensures sizes { map length (words_in (A.segments arena.new))
+        ≡ map length (words_in (A.segments arena.old)) }
     ensures books { A.books arena.new ≡ A.books arena.old }
 {
     for i in 0..old.count {
@@ -103,11 +110,14 @@ fn move_each_pointer<A: BuilderArena>(
     requires counted { old.claimed ≡ old.count }
     requires there { HasPointers (words_in (A.segments arena.old)) old }
     requires wider { HasWider (words_in (A.segments arena.old)) old new }
-    requires pads { HasPads (words_in (A.segments arena.old)) pads (old.count * least_pointers old) }
+    requires pads { HasPads (words_in (A.segments arena.old)) pads
+        (old.count * least_pointers old) }
     requires reached { IsReached pads old.start.segment new.start.segment }
     requires few { total_words (words_in (A.segments arena.old)) < 2 ^ 29 }
-    ensures fills { FillsElements (words_in (A.segments arena.old)) (words_in (A.segments arena.new)) old new (pads_of pads (old.count * least_pointers old)) }
-    ensures sizes { map length (words_in (A.segments arena.new)) ≡ map length (words_in (A.segments arena.old)) }
+    ensures fills { FillsElements (words_in (A.segments arena.old))
+        (words_in (A.segments arena.new)) old new (pads_of pads (old.count * least_pointers old)) }
+    ensures sizes { map length (words_in (A.segments arena.new))
+        ≡ map length (words_in (A.segments arena.old)) }
     ensures books { A.books arena.new ≡ A.books arena.old }
 {
     for i in 0..old.count {
@@ -126,8 +136,10 @@ fn copy_numbers<A: BuilderArena>(arena: &mut A, old: ListPlace, new: ListPlace)
     requires counted { old.claimed ≡ old.count }
     requires near { old.start.position < 2 ^ 61 }
     requires wider { HasWider (words_in (A.segments arena.old)) old new }
-    ensures fills { FillsElements (words_in (A.segments arena.old)) (words_in (A.segments arena.new)) old new [] }
-    ensures sizes { map length (words_in (A.segments arena.new)) ≡ map length (words_in (A.segments arena.old)) }
+    ensures fills { FillsElements (words_in (A.segments arena.old))
+        (words_in (A.segments arena.new)) old new [] }
+    ensures sizes { map length (words_in (A.segments arena.new))
+        ≡ map length (words_in (A.segments arena.old)) }
     ensures books { A.books arena.new ≡ A.books arena.old }
 {
     for i in 0..old.count {
@@ -145,11 +157,14 @@ pub fn fill_elements<A: BuilderArena>(
 )
     requires old { HasList (words_in (A.segments arena.old)) old }
     requires wider { HasWider (words_in (A.segments arena.old)) old new }
-    requires pads { HasPads (words_in (A.segments arena.old)) pads (old.count * least_pointers old) }
+    requires pads { HasPads (words_in (A.segments arena.old)) pads
+        (old.count * least_pointers old) }
     requires reached { IsReached pads old.start.segment new.start.segment }
     requires few { total_words (words_in (A.segments arena.old)) < 2 ^ 29 }
-    ensures fills { FillsElements (words_in (A.segments arena.old)) (words_in (A.segments arena.new)) old new (pads_of pads (old.count * least_pointers old)) }
-    ensures sizes { map length (words_in (A.segments arena.new)) ≡ map length (words_in (A.segments arena.old)) }
+    ensures fills { FillsElements (words_in (A.segments arena.old))
+        (words_in (A.segments arena.new)) old new (pads_of pads (old.count * least_pointers old)) }
+    ensures sizes { map length (words_in (A.segments arena.new))
+        ≡ map length (words_in (A.segments arena.old)) }
     ensures books { A.books arena.new ≡ A.books arena.old }
 {
     match old.size {

@@ -46,9 +46,15 @@ fn is_accepted(expected: ElementSize, size: ElementSize, data_words: u16, pointe
 /// It is refused as a reader refuses what is there (`object_at`), with `WrongPointerKind` where a struct or a capability is there, and with `WrongElementSize` where the elements can't be read so.
 #[tactic(auto, unfolding(capnp_object::specs::Objects::object_at))]
 pub fn get_list<A: ReaderArena>(arena: &A, slot: Place, expected: ElementSize) -> Result<ListPlace>
-    ensures list { seen (λ o. o) result ≡ (object_at (words_in (A.segments arena.now)) (place_view slot) and_then λ f. list_in slot expected f.object) }
-    ensures object { IfOk result (λ o. (word_at (words_in (A.segments arena.now)) (place_view slot) ≡ Some 0) ⊎ LeadsTo (words_in (A.segments arena.now)) (place_view slot) (list_at o)) }
-    ensures structs { IfOk result (λ o. (word_at (words_in (A.segments arena.now)) (place_view slot) ≡ Some 0) ⊎ (o.size ≡ InlineComposite → HasStructs (words_in (A.segments arena.now)) o)) }
+    ensures list { seen (λ o. o) result
+        ≡ (object_at (words_in (A.segments arena.now)) (place_view slot) and_then λ f. list_in
+        slot expected f.object) }
+    ensures object { IfOk result (λ o.
+        (word_at (words_in (A.segments arena.now)) (place_view slot) ≡ Some 0)
+        ⊎ LeadsTo (words_in (A.segments arena.now)) (place_view slot) (list_at o)) }
+    ensures structs { IfOk result (λ o.
+        (word_at (words_in (A.segments arena.now)) (place_view slot) ≡ Some 0)
+        ⊎ (o.size ≡ InlineComposite → HasStructs (words_in (A.segments arena.now)) o)) }
 {
     let found = found_at(arena, slot)?;
     let list = match whole(arena, found.object)? {

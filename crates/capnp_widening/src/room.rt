@@ -25,10 +25,15 @@ pub fn allocate_wider<A: BuilderArena>(
     requires there { is_some (word_at (words_in (A.segments arena.old)) (place_view slot)) ≡ true }
     requires some { 0 < words }
     requires few { (words ≤ 2 ^ 29) × (pads ≤ 2 ^ 30) }
-    ensures ok { IfOk result (λ r. WiderRoom (words_in (A.segments arena.old)) (words_in (A.segments arena.new)) (place_view slot) segment words pads r.0 r.1) }
-    ensures near { OnOk result (TakesNear (words_in (A.segments arena.old)) (A.room arena.old) (words_in (A.segments arena.new)) slot.segment segment words) }
+    ensures ok { IfOk result (λ r.
+        WiderRoom (words_in (A.segments arena.old)) (words_in (A.segments arena.new))
+        (place_view slot) segment words pads r.0 r.1) }
+    ensures near { OnOk result
+        (TakesNear (words_in (A.segments arena.old)) (A.room arena.old)
+        (words_in (A.segments arena.new)) slot.segment segment words) }
     ensures refused { OnErr result (A.segments arena.new ≡ A.segments arena.old) }
-    ensures kind { IfErr result (GrowthRefused (words_in (A.segments arena.old)) (1 + (words + pads))) }
+    ensures kind { IfErr result
+        (GrowthRefused (words_in (A.segments arena.old)) (1 + (words + pads))) }
     ensures books { A.books arena.new ≡ A.books arena.old }
 {
     if slot.segment == segment {

@@ -54,9 +54,12 @@ fn is_wide(list: ListPlace, size: StructSize) -> bool
 /// The words of a new list of structs without its tag, and of two for each pointer of the old list. It is refused with `SizeOverflow` where they, with the tag and a pad, pass 2^29 - 1.
 fn words_of_wider(old: ListPlace, size: StructSize) -> Result<(u32, u32)>
     requires short { (size.data_words + size.pointers ≡ 0) → (old.count < 2 ^ 29) }
-    ensures words { IfOk result (λ r. (r.0 ≡ old.count * (size.data_words + size.pointers)) × (r.1 ≡ 2 * (old.count * least_pointers old))) }
+    ensures words { IfOk result (λ r.
+        (r.0 ≡ old.count * (size.data_words + size.pointers))
+        × (r.1 ≡ 2 * (old.count * least_pointers old))) }
     ensures few { IfOk result (λ r. (old.count < 2 ^ 29) × (r.0 + 2 + r.1 < 2 ^ 29)) }
-    ensures kind { IfErr result (λ e. (e.kind ≡ SizeOverflow) × (2 ^ 29 ≤ words_wanted old size.data_words size.pointers)) }
+    ensures kind { IfErr result (λ e.
+        (e.kind ≡ SizeOverflow) × (2 ^ 29 ≤ words_wanted old size.data_words size.pointers)) }
 {
     let words = old.count as u64 * size.total() as u64;
     let pads = 2 * (old.count as u64 * element_size(old).pointers as u64);
@@ -77,17 +80,28 @@ fn widen_list<A: BuilderArena>(
 ) -> Result<ListPlace>
     requires found { list_there (words_in (A.segments arena.old)) slot ≡ Ok old }
     requires leads { LeadsTo (words_in (A.segments arena.old)) (place_view slot) (list_at old) }
-    requires there { is_some (words_at (words_in (A.segments arena.old)) (place_view slot) 1) ≡ true }
+    requires there { is_some (words_at (words_in (A.segments arena.old)) (place_view slot) 1)
+        ≡ true }
     requires near { slot.position < 2 ^ 61 }
     requires wider { (least_words old ≤ size.data_words) × (least_pointers old ≤ size.pointers) }
     requires short { (size.data_words + size.pointers ≡ 0) → (old.count < 2 ^ 29) }
-    ensures value { IfOk result (λ o. WidensList (words_in (A.segments arena.old)) (words_in (A.segments arena.new)) (place_view slot) size.data_words size.pointers) }
-    ensures object { IfOk result (λ o. LeadsTo (words_in (A.segments arena.new)) (place_view slot) (list_at o)) }
-    ensures list { IfOk result (λ o. (o.size ≡ InlineComposite) × (o.count ≡ old.count) × (o.data_words ≡ size.data_words) × (o.pointers ≡ size.pointers)) }
+    ensures value { IfOk result (λ o.
+        WidensList (words_in (A.segments arena.old)) (words_in (A.segments arena.new))
+        (place_view slot) size.data_words size.pointers) }
+    ensures object { IfOk result (λ o.
+        LeadsTo (words_in (A.segments arena.new)) (place_view slot) (list_at o)) }
+    ensures list { IfOk result (λ o.
+        (o.size ≡ InlineComposite) × (o.count ≡ old.count) × (o.data_words ≡ size.data_words)
+        × (o.pointers ≡ size.pointers)) }
     ensures there { IfOk result (HasStructs (words_in (A.segments arena.new))) }
-    ensures taken { OnOk result (TakesNear (words_in (A.segments arena.old)) (A.room arena.old) (words_in (A.segments arena.new)) slot.segment old.start.segment (1 + old.count * (size.data_words + size.pointers))) }
+    ensures taken { OnOk result
+        (TakesNear (words_in (A.segments arena.old)) (A.room arena.old)
+        (words_in (A.segments arena.new)) slot.segment old.start.segment
+        (1 + old.count * (size.data_words + size.pointers))) }
     ensures refused { OnErr result (A.segments arena.new ≡ A.segments arena.old) }
-    ensures kind { IfErr result (GrowthRefused (words_in (A.segments arena.old)) (words_wanted old size.data_words size.pointers)) }
+    ensures kind { IfErr result
+        (GrowthRefused (words_in (A.segments arena.old))
+        (words_wanted old size.data_words size.pointers)) }
     ensures books { A.books arena.new ≡ A.books arena.old }
 {
     let (words, pad_words) = words_of_wider(old, size)?;
@@ -120,14 +134,24 @@ pub fn get_struct_list<A: BuilderArena>(
     slot: Place,
     size: StructSize,
 ) -> Result<ListPlace>
-    requires there { is_some (words_at (words_in (A.segments arena.old)) (place_view slot) 1) ≡ true }
+    requires there { is_some (words_at (words_in (A.segments arena.old)) (place_view slot) 1)
+        ≡ true }
     requires near { slot.position < 2 ^ 61 }
-    ensures value { IfOk result (λ o. WidensList (words_in (A.segments arena.old)) (words_in (A.segments arena.new)) (place_view slot) size.data_words size.pointers) }
-    ensures list { IfOk result (StructsGot (words_in (A.segments arena.old)) (words_in (A.segments arena.new)) slot size.data_words size.pointers) }
-    ensures taken { OnOk result (ListTakes (words_in (A.segments arena.old)) (A.room arena.old) (words_in (A.segments arena.new)) slot size.data_words size.pointers) }
-    ensures wide { HasWideList (words_in (A.segments arena.old)) slot size.data_words size.pointers → A.segments arena.new ≡ A.segments arena.old }
+    ensures value { IfOk result (λ o.
+        WidensList (words_in (A.segments arena.old)) (words_in (A.segments arena.new))
+        (place_view slot) size.data_words size.pointers) }
+    ensures list { IfOk result
+        (StructsGot (words_in (A.segments arena.old)) (words_in (A.segments arena.new)) slot
+        size.data_words size.pointers) }
+    ensures taken { OnOk result
+        (ListTakes (words_in (A.segments arena.old)) (A.room arena.old)
+        (words_in (A.segments arena.new)) slot size.data_words size.pointers) }
+    ensures wide { HasWideList (words_in (A.segments arena.old)) slot size.data_words
+        size.pointers → A.segments arena.new ≡ A.segments arena.old }
     ensures refused { OnErr result (A.segments arena.new ≡ A.segments arena.old) }
-    ensures kind { IfErr result (ListRefused (words_in (A.segments arena.old)) (place_view slot) (list_there (words_in (A.segments arena.old)) slot) size.data_words size.pointers) }
+    ensures kind { IfErr result
+        (ListRefused (words_in (A.segments arena.old)) (place_view slot)
+        (list_there (words_in (A.segments arena.old)) slot) size.data_words size.pointers) }
     ensures books { A.books arena.new ≡ A.books arena.old }
 {
     let old = get_list(arena, slot, ElementSize::InlineComposite)?;

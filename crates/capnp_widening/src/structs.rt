@@ -32,18 +32,29 @@ fn widen_struct<A: BuilderArena>(
     size: StructSize,
 ) -> Result<StructPlace>
     requires found { LeadsTo (words_in (A.segments arena.old)) (place_view slot) (struct_at old) }
-    requires there { is_some (words_at (words_in (A.segments arena.old)) (place_view slot) 1) ≡ true }
+    requires there { is_some (words_at (words_in (A.segments arena.old)) (place_view slot) 1)
+        ≡ true }
     requires near { slot.position < 2 ^ 61 }
-    requires inside { is_some (words_at (words_in (A.segments arena.old)) (place_view old.start) (old.data_words + old.pointers)) ≡ true }
+    requires inside { is_some (words_at (words_in (A.segments arena.old)) (place_view old.start)
+        (old.data_words + old.pointers)) ≡ true }
     requires close { old.start.position + (old.data_words + old.pointers) < 2 ^ 61 }
-    requires wider { (old.data_words ≤ size.data_words) × (old.pointers ≤ size.pointers) × (0 < size.data_words + size.pointers) }
-    ensures value { IfOk result (λ o. Widens (words_in (A.segments arena.old)) (words_in (A.segments arena.new)) (place_view slot) size.data_words size.pointers) }
-    ensures object { IfOk result (λ o. LeadsTo (words_in (A.segments arena.new)) (place_view slot) (struct_at o)) }
-    ensures size { IfOk result (λ o. (o.data_words ≡ size.data_words) × (o.pointers ≡ size.pointers)) }
-    ensures there { IfOk result (λ o. is_some (words_at (words_in (A.segments arena.new)) (place_view o.start) (o.data_words + o.pointers)) ≡ true) }
+    requires wider { (old.data_words ≤ size.data_words) × (old.pointers ≤ size.pointers)
+        × (0 < size.data_words + size.pointers) }
+    ensures value { IfOk result (λ o.
+        Widens (words_in (A.segments arena.old)) (words_in (A.segments arena.new))
+        (place_view slot) size.data_words size.pointers) }
+    ensures object { IfOk result (λ o.
+        LeadsTo (words_in (A.segments arena.new)) (place_view slot) (struct_at o)) }
+    ensures size { IfOk result (λ o.
+        (o.data_words ≡ size.data_words) × (o.pointers ≡ size.pointers)) }
+    ensures there { IfOk result (λ o.
+        is_some (words_at (words_in (A.segments arena.new)) (place_view o.start)
+        (o.data_words + o.pointers)) ≡ true) }
     ensures near { IfOk result (λ o. o.start.position + (o.data_words + o.pointers) < 2 ^ 61) }
     ensures refused { OnErr result (A.segments arena.new ≡ A.segments arena.old) }
-    ensures kind { IfErr result (GrowthRefused (words_in (A.segments arena.old)) (size.data_words + size.pointers + 1 + 2 * old.pointers)) }
+    ensures kind { IfErr result
+        (GrowthRefused (words_in (A.segments arena.old))
+        (size.data_words + size.pointers + 1 + 2 * old.pointers)) }
     ensures books { A.books arena.new ≡ A.books arena.old }
 {
     let pad_words = 2 * old.pointers as u32;
@@ -81,16 +92,27 @@ pub fn get_struct<A: BuilderArena>(
     slot: Place,
     size: StructSize,
 ) -> Result<StructPlace>
-    requires there { is_some (words_at (words_in (A.segments arena.old)) (place_view slot) 1) ≡ true }
+    requires there { is_some (words_at (words_in (A.segments arena.old)) (place_view slot) 1)
+        ≡ true }
     requires near { slot.position < 2 ^ 61 }
-    ensures value { IfOk result (λ o. Widens (words_in (A.segments arena.old)) (words_in (A.segments arena.new)) (place_view slot) size.data_words size.pointers) }
-    ensures object { IfOk result (λ o. LeadsTo (words_in (A.segments arena.new)) (place_view slot) (struct_at o)) }
-    ensures size { IfOk result (λ o. (size.data_words ≤ o.data_words) × (size.pointers ≤ o.pointers)) }
-    ensures wide { IsWide (words_in (A.segments arena.old)) (place_view slot) size.data_words size.pointers → A.segments arena.new ≡ A.segments arena.old }
-    ensures there { IfOk result (λ o. is_some (words_at (words_in (A.segments arena.new)) (place_view o.start) (o.data_words + o.pointers)) ≡ true) }
+    ensures value { IfOk result (λ o.
+        Widens (words_in (A.segments arena.old)) (words_in (A.segments arena.new))
+        (place_view slot) size.data_words size.pointers) }
+    ensures object { IfOk result (λ o.
+        LeadsTo (words_in (A.segments arena.new)) (place_view slot) (struct_at o)) }
+    ensures size { IfOk result (λ o.
+        (size.data_words ≤ o.data_words) × (size.pointers ≤ o.pointers)) }
+    ensures wide { IsWide (words_in (A.segments arena.old)) (place_view slot) size.data_words
+        size.pointers → A.segments arena.new ≡ A.segments arena.old }
+    ensures there { IfOk result (λ o.
+        is_some (words_at (words_in (A.segments arena.new)) (place_view o.start)
+        (o.data_words + o.pointers)) ≡ true) }
     ensures near { IfOk result (λ o. o.start.position + (o.data_words + o.pointers) < 2 ^ 61) }
     ensures refused { OnErr result (A.segments arena.new ≡ A.segments arena.old) }
-    ensures kind { IfErr result (StructRefused (words_in (A.segments arena.old)) (object_at (words_in (A.segments arena.old)) (place_view slot)) size.data_words size.pointers) }
+    ensures kind { IfErr result
+        (StructRefused (words_in (A.segments arena.old))
+        (object_at (words_in (A.segments arena.old)) (place_view slot)) size.data_words
+        size.pointers) }
     ensures books { A.books arena.new ≡ A.books arena.old }
 {
     let found = object_at(arena, slot)?;

@@ -48,7 +48,8 @@ fn copied_words<A: ReaderArena>(
     count: usize,
 ) -> Result<Vec<u64>, AllocError>
     requires { AreThere (words_in (A.segments arena.now)) (place_view start) count }
-    ensures { IfOk result (λ v. words_at (words_in (A.segments arena.now)) (place_view start) count ≡ Some v.items) }
+    ensures { IfOk result (λ v.
+        words_at (words_in (A.segments arena.now)) (place_view start) count ≡ Some v.items) }
 {
     match arena.get_segment(start.segment) {
         Some(bytes) => {
@@ -68,7 +69,10 @@ pub fn read_at<A: ReaderArena>(
     at: Place,
     levels: u32,
 ) -> Result<Option<Value>, AllocError>
-    ensures { Reads tree_of_value (clean_at levels (words_in (A.segments arena.now)) (place_view at)) (cost_at levels (words_in (A.segments arena.now)) (place_view at)) limiter.old result limiter.new }
+    ensures { Reads tree_of_value
+        (clean_at levels (words_in (A.segments arena.now)) (place_view at))
+        (cost_at levels (words_in (A.segments arena.now)) (place_view at)) limiter.old result
+        limiter.new }
 {
     let Ok(object) = follow(arena, limiter, at) else {
         return Ok(None);
@@ -92,7 +96,11 @@ fn read_object<A: ReaderArena>(
     levels: u32,
 ) -> Result<Option<Value>, AllocError>
     requires { IsInside (words_in (A.segments arena.now)) object }
-    ensures { Reads tree_of_value (clean_whole (words_in (A.segments arena.now)) (clean_at levels (words_in (A.segments arena.now))) object) (cost_inside (cost_at levels (words_in (A.segments arena.now))) object) limiter.old result limiter.new }
+    ensures { Reads tree_of_value
+        (clean_whole (words_in (A.segments arena.now))
+        (clean_at levels (words_in (A.segments arena.now))) object)
+        (cost_inside (cost_at levels (words_in (A.segments arena.now))) object) limiter.old result
+        limiter.new }
 {
     match object {
         Object::Null => Ok(Some(Value::Null)),
@@ -141,8 +149,14 @@ fn read_struct<A: ReaderArena>(
     size: StructSize,
     levels: u32,
 ) -> Result<Option<Value>, AllocError>
-    requires { AreThere (words_in (A.segments arena.now)) (place_view start) (size.data_words + size.pointers) }
-    ensures { Reads tree_of_value (tree_of (words_in (A.segments arena.now)) (clean_at levels (words_in (A.segments arena.now))) (a_struct (place_view start) size.data_words size.pointers)) (cost_each (cost_at levels (words_in (A.segments arena.now))) (after (place_view start) size.data_words) size.pointers) limiter.old result limiter.new }
+    requires { AreThere (words_in (A.segments arena.now)) (place_view start)
+        (size.data_words + size.pointers) }
+    ensures { Reads tree_of_value
+        (tree_of (words_in (A.segments arena.now))
+        (clean_at levels (words_in (A.segments arena.now)))
+        (a_struct (place_view start) size.data_words size.pointers))
+        (cost_each (cost_at levels (words_in (A.segments arena.now)))
+        (after (place_view start) size.data_words) size.pointers) limiter.old result limiter.new }
 {
     let words = copied_words(alloc, arena, start, size.data_words as usize)?;
     let first = Place {
@@ -166,7 +180,11 @@ fn read_row<A: ReaderArena>(
     levels: u32,
 ) -> Result<Option<Vec<Value>>, AllocError>
     requires { first.position + count < 2 ^ 61 }
-    ensures { Reads (λ v. trees_view v.items) (row (λ i. clean_at levels (words_in (A.segments arena.now)) (after (place_view first) i)) 0 count) (total (λ i. cost_at levels (words_in (A.segments arena.now)) (after (place_view first) i)) 0 count) limiter.old result limiter.new }
+    ensures { Reads (λ v. trees_view v.items)
+        (row (λ i. clean_at levels (words_in (A.segments arena.now)) (after (place_view first) i))
+        0 count) (total (λ i.
+        cost_at levels (words_in (A.segments arena.now)) (after (place_view first) i)) 0 count)
+        limiter.old result limiter.new }
 {
     let mut children = Vec::new(alloc);
     for i in 0..count {
@@ -193,7 +211,10 @@ fn read_pointers<A: ReaderArena>(
     levels: u32,
 ) -> Result<Option<Value>, AllocError>
     requires { first.position + count < 2 ^ 61 }
-    ensures { Reads tree_of_value (pointers_at (clean_at levels (words_in (A.segments arena.now))) (place_view first) count) (cost_each (cost_at levels (words_in (A.segments arena.now))) (place_view first) count) limiter.old result limiter.new }
+    ensures { Reads tree_of_value
+        (pointers_at (clean_at levels (words_in (A.segments arena.now))) (place_view first) count)
+        (cost_each (cost_at levels (words_in (A.segments arena.now))) (place_view first) count)
+        limiter.old result limiter.new }
 {
     match read_row(alloc, arena, limiter, first, count, levels)? {
         Some(children) => Ok(Some(Value::Pointers { children })),
@@ -212,8 +233,14 @@ fn read_structs<A: ReaderArena>(
     size: StructSize,
     levels: u32,
 ) -> Result<Option<Value>, AllocError>
-    requires { AreThere (words_in (A.segments arena.now)) (place_view first) (count * (size.data_words + size.pointers)) }
-    ensures { Reads tree_of_value (structs_at (words_in (A.segments arena.now)) (clean_at levels (words_in (A.segments arena.now))) (place_view first) size.data_words size.pointers count) (cost_elements (cost_at levels (words_in (A.segments arena.now))) (place_view first) size.data_words size.pointers count) limiter.old result limiter.new }
+    requires { AreThere (words_in (A.segments arena.now)) (place_view first)
+        (count * (size.data_words + size.pointers)) }
+    ensures { Reads tree_of_value
+        (structs_at (words_in (A.segments arena.now))
+        (clean_at levels (words_in (A.segments arena.now))) (place_view first) size.data_words
+        size.pointers count)
+        (cost_elements (cost_at levels (words_in (A.segments arena.now))) (place_view first)
+        size.data_words size.pointers count) limiter.old result limiter.new }
 {
     match read_elements(alloc, arena, limiter, first, count, size, levels)? {
         Some(elements) => Ok(Some(Value::Structs {
@@ -236,8 +263,14 @@ fn read_elements<A: ReaderArena>(
     size: StructSize,
     levels: u32,
 ) -> Result<Option<Vec<Value>>, AllocError>
-    requires { AreThere (words_in (A.segments arena.now)) (place_view first) (count * (size.data_words + size.pointers)) }
-    ensures { Reads (λ v. trees_view v.items) (row (element_at (words_in (A.segments arena.now)) (clean_at levels (words_in (A.segments arena.now))) (place_view first) size.data_words size.pointers) 0 count) (total (element_cost (cost_at levels (words_in (A.segments arena.now))) (place_view first) size.data_words size.pointers) 0 count) limiter.old result limiter.new }
+    requires { AreThere (words_in (A.segments arena.now)) (place_view first)
+        (count * (size.data_words + size.pointers)) }
+    ensures { Reads (λ v. trees_view v.items)
+        (row (element_at (words_in (A.segments arena.now))
+        (clean_at levels (words_in (A.segments arena.now))) (place_view first) size.data_words
+        size.pointers) 0 count)
+        (total (element_cost (cost_at levels (words_in (A.segments arena.now))) (place_view first)
+        size.data_words size.pointers) 0 count) limiter.old result limiter.new }
 {
     let width = size.total() as usize;
     let mut elements = Vec::new(alloc);
@@ -275,8 +308,13 @@ fn read_plain<A: ReaderArena>(
     count: u32,
 ) -> Result<Value, AllocError>
     requires size { size_number size < 6 }
-    requires there { AreThere (words_in (A.segments arena.now)) (place_view start) (words_for (data_bits (size_number size) * count)) }
-    ensures { IfOk result (λ v. (levels : ℕ) → tree_of (words_in (A.segments arena.now)) (clean_at levels (words_in (A.segments arena.now))) (a_list (place_view start) (size_number size) count) ≡ Some (tree_of_value v)) }
+    requires there { AreThere (words_in (A.segments arena.now)) (place_view start)
+        (words_for (data_bits (size_number size) * count)) }
+    ensures { IfOk result (λ v.
+        (levels : ℕ)
+        → tree_of (words_in (A.segments arena.now))
+        (clean_at levels (words_in (A.segments arena.now)))
+        (a_list (place_view start) (size_number size) count) ≡ Some (tree_of_value v)) }
 {
     let all = words_of_elements(size, count) as usize;
     let mut words = copied_words(alloc, arena, start, all)?;
@@ -308,9 +346,12 @@ pub fn read_value<S: ReaderSegments>(
     segments: &S,
     bounds: Bounds,
 ) -> Result<Option<Value>, AllocError>
-    ensures value { IfOk result (λ found. option_map tree_of_value found ≡ value_within (limits_view bounds) (words_in (S.segments segments.now))) }
+    ensures value { IfOk result (λ found.
+        option_map tree_of_value found
+        ≡ value_within (limits_view bounds) (words_in (S.segments segments.now))) }
     ensures fits { IfOk result (λ found. IfSome found (λ v. Fits (tree_of_value v))) }
-    ensures small { IfOk result (λ found. IfSome found (λ v. length (canonical_words (tree_of_value v)) ≤ bounds.words + 1)) }
+    ensures small { IfOk result (λ found.
+        IfSome found (λ v. length (canonical_words (tree_of_value v)) ≤ bounds.words + 1)) }
 {
     // The walk counts levels by itself.
     let arena = ReaderArenaImpl::new(segments, i32::MAX);
@@ -330,7 +371,9 @@ pub fn read_whole<S: ReaderSegments>(
     segments: &S,
     nesting: u32,
 ) -> Result<Option<Value>, AllocError>
-    ensures value { IfOk result (λ found. option_map tree_of_value found ≡ clean_at nesting (words_in (S.segments segments.now)) root) }
+    ensures value { IfOk result (λ found.
+        option_map tree_of_value found
+        ≡ clean_at nesting (words_in (S.segments segments.now)) root) }
 {
     let arena = ReaderArenaImpl::new(segments, i32::MAX);
     let mut limiter = ReadLimiter::new(None);

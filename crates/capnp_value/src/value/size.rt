@@ -16,7 +16,8 @@ const SEGMENT_WORDS: usize = 0x1fff_ffff;
 
 /// Whether the canonical segment of a value, with its root word, is at most 2^29 - 1 words long.
 pub fn is_short(value: &Value) -> bool
-    ensures { MatchBool result (length (canonical_words (tree_of_value value.now)) < 2 ^ 29) (2 ^ 29 ≤ length (canonical_words (tree_of_value value.now))) }
+    ensures { MatchBool result (length (canonical_words (tree_of_value value.now)) < 2 ^ 29)
+        (2 ^ 29 ≤ length (canonical_words (tree_of_value value.now))) }
 {
     laws::sizes_of_values();
     let mut left = SEGMENT_WORDS - 1;
@@ -61,7 +62,8 @@ fn list_words(size: u8, count: u32) -> usize
 /// Takes the words of a value's objects from those that are left, where they are enough.
 #[cycle(size)]
 fn spend(value: &Value, left: &mut usize) -> bool
-    ensures { MatchBool result (left.old ≡ object_words (tree_of_value value.now) + left.new) (left.old < object_words (tree_of_value value.now)) }
+    ensures { MatchBool result (left.old ≡ object_words (tree_of_value value.now) + left.new)
+        (left.old < object_words (tree_of_value value.now)) }
 {
     match value {
         Value::Null => true,
@@ -81,7 +83,11 @@ fn spend(value: &Value, left: &mut usize) -> bool
 /// Takes the words of so many pointers, and of the values that they point to.
 #[cycle(size)]
 fn spend_row(children: &Vec<Value>, count: usize, left: &mut usize) -> bool
-    ensures { MatchBool result (left.old ≡ count + each_object_words (resized count (trees_of (trees_view children.now.items))) + left.new) (left.old < count + each_object_words (resized count (trees_of (trees_view children.now.items)))) }
+    ensures { MatchBool result
+        (left.old ≡ count + each_object_words
+        (resized count (trees_of (trees_view children.now.items))) + left.new)
+        (left.old < count + each_object_words
+        (resized count (trees_of (trees_view children.now.items)))) }
 {
     if !take(left, count) {
         return false;
@@ -100,7 +106,11 @@ fn spend_row(children: &Vec<Value>, count: usize, left: &mut usize) -> bool
 /// Takes the words of elements of so many words and pointers, and of the values that they point to.
 #[cycle(size)]
 fn spend_elements(elements: &Vec<Value>, data_words: u16, pointers: u16, left: &mut usize) -> bool
-    ensures { MatchBool result (left.old ≡ element_object_words data_words (elements_of pointers (trees_view elements.now.items)) + left.new) (left.old < element_object_words data_words (elements_of pointers (trees_view elements.now.items))) }
+    ensures { MatchBool result
+        (left.old ≡ element_object_words data_words
+        (elements_of pointers (trees_view elements.now.items)) + left.new)
+        (left.old < element_object_words data_words
+        (elements_of pointers (trees_view elements.now.items))) }
 {
     for i in 0..elements.len() {
         if !spend_element(&elements[i], data_words, pointers, left) {
@@ -113,7 +123,11 @@ fn spend_elements(elements: &Vec<Value>, data_words: u16, pointers: u16, left: &
 /// Takes the words of an element of so many words and pointers, and of the values that it points to.
 #[cycle(size)]
 fn spend_element(element: &Value, data_words: u16, pointers: u16, left: &mut usize) -> bool
-    ensures { MatchBool result (left.old ≡ element_object_words data_words (element_of pointers (tree_of_value element.now) no_elements) + left.new) (left.old < element_object_words data_words (element_of pointers (tree_of_value element.now) no_elements)) }
+    ensures { MatchBool result
+        (left.old ≡ element_object_words data_words
+        (element_of pointers (tree_of_value element.now) no_elements) + left.new)
+        (left.old < element_object_words data_words
+        (element_of pointers (tree_of_value element.now) no_elements)) }
 {
     if !take(left, data_words as usize) {
         return false;

@@ -27,7 +27,8 @@ fn words_needed(words: &Vec<u64>, most: usize) -> usize
 
 /// How many of so many children there are without nulls at the end.
 fn pointers_needed(children: &Vec<Value>, most: usize) -> usize
-    ensures { result ≡ tree_count (stripped (resized most (trees_of (trees_view children.now.items)))) }
+    ensures { result ≡ tree_count
+        (stripped (resized most (trees_of (trees_view children.now.items)))) }
 {
     let mut n = children.len().min(most);
     while n > 0 {
@@ -56,7 +57,9 @@ fn is_null(value: &Value) -> bool
 pub fn trim_whole(value: &mut Value)
     ensures value { tree_of_value value.new ≡ trim (tree_of_value value.old) }
     ensures fits { Fits (tree_of_value value.old) → Fits (tree_of_value value.new) }
-    ensures small { Fits (tree_of_value value.old) → length (canonical_words (tree_of_value value.new)) ≤ length (canonical_words (tree_of_value value.old)) }
+    ensures small { Fits (tree_of_value value.old)
+        → length (canonical_words (tree_of_value value.new)) ≤ length
+        (canonical_words (tree_of_value value.old)) }
 {
     trim_value(value);
 }
@@ -101,7 +104,8 @@ fn trim_values(values: &mut Vec<Value>)
 
 /// The words, of so many at most, that every element can do with.
 fn most_words(elements: &Vec<Value>, data_words: u16) -> u16
-    ensures { (pointers : ℕ) → result ≡ common_words data_words (elements_of pointers (trees_view elements.now.items)) }
+    ensures { (pointers : ℕ)
+        → result ≡ common_words data_words (elements_of pointers (trees_view elements.now.items)) }
 {
     let mut most = 0;
     for i in 0..elements.len() {
@@ -112,7 +116,9 @@ fn most_words(elements: &Vec<Value>, data_words: u16) -> u16
 
 /// The words, of so many at most, that an element needs.
 fn element_words(element: &Value, data_words: u16) -> u16
-    ensures { (pointers : ℕ) → result ≡ common_words data_words (element_of pointers (tree_of_value element.now) no_elements) }
+    ensures { (pointers : ℕ)
+        → result ≡ common_words data_words
+        (element_of pointers (tree_of_value element.now) no_elements) }
 {
     match element {
         Value::Struct { words, .. } => words_needed(words, data_words as usize) as u16,
@@ -136,7 +142,8 @@ fn most_pointers(elements: &Vec<Value>, pointers: u16) -> u16
 
 /// The pointers, of so many at most, that an element needs.
 fn element_pointers(element: &Value, pointers: u16) -> u16
-    ensures { result ≡ common_pointers (element_of pointers (tree_of_value element.now) no_elements) }
+    ensures { result ≡ common_pointers
+        (element_of pointers (tree_of_value element.now) no_elements) }
 {
     match element {
         Value::Struct { children, .. } => pointers_needed(children, pointers as usize) as u16,

@@ -158,8 +158,12 @@ fn write_links(
 ) -> Result<(), AllocError>
     requires fit { FitEach (resized count (trees_of (trees_view children.now.items))) }
     requires there { at + count ≤ vec_len out.old }
-    requires short { vec_len out.old + length (bodies (resized count (trees_of (trees_view children.now.items)))) ≤ 2 ^ 29 }
-    ensures { IfOk result (λ _. out.new.items ≡ with_links at (at + count) (resized count (trees_of (trees_view children.now.items))) out.old.items) }
+    requires short { vec_len out.old + length
+        (bodies (resized count (trees_of (trees_view children.now.items)))) ≤ 2 ^ 29 }
+    ensures { IfOk result (λ _.
+        out.new.items
+        ≡ with_links at (at + count) (resized count (trees_of (trees_view children.now.items)))
+        out.old.items) }
 {
     for i in 0..count {
         if i >= children.len() {
@@ -184,10 +188,15 @@ fn write_elements(
     data_words: u16,
     pointers: u16,
 ) -> Result<(), AllocError>
-    requires fit { FitElements data_words pointers (elements_of pointers (trees_view elements.now.items)) }
+    requires fit { FitElements data_words pointers
+        (elements_of pointers (trees_view elements.now.items)) }
     requires there { at + vec_len elements.now * (data_words + pointers) ≤ vec_len out.old }
-    requires short { vec_len out.old + length (element_bodies (elements_of pointers (trees_view elements.now.items))) ≤ 2 ^ 29 }
-    ensures { IfOk result (λ _. out.new.items ≡ with_cells at (at + vec_len elements.now * (data_words + pointers)) data_words pointers (elements_of pointers (trees_view elements.now.items)) out.old.items) }
+    requires short { vec_len out.old + length
+        (element_bodies (elements_of pointers (trees_view elements.now.items))) ≤ 2 ^ 29 }
+    ensures { IfOk result (λ _.
+        out.new.items
+        ≡ with_cells at (at + vec_len elements.now * (data_words + pointers)) data_words pointers
+        (elements_of pointers (trees_view elements.now.items)) out.old.items) }
 {
     let width = data_words as usize + pointers as usize;
     for i in 0..elements.len() {
@@ -205,10 +214,15 @@ fn write_element(
     data_words: u16,
     pointers: u16,
 ) -> Result<(), AllocError>
-    requires fit { FitElements data_words pointers (element_of pointers (tree_of_value element.now) no_elements) }
+    requires fit { FitElements data_words pointers
+        (element_of pointers (tree_of_value element.now) no_elements) }
     requires there { at + data_words + pointers ≤ vec_len out.old }
-    requires short { vec_len out.old + length (element_bodies (element_of pointers (tree_of_value element.now) no_elements)) ≤ 2 ^ 29 }
-    ensures { IfOk result (λ _. out.new.items ≡ with_cells at (at + (data_words + pointers)) data_words pointers (element_of pointers (tree_of_value element.now) no_elements) out.old.items) }
+    requires short { vec_len out.old + length
+        (element_bodies (element_of pointers (tree_of_value element.now) no_elements)) ≤ 2 ^ 29 }
+    ensures { IfOk result (λ _.
+        out.new.items
+        ≡ with_cells at (at + (data_words + pointers)) data_words pointers
+        (element_of pointers (tree_of_value element.now) no_elements) out.old.items) }
 {
     let end = data_words as usize;
     let all = end + pointers as usize;

@@ -104,9 +104,16 @@ answer_at-answer_behind-requires t c =
     let v = action_view c.args.action.now in
     let whole = names_behind (map step_view c.args.path.now) c.in-Some.name.now rest c.in-Some.ensures.split c.args.schema v c.requires.taken in
     let taken = slot_taken c.args.schema c.in-Some.name.now rest v at c.in-Slot.ensures whole in
-    let some : rest ≢ [] = some_is step_view c.in-Some.rest.now (sym c.is_empty.ensures ∙ c.if-is_empty.false) in
-    (omega arith, (placed_more _ _ _ _ c.requires.words c.requires.pointers at c.in-Slot.ensures.placed, (subst (λ nodes. IsSlotOf nodes at.slot) (sym c.set-else-is_empty.ensures) c.in-Slot.ensures.of_set,
-    (c.requires.in_range, (subst (λ nodes. IsTakenRest (schema_of nodes) (body_of_slot at.slot) rest v) (sym c.set-else-is_empty.ensures) taken, some)))))
+    let some : rest ≢ [] = some_is step_view c.in-Some.rest.now (sym c.is_empty.ensures ∙ c.if-is_empty.false) in (
+      omega arith,
+      (
+        placed_more _ _ _ _ c.requires.words c.requires.pointers at c.in-Slot.ensures.placed,
+        (
+          subst (λ nodes. IsSlotOf nodes at.slot) (sym c.set-else-is_empty.ensures) c.in-Slot.ensures.of_set,
+          (c.requires.in_range, (subst (λ nodes. IsTakenRest (schema_of nodes) (body_of_slot at.slot) rest v) (sym c.set-else-is_empty.ensures) taken, some)),
+        ),
+      ),
+    )
 
 pub answer_at-returns-else-is_empty-clause-answer : goal.answer_at-returns-else-is_empty-clause-answer
 answer_at-returns-else-is_empty-clause-answer t c =
@@ -158,9 +165,19 @@ answer_behind-answer_pointer-requires t c =
     let v = action_view c.args.action.now in
     let inside = subst (λ x. IsInside (vec_len c.args.root.now.words) (vec_len c.args.root.now.children) (body_of_slot x)) c.in-Struct.is c.requires.placed.inside in
     let of_set = subst (λ x. IsSlotOf (nodes_of c.args.set.now) x) c.in-Struct.is c.requires.of_set in
-    let taken = subst (λ x. IsTakenRest (schema_of (nodes_of c.args.set.now)) (body_of_slot x) rest v) c.in-Struct.is c.requires.taken in
-    (omega arith, (inside, (struct_default_found c.in-Struct.raw.id _ of_set.1, (c.requires.in_range,
-    (struct_taken (nodes_of c.args.set.now) c.new-schema.result c.in-Struct.raw c.in-Struct.pointer _ rest v c.requires.some c.new-schema.ensures.nodes c.new-schema.ensures.raw taken, c.requires.some)))))
+    let taken = subst (λ x. IsTakenRest (schema_of (nodes_of c.args.set.now)) (body_of_slot x) rest v) c.in-Struct.is c.requires.taken in (
+      omega arith,
+      (
+        inside,
+        (
+          struct_default_found c.in-Struct.raw.id _ of_set.1,
+          (
+            c.requires.in_range,
+            (struct_taken (nodes_of c.args.set.now) c.new-schema.result c.in-Struct.raw c.in-Struct.pointer _ rest v c.requires.some c.new-schema.ensures.nodes c.new-schema.ensures.raw taken, c.requires.some),
+          ),
+        ),
+      ),
+    )
 
 pub answer_behind-returns-in-Struct-clause-answer : goal.answer_behind-returns-in-Struct-clause-answer
 answer_behind-returns-in-Struct-clause-answer t c =

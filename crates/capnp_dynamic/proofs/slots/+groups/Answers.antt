@@ -77,9 +77,12 @@ clear_group-clear_member-requires g t c κs within =
 
 pub clear_group-loop-i-preserved : goal.clear_group-loop-i-preserved
 clear_group-loop-i-preserved g t c =
-    let i = c.loop-i.invariant in
-    (fields_next (words_in (g.A.ReaderArena.segments c.args.arena.now)) (words_in (g.A.ReaderArena.segments c.loop-i.arena)) (words_in (g.A.ReaderArena.segments c.clear_member.new.arena)) c.args.object c.args.schema (mark (union_in (shape_of_struct c.args.schema)) (Some 0)) c.loop-i.i c.get.result
-    (c.get.ensures.parent ∙ c.in-Ok.ensures) c.get.ensures.index i.0 c.clear_member.ensures.edits, c.clear_member.ensures.sizes ∙ i.1, c.clear_member.ensures.books ∙ i.2)
+    let i = c.loop-i.invariant in (
+      fields_next (words_in (g.A.ReaderArena.segments c.args.arena.now)) (words_in (g.A.ReaderArena.segments c.loop-i.arena)) (words_in (g.A.ReaderArena.segments c.clear_member.new.arena)) c.args.object c.args.schema (mark (union_in (shape_of_struct c.args.schema)) (Some 0)) c.loop-i.i c.get.result
+          (c.get.ensures.parent ∙ c.in-Ok.ensures) c.get.ensures.index i.0 c.clear_member.ensures.edits,
+      c.clear_member.ensures.sizes ∙ i.1,
+      c.clear_member.ensures.books ∙ i.2,
+    )
 
 pub clear_group-returns-after-loop-i-clause-edits : goal.clear_group-returns-after-loop-i-clause-edits
 clear_group-returns-after-loop-i-clause-edits g t c =
