@@ -6,16 +6,15 @@ use Rattle.capnp_model.specs.Schemas.{PlainType, bool, int, uint, «enum», widt
 use Rattle.capnp_model.specs.Accepted.{find_node, fields_of_kind, on_struct, is_group_node, is_struct_node, names_a, default_bits, slot_body, field_body, union_place, schema_of, members_of, are_once, has_good_union, is_inside, has_its_place, has_places, same_plain, is_default_of, has_good_default, default_reads, IsAccepted}
 use Rattle.capnp_model.proofs.KeptRules.{and_left, and_right, and_three, unions_are_good, found_passes, behind, no_break}
 use Rattle.capnp_model.proofs.SoundRules.{rules_kept}
-use Rattle.capnp_records.specs.Sets.{struct_found, IsStructOf}
 use Rattle.capnp_records.specs.declared.raw.RawBrandedStructSchema.{RawBrandedStructSchema}
 use Rattle.capnp_records.proofs.PlainStructs.{place_is_found, places_kept}
 use Rattle.capnp_queries.specs.Fields.{union_in}
-use Rattle.capnp_queries.specs.Structs.{nodes_around, schema_around, id_of, shape_of_struct, fields_recorded, IsRecordOf}
+use Rattle.capnp_queries.specs.Structs.{nodes_around, schema_around, id_of, shape_of_struct, IsRecordOf}
 use Rattle.capnp_queries.specs.Handles.{IsFieldRecord}
 use Rattle.capnp_queries.specs.declared.structs.StructSchema.{StructSchema}
 use Rattle.capnp_queries.proofs.Records.{struct_is}
 use Rattle.capnp_calls.specs.RootViews.{LiesIn}
-use Rattle.capnp_calls.specs.Slots.{words_in, pointers_in, IsNumberInside, IsInside, IsUnionInside}
+use Rattle.capnp_calls.specs.Slots.{words_in, pointers_in, IsInside, IsUnionInside}
 use Rattle.capnp_calls.specs.Taken.{IsRoot}
 
 -- ---- single slots

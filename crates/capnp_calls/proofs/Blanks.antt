@@ -1,9 +1,8 @@
 -- Nulls in a row, and the elements that they stand for.
-use Rattle.std.proofs.Common.{◌≡◌, ℕ, zero, suc, ◌+◌, ◌*◌, ◌^◌, ◌<◌, ◌≤◌, List, [], ◌∷◌, ◌++◌, map, length, refl, ap, sym, ◌∙◌, arith, subst, max, replicate}
+use Rattle.std.proofs.Common.{◌≡◌, ℕ, zero, suc, ◌+◌, ◌*◌, ◌^◌, ◌<◌, ◌≤◌, List, [], ◌∷◌, ◌++◌, refl, ap, sym, ◌∙◌, arith, subst, max, replicate}
 use Rattle.std.proofs.lemmas.List.{map-append, replicate-append-replicate}
 use Rattle.std.proofs.lemmas.Nat.{pow_pos}
-use Rattle.capnp_model.specs.Sections.{section_of}
-use Rattle.capnp_model.specs.Trees.{Tree, Trees, none, ◌▸◌, null, structure, plain_list, pointer_list, struct_list, resized, tree_count, element, Elements, no_elements, element_count, size_bits}
+use Rattle.capnp_model.specs.Trees.{none, ◌▸◌, null, structure, plain_list, pointer_list, struct_list, resized, tree_count, element, element_count, size_bits}
 use Rattle.capnp_model.specs.Fits.{Fits, FitEach, FitElements}
 use Rattle.capnp_model.specs.Calls.{empty_struct, empty_elements, empty_structs}
 use Rattle.capnp_value.specs.declared.value.Value.{Value, Null}

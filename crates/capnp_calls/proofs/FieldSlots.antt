@@ -1,14 +1,13 @@
 -- The slot that a field is.
-use Rattle.std.proofs.Common.{◌≡◌, ℕ, ◌*◌, true, Option, Some, None, refl, sym, ◌∙◌, ap, subst, arith}
+use Rattle.std.proofs.Common.{◌≡◌, ℕ, true, Option, Some, refl, sym, ◌∙◌, ap, subst}
 use Rattle.std.specs.Prelude.{option_map}
 use Rattle.capnp_model.specs.Trees.{Tree}
-use Rattle.capnp_model.specs.Schemas.{width, Ty, void, plain, text, blob, untyped, interface, struct, list, type_of, Value, FieldKind, slot, group, Field as FieldNode, StructNode, Shape, Body, plain_slot, pointer_slot}
+use Rattle.capnp_model.specs.Schemas.{Ty, void, plain, text, blob, untyped, interface, struct, list, type_of, Value, FieldKind, slot, group, Field as FieldNode, StructNode, Shape, Body, pointer_slot}
 use Rattle.capnp_model.specs.Accepted.{default_tree, slot_body, field_body, is_default_of, has_good_default, opens_as, is_good_value, default_reads}
 use Rattle.capnp_queries.specs.Types.{is_pointer}
 use Rattle.capnp_queries.specs.Structs.{nodes_around, schema_around, id_of, shape_of_struct, IsRecordOf}
-use Rattle.capnp_queries.specs.Handles.{entry_of, IsFieldRecord, plain_of, is_plain_of}
+use Rattle.capnp_queries.specs.Handles.{entry_of, IsFieldRecord}
 use Rattle.capnp_queries.specs.declared.fields.Field.{Field}
-use Rattle.capnp_queries.specs.declared.slots.PlainType.{PlainType}
 use Rattle.capnp_calls.specs.Slots.{words_in, pointers_in, IsInside, IsSlotOf, body_of_slot}
 use Rattle.capnp_calls.specs.Finding.{default_in, IsFieldSlot}
 use Rattle.capnp_calls.specs.declared.slot.Slot.{Slot}

@@ -1,16 +1,14 @@
 -- A path at whose end a list is put is not refused.
-use Rattle.std.proofs.Common.{◌≡◌, ℕ, ◌^◌, ◌<◌, ◌≤◌, Option, [], arith}
-use Rattle.capnp_model.specs.Trees.{Trees, structure}
-use Rattle.capnp_model.specs.Schemas.{Ty, shape, Fields, Body, void, plain, struct, Schema}
-use Rattle.capnp_model.specs.Readings.{Reading, record_of}
-use Rattle.capnp_model.specs.Printing.{fields_in}
-use Rattle.capnp_model.specs.Calls.{name, Verb, get, set_to, init, initn, clear, Content, refused_by, bits_of, object, slot_content}
+use Rattle.std.proofs.Common.{ℕ, ◌^◌, ◌<◌, ◌≤◌, Option, [], arith}
+use Rattle.capnp_model.specs.Schemas.{Ty, Body, void, plain, Schema}
+use Rattle.capnp_model.specs.Readings.{Reading}
+use Rattle.capnp_model.specs.Calls.{Verb, get, set_to, init, initn, clear, Content, refused_by, bits_of, object, slot_content}
 use Rattle.capnp_model.specs.InKindCalls.{end_of}
-use Rattle.capnp_model.specs.Steps.{Outcome, refused, shown, done, outcome_map, target, target_of, at_field, reading_after, step_field}
+use Rattle.capnp_model.specs.Steps.{Outcome, refused, shown, done, outcome_map, at_field, reading_after, step_field}
 use Rattle.capnp_units.specs.declared.kinds.ErrorKind.{ErrorKind}
 use Rattle.capnp_units.specs.declared.kinds.ErrorKind.TheVariants.{OutOfMemory, SizeOverflow}
 use Rattle.capnp_model.specs.Edits.{Cell}
-use Rattle.capnp_calls.specs.Sizes.{content_len, end_content, IsDone, IsWant}
+use Rattle.capnp_calls.specs.Sizes.{content_len, IsDone, IsWant}
 use Rattle.capnp_calls.specs.Paths.{field_outcome, FieldPutsLong}
 use Rattle.capnp_calls.proofs.OneStep.{IsSlot, is_void, is_plain, is_pointer}
 

@@ -2,10 +2,10 @@
 use Rattle.std.proofs.Common.{◌≡◌, ℕ, zero, suc, Bool, true, false, if◌then◌else◌, Option, Some, None, List, refl, sym, ◌∙◌, ap, subst}
 use Rattle.std.specs.Prelude.{option_map}
 use Rattle.std.specs.Str.{bytes_eq}
-use Rattle.capnp_model.specs.Schemas.{Field as FieldNode, Shape, Fields, no_fields, field, Body, group_slot}
-use Rattle.capnp_model.specs.Steps.{Target, no_target, target, target_if, target_of}
+use Rattle.capnp_model.specs.Schemas.{Field as FieldNode, Fields, no_fields, field, Body, group_slot}
+use Rattle.capnp_model.specs.Steps.{no_target, target, target_if, target_of}
 use Rattle.capnp_queries.specs.Fields.{Entry, field_at, place_of_name, union_in, entry_in}
-use Rattle.capnp_queries.specs.Structs.{nodes_around, schema_around, shape_of_struct, fields_of_struct}
+use Rattle.capnp_queries.specs.Structs.{schema_around, shape_of_struct, fields_of_struct}
 use Rattle.capnp_queries.specs.Handles.{entry_of, IsFieldRecord}
 use Rattle.capnp_queries.specs.declared.structs.StructSchema.{StructSchema}
 use Rattle.capnp_queries.specs.declared.fields.Field.{Field}

@@ -1,12 +1,12 @@
 -- A path that ends at a slot is what the verb does there.
-use Rattle.std.proofs.Common.{◌≡◌, ℕ, zero, suc, ◌≤◌, max, Option, List, [], ◌∷◌, refl, ap, sym, ◌∙◌, arith}
-use Rattle.capnp_model.specs.Trees.{Tree, structure, Trees, none, ◌▸◌, tree_count, padded_to, widened}
-use Rattle.capnp_model.specs.Schemas.{PlainType, Ty, void, plain, shape, Fields, Body, plain_slot, pointer_slot, void_slot, Schema}
-use Rattle.capnp_model.specs.Readings.{Reading, inactive, null_pointer, fault, number, text_of, blob_of, list_of, record_as, opaque, Record, Children, Extent, whole_words, discriminant, is_active, only_if, fields_of, body_of, read_child, record_of, record_by_shape, shape_record}
-use Rattle.capnp_model.specs.Printing.{As, as_body, fields_in}
-use Rattle.capnp_model.specs.Calls.{name, Verb, get, set_to, init, initn, clear, Call, Content, refused_by, bits_of, object, slot_content}
-use Rattle.capnp_model.specs.Steps.{Outcome, refused, shown, done, outcome_map, target, target_of, entry_of, replaced, at_target, got, reading_after, at_field, step, step_field, step_path}
-use Rattle.capnp_model.specs.Edits.{Cell, Edit, mark, put_content, put_field, edit, edit_field, edit_struct, edit_named, edit_target, in_struct, if_done, write_path}
+use Rattle.std.proofs.Common.{◌≡◌, ℕ, zero, suc, ◌≤◌, Option, [], refl, ap, sym, ◌∙◌, arith}
+use Rattle.capnp_model.specs.Trees.{Tree, Trees, none, ◌▸◌, tree_count, padded_to}
+use Rattle.capnp_model.specs.Schemas.{PlainType, Ty, void, plain, Body, plain_slot, pointer_slot, void_slot, Schema}
+use Rattle.capnp_model.specs.Readings.{Reading, inactive, null_pointer, fault, number, text_of, blob_of, list_of, record_as, opaque, whole_words, discriminant, is_active, only_if, body_of, read_child}
+use Rattle.capnp_model.specs.Printing.{As, as_body}
+use Rattle.capnp_model.specs.Calls.{Verb, get, set_to, init, initn, clear, Content, refused_by, bits_of, object, slot_content}
+use Rattle.capnp_model.specs.Steps.{Outcome, refused, shown, done, outcome_map, got, reading_after, at_field, step_field}
+use Rattle.capnp_model.specs.Edits.{Cell, mark, put_content, put_field, edit_field}
 use Rattle.capnp_model.specs.Answers.{Reply, reply_of}
 use Rattle.capnp_calls.specs.Texts.{as_it_is}
 use Rattle.capnp_calls.specs.Replies.{is_active_in, content_reply, put_marked, body_reply, body_edit}
@@ -52,12 +52,6 @@ pub padded_enough : (p : ℕ) (ts : Trees) → p ≤ tree_count ts → padded_to
 padded_enough zero ts h = refl
 padded_enough (suc p) none h = absurd (omega arith)
 padded_enough (suc p) (t ▸ ts) h = ap (λ us. t ▸ us) (padded_enough p ts (omega arith))
-
--- a struct that is large enough is not widened
-pub widened_enough : (w p words section : ℕ) (kids : Trees) → w ≤ words → p ≤ tree_count kids → widened w p (structure words section kids) ≡ structure words section kids
-widened_enough w p words section kids wide long =
-    let e : max w words ≡ words = omega arith in
-    ap (λ z. structure z section (padded_to p kids)) e ∙ ap (structure words section) (padded_enough p kids long)
 
 put_is : (s : Schema) (verb : Verb) (body : Body) → IsSlot body → (c : Cell) → put_field s verb body c ≡ put_content body (slot_content s verb body) c
 put_is s verb body (is_void j) c = refl

@@ -1,26 +1,23 @@
 -- The rest of a path at the struct behind a pointer.
-use Rattle.std.proofs.Common.{◌≡◌, ℕ, zero, suc, ◌+◌, ◌*◌, ◌^◌, ◌<◌, ◌≤◌, max, true, false, Option, None, Some, List, [], ◌∷◌, take, length, refl, sym, subst, ap, ◌∙◌, arith, vec_len}
-use Rattle.capnp_model.specs.Kinds.{WrongPointerKind, WrongStep, UnreadablePointer}
-use Rattle.capnp_model.specs.Sections.{section_of}
-use Rattle.capnp_model.specs.Trees.{Tree, null, capability, structure, plain_list, pointer_list, struct_list, Trees, none, ◌▸◌, child, with_child, tree_count, padded_to, widened, resized}
+use Rattle.std.proofs.Common.{◌≡◌, ℕ, zero, suc, ◌<◌, max, true, false, Option, None, Some, List, [], ◌∷◌, refl, sym, subst, ap, ◌∙◌, arith}
+use Rattle.capnp_model.specs.Kinds.{UnreadablePointer}
+use Rattle.capnp_model.specs.Trees.{Tree, null, capability, structure, plain_list, pointer_list, struct_list, Trees, none, ◌▸◌, child, with_child, tree_count, padded_to, resized}
 use Rattle.capnp_model.specs.Schemas.{Ty, struct, Shape, shape, Body, pointer_slot, Schema, default_or_null}
 use Rattle.capnp_model.specs.Readings.{Reading, null_pointer, record_as, Record, whole_words, no_children, read, read_child, shape_record, body_of}
 use Rattle.capnp_model.specs.Printing.{fields_in}
 use Rattle.capnp_model.specs.Calls.{Step, name, index, Verb}
-use Rattle.capnp_model.specs.InKindCalls.{at_slot, end_of}
+use Rattle.capnp_model.specs.InKindCalls.{end_of}
 use Rattle.capnp_model.specs.Steps.{Outcome, refused, shown, done, outcome_map, opened, through_value, through_field, step_field, step_element, step_path}
-use Rattle.capnp_model.specs.Edits.{Cell, put_child, opened_tree, edit_named, edit_struct, edit_field, edit_value, in_struct, write_path, if_done}
+use Rattle.capnp_model.specs.Edits.{Cell, put_child, opened_tree, edit_named, edit_field, in_struct, write_path, if_done}
 use Rattle.capnp_model.specs.Answers.{Reply, text_reply, reply_done, reply_refused, reply_of}
 use Rattle.capnp_model.proofs.Marks.{read_child-padded_to}
-use Rattle.capnp_queries.specs.Fields.{union_in}
-use Rattle.capnp_queries.specs.Structs.{schema_around, id_of, shape_of_struct, fields_of_struct}
+use Rattle.capnp_queries.specs.Structs.{schema_around, id_of, shape_of_struct}
 use Rattle.capnp_queries.specs.declared.structs.StructSchema.{StructSchema}
 use Rattle.capnp_calls.specs.Texts.{as_it_is}
 use Rattle.capnp_calls.specs.RootViews.{or_empty_struct}
 use Rattle.capnp_calls.specs.Readable.{is_struct}
 use Rattle.capnp_calls.specs.Slots.{words_in, pointers_in}
-use Rattle.capnp_calls.specs.Taken.{end_behind}
-use Rattle.capnp_calls.specs.Sizes.{content_len, end_content, IsDone}
+use Rattle.capnp_calls.specs.Sizes.{IsDone}
 use Rattle.capnp_calls.specs.Paths.{if_written, field_outcome, field_after, AnswersField, FieldPutsLong, shape_outcome, shape_edit, shape_after, AnswersPath, PathPutsLong, struct_after, AnswersStruct}
 use Rattle.capnp_calls.proofs.OneStep.{reply_of-map}
 use Rattle.capnp_calls.proofs.SlotShown.{read_child-child}

@@ -1,15 +1,15 @@
 -- What the functions along a path answer.
-use Rattle.std.proofs.Common.{◌≡◌, ◌≢◌, ℕ, suc, ◌^◌, ◌≤◌, length, arith, Bool, true, false, Option, Some, None, List, [], ◌∷◌, refl, sym, subst, ap, ◌∙◌}
+use Rattle.std.proofs.Common.{◌≡◌, ◌≢◌, ℕ, suc, length, arith, Bool, true, false, Option, Some, None, List, [], ◌∷◌, refl, sym, subst, ap, ◌∙◌}
 use Rattle.std.specs.Prelude.{option_map, option_copied, map, ◌==◌}
 use Rattle.std.specs.Borrow.{Bor}
 use Rattle.capnp_model.specs.Kinds.{Kind, WrongStep, FieldNotFound, InactiveMember, UnreadablePointer}
 use Rattle.capnp_model.specs.Trees.{Tree, child}
-use Rattle.capnp_model.specs.Schemas.{Ty, text, blob, untyped, interface, struct, list, Shape, shape, Body, void_slot, plain_slot, pointer_slot, group_slot, Node, Schema, default_or_null}
-use Rattle.capnp_model.specs.Readings.{Reading, whole_words, body_of, read_child, read}
+use Rattle.capnp_model.specs.Schemas.{Ty, text, blob, untyped, interface, struct, list, Shape, Body, void_slot, plain_slot, pointer_slot, group_slot, Node, Schema, default_or_null}
+use Rattle.capnp_model.specs.Readings.{whole_words, body_of, read_child, read}
 use Rattle.capnp_model.specs.Calls.{Step, name, index, Verb, text_tree, blob_tree}
 use Rattle.capnp_model.specs.InKindCalls.{at_slot, nowhere, end_at, end_of}
 use Rattle.capnp_model.specs.Accepted.{schema_of, default_tree}
-use Rattle.capnp_model.specs.Steps.{Outcome, refused, Target, no_target, target, target_of, step_field, step_element, through_field}
+use Rattle.capnp_model.specs.Steps.{refused, Target, no_target, target, target_of, step_field, step_element, through_field}
 use Rattle.capnp_model.specs.Edits.{Cell, edit_field}
 use Rattle.capnp_model.specs.Answers.{Reply, reply_refused, reply_of}
 use Rattle.capnp_records.specs.NodeViews.{value_of}

@@ -1,13 +1,13 @@
 -- The name of a field, and the rest of a path behind it.
 use Rattle.std.proofs.Common.{◌≡◌, ℕ, ◌^◌, ◌≤◌, true, false, Option, List, [], ◌∷◌, refl, sym, subst, ap, ◌∙◌}
 use Rattle.capnp_model.specs.Kinds.{WrongStep, FieldNotFound, InactiveMember}
-use Rattle.capnp_model.specs.Schemas.{Shape, shape, Fields, Body, group_slot, Schema}
+use Rattle.capnp_model.specs.Schemas.{Shape, shape, Body, group_slot, Schema}
 use Rattle.capnp_model.specs.Readings.{Reading, record_as, Record, whole_words, discriminant, only_if, body_of, read_child, shape_record}
 use Rattle.capnp_model.specs.Printing.{fields_in}
 use Rattle.capnp_model.specs.Calls.{Step, name, index, Verb}
 use Rattle.capnp_model.specs.InKindCalls.{at_slot, nowhere, end_at, end_of}
-use Rattle.capnp_model.specs.Steps.{Outcome, refused, shown, done, outcome_map, no_target, target, target_of, replaced, at_target, step_field, step_element}
-use Rattle.capnp_model.specs.Edits.{Cell, edit_target, edit_field, edit_element}
+use Rattle.capnp_model.specs.Steps.{Outcome, refused, shown, done, outcome_map, no_target, target, target_of, replaced, at_target, step_field}
+use Rattle.capnp_model.specs.Edits.{Cell, edit_target, edit_field}
 use Rattle.capnp_model.specs.Answers.{Reply, reply_refused, reply_of}
 use Rattle.capnp_model.proofs.Paths.{entry_of-fields_of}
 use Rattle.capnp_queries.specs.Fields.{union_in}

@@ -1,5 +1,5 @@
 -- A slot that lies in a shape lies in a struct that is at least as large.
-use Rattle.std.proofs.Common.{◌≡◌, ℕ, ◌+◌, ◌*◌, ◌≤◌, Option, Some, None, arith}
+use Rattle.std.proofs.Common.{ℕ, ◌≤◌, Option, Some, None, arith}
 use Rattle.std.specs.Prelude.{Result, Ok, Err, IfOk, OnOk}
 use Rattle.capnp_model.specs.Schemas.{width, Body, void_slot, plain_slot, pointer_slot, group_slot}
 use Rattle.capnp_calls.specs.RootViews.{LiesIn}

@@ -1,12 +1,12 @@
 -- A name behind a pointer that is no struct: a wrong step, or a pointer that can't be read.
 use Rattle.std.proofs.Common.{◌≡◌, ℕ, zero, suc, ◌+◌, ◌-◌, ◌*◌, ◌/◌, ◌^◌, ◌<◌, Bool, true, false, ◌&&◌, ◌==◌, nat_lt, ◌⊎◌, inl, inr, if◌then◌else◌, Option, Some, None, List, [], ◌∷◌, ◌++◌, length, take, slice_index, refl, sym, subst, ap, ◌∙◌, arith}
 use Rattle.std.specs.Prelude.{IsSome}
-use Rattle.capnp_model.specs.Kinds.{Kind, WrongStep, UnreadablePointer, WrongPointerKind, WrongElementSize, TextWithoutZeroByte}
-use Rattle.capnp_model.specs.Sections.{bits_at, with_bits, number_of, numbers_in}
-use Rattle.capnp_model.specs.Trees.{Tree, null, capability, structure, plain_list, pointer_list, struct_list, Trees, Elements, child, plain_elements, size_bits}
+use Rattle.capnp_model.specs.Kinds.{WrongStep, UnreadablePointer, WrongElementSize, TextWithoutZeroByte}
+use Rattle.capnp_model.specs.Sections.{bits_at, number_of, numbers_in}
+use Rattle.capnp_model.specs.Trees.{Tree, null, capability, structure, plain_list, pointer_list, struct_list, plain_elements, size_bits}
 use Rattle.capnp_model.specs.Schemas.{Ty, text, blob, untyped, interface, struct, list, Body, pointer_slot, Value, no_value, bits, text_bytes, blob_bytes, list_segment, struct_segment, untyped_value, interface_value, Schema, default_or_null}
 use Rattle.capnp_model.specs.Readings.{Reading, inactive, null_pointer, fault, number, text_of, blob_of, list_of, Readings, record_as, opaque, is_list_of, text_reading, list_reading, plain_readings, pointer_elements, struct_elements, read}
-use Rattle.capnp_model.specs.Calls.{Step, name, text_tree, blob_tree}
+use Rattle.capnp_model.specs.Calls.{name, text_tree}
 use Rattle.capnp_model.specs.Steps.{Outcome, refused, or_empty, through_value, through_field}
 use Rattle.capnp_model.proofs.Numbers.{length-numbers_in}
 use Rattle.capnp_model.proofs.SectionElements.{numbers_in-more, number_of-more}
@@ -16,7 +16,7 @@ use Rattle.capnp_model.proofs.KeptRules.{and_right}
 use Rattle.capnp_model.specs.Decoding.{decode}
 use Rattle.capnp_model.specs.Accepted.{default_tree, is_default_of, opens_as, is_good_segment, is_good_value}
 use Rattle.capnp_calls.specs.Slots.{HasGoodDefault, IsSegment}
-use Rattle.capnp_calls.specs.Readable.{ends_in_zero, is_text, is_data, is_list, reads_as}
+use Rattle.capnp_calls.specs.Readable.{ends_in_zero, is_text, is_list, reads_as}
 
 -- a type whose values take no name
 pub data TakesNoName : Ty → Type 0 where

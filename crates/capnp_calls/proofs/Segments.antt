@@ -1,5 +1,5 @@
 -- The value of a segment that can be read.
-use Rattle.std.proofs.Common.{◌≡◌, ℕ, Bool, true, false, not, ◌&&◌, Option, Some, None, List, [], ◌∷◌, refl, sym, subst, ap, ◌∙◌}
+use Rattle.std.proofs.Common.{◌≡◌, ℕ, Bool, true, false, not, ◌&&◌, Option, Some, None, List, [], ◌∷◌, ◌∙◌}
 use Rattle.std.specs.Prelude.{IsSome}
 use Rattle.capnp_model.specs.Chains.{◌>>=◌, ◌provided◌}
 use Rattle.capnp_model.specs.Segments.{root}

@@ -1,17 +1,16 @@
--- The record after a call is the one that the record machine makes.
-use Rattle.std.proofs.Common.{◌≡◌, ℕ, false, Option, List, [], ◌∷◌, refl, ap, sym, subst, ◌∙◌, arith}
+-- What the model's law says of edited records, and that what calls set are values of their sorts.
+use Rattle.std.proofs.Common.{◌≡◌, ℕ, false, List, [], ◌∷◌, arith}
 use Rattle.std.specs.Prelude.{IsTrue, map}
-use Rattle.capnp_model.specs.Trees.{Tree, structure, Trees}
-use Rattle.capnp_model.specs.Schemas.{shape, Node, Body}
+use Rattle.capnp_model.specs.Trees.{Tree}
+use Rattle.capnp_model.specs.Schemas.{Node}
 use Rattle.capnp_model.specs.Accepted.{IsAccepted, schema_of}
-use Rattle.capnp_model.specs.Readings.{Reading, inactive, null_pointer, fault, number, text_of, blob_of, list_of, record_as, opaque, Record, record_of}
-use Rattle.capnp_model.specs.Printing.{As, as_body, fields_in}
-use Rattle.capnp_model.specs.Calls.{name, whole_number, truth, enumerant, text_value, blob_value, message, Verb, get, set_to, init, initn, clear, Call}
-use Rattle.capnp_model.specs.Steps.{Outcome, refused, shown, done, outcome_map, Target, no_target, target, target_of, got, step, after_outcome}
-use Rattle.capnp_model.specs.Edits.{edit, if_done, write_path}
+use Rattle.capnp_model.specs.Readings.{Record, record_of}
+use Rattle.capnp_model.specs.Printing.{fields_in}
+use Rattle.capnp_model.specs.Calls.{Call}
+use Rattle.capnp_model.specs.Steps.{done, step}
+use Rattle.capnp_model.specs.Edits.{edit}
 use Rattle.capnp_model.specs.CallRuns.{IsGiven, AreGiven}
-use Rattle.capnp_model.specs.NamedPaths.{IsInRange, IsOpen, GoesByNames, IsSlot as NoGroup}
-use Rattle.capnp_queries.specs.Structs.{nodes_around, schema_around, id_of, shape_of_struct, fields_of_struct}
+use Rattle.capnp_model.specs.NamedPaths.{IsInRange, IsOpen, GoesByNames}
 use Rattle.capnp_queries.specs.declared.structs.StructSchema.{StructSchema}
 use Rattle.capnp_calls.specs.declared.call.Call.{Call as OwnCall}
 use Rattle.capnp_calls.specs.declared.call.SlotValue.TheVariants as value
@@ -19,7 +18,7 @@ use Rattle.capnp_calls.specs.declared.call.Action.{Action}
 use Rattle.capnp_calls.specs.declared.call.Action.TheVariants as action
 use Rattle.capnp_calls.specs.Actions.{is_in_range}
 use Rattle.capnp_calls.specs.CallViews.{action_view, call_view}
-use Rattle.capnp_calls.specs.Taken.{taken_call, record_at}
+use Rattle.capnp_calls.specs.Taken.{taken_call}
 
 -- what the model's law says
 abbrev pub RecordsOfEdits : Type 0

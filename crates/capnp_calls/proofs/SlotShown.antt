@@ -1,5 +1,5 @@
 -- What a `get` replies of a slot.
-use Rattle.std.proofs.Common.{◌≡◌, ℕ, zero, suc, true, false, Option, None, refl, ap, ◌∙◌}
+use Rattle.std.proofs.Common.{◌≡◌, ℕ, zero, suc, true, false, Option, refl, ap, ◌∙◌}
 use Rattle.std.specs.Prelude.{option_map, option_copied}
 use Rattle.capnp_model.specs.Kinds.{InactiveMember}
 use Rattle.capnp_model.specs.Trees.{Tree, null, Trees, none, ◌▸◌, child}

@@ -1,12 +1,12 @@
 -- What the functions answer at a struct behind a pointer.
-use Rattle.std.proofs.Common.{◌≡◌, ◌≢◌, ℕ, ◌+◌, ◌*◌, ◌^◌, ◌<◌, ◌≤◌, max, min, Bool, true, false, Option, Some, None, List, [], ◌∷◌, take, length, refl, sym, subst, ap, ◌∙◌, arith, vec_len}
-use Rattle.std.specs.Prelude.{Result, Ok, Err, IfOk, OnOk, OnErr}
+use Rattle.std.proofs.Common.{◌≡◌, ◌≢◌, ℕ, ◌^◌, ◌<◌, ◌≤◌, max, true, false, Option, None, List, [], ◌∷◌, take, length, refl, sym, subst, ap, ◌∙◌, arith, vec_len}
+use Rattle.std.specs.Prelude.{Result, Ok, Err, IfOk, OnErr}
 use Rattle.std.proofs.lemmas.List.{length-take}
 use Rattle.capnp_units.specs.declared.errors.Error.{Error}
 use Rattle.capnp_model.specs.Kinds.{UnreadablePointer}
 use Rattle.capnp_model.specs.Sections.{section_of}
-use Rattle.capnp_model.specs.Trees.{Tree, null, capability, structure, plain_list, pointer_list, struct_list, Trees, none, child, tree_count, padded_to, widened, is_null}
-use Rattle.capnp_model.specs.Fits.{Fits, FitEach}
+use Rattle.capnp_model.specs.Trees.{Tree, null, capability, structure, plain_list, pointer_list, struct_list, none, child, tree_count, padded_to, widened, is_null}
+use Rattle.capnp_model.specs.Fits.{Fits}
 use Rattle.capnp_model.specs.Schemas.{Ty, struct, Body, pointer_slot, default_or_null, Shape}
 use Rattle.capnp_model.specs.Calls.{Step, name, index, Verb}
 use Rattle.capnp_model.specs.Edits.{Cell, put_child, opened_tree}
@@ -15,7 +15,7 @@ use Rattle.capnp_model.proofs.Numbers.{section_of_lt}
 use Rattle.capnp_queries.specs.Structs.{schema_around, id_of, shape_of_struct}
 use Rattle.capnp_queries.specs.declared.structs.StructSchema.{StructSchema}
 use Rattle.capnp_value.specs.Values.{trees_of, trees_view}
-use Rattle.capnp_calls.specs.RootViews.{cell_of, struct_tree, HasFitting, SameSizes, or_empty_struct}
+use Rattle.capnp_calls.specs.RootViews.{cell_of, struct_tree, SameSizes, or_empty_struct}
 use Rattle.capnp_calls.specs.Readable.{is_struct}
 use Rattle.capnp_calls.specs.Replies.{reply_view}
 use Rattle.capnp_calls.specs.Slots.{words_in, pointers_in}
@@ -24,7 +24,7 @@ use Rattle.capnp_calls.specs.Paths.{AnswersField, FieldPutsLong, AnswersPath, Pa
 use Rattle.capnp_calls.specs.declared.root.StructValue.{StructValue}
 use Rattle.capnp_calls.specs.declared.reply.Reply.{Reply as Own}
 use Rattle.capnp_calls.specs.declared.reply.Reply.TheVariants as reply
-use Rattle.capnp_calls.proofs.Children.{tree_count-trees_of, Fits-kept}
+use Rattle.capnp_calls.proofs.Children.{tree_count-trees_of}
 use Rattle.capnp_calls.proofs.Widening.{narrowed_words, narrowed_children}
 use Rattle.capnp_calls.proofs.OpenedStructs.{of_cell, cell_in, wide, widened_done, widened_other, widened_stays, widened_long, put_twice, put_same, unreadable_struct, opened_long, struct_put, fresh_put, fresh_dropped}
 

@@ -1,9 +1,9 @@
 -- A call along a path from the root.
-use Rattle.std.proofs.Common.{◌≡◌, ℕ, ◌^◌, ◌<◌, ◌≤◌, max, Bool, true, false, ◌&&◌, List, [], ◌∷◌, refl, sym, subst, ap, ◌∙◌, arith, vec_len}
+use Rattle.std.proofs.Common.{◌≡◌, ℕ, ◌^◌, ◌≤◌, max, true, false, ◌&&◌, List, [], ◌∷◌, refl, sym, subst, ap, ◌∙◌, arith, vec_len}
 use Rattle.capnp_model.specs.Kinds.{WrongStep}
-use Rattle.capnp_model.specs.Trees.{Tree, structure, Trees, tree_count, padded_to, widened}
-use Rattle.capnp_model.specs.Schemas.{Ty, void, plain, text, blob, untyped, interface, struct, list, Node, Shape, shape, Fields, Body, void_slot, plain_slot, pointer_slot, group_slot, Schema, default_or_null}
-use Rattle.capnp_model.specs.Accepted.{IsAccepted, schema_of}
+use Rattle.capnp_model.specs.Trees.{Tree, structure, tree_count, padded_to}
+use Rattle.capnp_model.specs.Schemas.{Ty, void, plain, text, blob, untyped, interface, struct, list, Shape, shape, Fields, Body, void_slot, plain_slot, pointer_slot, group_slot, Schema, default_or_null}
+use Rattle.capnp_model.specs.Accepted.{IsAccepted}
 use Rattle.capnp_model.specs.Readings.{Reading, inactive, null_pointer, fault, number, text_of, blob_of, list_of, record_as, opaque, Record, record_of, record_by_shape}
 use Rattle.capnp_model.specs.Printing.{as_body, fields_in}
 use Rattle.capnp_model.specs.Calls.{Step, name, index, whole_number, truth, enumerant, text_value, blob_value, message, Verb, get, set_to, init, initn, clear, Call}
@@ -12,16 +12,15 @@ use Rattle.capnp_model.specs.InKindCalls.{at_slot, at_value, end_at, end_of}
 use Rattle.capnp_model.specs.Steps.{Outcome, refused, shown, done, outcome_map, entry_of, replaced, Target, no_target, target, target_of, at_target, on_name, opened, through_value, through_field, step_field, step_element, step, after_outcome}
 use Rattle.capnp_model.specs.Edits.{Cell, edit, edit_named, edit_field, in_struct, if_done, write_path}
 use Rattle.capnp_model.specs.Answers.{Reply, reply_refused, reply_of}
-use Rattle.capnp_model.specs.NamedPaths.{IsInRange, IsOpen, IsSlot as NoGroup, EndsAtSlot, AllNames, GoesByNames}
+use Rattle.capnp_model.specs.NamedPaths.{IsInRange, EndsAtSlot, AllNames, GoesByNames}
 use Rattle.capnp_model.proofs.Paths.{IsMapped, mapped, unmap, IsThrough, through, to_through, shown_not_done}
-use Rattle.capnp_queries.specs.Fields.{union_in}
 use Rattle.capnp_queries.specs.Structs.{nodes_around, schema_around, id_of, shape_of_struct, fields_of_struct}
 use Rattle.capnp_queries.specs.declared.structs.StructSchema.{StructSchema}
 use Rattle.capnp_calls.specs.Texts.{as_it_is}
 use Rattle.capnp_calls.specs.declared.root.StructValue.{StructValue}
 use Rattle.capnp_calls.specs.RootViews.{cell_of, struct_tree, SameSizes}
 use Rattle.capnp_calls.specs.Slots.{words_in, pointers_in}
-use Rattle.capnp_calls.specs.Taken.{IsRoot, are_names, is_taken_at, is_taken_end, end_behind, IsTakenPath, is_taken, path_if, taken_call, record_at}
+use Rattle.capnp_calls.specs.Taken.{IsRoot, are_names, is_taken_end, end_behind, IsTakenPath, is_taken, path_if, taken_call, record_at}
 use Rattle.capnp_calls.specs.Replies.{AnswersCall}
 use Rattle.capnp_calls.specs.Sizes.{content_len, end_content, IsDone, PutsLongList}
 use Rattle.capnp_calls.specs.Paths.{if_written, shape_outcome, shape_edit, shape_after, AnswersPath, PathPutsLong}

@@ -1,13 +1,12 @@
 -- Zeros and nulls behind what a struct has, and cut off again.
-use Rattle.std.proofs.Common.{◌≡◌, ℕ, zero, suc, ◌+◌, ◌-◌, ◌*◌, ◌%◌, ◌^◌, ◌<◌, ◌≤◌, max, Bool, true, false, List, [], ◌∷◌, ◌++◌, length, take, drop, replicate, refl, sym, subst, ap, ◌∙◌, append-nil, arith}
-use Rattle.std.specs.Prelude.{Result, Ok, Err, OnOk, is_ok, map}
+use Rattle.std.proofs.Common.{◌≡◌, ℕ, zero, suc, ◌+◌, ◌-◌, ◌*◌, ◌%◌, ◌^◌, ◌<◌, ◌≤◌, true, List, [], ◌∷◌, ◌++◌, length, take, drop, replicate, refl, sym, ap, ◌∙◌, append-nil, arith}
+use Rattle.std.specs.Prelude.{Result, Ok, Err, OnOk, is_ok}
 use Rattle.std.proofs.lemmas.List.{map-append, take_all}
 use Rattle.capnp_model.specs.Sections.{section_of}
 use Rattle.capnp_model.specs.Trees.{Tree, null, Trees, none, ◌▸◌, tree_count, padded_to}
 use Rattle.capnp_value.specs.declared.value.Value.{Value}
 use Rattle.capnp_value.specs.Values.{tree_of_value, trees_of, trees_view}
 use Rattle.capnp_value.proofs.Trimming.{section_split, front_small}
-use Rattle.capnp_model.proofs.Numbers.{section_of_lt}
 
 pub on_ok : {A E : Type 0} (r : Result A E) (P : Type 0) → (is_ok r ≡ true → P) → OnOk r P
 on_ok (Ok a) P f = f refl

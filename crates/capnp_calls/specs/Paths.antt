@@ -1,22 +1,26 @@
 -- What the record machine and the tree edit make of the rest of a path at the data and the children of a struct or a group.
-use Rattle.std.specs.Prelude.{ℕ, ◌≡◌, ◌^◌, ◌≤◌, Bool, true, false, Option, Result, Ok, List, [], ◌∷◌}
+use Rattle.std.specs.Prelude.{ℕ, ◌≡◌, ◌^◌, ◌≤◌, Bool, true, false, Option, None, Result, Ok, List, ◌∷◌}
 use Rattle.capnp_units.specs.declared.errors.Error.{Error}
 use Rattle.capnp_model.specs.Trees.{Tree, structure}
-use Rattle.capnp_model.specs.Schemas.{Shape, Fields, Body, Schema}
+use Rattle.capnp_model.specs.Schemas.{struct, Value, Node, Shape, Body, pointer_slot, group_slot, Schema}
+use Rattle.capnp_model.specs.Accepted.{default_tree, schema_of}
 use Rattle.capnp_model.specs.Readings.{Reading, Record, whole_words, only_if, body_of, read_child, shape_record}
 use Rattle.capnp_model.specs.Printing.{fields_in}
-use Rattle.capnp_model.specs.Calls.{Step, name, index, Verb}
+use Rattle.capnp_model.specs.Calls.{Step, name, Verb}
 use Rattle.capnp_model.specs.Steps.{Outcome, refused, shown, done, step_field, step_path}
 use Rattle.capnp_model.specs.Edits.{Cell, Edit, edit_named, edit_field, write_path, if_done}
 use Rattle.capnp_model.specs.Answers.{Reply, reply_of}
 use Rattle.capnp_model.specs.InKindCalls.{at_slot, end_of}
 use Rattle.capnp_queries.specs.Fields.{union_in}
-use Rattle.capnp_queries.specs.Structs.{schema_around, shape_of_struct}
+use Rattle.capnp_queries.specs.Structs.{schema_around, id_of, shape_of_struct}
 use Rattle.capnp_queries.specs.declared.structs.StructSchema.{StructSchema}
 use Rattle.capnp_calls.specs.declared.reply.Reply.{Reply as Own}
 use Rattle.capnp_calls.specs.declared.reply.Reply.TheVariants as reply
 use Rattle.capnp_calls.specs.Texts.{as_it_is}
 use Rattle.capnp_calls.specs.Taken.{end_behind}
+use Rattle.capnp_calls.specs.Slots.{body_of_slot}
+use Rattle.capnp_calls.specs.declared.find.NamedSlot.{NamedSlot}
+use Rattle.capnp_calls.specs.declared.find.NamedGroup.{NamedGroup}
 use Rattle.capnp_calls.specs.Replies.{is_active_in}
 use Rattle.capnp_calls.specs.Sizes.{content_len, end_content, IsDone}
 
@@ -46,6 +50,27 @@ pub record AnswersField (s : Schema) (path : List Step) (verb : Verb) (union mem
 pub record FieldPutsLong (s : Schema) (path : List Step) (verb : Verb) (union member : Option ℕ) (body : Body) (c : Cell) : Type 0 where
   pub is_done : IsDone (field_outcome s path verb union member body c)
   pub is_long : 2 ^ 29 ≤ content_len (end_content s verb (end_of s path (at_slot body)))
+
+-- The same at a slot of these nodes.
+abbrev pub AnswersSlot : List Node → NamedSlot → List Step → Verb → Cell → Cell → Reply → Type 0
+AnswersSlot nodes n path verb old new answer = AnswersField (schema_of nodes) path verb n.union n.member (body_of_slot n.slot) old new answer
+
+abbrev pub SlotPutsLong : List Node → NamedSlot → List Step → Verb → Cell → Type 0
+SlotPutsLong nodes n path verb c = FieldPutsLong (schema_of nodes) path verb n.union n.member (body_of_slot n.slot) c
+
+-- The same at a group.
+abbrev pub AnswersGroup : NamedGroup → List Step → Verb → Cell → Cell → Reply → Type 0
+AnswersGroup g path verb old new answer = AnswersField (schema_around g.schema) path verb g.union g.member (group_slot (shape_of_struct g.schema)) old new answer
+
+abbrev pub GroupPutsLong : NamedGroup → List Step → Verb → Cell → Type 0
+GroupPutsLong g path verb c = FieldPutsLong (schema_around g.schema) path verb g.union g.member (group_slot (shape_of_struct g.schema)) c
+
+-- The same at a pointer to a struct, with a default, which is no member.
+abbrev pub AnswersPointer : StructSchema → ℕ → Option Value → List Step → Verb → Cell → Cell → Reply → Type 0
+AnswersPointer g i default path verb old new answer = AnswersField (schema_around g) path verb None None (pointer_slot i (struct (id_of g)) (default_tree default)) old new answer
+
+abbrev pub PointerPutsLong : StructSchema → ℕ → Option Value → List Step → Verb → Cell → Type 0
+PointerPutsLong g i default path verb c = FieldPutsLong (schema_around g) path verb None None (pointer_slot i (struct (id_of g)) (default_tree default)) c
 
 -- ---- a struct or a group
 

@@ -2,7 +2,7 @@
 use Rattle.std.specs.Prelude.{ℕ, ◌-◌, ◌^◌, ◌==◌, nat_lt, bit_xor, if◌then◌else◌, Option, Some, None, option_map, option_copied, List, ◌++◌, codes, decimal}
 use Rattle.capnp_model.specs.Sections.{bits_at}
 use Rattle.capnp_model.specs.Trees.{child}
-use Rattle.capnp_model.specs.Schemas.{width, void, plain, text, blob, untyped, interface, default_or_null, Schema}
+use Rattle.capnp_model.specs.Schemas.{width, plain, text, blob, untyped, interface, default_or_null, Schema}
 use Rattle.capnp_model.specs.Printing.{number_text, opaque_text}
 use Rattle.capnp_model.specs.Calls.{text_tree, blob_tree}
 use Rattle.capnp_model.specs.Edits.{Cell, opened_tree}

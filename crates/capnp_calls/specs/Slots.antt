@@ -1,5 +1,5 @@
 -- What contracts see of slots: fields that are no groups. (Encoding, "Structs")
-use Rattle.std.specs.Prelude.{ℕ, ◌≡◌, ◌*◌, ◌+◌, ◌%◌, ◌-◌, ◌^◌, ◌<◌, true, Option, Some, None, IfSome, IsSome, option_map, option_copied, List, length}
+use Rattle.std.specs.Prelude.{ℕ, ◌≡◌, ◌-◌, ◌^◌, ◌<◌, true, Option, Some, None, IfSome, IsSome, option_map, option_copied, List, length}
 use Rattle.capnp_model.specs.Schemas.{width, Ty, text, blob, untyped, interface, struct, list, Value, text_bytes, blob_bytes, list_segment, struct_segment, Node, Shape, shape, Body, void_slot, plain_slot, pointer_slot, group_slot}
 use Rattle.capnp_model.specs.Calls.{text_tree, blob_tree}
 use Rattle.capnp_model.specs.Decoding.{decode}
@@ -8,7 +8,6 @@ use Rattle.capnp_records.specs.NodeViews.{value_of}
 use Rattle.capnp_records.specs.Sets.{IsNodeOf}
 use Rattle.capnp_queries.specs.Types.{ty_of, is_type_of}
 use Rattle.capnp_queries.specs.Handles.{plain_of, is_plain_of}
-use Rattle.capnp_queries.specs.declared.slots.PlainType.{PlainType}
 use Rattle.capnp_calls.specs.RootViews.{LiesIn}
 use Rattle.capnp_calls.specs.declared.slot.Slot.{Slot}
 use Rattle.capnp_calls.specs.declared.slot.Slot.TheVariants as S

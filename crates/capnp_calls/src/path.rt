@@ -17,7 +17,7 @@ ghost use Rattle.capnp_calls.specs.Replies.{reply_view};
 ghost use Rattle.capnp_calls.specs.Finding.{IsPlaced};
 ghost use Rattle.capnp_calls.specs.Sizes.{IsWant};
 ghost use Rattle.capnp_calls.specs.Taken.{IsTakenPath, IsTakenRest};
-ghost use Rattle.capnp_calls.specs.Paths.{AnswersField, FieldPutsLong, AnswersPath, PathPutsLong, AnswersStruct, is_done};
+ghost use Rattle.capnp_calls.specs.Paths.{AnswersSlot, SlotPutsLong, AnswersGroup, GroupPutsLong, AnswersPointer, PointerPutsLong, AnswersPath, PathPutsLong, AnswersStruct, is_done};
 
 use crate::answer::{answer_slot, is_active};
 use crate::call::{Action, Step};
@@ -108,17 +108,14 @@ fn answer_group(
     requires taken { IsTakenPath group.schema (map step_view rest.now) (action_view action.now) }
     requires some { map step_view rest.now ≢ [] }
     ensures answer { IfOk result (λ r.
-        AnswersField (schema_around group.entry.schema) (map step_view rest.now)
-        (action_view action.now) group.entry.union group.entry.member
-        (group_slot (shape_of_struct group.entry.schema)) (cell_of root.old) (cell_of root.new)
-        (reply_view r)) }
+        AnswersGroup group.entry (map step_view rest.now) (action_view action.now)
+        (cell_of root.old) (cell_of root.new) (reply_view r)) }
     ensures sizes { SameSizes root.old root.new }
     ensures fitting { HasFitting root.old → HasFitting root.new }
     ensures stays { OnErr result (cell_of root.new ≡ cell_of root.old) }
     ensures refusal { IfErr result (λ e.
-        IsWant (FieldPutsLong (schema_around group.entry.schema) (map step_view rest.now)
-        (action_view action.now) group.entry.union group.entry.member
-        (group_slot (shape_of_struct group.entry.schema)) (cell_of root.old)) e.kind) }
+        IsWant (GroupPutsLong group.entry (map step_view rest.now) (action_view action.now)
+        (cell_of root.old)) e.kind) }
 {
     if !is_active(root, group.union, group.member) {
         return Ok(Reply::Refused(ErrorKind::InactiveMember));
@@ -143,16 +140,14 @@ fn answer_behind(
         (map step_view rest.now) (action_view action.now) }
     requires some { map step_view rest.now ≢ [] }
     ensures answer { IfOk result (λ r.
-        AnswersField (schema_of (nodes_of set.now)) (map step_view rest.now)
-        (action_view action.now) named.entry.union named.entry.member
-        (body_of_slot named.entry.slot) (cell_of root.old) (cell_of root.new) (reply_view r)) }
+        AnswersSlot (nodes_of set.now) named.entry (map step_view rest.now)
+        (action_view action.now) (cell_of root.old) (cell_of root.new) (reply_view r)) }
     ensures sizes { SameSizes root.old root.new }
     ensures fitting { HasFitting root.old → HasFitting root.new }
     ensures stays { OnErr result (cell_of root.new ≡ cell_of root.old) }
     ensures refusal { IfErr result (λ e.
-        IsWant (FieldPutsLong (schema_of (nodes_of set.now)) (map step_view rest.now)
-        (action_view action.now) named.entry.union named.entry.member
-        (body_of_slot named.entry.slot) (cell_of root.old)) e.kind) }
+        IsWant (SlotPutsLong (nodes_of set.now) named.entry (map step_view rest.now)
+        (action_view action.now) (cell_of root.old)) e.kind) }
 {
     if !is_active(root, named.union, named.member) {
         return Ok(Reply::Refused(ErrorKind::InactiveMember));
@@ -193,20 +188,16 @@ fn answer_pointer(
     requires taken { IsTakenPath schema (map step_view rest.now) (action_view action.now) }
     requires some { map step_view rest.now ≢ [] }
     ensures answer { IfOk result (λ r.
-        AnswersField (schema_around schema.entry) (map step_view rest.now)
-        (action_view action.now) None None
-        (pointer_slot index (struct (id_of schema.entry))
-        (default_tree (option_map value_of (option_copied default.entry)))) (cell_of root.old)
-        (cell_of root.new) (reply_view r)) }
+        AnswersPointer schema.entry index (option_map value_of (option_copied default.entry))
+        (map step_view rest.now) (action_view action.now) (cell_of root.old) (cell_of root.new)
+        (reply_view r)) }
     ensures sizes { SameSizes root.old root.new }
     ensures fitting { HasFitting root.old → HasFitting root.new }
     ensures stays { OnErr result (cell_of root.new ≡ cell_of root.old) }
     ensures refusal { IfErr result (λ e.
-        IsWant (FieldPutsLong (schema_around schema.entry) (map step_view rest.now)
-        (action_view action.now) None None
-        (pointer_slot index (struct (id_of schema.entry))
-        (default_tree (option_map value_of (option_copied default.entry)))) (cell_of root.old))
-        e.kind) }
+        IsWant (PointerPutsLong schema.entry index
+        (option_map value_of (option_copied default.entry)) (map step_view rest.now)
+        (action_view action.now) (cell_of root.old)) e.kind) }
 {
     if is_null(pointer(root, index)) {
         answer_null(alloc, schema, root, index, default, rest, action)
@@ -233,20 +224,16 @@ fn answer_null(
     requires taken { IsTakenPath schema (map step_view rest.now) (action_view action.now) }
     requires some { map step_view rest.now ≢ [] }
     ensures answer { IfOk result (λ r.
-        AnswersField (schema_around schema.entry) (map step_view rest.now)
-        (action_view action.now) None None
-        (pointer_slot index (struct (id_of schema.entry))
-        (default_tree (option_map value_of (option_copied default.entry)))) (cell_of root.old)
-        (cell_of root.new) (reply_view r)) }
+        AnswersPointer schema.entry index (option_map value_of (option_copied default.entry))
+        (map step_view rest.now) (action_view action.now) (cell_of root.old) (cell_of root.new)
+        (reply_view r)) }
     ensures sizes { SameSizes root.old root.new }
     ensures fitting { HasFitting root.old → HasFitting root.new }
     ensures stays { OnErr result (cell_of root.new ≡ cell_of root.old) }
     ensures refusal { IfErr result (λ e.
-        IsWant (FieldPutsLong (schema_around schema.entry) (map step_view rest.now)
-        (action_view action.now) None None
-        (pointer_slot index (struct (id_of schema.entry))
-        (default_tree (option_map value_of (option_copied default.entry)))) (cell_of root.old))
-        e.kind) }
+        IsWant (PointerPutsLong schema.entry index
+        (option_map value_of (option_copied default.entry)) (map step_view rest.now)
+        (action_view action.now) (cell_of root.old)) e.kind) }
 {
     let opened = default_value(alloc, default)?;
     let mut inner = match as_struct(alloc, opened) {
@@ -279,20 +266,16 @@ fn answer_there(
     requires taken { IsTakenPath schema (map step_view rest.now) (action_view action.now) }
     requires some { map step_view rest.now ≢ [] }
     ensures answer { IfOk result (λ r.
-        AnswersField (schema_around schema.entry) (map step_view rest.now)
-        (action_view action.now) None None
-        (pointer_slot index (struct (id_of schema.entry))
-        (default_tree (option_map value_of (option_copied default.entry)))) (cell_of root.old)
-        (cell_of root.new) (reply_view r)) }
+        AnswersPointer schema.entry index (option_map value_of (option_copied default.entry))
+        (map step_view rest.now) (action_view action.now) (cell_of root.old) (cell_of root.new)
+        (reply_view r)) }
     ensures sizes { SameSizes root.old root.new }
     ensures fitting { HasFitting root.old → HasFitting root.new }
     ensures stays { OnErr result (cell_of root.new ≡ cell_of root.old) }
     ensures refusal { IfErr result (λ e.
-        IsWant (FieldPutsLong (schema_around schema.entry) (map step_view rest.now)
-        (action_view action.now) None None
-        (pointer_slot index (struct (id_of schema.entry))
-        (default_tree (option_map value_of (option_copied default.entry)))) (cell_of root.old))
-        e.kind) }
+        IsWant (PointerPutsLong schema.entry index
+        (option_map value_of (option_copied default.entry)) (map step_view rest.now)
+        (action_view action.now) (cell_of root.old)) e.kind) }
 {
     let opened = take_pointer(root, index);
     let mut inner = match as_struct(alloc, opened) {

@@ -1,15 +1,9 @@
-use Rattle.std.proofs.Common.{rules, ◌≡◌, ◌+◌, ◌*◌, ◌^◌, ◌<◌, ◌≤◌, length, sym, ap, ◌∙◌, subst}
-use Rattle.capnp_model.specs.Sections.{section_of}
-use Rattle.capnp_model.specs.Trees.{none, resized, structure, pointer_list, struct_list}
+use Rattle.std.proofs.Common.{rules, ◌≡◌, sym, ap, ◌∙◌, subst}
+use Rattle.capnp_model.specs.Trees.{pointer_list}
 use Rattle.capnp_model.specs.Fits.{Fits}
-use Rattle.capnp_model.specs.Calls.{empty_elements}
-use Rattle.capnp_records.specs.NodeViews.{struct_of}
-use Rattle.capnp_records.specs.Sets.{nodes_of}
-use Rattle.capnp_queries.specs.Structs.{nodes_around, id_of}
-use Rattle.capnp_value.specs.declared.value.Value.{Struct, Pointers, Structs, the_lemmas}
-use Rattle.capnp_value.specs.Values.{tree_of_value, trees_of, trees_view, elements_of}
-use Rattle.capnp_calls.specs.Sizes.{list_len, IsWant}
-use Rattle.capnp_calls.proofs.Blanks.{trees_of-nulls, elements_of-nulls, pointers-fit, structure-fit, structs-fit, structs-long, blank_at, blanks_at}
+use Rattle.capnp_value.specs.declared.value.Value.{Pointers, the_lemmas}
+use Rattle.capnp_value.specs.Values.{tree_of_value, trees_of, trees_view}
+use Rattle.capnp_calls.proofs.Blanks.{trees_of-nulls, pointers-fit}
 use Rattle.capnp_calls.proofs.blank.null_pointers.Goals as goal
 
 pub returns-clause-tree : goal.returns-clause-tree

@@ -1,4 +1,4 @@
-use Rattle.std.proofs.Common.{◌≡◌, ap, ◌∙◌}
+use Rattle.std.proofs.Common.{ap, ◌∙◌}
 use Rattle.capnp_value.specs.Values.{trees_view}
 use Rattle.capnp_calls.proofs.Blanks.{nulls-more}
 use Rattle.capnp_calls.proofs.blank.nulls.Goals as goal

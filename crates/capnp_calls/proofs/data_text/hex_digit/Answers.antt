@@ -1,5 +1,4 @@
-use Rattle.std.proofs.Common.{◌≡◌, ℕ, ◌+◌, ◌-◌, ◌<◌, ◌∷◌, [], nat_lt, if◌then◌else◌, true, false, ap, ◌∙◌, rules, arith}
-use Rattle.std.specs.Fmt.{digits}
+use Rattle.std.proofs.Common.{◌≡◌, ◌+◌, ◌-◌, ◌∷◌, [], nat_lt, if◌then◌else◌, true, false, ap, ◌∙◌, rules}
 use Rattle.capnp_calls.proofs.HexSigns.{hex_sign}
 use Rattle.capnp_calls.proofs.data_text.hex_digit.Goals as goal
 

@@ -1,9 +1,8 @@
-use Rattle.std.proofs.Common.{◌≡◌, [], ◌∷◌, Some, None, option_map, sym, ◌∙◌, ap}
+use Rattle.std.proofs.Common.{[], ◌∷◌, option_map, sym, ◌∙◌, ap}
 use Rattle.capnp_value.specs.Values.{tree_of_value}
 use Rattle.capnp_units.specs.Segments.{whole_words}
 use Rattle.capnp_records.proofs.Segments.{found_fits}
 use Rattle.capnp_calls.proofs.Segments.{decoded_is, not_decoded}
-use Rattle.capnp_calls.proofs.Padding.{null_value}
 use Rattle.capnp_calls.proofs.default.value_of_segment.Goals as goal
 
 pub returns-in-Some-clause-tree : goal.returns-in-Some-clause-tree

@@ -1,7 +1,5 @@
-use Rattle.std.proofs.Common.{◌≡◌, ap, ◌∙◌, sym}
 use Rattle.capnp_records.specs.NodeViews.{field_of}
-use Rattle.capnp_queries.specs.Structs.{fields_of_struct, shape_of_struct}
-use Rattle.capnp_calls.specs.Slots.{words_in, IsUnionInside}
+use Rattle.capnp_queries.specs.Structs.{fields_of_struct}
 use Rattle.capnp_calls.proofs.NamedFields.{not_found, group_is, named_is}
 use Rattle.capnp_calls.proofs.find.find_slot.Goals as goal
 

@@ -1,4 +1,4 @@
-use Rattle.std.proofs.Common.{rules, ◌≡◌, ◌*◌, ◌^◌, ◌<◌, Some, None, sym, ap, ◌∙◌, subst, arith}
+use Rattle.std.proofs.Common.{rules, ◌≡◌, ◌^◌, ◌<◌, sym, ap, subst, arith}
 use Rattle.capnp_records.specs.NodeViews.{struct_of}
 use Rattle.capnp_queries.specs.Structs.{shape_of_struct}
 use Rattle.capnp_calls.specs.Slots.{words_in, IsUnionInside}

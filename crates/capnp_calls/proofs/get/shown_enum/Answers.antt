@@ -1,4 +1,4 @@
-use Rattle.std.proofs.Common.{rules, ◌≡◌, ◌<◌, ◌≤◌, Some, List, map, length, slice_get, unwrap_or, sym, ap, ◌∙◌, subst}
+use Rattle.std.proofs.Common.{rules, ◌≡◌, ◌<◌, ◌≤◌, Some, map, length, slice_get, unwrap_or, sym, ap, ◌∙◌, subst}
 use Rattle.std.specs.Prelude.{IfOk, decimal}
 use Rattle.std.proofs.lemmas.Option.{slice_get-get_or}
 use Rattle.capnp_records.specs.Sets.{nodes_of}

@@ -1,4 +1,4 @@
-use Rattle.std.proofs.Common.{◌≡◌, ◌^◌, ◌<◌, subst, vec_len}
+use Rattle.std.proofs.Common.{◌^◌, ◌<◌, subst, vec_len}
 use Rattle.std.proofs.lemmas.Nat.{xor_lt}
 use Rattle.capnp_model.specs.Schemas.{width}
 use Rattle.capnp_queries.specs.Handles.{plain_of}

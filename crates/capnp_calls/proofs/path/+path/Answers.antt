@@ -1,26 +1,24 @@
-use Rattle.std.proofs.Common.{rules, ◌≡◌, ◌≢◌, ◌+◌, ◌*◌, ◌^◌, ◌<◌, ◌≤◌, ℕ, true, false, Option, Some, None, List, [], ◌∷◌, length, take, vec_len, refl, sym, ap, subst, ◌∙◌, arith}
+use Rattle.std.proofs.Common.{rules, ◌≡◌, ◌≢◌, ◌^◌, ◌<◌, true, false, None, [], ◌∷◌, take, vec_len, refl, sym, ap, subst, ◌∙◌, arith}
 use Rattle.std.specs.Prelude.{map, option_map, option_copied}
 use Rattle.std.proofs.lemmas.Result.{IfOk-weaker, IfErr-weaker}
-use Rattle.capnp_model.specs.Trees.{Tree, null, is_null, child, tree_count}
+use Rattle.capnp_model.specs.Trees.{null, is_null, child, tree_count}
 use Rattle.capnp_model.specs.Fits.{Fits}
 use Rattle.capnp_model.specs.Schemas.{struct, pointer_slot, group_slot}
 use Rattle.capnp_model.specs.Accepted.{schema_of, default_tree}
-use Rattle.capnp_model.specs.Calls.{Step, Verb, name}
-use Rattle.capnp_model.specs.Edits.{Cell, put_child}
-use Rattle.capnp_model.specs.Answers.{Reply, reply_refused}
+use Rattle.capnp_model.specs.Calls.{name}
+use Rattle.capnp_model.specs.Edits.{put_child}
+use Rattle.capnp_model.specs.Answers.{reply_refused}
 use Rattle.capnp_model.specs.Kinds.{WrongStep, UnreadablePointer}
 use Rattle.capnp_records.specs.NodeViews.{value_of}
 use Rattle.capnp_records.specs.Sets.{nodes_of}
-use Rattle.capnp_queries.specs.Structs.{nodes_around, schema_around, id_of, shape_of_struct, fields_of_struct}
+use Rattle.capnp_queries.specs.Structs.{schema_around, id_of, shape_of_struct}
 use Rattle.capnp_value.specs.Values.{tree_of_value}
 use Rattle.capnp_calls.specs.CallViews.{step_view, action_view}
 use Rattle.capnp_calls.specs.RootViews.{cell_of, struct_tree}
-use Rattle.capnp_calls.specs.Replies.{is_active_in, reply_view, slot_reply, slot_edit}
-use Rattle.capnp_calls.specs.Slots.{words_in, pointers_in, body_of_slot, IsInside, IsSlotOf}
-use Rattle.capnp_calls.specs.Readable.{reads_in}
+use Rattle.capnp_calls.specs.Replies.{is_active_in, reply_view}
+use Rattle.capnp_calls.specs.Slots.{body_of_slot, IsInside, IsSlotOf}
 use Rattle.capnp_calls.specs.Taken.{IsTakenRest}
-use Rattle.capnp_calls.specs.Paths.{AnswersPath, AnswersField, is_done}
-use Rattle.capnp_calls.specs.declared.slot.Slot.TheVariants as S
+use Rattle.capnp_calls.specs.Paths.{AnswersPath, AnswersField}
 use Rattle.capnp_calls.proofs.Placed.{placed_more, union_more, with_ok}
 use Rattle.capnp_calls.proofs.OneStep.{at_end}
 use Rattle.capnp_calls.proofs.LongLists.{end_want, want_of}

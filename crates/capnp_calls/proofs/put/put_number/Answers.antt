@@ -1,4 +1,4 @@
-use Rattle.std.proofs.Common.{◌≡◌, ◌^◌, ◌<◌, subst, sym, ap, vec_len}
+use Rattle.std.proofs.Common.{◌^◌, ◌<◌, subst, sym, vec_len}
 use Rattle.std.proofs.lemmas.Nat.{xor_lt}
 use Rattle.std.specs.Prelude.{bit_xor}
 use Rattle.capnp_model.specs.Schemas.{width}

@@ -2,7 +2,7 @@ use Rattle.std.proofs.Common.{not, sym, ap, ◌∙◌}
 use Rattle.std.specs.Prelude.{map}
 use Rattle.capnp_records.specs.Sets.{nodes_of}
 use Rattle.capnp_calls.specs.CallViews.{step_view, action_view}
-use Rattle.capnp_calls.proofs.PathAnswers.{none_is, some_is, names_left, taken_nothing, untaken_group, taken_group, taken_end, taken_other, taken_struct}
+use Rattle.capnp_calls.proofs.PathAnswers.{none_is, some_is, taken_nothing, untaken_group, taken_group, taken_end, taken_other, taken_struct}
 use Rattle.capnp_calls.proofs.taken.+is_taken_behind.Goals as goal
 
 pub returns-in-Nothing : goal.returns-in-Nothing

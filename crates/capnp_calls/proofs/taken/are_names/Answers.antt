@@ -1,4 +1,4 @@
-use Rattle.std.proofs.Common.{◌≡◌, ◌+◌, ◌∷◌, ℕ, suc, drop, sym, ap, ◌∙◌, subst, add-one}
+use Rattle.std.proofs.Common.{◌∷◌, ℕ, suc, drop, sym, ap, ◌∙◌, add-one}
 use Rattle.std.specs.Prelude.{map}
 use Rattle.std.proofs.Math.Seq.{drop-cons}
 use Rattle.capnp_calls.specs.CallViews.{step_view}

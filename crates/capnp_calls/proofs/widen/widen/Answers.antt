@@ -1,8 +1,6 @@
-use Rattle.std.proofs.Common.{rules, ◌≡◌, ◌-◌, ◌+◌, ◌≤◌, ◌++◌, ℕ, max, true, if◌then◌else◌, List, length, take, replicate, vec_len, refl, subst, ap, ◌∙◌, arith}
-use Rattle.std.specs.Prelude.{is_ok}
+use Rattle.std.proofs.Common.{rules, ◌≡◌, ◌-◌, ◌≤◌, ◌++◌, ℕ, max, if◌then◌else◌, length, take, replicate, vec_len, refl, subst, ap, ◌∙◌, arith}
 use Rattle.capnp_model.specs.Sections.{section_of}
-use Rattle.capnp_model.specs.Trees.{Trees, structure, padded_to}
-use Rattle.capnp_value.specs.declared.value.Value.{Value}
+use Rattle.capnp_model.specs.Trees.{padded_to}
 use Rattle.capnp_value.specs.Values.{trees_of, trees_view}
 use Rattle.capnp_calls.proofs.Widening.{on_ok, widened_words, widened_children}
 use Rattle.capnp_calls.proofs.widen.widen.Goals as goal
