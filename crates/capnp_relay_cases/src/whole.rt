@@ -43,16 +43,8 @@ fn takes_name(root: StructSchema<'_>, name: &str, verb: Verb) -> Result<bool, Fa
     )
 }
 
-/// Whether the relay takes a call, which sets no message; a call without a step is refused.
-fn takes_call(
-    root: StructSchema<'_>,
-    path: &[Step],
-    verb: Verb,
-    value: Option<&CallValue>,
-) -> Result<bool, Fault> {
-    if matches!(value, Some(CallValue::Message(_))) {
-        return Ok(false);
-    }
+/// Whether the relay takes a call; one without a step is refused.
+fn takes_call(root: StructSchema<'_>, path: &[Step], verb: Verb) -> Result<bool, Fault> {
     match path {
         [] | [Step::Index(_)] => Ok(true),
         [Step::Name(name)] => takes_name(root, name.as_str(), verb),
@@ -60,8 +52,24 @@ fn takes_call(
     }
 }
 
-/// Whether the relay takes the calls at a root, within a region that isn't too large, or their file or the limits are refused.
-fn takes_calls(alloc: Global, root: StructSchema<'_>, calls: &[u8]) -> Result<bool, Fault> {
+/// Whether the calls of a run are run: its log says that a message is written, nested too deep or too large.
+fn are_run(log: &[u8]) -> bool {
+    match std::str::from_utf8(log) {
+        Ok(text) => [" written", " depth", ": size"]
+            .iter()
+            .any(|word| text.contains(*word)),
+        Err(_) => true,
+    }
+}
+
+/// Whether the relay takes the calls at a root, none of which sets a message, or doesn't run them, within a region that isn't too
+/// large, or their file or the limits are refused.
+fn takes_calls(
+    alloc: Global,
+    root: StructSchema<'_>,
+    calls: &[u8],
+    are_run: bool,
+) -> Result<bool, Fault> {
     let file = match calls_file(alloc, calls) {
         Ok(file) => file,
         Err(FileFault::Form) => return Ok(true),
@@ -71,19 +79,23 @@ fn takes_calls(alloc: Global, root: StructSchema<'_>, calls: &[u8]) -> Result<bo
         return Ok(false);
     }
     for (path, verb, value) in &file.calls {
-        if !takes_call(root, path, *verb, value.as_ref())? {
+        if matches!(value, Some(CallValue::Message(_))) {
+            return Ok(false);
+        }
+        if are_run && !takes_call(root, path, *verb)? {
             return Ok(false);
         }
     }
     Ok(true)
 }
 
-/// Whether the relay takes the calls at the root of an id, or one of the files or the root is refused.
+/// Whether the relay takes the calls at the root of an id, or doesn't run them, or one of the files or the root is refused.
 fn takes(
     alloc: Global,
     root: u64,
     schema: Option<&[u8]>,
     calls: Option<&[u8]>,
+    are_run: bool,
 ) -> Result<bool, Fault> {
     let (Some(schema), Some(calls)) = (schema, calls) else {
         return Ok(true);
@@ -102,7 +114,7 @@ fn takes(
         return Ok(true);
     };
     struct_is_node();
-    takes_calls(alloc, StructSchema::new(&set, raw), calls)
+    takes_calls(alloc, StructSchema::new(&set, raw), calls, are_run)
 }
 
 /// The words of a run.
@@ -157,11 +169,12 @@ pub fn compare_whole(alloc: Global, run: &Json) -> Result<Option<bool>, Fault> {
         Some(calls) => Some(limited(calls)?),
         None => None,
     };
-    if words.len() == 5 {
-        return Ok(None);
-    }
+    let newer = file_at(alloc, run, &words, 4)?;
+    let wanted_log = hex_of(alloc, run, "stderr")?;
     if let Some(arguments) = Arguments::new(&words) {
-        if !takes(alloc, arguments.root, schema.as_deref(), calls.as_deref())? {
+        let are_run = are_run(&wanted_log);
+        let root = arguments.root;
+        if !takes(alloc, root, schema.as_deref(), calls.as_deref(), are_run)? {
             return Ok(None);
         }
     }
@@ -174,7 +187,7 @@ pub fn compare_whole(alloc: Global, run: &Json) -> Result<Option<bool>, Fault> {
         &words,
         schema.as_deref(),
         calls.as_deref(),
-        None,
+        newer.as_deref(),
         &mut source,
         &mut out,
         &mut log,
@@ -184,6 +197,6 @@ pub fn compare_whole(alloc: Global, run: &Json) -> Result<Option<bool>, Fault> {
         .and_then(Json::as_u64)
         .ok_or(Fault::Shape)?;
     let is_out = out.as_slice() == hex_of(alloc, run, "stdout")?.as_slice();
-    let is_log = log.as_slice() == hex_of(alloc, run, "stderr")?.as_slice();
+    let is_log = log.as_slice() == wanted_log.as_slice();
     Ok(Some(is_out && is_log && status as u64 == wanted))
 }
