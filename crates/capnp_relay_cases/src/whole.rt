@@ -10,6 +10,7 @@ use capnp_program::arguments::Arguments;
 use capnp_program::program::program;
 use capnp_queries::introspect::TypeVariant;
 use capnp_queries::laws::struct_is_node;
+use capnp_queries::slots::FieldPlace;
 use capnp_queries::structs::StructSchema;
 use capnp_records::fault::SchemaFault;
 use capnp_records::node::FieldBody;
@@ -43,11 +44,40 @@ fn takes_name(root: StructSchema<'_>, name: &str, verb: Verb) -> Result<bool, Fa
     )
 }
 
+/// Whether the relay takes a call along names: one that finds nothing, or ends at a slot, unless it gets a struct or a list.
+fn takes_names(root: StructSchema<'_>, path: &[Step], verb: Verb) -> Result<bool, Fault> {
+    let [Step::Name(name), rest @ ..] = path else {
+        return Ok(false);
+    };
+    if rest.is_empty() {
+        return takes_name(root, name.as_str(), verb);
+    }
+    for step in rest {
+        if let Step::Index(_) = step {
+            return Ok(false);
+        }
+    }
+    let Ok(found) = root.find_field_by_name(name.as_str()) else {
+        return Err(Fault::Shape);
+    };
+    let Some(field) = found else {
+        return Ok(true);
+    };
+    match field.place() {
+        FieldPlace::Group { schema } => takes_names(schema, rest, verb),
+        FieldPlace::Pointer { ty, .. } => match ty.which() {
+            TypeVariant::Struct(raw) => takes_names(StructSchema::new(root.set(), raw), rest, verb),
+            _ => Ok(true),
+        },
+        _ => Ok(true),
+    }
+}
+
 /// Whether the relay takes a call; one without a step is refused.
 fn takes_call(root: StructSchema<'_>, path: &[Step], verb: Verb) -> Result<bool, Fault> {
     match path {
         [] | [Step::Index(_)] => Ok(true),
-        [Step::Name(name)] => takes_name(root, name.as_str(), verb),
+        [Step::Name(_), ..] => takes_names(root, path, verb),
         [_, _, ..] => Ok(false),
     }
 }
