@@ -164,6 +164,18 @@ impl<'a, A: BuilderArena + 'a> OwnedStruct<'a, A> for Person {
     type Builder = PersonBuilder<'a, A>;
 }
 
+impl<'a, A: BuilderArena> PersonBuilder<'a, A> {
+    /// The fields.
+    fn into_struct(self) -> StructBuilder<'a, A>
+        ensures same { result.memory.ghost_name ≡ self.entry.memory.ghost_name }
+        ensures now { result.memory.now ≡ self.entry.memory.now }
+        ensures place { result.place ≡ self.entry.place }
+    {
+        let PersonBuilder { memory, place } = self;
+        StructBuilder { memory, place }
+    }
+}
+
 /// A person at the root, with an id and a name that is made of a type of its own.
 fn written<A: BuilderArena>(memory: &mut Memory<A>, id: u32, name: &str) -> Result<()>
     ensures { A.books memory.new.arena ≡ A.books memory.old.arena }
@@ -171,21 +183,28 @@ fn written<A: BuilderArena>(memory: &mut Memory<A>, id: u32, name: &str) -> Resu
     if !has_words(&memory.arena, ROOT, 1) {
         return Err(Error::from(ErrorKind::OutOfBounds));
     }
+    if name.len() > 100 {
+        return Err(Error::from(ErrorKind::SizeOverflow));
+    }
     let root = PointerBuilder::get_root(memory);
     let person = PersonBuilder::init_pointer(root, 0)?;
-    let PersonBuilder { memory, place } = person;
-    if place.data_words != 1 || place.pointers != 1 || !has_words(&memory.arena, place.start, 2) {
+    let mut fields = person.into_struct();
+    let place = fields.place;
+    if place.data_words != 1 || place.pointers != 1 {
         return Err(Error::from(ErrorKind::OutOfBounds));
     }
-    let mut fields = StructBuilder { memory, place };
+    if !has_words(&fields.memory.arena, place.start, 2) {
+        return Err(Error::from(ErrorKind::OutOfBounds));
+    }
     fields.set_data_field::<u32>(0, id);
     let slot = fields.get_pointer_field(0);
     let at = slot.place;
-    if !has_words(&slot.memory.arena, at, 1) || name.len() > 100 {
+    if !has_words(&slot.memory.arena, at, 1) {
         return Err(Error::from(ErrorKind::OutOfBounds));
     }
     let mut text = TextBuilder::init_pointer(slot, name.len() as u32)?;
-    if text.position == 0 && text.len() == name.len() {
+    let room = text.len();
+    if text.position == 0 && name.len() <= room {
         text.push_str(name);
     }
     Ok(())
