@@ -1,11 +1,11 @@
 -- A field that is cleared, as the model has it.
-use Rattle.std.proofs.Common.{◌≡◌, ℕ, [], Option, Some, None, bit_xor, refl, sym, ap, ◌∙◌}
+use Rattle.std.proofs.Common.{◌≡◌, ℕ, [], Option, Some, refl, sym, ap, ◌∙◌}
 use Rattle.std.specs.Prelude.{option_map}
 use Rattle.std.specs.Int.Bits.{xor_self}
 use Rattle.capnp_model.specs.Segments.{Segments}
 use Rattle.capnp_model.specs.Schemas.{width, Field as FieldNode, Body, void_slot, plain_slot, pointer_slot, group_slot, Schema}
 use Rattle.capnp_model.specs.Calls.{clear}
-use Rattle.capnp_model.specs.Edits.{Cell, Edit, put_bits, mark, cleared_body, put_field, edit_field}
+use Rattle.capnp_model.specs.Edits.{Cell, put_bits, mark, cleared_body, put_field, edit_field}
 use Rattle.capnp_queries.specs.Fields.{Entry, entry_in, union_in}
 use Rattle.capnp_queries.specs.Structs.{schema_around, shape_of_struct}
 use Rattle.capnp_queries.specs.Handles.{entry_of, IsFieldRecord}

@@ -1,5 +1,5 @@
 -- Where the fields of places lie.
-use Rattle.std.proofs.Common.{◌≡◌, ℕ, zero, suc, ◌+◌, ◌*◌, ◌/◌, ◌<◌, ◌≤◌, [], Option, Some, true, false, refl, sym, ap, subst, ◌∙◌, arith}
+use Rattle.std.proofs.Common.{◌≡◌, ℕ, zero, suc, ◌+◌, ◌*◌, ◌<◌, ◌≤◌, [], Option, Some, true, false, refl, sym, ap, subst, ◌∙◌, arith}
 use Rattle.std.specs.Prelude.{option_map}
 use Rattle.capnp_model.specs.Segments.{Segments}
 use Rattle.capnp_model.specs.Edits.{Edit, mark, is_kept, cleared, cleared_body}
@@ -12,7 +12,7 @@ use Rattle.capnp_dynamic.proofs.Writes.{edits_then, edits_alike, edits_same}
 use Rattle.capnp_dynamic.proofs.Marks.{member_there}
 use Rattle.capnp_dynamic.proofs.Groups.{fields_depth, body_depth, entry_depth, cleared_front, front_next, group_is, clears_plain, clears_kept, leaves_other}
 use Rattle.std.specs.Borrow.{Bor}
-use Rattle.capnp_model.specs.Accepted.{bit_area, areas_of, areas_of_body}
+use Rattle.capnp_model.specs.Accepted.{areas_of, areas_of_body}
 use Rattle.capnp_model.specs.Schemas.{width, Body, Field as FieldNode}
 use Rattle.capnp_records.specs.declared.node.Value.{Value}
 use Rattle.capnp_queries.specs.Structs.{schema_around, shape_of_struct, fields_of_struct}

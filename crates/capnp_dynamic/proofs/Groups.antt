@@ -1,11 +1,11 @@
 -- Groups, their fields one after the other.
-use Rattle.std.proofs.Common.{◌≡◌, ℕ, zero, suc, ◌+◌, ◌*◌, ◌<◌, ◌≤◌, max, Bool, true, false, Option, Some, None, refl, sym, ap, subst, ◌∙◌, arith}
+use Rattle.std.proofs.Common.{◌≡◌, ℕ, zero, suc, ◌<◌, ◌≤◌, max, true, false, Option, Some, None, refl, sym, ap, subst, ◌∙◌, arith}
 use Rattle.capnp_model.specs.Schemas.{PlainType, width, Ty, Shape, shape, Fields, no_fields, field, Body, void_slot, plain_slot, pointer_slot, group_slot}
 use Rattle.capnp_model.specs.Printing.{fields_in}
 use Rattle.capnp_model.specs.Edits.{Cell, Edit, put_bits, mark, is_kept, edit_if, cleared, cleared_fields, cleared_body}
 use Rattle.capnp_queries.specs.Fields.{Entry, field_at, field_count, union_in}
 use Rattle.capnp_model.specs.Segments.{Segments, Place, after}
-use Rattle.capnp_model.specs.Trees.{Tree, null, Trees, child}
+use Rattle.capnp_model.specs.Trees.{Tree, null, child}
 use Rattle.capnp_footprints.specs.Footprints.{Owns}
 use Rattle.capnp_footprints.specs.Changes.{Replaces}
 use Rattle.capnp_footprints.proofs.Lift.{child_of_struct, struct_of_child}

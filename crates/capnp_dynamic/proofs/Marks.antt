@@ -1,12 +1,12 @@
 -- The member that a field's record says.
-use Rattle.std.proofs.Common.{◌≡◌, ℕ, Bool, true, false, ◌==◌, if◌then◌else◌, Option, Some, None, refl, sym, ap, subst, ◌∙◌, arith}
+use Rattle.std.proofs.Common.{◌≡◌, ℕ, Bool, true, false, ◌==◌, if◌then◌else◌, Option, Some, None, refl, sym, ap, ◌∙◌, arith}
 use Rattle.capnp_model.specs.Segments.{Segments}
-use Rattle.capnp_model.specs.Edits.{Edit, mark}
+use Rattle.capnp_model.specs.Edits.{mark}
 use Rattle.capnp_records.specs.declared.node.FieldRecord.{FieldRecord}
 use Rattle.capnp_records.specs.NodeViews.{field_of, member_of}
-use Rattle.capnp_queries.specs.Fields.{Entry, union_in}
+use Rattle.capnp_queries.specs.Fields.{union_in}
 use Rattle.capnp_queries.specs.Structs.{shape_of_struct}
-use Rattle.capnp_queries.specs.Handles.{entry_of, IsFieldRecord}
+use Rattle.capnp_queries.specs.Handles.{IsFieldRecord}
 use Rattle.capnp_queries.specs.declared.structs.StructSchema.{StructSchema}
 use Rattle.capnp_queries.specs.declared.fields.Field.{Field}
 use Rattle.capnp_copy.specs.declared.fields.StructPlace.{StructPlace}

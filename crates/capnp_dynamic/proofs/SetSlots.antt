@@ -1,5 +1,5 @@
 -- A slot that is set to a plain value, as the model puts it.
-use Rattle.std.proofs.Common.{◌≡◌, ℕ, ◌*◌, ◌^◌, ◌<◌, List, length, map, Result, Ok, Err, Option, Some, None, bit_xor, refl, sym, ap, subst, ◌∙◌}
+use Rattle.std.proofs.Common.{◌≡◌, ℕ, ◌*◌, ◌^◌, ◌<◌, List, length, map, Result, Ok, Err, Option, Some, None, bit_xor, sym, ap, subst, ◌∙◌}
 use Rattle.std.specs.Prelude.{option_map, OnOk}
 use Rattle.std.proofs.lemmas.Nat.{xor_lt}
 use Rattle.capnp_model.specs.Segments.{Segments}

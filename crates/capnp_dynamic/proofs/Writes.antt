@@ -1,14 +1,13 @@
 -- Edits one after the other.
-use Rattle.std.proofs.Common.{◌≡◌, ℕ, ◌+◌, Option, Some, None, refl, sym, ap, subst, ◌∙◌}
+use Rattle.std.proofs.Common.{◌≡◌, subst}
 use Rattle.capnp_model.specs.Segments.{Segments}
-use Rattle.capnp_model.specs.Trees.{Trees, structure}
-use Rattle.capnp_model.specs.Edits.{Cell, Edit, mark}
-use Rattle.capnp_footprints.specs.Footprints.{OwnsObject}
+use Rattle.capnp_model.specs.Trees.{structure}
+use Rattle.capnp_model.specs.Edits.{Cell, Edit}
 use Rattle.capnp_footprints.specs.Changes.{ReplacesObject}
 use Rattle.capnp_footprints.proofs.Algebra.{changes_nothing}
 use Rattle.capnp_footprints.proofs.Lift.{object_replaced_owned, object_replaced_then}
 use Rattle.capnp_footprints.specs.Footprints.{object_footprint}
-use Rattle.capnp_copy.specs.Structs.{struct_at, SetsBits}
+use Rattle.capnp_copy.specs.Structs.{struct_at}
 use Rattle.capnp_copy.specs.declared.fields.StructPlace.{StructPlace}
 use Rattle.capnp_dynamic.specs.Edits.{Edits}
 

@@ -6,7 +6,7 @@ use Rattle.capnp_units.specs.Segments.{words_in}
 use Rattle.capnp_wire.specs.Places.{place_view}
 use Rattle.capnp_wire.specs.Views.{StructView, struct_at}
 use Rattle.capnp_queries.specs.Structs.{shape_of_struct}
-use Rattle.capnp_dynamic.specs.Edits.{IsThere, IsWide, Edits, EditsWith}
+use Rattle.capnp_dynamic.specs.Edits.{IsThere, IsWide, Edits}
 use Rattle.capnp_dynamic.specs.declared.dynamic_struct.Builder.{Builder}
 
 module _ {A : Type 0} (bytes : A → List (List ℕ)) where

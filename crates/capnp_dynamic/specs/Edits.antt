@@ -26,13 +26,7 @@ pub record IsWide (p : StructPlace) (g : Shape) : Type 0 where
   pub words : words_of_shape g ≤ p.data_words
   pub pointers : pointers_of_shape g ≤ p.pointers
 
--- Whatever data and children the struct has become what the edit makes of them, and nothing else changes. New values may take so many levels more.
-abbrev pub EditsWith : ℕ → Segments → Segments → StructPlace → Edit → Type 0
-EditsWith levels s u p f =
-    (n section : ℕ) (kids : Trees) → OwnsObject n s (struct_at p) (structure p.data_words section kids)
-    → let c = f (record { section = section; kids = kids }) in ReplacesObject (n + levels) s u (struct_at p) (structure p.data_words c.section c.kids)
-
--- The same of an edit that makes no new value.
+-- Whatever data and children the struct has become what the edit makes of them, and nothing else changes.
 abbrev pub Edits : Segments → Segments → StructPlace → Edit → Type 0
 Edits s u p f =
     (n section : ℕ) (kids : Trees) → OwnsObject n s (struct_at p) (structure p.data_words section kids)

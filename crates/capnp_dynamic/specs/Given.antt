@@ -1,7 +1,7 @@
 -- Values that lie in no message, and what `set` puts into a slot for them. (Encoding, "Value Encoding")
 use Rattle.std.specs.Prelude.{ℕ, Bool, true, false, ⊤, Option, Some, None, Result, Ok, Err, if◌then◌else◌}
 use Rattle.std.specs.Int.{w8, w16, w32, w64, cast_unsigned}
-use Rattle.capnp_model.specs.Kinds.{Kind, TypeMismatch, CannotSetAnyPointerFieldToAPrimitiveValue, SettingDynamicCapabilitiesIsUnsupported}
+use Rattle.capnp_model.specs.Kinds.{Kind, TypeMismatch, NotAStruct, CannotSetAnyPointerFieldToAPrimitiveValue, SettingDynamicCapabilitiesIsUnsupported}
 use Rattle.capnp_model.specs.Schemas.{PlainType, bool, int, uint, «enum», Ty, void, plain, text, blob, untyped, interface, struct, list, Body, void_slot, plain_slot, pointer_slot, group_slot}
 use Rattle.capnp_model.specs.Accepted.{same_plain}
 use Rattle.capnp_model.specs.Calls.{Content, refused_by, bits_of, object}
@@ -71,12 +71,12 @@ pointer_refusal interface = SettingDynamicCapabilitiesIsUnsupported
 pointer_refusal (struct id) = TypeMismatch
 pointer_refusal (list ty) = TypeMismatch
 
--- What `set` puts into a slot for such a value: bits of the slot's type, and nothing into a Void slot, which takes each.
+-- What `set` puts into a slot for such a value: bits of the slot's type, and nothing into a Void slot, which takes each. A group takes structs alone.
 abbrev pub single_content : {A : Type 0} → Reader A → Body → Content
 single_content v (void_slot j) = bits_of 0
 single_content v (plain_slot p at d) = elim (bits_given p (plain_given v)) [ None ↦ refused_by TypeMismatch | Some n ↦ bits_of n ]
 single_content v (pointer_slot i ty d) = refused_by (pointer_refusal ty)
-single_content v (group_slot g) = refused_by TypeMismatch
+single_content v (group_slot g) = refused_by NotAStruct
 
 -- What a call answers that puts content.
 abbrev pub answer_of : Content → Result ⊤ Kind

@@ -105,7 +105,7 @@ impl<'a, A: BuilderArena> Builder<'a, A> {
 
     /// Sets a field to a value that is Void, a truth value, a number or an enum's. A plain field takes a value of its type, one of an enum any enum's; a Void field takes each. A union member becomes the active one. Nothing is allocated.
     ///
-    /// It is refused with `CannotSetAnyPointerFieldToAPrimitiveValue` where the field is untyped, with `SettingDynamicCapabilitiesIsUnsupported` where it is a capability, and else with `TypeMismatch`, a group among them. Then the struct is as it was, its union included.
+    /// It is refused with `CannotSetAnyPointerFieldToAPrimitiveValue` where the field is untyped, with `SettingDynamicCapabilitiesIsUnsupported` where it is a capability, with `NotAStruct` where it is a group, and else with `TypeMismatch`. Then the struct is as it was, its union included.
     pub fn set<B>(&mut self, field: Field<'_>, value: dynamic_value::Reader<'_, B>) -> Result<()>
         requires ready { IsReady A.segments self.old }
         requires field { field.parent ≡ self.old.schema }

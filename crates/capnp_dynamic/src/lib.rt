@@ -4,5 +4,3 @@
 pub mod dynamic_struct;
 mod setting;
 mod slots;
-#[cfg(test)]
-mod tests;

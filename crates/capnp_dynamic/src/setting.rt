@@ -1,5 +1,5 @@
 //! Plain values, set into slots.
-ghost use Rattle.std.specs.Prelude.{◌≡◌, ◌<◌, ◌^◌, length, map, true, IfSome, OnOk, OnErr};
+ghost use Rattle.std.specs.Prelude.{◌≡◌, ◌<◌, ◌^◌, length, map, IfSome, OnOk, OnErr};
 ghost use Rattle.capnp_model.specs.Accepted.{areas_of};
 ghost use Rattle.capnp_model.specs.Schemas.{width};
 ghost use Rattle.capnp_units.specs.Segments.{words_in};
@@ -10,7 +10,7 @@ ghost use Rattle.capnp_queries.specs.Handles.{entry_of, plain_of};
 ghost use Rattle.capnp_queries.specs.Types.{ty_of};
 ghost use Rattle.capnp_dynamic.specs.Inside.{LieIn};
 ghost use Rattle.capnp_dynamic.specs.Edits.{IsThere, Edits};
-ghost use Rattle.capnp_dynamic.specs.Given.{is_single, plain_given, bits_given, pointer_refusal, set_answer, set_edit};
+ghost use Rattle.capnp_dynamic.specs.Given.{plain_given, bits_given, pointer_refusal, set_answer, set_edit};
 
 use crate::slots::{mark, width_of};
 use capnp_copy::arena::BuilderArena;
@@ -89,7 +89,7 @@ pub(crate) fn set_single<A: BuilderArena, B>(
             set_bits(arena, object, at, width, bits ^ default_bits);
         }
         FieldPlace::Pointer { ty, .. } => return Err(Error::from(refusal(ty))),
-        FieldPlace::Group { .. } => return Err(Error::from(ErrorKind::TypeMismatch)),
+        FieldPlace::Group { .. } => return Err(Error::from(ErrorKind::NotAStruct)),
     }
     Ok(())
 }

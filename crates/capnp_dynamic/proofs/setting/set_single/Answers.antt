@@ -1,4 +1,4 @@
-use Rattle.std.proofs.Common.{◌≡◌, ◌*◌, sym, ◌∙◌, refl}
+use Rattle.std.proofs.Common.{◌*◌, sym, refl}
 use Rattle.capnp_model.specs.Schemas.{width}
 use Rattle.capnp_units.specs.Segments.{words_in}
 use Rattle.capnp_records.specs.NodeViews.{field_of}

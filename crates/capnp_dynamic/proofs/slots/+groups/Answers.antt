@@ -1,16 +1,14 @@
-use Rattle.std.proofs.Common.{rules, ◌≡◌, ◌+◌, ◌*◌, ◌<◌, ◌≤◌, ◌==◌, ℕ, suc, length, map, Option, Some, true, false, refl, sym, ap, subst, ◌∙◌, arith}
-use Rattle.capnp_model.specs.Accepted.{areas_of, areas_of_body}
-use Rattle.capnp_model.specs.Schemas.{width, plain_slot, pointer_slot, group_slot}
+use Rattle.std.proofs.Common.{rules, ◌≡◌, ◌+◌, Some, true, false, sym, ap, subst, ◌∙◌}
+use Rattle.capnp_model.specs.Accepted.{areas_of}
 use Rattle.capnp_model.specs.Edits.{mark, is_kept, cleared_body}
 use Rattle.capnp_records.specs.NodeViews.{field_of, member_of}
 use Rattle.capnp_units.specs.Segments.{words_in}
-use Rattle.capnp_queries.specs.Fields.{Entry, field_count, union_in}
+use Rattle.capnp_queries.specs.Fields.{field_count, union_in}
 use Rattle.capnp_queries.specs.Structs.{shape_of_struct, fields_of_struct}
-use Rattle.capnp_queries.specs.Handles.{entry_of, body_of_place, plain_of}
+use Rattle.capnp_queries.specs.Handles.{body_of_place}
 use Rattle.capnp_dynamic.specs.Inside.{LieIn}
-use Rattle.capnp_dynamic.specs.Edits.{IsThere, Edits, cleared_entry}
-use Rattle.capnp_dynamic.proofs.Ready.{in_word, one_word, some_width, union_areas, there_after}
-use Rattle.capnp_dynamic.proofs.Writes.{edits_none, edits_then, edits_alike, edits_same}
+use Rattle.capnp_dynamic.proofs.Ready.{union_areas, there_after}
+use Rattle.capnp_dynamic.proofs.Writes.{edits_alike, edits_same}
 use Rattle.capnp_dynamic.proofs.Groups.{shape_depth, fields_depth, body_depth, depth_of_fields, depth_of_group, cleared_front, front_none, clears_void, clears_pointer, clears_group}
 use Rattle.capnp_dynamic.proofs.GroupFields.{plain_inside, pointer_inside, group_inside, plain_cleared, member_depth, member_inside, kept_cleared, other_left, first_kept, none_kept, others_not_kept, fields_next, fields_all}
 use Rattle.capnp_dynamic.proofs.slots.+groups.Goals.{clear_member-then-member-eq0-via-then-member-eq0, clear_member-then-member-eq0-via-else-member-eq0+then-member}

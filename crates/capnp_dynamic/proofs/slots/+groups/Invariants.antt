@@ -1,5 +1,5 @@
 -- A field of a group is less deep than the group.
-use Rattle.std.proofs.Common.{◌≡◌, ◌+◌, ◌*◌, ℕ, Some, length, map}
+use Rattle.std.proofs.Common.{◌≡◌, ◌+◌, ◌*◌, Some, length, map}
 use Rattle.capnp_model.specs.Edits.{mark}
 use Rattle.capnp_units.specs.Segments.{words_in}
 use Rattle.capnp_queries.specs.Fields.{union_in}

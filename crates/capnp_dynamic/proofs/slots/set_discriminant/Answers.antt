@@ -1,11 +1,8 @@
-use Rattle.std.proofs.Common.{◌≡◌, ◌*◌, ◌+◌, ◌<◌, ◌≤◌, ℕ, [], Option, Some, None, sym, ap, subst, arith}
+use Rattle.std.proofs.Common.{◌*◌, [], Some, None, sym, ap, subst, arith}
 use Rattle.capnp_model.specs.Accepted.{union_area}
 use Rattle.capnp_model.specs.Edits.{mark}
 use Rattle.capnp_units.specs.Segments.{words_in}
-use Rattle.capnp_queries.specs.Fields.{union_in}
-use Rattle.capnp_queries.specs.Structs.{shape_of_struct}
 use Rattle.capnp_dynamic.specs.Inside.{LieIn}
-use Rattle.capnp_dynamic.specs.Edits.{Edits}
 use Rattle.capnp_dynamic.proofs.Ready.{in_word}
 use Rattle.capnp_dynamic.proofs.Writes.{edits_none, edits_alike}
 use Rattle.capnp_dynamic.proofs.slots.set_discriminant.Goals as goal

@@ -1,4 +1,3 @@
-use Rattle.std.proofs.Common.{◌≡◌}
 use Rattle.capnp_units.specs.Segments.{words_in}
 use Rattle.capnp_dynamic.proofs.Ready.{field_inside, there_after}
 use Rattle.capnp_dynamic.proofs.dynamic_struct.Builder.clear.Goals as goal

@@ -1,4 +1,4 @@
-use Rattle.std.proofs.Common.{◌≡◌, Ok, inl, refl}
+use Rattle.std.proofs.Common.{inl, refl}
 use Rattle.capnp_units.specs.Segments.{words_in}
 use Rattle.capnp_dynamic.proofs.Ready.{field_inside, there_after}
 use Rattle.capnp_dynamic.proofs.dynamic_struct.Builder.clear_named.Goals as goal

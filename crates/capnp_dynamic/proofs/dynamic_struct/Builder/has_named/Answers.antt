@@ -1,4 +1,4 @@
-use Rattle.std.proofs.Common.{◌≡◌, subst}
+use Rattle.std.proofs.Common.{subst}
 use Rattle.capnp_values.specs.Shown.{TellsField, AnswersNamed}
 use Rattle.capnp_dynamic.specs.Builders.{struct_of}
 use Rattle.capnp_dynamic.proofs.dynamic_struct.Builder.has_named.Goals as goal

@@ -1,4 +1,4 @@
-use Rattle.std.proofs.Common.{◌≡◌, Ok, inl, refl}
+use Rattle.std.proofs.Common.{inl, refl}
 use Rattle.capnp_units.specs.Segments.{words_in}
 use Rattle.capnp_dynamic.specs.Given.{set_edit}
 use Rattle.capnp_dynamic.proofs.SetSlots.{writes_in_place}
