@@ -5,6 +5,7 @@ ghost use Rattle.capnp_units.specs.declared.kinds.ErrorKind.{ErrorKind};
 use crate::answers::{Answers, MessageAnswer, Reason, Want};
 use crate::ends::{Counts, Fault, RelayFault};
 use crate::logging::log_line;
+use crate::pauses::NoPause;
 use crate::run::answer_all;
 use capnp_calls::reply::Reply;
 use capnp_stream::forms::Framed;
@@ -204,7 +205,7 @@ fn run_framed<R: BufRead, W: Write, L: Write, A: Answers>(
     answers: &A,
     limit: usize,
 ) -> std::result::Result<Counts, RelayFault> {
-    answer_all::<Framed, Framed, R, W, L, A>(alloc, source, out, log, answers, limit)
+    answer_all::<Framed, Framed, R, W, L, A, NoPause>(alloc, source, out, log, answers, limit)
 }
 
 /// Why the run over these bytes ends, and what it counted.
