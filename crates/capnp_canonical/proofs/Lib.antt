@@ -25,3 +25,6 @@ pub mod StandingLists
 pub mod StandingValues
 pub mod Telling
 pub mod Rowing
+pub mod StandingStructs
+pub mod FewFollowed
+pub mod Flat

@@ -1,9 +1,9 @@
 -- What a walk tells that looks whether values stand as canonical words.
 use Rattle.std.specs.Prelude.{◌≡◌, ℕ, ◌+◌, ◌*◌, ◌^◌, ◌<◌, ◌≤◌, Bool, true, false, List, ◌++◌, Option, Some, None, Result, Ok, Err}
 use Rattle.std.specs.Option.{is_some}
-use Rattle.capnp_model.specs.Segments.{Segments, Place, root, words_at}
+use Rattle.capnp_model.specs.Segments.{Segments, Place, root, after, words_at}
 use Rattle.capnp_model.specs.Canonical.{is_canonical_message}
-use Rattle.capnp_model.specs.Trees.{has_capability, have_capability, elements_have_capability}
+use Rattle.capnp_model.specs.Trees.{Trees, structure, has_capability, have_capability, elements_have_capability}
 use Rattle.capnp_model.specs.Traversal.{tree_at, each, each_element}
 use Rattle.capnp_model.specs.Trimming.{trim, trim_each, trim_elements}
 use Rattle.capnp_model.specs.Coverage.{from_each, from_elements}
@@ -11,7 +11,7 @@ use Rattle.capnp_model.specs.Visits.{Visit, visits}
 use Rattle.capnp_units.specs.declared.errors.Error.{Error}
 use Rattle.capnp_units.specs.declared.limiter.ReadLimiter.{ReadLimiter}
 use Rattle.capnp_object.specs.declared.object.Object.{Object}
-use Rattle.capnp_object.specs.Inside.{tree_in, met_in, words_there}
+use Rattle.capnp_object.specs.Inside.{tree_in, met_in, section_at, words_there}
 use Rattle.capnp_object.specs.Walks.{Walked, Stopped}
 use Rattle.capnp_canonical.specs.Standing.{Stands, StandEach, StandElements, IsSmall}
 
@@ -76,6 +76,16 @@ TellsValue n s p head = Tells (tree_at n s p) has_capability (λ t end. IsBehind
 -- The same of the values of so many pointers in a row.
 abbrev pub TellsRow : ℕ → Segments → Place → ℕ → Place → ReadLimiter → Result Bool Error → Place → ReadLimiter → Type 0
 TellsRow n s p count head = Tells (each (tree_at n s) p count) have_capability (λ ts end. IsBehind s p count head × StandEach s p head.position (trim_each ts) end) (IsSmall s p) (from_each (visits n s) p count) head
+
+-- A struct with these children can't do with fewer words or pointers, and the words of what its pointers lead to, trimmed, stand from a head on.
+pub record StandsStruct (s : Segments) (p : Place) (d k : ℕ) (head : Place) (ts : Trees) (end : ℕ) : Type 0 where
+  pub least : trim (structure d (section_at s p d) ts) ≡ structure d (section_at s p d) (trim_each ts)
+  pub behind : IsBehind s (after p d) k head
+  pub stand : StandEach s (after p d) head.position (trim_each ts) end
+
+-- What is told of a struct whose own words are there and were paid for: whether it and what its pointers lead to stand as canonical words, these from a head on.
+abbrev pub TellsStruct : ℕ → Segments → Place → ℕ → ℕ → Place → ReadLimiter → Result Bool Error → Place → ReadLimiter → Type 0
+TellsStruct n s p d k head = Tells (each (tree_at n s) (after p d) k) have_capability (StandsStruct s p d k head) (IsSmall s p) (from_each (visits n s) (after p d) k) head
 
 -- What is told of a message: whether it is one segment of the canonical words of its value.
 abbrev pub TellsMessage : ℕ → Segments → ReadLimiter → Result Bool Error → ReadLimiter → Type 0

@@ -8,7 +8,7 @@ ghost use Rattle.capnp_object.specs.Places.{place_view};
 ghost use Rattle.capnp_object.specs.Objects.{AreThere, IsInside};
 ghost use Rattle.capnp_canonical.specs.Objects.{IsShort};
 ghost use Rattle.capnp_canonical.specs.Standing.{HasHead, LeadsTo, Reaches};
-ghost use Rattle.capnp_canonical.specs.Checks.{TestsValue, TestsObject, TestsRow, TestsElements, TellsValue, TellsRow, TellsMessage};
+ghost use Rattle.capnp_canonical.specs.Checks.{TestsValue, TestsObject, TestsRow, TestsElements, TellsValue, TellsRow, TellsStruct, TellsMessage};
 
 use crate::copy::{cut_of, pointer_to_cut};
 use crate::heads::{is_behind, move_on};
@@ -74,6 +74,34 @@ pub fn are_canonical<A: ReaderArena>(
     are_words(arena, first.segment);
     let end = row_end(arena, limiter, first, count, levels, head.position)?;
     Ok(move_on(head, end))
+}
+
+/// Whether a struct's own words and what its pointers lead to stand as canonical words: neither its last data word nor its last pointer is a word of zeros, and from the head on are the words of what its pointers lead to, one after the other. Its own words were paid for already.
+///
+/// It is refused, and exact, as `is_canonical` is. Where the struct can do with less, or the head lies elsewhere, no pointer is followed.
+pub fn is_canonical_struct<A: ReaderArena>(
+    arena: &A,
+    limiter: &mut ReadLimiter,
+    start: Place,
+    size: StructSize,
+    levels: u32,
+    head: &mut Place,
+) -> Result<bool>
+    requires { AreThere (words_in (A.segments arena.now)) (place_view start)
+        (size.data_words + size.pointers) }
+    ensures { TellsStruct levels (words_in (A.segments arena.now)) (place_view start)
+        size.data_words size.pointers (place_view head.old) limiter.old result
+        (place_view head.new) limiter.new }
+{
+    let cut = cut_of(arena, start, size.data_words, size.pointers, 1);
+    if cut.kept_words != size.data_words || cut.kept_pointers != size.pointers {
+        return Ok(false);
+    }
+    let first = Place {
+        segment: start.segment,
+        position: start.position + size.data_words as usize,
+    };
+    are_canonical(arena, limiter, first, size.pointers as u32, levels, head)
 }
 
 /// Whether a message is one segment of the canonical words of its value. Where there is a second segment no pointer is followed.

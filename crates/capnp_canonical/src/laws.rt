@@ -1,16 +1,20 @@
 //! Laws of copies, each the contract of an empty function: a call of it brings its clauses.
-ghost use Rattle.std.specs.Prelude.{◌≡◌, ℕ, ◌+◌, true, false, List, [], ◌∷◌, length, Some, Ok};
+ghost use Rattle.std.specs.Prelude.{◌≡◌, ℕ, ◌+◌, ◌≤◌, true, false, List, [], ◌∷◌, ◌++◌, length, Some, Ok};
+ghost use Rattle.std.specs.List.{flat_map};
 ghost use Rattle.capnp_model.specs.Segments.{Segments, Place, root};
 ghost use Rattle.capnp_model.specs.Canonical.{is_canonical_message};
 ghost use Rattle.capnp_model.specs.Encoding.{canonical_words};
 ghost use Rattle.capnp_model.specs.Trees.{Tree, has_capability};
 ghost use Rattle.capnp_model.specs.Traversal.{tree_at};
 ghost use Rattle.capnp_model.specs.Trimming.{trim};
-ghost use Rattle.capnp_model.specs.Visits.{visits};
+ghost use Rattle.capnp_model.specs.Visits.{Visit, visits, visits_cost};
+ghost use Rattle.capnp_units.specs.Segments.{words_in};
 ghost use Rattle.capnp_units.specs.declared.limiter.ReadLimiter.{ReadLimiter};
-ghost use Rattle.capnp_canonical.specs.Writes.{filled};
+ghost use Rattle.capnp_canonical.specs.Writes.{filled, words_view};
 ghost use Rattle.capnp_canonical.specs.Copies.{copy_visits, Writes};
 ghost use Rattle.capnp_canonical.specs.Standing.{Hold, Stands};
+
+use capnp_units::sizes::Word;
 
 /// A copy of a value without a capability follows and pays what any walk over the value does.
 pub fn copies_as_walks()
@@ -35,4 +39,19 @@ pub fn canonical_messages_are_copies()
         → Writes (tree_at n s root) has_capability (λ t words. canonical_words (trim t))
         (copy_visits n s root) 1 1 old l (Ok end) new m
         → s ≡ filled end new ∷ [] }
+{}
+
+/// A canonical copy follows no more pointers than it pays words, and one, also where it is stopped.
+pub fn copies_follow_few()
+    ensures begun { (n : ℕ) (s : Segments) (p : Place) (path rest : List Visit) (paid : ℕ)
+        → copy_visits n s p ≡ path ++ rest → visits_cost path ≡ Some paid
+        → length path ≤ paid + 1 }
+    ensures stopped { (n : ℕ) (s : Segments) (p : Place) (before : List Visit) (last : Visit)
+        (behind : List Visit) (paid : ℕ) → copy_visits n s p ≡ before ++ last ∷ behind
+        → visits_cost before ≡ Some paid → length before + 1 ≤ paid + 1 }
+{}
+
+/// The bytes of words, as a segment, are the words.
+pub fn segments_of_words(words: &[Word])
+    ensures { words_in (flat_map (λ word. word) words.now ∷ []) ≡ words_view words.now ∷ [] }
 {}

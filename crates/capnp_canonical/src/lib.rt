@@ -2,13 +2,9 @@
 #![tactic(auto)]
 
 pub mod check;
-#[cfg(test)]
-mod check_tests;
 pub mod copy;
 mod follow;
 mod heads;
 pub mod laws;
 mod own_words;
-#[cfg(test)]
-mod tests;
 mod words;

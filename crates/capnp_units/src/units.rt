@@ -90,18 +90,3 @@ pub fn bits_per_element<T>() -> BitCount0
 {
     BITS_PER_BYTE * size_of::<T>()
 }
-
-#[cfg(test)]
-mod tests {
-    use super::*;
-    use std::test::Fail;
-
-    #[test]
-    fn elements_have_their_bits(rt: HostRuntime) -> Result<(), Fail> {
-        assert_eq!(rt; bits_per_element::<u16>(), 16);
-        assert_eq!(rt; bits_per_element::<i64>(), BITS_PER_WORD);
-        assert_eq!(rt; _bytes_per_element::<u32>(), 4);
-        assert_eq!(rt; _bytes_per_element::<i8>(), 1);
-        Ok(())
-    }
-}

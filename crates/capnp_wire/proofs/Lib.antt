@@ -5,3 +5,4 @@ pub mod Fields
 pub mod Sizing
 pub mod ListLaws
 pub mod ReadingLaws
+pub mod Telling

@@ -3,6 +3,7 @@ pub mod Elements
 pub mod Views
 pub mod Reads
 pub mod ValueSizes
+pub mod Canonical
 pub mod Laws
 pub use Rattle.capnp_object.specs.Places
 pub use Rattle.capnp_object.specs.Arenas

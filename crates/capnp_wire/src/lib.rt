@@ -6,6 +6,7 @@
 pub use capnp_object::{arena, follow, object, place, size};
 
 pub mod backing;
+pub mod canonical;
 pub mod element;
 pub mod laws;
 pub mod levels;
@@ -13,9 +14,5 @@ pub mod list;
 pub mod parts;
 pub mod pointer;
 mod section;
-#[cfg(test)]
-mod size_tests;
 pub mod structs;
-#[cfg(test)]
-mod tests;
 pub mod traits;

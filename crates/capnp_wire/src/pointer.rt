@@ -86,8 +86,8 @@ impl<'a, A: ReaderArena> PointerReader<'a, A> {
         }
     }
 
-    /// The root of a default, or the pointer itself where it isn't null or the default's root is.
-    fn with_default(&self, default: Option<&'a [Word]>) -> Self
+    /// The root of a default, read in place, with the levels that are left here; or the pointer itself where it isn't null, where there is no default, or where the default's root is null. Nothing is followed or paid for.
+    pub fn with_default(&self, default: Option<&'a [Word]>) -> Self
         ensures { seen_pointer A.segments result
             ≡ with_default (seen_pointer A.segments self.now) (option_copied default.entry) }
     {

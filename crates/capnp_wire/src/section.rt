@@ -1,5 +1,6 @@
 //! Numbers in the bytes of data sections.
-ghost use Rattle.std.specs.Prelude.{◌≡◌, ◌+◌, ◌*◌, ◌/◌, ◌<◌, ◌≤◌, ◌^◌, ◌==◌, length, MatchOption};
+ghost use Rattle.std.specs.Prelude.{◌≡◌, ◌+◌, ◌*◌, ◌/◌, ◌<◌, ◌≤◌, ◌^◌, ◌==◌, ℕ, length, slice_index, MatchOption};
+ghost use Rattle.std.specs.Bool.{OnTrue, OnFalse};
 ghost use Rattle.capnp_model.specs.Sections.{bits_at, number_of};
 
 /// The bytes from a number of so many bytes on, which stands behind others of its width, where it lies wholly in the section.
@@ -26,4 +27,20 @@ pub(crate) fn bit_of(bytes: &[u8], index: usize) -> bool
     ensures { result ≡ (bits_at index 1 (number_of 8 bytes.now) == 1) }
 {
     bytes[index / 8] / (1 << (index % 8)) % 2 == 1
+}
+
+/// Bytes are numbers below 256.
+fn are_bytes(bytes: &[u8])
+    ensures { (i : ℕ) → slice_index bytes.now i < 256 }
+{}
+
+/// Whether bytes are as many others, as they are just where their numbers are equal.
+pub(crate) fn are_equal(bytes: &[u8], others: &[u8]) -> bool
+    requires { length bytes.now ≡ length others.now }
+    ensures same { OnTrue result (number_of 8 bytes.now ≡ number_of 8 others.now) }
+    ensures apart { OnFalse result (number_of 8 bytes.now ≡ number_of 8 others.now → ⊥) }
+{
+    are_bytes(bytes);
+    are_bytes(others);
+    bytes == others
 }

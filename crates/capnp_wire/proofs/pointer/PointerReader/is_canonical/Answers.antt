@@ -1,0 +1,20 @@
+-- A default is read without a limit.
+use Rattle.std.proofs.Common.{ap, sym}
+use Rattle.capnp_model.specs.Segments.{Segments}
+use Rattle.capnp_units.specs.Segments.{words_in}
+use Rattle.capnp_object.specs.Places.{place_view}
+use Rattle.capnp_canonical.specs.Checks.{TellsValue}
+use Rattle.capnp_wire.specs.Views.{backing_bytes, is_paid, seen_pointer, place_seen}
+use Rattle.capnp_wire.proofs.Telling.{told_freely, pointer_told}
+use Rattle.capnp_wire.proofs.pointer.PointerReader.is_canonical.Goals as goal
+
+pub returns-in-Default : goal.returns-in-Default
+returns-in-Default g c =
+    let s : Segments = words_in (backing_bytes g.A.ReaderArena.segments c.args.self.now.backing) in
+    let n = c.in-Some.levels in
+    let q = place_view c.in-Some-place.place in
+    let h = place_view c.args.head.now in
+    let h' = place_view c.is_canonical-in-Default.new.head in
+    let r = c.is_canonical-in-Default.result in
+    pointer_told (seen_pointer g.A.ReaderArena.segments c.args.self.now) n q h c.args.limiter.now r h' c.args.limiter.now c.in-Some.is (ap place_seen c.in-Some-place.is)
+    (told_freely (is_paid c.args.self.now.backing) (λ l m. TellsValue n s q h l r h' m) c.args.limiter.now c.new-unlimited.result c.is_canonical-in-Default.new.limiter (sym (ap is_paid c.in-Default.is)) c.new-unlimited.ensures.limit c.is_canonical-in-Default.ensures)

@@ -1,0 +1,136 @@
+//! Whether what readers stand at stands as its canonical words.
+ghost use Rattle.std.specs.Prelude.{◌≡◌, ◌+◌};
+ghost use Rattle.std.specs.Bool.{OnTrue, OnFalse};
+ghost use Rattle.capnp_units.specs.Segments.{words_in};
+ghost use Rattle.capnp_object.specs.Places.{place_view};
+ghost use Rattle.capnp_object.specs.Objects.{AreThere};
+ghost use Rattle.capnp_wire.specs.Views.{backing_bytes, is_paid, seen_pointer, seen_struct};
+ghost use Rattle.capnp_wire.specs.Canonical.{ToldOn, PointerTells, StructTellsIn, StructTells, LiesAt, section_words};
+
+use crate::arena::ReaderArena;
+use crate::backing::Backing;
+use crate::place::{Place, has_words};
+use crate::pointer::PointerReader;
+use crate::section::are_equal;
+use crate::structs::StructReader;
+use capnp_canonical::check::{is_canonical, is_canonical_struct};
+use capnp_units::errors::{Error, Result};
+use capnp_units::kinds::ErrorKind;
+use capnp_units::limiter::ReadLimiter;
+use capnp_units::sizes::StructSize;
+
+impl<'a, A: ReaderArena> PointerReader<'a, A> {
+    /// Whether the pointer and its value stand as the value's canonical words: at its place is the pointer, and from the head on, a place behind it in its segment, are the words of what it leads to, trimmed. On a yes the head is left behind those words, else where it was. A pointer that stands nowhere doesn't. (Encoding, "Canonicalization")
+    ///
+    /// In an arena pointers are followed, and objects paid for, as by `total_size`, up to the first difference; a capability is one, and so is a head that lies elsewhere. It is refused only where a walk over the whole value is, by the kind of the first fault, or with `ReadLimitExceeded` at the first object that costs more words than are left; under a negative nesting limit with `NestingLimitExceeded`. A no is exact in a segment of at most 2^29 - 1 words, the most that a message has.
+    ///
+    /// It takes no memory.
+    pub fn is_canonical(&self, limiter: &mut ReadLimiter, head: &mut Place) -> Result<bool>
+        ensures { PointerTells (seen_pointer A.segments self.now) (place_view head.old)
+            limiter.old result (place_view head.new) limiter.new }
+    {
+        let Some(levels) = self.levels else {
+            return Err(Error::from(ErrorKind::NestingLimitExceeded));
+        };
+        let Some(place) = self.place else {
+            return Ok(false);
+        };
+        match self.backing {
+            Backing::Arena(arena) => is_canonical(arena, limiter, place, levels, head),
+            Backing::Default(_) => {
+                let mut unlimited = ReadLimiter::new(None);
+                is_canonical(&self.backing, &mut unlimited, place, levels, head)
+            }
+        }
+    }
+}
+
+impl<'a, A: ReaderArena> StructReader<'a, A> {
+    /// Whether the struct's own words are those from a place on.
+    fn lies_at(&self, place: Place) -> bool
+        ensures lies { let v = seen_struct A.segments self.now in OnTrue result
+            (LiesAt v (place_view place)
+            × AreThere v.basis.segments (place_view place) (section_words v + v.pointers)) }
+        ensures elsewhere { OnFalse result
+            (LiesAt (seen_struct A.segments self.now) (place_view place) → ⊥) }
+    {
+        let words = self.section.len() / 8;
+        let count = words + self.pointers as usize;
+        if self.section.len() % 8 != 0 || !has_words(&self.backing, place, count) {
+            return false;
+        }
+        let first = Place {
+            segment: place.segment,
+            position: place.position + words,
+        };
+        self.first == first && are_equal(self.section, self.backing.lend(place, words))
+    }
+
+    /// Whether the struct stands in an arena with the segments that it is read from, its own words from a place on.
+    fn stands_in<B: ReaderArena>(
+        &self,
+        arena: &B,
+        limiter: &mut ReadLimiter,
+        start: Place,
+        levels: u32,
+        head: &mut Place,
+    ) -> Result<bool>
+        requires same { words_in (B.segments arena.now)
+            ≡ words_in (backing_bytes A.segments self.now.backing) }
+        ensures { StructTellsIn levels (seen_struct A.segments self.now) (place_view start)
+            (place_view head.old) result (place_view head.new) limiter.old limiter.new }
+    {
+        if !self.lies_at(start) {
+            return Ok(false);
+        }
+        let size = StructSize {
+            data_words: (self.section.len() / 8) as u16,
+            pointers: self.pointers,
+        };
+        is_canonical_struct(arena, limiter, start, size, levels, head)
+    }
+
+    /// The same, paid for in an arena, and free in a default.
+    fn stands_at(
+        &self,
+        limiter: &mut ReadLimiter,
+        start: Place,
+        levels: u32,
+        head: &mut Place,
+    ) -> Result<bool>
+        ensures { ToldOn (is_paid self.now.backing) (StructTellsIn levels
+            (seen_struct A.segments self.now) (place_view start) (place_view head.old) result
+            (place_view head.new)) limiter.old limiter.new }
+    {
+        match self.backing {
+            Backing::Arena(arena) => self.stands_in(arena, limiter, start, levels, head),
+            Backing::Default(_) => {
+                let mut unlimited = ReadLimiter::new(None);
+                self.stands_in(&self.backing, &mut unlimited, start, levels, head)
+            }
+        }
+    }
+
+    /// Whether the struct and what its pointers lead to stand as canonical words: its own words from one head on, where neither the last of its data nor the last of its pointers is a word of zeros, and from the other head on, behind its pointers in their segment, those of what they lead to, trimmed, one after the other. On a yes each head is left behind its words, else where it was. (Encoding, "Canonicalization")
+    ///
+    /// It is refused, and exact, as `PointerReader::is_canonical` is. The struct's own words were paid for already; where they don't stand no pointer is followed. It takes no memory.
+    pub fn is_canonical(
+        &self,
+        limiter: &mut ReadLimiter,
+        read_head: &mut Place,
+        pointer_head: &mut Place,
+    ) -> Result<bool>
+        ensures { StructTells (seen_struct A.segments self.now) (place_view read_head.old)
+            (place_view pointer_head.old) limiter.old result (place_view read_head.new)
+            (place_view pointer_head.new) limiter.new }
+    {
+        let Some(levels) = self.levels else {
+            return Err(Error::from(ErrorKind::NestingLimitExceeded));
+        };
+        let stands = self.stands_at(limiter, *read_head, levels, pointer_head)?;
+        if stands {
+            read_head.position += self.section.len() / 8 + self.pointers as usize;
+        }
+        Ok(stands)
+    }
+}
