@@ -1,5 +1,5 @@
 -- The words of a piece, one behind the other.
-use Rattle.std.proofs.Common.{◌≡◌, ℕ, zero, suc, ◌+◌, ◌-◌, ◌*◌, ◌/◌, ◌%◌, ◌<◌, ◌≤◌, List, [], ◌++◌, length, take, None, Ok, refl, sym, ap, subst, ◌∙◌, append-nil, arith, length-take-le}
+use Rattle.std.proofs.Common.{◌≡◌, ℕ, zero, suc, ◌+◌, ◌-◌, ◌*◌, ◌/◌, ◌%◌, ◌<◌, ◌≤◌, List, [], ◌++◌, length, take, Some, None, IfSome, Ok, refl, sym, ap, subst, ◌∙◌, append-nil, arith, length-take-le}
 use Rattle.std.specs.declared.option.Option.{Option}
 use Rattle.std.proofs.lemmas.List.{take_all}
 use Rattle.std.specs.Io.KnownBytes.{Keeps}
@@ -103,6 +103,28 @@ nothing-taken n a b some kept = ([], no-piece n some, Consumes-kept a a b [] (Co
 -- a piece behind a look at the bytes to come
 pub piece-of_kept : (a b c : Option (List ℕ)) (ws : List ℕ) → Keeps a b → TakesPiece unpacked b c ws → TakesPiece unpacked a c ws
 piece-of_kept a b c ws kept p = (p.0, p.1, Consumes-of_kept a b c p.0 kept p.2, p.3)
+
+-- a refusal behind a look at the bytes to come
+known-of_kept : (P : List ℕ → Type 0) (a b : Option (List ℕ)) → Keeps a b → IfSome b P → IfSome a P
+known-of_kept P None b kept h = tt
+known-of_kept P (Some xs) None kept h = absurd kept
+known-of_kept P (Some xs) (Some ys) kept h = subst P kept h
+
+fault-of_kept : (f : Rule (List ℕ)) (a b : Option (List ℕ)) (k : ErrorKind) → Keeps a b → IsFault f b k → IsFault f a k
+fault-of_kept f a b Device kept h = tt
+fault-of_kept f a b FailedToFillTheWholeBuffer kept h = known-of_kept _ a b kept h
+fault-of_kept f a b PrematureEndOfPackedInput kept h = known-of_kept _ a b kept h
+fault-of_kept f a b PackedInputDidNotEndCleanlyOnASegmentBoundary kept h = known-of_kept _ a b kept h
+fault-of_kept f a b _ kept h = absurd h
+
+pub refuses-of_kept : (f : Rule (List ℕ)) (a b c : Option (List ℕ)) (k : ErrorKind) → Keeps a b → Refuses f b c k → Refuses f a c k
+refuses-of_kept f a b c k kept p = record { part = p.part; taken = Consumes-of_kept a b c p.part kept p.taken; none = p.none; needed = p.needed; fault = fault-of_kept f a b k kept p.fault }
+
+-- a device that failed at once
+pub failed-at_once : (n : ℕ) (a b : Option (List ℕ)) → 0 < n → Keeps a b → Refuses (unpacked n) a b Device
+failed-at_once n a b some kept =
+    let p = nothing-taken n a b some kept in
+    record { part = p.0; taken = p.2; none = p.1; needed = p.3; fault = tt }
 
 -- ---- a buffer that is filled as a whole
 

@@ -1,5 +1,10 @@
 -- Packed bytes as streams of words. (Encoding, "Packing")
-use Rattle.std.specs.Prelude.{⊤}
+use Rattle.std.specs.Prelude.{◌≡◌, ◌≢◌, ◌⊎◌, ℕ, ◌/◌, ◌%◌, ◌<◌, List, ⊤}
+use Rattle.std.specs.declared.option.Option.{Option}
+use Rattle.std.specs.Io.KnownBytes.{Keeps, IsAtEnd}
+use Rattle.capnp_model.specs.Packing.{unpacked}
+use Rattle.capnp_stream.specs.Pieces.{TakesPiece}
+use Rattle.capnp_packing.specs.Parts.{Refuses}
 use Rattle.capnp_units.specs.declared.kinds.ErrorKind.{ErrorKind}
 use Rattle.capnp_units.specs.declared.kinds.ErrorKind.TheVariants.{FailedToFillTheWholeBuffer, PrematureEndOfPackedInput, PackedInputDidNotEndCleanlyOnASegmentBoundary, BufferNotLargeEnough, Device}
 
@@ -18,3 +23,12 @@ is_packed_fault FailedToFillTheWholeBuffer = ⊤
 is_packed_fault PrematureEndOfPackedInput = ⊤
 is_packed_fault PackedInputDidNotEndCleanlyOnASegmentBoundary = ⊤
 is_packed_fault _ = ⊥
+
+-- How a buffer of so many bytes was read: as one piece of these words, or as nothing, where it is empty or no byte was left.
+pub record ReadsPiece (count len : ℕ) (old new : Option (List ℕ)) (words : List ℕ) : Type 0 where
+  pub piece : count ≢ 0 → (count ≡ len) × TakesPiece unpacked old new words
+  pub end : count ≡ 0 → Keeps old new × (0 < len → IsAtEnd old)
+
+-- Why a buffer of so many bytes wasn't read: it ends in a part of a word, and nothing was taken, or the bytes begin with no such piece, or the device failed.
+abbrev pub RefusesPiece : ℕ → Option (List ℕ) → Option (List ℕ) → ErrorKind → Type 0
+RefusesPiece len old new kind = ((kind ≡ BufferNotLargeEnough) × (len % 8 ≢ 0) × Keeps old new) ⊎ Refuses (unpacked (len / 8)) old new kind

@@ -5,8 +5,6 @@
 
 mod bytes;
 mod copies;
-#[cfg(test)]
-mod cut_tests;
 pub mod form;
 mod groups;
 pub mod laws;
@@ -18,7 +16,5 @@ mod shown;
 mod sources;
 pub mod streams;
 mod tags;
-#[cfg(test)]
-mod tests;
 mod unpacking;
 mod written;

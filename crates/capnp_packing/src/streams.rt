@@ -1,14 +1,15 @@
 //! Packed bytes as streams of words.
-ghost use Rattle.std.specs.Prelude.{◌≡◌, ◌≢◌, ◌⊎◌, ◌/◌, ◌%◌, ◌<◌, [], length, None, IfSome, IfOk, IfErr, OnOk, OnErr};
+ghost use Rattle.std.specs.Prelude.{◌≡◌, ◌≢◌, ◌⊎◌, ◌%◌, [], length, None, IfSome, IfOk, IfErr, OnOk, IsErrAnd};
 ghost use Rattle.std.specs.Io.{ReadsAtMost};
-ghost use Rattle.std.specs.Io.KnownBytes.{Keeps, Consumes, Appends, ReadConsumes, IsAtEnd};
+ghost use Rattle.std.specs.Io.KnownBytes.{Consumes, ReadConsumes};
 ghost use Rattle.capnp_units.specs.declared.kinds.ErrorKind.{ErrorKind};
 ghost use Rattle.capnp_model.specs.Packing.{packed, unpacked};
 ghost use Rattle.capnp_io.specs.Counting.{Counts};
-ghost use Rattle.capnp_stream.specs.Pieces.{TakesPiece, TakesPieceStart, IsPieceFault};
+ghost use Rattle.capnp_stream.specs.Pieces.{TakesPiece};
 ghost use Rattle.capnp_stream.specs.Segments.{whole_words};
-ghost use Rattle.capnp_io.specs.Streams.{AppendsPart, ConsumesFewer, EndsBefore, RoomFalls, IsWriteRefusal};
-ghost use Rattle.capnp_packing.specs.Streams.{IsUnpackingKind};
+ghost use Rattle.capnp_io.specs.Streams.{ConsumesFewer, EndsBefore};
+ghost use Rattle.capnp_io.specs.Writes.{Writes, sink_seen};
+ghost use Rattle.capnp_packing.specs.Streams.{IsUnpackingKind, ReadsPiece, RefusesPiece};
 
 use crate::bytes::is_at_end;
 use crate::packing::write_words;
@@ -40,25 +41,14 @@ impl<R: BufRead> Read for PackedRead<R> {
         ensures count { Counts result (R.failures self.old.inner) (R.failures self.new.inner) }
         ensures whole { IfOk result (λ _. length buf.old % 8 ≡ 0) }
         ensures piece { IfOk result (λ n.
-            n ≢ 0 → (n ≡ length buf.old)
-            × TakesPiece unpacked (R.remaining self.old.inner) (R.remaining self.new.inner)
-            (whole_words buf.new)) }
-        ensures end { IfOk result (λ n.
-            n ≡ 0 → Keeps (R.remaining self.old.inner) (R.remaining self.new.inner)
-            × (0 < length buf.old → IsAtEnd (R.remaining self.old.inner))) }
-        ensures ragged { IfErr result (λ e.
-            e.kind ≡ ErrorKind.BufferNotLargeEnough → (length buf.old % 8 ≢ 0)
-            × Keeps (R.remaining self.old.inner) (R.remaining self.new.inner)) }
+            ReadsPiece n (length buf.old) (R.remaining self.old.inner)
+            (R.remaining self.new.inner) (whole_words buf.new)) }
         ensures fault { IfErr result (λ e.
-            e.kind ≢ ErrorKind.BufferNotLargeEnough
-            → IsPieceFault unpacked (length buf.old / 8) (R.remaining self.old.inner) e.kind) }
+            RefusesPiece (length buf.old) (R.remaining self.old.inner)
+            (R.remaining self.new.inner) e.kind) }
         ensures some { IfErr result (λ e.
             e.kind ≢ ErrorKind.Device → length buf.old % 8 ≡ 0
             → IfSome (R.remaining self.old.inner) (λ xs. xs ≢ [])) }
-        ensures part { IfErr result (λ e.
-            e.kind ≢ ErrorKind.BufferNotLargeEnough
-            → TakesPieceStart unpacked (length buf.old / 8) (R.remaining self.old.inner)
-            (R.remaining self.new.inner)) }
     {
         if buf.len() % 8 != 0 {
             return Err(Error::from(ErrorKind::BufferNotLargeEnough));
@@ -84,16 +74,9 @@ impl<R: BufRead> Read for PackedRead<R> {
         ensures piece { OnOk result
             (TakesPiece unpacked (R.remaining self.old.inner) (R.remaining self.new.inner)
             (whole_words buf.new)) }
-        ensures ragged { IfErr result (λ e.
-            e.kind ≡ ErrorKind.BufferNotLargeEnough → (length buf.old % 8 ≢ 0)
-            × Keeps (R.remaining self.old.inner) (R.remaining self.new.inner)) }
         ensures fault { IfErr result (λ e.
-            e.kind ≢ ErrorKind.BufferNotLargeEnough
-            → IsPieceFault unpacked (length buf.old / 8) (R.remaining self.old.inner) e.kind) }
-        ensures start { IfErr result (λ e.
-            e.kind ≢ ErrorKind.BufferNotLargeEnough
-            → TakesPieceStart unpacked (length buf.old / 8) (R.remaining self.old.inner)
-            (R.remaining self.new.inner)) }
+            RefusesPiece (length buf.old) (R.remaining self.old.inner)
+            (R.remaining self.new.inner) e.kind) }
     {
         if buf.len() % 8 != 0 {
             return Err(Error::from(ErrorKind::BufferNotLargeEnough));
@@ -118,19 +101,9 @@ impl<W: Write> PackedWrite<W> {
     /// After a refusal a beginning of it was written. `BufferNotLargeEnough`: the sink has an end, and less room than the piece has bytes. `OutOfMemory`: the sink wants memory. `Device`: it failed.
     pub fn write_piece(&mut self, bytes: &[u8]) -> Result<()>
         requires { length bytes.now % 8 ≡ 0 }
-        ensures ok { OnOk result
-            (Appends (W.contents self.old.inner) (W.contents self.new.inner)
-            (packed (whole_words bytes.now))) }
-        ensures falls { OnOk result
-            (RoomFalls (W.room self.old.inner) (W.room self.new.inner)
-            (length (packed (whole_words bytes.now)))) }
-        ensures err { OnErr result
-            (AppendsPart (W.contents self.old.inner) (W.contents self.new.inner)
-            (packed (whole_words bytes.now))) }
-        ensures refusal { IfErr result (λ e.
-            IsWriteRefusal W.may_grow (W.room self.old.inner)
-            (length (packed (whole_words bytes.now))) e.kind) }
-        ensures count { Counts result (W.failures self.old.inner) (W.failures self.new.inner) }
+        ensures { Writes W.may_grow (packed (whole_words bytes.now))
+            (sink_seen W.contents W.failures W.room self.old.inner) result
+            (sink_seen W.contents W.failures W.room self.new.inner) }
     {
         write_words(&mut self.inner, bytes)
     }
@@ -139,24 +112,12 @@ impl<W: Write> PackedWrite<W> {
     ///
     /// `BufferNotLargeEnough`: they aren't whole words, and nothing was written. Else it refuses as `write_piece` does.
     pub fn write_all(&mut self, bytes: &[u8]) -> Result<()>
-        ensures whole { OnOk result (length bytes.now % 8 ≡ 0) }
-        ensures ok { OnOk result
-            (Appends (W.contents self.old.inner) (W.contents self.new.inner)
-            (packed (whole_words bytes.now))) }
-        ensures falls { OnOk result
-            (RoomFalls (W.room self.old.inner) (W.room self.new.inner)
-            (length (packed (whole_words bytes.now)))) }
-        ensures ragged { IfErr result (λ e.
-            length bytes.now % 8 ≢ 0 → (e.kind ≡ ErrorKind.BufferNotLargeEnough)
-            × (self.new.inner ≡ self.old.inner)) }
-        ensures err { OnErr result
-            (AppendsPart (W.contents self.old.inner) (W.contents self.new.inner)
-            (packed (whole_words bytes.now))) }
-        ensures refusal { IfErr result (λ e.
-            length bytes.now % 8 ≡ 0
-            → IsWriteRefusal W.may_grow (W.room self.old.inner)
-            (length (packed (whole_words bytes.now))) e.kind) }
-        ensures count { Counts result (W.failures self.old.inner) (W.failures self.new.inner) }
+        ensures written { length bytes.now % 8 ≡ 0
+            → Writes W.may_grow (packed (whole_words bytes.now))
+            (sink_seen W.contents W.failures W.room self.old.inner) result
+            (sink_seen W.contents W.failures W.room self.new.inner) }
+        ensures ragged { length bytes.now % 8 ≢ 0 → (self.new.inner ≡ self.old.inner)
+            × IsErrAnd result (λ e. e.kind ≡ ErrorKind.BufferNotLargeEnough) }
     {
         if bytes.len() % 8 != 0 {
             return Err(Error::from(ErrorKind::BufferNotLargeEnough));

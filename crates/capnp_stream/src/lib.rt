@@ -3,22 +3,14 @@
 //! The calls take and answer segments and a limit of words. What needs a message's reader or builder, its options and its allocators stands above.
 #![tactic(auto)]
 
-#[cfg(test)]
-mod adapter_tests;
 pub mod buffers;
 pub mod flat;
 pub mod forms;
 pub mod frames;
-#[cfg(test)]
-mod large_tests;
 pub mod lent;
-#[cfg(test)]
-mod segment_tests;
 pub mod segments;
 pub mod slices;
 mod tables;
-#[cfg(test)]
-mod tests;
 pub mod writing;
 
 pub use capnp_io::{adapters, memory, slice_writer, traits};
