@@ -2,3 +2,5 @@ pub mod Begun
 pub mod BlobEnds
 pub mod BlobsBegun
 pub mod Charging
+pub mod ListsMade
+pub mod Makes

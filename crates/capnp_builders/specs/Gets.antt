@@ -15,6 +15,7 @@ use Rattle.capnp_wire.specs.Places.{place_view}
 use Rattle.capnp_footprints.specs.Footprints.{Owns}
 use Rattle.capnp_footprints.specs.Changes.{Replaces}
 use Rattle.capnp_copy_from.specs.Defaults.{WritesDefault, default_segments, is_null_at}
+use Rattle.capnp_copy.specs.Elements.{LiesAt}
 use Rattle.capnp_copy.specs.Lists.{list_at}
 use Rattle.capnp_copy.specs.Structs.{struct_at}
 use Rattle.capnp_copy.specs.Values.{LeadsTo}
@@ -63,12 +64,13 @@ NoStructGot default s u p size e = Begins default s u p (Err e) ⊎ (Begins defa
 abbrev pub list_named : Segments → code.Place → ElementSize → Result ListPlace Kind
 list_named s slot expected = object_at s (place_view slot) and_then λ f. list_in slot expected f.object
 
--- A list is got: the default is written, and nothing else; the answered place is where the pointer leads, null the empty list at the pointer itself.
+-- A list is got: the default is written, and nothing else; the answered place is where the pointer leads, and the list lies whole, null the empty list at the pointer itself.
 pub record ListGot (default : Option (List (List ℕ))) (s u : Segments) (slot : code.Place) (expected : ElementSize) (o : ListPlace) : Type 0 where
   pub begins : Begins default s u (place_view slot) (Ok tt)
   pub value : Gets default s u (place_view slot) (λ v. v)
   pub list : list_named u slot expected ≡ Ok o
   pub object : (word_at u (place_view slot) ≡ Some 0) ⊎ LeadsTo u (place_view slot) (list_at o)
+  pub inside : LiesAt u (place_view slot) o
 
 -- Why no list is given, and what stands then, as of structs.
 abbrev pub NoListGot : Option (List (List ℕ)) → Segments → Segments → code.Place → ElementSize → Error → Type 0

@@ -5,3 +5,5 @@ pub mod Lending
 pub mod Inputs
 pub mod Blobs
 pub mod Copied
+pub mod Making
+pub mod Leaving

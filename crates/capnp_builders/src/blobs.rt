@@ -1,5 +1,5 @@
 //! Texts and data that are made where a pointer names them, and got there.
-ghost use Rattle.std.specs.Prelude.{◌≡◌, ◌⊎◌, ◌+◌, ◌*◌, ◌<◌, ◌^◌, ◌↔◌, true, Some, option_copied, IfOk, IfErr, OnErr, IfSome, IfNone};
+ghost use Rattle.std.specs.Prelude.{◌≡◌, ◌⊎◌, ◌+◌, ◌*◌, ◌<◌, ◌≤◌, ◌^◌, ◌↔◌, true, Some, option_copied, IfOk, IfErr, OnErr, IfSome, IfNone};
 ghost use Rattle.std.specs.Borrow.{sem, RestsIfErr};
 ghost use Rattle.std.specs.Option.{is_some};
 ghost use Rattle.capnp_model.specs.Sections.{words_for};
@@ -10,11 +10,12 @@ ghost use Rattle.capnp_object.specs.Objects.{AreThere};
 ghost use Rattle.capnp_units.specs.Segments.{words_in};
 ghost use Rattle.capnp_units.specs.declared.kinds.ErrorKind.TheVariants.{SizeOverflow};
 ghost use Rattle.capnp_wire.specs.Places.{place_view, seen};
-ghost use Rattle.capnp_copy.specs.Allocations.{total_words, TakesJust};
+ghost use Rattle.capnp_copy.specs.Allocations.{total_words, TakesJust, TakesAtMost, NoRoom};
 ghost use Rattle.capnp_copy.specs.Values.{Becomes, LeadsTo};
 ghost use Rattle.capnp_copy.specs.contracts.arena.Memory.{the_row};
 ghost use Rattle.capnp_builders.specs.Blobs.{bytes_named, data_named, text_named, ends_in_zero, DataGot, NoDataGot, TextGot, NoTextGot};
 ghost use Rattle.capnp_copy.specs.declared.bytes.BlobPlace.{BlobPlace};
+ghost use Rattle.capnp_builders.specs.Making.{state_of, StaysAt, MakesData, MakesText, BytesRefused};
 ghost use Rattle.capnp_builders.specs.Inputs.{IsTooLong};
 
 use crate::data_builder::DataBuilder;
@@ -51,6 +52,13 @@ fn init_bytes<A: BuilderArena>(arena: &mut A, slot: Place, count: u32) -> Result
     ensures taken { IfOk result (λ o.
         TakesJust (words_in (A.segments arena.old)) (A.room arena.old)
         (words_in (A.segments arena.new)) slot.segment (words_for (8 * count))) }
+    ensures bound { IfOk result (λ o.
+        TakesAtMost (words_in (A.segments arena.old)) (words_in (A.segments arena.new))
+        (words_for (8 * count)) 1) }
+    ensures full { OnErr result
+        ((2 ^ 29 ≤ count)
+        ⊎ NoRoom (words_in (A.segments arena.old)) (A.room arena.old) slot.segment
+        (words_for (8 * count))) }
     ensures refused { OnErr result (A.segments arena.new ≡ A.segments arena.old) }
     ensures kind { IfErr result (λ e.
         (e.kind ≡ SizeOverflow) ↔ IsTooLong count (total_words (words_in (A.segments arena.old)))) }
@@ -222,6 +230,13 @@ fn init_text_bytes<A: BuilderArena>(arena: &mut A, slot: Place, count: u32) -> R
     ensures taken { IfOk result (λ o.
         TakesJust (words_in (A.segments arena.old)) (A.room arena.old)
         (words_in (A.segments arena.new)) slot.segment (words_for (8 * (count + 1)))) }
+    ensures bound { IfOk result (λ o.
+        TakesAtMost (words_in (A.segments arena.old)) (words_in (A.segments arena.new))
+        (words_for (8 * (count + 1))) 1) }
+    ensures full { OnErr result
+        ((2 ^ 29 ≤ count + 1)
+        ⊎ NoRoom (words_in (A.segments arena.old)) (A.room arena.old) slot.segment
+        (words_for (8 * (count + 1)))) }
     ensures refused { OnErr result (A.segments arena.new ≡ A.segments arena.old) }
     ensures kind { IfErr result (λ e.
         (e.kind ≡ SizeOverflow)
@@ -243,29 +258,13 @@ impl<'a, A: BuilderArena> PointerBuilder<'a, A> {
             (place_view self.place) 1) ≡ true }
         requires near { self.place.position < 2 ^ 61 }
         ensures same { IfOk result (λ o. o.memory.ghost_name ≡ self.entry.memory.ghost_name) }
-        ensures value { IfOk result (λ o.
-            Becomes (words_in (A.segments self.entry.memory.now.arena))
-            (words_in (A.segments o.memory.now.arena)) (place_view self.entry.place)
-            (plain_list 2 size 0)) }
-        ensures object { IfOk result (λ o.
-            LeadsTo (words_in (A.segments o.memory.now.arena)) (place_view self.entry.place)
-            (a_list (place_view o.place.start) 2 size)) }
-        ensures size { IfOk result (λ o. o.place.count ≡ size) }
-        ensures near { IfOk result (λ o. o.place.start.position < 2 ^ 61) }
-        ensures taken { IfOk result (λ o.
-            TakesJust (words_in (A.segments self.entry.memory.now.arena))
-            (A.room self.entry.memory.now.arena) (words_in (A.segments o.memory.now.arena))
-            self.entry.place.segment (words_for (8 * size))) }
-        ensures books { IfOk result (λ o.
-            A.books o.memory.now.arena ≡ A.books self.entry.memory.now.arena) }
-        ensures kind { IfErr result (λ e.
-            (e.kind ≡ SizeOverflow)
-            ↔ IsTooLong size (total_words (words_in (A.segments self.entry.memory.now.arena)))) }
-        ensures* refused { sem 𝓛 (RestsIfErr (the_row A.row)
-            self.entry.memory (λ o. o.memory.ghost_name)
-            result (λ n.
-            (A.segments n.arena ≡ A.segments self.entry.memory.now.arena)
-            × (A.books n.arena ≡ A.books self.entry.memory.now.arena))) }
+        ensures made { let at = state_of A.segments A.room A.books in IfOk result (λ o.
+            MakesData (at self.entry.memory.now) (at o.memory.now) self.entry.place size
+            o.place) }
+        ensures kind { let at = state_of A.segments A.room A.books in IfErr result
+            (BytesRefused (at self.entry.memory.now) self.entry.place.segment size) }
+        ensures* refused { sem 𝓛 (RestsIfErr (the_row A.row) self.entry.memory
+            (λ o. o.memory.ghost_name) result (StaysAt A.segments A.books self.entry.memory.now)) }
     {
         let PointerBuilder { memory, place } = self;
         let start = init_bytes(&mut memory.arena, place, size)?;
@@ -281,30 +280,13 @@ impl<'a, A: BuilderArena> PointerBuilder<'a, A> {
             (place_view self.place) 1) ≡ true }
         requires near { self.place.position < 2 ^ 61 }
         ensures same { IfOk result (λ o. o.memory.ghost_name ≡ self.entry.memory.ghost_name) }
-        ensures value { IfOk result (λ o.
-            Becomes (words_in (A.segments self.entry.memory.now.arena))
-            (words_in (A.segments o.memory.now.arena)) (place_view self.entry.place)
-            (plain_list 2 (size + 1) 0)) }
-        ensures object { IfOk result (λ o.
-            LeadsTo (words_in (A.segments o.memory.now.arena)) (place_view self.entry.place)
-            (a_list (place_view o.place.start) 2 (size + 1))) }
-        ensures size { IfOk result (λ o. (o.place.count ≡ size) × (o.position ≡ 0)) }
-        ensures near { IfOk result (λ o. o.place.start.position < 2 ^ 61) }
-        ensures taken { IfOk result (λ o.
-            TakesJust (words_in (A.segments self.entry.memory.now.arena))
-            (A.room self.entry.memory.now.arena) (words_in (A.segments o.memory.now.arena))
-            self.entry.place.segment (words_for (8 * (size + 1)))) }
-        ensures books { IfOk result (λ o.
-            A.books o.memory.now.arena ≡ A.books self.entry.memory.now.arena) }
-        ensures kind { IfErr result (λ e.
-            (e.kind ≡ SizeOverflow)
-            ↔ IsTooLong (size + 1)
-            (total_words (words_in (A.segments self.entry.memory.now.arena)))) }
-        ensures* refused { sem 𝓛 (RestsIfErr (the_row A.row)
-            self.entry.memory (λ o. o.memory.ghost_name)
-            result (λ n.
-            (A.segments n.arena ≡ A.segments self.entry.memory.now.arena)
-            × (A.books n.arena ≡ A.books self.entry.memory.now.arena))) }
+        ensures made { let at = state_of A.segments A.room A.books in IfOk result (λ o.
+            MakesText (at self.entry.memory.now) (at o.memory.now) self.entry.place size
+            o.place × (o.position ≡ 0)) }
+        ensures kind { let at = state_of A.segments A.room A.books in IfErr result
+            (BytesRefused (at self.entry.memory.now) self.entry.place.segment (size + 1)) }
+        ensures* refused { sem 𝓛 (RestsIfErr (the_row A.row) self.entry.memory
+            (λ o. o.memory.ghost_name) result (StaysAt A.segments A.books self.entry.memory.now)) }
     {
         let PointerBuilder { memory, place } = self;
         let start = init_text_bytes(&mut memory.arena, place, size)?;

@@ -1,12 +1,13 @@
 //! Lists that are built.
-ghost use Rattle.std.specs.Prelude.{◌≡◌, ◌+◌, ◌*◌, ◌<◌, ◌≤◌, ◌^◌, ◌==◌, ℕ, length, map};
-ghost use Rattle.capnp_model.specs.Segments.{after};
+ghost use Rattle.std.specs.Prelude.{◌≡◌, ◌+◌, ◌*◌, ◌<◌, ◌≤◌, ◌^◌, ◌==◌, ℕ, true, length, map};
+ghost use Rattle.std.specs.Option.{is_some};
+ghost use Rattle.capnp_model.specs.Segments.{after, words_at};
 ghost use Rattle.capnp_units.specs.Sizes.{size_number};
 ghost use Rattle.std.specs.Borrow.{sem};
 ghost use Rattle.capnp_units.specs.Segments.{words_in};
 ghost use Rattle.capnp_wire.specs.Places.{place_view};
 ghost use Rattle.capnp_wire.specs.Views.{seen_list, list_at};
-ghost use Rattle.capnp_copy.specs.Elements.{first_element, HasElements, IsInElement, HasElement, SetsElement};
+ghost use Rattle.capnp_copy.specs.Elements.{first_element, HasElements, IsWhole, IsInElement, HasElement, SetsElement};
 
 use crate::element::BuilderElement;
 use crate::pointer_builder::PointerBuilder;
@@ -136,6 +137,9 @@ impl<'a, A: BuilderArena> ListBuilder<'a, A> {
         ensures same { result.memory.ghost_name ≡ self.entry.memory.ghost_name }
         ensures now { result.memory.now ≡ self.entry.memory.now }
         ensures place { place_view result.place ≡ after (place_view self.entry.place.start) index }
+        ensures there { IsWhole (words_in (A.segments self.entry.memory.now.arena)) self.entry.place
+            → is_some (words_at (words_in (A.segments result.memory.now.arena))
+            (place_view result.place) 1) ≡ true }
         ensures near { result.place.position < 2 ^ 61 }
     {
         let ListBuilder { memory, place } = self;
@@ -161,6 +165,10 @@ impl<'a, A: BuilderArena> ListBuilder<'a, A> {
             (index * (self.entry.place.data_words + self.entry.place.pointers)) }
         ensures size { (result.place.data_words ≡ self.entry.place.data_words)
             × (result.place.pointers ≡ self.entry.place.pointers) }
+        ensures there { IsWhole (words_in (A.segments self.entry.memory.now.arena)) self.entry.place
+            → is_some (words_at (words_in (A.segments result.memory.now.arena))
+            (place_view result.place.start) (result.place.data_words + result.place.pointers))
+            ≡ true }
         ensures near { result.place.start.position +
             (result.place.data_words + result.place.pointers) < 2 ^ 61 }
     {

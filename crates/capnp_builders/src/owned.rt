@@ -1,5 +1,5 @@
 //! What callers' types are built as.
-ghost use Rattle.std.specs.Prelude.{◌≡◌, ◌+◌, ◌<◌, ◌^◌, ◌↔◌, ℕ, List, Option, true, option_copied, IfOk, IfErr};
+ghost use Rattle.std.specs.Prelude.{◌≡◌, ◌+◌, ◌<◌, ◌^◌, ◌↔◌, ℕ, List, Option, Ok, Err, true, option_copied, IfOk, IfErr};
 ghost use Rattle.std.specs.Borrow.{sem, MutBor, RestsIfErr};
 ghost use Rattle.std.specs.Option.{is_some};
 ghost use Rattle.capnp_model.specs.Segments.{Segments, words_at};
@@ -9,16 +9,21 @@ ghost use Rattle.capnp_units.specs.declared.kinds.ErrorKind.TheVariants.{SizeOve
 ghost use Rattle.capnp_object.specs.declared.place.Place.{Place};
 ghost use Rattle.capnp_wire.specs.Places.{place_view};
 ghost use Rattle.capnp_copy.specs.Allocations.{total_words};
+ghost use Rattle.capnp_copy.specs.Clearing.{ClearsValue};
 ghost use Rattle.capnp_copy.specs.declared.arena.Memory.{Memory};
 ghost use Rattle.capnp_copy.specs.contracts.arena.Memory.{the_row};
 ghost use Rattle.capnp_builders.specs.Blobs.{DataMade, TextMade, DataGot, NoDataGot, TextGot, NoTextGot};
+ghost use Rattle.capnp_builders.specs.Gets.{Begins};
 ghost use Rattle.capnp_builders.specs.Inputs.{IsTooLong};
+ghost use Rattle.capnp_builders.specs.Making.{StaysAt};
 
 use crate::data_builder::DataBuilder;
+use crate::gets::begin;
 use crate::pointer_builder::PointerBuilder;
 use crate::struct_builder::StructBuilder;
 use crate::text_builder::TextBuilder;
 use capnp_copy::arena::BuilderArena;
+use capnp_copy::clear::clear;
 use capnp_text::data;
 use capnp_units::errors::Result;
 use capnp_units::sizes::Word;
@@ -210,6 +215,69 @@ impl<'a, A: BuilderArena> FromPointerBuilder<'a, A> for TextBuilder<'a, A> {
             builder.entry.place) × (A.books n.arena ≡ A.books builder.entry.memory.now.arena))) }
     {
         builder.get_text(default)
+    }
+}
+
+/// An untyped pointer is made null, which is never refused, and got as what is there, whatever its kind.
+impl<'a, A: BuilderArena> FromPointerBuilder<'a, A> for PointerBuilder<'a, A> {
+    ghost memory_of = { λ o. o.memory };
+
+    ghost is_made = { λ s u slot n o. ClearsValue s u (place_view slot) × (o.place ≡ slot) };
+
+    ghost is_not_made = { λ s n e. ⊥ };
+
+    ghost is_got = { λ default s u slot o.
+        Begins default s u (place_view slot) (Ok tt) × (o.place ≡ slot) };
+
+    ghost is_not_got = { λ default s u slot e. Begins default s u (place_view slot) (Err e) };
+
+    fn init_pointer(builder: PointerBuilder<'a, A>, _length: u32) -> Result<PointerBuilder<'a, A>>
+        requires there { is_some (words_at (words_in (A.segments builder.memory.now.arena))
+            (place_view builder.place) 1) ≡ true }
+        requires near { builder.place.position < 2 ^ 61 }
+        ensures same { IfOk result (λ o. o.memory.ghost_name ≡ builder.entry.memory.ghost_name) }
+        ensures made { IfOk result (λ o.
+            ClearsValue (words_in (A.segments builder.entry.memory.now.arena))
+            (words_in (A.segments o.memory.now.arena)) (place_view builder.entry.place)
+            × (o.place ≡ builder.entry.place)) }
+        ensures books { IfOk result (λ o.
+            A.books o.memory.now.arena ≡ A.books builder.entry.memory.now.arena) }
+        ensures kind { IfErr result (λ e. ⊥) }
+        ensures* refused { sem 𝓛 (RestsIfErr (the_row A.row) builder.entry.memory
+            (λ o. o.memory.ghost_name) result (StaysAt A.segments A.books builder.entry.memory.now)) }
+    {
+        let PointerBuilder { memory, place } = builder;
+        clear(&mut memory.arena, place);
+        Ok(PointerBuilder { memory, place })
+    }
+
+    fn get_from_pointer(
+        builder: PointerBuilder<'a, A>,
+        default: Option<&[Word]>,
+    ) -> Result<PointerBuilder<'a, A>>
+        requires there { is_some (words_at (words_in (A.segments builder.memory.now.arena))
+            (place_view builder.place) 1) ≡ true }
+        requires near { builder.place.position < 2 ^ 61 }
+        ensures same { IfOk result (λ o. o.memory.ghost_name ≡ builder.entry.memory.ghost_name) }
+        ensures got { IfOk result (λ o.
+            Begins (option_copied default.entry)
+            (words_in (A.segments builder.entry.memory.now.arena))
+            (words_in (A.segments o.memory.now.arena)) (place_view builder.entry.place) (Ok tt)
+            × (o.place ≡ builder.entry.place)) }
+        ensures books { IfOk result (λ o.
+            A.books o.memory.now.arena ≡ A.books builder.entry.memory.now.arena) }
+        ensures* refused { sem 𝓛 (RestsIfErr (the_row A.row)
+            builder.entry.memory (λ o. o.memory.ghost_name)
+            result (λ n.
+            IfErr result (λ e.
+            Begins (option_copied default.entry)
+            (words_in (A.segments builder.entry.memory.now.arena)) (words_in (A.segments n.arena))
+            (place_view builder.entry.place) (Err e))
+            × (A.books n.arena ≡ A.books builder.entry.memory.now.arena))) }
+    {
+        let PointerBuilder { memory, place } = builder;
+        begin(&mut memory.arena, place, default)?;
+        Ok(PointerBuilder { memory, place })
     }
 }
 

@@ -1,21 +1,18 @@
 //! Pointers that are built.
-ghost use Rattle.std.specs.Prelude.{◌≡◌, ◌+◌, ◌*◌, ◌<◌, ◌≤◌, ◌^◌, ◌↔◌, ◌⊎◌, ◌==◌, ℕ, true, length, unwrap_or, IfOk, IfErr, OnErr, map};
+ghost use Rattle.std.specs.Prelude.{◌≡◌, ◌+◌, ◌*◌, ◌<◌, ◌^◌, ◌==◌, true, length, unwrap_or, IfOk, IfErr, OnOk, map};
 ghost use Rattle.std.specs.Borrow.{sem, RestsIfErr};
 ghost use Rattle.std.specs.Option.{is_some};
 ghost use Rattle.capnp_model.specs.Sections.{number_of, words_for};
 ghost use Rattle.capnp_model.specs.Segments.{root, word_at, words_at};
-ghost use Rattle.capnp_model.specs.Trees.{structure, plain_list, struct_list, none, resized};
+ghost use Rattle.capnp_model.specs.Trees.{plain_list};
 ghost use Rattle.capnp_units.specs.Segments.{words_in};
 ghost use Rattle.capnp_units.specs.Sizes.{size_number};
-ghost use Rattle.capnp_units.specs.declared.kinds.ErrorKind.TheVariants.{SizeOverflow};
 ghost use Rattle.capnp_wire.specs.Places.{place_view};
-ghost use Rattle.capnp_footprints.specs.NewObjects.{new_tree, zero_elements};
-ghost use Rattle.capnp_copy.specs.Allocations.{total_words, TakesJust};
 ghost use Rattle.capnp_copy.specs.Clearing.{ClearsValue};
-ghost use Rattle.capnp_copy.specs.Lists.{list_at, zeros_of, words_of};
-ghost use Rattle.capnp_copy.specs.Structs.{struct_at};
-ghost use Rattle.capnp_copy.specs.Values.{Becomes, LeadsTo};
 ghost use Rattle.capnp_copy.specs.contracts.arena.Memory.{the_row};
+ghost use Rattle.capnp_wire.specs.Views.{seen_pointer, pointer_at};
+ghost use Rattle.capnp_builders.specs.Leaving.{LeavesMemory};
+ghost use Rattle.capnp_builders.specs.Making.{state_of, StaysAt, Makes, MakesStruct, MakesList, MakesStructList, StructRefused, ElementsRefused, StructsRefused, BytesNotSet};
 
 use crate::list_builder::ListBuilder;
 use crate::struct_builder::StructBuilder;
@@ -30,6 +27,17 @@ use capnp_units::units::ElementCount32;
 use capnp_wire::place::{Place, word_at};
 use capnp_wire::pointer::PointerReader;
 
+/// The pointer at a place of a memory, to read, under the arena's nesting limit. The memory is as it was once the reader is gone; this is told of the memory of a handle that is taken apart, and not of one that `into_reader` takes.
+pub fn read_at<'a, A: BuilderArena>(memory: &'a mut Memory<A>, place: Place) -> PointerReader<'a, A>
+    ensures shows { seen_pointer A.segments result
+        ≡ pointer_at (A.segments memory.old.arena)
+        (A.nesting memory.old.arena) (place_view place) }
+    ensures* stays { sem 𝓛 (LeavesMemory A.row memory.entry) }
+{
+    let arena = &memory.arena;
+    PointerReader::at(arena, place)
+}
+
 /// A pointer that is built, where it lies in an arena.
 #[derive(Drop)]
 pub struct PointerBuilder<'a, A> {
@@ -39,7 +47,6 @@ pub struct PointerBuilder<'a, A> {
 
 impl<'a, A: BuilderArena> PointerBuilder<'a, A> {
     ghost use Rattle.capnp_builders.specs.Lending.{LendsPointer};
-    ghost use Rattle.capnp_wire.specs.Views.{seen_pointer, pointer_at};
 
     /// The root pointer, the first word of the first segment.
     pub fn get_root(memory: &'a mut Memory<A>) -> Self
@@ -76,14 +83,14 @@ impl<'a, A: BuilderArena> PointerBuilder<'a, A> {
         PointerReader::at(&self.memory.arena, self.place)
     }
 
-    /// The same, of which no handle to write is left.
+    /// The same, of which no handle to write is left. What stands in the memory afterwards is told by `read_at`.
     pub fn into_reader(self) -> PointerReader<'a, A>
         ensures { seen_pointer A.segments result
             ≡ pointer_at (A.segments self.entry.memory.now.arena)
             (A.nesting self.entry.memory.now.arena) (place_view self.entry.place) }
     {
         let PointerBuilder { memory, place } = self;
-        PointerReader::at(&memory.arena, place)
+        read_at(memory, place)
     }
 
     /// Whether it is null, a word of zeros.
@@ -117,35 +124,13 @@ impl<'a, A: BuilderArena> PointerBuilder<'a, A> {
             (place_view self.place) 1) ≡ true }
         requires near { self.place.position < 2 ^ 61 }
         ensures same { IfOk result (λ o. o.memory.ghost_name ≡ self.entry.memory.ghost_name) }
-        ensures value { IfOk result (λ o.
-            Becomes (words_in (A.segments self.entry.memory.now.arena))
-            (words_in (A.segments o.memory.now.arena)) (place_view self.entry.place)
-            (structure size.data_words 0 (resized size.pointers none))) }
-        ensures object { IfOk result (λ o.
-            LeadsTo (words_in (A.segments o.memory.now.arena)) (place_view self.entry.place)
-            (struct_at o.place)) }
-        ensures size { IfOk result (λ o.
-            (o.place.data_words ≡ size.data_words) × (o.place.pointers ≡ size.pointers)) }
-        ensures there { IfOk result (λ o.
-            is_some (words_at (words_in (A.segments o.memory.now.arena))
-            (place_view o.place.start) (o.place.data_words + o.place.pointers)) ≡ true) }
-        ensures near { IfOk result (λ o.
-            o.place.start.position + (o.place.data_words + o.place.pointers) < 2 ^ 61) }
-        ensures taken { IfOk result (λ o.
-            TakesJust (words_in (A.segments self.entry.memory.now.arena))
-            (A.room self.entry.memory.now.arena) (words_in (A.segments o.memory.now.arena))
-            self.entry.place.segment (size.data_words + size.pointers)) }
-        ensures books { IfOk result (λ o.
-            A.books o.memory.now.arena ≡ A.books self.entry.memory.now.arena) }
-        ensures kind { IfErr result (λ e.
-            (e.kind ≡ SizeOverflow)
-            ↔ (2 ^ 29 ≤ total_words (words_in (A.segments self.entry.memory.now.arena)) +
-            (size.data_words + size.pointers + 1))) }
-        ensures* refused { sem 𝓛 (RestsIfErr (the_row A.row)
-            self.entry.memory (λ o. o.memory.ghost_name)
-            result (λ n.
-            (A.segments n.arena ≡ A.segments self.entry.memory.now.arena)
-            × (A.books n.arena ≡ A.books self.entry.memory.now.arena))) }
+        ensures made { let at = state_of A.segments A.room A.books in IfOk result (λ o.
+            MakesStruct (at self.entry.memory.now) (at o.memory.now) self.entry.place
+            size o.place) }
+        ensures kind { let at = state_of A.segments A.room A.books in IfErr result
+            (StructRefused (at self.entry.memory.now) self.entry.place.segment size) }
+        ensures* refused { sem 𝓛 (RestsIfErr (the_row A.row) self.entry.memory
+            (λ o. o.memory.ghost_name) result (StaysAt A.segments A.books self.entry.memory.now)) }
     {
         let PointerBuilder { memory, place } = self;
         let place = init_struct(&mut memory.arena, place, size)?;
@@ -165,38 +150,13 @@ impl<'a, A: BuilderArena> PointerBuilder<'a, A> {
         requires near { self.place.position < 2 ^ 61 }
         requires plain { size_number element_size < 7 }
         ensures same { IfOk result (λ o. o.memory.ghost_name ≡ self.entry.memory.ghost_name) }
-        ensures value { IfOk result (λ o.
-            Becomes (words_in (A.segments self.entry.memory.now.arena))
-            (words_in (A.segments o.memory.now.arena)) (place_view self.entry.place)
-            (new_tree (zeros_of (size_number element_size) element_count))) }
-        ensures object { IfOk result (λ o.
-            LeadsTo (words_in (A.segments o.memory.now.arena)) (place_view self.entry.place)
-            (list_at o.place)) }
-        ensures list { IfOk result (λ o.
-            (o.place.size ≡ element_size) × (o.place.claimed ≡ element_count)
-            × (o.place.count ≡ element_count)) }
-        ensures there { IfOk result (λ o.
-            is_some (words_at (words_in (A.segments o.memory.now.arena))
-            (place_view o.place.start) (words_of (size_number element_size) element_count))
-            ≡ true) }
-        ensures near { IfOk result (λ o.
-            o.place.start.position + words_of (size_number element_size) element_count < 2 ^ 61) }
-        ensures taken { IfOk result (λ o.
-            TakesJust (words_in (A.segments self.entry.memory.now.arena))
-            (A.room self.entry.memory.now.arena) (words_in (A.segments o.memory.now.arena))
-            self.entry.place.segment (words_of (size_number element_size) element_count)) }
-        ensures books { IfOk result (λ o.
-            A.books o.memory.now.arena ≡ A.books self.entry.memory.now.arena) }
-        ensures kind { IfErr result (λ e.
-            (e.kind ≡ SizeOverflow)
-            ↔ ((2 ^ 29 ≤ element_count)
-            ⊎ (2 ^ 29 ≤ total_words (words_in (A.segments self.entry.memory.now.arena)) +
-            (words_of (size_number element_size) element_count + 1)))) }
-        ensures* refused { sem 𝓛 (RestsIfErr (the_row A.row)
-            self.entry.memory (λ o. o.memory.ghost_name)
-            result (λ n.
-            (A.segments n.arena ≡ A.segments self.entry.memory.now.arena)
-            × (A.books n.arena ≡ A.books self.entry.memory.now.arena))) }
+        ensures made { let at = state_of A.segments A.room A.books in IfOk result (λ o.
+            MakesList (at self.entry.memory.now) (at o.memory.now) self.entry.place
+            element_size element_count o.place) }
+        ensures kind { let at = state_of A.segments A.room A.books in IfErr result
+            (ElementsRefused (at self.entry.memory.now) self.entry.place.segment element_size element_count) }
+        ensures* refused { sem 𝓛 (RestsIfErr (the_row A.row) self.entry.memory
+            (λ o. o.memory.ghost_name) result (StaysAt A.segments A.books self.entry.memory.now)) }
     {
         let PointerBuilder { memory, place } = self;
         let place = init_list(&mut memory.arena, place, element_size, element_count)?;
@@ -215,42 +175,13 @@ impl<'a, A: BuilderArena> PointerBuilder<'a, A> {
             (place_view self.place) 1) ≡ true }
         requires near { self.place.position < 2 ^ 61 }
         ensures same { IfOk result (λ o. o.memory.ghost_name ≡ self.entry.memory.ghost_name) }
-        ensures value { IfOk result (λ o.
-            Becomes (words_in (A.segments self.entry.memory.now.arena))
-            (words_in (A.segments o.memory.now.arena)) (place_view self.entry.place)
-            (struct_list element_size.data_words element_size.pointers
-            (zero_elements element_count element_size.pointers))) }
-        ensures object { IfOk result (λ o.
-            LeadsTo (words_in (A.segments o.memory.now.arena)) (place_view self.entry.place)
-            (list_at o.place)) }
-        ensures list { IfOk result (λ o.
-            (size_number o.place.size ≡ 7)
-            × (o.place.claimed
-            ≡ element_count * (element_size.data_words + element_size.pointers))
-            × (o.place.count ≡ element_count) × (o.place.data_words ≡ element_size.data_words)
-            × (o.place.pointers ≡ element_size.pointers)) }
-        ensures there { IfOk result (λ o.
-            is_some (words_at (words_in (A.segments o.memory.now.arena))
-            (place_view o.place.start) (1 + o.place.claimed)) ≡ true) }
-        ensures near { IfOk result (λ o. o.place.start.position + (1 + o.place.claimed) < 2 ^ 61) }
-        ensures taken { IfOk result (λ o.
-            TakesJust (words_in (A.segments self.entry.memory.now.arena))
-            (A.room self.entry.memory.now.arena) (words_in (A.segments o.memory.now.arena))
-            self.entry.place.segment
-            (1 + element_count * (element_size.data_words + element_size.pointers))) }
-        ensures books { IfOk result (λ o.
-            A.books o.memory.now.arena ≡ A.books self.entry.memory.now.arena) }
-        ensures kind { IfErr result (λ e.
-            (e.kind ≡ SizeOverflow)
-            ↔ ((2 ^ 29 ≤ element_count)
-            ⊎ (2 ^ 29 ≤ element_count * (element_size.data_words + element_size.pointers))
-            ⊎ (2 ^ 29 ≤ total_words (words_in (A.segments self.entry.memory.now.arena)) +
-            (element_count * (element_size.data_words + element_size.pointers) + 2)))) }
-        ensures* refused { sem 𝓛 (RestsIfErr (the_row A.row)
-            self.entry.memory (λ o. o.memory.ghost_name)
-            result (λ n.
-            (A.segments n.arena ≡ A.segments self.entry.memory.now.arena)
-            × (A.books n.arena ≡ A.books self.entry.memory.now.arena))) }
+        ensures made { let at = state_of A.segments A.room A.books in IfOk result (λ o.
+            MakesStructList (at self.entry.memory.now) (at o.memory.now) self.entry.place
+            element_count element_size o.place) }
+        ensures kind { let at = state_of A.segments A.room A.books in IfErr result
+            (StructsRefused (at self.entry.memory.now) self.entry.place.segment element_count element_size) }
+        ensures* refused { sem 𝓛 (RestsIfErr (the_row A.row) self.entry.memory
+            (λ o. o.memory.ghost_name) result (StaysAt A.segments A.books self.entry.memory.now)) }
     {
         let PointerBuilder { memory, place } = self;
         let place = init_struct_list(&mut memory.arena, place, element_count, element_size)?;
@@ -264,24 +195,14 @@ impl<'a, A: BuilderArena> PointerBuilder<'a, A> {
         requires there { is_some (words_at (words_in (A.segments self.old.memory.now.arena))
             (place_view self.old.place) 1) ≡ true }
         requires near { self.old.place.position < 2 ^ 61 }
-        ensures same { self.new.memory.ghost_name ≡ self.old.memory.ghost_name }
-        ensures place { self.new.place ≡ self.old.place }
-        ensures books { A.books self.new.memory.now.arena ≡ A.books self.old.memory.now.arena }
-        ensures value { IfOk result (λ o.
-            Becomes (words_in (A.segments self.old.memory.now.arena))
-            (words_in (A.segments self.new.memory.now.arena)) (place_view self.old.place)
-            (plain_list 2 (length value.now) (number_of 8 value.now))) }
-        ensures taken { IfOk result (λ o.
-            TakesJust (words_in (A.segments self.old.memory.now.arena))
-            (A.room self.old.memory.now.arena) (words_in (A.segments self.new.memory.now.arena))
-            self.old.place.segment (words_for (8 * length value.now))) }
-        ensures refused { OnErr result
-            (A.segments self.new.memory.now.arena ≡ A.segments self.old.memory.now.arena) }
-        ensures kind { IfErr result (λ e.
-            (e.kind ≡ SizeOverflow)
-            ↔ ((2 ^ 29 ≤ length value.now)
-            ⊎ (2 ^ 29 ≤ total_words (words_in (A.segments self.old.memory.now.arena)) +
-            (words_for (8 * length value.now) + 1)))) }
+        ensures same { (self.new.memory.ghost_name ≡ self.old.memory.ghost_name)
+            × (self.new.place ≡ self.old.place) }
+        ensures made { let at = state_of A.segments A.room A.books in OnOk result
+            (Makes (at self.old.memory.now) (at self.new.memory.now) self.old.place
+            (plain_list 2 (length value.now) (number_of 8 value.now)) (words_for (8 * length value.now))) }
+        ensures refused { let at = state_of A.segments A.room A.books in IfErr result
+            (BytesNotSet (at self.old.memory.now) (at self.new.memory.now)
+            self.old.place.segment (length value.now)) }
     {
         let place = self.place;
         set_data(&mut self.memory.arena, place, value)
@@ -294,24 +215,14 @@ impl<'a, A: BuilderArena> PointerBuilder<'a, A> {
         requires there { is_some (words_at (words_in (A.segments self.old.memory.now.arena))
             (place_view self.old.place) 1) ≡ true }
         requires near { self.old.place.position < 2 ^ 61 }
-        ensures same { self.new.memory.ghost_name ≡ self.old.memory.ghost_name }
-        ensures place { self.new.place ≡ self.old.place }
-        ensures books { A.books self.new.memory.now.arena ≡ A.books self.old.memory.now.arena }
-        ensures value { IfOk result (λ o.
-            Becomes (words_in (A.segments self.old.memory.now.arena))
-            (words_in (A.segments self.new.memory.now.arena)) (place_view self.old.place)
-            (plain_list 2 (length value.now + 1) (number_of 8 value.now))) }
-        ensures taken { IfOk result (λ o.
-            TakesJust (words_in (A.segments self.old.memory.now.arena))
-            (A.room self.old.memory.now.arena) (words_in (A.segments self.new.memory.now.arena))
-            self.old.place.segment (words_for (8 * (length value.now + 1)))) }
-        ensures refused { OnErr result
-            (A.segments self.new.memory.now.arena ≡ A.segments self.old.memory.now.arena) }
-        ensures kind { IfErr result (λ e.
-            (e.kind ≡ SizeOverflow)
-            ↔ ((2 ^ 29 ≤ length value.now + 1)
-            ⊎ (2 ^ 29 ≤ total_words (words_in (A.segments self.old.memory.now.arena)) +
-            (words_for (8 * (length value.now + 1)) + 1)))) }
+        ensures same { (self.new.memory.ghost_name ≡ self.old.memory.ghost_name)
+            × (self.new.place ≡ self.old.place) }
+        ensures made { let at = state_of A.segments A.room A.books in OnOk result
+            (Makes (at self.old.memory.now) (at self.new.memory.now) self.old.place
+            (plain_list 2 (length value.now + 1) (number_of 8 value.now)) (words_for (8 * (length value.now + 1)))) }
+        ensures refused { let at = state_of A.segments A.room A.books in IfErr result
+            (BytesNotSet (at self.old.memory.now) (at self.new.memory.now)
+            self.old.place.segment (length value.now + 1)) }
     {
         let place = self.place;
         set_text(&mut self.memory.arena, place, value)

@@ -89,6 +89,11 @@ impl<'a, A: BuilderArena> StructBuilder<'a, A> {
         ensures place { place_view result.place
             ≡ after (after (place_view self.entry.place.start) self.entry.place.data_words)
             ptr_index }
+        ensures there { is_some (words_at (words_in (A.segments self.entry.memory.now.arena))
+            (place_view self.entry.place.start)
+            (self.entry.place.data_words + self.entry.place.pointers)) ≡ true
+            → is_some (words_at (words_in (A.segments result.memory.now.arena))
+            (place_view result.place) 1) ≡ true }
         ensures near { result.place.position < 2 ^ 61 }
     {
         let StructBuilder { memory, place } = self;

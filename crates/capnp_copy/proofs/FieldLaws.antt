@@ -1,6 +1,7 @@
 -- A number written into a struct's data section.
 use Rattle.std.proofs.Common.{◌≡◌, ℕ, zero, suc, Bool, false, not, eqb, bit_xor, ◌+◌, ◌-◌, ◌*◌, ◌/◌, ◌%◌, ◌^◌, ◌<◌, ◌≤◌, List, [], ◌∷◌, length, take, set, get_or, Some, None, refl, ap, sym, ◌∙◌, subst, arith, true}
 use Rattle.std.specs.List.{slice_get}
+use Rattle.std.specs.Option.{is_some}
 use Rattle.std.specs.Bool.{beq}
 use Rattle.std.proofs.lemmas.Option.{get_or_from_slice_get}
 use Rattle.capnp_model.specs.Sections.{bits_at, with_bits, section_of}
@@ -24,6 +25,7 @@ use Rattle.capnp_footprints.proofs.Lift.{struct_parts}
 use Rattle.capnp_footprints.proofs.Splices.{spliced_one}
 use Rattle.capnp_footprints.proofs.Growing.{word_held}
 use Rattle.capnp_footprints.proofs.Writing.{struct_words}
+use Rattle.capnp_copy.proofs.RoomLaws.{word_there, part_there}
 
 pub word_in : (s : Segments) (p : Place) (d i w : ℕ) (ws : List ℕ) → i < d → words_at s p d ≡ Some ws → word_at s (after p i) ≡ Some w → get_or ws i 0 ≡ w
 word_in s p d i w ws l e f =
@@ -57,6 +59,12 @@ no_word n s p d k i w section kids l o e =
     let one = held_in p (d + k) (after p i) refl (omega arith) (omega (arith, l)) in
     let y = words_there s (span p (d + k) ∷ []) (after p i) ((x.words, x.there), tt) (omega (arith, one, held_is p (d + k) [] (after p i))) in
     not_there s (after p i) y.0 y.1 e
+
+pub no_word_there : (s : Segments) (p : Place) (i d : ℕ) → i < d → is_some (words_at s p d) ≡ true → word_at s (after p i) ≡ None → ⊥
+no_word_there s p i d l there e =
+    let o : is_some (word_at s (after p i)) ≡ true = word_there s (after p i) (part_there s p i d l there) in
+    let none : is_some (word_at s (after p i)) ≡ false = ap is_some e in
+    absurd (cc (o, none))
 
 pub get_field : (n : ℕ) (s : Segments) (p : Place) (d k at width word section : ℕ) (kids : Trees) → word_at s (after p (at / 64)) ≡ Some word → at + width ≤ 64 * d → at + width ≤ at / 64 * 64 + 64 → 0 < width → OwnsObject n s (a_struct p d k) (structure d section kids) → bits_at (at % 64) width word ≡ bits_at at width section
 get_field n s p d k at width word section kids e inside one_word some o =

@@ -18,3 +18,4 @@ pub mod BlobValues
 pub mod ElementLaws
 pub mod Taken
 pub mod ByteSets
+pub mod Parts

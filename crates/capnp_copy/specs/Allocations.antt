@@ -1,5 +1,5 @@
 -- Words that an arena allocates.
-use Rattle.std.specs.Prelude.{◌≡◌, ℕ, ◌+◌, ◌^◌, ◌*◌, ◌<◌, ◌≤◌, List, [], ◌∷◌, length, map, take, get_or}
+use Rattle.std.specs.Prelude.{◌≡◌, ℕ, ◌+◌, ◌-◌, ◌^◌, ◌*◌, ◌<◌, ◌≤◌, List, [], ◌∷◌, length, map, take, get_or}
 use Rattle.capnp_model.specs.Segments.{Segments}
 use Rattle.capnp_units.specs.Segments.{whole_words}
 use Rattle.capnp_footprints.specs.Writes.{with_zeros, segment_end}
@@ -23,6 +23,14 @@ HasRoom s free i n = (i < length s) × (n ≤ get_or free i 0) × (total_words s
 -- Where the ith segment had room for so many words, just these are new in the message, so that no word is a new pad. The list tells the free words of each segment.
 abbrev pub TakesJust : Segments → List ℕ → Segments → ℕ → ℕ → Type 0
 TakesJust s free u i n = HasRoom s free i n → map length u ≡ map length (with_zeros s i n)
+
+-- At most so many words are new in the message, and so many more for pads; none where no words are wanted.
+abbrev pub TakesAtMost : Segments → Segments → ℕ → ℕ → Type 0
+TakesAtMost s u n pads = (total_words u ≤ total_words s + (n + pads)) × (n ≡ 0 → total_words u ≤ total_words s)
+
+-- Words are wanted, and the ith segment has no room for so many, nor has the last for these and a pad's. The list tells the free words of each segment.
+abbrev pub NoRoom : Segments → List ℕ → ℕ → ℕ → Type 0
+NoRoom s free i n = (0 < n) × (HasRoom s free i n → ⊥) × (HasRoom s free (length s - 1) (n + 1) → ⊥)
 
 -- What is told of each, summed up.
 unfoldable pub total_of : {X : Type 0} → (X → ℕ) → List X → ℕ

@@ -1,7 +1,7 @@
 -- The elements of lists that are built.
-use Rattle.std.specs.Prelude.{ℕ, ◌+◌, ◌*◌, ◌<◌, ◌≤◌, ◌^◌, ◌==◌, if◌then◌else◌}
+use Rattle.std.specs.Prelude.{◌≡◌, ◌⊎◌, Some, ℕ, ◌+◌, ◌*◌, ◌<◌, ◌≤◌, ◌^◌, ◌==◌, if◌then◌else◌}
 use Rattle.capnp_model.specs.Sections.{words_for, bits_at, with_bits}
-use Rattle.capnp_model.specs.Segments.{Segments, Place, after}
+use Rattle.capnp_model.specs.Segments.{Segments, Place, after, word_at}
 use Rattle.capnp_model.specs.Pointers.{Object, a_list}
 use Rattle.capnp_model.specs.Trees.{plain_list, size_bits}
 use Rattle.capnp_units.specs.Sizes.{size_number}
@@ -20,7 +20,18 @@ first_element o = after (place_view o.start) (if size_number o.size == 7 then 1 
 abbrev pub HasElements : Segments → ListPlace → Type 0
 HasElements s o =
     AreThere s (first_element o) (words_for (step_bits (size_number o.size) o.data_words o.pointers * o.count))
-    × (o.start.position + 1 + step_words (size_number o.size) o.data_words o.pointers * o.count < 2 ^ 61)
+    × ((first_element o).position + step_words (size_number o.size) o.data_words o.pointers * o.count < 2 ^ 61)
+
+-- A list lies whole: its elements' words are there, pointers all, and all words of structs with their tag, which hold the elements.
+abbrev pub IsWhole : Segments → ListPlace → Type 0
+IsWhole s o =
+    HasElements s o
+    × (size_number o.size ≡ 6 → AreThere s (place_view o.start) o.count)
+    × (size_number o.size ≡ 7 → AreThere s (place_view o.start) (1 + o.claimed) × (o.count * (o.data_words + o.pointers) ≤ o.claimed))
+
+-- The empty list of a null pointer, or one that lies whole.
+abbrev pub LiesAt : Segments → Place → ListPlace → Type 0
+LiesAt s p o = ((word_at s p ≡ Some 0) × (o.count ≡ 0)) ⊎ IsWhole s o
 
 -- The list of plain elements there.
 abbrev pub plain_at : ListPlace → Object

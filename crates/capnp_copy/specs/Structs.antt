@@ -1,12 +1,13 @@
 -- What is read and written in a struct's data section, in the words of the model.
-use Rattle.std.specs.Prelude.{ℕ, ◌+◌, ◌*◌, ◌/◌, ◌<◌, ◌≤◌}
+use Rattle.std.specs.Prelude.{◌≡◌, ℕ, ◌+◌, ◌*◌, ◌/◌, ◌<◌, ◌≤◌, [], ◌∷◌}
 use Rattle.capnp_model.specs.Sections.{bits_at, with_bits}
-use Rattle.capnp_model.specs.Segments.{Segments}
+use Rattle.capnp_model.specs.Segments.{Segments, after}
 use Rattle.capnp_model.specs.Pointers.{Object, a_struct}
 use Rattle.capnp_model.specs.Trees.{Trees, structure}
 use Rattle.capnp_wire.specs.Places.{place_view}
 use Rattle.capnp_footprints.specs.Footprints.{OwnsObject}
 use Rattle.capnp_footprints.specs.Changes.{ReplacesObject}
+use Rattle.capnp_footprints.specs.Writes.{with_words}
 use Rattle.capnp_copy.specs.declared.fields.StructPlace.{StructPlace}
 
 -- The struct there.
@@ -24,3 +25,7 @@ HasBits s p at width Is = (n section : ℕ) (kids : Trees) → OwnsObject n s (s
 -- Whatever value the struct there has: these bits of its section become the number, and nothing else changes.
 abbrev pub SetsBits : Segments → Segments → StructPlace → ℕ → ℕ → ℕ → Type 0
 SetsBits s u p at width value = (n section : ℕ) (kids : Trees) → OwnsObject n s (struct_at p) (structure p.data_words section kids) → ReplacesObject n s u (struct_at p) (structure p.data_words (with_bits at width value section) kids)
+
+-- The word of the section in which this bit lies is written, and no other word of the message.
+abbrev pub WritesWord : Segments → Segments → StructPlace → ℕ → Type 0
+WritesWord s u p at = (word : ℕ) × (u ≡ with_words s (after (place_view p.start) (at / 64)) (word ∷ []))

@@ -33,6 +33,7 @@ pub trait BuilderArena: ReaderArena {
         ensures full { IfNone result
             (HasRoom (words_in (Self.segments self.old)) (room self.old) segment words → ⊥) }
         ensures none { IfNone result (Self.segments self.new ≡ Self.segments self.old) }
+        ensures kept { IfNone result (room self.new ≡ room self.old) }
         ensures books { books self.new ≡ books self.old };
 
     /// Allocates zero words in any segment, which is a new one only where the last has no room. It is refused with `SizeOverflow` just where the message's words would pass 2^29 - 1, else as the allocator refuses; then nothing is allocated.

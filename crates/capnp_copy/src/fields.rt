@@ -4,7 +4,7 @@ ghost use Rattle.std.specs.Option.{is_some};
 ghost use Rattle.capnp_model.specs.Segments.{words_at};
 ghost use Rattle.capnp_units.specs.Segments.{words_in};
 ghost use Rattle.capnp_wire.specs.Places.{place_view};
-ghost use Rattle.capnp_copy.specs.Structs.{AreInWord, HasBits, SetsBits};
+ghost use Rattle.capnp_copy.specs.Structs.{AreInWord, HasBits, SetsBits, WritesWord};
 
 use crate::arena::BuilderArena;
 use crate::bits::{bits_in, word_with};
@@ -58,6 +58,8 @@ pub fn set_bits<A: BuilderArena>(
     requires fits { value < 2 ^ width }
     ensures sets { SetsBits (words_in (A.segments arena.old)) (words_in (A.segments arena.new))
         object at width value }
+    ensures word { WritesWord (words_in (A.segments arena.old)) (words_in (A.segments arena.new))
+        object at }
     ensures sizes { map length (words_in (A.segments arena.new))
         ≡ map length (words_in (A.segments arena.old)) }
     ensures books { A.books arena.new ≡ A.books arena.old }

@@ -1,6 +1,7 @@
 //! New values of zeros and nulls in place of others.
 ghost use Rattle.std.specs.Prelude.{◌≡◌, ◌+◌, ◌-◌, ◌*◌, ◌<◌, ◌≤◌, ◌^◌, ◌↔◌, ◌⊎◌, ℕ, true, IfOk, IfErr, OnOk, OnErr};
 ghost use Rattle.std.specs.Option.{is_some};
+ghost use Rattle.capnp_model.specs.Coverage.{Grows};
 ghost use Rattle.capnp_model.specs.Segments.{words_at};
 ghost use Rattle.capnp_model.specs.Trees.{structure, none, resized};
 ghost use Rattle.capnp_units.specs.Segments.{words_in};
@@ -8,7 +9,7 @@ ghost use Rattle.capnp_units.specs.Sizes.{size_number};
 ghost use Rattle.capnp_units.specs.declared.kinds.ErrorKind.TheVariants.{SizeOverflow};
 ghost use Rattle.capnp_wire.specs.Places.{place_view};
 ghost use Rattle.capnp_footprints.specs.NewObjects.{new_tree};
-ghost use Rattle.capnp_copy.specs.Allocations.{total_words, TakesJust};
+ghost use Rattle.capnp_copy.specs.Allocations.{total_words, TakesJust, TakesAtMost, NoRoom};
 ghost use Rattle.capnp_copy.specs.Lists.{list_at, zeros_of, words_of};
 ghost use Rattle.capnp_copy.specs.Structs.{struct_at};
 ghost use Rattle.capnp_copy.specs.Values.{Becomes, BecomesZeros, LeadsTo, LeadsToZeros};
@@ -61,12 +62,19 @@ fn init_zeros<A: BuilderArena>(
     ensures taken { OnOk result
         (TakesJust (words_in (A.segments arena.old)) (A.room arena.old)
         (words_in (A.segments arena.new)) slot.segment words) }
+    ensures bound { OnOk result
+        (TakesAtMost (words_in (A.segments arena.old)) (words_in (A.segments arena.new))
+        words 1) }
+    ensures full { OnErr result
+        (NoRoom (words_in (A.segments arena.old)) (A.room arena.old) slot.segment words) }
     ensures refused { OnErr result (A.segments arena.new ≡ A.segments arena.old) }
     ensures kind { IfErr result (λ e.
         (0 < words)
         × ((e.kind ≡ SizeOverflow)
         ↔ (2 ^ 29 ≤ total_words (words_in (A.segments arena.old)) + (words + 1)))) }
     ensures books { A.books arena.new ≡ A.books arena.old }
+    ensures grows { OnOk result
+        (Grows (words_in (A.segments arena.old)) (words_in (A.segments arena.new))) }
 {
     let room = allocate_near(arena, slot, words)?;
     clear(arena, slot);
@@ -99,12 +107,20 @@ pub fn init_struct<A: BuilderArena>(
     ensures taken { OnOk result
         (TakesJust (words_in (A.segments arena.old)) (A.room arena.old)
         (words_in (A.segments arena.new)) slot.segment (size.data_words + size.pointers)) }
+    ensures bound { OnOk result
+        (TakesAtMost (words_in (A.segments arena.old)) (words_in (A.segments arena.new))
+        (size.data_words + size.pointers) 1) }
+    ensures full { OnErr result
+        (NoRoom (words_in (A.segments arena.old)) (A.room arena.old) slot.segment
+        (size.data_words + size.pointers)) }
     ensures refused { OnErr result (A.segments arena.new ≡ A.segments arena.old) }
     ensures kind { IfErr result (λ e.
         (e.kind ≡ SizeOverflow)
         ↔ (2 ^ 29 ≤ total_words (words_in (A.segments arena.old)) +
         (size.data_words + size.pointers + 1))) }
     ensures books { A.books arena.new ≡ A.books arena.old }
+    ensures grows { OnOk result
+        (Grows (words_in (A.segments arena.old)) (words_in (A.segments arena.new))) }
 {
     let start = init_zeros(arena, slot, size.total(), struct_word(size))?;
     Ok(StructPlace {
@@ -155,6 +171,13 @@ pub fn init_list<A: BuilderArena>(
     ensures taken { OnOk result
         (TakesJust (words_in (A.segments arena.old)) (A.room arena.old)
         (words_in (A.segments arena.new)) slot.segment (words_of (size_number size) count)) }
+    ensures bound { OnOk result
+        (TakesAtMost (words_in (A.segments arena.old)) (words_in (A.segments arena.new))
+        (words_of (size_number size) count) 1) }
+    ensures full { OnErr result
+        ((2 ^ 29 ≤ count)
+        ⊎ NoRoom (words_in (A.segments arena.old)) (A.room arena.old) slot.segment
+        (words_of (size_number size) count)) }
     ensures refused { OnErr result (A.segments arena.new ≡ A.segments arena.old) }
     ensures kind { IfErr result (λ e.
         (e.kind ≡ SizeOverflow)
@@ -162,6 +185,8 @@ pub fn init_list<A: BuilderArena>(
         ⊎ (2 ^ 29 ≤ total_words (words_in (A.segments arena.old)) +
         (words_of (size_number size) count + 1)))) }
     ensures books { A.books arena.new ≡ A.books arena.old }
+    ensures grows { OnOk result
+        (Grows (words_in (A.segments arena.old)) (words_in (A.segments arena.new))) }
 {
     if count > MOST_WORDS {
         return Err(Error::from(ErrorKind::SizeOverflow));

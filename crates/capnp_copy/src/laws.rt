@@ -1,5 +1,5 @@
 //! Laws for callers that build, each the contract of a function that does nothing.
-ghost use Rattle.std.specs.Prelude.{◌≡◌, ℕ, suc, ◌<◌, Ok, length, map, true};
+ghost use Rattle.std.specs.Prelude.{◌≡◌, ℕ, suc, ◌+◌, ◌<◌, ◌≤◌, Ok, length, map, true};
 ghost use Rattle.std.specs.Option.{is_some};
 ghost use Rattle.capnp_model.specs.Segments.{Segments, Place, after, words_at};
 ghost use Rattle.capnp_model.specs.Pointers.{Object, a_struct, Found, found_at};
@@ -26,4 +26,12 @@ pub fn changes_two_pointers_deep()
 pub fn words_that_stay()
     ensures { (s u : Segments) (p : Place) (n : ℕ) → map length u ≡ map length s
         → is_some (words_at s p n) ≡ true → is_some (words_at u p n) ≡ true }
+{}
+
+/// Where words are there, those of a part are.
+pub fn words_in_part()
+    ensures behind { (s : Segments) (p : Place) (i n m : ℕ) → i + n ≤ m
+        → is_some (words_at s p m) ≡ true → is_some (words_at s (after p i) n) ≡ true }
+    ensures front { (s : Segments) (p : Place) (n m : ℕ) → n ≤ m
+        → is_some (words_at s p m) ≡ true → is_some (words_at s p n) ≡ true }
 {}

@@ -7,7 +7,7 @@ ghost use Rattle.capnp_units.specs.Segments.{words_in};
 ghost use Rattle.capnp_units.specs.Sizes.{size_number};
 ghost use Rattle.capnp_units.specs.declared.kinds.ErrorKind.TheVariants.{SizeOverflow};
 ghost use Rattle.capnp_wire.specs.Places.{place_view};
-ghost use Rattle.capnp_copy.specs.Allocations.{total_words};
+ghost use Rattle.capnp_copy.specs.Allocations.{total_words, NoRoom};
 ghost use Rattle.capnp_copy.specs.Rooms.{RoomFor, IsNearWhereRoom, IsAddressed, HasPad, begin_of, slot_word, with_pad, linked};
 
 use crate::arena::BuilderArena;
@@ -61,7 +61,7 @@ pub fn list_word(size: ElementSize, count: u32) -> u64
 
 /// Allocates words for an object that the pointer at a place will name: in the pointer's segment where that has room for them, else behind a pad of one word in any segment, which may be a new one. An object without words takes none. Nothing is written.
 ///
-/// It is refused with `SizeOverflow` just where the message's words would pass 2^29 - 1, the pad counted, else as the allocator refuses; then nothing is allocated.
+/// It is refused with `SizeOverflow` just where the message's words would pass 2^29 - 1, the pad counted, else as the allocator refuses, which is asked only where neither the pointer's segment has room for the words nor the last for these and a pad; then nothing is allocated.
 pub fn allocate_near<A: BuilderArena>(arena: &mut A, slot: Place, words: u32) -> Result<Room>
     requires there { is_some (word_at (words_in (A.segments arena.old)) (place_view slot)) ≡ true }
     requires few { words ≤ 2 ^ 29 }
@@ -75,6 +75,8 @@ pub fn allocate_near<A: BuilderArena>(arena: &mut A, slot: Place, words: u32) ->
         (0 < words)
         × ((e.kind ≡ SizeOverflow)
         ↔ (2 ^ 29 ≤ total_words (words_in (A.segments arena.old)) + (words + 1)))) }
+    ensures full { OnErr result
+        (NoRoom (words_in (A.segments arena.old)) (A.room arena.old) slot.segment words) }
     ensures books { A.books arena.new ≡ A.books arena.old }
 {
     if words == 0 {

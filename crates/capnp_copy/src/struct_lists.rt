@@ -1,6 +1,7 @@
 //! New lists of structs in place of other values.
 ghost use Rattle.std.specs.Prelude.{◌≡◌, ◌+◌, ◌-◌, ◌*◌, ◌<◌, ◌≤◌, ◌^◌, ◌↔◌, ◌⊎◌, ℕ, true, IfOk, IfErr, OnOk, OnErr};
 ghost use Rattle.std.specs.Option.{is_some};
+ghost use Rattle.capnp_model.specs.Coverage.{Grows};
 ghost use Rattle.capnp_model.specs.Segments.{words_at};
 ghost use Rattle.capnp_model.specs.Trees.{struct_list};
 ghost use Rattle.capnp_model.specs.Encoding.{struct_pointer};
@@ -9,7 +10,7 @@ ghost use Rattle.capnp_units.specs.Sizes.{size_number};
 ghost use Rattle.capnp_units.specs.declared.kinds.ErrorKind.TheVariants.{SizeOverflow};
 ghost use Rattle.capnp_wire.specs.Places.{place_view};
 ghost use Rattle.capnp_footprints.specs.NewObjects.{zero_elements};
-ghost use Rattle.capnp_copy.specs.Allocations.{total_words, TakesJust};
+ghost use Rattle.capnp_copy.specs.Allocations.{total_words, TakesJust, TakesAtMost, NoRoom};
 ghost use Rattle.capnp_copy.specs.Lists.{list_at};
 ghost use Rattle.capnp_copy.specs.Values.{Becomes, LeadsTo};
 
@@ -76,6 +77,13 @@ pub fn init_struct_list<A: BuilderArena>(
         (TakesJust (words_in (A.segments arena.old)) (A.room arena.old)
         (words_in (A.segments arena.new)) slot.segment
         (1 + count * (size.data_words + size.pointers))) }
+    ensures bound { OnOk result
+        (TakesAtMost (words_in (A.segments arena.old)) (words_in (A.segments arena.new))
+        (1 + count * (size.data_words + size.pointers)) 1) }
+    ensures full { OnErr result
+        ((2 ^ 29 ≤ count) ⊎ (2 ^ 29 ≤ count * (size.data_words + size.pointers))
+        ⊎ NoRoom (words_in (A.segments arena.old)) (A.room arena.old) slot.segment
+        (1 + count * (size.data_words + size.pointers))) }
     ensures refused { OnErr result (A.segments arena.new ≡ A.segments arena.old) }
     ensures kind { IfErr result (λ e.
         (e.kind ≡ SizeOverflow)
@@ -83,6 +91,8 @@ pub fn init_struct_list<A: BuilderArena>(
         ⊎ (2 ^ 29 ≤ total_words (words_in (A.segments arena.old)) +
         (count * (size.data_words + size.pointers) + 2)))) }
     ensures books { A.books arena.new ≡ A.books arena.old }
+    ensures grows { OnOk result
+        (Grows (words_in (A.segments arena.old)) (words_in (A.segments arena.new))) }
 {
     let words = words_of_structs(count, size)?;
     let room = allocate_near(arena, slot, 1 + words)?;

@@ -203,13 +203,3 @@ pub known_short : (s : Segments) (o : ListPlace) (d k : ℕ) → Known s o → (
 known_short s o d k (plain_known l claims few there) narrow zeros = few
 known_short s o d k (pointers_known size claims there) narrow zeros = let one = one_pointer (size_number o.size) o.pointers (ap size_number size) in absurd (omega (arith, one, zeros))
 known_short s o d k (structs_known size ws there tag) narrow zeros = absurd (narrow (size, omega (arith, zeros), omega (arith, zeros)))
-
--- the elements' words as handles ask for them
-pub has_elements : (s : Segments) (o : ListPlace) → o.size ≡ InlineComposite → HasStructs s o → HasElements s o
-has_elements s o size h = of_number (size_number o.size) (ap size_number size)
-  where
-    of_number : (z : ℕ) → z ≡ 7 → AreThere s (after (place_view o.start) (cond (eqb z 7) 1 0)) (words_for (step_bits z o.data_words o.pointers * o.count)) × (o.start.position + 1 + step_words z o.data_words o.pointers * o.count < 2 ^ 61)
-    of_number z e =
-        let many : o.count * (o.data_words + o.pointers) ≡ words_for (64 * (o.data_words + o.pointers) * o.count) = omega arith in
-        let near = h.1 in
-        rw e ((subst (λ (n : ℕ). is_some (words_at s (after (place_view o.start) 1) n) ≡ true) many h.0, omega (arith, near, many)), omega (arith, near))

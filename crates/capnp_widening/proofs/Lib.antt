@@ -5,7 +5,9 @@ pub mod MovedRows
 pub mod WiderRooms
 pub mod WidenedStructs
 pub mod ObjectsThere
+pub mod WholeLists
 pub mod GotStructs
+pub mod Bounds
 pub mod MovedLists
 pub mod FilledLists
 pub mod SpreadPointers

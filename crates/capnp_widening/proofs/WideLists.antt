@@ -12,6 +12,7 @@ use Rattle.capnp_model.proofs.Chaining.{bind_some, bind_ok, some_is, ok_is}
 use Rattle.capnp_units.specs.Sizes.{size_number}
 use Rattle.capnp_units.specs.declared.errors.Error.{Error}
 use Rattle.capnp_units.specs.declared.sizes.ElementSize.TheVariants.{InlineComposite}
+use Rattle.capnp_copy.specs.Elements.{IsWhole}
 use Rattle.capnp_wire.specs.Elements.{element_bits, element_pointers}
 use Rattle.capnp_wire.specs.Places.{place_view}
 use Rattle.capnp_object.specs.declared.place.Place as code
@@ -29,7 +30,7 @@ use Rattle.capnp_copy.specs.declared.init.ListPlace.{ListPlace}
 use Rattle.capnp_copy.specs.Lists.{list_at}
 use Rattle.capnp_copy.specs.Values.{LeadsTo}
 use Rattle.capnp_copy.proofs.ElementLaws.{is_plain}
-use Rattle.capnp_widening.specs.MovedElements.{least_words, least_pointers, IsOfList, HasStructs, as_structs}
+use Rattle.capnp_widening.specs.MovedElements.{least_words, least_pointers, IsOfList, as_structs}
 use Rattle.capnp_widening.specs.Widened.{GrowthRefused, TakesNear}
 use Rattle.capnp_widening.specs.WidenedLists.{list_there, IsWideList, WidensList, words_wanted, HasWideList, StructsGot, ListTakes, ListRefused}
 use Rattle.capnp_widening.proofs.GotStructs.{padded_enough, padded_most, same_object}
@@ -38,7 +39,7 @@ use Rattle.capnp_widening.specs.Got.{list_in}
 use Rattle.capnp_widening.proofs.FilledLists.{struct_words, struct_pointers, structs_shape}
 use Rattle.capnp_widening.proofs.SpreadPointers.{one_pointer}
 use Rattle.capnp_widening.proofs.CopiedNumbers.{plain_shape, one_data_word}
-use Rattle.capnp_widening.proofs.KnownLists.{Known, plain_known, pointers_known, structs_known, known_trees, has_elements}
+use Rattle.capnp_widening.proofs.KnownLists.{Known, plain_known, pointers_known, structs_known, known_trees}
 
 -- ---- elements that are padded
 
@@ -163,10 +164,10 @@ most_list_widens s u p old d k d' k' leads known ed ek r = λ n t o. (
 
 -- ---- what is given
 
-pub null_got : (s : Segments) (slot : code.Place) (old : ListPlace) (d k : ℕ) → list_there s slot ≡ Ok old → old.size ≡ InlineComposite → word_at s (place_view slot) ≡ Some 0 → StructsGot s s slot d k old
-null_got s slot old d k there size e = record { old = old; was_there = there; of_structs = size; as_many = refl; given = inl (e, refl) }
+pub null_got : (s : Segments) (slot : code.Place) (old : ListPlace) (d k : ℕ) → list_there s slot ≡ Ok old → old.size ≡ InlineComposite → old.count ≡ 0 → word_at s (place_view slot) ≡ Some 0 → StructsGot s s slot d k old
+null_got s slot old d k there size empty e = record { old = old; was_there = there; of_structs = size; as_many = refl; given = inl (e, refl, empty) }
 
-pub wide_got : (s : Segments) (slot : code.Place) (old : ListPlace) (d k : ℕ) → list_there s slot ≡ Ok old → LeadsTo s (place_view slot) (list_at old) → HasStructs s old → IsWideList old d k → StructsGot s s slot d k old
+pub wide_got : (s : Segments) (slot : code.Place) (old : ListPlace) (d k : ℕ) → list_there s slot ≡ Ok old → LeadsTo s (place_view slot) (list_at old) → IsWhole s old → IsWideList old d k → StructsGot s s slot d k old
 wide_got s slot old d k there leads has wide =
     let words = struct_words (size_number old.size) old.data_words (ap size_number wide.0) in
     let pointers = struct_pointers (size_number old.size) old.pointers (ap size_number wide.0) in
@@ -177,7 +178,7 @@ wide_got s slot old d k there leads has wide =
       was_there = there;
       of_structs = wide.0;
       as_many = refl;
-      given = inr (leads, omega (arith, words, ld), omega (arith, pointers, lk), has_elements s old wide.0 has);
+      given = inr (leads, omega (arith, words, ld), omega (arith, pointers, lk), has);
     }
 
 pub refused_list : (s : Segments) (slot : code.Place) (old : ListPlace) (d k d' k' : ℕ) (e : Error) → list_there s slot ≡ Ok old → (word_at s (place_view slot) ≡ Some 0 → ⊥) → (IsWideList old d k → ⊥) → d' ≡ max d (least_words old) → k' ≡ max k (least_pointers old) → GrowthRefused s (words_wanted old d' k') e → ListRefused s (place_view slot) (list_there s slot) d k e
@@ -190,22 +191,22 @@ refused_list s slot old d k d' k' e there some narrow ed ek r =
 null_found : (s : Segments) (p : Place) → word_at s p ≡ Some 0 → LeadsTo s p nothing
 null_found s p e = (0, rw e refl)
 
--- the empty list of a null pointer is one of structs
-null_in : (s : Segments) (slot : code.Place) (o : ListPlace) (f : Found) → object_at s (place_view slot) ≡ Ok f → list_in slot InlineComposite f.object ≡ Ok o → word_at s (place_view slot) ≡ Some 0 → o.size ≡ InlineComposite
+-- the list of a null pointer is one of structs, and empty
+null_in : (s : Segments) (slot : code.Place) (o : ListPlace) (f : Found) → object_at s (place_view slot) ≡ Ok f → list_in slot InlineComposite f.object ≡ Ok o → word_at s (place_view slot) ≡ Some 0 → (o.size ≡ InlineComposite) × (o.count ≡ 0)
 null_in s slot o f there is e =
     let named = named_at s (place_view slot) f there in
     let leads = null_found s (place_view slot) e in
     let same = same_object s (place_view slot) named.object_named nothing (f.pads, named.leads) leads in
     let null : f.object ≡ object.Null = sym (ok_is _ _ (ap (whole s) (sym same) ∙ named.is_whole)) in
     let got = ok_is _ _ (ap (list_in slot InlineComposite) (sym null) ∙ is) in
-    sym (ap (λ (x : ListPlace). x.size) got)
+    (sym (ap (λ (x : ListPlace). x.size) got), sym (ap (λ (x : ListPlace). x.count) got))
 
-pub null_of_structs : (s : Segments) (slot : code.Place) (o : ListPlace) → list_there s slot ≡ Ok o → word_at s (place_view slot) ≡ Some 0 → o.size ≡ InlineComposite
+pub null_of_structs : (s : Segments) (slot : code.Place) (o : ListPlace) → list_there s slot ≡ Ok o → word_at s (place_view slot) ≡ Some 0 → (o.size ≡ InlineComposite) × (o.count ≡ 0)
 null_of_structs s slot o there e = let x = bind_ok (object_at s (place_view slot)) _ o there in null_in s slot o x.0 x.1 x.2 e
 
 pub new_got : (s u : Segments) (slot : code.Place) (old : ListPlace) (d k d' k' : ℕ) → list_there s slot ≡ Ok old → d' ≡ max d (least_words old) → k' ≡ max k (least_pointers old)
-    → (r : Result ListPlace Error) → IfOk r (λ o. LeadsTo u (place_view slot) (list_at o)) → IfOk r (λ o. (o.size ≡ InlineComposite) × (o.count ≡ old.count) × (o.data_words ≡ d') × (o.pointers ≡ k')) → IfOk r (HasStructs u) → IfOk r (StructsGot s u slot d k)
-new_got s u slot old d k d' k' there ed ek (Ok o) leads list has = record { old = old; was_there = there; of_structs = list.0; as_many = list.1; given = inr (leads, list.2 ∙ ed, list.3 ∙ ek, has_elements u o list.0 has) }
+    → (r : Result ListPlace Error) → IfOk r (λ o. LeadsTo u (place_view slot) (list_at o)) → IfOk r (λ o. (o.size ≡ InlineComposite) × (o.count ≡ old.count) × (o.data_words ≡ d') × (o.pointers ≡ k')) → IfOk r (IsWhole u) → IfOk r (StructsGot s u slot d k)
+new_got s u slot old d k d' k' there ed ek (Ok o) leads list has = record { old = old; was_there = there; of_structs = list.0; as_many = list.1; given = inr (leads, list.2 ∙ ed, list.3 ∙ ek, has) }
 new_got s u slot old d k d' k' there ed ek (Err e) leads list has = tt
 
 -- ---- the words that are taken

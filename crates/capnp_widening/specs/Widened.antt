@@ -1,5 +1,5 @@
 -- Structs that are widened. (Encoding, "Structs")
-use Rattle.std.specs.Prelude.{◌≡◌, ◌↔◌, ◌⊎◌, ℕ, suc, max, ◌+◌, ◌*◌, ◌^◌, ◌<◌, ◌≤◌, List, Option, Some, None, Result, Ok, Err}
+use Rattle.std.specs.Prelude.{◌≡◌, ◌↔◌, ◌⊎◌, ℕ, suc, max, length, ◌+◌, ◌-◌, ◌*◌, ◌^◌, ◌<◌, ◌≤◌, List, Option, Some, None, Result, Ok, Err}
 use Rattle.capnp_model.specs.Kinds.{Kind}
 use Rattle.capnp_model.specs.Segments.{Segments, Place, after}
 use Rattle.capnp_model.specs.Pointers.{a_struct}
@@ -14,7 +14,7 @@ use Rattle.capnp_object.specs.declared.object.Object.TheVariants as object
 use Rattle.capnp_object.specs.declared.object.Found.{Found}
 use Rattle.capnp_footprints.specs.Footprints.{Owns}
 use Rattle.capnp_footprints.specs.Changes.{Replaces}
-use Rattle.capnp_copy.specs.Allocations.{total_words, TakesJust}
+use Rattle.capnp_copy.specs.Allocations.{total_words, HasRoom, TakesJust, TakesAtMost, NoRoom}
 use Rattle.capnp_copy.specs.Rooms.{RoomFor, begin_of}
 use Rattle.capnp_copy.specs.Values.{LeadsTo}
 use Rattle.capnp_copy.specs.declared.room.Room.{Room}
@@ -28,6 +28,11 @@ WiderRoom s u p segment n pads room (Some q) = RoomFor s u p (n + pads) room × 
 abbrev pub TakesNear : Segments → List ℕ → Segments → ℕ → ℕ → ℕ → Type 0
 TakesNear s free u i j n = (i ≡ j → TakesJust s free u j n) × ((i ≡ j → ⊥) → TakesJust s free u j (1 + n))
 
+-- So many words and pads are refused only where neither the jth segment has room for the words, and for a pad's where the pointer is in another, nor the last for all.
+abbrev pub NoWiderRoom : Segments → List ℕ → ℕ → ℕ → ℕ → ℕ → Type 0
+NoWiderRoom s free i j n pads =
+    (i ≡ j → HasRoom s free j n → ⊥) × ((i ≡ j → ⊥) → HasRoom s free j (1 + n) → ⊥) × (HasRoom s free (length s - 1) (1 + (n + pads)) → ⊥)
+
 -- Whatever value is owned there is widened to at least so many data words and pointers, null to a struct of just these, and nothing else changes.
 abbrev pub Widens : Segments → Segments → Place → ℕ → ℕ → Type 0
 Widens s u p d k = (n : ℕ) (t : Tree) → Owns n s p t → Replaces (suc n) s u p (widened d k t)
@@ -35,6 +40,27 @@ Widens s u p d k = (n : ℕ) (t : Tree) → Owns n s p t → Replaces (suc n) s 
 -- The pointer at a place leads to a struct of at least these sizes.
 abbrev pub IsWide : Segments → Place → ℕ → ℕ → Type 0
 IsWide s p d k = (a : Place) × (w : ℕ) × (m : ℕ) × LeadsTo s p (a_struct a w m) × (d ≤ w) × (k ≤ m)
+
+-- The words that a struct of at least these sizes takes in place of an object, which the pointer in the ith segment leads to: just its own where there is room, at most a pad's more for null, and for a narrower one also two for each pointer of the old.
+abbrev pub ObjectTakes : Segments → List ℕ → Segments → ℕ → Object → ℕ → ℕ → Type 0
+ObjectTakes s free u i object.Null d k = TakesJust s free u i (d + k) × TakesAtMost s u (d + k) 1
+ObjectTakes s free u i (object.Struct p w m) d k = ((w < d) ⊎ (m < k) → TakesNear s free u i p.segment (max d w + max k m)) × TakesAtMost s u (max d w + max k m) (1 + 2 * m)
+ObjectTakes s free u i _ d k = Unit {0}
+
+-- the same of what is found
+abbrev pub StructTakes : Segments → List ℕ → Segments → ℕ → Result Found Kind → ℕ → ℕ → Type 0
+StructTakes s free u i (Err kind) d k = Unit {0}
+StructTakes s free u i (Ok f) d k = ObjectTakes s free u i f.object d k
+
+-- There was no room for such a struct.
+abbrev pub ObjectLacks : Segments → List ℕ → ℕ → Object → ℕ → ℕ → Type 0
+ObjectLacks s free i object.Null d k = NoRoom s free i (d + k)
+ObjectLacks s free i (object.Struct p w m) d k = NoWiderRoom s free i p.segment (max d w + max k m) (2 * m)
+ObjectLacks s free i _ d k = Unit {0}
+
+abbrev pub StructLacks : Segments → List ℕ → ℕ → Result Found Kind → ℕ → ℕ → Type 0
+StructLacks s free i (Err kind) d k = Unit {0}
+StructLacks s free i (Ok f) d k = ObjectLacks s free i f.object d k
 
 -- So many words more are refused: with `SizeOverflow` just where the message's words would pass 2^29 - 1.
 abbrev pub GrowthRefused : Segments → ℕ → Error → Type 0

@@ -1,5 +1,5 @@
 -- Lists that are got as lists of structs, and widened. (Encoding, "Lists")
-use Rattle.std.specs.Prelude.{◌≡◌, ◌⊎◌, ℕ, suc, max, ◌+◌, ◌*◌, ◌≤◌, List, Some, Result, Ok, Err}
+use Rattle.std.specs.Prelude.{◌≡◌, ◌⊎◌, ℕ, suc, max, ◌+◌, ◌*◌, ◌^◌, ◌≤◌, List, Some, Result, Ok, Err}
 use Rattle.capnp_model.specs.Chains.{◌and_then◌}
 use Rattle.capnp_model.specs.Kinds.{Kind}
 use Rattle.capnp_model.specs.Segments.{Segments, Place, word_at}
@@ -12,13 +12,14 @@ use Rattle.capnp_object.specs.declared.place.Place as code
 use Rattle.capnp_object.specs.Objects.{object_at}
 use Rattle.capnp_footprints.specs.Footprints.{Owns}
 use Rattle.capnp_footprints.specs.Changes.{Replaces}
-use Rattle.capnp_copy.specs.Elements.{HasElements}
+use Rattle.capnp_copy.specs.Elements.{IsWhole}
 use Rattle.capnp_copy.specs.Lists.{list_at}
 use Rattle.capnp_copy.specs.Values.{LeadsTo}
 use Rattle.capnp_copy.specs.declared.init.ListPlace.{ListPlace}
 use Rattle.capnp_widening.specs.Got.{list_in}
 use Rattle.capnp_widening.specs.MovedElements.{as_structs, least_words, least_pointers}
-use Rattle.capnp_widening.specs.Widened.{GrowthRefused, TakesNear}
+use Rattle.capnp_copy.specs.Allocations.{TakesAtMost}
+use Rattle.capnp_widening.specs.Widened.{GrowthRefused, TakesNear, NoWiderRoom}
 
 -- The list that the pointer at a place names, of elements that can be structs, else the kind of the fault: a list of bits can't.
 abbrev pub list_there : Segments → code.Place → Result ListPlace Kind
@@ -40,17 +41,30 @@ HasWideList s slot d k = (word_at s (place_view slot) ≡ Some 0) ⊎ ((o : List
 abbrev pub words_wanted : ListPlace → ℕ → ℕ → ℕ
 words_wanted o d k = o.count * (d + k) + 2 + 2 * (o.count * least_pointers o)
 
--- The list of structs that is given in place of one: as many elements, of the greater of both sizes, where the pointer leads; null's is the empty one at the pointer itself.
+-- The list of structs that is given in place of one: as many elements, of the greater of both sizes, where the pointer leads, and whole; null's is the empty one at the pointer itself.
 pub record StructsGot (s u : Segments) (slot : code.Place) (d k : ℕ) (o : ListPlace) : Type 0 where
   pub old : ListPlace
   pub was_there : list_there s slot ≡ Ok old
   pub of_structs : o.size ≡ InlineComposite
   pub as_many : o.count ≡ old.count
-  pub given : ((word_at s (place_view slot) ≡ Some 0) × (o ≡ old)) ⊎ (LeadsTo u (place_view slot) (list_at o) × (o.data_words ≡ max d (least_words old)) × (o.pointers ≡ max k (least_pointers old)) × HasElements u o)
+  pub given : ((word_at s (place_view slot) ≡ Some 0) × (o ≡ old) × (o.count ≡ 0)) ⊎ (LeadsTo u (place_view slot) (list_at o) × (o.data_words ≡ max d (least_words old)) × (o.pointers ≡ max k (least_pointers old)) × IsWhole u o)
 
 -- Where a list is widened whose segment had room for the new one, just the words of the new one, its tag and a pad are new in the message, so that no pad is taken without need.
 abbrev pub ListTakes : Segments → List ℕ → Segments → code.Place → ℕ → ℕ → Type 0
 ListTakes s free u slot d k = (o : ListPlace) → list_there s slot ≡ Ok o → (HasWideList s slot d k → ⊥) → TakesNear s free u slot.segment o.start.segment (1 + o.count * (max d (least_words o) + max k (least_pointers o)))
+
+-- The words of a new list of structs with its tag.
+abbrev pub words_of_structs : ListPlace → ℕ → ℕ → ℕ
+words_of_structs o d k = 1 + o.count * (max d (least_words o) + max k (least_pointers o))
+
+-- A list takes at most the words of the new one, its tag, a pad, and two for each pointer of the old.
+abbrev pub ListTakesAtMost : Segments → Segments → code.Place → ℕ → ℕ → Type 0
+ListTakesAtMost s u slot d k = (o : ListPlace) → list_there s slot ≡ Ok o → TakesAtMost s u (words_of_structs o d k) (1 + 2 * (o.count * least_pointers o))
+
+-- There was no room for a new list in place of one.
+abbrev pub ListLacks : Segments → List ℕ → ℕ → Result ListPlace Kind → ℕ → ℕ → Type 0
+ListLacks s free i (Err kind) d k = Unit {0}
+ListLacks s free i (Ok o) d k = NoWiderRoom s free i o.start.segment (words_of_structs o d k) (2 * (o.count * least_pointers o)) ⊎ (2 ^ 29 ≤ words_wanted o (max d (least_words o)) (max k (least_pointers o)))
 
 -- Why no such list is given: what is there is no list, or one of bits; or the words of a new list in place of a narrower one are refused.
 abbrev pub ListRefused : Segments → Place → Result ListPlace Kind → ℕ → ℕ → Error → Type 0

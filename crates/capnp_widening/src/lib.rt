@@ -2,12 +2,8 @@
 #![tactic(auto)]
 
 mod elements;
-#[cfg(test)]
-mod list_tests;
 pub mod lists;
 mod moves;
 mod room;
 pub mod struct_lists;
 pub mod structs;
-#[cfg(test)]
-mod tests;

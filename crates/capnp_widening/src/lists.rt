@@ -10,6 +10,7 @@ ghost use Rattle.capnp_units.specs.declared.sizes.ElementSize.TheVariants.{Inlin
 ghost use Rattle.capnp_wire.specs.Places.{place_view, seen};
 ghost use Rattle.capnp_wire.specs.Reads.{list_head};
 ghost use Rattle.capnp_object.specs.Objects.{object_at};
+ghost use Rattle.capnp_copy.specs.Elements.{LiesAt};
 ghost use Rattle.capnp_copy.specs.Lists.{list_at};
 ghost use Rattle.capnp_copy.specs.Values.{LeadsTo};
 ghost use Rattle.capnp_widening.specs.Got.{list_in};
@@ -41,7 +42,7 @@ fn is_accepted(expected: ElementSize, size: ElementSize, data_words: u16, pointe
     }
 }
 
-/// The list that the pointer at a place names, near or far, with elements that can be read as ones of the expected size: bits only as bits, other plain elements and pointers as elements with as many bits and pointers at most, structs as what their first data word or their first pointer can be. A null pointer has the empty list of the expected size, at the pointer itself. Nothing is written.
+/// The list that the pointer at a place names, near or far, with elements that can be read as ones of the expected size: bits only as bits, other plain elements and pointers as elements with as many bits and pointers at most, structs as what their first data word or their first pointer can be. A null pointer has the empty list of the expected size, at the pointer itself; every other list lies whole. Nothing is written.
 ///
 /// It is refused as a reader refuses what is there (`object_at`), with `WrongPointerKind` where a struct or a capability is there, and with `WrongElementSize` where the elements can't be read so.
 #[tactic(auto, unfolding(capnp_object::specs::Objects::object_at))]
@@ -55,6 +56,7 @@ pub fn get_list<A: ReaderArena>(arena: &A, slot: Place, expected: ElementSize) -
     ensures structs { IfOk result (λ o.
         (word_at (words_in (A.segments arena.now)) (place_view slot) ≡ Some 0)
         ⊎ (o.size ≡ InlineComposite → HasStructs (words_in (A.segments arena.now)) o)) }
+    ensures inside { IfOk result (LiesAt (words_in (A.segments arena.now)) (place_view slot)) }
 {
     let found = found_at(arena, slot)?;
     let list = match whole(arena, found.object)? {

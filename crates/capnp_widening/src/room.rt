@@ -4,7 +4,7 @@ ghost use Rattle.std.specs.Option.{is_some};
 ghost use Rattle.capnp_model.specs.Segments.{word_at};
 ghost use Rattle.capnp_units.specs.Segments.{words_in};
 ghost use Rattle.capnp_wire.specs.Places.{place_view};
-ghost use Rattle.capnp_widening.specs.Widened.{WiderRoom, TakesNear, GrowthRefused};
+ghost use Rattle.capnp_widening.specs.Widened.{WiderRoom, TakesNear, NoWiderRoom, GrowthRefused};
 
 use capnp_copy::arena::BuilderArena;
 use capnp_copy::room::Room;
@@ -34,6 +34,9 @@ pub fn allocate_wider<A: BuilderArena>(
     ensures refused { OnErr result (A.segments arena.new ≡ A.segments arena.old) }
     ensures kind { IfErr result
         (GrowthRefused (words_in (A.segments arena.old)) (1 + (words + pads))) }
+    ensures full { OnErr result
+        (NoWiderRoom (words_in (A.segments arena.old)) (A.room arena.old) slot.segment segment
+        words pads) }
     ensures books { A.books arena.new ≡ A.books arena.old }
 {
     if slot.segment == segment {

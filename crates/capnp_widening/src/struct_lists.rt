@@ -1,16 +1,18 @@
 //! Lists that are got as lists of structs, and widened.
-ghost use Rattle.std.specs.Prelude.{◌≡◌, ◌+◌, ◌*◌, ◌<◌, ◌≤◌, ◌^◌, ◌↔◌, ℕ, true, Ok, IfOk, IfErr, OnOk, OnErr};
+ghost use Rattle.std.specs.Prelude.{◌≡◌, ◌⊎◌, ◌+◌, ◌*◌, ◌<◌, ◌≤◌, ◌^◌, ◌↔◌, ℕ, true, Ok, IfOk, IfErr, OnOk, OnErr};
 ghost use Rattle.std.specs.Option.{is_some};
 ghost use Rattle.capnp_model.specs.Segments.{words_at};
 ghost use Rattle.capnp_units.specs.Segments.{words_in};
 ghost use Rattle.capnp_units.specs.declared.kinds.ErrorKind.TheVariants.{SizeOverflow};
 ghost use Rattle.capnp_units.specs.declared.sizes.ElementSize.TheVariants.{InlineComposite};
 ghost use Rattle.capnp_wire.specs.Places.{place_view};
+ghost use Rattle.capnp_copy.specs.Allocations.{TakesAtMost};
+ghost use Rattle.capnp_copy.specs.Elements.{IsWhole};
 ghost use Rattle.capnp_copy.specs.Lists.{list_at};
 ghost use Rattle.capnp_copy.specs.Values.{LeadsTo};
 ghost use Rattle.capnp_widening.specs.MovedElements.{least_words, least_pointers, HasStructs};
-ghost use Rattle.capnp_widening.specs.Widened.{TakesNear, GrowthRefused};
-ghost use Rattle.capnp_widening.specs.WidenedLists.{list_there, WidensList, IsWideList, HasWideList, words_wanted, StructsGot, ListTakes, ListRefused};
+ghost use Rattle.capnp_widening.specs.Widened.{TakesNear, NoWiderRoom, GrowthRefused};
+ghost use Rattle.capnp_widening.specs.WidenedLists.{list_there, WidensList, IsWideList, HasWideList, words_wanted, StructsGot, ListTakes, ListTakesAtMost, ListLacks, ListRefused};
 
 use crate::elements::fill_elements;
 use crate::lists::get_list;
@@ -94,10 +96,20 @@ fn widen_list<A: BuilderArena>(
         (o.size ≡ InlineComposite) × (o.count ≡ old.count) × (o.data_words ≡ size.data_words)
         × (o.pointers ≡ size.pointers)) }
     ensures there { IfOk result (HasStructs (words_in (A.segments arena.new))) }
+    ensures inside { IfOk result (IsWhole (words_in (A.segments arena.new))) }
     ensures taken { OnOk result
         (TakesNear (words_in (A.segments arena.old)) (A.room arena.old)
         (words_in (A.segments arena.new)) slot.segment old.start.segment
         (1 + old.count * (size.data_words + size.pointers))) }
+    ensures bound { OnOk result
+        (TakesAtMost (words_in (A.segments arena.old)) (words_in (A.segments arena.new))
+        (1 + old.count * (size.data_words + size.pointers))
+        (1 + 2 * (old.count * least_pointers old))) }
+    ensures full { OnErr result
+        (NoWiderRoom (words_in (A.segments arena.old)) (A.room arena.old) slot.segment
+        old.start.segment (1 + old.count * (size.data_words + size.pointers))
+        (2 * (old.count * least_pointers old))
+        ⊎ (2 ^ 29 ≤ words_wanted old size.data_words size.pointers)) }
     ensures refused { OnErr result (A.segments arena.new ≡ A.segments arena.old) }
     ensures kind { IfErr result
         (GrowthRefused (words_in (A.segments arena.old))
@@ -146,6 +158,12 @@ pub fn get_struct_list<A: BuilderArena>(
     ensures taken { OnOk result
         (ListTakes (words_in (A.segments arena.old)) (A.room arena.old)
         (words_in (A.segments arena.new)) slot size.data_words size.pointers) }
+    ensures bound { OnOk result
+        (ListTakesAtMost (words_in (A.segments arena.old)) (words_in (A.segments arena.new)) slot
+        size.data_words size.pointers) }
+    ensures full { OnErr result
+        (ListLacks (words_in (A.segments arena.old)) (A.room arena.old) slot.segment
+        (list_there (words_in (A.segments arena.old)) slot) size.data_words size.pointers) }
     ensures wide { HasWideList (words_in (A.segments arena.old)) slot size.data_words
         size.pointers → A.segments arena.new ≡ A.segments arena.old }
     ensures refused { OnErr result (A.segments arena.new ≡ A.segments arena.old) }

@@ -1,13 +1,14 @@
 //! Structs that are got, and widened.
-ghost use Rattle.std.specs.Prelude.{◌≡◌, ◌+◌, ◌-◌, ◌*◌, ◌<◌, ◌≤◌, ◌^◌, ◌↔◌, max, ℕ, true, Ok, IfOk, IfErr, OnErr};
+ghost use Rattle.std.specs.Prelude.{◌≡◌, ◌+◌, ◌-◌, ◌*◌, ◌<◌, ◌≤◌, ◌^◌, ◌↔◌, max, ℕ, true, Ok, IfOk, IfErr, OnOk, OnErr};
 ghost use Rattle.std.specs.Option.{is_some};
 ghost use Rattle.capnp_model.specs.Segments.{after, words_at};
 ghost use Rattle.capnp_units.specs.Segments.{words_in};
 ghost use Rattle.capnp_wire.specs.Places.{place_view};
 ghost use Rattle.capnp_object.specs.Objects.{object_at};
+ghost use Rattle.capnp_copy.specs.Allocations.{TakesAtMost};
 ghost use Rattle.capnp_copy.specs.Structs.{struct_at};
 ghost use Rattle.capnp_copy.specs.Values.{LeadsTo};
-ghost use Rattle.capnp_widening.specs.Widened.{Widens, IsWide, GrowthRefused, StructRefused};
+ghost use Rattle.capnp_widening.specs.Widened.{Widens, IsWide, TakesNear, NoWiderRoom, StructTakes, StructLacks, GrowthRefused, StructRefused};
 
 use crate::moves::{copy_words, move_pointers};
 use crate::room::allocate_wider;
@@ -51,6 +52,16 @@ fn widen_struct<A: BuilderArena>(
         is_some (words_at (words_in (A.segments arena.new)) (place_view o.start)
         (o.data_words + o.pointers)) ≡ true) }
     ensures near { IfOk result (λ o. o.start.position + (o.data_words + o.pointers) < 2 ^ 61) }
+    ensures taken { OnOk result
+        (TakesNear (words_in (A.segments arena.old)) (A.room arena.old)
+        (words_in (A.segments arena.new)) slot.segment old.start.segment
+        (size.data_words + size.pointers)) }
+    ensures bound { OnOk result
+        (TakesAtMost (words_in (A.segments arena.old)) (words_in (A.segments arena.new))
+        (size.data_words + size.pointers) (1 + 2 * old.pointers)) }
+    ensures full { OnErr result
+        (NoWiderRoom (words_in (A.segments arena.old)) (A.room arena.old) slot.segment
+        old.start.segment (size.data_words + size.pointers) (2 * old.pointers)) }
     ensures refused { OnErr result (A.segments arena.new ≡ A.segments arena.old) }
     ensures kind { IfErr result
         (GrowthRefused (words_in (A.segments arena.old))
@@ -108,6 +119,15 @@ pub fn get_struct<A: BuilderArena>(
         is_some (words_at (words_in (A.segments arena.new)) (place_view o.start)
         (o.data_words + o.pointers)) ≡ true) }
     ensures near { IfOk result (λ o. o.start.position + (o.data_words + o.pointers) < 2 ^ 61) }
+    ensures taken { OnOk result
+        (StructTakes (words_in (A.segments arena.old)) (A.room arena.old)
+        (words_in (A.segments arena.new)) slot.segment
+        (object_at (words_in (A.segments arena.old)) (place_view slot)) size.data_words
+        size.pointers) }
+    ensures full { OnErr result
+        (StructLacks (words_in (A.segments arena.old)) (A.room arena.old) slot.segment
+        (object_at (words_in (A.segments arena.old)) (place_view slot)) size.data_words
+        size.pointers) }
     ensures refused { OnErr result (A.segments arena.new ≡ A.segments arena.old) }
     ensures kind { IfErr result
         (StructRefused (words_in (A.segments arena.old))

@@ -5,6 +5,7 @@ use Rattle.capnp_units.specs.declared.sizes.ElementSize.{ElementSize}
 use Rattle.capnp_units.specs.Segments.{words_in}
 use Rattle.capnp_object.specs.declared.place.Place as code
 use Rattle.capnp_wire.specs.Places.{place_view, seen}
+use Rattle.capnp_copy.specs.Elements.{LiesAt}
 use Rattle.capnp_copy.specs.Lists.{list_at}
 use Rattle.capnp_copy.specs.Values.{LeadsTo}
 use Rattle.capnp_copy.specs.declared.init.ListPlace.{ListPlace}
@@ -12,9 +13,9 @@ use Rattle.capnp_builders.specs.Gets.{Begins, list_named, ListGot}
 use Rattle.capnp_builders.proofs.Begun.{Laws, listed_then}
 use Rattle.capnp_builders.proofs.gets.list_here.Goals as goal
 
-got_by : (l : Laws) (default : Option (List (List ℕ))) (s u : Segments) (slot : code.Place) (expected : ElementSize) → Begins default s u (place_view slot) (Ok tt) → (r : Result ListPlace Error) → seen (λ o. o) r ≡ list_named u slot expected → IfOk r (λ o. (word_at u (place_view slot) ≡ Some 0) ⊎ LeadsTo u (place_view slot) (list_at o)) → IfOk r (ListGot default s u slot expected)
-got_by l default s u slot expected b (Err e) is o = tt
-got_by l default s u slot expected b (Ok x) is o = record { begins = b; value = listed_then l default s u (place_view slot) tt b; list = sym is; object = o }
+got_by : (l : Laws) (default : Option (List (List ℕ))) (s u : Segments) (slot : code.Place) (expected : ElementSize) → Begins default s u (place_view slot) (Ok tt) → (r : Result ListPlace Error) → seen (λ o. o) r ≡ list_named u slot expected → IfOk r (λ o. (word_at u (place_view slot) ≡ Some 0) ⊎ LeadsTo u (place_view slot) (list_at o)) → IfOk r (LiesAt u (place_view slot)) → IfOk r (ListGot default s u slot expected)
+got_by l default s u slot expected b (Err e) is o lies = tt
+got_by l default s u slot expected b (Ok x) is o lies = record { begins = b; value = listed_then l default s u (place_view slot) tt b; list = sym is; object = o; inside = lies }
 
 pub returns-clause-got : goal.returns-clause-got
 returns-clause-got g c =
@@ -27,4 +28,4 @@ returns-clause-got g c =
       more_owned = c.changes_with_more_levels.ensures.owned;
       more_replaced = c.changes_with_more_levels.ensures.replaced;
     } in
-    got_by laws (option_copied c.args.default) s u c.args.slot c.args.expected c.in_ok-begin.ensures.begins c.get_list.result c.get_list.ensures.list c.get_list.ensures.object
+    got_by laws (option_copied c.args.default) s u c.args.slot c.args.expected c.in_ok-begin.ensures.begins c.get_list.result c.get_list.ensures.list c.get_list.ensures.object c.get_list.ensures.inside

@@ -10,7 +10,9 @@ use Rattle.capnp_units.specs.declared.sizes.ElementSize.{ElementSize}
 use Rattle.capnp_units.specs.Sizes.{size_number}
 use Rattle.capnp_copy.specs.Values.{Becomes, LeadsTo}
 use Rattle.capnp_copy.proofs.BlobValues.{blob_made}
-use Rattle.capnp_copy.proofs.Taken.{bytes_sizes, takes_so}
+use Rattle.capnp_footprints.proofs.Spans.{grows_then}
+use Rattle.capnp_copy.proofs.RoomLaws.{sizes_grow}
+use Rattle.capnp_copy.proofs.Taken.{bytes_sizes, takes_so, bounds_so}
 use Rattle.capnp_copy.proofs.blobs.set_bytes.Goals as goal
 
 pub write_bytes-requires-clause-there : goal.write_bytes-requires-clause-there
@@ -42,6 +44,14 @@ returns-clause-value g c =
     let all = blob_made s m p (place_view list.list.start) c.args.count ((c.args.count + 7) / 8) c.args.bytes.now (λ i. let h = c.type_inv.bytes i in omega (arith, h)) a.0 same (omega (arith, a.0, a.1)) (omega (arith, a.0, a.1)) there list.ensures.value leads in
     subst (λ (u : Segments). Becomes s u p (plain_list 2 c.args.count (number_of 8 c.args.bytes.now))) (sym c.write_bytes.ensures.words) all
 
+pub returns-clause-grows : goal.returns-clause-grows
+returns-clause-grows g c =
+    let s = words_in (g.A.ReaderArena.segments c.args.arena.now) in
+    let m = words_in (g.A.ReaderArena.segments c.init_list.new.arena) in
+    let u = words_in (g.A.ReaderArena.segments c.write_bytes.new.arena) in
+    let same = ap (λ (x : Segments). map length x) c.write_bytes.ensures.words ∙ bytes_sizes m (place_view c.in_ok-list.list.start) ((c.args.count + 7) / 8) c.args.bytes.now in
+    grows_then s m u c.in_ok-list.ensures.grows (sizes_grow m u same)
+
 pub returns-clause-taken : goal.returns-clause-taken
 returns-clause-taken g c =
     let s = words_in (g.A.ReaderArena.segments c.args.arena.now) in
@@ -50,3 +60,11 @@ returns-clause-taken g c =
     let list = c.in_ok-list.list in
     let same = ap (λ (x : Segments). map length x) c.write_bytes.ensures.words ∙ bytes_sizes m (place_view list.start) ((c.args.count + 7) / 8) c.args.bytes.now in
     takes_so s free m (words_in (g.A.ReaderArena.segments c.write_bytes.new.arena)) c.args.slot.segment (words_for (8 * c.args.count)) same c.in_ok-list.ensures.taken
+
+pub returns-clause-bound : goal.returns-clause-bound
+returns-clause-bound g c =
+    let s = words_in (g.A.ReaderArena.segments c.args.arena.now) in
+    let m = words_in (g.A.ReaderArena.segments c.init_list.new.arena) in
+    let list = c.in_ok-list.list in
+    let same = ap (λ (x : Segments). map length x) c.write_bytes.ensures.words ∙ bytes_sizes m (place_view list.start) ((c.args.count + 7) / 8) c.args.bytes.now in
+    bounds_so s m (words_in (g.A.ReaderArena.segments c.write_bytes.new.arena)) (words_for (8 * c.args.count)) 1 same c.in_ok-list.ensures.bound

@@ -7,7 +7,7 @@ use Rattle.capnp_units.specs.Segments.{words_in}
 use Rattle.capnp_wire.specs.Places.{place_view}
 use Rattle.capnp_footprints.specs.Changes.{ReplacesObject}
 use Rattle.capnp_footprints.specs.Writes.{with_words}
-use Rattle.capnp_copy.proofs.FieldLaws.{set_field, no_word}
+use Rattle.capnp_copy.proofs.FieldLaws.{set_field, no_word, no_word_there}
 use Rattle.capnp_copy.proofs.ZeroedWords.{written_sizes}
 use Rattle.capnp_copy.proofs.fields.set_bits.Goals as goal
 
@@ -19,6 +19,16 @@ returns-in-Some-clause-sets g c = λ n section kids o.
     let now = c.write_word.ensures.words ∙ ap (λ (v : ℕ). with_words s (after p (c.args.at / 64)) (v ∷ [])) c.word_with-word.ensures.bits in
     subst (λ (u : Segments). ReplacesObject n s u (a_struct p c.args.object.data_words c.args.object.pointers) (structure c.args.object.data_words (with_bits c.args.at c.args.width c.args.value section) kids)) (sym now)
     (set_field n s p c.args.object.data_words c.args.object.pointers c.args.at c.args.width c.args.value c.in-Some.word section kids (sym c.in-Some.ensures.word) c.word_with-word.ensures.word i.0 i.1 i.2 c.requires.fits o)
+
+pub returns-in-Some-clause-word : goal.returns-in-Some-clause-word
+returns-in-Some-clause-word g c = (c.word_with-word.result, c.write_word.ensures.words)
+
+pub returns-in_default-clause-word : goal.returns-in_default-clause-word
+returns-in_default-clause-word g c =
+    let s = words_in (g.A.ReaderArena.segments c.args.arena.now) in
+    let p = place_view c.args.object.start in
+    let i = c.requires.inside in
+    absurd (no_word_there s p (c.args.at / 64) c.args.object.data_words (omega (arith, i.0, i.2)) c.requires.there (search rules))
 
 pub returns-in_default-clause-sets : goal.returns-in_default-clause-sets
 returns-in_default-clause-sets g c = λ n section kids o.

@@ -6,9 +6,10 @@ use Rattle.capnp_wire.specs.Places.{place_view}
 use Rattle.capnp_footprints.specs.NewObjects.{New, new_pointer, new_object, new_tree}
 use Rattle.capnp_copy.specs.Rooms.{RoomFor, begin_of, linked}
 use Rattle.capnp_copy.specs.Values.{Becomes, LeadsTo}
+use Rattle.capnp_footprints.proofs.Spans.{grows_then}
 use Rattle.capnp_copy.proofs.RoomLaws.{word_there, sizes_grow, still_some, still_linked, room_addressed, room_grows, room_pad, pad_stays, room_words, room_near}
 use Rattle.capnp_copy.proofs.Making.{made, leads}
-use Rattle.capnp_copy.proofs.Taken.{room_takes, linked_sizes, takes_so}
+use Rattle.capnp_copy.proofs.Taken.{room_takes, room_bounds, linked_sizes, takes_so, bounds_so}
 use Rattle.capnp_copy.proofs.init.init_zeros.Goals as goal
 
 pub allocate_near-requires-clause-there : goal.allocate_near-requires-clause-there
@@ -70,6 +71,17 @@ returns-clause-there g c =
     let now = subst (λ (v : Segments). is_some (words_at v q c.args.words) ≡ true) (sym c.link.ensures.words) kept in
     subst (λ (r : Place). is_some (words_at (words_in (g.A.ReaderArena.segments c.link.new.arena)) r c.args.words) ≡ true) (sym c.begin_of.ensures) now
 
+pub returns-clause-grows : goal.returns-clause-grows
+returns-clause-grows g c =
+    let s = words_in (g.A.ReaderArena.segments c.args.arena.now) in
+    let m = words_in (g.A.ReaderArena.segments c.allocate_near.new.arena) in
+    let u = words_in (g.A.ReaderArena.segments c.clear.new.arena) in
+    let v = words_in (g.A.ReaderArena.segments c.link.new.arena) in
+    let p = place_view c.args.slot in
+    let room = c.in_ok-room.room in
+    let same = ap (λ (x : Segments). map length x) c.link.ensures.words ∙ (linked_sizes u p room c.args.pointer ∙ c.clear.ensures.sizes) in
+    grows_then s m v (room_grows s m p c.args.words room c.in_ok-room.ensures.ok) (sizes_grow m v same)
+
 pub returns-clause-near : goal.returns-clause-near
 returns-clause-near g c =
     let s = words_in (g.A.ReaderArena.segments c.args.arena.now) in
@@ -90,3 +102,13 @@ returns-clause-taken g c =
     let taken = room_takes s free m p c.args.words room c.in_ok-room.ensures.ok c.in_ok-room.ensures.near in
     let same = ap (λ (x : Segments). map length x) c.link.ensures.words ∙ (linked_sizes u p room c.args.pointer ∙ c.clear.ensures.sizes) in
     takes_so s free m (words_in (g.A.ReaderArena.segments c.link.new.arena)) p.segment c.args.words same taken
+
+pub returns-clause-bound : goal.returns-clause-bound
+returns-clause-bound g c =
+    let s = words_in (g.A.ReaderArena.segments c.args.arena.now) in
+    let m = words_in (g.A.ReaderArena.segments c.allocate_near.new.arena) in
+    let u = words_in (g.A.ReaderArena.segments c.clear.new.arena) in
+    let p = place_view c.args.slot in
+    let room = c.in_ok-room.room in
+    let same = ap (λ (x : Segments). map length x) c.link.ensures.words ∙ (linked_sizes u p room c.args.pointer ∙ c.clear.ensures.sizes) in
+    bounds_so s m (words_in (g.A.ReaderArena.segments c.link.new.arena)) c.args.words 1 same (room_bounds s m p c.args.words room c.in_ok-room.ensures.ok)

@@ -11,12 +11,13 @@ use Rattle.capnp_footprints.specs.NewObjects.{new_structs, zero_elements, Fits, 
 use Rattle.capnp_footprints.specs.Writes.{with_words}
 use Rattle.capnp_copy.specs.Rooms.{begin_of, linked}
 use Rattle.capnp_copy.specs.Values.{Becomes, LeadsTo}
+use Rattle.capnp_footprints.proofs.Spans.{grows_then}
 use Rattle.capnp_copy.proofs.RoomLaws.{word_there, sizes_grow, still_some, still_written, still_linked, first_there, room_addressed, room_grows, room_pad, pad_stays, room_words, room_near}
 use Rattle.capnp_footprints.proofs.Splices.{splice_grows}
 use Rattle.capnp_copy.proofs.MakingStructs.{structs_made, structs_lead}
-use Rattle.capnp_copy.specs.Allocations.{TakesJust}
+use Rattle.capnp_copy.specs.Allocations.{TakesJust, TakesAtMost}
 use Rattle.capnp_copy.proofs.ZeroedWords.{written_sizes}
-use Rattle.capnp_copy.proofs.Taken.{room_takes, linked_sizes, takes_so}
+use Rattle.capnp_copy.proofs.Taken.{room_takes, room_bounds, linked_sizes, takes_so, bounds_so}
 use Rattle.capnp_copy.proofs.struct_lists.init_struct_list.Goals as goal
 
 pub allocate_near-requires-clause-there : goal.allocate_near-requires-clause-there
@@ -107,6 +108,19 @@ returns-clause-there g c =
     let now = subst (λ (x : Segments). is_some (words_at x q (1 + n)) ≡ true) (sym c.link.ensures.words) (still_linked v p room c.list_word.result q (1 + n) in_v) in
     subst (λ (r : Place). is_some (words_at (words_in (g.A.ReaderArena.segments c.link.new.arena)) r (1 + n)) ≡ true) (sym c.begin_of-tag.ensures) now
 
+pub returns-clause-grows : goal.returns-clause-grows
+returns-clause-grows g c =
+    let s = words_in (g.A.ReaderArena.segments c.args.arena.now) in
+    let m = words_in (g.A.ReaderArena.segments c.allocate_near.new.arena) in
+    let u = words_in (g.A.ReaderArena.segments c.clear.new.arena) in
+    let v = words_in (g.A.ReaderArena.segments c.write_word.new.self) in
+    let x = words_in (g.A.ReaderArena.segments c.link.new.arena) in
+    let p = place_view c.args.slot in
+    let room = c.in_ok-room.room in
+    let tagged = ap (λ (x : Segments). map length x) c.write_word.ensures.words ∙ (written_sizes u (place_view c.begin_of-tag.result) (c.tag_word.result ∷ []) ∙ c.clear.ensures.sizes) in
+    let same = ap (λ (x : Segments). map length x) c.link.ensures.words ∙ (linked_sizes v p room c.list_word.result ∙ tagged) in
+    grows_then s m x (room_grows s m p (1 + c.in_ok-words.words) room c.in_ok-room.ensures.ok) (sizes_grow m x same)
+
 pub returns-clause-near : goal.returns-clause-near
 returns-clause-near g c =
     let s = words_in (g.A.ReaderArena.segments c.args.arena.now) in
@@ -131,3 +145,17 @@ returns-clause-taken g c =
     let same = ap (λ (x : Segments). map length x) c.link.ensures.words ∙ (linked_sizes v p room c.list_word.result ∙ tagged) in
     let all = takes_so s free m (words_in (g.A.ReaderArena.segments c.link.new.arena)) p.segment (1 + n) same taken in
     subst (λ (k : ℕ). TakesJust s free (words_in (g.A.ReaderArena.segments c.link.new.arena)) p.segment (1 + k)) c.in_ok-words.ensures.words all
+
+pub returns-clause-bound : goal.returns-clause-bound
+returns-clause-bound g c =
+    let s = words_in (g.A.ReaderArena.segments c.args.arena.now) in
+    let m = words_in (g.A.ReaderArena.segments c.allocate_near.new.arena) in
+    let u = words_in (g.A.ReaderArena.segments c.clear.new.arena) in
+    let v = words_in (g.A.ReaderArena.segments c.write_word.new.self) in
+    let p = place_view c.args.slot in
+    let room = c.in_ok-room.room in
+    let n = c.in_ok-words.words in
+    let tagged = ap (λ (x : Segments). map length x) c.write_word.ensures.words ∙ (written_sizes u (place_view c.begin_of-tag.result) (c.tag_word.result ∷ []) ∙ c.clear.ensures.sizes) in
+    let same = ap (λ (x : Segments). map length x) c.link.ensures.words ∙ (linked_sizes v p room c.list_word.result ∙ tagged) in
+    let all = bounds_so s m (words_in (g.A.ReaderArena.segments c.link.new.arena)) (1 + n) 1 same (room_bounds s m p (1 + n) room c.in_ok-room.ensures.ok) in
+    subst (λ (k : ℕ). TakesAtMost s (words_in (g.A.ReaderArena.segments c.link.new.arena)) (1 + k) 1) c.in_ok-words.ensures.words all

@@ -5,8 +5,9 @@ use Rattle.capnp_wire.specs.Places.{place_view}
 use Rattle.capnp_widening.specs.Widened.{GrowthRefused}
 use Rattle.capnp_widening.specs.WidenedLists.{list_there, WidensList, IsWideList, words_wanted, ListRefused}
 use Rattle.capnp_widening.proofs.GotStructs.{ok_then, err_then}
-use Rattle.capnp_widening.proofs.KnownLists.{known, leads_unless_null, structs_unless_null, known_short}
+use Rattle.capnp_widening.proofs.KnownLists.{known, leads_unless_null, known_short}
 use Rattle.capnp_widening.proofs.WideLists.{null_stays, wide_list_stays, most_list_widens, null_got, null_of_structs, wide_got, new_got, refused_list, nothing_taken, list_takes, if_ok_then}
+use Rattle.capnp_widening.proofs.Bounds.{on_ok, on_err, list_takes_none, list_takes_most, list_lacks, whole_unless_null}
 use Rattle.capnp_widening.proofs.struct_lists.get_struct_list.Goals.{then-eq-via-then-eq, then-eq-via-else-eq+then-is_wide}
 use Rattle.capnp_widening.proofs.struct_lists.get_struct_list.Goals as goal
 
@@ -49,12 +50,12 @@ returns-then-eq-clause-list g c =
     let k = c.args.size.pointers in
     let found : list_there s c.args.slot ≡ Ok c.in_ok-old.old = search rules in
     elim c.then-eq.branch [
-      | then-eq-via-then-eq w ↦ (let e : word_at s p ≡ Some 0 = search rules in null_got s c.args.slot old d k found (null_of_structs s c.args.slot old found e) e)
+      | then-eq-via-then-eq w ↦ (let e : word_at s p ≡ Some 0 = search rules in let none = null_of_structs s c.args.slot old found e in null_got s c.args.slot old d k found none.0 none.1 e)
       | then-eq-via-else-eq+then-is_wide w ↦ (
           let some : word_at s p ≡ Some 0 → ⊥ = search rules in
           let leads = leads_unless_null s p old some c.in_ok-old.ensures.object in
           let wide : IsWideList c.in_ok-old.old c.args.size.data_words c.args.size.pointers = search rules in
-          wide_got s c.args.slot old d k found leads (structs_unless_null s p old some c.in_ok-old.ensures.structs wide.0) wide
+          wide_got s c.args.slot old d k found leads (whole_unless_null s p old some c.in_ok-old.ensures.inside) wide
           )
     ]
 
@@ -86,7 +87,7 @@ returns-clause-list g c =
     let least = c.element_size-least.ensures in
     let ed = c.max.ensures ∙ ap (max c.args.size.data_words) least.0 in
     let ek = c.max-2.ensures ∙ ap (max c.args.size.pointers) least.1 in
-    new_got s u c.args.slot old d k c.max.result c.max-2.result found ed ek c.widen_list.result c.widen_list.ensures.object c.widen_list.ensures.list c.widen_list.ensures.there
+    new_got s u c.args.slot old d k c.max.result c.max-2.result found ed ek c.widen_list.result c.widen_list.ensures.object c.widen_list.ensures.list c.widen_list.ensures.inside
 
 pub returns-clause-kind : goal.returns-clause-kind
 returns-clause-kind g c =
@@ -130,3 +131,32 @@ returns-clause-taken g c =
     let ed = c.max.ensures ∙ ap (max c.args.size.data_words) least.0 in
     let ek = c.max-2.ensures ∙ ap (max c.args.size.pointers) least.1 in
     if_ok_then (list_takes s free u c.args.slot old d k c.max.result c.max-2.result found ed ek) c.widen_list.result c.widen_list.ensures.taken
+
+pub returns-then-eq-clause-bound : goal.returns-then-eq-clause-bound
+returns-then-eq-clause-bound g c = list_takes_none (words_in (g.A.ReaderArena.segments c.args.arena.now)) c.args.slot c.args.size.data_words c.args.size.pointers
+
+pub returns-clause-bound : goal.returns-clause-bound
+returns-clause-bound g c =
+    let s = words_in (g.A.ReaderArena.segments c.args.arena.now) in
+    let u = words_in (g.A.ReaderArena.segments c.widen_list.new.arena) in
+    let old = c.in_ok-old.old in
+    let d = c.args.size.data_words in
+    let k = c.args.size.pointers in
+    let found : list_there s c.args.slot ≡ Ok c.in_ok-old.old = search rules in
+    let least = c.element_size-least.ensures in
+    let ed = c.max.ensures ∙ ap (max c.args.size.data_words) least.0 in
+    let ek = c.max-2.ensures ∙ ap (max c.args.size.pointers) least.1 in
+    on_ok (list_takes_most s u c.args.slot old d k c.max.result c.max-2.result found ed ek) c.widen_list.result c.widen_list.ensures.bound
+
+pub returns-clause-full : goal.returns-clause-full
+returns-clause-full g c =
+    let s = words_in (g.A.ReaderArena.segments c.args.arena.now) in
+    let free = g.A.BuilderArena.room c.args.arena.now in
+    let old = c.in_ok-old.old in
+    let d = c.args.size.data_words in
+    let k = c.args.size.pointers in
+    let found : list_there s c.args.slot ≡ Ok c.in_ok-old.old = search rules in
+    let least = c.element_size-least.ensures in
+    let ed = c.max.ensures ∙ ap (max c.args.size.data_words) least.0 in
+    let ek = c.max-2.ensures ∙ ap (max c.args.size.pointers) least.1 in
+    on_err (list_lacks s free c.args.slot.segment (list_there s c.args.slot) old d k c.max.result c.max-2.result found ed ek) c.widen_list.result c.widen_list.ensures.full

@@ -1,4 +1,4 @@
-use Rattle.std.proofs.Common.{◌≡◌, ◌+◌, ◌*◌, ℕ, length, map, true, IfErr, [], ◌∷◌, refl, ap, sym, ◌∙◌, subst, rules, arith}
+use Rattle.std.proofs.Common.{◌≡◌, ◌+◌, ◌*◌, ℕ, length, map, true, IfErr, OnErr, inl, [], ◌∷◌, refl, ap, sym, ◌∙◌, subst, rules, arith}
 use Rattle.std.specs.Option.{is_some}
 use Rattle.capnp_model.specs.Segments.{Segments, Place, after, words_at}
 use Rattle.capnp_model.specs.Pointers.{a_list}
@@ -8,11 +8,15 @@ use Rattle.capnp_units.specs.declared.sizes.ElementSize.TheVariants.{InlineCompo
 use Rattle.capnp_wire.specs.Places.{place_view}
 use Rattle.capnp_footprints.specs.NewObjects.{new_structs, Fits, pointed}
 use Rattle.capnp_footprints.specs.Writes.{with_words}
-use Rattle.capnp_copy.proofs.Taken.{linked_sizes}
+use Rattle.capnp_copy.proofs.Taken.{linked_sizes, bounds_so}
+use Rattle.capnp_copy.specs.Allocations.{TakesAtMost}
+use Rattle.capnp_copy.specs.declared.init.ListPlace.{ListPlace}
+use Rattle.capnp_widening.proofs.Bounds.{on_err, wider_bounds}
+use Rattle.capnp_widening.proofs.WholeLists.{structs_whole}
 use Rattle.capnp_copy.specs.Rooms.{begin_of, linked}
 use Rattle.capnp_copy.specs.Values.{LeadsTo}
 use Rattle.capnp_widening.specs.MovedElements.{least_pointers}
-use Rattle.capnp_widening.specs.Widened.{WiderRoom, TakesNear, GrowthRefused}
+use Rattle.capnp_widening.specs.Widened.{WiderRoom, TakesNear, NoWiderRoom, GrowthRefused}
 use Rattle.capnp_widening.proofs.Standing.{still_some, sizes_grow, sizes_total, written_sizes, part_there, front_there, has_word, pads_stay, pad_stays, still_linked, within_total}
 use Rattle.capnp_widening.proofs.KnownLists.{known, known_trees, known_list}
 use Rattle.capnp_widening.proofs.WiderRooms.{wider_addressed, wider_words, wider_extends, linked_leads}
@@ -305,3 +309,68 @@ returns-clause-taken g c =
     let same : map length u ≡ map length m = ap (λ (v : Segments). map length v) c.link.ensures.words ∙ (linked_sizes z p room c.list_word.result ∙ sizes) in
     let all = near_so s free m u c.args.slot.segment segment (1 + words) same c.in_ok-room.ensures.near in
     subst (λ (k : ℕ). TakesNear s free u c.args.slot.segment segment (1 + k)) c.in_ok-words.ensures.words.0 all
+
+pub returns-clause-inside : goal.returns-clause-inside
+returns-clause-inside g c =
+    let s = words_in (g.A.ReaderArena.segments c.args.arena.now) in
+    let m = words_in (g.A.ReaderArena.segments c.allocate_wider.new.arena) in
+    let p = place_view c.args.slot in
+    let many = c.args.old.count * least_pointers c.args.old in
+    let segment = c.args.old.start.segment in
+    let words = c.in_ok-words.words in
+    let room = c.in_ok-room.room in
+    let pads = c.in_ok-room.pads in
+    let b = begin_of (place_view c.args.slot) c.in_ok-room.room in
+    let r : WiderRoom s m p segment (1 + c.in_ok-words.words) (2 * (c.args.old.count * least_pointers c.args.old)) room pads = subst (λ (j : ℕ). WiderRoom s m p segment (1 + c.in_ok-words.words) j room pads) c.in_ok-words.ensures.words.1 c.in_ok-room.ensures.ok in
+    let w = wider_words s m p segment (1 + words) many room pads (omega arith) r in
+    let grows = (wider_extends s m p segment (1 + words) (2 * many) room pads r).0 in
+    let x = words_in (g.A.ReaderArena.segments c.write_word.new.self) in
+    let tagged : map length x ≡ map length m = ap (λ (v : Segments). map length v) c.write_word.ensures.words ∙ written_sizes m (place_view c.begin_of.result) (c.tag_word.result ∷ []) in
+    let y = words_in (g.A.ReaderArena.segments c.fill_elements.new.arena) in
+    let z = words_in (g.A.ReaderArena.segments c.clear.new.arena) in
+    let sizes : map length z ≡ map length m = c.clear.ensures.sizes ∙ c.fill_elements.ensures.sizes ∙ tagged in
+    let u = words_in (g.A.ReaderArena.segments c.link.new.arena) in
+    let links : u ≡ linked z p room (list_pointer 0 7 c.in_ok-words.words) = c.link.ensures.words ∙ ap (linked z (place_view c.args.slot) c.in_ok-room.room) c.list_word.ensures.word in
+    let count = c.in_ok-words.ensures.words.0 in
+    let here = still_linked z p room c.list_word.result b (1 + words) (still_some m z b (1 + words) (sizes_grow m z sizes) w.words_there) in
+    let there : is_some (words_at u b (1 + c.in_ok-words.words)) ≡ true = subst (λ (v : Segments). is_some (words_at v b (1 + c.in_ok-words.words)) ≡ true) (sym c.link.ensures.words) here in
+    let at = ap (λ (q : Place). q.position) c.begin_of.ensures in
+    let all = within_total m b (1 + words) w.words_there in
+    let new : ListPlace = record { start = c.begin_of.result; size = InlineComposite; claimed = c.in_ok-words.words; count = c.args.old.count; data_words = c.args.size.data_words; pointers = c.args.size.pointers } in
+    structs_whole u new refl (subst (λ (q : Place). is_some (words_at u q (1 + c.in_ok-words.words)) ≡ true) (sym c.begin_of.ensures) there, omega (arith, all, at, w.few)) (omega (arith, count))
+
+pub returns-clause-bound : goal.returns-clause-bound
+returns-clause-bound g c =
+    let s = words_in (g.A.ReaderArena.segments c.args.arena.now) in
+    let m = words_in (g.A.ReaderArena.segments c.allocate_wider.new.arena) in
+    let p = place_view c.args.slot in
+    let many = c.args.old.count * least_pointers c.args.old in
+    let segment = c.args.old.start.segment in
+    let words = c.in_ok-words.words in
+    let room = c.in_ok-room.room in
+    let pads = c.in_ok-room.pads in
+    let b = begin_of (place_view c.args.slot) c.in_ok-room.room in
+    let r : WiderRoom s m p segment (1 + c.in_ok-words.words) (2 * (c.args.old.count * least_pointers c.args.old)) room pads = subst (λ (j : ℕ). WiderRoom s m p segment (1 + c.in_ok-words.words) j room pads) c.in_ok-words.ensures.words.1 c.in_ok-room.ensures.ok in
+    let w = wider_words s m p segment (1 + words) many room pads (omega arith) r in
+    let grows = (wider_extends s m p segment (1 + words) (2 * many) room pads r).0 in
+    let x = words_in (g.A.ReaderArena.segments c.write_word.new.self) in
+    let tagged : map length x ≡ map length m = ap (λ (v : Segments). map length v) c.write_word.ensures.words ∙ written_sizes m (place_view c.begin_of.result) (c.tag_word.result ∷ []) in
+    let y = words_in (g.A.ReaderArena.segments c.fill_elements.new.arena) in
+    let z = words_in (g.A.ReaderArena.segments c.clear.new.arena) in
+    let sizes : map length z ≡ map length m = c.clear.ensures.sizes ∙ c.fill_elements.ensures.sizes ∙ tagged in
+    let u = words_in (g.A.ReaderArena.segments c.link.new.arena) in
+    let links : u ≡ linked z p room (list_pointer 0 7 c.in_ok-words.words) = c.link.ensures.words ∙ ap (linked z (place_view c.args.slot) c.in_ok-room.room) c.list_word.ensures.word in
+    let same : map length u ≡ map length m = ap (λ (v : Segments). map length v) c.link.ensures.words ∙ (linked_sizes z p room c.list_word.result ∙ sizes) in
+    let all = bounds_so s m u (1 + words) (1 + 2 * many) same (wider_bounds s m p segment (1 + words) (2 * many) room pads (omega arith) r) in
+    subst (λ (k : ℕ). TakesAtMost s u (1 + k) (1 + 2 * (c.args.old.count * least_pointers c.args.old))) c.in_ok-words.ensures.words.0 all
+
+pub returns-in_err-room-clause-full : goal.returns-in_err-room-clause-full
+returns-in_err-room-clause-full g c =
+    let s = words_in (g.A.ReaderArena.segments c.args.arena.now) in
+    let free = g.A.BuilderArena.room c.args.arena.now in
+    let i = c.args.slot.segment in
+    let j = c.args.old.start.segment in
+    let h : OnErr c.from_residual-in_err-room.result (NoWiderRoom s free i j (1 + c.in_ok-words.words) c.in_ok-words.pad_words) = search rules in
+    let h1 = subst (λ (n : ℕ). OnErr c.from_residual-in_err-room.result (NoWiderRoom s free i j (1 + n) c.in_ok-words.pad_words)) c.in_ok-words.ensures.words.0 h in
+    let h2 = subst (λ (n : ℕ). OnErr c.from_residual-in_err-room.result (NoWiderRoom s free i j (1 + c.args.old.count * (c.args.size.data_words + c.args.size.pointers)) n)) c.in_ok-words.ensures.words.1 h1 in
+    on_err inl c.from_residual-in_err-room.result h2

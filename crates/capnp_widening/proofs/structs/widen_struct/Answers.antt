@@ -1,4 +1,4 @@
-use Rattle.std.proofs.Common.{◌≡◌, ◌+◌, ◌*◌, ◌<◌, ℕ, length, map, true, ap, sym, ◌∙◌, subst, arith}
+use Rattle.std.proofs.Common.{◌≡◌, ◌+◌, ◌*◌, ◌<◌, ℕ, length, map, true, ap, sym, ◌∙◌, subst, OnErr, rules, arith}
 use Rattle.std.specs.Option.{is_some}
 use Rattle.capnp_model.specs.Segments.{Segments, Place, after, words_at}
 use Rattle.capnp_model.specs.Pointers.{a_struct}
@@ -9,9 +9,12 @@ use Rattle.capnp_footprints.specs.NewObjects.{new_struct}
 use Rattle.capnp_copy.specs.Rooms.{begin_of, linked}
 use Rattle.capnp_copy.specs.Values.{LeadsTo}
 use Rattle.capnp_widening.specs.Moves.{CopiesWords, MovesRow, pads_of}
-use Rattle.capnp_widening.specs.Widened.{WiderRoom}
+use Rattle.capnp_widening.specs.Widened.{WiderRoom, TakesNear, NoWiderRoom}
 use Rattle.capnp_widening.proofs.Standing.{still_some, sizes_grow, sizes_total, part_there, front_there, has_word, pads_stay, pad_stays, still_linked, within_total}
 use Rattle.capnp_widening.proofs.WiderRooms.{wider_addressed, wider_words, wider_extends, linked_leads}
+use Rattle.capnp_copy.proofs.Taken.{linked_sizes, bounds_so}
+use Rattle.capnp_widening.proofs.Bounds.{wider_bounds}
+use Rattle.capnp_widening.proofs.WidenedLists.{near_so}
 use Rattle.capnp_widening.proofs.WidenedStructs.{struct_widened, some_pointer}
 use Rattle.capnp_widening.proofs.structs.widen_struct.Goals as goal
 
@@ -371,3 +374,49 @@ returns-clause-near g c =
     let l = within_total m b (d + k) w.words_there in
     let at = ap (λ (q : Place). q.position) c.begin_of-start.ensures in
     omega (arith, l, at, w.few)
+
+pub returns-clause-taken : goal.returns-clause-taken
+returns-clause-taken g c =
+    let s = words_in (g.A.ReaderArena.segments c.args.arena.now) in
+    let m = words_in (g.A.ReaderArena.segments c.allocate_wider.new.arena) in
+    let p = place_view c.args.slot in
+    let d = c.args.size.data_words in
+    let k = c.args.size.pointers in
+    let k0 = c.args.old.pointers in
+    let room = c.in_ok-room.room in
+    let pads = c.in_ok-room.pads in
+    let segment = c.args.old.start.segment in
+    let z = words_in (g.A.ReaderArena.segments c.clear.new.arena) in
+    let sizes : map length z ≡ map length m = c.clear.ensures.sizes ∙ c.move_pointers.ensures.sizes ∙ c.copy_words.ensures.sizes in
+    let u = words_in (g.A.ReaderArena.segments c.link.new.arena) in
+    let same : map length u ≡ map length m = ap (λ (v : Segments). map length v) c.link.ensures.words ∙ (linked_sizes z p room c.struct_word.result ∙ sizes) in
+    let free = g.A.BuilderArena.room c.args.arena.now in
+    let all = near_so s free m u c.args.slot.segment segment c.total.result same c.in_ok-room.ensures.near in
+    subst (λ (n : ℕ). TakesNear s free u c.args.slot.segment segment n) c.total.ensures all
+
+pub returns-clause-bound : goal.returns-clause-bound
+returns-clause-bound g c =
+    let s = words_in (g.A.ReaderArena.segments c.args.arena.now) in
+    let m = words_in (g.A.ReaderArena.segments c.allocate_wider.new.arena) in
+    let p = place_view c.args.slot in
+    let d = c.args.size.data_words in
+    let k = c.args.size.pointers in
+    let k0 = c.args.old.pointers in
+    let room = c.in_ok-room.room in
+    let pads = c.in_ok-room.pads in
+    let segment = c.args.old.start.segment in
+    let z = words_in (g.A.ReaderArena.segments c.clear.new.arena) in
+    let sizes : map length z ≡ map length m = c.clear.ensures.sizes ∙ c.move_pointers.ensures.sizes ∙ c.copy_words.ensures.sizes in
+    let u = words_in (g.A.ReaderArena.segments c.link.new.arena) in
+    let same : map length u ≡ map length m = ap (λ (v : Segments). map length v) c.link.ensures.words ∙ (linked_sizes z p room c.struct_word.result ∙ sizes) in
+    let r : WiderRoom s m p c.args.old.start.segment (c.args.size.data_words + c.args.size.pointers) (2 * c.args.old.pointers) room pads = subst (λ (j : ℕ). WiderRoom s m p c.args.old.start.segment j (2 * c.args.old.pointers) room pads) c.total.ensures c.in_ok-room.ensures.ok in
+    bounds_so s m u (d + k) (1 + 2 * k0) same (wider_bounds s m p segment (d + k) (2 * k0) room pads c.requires.wider.2 r)
+
+pub returns-in_err-room-clause-full : goal.returns-in_err-room-clause-full
+returns-in_err-room-clause-full g c =
+    let s = words_in (g.A.ReaderArena.segments c.args.arena.now) in
+    let free = g.A.BuilderArena.room c.args.arena.now in
+    let i = c.args.slot.segment in
+    let j = c.args.old.start.segment in
+    let h : OnErr c.from_residual.result (NoWiderRoom s free i j c.total.result (2 * c.args.old.pointers)) = search rules in
+    subst (λ (n : ℕ). OnErr c.from_residual.result (NoWiderRoom s free i j n (2 * c.args.old.pointers))) c.total.ensures h

@@ -1,0 +1,75 @@
+-- A value's canonical words, and their plain copy.
+use Rattle.std.specs.Bool.{⊤}
+use Rattle.std.proofs.Common.{◌≡◌, ◌⊎◌, ℕ, ◌+◌, ◌≤◌, List, [], ◌∷◌, ◌++◌, length, Option, None, Some, Result, Ok, Err, refl, ap, sym, ◌∙◌, subst, inl, inr}
+use Rattle.std.proofs.lemmas.List.{append-nil}
+use Rattle.capnp_model.specs.Segments.{Segments, Place, root}
+use Rattle.capnp_model.specs.Trees.{Tree, has_capability}
+use Rattle.capnp_model.specs.Trimming.{trim}
+use Rattle.capnp_model.specs.Traversal.{tree_at}
+use Rattle.capnp_model.specs.Visits.{Visit, visits, visits_cost}
+use Rattle.capnp_model.specs.Encoding.{canonical_words}
+use Rattle.capnp_model.proofs.Chaining.{bind_some, some_is}
+use Rattle.capnp_units.specs.declared.errors.Error.{Error}
+use Rattle.capnp_units.specs.declared.kinds.ErrorKind.{ErrorKind}
+use Rattle.capnp_units.specs.declared.limiter.ReadLimiter.{ReadLimiter}
+use Rattle.capnp_units.specs.Limits.{less, left_of, granted_of}
+use Rattle.capnp_object.specs.Walks.{Walked, Stopped, CannotPass}
+use Rattle.capnp_footprints.proofs.Algebra.{changes_nothing}
+use Rattle.capnp_canonical.specs.Copies.{copy_visits, Halted, Written, Filled, room_of}
+use Rattle.capnp_copy_from.specs.Copies.{BecomesCopy, CopiesValue, FollowsFew, Unplaced}
+use Rattle.capnp_copy_canonical.specs.Canonical.{IsRead, IsFree, canonical_message, CopiesCanonical, HasNoRoom}
+
+-- ---- what is written
+
+-- What is written of a value, with the words in use and the cost.
+abbrev pub Wrote : ℕ → Segments → Place → List (List ℕ) → ReadLimiter → ℕ → List (List ℕ) → ReadLimiter → Type 0
+Wrote n from q lent old end into new = Written (tree_at n from q) has_capability (λ t words. canonical_words (trim t)) (copy_visits n from q) 1 1 lent old end into new
+
+-- ---- how many pointers are followed
+
+module _ (path : List Visit) (begun : (before rest : List Visit) (paid : ℕ) → path ≡ before ++ rest → visits_cost before ≡ Some paid → length before ≤ paid + 1) where
+  pub walked_few : (old new : ReadLimiter) → Walked path old new → FollowsFew old new
+  walked_few old new x = record { granted = x.cost; followed = length path; spends = x.spends; follows = x.follows; few = begun path [] x.cost (sym (append-nil path)) x.cost_is }
+
+  pub stopped_few : ((before : List Visit) (last : Visit) (behind : List Visit) (paid : ℕ) → path ≡ before ++ last ∷ behind → visits_cost before ≡ Some paid → length before + 1 ≤ paid + 1) → (lent : List (List ℕ)) (old : ReadLimiter) (e : Error) (into : List (List ℕ)) (new : ReadLimiter) → Halted path 1 lent old e into new → FollowsFew old new
+  stopped_few stopped lent old e into new h = by h.why
+    where
+      by : Stopped path old e new ⊎ Filled path (room_of lent) 1 old e new → FollowsFew old new
+      by (inl x) = record { granted = x.paid; followed = length x.before + 1; spends = x.spends; follows = x.follows; few = stopped x.before x.last x.behind x.paid x.path_is x.cost_is }
+      by (inr x) = let w = x.walked in record { granted = w.cost; followed = length x.before; spends = w.spends; follows = w.follows; few = begun x.before x.rest w.cost x.path_is w.cost_is }
+
+-- ---- the copy
+
+pub halted : (n : ℕ) (from : Segments) (q : Place) (lent : List (List ℕ)) (s : Segments) (p : Place) (old : ReadLimiter) (e : Error) (into : List (List ℕ)) (new : ReadLimiter) (r : Result ⊤ Error) (d : Error) → r ≡ Err d → d ≡ e → Halted (copy_visits n from q) 1 lent old e into new → CopiesCanonical n from q lent s s p old r new
+halted n from q lent s p old e into new r d is same h =
+    subst (λ (y : Result ⊤ Error). CopiesCanonical n from q lent s s p old y new) (sym (is ∙ ap (λ (y : Error). Err y) same)) (record { left = changes_nothing s (λ q. 0); why = inl (refl, h.why) })
+
+-- a walk without faults and without a limit isn't stopped
+passes : (before : List Visit) (last : Visit) (behind : List Visit) (cost paid : ℕ) (why : ErrorKind) → visits_cost (before ++ last ∷ behind) ≡ Some cost → CannotPass None paid last why → ⊥
+passes [] (Ok words) behind cost paid why e x = x.1
+passes [] (Err kind) behind cost paid why e x = absurd cc
+passes (Err kind ∷ before) last behind cost paid why e x = absurd cc
+passes (Ok words ∷ before) last behind cost paid why e x =
+    let y = bind_some (visits_cost (before ++ last ∷ behind)) _ cost e in
+    passes before last behind y.0 paid why y.1 x
+
+unstopped : (path : List Visit) (cost : ℕ) (start stop : ReadLimiter) (e : Error) → visits_cost path ≡ Some cost → IsFree start → Stopped path start e stop → ⊥
+unstopped path cost start stop e is free x =
+    let none : left_of start ≡ None = ap (λ (o : Option ℕ). less o (granted_of start)) free.endless in
+    passes x.before x.last x.behind cost x.paid e.kind (ap visits_cost (sym x.path_is) ∙ is) (subst (λ (o : Option ℕ). CannotPass o x.paid x.last e.kind) none x.why)
+
+pub copied : (n : ℕ) (from : Segments) (q : Place) (lent : List (List ℕ)) (s u : Segments) (p : Place) (old new start stop : ReadLimiter) (r : Result ⊤ Error) (t : Tree) (cost : ℕ) → IsRead n from q t old new → tree_at n (canonical_message t) root ≡ Some (trim t) → visits_cost (visits n (canonical_message t) root) ≡ Some cost → IsFree start
+    → CopiesValue n (canonical_message t) root s u p start r stop → CopiesCanonical n from q lent s u p old r new
+copied n from q lent s u p old new start stop (Ok x) t cost read means costs free g =
+    record {
+      value = t;
+      read = read;
+      grows = g.grows;
+      takes = record { start = start; end = stop; free = free; walked = g.walked; takes = g.takes };
+      becomes = subst (BecomesCopy n s u p) (some_is _ _ (sym g.there_is ∙ means)) g.made;
+    }
+copied n from q lent s u p old new start stop (Err e) t cost read means costs free g = record { left = g.left; why = inr (by g.why) }
+  where
+    by : Stopped (visits n (canonical_message t) root) start e stop ⊎ Unplaced (canonical_message t) (visits n (canonical_message t) root) u start e stop → HasNoRoom n from q s u old e new
+    by (inl x) = absurd (unstopped (visits n (canonical_message t) root) cost start stop e costs free x)
+    by (inr x) = record { value = t; read = read; start = start; end = stop; free = free; unplaced = x; takes = g.takes }

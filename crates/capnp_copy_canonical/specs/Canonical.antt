@@ -1,0 +1,74 @@
+-- Canonical copies into an arena, by way of lent words. (Encoding, "Canonicalization")
+use Rattle.std.specs.Prelude.{◌≡◌, ◌⊎◌, ⊤, ℕ, ◌+◌, ◌≤◌, false, List, [], ◌∷◌, None, Some, Result, Ok, Err}
+use Rattle.capnp_model.specs.Segments.{Segments, Place, root}
+use Rattle.capnp_model.specs.Trees.{Tree, has_capability}
+use Rattle.capnp_model.specs.Trimming.{trim}
+use Rattle.capnp_model.specs.Traversal.{tree_at}
+use Rattle.capnp_model.specs.Coverage.{Grows}
+use Rattle.capnp_model.specs.Visits.{visits}
+use Rattle.capnp_model.specs.Encoding.{canonical_words}
+use Rattle.capnp_units.specs.declared.errors.Error.{Error}
+use Rattle.capnp_units.specs.declared.limiter.ReadLimiter.{ReadLimiter}
+use Rattle.capnp_units.specs.Limits.{Spends, limit_of, granted_of}
+use Rattle.capnp_object.specs.Walks.{Walked, Stopped}
+use Rattle.capnp_canonical.specs.Copies.{copy_visits, Behind, Filled, room_of}
+use Rattle.capnp_copy_from.specs.Copies.{BecomesCopy, GrowsByZeros, TakesFew, Unplaced}
+
+-- A value without a capability is there, and the visits of a canonical copy were made.
+pub record IsRead (n : ℕ) (from : Segments) (q : Place) (t : Tree) (old new : ReadLimiter) : Type 0 where
+  pub there_is : tree_at n from q ≡ Some t
+  pub clean : has_capability t ≡ false
+  pub walked : Walked (copy_visits n from q) old new
+
+-- The message of a value's canonical words.
+abbrev pub canonical_message : Tree → Segments
+canonical_message t = canonical_words (trim t) ∷ []
+
+-- A count of words from none on, under no limit.
+pub record IsFree (start : ReadLimiter) : Type 0 where
+  pub endless : limit_of start ≡ None
+  pub unused : granted_of start ≡ 0
+
+-- No more words were allocated than twice those that a walk over the canonical message costs.
+pub record TakesCopy (n : ℕ) (t : Tree) (s u : Segments) : Type 0 where
+  pub start : ReadLimiter
+  pub end : ReadLimiter
+  pub free : IsFree start
+  pub walked : Walked (visits n (canonical_message t) root) start end
+  pub takes : TakesFew s u start end
+
+-- The trimmed value is put in place of that of the pointer at p.
+pub record Canonical (n : ℕ) (from : Segments) (q : Place) (s u : Segments) (p : Place) (old new : ReadLimiter) : Type 0 where
+  pub value : Tree
+  pub read : IsRead n from q value old new
+  pub grows : Grows s u
+  pub takes : TakesCopy n value s u
+  pub becomes : BecomesCopy n s u p (trim value)
+
+-- The arena had no room for an object of the canonical message, or the message would be too large with it.
+pub record HasNoRoom (n : ℕ) (from : Segments) (q : Place) (s u : Segments) (old : ReadLimiter) (e : Error) (new : ReadLimiter) : Type 0 where
+  pub value : Tree
+  pub read : IsRead n from q value old new
+  pub start : ReadLimiter
+  pub end : ReadLimiter
+  pub free : IsFree start
+  pub unplaced : Unplaced (canonical_message value) (visits n (canonical_message value) root) u start e end
+  pub takes : TakesFew s u start end
+
+-- All words stand: the walk was stopped, too few words were lent, or the arena had no room.
+pub record Refused (n : ℕ) (from : Segments) (q : Place) (lent : List (List ℕ)) (s u : Segments) (old : ReadLimiter) (e : Error) (new : ReadLimiter) : Type 0 where
+  pub left : GrowsByZeros s u
+  pub why : ((u ≡ s) × (Stopped (copy_visits n from q) old e new ⊎ Filled (copy_visits n from q) (room_of lent) 1 old e new)) ⊎ HasNoRoom n from q s u old e new
+
+-- The value of the pointer at q is put in place of that at p, trimmed; or it is refused, and all words stand.
+abbrev pub CopiesCanonical : ℕ → Segments → Place → List (List ℕ) → Segments → Segments → Place → ReadLimiter → Result ⊤ Error → ReadLimiter → Type 0
+CopiesCanonical n from q lent s u p old (Ok _) new = Canonical n from q s u p old new
+CopiesCanonical n from q lent s u p old (Err e) new = Refused n from q lent s u old e new
+
+-- No more of the lent words were written than were granted, and one.
+pub record WritesFew (old new : ReadLimiter) (lent after : List (List ℕ)) : Type 0 where
+  pub granted : ℕ
+  pub spends : Spends old new granted
+  pub written : ℕ
+  pub few : written ≤ granted + 1
+  pub behind : Behind written lent after
