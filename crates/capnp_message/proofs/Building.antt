@@ -4,6 +4,7 @@ use Rattle.std.specs.Bool.{⊤}
 use Rattle.std.specs.declared.alloc.Global.{Global}
 use Rattle.std.specs.List.{flat_map}
 use Rattle.std.specs.Option.{is_some}
+use Rattle.std.specs.Prelude.{unwrap_or}
 use Rattle.std.specs.Result.{OnOk, OnErr, IfErr}
 use Rattle.std.specs.Int.{from_le_bytes, w64}
 use Rattle.std.proofs.lemmas.Bool.{le-leb}
@@ -21,8 +22,13 @@ use Rattle.capnp_footprints.specs.Writes.{spliced, with_words, with_zeros, segme
 use Rattle.capnp_footprints.proofs.Splices.{spliced_whole}
 use Rattle.capnp_copy.specs.Allocations.{Allocates, total_words}
 use Rattle.capnp_copy.specs.Values.{Becomes}
-use Rattle.capnp_message.specs.Canonical.{GivesCanonical, SetsCanonical}
-use Rattle.capnp_message.specs.Built.{rooted}
+use Rattle.capnp_model.specs.Encoding.{canonical_words}
+use Rattle.capnp_model.specs.Traversal.{tree_at}
+use Rattle.capnp_model.specs.Trimming.{trim}
+use Rattle.capnp_copy_from.specs.Copies.{BecomesCopy, CopiesValue}
+use Rattle.capnp_message.specs.Canonical.{GivesCanonical, ReplacesRoot, SetsCanonical}
+use Rattle.capnp_units.specs.Segments.{words_in}
+use Rattle.capnp_message.specs.Built.{rooted, used_words}
 
 pub on_ok : {X Y : Type 0} (r : Result X Y) {P Q : Type 0} → OnOk r P → (P → Q) → OnOk r Q
 on_ok (Ok x) p f = f p
@@ -92,13 +98,60 @@ first_words s u w i at n k bytes ws e a is flat few many eight =
 
 -- ---- canonical words that are set
 
-pub set_canonical : (o limit : Option ℕ) (s u : Segments) (old new : ReadLimiter) (v : Vec (List ℕ) Global) (ws : List (List ℕ)) (r : Result ⊤ Error) → GivesCanonical o limit s old (Ok v) new → ws ≡ v.items → OnOk r (u ≡ words_view ws ∷ []) → OnErr r (u ≡ []) → IfErr r (λ e. (e.kind ≡ SizeOverflow) ↔ (2 ^ 29 ≤ length ws)) → SetsCanonical o limit s u old r new
+pub set_canonical : (o limit : Option ℕ) (s u : Segments) (old new : ReadLimiter) (v : Vec (List ℕ) Global) (ws : List (List ℕ)) (r : Result ⊤ Error) → GivesCanonical o limit s old (Ok v) new → ws ≡ v.items → OnOk r (u ≡ words_view ws ∷ []) → OnErr r (u ≡ []) → IfErr r (λ e. (e.kind ≡ SizeOverflow) ↔ (2 ^ 29 ≤ length ws)) → SetsCanonical o limit s [] u old r new
 set_canonical None limit s u old new v ws r g is done none kind = absurd (let h = g.0 in cc)
-set_canonical (Some n) limit s u old new v ws (Ok x) g is done none kind = (n, words_view v.items, refl, done ∙ ap (λ (zs : List (List ℕ)). words_view zs ∷ []) is, g)
+set_canonical (Some n) limit s u old new v ws (Ok x) g is done none kind = (n, words_view v.items, refl, (g, done ∙ ap (λ (zs : List (List ℕ)). words_view zs ∷ []) is))
 set_canonical (Some n) limit s u old new v ws (Err e) g is done none kind =
     let few = g.few in
     let long = length-map v.items (from_le_bytes w64) in
-    (none, inr (n, words_view v.items, refl, g, λ q. let more = kind.0 q in absurd (omega (arith, few, long, more, ap length is))))
+    (none, inr (n, words_view v.items, refl, (g, λ q. let more = kind.0 q in absurd (omega (arith, few, long, more, ap length is)))))
+
+-- no words were given, and all stands
+pub not_given : (o limit : Option ℕ) (s t u : Segments) (old new : ReadLimiter) (e : Error) → GivesCanonical o limit s old (Err e) new → u ≡ t → SetsCanonical o limit s t u old (Err e) new
+not_given o limit s [] u old new e g q = (q, inl g)
+not_given o limit s (first ∷ rest) u old new e g q = inl (g, q)
+
+-- the same where the message has no segment
+pub set_first : (o limit : Option ℕ) (s t u : Segments) (old new : ReadLimiter) (v : Vec (List ℕ) Global) (ws : List (List ℕ)) (r : Result ⊤ Error) → t ≡ [] → GivesCanonical o limit s old (Ok v) new → ws ≡ v.items → OnOk r (u ≡ words_view ws ∷ []) → OnErr r (u ≡ []) → IfErr r (λ e. (e.kind ≡ SizeOverflow) ↔ (2 ^ 29 ≤ length ws)) → SetsCanonical o limit s t u old r new
+set_first o limit s [] u old new v ws r none g is done refused kind = set_canonical o limit s u old new v ws r g is done refused kind
+set_first o limit s (first ∷ rest) u old new v ws r none g is done refused kind = absurd cc
+
+-- what canonical words mean
+abbrev pub MeansTrimmed : ℕ → Segments → Type 0
+MeansTrimmed n s = (v : Tree) → tree_at n s root ≡ Some v → length (canonical_words (trim v)) < 2 ^ 29 → tree_at n (canonical_words (trim v) ∷ []) root ≡ Some (trim v)
+
+-- the root of a message that has segments is set to the value of canonical words
+pub set_again : (o limit : Option ℕ) (k : ℕ) (s t u : Segments) (old new : ReadLimiter) (v : Vec (List ℕ) Global) (ws : List (List ℕ)) (r : Result ⊤ Error) → 0 < length t → unwrap_or o 0 ≡ k → GivesCanonical o limit s old (Ok v) new → ws ≡ v.items → ReplacesRoot k (words_view ws) t u r → ((n : ℕ) → MeansTrimmed n s) → SetsCanonical o limit s t u old r new
+set_again o limit k s [] u old new v ws r some is g same done mean = absurd (omega (arith, some))
+set_again None limit k s (first ∷ rest) u old new v ws r some is g same done mean = absurd (let h = g.0 in cc)
+set_again (Some n) limit k s (first ∷ rest) u old new v ws (Ok x) some is g same done mean =
+    let level : n ≡ k = is in
+    let few = g.few in
+    let words : words_view ws ≡ canonical_words (trim g.value) = ap words_view same ∙ g.words_are in
+    let there : tree_at n (canonical_words (trim g.value) ∷ []) root ≡ Some (trim g.value) = mean n g.value g.there (omega (arith, few, ap length g.words_are)) in
+    let copy : ReplacesRoot n (words_view ws) (first ∷ rest) u (Ok x) = rw level done in
+    let read : tree_at n (words_view ws ∷ []) root ≡ Some (trim g.value) = rw words there in
+    let one : copy.0 ≡ trim g.value = ap (λ (o : Option Tree). unwrap_or o copy.0) (sym copy.1 ∙ read) in
+    (n, words_view v.items, refl, (g, rw (sym one) copy.2))
+set_again (Some n) limit k s (first ∷ rest) u old new v ws (Err e) some is g same done mean =
+    inr (n, words_view v.items, refl, (g, done))
+
+-- a message that has a segment
+pub some_segments : {X : Type 0} (used : X → ℕ) (bytes : X → List ℕ) (xs : List X) → 0 < length xs → 0 < length (used_words used bytes xs)
+some_segments used bytes [] some = absurd (omega (arith, some))
+some_segments used bytes (x ∷ xs) some = omega arith
+
+-- the bytes of words are one segment
+pub one_segment : (bytes : List ℕ) (ws : List (List ℕ)) → bytes ≡ flat_map (λ w. w) ws → length bytes ≡ 8 * length ws → ((i : ℕ) → i < length ws → length (get_or ws i []) ≡ 8) → words_in (bytes ∷ []) ≡ words_view ws ∷ []
+one_segment bytes ws flat long eight =
+    let many : length bytes / 8 ≡ length ws = omega (arith, long) in
+    let view : words_in_bytes (length bytes / 8) bytes ≡ words_view ws = ap (λ (m : ℕ). words_in_bytes m bytes) many ∙ ap (words_in_bytes (length ws)) flat ∙ flat_words ws eight in
+    ap (λ (ns : List ℕ). ns ∷ []) view
+
+-- a copy of the root of one segment
+pub copied_root : (n : ℕ) (from s u : Segments) (ws : List ℕ) (old new : ReadLimiter) (r : Result ⊤ Error) → from ≡ ws ∷ [] → CopiesValue n from root s u root old r new → ReplacesRoot n ws s u r
+copied_root n from s u ws old new (Ok x) e c = (c.value, rw (sym e) c.there_is, c.made)
+copied_root n from s u ws old new (Err x) e c = c.left
 
 -- ---- where no root is
 

@@ -14,6 +14,7 @@ use Rattle.capnp_object.specs.Walks.{Walked, Stopped}
 use Rattle.capnp_canonical.specs.Checks.{TellsMessage}
 use Rattle.capnp_canonical.specs.Copies.{copy_visits}
 use Rattle.capnp_canonical.specs.Writes.{words_view}
+use Rattle.capnp_copy_from.specs.Copies.{BecomesCopy, GrowsByZeros}
 
 -- Nothing has levels, so that every value is refused, at no cost.
 abbrev pub IsWithoutLevels : {X : Type 0} → ReadLimiter → Result X Error → ReadLimiter → Type 0
@@ -63,8 +64,20 @@ GivesCanonical None limit s old result new = IsWithoutLevels old result new
 GivesCanonical (Some n) limit s old (Ok words) new = Canonicalized n s old (words_view words.items) new
 GivesCanonical (Some n) limit s old (Err e) new = Stopped (copy_visits n s root) old e new ⊎ IsTooLong (copy_visits n s root) (most_cost limit) old e new ⊎ IsWithoutMemory old e new
 
--- A message without segments is set to the canonical words of a value: they are its one segment. Else it has none still: the words weren't given, or the allocator has no room for them.
-abbrev pub SetsCanonical : Option ℕ → Option ℕ → Segments → Segments → ReadLimiter → Result ⊤ Error → ReadLimiter → Type 0
-SetsCanonical levels limit s u old (Ok done) new = (n : ℕ) × (words : List ℕ) × (levels ≡ Some n) × (u ≡ words ∷ []) × Canonicalized n s old words new
-SetsCanonical levels limit s u old (Err e) new =
-    (u ≡ []) × (GivesCanonical levels limit s old (Err e) new ⊎ ((n : ℕ) × (words : List ℕ) × (levels ≡ Some n) × Canonicalized n s old words new × (e.kind ≢ SizeOverflow)))
+-- The value of words that begin with its root pointer is put in place of the root's; or it is refused, and all words stand.
+abbrev pub ReplacesRoot : ℕ → List ℕ → Segments → Segments → Result ⊤ Error → Type 0
+ReplacesRoot n words t u (Ok done) = (v : Tree) × (tree_at n (words ∷ []) root ≡ Some v) × BecomesCopy n t u root v
+ReplacesRoot n words t u (Err e) = GrowsByZeros t u
+
+-- The canonical words were given, and what follows holds of the value and of them.
+abbrev pub AfterCanonical : Option ℕ → Segments → ReadLimiter → ReadLimiter → (ℕ → Tree → List ℕ → Type 0) → Type 0
+AfterCanonical levels s old new P = (n : ℕ) × (words : List ℕ) × (levels ≡ Some n) × ((c : Canonicalized n s old words new) × P n c.value words)
+
+-- A message without segments is set to the canonical words of a value: they are its one segment. Of any other the value of the root becomes the trimmed one. Where the words weren't given, all stands; where there was no room for them, all words stand.
+abbrev pub SetsCanonical : Option ℕ → Option ℕ → Segments → Segments → Segments → ReadLimiter → Result ⊤ Error → ReadLimiter → Type 0
+SetsCanonical levels limit s [] u old (Ok done) new = AfterCanonical levels s old new (λ n v words. u ≡ words ∷ [])
+SetsCanonical levels limit s [] u old (Err e) new =
+    (u ≡ []) × (GivesCanonical levels limit s old (Err e) new ⊎ AfterCanonical levels s old new (λ n v words. e.kind ≢ SizeOverflow))
+SetsCanonical levels limit s (first ∷ rest) u old (Ok done) new = AfterCanonical levels s old new (λ n v words. BecomesCopy n (first ∷ rest) u root (trim v))
+SetsCanonical levels limit s (first ∷ rest) u old (Err e) new =
+    (GivesCanonical levels limit s old (Err e) new × (u ≡ first ∷ rest)) ⊎ AfterCanonical levels s old new (λ n v words. GrowsByZeros (first ∷ rest) u)

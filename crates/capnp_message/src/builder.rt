@@ -4,9 +4,9 @@ ghost use Rattle.std.specs.List.{flat_map};
 ghost use Rattle.capnp_units.specs.declared.kinds.ErrorKind.TheVariants.{OutOfMemory, SizeOverflow};
 ghost use Rattle.capnp_object.specs.Arenas.{words_before};
 ghost use Rattle.capnp_message.specs.Built.{used_bytes, used_words};
-ghost use Rattle.capnp_message.specs.Growth.{suggested_growth};
+ghost use Rattle.capnp_allocators.specs.Growth.{suggested_growth};
 
-use crate::heap::HeapAllocator;
+use capnp_allocators::heap::HeapAllocator;
 use capnp_copy::allocator::{Allocator, SegmentBytes};
 use capnp_copy::arena::{BuilderArena, Memory};
 use capnp_copy::segments::BuilderArenaImpl;

@@ -43,7 +43,7 @@ fn room_of<A: ReaderArena>(arena: &A, options: ReaderOptions, levels: u32) -> us
 
 impl<S: ReaderSegments> Reader<S> {
     /// The levels of pointers; none under a negative limit.
-    fn levels(&self) -> Option<u32>
+    pub(crate) fn levels(&self) -> Option<u32>
         ensures { result ≡ levels self.now.options.nesting_limit }
     {
         levels_of(self.options.nesting_limit)

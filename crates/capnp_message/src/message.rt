@@ -1,14 +1,14 @@
 //! Messages, by the names under which a user of the library looks for them.
 pub use crate::builder::Builder;
-pub use crate::growth::{
-    AllocationStrategy, SUGGESTED_ALLOCATION_STRATEGY, SUGGESTED_FIRST_SEGMENT_WORDS,
-};
-pub use crate::heap::HeapAllocator;
 pub use crate::options::{DEFAULT_READER_OPTIONS, ReaderOptions};
 pub use crate::reader::{Reader, SegmentArray};
-pub use crate::scratch::ScratchSpaceHeapAllocator;
-pub use crate::single::SingleSegmentAllocator;
 pub use crate::typed::TypedReader;
 pub use crate::typed_builder::TypedBuilder;
+pub use capnp_allocators::growth::{
+    AllocationStrategy, SUGGESTED_ALLOCATION_STRATEGY, SUGGESTED_FIRST_SEGMENT_WORDS,
+};
+pub use capnp_allocators::heap::HeapAllocator;
+pub use capnp_allocators::scratch::ScratchSpaceHeapAllocator;
+pub use capnp_allocators::single::SingleSegmentAllocator;
 pub use capnp_copy::allocator::Allocator;
 pub use capnp_units::segments::ReaderSegments;

@@ -1,5 +1,5 @@
 //! Roots of messages that are built.
-ghost use Rattle.std.specs.Prelude.{◌≡◌, ◌≢◌, ◌^◌, ◌<◌, ◌++◌, ◌∷◌, [], true, pos, length, IfOk, IfErr, OnOk, OnErr};
+ghost use Rattle.std.specs.Prelude.{◌≡◌, ◌≢◌, ◌^◌, ◌<◌, ◌++◌, ◌∷◌, [], true, false, pos, length, IfOk, IfErr, OnOk, OnErr};
 ghost use Rattle.std.specs.Borrow.{sem, RestsIfErr};
 ghost use Rattle.capnp_units.specs.Segments.{words_in};
 ghost use Rattle.capnp_copy.specs.contracts.arena.Memory.{the_row};
@@ -38,12 +38,14 @@ const BOUNDLESS: ReaderOptions = ReaderOptions {
 };
 
 /// Makes the root pointer where an arena has no segment yet, and looks that its word is there.
-fn begin<A: BuilderArena>(arena: &mut A) -> Result<()>
+pub(crate) fn begin<A: BuilderArena>(arena: &mut A) -> Result<()>
     ensures rooted { OnOk result (words_in (A.segments arena.new)
         ≡ rooted (words_in (A.segments arena.old))) }
     ensures there { OnOk result
         (is_some (words_at (words_in (A.segments arena.new)) root 1) ≡ true) }
     ensures refused { OnErr result (A.segments arena.new ≡ A.segments arena.old) }
+    ensures none { OnErr result
+        (is_some (words_at (words_in (A.segments arena.old)) root 1) ≡ false) }
     ensures kind { IfErr result (λ e. e.kind ≢ SizeOverflow) }
     ensures books { A.books arena.new ≡ A.books arena.old }
 {

@@ -8,13 +8,13 @@ ghost use Rattle.capnp_copy.specs.Allocations.{total_words};
 ghost use Rattle.capnp_copy.specs.Values.{Becomes};
 ghost use Rattle.capnp_wire.specs.Reads.{root_of};
 ghost use Rattle.capnp_message.specs.Built.{used_bytes, used_words, rooted};
-ghost use Rattle.capnp_message.specs.Growth.{suggested_growth};
+ghost use Rattle.capnp_allocators.specs.Growth.{suggested_growth};
 ghost use Rattle.capnp_message.specs.Options.{boundless};
 ghost use Rattle.capnp_message.specs.Roots.{ReadsRoot};
 
 use crate::builder::Builder;
-use crate::heap::HeapAllocator;
 use crate::typed::TypedReader;
+use capnp_allocators::heap::HeapAllocator;
 use capnp_builders::traits::SetterInput;
 use capnp_copy::allocator::{Allocator, SegmentBytes};
 use capnp_copy::segments::BuilderArenaImpl;
@@ -28,7 +28,7 @@ use std::marker::PhantomData;
 ///
 /// It is no value that may be dropped: its message ends by `into_allocator`.
 pub struct TypedBuilder<T, A: Allocator> {
-    message: Builder<A>,
+    pub(crate) message: Builder<A>,
     root: PhantomData<T>,
 }
 

@@ -8,22 +8,41 @@ ghost use Rattle.capnp_canonical.specs.Writes.{words_view};
 ghost use Rattle.capnp_copy.specs.Allocations.{words_used};
 ghost use Rattle.capnp_copy.specs.Memory.{ZeroFrom};
 ghost use Rattle.capnp_message.specs.Built.{used_words};
-ghost use Rattle.capnp_message.specs.Canonical.{SetsCanonical};
+ghost use Rattle.capnp_message.specs.Canonical.{ReplacesRoot, SetsCanonical};
 
 use crate::builder::Builder;
-use crate::reader::Reader;
+use crate::canonical::ROOT;
+use crate::options::DEFAULT_READER_OPTIONS;
+use crate::reader::{Reader, SegmentArray};
 use capnp_copy::allocator::{Allocator, SegmentBytes};
 use capnp_copy::arena::BuilderArena;
+use capnp_copy_from::copy::copy_from;
+use capnp_model::laws::{trimmed_values, values_that_are_read, words_mean_their_value};
 use capnp_units::errors::{Error, Result};
 use capnp_units::kinds::ErrorKind;
 use capnp_units::limiter::ReadLimiter;
 use capnp_units::segments::ReaderSegments;
 use capnp_units::sizes::{Word, words_as_bytes};
-use capnp_wire::place::Place;
+use capnp_wire::place::{Place, has_words};
 use std::alloc::Global;
 
 /// The most words that a message may have.
 const MOST_WORDS: usize = 0x1fff_ffff;
+
+/// Sets the root to the value of words that begin with its pointer, in place of the value that it had, which is cleared.
+fn replace_root<A: BuilderArena>(arena: &mut A, words: &[Word], levels: u32) -> Result<()>
+    ensures copy { ReplacesRoot levels (words_view words.now) (words_in (A.segments arena.old))
+        (words_in (A.segments arena.new)) result }
+    ensures books { A.books arena.new ≡ A.books arena.old }
+{
+    if !has_words(arena, ROOT, 1) {
+        return Err(Error::from(ErrorKind::OutOfBounds));
+    }
+    let segments = [words_as_bytes(words)];
+    let source = Reader::new(SegmentArray::new(&segments), DEFAULT_READER_OPTIONS);
+    let mut unlimited = ReadLimiter::new(None);
+    copy_from(arena, ROOT, &mut unlimited, &source, ROOT, levels)
+}
 
 impl<A: Allocator> Builder<A> {
     /// Makes a message that has no segment yet of these words, as its one segment; they are copied.
@@ -60,28 +79,38 @@ impl<A: Allocator> Builder<A> {
         }
     }
 
-    /// Makes a message that has no segment yet of the canonical words of a message's value, as its one segment.
+    /// Sets the root to the value of a message, as its canonical copy, in place of the value that it had, which is cleared. Where the message has no segment yet, the canonical words are its one segment then.
     ///
-    /// It is refused as `Reader::canonicalize` is, then as `set_words`; then there is no segment still.
+    /// It is refused as `Reader::canonicalize` is. Where there is no segment, then as `set_words`, and there is none still. Else with `OutOfBounds` where the first segment has no word, with `SizeOverflow` where the message would have too many words, or as the allocator refuses; then all words stand as they were, and those that were allocated are zero.
     pub fn set_root_canonical<S: ReaderSegments>(
         &mut self,
         alloc: Global,
         limiter: &mut ReadLimiter,
         source: &Reader<S>,
     ) -> Result<()>
-        requires empty { self.old.memory.arena.segments.items ≡ [] }
         ensures copy { SetsCanonical (levels source.now.options.nesting_limit)
             source.now.options.traversal_limit_in_words (words_in (S.segments source.now.segments))
+            (used_words (λ h. h.used) (λ h. A.Segment.bytes h.segment)
+            self.old.memory.arena.segments.items)
             (used_words (λ h. h.used) (λ h. A.Segment.bytes h.segment)
             self.new.memory.arena.segments.items) limiter.old result limiter.new }
         ensures place { A.place self.new.memory.arena.allocator
             ≡ A.place self.old.memory.arena.allocator }
         ensures loans { flat_map (λ h. A.Segment.loans h.segment)
             self.new.memory.arena.segments.items
-            ++ A.loans self.new.memory.arena.allocator ≡ A.loans self.old.memory.arena.allocator }
+            ++ A.loans self.new.memory.arena.allocator
+            ≡ flat_map (λ h. A.Segment.loans h.segment) self.old.memory.arena.segments.items
+            ++ A.loans self.old.memory.arena.allocator }
     {
         let words = source.canonicalize(alloc, limiter)?;
-        self.set_words(&words)
+        if self.memory.arena.len() == 0 {
+            return self.set_words(&words);
+        }
+        words_mean_their_value();
+        trimmed_values();
+        values_that_are_read();
+        let levels = source.levels().unwrap_or(0);
+        replace_root(&mut self.memory.arena, &words, levels)
     }
 
     /// Takes a segment of which so many words are used already, from the first on, as the one segment of a message that has none yet. The words behind them are zero, and there is one lent slice at most in it and in the allocator. What is built then goes on behind those words.

@@ -1,10 +1,10 @@
 -- How many words the segments of a message have.
 use Rattle.std.specs.Prelude.{◌≡◌, ℕ, ◌+◌, ◌-◌, ◌*◌, ◌^◌, length, min, max}
-use Rattle.capnp_message.specs.declared.growth.Growth.{Growth}
-use Rattle.capnp_message.specs.declared.growth.AllocationStrategy.{AllocationStrategy}
-use Rattle.capnp_message.specs.declared.growth.AllocationStrategy.TheVariants.{FixedSize, GrowHeuristically}
-use Rattle.capnp_message.specs.declared.segment.Segment.{Segment}
-use Rattle.capnp_message.specs.declared.segment.Segment.TheVariants.{Lent, Owned}
+use Rattle.capnp_allocators.specs.declared.growth.Growth.{Growth}
+use Rattle.capnp_allocators.specs.declared.growth.AllocationStrategy.{AllocationStrategy}
+use Rattle.capnp_allocators.specs.declared.growth.AllocationStrategy.TheVariants.{FixedSize, GrowHeuristically}
+use Rattle.capnp_allocators.specs.declared.segment.Segment.{Segment}
+use Rattle.capnp_allocators.specs.declared.segment.Segment.TheVariants.{Lent, Owned}
 
 -- 1024 words at first, then as many again as all before.
 abbrev pub suggested_growth : Growth

@@ -1,7 +1,7 @@
 //! Segments on the heap.
 ghost use Rattle.std.specs.Prelude.{◌≡◌, ◌*◌, ◌≤◌, [], length, replicate, IfOk, IfErr, OnOk, OnErr};
 ghost use Rattle.capnp_copy.specs.Memory.{AllZero};
-ghost use Rattle.capnp_message.specs.Growth.{grown, suggested_growth, words_handed};
+ghost use Rattle.capnp_allocators.specs.Growth.{grown, suggested_growth, words_handed};
 ghost use Rattle.capnp_units.specs.declared.kinds.ErrorKind.TheVariants.{OutOfMemory};
 
 use crate::growth::{AllocationStrategy, Growth};

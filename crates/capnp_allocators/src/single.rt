@@ -2,8 +2,8 @@
 ghost use Rattle.std.specs.Prelude.{◌≡◌, ◌≢◌, ◌*◌, ◌≤◌, ◌++◌, ◌∷◌, ◌↔◌, [], false, length, IsOk, IfOk, IfErr, OnErr};
 ghost use Rattle.capnp_units.specs.declared.kinds.ErrorKind.TheVariants.{BufferNotLargeEnough, SizeOverflow};
 ghost use Rattle.capnp_copy.specs.Memory.{AllZero};
-ghost use Rattle.capnp_message.specs.Loans.{loans_of};
-ghost use Rattle.capnp_message.specs.Segments.{bytes_of, loans_of_segment};
+ghost use Rattle.capnp_allocators.specs.Loans.{loans_of};
+ghost use Rattle.capnp_allocators.specs.Segments.{bytes_of, loans_of_segment};
 
 use crate::segment::{Segment, wipe};
 use capnp_copy::allocator::Allocator;

@@ -12,7 +12,7 @@ pub enum Segment<'a> {
 }
 
 impl<'a> SegmentBytes for Segment<'a> {
-    ghost use Rattle.capnp_message.specs.Segments.{bytes_of, loans_of_segment};
+    ghost use Rattle.capnp_allocators.specs.Segments.{bytes_of, loans_of_segment};
 
     ghost bytes = { bytes_of };
 

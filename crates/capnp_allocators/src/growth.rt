@@ -1,6 +1,6 @@
 //! How many words an allocator asks for, where fewer would do.
 ghost use Rattle.std.specs.Prelude.{◌≡◌};
-ghost use Rattle.capnp_message.specs.Growth.{grown, suggested_growth, words_handed};
+ghost use Rattle.capnp_allocators.specs.Growth.{grown, suggested_growth, words_handed};
 
 /// How the segments of a message grow.
 #[derive(Clone, Copy, Debug, PartialEq, Eq)]

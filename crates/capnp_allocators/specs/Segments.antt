@@ -1,7 +1,7 @@
 -- What a clause reads of a segment that may be lent.
 use Rattle.std.specs.Prelude.{ℕ, List, [], ◌∷◌}
-use Rattle.capnp_message.specs.declared.segment.Segment.{Segment}
-use Rattle.capnp_message.specs.declared.segment.Segment.TheVariants.{Lent, Owned}
+use Rattle.capnp_allocators.specs.declared.segment.Segment.{Segment}
+use Rattle.capnp_allocators.specs.declared.segment.Segment.TheVariants.{Lent, Owned}
 
 -- Its bytes.
 abbrev pub bytes_of : Segment → List ℕ

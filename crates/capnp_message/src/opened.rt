@@ -1,0 +1,35 @@
+//! Messages that go on where an allocator's memory holds words already.
+ghost use Rattle.std.specs.Prelude.{◌≡◌, ◌≤◌, ◌++◌, [], length, IfErr, OnOk, OnErr};
+ghost use Rattle.std.specs.List.{flat_map};
+ghost use Rattle.capnp_units.specs.declared.kinds.ErrorKind.TheVariants.{OutOfMemory};
+ghost use Rattle.capnp_message.specs.Built.{opened_words, used_words};
+
+use crate::builder::Builder;
+use capnp_allocators::opening::OpensSegment;
+use capnp_copy::allocator::{Allocator, SegmentBytes};
+use capnp_units::errors::Result;
+
+impl<A: OpensSegment> Builder<A> {
+    /// Takes the words that the allocator was opened with as the one segment of a message that has none yet, where they stand; what is built then goes on behind them. There is one lent slice at most in the allocator. Where it holds no words there is no segment still.
+    ///
+    /// `OutOfMemory`: the list of segments can't grow; then there is no segment still, and the words were given back to the allocator, which makes them zero.
+    pub fn open(&mut self) -> Result<()>
+        requires empty { self.old.memory.arena.segments.items ≡ [] }
+        requires one { length (A.loans self.old.memory.arena.allocator) ≤ 1 }
+        ensures words { OnOk result (used_words (λ h. h.used) (λ h. A.Segment.bytes h.segment)
+            self.new.memory.arena.segments.items
+            ≡ opened_words (A.opened self.old.memory.arena.allocator)) }
+        ensures refused { OnErr result (self.new.memory.arena.segments.items ≡ []) }
+        ensures kind { IfErr result (λ e. e.kind ≡ OutOfMemory) }
+        ensures place { A.place self.new.memory.arena.allocator
+            ≡ A.place self.old.memory.arena.allocator }
+        ensures loans { flat_map (λ h. A.Segment.loans h.segment)
+            self.new.memory.arena.segments.items
+            ++ A.loans self.new.memory.arena.allocator ≡ A.loans self.old.memory.arena.allocator }
+    {
+        match self.memory.arena.allocator.take_opened() {
+            Some((segment, used)) => self.hold_segment(segment, used),
+            None => Ok(()),
+        }
+    }
+}
