@@ -1,5 +1,5 @@
 -- What calls answer that append a text.
-use Rattle.std.specs.Prelude.{ℕ, ◌≡◌, ◌⊎◌, Bool, true, false, List, ◌++◌, Some, Result, Ok, Err}
+use Rattle.std.specs.Prelude.{ℕ, ◌≡◌, ◌⊎◌, Bool, true, false, List, ◌++◌, Option, Some, Result, Ok, Err}
 use Rattle.capnp_model.specs.Printing.{Style, on_one_line, indented, print}
 use Rattle.capnp_units.specs.declared.errors.Error.{Error}
 use Rattle.capnp_units.specs.declared.kinds.ErrorKind.TheVariants.{OutOfMemory}
@@ -23,9 +23,13 @@ abbrev pub style_named : Bool → Style
 style_named false = on_one_line
 style_named true = indented 0
 
+-- The model's text of what is shown, if it has one.
+abbrev pub model_text : Style → Shown → Option (List ℕ)
+model_text style x = let s = schema_shown x in print s as_it_is (λ st ty d. text_in (null_printed s as_it_is 64 st ty d)) style (as_shown x) (reading_of x)
+
 -- What is shown is the text.
 abbrev pub IsTextOf : Style → Shown → List ℕ → Type 0
-IsTextOf style x bytes = let s = schema_shown x in print s as_it_is (λ st ty d. text_in (null_printed s as_it_is 64 st ty d)) style (as_shown x) (reading_of x) ≡ Some bytes
+IsTextOf style x bytes = model_text style x ≡ Some bytes
 
 -- What `print` answers: the text of what is shown was appended, by the model; else nothing was, for want of memory or by the kind of the first fault on the way.
 abbrev pub Prints : {X : Type 0} → Style → Shown → List ℕ → Result X Error → List ℕ → Type 0

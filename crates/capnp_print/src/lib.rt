@@ -7,6 +7,4 @@ mod members;
 mod names;
 mod single;
 pub mod stringify;
-#[cfg(test)]
-mod tests;
 mod values;

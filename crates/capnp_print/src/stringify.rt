@@ -2,13 +2,16 @@
 ghost use Rattle.std.specs.Prelude.{◌≡◌};
 ghost use Rattle.capnp_values.specs.Shown.{shown};
 ghost use Rattle.capnp_print.specs.Texts.{style_of};
-ghost use Rattle.capnp_print.specs.Answers.{style_named, Prints};
+ghost use Rattle.capnp_model.specs.Printing.{on_one_line};
+ghost use Rattle.capnp_print.specs.Answers.{style_named, model_text, Prints};
 
 use crate::single::Indent;
 use crate::values::push_value;
 use capnp_units::errors::Result;
 use capnp_values::dynamic_value;
 use capnp_wire::arena::ReaderArena;
+use std::alloc::Global;
+use std::fmt;
 
 /// How many defaults of null pointers may be entered on one path down a value: one that holds its own null pointer would else print without end.
 const DEFAULTS: u32 = 64;
@@ -42,4 +45,56 @@ pub fn print<A: ReaderArena>(
     push_value(value, indent, DEFAULTS, &mut text)?;
     out.append(&mut text)?;
     Ok(())
+}
+
+/// A value that `{}` and `{:?}` print as `print` does, and `{:#}` and `{:#?}` in the alternate form.
+///
+/// A formatter hands out no memory, so the text takes it from the allocator that is given. Where `print` is refused nothing is written, and formatting is refused.
+#[derive_where(Clone, Copy)]
+pub struct Printed<'a, A> {
+    alloc: Global,
+    value: dynamic_value::Reader<'a, A>,
+}
+
+impl<'a, A: ReaderArena> Printed<'a, A> {
+    ghost use Rattle.std.specs.Prelude.{◌≡◌};
+    ghost use Rattle.std.specs.Fmt.{DisplaysOnOk};
+
+    /// A value to print, and where its text takes memory.
+    pub fn new(alloc: Global, value: dynamic_value::Reader<'a, A>) -> Self
+        ensures { result.value ≡ value.entry }
+    {
+        Printed { alloc, value }
+    }
+
+    /// Writes the text of the value in the form that is asked for.
+    fn write_text<W: fmt::Write>(&self, f: &mut fmt::Formatter<W>) -> fmt::Result
+        ensures { DisplaysOnOk W.write_str_gives f.old result
+            (model_text on_one_line (shown A.segments self.now.value)) f.new }
+    {
+        let mut text = Vec::new(self.alloc);
+        if print(self.value, f.alternate(), &mut text).is_err() {
+            return Err(fmt::Error);
+        }
+        match std::str::from_utf8(&text) {
+            Ok(text) => f.write_str(text),
+            Err(_) => Err(fmt::Error),
+        }
+    }
+}
+
+impl<A: ReaderArena> fmt::Display for Printed<'_, A> {
+    ghost output = { λ p. model_text on_one_line (shown A.segments p.value) };
+
+    fn fmt<W: fmt::Write>(&self, f: &mut fmt::Formatter<W>) -> fmt::Result {
+        self.write_text(f)
+    }
+}
+
+impl<A: ReaderArena> fmt::Debug for Printed<'_, A> {
+    ghost debug_output = { λ p. model_text on_one_line (shown A.segments p.value) };
+
+    fn fmt<W: fmt::Write>(&self, f: &mut fmt::Formatter<W>) -> fmt::Result {
+        self.write_text(f)
+    }
 }

@@ -11,5 +11,3 @@ mod named;
 pub mod slots;
 pub mod structs;
 pub mod subsets;
-#[cfg(test)]
-mod tests;

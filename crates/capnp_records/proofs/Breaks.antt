@@ -25,3 +25,9 @@ rule_kept nodes rule lt h =
     ap (λ k. first_fault_from nodes rule k) more
     ∙ ap (λ o. elim o as (λ (x : Option ℕ). Option (ℕ × ℕ)) [ Some i ↦ Some (rule, i) | None ↦ first_fault_from nodes (suc rule) (13 - (rule + 1)) ]) h
     ∙ ap (λ k. first_fault_from nodes k (13 - (rule + 1))) next
+
+pub rule_broken : (nodes : List Node) (rule node : ℕ) → rule < 13 → first_break nodes rule ≡ Some node → first_fault_from nodes rule (13 - rule) ≡ Some (rule, node)
+rule_broken nodes rule node lt h =
+    let more : 13 - rule ≡ suc (13 - (rule + 1)) = omega arith in
+    ap (λ k. first_fault_from nodes rule k) more
+    ∙ ap (λ o. elim o as (λ (x : Option ℕ). Option (ℕ × ℕ)) [ Some i ↦ Some (rule, i) | None ↦ first_fault_from nodes (suc rule) (13 - (rule + 1)) ]) h

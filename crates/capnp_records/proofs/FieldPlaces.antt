@@ -1,12 +1,12 @@
 -- Tables of places, built from the back or from the front.
-use Rattle.std.proofs.Common.{◌≡◌, ℕ, zero, suc, ◌+◌, ◌-◌, ◌<◌, ◌≤◌, ◌==◌, Bool, true, false, not, ◌&&◌, if◌then◌else◌, Option, Some, None, List, [], ◌∷◌, ◌++◌, map, length, take, drop, set, get_or, slice_get, drop-cons, refl, sym, ◌∙◌, ap, arith}
+use Rattle.std.proofs.Common.{◌≡◌, ℕ, zero, suc, ◌+◌, ◌<◌, ◌≤◌, ◌==◌, Bool, true, false, if◌then◌else◌, Option, Some, None, List, [], ◌∷◌, map, length, drop, set, get_or, slice_get, drop-cons, refl, sym, ◌∙◌, ap, arith}
 use Rattle.std.specs.List.{list_all}
 use Rattle.std.proofs.lemmas.List.{get_or-set_same, get_or-set_other}
 use Rattle.std.proofs.lemmas.Bool.Decides.{nat_tests}
 use Rattle.capnp_model.specs.Schemas.{Field, Node}
 use Rattle.capnp_model.proofs.KeptRules.{and_left, and_right}
 use Rattle.capnp_model.specs.Accepted.{find_node}
-use Rattle.capnp_records.specs.NodeViews.{member_of, field_of, node_of}
+use Rattle.capnp_records.specs.NodeViews.{field_of, node_of}
 use Rattle.capnp_records.specs.Tables.{is_member_at, place_from, members_from, others_from, node_place}
 use Rattle.capnp_records.specs.declared.node.FieldRecord.{FieldRecord}
 use Rattle.capnp_records.specs.declared.node.NodeRecord.{NodeRecord}
@@ -133,3 +133,12 @@ get_at f (y ∷ ys) (suc i) x lt e = get_at f ys i x (omega arith) e
 pub length_mapped : {A B : Type 0} (f : A → B) (xs : List A) → length (map f xs) ≡ length xs
 length_mapped f [] = refl
 length_mapped f (x ∷ xs) = let h = length_mapped f xs in omega (arith, h)
+
+pub placed_inside : (ns : List NodeRecord) (id place : ℕ) → PlacedNode (map node_of ns) id 0 place → place < length ns
+placed_inside ns id place p = let a = p.place in let b = p.inside in let l = length_mapped node_of ns in omega (arith, a, b, l)
+
+pub placed_found : (ns : List NodeRecord) (id place : ℕ) (x : NodeRecord) → PlacedNode (map node_of ns) id 0 place → x ≡ get_or ns place x → find_node (map node_of ns) id ≡ Some (node_of x)
+placed_found ns id place x p e =
+    let a = p.place in
+    let same : p.steps ≡ place = omega (arith, a) in
+    p.found ∙ ap (slice_get (map node_of ns)) same ∙ get_at node_of ns place x (placed_inside ns id place p) e

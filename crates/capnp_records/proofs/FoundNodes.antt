@@ -1,8 +1,8 @@
 -- What stands at the place of a raw schema of the set.
-use Rattle.std.proofs.Common.{◌≡◌, ℕ, Bool, true, false, ◌&&◌, ◌==◌, Option, Some, None, List, map, get_or, slice_get, sym, ◌∙◌, ap, arith}
-use Rattle.capnp_model.specs.Schemas.{Enumerant, StructNode, NodeKind, Node}
+use Rattle.std.proofs.Common.{◌≡◌, ℕ, Bool, true, ◌&&◌, ◌==◌, Option, Some, None, List, map, get_or, sym, ◌∙◌, ap, arith}
+use Rattle.capnp_model.specs.Schemas.{Enumerant, StructNode, Node}
 use Rattle.capnp_model.specs.Accepted.{find_node, IsAccepted}
-use Rattle.capnp_model.proofs.KeptRules.{and_left, and_right}
+use Rattle.capnp_model.proofs.KeptRules.{and_left}
 use Rattle.capnp_records.specs.NodeViews.{node_of, kind_of}
 use Rattle.capnp_records.specs.Sets.{is_at, struct_in, enumerants_in, struct_found, enumerants_found}
 use Rattle.capnp_records.specs.declared.node.NodeRecord.{NodeRecord}

@@ -12,3 +12,4 @@ pub mod Below
 pub mod FoundNodes
 pub mod FieldPlaces
 pub mod FieldTables
+pub mod Holders

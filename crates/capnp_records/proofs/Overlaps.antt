@@ -1,9 +1,12 @@
 -- Overlaps by what each field takes.
-use Rattle.std.proofs.Common.{◌≡◌, ℕ, zero, suc, ◌<◌, ◌-◌, Bool, true, false, not, ◌&&◌, ◌||◌, Option, Some, None, is_some, List, [], ◌∷◌, ◌++◌, map, append_assoc, refl, sym, ◌∙◌, ap, arith}
+use Rattle.std.proofs.Common.{◌≡◌, ℕ, zero, suc, ◌+◌, ◌<◌, ◌-◌, Bool, true, false, not, ◌&&◌, ◌||◌, Option, Some, None, is_some, List, [], ◌∷◌, ◌++◌, map, length, take, get_or, append_assoc, refl, sym, ◌∙◌, ap, arith}
 use Rattle.std.specs.List.{list_all}
+use Rattle.std.proofs.lemmas.List.{map_more}
 use Rattle.std.proofs.lemmas.List.Folds.{list_all-append}
 use Rattle.capnp_model.specs.Schemas.{Enumerant, Ty, void, plain, text, blob, untyped, interface, struct, list, Value, group, Field, StructNode, NodeKind, struct_node, enum_node, Node, Shape, shape}
 use Rattle.capnp_model.specs.Accepted.{find_node, Area, share, are_apart, union_place, union_area, slot_body, field_body, fields_from, shape_of_node, no_shape, shape_in, areas_of, areas_of_fields, areas_of_body, are_members, is_apart_from, has_no_overlap, fields_are_apart, body_has_no_overlap}
+use Rattle.capnp_records.specs.NodeViews.{kind_of_field, field_of}
+use Rattle.capnp_records.specs.declared.node.FieldRecord.{FieldRecord}
 use Rattle.capnp_records.specs.Claims.{claim_in, claims_in, areas_claimed, claims_are_apart, groups_have_no_overlap, IsWritten, IsUnwritten}
 
 and_assoc : (a b c : Bool) → ((a && b) && c) ≡ (a && (b && c))
@@ -77,6 +80,20 @@ module _ (groups : ℕ → Shape) where
       ap (λ t. are_apart own (areas_of_fields (fields_from groups fs)) && t) (fields_apart fs)
       ∙ sym (and_assoc (are_apart own (areas_of_fields (fields_from groups fs))) (claims_are_apart (map (claim_in groups) fs)) (groups_have_no_overlap groups fs))
       ∙ ap (λ t. (t && claims_are_apart (map (claim_in groups) fs)) && groups_have_no_overlap groups fs) (ap (are_apart own) (areas_of_all fs) ∙ apart_from_all own (map (claim_in groups) fs))
+
+  -- ---- field by field
+
+  joined : (cs ds : List Field) → map (claim_in groups) (cs ++ ds) ≡ map (claim_in groups) cs ++ map (claim_in groups) ds
+  joined [] ds = refl
+  joined (c ∷ cs) ds = ap (λ as'. claim_in groups c ∷ as') (joined cs ds)
+
+  pub areas_one_more : (fs : List FieldRecord) (i : ℕ) (x : FieldRecord) → i < length fs → x ≡ get_or fs i x
+      → areas_claimed (map (claim_in groups) (map field_of (take (i + 1) fs))) ≡ areas_claimed (map (claim_in groups) (map field_of (take i fs))) ++ areas_of_body (field_body groups (kind_of_field x.body))
+  areas_one_more fs i x lt is =
+      let grown : map field_of (take (i + 1) fs) ≡ map field_of (take i fs) ++ field_of x ∷ [] = map_more field_of fs i x lt ∙ ap (λ y. map field_of (take i fs) ++ field_of y ∷ []) (sym is) in
+      ap (λ l. areas_claimed (map (claim_in groups) l)) grown
+      ∙ ap areas_claimed (joined (map field_of (take i fs)) (field_of x ∷ []))
+      ∙ areas_and_more (map (claim_in groups) (map field_of (take i fs))) (claim_in groups (field_of x))
 
 -- ---- what an id is written out as
 

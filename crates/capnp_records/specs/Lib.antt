@@ -9,3 +9,5 @@ pub mod Segments
 pub mod Tables
 pub use Rattle.capnp_model.specs.Schemas
 pub use Rattle.capnp_model.specs.Accepted
+pub mod Uses
+pub mod Listed

@@ -1,32 +1,12 @@
-//! Nodes by their ids.
+//! What ids name.
 
-ghost use Rattle.std.specs.Prelude.{◌≡◌, ◌==◌, None, Some, map, option_map, option_copied};
-ghost use Rattle.std.specs.List.{list_any};
-ghost use Rattle.capnp_model.specs.Accepted.{find_node, is_group_node, is_struct_node, is_enum_node, names_a};
+ghost use Rattle.std.specs.Prelude.{◌≡◌};
+ghost use Rattle.capnp_model.specs.Accepted.{is_group_node, is_struct_node, is_enum_node, names_a};
+ghost use Rattle.capnp_records.specs.Listed.{listed};
 ghost use Rattle.capnp_records.specs.NodeViews.{node_of};
 
 use crate::node::{NodeBody, NodeRecord};
-
-/// The first node of an id.
-pub(crate) fn find_node(nodes: &[NodeRecord], id: u64) -> Option<&NodeRecord>
-    ensures { option_map node_of (option_copied result) ≡ find_node (map node_of nodes.now) id }
-{
-    let mut rest = nodes;
-    while let [first, others @ ..] = rest {
-        if first.id == id {
-            return Some(first);
-        }
-        rest = others;
-    }
-    None
-}
-
-/// Whether one of the nodes has the id.
-pub(crate) fn has_id(nodes: &[NodeRecord], id: u64) -> bool
-    ensures { result ≡ list_any (λ n. n.id == id) (map node_of nodes.now) }
-{
-    nodes.iter().any(|node| node.id == id)
-}
+use crate::nodes::Nodes;
 
 pub(crate) fn is_group(node: &NodeRecord) -> bool
     ensures { result ≡ is_group_node (node_of node.now) }
@@ -54,30 +34,30 @@ fn is_enum(node: &NodeRecord) -> bool
 }
 
 /// Whether the id is a group's.
-pub(crate) fn names_group(nodes: &[NodeRecord], id: u64) -> bool
-    ensures { result ≡ names_a is_group_node (map node_of nodes.now) id }
+pub(crate) fn names_group(nodes: Nodes<'_>, id: u64) -> bool
+    ensures { result ≡ names_a is_group_node (listed nodes.entry) id }
 {
-    match find_node(nodes, id) {
+    match nodes.find(id) {
         None => false,
         Some(node) => is_group(node),
     }
 }
 
 /// Whether the id is that of a struct that is no group.
-pub(crate) fn names_struct(nodes: &[NodeRecord], id: u64) -> bool
-    ensures { result ≡ names_a is_struct_node (map node_of nodes.now) id }
+pub(crate) fn names_struct(nodes: Nodes<'_>, id: u64) -> bool
+    ensures { result ≡ names_a is_struct_node (listed nodes.entry) id }
 {
-    match find_node(nodes, id) {
+    match nodes.find(id) {
         None => false,
         Some(node) => is_struct(node),
     }
 }
 
 /// Whether the id is an enum's.
-pub(crate) fn names_enum(nodes: &[NodeRecord], id: u64) -> bool
-    ensures { result ≡ names_a is_enum_node (map node_of nodes.now) id }
+pub(crate) fn names_enum(nodes: Nodes<'_>, id: u64) -> bool
+    ensures { result ≡ names_a is_enum_node (listed nodes.entry) id }
 {
-    match find_node(nodes, id) {
+    match nodes.find(id) {
         None => false,
         Some(node) => is_enum(node),
     }

@@ -1,62 +1,198 @@
 //! The rule of groups: a group is used by exactly one group field, in no cycle, and fits into its holder.
 
-ghost use Rattle.std.specs.Prelude.{◌≡◌, ◌==◌, true, Some, [], ◌∷◌, map, length, option_map, option_copied, count_by, IfOk};
-ghost use Rattle.std.specs.List.{list_any, flat_map};
-ghost use Rattle.capnp_model.specs.Accepted.{groups_of_field, groups_used, holder_of, sizes_of, fits_in, meets_below, uses_of, is_good_group};
+ghost use Rattle.std.specs.Prelude.{ℕ, ◌≡◌, ◌<◌, ◌==◌, nat_eq, nat_lt, if◌then◌else◌, true, Some, [], ◌∷◌, map, length, get_or, option_map, option_copied, count_by, IfOk};
+ghost use Rattle.std.specs.HashMap.{get};
+ghost use Rattle.std.specs.List.{list_all, list_any, flat_map};
+ghost use Rattle.capnp_model.specs.Accepted.{groups_of_field, groups_used, sizes_of, fits_in, meets_below, is_good_group};
 ghost use Rattle.capnp_records.specs.NodeViews.{kind_of_field, field_of, node_of};
 ghost use Rattle.capnp_records.specs.Levels.{groups_below, PassSame, PassMore};
+ghost use Rattle.capnp_records.specs.Listed.{listed};
+ghost use Rattle.capnp_records.specs.Uses.{once_in, holder_place, depths_in, holds_deeper, AreUses};
 
-use crate::find::{find_node, is_group};
+use crate::find::{is_group, is_struct};
 use crate::node::{FieldBody, FieldRecord, NodeBody, NodeRecord};
+use crate::nodes::Nodes;
 use crate::parts::{groups_of, push_groups_of};
 use std::alloc::{AllocError, Global};
-use std::collections::HashSet;
+use std::collections::{HashMap, HashSet};
 
 // ---- uses
 
-fn count(groups: &[u64], id: u64) -> usize
-    ensures { result ≡ count_by (λ g. g == id) groups.now }
-{
-    groups.iter().filter(|group| **group == id).count()
+/// What is known of the groups that fields are: the groups of accepted nodes are looked up, not searched.
+#[derive(Drop)]
+pub(crate) struct GroupUses {
+    /// Whether a group of an id is one field's, or several's.
+    once: HashMap<u64, bool>,
+    /// The place of the first node of which a field is the group of an id.
+    holders: HashMap<u64, usize>,
+    /// Whether each group stands deeper than what holds it, so that none is met below itself.
+    apart: bool,
 }
 
-fn is_field_of(body: &FieldBody, id: u64) -> bool
-    ensures { result ≡ list_any (λ g. g == id) (groups_of_field (kind_of_field body.now)) }
+/// Whether each id is there once, or more often.
+fn once_of(alloc: Global, groups: &[u64]) -> Result<HashMap<u64, bool>, AllocError>
+    ensures { IfOk result (λ m. (id : ℕ) → get nat_eq m id
+        ≡ once_in (count_by (λ g. g == id) groups.now)) }
+{
+    let mut once = HashMap::new(alloc);
+    for group in groups {
+        let is_new = once.get(group).is_none();
+        once.insert(*group, is_new)?;
+    }
+    Ok(once)
+}
+
+/// Puts a place at each of the ids.
+fn put_all(
+    holders: &mut HashMap<u64, usize>,
+    groups: &[u64],
+    place: usize,
+) -> Result<(), AllocError>
+    ensures { IfOk result (λ _. (id : ℕ) → get nat_eq holders.new id
+        ≡ (if list_any (λ g. g == id) groups.now then Some place else get nat_eq holders.old id)) }
+{
+    for group in groups {
+        holders.insert(*group, place)?;
+    }
+    Ok(())
+}
+
+/// The place of the first node of which a field is the group of an id.
+fn holders_of(alloc: Global, nodes: &[NodeRecord]) -> Result<HashMap<u64, usize>, AllocError>
+    ensures { IfOk result (λ m. (id : ℕ) → get nat_eq m id
+        ≡ holder_place id 0 (map node_of nodes.now)) }
+{
+    let mut holders = HashMap::new(alloc);
+    let mut left = nodes.len();
+    while left > 0 {
+        left -= 1;
+        let groups = groups_of(alloc, &nodes[left])?;
+        put_all(&mut holders, &groups, left)?;
+    }
+    Ok(holders)
+}
+
+impl GroupUses {
+    ghost use Rattle.std.specs.Prelude.{◌≡◌, ◌==◌, IfOk, option_map, option_copied};
+    ghost use Rattle.capnp_model.specs.Accepted.{uses_of, holder_of};
+    ghost use Rattle.capnp_records.specs.Listed.{listed};
+    ghost use Rattle.capnp_records.specs.NodeViews.{node_of};
+    ghost use Rattle.capnp_records.specs.Uses.{AreUses};
+
+    /// What is known of the groups of nodes.
+    pub(crate) fn new(alloc: Global, nodes: Nodes<'_>) -> Result<GroupUses, AllocError>
+        ensures { IfOk result (AreUses (listed nodes.entry)) }
+    {
+        let groups = all_groups(alloc, nodes.records)?;
+        let once = once_of(alloc, &groups)?;
+        let holders = holders_of(alloc, nodes.records)?;
+        let depths = depths_of(alloc, nodes)?;
+        let apart = are_deeper(&depths, nodes.records);
+        Ok(GroupUses {
+            once,
+            holders,
+            apart,
+        })
+    }
+
+    /// Whether the group of an id is one field.
+    fn is_used_once(&self, nodes: Nodes<'_>, id: u64) -> bool
+        requires { AreUses (listed nodes) self.now }
+        ensures { result ≡ (uses_of (listed nodes.entry) id == 1) }
+    {
+        match self.once.get(&id) {
+            None => false,
+            Some(once) => *once,
+        }
+    }
+
+    /// The first node of which a field is the group.
+    fn holder<'a>(&self, nodes: Nodes<'a>, id: u64) -> Option<&'a NodeRecord>
+        requires { AreUses (listed nodes) self.now }
+        ensures { option_map node_of (option_copied result) ≡ holder_of (listed nodes.entry) id }
+    {
+        let Some(place) = self.holders.get(&id) else {
+            return None;
+        };
+        Some(nodes.at(*place))
+    }
+}
+
+// ---- depths
+
+/// The depth of an id; one that has none is at the top.
+fn depth_in(depths: &HashMap<u64, usize>, id: u64) -> usize
+    ensures { result ≡ depths_in (get nat_eq depths.now) id }
+{
+    match depths.get(&id) {
+        None => 0,
+        Some(depth) => *depth,
+    }
+}
+
+/// How deep groups stand: those of structs that are no groups at 1, and each further one below. What isn't met so has no depth.
+fn depths_of(alloc: Global, nodes: Nodes<'_>) -> Result<HashMap<u64, usize>, AllocError> {
+    let mut depths = HashMap::new(alloc);
+    let mut ids = Vec::new(alloc);
+    for node in nodes.records {
+        if is_struct(node) {
+            ids.push(node.id)?;
+        }
+    }
+    for at in 0..nodes.records.len() {
+        if at >= ids.len() {
+            break;
+        }
+        let id = ids[at];
+        let depth = depth_in(&depths, id).saturating_add(1);
+        let groups = groups_below(alloc, nodes, id)?;
+        for group in &groups {
+            if depth_in(&depths, *group) == 0 {
+                depths.insert(*group, depth)?;
+                ids.push(*group)?;
+            }
+        }
+    }
+    Ok(depths)
+}
+
+fn is_deeper(depths: &HashMap<u64, usize>, least: usize, body: &FieldBody) -> bool
+    ensures { result ≡ list_all (λ g. nat_lt least (depths_in (get nat_eq depths.now) g))
+        (groups_of_field (kind_of_field body.now)) }
 {
     match body {
-        FieldBody::Slot { .. } => false,
-        FieldBody::Group { node } => *node == id,
+        FieldBody::Slot { .. } => true,
+        FieldBody::Group { node } => least < depth_in(depths, *node),
     }
 }
 
-fn are_fields_of(fields: &[FieldRecord], id: u64) -> bool
-    ensures { result ≡ list_any (λ g. g == id) (flat_map (λ f. groups_of_field f.kind)
-        (map field_of fields.now)) }
+fn are_fields_deeper(depths: &HashMap<u64, usize>, least: usize, fields: &[FieldRecord]) -> bool
+    ensures { result ≡ list_all (λ g. nat_lt least (depths_in (get nat_eq depths.now) g))
+        (flat_map (λ f. groups_of_field f.kind) (map field_of fields.now)) }
 {
-    fields.iter().any(|field| is_field_of(&field.body, id))
+    fields
+        .iter()
+        .all(|field| is_deeper(depths, least, &field.body))
 }
 
-fn uses_group(node: &NodeRecord, id: u64) -> bool
-    ensures { result ≡ list_any (λ g. g == id) (groups_used (node_of node.now)) }
+/// Whether the groups that a node's fields are stand deeper than the node.
+fn holds_deeper(depths: &HashMap<u64, usize>, node: &NodeRecord) -> bool
+    ensures { result ≡ holds_deeper (depths_in (get nat_eq depths.now)) (node_of node.now) }
 {
     match &node.body {
-        NodeBody::Struct(record) => are_fields_of(&record.fields, id),
-        NodeBody::Enum(_) => false,
+        NodeBody::Struct(record) => {
+            are_fields_deeper(depths, depth_in(depths, node.id), &record.fields)
+        }
+        NodeBody::Enum(_) => true,
     }
 }
 
-/// The first node of which a field is the group.
-fn holder_of(nodes: &[NodeRecord], id: u64) -> Option<&NodeRecord>
-    ensures { option_map node_of (option_copied result) ≡ holder_of (map node_of nodes.now) id }
+/// Whether each group stands deeper than what holds it.
+fn are_deeper(depths: &HashMap<u64, usize>, nodes: &[NodeRecord]) -> bool
+    ensures { result ≡ list_all (holds_deeper (depths_in (get nat_eq depths.now)))
+        (map node_of nodes.now) }
 {
-    let mut rest = nodes;
-    while let [first, others @ ..] = rest {
-        if uses_group(first, id) {
-            return Some(first);
-        }
-        rest = others;
-    }
-    None
+    nodes.iter().all(|node| holds_deeper(depths, node))
 }
 
 // ---- sizes
@@ -113,19 +249,19 @@ fn push_all_new(ids: &mut Vec<u64>, seen: &mut HashSet<u64>, more: &[u64]) -> Re
 }
 
 /// The ids of the groups that the fields of the node of an id are.
-fn groups_below(alloc: Global, nodes: &[NodeRecord], id: u64) -> Result<Vec<u64>, AllocError>
-    ensures { IfOk result (λ v. v.items ≡ groups_below (map node_of nodes.now) id) }
+fn groups_below(alloc: Global, nodes: Nodes<'_>, id: u64) -> Result<Vec<u64>, AllocError>
+    ensures { IfOk result (λ v. v.items ≡ groups_below (listed nodes.entry) id) }
 {
-    match find_node(nodes, id) {
+    match nodes.find(id) {
         None => Ok(Vec::new(alloc)),
         Some(node) => groups_of(alloc, node),
     }
 }
 
 /// The ids of the groups one level below those of the ids, each once.
-fn next_level(alloc: Global, nodes: &[NodeRecord], ids: &[u64]) -> Result<Vec<u64>, AllocError>
+fn next_level(alloc: Global, nodes: Nodes<'_>, ids: &[u64]) -> Result<Vec<u64>, AllocError>
     ensures { IfOk result (λ v. PassSame v.items (flat_map (groups_below
-        (map node_of nodes.now)) ids.now)) }
+        (listed nodes.entry)) ids.now)) }
 {
     let mut next = Vec::new(alloc);
     let mut seen = HashSet::new(alloc);
@@ -149,15 +285,15 @@ fn is_nothing(ids: &[u64]) -> bool
 }
 
 /// Whether a group's id is met going down through its group fields, level by level.
-fn meets_itself(alloc: Global, nodes: &[NodeRecord], node: &NodeRecord) -> Result<bool, AllocError>
-    ensures { IfOk result (λ b. b ≡ meets_below (map node_of nodes.now) (length nodes.now)
-        (node_of node.now).id (Some (node_of node.now))) }
+fn meets_itself(alloc: Global, nodes: Nodes<'_>, node: &NodeRecord) -> Result<bool, AllocError>
+    ensures { IfOk result (λ b. b ≡ meets_below (listed nodes.entry)
+        (length nodes.entry.records.now) (node_of node.now).id (Some (node_of node.now))) }
 {
-    if nodes.is_empty() {
+    if nodes.records.is_empty() {
         return Ok(false);
     }
     let mut ids = groups_of(alloc, node)?;
-    let mut left = nodes.len() - 1;
+    let mut left = nodes.records.len() - 1;
     while left > 0 {
         if has_group(&ids, node.id) {
             return Ok(true);
@@ -169,6 +305,26 @@ fn meets_itself(alloc: Global, nodes: &[NodeRecord], node: &NodeRecord) -> Resul
         left -= 1;
     }
     Ok(has_group(&ids, node.id))
+}
+
+/// Whether a group is met below itself. Only where some group isn't apart are the groups below gone through.
+fn is_in_cycle(
+    alloc: Global,
+    nodes: Nodes<'_>,
+    uses: &GroupUses,
+    place: usize,
+    node: &NodeRecord,
+) -> Result<bool, AllocError>
+    requires uses { AreUses (listed nodes) uses.now }
+    requires inside { place < length nodes.records.now }
+    requires node { node.now ≡ get_or nodes.records.now place node.now }
+    ensures { IfOk result (λ b. b ≡ meets_below (listed nodes.entry)
+        (length nodes.entry.records.now) (node_of node.now).id (Some (node_of node.now))) }
+{
+    if uses.apart {
+        return Ok(false);
+    }
+    meets_itself(alloc, nodes, node)
 }
 
 // ---- the rule
@@ -184,22 +340,25 @@ pub(crate) fn all_groups(alloc: Global, nodes: &[NodeRecord]) -> Result<Vec<u64>
     Ok(groups)
 }
 
-/// Whether a node keeps the rule among nodes whose fields are these groups.
+/// Whether a node keeps the rule, at its place among the nodes.
 pub(crate) fn is_good_group(
     alloc: Global,
-    nodes: &[NodeRecord],
-    groups: &[u64],
+    nodes: Nodes<'_>,
+    uses: &GroupUses,
+    place: usize,
     node: &NodeRecord,
 ) -> Result<bool, AllocError>
-    requires { groups.now ≡ flat_map groups_used (map node_of nodes.now) }
-    ensures { IfOk result (λ b. b ≡ is_good_group (map node_of nodes.now) (node_of node.now)) }
+    requires uses { AreUses (listed nodes) uses.now }
+    requires inside { place < length nodes.records.now }
+    requires node { node.now ≡ get_or nodes.records.now place node.now }
+    ensures { IfOk result (λ b. b ≡ is_good_group (listed nodes.entry) (node_of node.now)) }
 {
     if !is_group(node) {
         return Ok(true);
     }
     Ok(
-        count(groups, node.id) == 1
-            && !meets_itself(alloc, nodes, node)?
-            && fits_in(node, holder_of(nodes, node.id)),
+        uses.is_used_once(nodes, node.id)
+            && !is_in_cycle(alloc, nodes, uses, place, node)?
+            && fits_in(node, uses.holder(nodes, node.id)),
     )
 }

@@ -11,6 +11,7 @@ pub mod laws;
 mod marks;
 mod names;
 pub mod node;
+mod nodes;
 pub mod of_set;
 mod overlap;
 mod parts;
@@ -20,8 +21,6 @@ mod segment;
 pub mod set;
 mod storage;
 pub mod tables;
-#[cfg(test)]
-mod tests;
 mod types;
 mod unions;
 mod values;

@@ -1,17 +1,18 @@
 //! The rule of places: two fields of a struct or a group share a bit or a pointer, those of their groups included, only where they are two members of its union, and none shares a bit with its discriminant.
 
-ghost use Rattle.std.specs.Prelude.{◌≡◌, ◌&&◌, false, map, IfOk, IfSome, IfNone};
+ghost use Rattle.std.specs.Prelude.{◌≡◌, ◌&&◌, ◌++◌, false, map, IfOk, IfSome, IfNone};
 ghost use Rattle.std.specs.Bool.{MatchBool};
 ghost use Rattle.capnp_model.specs.Accepted.{field_body, shape_in, union_place, union_area, areas_of, areas_of_body, has_no_overlap, body_has_no_overlap};
+ghost use Rattle.capnp_records.specs.Listed.{listed};
 ghost use Rattle.capnp_records.specs.NodeViews.{kind_of_field, field_of, struct_of, node_of};
 ghost use Rattle.capnp_records.specs.Storage.{areas_seen};
 ghost use Rattle.capnp_records.specs.Marks.{AllowsAll, Refuses, Puts, most_mark, level_mark};
 ghost use Rattle.capnp_records.specs.Claims.{claim_of, claim_in, claims_in, claims_are_apart, areas_claimed, groups_have_no_overlap, IsWritten, IsUnwritten};
 
 use crate::area::{Area, Span};
-use crate::find::find_node;
 use crate::marks::Marks;
 use crate::node::{FieldBody, FieldRecord, NO_DISCRIMINANT, NodeBody, NodeRecord, StructRecord};
+use crate::nodes::Nodes;
 use crate::storage::area_of;
 use std::alloc::{AllocError, Global};
 
@@ -25,15 +26,15 @@ pub(crate) struct Claim {
 // ---- what fields take
 
 /// The struct or the group that is written out of an id at so many levels.
-fn struct_at(nodes: &[NodeRecord], levels: usize, id: u64) -> Option<&StructRecord>
-    ensures missing { IfNone result (IsUnwritten (map node_of nodes.now) levels id) }
-    ensures found { IfSome result (λ holder. IsWritten (map node_of nodes.now) levels id
+fn struct_at<'a>(nodes: Nodes<'a>, levels: usize, id: u64) -> Option<&'a StructRecord>
+    ensures missing { IfNone result (IsUnwritten (listed nodes.entry) levels id) }
+    ensures found { IfSome result (λ holder. IsWritten (listed nodes.entry) levels id
         (struct_of holder.now)) }
 {
     if levels == 0 {
         return None;
     }
-    let Some(node) = find_node(nodes, id) else {
+    let Some(node) = nodes.find(id) else {
         return None;
     };
     match &node.body {
@@ -42,75 +43,105 @@ fn struct_at(nodes: &[NodeRecord], levels: usize, id: u64) -> Option<&StructReco
     }
 }
 
-/// The areas of a field, those of its group included.
-#[cycle(claims)]
+/// Appends the areas of a field, those of its group included.
+#[cycle(areas)]
 #[tactic(auto, using(crate::proofs::Overlaps::fields))]
-fn areas_of_body(
-    alloc: Global,
-    nodes: &[NodeRecord],
+fn push_areas_of_body(
+    areas: &mut Vec<Area>,
+    nodes: Nodes<'_>,
     levels: usize,
     body: &FieldBody,
-) -> Result<Vec<Area>, AllocError>
-    ensures { IfOk result (λ v. areas_seen v.items
-        ≡ areas_of_body (field_body (λ id. shape_in (map node_of nodes.now) levels id)
-        (kind_of_field body.now))) }
+) -> Result<(), AllocError>
+    ensures { IfOk result (λ _. areas_seen areas.new.items
+        ≡ areas_seen areas.old.items ++ areas_of_body (field_body (λ id. shape_in
+        (listed nodes.entry) levels id) (kind_of_field body.now))) }
 {
     match body {
         FieldBody::Slot { offset, ty, .. } => {
-            let mut areas = Vec::new(alloc);
             areas.push(area_of(*offset, *ty))?;
-            Ok(areas)
+            Ok(())
         }
-        FieldBody::Group { node } => areas_of(alloc, nodes, levels, *node),
+        FieldBody::Group { node } => push_areas_of(areas, nodes, levels, *node),
     }
 }
 
-/// The areas of a struct or a group, its discriminant's and those of its fields.
-#[cycle(claims)]
-fn areas_of(
-    alloc: Global,
-    nodes: &[NodeRecord],
+/// Appends the areas of a struct or a group, its discriminant's and those of its fields.
+#[cycle(areas)]
+fn push_areas_of(
+    areas: &mut Vec<Area>,
+    nodes: Nodes<'_>,
     levels: usize,
     id: u64,
-) -> Result<Vec<Area>, AllocError>
-    ensures { IfOk result (λ v. areas_seen v.items
-        ≡ areas_of (shape_in (map node_of nodes.now) levels id)) }
+) -> Result<(), AllocError>
+    ensures { IfOk result (λ _. areas_seen areas.new.items
+        ≡ areas_seen areas.old.items ++ areas_of (shape_in (listed nodes.entry) levels id)) }
 {
     match struct_at(nodes, levels, id) {
-        None => Ok(Vec::new(alloc)),
+        None => Ok(()),
         Some(holder) => {
-            let claims = claims_of(alloc, nodes, levels - 1, holder)?;
-            areas_in_claims(alloc, &claims)
+            push_union_area(areas, holder)?;
+            push_areas_of_fields(areas, nodes, levels - 1, &holder.fields)
         }
     }
+}
+
+/// Appends the areas of fields.
+#[cycle(areas)]
+fn push_areas_of_fields(
+    areas: &mut Vec<Area>,
+    nodes: Nodes<'_>,
+    levels: usize,
+    fields: &[FieldRecord],
+) -> Result<(), AllocError>
+    ensures { IfOk result (λ _. areas_seen areas.new.items
+        ≡ areas_seen areas.old.items ++ areas_claimed (map (claim_in (λ id. shape_in
+        (listed nodes.entry) levels id)) (map field_of fields.now))) }
+{
+    for field in fields {
+        push_areas_of_body(areas, nodes, levels, &field.body)?;
+    }
+    Ok(())
+}
+
+/// Appends the area of a struct's discriminant.
+fn push_union_area(areas: &mut Vec<Area>, holder: &StructRecord) -> Result<(), AllocError>
+    ensures { IfOk result (λ _. areas_seen areas.new.items
+        ≡ areas_seen areas.old.items ++ union_area (union_place (struct_of holder.now))) }
+{
+    if holder.discriminant_count != 0 {
+        areas.push(Area::Bits(Span {
+            width: 16,
+            place: holder.discriminant_offset,
+        }))?;
+    }
+    Ok(())
 }
 
 /// What a field takes.
-#[cycle(claims)]
 fn claim_of(
     alloc: Global,
-    nodes: &[NodeRecord],
+    nodes: Nodes<'_>,
     levels: usize,
     field: &FieldRecord,
 ) -> Result<Claim, AllocError>
     ensures { IfOk result (λ c. claim_of c ≡ claim_in (λ id. shape_in
-        (map node_of nodes.now) levels id) (field_of field.now)) }
+        (listed nodes.entry) levels id) (field_of field.now)) }
 {
-    let areas = areas_of_body(alloc, nodes, levels, &field.body)?;
+    let mut areas = Vec::new(alloc);
+    push_areas_of_body(&mut areas, nodes, levels, &field.body)?;
     let is_member = field.discriminant_value != NO_DISCRIMINANT;
     Ok(Claim { is_member, areas })
 }
 
 /// What a struct's discriminant and its fields take.
-#[cycle(claims)]
 fn claims_of(
     alloc: Global,
-    nodes: &[NodeRecord],
+    nodes: Nodes<'_>,
     levels: usize,
     holder: &StructRecord,
 ) -> Result<Vec<Claim>, AllocError>
     ensures { IfOk result (λ v. map claim_of v.items
-        ≡ claims_in (λ id. shape_in (map node_of nodes.now) levels id) (struct_of holder.now)) }
+        ≡ claims_in (λ id. shape_in (listed nodes.entry) levels id) (struct_of holder.now)) }
 {
     let mut claims = Vec::new(alloc);
     claims.push(discriminant(alloc, holder)?)?;
@@ -129,27 +160,11 @@ fn discriminant(alloc: Global, holder: &StructRecord) -> Result<Claim, AllocErro
     )) }
 {
     let mut areas = Vec::new(alloc);
-    if holder.discriminant_count != 0 {
-        areas.push(Area::Bits(Span {
-            width: 16,
-            place: holder.discriminant_offset,
-        }))?;
-    }
+    push_union_area(&mut areas, holder)?;
     Ok(Claim {
         is_member: false,
         areas,
     })
-}
-
-/// All areas of claims.
-fn areas_in_claims(alloc: Global, claims: &[Claim]) -> Result<Vec<Area>, AllocError>
-    ensures { IfOk result (λ v. areas_seen v.items ≡ areas_claimed (map claim_of claims.now)) }
-{
-    let mut areas = Vec::new(alloc);
-    for claim in claims {
-        areas.extend_from_slice(&claim.areas)?;
-    }
-    Ok(areas)
 }
 
 // ---- what they share
@@ -211,11 +226,11 @@ fn are_claims_apart(alloc: Global, claims: &[Claim]) -> Result<bool, AllocError>
 #[cycle(overlap)]
 pub(crate) fn has_no_overlap(
     alloc: Global,
-    nodes: &[NodeRecord],
+    nodes: Nodes<'_>,
     levels: usize,
     id: u64,
 ) -> Result<bool, AllocError>
-    ensures { IfOk result (λ b. b ≡ has_no_overlap (shape_in (map node_of nodes.now) levels id)) }
+    ensures { IfOk result (λ b. b ≡ has_no_overlap (shape_in (listed nodes.entry) levels id)) }
 {
     match struct_at(nodes, levels, id) {
         None => Ok(true),
@@ -234,12 +249,12 @@ pub(crate) fn has_no_overlap(
 #[tactic(auto, using(crate::proofs::Overlaps::fields))]
 fn body_has_no_overlap(
     alloc: Global,
-    nodes: &[NodeRecord],
+    nodes: Nodes<'_>,
     levels: usize,
     body: &FieldBody,
 ) -> Result<bool, AllocError>
     ensures { IfOk result (λ b. b ≡ body_has_no_overlap (field_body (λ id. shape_in
-        (map node_of nodes.now) levels id) (kind_of_field body.now))) }
+        (listed nodes.entry) levels id) (kind_of_field body.now))) }
 {
     match body {
         FieldBody::Slot { .. } => Ok(true),
@@ -251,12 +266,12 @@ fn body_has_no_overlap(
 #[cycle(overlap)]
 fn have_no_overlap(
     alloc: Global,
-    nodes: &[NodeRecord],
+    nodes: Nodes<'_>,
     levels: usize,
     fields: &[FieldRecord],
 ) -> Result<bool, AllocError>
     ensures { IfOk result (λ b. b ≡ groups_have_no_overlap (λ id. shape_in
-        (map node_of nodes.now) levels id) (map field_of fields.now)) }
+        (listed nodes.entry) levels id) (map field_of fields.now)) }
 {
     let mut rest = fields;
     while let [first, others @ ..] = rest {

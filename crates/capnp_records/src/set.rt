@@ -11,6 +11,7 @@ use crate::check::check;
 use crate::fault::SchemaFault;
 use crate::find::is_struct;
 use crate::node::{EnumerantRecord, NodeBody, NodeRecord, StructRecord};
+use crate::nodes::Nodes;
 use crate::of_set::OfSet;
 use crate::raw::{RawBrandedStructSchema, RawEnumSchema};
 use crate::tables::{FieldTables, places_of, tables_of};
@@ -47,8 +48,8 @@ impl SchemaSet {
         ensures refused { IfErr result (λ fault. IsRefusalOf (map node_of nodes.items) fault) }
     {
         let alloc = *nodes.allocator();
-        check(alloc, &nodes)?;
         let places = places_of(alloc, &nodes)?;
+        check(alloc, Nodes::new(&nodes, &places))?;
         let tables = tables_of(alloc, &nodes)?;
         Ok(SchemaSet {
             nodes,

@@ -16,3 +16,8 @@ pub use Rattle.capnp_values.specs.ValuesShown
 pub use Rattle.capnp_values.specs.Variants
 pub use Rattle.capnp_values.specs.Standing
 pub use Rattle.capnp_values.specs.Records
+pub use Rattle.capnp_values.specs.Untyped
+pub use Rattle.capnp_print.specs.Texts
+pub use Rattle.capnp_print.specs.ShownReadings
+pub use Rattle.capnp_print.specs.Printed
+pub use Rattle.capnp_print.specs.Answers

@@ -1,10 +1,11 @@
-//! The schema layer under one name: node records and sets of them, types and schemas, dynamic readers, texts and data.
+//! The schema layer under one name: node records and sets of them, types and schemas, dynamic readers, texts and data, and printed text.
 #![tactic(auto)]
 
 pub mod dynamic_value;
 pub mod introspect;
 pub mod schema;
 
+pub use capnp_print::stringify;
 pub use capnp_records::fault::SchemaFault;
 pub use capnp_records::node::{
     AnnotationRecord, BaseType, EnumerantRecord, FieldBody, FieldRecord, NO_DISCRIMINANT, NodeBody,

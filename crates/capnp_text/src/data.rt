@@ -1,5 +1,6 @@
 //! Data: a sequence of bytes.
-ghost use Rattle.std.specs.Prelude.{◌≡◌};
+use capnp_wire::arena::ReaderArena;
+use capnp_wire::traits;
 
 /// Data to read: the bytes of a byte list, lent in place.
 pub type Reader<'a> = &'a [u8];
@@ -10,3 +11,8 @@ pub type Builder<'a> = &'a mut [u8];
 /// The type of data.
 #[derive(Clone, Copy, Debug, PartialEq, Eq)]
 pub struct Owned;
+
+/// Data are read as their bytes, by `FromPointerReader` of `&[u8]`.
+impl<'a, A: ReaderArena> traits::Owned<'a, A> for Owned {
+    type Reader = Reader<'a>;
+}

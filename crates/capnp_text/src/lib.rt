@@ -2,6 +2,4 @@
 #![tactic(auto)]
 
 pub mod data;
-#[cfg(test)]
-mod tests;
 pub mod text;

@@ -5,8 +5,16 @@ ghost use Rattle.std.specs.Prelude.{◌≡◌, ◌+◌, ◌<◌, ◌≤◌, ◌=
 ghost use Rattle.std.specs.Ordering.{nat_cmp};
 ghost use Rattle.std.specs.Cmp.{partial_equiv_from_equiv, on_per};
 ghost use Rattle.std.specs.Cmp.Lexicographic.{pointwise, slice_cmp, nat_list_eq_equiv};
+ghost use Rattle.capnp_wire.specs.Reads.{GetGives, read_text};
 ghost use Rattle.capnp_text.specs.Texts.{IsText, IsTextIfAny};
 
+use capnp_units::errors;
+use capnp_units::limiter::ReadLimiter;
+use capnp_units::sizes::Word;
+use capnp_wire::arena::ReaderArena;
+use capnp_wire::pointer::PointerReader;
+use capnp_wire::traits;
+use capnp_wire::traits::FromPointerReader;
 use std::alloc::{AllocError, Global};
 use std::cmp::Ordering;
 use std::fmt;
@@ -118,6 +126,24 @@ impl<'a> TryFrom<Reader<'a>> for &'a str {
     fn try_from(value: Reader<'a>) -> Result<&'a str, Utf8Error> {
         value.to_str()
     }
+}
+
+/// The text behind a pointer, lent in place, as `PointerReader::get_text` reads it and refuses to.
+impl<'a, A: ReaderArena> FromPointerReader<'a, A> for Reader<'a> {
+    ghost reads = { λ p old result new.
+        GetGives (λ text. text.0.now) (read_text p.basis p.levels) p old result new };
+
+    fn get_from_pointer(
+        reader: &PointerReader<'a, A>,
+        limiter: &mut ReadLimiter,
+        default: Option<&'a [Word]>,
+    ) -> errors::Result<Reader<'a>> {
+        Ok(Reader(reader.get_text(limiter, default)?))
+    }
+}
+
+impl<'a, A: ReaderArena> traits::Owned<'a, A> for Owned {
+    type Reader = Reader<'a>;
 }
 
 /// A text to write, whose bytes are lent by a message, with a position at which pushes write. The text has all of its bytes, those behind the position too.

@@ -1,4 +1,5 @@
 pub mod Sources
+pub mod Untyped
 pub mod ListSizes
 pub mod GoodDefaults
 pub mod Shown

@@ -1,21 +1,24 @@
 //! Pointers of no type.
-ghost use Rattle.std.specs.Prelude.{◌≡◌, Result, Ok};
+ghost use Rattle.std.specs.Prelude.{◌≡◌, Result, Ok, option_copied};
 ghost use Rattle.capnp_model.specs.Schemas.{untyped};
 ghost use Rattle.capnp_units.specs.declared.errors.Error.{Error};
 ghost use Rattle.capnp_object.specs.Places.{seen};
 ghost use Rattle.capnp_wire.specs.Views.{PointerView, seen_pointer};
-ghost use Rattle.capnp_wire.specs.Reads.{is_null};
+ghost use Rattle.capnp_wire.specs.Reads.{is_null, with_default};
 ghost use Rattle.capnp_wire.specs.ValueSizes.{PointerSize};
 ghost use Rattle.capnp_values.specs.Sources.{pointer_seen, WithoutLimit, text_at, data_at};
+ghost use Rattle.capnp_values.specs.Untyped.{IsUntyped};
 
 use crate::source::PointerSource;
 use capnp_queries::introspect::{Introspect, Type, TypeVariant};
 use capnp_text::text;
 use capnp_units::errors::Result;
 use capnp_units::limiter::ReadLimiter;
-use capnp_units::sizes::MessageSize;
+use capnp_units::sizes::{MessageSize, Word};
 use capnp_wire::arena::ReaderArena;
 use capnp_wire::pointer::PointerReader;
+use capnp_wire::traits;
+use capnp_wire::traits::FromPointerReader;
 
 /// A pointer of no type, of a message or of a default.
 #[derive_where(Clone, Copy)]
@@ -80,6 +83,23 @@ impl Introspect for Owned {
 
     fn introspect() -> Type {
         Type::from(TypeVariant::AnyPointer)
+    }
+}
+
+impl<'a, A: ReaderArena + 'a> traits::Owned<'a, A> for Owned {
+    type Reader = Reader<'a, A>;
+}
+
+/// The pointer itself, or the default's root in place of a null one. Nothing is followed, so nothing is paid for, and it isn't refused.
+impl<'a, A: ReaderArena> FromPointerReader<'a, A> for Reader<'a, A> {
+    ghost reads = { IsUntyped A.segments };
+
+    fn get_from_pointer(
+        reader: &PointerReader<'a, A>,
+        limiter: &mut ReadLimiter,
+        default: Option<&'a [Word]>,
+    ) -> Result<Reader<'a, A>> {
+        Ok(Reader::new(reader.with_default(default)))
     }
 }
 

@@ -13,7 +13,3 @@ pub mod of_value;
 mod opening;
 mod plain;
 pub mod source;
-#[cfg(test)]
-mod tests;
-#[cfg(test)]
-mod typed_tests;

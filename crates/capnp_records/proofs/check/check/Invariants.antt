@@ -5,4 +5,4 @@ use Rattle.capnp_records.proofs.check.check.Given as goal
 
 -- the rules that are left decide
 abbrev pub invariant-loop-rule : goal.invariant-loop-rule
-invariant-loop-rule l = first_fault_from (map node_of l.fn.nodes) l.rule (13 - l.rule) ≡ fault_of (map node_of l.fn.nodes)
+invariant-loop-rule l = first_fault_from (map node_of l.fn.nodes.records.now) l.rule (13 - l.rule) ≡ fault_of (map node_of l.fn.nodes.records.now)

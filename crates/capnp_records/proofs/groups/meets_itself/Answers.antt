@@ -9,17 +9,17 @@ use Rattle.capnp_records.proofs.groups.meets_itself.Goals as goal
 
 pub loop-left-init : goal.loop-left-init
 loop-left-init c =
-    let nodes = map node_of c.args.nodes.now in
-    let some : (length c.args.nodes.now == 0) ≡ false = sym c.is_empty.ensures ∙ c.if-is_empty.false in
-    let long : 0 < length c.args.nodes.now = grind (arith, nat_tests) in
-    ap (λ (gs : List ℕ). meets_in nodes c.args.node.now.id (length c.args.nodes.now - 1) gs) c.in_ok-ids.ensures
-    ∙ from_node nodes c.args.node.now.id (node_of c.args.node.now) (length c.args.nodes.now) long
+    let nodes = map node_of c.args.nodes.records.now in
+    let some : (length c.args.nodes.records.now == 0) ≡ false = sym c.is_empty.ensures ∙ c.if-is_empty.false in
+    let long : 0 < length c.args.nodes.records.now = grind (arith, nat_tests) in
+    ap (λ (gs : List ℕ). meets_in nodes c.args.node.now.id (length c.args.nodes.records.now - 1) gs) c.in_ok-ids.ensures
+    ∙ from_node nodes c.args.node.now.id (node_of c.args.node.now) (length c.args.nodes.records.now) long
 
 pub loop-left-preserved : goal.loop-left-preserved
 loop-left-preserved c =
-    let nodes = map node_of c.args.nodes.now in
+    let nodes = map node_of c.args.nodes.records.now in
     let id = c.args.node.now.id in
-    let all : Bool = meets_below nodes (length c.args.nodes.now) id (Some (node_of c.args.node.now)) in
+    let all : Bool = meets_below nodes (length c.args.nodes.records.now) id (Some (node_of c.args.node.now)) in
     let gs = c.loop-left.ids.items in
     let not_here : list_any (λ g. g == id) gs ≡ false = ap (list_any (λ g. g == id)) (sym c.deref.ensures.value) ∙ sym c.has_group.ensures ∙ c.if-has_group.false in
     let same : PassSame c.in_ok-ids-2.ids.items (flat_map (groups_below nodes) gs) = subst (λ (xs : List ℕ). PassSame c.in_ok-ids-2.ids.items (flat_map (groups_below nodes) xs)) c.deref-in-loop-left.ensures.value c.in_ok-ids-2.ensures in
@@ -27,18 +27,18 @@ loop-left-preserved c =
 
 pub returns-then-has_group : goal.returns-then-has_group
 returns-then-has_group c =
-    let nodes = map node_of c.args.nodes.now in
+    let nodes = map node_of c.args.nodes.records.now in
     let id = c.args.node.now.id in
-    let all : Bool = meets_below nodes (length c.args.nodes.now) id (Some (node_of c.args.node.now)) in
+    let all : Bool = meets_below nodes (length c.args.nodes.records.now) id (Some (node_of c.args.node.now)) in
     let gs = c.loop-left.ids.items in
     let here : list_any (λ g. g == id) gs ≡ true = ap (list_any (λ g. g == id)) (sym c.deref.ensures.value) ∙ sym c.has_group.ensures ∙ c.if-has_group.true in
     met_here nodes id c.loop-left.left gs all c.loop-left-test.true here c.loop-left.invariant
 
 pub returns-then-is_nothing : goal.returns-then-is_nothing
 returns-then-is_nothing c =
-    let nodes = map node_of c.args.nodes.now in
+    let nodes = map node_of c.args.nodes.records.now in
     let id = c.args.node.now.id in
-    let all : Bool = meets_below nodes (length c.args.nodes.now) id (Some (node_of c.args.node.now)) in
+    let all : Bool = meets_below nodes (length c.args.nodes.records.now) id (Some (node_of c.args.node.now)) in
     let gs = c.loop-left.ids.items in
     let not_here : list_any (λ g. g == id) gs ≡ false = ap (list_any (λ g. g == id)) (sym c.deref.ensures.value) ∙ sym c.has_group.ensures ∙ c.if-has_group.false in
     let same : PassSame c.in_ok-ids-2.ids.items (flat_map (groups_below nodes) gs) = subst (λ (xs : List ℕ). PassSame c.in_ok-ids-2.ids.items (flat_map (groups_below nodes) xs)) c.deref-in-loop-left.ensures.value c.in_ok-ids-2.ensures in

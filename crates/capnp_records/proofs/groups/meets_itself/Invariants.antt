@@ -6,7 +6,7 @@ use Rattle.capnp_records.proofs.groups.meets_itself.Given as goal
 
 -- the levels that are left decide
 abbrev pub invariant-loop-left : goal.invariant-loop-left
-invariant-loop-left l = meets_in (map node_of l.fn.nodes) l.fn.node.id l.left l.ids.items ≡ meets_below (map node_of l.fn.nodes) (length l.fn.nodes) l.fn.node.id (Some (node_of l.fn.node))
+invariant-loop-left l = meets_in (map node_of l.fn.nodes.records.now) l.fn.node.id l.left l.ids.items ≡ meets_below (map node_of l.fn.nodes.records.now) (length l.fn.nodes.records.now) l.fn.node.id (Some (node_of l.fn.node))
 
 abbrev pub decreases-loop-left : goal.decreases-loop-left
 decreases-loop-left l = l.left

@@ -7,5 +7,5 @@ use Rattle.capnp_records.proofs.groups.next_level.Given as goal
 abbrev pub invariant-loop-id : goal.invariant-loop-id
 invariant-loop-id l = record {
   same : PassSame l.seen.keys l.next.items;
-  below : PassSame l.next.items (flat_map (groups_below (map node_of l.fn.nodes)) (take l.id-index l.fn.ids));
+  below : PassSame l.next.items (flat_map (groups_below (map node_of l.fn.nodes.records.now)) (take l.id-index l.fn.ids));
 }

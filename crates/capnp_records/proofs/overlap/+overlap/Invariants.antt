@@ -15,7 +15,7 @@ decreases-have_no_overlap l = 3 * l.levels + 2
 
 -- the rest decides
 abbrev pub invariant-have_no_overlap-loop-rest : goal.invariant-have_no_overlap-loop-rest
-invariant-have_no_overlap-loop-rest l = groups_have_no_overlap (λ id. shape_in (map node_of l.fn.nodes) l.fn.levels id) (map field_of l.rest) ≡ groups_have_no_overlap (λ id. shape_in (map node_of l.fn.nodes) l.fn.levels id) (map field_of l.fn.fields)
+invariant-have_no_overlap-loop-rest l = groups_have_no_overlap (λ id. shape_in (map node_of l.fn.nodes.records.now) l.fn.levels id) (map field_of l.rest) ≡ groups_have_no_overlap (λ id. shape_in (map node_of l.fn.nodes.records.now) l.fn.levels id) (map field_of l.fn.fields)
 
 abbrev pub decreases-have_no_overlap-loop-rest : goal.decreases-have_no_overlap-loop-rest
 decreases-have_no_overlap-loop-rest l = length l.rest

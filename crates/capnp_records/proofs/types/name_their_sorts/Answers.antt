@@ -9,5 +9,5 @@ use Rattle.capnp_records.proofs.types.name_their_sorts.Goals as goal
 
 pub returns : goal.returns
 returns c =
-    all_from_yields_List (λ t. names_its_sort (map node_of c.args.nodes.now) (type_record_of t).base) _ _ _ c.all.ensures.ran (YieldsList-from_slice c.args.types.now cc) (λ x b q k. search rules)
-    ∙ sym (list_all-map (λ (t : TypeRecord). names_its_sort (map node_of c.args.nodes.now) t.base) (type_record_of) (c.args.types.now))
+    all_from_yields_List (λ t. names_its_sort (map node_of c.args.nodes.records.now) (type_record_of t).base) _ _ _ c.all.ensures.ran (YieldsList-from_slice c.args.types.now cc) (λ x b q k. search rules)
+    ∙ sym (list_all-map (λ (t : TypeRecord). names_its_sort (map node_of c.args.nodes.records.now) t.base) (type_record_of) (c.args.types.now))

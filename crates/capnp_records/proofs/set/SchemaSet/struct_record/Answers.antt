@@ -1,4 +1,4 @@
-use Rattle.std.proofs.Common.{ap, ◌∙◌}
+use Rattle.std.proofs.Common.{ap}
 use Rattle.capnp_records.specs.NodeViews.{kind_of, struct_of}
 use Rattle.capnp_records.specs.Sets.{has_struct, struct_in}
 use Rattle.capnp_records.proofs.FoundNodes.{struct_found_at}
