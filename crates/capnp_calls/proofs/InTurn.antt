@@ -6,7 +6,7 @@ use Rattle.capnp_model.specs.Calls.{Call}
 use Rattle.capnp_model.specs.CallRuns.{records_after}
 use Rattle.capnp_model.specs.Answers.{Reply, replies, edits}
 use Rattle.capnp_queries.specs.declared.structs.StructSchema.{StructSchema}
-use Rattle.capnp_calls.specs.Taken.{reply_to, tree_after, replies_to, tree_after_all, record_by, record_by_all}
+use Rattle.capnp_calls.specs.Taken.{GoesToSlot, GoToSlots, taken_call, reply_to, tree_after, replies_to, tree_after_all, record_by, record_by_all}
 
 pub replies_to-more : (root : StructSchema) (before : List Reply) (call : Call) (rest : List Call) (t t' : Tree) (x : Reply) → x ≡ reply_to root call t → t' ≡ tree_after root call t
     → (before ++ x ∷ []) ++ replies_to root rest t' ≡ before ++ replies_to root (call ∷ rest) t
@@ -37,3 +37,8 @@ pub record_by_all-more : (root : StructSchema) (calls : List Call) (call : Call)
 unfolding records_after
 record_by_all-more root [] call r = refl
 record_by_all-more root (c ∷ calls) call r = record_by_all-more root calls call (record_by root c r)
+
+-- what holds of all calls holds of those before the last, and of the last
+pub slots_before : (root : StructSchema) (calls : List Call) (call : Call) → GoToSlots root (calls ++ call ∷ []) → GoToSlots root calls × GoesToSlot root (taken_call root call)
+slots_before root [] call h = (tt, h.0)
+slots_before root (c ∷ calls) call h = let more = slots_before root calls call h.1 in ((h.0, more.0), more.1)

@@ -24,3 +24,5 @@ pub mod SlotRecords
 pub mod WholeCalls
 pub mod Placed
 pub mod InTurn
+pub mod ClearedGroups
+pub mod GroupEnds

@@ -19,11 +19,12 @@ use Rattle.capnp_queries.specs.Structs.{nodes_around, schema_around, id_of, shap
 use Rattle.capnp_queries.specs.declared.structs.StructSchema.{StructSchema}
 use Rattle.capnp_queries.specs.Handles.{plain_of}
 use Rattle.capnp_queries.specs.Types.{ty_of}
+use Rattle.capnp_queries.specs.declared.introspect.«Type».{«Type» as Type'}
 use Rattle.capnp_calls.specs.Texts.{as_it_is}
 use Rattle.capnp_calls.specs.Replies.{is_active_in}
 use Rattle.capnp_calls.specs.Slots.{body_of_slot, IsSlotOf}
-use Rattle.capnp_calls.specs.Readable.{reads_as, reads_in}
-use Rattle.capnp_calls.specs.Taken.{are_names, is_taken_at, is_taken_end, end_behind, IsTakenPath, IsTakenRest}
+use Rattle.capnp_calls.specs.Readable.{reads_as, reads_in, misfit_reply}
+use Rattle.capnp_calls.specs.Taken.{starts_with_name, is_taken_at, is_taken_from, is_taken_behind, IsTakenPath, IsTakenRest}
 use Rattle.capnp_calls.specs.Sizes.{IsDone}
 use Rattle.capnp_calls.specs.Paths.{if_written, field_outcome, field_after, AnswersField, FieldPutsLong, AnswersPath, PathPutsLong}
 use Rattle.capnp_calls.specs.Finding.{IsNamed, IsNamedGroup}
@@ -34,7 +35,7 @@ use Rattle.capnp_calls.specs.declared.slot.Slot.TheVariants as S
 use Rattle.capnp_calls.proofs.SlotShown.{read_child-child}
 use Rattle.capnp_calls.proofs.OneStep.{IsSlot, is_void, is_plain, is_pointer}
 use Rattle.capnp_calls.proofs.PathFields.{nowhere_stays, no_field, by_field, long_by_field, inactive_field, active_field, by_group, long_by_group}
-use Rattle.capnp_calls.proofs.ReadableSteps.{TakesNoName, no_text, no_blob, no_untyped, no_interface, no_list, readable_through, unreadable_through, text_reads, list_default_reads}
+use Rattle.capnp_calls.proofs.ReadableSteps.{Misfits, no_text, no_blob, no_untyped, no_interface, no_list, no_struct, readable_through, unreadable_through, text_reads, list_default_reads, struct_default_reads}
 
 -- ---- fields that are on the way
 
@@ -80,123 +81,109 @@ module _ (g : StructSchema) (verb : Verb) (union member : Option ℕ) (c : Cell)
   group_long [] some h = absurd (some refl)
   group_long (st ∷ rest) some h = long_by_group g rest verb union member c active st h
 
--- ---- what takes no name
+-- ---- a step that does not fit
 
--- a slot that is no struct
-abbrev pub IsNoStruct : Slot → Type 0
-IsNoStruct (S.Struct i raw default) = ⊥
-IsNoStruct _ = Unit {0}
-
-module _ (s : Schema) (n : List ℕ) (rest : List Step) (verb : Verb) (union member : Option ℕ) (c : Cell) (active : is_active_in union member c ≡ true) where
-  module _ (ty : Ty) (h : TakesNoName ty) (i : ℕ) (d : Option Tree) where
-    reading_is : field_outcome s (name n ∷ rest) verb union member (pointer_slot i ty d) c ≡ through_field s (name n) (step_field s rest verb) (step_element s rest verb) (pointer_slot i ty d) (read s (child c.kids i) ty)
+module _ (s : Schema) (st : Step) (rest : List Step) (verb : Verb) (union member : Option ℕ) (c : Cell) (active : is_active_in union member c ≡ true) where
+  module _ (ty : Ty) (h : Misfits st ty) (i : ℕ) (d : Option Tree) where
+    reading_is : field_outcome s (st ∷ rest) verb union member (pointer_slot i ty d) c ≡ through_field s st (step_field s rest verb) (step_element s rest verb) (pointer_slot i ty d) (read s (child c.kids i) ty)
     unfolding step_field body_of
     reading_is =
-        active_field s (name n) rest verb union member (pointer_slot i ty d) c active
-        ∙ ap (through_field s (name n) (step_field s rest verb) (step_element s rest verb) (pointer_slot i ty d)) (read_child-child s c.kids i ty)
+        active_field s st rest verb union member (pointer_slot i ty d) c active
+        ∙ ap (through_field s st (step_field s rest verb) (step_element s rest verb) (pointer_slot i ty d)) (read_child-child s c.kids i ty)
 
-    other_answer : reads_as ty (default_or_null d) ≡ true → reads_as ty (child c.kids i) ≡ true → AnswersField s (name n ∷ rest) verb union member (pointer_slot i ty d) c c (reply_refused WrongStep)
-    other_answer default good =
-        refused_answer s verb union member (pointer_slot i ty d) c (name n ∷ rest) WrongStep (reading_is ∙ readable_through s n (step_field s rest verb) (step_element s rest verb) ty h i d default (child c.kids i) good)
+    other_answer : reads_as ty (default_or_null d) ≡ true → (b : Bool) → reads_as ty (child c.kids i) ≡ b → AnswersField s (st ∷ rest) verb union member (pointer_slot i ty d) c c (misfit_reply b)
+    other_answer default true good =
+        refused_answer s verb union member (pointer_slot i ty d) c (st ∷ rest) WrongStep (reading_is ∙ readable_through s (step_field s rest verb) (step_element s rest verb) st ty h i d default (child c.kids i) good)
+    other_answer default false bad =
+        refused_answer s verb union member (pointer_slot i ty d) c (st ∷ rest) UnreadablePointer (reading_is ∙ unreadable_through s (step_field s rest verb) (step_element s rest verb) st ty h i d (child c.kids i) bad)
 
-    unread_answer : reads_as ty (child c.kids i) ≡ false → AnswersField s (name n ∷ rest) verb union member (pointer_slot i ty d) c c (reply_refused UnreadablePointer)
-    unread_answer bad =
-        refused_answer s verb union member (pointer_slot i ty d) c (name n ∷ rest) UnreadablePointer (reading_is ∙ unreadable_through s n (step_field s rest verb) (step_element s rest verb) ty h i d (child c.kids i) bad)
+  plain_answer : (body : Body) → step_field s (st ∷ rest) verb body (body_of body whole_words c.section (read_child s c.kids)) ≡ refused WrongStep → AnswersField s (st ∷ rest) verb union member body c c (reply_refused WrongStep)
+  plain_answer body h = refused_answer s verb union member body c (st ∷ rest) WrongStep (active_field s st rest verb union member body c active ∙ h)
 
-  plain_answer : (body : Body) → step_field s (name n ∷ rest) verb body (body_of body whole_words c.section (read_child s c.kids)) ≡ refused WrongStep → AnswersField s (name n ∷ rest) verb union member body c c (reply_refused WrongStep)
-  plain_answer body h = refused_answer s verb union member body c (name n ∷ rest) WrongStep (active_field s (name n) rest verb union member body c active ∙ h)
+text_default : (d : Option (List ℕ)) → reads_as text (default_or_null (option_map text_tree d)) ≡ true
+text_default None = refl
+text_default (Some bs) = text_reads bs
 
-  text_default : (d : Option (List ℕ)) → reads_as text (default_or_null (option_map text_tree d)) ≡ true
-  text_default None = refl
-  text_default (Some bs) = text_reads bs
+blob_default : (d : Option (List ℕ)) → reads_as blob (default_or_null (option_map blob_tree d)) ≡ true
+blob_default None = refl
+blob_default (Some bs) = refl
 
-  blob_default : (d : Option (List ℕ)) → reads_as blob (default_or_null (option_map blob_tree d)) ≡ true
-  blob_default None = refl
-  blob_default (Some bs) = refl
+module _ (s : Schema) (verb : Verb) (union member : Option ℕ) (c : Cell) (active : is_active_in union member c ≡ true) (nodes : List Node) where
+  abbrev Misfit : Step → List Step → Slot → Type 0
+  Misfit st rest at = AnswersField s (st ∷ rest) verb union member (body_of_slot at) c c (misfit_reply (reads_in (body_of_slot at) c))
 
-  readable_slot : (nodes : List Node) (at : Slot) → IsSlotOf nodes at → IsNoStruct at → reads_in (body_of_slot at) c ≡ true → AnswersField s (name n ∷ rest) verb union member (body_of_slot at) c c (reply_refused WrongStep)
+  name_misfits : (n : List ℕ) (rest : List Step) (at : Slot) → IsSlotOf nodes at → ((i : ℕ) (raw : RawBrandedStructSchema) (default : Option (Bor Value)) → at ≡ S.Struct i raw default → ⊥) → Misfit (name n) rest at
   unfolding step_field body_of
-  readable_slot nodes (S.Void offset) of_set other h = plain_answer (void_slot offset) refl
-  readable_slot nodes (S.Plain ty first default) of_set other h = plain_answer (plain_slot (plain_of ty) first default) refl
-  readable_slot nodes (S.Text i default) of_set other h = other_answer text no_text i _ (text_default (option_copied default)) h
-  readable_slot nodes (S.Data i default) of_set other h = other_answer blob no_blob i _ (blob_default (option_copied default)) h
-  readable_slot nodes (S.AnyPointer i) of_set other h = other_answer untyped no_untyped i None refl refl
-  readable_slot nodes (S.Capability i) of_set other h = other_answer interface no_interface i None refl refl
-  readable_slot nodes (S.Struct i raw default) of_set other h = absurd other
-  readable_slot nodes (S.List i element default) of_set other h = other_answer (list (ty_of element)) (no_list (ty_of element)) i _ (list_default_reads (ty_of element) _ of_set.1) h
+  name_misfits n rest (S.Void offset) of_set other = plain_answer s (name n) rest verb union member c active (void_slot offset) refl
+  name_misfits n rest (S.Plain ty first default) of_set other = plain_answer s (name n) rest verb union member c active (plain_slot (plain_of ty) first default) refl
+  name_misfits n rest (S.Text i default) of_set other = other_answer s (name n) rest verb union member c active text (no_text (name n)) i _ (text_default (option_copied default)) _ refl
+  name_misfits n rest (S.Data i default) of_set other = other_answer s (name n) rest verb union member c active blob (no_blob (name n)) i _ (blob_default (option_copied default)) _ refl
+  name_misfits n rest (S.AnyPointer i) of_set other = other_answer s (name n) rest verb union member c active untyped (no_untyped (name n)) i None refl true refl
+  name_misfits n rest (S.Capability i) of_set other = other_answer s (name n) rest verb union member c active interface (no_interface (name n)) i None refl true refl
+  name_misfits n rest (S.Struct i raw default) of_set other = absurd (other i raw default refl)
+  name_misfits n rest (S.List i element default) of_set other = other_answer s (name n) rest verb union member c active (list (ty_of element)) (no_list n (ty_of element)) i _ (list_default_reads (ty_of element) _ of_set.1) _ refl
 
-  unreadable_slot : (at : Slot) → IsNoStruct at → reads_in (body_of_slot at) c ≡ false → AnswersField s (name n ∷ rest) verb union member (body_of_slot at) c c (reply_refused UnreadablePointer)
-  unreadable_slot (S.Void offset) other h = absurd (cc h)
-  unreadable_slot (S.Plain ty first default) other h = absurd (cc h)
-  unreadable_slot (S.Text i default) other h = unread_answer text no_text i _ h
-  unreadable_slot (S.Data i default) other h = unread_answer blob no_blob i _ h
-  unreadable_slot (S.AnyPointer i) other h = absurd (cc h)
-  unreadable_slot (S.Capability i) other h = absurd (cc h)
-  unreadable_slot (S.Struct i raw default) other h = absurd other
-  unreadable_slot (S.List i element default) other h = unread_answer (list (ty_of element)) (no_list (ty_of element)) i _ h
+  index_misfits : (k : ℕ) (rest : List Step) (at : Slot) → IsSlotOf nodes at → IsTakenRest s (body_of_slot at) (index k ∷ rest) verb → Misfit (index k) rest at
+  unfolding step_field body_of
+  index_misfits k rest (S.Void offset) of_set taken = plain_answer s (index k) rest verb union member c active (void_slot offset) refl
+  index_misfits k rest (S.Plain ty first default) of_set taken = plain_answer s (index k) rest verb union member c active (plain_slot (plain_of ty) first default) refl
+  index_misfits k rest (S.Text i default) of_set taken = other_answer s (index k) rest verb union member c active text (no_text (index k)) i _ (text_default (option_copied default)) _ refl
+  index_misfits k rest (S.Data i default) of_set taken = other_answer s (index k) rest verb union member c active blob (no_blob (index k)) i _ (blob_default (option_copied default)) _ refl
+  index_misfits k rest (S.AnyPointer i) of_set taken = other_answer s (index k) rest verb union member c active untyped (no_untyped (index k)) i None refl true refl
+  index_misfits k rest (S.Capability i) of_set taken = other_answer s (index k) rest verb union member c active interface (no_interface (index k)) i None refl true refl
+  index_misfits k rest (S.Struct i raw default) of_set taken = other_answer s (index k) rest verb union member c active (struct raw.id) (no_struct k raw.id) i _ (struct_default_reads raw.id _ of_set.1) _ refl
+  index_misfits k rest (S.List i element default) of_set taken = absurd (cc taken)
 
-module _ (s : Schema) (verb : Verb) (union member : Option ℕ) (c : Cell) (active : is_active_in union member c ≡ true) where
-  pub slot_wrong : (path : List Step) → are_names path ≡ true → path ≢ [] → (nodes : List Node) (at : Slot) → IsSlotOf nodes at → IsNoStruct at → reads_in (body_of_slot at) c ≡ true → AnswersField s path verb union member (body_of_slot at) c c (reply_refused WrongStep)
-  slot_wrong [] names some nodes at of_set other h = absurd (some refl)
-  slot_wrong (name n ∷ rest) names some nodes at of_set other h = readable_slot s n rest verb union member c active nodes at of_set other h
-  slot_wrong (index k ∷ rest) names some nodes at of_set other h = absurd (cc names)
-
-  pub slot_unread : (path : List Step) → are_names path ≡ true → path ≢ [] → (at : Slot) → IsNoStruct at → reads_in (body_of_slot at) c ≡ false → AnswersField s path verb union member (body_of_slot at) c c (reply_refused UnreadablePointer)
-  slot_unread [] names some at other h = absurd (some refl)
-  slot_unread (name n ∷ rest) names some at other h = unreadable_slot s n rest verb union member c active at other h
-  slot_unread (index k ∷ rest) names some at other h = absurd (cc names)
+  pub misfit_answer : (path : List Step) → path ≢ [] → (at : Slot) → IsSlotOf nodes at → IsTakenRest s (body_of_slot at) path verb → ((i : ℕ) (raw : RawBrandedStructSchema) (default : Option (Bor Value)) → at ≡ S.Struct i raw default → starts_with_name path ≡ false)
+      → (answer : Reply) → answer ≡ misfit_reply (reads_in (body_of_slot at) c) → AnswersField s path verb union member (body_of_slot at) c c answer
+  misfit_answer [] some at of_set taken other answer is = absurd (some refl)
+  misfit_answer (name n ∷ rest) some at of_set taken other answer is =
+      subst (λ x. AnswersField s (name n ∷ rest) verb union member (body_of_slot at) c c x) (sym is) (name_misfits n rest at of_set (λ i raw default e. let x = other i raw default e in cc x))
+  misfit_answer (index k ∷ rest) some at of_set taken other answer is =
+      subst (λ x. AnswersField s (index k ∷ rest) verb union member (body_of_slot at) c c x) (sym is) (index_misfits k rest at of_set taken)
 
 -- ---- which paths are taken
 
-module _ where
-  -- the rest behind a group, and behind a struct's pointer, ends where the whole does
-  pub group_end_is : (g : StructSchema) (path : List Step) → path ≢ [] → are_names path ≡ true → end_of (schema_around g) path (at_slot (group_slot (shape_of_struct g))) ≡ end_behind (schema_around g) (fields_of_struct g) path
-  unfolding end_of
-  group_end_is g [] some names = absurd (some refl)
-  group_end_is g (name n ∷ rest) some names = refl
-  group_end_is g (index k ∷ rest) some names = absurd (cc names)
+-- a path that fits nothing is taken, and refused
+pub nowhere_taken : (s : Schema) (verb : Verb) (path : List Step) → is_taken_from s verb path nowhere ≡ true
+nowhere_taken s verb [] = refl
+nowhere_taken s verb (name n ∷ path) = nowhere_taken s verb path
+nowhere_taken s verb (index k ∷ path) = nowhere_taken s verb path
 
-  pub struct_end_is : (g : StructSchema) (i : ℕ) (d : Option Tree) (path : List Step) → path ≢ [] → are_names path ≡ true
-      → end_of (schema_around g) path (at_slot (pointer_slot i (struct g.raw.id) d)) ≡ end_behind (schema_around g) (fields_of_struct g) path
-  unfolding end_of
-  struct_end_is g i d [] some names = absurd (some refl)
-  struct_end_is g i d (name n ∷ rest) some names = refl
-  struct_end_is g i d (index k ∷ rest) some names = absurd (cc names)
+-- the rest behind a group, and behind a struct's pointer, is taken where the whole is
+group_taken_is : (g : StructSchema) (verb : Verb) (path : List Step) → path ≢ [] → is_taken_from (schema_around g) verb path (at_slot (group_slot (shape_of_struct g))) ≡ is_taken_behind (schema_around g) verb (fields_of_struct g) path
+group_taken_is g verb [] some = absurd (some refl)
+group_taken_is g verb (name n ∷ rest) some = refl
+group_taken_is g verb (index k ∷ rest) some = nowhere_taken (schema_around g) verb rest
+
+struct_taken_is : (g : StructSchema) (verb : Verb) (i : ℕ) (d : Option Tree) (path : List Step) → path ≢ [] → is_taken_from (schema_around g) verb path (at_slot (pointer_slot i (struct g.raw.id) d)) ≡ is_taken_behind (schema_around g) verb (fields_of_struct g) path
+struct_taken_is g verb i d [] some = absurd (some refl)
+struct_taken_is g verb i d (name n ∷ rest) some = refl
+struct_taken_is g verb i d (index k ∷ rest) some = nowhere_taken (schema_around g) verb rest
 
 behind : (root : StructSchema) (n : List ℕ) (rest : List Step) (verb : Verb) (member : Option ℕ) (body : Body) → target_of n (fields_of_struct root) ≡ target member body → IsTakenPath root (name n ∷ rest) verb → IsTakenRest (schema_around root) body rest verb
-behind root n rest verb member body found h = record {
-  names = h.names;
-  taken = subst (λ t. is_taken_end verb (end_of (schema_around root) rest (end_at t)) ≡ true) found h.taken;
-}
+behind root n rest verb member body found h = subst (λ t. is_taken_from (schema_around root) verb rest (end_at t) ≡ true) found h
 
 pub slot_taken : (root : StructSchema) (n : List ℕ) (rest : List Step) (verb : Verb) (at : NamedSlot) → IsNamed root n at → IsTakenPath root (name n ∷ rest) verb → IsTakenRest (schema_around root) (body_of_slot at.slot) rest verb
 slot_taken root n rest verb at is h = behind root n rest verb at.member (body_of_slot at.slot) is.target h
 
 pub end_taken : (root : StructSchema) (n : List ℕ) (verb : Verb) (at : NamedSlot) → IsNamed root n at → IsTakenPath root (name n ∷ []) verb → is_taken_at verb (body_of_slot at.slot) ≡ true
-unfolding end_of
-end_taken root n verb at is h = (behind root n [] verb at.member (body_of_slot at.slot) is.target h).taken
+end_taken root n verb at is h = behind root n [] verb at.member (body_of_slot at.slot) is.target h
 
-group_some : (s : Schema) (g : Shape) (rest : List Step) (verb : Verb) → is_taken_end verb (end_of s rest (at_slot (group_slot g))) ≡ true → rest ≢ []
-unfolding end_of
-group_some s g [] verb h e = cc h
-group_some s g (st ∷ rest) verb h e = cc e
+pub group_end_taken : (root : StructSchema) (n : List ℕ) (verb : Verb) (g : NamedGroup) → IsNamedGroup root n g → IsTakenPath root (name n ∷ []) verb → is_taken_at verb (group_slot (shape_of_struct g.schema)) ≡ true
+group_end_taken root n verb g is h = behind root n [] verb g.member (group_slot (shape_of_struct g.schema)) is.target h
 
-pub group_taken : (root : StructSchema) (n : List ℕ) (rest : List Step) (verb : Verb) (g : NamedGroup) → IsNamedGroup root n g → IsTakenPath root (name n ∷ rest) verb → (rest ≢ []) × IsTakenPath g.schema rest verb
-group_taken root n rest verb g is h =
-    let b = behind root n rest verb g.member (group_slot (shape_of_struct g.schema)) is.target h in
-    let some : rest ≢ [] = group_some (schema_around root) (shape_of_struct g.schema) rest verb b.taken in
-    let there : is_taken_end verb (end_of (schema_around g.schema) rest (at_slot (group_slot (shape_of_struct g.schema)))) ≡ true =
-    subst (λ nodes. is_taken_end verb (end_of (schema_of nodes) rest (at_slot (group_slot (shape_of_struct g.schema)))) ≡ true) (sym is.nodes) b.taken in (
-      some,
-      record { names = b.names; taken = subst (λ e. is_taken_end verb e ≡ true) (group_end_is g.schema rest some b.names) there },
-    )
+pub group_taken : (root : StructSchema) (n : List ℕ) (rest : List Step) (verb : Verb) (g : NamedGroup) → IsNamedGroup root n g → rest ≢ [] → IsTakenPath root (name n ∷ rest) verb → IsTakenPath g.schema rest verb
+group_taken root n rest verb g is some h =
+    sym (group_taken_is g.schema verb rest some)
+    ∙ subst (λ nodes. is_taken_from (schema_of nodes) verb rest (at_slot (group_slot (shape_of_struct g.schema))) ≡ true) (sym is.nodes) (behind root n rest verb g.member (group_slot (shape_of_struct g.schema)) is.target h)
 
 pub struct_taken : (nodes : List Node) (g : StructSchema) (raw : RawBrandedStructSchema) (i : ℕ) (d : Option Tree) (rest : List Step) (verb : Verb) → rest ≢ [] → nodes_around g ≡ nodes → g.raw ≡ raw
     → IsTakenRest (schema_of nodes) (pointer_slot i (struct raw.id) d) rest verb → IsTakenPath g rest verb
 struct_taken nodes g raw i d rest verb some same is h =
     let a = subst (λ ns. IsTakenRest (schema_of ns) (pointer_slot i (struct raw.id) d) rest verb) (sym same) h in
     let b = subst (λ r. IsTakenRest (schema_around g) (pointer_slot i (struct r.id) d) rest verb) (sym is) a in
-    record { names = b.names; taken = subst (λ e. is_taken_end verb e ≡ true) (struct_end_is g i d rest some b.names) b.taken }
+    sym (struct_taken_is g verb i d rest some) ∙ b
 
 -- ---- a slot or a group of a name
 
@@ -276,83 +263,71 @@ names_behind path n rest split root verb h = subst (λ p. IsTakenPath root p ver
 
 -- ---- the test whether a path is taken
 
-no_struct : (at : Slot) → ((i : ℕ) (raw : RawBrandedStructSchema) (default : Option (Bor Value)) → at ≡ S.Struct i raw default → ⊥) → IsNoStruct at
-no_struct (S.Void offset) h = tt
-no_struct (S.Plain ty first default) h = tt
-no_struct (S.Text i default) h = tt
-no_struct (S.Data i default) h = tt
-no_struct (S.AnyPointer i) h = tt
-no_struct (S.Capability i) h = tt
-no_struct (S.Struct i raw default) h = absurd (h i raw default refl)
-no_struct (S.List i element default) h = tt
+-- a list takes no name, and no index is taken
+list_taken : (s : Schema) (verb : Verb) (rest : List Step) → rest ≢ [] → (i : ℕ) (ty : Ty) (d : Option Tree) → is_taken_from s verb rest (at_slot (pointer_slot i (list ty) d)) ≡ starts_with_name rest
+list_taken s verb [] some i ty d = absurd (some refl)
+list_taken s verb (name n ∷ rest) some i ty d = nowhere_taken s verb rest
+list_taken s verb (index k ∷ rest) some i ty d = refl
 
--- a name leads nowhere from a slot that is no struct
-nowhere_from : (s : Schema) (n : List ℕ) (rest : List Step) (at : Slot) → IsNoStruct at → end_of s (name n ∷ rest) (at_slot (body_of_slot at)) ≡ nowhere
-unfolding end_of
-nowhere_from s n rest (S.Void offset) h = nowhere_stays s rest
-nowhere_from s n rest (S.Plain ty first default) h = nowhere_stays s rest
-nowhere_from s n rest (S.Text i default) h = nowhere_stays s rest
-nowhere_from s n rest (S.Data i default) h = nowhere_stays s rest
-nowhere_from s n rest (S.AnyPointer i) h = nowhere_stays s rest
-nowhere_from s n rest (S.Capability i) h = nowhere_stays s rest
-nowhere_from s n rest (S.Struct i raw default) h = absurd h
-nowhere_from s n rest (S.List i element default) h = nowhere_stays s rest
+-- what is no struct and no list takes no step
+others_taken : (s : Schema) (verb : Verb) (rest : List Step) → rest ≢ [] → (at : Slot) → ((i : ℕ) (raw : RawBrandedStructSchema) (default : Option (Bor Value)) → at ≡ S.Struct i raw default → ⊥)
+    → ((i : ℕ) (element : Type') (default : Option (Bor Value)) → at ≡ S.List i element default → ⊥) → is_taken_from s verb rest (at_slot (body_of_slot at)) ≡ true
+others_taken s verb [] some at not_struct not_list = absurd (some refl)
+others_taken s verb (st ∷ rest) some (S.Struct i raw default) not_struct not_list = absurd (not_struct i raw default refl)
+others_taken s verb (st ∷ rest) some (S.List i element default) not_struct not_list = absurd (not_list i element default refl)
+others_taken s verb (name n ∷ rest) some (S.Void offset) not_struct not_list = nowhere_taken s verb rest
+others_taken s verb (name n ∷ rest) some (S.Plain ty first default) not_struct not_list = nowhere_taken s verb rest
+others_taken s verb (name n ∷ rest) some (S.Text i default) not_struct not_list = nowhere_taken s verb rest
+others_taken s verb (name n ∷ rest) some (S.Data i default) not_struct not_list = nowhere_taken s verb rest
+others_taken s verb (name n ∷ rest) some (S.AnyPointer i) not_struct not_list = nowhere_taken s verb rest
+others_taken s verb (name n ∷ rest) some (S.Capability i) not_struct not_list = nowhere_taken s verb rest
+others_taken s verb (index k ∷ rest) some (S.Void offset) not_struct not_list = nowhere_taken s verb rest
+others_taken s verb (index k ∷ rest) some (S.Plain ty first default) not_struct not_list = nowhere_taken s verb rest
+others_taken s verb (index k ∷ rest) some (S.Text i default) not_struct not_list = nowhere_taken s verb rest
+others_taken s verb (index k ∷ rest) some (S.Data i default) not_struct not_list = nowhere_taken s verb rest
+others_taken s verb (index k ∷ rest) some (S.AnyPointer i) not_struct not_list = nowhere_taken s verb rest
+others_taken s verb (index k ∷ rest) some (S.Capability i) not_struct not_list = nowhere_taken s verb rest
 
-nowhere_behind : (s : Schema) (rest : List Step) → are_names rest ≡ true → rest ≢ [] → (at : Slot) → IsNoStruct at → end_of s rest (at_slot (body_of_slot at)) ≡ nowhere
-nowhere_behind s [] names some at h = absurd (some refl)
-nowhere_behind s (name n ∷ rest) names some at h = nowhere_from s n rest at h
-nowhere_behind s (index k ∷ rest) names some at h = absurd (cc names)
-
-module _ (root : StructSchema) (path : List Step) (n : List ℕ) (rest : List Step) (split : path ≡ name n ∷ rest) (names : are_names path ≡ true) (verb : Verb) where
+module _ (root : StructSchema) (path : List Step) (n : List ℕ) (rest : List Step) (split : path ≡ name n ∷ rest) (verb : Verb) where
   abbrev here : Bool
-  here = is_taken_end verb (end_behind (schema_around root) (fields_of_struct root) path)
+  here = is_taken_behind (schema_around root) verb (fields_of_struct root) path
 
-  pub names_left : are_names rest ≡ true
-  names_left = subst (λ p. are_names p ≡ true) split names
-
-  at_target_is : (t : Target) → target_of n (fields_of_struct root) ≡ t → here ≡ is_taken_end verb (end_of (schema_around root) rest (end_at t))
-  at_target_is t found = ap (λ p. is_taken_end verb (end_behind (schema_around root) (fields_of_struct root) p)) split ∙ ap (λ x. is_taken_end verb (end_of (schema_around root) rest (end_at x))) found
+  at_target_is : (t : Target) → target_of n (fields_of_struct root) ≡ t → here ≡ is_taken_from (schema_around root) verb rest (end_at t)
+  at_target_is t found = ap (is_taken_behind (schema_around root) verb (fields_of_struct root)) split ∙ ap (λ x. is_taken_from (schema_around root) verb rest (end_at x)) found
 
   pub taken_nothing : target_of n (fields_of_struct root) ≡ no_target → true ≡ here
-  taken_nothing found = sym (at_target_is no_target found ∙ ap (is_taken_end verb) (nowhere_stays (schema_around root) rest))
+  taken_nothing found = sym (at_target_is no_target found ∙ nowhere_taken (schema_around root) verb rest)
 
-  pub untaken_group : (g : NamedGroup) → IsNamedGroup root n g → rest ≡ [] → false ≡ here
-  unfolding end_of
-  untaken_group g is none =
-      sym (at_target_is (target g.member (group_slot (shape_of_struct g.schema))) is.target ∙ ap (λ r. is_taken_end verb (end_of (schema_around root) r (at_slot (group_slot (shape_of_struct g.schema))))) none)
+  pub taken_group_end : (g : NamedGroup) → IsNamedGroup root n g → rest ≡ [] → is_taken_at verb (group_slot (shape_of_struct g.schema)) ≡ here
+  taken_group_end g is none =
+      sym (at_target_is (target g.member (group_slot (shape_of_struct g.schema))) is.target ∙ ap (λ r. is_taken_from (schema_around root) verb r (at_slot (group_slot (shape_of_struct g.schema)))) none)
 
-  pub taken_group : (g : NamedGroup) → IsNamedGroup root n g → rest ≢ [] → is_taken_end verb (end_behind (schema_around g.schema) (fields_of_struct g.schema) rest) ≡ here
+  pub taken_group : (g : NamedGroup) → IsNamedGroup root n g → rest ≢ [] → is_taken_behind (schema_around g.schema) verb (fields_of_struct g.schema) rest ≡ here
   taken_group g is some =
-      ap (is_taken_end verb) (sym (group_end_is g.schema rest some names_left))
-      ∙ ap (λ nodes. is_taken_end verb (end_of (schema_of nodes) rest (at_slot (group_slot (shape_of_struct g.schema))))) is.nodes
+      sym (group_taken_is g.schema verb rest some)
+      ∙ ap (λ nodes. is_taken_from (schema_of nodes) verb rest (at_slot (group_slot (shape_of_struct g.schema)))) is.nodes
       ∙ sym (at_target_is (target g.member (group_slot (shape_of_struct g.schema))) is.target)
 
   module _ (at : NamedSlot) (is : IsNamed root n at) where
-    at_slot_is : here ≡ is_taken_end verb (end_of (schema_around root) rest (at_slot (body_of_slot at.slot)))
+    at_slot_is : here ≡ is_taken_from (schema_around root) verb rest (at_slot (body_of_slot at.slot))
     at_slot_is = at_target_is (target at.member (body_of_slot at.slot)) is.target
 
     pub taken_end : rest ≡ [] → is_taken_at verb (body_of_slot at.slot) ≡ here
-    unfolding end_of
-    taken_end none = sym (at_slot_is ∙ ap (λ r. is_taken_end verb (end_of (schema_around root) r (at_slot (body_of_slot at.slot)))) none)
+    taken_end none = sym (at_slot_is ∙ ap (λ r. is_taken_from (schema_around root) verb r (at_slot (body_of_slot at.slot))) none)
 
-    pub taken_other : rest ≢ [] → ((i : ℕ) (raw : RawBrandedStructSchema) (default : Option (Bor Value)) → at.slot ≡ S.Struct i raw default → ⊥) → true ≡ here
-    taken_other some other = sym (at_slot_is ∙ ap (is_taken_end verb) (nowhere_behind (schema_around root) rest names_left some at.slot (no_struct at.slot other)))
+    pub taken_other : rest ≢ [] → ((i : ℕ) (raw : RawBrandedStructSchema) (default : Option (Bor Value)) → at.slot ≡ S.Struct i raw default → ⊥)
+        → ((i : ℕ) (element : Type') (default : Option (Bor Value)) → at.slot ≡ S.List i element default → ⊥) → true ≡ here
+    taken_other some not_struct not_list = sym (at_slot_is ∙ others_taken (schema_around root) verb rest some at.slot not_struct not_list)
+
+    pub taken_list : rest ≢ [] → (i : ℕ) (element : Type') (default : Option (Bor Value)) → at.slot ≡ S.List i element default → starts_with_name rest ≡ here
+    taken_list some i element default is_list = sym (at_slot_is ∙ ap (λ x. is_taken_from (schema_around root) verb rest (at_slot (body_of_slot x))) is_list ∙ list_taken (schema_around root) verb rest some i (ty_of element) _)
 
     pub taken_struct : rest ≢ [] → (g : StructSchema) (nodes : List Node) (i : ℕ) (raw : RawBrandedStructSchema) (default : Option (Bor Value)) → at.slot ≡ S.Struct i raw default → nodes_around g ≡ nodes → nodes ≡ nodes_around root → g.raw ≡ raw
-        → is_taken_end verb (end_behind (schema_around g) (fields_of_struct g) rest) ≡ here
+        → is_taken_behind (schema_around g) verb (fields_of_struct g) rest ≡ here
     taken_struct some g nodes i raw default at_is same around of_raw =
         let d : Option Tree = default_tree (option_map value_of (option_copied default)) in
-        ap (is_taken_end verb) (sym (struct_end_is g i d rest some names_left))
-        ∙ ap (λ ns. is_taken_end verb (end_of (schema_of ns) rest (at_slot (pointer_slot i (struct g.raw.id) d)))) (same ∙ around)
-        ∙ ap (λ r. is_taken_end verb (end_of (schema_around root) rest (at_slot (pointer_slot i (struct r.id) d)))) of_raw
-        ∙ ap (λ x. is_taken_end verb (end_of (schema_around root) rest (at_slot (body_of_slot x)))) (sym at_is)
+        sym (struct_taken_is g verb i d rest some)
+        ∙ ap (λ ns. is_taken_from (schema_of ns) verb rest (at_slot (pointer_slot i (struct g.raw.id) d))) (same ∙ around)
+        ∙ ap (λ r. is_taken_from (schema_around root) verb rest (at_slot (pointer_slot i (struct r.id) d))) of_raw
+        ∙ ap (λ x. is_taken_from (schema_around root) verb rest (at_slot (body_of_slot x))) (sym at_is)
         ∙ sym at_slot_is
-
--- what takes no name, by what is known of the slot
-module _ (s : Schema) (verb : Verb) (union member : Option ℕ) (c : Cell) (active : is_active_in union member c ≡ true) (path : List Step) (names : are_names path ≡ true) (some : path ≢ [])
-    (at here : Slot) (same : at ≡ here) (other : (i : ℕ) (raw : RawBrandedStructSchema) (default : Option (Bor Value)) → at ≡ S.Struct i raw default → ⊥) where
-  pub wrong_here : (nodes : List Node) → IsSlotOf nodes at → reads_in (body_of_slot here) c ≡ true → AnswersField s path verb union member (body_of_slot at) c c (reply_refused WrongStep)
-  wrong_here nodes of_set h = slot_wrong s verb union member c active path names some nodes at of_set (no_struct at other) (subst (λ x. reads_in (body_of_slot x) c ≡ true) (sym same) h)
-
-  pub unread_here : reads_in (body_of_slot here) c ≡ false → AnswersField s path verb union member (body_of_slot at) c c (reply_refused UnreadablePointer)
-  unread_here h = slot_unread s verb union member c active path names some at (no_struct at other) (subst (λ x. reads_in (body_of_slot x) c ≡ false) (sym same) h)

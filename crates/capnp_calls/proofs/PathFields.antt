@@ -15,7 +15,7 @@ use Rattle.capnp_queries.specs.Structs.{schema_around, shape_of_struct, fields_o
 use Rattle.capnp_queries.specs.declared.structs.StructSchema.{StructSchema}
 use Rattle.capnp_calls.specs.Texts.{as_it_is}
 use Rattle.capnp_calls.specs.Replies.{is_active_in}
-use Rattle.capnp_calls.specs.Taken.{end_behind}
+use Rattle.capnp_calls.specs.Taken.{starts_with_name, end_behind}
 use Rattle.capnp_calls.specs.Sizes.{content_len, end_content, IsDone}
 use Rattle.capnp_calls.specs.Paths.{if_written, field_outcome, field_after, AnswersField, FieldPutsLong, shape_outcome, shape_edit, shape_after, AnswersPath, PathPutsLong}
 use Rattle.capnp_calls.proofs.OneStep.{reply_of-map}
@@ -29,9 +29,11 @@ if_written-map f (done x) new old = refl
 -- ---- no field
 
 module _ (root : StructSchema) (verb : Verb) (c : Cell) where
-  pub no_step : AnswersPath root [] verb c c (reply_refused WrongStep)
+  pub no_name : (path : List Step) → starts_with_name path ≡ false → AnswersPath root path verb c c (reply_refused WrongStep)
   unfolding shape_outcome shape_after
-  no_step = record { replied = refl; cell = refl }
+  no_name [] h = record { replied = refl; cell = refl }
+  no_name (name n ∷ rest) h = absurd (cc h)
+  no_name (index k ∷ rest) h = record { replied = refl; cell = refl }
 
   pub no_field : (n : List ℕ) (rest : List Step) → target_of n (fields_of_struct root) ≡ no_target → AnswersPath root (name n ∷ rest) verb c c (reply_refused FieldNotFound)
   unfolding shape_outcome shape_after

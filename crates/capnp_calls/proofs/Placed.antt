@@ -11,7 +11,7 @@ module _ (w p words pointers : ℕ) (wide : w ≤ words) (long : p ≤ pointers)
   lies_more : (first width : ℕ) → LiesIn w first width → LiesIn words first width
   lies_more first width h = let i = h.inside in record { some = h.some; one_word = h.one_word; inside = omega (arith, wide, i) }
 
-  inside_more : (b : Body) → IsInside w p b → IsInside words pointers b
+  pub inside_more : (b : Body) → IsInside w p b → IsInside words pointers b
   inside_more (void_slot j) h = tt
   inside_more (plain_slot q at d) h = record { lies = lies_more at (width q) h.lies; small = h.small }
   inside_more (pointer_slot i ty d) h = omega (arith, long, h)

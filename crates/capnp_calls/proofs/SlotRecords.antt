@@ -34,6 +34,7 @@ IsGiven-of_action (action.Set (value.Bool b)) h = tt
 IsGiven-of_action (action.Set (value.Enum n)) h = grind (arith, h)
 IsGiven-of_action (action.Set (value.Text t)) h = tt
 IsGiven-of_action (action.Set (value.Data bs)) h = tt
+IsGiven-of_action (action.Set (value.Message m)) h = tt
 IsGiven-of_action action.Init h = tt
 IsGiven-of_action (action.Initn n) h = tt
 IsGiven-of_action action.Clear h = tt

@@ -19,7 +19,7 @@ use Rattle.capnp_calls.specs.RootViews.{cell_of, struct_tree, SameSizes, or_empt
 use Rattle.capnp_calls.specs.Readable.{is_struct}
 use Rattle.capnp_calls.specs.Replies.{reply_view}
 use Rattle.capnp_calls.specs.Slots.{words_in, pointers_in}
-use Rattle.capnp_calls.specs.Taken.{are_names}
+use Rattle.capnp_calls.specs.Taken.{starts_with_name}
 use Rattle.capnp_calls.specs.Paths.{AnswersField, FieldPutsLong, AnswersPath, PathPutsLong, AnswersStruct, is_done}
 use Rattle.capnp_calls.specs.declared.root.StructValue.{StructValue}
 use Rattle.capnp_calls.specs.declared.reply.Reply.{Reply as Own}
@@ -156,7 +156,7 @@ module _ (root : StructSchema) (verb : Verb) (i : ℕ) (d : Option Tree) (c : Ce
   abbrev pub slot : Body
   slot = pointer_slot i (struct (id_of root)) d
 
-  pub list_answer : (path : List Step) → are_names path ≡ true → path ≢ [] → is_struct opened ≡ false → AnswersField (schema_around root) path verb None None slot c c (reply_refused UnreadablePointer)
+  pub list_answer : (path : List Step) → starts_with_name path ≡ true → path ≢ [] → is_struct opened ≡ false → AnswersField (schema_around root) path verb None None slot c c (reply_refused UnreadablePointer)
   list_answer [] names some h = absurd (some refl)
   list_answer (index k ∷ rest) names some h = absurd (cc names)
   list_answer (name n ∷ rest) names some h = unreadable_struct root n rest verb i d c (ap is_struct is ∙ h)
@@ -168,19 +168,19 @@ module _ (root : StructSchema) (verb : Verb) (i : ℕ) (d : Option Tree) (c : Ce
     same_there : or_empty_struct (opened_tree (struct (id_of root)) (default_or_null d) (child c.kids i)) ≡ of_cell (vec_len inner.words) (cell_in (opened_tree (struct (id_of root)) (default_or_null d) (child c.kids i)))
     same_there = ap or_empty_struct is ∙ sym same ∙ ap (of_cell (vec_len inner.words)) (sym cells)
 
-    pub inner_long : (path : List Step) → are_names path ≡ true → path ≢ [] → PathPutsLong root path verb (cell_of inner) → FieldPutsLong (schema_around root) path verb None None slot c
+    pub inner_long : (path : List Step) → starts_with_name path ≡ true → path ≢ [] → PathPutsLong root path verb (cell_of inner) → FieldPutsLong (schema_around root) path verb None None slot c
     inner_long [] names some h = absurd (some refl)
     inner_long (index k ∷ rest) names some h = absurd (cc names)
     inner_long (name n ∷ rest) names some h = opened_long root n rest verb i d c (ap is_struct is ∙ good) (subst (PathPutsLong root (name n ∷ rest) verb) (sym cells) h)
 
-    pub null_done : (path : List Step) → are_names path ≡ true → path ≢ [] → (new : Tree) (answer : Reply) → AnswersStruct root path verb (vec_len inner.words) (cell_of inner) new answer → answer ≡ reply_done
+    pub null_done : (path : List Step) → starts_with_name path ≡ true → path ≢ [] → (new : Tree) (answer : Reply) → AnswersStruct root path verb (vec_len inner.words) (cell_of inner) new answer → answer ≡ reply_done
         → AnswersField (schema_around root) path verb None None slot c (put_child i new c) answer
     null_done [] names some new answer a h = absurd (some refl)
     null_done (index k ∷ rest) names some new answer a h = absurd (cc names)
     null_done (name n ∷ rest) names some new answer a h =
         fresh_put root n rest verb i d c (ap is_struct is ∙ good) (vec_len inner.words) same_there new answer (subst (λ x. AnswersStruct root (name n ∷ rest) verb (vec_len inner.words) x new answer) (sym cells) a) (sym h)
 
-    pub null_other : (path : List Step) → are_names path ≡ true → path ≢ [] → (new : Tree) (answer : Reply) → AnswersStruct root path verb (vec_len inner.words) (cell_of inner) new answer → (reply_done ≡ answer → ⊥)
+    pub null_other : (path : List Step) → starts_with_name path ≡ true → path ≢ [] → (new : Tree) (answer : Reply) → AnswersStruct root path verb (vec_len inner.words) (cell_of inner) new answer → (reply_done ≡ answer → ⊥)
         → AnswersField (schema_around root) path verb None None slot c c answer
     null_other [] names some new answer a h = absurd (some refl)
     null_other (index k ∷ rest) names some new answer a h = absurd (cc names)
@@ -188,7 +188,7 @@ module _ (root : StructSchema) (verb : Verb) (i : ℕ) (d : Option Tree) (c : Ce
         fresh_dropped root n rest verb i d c (ap is_struct is ∙ good) (vec_len inner.words) same_there new answer (subst (λ x. AnswersStruct root (name n ∷ rest) verb (vec_len inner.words) x new answer) (sym cells) a) h
 
     -- what was taken out is put back
-    pub there_answer : (path : List Step) → are_names path ≡ true → path ≢ [] → child c.kids i ≡ opened → is_null opened ≡ false → i < tree_count c.kids → (new : Tree) (answer : Reply)
+    pub there_answer : (path : List Step) → starts_with_name path ≡ true → path ≢ [] → child c.kids i ≡ opened → is_null opened ≡ false → i < tree_count c.kids → (new : Tree) (answer : Reply)
         → AnswersStruct root path verb (vec_len inner.words) (cell_of inner) new answer → AnswersField (schema_around root) path verb None None slot c (put_child i new (put_child i null c)) answer
     there_answer [] names some stood full inside new answer a = absurd (some refl)
     there_answer (index k ∷ rest) names some stood full inside new answer a = absurd (cc names)

@@ -20,7 +20,7 @@ use Rattle.capnp_calls.specs.Texts.{as_it_is}
 use Rattle.capnp_calls.specs.declared.root.StructValue.{StructValue}
 use Rattle.capnp_calls.specs.RootViews.{cell_of, struct_tree, SameSizes}
 use Rattle.capnp_calls.specs.Slots.{words_in, pointers_in}
-use Rattle.capnp_calls.specs.Taken.{IsRoot, are_names, is_taken_end, end_behind, IsTakenPath, is_taken, path_if, taken_call, record_at}
+use Rattle.capnp_calls.specs.Taken.{IsRoot, are_names, is_at_group, end_behind, IsTakenPath, GoesToSlot, is_taken, path_if, taken_call, record_at}
 use Rattle.capnp_calls.specs.Replies.{AnswersCall}
 use Rattle.capnp_calls.specs.Sizes.{content_len, end_content, IsDone, PutsLongList}
 use Rattle.capnp_calls.specs.Paths.{if_written, shape_outcome, shape_edit, shape_after, AnswersPath, PathPutsLong}
@@ -47,14 +47,14 @@ wrong_record s id verb r = refl
 module _ (root : StructSchema) (c : Call) where
   -- the call as it is taken has this effect
   by_taken : (d : Call) → taken_call root c ≡ d → (old new : Tree) (answer : Reply) → answer ≡ reply_of (schema_around root) as_it_is (step (schema_around root) (id_of root) d (record_at root old))
-      → new ≡ edit (schema_around root) (id_of root) d old → record_at root new ≡ after_outcome (record_at root old) (step (schema_around root) (id_of root) d (record_at root old)) → AnswersCall root c old new answer
+      → new ≡ edit (schema_around root) (id_of root) d old → (GoesToSlot root d → record_at root new ≡ after_outcome (record_at root old) (step (schema_around root) (id_of root) d (record_at root old))) → AnswersCall root c old new answer
   by_taken d is old new answer r t f =
       let s : Schema = schema_around root in
       let id : ℕ = id_of root in
       record {
         replied = r ∙ sym (ap (λ x. reply_of s as_it_is (step s id x (record_at root old))) is);
         tree = t ∙ sym (ap (λ x. edit s id x old) is);
-        fields = f ∙ sym (ap (λ x. after_outcome (record_at root old) (step s id x (record_at root old))) is);
+        fields = λ goes. f (subst (GoesToSlot root) is goes) ∙ sym (ap (λ x. after_outcome (record_at root old) (step s id x (record_at root old))) is);
       }
 
   pub untaken : is_taken root c ≡ false → (t : Tree) → AnswersCall root c t t (reply_refused WrongStep)
@@ -62,18 +62,10 @@ module _ (root : StructSchema) (c : Call) where
       let s : Schema = schema_around root in
       let id : ℕ = id_of root in
       by_taken (record { path = []; verb = c.verb }) (ap (λ b. record { path = path_if b c.path; verb = c.verb }) h) t t (reply_refused WrongStep)
-      (sym (wrong_reply s id c.verb (record_at root t))) (sym (wrong_tree s id c.verb t)) (sym (wrong_record s id c.verb (record_at root t)))
-
-  pub not_names : are_names c.path ≡ false → (t : Tree) → AnswersCall root c t t (reply_refused WrongStep)
-  not_names h t = untaken (ap (λ b. b && is_taken_end c.verb (end_behind (schema_around root) (fields_of_struct root) c.path)) h) t
-
-  pub not_taken : are_names c.path ≡ true → is_taken_end c.verb (end_behind (schema_around root) (fields_of_struct root) c.path) ≡ false → (t : Tree) → AnswersCall root c t t (reply_refused WrongStep)
-  not_taken names h t = untaken (ap (λ b. b && is_taken_end c.verb (end_behind (schema_around root) (fields_of_struct root) c.path)) names ∙ h) t
+      (sym (wrong_reply s id c.verb (record_at root t))) (sym (wrong_tree s id c.verb t)) (λ goes. sym (wrong_record s id c.verb (record_at root t)))
 
   taken_is : IsTakenPath root c.path c.verb → taken_call root c ≡ record { path = c.path; verb = c.verb }
-  taken_is h =
-      ap (λ b. record { path = path_if b c.path; verb = c.verb })
-      (ap (λ b. b && is_taken_end c.verb (end_behind (schema_around root) (fields_of_struct root) c.path)) h.names ∙ h.taken)
+  taken_is h = ap (λ b. record { path = path_if b c.path; verb = c.verb }) h
 
 -- ---- a `get` writes nothing
 
@@ -153,34 +145,34 @@ all_names [] h = tt
 all_names (name n ∷ path) h = all_names path h
 all_names (index k ∷ path) h = absurd (cc h)
 
-ends_at_slot : (s : Schema) (verb : Verb) (rest : List Step) (body : Body) → is_taken_end verb (end_of s rest (at_slot body)) ≡ true → EndsAtSlot s rest body
+ends_at_slot : (s : Schema) (rest : List Step) (body : Body) → is_at_group (end_of s rest (at_slot body)) ≡ false → EndsAtSlot s rest body
 unfolding end_of
-ends_at_slot s verb [] (void_slot j) h = tt
-ends_at_slot s verb [] (plain_slot p at d) h = tt
-ends_at_slot s verb [] (pointer_slot i ty d) h = tt
-ends_at_slot s verb [] (group_slot g) h = absurd (cc h)
-ends_at_slot s verb (name n ∷ path) (void_slot j) h = tt
-ends_at_slot s verb (name n ∷ path) (plain_slot p at d) h = tt
-ends_at_slot s verb (name n ∷ path) (group_slot g) h = λ member body found. ends_at_slot s verb path body (subst (λ t. is_taken_end verb (end_of s path (end_at t)) ≡ true) found h)
-ends_at_slot s verb (name n ∷ path) (pointer_slot i void d) h = tt
-ends_at_slot s verb (name n ∷ path) (pointer_slot i (plain p) d) h = tt
-ends_at_slot s verb (name n ∷ path) (pointer_slot i text d) h = tt
-ends_at_slot s verb (name n ∷ path) (pointer_slot i blob d) h = tt
-ends_at_slot s verb (name n ∷ path) (pointer_slot i untyped d) h = tt
-ends_at_slot s verb (name n ∷ path) (pointer_slot i interface d) h = tt
-ends_at_slot s verb (name n ∷ path) (pointer_slot i (struct id) d) h = λ member body found. ends_at_slot s verb path body (subst (λ t. is_taken_end verb (end_of s path (end_at t)) ≡ true) found h)
-ends_at_slot s verb (name n ∷ path) (pointer_slot i (list ty) d) h = tt
-ends_at_slot s verb (index k ∷ path) (void_slot j) h = tt
-ends_at_slot s verb (index k ∷ path) (plain_slot p at d) h = tt
-ends_at_slot s verb (index k ∷ path) (pointer_slot i ty d) h = tt
-ends_at_slot s verb (index k ∷ path) (group_slot g) h = tt
+ends_at_slot s [] (void_slot j) h = tt
+ends_at_slot s [] (plain_slot p at d) h = tt
+ends_at_slot s [] (pointer_slot i ty d) h = tt
+ends_at_slot s [] (group_slot g) h = absurd (cc h)
+ends_at_slot s (name n ∷ path) (void_slot j) h = tt
+ends_at_slot s (name n ∷ path) (plain_slot p at d) h = tt
+ends_at_slot s (name n ∷ path) (group_slot g) h = λ member body found. ends_at_slot s path body (subst (λ t. is_at_group (end_of s path (end_at t)) ≡ false) found h)
+ends_at_slot s (name n ∷ path) (pointer_slot i void d) h = tt
+ends_at_slot s (name n ∷ path) (pointer_slot i (plain p) d) h = tt
+ends_at_slot s (name n ∷ path) (pointer_slot i text d) h = tt
+ends_at_slot s (name n ∷ path) (pointer_slot i blob d) h = tt
+ends_at_slot s (name n ∷ path) (pointer_slot i untyped d) h = tt
+ends_at_slot s (name n ∷ path) (pointer_slot i interface d) h = tt
+ends_at_slot s (name n ∷ path) (pointer_slot i (struct id) d) h = λ member body found. ends_at_slot s path body (subst (λ t. is_at_group (end_of s path (end_at t)) ≡ false) found h)
+ends_at_slot s (name n ∷ path) (pointer_slot i (list ty) d) h = tt
+ends_at_slot s (index k ∷ path) (void_slot j) h = tt
+ends_at_slot s (index k ∷ path) (plain_slot p at d) h = tt
+ends_at_slot s (index k ∷ path) (pointer_slot i ty d) h = tt
+ends_at_slot s (index k ∷ path) (group_slot g) h = tt
 
-goes_by_names : (root : StructSchema) (path : List Step) (verb : Verb) → IsTakenPath root path verb → GoesByNames (schema_around root) (fields_of_struct root) path
-goes_by_names root [] verb h = tt
-goes_by_names root (index k ∷ rest) verb h = tt
-goes_by_names root (name n ∷ rest) verb h = (
-  all_names rest h.names,
-  (λ member body found. ends_at_slot (schema_around root) verb rest body (subst (λ t. is_taken_end verb (end_of (schema_around root) rest (end_at t)) ≡ true) found h.taken)),
+goes_by_names : (root : StructSchema) (path : List Step) → are_names path ≡ true → is_at_group (end_behind (schema_around root) (fields_of_struct root) path) ≡ false → GoesByNames (schema_around root) (fields_of_struct root) path
+goes_by_names root [] names slot = tt
+goes_by_names root (index k ∷ rest) names slot = tt
+goes_by_names root (name n ∷ rest) names slot = (
+  all_names rest names,
+  (λ member body found. ends_at_slot (schema_around root) rest body (subst (λ t. is_at_group (end_of (schema_around root) rest (end_at t)) ≡ false) found slot)),
 )
 
 -- a write of what a caller can give is in range
@@ -233,10 +225,10 @@ module _ (root : StructSchema) (path : List Step) (verb : Verb) where
   in_range : are_names path ≡ true → IsGiven verb → (words : ℕ) (c : Cell) (r : Record) → outcome (of_cell words c) ≡ done r → IsInRange verb
   in_range names given words c r h = write_in_range verb given (λ e. got_outcome (schema_around root) (shape_of_struct root) path names c r (subst (λ v. shape_outcome (schema_around root) (shape_of_struct root) path v c ≡ done r) e (sym (outcome_is words c) ∙ h)))
 
-  edited_record : RecordsOfEdits → IsAccepted (nodes_around root) → (schema_around root).is_group (id_of root) ≡ false → IsTakenPath root path verb → IsGiven verb → (words : ℕ) (c : Cell)
+  edited_record : RecordsOfEdits → IsAccepted (nodes_around root) → (schema_around root).is_group (id_of root) ≡ false → are_names path ≡ true → is_at_group (end_behind (schema_around root) (fields_of_struct root) path) ≡ false → IsGiven verb → (words : ℕ) (c : Cell)
       → record_at root (edit (schema_around root) (id_of root) plain_call (of_cell words c)) ≡ after_outcome (record_at root (of_cell words c)) (outcome (of_cell words c))
   unfolding edit
-  edited_record records accepted no_group taken given words c = by (outcome old) refl
+  edited_record records accepted no_group names slot given words c = by (outcome old) refl
     where
       old : Tree
       old = of_cell words c
@@ -248,7 +240,7 @@ module _ (root : StructSchema) (path : List Step) (verb : Verb) where
       by (refused k) e = ap (λ o. record_at root (if_done o new old)) e ∙ ap (after_outcome (record_at root old)) (sym e)
       by (shown how r) e = ap (λ o. record_at root (if_done o new old)) e ∙ ap (after_outcome (record_at root old)) (sym e)
       by (done r) e =
-          records (nodes_around root) accepted (id_of root) no_group plain_call (in_range taken.names given words c r e) (goes_by_names root path verb taken) old tt r e
+          records (nodes_around root) accepted (id_of root) no_group plain_call (in_range names given words c r e) (goes_by_names root path names slot) old tt r e
           ∙ ap (after_outcome (record_at root old)) (sym e)
 
 -- ---- a whole call
@@ -278,7 +270,7 @@ module _ (root : StructSchema) (c : Call) (taken : IsTakenPath root c.path c.ver
       ∙ ap (λ x. if_done x (write_path s g c.path c.verb (of_cell words cell)) (of_cell words cell)) o in
       by_taken root c (plain_call root c.path c.verb) (taken_is root c taken) (struct_tree old) (struct_tree new) answer
       (a.replied ∙ ap (reply_of s as_it_is) o) tree
-      (ap (record_at root) tree ∙ edited_record root c.path c.verb records root.set.now.accepted (root_is_no_group root is_root) taken given words cell)
+      (λ goes. ap (record_at root) tree ∙ edited_record root c.path c.verb records root.set.now.accepted (root_is_no_group root is_root) goes.names goes.slot given words cell)
 
   pub whole_long : (old : StructValue) → PathPutsLong root c.path c.verb (cell_of old) → PutsLongList root c (struct_tree old)
   whole_long old h =

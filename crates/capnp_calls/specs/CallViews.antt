@@ -1,6 +1,8 @@
 -- What contracts see of calls.
-use Rattle.std.specs.Prelude.{◌^◌, nat_lt, if◌then◌else◌, Option, Some, None, Result, Ok, Err, List, [], ◌∷◌, map, string_bytes}
-use Rattle.capnp_model.specs.Calls.{Step as ModelStep, name, index, CallValue as ModelValue, whole_number, truth, enumerant, text_value, blob_value, Verb as ModelVerb, get, set_to, init, initn, clear, Call as ModelCall}
+use Rattle.std.specs.Prelude.{◌≡◌, ◌^◌, nat_lt, if◌then◌else◌, Option, Some, None, option_map, IsSome, Result, Ok, Err, List, [], ◌∷◌, map, string_bytes}
+use Rattle.capnp_model.specs.Calls.{Step as ModelStep, name, index, CallValue as ModelValue, whole_number, truth, enumerant, text_value, blob_value, message, Verb as ModelVerb, get, set_to, init, initn, clear, Call as ModelCall}
+use Rattle.capnp_call_messages.specs.Frames.{one_frame, value_in}
+use Rattle.capnp_call_messages.specs.Messages.{tree_of_message}
 use Rattle.capnp_calls.specs.declared.call.Step.{Step}
 use Rattle.capnp_calls.specs.declared.call.Step.TheVariants as step
 use Rattle.capnp_calls.specs.declared.call.Verb.{Verb}
@@ -27,6 +29,7 @@ slot_value_view (slot.Bool b) = truth b
 slot_value_view (slot.Enum n) = enumerant n
 slot_value_view (slot.Text t) = text_value (string_bytes t)
 slot_value_view (slot.Data bs) = blob_value bs.items
+slot_value_view (slot.Message m) = message (tree_of_message m)
 
 -- What a call does.
 abbrev pub action_view : Action → ModelVerb
@@ -50,14 +53,14 @@ call_view c = record { path = map step_view c.path.items; verb = action_view c.a
 
 -- ---- making a call
 
--- The value that is given, unless it is a message, which is not taken.
+-- The value that is given; of a message its trimmed value, where it has one.
 abbrev pub taken_value : CallValue → Option ModelValue
 taken_value (value.Number z) = Some (whole_number z)
 taken_value (value.Bool b) = Some (truth b)
 taken_value (value.Enum n) = Some (enumerant n)
 taken_value (value.Text t) = Some (text_value (string_bytes t))
 taken_value (value.Data bs) = Some (blob_value bs.items)
-taken_value (value.Message bs) = None
+taken_value (value.Message bs) = option_map message (value_in bs.items)
 
 -- `set` to a value that is taken.
 abbrev pub set_verb : Option ModelValue → Result ModelVerb CallFault
@@ -83,3 +86,25 @@ call_along path (Err f) = Err f
 abbrev pub call_from : List Step → Verb → Option CallValue → Result ModelCall CallFault
 call_from [] v x = Err fault.EmptyPath
 call_from (s ∷ path) v x = call_along (map step_view (s ∷ path)) (verb_from v x)
+
+-- ---- refusals
+
+-- A message that is one frame.
+abbrev pub IsFrame : CallValue → Type 0
+IsFrame (value.Message bs) = IsSome (one_frame bs.items)
+IsFrame _ = ⊥
+
+-- `set` to such a message.
+abbrev pub GivesFrame : Verb → Option CallValue → Type 0
+GivesFrame verb.Set (Some v) = IsFrame v
+GivesFrame _ _ = ⊥
+
+-- The same along a path.
+abbrev pub SetsFrame : List Step → Verb → Option CallValue → Type 0
+SetsFrame [] v x = ⊥
+SetsFrame (s ∷ path) v x = GivesFrame v x
+
+-- What is made is refused by the fault; want of memory is one where some is wanted.
+abbrev pub IsRefusal : {A : Type 0} → Type 0 → Result A CallFault → CallFault → Type 0
+IsRefusal wants made fault.Memory = wants
+IsRefusal wants made f = made ≡ Err f

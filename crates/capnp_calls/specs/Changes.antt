@@ -30,3 +30,9 @@ abbrev pub FitsInto : Body → Change → Type 0
 FitsInto body (change.Refused k) = Unit {0}
 FitsInto body (change.Bits n) = n < 2 ^ width_of body
 FitsInto body (change.Pointer v) = Fits (tree_of_value v)
+
+-- What is put into a pointer's place is refused or a value that fits.
+abbrev pub IsFitting : Change → Type 0
+IsFitting (change.Refused k) = Unit {0}
+IsFitting (change.Bits n) = ⊥
+IsFitting (change.Pointer v) = Fits (tree_of_value v)

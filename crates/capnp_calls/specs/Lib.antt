@@ -11,6 +11,7 @@ pub mod Sizes
 pub mod Readable
 pub mod Paths
 pub mod Changes
+pub mod Clearing
 pub mod Ends
 pub mod PointerTexts
 pub mod SlotTexts

@@ -5,6 +5,8 @@ use Rattle.capnp_model.specs.Trees.{Tree, null, structure, plain_list, child}
 use Rattle.capnp_model.specs.Schemas.{Ty, text, blob, struct, list, Body, pointer_slot}
 use Rattle.capnp_model.specs.Readings.{is_list_of}
 use Rattle.capnp_model.specs.Edits.{Cell}
+use Rattle.capnp_model.specs.Kinds.{WrongStep, UnreadablePointer}
+use Rattle.capnp_model.specs.Answers.{Reply, reply_refused}
 
 -- The last of so many bytes is zero.
 abbrev pub ends_in_zero : ℕ → ℕ → Bool
@@ -45,3 +47,8 @@ reads_as _ t = true
 abbrev pub reads_in : Body → Cell → Bool
 reads_in (pointer_slot i ty d) c = reads_as ty (child c.kids i)
 reads_in _ c = true
+
+-- The reply where a step does not fit what a pointer that reads so or not has.
+abbrev pub misfit_reply : Bool → Reply
+misfit_reply true = reply_refused WrongStep
+misfit_reply false = reply_refused UnreadablePointer

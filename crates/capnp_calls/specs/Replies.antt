@@ -11,7 +11,7 @@ use Rattle.capnp_model.specs.Edits.{Cell, mark, put_content}
 use Rattle.capnp_model.specs.Answers.{Reply as ModelReply, reply_text, reply_done, reply_refused, reply_of}
 use Rattle.capnp_queries.specs.declared.structs.StructSchema.{StructSchema}
 use Rattle.capnp_calls.specs.Texts.{as_it_is}
-use Rattle.capnp_calls.specs.Taken.{reply_to, tree_after, record_at, record_by}
+use Rattle.capnp_calls.specs.Taken.{GoesToSlot, taken_call, reply_to, tree_after, record_at, record_by}
 use Rattle.capnp_calls.specs.Slots.{body_of_slot}
 use Rattle.capnp_calls.specs.declared.find.NamedSlot.{NamedSlot}
 use Rattle.capnp_calls.specs.declared.reply.Reply.{Reply}
@@ -55,8 +55,8 @@ slot_reply s verb n c = body_reply s verb n.union n.member (body_of_slot n.slot)
 abbrev pub slot_edit : Schema → Verb → NamedSlot → Cell → Cell
 slot_edit s verb n c = body_edit s verb n.union n.member (body_of_slot n.slot) c
 
--- A call has its reply and its effect, on the tree of the struct and on its record.
+-- A call has its reply and its effect, on the tree of the struct and, where it goes along names to a slot or isn't taken, on its record.
 pub record AnswersCall (root : StructSchema) (c : Call) (old new : Tree) (answer : ModelReply) : Type 0 where
   pub replied : answer ≡ reply_to root c old
   pub tree : new ≡ tree_after root c old
-  pub fields : record_at root new ≡ record_by root c (record_at root old)
+  pub fields : GoesToSlot root (taken_call root c) → record_at root new ≡ record_by root c (record_at root old)

@@ -24,7 +24,7 @@ use crate::put::put_change;
 use crate::reply::Reply;
 use crate::root::{StructValue, bits};
 use crate::slot::Slot;
-use crate::taken::{are_names, is_taken_behind};
+use crate::taken::is_taken_behind;
 use capnp_model::laws_of_edits;
 use capnp_queries::structs::StructSchema;
 use capnp_records::set::SchemaSet;
@@ -142,9 +142,6 @@ pub(crate) fn answer_call(
 {
     laws_of_edits::records_of_edited_values();
     let path = call.path.as_slice();
-    if !are_names(path) {
-        return Ok(Reply::Refused(ErrorKind::WrongStep));
-    }
     if !is_taken_behind(schema, path, &call.action) {
         return Ok(Reply::Refused(ErrorKind::WrongStep));
     }

@@ -3,6 +3,8 @@
 ghost use Rattle.std.specs.Prelude.{◌≢◌, [], IsTrue};
 ghost use Rattle.capnp_calls.specs.Actions.{is_in_range};
 
+use capnp_call_messages::message::MessageValue;
+use std::alloc::Global;
 use thiserror::Error;
 
 /// A step of a path.
@@ -60,6 +62,7 @@ pub enum SlotValue {
     Enum(u16),
     Text(String),
     Data(Vec<u8>),
+    Message(MessageValue),
 }
 
 /// What a call does, with what it takes for it.
@@ -82,19 +85,27 @@ pub struct Call {
 }
 
 impl Call {
-    ghost use Rattle.std.specs.Prelude.{◌≡◌, map};
-    ghost use Rattle.std.specs.Result.{result_map_both};
-    ghost use Rattle.capnp_calls.specs.CallViews.{step_view, verb_of, call_view, call_from};
+    ghost use Rattle.std.specs.Prelude.{◌≡◌, map, Ok, IfOk, IfErr};
+    ghost use Rattle.capnp_calls.specs.CallViews.{step_view, verb_of, call_view, call_from, IsRefusal, SetsFrame};
 
     /// A call along a path, which has a step. `Set` takes a value, the other verbs take none; `Initn` at most 2^29 - 1
-    /// elements. A message is refused. What is given is gone after a refusal.
-    pub fn new(path: Vec<Step>, verb: Verb, value: Option<CallValue>) -> Result<Call, CallFault>
-        ensures { result_map_both call_view (λ f. f) result ≡ call_from path.items verb value }
+    /// elements. A message is one frame of at most 2^23 words, nothing behind it, whose value has no capability, at most 64 levels
+    /// of pointers, and costs at most 2^23 words to follow; its canonical words are kept. The first of these rules that is broken
+    /// is told. `Memory`: a growth was refused, where the call sets a frame. What is given is gone after a refusal.
+    pub fn new(
+        alloc: Global,
+        path: Vec<Step>,
+        verb: Verb,
+        value: Option<CallValue>,
+    ) -> Result<Call, CallFault>
+        ensures call { IfOk result (λ c. call_from path.items verb value ≡ Ok (call_view c)) }
+        ensures refused { IfErr result (λ f.
+            IsRefusal (SetsFrame path.items verb value) (call_from path.items verb value) f) }
     {
         if path.is_empty() {
             return Err(CallFault::EmptyPath);
         }
-        let action = Action::new(verb, value)?;
+        let action = Action::new(alloc, verb, value)?;
         Ok(Call { path, action })
     }
 
@@ -120,19 +131,17 @@ impl Call {
 }
 
 impl Action {
-    ghost use Rattle.std.specs.Prelude.{◌≡◌, IsTrue, IfOk};
-    ghost use Rattle.std.specs.Result.{result_map_both};
-    ghost use Rattle.capnp_calls.specs.CallViews.{action_view, verb_from};
+    ghost use Rattle.std.specs.Prelude.{◌≡◌, Ok, IsTrue, IfOk, IfErr};
+    ghost use Rattle.capnp_calls.specs.CallViews.{action_view, verb_from, IsRefusal, GivesFrame};
 
     /// What the verb does with the value.
-    fn new(verb: Verb, value: Option<CallValue>) -> Result<Action, CallFault>
-        ensures verb { result_map_both action_view (λ f. f) result ≡ verb_from verb value }
+    fn new(alloc: Global, verb: Verb, value: Option<CallValue>) -> Result<Action, CallFault>
+        ensures verb { IfOk result (λ a. verb_from verb value ≡ Ok (action_view a)) }
         ensures in_range { IfOk result (λ a. IsTrue (is_in_range a)) }
+        ensures refused { IfErr result (IsRefusal (GivesFrame verb value) (verb_from verb value)) }
     {
         match (verb, value) {
-            (Verb::Set, Some(value)) => SlotValue::new(value)
-                .map(Action::Set)
-                .ok_or(CallFault::Message),
+            (Verb::Set, Some(value)) => Ok(Action::Set(SlotValue::new(alloc, value)?)),
             (Verb::Set, None) => Err(CallFault::ValueAndVerb),
             (_, Some(_)) => Err(CallFault::ValueAndVerb),
             (Verb::Get, None) => Ok(Action::Get),
@@ -150,20 +159,25 @@ impl Action {
 }
 
 impl SlotValue {
-    ghost use Rattle.std.specs.Prelude.{◌≡◌, option_map};
-    ghost use Rattle.capnp_calls.specs.CallViews.{slot_value_view, taken_value};
+    ghost use Rattle.std.specs.Prelude.{◌≡◌, Some, IfOk, IfErr};
+    ghost use Rattle.capnp_calls.specs.CallViews.{slot_value_view, taken_value, set_verb, IsRefusal, IsFrame};
 
-    /// The value, unless it is a message.
-    fn new(value: CallValue) -> Option<SlotValue>
-        ensures { option_map slot_value_view result ≡ taken_value value }
+    /// The value, with a message made canonical.
+    fn new(alloc: Global, value: CallValue) -> Result<SlotValue, CallFault>
+        ensures value { IfOk result (λ v. taken_value value ≡ Some (slot_value_view v)) }
+        ensures refused { IfErr result (IsRefusal (IsFrame value) (set_verb (taken_value value))) }
     {
         match value {
-            CallValue::Number(n) => Some(SlotValue::Number(n)),
-            CallValue::Bool(b) => Some(SlotValue::Bool(b)),
-            CallValue::Enum(n) => Some(SlotValue::Enum(n)),
-            CallValue::Text(text) => Some(SlotValue::Text(text)),
-            CallValue::Data(bytes) => Some(SlotValue::Data(bytes)),
-            CallValue::Message(_) => None,
+            CallValue::Number(n) => Ok(SlotValue::Number(n)),
+            CallValue::Bool(b) => Ok(SlotValue::Bool(b)),
+            CallValue::Enum(n) => Ok(SlotValue::Enum(n)),
+            CallValue::Text(text) => Ok(SlotValue::Text(text)),
+            CallValue::Data(bytes) => Ok(SlotValue::Data(bytes)),
+            CallValue::Message(bytes) => match MessageValue::new(alloc, &bytes) {
+                Ok(Some(message)) => Ok(SlotValue::Message(message)),
+                Ok(None) => Err(CallFault::Message),
+                Err(_) => Err(CallFault::Memory),
+            },
         }
     }
 }

@@ -3,23 +3,29 @@
 ghost use Rattle.std.specs.Prelude.{◌≡◌, ◌-◌, ◌≤◌, ◌<◌, ◌+◌, ◌^◌, IfOk, IfErr, length};
 ghost use Rattle.capnp_model.specs.Trees.{plain_list};
 ghost use Rattle.capnp_model.specs.Fits.{Fits};
-ghost use Rattle.capnp_model.specs.Schemas.{plain_slot, Schema};
+ghost use Rattle.capnp_model.specs.Schemas.{plain_slot, list, Schema};
 ghost use Rattle.capnp_model.specs.Accepted.{schema_of};
-ghost use Rattle.capnp_model.specs.Calls.{set_to, init, initn, clear, plain_content, text_tree, blob_tree, slot_content};
+ghost use Rattle.capnp_model.specs.Calls.{set_to, init, initn, clear, plain_content, message, message_root, value_content, struct_content, text_tree, blob_tree, slot_content};
 ghost use Rattle.capnp_records.specs.Sets.{nodes_of};
 ghost use Rattle.capnp_queries.specs.Handles.{plain_of};
+ghost use Rattle.capnp_queries.specs.Types.{ty_of};
+ghost use Rattle.capnp_call_messages.specs.Messages.{tree_of_message};
 ghost use Rattle.capnp_value.specs.Values.{tree_of_value};
 ghost use Rattle.capnp_calls.specs.CallViews.{slot_value_view};
 ghost use Rattle.capnp_calls.specs.Slots.{body_of_slot, HasSmallDefault, IsSlotOf};
-ghost use Rattle.capnp_calls.specs.Changes.{change_of_bits, change_view, FitsInto};
+ghost use Rattle.capnp_calls.specs.Changes.{change_of_bits, change_view, FitsInto, IsFitting};
 ghost use Rattle.capnp_calls.specs.Sizes.{content_len, IsWant};
 
 use crate::blank::{blank_list, blank_struct};
 use crate::bytes::words_of_bytes;
 use crate::call::SlotValue;
+use crate::default::value_of_segment;
 use crate::number::{signed_bits, unsigned_bits};
+use crate::readable::is_list_of;
 use crate::slot::{Slot, width_of};
+use capnp_call_messages::message::MessageValue;
 use capnp_model::laws;
+use capnp_queries::introspect::Type;
 use capnp_queries::slots::PlainType;
 use capnp_records::set::SchemaSet;
 use capnp_units::errors::{self, Error};
@@ -137,6 +143,47 @@ fn plain_change(ty: PlainType, value: &SlotValue) -> Change
     }
 }
 
+/// The value of a message; a null root counts as the empty struct.
+fn root_of(alloc: Global, kept: &MessageValue) -> Result<Value, AllocError>
+    ensures value { IfOk result (λ v. tree_of_value v ≡ message_root (tree_of_message kept.now)) }
+    ensures fits { IfOk result (λ v. Fits (tree_of_value v)) }
+{
+    match value_of_segment(alloc, kept.segment())? {
+        Value::Null => Ok(Value::Struct {
+            words: Vec::new(alloc),
+            children: Vec::new(alloc),
+        }),
+        value => Ok(value),
+    }
+}
+
+/// What a message puts into the place of a struct.
+fn struct_change(alloc: Global, kept: &MessageValue) -> Result<Change, AllocError>
+    ensures content { IfOk result (λ c.
+        change_view c ≡ struct_content (message_root (tree_of_message kept.now))) }
+    ensures fits { IfOk result IsFitting }
+{
+    let value = root_of(alloc, kept)?;
+    if !matches!(value, Value::Struct { .. }) {
+        return Ok(Change::Refused(ErrorKind::TypeMismatch));
+    }
+    Ok(Change::Pointer(value))
+}
+
+/// What a message puts into the place of a list.
+fn list_change(alloc: Global, kept: &MessageValue, element: Type) -> Result<Change, AllocError>
+    ensures content { IfOk result (λ c.
+        change_view c
+        ≡ value_content (message (tree_of_message kept.now)) (list (ty_of element))) }
+    ensures fits { IfOk result IsFitting }
+{
+    let value = value_of_segment(alloc, kept.segment())?;
+    if matches!(value, Value::Null) || !is_list_of(&value, element) {
+        return Ok(Change::Refused(ErrorKind::TypeMismatch));
+    }
+    Ok(Change::Pointer(value))
+}
+
 /// What `set` puts into a slot. `SizeOverflow`: a text or data that is too long.
 pub(crate) fn set_change(alloc: Global, slot: Slot<'_>, value: &SlotValue) -> errors::Result<Change>
     ensures content { IfOk result (λ c.
@@ -160,6 +207,13 @@ pub(crate) fn set_change(alloc: Global, slot: Slot<'_>, value: &SlotValue) -> er
         }
         (Slot::Data { .. } | Slot::AnyPointer { .. }, SlotValue::Data(bytes)) => {
             Ok(Change::Pointer(data_value(alloc, bytes)?))
+        }
+        (Slot::AnyPointer { .. }, SlotValue::Message(kept)) => {
+            Ok(Change::Pointer(root_of(alloc, kept)?))
+        }
+        (Slot::Struct { .. }, SlotValue::Message(kept)) => Ok(struct_change(alloc, kept)?),
+        (Slot::List { element, .. }, SlotValue::Message(kept)) => {
+            Ok(list_change(alloc, kept, element)?)
         }
         (Slot::AnyPointer { .. }, _) => Ok(Change::Refused(
             ErrorKind::CannotSetAnyPointerFieldToAPrimitiveValue,

@@ -29,7 +29,7 @@ fn read_root(alloc: Global, bytes: &[u8]) -> Result<Option<Value>, AllocError>
 }
 
 /// The value of a segment that can be read.
-fn value_of_segment(alloc: Global, bytes: &[u8]) -> Result<Value, AllocError>
+pub(crate) fn value_of_segment(alloc: Global, bytes: &[u8]) -> Result<Value, AllocError>
     requires { IsSome (decode bytes.now) }
     ensures tree { IfOk result (λ v. tree_of_value v ≡ default_or_null (decode bytes.now)) }
     ensures fits { IfOk result (λ v. Fits (tree_of_value v)) }

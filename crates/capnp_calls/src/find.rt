@@ -42,13 +42,13 @@ pub(crate) enum Found<'a> {
 }
 
 /// What a field is.
-enum Place<'a> {
+pub(crate) enum Place<'a> {
     Group(StructSchema<'a>),
     Slot(Slot<'a>),
 }
 
 /// The first bit of the struct's discriminant, if it has a union.
-fn first_bit_of_union(schema: StructSchema<'_>) -> Option<u32>
+pub(crate) fn first_bit_of_union(schema: StructSchema<'_>) -> Option<u32>
     ensures union { result ≡ union_in (shape_of_struct schema.entry) }
     ensures inside { IsUnionInside (words_in (shape_of_struct schema.entry)) result }
 {
@@ -83,7 +83,7 @@ fn member_of(field: &FieldRecord) -> Option<u16>
 }
 
 /// The slot or the group that a field is.
-fn place_of<'a>(field: Field<'a>) -> Place<'a>
+pub(crate) fn place_of<'a>(field: Field<'a>) -> Place<'a>
     ensures { FindsField field.entry result }
 {
     let holder = field.parent().record();

@@ -11,6 +11,7 @@ mod default;
 pub mod dynamic_struct;
 mod find;
 mod get;
+mod group;
 pub mod laws;
 mod number;
 pub mod open;
@@ -25,8 +26,6 @@ mod section;
 mod shown;
 mod slot;
 mod taken;
-#[cfg(test)]
-mod tests;
 mod text;
 mod widen;
 

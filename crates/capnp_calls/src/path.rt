@@ -12,11 +12,12 @@ ghost use Rattle.capnp_queries.specs.Structs.{schema_around, id_of, shape_of_str
 ghost use Rattle.capnp_calls.specs.Actions.{is_in_range};
 ghost use Rattle.capnp_calls.specs.CallViews.{step_view, action_view};
 ghost use Rattle.capnp_calls.specs.RootViews.{cell_of, struct_tree, HasFitting, SameSizes};
-ghost use Rattle.capnp_calls.specs.Slots.{words_in, pointers_in, body_of_slot, IsUnionInside, IsSegment, IsSlotOf};
+ghost use Rattle.capnp_calls.specs.Slots.{words_in, pointers_in, body_of_slot, IsInside, IsUnionInside, IsSegment, IsSlotOf};
 ghost use Rattle.capnp_calls.specs.Replies.{reply_view};
 ghost use Rattle.capnp_calls.specs.Finding.{IsPlaced};
 ghost use Rattle.capnp_calls.specs.Sizes.{IsWant};
-ghost use Rattle.capnp_calls.specs.Taken.{IsTakenPath, IsTakenRest};
+ghost use Rattle.capnp_calls.specs.Taken.{starts_with_name, IsTakenPath, IsTakenRest};
+ghost use Rattle.capnp_calls.specs.Readable.{reads_in, misfit_reply};
 ghost use Rattle.capnp_calls.specs.Paths.{AnswersSlot, SlotPutsLong, AnswersGroup, GroupPutsLong, AnswersPointer, PointerPutsLong, AnswersPath, PathPutsLong, AnswersStruct, is_done};
 
 use crate::answer::{answer_slot, is_active};
@@ -24,12 +25,13 @@ use crate::call::{Action, Step};
 use crate::default::default_value;
 use crate::dynamic_struct::{data_words, pointers};
 use crate::find::{Found, NamedGroup, NamedSlot, find_slot};
+use crate::group::answer_group_end;
 use crate::open::{as_struct, close_struct};
 use crate::readable::is_readable;
 use crate::reply::Reply;
 use crate::root::{StructValue, pointer, set_pointer, take_pointer};
 use crate::slot::Slot;
-use crate::taken::first_name;
+use crate::taken::{begins_with_name, first_name};
 use crate::widen::{narrow, widen};
 use capnp_model::laws;
 use capnp_queries::structs::StructSchema;
@@ -51,6 +53,18 @@ fn is_null(value: &Value) -> bool
     ensures { result ≡ is_null (tree_of_value value.now) }
 {
     matches!(value, Value::Null)
+}
+
+/// The reply at a slot whose type doesn't take a step.
+fn misfit(root: &StructValue, slot: Slot<'_>) -> Reply
+    requires { IsInside (vec_len root.now.words) (vec_len root.now.children) (body_of_slot slot) }
+    ensures { reply_view result ≡ misfit_reply (reads_in (body_of_slot slot.entry) (cell_of root.now)) }
+{
+    if is_readable(root, slot) {
+        Reply::Refused(ErrorKind::WrongStep)
+    } else {
+        Reply::Refused(ErrorKind::UnreadablePointer)
+    }
 }
 
 /// Answers a call along the rest of a path at a struct or a group.
@@ -81,7 +95,13 @@ pub(crate) fn answer_at(
     };
     match find_slot(schema, name) {
         Found::Nothing => Ok(Reply::Refused(ErrorKind::FieldNotFound)),
-        Found::Group(group) => answer_group(alloc, root, group, rest, action),
+        Found::Group(group) => {
+            if rest.is_empty() {
+                Ok(answer_group_end(root, group, action))
+            } else {
+                answer_group(alloc, root, group, rest, action)
+            }
+        }
         Found::Slot(named) => {
             if rest.is_empty() {
                 answer_slot(alloc, schema.set(), root, named, action)
@@ -158,16 +178,13 @@ fn answer_behind(
             raw,
             default,
         } => {
+            if !begins_with_name(rest) {
+                return Ok(misfit(root, named.slot));
+            }
             let schema = StructSchema::new(set, raw);
             answer_pointer(alloc, schema, root, pointer, default, rest, action)
         }
-        slot => {
-            if is_readable(root, slot) {
-                Ok(Reply::Refused(ErrorKind::WrongStep))
-            } else {
-                Ok(Reply::Refused(ErrorKind::UnreadablePointer))
-            }
-        }
+        slot => Ok(misfit(root, slot)),
     }
 }
 
@@ -186,6 +203,7 @@ fn answer_pointer(
     requires good { IsSegment (option_map value_of (option_copied default)) }
     requires in_range { IsTrue (is_in_range action.now) }
     requires taken { IsTakenPath schema (map step_view rest.now) (action_view action.now) }
+    requires named { starts_with_name (map step_view rest.now) ≡ true }
     requires some { map step_view rest.now ≢ [] }
     ensures answer { IfOk result (λ r.
         AnswersPointer schema.entry index (option_map value_of (option_copied default.entry))
@@ -222,6 +240,7 @@ fn answer_null(
     requires good { IsSegment (option_map value_of (option_copied default)) }
     requires in_range { IsTrue (is_in_range action.now) }
     requires taken { IsTakenPath schema (map step_view rest.now) (action_view action.now) }
+    requires named { starts_with_name (map step_view rest.now) ≡ true }
     requires some { map step_view rest.now ≢ [] }
     ensures answer { IfOk result (λ r.
         AnswersPointer schema.entry index (option_map value_of (option_copied default.entry))
@@ -264,6 +283,7 @@ fn answer_there(
     requires good { IsSegment (option_map value_of (option_copied default)) }
     requires in_range { IsTrue (is_in_range action.now) }
     requires taken { IsTakenPath schema (map step_view rest.now) (action_view action.now) }
+    requires named { starts_with_name (map step_view rest.now) ≡ true }
     requires some { map step_view rest.now ≢ [] }
     ensures answer { IfOk result (λ r.
         AnswersPointer schema.entry index (option_map value_of (option_copied default.entry))

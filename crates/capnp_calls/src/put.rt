@@ -19,7 +19,7 @@ use crate::slot::{Slot, width_of};
 use capnp_value::value::Value;
 
 /// Makes a member the active one of its union; a slot that is no member changes nothing.
-fn mark_member(root: &mut StructValue, union: Option<u32>, member: Option<u16>)
+pub(crate) fn mark_member(root: &mut StructValue, union: Option<u32>, member: Option<u16>)
     requires { IsUnionInside (vec_len root.old.words) union }
     ensures cell { cell_of root.new ≡ mark union member (cell_of root.old) }
     ensures sizes { SameSizes root.old root.new }

@@ -69,7 +69,7 @@ fn have_room(bits: u32, pointers: u16, expected: ElementSize) -> bool
 }
 
 /// Whether a value is null or a list whose elements can be read as the type.
-fn is_list_of(value: &Value, element: Type) -> bool
+pub(crate) fn is_list_of(value: &Value, element: Type) -> bool
     ensures { result ≡ is_list (ty_of element) (tree_of_value value.now) }
 {
     let expected = element.expected_element_size();

@@ -15,7 +15,7 @@ use crate::call::Call;
 use crate::dynamic_struct::Builder;
 use crate::reply::Reply;
 use crate::root::StructValue;
-use capnp_model::laws;
+use capnp_model::{laws, laws_of_edits};
 use capnp_queries::structs::StructSchema;
 use capnp_units::errors::Result;
 use std::alloc::Global;
@@ -38,6 +38,7 @@ fn run_at(
     ensures fits { Fits (struct_tree root.old) → Fits (struct_tree root.new) }
 {
     laws::fitting_values();
+    laws_of_edits::records_after_calls();
     let mut replies = Vec::new(alloc);
     for call in calls {
         replies.push(answer_call(alloc, schema, root, call)?)?;

@@ -9,6 +9,4 @@ mod keeps;
 mod nodes;
 mod reached;
 pub mod root;
-#[cfg(test)]
-mod tests;
 mod types;

@@ -7,10 +7,6 @@ mod defaults;
 pub mod fault;
 mod fields;
 mod json;
-#[cfg(test)]
-mod large_tests;
 mod nodes;
 pub mod schema_file;
-#[cfg(test)]
-mod tests;
 mod types;

@@ -5,8 +5,6 @@
 mod depth;
 mod read;
 mod size;
-#[cfg(test)]
-mod tests;
 mod trim;
 mod write;
 

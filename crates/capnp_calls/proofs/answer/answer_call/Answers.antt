@@ -5,30 +5,24 @@ use Rattle.capnp_calls.specs.CallViews.{step_view, call_view}
 use Rattle.capnp_calls.specs.RootViews.{cell_of, struct_tree}
 use Rattle.capnp_calls.specs.Replies.{reply_view}
 use Rattle.capnp_queries.specs.Structs.{schema_around, fields_of_struct}
-use Rattle.capnp_calls.specs.Taken.{are_names, is_taken_end, end_behind, IsTakenPath}
+use Rattle.capnp_calls.specs.Taken.{is_taken_behind, IsTakenPath}
 use Rattle.capnp_calls.specs.Paths.{AnswersPath, PathPutsLong}
 use Rattle.capnp_calls.proofs.LongLists.{want_of}
 use Rattle.capnp_calls.proofs.SlotRecords.{IsGiven-of_action}
-use Rattle.capnp_calls.proofs.WholeCalls.{not_names, not_taken, whole_answer, whole_long}
+use Rattle.capnp_calls.proofs.WholeCalls.{untaken, whole_answer, whole_long}
 use Rattle.capnp_calls.proofs.answer.answer_call.Goals as goal
-
-pub returns-then-not-are_names-clause-answer : goal.returns-then-not-are_names-clause-answer
-returns-then-not-are_names-clause-answer c =
-    let whole = ap (map step_view) c.as_slice-path.ensures.value in
-    not_names c.args.schema (call_view c.args.call.now) (sym (ap are_names whole) ∙ sym c.are_names.ensures ∙ c.if-not-are_names.true) (struct_tree c.args.root.now)
 
 pub returns-then-not-is_taken_behind-clause-answer : goal.returns-then-not-is_taken_behind-clause-answer
 returns-then-not-is_taken_behind-clause-answer c =
     let call = call_view c.args.call.now in
     let whole = ap (map step_view) c.as_slice-path.ensures.value in
-    not_taken c.args.schema call (sym (ap are_names whole) ∙ sym c.are_names.ensures ∙ c.if-not-are_names.false)
-    (sym (ap (λ p. is_taken_end call.verb (end_behind (schema_around c.args.schema) (fields_of_struct c.args.schema) p)) whole) ∙ sym c.is_taken_behind.ensures ∙ c.if-not-is_taken_behind.true) (struct_tree c.args.root.now)
+    untaken c.args.schema call (sym (ap (is_taken_behind (schema_around c.args.schema) call.verb (fields_of_struct c.args.schema)) whole) ∙ sym c.is_taken_behind.ensures ∙ c.if-not-is_taken_behind.true) (struct_tree c.args.root.now)
 
 pub returns-clause-answer : goal.returns-clause-answer
 returns-clause-answer c =
     let call = call_view c.args.call.now in
     let whole = ap (map step_view) c.as_slice-path.ensures.value in
-    let taken : IsTakenPath c.args.schema call.path call.verb = subst (λ p. IsTakenPath c.args.schema p call.verb) whole (record { names = sym c.are_names.ensures ∙ c.if-not-are_names.false; taken = sym c.is_taken_behind.ensures ∙ c.if-not-is_taken_behind.false }) in
+    let taken : IsTakenPath c.args.schema call.path call.verb = subst (λ p. IsTakenPath c.args.schema p call.verb) whole (sym c.is_taken_behind.ensures ∙ c.if-not-is_taken_behind.false) in
     IfOk-weaker c.answer_at.result _ _ (λ r a.
     whole_answer c.args.schema call taken c.records_of_edited_values.ensures c.requires.root (IsGiven-of_action c.args.call.now.action c.args.call.now.in_range) c.args.root.now c.answer_at.new.root c.answer_at.ensures.sizes c.requires.words c.requires.pointers (reply_view r)
     (subst (λ p. AnswersPath c.args.schema p call.verb (cell_of c.args.root.now) (cell_of c.answer_at.new.root) (reply_view r)) whole a)) c.answer_at.ensures.answer
@@ -37,5 +31,5 @@ pub returns-clause-refusal : goal.returns-clause-refusal
 returns-clause-refusal c =
     let call = call_view c.args.call.now in
     let whole = ap (map step_view) c.as_slice-path.ensures.value in
-    let taken : IsTakenPath c.args.schema call.path call.verb = subst (λ p. IsTakenPath c.args.schema p call.verb) whole (record { names = sym c.are_names.ensures ∙ c.if-not-are_names.false; taken = sym c.is_taken_behind.ensures ∙ c.if-not-is_taken_behind.false }) in
+    let taken : IsTakenPath c.args.schema call.path call.verb = subst (λ p. IsTakenPath c.args.schema p call.verb) whole (sym c.is_taken_behind.ensures ∙ c.if-not-is_taken_behind.false) in
     IfErr-weaker c.answer_at.result _ _ (λ e h. want_of _ _ (λ long. whole_long c.args.schema call taken c.args.root.now (subst (λ p. PathPutsLong c.args.schema p call.verb (cell_of c.args.root.now)) whole long)) e.kind h) c.answer_at.ensures.refusal

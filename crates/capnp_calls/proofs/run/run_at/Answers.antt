@@ -10,10 +10,13 @@ use Rattle.capnp_calls.specs.declared.call.Call.{Call}
 use Rattle.capnp_calls.specs.CallViews.{call_view}
 use Rattle.capnp_calls.specs.RootViews.{struct_tree, SameSizes}
 use Rattle.capnp_calls.specs.Replies.{reply_view}
-use Rattle.capnp_calls.specs.Taken.{replies_to, tree_after, tree_after_all, record_at, record_by, record_by_all}
+use Rattle.capnp_calls.specs.Taken.{GoToSlots, taken_call, replies_to, tree_after, tree_after_all, record_at, record_by, record_by_all}
 use Rattle.capnp_calls.specs.Sizes.{BeginsLong, IsWant}
 use Rattle.capnp_calls.proofs.Children.{Fits-kept}
-use Rattle.capnp_calls.proofs.InTurn.{replies_to-more, replies_to-nil, tree_after_all-nil, record_by_all-nil, tree_after_all-more, record_by_all-more}
+use Rattle.capnp_calls.proofs.InTurn.{replies_to-more, replies_to-nil, tree_after_all-nil, record_by_all-nil, tree_after_all-more, record_by_all-more, slots_before}
+use Rattle.capnp_queries.specs.Structs.{nodes_around, id_of}
+use Rattle.capnp_calls.proofs.AcceptedSlots.{root_is_no_group}
+use Rattle.capnp_calls.proofs.SlotRecords.{AreGiven-of_calls}
 use Rattle.capnp_calls.proofs.run.run_at.Goals as goal
 
 -- calls are the first of them and the rest
@@ -24,7 +27,7 @@ pub loop-call-init : goal.loop-call-init
 loop-call-init c = record {
   replies = ap (λ xs. map reply_view xs ++ replies_to c.args.schema (map call_view c.args.calls.now) (struct_tree c.args.root.now)) c.new-replies.ensures.items;
   tree = sym (tree_after_all-nil c.args.schema (struct_tree c.args.root.now));
-  fields = sym (record_by_all-nil c.args.schema (record_at c.args.schema (struct_tree c.args.root.now)));
+  fields = λ goes. sym (record_by_all-nil c.args.schema (record_at c.args.schema (struct_tree c.args.root.now)));
   sizes = record { words = refl; pointers = refl };
   fitting = λ f. f;
 }
@@ -56,8 +59,9 @@ loop-call-preserved c =
           c.in_ok-answer_call.ensures.answer.tree ∙ ap (tree_after c.args.schema (call_view this)) c.loop-call.invariant.tree
           ∙ sym (tree_after_all-more c.args.schema (map call_view (take i calls)) (call_view this) first)
           ∙ ap (λ x. tree_after_all c.args.schema x first) (sym done);
-      fields =
-          c.in_ok-answer_call.ensures.answer.fields ∙ ap (record_by c.args.schema (call_view this)) c.loop-call.invariant.fields
+      fields = λ goes.
+          let each = slots_before c.args.schema (map call_view (take i calls)) (call_view this) (subst (GoToSlots c.args.schema) done goes) in
+          c.in_ok-answer_call.ensures.answer.fields each.1 ∙ ap (record_by c.args.schema (call_view this)) (c.loop-call.invariant.fields each.0)
           ∙ sym (record_by_all-more c.args.schema (map call_view (take i calls)) (call_view this) (record_at c.args.schema first))
           ∙ ap (λ x. record_by_all c.args.schema x (record_at c.args.schema first)) (sym done);
       sizes = record { words = c.answer_call.ensures.sizes.words ∙ c.loop-call.invariant.sizes.words; pointers = c.answer_call.ensures.sizes.pointers ∙ c.loop-call.invariant.sizes.pointers };
@@ -72,11 +76,16 @@ returns-clause-all c =
     let every : take last calls ≡ calls = take_all last calls c.loop-call-test.false in
     let before = map reply_view c.loop-call.replies.items in
     let first : Tree = struct_tree c.args.root.now in
+    let whole : struct_tree c.loop-call.root ≡ tree_after_all c.args.schema (map call_view calls) first = c.loop-call.invariant.tree ∙ ap (λ x. tree_after_all c.args.schema (map call_view x) first) every in
     record {
       replied =
           sym (replies_to-nil c.args.schema before (struct_tree c.loop-call.root)) ∙ ap (λ x. before ++ replies_to c.args.schema (map call_view x) (struct_tree c.loop-call.root)) (sym none) ∙ c.loop-call.invariant.replies;
-      tree = c.loop-call.invariant.tree ∙ ap (λ x. tree_after_all c.args.schema (map call_view x) first) every;
-      fields = c.loop-call.invariant.fields ∙ ap (λ x. record_by_all c.args.schema (map call_view x) (record_at c.args.schema first)) every;
+      tree = whole;
+      fields = λ goes. c.loop-call.invariant.fields (subst (λ x. GoToSlots c.args.schema (map call_view x)) (sym every) goes) ∙ ap (λ x. record_by_all c.args.schema (map call_view x) (record_at c.args.schema first)) every;
+      fields_in_kind = λ kinds.
+          ap (record_at c.args.schema) whole
+          ∙ c.records_after_calls.ensures.reads (nodes_around c.args.schema) (id_of c.args.schema) (map (taken_call c.args.schema) (map call_view calls)) first
+          (record { accepted = c.args.schema.set.now.accepted; root = root_is_no_group c.args.schema c.requires.root; given = AreGiven-of_calls c.args.schema calls; opens = tt; kinds = kinds });
     }
 
 pub returns-in_err-answer_call-clause-early : goal.returns-in_err-answer_call-clause-early
