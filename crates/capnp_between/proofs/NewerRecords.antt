@@ -13,6 +13,8 @@ use Rattle.capnp_model.specs.Answers.{Answer, refused_value, refused_root, refus
 use Rattle.capnp_model.proofs.KeptRules.{and_left, and_right}
 use Rattle.capnp_queries.specs.Structs.{nodes_around, schema_around, id_of}
 use Rattle.capnp_queries.specs.declared.structs.StructSchema.{StructSchema}
+use Rattle.capnp_call_messages.specs.Messages.{tree_of_message}
+use Rattle.capnp_call_messages.proofs.Kept.{message_fits}
 use Rattle.capnp_calls.specs.declared.call.Call.{Call}
 use Rattle.capnp_calls.specs.declared.call.Action.{Action}
 use Rattle.capnp_calls.specs.declared.call.Action.TheVariants as action
@@ -51,6 +53,7 @@ whole_value (slot.Bool b) h = tt
 whole_value (slot.Enum n) h = h
 whole_value (slot.Text t) h = tt
 whole_value (slot.Data bs) h = tt
+whole_value (slot.Message m) h = fits-whole (tree_of_message m) (message_fits m)
 
 whole_action : (a : Action) → IsGiven (action_view a) → IsWholeVerb (action_view a)
 whole_action action.Get h = tt

@@ -2,5 +2,3 @@
 #![tactic(auto)]
 
 pub mod between;
-#[cfg(test)]
-mod tests;

@@ -1,6 +1,8 @@
 -- What words and files ask for, computed: faults in their order, calls with their numbers, and limits.
 use Rattle.std.proofs.Common.{◌≡◌, ℕ, pos, negsuc, Option, Some, None, Result, Ok, Err, List, [], ◌∷◌, codes, refl}
 use Rattle.capnp_model.specs.Calls.{name, whole_number, Verb, get, set_to, Call}
+use Rattle.capnp_model.specs.Messages.{message_at}
+use Rattle.capnp_call_messages.specs.Frames.{value_in}
 use Rattle.capnp_calls.specs.declared.call.Verb.TheVariants as verb
 use Rattle.capnp_files.specs.CallsFiles.{CallParts, given_number, given_message}
 use Rattle.capnp_program.specs.declared.stop.Stop.TheVariants as stop
@@ -65,7 +67,7 @@ unfolding set_without_value no_path
 first_call = refl
 
 message_call : calls_from 1 (set_to_message ∷ []) ≡ Err (stop.Call 1)
-unfolding set_to_message
+unfolding set_to_message value_in message_at
 message_call = refl
 
 large_list : calls_from 1 (many_elements 536870912 ∷ []) ≡ Err (stop.Call 1)

@@ -1,7 +1,8 @@
 -- The calls that are made are those that their parts say.
 use Rattle.std.proofs.Common.{rules, arith, ◌≡◌, refl, sym, ap, ◌∙◌, ℕ, suc, ◌+◌, ◌^◌, nat_lt, if◌then◌else◌, Bool, true, false, Option, Some, None, option_map, Result, Ok, Err, List, [], ◌∷◌, ◌++◌, map, length, append_assoc, append-nil, length-append, Vec, Global}
 use Rattle.std.proofs.lemmas.List.{length-map, map-append}
-use Rattle.capnp_model.specs.Calls.{Verb as ModelVerb, initn, Call as ModelCall}
+use Rattle.capnp_model.specs.Calls.{CallValue as ModelValue, message, Verb as ModelVerb, set_to, initn, Call as ModelCall}
+use Rattle.capnp_call_messages.specs.Frames.{value_in}
 use Rattle.capnp_calls.specs.declared.call.Step.{Step}
 use Rattle.capnp_calls.specs.declared.call.Verb.{Verb}
 use Rattle.capnp_calls.specs.declared.call.Verb.TheVariants as verb
@@ -10,7 +11,7 @@ use Rattle.capnp_calls.specs.declared.call.CallValue.TheVariants as value
 use Rattle.capnp_calls.specs.declared.call.CallFault.{CallFault}
 use Rattle.capnp_calls.specs.declared.call.CallFault.TheVariants as fault
 use Rattle.capnp_calls.specs.declared.call.Call.{Call}
-use Rattle.capnp_calls.specs.CallViews.{step_view, call_view, call_from, call_along as along_model, verb_from}
+use Rattle.capnp_calls.specs.CallViews.{step_view, call_view, call_from, call_along as along_model, set_verb, verb_from, IsRefusal}
 use Rattle.capnp_files.specs.CallsFiles.{CallParts, given_of}
 use Rattle.capnp_files.specs.CallViews.{parts_of}
 use Rattle.capnp_program.specs.declared.stop.Stop.{Stop}
@@ -31,7 +32,11 @@ same_verb verb.Set (Some (value.Bool b)) = refl
 same_verb verb.Set (Some (value.Enum n)) = refl
 same_verb verb.Set (Some (value.Text t)) = refl
 same_verb verb.Set (Some (value.Data bs)) = refl
-same_verb verb.Set (Some (value.Message bs)) = refl
+same_verb verb.Set (Some (value.Message bs)) = taken (option_map message (value_in bs.items))
+  where
+    taken : (o : Option ModelValue) → result_ok (set_verb o) ≡ (o >>= λ x. Some (set_to x))
+    taken None = refl
+    taken (Some x) = refl
 same_verb verb.Init None = refl
 same_verb verb.Init (Some x) = refl
 same_verb (verb.Initn n) None = sized (nat_lt n (2 ^ 29))
@@ -88,21 +93,29 @@ made_all calls (parts ∷ rest) h = absurd (omega arith)
 
 -- one more call is made of the parts that come next
 pub made_next : (all : Result (List ModelCall) Stop) (calls : List Call) (call : Call) (p : Vec Step Global × Verb × Option CallValue) (before after : List (Vec Step Global × Verb × Option CallValue)) (more : List Call)
-    → all ≡ left_of (map call_view calls) (map parts_of before) → before ≡ p ∷ after → Ok (call_view call) ≡ call_from p.0.items p.1 p.2 → more ≡ calls ++ call ∷ []
+    → all ≡ left_of (map call_view calls) (map parts_of before) → before ≡ p ∷ after → call_from p.0.items p.1 p.2 ≡ Ok (call_view call) → more ≡ calls ++ call ∷ []
     → all ≡ left_of (map call_view more) (map parts_of after)
 made_next all calls call p before after more h b made m =
-    let given : call_given (parts_of p) ≡ Some (call_view call) = sym (same_call p.0.items p.1 p.2) ∙ ap result_ok (sym made) in
+    let given : call_given (parts_of p) ≡ Some (call_view call) = sym (same_call p.0.items p.1 p.2) ∙ ap result_ok made in
     let next : map call_view more ≡ map call_view calls ++ call_view call ∷ [] = ap (map call_view) m ∙ map-append call_view calls (call ∷ []) in
     h ∙ ap (λ xs. left_of (map call_view calls) (map parts_of xs)) b
     ∙ made_one (map call_view calls) (parts_of p) (map parts_of after) (call_view call) given
     ∙ ap (λ cs. left_of cs (map parts_of after)) (sym next)
 
+-- a refusal that isn't want of memory
+told : {A : Type 0} (wants : Type 0) (made : Result A CallFault) (e : CallFault) → IsRefusal wants made e → (e ≡ fault.Memory → ⊥) → made ≡ Err e
+told wants made fault.EmptyPath h other = h
+told wants made fault.ValueAndVerb h other = h
+told wants made fault.Size h other = h
+told wants made fault.Message h other = h
+told wants made fault.Memory h other = absurd (other refl)
+
 -- the parts that come next make no call
-pub refused_next : (all : Result (List ModelCall) Stop) (calls : List Call) (e : CallFault) (p : Vec Step Global × Verb × Option CallValue) (before after : List (Vec Step Global × Verb × Option CallValue)) (number : ℕ)
-    → all ≡ left_of (map call_view calls) (map parts_of before) → before ≡ p ∷ after → Err e ≡ call_from p.0.items p.1 p.2 → number ≡ length calls + 1
+pub refused_next : (all : Result (List ModelCall) Stop) (calls : List Call) (wants : Type 0) (e : CallFault) (p : Vec Step Global × Verb × Option CallValue) (before after : List (Vec Step Global × Verb × Option CallValue)) (number : ℕ)
+    → all ≡ left_of (map call_view calls) (map parts_of before) → before ≡ p ∷ after → IsRefusal wants (call_from p.0.items p.1 p.2) e → (e ≡ fault.Memory → ⊥) → number ≡ length calls + 1
     → all ≡ Err (stop.Call number)
-refused_next all calls e p before after number h b made n =
-    let given : call_given (parts_of p) ≡ None = sym (same_call p.0.items p.1 p.2) ∙ ap result_ok (sym made) in
+refused_next all calls wants e p before after number h b made other n =
+    let given : call_given (parts_of p) ≡ None = sym (same_call p.0.items p.1 p.2) ∙ ap result_ok (told wants (call_from p.0.items p.1 p.2) e made other) in
     let same : length (map call_view calls) + 1 ≡ number = omega (arith, n, length-map calls call_view) in
     h ∙ ap (λ xs. left_of (map call_view calls) (map parts_of xs)) b
     ∙ refused_one (map call_view calls) (parts_of p) (map parts_of after) given

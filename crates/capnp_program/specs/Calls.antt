@@ -1,7 +1,8 @@
 -- The calls that the parts in a calls file make.
-use Rattle.std.specs.Prelude.{ℕ, suc, ◌^◌, nat_lt, Option, Some, None, ok_or, Result, Ok, List, [], ◌∷◌}
+use Rattle.std.specs.Prelude.{ℕ, suc, ◌^◌, nat_lt, Option, Some, None, option_map, ok_or, Result, Ok, List, [], ◌∷◌}
 use Rattle.capnp_model.specs.Chains.{◌>>=◌, ◌provided◌}
-use Rattle.capnp_model.specs.Calls.{Step, CallValue, whole_number, truth, enumerant, text_value, blob_value, Verb as ModelVerb, get, set_to, init, initn, clear, Call}
+use Rattle.capnp_model.specs.Calls.{Step, CallValue, whole_number, truth, enumerant, text_value, blob_value, message, Verb as ModelVerb, get, set_to, init, initn, clear, Call}
+use Rattle.capnp_call_messages.specs.Frames.{value_in}
 use Rattle.capnp_calls.specs.declared.call.Verb.{Verb}
 use Rattle.capnp_calls.specs.declared.call.Verb.TheVariants as verb
 use Rattle.capnp_files.specs.CallsFiles.{Given, given_number, given_bool, given_enum, given_text, given_data, given_message, CallParts}
@@ -9,14 +10,14 @@ use Rattle.capnp_program.specs.Faults.{◌and_then◌}
 use Rattle.capnp_program.specs.declared.stop.Stop.{Stop}
 use Rattle.capnp_program.specs.declared.stop.Stop.TheVariants as stop
 
--- What `set` takes: all but messages.
+-- What `set` takes; of a message its value, where it has one.
 abbrev pub value_given : Given → Option CallValue
 value_given (given_number z) = Some (whole_number z)
 value_given (given_bool b) = Some (truth b)
 value_given (given_enum n) = Some (enumerant n)
 value_given (given_text bs) = Some (text_value bs)
 value_given (given_data bs) = Some (blob_value bs)
-value_given (given_message bs) = None
+value_given (given_message bs) = option_map message (value_in bs)
 
 -- What a verb and a value make: `set` wants a value, the others want none, and lists have fewer than 2^29 elements.
 abbrev pub verb_given : Verb → Option Given → Option ModelVerb

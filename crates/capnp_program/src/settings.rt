@@ -73,7 +73,7 @@ fn made_calls(
 {
     let mut calls = Vec::new(alloc);
     for (path, verb, value) in parts {
-        match Call::new(path, verb, value) {
+        match Call::new(alloc, path, verb, value) {
             Ok(call) => calls.push(call)?,
             Err(CallFault::Memory) => return Err(Stop::Relay(Fault::Memory)),
             Err(_) => return Err(Stop::Call(calls.len() + 1)),

@@ -10,8 +10,6 @@ mod message;
 pub mod options;
 pub mod pauses;
 pub mod relay;
-#[cfg(test)]
-mod rows;
 mod run;
 mod step;
 #[cfg(test)]

@@ -11,132 +11,12 @@ use capnp_calls::reply::Reply;
 use capnp_stream::forms::Framed;
 use capnp_stream::segments::OwnedSegments;
 use capnp_stream::traits::{BufRead, Read, Write};
+use capnp_test_streams::{Drip, Short};
 use capnp_units::errors::{Error, Result};
 use capnp_units::kinds::ErrorKind;
 use capnp_units::segments::ReaderSegments;
 use std::alloc::Global;
 use std::test::Fail;
-
-/// A source that shows one byte at a time, and fails after some.
-#[derive(Drop)]
-struct Drip<'a> {
-    bytes: &'a [u8],
-    left: usize,
-    failures: u64,
-}
-
-impl<'a> Drip<'a> {
-    fn new(bytes: &'a [u8], left: usize) -> Drip<'a> {
-        Drip {
-            bytes,
-            left,
-            failures: 0,
-        }
-    }
-
-    fn shown(&self) -> &[u8]
-        ensures { length result.now ≤ 1 }
-    {
-        let n = self.bytes.len().min(1);
-        &self.bytes[..n]
-    }
-
-    fn consume_one(&mut self)
-        ensures { self.new.failures ≡ self.old.failures }
-    {
-        let bytes = self.bytes;
-        let n = bytes.len().min(1);
-        self.bytes = &bytes[n..];
-        self.left = self.left.saturating_sub(1);
-    }
-}
-
-impl Read for Drip<'_> {
-    ghost failures = { λ d. d.failures };
-
-    ghost refuses = { λ k. k ≡ ErrorKind.Device };
-
-    fn read(&mut self, buf: &mut [u8]) -> Result<usize> {
-        let byte = match self.fill_buf()?.first() {
-            Some(b) => *b,
-            None => return Ok(0),
-        };
-        if buf.is_empty() {
-            return Ok(0);
-        }
-        buf[0] = byte;
-        self.consume_one();
-        Ok(1)
-    }
-
-    fn failures(&self) -> u64 {
-        self.failures
-    }
-}
-
-impl BufRead for Drip<'_> {
-    ghost shown = { λ _. 1 };
-
-    fn fill_buf(&mut self) -> Result<&[u8]> {
-        if self.left == 0 {
-            self.failures = self.failures.saturating_add(1);
-            return Err(Error::from(ErrorKind::Device));
-        }
-        Ok(self.shown())
-    }
-
-    fn consume(&mut self, amount: usize) {
-        if amount == 1 {
-            self.consume_one();
-        }
-    }
-
-    ghost device_alone = { λ _ e. e };
-}
-
-/// A sink that takes some bytes and then fails, or wants memory.
-#[derive(Drop)]
-struct Short {
-    held: Vec<u8>,
-    left: usize,
-    wants_memory: bool,
-    failures: u64,
-}
-
-impl Short {
-    fn new(alloc: Global, left: usize, wants_memory: bool) -> Short {
-        Short {
-            held: Vec::new(alloc),
-            left,
-            wants_memory,
-            failures: 0,
-        }
-    }
-}
-
-impl Write for Short {
-    ghost failures = { λ s. s.failures };
-
-    ghost may_grow = { Unit {0} };
-
-    fn write_all(&mut self, buf: &[u8]) -> Result<()> {
-        let n = buf.len().min(self.left);
-        if n < buf.len() && self.wants_memory {
-            return Err(Error::from(ErrorKind::OutOfMemory));
-        }
-        self.held.extend_from_slice(&buf[..n])?;
-        self.left -= n;
-        if n < buf.len() {
-            self.failures = self.failures.saturating_add(1);
-            return Err(Error::from(ErrorKind::Device));
-        }
-        Ok(())
-    }
-
-    fn failures(&self) -> u64 {
-        self.failures
-    }
-}
 
 /// The first word of a message.
 fn first_word(message: &OwnedSegments) -> Option<u64> {
@@ -331,7 +211,7 @@ fn a_failed_write_ends_a_run(rt: HostRuntime) -> std::result::Result<(), Fail> {
         let mut source = TWO.as_slice();
         let end = run_framed(alloc, &mut source, &mut out, &mut log, &Echo, 1000);
         assert_eq!(rt; end, fault(Fault::Out, 0, 1));
-        assert_eq!(rt; out.held.as_slice(), &TWO[16..16 + n]);
+        assert_eq!(rt; out.held(), &TWO[16..16 + n]);
         assert_eq!(rt; log.as_slice(), b"message 1 refused: value\n".as_slice());
     }
     let mut out = Vec::new(alloc);
@@ -339,10 +219,7 @@ fn a_failed_write_ends_a_run(rt: HostRuntime) -> std::result::Result<(), Fail> {
     let end = run_framed(alloc, &mut TWO.as_slice(), &mut out, &mut log, &Echo, 1000);
     assert_eq!(rt; end, fault(Fault::Log, 1, 1));
     assert_eq!(rt; out.as_slice(), &TWO[16..]);
-    assert_eq!(rt;
-        log.held.as_slice(),
-        b"message 1 refused: value\nmessa".as_slice()
-    );
+    assert_eq!(rt; log.held(), b"message 1 refused: value\nmessa".as_slice());
     Ok(())
 }
 

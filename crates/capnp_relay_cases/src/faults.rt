@@ -1,6 +1,6 @@
 //! What files, roots and calls are refused with.
 
-use capnp_calls::{Call, CallFault, CallValue, Verb};
+use capnp_calls::{Call, CallFault};
 use capnp_files::calls_file::{CallsFile, calls_file};
 use capnp_files::fault::FileFault;
 use capnp_files::schema_file::schema_file;
@@ -40,8 +40,6 @@ pub enum Answer {
     Call(u64),
     /// none of these
     Opened,
-    /// a call that sets a message comes first
-    SetsMessage,
 }
 
 /// What a schema file and a root in it are answered.
@@ -65,14 +63,11 @@ pub fn schema_answer(alloc: Global, bytes: Option<Vec<u8>>, root: u64) -> Result
 }
 
 /// What the calls of a file are answered, in their order.
-fn answer_to_calls(file: CallsFile) -> Result<Answer, Fault> {
+fn answer_to_calls(alloc: Global, file: CallsFile) -> Result<Answer, Fault> {
     let mut place: u64 = 0;
     for (path, verb, value) in file.calls {
         place = place.saturating_add(1);
-        if let (Verb::Set, Some(CallValue::Message(_))) = (verb, &value) {
-            return Ok(Answer::SetsMessage);
-        }
-        match Call::new(path, verb, value) {
+        match Call::new(alloc, path, verb, value) {
             Ok(_) => {}
             Err(CallFault::Memory) => return Err(Fault::Memory),
             Err(_) => return Ok(Answer::Call(place)),
@@ -87,7 +82,7 @@ pub fn calls_answer(alloc: Global, bytes: Option<Vec<u8>>) -> Result<Answer, Fau
         return Ok(Answer::CallsFile);
     };
     match calls_file(alloc, &bytes) {
-        Ok(file) => answer_to_calls(file),
+        Ok(file) => answer_to_calls(alloc, file),
         Err(FileFault::Form) => Ok(Answer::CallsFile),
         Err(FileFault::Memory) => Err(Fault::Memory),
     }

@@ -60,7 +60,7 @@ fn report(rt: &HostRuntime, counts: &Counts) -> io::Result<ExitCode> {
     println!(rt;
         "{begun} runs that the relay doesn't take are answered as they should be before a message is read"
     )?;
-    println!(rt; "{passed_over} runs are not compared: a call of theirs sets a message")?;
+    println!(rt; "{passed_over} runs are not compared")?;
     for line in differing {
         println!(rt; "the run of line {line} differs")?;
     }

@@ -50,7 +50,7 @@ fn line_of(alloc: Global, answer: Answer) -> Result<Option<String>, Fault> {
         Answer::Root => Some(String::from_str(alloc, "fault: root")?),
         Answer::CallsFile => Some(String::from_str(alloc, "fault: calls file")?),
         Answer::Call(n) => Some(format!(in alloc; "fault: call {n}")?),
-        Answer::Opened | Answer::SetsMessage => None,
+        Answer::Opened => None,
     })
 }
 
@@ -123,7 +123,6 @@ fn compare_beginning(alloc: Global, run: &Json) -> Result<Compared, Fault> {
     let answer = answer_of(alloc, run, &words)?;
     let same = match line_of(alloc, answer)? {
         Some(line) => line.as_str() == last,
-        None if answer == Answer::SetsMessage => return Ok(Compared::PassedOver),
         None => got_further(last),
     };
     Ok(if same {

@@ -24,8 +24,13 @@ const MOST_WORDS: usize = 65536;
 /// What stands behind the calls of a file that names no limit, in place of the last brace.
 const WORDS_MEMBER: &[u8] = b",\"words\":65536}";
 
-/// Whether the relay takes a call of one name: one that finds nothing, or a slot, unless it gets a struct or a list.
-fn takes_name(root: StructSchema<'_>, name: &str, verb: Verb) -> Result<bool, Fault> {
+/// Whether the relay takes a call of one name: one that finds nothing, or a field, unless it gets a struct, a list or a group, or sets a group to a message.
+fn takes_name(
+    root: StructSchema<'_>,
+    name: &str,
+    verb: Verb,
+    sets_message: bool,
+) -> Result<bool, Fault> {
     let Ok(found) = root.find_field_by_name(name) else {
         return Err(Fault::Shape);
     };
@@ -33,7 +38,7 @@ fn takes_name(root: StructSchema<'_>, name: &str, verb: Verb) -> Result<bool, Fa
         return Ok(true);
     };
     if let FieldBody::Group { node: _ } = field.get_proto().body {
-        return Ok(false);
+        return Ok(verb != Verb::Get && !sets_message);
     }
     Ok(
         verb != Verb::Get
@@ -44,18 +49,18 @@ fn takes_name(root: StructSchema<'_>, name: &str, verb: Verb) -> Result<bool, Fa
     )
 }
 
-/// Whether the relay takes a call along names: one that finds nothing, or ends at a slot, unless it gets a struct or a list.
-fn takes_names(root: StructSchema<'_>, path: &[Step], verb: Verb) -> Result<bool, Fault> {
+/// Whether the relay takes a call from a struct or a group on: one that goes into no list, unless it gets a struct, a list or a group, or sets a group to a message.
+fn takes_names(
+    root: StructSchema<'_>,
+    path: &[Step],
+    verb: Verb,
+    sets_message: bool,
+) -> Result<bool, Fault> {
     let [Step::Name(name), rest @ ..] = path else {
-        return Ok(false);
+        return Ok(true);
     };
     if rest.is_empty() {
-        return takes_name(root, name.as_str(), verb);
-    }
-    for step in rest {
-        if let Step::Index(_) = step {
-            return Ok(false);
-        }
+        return takes_name(root, name.as_str(), verb, sets_message);
     }
     let Ok(found) = root.find_field_by_name(name.as_str()) else {
         return Err(Fault::Shape);
@@ -64,21 +69,16 @@ fn takes_names(root: StructSchema<'_>, path: &[Step], verb: Verb) -> Result<bool
         return Ok(true);
     };
     match field.place() {
-        FieldPlace::Group { schema } => takes_names(schema, rest, verb),
+        FieldPlace::Group { schema } => takes_names(schema, rest, verb, sets_message),
         FieldPlace::Pointer { ty, .. } => match ty.which() {
-            TypeVariant::Struct(raw) => takes_names(StructSchema::new(root.set(), raw), rest, verb),
+            TypeVariant::Struct(raw) => {
+                let inner = StructSchema::new(root.set(), raw);
+                takes_names(inner, rest, verb, sets_message)
+            }
+            TypeVariant::List(_) => Ok(!matches!(rest, [Step::Index(_), ..])),
             _ => Ok(true),
         },
         _ => Ok(true),
-    }
-}
-
-/// Whether the relay takes a call; one without a step is refused.
-fn takes_call(root: StructSchema<'_>, path: &[Step], verb: Verb) -> Result<bool, Fault> {
-    match path {
-        [] | [Step::Index(_)] => Ok(true),
-        [Step::Name(_), ..] => takes_names(root, path, verb),
-        [_, _, ..] => Ok(false),
     }
 }
 
@@ -92,8 +92,8 @@ fn are_run(log: &[u8]) -> bool {
     }
 }
 
-/// Whether the relay takes the calls at a root, none of which sets a message, or doesn't run them, within a region that isn't too
-/// large, or their file or the limits are refused.
+/// Whether the relay takes the calls at a root, or doesn't run them, within a region that isn't too large, or their file or the
+/// limits are refused.
 fn takes_calls(
     alloc: Global,
     root: StructSchema<'_>,
@@ -109,10 +109,8 @@ fn takes_calls(
         return Ok(false);
     }
     for (path, verb, value) in &file.calls {
-        if matches!(value, Some(CallValue::Message(_))) {
-            return Ok(false);
-        }
-        if are_run && !takes_call(root, path, *verb)? {
+        let sets_message = matches!(value, Some(CallValue::Message(_)));
+        if are_run && !takes_names(root, path, *verb, sets_message)? {
             return Ok(false);
         }
     }

@@ -1,4 +1,3 @@
-pub mod Flat
 pub mod Framing
 pub mod Roots
 pub mod Shown

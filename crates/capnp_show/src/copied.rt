@@ -1,13 +1,12 @@
 //! The canonical words of a message's value.
-ghost use Rattle.std.specs.Prelude.{◌≡◌, [], ◌∷◌, IfOk, IfErr};
+ghost use Rattle.std.specs.Prelude.{[], ◌∷◌, IfOk, IfErr};
 ghost use Rattle.std.specs.List.{flat_map};
 ghost use Rattle.capnp_units.specs.Segments.{words_in};
-ghost use Rattle.capnp_canonical.specs.Writes.{words_view};
 ghost use Rattle.capnp_show.specs.Copied.{IsCopy, IsNoCopy};
 
 use crate::show::ShowFault;
 use capnp_canonical::copy::write_canonical;
-use capnp_canonical::laws::copies_as_walks;
+use capnp_canonical::laws::{copies_as_walks, segments_of_words};
 use capnp_message::message::ReaderOptions;
 use capnp_model::laws::{sizes_of_values, values_on_walks};
 use capnp_object::arena::ReaderArena;
@@ -51,11 +50,6 @@ impl ReaderSegments for CanonicalMessage {
     }
 }
 
-/// The bytes of words are the bytes of a segment of them.
-fn are_words(words: &[Word])
-    ensures { words_in (flat_map (λ word. word) words.now ∷ []) ≡ words_view words.now ∷ [] }
-{}
-
 /// The canonical words of the value of a message, which is within the limits and has no capability.
 pub(crate) fn copied<A: ReaderArena>(
     alloc: Global,
@@ -88,7 +82,7 @@ pub(crate) fn copied<A: ReaderArena>(
     match write_canonical(message, &mut limiter, ROOT, levels, &mut words) {
         Ok(end) => {
             words.truncate(end);
-            are_words(&words);
+            segments_of_words(&words);
             Ok(CanonicalMessage { words })
         }
         Err(_) => Err(ShowFault::Size),

@@ -4,5 +4,3 @@
 mod copied;
 mod framed;
 pub mod show;
-#[cfg(test)]
-mod tests;

@@ -20,6 +20,6 @@ pub loop-path-preserved : goal.loop-path-preserved
 loop-path-preserved c =
     let steps = c.in-Some.ensures.steps in
     let count = c.loop-path.invariant.count in record {
-      left = made_next (calls_from 1 (map parts_of c.args.parts.items)) c.loop-path.calls.items c.in-Ok.call (c.in-Some.path, c.in-Some.verb, c.in-Some.value) (into_iter_items c.loop-path.path-iterator) (into_iter_items c.next.new.self) c.push.new.self.items c.loop-path.invariant.left steps.0 c.in-Ok.ensures c.in_ok-push-in-Ok.ensures.items;
+      left = made_next (calls_from 1 (map parts_of c.args.parts.items)) c.loop-path.calls.items c.in-Ok.call (c.in-Some.path, c.in-Some.verb, c.in-Some.value) (into_iter_items c.loop-path.path-iterator) (into_iter_items c.next.new.self) c.push.new.self.items c.loop-path.invariant.left steps.0 c.in-Ok.ensures.call c.in_ok-push-in-Ok.ensures.items;
       count = omega (arith, steps.1, count, ap length steps.0);
     }

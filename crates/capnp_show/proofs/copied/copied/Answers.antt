@@ -39,7 +39,7 @@ returns-in-Ok-write_canonical-clause-copy g c =
     record {
       value = done.what;
       there = a_value_in n limit s done.what done.there_is done.clean limited.within_limit;
-      are = ap (λ (ws : List (List ℕ)). whole_words (flat_map (λ w. w) ws) ∷ []) (sym c.deref.ensures.value) ∙ c.are_words.ensures
+      are = ap (λ (ws : List (List ℕ)). whole_words (flat_map (λ w. w) ws) ∷ []) (sym c.deref.ensures.value) ∙ c.segments_of_words.ensures
           ∙ ap (λ (ws : List (List ℕ)). words_view ws ∷ []) (c.deref.ensures.value ∙ cut)
           ∙ ap (λ (ws : List ℕ). ws ∷ []) (sym (take-map (from_le_bytes w64) end into) ∙ done.words);
       room = let short : length (filled end into) < 2 ^ 29 = omega (arith, near, count) in subst (λ (ws : List ℕ). length ws < 2 ^ 29) done.words short;

@@ -1,6 +1,0 @@
-use Rattle.std.proofs.Common.{◌≡◌, ℕ, List, [], ◌∷◌, ap}
-use Rattle.capnp_show.proofs.Flat.{flat_words}
-use Rattle.capnp_show.proofs.copied.are_words.Goals as goal
-
-pub returns : goal.returns
-returns c = ap (λ (ws : List ℕ). ws ∷ []) (flat_words c.args.words.now c.told-words)
