@@ -1,0 +1,13 @@
+//! Tests of `capnp_builders`.
+
+mod blob_tests;
+mod build_tests;
+mod copy_tests;
+mod data_tests;
+mod element_tests;
+mod get_tests;
+mod input_tests;
+mod list_tests;
+mod tests;
+mod text_tests;
+mod typed_tests;

@@ -1,0 +1,3 @@
+//! Tests of `capnp_call_messages`.
+
+mod tests;

@@ -1,0 +1,3 @@
+//! Tests of `capnp_compatible`.
+
+mod tests;

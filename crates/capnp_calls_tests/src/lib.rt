@@ -1,0 +1,9 @@
+//! Tests of `capnp_call_messages`, `capnp_calls`, `capnp_compatible`, by their public calls alone.
+#![tactic(auto)]
+
+#[cfg(test)]
+mod call_messages;
+#[cfg(test)]
+mod calls;
+#[cfg(test)]
+mod compatible;

@@ -1,0 +1,3 @@
+//! Tests of `capnp_copy_canonical`.
+
+mod tests;

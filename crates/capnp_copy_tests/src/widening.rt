@@ -1,0 +1,4 @@
+//! Tests of `capnp_widening`.
+
+mod list_tests;
+mod tests;

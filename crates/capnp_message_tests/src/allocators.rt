@@ -1,0 +1,3 @@
+//! Tests of `capnp_allocators`.
+
+mod tests;

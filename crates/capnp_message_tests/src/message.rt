@@ -1,0 +1,9 @@
+//! Tests of `capnp_message`.
+
+mod allocator_tests;
+mod canonical_tests;
+mod packed_tests;
+mod reader_tests;
+mod root_tests;
+mod row_tests;
+mod unbuffered_tests;

@@ -1,0 +1,4 @@
+//! Tests of `capnp_files`.
+
+mod large_tests;
+mod tests;

@@ -1,0 +1,10 @@
+//! Tests of `capnp_program`.
+
+mod devices;
+mod faults;
+mod large;
+mod newer;
+mod runs;
+mod samples;
+mod tests;
+mod waits;

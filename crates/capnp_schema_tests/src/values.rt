@@ -1,0 +1,4 @@
+//! Tests of `capnp_values`.
+
+mod tests;
+mod typed_tests;

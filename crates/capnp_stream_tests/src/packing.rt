@@ -1,0 +1,4 @@
+//! Tests of `capnp_packing`.
+
+mod cut_tests;
+mod tests;

@@ -1,0 +1,6 @@
+//! Tests of `capnp_stream`.
+
+mod adapter_tests;
+mod large_tests;
+mod segment_tests;
+mod tests;

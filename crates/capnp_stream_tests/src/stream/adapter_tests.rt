@@ -1,0 +1,209 @@
+//! Readers and writers of a program that are interrupted, end and fail.
+use crate::stream::tests::{TWO, WRITTEN, expect_two};
+use capnp_io::adapters::{Sink, Source};
+use capnp_io::traits::{BufRead, Read, Write};
+use capnp_stream::frames::try_read_message;
+use capnp_stream::writing::write_segment;
+use capnp_units::errors::Error;
+use capnp_units::kinds::ErrorKind;
+use std::io;
+use std::test::Fail;
+
+/// A reader that gives some bytes, one at a call, and stumbles once between two of them.
+#[derive(Drop)]
+struct Stumbling<'a> {
+    bytes: &'a [u8],
+    steps: usize,
+    kind: io::ErrorKind,
+}
+
+impl<'a> Stumbling<'a> {
+    fn new(bytes: &'a [u8], steps: usize, kind: io::ErrorKind) -> Stumbling<'a> {
+        Stumbling { bytes, steps, kind }
+    }
+}
+
+impl io::Read for Stumbling<'_> {
+    fn read(&mut self, buf: &mut [u8]) -> io::Result<usize> {
+        if self.steps == 0 {
+            self.steps = usize::MAX;
+            return Err(io::Error::from(self.kind));
+        }
+        self.steps -= 1;
+        let bytes = self.bytes;
+        match (bytes.split_first(), buf.first_mut()) {
+            (Some((byte, behind)), Some(place)) => {
+                *place = *byte;
+                self.bytes = behind;
+                Ok(1)
+            }
+            _ => Ok(0),
+        }
+    }
+}
+
+/// A writer that takes up to three bytes at a call, and falters at one call, of a write or a flush.
+#[derive(Drop)]
+struct Faltering<'a> {
+    held: &'a mut Vec<u8>,
+    calls_before: usize,
+    kind: io::ErrorKind,
+}
+
+impl<'a> Faltering<'a> {
+    fn new(held: &'a mut Vec<u8>, calls_before: usize, kind: io::ErrorKind) -> Faltering<'a> {
+        Faltering {
+            held,
+            calls_before,
+            kind,
+        }
+    }
+
+    fn falter(&mut self) -> io::Result<()> {
+        if self.calls_before == 0 {
+            self.calls_before = usize::MAX;
+            return Err(io::Error::from(self.kind));
+        }
+        self.calls_before -= 1;
+        Ok(())
+    }
+}
+
+impl io::Write for Faltering<'_> {
+    fn write(&mut self, buf: &[u8]) -> io::Result<usize> {
+        self.falter()?;
+        let n = buf.len().min(3);
+        self.held.extend_from_slice(&buf[..n])?;
+        Ok(n)
+    }
+
+    fn flush(&mut self) -> io::Result<()> {
+        self.falter()
+    }
+}
+
+/// How many bytes the calls before hold when a table and a segment of two words are written by three bytes.
+const HELD_BEFORE: [usize; 10] = [0, 3, 6, 8, 11, 14, 17, 20, 23, 24];
+
+#[test]
+fn a_failed_read_is_no_end(rt: HostRuntime) -> std::result::Result<(), Fail> {
+    let alloc = rt.alloc();
+    for n in 0..40 {
+        let reader = Stumbling::new(&TWO, n, io::ErrorKind::Other);
+        let mut source = Source::new(alloc, reader)?;
+        let failed = try_read_message(alloc, &mut source, None).err();
+        assert!(rt; failed == Some(Error::from(ErrorKind::Device)), "at {n}");
+        assert_eq!(rt; source.failures(), 1, "at {n}");
+    }
+    let reader = Stumbling::new(&TWO, 0, io::ErrorKind::Other);
+    let mut source = Source::new(alloc, reader)?;
+    assert!(rt; source.fill_buf().is_err());
+    expect_two(&rt, alloc, &mut source)?;
+    assert_eq!(rt; source.failures(), 1);
+    Ok(())
+}
+
+#[test]
+fn an_interrupted_read_is_tried_again(rt: HostRuntime) -> std::result::Result<(), Fail> {
+    let alloc = rt.alloc();
+    for n in 0..40 {
+        let reader = Stumbling::new(&TWO, n, io::ErrorKind::Interrupted);
+        let mut source = Source::new(alloc, reader)?;
+        expect_two(&rt, alloc, &mut source)?;
+        assert_eq!(rt; source.failures(), 0, "at {n}");
+    }
+    Ok(())
+}
+
+#[test]
+fn the_end_of_input_is_no_failure(rt: HostRuntime) -> std::result::Result<(), Fail> {
+    let alloc = rt.alloc();
+    let mut source = Source::new(alloc, TWO.as_slice())?;
+    let mut buf = [0u8; 64];
+    assert_eq!(rt; source.read(&mut buf)?, 40);
+    assert_eq!(rt; &buf[..40], TWO.as_slice());
+    assert_eq!(rt; source.read(&mut buf)?, 0);
+    assert!(rt; source.fill_buf()?.is_empty());
+    assert!(rt; try_read_message(alloc, &mut source, None)?.is_none());
+    assert_eq!(rt; source.failures(), 0);
+    Ok(())
+}
+
+#[test]
+fn a_faltering_write_is_counted(rt: HostRuntime) -> std::result::Result<(), Fail> {
+    let alloc = rt.alloc();
+    for n in 0..10 {
+        let mut held = Vec::new(alloc);
+        let mut sink = Sink::new(Faltering::new(&mut held, n, io::ErrorKind::Other));
+        let failed = write_segment(&mut sink, &WRITTEN[8..]).err();
+        let failures = sink.failures();
+        drop(sink);
+        let whole = HELD_BEFORE[n] == 24;
+        assert!(rt; failed.is_none() == whole, "at {n}");
+        assert_eq!(rt; failures, u64::from(!whole), "at {n}");
+        assert_eq!(rt; held.as_slice(), &WRITTEN[..HELD_BEFORE[n]], "at {n}");
+    }
+    Ok(())
+}
+
+#[test]
+fn an_interrupted_write_is_tried_again(rt: HostRuntime) -> std::result::Result<(), Fail> {
+    let alloc = rt.alloc();
+    for n in 0..10 {
+        let mut held = Vec::new(alloc);
+        let mut sink = Sink::new(Faltering::new(&mut held, n, io::ErrorKind::Interrupted));
+        write_segment(&mut sink, &WRITTEN[8..])?;
+        assert_eq!(rt; sink.failures(), 0, "at {n}");
+        drop(sink);
+        assert_eq!(rt; held.as_slice(), WRITTEN.as_slice(), "at {n}");
+    }
+    Ok(())
+}
+
+#[test]
+fn a_flush_counts_as_a_write(rt: HostRuntime) -> std::result::Result<(), Fail> {
+    let alloc = rt.alloc();
+    for n in 0..2 {
+        let mut held = Vec::new(alloc);
+        let mut sink = Sink::buffered(alloc, Faltering::new(&mut held, n, io::ErrorKind::Other))?;
+        sink.write_all(&[1, 2])?;
+        assert!(rt;
+            sink.flush() == Err(Error::from(ErrorKind::Device)),
+            "at {n}"
+        );
+        assert_eq!(rt; sink.failures(), 1, "at {n}");
+        sink.flush()?;
+        assert_eq!(rt; sink.failures(), 1, "at {n}");
+        drop(sink);
+        assert_eq!(rt; held.as_slice(), [1, 2].as_slice(), "at {n}");
+    }
+    for n in 0..2 {
+        let mut held = Vec::new(alloc);
+        let device = Faltering::new(&mut held, n, io::ErrorKind::Interrupted);
+        let mut sink = Sink::buffered(alloc, device)?;
+        sink.write_all(&[1, 2])?;
+        sink.flush()?;
+        assert_eq!(rt; sink.failures(), 0, "at {n}");
+        drop(sink);
+        assert_eq!(rt; held.as_slice(), [1, 2].as_slice(), "at {n}");
+    }
+    Ok(())
+}
+
+#[test]
+fn buffered_bytes_keep_their_order(rt: HostRuntime) -> std::result::Result<(), Fail> {
+    let alloc = rt.alloc();
+    let mut held = Vec::new(alloc);
+    let mut out = Sink::buffered(alloc, &mut held)?;
+    let large = vec![in alloc; 7u8; 70000]?;
+    out.write_all(&[1, 2])?;
+    out.write_all(&large)?;
+    out.write_all(&[3])?;
+    out.flush()?;
+    assert_eq!(rt; out.failures(), 0);
+    drop(out);
+    assert_eq!(rt; held.len(), 70003);
+    assert_eq!(rt; held.first(), Some(&1));
+    assert_eq!(rt; held.last(), Some(&3));
+    Ok(())
+}

@@ -1,0 +1,4 @@
+//! Tests of `capnp_canonical`.
+
+mod check_tests;
+mod tests;

@@ -1,0 +1,4 @@
+//! Tests of `capnp_value`.
+
+mod size_tests;
+mod tests;
