@@ -1,0 +1,162 @@
+#!/usr/bin/env python3
+"""Runs the built program on README's examples, on the stored runs, and as a child that is waited for.
+
+usage: program_runs.py PROGRAM EXAMPLES RUNS
+
+EXAMPLES is the folder of README's examples. RUNS has one run a line: the words, the files, the input, and
+the status, output and log that independent software gives (crates/capnp_relay_cases/data/relay.jsonl). The
+program's status, output and log must be those, byte by byte. Left out, and counted: runs with an index or
+a message, with a group at the end of a path, or that get a struct or a list, or whose word limit is past 2^23. Ends with status 1 at the
+first difference.
+"""
+import json
+import os
+import select
+import subprocess
+import sys
+import tempfile
+import time
+
+# Seconds that one run, or one answer, may take.
+LIMIT = 60
+
+
+def json_of(text):
+    """What the JSON text holds, or nothing where it is no JSON text."""
+    try:
+        return json.loads(bytes.fromhex(text))
+    except ValueError:
+        return None
+
+
+def end_of(nodes, node, path):
+    """The field at which a path of names ends, or nothing where one of them names none."""
+    field = None
+    for name in path:
+        fields = nodes.get(node, {}).get("fields", [])
+        field = next((it for it in fields if it.get("name") == name), None)
+        if field is None:
+            return None
+        kind = field.get("type")
+        node = field.get("group", kind.get("struct") if isinstance(kind, dict) else None)
+    return field
+
+
+def is_taken(nodes, root, call):
+    """Whether the call has names alone, to a field that is no group, no message, and is no `get` of a struct or a list."""
+    path, value = call.get("path", []), call.get("value")
+    if isinstance(value, dict) and "message" in value:
+        return False
+    if any(not isinstance(step, str) for step in path):
+        return False
+    field = end_of(nodes, root, path)
+    if field is None:
+        return True
+    kind = field.get("type")
+    reads_more = call.get("verb") == "get" and isinstance(kind, dict) and ("struct" in kind or "list" in kind)
+    return "group" not in field and not reads_more
+
+
+def takes_all(run):
+    """Whether each call of the run is so, or no call can be read."""
+    schema = json_of(run["files"].get(run["args"][0], "")) if run["args"] else None
+    calls = json_of(run["files"].get(run["args"][1], "")) if len(run["args"]) > 1 else None
+    try:
+        nodes, root = {it["id"]: it for it in schema}, int(run["args"][2])
+        return calls.get("words", 0) <= 2**23 and all(is_taken(nodes, root, it) for it in calls["calls"])
+    except (AttributeError, IndexError, KeyError, TypeError, ValueError):
+        return True
+
+
+def difference(program, run):
+    """What differs between a run of the program and the stored one, or nothing."""
+    with tempfile.TemporaryDirectory() as room:
+        for name, text in run["files"].items():
+            with open(os.path.join(room, name), "wb") as file:
+                file.write(bytes.fromhex(text))
+        given = bytes.fromhex(run["stdin"])
+        ran = subprocess.run([program, *run["args"]], input=given, capture_output=True, cwd=room, timeout=LIMIT)
+    seen = {"status": ran.returncode, "stdout": ran.stdout.hex(), "stderr": ran.stderr.hex()}
+    return next((f"{it}: {seen[it]}, and not {run[it]}" for it in seen if seen[it] != run[it]), None)
+
+
+def read_so_many(pipe, count):
+    """So many bytes of the pipe, or those that came within the limit."""
+    got, end = b"", time.monotonic() + LIMIT
+    while len(got) < count and select.select([pipe], [], [], max(0, end - time.monotonic()))[0]:
+        piece = os.read(pipe.fileno(), count - len(got))
+        if not piece:
+            break
+        got += piece
+    return got
+
+
+def waits_for_nothing(program):
+    """Whether each message is answered and logged before the next is sent, and the program then ends with status 0."""
+    schema = [{"id": 1, "name": "P", "data": 1, "pointers": 1, "fields": [{"name": "a", "type": "UInt16", "offset": 0}]}]
+    calls = {"calls": [{"path": ["a"], "verb": "set", "value": {"number": 7}}], "words": 1000, "nesting": 64}
+    message = bytes.fromhex("00000000010000000000000000000000")
+    answer = bytes.fromhex("000000000200000000000000010000000700000000000000")
+    with tempfile.TemporaryDirectory() as room:
+        for name, value in (("schema.json", schema), ("calls.json", calls)):
+            with open(os.path.join(room, name), "w", encoding="ascii") as file:
+                json.dump(value, file)
+        pipes = {"stdin": subprocess.PIPE, "stdout": subprocess.PIPE, "stderr": subprocess.PIPE}
+        child = subprocess.Popen([program, "schema.json", "calls.json", "1", "framed"], cwd=room, bufsize=0, **pipes)
+        for number in (1, 2, 3):
+            child.stdin.write(message)
+            line = f"message {number} written; done\n".encode()
+            got = (read_so_many(child.stdout, len(answer)), read_so_many(child.stderr, len(line)))
+            if got != (answer, line):
+                child.kill()
+                print(f"message {number} through a pipe: {got}, and not {(answer, line)}")
+                return False
+        rest = child.communicate(timeout=LIMIT)
+    if child.returncode != 0 or rest != (b"", b""):
+        print(f"the end of a pipe: status {child.returncode}, {rest}")
+        return False
+    return True
+
+
+def answers_the_examples(program, folder):
+    """Whether both messages of README become the words that stand there."""
+    header, pointer = "0000000002000000", "0000000001000000"
+    wanted = {
+        "null_root": header + pointer + "0700000000000000",
+        "newer_record": "0000000003000000" + "0000000002000000" + "0700000000000000" + "6300000000000000",
+    }
+    for name, words in wanted.items():
+        with open(os.path.join(folder, name), "rb") as message:
+            ran = subprocess.run(
+                [program, "p.json", "set_a.json", "1", "framed"], stdin=message, capture_output=True, cwd=folder, timeout=LIMIT
+            )
+        if (ran.returncode, ran.stdout.hex(), ran.stderr) != (0, words, b"message 1 written; done\n"):
+            print(f"the example {name}: status {ran.returncode}, {ran.stdout.hex()}, {ran.stderr}, and not {words}")
+            return False
+    return True
+
+
+def main(program, folder, runs):
+    """Prints how many runs passed, and returns the status."""
+    program, passed, left = os.path.abspath(program), 0, 0
+    if not answers_the_examples(program, folder):
+        return 1
+    with open(runs, encoding="ascii") as file:
+        for number, line in enumerate(file, 1):
+            run = json.loads(line)
+            if not takes_all(run):
+                left += 1
+                continue
+            differs = difference(program, run)
+            if differs:
+                print(f"run {number} differs in its {differs}")
+                return 1
+            passed += 1
+    if not passed or not waits_for_nothing(program):
+        return 1
+    print(f"built program: both examples, {passed} stored runs ({left} left out), three messages through a pipe one by one: as they should be")
+    return 0
+
+
+if __name__ == "__main__":
+    sys.exit(main(*sys.argv[1:]))
