@@ -1,3 +1,4 @@
 pub mod Growth
 pub mod Loans
+pub mod Scratch
 pub mod Segments

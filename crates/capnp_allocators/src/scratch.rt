@@ -1,10 +1,9 @@
 //! A lent slice as the first segment, and the heap for the others.
-ghost use Rattle.std.specs.Prelude.{◌≡◌, ◌≢◌, ◌*◌, ◌^◌, ◌<◌, ◌≤◌, ◌++◌, ◌∷◌, [], false, length, take, IfOk, IfErr, OnErr, IfSome, IfNone};
+ghost use Rattle.std.specs.Prelude.{◌≡◌, ◌≢◌, ◌+◌, ◌*◌, ◌^◌, ◌<◌, ◌≤◌, ◌++◌, ◌∷◌, [], false, length, take, IfOk, IfErr, OnErr, OnSome, IfSome, IfNone};
 ghost use Rattle.std.specs.Result.{IsOkAnd};
 ghost use Rattle.capnp_units.specs.declared.kinds.ErrorKind.TheVariants.{OutOfMemory, SizeOverflow};
 ghost use Rattle.capnp_copy.specs.Memory.{AllZero, ZeroFrom};
 ghost use Rattle.capnp_allocators.specs.Growth.{GrowsBy, suggested_growth};
-ghost use Rattle.capnp_allocators.specs.Loans.{loans_of, opened_in};
 ghost use Rattle.capnp_allocators.specs.Segments.{bytes_of, loans_of_segment};
 
 use crate::growth::AllocationStrategy;
@@ -105,19 +104,21 @@ impl Drop for ScratchSpaceHeapAllocator<'_> {
 }
 
 impl<'a> Allocator for ScratchSpaceHeapAllocator<'a> {
+    ghost use Rattle.capnp_allocators.specs.Scratch.{scratch_loans, scratch_opened};
+
     type Segment = Segment<'a>;
 
-    ghost loans = { λ s. loans_of s.taken s.region.ghost_name };
+    ghost loans = { scratch_loans };
 
     ghost place = { λ _. [] };
 
     fn allocate_segment(&mut self, minimum: u32) -> Result<Segment<'a>>
         ensures zeros { IfOk result (λ s. AllZero (bytes_of s)) }
         ensures room { IfOk result (λ s. 8 * minimum ≤ length (bytes_of s)) }
-        ensures moved { IfOk result (λ s. loans_of self.old.taken self.old.region.ghost_name
-            ≡ loans_of_segment s ++ loans_of self.new.taken self.new.region.ghost_name) }
-        ensures kept { OnErr result (loans_of self.new.taken self.new.region.ghost_name
-            ≡ loans_of self.old.taken self.old.region.ghost_name) }
+        ensures moved { IfOk result (λ s. scratch_loans self.old
+            ≡ loans_of_segment s ++ scratch_loans self.new) }
+        ensures kept { OnErr result (scratch_loans self.new ≡ scratch_loans self.old) }
+        ensures opened { scratch_opened self.new ≡ scratch_opened self.old }
         ensures refusal { IfErr result (λ e. e.kind ≡ OutOfMemory) }
         ensures other { IfErr result (λ e. e.kind ≢ SizeOverflow) }
         ensures lent { self.old.taken ≡ false → self.old.used ≡ 0
@@ -134,7 +135,13 @@ impl<'a> Allocator for ScratchSpaceHeapAllocator<'a> {
         Ok(Segment::Owned(whole.heap.allocate_segment(minimum)?))
     }
 
-    fn deallocate_segment(&mut self, segment: Segment<'a>, words_used: u32) {
+    fn deallocate_segment(&mut self, segment: Segment<'a>, words_used: u32)
+        requires one { length (loans_of_segment segment) + length (scratch_loans self.old) ≤ 1 }
+        requires rest { ZeroFrom (8 * words_used) (bytes_of segment) }
+        ensures moved { scratch_loans self.new
+            ≡ loans_of_segment segment.entry ++ scratch_loans self.old }
+        ensures opened { scratch_opened self.new ≡ scratch_opened self.old }
+    {
         match segment {
             Segment::Lent(slice) => {
                 wipe(slice, words_used);
@@ -148,20 +155,21 @@ impl<'a> Allocator for ScratchSpaceHeapAllocator<'a> {
 }
 
 impl<'a> OpensSegment for ScratchSpaceHeapAllocator<'a> {
-    ghost opened = { λ s. opened_in s.taken s.used s.region.now };
+    ghost use Rattle.capnp_allocators.specs.Scratch.{scratch_loans, scratch_opened};
+
+    ghost opened = { scratch_opened };
 
     fn take_opened(&mut self) -> Option<(Segment<'a>, u32)>
-        ensures words { IfSome result (λ p. take (8 * p.1) (bytes_of p.0)
-            ≡ opened_in self.old.taken self.old.used self.old.region.now) }
+        ensures words { IfSome result
+            (λ p. take (8 * p.1) (bytes_of p.0) ≡ scratch_opened self.old) }
         ensures some { IfSome result (λ p. (0 < p.1) × (p.1 < 2 ^ 29)) }
         ensures inside { IfSome result (λ p. 8 * p.1 ≤ length (bytes_of p.0)) }
         ensures rest { IfSome result (λ p. ZeroFrom (8 * p.1) (bytes_of p.0)) }
-        ensures moved { IfSome result (λ p. loans_of self.old.taken self.old.region.ghost_name
-            ≡ loans_of_segment p.0 ++ loans_of self.new.taken self.new.region.ghost_name) }
-        ensures none { IfNone result
-            (opened_in self.old.taken self.old.used self.old.region.now ≡ []) }
-        ensures kept { IfNone result (loans_of self.new.taken self.new.region.ghost_name
-            ≡ loans_of self.old.taken self.old.region.ghost_name) }
+        ensures moved { IfSome result (λ p. scratch_loans self.old
+            ≡ loans_of_segment p.0 ++ scratch_loans self.new) }
+        ensures once { OnSome result (scratch_opened self.new ≡ []) }
+        ensures none { IfNone result (scratch_opened self.old ≡ []) }
+        ensures kept { IfNone result (scratch_loans self.new ≡ scratch_loans self.old) }
     {
         let whole = &mut *self;
         if whole.taken || whole.used == 0 {

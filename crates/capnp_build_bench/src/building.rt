@@ -30,6 +30,7 @@ const SIZE: StructSize = StructSize {
 pub enum Task {
     Fields,
     Tests,
+    Slots,
     Structs,
     Bytes,
 }
@@ -124,6 +125,33 @@ fn make_structs<A: BuilderArena>(memory: &mut Memory<A>, count: u32) -> Result<u
     Ok(last)
 }
 
+/// Answers where a pointer lies, with the test that is made before a struct is put there.
+fn test_slot<A: BuilderArena>(memory: &mut Memory<A>, place: Place) -> Result<StructPlace>
+    ensures { A.books memory.new.arena ≡ A.books memory.old.arena }
+{
+    if place.position >= 1 << 60 || !has_words(&memory.arena, place, 1) {
+        return Err(Error::from(ErrorKind::OutOfBounds));
+    }
+    let pointer = PointerBuilder { memory, place };
+    Ok(StructPlace {
+        start: pointer.place,
+        data_words: SIZE.data_words,
+        pointers: SIZE.pointers,
+    })
+}
+
+/// Does what `make_structs` does, but for the structs: goes over the pointers of a list, and answers the position of the last.
+fn test_slots<A: BuilderArena>(memory: &mut Memory<A>, count: u32) -> Result<u64>
+    ensures { A.books memory.new.arena ≡ A.books memory.old.arena }
+{
+    let start = init_list(memory, ROOT, ElementSize::Pointer, count)?;
+    let mut last = 0;
+    for i in 0..count {
+        last = test_slot(memory, pointer_of(start, i))?.start.position as u64;
+    }
+    Ok(last)
+}
+
 /// Makes so many lists of 64 KiB, behind the pointers of a list, and answers the words of the message.
 fn make_bytes<A: BuilderArena>(memory: &mut Memory<A>, count: u32) -> Result<u64>
     ensures { A.books memory.new.arena ≡ A.books memory.old.arena }
@@ -143,6 +171,7 @@ pub fn build<A: BuilderArena>(memory: &mut Memory<A>, task: Task, count: u32) ->
     match task {
         Task::Fields => set_fields(memory, count, false),
         Task::Tests => set_fields(memory, count, true),
+        Task::Slots => test_slots(memory, count),
         Task::Structs => make_structs(memory, count),
         Task::Bytes => make_bytes(memory, count),
     }

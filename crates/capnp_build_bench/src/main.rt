@@ -1,6 +1,6 @@
 //! Makes builder calls so many times, so that their instructions can be counted.
 //!
-//! The words that are given to the program are what to do and how often: `fields` tests that a struct's words are there and sets a number through a handle, `tests` tests once more behind that, `structs` makes structs of four words, `bytes` makes lists of 64 KiB, and `fill` fills as many bytes with zeros. What was made is printed on standard output.
+//! The words that are given to the program are what to do and how often: `fields` tests that a struct's words are there and sets a number through a handle, `tests` tests once more behind that, `structs` makes structs of four words behind the pointers of a list, `slots` goes over the pointers alone, `bytes` makes lists of 64 KiB, and `fill` fills as many bytes with zeros. What was made is printed on standard output.
 #![tactic(auto)]
 
 ghost use Rattle.std.specs.Prelude.{◌≡◌, ◌≤◌, length};
@@ -52,6 +52,7 @@ fn made(alloc: Global, word: &str, count: u32) -> Result<u64> {
     let task = match word {
         "fields" => Task::Fields,
         "tests" => Task::Tests,
+        "slots" => Task::Slots,
         "structs" => Task::Structs,
         "bytes" => Task::Bytes,
         _ => return fill(alloc, count),

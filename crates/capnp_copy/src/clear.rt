@@ -63,6 +63,7 @@ fn write_null<A: BuilderArena>(arena: &mut A, slot: Place)
 ///
 /// It takes a step for each pointer that isn't null, and for each pointer of the objects on the way: lists of plain elements and of structs without pointers take one, whatever they count. Each level of pointers takes stack.
 #[cycle(clear)]
+#[inline(always)]
 pub fn clear<A: BuilderArena>(arena: &mut A, slot: Place)
     ensures clears { ClearsValue (words_in (A.segments arena.old))
         (words_in (A.segments arena.new)) (place_view slot) }
@@ -76,6 +77,23 @@ pub fn clear<A: BuilderArena>(arena: &mut A, slot: Place)
     if word == 0 {
         return;
     }
+    clear_there(arena, slot, word);
+}
+
+/// Clears a pointer that isn't null, by its word.
+#[cycle(clear)]
+fn clear_there<A: BuilderArena>(arena: &mut A, slot: Place, word: u64)
+    requires there { unwrap_or (word_at (words_in (A.segments arena.old)) (place_view slot)) 0
+        ≡ word }
+    requires some { 0 < word }
+    ensures clears { ClearsValue (words_in (A.segments arena.old))
+        (words_in (A.segments arena.new)) (place_view slot) }
+    ensures sizes { map length (words_in (A.segments arena.new))
+        ≡ map length (words_in (A.segments arena.old)) }
+    ensures nonzero { nonzero_words (words_in (A.segments arena.new)) ≤ nonzero_words
+        (words_in (A.segments arena.old)) }
+    ensures books { A.books arena.new ≡ A.books arena.old }
+{
     let found = found_at(arena, slot);
     write_null(arena, slot);
     if let Ok(found) = found {

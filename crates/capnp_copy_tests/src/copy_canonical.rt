@@ -1,3 +1,4 @@
 //! Tests of `capnp_copy_canonical`.
 
 mod tests;
+mod worked_tests;

@@ -5,4 +5,4 @@ mod default_tests;
 mod list_tests;
 mod object_tests;
 mod refusal_tests;
-mod tests;
+pub(crate) mod tests;

@@ -1,7 +1,11 @@
 pub mod Ready
 pub mod Writes
+pub mod Deeper
+pub mod Grown
+pub mod Bytes
 pub mod Marks
 pub mod Groups
 pub mod GroupFields
 pub mod Cleared
 pub mod SetSlots
+pub mod SetPointers

@@ -1,12 +1,16 @@
 -- What contracts see of struct builders. (Encoding, "Structs")
-use Rattle.std.specs.Prelude.{◌≡◌, ℕ, ℤ, List, length, map}
+use Rattle.std.specs.Prelude.{◌≡◌, ⊤, ℕ, ℤ, List, length, map, Result}
 use Rattle.capnp_model.specs.Segments.{Segments}
+use Rattle.capnp_model.specs.Calls.{Content}
 use Rattle.capnp_model.specs.Edits.{Edit}
 use Rattle.capnp_units.specs.Segments.{words_in}
+use Rattle.capnp_units.specs.declared.errors.Error.{Error}
 use Rattle.capnp_wire.specs.Places.{place_view}
 use Rattle.capnp_wire.specs.Views.{StructView, struct_at}
 use Rattle.capnp_queries.specs.Structs.{shape_of_struct}
+use Rattle.capnp_builders.specs.Making.{state_of}
 use Rattle.capnp_dynamic.specs.Edits.{IsThere, IsWide, Edits}
+use Rattle.capnp_dynamic.specs.Puts.{PutsContent}
 use Rattle.capnp_dynamic.specs.declared.dynamic_struct.Builder.{Builder}
 
 module _ {A : Type 0} (bytes : A → List (List ℕ)) where
@@ -41,3 +45,11 @@ module _ {A : Type 0} (bytes : A → List (List ℕ)) where
   -- The struct as readers see it, under the arena's nesting limit.
   abbrev pub struct_of : (A → ℤ) → Builder A → StructView
   struct_of nesting b = struct_at (bytes b.memory.now.arena) (nesting b.memory.now.arena) (place_view b.place.start) b.place.data_words b.place.pointers
+
+module _ {A : Type 0} (segments : A → List (List ℕ)) (room : A → List ℕ) (books : A → List (List ℕ)) where
+  -- Content is put into a field of the struct, by a handle that stays where it was.
+  pub record Puts (old new : Builder A) (f : Edit) (content : Content) (r : Result ⊤ Error) : Type 0 where
+    pub same : new.memory.ghost_name ≡ old.memory.ghost_name
+    pub place : new.place ≡ old.place
+    pub schema : new.schema ≡ old.schema
+    pub puts : PutsContent (state_of segments room books old.memory.now) (state_of segments room books new.memory.now) old.place f content r

@@ -1,10 +1,10 @@
--- Values that lie in no message, and what `set` puts into a slot for them. (Encoding, "Value Encoding")
-use Rattle.std.specs.Prelude.{ℕ, Bool, true, false, ⊤, Option, Some, None, Result, Ok, Err, if◌then◌else◌}
+-- Values without pointers, and what `set` puts into a slot for them. (Encoding, "Value Encoding")
+use Rattle.std.specs.Prelude.{ℕ, Bool, true, false, Option, Some, None, if◌then◌else◌, List, [], ◌∷◌, ◌++◌}
 use Rattle.std.specs.Int.{w8, w16, w32, w64, cast_unsigned}
 use Rattle.capnp_model.specs.Kinds.{Kind, TypeMismatch, NotAStruct, CannotSetAnyPointerFieldToAPrimitiveValue, SettingDynamicCapabilitiesIsUnsupported}
 use Rattle.capnp_model.specs.Schemas.{PlainType, bool, int, uint, «enum», Ty, void, plain, text, blob, untyped, interface, struct, list, Body, void_slot, plain_slot, pointer_slot, group_slot}
 use Rattle.capnp_model.specs.Accepted.{same_plain}
-use Rattle.capnp_model.specs.Calls.{Content, refused_by, bits_of, object}
+use Rattle.capnp_model.specs.Calls.{Content, refused_by, bits_of, object, blob_tree}
 use Rattle.capnp_model.specs.Edits.{Edit, mark, put_content}
 use Rattle.capnp_wire.specs.Views.{bit_of_bool}
 use Rattle.capnp_queries.specs.Fields.{Entry, union_in}
@@ -15,25 +15,25 @@ use Rattle.capnp_queries.specs.declared.fields.Field.{Field}
 use Rattle.capnp_values.specs.declared.dynamic_value.Reader.{Reader}
 use Rattle.capnp_values.specs.declared.dynamic_value.Reader.TheVariants as value
 
--- The value is Void, a truth value, a number or an enum's.
-abbrev pub is_single : {A : Type 0} → Reader A → Bool
-is_single value.Void = true
-is_single (value.Bool b) = true
-is_single (value.Int8 z) = true
-is_single (value.Int16 z) = true
-is_single (value.Int32 z) = true
-is_single (value.Int64 z) = true
-is_single (value.UInt8 n) = true
-is_single (value.UInt16 n) = true
-is_single (value.UInt32 n) = true
-is_single (value.UInt64 n) = true
-is_single (value.Enum e) = true
-is_single (value.Text t) = false
-is_single (value.Data d) = false
-is_single (value.Struct r) = false
-is_single (value.List l) = false
-is_single (value.AnyPointer p) = false
-is_single (value.Capability c) = false
+-- The value has no pointers: it is Void, a truth value, a number, an enum's, a text or data.
+abbrev pub is_flat : {A : Type 0} → Reader A → Bool
+is_flat value.Void = true
+is_flat (value.Bool b) = true
+is_flat (value.Int8 z) = true
+is_flat (value.Int16 z) = true
+is_flat (value.Int32 z) = true
+is_flat (value.Int64 z) = true
+is_flat (value.UInt8 n) = true
+is_flat (value.UInt16 n) = true
+is_flat (value.UInt32 n) = true
+is_flat (value.UInt64 n) = true
+is_flat (value.Enum e) = true
+is_flat (value.Text t) = true
+is_flat (value.Data d) = true
+is_flat (value.Struct r) = false
+is_flat (value.List l) = false
+is_flat (value.AnyPointer p) = false
+is_flat (value.Capability c) = false
 
 -- A plain value: its type and its bits.
 abbrev pub plain_given : {A : Type 0} → Reader A → Option (PlainType × ℕ)
@@ -60,6 +60,48 @@ abbrev pub bits_given : PlainType → Option (PlainType × ℕ) → Option ℕ
 bits_given p None = None
 bits_given p (Some v) = if same_plain p v.0 then Some v.1 else None
 
+-- A slot of the type takes texts.
+abbrev pub takes_text : Ty → Bool
+takes_text void = false
+takes_text (plain p) = false
+takes_text text = true
+takes_text blob = false
+takes_text untyped = true
+takes_text interface = false
+takes_text (struct id) = false
+takes_text (list ty) = false
+
+-- A slot of the type takes data.
+abbrev pub takes_data : Ty → Bool
+takes_data void = false
+takes_data (plain p) = false
+takes_data text = false
+takes_data blob = true
+takes_data untyped = true
+takes_data interface = false
+takes_data (struct id) = false
+takes_data (list ty) = false
+
+-- The bytes of the list that a text or data become in a slot of the type, if it takes them: a text's with a zero behind them. (Encoding, "Blobs")
+abbrev pub bytes_given : {A : Type 0} → Reader A → Ty → Option (List ℕ)
+bytes_given value.Void ty = None
+bytes_given (value.Bool b) ty = None
+bytes_given (value.Int8 z) ty = None
+bytes_given (value.Int16 z) ty = None
+bytes_given (value.Int32 z) ty = None
+bytes_given (value.Int64 z) ty = None
+bytes_given (value.UInt8 n) ty = None
+bytes_given (value.UInt16 n) ty = None
+bytes_given (value.UInt32 n) ty = None
+bytes_given (value.UInt64 n) ty = None
+bytes_given (value.Enum e) ty = None
+bytes_given (value.Text t) ty = if takes_text ty then Some (t.0.now ++ 0 ∷ []) else None
+bytes_given (value.Data d) ty = if takes_data ty then Some d.now else None
+bytes_given (value.Struct r) ty = None
+bytes_given (value.List l) ty = None
+bytes_given (value.AnyPointer p) ty = None
+bytes_given (value.Capability c) ty = None
+
 -- Why a slot of a pointer's type takes no such value.
 abbrev pub pointer_refusal : Ty → Kind
 pointer_refusal void = TypeMismatch
@@ -71,28 +113,22 @@ pointer_refusal interface = SettingDynamicCapabilitiesIsUnsupported
 pointer_refusal (struct id) = TypeMismatch
 pointer_refusal (list ty) = TypeMismatch
 
--- What `set` puts into a slot for such a value: bits of the slot's type, and nothing into a Void slot, which takes each. A group takes structs alone.
-abbrev pub single_content : {A : Type 0} → Reader A → Body → Content
-single_content v (void_slot j) = bits_of 0
-single_content v (plain_slot p at d) = elim (bits_given p (plain_given v)) [ None ↦ refused_by TypeMismatch | Some n ↦ bits_of n ]
-single_content v (pointer_slot i ty d) = refused_by (pointer_refusal ty)
-single_content v (group_slot g) = refused_by NotAStruct
+-- What `set` puts into a slot for such a value: bits of the slot's type, the list of a text's or data's bytes, and nothing into a Void slot, which takes each. A group takes structs alone.
+abbrev pub flat_content : {A : Type 0} → Reader A → Body → Content
+flat_content v (void_slot j) = bits_of 0
+flat_content v (plain_slot p at d) = elim (bits_given p (plain_given v)) [ None ↦ refused_by TypeMismatch | Some n ↦ bits_of n ]
+flat_content v (pointer_slot i ty d) = elim (bytes_given v ty) [ None ↦ refused_by (pointer_refusal ty) | Some bytes ↦ object (blob_tree bytes) ]
+flat_content v (group_slot g) = refused_by NotAStruct
 
--- What a call answers that puts content.
-abbrev pub answer_of : Content → Result ⊤ Kind
-answer_of (refused_by k) = Err k
-answer_of (bits_of n) = Ok tt
-answer_of (object t) = Ok tt
-
--- The answer of a set of a field.
-abbrev pub set_answer : {A : Type 0} → Reader A → Option Entry → Result ⊤ Kind
-set_answer v None = Err TypeMismatch
-set_answer v (Some e) = answer_of (single_content v e.body)
+-- The same of a field.
+abbrev pub set_content : {A : Type 0} → Reader A → Option Entry → Content
+set_content v None = refused_by TypeMismatch
+set_content v (Some e) = flat_content v e.body
 
 -- The union is marked, and then the value put.
 abbrev pub set_entry : {A : Type 0} → Option ℕ → Reader A → Option Entry → Edit
 set_entry union v None c = c
-set_entry union v (Some e) c = put_content e.body (single_content v e.body) (mark union e.member c)
+set_entry union v (Some e) c = put_content e.body (flat_content v e.body) (mark union e.member c)
 
 abbrev pub set_edit : {A : Type 0} → Field → Reader A → Edit
 set_edit f v = set_entry (union_in (shape_of_struct f.parent)) v (entry_of f)

@@ -1,20 +1,19 @@
 //! Structs whose schema is known at run time, to write.
 ghost use Rattle.std.specs.Prelude.{◌≡◌, ◌↔◌, true, Ok, IsOkAnd, OnOk, OnErr};
 ghost use Rattle.capnp_model.specs.Calls.{clear};
-ghost use Rattle.capnp_dynamic.specs.Builders.{IsReady, WritesInPlace, Stays, struct_of};
+ghost use Rattle.capnp_dynamic.specs.Builders.{IsReady, WritesInPlace, Stays, Puts, struct_of};
 ghost use Rattle.capnp_dynamic.specs.Calls.{edit_of};
-ghost use Rattle.capnp_dynamic.specs.Given.{is_single, set_answer, set_edit};
+ghost use Rattle.capnp_dynamic.specs.Given.{is_flat, set_content, set_edit};
 ghost use Rattle.capnp_dynamic.specs.Edits.{IsThere, IsWide};
 ghost use Rattle.capnp_units.specs.Segments.{words_in};
 ghost use Rattle.capnp_queries.specs.Structs.{shape_of_struct};
 ghost use Rattle.capnp_queries.specs.Handles.{entry_of, IsFieldAt};
-ghost use Rattle.capnp_object.specs.Places.{seen};
 ghost use Rattle.capnp_wire.specs.Places.{place_view};
 ghost use Rattle.capnp_wire.specs.Views.{struct_at};
 ghost use Rattle.capnp_values.specs.Sources.{struct_seen};
 ghost use Rattle.capnp_values.specs.Shown.{has_field, active_index, AnswersNamed, TellsField};
 
-use crate::setting::set_single;
+use crate::setting::set_flat;
 use crate::slots::clear_field;
 use capnp_builders::struct_builder::StructBuilder;
 use capnp_copy::arena::{BuilderArena, Memory};
@@ -58,9 +57,9 @@ fn read_at<'a, A: BuilderArena>(
 /// A struct or a group to write, under its schema.
 #[derive(Drop)]
 pub struct Builder<'a, A> {
-    pub(crate) memory: &'a mut Memory<A>,
-    pub(crate) place: StructPlace,
-    pub(crate) schema: StructSchema<'a>,
+    pub memory: &'a mut Memory<A>,
+    pub place: StructPlace,
+    pub schema: StructSchema<'a>,
 }
 
 impl<'a, A: BuilderArena> Builder<'a, A> {
@@ -93,6 +92,7 @@ impl<'a, A: BuilderArena> Builder<'a, A> {
     pub fn clear(&mut self, field: Field<'_>) -> Result<()>
         requires ready { IsReady A.segments self.old }
         requires field { field.parent ≡ self.old.schema }
+        ensures same { self.new.memory.ghost_name ≡ self.old.memory.ghost_name }
         ensures ok { result ≡ Ok tt }
         ensures writes { WritesInPlace A.segments self.old self.new (edit_of field.entry clear) }
         ensures books { A.books self.new.memory.now.arena ≡ A.books self.old.memory.now.arena }
@@ -103,32 +103,33 @@ impl<'a, A: BuilderArena> Builder<'a, A> {
         Ok(())
     }
 
-    /// Sets a field to a value that is Void, a truth value, a number or an enum's. A plain field takes a value of its type, one of an enum any enum's; a Void field takes each. A union member becomes the active one. Nothing is allocated.
+    /// Sets a field to a value that is Void, a truth value, a number, an enum's, a text or data. A plain field takes a value of its type, one of an enum any enum's; a field of texts or of data takes one of its own, an untyped one both; a Void field takes each. A union member becomes the active one. A plain value takes no memory; a text or data the words of its list where the struct's segment has room for them, else at most one more.
     ///
-    /// It is refused with `CannotSetAnyPointerFieldToAPrimitiveValue` where the field is untyped, with `SettingDynamicCapabilitiesIsUnsupported` where it is a capability, with `NotAStruct` where it is a group, and else with `TypeMismatch`. Then the struct is as it was, its union included.
+    /// It is refused with `CannotSetAnyPointerFieldToAPrimitiveValue` where the field is untyped, with `SettingDynamicCapabilitiesIsUnsupported` where it is a capability, with `NotAStruct` where it is a group, and else with `TypeMismatch`; a text or data with `SizeOverflow` just where its bytes, a text's with its zero byte, or the message's words, a pad counted, would pass 2^29 - 1, else as the allocator refuses. Then the struct is as it was, its union included.
     pub fn set<B>(&mut self, field: Field<'_>, value: dynamic_value::Reader<'_, B>) -> Result<()>
         requires ready { IsReady A.segments self.old }
         requires field { field.parent ≡ self.old.schema }
-        requires single { is_single value ≡ true }
-        ensures answer { seen (λ x. x) result ≡ set_answer value.entry (entry_of field.entry) }
-        ensures writes { OnOk result
-            (WritesInPlace A.segments self.old self.new (set_edit field.entry value.entry)) }
+        requires flat { is_flat value ≡ true }
+        ensures same { self.new.memory.ghost_name ≡ self.old.memory.ghost_name }
+        ensures puts { Puts A.segments A.room A.books self.old self.new
+            (set_edit field.entry value.entry) (set_content value.entry (entry_of field.entry))
+            result }
         ensures refused { OnErr result (Stays A.segments self.old self.new) }
         ensures books { A.books self.new.memory.now.arena ≡ A.books self.old.memory.now.arena }
         ensures ready { IsReady A.segments self.new }
     {
         let place = self.place;
-        set_single(&mut self.memory.arena, place, field, &value)
+        set_flat(&mut self.memory.arena, place, field, &value)
     }
 
     /// Sets the field of a name, as by `set`. A name that the struct lacks is refused by `FieldNotFound`, and the struct is as it was.
     pub fn set_named<B>(&mut self, name: &str, value: dynamic_value::Reader<'_, B>) -> Result<()>
         requires ready { IsReady A.segments self.old }
-        requires single { is_single value ≡ true }
-        ensures set { AnswersNamed self.old.schema
-            name.now (λ f r.
-            (seen (λ x. x) r ≡ set_answer value.entry (entry_of f))
-            × OnOk r (WritesInPlace A.segments self.old self.new (set_edit f value.entry))) result }
+        requires flat { is_flat value ≡ true }
+        ensures same { self.new.memory.ghost_name ≡ self.old.memory.ghost_name }
+        ensures set { AnswersNamed self.old.schema name.now (λ f.
+            Puts A.segments A.room A.books self.old self.new (set_edit f value.entry)
+            (set_content value.entry (entry_of f))) result }
         ensures refused { OnErr result (Stays A.segments self.old self.new) }
         ensures books { A.books self.new.memory.now.arena ≡ A.books self.old.memory.now.arena }
         ensures ready { IsReady A.segments self.new }
@@ -136,12 +137,13 @@ impl<'a, A: BuilderArena> Builder<'a, A> {
         let place = self.place;
         let schema = self.schema;
         let field = schema.get_field_by_name(name)?;
-        set_single(&mut self.memory.arena, place, field, &value)
+        set_flat(&mut self.memory.arena, place, field, &value)
     }
 
     /// Clears the field of a name, as by `clear`. A name that the struct lacks is refused by `FieldNotFound`, and nothing else is; then the struct is as it was.
     pub fn clear_named(&mut self, name: &str) -> Result<()>
         requires ready { IsReady A.segments self.old }
+        ensures same { self.new.memory.ghost_name ≡ self.old.memory.ghost_name }
         ensures cleared { AnswersNamed self.old.schema
             name.now (λ f r.
             (r ≡ Ok tt) × WritesInPlace A.segments self.old self.new (edit_of f clear)) result }

@@ -2,5 +2,5 @@
 #![tactic(auto)]
 
 pub mod dynamic_struct;
-mod setting;
-mod slots;
+pub mod setting;
+pub mod slots;

@@ -1,19 +1,28 @@
-//! Plain values, set into slots.
-ghost use Rattle.std.specs.Prelude.{◌≡◌, ◌<◌, ◌^◌, length, map, IfSome, OnOk, OnErr};
+//! Values without pointers, set into slots.
+ghost use Rattle.std.specs.Prelude.{◌≡◌, ◌*◌, ◌<◌, ◌^◌, true, length, option_map, IfSome, IfErr, OnOk, OnErr};
+ghost use Rattle.std.specs.Option.{is_some};
 ghost use Rattle.capnp_model.specs.Accepted.{areas_of};
+ghost use Rattle.capnp_model.specs.Calls.{blob_tree};
+ghost use Rattle.capnp_model.specs.Coverage.{Grows};
 ghost use Rattle.capnp_model.specs.Schemas.{width};
+ghost use Rattle.capnp_model.specs.Sections.{words_for};
+ghost use Rattle.capnp_model.specs.Segments.{words_at};
 ghost use Rattle.capnp_units.specs.Segments.{words_in};
 ghost use Rattle.capnp_units.specs.Errors.{kind_of};
-ghost use Rattle.capnp_object.specs.Places.{seen};
+ghost use Rattle.capnp_wire.specs.Places.{place_view};
+ghost use Rattle.capnp_builders.specs.Making.{Makes, BytesNotSet};
 ghost use Rattle.capnp_queries.specs.Structs.{shape_of_struct};
 ghost use Rattle.capnp_queries.specs.Handles.{entry_of, plain_of};
 ghost use Rattle.capnp_queries.specs.Types.{ty_of};
 ghost use Rattle.capnp_dynamic.specs.Inside.{LieIn};
-ghost use Rattle.capnp_dynamic.specs.Edits.{IsThere, Edits};
-ghost use Rattle.capnp_dynamic.specs.Given.{plain_given, bits_given, pointer_refusal, set_answer, set_edit};
+ghost use Rattle.capnp_dynamic.specs.Blobs.{bytes_of};
+ghost use Rattle.capnp_dynamic.specs.Edits.{IsThere};
+ghost use Rattle.capnp_dynamic.specs.Given.{plain_given, bits_given, bytes_given, pointer_refusal, set_content, set_edit};
+ghost use Rattle.capnp_dynamic.specs.Puts.{state_in, PutsContent};
 
-use crate::slots::{mark, width_of};
+use crate::slots::{mark, pointer_place, width_of};
 use capnp_copy::arena::BuilderArena;
+use capnp_copy::blobs::{set_data, set_text};
 use capnp_copy::fields::{StructPlace, set_bits};
 use capnp_queries::fields::Field;
 use capnp_queries::introspect::{Type, TypeVariant};
@@ -21,9 +30,16 @@ use capnp_queries::slots::{FieldPlace, PlainType};
 use capnp_units::errors::{Error, Result};
 use capnp_units::kinds::ErrorKind;
 use capnp_values::dynamic_value::Reader;
+use capnp_wire::place::Place;
+
+/// A text or data.
+enum Blob<'a> {
+    Text(&'a [u8]),
+    Data(&'a [u8]),
+}
 
 /// The bits of a value of a plain type; one of any enum is one of each.
-fn bits_for<B>(ty: PlainType, value: &Reader<'_, B>) -> Option<u64>
+pub fn bits_for<B>(ty: PlainType, value: &Reader<'_, B>) -> Option<u64>
     ensures bits { result ≡ bits_given (plain_of ty) (plain_given value.now) }
     ensures fit { IfSome result (λ n. n < 2 ^ width (plain_of ty)) }
 {
@@ -53,8 +69,41 @@ fn refusal(ty: Type) -> ErrorKind
     }
 }
 
-/// Sets a slot to a plain value, or a Void slot to any. The value is looked at before the union is marked, so that a refusal leaves all as it was.
-pub(crate) fn set_single<A: BuilderArena, B>(
+/// The text or the data that a value is, if a slot of a pointer's type takes it.
+fn blob_for<'a, B>(ty: Type, value: &Reader<'a, B>) -> Option<Blob<'a>>
+    ensures { option_map bytes_of result ≡ bytes_given value.now (ty_of ty) }
+{
+    match (ty.which(), value) {
+        (TypeVariant::Text | TypeVariant::AnyPointer, Reader::Text(text)) => {
+            Some(Blob::Text(text.as_bytes()))
+        }
+        (TypeVariant::Data | TypeVariant::AnyPointer, Reader::Data(data)) => Some(Blob::Data(data)),
+        _ => None,
+    }
+}
+
+/// Puts a text or data in place of the value of the pointer at a place, which is cleared.
+fn put_blob<A: BuilderArena>(arena: &mut A, slot: Place, blob: Blob<'_>) -> Result<()>
+    requires there { is_some (words_at (words_in (A.segments arena.old)) (place_view slot) 1)
+        ≡ true }
+    requires near { slot.position < 2 ^ 61 }
+    ensures made { let at = state_in A.segments A.room A.books in OnOk result
+        (Makes (at arena.old) (at arena.new) slot (blob_tree (bytes_of blob.entry))
+        (words_for (8 * length (bytes_of blob.entry)))) }
+    ensures refused { let at = state_in A.segments A.room A.books in IfErr result
+        (BytesNotSet (at arena.old) (at arena.new) slot.segment (length (bytes_of blob.entry))) }
+    ensures grows { OnOk result
+        (Grows (words_in (A.segments arena.old)) (words_in (A.segments arena.new))) }
+    ensures books { A.books arena.new ≡ A.books arena.old }
+{
+    match blob {
+        Blob::Text(text) => set_text(arena, slot, text),
+        Blob::Data(data) => set_data(arena, slot, data),
+    }
+}
+
+/// Sets a slot to a value without pointers, or a Void slot to any. The value is looked at and memory taken before the union is marked, so that a refusal leaves all as it was.
+pub(crate) fn set_flat<A: BuilderArena, B>(
     arena: &mut A,
     object: StructPlace,
     field: Field<'_>,
@@ -63,13 +112,11 @@ pub(crate) fn set_single<A: BuilderArena, B>(
     requires there { IsThere (words_in (A.segments arena.old)) object }
     requires inside { LieIn object.data_words object.pointers
         (areas_of (shape_of_struct field.parent)) }
-    ensures answer { seen (λ x. x) result ≡ set_answer value.now (entry_of field.entry) }
-    ensures edits { OnOk result
-        (Edits (words_in (A.segments arena.old)) (words_in (A.segments arena.new)) object
-        (set_edit field.entry value.now)) }
+    ensures puts { let at = state_in A.segments A.room A.books in
+        PutsContent (at arena.old) (at arena.new) object (set_edit field.entry value.now)
+        (set_content value.now (entry_of field.entry)) result }
     ensures refused { OnErr result (A.segments arena.new ≡ A.segments arena.old) }
-    ensures sizes { map length (words_in (A.segments arena.new))
-        ≡ map length (words_in (A.segments arena.old)) }
+    ensures grows { Grows (words_in (A.segments arena.old)) (words_in (A.segments arena.new)) }
     ensures books { A.books arena.new ≡ A.books arena.old }
 {
     let _said = field.get_proto();
@@ -88,7 +135,13 @@ pub(crate) fn set_single<A: BuilderArena, B>(
             let at = width as usize * offset as usize;
             set_bits(arena, object, at, width, bits ^ default_bits);
         }
-        FieldPlace::Pointer { ty, .. } => return Err(Error::from(refusal(ty))),
+        FieldPlace::Pointer { index, ty, .. } => {
+            let Some(blob) = blob_for(ty, value) else {
+                return Err(Error::from(refusal(ty)));
+            };
+            put_blob(arena, pointer_place(object, index), blob)?;
+            mark(arena, object, field);
+        }
         FieldPlace::Group { .. } => return Err(Error::from(ErrorKind::NotAStruct)),
     }
     Ok(())

@@ -24,7 +24,7 @@ use capnp_records::node::NO_DISCRIMINANT;
 use capnp_wire::place::Place;
 
 /// The bits of a plain type's values.
-pub(crate) fn width_of(ty: PlainType) -> u32
+pub fn width_of(ty: PlainType) -> u32
     ensures { result ≡ width (plain_of ty) }
 {
     match ty {

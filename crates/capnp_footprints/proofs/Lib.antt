@@ -26,3 +26,4 @@ pub mod SpareMoves
 pub mod Direct
 pub mod MovedElements
 pub mod NewObjects
+pub mod CanonicalWords

@@ -2,6 +2,7 @@
 #![tactic(auto)]
 
 pub mod laws;
+pub mod laws_of_canonical_words;
 pub mod laws_of_clearing;
 pub mod laws_of_detached_objects;
 pub mod laws_of_moves;

@@ -3,20 +3,28 @@
 //! The number that is given to the program is that of the messages. What was read of all of them is in the digest, which is printed on standard output.
 #![tactic(auto)]
 
+mod canonical;
+mod copies;
 mod elements;
 mod limits;
 mod messages;
 mod mutations;
 mod random;
+mod same;
+mod segments;
 mod sizes;
 mod walk;
 
 use capnp_units::limiter::ReadLimiter;
-use capnp_wire::arena::ReaderArenaImpl;
+use capnp_units::sizes::Word;
+use capnp_wire::arena::{ReaderArena, ReaderArenaImpl};
 use capnp_wire::pointer::PointerReader;
+use copies::Bounds;
 use elements::Digest;
 use limits::Limits;
 use random::Random;
+use same::Form;
+use sizes::{MOST, size_within};
 use std::alloc::{AllocError, Global};
 use std::process::ExitCode;
 use std::{env, io};
@@ -40,11 +48,46 @@ enum Outcome {
     Difference(u32),
 }
 
-/// Reads a message as each type that its pointers can be read as. Whether the walks over it go together.
+/// How many words the segments have that copies are made in, in turn.
+const SEGMENTS: [u32; 4] = [1, 4, 64, 9000];
+
+/// What a message is copied under, unless no level may be followed at all.
+fn bounds_of(limits: Limits, round: u32) -> Option<Bounds> {
+    let words = limits.words.unwrap_or(MOST).min(MOST);
+    Some(Bounds {
+        words: u32::try_from(words).ok()?,
+        levels: u32::try_from(limits.nesting).ok()?,
+        segment: SEGMENTS[(round % 4) as usize],
+    })
+}
+
+/// Copies a message whole and trimmed, and writes its canonical words, for which words are lent. Whether all of that goes together.
+fn copy_message<A: ReaderArena>(
+    alloc: Global,
+    segments: &[Vec<u8>],
+    arena: &A,
+    bounds: Bounds,
+    lent: &mut [Word],
+    digest: &mut Digest,
+) -> Result<bool, AllocError> {
+    let Ok(root) = PointerReader::get_root_from_arena(arena) else {
+        return Ok(true);
+    };
+    let told = size_within(root, Some(bounds.words as u64));
+    Ok(
+        copies::goes_together(alloc, arena, told, bounds, Form::Whole, lent, digest)
+            && copies::goes_together(alloc, arena, told, bounds, Form::Trimmed, lent, digest)
+            && canonical::goes_together(alloc, segments, arena, told, bounds, lent, digest)?,
+    )
+}
+
+/// Reads a message as each type that its pointers can be read as, and copies it. Whether the walks over it go together.
 fn read_message(
     alloc: Global,
     limits: Limits,
+    bounds: Option<Bounds>,
     segments: &[Vec<u8>],
+    lent: &mut [Word],
     digest: &mut Digest,
 ) -> Result<bool, AllocError> {
     let arena = ReaderArenaImpl::new(segments, limits.nesting);
@@ -52,18 +95,26 @@ fn read_message(
         return Ok(true);
     };
     walk(root, &mut ReadLimiter::new(limits.words), digest, LEVELS);
-    sizes::go_together(alloc, segments, root, limits, digest)
+    if !sizes::go_together(alloc, segments, root, limits, digest)? {
+        return Ok(false);
+    }
+    match bounds {
+        Some(bounds) => copy_message(alloc, segments, &arena, bounds, lent, digest),
+        None => Ok(true),
+    }
 }
 
 /// Reads so many mutated messages, or as many as go together.
 fn read_all(alloc: Global, rounds: u32) -> Result<Outcome, AllocError> {
     let mut random = Random::new(SEED);
     let mut digest = Digest(0);
+    let mut lent = vec![in alloc; [0u8; 8]; MOST as usize + 1]?;
     for round in 0..rounds {
         let number = random.below(messages::COUNT);
         let segments = mutations::mutated(alloc, &mut random, messages::base(number))?;
         let limits = limits::any(&mut random);
-        if !read_message(alloc, limits, &segments, &mut digest)? {
+        let bounds = bounds_of(limits, round);
+        if !read_message(alloc, limits, bounds, &segments, &mut lent, &mut digest)? {
             return Ok(Outcome::Difference(round));
         }
     }

@@ -12,17 +12,18 @@ use capnp_wire::pointer::PointerReader;
 use std::alloc::{AllocError, Global};
 
 /// The most words that a value is read within.
-const MOST: u64 = 8192;
+pub const MOST: u64 = 8192;
 
 /// What a walk tells, and what it took.
 #[derive(Clone, Copy)]
-struct Walk {
-    size: Result<MessageSize, Error>,
-    granted: u64,
-    followed: u64,
+pub struct Walk {
+    pub size: Result<MessageSize, Error>,
+    pub granted: u64,
+    pub followed: u64,
 }
 
-fn size_within<A: ReaderArena>(root: PointerReader<'_, A>, words: Option<u64>) -> Walk {
+/// The size of a value, told within so many words.
+pub fn size_within<A: ReaderArena>(root: PointerReader<'_, A>, words: Option<u64>) -> Walk {
     let mut limiter = ReadLimiter::new(words);
     let size = root.total_size(&mut limiter);
     Walk {

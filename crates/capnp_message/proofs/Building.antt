@@ -1,5 +1,5 @@
 -- Messages that are made of words, and their roots.
-use Rattle.std.proofs.Common.{◌≡◌, ◌≢◌, ◌↔◌, ◌⊎◌, inl, inr, refl, ℕ, zero, suc, ◌+◌, ◌*◌, ◌/◌, ◌<◌, ◌≤◌, ◌^◌, Bool, true, false, List, [], ◌∷◌, ◌++◌, length, map, get_or, take, drop, replicate, Option, Some, None, Result, Ok, Err, Vec, ap, sym, ◌∙◌, arith, leb}
+use Rattle.std.proofs.Common.{◌≡◌, ◌≢◌, ◌↔◌, ◌⊎◌, inl, inr, refl, ℕ, zero, suc, ◌+◌, ◌*◌, ◌/◌, ◌<◌, ◌≤◌, ◌^◌, Bool, true, false, List, [], ◌∷◌, ◌++◌, length, map, get_or, take, drop, replicate, Option, Some, None, Result, Ok, Err, Vec, ap, sym, ◌∙◌, subst, arith, leb}
 use Rattle.std.specs.Bool.{⊤}
 use Rattle.std.specs.declared.alloc.Global.{Global}
 use Rattle.std.specs.List.{flat_map}
@@ -25,8 +25,14 @@ use Rattle.capnp_copy.specs.Values.{Becomes}
 use Rattle.capnp_model.specs.Encoding.{canonical_words}
 use Rattle.capnp_model.specs.Traversal.{tree_at}
 use Rattle.capnp_model.specs.Trimming.{trim}
-use Rattle.capnp_copy_from.specs.Copies.{BecomesCopy, CopiesValue}
-use Rattle.capnp_message.specs.Canonical.{GivesCanonical, ReplacesRoot, SetsCanonical}
+use Rattle.capnp_model.specs.Visits.{Visit, visits, visits_cost}
+use Rattle.capnp_model.proofs.Chaining.{bind_some, some_is}
+use Rattle.capnp_units.specs.declared.kinds.ErrorKind.{ErrorKind}
+use Rattle.capnp_units.specs.Limits.{less, left_of, granted_of}
+use Rattle.capnp_object.specs.Walks.{CannotPass, Stopped}
+use Rattle.capnp_copy_from.specs.Copies.{BecomesCopy, CopiesValue, Unplaced}
+use Rattle.capnp_copy_from.proofs.Filling.{value_stands}
+use Rattle.capnp_message.specs.Canonical.{GivesCanonical, IsFree, HasNoRoot, CopiesWords, ReplacesRoot, IsReplaced, HasNoRoom, SetsCanonical}
 use Rattle.capnp_units.specs.Segments.{words_in}
 use Rattle.capnp_message.specs.Built.{rooted, used_words}
 
@@ -116,25 +122,84 @@ pub set_first : (o limit : Option ℕ) (s t u : Segments) (old new : ReadLimiter
 set_first o limit s [] u old new v ws r none g is done refused kind = set_canonical o limit s u old new v ws r g is done refused kind
 set_first o limit s (first ∷ rest) u old new v ws r none g is done refused kind = absurd cc
 
+-- ---- words that are copied
+
+-- a walk without faults and without a limit isn't stopped
+passes : (before : List Visit) (last : Visit) (behind : List Visit) (cost paid : ℕ) (why : ErrorKind) → visits_cost (before ++ last ∷ behind) ≡ Some cost → CannotPass None paid last why → ⊥
+passes [] (Ok words) behind cost paid why e x = x.1
+passes [] (Err kind) behind cost paid why e x = absurd cc
+passes (Err kind ∷ before) last behind cost paid why e x = absurd cc
+passes (Ok words ∷ before) last behind cost paid why e x =
+    let y = bind_some (visits_cost (before ++ last ∷ behind)) _ cost e in
+    passes before last behind y.0 paid why y.1 x
+
+unstopped : (path : List Visit) (cost : ℕ) (start stop : ReadLimiter) (e : Error) → visits_cost path ≡ Some cost → IsFree start → Stopped path start e stop → ⊥
+unstopped path cost start stop e is free x =
+    let none : left_of start ≡ None = ap (λ (o : Option ℕ). less o (granted_of start)) free.0 in
+    passes x.before x.last x.behind cost x.paid e.kind (ap visits_cost (sym x.path_is) ∙ is) (subst (λ (o : Option ℕ). CannotPass o x.paid x.last e.kind) none x.why)
+
+-- what is made of words that mean a value
+made : (n : ℕ) (words : List ℕ) (t u : Segments) (x : ⊤) (v : Tree) → tree_at n (words ∷ []) root ≡ Some v → CopiesWords n words t u (Ok x) → IsReplaced n v words t u
+made n words t u x v read c =
+    let copied = c.copies in
+    record {
+      start = c.start;
+      end = c.end;
+      free = c.free;
+      walked = copied.walked;
+      takes = copied.takes;
+      grows = copied.grows;
+      becomes = subst (BecomesCopy n t u root) (some_is _ _ (sym copied.there_is ∙ read)) copied.made;
+    }
+
+-- words that can be read are refused for want of room alone
+full : (n : ℕ) (words : List ℕ) (t u : Segments) (e : Error) → (cost : ℕ) × (visits_cost (visits n (words ∷ []) root) ≡ Some cost) → CopiesWords n words t u (Err e) → HasNoRoom n words t u e
+full n words t u e costs c = by c.copies.why
+  where
+    by : Stopped (visits n (words ∷ []) root) c.start e c.end ⊎ Unplaced (words ∷ []) (visits n (words ∷ []) root) u c.start e c.end → HasNoRoom n words t u e
+    by (inl x) = absurd (unstopped (visits n (words ∷ []) root) costs.0 c.start c.end e costs.1 c.free x)
+    by (inr x) = record {
+      start = c.start;
+      end = c.end;
+      free = c.free;
+      unplaced = x;
+      takes = c.copies.takes;
+      stands = record { words = c.copies.left; value = λ m v o. value_stands m t u root v o c.copies.left };
+    }
+
 -- what canonical words mean
 abbrev pub MeansTrimmed : ℕ → Segments → Type 0
 MeansTrimmed n s = (v : Tree) → tree_at n s root ≡ Some v → length (canonical_words (trim v)) < 2 ^ 29 → tree_at n (canonical_words (trim v) ∷ []) root ≡ Some (trim v)
 
+-- what following a value costs
+abbrev pub CostsSome : Type 0
+CostsSome = (n : ℕ) (s : Segments) (t : Tree) → tree_at n s root ≡ Some t → (cost : ℕ) × (visits_cost (visits n s root) ≡ Some cost)
+
 -- the root of a message that has segments is set to the value of canonical words
-pub set_again : (o limit : Option ℕ) (k : ℕ) (s t u : Segments) (old new : ReadLimiter) (v : Vec (List ℕ) Global) (ws : List (List ℕ)) (r : Result ⊤ Error) → 0 < length t → unwrap_or o 0 ≡ k → GivesCanonical o limit s old (Ok v) new → ws ≡ v.items → ReplacesRoot k (words_view ws) t u r → ((n : ℕ) → MeansTrimmed n s) → SetsCanonical o limit s t u old r new
-set_again o limit k s [] u old new v ws r some is g same done mean = absurd (omega (arith, some))
-set_again None limit k s (first ∷ rest) u old new v ws r some is g same done mean = absurd (let h = g.0 in cc)
-set_again (Some n) limit k s (first ∷ rest) u old new v ws (Ok x) some is g same done mean =
-    let level : n ≡ k = is in
-    let few = g.few in
-    let words : words_view ws ≡ canonical_words (trim g.value) = ap words_view same ∙ g.words_are in
-    let there : tree_at n (canonical_words (trim g.value) ∷ []) root ≡ Some (trim g.value) = mean n g.value g.there (omega (arith, few, ap length g.words_are)) in
-    let copy : ReplacesRoot n (words_view ws) (first ∷ rest) u (Ok x) = rw level done in
-    let read : tree_at n (words_view ws ∷ []) root ≡ Some (trim g.value) = rw words there in
-    let one : copy.0 ≡ trim g.value = ap (λ (o : Option Tree). unwrap_or o copy.0) (sym copy.1 ∙ read) in
-    (n, words_view v.items, refl, (g, rw (sym one) copy.2))
-set_again (Some n) limit k s (first ∷ rest) u old new v ws (Err e) some is g same done mean =
-    inr (n, words_view v.items, refl, (g, done))
+pub set_again : (o limit : Option ℕ) (k : ℕ) (s t u : Segments) (old new : ReadLimiter) (v : Vec (List ℕ) Global) (ws : List (List ℕ)) (r : Result ⊤ Error) → 0 < length t → unwrap_or o 0 ≡ k → GivesCanonical o limit s old (Ok v) new → ws ≡ v.items → ReplacesRoot k (words_view ws) t u r → ((n : ℕ) → MeansTrimmed n s) → CostsSome → SetsCanonical o limit s t u old r new
+set_again o limit k s [] u old new v ws r some is g same done mean costs = absurd (omega (arith, some))
+set_again None limit k s (first ∷ rest) u old new v ws r some is g same done mean costs = absurd (let h = g.0 in cc)
+set_again (Some n) limit k s (first ∷ rest) u old new v ws r some is g same done mean costs = by r replaced
+  where
+    words : List ℕ
+    words = words_view v.items
+
+    replaced : ReplacesRoot n words (first ∷ rest) u r
+    replaced = subst (λ (m : ℕ). ReplacesRoot m words (first ∷ rest) u r) (sym is) (subst (λ (xs : List (List ℕ)). ReplacesRoot k (words_view xs) (first ∷ rest) u r) same done)
+
+    few : length (canonical_words (trim g.value)) < 2 ^ 29
+    few = subst (λ (xs : List ℕ). length xs < 2 ^ 29) g.words_are g.few
+
+    read : tree_at n (words ∷ []) root ≡ Some (trim g.value)
+    read = subst (λ (xs : List ℕ). tree_at n (xs ∷ []) root ≡ Some (trim g.value)) (sym g.words_are) (mean n g.value g.there few)
+
+    by : (x : Result ⊤ Error) → ReplacesRoot n words (first ∷ rest) u x → SetsCanonical (Some n) limit s (first ∷ rest) u old x new
+    by (Ok x) c = (n, words, refl, (g, made n words (first ∷ rest) u x (trim g.value) read c))
+    by (Err e) c = inr (n, words, refl, (g, why c))
+      where
+        why : HasNoRoot (first ∷ rest) u e ⊎ CopiesWords n words (first ∷ rest) u (Err e) → HasNoRoot (first ∷ rest) u e ⊎ HasNoRoom n words (first ∷ rest) u e
+        why (inl x) = inl x
+        why (inr x) = inr (full n words (first ∷ rest) u e (costs n (words ∷ []) (trim g.value) read) x)
 
 -- a message that has a segment
 pub some_segments : {X : Type 0} (used : X → ℕ) (bytes : X → List ℕ) (xs : List X) → 0 < length xs → 0 < length (used_words used bytes xs)
@@ -149,9 +214,12 @@ one_segment bytes ws flat long eight =
     ap (λ (ns : List ℕ). ns ∷ []) view
 
 -- a copy of the root of one segment
-pub copied_root : (n : ℕ) (from s u : Segments) (ws : List ℕ) (old new : ReadLimiter) (r : Result ⊤ Error) → from ≡ ws ∷ [] → CopiesValue n from root s u root old r new → ReplacesRoot n ws s u r
-copied_root n from s u ws old new (Ok x) e c = (c.value, rw (sym e) c.there_is, c.made)
-copied_root n from s u ws old new (Err x) e c = c.left
+pub copied_root : (n : ℕ) (from s u : Segments) (ws : List ℕ) (old new : ReadLimiter) (r : Result ⊤ Error) → from ≡ ws ∷ [] → IsFree old → CopiesValue n from root s u root old r new → ReplacesRoot n ws s u r
+copied_root n from s u ws old new r is free c = by r (subst (λ (f : Segments). CopiesValue n f root s u root old r new) is c)
+  where
+    by : (x : Result ⊤ Error) → CopiesValue n (ws ∷ []) root s u root old x new → ReplacesRoot n ws s u x
+    by (Ok y) d = record { start = old; end = new; free = free; copies = d }
+    by (Err e) d = inr (record { start = old; end = new; free = free; copies = d })
 
 -- ---- where no root is
 

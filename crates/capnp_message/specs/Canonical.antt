@@ -1,20 +1,25 @@
 -- Canonical messages. (Encoding, "Canonicalization")
 use Rattle.std.specs.Prelude.{◌≡◌, ◌≢◌, ⊤, ℕ, ◌+◌, ◌-◌, ◌^◌, ◌<◌, min, ◌⊎◌, Bool, false, List, [], ◌∷◌, ◌++◌, length, Option, Some, None, Result, Ok, Err, Vec}
 use Rattle.std.specs.declared.alloc.Global.{Global}
-use Rattle.capnp_model.specs.Segments.{Segments, root}
+use Rattle.std.specs.Option.{is_some}
+use Rattle.capnp_model.specs.Segments.{Segments, root, words_at}
 use Rattle.capnp_model.specs.Encoding.{canonical_words}
 use Rattle.capnp_model.specs.Trees.{Tree, has_capability}
 use Rattle.capnp_model.specs.Traversal.{tree_at}
 use Rattle.capnp_model.specs.Trimming.{trim}
-use Rattle.capnp_model.specs.Visits.{Visit, visits_cost}
+use Rattle.capnp_model.specs.Coverage.{Grows}
+use Rattle.capnp_model.specs.Visits.{Visit, visits, visits_cost}
 use Rattle.capnp_units.specs.declared.errors.Error.{Error}
-use Rattle.capnp_units.specs.declared.kinds.ErrorKind.TheVariants.{NestingLimitExceeded, OutOfMemory, BufferNotLargeEnough, SizeOverflow}
+use Rattle.capnp_units.specs.declared.kinds.ErrorKind.TheVariants.{NestingLimitExceeded, OutOfBounds, OutOfMemory, BufferNotLargeEnough, SizeOverflow}
 use Rattle.capnp_units.specs.declared.limiter.ReadLimiter.{ReadLimiter}
+use Rattle.capnp_units.specs.Limits.{limit_of, granted_of}
 use Rattle.capnp_object.specs.Walks.{Walked, Stopped}
 use Rattle.capnp_canonical.specs.Checks.{TellsMessage}
 use Rattle.capnp_canonical.specs.Copies.{copy_visits}
 use Rattle.capnp_canonical.specs.Writes.{words_view}
-use Rattle.capnp_copy_from.specs.Copies.{BecomesCopy, GrowsByZeros}
+use Rattle.capnp_footprints.specs.Footprints.{Owns}
+use Rattle.capnp_footprints.specs.Changes.{Replaces}
+use Rattle.capnp_copy_from.specs.Copies.{BecomesCopy, CopiesValue, GrowsByZeros, TakesFew, Unplaced}
 
 -- Nothing has levels, so that every value is refused, at no cost.
 abbrev pub IsWithoutLevels : {X : Type 0} → ReadLimiter → Result X Error → ReadLimiter → Type 0
@@ -64,20 +69,59 @@ GivesCanonical None limit s old result new = IsWithoutLevels old result new
 GivesCanonical (Some n) limit s old (Ok words) new = Canonicalized n s old (words_view words.items) new
 GivesCanonical (Some n) limit s old (Err e) new = Stopped (copy_visits n s root) old e new ⊎ IsTooLong (copy_visits n s root) (most_cost limit) old e new ⊎ IsWithoutMemory old e new
 
--- The value of words that begin with its root pointer is put in place of the root's; or it is refused, and all words stand.
+-- A count of words from none on, under no limit.
+abbrev pub IsFree : ReadLimiter → Type 0
+IsFree start = (limit_of start ≡ None) × (granted_of start ≡ 0)
+
+-- There is no word for the root pointer, and nothing was allocated.
+abbrev pub HasNoRoot : Segments → Segments → Error → Type 0
+HasNoRoot t u e = (is_some (words_at t root 1) ≡ false) × (e.kind ≡ OutOfBounds) × (u ≡ t)
+
+-- The value of words that begin with its root pointer is copied in place of the root's.
+pub record CopiesWords (n : ℕ) (words : List ℕ) (t u : Segments) (result : Result ⊤ Error) : Type 0 where
+  pub start : ReadLimiter
+  pub end : ReadLimiter
+  pub free : IsFree start
+  pub copies : CopiesValue n (words ∷ []) root t u root start result end
+
+-- The same, or there is no word for the root.
 abbrev pub ReplacesRoot : ℕ → List ℕ → Segments → Segments → Result ⊤ Error → Type 0
-ReplacesRoot n words t u (Ok done) = (v : Tree) × (tree_at n (words ∷ []) root ≡ Some v) × BecomesCopy n t u root v
-ReplacesRoot n words t u (Err e) = GrowsByZeros t u
+ReplacesRoot n words t u (Ok done) = CopiesWords n words t u (Ok done)
+ReplacesRoot n words t u (Err e) = HasNoRoot t u e ⊎ CopiesWords n words t u (Err e)
+
+-- All words stand, new ones are zero, and the root has the value that it had.
+pub record RootStands (t u : Segments) : Type 0 where
+  pub words : GrowsByZeros t u
+  pub value : (n : ℕ) (v : Tree) → Owns n t root v → Replaces n t u root v
+
+-- The root has the value of canonical words, in new words: no more than twice those that following it costs.
+pub record IsReplaced (n : ℕ) (v : Tree) (words : List ℕ) (t u : Segments) : Type 0 where
+  pub start : ReadLimiter
+  pub end : ReadLimiter
+  pub free : IsFree start
+  pub walked : Walked (visits n (words ∷ []) root) start end
+  pub takes : TakesFew t u start end
+  pub grows : Grows t u
+  pub becomes : BecomesCopy n t u root v
+
+-- There was no room for an object of canonical words, or the message would be too large with it, as the kind says. No more words were allocated than twice those that following them costs up to that object.
+pub record HasNoRoom (n : ℕ) (words : List ℕ) (t u : Segments) (e : Error) : Type 0 where
+  pub start : ReadLimiter
+  pub end : ReadLimiter
+  pub free : IsFree start
+  pub unplaced : Unplaced (words ∷ []) (visits n (words ∷ []) root) u start e end
+  pub takes : TakesFew t u start end
+  pub stands : RootStands t u
 
 -- The canonical words were given, and what follows holds of the value and of them.
 abbrev pub AfterCanonical : Option ℕ → Segments → ReadLimiter → ReadLimiter → (ℕ → Tree → List ℕ → Type 0) → Type 0
 AfterCanonical levels s old new P = (n : ℕ) × (words : List ℕ) × (levels ≡ Some n) × ((c : Canonicalized n s old words new) × P n c.value words)
 
--- A message without segments is set to the canonical words of a value: they are its one segment. Of any other the value of the root becomes the trimmed one. Where the words weren't given, all stands; where there was no room for them, all words stand.
+-- A message without segments is set to the canonical words of a value: they are its one segment. Of any other the value of the root becomes the trimmed one. Where the words weren't given, all stands; where there was no room for them, a message without segments has none still, and any other has its root's value and all its words.
 abbrev pub SetsCanonical : Option ℕ → Option ℕ → Segments → Segments → Segments → ReadLimiter → Result ⊤ Error → ReadLimiter → Type 0
 SetsCanonical levels limit s [] u old (Ok done) new = AfterCanonical levels s old new (λ n v words. u ≡ words ∷ [])
 SetsCanonical levels limit s [] u old (Err e) new =
     (u ≡ []) × (GivesCanonical levels limit s old (Err e) new ⊎ AfterCanonical levels s old new (λ n v words. e.kind ≢ SizeOverflow))
-SetsCanonical levels limit s (first ∷ rest) u old (Ok done) new = AfterCanonical levels s old new (λ n v words. BecomesCopy n (first ∷ rest) u root (trim v))
+SetsCanonical levels limit s (first ∷ rest) u old (Ok done) new = AfterCanonical levels s old new (λ n v words. IsReplaced n (trim v) words (first ∷ rest) u)
 SetsCanonical levels limit s (first ∷ rest) u old (Err e) new =
-    (GivesCanonical levels limit s old (Err e) new × (u ≡ first ∷ rest)) ⊎ AfterCanonical levels s old new (λ n v words. GrowsByZeros (first ∷ rest) u)
+    (GivesCanonical levels limit s old (Err e) new × (u ≡ first ∷ rest)) ⊎ AfterCanonical levels s old new (λ n v words. HasNoRoot (first ∷ rest) u e ⊎ HasNoRoom n words (first ∷ rest) u e)

@@ -17,7 +17,9 @@ use crate::reader::{Reader, SegmentArray};
 use capnp_copy::allocator::{Allocator, SegmentBytes};
 use capnp_copy::arena::BuilderArena;
 use capnp_copy_from::copy::copy_from;
-use capnp_model::laws::{trimmed_values, values_that_are_read, words_mean_their_value};
+use capnp_model::laws::{
+    trimmed_values, values_on_walks, values_that_are_read, words_mean_their_value,
+};
 use capnp_units::errors::{Error, Result};
 use capnp_units::kinds::ErrorKind;
 use capnp_units::limiter::ReadLimiter;
@@ -81,7 +83,7 @@ impl<A: Allocator> Builder<A> {
 
     /// Sets the root to the value of a message, as its canonical copy, in place of the value that it had, which is cleared. Where the message has no segment yet, the canonical words are its one segment then.
     ///
-    /// It is refused as `Reader::canonicalize` is. Where there is no segment, then as `set_words`, and there is none still. Else with `OutOfBounds` where the first segment has no word, with `SizeOverflow` where the message would have too many words, or as the allocator refuses; then all words stand as they were, and those that were allocated are zero.
+    /// It is refused as `Reader::canonicalize` is, and then nothing was allocated. Where there is no segment, it is refused then as `set_words`, and there is none still. Else with `OutOfBounds` where the first segment has no word, and nothing was allocated; with `SizeOverflow` just where a count, or the message's words with the next object and a pad, would pass 2^29 - 1; or as the allocator refuses. Then the root has the value that it had, all words stand as they were, and those that were allocated are zero: no more than twice those that following the canonical words costs.
     pub fn set_root_canonical<S: ReaderSegments>(
         &mut self,
         alloc: Global,
@@ -109,6 +111,7 @@ impl<A: Allocator> Builder<A> {
         words_mean_their_value();
         trimmed_values();
         values_that_are_read();
+        values_on_walks();
         let levels = source.levels().unwrap_or(0);
         replace_root(&mut self.memory.arena, &words, levels)
     }

@@ -6,4 +6,5 @@ mod packed_tests;
 mod reader_tests;
 mod root_tests;
 mod row_tests;
+mod segment_tests;
 mod unbuffered_tests;

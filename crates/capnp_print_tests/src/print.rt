@@ -1,3 +1,6 @@
 //! Tests of `capnp_print`.
 
+mod default_tests;
+mod list_tests;
 mod tests;
+mod value_tests;

@@ -1,3 +1,4 @@
 //! Tests of `capnp_show`.
 
 mod tests;
+mod word_tests;

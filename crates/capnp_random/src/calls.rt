@@ -1,79 +1,85 @@
 //! Builder calls by chance, each made on the message and on the tree.
-ghost use Rattle.std.specs.Prelude.{◌≡◌, ◌<◌};
-ghost use Rattle.capnp_units.specs.Sizes.{size_number};
+ghost use Rattle.std.specs.Prelude.{◌≡◌};
 
-use crate::changes::change;
-use crate::covered::{ROOT, pointer_place, span_of};
+use crate::blobs::{get_blob, init_blob, set_blob};
+use crate::contents::copy_content_from;
+use crate::copies::{copy_from, set_list, set_struct};
+use crate::gets::{get_list, get_struct, get_struct_list};
+use crate::inits::{clear, init_list, init_struct, init_struct_list};
+use crate::outcomes::Done;
 use crate::random::Random;
-use crate::tree::{Node, Shape, Slot, Tree, zeros};
-use capnp_builders::pointer_builder::PointerBuilder;
+use crate::tree::{Shape, Tree};
+use crate::walks::{Spot, any_source, any_spot};
 use capnp_copy::arena::{BuilderArena, Memory};
-use capnp_object::named::found_at;
 use capnp_units::sizes::{ElementSize, StructSize};
-use capnp_wire::place::{Place, has_words};
+use capnp_wire::arena::ReaderArena;
 use std::alloc::{AllocError, Global};
-
-/// How deep a pointer lies at most that a call is made at.
-const DEEP: usize = 6;
 
 /// The most elements of a list, and one.
 const ELEMENTS: usize = 20;
 
-/// A pointer of the tree, where it lies in the message.
+/// The most structs of a list, and one.
+const STRUCTS: usize = 5;
+
+/// What is done at a pointer.
 #[derive(Clone, Copy)]
-struct Spot {
-    slot: Slot,
-    place: Place,
+enum Task {
+    Clear,
+    InitStruct,
+    InitList,
+    InitStructList,
+    InitBlob,
+    SetBlob,
+    GetStruct,
+    GetList,
+    GetStructList,
+    GetBlob,
+    CopyFrom,
+    SetStruct,
+    SetList,
+    CopyContentFrom,
 }
 
-/// What became of a call.
-#[derive(Clone, Copy, Debug, PartialEq, Eq)]
-pub enum Done {
-    /// It was made, and the tree is edited.
-    Made,
-    /// It was refused, and the tree is as it was.
-    Refused,
-    /// What was got isn't what the tree has, or what has to be there isn't.
-    Different,
-}
-
-/// A pointer that is there, some way down from the root.
-fn any_spot<A: BuilderArena>(memory: &Memory<A>, tree: &Tree, random: &mut Random) -> Spot {
-    let mut spot = Spot {
-        slot: crate::tree::ROOT,
-        place: ROOT,
-    };
-    for _ in 0..random.below(DEEP) {
-        let Some(id) = tree.at(spot.slot) else {
-            return spot;
-        };
-        let kids = tree.kids_of(id);
-        let Ok(found) = found_at(&memory.arena, spot.place) else {
-            return spot;
-        };
-        let shape = tree.shape_of(id);
-        let Some((start, _)) = span_of(found.object, shape) else {
-            return spot;
-        };
-        if kids == 0 {
-            return spot;
-        }
-        let kid = random.below(kids);
-        spot = Spot {
-            slot: Slot { node: id, kid },
-            place: pointer_place(start, shape, kid),
-        };
+/// Every task as likely as another, but for clearing.
+fn any_task(random: &mut Random) -> Task {
+    match random.below(27) {
+        0 => Task::Clear,
+        1 | 2 => Task::InitStruct,
+        3 | 4 => Task::InitList,
+        5 | 6 => Task::InitStructList,
+        7 | 8 => Task::InitBlob,
+        9 | 10 => Task::SetBlob,
+        11 | 12 => Task::GetStruct,
+        13 | 14 => Task::GetList,
+        15 | 16 => Task::GetStructList,
+        17 | 18 => Task::GetBlob,
+        19 | 20 => Task::CopyFrom,
+        21 | 22 => Task::SetStruct,
+        23 | 24 => Task::SetList,
+        _ => Task::CopyContentFrom,
     }
-    spot
 }
 
-/// The handle of a pointer that is there.
-fn handle<'a, A: BuilderArena>(memory: &'a mut Memory<A>, place: Place) -> PointerBuilder<'a, A>
-    ensures same { result.memory.ghost_name ≡ memory.entry.ghost_name }
-    ensures now { result.memory.now ≡ memory.old }
-    ensures place { result.place ≡ place }
-{
-    PointerBuilder { memory, place }
+/// Mostly what the value is there for, else any task.
+fn task_for(shape: Shape, random: &mut Random) -> Task {
+    let is_other = random.below(2) == 0;
+    match (random.below(3), shape) {
+        (1 | 2, Shape::Struct { .. }) if is_other => Task::CopyContentFrom,
+        (1 | 2, Shape::Struct { .. }) => Task::GetStruct,
+        (1 | 2, Shape::Structs { .. }) if is_other => Task::CopyContentFrom,
+        (1 | 2, Shape::Structs { .. }) => Task::GetStructList,
+        (1, Shape::Pointers { .. }) if is_other => Task::GetStructList,
+        (
+            1,
+            Shape::Numbers {
+                size: ElementSize::Byte,
+                ..
+            },
+        ) => Task::GetBlob,
+        (1, Shape::Numbers { .. }) if is_other => Task::GetStructList,
+        (1, Shape::Numbers { .. }) => Task::GetList,
+        _ => any_task(random),
+    }
 }
 
 /// A size of structs.
@@ -84,17 +90,8 @@ fn any_size(random: &mut Random) -> StructSize {
     }
 }
 
-/// So many bytes, none of them zero.
-fn any_bytes(alloc: Global, random: &mut Random) -> Result<Vec<u8>, AllocError> {
-    let mut bytes = Vec::new(alloc);
-    for _ in 0..random.below(ELEMENTS) {
-        bytes.push((random.next() % 255 + 1) as u8)?;
-    }
-    Ok(bytes)
-}
-
 /// A size of elements that aren't structs.
-fn any_elements(random: &mut Random) -> ElementSize {
+fn any_plain(random: &mut Random) -> ElementSize {
     match random.below(7) {
         0 => ElementSize::Void,
         1 => ElementSize::Bit,
@@ -106,232 +103,101 @@ fn any_elements(random: &mut Random) -> ElementSize {
     }
 }
 
-/// Positions that are too far for a handle.
-const FAR: usize = 1 << 60;
-
-/// Makes a pointer lead to a new struct.
-fn init_struct<A: BuilderArena>(memory: &mut Memory<A>, place: Place, size: StructSize) -> Done
-    ensures { A.books memory.new.arena ≡ A.books memory.old.arena }
-{
-    if place.position >= FAR || !has_words(&memory.arena, place, 1) {
-        return Done::Different;
-    }
-    match handle(memory, place).init_struct(size) {
-        Ok(_) => Done::Made,
-        Err(_) => Done::Refused,
+/// A size of elements to ask for: mostly that of the list that is there.
+fn any_expected(shape: Shape, random: &mut Random) -> ElementSize {
+    match (random.below(4), shape) {
+        (0, _) => ElementSize::InlineComposite,
+        (1 | 2, Shape::Numbers { size, .. }) => size,
+        (1 | 2, Shape::Pointers { .. }) => ElementSize::Pointer,
+        (1 | 2, Shape::Structs { .. }) => ElementSize::InlineComposite,
+        _ => any_plain(random),
     }
 }
 
-/// Makes a pointer lead to a new list of numbers or pointers.
-fn init_list<A: BuilderArena>(
-    memory: &mut Memory<A>,
-    place: Place,
-    size: ElementSize,
-    count: u32,
-) -> Done
-    requires { size_number size < 7 }
-    ensures { A.books memory.new.arena ≡ A.books memory.old.arena }
-{
-    if place.position >= FAR || !has_words(&memory.arena, place, 1) {
-        return Done::Different;
-    }
-    match handle(memory, place).init_list(size, count) {
-        Ok(_) => Done::Made,
-        Err(_) => Done::Refused,
-    }
-}
-
-/// Makes a pointer lead to a new list of structs.
-fn init_struct_list<A: BuilderArena>(
-    memory: &mut Memory<A>,
-    place: Place,
-    count: u32,
-    size: StructSize,
-) -> Done
-    ensures { A.books memory.new.arena ≡ A.books memory.old.arena }
-{
-    if place.position >= FAR || !has_words(&memory.arena, place, 1) {
-        return Done::Different;
-    }
-    match handle(memory, place).init_struct_list(count, size) {
-        Ok(_) => Done::Made,
-        Err(_) => Done::Refused,
-    }
-}
-
-/// Makes a pointer lead to a text, or to data.
-fn set_bytes<A: BuilderArena>(
-    memory: &mut Memory<A>,
-    place: Place,
-    bytes: &[u8],
-    as_text: bool,
-) -> Done
-    ensures { A.books memory.new.arena ≡ A.books memory.old.arena }
-{
-    if place.position >= FAR || !has_words(&memory.arena, place, 1) {
-        return Done::Different;
-    }
-    let mut pointer = handle(memory, place);
-    let done = if as_text {
-        pointer.set_text(bytes)
-    } else {
-        pointer.set_data(bytes)
-    };
-    match done {
-        Ok(()) => Done::Made,
-        Err(_) => Done::Refused,
-    }
-}
-
-/// Makes a pointer null.
-fn clear<A: BuilderArena>(memory: &mut Memory<A>, place: Place) -> Done
-    ensures { A.books memory.new.arena ≡ A.books memory.old.arena }
-{
-    let mut pointer = handle(memory, place);
-    pointer.clear();
-    if pointer.is_null() {
-        Done::Made
-    } else {
-        Done::Different
-    }
-}
-
-/// What a pointer is made to lead to.
-#[derive(Drop)]
-enum New {
-    Zeros(Shape),
-    Text(Vec<u8>),
-    Data(Vec<u8>),
-}
-
-/// Any new value.
-fn any_new(alloc: Global, random: &mut Random) -> Result<New, AllocError> {
-    let count = random.below(ELEMENTS) as u32;
-    let size = any_size(random);
-    Ok(match random.below(6) {
-        0 | 1 => New::Zeros(Shape::Struct {
-            data_words: size.data_words,
-            pointers: size.pointers,
-        }),
-        2 => New::Zeros(Shape::Structs {
-            count: count / 4,
-            data_words: size.data_words,
-            pointers: size.pointers,
-        }),
-        3 => match any_elements(random) {
-            ElementSize::Pointer => New::Zeros(Shape::Pointers { count }),
-            size => New::Zeros(Shape::Numbers { size, count }),
-        },
-        4 => New::Text(any_bytes(alloc, random)?),
-        _ => New::Data(any_bytes(alloc, random)?),
-    })
-}
-
-/// Makes a pointer of the message lead to a new value.
-fn put_in_message<A: BuilderArena>(memory: &mut Memory<A>, place: Place, new: &New) -> Done
-    ensures { A.books memory.new.arena ≡ A.books memory.old.arena }
-{
-    match new {
-        New::Text(bytes) => set_bytes(memory, place, bytes, true),
-        New::Data(bytes) => set_bytes(memory, place, bytes, false),
-        New::Zeros(
-            Shape::Struct {
-                data_words,
-                pointers,
-            },
-        ) => init_struct(
-            memory,
-            place,
-            StructSize {
-                data_words: *data_words,
-                pointers: *pointers,
-            },
-        ),
-        New::Zeros(
-            Shape::Structs {
-                count,
-                data_words,
-                pointers,
-            },
-        ) => init_struct_list(
-            memory,
-            place,
-            *count,
-            StructSize {
-                data_words: *data_words,
-                pointers: *pointers,
-            },
-        ),
-        New::Zeros(Shape::Pointers { count }) => {
-            init_list(memory, place, ElementSize::Pointer, *count)
-        }
-        New::Zeros(Shape::Numbers { size, count }) => {
-            if *size == ElementSize::InlineComposite {
-                return Done::Different;
-            }
-            init_list(memory, place, *size, *count)
-        }
-        New::Zeros(Shape::Null) => clear(memory, place),
-    }
-}
-
-/// The node of a new value.
-fn node_of(alloc: Global, new: &New) -> Result<Node, AllocError> {
-    let (bytes, count) = match new {
-        New::Zeros(shape) => return zeros(alloc, *shape),
-        New::Text(bytes) => (bytes, bytes.len().saturating_add(1)),
-        New::Data(bytes) => (bytes, bytes.len()),
-    };
-    let mut node = zeros(
-        alloc,
-        Shape::Numbers {
-            size: ElementSize::Byte,
-            count: u32::try_from(count).unwrap_or(0),
-        },
-    )?;
-    for (i, byte) in bytes.iter().enumerate() {
-        if i < node.numbers.len() {
-            node.numbers[i] = *byte as u64;
-        }
-    }
-    Ok(node)
-}
-
-/// Makes a pointer lead to a new value, on both sides.
-fn put<A: BuilderArena>(
+/// Makes a new value, gets what is there, or clears it, on the message and on the tree.
+fn make<A: BuilderArena>(
     alloc: Global,
     memory: &mut Memory<A>,
     tree: &mut Tree,
     spot: Spot,
+    task: Task,
     random: &mut Random,
 ) -> Result<Done, AllocError>
     ensures { A.books memory.new.arena ≡ A.books memory.old.arena }
 {
-    let new = any_new(alloc, random)?;
-    let done = put_in_message(memory, spot.place, &new);
-    if done == Done::Made {
-        tree.put(spot.slot, Some(node_of(alloc, &new)?))?;
+    let size = any_size(random);
+    match task {
+        Task::InitStruct => init_struct(alloc, memory, tree, spot, size, random),
+        Task::InitList => {
+            let elements = any_plain(random);
+            let count = random.below(ELEMENTS) as u32;
+            init_list(alloc, memory, tree, spot, elements, count, random)
+        }
+        Task::InitStructList => {
+            let count = random.below(STRUCTS) as u32;
+            init_struct_list(alloc, memory, tree, spot, count, size, random)
+        }
+        Task::InitBlob => init_blob(alloc, memory, tree, spot, random),
+        Task::SetBlob => set_blob(alloc, memory, tree, spot, random),
+        Task::GetStruct => get_struct(alloc, memory, tree, spot, size, random),
+        Task::GetList => {
+            let expected = any_expected(tree.shape_at(spot.slot), random);
+            Ok(get_list(memory, tree, spot, expected, random))
+        }
+        Task::GetStructList => get_struct_list(alloc, memory, tree, spot, size, random),
+        Task::GetBlob => get_blob(alloc, memory, tree, spot, random),
+        _ => Ok(clear(memory, tree, spot)),
     }
-    Ok(done)
 }
 
-/// Makes a call at a pointer by chance, on the message and on the tree.
-pub fn call<A: BuilderArena>(
+/// Copies a value of another message, on the message and on the tree.
+fn copy<A: BuilderArena, B: ReaderArena>(
     alloc: Global,
     memory: &mut Memory<A>,
     tree: &mut Tree,
+    spot: Spot,
+    other: &B,
+    from: &Tree,
+    task: Task,
     random: &mut Random,
 ) -> Result<Done, AllocError>
     ensures { A.books memory.new.arena ≡ A.books memory.old.arena }
 {
-    let spot = any_spot(memory, tree, random);
-    match random.below(8) {
-        0 => {
-            let done = clear(memory, spot.place);
-            tree.put(spot.slot, None)?;
-            Ok(done)
+    let Some(source) = any_source(other, from, random) else {
+        return Ok(Done::Different);
+    };
+    match task {
+        Task::SetStruct => set_struct(alloc, memory, tree, spot, source, from, random),
+        Task::SetList => {
+            let expected = any_expected(from.shape_at(source.slot), random);
+            set_list(alloc, memory, tree, spot, source, from, expected, random)
         }
-        1 | 2 | 3 | 4 => put(alloc, memory, tree, spot, random),
-        _ => Ok(change(memory, tree, spot.slot, spot.place, random)),
+        Task::CopyContentFrom => {
+            copy_content_from(alloc, memory, tree, spot, source, from, random)
+        }
+        _ => copy_from(alloc, memory, tree, spot, source, from, random),
+    }
+}
+
+/// Makes a call at a pointer by chance, on the message and on the tree; what is copied comes from another message with its tree.
+pub fn call<A: BuilderArena, B: ReaderArena>(
+    alloc: Global,
+    memory: &mut Memory<A>,
+    tree: &mut Tree,
+    other: &B,
+    from: &Tree,
+    random: &mut Random,
+) -> Result<Done, AllocError>
+    ensures { A.books memory.new.arena ≡ A.books memory.old.arena }
+{
+    let Some(spot) = any_spot(memory, tree, random) else {
+        return Ok(Done::Different);
+    };
+    let task = task_for(tree.shape_at(spot.slot), random);
+    match task {
+        Task::CopyFrom | Task::SetStruct | Task::SetList | Task::CopyContentFrom => {
+            copy(alloc, memory, tree, spot, other, from, task, random)
+        }
+        _ => make(alloc, memory, tree, spot, task, random),
     }
 }

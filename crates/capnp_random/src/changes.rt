@@ -1,22 +1,19 @@
-//! Numbers of structs and lists, set on both sides, and pointers of them looked at.
-ghost use Rattle.std.specs.Prelude.{◌≡◌, ◌<◌};
+//! Numbers of structs and lists, set on both sides.
+ghost use Rattle.std.specs.Prelude.{◌≡◌, ◌<◌, ◌≤◌};
 
-use crate::calls::Done;
-use crate::covered::{after, span_of};
+use crate::handles::{FAR, struct_of};
+use crate::outcomes::{Done, made_where};
 use crate::random::Random;
-use crate::tree::{Shape, Slot, Tree};
+use crate::tree::Tree;
+use crate::widths::row_of;
 use capnp_builders::element::BuilderElement;
 use capnp_builders::list_builder::ListBuilder;
 use capnp_builders::struct_builder::StructBuilder;
 use capnp_copy::arena::{BuilderArena, Memory};
 use capnp_copy::fields::StructPlace;
 use capnp_copy::init::ListPlace;
-use capnp_object::named::found_at;
-use capnp_units::sizes::ElementSize;
-use capnp_wire::place::{Place, has_words};
-
-/// Positions that are too far for a handle.
-const FAR: usize = 1 << 60;
+use capnp_units::sizes::{ElementSize, data_bits_per_element};
+use capnp_wire::place::has_words;
 
 /// The lowest bits of a word that a field of each kind has: a truth value, and numbers of one, two, four and eight bytes.
 const MASKS: [u64; 5] = [1, 0xff, 0xffff, 0xffff_ffff, u64::MAX];
@@ -97,8 +94,27 @@ fn stored(kind: usize, number: u64) -> u64 {
     if kind == 2 { number ^ 7 } else { number }
 }
 
-/// Writes an element of a list of numbers. Whether it then is what was written.
-fn set_element<A: BuilderArena>(list: &mut ListBuilder<'_, A>, index: u32, number: u64) -> bool
+/// Of how many kinds of fields an element of a size can be written: as numbers that are no wider.
+fn kinds_of(size: ElementSize) -> usize
+    ensures { result ≤ 5 }
+{
+    match size {
+        ElementSize::Void | ElementSize::Pointer | ElementSize::InlineComposite => 0,
+        ElementSize::Bit => 1,
+        ElementSize::Byte => 2,
+        ElementSize::TwoBytes => 3,
+        ElementSize::FourBytes => 4,
+        ElementSize::EightBytes => 5,
+    }
+}
+
+/// Writes an element of a list of numbers as the field of a kind, at its lowest bits. Whether these then are what was written.
+fn set_element<A: BuilderArena>(
+    list: &mut ListBuilder<'_, A>,
+    kind: usize,
+    index: u32,
+    number: u64,
+) -> bool
     ensures same { list.new.memory.ghost_name ≡ list.old.memory.ghost_name }
     ensures books { A.books list.new.memory.now.arena ≡ A.books list.old.memory.now.arena }
 {
@@ -106,31 +122,28 @@ fn set_element<A: BuilderArena>(list: &mut ListBuilder<'_, A>, index: u32, numbe
     if place.start.position >= FAR || index >= place.count {
         return false;
     }
-    match place.size {
-        ElementSize::Void => {
-            list.set(index, ());
-            true
-        }
-        ElementSize::Bit => {
+    let bits = data_bits_per_element(place.size);
+    match kind {
+        0 if bits >= 1 => {
             list.set(index, number % 2 == 1);
             list.get::<bool>(index) == (number % 2 == 1)
         }
-        ElementSize::Byte => {
+        1 if bits >= 8 => {
             let value = (number % 0x100) as u8;
             list.set(index, value);
             list.get::<u8>(index) == value
         }
-        ElementSize::TwoBytes => {
+        2 if bits >= 16 => {
             let value = (number % 0x1_0000) as u16;
-            list.set(index, value);
+            list.set(index, value.cast_signed());
             list.get::<u16>(index) == value
         }
-        ElementSize::FourBytes => {
+        3 if bits >= 32 => {
             let value = (number % 0x1_0000_0000) as u32;
-            list.set(index, value.cast_signed());
+            list.set(index, value);
             list.get::<u32>(index) == value
         }
-        ElementSize::EightBytes => {
+        4 if bits >= 64 => {
             list.set(index, number);
             list.get::<u64>(index) == number
         }
@@ -138,20 +151,16 @@ fn set_element<A: BuilderArena>(list: &mut ListBuilder<'_, A>, index: u32, numbe
     }
 }
 
-/// The number that an element of a size has of a number.
-fn element(size: ElementSize, number: u64) -> u64 {
-    match size {
-        ElementSize::Bit => number % 2,
-        ElementSize::Byte => number % 0x100,
-        ElementSize::TwoBytes => number % 0x1_0000,
-        ElementSize::FourBytes => number % 0x1_0000_0000,
-        ElementSize::EightBytes => number,
-        _ => 0,
+/// Whether the structs at a node, or its elements, have a struct's sizes.
+fn has_sizes(tree: &Tree, id: usize, place: StructPlace) -> bool {
+    match row_of(tree.shape_of(id)) {
+        Some(row) => row.data_words == place.data_words && row.pointers == place.pointers,
+        None => false,
     }
 }
 
 /// Changes a field of a struct, whose words are the node's from one of its numbers on, on both sides.
-fn change_struct<A: BuilderArena>(
+pub fn change_struct<A: BuilderArena>(
     memory: &mut Memory<A>,
     tree: &mut Tree,
     id: usize,
@@ -161,8 +170,11 @@ fn change_struct<A: BuilderArena>(
 ) -> Done
     ensures { A.books memory.new.arena ≡ A.books memory.old.arena }
 {
+    if !has_sizes(tree, id, place) {
+        return Done::Different;
+    }
     if place.data_words == 0 {
-        return Done::Refused;
+        return Done::Made;
     }
     let kind = random.below(KINDS);
     let bit = random.below(64 * place.data_words as usize);
@@ -177,115 +189,66 @@ fn change_struct<A: BuilderArena>(
     Done::Made
 }
 
-/// Changes a number of the value that a pointer leads to, on both sides.
-pub fn change<A: BuilderArena>(
-    memory: &mut Memory<A>,
-    tree: &mut Tree,
-    slot: Slot,
-    place: Place,
-    random: &mut Random,
-) -> Done
+/// Writes an element of a list of voids. Whether it is one.
+fn set_nothing<A: BuilderArena>(memory: &mut Memory<A>, place: ListPlace, index: u32) -> bool
     ensures { A.books memory.new.arena ≡ A.books memory.old.arena }
 {
-    let Some(id) = tree.at(slot) else {
-        return Done::Refused;
-    };
-    let shape = tree.shape_of(id);
-    let Ok(found) = found_at(&memory.arena, place) else {
-        return Done::Different;
-    };
-    let Some((start, _)) = span_of(found.object, shape) else {
-        return Done::Different;
-    };
-    match shape {
-        Shape::Struct {
-            data_words,
-            pointers,
-        } => change_struct(
-            memory,
-            tree,
-            id,
-            0,
-            StructPlace {
-                start,
-                data_words,
-                pointers,
-            },
-            random,
-        ),
-        Shape::Numbers { size, count } => {
-            change_number(memory, tree, id, start, size, count, random)
-        }
-        Shape::Structs { .. } => change_element(memory, tree, id, start, shape, random),
-        Shape::Pointers { .. } => Done::Refused,
-        Shape::Null => Done::Different,
+    if place.start.position >= FAR || index >= place.count || place.size != ElementSize::Void {
+        return false;
     }
+    let mut list = ListBuilder { memory, place };
+    list.set(index, ());
+    list.len() == place.count && !list.is_empty()
 }
 
-/// The same of an element of a list of numbers.
+/// Changes an element of a list of numbers, on both sides.
 fn change_number<A: BuilderArena>(
     memory: &mut Memory<A>,
     tree: &mut Tree,
     id: usize,
-    start: Place,
-    size: ElementSize,
-    count: u32,
+    place: ListPlace,
+    index: u32,
     random: &mut Random,
 ) -> Done
     ensures { A.books memory.new.arena ≡ A.books memory.old.arena }
 {
-    if count == 0 {
-        return Done::Refused;
+    let kinds = kinds_of(place.size);
+    if kinds == 0 {
+        return made_where(set_nothing(memory, place, index));
     }
-    let index = (random.next() % count as u64) as u32;
+    let kind = random.below(kinds);
     let number = random.next();
-    let mut list = ListBuilder {
-        memory,
-        place: ListPlace {
-            start,
-            size,
-            claimed: count,
-            count,
-            data_words: 0,
-            pointers: 0,
-        },
-    };
-    if list.len() != count || !set_element(&mut list, index, number) {
+    let mut list = ListBuilder { memory, place };
+    if !set_element(&mut list, kind, index, number) {
         return Done::Different;
     }
-    tree.set_number(id, index as usize, element(size, number));
+    let word = changed(tree.number(id, index as usize), kind, 0, number);
+    tree.set_number(id, index as usize, word);
     Done::Made
 }
 
-/// The same of an element of a list of structs.
-fn change_element<A: BuilderArena>(
+/// Changes a number of a list that is a node's value, on both sides.
+pub fn change_list<A: BuilderArena>(
     memory: &mut Memory<A>,
     tree: &mut Tree,
     id: usize,
-    start: Place,
-    shape: Shape,
+    list: ListPlace,
     random: &mut Random,
 ) -> Done
     ensures { A.books memory.new.arena ≡ A.books memory.old.arena }
 {
-    let Shape::Structs {
-        count,
-        data_words,
-        pointers,
-    } = shape
-    else {
-        return Done::Different;
-    };
-    if count == 0 {
-        return Done::Refused;
+    if list.count == 0 || list.size == ElementSize::Pointer {
+        return Done::Made;
     }
-    let index = (random.next() % count as u64) as usize;
-    let width = (data_words as usize).saturating_add(pointers as usize);
-    let place = StructPlace {
-        start: after(start, index.saturating_mul(width).saturating_add(1)),
-        data_words,
-        pointers,
-    };
-    let from = index.saturating_mul(data_words as usize);
-    change_struct(memory, tree, id, from, place, random)
+    let index = (random.next() % list.count as u64) as u32;
+    if list.size != ElementSize::InlineComposite {
+        return change_number(memory, tree, id, list, index, random);
+    }
+    match struct_of(memory, list, index) {
+        Some(place) => {
+            let from = (index as usize).saturating_mul(list.data_words as usize);
+            change_struct(memory, tree, id, from, place, random)
+        }
+        None => Done::Different,
+    }
 }

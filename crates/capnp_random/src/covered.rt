@@ -167,6 +167,20 @@ fn numbers_span(start: Place, size: ElementSize, count: u32) -> Option<(Place, u
     }
 }
 
+/// Whether the tag of a list of structs, where one has to be, tells their count and sizes.
+fn tag_is<A: ReaderArena>(arena: &A, start: Place, shape: Shape) -> bool {
+    let Shape::Structs {
+        count,
+        data_words,
+        pointers,
+    } = shape
+    else {
+        return true;
+    };
+    let sizes = data_words as u64 | (pointers as u64) << 16;
+    word_at(arena, start) == Some((count as u64) << 2 | sizes << 32)
+}
+
 /// Marks the words of what a pointer leads to, with its pads, up to so many levels deep. Whether the objects are those of the node and lie apart.
 #[cycle(cover)]
 fn cover<A: ReaderArena>(
@@ -190,6 +204,9 @@ fn cover<A: ReaderArena>(
     let Some((start, words)) = span_of(found.object, node.shape) else {
         return false;
     };
+    if !tag_is(arena, start, node.shape) {
+        return false;
+    }
     if !marks.mark(start, words) || !marks.mark(place_in_word(word), found.pads as usize) {
         return false;
     }

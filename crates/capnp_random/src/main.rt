@@ -5,24 +5,34 @@
 
 ghost use Rattle.std.specs.Prelude.{◌≡◌, ◌≤◌, length};
 
+mod agreement;
+mod blobs;
 mod calls;
 mod changes;
+mod contents;
+mod copies;
 mod covered;
+mod gets;
+mod grafts;
+mod handles;
+mod inits;
+mod outcomes;
+mod parts;
 mod random;
 mod readers;
 mod segments;
 mod tree;
+mod walks;
+mod widths;
+mod writes;
 
-use calls::{Done, call};
+use agreement::agrees;
+use calls::call;
 use capnp_copy::allocator::Allocator;
 use capnp_copy::arena::{BuilderArena, Memory};
 use capnp_copy::segments::BuilderArenaImpl;
-use capnp_units::limiter::ReadLimiter;
-use capnp_wire::arena::ReaderArena;
-use capnp_wire::pointer::PointerReader;
-use covered::is_covered;
+use outcomes::Done;
 use random::{Digest, Random};
-use readers::is_value;
 use segments::Small;
 use std::alloc::{AllocError, Global};
 use std::process::ExitCode;
@@ -32,88 +42,94 @@ use tree::Tree;
 /// How many calls are made where no number is given.
 const CALLS: u32 = 1000;
 
-/// How many calls are made on one message.
-const CALLS_A_MESSAGE: u32 = 50;
+/// How many calls are made on two messages that copy from each other.
+const CALLS_A_PAIR: u32 = 100;
 
-/// The most levels of pointers of a message.
-const LEVELS: u32 = 64;
-
-/// Whether what the readers see of a message is the tree, in words of its own, and every other word is zero.
-fn agrees<A: ReaderArena>(alloc: Global, arena: &A, tree: &Tree) -> Result<bool, AllocError> {
-    let Ok(root) = PointerReader::get_root_from_arena(arena) else {
-        return Ok(false);
-    };
-    let id = tree.at(tree::ROOT).unwrap_or(0);
-    let mut limiter = ReadLimiter::new(None);
-    if !is_value(root, &mut limiter, tree, id, LEVELS) {
-        return Ok(false);
-    }
-    is_covered(alloc, arena, tree, LEVELS)
-}
-
-/// Makes a call, and tells whether message and tree then go together.
-fn step<A: BuilderArena>(
+/// Makes a call, which may copy from another message, and tells whether message and tree then go together.
+fn step<A: BuilderArena, B: BuilderArena>(
     alloc: Global,
     memory: &mut Memory<A>,
     tree: &mut Tree,
+    other: &Memory<B>,
+    from: &Tree,
     random: &mut Random,
     digest: &mut Digest,
 ) -> Result<bool, AllocError>
     ensures { A.books memory.new.arena ≡ A.books memory.old.arena }
 {
-    let done = call(alloc, memory, tree, random)?;
+    let done = call(alloc, memory, tree, &other.arena, from, random)?;
     digest.add(done as u64);
     digest.add(memory.arena.size_in_words() as u64);
     Ok(done != Done::Different && agrees(alloc, &memory.arena, tree)?)
 }
 
-/// Builds a message by so many calls. Whether it went together with its tree after each.
-fn build<A: BuilderArena>(
+/// Makes the word of a message's root pointer. Whether it is the first.
+fn begin<A: BuilderArena>(memory: &mut Memory<A>) -> bool
+    ensures { A.books memory.new.arena ≡ A.books memory.old.arena }
+{
+    match memory.arena.allocate_anywhere(1) {
+        Ok((0, 0)) => true,
+        _ => false,
+    }
+}
+
+/// Builds two messages by so many calls. Whether they went together with their trees after each.
+fn build<A: BuilderArena, B: BuilderArena>(
     alloc: Global,
     memory: &mut Memory<A>,
+    other: &mut Memory<B>,
     random: &mut Random,
     digest: &mut Digest,
 ) -> Result<bool, AllocError>
-    ensures { A.books memory.new.arena ≡ A.books memory.old.arena }
+    ensures first { A.books memory.new.arena ≡ A.books memory.old.arena }
+    ensures second { B.books other.new.arena ≡ B.books other.old.arena }
 {
     let mut tree = Tree::new(alloc)?;
-    match memory.arena.allocate_anywhere(1) {
-        Ok((0, 0)) => {}
-        _ => return Ok(false),
+    let mut from = Tree::new(alloc)?;
+    if !begin(memory) || !begin(other) {
+        return Ok(false);
     }
-    for _ in 0..CALLS_A_MESSAGE {
-        if !step(alloc, memory, &mut tree, random, digest)? {
+    for _ in 0..CALLS_A_PAIR / 2 {
+        if !step(alloc, memory, &mut tree, other, &from, random, digest)?
+            || !step(alloc, other, &mut from, memory, &tree, random, digest)?
+        {
             return Ok(false);
         }
     }
     Ok(true)
 }
 
-/// Builds a message in segments of an allocator, which is handed back.
+/// Builds two messages in segments of allocators, which are handed back.
 fn build_in<A: Allocator + Drop>(
     alloc: Global,
-    allocator: A,
+    allocators: (A, A),
     random: &mut Random,
     digest: &mut Digest,
-) -> (Result<bool, AllocError>, A)
-    requires { length (A.loans allocator) ≤ 1 }
+) -> (Result<bool, AllocError>, A, A)
+    requires first { length (A.loans allocators.0) ≤ 1 }
+    requires second { length (A.loans allocators.1) ≤ 1 }
 {
     let mut memory = Memory {
-        arena: BuilderArenaImpl::new(alloc, allocator),
+        arena: BuilderArenaImpl::new(alloc, allocators.0),
     };
-    let good = build(alloc, &mut memory, random, digest);
+    let mut other = Memory {
+        arena: BuilderArenaImpl::new(alloc, allocators.1),
+    };
+    let good = build(alloc, &mut memory, &mut other, random, digest);
     let Memory { arena } = memory;
-    (good, arena.into_allocator())
+    let Memory { arena: second } = other;
+    (good, arena.into_allocator(), second.into_allocator())
 }
 
-/// Builds messages by so many calls. The number of the first message that differs from its tree, if there is one.
+/// Builds pairs of messages by so many calls. The number of the first pair that differs from its trees, if there is one.
 fn build_all(alloc: Global, calls: u32, digest: &mut Digest) -> Result<Option<u32>, AllocError> {
-    for message in 0..calls / CALLS_A_MESSAGE {
-        let allocator = Small::new(alloc, message as u64);
-        let mut random = Random::new(message as u64);
-        let (good, _allocator) = build_in(alloc, allocator, &mut random, digest);
+    for pair in 0..calls / CALLS_A_PAIR {
+        let seed = 2 * pair as u64;
+        let allocators = (Small::new(alloc, seed), Small::new(alloc, seed + 1));
+        let mut random = Random::new(pair as u64);
+        let (good, _first, _second) = build_in(alloc, allocators, &mut random, digest);
         if !good? {
-            return Ok(Some(message));
+            return Ok(Some(pair));
         }
     }
     Ok(None)
@@ -137,7 +153,7 @@ fn run(rt: &HostRuntime) -> io::Result<bool> {
             println!(rt; "{calls} calls made, digest {:x}", digest.0)?;
             return Ok(true);
         }
-        Ok(Some(message)) => eprintln!(rt; "message {message} differs from its tree")?,
+        Ok(Some(pair)) => eprintln!(rt; "a message of pair {pair} differs from its tree")?,
         Err(_) => eprintln!(rt; "no memory")?,
     }
     Ok(false)

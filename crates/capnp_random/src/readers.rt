@@ -86,7 +86,7 @@ fn pointers_are<A: ReaderArena>(
 }
 
 /// The list as one of structs, where it can be read so.
-fn structs_of<'a, A: ReaderArena>(
+pub fn structs_of<'a, A: ReaderArena>(
     pointer: PointerReader<'a, A>,
     limiter: &mut ReadLimiter,
 ) -> Option<ListReader<'a, A>>

@@ -7,7 +7,7 @@ use capnp_units::errors::{Error, Result};
 use capnp_units::kinds::ErrorKind;
 use std::alloc::Global;
 
-/// Hands out segments of a few words more than are asked for, and refuses one of sixteen, but not the first.
+/// Hands out segments of a few words more than are asked for, and refuses one of six, but not the first.
 #[derive(Drop)]
 pub struct Small {
     alloc: Global,
@@ -26,7 +26,7 @@ impl Small {
 }
 
 /// The most words of a segment behind those that are asked for.
-const MORE: usize = 24;
+const MORE: usize = 12;
 
 impl Allocator for Small {
     type Segment = Vec<u8>;
@@ -36,7 +36,7 @@ impl Allocator for Small {
     ghost place = { λ _. [] };
 
     fn allocate_segment(&mut self, minimum: u32) -> Result<Vec<u8>> {
-        if self.begun && self.random.below(16) == 0 {
+        if self.begun && self.random.below(6) == 0 {
             return Err(Error::from(ErrorKind::OutOfMemory));
         }
         self.begun = true;

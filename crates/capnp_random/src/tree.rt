@@ -143,22 +143,36 @@ impl Tree {
         }
     }
 
-    /// Makes a pointer lead to a new node, or null.
-    pub fn put(&mut self, slot: Slot, node: Option<Node>) -> Result<(), AllocError> {
-        let id = match node {
-            Some(node) => {
-                let id = self.nodes.len();
-                self.nodes.push(node)?;
-                id
-            }
-            None => 0,
-        };
+    /// Puts another node in place of one.
+    pub fn replace(&mut self, id: usize, node: Node) {
+        if id < self.nodes.len() {
+            self.nodes[id] = node;
+        }
+    }
+
+    /// Makes a pointer lead to a node that is there, or null by 0.
+    pub fn link(&mut self, slot: Slot, id: usize) {
         if slot.node < self.nodes.len() {
             let holder = &mut self.nodes[slot.node];
             if slot.kid < holder.kids.len() {
                 holder.kids[slot.kid] = id;
             }
         }
-        Ok(())
+    }
+
+    /// Makes a pointer lead to a new node. Its number.
+    pub fn put_new(&mut self, slot: Slot, node: Node) -> Result<usize, AllocError> {
+        let id = self.nodes.len();
+        self.nodes.push(node)?;
+        self.link(slot, id);
+        Ok(id)
+    }
+
+    /// The shape of the value that a pointer leads to.
+    pub fn shape_at(&self, slot: Slot) -> Shape {
+        match self.at(slot) {
+            Some(id) => self.shape_of(id),
+            None => Shape::Null,
+        }
     }
 }

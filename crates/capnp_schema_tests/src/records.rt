@@ -1,3 +1,5 @@
 //! Tests of `capnp_records`.
 
+mod order_tests;
 mod tests;
+mod value_tests;

@@ -6,7 +6,7 @@ use capnp_allocators::opening::OpensSegment;
 use capnp_copy::allocator::{Allocator, SegmentBytes};
 use capnp_message::message::{
     Builder, DEFAULT_READER_OPTIONS, HeapAllocator, Reader, ScratchSpaceHeapAllocator,
-    SegmentArray, TypedBuilder, TypedReader,
+    SegmentArray, SingleSegmentAllocator, TypedBuilder, TypedReader,
 };
 use capnp_text::text;
 use capnp_units::errors::{Error, Result};
@@ -168,7 +168,7 @@ fn a_root_is_set_again(rt: HostRuntime) -> std::result::Result<(), Fail> {
     assert_eq!(rt; words, 4);
     assert_eq!(rt; text.as_slice(), b"Hello, World!\0".as_slice());
     let mut short = [0xeeu8; 23];
-    let mut single = capnp_allocators::single::SingleSegmentAllocator::new(&mut short);
+    let mut single = SingleSegmentAllocator::new(&mut short);
     let full = two_texts(rt.alloc(), &mut single, "hi", "Hello, World!");
     assert_eq!(rt;
         full.err(),
@@ -191,6 +191,10 @@ fn a_root_is_set_to_canonical_words(rt: HostRuntime) -> std::result::Result<(), 
     let bytes = canonical_in(rt.alloc(), &mut region, &source)?;
     assert_eq!(rt; bytes.as_slice(), second.as_slice());
     assert!(rt; region.iter().all(|byte| *byte == 0));
+    let mut single = SingleSegmentAllocator::new(&mut region);
+    let bytes = canonical(rt.alloc(), &mut single, &source)?;
+    assert_eq!(rt; bytes.as_slice(), second.as_slice());
+    assert_eq!(rt; source.is_canonical(&mut ReadLimiter::new(None))?, false);
     let empty = Reader::new(SegmentArray::new(&[]), DEFAULT_READER_OPTIONS);
     let refused = canonical(rt.alloc(), &mut heap, &empty);
     assert_eq!(rt; refused.err(), Some(Error::from(ErrorKind::OutOfBounds)));

@@ -48,6 +48,9 @@ const NONE_THEN_NULL: [u8; 24] = [
     0, 0, 0, 0, 0, 0, 0, 0, 0, 0, 0, 0, 1, 0, 0, 0, 0, 0, 0, 0, 0, 0, 0, 0,
 ];
 
+/// A list of no voids.
+const LIST: [u8; 16] = [0, 0, 0, 0, 1, 0, 0, 0, 1, 0, 0, 0, 0, 0, 0, 0];
+
 /// The first message of a text, copied canonically into a builder, where a text is the root before or none, and written.
 fn rewritten<L: Allocator>(
     alloc: Global,
@@ -120,6 +123,8 @@ fn messages_are_rewritten_over_each_allocator(rt: HostRuntime) -> std::result::R
     assert_eq!(rt; wide.as_slice(), TRIMMED.as_slice());
     let two = over_each(rt.alloc(), &TWO, None)?;
     assert_eq!(rt; two.as_slice(), TWO.as_slice());
+    let list = over_each(rt.alloc(), &LIST, None)?;
+    assert_eq!(rt; list.as_slice(), LIST.as_slice());
     Ok(())
 }
 

@@ -17,18 +17,18 @@ use capnp_wire::pointer::PointerReader;
 use std::alloc::{AllocError, Global};
 use std::test::Fail;
 
-type Arena<'a> = ReaderArenaImpl<&'a [&'a [u8]]>;
+pub(crate) type Arena<'a> = ReaderArenaImpl<&'a [&'a [u8]]>;
 
 // ---- schemas
 
-fn of(base: BaseType) -> TypeRecord {
+pub(crate) fn of(base: BaseType) -> TypeRecord {
     TypeRecord {
         list_count: 0,
         base,
     }
 }
 
-fn field(
+pub(crate) fn field(
     alloc: Global,
     name: &str,
     member: u16,
@@ -43,7 +43,7 @@ fn field(
 }
 
 /// A field that is no member: a slot.
-fn slot(
+pub(crate) fn slot(
     alloc: Global,
     name: &str,
     ty: TypeRecord,
@@ -59,7 +59,12 @@ fn slot(
 }
 
 /// A number of 16 bits that is a union member.
-fn member(alloc: Global, name: &str, offset: u32, value: u16) -> Result<FieldRecord, AllocError> {
+pub(crate) fn member(
+    alloc: Global,
+    name: &str,
+    offset: u32,
+    value: u16,
+) -> Result<FieldRecord, AllocError> {
     let body = FieldBody::Slot {
         offset,
         ty: of(BaseType::UInt16),
@@ -69,13 +74,13 @@ fn member(alloc: Global, name: &str, offset: u32, value: u16) -> Result<FieldRec
 }
 
 /// A number of 16 bits.
-fn number(alloc: Global, name: &str, offset: u32) -> Result<FieldRecord, AllocError> {
+pub(crate) fn number(alloc: Global, name: &str, offset: u32) -> Result<FieldRecord, AllocError> {
     let default = Some(Value::UInt16(0));
     slot(alloc, name, of(BaseType::UInt16), offset, default)
 }
 
 /// The node of a struct, with the discriminant, if there are members, at the second 16 bits.
-fn node(
+pub(crate) fn node(
     alloc: Global,
     id: u64,
     is_group: bool,
@@ -99,7 +104,7 @@ fn node(
 }
 
 /// P (1): a, t. Q (2): items List(P). U (3): u, v in a union, then w. G (5): group g of x, y; z.
-fn records(alloc: Global) -> Result<SchemaSet, Fail> {
+pub(crate) fn records(alloc: Global) -> Result<SchemaSet, Fail> {
     let items = TypeRecord {
         list_count: 1,
         base: BaseType::Struct(1),
@@ -130,7 +135,7 @@ fn records(alloc: Global) -> Result<SchemaSet, Fail> {
 }
 
 /// K (7): every other sort of field. E (8) has two names.
-fn kinds(alloc: Global) -> Result<SchemaSet, Fail> {
+pub(crate) fn kinds(alloc: Global) -> Result<SchemaSet, Fail> {
     let void = slot(alloc, "v", of(BaseType::Void), 0, Some(Value::Void))?;
     let bit = slot(alloc, "b", of(BaseType::Bool), 0, Some(Value::Bool(true)))?;
     let byte = slot(alloc, "i", of(BaseType::Int8), 1, Some(Value::Int8(0)))?;
@@ -159,28 +164,9 @@ fn kinds(alloc: Global) -> Result<SchemaSet, Fail> {
     Ok(SchemaSet::new(nodes).ok().ok_or("accepted")?)
 }
 
-/// So many structs of one id each from 100 on, each with a union of a number and, as its second member, a struct of the next id, whose default has that member null; the last has none but the number.
-fn chain(alloc: Global, count: u64) -> Result<SchemaSet, Fail> {
-    let mut nodes = Vec::new(alloc);
-    for i in 0..count {
-        let words = [0, 0, 0, 0, 1, 0, 0, 0, 0, 0, 1, 0, 0, 0, 0, 0];
-        let id = 100u64.saturating_add(i);
-        let next = FieldBody::Slot {
-            offset: 0,
-            ty: of(BaseType::Struct(id.saturating_add(1))),
-            default: Some(Value::Struct(words.to_vec(alloc)?)),
-        };
-        let fields = vec![in alloc; member(alloc, "u", 0, 0)?, field(alloc, "n", 1, next)?]?;
-        nodes.push(node(alloc, id, false, (1, 1, 2), fields)?)?;
-    }
-    let last = vec![in alloc; number(alloc, "u", 0)?]?;
-    nodes.push(node(alloc, 100u64.saturating_add(count), false, (1, 0, 0), last)?)?;
-    Ok(SchemaSet::new(nodes).ok().ok_or("accepted")?)
-}
-
 // ---- values
 
-fn root<'a>(
+pub(crate) fn root<'a>(
     arena: &'a Arena<'a>,
     set: &'a SchemaSet,
     id: u64,
@@ -196,7 +182,7 @@ fn root<'a>(
 }
 
 /// The text of the root of a message, behind what was there.
-fn text(
+pub(crate) fn text(
     alloc: Global,
     set: &SchemaSet,
     id: u64,
@@ -221,11 +207,21 @@ fn text(
     }
 }
 
-fn plain(alloc: Global, set: &SchemaSet, id: u64, bytes: &[u8]) -> Result<Vec<u8>, Fail> {
+pub(crate) fn plain(
+    alloc: Global,
+    set: &SchemaSet,
+    id: u64,
+    bytes: &[u8],
+) -> Result<Vec<u8>, Fail> {
     Ok(text(alloc, set, id, bytes, false)?.ok().ok_or("printed")?)
 }
 
-fn indented(alloc: Global, set: &SchemaSet, id: u64, bytes: &[u8]) -> Result<Vec<u8>, Fail> {
+pub(crate) fn indented(
+    alloc: Global,
+    set: &SchemaSet,
+    id: u64,
+    bytes: &[u8],
+) -> Result<Vec<u8>, Fail> {
     Ok(text(alloc, set, id, bytes, true)?.ok().ok_or("printed")?)
 }
 
@@ -371,39 +367,5 @@ fn faults_leave_the_vector(rt: HostRuntime) -> Result<(), Fail> {
     let past = [0, 0, 0, 0, 0, 0, 1, 0, 9, 0, 0, 0, 0x12, 0, 0, 0];
     let error = text(alloc, &set, 1, &past, true)?.err().ok_or("refused")?;
     assert_eq!(rt; error.kind, ErrorKind::OutOfBounds);
-    Ok(())
-}
-
-#[test]
-fn defaults_of_null_members(rt: HostRuntime) -> Result<(), Fail> {
-    let alloc = rt.alloc();
-    let second = [0, 0, 0, 0, 1, 0, 0, 0, 0, 0, 1, 0, 0, 0, 0, 0];
-    let set = chain(alloc, 2)?;
-    assert_eq!(rt;
-        plain(alloc, &set, 100, &second)?.as_slice(),
-        b">(n = (n = (u = 0)))".as_slice()
-    );
-    assert_eq!(rt;
-        plain(alloc, &set, 100, &[0; 8])?.as_slice(),
-        b">(u = 0)".as_slice()
-    );
-    let set = chain(alloc, 64)?;
-    let mut expected = b">".to_vec(alloc)?;
-    for _ in 0u8..64 {
-        expected.extend_from_slice(b"(n = ")?;
-    }
-    expected.extend_from_slice(b"(u = 0)")?;
-    for _ in 0u8..64 {
-        expected.push(b')')?;
-    }
-    assert_eq!(rt;
-        plain(alloc, &set, 100, &second)?.as_slice(),
-        expected.as_slice()
-    );
-    let set = chain(alloc, 65)?;
-    let error = text(alloc, &set, 100, &second, false)?
-        .err()
-        .ok_or("refused")?;
-    assert_eq!(rt; error.kind, ErrorKind::NestingLimitExceeded);
     Ok(())
 }

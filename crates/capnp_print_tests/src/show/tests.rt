@@ -124,19 +124,22 @@ fn records(alloc: Global) -> Result<SchemaSet, Fail> {
 
 // ---- what is shown
 
-const DEFAULT: ReaderOptions = ReaderOptions {
+pub(crate) const DEFAULT: ReaderOptions = ReaderOptions {
     traversal_limit_in_words: Some(8_388_608),
     nesting_limit: 64,
 };
 
-fn limited(traversal_limit_in_words: Option<usize>, nesting_limit: i32) -> ReaderOptions {
+pub(crate) fn limited(
+    traversal_limit_in_words: Option<usize>,
+    nesting_limit: i32,
+) -> ReaderOptions {
     ReaderOptions {
         traversal_limit_in_words,
         nesting_limit,
     }
 }
 
-fn shown(
+pub(crate) fn shown(
     alloc: Global,
     id: u64,
     bytes: &[u8],

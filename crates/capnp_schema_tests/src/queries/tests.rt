@@ -14,7 +14,7 @@ use capnp_text::{data, text};
 use capnp_units::kinds::ErrorKind;
 use capnp_units::sizes::ElementSize;
 use std::alloc::{AllocError, Global};
-use std::collections::HashSet;
+use std::collections::{HashMap, HashSet};
 use std::test::Fail;
 
 fn slot(
@@ -225,21 +225,46 @@ fn schemas_are_keys(rt: HostRuntime) -> Result<(), Fail> {
     let two = StructSchema::new(&set, set.struct_or_group_by_id(2).ok_or("2")?);
     let again = StructSchema::new(&set, set.struct_or_group_by_id(1).ok_or("1")?);
     assert!(rt; one != two && one == again);
-    let mut schemas = HashSet::new(rt.alloc());
-    assert!(rt; schemas.insert(one)? && schemas.insert(two)? && !schemas.insert(again)?);
+    let mut schemas = HashMap::new(rt.alloc());
+    let _none = schemas.insert(one, 1u8)?;
+    let _none = schemas.insert(two, 2u8)?;
+    assert_eq!(rt; schemas.len(), 2);
+    assert_eq!(rt; schemas.get(&again), Some(&1));
     let x = one.get_field_by_name("x")?;
     let y = one.get_field_by_name("y")?;
-    let mut fields = HashSet::new(rt.alloc());
-    assert!(rt; x != y && fields.insert(x)? && fields.insert(y)?);
-    assert!(rt; fields.contains(&again.get_field_by_name("x")?));
+    assert!(rt; x != y && x == again.get_field_by_name("x")?);
+    let mut fields = HashMap::new(rt.alloc());
+    let _none = fields.insert(x, 1u8)?;
+    let _none = fields.insert(y, 2u8)?;
+    assert_eq!(rt; fields.len(), 2);
+    assert_eq!(rt; fields.get(&again.get_field_by_name("y")?), Some(&2));
+    Ok(())
+}
+
+#[test]
+fn enumerants_are_keys(rt: HostRuntime) -> Result<(), Fail> {
+    let set = set(rt.alloc())?;
     let colours = EnumSchema::new(&set, set.enum_by_id(7).ok_or("7")?);
+    let again = EnumSchema::new(&set, set.enum_by_id(7).ok_or("7")?);
+    assert!(rt; colours == again && colours.get_proto().id == 7);
     let list = colours.get_enumerants()?;
     assert_eq!(rt; list.len(), 2);
     let red = list.get(0);
     let green = list.get(1);
-    let mut names = HashSet::new(rt.alloc());
-    assert!(rt; red != green && names.insert(red)? && names.insert(green)?);
-    assert!(rt; names.contains(&list.get(1)));
+    assert!(rt; red != green);
+    let mut names = HashMap::new(rt.alloc());
+    let _none = names.insert(red, 1u8)?;
+    let _none = names.insert(green, 2u8)?;
+    assert_eq!(rt; names.len(), 2);
+    let mut ordinal: u16 = 0;
+    for enumerant in again.get_enumerants()? {
+        assert_eq!(rt; enumerant.get_ordinal(), ordinal);
+        assert!(rt; enumerant.get_containing_enum() == colours);
+        assert!(rt; names.contains_key(&enumerant));
+        ordinal = ordinal.saturating_add(1);
+    }
+    assert_eq!(rt; ordinal, 2);
+    assert_eq!(rt; names.get(&list.get(1)), Some(&2));
     assert_eq!(rt; green.get_proto().name.as_str(), "green");
     assert!(rt; green.get_annotations()?.is_empty());
     Ok(())

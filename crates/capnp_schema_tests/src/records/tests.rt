@@ -9,7 +9,7 @@ use capnp_records::set::SchemaSet;
 use std::alloc::{AllocError, Global};
 use std::test::Fail;
 
-fn field(
+pub(crate) fn field(
     alloc: Global,
     name: &str,
     base: BaseType,
@@ -31,7 +31,7 @@ fn field(
     })
 }
 
-fn number(alloc: Global, name: &str, offset: u32) -> Result<FieldRecord, AllocError> {
+pub(crate) fn number(alloc: Global, name: &str, offset: u32) -> Result<FieldRecord, AllocError> {
     let zero = Some(Value::UInt16(0));
     field(alloc, name, BaseType::UInt16, offset, zero)
 }
@@ -52,7 +52,7 @@ fn member(
     Ok(number)
 }
 
-fn group_field(alloc: Global, name: &str, node: u64) -> Result<FieldRecord, AllocError> {
+pub(crate) fn group_field(alloc: Global, name: &str, node: u64) -> Result<FieldRecord, AllocError> {
     Ok(FieldRecord {
         name: String::from_str(alloc, name)?,
         discriminant_value: NO_DISCRIMINANT,
@@ -62,7 +62,7 @@ fn group_field(alloc: Global, name: &str, node: u64) -> Result<FieldRecord, Allo
 }
 
 /// A struct of so many data words and one pointer.
-fn structure(
+pub(crate) fn structure(
     alloc: Global,
     id: u64,
     data_word_count: u16,
@@ -118,7 +118,7 @@ fn pair(alloc: Global, a_offset: u32, more: Option<FieldRecord>) -> Result<NodeR
 }
 
 /// A union of two numbers of the same bits, with these discriminants.
-fn two_members(
+pub(crate) fn two_members(
     alloc: Global,
     second: u16,
     discriminant_offset: u32,
@@ -129,13 +129,13 @@ fn two_members(
     union(alloc, 3, false, discriminant_offset, fields)
 }
 
-fn fault_of(alloc: Global, node: NodeRecord) -> Result<Option<SchemaFault>, AllocError> {
+pub(crate) fn fault_of(alloc: Global, node: NodeRecord) -> Result<Option<SchemaFault>, AllocError> {
     let mut nodes = Vec::new(alloc);
     nodes.push(node)?;
     Ok(SchemaSet::new(nodes).err())
 }
 
-fn fault_of_two(
+pub(crate) fn fault_of_two(
     alloc: Global,
     first: NodeRecord,
     second: NodeRecord,
@@ -146,7 +146,7 @@ fn fault_of_two(
     Ok(SchemaSet::new(nodes).err())
 }
 
-fn rule(rule: u32, node: usize) -> Option<SchemaFault> {
+pub(crate) fn rule(rule: u32, node: usize) -> Option<SchemaFault> {
     Some(SchemaFault::Rule { rule, node })
 }
 

@@ -31,6 +31,29 @@ const EMPTY_STRUCTS: &[u8] = &[1, 0, 0, 0, 7, 0, 0, 0, 0xfc, 0xff, 0xff, 0x7f, 0
 
 const VOIDS: &[u8] = &[1, 0, 0, 0, 0xf8, 0xff, 0xff, 0xff];
 
+/// A list of the structs 5 and 6 behind a pointer, each with a null, and without it.
+const WITH_NULLS: &[u8] = &[
+    0, 0, 0, 0, 0, 0, 1, 0, 1, 0, 0, 0, 0x27, 0, 0, 0, 8, 0, 0, 0, 1, 0, 1, 0, 5, 0, 0, 0, 0, 0, 0,
+    0, 0, 0, 0, 0, 0, 0, 0, 0, 6, 0, 0, 0, 0, 0, 0, 0, 0, 0, 0, 0, 0, 0, 0, 0,
+];
+
+const WITHOUT_NULLS: &[u8] = &[
+    0, 0, 0, 0, 0, 0, 1, 0, 1, 0, 0, 0, 0x17, 0, 0, 0, 8, 0, 0, 0, 1, 0, 0, 0, 5, 0, 0, 0, 0, 0, 0,
+    0, 6, 0, 0, 0, 0, 0, 0, 0,
+];
+
+/// Two structs, of a number and a text each.
+const STRUCTS: &[u8] = &[
+    1, 0, 0, 0, 0x27, 0, 0, 0, 8, 0, 0, 0, 1, 0, 1, 0, 5, 0, 0, 0, 0, 0, 0, 0, 9, 0, 0, 0, 0x12, 0,
+    0, 0, 6, 0, 0, 0, 0, 0, 0, 0, 5, 0, 0, 0, 0x12, 0, 0, 0, 0x61, 0, 0, 0, 0, 0, 0, 0, 0x62, 0, 0,
+    0, 0, 0, 0, 0,
+];
+
+/// A struct of two pointers: null, and to 2^29 - 1 voids.
+const VOIDS_BEHIND: &[u8] = &[
+    0, 0, 0, 0, 0, 0, 2, 0, 0, 0, 0, 0, 0, 0, 0, 0, 1, 0, 0, 0, 0xf8, 0xff, 0xff, 0xff,
+];
+
 /// What a walk tells, with the head that it leaves, and what it took of the budget.
 #[derive(Drop)]
 struct Outcome {
@@ -87,6 +110,30 @@ fn words_that_a_canonical_value_lacks(rt: HostRuntime) -> Result<(), Fail> {
     assert_eq!(rt; (far.answer?, far.head), (false, 1));
     let alone = ask(&[FAR_TARGET], 64, Some(1000))?;
     assert_eq!(rt; (alone.answer?, alone.head), (true, 2));
+    Ok(())
+}
+
+#[test]
+fn lists_at_roots_and_behind_them(rt: HostRuntime) -> Result<(), Fail> {
+    let wide = ask(&[WITH_NULLS], 64, Some(1000))?;
+    assert_eq!(rt; (wide.answer?, wide.head), (false, 1));
+    assert_eq!(rt; (wide.granted, wide.followed), (6, 2));
+    let least = ask(&[WITHOUT_NULLS], 64, Some(1000))?;
+    assert_eq!(rt; (least.answer?, least.head), (true, 5));
+    assert_eq!(rt; (least.granted, least.followed), (4, 2));
+    let structs = ask(&[STRUCTS], 64, Some(1000))?;
+    assert_eq!(rt; (structs.answer?, structs.head), (true, 8));
+    assert_eq!(rt; (structs.granted, structs.followed), (7, 3));
+    let voids = ask(&[VOIDS_BEHIND], 64, Some(1000))?;
+    assert_eq!(rt;
+        voids.answer.err(),
+        Some(Error::from(ErrorKind::ReadLimitExceeded))
+    );
+    assert_eq!(rt; (voids.head, voids.granted, voids.followed), (1, 2, 3));
+    let empty = ask(&[&[1, 0, 0, 0, 0, 0, 0, 0]], 64, Some(0))?;
+    assert_eq!(rt; (empty.answer?, empty.head), (true, 1));
+    let outside = Some(Error::from(ErrorKind::OutOfBounds));
+    assert_eq!(rt; ask(&[&[]], 64, None).err(), outside);
     Ok(())
 }
 

@@ -23,14 +23,14 @@ clear-returns-then-word-eq0-clause-clears g t c =
     let e : unwrap_or (word_at s (place_view c.args.slot)) 0 ≡ 0 = search rules in
     clears_null s (place_view c.args.slot) e
 
-pub clear-returns-in-Ok-clause-clears : goal.clear-returns-in-Ok-clause-clears
-clear-returns-in-Ok-clause-clears g t c =
+pub clear_there-returns-in-Ok-clause-clears : goal.clear_there-returns-in-Ok-clause-clears
+clear_there-returns-in-Ok-clause-clears g t c =
     let s = words_in (g.A.ReaderArena.segments c.args.arena.now) in
-    clears_found s (words_in (g.A.ReaderArena.segments c.write_null.new.arena)) (words_in (g.A.ReaderArena.segments c.clear_object.new.arena)) (words_in (g.A.ReaderArena.segments c.zero_there.new.arena)) (place_view c.args.slot) (place_view c.place_in_word.result) (found_view c.in-Ok.found) c.unwrap_or-word.result
-    (search rules) (omega (arith, c.if-word-eq0.false)) c.in-Ok.ensures.found c.write_null.ensures.words c.clear_object.ensures.clears c.place_in_word.ensures c.zero_there.ensures.words
+    clears_found s (words_in (g.A.ReaderArena.segments c.write_null.new.arena)) (words_in (g.A.ReaderArena.segments c.clear_object.new.arena)) (words_in (g.A.ReaderArena.segments c.zero_there.new.arena)) (place_view c.args.slot) (place_view c.place_in_word.result) (found_view c.in-Ok.found) c.args.word
+    (sym c.requires.there) c.requires.some c.in-Ok.ensures.found c.write_null.ensures.words c.clear_object.ensures.clears c.place_in_word.ensures c.zero_there.ensures.words
 
-pub clear-returns-in_default-clause-clears : goal.clear-returns-in_default-clause-clears
-clear-returns-in_default-clause-clears g t c =
+pub clear_there-returns-in_default-clause-clears : goal.clear_there-returns-in_default-clause-clears
+clear_there-returns-in_default-clause-clears g t c =
     let s = words_in (g.A.ReaderArena.segments c.args.arena.now) in
     clears_fault s (words_in (g.A.ReaderArena.segments c.write_null.new.arena)) (place_view c.args.slot) (kind_of c.in_default.field-0.kind) (sym c.in_default.ensures.found)
 

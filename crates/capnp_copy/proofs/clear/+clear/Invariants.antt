@@ -8,19 +8,22 @@ use Rattle.capnp_copy.proofs.ClearedElements.{ElementsSoFar}
 use Rattle.capnp_copy.proofs.clear.+clear.Given as goal
 
 abbrev pub decreases-clear : goal.decreases-clear
-decreases-clear g l = 8 * nonzero_words (words_in (g.A.ReaderArena.segments l.arena.now))
+decreases-clear g l = 8 * nonzero_words (words_in (g.A.ReaderArena.segments l.arena.now)) + 1
+
+abbrev pub decreases-clear_there : goal.decreases-clear_there
+decreases-clear_there g l = 8 * nonzero_words (words_in (g.A.ReaderArena.segments l.arena.now))
 
 abbrev pub decreases-clear_object : goal.decreases-clear_object
-decreases-clear_object g l = 8 * nonzero_words (words_in (g.A.ReaderArena.segments l.arena.now)) + 4
+decreases-clear_object g l = 8 * nonzero_words (words_in (g.A.ReaderArena.segments l.arena.now)) + 5
 
 abbrev pub decreases-clear_list : goal.decreases-clear_list
-decreases-clear_list g l = 8 * nonzero_words (words_in (g.A.ReaderArena.segments l.arena.now)) + 3
+decreases-clear_list g l = 8 * nonzero_words (words_in (g.A.ReaderArena.segments l.arena.now)) + 4
 
 abbrev pub decreases-clear_elements : goal.decreases-clear_elements
-decreases-clear_elements g l = 8 * nonzero_words (words_in (g.A.ReaderArena.segments l.arena.now)) + 2
+decreases-clear_elements g l = 8 * nonzero_words (words_in (g.A.ReaderArena.segments l.arena.now)) + 3
 
 abbrev pub decreases-clear_kids : goal.decreases-clear_kids
-decreases-clear_kids g l = 8 * nonzero_words (words_in (g.A.ReaderArena.segments l.arena.now)) + 1
+decreases-clear_kids g l = 8 * nonzero_words (words_in (g.A.ReaderArena.segments l.arena.now)) + 2
 
 -- the children of the first i are null
 abbrev pub invariant-clear_elements-loop-i : goal.invariant-clear_elements-loop-i

@@ -1,4 +1,4 @@
-use Rattle.std.proofs.Common.{rules, ◌≡◌, ◌+◌, Some, true, false, sym, ap, subst, ◌∙◌}
+use Rattle.std.proofs.Common.{rules, ◌≡◌, Some, true, sym, ap, subst, ◌∙◌}
 use Rattle.capnp_model.specs.Accepted.{areas_of}
 use Rattle.capnp_model.specs.Edits.{mark, is_kept, cleared_body}
 use Rattle.capnp_records.specs.NodeViews.{field_of, member_of}

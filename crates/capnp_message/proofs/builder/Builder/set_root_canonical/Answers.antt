@@ -2,6 +2,7 @@ use Rattle.std.proofs.Common.{◌≡◌, ℕ, Option, ap, sym, ◌∙◌, arith}
 use Rattle.std.specs.Prelude.{unwrap_or}
 use Rattle.capnp_model.specs.Answers.{levels}
 use Rattle.capnp_model.specs.Segments.{root}
+use Rattle.capnp_model.specs.Traversal.{cost_at}
 use Rattle.capnp_model.specs.Trimming.{trim}
 use Rattle.capnp_units.specs.Segments.{words_in}
 use Rattle.capnp_message.specs.Built.{used_words}
@@ -26,4 +27,4 @@ returns-clause-copy g c =
     let level = ap (λ (l : Option ℕ). unwrap_or l 0) (sym c.levels.ensures) ∙ sym c.unwrap_or-levels.ensures in
     let read = c.values_that_are_read.ensures in
     let trims = c.trimmed_values.ensures in
-    set_again (levels o.nesting_limit) o.traversal_limit_in_words c.unwrap_or-levels.result s _ _ c.args.limiter.now c.canonicalize.new.limiter c.in_ok-words.words c.deref-2.result.now c.replace_root.result some level c.in_ok-words.ensures c.deref-2.ensures.value c.replace_root.ensures.copy (λ n v t l. c.words_mean_their_value.ensures.means (trim v) n (trims.fits v (read.fits n s root v t)) (omega (arith, trims.depth v, read.deep n s root v t)) (omega (arith, l)))
+    set_again (levels o.nesting_limit) o.traversal_limit_in_words c.unwrap_or-levels.result s _ _ c.args.limiter.now c.canonicalize.new.limiter c.in_ok-words.words c.deref-2.result.now c.replace_root.result some level c.in_ok-words.ensures c.deref-2.ensures.value c.replace_root.ensures.copy (λ n v t l. c.words_mean_their_value.ensures.means (trim v) n (trims.fits v (read.fits n s root v t)) (omega (arith, trims.depth v, read.deep n s root v t)) (omega (arith, l))) (λ n s v t. (cost_at n s root, c.values_on_walks.ensures.cost n s root v t))

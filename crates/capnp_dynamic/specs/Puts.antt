@@ -1,0 +1,62 @@
+-- What a call answers that puts content into a field, and what it leaves. (Encoding, "Structs", "Lists", "Blobs")
+use Rattle.std.specs.Prelude.{◌≡◌, ◌⊎◌, ⊤, ℕ, suc, ◌+◌, ◌*◌, ◌^◌, ◌≤◌, List, map, length, Result, Ok, Err, OnOk, IfErr}
+use Rattle.capnp_model.specs.Kinds.{Kind}
+use Rattle.capnp_model.specs.Segments.{Segments}
+use Rattle.capnp_model.specs.Trees.{Tree, null, capability, structure, plain_list, pointer_list, struct_list, Trees, tree_count, element_count}
+use Rattle.capnp_model.specs.Sizes.{object_words}
+use Rattle.capnp_model.specs.Calls.{Content, refused_by, bits_of, object}
+use Rattle.capnp_model.specs.Edits.{Edit}
+use Rattle.capnp_units.specs.Segments.{words_in}
+use Rattle.capnp_units.specs.declared.errors.Error.{Error}
+use Rattle.capnp_object.specs.Places.{seen}
+use Rattle.capnp_footprints.specs.Footprints.{OwnsObject}
+use Rattle.capnp_footprints.specs.Changes.{ReplacesObject}
+use Rattle.capnp_copy.specs.Allocations.{TakesJust, TakesAtMost}
+use Rattle.capnp_copy.specs.Structs.{struct_at}
+use Rattle.capnp_copy.specs.declared.fields.StructPlace.{StructPlace}
+use Rattle.capnp_builders.specs.Making.{ArenaState, ListRefused}
+use Rattle.capnp_dynamic.specs.Edits.{Edits}
+
+-- What an arena holds, by the members that tell it.
+abbrev pub state_in : {A : Type 0} → (A → List (List ℕ)) → (A → List ℕ) → (A → List (List ℕ)) → A → ArenaState
+state_in segments room books arena = record { segments = segments arena; room = room arena; books = books arena }
+
+-- Whatever data and children the struct has become what the edit makes of them, where one level of pointers may be new, and nothing else changes.
+abbrev pub Deepens : Segments → Segments → StructPlace → Edit → Type 0
+Deepens s u p f =
+    (n section : ℕ) (kids : Trees) → OwnsObject n s (struct_at p) (structure p.data_words section kids)
+    → let c = f (record { section = section; kids = kids }) in ReplacesObject (suc n) s u (struct_at p) (structure p.data_words c.section c.kids)
+
+-- The same with a new object of so many words: it takes just these where the struct's segment had room, else at most a pad's more.
+pub record PutsObject (old new : ArenaState) (p : StructPlace) (f : Edit) (words : ℕ) : Type 0 where
+  pub writes : Deepens (words_in old.segments) (words_in new.segments) p f
+  pub taken : TakesJust (words_in old.segments) old.room (words_in new.segments) p.start.segment words
+  pub bound : TakesAtMost (words_in old.segments) (words_in new.segments) words 1
+
+-- No segment changes its length.
+pub record PutsBits (old new : ArenaState) (p : StructPlace) (f : Edit) : Type 0 where
+  pub writes : Edits (words_in old.segments) (words_in new.segments) p f
+  pub sizes : map length (words_in new.segments) ≡ map length (words_in old.segments)
+
+-- Whether a call was done, or the kind of its refusal.
+abbrev pub answered : {X : Type 0} → Result X Error → Result ⊤ Kind
+answered r = seen (λ x. tt) r
+
+-- The elements of a list are too many, or its words.
+abbrev pub IsTooLong : Tree → Type 0
+IsTooLong null = ⊥
+IsTooLong (capability i) = ⊥
+IsTooLong (structure words section kids) = ⊥
+IsTooLong (plain_list size n section) = 2 ^ 29 ≤ n
+IsTooLong (pointer_list ts) = 2 ^ 29 ≤ tree_count ts
+IsTooLong (struct_list words pointers es) = (2 ^ 29 ≤ element_count es) ⊎ (2 ^ 29 ≤ element_count es * (words + pointers))
+
+-- There is no room for the object, or it is a list that is too long.
+abbrev pub ObjectRefused : ArenaState → ℕ → Tree → Error → Type 0
+ObjectRefused old segment t = ListRefused old segment (IsTooLong t) (object_words t)
+
+-- What is answered, and what the struct becomes, by the content: what is refused by its type is just that; bits are never refused, and take no memory; an object is refused only for want of it.
+abbrev pub PutsContent : {X : Type 0} → ArenaState → ArenaState → StructPlace → Edit → Content → Result X Error → Type 0
+PutsContent old new p f (refused_by k) r = answered r ≡ Err k
+PutsContent old new p f (bits_of n) r = (answered r ≡ Ok tt) × PutsBits old new p f
+PutsContent old new p f (object t) r = OnOk r (PutsObject old new p f (object_words t)) × IfErr r (ObjectRefused old p.start.segment t)

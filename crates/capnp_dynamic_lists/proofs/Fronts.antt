@@ -1,0 +1,201 @@
+-- A number written into the front of an element, as the model's edit of it.
+use Rattle.std.proofs.Common.{◌≡◌, ℕ, zero, suc, ◌+◌, ◌*◌, ◌^◌, ◌<◌, ◌≤◌, List, [], ◌∷◌, length, map, Option, Some, None, refl, ap, sym, ◌∙◌, subst, arith}
+use Rattle.std.proofs.Math.Nat.{mod-lt}
+use Rattle.std.proofs.lemmas.Nat.{pow_pos}
+use Rattle.capnp_model.specs.Sections.{with_bits, numbers_in, number_of}
+use Rattle.capnp_model.specs.Segments.{Segments, Place, after}
+use Rattle.capnp_model.specs.Pointers.{a_struct, a_list}
+use Rattle.capnp_model.specs.Trees.{Tree, null, capability, structure, plain_list, pointer_list, struct_list, Trees, none, ◌▸◌, Elements, no_elements, element, element_count, size_bits}
+use Rattle.capnp_model.specs.Kinds.{TypeMismatch}
+use Rattle.capnp_model.specs.Schemas.{PlainType, width, Ty, void, plain, text, blob, untyped, interface, struct, list}
+use Rattle.capnp_model.specs.Calls.{Content, refused_by, bits_of}
+use Rattle.capnp_model.specs.Edits.{Edit, on_plain, put_bits, put_in_element, on_pointers, on_elements, edit_list}
+use Rattle.capnp_model.proofs.Numbers.{number_of-numbers_in}
+use Rattle.capnp_model.proofs.PointerWords.{list_kind_small}
+use Rattle.capnp_units.specs.Sizes.{size_number}
+use Rattle.capnp_units.specs.declared.sizes.ElementSize.{ElementSize}
+use Rattle.capnp_units.specs.declared.sizes.ElementSize.TheVariants.{Void, Bit, Byte, TwoBytes, FourBytes, EightBytes, Pointer, InlineComposite}
+use Rattle.capnp_wire.specs.Places.{place_view}
+use Rattle.capnp_object.specs.Objects.{AreThere}
+use Rattle.capnp_footprints.specs.Footprints.{object_footprint, OwnsObject}
+use Rattle.capnp_footprints.specs.Changes.{ReplacesObject}
+use Rattle.capnp_footprints.specs.Elements.{element_at, with_element}
+use Rattle.capnp_footprints.proofs.Algebra.{changes_nothing}
+use Rattle.capnp_copy.specs.Elements.{SetsElement}
+use Rattle.capnp_copy.specs.Structs.{struct_at, SetsBits}
+use Rattle.capnp_copy.specs.Lists.{list_at}
+use Rattle.capnp_copy.specs.declared.fields.StructPlace.{StructPlace}
+use Rattle.capnp_copy.specs.declared.init.ListPlace.{ListPlace}
+use Rattle.capnp_copy.proofs.ElementLaws.{plain_parts}
+use Rattle.capnp_copy.proofs.RoomLaws.{words_stay}
+use Rattle.capnp_values.specs.declared.dynamic_value.Reader.{Reader}
+use Rattle.capnp_dynamic.specs.Given.{plain_given, bits_given}
+use Rattle.capnp_dynamic_lists.specs.Lists.{IsListThere, EditsElement}
+use Rattle.capnp_dynamic_lists.specs.Elements.{plain_in, single_element, element_edit}
+use Rattle.capnp_dynamic_lists.proofs.PlainElements.{element_in_section}
+
+-- ---- plain elements
+
+-- the section of a list has no more bits than its elements
+small_section : (n : ℕ) (s : Segments) (o : ListPlace) (size m section : ℕ) → size < 6 → OwnsObject n s (a_list (place_view o.start) size m) (plain_list size m section) → section < 2 ^ (size_bits size * m)
+small_section n s o size m section lt owns =
+    let x = plain_parts n s (place_view o.start) size m section (list_kind_small size lt) owns.means in
+    subst (λ z. z < 2 ^ (size_bits size * m)) x.section_is (mod-lt _ (pow_pos (size_bits size * m)))
+
+plain_same : (n : ℕ) (s u : Segments) (o : ListPlace) (i width value size m section : ℕ) → size < 6 → width ≤ size_bits size → value < 2 ^ width → i < m
+    → ((n section : ℕ) → OwnsObject n s (a_list (place_view o.start) size m) (plain_list size m section) → ReplacesObject n s u (a_list (place_view o.start) size m) (plain_list size m (with_bits (size_bits size * i) width value section)))
+    → OwnsObject n s (a_list (place_view o.start) size m) (plain_list size m section) → ReplacesObject n s u (a_list (place_view o.start) size m) (edit_list (λ words pointers. put_bits 0 width value) i (plain_list size m section))
+plain_same n s u o i width value size m section lt le fits inside sets owns =
+    subst (λ z. ReplacesObject n s u (a_list (place_view o.start) size m) (plain_list size m z)) (sym (element_in_section (size_bits size) m i width value section le fits inside (small_section n s o size m section lt owns))) (sets n section owns)
+
+pub plain_front : (s u : Segments) (o : ListPlace) (i width value : ℕ) → size_number o.size < 6 → width ≤ size_bits (size_number o.size) → value < 2 ^ width → i < o.count → o.claimed ≡ o.count → SetsElement s u o i width value → EditsElement s u o (λ words pointers. put_bits 0 width value) i
+plain_front s u o i width value lt le fits inside counted sets n (plain_list size m section) is owns =
+    let p = place_view o.start in
+    let z = size_number o.size in
+    let f : Tree → Tree = edit_list (λ words pointers. put_bits 0 width value) i in
+    let P : ℕ → ℕ → ℕ → Type 0 = λ c y w. OwnsObject n s (a_list p z c) (plain_list y w section) → ReplacesObject n s u (a_list p z c) (f (plain_list y w section)) in
+    let all : P o.count z o.count = plain_same n s u o i width value z o.count section lt le fits inside sets in
+    let sized : P o.count size o.count = subst (λ y. P o.count y o.count) (sym is.0) all in
+    let long : P o.count size m = subst (λ w. P o.count size w) (sym is.2) sized in
+    let here : P o.claimed size m = subst (λ c. P c size m) (sym counted) long in
+    here owns
+plain_front s u o i width value lt le fits inside counted sets n (pointer_list ts) is owns = absurd (let e = is.0 in omega (arith, lt, e))
+plain_front s u o i width value lt le fits inside counted sets n (struct_list d k es) is owns = absurd (let e = is.0 in omega (arith, lt, e))
+plain_front s u o i width value lt le fits inside counted sets n null is owns = absurd is
+plain_front s u o i width value lt le fits inside counted sets n (capability c) is owns = absurd is
+plain_front s u o i width value lt le fits inside counted sets n (structure d section ts) is owns = absurd is
+
+-- ---- structs
+
+-- one of the elements, and what an edit makes of it
+record Cells (d i width value : ℕ) (es : Elements) : Type 0 where
+  section : ℕ
+  kids : Trees
+  here : element_at d es i ≡ structure d section kids
+  after_it : on_elements (put_bits 0 width value) i es ≡ with_element es i (with_bits 0 width value section) kids
+
+cells_of : (d i width value : ℕ) (es : Elements) → i < element_count es → Cells d i width value es
+cells_of d i width value no_elements l = absurd (omega (arith, l))
+cells_of d zero width value (element section kids es) l = record { section = section; kids = kids; here = refl; after_it = refl }
+cells_of d (suc i) width value (element section kids es) l =
+    let x = cells_of d i width value es (omega (arith, l)) in
+    record { section = x.section; kids = x.kids; here = x.here; after_it = ap (λ ys. element section kids ys) x.after_it }
+
+-- From a list of structs to its element, and back, as the laws of lists have it.
+abbrev pub Down : Type 0
+Down = (n : ℕ) (s : Segments) (p : Place) (m d k i : ℕ) (es : Elements) → i < element_count es → OwnsObject n s (a_list p 7 m) (struct_list d k es) → OwnsObject n s (a_struct (after (after p 1) (i * (d + k))) d k) (element_at d es i)
+
+abbrev pub Up : Type 0
+Up = (n : ℕ) (s u : Segments) (p : Place) (m d k i section : ℕ) (kids : Trees) (es : Elements) → i < element_count es → OwnsObject n s (a_list p 7 m) (struct_list d k es)
+    → ReplacesObject n s u (a_struct (after (after p 1) (i * (d + k))) d k) (structure d section kids) → ReplacesObject n s u (a_list p 7 m) (struct_list d k (with_element es i section kids))
+
+struct_same : Down → Up → (n : ℕ) (s u : Segments) (o : ListPlace) (e : StructPlace) (i width value d k : ℕ) (es : Elements) → d ≡ o.data_words → k ≡ o.pointers → e.data_words ≡ o.data_words → e.pointers ≡ o.pointers
+    → place_view e.start ≡ after (after (place_view o.start) 1) (i * (o.data_words + o.pointers)) → i < element_count es → SetsBits s u e 0 width value
+    → OwnsObject n s (a_list (place_view o.start) 7 o.claimed) (struct_list d k es) → ReplacesObject n s u (a_list (place_view o.start) 7 o.claimed) (edit_list (λ words pointers. put_bits 0 width value) i (struct_list d k es))
+struct_same down up n s u o e i width value d k es ed ek fd fk at l sets owns =
+    let p = place_view o.start in
+    let x = cells_of d i width value es l in
+    let same_d : e.data_words ≡ d = fd ∙ sym ed in
+    let same_k : e.pointers ≡ k = fk ∙ sym ek in
+    let where_it_is : place_view e.start ≡ after (after p 1) (i * (d + k)) = at ∙ ap (λ (j : ℕ). after (after p 1) (i * (j + o.pointers))) (sym ed) ∙ ap (λ (j : ℕ). after (after p 1) (i * (d + j))) (sym ek) in
+    let object : struct_at e ≡ a_struct (after (after p 1) (i * (d + k))) d k = ap (λ q. a_struct q e.data_words e.pointers) where_it_is ∙ ap (λ (j : ℕ). a_struct (after (after p 1) (i * (d + k))) j e.pointers) same_d ∙ ap (λ (j : ℕ). a_struct (after (after p 1) (i * (d + k))) d j) same_k in
+    let below : OwnsObject n s (a_struct (after (after p 1) (i * (d + k))) d k) (structure d x.section x.kids) = subst (λ t. OwnsObject n s (a_struct (after (after p 1) (i * (d + k))) d k) t) x.here (down n s p o.claimed d k i es l owns) in
+    let owned : OwnsObject n s (struct_at e) (structure e.data_words x.section x.kids) = subst (λ (j : ℕ). OwnsObject n s (struct_at e) (structure j x.section x.kids)) (sym same_d) (subst (λ y. OwnsObject n s y (structure d x.section x.kids)) (sym object) below) in
+    let put : ReplacesObject n s u (struct_at e) (structure e.data_words (with_bits 0 width value x.section) x.kids) = sets n x.section x.kids owned in
+    let there : ReplacesObject n s u (a_struct (after (after p 1) (i * (d + k))) d k) (structure d (with_bits 0 width value x.section) x.kids) = subst (λ y. ReplacesObject n s u y (structure d (with_bits 0 width value x.section) x.kids)) object (subst (λ (j : ℕ). ReplacesObject n s u (struct_at e) (structure j (with_bits 0 width value x.section) x.kids)) same_d put) in
+    subst (λ ys. ReplacesObject n s u (a_list p 7 o.claimed) (struct_list d k ys)) (sym x.after_it) (up n s u p o.claimed d k i (with_bits 0 width value x.section) x.kids es l owns there)
+
+pub struct_front : Down → Up → (s u : Segments) (o : ListPlace) (e : StructPlace) (i width value : ℕ) → size_number o.size ≡ 7 → i < o.count → e.data_words ≡ o.data_words → e.pointers ≡ o.pointers
+    → place_view e.start ≡ after (after (place_view o.start) 1) (i * (o.data_words + o.pointers)) → SetsBits s u e 0 width value → EditsElement s u o (λ words pointers. put_bits 0 width value) i
+struct_front down up s u o e i width value seven inside fd fk at sets n (struct_list d k es) is owns =
+    let f : Tree → Tree = edit_list (λ words pointers. put_bits 0 width value) i in
+    let count = is.3 in
+    let P : ℕ → Type 0 = λ z. OwnsObject n s (a_list (place_view o.start) z o.claimed) (struct_list d k es) → ReplacesObject n s u (a_list (place_view o.start) z o.claimed) (f (struct_list d k es)) in
+    let all : P 7 = struct_same down up n s u o e i width value d k es is.1 is.2 fd fk at (omega (arith, inside, count)) sets in
+    let here : P (size_number o.size) = subst P (sym seven) all in
+    here owns
+struct_front down up s u o e i width value seven inside fd fk at sets n (plain_list size m section) is owns = absurd (let e = is.0 in let l = is.1 in omega (arith, seven, e, l))
+struct_front down up s u o e i width value seven inside fd fk at sets n (pointer_list ts) is owns = absurd (let six = is.0 in omega (arith, seven, six))
+struct_front down up s u o e i width value seven inside fd fk at sets n null is owns = absurd is
+struct_front down up s u o e i width value seven inside fd fk at sets n (capability c) is owns = absurd is
+struct_front down up s u o e i width value seven inside fd fk at sets n (structure d section ts) is owns = absurd is
+
+-- ---- nothing is written
+
+same_numbers : (xs : List ℕ) (k : ℕ) → on_plain (λ c. c) k xs ≡ xs
+same_numbers [] k = refl
+same_numbers (x ∷ xs) zero = refl
+same_numbers (x ∷ xs) (suc k) = ap (λ ys. x ∷ ys) (same_numbers xs k)
+
+same_trees : (ts : Trees) (k : ℕ) → on_pointers (λ c. c) k ts ≡ ts
+same_trees none k = refl
+same_trees (t ▸ ts) zero = refl
+same_trees (t ▸ ts) (suc k) = ap (λ ys. t ▸ ys) (same_trees ts k)
+
+same_elements : (es : Elements) (k : ℕ) → on_elements (λ c. c) k es ≡ es
+same_elements no_elements k = refl
+same_elements (element section kids es) zero = refl
+same_elements (element section kids es) (suc k) = ap (λ ys. element section kids ys) (same_elements es k)
+
+stays : (n : ℕ) (s : Segments) (o : ListPlace) (t v : Tree) → t ≡ v → OwnsObject n s (list_at o) t → ReplacesObject n s s (list_at o) v
+stays n s o t v e owns = subst (λ y. ReplacesObject n s s (list_at o) y) e (record { means = owns.means; changes = changes_nothing s (object_footprint n s (list_at o)) })
+
+pub none_written : (s : Segments) (o : ListPlace) (i : ℕ) → (size_number o.size < 7 → o.claimed ≡ o.count) → EditsElement s s o (λ words pointers c. c) i
+none_written s o i counted n (plain_list size m section) is owns =
+    let P : ℕ → ℕ → Type 0 = λ z c. OwnsObject n s (a_list (place_view o.start) z c) (plain_list size m section) in
+    let sized : P size o.claimed = subst (λ z. P z o.claimed) (sym is.0) owns in
+    let long : o.claimed ≡ m = counted (let e = is.0 in let few = is.1 in omega (arith, e, few)) ∙ sym is.2 in
+    let small = small_section n s o size m section is.1 (subst (λ c. P size c) long sized) in
+    let same : section ≡ number_of (size_bits size) (on_plain (λ c. c) i (numbers_in (size_bits size) m section)) = sym (ap (number_of (size_bits size)) (same_numbers (numbers_in (size_bits size) m section) i) ∙ number_of-numbers_in (size_bits size) m section small) in
+    stays n s o (plain_list size m section) _ (ap (λ z. plain_list size m z) same) owns
+none_written s o i counted n (pointer_list ts) is owns = stays n s o (pointer_list ts) _ (ap pointer_list (sym (same_trees ts i))) owns
+none_written s o i counted n (struct_list d k es) is owns = stays n s o (struct_list d k es) _ (ap (struct_list d k) (sym (same_elements es i))) owns
+none_written s o i counted n null is owns = absurd is
+none_written s o i counted n (capability c) is owns = absurd is
+none_written s o i counted n (structure d section ts) is owns = absurd is
+
+-- ---- what the model puts
+
+pub edits_as : (s u : Segments) (o : ListPlace) (f g : ℕ → ℕ → Edit) (i : ℕ) → f ≡ g → EditsElement s u o f i → EditsElement s u o g i
+edits_as s u o f g i e h = subst (λ k. EditsElement s u o k i) e h
+
+pub plain_put : {A : Type 0} (v : Reader A) (ty : Ty) (p : PlainType) (n w : ℕ) → plain_in ty ≡ Some p → bits_given p (plain_given v) ≡ Some n → w ≡ width p → (λ words pointers. put_bits 0 w n) ≡ element_edit v ty
+plain_put v (plain q) p n w e given width_is =
+    let same : q ≡ p = cc in
+    let bits : bits_given q (plain_given v) ≡ Some n = ap (λ y. bits_given y (plain_given v)) same ∙ given in
+    let content : single_element v (plain q) ≡ bits_of n = ap (λ (g : Option ℕ). elim g as (λ (y : Option ℕ). Content) [ None ↦ refused_by TypeMismatch | Some m ↦ bits_of m ]) bits in
+    ap (λ (y : ℕ). λ words pointers. put_bits 0 y n) (width_is ∙ ap width (sym same)) ∙ sym (ap (λ y. λ words pointers. put_in_element words pointers (plain q) y) content)
+plain_put v void p n w e given width_is = absurd cc
+plain_put v text p n w e given width_is = absurd cc
+plain_put v blob p n w e given width_is = absurd cc
+plain_put v untyped p n w e given width_is = absurd cc
+plain_put v interface p n w e given width_is = absurd cc
+plain_put v (struct id) p n w e given width_is = absurd cc
+plain_put v (list ty) p n w e given width_is = absurd cc
+
+pub void_put : {A : Type 0} (v : Reader A) (ty : Ty) → void ≡ ty → (λ words pointers c. c) ≡ element_edit v ty
+void_put v ty e = ap (λ y. element_edit v y) e
+
+-- the number of structs is theirs alone
+pub of_structs : (z : ElementSize) → size_number z ≡ 7 → z ≡ InlineComposite
+of_structs Void e = absurd (omega (arith, e))
+of_structs Bit e = absurd (omega (arith, e))
+of_structs Byte e = absurd (omega (arith, e))
+of_structs TwoBytes e = absurd (omega (arith, e))
+of_structs FourBytes e = absurd (omega (arith, e))
+of_structs EightBytes e = absurd (omega (arith, e))
+of_structs Pointer e = absurd (omega (arith, e))
+of_structs InlineComposite e = refl
+
+-- ---- what is there stays
+
+there_stays : (s u : Segments) (p : Place) (n : ℕ) → map length u ≡ map length s → AreThere s p n → AreThere u p n
+there_stays s u p n e h = (words_stay s u p n e h.0, h.1)
+
+pub list_stays : (s u : Segments) (o : ListPlace) → map length u ≡ map length s → IsListThere s o → IsListThere u o
+list_stays s u o e h =
+    let w = h.whole in
+    record {
+      whole = ((there_stays s u _ _ e w.0.0, w.0.1), (λ six. there_stays s u _ _ e (w.1 six)), λ seven. (let x = w.2 seven in (there_stays s u _ _ e x.0, x.1)));
+      counted = h.counted;
+    }

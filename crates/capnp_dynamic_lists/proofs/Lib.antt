@@ -1,0 +1,2 @@
+pub mod PlainElements
+pub mod Fronts

@@ -1,0 +1,32 @@
+-- Lists that are written where they lie. (Encoding, "Lists")
+use Rattle.std.specs.Prelude.{◌≡◌, ◌≢◌, ℕ, ◌<◌, ◌≤◌}
+use Rattle.capnp_model.specs.Segments.{Segments}
+use Rattle.capnp_model.specs.Trees.{Tree, plain_list, pointer_list, struct_list, tree_count, element_count, size_bits}
+use Rattle.capnp_model.specs.Edits.{Edit, edit_list}
+use Rattle.capnp_units.specs.Sizes.{size_number}
+use Rattle.capnp_footprints.specs.Footprints.{OwnsObject}
+use Rattle.capnp_footprints.specs.Changes.{ReplacesObject}
+use Rattle.capnp_copy.specs.Elements.{IsWhole}
+use Rattle.capnp_copy.specs.Lists.{list_at}
+use Rattle.capnp_copy.specs.declared.init.ListPlace.{ListPlace}
+
+-- A list lies whole, and its pointer counts its elements, or the words of its structs.
+pub record IsListThere (s : Segments) (o : ListPlace) : Type 0 where
+  pub whole : IsWhole s o
+  pub counted : size_number o.size < 7 → o.claimed ≡ o.count
+
+-- A value is a list of the elements that the place tells of.
+abbrev pub IsListOf : ListPlace → Tree → Type 0
+IsListOf o (plain_list size n section) = (size ≡ size_number o.size) × (size < 6) × (n ≡ o.count)
+IsListOf o (pointer_list ts) = (size_number o.size ≡ 6) × (tree_count ts ≡ o.count)
+IsListOf o (struct_list d k es) = (size_number o.size ≡ 7) × (d ≡ o.data_words) × (k ≡ o.pointers) × (element_count es ≡ o.count)
+IsListOf o t = ⊥
+
+-- Each element has so many bits at its front: a plain one, or a struct's data.
+pub record HasRoom (o : ListPlace) (width : ℕ) : Type 0 where
+  pub plain : size_number o.size ≢ 7 → (size_number o.size < 6) × (width ≤ size_bits (size_number o.size))
+  pub structs : size_number o.size ≡ 7 → (0 < o.data_words) × (width ≤ 64)
+
+-- Whatever elements the list has: the one at an index becomes what the edit makes of it, and nothing else changes.
+abbrev pub EditsElement : Segments → Segments → ListPlace → (ℕ → ℕ → Edit) → ℕ → Type 0
+EditsElement s u o f k = (n : ℕ) (t : Tree) → IsListOf o t → OwnsObject n s (list_at o) t → ReplacesObject n s u (list_at o) (edit_list f k t)

@@ -1,0 +1,110 @@
+//! Lists whose elements' type is known at run time, to write.
+ghost use Rattle.std.specs.Prelude.{◌≡◌, ◌↔◌, ◌==◌, ◌<◌, true, OnOk, OnErr};
+ghost use Rattle.capnp_units.specs.Segments.{words_in};
+ghost use Rattle.capnp_object.specs.Places.{seen};
+ghost use Rattle.capnp_records.specs.Sets.{nodes_of};
+ghost use Rattle.capnp_queries.specs.Types.{ty_of, is_type_of};
+ghost use Rattle.capnp_dynamic_lists.specs.Lists.{IsListThere};
+ghost use Rattle.capnp_dynamic_lists.specs.Elements.{Holds, is_single, answer_of, single_element, element_edit};
+ghost use Rattle.capnp_dynamic_lists.specs.Builders.{IsReady, WritesElement, Stays};
+
+use crate::elements::{plain_type, set_single};
+use capnp_builders::list_builder::ListBuilder;
+use capnp_copy::arena::{BuilderArena, Memory};
+use capnp_copy::init::ListPlace;
+use capnp_dynamic::slots::width_of;
+use capnp_queries::introspect::Type;
+use capnp_records::set::SchemaSet;
+use capnp_units::errors::Result;
+use capnp_units::sizes::{ElementSize, data_bits_per_element};
+use capnp_values::dynamic_value;
+
+/// Whether each element of a list has the bits of its type, if that is a plain one, as its builder asks.
+pub fn holds<A: BuilderArena>(builder: &ListBuilder<'_, A>, element_type: Type) -> bool
+    ensures { (result ≡ true) ↔ Holds builder.now.place (ty_of element_type) }
+{
+    let place = builder.place;
+    let Some(plain) = plain_type(element_type) else {
+        return true;
+    };
+    match place.size {
+        ElementSize::InlineComposite => place.data_words > 0,
+        ElementSize::Pointer => false,
+        size => width_of(plain) <= data_bits_per_element(size),
+    }
+}
+
+/// A list to write, whose elements are of a type of a set.
+#[derive(Drop)]
+pub struct Builder<'a, A> {
+    pub(crate) memory: &'a mut Memory<A>,
+    pub(crate) place: ListPlace,
+    pub(crate) set: &'a SchemaSet,
+    pub(crate) element_type: Type,
+}
+
+impl<'a, A: BuilderArena> Builder<'a, A> {
+    /// A list of elements of a type of the set. It lies whole, and its plain elements have the bits of their type, as `holds` tells.
+    pub fn new(builder: ListBuilder<'a, A>, set: &'a SchemaSet, element_type: Type) -> Self
+        requires there { IsListThere (words_in (A.segments builder.memory.now.arena))
+            builder.place }
+        requires holds { Holds builder.place (ty_of element_type) }
+        requires known { is_type_of (nodes_of set.now) element_type ≡ true }
+        ensures same { result.memory.ghost_name ≡ builder.entry.memory.ghost_name }
+        ensures now { result.memory.now ≡ builder.entry.memory.now }
+        ensures place { result.place ≡ builder.entry.place }
+        ensures set { result.set.now ≡ set.now }
+        ensures element_type { result.element_type ≡ element_type }
+        ensures ready { IsReady A.segments result }
+    {
+        let ListBuilder { memory, place } = builder;
+        Builder {
+            memory,
+            place,
+            set,
+            element_type,
+        }
+    }
+
+    /// How many elements there are.
+    pub fn len(&self) -> u32
+        ensures { result ≡ self.now.place.count }
+    {
+        self.place.count
+    }
+
+    /// Whether there is no element.
+    pub fn is_empty(&self) -> bool
+        ensures { result ≡ (self.now.place.count == 0) }
+    {
+        self.place.count == 0
+    }
+
+    /// The type of the elements.
+    pub fn element_type(&self) -> Type
+        ensures { result ≡ self.now.element_type }
+    {
+        self.element_type
+    }
+
+    /// Sets the element at an index, which is one of the list's, to a value that is Void, a truth value, a number or an enum's. A plain element takes a value of its type, one of an enum any enum's; a Void one takes each. Elements that are wider than their type keep the bits behind it. Nothing is allocated.
+    ///
+    /// It is refused with `ListAnyPointerNotSupported` where the elements are untyped pointers, and else with `TypeMismatch`. Then the list is as it was.
+    pub fn set<B>(&mut self, index: u32, value: dynamic_value::Reader<'_, B>) -> Result<()>
+        requires ready { IsReady A.segments self.old }
+        requires index { index < self.old.place.count }
+        requires single { is_single value ≡ true }
+        ensures same { self.new.memory.ghost_name ≡ self.old.memory.ghost_name }
+        ensures answer { seen (λ x. x) result
+            ≡ answer_of (single_element value.entry (ty_of self.old.element_type)) }
+        ensures writes { OnOk result (WritesElement A.segments self.old self.new
+            (element_edit value.entry (ty_of self.old.element_type)) index) }
+        ensures refused { OnErr result (Stays A.segments self.old self.new) }
+        ensures books { A.books self.new.memory.now.arena ≡ A.books self.old.memory.now.arena }
+        ensures ready { IsReady A.segments self.new }
+    {
+        let place = self.place;
+        let ty = self.element_type;
+        set_single(&mut self.memory.arena, place, ty, index, &value)
+    }
+}

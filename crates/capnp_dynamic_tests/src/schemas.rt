@@ -1,0 +1,108 @@
+//! Worked schemas.
+use capnp_records::node::{
+    BaseType, FieldBody, FieldRecord, NO_DISCRIMINANT, NodeBody, NodeRecord, StructRecord,
+    TypeRecord, Value,
+};
+use capnp_records::set::SchemaSet;
+use std::alloc::{AllocError, Global};
+use std::test::Fail;
+
+fn field(
+    alloc: Global,
+    name: &str,
+    member: u16,
+    body: FieldBody,
+) -> Result<FieldRecord, AllocError> {
+    Ok(FieldRecord {
+        name: String::from_str(alloc, name)?,
+        discriminant_value: member,
+        annotations: Vec::new(alloc),
+        body,
+    })
+}
+
+/// A slot of numbers.
+fn number(offset: u32, default: u16) -> FieldBody {
+    FieldBody::Slot {
+        offset,
+        ty: of(BaseType::UInt16),
+        default: Some(Value::UInt16(default)),
+    }
+}
+
+/// A slot behind the first pointer.
+fn pointer(base: BaseType) -> FieldBody {
+    FieldBody::Slot {
+        offset: 0,
+        ty: of(base),
+        default: None,
+    }
+}
+
+fn of(base: BaseType) -> TypeRecord {
+    TypeRecord {
+        list_count: 0,
+        base,
+    }
+}
+
+/// A struct of a data word, or a group in it. Where it has a union, its discriminant is the second number.
+fn node(
+    alloc: Global,
+    id: u64,
+    pointers: u16,
+    members: u16,
+    is_group: bool,
+    fields: Vec<FieldRecord>,
+) -> Result<NodeRecord, AllocError> {
+    Ok(NodeRecord {
+        id,
+        display_name: String::from_str(alloc, "node")?,
+        annotations: Vec::new(alloc),
+        body: NodeBody::Struct(StructRecord {
+            data_word_count: 1,
+            pointer_count: pointers,
+            is_group,
+            discriminant_count: members,
+            discriminant_offset: 1,
+            fields,
+        }),
+    })
+}
+
+/// P (1): a UInt16, t Text. U (3): u, v UInt16 in a union. D (4): n UInt16 with default 5. G (5): group g (6) of x, y UInt16, and z UInt16. T (7): u UInt16, t Text, d Data, p untyped in a union.
+pub(crate) fn schemas(alloc: Global) -> Result<SchemaSet, Fail> {
+    let none = NO_DISCRIMINANT;
+    let p = vec![in alloc;
+        field(alloc, "a", none, number(0, 0))?,
+        field(alloc, "t", none, pointer(BaseType::Text))?,
+    ]?;
+    let u = vec![in alloc;
+        field(alloc, "u", 0, number(0, 0))?,
+        field(alloc, "v", 1, number(0, 0))?,
+    ]?;
+    let d = vec![in alloc; field(alloc, "n", none, number(0, 5))?]?;
+    let g = vec![in alloc;
+        field(alloc, "g", none, FieldBody::Group { node: 6 })?,
+        field(alloc, "z", none, number(2, 0))?,
+    ]?;
+    let inner = vec![in alloc;
+        field(alloc, "x", none, number(0, 0))?,
+        field(alloc, "y", none, number(1, 0))?,
+    ]?;
+    let t = vec![in alloc;
+        field(alloc, "u", 0, number(0, 0))?,
+        field(alloc, "t", 1, pointer(BaseType::Text))?,
+        field(alloc, "d", 2, pointer(BaseType::Data))?,
+        field(alloc, "p", 3, pointer(BaseType::AnyPointer))?,
+    ]?;
+    let nodes = vec![in alloc;
+        node(alloc, 1, 1, 0, false, p)?,
+        node(alloc, 3, 0, 2, false, u)?,
+        node(alloc, 4, 0, 0, false, d)?,
+        node(alloc, 5, 0, 0, false, g)?,
+        node(alloc, 6, 0, 0, true, inner)?,
+        node(alloc, 7, 1, 4, false, t)?,
+    ]?;
+    Ok(SchemaSet::new(nodes).ok().ok_or("accepted")?)
+}
