@@ -191,8 +191,8 @@ pub canonical_words_taken : (t : Tree) (n : ℕ) (u : Segments) (more : List ℕ
 unfolding canonical_words
 canonical_words_taken t n u more q f l small there =
     let below : times_held (behind n u (place 0 0)) q ≡ held (place 0 1) (length (body t)) q = takes u (pointer 0 t ∷ body t) more there small t n 0 0 q f l
-        (record { rest = body t; parts = refl; within = omega arith })
-        (record { rest = []; parts = sym (append-nil (body t)); within = omega arith }) in
+    (record { rest = body t; parts = refl; within = omega arith })
+    (record { rest = []; parts = sym (append-nil (body t)); within = omega arith }) in
     joined root 1 (length (body t)) (length (pointer 0 t ∷ body t)) (behind n u (place 0 0)) q (omega arith) below ∙ sym (only_held root (length (pointer 0 t ∷ body t)) q)
 
 pub canonical_words_owned : (t : Tree) (n : ℕ) (u : Segments) (more : List ℕ) → Fits t → depth t ≤ n → length (canonical_words t) ≤ 2 ^ 29 → slice_get u 0 ≡ Some (canonical_words t ++ more) → Owns n u root t
