@@ -3,7 +3,7 @@ ghost use Rattle.std.specs.Prelude.{◌≡◌, ◌≢◌, ◌-◌, ◌*◌, ◌^
 ghost use Rattle.std.specs.List.{flat_map};
 ghost use Rattle.capnp_units.specs.declared.kinds.ErrorKind.TheVariants.{OutOfMemory, SizeOverflow};
 ghost use Rattle.capnp_object.specs.Arenas.{words_before};
-ghost use Rattle.capnp_message.specs.Built.{used_bytes, used_words};
+ghost use Rattle.capnp_message.specs.Built.{used_bytes, words_held, loans_held};
 ghost use Rattle.capnp_allocators.specs.Growth.{suggested_growth};
 
 use capnp_allocators::heap::HeapAllocator;
@@ -41,22 +41,16 @@ impl<A: Allocator> Builder<A> {
     /// It is refused where there is none, as the allocator refuses, or with `OutOfMemory` where the list of segments can't grow; then there is none still.
     pub fn allocate_root(&mut self) -> Result<()>
         ensures made { OnOk result (self.old.memory.arena.segments.items ≡ []
-            → used_words (λ h. h.used) (λ h. A.Segment.bytes h.segment)
-            self.new.memory.arena.segments.items ≡ (0 ∷ []) ∷ []) }
+            → words_held self.new.memory.arena ≡ (0 ∷ []) ∷ []) }
         ensures had { OnOk result (0 < length self.old.memory.arena.segments.items
             → self.new.memory.arena.segments.items ≡ self.old.memory.arena.segments.items) }
-        ensures refused { OnErr result (used_words (λ h. h.used) (λ h. A.Segment.bytes h.segment)
-            self.new.memory.arena.segments.items ≡ used_words (λ h. h.used)
-            (λ h. A.Segment.bytes h.segment) self.old.memory.arena.segments.items) }
+        ensures refused { OnErr result (words_held self.new.memory.arena
+            ≡ words_held self.old.memory.arena) }
         ensures there { OnErr result (self.old.memory.arena.segments.items ≡ []) }
         ensures kind { IfErr result (λ e. e.kind ≢ SizeOverflow) }
         ensures place { A.place self.new.memory.arena.allocator
             ≡ A.place self.old.memory.arena.allocator }
-        ensures loans { flat_map (λ h. A.Segment.loans h.segment)
-            self.new.memory.arena.segments.items
-            ++ A.loans self.new.memory.arena.allocator
-            ≡ flat_map (λ h. A.Segment.loans h.segment) self.old.memory.arena.segments.items
-            ++ A.loans self.old.memory.arena.allocator }
+        ensures loans { loans_held self.new.memory.arena ≡ loans_held self.old.memory.arena }
     {
         if self.memory.arena.len() == 0 {
             return match self.memory.arena.allocate_anywhere(1) {
@@ -89,13 +83,9 @@ impl<A: Allocator> Builder<A> {
 
     /// The allocator, to which every segment was given back. There is one lent slice at most among them and in the allocator.
     pub fn into_allocator(self) -> A
-        requires { length (flat_map (λ h. A.Segment.loans h.segment)
-            self.memory.arena.segments.items
-            ++ A.loans self.memory.arena.allocator) ≤ 1 }
+        requires { length (loans_held self.memory.arena) ≤ 1 }
         ensures place { A.place result ≡ A.place self.memory.arena.allocator }
-        ensures loans { A.loans result
-            ≡ flat_map (λ h. A.Segment.loans h.segment) self.memory.arena.segments.items
-            ++ A.loans self.memory.arena.allocator }
+        ensures loans { A.loans result ≡ loans_held self.memory.arena }
     {
         let Builder { memory } = self;
         let Memory { arena } = memory;

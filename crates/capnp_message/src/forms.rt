@@ -5,7 +5,7 @@ ghost use Rattle.capnp_io.specs.Writes.{Writes, sink_seen};
 ghost use Rattle.capnp_stream.specs.Reading.{TriesMessage, ReadsMessage, source_seen};
 ghost use Rattle.capnp_stream.specs.Filling.{TriesFilling, FillsMessage};
 ghost use Rattle.capnp_message.specs.Messages.{segments_read, segments_tried};
-ghost use Rattle.capnp_message.specs.Built.{used_words};
+ghost use Rattle.capnp_message.specs.Built.{words_held};
 
 use crate::builder::Builder;
 use crate::laws::built_segments_can_be_written;
@@ -107,8 +107,7 @@ pub fn write_message_in<F: MessageForm, W: Write, A: Allocator>(
 ) -> Result<()>
     requires { 0 < length message.now.memory.arena.segments.items }
     ensures { Writes (W.may_grow ⊎ (1 < length message.now.memory.arena.segments.items))
-        (spelled F.writer (used_words (λ h. h.used) (λ h. A.Segment.bytes h.segment)
-        message.now.memory.arena.segments.items))
+        (spelled F.writer (words_held message.now.memory.arena))
         (sink_seen W.contents W.failures W.room out.old) result
         (sink_seen W.contents W.failures W.room out.new) }
 {

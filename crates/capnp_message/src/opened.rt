@@ -2,7 +2,7 @@
 ghost use Rattle.std.specs.Prelude.{◌≡◌, ◌≤◌, ◌++◌, [], length, IfErr, OnOk, OnErr};
 ghost use Rattle.std.specs.List.{flat_map};
 ghost use Rattle.capnp_units.specs.declared.kinds.ErrorKind.TheVariants.{OutOfMemory};
-ghost use Rattle.capnp_message.specs.Built.{opened_words, used_words};
+ghost use Rattle.capnp_message.specs.Built.{opened_words, words_held, loans_held};
 
 use crate::builder::Builder;
 use capnp_allocators::opening::OpensSegment;
@@ -16,16 +16,13 @@ impl<A: OpensSegment> Builder<A> {
     pub fn open(&mut self) -> Result<()>
         requires empty { self.old.memory.arena.segments.items ≡ [] }
         requires one { length (A.loans self.old.memory.arena.allocator) ≤ 1 }
-        ensures words { OnOk result (used_words (λ h. h.used) (λ h. A.Segment.bytes h.segment)
-            self.new.memory.arena.segments.items
+        ensures words { OnOk result (words_held self.new.memory.arena
             ≡ opened_words (A.opened self.old.memory.arena.allocator)) }
         ensures refused { OnErr result (self.new.memory.arena.segments.items ≡ []) }
         ensures kind { IfErr result (λ e. e.kind ≡ OutOfMemory) }
         ensures place { A.place self.new.memory.arena.allocator
             ≡ A.place self.old.memory.arena.allocator }
-        ensures loans { flat_map (λ h. A.Segment.loans h.segment)
-            self.new.memory.arena.segments.items
-            ++ A.loans self.new.memory.arena.allocator ≡ A.loans self.old.memory.arena.allocator }
+        ensures loans { loans_held self.new.memory.arena ≡ A.loans self.old.memory.arena.allocator }
     {
         match self.memory.arena.allocator.take_opened() {
             Some((segment, used)) => self.hold_segment(segment, used),

@@ -11,7 +11,7 @@ ghost use Rattle.capnp_units.specs.declared.kinds.ErrorKind.TheVariants.{SizeOve
 ghost use Rattle.capnp_copy.specs.Allocations.{total_words};
 ghost use Rattle.capnp_copy.specs.Values.{Becomes};
 ghost use Rattle.capnp_wire.specs.Reads.{root_of};
-ghost use Rattle.capnp_message.specs.Built.{used_bytes, used_words, rooted};
+ghost use Rattle.capnp_message.specs.Built.{used_bytes, rooted, words_held, loans_held};
 ghost use Rattle.capnp_message.specs.Options.{boundless};
 ghost use Rattle.capnp_message.specs.Roots.{ReadsRoot};
 
@@ -91,24 +91,15 @@ impl<A: Allocator> Builder<A> {
     ///
     /// It is refused with `SizeOverflow` only where the value is too large for the message, else as the allocator refuses; or with `OutOfBounds` where the first segment was allocated by hand and has no word. Then all stands as it was, but that a root that is null may have been made.
     pub fn set_root<T, V: SetterInput<T> + Drop>(&mut self, value: V) -> Result<()>
-        ensures value { OnOk result (Becomes (rooted (used_words (λ h. h.used)
-            (λ h. A.Segment.bytes h.segment) self.old.memory.arena.segments.items))
-            (used_words (λ h. h.used) (λ h. A.Segment.bytes h.segment)
-            self.new.memory.arena.segments.items) root (V.tree value)) }
-        ensures refused { OnErr result (rooted (used_words (λ h. h.used)
-            (λ h. A.Segment.bytes h.segment) self.new.memory.arena.segments.items)
-            ≡ rooted (used_words (λ h. h.used) (λ h. A.Segment.bytes h.segment)
-            self.old.memory.arena.segments.items)) }
-        ensures kind { IfErr result (λ e. e.kind ≡ SizeOverflow → V.is_too_large value
-            (total_words (rooted (used_words (λ h. h.used) (λ h. A.Segment.bytes h.segment)
-            self.old.memory.arena.segments.items)))) }
+        ensures value { OnOk result (Becomes (rooted (words_held self.old.memory.arena))
+            (words_held self.new.memory.arena) root (V.tree value)) }
+        ensures refused { OnErr result (rooted (words_held self.new.memory.arena)
+            ≡ rooted (words_held self.old.memory.arena)) }
+        ensures kind { IfErr result (λ e. e.kind ≡ SizeOverflow
+            → V.is_too_large value (total_words (rooted (words_held self.old.memory.arena)))) }
         ensures place { A.place self.new.memory.arena.allocator
             ≡ A.place self.old.memory.arena.allocator }
-        ensures loans { flat_map (λ h. A.Segment.loans h.segment)
-            self.new.memory.arena.segments.items
-            ++ A.loans self.new.memory.arena.allocator
-            ≡ flat_map (λ h. A.Segment.loans h.segment) self.old.memory.arena.segments.items
-            ++ A.loans self.old.memory.arena.allocator }
+        ensures loans { loans_held self.new.memory.arena ≡ loans_held self.old.memory.arena }
     {
         begin(&mut self.memory.arena)?;
         let pointer = PointerBuilder::get_root(&mut self.memory);

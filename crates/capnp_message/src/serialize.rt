@@ -10,7 +10,7 @@ ghost use Rattle.capnp_stream.specs.Pieces.{is_framed_fault};
 ghost use Rattle.capnp_stream.specs.Reading.{TriesMessage, ReadsMessage, source_seen};
 ghost use Rattle.capnp_stream.specs.Filling.{TriesFilling, FillsMessage};
 ghost use Rattle.capnp_message.specs.Messages.{segments_read, segments_tried};
-ghost use Rattle.capnp_message.specs.Built.{used_words};
+ghost use Rattle.capnp_message.specs.Built.{words_held};
 
 use crate::builder::Builder;
 use crate::forms::{
@@ -146,11 +146,9 @@ pub fn write_message<W: Write, A: Allocator>(
     message: &Builder<A>,
 ) -> Result<()>
     requires { 0 < length message.now.memory.arena.segments.items }
-    ensures { Writes (W.may_grow ⊎ (1 < length message.now.memory.arena.segments.items))
-        (frame (used_words (λ h. h.used) (λ h. A.Segment.bytes h.segment)
-        message.now.memory.arena.segments.items))
-        (sink_seen W.contents W.failures W.room out.old) result
-        (sink_seen W.contents W.failures W.room out.new) }
+    ensures { Writes (W.may_grow ⊎ (1 < length message.now.memory.arena.segments.items)) (frame
+        (words_held message.now.memory.arena)) (sink_seen W.contents W.failures W.room out.old)
+        result (sink_seen W.contents W.failures W.room out.new) }
 {
     write_message_in::<Framed, W, A>(alloc, out, message)
 }
@@ -158,8 +156,7 @@ pub fn write_message<W: Write, A: Allocator>(
 /// The framed message of the used words of a builder's segments, of which there is one at least, as bytes. `OutOfMemory`: they, or the table of more than one segment, want memory.
 pub fn write_message_to_words<A: Allocator>(alloc: Global, message: &Builder<A>) -> Result<Vec<u8>>
     requires { 0 < length message.now.memory.arena.segments.items }
-    ensures text { IfOk result (λ v. v.items ≡ frame (used_words (λ h. h.used)
-        (λ h. A.Segment.bytes h.segment) message.now.memory.arena.segments.items)) }
+    ensures text { IfOk result (λ v. v.items ≡ frame (words_held message.now.memory.arena)) }
     ensures refusal { IfErr result (λ e. e.kind ≡ ErrorKind.OutOfMemory) }
 {
     built_segments_can_be_written(message);

@@ -7,7 +7,7 @@ ghost use Rattle.capnp_packing.specs.Streams.{is_packed_fault};
 ghost use Rattle.capnp_stream.specs.Reading.{TriesMessage, ReadsMessage, source_seen};
 ghost use Rattle.capnp_stream.specs.Filling.{TriesFilling, FillsMessage};
 ghost use Rattle.capnp_message.specs.Messages.{segments_read, segments_tried};
-ghost use Rattle.capnp_message.specs.Built.{used_words};
+ghost use Rattle.capnp_message.specs.Built.{words_held};
 
 use crate::builder::Builder;
 use crate::forms::{
@@ -96,8 +96,7 @@ pub fn write_message<W: Write, A: Allocator>(
 ) -> Result<()>
     requires { 0 < length message.now.memory.arena.segments.items }
     ensures { Writes (W.may_grow ⊎ (1 < length message.now.memory.arena.segments.items))
-        (packed_message (used_words (λ h. h.used) (λ h. A.Segment.bytes h.segment)
-        message.now.memory.arena.segments.items))
+        (packed_message (words_held message.now.memory.arena))
         (sink_seen W.contents W.failures W.room out.old) result
         (sink_seen W.contents W.failures W.room out.new) }
 {

@@ -7,7 +7,7 @@ ghost use Rattle.capnp_units.specs.declared.kinds.ErrorKind.TheVariants.{SizeOve
 ghost use Rattle.capnp_copy.specs.Allocations.{total_words};
 ghost use Rattle.capnp_copy.specs.Values.{Becomes};
 ghost use Rattle.capnp_wire.specs.Reads.{root_of};
-ghost use Rattle.capnp_message.specs.Built.{used_bytes, used_words, rooted};
+ghost use Rattle.capnp_message.specs.Built.{used_bytes, rooted, words_held, loans_held};
 ghost use Rattle.capnp_allocators.specs.Growth.{suggested_growth};
 ghost use Rattle.capnp_message.specs.Options.{boundless};
 ghost use Rattle.capnp_message.specs.Roots.{ReadsRoot};
@@ -45,24 +45,17 @@ impl<T, A: Allocator> TypedBuilder<T, A> {
 
     /// Sets the root to a value, as `Builder::set_root`.
     pub fn set_root<V: SetterInput<T> + Drop>(&mut self, value: V) -> Result<()>
-        ensures value { OnOk result (Becomes (rooted (used_words (λ h. h.used)
-            (λ h. A.Segment.bytes h.segment) self.old.message.memory.arena.segments.items))
-            (used_words (λ h. h.used) (λ h. A.Segment.bytes h.segment)
-            self.new.message.memory.arena.segments.items) root (V.tree value)) }
-        ensures refused { OnErr result (rooted (used_words (λ h. h.used)
-            (λ h. A.Segment.bytes h.segment) self.new.message.memory.arena.segments.items)
-            ≡ rooted (used_words (λ h. h.used) (λ h. A.Segment.bytes h.segment)
-            self.old.message.memory.arena.segments.items)) }
-        ensures kind { IfErr result (λ e. e.kind ≡ SizeOverflow → V.is_too_large value
-            (total_words (rooted (used_words (λ h. h.used) (λ h. A.Segment.bytes h.segment)
-            self.old.message.memory.arena.segments.items)))) }
+        ensures value { OnOk result (Becomes (rooted (words_held self.old.message.memory.arena))
+            (words_held self.new.message.memory.arena) root (V.tree value)) }
+        ensures refused { OnErr result (rooted (words_held self.new.message.memory.arena)
+            ≡ rooted (words_held self.old.message.memory.arena)) }
+        ensures kind { IfErr result (λ e. e.kind ≡ SizeOverflow
+            → V.is_too_large value (total_words (rooted (words_held
+            self.old.message.memory.arena)))) }
         ensures place { A.place self.new.message.memory.arena.allocator
             ≡ A.place self.old.message.memory.arena.allocator }
-        ensures loans { flat_map (λ h. A.Segment.loans h.segment)
-            self.new.message.memory.arena.segments.items
-            ++ A.loans self.new.message.memory.arena.allocator
-            ≡ flat_map (λ h. A.Segment.loans h.segment) self.old.message.memory.arena.segments.items
-            ++ A.loans self.old.message.memory.arena.allocator }
+        ensures loans { loans_held self.new.message.memory.arena
+            ≡ loans_held self.old.message.memory.arena }
     {
         self.message.set_root(value)
     }

@@ -7,7 +7,7 @@ ghost use Rattle.capnp_units.specs.declared.kinds.ErrorKind.TheVariants.{OutOfMe
 ghost use Rattle.capnp_canonical.specs.Writes.{words_view};
 ghost use Rattle.capnp_copy.specs.Allocations.{words_used};
 ghost use Rattle.capnp_copy.specs.Memory.{ZeroFrom};
-ghost use Rattle.capnp_message.specs.Built.{used_words};
+ghost use Rattle.capnp_message.specs.Built.{words_held, loans_held};
 ghost use Rattle.capnp_message.specs.Canonical.{ReplacesRoot, SetsCanonical};
 
 use crate::builder::Builder;
@@ -52,16 +52,12 @@ impl<A: Allocator> Builder<A> {
     /// It is refused with `SizeOverflow` just where there are more than 2^29 - 1, else as the allocator refuses, or with `OutOfMemory` where the list of segments can't grow; then there is no segment still.
     pub fn set_words(&mut self, words: &[Word]) -> Result<()>
         requires empty { self.old.memory.arena.segments.items ≡ [] }
-        ensures words { OnOk result (used_words (λ h. h.used) (λ h. A.Segment.bytes h.segment)
-            self.new.memory.arena.segments.items ≡ words_view words.now ∷ []) }
-        ensures refused { OnErr result (used_words (λ h. h.used) (λ h. A.Segment.bytes h.segment)
-            self.new.memory.arena.segments.items ≡ []) }
+        ensures words { OnOk result (words_held self.new.memory.arena ≡ words_view words.now ∷ []) }
+        ensures refused { OnErr result (words_held self.new.memory.arena ≡ []) }
         ensures kind { IfErr result (λ e. (e.kind ≡ SizeOverflow) ↔ (2 ^ 29 ≤ length words.now)) }
         ensures place { A.place self.new.memory.arena.allocator
             ≡ A.place self.old.memory.arena.allocator }
-        ensures loans { flat_map (λ h. A.Segment.loans h.segment)
-            self.new.memory.arena.segments.items
-            ++ A.loans self.new.memory.arena.allocator ≡ A.loans self.old.memory.arena.allocator }
+        ensures loans { loans_held self.new.memory.arena ≡ A.loans self.old.memory.arena.allocator }
     {
         let count = words.len();
         if count > MOST_WORDS {
@@ -92,17 +88,11 @@ impl<A: Allocator> Builder<A> {
     ) -> Result<()>
         ensures copy { SetsCanonical (levels source.now.options.nesting_limit)
             source.now.options.traversal_limit_in_words (words_in (S.segments source.now.segments))
-            (used_words (λ h. h.used) (λ h. A.Segment.bytes h.segment)
-            self.old.memory.arena.segments.items)
-            (used_words (λ h. h.used) (λ h. A.Segment.bytes h.segment)
-            self.new.memory.arena.segments.items) limiter.old result limiter.new }
+            (words_held self.old.memory.arena) (words_held self.new.memory.arena) limiter.old result
+            limiter.new }
         ensures place { A.place self.new.memory.arena.allocator
             ≡ A.place self.old.memory.arena.allocator }
-        ensures loans { flat_map (λ h. A.Segment.loans h.segment)
-            self.new.memory.arena.segments.items
-            ++ A.loans self.new.memory.arena.allocator
-            ≡ flat_map (λ h. A.Segment.loans h.segment) self.old.memory.arena.segments.items
-            ++ A.loans self.old.memory.arena.allocator }
+        ensures loans { loans_held self.new.memory.arena ≡ loans_held self.old.memory.arena }
     {
         let words = source.canonicalize(alloc, limiter)?;
         if self.memory.arena.len() == 0 {
@@ -126,16 +116,14 @@ impl<A: Allocator> Builder<A> {
         requires few { used < 2 ^ 29 }
         requires one { length (A.Segment.loans segment)
             + length (A.loans self.old.memory.arena.allocator) ≤ 1 }
-        ensures words { OnOk result (used_words (λ h. h.used) (λ h. A.Segment.bytes h.segment)
-            self.new.memory.arena.segments.items ≡ words_used used (A.Segment.bytes segment) ∷ []) }
+        ensures words { OnOk result (words_held self.new.memory.arena
+            ≡ words_used used (A.Segment.bytes segment) ∷ []) }
         ensures refused { OnErr result (self.new.memory.arena.segments.items ≡ []) }
         ensures kind { IfErr result (λ e. e.kind ≡ OutOfMemory) }
         ensures place { A.place self.new.memory.arena.allocator
             ≡ A.place self.old.memory.arena.allocator }
-        ensures loans { flat_map (λ h. A.Segment.loans h.segment)
-            self.new.memory.arena.segments.items
-            ++ A.loans self.new.memory.arena.allocator
-            ≡ A.Segment.loans segment ++ A.loans self.old.memory.arena.allocator }
+        ensures loans { loans_held self.new.memory.arena ≡ A.Segment.loans segment
+            ++ A.loans self.old.memory.arena.allocator }
     {
         self.memory.arena.hold_segment(segment, used)
     }

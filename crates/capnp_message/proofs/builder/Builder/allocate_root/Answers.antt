@@ -1,5 +1,4 @@
 use Rattle.std.proofs.Common.{ap}
-use Rattle.capnp_units.specs.Segments.{words_in}
 use Rattle.capnp_message.specs.Built.{used_words}
 use Rattle.capnp_message.proofs.Written.{root_made, not_too_many, no_items}
 use Rattle.capnp_message.proofs.builder.Builder.allocate_root.Goals as goal
