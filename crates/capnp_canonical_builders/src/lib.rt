@@ -1,0 +1,4 @@
+//! Canonical copies of what readers stand at, over handles.
+#![tactic(auto)]
+
+pub mod copy;
