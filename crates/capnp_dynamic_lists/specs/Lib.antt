@@ -1,3 +1,4 @@
 pub mod Lists
 pub mod Elements
 pub mod Builders
+pub mod Lending

@@ -44,6 +44,9 @@ pub struct Builder<'a, A> {
 }
 
 impl<'a, A: BuilderArena> Builder<'a, A> {
+    ghost use Rattle.std.specs.Borrow.{sem};
+    ghost use Rattle.capnp_dynamic_lists.specs.Lending.{Lends};
+
     /// A list of elements of a type of the set. It lies whole, and its plain elements have the bits of their type, as `holds` tells.
     pub fn new(builder: ListBuilder<'a, A>, set: &'a SchemaSet, element_type: Type) -> Self
         requires there { IsListThere (words_in (A.segments builder.memory.now.arena))
@@ -58,6 +61,28 @@ impl<'a, A: BuilderArena> Builder<'a, A> {
         ensures ready { IsReady A.segments result }
     {
         let ListBuilder { memory, place } = builder;
+        Builder {
+            memory,
+            place,
+            set,
+            element_type,
+        }
+    }
+
+    /// The same list, lent.
+    pub fn reborrow(&mut self) -> Builder<'_, A>
+        requires ready { IsReady A.segments self.old }
+        ensures* lends { sem 𝓛 (Lends A.row self.entry result) }
+        ensures now { result.memory.now ≡ self.old.memory.now }
+        ensures place { result.place ≡ self.old.place }
+        ensures set { result.set.now ≡ self.old.set.now }
+        ensures element_type { result.element_type ≡ self.old.element_type }
+        ensures ready { IsReady A.segments result }
+    {
+        let place = self.place;
+        let set = self.set;
+        let element_type = self.element_type;
+        let memory = &mut *self.memory;
         Builder {
             memory,
             place,
