@@ -1,7 +1,7 @@
 //! The relay between two versions of a schema.
 ghost use Rattle.std.specs.Prelude.{◌≡◌, ◌+◌, ◌*◌, length, replicate, IfErr, OnOk};
 ghost use Rattle.capnp_calls.specs.Taken.{IsRoot};
-ghost use Rattle.capnp_relay.specs.Streams.{source_seen, sink_seen, streams};
+ghost use Rattle.capnp_relay.specs.Streams.{streams_of};
 ghost use Rattle.capnp_relay.specs.Run.{Relays};
 ghost use Rattle.capnp_relay.specs.Pauses.{RelaysPausing};
 ghost use Rattle.capnp_between.specs.Newer.{MayRun};
@@ -88,14 +88,9 @@ pub fn relay_between<R: BufRead, W: Write, L: Write>(
 ) -> Result<Counts, BetweenFault>
     requires region { length region.old ≡ 8 * (options.bounds.words + 1) }
     requires root { IsRoot root }
-    ensures run { RelaysBetween Relays root.entry newer.entry calls.now options W.may_grow
-        L.may_grow
-        (streams (source_seen R.remaining R.failures source.old)
-        (sink_seen W.contents W.failures W.room out.old)
-        (sink_seen L.contents L.failures L.room log.old))
-        (streams (source_seen R.remaining R.failures source.new)
-        (sink_seen W.contents W.failures W.room out.new)
-        (sink_seen L.contents L.failures L.room log.new)) result }
+    ensures run { let seen = streams_of ⟦<R as Read>⟧ ⟦<W as Write>⟧ ⟦<L as Write>⟧ in
+        RelaysBetween Relays root.entry newer.entry calls.now options W.may_grow L.may_grow
+        (seen source.old out.old log.old) (seen source.new out.new log.new) result }
     ensures zeros { IfRun result (region.new ≡ replicate (length region.old) 0) }
     ensures untouched { IfHeld result ((source.new ≡ source.old) × (out.new ≡ out.old)
         × (log.new ≡ log.old) × (region.new ≡ region.old)) }
@@ -119,14 +114,9 @@ pub fn relay_between_pausing<R: BufRead, W: Write, L: Write, P: Pause<R, W, L>>(
 ) -> Result<Counts, BetweenFault>
     requires region { length region.old ≡ 8 * (options.bounds.words + 1) }
     requires root { IsRoot root }
-    ensures run { RelaysBetween (RelaysPausing P.may_fail) root.entry newer.entry calls.now options
-        W.may_grow L.may_grow
-        (streams (source_seen R.remaining R.failures source.old)
-        (sink_seen W.contents W.failures W.room out.old)
-        (sink_seen L.contents L.failures L.room log.old))
-        (streams (source_seen R.remaining R.failures source.new)
-        (sink_seen W.contents W.failures W.room out.new)
-        (sink_seen L.contents L.failures L.room log.new)) result }
+    ensures run { let seen = streams_of ⟦<R as Read>⟧ ⟦<W as Write>⟧ ⟦<L as Write>⟧ in
+        RelaysBetween (RelaysPausing P.may_fail) root.entry newer.entry calls.now options W.may_grow
+        L.may_grow (seen source.old out.old log.old) (seen source.new out.new log.new) result }
     ensures zeros { IfRun result (region.new ≡ replicate (length region.old) 0) }
     ensures untouched { IfHeld result ((source.new ≡ source.old) × (out.new ≡ out.old)
         × (log.new ≡ log.old) × (region.new ≡ region.old)) }

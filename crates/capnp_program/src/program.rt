@@ -56,12 +56,8 @@ pub fn program<R: Windowed, W: Flush, L: Flush>(
 ) -> u8
     ensures ends { Ends (request (map string_bytes words.now) (option_copied schema.entry)
         (option_copied calls.entry) (option_copied newer.entry)) W.may_grow L.may_grow
-        (seen (streams (source_seen R.remaining R.failures source.old)
-        (sink_seen W.contents W.failures W.room out.old)
-        (sink_seen L.contents L.failures L.room log.old)) (W.held out.old) (L.held log.old))
-        (seen (streams (source_seen R.remaining R.failures source.new)
-        (sink_seen W.contents W.failures W.room out.new)
-        (sink_seen L.contents L.failures L.room log.new)) (W.held out.new) (L.held log.new))
+        (seen (seen source.old out.old log.old) (W.held out.old) (L.held log.old))
+        (seen (seen source.new out.new log.new) (W.held out.new) (L.held log.new))
         result }
     ensures held { result ≡ 0 → (W.held out.new ≡ []) × (L.held log.new ≡ []) }
 {

@@ -24,12 +24,8 @@ fn relay_asked<R: Windowed, W: Flush, L: Flush>(
     log: &mut L,
 ) -> Result<Result<Counts, RelayFault>, Stop>
     ensures ran { IfOk result (Ran (asked_of settings.now) W.may_grow L.may_grow
-        (streams (source_seen R.remaining R.failures source.old)
-        (sink_seen W.contents W.failures W.room out.old)
-        (sink_seen L.contents L.failures L.room log.old))
-        (streams (source_seen R.remaining R.failures source.new)
-        (sink_seen W.contents W.failures W.room out.new)
-        (sink_seen L.contents L.failures L.room log.new))) }
+        (seen source.old out.old log.old)
+        (seen source.new out.new log.new)) }
     ensures held { IfErr result (IsHeldBack (asked_of settings.now)) }
     ensures untouched { IfErr result (λ _. (source.new ≡ source.old)
         × (out.new ≡ out.old) × (log.new ≡ log.old)) }
@@ -83,12 +79,8 @@ pub(crate) fn relay_all<R: Windowed, W: Flush, L: Flush>(
 ) -> Result<(), Stop>
     ensures run { RelaysAll (request (map string_bytes words.now) (option_copied schema.entry)
         (option_copied calls.entry) (option_copied newer.entry)) W.may_grow L.may_grow
-        (seen (streams (source_seen R.remaining R.failures source.old)
-        (sink_seen W.contents W.failures W.room out.old)
-        (sink_seen L.contents L.failures L.room log.old)) (W.held out.old) (L.held log.old))
-        (seen (streams (source_seen R.remaining R.failures source.new)
-        (sink_seen W.contents W.failures W.room out.new)
-        (sink_seen L.contents L.failures L.room log.new)) (W.held out.new) (L.held log.new))
+        (seen (seen source.old out.old log.old) (W.held out.old) (L.held log.old))
+        (seen (seen source.new out.new log.new) (W.held out.new) (L.held log.new))
         result }
     ensures held { OnOk result ((W.held out.new ≡ []) × (L.held log.new ≡ [])) }
 {

@@ -1,5 +1,6 @@
 -- What one step of a run does to its streams, and how a fault leaves them.
-use Rattle.std.specs.Prelude.{◌≡◌, ℕ, ◌+◌, ◌^◌, List, [], ⊤, ◌⊎◌, IfSome}
+use Rattle.std.specs.Prelude.{◌≡◌, ℕ, ◌+◌, ◌-◌, ◌^◌, ◌<◌, List, [], ⊤, ◌⊎◌, IfSome}
+use Rattle.std.specs.Io.KnownBytes.{IsAtEnd}
 use Rattle.capnp_model.specs.Segments.{Segments}
 use Rattle.capnp_model.specs.Messages.{spelled}
 use Rattle.capnp_model.specs.Answers.{Answer, Reply, written}
@@ -11,12 +12,16 @@ use Rattle.capnp_relay.specs.declared.ends.Fault.{Fault}
 use Rattle.capnp_relay.specs.declared.ends.Fault.TheVariants as faults
 use Rattle.capnp_relay.specs.Answers.{CountsOne, written_one}
 use Rattle.capnp_relay.specs.Work.{Work}
-use Rattle.capnp_relay.specs.Streams.{Streams, SinkSeen, SinkStays, SinkTakes, SinkTakesPart, SinkFails}
+use Rattle.capnp_relay.specs.Streams.{Streams, SinkSeen, SourceStays, SinkStays, SinkTakes, SinkTakesPart, SinkFails}
 
 -- A sink refused these bytes, with the sink's own fault or, where it grows, for want of memory.
 abbrev pub SinkRefused : Fault → Type 0 → Fault → SinkSeen → SinkSeen → List ℕ → Type 0
 SinkRefused own grows fault old new bytes = SinkTakesPart old new bytes
     × (((fault ≡ own) × SinkFails old new bytes) ⊎ ((fault ≡ faults.Memory) × grows × (new.failures ≡ old.failures)))
+
+-- The source was at its end, and nothing was taken, written or counted.
+abbrev pub EndsRun : Streams → Streams → Counts → Counts → Type 0
+EndsRun old new before after = IsAtEnd old.source.remaining × SourceStays old.source new.source × SinkStays old.out new.out × SinkStays old.log new.log × (after ≡ before)
 
 module _ (w : Work) where
   -- One message was taken and answered whole, as message n.
@@ -24,6 +29,10 @@ module _ (w : Work) where
   AnswersOne n old new before after = (s : Segments) × (a : Answer) × TakesMessage w.read w.limit old.source.remaining new.source.remaining s × w.is_answer s a
       × SinkTakes old.out new.out (output_of w.write a) × SinkTakes old.log new.log (line_of n a)
       × CountsOne before after a × (new.source.failures ≡ old.source.failures)
+
+  -- The message behind so many was taken and answered whole; its number has 64 bits.
+  abbrev pub AnswersNext : ℕ → Streams → Streams → Counts → Counts → Type 0
+  AnswersNext n old new before after = (n < 2 ^ 64 - 1) × AnswersOne (n + 1) old new before after
 
   -- Less than a message was taken, or one, and nothing was written.
   abbrev pub StopsBefore : Streams → Streams → Counts → Counts → Type 0

@@ -4,6 +4,8 @@ use Rattle.std.specs.declared.option.Option.{Option}
 use Rattle.std.specs.Io.KnownBytes.{Keeps, Appends}
 use Rattle.capnp_io.specs.Counting.{Rose}
 use Rattle.capnp_io.specs.Streams.{AppendsPart, RoomFalls}
+use Rattle.capnp_io.specs.declared.traits.Read.{Ghosts as Read}
+use Rattle.capnp_io.specs.declared.traits.Write.{Ghosts as Write}
 pub use Rattle.capnp_stream.specs.Reading.{SourceSeen, source_seen}
 pub use Rattle.capnp_io.specs.Writes.{SinkSeen, sink_seen}
 
@@ -16,6 +18,11 @@ pub record Streams : Type 0 where
 -- What is seen of the three.
 abbrev pub streams : SourceSeen → SinkSeen → SinkSeen → Streams
 streams source out log = record { source = source; out = out; log = log }
+
+-- What is seen of three streams of known kinds.
+abbrev pub streams_of : {R W L : Type 0} → Read R → Write W → Write L → R → W → L → Streams
+streams_of r w l source out log =
+    streams (source_seen r.remaining r.failures source) (sink_seen w.contents w.failures w.room out) (sink_seen l.contents l.failures l.room log)
 
 -- A source stays as it was.
 abbrev pub SourceStays : SourceSeen → SourceSeen → Type 0

@@ -1,7 +1,7 @@
 //! The relay.
 ghost use Rattle.std.specs.Prelude.{◌≡◌, ◌+◌, ◌*◌, length, replicate};
 ghost use Rattle.capnp_calls.specs.Taken.{IsRoot};
-ghost use Rattle.capnp_relay.specs.Streams.{source_seen, sink_seen, streams};
+ghost use Rattle.capnp_relay.specs.Streams.{streams_of};
 ghost use Rattle.capnp_relay.specs.Run.{Relays};
 ghost use Rattle.capnp_relay.specs.Pauses.{RelaysPausing};
 ghost use Rattle.capnp_relay.specs.Relaying.{relay_work};
@@ -35,13 +35,9 @@ pub fn relay<R: BufRead, W: Write, L: Write>(
 ) -> Result<Counts, RelayFault>
     requires region { length region.old ≡ 8 * (options.bounds.words + 1) }
     requires root { IsRoot root }
-    ensures run { Relays (relay_work root.entry calls.now options W.may_grow L.may_grow)
-        (streams (source_seen R.remaining R.failures source.old)
-        (sink_seen W.contents W.failures W.room out.old)
-        (sink_seen L.contents L.failures L.room log.old))
-        (streams (source_seen R.remaining R.failures source.new)
-        (sink_seen W.contents W.failures W.room out.new)
-        (sink_seen L.contents L.failures L.room log.new)) result }
+    ensures run { let seen = streams_of ⟦<R as Read>⟧ ⟦<W as Write>⟧ ⟦<L as Write>⟧ in
+        Relays (relay_work root.entry calls.now options W.may_grow L.may_grow)
+        (seen source.old out.old log.old) (seen source.new out.new log.new) result }
     ensures zeros { region.new ≡ replicate (length region.old) 0 }
 {
     relay_pausing::<R, W, L, NoPause>(alloc, source, out, log, root, calls, options, region)
@@ -61,14 +57,9 @@ pub fn relay_pausing<R: BufRead, W: Write, L: Write, P: Pause<R, W, L>>(
 ) -> Result<Counts, RelayFault>
     requires region { length region.old ≡ 8 * (options.bounds.words + 1) }
     requires root { IsRoot root }
-    ensures run { RelaysPausing P.may_fail
-        (relay_work root.entry calls.now options W.may_grow L.may_grow)
-        (streams (source_seen R.remaining R.failures source.old)
-        (sink_seen W.contents W.failures W.room out.old)
-        (sink_seen L.contents L.failures L.room log.old))
-        (streams (source_seen R.remaining R.failures source.new)
-        (sink_seen W.contents W.failures W.room out.new)
-        (sink_seen L.contents L.failures L.room log.new)) result }
+    ensures run { let seen = streams_of ⟦<R as Read>⟧ ⟦<W as Write>⟧ ⟦<L as Write>⟧ in
+        RelaysPausing P.may_fail (relay_work root.entry calls.now options W.may_grow L.may_grow)
+        (seen source.old out.old log.old) (seen source.new out.new log.new) result }
     ensures zeros { region.new ≡ replicate (length region.old) 0 }
 {
     region.fill(0);

@@ -1,7 +1,7 @@
 //! The loop of the relay.
 ghost use Rattle.std.specs.Prelude.{Some};
-ghost use Rattle.capnp_relay.specs.Streams.{source_seen, sink_seen, streams};
-ghost use Rattle.capnp_relay.specs.Work.{work};
+ghost use Rattle.capnp_relay.specs.Streams.{streams_of};
+ghost use Rattle.capnp_relay.specs.Work.{work_by};
 ghost use Rattle.capnp_relay.specs.Pauses.{RelaysPausing};
 
 use crate::answers::Answers;
@@ -30,14 +30,10 @@ pub(crate) fn answer_all<
     answers: &A,
     limit: usize,
 ) -> Result<Counts, RelayFault>
-    ensures { RelaysPausing P.may_fail (work I.reader O.writer (Some limit)
-        (A.is_answer answers.now) (A.is_too_large answers.now) W.may_grow L.may_grow)
-        (streams (source_seen R.remaining R.failures source.old)
-        (sink_seen W.contents W.failures W.room out.old)
-        (sink_seen L.contents L.failures L.room log.old))
-        (streams (source_seen R.remaining R.failures source.new)
-        (sink_seen W.contents W.failures W.room out.new)
-        (sink_seen L.contents L.failures L.room log.new)) result }
+    ensures { let seen = streams_of ⟦<R as Read>⟧ ⟦<W as Write>⟧ ⟦<L as Write>⟧ in
+        RelaysPausing P.may_fail (work_by ⟦<A as Answers>⟧ answers.now I.reader O.writer limit W.may_grow
+        L.may_grow)
+        (seen source.old out.old log.old) (seen source.new out.new log.new) result }
 {
     let mut counts = Counts {
         written: 0,

@@ -1,6 +1,5 @@
 //! One message of a run.
 ghost use Rattle.std.specs.Prelude.{◌≡◌, ◌≢◌, true, false, List, ◌+◌, ◌-◌, ◌*◌, ◌^◌, ◌<◌, ◌⊎◌, Some, IfOk, IfErr, OnOk, length};
-ghost use Rattle.std.specs.Io.KnownBytes.{IsAtEnd};
 ghost use Rattle.capnp_units.specs.declared.kinds.ErrorKind.{ErrorKind};
 ghost use Rattle.capnp_model.specs.Segments.{Segments};
 ghost use Rattle.capnp_model.specs.Messages.{spelled};
@@ -8,9 +7,9 @@ ghost use Rattle.capnp_model.specs.Answers.{Reply as ModelReply, written};
 ghost use Rattle.capnp_model.specs.Runs.{line_of, output_of};
 ghost use Rattle.capnp_stream.specs.Segments.{whole_words, segments_of};
 ghost use Rattle.capnp_relay.specs.Answers.{answer_view, HasFewWords, HoldsSegment, written_one, refused_one};
-ghost use Rattle.capnp_relay.specs.Streams.{SourceStays, SinkStays, SinkTakes, source_seen, sink_seen, streams};
-ghost use Rattle.capnp_relay.specs.Work.{work};
-ghost use Rattle.capnp_relay.specs.Stops.{AnswersOne, Stops, SinkRefused};
+ghost use Rattle.capnp_relay.specs.Streams.{SinkTakes, sink_seen, streams_of};
+ghost use Rattle.capnp_relay.specs.Work.{work_by};
+ghost use Rattle.capnp_relay.specs.Stops.{EndsRun, AnswersNext, Stops, SinkRefused};
 
 use crate::answers::{Answers, MessageAnswer, Want};
 use crate::ends::{Counts, Fault};
@@ -192,32 +191,17 @@ pub(crate) fn step<I: MessageForm, O: MessageForm, R: BufRead, W: Write, L: Writ
     counts: &mut Counts,
 ) -> Result<bool, Fault>
     requires together { counts.old.written + counts.old.refused ≡ answered }
-    ensures end { result ≡ Ok false → IsAtEnd (R.remaining source.old)
-        × SourceStays (source_seen R.remaining R.failures source.old)
-        (source_seen R.remaining R.failures source.new)
-        × SinkStays (sink_seen W.contents W.failures W.room out.old)
-        (sink_seen W.contents W.failures W.room out.new)
-        × SinkStays (sink_seen L.contents L.failures L.room log.old)
-        (sink_seen L.contents L.failures L.room log.new)
-        × (counts.new ≡ counts.old) }
-    ensures one { result ≡ Ok true → (answered < 2 ^ 64 - 1)
-        × AnswersOne (work I.reader O.writer (Some limit)
-        (A.is_answer answers.now) (A.is_too_large answers.now) W.may_grow L.may_grow) (answered + 1)
-        (streams (source_seen R.remaining R.failures source.old)
-        (sink_seen W.contents W.failures W.room out.old)
-        (sink_seen L.contents L.failures L.room log.old))
-        (streams (source_seen R.remaining R.failures source.new)
-        (sink_seen W.contents W.failures W.room out.new)
-        (sink_seen L.contents L.failures L.room log.new)) counts.old counts.new }
-    ensures fault { IfErr result (λ f. Stops (work I.reader O.writer (Some limit)
-        (A.is_answer answers.now) (A.is_too_large answers.now) W.may_grow L.may_grow) (answered + 1)
-        f
-        (streams (source_seen R.remaining R.failures source.old)
-        (sink_seen W.contents W.failures W.room out.old)
-        (sink_seen L.contents L.failures L.room log.old))
-        (streams (source_seen R.remaining R.failures source.new)
-        (sink_seen W.contents W.failures W.room out.new)
-        (sink_seen L.contents L.failures L.room log.new)) counts.old counts.new) }
+    ensures end { let seen = streams_of ⟦<R as Read>⟧ ⟦<W as Write>⟧ ⟦<L as Write>⟧ in
+        result ≡ Ok false → EndsRun (seen source.old out.old log.old)
+        (seen source.new out.new log.new) counts.old counts.new }
+    ensures one { let seen = streams_of ⟦<R as Read>⟧ ⟦<W as Write>⟧ ⟦<L as Write>⟧ in
+        result ≡ Ok true → AnswersNext (work_by ⟦<A as Answers>⟧ answers.now I.reader O.writer limit
+        W.may_grow L.may_grow) answered (seen source.old out.old log.old)
+        (seen source.new out.new log.new) counts.old counts.new }
+    ensures fault { let seen = streams_of ⟦<R as Read>⟧ ⟦<W as Write>⟧ ⟦<L as Write>⟧ in
+        IfErr result (λ f. Stops (work_by ⟦<A as Answers>⟧ answers.now I.reader O.writer limit
+        W.may_grow L.may_grow) (answered + 1) f (seen source.old out.old log.old)
+        (seen source.new out.new log.new) counts.old counts.new) }
 {
     let message = match try_read_message_in::<I, R>(alloc, source, Some(limit)) {
         Ok(Some(message)) => message,
