@@ -1,7 +1,7 @@
 //! The program but for its files.
 ghost use Rattle.std.specs.Prelude.{◌≡◌, [], map, string_bytes};
 ghost use Rattle.std.specs.Option.{option_copied};
-ghost use Rattle.capnp_relay.specs.Streams.{source_seen, sink_seen, streams};
+ghost use Rattle.capnp_relay.specs.Streams.{streams_of};
 ghost use Rattle.capnp_program.specs.Asked.{request};
 ghost use Rattle.capnp_program.specs.Program.{seen, Told, ToldFault, Ends};
 
@@ -12,6 +12,7 @@ use crate::sinks::Flush;
 use crate::sources::Windowed;
 use crate::stop::Stop;
 use crate::usage::USAGE;
+use capnp_io::traits::{Read, Write};
 use std::alloc::Global;
 
 /// Writes a text and hands on what the sink holds; what it refuses is given up.
@@ -54,10 +55,11 @@ pub fn program<R: Windowed, W: Flush, L: Flush>(
     out: &mut W,
     log: &mut L,
 ) -> u8
-    ensures ends { Ends (request (map string_bytes words.now) (option_copied schema.entry)
+    ensures ends { let three = streams_of ⟦<R as Read>⟧ ⟦<W as Write>⟧ ⟦<L as Write>⟧ in
+        Ends (request (map string_bytes words.now) (option_copied schema.entry)
         (option_copied calls.entry) (option_copied newer.entry)) W.may_grow L.may_grow
-        (seen (seen source.old out.old log.old) (W.held out.old) (L.held log.old))
-        (seen (seen source.new out.new log.new) (W.held out.new) (L.held log.new))
+        (seen (three source.old out.old log.old) (W.held out.old) (L.held log.old))
+        (seen (three source.new out.new log.new) (W.held out.new) (L.held log.new))
         result }
     ensures held { result ≡ 0 → (W.held out.new ≡ []) × (L.held log.new ≡ []) }
 {

@@ -1,7 +1,7 @@
 //! The run of the program.
 ghost use Rattle.std.specs.Prelude.{◌≡◌, [], map, string_bytes, OnOk, IfOk, IfErr};
 ghost use Rattle.std.specs.Option.{option_copied};
-ghost use Rattle.capnp_relay.specs.Streams.{source_seen, sink_seen, streams};
+ghost use Rattle.capnp_relay.specs.Streams.{streams_of};
 ghost use Rattle.capnp_program.specs.Asked.{request, IsHeldBack};
 ghost use Rattle.capnp_program.specs.Settings.{asked_of};
 ghost use Rattle.capnp_program.specs.Program.{seen, Ran, RelaysAll};
@@ -11,6 +11,7 @@ use crate::sinks::Flush;
 use crate::sources::{FlushBeforeWait, Windowed};
 use crate::stop::Stop;
 use capnp_between::between::{BetweenFault, relay_between_pausing};
+use capnp_io::traits::{Read, Write};
 use capnp_relay::ends::{Counts, Fault, RelayFault};
 use capnp_relay::relay::relay_pausing;
 use std::alloc::Global;
@@ -23,9 +24,9 @@ fn relay_asked<R: Windowed, W: Flush, L: Flush>(
     out: &mut W,
     log: &mut L,
 ) -> Result<Result<Counts, RelayFault>, Stop>
-    ensures ran { IfOk result (Ran (asked_of settings.now) W.may_grow L.may_grow
-        (seen source.old out.old log.old)
-        (seen source.new out.new log.new)) }
+    ensures ran { let three = streams_of ⟦<R as Read>⟧ ⟦<W as Write>⟧ ⟦<L as Write>⟧ in
+        IfOk result (Ran (asked_of settings.now) W.may_grow L.may_grow
+        (three source.old out.old log.old) (three source.new out.new log.new)) }
     ensures held { IfErr result (IsHeldBack (asked_of settings.now)) }
     ensures untouched { IfErr result (λ _. (source.new ≡ source.old)
         × (out.new ≡ out.old) × (log.new ≡ log.old)) }
@@ -77,10 +78,11 @@ pub(crate) fn relay_all<R: Windowed, W: Flush, L: Flush>(
     out: &mut W,
     log: &mut L,
 ) -> Result<(), Stop>
-    ensures run { RelaysAll (request (map string_bytes words.now) (option_copied schema.entry)
+    ensures run { let three = streams_of ⟦<R as Read>⟧ ⟦<W as Write>⟧ ⟦<L as Write>⟧ in
+        RelaysAll (request (map string_bytes words.now) (option_copied schema.entry)
         (option_copied calls.entry) (option_copied newer.entry)) W.may_grow L.may_grow
-        (seen (seen source.old out.old log.old) (W.held out.old) (L.held log.old))
-        (seen (seen source.new out.new log.new) (W.held out.new) (L.held log.new))
+        (seen (three source.old out.old log.old) (W.held out.old) (L.held log.old))
+        (seen (three source.new out.new log.new) (W.held out.new) (L.held log.new))
         result }
     ensures held { OnOk result ((W.held out.new ≡ []) × (L.held log.new ≡ [])) }
 {

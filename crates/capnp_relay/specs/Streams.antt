@@ -19,10 +19,14 @@ pub record Streams : Type 0 where
 abbrev pub streams : SourceSeen → SinkSeen → SinkSeen → Streams
 streams source out log = record { source = source; out = out; log = log }
 
+-- What is seen of a sink of a known kind.
+abbrev pub sink_of : {W : Type 0} → Write W → W → SinkSeen
+sink_of w sink = sink_seen w.contents w.failures w.room sink
+
 -- What is seen of three streams of known kinds.
 abbrev pub streams_of : {R W L : Type 0} → Read R → Write W → Write L → R → W → L → Streams
 streams_of r w l source out log =
-    streams (source_seen r.remaining r.failures source) (sink_seen w.contents w.failures w.room out) (sink_seen l.contents l.failures l.room log)
+    streams (source_seen r.remaining r.failures source) (sink_of w out) (sink_of l log)
 
 -- A source stays as it was.
 abbrev pub SourceStays : SourceSeen → SourceSeen → Type 0

@@ -53,10 +53,8 @@ fn answer_struct(
     requires fits { Fits (struct_tree root) }
     ensures answer { IfOk result (λ a.
         answer_view a ≡ answer_from schema.entry calls.now (pos nesting) (struct_tree root)) }
-    ensures means { IfOk result (λ a.
-        MeansTree nesting
-        (trim (tree_after_all schema.entry (map call_view calls.now) (struct_tree root)))
-        (answer_view a)) }
+    ensures means { let t = tree_after_all schema.entry (map call_view calls.now) (struct_tree root)
+        in IfOk result (λ a. MeansTree nesting (trim t) (answer_view a)) }
     ensures few { IfOk result (λ a. HasFewWords (answer_view a)) }
     ensures size { result ≡ Err Want.Size
         → IsTooLargeFrom schema.entry calls.now (pos nesting) (struct_tree root) }

@@ -1,6 +1,6 @@
 //! What is done before a message is read.
 ghost use Rattle.std.specs.Prelude.{OnOk, IfErr};
-ghost use Rattle.capnp_relay.specs.Streams.{sink_seen};
+ghost use Rattle.capnp_relay.specs.Streams.{sink_of};
 ghost use Rattle.capnp_relay.specs.Pauses.{SinkRests, FailsInPause};
 
 use crate::ends::Fault;
@@ -13,16 +13,12 @@ pub trait Pause<R: BufRead, W: Write, L: Write> {
 
     /// Gives no byte to a sink, and ends the run where a sink's device failed: `Out` the output's, `Log` the log's.
     fn pause(source: &R, out: &mut W, log: &mut L) -> Result<(), Fault>
-        ensures ok { OnOk result
-            (SinkRests (sink_seen W.contents W.failures W.room out.old)
-            (sink_seen W.contents W.failures W.room out.new)
-            × SinkRests (sink_seen L.contents L.failures L.room log.old)
-            (sink_seen L.contents L.failures L.room log.new)) }
-        ensures err { IfErr result (λ f. may_fail × FailsInPause f
-            (sink_seen W.contents W.failures W.room out.old)
-            (sink_seen W.contents W.failures W.room out.new)
-            (sink_seen L.contents L.failures L.room log.old)
-            (sink_seen L.contents L.failures L.room log.new)) };
+        ensures ok { let sink = sink_of ⟦<W as Write>⟧ in let line = sink_of ⟦<L as Write>⟧ in
+            OnOk result (SinkRests (sink out.old) (sink out.new)
+            × SinkRests (line log.old) (line log.new)) }
+        ensures err { let sink = sink_of ⟦<W as Write>⟧ in let line = sink_of ⟦<L as Write>⟧ in
+            IfErr result (λ f. may_fail × FailsInPause f (sink out.old) (sink out.new)
+            (line log.old) (line log.new)) };
 }
 
 /// Nothing is done before a message is read.

@@ -7,7 +7,7 @@ ghost use Rattle.capnp_model.specs.Answers.{Reply as ModelReply, written};
 ghost use Rattle.capnp_model.specs.Runs.{line_of, output_of};
 ghost use Rattle.capnp_stream.specs.Segments.{whole_words, segments_of};
 ghost use Rattle.capnp_relay.specs.Answers.{answer_view, HasFewWords, HoldsSegment, written_one, refused_one};
-ghost use Rattle.capnp_relay.specs.Streams.{SinkTakes, sink_seen, streams_of};
+ghost use Rattle.capnp_relay.specs.Streams.{SinkTakes, sink_of, streams_of};
 ghost use Rattle.capnp_relay.specs.Work.{work_by};
 ghost use Rattle.capnp_relay.specs.Stops.{EndsRun, AnswersNext, Stops, SinkRefused};
 
@@ -126,18 +126,15 @@ fn put_out<O: MessageForm, W: Write>(
 ) -> Result<(), Fault>
     requires holds { HoldsSegment (answer_view answer.now) segment.now }
     requires room { counts.old.written < 2 ^ 64 - 1 }
-    ensures ok { OnOk result
-        (SinkTakes (sink_seen W.contents W.failures W.room out.old)
-        (sink_seen W.contents W.failures W.room out.new)
-        (output_of O.writer (answer_view answer.now))
+    ensures ok { let sink = sink_of ⟦<W as Write>⟧ in OnOk result
+        (SinkTakes (sink out.old) (sink out.new) (output_of O.writer (answer_view answer.now))
         × (counts.new.written ≡ counts.old.written + written_one (answer_view answer.now))) }
     ensures refused { counts.new.refused ≡ counts.old.refused }
-    ensures err { IfErr result (λ f.
+    ensures err { let sink = sink_of ⟦<W as Write>⟧ in IfErr result (λ f.
         (segments : Segments) × (replies : List ModelReply)
         × (answer_view answer.now ≡ written segments replies)
-        × SinkRefused Fault.Out W.may_grow f (sink_seen W.contents W.failures W.room out.old)
-        (sink_seen W.contents W.failures W.room out.new) (spelled O.writer segments)
-        × (counts.new ≡ counts.old)) }
+        × SinkRefused Fault.Out W.may_grow f (sink out.old) (sink out.new)
+        (spelled O.writer segments) × (counts.new ≡ counts.old)) }
 {
     if let MessageAnswer::Written {
         words: _,
@@ -160,14 +157,12 @@ fn put_log<L: Write>(
     counts: &mut Counts,
 ) -> Result<(), Fault>
     requires room { counts.old.refused < 2 ^ 64 - 1 }
-    ensures ok { OnOk result
-        (SinkTakes (sink_seen L.contents L.failures L.room log.old)
-        (sink_seen L.contents L.failures L.room log.new) line.now
+    ensures ok { let sink = sink_of ⟦<L as Write>⟧ in OnOk result
+        (SinkTakes (sink log.old) (sink log.new) line.now
         × (counts.new.refused ≡ counts.old.refused + refused_one (answer_view answer.now))) }
     ensures written { counts.new.written ≡ counts.old.written }
-    ensures err { IfErr result (λ f.
-        SinkRefused Fault.Log L.may_grow f (sink_seen L.contents L.failures L.room log.old)
-        (sink_seen L.contents L.failures L.room log.new) line.now
+    ensures err { let sink = sink_of ⟦<L as Write>⟧ in IfErr result (λ f.
+        SinkRefused Fault.Log L.may_grow f (sink log.old) (sink log.new) line.now
         × (counts.new.refused ≡ counts.old.refused)) }
 {
     if let Err(e) = log.write_all(line) {
