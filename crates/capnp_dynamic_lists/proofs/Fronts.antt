@@ -1,8 +1,9 @@
 -- A number written into the front of an element, as the model's edit of it.
-use Rattle.std.proofs.Common.{◌≡◌, ℕ, zero, suc, ◌+◌, ◌*◌, ◌^◌, ◌<◌, ◌≤◌, List, [], ◌∷◌, length, map, Option, Some, None, refl, ap, sym, ◌∙◌, subst, arith}
+use Rattle.std.proofs.Common.{◌≡◌, ℕ, zero, suc, ◌+◌, ◌*◌, ◌^◌, ◌<◌, ◌≤◌, List, [], ◌∷◌, Option, Some, None, refl, ap, sym, ◌∙◌, subst, arith}
 use Rattle.std.proofs.Math.Nat.{mod-lt}
 use Rattle.std.proofs.lemmas.Nat.{pow_pos}
 use Rattle.capnp_model.specs.Sections.{with_bits, numbers_in, number_of}
+use Rattle.capnp_model.specs.Coverage.{Grows}
 use Rattle.capnp_model.specs.Segments.{Segments, Place, after}
 use Rattle.capnp_model.specs.Pointers.{a_struct, a_list}
 use Rattle.capnp_model.specs.Trees.{Tree, null, capability, structure, plain_list, pointer_list, struct_list, Trees, none, ◌▸◌, Elements, no_elements, element, element_count, size_bits}
@@ -27,11 +28,11 @@ use Rattle.capnp_copy.specs.Lists.{list_at}
 use Rattle.capnp_copy.specs.declared.fields.StructPlace.{StructPlace}
 use Rattle.capnp_copy.specs.declared.init.ListPlace.{ListPlace}
 use Rattle.capnp_copy.proofs.ElementLaws.{plain_parts}
-use Rattle.capnp_copy.proofs.RoomLaws.{words_stay}
+use Rattle.capnp_copy.proofs.RoomLaws.{still_some}
 use Rattle.capnp_values.specs.declared.dynamic_value.Reader.{Reader}
 use Rattle.capnp_dynamic.specs.Given.{plain_given, bits_given}
 use Rattle.capnp_dynamic_lists.specs.Lists.{IsListThere, EditsElement}
-use Rattle.capnp_dynamic_lists.specs.Elements.{plain_in, single_element, element_edit}
+use Rattle.capnp_dynamic_lists.specs.Elements.{plain_in, single_element, single_edit}
 use Rattle.capnp_dynamic_lists.proofs.PlainElements.{element_in_section}
 
 -- ---- plain elements
@@ -159,7 +160,7 @@ none_written s o i counted n (structure d section ts) is owns = absurd is
 pub edits_as : (s u : Segments) (o : ListPlace) (f g : ℕ → ℕ → Edit) (i : ℕ) → f ≡ g → EditsElement s u o f i → EditsElement s u o g i
 edits_as s u o f g i e h = subst (λ k. EditsElement s u o k i) e h
 
-pub plain_put : {A : Type 0} (v : Reader A) (ty : Ty) (p : PlainType) (n w : ℕ) → plain_in ty ≡ Some p → bits_given p (plain_given v) ≡ Some n → w ≡ width p → (λ words pointers. put_bits 0 w n) ≡ element_edit v ty
+pub plain_put : {A : Type 0} (v : Reader A) (ty : Ty) (p : PlainType) (n w : ℕ) → plain_in ty ≡ Some p → bits_given p (plain_given v) ≡ Some n → w ≡ width p → (λ words pointers. put_bits 0 w n) ≡ single_edit v ty
 plain_put v (plain q) p n w e given width_is =
     let same : q ≡ p = cc in
     let bits : bits_given q (plain_given v) ≡ Some n = ap (λ y. bits_given y (plain_given v)) same ∙ given in
@@ -173,8 +174,8 @@ plain_put v interface p n w e given width_is = absurd cc
 plain_put v (struct id) p n w e given width_is = absurd cc
 plain_put v (list ty) p n w e given width_is = absurd cc
 
-pub void_put : {A : Type 0} (v : Reader A) (ty : Ty) → void ≡ ty → (λ words pointers c. c) ≡ element_edit v ty
-void_put v ty e = ap (λ y. element_edit v y) e
+pub void_put : {A : Type 0} (v : Reader A) (ty : Ty) → void ≡ ty → (λ words pointers c. c) ≡ single_edit v ty
+void_put v ty e = ap (λ y. single_edit v y) e
 
 -- the number of structs is theirs alone
 pub of_structs : (z : ElementSize) → size_number z ≡ 7 → z ≡ InlineComposite
@@ -189,13 +190,13 @@ of_structs InlineComposite e = refl
 
 -- ---- what is there stays
 
-there_stays : (s u : Segments) (p : Place) (n : ℕ) → map length u ≡ map length s → AreThere s p n → AreThere u p n
-there_stays s u p n e h = (words_stay s u p n e h.0, h.1)
+there_grown : (s u : Segments) (p : Place) (n : ℕ) → Grows s u → AreThere s p n → AreThere u p n
+there_grown s u p n g h = (still_some s u p n g h.0, h.1)
 
-pub list_stays : (s u : Segments) (o : ListPlace) → map length u ≡ map length s → IsListThere s o → IsListThere u o
-list_stays s u o e h =
+pub list_grown : (s u : Segments) (o : ListPlace) → Grows s u → IsListThere s o → IsListThere u o
+list_grown s u o g h =
     let w = h.whole in
     record {
-      whole = ((there_stays s u _ _ e w.0.0, w.0.1), (λ six. there_stays s u _ _ e (w.1 six)), λ seven. (let x = w.2 seven in (there_stays s u _ _ e x.0, x.1)));
+      whole = ((there_grown s u _ _ g w.0.0, w.0.1), (λ six. there_grown s u _ _ g (w.1 six)), λ seven. (let x = w.2 seven in (there_grown s u _ _ g x.0, x.1)));
       counted = h.counted;
     }

@@ -1,2 +1,4 @@
 pub mod PlainElements
 pub mod Fronts
+pub mod Pointers
+pub mod Contents

@@ -1,12 +1,16 @@
 -- What contracts see of list builders. (Encoding, "Lists")
-use Rattle.std.specs.Prelude.{◌≡◌, ℕ, List, length, map, true}
+use Rattle.std.specs.Prelude.{◌≡◌, ⊤, ℕ, List, Result, true}
 use Rattle.capnp_model.specs.Segments.{Segments}
+use Rattle.capnp_model.specs.Calls.{Content}
 use Rattle.capnp_model.specs.Edits.{Edit}
 use Rattle.capnp_units.specs.Segments.{words_in}
+use Rattle.capnp_units.specs.declared.errors.Error.{Error}
+use Rattle.capnp_builders.specs.Making.{state_of}
 use Rattle.capnp_records.specs.Sets.{nodes_of}
 use Rattle.capnp_queries.specs.Types.{ty_of, is_type_of}
-use Rattle.capnp_dynamic_lists.specs.Lists.{IsListThere, EditsElement}
+use Rattle.capnp_dynamic_lists.specs.Lists.{IsListThere}
 use Rattle.capnp_dynamic_lists.specs.Elements.{Holds}
+use Rattle.capnp_dynamic_lists.specs.Puts.{PutsContent}
 use Rattle.capnp_dynamic_lists.specs.declared.dynamic_list.Builder.{Builder}
 
 module _ {A : Type 0} (bytes : A → List (List ℕ)) where
@@ -20,15 +24,6 @@ module _ {A : Type 0} (bytes : A → List (List ℕ)) where
     pub holds : Holds b.place (ty_of b.element_type)
     pub known : is_type_of (nodes_of b.set.now) b.element_type ≡ true
 
-  -- An element becomes what the edit makes of it, and nothing else changes, in a message whose segments keep their lengths.
-  pub record WritesElement (old new : Builder A) (f : ℕ → ℕ → Edit) (index : ℕ) : Type 0 where
-    pub same : new.memory.ghost_name ≡ old.memory.ghost_name
-    pub place : new.place ≡ old.place
-    pub set : new.set.now ≡ old.set.now
-    pub element_type : new.element_type ≡ old.element_type
-    pub sizes : map length (words_around new) ≡ map length (words_around old)
-    pub writes : EditsElement (words_around old) (words_around new) old.place f index
-
   -- The handle and the message are as they were.
   pub record Stays (old new : Builder A) : Type 0 where
     pub same : new.memory.ghost_name ≡ old.memory.ghost_name
@@ -36,3 +31,12 @@ module _ {A : Type 0} (bytes : A → List (List ℕ)) where
     pub set : new.set.now ≡ old.set.now
     pub element_type : new.element_type ≡ old.element_type
     pub bytes_stay : bytes new.memory.now.arena ≡ bytes old.memory.now.arena
+
+module _ {A : Type 0} (segments : A → List (List ℕ)) (room : A → List ℕ) (books : A → List (List ℕ)) where
+  -- Content is put into an element, by a handle that stays where it was.
+  pub record Puts (old new : Builder A) (f : ℕ → ℕ → Edit) (index : ℕ) (content : Content) (r : Result ⊤ Error) : Type 0 where
+    pub same : new.memory.ghost_name ≡ old.memory.ghost_name
+    pub place : new.place ≡ old.place
+    pub set : new.set.now ≡ old.set.now
+    pub element_type : new.element_type ≡ old.element_type
+    pub puts : PutsContent (state_of segments room books old.memory.now) (state_of segments room books new.memory.now) old.place f index content r

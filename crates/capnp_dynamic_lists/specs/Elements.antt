@@ -1,43 +1,24 @@
 -- What `set` puts into an element of a list. (Encoding, "Lists" and "Value Encoding")
-use Rattle.std.specs.Prelude.{ℕ, ⊤, Bool, true, false, Option, Some, None, Result, Ok, Err}
+use Rattle.std.specs.Prelude.{ℕ, ⊤, Option, Some, None, List, Result, Ok, Err}
 use Rattle.capnp_model.specs.Kinds.{Kind, TypeMismatch, ListAnyPointerNotSupported}
 use Rattle.capnp_model.specs.Schemas.{PlainType, width, Ty, void, plain, text, blob, untyped, interface, struct, list}
-use Rattle.capnp_model.specs.Calls.{Content, refused_by, bits_of, object}
+use Rattle.capnp_model.specs.Calls.{Content, refused_by, bits_of, object, blob_tree}
 use Rattle.capnp_model.specs.Edits.{Edit, put_in_element}
 use Rattle.capnp_values.specs.declared.dynamic_value.Reader.{Reader}
-use Rattle.capnp_values.specs.declared.dynamic_value.Reader.TheVariants as value
-use Rattle.capnp_dynamic.specs.Given.{plain_given, bits_given}
-use Rattle.capnp_dynamic_lists.specs.Lists.{HasRoom}
+use Rattle.capnp_dynamic.specs.Given.{plain_given, bits_given, bytes_given}
+use Rattle.capnp_dynamic_lists.specs.Lists.{HasRoom, HasPointer}
 use Rattle.capnp_copy.specs.declared.init.ListPlace.{ListPlace}
-
--- The value is Void, a truth value, a number or an enum's.
-abbrev pub is_single : {A : Type 0} → Reader A → Bool
-is_single value.Void = true
-is_single (value.Bool b) = true
-is_single (value.Int8 z) = true
-is_single (value.Int16 z) = true
-is_single (value.Int32 z) = true
-is_single (value.Int64 z) = true
-is_single (value.UInt8 n) = true
-is_single (value.UInt16 n) = true
-is_single (value.UInt32 n) = true
-is_single (value.UInt64 n) = true
-is_single (value.Enum e) = true
-is_single (value.Text t) = false
-is_single (value.Data d) = false
-is_single (value.Struct r) = false
-is_single (value.List l) = false
-is_single (value.AnyPointer p) = false
-is_single (value.Capability c) = false
 
 -- The plain type that elements have.
 abbrev pub plain_in : Ty → Option PlainType
 plain_in (plain p) = Some p
 plain_in _ = None
 
--- Elements of the type are there, plain ones with their bits.
+-- Elements of the type are there: plain ones with their bits, texts and data with their pointers.
 abbrev pub Holds : ListPlace → Ty → Type 0
 Holds o (plain p) = HasRoom o (width p)
+Holds o text = HasPointer o
+Holds o blob = HasPointer o
 Holds o _ = Unit {0}
 
 -- What a value that is Void, a truth value, a number or an enum's puts into an element of a type: bits of the type, and nothing into a Void one, which takes each.
@@ -57,6 +38,25 @@ answer_of (refused_by k) = Err k
 answer_of (bits_of n) = Ok tt
 answer_of (object t) = Ok tt
 
+-- The model's edit that puts it.
+abbrev pub single_edit : {A : Type 0} → Reader A → Ty → ℕ → ℕ → Edit
+single_edit v ty words pointers = put_in_element words pointers ty (single_element v ty)
+
+-- The bytes of the list that a text or data become in an element of texts or of data.
+abbrev pub blob_given : {A : Type 0} → Reader A → Ty → Option (List ℕ)
+blob_given v void = None
+blob_given v (plain p) = None
+blob_given v text = bytes_given v text
+blob_given v blob = bytes_given v blob
+blob_given v untyped = None
+blob_given v interface = None
+blob_given v (struct id) = None
+blob_given v (list ty) = None
+
+-- What a value without pointers puts into an element of a type: the list of a text's or data's bytes where the elements are such, and else what a single value does.
+abbrev pub flat_element : {A : Type 0} → Reader A → Ty → Content
+flat_element v ty = elim (blob_given v ty) [ None ↦ single_element v ty | Some bytes ↦ object (blob_tree bytes) ]
+
 -- The model's edit of the element.
 abbrev pub element_edit : {A : Type 0} → Reader A → Ty → ℕ → ℕ → Edit
-element_edit v ty words pointers = put_in_element words pointers ty (single_element v ty)
+element_edit v ty words pointers = put_in_element words pointers ty (flat_element v ty)

@@ -1,4 +1,6 @@
 pub mod Lists
 pub mod Elements
+pub mod Blobs
+pub mod Puts
 pub mod Builders
 pub mod Lending

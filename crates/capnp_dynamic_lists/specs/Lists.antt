@@ -1,5 +1,5 @@
 -- Lists that are written where they lie. (Encoding, "Lists")
-use Rattle.std.specs.Prelude.{◌≡◌, ◌≢◌, ℕ, ◌<◌, ◌≤◌}
+use Rattle.std.specs.Prelude.{◌≡◌, ◌≢◌, ℕ, suc, ◌<◌, ◌≤◌}
 use Rattle.capnp_model.specs.Segments.{Segments}
 use Rattle.capnp_model.specs.Trees.{Tree, plain_list, pointer_list, struct_list, tree_count, element_count, size_bits}
 use Rattle.capnp_model.specs.Edits.{Edit, edit_list}
@@ -27,6 +27,15 @@ pub record HasRoom (o : ListPlace) (width : ℕ) : Type 0 where
   pub plain : size_number o.size ≢ 7 → (size_number o.size < 6) × (width ≤ size_bits (size_number o.size))
   pub structs : size_number o.size ≡ 7 → (0 < o.data_words) × (width ≤ 64)
 
+-- Each element has a pointer: it is one, or a struct with one.
+pub record HasPointer (o : ListPlace) : Type 0 where
+  pub pointers : size_number o.size ≢ 7 → size_number o.size ≡ 6
+  pub structs : size_number o.size ≡ 7 → 0 < o.pointers
+
 -- Whatever elements the list has: the one at an index becomes what the edit makes of it, and nothing else changes.
 abbrev pub EditsElement : Segments → Segments → ListPlace → (ℕ → ℕ → Edit) → ℕ → Type 0
 EditsElement s u o f k = (n : ℕ) (t : Tree) → IsListOf o t → OwnsObject n s (list_at o) t → ReplacesObject n s u (list_at o) (edit_list f k t)
+
+-- The same, where one level of pointers may be new.
+abbrev pub DeepensElement : Segments → Segments → ListPlace → (ℕ → ℕ → Edit) → ℕ → Type 0
+DeepensElement s u o f k = (n : ℕ) (t : Tree) → IsListOf o t → OwnsObject n s (list_at o) t → ReplacesObject (suc n) s u (list_at o) (edit_list f k t)

@@ -1,36 +1,58 @@
 //! Lists whose elements' type is known at run time, to write.
-ghost use Rattle.std.specs.Prelude.{◌≡◌, ◌↔◌, ◌==◌, ◌<◌, true, OnOk, OnErr};
+ghost use Rattle.std.specs.Prelude.{◌≡◌, ◌↔◌, ◌==◌, ◌<◌, ◌≤◌, true, OnErr};
 ghost use Rattle.capnp_units.specs.Segments.{words_in};
-ghost use Rattle.capnp_object.specs.Places.{seen};
 ghost use Rattle.capnp_records.specs.Sets.{nodes_of};
 ghost use Rattle.capnp_queries.specs.Types.{ty_of, is_type_of};
-ghost use Rattle.capnp_dynamic_lists.specs.Lists.{IsListThere};
-ghost use Rattle.capnp_dynamic_lists.specs.Elements.{Holds, is_single, answer_of, single_element, element_edit};
-ghost use Rattle.capnp_dynamic_lists.specs.Builders.{IsReady, WritesElement, Stays};
+ghost use Rattle.capnp_dynamic.specs.Given.{is_flat};
+ghost use Rattle.capnp_dynamic_lists.specs.Lists.{IsListThere, HasRoom, HasPointer};
+ghost use Rattle.capnp_dynamic_lists.specs.Elements.{Holds, flat_element, element_edit};
+ghost use Rattle.capnp_dynamic_lists.specs.Builders.{IsReady, Stays, Puts};
 
-use crate::elements::{plain_type, set_single};
+use crate::elements::{plain_type, set_flat};
 use capnp_builders::list_builder::ListBuilder;
 use capnp_copy::arena::{BuilderArena, Memory};
 use capnp_copy::init::ListPlace;
 use capnp_dynamic::slots::width_of;
-use capnp_queries::introspect::Type;
+use capnp_queries::introspect::{Type, TypeVariant};
 use capnp_records::set::SchemaSet;
 use capnp_units::errors::Result;
 use capnp_units::sizes::{ElementSize, data_bits_per_element};
 use capnp_values::dynamic_value;
 
-/// Whether each element of a list has the bits of its type, if that is a plain one, as its builder asks.
+/// Whether each element has so many bits at its front.
+fn has_room(place: ListPlace, width: u32) -> bool
+    requires { width ≤ 64 }
+    ensures { (result ≡ true) ↔ HasRoom place width }
+{
+    match place.size {
+        ElementSize::InlineComposite => place.data_words > 0,
+        ElementSize::Pointer => false,
+        size => width <= data_bits_per_element(size),
+    }
+}
+
+/// Whether each element has a pointer.
+fn has_pointer(place: ListPlace) -> bool
+    ensures { (result ≡ true) ↔ HasPointer place }
+{
+    match place.size {
+        ElementSize::InlineComposite => place.pointers > 0,
+        ElementSize::Pointer => true,
+        _ => false,
+    }
+}
+
+/// Whether the elements of a list are there under their type, as its builder asks: plain ones with the bits of their type, texts and data with their pointers.
 pub fn holds<A: BuilderArena>(builder: &ListBuilder<'_, A>, element_type: Type) -> bool
     ensures { (result ≡ true) ↔ Holds builder.now.place (ty_of element_type) }
 {
     let place = builder.place;
-    let Some(plain) = plain_type(element_type) else {
-        return true;
-    };
-    match place.size {
-        ElementSize::InlineComposite => place.data_words > 0,
-        ElementSize::Pointer => false,
-        size => width_of(plain) <= data_bits_per_element(size),
+    if let Some(plain) = plain_type(element_type) {
+        return has_room(place, width_of(plain));
+    }
+    match element_type.which() {
+        TypeVariant::Text | TypeVariant::Data => has_pointer(place),
+        _ => true,
     }
 }
 
@@ -47,7 +69,7 @@ impl<'a, A: BuilderArena> Builder<'a, A> {
     ghost use Rattle.std.specs.Borrow.{sem};
     ghost use Rattle.capnp_dynamic_lists.specs.Lending.{Lends};
 
-    /// A list of elements of a type of the set. It lies whole, and its plain elements have the bits of their type, as `holds` tells.
+    /// A list of elements of a type of the set. It lies whole, and its elements have the bits or the pointers of their type, as `holds` tells.
     pub fn new(builder: ListBuilder<'a, A>, set: &'a SchemaSet, element_type: Type) -> Self
         requires there { IsListThere (words_in (A.segments builder.memory.now.arena))
             builder.place }
@@ -112,24 +134,23 @@ impl<'a, A: BuilderArena> Builder<'a, A> {
         self.element_type
     }
 
-    /// Sets the element at an index, which is one of the list's, to a value that is Void, a truth value, a number or an enum's. A plain element takes a value of its type, one of an enum any enum's; a Void one takes each. Elements that are wider than their type keep the bits behind it. Nothing is allocated.
+    /// Sets the element at an index, which is one of the list's, to a value that is Void, a truth value, a number, an enum's, a text or data. A plain element takes a value of its type, one of an enum any enum's; one of texts or of data a value of its own; a Void one takes each. Elements that are wider than their type keep the bits behind it. A plain value takes no memory; a text or data the words of its list where the list's segment has room for them, else at most one more.
     ///
-    /// It is refused with `ListAnyPointerNotSupported` where the elements are untyped pointers, and else with `TypeMismatch`. Then the list is as it was.
+    /// It is refused with `ListAnyPointerNotSupported` where the elements are untyped pointers, and else with `TypeMismatch`; a text or data with `SizeOverflow` just where its bytes, a text's with its zero byte, or the message's words, a pad counted, would pass 2^29 - 1, else as the allocator refuses. Then the list is as it was.
     pub fn set<B>(&mut self, index: u32, value: dynamic_value::Reader<'_, B>) -> Result<()>
         requires ready { IsReady A.segments self.old }
         requires index { index < self.old.place.count }
-        requires single { is_single value ≡ true }
+        requires flat { is_flat value ≡ true }
         ensures same { self.new.memory.ghost_name ≡ self.old.memory.ghost_name }
-        ensures answer { seen (λ x. x) result
-            ≡ answer_of (single_element value.entry (ty_of self.old.element_type)) }
-        ensures writes { OnOk result (WritesElement A.segments self.old self.new
-            (element_edit value.entry (ty_of self.old.element_type)) index) }
+        ensures puts { let ty = ty_of self.old.element_type in
+            Puts A.segments A.room A.books self.old self.new (element_edit value.entry ty) index
+            (flat_element value.entry ty) result }
         ensures refused { OnErr result (Stays A.segments self.old self.new) }
         ensures books { A.books self.new.memory.now.arena ≡ A.books self.old.memory.now.arena }
         ensures ready { IsReady A.segments self.new }
     {
         let place = self.place;
         let ty = self.element_type;
-        set_single(&mut self.memory.arena, place, ty, index, &value)
+        set_flat(&mut self.memory.arena, place, ty, index, &value)
     }
 }

@@ -1,13 +1,17 @@
 //! Plain elements of lists that are built, over places.
 ghost use Rattle.std.specs.Prelude.{◌≡◌, ◌<◌, ◌^◌, length, map, option_map, OnOk, OnErr};
+ghost use Rattle.capnp_model.specs.Coverage.{Grows};
 ghost use Rattle.capnp_model.specs.Edits.{put_bits};
 ghost use Rattle.capnp_units.specs.Segments.{words_in};
 ghost use Rattle.capnp_object.specs.Places.{seen};
 ghost use Rattle.capnp_queries.specs.Handles.{plain_of};
 ghost use Rattle.capnp_queries.specs.Types.{ty_of};
+ghost use Rattle.capnp_dynamic.specs.Puts.{state_in};
+ghost use Rattle.capnp_dynamic_lists.specs.Puts.{PutsContent};
 ghost use Rattle.capnp_dynamic_lists.specs.Lists.{IsListThere, HasRoom, EditsElement};
-ghost use Rattle.capnp_dynamic_lists.specs.Elements.{plain_in, Holds, answer_of, single_element, element_edit};
+ghost use Rattle.capnp_dynamic_lists.specs.Elements.{plain_in, Holds, answer_of, single_element, single_edit, flat_element, element_edit};
 
+use crate::blobs::{blob_for, put_blob};
 use capnp_copy::arena::BuilderArena;
 use capnp_copy::elements::set_element;
 use capnp_copy::fields::{StructPlace, set_bits};
@@ -75,7 +79,7 @@ fn set_front<A: BuilderArena>(arena: &mut A, list: ListPlace, index: u32, width:
 }
 
 /// Sets an element to a plain value, or a Void one to any. The value is looked at first, so that a refusal leaves all as it was.
-pub(crate) fn set_single<A: BuilderArena, B>(
+fn set_single<A: BuilderArena, B>(
     arena: &mut A,
     list: ListPlace,
     ty: Type,
@@ -88,7 +92,7 @@ pub(crate) fn set_single<A: BuilderArena, B>(
     ensures answer { seen (λ x. x) result ≡ answer_of (single_element value.now (ty_of ty)) }
     ensures edits { OnOk result
         (EditsElement (words_in (A.segments arena.old)) (words_in (A.segments arena.new)) list
-        (element_edit value.now (ty_of ty)) index) }
+        (single_edit value.now (ty_of ty)) index) }
     ensures refused { OnErr result (A.segments arena.new ≡ A.segments arena.old) }
     ensures sizes { map length (words_in (A.segments arena.new))
         ≡ map length (words_in (A.segments arena.old)) }
@@ -105,5 +109,29 @@ pub(crate) fn set_single<A: BuilderArena, B>(
         TypeVariant::Void => Ok(()),
         TypeVariant::AnyPointer => Err(Error::from(ErrorKind::ListAnyPointerNotSupported)),
         _ => Err(Error::from(ErrorKind::TypeMismatch)),
+    }
+}
+
+/// Sets an element to a value without pointers, or a Void one to any. The value is looked at and memory taken first, so that a refusal leaves all as it was.
+pub(crate) fn set_flat<A: BuilderArena, B>(
+    arena: &mut A,
+    list: ListPlace,
+    ty: Type,
+    index: u32,
+    value: &Reader<'_, B>,
+) -> Result<()>
+    requires there { IsListThere (words_in (A.segments arena.old)) list }
+    requires holds { Holds list (ty_of ty) }
+    requires index { index < list.count }
+    ensures puts { let at = state_in A.segments A.room A.books in
+        PutsContent (at arena.old) (at arena.new) list (element_edit value.now (ty_of ty)) index
+        (flat_element value.now (ty_of ty)) result }
+    ensures refused { OnErr result (A.segments arena.new ≡ A.segments arena.old) }
+    ensures grows { Grows (words_in (A.segments arena.old)) (words_in (A.segments arena.new)) }
+    ensures books { A.books arena.new ≡ A.books arena.old }
+{
+    match blob_for(ty, value) {
+        Some(blob) => put_blob(arena, list, index, blob),
+        None => set_single(arena, list, ty, index, value),
     }
 }

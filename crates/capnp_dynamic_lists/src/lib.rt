@@ -1,5 +1,6 @@
 //! Dynamic builders of lists: lists whose elements' type is known at run time, written where they lie in a message.
 #![tactic(auto)]
 
+mod blobs;
 pub mod dynamic_list;
 mod elements;

@@ -1,12 +1,12 @@
 use Rattle.capnp_units.specs.Segments.{words_in}
-use Rattle.capnp_dynamic_lists.proofs.Fronts.{list_stays}
+use Rattle.capnp_dynamic_lists.proofs.Fronts.{list_grown}
 use Rattle.capnp_dynamic_lists.proofs.dynamic_list.Builder.set.Goals as goal
 
 pub returns-clause-ready : goal.returns-clause-ready
 returns-clause-ready g c =
     let old = c.args.self.now in
     record {
-      there = list_stays (words_in (g.A.ReaderArena.segments old.memory.now.arena)) (words_in (g.A.ReaderArena.segments c.set_single.new.arena)) old.place c.set_single.ensures.sizes c.requires.ready.there;
+      there = list_grown (words_in (g.A.ReaderArena.segments old.memory.now.arena)) (words_in (g.A.ReaderArena.segments c.set_flat.new.arena)) old.place c.set_flat.ensures.grows c.requires.ready.there;
       holds = c.requires.ready.holds;
       known = c.requires.ready.known;
     }

@@ -1,0 +1,166 @@
+-- What is put into an element, by its value and its type.
+use Rattle.std.proofs.Common.{◌≡◌, ◌≢◌, ℕ, ◌+◌, ◌*◌, ◌<◌, List, length, map, Result, Ok, Err, OnOk, OnErr, IfErr, Option, Some, None, refl, ap, sym, subst, ◌∙◌}
+use Rattle.std.specs.Prelude.{⊤}
+use Rattle.capnp_model.specs.Coverage.{Grows}
+use Rattle.capnp_model.specs.Segments.{after}
+use Rattle.capnp_model.specs.Sections.{words_for}
+use Rattle.capnp_model.specs.Sizes.{object_words}
+use Rattle.capnp_model.specs.Trees.{Tree}
+use Rattle.capnp_model.specs.Kinds.{TypeMismatch}
+use Rattle.capnp_model.specs.Schemas.{Ty, void, plain, text, blob, untyped, interface, struct, list}
+use Rattle.capnp_model.specs.Calls.{Content, refused_by, bits_of, object, blob_tree}
+use Rattle.capnp_model.specs.Edits.{Edit, put_child, put_in_element}
+use Rattle.capnp_units.specs.Segments.{words_in}
+use Rattle.capnp_units.specs.Sizes.{size_number}
+use Rattle.capnp_units.specs.declared.errors.Error.{Error}
+use Rattle.capnp_object.specs.Places.{seen}
+use Rattle.capnp_object.specs.declared.place.Place as code
+use Rattle.capnp_wire.specs.Places.{place_view}
+use Rattle.capnp_copy.specs.Allocations.{TakesJust, TakesAtMost}
+use Rattle.capnp_copy.specs.declared.init.ListPlace.{ListPlace}
+use Rattle.capnp_builders.specs.Making.{ArenaState, Makes, BytesRefused, BytesNotSet}
+use Rattle.capnp_values.specs.declared.dynamic_value.Reader.{Reader}
+use Rattle.capnp_dynamic.specs.Given.{plain_given, bits_given}
+use Rattle.capnp_dynamic.specs.Puts.{ObjectRefused}
+use Rattle.capnp_dynamic.proofs.Grown.{same_grows}
+use Rattle.capnp_dynamic.proofs.SetPointers.{bytes_words}
+use Rattle.capnp_dynamic_lists.specs.Blobs.{bytes_of}
+use Rattle.capnp_dynamic_lists.specs.declared.blobs.Blob.{Blob}
+use Rattle.capnp_dynamic_lists.specs.Lists.{HasPointer, EditsElement}
+use Rattle.capnp_dynamic_lists.specs.Elements.{Holds, answer_of, single_element, single_edit, blob_given, flat_element, element_edit}
+use Rattle.capnp_dynamic_lists.specs.Puts.{PutsObject, PutsContent}
+use Rattle.capnp_dynamic_lists.proofs.Pointers.{pointer_put}
+
+-- ---- a text or data that is made
+
+module _ {X : Type 0} (old new : ArenaState) (r : Result X Error) where
+  pub blob_made : (slot : code.Place) (b x : Blob) → b ≡ x → OnOk r (Makes old new slot (blob_tree (bytes_of x)) (words_for (8 * length (bytes_of x)))) → OnOk r (Makes old new slot (blob_tree (bytes_of b)) (words_for (8 * length (bytes_of b))))
+  blob_made slot b x e h = subst (λ y. OnOk r (Makes old new slot (blob_tree (bytes_of y)) (words_for (8 * length (bytes_of y))))) (sym e) h
+
+  pub blob_refused : (segment : ℕ) (b x : Blob) → b ≡ x → IfErr r (BytesNotSet old new segment (length (bytes_of x))) → IfErr r (BytesNotSet old new segment (length (bytes_of b)))
+  blob_refused segment b x e h = subst (λ y. IfErr r (BytesNotSet old new segment (length (bytes_of y)))) (sym e) h
+
+-- behind the pointer of an element
+module _ (old new : ArenaState) (o : ListPlace) (slot : code.Place) (i : ℕ) (bytes : List ℕ) (same : slot.segment ≡ o.start.segment) where
+  pub blob_put : HasPointer o → i < o.count → (size_number o.size < 7 → o.claimed ≡ o.count) → (size_number o.size ≢ 7 → place_view slot ≡ after (place_view o.start) i)
+      → (size_number o.size ≡ 7 → place_view slot ≡ after (after (after (place_view o.start) 1) (i * (o.data_words + o.pointers))) o.data_words)
+      → Makes old new slot (blob_tree bytes) (words_for (8 * length bytes)) → PutsObject old new o (λ words pointers. put_child 0 (blob_tree bytes)) i (object_words (blob_tree bytes))
+  blob_put has l counted pointers structs m =
+      let s = words_in old.segments in
+      let u = words_in new.segments in
+      let n = words_for (8 * length bytes) in
+      let just = subst (λ k. TakesJust s old.room u k n) same m.taken in
+      record {
+        writes = pointer_put s u o (place_view slot) i (blob_tree bytes) has l counted pointers structs m.becomes;
+        taken = subst (λ k. TakesJust s old.room u o.start.segment k) (sym (bytes_words bytes)) just;
+        bound = subst (λ k. TakesAtMost s u k 1) (sym (bytes_words bytes)) m.bound;
+      }
+
+  pub blob_not_put : (e : Error) → BytesRefused old slot.segment (length bytes) e → ObjectRefused old o.start.segment (blob_tree bytes) e
+  unfolding object_words
+  blob_not_put e h = subst (λ k. BytesRefused old k (length bytes) e) same h
+
+-- ---- by what is answered
+
+module _ (old new : ArenaState) (r : Result ⊤ Error) where
+  pub put_if : (f g : Type 0) → (f → g) → OnOk r f → OnOk r g
+  put_if f g h x = by r x
+    where
+      by : (y : Result ⊤ Error) → OnOk y f → OnOk y g
+      by (Ok z) k = h k
+      by (Err e) k = tt
+
+  pub not_put_if : (segment n : ℕ) (F : Error → Type 0) → ((e : Error) → BytesRefused old segment n e → F e) → IfErr r (BytesNotSet old new segment n) → IfErr r F
+  not_put_if segment n F h x = by r x
+    where
+      by : (y : Result ⊤ Error) → IfErr y (BytesNotSet old new segment n) → IfErr y F
+      by (Ok z) k = tt
+      by (Err e) k = h e k.0
+
+  pub stays_if : (segment n : ℕ) → IfErr r (BytesNotSet old new segment n) → OnErr r (new.segments ≡ old.segments)
+  stays_if segment n x = by r x
+    where
+      by : (y : Result ⊤ Error) → IfErr y (BytesNotSet old new segment n) → OnErr y (new.segments ≡ old.segments)
+      by (Ok z) k = tt
+      by (Err e) k = k.1.0
+
+  pub grows_if : (segment n : ℕ) → OnOk r (Grows (words_in old.segments) (words_in new.segments)) → IfErr r (BytesNotSet old new segment n) → Grows (words_in old.segments) (words_in new.segments)
+  grows_if segment n x y = by r x y
+    where
+      by : (z : Result ⊤ Error) → OnOk z (Grows (words_in old.segments) (words_in new.segments)) → IfErr z (BytesNotSet old new segment n) → Grows (words_in old.segments) (words_in new.segments)
+      by (Ok z) k j = k
+      by (Err e) k j = same_grows old.segments new.segments j.1.0
+
+-- ---- by the type
+
+module _ {A : Type 0} (v : Reader A) where
+  pub has_pointer : (o : ListPlace) (ty : Ty) (bytes : List ℕ) → blob_given v ty ≡ Some bytes → Holds o ty → HasPointer o
+  has_pointer o text bytes e h = h
+  has_pointer o blob bytes e h = h
+  has_pointer o void bytes e h = absurd cc
+  has_pointer o (plain p) bytes e h = absurd cc
+  has_pointer o untyped bytes e h = absurd cc
+  has_pointer o interface bytes e h = absurd cc
+  has_pointer o (struct id) bytes e h = absurd cc
+  has_pointer o (list ty) bytes e h = absurd cc
+
+  abbrev content_of : Ty → Option (List ℕ) → Content
+  content_of ty g = elim g as (λ (y : Option (List ℕ)). Content) [ None ↦ single_element v ty | Some bytes ↦ object (blob_tree bytes) ]
+
+  content_some : (ty : Ty) (bytes : List ℕ) → blob_given v ty ≡ Some bytes → flat_element v ty ≡ object (blob_tree bytes)
+  content_some ty bytes e = ap (content_of ty) e
+
+  content_none : (ty : Ty) → blob_given v ty ≡ None → flat_element v ty ≡ single_element v ty
+  content_none ty e = ap (content_of ty) e
+
+  edit_with : (ty : Ty) (k : Content) → flat_element v ty ≡ k → element_edit v ty ≡ (λ words pointers. put_in_element words pointers ty k)
+  edit_with ty k e = ap (λ y. λ words pointers. put_in_element words pointers ty y) e
+
+  child_edit : (ty : Ty) (bytes : List ℕ) → blob_given v ty ≡ Some bytes → ◌≡◌ {A = ℕ → ℕ → Edit} (λ words pointers. put_in_element words pointers ty (object (blob_tree bytes))) (λ words pointers. put_child 0 (blob_tree bytes))
+  child_edit text bytes e = refl
+  child_edit blob bytes e = refl
+  child_edit void bytes e = absurd cc
+  child_edit (plain p) bytes e = absurd cc
+  child_edit untyped bytes e = absurd cc
+  child_edit interface bytes e = absurd cc
+  child_edit (struct id) bytes e = absurd cc
+  child_edit (list ty) bytes e = absurd cc
+
+  -- a text or data
+  pub puts_blob : (ty : Ty) (bytes : List ℕ) → blob_given v ty ≡ Some bytes → (old new : ArenaState) (o : ListPlace) (i : ℕ) (r : Result ⊤ Error)
+      → OnOk r (PutsObject old new o (λ words pointers. put_child 0 (blob_tree bytes)) i (object_words (blob_tree bytes))) → IfErr r (ObjectRefused old o.start.segment (blob_tree bytes)) → PutsContent old new o (element_edit v ty) i (flat_element v ty) r
+  puts_blob ty bytes e old new o i r made refused =
+      let f : element_edit v ty ≡ (λ words pointers. put_child 0 (blob_tree bytes)) = edit_with ty (object (blob_tree bytes)) (content_some ty bytes e) ∙ child_edit ty bytes e in
+      let as_edit = subst (λ g. OnOk r (PutsObject old new o g i (object_words (blob_tree bytes)))) (sym f) made in
+      subst (λ k. PutsContent old new o (element_edit v ty) i k r) (sym (content_some ty bytes e)) (as_edit, refused)
+
+  -- another value is no object
+  no_object : (ty : Ty) (t : Tree) → single_element v ty ≡ object t → ⊥
+  no_object (plain p) t e = by (bits_given p (plain_given v)) e
+    where
+      by : (g : Option ℕ) → (elim g as (λ (y : Option ℕ). Content) [ None ↦ refused_by TypeMismatch | Some n ↦ bits_of n ]) ≡ object t → ⊥
+      by None e = cc
+      by (Some n) e = cc
+  no_object void t e = cc
+  no_object text t e = cc
+  no_object blob t e = cc
+  no_object untyped t e = cc
+  no_object interface t e = cc
+  no_object (struct id) t e = cc
+  no_object (list ty) t e = cc
+
+  single_as : (ty : Ty) (k : Content) → single_element v ty ≡ k → (old new : ArenaState) (o : ListPlace) (f : ℕ → ℕ → Edit) (i : ℕ) (r : Result ⊤ Error) → seen (λ x. x) r ≡ answer_of k
+      → OnOk r (EditsElement (words_in old.segments) (words_in new.segments) o f i) → map length (words_in new.segments) ≡ map length (words_in old.segments) → PutsContent old new o f i k r
+  single_as ty (refused_by k) is old new o f i (Err e) a h sizes = a
+  single_as ty (refused_by k) is old new o f i (Ok x) a h sizes = absurd cc
+  single_as ty (bits_of n) is old new o f i (Ok x) a h sizes = (refl, record { writes = h; sizes = sizes })
+  single_as ty (bits_of n) is old new o f i (Err e) a h sizes = absurd cc
+  single_as ty (object t) is old new o f i r a h sizes = absurd (no_object ty t is)
+
+  pub puts_single : (ty : Ty) → blob_given v ty ≡ None → (old new : ArenaState) (o : ListPlace) (i : ℕ) (r : Result ⊤ Error) → seen (λ x. x) r ≡ answer_of (single_element v ty)
+      → OnOk r (EditsElement (words_in old.segments) (words_in new.segments) o (single_edit v ty) i) → map length (words_in new.segments) ≡ map length (words_in old.segments) → PutsContent old new o (element_edit v ty) i (flat_element v ty) r
+  puts_single ty none old new o i r a h sizes =
+      let content = content_none ty none in
+      let put = single_as ty (single_element v ty) refl old new o (single_edit v ty) i r a h sizes in
+      let as_edit = subst (λ g. PutsContent old new o g i (single_element v ty) r) (sym (edit_with ty (single_element v ty) content)) put in
+      subst (λ k. PutsContent old new o (element_edit v ty) i k r) (sym content) as_edit

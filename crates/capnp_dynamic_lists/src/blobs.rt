@@ -1,0 +1,114 @@
+//! Texts and data behind the pointers of elements of lists that are built, over places.
+ghost use Rattle.std.specs.Prelude.{◌≡◌, ◌≢◌, ◌+◌, ◌*◌, ◌<◌, ◌^◌, true, length, option_map, IfErr, OnOk, OnErr};
+ghost use Rattle.std.specs.Option.{is_some};
+ghost use Rattle.capnp_model.specs.Calls.{blob_tree};
+ghost use Rattle.capnp_model.specs.Coverage.{Grows};
+ghost use Rattle.capnp_model.specs.Edits.{put_child};
+ghost use Rattle.capnp_model.specs.Sections.{words_for};
+ghost use Rattle.capnp_model.specs.Segments.{after, words_at};
+ghost use Rattle.capnp_model.specs.Sizes.{object_words};
+ghost use Rattle.capnp_units.specs.Segments.{words_in};
+ghost use Rattle.capnp_units.specs.Sizes.{size_number};
+ghost use Rattle.capnp_wire.specs.Places.{place_view};
+ghost use Rattle.capnp_builders.specs.Making.{Makes, BytesNotSet};
+ghost use Rattle.capnp_queries.specs.Types.{ty_of};
+ghost use Rattle.capnp_dynamic.specs.Puts.{state_in, ObjectRefused};
+ghost use Rattle.capnp_dynamic_lists.specs.Blobs.{bytes_of};
+ghost use Rattle.capnp_dynamic_lists.specs.Elements.{blob_given};
+ghost use Rattle.capnp_dynamic_lists.specs.Lists.{IsListThere, HasPointer};
+ghost use Rattle.capnp_dynamic_lists.specs.Puts.{PutsObject};
+
+use capnp_copy::arena::BuilderArena;
+use capnp_copy::blobs::{set_data, set_text};
+use capnp_copy::init::ListPlace;
+use capnp_queries::introspect::{Type, TypeVariant};
+use capnp_units::errors::Result;
+use capnp_units::sizes::ElementSize;
+use capnp_values::dynamic_value::Reader;
+use capnp_wire::place::Place;
+
+/// A text or data.
+pub(crate) enum Blob<'a> {
+    Text(&'a [u8]),
+    Data(&'a [u8]),
+}
+
+/// The text or the data that a value is, if elements of the type are such.
+pub(crate) fn blob_for<'a, B>(ty: Type, value: &Reader<'a, B>) -> Option<Blob<'a>>
+    ensures { option_map bytes_of result ≡ blob_given value.now (ty_of ty) }
+{
+    match (ty.which(), value) {
+        (TypeVariant::Text, Reader::Text(text)) => Some(Blob::Text(text.as_bytes())),
+        (TypeVariant::Data, Reader::Data(data)) => Some(Blob::Data(data)),
+        _ => None,
+    }
+}
+
+/// Where the pointer of an element lies: the element itself, or the first pointer of a struct.
+fn slot_of(list: ListPlace, index: u32) -> Place
+    requires near { list.start.position < 2 ^ 61 }
+    ensures segment { result.segment ≡ list.start.segment }
+    ensures pointers { size_number list.size ≢ 7
+        → place_view result ≡ after (place_view list.start) index }
+    ensures structs { size_number list.size ≡ 7
+        → place_view result
+        ≡ after (after (after (place_view list.start) 1)
+        (index * (list.data_words + list.pointers))) list.data_words }
+{
+    let start = list.start;
+    let position = match list.size {
+        ElementSize::InlineComposite => {
+            let words = list.data_words as usize + list.pointers as usize;
+            start.position + 1 + index as usize * words + list.data_words as usize
+        }
+        _ => start.position + index as usize,
+    };
+    Place {
+        segment: start.segment,
+        position,
+    }
+}
+
+/// Puts a text or data in place of the value of the pointer at a place, which is cleared.
+fn put_at<A: BuilderArena>(arena: &mut A, slot: Place, blob: Blob<'_>) -> Result<()>
+    requires there { is_some (words_at (words_in (A.segments arena.old)) (place_view slot) 1)
+        ≡ true }
+    requires near { slot.position < 2 ^ 61 }
+    ensures made { let at = state_in A.segments A.room A.books in OnOk result
+        (Makes (at arena.old) (at arena.new) slot (blob_tree (bytes_of blob.entry))
+        (words_for (8 * length (bytes_of blob.entry)))) }
+    ensures refused { let at = state_in A.segments A.room A.books in IfErr result
+        (BytesNotSet (at arena.old) (at arena.new) slot.segment (length (bytes_of blob.entry))) }
+    ensures grows { OnOk result
+        (Grows (words_in (A.segments arena.old)) (words_in (A.segments arena.new))) }
+    ensures books { A.books arena.new ≡ A.books arena.old }
+{
+    match blob {
+        Blob::Text(text) => set_text(arena, slot, text),
+        Blob::Data(data) => set_data(arena, slot, data),
+    }
+}
+
+/// Puts a text or data in place of the value behind the pointer of an element, which is cleared.
+pub(crate) fn put_blob<A: BuilderArena>(
+    arena: &mut A,
+    list: ListPlace,
+    index: u32,
+    blob: Blob<'_>,
+) -> Result<()>
+    requires there { IsListThere (words_in (A.segments arena.old)) list }
+    requires pointer { HasPointer list }
+    requires index { index < list.count }
+    ensures puts { let at = state_in A.segments A.room A.books in OnOk result
+        (PutsObject (at arena.old) (at arena.new) list
+        (λ words pointers. put_child 0 (blob_tree (bytes_of blob.entry))) index
+        (object_words (blob_tree (bytes_of blob.entry)))) }
+    ensures refused { let at = state_in A.segments A.room A.books in IfErr result
+        (ObjectRefused (at arena.old) list.start.segment (blob_tree (bytes_of blob.entry))) }
+    ensures stays { OnErr result (A.segments arena.new ≡ A.segments arena.old) }
+    ensures grows { Grows (words_in (A.segments arena.old)) (words_in (A.segments arena.new)) }
+    ensures books { A.books arena.new ≡ A.books arena.old }
+{
+    let slot = slot_of(list, index);
+    put_at(arena, slot, blob)
+}
