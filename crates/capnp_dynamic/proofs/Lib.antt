@@ -2,6 +2,7 @@ pub mod Ready
 pub mod Writes
 pub mod Deeper
 pub mod Grown
+pub mod DataWords
 pub mod Bytes
 pub mod Marks
 pub mod Groups
@@ -9,3 +10,4 @@ pub mod GroupFields
 pub mod Cleared
 pub mod SetSlots
 pub mod SetPointers
+pub mod InitSlots

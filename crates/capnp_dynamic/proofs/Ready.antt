@@ -131,10 +131,10 @@ field_inside p s f e h = subst (λ x. LieIn p.data_words p.pointers (areas_of (s
 -- ---- a struct's sizes, by the record of its node
 
 module _ (s : StructSchema) (r : StructNode) (is : IsRecordOf (nodes_around s) (id_of s) r) (p : StructPlace) where
-  words_said : words_of_shape (shape_of_struct s) ≡ r.words
+  pub words_said : words_of_shape (shape_of_struct s) ≡ r.words
   words_said = ap words_of_shape is.shape
 
-  pointers_said : pointers_of_shape (shape_of_struct s) ≡ r.pointers
+  pub pointers_said : pointers_of_shape (shape_of_struct s) ≡ r.pointers
   pointers_said = ap pointers_of_shape is.shape
 
   pub wide : r.words ≤ p.data_words → r.pointers ≤ p.pointers → IsWide p (shape_of_struct s)

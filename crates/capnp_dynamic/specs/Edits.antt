@@ -1,5 +1,5 @@
 -- What is written into a struct under its schema. (Encoding, "Structs")
-use Rattle.std.specs.Prelude.{◌≡◌, ℕ, ◌+◌, ◌^◌, ◌<◌, ◌≤◌, Option, Some, None, true}
+use Rattle.std.specs.Prelude.{◌≡◌, ℕ, ◌+◌, ◌^◌, ◌<◌, ◌≤◌, Option, Some, None, true, [], ◌∷◌}
 use Rattle.std.specs.Option.{is_some}
 use Rattle.capnp_model.specs.Segments.{Segments, words_at}
 use Rattle.capnp_model.specs.Trees.{Trees, structure}
@@ -7,7 +7,8 @@ use Rattle.capnp_model.specs.Schemas.{Shape}
 use Rattle.capnp_model.specs.Edits.{Edit, mark, is_kept, edit_if, cleared_body}
 use Rattle.capnp_wire.specs.Places.{place_view}
 use Rattle.capnp_footprints.specs.Footprints.{OwnsObject}
-use Rattle.capnp_footprints.specs.Changes.{ReplacesObject}
+use Rattle.capnp_model.specs.Coverage.{span, times_held}
+use Rattle.capnp_footprints.specs.Changes.{Changes, ReplacesObject}
 use Rattle.capnp_copy.specs.Structs.{struct_at}
 use Rattle.capnp_copy.specs.declared.fields.StructPlace.{StructPlace}
 use Rattle.capnp_queries.specs.Fields.{Entry, union_in}
@@ -31,6 +32,10 @@ abbrev pub Edits : Segments → Segments → StructPlace → Edit → Type 0
 Edits s u p f =
     (n section : ℕ) (kids : Trees) → OwnsObject n s (struct_at p) (structure p.data_words section kids)
     → let c = f (record { section = section; kids = kids }) in ReplacesObject n s u (struct_at p) (structure p.data_words c.section c.kids)
+
+-- No words change but those of the struct's data section.
+abbrev pub WritesData : Segments → Segments → StructPlace → Type 0
+WritesData s u p = let c = times_held (span (place_view p.start) p.data_words ∷ []) in Changes s u c c
 
 -- A field is made the active member of the union, if it is a member.
 abbrev pub marked_in : Option ℕ → Option Entry → Edit

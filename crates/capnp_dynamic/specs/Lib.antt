@@ -4,4 +4,5 @@ pub mod Calls
 pub mod Given
 pub mod Blobs
 pub mod Puts
+pub mod Inits
 pub mod Builders

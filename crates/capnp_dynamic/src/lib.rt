@@ -2,5 +2,6 @@
 #![tactic(auto)]
 
 pub mod dynamic_struct;
+pub mod init;
 pub mod setting;
 pub mod slots;

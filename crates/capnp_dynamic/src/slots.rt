@@ -12,7 +12,7 @@ ghost use Rattle.capnp_queries.specs.Handles.{entry_of, body_of_place, plain_of}
 ghost use Rattle.capnp_model.specs.Calls.{clear};
 ghost use Rattle.capnp_dynamic.specs.Calls.{edit_of};
 ghost use Rattle.capnp_dynamic.specs.Inside.{LieIn};
-ghost use Rattle.capnp_dynamic.specs.Edits.{IsThere, Edits, marked, cleared_entry};
+ghost use Rattle.capnp_dynamic.specs.Edits.{IsThere, Edits, WritesData, marked, cleared_entry};
 
 use capnp_copy::arena::BuilderArena;
 use capnp_copy::clear::clear;
@@ -48,6 +48,8 @@ pub(crate) fn set_discriminant<A: BuilderArena>(
         (union_area (union_in (shape_of_struct schema))) }
     ensures edits { Edits (words_in (A.segments arena.old)) (words_in (A.segments arena.new))
         object (mark (union_in (shape_of_struct schema.entry)) (Some member)) }
+    ensures data { WritesData (words_in (A.segments arena.old)) (words_in (A.segments arena.new))
+        object }
     ensures sizes { map length (words_in (A.segments arena.new))
         ≡ map length (words_in (A.segments arena.old)) }
     ensures books { A.books arena.new ≡ A.books arena.old }
@@ -64,6 +66,8 @@ pub(crate) fn mark<A: BuilderArena>(arena: &mut A, object: StructPlace, field: F
         (areas_of (shape_of_struct field.parent)) }
     ensures edits { Edits (words_in (A.segments arena.old)) (words_in (A.segments arena.new))
         object (marked field.entry) }
+    ensures data { WritesData (words_in (A.segments arena.old)) (words_in (A.segments arena.new))
+        object }
     ensures sizes { map length (words_in (A.segments arena.new))
         ≡ map length (words_in (A.segments arena.old)) }
     ensures books { A.books arena.new ≡ A.books arena.old }

@@ -5,6 +5,7 @@ use Rattle.capnp_queries.specs.Structs.{shape_of_struct}
 use Rattle.capnp_dynamic.specs.Inside.{LieIn}
 use Rattle.capnp_dynamic.proofs.Ready.{union_areas}
 use Rattle.capnp_units.specs.Segments.{words_in}
+use Rattle.capnp_dynamic.proofs.DataWords.{data_same}
 use Rattle.capnp_dynamic.proofs.Marks.{marks_member, marks_none}
 use Rattle.capnp_dynamic.proofs.slots.mark.Goals as goal
 
@@ -24,3 +25,6 @@ set_discriminant-requires-clause-inside g c =
     let p = c.args.object in
     let h = union_areas p.data_words p.pointers (shape_of_struct c.args.field.parent) c.requires.inside in
     subst (λ x. LieIn p.data_words p.pointers (union_area (union_in (shape_of_struct x)))) (sym c.parent.ensures) h
+
+pub returns-else-member-clause-data : goal.returns-else-member-clause-data
+returns-else-member-clause-data g c = data_same (words_in (g.A.ReaderArena.segments c.args.arena.now)) c.args.object

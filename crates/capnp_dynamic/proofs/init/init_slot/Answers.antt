@@ -1,0 +1,102 @@
+use Rattle.std.proofs.Common.{◌≡◌, ◌+◌, true, refl, sym, ap, subst, ◌∙◌}
+use Rattle.std.specs.Option.{is_some}
+use Rattle.std.proofs.lemmas.Result.{err_from_is_err_and}
+use Rattle.capnp_model.specs.Accepted.{schema_of}
+use Rattle.capnp_model.specs.Calls.{empty_struct}
+use Rattle.capnp_model.specs.Segments.{words_at}
+use Rattle.capnp_units.specs.Segments.{words_in}
+use Rattle.capnp_records.specs.NodeViews.{field_of}
+use Rattle.capnp_footprints.proofs.Spans.{grows_then}
+use Rattle.capnp_wire.specs.Places.{place_view}
+use Rattle.capnp_copy.proofs.RoomLaws.{sizes_grow}
+use Rattle.capnp_queries.specs.Handles.{body_of_place}
+use Rattle.capnp_queries.specs.Structs.{nodes_around, shape_of_struct, id_of}
+use Rattle.capnp_queries.specs.Types.{ty_of}
+use Rattle.capnp_queries.specs.declared.slots.FieldPlace.TheVariants as F
+use Rattle.capnp_dynamic.specs.Inside.{words_of_shape, pointers_of_shape}
+use Rattle.capnp_dynamic.specs.Puts.{state_in}
+use Rattle.capnp_dynamic.proofs.Ready.{there_after, pointer_there}
+use Rattle.capnp_dynamic.proofs.Grown.{same_grows, there_grown}
+use Rattle.capnp_dynamic.proofs.GroupFields.{pointer_inside, member_inside}
+use Rattle.capnp_dynamic.proofs.SetPointers.{object_made}
+use Rattle.capnp_dynamic.proofs.DataWords.{leads_from}
+use Rattle.capnp_dynamic.proofs.InitSlots.{empty_words, inits, lies, refuses}
+use Rattle.capnp_dynamic.proofs.init.init_slot.Goals as goal
+
+pub pointer_place-requires-clause-inside : goal.pointer_place-requires-clause-inside
+pointer_place-requires-clause-inside g c =
+    let p = c.args.object in
+    let b = F.Pointer c.in-Pointer.index c.in-Pointer.ty c.in-Pointer.default in
+    let inside = member_inside c.args.field (field_of c.get_proto-said.result.now) c.get_proto-said.ensures (body_of_place b) c.in-Pointer.ensures.body p.data_words p.pointers c.requires.inside in
+    pointer_inside p b c.in-Pointer.index c.in-Pointer.ty c.in-Pointer.default refl inside
+
+pub put_struct-requires-clause-there : goal.put_struct-requires-clause-there
+put_struct-requires-clause-there g c =
+    let p = c.args.object in
+    let b = F.Pointer c.in-Pointer.index c.in-Pointer.ty c.in-Pointer.default in
+    let inside = member_inside c.args.field (field_of c.get_proto-said.result.now) c.get_proto-said.ensures (body_of_place b) c.in-Pointer.ensures.body p.data_words p.pointers c.requires.inside in
+    let l = pointer_inside p b c.in-Pointer.index c.in-Pointer.ty c.in-Pointer.default refl inside in
+    let s = words_in (g.A.ReaderArena.segments c.args.arena.now) in
+    subst (λ q. is_some (words_at s q 1) ≡ true) (sym c.pointer_place.ensures.place) (pointer_there s (place_view p.start) p.data_words p.pointers c.in-Pointer.index l c.requires.there.words)
+
+pub mark-requires-clause-there : goal.mark-requires-clause-there
+mark-requires-clause-there g c =
+    there_grown (words_in (g.A.ReaderArena.segments c.args.arena.now)) (words_in (g.A.ReaderArena.segments c.put_struct.new.arena)) c.args.object c.in_ok-place-in-Pointer.ensures.grows c.requires.there
+
+pub returns-in_err-place-in-Pointer-clause-puts : goal.returns-in_err-place-in-Pointer-clause-puts
+returns-in_err-place-in-Pointer-clause-puts g c =
+    let at = state_in g.A.ReaderArena.segments g.A.BuilderArena.room g.A.BuilderArena.books in
+    let h = err_from_is_err_and c.from_residual.result c.from_residual.ensures.1 in
+    let schema = c.in-Some.schema in
+    let nodes : nodes_around schema ≡ nodes_around c.args.field.parent = c.in-Some.ensures.nodes ∙ c.set.ensures ∙ ap nodes_around c.parent.ensures in
+    let shape_is = ap (λ ns. (schema_of ns).shape_of (id_of schema)) nodes in
+    rw (h.1, h.2) (refuses c.args.field (field_of c.get_proto-said.result.now) c.get_proto-said.ensures c.in-Pointer.index (ty_of c.in-Pointer.ty) _ c.in-Pointer.ensures.body (id_of schema) (sym c.in-Some.ensures.named) (shape_of_struct schema) shape_is _
+    (at c.args.arena.now) (at c.put_struct.new.arena) c.args.object c.pointer_place.result c.in_err-place-in-Pointer.field-0.0 c.pointer_place.ensures.place c.in_err-place-in-Pointer.ensures.refused.0)
+
+pub returns-in_err-place-in-Pointer-clause-grows : goal.returns-in_err-place-in-Pointer-clause-grows
+returns-in_err-place-in-Pointer-clause-grows g c =
+    same_grows (g.A.ReaderArena.segments c.args.arena.now) (g.A.ReaderArena.segments c.put_struct.new.arena) c.in_err-place-in-Pointer.ensures.refused.1.0
+
+pub returns-in_ok-place-in-Pointer-clause-puts : goal.returns-in_ok-place-in-Pointer-clause-puts
+returns-in_ok-place-in-Pointer-clause-puts g c =
+    let at = state_in g.A.ReaderArena.segments g.A.BuilderArena.room g.A.BuilderArena.books in
+    let p = c.args.object in
+    let b = F.Pointer c.in-Pointer.index c.in-Pointer.ty c.in-Pointer.default in
+    let inside = member_inside c.args.field (field_of c.get_proto-said.result.now) c.get_proto-said.ensures (body_of_place b) c.in-Pointer.ensures.body p.data_words p.pointers c.requires.inside in
+    let l = pointer_inside p b c.in-Pointer.index c.in-Pointer.ty c.in-Pointer.default refl inside in
+    let schema = c.in-Some.schema in
+    let nodes : nodes_around schema ≡ nodes_around c.args.field.parent = c.in-Some.ensures.nodes ∙ c.set.ensures ∙ ap nodes_around c.parent.ensures in
+    let shape_is = ap (λ ns. (schema_of ns).shape_of (id_of schema)) nodes in
+    inits c.args.field (field_of c.get_proto-said.result.now) c.get_proto-said.ensures c.in-Pointer.index (ty_of c.in-Pointer.ty) _ c.in-Pointer.ensures.body (id_of schema) (sym c.in-Some.ensures.named) (shape_of_struct schema) shape_is
+    (at c.args.arena.now) (at c.put_struct.new.arena) (at c.mark.new.arena) p c.pointer_place.result _ c.pointer_place.ensures.place l c.in_ok-place-in-Pointer.ensures.made c.mark.ensures.edits c.mark.ensures.sizes
+
+pub returns-in_ok-place-in-Pointer-clause-lies : goal.returns-in_ok-place-in-Pointer-clause-lies
+returns-in_ok-place-in-Pointer-clause-lies g c =
+    let at = state_in g.A.ReaderArena.segments g.A.BuilderArena.room g.A.BuilderArena.books in
+    let s = words_in (g.A.ReaderArena.segments c.args.arena.now) in
+    let m = words_in (g.A.ReaderArena.segments c.put_struct.new.arena) in
+    let u = words_in (g.A.ReaderArena.segments c.mark.new.arena) in
+    let p = c.args.object in
+    let b = F.Pointer c.in-Pointer.index c.in-Pointer.ty c.in-Pointer.default in
+    let inside = member_inside c.args.field (field_of c.get_proto-said.result.now) c.get_proto-said.ensures (body_of_place b) c.in-Pointer.ensures.body p.data_words p.pointers c.requires.inside in
+    let l = pointer_inside p b c.in-Pointer.index c.in-Pointer.ty c.in-Pointer.default refl inside in
+    let schema = c.in-Some.schema in
+    let nodes : nodes_around schema ≡ nodes_around c.args.field.parent = c.in-Some.ensures.nodes ∙ c.set.ensures ∙ ap nodes_around c.parent.ensures in
+    let shape_is = ap (λ ns. (schema_of ns).shape_of (id_of schema)) nodes in
+    let t = empty_struct (shape_of_struct schema) in
+    let n = words_of_shape (shape_of_struct schema) + pointers_of_shape (shape_of_struct schema) in
+    let made = object_made (at c.args.arena.now) (at c.put_struct.new.arena) p c.pointer_place.result c.in-Pointer.index c.pointer_place.ensures.place (empty_struct (shape_of_struct schema)) n (empty_words (shape_of_struct schema)) l c.in_ok-place-in-Pointer.ensures.made in
+    let leads = leads_from s m u p c.in-Pointer.index t l made.writes c.mark.ensures.data (place_view c.pointer_place.result) c.in_ok-place-in-Pointer.place c.pointer_place.ensures.place c.in_ok-place-in-Pointer.ensures.leads in
+    lies c.args.field (field_of c.get_proto-said.result.now) c.get_proto-said.ensures c.in-Pointer.index (ty_of c.in-Pointer.ty) _ c.in-Pointer.ensures.body (id_of schema) (sym c.in-Some.ensures.named) (shape_of_struct schema) shape_is
+    s u p c.in_ok-place-in-Pointer.place schema (ap schema_of nodes) c.in-Some.ensures.named leads
+
+pub returns-in_ok-place-in-Pointer-clause-there : goal.returns-in_ok-place-in-Pointer-clause-there
+returns-in_ok-place-in-Pointer-clause-there g c =
+    there_after (words_in (g.A.ReaderArena.segments c.put_struct.new.arena)) (words_in (g.A.ReaderArena.segments c.mark.new.arena)) c.in_ok-place-in-Pointer.place c.mark.ensures.sizes c.in_ok-place-in-Pointer.ensures.there
+
+pub returns-in_ok-place-in-Pointer-clause-grows : goal.returns-in_ok-place-in-Pointer-clause-grows
+returns-in_ok-place-in-Pointer-clause-grows g c =
+    let s = words_in (g.A.ReaderArena.segments c.args.arena.now) in
+    let m = words_in (g.A.ReaderArena.segments c.put_struct.new.arena) in
+    let u = words_in (g.A.ReaderArena.segments c.mark.new.arena) in
+    grows_then s m u c.in_ok-place-in-Pointer.ensures.grows (sizes_grow m u c.mark.ensures.sizes)

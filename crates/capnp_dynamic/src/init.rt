@@ -1,0 +1,143 @@
+//! Structs of zeros and nulls, put into slots.
+ghost use Rattle.std.specs.Prelude.{◌≡◌, ◌+◌, ◌<◌, ◌^◌, true, option_map, IfSome, IfOk, IfErr, OnOk, OnErr};
+ghost use Rattle.std.specs.Option.{is_some};
+ghost use Rattle.capnp_model.specs.Accepted.{areas_of};
+ghost use Rattle.capnp_model.specs.Calls.{empty_struct, init};
+ghost use Rattle.capnp_model.specs.Coverage.{Grows};
+ghost use Rattle.capnp_model.specs.Segments.{words_at};
+ghost use Rattle.capnp_units.specs.Segments.{words_in};
+ghost use Rattle.capnp_units.specs.Errors.{kind_of};
+ghost use Rattle.capnp_wire.specs.Places.{place_view};
+ghost use Rattle.capnp_records.specs.Sets.{nodes_of};
+ghost use Rattle.capnp_copy.specs.Structs.{struct_at};
+ghost use Rattle.capnp_copy.specs.Values.{LeadsTo};
+ghost use Rattle.capnp_builders.specs.Making.{Makes};
+ghost use Rattle.capnp_queries.specs.Structs.{nodes_around, schema_around, shape_of_struct, id_of};
+ghost use Rattle.capnp_queries.specs.Handles.{entry_of};
+ghost use Rattle.capnp_queries.specs.Types.{ty_of, is_type_of};
+ghost use Rattle.capnp_dynamic.specs.Inside.{LieIn, words_of_shape, pointers_of_shape};
+ghost use Rattle.capnp_dynamic.specs.Edits.{IsThere, IsWide};
+ghost use Rattle.capnp_dynamic.specs.Calls.{edit_of};
+ghost use Rattle.capnp_dynamic.specs.Inits.{struct_named, no_struct, init_content, is_slot, LiesIn, StructNotMade};
+ghost use Rattle.capnp_dynamic.specs.Puts.{state_in, PutsContent};
+
+use crate::slots::{mark, pointer_place};
+use capnp_copy::arena::BuilderArena;
+use capnp_copy::fields::StructPlace;
+use capnp_copy::init::init_struct;
+use capnp_queries::fields::Field;
+use capnp_queries::introspect::{Type, TypeVariant};
+use capnp_queries::slots::FieldPlace;
+use capnp_queries::structs::StructSchema;
+use capnp_records::set::SchemaSet;
+use capnp_units::errors::{Error, Result};
+use capnp_units::kinds::ErrorKind;
+use capnp_units::sizes::StructSize;
+use capnp_wire::place::Place;
+
+/// A struct of the message, with its schema.
+#[derive(Clone, Copy)]
+pub struct Part<'a> {
+    pub place: StructPlace,
+    pub schema: StructSchema<'a>,
+}
+
+/// The two sizes of a schema's structs.
+fn struct_size(schema: StructSchema<'_>) -> StructSize
+    ensures words { result.data_words ≡ words_of_shape (shape_of_struct schema.entry) }
+    ensures pointers { result.pointers ≡ pointers_of_shape (shape_of_struct schema.entry) }
+{
+    let record = schema.record();
+    StructSize {
+        data_words: record.data_word_count,
+        pointers: record.pointer_count,
+    }
+}
+
+/// The schema of the struct that a type of a set names, if it is a struct's.
+fn struct_of_type<'a>(set: &'a SchemaSet, ty: Type) -> Option<StructSchema<'a>>
+    requires { is_type_of (nodes_of set.now) ty ≡ true }
+    ensures named { option_map id_of result ≡ struct_named (ty_of ty) }
+    ensures nodes { IfSome result (λ s. nodes_around s ≡ nodes_of set.now) }
+{
+    match ty.which() {
+        TypeVariant::Struct(raw) => Some(StructSchema::new(set, raw)),
+        _ => None,
+    }
+}
+
+/// Why no struct is made in a slot of a pointer's type that is no struct's.
+fn refusal(ty: Type) -> ErrorKind
+    requires { struct_named (ty_of ty) ≡ None }
+    ensures { kind_of result ≡ no_struct (ty_of ty) }
+{
+    match ty.which() {
+        TypeVariant::AnyPointer => ErrorKind::TypeMismatch,
+        _ => ErrorKind::InitIsOnlyValidForStructAndAnyPointerFields,
+    }
+}
+
+/// Puts a struct of a schema's sizes in place of the value of the pointer at a place, which is cleared.
+fn put_struct<A: BuilderArena>(
+    arena: &mut A,
+    slot: Place,
+    schema: StructSchema<'_>,
+) -> Result<StructPlace>
+    requires there { is_some (words_at (words_in (A.segments arena.old)) (place_view slot) 1)
+        ≡ true }
+    requires near { slot.position < 2 ^ 61 }
+    ensures made { let at = state_in A.segments A.room A.books in let g = shape_of_struct schema.entry in
+        OnOk result (Makes (at arena.old) (at arena.new) slot (empty_struct g)
+        (words_of_shape g + pointers_of_shape g)) }
+    ensures leads { IfOk result (λ o.
+        LeadsTo (words_in (A.segments arena.new)) (place_view slot) (struct_at o)) }
+    ensures there { IfOk result (λ o. IsThere (words_in (A.segments arena.new)) o) }
+    ensures wide { IfOk result (λ o. IsWide o (shape_of_struct schema.entry)) }
+    ensures refused { let at = state_in A.segments A.room A.books in IfErr result
+        (StructNotMade (at arena.old) (at arena.new) slot (shape_of_struct schema.entry)) }
+    ensures grows { OnOk result
+        (Grows (words_in (A.segments arena.old)) (words_in (A.segments arena.new))) }
+    ensures books { A.books arena.new ≡ A.books arena.old }
+{
+    init_struct(arena, slot, struct_size(schema))
+}
+
+/// Puts a struct of zeros and nulls in place of the value of a slot of a struct's type, which is cleared: what `init` of a dynamic struct's builder does to such a field. A union member becomes the active one. The struct takes the words of its schema's two sizes where the holder's segment has room for them, else at most one more.
+///
+/// It is refused with `TypeMismatch` where the slot is untyped, and with `InitIsOnlyValidForStructAndAnyPointerFields` where it is of another type; with `SizeOverflow` just where the message's words, a pad counted, would pass 2^29 - 1, else as the allocator refuses. Memory is taken before the union is marked, so that all is then as it was.
+pub fn init_slot<'a, A: BuilderArena>(
+    arena: &mut A,
+    object: StructPlace,
+    field: Field<'a>,
+) -> Result<Part<'a>>
+    requires there { IsThere (words_in (A.segments arena.old)) object }
+    requires inside { LieIn object.data_words object.pointers
+        (areas_of (shape_of_struct field.parent)) }
+    requires slot { is_slot (entry_of field) ≡ true }
+    ensures puts { let at = state_in A.segments A.room A.books in
+        PutsContent (at arena.old) (at arena.new) object (edit_of field.entry init)
+        (init_content (schema_around field.entry.parent) (entry_of field.entry)) result }
+    ensures lies { IfOk result (λ o.
+        LiesIn (words_in (A.segments arena.old)) (words_in (A.segments arena.new)) object
+        (schema_around field.entry.parent) (entry_of field.entry) o.place o.schema) }
+    ensures there { IfOk result (λ o. IsThere (words_in (A.segments arena.new)) o.place) }
+    ensures wide { IfOk result (λ o. IsWide o.place (shape_of_struct o.schema)) }
+    ensures refused { OnErr result (A.segments arena.new ≡ A.segments arena.old) }
+    ensures grows { Grows (words_in (A.segments arena.old)) (words_in (A.segments arena.new)) }
+    ensures books { A.books arena.new ≡ A.books arena.old }
+{
+    let _said = field.get_proto();
+    match field.place() {
+        FieldPlace::Pointer { index, ty, .. } => {
+            let Some(schema) = struct_of_type(field.parent().set(), ty) else {
+                return Err(Error::from(refusal(ty)));
+            };
+            let place = put_struct(arena, pointer_place(object, index), schema)?;
+            mark(arena, object, field);
+            Ok(Part { place, schema })
+        }
+        FieldPlace::Void { .. } | FieldPlace::Plain { .. } | FieldPlace::Group { .. } => {
+            Err(Error::from(ErrorKind::InitIsOnlyValidForStructAndAnyPointerFields))
+        }
+    }
+}
