@@ -1,5 +1,5 @@
 -- What contracts see of struct builders. (Encoding, "Structs")
-use Rattle.std.specs.Prelude.{◌≡◌, ⊤, ℕ, ℤ, List, length, map, Result}
+use Rattle.std.specs.Prelude.{◌≡◌, ℕ, ℤ, List, length, map, Result}
 use Rattle.capnp_model.specs.Segments.{Segments}
 use Rattle.capnp_model.specs.Calls.{Content}
 use Rattle.capnp_model.specs.Edits.{Edit}
@@ -7,10 +7,14 @@ use Rattle.capnp_units.specs.Segments.{words_in}
 use Rattle.capnp_units.specs.declared.errors.Error.{Error}
 use Rattle.capnp_wire.specs.Places.{place_view}
 use Rattle.capnp_wire.specs.Views.{StructView, struct_at}
-use Rattle.capnp_queries.specs.Structs.{shape_of_struct}
+use Rattle.capnp_queries.specs.Structs.{schema_around, shape_of_struct}
+use Rattle.capnp_queries.specs.Handles.{entry_of}
+use Rattle.capnp_queries.specs.declared.fields.Field.{Field}
 use Rattle.capnp_builders.specs.Making.{state_of}
 use Rattle.capnp_dynamic.specs.Edits.{IsThere, IsWide, Edits}
 use Rattle.capnp_dynamic.specs.Puts.{PutsContent}
+use Rattle.capnp_dynamic.specs.Inits.{LiesIn}
+use Rattle.capnp_dynamic.specs.declared.init.Part.{Part}
 use Rattle.capnp_dynamic.specs.declared.dynamic_struct.Builder.{Builder}
 
 module _ {A : Type 0} (bytes : A → List (List ℕ)) where
@@ -48,8 +52,14 @@ module _ {A : Type 0} (bytes : A → List (List ℕ)) where
 
 module _ {A : Type 0} (segments : A → List (List ℕ)) (room : A → List ℕ) (books : A → List (List ℕ)) where
   -- Content is put into a field of the struct, by a handle that stays where it was.
-  pub record Puts (old new : Builder A) (f : Edit) (content : Content) (r : Result ⊤ Error) : Type 0 where
+  pub record Puts {X : Type 0} (old new : Builder A) (f : Edit) (content : Content) (r : Result X Error) : Type 0 where
     pub same : new.memory.ghost_name ≡ old.memory.ghost_name
     pub place : new.place ≡ old.place
     pub schema : new.schema ≡ old.schema
     pub puts : PutsContent (state_of segments room books old.memory.now) (state_of segments room books new.memory.now) old.place f content r
+
+-- The struct that was put into a field: where it lies behind the field's pointer, under which schema; it is there, and wide enough.
+pub record IsPartOf {A : Type 0} (bytes : A → List (List ℕ)) (old new : Builder A) (f : Field) (part : Part) : Type 0 where
+  pub lies : LiesIn (words_around bytes old) (words_around bytes new) old.place (schema_around f.parent) (entry_of f) part.place part.schema
+  pub there : IsThere (words_around bytes new) part.place
+  pub wide : IsWide part.place (shape_of_struct part.schema)

@@ -1,18 +1,20 @@
 //! Structs whose schema is known at run time, to write.
-ghost use Rattle.std.specs.Prelude.{◌≡◌, ◌↔◌, true, Ok, IsOkAnd, OnOk, OnErr};
-ghost use Rattle.capnp_model.specs.Calls.{clear};
-ghost use Rattle.capnp_dynamic.specs.Builders.{IsReady, WritesInPlace, Stays, Puts, struct_of};
+ghost use Rattle.std.specs.Prelude.{◌≡◌, ◌↔◌, true, Ok, IsOkAnd, IfOk, OnOk, OnErr};
+ghost use Rattle.capnp_model.specs.Calls.{clear, init};
+ghost use Rattle.capnp_dynamic.specs.Builders.{IsReady, WritesInPlace, Stays, Puts, IsPartOf, struct_of};
 ghost use Rattle.capnp_dynamic.specs.Calls.{edit_of};
 ghost use Rattle.capnp_dynamic.specs.Given.{is_flat, set_content, set_edit};
 ghost use Rattle.capnp_dynamic.specs.Edits.{IsThere, IsWide};
+ghost use Rattle.capnp_dynamic.specs.Inits.{init_content, is_slot};
 ghost use Rattle.capnp_units.specs.Segments.{words_in};
-ghost use Rattle.capnp_queries.specs.Structs.{shape_of_struct};
+ghost use Rattle.capnp_queries.specs.Structs.{schema_around, shape_of_struct};
 ghost use Rattle.capnp_queries.specs.Handles.{entry_of, IsFieldAt};
 ghost use Rattle.capnp_wire.specs.Places.{place_view};
 ghost use Rattle.capnp_wire.specs.Views.{struct_at};
 ghost use Rattle.capnp_values.specs.Sources.{struct_seen};
 ghost use Rattle.capnp_values.specs.Shown.{has_field, active_index, AnswersNamed, TellsField};
 
+use crate::init::{Part, init_slot};
 use crate::setting::set_flat;
 use crate::slots::clear_field;
 use capnp_builders::struct_builder::StructBuilder;
@@ -156,6 +158,25 @@ impl<'a, A: BuilderArena> Builder<'a, A> {
         let field = schema.get_field_by_name(name)?;
         clear_field(&mut self.memory.arena, place, field);
         Ok(())
+    }
+
+    /// Puts a struct of zeros and nulls in place of the value of a field of a struct's type, and tells where it lies: `init` of such a field. The old value is cleared. A union member becomes the active one. The struct takes the words of its schema's two sizes where this one's segment has room for them, else at most one more. `Builder::new` over the memory makes its handle.
+    ///
+    /// It is refused with `TypeMismatch` where the field is untyped, and with `InitIsOnlyValidForStructAndAnyPointerFields` where it is of another type; with `SizeOverflow` just where the message's words, a pad counted, would pass 2^29 - 1, else as the allocator refuses. Then the struct is as it was, its union included.
+    pub fn init_struct<'b>(&mut self, field: Field<'b>) -> Result<Part<'b>>
+        requires ready { IsReady A.segments self.old }
+        requires field { field.parent ≡ self.old.schema }
+        requires slot { is_slot (entry_of field) ≡ true }
+        ensures same { self.new.memory.ghost_name ≡ self.old.memory.ghost_name }
+        ensures puts { Puts A.segments A.room A.books self.old self.new (edit_of field.entry init)
+            (init_content (schema_around field.entry.parent) (entry_of field.entry)) result }
+        ensures part { IfOk result (IsPartOf A.segments self.old self.new field.entry) }
+        ensures refused { OnErr result (Stays A.segments self.old self.new) }
+        ensures books { A.books self.new.memory.now.arena ≡ A.books self.old.memory.now.arena }
+        ensures ready { IsReady A.segments self.new }
+    {
+        let place = self.place;
+        init_slot(&mut self.memory.arena, place, field)
     }
 
     /// The struct to read, under its schema. Its pointers are followed under the arena's nesting limit.
