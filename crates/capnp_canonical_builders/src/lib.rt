@@ -2,3 +2,5 @@
 #![tactic(auto)]
 
 pub mod copy;
+pub mod laws;
+pub mod sets;
