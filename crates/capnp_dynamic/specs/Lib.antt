@@ -6,3 +6,4 @@ pub mod Blobs
 pub mod Puts
 pub mod Inits
 pub mod Builders
+pub mod Lending

@@ -65,6 +65,9 @@ pub struct Builder<'a, A> {
 }
 
 impl<'a, A: BuilderArena> Builder<'a, A> {
+    ghost use Rattle.std.specs.Borrow.{sem};
+    ghost use Rattle.capnp_dynamic.specs.Lending.{Lends};
+
     /// A struct under a schema. It has at least the schema's two sizes.
     pub fn new(builder: StructBuilder<'a, A>, schema: StructSchema<'a>) -> Self
         requires there { IsThere (words_in (A.segments builder.memory.now.arena)) builder.place }
@@ -76,6 +79,43 @@ impl<'a, A: BuilderArena> Builder<'a, A> {
         ensures ready { IsReady A.segments result }
     {
         let StructBuilder { memory, place } = builder;
+        Builder {
+            memory,
+            place,
+            schema,
+        }
+    }
+
+    /// The same struct, lent.
+    pub fn reborrow(&mut self) -> Builder<'_, A>
+        requires ready { IsReady A.segments self.old }
+        ensures* lends { sem 𝓛 (Lends A.row self.entry result) }
+        ensures now { result.memory.now ≡ self.old.memory.now }
+        ensures place { result.place ≡ self.old.place }
+        ensures schema { result.schema ≡ self.old.schema }
+        ensures ready { IsReady A.segments result }
+    {
+        let (place, schema) = (self.place, self.schema);
+        let memory = &mut *self.memory;
+        Builder {
+            memory,
+            place,
+            schema,
+        }
+    }
+
+    /// A struct of the same message that is there and wide enough for its schema, lent: one that `init_struct` made, as long as nothing else was written.
+    pub fn part<'b>(&'b mut self, part: Part<'b>) -> Builder<'b, A>
+        requires there { IsThere (words_in (A.segments self.old.memory.now.arena)) part.place }
+        requires wide { IsWide part.place (shape_of_struct part.schema) }
+        ensures* lends { sem 𝓛 (Lends A.row self.entry result) }
+        ensures now { result.memory.now ≡ self.old.memory.now }
+        ensures place { result.place ≡ part.entry.place }
+        ensures schema { result.schema ≡ part.entry.schema }
+        ensures ready { IsReady A.segments result }
+    {
+        let Part { place, schema } = part;
+        let memory = &mut *self.memory;
         Builder {
             memory,
             place,
@@ -160,7 +200,7 @@ impl<'a, A: BuilderArena> Builder<'a, A> {
         Ok(())
     }
 
-    /// Puts a struct of zeros and nulls in place of the value of a field of a struct's type, and tells where it lies: `init` of such a field. The old value is cleared. A union member becomes the active one. The struct takes the words of its schema's two sizes where this one's segment has room for them, else at most one more. `Builder::new` over the memory makes its handle.
+    /// Puts a struct of zeros and nulls in place of the value of a field of a struct's type, and tells where it lies: `init` of such a field. The old value is cleared. A union member becomes the active one. The struct takes the words of its schema's two sizes where this one's segment has room for them, else at most one more. `part` lends its handle.
     ///
     /// It is refused with `TypeMismatch` where the field is untyped, and with `InitIsOnlyValidForStructAndAnyPointerFields` where it is of another type; with `SizeOverflow` just where the message's words, a pad counted, would pass 2^29 - 1, else as the allocator refuses. Then the struct is as it was, its union included.
     pub fn init_struct<'b>(&mut self, field: Field<'b>) -> Result<Part<'b>>
