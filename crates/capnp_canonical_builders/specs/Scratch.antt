@@ -6,6 +6,7 @@ use Rattle.capnp_model.specs.Segments.{Segments, Place, words_at}
 use Rattle.capnp_model.specs.Trees.{Tree, structure, has_capability}
 use Rattle.capnp_model.specs.Traversal.{tree_at, each}
 use Rattle.capnp_model.specs.Trimming.{trim}
+use Rattle.capnp_units.specs.Segments.{words_in}
 use Rattle.capnp_units.specs.declared.errors.Error.{Error}
 use Rattle.capnp_units.specs.declared.limiter.ReadLimiter.{ReadLimiter}
 use Rattle.capnp_object.specs.declared.place.Place as code
@@ -15,12 +16,21 @@ use Rattle.capnp_copy_from.specs.Copies.{BecomesCopy, StructSource}
 use Rattle.capnp_copy_from.specs.Lists.{listed_tree}
 use Rattle.capnp_copy_from.specs.declared.lists.ListSource.{ListSource}
 use Rattle.capnp_copy_canonical.specs.Canonical.{IsFree}
+use Rattle.capnp_builders.specs.declared.pointer_builder.PointerBuilder.{PointerBuilder}
 use Rattle.capnp_builders.specs.Copied.{Walk, IsSourceOf, IsListOf}
 use Rattle.capnp_canonical_builders.specs.Copied.{CopiesThrough}
 
 -- The word of a pointer is there.
 abbrev pub HasSlot : Segments → code.Place → Type 0
 HasSlot s p = (is_some (words_at s (place_view p) 1) ≡ true) × (p.position < 2 ^ 61)
+
+-- The words of the message that a handle writes.
+abbrev pub words_of : {A : Type 0} → (A → List (List ℕ)) → PointerBuilder A → Segments
+words_of bytes b = words_in (bytes b.memory.now.arena)
+
+-- A handle stays where it was.
+abbrev pub StaysThere : {A : Type 0} → PointerBuilder A → PointerBuilder A → Type 0
+StaysThere old new = (new.memory.ghost_name ≡ old.memory.ghost_name) × (new.place ≡ old.place)
 
 -- The levels of the pointer to an object from whose pointers so many may be followed, at most 2^32 - 1.
 abbrev pub level_above : Option ℕ → ℕ
