@@ -86,7 +86,7 @@ pub struct Call {
 
 impl Call {
     ghost use Rattle.std.specs.Prelude.{◌≡◌, map, Ok, IfOk, IfErr};
-    ghost use Rattle.capnp_calls.specs.CallViews.{step_view, verb_of, call_view, call_from, IsRefusal, SetsFrame};
+    ghost use Rattle.capnp_calls.specs.CallViews.{step_view, action_view, verb_of, call_view, call_from, IsRefusal, SetsFrame};
 
     /// A call along a path, which has a step. `Set` takes a value, the other verbs take none; `Initn` at most 2^29 - 1
     /// elements. A message is one frame of at most 2^23 words, nothing behind it, whose value has no capability, at most 64 levels
@@ -114,6 +114,14 @@ impl Call {
         ensures { map step_view result.now ≡ (call_view self.now).path }
     {
         &self.path
+    }
+
+    /// What is done at its end, with the value that it takes.
+    pub fn action(&self) -> &Action
+        ensures action { action_view result.now ≡ (call_view self.now).verb }
+        ensures in_range { IsTrue (is_in_range result.now) }
+    {
+        &self.action
     }
 
     /// What is done at its end.

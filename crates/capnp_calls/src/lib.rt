@@ -29,4 +29,4 @@ mod taken;
 mod text;
 mod widen;
 
-pub use call::{Call, CallFault, CallValue, Step, Verb};
+pub use call::{Action, Call, CallFault, CallValue, SlotValue, Step, Verb};
