@@ -27,3 +27,5 @@ pub mod Direct
 pub mod MovedElements
 pub mod NewObjects
 pub mod CanonicalWords
+pub mod Counting
+pub mod Depths

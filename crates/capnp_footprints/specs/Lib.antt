@@ -6,3 +6,4 @@ pub mod Children
 pub mod NewObjects
 pub mod Detached
 pub mod Rows
+pub mod Totals
