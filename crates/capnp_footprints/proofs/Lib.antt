@@ -29,3 +29,4 @@ pub mod NewObjects
 pub mod CanonicalWords
 pub mod Counting
 pub mod Depths
+pub mod FewerLevels
