@@ -6,7 +6,7 @@ use Rattle.std.proofs.lemmas.List.{take-take, take_at, drop_at, length-append, t
 use Rattle.capnp_model.specs.Chains.{◌>>=◌}
 use Rattle.capnp_model.specs.Sections.{section_of}
 use Rattle.capnp_model.specs.Segments.{Segments, Place, place, after, words_at}
-use Rattle.capnp_model.specs.Pointers.{Object, a_struct, a_list}
+use Rattle.capnp_model.specs.Pointers.{a_struct, a_list}
 use Rattle.capnp_model.specs.Trees.{Tree, structure, struct_list, Trees, Elements, no_elements, element, element_count}
 use Rattle.capnp_model.specs.Traversal.{Tag, tag_in, each, each_element, tree_of, tree_at}
 use Rattle.capnp_model.specs.Coverage.{Span, span, times_held, from_each, from_elements, covered_tag, covered_object, Keeps}

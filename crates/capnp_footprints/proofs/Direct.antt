@@ -1,8 +1,8 @@
 -- What pointers without pads lead to are objects as new ones.
-use Rattle.std.proofs.Common.{◌≡◌, ◌⊎◌, inl, inr, ℕ, zero, suc, ◌+◌, ◌-◌, ◌*◌, ◌^◌, ◌/◌, ◌%◌, List, [], ◌∷◌, Bool, true, false, eqb, cond, Option, Some, Ok, Result, refl, ap, sym, ◌∙◌, subst, arith, ◌≤◌, ◌<◌}
+use Rattle.std.proofs.Common.{◌≡◌, inl, inr, ℕ, zero, suc, ◌+◌, ◌*◌, ◌^◌, Bool, eqb, cond, Some, Ok, refl, ap, sym, ◌∙◌, subst, arith, ◌<◌}
 use Rattle.std.specs.Option.{ok_or}
-use Rattle.std.proofs.lemmas.Bool.{cases_eq, cases_lt, eqb-true}
-use Rattle.capnp_model.specs.Kinds.{Kind, OutOfBounds}
+use Rattle.std.proofs.lemmas.Bool.{cases_eq, cases_lt}
+use Rattle.capnp_model.specs.Kinds.{OutOfBounds}
 use Rattle.capnp_model.specs.Sections.{bits_at}
 use Rattle.capnp_model.specs.Segments.{Segments, Place, after, word_at}
 use Rattle.capnp_model.specs.Pointers.{Object, nothing, a_struct, a_list, to_struct, to_list, Found, found_at, found_by, begins, described, pointer_of_kind, pointer_of}

@@ -30,3 +30,4 @@ pub mod CanonicalWords
 pub mod Counting
 pub mod Depths
 pub mod FewerLevels
+mod Lengths

@@ -3,7 +3,7 @@ use Rattle.std.proofs.Common.{◌≡◌, ℕ, suc, ◌+◌, List, Some, refl, ar
 use Rattle.capnp_model.specs.Coverage.{Span, times_held, span, pads_at}
 use Rattle.capnp_model.specs.Pointers.{Object, a_struct, a_list, found_at, Found}
 use Rattle.capnp_model.specs.Segments.{Segments, Place, after}
-use Rattle.capnp_model.specs.Traversal.{tree_of, tree_at}
+use Rattle.capnp_model.specs.Traversal.{tree_at}
 use Rattle.capnp_model.specs.Trees.{Tree, Trees, null, structure, pointer_list, with_child}
 use Rattle.capnp_model.proofs.Locality.{all_right}
 use Rattle.capnp_model.proofs.SoundRules.{apart}

@@ -1,29 +1,26 @@
 -- The elements of a list of structs that move, one after the other, to a list of wider ones beside it.
-use Rattle.std.proofs.Common.{◌≡◌, ℕ, zero, suc, ◌+◌, ◌-◌, ◌*◌, ◌%◌, ◌^◌, List, [], ◌∷◌, ◌++◌, length, take, Some, Ok, refl, ap, sym, ◌∙◌, subst, arith, ◌≤◌, ◌<◌}
+use Rattle.std.proofs.Common.{◌≡◌, ℕ, zero, suc, ◌+◌, ◌*◌, ◌%◌, ◌^◌, List, [], ◌∷◌, length, take, Some, Ok, refl, ap, sym, ◌∙◌, subst, arith, ◌≤◌, ◌<◌}
 use Rattle.std.proofs.lemmas.Nat.{pow_pos}
-use Rattle.capnp_model.specs.Coverage.{Span, span, times_held}
-use Rattle.capnp_model.specs.Pointers.{Object, a_struct, a_list, Found, found_at}
+use Rattle.capnp_model.specs.Coverage.{Span}
+use Rattle.capnp_model.specs.Pointers.{a_struct, a_list, found_at}
 use Rattle.capnp_model.specs.Sections.{section_of, number_of}
 use Rattle.capnp_model.specs.Segments.{Segments, Place, after, words_at}
-use Rattle.capnp_model.specs.Traversal.{tree_at}
-use Rattle.capnp_model.specs.Trees.{Tree, Trees, Elements, no_elements, element, none, structure, struct_list, resized, element_count}
+use Rattle.capnp_model.specs.Trees.{Trees, Elements, no_elements, element, none, structure, struct_list, resized, element_count}
 use Rattle.capnp_model.specs.Trimming.{with_pointers}
 use Rattle.capnp_footprints.specs.Changes.{ReplacesObject}
 use Rattle.capnp_footprints.specs.Children.{with_first_elements, childless}
 use Rattle.capnp_footprints.specs.Detached.{Detached}
 use Rattle.capnp_footprints.specs.Elements.{element_at, with_element}
-use Rattle.capnp_footprints.specs.Footprints.{object_footprint, OwnsObject}
+use Rattle.capnp_footprints.specs.Footprints.{OwnsObject}
 use Rattle.capnp_footprints.specs.NewObjects.{zero_elements}
-use Rattle.capnp_footprints.specs.Rows.{IsRowOf}
 use Rattle.capnp_footprints.specs.Writes.{spliced, with_words}
-use Rattle.capnp_footprints.proofs.Cells.{element_of_list, list_of_element, element_parts, parts_fit, list_is, element_le}
-use Rattle.capnp_footprints.proofs.Detached.{detached_owns, detached_object}
+use Rattle.capnp_footprints.proofs.Cells.{element_of_list}
+use Rattle.capnp_footprints.proofs.Detached.{detached_owns}
 use Rattle.capnp_footprints.proofs.Kept.{words_length}
-use Rattle.capnp_footprints.proofs.Lift.{slot_is, object_of_pointer, struct_parts, struct_is}
-use Rattle.capnp_footprints.proofs.PointerRows.{element_row}
+use Rattle.capnp_footprints.proofs.Lift.{object_of_pointer, struct_parts}
 use Rattle.capnp_footprints.proofs.Rows.{after_none}
-use Rattle.capnp_footprints.proofs.Spans.{held, held_is, words_front}
-use Rattle.capnp_footprints.proofs.Turns.{struct_shape, elements_here, elements_next, elements_counted, childless_at, childless_count}
+use Rattle.capnp_footprints.proofs.Spans.{words_front}
+use Rattle.capnp_footprints.proofs.Turns.{elements_here, elements_next, elements_counted, childless_at, childless_count}
 use Rattle.capnp_footprints.proofs.Writing.{struct_words}
 
 -- ---- trees

@@ -1,16 +1,14 @@
 -- Rows of pointers, whose children move one after the other.
-use Rattle.std.proofs.Common.{◌≡◌, ℕ, zero, suc, ◌+◌, ◌*◌, List, [], ◌∷◌, ◌++◌, Some, Ok, refl, ap, sym, ◌∙◌, subst, arith, ◌≤◌, ◌<◌}
-use Rattle.std.specs.List.{AllByRecursion}
-use Rattle.capnp_model.specs.Coverage.{Span, span, times_held}
+use Rattle.std.proofs.Common.{◌≡◌, ℕ, zero, suc, ◌+◌, ◌*◌, List, ◌++◌, Some, Ok, refl, ap, ◌∙◌, subst, arith, ◌≤◌, ◌<◌}
+use Rattle.capnp_model.specs.Coverage.{Span}
 use Rattle.capnp_model.specs.Pointers.{Object, a_struct, a_list, Found, found_at}
 use Rattle.capnp_model.specs.Segments.{Segments, Place, after, word_at}
-use Rattle.capnp_model.specs.Traversal.{tree_of, tree_at}
+use Rattle.capnp_model.specs.Traversal.{tree_at}
 use Rattle.capnp_model.specs.Trees.{Tree, Trees, Elements, no_elements, element, null, structure, pointer_list, struct_list, child, with_child, element_count}
 use Rattle.capnp_model.proofs.Locality.{all_left}
-use Rattle.capnp_footprints.specs.Changes.{Changes}
 use Rattle.capnp_footprints.specs.Detached.{Detached, AreZero, Moves, IsMovable}
 use Rattle.capnp_footprints.specs.Elements.{element_at, with_element}
-use Rattle.capnp_footprints.specs.Footprints.{object_footprint, Owns, OwnsObject, footprint}
+use Rattle.capnp_footprints.specs.Footprints.{object_footprint, Owns, OwnsObject}
 use Rattle.capnp_footprints.specs.Rows.{Lifts, IsRowOf}
 use Rattle.capnp_footprints.proofs.Cells.{element_of_list, element_parts, parts_fit, list_is, element_le, list_of_element_with, same_count}
 use Rattle.capnp_footprints.proofs.Detached.{detached_owns}

@@ -1,28 +1,26 @@
 -- Values that move without the spare words, and an empty struct that moves.
-use Rattle.std.proofs.Common.{◌≡◌, ℕ, zero, suc, ◌+◌, ◌-◌, ◌^◌, List, [], ◌∷◌, ◌++◌, Option, Some, Ok, refl, ap, sym, ◌∙◌, subst, arith, ◌≤◌, ◌<◌}
+use Rattle.std.proofs.Common.{◌≡◌, ℕ, zero, suc, ◌+◌, ◌-◌, ◌^◌, List, [], ◌∷◌, Some, Ok, refl, ap, sym, ◌∙◌, subst, arith, ◌≤◌, ◌<◌}
 use Rattle.std.specs.List.{AllByRecursion}
-use Rattle.capnp_model.specs.Coverage.{Span, span, times_held, pads_at, Grows}
+use Rattle.capnp_model.specs.Coverage.{Span, span, times_held, pads_at}
 use Rattle.capnp_model.specs.Encoding.{struct_pointer}
 use Rattle.capnp_model.specs.Pointers.{Object, a_struct, Found, found_at}
-use Rattle.capnp_model.specs.Segments.{Segments, Place, after, word_at, words_at}
-use Rattle.capnp_model.specs.Traversal.{tree_of, tree_at, each, leaf_of}
+use Rattle.capnp_model.specs.Segments.{Segments, Place, word_at, words_at}
+use Rattle.capnp_model.specs.Traversal.{tree_of, tree_at, leaf_of}
 use Rattle.capnp_model.specs.Trees.{Tree, structure, none}
-use Rattle.capnp_model.specs.Sections.{section_of}
 use Rattle.capnp_model.proofs.Chaining.{bind_some, bind_found, some_is, ok_is}
 use Rattle.capnp_model.proofs.Locality.{word_is}
-use Rattle.capnp_footprints.specs.Changes.{Changes, absent}
+use Rattle.capnp_footprints.specs.Changes.{absent}
 use Rattle.capnp_footprints.specs.Detached.{all_taken, Detached, AreZero, Moves, IsMovable}
-use Rattle.capnp_footprints.specs.Footprints.{object_footprint, footprint, Owns}
-use Rattle.capnp_footprints.specs.NewObjects.{New, new_struct, new_pointer, new_object, pointed}
+use Rattle.capnp_footprints.specs.Footprints.{object_footprint, footprint}
+use Rattle.capnp_footprints.specs.NewObjects.{new_struct, new_object, pointed}
 use Rattle.capnp_footprints.specs.Writes.{zeroed}
 use Rattle.capnp_footprints.proofs.Algebra.{changes_alike}
-use Rattle.capnp_footprints.proofs.Detached.{zeros_at, detached_fewer}
+use Rattle.capnp_footprints.proofs.Detached.{zeros_at}
 use Rattle.capnp_footprints.proofs.Lift.{slot_is, object_of_pointer}
 use Rattle.capnp_footprints.proofs.Moving.{slots_apart, without_pads, two_grow, two_more, two_others, two_null, two_now}
 use Rattle.capnp_footprints.proofs.Pointing.{new_names, near_found, near_pads}
 use Rattle.capnp_footprints.proofs.Prepared.{starts_here}
-use Rattle.capnp_footprints.proofs.Spans.{held, held_is, held_self, there, words_front, times_held_append}
-use Rattle.capnp_footprints.proofs.There.{words_there}
+use Rattle.capnp_footprints.proofs.Spans.{held, held_is, there, words_front}
 use Rattle.capnp_footprints.proofs.Zeros.{held_none, null_footprint, null_read}
 
 -- ---- spare words
