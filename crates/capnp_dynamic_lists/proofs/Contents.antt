@@ -1,8 +1,7 @@
 -- What is put into an element, by its value and its type.
-use Rattle.std.proofs.Common.{◌≡◌, ◌≢◌, ℕ, ◌+◌, ◌*◌, ◌<◌, List, length, map, Result, Ok, Err, OnOk, OnErr, IfErr, Option, Some, None, refl, ap, sym, subst, ◌∙◌}
+use Rattle.std.proofs.Common.{◌≡◌, ℕ, ◌*◌, ◌<◌, List, length, map, Result, Ok, Err, OnOk, OnErr, IfErr, Option, Some, None, refl, ap, sym, subst, ◌∙◌}
 use Rattle.std.specs.Prelude.{⊤}
 use Rattle.capnp_model.specs.Coverage.{Grows}
-use Rattle.capnp_model.specs.Segments.{after}
 use Rattle.capnp_model.specs.Sections.{words_for}
 use Rattle.capnp_model.specs.Sizes.{object_words}
 use Rattle.capnp_model.specs.Trees.{Tree}
@@ -11,11 +10,9 @@ use Rattle.capnp_model.specs.Schemas.{Ty, void, plain, text, blob, untyped, inte
 use Rattle.capnp_model.specs.Calls.{Content, refused_by, bits_of, object, blob_tree}
 use Rattle.capnp_model.specs.Edits.{Edit, put_child, put_in_element}
 use Rattle.capnp_units.specs.Segments.{words_in}
-use Rattle.capnp_units.specs.Sizes.{size_number}
 use Rattle.capnp_units.specs.declared.errors.Error.{Error}
 use Rattle.capnp_object.specs.Places.{seen}
 use Rattle.capnp_object.specs.declared.place.Place as code
-use Rattle.capnp_wire.specs.Places.{place_view}
 use Rattle.capnp_copy.specs.Allocations.{TakesJust, TakesAtMost}
 use Rattle.capnp_copy.specs.declared.init.ListPlace.{ListPlace}
 use Rattle.capnp_builders.specs.Making.{ArenaState, Makes, BytesRefused, BytesNotSet}
@@ -23,10 +20,10 @@ use Rattle.capnp_values.specs.declared.dynamic_value.Reader.{Reader}
 use Rattle.capnp_dynamic.specs.Given.{plain_given, bits_given}
 use Rattle.capnp_dynamic.specs.Puts.{ObjectRefused}
 use Rattle.capnp_dynamic.proofs.Grown.{same_grows}
-use Rattle.capnp_dynamic.proofs.SetPointers.{bytes_words}
 use Rattle.capnp_dynamic_lists.specs.Blobs.{bytes_of}
 use Rattle.capnp_dynamic_lists.specs.declared.blobs.Blob.{Blob}
-use Rattle.capnp_dynamic_lists.specs.Lists.{HasPointer, EditsElement}
+use Rattle.capnp_dynamic_lists.specs.Lists.{HasPointer, IsListThere, EditsElement}
+use Rattle.capnp_dynamic_lists.specs.Places.{IsPointerAt}
 use Rattle.capnp_dynamic_lists.specs.Elements.{Holds, answer_of, single_element, single_edit, blob_given, flat_element, element_edit}
 use Rattle.capnp_dynamic_lists.specs.Puts.{PutsObject, PutsContent}
 use Rattle.capnp_dynamic_lists.proofs.Pointers.{pointer_put}
@@ -40,25 +37,22 @@ module _ {X : Type 0} (old new : ArenaState) (r : Result X Error) where
   pub blob_refused : (segment : ℕ) (b x : Blob) → b ≡ x → IfErr r (BytesNotSet old new segment (length (bytes_of x))) → IfErr r (BytesNotSet old new segment (length (bytes_of b)))
   blob_refused segment b x e h = subst (λ y. IfErr r (BytesNotSet old new segment (length (bytes_of y)))) (sym e) h
 
--- behind the pointer of an element
-module _ (old new : ArenaState) (o : ListPlace) (slot : code.Place) (i : ℕ) (bytes : List ℕ) (same : slot.segment ≡ o.start.segment) where
-  pub blob_put : HasPointer o → i < o.count → (size_number o.size < 7 → o.claimed ≡ o.count) → (size_number o.size ≢ 7 → place_view slot ≡ after (place_view o.start) i)
-      → (size_number o.size ≡ 7 → place_view slot ≡ after (after (after (place_view o.start) 1) (i * (o.data_words + o.pointers))) o.data_words)
-      → Makes old new slot (blob_tree bytes) (words_for (8 * length bytes)) → PutsObject old new o (λ words pointers. put_child 0 (blob_tree bytes)) i (object_words (blob_tree bytes))
-  blob_put has l counted pointers structs m =
+-- an object behind the pointer of an element
+module _ (old new : ArenaState) (o : ListPlace) (slot : code.Place) (i : ℕ) (same : slot.segment ≡ o.start.segment) where
+  pub object_put : (v : Tree) (n : ℕ) → object_words v ≡ n → HasPointer o → i < o.count → IsPointerAt o i slot → IsListThere (words_in old.segments) o → Makes old new slot v n → PutsObject old new o (λ words pointers. put_child 0 v) i (object_words v)
+  object_put v n words has l at there m =
       let s = words_in old.segments in
       let u = words_in new.segments in
-      let n = words_for (8 * length bytes) in
       let just = subst (λ k. TakesJust s old.room u k n) same m.taken in
       record {
-        writes = pointer_put s u o (place_view slot) i (blob_tree bytes) has l counted pointers structs m.becomes;
-        taken = subst (λ k. TakesJust s old.room u o.start.segment k) (sym (bytes_words bytes)) just;
-        bound = subst (λ k. TakesAtMost s u k 1) (sym (bytes_words bytes)) m.bound;
+        writes = pointer_put s o i slot has l at u v there m.becomes;
+        taken = subst (λ k. TakesJust s old.room u o.start.segment k) (sym words) just;
+        bound = subst (λ k. TakesAtMost s u k 1) (sym words) m.bound;
       }
 
-  pub blob_not_put : (e : Error) → BytesRefused old slot.segment (length bytes) e → ObjectRefused old o.start.segment (blob_tree bytes) e
+  pub blob_not_put : (bytes : List ℕ) (e : Error) → BytesRefused old slot.segment (length bytes) e → ObjectRefused old o.start.segment (blob_tree bytes) e
   unfolding object_words
-  blob_not_put e h = subst (λ k. BytesRefused old k (length bytes) e) same h
+  blob_not_put bytes e h = subst (λ k. BytesRefused old k (length bytes) e) same h
 
 -- ---- by what is answered
 

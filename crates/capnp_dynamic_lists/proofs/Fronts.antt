@@ -1,12 +1,12 @@
 -- A number written into the front of an element, as the model's edit of it.
-use Rattle.std.proofs.Common.{◌≡◌, ℕ, zero, suc, ◌+◌, ◌*◌, ◌^◌, ◌<◌, ◌≤◌, List, [], ◌∷◌, Option, Some, None, refl, ap, sym, ◌∙◌, subst, arith}
+use Rattle.std.proofs.Common.{◌≡◌, ℕ, zero, suc, ◌*◌, ◌^◌, ◌<◌, ◌≤◌, List, [], ◌∷◌, Option, Some, None, refl, ap, sym, ◌∙◌, subst, arith}
 use Rattle.std.proofs.Math.Nat.{mod-lt}
 use Rattle.std.proofs.lemmas.Nat.{pow_pos}
 use Rattle.capnp_model.specs.Sections.{with_bits, numbers_in, number_of}
 use Rattle.capnp_model.specs.Coverage.{Grows}
-use Rattle.capnp_model.specs.Segments.{Segments, Place, after}
-use Rattle.capnp_model.specs.Pointers.{a_struct, a_list}
-use Rattle.capnp_model.specs.Trees.{Tree, null, capability, structure, plain_list, pointer_list, struct_list, Trees, none, ◌▸◌, Elements, no_elements, element, element_count, size_bits}
+use Rattle.capnp_model.specs.Segments.{Segments, Place}
+use Rattle.capnp_model.specs.Pointers.{a_list}
+use Rattle.capnp_model.specs.Trees.{Tree, null, capability, structure, plain_list, pointer_list, struct_list, Trees, none, ◌▸◌, Elements, no_elements, element, size_bits}
 use Rattle.capnp_model.specs.Kinds.{TypeMismatch}
 use Rattle.capnp_model.specs.Schemas.{PlainType, width, Ty, void, plain, text, blob, untyped, interface, struct, list}
 use Rattle.capnp_model.specs.Calls.{Content, refused_by, bits_of}
@@ -20,12 +20,9 @@ use Rattle.capnp_wire.specs.Places.{place_view}
 use Rattle.capnp_object.specs.Objects.{AreThere}
 use Rattle.capnp_footprints.specs.Footprints.{object_footprint, OwnsObject}
 use Rattle.capnp_footprints.specs.Changes.{ReplacesObject}
-use Rattle.capnp_footprints.specs.Elements.{element_at, with_element}
 use Rattle.capnp_footprints.proofs.Algebra.{changes_nothing}
 use Rattle.capnp_copy.specs.Elements.{SetsElement}
-use Rattle.capnp_copy.specs.Structs.{struct_at, SetsBits}
 use Rattle.capnp_copy.specs.Lists.{list_at}
-use Rattle.capnp_copy.specs.declared.fields.StructPlace.{StructPlace}
 use Rattle.capnp_copy.specs.declared.init.ListPlace.{ListPlace}
 use Rattle.capnp_copy.proofs.ElementLaws.{plain_parts}
 use Rattle.capnp_copy.proofs.RoomLaws.{still_some}
@@ -65,61 +62,6 @@ plain_front s u o i width value lt le fits inside counted sets n (struct_list d 
 plain_front s u o i width value lt le fits inside counted sets n null is owns = absurd is
 plain_front s u o i width value lt le fits inside counted sets n (capability c) is owns = absurd is
 plain_front s u o i width value lt le fits inside counted sets n (structure d section ts) is owns = absurd is
-
--- ---- structs
-
--- one of the elements, and what an edit makes of it
-record Cells (d i width value : ℕ) (es : Elements) : Type 0 where
-  section : ℕ
-  kids : Trees
-  here : element_at d es i ≡ structure d section kids
-  after_it : on_elements (put_bits 0 width value) i es ≡ with_element es i (with_bits 0 width value section) kids
-
-cells_of : (d i width value : ℕ) (es : Elements) → i < element_count es → Cells d i width value es
-cells_of d i width value no_elements l = absurd (omega (arith, l))
-cells_of d zero width value (element section kids es) l = record { section = section; kids = kids; here = refl; after_it = refl }
-cells_of d (suc i) width value (element section kids es) l =
-    let x = cells_of d i width value es (omega (arith, l)) in
-    record { section = x.section; kids = x.kids; here = x.here; after_it = ap (λ ys. element section kids ys) x.after_it }
-
--- From a list of structs to its element, and back, as the laws of lists have it.
-abbrev pub Down : Type 0
-Down = (n : ℕ) (s : Segments) (p : Place) (m d k i : ℕ) (es : Elements) → i < element_count es → OwnsObject n s (a_list p 7 m) (struct_list d k es) → OwnsObject n s (a_struct (after (after p 1) (i * (d + k))) d k) (element_at d es i)
-
-abbrev pub Up : Type 0
-Up = (n : ℕ) (s u : Segments) (p : Place) (m d k i section : ℕ) (kids : Trees) (es : Elements) → i < element_count es → OwnsObject n s (a_list p 7 m) (struct_list d k es)
-    → ReplacesObject n s u (a_struct (after (after p 1) (i * (d + k))) d k) (structure d section kids) → ReplacesObject n s u (a_list p 7 m) (struct_list d k (with_element es i section kids))
-
-struct_same : Down → Up → (n : ℕ) (s u : Segments) (o : ListPlace) (e : StructPlace) (i width value d k : ℕ) (es : Elements) → d ≡ o.data_words → k ≡ o.pointers → e.data_words ≡ o.data_words → e.pointers ≡ o.pointers
-    → place_view e.start ≡ after (after (place_view o.start) 1) (i * (o.data_words + o.pointers)) → i < element_count es → SetsBits s u e 0 width value
-    → OwnsObject n s (a_list (place_view o.start) 7 o.claimed) (struct_list d k es) → ReplacesObject n s u (a_list (place_view o.start) 7 o.claimed) (edit_list (λ words pointers. put_bits 0 width value) i (struct_list d k es))
-struct_same down up n s u o e i width value d k es ed ek fd fk at l sets owns =
-    let p = place_view o.start in
-    let x = cells_of d i width value es l in
-    let same_d : e.data_words ≡ d = fd ∙ sym ed in
-    let same_k : e.pointers ≡ k = fk ∙ sym ek in
-    let where_it_is : place_view e.start ≡ after (after p 1) (i * (d + k)) = at ∙ ap (λ (j : ℕ). after (after p 1) (i * (j + o.pointers))) (sym ed) ∙ ap (λ (j : ℕ). after (after p 1) (i * (d + j))) (sym ek) in
-    let object : struct_at e ≡ a_struct (after (after p 1) (i * (d + k))) d k = ap (λ q. a_struct q e.data_words e.pointers) where_it_is ∙ ap (λ (j : ℕ). a_struct (after (after p 1) (i * (d + k))) j e.pointers) same_d ∙ ap (λ (j : ℕ). a_struct (after (after p 1) (i * (d + k))) d j) same_k in
-    let below : OwnsObject n s (a_struct (after (after p 1) (i * (d + k))) d k) (structure d x.section x.kids) = subst (λ t. OwnsObject n s (a_struct (after (after p 1) (i * (d + k))) d k) t) x.here (down n s p o.claimed d k i es l owns) in
-    let owned : OwnsObject n s (struct_at e) (structure e.data_words x.section x.kids) = subst (λ (j : ℕ). OwnsObject n s (struct_at e) (structure j x.section x.kids)) (sym same_d) (subst (λ y. OwnsObject n s y (structure d x.section x.kids)) (sym object) below) in
-    let put : ReplacesObject n s u (struct_at e) (structure e.data_words (with_bits 0 width value x.section) x.kids) = sets n x.section x.kids owned in
-    let there : ReplacesObject n s u (a_struct (after (after p 1) (i * (d + k))) d k) (structure d (with_bits 0 width value x.section) x.kids) = subst (λ y. ReplacesObject n s u y (structure d (with_bits 0 width value x.section) x.kids)) object (subst (λ (j : ℕ). ReplacesObject n s u (struct_at e) (structure j (with_bits 0 width value x.section) x.kids)) same_d put) in
-    subst (λ ys. ReplacesObject n s u (a_list p 7 o.claimed) (struct_list d k ys)) (sym x.after_it) (up n s u p o.claimed d k i (with_bits 0 width value x.section) x.kids es l owns there)
-
-pub struct_front : Down → Up → (s u : Segments) (o : ListPlace) (e : StructPlace) (i width value : ℕ) → size_number o.size ≡ 7 → i < o.count → e.data_words ≡ o.data_words → e.pointers ≡ o.pointers
-    → place_view e.start ≡ after (after (place_view o.start) 1) (i * (o.data_words + o.pointers)) → SetsBits s u e 0 width value → EditsElement s u o (λ words pointers. put_bits 0 width value) i
-struct_front down up s u o e i width value seven inside fd fk at sets n (struct_list d k es) is owns =
-    let f : Tree → Tree = edit_list (λ words pointers. put_bits 0 width value) i in
-    let count = is.3 in
-    let P : ℕ → Type 0 = λ z. OwnsObject n s (a_list (place_view o.start) z o.claimed) (struct_list d k es) → ReplacesObject n s u (a_list (place_view o.start) z o.claimed) (f (struct_list d k es)) in
-    let all : P 7 = struct_same down up n s u o e i width value d k es is.1 is.2 fd fk at (omega (arith, inside, count)) sets in
-    let here : P (size_number o.size) = subst P (sym seven) all in
-    here owns
-struct_front down up s u o e i width value seven inside fd fk at sets n (plain_list size m section) is owns = absurd (let e = is.0 in let l = is.1 in omega (arith, seven, e, l))
-struct_front down up s u o e i width value seven inside fd fk at sets n (pointer_list ts) is owns = absurd (let six = is.0 in omega (arith, seven, six))
-struct_front down up s u o e i width value seven inside fd fk at sets n null is owns = absurd is
-struct_front down up s u o e i width value seven inside fd fk at sets n (capability c) is owns = absurd is
-struct_front down up s u o e i width value seven inside fd fk at sets n (structure d section ts) is owns = absurd is
 
 -- ---- nothing is written
 

@@ -1,4 +1,5 @@
 pub mod PlainElements
+pub mod Parts
 pub mod Fronts
 pub mod Pointers
 pub mod Contents

@@ -1,4 +1,6 @@
 pub mod Lists
+pub mod Places
+pub mod Parts
 pub mod Elements
 pub mod Blobs
 pub mod Puts

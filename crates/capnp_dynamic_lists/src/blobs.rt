@@ -1,14 +1,13 @@
 //! Texts and data behind the pointers of elements of lists that are built, over places.
-ghost use Rattle.std.specs.Prelude.{◌≡◌, ◌≢◌, ◌+◌, ◌*◌, ◌<◌, ◌^◌, true, length, option_map, IfErr, OnOk, OnErr};
+ghost use Rattle.std.specs.Prelude.{◌≡◌, ◌*◌, ◌<◌, ◌^◌, true, length, option_map, IfErr, OnOk, OnErr};
 ghost use Rattle.std.specs.Option.{is_some};
 ghost use Rattle.capnp_model.specs.Calls.{blob_tree};
 ghost use Rattle.capnp_model.specs.Coverage.{Grows};
 ghost use Rattle.capnp_model.specs.Edits.{put_child};
 ghost use Rattle.capnp_model.specs.Sections.{words_for};
-ghost use Rattle.capnp_model.specs.Segments.{after, words_at};
+ghost use Rattle.capnp_model.specs.Segments.{words_at};
 ghost use Rattle.capnp_model.specs.Sizes.{object_words};
 ghost use Rattle.capnp_units.specs.Segments.{words_in};
-ghost use Rattle.capnp_units.specs.Sizes.{size_number};
 ghost use Rattle.capnp_wire.specs.Places.{place_view};
 ghost use Rattle.capnp_builders.specs.Making.{Makes, BytesNotSet};
 ghost use Rattle.capnp_queries.specs.Types.{ty_of};
@@ -18,12 +17,12 @@ ghost use Rattle.capnp_dynamic_lists.specs.Elements.{blob_given};
 ghost use Rattle.capnp_dynamic_lists.specs.Lists.{IsListThere, HasPointer};
 ghost use Rattle.capnp_dynamic_lists.specs.Puts.{PutsObject};
 
+use crate::places::element_pointer;
 use capnp_copy::arena::BuilderArena;
 use capnp_copy::blobs::{set_data, set_text};
 use capnp_copy::init::ListPlace;
 use capnp_queries::introspect::{Type, TypeVariant};
 use capnp_units::errors::Result;
-use capnp_units::sizes::ElementSize;
 use capnp_values::dynamic_value::Reader;
 use capnp_wire::place::Place;
 
@@ -41,31 +40,6 @@ pub(crate) fn blob_for<'a, B>(ty: Type, value: &Reader<'a, B>) -> Option<Blob<'a
         (TypeVariant::Text, Reader::Text(text)) => Some(Blob::Text(text.as_bytes())),
         (TypeVariant::Data, Reader::Data(data)) => Some(Blob::Data(data)),
         _ => None,
-    }
-}
-
-/// Where the pointer of an element lies: the element itself, or the first pointer of a struct.
-fn slot_of(list: ListPlace, index: u32) -> Place
-    requires near { list.start.position < 2 ^ 61 }
-    ensures segment { result.segment ≡ list.start.segment }
-    ensures pointers { size_number list.size ≢ 7
-        → place_view result ≡ after (place_view list.start) index }
-    ensures structs { size_number list.size ≡ 7
-        → place_view result
-        ≡ after (after (after (place_view list.start) 1)
-        (index * (list.data_words + list.pointers))) list.data_words }
-{
-    let start = list.start;
-    let position = match list.size {
-        ElementSize::InlineComposite => {
-            let words = list.data_words as usize + list.pointers as usize;
-            start.position + 1 + index as usize * words + list.data_words as usize
-        }
-        _ => start.position + index as usize,
-    };
-    Place {
-        segment: start.segment,
-        position,
     }
 }
 
@@ -109,6 +83,6 @@ pub(crate) fn put_blob<A: BuilderArena>(
     ensures grows { Grows (words_in (A.segments arena.old)) (words_in (A.segments arena.new)) }
     ensures books { A.books arena.new ≡ A.books arena.old }
 {
-    let slot = slot_of(list, index);
+    let slot = element_pointer(list, index);
     put_at(arena, slot, blob)
 }

@@ -12,20 +12,20 @@ ghost use Rattle.capnp_dynamic_lists.specs.Lists.{IsListThere, HasRoom, EditsEle
 ghost use Rattle.capnp_dynamic_lists.specs.Elements.{plain_in, Holds, answer_of, single_element, single_edit, flat_element, element_edit};
 
 use crate::blobs::{blob_for, put_blob};
+use crate::laws::elements_as_structs;
+use crate::places::element_struct;
 use capnp_copy::arena::BuilderArena;
 use capnp_copy::elements::set_element;
-use capnp_copy::fields::{StructPlace, set_bits};
+use capnp_copy::fields::set_bits;
 use capnp_copy::init::ListPlace;
 use capnp_dynamic::setting::bits_for;
 use capnp_dynamic::slots::width_of;
-use capnp_footprints::laws::elements_of_lists;
 use capnp_queries::introspect::{Type, TypeVariant};
 use capnp_queries::slots::PlainType;
 use capnp_units::errors::{Error, Result};
 use capnp_units::kinds::ErrorKind;
 use capnp_units::sizes::ElementSize;
 use capnp_values::dynamic_value::Reader;
-use capnp_wire::place::Place;
 
 /// The plain type that a type is, if it is one.
 pub(crate) fn plain_type(ty: Type) -> Option<PlainType>
@@ -59,20 +59,10 @@ fn set_front<A: BuilderArena>(arena: &mut A, list: ListPlace, index: u32, width:
         ≡ map length (words_in (A.segments arena.old)) }
     ensures books { A.books arena.new ≡ A.books arena.old }
 {
-    elements_of_lists();
+    elements_as_structs();
     match list.size {
         ElementSize::InlineComposite => {
-            let words = list.data_words as usize + list.pointers as usize;
-            let start = Place {
-                segment: list.start.segment,
-                position: list.start.position + 1 + index as usize * words,
-            };
-            let element = StructPlace {
-                start,
-                data_words: list.data_words,
-                pointers: list.pointers,
-            };
-            set_bits(arena, element, 0, width, value);
+            set_bits(arena, element_struct(list, index), 0, width, value);
         }
         _ => set_element(arena, list, index, width, value),
     }

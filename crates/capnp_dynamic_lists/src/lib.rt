@@ -4,3 +4,5 @@
 mod blobs;
 pub mod dynamic_list;
 mod elements;
+pub mod laws;
+pub mod places;

@@ -4,18 +4,18 @@ use Rattle.capnp_model.specs.Sections.{words_for}
 use Rattle.capnp_model.specs.Sizes.{object_words}
 use Rattle.std.proofs.Common.{◌*◌, length, arith}
 use Rattle.capnp_units.specs.Segments.{words_in}
-use Rattle.capnp_wire.specs.Places.{place_view}
 use Rattle.capnp_builders.specs.Making.{Makes}
 use Rattle.capnp_dynamic.specs.Puts.{state_in, ObjectRefused}
+use Rattle.capnp_dynamic.proofs.SetPointers.{bytes_words}
 use Rattle.capnp_dynamic_lists.specs.Blobs.{bytes_of}
 use Rattle.capnp_dynamic_lists.specs.Puts.{PutsObject}
-use Rattle.capnp_dynamic_lists.proofs.Pointers.{slot_there}
-use Rattle.capnp_dynamic_lists.proofs.Contents.{blob_put, blob_not_put, put_if, not_put_if, stays_if, grows_if}
+use Rattle.capnp_dynamic_lists.proofs.Pointers.{pointer_there}
+use Rattle.capnp_dynamic_lists.proofs.Contents.{object_put, blob_not_put, put_if, not_put_if, stays_if, grows_if}
 use Rattle.capnp_dynamic_lists.proofs.blobs.put_blob.Goals as goal
 
 pub put_at-requires : goal.put_at-requires
 put_at-requires g c =
-    let x = slot_there (words_in (g.A.ReaderArena.segments c.args.arena.now)) c.args.list (place_view c.slot_of-slot.result) c.args.index c.requires.pointer c.requires.index c.requires.there c.slot_of-slot.ensures.pointers c.slot_of-slot.ensures.structs in
+    let x = pointer_there (words_in (g.A.ReaderArena.segments c.args.arena.now)) c.args.list c.args.index c.element_pointer-slot.result c.requires.pointer c.requires.index c.element_pointer-slot.ensures.place c.requires.there in
     record { there = x.0; near = (let near = x.1 in omega (arith, near)) }
 
 pub returns : goal.returns
@@ -26,13 +26,14 @@ returns g c =
     let r = c.put_at.result in
     let o = c.args.list in
     let i = c.args.index in
-    let slot = c.slot_of-slot.result in
+    let slot = c.element_pointer-slot.result in
+    let where_it_is = c.element_pointer-slot.ensures in
     let bytes = bytes_of c.args.blob in
     let e = c.put_at.ensures in
     record {
       puts = put_if old new r (Makes old new slot (blob_tree bytes) (words_for (8 * length bytes))) (PutsObject old new o (λ words pointers. put_child 0 (blob_tree bytes)) i (object_words (blob_tree bytes)))
-          (blob_put old new o slot i bytes c.slot_of-slot.ensures.segment c.requires.pointer c.requires.index c.requires.there.counted c.slot_of-slot.ensures.pointers c.slot_of-slot.ensures.structs) e.made;
-      refused = not_put_if old new r slot.segment (length bytes) (ObjectRefused old o.start.segment (blob_tree bytes)) (blob_not_put old new o slot i bytes c.slot_of-slot.ensures.segment) e.refused;
+          (object_put old new o slot i where_it_is.segment (blob_tree bytes) (words_for (8 * length bytes)) (bytes_words bytes) c.requires.pointer c.requires.index where_it_is.place c.requires.there) e.made;
+      refused = not_put_if old new r slot.segment (length bytes) (ObjectRefused old o.start.segment (blob_tree bytes)) (blob_not_put old new o slot i where_it_is.segment bytes) e.refused;
       stays = stays_if old new r slot.segment (length bytes) e.refused;
       grows = grows_if old new r slot.segment (length bytes) e.grows e.refused;
       books = e.books;
