@@ -80,15 +80,12 @@ unwritten_later there put there' put' a b path more cost u most most' used used'
     let room : room_of mid ≡ room_of old = ap (λ (n : ℕ). min n (2 ^ 29 - 1)) x.0 in
     record {
       halted = halted_later a b path more cost u most most' old mid new l k m e is paid w x h j y.halted;
-      why = elim y.why [
-        | inl z ↦ inl (stopped_later a b path more l k m e is w z)
-        | inr z ↦ inr (no_room_later there put there' put' used used' old mid room back z)
-      ];
+      full = λ kind. no_room_later there put there' put' used used' old mid room back (y.full kind);
     }
 
 -- at the first visit
-pub unwritten_at : {X : Type 0} (there : Option X) (put : X → List ℕ → List ℕ) (path : List Visit) (most used : ℕ) (old : List (List ℕ)) (l m : ReadLimiter) (e : Error) → Stopped path l e m → Unwritten there put path most used old l e old m
-unwritten_at there put path most used old l m e x = record { halted = record { paid = x.paid; spends = x.spends; behind = behind_none (most + x.paid) old; why = inl x }; why = inl x }
+pub unwritten_at : {X : Type 0} (there : Option X) (put : X → List ℕ → List ℕ) (path : List Visit) (most used : ℕ) (old : List (List ℕ)) (l m : ReadLimiter) (e : Error) → Stopped path l e m → (e.kind ≡ BufferNotLargeEnough → ⊥) → Unwritten there put path most used old l e old m
+unwritten_at there put path most used old l m e x other = record { halted = record { paid = x.paid; spends = x.spends; behind = behind_none (most + x.paid) old; why = inl x }; full = λ kind. absurd (other kind) }
 
 -- no room for the first words
 pub unwritten_first : {X : Type 0} (there : Option X) (put : X → List ℕ → List ℕ) (path : List Visit) (most used : ℕ) (old : List (List ℕ)) (l : ReadLimiter) (e : Error) → e.kind ≡ BufferNotLargeEnough → room_of old < most → HasNoRoomFor there put used old → Unwritten there put path most used old l e old l
@@ -101,7 +98,7 @@ unwritten_first there put path most used old l e why full none =
         behind = behind_none (most + 0) old;
         why = inr (record { before = []; rest = path; path_is = refl; cost = 0; cost_is = refl; walked = walked_none l; why = why; full = zero_too });
       };
-      why = inr none;
+      full = λ kind. none;
     }
 
 pub halts_is : {X : Type 0} (there : Option X) (bad : X → Bool) (put : X → List ℕ → List ℕ) (path : List Visit) (most used : ℕ) (old new : List (List ℕ)) (l m : ReadLimiter) (r : Result ℕ Error) (x e : Error) → r ≡ Err x → x ≡ e → Unwritten there put path most used old l e new m → Writes there bad put path most used old l r new m

@@ -10,6 +10,7 @@ pub mod Nulls
 pub mod Rows
 pub mod Objects
 pub mod Rooms
+pub mod Faults
 pub mod Steps
 pub mod Finals
 pub mod Elements

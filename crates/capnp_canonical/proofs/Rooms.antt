@@ -1,19 +1,17 @@
 -- How many words there are of what is put.
-use Rattle.std.proofs.Common.{◌≡◌, ℕ, zero, suc, ◌+◌, ◌-◌, ◌*◌, ◌<◌, ◌≤◌, List, [], ◌∷◌, ◌++◌, length, take, drop, Option, Some, refl, ap, sym, ◌∙◌, subst, arith}
+use Rattle.std.proofs.Common.{◌≡◌, ℕ, ◌+◌, ◌-◌, ◌*◌, ◌<◌, ◌≤◌, List, ◌++◌, length, take, drop, Option, Some, ap, ◌∙◌, subst, arith}
 use Rattle.std.proofs.Math.ListN.{set, length-set}
 use Rattle.std.proofs.lemmas.List.{length-append, length-take, length-drop}
 use Rattle.capnp_model.specs.Chains.{◌>>=◌}
 use Rattle.capnp_model.specs.Sections.{words_of, words_for, needed_words}
-use Rattle.capnp_model.specs.Segments.{Place}
 use Rattle.capnp_model.specs.Trees.{Tree, structure, plain_list, pointer_list, struct_list, Trees, Elements, no_elements, element, tree_count, element_count, resized, size_bits}
-use Rattle.capnp_model.specs.Traversal.{each}
 use Rattle.capnp_model.specs.Trimming.{stripped, common_words, common_pointers, with_pointers, trim, trim_each, trim_elements}
 use Rattle.capnp_model.specs.Encoding.{pointer, body, links, bodies, cells, element_bodies, canonical_words}
 use Rattle.capnp_model.proofs.Chaining.{bind_some, some_is}
 use Rattle.capnp_model.proofs.Numbers.{length-numbers_in}
 use Rattle.capnp_model.proofs.RoundTrip.{links_length}
 use Rattle.capnp_model.proofs.Stripping.{count-resized}
-use Rattle.capnp_model.proofs.TrimFits.{count-trim_each, count-with_pointers, count-trim_elements}
+use Rattle.capnp_model.proofs.TrimFits.{count-trim_each, count-trim_elements}
 use Rattle.capnp_canonical.specs.Writes.{filled, with_link, with_links, with_cells}
 use Rattle.capnp_canonical.specs.Copies.{room_of, HasNoRoomFor}
 use Rattle.capnp_canonical.proofs.Objects.{filled_length}

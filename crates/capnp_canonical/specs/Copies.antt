@@ -73,10 +73,10 @@ pub record Halted (path : List Visit) (most : ℕ) (old : List (List ℕ)) (l : 
 abbrev pub HasNoRoomFor : {X : Type 0} → Option X → (X → List ℕ → List ℕ) → ℕ → List (List ℕ) → Type 0
 HasNoRoomFor {X = X} there put used old = (what : X) → there ≡ Some what → room_of old < length (put what (filled used old))
 
--- What is there wasn't written: the copy was refused, and either its walk was stopped or there is no room for all of it.
+-- What is there wasn't written: the copy was refused, and for want of room only where there is no room for all of it.
 pub record Unwritten {X : Type 0} (there : Option X) (put : X → List ℕ → List ℕ) (path : List Visit) (most used : ℕ) (old : List (List ℕ)) (l : ReadLimiter) (e : Error) (new : List (List ℕ)) (m : ReadLimiter) : Type 0 where
   pub halted : Halted path most old l e new m
-  pub why : Stopped path l e m ⊎ HasNoRoomFor there put used old
+  pub full : e.kind ≡ BufferNotLargeEnough → HasNoRoomFor there put used old
 
 -- What is there was written behind the words in use, to this end: it has no capability, its visits were made, and it takes no more words than so many and those that were paid.
 pub record Written {X : Type 0} (there : Option X) (bad : X → Bool) (put : X → List ℕ → List ℕ) (path : List Visit) (most used : ℕ) (old : List (List ℕ)) (l : ReadLimiter) (end : ℕ) (new : List (List ℕ)) (m : ReadLimiter) : Type 0 where

@@ -20,6 +20,7 @@ use Rattle.capnp_canonical.specs.Widths.{kept}
 use Rattle.capnp_canonical.specs.Copies.{copy_visits, IsData, Writes, Unwritten}
 use Rattle.capnp_canonical.specs.Objects.{WritesObject}
 use Rattle.capnp_canonical.proofs.Copying.{unwritten_at, no_room, halts_is}
+use Rattle.capnp_canonical.proofs.Faults.{stopped_otherwise}
 use Rattle.capnp_canonical.proofs.Rooms.{no_room_for_struct, no_room_for_pointers, no_room_for_structs}
 use Rattle.capnp_canonical.proofs.Rows.{least_words, least_pointers, elements_count}
 use Rattle.capnp_object.proofs.Rows.{each_count}
@@ -40,7 +41,7 @@ write_at-returns-in_err-object g t c =
     let old = c.args.into.now in
     let r = err_from_is_err_and c.from_residual.result c.from_residual.ensures.1 in
     halts_is (tree_at n s p) has_capability (λ t. with_link c.args.at (trim t)) (copy_visits n s p) c.args.used c.args.used old old c.args.limiter.now c.follow_data.new.limiter c.from_residual.result r.0 c.in_err-object.field-0.0 r.1 r.2
-    (unwritten_at (tree_at n s p) (λ t. with_link c.args.at (trim t)) (copy_visits n s p) c.args.used c.args.used old c.args.limiter.now c.follow_data.new.limiter c.in_err-object.field-0.0 c.in_err-object.ensures)
+    (unwritten_at (tree_at n s p) (λ t. with_link c.args.at (trim t)) (copy_visits n s p) c.args.used c.args.used old c.args.limiter.now c.follow_data.new.limiter c.in_err-object.field-0.0 c.in_err-object.ensures (λ kind. stopped_otherwise n s p c.args.limiter.now c.follow_data.new.limiter c.in_err-object.field-0.0 c.in_err-object.ensures kind))
 
 pub write_at-returns-then-levels-eq0 : goal.write_at-returns-then-levels-eq0
 write_at-returns-then-levels-eq0 g t c =
