@@ -69,7 +69,7 @@ pub record Halted (path : List Visit) (most : ℕ) (old : List (List ℕ)) (l : 
   pub behind : Behind (most + paid) old new
   pub why : Stopped path l e m ⊎ Filled path (room_of old) most l e m
 
--- What is there takes more words, with those in use, than there is room for.
+-- What is there, put over the words in use, makes more words than there is room for.
 abbrev pub HasNoRoomFor : {X : Type 0} → Option X → (X → List ℕ → List ℕ) → ℕ → List (List ℕ) → Type 0
 HasNoRoomFor {X = X} there put used old = (what : X) → there ≡ Some what → room_of old < length (put what (filled used old))
 
