@@ -1,20 +1,23 @@
 -- The elements of a list of structs, written one after the other.
 use Rattle.std.proofs.Common.{◌≡◌, ℕ, ◌+◌, ◌-◌, ◌*◌, ◌^◌, ◌<◌, ◌≤◌, List, length, drop, Option, refl, ap, sym, ◌∙◌, arith}
 use Rattle.capnp_model.specs.Segments.{Segments, Place, after}
-use Rattle.capnp_model.specs.Trees.{Elements, no_elements, element, resized, has_capability, have_capability, elements_have_capability}
+use Rattle.capnp_model.specs.Trees.{Trees, Elements, no_elements, element, element_count, resized, has_capability, have_capability, elements_have_capability}
 use Rattle.capnp_model.specs.Traversal.{tree_at, each, each_element}
 use Rattle.capnp_model.specs.Trimming.{trim, trim_each, trim_elements, with_pointers}
 use Rattle.capnp_model.specs.Coverage.{from_each, from_elements}
 use Rattle.capnp_model.specs.Visits.{Visit}
 use Rattle.capnp_units.specs.declared.errors.Error.{Error}
 use Rattle.capnp_units.specs.declared.limiter.ReadLimiter.{ReadLimiter}
+use Rattle.capnp_model.proofs.Stripping.{count-resized}
+use Rattle.capnp_model.proofs.TrimFits.{count-trim_elements}
 use Rattle.capnp_object.specs.Objects.{AreThere}
 use Rattle.capnp_object.specs.Inside.{section_at, words_there}
 use Rattle.capnp_object.proofs.Rows.{row_end, elements_start, elements_met_next}
 use Rattle.capnp_canonical.specs.Writes.{filled, with_cells}
-use Rattle.capnp_canonical.specs.Copies.{copy_visits, Written, Halted}
+use Rattle.capnp_canonical.specs.Copies.{copy_visits, Written, Unwritten}
 use Rattle.capnp_canonical.proofs.Copying.{SoFar, begun, next, ended, stopped}
-use Rattle.capnp_canonical.proofs.Rows.{element_join, part_section}
+use Rattle.capnp_canonical.proofs.Rows.{element_join, element_parts, elements_count, part_section}
+use Rattle.capnp_canonical.proofs.Rooms.{cell_longer, cells_longer}
 use Rattle.capnp_canonical.proofs.Parts.{part_room}
 use Rattle.capnp_canonical.proofs.Putting.{cells_all}
 use Rattle.capnp_canonical.proofs.Objects.{filled_length}
@@ -48,12 +51,33 @@ module _ (n : ℕ) (s : Segments) (p : Place) (d k a b count at first : ℕ) (ol
       (ap (λ (xs : List ℕ). each_element f (after p (0 * (d + k))) xs d k (count - 0)) words ∙ elements_start p d k count (λ q m. each_element f q ws d k m)) (elements_start p d k count (λ q m. from_elements v q d k m)) bound near
       (λ es. ap (λ (j : ℕ). with_cells j (at + count * (a + b)) a b (with_pointers b (trim_elements es)) (filled first old)) start)
 
-  pub elements_stopped : (ws : List ℕ) (i used : ℕ) (now new : List (List ℕ)) (j m : ReadLimiter) (e : Error) → i < count → Halted (from_each (copy_visits n s) (after (after p (i * (d + k))) d) k) used now j e new m
-      → ElementsSoFar n s p ws d k a b count at i first old l used now j → Halted (from_elements (copy_visits n s) p d k count) first old l e new m
-  elements_stopped ws i used now new j m e h x so_far =
+  pub elements_stopped : (words i used : ℕ) (now new : List (List ℕ)) (j m : ReadLimiter) (e : Error) → i < count → AreThere s p words → count * (d + k) ≤ words → at + count * (a + b) ≤ first
+      → Unwritten (each (tree_at n s) (after (after p (i * (d + k))) d) k) (λ ts. with_cells (at + i * (a + b)) (at + i * (a + b) + (a + b)) a b (element (section_at s (after p (i * (d + k))) d) (resized b (trim_each ts)) no_elements)) (from_each (copy_visits n s) (after (after p (i * (d + k))) d) k) used used now j e new m
+      → ElementsSoFar n s p (words_there s p words) d k a b count at i first old l used now j
+      → Unwritten (each_element (tree_at n s) p (words_there s p words) d k count) (elements_put at (at + count * (a + b)) a b) (from_elements (copy_visits n s) p d k count) first first old l e new m
+  elements_stopped words i used now new j m e h there fit inside x so_far =
+      let ws = words_there s p words in
+      let f = tree_at n s in
       let v = copy_visits n s in
-      stopped (each_element (tree_at n s) p ws d k count) (elements_from n s p ws d k count i) elements_have_capability (elements_put at (at + count * (a + b)) a b) (elements_put (at + i * (a + b)) (at + count * (a + b)) a b) (from_elements v p d k count) (visits_from n s p d k count i)
-      (from_each v (after (after p (i * (d + k))) d) k) (visits_from n s p d k count (i + 1)) first old now new l j m used e (elements_met_next p d k i count h v) x so_far
+      let here = after p (i * (d + k)) in
+      let more = so_far.more in
+      let size = filled_length used now so_far.bound in
+      let room = part_room i count (d + k) h in
+      let place = part_room i count (a + b) h in
+      let section = section_at s here d in
+      let out : Trees → List ℕ = λ ts. with_cells (at + i * (a + b)) (at + i * (a + b) + (a + b)) a b (element section (resized b (trim_each ts)) no_elements) (filled used now) in
+      stopped (each_element f p ws d k count) (elements_from n s p ws d k count i) (elements_from n s p ws d k count (i + 1)) elements_have_capability
+      (elements_put at (at + count * (a + b)) a b) (elements_put (at + i * (a + b)) (at + count * (a + b)) a b) (elements_put (at + (i + 1) * (a + b)) (at + count * (a + b)) a b)
+      (each f (after here d) k) have_capability (λ ts. with_cells (at + i * (a + b)) (at + i * (a + b) + (a + b)) a b (element section (resized b (trim_each ts)) no_elements))
+      (from_elements v p d k count) (visits_from n s p d k count i) (from_each v (after here d) k) (visits_from n s p d k count (i + 1)) first old now new l j m used e (elements_met_next p d k i count h v)
+      (λ ts es is rest_is. element_join at a b d k i count section (filled used now) ws f p ts es h (omega arith) is rest_is (sym (part_section s p words there.0 (i * (d + k)) d (omega arith)))) (λ xs is. element_parts d k i count ws f p xs h is)
+      (λ ts es is rest_is.
+      let count_is : element_count (trim_elements es) ≡ count - (i + 1) = count-trim_elements es ∙ elements_count f (after p ((i + 1) * (d + k))) (drop ((i + 1) * (d + k)) ws) d k (count - (i + 1)) es rest_is in
+      let long : length (filled used now) ≤ length (out ts) = cell_longer (at + i * (a + b)) (at + i * (a + b) + (a + b)) a b section (resized b (trim_each ts)) (filled used now) (count-resized b (trim_each ts)) (omega arith) (omega arith) in
+      let all : count * (a + b) ≡ (i + 1 + (count - (i + 1))) * (a + b) = ap (λ (c : ℕ). c * (a + b)) (let t : count ≡ i + 1 + (count - (i + 1)) = omega arith in t) in
+      let spread : (i + 1 + (count - (i + 1))) * (a + b) ≡ (i + 1) * (a + b) + (count - (i + 1)) * (a + b) = grind arith in
+      let rows : element_count (trim_elements es) * (a + b) ≡ (count - (i + 1)) * (a + b) = ap (λ (c : ℕ). c * (a + b)) count_is in
+      cells_longer (at + (i + 1) * (a + b)) (at + count * (a + b)) a b (trim_elements es) (out ts) (omega arith) (omega arith)) x so_far
 
   pub elements_next : (words i used end : ℕ) (now new : List (List ℕ)) (j m : ReadLimiter) → i < count → AreThere s p words → count * (d + k) ≤ words → at + count * (a + b) ≤ first
       → Written (each (tree_at n s) (after (after p (i * (d + k))) d) k) have_capability (λ ts. with_cells (at + i * (a + b)) (at + i * (a + b) + (a + b)) a b (element (section_at s (after p (i * (d + k))) d) (resized b (trim_each ts)) no_elements)) (from_each (copy_visits n s) (after (after p (i * (d + k))) d) k) used used now j end new m
@@ -72,7 +96,7 @@ module _ (n : ℕ) (s : Segments) (p : Place) (d k a b count at first : ℕ) (ol
       (each f (after here d) k) have_capability (λ ts. with_cells (at + i * (a + b)) (at + i * (a + b) + (a + b)) a b (element section (resized b (trim_each ts)) no_elements))
       (from_elements v p d k count) (visits_from n s p d k count i) (visits_from n s p d k count (i + 1)) (from_each v (after here d) k) first old now new l j m used end
       (elements_met_next p d k i count h v)
-      (λ x y is rest_is clean cleans. element_join at a b d k i count section (filled used now) ws f p x y h (omega arith) is rest_is (sym (part_section s p words there.0 (i * (d + k)) d (omega arith))) clean cleans) written so_far
+      (λ x y is rest_is. element_join at a b d k i count section (filled used now) ws f p x y h (omega arith) is rest_is (sym (part_section s p words there.0 (i * (d + k)) d (omega arith)))) (λ xs is. element_parts d k i count ws f p xs h is) written so_far
 
   pub elements_ended : (ws : List ℕ) (i used : ℕ) (now : List (List ℕ)) (m : ReadLimiter) → i ≡ count → ElementsSoFar n s p ws d k a b count at i first old l used now m
       → Written (each_element (tree_at n s) p ws d k count) elements_have_capability (elements_put at (at + count * (a + b)) a b) (from_elements (copy_visits n s) p d k count) first first old l used now m

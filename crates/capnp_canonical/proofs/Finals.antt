@@ -1,5 +1,5 @@
 -- What is written of each kind of object.
-use Rattle.std.proofs.Common.{◌≡◌, ℕ, ◌+◌, ◌-◌, ◌*◌, ◌/◌, ◌^◌, ◌<◌, ◌≤◌, nat_lt, Bool, true, false, List, [], ◌∷◌, ◌++◌, length, take, drop, set, Option, Some, Result, Ok, refl, ap, sym, ◌∙◌, subst, arith, eqb, if◌then◌else◌, ◌==◌}
+use Rattle.std.proofs.Common.{◌≡◌, ℕ, zero, suc, ◌+◌, ◌-◌, ◌*◌, ◌/◌, ◌^◌, ◌<◌, ◌≤◌, nat_lt, Bool, true, false, List, [], ◌∷◌, ◌++◌, length, take, drop, set, Option, Some, Result, Ok, refl, ap, sym, ◌∙◌, subst, arith, eqb, if◌then◌else◌, ◌==◌}
 use Rattle.std.specs.Option.{is_some}
 use Rattle.std.specs.Int.{from_le_bytes, w64}
 use Rattle.std.proofs.lemmas.Bool.{eqb-true}
@@ -9,12 +9,13 @@ use Rattle.std.proofs.lemmas.List.{length-map, take_more_set}
 use Rattle.capnp_model.specs.Chains.{◌>>=◌}
 use Rattle.capnp_model.specs.Sections.{words_for, words_of, needed_words}
 use Rattle.capnp_model.specs.Segments.{Segments, Place, place, after, word_at, words_at}
-use Rattle.capnp_model.specs.Trees.{Tree, structure, pointer_list, struct_list, Trees, Elements, no_elements, element, tree_count, resized, size_bits, has_capability, have_capability, elements_have_capability}
+use Rattle.capnp_model.specs.Trees.{Tree, structure, pointer_list, struct_list, Trees, none, ◌▸◌, Elements, no_elements, element, tree_count, resized, size_bits, has_capability, have_capability, elements_have_capability}
 use Rattle.capnp_model.specs.Traversal.{tree_at, each, each_element}
 use Rattle.capnp_model.specs.Trimming.{stripped, with_pointers, trim, trim_each, trim_elements}
 use Rattle.capnp_model.specs.Coverage.{from_each, from_elements}
 use Rattle.capnp_model.specs.Encoding.{struct_pointer, list_pointer, pointer}
 use Rattle.capnp_model.specs.Visits.{Visit, visits_cost}
+use Rattle.capnp_model.proofs.Chaining.{bind_some, some_is}
 use Rattle.capnp_model.proofs.Visits.{cost_together}
 use Rattle.capnp_model.proofs.TrimFits.{count-trim_each}
 use Rattle.capnp_units.specs.declared.errors.Error.{Error}
@@ -30,8 +31,8 @@ use Rattle.capnp_canonical.specs.declared.copy.Cut.{Cut}
 use Rattle.capnp_canonical.specs.Objects.{IsCut}
 use Rattle.capnp_canonical.specs.Widths.{kept, widest}
 use Rattle.capnp_canonical.specs.Writes.{words_view, filled, with_words, with_link, with_links, with_cells}
-use Rattle.capnp_canonical.specs.Copies.{copy_visits, Behind, Written, Writes, Halted}
-use Rattle.capnp_canonical.proofs.Copying.{behind_none, behind_more, behind_both, halted_later, made_of}
+use Rattle.capnp_canonical.specs.Copies.{copy_visits, Behind, Written, Writes, Unwritten}
+use Rattle.capnp_canonical.proofs.Copying.{behind_none, behind_more, behind_both, unwritten_later, made_of}
 use Rattle.capnp_canonical.proofs.Parts.{there_length, section_is, word_is, part_there, part_room, front_section}
 use Rattle.capnp_canonical.proofs.Kept.{widest_at}
 use Rattle.capnp_canonical.proofs.Fronts.{front_words}
@@ -61,12 +62,13 @@ module _ (f : Place → Option Tree) (q : Place) (path : List Visit) (d k d' k' 
   unfolding has_capability
   struct_gives is less inside room little put behind words count pointing x =
       made_of (each f q k) have_capability (λ ts. with_cells used (used + (d' + k')) d' k' (element section (resized k' (trim_each ts)) no_elements)) (each f q k >>= λ ts. Some (structure d section ts)) has_capability (λ t. with_link at (trim t)) path most end used end old mid new l m r
-      (λ ts e clean. (
+      (λ ts e. (
         structure d section ts,
         ap (λ (o : Option Trees). o >>= λ us. Some (structure d section us)) e,
-        clean,
+        (λ clean. clean),
         struct_written at used d d' k' section word ts (filled used old) (filled end mid) (filled_length used old inside) (filled_put at used end word old mid less (omega arith) put) (filled_length end mid room ∙ is) words (count ts e) pointing,
       ))
+      (λ t e. let a = bind_some (each f q k) _ t e in (a.0, a.1))
       (behind_more (at + 1) end old mid (omega arith) behind) (omega arith) little little x
 
   -- ---- a list of pointers
@@ -76,12 +78,13 @@ module _ (f : Place → Option Tree) (q : Place) (path : List Visit) (d k d' k' 
   unfolding has_capability
   pointers_gives is less inside room little put behind pointing x =
       made_of (each f q k) have_capability (λ ts. with_links used (used + k) (trim_each ts)) (each f q k >>= λ ts. Some (pointer_list ts)) has_capability (λ t. with_link at (trim t)) path most end used end old mid new l m r
-      (λ ts e clean. (
+      (λ ts e. (
         pointer_list ts,
         ap (λ (o : Option Trees). o >>= λ us. Some (pointer_list us)) e,
-        clean,
+        (λ clean. clean),
         pointers_written at used k word ts (filled used old) (filled end mid) (filled_length used old inside) (filled_put at used end word old mid less (omega arith) put) (filled_length end mid room ∙ is) (each_count f q k ts e) pointing,
       ))
+      (λ t e. let a = bind_some (each f q k) _ t e in (a.0, a.1))
       (behind_more (at + 1) end old mid (omega arith) behind) (omega arith) little little x
 
 -- ---- an element
@@ -98,14 +101,61 @@ same_words s p d d' at out there h =
 free_walked : (b : ℕ) (m t : ReadLimiter) → Follows m t b → Spends m t 0 → Walked (free b) m t
 free_walked b m t f s = record { cost = 0; cost_is = free_cost b; spends = s; follows = subst (λ (n : ℕ). Follows m t n) (sym (free_length b)) f }
 
+-- the first of pointers that are read
+each_front : (f : Place → Option Tree) (p : Place) (a b : ℕ) (us : Trees) → each f p (a + b) ≡ Some us → (ts : Trees) × (each f p a ≡ Some ts)
+each_front f p zero b us e = (none, refl)
+each_front f p (suc a) b us e =
+    let sum : suc (a + b) ≡ suc a + b = omega arith in
+    let x = bind_some (f p) _ us (ap (each f p) sum ∙ e) in
+    let y = bind_some (each f (after p 1) (a + b)) _ us x.2 in
+    let r = each_front f (after p 1) a b y.0 y.1 in
+    (x.0 ▸ r.0, ap (λ (o : Option Tree). o >>= λ t. each f (after p 1) a >>= λ ts. Some (t ▸ ts)) x.1 ∙ ap (λ (o : Option Trees). o >>= λ ts. Some (x.0 ▸ ts)) r.1)
+
 -- what was written of the pointers that are kept, and the nulls behind them
 module _ (n : ℕ) (s : Segments) (p : Place) (a b at d' used section : ℕ) (old mid new : List (List ℕ)) (l m : ReadLimiter) where
   path_is : (v : Place → List Visit) → from_each v p (a + b) ≡ [] ++ (from_each v p a ++ from_each v (after p a) b)
   path_is v = met_both v p a b
 
-  pub element_halts : (e : Error) → at + (d' + a) ≤ used → Behind (at + d') old mid → Halted (from_each (copy_visits n s) p a) used mid l e new m → Halted (from_each (copy_visits n s) p (a + b)) used old l e new m
-  element_halts e room behind x =
-      halted_later [] (from_each (copy_visits n s) p a) (from_each (copy_visits n s) p (a + b)) (from_each (copy_visits n s) (after p a) b) 0 (at + d') used used old mid new l l m e (path_is (copy_visits n s)) refl (walked_none l) behind (omega arith) (omega arith) x
+  -- the nulls behind those that are kept
+  nulls_behind : is_some (words_at s p (a + b)) ≡ true → kept (words_there s p (a + b)) ≤ a → (each (tree_at n s) (after p a) b ≡ Some (resized b none)) × (from_each (copy_visits n s) (after p a) b ≡ free b)
+  nulls_behind there few =
+      let ws = words_there s p (a + b) in
+      let long = there_length s p (a + b) there in
+      nulls_read n s (after p a) b (λ i h.
+      let at_i : p.position + a + i ≡ p.position + (a + i) = omega arith in
+      ap (λ (q : ℕ). word_at s (place p.segment q)) at_i ∙ word_is s p (a + b) there (a + i) (omega arith) ∙ ap (λ (w : ℕ). Some w) (kept_zeros ws (a + i) (omega arith) (omega arith)))
+
+  -- the pointers that are kept, among them all
+  element_made : is_some (words_at s p (a + b)) ≡ true → kept (words_there s p (a + b)) ≤ a → at + (d' + a) ≤ used → used ≤ length old → words_view mid ≡ with_words at d' section (words_view old) → (ts : Trees) → each (tree_at n s) p a ≡ Some ts
+      → (each (tree_at n s) p (a + b) ≡ Some (resized (a + b) ts))
+      × (with_links (at + d') (at + d' + a) (trim_each ts) (filled used mid) ≡ with_cells at (at + (d' + a)) d' a (element section (resized a (trim_each (resized (a + b) ts))) no_elements) (filled used old))
+  element_made there few room inside words ts is =
+      let f = tree_at n s in
+      let nulls = nulls_behind there few in
+      let count = each_count f p a ts is in
+      let trimmed : tree_count (trim_each ts) ≡ a = count-trim_each ts ∙ count in
+      let size : length (filled used old) ≡ used = filled_length used old inside in
+      let view = length-map old (from_le_bytes w64) in
+      let base : filled used mid ≡ with_words at d' section (filled used old) = ap (take used) words ∙ take_with_words at d' used section (words_view old) (omega arith) (omega arith) in (
+        each_nulls f p a b ts is nulls.0,
+        ap (with_links (at + d') (at + d' + a) (trim_each ts)) base ∙ struct_cell at d' a section (trim_each ts) (filled used old) trimmed (omega arith)
+            ∙ ap (λ (us : Trees). with_cells at (at + (d' + a)) d' a (element section us no_elements) (filled used old)) (sym (kept_front a b ts count)),
+      )
+
+  pub element_halts : (e : Error) → is_some (words_at s p (a + b)) ≡ true → kept (words_there s p (a + b)) ≤ a → at + (d' + a) ≤ used → used ≤ length old → words_view mid ≡ with_words at d' section (words_view old) → Behind (at + d') old mid
+      → Unwritten (each (tree_at n s) p a) (λ ts. with_links (at + d') (at + d' + a) (trim_each ts)) (from_each (copy_visits n s) p a) used used mid l e new m
+      → Unwritten (each (tree_at n s) p (a + b)) (λ ts. with_cells at (at + (d' + a)) d' a (element section (resized a (trim_each ts)) no_elements)) (from_each (copy_visits n s) p (a + b)) used used old l e new m
+  element_halts e there few room inside words behind x =
+      let f = tree_at n s in
+      unwritten_later (each f p a) (λ ts. with_links (at + d') (at + d' + a) (trim_each ts)) (each f p (a + b)) (λ ts. with_cells at (at + (d' + a)) d' a (element section (resized a (trim_each ts)) no_elements))
+      [] (from_each (copy_visits n s) p a) (from_each (copy_visits n s) p (a + b)) (from_each (copy_visits n s) (after p a) b) 0 (at + d') used used used used old mid new l l m e (path_is (copy_visits n s)) refl (walked_none l) behind (omega arith) (omega arith)
+      (λ us is.
+      let ts = each_front f p a b us is in
+      let made = element_made there few room inside words ts.0 ts.1 in
+      let same : resized (a + b) ts.0 ≡ us = some_is _ _ (sym made.0 ∙ is) in
+      let size : length (with_links (at + d') (at + d' + a) (trim_each ts.0) (filled used mid)) ≡ length (with_cells at (at + (d' + a)) d' a (element section (resized a (trim_each us)) no_elements) (filled used old)) =
+      ap length made.1 ∙ ap (λ (xs : Trees). length (with_cells at (at + (d' + a)) d' a (element section (resized a (trim_each xs)) no_elements) (filled used old))) same in
+      (ts.0, ts.1, omega arith)) x
 
   pub element_gives : (t : ReadLimiter) (end : ℕ) → is_some (words_at s p (a + b)) ≡ true → kept (words_there s p (a + b)) ≤ a → at + (d' + a) ≤ used → used ≤ length old
       → words_view mid ≡ with_words at d' section (words_view old) → Behind (at + d') old mid → Follows m t b → Spends m t 0
@@ -113,27 +163,16 @@ module _ (n : ℕ) (s : Segments) (p : Place) (a b at d' used section : ℕ) (ol
       → Written (each (tree_at n s) p (a + b)) have_capability (λ ts. with_cells at (at + (d' + a)) d' a (element section (resized a (trim_each ts)) no_elements)) (from_each (copy_visits n s) p (a + b)) used used old l end new t
   element_gives t end there few room inside words behind follow spend x =
       let v = copy_visits n s in
-      let f = tree_at n s in
-      let ws = words_there s p (a + b) in
-      let long = there_length s p (a + b) there in
-      let zeros : (i : ℕ) → i < b → word_at s (after (after p a) i) ≡ Some 0 = λ i h.
-      let at_i : p.position + a + i ≡ p.position + (a + i) = omega arith in
-      ap (λ (q : ℕ). word_at s (place p.segment q)) at_i ∙ word_is s p (a + b) there (a + i) (omega arith) ∙ ap (λ (w : ℕ). Some w) (kept_zeros ws (a + i) (omega arith) (omega arith)) in
-      let nulls = nulls_read n s (after p a) b zeros in
-      let count : tree_count (trim_each x.what) ≡ a = count-trim_each x.what ∙ each_count f p a x.what x.there_is in
-      let size : length (filled used old) ≡ used = filled_length used old inside in
-      let view = length-map old (from_le_bytes w64) in
-      let base : filled used mid ≡ with_words at d' section (filled used old) = ap (take used) words ∙ take_with_words at d' used section (words_view old) (omega arith) (omega arith) in
-      let path : from_each v p (a + b) ≡ from_each v p a ++ free b = met_both v p a b ∙ ap (λ (vs : List Visit). from_each v p a ++ vs) nulls.1 in
+      let made = element_made there few room inside words x.what x.there_is in
+      let path : from_each v p (a + b) ≡ from_each v p a ++ free b = met_both v p a b ∙ ap (λ (vs : List Visit). from_each v p a ++ vs) (nulls_behind there few).1 in
       let more = x.more in
       let few_all = x.few in
       let sum : x.cost + 0 ≡ x.cost = omega arith in
       record {
         what = resized (a + b) x.what;
-        there_is = each_nulls f p a b x.what x.there_is nulls.0;
+        there_is = made.0;
         clean = no_capability_more (a + b) x.what x.clean;
-        words = x.words ∙ ap (with_links (at + d') (at + d' + a) (trim_each x.what)) base ∙ struct_cell at d' a section (trim_each x.what) (filled used old) count (omega arith)
-            ∙ ap (λ (ts : Trees). with_cells at (at + (d' + a)) d' a (element section ts no_elements) (filled used old)) (sym (kept_front a b x.what (each_count f p a x.what x.there_is)));
+        words = x.words ∙ made.1;
         behind = behind_both (at + d') end end old mid new (omega arith) (omega arith) behind x.behind;
         bound = x.bound;
         near = x.near;
@@ -166,13 +205,14 @@ module _ (n : ℕ) (s : Segments) (p : Place) (words count d k d' k' at used end
       ∙ ap (λ (xs : List ℕ). xs ++ tag ∷ []) (ap (take used) put ∙ take-set-lt used (words_view old) at word less) in
       let size : length (filled end mid) ≡ used + 1 + count * (d' + k') = filled_length end mid room ∙ is ∙ (let sum : used + (1 + count * (d' + k')) ≡ used + 1 + count * (d' + k') = omega arith in sum) in
       made_of all elements_have_capability (λ es. with_cells (used + 1) (used + 1 + count * (d' + k')) d' k' (with_pointers k' (trim_elements es))) (all >>= λ es. Some (struct_list d k es)) has_capability (λ t. with_link at (trim t)) (from_elements (copy_visits n s) p d k count) most end used end old mid new l m r
-      (λ es e clean. (
+      (λ es e. (
         struct_list d k es,
         ap (λ (o : Option Elements). o >>= λ us. Some (struct_list d k us)) e,
-        clean,
+        (λ clean. clean),
         structs_written at used count d k d' k' word tag es (filled used old) (filled end mid) (filled_length used old inside) kept_words size (elements_count f p ws d k count es e)
             (least_words count s p words d k f es there fit e ∙ sym data_is) (least_pointers count n s p ws words d k es there fit e ∙ sym kept_is) pointing tagged,
       ))
+      (λ t e. let a = bind_some all _ t e in (a.0, a.1))
       (behind_both (at + 1) (used + 1) end old first mid (omega arith) (omega arith) behind behind_tag) (omega arith) little little x
 
 -- ---- elements without a word

@@ -9,6 +9,8 @@ pub mod Following
 pub mod Nulls
 pub mod Rows
 pub mod Objects
+pub mod Rooms
+pub mod Faults
 pub mod Steps
 pub mod Finals
 pub mod Elements

@@ -21,18 +21,24 @@ use Rattle.capnp_canonical.proofs.Nulls.{kept_count}
 
 -- ---- one more pointer
 
-pub row_join : (at i n : ℕ) (w : List ℕ) (f : Place → Option Tree) (p : Place) (t : Tree) (ts : Trees) → i < n → at + n ≤ length w → f (after p i) ≡ Some t → each f (after p (i + 1)) (n - (i + 1)) ≡ Some ts → has_capability t ≡ false → have_capability ts ≡ false
-    → (us : Trees) × (each f (after p i) (n - i) ≡ Some us) × (have_capability us ≡ false) × (with_links (at + (i + 1)) (at + n) (trim_each ts) (with_link (at + i) (trim t) w) ≡ with_links (at + i) (at + n) (trim_each us) w)
+pub row_join : (at i n : ℕ) (w : List ℕ) (f : Place → Option Tree) (p : Place) (t : Tree) (ts : Trees) → i < n → at + n ≤ length w → f (after p i) ≡ Some t → each f (after p (i + 1)) (n - (i + 1)) ≡ Some ts
+    → (us : Trees) × (each f (after p i) (n - i) ≡ Some us) × (has_capability t ≡ false → have_capability ts ≡ false → have_capability us ≡ false) × (with_links (at + (i + 1)) (at + n) (trim_each ts) (with_link (at + i) (trim t) w) ≡ with_links (at + i) (at + n) (trim_each us) w)
 unfolding has_capability trim
-row_join at i n w f p t ts h room e d clean cleans =
+row_join at i n w f p t ts h room e d =
     let next : at + (i + 1) ≡ suc (at + i) = omega arith in
     let count = each_count f (after p (i + 1)) (n - (i + 1)) ts d in
     let trimmed = count-trim_each ts in (
       t ▸ ts,
       each_next p i n h f ∙ rw (e, d) refl,
-      rw (clean, cleans) refl,
+      (λ clean cleans. rw (clean, cleans) refl),
       ap (λ (k : ℕ). with_links k (at + n) (trim_each ts) (with_link (at + i) (trim t) w)) next ∙ link_step (at + i) (at + n) (trim t) (trim_each ts) w (omega arith) room,
     )
+
+pub row_parts : (i n : ℕ) (f : Place → Option Tree) (p : Place) (us : Trees) → i < n → each f (after p i) (n - i) ≡ Some us → (t : Tree) × (ts : Trees) × (f (after p i) ≡ Some t) × (each f (after p (i + 1)) (n - (i + 1)) ≡ Some ts)
+row_parts i n f p us h e =
+    let a = bind_some (f (after p i)) _ us (sym (each_next p i n h f) ∙ e) in
+    let b = bind_some (each f (after p (i + 1)) (n - (i + 1))) _ us a.2 in
+    (a.0, b.0, a.1, b.1)
 
 -- ---- one more element
 
@@ -44,12 +50,12 @@ elements_count f p ws d k (suc n) es e =
     ap element_count (sym (some_is _ _ b.2)) ∙ ap suc (elements_count f (after p (d + k)) (drop (d + k) ws) d k n b.0 b.1)
 
 pub element_join : (at d' k' d k i n section : ℕ) (w ws : List ℕ) (f : Place → Option Tree) (p : Place) (ts : Trees) (es : Elements) → i < n → at + n * (d' + k') ≤ length w → each f (after (after p (i * (d + k))) d) k ≡ Some ts
-    → each_element f (after p ((i + 1) * (d + k))) (drop ((i + 1) * (d + k)) ws) d k (n - (i + 1)) ≡ Some es → section ≡ section_of (take d (drop (i * (d + k)) ws)) → have_capability ts ≡ false → elements_have_capability es ≡ false
-    → (xs : Elements) × (each_element f (after p (i * (d + k))) (drop (i * (d + k)) ws) d k (n - i) ≡ Some xs) × (elements_have_capability xs ≡ false)
+    → each_element f (after p ((i + 1) * (d + k))) (drop ((i + 1) * (d + k)) ws) d k (n - (i + 1)) ≡ Some es → section ≡ section_of (take d (drop (i * (d + k)) ws))
+    → (xs : Elements) × (each_element f (after p (i * (d + k))) (drop (i * (d + k)) ws) d k (n - i) ≡ Some xs) × (have_capability ts ≡ false → elements_have_capability es ≡ false → elements_have_capability xs ≡ false)
     × (with_cells (at + (i + 1) * (d' + k')) (at + n * (d' + k')) d' k' (with_pointers k' (trim_elements es)) (with_cells (at + i * (d' + k')) (at + i * (d' + k') + (d' + k')) d' k' (element section (resized k' (trim_each ts)) no_elements) w)
     ≡ with_cells (at + i * (d' + k')) (at + n * (d' + k')) d' k' (with_pointers k' (trim_elements xs)) w)
 unfolding has_capability trim
-element_join at d' k' d k i n section w ws f p ts es h room e g is clean cleans =
+element_join at d' k' d k i n section w ws f p ts es h room e g is =
     let rest = with_pointers k' (trim_elements es) in
     let here = at + i * (d' + k') in
     let next : at + (i + 1) * (d' + k') ≡ here + (d' + k') = omega arith in
@@ -60,11 +66,18 @@ element_join at d' k' d k i n section w ws f p ts es h room e g is clean cleans 
     let end : at + n * (d' + k') ≡ here + (d' + k') + element_count rest * (d' + k') = omega arith in (
       element (section_of (take d (drop (i * (d + k)) ws))) ts es,
       element_next p d k i n h f ws ∙ rw (e, g) refl,
-      rw (clean, cleans) refl,
+      (λ clean cleans. rw (clean, cleans) refl),
       ap (λ (j : ℕ). with_cells j (at + n * (d' + k')) d' k' rest (with_cells here (here + (d' + k')) d' k' (element section (resized k' (trim_each ts)) no_elements) w)) next
           ∙ cell_step here d' k' section (resized k' (trim_each ts)) rest w (at + n * (d' + k')) (count-resized k' (trim_each ts)) end room
           ∙ ap (λ (x : ℕ). with_cells here (at + n * (d' + k')) d' k' (element x (resized k' (trim_each ts)) rest) w) is,
     )
+
+pub element_parts : (d k i n : ℕ) (ws : List ℕ) (f : Place → Option Tree) (p : Place) (xs : Elements) → i < n → each_element f (after p (i * (d + k))) (drop (i * (d + k)) ws) d k (n - i) ≡ Some xs
+    → (ts : Trees) × (es : Elements) × (each f (after (after p (i * (d + k))) d) k ≡ Some ts) × (each_element f (after p ((i + 1) * (d + k))) (drop ((i + 1) * (d + k)) ws) d k (n - (i + 1)) ≡ Some es)
+element_parts d k i n ws f p xs h e =
+    let a = bind_some (each f (after (after p (i * (d + k))) d) k) _ xs (sym (element_next p d k i n h f ws) ∙ e) in
+    let b = bind_some (each_element f (after p ((i + 1) * (d + k))) (drop ((i + 1) * (d + k)) ws) d k (n - (i + 1))) _ xs a.2 in
+    (a.0, b.0, a.1, b.1)
 
 -- ---- the least sizes
 

@@ -69,6 +69,15 @@ pub record Halted (path : List Visit) (most : ℕ) (old : List (List ℕ)) (l : 
   pub behind : Behind (most + paid) old new
   pub why : Stopped path l e m ⊎ Filled path (room_of old) most l e m
 
+-- What is there, put over the words in use, makes more words than there is room for.
+abbrev pub HasNoRoomFor : {X : Type 0} → Option X → (X → List ℕ → List ℕ) → ℕ → List (List ℕ) → Type 0
+HasNoRoomFor {X = X} there put used old = (what : X) → there ≡ Some what → room_of old < length (put what (filled used old))
+
+-- What is there wasn't written: the copy was refused, and for want of room only where there is no room for all of it.
+pub record Unwritten {X : Type 0} (there : Option X) (put : X → List ℕ → List ℕ) (path : List Visit) (most used : ℕ) (old : List (List ℕ)) (l : ReadLimiter) (e : Error) (new : List (List ℕ)) (m : ReadLimiter) : Type 0 where
+  pub halted : Halted path most old l e new m
+  pub full : e.kind ≡ BufferNotLargeEnough → HasNoRoomFor there put used old
+
 -- What is there was written behind the words in use, to this end: it has no capability, its visits were made, and it takes no more words than so many and those that were paid.
 pub record Written {X : Type 0} (there : Option X) (bad : X → Bool) (put : X → List ℕ → List ℕ) (path : List Visit) (most used : ℕ) (old : List (List ℕ)) (l : ReadLimiter) (end : ℕ) (new : List (List ℕ)) (m : ReadLimiter) : Type 0 where
   pub what : X
@@ -87,4 +96,4 @@ pub record Written {X : Type 0} (there : Option X) (bad : X → Bool) (put : X �
 -- What a copy gives of what is there: it is written, or refused.
 abbrev pub Writes : {X : Type 0} → Option X → (X → Bool) → (X → List ℕ → List ℕ) → List Visit → ℕ → ℕ → List (List ℕ) → ReadLimiter → Result ℕ Error → List (List ℕ) → ReadLimiter → Type 0
 Writes there bad put path most used old l (Ok end) new m = Written there bad put path most used old l end new m
-Writes there bad put path most used old l (Err e) new m = Halted path most old l e new m
+Writes there bad put path most used old l (Err e) new m = Unwritten there put path most used old l e new m

@@ -17,9 +17,13 @@ use Rattle.capnp_object.specs.Places.{place_view}
 use Rattle.capnp_object.specs.Inside.{tree_in, met_in, section_at, words_there}
 use Rattle.capnp_canonical.specs.Writes.{words_view, with_link, with_links, with_cells}
 use Rattle.capnp_canonical.specs.Widths.{kept}
-use Rattle.capnp_canonical.specs.Copies.{copy_visits, IsData, Writes, Halted}
+use Rattle.capnp_canonical.specs.Copies.{copy_visits, IsData, Writes, Unwritten}
 use Rattle.capnp_canonical.specs.Objects.{WritesObject}
-use Rattle.capnp_canonical.proofs.Copying.{halted_at, no_room, halts_is}
+use Rattle.capnp_canonical.proofs.Copying.{unwritten_at, no_room, halts_is}
+use Rattle.capnp_canonical.proofs.Faults.{stopped_otherwise}
+use Rattle.capnp_canonical.proofs.Rooms.{no_room_for_struct, no_room_for_pointers, no_room_for_structs}
+use Rattle.capnp_canonical.proofs.Rows.{least_words, least_pointers, elements_count}
+use Rattle.capnp_object.proofs.Rows.{each_count}
 use Rattle.capnp_canonical.proofs.Steps.{null_put, leaf_at, deep_at, short_at}
 use Rattle.capnp_canonical.proofs.Kept.{widest_one, no_wider}
 use Rattle.capnp_canonical.proofs.Nulls.{kept_count}
@@ -37,7 +41,7 @@ write_at-returns-in_err-object g t c =
     let old = c.args.into.now in
     let r = err_from_is_err_and c.from_residual.result c.from_residual.ensures.1 in
     halts_is (tree_at n s p) has_capability (λ t. with_link c.args.at (trim t)) (copy_visits n s p) c.args.used c.args.used old old c.args.limiter.now c.follow_data.new.limiter c.from_residual.result r.0 c.in_err-object.field-0.0 r.1 r.2
-    (halted_at (copy_visits n s p) c.args.used old c.args.limiter.now c.follow_data.new.limiter c.in_err-object.field-0.0 c.in_err-object.ensures)
+    (unwritten_at (tree_at n s p) (λ t. with_link c.args.at (trim t)) (copy_visits n s p) c.args.used c.args.used old c.args.limiter.now c.follow_data.new.limiter c.in_err-object.field-0.0 c.in_err-object.ensures (λ kind. stopped_otherwise n s p c.args.limiter.now c.follow_data.new.limiter c.in_err-object.field-0.0 c.in_err-object.ensures kind))
 
 pub write_at-returns-then-levels-eq0 : goal.write_at-returns-then-levels-eq0
 write_at-returns-then-levels-eq0 g t c =
@@ -83,7 +87,7 @@ write_row-returns-in_err-next g t c =
     let r = err_from_is_err_and c.from_residual.result c.from_residual.ensures.1 in
     let e = c.in_err-next.field-0.0 in
     halts_is (each (tree_at n s) p count) have_capability (trees_put at (at + count)) (from_each (copy_visits n s) p count) c.args.used c.args.used c.args.into.now c.write_at.new.into c.args.limiter.now c.write_at.new.limiter c.from_residual.result r.0 e r.1 r.2
-    (pointers_stopped c.args.levels s (place_view c.args.first) c.args.count c.args.at c.args.used c.args.into.now c.args.limiter.now c.loop-i.i c.loop-i.end c.loop-i.into c.write_at.new.into c.loop-i.limiter c.write_at.new.limiter e c.loop-i-test.true c.in_err-next.ensures c.loop-i.invariant)
+    (pointers_stopped c.args.levels s (place_view c.args.first) c.args.count c.args.at c.args.used c.args.into.now c.args.limiter.now c.loop-i.i c.loop-i.end c.loop-i.into c.write_at.new.into c.loop-i.limiter c.write_at.new.limiter e c.loop-i-test.true c.requires.place.0 c.in_err-next.ensures c.loop-i.invariant)
 
 pub write_row-loop-i-preserved : goal.write_row-loop-i-preserved
 write_row-loop-i-preserved g t c =
@@ -102,14 +106,17 @@ pub write_object-returns-in_err-end-in-PointerList : goal.write_object-returns-i
 write_object-returns-in_err-end-in-PointerList g t c =
     let s : Segments = words_in (g.A.ReaderArena.segments c.args.arena.now) in
     let n = c.args.levels in
-    let o = object.PointerList c.in-PointerList.start c.in-PointerList.count in
+    let p : Place = place_view c.in-PointerList.start in
+    let count = c.in-PointerList.count in
+    let o = object.PointerList c.in-PointerList.start count in
     let old = c.args.into.now in
     let l = c.args.limiter.now in
     let e = c.in_err-end-in-PointerList.field-0.0 in
     let r = err_from_is_err_and c.from_residual.result c.from_residual.ensures.1 in
     let full = c.in_err-end-in-PointerList.ensures.1 in
     subst (λ (o : Object). WritesObject s n o c.args.at c.args.used old l c.from_residual.result old l) (sym c.in-PointerList.is)
-    (λ most room. no_room (tree_in s (tree_at n s) o) has_capability (λ t. with_link c.args.at (trim t)) (met_in (copy_visits n s) o) most c.args.used old l c.from_residual.result e (r.1 ∙ ap (λ (y : Error). Err y) r.2) c.in_err-end-in-PointerList.ensures.0 (omega arith))
+    (λ most room. no_room (tree_in s (tree_at n s) o) has_capability (λ t. with_link c.args.at (trim t)) (met_in (copy_visits n s) o) most c.args.used old l c.from_residual.result e (r.1 ∙ ap (λ (y : Error). Err y) r.2) c.in_err-end-in-PointerList.ensures.0 (omega arith)
+    (no_room_for_pointers c.args.at c.args.used count old c.requires.place.1 full (each (tree_at n s) p count) (λ ts is. each_count (tree_at n s) p count ts is)))
 
 pub write_object-returns-in_ok-end-in-PointerList : goal.write_object-returns-in_ok-end-in-PointerList
 write_object-returns-in_ok-end-in-PointerList g t c =
@@ -132,15 +139,26 @@ pub write_struct-returns-in_err-end : goal.write_struct-returns-in_err-end
 write_struct-returns-in_err-end g t c = λ most room.
     let s : Segments = words_in (g.A.ReaderArena.segments c.args.arena.now) in
     let n = c.args.levels in
-    let o = object.Struct c.args.start c.args.data_words c.args.pointers in
+    let p : Place = place_view c.args.start in
+    let d = c.args.data_words in
+    let k = c.args.pointers in
+    let o = object.Struct c.args.start d k in
     let old = c.args.into.now in
     let l = c.args.limiter.now in
     let e = c.in_err-end.field-0.0 in
     let r = err_from_is_err_and c.from_residual.result c.from_residual.ensures.1 in
     let full = c.in_err-end.ensures.1 in
+    let cut = c.cut_of-cut.result in
     let few = c.cut_of-cut.ensures.sizes.2 in
     let few_too = c.cut_of-cut.ensures.sizes.3 in
+    let there = part_there s p (d + k) c.requires.inside.0 d k (omega arith) in
+    let ws = words_there s (after p d) k in
+    let long = there_length s (after p d) k there in
+    let is = c.cut_of-cut.ensures.pointers ∙ widest_one (λ q. kept (words_there s q k)) (after p d) (d + k) in
+    let words = c.cut_of-cut.ensures.words ∙ widest_one (λ q. needed_words d (section_at s q d)) p (d + k) in
     no_room (tree_in s (tree_at n s) o) has_capability (λ t. with_link c.args.at (trim t)) (met_in (copy_visits n s) o) most c.args.used old l c.from_residual.result e (r.1 ∙ ap (λ (y : Error). Err y) r.2) c.in_err-end.ensures.0 (omega arith)
+    (no_room_for_struct c.args.at c.args.used (cut.kept_words + cut.kept_pointers) old c.requires.place.1 full cut.kept_words cut.kept_pointers (section_at s p d) (each (tree_at n s) (after p d) k) d refl words
+    (λ ts e. kept_count n s ws (after p d) ts (λ i h. word_is s (after p d) k there i (omega arith)) (ap (each (tree_at n s) (after p d)) long ∙ e) ∙ sym is))
 
 pub write_element-returns-in_err-end : goal.write_element-returns-in_err-end
 write_element-returns-in_err-end g t c =
@@ -152,14 +170,22 @@ write_element-returns-in_err-end g t c =
     let a = cut.kept_pointers in
     let b = cut.pointers - a in
     let at = c.args.at in
-    let few = c.requires.cut.3 in
+    let d = cut.data_words in
+    let k = cut.pointers in
+    let old = c.args.into.now in
+    let there = c.requires.cut.0.0 in
+    let few = c.requires.cut.2 in
     let sum : a + b ≡ cut.pointers = omega arith in
+    let pointers = part_there s start (d + k) there d k (omega arith) in
+    let all = ap (λ (j : ℕ). is_some (words_at s p j)) sum ∙ pointers in
+    let small = subst (λ (j : ℕ). kept (words_there s p j) ≤ a) (sym sum) c.requires.cut.3 in
+    let words = c.copy_words.ensures.words ∙ same_words s start d cut.kept_words at (words_view old) (front_there s start (d + k) there d (omega arith)) c.requires.cut.1 in
     let r = err_from_is_err_and c.from_residual.result c.from_residual.ensures.1 in
     let e = c.in_err-end.field-0.0 in
     let section = section_at s start cut.data_words in
     halts_is (each (tree_at n s) p cut.pointers) have_capability (λ ts. with_cells at (at + (cut.kept_words + a)) cut.kept_words a (element section (resized a (trim_each ts)) no_elements)) (from_each (copy_visits n s) p cut.pointers) c.args.used c.args.used c.args.into.now c.write_row.new.into c.args.limiter.now c.write_row.new.limiter c.from_residual.result r.0 e r.1 r.2
-    (subst (λ (j : ℕ). Halted (from_each (copy_visits n s) p j) c.args.used c.args.into.now c.args.limiter.now e c.write_row.new.into c.write_row.new.limiter) sum
-    (element_halts n s p a b at cut.kept_words c.args.used section c.args.into.now c.copy_words.new.into c.write_row.new.into c.args.limiter.now c.write_row.new.limiter e c.requires.place.0 c.copy_words.ensures.behind c.in_err-end.ensures))
+    (subst (λ (j : ℕ). Unwritten (each (tree_at n s) p j) (λ ts. with_cells at (at + (cut.kept_words + a)) cut.kept_words a (element section (resized a (trim_each ts)) no_elements)) (from_each (copy_visits n s) p j) c.args.used c.args.used c.args.into.now c.args.limiter.now e c.write_row.new.into c.write_row.new.limiter) sum
+    (element_halts n s p a b at cut.kept_words c.args.used section c.args.into.now c.copy_words.new.into c.write_row.new.into c.args.limiter.now c.write_row.new.limiter e all small c.requires.place.0 c.requires.place.1 words c.copy_words.ensures.behind c.in_err-end.ensures))
 
 pub write_element-returns : goal.write_element-returns
 write_element-returns g t c =
@@ -234,7 +260,13 @@ pub write_structs-returns-in_err-end : goal.write_structs-returns-in_err-end
 write_structs-returns-in_err-end g t c = λ most room.
     let s : Segments = words_in (g.A.ReaderArena.segments c.args.arena.now) in
     let n = c.args.levels in
-    let o = object.StructList c.args.start c.args.words c.args.count c.args.data_words c.args.pointers in
+    let p : Place = place_view c.args.start in
+    let count = c.args.count in
+    let d = c.args.data_words in
+    let k = c.args.pointers in
+    let cut = c.cut_of-cut.result in
+    let ws = words_there s p c.args.words in
+    let o = object.StructList c.args.start c.args.words count d k in
     let old = c.args.into.now in
     let l = c.args.limiter.now in
     let e = c.in_err-end.field-0.0 in
@@ -243,6 +275,12 @@ write_structs-returns-in_err-end g t c = λ most room.
     let fit = c.requires.fit in
     let own = no_wider c.args.count c.cut_of-cut.result.kept_words c.cut_of-cut.result.kept_pointers c.args.data_words c.args.pointers c.cut_of-cut.ensures.sizes.2 c.cut_of-cut.ensures.sizes.3 in
     no_room (tree_in s (tree_at n s) o) has_capability (λ t. with_link c.args.at (trim t)) (met_in (copy_visits n s) o) most c.args.used old l c.from_residual.result e (r.1 ∙ ap (λ (y : Error). Err y) r.2) c.in_err-end.ensures.0 (omega arith)
+    (no_room_for_structs c.args.at c.args.used (1 + count * (cut.kept_words + cut.kept_pointers)) old c.requires.place.1 full count d k cut.kept_words cut.kept_pointers (each_element (tree_at n s) p ws d k count) refl
+    (λ es is. (
+      elements_count (tree_at n s) p ws d k count es is,
+      least_words count s p c.args.words d k (tree_at n s) es c.requires.inside.0 fit is ∙ sym c.cut_of-cut.ensures.words,
+      least_pointers count n s p ws c.args.words d k es c.requires.inside.0 fit is ∙ sym c.cut_of-cut.ensures.pointers,
+    )))
 
 pub write_structs-returns : goal.write_structs-returns
 write_structs-returns g t c = λ most room.
@@ -310,7 +348,7 @@ write_elements-returns-in_err-next g t c =
     let r = err_from_is_err_and c.from_residual.result c.from_residual.ensures.1 in
     let e = c.in_err-next.field-0.0 in
     halts_is (each_element (tree_at n s) p ws d k count) elements_have_capability (elements_put at (at + count * (a + b)) a b) (from_elements (copy_visits n s) p d k count) c.args.used c.args.used c.args.into.now c.write_element.new.into c.args.limiter.now c.write_element.new.limiter c.from_residual.result r.0 e r.1 r.2
-    (elements_stopped n s p d k a b count at c.args.used c.args.into.now c.args.limiter.now ws c.loop-i.i c.loop-i.end c.loop-i.into c.write_element.new.into c.loop-i.limiter c.write_element.new.limiter e c.loop-i-test.true c.in_err-next.ensures c.loop-i.invariant)
+    (elements_stopped n s p d k a b count at c.args.used c.args.into.now c.args.limiter.now c.args.words c.loop-i.i c.loop-i.end c.loop-i.into c.write_element.new.into c.loop-i.limiter c.write_element.new.limiter e c.loop-i-test.true c.requires.inside c.requires.fit c.requires.place.0 c.in_err-next.ensures c.loop-i.invariant)
 
 pub write_elements-loop-i-preserved : goal.write_elements-loop-i-preserved
 write_elements-loop-i-preserved g t c =

@@ -1,5 +1,5 @@
 -- The words of a list, without the bits behind its last element.
-use Rattle.std.proofs.Common.{◌≡◌, ℕ, ◌+◌, ◌-◌, ◌*◌, ◌%◌, ◌^◌, List, [], ◌++◌, take, set, refl, ap, sym, ◌∙◌, arith}
+use Rattle.std.proofs.Common.{◌≡◌, ℕ, ◌+◌, ◌-◌, ◌*◌, ◌%◌, ◌^◌, List, [], ◌++◌, Err, take, set, refl, ap, sym, ◌∙◌, arith}
 use Rattle.std.specs.Int.{from_le_bytes, w64}
 use Rattle.std.proofs.Math.Seq.{take-set-lt}
 use Rattle.std.proofs.lemmas.List.{length-map}
@@ -10,6 +10,7 @@ use Rattle.capnp_model.specs.Trees.{plain_list, size_bits, has_capability}
 use Rattle.capnp_model.specs.Traversal.{tree_at}
 use Rattle.capnp_model.specs.Trimming.{trim}
 use Rattle.capnp_model.specs.Encoding.{list_pointer}
+use Rattle.capnp_units.specs.declared.errors.Error.{Error}
 use Rattle.capnp_units.specs.Segments.{words_in}
 use Rattle.capnp_units.specs.Sizes.{size_number, data_bits}
 use Rattle.capnp_object.specs.declared.object.Object.TheVariants as object
@@ -17,7 +18,8 @@ use Rattle.capnp_object.specs.Places.{place_view}
 use Rattle.capnp_object.specs.Inside.{section_at, tree_in}
 use Rattle.capnp_object.proofs.Walks.{walked_none}
 use Rattle.capnp_canonical.specs.Writes.{words_view, filled, with_words, with_link}
-use Rattle.capnp_canonical.proofs.Copying.{behind_both, halted_first, halts_is}
+use Rattle.capnp_canonical.proofs.Copying.{behind_both, no_room}
+use Rattle.capnp_canonical.proofs.Rooms.{no_room_for_list}
 use Rattle.capnp_canonical.proofs.Putting.{take_words}
 use Rattle.capnp_canonical.proofs.Objects.{filled_length, list_written}
 use Rattle.capnp_canonical.proofs.Finals.{data_bits_plain, own_at_least}
@@ -26,15 +28,20 @@ use Rattle.capnp_canonical.proofs.copy.write_list.Goals as goal
 pub returns-in_err-end : goal.returns-in_err-end
 returns-in_err-end g c = λ levels l most room.
     let s : Segments = words_in (g.A.ReaderArena.segments c.args.arena.now) in
-    let o = object.List c.args.start c.args.size c.args.count in
+    let z = size_number c.args.size in
+    let n = c.args.count in
+    let o = object.List c.args.start c.args.size n in
     let old = c.args.into.now in
     let e = c.in_err-end.field-0.0 in
     let r = err_from_is_err_and c.from_residual.result c.from_residual.ensures.1 in
-    let own = own_at_least (size_number c.args.size) c.args.count in
-    let words = c.words_of_elements-words.ensures.words in
+    let own = own_at_least z n in
+    let bits : ℕ = data_bits z * n in
+    let section = section_at s (place_view c.args.start) (words_for bits) in
+    let words : c.words_of_elements-words.result ≡ words_for (data_bits z * n) = c.words_of_elements-words.ensures.words in
+    let same : words_for (data_bits z * n) ≡ words_for (size_bits z * n) = ap (λ (j : ℕ). words_for (j * n)) (sym (data_bits_plain z c.requires.plain)) in
     let full = c.in_err-end.ensures.1 in
-    halts_is (tree_in s (tree_at levels s) o) has_capability (λ t. with_link c.args.at (trim t)) [] most c.args.used old old l l c.from_residual.result r.0 e r.1 r.2
-    (halted_first [] [] [] 0 most old l l e refl refl (walked_none l) c.in_err-end.ensures.0 (omega arith))
+    no_room (tree_in s (tree_at levels s) o) has_capability (λ t. with_link c.args.at (trim t)) [] most c.args.used old l c.from_residual.result e (r.1 ∙ ap (λ (y : Error). Err y) r.2) c.in_err-end.ensures.0 (omega arith)
+    (no_room_for_list c.args.at c.args.used c.words_of_elements-words.result old c.requires.place.1 full z n (section % 2 ^ bits) (omega arith))
 
 pub returns : goal.returns
 unfolding has_capability
