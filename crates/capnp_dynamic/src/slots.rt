@@ -60,7 +60,7 @@ pub(crate) fn set_discriminant<A: BuilderArena>(
 }
 
 /// Makes a field the active member of its union, if it is a member.
-pub(crate) fn mark<A: BuilderArena>(arena: &mut A, object: StructPlace, field: Field<'_>)
+pub fn mark<A: BuilderArena>(arena: &mut A, object: StructPlace, field: Field<'_>)
     requires there { IsThere (words_in (A.segments arena.old)) object }
     requires inside { LieIn object.data_words object.pointers
         (areas_of (shape_of_struct field.parent)) }
