@@ -6,9 +6,12 @@ ghost use Rattle.capnp_calls.specs.CallViews.{action_view};
 ghost use Rattle.capnp_dynamic.specs.Edits.{IsThere, IsWide};
 ghost use Rattle.capnp_edits.specs.Written.{WritesField};
 
+use crate::values::set_value;
 use capnp_calls::Action;
 use capnp_copy::arena::BuilderArena;
 use capnp_copy::fields::StructPlace;
+use capnp_dynamic::begin::begin_field;
+use capnp_dynamic::initn::initn_slot;
 use capnp_dynamic::slots::clear_field;
 use capnp_queries::fields::Field;
 use capnp_units::errors::{Error, Result};
@@ -32,8 +35,12 @@ pub(crate) fn write_end<A: BuilderArena>(
             clear_field(arena, object, field);
             Ok(())
         }
-        Action::Get | Action::Set(_) | Action::Init | Action::Initn(_) => {
-            Err(Error::from(ErrorKind::WrongStep))
+        Action::Init => {
+            begin_field(arena, object, field)?;
+            Ok(())
         }
+        Action::Initn(count) => initn_slot(arena, object, field, *count),
+        Action::Set(value) => set_value(arena, object, field, value),
+        Action::Get => Err(Error::from(ErrorKind::WrongStep)),
     }
 }

@@ -6,3 +6,4 @@ mod end;
 mod names;
 pub mod path;
 mod schemas;
+mod values;
