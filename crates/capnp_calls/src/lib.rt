@@ -13,7 +13,7 @@ mod find;
 mod get;
 mod group;
 pub mod laws;
-mod number;
+pub mod number;
 pub mod open;
 mod path;
 mod pointer_text;

@@ -103,7 +103,7 @@ fn put_blob<A: BuilderArena>(arena: &mut A, slot: Place, blob: Blob<'_>) -> Resu
 }
 
 /// Sets a slot to a value without pointers, or a Void slot to any. The value is looked at and memory taken before the union is marked, so that a refusal leaves all as it was.
-pub(crate) fn set_flat<A: BuilderArena, B>(
+pub fn set_flat<A: BuilderArena, B>(
     arena: &mut A,
     object: StructPlace,
     field: Field<'_>,

@@ -60,7 +60,7 @@ pub(crate) fn set_discriminant<A: BuilderArena>(
 }
 
 /// Makes a field the active member of its union, if it is a member.
-pub(crate) fn mark<A: BuilderArena>(arena: &mut A, object: StructPlace, field: Field<'_>)
+pub fn mark<A: BuilderArena>(arena: &mut A, object: StructPlace, field: Field<'_>)
     requires there { IsThere (words_in (A.segments arena.old)) object }
     requires inside { LieIn object.data_words object.pointers
         (areas_of (shape_of_struct field.parent)) }
@@ -79,7 +79,7 @@ pub(crate) fn mark<A: BuilderArena>(arena: &mut A, object: StructPlace, field: F
 }
 
 /// The place of a pointer of the struct.
-pub(crate) fn pointer_place(object: StructPlace, index: u32) -> Place
+pub fn pointer_place(object: StructPlace, index: u32) -> Place
     requires near { object.start.position + (object.data_words + object.pointers) < 2 ^ 61 }
     requires inside { index < object.pointers }
     ensures place { place_view result
@@ -157,7 +157,7 @@ pub(crate) fn clear_group<A: BuilderArena>(
 }
 
 /// Clears a field, which becomes the active member of its union, if it is a member.
-pub(crate) fn clear_field<A: BuilderArena>(arena: &mut A, object: StructPlace, field: Field<'_>)
+pub fn clear_field<A: BuilderArena>(arena: &mut A, object: StructPlace, field: Field<'_>)
     requires there { IsThere (words_in (A.segments arena.old)) object }
     requires inside { LieIn object.data_words object.pointers
         (areas_of (shape_of_struct field.parent)) }

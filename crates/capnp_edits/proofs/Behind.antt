@@ -1,0 +1,85 @@
+-- The struct behind a pointer, and the group in a struct: a call written there is written at the pointer, and at the field.
+use Rattle.std.proofs.Common.{◌≡◌, ℕ, ◌+◌, ◌≤◌, true, List, [], ◌∷◌, Option, Some, Result, Ok, Err, OnOk, refl, sym, subst, ap, ◌∙◌, arith}
+use Rattle.capnp_model.specs.Segments.{Segments, Place}
+use Rattle.capnp_model.specs.Trees.{Tree, structure, widened}
+use Rattle.capnp_model.specs.Schemas.{Ty, void, plain, text, blob, untyped, interface, struct, list, Shape, shape}
+use Rattle.capnp_model.specs.Calls.{Step, name, index, Verb}
+use Rattle.capnp_model.specs.Edits.{Cell, opened_tree}
+use Rattle.capnp_units.specs.declared.sizes.StructSize.{StructSize}
+use Rattle.capnp_footprints.specs.Footprints.{Owns}
+use Rattle.capnp_footprints.specs.Changes.{Replaces}
+use Rattle.capnp_copy.specs.declared.fields.StructPlace.{StructPlace}
+use Rattle.capnp_builders.specs.Gets.{StructGot}
+use Rattle.capnp_queries.specs.Structs.{schema_around, shape_of_struct, id_of}
+use Rattle.capnp_queries.specs.declared.structs.StructSchema.{StructSchema}
+use Rattle.capnp_queries.specs.declared.fields.Field.{Field}
+use Rattle.capnp_dynamic.specs.Inside.{words_of_shape, pointers_of_shape}
+use Rattle.capnp_dynamic.specs.Edits.{IsWide}
+use Rattle.capnp_dynamic.specs.Inits.{struct_named}
+use Rattle.capnp_calls.specs.Taken.{starts_with_name}
+use Rattle.capnp_calls.specs.Slots.{words_in, pointers_in}
+use Rattle.capnp_calls.specs.Finding.{IsFieldGroup}
+use Rattle.capnp_calls.specs.Sizes.{IsDone}
+use Rattle.capnp_calls.specs.Paths.{shape_outcome, shape_edit}
+use Rattle.capnp_edits.specs.Written.{WritesPath, WritesValue, value_edit, HoldsDefault}
+use Rattle.capnp_edits.proofs.Lifting.{cell, behind_pointer}
+use Rattle.capnp_edits.proofs.Begun.{begun_opened}
+use Rattle.capnp_edits.proofs.Outcomes.{struct_done, struct_edit}
+
+pub on_ok : {X E : Type 0} (r : Result X E) (P Q : Type 0) → (P → Q) → OnOk r P → OnOk r Q
+on_ok (Ok x) P Q f h = f h
+on_ok (Err e) P Q f h = tt
+
+-- ---- groups
+
+same_words : (g : Shape) → words_in g ≡ words_of_shape g
+same_words (shape id w p u fs) = refl
+
+same_pointers : (g : Shape) → pointers_in g ≡ pointers_of_shape g
+same_pointers (shape id w p u fs) = refl
+
+pub group_wide : (p : StructPlace) (f : Field) (g : StructSchema) → IsFieldGroup f g → IsWide p (shape_of_struct f.parent) → IsWide p (shape_of_struct g)
+group_wide p f g is wide =
+    let a = same_words (shape_of_struct g) in
+    let b = same_words (shape_of_struct f.parent) in
+    let d = same_pointers (shape_of_struct g) in
+    let e = same_pointers (shape_of_struct f.parent) in
+    let words = is.words in
+    let pointers = is.pointers in
+    let more = wide.words in
+    let others = wide.pointers in
+    record { words = omega (arith, a, b, words, more); pointers = omega (arith, d, e, pointers, others) }
+
+-- ---- pointers
+
+pub type_is : (ty : Ty) (id : ℕ) → struct_named ty ≡ Some id → ty ≡ struct id
+type_is void id e = absurd (cc e)
+type_is (plain p) id e = absurd (cc e)
+type_is text id e = absurd (cc e)
+type_is blob id e = absurd (cc e)
+type_is untyped id e = absurd (cc e)
+type_is interface id e = absurd (cc e)
+type_is (struct j) id e = cc e
+type_is (list ty) id e = absurd (cc e)
+
+module _ (s u v : Segments) (p : Place) (schema : StructSchema) (default : Option (List (List ℕ))) (size : StructSize) (o : StructPlace) (words : size.data_words ≡ words_of_shape (shape_of_struct schema)) (pointers : size.pointers ≡ pointers_of_shape (shape_of_struct schema)) (got : StructGot default s u p size o) (d : Tree) (holds : HoldsDefault default d) (verb : Verb) where
+  pub struct_written : (path : List Step) → starts_with_name path ≡ true → WritesPath u v o schema path verb → WritesValue s v p (schema_around schema) (struct (id_of schema)) d path verb
+  struct_written [] named h = absurd (cc named)
+  struct_written (index k ∷ rest) named h = absurd (cc named)
+  struct_written (name n ∷ rest) named h = λ k t own is_done. (
+      let around = schema_around schema in
+      let id = id_of schema in
+      let g = shape_of_struct schema in
+      let x = got.value k t own in
+      let opened : x.0 ≡ opened_tree (struct id) d t = begun_opened (struct id) k s p t own.means d x.0 default holds x.1 in
+      let wide : Tree = widened (words_of_shape g) (pointers_of_shape g) (opened_tree (struct id) d t) in
+      let same : widened size.data_words size.pointers x.0 ≡ wide =
+      ap (λ w. widened w size.pointers x.0) words ∙ ap (λ q. widened (words_of_shape g) q x.0) pointers ∙ ap (widened (words_of_shape g) (pointers_of_shape g)) opened in
+      let replaced : Replaces (k + 65) s u p wide = subst (λ y. Replaces (k + 65) s u p y) same x.2 in
+      let lifted = behind_pointer s u v p o (λ c. IsDone (shape_outcome around g (name n ∷ rest) verb c)) (shape_edit around g (name n ∷ rest) verb) k t wide own got.object replaced h
+      (λ section kids e. struct_done around id n rest verb o.data_words section kids (words_of_shape g) (pointers_of_shape g) d t e is_done) in
+      (lifted.more, subst (λ y. Replaces (k + lifted.more) s v p y) (sym (struct_edit around id n rest verb d t o.data_words lifted.section lifted.kids lifted.is)) lifted.replaces)
+      )
+
+  pub inner_wide : IsWide o (shape_of_struct schema)
+  inner_wide = record { words = subst (λ k. k ≤ o.data_words) words got.enough.0; pointers = subst (λ k. k ≤ o.pointers) pointers got.enough.1 }

@@ -1,0 +1,6 @@
+pub mod Lifting
+pub mod Outcomes
+pub mod Begun
+pub mod Ends
+pub mod Behind
+pub mod Defaults

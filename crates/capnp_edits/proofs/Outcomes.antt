@@ -1,0 +1,219 @@
+-- Where a call is done, the rest of its path is done at the next step, and the edit goes the same way.
+use Rattle.std.proofs.Common.{◌≡◌, ◌≢◌, ℕ, zero, suc, ◌<◌, max, Bool, true, false, if◌then◌else◌, Option, None, Some, List, [], ◌∷◌, refl, sym, subst, ap, ◌∙◌, arith}
+use Rattle.std.specs.Prelude.{option_map}
+use Rattle.std.specs.Str.{bytes_eq}
+use Rattle.capnp_model.specs.Segments.{Segments, Place, after}
+use Rattle.capnp_model.specs.Trees.{Tree, null, capability, structure, plain_list, pointer_list, struct_list, Trees, none, ◌▸◌, child, padded_to, resized, widened}
+use Rattle.capnp_model.specs.Accepted.{schema_of}
+use Rattle.capnp_model.specs.Schemas.{Ty, struct, Shape, shape, Fields, no_fields, field, Field as FieldNode, Body, pointer_slot, group_slot, Schema, default_or_null}
+use Rattle.capnp_model.specs.Readings.{Reading, null_pointer, record_as, Record, whole_words, no_children, read, read_child, shape_record, body_of, only_if}
+use Rattle.capnp_model.specs.Printing.{fields_in}
+use Rattle.capnp_model.specs.Calls.{Step, name, index, Verb}
+use Rattle.capnp_model.specs.Steps.{Outcome, refused, shown, done, outcome_map, target, target_if, target_of, on_name, opened, through_value, through_field, step_field, step_element}
+use Rattle.capnp_model.specs.Edits.{Cell, Edit, put_child, opened_tree, edit_target, edit_named, edit_struct, edit_field, edit_element, edit_value, in_struct}
+use Rattle.capnp_model.proofs.Marks.{read_child-padded_to}
+use Rattle.capnp_wire.specs.Places.{place_view}
+use Rattle.capnp_queries.specs.Fields.{Entry, field_at, place_of_name, union_in, entry_in}
+use Rattle.capnp_queries.specs.Structs.{nodes_around, schema_around, id_of, shape_of_struct, fields_of_struct}
+use Rattle.capnp_queries.specs.Handles.{entry_of, IsFieldRecord}
+use Rattle.capnp_queries.specs.declared.structs.StructSchema.{StructSchema}
+use Rattle.capnp_queries.specs.declared.fields.Field.{Field}
+use Rattle.capnp_copy.specs.declared.fields.StructPlace.{StructPlace}
+use Rattle.capnp_dynamic.specs.Inside.{words_of_shape, pointers_of_shape}
+use Rattle.capnp_calls.specs.Replies.{is_active_in}
+use Rattle.capnp_calls.specs.Taken.{starts_with_name}
+use Rattle.capnp_calls.specs.Sizes.{IsDone}
+use Rattle.capnp_calls.specs.Paths.{field_outcome, shape_outcome, shape_edit}
+use Rattle.capnp_calls.proofs.PathFields.{behind_name}
+use Rattle.capnp_calls.proofs.FieldSlots.{body_is}
+use Rattle.capnp_calls.proofs.SlotShown.{read_child-child}
+use Rattle.capnp_edits.specs.Written.{EditsWhere, WritesPath, IsDoneAt, edit_at, WritesField, value_outcome, value_edit, WritesValue}
+use Rattle.capnp_edits.proofs.Lifting.{cell, edits_alike, through_child}
+
+pub unmapped : {A B : Type 0} (f : A → B) (o : Outcome A) → IsDone (outcome_map f o) → IsDone o
+unmapped f (refused k) h = absurd h
+unmapped f (shown how r) h = absurd h
+unmapped f (done x) h = tt
+
+-- ---- a field by its name
+
+none_mapped : (o : Option ℕ) (i : ℕ) → option_map (λ j. suc j) o ≡ Some (suc i) → o ≡ Some i
+none_mapped None i h = absurd (cc h)
+none_mapped (Some j) i h = let same : j ≡ i = cc h in ap (λ k. Some k) same
+
+never_zero : (o : Option ℕ) → option_map (λ j. suc j) o ≡ Some 0 → ⊥
+never_zero None h = cc h
+never_zero (Some j) h = cc h
+
+found_at : (n : List ℕ) (fs : Fields) (i : ℕ) (e : Entry) → place_of_name n fs ≡ Some i → field_at fs i ≡ Some e → target_of n fs ≡ target e.member e.body
+found_at n no_fields i e p h = absurd (cc h)
+found_at n (field m member body fs) zero e p h = by (bytes_eq m n) p
+  where
+    same : record { name = m; member = member; body = body } ≡ e
+    same = cc h
+
+    by : (b : Bool) → (if b then Some 0 else option_map (λ i. suc i) (place_of_name n fs)) ≡ Some 0 → target_if b (target member body) (target_of n fs) ≡ target e.member e.body
+    by true k = ap (λ (x : Entry). target x.member x.body) same
+    by false k = absurd (never_zero (place_of_name n fs) k)
+found_at n (field m member body fs) (suc i) e p h = by (bytes_eq m n) (found_at n fs i e) p
+  where
+    by : (b : Bool) → (place_of_name n fs ≡ Some i → field_at fs i ≡ Some e → target_of n fs ≡ target e.member e.body) → (if b then Some 0 else option_map (λ j. suc j) (place_of_name n fs)) ≡ Some (suc i) → target_if b (target member body) (target_of n fs) ≡ target e.member e.body
+    by true more k = absurd (cc k)
+    by false more k = more (none_mapped (place_of_name n fs) i k) h
+
+module _ (s u : Segments) (p : StructPlace) (f : Field) (r : FieldNode) (is : IsFieldRecord f.parent f.index r) (n : List ℕ) (rest : List Step) (verb : Verb) where
+  own_name : Some f.index ≡ place_of_name n (fields_of_struct f.parent) → WritesField s u p f rest verb → WritesPath s u p f.parent (name n ∷ rest) verb
+  own_name at h =
+      let around = schema_around f.parent in
+      let g = shape_of_struct f.parent in
+      let e = entry_in around r in
+      let found : target_of n (fields_of_struct f.parent) ≡ target e.member e.body = found_at n (fields_of_struct f.parent) f.index e (sym at) is.entry in
+      edits_alike s u p (IsDoneAt f rest verb (entry_of f)) (λ c. IsDone (shape_outcome around g (name n ∷ rest) verb c)) (edit_at f rest verb (entry_of f)) (shape_edit around g (name n ∷ rest) verb)
+      (λ c all. (
+      let b = behind_name around g n rest verb e.member e.body c found in
+      let here : IsDone (field_outcome around rest verb (union_in g) e.member e.body c) = unmapped b.with' (field_outcome around rest verb (union_in g) e.member e.body c) (subst IsDone b.outcome all) in
+      (subst (λ o. IsDoneAt f rest verb o c) (sym is.entry) here, ap (λ o. edit_at f rest verb o c) is.entry ∙ ap (λ t. edit_target (edit_field around rest verb) (union_in g) t c) (sym found))
+      )) h
+
+  pub by_name : (g : StructSchema) → f.parent ≡ g → Some f.index ≡ place_of_name n (fields_of_struct g) → WritesField s u p f rest verb → WritesPath s u p g (name n ∷ rest) verb
+  by_name g e = subst (λ x. Some f.index ≡ place_of_name n (fields_of_struct x) → WritesField s u p f rest verb → WritesPath s u p x (name n ∷ rest) verb) e own_name
+
+-- ---- a field by its body
+
+module _ (f : Field) (r : FieldNode) (is : IsFieldRecord f.parent f.index r) (b : Body) (same : option_map (λ e. e.body) (entry_of f) ≡ Some b) (path : List Step) (verb : Verb) where
+  pub done_at : (c : Cell) → IsDoneAt f path verb (entry_of f) c → IsDone (field_outcome (schema_around f.parent) path verb (union_in (shape_of_struct f.parent)) r.member b c)
+  done_at c h = subst (λ x. IsDone (field_outcome (schema_around f.parent) path verb (union_in (shape_of_struct f.parent)) r.member x c)) (body_is f r b is same) (subst (λ o. IsDoneAt f path verb o c) is.entry h)
+
+  pub edit_is : (c : Cell) → edit_field (schema_around f.parent) path verb (union_in (shape_of_struct f.parent)) r.member b c ≡ edit_at f path verb (entry_of f) c
+  edit_is c =
+      ap (λ x. edit_field (schema_around f.parent) path verb (union_in (shape_of_struct f.parent)) r.member x c) (sym (body_is f r b is same))
+      ∙ ap (λ o. edit_at f path verb o c) (sym is.entry)
+
+-- ---- a group
+
+module _ (s : Schema) (g : Shape) (rest : List Step) (verb : Verb) (c : Cell) where
+  active_group : (st : Step) (b : Bool) → IsDone (step_field s (st ∷ rest) verb (group_slot g) (only_if b (body_of (group_slot g) whole_words c.section (read_child s c.kids)))) → IsDone (shape_outcome s g (st ∷ rest) verb c)
+  unfolding step_field body_of shape_outcome
+  active_group (name n) true h = unmapped record_as (on_name (step_field s rest verb) n (fields_in g) (shape_record g whole_words c.section (read_child s c.kids))) h
+  active_group (index k) true h = absurd h
+  active_group st false h = absurd h
+
+  pub group_done : (st : Step) (union member : Option ℕ) → IsDone (field_outcome s (st ∷ rest) verb union member (group_slot g) c) → IsDone (shape_outcome s g (st ∷ rest) verb c)
+  unfolding field_outcome
+  group_done st union member h = active_group st (is_active_in union member c) h
+
+pub group_edit : (s : Schema) (g : Shape) (rest : List Step) (verb : Verb) (c : Cell) (st : Step) (union member : Option ℕ) → shape_edit s g (st ∷ rest) verb c ≡ edit_field s (st ∷ rest) verb union member (group_slot g) c
+unfolding edit_field
+group_edit s (shape nid w p u fs) rest verb c (name n) union member = refl
+group_edit s (shape nid w p u fs) rest verb c (index k) union member = refl
+
+module _ (s u : Segments) (p : StructPlace) (f : Field) (r : FieldNode) (is : IsFieldRecord f.parent f.index r) (g : StructSchema) (same : option_map (λ e. e.body) (entry_of f) ≡ Some (group_slot (shape_of_struct g))) (nodes : nodes_around g ≡ nodes_around f.parent) (verb : Verb) where
+  pub by_group : (path : List Step) → path ≢ [] → WritesPath s u p g path verb → WritesField s u p f path verb
+  by_group [] some h = absurd (some refl)
+  by_group (st ∷ rest) some h =
+      let around = schema_around f.parent in
+      let own = shape_of_struct g in
+      let b : Body = group_slot own in
+      let union = union_in (shape_of_struct f.parent) in
+      edits_alike s u p (λ c. IsDone (shape_outcome around own (st ∷ rest) verb c)) (IsDoneAt f (st ∷ rest) verb (entry_of f)) (shape_edit around own (st ∷ rest) verb) (edit_at f (st ∷ rest) verb (entry_of f))
+      (λ c all. (group_done around own rest verb c st union r.member (done_at f r is b same (st ∷ rest) verb c all), group_edit around own rest verb c st union r.member ∙ edit_is f r is b same (st ∷ rest) verb c))
+      (subst (λ ns. EditsWhere (λ c. IsDone (shape_outcome (schema_of ns) own (st ∷ rest) verb c)) s u p (shape_edit (schema_of ns) own (st ∷ rest) verb)) nodes h)
+
+-- ---- a pointer to a struct
+
+module _ (s : Schema) (n : List ℕ) (rest : List Step) (verb : Verb) (i id : ℕ) (d : Option Tree) where
+  through_is : (t : Tree) → through_field s (name n) (step_field s rest verb) (step_element s rest verb) (pointer_slot i (struct id) d) (read s t (struct id)) ≡ value_outcome s (struct id) (default_or_null d) (name n ∷ rest) verb t
+  unfolding read
+  through_is null = refl
+  through_is (capability k) = refl
+  through_is (structure w x ts) = refl
+  through_is (plain_list size k x) = refl
+  through_is (pointer_list ts) = refl
+  through_is (struct_list w p es) = refl
+
+  active_pointer : (c : Cell) (b : Bool) → IsDone (step_field s (name n ∷ rest) verb (pointer_slot i (struct id) d) (only_if b (body_of (pointer_slot i (struct id) d) whole_words c.section (read_child s c.kids)))) → IsDone (value_outcome s (struct id) (default_or_null d) (name n ∷ rest) verb (child c.kids i))
+  unfolding step_field body_of
+  active_pointer c true h =
+      subst IsDone (ap (through_field s (name n) (step_field s rest verb) (step_element s rest verb) (pointer_slot i (struct id) d)) (read_child-child s c.kids i (struct id)) ∙ through_is (child c.kids i)) h
+  active_pointer c false h = absurd h
+
+  pub pointer_done : (union member : Option ℕ) (c : Cell) → IsDone (field_outcome s (name n ∷ rest) verb union member (pointer_slot i (struct id) d) c) → IsDone (value_outcome s (struct id) (default_or_null d) (name n ∷ rest) verb (child c.kids i))
+  unfolding field_outcome
+  pointer_done union member c h = active_pointer c (is_active_in union member c) h
+
+  pub pointer_edit : (union member : Option ℕ) (c : Cell) → put_child i (value_edit s (struct id) (default_or_null d) (name n ∷ rest) verb (child c.kids i)) c ≡ edit_field s (name n ∷ rest) verb union member (pointer_slot i (struct id) d) c
+  unfolding edit_field
+  pointer_edit union member c = refl
+
+module _ (s u : Segments) (p : StructPlace) (f : Field) (r : FieldNode) (is : IsFieldRecord f.parent f.index r) (i id : ℕ) (d : Option Tree) (same : option_map (λ e. e.body) (entry_of f) ≡ Some (pointer_slot i (struct id) d)) (verb : Verb) where
+  -- a change of the value behind a field's pointer is one of the struct at the field
+  by_pointer : (q : Place) → i < p.pointers → q ≡ after (after (place_view p.start) p.data_words) i → (n : List ℕ) (rest : List Step) → WritesValue s u q (schema_around f.parent) (struct id) (default_or_null d) (name n ∷ rest) verb → WritesField s u p f (name n ∷ rest) verb
+  by_pointer q l e n rest h =
+      let around = schema_around f.parent in
+      let b : Body = pointer_slot i (struct id) d in
+      let union = union_in (shape_of_struct f.parent) in
+      edits_alike s u p (λ c. IsDone (value_outcome around (struct id) (default_or_null d) (name n ∷ rest) verb (child c.kids i))) (IsDoneAt f (name n ∷ rest) verb (entry_of f)) (λ c. put_child i (value_edit around (struct id) (default_or_null d) (name n ∷ rest) verb (child c.kids i)) c) (edit_at f (name n ∷ rest) verb (entry_of f))
+      (λ c all. (pointer_done around n rest verb i id d union r.member c (done_at f r is b same (name n ∷ rest) verb c all), pointer_edit around n rest verb i id d union r.member c ∙ edit_is f r is b same (name n ∷ rest) verb c))
+      (through_child s u p i q around (struct id) (default_or_null d) (name n ∷ rest) verb l e h)
+
+  pub by_pointer_path : (q : Place) → i < p.pointers → q ≡ after (after (place_view p.start) p.data_words) i → (path : List Step) → starts_with_name path ≡ true → WritesValue s u q (schema_around f.parent) (struct id) (default_or_null d) path verb → WritesField s u p f path verb
+  by_pointer_path q l e [] named h = absurd (cc named)
+  by_pointer_path q l e (index k ∷ rest) named h = absurd (cc named)
+  by_pointer_path q l e (name n ∷ rest) named h = by_pointer q l e n rest h
+
+-- ---- the struct behind it
+
+nothing_read : (s : Schema) (g : Shape) → shape_record g whole_words 0 no_children ≡ shape_record g whole_words 0 (read_child s none)
+unfolding read
+nothing_read s g = ap (shape_record g whole_words 0) (λ k i ty. null_pointer)
+
+padded_nothing : (p : ℕ) → padded_to p none ≡ resized p none
+padded_nothing zero = refl
+padded_nothing (suc p) = ap (λ ts. null ▸ ts) (padded_nothing p)
+
+module _ (s : Schema) (id : ℕ) (n : List ℕ) (rest : List Step) (verb : Verb) (words section : ℕ) (kids : Trees) where
+  abbrev g : Shape
+  g = s.shape_of id
+
+  abbrev Done : Record → Type 0
+  Done r = IsDone (on_name (step_field s rest verb) n (fields_in g) r)
+
+  from_parts : (x : ℕ) (ts : Trees) (p : ℕ) → x ≡ section → padded_to p ts ≡ kids → Done (shape_record g whole_words x (read_child s ts)) → IsDone (shape_outcome s g (name n ∷ rest) verb (cell section kids))
+  unfolding shape_outcome
+  from_parts x ts p e h is_done =
+      let same : read_child s (padded_to p ts) ≡ read_child s ts = λ k i ty. read_child-padded_to s p ts i ty k in
+      let wide : Done (shape_record g whole_words x (read_child s (padded_to p ts))) = subst (λ kids. Done (shape_record g whole_words x kids)) (sym same) is_done in
+      subst (λ us. Done (shape_record g whole_words section (read_child s us))) h (subst (λ y. Done (shape_record g whole_words y (read_child s (padded_to p ts)))) e wide)
+
+  of_record : (r : Record) → IsDone (outcome_map record_as (on_name (step_field s rest verb) n (fields_in g) r)) → Done r
+  of_record r h = unmapped record_as (on_name (step_field s rest verb) n (fields_in g) r) h
+
+  of_struct : (w p w0 x : ℕ) (ts : Trees) → structure (max w w0) x (padded_to p ts) ≡ structure words section kids → Done (shape_record g whole_words x (read_child s ts)) → IsDone (shape_outcome s g (name n ∷ rest) verb (cell section kids))
+  of_struct w p w0 x ts e is_done = from_parts x ts p (cc e) (cc e) is_done
+
+  of_empty : (w p : ℕ) → structure w 0 (resized p none) ≡ structure words section kids → Done (shape_record g whole_words 0 no_children) → IsDone (shape_outcome s g (name n ∷ rest) verb (cell section kids))
+  of_empty w p e is_done = from_parts 0 none p (cc e) (padded_nothing p ∙ cc e) (subst Done (nothing_read s g) is_done)
+
+  -- where the steps into the value are done, the path is done at the widened struct
+  pub struct_done : (w p : ℕ) (d t : Tree) → widened w p (opened_tree (struct id) d t) ≡ structure words section kids → IsDone (value_outcome s (struct id) d (name n ∷ rest) verb t) → IsDone (shape_outcome s g (name n ∷ rest) verb (cell section kids))
+  unfolding read
+  struct_done w p null null e h = of_empty w p e (of_record (shape_record g whole_words 0 no_children) h)
+  struct_done w p (structure w0 x ts) null e h = of_struct w p w0 x ts e (of_record (shape_record g whole_words x (read_child s ts)) h)
+  struct_done w p (capability i) null e h = absurd h
+  struct_done w p (plain_list size k x) null e h = absurd h
+  struct_done w p (pointer_list ts) null e h = absurd h
+  struct_done w p (struct_list a b es) null e h = absurd h
+  struct_done w p d (structure w0 x ts) e h = of_struct w p w0 x ts e (of_record (shape_record g whole_words x (read_child s ts)) h)
+  struct_done w p d (capability i) e h = absurd h
+  struct_done w p d (plain_list size k x) e h = absurd h
+  struct_done w p d (pointer_list ts) e h = absurd h
+  struct_done w p d (struct_list a b es) e h = absurd h
+
+-- the value becomes the struct that the edit makes of the widened one
+edit_of_struct : (f : Option ℕ → Option ℕ → Body → Edit) (n : List ℕ) (g : Shape) (t : Tree) (words section : ℕ) (kids : Trees) → widened (words_of_shape g) (pointers_of_shape g) t ≡ structure words section kids
+    → edit_struct f n g t ≡ (let c = edit_named f n (union_in g) (fields_in g) (cell section kids) in structure words c.section c.kids)
+edit_of_struct f n (shape nid w p u fs) t words section kids e = ap (in_struct w (edit_named f n u fs)) e
+
+pub struct_edit : (s : Schema) (id : ℕ) (n : List ℕ) (rest : List Step) (verb : Verb) (d t : Tree) (words section : ℕ) (kids : Trees) → widened (words_of_shape (s.shape_of id)) (pointers_of_shape (s.shape_of id)) (opened_tree (struct id) d t) ≡ structure words section kids
+    → value_edit s (struct id) d (name n ∷ rest) verb t ≡ (let c = shape_edit s (s.shape_of id) (name n ∷ rest) verb (cell section kids) in structure words c.section c.kids)
+struct_edit s id n rest verb d t words section kids e = edit_of_struct (edit_field s rest verb) n (s.shape_of id) (opened_tree (struct id) d t) words section kids e

@@ -1,0 +1,12 @@
+use Rattle.std.proofs.Common.{◌≡◌, ◌/◌, List, ℕ, Some, length, sym, subst}
+use Rattle.std.specs.Simd.{first_chunks}
+use Rattle.capnp_model.specs.Schemas.{default_or_null}
+use Rattle.capnp_model.specs.Decoding.{decode}
+use Rattle.capnp_edits.specs.Written.{HoldsDefault}
+use Rattle.capnp_edits.proofs.Begun.{words_hold, some_tree}
+use Rattle.capnp_edits.proofs.default.words_of.Goals as goal
+
+pub returns : goal.returns
+returns c decoded =
+    let t = default_or_null (decode c.args.bytes.now) in
+    subst (λ (ws : List (List ℕ)). HoldsDefault (Some ws) t) (sym c.as_chunks.ensures.front) (words_hold c.args.bytes.now t (some_tree (decode c.args.bytes.now) decoded))

@@ -1,0 +1,47 @@
+use Rattle.std.proofs.Common.{◌≡◌, [], Ok, OnOk, sym, subst}
+use Rattle.capnp_units.specs.Segments.{words_in}
+use Rattle.capnp_model.specs.Calls.{clear, init, initn}
+use Rattle.capnp_queries.specs.Handles.{entry_of}
+use Rattle.capnp_calls.specs.CallViews.{action_view}
+use Rattle.capnp_dynamic.proofs.Ready.{areas_inside}
+use Rattle.capnp_edits.specs.Written.{WritesField}
+use Rattle.capnp_queries.specs.Structs.{schema_around}
+use Rattle.capnp_dynamic.specs.Begun.{begun_field}
+use Rattle.capnp_dynamic.specs.NewLists.{initn_field}
+use Rattle.capnp_dynamic.specs.Puts.{state_in}
+use Rattle.capnp_edits.proofs.Ends.{edited_end, put_end}
+use Rattle.capnp_edits.proofs.end.write_end.Goals as goal
+
+pub clear_field-requires-clause-inside : goal.clear_field-requires-clause-inside
+clear_field-requires-clause-inside g c = areas_inside c.args.field.parent c.args.object c.requires.wide
+
+pub returns-in-Clear-clause-writes : goal.returns-in-Clear-clause-writes
+returns-in-Clear-clause-writes g c =
+    let s = words_in (g.A.ReaderArena.segments c.args.arena.now) in
+    let u = words_in (g.A.ReaderArena.segments c.clear_field.new.arena) in
+    subst (λ a. WritesField s u c.args.object c.args.field [] (action_view a)) (sym c.in-Clear.is) (edited_end s u c.args.object c.args.field clear c.clear_field.ensures.edits)
+
+pub begin_field-requires-clause-inside : goal.begin_field-requires-clause-inside
+begin_field-requires-clause-inside g c = areas_inside c.args.field.parent c.args.object c.requires.wide
+
+pub initn_slot-requires-clause-inside : goal.initn_slot-requires-clause-inside
+initn_slot-requires-clause-inside g c = areas_inside c.args.field.parent c.args.object c.requires.wide
+
+pub returns-in_ok-begin_field-in-Init-clause-writes : goal.returns-in_ok-begin_field-in-Init-clause-writes
+returns-in_ok-begin_field-in-Init-clause-writes g c =
+    let at = state_in g.A.ReaderArena.segments g.A.BuilderArena.room g.A.BuilderArena.books in
+    let s = words_in (g.A.ReaderArena.segments c.args.arena.now) in
+    let u = words_in (g.A.ReaderArena.segments c.begin_field.new.arena) in
+    let f = c.args.field in
+    subst (λ a. WritesField s u c.args.object f [] (action_view a)) (sym c.in-Init.is)
+    (put_end (at c.args.arena.now) (at c.begin_field.new.arena) c.args.object f init (begun_field (schema_around f.parent) (entry_of f)) (Ok c.in_ok-begin_field-in-Init.field-0) c.in_ok-begin_field-in-Init.ensures.puts)
+
+pub returns-in-Initn-clause-writes : goal.returns-in-Initn-clause-writes
+returns-in-Initn-clause-writes g c =
+    let at = state_in g.A.ReaderArena.segments g.A.BuilderArena.room g.A.BuilderArena.books in
+    let s = words_in (g.A.ReaderArena.segments c.args.arena.now) in
+    let u = words_in (g.A.ReaderArena.segments c.initn_slot.new.arena) in
+    let f = c.args.field in
+    let n = c.in-Initn.count in
+    subst (λ a. OnOk c.initn_slot.result (WritesField s u c.args.object f [] (action_view a))) (sym c.in-Initn.is)
+    (put_end (at c.args.arena.now) (at c.initn_slot.new.arena) c.args.object f (initn n) (initn_field (schema_around f.parent) n (entry_of f)) c.initn_slot.result c.initn_slot.ensures.puts)

@@ -1,0 +1,74 @@
+-- Calls along paths, written where a struct lies. (Encoding, "Structs")
+use Rattle.std.specs.Prelude.{◌≡◌, ℕ, ◌+◌, List, [], ◌∷◌, Option, Some, None}
+use Rattle.capnp_model.specs.Kinds.{WrongStep}
+use Rattle.capnp_model.specs.Segments.{Segments, Place, root}
+use Rattle.capnp_model.specs.Trees.{Tree, null, Trees, structure}
+use Rattle.capnp_model.specs.Traversal.{tree_at}
+use Rattle.capnp_model.specs.Schemas.{Ty, Schema}
+use Rattle.capnp_model.specs.Readings.{Reading, read}
+use Rattle.capnp_model.specs.Calls.{Step, Verb}
+use Rattle.capnp_model.specs.Steps.{Outcome, refused, opened, through_value, step_field, step_element}
+use Rattle.capnp_model.specs.Edits.{Cell, Edit, opened_tree, edit_value, edit_field, edit_element}
+use Rattle.capnp_footprints.specs.Footprints.{Owns, OwnsObject}
+use Rattle.capnp_footprints.specs.Changes.{Replaces, ReplacesObject}
+use Rattle.capnp_copy.specs.Structs.{struct_at}
+use Rattle.capnp_copy.specs.declared.fields.StructPlace.{StructPlace}
+use Rattle.capnp_copy_from.specs.Defaults.{default_segments}
+use Rattle.capnp_queries.specs.Fields.{Entry, union_in}
+use Rattle.capnp_queries.specs.Structs.{schema_around, shape_of_struct}
+use Rattle.capnp_queries.specs.Handles.{entry_of}
+use Rattle.capnp_queries.specs.declared.structs.StructSchema.{StructSchema}
+use Rattle.capnp_queries.specs.declared.fields.Field.{Field}
+use Rattle.capnp_calls.specs.Sizes.{IsDone}
+use Rattle.capnp_calls.specs.Paths.{field_outcome, shape_outcome, shape_edit}
+
+-- Whatever data and children the struct has for which the test holds: they become what the edit makes of them, where some levels of pointers may be new, and nothing else changes.
+abbrev pub EditsWhere : (Cell → Type 0) → Segments → Segments → StructPlace → Edit → Type 0
+EditsWhere Holds s u p f =
+    (n section : ℕ) (kids : Trees) → OwnsObject n s (struct_at p) (structure p.data_words section kids) → Holds (record { section = section; kids = kids })
+    → let d = f (record { section = section; kids = kids }) in (more : ℕ) × ReplacesObject (n + more) s u (struct_at p) (structure p.data_words d.section d.kids)
+
+-- ---- at a struct or a group
+
+-- Where the record machine does the call at the struct: its data and children become what the call's edit makes of them.
+abbrev pub WritesPath : Segments → Segments → StructPlace → StructSchema → List Step → Verb → Type 0
+WritesPath s u p g path verb =
+    EditsWhere (λ c. IsDone (shape_outcome (schema_around g) (shape_of_struct g) path verb c)) s u p (shape_edit (schema_around g) (shape_of_struct g) path verb)
+
+-- ---- at a field
+
+-- The record machine does the rest of a call at a field; at none it does nothing.
+abbrev pub IsDoneAt : Field → List Step → Verb → Option Entry → Cell → Type 0
+IsDoneAt f path verb None c = ⊥
+IsDoneAt f path verb (Some e) c = IsDone (field_outcome (schema_around f.parent) path verb (union_in (shape_of_struct f.parent)) e.member e.body c)
+
+-- What it makes of the struct.
+abbrev pub edit_at : Field → List Step → Verb → Option Entry → Edit
+edit_at f path verb None c = c
+edit_at f path verb (Some e) c = edit_field (schema_around f.parent) path verb (union_in (shape_of_struct f.parent)) e.member e.body c
+
+-- Where the rest of a call is done at a field, the struct becomes what it makes of it.
+abbrev pub WritesField : Segments → Segments → StructPlace → Field → List Step → Verb → Type 0
+WritesField s u p f path verb = EditsWhere (IsDoneAt f path verb (entry_of f)) s u p (edit_at f path verb (entry_of f))
+
+-- ---- at a pointer's value
+
+-- What the record machine makes of the steps into a pointer's value of a type; null is its default, else the empty value.
+abbrev pub value_outcome : Schema → Ty → Tree → List Step → Verb → Tree → Outcome Reading
+value_outcome s ty d [] verb t = refused WrongStep
+value_outcome s ty d (st ∷ path) verb t = through_value s st (step_field s path verb) (step_element s path verb) ty (opened s ty d (read s t ty))
+
+-- What stands after it.
+abbrev pub value_edit : Schema → Ty → Tree → List Step → Verb → Tree → Tree
+value_edit s ty d [] verb t = t
+value_edit s ty d (st ∷ path) verb t = edit_value s st (edit_field s path verb) (edit_element s path verb) ty (opened_tree ty d t)
+
+-- Whatever value is owned there at which the steps are done becomes what they make of it, where some levels of pointers may be new, and nothing else changes.
+abbrev pub WritesValue : Segments → Segments → Place → Schema → Ty → Tree → List Step → Verb → Type 0
+WritesValue s u p around ty d path verb =
+    (n : ℕ) (t : Tree) → Owns n s p t → IsDone (value_outcome around ty d path verb t) → (more : ℕ) × Replaces (n + more) s u p (value_edit around ty d path verb t)
+
+-- The words of a default, if there is one, hold this value, at most 64 levels deep; no default is null.
+abbrev pub HoldsDefault : Option (List (List ℕ)) → Tree → Type 0
+HoldsDefault None d = d ≡ null
+HoldsDefault (Some words) d = tree_at 64 (default_segments words) root ≡ Some d

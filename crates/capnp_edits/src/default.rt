@@ -1,0 +1,58 @@
+//! Defaults of structs, as words.
+ghost use Rattle.std.specs.Prelude.{ℕ, ◌≡◌, Option, Some, IsSome, option_map, option_copied};
+ghost use Rattle.capnp_model.specs.Decoding.{decode};
+ghost use Rattle.capnp_model.specs.Trees.{Tree};
+ghost use Rattle.capnp_model.specs.Schemas.{struct, pointer_slot, default_or_null};
+ghost use Rattle.capnp_model.specs.Accepted.{default_tree};
+ghost use Rattle.capnp_records.specs.NodeViews.{kind_of_field, value_of};
+ghost use Rattle.capnp_queries.specs.Handles.{entry_of};
+ghost use Rattle.capnp_calls.specs.Slots.{IsSegment};
+ghost use Rattle.capnp_calls.specs.Finding.{default_in};
+ghost use Rattle.capnp_edits.specs.Written.{HoldsDefault};
+
+use capnp_queries::fields::Field;
+use capnp_records::node::{FieldBody, FieldRecord, Value};
+use capnp_units::sizes::Word;
+
+/// The words of a default's bytes.
+fn words_of(bytes: &[u8]) -> &[Word]
+    ensures { IsSome (decode bytes.now)
+        → HoldsDefault (Some result.now) (default_or_null (decode bytes.now)) }
+{
+    let (words, _) = bytes.as_chunks::<8>();
+    words
+}
+
+/// The words of the default of a struct or a list; none where there is no such default.
+fn default_words(default: Option<&Value>) -> Option<&[Word]>
+    ensures { let d = option_map value_of (option_copied default.entry) in
+        IsSegment d → HoldsDefault (option_copied result) (default_or_null (default_tree d)) }
+{
+    match default {
+        Some(Value::Struct(bytes) | Value::List(bytes)) => Some(words_of(bytes)),
+        _ => None,
+    }
+}
+
+/// The default of a field, as its node says it.
+fn default_said(field: &FieldRecord) -> Option<&Value>
+    ensures { option_map value_of (option_copied result)
+        ≡ default_in (kind_of_field field.now.body) }
+{
+    match &field.body {
+        FieldBody::Slot { default, .. } => default.as_ref(),
+        FieldBody::Group { .. } => None,
+    }
+}
+
+/// The words of the default of a field that is a pointer to a struct; none where it has no default.
+pub(crate) fn default_of<'a>(field: Field<'a>) -> Option<&'a [Word]>
+    ensures { (i id : ℕ) (d : Option Tree)
+        → option_map (λ e. e.body) (entry_of field.entry) ≡ Some (pointer_slot i (struct id) d)
+        → HoldsDefault (option_copied result) (default_or_null d) }
+{
+    let holder = field.parent().record();
+    let _words = holder.data_word_count;
+    let record = field.get_proto();
+    default_words(default_said(record))
+}

@@ -1,0 +1,46 @@
+//! Calls written where their paths end.
+ghost use Rattle.std.specs.Prelude.{◌≡◌, [], OnOk};
+ghost use Rattle.capnp_units.specs.Segments.{words_in};
+ghost use Rattle.capnp_queries.specs.Structs.{shape_of_struct};
+ghost use Rattle.capnp_calls.specs.CallViews.{action_view};
+ghost use Rattle.capnp_dynamic.specs.Edits.{IsThere, IsWide};
+ghost use Rattle.capnp_edits.specs.Written.{WritesField};
+
+use crate::values::set_value;
+use capnp_calls::Action;
+use capnp_copy::arena::BuilderArena;
+use capnp_copy::fields::StructPlace;
+use capnp_dynamic::begin::begin_field;
+use capnp_dynamic::initn::initn_slot;
+use capnp_dynamic::slots::clear_field;
+use capnp_queries::fields::Field;
+use capnp_units::errors::{Error, Result};
+use capnp_units::kinds::ErrorKind;
+
+/// Writes a call at the field where its path ends.
+pub(crate) fn write_end<A: BuilderArena>(
+    arena: &mut A,
+    object: StructPlace,
+    field: Field<'_>,
+    action: &Action,
+) -> Result<()>
+    requires there { IsThere (words_in (A.segments arena.old)) object }
+    requires wide { IsWide object (shape_of_struct field.parent) }
+    ensures writes { OnOk result (WritesField (words_in (A.segments arena.old))
+        (words_in (A.segments arena.new)) object field.entry [] (action_view action.now)) }
+    ensures books { A.books arena.new ≡ A.books arena.old }
+{
+    match action {
+        Action::Clear => {
+            clear_field(arena, object, field);
+            Ok(())
+        }
+        Action::Init => {
+            begin_field(arena, object, field)?;
+            Ok(())
+        }
+        Action::Initn(count) => initn_slot(arena, object, field, *count),
+        Action::Set(value) => set_value(arena, object, field, value),
+        Action::Get => Err(Error::from(ErrorKind::WrongStep)),
+    }
+}

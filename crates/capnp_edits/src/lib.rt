@@ -1,0 +1,9 @@
+//! Calls written along their paths, where a message lies.
+#![tactic(auto)]
+
+mod default;
+mod end;
+mod names;
+pub mod path;
+mod schemas;
+mod values;
