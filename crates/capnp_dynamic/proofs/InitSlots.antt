@@ -1,40 +1,39 @@
 -- A struct that is put into a slot, as the model puts it.
-use Rattle.std.proofs.Common.{◌≡◌, ◌↔◌, ℕ, zero, suc, ◌+◌, ◌^◌, ◌<◌, ◌≤◌, inl, inr, [], length, map, Result, Ok, Err, IfErr, OnOk, OnErr, Option, Some, None, refl, sym, ap, subst, ◌∙◌, arith}
+use Rattle.std.proofs.Common.{◌≡◌, ◌↔◌, ℕ, zero, suc, ◌+◌, ◌^◌, ◌<◌, ◌≤◌, inl, inr, length, map, Result, Ok, Err, IfErr, OnOk, OnErr, Option, Some, None, refl, sym, ap, subst, ◌∙◌, arith}
 use Rattle.std.specs.Prelude.{option_map}
-use Rattle.capnp_model.specs.Segments.{Segments, Place, after}
+use Rattle.capnp_model.specs.Segments.{Segments, after}
 use Rattle.capnp_model.specs.Schemas.{Ty, void, plain, text, blob, untyped, interface, struct, list, Shape, shape, Field as FieldNode, Schema, Body, pointer_slot}
 use Rattle.capnp_model.specs.Sizes.{object_words, each_object_words}
 use Rattle.capnp_model.specs.Trees.{Tree, structure, none, resized}
 use Rattle.capnp_model.specs.Calls.{Content, refused_by, object, empty_struct, init}
-use Rattle.capnp_model.specs.Edits.{Cell, put_child, put_field, mark, edit_field}
+use Rattle.capnp_model.specs.Edits.{Cell, put_child, put_field}
 use Rattle.capnp_units.specs.Segments.{words_in}
 use Rattle.capnp_units.specs.declared.errors.Error.{Error}
 use Rattle.capnp_units.specs.declared.kinds.ErrorKind.TheVariants.{SizeOverflow}
 use Rattle.capnp_wire.specs.Places.{place_view}
 use Rattle.capnp_object.specs.declared.place.Place as code
 use Rattle.capnp_footprints.proofs.Turns.{resized_count}
-use Rattle.capnp_queries.specs.Fields.{Entry, entry_in, union_in}
-use Rattle.capnp_queries.specs.Structs.{schema_around, shape_of_struct, id_of}
+use Rattle.capnp_queries.specs.Structs.{schema_around, id_of}
 use Rattle.capnp_queries.specs.Handles.{entry_of, IsFieldRecord}
 use Rattle.capnp_queries.specs.declared.structs.StructSchema.{StructSchema}
 use Rattle.capnp_queries.specs.declared.fields.Field.{Field}
 use Rattle.capnp_copy.specs.Allocations.{total_words, NoRoom}
 use Rattle.capnp_copy.specs.declared.fields.StructPlace.{StructPlace}
 use Rattle.capnp_builders.specs.Making.{ArenaState, Makes, WordsRefused}
-use Rattle.capnp_dynamic.specs.Calls.{edit_of, edit_entry}
-use Rattle.capnp_dynamic.specs.Edits.{Edits, marked, marked_in}
+use Rattle.capnp_dynamic.specs.Calls.{edit_of}
+use Rattle.capnp_dynamic.specs.Edits.{Edits, marked}
 use Rattle.capnp_dynamic.specs.Inside.{words_of_shape, pointers_of_shape}
 use Rattle.capnp_dynamic.specs.Inits.{struct_named, no_struct, struct_content, init_content, LeadsFrom, LiesBehind, LiesIn, StructNotMade}
 use Rattle.capnp_dynamic.specs.Puts.{PutsContent, ObjectRefused}
 use Rattle.capnp_dynamic.proofs.GroupFields.{body_is}
-use Rattle.capnp_dynamic.proofs.SetPointers.{object_made, written_after, puts_same, marked_last}
+use Rattle.capnp_dynamic.proofs.Verbs.{child_put as put_child_there, child_refused}
 
 -- ---- the struct of a shape
 
 empty_is : (g : Shape) → structure (words_of_shape g) 0 (resized (pointers_of_shape g) none) ≡ empty_struct g
 empty_is (shape nid w p u fs) = refl
 
-no_words : (p : ℕ) → each_object_words (resized p none) ≡ 0
+pub no_words : (p : ℕ) → each_object_words (resized p none) ≡ 0
 unfolding object_words
 no_words zero = refl
 no_words (suc p) = let h = no_words p in omega (arith, h)
@@ -83,21 +82,9 @@ some_struct s i ty d id e = ap (λ (o : Option ℕ). elim o as (λ (y : Option �
 pub none_made : (s : Schema) (i : ℕ) (ty : Ty) (d : Option Tree) → struct_named ty ≡ None → struct_content s (pointer_slot i ty d) ≡ refused_by (no_struct ty)
 none_made s i ty d e = ap (λ (o : Option ℕ). elim o as (λ (y : Option ℕ). Content) [ None ↦ refused_by (no_struct ty) | Some n ↦ object (empty_struct (s.shape_of n)) ]) e
 
-last_step : (s : Schema) (union : Option ℕ) (e : Entry) (c : Cell) → put_field s init e.body (mark union e.member c) ≡ edit_field s [] init union e.member e.body c
-unfolding edit_field
-last_step s union e c = refl
-
 module _ (f : Field) (r : FieldNode) (is : IsFieldRecord f.parent f.index r) (b : Body) (same : option_map (λ e. e.body) (entry_of f) ≡ Some b) where
   pub content_is : init_content (schema_around f.parent) (entry_of f) ≡ struct_content (schema_around f.parent) b
   content_is = ap (init_content (schema_around f.parent)) is.entry ∙ ap (struct_content (schema_around f.parent)) (body_is f r is b same)
-
-  pub edit_is : (c : Cell) → put_field (schema_around f.parent) init b (marked f c) ≡ edit_of f init c
-  edit_is c =
-      let s = schema_around f.parent in
-      let union = union_in (shape_of_struct f.parent) in
-      let e = entry_in (schema_around f.parent) r in
-      ap (λ x. put_field s init x (marked f c)) (sym (body_is f r is b same)) ∙ ap (λ o. put_field s init e.body (marked_in union o c)) is.entry
-      ∙ last_step s union e c ∙ ap (λ o. edit_entry f init o c) (sym is.entry)
 
   pub puts_as : {X : Type 0} (k : Content) → struct_content (schema_around f.parent) b ≡ k → (old new : ArenaState) (p : StructPlace) (x : Result X Error) → PutsContent old new p (edit_of f init) k x → PutsContent old new p (edit_of f init) (init_content (schema_around f.parent) (entry_of f)) x
   puts_as k e old new p x h = subst (λ k. PutsContent old new p (edit_of f init) k x) (sym (content_is ∙ e)) h
@@ -114,13 +101,7 @@ module _ (f : Field) (r : FieldNode) (is : IsFieldRecord f.parent f.index r) (i 
   pub inits : {X : Type 0} (old mid new : ArenaState) (p : StructPlace) (slot : code.Place) (x : X) → place_view slot ≡ after (after (place_view p.start) p.data_words) i → i < p.pointers → Makes old mid slot (empty_struct g) (words_of_shape g + pointers_of_shape g)
       → Edits (words_in mid.segments) (words_in new.segments) p (marked f) → map length (words_in new.segments) ≡ map length (words_in mid.segments) → PutsContent {X = X} old new p (edit_of f init) (init_content (schema_around f.parent) (entry_of f)) (Ok x)
   inits old mid new p slot x at_is l m k sizes =
-      let t = empty_struct g in
-      let made = object_made old mid p slot i at_is t (words_of_shape g + pointers_of_shape g) (empty_words g) l m in
-      let both = written_after old mid new p (put_child i t) (marked f) (object_words t) made k sizes in
-      let union = union_in (shape_of_struct f.parent) in
-      let whole = puts_same old new p (λ c. marked f (put_child i t c)) (edit_of f init) (object_words t)
-      (λ c. marked_last union (entry_of f) i t c ∙ child_put (marked f c) ∙ edit_is f r is (pointer_slot i ty d) same c) both in
-      puts_as f r is (pointer_slot i ty d) same (object t) content old new p (Ok x) (whole, tt)
+      puts_as f r is (pointer_slot i ty d) same (object (empty_struct g)) content old new p (Ok x) (put_child_there f r is i ty d same init (empty_struct g) child_put old mid new p slot x (words_of_shape g + pointers_of_shape g) (empty_words g) at_is l m k sizes)
 
   pub lies : (s u : Segments) (p o : StructPlace) (h : StructSchema) → schema_around h ≡ schema_around f.parent → Some (id_of h) ≡ struct_named ty → LeadsFrom s u p i o → LiesIn s u p (schema_around f.parent) (entry_of f) o h
   lies s u p o h around named_too leads =
@@ -130,5 +111,4 @@ module _ (f : Field) (r : FieldNode) (is : IsFieldRecord f.parent f.index r) (i 
   pub refuses : (X : Type 0) (old new : ArenaState) (p : StructPlace) (slot : code.Place) (e : Error) → place_view slot ≡ after (after (place_view p.start) p.data_words) i → WordsRefused old slot.segment (words_of_shape g + pointers_of_shape g) e
       → PutsContent {X = X} old new p (edit_of f init) (init_content (schema_around f.parent) (entry_of f)) (Err e)
   refuses X old new p slot e at_is h =
-      let here = subst (λ k. WordsRefused old k (words_of_shape g + pointers_of_shape g) e) (ap (λ (q : Place). q.segment) at_is) h in
-      puts_as f r is (pointer_slot i ty d) same (object (empty_struct g)) content old new p (Err e) (tt, refused_as old p.start.segment g e here)
+      puts_as f r is (pointer_slot i ty d) same (object (empty_struct g)) content old new p (Err e) (child_refused f r is i ty d same init (empty_struct g) child_put X old new p slot e at_is (refused_as old slot.segment g e h))

@@ -10,4 +10,7 @@ pub mod GroupFields
 pub mod Cleared
 pub mod SetSlots
 pub mod SetPointers
+pub mod Verbs
 pub mod InitSlots
+pub mod NewLists
+pub mod Begun

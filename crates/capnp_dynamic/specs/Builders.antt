@@ -1,5 +1,5 @@
 -- What contracts see of struct builders. (Encoding, "Structs")
-use Rattle.std.specs.Prelude.{◌≡◌, ℕ, ℤ, List, length, map, Result}
+use Rattle.std.specs.Prelude.{◌≡◌, ℕ, ℤ, List, length, map, Option, IfSome, Result}
 use Rattle.capnp_model.specs.Segments.{Segments}
 use Rattle.capnp_model.specs.Calls.{Content}
 use Rattle.capnp_model.specs.Edits.{Edit}
@@ -14,6 +14,7 @@ use Rattle.capnp_builders.specs.Making.{state_of}
 use Rattle.capnp_dynamic.specs.Edits.{IsThere, IsWide, Edits}
 use Rattle.capnp_dynamic.specs.Puts.{PutsContent}
 use Rattle.capnp_dynamic.specs.Inits.{LiesIn}
+use Rattle.capnp_dynamic.specs.Begun.{TellsBegun, IsPartThere}
 use Rattle.capnp_dynamic.specs.declared.init.Part.{Part}
 use Rattle.capnp_dynamic.specs.declared.dynamic_struct.Builder.{Builder}
 
@@ -63,3 +64,8 @@ pub record IsPartOf {A : Type 0} (bytes : A → List (List ℕ)) (old new : Buil
   pub lies : LiesIn (words_around bytes old) (words_around bytes new) old.place (schema_around f.parent) (entry_of f) part.place part.schema
   pub there : IsThere (words_around bytes new) part.place
   pub wide : IsWide part.place (shape_of_struct part.schema)
+
+-- What is told of a field that `init` began: of a struct or a group, where it lies under which schema; it is there, and all fields of its schema lie in it.
+pub record IsBegunBy {A : Type 0} (bytes : A → List (List ℕ)) (old new : Builder A) (f : Field) (part : Option Part) : Type 0 where
+  pub tells : TellsBegun (words_around bytes old) (words_around bytes new) old.place (schema_around f.parent) (entry_of f) part
+  pub there : IfSome part (IsPartThere (words_around bytes new))

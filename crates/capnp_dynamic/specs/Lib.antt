@@ -5,5 +5,7 @@ pub mod Given
 pub mod Blobs
 pub mod Puts
 pub mod Inits
+pub mod Begun
+pub mod NewLists
 pub mod Builders
 pub mod Lending

@@ -1,11 +1,13 @@
 //! Structs whose schema is known at run time, to write.
 ghost use Rattle.std.specs.Prelude.{◌≡◌, ◌↔◌, true, Ok, IsOkAnd, IfOk, OnOk, OnErr};
-ghost use Rattle.capnp_model.specs.Calls.{clear, init};
-ghost use Rattle.capnp_dynamic.specs.Builders.{IsReady, WritesInPlace, Stays, Puts, IsPartOf, struct_of};
+ghost use Rattle.capnp_model.specs.Calls.{clear, init, initn};
+ghost use Rattle.capnp_dynamic.specs.Builders.{IsReady, WritesInPlace, Stays, Puts, IsPartOf, IsBegunBy, struct_of};
 ghost use Rattle.capnp_dynamic.specs.Calls.{edit_of};
 ghost use Rattle.capnp_dynamic.specs.Given.{is_flat, set_content, set_edit};
 ghost use Rattle.capnp_dynamic.specs.Edits.{IsThere, IsWide};
+ghost use Rattle.capnp_dynamic.specs.Begun.{begun_field};
 ghost use Rattle.capnp_dynamic.specs.Inits.{init_content, is_slot};
+ghost use Rattle.capnp_dynamic.specs.NewLists.{initn_field};
 ghost use Rattle.capnp_units.specs.Segments.{words_in};
 ghost use Rattle.capnp_queries.specs.Structs.{schema_around, shape_of_struct};
 ghost use Rattle.capnp_queries.specs.Handles.{entry_of, IsFieldAt};
@@ -14,7 +16,9 @@ ghost use Rattle.capnp_wire.specs.Views.{struct_at};
 ghost use Rattle.capnp_values.specs.Sources.{struct_seen};
 ghost use Rattle.capnp_values.specs.Shown.{has_field, active_index, AnswersNamed, TellsField};
 
+use crate::begin::begin_field;
 use crate::init::{Part, init_slot};
+use crate::initn::initn_slot;
 use crate::setting::set_flat;
 use crate::slots::clear_field;
 use capnp_builders::struct_builder::StructBuilder;
@@ -217,6 +221,42 @@ impl<'a, A: BuilderArena> Builder<'a, A> {
     {
         let place = self.place;
         init_slot(&mut self.memory.arena, place, field)
+    }
+
+    /// Begins a field: `init`. A field of a struct's type gets a struct of zeros and nulls, as by `init_struct`; a group is cleared, as by `clear`; an untyped field becomes null. The old value is cleared. A union member becomes the active one. It tells where the struct or the group lies, which `part` lends, and nothing of an untyped field. A group and an untyped field take no memory.
+    ///
+    /// It is refused with `InitIsOnlyValidForStructAndAnyPointerFields` where the field is of another type; a struct with `SizeOverflow` just where the message's words, a pad counted, would pass 2^29 - 1, else as the allocator refuses. Then the struct is as it was, its union included.
+    pub fn init<'b>(&mut self, field: Field<'b>) -> Result<Option<Part<'b>>>
+        requires ready { IsReady A.segments self.old }
+        requires field { field.parent ≡ self.old.schema }
+        ensures same { self.new.memory.ghost_name ≡ self.old.memory.ghost_name }
+        ensures puts { Puts A.segments A.room A.books self.old self.new (edit_of field.entry init)
+            (begun_field (schema_around field.entry.parent) (entry_of field.entry)) result }
+        ensures begun { IfOk result (IsBegunBy A.segments self.old self.new field.entry) }
+        ensures refused { OnErr result (Stays A.segments self.old self.new) }
+        ensures books { A.books self.new.memory.now.arena ≡ A.books self.old.memory.now.arena }
+        ensures ready { IsReady A.segments self.new }
+    {
+        let place = self.place;
+        begin_field(&mut self.memory.arena, place, field)
+    }
+
+    /// Puts so many zeros into a field of a text's, of data's or of a list's type: `initn`. A text becomes so many zero bytes, with its own zero byte besides, data so many zero bytes, a list so many zeros, nulls or empty structs of its elements' type. The old value is cleared. A union member becomes the active one. The list takes its words, the tag of structs among them, where this one's segment has room for them, else at most one more.
+    ///
+    /// It is refused with `InitnIsOnlyValidForListTextOrDataFields` where the field is a group or of another type; with `SizeOverflow` just where the elements, structs' words or the message's words, a pad counted, would pass 2^29 - 1, else as the allocator refuses. Then the struct is as it was, its union included.
+    pub fn initn(&mut self, field: Field<'_>, count: u32) -> Result<()>
+        requires ready { IsReady A.segments self.old }
+        requires field { field.parent ≡ self.old.schema }
+        ensures same { self.new.memory.ghost_name ≡ self.old.memory.ghost_name }
+        ensures puts { Puts A.segments A.room A.books self.old self.new
+            (edit_of field.entry (initn count))
+            (initn_field (schema_around field.entry.parent) count (entry_of field.entry)) result }
+        ensures refused { OnErr result (Stays A.segments self.old self.new) }
+        ensures books { A.books self.new.memory.now.arena ≡ A.books self.old.memory.now.arena }
+        ensures ready { IsReady A.segments self.new }
+    {
+        let place = self.place;
+        initn_slot(&mut self.memory.arena, place, field, count)
     }
 
     /// The struct to read, under its schema. Its pointers are followed under the arena's nesting limit.

@@ -43,7 +43,7 @@ pub struct Part<'a> {
 }
 
 /// The two sizes of a schema's structs.
-fn struct_size(schema: StructSchema<'_>) -> StructSize
+pub(crate) fn struct_size(schema: StructSchema<'_>) -> StructSize
     ensures words { result.data_words ≡ words_of_shape (shape_of_struct schema.entry) }
     ensures pointers { result.pointers ≡ pointers_of_shape (shape_of_struct schema.entry) }
 {

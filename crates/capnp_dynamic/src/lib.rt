@@ -1,7 +1,9 @@
 //! Dynamic builders: values whose type is known at run time, written where they lie in a message.
 #![tactic(auto)]
 
+pub mod begin;
 pub mod dynamic_struct;
 pub mod init;
+pub mod initn;
 pub mod setting;
 pub mod slots;

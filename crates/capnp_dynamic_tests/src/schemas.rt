@@ -70,7 +70,29 @@ fn node(
     })
 }
 
-/// P (1): a UInt16, t Text. U (3): u, v UInt16 in a union. D (4): n UInt16 with default 5. G (5): group g (6) of x, y UInt16, and z UInt16. T (7): u UInt16, t Text, d Data, p untyped in a union.
+/// A struct of one pointer.
+fn holder(alloc: Global, id: u64, name: &str, ty: TypeRecord) -> Result<NodeRecord, AllocError> {
+    let slot = FieldBody::Slot {
+        offset: 0,
+        ty,
+        default: None,
+    };
+    Ok(NodeRecord {
+        id,
+        display_name: String::from_str(alloc, "node")?,
+        annotations: Vec::new(alloc),
+        body: NodeBody::Struct(StructRecord {
+            data_word_count: 0,
+            pointer_count: 1,
+            is_group: false,
+            discriminant_count: 0,
+            discriminant_offset: 0,
+            fields: vec![in alloc; field(alloc, name, NO_DISCRIMINANT, slot)?]?,
+        }),
+    })
+}
+
+/// P (1): a UInt16, t Text. U (3): u, v UInt16 in a union. D (4): n UInt16 with default 5. G (5): group g (6) of x, y UInt16, and z UInt16. T (7): u UInt16, t Text, d Data, p untyped in a union. Q (2): items List(P). R (8): child P.
 pub(crate) fn schemas(alloc: Global) -> Result<SchemaSet, Fail> {
     let none = NO_DISCRIMINANT;
     let p = vec![in alloc;
@@ -96,6 +118,10 @@ pub(crate) fn schemas(alloc: Global) -> Result<SchemaSet, Fail> {
         field(alloc, "d", 2, pointer(BaseType::Data))?,
         field(alloc, "p", 3, pointer(BaseType::AnyPointer))?,
     ]?;
+    let list = TypeRecord {
+        list_count: 1,
+        base: BaseType::Struct(1),
+    };
     let nodes = vec![in alloc;
         node(alloc, 1, 1, 0, false, p)?,
         node(alloc, 3, 0, 2, false, u)?,
@@ -103,6 +129,8 @@ pub(crate) fn schemas(alloc: Global) -> Result<SchemaSet, Fail> {
         node(alloc, 5, 0, 0, false, g)?,
         node(alloc, 6, 0, 0, true, inner)?,
         node(alloc, 7, 1, 4, false, t)?,
+        holder(alloc, 2, "items", list)?,
+        holder(alloc, 8, "child", of(BaseType::Struct(1)))?,
     ]?;
     Ok(SchemaSet::new(nodes).ok().ok_or("accepted")?)
 }

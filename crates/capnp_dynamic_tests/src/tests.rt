@@ -13,6 +13,8 @@ use capnp_copy::arena::{BuilderArena, Memory};
 use capnp_copy::fields::StructPlace;
 use capnp_copy::segments::BuilderArenaImpl;
 use capnp_dynamic::dynamic_struct::{Builder, has_sizes};
+use capnp_queries::fields::Field;
+use capnp_queries::slots::FieldPlace;
 use capnp_queries::structs::StructSchema;
 use capnp_records::set::SchemaSet;
 use capnp_text::text;
@@ -66,6 +68,10 @@ enum Change<'a> {
     Text(&'a str),
     Data(&'a [u8]),
     Clear,
+    Init,
+    InitMany(u32),
+    /// A struct is begun, and its number `a` set.
+    Child(u16),
 }
 
 /// A struct of zeros and nulls at the root, of a schema's two sizes.
@@ -85,6 +91,47 @@ fn begun<A: BuilderArena>(memory: &mut Memory<A>, schema: StructSchema<'_>) -> R
     Ok(object.place)
 }
 
+/// Begins a field of a struct's type, and sets the number `a` there.
+fn fill_child<A: BuilderArena>(
+    builder: &mut Builder<'_, A>,
+    field: Field<'_>,
+    number: u16,
+) -> Result<()>
+    requires ready { IsReady A.segments builder.old }
+    requires field { field.parent ≡ builder.old.schema }
+    ensures same { builder.new.memory.ghost_name ≡ builder.old.memory.ghost_name }
+    ensures books { A.books builder.new.memory.now.arena ≡ A.books builder.old.memory.now.arena }
+{
+    let FieldPlace::Pointer { .. } = field.place() else {
+        return Err(Error::from(ErrorKind::TypeMismatch));
+    };
+    let part = builder.init_struct(field)?;
+    let mut child = builder.part(part);
+    let mut lent = child.reborrow();
+    lent.set_named("a", Reader::<()>::UInt16(number))
+}
+
+/// Begins a field.
+fn begin<A: BuilderArena>(
+    builder: &mut Builder<'_, A>,
+    name: &str,
+    change: Change<'_>,
+) -> Result<()>
+    requires { IsReady A.segments builder.old }
+    ensures same { builder.new.memory.ghost_name ≡ builder.old.memory.ghost_name }
+    ensures books { A.books builder.new.memory.now.arena ≡ A.books builder.old.memory.now.arena }
+{
+    let field = builder.get_schema().get_field_by_name(name)?;
+    match change {
+        Change::InitMany(count) => builder.initn(field, count),
+        Change::Child(number) => fill_child(builder, field, number),
+        _ => {
+            builder.init(field)?;
+            Ok(())
+        }
+    }
+}
+
 /// Does a change by a handle.
 fn put<A: BuilderArena>(builder: &mut Builder<'_, A>, name: &str, change: Change<'_>) -> Result<()>
     requires { IsReady A.segments builder.old }
@@ -99,6 +146,7 @@ fn put<A: BuilderArena>(builder: &mut Builder<'_, A>, name: &str, change: Change
         }
         Change::Data(value) => builder.set_named(name, Reader::<()>::Data(value)),
         Change::Clear => builder.clear_named(name),
+        Change::Init | Change::InitMany(_) | Change::Child(_) => begin(builder, name, change),
     }
 }
 
@@ -300,6 +348,8 @@ fn a_refusal_leaves_the_union(rt: HostRuntime) -> std::result::Result<(), Fail> 
     let text = Change::Text("hi");
     let number = Change::Number(9);
     let untyped = ErrorKind::CannotSetAnyPointerFieldToAPrimitiveValue;
+    let unbegun = ErrorKind::InitIsOnlyValidForStructAndAnyPointerFields;
+    let unlisted = ErrorKind::InitnIsOnlyValidForListTextOrDataFields;
     for (name, change, kind) in [
         ("t", text, ErrorKind::OutOfMemory),
         ("d", Change::Data(b"hi"), ErrorKind::OutOfMemory),
@@ -308,11 +358,75 @@ fn a_refusal_leaves_the_union(rt: HostRuntime) -> std::result::Result<(), Fail> 
         ("u", text, ErrorKind::TypeMismatch),
         ("p", number, untyped),
         ("zz", text, ErrorKind::FieldNotFound),
+        ("u", Change::Init, unbegun),
+        ("t", Change::Init, unbegun),
+        ("u", Change::InitMany(2), unlisted),
+        ("p", Change::InitMany(2), unlisted),
+        ("t", Change::InitMany(2), ErrorKind::OutOfMemory),
+        ("d", Change::InitMany(0xffff_ffff), ErrorKind::SizeOverflow),
     ] {
         let edits = [(7, "u", Change::Number(7)), (7, name, change)];
         let (refusal, bytes) = run(alloc, &set, 3, 7, &edits)?;
         assert_eq!(rt; refusal, Some(kind), "at {name}");
         assert_eq!(rt; bytes.as_slice(), seven.as_slice(), "at {name}");
+    }
+    Ok(())
+}
+
+#[test]
+fn structs_and_groups_are_begun(rt: HostRuntime) -> std::result::Result<(), Fail> {
+    let alloc = rt.alloc();
+    let set = schemas(alloc)?;
+    let child = [(8, "child", Change::Child(7))];
+    let (none, bytes) = run(alloc, &set, 4, 8, &child)?;
+    assert_eq!(rt; none, None);
+    let expected = [
+        0, 0, 0, 0, 0, 0, 1, 0, 0, 0, 0, 0, 1, 0, 1, 0, 7, 0, 0, 0, 0, 0, 0, 0, 0, 0, 0, 0, 0, 0,
+        0, 0,
+    ];
+    assert_eq!(rt; bytes.as_slice(), expected.as_slice());
+    let group = [
+        (6, "y", Change::Number(2)),
+        (5, "z", Change::Number(3)),
+        (5, "g", Change::Init),
+    ];
+    let (none, bytes) = run(alloc, &set, 2, 5, &group)?;
+    assert_eq!(rt; none, None);
+    assert_eq!(rt;
+        bytes.as_slice(),
+        &[0, 0, 0, 0, 1, 0, 0, 0, 0, 0, 0, 0, 3, 0, 0, 0][..]
+    );
+    let untyped = [(7, "p", Change::Text("hi")), (7, "p", Change::Init)];
+    let (none, bytes) = run(alloc, &set, 4, 7, &untyped)?;
+    assert_eq!(rt; none, None);
+    let expected = [
+        0, 0, 0, 0, 1, 0, 1, 0, 0, 0, 3, 0, 0, 0, 0, 0, 0, 0, 0, 0, 0, 0, 0, 0, 0, 0, 0, 0, 0, 0,
+        0, 0,
+    ];
+    assert_eq!(rt; bytes.as_slice(), expected.as_slice());
+    Ok(())
+}
+
+#[test]
+fn lists_are_begun(rt: HostRuntime) -> std::result::Result<(), Fail> {
+    let alloc = rt.alloc();
+    let set = schemas(alloc)?;
+    let two = Change::InitMany(2);
+    let (none, bytes) = run(alloc, &set, 7, 2, &[(2, "items", two)])?;
+    assert_eq!(rt; none, None);
+    let mut expected = vec![in alloc;
+        0, 0, 0, 0, 0, 0, 1, 0, 1, 0, 0, 0, 0x27, 0, 0, 0, 8, 0, 0, 0, 1, 0, 1, 0,
+    ]?;
+    expected.resize(56, 0)?;
+    assert_eq!(rt; bytes.as_slice(), expected.as_slice());
+    for (name, member, size) in [("t", 1, 0x1a), ("d", 2, 0x12)] {
+        let (none, bytes) = run(alloc, &set, 4, 7, &[(7, name, two)])?;
+        assert_eq!(rt; none, None, "at {name}");
+        let expected = [
+            0, 0, 0, 0, 1, 0, 1, 0, 0, 0, member, 0, 0, 0, 0, 0, 1, 0, 0, 0, size, 0, 0, 0, 0, 0,
+            0, 0, 0, 0, 0, 0,
+        ];
+        assert_eq!(rt; bytes.as_slice(), expected.as_slice(), "at {name}");
     }
     Ok(())
 }

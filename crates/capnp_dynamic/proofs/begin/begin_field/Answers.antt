@@ -1,0 +1,53 @@
+use Rattle.std.proofs.Common.{Some, refl, sym, ap, ◌∙◌}
+use Rattle.capnp_model.specs.Accepted.{schema_of}
+use Rattle.capnp_units.specs.Segments.{words_in}
+use Rattle.capnp_records.specs.NodeViews.{field_of}
+use Rattle.capnp_copy.proofs.RoomLaws.{sizes_grow}
+use Rattle.capnp_queries.specs.Handles.{body_of_place}
+use Rattle.capnp_queries.specs.Types.{ty_of}
+use Rattle.capnp_queries.specs.declared.slots.FieldPlace.TheVariants as F
+use Rattle.capnp_dynamic.specs.Puts.{state_in}
+use Rattle.capnp_dynamic.proofs.Ready.{there_after, areas_inside}
+use Rattle.capnp_dynamic.proofs.GroupFields.{group_inside, member_inside}
+use Rattle.capnp_dynamic.proofs.Begun.{group_begun, group_told, null_begun}
+use Rattle.capnp_dynamic.proofs.begin.begin_field.Goals as goal
+
+pub returns-in-Group-clause-puts : goal.returns-in-Group-clause-puts
+returns-in-Group-clause-puts g c =
+    let at = state_in g.A.ReaderArena.segments g.A.BuilderArena.room g.A.BuilderArena.books in
+    group_begun c.args.field (field_of c.get_proto-said.result.now) c.get_proto-said.ensures c.in-Group.schema c.in-Group.ensures.body (at c.args.arena.now) (at c.clear_field.new.arena) c.args.object (Some (record { place = c.args.object; schema = c.in-Group.schema }))
+    c.clear_field.ensures.edits c.clear_field.ensures.sizes
+
+pub returns-in-Group-clause-tells : goal.returns-in-Group-clause-tells
+returns-in-Group-clause-tells g c =
+    group_told c.args.field (field_of c.get_proto-said.result.now) c.get_proto-said.ensures c.in-Group.schema c.in-Group.ensures.body (words_in (g.A.ReaderArena.segments c.args.arena.now)) (words_in (g.A.ReaderArena.segments c.clear_field.new.arena)) c.args.object (ap schema_of c.in-Group.ensures.of_set)
+
+pub returns-in-Group-clause-there : goal.returns-in-Group-clause-there
+returns-in-Group-clause-there g c =
+    let p = c.args.object in
+    let b = F.Group c.in-Group.schema in
+    let inside = member_inside c.args.field (field_of c.get_proto-said.result.now) c.get_proto-said.ensures (body_of_place b) c.in-Group.ensures.body p.data_words p.pointers c.requires.inside in
+    record {
+      there = there_after (words_in (g.A.ReaderArena.segments c.args.arena.now)) (words_in (g.A.ReaderArena.segments c.clear_field.new.arena)) p c.clear_field.ensures.sizes c.requires.there;
+      inside = group_inside p b c.in-Group.schema refl inside;
+    }
+
+pub returns-in-Group-clause-grows : goal.returns-in-Group-clause-grows
+returns-in-Group-clause-grows g c =
+    sizes_grow (words_in (g.A.ReaderArena.segments c.args.arena.now)) (words_in (g.A.ReaderArena.segments c.clear_field.new.arena)) c.clear_field.ensures.sizes
+
+pub returns-then-is_untyped-clause-puts : goal.returns-then-is_untyped-clause-puts
+returns-then-is_untyped-clause-puts g c =
+    let at = state_in g.A.ReaderArena.segments g.A.BuilderArena.room g.A.BuilderArena.books in
+    let e = sym c.is_untyped.ensures ∙ c.if-is_untyped.true in
+    null_begun c.args.field (field_of c.get_proto-said.result.now) c.get_proto-said.ensures c.in-Pointer.index (ty_of c.in-Pointer.ty) _ c.in-Pointer.ensures.body e (at c.args.arena.now) (at c.clear_field-then-is_untyped.new.arena) c.args.object
+    c.clear_field-then-is_untyped.ensures.edits c.clear_field-then-is_untyped.ensures.sizes
+
+pub returns-then-is_untyped-clause-grows : goal.returns-then-is_untyped-clause-grows
+returns-then-is_untyped-clause-grows g c =
+    sizes_grow (words_in (g.A.ReaderArena.segments c.args.arena.now)) (words_in (g.A.ReaderArena.segments c.clear_field-then-is_untyped.new.arena)) c.clear_field-then-is_untyped.ensures.sizes
+
+pub returns-in_ok-part-in-Pointer-clause-there : goal.returns-in_ok-part-in-Pointer-clause-there
+returns-in_ok-part-in-Pointer-clause-there g c =
+    let e = c.in_ok-part-in-Pointer.ensures in
+    record { there = e.there; inside = areas_inside c.in_ok-part-in-Pointer.part.schema c.in_ok-part-in-Pointer.part.place e.wide }

@@ -1,0 +1,79 @@
+use Rattle.std.proofs.Common.{◌≡◌, true, refl, sym, ap, subst, ◌∙◌}
+use Rattle.std.specs.Prelude.{⊤}
+use Rattle.std.specs.Option.{is_some}
+use Rattle.std.proofs.lemmas.Result.{err_from_is_err_and}
+use Rattle.capnp_model.specs.Accepted.{schema_of}
+use Rattle.capnp_model.specs.Calls.{object, initn, initn_content}
+use Rattle.capnp_model.specs.Kinds.{InitnIsOnlyValidForListTextOrDataFields}
+use Rattle.capnp_model.specs.Segments.{words_at}
+use Rattle.capnp_model.specs.Sizes.{object_words}
+use Rattle.capnp_units.specs.Segments.{words_in}
+use Rattle.capnp_records.specs.NodeViews.{field_of}
+use Rattle.capnp_records.specs.Sets.{nodes_of}
+use Rattle.capnp_wire.specs.Places.{place_view}
+use Rattle.capnp_queries.specs.Handles.{body_of_place}
+use Rattle.capnp_queries.specs.Structs.{nodes_around, schema_around}
+use Rattle.capnp_queries.specs.Types.{ty_of}
+use Rattle.capnp_queries.specs.declared.slots.FieldPlace.TheVariants as F
+use Rattle.capnp_dynamic.specs.NewLists.{tree_of_new}
+use Rattle.capnp_dynamic.specs.Puts.{state_in}
+use Rattle.capnp_dynamic.proofs.Ready.{pointer_there}
+use Rattle.capnp_dynamic.proofs.Grown.{same_grows}
+use Rattle.capnp_dynamic.proofs.GroupFields.{pointer_inside, member_inside}
+use Rattle.capnp_dynamic.proofs.Verbs.{child_put, child_refused}
+use Rattle.capnp_dynamic.proofs.NewLists.{initn_as, list_put}
+use Rattle.capnp_dynamic.proofs.initn.initn_slot.Goals as goal
+
+pub pointer_place-requires-clause-inside : goal.pointer_place-requires-clause-inside
+pointer_place-requires-clause-inside g c =
+    let p = c.args.object in
+    let b = F.Pointer c.in-Pointer.index c.in-Pointer.ty c.in-Pointer.default in
+    let inside = member_inside c.args.field (field_of c.get_proto-said.result.now) c.get_proto-said.ensures (body_of_place b) c.in-Pointer.ensures.body p.data_words p.pointers c.requires.inside in
+    pointer_inside p b c.in-Pointer.index c.in-Pointer.ty c.in-Pointer.default refl inside
+
+pub put_list-requires-clause-there : goal.put_list-requires-clause-there
+put_list-requires-clause-there g c =
+    let p = c.args.object in
+    let b = F.Pointer c.in-Pointer.index c.in-Pointer.ty c.in-Pointer.default in
+    let inside = member_inside c.args.field (field_of c.get_proto-said.result.now) c.get_proto-said.ensures (body_of_place b) c.in-Pointer.ensures.body p.data_words p.pointers c.requires.inside in
+    let l = pointer_inside p b c.in-Pointer.index c.in-Pointer.ty c.in-Pointer.default refl inside in
+    let s = words_in (g.A.ReaderArena.segments c.args.arena.now) in
+    subst (λ q. is_some (words_at s q 1) ≡ true) (sym c.pointer_place.ensures.place) (pointer_there s (place_view p.start) p.data_words p.pointers c.in-Pointer.index l c.requires.there.words)
+
+pub returns-in_err-put_list-in-Pointer-clause-puts : goal.returns-in_err-put_list-in-Pointer-clause-puts
+returns-in_err-put_list-in-Pointer-clause-puts g c =
+    let at = state_in g.A.ReaderArena.segments g.A.BuilderArena.room g.A.BuilderArena.books in
+    let h = err_from_is_err_and c.from_residual.result c.from_residual.ensures.1 in
+    let f = c.args.field in
+    let n = c.args.count in
+    let ty = ty_of c.in-Pointer.ty in
+    let t = tree_of_new c.in-Some.list n in
+    let nodes : nodes_of c.set.result.now ≡ nodes_around f.parent = c.set.ensures ∙ ap nodes_around c.parent.ensures in
+    let content : object t ≡ initn_content (schema_around f.parent) n ty InitnIsOnlyValidForListTextOrDataFields = c.in-Some.ensures.list n ∙ ap (λ ns. initn_content (schema_of ns) n ty InitnIsOnlyValidForListTextOrDataFields) nodes in
+    let r = field_of c.get_proto-said.result.now in
+    let put = list_put c.args.field r c.get_proto-said.ensures c.in-Pointer.index ty _ c.in-Pointer.ensures.body c.args.count t content in
+    rw (h.1, h.2) (initn_as c.args.field r c.get_proto-said.ensures c.in-Pointer.index ty _ c.in-Pointer.ensures.body c.args.count (object t) content (at c.args.arena.now) (at c.put_list.new.arena) c.args.object _
+    (child_refused c.args.field r c.get_proto-said.ensures c.in-Pointer.index ty _ c.in-Pointer.ensures.body (initn c.args.count) t put ⊤ (at c.args.arena.now) (at c.put_list.new.arena) c.args.object c.pointer_place.result c.in_err-put_list-in-Pointer.field-0.0 c.pointer_place.ensures.place c.in_err-put_list-in-Pointer.ensures.refused.0))
+
+pub returns-in_err-put_list-in-Pointer-clause-grows : goal.returns-in_err-put_list-in-Pointer-clause-grows
+returns-in_err-put_list-in-Pointer-clause-grows g c =
+    same_grows (g.A.ReaderArena.segments c.args.arena.now) (g.A.ReaderArena.segments c.put_list.new.arena) c.in_err-put_list-in-Pointer.ensures.refused.1.0
+
+pub returns-in_ok-put_list-in-Pointer-clause-puts : goal.returns-in_ok-put_list-in-Pointer-clause-puts
+returns-in_ok-put_list-in-Pointer-clause-puts g c =
+    let at = state_in g.A.ReaderArena.segments g.A.BuilderArena.room g.A.BuilderArena.books in
+    let f = c.args.field in
+    let p = c.args.object in
+    let n = c.args.count in
+    let b = F.Pointer c.in-Pointer.index c.in-Pointer.ty c.in-Pointer.default in
+    let inside = member_inside c.args.field (field_of c.get_proto-said.result.now) c.get_proto-said.ensures (body_of_place b) c.in-Pointer.ensures.body p.data_words p.pointers c.requires.inside in
+    let l = pointer_inside p b c.in-Pointer.index c.in-Pointer.ty c.in-Pointer.default refl inside in
+    let ty = ty_of c.in-Pointer.ty in
+    let t = tree_of_new c.in-Some.list n in
+    let nodes : nodes_of c.set.result.now ≡ nodes_around f.parent = c.set.ensures ∙ ap nodes_around c.parent.ensures in
+    let content : object t ≡ initn_content (schema_around f.parent) n ty InitnIsOnlyValidForListTextOrDataFields = c.in-Some.ensures.list n ∙ ap (λ ns. initn_content (schema_of ns) n ty InitnIsOnlyValidForListTextOrDataFields) nodes in
+    let r = field_of c.get_proto-said.result.now in
+    let put = list_put c.args.field r c.get_proto-said.ensures c.in-Pointer.index ty _ c.in-Pointer.ensures.body c.args.count t content in
+    initn_as c.args.field r c.get_proto-said.ensures c.in-Pointer.index ty _ c.in-Pointer.ensures.body c.args.count (object t) content (at c.args.arena.now) (at c.mark.new.arena) c.args.object _
+    (child_put c.args.field r c.get_proto-said.ensures c.in-Pointer.index ty _ c.in-Pointer.ensures.body (initn c.args.count) t put {X = ⊤} (at c.args.arena.now) (at c.put_list.new.arena) (at c.mark.new.arena) c.args.object c.pointer_place.result tt (object_words t) refl c.pointer_place.ensures.place l
+    c.in_ok-put_list-in-Pointer.ensures.made c.mark.ensures.edits c.mark.ensures.sizes)

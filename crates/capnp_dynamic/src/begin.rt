@@ -1,0 +1,78 @@
+//! Fields that are begun.
+ghost use Rattle.std.specs.Prelude.{◌≡◌, IfSome, IfOk, OnErr};
+ghost use Rattle.capnp_model.specs.Accepted.{areas_of};
+ghost use Rattle.capnp_model.specs.Calls.{init};
+ghost use Rattle.capnp_model.specs.Coverage.{Grows};
+ghost use Rattle.capnp_units.specs.Segments.{words_in};
+ghost use Rattle.capnp_queries.specs.Structs.{schema_around, shape_of_struct};
+ghost use Rattle.capnp_queries.specs.Handles.{entry_of};
+ghost use Rattle.capnp_queries.specs.Types.{ty_of};
+ghost use Rattle.capnp_dynamic.specs.Edits.{IsThere};
+ghost use Rattle.capnp_dynamic.specs.Inside.{LieIn};
+ghost use Rattle.capnp_dynamic.specs.Calls.{edit_of};
+ghost use Rattle.capnp_dynamic.specs.Begun.{begun_field, is_untyped, TellsBegun, IsPartThere};
+ghost use Rattle.capnp_dynamic.specs.Puts.{state_in, PutsContent};
+
+use crate::init::{Part, init_slot};
+use crate::slots::clear_field;
+use capnp_copy::arena::BuilderArena;
+use capnp_copy::fields::StructPlace;
+use capnp_queries::fields::Field;
+use capnp_queries::introspect::{Type, TypeVariant};
+use capnp_queries::slots::FieldPlace;
+use capnp_units::errors::{Error, Result};
+use capnp_units::kinds::ErrorKind;
+
+/// Whether a type is an untyped pointer's.
+fn is_untyped(ty: Type) -> bool
+    ensures { result ≡ is_untyped (ty_of ty) }
+{
+    match ty.which() {
+        TypeVariant::AnyPointer => true,
+        _ => false,
+    }
+}
+
+/// Begins a field: what `init` of a dynamic struct's builder does. A slot of a struct's type gets a struct of zeros and nulls, as by `init_slot`; a group is cleared, as by `clear`; an untyped slot becomes null. A union member becomes the active one. It tells where the struct or the group lies, and nothing of an untyped slot. A group and an untyped slot take no memory.
+///
+/// It is refused with `InitIsOnlyValidForStructAndAnyPointerFields` where the field is of another type; a struct with `SizeOverflow` just where the message's words, a pad counted, would pass 2^29 - 1, else as the allocator refuses. All is then as it was.
+pub fn begin_field<'a, A: BuilderArena>(
+    arena: &mut A,
+    object: StructPlace,
+    field: Field<'a>,
+) -> Result<Option<Part<'a>>>
+    requires there { IsThere (words_in (A.segments arena.old)) object }
+    requires inside { LieIn object.data_words object.pointers
+        (areas_of (shape_of_struct field.parent)) }
+    ensures puts { let at = state_in A.segments A.room A.books in
+        PutsContent (at arena.old) (at arena.new) object (edit_of field.entry init)
+        (begun_field (schema_around field.entry.parent) (entry_of field.entry)) result }
+    ensures tells { IfOk result
+        (TellsBegun (words_in (A.segments arena.old)) (words_in (A.segments arena.new)) object
+        (schema_around field.entry.parent) (entry_of field.entry)) }
+    ensures there { IfOk result (λ o.
+        IfSome o (IsPartThere (words_in (A.segments arena.new)))) }
+    ensures refused { OnErr result (A.segments arena.new ≡ A.segments arena.old) }
+    ensures grows { Grows (words_in (A.segments arena.old)) (words_in (A.segments arena.new)) }
+    ensures books { A.books arena.new ≡ A.books arena.old }
+{
+    let _said = field.get_proto();
+    match field.place() {
+        FieldPlace::Group { schema } => {
+            clear_field(arena, object, field);
+            let place = object;
+            Ok(Some(Part { place, schema }))
+        }
+        FieldPlace::Pointer { ty, .. } => {
+            if is_untyped(ty) {
+                clear_field(arena, object, field);
+                return Ok(None);
+            }
+            let part = init_slot(arena, object, field)?;
+            Ok(Some(part))
+        }
+        FieldPlace::Void { .. } | FieldPlace::Plain { .. } => {
+            Err(Error::from(ErrorKind::InitIsOnlyValidForStructAndAnyPointerFields))
+        }
+    }
+}
