@@ -1,15 +1,21 @@
 -- What contracts see of list builders. (Encoding, "Lists")
 use Rattle.std.specs.Prelude.{◌≡◌, ⊤, ℕ, List, Result, true}
 use Rattle.capnp_model.specs.Segments.{Segments}
+use Rattle.capnp_model.specs.Accepted.{schema_of}
+use Rattle.capnp_model.specs.Schemas.{struct}
 use Rattle.capnp_model.specs.Calls.{Content}
 use Rattle.capnp_model.specs.Edits.{Edit}
 use Rattle.capnp_units.specs.Segments.{words_in}
 use Rattle.capnp_units.specs.declared.errors.Error.{Error}
 use Rattle.capnp_builders.specs.Making.{state_of}
 use Rattle.capnp_records.specs.Sets.{nodes_of}
+use Rattle.capnp_queries.specs.Structs.{nodes_around, shape_of_struct, id_of}
 use Rattle.capnp_queries.specs.Types.{ty_of, is_type_of}
+use Rattle.capnp_dynamic.specs.Edits.{IsThere, IsWide}
+use Rattle.capnp_dynamic.specs.declared.init.Part.{Part}
 use Rattle.capnp_dynamic_lists.specs.Lists.{IsListThere}
-use Rattle.capnp_dynamic_lists.specs.Elements.{Holds}
+use Rattle.capnp_dynamic_lists.specs.Elements.{Holds, HoldsStructs}
+use Rattle.capnp_dynamic_lists.specs.Places.{IsStructAt}
 use Rattle.capnp_dynamic_lists.specs.Puts.{PutsContent}
 use Rattle.capnp_dynamic_lists.specs.declared.dynamic_list.Builder.{Builder}
 
@@ -22,7 +28,16 @@ module _ {A : Type 0} (bytes : A → List (List ℕ)) where
   pub record IsReady (b : Builder A) : Type 0 where
     pub there : IsListThere (words_around b) b.place
     pub holds : Holds b.place (ty_of b.element_type)
+    pub sizes : HoldsStructs (schema_of (nodes_of b.set.now)) b.place (ty_of b.element_type)
     pub known : is_type_of (nodes_of b.set.now) b.element_type ≡ true
+
+  -- Where the struct at an index lies, and under which schema: the elements'. It is there, and wide enough.
+  pub record IsPartAt (b : Builder A) (index : ℕ) (part : Part) : Type 0 where
+    pub lies : IsStructAt b.place index part.place
+    pub there : IsThere (words_around b) part.place
+    pub wide : IsWide part.place (shape_of_struct part.schema)
+    pub nodes : nodes_around part.schema ≡ nodes_of b.set.now
+    pub named : ty_of b.element_type ≡ struct (id_of part.schema)
 
   -- The handle and the message are as they were.
   pub record Stays (old new : Builder A) : Type 0 where

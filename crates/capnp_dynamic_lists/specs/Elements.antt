@@ -1,12 +1,12 @@
 -- What `set` puts into an element of a list. (Encoding, "Lists" and "Value Encoding")
 use Rattle.std.specs.Prelude.{ℕ, ⊤, Option, Some, None, List, Result, Ok, Err}
 use Rattle.capnp_model.specs.Kinds.{Kind, TypeMismatch, ListAnyPointerNotSupported}
-use Rattle.capnp_model.specs.Schemas.{PlainType, width, Ty, void, plain, text, blob, untyped, interface, struct, list}
+use Rattle.capnp_model.specs.Schemas.{PlainType, width, Ty, void, plain, text, blob, untyped, interface, struct, list, Schema}
 use Rattle.capnp_model.specs.Calls.{Content, refused_by, bits_of, object, blob_tree}
 use Rattle.capnp_model.specs.Edits.{Edit, put_in_element}
 use Rattle.capnp_values.specs.declared.dynamic_value.Reader.{Reader}
 use Rattle.capnp_dynamic.specs.Given.{plain_given, bits_given, bytes_given}
-use Rattle.capnp_dynamic_lists.specs.Lists.{HasRoom, HasPointer}
+use Rattle.capnp_dynamic_lists.specs.Lists.{HasRoom, HasPointer, HasSizes}
 use Rattle.capnp_copy.specs.declared.init.ListPlace.{ListPlace}
 
 -- The plain type that elements have.
@@ -14,12 +14,27 @@ abbrev pub plain_in : Ty → Option PlainType
 plain_in (plain p) = Some p
 plain_in _ = None
 
--- Elements of the type are there: plain ones with their bits, texts and data with their pointers.
+-- Elements of the type are there: plain ones with their bits, those behind pointers with these.
 abbrev pub Holds : ListPlace → Ty → Type 0
+Holds o void = Unit {0}
 Holds o (plain p) = HasRoom o (width p)
 Holds o text = HasPointer o
 Holds o blob = HasPointer o
-Holds o _ = Unit {0}
+Holds o untyped = HasPointer o
+Holds o interface = HasPointer o
+Holds o (struct id) = Unit {0}
+Holds o (list ty) = HasPointer o
+
+-- Structs have at least the sizes of their schema.
+abbrev pub HoldsStructs : Schema → ListPlace → Ty → Type 0
+HoldsStructs s o void = Unit {0}
+HoldsStructs s o (plain p) = Unit {0}
+HoldsStructs s o text = Unit {0}
+HoldsStructs s o blob = Unit {0}
+HoldsStructs s o untyped = Unit {0}
+HoldsStructs s o interface = Unit {0}
+HoldsStructs s o (struct id) = HasSizes o (s.shape_of id)
+HoldsStructs s o (list ty) = Unit {0}
 
 -- What a value that is Void, a truth value, a number or an enum's puts into an element of a type: bits of the type, and nothing into a Void one, which takes each.
 abbrev pub single_element : {A : Type 0} → Reader A → Ty → Content

@@ -3,6 +3,7 @@ use Rattle.std.specs.Prelude.{[]}
 use Rattle.std.specs.Borrow.{MutBor, Fml, RattleType, follows}
 use mir.Syntax.{named}
 use Rattle.capnp_copy.specs.contracts.arena.Memory as memory
+use Rattle.capnp_dynamic.specs.declared.dynamic_struct.Builder.{Builder as StructBuilder}
 use Rattle.capnp_dynamic_lists.specs.declared.dynamic_list.Builder.{Builder}
 use Rattle.capnp_dynamic_lists.specs.contracts.dynamic_list.Builder as list
 
@@ -10,4 +11,9 @@ module _ (A : RattleType) where
   -- a list
   abbrev pub Lends : MutBor (Builder A.Denot) → Builder A.Denot → Fml
   Lends s r =
+      follows (list.the_row (record { mir = named 1; lft = [] }) A) (memory.the_row A) s.ghost_name r.memory.ghost_name (λ w. record s.now { memory = record s.now.memory { now = w } })
+
+  -- one of its structs
+  abbrev pub LendsStruct : MutBor (Builder A.Denot) → StructBuilder A.Denot → Fml
+  LendsStruct s r =
       follows (list.the_row (record { mir = named 1; lft = [] }) A) (memory.the_row A) s.ghost_name r.memory.ghost_name (λ w. record s.now { memory = record s.now.memory { now = w } })

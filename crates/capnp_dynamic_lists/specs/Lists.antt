@@ -2,6 +2,7 @@
 use Rattle.std.specs.Prelude.{◌≡◌, ◌≢◌, ℕ, suc, ◌<◌, ◌≤◌}
 use Rattle.capnp_model.specs.Segments.{Segments}
 use Rattle.capnp_model.specs.Trees.{Tree, plain_list, pointer_list, struct_list, tree_count, element_count, size_bits}
+use Rattle.capnp_model.specs.Schemas.{Shape}
 use Rattle.capnp_model.specs.Edits.{Edit, edit_list}
 use Rattle.capnp_units.specs.Sizes.{size_number}
 use Rattle.capnp_footprints.specs.Footprints.{OwnsObject}
@@ -9,6 +10,7 @@ use Rattle.capnp_footprints.specs.Changes.{ReplacesObject}
 use Rattle.capnp_copy.specs.Elements.{IsWhole}
 use Rattle.capnp_copy.specs.Lists.{list_at}
 use Rattle.capnp_copy.specs.declared.init.ListPlace.{ListPlace}
+use Rattle.capnp_dynamic.specs.Inside.{words_of_shape, pointers_of_shape}
 
 -- A list lies whole, and its pointer counts its elements, or the words of its structs.
 pub record IsListThere (s : Segments) (o : ListPlace) : Type 0 where
@@ -31,6 +33,12 @@ pub record HasRoom (o : ListPlace) (width : ℕ) : Type 0 where
 pub record HasPointer (o : ListPlace) : Type 0 where
   pub pointers : size_number o.size ≢ 7 → size_number o.size ≡ 6
   pub structs : size_number o.size ≡ 7 → 0 < o.pointers
+
+-- The elements are structs of at least the sizes of a shape.
+pub record HasSizes (o : ListPlace) (g : Shape) : Type 0 where
+  pub structs : size_number o.size ≡ 7
+  pub words : words_of_shape g ≤ o.data_words
+  pub pointers : pointers_of_shape g ≤ o.pointers
 
 -- Whatever elements the list has: the one at an index becomes what the edit makes of it, and nothing else changes.
 abbrev pub EditsElement : Segments → Segments → ListPlace → (ℕ → ℕ → Edit) → ℕ → Type 0

@@ -1,21 +1,33 @@
 //! Lists whose elements' type is known at run time, to write.
-ghost use Rattle.std.specs.Prelude.{◌≡◌, ◌↔◌, ◌==◌, ◌<◌, ◌≤◌, true, OnErr};
+ghost use Rattle.std.specs.Prelude.{◌≡◌, ◌↔◌, ◌==◌, ◌<◌, ◌≤◌, true, None, Err, IfOk, OnErr};
+ghost use Rattle.capnp_model.specs.Accepted.{schema_of};
+ghost use Rattle.capnp_model.specs.Kinds.{TypeMismatch};
 ghost use Rattle.capnp_units.specs.Segments.{words_in};
 ghost use Rattle.capnp_records.specs.Sets.{nodes_of};
+ghost use Rattle.capnp_queries.specs.Structs.{shape_of_struct};
 ghost use Rattle.capnp_queries.specs.Types.{ty_of, is_type_of};
+ghost use Rattle.capnp_dynamic.specs.Edits.{IsThere, IsWide};
 ghost use Rattle.capnp_dynamic.specs.Given.{is_flat};
-ghost use Rattle.capnp_dynamic_lists.specs.Lists.{IsListThere, HasRoom, HasPointer};
-ghost use Rattle.capnp_dynamic_lists.specs.Elements.{Holds, flat_element, element_edit};
-ghost use Rattle.capnp_dynamic_lists.specs.Builders.{IsReady, Stays, Puts};
+ghost use Rattle.capnp_dynamic.specs.Inits.{struct_named};
+ghost use Rattle.capnp_dynamic.specs.Puts.{answered};
+ghost use Rattle.capnp_dynamic_lists.specs.Lists.{IsListThere, HasRoom, HasPointer, HasSizes};
+ghost use Rattle.capnp_dynamic_lists.specs.Elements.{Holds, HoldsStructs, flat_element, element_edit};
+ghost use Rattle.capnp_dynamic_lists.specs.Builders.{IsReady, IsPartAt, Stays, Puts};
 
 use crate::elements::{plain_type, set_flat};
+use crate::laws::elements_as_structs;
+use crate::places::element_struct;
 use capnp_builders::list_builder::ListBuilder;
 use capnp_copy::arena::{BuilderArena, Memory};
 use capnp_copy::init::ListPlace;
+use capnp_dynamic::dynamic_struct;
+use capnp_dynamic::init::Part;
 use capnp_dynamic::slots::width_of;
 use capnp_queries::introspect::{Type, TypeVariant};
+use capnp_queries::structs::StructSchema;
 use capnp_records::set::SchemaSet;
-use capnp_units::errors::Result;
+use capnp_units::errors::{Error, Result};
+use capnp_units::kinds::ErrorKind;
 use capnp_units::sizes::{ElementSize, data_bits_per_element};
 use capnp_values::dynamic_value;
 
@@ -42,16 +54,40 @@ fn has_pointer(place: ListPlace) -> bool
     }
 }
 
-/// Whether the elements of a list are there under their type, as its builder asks: plain ones with the bits of their type, texts and data with their pointers.
-pub fn holds<A: BuilderArena>(builder: &ListBuilder<'_, A>, element_type: Type) -> bool
-    ensures { (result ≡ true) ↔ Holds builder.now.place (ty_of element_type) }
+/// Whether the elements are structs of at least a schema's two sizes.
+fn has_sizes(place: ListPlace, schema: StructSchema<'_>) -> bool
+    ensures { (result ≡ true) ↔ HasSizes place (shape_of_struct schema.entry) }
+{
+    let record = schema.record();
+    match place.size {
+        ElementSize::InlineComposite => {
+            record.data_word_count <= place.data_words && record.pointer_count <= place.pointers
+        }
+        _ => false,
+    }
+}
+
+/// Whether the elements of a list are there under their type, as its builder asks: plain ones with the bits of their type, structs with their schema's two sizes, all others with their pointers.
+pub fn holds<A: BuilderArena>(
+    builder: &ListBuilder<'_, A>,
+    set: &SchemaSet,
+    element_type: Type,
+) -> bool
+    requires known { is_type_of (nodes_of set.now) element_type ≡ true }
+    ensures { (result ≡ true) ↔ (Holds builder.now.place (ty_of element_type)
+        × HoldsStructs (schema_of (nodes_of set.now)) builder.now.place (ty_of element_type)) }
 {
     let place = builder.place;
     if let Some(plain) = plain_type(element_type) {
         return has_room(place, width_of(plain));
     }
     match element_type.which() {
-        TypeVariant::Text | TypeVariant::Data => has_pointer(place),
+        TypeVariant::Struct(raw) => has_sizes(place, StructSchema::new(set, raw)),
+        TypeVariant::Text
+        | TypeVariant::Data
+        | TypeVariant::AnyPointer
+        | TypeVariant::Capability
+        | TypeVariant::List(_) => has_pointer(place),
         _ => true,
     }
 }
@@ -67,13 +103,16 @@ pub struct Builder<'a, A> {
 
 impl<'a, A: BuilderArena> Builder<'a, A> {
     ghost use Rattle.std.specs.Borrow.{sem};
-    ghost use Rattle.capnp_dynamic_lists.specs.Lending.{Lends};
+    ghost use Rattle.capnp_dynamic.specs.Builders.{IsReady as IsStructReady};
+    ghost use Rattle.capnp_dynamic_lists.specs.Lending.{Lends, LendsStruct};
 
     /// A list of elements of a type of the set. It lies whole, and its elements have the bits or the pointers of their type, as `holds` tells.
     pub fn new(builder: ListBuilder<'a, A>, set: &'a SchemaSet, element_type: Type) -> Self
         requires there { IsListThere (words_in (A.segments builder.memory.now.arena))
             builder.place }
         requires holds { Holds builder.place (ty_of element_type) }
+        requires sizes { HoldsStructs (schema_of (nodes_of set.now)) builder.place
+            (ty_of element_type) }
         requires known { is_type_of (nodes_of set.now) element_type ≡ true }
         ensures same { result.memory.ghost_name ≡ builder.entry.memory.ghost_name }
         ensures now { result.memory.now ≡ builder.entry.memory.now }
@@ -110,6 +149,43 @@ impl<'a, A: BuilderArena> Builder<'a, A> {
             place,
             set,
             element_type,
+        }
+    }
+
+    /// A struct of the same message that is there and wide enough for its schema, lent: one that `struct_at` tells, as long as the list stays where it is.
+    pub fn part<'b>(&'b mut self, part: Part<'b>) -> dynamic_struct::Builder<'b, A>
+        requires there { IsThere (words_in (A.segments self.old.memory.now.arena)) part.place }
+        requires wide { IsWide part.place (shape_of_struct part.schema) }
+        ensures* lends { sem 𝓛 (LendsStruct A.row self.entry result) }
+        ensures now { result.memory.now ≡ self.old.memory.now }
+        ensures place { result.place ≡ part.entry.place }
+        ensures schema { result.schema ≡ part.entry.schema }
+        ensures ready { IsStructReady A.segments result }
+    {
+        let Part { place, schema } = part;
+        let memory = &mut *self.memory;
+        dynamic_struct::Builder {
+            memory,
+            place,
+            schema,
+        }
+    }
+
+    /// Where the struct at an index lies, which is one of the list's, under the schema of the elements' type. `part` lends its handle, and `elements_as_structs` of the laws tells what is changed of the list with it. It is refused with `TypeMismatch` just where the elements are no structs.
+    pub fn struct_at(&self, index: u32) -> Result<Part<'a>>
+        requires ready { IsReady A.segments self.now }
+        requires index { index < self.now.place.count }
+        ensures part { IfOk result (IsPartAt A.segments self.now index) }
+        ensures refused { OnErr result ((answered result ≡ Err TypeMismatch)
+            × (struct_named (ty_of self.now.element_type) ≡ None)) }
+    {
+        elements_as_structs();
+        match self.element_type.which() {
+            TypeVariant::Struct(raw) => Ok(Part {
+                place: element_struct(self.place, index),
+                schema: StructSchema::new(self.set, raw),
+            }),
+            _ => Err(Error::from(ErrorKind::TypeMismatch)),
         }
     }
 

@@ -103,7 +103,7 @@ fn set_single<A: BuilderArena, B>(
 }
 
 /// Sets an element to a value without pointers, or a Void one to any. The value is looked at and memory taken first, so that a refusal leaves all as it was.
-pub(crate) fn set_flat<A: BuilderArena, B>(
+pub fn set_flat<A: BuilderArena, B>(
     arena: &mut A,
     list: ListPlace,
     ty: Type,

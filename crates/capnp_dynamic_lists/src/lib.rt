@@ -3,6 +3,6 @@
 
 mod blobs;
 pub mod dynamic_list;
-mod elements;
+pub mod elements;
 pub mod laws;
 pub mod places;

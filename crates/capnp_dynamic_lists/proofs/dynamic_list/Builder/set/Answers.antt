@@ -8,5 +8,6 @@ returns-clause-ready g c =
     record {
       there = list_grown (words_in (g.A.ReaderArena.segments old.memory.now.arena)) (words_in (g.A.ReaderArena.segments c.set_flat.new.arena)) old.place c.set_flat.ensures.grows c.requires.ready.there;
       holds = c.requires.ready.holds;
+      sizes = c.requires.ready.sizes;
       known = c.requires.ready.known;
     }
