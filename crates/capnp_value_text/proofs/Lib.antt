@@ -1,9 +1,5 @@
 pub mod Depths
-pub mod Defaults
-pub mod Empties
-pub mod Fillings
 pub mod Opened
 pub mod Rooted
-pub mod Suits
 pub mod Tellings
 pub mod Words

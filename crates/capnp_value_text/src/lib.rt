@@ -2,5 +2,4 @@
 #![tactic(auto)]
 
 pub mod field_text;
-mod printed;
 mod segment;

@@ -17,4 +17,4 @@ returns-clause-told c =
     let are = ap (λ (s : Segment). words_in (s.bytes.items ∷ [])) c.new-arena.ensures.segments ∙ c.in_ok-segment.ensures.words in
     let most : 2 ^ 29 ≤ 2147483647 = omega arith in
     let root = rooted c.words_mean_their_value.ensures.means t c.new-arena.result.nesting_limit 2147483647 (words_in (c.new-arena.result.segments.bytes.items ∷ [])) (ap levels c.new-arena.ensures.nesting) most c.requires.fits c.in_ok-segment.ensures.short are in
-    if_ok c.told_in.result (λ told h e at. h t root c.requires.structure c.requires.live e at) c.told_in.ensures.told
+    if_ok c.told_in.result (λ told h e at. h t root c.requires.structure e at) c.told_in.ensures.told

@@ -1,52 +1,26 @@
-use Rattle.std.proofs.Common.{Option, Some, None, option_map, List, ℕ, subst, ◌≡◌, sym}
-use Rattle.capnp_units.specs.Errors.{kind_of}
+use Rattle.std.proofs.Common.{rules, ◌≡◌, ◌++◌, ℕ, List, Ok, sym, ap, ◌∙◌, subst}
+use Rattle.capnp_model.specs.Readings.{record_as, record_of}
+use Rattle.capnp_units.specs.declared.kinds.ErrorKind.TheVariants.{OutOfMemory}
+use Rattle.capnp_queries.specs.Structs.{schema_around, shape_of_struct, id_of}
+use Rattle.capnp_queries.specs.declared.structs.StructSchema.{StructSchema}
 use Rattle.capnp_values.specs.Sources.{struct_seen}
-use Rattle.capnp_values.specs.Shown.{Shown, shown}
-use Rattle.capnp_value_text.specs.Told.{IsPrinted}
-use Rattle.capnp_value_text.proofs.Tellings.{field_stands, told_default, plain_is, told_fault, told_text, told_none}
+use Rattle.capnp_values.specs.Standing.{IsRecord}
+use Rattle.capnp_value_text.proofs.Tellings.{told_text, told_refused}
 use Rattle.capnp_value_text.proofs.field_text.told_in.Goals as goal
 
-printed_some : {V : Type 0} (o : Option V) (v : V) (view : V → List ℕ) (x : Shown) → o ≡ Some v → IsPrinted x (option_map view o) → IsPrinted x (Some (view v))
-printed_some o v view x e h = subst (λ z. IsPrinted x (option_map view z)) e h
-
-printed_none : {V : Type 0} (o : Option V) (view : V → List ℕ) (x : Shown) → o ≡ None → IsPrinted x (option_map view o) → IsPrinted x None
-printed_none o view x e h = subst (λ z. IsPrinted x (option_map view z)) e h
-
-pub returns-then-shows_default-clause-told : goal.returns-then-shows_default-clause-told
-returns-then-shows_default-clause-told g c t has is live e at =
-    let f = c.args.field in
+pub returns-in-Ok-clause-told : goal.returns-in-Ok-clause-told
+returns-in-Ok-clause-told g c t has structure e at =
     let v = struct_seen g.A.ReaderArena.segments c.in-Some.reader.source in
-    let got = c.get-got.ensures in
-    let of = field_stands c.records_are_read.ensures.fields f got.said c.parent.result c.parent.ensures v t got.is got.default (c.in-Some.ensures t has is).1 in
-    told_default f got.said got.is e at v t of live got.default c.shows_default.result c.shows_default.ensures c.if-shows_default.true
+    let P : StructSchema → Type 0 = λ s. IsRecord (schema_around s) (shape_of_struct s) v (record_as (record_of (schema_around s) (id_of s) t)) in
+    let is = subst P c.parent.ensures (c.in-Some.ensures.opens t has structure) in
+    let told = c.in-Ok.ensures.appends e at in
+    told_text c.fields_are_models.ensures c.args.field c.in-Some.reader.schema (c.in-Some.ensures.schema ∙ c.parent.ensures) v t is e at c.print_field.new.out.items
+    (told.1 ∙ ap (λ (z : List ℕ). Ok z) (sym (told.2 ∙ ap (λ (z : List ℕ). z ++ told.0) c.new-text.ensures.items)))
 
-pub returns-in_default-got-clause-told : goal.returns-in_default-got-clause-told
-returns-in_default-got-clause-told g c t has is live e at =
-    let f = c.args.field in
+pub returns-clause-told : goal.returns-clause-told
+returns-clause-told g c t has structure e at =
     let v = struct_seen g.A.ReaderArena.segments c.in-Some.reader.source in
-    let got = c.in_default-got.ensures in
-    let of = field_stands c.records_are_read.ensures.fields f got.said c.parent.result c.parent.ensures v t got.is got.default (c.in-Some.ensures t has is).1 in
-    let plain = plain_is f got.said got.is e at v t of live c.shows_default.result c.shows_default.ensures c.if-shows_default.false in
-    told_fault f got.said got.is e at v t of live plain (kind_of c.in_default-got.field-0.kind) (sym got.shows)
-
-pub returns-in-Some-2-clause-told : goal.returns-in-Some-2-clause-told
-returns-in-Some-2-clause-told g c t has is live e at =
-    let f = c.args.field in
-    let v = struct_seen g.A.ReaderArena.segments c.in-Some.reader.source in
-    let got = c.in-Ok.ensures in
-    let of = field_stands c.records_are_read.ensures.fields f got.said c.parent.result c.parent.ensures v t got.is got.default (c.in-Some.ensures t has is).1 in
-    let plain = plain_is f got.said got.is e at v t of live c.shows_default.result c.shows_default.ensures c.if-shows_default.false in
-    let x = shown g.A.ReaderArena.segments c.in-Ok.value in
-    let printed = printed_some c.in_ok-text.field-0 c.in-Some-2.text (λ v. v.items) x c.in-Some-2.is c.in_ok-text.ensures.text in
-    told_text f got.said got.is e at v t of live c.texts_are_models.ensures plain (shown g.A.ReaderArena.segments c.in-Ok.value) (sym got.shows) c.in-Some-2.text.items printed
-
-pub returns-in-None-clause-told : goal.returns-in-None-clause-told
-returns-in-None-clause-told g c t has is live e at =
-    let f = c.args.field in
-    let v = struct_seen g.A.ReaderArena.segments c.in-Some.reader.source in
-    let got = c.in-Ok.ensures in
-    let of = field_stands c.records_are_read.ensures.fields f got.said c.parent.result c.parent.ensures v t got.is got.default (c.in-Some.ensures t has is).1 in
-    let plain = plain_is f got.said got.is e at v t of live c.shows_default.result c.shows_default.ensures c.if-shows_default.false in
-    let x = shown g.A.ReaderArena.segments c.in-Ok.value in
-    let none = printed_none c.in_ok-text.field-0 (λ v. v.items) x c.in-None.is c.in_ok-text.ensures.text in
-    told_none f got.said got.is e at v t of live c.texts_are_models.ensures plain (shown g.A.ReaderArena.segments c.in-Ok.value) (sym got.shows) none.0 none.1
+    let P : StructSchema → Type 0 = λ s. IsRecord (schema_around s) (shape_of_struct s) v (record_as (record_of (schema_around s) (id_of s) t)) in
+    let is = subst P c.parent.ensures (c.in-Some.ensures.opens t has structure) in
+    let other : c.in-Err-2.field-0.kind ≡ OutOfMemory → ⊥ = search rules in
+    told_refused c.fields_are_models.ensures c.args.field c.in-Some.reader.schema (c.in-Some.ensures.schema ∙ c.parent.ensures) v t is e at c.in-Err-2.field-0 other (c.in-Err-2.ensures.appends e at)
