@@ -1,6 +1,7 @@
 //! Calls at the fields of small structs, and what they reply.
 
 mod paths;
+mod told;
 
 use capnp_calls::dynamic_struct::{Builder, data_words, pointers};
 use capnp_calls::open::open_struct;
