@@ -4,3 +4,4 @@ pub mod Begun
 pub mod Ends
 pub mod Behind
 pub mod Defaults
+pub mod GrownPaths

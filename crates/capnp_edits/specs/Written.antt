@@ -4,6 +4,7 @@ use Rattle.capnp_model.specs.Kinds.{WrongStep}
 use Rattle.capnp_model.specs.Segments.{Segments, Place, root}
 use Rattle.capnp_model.specs.Trees.{Tree, null, Trees, structure}
 use Rattle.capnp_model.specs.Traversal.{tree_at}
+use Rattle.capnp_model.specs.Coverage.{Grows}
 use Rattle.capnp_model.specs.Schemas.{Ty, Schema}
 use Rattle.capnp_model.specs.Readings.{Reading, read}
 use Rattle.capnp_model.specs.Calls.{Step, Verb}
@@ -27,6 +28,14 @@ abbrev pub EditsWhere : (Cell → Type 0) → Segments → Segments → StructPl
 EditsWhere Holds s u p f =
     (n section : ℕ) (kids : Trees) → OwnsObject n s (struct_at p) (structure p.data_words section kids) → Holds (record { section = section; kids = kids })
     → let d = f (record { section = section; kids = kids }) in (more : ℕ) × ReplacesObject (n + more) s u (struct_at p) (structure p.data_words d.section d.kids)
+
+-- Whatever struct is owned there: each segment of the message is there later too, and no shorter.
+abbrev pub GrowsAround : Segments → Segments → StructPlace → Type 0
+GrowsAround s u p = (n section : ℕ) (kids : Trees) → OwnsObject n s (struct_at p) (structure p.data_words section kids) → Grows s u
+
+-- Whatever value is owned there, the same.
+abbrev pub GrowsBehind : Segments → Segments → Place → Type 0
+GrowsBehind s u p = (n : ℕ) (t : Tree) → Owns n s p t → Grows s u
 
 -- ---- at a struct or a group
 

@@ -1,5 +1,6 @@
 //! Calls written where their paths end.
 ghost use Rattle.std.specs.Prelude.{◌≡◌, [], OnOk};
+ghost use Rattle.capnp_model.specs.Coverage.{Grows};
 ghost use Rattle.capnp_units.specs.Segments.{words_in};
 ghost use Rattle.capnp_queries.specs.Structs.{shape_of_struct};
 ghost use Rattle.capnp_calls.specs.CallViews.{action_view};
@@ -28,6 +29,7 @@ pub(crate) fn write_end<A: BuilderArena>(
     requires wide { IsWide object (shape_of_struct field.parent) }
     ensures writes { OnOk result (WritesField (words_in (A.segments arena.old))
         (words_in (A.segments arena.new)) object field.entry [] (action_view action.now)) }
+    ensures grows { Grows (words_in (A.segments arena.old)) (words_in (A.segments arena.new)) }
     ensures books { A.books arena.new ≡ A.books arena.old }
 {
     match action {

@@ -10,7 +10,7 @@ ghost use Rattle.capnp_queries.specs.Structs.{schema_around, shape_of_struct, id
 ghost use Rattle.capnp_calls.specs.CallViews.{step_view, action_view};
 ghost use Rattle.capnp_calls.specs.Taken.{starts_with_name};
 ghost use Rattle.capnp_dynamic.specs.Edits.{IsThere, IsWide};
-ghost use Rattle.capnp_edits.specs.Written.{WritesPath, WritesField, WritesValue, HoldsDefault};
+ghost use Rattle.capnp_edits.specs.Written.{WritesPath, WritesField, WritesValue, HoldsDefault, GrowsAround, GrowsBehind};
 
 use crate::default::default_of;
 use crate::end::write_end;
@@ -43,6 +43,8 @@ pub fn write_path<A: BuilderArena>(
     ensures writes { OnOk result (WritesPath (words_in (A.segments arena.old))
         (words_in (A.segments arena.new)) object schema.entry (map step_view path.now)
         (action_view action.now)) }
+    ensures grows { GrowsAround (words_in (A.segments arena.old))
+        (words_in (A.segments arena.new)) object }
     ensures books { A.books arena.new ≡ A.books arena.old }
 {
     let Some((name, rest)) = first_name(path) else {
@@ -72,6 +74,8 @@ fn write_behind<A: BuilderArena>(
     ensures writes { OnOk result (WritesField (words_in (A.segments arena.old))
         (words_in (A.segments arena.new)) object field.entry (map step_view rest.now)
         (action_view action.now)) }
+    ensures grows { GrowsAround (words_in (A.segments arena.old))
+        (words_in (A.segments arena.new)) object }
     ensures books { A.books arena.new ≡ A.books arena.old }
 {
     let holder = field.parent().record();
@@ -113,6 +117,8 @@ fn write_struct<A: BuilderArena>(
         → OnOk result (WritesValue (words_in (A.segments arena.old))
         (words_in (A.segments arena.new)) (place_view slot) (schema_around schema.entry)
         (struct (id_of schema.entry)) d (map step_view path.now) (action_view action.now)) }
+    ensures grows { GrowsBehind (words_in (A.segments arena.old))
+        (words_in (A.segments arena.new)) (place_view slot) }
     ensures books { A.books arena.new ≡ A.books arena.old }
 {
     let inner = struct_or_default(arena, slot, struct_size(schema), default)?;

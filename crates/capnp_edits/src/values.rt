@@ -2,6 +2,7 @@
 ghost use Rattle.std.specs.Prelude.{◌≡◌, ◌<◌, ◌^◌, [], IfSome, OnOk};
 ghost use Rattle.capnp_model.specs.Schemas.{width};
 ghost use Rattle.capnp_model.specs.Calls.{set_to, plain_content};
+ghost use Rattle.capnp_model.specs.Coverage.{Grows};
 ghost use Rattle.capnp_units.specs.Segments.{words_in};
 ghost use Rattle.capnp_queries.specs.Handles.{plain_of};
 ghost use Rattle.capnp_queries.specs.Structs.{shape_of_struct};
@@ -58,6 +59,7 @@ fn set_plain<A: BuilderArena>(
     ensures writes { OnOk result (WritesField (words_in (A.segments arena.old))
         (words_in (A.segments arena.new)) object field.entry []
         (set_to (slot_value_view value.now))) }
+    ensures grows { Grows (words_in (A.segments arena.old)) (words_in (A.segments arena.new)) }
     ensures books { A.books arena.new ≡ A.books arena.old }
 {
     let _said = field.get_proto();
@@ -98,6 +100,7 @@ pub(crate) fn set_value<A: BuilderArena>(
     ensures writes { OnOk result (WritesField (words_in (A.segments arena.old))
         (words_in (A.segments arena.new)) object field.entry []
         (set_to (slot_value_view value.now))) }
+    ensures grows { Grows (words_in (A.segments arena.old)) (words_in (A.segments arena.new)) }
     ensures books { A.books arena.new ≡ A.books arena.old }
 {
     let _said = field.get_proto();

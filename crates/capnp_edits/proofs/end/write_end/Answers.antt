@@ -10,6 +10,7 @@ use Rattle.capnp_dynamic.specs.Begun.{begun_field}
 use Rattle.capnp_dynamic.specs.NewLists.{initn_field}
 use Rattle.capnp_dynamic.specs.Puts.{state_in}
 use Rattle.capnp_edits.proofs.Ends.{edited_end, put_end}
+use Rattle.capnp_copy.proofs.RoomLaws.{sizes_grow}
 use Rattle.capnp_edits.proofs.end.write_end.Goals as goal
 
 pub clear_field-requires-clause-inside : goal.clear_field-requires-clause-inside
@@ -45,3 +46,6 @@ returns-in-Initn-clause-writes g c =
     let n = c.in-Initn.count in
     subst (λ a. OnOk c.initn_slot.result (WritesField s u c.args.object f [] (action_view a))) (sym c.in-Initn.is)
     (put_end (at c.args.arena.now) (at c.initn_slot.new.arena) c.args.object f (initn n) (initn_field (schema_around f.parent) n (entry_of f)) c.initn_slot.result c.initn_slot.ensures.puts)
+
+pub returns-in-Clear-clause-grows : goal.returns-in-Clear-clause-grows
+returns-in-Clear-clause-grows g c = sizes_grow (words_in (g.A.ReaderArena.segments c.args.arena.now)) (words_in (g.A.ReaderArena.segments c.clear_field.new.arena)) c.clear_field.ensures.sizes

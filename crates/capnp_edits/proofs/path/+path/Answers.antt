@@ -22,6 +22,7 @@ use Rattle.capnp_dynamic.proofs.GroupFields.{pointer_inside, member_inside}
 use Rattle.capnp_edits.specs.Written.{WritesPath, WritesField, WritesValue, HoldsDefault}
 use Rattle.capnp_edits.proofs.Outcomes.{by_name, by_group, by_pointer_path}
 use Rattle.capnp_edits.proofs.Behind.{on_ok, group_wide, type_is, struct_written, inner_wide}
+use Rattle.capnp_edits.proofs.GrownPaths.{refused_grows, got_grows, child_grows}
 use Rattle.capnp_edits.proofs.path.+path.Goals as goal
 
 -- ---- write_behind
@@ -128,3 +129,25 @@ write_struct-returns-clause-writes g t c = λ d holds. (
     on_ok c.write_path.result (WritesPath u w c.in_ok-inner.inner c.args.schema path v) (WritesValue s w (place_view c.args.slot) (schema_around c.args.schema) (struct (id_of c.args.schema)) d path v)
     (struct_written s u w (place_view c.args.slot) c.args.schema (option_copied c.args.default) c.struct_size.result c.in_ok-inner.inner c.struct_size.ensures.words c.struct_size.ensures.pointers c.in_ok-inner.ensures.got d holds v path c.requires.named) c.write_path.ensures.writes
     )
+
+-- ---- the message grows
+
+pub write_behind-returns-else-not-begins_with_name-clause-grows : goal.write_behind-returns-else-not-begins_with_name-clause-grows
+write_behind-returns-else-not-begins_with_name-clause-grows g t c =
+    let p = c.args.object in
+    let f = c.args.field in
+    let s = words_in (g.A.ReaderArena.segments c.args.arena.now) in
+    let u = words_in (g.A.ReaderArena.segments c.write_struct.new.arena) in
+    let b = F.Pointer c.in-Pointer.index c.in-Pointer.ty c.in-Pointer.default in
+    let areas = areas_inside f.parent p c.requires.wide in
+    let inside = member_inside f (field_of c.get_proto-said.result.now) c.get_proto-said.ensures (body_of_place b) c.in-Pointer.ensures.body p.data_words p.pointers areas in
+    let l = pointer_inside p b c.in-Pointer.index c.in-Pointer.ty c.in-Pointer.default refl inside in
+    child_grows s u p c.in-Pointer.index (place_view c.pointer_place-slot.result) l c.pointer_place-slot.ensures.place c.write_struct.ensures.grows
+
+pub write_struct-returns-in_err-inner-clause-grows : goal.write_struct-returns-in_err-inner-clause-grows
+write_struct-returns-in_err-inner-clause-grows g t c = λ n v own.
+    refused_grows (option_copied c.args.default) (words_in (g.A.ReaderArena.segments c.args.arena.now)) (words_in (g.A.ReaderArena.segments c.struct_or_default.new.arena)) (place_view c.args.slot) c.struct_size.result c.in_err-inner.field-0.0 c.in_err-inner.ensures.refused
+
+pub write_struct-returns-clause-grows : goal.write_struct-returns-clause-grows
+write_struct-returns-clause-grows g t c =
+    got_grows (words_in (g.A.ReaderArena.segments c.args.arena.now)) (words_in (g.A.ReaderArena.segments c.struct_or_default.new.arena)) (words_in (g.A.ReaderArena.segments c.write_path.new.arena)) (place_view c.args.slot) (option_copied c.args.default) c.struct_size.result c.in_ok-inner.inner c.in_ok-inner.ensures.got c.write_path.ensures.grows

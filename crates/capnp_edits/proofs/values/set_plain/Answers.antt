@@ -12,6 +12,7 @@ use Rattle.capnp_dynamic.proofs.Ready.{areas_inside, there_after, data_there}
 use Rattle.capnp_dynamic.proofs.GroupFields.{plain_inside, member_inside}
 use Rattle.capnp_dynamic.proofs.SetSlots.{fits_slot}
 use Rattle.capnp_edits.proofs.Ends.{bits_end, plain_end}
+use Rattle.capnp_copy.proofs.RoomLaws.{sizes_grow}
 use Rattle.capnp_edits.proofs.values.set_plain.Goals as goal
 
 pub mark-requires-clause-inside : goal.mark-requires-clause-inside
@@ -52,3 +53,7 @@ returns-in-Some-clause-writes g c =
     let u = words_in (g.A.ReaderArena.segments c.set_bits.new.arena) in
     plain_end c.args.field (field_of c.get_proto-said.result.now) c.get_proto-said.ensures (plain_of c.in-Plain.ty) c.in-Plain.offset c.in-Plain.default_bits c.in-Some.bits c.width_of-width.result c.in-Plain.ensures.body
     (slot_value_view c.args.value.now) (sym c.in-Some.ensures.content) c.width_of-width.ensures s m u c.args.object c.mark-in-Plain.ensures.edits c.set_bits.ensures.sets
+
+pub returns-in-Some-clause-grows : goal.returns-in-Some-clause-grows
+returns-in-Some-clause-grows g c =
+    sizes_grow (words_in (g.A.ReaderArena.segments c.args.arena.now)) (words_in (g.A.ReaderArena.segments c.set_bits.new.arena)) (c.set_bits.ensures.sizes ∙ c.mark-in-Plain.ensures.sizes)
