@@ -1,8 +1,7 @@
--- Which fields that are printed enter their defaults.
-use Rattle.std.proofs.Common.{◌≡◌, ℕ, ◌&&◌, not, Bool, true, false, Option, Some, option_map, refl, ap, sym, ◌∙◌, slice_get}
+-- Which fields enter their defaults.
+use Rattle.std.proofs.Common.{◌≡◌, ◌&&◌, not, Bool, true, false, Option, Some, option_map, refl, ap, sym, ◌∙◌, slice_get}
 use Rattle.capnp_model.specs.Schemas.{Field as FieldNode}
-use Rattle.capnp_model.specs.Readings.{is_active, only_if}
-use Rattle.capnp_model.specs.Printing.{is_shown}
+use Rattle.capnp_model.specs.Readings.{is_active}
 use Rattle.capnp_model.specs.Accepted.{field_body}
 use Rattle.capnp_queries.specs.Fields.{Entry, entry_in}
 use Rattle.capnp_queries.specs.Structs.{schema_around, fields_recorded}
@@ -11,18 +10,12 @@ use Rattle.capnp_queries.specs.declared.structs.StructSchema.{StructSchema}
 use Rattle.capnp_queries.specs.declared.fields.Field.{Field}
 use Rattle.capnp_wire.specs.Views.{StructView}
 use Rattle.capnp_values.specs.Shown.{discriminant_shown, is_active_field, is_null_slot, has_field}
-use Rattle.capnp_print.specs.ShownReadings.{left_of}
 use Rattle.capnp_print.specs.Defaults.{enters}
-use Rattle.capnp_print.specs.Parts.{IsPrinted, enters_there}
-use Rattle.capnp_print.proofs.Shows.{Read}
+use Rattle.capnp_print.specs.Parts.{IsActive, enters_there}
 
-module _ (s : StructSchema) (v : StructView) (f : Field) (said : FieldNode) (parent : f.parent ≡ s) (is : IsFieldRecord f.parent f.index said) (shown : IsPrinted s v f) where
+module _ (s : StructSchema) (v : StructView) (f : Field) (said : FieldNode) (parent : f.parent ≡ s) (is : IsFieldRecord f.parent f.index said) (live : IsActive s v f) where
   active : is_active said.member (discriminant_shown s v) ≡ true
-  active = by said.member (is_active said.member (discriminant_shown s v)) (shown (entry_in (schema_around f.parent) said) is.entry)
-    where
-      by : (m : Option ℕ) (a : Bool) → is_shown m (only_if a (Read (left_of v.levels) (schema_around s) v (field_body (schema_around f.parent).shape_of said.kind))) ≡ true → a ≡ true
-      by m true g = refl
-      by m false g = absurd cc
+  active = live (entry_in (schema_around f.parent) said) is.entry
 
   has_is : has_field v f ≡ not (is_null_slot v (Some (field_body (schema_around f.parent).shape_of said.kind)))
   has_is =

@@ -7,12 +7,14 @@ pub mod EnumNames
 pub mod ElementTexts
 pub mod EntersThere
 pub mod FieldTexts
+pub mod FieldModels
 pub mod Lighter
 pub mod Loops
 pub mod MemberWeights
 pub mod Models
 pub mod ModelTexts
 pub mod NullTexts
+pub mod Opening
 pub mod PrintedFields
 pub mod PrintedExamples
 pub mod Results

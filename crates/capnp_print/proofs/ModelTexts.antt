@@ -60,7 +60,7 @@ shown_same (Some (suc m)) (record_as r) = refl
 shown_same (Some (suc m)) (opaque t) = refl
 
 -- How a reading is understood: with a default that may stand there, or by a sound shape.
-abbrev SoundAs : As → Type 0
+abbrev pub SoundAs : As → Type 0
 SoundAs (as_type ty d) = IsDefault ty d
 SoundAs (as_group g) = SoundShape g
 
@@ -68,10 +68,10 @@ null_as : (how : As) → SoundAs how → IsDefault (type_of_as how) (default_of_
 null_as (as_type ty d) h = h
 null_as (as_group g) h = refl
 
-fields_of_shape : (g : Shape) → SoundShape g → SoundFields (shape_as no_schema (as_group g))
+pub fields_of_shape : (g : Shape) → SoundShape g → SoundFields (shape_as no_schema (as_group g))
 fields_of_shape (shape nid w p u fs) h = h.1
 
-body_as : (b : Body) → SoundBody b → SoundAs (as_body b)
+pub body_as : (b : Body) → SoundBody b → SoundAs (as_body b)
 body_as (void_slot j) h = refl
 body_as (plain_slot p at d) h = refl
 body_as (pointer_slot i ty d) h = h.2

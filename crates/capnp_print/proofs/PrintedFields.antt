@@ -31,12 +31,29 @@ member_shown s v d e k h =
     let P : Option ℕ → Type 0 = λ m. is_active (Some (suc k)) d ≡ is_shown m (only_if (is_active m d) (Read (left_of v.levels) s v e.body)) in
     subst P (sym h) (sym (shown_member (left_of v.levels) s v k e.body (is_active (Some (suc k)) d)))
 
+pub active_shown : (s : Schema) (v : StructView) (d : Option ℕ) (e : Entry) → field_shown s v d e ≡ true → is_active e.member d ≡ true
+active_shown s v d e h = by e.member (is_active e.member d) h
+  where
+    by : (m : Option ℕ) (a : Bool) → is_shown m (only_if a (Read (left_of v.levels) s v e.body)) ≡ true → a ≡ true
+    by m true g = refl
+    by m false g = absurd cc
+
 module _ (s : StructSchema) (v : StructView) (f : Field) (said : FieldNode) (parent : f.parent ≡ s) (is : IsFieldRecord f.parent f.index said) where
   pub entry_is : (e : Entry) → entry_of f ≡ Some e → e ≡ entry_in (schema_around f.parent) said
   entry_is e h = entry_same (entry_of f) e _ h is.entry
 
   member_is : (e : Entry) → entry_of f ≡ Some e → e.member ≡ said.member
   member_is e h = ap (λ (x : Entry). x.member) (entry_is e h)
+
+  -- a field that is no member is active
+  pub by_none : said.member ≡ None → (e : Entry) → entry_of f ≡ Some e → true ≡ is_active e.member (discriminant_shown s v)
+  by_none none e h = sym (ap (λ m. is_active m (discriminant_shown s v)) (member_is e h ∙ none))
+
+  -- a member by the active one
+  pub by_member : (active : Option ℕ) → AreActive s (discriminant_shown s v) active → (e : Entry) → entry_of f ≡ Some e → is_active said.member active ≡ is_active e.member (discriminant_shown s v)
+  by_member active are e h =
+      let there : field_at (fields_of_struct s) f.index ≡ Some e = ap (λ (z : StructSchema). field_at (fields_of_struct z) f.index) (sym parent) ∙ h in
+      ap (λ m. is_active m active) (sym (member_is e h)) ∙ are f.index e there
 
   -- a field that is no member, and the first member, by `has`
   pub by_has : (b : Bool) → b ≡ has_field v f → (said.member ≡ None) ⊎ (said.member ≡ Some 0) → (e : Entry) → entry_of f ≡ Some e → b ≡ field_shown (schema_around s) v (discriminant_shown s v) e
@@ -62,6 +79,13 @@ Member n = if n == 65535 then None else Some n
 
 pub none_said : (n : ℕ) → n ≡ 65535 → Member n ≡ None
 none_said n e = ap Member e
+
+pub some_said : (n : ℕ) → (n ≡ 65535 → ⊥) → Member n ≡ Some n
+some_said n h = by (n == 65535) refl
+  where
+    by : (b : Bool) → (n == 65535) ≡ b → Member n ≡ Some n
+    by true e = absurd (h (grind (arith, nat_tests)))
+    by false e = ap (λ b. if b then None else Some n) e
 
 pub first_said : (n : ℕ) → n ≡ 0 → Member n ≡ Some 0
 first_said n e = ap Member e

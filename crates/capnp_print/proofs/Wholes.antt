@@ -117,19 +117,12 @@ module _ (nulls : NullsAreRead) (s : StructSchema) (v : StructView) (f : Field) 
   body_same : e.body ≡ field_body (schema_around f.parent).shape_of said.kind
   body_same = ap (λ (x : Entry). x.body) entry_same
 
-  active_if : field_shown (schema_around s) v (discriminant_shown s v) e ≡ true → is_active e.member (discriminant_shown s v) ≡ true
-  active_if h = by e.member (is_active e.member (discriminant_shown s v)) h
-    where
-      by : (m : Option ℕ) (a : Bool) → is_shown m (only_if a (Read (left_of v.levels) (schema_around s) v e.body)) ≡ true → a ≡ true
-      by m true g = refl
-      by m false g = absurd cc
-
-  -- the reading of a field that is printed
-  read_same : field_shown (schema_around s) v (discriminant_shown s v) e ≡ true → field_read (schema_around s) v (discriminant_shown s v) e ≡ Read (left_of v.levels) (schema_around s) v e.body
-  read_same h = ap (λ a. only_if a (Read (left_of v.levels) (schema_around s) v e.body)) (active_if h)
+  -- the reading of a field that is no member, or the active one
+  read_same : is_active e.member (discriminant_shown s v) ≡ true → field_read (schema_around s) v (discriminant_shown s v) e ≡ Read (left_of v.levels) (schema_around s) v e.body
+  read_same h = ap (λ a. only_if a (Read (left_of v.levels) (schema_around s) v e.body)) h
 
   -- its text
-  member_is : (left : ℕ) (style : Style) → field_shown (schema_around s) v (discriminant_shown s v) e ≡ true
+  member_is : (left : ℕ) (style : Style) → is_active e.member (discriminant_shown s v) ≡ true
       → member_text left style s v e ≡ printed (schema_around f.parent) as_it_is (null_printed (schema_around f.parent) as_it_is left) style (as_body (field_body (schema_around f.parent).shape_of said.kind)) (Read (left_of v.levels) (schema_around f.parent) v (field_body (schema_around f.parent).shape_of said.kind))
   member_is left style h =
       ap (printed (schema_around s) as_it_is (null_printed (schema_around s) as_it_is left) style (as_body e.body)) (read_same h)
@@ -137,7 +130,7 @@ module _ (nulls : NullsAreRead) (s : StructSchema) (v : StructView) (f : Field) 
       ∙ ap (λ (z : StructSchema). printed (schema_around z) as_it_is (null_printed (schema_around z) as_it_is left) style (as_body (field_body (schema_around f.parent).shape_of said.kind)) (Read (left_of v.levels) (schema_around z) v (field_body (schema_around f.parent).shape_of said.kind))) (sym parent)
 
   -- one that isn't entered
-  pub member_here : (left : ℕ) (style : Style) → field_shown (schema_around s) v (discriminant_shown s v) e ≡ true → enters_there v (schema_around f.parent) said.kind ≡ false → text_or_fault left style (kind_shown (schema_around f.parent) v said.kind) ≡ member_text left style s v e
+  pub member_here : (left : ℕ) (style : Style) → is_active e.member (discriminant_shown s v) ≡ true → enters_there v (schema_around f.parent) said.kind ≡ false → text_or_fault left style (kind_shown (schema_around f.parent) v said.kind) ≡ member_text left style s v e
   member_here left style h not = by (is_null_slot v (Some (field_body (schema_around f.parent).shape_of said.kind))) refl (enters said.kind) refl not ∙ sym (member_is left style h)
     where
       by : (n : Bool) → is_null_slot v (Some (field_body (schema_around f.parent).shape_of said.kind)) ≡ n → (m : Bool) → enters said.kind ≡ m → (is_null_slot v (Some (field_body (schema_around f.parent).shape_of said.kind)) && enters said.kind) ≡ false
@@ -152,10 +145,10 @@ module _ (nulls : NullsAreRead) (s : StructSchema) (v : StructView) (f : Field) 
   both_true false b h = absurd cc
 
   -- one that is
-  pub member_entered : (left : ℕ) (style : Style) → field_shown (schema_around s) v (discriminant_shown s v) e ≡ true → enters_there v (schema_around f.parent) said.kind ≡ true → text_or_fault left style (kind_shown (schema_around f.parent) v said.kind) ≡ member_text (suc left) style s v e
+  pub member_entered : (left : ℕ) (style : Style) → is_active e.member (discriminant_shown s v) ≡ true → enters_there v (schema_around f.parent) said.kind ≡ true → text_or_fault left style (kind_shown (schema_around f.parent) v said.kind) ≡ member_text (suc left) style s v e
   member_entered left style h told = field_entered nulls (schema_around f.parent) v left style said.kind (both_true _ _ told) good ∙ sym (member_is (suc left) style h)
 
-  pub member_refused : (style : Style) → field_shown (schema_around s) v (discriminant_shown s v) e ≡ true → enters_there v (schema_around f.parent) said.kind ≡ true → member_text 0 style s v e ≡ Err NestingLimitExceeded
+  pub member_refused : (style : Style) → is_active e.member (discriminant_shown s v) ≡ true → enters_there v (schema_around f.parent) said.kind ≡ true → member_text 0 style s v e ≡ Err NestingLimitExceeded
   member_refused style h told = member_is 0 style h ∙ field_refused nulls (schema_around f.parent) v style said.kind (both_true _ _ told) good
 
   -- weights

@@ -2,8 +2,8 @@ pub mod Texts
 pub mod ShownReadings
 pub mod Printed
 pub mod Answers
-pub mod Models
 pub mod Singles
 pub mod Defaults
 pub mod Members
 pub mod Parts
+pub mod Models

@@ -5,13 +5,19 @@ use Rattle.capnp_model.specs.Trees.{null}
 use Rattle.capnp_model.specs.Schemas.{TypeRecord, type_of, Node}
 use Rattle.capnp_model.specs.Accepted.{schema_of, IsAccepted}
 use Rattle.capnp_model.specs.Readings.{Reading, inactive, null_pointer, fault, number, text_of, blob_of, list_of, record_as, opaque, Readings, no_readings, ◌▹◌, Record, no_more, entry}
-use Rattle.capnp_model.specs.Printing.{Style, print, nulls_as}
+use Rattle.capnp_model.specs.Printing.{Style, as_body, print, nulls_as}
+use Rattle.capnp_queries.specs.Fields.{Entry, field_at}
+use Rattle.capnp_queries.specs.Structs.{schema_around, shape_of_struct, fields_of_struct}
+use Rattle.capnp_queries.specs.declared.structs.StructSchema.{StructSchema}
+use Rattle.capnp_wire.specs.Views.{StructView}
+use Rattle.capnp_values.specs.Records.{reading_at}
 use Rattle.capnp_values.specs.Shown.{Shown, a_number, an_enum, a_text, a_blob, a_struct, a_list, a_pointer, a_capability}
-use Rattle.capnp_values.specs.Standing.{IsReading}
+use Rattle.capnp_values.specs.Standing.{IsReading, IsRecord}
 use Rattle.capnp_print.specs.Texts.{as_it_is}
 use Rattle.capnp_print.specs.ShownReadings.{reading_of}
-use Rattle.capnp_print.specs.Printed.{schema_shown, as_shown, shown_text}
+use Rattle.capnp_print.specs.Printed.{text_in, schema_shown, as_shown, shown_text}
 use Rattle.capnp_print.specs.Answers.{IsTextOf}
+use Rattle.capnp_print.specs.Parts.{member_text}
 
 abbrev mutual
   -- A reading, with untyped pointers and capabilities unopened.
@@ -56,3 +62,8 @@ abbrev pub TextsAreModels : Type 0
 TextsAreModels = (nodes : List Node) (x : Shown) (r : Reading) → IsAccepted nodes → IsOfNodes nodes x → IsReading (schema_of nodes) x r → (style : Style)
     → let s = schema_shown x in let text = print s as_it_is (nulls_as s as_it_is 64) style (as_shown x) r in
     ((bytes : List ℕ) → IsTextOf style x bytes → text ≡ Some bytes) × ((kind : Kind) → shown_text 64 style x ≡ Err kind → text ≡ None)
+
+-- The text of a field of a struct is the model's text of what the struct's record has there; where the model has none, there is a fault in its place.
+abbrev pub FieldsAreModels : Type 0
+FieldsAreModels = (s : StructSchema) (v : StructView) (i : ℕ) (e : Entry) (r : Record) → field_at (fields_of_struct s) i ≡ Some e → IsRecord (schema_around s) (shape_of_struct s) v (record_as r) → (style : Style)
+    → let around = schema_around s in text_in (member_text 64 style s v e) ≡ print around as_it_is (nulls_as around as_it_is 64) style (as_body e.body) (reading_at i r)

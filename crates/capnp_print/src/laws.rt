@@ -1,5 +1,5 @@
 //! Laws of printed text, each the contract of an empty function: a call of it brings its clauses.
-ghost use Rattle.capnp_print.specs.Models.{WholesAreRead, TextsAreModels};
+ghost use Rattle.capnp_print.specs.Models.{WholesAreRead, TextsAreModels, FieldsAreModels};
 
 use capnp_values::laws::pointers_are_read;
 
@@ -13,6 +13,13 @@ pub fn wholes_are_read()
 /// The text of what a value of an accepted set shows is the model's text of what the model reads of it, in both forms, with null pointers as the model prints them; and there is a fault in place of the text just where the model has none.
 pub fn texts_are_models()
     ensures { TextsAreModels }
+{
+    pointers_are_read();
+}
+
+/// The text of a field of a struct, as `print_field` appends it, is the model's text of what the struct's record has there, in both forms: a null pointer is its default, which is the first of the 64 that may be entered, else the empty value. There is a fault in place of the text just where the model has none, as of a union member that isn't active.
+pub fn fields_are_models()
+    ensures { FieldsAreModels }
 {
     pointers_are_read();
 }

@@ -2,6 +2,7 @@
 #![tactic(auto)]
 
 mod defaults;
+mod fields;
 pub mod laws;
 mod members;
 mod names;

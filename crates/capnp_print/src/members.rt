@@ -6,8 +6,9 @@ ghost use Rattle.capnp_queries.specs.Handles.{entry_of, IsFieldRecord};
 ghost use Rattle.capnp_values.specs.Sources.{struct_seen};
 ghost use Rattle.capnp_values.specs.Shown.{discriminant_shown};
 ghost use Rattle.capnp_model.specs.Schemas.{Field as FieldNode};
+ghost use Rattle.capnp_model.specs.Readings.{is_active};
 ghost use Rattle.capnp_print.specs.Members.{AreActive, field_shown};
-ghost use Rattle.capnp_print.specs.Parts.{IsPrinted, enters_there};
+ghost use Rattle.capnp_print.specs.Parts.{IsActive, enters_there};
 
 use crate::defaults::has_default;
 use capnp_queries::fields::Field;
@@ -27,6 +28,28 @@ pub(crate) fn active_member<A: ReaderArena>(
     match reader.which()? {
         None => Ok(None),
         Some(field) => Ok(Some(field.get_proto().discriminant_value)),
+    }
+}
+
+/// Whether a field is no union member, or the active one.
+pub(crate) fn is_active<A: ReaderArena>(
+    reader: dynamic_struct::Reader<'_, A>,
+    field: Field<'_>,
+) -> Result<bool>
+    requires { field.parent ≡ reader.schema }
+    ensures { let r = reader.entry in
+        IsOkAnd result (λ b.
+        (e : Entry) → entry_of field.entry ≡ Some e
+        → b ≡ is_active e.member
+        (discriminant_shown r.schema (struct_seen A.segments r.source))) }
+{
+    let member = field.get_proto().discriminant_value;
+    if member == NO_DISCRIMINANT {
+        return Ok(true);
+    }
+    match active_member(reader)? {
+        None => Ok(false),
+        Some(value) => Ok(value == member),
     }
 }
 
@@ -57,13 +80,13 @@ pub(crate) fn is_printed<A: ReaderArena>(
     }
 }
 
-/// Whether a field that is printed is a null pointer that prints as a default, whose root isn't null.
+/// Whether a field that is no member, or the active one, is a null pointer that prints as a default, whose root isn't null.
 pub(crate) fn enters_default<A: ReaderArena>(
     reader: dynamic_struct::Reader<'_, A>,
     field: Field<'_>,
 ) -> Result<bool>
     requires parent { field.parent ≡ reader.schema }
-    requires printed { IsPrinted reader.schema (struct_seen A.segments reader.source) field }
+    requires active { IsActive reader.schema (struct_seen A.segments reader.source) field }
     ensures { let v = struct_seen A.segments reader.entry.source in let f = field.entry in
         IsOkAnd result (λ b.
         (said : FieldNode) → IsFieldRecord f.parent f.index said

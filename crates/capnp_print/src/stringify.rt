@@ -1,14 +1,23 @@
 //! Printed text of dynamic values.
-ghost use Rattle.std.specs.Prelude.{◌≡◌};
+ghost use Rattle.std.specs.Prelude.{◌≡◌, Some, OnErr};
+ghost use Rattle.capnp_queries.specs.Fields.{Entry};
+ghost use Rattle.capnp_queries.specs.Handles.{entry_of};
 ghost use Rattle.capnp_values.specs.Shown.{shown};
+ghost use Rattle.capnp_values.specs.Sources.{struct_seen};
 ghost use Rattle.capnp_print.specs.Texts.{style_of};
 ghost use Rattle.capnp_model.specs.Printing.{on_one_line};
-ghost use Rattle.capnp_print.specs.Answers.{style_named, model_text, Prints};
+ghost use Rattle.capnp_print.specs.Answers.{style_named, model_text, Appends, Prints};
+ghost use Rattle.capnp_print.specs.Parts.{member_text};
 
+use crate::fields::open_member;
+use crate::members::is_active;
 use crate::single::Indent;
 use crate::values::push_value;
-use capnp_units::errors::Result;
-use capnp_values::dynamic_value;
+use capnp_queries::fields::Field;
+use capnp_units::errors::{Error, Result};
+use capnp_units::kinds::ErrorKind;
+use capnp_values::laws::nulls_are_read;
+use capnp_values::{dynamic_struct, dynamic_value};
 use capnp_wire::arena::ReaderArena;
 use std::alloc::Global;
 use std::fmt;
@@ -43,6 +52,34 @@ pub fn print<A: ReaderArena>(
     let indent = form(alternate);
     let mut text = Vec::new(*out.allocator());
     push_value(value, indent, DEFAULTS, &mut text)?;
+    out.append(&mut text)?;
+    Ok(())
+}
+
+/// Appends the text of one field of a struct, as a `get` of the field shows it: of a group or a value as `print` writes it; of a null pointer, its default, which is the first of the 64 that may be entered in one another, else the empty value.
+///
+/// A union member that isn't the active one is refused with `InactiveMember`. Else it is refused as `print` is, also by the fault at the field's own pointer. Then nothing is appended.
+pub fn print_field<A: ReaderArena>(
+    reader: dynamic_struct::Reader<'_, A>,
+    field: Field<'_>,
+    alternate: bool,
+    out: &mut Vec<u8>,
+) -> Result<()>
+    requires parent { field.parent ≡ reader.schema }
+    ensures appends { let r = reader.entry in
+        (e : Entry) → entry_of field.entry ≡ Some e
+        → Appends (member_text 64 (style_named alternate) r.schema
+        (struct_seen A.segments r.source) e) out.old.items result out.new.items }
+    ensures stays { OnErr result (out.new.items ≡ out.old.items) }
+{
+    nulls_are_read();
+    if !is_active(reader, field)? {
+        return Err(Error::from(ErrorKind::InactiveMember));
+    }
+    let indent = form(alternate);
+    let opened = open_member(reader, field, DEFAULTS)?;
+    let mut text = Vec::new(*out.allocator());
+    push_value(opened.value, indent, opened.left, &mut text)?;
     out.append(&mut text)?;
     Ok(())
 }

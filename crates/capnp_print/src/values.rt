@@ -13,12 +13,12 @@ ghost use Rattle.capnp_print.specs.Printed.{shown_text};
 ghost use Rattle.capnp_print.specs.Parts.{fields_text, member_text, elements_text, IsPrinted};
 ghost use Rattle.capnp_print.specs.Answers.{Appends};
 
-use crate::members::{active_member, enters_default, is_printed};
+use crate::fields::open_member;
+use crate::members::{active_member, is_printed};
 use crate::names::{inner, push_end, push_mark, push_name, push_single};
 use crate::single::Indent;
 use capnp_queries::fields::{Field, FieldList};
-use capnp_units::errors::{Error, Result};
-use capnp_units::kinds::ErrorKind;
+use capnp_units::errors::Result;
 use capnp_values::dynamic_value::Reader;
 use capnp_values::laws::nulls_are_read;
 use capnp_values::{dynamic_list, dynamic_struct};
@@ -115,17 +115,8 @@ fn push_member<A: ReaderArena>(
         e) out.old.items result out.new.items }
 {
     nulls_are_read();
-    let enters = enters_default(reader, field)?;
-    let got = reader.get(field);
-    if !enters {
-        let value = got?;
-        return push_value(value, indent, left, out);
-    }
-    if left == 0 {
-        return Err(Error::from(ErrorKind::NestingLimitExceeded));
-    }
-    let default = got?;
-    push_value(default, indent, left - 1, out)
+    let opened = open_member(reader, field, left)?;
+    push_value(opened.value, indent, opened.left, out)
 }
 
 /// Appends the text of a list.

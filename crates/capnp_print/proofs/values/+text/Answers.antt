@@ -1,31 +1,30 @@
-use Rattle.std.proofs.Common.{rules, ◌≡◌, ℕ, suc, ◌+◌, ◌-◌, ◌*◌, ◌<◌, ◌≤◌, ◌==◌, inr, true, false, Some, List, ◌++◌, Ok, Err, refl, ap, sym, ◌∙◌, subst, arith}
+use Rattle.std.proofs.Common.{rules, ◌≡◌, ℕ, suc, ◌+◌, ◌-◌, ◌<◌, ◌≤◌, ◌==◌, inr, true, false, Some, List, ◌++◌, refl, ap, sym, ◌∙◌, subst, arith}
 use Rattle.std.specs.Prelude.{codes}
-use Rattle.std.proofs.Math.Nat.{mul-suc}
-use Rattle.capnp_units.specs.Errors.{kind_of}
-use Rattle.capnp_object.specs.Places.{seen}
 use Rattle.capnp_model.specs.Accepted.{schema_of}
 use Rattle.capnp_model.specs.Printing.{Style, inner, closing}
 use Rattle.capnp_records.specs.NodeViews.{field_of}
 use Rattle.capnp_records.specs.Sets.{nodes_of}
 use Rattle.capnp_queries.specs.Types.{ty_of}
-use Rattle.capnp_queries.specs.Fields.{entry_in, field_count}
+use Rattle.capnp_queries.specs.Fields.{field_count}
 use Rattle.capnp_queries.specs.Structs.{schema_around, shape_of_struct, fields_of_struct}
 use Rattle.capnp_queries.specs.Handles.{entry_of}
 use Rattle.capnp_queries.specs.declared.structs.StructSchema.{StructSchema}
 use Rattle.capnp_values.specs.Sources.{struct_seen, list_seen}
-use Rattle.capnp_values.specs.Shown.{a_struct, a_list, shown, kind_shown, discriminant_shown, element_shown}
+use Rattle.capnp_values.specs.Shown.{a_struct, a_list, shown, discriminant_shown, element_shown}
 use Rattle.capnp_print.specs.Answers.{IsRefused, Appends}
 use Rattle.capnp_print.specs.Members.{field_shown}
-use Rattle.capnp_print.specs.Parts.{fields_text, member_text, elements_text, IsPrinted, enters_there}
+use Rattle.capnp_print.specs.Parts.{fields_text, member_text, elements_text, IsPrinted}
 use Rattle.capnp_print.specs.Printed.{Text, mark, shown_text}
 use Rattle.capnp_print.specs.Singles.{single_text}
 use Rattle.capnp_print.specs.Texts.{style_of}
 use Rattle.capnp_print.proofs.ElementTexts.{text_or_fault}
 use Rattle.capnp_print.proofs.Lighter.{element_weight}
 use Rattle.capnp_print.proofs.Loops.{memory, refused, refused_more, between_signs, ends, goes_same, goes_on, goes_wrong}
+use Rattle.capnp_print.proofs.Opening.{opened_text, opened_lighter}
+use Rattle.capnp_print.proofs.PrintedFields.{active_shown}
 use Rattle.capnp_print.proofs.SingleTexts.{single_value}
-use Rattle.capnp_print.proofs.Weights.{weight, shallow, far}
-use Rattle.capnp_print.proofs.Wholes.{entry_exists, entry_at, name_is, elements_begin, shown_same, struct_empty, struct_some, list_empty, list_some, told_empty, told_some, FieldsLeft, fields_begin, field_left_out, field_left_in, fields_end, ElementsLeft, element_left, no_elements_left, member_here, member_entered, member_refused, member_lighter, member_far}
+use Rattle.capnp_print.proofs.Weights.{weight, measure, shallow}
+use Rattle.capnp_print.proofs.Wholes.{entry_exists, entry_at, name_is, elements_begin, shown_same, struct_empty, struct_some, list_empty, list_some, told_empty, told_some, FieldsLeft, fields_begin, field_left_out, field_left_in, fields_end, ElementsLeft, element_left, no_elements_left}
 use Rattle.capnp_print.proofs.values.+text.Goals as goal
 
 -- ---- values
@@ -211,14 +210,36 @@ push_fields-loop-i-preserved g t c =
 
 -- ---- members
 
-pub push_member-enters_default-requires-clause-parent : goal.push_member-enters_default-requires-clause-parent
-push_member-enters_default-requires-clause-parent g t c = c.requires.parent
+pub push_member-open_member-requires-clause-parent : goal.push_member-open_member-requires-clause-parent
+push_member-open_member-requires-clause-parent g t c = c.requires.parent
 
-pub push_member-enters_default-requires-clause-printed : goal.push_member-enters_default-requires-clause-printed
-push_member-enters_default-requires-clause-printed g t c = c.requires.printed
+pub push_member-open_member-requires-clause-active : goal.push_member-open_member-requires-clause-active
+push_member-open_member-requires-clause-active g t c =
+    let s = c.args.reader.schema in
+    λ e h. active_shown (schema_around s) _ _ e (c.requires.printed e h)
 
-pub push_member-returns-in_err-enters : goal.push_member-returns-in_err-enters
-push_member-returns-in_err-enters g t c = absurd c.in_err-enters.ensures
+pub push_member-returns-in_err-opened : goal.push_member-returns-in_err-opened
+push_member-returns-in_err-opened g t c =
+    let s = c.args.reader.schema in
+    let v = struct_seen g.A.ReaderArena.segments c.args.reader.source in
+    λ e h. refused (member_text c.args.left (style_of c.args.indent) s v e) c.args.out.now.items c.args.out.now.items c.from_residual.result c.in_err-opened.field-0.0 c.from_residual.ensures.1 (inr (c.in_err-opened.ensures e h (style_of c.args.indent)))
+
+pub push_member-push_value-requires : goal.push_member-push_value-requires
+push_member-push_value-requires g t c =
+    let s = c.args.reader.schema in
+    let v = struct_seen g.A.ReaderArena.segments c.args.reader.source in
+    let o = c.in_ok-opened.opened in
+    let lighter : measure o.left (shown g.A.ReaderArena.segments o.value) < measure c.args.left (a_struct (schema_around s) (shape_of_struct s) v) = opened_lighter c.nulls_are_read.ensures s v c.args.field c.requires.parent c.args.left (shown g.A.ReaderArena.segments o.value) o.left c.in_ok-opened.ensures c.requires.printed in
+    search rules
+
+pub push_member-returns : goal.push_member-returns
+push_member-returns g t c =
+    let s = c.args.reader.schema in
+    let v = struct_seen g.A.ReaderArena.segments c.args.reader.source in
+    let o = c.in_ok-opened.opened in
+    let style = style_of c.args.indent in
+    λ e h. subst (λ (z : Text). Appends z c.args.out.now.items c.push_value.result c.push_value.new.out.items)
+    (opened_text c.nulls_are_read.ensures s v c.args.field c.requires.parent c.args.left (shown g.A.ReaderArena.segments o.value) o.left c.in_ok-opened.ensures (λ e h. active_shown (schema_around s) _ _ e (c.requires.printed e h)) e h style) c.push_value.ensures
 
 -- ---- lists
 
@@ -355,104 +376,3 @@ push_elements-returns g t c =
     ends (elements_text c.args.left (style_of c.args.indent) s ty v) (ElementsLeft s ty v c.args.left (style_of c.args.indent) c.loop-i.i (v.count - c.loop-i.i)) c.args.out.now.items c.loop-i.out.items c.loop-i.invariant (no_elements_left s ty v c.args.left (style_of c.args.indent) c.loop-i.i (v.count - c.loop-i.i) past)
 
 -- ---- members, entered or not
-
-pub push_member-returns-in_err-value : goal.push_member-returns-in_err-value
-push_member-returns-in_err-value g t c =
-    let s = c.args.reader.schema in
-    let v = struct_seen g.A.ReaderArena.segments c.args.reader.source in
-    let f = c.args.field in
-    let style = style_of c.args.indent in
-    let left = c.args.left in
-    let got = c.get-got.ensures in
-    let not : enters_there v (schema_around f.parent) got.said.kind ≡ false = sym (c.in_ok-enters.ensures got.said got.is) ∙ c.if-not-enters.true in
-    let y = c.in_err-value.field-0.0 in
-    let fault : Err (kind_of y.kind) ≡ kind_shown (schema_around f.parent) v got.said.kind = ap (seen (shown g.A.ReaderArena.segments)) (sym c.in_err-value.was) ∙ got.shows in
-    λ e h. refused (member_text left style s v e) c.args.out.now.items c.args.out.now.items c.from_residual-in_err-value.result y c.from_residual-in_err-value.ensures.1
-    (inr (sym (member_here c.nulls_are_read.ensures s v f got.said c.requires.parent got.is got.default e h left style (c.requires.printed e h) not) ∙ ap (text_or_fault left style) (sym fault)))
-
-pub push_member-push_value-requires : goal.push_member-push_value-requires
-push_member-push_value-requires g t c =
-    let s = c.args.reader.schema in
-    let v = struct_seen g.A.ReaderArena.segments c.args.reader.source in
-    let f = c.args.field in
-    let style = style_of c.args.indent in
-    let left = c.args.left in
-    let got = c.get-got.ensures in
-    let not : enters_there v (schema_around f.parent) got.said.kind ≡ false = sym (c.in_ok-enters.ensures got.said got.is) ∙ c.if-not-enters.true in
-    let x = shown g.A.ReaderArena.segments c.in_ok-value.value in
-    let shows : kind_shown (schema_around f.parent) v got.said.kind ≡ Ok x = sym got.shows ∙ ap (seen (shown g.A.ReaderArena.segments)) c.in_ok-value.was in
-    let lighter : weight x < weight (a_struct (schema_around s) (shape_of_struct s) v) = member_lighter c.nulls_are_read.ensures s v f got.said c.requires.parent got.is got.default (entry_in (schema_around f.parent) got.said) got.is.entry (shallow f.parent.set.now) x (c.requires.printed _ got.is.entry) not shows in
-    search rules
-
-pub push_member-returns-then-not-enters : goal.push_member-returns-then-not-enters
-push_member-returns-then-not-enters g t c =
-    let s = c.args.reader.schema in
-    let v = struct_seen g.A.ReaderArena.segments c.args.reader.source in
-    let f = c.args.field in
-    let style = style_of c.args.indent in
-    let left = c.args.left in
-    let got = c.get-got.ensures in
-    let not : enters_there v (schema_around f.parent) got.said.kind ≡ false = sym (c.in_ok-enters.ensures got.said got.is) ∙ c.if-not-enters.true in
-    let x = shown g.A.ReaderArena.segments c.in_ok-value.value in
-    let shows : kind_shown (schema_around f.parent) v got.said.kind ≡ Ok x = sym got.shows ∙ ap (seen (shown g.A.ReaderArena.segments)) c.in_ok-value.was in
-    λ e h. subst (λ (z : Text). Appends z c.args.out.now.items c.push_value.result c.push_value.new.out.items) (ap (text_or_fault left style) (sym shows) ∙ member_here c.nulls_are_read.ensures s v f got.said c.requires.parent got.is got.default e h left style (c.requires.printed e h) not) c.push_value.ensures
-
-pub push_member-returns-then-left-eq0 : goal.push_member-returns-then-left-eq0
-push_member-returns-then-left-eq0 g t c =
-    let s = c.args.reader.schema in
-    let v = struct_seen g.A.ReaderArena.segments c.args.reader.source in
-    let f = c.args.field in
-    let style = style_of c.args.indent in
-    let left = c.args.left in
-    let got = c.get-got.ensures in
-    let told : enters_there v (schema_around f.parent) got.said.kind ≡ true = sym (c.in_ok-enters.ensures got.said got.is) ∙ c.if-not-enters.false in
-    λ e h. inr (ap (λ n. member_text n style s v e) c.if-left-eq0.true ∙ member_refused c.nulls_are_read.ensures s v f got.said c.requires.parent got.is got.default e h style (c.requires.printed e h) told ∙ ap (λ k. Err (kind_of k)) (sym c.from.ensures))
-
-pub push_member-returns-in_err-default : goal.push_member-returns-in_err-default
-push_member-returns-in_err-default g t c =
-    let s = c.args.reader.schema in
-    let v = struct_seen g.A.ReaderArena.segments c.args.reader.source in
-    let f = c.args.field in
-    let style = style_of c.args.indent in
-    let left = c.args.left in
-    let got = c.get-got.ensures in
-    let told : enters_there v (schema_around f.parent) got.said.kind ≡ true = sym (c.in_ok-enters.ensures got.said got.is) ∙ c.if-not-enters.false in
-    let some : left ≡ suc (left - 1) = omega (arith, c.if-left-eq0.false) in
-    let y = c.in_err-default.field-0.0 in
-    let fault : Err (kind_of y.kind) ≡ kind_shown (schema_around f.parent) v got.said.kind = ap (seen (shown g.A.ReaderArena.segments)) (sym c.in_err-default.was) ∙ got.shows in
-    λ e h. refused (member_text left style s v e) c.args.out.now.items c.args.out.now.items c.from_residual-in_err-default.result y c.from_residual-in_err-default.ensures.1
-    (inr (ap (λ n. member_text n style s v e) some ∙ sym (member_entered c.nulls_are_read.ensures s v f got.said c.requires.parent got.is got.default e h (left - 1) style (c.requires.printed e h) told) ∙ ap (text_or_fault (left - 1) style) (sym fault)))
-
-pub push_member-overflow_sub-left : goal.push_member-overflow_sub-left
-push_member-overflow_sub-left g t c = omega (arith, c.if-left-eq0.false)
-
-pub push_member-push_value-requires-2 : goal.push_member-push_value-requires-2
-push_member-push_value-requires-2 g t c =
-    let s = c.args.reader.schema in
-    let v = struct_seen g.A.ReaderArena.segments c.args.reader.source in
-    let f = c.args.field in
-    let style = style_of c.args.indent in
-    let left = c.args.left in
-    let got = c.get-got.ensures in
-    let told : enters_there v (schema_around f.parent) got.said.kind ≡ true = sym (c.in_ok-enters.ensures got.said got.is) ∙ c.if-not-enters.false in
-    let some : left ≡ suc (left - 1) = omega (arith, c.if-left-eq0.false) in
-    let x = shown g.A.ReaderArena.segments c.in_ok-default.default in
-    let shows : kind_shown (schema_around f.parent) v got.said.kind ≡ Ok x = sym got.shows ∙ ap (seen (shown g.A.ReaderArena.segments)) c.in_ok-default.was in
-    let lighter : weight x < far = member_far c.nulls_are_read.ensures s v f got.said c.requires.parent got.is got.default (entry_in (schema_around f.parent) got.said) got.is.entry (shallow f.parent.set.now) x told shows in
-    let step : far * left ≡ far * (left - 1) + far = ap (λ n. far * n) some ∙ mul-suc far (left - 1) in
-    search rules
-
-pub push_member-returns : goal.push_member-returns
-push_member-returns g t c =
-    let s = c.args.reader.schema in
-    let v = struct_seen g.A.ReaderArena.segments c.args.reader.source in
-    let f = c.args.field in
-    let style = style_of c.args.indent in
-    let left = c.args.left in
-    let got = c.get-got.ensures in
-    let told : enters_there v (schema_around f.parent) got.said.kind ≡ true = sym (c.in_ok-enters.ensures got.said got.is) ∙ c.if-not-enters.false in
-    let some : left ≡ suc (left - 1) = omega (arith, c.if-left-eq0.false) in
-    let x = shown g.A.ReaderArena.segments c.in_ok-default.default in
-    let shows : kind_shown (schema_around f.parent) v got.said.kind ≡ Ok x = sym got.shows ∙ ap (seen (shown g.A.ReaderArena.segments)) c.in_ok-default.was in
-    λ e h. subst (λ (z : Text). Appends z c.args.out.now.items c.push_value-2.result c.push_value-2.new.out.items)
-    (ap (text_or_fault (left - 1) style) (sym shows) ∙ member_entered c.nulls_are_read.ensures s v f got.said c.requires.parent got.is got.default e h (left - 1) style (c.requires.printed e h) told ∙ ap (λ n. member_text n style s v e) (sym some)) c.push_value-2.ensures
