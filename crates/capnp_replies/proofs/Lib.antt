@@ -1,0 +1,9 @@
+pub mod Records
+pub mod Sorts
+pub mod Steps
+pub mod Endings
+pub mod NoMessages
+pub mod Typed
+pub mod Parts
+pub mod Gets
+pub mod Roots

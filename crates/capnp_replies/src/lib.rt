@@ -1,0 +1,10 @@
+//! What calls reply at structs that are read.
+#![tactic(auto)]
+
+mod active;
+mod ends;
+mod groups;
+mod path;
+pub mod root;
+mod shown;
+mod values;
