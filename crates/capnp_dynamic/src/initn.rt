@@ -43,7 +43,7 @@ use capnp_wire::place::Place;
 
 /// What the elements of a new list are.
 #[derive(Clone, Copy)]
-enum NewList {
+pub enum NewList {
     /// A text's bytes, with the zero byte besides.
     Text,
     /// Plain elements, bytes of data among them, or pointers.
@@ -77,7 +77,7 @@ fn elements_of(set: &SchemaSet, element: Type) -> NewList
 }
 
 /// The elements of what `initn` puts into a slot of a type, if it is a text's, data's or a list's.
-fn list_for(set: &SchemaSet, ty: Type) -> Option<NewList>
+pub fn list_for(set: &SchemaSet, ty: Type) -> Option<NewList>
     requires { is_type_of (nodes_of set.now) ty ≡ true }
     ensures list { (n : ℕ) → content_of_list result n
         ≡ initn_content (schema_of (nodes_of set.now)) n (ty_of ty)
@@ -162,7 +162,7 @@ fn put_structs<A: BuilderArena>(
 }
 
 /// Puts a new list in place of the value of the pointer at a place, which is cleared.
-fn put_list<A: BuilderArena>(arena: &mut A, slot: Place, list: NewList, count: u32) -> Result<()>
+pub fn put_list<A: BuilderArena>(arena: &mut A, slot: Place, list: NewList, count: u32) -> Result<()>
     requires there { is_some (words_at (words_in (A.segments arena.old)) (place_view slot) 1)
         ≡ true }
     requires near { slot.position < 2 ^ 61 }
