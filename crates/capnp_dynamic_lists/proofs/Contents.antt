@@ -15,7 +15,7 @@ use Rattle.capnp_object.specs.Places.{seen}
 use Rattle.capnp_object.specs.declared.place.Place as code
 use Rattle.capnp_copy.specs.Allocations.{TakesJust, TakesAtMost}
 use Rattle.capnp_copy.specs.declared.init.ListPlace.{ListPlace}
-use Rattle.capnp_builders.specs.Making.{ArenaState, Makes, BytesRefused, BytesNotSet}
+use Rattle.capnp_builders.specs.Making.{ArenaState, Makes, Stays, BytesRefused, BytesNotSet}
 use Rattle.capnp_values.specs.declared.dynamic_value.Reader.{Reader}
 use Rattle.capnp_dynamic.specs.Given.{plain_given, bits_given}
 use Rattle.capnp_dynamic.specs.Puts.{ObjectRefused}
@@ -64,24 +64,24 @@ module _ (old new : ArenaState) (r : Result ⊤ Error) where
       by (Ok z) k = h k
       by (Err e) k = tt
 
-  pub not_put_if : (segment n : ℕ) (F : Error → Type 0) → ((e : Error) → BytesRefused old segment n e → F e) → IfErr r (BytesNotSet old new segment n) → IfErr r F
-  not_put_if segment n F h x = by r x
+  pub not_put_if : (F G : Error → Type 0) → ((e : Error) → F e → G e) → IfErr r (λ e. F e × Stays old new) → IfErr r G
+  not_put_if F G h x = by r x
     where
-      by : (y : Result ⊤ Error) → IfErr y (BytesNotSet old new segment n) → IfErr y F
+      by : (y : Result ⊤ Error) → IfErr y (λ e. F e × Stays old new) → IfErr y G
       by (Ok z) k = tt
       by (Err e) k = h e k.0
 
-  pub stays_if : (segment n : ℕ) → IfErr r (BytesNotSet old new segment n) → OnErr r (new.segments ≡ old.segments)
-  stays_if segment n x = by r x
+  pub stays_if : (F : Error → Type 0) → IfErr r (λ e. F e × Stays old new) → OnErr r (new.segments ≡ old.segments)
+  stays_if F x = by r x
     where
-      by : (y : Result ⊤ Error) → IfErr y (BytesNotSet old new segment n) → OnErr y (new.segments ≡ old.segments)
+      by : (y : Result ⊤ Error) → IfErr y (λ e. F e × Stays old new) → OnErr y (new.segments ≡ old.segments)
       by (Ok z) k = tt
       by (Err e) k = k.1.0
 
-  pub grows_if : (segment n : ℕ) → OnOk r (Grows (words_in old.segments) (words_in new.segments)) → IfErr r (BytesNotSet old new segment n) → Grows (words_in old.segments) (words_in new.segments)
-  grows_if segment n x y = by r x y
+  pub grows_if : (F : Error → Type 0) → OnOk r (Grows (words_in old.segments) (words_in new.segments)) → IfErr r (λ e. F e × Stays old new) → Grows (words_in old.segments) (words_in new.segments)
+  grows_if F x y = by r x y
     where
-      by : (z : Result ⊤ Error) → OnOk z (Grows (words_in old.segments) (words_in new.segments)) → IfErr z (BytesNotSet old new segment n) → Grows (words_in old.segments) (words_in new.segments)
+      by : (z : Result ⊤ Error) → OnOk z (Grows (words_in old.segments) (words_in new.segments)) → IfErr z (λ e. F e × Stays old new) → Grows (words_in old.segments) (words_in new.segments)
       by (Ok z) k j = k
       by (Err e) k j = same_grows old.segments new.segments j.1.0
 

@@ -3,3 +3,4 @@ pub mod Parts
 pub mod Fronts
 pub mod Pointers
 pub mod Contents
+pub mod NewElements

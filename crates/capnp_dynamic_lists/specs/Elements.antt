@@ -1,6 +1,6 @@
 -- What `set` puts into an element of a list. (Encoding, "Lists" and "Value Encoding")
 use Rattle.std.specs.Prelude.{ℕ, ⊤, Option, Some, None, List, Result, Ok, Err}
-use Rattle.capnp_model.specs.Kinds.{Kind, TypeMismatch, ListAnyPointerNotSupported}
+use Rattle.capnp_model.specs.Kinds.{Kind, TypeMismatch, ExpectedAListOrBlob, ListAnyPointerNotSupported}
 use Rattle.capnp_model.specs.Schemas.{PlainType, width, Ty, void, plain, text, blob, untyped, interface, struct, list, Schema}
 use Rattle.capnp_model.specs.Calls.{Content, refused_by, bits_of, object, blob_tree}
 use Rattle.capnp_model.specs.Edits.{Edit, put_in_element}
@@ -75,3 +75,14 @@ flat_element v ty = elim (blob_given v ty) [ None ↦ single_element v ty | Some
 -- The model's edit of the element.
 abbrev pub element_edit : {A : Type 0} → Reader A → Ty → ℕ → ℕ → Edit
 element_edit v ty words pointers = put_in_element words pointers ty (flat_element v ty)
+
+-- Why no list is made in an element that holds no list, text or data.
+abbrev pub no_new_element : Ty → Kind
+no_new_element void = ExpectedAListOrBlob
+no_new_element (plain p) = ExpectedAListOrBlob
+no_new_element text = ExpectedAListOrBlob
+no_new_element blob = ExpectedAListOrBlob
+no_new_element untyped = ListAnyPointerNotSupported
+no_new_element interface = ExpectedAListOrBlob
+no_new_element (struct id) = ExpectedAListOrBlob
+no_new_element (list ty) = ExpectedAListOrBlob

@@ -1,6 +1,8 @@
 //! Lists whose elements' type is known at run time, to write.
-ghost use Rattle.std.specs.Prelude.{◌≡◌, ◌↔◌, ◌==◌, ◌<◌, ◌≤◌, true, None, Err, IfOk, OnErr};
+ghost use Rattle.std.specs.Prelude.{◌≡◌, ◌↔◌, ◌==◌, ◌<◌, ◌≤◌, [], true, None, Err, IfOk, OnErr};
 ghost use Rattle.capnp_model.specs.Accepted.{schema_of};
+ghost use Rattle.capnp_model.specs.Calls.{initn, element_content};
+ghost use Rattle.capnp_model.specs.Edits.{edit_element};
 ghost use Rattle.capnp_model.specs.Kinds.{TypeMismatch};
 ghost use Rattle.capnp_units.specs.Segments.{words_in};
 ghost use Rattle.capnp_records.specs.Sets.{nodes_of};
@@ -15,6 +17,7 @@ ghost use Rattle.capnp_dynamic_lists.specs.Elements.{Holds, HoldsStructs, flat_e
 ghost use Rattle.capnp_dynamic_lists.specs.Builders.{IsReady, IsPartAt, Stays, Puts};
 
 use crate::elements::{plain_type, set_flat};
+use crate::init::init_element;
 use crate::laws::elements_as_structs;
 use crate::places::element_struct;
 use capnp_builders::list_builder::ListBuilder;
@@ -228,5 +231,26 @@ impl<'a, A: BuilderArena> Builder<'a, A> {
         let place = self.place;
         let ty = self.element_type;
         set_flat(&mut self.memory.arena, place, ty, index, &value)
+    }
+
+    /// Puts a text or data of so many zero bytes, a text's zero byte besides, or a list of so many zeros, nulls or empty structs into the element at an index, which is one of the list's and is cleared. The new list takes its words, the tag of structs among them, where this one's segment has room for them, else at most one more.
+    ///
+    /// It is refused with `ListAnyPointerNotSupported` where the elements are untyped pointers, and with `ExpectedAListOrBlob` where they are of another type; with `SizeOverflow` just where the elements, structs' words or the message's words, a pad counted, would pass 2^29 - 1, else as the allocator refuses. Then the list is as it was.
+    pub fn init(&mut self, index: u32, size: u32) -> Result<()>
+        requires ready { IsReady A.segments self.old }
+        requires index { index < self.old.place.count }
+        ensures same { self.new.memory.ghost_name ≡ self.old.memory.ghost_name }
+        ensures puts { let ty = ty_of self.old.element_type in
+            let s = schema_of (nodes_of self.old.set.now) in
+            Puts A.segments A.room A.books self.old self.new (edit_element s [] (initn size) ty)
+            index (element_content s (initn size) ty) result }
+        ensures refused { OnErr result (Stays A.segments self.old self.new) }
+        ensures books { A.books self.new.memory.now.arena ≡ A.books self.old.memory.now.arena }
+        ensures ready { IsReady A.segments self.new }
+    {
+        let place = self.place;
+        let set = self.set;
+        let ty = self.element_type;
+        init_element(&mut self.memory.arena, place, set, ty, index, size)
     }
 }

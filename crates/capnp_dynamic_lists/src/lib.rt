@@ -4,5 +4,6 @@
 mod blobs;
 pub mod dynamic_list;
 pub mod elements;
+pub mod init;
 pub mod laws;
 pub mod places;

@@ -4,7 +4,7 @@ use Rattle.capnp_model.specs.Sections.{words_for}
 use Rattle.capnp_model.specs.Sizes.{object_words}
 use Rattle.std.proofs.Common.{◌*◌, length, arith}
 use Rattle.capnp_units.specs.Segments.{words_in}
-use Rattle.capnp_builders.specs.Making.{Makes}
+use Rattle.capnp_builders.specs.Making.{Makes, BytesRefused}
 use Rattle.capnp_dynamic.specs.Puts.{state_in, ObjectRefused}
 use Rattle.capnp_dynamic.proofs.SetPointers.{bytes_words}
 use Rattle.capnp_dynamic_lists.specs.Blobs.{bytes_of}
@@ -33,8 +33,8 @@ returns g c =
     record {
       puts = put_if old new r (Makes old new slot (blob_tree bytes) (words_for (8 * length bytes))) (PutsObject old new o (λ words pointers. put_child 0 (blob_tree bytes)) i (object_words (blob_tree bytes)))
           (object_put old new o slot i where_it_is.segment (blob_tree bytes) (words_for (8 * length bytes)) (bytes_words bytes) c.requires.pointer c.requires.index where_it_is.place c.requires.there) e.made;
-      refused = not_put_if old new r slot.segment (length bytes) (ObjectRefused old o.start.segment (blob_tree bytes)) (blob_not_put old new o slot i where_it_is.segment bytes) e.refused;
-      stays = stays_if old new r slot.segment (length bytes) e.refused;
-      grows = grows_if old new r slot.segment (length bytes) e.grows e.refused;
+      refused = not_put_if old new r (BytesRefused old slot.segment (length bytes)) (ObjectRefused old o.start.segment (blob_tree bytes)) (blob_not_put old new o slot i where_it_is.segment bytes) e.refused;
+      stays = stays_if old new r (BytesRefused old slot.segment (length bytes)) e.refused;
+      grows = grows_if old new r (BytesRefused old slot.segment (length bytes)) e.grows e.refused;
       books = e.books;
     }
