@@ -1,5 +1,5 @@
 -- The value to begin with is the one that the model opens: null as its default.
-use Rattle.std.proofs.Common.{◌≡◌, ℕ, zero, suc, ◌+◌, ◌*◌, ◌/◌, ◌==◌, Bool, true, false, not, unwrap_or, List, [], ◌∷◌, ◌++◌, length, take, drop, Result, Ok, Option, Some, None, refl, sym, subst, ap, ◌∙◌, arith}
+use Rattle.std.proofs.Common.{◌≡◌, ℕ, zero, suc, ◌*◌, ◌/◌, ◌==◌, Bool, true, false, not, unwrap_or, List, [], ◌∷◌, ◌++◌, length, take, drop, Ok, Option, Some, None, refl, sym, ap, ◌∙◌, arith}
 use Rattle.std.specs.List.{flat_map}
 use Rattle.std.specs.Prelude.{IsSome}
 use Rattle.std.specs.Simd.{first_chunks}
@@ -50,10 +50,10 @@ unfolding tree_at
 read_there zero s p t e none = (let x = bind_found (found_at s p) _ t e in not_found s p x.0 none x.1)
 read_there (suc n) s p t e none = (let x = bind_found (found_at s p) _ t e in not_found s p x.0 none x.1)
 
-null_at : (n : ℕ) (s : Segments) (p : Place) → tree_at n s p ≡ Some null → is_null_at s p ≡ true
+pub null_at : (n : ℕ) (s : Segments) (p : Place) → tree_at n s p ≡ Some null → is_null_at s p ≡ true
 null_at n s p e = ap (λ o. unwrap_or o 0 == 0) (null_word n s p e)
 
-null_value : (n : ℕ) (s : Segments) (p : Place) (t : Tree) → tree_at n s p ≡ Some t → is_null_at s p ≡ true → t ≡ null
+pub null_value : (n : ℕ) (s : Segments) (p : Place) (t : Tree) → tree_at n s p ≡ Some t → is_null_at s p ≡ true → t ≡ null
 null_value n s p t e h = some_is t null (sym e ∙ null_read n s p (zero_there (word_at s p) t h (read_there n s p t e)))
 
 -- ---- the value to begin with

@@ -1,12 +1,11 @@
 -- The struct behind a pointer, and the group in a struct: a call written there is written at the pointer, and at the field.
 use Rattle.std.proofs.Common.{◌≡◌, ℕ, ◌+◌, ◌≤◌, true, List, [], ◌∷◌, Option, Some, Result, Ok, Err, OnOk, refl, sym, subst, ap, ◌∙◌, arith}
 use Rattle.capnp_model.specs.Segments.{Segments, Place}
-use Rattle.capnp_model.specs.Trees.{Tree, structure, widened}
+use Rattle.capnp_model.specs.Trees.{Tree, widened}
 use Rattle.capnp_model.specs.Schemas.{Ty, void, plain, text, blob, untyped, interface, struct, list, Shape, shape}
 use Rattle.capnp_model.specs.Calls.{Step, name, index, Verb}
-use Rattle.capnp_model.specs.Edits.{Cell, opened_tree}
+use Rattle.capnp_model.specs.Edits.{opened_tree}
 use Rattle.capnp_units.specs.declared.sizes.StructSize.{StructSize}
-use Rattle.capnp_footprints.specs.Footprints.{Owns}
 use Rattle.capnp_footprints.specs.Changes.{Replaces}
 use Rattle.capnp_copy.specs.declared.fields.StructPlace.{StructPlace}
 use Rattle.capnp_builders.specs.Gets.{StructGot}
@@ -21,8 +20,8 @@ use Rattle.capnp_calls.specs.Slots.{words_in, pointers_in}
 use Rattle.capnp_calls.specs.Finding.{IsFieldGroup}
 use Rattle.capnp_calls.specs.Sizes.{IsDone}
 use Rattle.capnp_calls.specs.Paths.{shape_outcome, shape_edit}
-use Rattle.capnp_edits.specs.Written.{WritesPath, WritesValue, value_edit, HoldsDefault}
-use Rattle.capnp_edits.proofs.Lifting.{cell, behind_pointer}
+use Rattle.capnp_edits.specs.Written.{WritesPath, WritesValue, HoldsDefault}
+use Rattle.capnp_edits.proofs.Lifting.{behind_pointer}
 use Rattle.capnp_edits.proofs.Begun.{begun_opened}
 use Rattle.capnp_edits.proofs.Outcomes.{struct_done, struct_edit}
 

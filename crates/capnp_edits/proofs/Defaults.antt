@@ -1,5 +1,5 @@
 -- The default that a node says of a pointer to a struct is a segment, and the one of the field.
-use Rattle.std.proofs.Common.{◌≡◌, ℕ, List, Option, Some, refl, sym, ap, subst, ◌∙◌}
+use Rattle.std.proofs.Common.{◌≡◌, ℕ, List, Option, Some, sym, subst, ◌∙◌}
 use Rattle.std.specs.Prelude.{option_map}
 use Rattle.capnp_model.specs.Trees.{Tree}
 use Rattle.capnp_model.specs.Schemas.{struct, pointer_slot, default_or_null, Value, Field as FieldNode, StructNode}

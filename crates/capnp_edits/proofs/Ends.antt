@@ -1,11 +1,11 @@
 -- What is done at the field where a path ends.
-use Rattle.std.proofs.Common.{◌≡◌, ℕ, List, ◌*◌, [], ◌∷◌, ◌++◌, Option, Some, None, Result, Ok, Err, OnOk, bit_xor, refl, sym, ap, subst, ◌∙◌}
+use Rattle.std.proofs.Common.{◌≡◌, ℕ, List, ◌*◌, [], Option, Some, None, Result, Ok, Err, OnOk, bit_xor, refl, sym, ap, subst, ◌∙◌}
 use Rattle.std.specs.Prelude.{⊤, option_map}
 use Rattle.std.specs.Borrow.{Bor}
 use Rattle.capnp_model.specs.Kinds.{Kind}
 use Rattle.capnp_model.specs.Segments.{Segments}
-use Rattle.capnp_model.specs.Schemas.{width, PlainType, Ty, void, plain, text, blob, untyped, interface, struct, list, Field as FieldNode, Body, void_slot, plain_slot, pointer_slot, group_slot, Schema}
-use Rattle.capnp_model.specs.Calls.{Verb, clear, init, initn, set_to, CallValue, text_value, blob_value, Content, refused_by, bits_of, object, plain_content, slot_content}
+use Rattle.capnp_model.specs.Schemas.{width, PlainType, void, plain, text, blob, untyped, interface, struct, list, Field as FieldNode, Body, void_slot, plain_slot, pointer_slot, group_slot, Schema}
+use Rattle.capnp_model.specs.Calls.{Verb, set_to, CallValue, text_value, blob_value, Content, refused_by, bits_of, object, plain_content, slot_content}
 use Rattle.capnp_model.specs.Edits.{Cell, Edit, mark, put_bits, put_content, put_field, edit_field}
 use Rattle.capnp_units.specs.Segments.{words_in}
 use Rattle.capnp_units.specs.declared.errors.Error.{Error}
@@ -64,11 +64,11 @@ put_end old new p f verb k (Err x) h = tt
 
 -- ---- slots that are set
 
-last_step : (s : Schema) (verb : Verb) (union : Option ℕ) (member : Option ℕ) (body : Body) (c : Cell) → put_field s verb body (mark union member c) ≡ edit_field s [] verb union member body c
+pub last_step : (s : Schema) (verb : Verb) (union : Option ℕ) (member : Option ℕ) (body : Body) (c : Cell) → put_field s verb body (mark union member c) ≡ edit_field s [] verb union member body c
 unfolding edit_field
 last_step s verb union member body c = refl
 
-slot_put : (s : Schema) (verb : Verb) (body : Body) → IsSlot body → (c : Cell) → put_content body (slot_content s verb body) c ≡ put_field s verb body c
+pub slot_put : (s : Schema) (verb : Verb) (body : Body) → IsSlot body → (c : Cell) → put_content body (slot_content s verb body) c ≡ put_field s verb body c
 slot_put s verb body (is_void j) c = refl
 slot_put s verb body (is_plain p at d) c = refl
 slot_put s verb body (is_pointer i ty d) c = refl

@@ -1,15 +1,14 @@
 -- The message grows, whatever becomes of a call.
-use Rattle.std.proofs.Common.{◌≡◌, ◌⊎◌, inl, inr, ℕ, suc, ◌+◌, ◌<◌, ◌==◌, ◌||◌, not, Bool, true, false, unwrap_or, List, Option, Some, None, Result, Ok, Err, refl, sym, subst, ap, arith}
+use Rattle.std.proofs.Common.{◌≡◌, inl, inr, ℕ, suc, ◌+◌, ◌<◌, ◌||◌, not, Bool, true, false, List, Option, Some, None, Result, Ok, Err, refl, sym, subst, ap, arith}
 use Rattle.std.specs.Bool.{⊤}
 use Rattle.capnp_model.specs.Segments.{Segments, Place, root, after}
 use Rattle.capnp_model.specs.Pointers.{Found}
 use Rattle.capnp_model.specs.Coverage.{Grows}
-use Rattle.capnp_model.specs.Trees.{Tree, Trees, structure, child, widened}
+use Rattle.capnp_model.specs.Trees.{Tree, structure, child, widened}
 use Rattle.capnp_units.specs.declared.errors.Error.{Error}
 use Rattle.capnp_units.specs.declared.sizes.StructSize.{StructSize}
 use Rattle.capnp_wire.specs.Places.{place_view}
 use Rattle.capnp_footprints.specs.Footprints.{Owns, OwnsObject}
-use Rattle.capnp_footprints.specs.Changes.{Replaces}
 use Rattle.capnp_footprints.proofs.Spans.{grows_same, grows_then}
 use Rattle.capnp_footprints.proofs.Lift.{object_of_pointer, child_of_struct, replaced_owned}
 use Rattle.capnp_footprints.proofs.Levels.{owned_more}

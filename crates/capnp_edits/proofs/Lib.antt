@@ -5,3 +5,4 @@ pub mod Ends
 pub mod Behind
 pub mod Defaults
 pub mod GrownPaths
+pub mod SetMessages

@@ -1,8 +1,8 @@
 -- A change of what lies behind a pointer is a change of what holds the pointer.
-use Rattle.std.proofs.Common.{◌≡◌, ℕ, suc, ◌+◌, ◌<◌, ◌≤◌, List, Option, Some, None, refl, sym, ap, subst, arith}
+use Rattle.std.proofs.Common.{◌≡◌, ℕ, suc, ◌+◌, ◌<◌, List, sym, subst, arith}
 use Rattle.capnp_model.specs.Segments.{Segments, Place, after}
 use Rattle.capnp_model.specs.Pointers.{Found}
-use Rattle.capnp_model.specs.Trees.{Tree, Trees, structure, child, with_child}
+use Rattle.capnp_model.specs.Trees.{Tree, Trees, structure, child}
 use Rattle.capnp_model.specs.Schemas.{Ty, Schema}
 use Rattle.capnp_model.specs.Calls.{Step, Verb}
 use Rattle.capnp_model.specs.Edits.{Cell, Edit, put_child}

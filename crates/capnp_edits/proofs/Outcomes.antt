@@ -1,20 +1,20 @@
 -- Where a call is done, the rest of its path is done at the next step, and the edit goes the same way.
-use Rattle.std.proofs.Common.{◌≡◌, ◌≢◌, ℕ, zero, suc, ◌<◌, max, Bool, true, false, if◌then◌else◌, Option, None, Some, List, [], ◌∷◌, refl, sym, subst, ap, ◌∙◌, arith}
+use Rattle.std.proofs.Common.{◌≡◌, ◌≢◌, ℕ, zero, suc, ◌<◌, max, Bool, true, false, if◌then◌else◌, Option, None, Some, List, [], ◌∷◌, refl, sym, subst, ap, ◌∙◌}
 use Rattle.std.specs.Prelude.{option_map}
 use Rattle.std.specs.Str.{bytes_eq}
 use Rattle.capnp_model.specs.Segments.{Segments, Place, after}
 use Rattle.capnp_model.specs.Trees.{Tree, null, capability, structure, plain_list, pointer_list, struct_list, Trees, none, ◌▸◌, child, padded_to, resized, widened}
 use Rattle.capnp_model.specs.Accepted.{schema_of}
-use Rattle.capnp_model.specs.Schemas.{Ty, struct, Shape, shape, Fields, no_fields, field, Field as FieldNode, Body, pointer_slot, group_slot, Schema, default_or_null}
-use Rattle.capnp_model.specs.Readings.{Reading, null_pointer, record_as, Record, whole_words, no_children, read, read_child, shape_record, body_of, only_if}
+use Rattle.capnp_model.specs.Schemas.{struct, Shape, shape, Fields, no_fields, field, Field as FieldNode, Body, pointer_slot, group_slot, Schema, default_or_null}
+use Rattle.capnp_model.specs.Readings.{null_pointer, record_as, Record, whole_words, no_children, read, read_child, shape_record, body_of, only_if}
 use Rattle.capnp_model.specs.Printing.{fields_in}
 use Rattle.capnp_model.specs.Calls.{Step, name, index, Verb}
-use Rattle.capnp_model.specs.Steps.{Outcome, refused, shown, done, outcome_map, target, target_if, target_of, on_name, opened, through_value, through_field, step_field, step_element}
-use Rattle.capnp_model.specs.Edits.{Cell, Edit, put_child, opened_tree, edit_target, edit_named, edit_struct, edit_field, edit_element, edit_value, in_struct}
+use Rattle.capnp_model.specs.Steps.{Outcome, refused, shown, done, outcome_map, target, target_if, target_of, on_name, through_field, step_field, step_element}
+use Rattle.capnp_model.specs.Edits.{Cell, Edit, put_child, opened_tree, edit_target, edit_named, edit_struct, edit_field, in_struct}
 use Rattle.capnp_model.proofs.Marks.{read_child-padded_to}
 use Rattle.capnp_wire.specs.Places.{place_view}
 use Rattle.capnp_queries.specs.Fields.{Entry, field_at, place_of_name, union_in, entry_in}
-use Rattle.capnp_queries.specs.Structs.{nodes_around, schema_around, id_of, shape_of_struct, fields_of_struct}
+use Rattle.capnp_queries.specs.Structs.{nodes_around, schema_around, shape_of_struct, fields_of_struct}
 use Rattle.capnp_queries.specs.Handles.{entry_of, IsFieldRecord}
 use Rattle.capnp_queries.specs.declared.structs.StructSchema.{StructSchema}
 use Rattle.capnp_queries.specs.declared.fields.Field.{Field}

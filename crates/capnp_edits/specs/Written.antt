@@ -1,11 +1,11 @@
 -- Calls along paths, written where a struct lies. (Encoding, "Structs")
-use Rattle.std.specs.Prelude.{◌≡◌, ℕ, ◌+◌, List, [], ◌∷◌, Option, Some, None}
+use Rattle.std.specs.Prelude.{◌≡◌, ℕ, ◌+◌, Bool, true, false, List, [], ◌∷◌, Option, Some, None}
 use Rattle.capnp_model.specs.Kinds.{WrongStep}
 use Rattle.capnp_model.specs.Segments.{Segments, Place, root}
 use Rattle.capnp_model.specs.Trees.{Tree, null, Trees, structure}
 use Rattle.capnp_model.specs.Traversal.{tree_at}
 use Rattle.capnp_model.specs.Coverage.{Grows}
-use Rattle.capnp_model.specs.Schemas.{Ty, Schema}
+use Rattle.capnp_model.specs.Schemas.{Ty, void, plain, text, blob, untyped, interface, struct, list, Schema}
 use Rattle.capnp_model.specs.Readings.{Reading, read}
 use Rattle.capnp_model.specs.Calls.{Step, Verb}
 use Rattle.capnp_model.specs.Steps.{Outcome, refused, opened, through_value, step_field, step_element}
@@ -81,3 +81,20 @@ WritesValue s u p around ty d path verb =
 abbrev pub HoldsDefault : Option (List (List ℕ)) → Tree → Type 0
 HoldsDefault None d = d ≡ null
 HoldsDefault (Some words) d = tree_at 64 (default_segments words) root ≡ Some d
+
+-- ---- values of messages
+
+-- A slot of the type can be set to the value of a message.
+abbrev pub takes_message : Ty → Bool
+takes_message void = false
+takes_message (plain p) = false
+takes_message text = false
+takes_message blob = false
+takes_message untyped = true
+takes_message interface = false
+takes_message (struct id) = true
+takes_message (list ty) = true
+
+-- Whatever value is owned there becomes the tree, where 65 levels of pointers may be new, and nothing else changes.
+abbrev pub PutsTree : Segments → Segments → Place → Tree → Type 0
+PutsTree s u p v = (n : ℕ) (t : Tree) → Owns n s p t → Replaces (n + 65) s u p v

@@ -15,7 +15,7 @@ use capnp_records::node::{FieldBody, FieldRecord, Value};
 use capnp_units::sizes::Word;
 
 /// The words of a default's bytes.
-fn words_of(bytes: &[u8]) -> &[Word]
+pub(crate) fn words_of(bytes: &[u8]) -> &[Word]
     ensures { IsSome (decode bytes.now)
         → HoldsDefault (Some result.now) (default_or_null (decode bytes.now)) }
 {

@@ -3,6 +3,7 @@
 
 mod default;
 mod end;
+mod messages;
 mod names;
 pub mod path;
 mod schemas;

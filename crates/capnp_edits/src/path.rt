@@ -29,7 +29,11 @@ use capnp_units::kinds::ErrorKind;
 use capnp_units::sizes::Word;
 use capnp_wire::place::Place;
 
-/// Writes a call along its path, at a struct that is there and wide enough for its schema: where the record machine does the call, the struct becomes what the call's edit makes of it. On the way a null pointer gets its default, else an empty struct, and a struct is widened to its schema's sizes.
+/// Writes a call along its path, at a struct that is there and wide enough for its schema. Where the record machine does the call, whatever struct is owned there becomes what the call's edit makes of it, and nothing else changes. On the way a null pointer gets its default, else an empty struct, and a narrower struct is widened to its schema's sizes.
+///
+/// Whether the call is done isn't looked at: a caller tests that on a reader first. A path that doesn't begin with a name or goes on behind a field that is neither a group nor a pointer to a struct, and a `get`, are refused with `WrongStep`; a name that the struct lacks with `FieldNotFound`; a struct on the way as by `struct_or_default`; the last field as by `clear_field`, `begin_field`, `initn_slot` and `set_flat`, and a value that it doesn't take with `TypeMismatch`, as is `set` of a group. After a refusal structs on the way may be widened or have their defaults, and the last field may be as before; each segment of the message is still there, and no shorter.
+///
+/// Each step takes stack.
 #[cycle(path)]
 pub fn write_path<A: BuilderArena>(
     arena: &mut A,

@@ -12,6 +12,7 @@ ghost use Rattle.capnp_calls.specs.Actions.{is_in_range};
 ghost use Rattle.capnp_dynamic.specs.Edits.{IsThere, IsWide};
 ghost use Rattle.capnp_edits.specs.Written.{WritesField};
 
+use crate::messages::set_message;
 use capnp_calls::SlotValue;
 use capnp_calls::number::{signed_bits, unsigned_bits};
 use capnp_copy::arena::BuilderArena;
@@ -116,6 +117,6 @@ pub(crate) fn set_value<A: BuilderArena>(
             let data: Reader<'_, NullArena> = Reader::Data(bytes);
             set_flat(arena, object, field, &data)
         }
-        SlotValue::Message(_) => Err(Error::from(ErrorKind::TypeMismatch)),
+        SlotValue::Message(value) => set_message(arena, object, field, value),
     }
 }

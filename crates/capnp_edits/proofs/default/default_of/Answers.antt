@@ -1,4 +1,4 @@
-use Rattle.std.proofs.Common.{◌≡◌, subst}
+use Rattle.std.proofs.Common.{subst}
 use Rattle.std.specs.Prelude.{option_map, option_copied}
 use Rattle.capnp_records.specs.NodeViews.{field_of, struct_of, value_of}
 use Rattle.capnp_queries.specs.Structs.{nodes_around, id_of, IsRecordOf}

@@ -1,5 +1,4 @@
-use Rattle.std.proofs.Common.{◌≡◌, ◌/◌, List, ℕ, Some, length, sym, subst}
-use Rattle.std.specs.Simd.{first_chunks}
+use Rattle.std.proofs.Common.{List, ℕ, Some, sym, subst}
 use Rattle.capnp_model.specs.Schemas.{default_or_null}
 use Rattle.capnp_model.specs.Decoding.{decode}
 use Rattle.capnp_edits.specs.Written.{HoldsDefault}

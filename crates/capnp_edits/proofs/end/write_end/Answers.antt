@@ -1,4 +1,4 @@
-use Rattle.std.proofs.Common.{◌≡◌, [], Ok, OnOk, sym, subst}
+use Rattle.std.proofs.Common.{[], Ok, OnOk, sym, subst}
 use Rattle.capnp_units.specs.Segments.{words_in}
 use Rattle.capnp_model.specs.Calls.{clear, init, initn}
 use Rattle.capnp_queries.specs.Handles.{entry_of}

@@ -1,27 +1,26 @@
-use Rattle.std.proofs.Common.{rules, ◌≡◌, ◌≢◌, ◌+◌, ◌<◌, ◌==◌, true, false, Some, [], ◌∷◌, length, refl, sym, ap, subst, ◌∙◌, arith}
+use Rattle.std.proofs.Common.{rules, ◌≡◌, true, Some, [], ◌∷◌, refl, sym, ap, subst, ◌∙◌}
 use Rattle.std.specs.Prelude.{map, option_map, option_copied}
 use Rattle.std.specs.Option.{is_some}
-use Rattle.capnp_model.specs.Segments.{Segments, words_at}
+use Rattle.capnp_model.specs.Segments.{words_at}
 use Rattle.capnp_model.specs.Schemas.{struct, pointer_slot, default_or_null}
 use Rattle.capnp_model.specs.Accepted.{schema_of, default_tree}
 use Rattle.capnp_model.specs.Calls.{name}
 use Rattle.capnp_units.specs.Segments.{words_in}
 use Rattle.capnp_wire.specs.Places.{place_view}
 use Rattle.capnp_records.specs.NodeViews.{field_of, struct_of, value_of}
-use Rattle.capnp_queries.specs.Structs.{nodes_around, schema_around, shape_of_struct, id_of, IsRecordOf}
+use Rattle.capnp_queries.specs.Structs.{nodes_around, schema_around, id_of, IsRecordOf}
 use Rattle.capnp_queries.specs.Handles.{body_of_place}
 use Rattle.capnp_queries.specs.Types.{ty_of}
 use Rattle.capnp_queries.specs.declared.slots.FieldPlace.TheVariants as F
 use Rattle.capnp_calls.specs.CallViews.{step_view, action_view}
 use Rattle.capnp_calls.specs.Taken.{starts_with_name}
 use Rattle.capnp_calls.proofs.GroupSizes.{group_is_field}
-use Rattle.capnp_calls.proofs.PathAnswers.{none_is, some_is}
-use Rattle.capnp_dynamic.specs.Edits.{IsThere, IsWide}
+use Rattle.capnp_calls.proofs.PathAnswers.{none_is}
 use Rattle.capnp_dynamic.proofs.Ready.{areas_inside, pointer_there}
 use Rattle.capnp_dynamic.proofs.GroupFields.{pointer_inside, member_inside}
-use Rattle.capnp_edits.specs.Written.{WritesPath, WritesField, WritesValue, HoldsDefault}
+use Rattle.capnp_edits.specs.Written.{WritesPath, WritesField, WritesValue}
 use Rattle.capnp_edits.proofs.Outcomes.{by_name, by_group, by_pointer_path}
-use Rattle.capnp_edits.proofs.Behind.{on_ok, group_wide, type_is, struct_written, inner_wide}
+use Rattle.capnp_edits.proofs.Behind.{on_ok, group_wide, type_is, struct_written}
 use Rattle.capnp_edits.proofs.GrownPaths.{refused_grows, got_grows, child_grows}
 use Rattle.capnp_edits.proofs.path.+path.Goals as goal
 

@@ -1,6 +1,6 @@
-use Rattle.std.proofs.Common.{◌≡◌, ◌*◌, ◌<◌, ◌^◌, Some, [], refl, sym, ap, subst, ◌∙◌}
+use Rattle.std.proofs.Common.{◌*◌, refl, sym, ◌∙◌}
 use Rattle.capnp_model.specs.Schemas.{width, void_slot}
-use Rattle.capnp_model.specs.Calls.{set_to, bits_of}
+use Rattle.capnp_model.specs.Calls.{set_to}
 use Rattle.capnp_units.specs.Segments.{words_in}
 use Rattle.capnp_wire.specs.Places.{place_view}
 use Rattle.capnp_records.specs.NodeViews.{field_of}

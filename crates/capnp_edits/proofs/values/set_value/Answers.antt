@@ -1,4 +1,4 @@
-use Rattle.std.proofs.Common.{◌≡◌, [], OnOk, sym, subst}
+use Rattle.std.proofs.Common.{[], OnOk, sym, subst}
 use Rattle.std.specs.Prelude.{string_bytes}
 use Rattle.capnp_model.specs.Calls.{set_to}
 use Rattle.capnp_records.specs.NodeViews.{field_of}

@@ -1,0 +1,71 @@
+use Rattle.std.proofs.Common.{◌≡◌, true, refl, sym, subst, ◌∙◌}
+use Rattle.std.specs.Prelude.{option_map, option_copied}
+use Rattle.std.specs.Option.{is_some}
+use Rattle.capnp_model.specs.Accepted.{default_tree}
+use Rattle.capnp_model.specs.Schemas.{void_slot}
+use Rattle.capnp_model.specs.Segments.{words_at}
+use Rattle.capnp_model.specs.Calls.{set_to, message}
+use Rattle.capnp_units.specs.Segments.{words_in}
+use Rattle.capnp_wire.specs.Places.{place_view}
+use Rattle.capnp_records.specs.NodeViews.{field_of, value_of}
+use Rattle.capnp_call_messages.specs.Messages.{tree_of_message}
+use Rattle.capnp_queries.specs.Handles.{body_of_place}
+use Rattle.capnp_queries.specs.Types.{ty_of}
+use Rattle.capnp_queries.specs.declared.slots.FieldPlace.TheVariants as F
+use Rattle.capnp_calls.proofs.OneStep.{is_void}
+use Rattle.capnp_dynamic.proofs.Ready.{areas_inside, pointer_there}
+use Rattle.capnp_dynamic.proofs.Grown.{there_grown}
+use Rattle.capnp_dynamic.proofs.GroupFields.{pointer_inside, member_inside}
+use Rattle.capnp_edits.specs.Written.{takes_message}
+use Rattle.capnp_edits.proofs.Ends.{bits_end}
+use Rattle.capnp_edits.proofs.SetMessages.{message_end}
+use Rattle.capnp_edits.proofs.messages.set_message.Goals as goal
+
+pub mark-requires-clause-inside : goal.mark-requires-clause-inside
+mark-requires-clause-inside g c = areas_inside c.args.field.parent c.args.object c.requires.wide
+
+pub mark-requires-in-Pointer-clause-inside : goal.mark-requires-in-Pointer-clause-inside
+mark-requires-in-Pointer-clause-inside g c = areas_inside c.args.field.parent c.args.object c.requires.wide
+
+pub mark-requires-in-Pointer-clause-there : goal.mark-requires-in-Pointer-clause-there
+mark-requires-in-Pointer-clause-there g c =
+    there_grown (words_in (g.A.ReaderArena.segments c.args.arena.now)) (words_in (g.A.ReaderArena.segments c.put_message.new.arena)) c.args.object c.put_message.ensures.grows c.requires.there
+
+pub pointer_place-requires-clause-inside : goal.pointer_place-requires-clause-inside
+pointer_place-requires-clause-inside g c =
+    let p = c.args.object in
+    let b = F.Pointer c.in-Pointer.index c.in-Pointer.ty c.in-Pointer.default in
+    let areas = areas_inside c.args.field.parent p c.requires.wide in
+    let inside = member_inside c.args.field (field_of c.get_proto-said.result.now) c.get_proto-said.ensures (body_of_place b) c.in-Pointer.ensures.body p.data_words p.pointers areas in
+    pointer_inside p b c.in-Pointer.index c.in-Pointer.ty c.in-Pointer.default refl inside
+
+pub put_message-requires-clause-there : goal.put_message-requires-clause-there
+put_message-requires-clause-there g c =
+    let p = c.args.object in
+    let b = F.Pointer c.in-Pointer.index c.in-Pointer.ty c.in-Pointer.default in
+    let areas = areas_inside c.args.field.parent p c.requires.wide in
+    let inside = member_inside c.args.field (field_of c.get_proto-said.result.now) c.get_proto-said.ensures (body_of_place b) c.in-Pointer.ensures.body p.data_words p.pointers areas in
+    let l = pointer_inside p b c.in-Pointer.index c.in-Pointer.ty c.in-Pointer.default refl inside in
+    let s = words_in (g.A.ReaderArena.segments c.args.arena.now) in
+    subst (λ q. is_some (words_at s q 1) ≡ true) (sym c.pointer_place.ensures.place) (pointer_there s (place_view p.start) p.data_words p.pointers c.in-Pointer.index l c.requires.there.words)
+
+pub returns-in-Void-clause-writes : goal.returns-in-Void-clause-writes
+returns-in-Void-clause-writes g c =
+    let s = words_in (g.A.ReaderArena.segments c.args.arena.now) in
+    let u = words_in (g.A.ReaderArena.segments c.mark.new.arena) in
+    bits_end c.args.field (field_of c.get_proto-said.result.now) c.get_proto-said.ensures (void_slot c.in-Void.offset) c.in-Void.ensures.body (set_to (message (tree_of_message c.args.value.now))) s u c.args.object (is_void c.in-Void.offset) 0 refl c.mark.ensures.edits
+
+pub returns-in_ok-put_message-in-Pointer-clause-writes : goal.returns-in_ok-put_message-in-Pointer-clause-writes
+returns-in_ok-put_message-in-Pointer-clause-writes g c =
+    let p = c.args.object in
+    let f = c.args.field in
+    let s = words_in (g.A.ReaderArena.segments c.args.arena.now) in
+    let m = words_in (g.A.ReaderArena.segments c.put_message.new.arena) in
+    let u = words_in (g.A.ReaderArena.segments c.mark-in-Pointer.new.arena) in
+    let b = F.Pointer c.in-Pointer.index c.in-Pointer.ty c.in-Pointer.default in
+    let areas = areas_inside f.parent p c.requires.wide in
+    let inside = member_inside f (field_of c.get_proto-said.result.now) c.get_proto-said.ensures (body_of_place b) c.in-Pointer.ensures.body p.data_words p.pointers areas in
+    let l = pointer_inside p b c.in-Pointer.index c.in-Pointer.ty c.in-Pointer.default refl inside in
+    let takes : takes_message (ty_of c.in-Pointer.ty) ≡ true = sym c.takes_message.ensures ∙ c.if-not-takes_message.false in
+    message_end f (field_of c.get_proto-said.result.now) c.get_proto-said.ensures c.in-Pointer.index (ty_of c.in-Pointer.ty) (default_tree (option_map value_of (option_copied c.in-Pointer.default))) c.in-Pointer.ensures.body takes (tree_of_message c.args.value.now) s m u p (place_view c.pointer_place.result)
+    l c.pointer_place.ensures.place c.in_ok-put_message-in-Pointer.ensures.puts c.mark-in-Pointer.ensures.edits
