@@ -2,11 +2,11 @@
 use Rattle.std.proofs.Common.{◌≡◌, ℕ, zero, suc, ◌/◌, ◌&&◌, Bool, true, false, not, length, Option, Some, None, List, [], ◌∷◌, refl, subst}
 use Rattle.std.specs.List.{AllByRecursion}
 use Rattle.std.specs.Str.{bytes_eq}
-use Rattle.capnp_model.specs.Chains.{◌provided◌}
-use Rattle.capnp_model.specs.Segments.{root}
+use Rattle.capnp_model.specs.Chains.{◌>>=◌, ◌provided◌}
+use Rattle.capnp_model.specs.Segments.{Segments, root}
 use Rattle.capnp_model.specs.Trees.{Tree, has_capability}
 use Rattle.capnp_model.specs.Trimming.{trim}
-use Rattle.capnp_model.specs.Traversal.{tree_at}
+use Rattle.capnp_model.specs.Traversal.{tree_at, cost_at}
 use Rattle.capnp_model.specs.Encoding.{canonical_words}
 use Rattle.capnp_model.specs.Bytes.{bytes_of_words, words_in_bytes}
 use Rattle.capnp_model.specs.Decoding.{decode}
@@ -15,7 +15,8 @@ use Rattle.capnp_model.specs.Readings.{Record, record_of}
 use Rattle.capnp_model.specs.Calls.{Call}
 use Rattle.capnp_model.specs.Steps.{Outcome, refused, shown, done, step}
 use Rattle.capnp_model.specs.Edits.{write_path, if_done, edit}
-use Rattle.capnp_model.specs.Answers.{edits, widened_root, opened_root}
+use Rattle.capnp_model.specs.Messages.{within}
+use Rattle.capnp_model.specs.Answers.{Limits, levels, value_within, edits, widened_root, opened_root}
 use Rattle.capnp_model.specs.Accepted.{find_node, default_tree, slot_body, field_body, fields_from, union_place, no_shape, shape_of_node, shape_in, schema_of}
 use Rattle.capnp_model.proofs.Chaining.{bind_some, provided_some}
 use Rattle.capnp_model.proofs.KeptRules.{and_left}
@@ -123,3 +124,21 @@ root-bare (shape nid w p u fs) t h = bare-widened w p t h
 pub opening-puts-none : (s : Schema) (id : ℕ) (t : Tree) → has_capability t ≡ false → has_capability (opened_root s id t) ≡ false
 unfolding opened_root
 opening-puts-none s id t h = has-none (widened_root (s.shape_of id) (trim t)) (root-bare (s.shape_of id) (trim t) (is-bare (trim t) (free_trim t h)))
+
+-- bytes keep none
+pub kept-has-none : (bytes : List ℕ) → has_capability (default_or_null (decode bytes)) ≡ false
+kept-has-none bytes = has-none (default_or_null (decode bytes)) (segment-bare bytes)
+
+read-has-none : (limits : Limits) (segments : Segments) (t : Tree) → value_within limits segments ≡ Some t → has_capability t ≡ false
+unfolding value_within
+read-has-none limits segments t h =
+    let n = bind_some (levels limits.nesting) (λ k. tree_at k segments root >>= λ v. v provided (not (has_capability v) && within (cost_at k segments root) limits.words)) t h in
+    let found = bind_some (tree_at n.0 segments root) (λ v. v provided (not (has_capability v) && within (cost_at n.0 segments root) limits.words)) t n.2 in
+    let kept = provided_some found.0 t (not (has_capability found.0) && within (cost_at n.0 segments root) limits.words) found.2 in
+    subst (λ v. has_capability v ≡ false) kept.1 (not-true (has_capability found.0) (and_left (not (has_capability found.0)) (within (cost_at n.0 segments root) limits.words) kept.0))
+
+-- THE LAW: nor has what a relay writes any.
+pub relay-puts-none : (nodes : List Node) (id : ℕ) (calls : List Call) (limits : Limits) (segments : Segments) (t : Tree) → AllByRecursion (λ c. SetsNoCapability c.verb) calls → value_within limits segments ≡ Some t
+    → has_capability (edits (schema_of nodes) id calls (opened_root (schema_of nodes) id t)) ≡ false
+relay-puts-none nodes id calls limits segments t v h =
+    edits-put-none nodes id calls (opened_root (schema_of nodes) id t) v (opening-puts-none (schema_of nodes) id t (read-has-none limits segments t h))
