@@ -39,3 +39,8 @@ pub mod WriteOnly
 pub mod Versions
 pub mod TrimmedRelays
 pub mod SizeExamples
+pub mod BareValues
+pub mod BareContents
+pub mod BareCells
+pub mod BareEdits
+pub mod BareSchemas

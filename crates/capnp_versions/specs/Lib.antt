@@ -6,3 +6,4 @@ pub mod TwoVersions
 pub mod Fitting
 pub mod OwnOutput
 pub mod TwoRelays
+pub mod Capabilities
