@@ -13,8 +13,6 @@ use capnp_copy::arena::{BuilderArena, Memory};
 use capnp_copy::fields::StructPlace;
 use capnp_copy::segments::BuilderArenaImpl;
 use capnp_dynamic::dynamic_struct::{Builder, has_sizes};
-use capnp_queries::fields::Field;
-use capnp_queries::slots::FieldPlace;
 use capnp_queries::structs::StructSchema;
 use capnp_records::set::SchemaSet;
 use capnp_text::text;
@@ -70,8 +68,6 @@ enum Change<'a> {
     Clear,
     Init,
     InitMany(u32),
-    /// A struct is begun, and its number `a` set.
-    Child(u16),
 }
 
 /// A struct of zeros and nulls at the root, of a schema's two sizes.
@@ -91,26 +87,6 @@ fn begun<A: BuilderArena>(memory: &mut Memory<A>, schema: StructSchema<'_>) -> R
     Ok(object.place)
 }
 
-/// Begins a field of a struct's type, and sets the number `a` there.
-fn fill_child<A: BuilderArena>(
-    builder: &mut Builder<'_, A>,
-    field: Field<'_>,
-    number: u16,
-) -> Result<()>
-    requires ready { IsReady A.segments builder.old }
-    requires field { field.parent ≡ builder.old.schema }
-    ensures same { builder.new.memory.ghost_name ≡ builder.old.memory.ghost_name }
-    ensures books { A.books builder.new.memory.now.arena ≡ A.books builder.old.memory.now.arena }
-{
-    let FieldPlace::Pointer { .. } = field.place() else {
-        return Err(Error::from(ErrorKind::TypeMismatch));
-    };
-    let part = builder.init_struct(field)?;
-    let mut child = builder.part(part);
-    let mut lent = child.reborrow();
-    lent.set_named("a", Reader::<()>::UInt16(number))
-}
-
 /// Begins a field.
 fn begin<A: BuilderArena>(
     builder: &mut Builder<'_, A>,
@@ -124,7 +100,6 @@ fn begin<A: BuilderArena>(
     let field = builder.get_schema().get_field_by_name(name)?;
     match change {
         Change::InitMany(count) => builder.initn(field, count),
-        Change::Child(number) => fill_child(builder, field, number),
         _ => {
             builder.init(field)?;
             Ok(())
@@ -146,7 +121,7 @@ fn put<A: BuilderArena>(builder: &mut Builder<'_, A>, name: &str, change: Change
         }
         Change::Data(value) => builder.set_named(name, Reader::<()>::Data(value)),
         Change::Clear => builder.clear_named(name),
-        Change::Init | Change::InitMany(_) | Change::Child(_) => begin(builder, name, change),
+        Change::Init | Change::InitMany(_) => begin(builder, name, change),
     }
 }
 
@@ -377,11 +352,11 @@ fn a_refusal_leaves_the_union(rt: HostRuntime) -> std::result::Result<(), Fail> 
 fn structs_and_groups_are_begun(rt: HostRuntime) -> std::result::Result<(), Fail> {
     let alloc = rt.alloc();
     let set = schemas(alloc)?;
-    let child = [(8, "child", Change::Child(7))];
+    let child = [(8, "child", Change::Init)];
     let (none, bytes) = run(alloc, &set, 4, 8, &child)?;
     assert_eq!(rt; none, None);
     let expected = [
-        0, 0, 0, 0, 0, 0, 1, 0, 0, 0, 0, 0, 1, 0, 1, 0, 7, 0, 0, 0, 0, 0, 0, 0, 0, 0, 0, 0, 0, 0,
+        0, 0, 0, 0, 0, 0, 1, 0, 0, 0, 0, 0, 1, 0, 1, 0, 0, 0, 0, 0, 0, 0, 0, 0, 0, 0, 0, 0, 0, 0,
         0, 0,
     ];
     assert_eq!(rt; bytes.as_slice(), expected.as_slice());
