@@ -1,0 +1,59 @@
+-- Calls at the root of a message, from those at its struct.
+use Rattle.std.proofs.Common.{◌≡◌, ℕ, suc, ◌^◌, ◌≤◌, ◌<◌, List, Ok, refl, ap, sym, ◌∙◌, subst, arith}
+use Rattle.capnp_model.specs.Segments.{Segments, Place, root}
+use Rattle.capnp_model.specs.Pointers.{Found, found_at}
+use Rattle.capnp_model.specs.Trees.{Tree, widened, depth}
+use Rattle.capnp_model.specs.Schemas.{Shape, shape}
+use Rattle.capnp_model.specs.Calls.{Call}
+use Rattle.capnp_model.specs.Answers.{Reply, widened_root}
+use Rattle.capnp_wire.specs.Places.{place_view}
+use Rattle.capnp_footprints.specs.Footprints.{Owns, OwnsObject}
+use Rattle.capnp_footprints.specs.Changes.{Replaces, ReplacesObject}
+use Rattle.capnp_footprints.proofs.Turns.{struct_shape}
+use Rattle.capnp_copy.specs.Structs.{struct_at}
+use Rattle.capnp_copy.specs.Values.{LeadsTo}
+use Rattle.capnp_copy.specs.declared.fields.StructPlace.{StructPlace}
+use Rattle.capnp_widening.specs.Widened.{Widens}
+use Rattle.capnp_queries.specs.Structs.{shape_of_struct}
+use Rattle.capnp_queries.specs.declared.structs.StructSchema.{StructSchema}
+use Rattle.capnp_dynamic.specs.Inside.{words_of_shape, pointers_of_shape}
+use Rattle.capnp_footprints.specs.Totals.{words_of_segments}
+use Rattle.capnp_run.specs.Runs.{RunsAll, RunsAt, RunsRoot}
+
+opened : (g : Shape) (t : Tree) → widened (words_of_shape g) (pointers_of_shape g) t ≡ widened_root g t
+opened (shape nid w p u fs) t = refl
+
+-- what the laws of values say
+pub record ValueLaws : Type 0 where
+  pub again : (n : ℕ) (s u v : Segments) (p : Place) (t w : Tree) → Replaces n s u p t → Replaces n u v p w → Replaces n s v p w
+  pub after : (n : ℕ) (s u : Segments) (p : Place) (t v : Tree) → Owns n s p t → Replaces n s u p v → Owns n u p v
+  pub down : (n : ℕ) (s : Segments) (p : Place) (f : Found) (t : Tree) → found_at s p ≡ Ok f → Owns (suc n) s p t → OwnsObject n s f.object t
+  pub depths_at : (n : ℕ) (s : Segments) (p : Place) (t : Tree) → Owns n s p t → depth t ≤ words_of_segments s
+  pub owned_at : (n m : ℕ) (s : Segments) (p : Place) (t : Tree) → depth t ≤ m → Owns n s p t → Owns m s p t
+  pub replaced_at : (n m : ℕ) (s u : Segments) (p : Place) (t v : Tree) → depth t ≤ m → depth v ≤ m → Owns n s p t → Replaces n s u p v → Replaces m s u p v
+  pub up : (n : ℕ) (s u : Segments) (p : Place) (f : Found) (t v : Tree) → found_at s p ≡ Ok f → Owns (suc n) s p t → ReplacesObject n s u f.object v → Replaces (suc n) s u p v
+
+pub at_root : ValueLaws → (s u v : Segments) → words_of_segments s < 2 ^ 29 → words_of_segments u < 2 ^ 29 → (schema : StructSchema) (o : StructPlace) (d k : ℕ) → d ≡ words_of_shape (shape_of_struct schema) → k ≡ pointers_of_shape (shape_of_struct schema)
+    → Widens s u root d k → LeadsTo u root (struct_at o) → (calls : List Call) (told : List Reply) → RunsAt u v o schema calls told → RunsRoot s v schema calls told
+at_root values s u v few few_later schema o d k dw kp widens leads calls told runs n t most owns =
+    let g = shape_of_struct schema in
+    let w : Tree = widened d k t in
+    let wide : w ≡ widened_root g t = ap (λ x. widened x k t) dw ∙ ap (λ x. widened (words_of_shape g) x t) kp ∙ opened g t in
+    let low = values.depths_at (suc n) s root t owns in
+    let change = widens (suc n) t owns in
+    let deeper : depth t ≤ suc (suc n) = omega (arith, low, few, most) in
+    let owned = values.after (suc (suc n)) s u root t w (values.owned_at (suc n) (suc (suc n)) s root t deeper owns) change in
+    let low' = values.depths_at (suc (suc n)) u root w owned in
+    let fits : depth t ≤ suc n = omega (arith, low, few, most) in
+    let fits' : depth w ≤ suc n = omega (arith, low', few_later, most) in
+    let changed : Replaces (suc n) s u root w = values.replaced_at (suc (suc n)) (suc n) s u root t w fits fits' (values.owned_at (suc n) (suc (suc n)) s root t deeper owns) change in
+    let now : Owns (suc n) u root w = values.after (suc n) s u root t w owns changed in
+    let found : Found = record { pads = leads.0; object = struct_at o } in
+    let object = values.down n u root found w leads.1 now in
+    let is = struct_shape n u (place_view o.start) o.data_words o.pointers w object in
+    let run = runs n is.0 is.1 most (subst (OwnsObject n u (struct_at o)) is.2 object) in
+    let lifted = values.up n u v root found w run.0 leads.1 now run.1 in (
+      run.0,
+      values.again (suc n) s u v root w run.0 changed lifted,
+      subst (λ x. RunsAll schema calls x run.0 told) (sym is.2 ∙ wide) run.2,
+    )

@@ -1,0 +1,7 @@
+mod Standing
+mod OneCall
+mod Levels
+mod Tested
+mod InTurn
+mod AtRoot
+mod Copied

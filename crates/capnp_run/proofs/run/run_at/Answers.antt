@@ -1,0 +1,85 @@
+use Rattle.std.proofs.Common.{◌≡◌, ℕ, suc, ◌+◌, List, ◌∷◌, [], ◌++◌, drop, take, refl, ap, sym, subst, ◌∙◌, add-one}
+use Rattle.std.specs.Prelude.{map}
+use Rattle.std.proofs.Math.Seq.{drop-cons, take-suc}
+use Rattle.std.proofs.lemmas.List.{map-append, drop_all, take_all}
+use Rattle.capnp_model.specs.Calls.{Call as ModelCall}
+use Rattle.capnp_model.specs.Answers.{Reply}
+use Rattle.capnp_model.specs.Trees.{Tree, structure}
+use Rattle.capnp_units.specs.Segments.{words_in}
+use Rattle.capnp_calls.specs.declared.call.Call.{Call}
+use Rattle.capnp_calls.specs.CallViews.{call_view}
+use Rattle.capnp_calls.specs.Replies.{reply_view}
+use Rattle.capnp_queries.specs.Structs.{nodes_around, id_of}
+use Rattle.capnp_run.specs.Runs.{record_at}
+use Rattle.capnp_run.proofs.InTurn.{SoFar, at_first, one_more, none_behind, given_plainly}
+use Rattle.capnp_run.proofs.run.run_at.Goals as goal
+
+pub loop-call-init : goal.loop-call-init
+loop-call-init g c =
+    let s = words_in (g.A.ReaderArena.segments c.args.arena.now) in
+    let calls = map call_view c.args.calls.now in
+    record {
+      so_far = subst (λ xs. SoFar s s c.args.object c.args.schema [] calls calls (map reply_view xs)) (sym c.new-replies.ensures.items) (at_first s c.args.object c.args.schema calls);
+      books = refl;
+    }
+
+pub loop-call-preserved : goal.loop-call-preserved
+loop-call-preserved g c =
+    let seg = g.A.ReaderArena.segments in
+    let s = words_in (seg c.args.arena.now) in
+    let u = words_in (seg c.loop-call.arena) in
+    let v = words_in (seg c.answer.new.arena) in
+    let p = c.args.object in
+    let root = c.args.schema in
+    let i : ℕ = c.loop-call.call-index in
+    let calls = c.args.calls.now in
+    let all = map call_view calls in
+    let this : Call = c.call-item.result in
+    let behind : List Call = drop (i + 1) calls in
+    let split : drop i calls ≡ this ∷ behind =
+    drop-cons calls i this c.loop-call-test.true ∙ ap (λ x. x ∷ drop (suc i) calls) (sym c.call-item.is) ∙ ap (λ n. this ∷ drop n calls) (sym (add-one i)) in
+    let seen : map call_view (drop i calls) ≡ call_view this ∷ map call_view behind = ap (map call_view) split in
+    let front : take (i + 1) calls ≡ take i calls ++ this ∷ [] =
+    ap (λ n. take n calls) (add-one i) ∙ take-suc calls i this c.loop-call-test.true ∙ ap (λ x. take i calls ++ x ∷ []) (sym c.call-item.is) in
+    let done : map call_view (take (i + 1) calls) ≡ map call_view (take i calls) ++ call_view this ∷ [] = ap (map call_view) front ∙ map-append call_view (take i calls) (this ∷ []) in
+    let before = map reply_view c.loop-call.replies.items in
+    let pushed : map reply_view c.push.new.self.items ≡ before ++ reply_view c.in_ok-answer.field-0 ∷ [] =
+    ap (map reply_view) c.in_ok-push.ensures.items ∙ map-append reply_view c.loop-call.replies.items (c.in_ok-answer.field-0 ∷ []) in
+    let front_calls = map call_view (take i calls) in
+    let old : SoFar s u p root front_calls (call_view this ∷ map call_view behind) all before = subst (λ rest. SoFar s u p root front_calls rest all before) seen c.loop-call.invariant.so_far in
+    let next = one_more c.changes_of_objects.ensures.owned c.changes_of_objects.ensures.again s u v p root front_calls (call_view this) (map call_view behind) all before (reply_view c.in_ok-answer.field-0) old c.in_ok-answer.ensures.answer in
+    let P : List ModelCall → Type 0 = λ xs. SoFar s v p root xs (map call_view behind) all (before ++ reply_view c.in_ok-answer.field-0 ∷ []) in
+    let Q : List Reply → Type 0 = λ xs. SoFar s v p root (map call_view (take (i + 1) calls)) (map call_view behind) all xs in
+    record {
+      so_far = subst Q (sym pushed) (subst P (sym done) next);
+      books = c.in_ok-answer.ensures.books ∙ c.loop-call.invariant.books;
+    }
+
+pub returns-clause-all : goal.returns-clause-all
+returns-clause-all g c n section kids most owns =
+    let root = c.args.schema in
+    let calls = c.args.calls.now in
+    let all = map call_view calls in
+    let last = c.loop-call.call-index in
+    let none : drop last calls ≡ [] = drop_all last calls c.loop-call-test.false in
+    let every : take last calls ≡ calls = take_all last calls c.loop-call-test.false in
+    let seg = g.A.ReaderArena.segments in
+    let s = words_in (seg c.args.arena.now) in
+    let u = words_in (seg c.loop-call.arena) in
+    let told = map reply_view c.loop-call.replies.items in
+    let P : List Call → Type 0 = λ xs. SoFar s u c.args.object root (map call_view xs) [] all told in
+    let Q : List Call → Type 0 = λ xs. SoFar s u c.args.object root (map call_view (take last calls)) (map call_view xs) all told in
+    let whole : SoFar s u c.args.object root all [] all told = subst P every (subst Q none c.loop-call.invariant.so_far) in
+    let a = whole n section kids most owns in
+    let old : Tree = structure c.args.object.data_words section kids in
+    let new : Tree = structure c.args.object.data_words a.0 a.1 in (
+      new,
+      a.2,
+      record {
+        replied = none_behind root all all told old new a.3;
+        tree = a.3.tree;
+        fields = λ kinds.
+            ap (record_at root) a.3.tree
+            ∙ c.records_after_calls.ensures.reads (nodes_around root) (id_of root) all old (record { accepted = root.set.now.accepted; root = c.roots_are_no_groups.ensures root c.requires.root; given = given_plainly root all (c.calls_are_given.ensures root calls); opens = tt; kinds = kinds });
+      },
+    )

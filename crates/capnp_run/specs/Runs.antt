@@ -1,0 +1,66 @@
+-- Calls in turn at a struct of a message, where it lies. (Encoding, "Structs")
+use Rattle.std.specs.Prelude.{◌≡◌, ℕ, ℤ, suc, ◌^◌, ◌<◌, ◌≤◌, Some, List}
+use Rattle.capnp_model.specs.Segments.{Segments, root}
+use Rattle.capnp_model.specs.Trees.{Tree, Trees, structure}
+use Rattle.capnp_model.specs.Readings.{Record, record_of}
+use Rattle.capnp_model.specs.Calls.{Call}
+use Rattle.capnp_model.specs.Steps.{step}
+use Rattle.capnp_model.specs.Edits.{edit}
+use Rattle.capnp_model.specs.CallRuns.{records_after}
+use Rattle.capnp_model.specs.InKindCalls.{IsInKind}
+use Rattle.capnp_model.specs.Answers.{Reply, levels, reply_of, replies, edits, widened_root}
+use Rattle.capnp_units.specs.Segments.{words_in}
+use Rattle.capnp_footprints.specs.Footprints.{Owns, OwnsObject}
+use Rattle.capnp_footprints.specs.Changes.{Replaces, ReplacesObject}
+use Rattle.capnp_footprints.specs.Totals.{words_of_segments}
+use Rattle.capnp_copy.specs.Structs.{struct_at}
+use Rattle.capnp_copy.specs.declared.fields.StructPlace.{StructPlace}
+use Rattle.capnp_queries.specs.Structs.{schema_around, shape_of_struct, id_of}
+use Rattle.capnp_queries.specs.declared.structs.StructSchema.{StructSchema}
+use Rattle.capnp_calls.specs.Texts.{as_it_is}
+
+-- Arenas whose messages have fewer than 2^29 words, and in which pointers are followed as deep as those words can go.
+pub record IsDeep {A : Type 0} (bytes : A → List (List ℕ)) (nesting : A → ℤ) : Type 0 where
+  pub few : (a : A) → words_of_segments (words_in (bytes a)) < 2 ^ 29
+  pub deep : (a : A) → (n : ℕ) × (levels (nesting a) ≡ Some n) × (2 ^ 29 ≤ n)
+
+-- The record of a value under a root's schema.
+abbrev pub record_at : StructSchema → Tree → Record
+record_at schema t = record_of (schema_around schema) (id_of schema) t
+
+-- A call has the reply of the record machine at the record of the struct, and its edit.
+pub record Answers (schema : StructSchema) (c : Call) (old new : Tree) (told : Reply) : Type 0 where
+  pub replied : told ≡ reply_of (schema_around schema) as_it_is (step (schema_around schema) (id_of schema) c (record_at schema old))
+  pub tree : new ≡ edit (schema_around schema) (id_of schema) c old
+
+-- Each call does in turn, on the tree of the struct, and, where all lists are in kind, on its record.
+pub record RunsAll (schema : StructSchema) (calls : List Call) (old new : Tree) (told : List Reply) : Type 0 where
+  pub replied : told ≡ replies (schema_around schema) as_it_is (id_of schema) calls old
+  pub tree : new ≡ edits (schema_around schema) (id_of schema) calls old
+  pub fields : IsInKind (schema_around schema) (id_of schema) calls old → record_at schema new ≡ records_after (schema_around schema) (id_of schema) calls (record_at schema old)
+
+-- Whatever struct is owned at the place becomes another value of which this holds, and nothing else changes. No value of a message is more levels deep.
+abbrev pub BecomesAt : Segments → Segments → StructPlace → (Tree → Tree → Type 0) → Type 0
+BecomesAt s u p Holds =
+    (n section : ℕ) (kids : Trees) → 2 ^ 29 ≤ n → OwnsObject n s (struct_at p) (structure p.data_words section kids)
+    → (new : Tree) × ReplacesObject n s u (struct_at p) new × Holds (structure p.data_words section kids) new
+
+-- The reply is the record machine's at the record of whatever struct is owned at the place.
+abbrev pub TestsAt : Segments → StructPlace → StructSchema → Call → Reply → Type 0
+TestsAt s p schema c told =
+    (n section : ℕ) (kids : Trees) → 2 ^ 29 ≤ n → OwnsObject n s (struct_at p) (structure p.data_words section kids)
+    → told ≡ reply_of (schema_around schema) as_it_is (step (schema_around schema) (id_of schema) c (record_at schema (structure p.data_words section kids)))
+
+-- The struct at a place is answered, and edited.
+abbrev pub AnswersAt : Segments → Segments → StructPlace → StructSchema → Call → Reply → Type 0
+AnswersAt s u p schema c told = BecomesAt s u p (λ old new. Answers schema c old new told)
+
+-- The same by calls in turn.
+abbrev pub RunsAt : Segments → Segments → StructPlace → StructSchema → List Call → List Reply → Type 0
+RunsAt s u p schema calls told = BecomesAt s u p (λ old new. RunsAll schema calls old new told)
+
+-- Whatever value is owned at a message's root, a struct or null, becomes what the calls make of it, opened as a struct of at least the schema's sizes, and nothing else changes.
+abbrev pub RunsRoot : Segments → Segments → StructSchema → List Call → List Reply → Type 0
+RunsRoot s u schema calls told =
+    (n : ℕ) (t : Tree) → 2 ^ 29 ≤ n → Owns (suc n) s root t
+    → (new : Tree) × Replaces (suc n) s u root new × RunsAll schema calls (widened_root (shape_of_struct schema) t) new told

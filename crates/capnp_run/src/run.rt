@@ -1,0 +1,136 @@
+//! Calls in turn, each tested where the struct is read, and then written.
+ghost use Rattle.std.specs.Prelude.{◌≡◌, ◌+◌, ◌^◌, ◌<◌, map, IfOk, IfSome};
+ghost use Rattle.capnp_model.specs.Answers.{reply_of};
+ghost use Rattle.capnp_model.specs.Trees.{Trees, structure};
+ghost use Rattle.capnp_model.specs.Steps.{step};
+ghost use Rattle.capnp_units.specs.Segments.{words_in};
+ghost use Rattle.capnp_footprints.specs.Footprints.{OwnsObject};
+ghost use Rattle.capnp_copy.specs.Structs.{struct_at};
+ghost use Rattle.capnp_wire.specs.Places.{place_view};
+ghost use Rattle.capnp_wire.specs.Views as views;
+ghost use Rattle.capnp_values.specs.Sources.{struct_seen};
+ghost use Rattle.capnp_queries.specs.Structs.{schema_around, shape_of_struct, id_of};
+ghost use Rattle.capnp_dynamic.specs.Edits.{IsThere, IsWide};
+ghost use Rattle.capnp_calls.specs.CallViews.{call_view};
+ghost use Rattle.capnp_calls.specs.Replies.{reply_view};
+ghost use Rattle.capnp_calls.specs.Taken.{IsRoot};
+ghost use Rattle.capnp_calls.specs.Texts.{as_it_is};
+ghost use Rattle.capnp_run.specs.Runs.{IsDeep, TestsAt, AnswersAt, RunsAt};
+
+use capnp_calls::Call;
+use capnp_calls::laws::{calls_are_given, roots_are_no_groups};
+use capnp_calls::reply::Reply;
+use capnp_copy::arena::BuilderArena;
+use capnp_copy::fields::StructPlace;
+use capnp_edits::path::write_path;
+use capnp_footprints::laws::changes_of_objects;
+use capnp_footprints::laws_of_depths::{changes_with_fewer_levels, depths_of_owned_values};
+use capnp_model::laws_of_edits::records_after_calls;
+use capnp_queries::structs::StructSchema;
+use capnp_replies::root::reply_to;
+use capnp_units::errors::{Error, Result};
+use capnp_units::kinds::ErrorKind;
+use capnp_values::dynamic_struct;
+use capnp_wire::arena::ReaderArena;
+use capnp_wire::place::has_words;
+use capnp_wire::structs::StructReader;
+use std::alloc::Global;
+
+/// The struct, to read.
+fn struct_of<'a, A: ReaderArena>(
+    arena: &'a A,
+    object: StructPlace,
+    schema: StructSchema<'a>,
+) -> dynamic_struct::Reader<'a, A>
+    requires there { IsThere (words_in (A.segments arena.now)) object }
+    ensures source { struct_seen A.segments result.source ≡ views.struct_at (A.segments arena.now)
+        (A.nesting arena.now) (place_view object.start) object.data_words object.pointers }
+    ensures schema { result.schema ≡ schema.entry }
+{
+    let reader = StructReader::at(arena, object.start, object.data_words, object.pointers);
+    dynamic_struct::Reader::new(reader, schema)
+}
+
+/// What a call replies at the struct, or that it is to be written; none of a call that sets a message.
+fn test<A: ReaderArena>(
+    alloc: Global,
+    arena: &A,
+    object: StructPlace,
+    schema: StructSchema<'_>,
+    call: &Call,
+) -> Result<Option<Reply>>
+    requires arena { IsDeep A.segments A.nesting }
+    requires there { IsThere (words_in (A.segments arena.now)) object }
+    ensures replied { IfOk result (λ o. IfSome o (λ r.
+        TestsAt (words_in (A.segments arena.now)) object schema.entry (call_view call.now)
+        (reply_view r))) }
+{
+    changes_with_fewer_levels();
+    depths_of_owned_values();
+    reply_to(alloc, struct_of(arena, object, schema), call)
+}
+
+/// Answers a call at the struct, which is there, else it is refused with `OutOfBounds`; one that sets a message is refused with `TypeMismatch`. After an error nothing is promised of the struct's value.
+fn answer<A: BuilderArena>(
+    alloc: Global,
+    arena: &mut A,
+    object: StructPlace,
+    schema: StructSchema<'_>,
+    call: &Call,
+) -> Result<Reply>
+    requires arena { IsDeep A.segments A.nesting }
+    requires near { object.start.position + (object.data_words + object.pointers) < 2 ^ 61 }
+    requires wide { IsWide object (shape_of_struct schema) }
+    ensures answer { IfOk result (λ r. AnswersAt (words_in (A.segments arena.old))
+        (words_in (A.segments arena.new)) object schema.entry (call_view call.now)
+        (reply_view r)) }
+    ensures books { A.books arena.new ≡ A.books arena.old }
+{
+    changes_of_objects();
+    changes_with_fewer_levels();
+    depths_of_owned_values();
+    let words = object.data_words as usize + object.pointers as usize;
+    if !has_words(arena, object.start, words) {
+        return Err(Error::from(ErrorKind::OutOfBounds));
+    }
+    let Some(reply) = test(alloc, arena, object, schema, call)? else {
+        return Err(Error::from(ErrorKind::TypeMismatch));
+    };
+    match reply {
+        Reply::Done => {
+            write_path(arena, object, schema, call.path(), call.action())?;
+            Ok(Reply::Done)
+        }
+        other => Ok(other),
+    }
+}
+
+/// Answers calls in turn at a struct of a message, each at what the calls before it left: its reply is that of the record machine, and the struct becomes what the edits make of it. A refused call and a `get` change nothing, and don't stop the next.
+///
+/// The struct has at least its schema's two sizes. It is refused by want of memory, as the arena refuses, with `OutOfBounds` where the struct isn't there, with `TypeMismatch` at a call that sets a message, and with `WrongStep` at one that would be written behind a list's index or into a group; then the calls before have their effect, and the next perhaps a part of it.
+pub fn run_at<A: BuilderArena>(
+    alloc: Global,
+    arena: &mut A,
+    object: StructPlace,
+    schema: StructSchema<'_>,
+    calls: &[Call],
+) -> Result<Vec<Reply>>
+    requires arena { IsDeep A.segments A.nesting }
+    requires near { object.start.position + (object.data_words + object.pointers) < 2 ^ 61 }
+    requires wide { IsWide object (shape_of_struct schema) }
+    requires root { IsRoot schema }
+    ensures all { IfOk result (λ told. RunsAt (words_in (A.segments arena.old))
+        (words_in (A.segments arena.new)) object schema.entry (map call_view calls.now)
+        (map reply_view told.items)) }
+    ensures books { A.books arena.new ≡ A.books arena.old }
+{
+    records_after_calls();
+    calls_are_given();
+    roots_are_no_groups();
+    changes_of_objects();
+    let mut replies = Vec::new(alloc);
+    for call in calls {
+        replies.push(answer(alloc, arena, object, schema, call)?)?;
+    }
+    Ok(replies)
+}
