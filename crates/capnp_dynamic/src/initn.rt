@@ -162,7 +162,12 @@ fn put_structs<A: BuilderArena>(
 }
 
 /// Puts a new list in place of the value of the pointer at a place, which is cleared.
-pub fn put_list<A: BuilderArena>(arena: &mut A, slot: Place, list: NewList, count: u32) -> Result<()>
+pub fn put_list<A: BuilderArena>(
+    arena: &mut A,
+    slot: Place,
+    list: NewList,
+    count: u32,
+) -> Result<()>
     requires there { is_some (words_at (words_in (A.segments arena.old)) (place_view slot) 1)
         ≡ true }
     requires near { slot.position < 2 ^ 61 }
