@@ -86,7 +86,8 @@ fn put_struct<A: BuilderArena>(
     requires there { is_some (words_at (words_in (A.segments arena.old)) (place_view slot) 1)
         ≡ true }
     requires near { slot.position < 2 ^ 61 }
-    ensures made { let at = state_in A.segments A.room A.books in let g = shape_of_struct schema.entry in
+    ensures made { let at = state_in A.segments A.room A.books in
+        let g = shape_of_struct schema.entry in
         OnOk result (Makes (at arena.old) (at arena.new) slot (empty_struct g)
         (words_of_shape g + pointers_of_shape g)) }
     ensures leads { IfOk result (λ o.

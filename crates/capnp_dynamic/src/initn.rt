@@ -97,7 +97,8 @@ fn put_text<A: BuilderArena>(arena: &mut A, slot: Place, count: u32) -> Result<(
     requires there { is_some (words_at (words_in (A.segments arena.old)) (place_view slot) 1)
         ≡ true }
     requires near { slot.position < 2 ^ 61 }
-    ensures made { let at = state_in A.segments A.room A.books in let t = plain_list 2 (suc count) 0 in
+    ensures made { let at = state_in A.segments A.room A.books in
+        let t = plain_list 2 (suc count) 0 in
         OnOk result (Makes (at arena.old) (at arena.new) slot t (object_words t)) }
     ensures refused { let at = state_in A.segments A.room A.books in IfErr result
         (ObjectNotMade (at arena.old) (at arena.new) slot.segment (plain_list 2 (suc count) 0)) }

@@ -48,7 +48,8 @@ fn is_signed(number: i128, width: u32) -> bool
 /// Whether a value is a number without a sign of so many bits.
 fn fits_unsigned(value: &SlotValue, width: u32) -> bool
     requires { width ≤ 64 }
-    ensures { taken result ≡ content_reply (plain_content (uint width) (slot_value_view value.now)) }
+    ensures { taken result
+        ≡ content_reply (plain_content (uint width) (slot_value_view value.now)) }
 {
     match value {
         SlotValue::Number(number) => is_unsigned(*number, width),
@@ -124,7 +125,8 @@ fn fits_list(value: &SlotValue, element: Type) -> bool
 
 /// The reply to a write of an untyped pointer, which takes texts, data and messages.
 fn untyped_reply(value: &SlotValue) -> Reply
-    ensures { reply_view result ≡ content_reply (value_content (slot_value_view value.now) untyped) }
+    ensures { reply_view result
+        ≡ content_reply (value_content (slot_value_view value.now) untyped) }
 {
     match value {
         SlotValue::Text(_) | SlotValue::Data(_) | SlotValue::Message(_) => Reply::Done,
