@@ -9,3 +9,4 @@ pub mod Lists
 pub mod Blobs
 pub mod Elements
 pub mod Bytes
+pub mod Deep

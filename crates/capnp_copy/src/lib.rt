@@ -13,6 +13,7 @@ mod grown;
 pub mod held;
 pub mod init;
 pub mod laws;
+pub mod laws_of_arenas;
 pub mod room;
 pub mod segments;
 pub mod struct_lists;
