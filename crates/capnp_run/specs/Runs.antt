@@ -1,5 +1,5 @@
 -- Calls in turn at a struct of a message, where it lies. (Encoding, "Structs")
-use Rattle.std.specs.Prelude.{◌≡◌, ℕ, ℤ, suc, ◌^◌, ◌<◌, ◌≤◌, Some, List}
+use Rattle.std.specs.Prelude.{◌≡◌, ℕ, suc, ◌^◌, ◌≤◌, List}
 use Rattle.capnp_model.specs.Segments.{Segments, root}
 use Rattle.capnp_model.specs.Trees.{Tree, Trees, structure}
 use Rattle.capnp_model.specs.Readings.{Record, record_of}
@@ -8,21 +8,14 @@ use Rattle.capnp_model.specs.Steps.{step}
 use Rattle.capnp_model.specs.Edits.{edit}
 use Rattle.capnp_model.specs.CallRuns.{records_after}
 use Rattle.capnp_model.specs.InKindCalls.{IsInKind}
-use Rattle.capnp_model.specs.Answers.{Reply, levels, reply_of, replies, edits, widened_root}
-use Rattle.capnp_units.specs.Segments.{words_in}
+use Rattle.capnp_model.specs.Answers.{Reply, reply_of, replies, edits, widened_root}
 use Rattle.capnp_footprints.specs.Footprints.{Owns, OwnsObject}
 use Rattle.capnp_footprints.specs.Changes.{Replaces, ReplacesObject}
-use Rattle.capnp_footprints.specs.Totals.{words_of_segments}
 use Rattle.capnp_copy.specs.Structs.{struct_at}
 use Rattle.capnp_copy.specs.declared.fields.StructPlace.{StructPlace}
 use Rattle.capnp_queries.specs.Structs.{schema_around, shape_of_struct, id_of}
 use Rattle.capnp_queries.specs.declared.structs.StructSchema.{StructSchema}
 use Rattle.capnp_calls.specs.Texts.{as_it_is}
-
--- Arenas whose messages have fewer than 2^29 words, and in which pointers are followed as deep as those words can go.
-pub record IsDeep {A : Type 0} (bytes : A → List (List ℕ)) (nesting : A → ℤ) : Type 0 where
-  pub few : (a : A) → words_of_segments (words_in (bytes a)) < 2 ^ 29
-  pub deep : (a : A) → (n : ℕ) × (levels (nesting a) ≡ Some n) × (2 ^ 29 ≤ n)
 
 -- The record of a value under a root's schema.
 abbrev pub record_at : StructSchema → Tree → Record

@@ -3,12 +3,13 @@ ghost use Rattle.std.specs.Prelude.{◌≡◌, map, true, IfOk};
 ghost use Rattle.std.specs.Option.{is_some};
 ghost use Rattle.capnp_model.specs.Segments.{root, words_at};
 ghost use Rattle.capnp_units.specs.Segments.{words_in};
+ghost use Rattle.capnp_copy.specs.Deep.{IsDeep};
 ghost use Rattle.capnp_queries.specs.Structs.{shape_of_struct};
 ghost use Rattle.capnp_dynamic.specs.Inside.{words_of_shape, pointers_of_shape};
 ghost use Rattle.capnp_calls.specs.CallViews.{call_view};
 ghost use Rattle.capnp_calls.specs.Replies.{reply_view};
 ghost use Rattle.capnp_calls.specs.Taken.{IsRoot};
-ghost use Rattle.capnp_run.specs.Runs.{IsDeep, RunsRoot};
+ghost use Rattle.capnp_run.specs.Runs.{RunsRoot};
 
 use crate::run::run_at;
 use capnp_calls::Call;

@@ -5,6 +5,7 @@ ghost use Rattle.capnp_model.specs.Trees.{Trees, structure};
 ghost use Rattle.capnp_model.specs.Steps.{step};
 ghost use Rattle.capnp_units.specs.Segments.{words_in};
 ghost use Rattle.capnp_footprints.specs.Footprints.{OwnsObject};
+ghost use Rattle.capnp_copy.specs.Deep.{IsDeep};
 ghost use Rattle.capnp_copy.specs.Structs.{struct_at};
 ghost use Rattle.capnp_wire.specs.Places.{place_view};
 ghost use Rattle.capnp_wire.specs.Views as views;
@@ -15,7 +16,7 @@ ghost use Rattle.capnp_calls.specs.CallViews.{call_view};
 ghost use Rattle.capnp_calls.specs.Replies.{reply_view};
 ghost use Rattle.capnp_calls.specs.Taken.{IsRoot};
 ghost use Rattle.capnp_calls.specs.Texts.{as_it_is};
-ghost use Rattle.capnp_run.specs.Runs.{IsDeep, TestsAt, AnswersAt, RunsAt};
+ghost use Rattle.capnp_run.specs.Runs.{TestsAt, AnswersAt, RunsAt};
 
 use capnp_calls::Call;
 use capnp_calls::laws::{calls_are_given, roots_are_no_groups};
