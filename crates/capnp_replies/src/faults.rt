@@ -45,10 +45,8 @@ fn refusal(ty: Type, members: bool, is_there: bool, is_bad: bool) -> Option<Erro
             let kind = ErrorKind::SettingDynamicCapabilitiesIsUnsupported;
             refused_if(members || is_there, kind)
         }
-        TypeVariant::Text
-        | TypeVariant::Data
-        | TypeVariant::Struct(_)
-        | TypeVariant::List(_) => refused_if(is_there && is_bad, ErrorKind::UnreadablePointer),
+        TypeVariant::Text | TypeVariant::Data | TypeVariant::Struct(_) | TypeVariant::List(_) =>
+            refused_if(is_there && is_bad, ErrorKind::UnreadablePointer),
         TypeVariant::Void
         | TypeVariant::Bool
         | TypeVariant::Int8
