@@ -2,8 +2,11 @@ pub mod Records
 pub mod Sorts
 pub mod Steps
 pub mod Endings
-pub mod NoMessages
 pub mod Typed
 pub mod Parts
 pub mod Gets
 pub mod Roots
+pub mod KeptValues
+pub mod GroupFaults
+pub mod GroupReplies
+pub mod SlotFaults

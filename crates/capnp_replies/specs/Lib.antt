@@ -1,3 +1,5 @@
+pub mod Faults
+pub mod Messages
 pub mod Parts
 pub mod Replies
 pub mod Texts

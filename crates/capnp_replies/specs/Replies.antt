@@ -1,5 +1,5 @@
 -- What a call replies at a struct that is read. (Encoding, "Value Encoding")
-use Rattle.std.specs.Prelude.{ℕ, ◌≡◌, true, Option, Some, None, List}
+use Rattle.std.specs.Prelude.{ℕ, ◌≡◌, List}
 use Rattle.capnp_model.specs.Readings.{record_as, Record}
 use Rattle.capnp_model.specs.Calls.{Call}
 use Rattle.capnp_model.specs.Steps.{step}
@@ -9,15 +9,9 @@ use Rattle.capnp_values.specs.Sources.{struct_seen}
 use Rattle.capnp_values.specs.Standing.{IsRecord}
 use Rattle.capnp_values.specs.declared.dynamic_struct.Reader.{Reader as DynamicStruct}
 use Rattle.capnp_calls.specs.Texts.{as_it_is}
-use Rattle.capnp_replies.specs.Writes.{sets_message}
 
 -- At a struct that is read, the reply is that of the record machine at the struct's record.
 abbrev pub RepliesTo : {A : Type 0} → (A → List (List ℕ)) → DynamicStruct A → Call → Reply → Type 0
 RepliesTo bytes root call answer =
     let s = schema_around root.schema in
     (r : Record) → IsRecord s (shape_of_struct root.schema) (struct_seen bytes root.source) (record_as r) → answer ≡ reply_of s as_it_is (step s (id_of root.schema) call r)
-
--- The reply is told, or none where the call sets a message.
-abbrev pub TellsReply : {A : Type 0} → (A → List (List ℕ)) → DynamicStruct A → Call → Option Reply → Type 0
-TellsReply bytes root call None = sets_message call.verb ≡ true
-TellsReply bytes root call (Some answer) = RepliesTo bytes root call answer

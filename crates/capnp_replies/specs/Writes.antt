@@ -2,7 +2,7 @@
 use Rattle.std.specs.Prelude.{Bool, true, false}
 use Rattle.capnp_model.specs.Kinds.{TypeMismatch, InitnIsOnlyValidForListTextOrDataFields}
 use Rattle.capnp_model.specs.Schemas.{Ty, Schema}
-use Rattle.capnp_model.specs.Calls.{CallValue, whole_number, truth, enumerant, text_value, blob_value, message, Verb, get, set_to, init, initn, clear, Content, bits_of, value_content, init_content, initn_content}
+use Rattle.capnp_model.specs.Calls.{Verb, get, set_to, init, initn, clear, Content, bits_of, value_content, init_content, initn_content}
 use Rattle.capnp_model.specs.Answers.{Reply, reply_done, reply_refused}
 
 -- A value of another sort is refused.
@@ -25,20 +25,3 @@ is_get (set_to v) = false
 is_get init = false
 is_get (initn n) = false
 is_get clear = false
-
--- It is a message.
-abbrev pub is_message : CallValue → Bool
-is_message (whole_number z) = false
-is_message (truth b) = false
-is_message (enumerant n) = false
-is_message (text_value bs) = false
-is_message (blob_value bs) = false
-is_message (message t) = true
-
--- It sets a message.
-abbrev pub sets_message : Verb → Bool
-sets_message get = false
-sets_message (set_to v) = is_message v
-sets_message init = false
-sets_message (initn n) = false
-sets_message clear = false

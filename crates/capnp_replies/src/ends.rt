@@ -11,7 +11,7 @@ ghost use Rattle.capnp_values.specs.Sources.{struct_seen, list_seen};
 ghost use Rattle.capnp_calls.specs.CallViews.{slot_value_view, action_view};
 ghost use Rattle.capnp_calls.specs.Replies.{reply_view, content_reply};
 ghost use Rattle.capnp_replies.specs.Parts.{RepliesAtElement, OfField, OfBody, IsFieldReply, IsGroupOf};
-ghost use Rattle.capnp_replies.specs.Writes.{type_content, is_get, is_message, sets_message};
+ghost use Rattle.capnp_replies.specs.Writes.{type_content, is_get};
 
 use crate::groups::group_reply;
 use crate::shown::{shown_element, shown_field};
@@ -80,7 +80,6 @@ fn initn_reply(count: u32, ty: Type, otherwise: ErrorKind) -> Reply
 
 /// The reply to a write of a slot of the type.
 fn slot_reply(action: &Action, ty: Type) -> Reply
-    requires { sets_message (action_view action.now) ≡ false }
     ensures { (s : Schema) → reply_view result
         ≡ content_reply (type_content s (action_view action.now) (ty_of ty)) }
 {
@@ -100,7 +99,6 @@ fn slot_reply(action: &Action, ty: Type) -> Reply
 
 /// The reply to `set` of an element of the type.
 fn set_element(value: &SlotValue, ty: Type) -> Reply
-    requires { is_message (slot_value_view value.now) ≡ false }
     ensures { (s : Schema) → reply_view result
         ≡ content_reply (element_content s (set_to (slot_value_view value.now)) (ty_of ty)) }
 {
@@ -151,7 +149,6 @@ fn initn_element(count: u32, ty: Type) -> Reply
 
 /// The reply to a write of an element of the type.
 fn element_reply(action: &Action, ty: Type) -> Reply
-    requires { sets_message (action_view action.now) ≡ false }
     ensures { (s : Schema) → reply_view result
         ≡ content_reply (element_content s (action_view action.now) (ty_of ty)) }
 {
@@ -171,7 +168,7 @@ fn is_get(action: &Action) -> bool
 }
 
 /// The group that a field is, if it is one.
-fn group_of<'a>(field: Field<'a>) -> Option<StructSchema<'a>>
+pub(crate) fn group_of<'a>(field: Field<'a>) -> Option<StructSchema<'a>>
     ensures { IsGroupOf field.entry result }
 {
     match field.place() {
@@ -183,7 +180,6 @@ fn group_of<'a>(field: Field<'a>) -> Option<StructSchema<'a>>
 /// The reply to a write of a field.
 fn field_write(field: Field<'_>, action: &Action) -> Reply
     requires write { is_get (action_view action.now) ≡ false }
-    requires no_message { sets_message (action_view action.now) ≡ false }
     ensures { OfBody field.entry
         (IsFieldReply [] (action_view action.now) (reply_view result)) }
 {
@@ -201,7 +197,6 @@ pub(crate) fn field_end<A: ReaderArena>(
     action: &Action,
 ) -> Result<Reply>
     requires parent { field.parent ≡ reader.schema }
-    requires no_message { sets_message (action_view action.now) ≡ false }
     ensures replied { IfOk result (λ reply.
         OfField field.entry (struct_seen A.segments reader.entry.source)
         (IsFieldReply [] (action_view action.now) (reply_view reply))) }
@@ -221,7 +216,6 @@ pub(crate) fn element_end<A: ReaderArena>(
     action: &Action,
 ) -> Result<Reply>
     requires inside { index < (list_seen A.segments list.source).count }
-    requires no_message { sets_message (action_view action.now) ≡ false }
     ensures replied { let l = list.entry in IfOk result (λ reply.
         RepliesAtElement (schema_of (nodes_of l.set.now)) (ty_of l.element_type)
         (list_seen A.segments l.source) index [] (action_view action.now) (reply_view reply)) }

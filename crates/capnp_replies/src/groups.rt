@@ -2,34 +2,61 @@
 ghost use Rattle.std.specs.Prelude.{◌≡◌, false};
 ghost use Rattle.capnp_model.specs.Readings.{Reading};
 ghost use Rattle.capnp_model.specs.Schemas.{group_slot};
+ghost use Rattle.capnp_model.specs.Calls.{message};
 ghost use Rattle.capnp_model.specs.Steps.{set_group, at_field};
 ghost use Rattle.capnp_model.specs.Answers.{reply_of};
 ghost use Rattle.capnp_queries.specs.Structs.{schema_around, shape_of_struct};
+ghost use Rattle.capnp_call_messages.specs.Messages.{tree_of_message};
 ghost use Rattle.capnp_calls.specs.CallViews.{slot_value_view, action_view};
 ghost use Rattle.capnp_calls.specs.Replies.{reply_view};
 ghost use Rattle.capnp_calls.specs.Texts.{as_it_is};
-ghost use Rattle.capnp_replies.specs.Writes.{is_get, is_message, sets_message};
+ghost use Rattle.capnp_replies.specs.Writes.{is_get};
 
+use crate::faults::group_fault;
+use crate::messages::{kept, struct_in};
+use capnp_call_messages::message::MessageValue;
 use capnp_calls::reply::Reply;
 use capnp_calls::{Action, SlotValue};
 use capnp_queries::structs::StructSchema;
 use capnp_units::kinds::ErrorKind;
 
-/// The reply to `set` of a group to a value that is no message: groups are set from structs.
+/// The reply to `set` of a group to the value of a message: its first fault as a struct under the group's schema, null the empty one.
+fn message_reply(schema: StructSchema<'_>, value: &MessageValue) -> Reply
+    ensures { let s = schema_around schema.entry in
+        reply_view result
+        ≡ reply_of s as_it_is
+        (set_group s (shape_of_struct schema.entry) (message (tree_of_message value.now))) }
+{
+    let arena = kept(value);
+    let Some(source) = struct_in(&arena) else {
+        return Reply::Refused(ErrorKind::NotAStruct);
+    };
+    match group_fault(source, schema) {
+        Some(kind) => Reply::Refused(kind),
+        None => Reply::Done,
+    }
+}
+
+/// The reply to `set` of a group: groups are set from structs.
 fn set_reply(schema: StructSchema<'_>, value: &SlotValue) -> Reply
-    requires { is_message (slot_value_view value.now) ≡ false }
     ensures { let s = schema_around schema.entry in
         reply_view result
         ≡ reply_of s as_it_is
         (set_group s (shape_of_struct schema.entry) (slot_value_view value.now)) }
 {
-    Reply::Refused(ErrorKind::NotAStruct)
+    match value {
+        SlotValue::Message(kept) => message_reply(schema, kept),
+        SlotValue::Number(_)
+        | SlotValue::Bool(_)
+        | SlotValue::Enum(_)
+        | SlotValue::Text(_)
+        | SlotValue::Data(_) => Reply::Refused(ErrorKind::NotAStruct),
+    }
 }
 
 /// The reply to a write of a group.
 pub(crate) fn group_reply(schema: StructSchema<'_>, action: &Action) -> Reply
-    requires write { is_get (action_view action.now) ≡ false }
-    requires no_message { sets_message (action_view action.now) ≡ false }
+    requires { is_get (action_view action.now) ≡ false }
     ensures { let s = schema_around schema.entry in (r : Reading)
         → reply_view result
         ≡ reply_of s as_it_is

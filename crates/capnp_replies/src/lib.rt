@@ -3,7 +3,9 @@
 
 mod active;
 mod ends;
+mod faults;
 mod groups;
+mod messages;
 mod path;
 pub mod root;
 mod shown;

@@ -1,5 +1,5 @@
 //! Replies along the path of a call.
-ghost use Rattle.std.specs.Prelude.{◌≡◌, ◌<◌, false, IfOk, IfErr, IfSome, length, map, option_map};
+ghost use Rattle.std.specs.Prelude.{◌≡◌, ◌<◌, IfOk, IfErr, IfSome, length, map, option_map};
 ghost use Rattle.capnp_units.specs.declared.kinds.ErrorKind.{ErrorKind};
 ghost use Rattle.capnp_records.specs.Sets.{nodes_of};
 ghost use Rattle.capnp_model.specs.Accepted.{schema_of};
@@ -11,7 +11,6 @@ ghost use Rattle.capnp_calls.specs.CallViews.{step_view, action_view};
 ghost use Rattle.capnp_calls.specs.Replies.{reply_view};
 ghost use Rattle.capnp_calls.specs.Taken.{BeginsWith};
 ghost use Rattle.capnp_replies.specs.Parts.{BeginsAt, RepliesBehind, RepliesAtStruct, RepliesAtList, RepliesAtElement, OfField, IsFieldReply};
-ghost use Rattle.capnp_replies.specs.Writes.{sets_message};
 
 use crate::active::is_active;
 use crate::ends::{element_end, field_end};
@@ -59,7 +58,6 @@ pub(crate) fn at_struct<A: ReaderArena>(
     path: &[Step],
     action: &Action,
 ) -> Result<Reply>
-    requires { sets_message (action_view action.now) ≡ false }
     ensures replied { let r = reader.entry in IfOk result (λ reply.
         RepliesAtStruct (schema_around r.schema) (shape_of_struct r.schema)
         (struct_seen A.segments r.source) (map step_view path.now) (action_view action.now)
@@ -86,7 +84,6 @@ fn at_field<A: ReaderArena>(
     action: &Action,
 ) -> Result<Reply>
     requires parent { field.parent ≡ reader.schema }
-    requires no_message { sets_message (action_view action.now) ≡ false }
     ensures replied { IfOk result (λ reply.
         OfField field.entry (struct_seen A.segments reader.entry.source)
         (IsFieldReply (map step_view rest.now) (action_view action.now) (reply_view reply))) }
@@ -113,7 +110,6 @@ fn behind<A: ReaderArena>(
     path: &[Step],
     action: &Action,
 ) -> Result<Reply>
-    requires { sets_message (action_view action.now) ≡ false }
     ensures replied { IfOk result (λ reply.
         RepliesBehind (shown A.segments value.entry) (map step_view path.now)
         (action_view action.now) (reply_view reply)) }
@@ -148,7 +144,6 @@ fn at_list<A: ReaderArena>(
     path: &[Step],
     action: &Action,
 ) -> Result<Reply>
-    requires { sets_message (action_view action.now) ≡ false }
     ensures replied { let l = list.entry in IfOk result (λ reply.
         RepliesAtList (schema_of (nodes_of l.set.now)) (ty_of l.element_type)
         (list_seen A.segments l.source) (map step_view path.now) (action_view action.now)
@@ -176,7 +171,6 @@ fn at_element<A: ReaderArena>(
     action: &Action,
 ) -> Result<Reply>
     requires inside { index < (list_seen A.segments list.source).count }
-    requires no_message { sets_message (action_view action.now) ≡ false }
     ensures replied { let l = list.entry in IfOk result (λ reply.
         RepliesAtElement (schema_of (nodes_of l.set.now)) (ty_of l.element_type)
         (list_seen A.segments l.source) index (map step_view rest.now) (action_view action.now)

@@ -1,12 +1,13 @@
 //! What values are refused by in slots and elements.
-ghost use Rattle.std.specs.Prelude.{◌≡◌, ◌≤◌, ◌<◌, false};
+ghost use Rattle.std.specs.Prelude.{◌≡◌, ◌≤◌, ◌<◌};
 ghost use Rattle.capnp_model.specs.Schemas.{bool, int, uint, «enum», text, blob, untyped, struct, list};
 ghost use Rattle.capnp_model.specs.Calls.{whole_number, plain_content, value_content};
 ghost use Rattle.capnp_queries.specs.Types.{ty_of};
 ghost use Rattle.capnp_calls.specs.CallViews.{slot_value_view};
 ghost use Rattle.capnp_calls.specs.Replies.{reply_view, content_reply};
-ghost use Rattle.capnp_replies.specs.Writes.{taken, is_message};
+ghost use Rattle.capnp_replies.specs.Writes.{taken};
 
+use crate::messages::{is_list, is_struct};
 use capnp_calls::SlotValue;
 use capnp_calls::reply::Reply;
 use capnp_queries::introspect::{Type, TypeVariant};
@@ -105,22 +106,34 @@ fn is_data(value: &SlotValue) -> bool
     matches!(value, SlotValue::Data(_))
 }
 
-/// Whether a value that is no message is a struct: it never is.
+/// Whether a value is a message that is a struct, null the empty one.
 fn fits_struct(value: &SlotValue, id: u64) -> bool
-    requires { is_message (slot_value_view value.now) ≡ false }
     ensures { taken result
         ≡ content_reply (value_content (slot_value_view value.now) (struct id)) }
 {
-    false
+    match value {
+        SlotValue::Message(kept) => is_struct(kept, id),
+        SlotValue::Number(_)
+        | SlotValue::Bool(_)
+        | SlotValue::Enum(_)
+        | SlotValue::Text(_)
+        | SlotValue::Data(_) => false,
+    }
 }
 
-/// Whether a value that is no message is a list: it never is.
+/// Whether a value is a message that is a list of such elements.
 fn fits_list(value: &SlotValue, element: Type) -> bool
-    requires { is_message (slot_value_view value.now) ≡ false }
     ensures { taken result
         ≡ content_reply (value_content (slot_value_view value.now) (list (ty_of element))) }
 {
-    false
+    match value {
+        SlotValue::Message(kept) => is_list(kept, element),
+        SlotValue::Number(_)
+        | SlotValue::Bool(_)
+        | SlotValue::Enum(_)
+        | SlotValue::Text(_)
+        | SlotValue::Data(_) => false,
+    }
 }
 
 /// The reply to a write of an untyped pointer, which takes texts, data and messages.
@@ -136,9 +149,8 @@ fn untyped_reply(value: &SlotValue) -> Reply
     }
 }
 
-/// The reply to a write of a value, which is no message, where values of the type stand: Void takes any value, a number only those in its range.
+/// The reply to a write of a value where values of the type stand: Void takes any value, a number only those in its range.
 pub(crate) fn value_reply(value: &SlotValue, ty: Type) -> Reply
-    requires { is_message (slot_value_view value.now) ≡ false }
     ensures { reply_view result
         ≡ content_reply (value_content (slot_value_view value.now) (ty_of ty)) }
 {

@@ -1,5 +1,5 @@
 -- A call at a struct that is owned: tested where it is read, and written.
-use Rattle.std.proofs.Common.{◌≡◌, ℕ, ℤ, ◌^◌, ◌≤◌, ◌<◌, List, Option, Some, None, Result, Ok, Err, IfOk, IfSome, option_map, refl, sym, subst, arith}
+use Rattle.std.proofs.Common.{◌≡◌, ℕ, ℤ, ◌^◌, ◌≤◌, ◌<◌, List, Some, Result, Ok, Err, IfOk, refl, sym, subst, arith}
 use Rattle.capnp_model.specs.Segments.{Segments}
 use Rattle.capnp_model.specs.Trees.{Tree, structure}
 use Rattle.capnp_model.specs.Readings.{Record, record_as, record_of, record_by_shape, shape_record, whole_words, read_child}
@@ -29,7 +29,7 @@ use Rattle.capnp_footprints.specs.Totals.{words_of_segments}
 use Rattle.capnp_edits.specs.Written.{WritesPath}
 use Rattle.capnp_values.specs.declared.dynamic_struct.Reader.{Reader as DynamicStruct}
 use Rattle.capnp_values.specs.Sources.{struct_seen}
-use Rattle.capnp_replies.specs.Replies.{RepliesTo, TellsReply}
+use Rattle.capnp_replies.specs.Replies.{RepliesTo}
 use Rattle.capnp_run.specs.Runs.{TestsAt, AnswersAt}
 use Rattle.capnp_run.proofs.Levels.{DepthLaws, After, at_levels, same_levels}
 use Rattle.capnp_run.proofs.Standing.{record_stands}
@@ -45,7 +45,8 @@ other_reply reply.Done other h = other refl
 other_reply (reply.Refused kind) other h = cc h
 
 module _ {A : Type 0} (laws : DepthLaws) (seg : A → List (List ℕ)) (bytes : List (List ℕ)) (nesting : ℤ) (few : words_of_segments (words_in bytes) < 2 ^ 29) (deep : (n : ℕ) × (levels nesting ≡ Some n) × (2 ^ 29 ≤ n)) (p : StructPlace) (root : StructSchema) (c : Call) where
-  tested : (r : DynamicStruct A) (told : Reply) → r.schema ≡ root → struct_seen seg r.source ≡ views.struct_at bytes nesting (place_view p.start) p.data_words p.pointers → RepliesTo seg r c told → TestsAt (words_in bytes) p root c told
+  -- a reply of the machine at what is read is one at what is owned
+  pub tested : (r : DynamicStruct A) (told : Reply) → r.schema ≡ root → struct_seen seg r.source ≡ views.struct_at bytes nesting (place_view p.start) p.data_words p.pointers → RepliesTo seg r c told → TestsAt (words_in bytes) p root c told
   unfolding record_of record_by_shape
   tested r told same is replies n section kids most owns =
       let own = at_levels laws (words_in bytes) few n deep.0 (struct_at p) (structure p.data_words section kids) deep.2 owns in
@@ -54,10 +55,6 @@ module _ {A : Type 0} (laws : DepthLaws) (seg : A → List (List ℕ)) (bytes : 
       let P : StructSchema → Type 0 = λ g. ((x : Record) → IsRecord (schema_around g) (shape_of_struct g) (struct_seen seg r.source) (record_as x) → told ≡ reply_of (schema_around g) as_it_is (step (schema_around g) (id_of g) c x)) in
       let here : P root = subst P same replies in
       here rec (subst (λ w. IsRecord (schema_around root) (shape_of_struct root) w (record_as rec)) (sym is) stands)
-
-  pub told : (r : DynamicStruct A) (o : Option Own) → r.schema ≡ root → struct_seen seg r.source ≡ views.struct_at bytes nesting (place_view p.start) p.data_words p.pointers → TellsReply seg r c (option_map reply_view o) → IfSome o (λ x. TestsAt (words_in bytes) p root c (reply_view x))
-  told r None same is h = tt
-  told r (Some x) same is h = tested r (reply_view x) same is h
 
 pub written : DepthLaws → After → (s u : Segments) → words_of_segments s < 2 ^ 29 → words_of_segments u < 2 ^ 29 → (p : StructPlace) (root : StructSchema) (c : Call) → IsWide p (shape_of_struct root)
     → TestsAt s p root c reply_done → WritesPath s u p root c.path c.verb → AnswersAt s u p root c reply_done

@@ -1,5 +1,5 @@
 //! Calls in turn, each tested where the struct is read, and then written.
-ghost use Rattle.std.specs.Prelude.{◌≡◌, ◌+◌, ◌^◌, ◌<◌, map, IfOk, IfSome};
+ghost use Rattle.std.specs.Prelude.{◌≡◌, ◌+◌, ◌^◌, ◌<◌, map, IfOk};
 ghost use Rattle.capnp_model.specs.Answers.{reply_of};
 ghost use Rattle.capnp_model.specs.Trees.{Trees, structure};
 ghost use Rattle.capnp_model.specs.Steps.{step};
@@ -52,26 +52,26 @@ fn struct_of<'a, A: ReaderArena>(
     dynamic_struct::Reader::new(reader, schema)
 }
 
-/// What a call replies at the struct, or that it is to be written; none of a call that sets a message.
+/// What a call replies at the struct, or that it is to be written.
 fn test<A: ReaderArena>(
     alloc: Global,
     arena: &A,
     object: StructPlace,
     schema: StructSchema<'_>,
     call: &Call,
-) -> Result<Option<Reply>>
+) -> Result<Reply>
     requires arena { IsDeep A.segments A.nesting }
     requires there { IsThere (words_in (A.segments arena.now)) object }
-    ensures replied { IfOk result (λ o. IfSome o (λ r.
+    ensures replied { IfOk result (λ r.
         TestsAt (words_in (A.segments arena.now)) object schema.entry (call_view call.now)
-        (reply_view r))) }
+        (reply_view r)) }
 {
     changes_with_fewer_levels();
     depths_of_owned_values();
     reply_to(alloc, struct_of(arena, object, schema), call)
 }
 
-/// Answers a call at the struct, which is there, else it is refused with `OutOfBounds`; one that sets a message is refused with `TypeMismatch`. After an error nothing is promised of the struct's value.
+/// Answers a call at the struct, which is there, else it is refused with `OutOfBounds`. After an error nothing is promised of the struct's value.
 fn answer<A: BuilderArena>(
     alloc: Global,
     arena: &mut A,
@@ -94,9 +94,7 @@ fn answer<A: BuilderArena>(
     if !has_words(arena, object.start, words) {
         return Err(Error::from(ErrorKind::OutOfBounds));
     }
-    let Some(reply) = test(alloc, arena, object, schema, call)? else {
-        return Err(Error::from(ErrorKind::TypeMismatch));
-    };
+    let reply = test(alloc, arena, object, schema, call)?;
     match reply {
         Reply::Done => {
             write_path(arena, object, schema, call.path(), call.action())?;
@@ -108,7 +106,7 @@ fn answer<A: BuilderArena>(
 
 /// Answers calls in turn at a struct of a message, each at what the calls before it left: its reply is that of the record machine, and the struct becomes what the edits make of it. A refused call and a `get` change nothing, and don't stop the next.
 ///
-/// The struct has at least its schema's two sizes. It is refused by want of memory, as the arena refuses, with `OutOfBounds` where the struct isn't there, with `TypeMismatch` at a call that sets a message, and with `WrongStep` at one that would be written behind a list's index or into a group; then the calls before have their effect, and the next perhaps a part of it.
+/// The struct has at least its schema's two sizes. It is refused by want of memory, as the arena refuses, with `OutOfBounds` where the struct isn't there, with `TypeMismatch` at a call that would set a group to a message, and with `WrongStep` at one that would be written behind a list's index or into a group; then the calls before have their effect, and the next perhaps a part of it.
 pub fn run_at<A: BuilderArena>(
     alloc: Global,
     arena: &mut A,

@@ -1,4 +1,4 @@
-use Rattle.std.proofs.Common.{subst, refl, IfSome}
+use Rattle.std.proofs.Common.{subst, refl}
 use Rattle.capnp_model.specs.Answers.{reply_done}
 use Rattle.capnp_model.specs.Calls.{Step, Verb}
 use Rattle.std.specs.Prelude.{List}
@@ -20,20 +20,17 @@ returns-in_ok-write_path-in-Done-clause-answer g c =
     let u = words_in (seg c.write_path.new.arena) in
     let call = call_view c.args.call.now in
     let T : Own → Type 0 = λ r. TestsAt s c.args.object c.args.schema (call_view c.args.call.now) (reply_view r) in
-    let here : T c.in-Some.reply = subst (λ o. IfSome o T) c.in-Some.is c.in_ok-reply.ensures.replied in
-    let tests : TestsAt s c.args.object c.args.schema call reply_done = subst T c.in-Done.is here in
+    let tests : TestsAt s c.args.object c.args.schema call reply_done = subst T c.in-Done.is c.in_ok-reply.ensures.replied in
     let W : List Step → Verb → Type 0 = λ path verb. WritesPath s u c.args.object c.args.schema path verb in
     let writes = subst (W call.path) c.action.ensures.action (subst (λ path. W path (action_view c.action.result.now)) c.path.ensures c.in_ok-write_path-in-Done.ensures.writes) in
     let laws : DepthLaws = record { depths = c.depths_of_owned_values.ensures.objects; owned = c.changes_with_fewer_levels.ensures.object_owned; replaced = c.changes_with_fewer_levels.ensures.object_replaced } in
     written laws c.changes_of_objects.ensures.owned s u (c.requires.arena.few c.args.arena.now) (c.requires.arena.few c.write_path.new.arena) c.args.object c.args.schema call c.requires.wide tests writes
 
-pub returns-in_default-reply : goal.returns-in_default-reply
-returns-in_default-reply g c =
+pub returns-in_default : goal.returns-in_default
+returns-in_default g c =
     let seg = g.A.ReaderArena.segments in
     let s = words_in (seg c.args.arena.now) in
-    let T : Own → Type 0 = λ r. TestsAt s c.args.object c.args.schema (call_view c.args.call.now) (reply_view r) in
-    let here : T c.in-Some.reply = subst (λ o. IfSome o T) c.in-Some.is c.in_ok-reply.ensures.replied in
     record {
-      answer = left_alone s c.args.object c.args.schema (call_view c.args.call.now) (reply_view c.in-Some.reply) here (other_reply c.in-Some.reply c.in_default-reply.not-Done);
+      answer = left_alone s c.args.object c.args.schema (call_view c.args.call.now) (reply_view c.in_ok-reply.reply) c.in_ok-reply.ensures.replied (other_reply c.in_ok-reply.reply c.in_default.not-Done);
       books = refl;
     }
