@@ -61,7 +61,15 @@ fn struct_of(alloc: Global, json: &Json) -> Result<NodeRecord, FileFault>
     let Some(json) = with_keys(json, &keys) else {
         return Err(FileFault::Form);
     };
-    let (Some(id), Some(name), Some(words), Some(pointers), Some(is_group), Some(union), Some(items)) = (
+    let (
+        Some(id),
+        Some(name),
+        Some(words),
+        Some(pointers),
+        Some(is_group),
+        Some(union),
+        Some(items),
+    ) = (
         number_at(json, "id", u64::MAX),
         text_at(json, "name"),
         number_at(json, "data", 65535),
