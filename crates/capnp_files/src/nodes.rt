@@ -61,25 +61,17 @@ fn struct_of(alloc: Global, json: &Json) -> Result<NodeRecord, FileFault>
     let Some(json) = with_keys(json, &keys) else {
         return Err(FileFault::Form);
     };
-    let (
-        Some(id),
-        Some(name),
-        Some(words),
-        Some(pointers),
-        Some(is_group),
-        Some(union),
-        Some(items),
-    ) = (
+    let (Some(id), Some(name), Some(words), Some(pointers), Some(is_group), Some(union)) = (
         number_at(json, "id", u64::MAX),
         text_at(json, "name"),
         number_at(json, "data", 65535),
         number_at(json, "pointers", 65535),
         group_mark(json),
         number_or(0, json, "union", 0xffff_ffff),
-        items_at(json, "fields"),
     ) else {
         return Err(FileFault::Form);
     };
+    let items = items_at(json, "fields").ok_or(FileFault::Form)?;
     let fields = fields_of(alloc, items)?;
     let body = StructRecord {
         data_word_count: words as u16,
