@@ -1,3 +1,4 @@
 pub mod OnlyMembers
 pub mod JsonTexts
 pub mod FileExamples
+pub mod EachItem

@@ -124,11 +124,19 @@ fn call_of(alloc: Global, json: &Json) -> Result<CallParts, FileFault>
     ensures refused { IfErr result (IsRefusalOf (call_in (view json.now))) }
 {
     let keys = ["path", "verb", "size", "value"];
-    let json = with_keys(json, &keys).ok_or(FileFault::Form)?;
-    let items = items_at(json, "path").ok_or(FileFault::Form)?;
+    let Some(json) = with_keys(json, &keys) else {
+        return Err(FileFault::Form);
+    };
+    let Some(items) = items_at(json, "path") else {
+        return Err(FileFault::Form);
+    };
     let path = path_of(alloc, items)?;
-    let name = text_at(json, "verb").ok_or(FileFault::Form)?;
-    let verb = verb_by(name, json).ok_or(FileFault::Form)?;
+    let Some(name) = text_at(json, "verb") else {
+        return Err(FileFault::Form);
+    };
+    let Some(verb) = verb_by(name, json) else {
+        return Err(FileFault::Form);
+    };
     let value = value_of_call(alloc, json)?;
     Ok((path, verb, value))
 }

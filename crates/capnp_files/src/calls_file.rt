@@ -38,11 +38,19 @@ fn file_of(alloc: Global, json: &Json) -> Result<CallsFile, FileFault>
     ensures refused { IfErr result (IsRefusalOf (calls_text (view json.now))) }
 {
     let keys = ["calls", "words", "nesting"];
-    let json = with_keys(json, &keys).ok_or(FileFault::Form)?;
-    let items = items_at(json, "calls").ok_or(FileFault::Form)?;
+    let Some(json) = with_keys(json, &keys) else {
+        return Err(FileFault::Form);
+    };
+    let Some(items) = items_at(json, "calls") else {
+        return Err(FileFault::Form);
+    };
     let calls = calls_of(alloc, items)?;
-    let words = number_or(8_388_608, json, "words", u64::MAX).ok_or(FileFault::Form)?;
-    let nesting = nesting_of(json).ok_or(FileFault::Form)?;
+    let (Some(words), Some(nesting)) = (
+        number_or(8_388_608, json, "words", u64::MAX),
+        nesting_of(json),
+    ) else {
+        return Err(FileFault::Form);
+    };
     Ok(CallsFile {
         calls,
         words: words as usize,

@@ -29,18 +29,24 @@ fn slot_of(alloc: Global, json: &Json) -> Result<FieldRecord, FileFault>
     ensures refused { IfErr result (IsRefusalOf (slot_in (view json.now))) }
 {
     let keys = ["name", "type", "offset", "discriminant", "default"];
-    let json = with_keys(json, &keys).ok_or(FileFault::Form)?;
-    let name = text_at(json, "name").ok_or(FileFault::Form)?;
-    let discriminant_value = discriminant_of(json).ok_or(FileFault::Form)?;
-    let ty = json.get("type").and_then(type_of).ok_or(FileFault::Form)?;
-    let offset = number_at(json, "offset", 0xffff_ffff).ok_or(FileFault::Form)? as u32;
+    let Some(json) = with_keys(json, &keys) else {
+        return Err(FileFault::Form);
+    };
+    let (Some(name), Some(discriminant_value), Some(ty), Some(offset)) = (
+        text_at(json, "name"),
+        discriminant_of(json),
+        json.get("type").and_then(type_of),
+        number_at(json, "offset", 0xffff_ffff),
+    ) else {
+        return Err(FileFault::Form);
+    };
     let default = slot_default(alloc, ty, json)?;
     Ok(FieldRecord {
         name: String::from_str(alloc, name)?,
         discriminant_value,
         annotations: Vec::new(alloc),
         body: FieldBody::Slot {
-            offset,
+            offset: offset as u32,
             ty,
             default,
         },
@@ -52,10 +58,16 @@ fn group_of(alloc: Global, json: &Json) -> Result<FieldRecord, FileFault>
     ensures refused { IfErr result (IsRefusalOf (group_in (view json.now))) }
 {
     let keys = ["name", "group", "discriminant"];
-    let json = with_keys(json, &keys).ok_or(FileFault::Form)?;
-    let name = text_at(json, "name").ok_or(FileFault::Form)?;
-    let discriminant_value = discriminant_of(json).ok_or(FileFault::Form)?;
-    let node = number_at(json, "group", u64::MAX).ok_or(FileFault::Form)?;
+    let Some(json) = with_keys(json, &keys) else {
+        return Err(FileFault::Form);
+    };
+    let (Some(name), Some(discriminant_value), Some(node)) = (
+        text_at(json, "name"),
+        discriminant_of(json),
+        number_at(json, "group", u64::MAX),
+    ) else {
+        return Err(FileFault::Form);
+    };
     Ok(FieldRecord {
         name: String::from_str(alloc, name)?,
         discriminant_value,

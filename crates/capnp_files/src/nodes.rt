@@ -58,13 +58,19 @@ fn struct_of(alloc: Global, json: &Json) -> Result<NodeRecord, FileFault>
     ensures refused { IfErr result (IsRefusalOf (struct_in (view json.now))) }
 {
     let keys = ["id", "name", "data", "pointers", "fields", "group", "union"];
-    let json = with_keys(json, &keys).ok_or(FileFault::Form)?;
-    let id = number_at(json, "id", u64::MAX).ok_or(FileFault::Form)?;
-    let name = text_at(json, "name").ok_or(FileFault::Form)?;
-    let words = number_at(json, "data", 65535).ok_or(FileFault::Form)?;
-    let pointers = number_at(json, "pointers", 65535).ok_or(FileFault::Form)?;
-    let is_group = group_mark(json).ok_or(FileFault::Form)?;
-    let union = number_or(0, json, "union", 0xffff_ffff).ok_or(FileFault::Form)?;
+    let Some(json) = with_keys(json, &keys) else {
+        return Err(FileFault::Form);
+    };
+    let (Some(id), Some(name), Some(words), Some(pointers), Some(is_group), Some(union)) = (
+        number_at(json, "id", u64::MAX),
+        text_at(json, "name"),
+        number_at(json, "data", 65535),
+        number_at(json, "pointers", 65535),
+        group_mark(json),
+        number_or(0, json, "union", 0xffff_ffff),
+    ) else {
+        return Err(FileFault::Form);
+    };
     let items = items_at(json, "fields").ok_or(FileFault::Form)?;
     let fields = fields_of(alloc, items)?;
     let body = StructRecord {
@@ -113,10 +119,16 @@ fn enum_of(alloc: Global, json: &Json) -> Result<NodeRecord, FileFault>
     ensures refused { IfErr result (IsRefusalOf (enum_in (view json.now))) }
 {
     let keys = ["id", "name", "enumerants"];
-    let json = with_keys(json, &keys).ok_or(FileFault::Form)?;
-    let id = number_at(json, "id", u64::MAX).ok_or(FileFault::Form)?;
-    let name = text_at(json, "name").ok_or(FileFault::Form)?;
-    let items = items_at(json, "enumerants").ok_or(FileFault::Form)?;
+    let Some(json) = with_keys(json, &keys) else {
+        return Err(FileFault::Form);
+    };
+    let (Some(id), Some(name), Some(items)) = (
+        number_at(json, "id", u64::MAX),
+        text_at(json, "name"),
+        items_at(json, "enumerants"),
+    ) else {
+        return Err(FileFault::Form);
+    };
     let enumerants = enumerants_of(alloc, items)?;
     Ok(NodeRecord {
         id,

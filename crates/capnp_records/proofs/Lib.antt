@@ -13,3 +13,4 @@ pub mod FoundNodes
 pub mod FieldPlaces
 pub mod FieldTables
 pub mod Holders
+pub mod OneMore
