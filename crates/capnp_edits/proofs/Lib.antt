@@ -6,3 +6,8 @@ pub mod Behind
 pub mod Defaults
 pub mod GrownPaths
 pub mod SetMessages
+pub mod GroupEdits
+pub mod GroupWrites
+pub mod GroupFields
+pub mod GroupSources
+pub mod GroupRoots

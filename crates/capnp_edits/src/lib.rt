@@ -3,6 +3,8 @@
 
 mod default;
 mod end;
+mod group_sets;
+mod group_sources;
 mod messages;
 mod names;
 pub mod path;

@@ -16,6 +16,7 @@ ghost use Rattle.capnp_dynamic.specs.Edits.{IsThere, IsWide};
 ghost use Rattle.capnp_edits.specs.Written.{WritesField, PutsTree, takes_message};
 
 use crate::default::words_of;
+use crate::group_sets::set_group;
 use capnp_call_messages::message::MessageValue;
 use capnp_copy::arena::BuilderArena;
 use capnp_copy::fields::StructPlace;
@@ -99,7 +100,7 @@ fn put_message<A: BuilderArena>(arena: &mut A, slot: Place, message: &MessageVal
     copy_root(arena, slot, words)
 }
 
-/// Sets a field of a struct's, a list's or no type to the value of a message, or a Void field to any, and marks its union. Other fields are refused with `TypeMismatch`.
+/// Sets a group or a field of a struct's, a list's or no type to the value of a message, or a Void field to any, and marks its union. Other fields are refused with `TypeMismatch`.
 pub(crate) fn set_message<A: BuilderArena>(
     arena: &mut A,
     object: StructPlace,
@@ -128,8 +129,7 @@ pub(crate) fn set_message<A: BuilderArena>(
             mark(arena, object, field);
             Ok(())
         }
-        FieldPlace::Plain { .. } | FieldPlace::Group { .. } => {
-            Err(Error::from(ErrorKind::TypeMismatch))
-        }
+        FieldPlace::Group { schema } => set_group(arena, object, field, schema, value),
+        FieldPlace::Plain { .. } => Err(Error::from(ErrorKind::TypeMismatch)),
     }
 }
