@@ -6,3 +6,8 @@ pub mod Behind
 pub mod Defaults
 pub mod GrownPaths
 pub mod SetMessages
+pub mod ListSteps
+pub mod GotLists
+pub mod BehindLists
+pub mod ElementSteps
+pub mod BegunLists

@@ -3,6 +3,7 @@
 
 mod default;
 mod end;
+mod lists;
 mod messages;
 mod names;
 pub mod path;
