@@ -11,3 +11,5 @@ pub mod GotLists
 pub mod BehindLists
 pub mod ElementSteps
 pub mod BegunLists
+pub mod ElementEnds
+pub mod ElementMessages

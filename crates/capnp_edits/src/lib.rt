@@ -2,6 +2,7 @@
 #![tactic(auto)]
 
 mod default;
+mod elements;
 mod end;
 mod lists;
 mod messages;

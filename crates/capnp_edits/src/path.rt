@@ -19,6 +19,7 @@ ghost use Rattle.capnp_edits.specs.Written.{WritesPath, WritesValue, HoldsDefaul
 ghost use Rattle.capnp_edits.specs.Elements.{WritesWithin, WritesFieldWithin, WritesElement, GrowsIn};
 
 use crate::default::default_of;
+use crate::elements::write_element_end;
 use crate::end::write_end;
 use crate::lists::{holds, list_behind};
 use crate::names::{begins_with_name, first_index, first_name};
@@ -252,7 +253,7 @@ fn write_element<A: BuilderArena>(
     ensures books { A.books arena.new ≡ A.books arena.old }
 {
     if rest.is_empty() {
-        return Err(Error::from(ErrorKind::WrongStep));
+        return write_element_end(arena, list, index, set, ty, action);
     }
     match ty.which() {
         TypeVariant::Struct(raw) => {

@@ -1,5 +1,5 @@
 use Rattle.std.proofs.Common.{rules, ◌≡◌, ◌≢◌, ◌<◌, true, None, Some, [], ◌∷◌, refl, sym, ap, subst, ◌∙◌}
-use Rattle.std.specs.Prelude.{map, option_map, option_copied}
+use Rattle.std.specs.Prelude.{map, option_map, option_copied, OnOk}
 use Rattle.std.specs.Option.{is_some}
 use Rattle.capnp_model.specs.Segments.{words_at}
 use Rattle.capnp_model.specs.Schemas.{struct, list, pointer_slot, default_or_null}
@@ -183,6 +183,13 @@ write_list-returns-clause-grows g t c =
     list_grows s u w c.args.slot (option_copied c.args.default) (schema_of (nodes_of c.args.set.now)) (ty_of c.args.element) o c.in_ok-inner.ensures.got k inside c.write_element.ensures.grows
 
 -- ---- write_element
+
+pub write_element-returns-then-is_empty-clause-writes : goal.write_element-returns-then-is_empty-clause-writes
+write_element-returns-then-is_empty-clause-writes g t c =
+    let s = words_in (g.A.ReaderArena.segments c.args.arena.now) in
+    let u = words_in (g.A.ReaderArena.segments c.write_element_end.new.arena) in
+    let none : map step_view c.args.rest.now ≡ [] = none_is step_view c.args.rest.now (sym c.is_empty.ensures ∙ c.if-is_empty.true) in
+    subst (λ q. OnOk c.write_element_end.result (WritesElement s u c.args.list (schema_of (nodes_of c.args.set.now)) (ty_of c.args.ty) c.args.index q (action_view c.args.action.now))) (sym none) c.write_element_end.ensures.writes
 
 pub write_element-returns-in-Struct-clause-writes : goal.write_element-returns-in-Struct-clause-writes
 write_element-returns-in-Struct-clause-writes g t c =
