@@ -66,7 +66,7 @@ same_opened ty d (plain_list size k x) h = refl
 same_opened ty d (pointer_list ts) h = refl
 same_opened ty d (struct_list w p es) h = refl
 
-null_opened : (ty : Ty) (t : Tree) → opened_tree ty null t ≡ t
+pub null_opened : (ty : Ty) (t : Tree) → opened_tree ty null t ≡ t
 null_opened ty null = refl
 null_opened ty (capability i) = refl
 null_opened ty (structure w x ts) = refl

@@ -20,10 +20,11 @@ use Rattle.capnp_calls.specs.Slots.{words_in, pointers_in}
 use Rattle.capnp_calls.specs.Finding.{IsFieldGroup}
 use Rattle.capnp_calls.specs.Sizes.{IsDone}
 use Rattle.capnp_calls.specs.Paths.{shape_outcome, shape_edit}
-use Rattle.capnp_edits.specs.Written.{WritesPath, WritesValue, HoldsDefault}
-use Rattle.capnp_edits.proofs.Lifting.{behind_pointer}
+use Rattle.capnp_edits.specs.Written.{WritesValue, HoldsDefault}
+use Rattle.capnp_edits.specs.Elements.{IsDoneWithin, WritesWithin}
+use Rattle.capnp_edits.proofs.Lifting.{cell, behind_pointer}
 use Rattle.capnp_edits.proofs.Begun.{begun_opened}
-use Rattle.capnp_edits.proofs.Outcomes.{struct_done, struct_edit}
+use Rattle.capnp_edits.proofs.Outcomes.{whole_within, struct_done, struct_edit}
 
 pub on_ok : {X E : Type 0} (r : Result X E) (P Q : Type 0) → (P → Q) → OnOk r P → OnOk r Q
 on_ok (Ok x) P Q f h = f h
@@ -62,7 +63,7 @@ type_is (struct j) id e = cc e
 type_is (list ty) id e = absurd (cc e)
 
 module _ (s u v : Segments) (p : Place) (schema : StructSchema) (default : Option (List (List ℕ))) (size : StructSize) (o : StructPlace) (words : size.data_words ≡ words_of_shape (shape_of_struct schema)) (pointers : size.pointers ≡ pointers_of_shape (shape_of_struct schema)) (got : StructGot default s u p size o) (d : Tree) (holds : HoldsDefault default d) (verb : Verb) where
-  pub struct_written : (path : List Step) → starts_with_name path ≡ true → WritesPath u v o schema path verb → WritesValue s v p (schema_around schema) (struct (id_of schema)) d path verb
+  pub struct_written : (path : List Step) → starts_with_name path ≡ true → WritesWithin u v o schema path verb → WritesValue s v p (schema_around schema) (struct (id_of schema)) d path verb
   struct_written [] named h = absurd (cc named)
   struct_written (index k ∷ rest) named h = absurd (cc named)
   struct_written (name n ∷ rest) named h = λ k t own is_done. (
@@ -75,8 +76,8 @@ module _ (s u v : Segments) (p : Place) (schema : StructSchema) (default : Optio
       let same : widened size.data_words size.pointers x.0 ≡ wide =
       ap (λ w. widened w size.pointers x.0) words ∙ ap (λ q. widened (words_of_shape g) q x.0) pointers ∙ ap (widened (words_of_shape g) (pointers_of_shape g)) opened in
       let replaced : Replaces (k + 65) s u p wide = subst (λ y. Replaces (k + 65) s u p y) same x.2 in
-      let lifted = behind_pointer s u v p o (λ c. IsDone (shape_outcome around g (name n ∷ rest) verb c)) (shape_edit around g (name n ∷ rest) verb) k t wide own got.object replaced h
-      (λ section kids e. struct_done around id n rest verb o.data_words section kids (words_of_shape g) (pointers_of_shape g) d t e is_done) in
+      let lifted = behind_pointer s u v p o (IsDoneWithin around g (name n ∷ rest) verb) (shape_edit around g (name n ∷ rest) verb) k t wide own got.object replaced h
+      (λ section kids e. whole_within around g (name n ∷ rest) verb (cell section kids) (struct_done around id n rest verb o.data_words section kids (words_of_shape g) (pointers_of_shape g) d t e is_done)) in
       (lifted.more, subst (λ y. Replaces (k + lifted.more) s v p y) (sym (struct_edit around id n rest verb d t o.data_words lifted.section lifted.kids lifted.is)) lifted.replaces)
       )
 

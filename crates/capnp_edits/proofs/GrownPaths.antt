@@ -27,7 +27,7 @@ default_grows f s u p r true true ea eb w = subst (Grows s) (sym (w.kept (subst 
 default_grows f s u p (Ok x) true false ea eb w = (w.written ea eb).copies.grows
 default_grows f s u p (Err e) true false ea eb w = (w.written ea eb).copies.left.grows
 
-begin_grows : (default : Option (List (List ℕ))) (s u : Segments) (p : Place) (r : Result ⊤ Error) → Begins default s u p r → Grows s u
+pub begin_grows : (default : Option (List (List ℕ))) (s u : Segments) (p : Place) (r : Result ⊤ Error) → Begins default s u p r → Grows s u
 begin_grows None s u p r b = subst (Grows s) (sym b.0) (grows_same s)
 begin_grows (Some words) s u p r b = default_grows _ s u p r _ _ refl refl b
 

@@ -11,3 +11,10 @@ pub mod GroupWrites
 pub mod GroupFields
 pub mod GroupSources
 pub mod GroupRoots
+pub mod ListSteps
+pub mod GotLists
+pub mod BehindLists
+pub mod ElementSteps
+pub mod BegunLists
+pub mod ElementEnds
+pub mod ElementMessages

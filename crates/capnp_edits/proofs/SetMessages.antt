@@ -73,7 +73,7 @@ root_put f s u p r t e h o = subst (λ y. OnOk r (PutsTree s u p y)) (root_is f 
 
 -- ---- what the call puts
 
-list_done : (s : Schema) (ty : Ty) (t : Tree) (b : Bool) → IsDone (reading_after s ty (if b then object t else refused_by TypeMismatch)) → (if b then object t else refused_by TypeMismatch) ≡ object t
+pub list_done : (s : Schema) (ty : Ty) (t : Tree) (b : Bool) → IsDone (reading_after s ty (if b then object t else refused_by TypeMismatch)) → (if b then object t else refused_by TypeMismatch) ≡ object t
 list_done s ty t true h = refl
 list_done s ty t false h = absurd h
 

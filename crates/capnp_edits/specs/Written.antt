@@ -82,6 +82,17 @@ abbrev pub HoldsDefault : Option (List (List ℕ)) → Tree → Type 0
 HoldsDefault None d = d ≡ null
 HoldsDefault (Some words) d = tree_at 64 (default_segments words) root ≡ Some d
 
+-- A path can go on inside a value of the type.
+abbrev pub has_inside : Ty → Bool
+has_inside void = false
+has_inside (plain p) = false
+has_inside text = false
+has_inside blob = false
+has_inside untyped = false
+has_inside interface = false
+has_inside (struct id) = true
+has_inside (list ty) = true
+
 -- ---- values of messages
 
 -- A slot of the type can be set to the value of a message.

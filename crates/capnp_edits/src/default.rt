@@ -1,14 +1,14 @@
 //! Defaults of structs, as words.
-ghost use Rattle.std.specs.Prelude.{ℕ, ◌≡◌, Option, Some, IsSome, option_map, option_copied};
+ghost use Rattle.std.specs.Prelude.{ℕ, ◌≡◌, true, Option, Some, IsSome, option_map, option_copied};
 ghost use Rattle.capnp_model.specs.Decoding.{decode};
 ghost use Rattle.capnp_model.specs.Trees.{Tree};
-ghost use Rattle.capnp_model.specs.Schemas.{struct, pointer_slot, default_or_null};
+ghost use Rattle.capnp_model.specs.Schemas.{Ty, pointer_slot, default_or_null};
 ghost use Rattle.capnp_model.specs.Accepted.{default_tree};
 ghost use Rattle.capnp_records.specs.NodeViews.{kind_of_field, value_of};
 ghost use Rattle.capnp_queries.specs.Handles.{entry_of};
 ghost use Rattle.capnp_calls.specs.Slots.{IsSegment};
 ghost use Rattle.capnp_calls.specs.Finding.{default_in};
-ghost use Rattle.capnp_edits.specs.Written.{HoldsDefault};
+ghost use Rattle.capnp_edits.specs.Written.{HoldsDefault, has_inside};
 
 use capnp_queries::fields::Field;
 use capnp_records::node::{FieldBody, FieldRecord, Value};
@@ -45,11 +45,11 @@ fn default_said(field: &FieldRecord) -> Option<&Value>
     }
 }
 
-/// The words of the default of a field that is a pointer to a struct; none where it has no default.
+/// The words of the default of a field that is a pointer to a struct or a list; none where it has no default.
 pub(crate) fn default_of<'a>(field: Field<'a>) -> Option<&'a [Word]>
-    ensures { (i id : ℕ) (d : Option Tree)
-        → option_map (λ e. e.body) (entry_of field.entry) ≡ Some (pointer_slot i (struct id) d)
-        → HoldsDefault (option_copied result) (default_or_null d) }
+    ensures { (i : ℕ) (ty : Ty) (d : Option Tree)
+        → option_map (λ e. e.body) (entry_of field.entry) ≡ Some (pointer_slot i ty d)
+        → has_inside ty ≡ true → HoldsDefault (option_copied result) (default_or_null d) }
 {
     let holder = field.parent().record();
     let _words = holder.data_word_count;

@@ -2,9 +2,11 @@
 #![tactic(auto)]
 
 mod default;
+mod elements;
 mod end;
 mod group_sets;
 mod group_sources;
+mod lists;
 mod messages;
 mod names;
 pub mod path;

@@ -78,7 +78,11 @@ fn copy_root<A: BuilderArena>(arena: &mut A, slot: Place, words: &[Word]) -> Res
 }
 
 /// Puts the value of a message in place of the value of the pointer at a place; a null root counts as the empty struct.
-fn put_message<A: BuilderArena>(arena: &mut A, slot: Place, message: &MessageValue) -> Result<()>
+pub(crate) fn put_message<A: BuilderArena>(
+    arena: &mut A,
+    slot: Place,
+    message: &MessageValue,
+) -> Result<()>
     requires there { is_some (words_at (words_in (A.segments arena.old)) (place_view slot) 1)
         ≡ true }
     requires near { slot.position < 2 ^ 61 }

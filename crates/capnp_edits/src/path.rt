@@ -1,40 +1,52 @@
-//! Calls written along the names of their paths.
+//! Calls written along the steps of their paths.
 ghost use Rattle.std.specs.Prelude.{◌≡◌, ◌≢◌, ◌<◌, ◌^◌, true, [], map, option_copied, OnOk};
 ghost use Rattle.std.specs.Option.{is_some};
+ghost use Rattle.capnp_model.specs.Accepted.{schema_of};
 ghost use Rattle.capnp_model.specs.Segments.{words_at};
-ghost use Rattle.capnp_model.specs.Schemas.{struct};
+ghost use Rattle.capnp_model.specs.Schemas.{struct, list};
 ghost use Rattle.capnp_model.specs.Trees.{Tree};
 ghost use Rattle.capnp_units.specs.Segments.{words_in};
 ghost use Rattle.capnp_wire.specs.Places.{place_view};
+ghost use Rattle.capnp_records.specs.Sets.{nodes_of};
 ghost use Rattle.capnp_queries.specs.Structs.{schema_around, shape_of_struct, id_of};
+ghost use Rattle.capnp_queries.specs.Types.{ty_of, is_type_of};
 ghost use Rattle.capnp_calls.specs.CallViews.{step_view, action_view};
 ghost use Rattle.capnp_calls.specs.Taken.{starts_with_name};
 ghost use Rattle.capnp_dynamic.specs.Edits.{IsThere, IsWide};
-ghost use Rattle.capnp_edits.specs.Written.{WritesPath, WritesField, WritesValue, HoldsDefault, GrowsAround, GrowsBehind};
+ghost use Rattle.capnp_dynamic_lists.specs.Lists.{IsListThere};
+ghost use Rattle.capnp_dynamic_lists.specs.Elements.{Holds, HoldsStructs};
+ghost use Rattle.capnp_edits.specs.Written.{WritesPath, WritesValue, HoldsDefault, GrowsAround, GrowsBehind, has_inside};
+ghost use Rattle.capnp_edits.specs.Elements.{WritesWithin, WritesFieldWithin, WritesElement, GrowsIn};
 
 use crate::default::default_of;
+use crate::elements::write_element_end;
 use crate::end::write_end;
-use crate::names::{begins_with_name, first_name};
-use crate::schemas::{struct_of_type, struct_size};
+use crate::lists::{holds, list_behind};
+use crate::names::{begins_with_name, first_index, first_name};
+use crate::schemas::struct_size;
 use capnp_builders::gets::struct_or_default;
 use capnp_calls::{Action, Step};
 use capnp_copy::arena::BuilderArena;
 use capnp_copy::fields::StructPlace;
+use capnp_copy::init::ListPlace;
 use capnp_dynamic::slots::pointer_place;
+use capnp_dynamic_lists::laws::{elements_as_pointers, elements_as_structs};
+use capnp_dynamic_lists::places::{element_pointer, element_struct};
 use capnp_queries::fields::Field;
+use capnp_queries::introspect::{Type, TypeVariant};
 use capnp_queries::slots::FieldPlace;
 use capnp_queries::structs::StructSchema;
+use capnp_records::set::SchemaSet;
 use capnp_units::errors::{Error, Result};
 use capnp_units::kinds::ErrorKind;
 use capnp_units::sizes::Word;
 use capnp_wire::place::Place;
 
-/// Writes a call along its path, at a struct that is there and wide enough for its schema. Where the record machine does the call, whatever struct is owned there becomes what the call's edit makes of it, and nothing else changes. On the way a null pointer gets its default, else an empty struct, and a narrower struct is widened to its schema's sizes.
+/// Writes a call along its path, at a struct that is there and wide enough for its schema. Where the record machine does the call, whatever struct is owned there becomes what the call's edit makes of it, and nothing else changes. On the way a null pointer gets its default, else an empty struct; a narrower struct is widened to its schema's sizes, and a list whose elements' type is a struct becomes one of structs of its sizes, whatever its elements were.
 ///
-/// Whether the call is done isn't looked at: a caller tests that on a reader first. A path that doesn't begin with a name or goes on behind a field that is neither a group nor a pointer to a struct, and a `get`, are refused with `WrongStep`; a name that the struct lacks with `FieldNotFound`; a struct on the way as by `struct_or_default`; the last field as by `clear_field`, `begin_field`, `initn_slot` and `set_flat`, and a value that it doesn't take with `TypeMismatch`, as is `set` of a group. After a refusal structs on the way may be widened or have their defaults, and the last field may be as before; each segment of the message is still there, and no shorter.
+/// Whether the call is done isn't looked at: a caller tests that on a reader first. A path that begins with no name or goes on by a name or an index where the schema has none, and a `get`, are refused with `WrongStep`; a name that the struct lacks with `FieldNotFound`; an index that is none of the list's with `IndexOutOfRange`; a struct on the way as by `struct_or_default`, and a list as by `get_list` and `get_struct_list` of `capnp_widening`; the last field as by `clear_field`, `begin_field`, `initn_slot` and `set_flat`, and a value that it doesn't take with `TypeMismatch`, as is `set` of a group. After a refusal structs and lists on the way may be widened or have their defaults, and the last field may be as before; each segment of the message is still there, and no shorter.
 ///
 /// Each step takes stack.
-#[cycle(path)]
 pub fn write_path<A: BuilderArena>(
     arena: &mut A,
     object: StructPlace,
@@ -45,6 +57,27 @@ pub fn write_path<A: BuilderArena>(
     requires there { IsThere (words_in (A.segments arena.old)) object }
     requires wide { IsWide object (shape_of_struct schema) }
     ensures writes { OnOk result (WritesPath (words_in (A.segments arena.old))
+        (words_in (A.segments arena.new)) object schema.entry (map step_view path.now)
+        (action_view action.now)) }
+    ensures grows { GrowsAround (words_in (A.segments arena.old))
+        (words_in (A.segments arena.new)) object }
+    ensures books { A.books arena.new ≡ A.books arena.old }
+{
+    write_steps(arena, object, schema, path, action)
+}
+
+/// Writes a call along its path at a struct, as `write_path`, where the record machine does it as it reads the struct's data to some extent.
+#[cycle(path)]
+fn write_steps<A: BuilderArena>(
+    arena: &mut A,
+    object: StructPlace,
+    schema: StructSchema<'_>,
+    path: &[Step],
+    action: &Action,
+) -> Result<()>
+    requires there { IsThere (words_in (A.segments arena.old)) object }
+    requires wide { IsWide object (shape_of_struct schema) }
+    ensures writes { OnOk result (WritesWithin (words_in (A.segments arena.old))
         (words_in (A.segments arena.new)) object schema.entry (map step_view path.now)
         (action_view action.now)) }
     ensures grows { GrowsAround (words_in (A.segments arena.old))
@@ -75,7 +108,7 @@ fn write_behind<A: BuilderArena>(
     requires there { IsThere (words_in (A.segments arena.old)) object }
     requires wide { IsWide object (shape_of_struct field.parent) }
     requires some { map step_view rest.now ≢ [] }
-    ensures writes { OnOk result (WritesField (words_in (A.segments arena.old))
+    ensures writes { OnOk result (WritesFieldWithin (words_in (A.segments arena.old))
         (words_in (A.segments arena.new)) object field.entry (map step_view rest.now)
         (action_view action.now)) }
     ensures grows { GrowsAround (words_in (A.segments arena.old))
@@ -86,20 +119,51 @@ fn write_behind<A: BuilderArena>(
     let _words = holder.data_word_count;
     let _said = field.get_proto();
     match field.place() {
-        FieldPlace::Group { schema } => write_path(arena, object, schema, rest, action),
+        FieldPlace::Group { schema } => write_steps(arena, object, schema, rest, action),
         FieldPlace::Pointer { index, ty, .. } => {
-            let Some(schema) = struct_of_type(field.parent().set(), ty) else {
-                return Err(Error::from(ErrorKind::WrongStep));
-            };
-            if !begins_with_name(rest) {
-                return Err(Error::from(ErrorKind::WrongStep));
-            }
             let slot = pointer_place(object, index);
-            write_struct(arena, slot, schema, default_of(field), rest, action)
+            let set = field.parent().set();
+            write_value(arena, slot, set, ty, default_of(field), rest, action)
         }
         FieldPlace::Void { .. } | FieldPlace::Plain { .. } => {
             Err(Error::from(ErrorKind::WrongStep))
         }
+    }
+}
+
+/// Writes a call along the rest of its path at the value behind a pointer. A null pointer gets the default that these words hold, else the empty value.
+#[cycle(path)]
+fn write_value<A: BuilderArena>(
+    arena: &mut A,
+    slot: Place,
+    set: &SchemaSet,
+    ty: Type,
+    default: Option<&[Word]>,
+    path: &[Step],
+    action: &Action,
+) -> Result<()>
+    requires there { is_some (words_at (words_in (A.segments arena.old)) (place_view slot) 1)
+        ≡ true }
+    requires near { slot.position < 2 ^ 61 }
+    requires known { is_type_of (nodes_of set.now) ty ≡ true }
+    ensures writes { (d : Tree)
+        → (has_inside (ty_of ty) ≡ true → HoldsDefault (option_copied default.entry) d)
+        → OnOk result (WritesValue (words_in (A.segments arena.old))
+        (words_in (A.segments arena.new)) (place_view slot) (schema_of (nodes_of set.now))
+        (ty_of ty) d (map step_view path.now) (action_view action.now)) }
+    ensures grows { GrowsBehind (words_in (A.segments arena.old))
+        (words_in (A.segments arena.new)) (place_view slot) }
+    ensures books { A.books arena.new ≡ A.books arena.old }
+{
+    match ty.which() {
+        TypeVariant::Struct(raw) if begins_with_name(path) => {
+            let schema = StructSchema::new(set, raw);
+            write_struct(arena, slot, schema, default, path, action)
+        }
+        TypeVariant::List(element) => {
+            write_list(arena, slot, set, element, default, path, action)
+        }
+        _ => Err(Error::from(ErrorKind::WrongStep)),
     }
 }
 
@@ -126,5 +190,82 @@ fn write_struct<A: BuilderArena>(
     ensures books { A.books arena.new ≡ A.books arena.old }
 {
     let inner = struct_or_default(arena, slot, struct_size(schema), default)?;
-    write_path(arena, inner, schema, path, action)
+    write_steps(arena, inner, schema, path, action)
+}
+
+/// Writes a call along the rest of its path at the list behind a pointer, whose elements are of a type. A null pointer gets the default that these words hold.
+#[cycle(path)]
+fn write_list<A: BuilderArena>(
+    arena: &mut A,
+    slot: Place,
+    set: &SchemaSet,
+    element: Type,
+    default: Option<&[Word]>,
+    path: &[Step],
+    action: &Action,
+) -> Result<()>
+    requires there { is_some (words_at (words_in (A.segments arena.old)) (place_view slot) 1)
+        ≡ true }
+    requires near { slot.position < 2 ^ 61 }
+    requires known { is_type_of (nodes_of set.now) element ≡ true }
+    ensures writes { (d : Tree) → HoldsDefault (option_copied default.entry) d
+        → OnOk result (WritesValue (words_in (A.segments arena.old))
+        (words_in (A.segments arena.new)) (place_view slot) (schema_of (nodes_of set.now))
+        (list (ty_of element)) d (map step_view path.now) (action_view action.now)) }
+    ensures grows { GrowsBehind (words_in (A.segments arena.old))
+        (words_in (A.segments arena.new)) (place_view slot) }
+    ensures books { A.books arena.new ≡ A.books arena.old }
+{
+    let Some((index, rest)) = first_index(path) else {
+        return Err(Error::from(ErrorKind::WrongStep));
+    };
+    let inner = list_behind(arena, slot, set, element, default)?;
+    if index >= inner.count {
+        return Err(Error::from(ErrorKind::IndexOutOfRange));
+    }
+    if !holds(inner, set, element) {
+        return Err(Error::from(ErrorKind::WrongElementSize));
+    }
+    write_element(arena, inner, index, set, element, rest, action)
+}
+
+/// Writes a call along the rest of its path at an element of a list, whose elements are there under their type.
+#[cycle(path)]
+fn write_element<A: BuilderArena>(
+    arena: &mut A,
+    list: ListPlace,
+    index: u32,
+    set: &SchemaSet,
+    ty: Type,
+    rest: &[Step],
+    action: &Action,
+) -> Result<()>
+    requires there { IsListThere (words_in (A.segments arena.old)) list }
+    requires index { index < list.count }
+    requires holds { Holds list (ty_of ty) }
+    requires sizes { HoldsStructs (schema_of (nodes_of set.now)) list (ty_of ty) }
+    requires known { is_type_of (nodes_of set.now) ty ≡ true }
+    ensures writes { OnOk result (WritesElement (words_in (A.segments arena.old))
+        (words_in (A.segments arena.new)) list (schema_of (nodes_of set.now)) (ty_of ty) index
+        (map step_view rest.now) (action_view action.now)) }
+    ensures grows { GrowsIn (words_in (A.segments arena.old)) (words_in (A.segments arena.new))
+        list }
+    ensures books { A.books arena.new ≡ A.books arena.old }
+{
+    if rest.is_empty() {
+        return write_element_end(arena, list, index, set, ty, action);
+    }
+    match ty.which() {
+        TypeVariant::Struct(raw) => {
+            elements_as_structs();
+            let schema = StructSchema::new(set, raw);
+            write_steps(arena, element_struct(list, index), schema, rest, action)
+        }
+        TypeVariant::List(element) => {
+            elements_as_pointers();
+            let slot = element_pointer(list, index);
+            write_list(arena, slot, set, element, None, rest, action)
+        }
+        _ => Err(Error::from(ErrorKind::WrongStep)),
+    }
 }

@@ -28,7 +28,7 @@ use capnp_values::dynamic_value::Reader;
 use capnp_wire::arena::NullArena;
 
 /// The bits of a value in a slot of a plain type; none where it is of another sort or out of range.
-fn bits_for(ty: PlainType, value: &SlotValue) -> Option<u64>
+pub(crate) fn bits_for(ty: PlainType, value: &SlotValue) -> Option<u64>
     ensures content { bits_content result
         ≡ plain_content (plain_of ty) (slot_value_view value.now) }
     ensures fit { IfSome result (λ n. n < 2 ^ width (plain_of ty)) }

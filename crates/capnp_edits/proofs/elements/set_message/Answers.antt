@@ -1,0 +1,29 @@
+use Rattle.std.proofs.Common.{◌≡◌, ap, sym, subst, ◌∙◌}
+use Rattle.capnp_model.specs.Calls.{message}
+use Rattle.capnp_model.specs.Schemas.{list}
+use Rattle.capnp_units.specs.Segments.{words_in}
+use Rattle.capnp_queries.specs.Types.{ty_of, ty_of_variant}
+use Rattle.capnp_call_messages.specs.Messages.{tree_of_message}
+use Rattle.capnp_dynamic_lists.specs.Lists.{HasPointer}
+use Rattle.capnp_dynamic_lists.specs.Elements.{Holds}
+use Rattle.capnp_dynamic_lists.proofs.Fronts.{none_written}
+use Rattle.capnp_edits.proofs.ElementEnds.{void_end}
+use Rattle.capnp_edits.proofs.ElementMessages.{list_set}
+use Rattle.capnp_edits.proofs.elements.set_message.Goals as goal
+
+pub returns-in-Void-clause-writes : goal.returns-in-Void-clause-writes
+returns-in-Void-clause-writes g c around =
+    let s = words_in (g.A.ReaderArena.segments c.args.arena.now) in
+    void_end s s c.args.list c.args.index around (ty_of c.args.ty) (message (tree_of_message c.args.value.now)) (ap ty_of_variant (sym c.in-Void.is) ∙ c.which.ensures.ty) (none_written s c.args.list c.args.index c.requires.there.counted)
+
+pub returns-in-List-clause-writes : goal.returns-in-List-clause-writes
+returns-in-List-clause-writes g c around =
+    let s = words_in (g.A.ReaderArena.segments c.args.arena.now) in
+    let u = words_in (g.A.ReaderArena.segments c.put_message.new.arena) in
+    let o = c.args.list in
+    let k = c.args.index in
+    let q = c.element_pointer.result in
+    let e = ty_of c.in-List.field-0 in
+    let ty : list e ≡ ty_of c.args.ty = ap ty_of_variant (sym c.in-List.is) ∙ c.which.ensures.ty in
+    let has : HasPointer o = subst (Holds o) (sym ty) c.requires.holds in
+    list_set s u o k q (λ n x is own. c.elements_as_pointers.ensures.parts n s o k q x has c.requires.index c.element_pointer.ensures.place c.requires.there is own) around (ty_of c.args.ty) e (tree_of_message c.args.value.now) ty c.put_message.result c.put_message.ensures.puts

@@ -1,0 +1,29 @@
+use Rattle.std.proofs.Common.{[], OnOk, sym, subst}
+use Rattle.capnp_model.specs.Accepted.{schema_of}
+use Rattle.capnp_model.specs.Calls.{initn, element_content}
+use Rattle.capnp_units.specs.Segments.{words_in}
+use Rattle.capnp_records.specs.Sets.{nodes_of}
+use Rattle.capnp_queries.specs.Types.{ty_of}
+use Rattle.capnp_calls.specs.CallViews.{action_view}
+use Rattle.capnp_dynamic.specs.Puts.{state_in}
+use Rattle.capnp_edits.specs.Elements.{WritesElement}
+use Rattle.capnp_edits.proofs.ElementEnds.{initn_end}
+use Rattle.capnp_edits.proofs.elements.write_element_end.Goals as goal
+
+pub returns-in-Initn-clause-writes : goal.returns-in-Initn-clause-writes
+returns-in-Initn-clause-writes g c =
+    let at = state_in g.A.ReaderArena.segments g.A.BuilderArena.room g.A.BuilderArena.books in
+    let s = words_in (g.A.ReaderArena.segments c.args.arena.now) in
+    let u = words_in (g.A.ReaderArena.segments c.init_element.new.arena) in
+    let around = schema_of (nodes_of c.args.set.now) in
+    let ty = ty_of c.args.ty in
+    let n = c.in-Initn.count in
+    subst (λ a. OnOk c.init_element.result (WritesElement s u c.args.list around ty c.args.index [] (action_view a))) (sym c.in-Initn.is)
+    (initn_end (at c.args.arena.now) (at c.init_element.new.arena) c.args.list c.args.index n around ty (element_content around (initn n) ty) c.init_element.result c.init_element.ensures.puts)
+
+pub returns-in-Set-clause-writes : goal.returns-in-Set-clause-writes
+returns-in-Set-clause-writes g c =
+    let s = words_in (g.A.ReaderArena.segments c.args.arena.now) in
+    let u = words_in (g.A.ReaderArena.segments c.set_value.new.arena) in
+    let around = schema_of (nodes_of c.args.set.now) in
+    subst (λ a. OnOk c.set_value.result (WritesElement s u c.args.list around (ty_of c.args.ty) c.args.index [] (action_view a))) (sym c.in-Set.is) (c.set_value.ensures.writes around)

@@ -1,0 +1,35 @@
+use Rattle.std.proofs.Common.{◌≡◌, ◌⊎◌, List, ℕ, Option, Result, Ok, Err, IfOk, sym}
+use Rattle.capnp_model.specs.Schemas.{Ty, Schema}
+use Rattle.capnp_model.specs.Edits.{as_list}
+use Rattle.capnp_model.specs.Segments.{Segments, word_at}
+use Rattle.std.specs.Prelude.{Some, option_copied}
+use Rattle.capnp_units.specs.declared.errors.Error.{Error}
+use Rattle.capnp_units.specs.declared.sizes.ElementSize.{ElementSize}
+use Rattle.capnp_units.specs.Segments.{words_in}
+use Rattle.capnp_object.specs.declared.place.Place as code
+use Rattle.capnp_wire.specs.Places.{place_view, seen}
+use Rattle.capnp_records.specs.Sets.{nodes_of}
+use Rattle.capnp_model.specs.Accepted.{schema_of}
+use Rattle.capnp_queries.specs.Types.{ty_of}
+use Rattle.capnp_copy.specs.Elements.{LiesAt}
+use Rattle.capnp_copy.specs.Lists.{list_at}
+use Rattle.capnp_copy.specs.Values.{LeadsTo}
+use Rattle.capnp_copy.specs.declared.init.ListPlace.{ListPlace}
+use Rattle.capnp_builders.specs.Gets.{list_named, Gets}
+use Rattle.capnp_edits.specs.Elements.{ListBehind}
+use Rattle.capnp_edits.proofs.GotLists.{list_leads, list_found}
+use Rattle.capnp_edits.proofs.lists.list_behind.Goals as goal
+
+got_by : (default : Option (List (List ℕ))) (s u : Segments) (slot : code.Place) (expected : ElementSize) (around : Schema) (ty : Ty) → Gets default s u (place_view slot) (as_list around ty) → (r : Result ListPlace Error) → seen (λ o. o) r ≡ list_named u slot expected → IfOk r (λ o. (word_at u (place_view slot) ≡ Some 0) ⊎ LeadsTo u (place_view slot) (list_at o)) → IfOk r (LiesAt u (place_view slot)) → IfOk r (ListBehind default s u slot around ty)
+got_by default s u slot expected around ty v (Err e) is o lies = tt
+got_by default s u slot expected around ty v (Ok x) is o lies = record {
+  value = v;
+  object = list_leads u slot expected x (sym is) o;
+  found = λ some. list_found u slot expected x (sym is) (list_leads u slot expected x (sym is) o some) lies some;
+}
+
+pub returns-clause-got : goal.returns-clause-got
+returns-clause-got g c =
+    let s : Segments = words_in (g.A.ReaderArena.segments c.args.arena.now) in
+    let u : Segments = words_in (g.A.ReaderArena.segments c.begin_list.new.arena) in
+    got_by (option_copied c.args.default) s u c.args.slot c.expected_element_size.result (schema_of (nodes_of c.args.set.now)) (ty_of c.args.ty) c.in_ok-begin_list.ensures.value c.get_list.result c.get_list.ensures.list c.get_list.ensures.object c.get_list.ensures.inside

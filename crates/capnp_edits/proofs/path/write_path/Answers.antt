@@ -1,0 +1,16 @@
+use Rattle.std.specs.Prelude.{map}
+use Rattle.capnp_units.specs.Segments.{words_in}
+use Rattle.capnp_calls.specs.CallViews.{step_view, action_view}
+use Rattle.capnp_edits.specs.Written.{WritesPath}
+use Rattle.capnp_edits.specs.Elements.{WritesWithin}
+use Rattle.capnp_edits.proofs.Outcomes.{path_within}
+use Rattle.capnp_edits.proofs.Behind.{on_ok}
+use Rattle.capnp_edits.proofs.path.write_path.Goals as goal
+
+pub returns-clause-writes : goal.returns-clause-writes
+returns-clause-writes g c =
+    let s = words_in (g.A.ReaderArena.segments c.args.arena.now) in
+    let u = words_in (g.A.ReaderArena.segments c.write_steps.new.arena) in
+    let path = map step_view c.args.path.now in
+    let v = action_view c.args.action.now in
+    on_ok c.write_steps.result (WritesWithin s u c.args.object c.args.schema path v) (WritesPath s u c.args.object c.args.schema path v) (path_within s u c.args.object c.args.schema path v) c.write_steps.ensures.writes

@@ -1,0 +1,85 @@
+-- Calls along paths through lists, written where the lists and their elements lie. (Encoding, "Lists")
+use Rattle.std.specs.Prelude.{◌≡◌, ℕ, ◌+◌, ◌<◌, List, ◌∷◌, Option, Some, None}
+use Rattle.capnp_model.specs.Segments.{Segments}
+use Rattle.capnp_model.specs.Trees.{Tree}
+use Rattle.capnp_model.specs.Coverage.{Grows}
+use Rattle.capnp_model.specs.Schemas.{Ty, Shape, Schema}
+use Rattle.capnp_model.specs.Readings.{Extent, shape_record, read_child, body_of, element_as}
+use Rattle.capnp_model.specs.Printing.{fields_in}
+use Rattle.capnp_model.specs.Calls.{Step, index, Verb}
+use Rattle.capnp_model.specs.Steps.{step_path, step_field, step_element}
+use Rattle.capnp_model.specs.Edits.{Cell, as_list, edit_list, edit_element}
+use Rattle.capnp_object.specs.declared.place.Place as code
+use Rattle.capnp_wire.specs.Places.{place_view}
+use Rattle.capnp_footprints.specs.Footprints.{OwnsObject}
+use Rattle.capnp_footprints.specs.Changes.{ReplacesObject}
+use Rattle.capnp_copy.specs.Lists.{list_at}
+use Rattle.capnp_copy.specs.Values.{LeadsTo}
+use Rattle.capnp_copy.specs.declared.fields.StructPlace.{StructPlace}
+use Rattle.capnp_copy.specs.declared.init.ListPlace.{ListPlace}
+use Rattle.capnp_builders.specs.Gets.{Gets}
+use Rattle.capnp_queries.specs.Fields.{Entry}
+use Rattle.capnp_queries.specs.Structs.{schema_around, shape_of_struct}
+use Rattle.capnp_queries.specs.Handles.{entry_of}
+use Rattle.capnp_queries.specs.declared.structs.StructSchema.{StructSchema}
+use Rattle.capnp_queries.specs.declared.fields.Field.{Field}
+use Rattle.capnp_dynamic_lists.specs.Lists.{IsListThere, IsListOf}
+use Rattle.capnp_dynamic_lists.specs.Parts.{cell_in}
+use Rattle.capnp_calls.specs.Sizes.{IsDone}
+use Rattle.capnp_calls.specs.Paths.{shape_edit}
+use Rattle.capnp_edits.specs.Written.{EditsWhere, edit_at}
+
+-- ---- at a struct or a field
+
+-- A plain element that stands for a struct is read no further than its own bits, and once its list is widened as a whole word, where its union may have another active member. So the record machine does a call there as it reads the data to some extent, whichever it is.
+abbrev pub IsDoneWithin : Schema → Shape → List Step → Verb → Cell → Type 0
+IsDoneWithin s g path verb c = (e : Extent) × IsDone (step_path s (fields_in g) path verb (shape_record g e c.section (read_child s c.kids)))
+
+-- Where it does, the struct's data and children become what the call's edit makes of them.
+abbrev pub WritesWithin : Segments → Segments → StructPlace → StructSchema → List Step → Verb → Type 0
+WritesWithin s u p g path verb = EditsWhere (IsDoneWithin (schema_around g) (shape_of_struct g) path verb) s u p (shape_edit (schema_around g) (shape_of_struct g) path verb)
+
+-- The record machine does the rest of a call at a field that is active, read to some extent; at none it does nothing.
+abbrev pub IsFieldDone : Field → List Step → Verb → Option Entry → Cell → Type 0
+IsFieldDone f path verb None c = ⊥
+IsFieldDone f path verb (Some e) c = let s = schema_around f.parent in (x : Extent) × IsDone (step_field s path verb e.body (body_of e.body x c.section (read_child s c.kids)))
+
+-- Where it does, the struct becomes what it makes of it.
+abbrev pub WritesFieldWithin : Segments → Segments → StructPlace → Field → List Step → Verb → Type 0
+WritesFieldWithin s u p f path verb = EditsWhere (IsFieldDone f path verb (entry_of f)) s u p (edit_at f path verb (entry_of f))
+
+-- ---- at an element
+
+-- The record machine does the rest of a call at an element of a type, read to some extent.
+abbrev pub IsElementDone : Schema → Ty → List Step → Verb → Cell → Type 0
+IsElementDone s ty path verb c = (e : Extent) × IsDone (step_element s path verb ty (element_as s ty e c.section (read_child s c.kids)))
+
+-- Whatever elements the list has: where the rest of a call is done at the one of an index, that becomes what it makes of it, where some levels of pointers may be new, and nothing else changes.
+abbrev pub WritesElement : Segments → Segments → ListPlace → Schema → Ty → ℕ → List Step → Verb → Type 0
+WritesElement s u o around ty k path verb =
+    (n : ℕ) (t : Tree) → IsListOf o t → OwnsObject n s (list_at o) t → IsElementDone around ty path verb (cell_in t k)
+    → (more : ℕ) × ReplacesObject (n + more) s u (list_at o) (edit_list (edit_element around path verb ty) k t)
+
+-- Whatever elements it has: each segment of the message is there later too, and no shorter.
+abbrev pub GrowsIn : Segments → Segments → ListPlace → Type 0
+GrowsIn s u o = (n : ℕ) (t : Tree) → IsListOf o t → OwnsObject n s (list_at o) t → Grows s u
+
+-- ---- lists that are got
+
+-- A list is there, and whatever value it has, its place tells of.
+pub record IsListFound (s : Segments) (o : ListPlace) : Type 0 where
+  pub there : IsListThere s o
+  pub values : (n : ℕ) (t : Tree) → OwnsObject n s (list_at o) t → IsListOf o t
+
+-- A list of elements of a type is got: a default in place of null, and where the elements are structs, a list of structs of their schema's sizes at least. Where it has an element, the pointer leads to it.
+pub record ListBehind (default : Option (List (List ℕ))) (s u : Segments) (slot : code.Place) (around : Schema) (ty : Ty) (o : ListPlace) : Type 0 where
+  pub value : Gets default s u (place_view slot) (as_list around ty)
+  pub object : 0 < o.count → LeadsTo u (place_view slot) (list_at o)
+  pub found : 0 < o.count → IsListFound u o
+
+-- ---- paths
+
+-- A path begins with an index before others, or with none.
+abbrev pub BeginsWithIndex : List Step → Option (ℕ × List Step) → Type 0
+BeginsWithIndex path None = Unit {0}
+BeginsWithIndex path (Some p) = path ≡ index p.0 ∷ p.1

@@ -1,0 +1,178 @@
+//! Calls written at the elements of lists where their paths end.
+ghost use Rattle.std.specs.Prelude.{◌≡◌, ◌<◌, ◌^◌, true, [], length, map, OnOk};
+ghost use Rattle.capnp_model.specs.Accepted.{schema_of};
+ghost use Rattle.capnp_model.specs.Calls.{set_to, message};
+ghost use Rattle.capnp_model.specs.Coverage.{Grows};
+ghost use Rattle.capnp_model.specs.Edits.{put_bits};
+ghost use Rattle.capnp_model.specs.Schemas.{Schema};
+ghost use Rattle.capnp_units.specs.Segments.{words_in};
+ghost use Rattle.capnp_records.specs.Sets.{nodes_of};
+ghost use Rattle.capnp_call_messages.specs.Messages.{tree_of_message};
+ghost use Rattle.capnp_queries.specs.Types.{ty_of, is_type_of};
+ghost use Rattle.capnp_calls.specs.CallViews.{action_view, slot_value_view};
+ghost use Rattle.capnp_dynamic_lists.specs.Lists.{IsListThere, HasRoom, EditsElement};
+ghost use Rattle.capnp_dynamic_lists.specs.Elements.{Holds};
+ghost use Rattle.capnp_edits.specs.Elements.{WritesElement};
+
+use crate::lists::plain_type;
+use crate::messages::put_message;
+use crate::values::bits_for;
+use capnp_call_messages::message::MessageValue;
+use capnp_calls::{Action, SlotValue};
+use capnp_copy::arena::BuilderArena;
+use capnp_copy::elements::set_element;
+use capnp_copy::fields::set_bits;
+use capnp_copy::init::ListPlace;
+use capnp_dynamic::slots::width_of;
+use capnp_dynamic_lists::elements::set_flat;
+use capnp_dynamic_lists::init::init_element;
+use capnp_dynamic_lists::laws::{elements_as_pointers, elements_as_structs};
+use capnp_dynamic_lists::places::{element_pointer, element_struct};
+use capnp_queries::introspect::{Type, TypeVariant};
+use capnp_records::set::SchemaSet;
+use capnp_text::text;
+use capnp_units::errors::{Error, Result};
+use capnp_units::kinds::ErrorKind;
+use capnp_units::sizes::ElementSize;
+use capnp_values::dynamic_value::Reader;
+use capnp_wire::arena::NullArena;
+
+/// Writes a number into the bits at the front of an element.
+fn set_front<A: BuilderArena>(arena: &mut A, list: ListPlace, index: u32, width: u32, value: u64)
+    requires there { IsListThere (words_in (A.segments arena.old)) list }
+    requires index { index < list.count }
+    requires room { HasRoom list width }
+    requires some { 0 < width }
+    requires fits { value < 2 ^ width }
+    ensures edits { EditsElement (words_in (A.segments arena.old)) (words_in (A.segments arena.new))
+        list (λ words pointers. put_bits 0 width value) index }
+    ensures sizes { map length (words_in (A.segments arena.new))
+        ≡ map length (words_in (A.segments arena.old)) }
+    ensures books { A.books arena.new ≡ A.books arena.old }
+{
+    elements_as_structs();
+    match list.size {
+        ElementSize::InlineComposite => {
+            set_bits(arena, element_struct(list, index), 0, width, value);
+        }
+        _ => set_element(arena, list, index, width, value),
+    }
+}
+
+/// Sets an element to a plain value of its type, or a Void one to any. Other elements, and values out of range, are refused with `TypeMismatch`.
+fn set_plain<A: BuilderArena>(
+    arena: &mut A,
+    list: ListPlace,
+    index: u32,
+    ty: Type,
+    value: &SlotValue,
+) -> Result<()>
+    requires there { IsListThere (words_in (A.segments arena.old)) list }
+    requires index { index < list.count }
+    requires holds { Holds list (ty_of ty) }
+    ensures writes { (s : Schema) → OnOk result (WritesElement (words_in (A.segments arena.old))
+        (words_in (A.segments arena.new)) list s (ty_of ty) index []
+        (set_to (slot_value_view value.now))) }
+    ensures grows { Grows (words_in (A.segments arena.old)) (words_in (A.segments arena.new)) }
+    ensures books { A.books arena.new ≡ A.books arena.old }
+{
+    if let Some(plain) = plain_type(ty) {
+        let Some(bits) = bits_for(plain, value) else {
+            return Err(Error::from(ErrorKind::TypeMismatch));
+        };
+        set_front(arena, list, index, width_of(plain), bits);
+        return Ok(());
+    }
+    match ty.which() {
+        TypeVariant::Void => Ok(()),
+        _ => Err(Error::from(ErrorKind::TypeMismatch)),
+    }
+}
+
+/// Sets an element that is a list to the value of a message, or a Void one to any. Other elements are refused with `TypeMismatch`.
+fn set_message<A: BuilderArena>(
+    arena: &mut A,
+    list: ListPlace,
+    index: u32,
+    ty: Type,
+    value: &MessageValue,
+) -> Result<()>
+    requires there { IsListThere (words_in (A.segments arena.old)) list }
+    requires index { index < list.count }
+    requires holds { Holds list (ty_of ty) }
+    ensures writes { (s : Schema) → OnOk result (WritesElement (words_in (A.segments arena.old))
+        (words_in (A.segments arena.new)) list s (ty_of ty) index []
+        (set_to (message (tree_of_message value.now)))) }
+    ensures grows { Grows (words_in (A.segments arena.old)) (words_in (A.segments arena.new)) }
+    ensures books { A.books arena.new ≡ A.books arena.old }
+{
+    match ty.which() {
+        TypeVariant::Void => Ok(()),
+        TypeVariant::List(_) => {
+            elements_as_pointers();
+            put_message(arena, element_pointer(list, index), value)
+        }
+        _ => Err(Error::from(ErrorKind::TypeMismatch)),
+    }
+}
+
+/// Sets an element to a value.
+fn set_value<A: BuilderArena>(
+    arena: &mut A,
+    list: ListPlace,
+    index: u32,
+    ty: Type,
+    value: &SlotValue,
+) -> Result<()>
+    requires there { IsListThere (words_in (A.segments arena.old)) list }
+    requires index { index < list.count }
+    requires holds { Holds list (ty_of ty) }
+    ensures writes { (s : Schema) → OnOk result (WritesElement (words_in (A.segments arena.old))
+        (words_in (A.segments arena.new)) list s (ty_of ty) index []
+        (set_to (slot_value_view value.now))) }
+    ensures grows { Grows (words_in (A.segments arena.old)) (words_in (A.segments arena.new)) }
+    ensures books { A.books arena.new ≡ A.books arena.old }
+{
+    match value {
+        SlotValue::Number(_) | SlotValue::Bool(_) | SlotValue::Enum(_) => {
+            set_plain(arena, list, index, ty, value)
+        }
+        SlotValue::Text(text) => {
+            let text: Reader<'_, NullArena> = Reader::Text(text::Reader(text.as_bytes()));
+            set_flat(arena, list, ty, index, &text)
+        }
+        SlotValue::Data(bytes) => {
+            let data: Reader<'_, NullArena> = Reader::Data(bytes);
+            set_flat(arena, list, ty, index, &data)
+        }
+        SlotValue::Message(value) => set_message(arena, list, index, ty, value),
+    }
+}
+
+/// Writes a call at the element where its path ends. A `get`, `init` and `clear` are refused: an element is none of these's target.
+pub(crate) fn write_element_end<A: BuilderArena>(
+    arena: &mut A,
+    list: ListPlace,
+    index: u32,
+    set: &SchemaSet,
+    ty: Type,
+    action: &Action,
+) -> Result<()>
+    requires there { IsListThere (words_in (A.segments arena.old)) list }
+    requires index { index < list.count }
+    requires holds { Holds list (ty_of ty) }
+    requires known { is_type_of (nodes_of set.now) ty ≡ true }
+    ensures writes { OnOk result (WritesElement (words_in (A.segments arena.old))
+        (words_in (A.segments arena.new)) list (schema_of (nodes_of set.now)) (ty_of ty) index []
+        (action_view action.now)) }
+    ensures grows { Grows (words_in (A.segments arena.old)) (words_in (A.segments arena.new)) }
+    ensures books { A.books arena.new ≡ A.books arena.old }
+{
+    match action {
+        Action::Initn(count) => init_element(arena, list, set, ty, index, *count),
+        Action::Set(value) => set_value(arena, list, index, ty, value),
+        Action::Init => Err(Error::from(ErrorKind::ExpectedAListOrBlob)),
+        Action::Clear => Err(Error::from(ErrorKind::ClearNeedsAField)),
+        Action::Get => Err(Error::from(ErrorKind::WrongStep)),
+    }
+}
