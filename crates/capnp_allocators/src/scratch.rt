@@ -45,6 +45,22 @@ impl<'a> ScratchSpaceHeapAllocator<'a> {
         }
     }
 
+    /// An allocator over a slice that is all zeros already, as it is where an allocator before it ended; no byte of it is written. Other segments come from `alloc`, with the suggested sizes.
+    pub fn resume(alloc: Global, scratch_space: &'a mut [u8]) -> ScratchSpaceHeapAllocator<'a>
+        requires zeros { AllZero scratch_space.old }
+        ensures same { result.region.ghost_name ≡ scratch_space.entry.ghost_name }
+        ensures home { (result.taken ≡ false) × (result.used ≡ 0) }
+        ensures kept { result.region.now ≡ scratch_space.old }
+        ensures growth { result.heap.growth ≡ suggested_growth }
+    {
+        ScratchSpaceHeapAllocator {
+            region: scratch_space,
+            taken: false,
+            used: 0,
+            heap: HeapAllocator::new(alloc),
+        }
+    }
+
     /// An allocator over a slice whose first words are used already, as the words of a message that goes on. All bytes behind them are made zero. Other segments come from `alloc`, with the suggested sizes.
     pub fn open(
         alloc: Global,

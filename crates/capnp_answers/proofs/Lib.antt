@@ -1,0 +1,4 @@
+pub mod Walks
+pub mod Heads
+pub mod Edited
+pub mod Whole

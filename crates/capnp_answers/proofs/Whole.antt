@@ -1,0 +1,112 @@
+-- What is answered to a message, from what is answered at its opened root.
+use Rattle.std.proofs.Common.{◌≡◌, ℕ, zero, suc, pos, ◌+◌, ◌*◌, ◌%◌, ◌<◌, ◌≤◌, ◌^◌, Bool, true, false, Option, Some, None, List, [], ◌∷◌, ◌++◌, length, map, refl, ap, sym, ◌∙◌, subst, append-nil, arith}
+use Rattle.std.specs.Prelude.{slice_get, take}
+use Rattle.std.specs.Int.{from_le_bytes, w64}
+use Rattle.capnp_model.specs.Segments.{Segments, Place, root}
+use Rattle.capnp_model.specs.Trees.{Tree, null, capability, structure, plain_list, pointer_list, struct_list, depth}
+use Rattle.capnp_model.specs.Fits.{Fits}
+use Rattle.capnp_model.specs.Trimming.{trim}
+use Rattle.capnp_model.specs.Encoding.{canonical_words}
+use Rattle.capnp_model.specs.Traversal.{tree_at}
+use Rattle.capnp_model.specs.Calls.{Call}
+use Rattle.capnp_model.specs.Answers.{Answer, refused_value, refused_root, answer, answer_value, answer_struct, opened_root, widened_root, value_within, edits}
+use Rattle.capnp_queries.specs.Structs.{schema_around, shape_of_struct, id_of}
+use Rattle.capnp_queries.specs.declared.structs.StructSchema.{StructSchema}
+use Rattle.capnp_calls.specs.Texts.{as_it_is}
+use Rattle.capnp_canonical.specs.Writes.{filled, words_view}
+use Rattle.capnp_footprints.specs.Footprints.{Owns}
+use Rattle.capnp_value.specs.Reads.{limits_view}
+use Rattle.capnp_value.specs.declared.value.read.Bounds.{Bounds}
+use Rattle.capnp_answers.specs.Answers.{AnswersRoot, AnswersWords, IsAnswered, answer_view, MeansTree}
+use Rattle.capnp_answers.specs.Reading.{ReadsValue, can_be_opened}
+use Rattle.capnp_answers.specs.declared.answer.MessageAnswer.{MessageAnswer}
+use Rattle.capnp_answers.specs.declared.answer.MessageAnswer.TheVariants as answers
+use Rattle.capnp_answers.specs.declared.answer.Reason.TheVariants as reasons
+
+one_value : (t u : Tree) → Some t ≡ Some u → t ≡ u
+one_value t u e = cc
+
+-- ---- from a value's canonical words
+
+pub view_front : (n : ℕ) (words : List (List ℕ)) → words_view (take n words) ≡ filled n words
+view_front zero words = refl
+view_front (suc n) [] = refl
+view_front (suc n) (w ∷ ws) = ap (λ xs. from_le_bytes w64 w ∷ xs) (view_front n ws)
+
+length_front : (n : ℕ) (xs : List ℕ) → length (take n xs) ≤ n
+length_front zero xs = omega arith
+length_front (suc n) [] = omega arith
+length_front (suc n) (x ∷ xs) = let low = length_front n xs in omega (arith, low)
+
+pub length_filled : (count : ℕ) (into : List (List ℕ)) → length (filled count into) ≤ count
+length_filled count into = length_front count (words_view into)
+
+module _ (schema : StructSchema) (calls : List Call) where
+  pub at_words : ((t : Tree) (n : ℕ) (s : Segments) (more : List ℕ) → Fits t → depth t ≤ n → length (canonical_words t) ≤ 2 ^ 29 → slice_get s 0 ≡ Some (canonical_words t ++ more) → Owns n s root t)
+      → (levels : ℕ) (s : Segments) (words : List ℕ) (into : List (List ℕ)) (a : MessageAnswer) → s ≡ words ∷ [] → length words < 2 ^ 29 → AnswersRoot schema calls levels s into a → AnswersWords schema calls levels words into a
+  at_words owned levels s words into a is few all t fits deep same =
+      let n : ℕ = 2 ^ 29 + levels in
+      let first : slice_get s 0 ≡ Some (canonical_words t ++ []) = ap (λ x. slice_get x 0) (is ∙ ap (λ ws. ws ∷ []) same) ∙ ap (λ ws. Some ws) (sym (append-nil (canonical_words t))) in
+      all n t (omega arith) (owned t (suc n) s [] fits (omega (arith, deep)) (omega (arith, few, ap length same)) first)
+
+  -- ---- from a value within the bounds
+
+  opened_is : (t : Tree) → opened_root (schema_around schema) (id_of schema) t ≡ widened_root (shape_of_struct schema) (trim t)
+  unfolding opened_root
+  opened_is t = refl
+
+  abbrev answer_to : ℕ → Option Tree → Answer
+  answer_to nesting t = answer_value (schema_around schema) as_it_is (id_of schema) calls (pos nesting) t
+
+  abbrev answer_at : ℕ → Tree → Answer
+  answer_at nesting t = answer_struct (schema_around schema) as_it_is (id_of schema) calls (pos nesting) (opened_root (schema_around schema) (id_of schema) t)
+
+  at_opened : (nesting : ℕ) (t : Tree) → can_be_opened (trim t) ≡ true → answer_to nesting (Some t) ≡ answer_at nesting t
+  unfolding trim
+  at_opened nesting null e = refl
+  at_opened nesting (structure words section kids) e = refl
+  at_opened nesting (capability i) e = absurd cc
+  at_opened nesting (plain_list size n section) e = absurd cc
+  at_opened nesting (pointer_list ts) e = absurd cc
+  at_opened nesting (struct_list d k es) e = absurd cc
+
+  at_list : (nesting : ℕ) (t : Tree) → can_be_opened (trim t) ≡ false → answer_to nesting (Some t) ≡ refused_root
+  unfolding trim
+  at_list nesting null e = absurd cc
+  at_list nesting (structure words section kids) e = absurd cc
+  at_list nesting (capability i) e = refl
+  at_list nesting (plain_list size n section) e = refl
+  at_list nesting (pointer_list ts) e = refl
+  at_list nesting (struct_list d k es) e = refl
+
+  module _ (bounds : Bounds) (s : Segments) where
+    answer_is : answer (schema_around schema) as_it_is (id_of schema) calls (limits_view bounds) s ≡ answer_to bounds.nesting (value_within (limits_view bounds) s)
+    unfolding answer
+    answer_is = refl
+
+    pub no_value : (into : List (List ℕ)) → value_within (limits_view bounds) s ≡ None → IsAnswered schema calls bounds s into (answers.Refused reasons.Value)
+    no_value into none =
+        record {
+          same = sym (answer_is ∙ ap (answer_to bounds.nesting) none);
+          means = λ t is. tt;
+          stands = tt;
+        }
+
+    pub no_struct : (old into : List (List ℕ)) (count : ℕ) → (r : ReadsValue bounds s old count) → can_be_opened (trim r.value) ≡ false → IsAnswered schema calls bounds s into (answers.Refused reasons.Root)
+    no_struct old into count r list =
+        record {
+          same = sym (answer_is ∙ ap (answer_to bounds.nesting) r.within ∙ at_list bounds.nesting r.value list);
+          means = λ t is. tt;
+          stands = tt;
+        }
+
+    pub at_value : (old into : List (List ℕ)) (count : ℕ) (a : MessageAnswer) → (r : ReadsValue bounds s old count) → can_be_opened (trim r.value) ≡ true
+        → AnswersWords schema calls bounds.nesting (filled count old) into a → IsAnswered schema calls bounds s into a
+    at_value old into count a r opens all =
+        let made = all (trim r.value) r.fits r.deep r.words in
+        let opened = opened_is r.value in
+        record {
+          same = made.same ∙ ap (answer_struct (schema_around schema) as_it_is (id_of schema) calls (pos bounds.nesting)) (sym opened) ∙ sym (answer_is ∙ ap (answer_to bounds.nesting) r.within ∙ at_opened bounds.nesting r.value opens);
+          means = λ t is. subst (λ x. MeansTree bounds.nesting (trim (edits (schema_around schema) (id_of schema) calls x)) (answer_view into a)) (sym opened ∙ ap (opened_root (schema_around schema) (id_of schema)) (one_value r.value t (sym r.within ∙ is))) made.means;
+          stands = made.stands;
+        }

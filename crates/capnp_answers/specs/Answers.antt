@@ -1,0 +1,70 @@
+-- What is answered to a message, in a buffer of words.
+use Rattle.std.specs.Prelude.{◌≡◌, ℕ, suc, pos, ◌^◌, ◌<◌, ◌≤◌, List, [], ◌∷◌, Option, Some, length, map, ⊤}
+use Rattle.capnp_model.specs.Segments.{Segments, root}
+use Rattle.capnp_model.specs.Trees.{Tree, depth}
+use Rattle.capnp_model.specs.Fits.{Fits}
+use Rattle.capnp_model.specs.Encoding.{canonical_words}
+use Rattle.capnp_model.specs.Trimming.{trim}
+use Rattle.capnp_model.specs.Traversal.{tree_at}
+use Rattle.capnp_model.specs.Calls.{Call}
+use Rattle.capnp_model.specs.Answers.{Answer, written, refused_value, refused_root, refused_depth, edits, opened_root, value_within, answer_struct, IsAnswer, widened_root}
+use Rattle.capnp_queries.specs.Structs.{schema_around, shape_of_struct, id_of}
+use Rattle.capnp_queries.specs.declared.structs.StructSchema.{StructSchema}
+use Rattle.capnp_calls.specs.Replies.{reply_view}
+use Rattle.capnp_calls.specs.Texts.{as_it_is}
+use Rattle.capnp_canonical.specs.Writes.{filled}
+use Rattle.capnp_footprints.specs.Footprints.{Owns}
+use Rattle.capnp_value.specs.Reads.{limits_view}
+use Rattle.capnp_value.specs.declared.value.read.Bounds.{Bounds}
+use Rattle.capnp_answers.specs.declared.answer.Reason.{Reason}
+use Rattle.capnp_answers.specs.declared.answer.Reason.TheVariants as reasons
+use Rattle.capnp_answers.specs.declared.answer.MessageAnswer.{MessageAnswer}
+use Rattle.capnp_answers.specs.declared.answer.MessageAnswer.TheVariants as answers
+
+-- The refusal for a reason.
+abbrev pub refusal_view : Reason → Answer
+refusal_view reasons.Value = refused_value
+refusal_view reasons.Root = refused_root
+refusal_view reasons.Depth = refused_depth
+
+-- The answer as the model has it; the one segment that is written stands at the front of a buffer.
+abbrev pub answer_view : List (List ℕ) → MessageAnswer → Answer
+answer_view into (answers.Written count replies) = written (filled count into ∷ []) (map reply_view replies.items)
+answer_view into (answers.Refused reason) = refusal_view reason
+
+-- What is written stands within the buffer, and has fewer words than 2^29.
+abbrev pub StandsIn : List (List ℕ) → MessageAnswer → Type 0
+StandsIn into (answers.Written count replies) = (count ≤ length into) × (count < 2 ^ 29)
+StandsIn into (answers.Refused reason) = ⊤
+
+-- What is written, if anything, means this tree within so many levels.
+abbrev pub MeansTree : ℕ → Tree → Answer → Type 0
+MeansTree nesting t (written segments replies) = tree_at nesting segments root ≡ Some t
+MeansTree nesting t _ = ⊤
+
+-- This is the answer of calls that start from a struct; what is written means the trimmed value after them.
+pub record AnswersStruct (schema : StructSchema) (calls : List Call) (nesting : ℕ) (into : List (List ℕ)) (t : Tree) (a : MessageAnswer) : Type 0 where
+  pub same : answer_view into a ≡ answer_struct (schema_around schema) as_it_is (id_of schema) calls (pos nesting) t
+  pub means : MeansTree nesting (trim (edits (schema_around schema) (id_of schema) calls t)) (answer_view into a)
+  pub stands : StandsIn into a
+
+-- The same of whatever value is owned at a message's root, a struct or null, as its schema opens it.
+abbrev pub AnswersRoot : StructSchema → List Call → ℕ → Segments → List (List ℕ) → MessageAnswer → Type 0
+AnswersRoot schema calls nesting s into a =
+    (n : ℕ) (t : Tree) → 2 ^ 29 ≤ n → Owns (suc n) s root t → AnswersStruct schema calls nesting into (widened_root (shape_of_struct schema) t) a
+
+-- What is written, if anything, means the trimmed value after the calls, which start at the opened root.
+abbrev pub MeansAfter : StructSchema → List Call → ℕ → Option Tree → Answer → Type 0
+MeansAfter schema calls nesting value a =
+    (t : Tree) → value ≡ Some t → MeansTree nesting (trim (edits (schema_around schema) (id_of schema) calls (opened_root (schema_around schema) (id_of schema) t))) a
+
+-- This is the model's answer of calls to a message; what is written stands in the buffer, and means the trimmed value after the calls.
+pub record IsAnswered (schema : StructSchema) (calls : List Call) (bounds : Bounds) (s : Segments) (into : List (List ℕ)) (a : MessageAnswer) : Type 0 where
+  pub same : IsAnswer (schema_around schema) as_it_is (id_of schema) calls (limits_view bounds) s (answer_view into a)
+  pub means : MeansAfter schema calls bounds.nesting (value_within (limits_view bounds) s) (answer_view into a)
+  pub stands : StandsIn into a
+
+-- The same of the value with these canonical words.
+abbrev pub AnswersWords : StructSchema → List Call → ℕ → List ℕ → List (List ℕ) → MessageAnswer → Type 0
+AnswersWords schema calls nesting words into a =
+    (t : Tree) → Fits t → depth t ≤ nesting → words ≡ canonical_words t → AnswersStruct schema calls nesting into (widened_root (shape_of_struct schema) t) a

@@ -1,0 +1,112 @@
+//! The answer of calls to a message, in a lent region.
+ghost use Rattle.std.specs.Prelude.{◌≡◌, ◌≤◌, map, length, IfOk};
+ghost use Rattle.capnp_units.specs.Segments.{words_in};
+ghost use Rattle.capnp_calls.specs.CallViews.{call_view};
+ghost use Rattle.capnp_calls.specs.Taken.{IsRoot};
+ghost use Rattle.capnp_copy.specs.Memory.{AllZero};
+ghost use Rattle.capnp_answers.specs.Answers.{IsAnswered};
+
+use crate::built::answer_built;
+use crate::reading::{can_be_opened, make_room, read_canonical};
+use capnp_allocators::scratch::ScratchSpaceHeapAllocator;
+use capnp_calls::Call;
+use capnp_calls::reply::Reply;
+use capnp_copy::allocator::Allocator;
+use capnp_message::builder::Builder;
+use capnp_queries::structs::StructSchema;
+use capnp_units::errors::Result;
+use capnp_units::sizes::Word;
+use capnp_value::value::Bounds;
+use capnp_wire::arena::ReaderArena;
+use std::alloc::Global;
+
+/// Why a message is skipped.
+#[derive(Clone, Copy, Debug, PartialEq, Eq)]
+pub enum Reason {
+    /// It has no value within the bounds, or one with a capability.
+    Value,
+    /// Its root is a list.
+    Root,
+    /// The edited value is nested too deep.
+    Depth,
+}
+
+/// How many words at the front of a buffer are the one segment that is written, and the replies of the calls; or why there is none.
+#[derive(Debug, Drop)]
+pub enum MessageAnswer {
+    Written {
+        count: usize,
+        replies: Vec<Reply>,
+    },
+    Refused(Reason),
+}
+
+/// The answer to a message, whose value is edited in memory of this allocator. All of it is given back.
+fn answer_over<L: Allocator, M: ReaderArena>(
+    alloc: Global,
+    allocator: &mut L,
+    message: &M,
+    bounds: Bounds,
+    schema: StructSchema<'_>,
+    calls: &[Call],
+    words: &mut Vec<Word>,
+) -> Result<MessageAnswer>
+    requires root { IsRoot schema }
+    requires one { length (L.loans allocator.old) ≤ 1 }
+    ensures answer { IfOk result (λ a. IsAnswered schema.entry (map call_view calls.now) bounds
+        (words_in (M.segments message.now)) words.new.items a) }
+    ensures loans { L.loans allocator.new ≡ L.loans allocator.old }
+    ensures place { L.place allocator.new ≡ L.place allocator.old }
+{
+    make_room(words, message.size_in_words())?;
+    let Some(count) = read_canonical(message, bounds, words)? else {
+        return Ok(MessageAnswer::Refused(Reason::Value));
+    };
+    if !can_be_opened(words, count) {
+        return Ok(MessageAnswer::Refused(Reason::Root));
+    }
+    let mut builder = Builder::new(alloc, allocator);
+    let answered = answer_built(
+        alloc,
+        &mut builder,
+        count,
+        bounds.nesting,
+        schema,
+        calls,
+        words,
+    );
+    let _allocator = builder.into_allocator();
+    answered
+}
+
+/// Answers calls in turn at the root of a message, as the model does, lists and all: the message's value, trimmed, is copied into the region and edited there, and what it becomes is written into the buffer, as its canonical words. A message without a value within the bounds, or with a capability, is skipped as `Value`, one whose root is a list as `Root`, one that the calls nest too deep as `Depth`.
+///
+/// The region is all zeros before, and after, whatever is answered; it need not have room for the message, whose words then come from `alloc`, as those do that the calls add past its end. The buffer grows where it is too short; what is in it before doesn't matter.
+///
+/// It is refused with `OutOfMemory` for want of memory; with `BufferNotLargeEnough` where the message's canonical words are more than its own, since pointers share words; with `SizeOverflow` where the message would have 2^29 words or more; and as `run_root` is, at calls that aren't written in place.
+pub fn answer_in_place<M: ReaderArena>(
+    alloc: Global,
+    message: &M,
+    bounds: Bounds,
+    schema: StructSchema<'_>,
+    calls: &[Call],
+    region: &mut [u8],
+    words: &mut Vec<Word>,
+) -> Result<MessageAnswer>
+    requires root { IsRoot schema }
+    requires zeros { AllZero region.old }
+    ensures answer { IfOk result (λ a. IsAnswered schema.entry (map call_view calls.now) bounds
+        (words_in (M.segments message.now)) words.new.items a) }
+    ensures zeros { region.new ≡ region.old }
+{
+    let mut allocator = ScratchSpaceHeapAllocator::resume(alloc, region);
+    answer_over(
+        alloc,
+        &mut allocator,
+        message,
+        bounds,
+        schema,
+        calls,
+        words,
+    )
+}

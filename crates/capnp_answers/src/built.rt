@@ -1,0 +1,117 @@
+//! The answer of calls to a value that is built.
+ghost use Rattle.std.specs.Prelude.{◌≡◌, ◌≤◌, ◌<◌, ◌^◌, ℕ, true, map, length, IfOk, ◌++◌, []};
+ghost use Rattle.std.specs.Option.{is_some};
+ghost use Rattle.std.specs.List.{flat_map};
+ghost use Rattle.capnp_model.specs.Segments.{root, words_at};
+ghost use Rattle.capnp_model.specs.Trees.{Tree, depth};
+ghost use Rattle.capnp_model.specs.Traversal.{tree_at};
+ghost use Rattle.capnp_units.specs.Segments.{words_in};
+ghost use Rattle.capnp_calls.specs.CallViews.{call_view};
+ghost use Rattle.capnp_calls.specs.Taken.{IsRoot};
+ghost use Rattle.capnp_run.specs.Runs.{IsDeep};
+ghost use Rattle.capnp_message.specs.Built.{loans_held};
+ghost use Rattle.capnp_answers.specs.Answers.{AnswersRoot, AnswersWords};
+ghost use Rattle.capnp_canonical.specs.Writes.{filled};
+
+use crate::answer::{MessageAnswer, Reason};
+use crate::arenas::arenas_are_deep;
+use crate::reading::{ROOT, make_room};
+use capnp_calls::Call;
+use capnp_canonical::copy::write_canonical;
+use capnp_copy::allocator::Allocator;
+use capnp_copy::arena::BuilderArena;
+use capnp_footprints::laws::changes_of_values;
+use capnp_footprints::laws_of_canonical_words::canonical_words_in_place;
+use capnp_message::builder::Builder;
+use capnp_model::laws::{
+    trimmed_values, values_as_a_relation, values_on_walks, values_that_are_read,
+    words_mean_their_value,
+};
+use capnp_object::size::size_at;
+use capnp_queries::structs::StructSchema;
+use capnp_run::root::run_root;
+use capnp_units::errors::{Error, Result};
+use capnp_units::kinds::ErrorKind;
+use capnp_units::limiter::ReadLimiter;
+use capnp_units::sizes::Word;
+use capnp_wire::arena::ReaderArena;
+use std::alloc::Global;
+
+/// Whether the value of a message, which has one, is more than so many levels deep.
+fn is_deeper<A: ReaderArena>(arena: &A, levels: u32) -> bool
+    ensures { (n : ℕ) (t : Tree) → result ≡ true
+        → tree_at n (words_in (A.segments arena.now)) root ≡ Some t → levels < depth t }
+{
+    values_that_are_read();
+    values_on_walks();
+    let mut unlimited = ReadLimiter::new(None);
+    size_at(arena, &mut unlimited, ROOT, levels).is_err()
+}
+
+/// Answers calls in turn at the root of a message, a struct or null that takes no word twice, and writes the canonical words of what it becomes into a buffer.
+fn answer_root<A: BuilderArena>(
+    alloc: Global,
+    arena: &mut A,
+    levels: u32,
+    schema: StructSchema<'_>,
+    calls: &[Call],
+    words: &mut Vec<Word>,
+) -> Result<MessageAnswer>
+    requires arena { IsDeep A.segments A.nesting }
+    requires there { is_some (words_at (words_in (A.segments arena.old)) root 1) ≡ true }
+    requires root { IsRoot schema }
+    ensures all { IfOk result (AnswersRoot schema.entry (map call_view calls.now) levels
+        (words_in (A.segments arena.old)) words.new.items) }
+    ensures books { A.books arena.new ≡ A.books arena.old }
+{
+    changes_of_values();
+    values_as_a_relation();
+    values_that_are_read();
+    trimmed_values();
+    words_mean_their_value();
+    let replies = run_root(alloc, arena, schema, calls)?;
+    make_room(words, arena.size_in_words())?;
+    let mut unlimited = ReadLimiter::new(None);
+    match write_canonical(arena, &mut unlimited, ROOT, levels, words.as_mut_slice()) {
+        Ok(count) => Ok(MessageAnswer::Written { count, replies }),
+        Err(e) => {
+            if is_deeper(arena, levels) {
+                return Ok(MessageAnswer::Refused(Reason::Depth));
+            }
+            Err(e)
+        }
+    }
+}
+
+/// Answers calls in turn at the value of a message, a struct or null, whose canonical words stand at the front of the buffer, so many: they become the message that is built, and what it becomes by the calls is written into the buffer.
+pub(crate) fn answer_built<A: Allocator>(
+    alloc: Global,
+    builder: &mut Builder<A>,
+    count: usize,
+    levels: u32,
+    schema: StructSchema<'_>,
+    calls: &[Call],
+    words: &mut Vec<Word>,
+) -> Result<MessageAnswer>
+    requires empty { builder.old.memory.arena.segments.items ≡ [] }
+    requires count { (0 < count) × (count < 2 ^ 29) × (count ≤ length words.old.items) }
+    requires root { IsRoot schema }
+    ensures all { IfOk result (AnswersWords schema.entry (map call_view calls.now) levels
+        (filled count words.old.items) words.new.items) }
+    ensures place { A.place builder.new.memory.arena.allocator
+        ≡ A.place builder.old.memory.arena.allocator }
+    ensures loans { loans_held builder.new.memory.arena
+        ≡ A.loans builder.old.memory.arena.allocator }
+{
+    arenas_are_deep::<A>();
+    canonical_words_in_place();
+    builder.set_words(&words[..count])?;
+    answer_root(
+        alloc,
+        &mut builder.memory.arena,
+        levels,
+        schema,
+        calls,
+        words,
+    )
+}

@@ -1,0 +1,7 @@
+//! Messages answered where their values lie: calls run in a lent region, and what is written of them goes to a kept buffer.
+#![tactic(auto)]
+
+pub mod answer;
+mod arenas;
+mod built;
+mod reading;

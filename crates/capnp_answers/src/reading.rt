@@ -1,0 +1,67 @@
+//! The canonical words of the value of a message.
+ghost use Rattle.std.specs.Prelude.{◌≡◌, ◌≤◌, ◌<◌, IfOk, OnOk, length};
+ghost use Rattle.capnp_model.specs.Encoding.{canonical_words};
+ghost use Rattle.capnp_model.specs.Trees.{Tree};
+ghost use Rattle.capnp_units.specs.Segments.{words_in};
+ghost use Rattle.capnp_canonical.specs.Writes.{filled};
+ghost use Rattle.capnp_answers.specs.Reading.{Reads, can_be_opened};
+
+use capnp_canonical::copy::write_canonical;
+use capnp_canonical::laws::copies_as_walks;
+use capnp_model::laws::{trimmed_values, values_on_walks, values_that_are_read};
+use capnp_units::errors::{Error, Result};
+use capnp_units::kinds::ErrorKind;
+use capnp_units::limiter::ReadLimiter;
+use capnp_units::sizes::Word;
+use capnp_value::value::Bounds;
+use capnp_wire::arena::ReaderArena;
+use capnp_wire::place::Place;
+
+/// Where the root pointer of a message stands.
+pub(crate) const ROOT: Place = Place {
+    segment: 0,
+    position: 0,
+};
+
+/// Makes the buffer at least so many words long. `OutOfMemory`: it can't grow.
+pub(crate) fn make_room(words: &mut Vec<Word>, count: usize) -> Result<()>
+    ensures { OnOk result (count ≤ length words.new.items) }
+{
+    if words.len() < count {
+        words.resize(count, [0u8; 8])?;
+    }
+    Ok(())
+}
+
+/// Writes the canonical words of a message's value into a buffer, and answers how many they are; none where it has no value within the bounds, or one with a capability.
+///
+/// It is refused with `BufferNotLargeEnough` where the buffer has no room for them.
+pub(crate) fn read_canonical<M: ReaderArena>(
+    message: &M,
+    bounds: Bounds,
+    words: &mut Vec<Word>,
+) -> Result<Option<usize>>
+    ensures { IfOk result (Reads bounds (words_in (M.segments message.now)) words.new.items) }
+{
+    values_that_are_read();
+    values_on_walks();
+    trimmed_values();
+    copies_as_walks();
+    let mut limiter = ReadLimiter::new(Some(bounds.words as u64));
+    let into = words.as_mut_slice();
+    match write_canonical(message, &mut limiter, ROOT, bounds.nesting, into) {
+        Ok(count) => Ok(Some(count)),
+        Err(e) => match e.kind {
+            ErrorKind::BufferNotLargeEnough => Err(e),
+            _ => Ok(None),
+        },
+    }
+}
+
+/// Whether the value whose words stand at the front of a buffer, so many, is a struct or null.
+pub(crate) fn can_be_opened(words: &[Word], count: usize) -> bool
+    requires { (0 < count) × (count ≤ length words.now) }
+    ensures { (t : Tree) → filled count words.now ≡ canonical_words t → result ≡ can_be_opened t }
+{
+    u64::from_le_bytes(words[0]) % 4 == 0
+}
