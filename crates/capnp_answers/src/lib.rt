@@ -2,6 +2,5 @@
 #![tactic(auto)]
 
 pub mod answer;
-mod arenas;
 mod built;
 mod reading;
