@@ -13,4 +13,3 @@ pub mod FoundNodes
 pub mod FieldPlaces
 pub mod FieldTables
 pub mod Holders
-pub mod OneMore

@@ -3,7 +3,7 @@ use Rattle.std.specs.List.{list_all, list_any}
 use Rattle.std.proofs.lemmas.Bool.Decides.{nat_tests}
 use Rattle.capnp_model.specs.Accepted.{are_once}
 use Rattle.capnp_records.proofs.ListTests.{default_any}
-use Rattle.capnp_records.proofs.Members.{same_member, from_the_front, next_member, member_twice, member_past, seen_more, marked_member}
+use Rattle.capnp_records.proofs.Members.{same_member, from_the_front, next_member, member_twice, seen_more, marked_member}
 use Rattle.capnp_records.proofs.unions.are_once_below.Goals as goal
 
 not_above : (n k : ℕ) → n ≤ k → nat_lt k n ≡ false
@@ -43,12 +43,3 @@ returns-then-mark_at-gt0 c =
     let twice : list_any (λ d. same_member d m) (take i ms) ≡ true =
     sym (c.loop-member.invariant.seen m) ∙ ap (λ (xs : List ℕ). nat_lt 0 (get_or xs m 0)) (sym c.deref.ensures.value) ∙ ap (nat_lt 0) (sym c.mark_at.ensures) ∙ is_above c.mark_at.result 0 c.if-mark_at-gt0.true in
     member_twice ms c.args.count i m (list_all (λ k. nat_lt k c.args.count) ms && are_once ms) lt is twice c.loop-member.invariant.decides
-
-pub returns-then-member-count : goal.returns-then-member-count
-returns-then-member-count c =
-    let ms = c.args.members.now in
-    let i = c.loop-member.member-index in
-    let m = get_or ms i 0 in
-    let lt = c.loop-member-test.true in
-    let is : m ≡ get_or ms i m = default_any ms i 0 m lt in
-    member_past ms c.args.count i m (list_all (λ k. nat_lt k c.args.count) ms && are_once ms) lt is c.if-member-count.true c.loop-member.invariant.decides
