@@ -13,3 +13,4 @@ pub mod ElementSteps
 pub mod BegunLists
 pub mod ElementEnds
 pub mod ElementMessages
+pub mod TakenContents
