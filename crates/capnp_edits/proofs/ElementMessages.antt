@@ -2,9 +2,9 @@
 use Rattle.std.proofs.Common.{◌≡◌, ℕ, ◌+◌, [], Result, Ok, Err, OnOk, sym, subst, ap, ◌∙◌, arith}
 use Rattle.capnp_model.specs.Segments.{Segments}
 use Rattle.capnp_model.specs.Trees.{Tree, null, capability, structure, plain_list, pointer_list, struct_list, child}
-use Rattle.capnp_model.specs.Schemas.{Ty, list, Schema}
+use Rattle.capnp_model.specs.Schemas.{Ty, struct, list, Schema}
 use Rattle.capnp_model.specs.Readings.{is_list_of}
-use Rattle.capnp_model.specs.Calls.{set_to, message, message_root, Content, object, element_content}
+use Rattle.capnp_model.specs.Calls.{set_to, message, message_root, Content, object, struct_content, element_content}
 use Rattle.capnp_model.specs.Steps.{reading_after}
 use Rattle.capnp_model.specs.Edits.{Cell, Edit, put_in_element, edit_list, edit_element}
 use Rattle.capnp_object.specs.declared.place.Place as code
@@ -12,12 +12,14 @@ use Rattle.capnp_wire.specs.Places.{place_view}
 use Rattle.capnp_footprints.specs.Footprints.{OwnsObject}
 use Rattle.capnp_footprints.specs.Changes.{ReplacesObject}
 use Rattle.capnp_copy.specs.Lists.{list_at}
+use Rattle.capnp_copy.specs.Structs.{struct_at}
+use Rattle.capnp_copy.specs.declared.fields.StructPlace.{StructPlace}
 use Rattle.capnp_copy.specs.declared.init.ListPlace.{ListPlace}
 use Rattle.capnp_dynamic_lists.specs.Lists.{IsListOf}
-use Rattle.capnp_dynamic_lists.specs.Parts.{cell_in, IsPointerOf, on_child}
+use Rattle.capnp_dynamic_lists.specs.Parts.{cell_in, IsStructOf, IsPointerOf, on_child}
 use Rattle.capnp_calls.specs.Sizes.{IsDone}
 use Rattle.capnp_edits.specs.Written.{PutsTree}
-use Rattle.capnp_edits.specs.Elements.{WritesElement}
+use Rattle.capnp_edits.specs.Elements.{WritesElement, TakesTree}
 use Rattle.capnp_edits.proofs.SetMessages.{list_done}
 use Rattle.capnp_edits.proofs.ElementEnds.{set_done, last_edit}
 
@@ -44,3 +46,29 @@ pub list_set : {X E : Type 0} (s u : Segments) (o : ListPlace) (k : ℕ) (q : co
     → (around : Schema) (ty e : Ty) (t : Tree) → list e ≡ ty → (r : Result X E) → OnOk r (PutsTree s u (place_view q) (message_root t)) → OnOk r (WritesElement s u o around ty k [] (set_to (message t)))
 list_set s u o k q parts around ty e t same (Ok x) puts = subst (λ y. WritesElement s u o around y k [] (set_to (message t))) same (message_written s u o k q parts around e t puts)
 list_set s u o k q parts around ty e t same (Err x) puts = tt
+
+-- ---- an element that is a struct
+
+struct_value : (n : ℕ) (s u : Segments) (p : StructPlace) (around : Schema) (id : ℕ) (c : Cell) (m : Tree) → IsDone (reading_after around (struct id) (struct_content m)) → TakesTree s u p m → OwnsObject n s (struct_at p) (structure p.data_words c.section c.kids)
+    → ReplacesObject (n + 65) s u (struct_at p) (let d = put_in_element p.data_words p.pointers (struct id) (struct_content m) c in structure p.data_words d.section d.kids)
+struct_value n s u p around id c null h takes own = absurd h
+struct_value n s u p around id c (capability i) h takes own = absurd h
+struct_value n s u p around id c (structure w x ts) h takes own = takes n c.section c.kids own
+struct_value n s u p around id c (plain_list size k x) h takes own = absurd h
+struct_value n s u p around id c (pointer_list ts) h takes own = absurd h
+struct_value n s u p around id c (struct_list w j es) h takes own = absurd h
+
+struct_written : (s u : Segments) (o : ListPlace) (k : ℕ) (p : StructPlace) → ((n : ℕ) (t : Tree) → IsListOf o t → OwnsObject n s (list_at o) t → IsStructOf n s o k p t)
+    → (around : Schema) (id : ℕ) (t : Tree) → TakesTree s u p (message_root t) → WritesElement s u o around (struct id) k [] (set_to (message t))
+struct_written s u o k p parts around id t takes n v is own is_done =
+    let x = parts n v is own in
+    let c = cell_in v k in
+    let put = struct_value n s u p around id c (message_root t) (set_done around (struct id) (message t) c is_done) takes x.owns in
+    let here : ReplacesObject (n + 65) s u (struct_at p) (let d = edit_element around [] (set_to (message t)) (struct id) p.data_words p.pointers c in structure p.data_words d.section d.kids) =
+    subst (λ (f : ℕ → ℕ → Edit). ReplacesObject (n + 65) s u (struct_at p) (let d = f p.data_words p.pointers c in structure p.data_words d.section d.kids)) (last_edit around (set_to (message t)) (struct id)) put in
+    (65, x.lifts (n + 65) u (edit_element around [] (set_to (message t)) (struct id)) (omega arith) here)
+
+pub struct_set : {X E : Type 0} (s u : Segments) (o : ListPlace) (k : ℕ) (p : StructPlace) → ((n : ℕ) (t : Tree) → IsListOf o t → OwnsObject n s (list_at o) t → IsStructOf n s o k p t)
+    → (around : Schema) (ty : Ty) (id : ℕ) (t : Tree) → struct id ≡ ty → (r : Result X E) → OnOk r (TakesTree s u p (message_root t)) → OnOk r (WritesElement s u o around ty k [] (set_to (message t)))
+struct_set s u o k p parts around ty id t same (Ok x) takes = subst (λ y. WritesElement s u o around y k [] (set_to (message t))) same (struct_written s u o k p parts around id t takes)
+struct_set s u o k p parts around ty id t same (Err x) takes = tt

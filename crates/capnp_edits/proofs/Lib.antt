@@ -18,3 +18,4 @@ pub mod ElementSteps
 pub mod BegunLists
 pub mod ElementEnds
 pub mod ElementMessages
+pub mod TakenContents

@@ -1,7 +1,7 @@
 -- Calls along paths through lists, written where the lists and their elements lie. (Encoding, "Lists")
-use Rattle.std.specs.Prelude.{◌≡◌, ℕ, ◌+◌, ◌<◌, List, ◌∷◌, Option, Some, None}
+use Rattle.std.specs.Prelude.{◌≡◌, ℕ, ◌+◌, ◌*◌, ◌%◌, ◌^◌, ◌<◌, List, ◌∷◌, Option, Some, None}
 use Rattle.capnp_model.specs.Segments.{Segments}
-use Rattle.capnp_model.specs.Trees.{Tree}
+use Rattle.capnp_model.specs.Trees.{Tree, Trees, structure, resized}
 use Rattle.capnp_model.specs.Coverage.{Grows}
 use Rattle.capnp_model.specs.Schemas.{Ty, Shape, Schema}
 use Rattle.capnp_model.specs.Readings.{Extent, shape_record, read_child, body_of, element_as}
@@ -14,6 +14,7 @@ use Rattle.capnp_wire.specs.Places.{place_view}
 use Rattle.capnp_footprints.specs.Footprints.{OwnsObject}
 use Rattle.capnp_footprints.specs.Changes.{ReplacesObject}
 use Rattle.capnp_copy.specs.Lists.{list_at}
+use Rattle.capnp_copy.specs.Structs.{struct_at}
 use Rattle.capnp_copy.specs.Values.{LeadsTo}
 use Rattle.capnp_copy.specs.declared.fields.StructPlace.{StructPlace}
 use Rattle.capnp_copy.specs.declared.init.ListPlace.{ListPlace}
@@ -76,6 +77,15 @@ pub record ListBehind (default : Option (List (List ℕ))) (s u : Segments) (slo
   pub value : Gets default s u (place_view slot) (as_list around ty)
   pub object : 0 < o.count → LeadsTo u (place_view slot) (list_at o)
   pub found : 0 < o.count → IsListFound u o
+
+-- ---- values of messages
+
+-- Whatever struct is owned there takes over the content of a struct, as far as it fits, where 65 levels of pointers may be new, and nothing else changes.
+abbrev pub TakesTree : Segments → Segments → StructPlace → Tree → Type 0
+TakesTree s u p (structure w section kids) =
+    (n own : ℕ) (old : Trees) → OwnsObject n s (struct_at p) (structure p.data_words own old)
+    → ReplacesObject (n + 65) s u (struct_at p) (structure p.data_words (section % 2 ^ (64 * p.data_words)) (resized p.pointers kids))
+TakesTree s u p t = Unit {0}
 
 -- ---- paths
 

@@ -1,19 +1,22 @@
 //! Calls written at the elements of lists where their paths end.
-ghost use Rattle.std.specs.Prelude.{◌≡◌, ◌<◌, ◌^◌, true, [], length, map, OnOk};
+ghost use Rattle.std.specs.Prelude.{ℕ, ◌≡◌, ◌<◌, ◌^◌, true, [], length, map, OnOk};
 ghost use Rattle.capnp_model.specs.Accepted.{schema_of};
 ghost use Rattle.capnp_model.specs.Calls.{set_to, message};
 ghost use Rattle.capnp_model.specs.Coverage.{Grows};
 ghost use Rattle.capnp_model.specs.Edits.{put_bits};
-ghost use Rattle.capnp_model.specs.Schemas.{Schema};
+ghost use Rattle.capnp_model.specs.Schemas.{Schema, struct};
 ghost use Rattle.capnp_units.specs.Segments.{words_in};
+ghost use Rattle.capnp_units.specs.Sizes.{size_number};
 ghost use Rattle.capnp_records.specs.Sets.{nodes_of};
 ghost use Rattle.capnp_call_messages.specs.Messages.{tree_of_message};
 ghost use Rattle.capnp_queries.specs.Types.{ty_of, is_type_of};
 ghost use Rattle.capnp_calls.specs.CallViews.{action_view, slot_value_view};
 ghost use Rattle.capnp_dynamic_lists.specs.Lists.{IsListThere, HasRoom, EditsElement};
-ghost use Rattle.capnp_dynamic_lists.specs.Elements.{Holds};
-ghost use Rattle.capnp_edits.specs.Elements.{WritesElement};
+ghost use Rattle.capnp_dynamic_lists.specs.Elements.{Holds, HoldsStructs};
+ghost use Rattle.capnp_edits.specs.Elements.{WritesElement, GrowsIn};
 
+use crate::contents::copy_content;
+use crate::default::words_of;
 use crate::lists::plain_type;
 use crate::messages::put_message;
 use crate::values::bits_for;
@@ -89,7 +92,7 @@ fn set_plain<A: BuilderArena>(
     }
 }
 
-/// Sets an element that is a list to the value of a message, or a Void one to any. Other elements are refused with `TypeMismatch`.
+/// Sets an element that is a struct or a list to the value of a message, or a Void one to any: a struct takes over as much as it has place for. Other elements are refused with `TypeMismatch`.
 fn set_message<A: BuilderArena>(
     arena: &mut A,
     list: ListPlace,
@@ -100,14 +103,24 @@ fn set_message<A: BuilderArena>(
     requires there { IsListThere (words_in (A.segments arena.old)) list }
     requires index { index < list.count }
     requires holds { Holds list (ty_of ty) }
+    requires structs { (id : ℕ) → struct id ≡ ty_of ty → size_number list.size ≡ 7 }
     ensures writes { (s : Schema) → OnOk result (WritesElement (words_in (A.segments arena.old))
         (words_in (A.segments arena.new)) list s (ty_of ty) index []
         (set_to (message (tree_of_message value.now)))) }
-    ensures grows { Grows (words_in (A.segments arena.old)) (words_in (A.segments arena.new)) }
+    ensures grows { GrowsIn (words_in (A.segments arena.old)) (words_in (A.segments arena.new))
+        list }
     ensures books { A.books arena.new ≡ A.books arena.old }
 {
     match ty.which() {
         TypeVariant::Void => Ok(()),
+        TypeVariant::Struct(_) => {
+            elements_as_structs();
+            copy_content(
+                arena,
+                element_struct(list, index),
+                words_of(value.segment()),
+            )
+        }
         TypeVariant::List(_) => {
             elements_as_pointers();
             put_message(arena, element_pointer(list, index), value)
@@ -127,10 +140,12 @@ fn set_value<A: BuilderArena>(
     requires there { IsListThere (words_in (A.segments arena.old)) list }
     requires index { index < list.count }
     requires holds { Holds list (ty_of ty) }
+    requires structs { (id : ℕ) → struct id ≡ ty_of ty → size_number list.size ≡ 7 }
     ensures writes { (s : Schema) → OnOk result (WritesElement (words_in (A.segments arena.old))
         (words_in (A.segments arena.new)) list s (ty_of ty) index []
         (set_to (slot_value_view value.now))) }
-    ensures grows { Grows (words_in (A.segments arena.old)) (words_in (A.segments arena.new)) }
+    ensures grows { GrowsIn (words_in (A.segments arena.old)) (words_in (A.segments arena.new))
+        list }
     ensures books { A.books arena.new ≡ A.books arena.old }
 {
     match value {
@@ -161,11 +176,13 @@ pub(crate) fn write_element_end<A: BuilderArena>(
     requires there { IsListThere (words_in (A.segments arena.old)) list }
     requires index { index < list.count }
     requires holds { Holds list (ty_of ty) }
+    requires sizes { HoldsStructs (schema_of (nodes_of set.now)) list (ty_of ty) }
     requires known { is_type_of (nodes_of set.now) ty ≡ true }
     ensures writes { OnOk result (WritesElement (words_in (A.segments arena.old))
         (words_in (A.segments arena.new)) list (schema_of (nodes_of set.now)) (ty_of ty) index []
         (action_view action.now)) }
-    ensures grows { Grows (words_in (A.segments arena.old)) (words_in (A.segments arena.new)) }
+    ensures grows { GrowsIn (words_in (A.segments arena.old)) (words_in (A.segments arena.new))
+        list }
     ensures books { A.books arena.new ≡ A.books arena.old }
 {
     match action {

@@ -1,6 +1,7 @@
 //! Calls written along their paths, where a message lies.
 #![tactic(auto)]
 
+mod contents;
 mod default;
 mod elements;
 mod end;

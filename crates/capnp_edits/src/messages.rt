@@ -38,7 +38,7 @@ use capnp_wire::place::{Place, word_at};
 const MOST_LEVELS: u32 = 64;
 
 /// Where the root of a message is.
-const ROOT: Place = Place {
+pub(crate) const ROOT: Place = Place {
     segment: 0,
     position: 0,
 };

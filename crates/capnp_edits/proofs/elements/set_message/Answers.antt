@@ -1,6 +1,8 @@
 use Rattle.std.proofs.Common.{◌≡◌, ap, sym, subst, ◌∙◌}
+use Rattle.std.specs.Prelude.{Some, IsSome}
+use Rattle.capnp_model.specs.Decoding.{decode}
 use Rattle.capnp_model.specs.Calls.{message}
-use Rattle.capnp_model.specs.Schemas.{list}
+use Rattle.capnp_model.specs.Schemas.{struct, list, default_or_null}
 use Rattle.capnp_units.specs.Segments.{words_in}
 use Rattle.capnp_queries.specs.Types.{ty_of, ty_of_variant}
 use Rattle.capnp_call_messages.specs.Messages.{tree_of_message}
@@ -8,7 +10,9 @@ use Rattle.capnp_dynamic_lists.specs.Lists.{HasPointer}
 use Rattle.capnp_dynamic_lists.specs.Elements.{Holds}
 use Rattle.capnp_dynamic_lists.proofs.Fronts.{none_written}
 use Rattle.capnp_edits.proofs.ElementEnds.{void_end}
-use Rattle.capnp_edits.proofs.ElementMessages.{list_set}
+use Rattle.capnp_edits.proofs.ElementMessages.{struct_set, list_set}
+use Rattle.capnp_edits.proofs.ElementSteps.{element_grows}
+use Rattle.capnp_edits.specs.Written.{HoldsDefault}
 use Rattle.capnp_edits.proofs.elements.set_message.Goals as goal
 
 pub returns-in-Void-clause-writes : goal.returns-in-Void-clause-writes
@@ -27,3 +31,25 @@ returns-in-List-clause-writes g c around =
     let ty : list e ≡ ty_of c.args.ty = ap ty_of_variant (sym c.in-List.is) ∙ c.which.ensures.ty in
     let has : HasPointer o = subst (Holds o) (sym ty) c.requires.holds in
     list_set s u o k q (λ n x is own. c.elements_as_pointers.ensures.parts n s o k q x has c.requires.index c.element_pointer.ensures.place c.requires.there is own) around (ty_of c.args.ty) e (tree_of_message c.args.value.now) ty c.put_message.result c.put_message.ensures.puts
+
+pub returns-in-Struct-clause-writes : goal.returns-in-Struct-clause-writes
+returns-in-Struct-clause-writes g c around =
+    let s = words_in (g.A.ReaderArena.segments c.args.arena.now) in
+    let u = words_in (g.A.ReaderArena.segments c.copy_content.new.arena) in
+    let o = c.args.list in
+    let k = c.args.index in
+    let p = c.element_struct.result in
+    let ws = c.words_of.result.now in
+    let t = tree_of_message c.args.value.now in
+    let holds = subst (λ bs. IsSome (decode bs) → HoldsDefault (Some ws) (default_or_null (decode bs))) c.segment.ensures c.words_of.ensures c.args.value.now.readable in
+    let ty : struct c.in-Struct.field-0.id ≡ ty_of c.args.ty = ap ty_of_variant (sym c.in-Struct.is) ∙ c.which.ensures.ty in
+    struct_set s u o k p (λ n x is own. c.elements_as_structs.ensures.parts n s o k p x c.requires.index c.element_struct.ensures is own) around (ty_of c.args.ty) c.in-Struct.field-0.id t ty c.copy_content.result (c.copy_content.ensures.takes t holds)
+
+pub returns-in-Struct-clause-grows : goal.returns-in-Struct-clause-grows
+returns-in-Struct-clause-grows g c =
+    let s = words_in (g.A.ReaderArena.segments c.args.arena.now) in
+    let u = words_in (g.A.ReaderArena.segments c.copy_content.new.arena) in
+    let o = c.args.list in
+    let k = c.args.index in
+    let p = c.element_struct.result in
+    element_grows s u o k p (λ n x is own. c.elements_as_structs.ensures.parts n s o k p x c.requires.index c.element_struct.ensures is own) c.copy_content.ensures.grows
