@@ -1,10 +1,9 @@
 //! Texts and data that are written near their pointers and far from them.
-ghost use Rattle.std.specs.Prelude.{◌≡◌, ◌≤◌, [], length};
+ghost use Rattle.std.specs.Prelude.{◌≡◌};
 
 use crate::builders::build_tests::{ROOT, clear_root, nonzero};
 use crate::builders::tests::Exact;
 use capnp_builders::pointer_builder::PointerBuilder;
-use capnp_copy::allocator::Allocator;
 use capnp_copy::arena::{BuilderArena, Memory};
 use capnp_copy::segments::BuilderArenaImpl;
 use capnp_units::errors::{Error, Result};
@@ -42,16 +41,18 @@ pub(crate) fn holds<A: ReaderArena>(arena: &A, bytes: &[u8], text: bool) -> Resu
     Ok(found == bytes)
 }
 
-/// Whether data and then a text were read as they were written, how many words weren't zero, and how many after they were cleared.
-fn seen<A: Allocator + Drop>(
+/// Whether data and then a text were read as they were written, how many words weren't zero, how many after they were cleared, and how many segments of so many were left.
+fn seen(
     alloc: Global,
-    allocator: A,
+    segments: u32,
     room: u32,
     data: &[u8],
     text: &[u8],
-) -> (Result<bool>, Result<bool>, usize, usize, A)
-    requires { length (A.loans allocator) ≤ 1 }
-{
+) -> (Result<bool>, Result<bool>, usize, usize, u32) {
+    let allocator = Exact {
+        alloc,
+        left: segments,
+    };
     let mut memory = Memory {
         arena: BuilderArenaImpl::new(alloc, allocator),
     };
@@ -79,61 +80,33 @@ fn seen<A: Allocator + Drop>(
     clear_root(&mut memory);
     let cleared = nonzero(&memory.arena, 4);
     let Memory { arena } = memory;
-    (first, second, written, cleared, arena.into_allocator())
+    (first, second, written, cleared, arena.into_allocator().left)
 }
 
 /// Eleven bytes fill a word and a half; a text of eight has its zero byte in a word of its own.
 #[test]
 fn near_blobs_are_written(rt: HostRuntime) -> std::result::Result<(), Fail> {
-    let allocator = Exact {
-        alloc: rt.alloc(),
-        left: 1,
-    };
-    let (data, text, written, cleared, _allocator) = seen(
+    let (data, text, written, cleared, _left) = seen(
         rt.alloc(),
-        allocator,
+        1,
         20,
         b"eleven more",
         b"12345678",
     );
-    assert_eq!(rt; data?, true);
-    assert_eq!(rt; text?, true);
-    assert_eq!(rt; written, 2);
-    assert_eq!(rt; cleared, 0);
+    assert!(rt; (data?, text?, written, cleared) == (true, true, 2, 0));
     Ok(())
 }
 
 #[test]
 fn far_blobs_are_written(rt: HostRuntime) -> std::result::Result<(), Fail> {
-    let allocator = Exact {
-        alloc: rt.alloc(),
-        left: 3,
-    };
-    let (data, text, written, cleared, allocator) = seen(
-        rt.alloc(),
-        allocator,
-        1,
-        b"12345678",
-        b"ten bytes.",
-    );
-    assert_eq!(rt; data?, true);
-    assert_eq!(rt; text?, true);
-    assert_eq!(rt; written, 4);
-    assert_eq!(rt; cleared, 0);
-    assert_eq!(rt; allocator.left, 0);
+    let (data, text, written, cleared, left) = seen(rt.alloc(), 3, 1, b"12345678", b"ten bytes.");
+    assert!(rt; (data?, text?, written, cleared, left) == (true, true, 4, 0, 0));
     Ok(())
 }
 
 #[test]
 fn empty_blobs_are_written(rt: HostRuntime) -> std::result::Result<(), Fail> {
-    let allocator = Exact {
-        alloc: rt.alloc(),
-        left: 1,
-    };
-    let (data, text, written, cleared, _allocator) = seen(rt.alloc(), allocator, 20, b"", b"");
-    assert_eq!(rt; data?, true);
-    assert_eq!(rt; text?, true);
-    assert_eq!(rt; written, 1);
-    assert_eq!(rt; cleared, 0);
+    let (data, text, written, cleared, _left) = seen(rt.alloc(), 1, 20, b"", b"");
+    assert!(rt; (data?, text?, written, cleared) == (true, true, 1, 0));
     Ok(())
 }

@@ -1,9 +1,8 @@
 //! Structs that are built near their pointers and far from them, cleared, and built anew.
-ghost use Rattle.std.specs.Prelude.{◌≡◌, ◌≤◌, [], length};
+ghost use Rattle.std.specs.Prelude.{◌≡◌};
 
 use crate::builders::tests::{Exact, written};
 use capnp_builders::pointer_builder::PointerBuilder;
-use capnp_copy::allocator::Allocator;
 use capnp_copy::arena::{BuilderArena, Memory};
 use capnp_copy::segments::BuilderArenaImpl;
 use capnp_units::errors::{Error, Result};
@@ -97,9 +96,12 @@ pub(crate) fn clear_root<A: BuilderArena>(memory: &mut Memory<A>)
     root.clear();
 }
 
-fn seen<A: Allocator + Drop>(alloc: Global, allocator: A, room: u32) -> (Result<Observed>, A)
-    requires { length (A.loans allocator) ≤ 1 }
-{
+/// The same of an allocator of so many segments, and how many are left.
+fn seen(alloc: Global, segments: u32, room: u32) -> (Observed, u32) {
+    let allocator = Exact {
+        alloc,
+        left: segments,
+    };
     let mut memory = Memory {
         arena: BuilderArenaImpl::new(alloc, allocator),
     };
@@ -137,23 +139,18 @@ fn seen<A: Allocator + Drop>(alloc: Global, allocator: A, room: u32) -> (Result<
         cleared,
         words,
     };
-    (Ok(seen), arena.into_allocator())
+    (seen, arena.into_allocator().left)
 }
 
 #[test]
 fn near_structs_are_built_and_cleared(rt: HostRuntime) -> std::result::Result<(), Fail> {
-    let allocator = Exact {
-        alloc: rt.alloc(),
-        left: 1,
-    };
-    let (seen, _allocator) = seen(rt.alloc(), allocator, 300);
-    let seen = seen?;
-    assert_eq!(rt; seen.first?, (7, 8, 5));
-    assert_eq!(rt; seen.built, 4);
-    assert_eq!(rt; seen.again?, (9, 10, 5));
-    assert_eq!(rt; seen.rebuilt, 4);
-    assert_eq!(rt; seen.cleared, 0);
-    assert_eq!(rt; seen.words, 11);
+    let (seen, _left) = seen(rt.alloc(), 1, 300);
+    assert!(rt; seen.first? == (7, 8, 5));
+    assert!(rt; seen.built == 4);
+    assert!(rt; seen.again? == (9, 10, 5));
+    assert!(rt; seen.rebuilt == 4);
+    assert!(rt; seen.cleared == 0);
+    assert!(rt; seen.words == 11);
     Ok(())
 }
 
@@ -161,19 +158,14 @@ fn near_structs_are_built_and_cleared(rt: HostRuntime) -> std::result::Result<()
 fn far_structs_are_built_and_cleared_with_their_pads(
     rt: HostRuntime,
 ) -> std::result::Result<(), Fail> {
-    let allocator = Exact {
-        alloc: rt.alloc(),
-        left: 5,
-    };
-    let (seen, allocator) = seen(rt.alloc(), allocator, 1);
-    let seen = seen?;
-    assert_eq!(rt; seen.first?, (7, 8, 5));
-    assert_eq!(rt; seen.built, 6);
-    assert_eq!(rt; seen.again?, (9, 10, 5));
-    assert_eq!(rt; seen.rebuilt, 6);
-    assert_eq!(rt; seen.cleared, 0);
-    assert_eq!(rt; seen.words, 15);
-    assert_eq!(rt; allocator.left, 0);
+    let (seen, left) = seen(rt.alloc(), 5, 1);
+    assert!(rt; seen.first? == (7, 8, 5));
+    assert!(rt; seen.built == 6);
+    assert!(rt; seen.again? == (9, 10, 5));
+    assert!(rt; seen.rebuilt == 6);
+    assert!(rt; seen.cleared == 0);
+    assert!(rt; seen.words == 15);
+    assert!(rt; left == 0);
     Ok(())
 }
 
@@ -182,17 +174,12 @@ fn far_structs_are_built_and_cleared_with_their_pads(
 fn what_was_built_stands_where_the_allocator_refuses(
     rt: HostRuntime,
 ) -> std::result::Result<(), Fail> {
-    let allocator = Exact {
-        alloc: rt.alloc(),
-        left: 3,
-    };
-    let (seen, _allocator) = seen(rt.alloc(), allocator, 1);
-    let seen = seen?;
-    assert_eq!(rt; seen.first?, (7, 8, 5));
-    assert_eq!(rt; seen.again.err(), Some(Error::from(ErrorKind::OutOfMemory)));
-    assert_eq!(rt; seen.rebuilt, 6);
-    assert_eq!(rt; seen.cleared, 0);
-    assert_eq!(rt; seen.words, 8);
+    let (seen, _left) = seen(rt.alloc(), 3, 1);
+    assert!(rt; seen.first? == (7, 8, 5));
+    assert!(rt; seen.again.err() == Some(Error::from(ErrorKind::OutOfMemory)));
+    assert!(rt; seen.rebuilt == 6);
+    assert!(rt; seen.cleared == 0);
+    assert!(rt; seen.words == 8);
     Ok(())
 }
 
@@ -214,36 +201,23 @@ fn cleared_list<A: BuilderArena>(memory: &mut Memory<A>, word: u64, tag: u64) ->
     Ok(nonzero(&memory.arena, 1))
 }
 
-fn list_seen<A: Allocator + Drop>(
-    alloc: Global,
-    allocator: A,
-    word: u64,
-    tag: u64,
-) -> (Result<usize>, A)
-    requires { length (A.loans allocator) ≤ 1 }
-{
+/// The same in a message of its own.
+fn list_seen(alloc: Global, word: u64, tag: u64) -> Result<usize> {
+    let allocator = Exact { alloc, left: 1 };
     let mut memory = Memory {
         arena: BuilderArenaImpl::new(alloc, allocator),
     };
     let seen = cleared_list(&mut memory, word, tag);
     let Memory { arena } = memory;
-    (seen, arena.into_allocator())
+    drop(arena.into_allocator());
+    seen
 }
 
 /// 2^29 - 1 voids, and as many structs without a word behind their tag.
 #[test]
 fn lists_without_words_are_cleared_at_once(rt: HostRuntime) -> std::result::Result<(), Fail> {
-    let voids = Exact {
-        alloc: rt.alloc(),
-        left: 1,
-    };
-    let (seen, _allocator) = list_seen(rt.alloc(), voids, 0xffff_fff8_0000_0001, 0);
-    assert_eq!(rt; seen?, 0);
-    let structs = Exact {
-        alloc: rt.alloc(),
-        left: 1,
-    };
-    let (seen, _allocator) = list_seen(rt.alloc(), structs, 0x7_0000_0001, 0x7fff_fffc);
-    assert_eq!(rt; seen?, 0);
+    let voids = list_seen(rt.alloc(), 0xffff_fff8_0000_0001, 0)?;
+    let structs = list_seen(rt.alloc(), 0x7_0000_0001, 0x7fff_fffc)?;
+    assert!(rt; (voids, structs) == (0, 0));
     Ok(())
 }

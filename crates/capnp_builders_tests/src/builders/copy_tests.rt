@@ -153,16 +153,16 @@ fn values_are_copied(rt: HostRuntime) -> std::result::Result<(), Fail> {
     let alloc = rt.alloc();
     let all: &[u64] = &[0x1_0001_0000_0000, 7, 0x1a_0000_0001, 0x3_0201];
     let value = copied_into(alloc, SOURCE, 64, None, 3, Copied::Value)?;
-    assert_eq!(rt; value.answer, Ok(()));
-    assert_eq!(rt; value.words.as_slice(), all);
-    assert_eq!(rt; value.granted, 3);
+    assert!(rt; value.answer == Ok(()));
+    assert!(rt; value.words.as_slice() == all);
+    assert!(rt; value.granted == 3);
     let by_parts = copied_into(alloc, SOURCE, 64, None, 3, Copied::Struct)?;
-    assert_eq!(rt; by_parts.words.as_slice(), all);
+    assert!(rt; by_parts.words.as_slice() == all);
     let list = copied_into(alloc, SOURCE, 64, None, 3, Copied::List)?;
-    assert_eq!(rt; list.words.as_slice(), &[0x1a_0000_0001, 0x3_0201][..]);
+    assert!(rt; list.words.as_slice() == &[0x1a_0000_0001, 0x3_0201][..]);
     let none = copied_into(alloc, SOURCE, 64, None, 3, Copied::NoPointer)?;
-    assert_eq!(rt; none.answer, Ok(()));
-    assert_eq!(rt; none.words.as_slice(), &[0][..]);
+    assert!(rt; none.answer == Ok(()));
+    assert!(rt; none.words.as_slice() == &[0][..]);
     Ok(())
 }
 
@@ -171,12 +171,11 @@ fn values_are_copied(rt: HostRuntime) -> std::result::Result<(), Fail> {
 fn content_is_copied(rt: HostRuntime) -> std::result::Result<(), Fail> {
     let alloc = rt.alloc();
     let wider = copied_into(alloc, SOURCE, 64, None, 9, sized(2, 0))?;
-    assert_eq!(rt; wider.answer, Ok(()));
-    assert_eq!(rt; wider.words.as_slice(), &[0x2_0000_0000, 7, 0][..]);
+    assert!(rt; wider.answer == Ok(()));
+    assert!(rt; wider.words.as_slice() == &[0x2_0000_0000, 7, 0][..]);
     let pointers = copied_into(alloc, SOURCE, 64, None, 9, sized(0, 2))?;
-    assert_eq!(rt;
-        pointers.words.as_slice(),
-        &[0x2_0000_0000_0000, 0x1a_0000_0005, 0, 0x3_0201][..]
+    assert!(rt;
+        pointers.words.as_slice() == &[0x2_0000_0000_0000, 0x1a_0000_0005, 0, 0x3_0201][..]
     );
     Ok(())
 }
@@ -186,18 +185,12 @@ fn content_is_copied(rt: HostRuntime) -> std::result::Result<(), Fail> {
 fn defaults_are_copied_at_no_cost(rt: HostRuntime) -> std::result::Result<(), Fail> {
     let alloc = rt.alloc();
     let set = copied_into(alloc, NULL, 64, Some(DEFAULT), 3, Copied::Struct)?;
-    assert_eq!(rt; set.answer, Ok(()));
-    assert_eq!(rt;
-        set.words.as_slice(),
-        &[0x1_0001_0000_0000, 7, 0x1a_0000_0001, 0x3_0201][..]
-    );
-    assert_eq!(rt; set.granted, 0);
+    assert!(rt; set.answer == Ok(()));
+    assert!(rt; set.words.as_slice() == &[0x1_0001_0000_0000, 7, 0x1a_0000_0001, 0x3_0201][..]);
+    assert!(rt; set.granted == 0);
     let content = copied_into(alloc, NULL, 64, Some(DEFAULT), 9, sized(1, 1))?;
-    assert_eq!(rt; content.granted, 0);
-    assert_eq!(rt;
-        content.words.as_slice(),
-        &[0x1_0001_0000_0000, 7, 0x1a_0000_0001, 0x3_0201][..]
-    );
+    assert!(rt; content.granted == 0);
+    assert!(rt; content.words.as_slice() == &[0x1_0001_0000_0000, 7, 0x1a_0000_0001, 0x3_0201][..]);
     Ok(())
 }
 
@@ -206,19 +199,13 @@ fn defaults_are_copied_at_no_cost(rt: HostRuntime) -> std::result::Result<(), Fa
 fn refused_copies_leave_the_root(rt: HostRuntime) -> std::result::Result<(), Fail> {
     let alloc = rt.alloc();
     let full = copied_into(alloc, SOURCE, 64, None, 2, Copied::Value)?;
-    assert_eq!(rt; full.answer, Err(Error::from(ErrorKind::OutOfMemory)));
-    assert_eq!(rt; full.words.as_slice(), &[0, 0, 0][..]);
+    assert!(rt; full.answer == Err(Error::from(ErrorKind::OutOfMemory)));
+    assert!(rt; full.words.as_slice() == &[0, 0, 0][..]);
     let deep = copied_into(alloc, SOURCE, 1, None, 9, Copied::Value)?;
-    assert_eq!(rt;
-        deep.answer,
-        Err(Error::from(ErrorKind::NestingLimitExceeded))
-    );
-    assert_eq!(rt; deep.words.as_slice(), &[0, 0, 0][..]);
+    assert!(rt; deep.answer == Err(Error::from(ErrorKind::NestingLimitExceeded)));
+    assert!(rt; deep.words.as_slice() == &[0, 0, 0][..]);
     let none = copied_into(alloc, NULL, -1, None, 9, Copied::Value)?;
-    assert_eq!(rt;
-        none.answer,
-        Err(Error::from(ErrorKind::NestingLimitExceeded))
-    );
-    assert_eq!(rt; none.words.as_slice(), &[0][..]);
+    assert!(rt; none.answer == Err(Error::from(ErrorKind::NestingLimitExceeded)));
+    assert!(rt; none.words.as_slice() == &[0][..]);
     Ok(())
 }

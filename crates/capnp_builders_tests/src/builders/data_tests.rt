@@ -173,33 +173,29 @@ fn text(made: Option<u32>, at: usize, bytes: &[u8]) -> Asked<'_> {
 #[test]
 fn bytes_are_written_in_their_words(rt: HostRuntime) -> std::result::Result<(), Fail> {
     let few = written(rt.alloc(), &[0], 20, 0, data(Some(11), 5, b"abcdef"))?;
-    assert_eq!(rt; few.len?, 11);
-    assert_eq!(rt;
-        few.first.as_slice(),
-        [0x5a_0000_0001, 0x6362_6100_0000_0000, 0x66_6564].as_slice()
+    assert!(rt; few.len? == 11);
+    assert!(rt;
+        few.first.as_slice() == [0x5a_0000_0001, 0x6362_6100_0000_0000, 0x66_6564].as_slice()
     );
     let bytes = b"0123456789abcdefghijklm";
     let many = written(rt.alloc(), &[0], 20, 0, data(Some(30), 7, bytes))?;
-    assert_eq!(rt; many.len?, 30);
-    assert_eq!(rt;
-        many.first.as_slice(),
-        [
-            0xf2_0000_0001,
-            0x3000_0000_0000_0000,
-            0x3837_3635_3433_3231,
-            0x6766_6564_6362_6139,
-            0x6d6c_6b6a_6968,
-        ]
-        .as_slice()
+    assert!(rt; many.len? == 30);
+    assert!(rt;
+        many.first.as_slice()
+            == [
+                0xf2_0000_0001,
+                0x3000_0000_0000_0000,
+                0x3837_3635_3433_3231,
+                0x6766_6564_6362_6139,
+                0x6d6c_6b6a_6968,
+            ]
+            .as_slice()
     );
     let whole = written(rt.alloc(), &[0], 20, 0, data(Some(16), 8, b"abcdefgh"))?;
-    assert_eq!(rt;
-        whole.first.as_slice(),
-        [0x82_0000_0001, 0, 0x6867_6665_6463_6261].as_slice()
-    );
+    assert!(rt; whole.first.as_slice() == [0x82_0000_0001, 0, 0x6867_6665_6463_6261].as_slice());
     let none = written(rt.alloc(), &[0], 20, 0, data(Some(0), 0, b""))?;
-    assert_eq!(rt; none.len?, 0);
-    assert_eq!(rt; none.first.as_slice(), [0x2_ffff_fffd].as_slice());
+    assert!(rt; none.len? == 0);
+    assert!(rt; none.first.as_slice() == [0x2_ffff_fffd].as_slice());
     Ok(())
 }
 
@@ -207,19 +203,13 @@ fn bytes_are_written_in_their_words(rt: HostRuntime) -> std::result::Result<(), 
 #[test]
 fn far_bytes_are_written(rt: HostRuntime) -> std::result::Result<(), Fail> {
     let far = written(rt.alloc(), &[0], 0, 1, data(Some(3), 1, b"ab"))?;
-    assert_eq!(rt; far.len?, 3);
-    assert_eq!(rt; far.first.as_slice(), [0x1_0000_0002].as_slice());
-    assert_eq!(rt;
-        far.second.as_slice(),
-        [0x1a_0000_0001, 0x62_6100].as_slice()
-    );
+    assert!(rt; far.len? == 3);
+    assert!(rt; far.first.as_slice() == [0x1_0000_0002].as_slice());
+    assert!(rt; far.second.as_slice() == [0x1a_0000_0001, 0x62_6100].as_slice());
     let eight = written(rt.alloc(), &[0], 0, 1, text(Some(8), 0, b"abcdefgh"))?;
-    assert_eq!(rt; eight.len?, 8);
-    assert_eq!(rt; eight.first.as_slice(), [0x1_0000_0002].as_slice());
-    assert_eq!(rt;
-        eight.second.as_slice(),
-        [0x4a_0000_0001, 0x6867_6665_6463_6261, 0].as_slice()
-    );
+    assert!(rt; eight.len? == 8);
+    assert!(rt; eight.first.as_slice() == [0x1_0000_0002].as_slice());
+    assert!(rt; eight.second.as_slice() == [0x4a_0000_0001, 0x6867_6665_6463_6261, 0].as_slice());
     let got = written(
         rt.alloc(),
         &[0x4a_0000_0001, 0x6867_6665_6463_6261, 0],
@@ -227,11 +217,8 @@ fn far_bytes_are_written(rt: HostRuntime) -> std::result::Result<(), Fail> {
         0,
         text(None, 7, b"!"),
     )?;
-    assert_eq!(rt; got.len?, 8);
-    assert_eq!(rt;
-        got.first.as_slice(),
-        [0x4a_0000_0001, 0x2167_6665_6463_6261, 0].as_slice()
-    );
+    assert!(rt; got.len? == 8);
+    assert!(rt; got.first.as_slice() == [0x4a_0000_0001, 0x2167_6665_6463_6261, 0].as_slice());
     Ok(())
 }
 
@@ -240,16 +227,16 @@ fn far_bytes_are_written(rt: HostRuntime) -> std::result::Result<(), Fail> {
 fn refused_bytes_leave_all(rt: HostRuntime) -> std::result::Result<(), Fail> {
     let before: [u64; 2] = [0x1a_0000_0001, 0x03_0201];
     let full = written(rt.alloc(), &before, 0, 0, data(Some(3), 0, b""))?;
-    assert_eq!(rt; full.len.err(), Some(Error::from(ErrorKind::OutOfMemory)));
-    assert_eq!(rt; full.first.as_slice(), before.as_slice());
+    assert!(rt; full.len.err() == Some(Error::from(ErrorKind::OutOfMemory)));
+    assert!(rt; full.first.as_slice() == before.as_slice());
     let long = written(rt.alloc(), &before, 4, 0, data(Some(0x2000_0000), 0, b""))?;
-    assert_eq!(rt; long.len.err(), Some(Error::from(ErrorKind::SizeOverflow)));
-    assert_eq!(rt; long.first.as_slice(), before.as_slice());
+    assert!(rt; long.len.err() == Some(Error::from(ErrorKind::SizeOverflow)));
+    assert!(rt; long.first.as_slice() == before.as_slice());
     let end = written(rt.alloc(), &before, 4, 0, text(Some(0x1fff_ffff), 0, b""))?;
-    assert_eq!(rt; end.len.err(), Some(Error::from(ErrorKind::SizeOverflow)));
-    assert_eq!(rt; end.first.as_slice(), before.as_slice());
+    assert!(rt; end.len.err() == Some(Error::from(ErrorKind::SizeOverflow)));
+    assert!(rt; end.first.as_slice() == before.as_slice());
     let most = written(rt.alloc(), &before, 4, 0, text(Some(0xffff_ffff), 0, b""))?;
-    assert_eq!(rt; most.len.err(), Some(Error::from(ErrorKind::SizeOverflow)));
+    assert!(rt; most.len.err() == Some(Error::from(ErrorKind::SizeOverflow)));
     Ok(())
 }
 
@@ -264,39 +251,24 @@ fn defaults_are_written_first(rt: HostRuntime) -> std::result::Result<(), Fail> 
     let mut asked = data(None, 1, b"\x09");
     asked.default = Some(&BYTES[..]);
     let first = written(rt.alloc(), &[0], 9, 0, asked)?;
-    assert_eq!(rt; first.len?, 3);
-    assert_eq!(rt;
-        first.first.as_slice(),
-        [0x1a_0000_0001, 0x03_0901].as_slice()
-    );
+    assert!(rt; first.len? == 3);
+    assert!(rt; first.first.as_slice() == [0x1a_0000_0001, 0x03_0901].as_slice());
     let mut asked = text(None, 1, b"o");
     asked.default = Some(&TEXT[..]);
     let second = written(rt.alloc(), &[0], 0, 1, asked)?;
-    assert_eq!(rt; second.len?, 2);
-    assert_eq!(rt; second.first.as_slice(), [0x1_0000_0002].as_slice());
-    assert_eq!(rt;
-        second.second.as_slice(),
-        [0x1a_0000_0001, 0x6f68].as_slice()
-    );
+    assert!(rt; second.len? == 2);
+    assert!(rt; second.first.as_slice() == [0x1_0000_0002].as_slice());
+    assert!(rt; second.second.as_slice() == [0x1a_0000_0001, 0x6f68].as_slice());
     let there = written(rt.alloc(), &[0x12_0000_0001, 0x61], 9, 0, asked)?;
-    assert_eq!(rt;
-        there.len.err(),
-        Some(Error::from(ErrorKind::IndexOutOfRange))
-    );
-    assert_eq!(rt; there.first.as_slice(), [0x12_0000_0001, 0x61].as_slice());
+    assert!(rt; there.len.err() == Some(Error::from(ErrorKind::IndexOutOfRange)));
+    assert!(rt; there.first.as_slice() == [0x12_0000_0001, 0x61].as_slice());
     asked.default = Some(&BYTES[..]);
     let third = written(rt.alloc(), &[0], 9, 0, asked)?;
-    assert_eq!(rt;
-        third.len.err(),
-        Some(Error::from(ErrorKind::TextWithoutZeroByte))
-    );
-    assert_eq!(rt;
-        third.first.as_slice(),
-        [0x1a_0000_0001, 0x03_0201].as_slice()
-    );
+    assert!(rt; third.len.err() == Some(Error::from(ErrorKind::TextWithoutZeroByte)));
+    assert!(rt; third.first.as_slice() == [0x1a_0000_0001, 0x03_0201].as_slice());
     let fourth = written(rt.alloc(), &[0], 0, 0, asked)?;
-    assert_eq!(rt; fourth.len.err(), Some(Error::from(ErrorKind::OutOfMemory)));
-    assert_eq!(rt; fourth.first.as_slice(), [0].as_slice());
+    assert!(rt; fourth.len.err() == Some(Error::from(ErrorKind::OutOfMemory)));
+    assert!(rt; fourth.first.as_slice() == [0].as_slice());
     Ok(())
 }
 
@@ -305,38 +277,23 @@ fn defaults_are_written_first(rt: HostRuntime) -> std::result::Result<(), Fail> 
 fn other_values_are_no_bytes(rt: HostRuntime) -> std::result::Result<(), Fail> {
     for asked in [data(None, 0, b""), text(None, 0, b"")] {
         let null = written(rt.alloc(), &[0], 9, 0, asked)?;
-        assert_eq!(rt; null.len?, 0);
-        assert_eq!(rt; null.first.as_slice(), [0].as_slice());
+        assert!(rt; null.len? == 0);
+        assert!(rt; null.first.as_slice() == [0].as_slice());
         let object = written(rt.alloc(), &[0x1_0000_0000, 7], 9, 0, asked)?;
-        assert_eq!(rt;
-            object.len.err(),
-            Some(Error::from(ErrorKind::WrongPointerKind))
-        );
+        assert!(rt; object.len.err() == Some(Error::from(ErrorKind::WrongPointerKind)));
         let capability = written(rt.alloc(), &[0x3], 9, 0, asked)?;
-        assert_eq!(rt;
-            capability.len.err(),
-            Some(Error::from(ErrorKind::WrongPointerKind))
-        );
+        assert!(rt; capability.len.err() == Some(Error::from(ErrorKind::WrongPointerKind)));
         let pairs = written(rt.alloc(), &[0x13_0000_0001, 0], 9, 0, asked)?;
-        assert_eq!(rt;
-            pairs.len.err(),
-            Some(Error::from(ErrorKind::WrongElementSize))
-        );
+        assert!(rt; pairs.len.err() == Some(Error::from(ErrorKind::WrongElementSize)));
         let pointers = written(rt.alloc(), &[0xe_0000_0001, 0], 9, 0, asked)?;
-        assert_eq!(rt;
-            pointers.len.err(),
-            Some(Error::from(ErrorKind::WrongElementSize))
-        );
+        assert!(rt; pointers.len.err() == Some(Error::from(ErrorKind::WrongElementSize)));
         let gone = written(rt.alloc(), &[0x1a_0000_0001], 9, 0, asked)?;
-        assert_eq!(rt; gone.len.err(), Some(Error::from(ErrorKind::OutOfBounds)));
+        assert!(rt; gone.len.err() == Some(Error::from(ErrorKind::OutOfBounds)));
     }
     let empty: [u64; 1] = [0x2_0000_0001];
     let none = written(rt.alloc(), &empty, 9, 0, data(None, 0, b""))?;
-    assert_eq!(rt; none.len?, 0);
+    assert!(rt; none.len? == 0);
     let none = written(rt.alloc(), &empty, 9, 0, text(None, 0, b""))?;
-    assert_eq!(rt;
-        none.len.err(),
-        Some(Error::from(ErrorKind::TextWithoutZeroByte))
-    );
+    assert!(rt; none.len.err() == Some(Error::from(ErrorKind::TextWithoutZeroByte)));
     Ok(())
 }

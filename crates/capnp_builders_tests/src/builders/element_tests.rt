@@ -82,48 +82,48 @@ fn seen<T: BuilderElement>(
 #[test]
 fn truth_values_are_set(rt: HostRuntime) -> std::result::Result<(), Fail> {
     let (got, read, left) = seen(rt.alloc(), true, true, false);
-    assert_eq!(rt; got?, (false, true, false));
-    assert_eq!(rt; read?, (false, true, false));
-    assert_eq!(rt; left, 0);
+    assert!(rt; got? == (false, true, false));
+    assert!(rt; read? == (false, true, false));
+    assert!(rt; left == 0);
     let (got, read, left) = seen(rt.alloc(), (), (), ());
-    assert_eq!(rt; got?, ((), (), ()));
-    assert_eq!(rt; read?, ((), (), ()));
-    assert_eq!(rt; left, 0);
+    assert!(rt; got? == ((), (), ()));
+    assert!(rt; read? == ((), (), ()));
+    assert!(rt; left == 0);
     Ok(())
 }
 
 #[test]
 fn numbers_without_sign_are_set(rt: HostRuntime) -> std::result::Result<(), Fail> {
     let (got, read, left) = seen::<u8>(rt.alloc(), 1, 255, 128);
-    assert_eq!(rt; got?, (0, 255, 128));
-    assert_eq!(rt; read?, (0, 255, 128));
-    assert_eq!(rt; left, 0);
+    assert!(rt; got? == (0, 255, 128));
+    assert!(rt; read? == (0, 255, 128));
+    assert!(rt; left == 0);
     let (got, read, _left) = seen::<u16>(rt.alloc(), 1, 0xfffe, 0x8001);
-    assert_eq!(rt; got?, (0, 0xfffe, 0x8001));
-    assert_eq!(rt; read?, (0, 0xfffe, 0x8001));
+    assert!(rt; got? == (0, 0xfffe, 0x8001));
+    assert!(rt; read? == (0, 0xfffe, 0x8001));
     let (got, read, _left) = seen::<u32>(rt.alloc(), 1, 0xffff_fffe, 7);
-    assert_eq!(rt; got?, (0, 0xffff_fffe, 7));
-    assert_eq!(rt; read?, (0, 0xffff_fffe, 7));
+    assert!(rt; got? == (0, 0xffff_fffe, 7));
+    assert!(rt; read? == (0, 0xffff_fffe, 7));
     let (got, read, _left) = seen::<u64>(rt.alloc(), 1, 0xffff_ffff_ffff_fffe, 7);
-    assert_eq!(rt; got?, (0, 0xffff_ffff_ffff_fffe, 7));
-    assert_eq!(rt; read?, (0, 0xffff_ffff_ffff_fffe, 7));
+    assert!(rt; got? == (0, 0xffff_ffff_ffff_fffe, 7));
+    assert!(rt; read? == (0, 0xffff_ffff_ffff_fffe, 7));
     Ok(())
 }
 
 #[test]
 fn numbers_with_sign_are_set(rt: HostRuntime) -> std::result::Result<(), Fail> {
     let (got, read, left) = seen::<i8>(rt.alloc(), 1, -1, -128);
-    assert_eq!(rt; got?, (0, -1, -128));
-    assert_eq!(rt; read?, (0, -1, -128));
-    assert_eq!(rt; left, 0);
+    assert!(rt; got? == (0, -1, -128));
+    assert!(rt; read? == (0, -1, -128));
+    assert!(rt; left == 0);
     let (got, read, _left) = seen::<i16>(rt.alloc(), 1, -2, 0x7fff);
-    assert_eq!(rt; got?, (0, -2, 0x7fff));
-    assert_eq!(rt; read?, (0, -2, 0x7fff));
+    assert!(rt; got? == (0, -2, 0x7fff));
+    assert!(rt; read? == (0, -2, 0x7fff));
     let (got, read, _left) = seen::<i32>(rt.alloc(), 1, -3, 9);
-    assert_eq!(rt; got?, (0, -3, 9));
-    assert_eq!(rt; read?, (0, -3, 9));
+    assert!(rt; got? == (0, -3, 9));
+    assert!(rt; read? == (0, -3, 9));
     let (got, read, _left) = seen::<i64>(rt.alloc(), 1, -4, 9);
-    assert_eq!(rt; got?, (0, -4, 9));
-    assert_eq!(rt; read?, (0, -4, 9));
+    assert!(rt; got? == (0, -4, 9));
+    assert!(rt; read? == (0, -4, 9));
     Ok(())
 }

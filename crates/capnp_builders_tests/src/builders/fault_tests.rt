@@ -149,15 +149,15 @@ fn refused_calls_leave_all_words(rt: HostRuntime) -> std::result::Result<(), Fai
     for (before, call, needed) in calls {
         for room in 0..needed {
             let seen = called(alloc, before, room, call)?;
-            assert_eq!(rt; seen.answer, Err(none));
+            assert!(rt; seen.answer == Err(none));
             assert!(rt; stands(before, seen.words.as_slice()));
         }
-        assert_eq!(rt; called(alloc, before, needed, call)?.answer, Ok(()));
+        assert!(rt; called(alloc, before, needed, call)?.answer == Ok(()));
     }
     for number in 0..CASES {
         if let Some(case) = case_of(number) {
             if !case.room && case.last != Last::Clear {
-                assert_eq!(rt; refused(alloc, case)?, (true, Err(none)));
+                assert!(rt; refused(alloc, case)? == (true, Err(none)));
             }
         }
     }
@@ -198,8 +198,8 @@ fn the_longest_lists_are_replaced_at_once(rt: HostRuntime) -> std::result::Resul
     ];
     for (before, call, answer, after) in table {
         let seen = called(alloc, before, 8, call)?;
-        assert_eq!(rt; seen.answer, answer);
-        assert_eq!(rt; seen.words.as_slice(), after);
+        assert!(rt; seen.answer == answer);
+        assert!(rt; seen.words.as_slice() == after);
     }
     Ok(())
 }
@@ -223,13 +223,13 @@ fn the_greatest_segments_are_asked_for(rt: HostRuntime) -> std::result::Result<(
     let asked_last = arena.allocator.asked;
     let segments = arena.len();
     drop(arena.into_allocator());
-    assert_eq!(rt; first.err(), none);
-    assert_eq!(rt; asked, u32::MAX);
-    assert_eq!(rt; most.err(), none);
-    assert_eq!(rt; asked_then, 0x1fff_ffff);
-    assert_eq!(rt; more.err(), Some(Error::from(ErrorKind::SizeOverflow)));
-    assert_eq!(rt; asked_last, 0x1fff_ffff);
-    assert_eq!(rt; segments, 0);
+    assert!(rt; first.err() == none);
+    assert!(rt; asked == u32::MAX);
+    assert!(rt; most.err() == none);
+    assert!(rt; asked_then == 0x1fff_ffff);
+    assert!(rt; more.err() == Some(Error::from(ErrorKind::SizeOverflow)));
+    assert!(rt; asked_last == 0x1fff_ffff);
+    assert!(rt; segments == 0);
     let heap = HeapAllocator::new(rt.alloc())
         .first_segment_words(u32::MAX)
         .max_segment_words(16);
@@ -239,9 +239,9 @@ fn the_greatest_segments_are_asked_for(rt: HostRuntime) -> std::result::Result<(
     let third = arena.allocate(0, 13);
     let full = arena.allocate(1, 1);
     drop(arena.into_allocator());
-    assert_eq!(rt; first?, (0, 0));
-    assert_eq!(rt; second?, (1, 0));
-    assert_eq!(rt; third, Some(3));
-    assert_eq!(rt; full, None);
+    assert!(rt; first? == (0, 0));
+    assert!(rt; second? == (1, 0));
+    assert!(rt; third == Some(3));
+    assert!(rt; full == None);
     Ok(())
 }

@@ -157,12 +157,12 @@ fn list_in(given: Result<Given>) -> Result<(u32, usize, ElementSize, u32)> {
 fn a_default_stands_in_place_of_null(rt: HostRuntime) -> std::result::Result<(), Fail> {
     let alloc = rt.alloc();
     let near = got(alloc, &[0], 3, 0, sized(1, 1), Some(&SEVEN[..]))?;
-    assert_eq!(rt; struct_in(near.given)?, (0, 1, 1, 1));
-    assert_eq!(rt; near.first.as_slice(), &[0x1_0001_0000_0000, 7, 0][..]);
+    assert!(rt; struct_in(near.given)? == (0, 1, 1, 1));
+    assert!(rt; near.first.as_slice() == &[0x1_0001_0000_0000, 7, 0][..]);
     let far = got(alloc, &[0], 0, 1, sized(1, 0), Some(&SEVEN[..]))?;
-    assert_eq!(rt; struct_in(far.given)?, (1, 1, 1, 1));
-    assert_eq!(rt; far.first.as_slice(), &[0x1_0000_0002][..]);
-    assert_eq!(rt; far.second.as_slice(), &[0x1_0001_0000_0000, 7, 0][..]);
+    assert!(rt; struct_in(far.given)? == (1, 1, 1, 1));
+    assert!(rt; far.first.as_slice() == &[0x1_0000_0002][..]);
+    assert!(rt; far.second.as_slice() == &[0x1_0001_0000_0000, 7, 0][..]);
     Ok(())
 }
 
@@ -170,11 +170,8 @@ fn a_default_stands_in_place_of_null(rt: HostRuntime) -> std::result::Result<(),
 #[test]
 fn a_narrow_default_is_widened(rt: HostRuntime) -> std::result::Result<(), Fail> {
     let seen = got(rt.alloc(), &[0], 9, 0, sized(2, 1), Some(&SEVEN[..]))?;
-    assert_eq!(rt; struct_in(seen.given)?, (0, 3, 2, 1));
-    assert_eq!(rt;
-        seen.first.as_slice(),
-        &[0x1_0002_0000_0008, 0, 0, 7, 0, 0][..]
-    );
+    assert!(rt; struct_in(seen.given)? == (0, 3, 2, 1));
+    assert!(rt; seen.first.as_slice() == &[0x1_0002_0000_0008, 0, 0, 7, 0, 0][..]);
     Ok(())
 }
 
@@ -184,16 +181,13 @@ fn what_is_there_goes_before_the_default(rt: HostRuntime) -> std::result::Result
     let alloc = rt.alloc();
     let there: [u64; 2] = [0x1_0000_0000, 8];
     let widened = got(alloc, &there[..], 9, 0, sized(1, 1), Some(&SEVEN[..]))?;
-    assert_eq!(rt; struct_in(widened.given)?, (0, 2, 1, 1));
-    assert_eq!(rt;
-        widened.first.as_slice(),
-        &[0x1_0001_0000_0004, 0, 8, 0][..]
-    );
+    assert!(rt; struct_in(widened.given)? == (0, 2, 1, 1));
+    assert!(rt; widened.first.as_slice() == &[0x1_0001_0000_0004, 0, 8, 0][..]);
     let none = got(alloc, &[0], 2, 0, sized(1, 1), None)?;
-    assert_eq!(rt; none.first.as_slice(), &[0x1_0001_0000_0000, 0, 0][..]);
+    assert!(rt; none.first.as_slice() == &[0x1_0001_0000_0000, 0, 0][..]);
     let null: [Word; 1] = [[0; 8]];
     let nulls = got(alloc, &[0], 2, 0, sized(1, 1), Some(&null[..]))?;
-    assert_eq!(rt; nulls.first.as_slice(), &[0x1_0001_0000_0000, 0, 0][..]);
+    assert!(rt; nulls.first.as_slice() == &[0x1_0001_0000_0000, 0, 0][..]);
     Ok(())
 }
 
@@ -202,26 +196,17 @@ fn what_is_there_goes_before_the_default(rt: HostRuntime) -> std::result::Result
 fn refused_structs_leave_null_or_the_default(rt: HostRuntime) -> std::result::Result<(), Fail> {
     let alloc = rt.alloc();
     let none = got(alloc, &[0], 1, 0, sized(1, 1), Some(&SEVEN[..]))?;
-    assert_eq!(rt; none.given.err(), Some(Error::from(ErrorKind::OutOfMemory)));
-    assert_eq!(rt; none.first.as_slice(), &[0][..]);
+    assert!(rt; none.given.err() == Some(Error::from(ErrorKind::OutOfMemory)));
+    assert!(rt; none.first.as_slice() == &[0][..]);
     let narrow = got(alloc, &[0], 2, 0, sized(2, 1), Some(&SEVEN[..]))?;
-    assert_eq!(rt;
-        narrow.given.err(),
-        Some(Error::from(ErrorKind::OutOfMemory))
-    );
-    assert_eq!(rt; narrow.first.as_slice(), &[0x1_0001_0000_0000, 7, 0][..]);
+    assert!(rt; narrow.given.err() == Some(Error::from(ErrorKind::OutOfMemory)));
+    assert!(rt; narrow.first.as_slice() == &[0x1_0001_0000_0000, 7, 0][..]);
     let list = got(alloc, &[0], 9, 0, sized(1, 1), Some(&BYTES[..]))?;
-    assert_eq!(rt;
-        list.given.err(),
-        Some(Error::from(ErrorKind::WrongPointerKind))
-    );
-    assert_eq!(rt; list.first.as_slice(), &[0x1a_0000_0001, 0x3_0201][..]);
+    assert!(rt; list.given.err() == Some(Error::from(ErrorKind::WrongPointerKind)));
+    assert!(rt; list.first.as_slice() == &[0x1a_0000_0001, 0x3_0201][..]);
     let outside = got(alloc, &[0], 9, 0, sized(1, 1), Some(&SEVEN[..2]))?;
-    assert_eq!(rt;
-        outside.given.err(),
-        Some(Error::from(ErrorKind::OutOfBounds))
-    );
-    assert_eq!(rt; outside.first.as_slice(), &[0][..]);
+    assert!(rt; outside.given.err() == Some(Error::from(ErrorKind::OutOfBounds)));
+    assert!(rt; outside.first.as_slice() == &[0][..]);
     Ok(())
 }
 
@@ -231,19 +216,19 @@ fn lists_are_got(rt: HostRuntime) -> std::result::Result<(), Fail> {
     let alloc = rt.alloc();
     let bytes = Asked::List(ElementSize::Byte);
     let near = got(alloc, &[0], 1, 0, bytes, Some(&BYTES[..]))?;
-    assert_eq!(rt; list_in(near.given)?, (0, 1, ElementSize::Byte, 3));
-    assert_eq!(rt; near.first.as_slice(), &[0x1a_0000_0001, 0x3_0201][..]);
+    assert!(rt; list_in(near.given)? == (0, 1, ElementSize::Byte, 3));
+    assert!(rt; near.first.as_slice() == &[0x1a_0000_0001, 0x3_0201][..]);
     let far = got(alloc, &[0], 0, 1, bytes, Some(&BYTES[..]))?;
-    assert_eq!(rt; list_in(far.given)?, (1, 1, ElementSize::Byte, 3));
-    assert_eq!(rt; far.first.as_slice(), &[0x1_0000_0002][..]);
-    assert_eq!(rt; far.second.as_slice(), &[0x1a_0000_0001, 0x3_0201][..]);
+    assert!(rt; list_in(far.given)? == (1, 1, ElementSize::Byte, 3));
+    assert!(rt; far.first.as_slice() == &[0x1_0000_0002][..]);
+    assert!(rt; far.second.as_slice() == &[0x1a_0000_0001, 0x3_0201][..]);
     let there: [u64; 2] = [0x13_0000_0001, 0x5_0004];
     let stays = got(alloc, &there[..], 9, 0, bytes, Some(&BYTES[..]))?;
-    assert_eq!(rt; list_in(stays.given)?, (0, 1, ElementSize::TwoBytes, 2));
-    assert_eq!(rt; stays.first.as_slice(), &there[..]);
+    assert!(rt; list_in(stays.given)? == (0, 1, ElementSize::TwoBytes, 2));
+    assert!(rt; stays.first.as_slice() == &there[..]);
     let empty = got(alloc, &[0], 9, 0, bytes, None)?;
-    assert_eq!(rt; list_in(empty.given)?, (0, 0, ElementSize::Byte, 0));
-    assert_eq!(rt; empty.first.as_slice(), &[0][..]);
+    assert!(rt; list_in(empty.given)? == (0, 0, ElementSize::Byte, 0));
+    assert!(rt; empty.first.as_slice() == &[0][..]);
     Ok(())
 }
 
@@ -254,27 +239,18 @@ fn refused_lists_leave_all(rt: HostRuntime) -> std::result::Result<(), Fail> {
     let wide = Asked::List(ElementSize::TwoBytes);
     let there: [u64; 2] = [0x1a_0000_0001, 0x3_0201];
     let narrow = got(alloc, &there[..], 9, 0, wide, None)?;
-    assert_eq!(rt;
-        narrow.given.err(),
-        Some(Error::from(ErrorKind::WrongElementSize))
-    );
-    assert_eq!(rt; narrow.first.as_slice(), &there[..]);
+    assert!(rt; narrow.given.err() == Some(Error::from(ErrorKind::WrongElementSize)));
+    assert!(rt; narrow.first.as_slice() == &there[..]);
     let written = got(alloc, &[0], 9, 0, wide, Some(&BYTES[..]))?;
-    assert_eq!(rt;
-        written.given.err(),
-        Some(Error::from(ErrorKind::WrongElementSize))
-    );
-    assert_eq!(rt; written.first.as_slice(), &there[..]);
+    assert!(rt; written.given.err() == Some(Error::from(ErrorKind::WrongElementSize)));
+    assert!(rt; written.first.as_slice() == &there[..]);
     let full = got(alloc, &[0], 0, 0, wide, Some(&BYTES[..]))?;
-    assert_eq!(rt; full.given.err(), Some(Error::from(ErrorKind::OutOfMemory)));
-    assert_eq!(rt; full.first.as_slice(), &[0][..]);
+    assert!(rt; full.given.err() == Some(Error::from(ErrorKind::OutOfMemory)));
+    assert!(rt; full.first.as_slice() == &[0][..]);
     let object: [u64; 2] = [0x1_0000_0000, 8];
     let other = got(alloc, &object[..], 9, 0, wide, None)?;
-    assert_eq!(rt;
-        other.given.err(),
-        Some(Error::from(ErrorKind::WrongPointerKind))
-    );
-    assert_eq!(rt; other.first.as_slice(), &object[..]);
+    assert!(rt; other.given.err() == Some(Error::from(ErrorKind::WrongPointerKind)));
+    assert!(rt; other.first.as_slice() == &object[..]);
     Ok(())
 }
 
@@ -286,30 +262,15 @@ fn lists_are_got_as_structs(rt: HostRuntime) -> std::result::Result<(), Fail> {
         pointers: 1,
     });
     let there = got(rt.alloc(), &[0x12_0000_0001, 0x0605], 9, 0, asked, None)?;
-    assert_eq!(rt;
-        list_in(there.given)?,
-        (0, 2, ElementSize::InlineComposite, 2)
-    );
-    assert_eq!(rt;
-        there.first.as_slice(),
-        &[0x27_0000_0005, 0, 0x1_0001_0000_0008, 5, 0, 6, 0][..]
-    );
+    assert!(rt; list_in(there.given)? == (0, 2, ElementSize::InlineComposite, 2));
+    assert!(rt; there.first.as_slice() == &[0x27_0000_0005, 0, 0x1_0001_0000_0008, 5, 0, 6, 0][..]);
     let null = got(rt.alloc(), &[0], 9, 0, asked, None)?;
-    assert_eq!(rt;
-        list_in(null.given)?,
-        (0, 0, ElementSize::InlineComposite, 0)
-    );
-    assert_eq!(rt; null.first.as_slice(), &[0][..]);
+    assert!(rt; list_in(null.given)? == (0, 0, ElementSize::InlineComposite, 0));
+    assert!(rt; null.first.as_slice() == &[0][..]);
     let default = got(rt.alloc(), &[0], 20, 0, asked, Some(&BYTES[..]))?;
-    assert_eq!(rt;
-        list_in(default.given)?,
-        (0, 2, ElementSize::InlineComposite, 3)
-    );
+    assert!(rt; list_in(default.given)? == (0, 2, ElementSize::InlineComposite, 3));
     let bits = got(rt.alloc(), &[0x9_0000_0001, 1], 9, 0, asked, None)?;
-    assert_eq!(rt;
-        bits.given.err(),
-        Some(Error::from(ErrorKind::WrongElementSize))
-    );
-    assert_eq!(rt; bits.first.as_slice(), &[0x9_0000_0001, 1][..]);
+    assert!(rt; bits.given.err() == Some(Error::from(ErrorKind::WrongElementSize)));
+    assert!(rt; bits.first.as_slice() == &[0x9_0000_0001, 1][..]);
     Ok(())
 }

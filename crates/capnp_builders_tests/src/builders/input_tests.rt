@@ -1,12 +1,11 @@
 //! Pointers that are set to what texts and data are taken from.
-ghost use Rattle.std.specs.Prelude.{◌≡◌, ◌≤◌, [], length};
+ghost use Rattle.std.specs.Prelude.{◌≡◌};
 
 use crate::builders::blob_tests::holds;
 use crate::builders::build_tests::ROOT;
 use crate::builders::tests::Exact;
 use capnp_builders::pointer_builder::PointerBuilder;
 use capnp_builders::traits::SetterInput;
-use capnp_copy::allocator::Allocator;
 use capnp_copy::arena::{BuilderArena, Memory};
 use capnp_copy::segments::BuilderArenaImpl;
 use capnp_text::{data, text};
@@ -47,41 +46,33 @@ fn set_in_turn<A: BuilderArena>(
     Ok((first, second, third, fourth))
 }
 
-fn seen<A: Allocator + Drop>(
-    alloc: Global,
-    allocator: A,
-    string: &String,
-) -> (Result<(bool, bool, bool, bool)>, A)
-    requires { length (A.loans allocator) ≤ 1 }
-{
+/// The same in a message of so many segments at most.
+fn seen(alloc: Global, segments: u32, string: &String) -> Result<(bool, bool, bool, bool)> {
+    let allocator = Exact {
+        alloc,
+        left: segments,
+    };
     let mut memory = Memory {
         arena: BuilderArenaImpl::new(alloc, allocator),
     };
     let seen = set_in_turn(&mut memory, string);
     let Memory { arena } = memory;
-    (seen, arena.into_allocator())
+    drop(arena.into_allocator());
+    seen
 }
 
 #[test]
 fn inputs_are_set(rt: HostRuntime) -> std::result::Result<(), Fail> {
-    let allocator = Exact {
-        alloc: rt.alloc(),
-        left: 8,
-    };
     let string = String::from_str(rt.alloc(), "a longer string")?;
-    let (seen, _allocator) = seen(rt.alloc(), allocator, &string);
-    assert_eq!(rt; seen?, (true, true, true, true));
+    let seen = seen(rt.alloc(), 8, &string);
+    assert!(rt; seen? == (true, true, true, true));
     Ok(())
 }
 
 #[test]
 fn no_room_for_an_input_is_told(rt: HostRuntime) -> std::result::Result<(), Fail> {
-    let allocator = Exact {
-        alloc: rt.alloc(),
-        left: 2,
-    };
     let string = String::new(rt.alloc());
-    let (seen, _allocator) = seen(rt.alloc(), allocator, &string);
-    assert_eq!(rt; seen.err(), Some(Error::from(ErrorKind::OutOfMemory)));
+    let seen = seen(rt.alloc(), 2, &string);
+    assert!(rt; seen.err() == Some(Error::from(ErrorKind::OutOfMemory)));
     Ok(())
 }

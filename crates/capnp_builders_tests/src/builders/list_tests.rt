@@ -1,10 +1,9 @@
 //! Lists that are built near their pointers and far from them, and cleared.
-ghost use Rattle.std.specs.Prelude.{◌≡◌, ◌≤◌, [], length};
+ghost use Rattle.std.specs.Prelude.{◌≡◌};
 
 use crate::builders::build_tests::{ROOT, clear_root, nonzero};
 use crate::builders::tests::Exact;
 use capnp_builders::pointer_builder::PointerBuilder;
-use capnp_copy::allocator::Allocator;
 use capnp_copy::arena::{BuilderArena, Memory};
 use capnp_copy::segments::BuilderArenaImpl;
 use capnp_units::errors::{Error, Result};
@@ -78,14 +77,12 @@ fn read_back<A: ReaderArena>(arena: &A) -> Result<(u64, u32, u64)> {
     Ok((last.get_data_field(0), numbers.len(), words))
 }
 
-/// What was read of the lists, how many words weren't zero, and how many after they were cleared.
-fn seen<A: Allocator + Drop>(
-    alloc: Global,
-    allocator: A,
-    room: u32,
-) -> (Result<(u64, u32, u64)>, usize, usize, A)
-    requires { length (A.loans allocator) ≤ 1 }
-{
+/// What was read of the lists, how many words weren't zero, how many after they were cleared, and how many segments of so many were left.
+fn seen(alloc: Global, segments: u32, room: u32) -> (Result<(u64, u32, u64)>, usize, usize, u32) {
+    let allocator = Exact {
+        alloc,
+        left: segments,
+    };
     let mut memory = Memory {
         arena: BuilderArenaImpl::new(alloc, allocator),
     };
@@ -108,33 +105,25 @@ fn seen<A: Allocator + Drop>(
     clear_root(&mut memory);
     let cleared = nonzero(&memory.arena, 4);
     let Memory { arena } = memory;
-    (read, built, cleared, arena.into_allocator())
+    (read, built, cleared, arena.into_allocator().left)
 }
 
 #[test]
 fn near_lists_are_built_and_cleared(rt: HostRuntime) -> std::result::Result<(), Fail> {
-    let allocator = Exact {
-        alloc: rt.alloc(),
-        left: 1,
-    };
-    let (read, built, cleared, _allocator) = seen(rt.alloc(), allocator, 100);
-    assert_eq!(rt; read?, (55, 3, 11));
-    assert_eq!(rt; built, 5);
-    assert_eq!(rt; cleared, 0);
+    let (read, built, cleared, _left) = seen(rt.alloc(), 1, 100);
+    assert!(rt; read? == (55, 3, 11));
+    assert!(rt; built == 5);
+    assert!(rt; cleared == 0);
     Ok(())
 }
 
 #[test]
 fn far_lists_are_built_and_cleared(rt: HostRuntime) -> std::result::Result<(), Fail> {
-    let allocator = Exact {
-        alloc: rt.alloc(),
-        left: 4,
-    };
-    let (read, built, cleared, allocator) = seen(rt.alloc(), allocator, 1);
-    assert_eq!(rt; read?, (55, 3, 11));
-    assert_eq!(rt; built, 8);
-    assert_eq!(rt; cleared, 0);
-    assert_eq!(rt; allocator.left, 0);
+    let (read, built, cleared, left) = seen(rt.alloc(), 4, 1);
+    assert!(rt; read? == (55, 3, 11));
+    assert!(rt; built == 8);
+    assert!(rt; cleared == 0);
+    assert!(rt; left == 0);
     Ok(())
 }
 
@@ -194,16 +183,13 @@ fn counts_end_at_their_bound(rt: HostRuntime) -> std::result::Result<(), Fail> {
     let Memory { arena } = memory;
     let _allocator = arena.into_allocator();
     added?;
-    assert_eq!(rt; root, Some(0));
-    assert_eq!(rt; voids?, most);
-    assert_eq!(rt; structs?, most);
-    assert_eq!(rt; more.err(), Some(Error::from(ErrorKind::SizeOverflow)));
-    assert_eq!(rt;
-        more_structs.err(),
-        Some(Error::from(ErrorKind::SizeOverflow))
-    );
-    assert_eq!(rt; words.err(), Some(Error::from(ErrorKind::SizeOverflow)));
-    assert_eq!(rt; full.err(), Some(Error::from(ErrorKind::OutOfMemory)));
-    assert_eq!(rt; used, 2);
+    assert!(rt; root == Some(0));
+    assert!(rt; voids? == most);
+    assert!(rt; structs? == most);
+    assert!(rt; more.err() == Some(Error::from(ErrorKind::SizeOverflow)));
+    assert!(rt; more_structs.err() == Some(Error::from(ErrorKind::SizeOverflow)));
+    assert!(rt; words.err() == Some(Error::from(ErrorKind::SizeOverflow)));
+    assert!(rt; full.err() == Some(Error::from(ErrorKind::OutOfMemory)));
+    assert!(rt; used == 2);
     Ok(())
 }

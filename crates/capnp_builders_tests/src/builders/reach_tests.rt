@@ -274,7 +274,7 @@ fn objects_are_reached_over_each_kind_of_pad(rt: HostRuntime) -> std::result::Re
             .first_segment_words(words)
             .allocation_strategy(AllocationStrategy::FixedSize);
         let difference = first_difference(alloc, &mut heap, words == WORDS)?;
-        assert_eq!(rt; difference, None);
+        assert!(rt; difference == None);
     }
     Ok(())
 }
@@ -283,11 +283,11 @@ fn objects_are_reached_over_each_kind_of_pad(rt: HostRuntime) -> std::result::Re
 fn objects_overflow_a_region(rt: HostRuntime) -> std::result::Result<(), Fail> {
     let alloc = rt.alloc();
     let mut region = [0xeeu8; 8 * WORDS as usize];
-    assert_eq!(rt; first_difference_in(alloc, &mut region, WORDS)?, None);
+    assert!(rt; first_difference_in(alloc, &mut region, WORDS)? == None);
     assert!(rt; region.iter().all(|byte| *byte == 0));
     for words in [0, 1, 4, 9] {
         let part = &mut region[..9 * words];
-        assert_eq!(rt; first_difference_in(alloc, part, 3)?, None);
+        assert!(rt; first_difference_in(alloc, part, 3)? == None);
     }
     Ok(())
 }

@@ -67,31 +67,25 @@ fn values_are_asked_for_as_others(rt: HostRuntime) -> std::result::Result<(), Fa
     let bytes = called(alloc, Call::SetData(&[1, 2, 3]), wider)?;
     bytes.answer?;
     let copy = canonical(alloc, bytes.words.as_slice())?;
-    assert_eq!(rt;
-        bytes_of(alloc, copy.as_slice())?.as_slice(),
-        &[
-            1, 0, 0, 0, 0x1f, 0, 0, 0, 0x0c, 0, 0, 0, 1, 0, 0, 0, 1, 0, 0, 0, 0, 0, 0, 0, 2, 0, 0,
-            0, 0, 0, 0, 0, 3, 0, 0, 0, 0, 0, 0, 0,
-        ][..]
+    assert!(rt;
+        bytes_of(alloc, copy.as_slice())?.as_slice()
+            == &[
+                1, 0, 0, 0, 0x1f, 0, 0, 0, 0x0c, 0, 0, 0, 1, 0, 0, 0, 1, 0, 0, 0, 0, 0, 0, 0, 2, 0,
+                0, 0, 0, 0, 0, 0, 3, 0, 0, 0, 0, 0, 0, 0,
+            ][..]
     );
     let bits = called(alloc, Call::InitList(ElementSize::Bit, 3), wider)?;
-    assert_eq!(rt; bits.answer, Err(Error::from(ErrorKind::WrongElementSize)));
-    assert_eq!(rt; bits.words.as_slice(), &[0x19_0000_0001, 0][..]);
+    assert!(rt; bits.answer == Err(Error::from(ErrorKind::WrongElementSize)));
+    assert!(rt; bits.words.as_slice() == &[0x19_0000_0001, 0][..]);
     let seven = bytes_of(alloc, &[0x1_0000_0000, 7])?;
     let seven = Call::Copy(seven.as_slice());
     let wide = called(alloc, seven, Call::GetStruct(sized(2, 1)))?;
     wide.answer?;
-    assert_eq!(rt;
-        wide.words.as_slice(),
-        &[0x1_0002_0000_0004, 0, 7, 0, 0][..]
-    );
+    assert!(rt; wide.words.as_slice() == &[0x1_0002_0000_0004, 0, 7, 0, 0][..]);
     let capability = bytes_of(alloc, &[0x5_0000_0003])?;
     let capability = Call::CopyCanonical(capability.as_slice());
     let text = called(alloc, Call::SetText(b"hi"), capability)?;
-    assert_eq!(rt;
-        text.answer,
-        Err(Error::from(ErrorKind::CapabilityInCanonical))
-    );
-    assert_eq!(rt; text.reads_hi?, true);
+    assert!(rt; text.answer == Err(Error::from(ErrorKind::CapabilityInCanonical)));
+    assert!(rt; text.reads_hi?);
     Ok(())
 }

@@ -1,5 +1,5 @@
 //! Segments that an arena takes on demand, written and read back.
-ghost use Rattle.std.specs.Prelude.{◌≡◌, ◌≤◌, [], length};
+ghost use Rattle.std.specs.Prelude.{◌≡◌, []};
 
 use capnp_builders::struct_builder::StructBuilder;
 use capnp_copy::allocator::Allocator;
@@ -118,13 +118,12 @@ fn bytes_in(segments: &[&[u8]]) -> usize {
     bytes
 }
 
-/// What was read of a message that an allocator's segments hold, how many bytes they have, and the allocator.
-fn built<A: Allocator + Drop>(
-    alloc: Global,
-    allocator: A,
-) -> (Result<(u64, u16, usize)>, Result<usize>, A)
-    requires { length (A.loans allocator) ≤ 1 }
-{
+/// What was read of a message that an allocator's segments hold, how many bytes they have, and how many segments of so many are left.
+fn built(alloc: Global, segments: u32) -> (Result<(u64, u16, usize)>, Result<usize>, u32) {
+    let allocator = Exact {
+        alloc,
+        left: segments,
+    };
     let mut memory = Memory {
         arena: BuilderArenaImpl::new(alloc, allocator),
     };
@@ -138,32 +137,24 @@ fn built<A: Allocator + Drop>(
         Ok(all) => Ok(bytes_in(all.as_slice())),
         Err(e) => Err(e),
     };
-    (seen, bytes, arena.into_allocator())
+    (seen, bytes, arena.into_allocator().left)
 }
 
 #[test]
 fn segments_are_taken_on_demand(rt: HostRuntime) -> std::result::Result<(), Fail> {
-    let allocator = Exact {
-        alloc: rt.alloc(),
-        left: 3,
-    };
-    let (seen, bytes, allocator) = built(rt.alloc(), allocator);
-    assert_eq!(rt; seen?, (0xbeef_0000, 0xbeef, 4));
-    assert_eq!(rt; bytes?, 32);
-    assert_eq!(rt; allocator.left, 1);
+    let (seen, bytes, left) = built(rt.alloc(), 3);
+    assert!(rt; seen? == (0xbeef_0000, 0xbeef, 4));
+    assert!(rt; bytes? == 32);
+    assert!(rt; left == 1);
     Ok(())
 }
 
 #[test]
 fn an_allocator_refuses(rt: HostRuntime) -> std::result::Result<(), Fail> {
-    let allocator = Exact {
-        alloc: rt.alloc(),
-        left: 1,
-    };
-    let (seen, bytes, allocator) = built(rt.alloc(), allocator);
-    assert_eq!(rt; seen.err(), Some(Error::from(ErrorKind::OutOfMemory)));
-    assert_eq!(rt; bytes?, 8);
-    assert_eq!(rt; allocator.left, 0);
+    let (seen, bytes, left) = built(rt.alloc(), 1);
+    assert!(rt; seen.err() == Some(Error::from(ErrorKind::OutOfMemory)));
+    assert!(rt; bytes? == 8);
+    assert!(rt; left == 0);
     Ok(())
 }
 
@@ -186,14 +177,14 @@ fn room_in_a_segment_is_used(rt: HostRuntime) -> std::result::Result<(), Fail> {
     let segments = arena.len();
     let allocator = arena.into_allocator();
     added?;
-    assert_eq!(rt; first, Some(0));
-    assert_eq!(rt; second?, (0, 200));
-    assert_eq!(rt; third, Some(299));
-    assert_eq!(rt; full, None);
-    assert_eq!(rt; elsewhere, None);
-    assert_eq!(rt; refused.err(), Some(Error::from(ErrorKind::OutOfMemory)));
-    assert_eq!(rt; words, 300);
-    assert_eq!(rt; segments, 1);
-    assert_eq!(rt; allocator.left, 0);
+    assert!(rt; first == Some(0));
+    assert!(rt; second? == (0, 200));
+    assert!(rt; third == Some(299));
+    assert!(rt; full == None);
+    assert!(rt; elsewhere == None);
+    assert!(rt; refused.err() == Some(Error::from(ErrorKind::OutOfMemory)));
+    assert!(rt; words == 300);
+    assert!(rt; segments == 1);
+    assert!(rt; allocator.left == 0);
     Ok(())
 }

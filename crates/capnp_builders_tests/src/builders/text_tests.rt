@@ -74,6 +74,6 @@ fn all_seen(alloc: Global) -> Result<bool> {
 
 #[test]
 fn texts_are_pushed_and_cleared(rt: HostRuntime) -> std::result::Result<(), Fail> {
-    assert_eq!(rt; all_seen(rt.alloc())?, true);
+    assert!(rt; all_seen(rt.alloc())?);
     Ok(())
 }
