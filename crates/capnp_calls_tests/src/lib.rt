@@ -1,4 +1,4 @@
-//! Tests of `capnp_call_messages`, `capnp_calls`, `capnp_compatible` and `capnp_value_text`, by their public calls alone.
+//! Tests of `capnp_call_messages`, `capnp_calls` and `capnp_compatible`, by their public calls alone.
 #![tactic(auto)]
 
 #[cfg(test)]

@@ -95,9 +95,9 @@ fn a_null_struct_on_the_way_is_its_default(rt: HostRuntime) -> Result<(), Fail> 
     else {
         return Err(Fail::from("a call is answered otherwise"));
     };
-    assert_eq!(rt; default.as_slice(), b"5".as_slice());
-    assert_eq!(rt; *range, ErrorKind::TypeMismatch);
-    assert_eq!(rt; *unknown, ErrorKind::FieldNotFound);
+    assert!(rt; default.as_slice() == b"5".as_slice());
+    assert!(rt; *range == ErrorKind::TypeMismatch);
+    assert!(rt; *unknown == ErrorKind::FieldNotFound);
     let [Value::Null, _] = root.children.as_slice() else {
         return Err(Fail::from("a refused call left a struct"));
     };
@@ -114,12 +114,12 @@ fn a_write_makes_the_default_and_widens_it(rt: HostRuntime) -> Result<(), Fail> 
     let [Reply::Done, Reply::Text(kept)] = replies.as_slice() else {
         return Err(Fail::from("a call is answered otherwise"));
     };
-    assert_eq!(rt; kept.as_slice(), b"5".as_slice());
+    assert!(rt; kept.as_slice() == b"5".as_slice());
     let [Value::Struct { words, children }, _] = root.children.as_slice() else {
         return Err(Fail::from("there is no struct"));
     };
-    assert_eq!(rt; words.as_slice(), [5].as_slice());
-    assert_eq!(rt; children.len(), 1);
+    assert!(rt; words.as_slice() == [5].as_slice());
+    assert!(rt; children.len() == 1);
     Ok(())
 }
 
@@ -141,12 +141,12 @@ fn a_wider_struct_keeps_what_the_schema_lacks(rt: HostRuntime) -> Result<(), Fai
     let [Reply::Text(old), Reply::Done] = replies.as_slice() else {
         return Err(Fail::from("a call is answered otherwise"));
     };
-    assert_eq!(rt; old.as_slice(), b"1".as_slice());
+    assert!(rt; old.as_slice() == b"1".as_slice());
     let [Value::Struct { words, children }, _] = root.children.as_slice() else {
         return Err(Fail::from("there is no struct"));
     };
-    assert_eq!(rt; words.as_slice(), [7, 0x63].as_slice());
-    assert_eq!(rt; children.len(), 1);
+    assert!(rt; words.as_slice() == [7, 0x63].as_slice());
+    assert!(rt; children.len() == 1);
     Ok(())
 }
 
@@ -171,14 +171,14 @@ fn a_refused_call_leaves_a_narrow_struct(rt: HostRuntime) -> Result<(), Fail> {
     else {
         return Err(Fail::from("a call is answered otherwise"));
     };
-    assert_eq!(rt; *range, ErrorKind::TypeMismatch);
-    assert_eq!(rt; text.as_slice(), b"\"\"".as_slice());
-    assert_eq!(rt; *step, ErrorKind::WrongStep);
+    assert!(rt; *range == ErrorKind::TypeMismatch);
+    assert!(rt; text.as_slice() == b"\"\"".as_slice());
+    assert!(rt; *step == ErrorKind::WrongStep);
     let [Value::Struct { words, children }, _] = root.children.as_slice() else {
         return Err(Fail::from("there is no struct"));
     };
-    assert_eq!(rt; words.len(), 0);
-    assert_eq!(rt; children.len(), 0);
+    assert!(rt; words.len() == 0);
+    assert!(rt; children.len() == 0);
     Ok(())
 }
 
@@ -193,8 +193,8 @@ fn a_path_goes_through_no_inactive_member(rt: HostRuntime) -> Result<(), Fail> {
     let [Reply::Refused(write), Reply::Refused(read)] = replies.as_slice() else {
         return Err(Fail::from("a call is answered otherwise"));
     };
-    assert_eq!(rt; *write, ErrorKind::InactiveMember);
-    assert_eq!(rt; *read, ErrorKind::InactiveMember);
+    assert!(rt; *write == ErrorKind::InactiveMember);
+    assert!(rt; *read == ErrorKind::InactiveMember);
     let [_, Value::Null] = root.children.as_slice() else {
         return Err(Fail::from("a refused call left a struct"));
     };
@@ -214,7 +214,7 @@ fn a_path_goes_through_no_unreadable_pointer(rt: HostRuntime) -> Result<(), Fail
     let [Reply::Refused(unreadable)] = replies.as_slice() else {
         return Err(Fail::from("a call is answered otherwise"));
     };
-    assert_eq!(rt; *unreadable, ErrorKind::UnreadablePointer);
+    assert!(rt; *unreadable == ErrorKind::UnreadablePointer);
     let [Value::Pointers { .. }, _] = root.children.as_slice() else {
         return Err(Fail::from("a refused call left another value"));
     };
@@ -240,10 +240,10 @@ fn a_group_lies_in_its_struct(rt: HostRuntime) -> Result<(), Fail> {
     else {
         return Err(Fail::from("a call is answered otherwise"));
     };
-    assert_eq!(rt; set.as_slice(), b"9".as_slice());
-    assert_eq!(rt; *list, ErrorKind::InitnIsOnlyValidForListTextOrDataFields);
-    assert_eq!(rt; *number, ErrorKind::NotAStruct);
-    assert_eq!(rt; root.words.as_slice(), [0x9_0001_0003].as_slice());
+    assert!(rt; set.as_slice() == b"9".as_slice());
+    assert!(rt; *list == ErrorKind::InitnIsOnlyValidForListTextOrDataFields);
+    assert!(rt; *number == ErrorKind::NotAStruct);
+    assert!(rt; root.words.as_slice() == [0x9_0001_0003].as_slice());
     Ok(())
 }
 
@@ -257,6 +257,6 @@ fn a_cleared_group_has_zeros_in_its_fields(rt: HostRuntime) -> Result<(), Fail> 
     let [Reply::Done] = replies.as_slice() else {
         return Err(Fail::from("a call is answered otherwise"));
     };
-    assert_eq!(rt; root.words.as_slice(), [0x4_0000_0001_0003].as_slice());
+    assert!(rt; root.words.as_slice() == [0x4_0000_0001_0003].as_slice());
     Ok(())
 }
