@@ -1,7 +1,7 @@
 //! Canonical copies of worked messages, as they lie afterwards.
-ghost use Rattle.std.specs.Prelude.{◌≡◌, []};
+ghost use Rattle.std.specs.Prelude.{◌≡◌};
 
-use capnp_copy::allocator::Allocator;
+use crate::copy_from::tests::{ROOT, Slabs, bytes_of, words_of};
 use capnp_copy::arena::BuilderArena;
 use capnp_copy::blobs::set_data;
 use capnp_copy::segments::BuilderArenaImpl;
@@ -11,45 +11,10 @@ use capnp_units::kinds::ErrorKind;
 use capnp_units::limiter::ReadLimiter;
 use capnp_units::sizes::Word;
 use capnp_wire::arena::{ReaderArena, ReaderArenaImpl};
-use capnp_wire::place::{Place, has_words, word_at};
-use std::alloc::{AllocError, Global};
+use capnp_wire::place::has_words;
+use std::alloc::Global;
 use std::process::Abort;
 use std::test::Fail;
-
-const ROOT: Place = Place {
-    segment: 0,
-    position: 0,
-};
-
-/// Hands out so many segments, each of so many words, or of more where more are asked for.
-#[derive(Drop)]
-struct Slabs {
-    alloc: Global,
-    left: u32,
-    words: u32,
-}
-
-impl Allocator for Slabs {
-    type Segment = Vec<u8>;
-
-    ghost loans = { λ _. [] };
-
-    ghost place = { λ _. [] };
-
-    fn allocate_segment(&mut self, minimum: u32) -> Answer<Vec<u8>> {
-        if self.left == 0 {
-            return Err(Error::from(ErrorKind::OutOfMemory));
-        }
-        self.left -= 1;
-        let mut bytes = Vec::new(self.alloc);
-        bytes.resize(8 * minimum.max(self.words) as usize, 0)?;
-        Ok(bytes)
-    }
-
-    fn deallocate_segment(&mut self, segment: Vec<u8>, _words_used: u32) {
-        drop(segment);
-    }
-}
 
 /// What a value is copied under: a budget, levels, how many words are lent, and how many segments of how many words there are.
 #[derive(Clone, Copy)]
@@ -76,34 +41,6 @@ struct Outcome {
     granted: u64,
     followed: u64,
     words: Vec<u64>,
-}
-
-/// The bytes of words, the lowest byte of each first.
-fn bytes_of(alloc: Global, words: &[u64]) -> Result<Vec<u8>, AllocError> {
-    let mut bytes = Vec::new(alloc);
-    for word in words {
-        bytes.extend_from_slice(&word.to_le_bytes())?;
-    }
-    Ok(bytes)
-}
-
-/// The words of the first segment.
-fn words_of<A: ReaderArena>(alloc: Global, arena: &A) -> Result<Vec<u64>, AllocError> {
-    let mut words = Vec::new(alloc);
-    let count = match arena.get_segment(0) {
-        Some(bytes) => bytes.len() / 8,
-        None => 0,
-    };
-    for position in 0..count {
-        let place = Place {
-            segment: 0,
-            position,
-        };
-        if let Some(word) = word_at(arena, place) {
-            words.push(word)?;
-        }
-    }
-    Ok(words)
 }
 
 /// Copies the root of a message over a root that is null or has these data.
@@ -152,7 +89,7 @@ fn copied(
         &mut lent,
         before,
     );
-    let words = words_of(alloc, &arena);
+    let words = words_of(alloc, &arena, 0);
     drop(arena.into_allocator());
     Ok(Outcome {
         answer,
@@ -171,7 +108,7 @@ fn expect_words(
 ) -> Result<(), Fail> {
     let outcome = copied(alloc, source, WIDE, None)?;
     outcome.answer?;
-    assert_eq!(rt; outcome.words.as_slice(), wanted);
+    assert!(rt; outcome.words.as_slice() == wanted);
     Ok(())
 }
 
@@ -188,8 +125,8 @@ fn expect_refused(
     stands: &[u64],
 ) -> Result<(u64, u64), Fail> {
     let outcome = copied(alloc, source, setting, Some(b"hi"))?;
-    assert_eq!(rt; outcome.answer.err(), Some(Error::from(kind)));
-    assert_eq!(rt; outcome.words.as_slice(), stands);
+    assert!(rt; outcome.answer.err() == Some(Error::from(kind)));
+    assert!(rt; outcome.words.as_slice() == stands);
     Ok((outcome.granted, outcome.followed))
 }
 
@@ -266,7 +203,7 @@ fn a_shared_target_is_paid_twice(rt: HostRuntime) -> Result<(), Fail> {
     };
     let dear = ErrorKind::ReadLimitExceeded;
     let refused = expect_refused(&rt, alloc, &shared, less, dear, STANDS)?;
-    assert_eq!(rt; refused, (3, 3));
+    assert!(rt; refused == (3, 3));
     Ok(())
 }
 
@@ -303,7 +240,7 @@ fn a_cycle_follows_few_pointers(rt: HostRuntime) -> Result<(), Fail> {
     };
     let dear = ErrorKind::ReadLimitExceeded;
     let refused = expect_refused(&rt, alloc, &cycle, deep, dear, STANDS)?;
-    assert_eq!(rt; refused, (1000, 1001));
+    assert!(rt; refused == (1000, 1001));
     let nested = ErrorKind::NestingLimitExceeded;
     expect_refused(&rt, alloc, &cycle, WIDE, nested, STANDS)?;
     Ok(())
@@ -326,10 +263,10 @@ fn elements_without_words_take_no_step(rt: HostRuntime) -> Result<(), Fail> {
         .words
         .first()
         .map(|word| *word & 0xffff_ffff_0000_0003);
-    assert_eq!(rt; (told, outcome.followed), (Some(0xffff_fff8_0000_0001), 1));
+    assert!(rt; (told, outcome.followed) == (Some(0xffff_fff8_0000_0001), 1));
     let structs = [0x7_0000_0001, 0x7fff_fffc];
     let outcome = copied(alloc, &structs, free, None)?;
     outcome.answer?;
-    assert_eq!(rt; outcome.words.as_slice(), structs.as_slice());
+    assert!(rt; outcome.words.as_slice() == structs.as_slice());
     Ok(())
 }

@@ -132,7 +132,7 @@ fn expect_copy(
     let source = ReaderArenaImpl::new(segments, 64);
     let done = copied_from(alloc, &source, budget, how)?;
     done.answer?;
-    assert_eq!(rt; done.bytes.as_slice(), words_as_bytes(wanted));
+    assert!(rt; done.bytes.as_slice() == words_as_bytes(wanted));
     Ok(())
 }
 
@@ -148,9 +148,9 @@ fn expect_refused(
     let source = ReaderArenaImpl::new(segments, 64);
     let refused = Some(Error::from(kind));
     let whole = copied_from(alloc, &source, Some(budget), How::Whole)?;
-    assert_eq!(rt; (whole.answer.err(), whole.granted), (refused, granted));
+    assert!(rt; (whole.answer.err(), whole.granted) == (refused, granted));
     let trimmed = copied_from(alloc, &source, Some(budget), How::Trimmed)?;
-    assert_eq!(rt; (trimmed.answer.err(), trimmed.granted), (refused, granted));
+    assert!(rt; (trimmed.answer.err(), trimmed.granted) == (refused, granted));
     Ok(())
 }
 
@@ -177,8 +177,8 @@ fn expect_words(
     let segments: &[&[u8]] = &[words_as_bytes(message)];
     expect_copy(rt, alloc, segments, Some(1000), How::Whole, message)?;
     expect_copy(rt, alloc, segments, Some(1000), How::Trimmed, least)?;
-    assert_eq!(rt; stands(message)?.0, message == least);
-    assert_eq!(rt; stands(least)?, (true, least.len()));
+    assert!(rt; stands(message)?.0 == (message == least));
+    assert!(rt; stands(least)? == (true, least.len()));
     Ok(())
 }
 
@@ -237,8 +237,8 @@ fn zeros_and_nulls_at_the_end(rt: HostRuntime) -> Result<(), Fail> {
     let segments: &[&[u8]] = &[words_as_bytes(NO_ELEMENT)];
     expect_copy(&rt, alloc, segments, Some(0), How::Whole, NO_ELEMENT_HERE)?;
     expect_copy(&rt, alloc, segments, Some(0), How::Trimmed, NO_ELEMENT_HERE)?;
-    assert_eq!(rt; stands(NO_ELEMENT)?, (true, 1));
-    assert_eq!(rt; stands(NO_ELEMENT_HERE)?, (false, 1));
+    assert!(rt; stands(NO_ELEMENT)? == (true, 1));
+    assert!(rt; stands(NO_ELEMENT_HERE)? == (false, 1));
     Ok(())
 }
 
@@ -295,24 +295,24 @@ fn lists_that_were_read(rt: HostRuntime) -> Result<(), Fail> {
     let mut limiter = ReadLimiter::new(Some(7));
     let root = PointerReader::get_root_from_arena(&arena)?;
     let list = root.get_list(&mut limiter, ElementSize::Pointer, None)?;
-    assert_eq!(rt; (list.len(), limiter.granted()), (2, 5));
+    assert!(rt; (list.len(), limiter.granted()) == (2, 5));
     if list.len() == 2 {
         let texts = (list.get_pointer_element(0), list.get_pointer_element(1));
-        assert_eq!(rt; texts.0.get_text(&mut limiter, None)?, b"a".as_slice());
-        assert_eq!(rt; texts.1.get_text(&mut limiter, None)?, b"b".as_slice());
+        assert!(rt; texts.0.get_text(&mut limiter, None)? == b"a".as_slice());
+        assert!(rt; texts.1.get_text(&mut limiter, None)? == b"b".as_slice());
     }
     let pointers = How::List(ElementSize::Pointer);
     expect_copy(&rt, alloc, segments, Some(7), pointers, STRUCTS)?;
     expect_copy(&rt, alloc, segments, Some(7), How::Trimmed, STRUCTS)?;
-    assert_eq!(rt; stands(STRUCTS)?, (true, 8));
+    assert!(rt; stands(STRUCTS)? == (true, 8));
     let structs = How::List(ElementSize::InlineComposite);
     let empty: &[&[u8]] = &[words_as_bytes(EMPTY_STRUCTS)];
     expect_copy(&rt, alloc, empty, None, structs, EMPTY_STRUCTS)?;
-    assert_eq!(rt; stands(EMPTY_STRUCTS)?, (true, 2));
+    assert!(rt; stands(EMPTY_STRUCTS)? == (true, 2));
     let voids: &[&[u8]] = &[words_as_bytes(VOIDS)];
     let list = How::List(ElementSize::Void);
     expect_copy(&rt, alloc, voids, None, list, VOIDS_HERE)?;
-    assert_eq!(rt; stands(VOIDS)?, (true, 1));
+    assert!(rt; stands(VOIDS)? == (true, 1));
     Ok(())
 }
 
@@ -344,7 +344,7 @@ fn bytes_that_became_structs(rt: HostRuntime) -> Result<(), Fail> {
     let done = copied_from(alloc, &arena, Some(1000), How::Trimmed);
     drop(arena.into_allocator());
     let done = done?;
-    assert_eq!(rt; count?, 3);
+    assert!(rt; count? == 3);
     done.answer?;
     let least: &[Word] = &[
         [1, 0, 0, 0, 0x1f, 0, 0, 0],
@@ -353,8 +353,8 @@ fn bytes_that_became_structs(rt: HostRuntime) -> Result<(), Fail> {
         [2, 0, 0, 0, 0, 0, 0, 0],
         [3, 0, 0, 0, 0, 0, 0, 0],
     ];
-    assert_eq!(rt; done.bytes.as_slice(), words_as_bytes(least));
-    assert_eq!(rt; stands(least)?, (true, 5));
+    assert!(rt; done.bytes.as_slice() == words_as_bytes(least));
+    assert!(rt; stands(least)? == (true, 5));
     Ok(())
 }
 
@@ -391,6 +391,6 @@ fn a_capability_leaves_the_text(rt: HostRuntime) -> Result<(), Fail> {
     drop(arena.into_allocator());
     let (answer, stands) = done?;
     let kind = Error::from(ErrorKind::CapabilityInCanonical);
-    assert_eq!(rt; (answer.err(), stands), (Some(kind), true));
+    assert!(rt; (answer.err(), stands) == (Some(kind), true));
     Ok(())
 }

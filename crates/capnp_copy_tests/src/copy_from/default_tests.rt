@@ -51,16 +51,16 @@ fn defaults_in_place_of_null(rt: HostRuntime) -> Result<(), Fail> {
     let null: [Word; 1] = [[0; 8]];
     let (answer, words) = defaulted(alloc, &text, None)?;
     answer?;
-    assert_eq!(rt; words.len(), 2);
-    assert_eq!(rt; words.get(0).copied(), Some(0x0000_001a_0000_0001));
-    assert_eq!(rt; words.get(1).copied(), Some(0x6968));
+    assert!(rt; words.len() == 2);
+    assert!(rt; words.get(0).copied() == Some(0x0000_001a_0000_0001));
+    assert!(rt; words.get(1).copied() == Some(0x6968));
     let (answer, words) = defaulted(alloc, &text, Some(&[1, 2, 3]))?;
     answer?;
-    assert_eq!(rt; words.len(), 2);
-    assert_eq!(rt; words.get(1).copied(), Some(0x0003_0201));
+    assert!(rt; words.len() == 2);
+    assert!(rt; words.get(1).copied() == Some(0x0003_0201));
     let (answer, words) = defaulted(alloc, &null, None)?;
     answer?;
-    assert_eq!(rt; words.len(), 1);
-    assert_eq!(rt; words.get(0).copied(), Some(0));
+    assert!(rt; words.len() == 1);
+    assert!(rt; words.get(0).copied() == Some(0));
     Ok(())
 }

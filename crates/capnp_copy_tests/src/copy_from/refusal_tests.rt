@@ -57,8 +57,8 @@ fn shared_targets(rt: HostRuntime) -> Result<(), Fail> {
     let source = vec![in alloc; bytes_of(alloc, &message)?]?;
     let done = copied(alloc, &source, WIDE, None)?;
     done.answer?;
-    assert_eq!(rt; done.granted, 4);
-    assert_eq!(rt; done.followed, 3);
+    assert!(rt; done.granted == 4);
+    assert!(rt; done.followed == 3);
     expect_segments(&rt, &done.segments, &[&copy])
 }
 

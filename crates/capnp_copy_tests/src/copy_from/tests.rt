@@ -240,13 +240,13 @@ pub(crate) fn expect_segments(
     segments: &Vec<Vec<u64>>,
     expected: &[&[u64]],
 ) -> Result<(), Fail> {
-    assert_eq!(rt; segments.len(), expected.len());
+    assert!(rt; segments.len() == expected.len());
     for i in 0..expected.len() {
         let there = segments.get(i).ok_or("no segment")?;
         let wanted = *expected.get(i).ok_or("no segment")?;
-        assert_eq!(rt; there.len(), wanted.len());
+        assert!(rt; there.len() == wanted.len());
         for j in 0..wanted.len() {
-            assert_eq!(rt; there.get(j).copied(), wanted.get(j).copied());
+            assert!(rt; there.get(j).copied() == wanted.get(j).copied());
         }
     }
     Ok(())
@@ -283,7 +283,7 @@ pub(crate) fn expect_refused(
         source.push(bytes_of(alloc, words)?)?;
     }
     let done = copied(alloc, &source, setting, Some(&[1, 2, 3]))?;
-    assert_eq!(rt; done.answer.err(), Some(Error::from(kind)));
+    assert!(rt; done.answer.err() == Some(Error::from(kind)));
     expect_segments(rt, &done.segments, expected)
 }
 

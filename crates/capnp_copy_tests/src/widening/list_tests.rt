@@ -76,29 +76,26 @@ fn a_list_of_structs_is_widened(rt: HostRuntime) -> std::result::Result<(), Fail
     ]];
     let seen = seen(rt.alloc(), handing_out(rt, 1, 0, 7), &segments[..], 2, 1)?;
     let place = seen.place?;
-    assert_eq!(rt;
-        (place.start.position, place.count, place.claimed),
-        (8, 2, 6)
-    );
-    assert_eq!(rt;
-        seen.first.as_slice(),
-        &[
-            0x37_0000_001d,
-            0,
-            0,
-            0,
-            0,
-            0,
-            0,
-            7,
-            0x1_0002_0000_0008,
-            5,
-            0,
-            0x1_ffff_ffec,
-            6,
-            0,
-            0,
-        ][..]
+    assert!(rt; (place.start.position, place.count, place.claimed) == (8, 2, 6));
+    assert!(rt;
+        seen.first.as_slice()
+            == &[
+                0x37_0000_001d,
+                0,
+                0,
+                0,
+                0,
+                0,
+                0,
+                7,
+                0x1_0002_0000_0008,
+                5,
+                0,
+                0x1_ffff_ffec,
+                6,
+                0,
+                0,
+            ][..]
     );
     Ok(())
 }
@@ -111,22 +108,22 @@ fn a_far_list_is_widened_in_its_segment(rt: HostRuntime) -> std::result::Result<
         &[0x17_0000_0001, 0x1_0001_0000_0004, 5, 0x1_0000_0000, 7],
     ];
     let seen = seen(rt.alloc(), handing_out(rt, 2, 1, 5), &segments[..], 2, 1)?;
-    assert_eq!(rt; seen.place?.start.position, 6);
-    assert_eq!(rt; seen.first.as_slice(), &[0x1_0000_002a][..]);
-    assert_eq!(rt;
-        seen.second.as_slice(),
-        &[
-            0,
-            0,
-            0,
-            0,
-            7,
-            0x1f_0000_0001,
-            0x1_0002_0000_0004,
-            5,
-            0,
-            0x1_ffff_ffe8,
-        ][..]
+    assert!(rt; seen.place?.start.position == 6);
+    assert!(rt; seen.first.as_slice() == &[0x1_0000_002a][..]);
+    assert!(rt;
+        seen.second.as_slice()
+            == &[
+                0,
+                0,
+                0,
+                0,
+                7,
+                0x1f_0000_0001,
+                0x1_0002_0000_0004,
+                5,
+                0,
+                0x1_ffff_ffe8,
+            ][..]
     );
     Ok(())
 }
@@ -136,19 +133,19 @@ fn a_far_list_is_widened_in_its_segment(rt: HostRuntime) -> std::result::Result<
 fn a_list_is_widened_in_another_segment(rt: HostRuntime) -> std::result::Result<(), Fail> {
     let segments: [&[u64]; 1] = [&[0x17_0000_0001, 0x1_0001_0000_0004, 5, 0x1_0000_0000, 7]];
     let seen = seen(rt.alloc(), handing_out(rt, 2, 1, 0), &segments[..], 2, 1)?;
-    assert_eq!(rt; seen.place?.start.segment, 1);
-    assert_eq!(rt; seen.first.as_slice(), &[0x1_0000_0002, 0, 0, 0, 7][..]);
-    assert_eq!(rt;
-        seen.second.as_slice(),
-        &[
-            0x1f_0000_0001,
-            0x1_0002_0000_0004,
-            5,
-            0,
-            0x1_0000_002e,
-            0x22,
-            0x1_0000_0000,
-        ][..]
+    assert!(rt; seen.place?.start.segment == 1);
+    assert!(rt; seen.first.as_slice() == &[0x1_0000_0002, 0, 0, 0, 7][..]);
+    assert!(rt;
+        seen.second.as_slice()
+            == &[
+                0x1f_0000_0001,
+                0x1_0002_0000_0004,
+                5,
+                0,
+                0x1_0000_002e,
+                0x22,
+                0x1_0000_0000,
+            ][..]
     );
     Ok(())
 }
@@ -158,10 +155,9 @@ fn a_list_is_widened_in_another_segment(rt: HostRuntime) -> std::result::Result<
 fn a_list_of_bytes_is_widened(rt: HostRuntime) -> std::result::Result<(), Fail> {
     let segments: [&[u64]; 1] = [&[0x1a_0000_0001, 0x3_0201]];
     let seen = seen(rt.alloc(), handing_out(rt, 1, 0, 7), &segments[..], 1, 1)?;
-    assert_eq!(rt; seen.place?.count, 3);
-    assert_eq!(rt;
-        seen.first.as_slice(),
-        &[0x37_0000_0005, 0, 0x1_0001_0000_000c, 1, 0, 2, 0, 3, 0][..]
+    assert!(rt; seen.place?.count == 3);
+    assert!(rt;
+        seen.first.as_slice() == &[0x37_0000_0005, 0, 0x1_0001_0000_000c, 1, 0, 2, 0, 3, 0][..]
     );
     Ok(())
 }
@@ -171,23 +167,23 @@ fn a_list_of_bytes_is_widened(rt: HostRuntime) -> std::result::Result<(), Fail> 
 fn a_list_of_pointers_is_widened(rt: HostRuntime) -> std::result::Result<(), Fail> {
     let segments: [&[u64]; 1] = [&[0x1e_0000_0001, 0, 0x1_0000_0004, 0x5_0000_0003, 7]];
     let seen = seen(rt.alloc(), handing_out(rt, 1, 0, 7), &segments[..], 1, 0)?;
-    assert_eq!(rt; seen.place?.pointers, 1);
-    assert_eq!(rt;
-        seen.first.as_slice(),
-        &[
-            0x37_0000_0011,
-            0,
-            0,
-            0,
-            7,
-            0x1_0001_0000_000c,
-            0,
-            0,
-            0,
-            0x1_ffff_ffe8,
-            0,
-            0x5_0000_0003,
-        ][..]
+    assert!(rt; seen.place?.pointers == 1);
+    assert!(rt;
+        seen.first.as_slice()
+            == &[
+                0x37_0000_0011,
+                0,
+                0,
+                0,
+                7,
+                0x1_0001_0000_000c,
+                0,
+                0,
+                0,
+                0x1_ffff_ffe8,
+                0,
+                0x5_0000_0003,
+            ][..]
     );
     Ok(())
 }
@@ -197,21 +193,15 @@ fn a_list_of_pointers_is_widened(rt: HostRuntime) -> std::result::Result<(), Fai
 fn a_list_of_voids_is_widened(rt: HostRuntime) -> std::result::Result<(), Fail> {
     let few: [&[u64]; 1] = [&[0x10_0000_0001]];
     let two = seen(rt.alloc(), handing_out(rt, 1, 0, 3), &few[..], 1, 0)?;
-    assert_eq!(rt; two.place?.count, 2);
-    assert_eq!(rt;
-        two.first.as_slice(),
-        &[0x17_0000_0001, 0x1_0000_0008, 0, 0][..]
-    );
+    assert!(rt; two.place?.count == 2);
+    assert!(rt; two.first.as_slice() == &[0x17_0000_0001, 0x1_0000_0008, 0, 0][..]);
     let most: [&[u64]; 1] = [&[0xffff_fff8_0000_0001]];
     let empty = seen(rt.alloc(), handing_out(rt, 1, 0, 1), &most[..], 0, 0)?;
-    assert_eq!(rt; empty.place?.count, 0x1fff_ffff);
-    assert_eq!(rt; empty.first.as_slice(), &[0x7_0000_0001, 0x7fff_fffc][..]);
+    assert!(rt; empty.place?.count == 0x1fff_ffff);
+    assert!(rt; empty.first.as_slice() == &[0x7_0000_0001, 0x7fff_fffc][..]);
     let refused = seen(rt.alloc(), handing_out(rt, 1, 0, 9), &most[..], 1, 0)?;
-    assert_eq!(rt;
-        refused.place.err(),
-        Some(Error::from(ErrorKind::SizeOverflow))
-    );
-    assert_eq!(rt; refused.first.as_slice(), most[0]);
+    assert!(rt; refused.place.err() == Some(Error::from(ErrorKind::SizeOverflow)));
+    assert!(rt; refused.first.as_slice() == most[0]);
     Ok(())
 }
 
@@ -220,12 +210,12 @@ fn a_wide_list_and_null_stay(rt: HostRuntime) -> std::result::Result<(), Fail> {
     let wide: [&[u64]; 1] = [&[0x17_0000_0001, 0x1_0001_0000_0004, 5, 0]];
     let stays = seen(rt.alloc(), handing_out(rt, 1, 0, 9), &wide[..], 0, 1)?;
     let place = stays.place?;
-    assert_eq!(rt; (place.data_words, place.pointers), (1, 1));
-    assert_eq!(rt; stays.first.as_slice(), wide[0]);
+    assert!(rt; (place.data_words, place.pointers) == (1, 1));
+    assert!(rt; stays.first.as_slice() == wide[0]);
     let null: [&[u64]; 1] = [&[0]];
     let empty = seen(rt.alloc(), handing_out(rt, 1, 0, 9), &null[..], 1, 1)?;
-    assert_eq!(rt; empty.place?.count, 0);
-    assert_eq!(rt; empty.first.as_slice(), null[0]);
+    assert!(rt; empty.place?.count == 0);
+    assert!(rt; empty.first.as_slice() == null[0]);
     Ok(())
 }
 
@@ -234,20 +224,14 @@ fn a_wide_list_and_null_stay(rt: HostRuntime) -> std::result::Result<(), Fail> {
 fn a_refusal_leaves_all(rt: HostRuntime) -> std::result::Result<(), Fail> {
     let narrow: [&[u64]; 1] = [&[0x17_0000_0001, 0x1_0001_0000_0004, 5, 0x1_0000_0000, 7]];
     let full = seen(rt.alloc(), handing_out(rt, 1, 1, 0), &narrow[..], 1, 2)?;
-    assert_eq!(rt; full.place.err(), Some(Error::from(ErrorKind::OutOfMemory)));
-    assert_eq!(rt; full.first.as_slice(), narrow[0]);
+    assert!(rt; full.place.err() == Some(Error::from(ErrorKind::OutOfMemory)));
+    assert!(rt; full.first.as_slice() == narrow[0]);
     let bits: [&[u64]; 1] = [&[0x19_0000_0001, 5]];
     let refused = seen(rt.alloc(), handing_out(rt, 1, 0, 9), &bits[..], 1, 0)?;
-    assert_eq!(rt;
-        refused.place.err(),
-        Some(Error::from(ErrorKind::WrongElementSize))
-    );
-    assert_eq!(rt; refused.first.as_slice(), bits[0]);
+    assert!(rt; refused.place.err() == Some(Error::from(ErrorKind::WrongElementSize)));
+    assert!(rt; refused.first.as_slice() == bits[0]);
     let other: [&[u64]; 1] = [&[0x1_0000_0000, 7]];
     let kind = seen(rt.alloc(), handing_out(rt, 1, 0, 9), &other[..], 1, 0)?;
-    assert_eq!(rt;
-        kind.place.err(),
-        Some(Error::from(ErrorKind::WrongPointerKind))
-    );
+    assert!(rt; kind.place.err() == Some(Error::from(ErrorKind::WrongPointerKind)));
     Ok(())
 }

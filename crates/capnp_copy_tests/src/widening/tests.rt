@@ -161,12 +161,9 @@ pub(crate) fn handing_out(rt: HostRuntime, left: u32, roomy: u32, room: u32) -> 
 fn a_near_struct_is_widened(rt: HostRuntime) -> std::result::Result<(), Fail> {
     let segments: [&[u64]; 1] = [&[0x1_0001_0000_0000, 7, 0x1_0000_0000, 8]];
     let seen = seen(rt.alloc(), handing_out(rt, 1, 0, 3), &segments[..], 2, 1)?;
-    assert_eq!(rt; seen.place?.start.position, 4);
-    assert_eq!(rt;
-        seen.first.as_slice(),
-        &[0x1_0002_0000_000c, 0, 0, 8, 7, 0, 0x1_ffff_fff0][..]
-    );
-    assert_eq!(rt; seen.read?, (7, 8));
+    assert!(rt; seen.place?.start.position == 4);
+    assert!(rt; seen.first.as_slice() == &[0x1_0002_0000_000c, 0, 0, 8, 7, 0, 0x1_ffff_fff0][..]);
+    assert!(rt; seen.read? == (7, 8));
     Ok(())
 }
 
@@ -175,13 +172,12 @@ fn a_near_struct_is_widened(rt: HostRuntime) -> std::result::Result<(), Fail> {
 fn a_far_struct_is_widened_in_its_segment(rt: HostRuntime) -> std::result::Result<(), Fail> {
     let segments: [&[u64]; 2] = [&[0x1_0000_0002], &[0x1_0001_0000_0000, 7, 0x1_0000_0000, 8]];
     let seen = seen(rt.alloc(), handing_out(rt, 2, 1, 4), &segments[..], 2, 1)?;
-    assert_eq!(rt; seen.place?.start.position, 5);
-    assert_eq!(rt; seen.first.as_slice(), &[0x1_0000_0022][..]);
-    assert_eq!(rt;
-        seen.second.as_slice(),
-        &[0, 0, 0, 8, 0x1_0002_0000_0000, 7, 0, 0x1_ffff_ffec][..]
+    assert!(rt; seen.place?.start.position == 5);
+    assert!(rt; seen.first.as_slice() == &[0x1_0000_0022][..]);
+    assert!(rt;
+        seen.second.as_slice() == &[0, 0, 0, 8, 0x1_0002_0000_0000, 7, 0, 0x1_ffff_ffec][..]
     );
-    assert_eq!(rt; seen.read?, (7, 8));
+    assert!(rt; seen.read? == (7, 8));
     Ok(())
 }
 
@@ -190,13 +186,13 @@ fn a_far_struct_is_widened_in_its_segment(rt: HostRuntime) -> std::result::Resul
 fn a_struct_is_widened_in_another_segment(rt: HostRuntime) -> std::result::Result<(), Fail> {
     let segments: [&[u64]; 1] = [&[0x1_0001_0000_0000, 7, 0x1_0000_0000, 8]];
     let seen = seen(rt.alloc(), handing_out(rt, 2, 1, 0), &segments[..], 2, 1)?;
-    assert_eq!(rt; seen.place?.start.segment, 1);
-    assert_eq!(rt; seen.first.as_slice(), &[0x1_0000_0002, 0, 0, 8][..]);
-    assert_eq!(rt;
-        seen.second.as_slice(),
-        &[0x1_0002_0000_0000, 7, 0, 0x1_0000_0026, 0x1a, 0x1_0000_0000][..]
+    assert!(rt; seen.place?.start.segment == 1);
+    assert!(rt; seen.first.as_slice() == &[0x1_0000_0002, 0, 0, 8][..]);
+    assert!(rt;
+        seen.second.as_slice()
+            == &[0x1_0002_0000_0000, 7, 0, 0x1_0000_0026, 0x1a, 0x1_0000_0000][..]
     );
-    assert_eq!(rt; seen.read?, (7, 8));
+    assert!(rt; seen.read? == (7, 8));
     Ok(())
 }
 
@@ -213,22 +209,22 @@ fn each_kind_of_pointer_moves(rt: HostRuntime) -> std::result::Result<(), Fail> 
     ]];
     let seen = seen(rt.alloc(), handing_out(rt, 1, 0, 5), &segments[..], 1, 2)?;
     let place = seen.place?;
-    assert_eq!(rt; (place.data_words, place.pointers), (1, 4));
-    assert_eq!(rt;
-        seen.first.as_slice(),
-        &[
-            0x4_0001_0000_0014,
-            0,
-            0,
-            0,
-            0,
-            0x3_0201,
-            0,
-            0,
-            0x5_0000_0003,
-            0xffff_fffc,
-            0x1a_ffff_ffe9,
-        ][..]
+    assert!(rt; (place.data_words, place.pointers) == (1, 4));
+    assert!(rt;
+        seen.first.as_slice()
+            == &[
+                0x4_0001_0000_0014,
+                0,
+                0,
+                0,
+                0,
+                0x3_0201,
+                0,
+                0,
+                0x5_0000_0003,
+                0xffff_fffc,
+                0x1a_ffff_ffe9,
+            ][..]
     );
     Ok(())
 }
@@ -237,11 +233,11 @@ fn each_kind_of_pointer_moves(rt: HostRuntime) -> std::result::Result<(), Fail> 
 fn a_wide_struct_stays_and_null_gets_one(rt: HostRuntime) -> std::result::Result<(), Fail> {
     let wide: [&[u64]; 1] = [&[0x1_0001_0000_0000, 7, 0x1_0000_0000, 8]];
     let stays = seen(rt.alloc(), handing_out(rt, 1, 0, 9), &wide[..], 1, 0)?;
-    assert_eq!(rt; stays.place?.pointers, 1);
-    assert_eq!(rt; stays.first.as_slice(), wide[0]);
+    assert!(rt; stays.place?.pointers == 1);
+    assert!(rt; stays.first.as_slice() == wide[0]);
     let null: [&[u64]; 1] = [&[0]];
     let new = seen(rt.alloc(), handing_out(rt, 1, 0, 2), &null[..], 1, 1)?;
-    assert_eq!(rt; new.first.as_slice(), &[0x1_0001_0000_0000, 0, 0][..]);
+    assert!(rt; new.first.as_slice() == &[0x1_0001_0000_0000, 0, 0][..]);
     Ok(())
 }
 
@@ -250,19 +246,13 @@ fn a_wide_struct_stays_and_null_gets_one(rt: HostRuntime) -> std::result::Result
 fn a_refusal_leaves_all(rt: HostRuntime) -> std::result::Result<(), Fail> {
     let narrow: [&[u64]; 1] = [&[0x1_0001_0000_0000, 7, 0x1_0000_0000, 8]];
     let refused = seen(rt.alloc(), handing_out(rt, 1, 1, 0), &narrow[..], 2, 1)?;
-    assert_eq!(rt;
-        refused.place.err(),
-        Some(Error::from(ErrorKind::OutOfMemory))
-    );
-    assert_eq!(rt; refused.first.as_slice(), narrow[0]);
+    assert!(rt; refused.place.err() == Some(Error::from(ErrorKind::OutOfMemory)));
+    assert!(rt; refused.first.as_slice() == narrow[0]);
     let list: [&[u64]; 1] = [&[0x1a_0000_0001, 0x3_0201]];
     let other = seen(rt.alloc(), handing_out(rt, 1, 0, 9), &list[..], 0, 0)?;
-    assert_eq!(rt;
-        other.place.err(),
-        Some(Error::from(ErrorKind::WrongPointerKind))
-    );
+    assert!(rt; other.place.err() == Some(Error::from(ErrorKind::WrongPointerKind)));
     let outside: [&[u64]; 1] = [&[0x1_0000_0000]];
     let gone = seen(rt.alloc(), handing_out(rt, 1, 1, 0), &outside[..], 1, 1)?;
-    assert_eq!(rt; gone.place.err(), Some(Error::from(ErrorKind::OutOfBounds)));
+    assert!(rt; gone.place.err() == Some(Error::from(ErrorKind::OutOfBounds)));
     Ok(())
 }
