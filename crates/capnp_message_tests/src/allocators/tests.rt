@@ -58,13 +58,13 @@ fn is_zero(bytes: &[u8]) -> bool {
 #[test]
 fn a_slice_is_opened_with_its_words(rt: HostRuntime) -> std::result::Result<(), Fail> {
     let mut bytes = [5u8; 23];
-    assert_eq!(rt; written_in(rt.alloc(), &mut bytes, 2), Some((23, 2, 5)));
+    assert!(rt; written_in(rt.alloc(), &mut bytes, 2) == Some((23, 2, 5)));
     assert!(rt; is_zero(&bytes));
     let mut bytes = [5u8; 23];
-    assert_eq!(rt; written_in(rt.alloc(), &mut bytes, 0), None);
+    assert!(rt; written_in(rt.alloc(), &mut bytes, 0) == None);
     assert!(rt; is_zero(&bytes));
     let mut bytes = [5u8; 23];
-    assert_eq!(rt; only_opened(rt.alloc(), &mut bytes, 2), false);
+    assert!(rt; !only_opened(rt.alloc(), &mut bytes, 2));
     assert!(rt; is_zero(&bytes));
     Ok(())
 }

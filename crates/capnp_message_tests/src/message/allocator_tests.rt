@@ -184,15 +184,15 @@ fn texts_are_built_on_the_heap(rt: HostRuntime) -> std::result::Result<(), Fail>
     let mut heap = HeapAllocator::new(rt.alloc());
     let (first, second) = messages(rt.alloc(), &mut heap, Root::Text(HELLO), Root::Text(b""));
     let first = first?;
-    assert_eq!(rt; first.text.as_deref(), Some(HELLO));
-    assert_eq!(rt; first.segments, 1);
-    assert_eq!(rt; first.words, 3);
-    assert_eq!(rt; first.framed.len(), 32);
-    assert_eq!(rt; first.framed_words, 4);
+    assert!(rt; first.text.as_deref() == Some(HELLO));
+    assert!(rt; first.segments == 1);
+    assert!(rt; first.words == 3);
+    assert!(rt; first.framed.len() == 32);
+    assert!(rt; first.framed_words == 4);
     let second = second?;
-    assert_eq!(rt; second.text.as_deref(), Some(&b""[..]));
-    assert_eq!(rt; second.segments, 1);
-    assert_eq!(rt; second.words, 2);
+    assert!(rt; second.text.as_deref() == Some(&b""[..]));
+    assert!(rt; second.segments == 1);
+    assert!(rt; second.words == 2);
     Ok(())
 }
 
@@ -205,11 +205,8 @@ fn heap_segments_are_as_large_as_is_set(rt: HostRuntime) -> std::result::Result<
         .max_segment_words(1);
     let (first, second) = messages(rt.alloc(), &mut heap, TWO_WORDS, TWO_WORDS);
     let (first, second) = (first?, second?);
-    assert_eq!(rt; (first.segments, first.words, first.last_words), (2, 4, 3));
-    assert_eq!(rt;
-        (second.segments, second.words, second.last_words),
-        (2, 4, 3)
-    );
+    assert!(rt; (first.segments, first.words, first.last_words) == (2, 4, 3));
+    assert!(rt; (second.segments, second.words, second.last_words) == (2, 4, 3));
     Ok(())
 }
 
@@ -220,25 +217,22 @@ fn a_lent_slice_is_the_first_segment(rt: HostRuntime) -> std::result::Result<(),
     let region = &mut bytes[..];
     let (first, second) = over_scratch(rt.alloc(), region, Root::Text(HELLO), TWO_WORDS);
     let (first, second) = (first?, second?);
-    assert_eq!(rt; first.text.as_deref(), Some(HELLO));
-    assert_eq!(rt; (first.segments, first.words), (1, 3));
-    assert_eq!(rt; (second.segments, second.words), (1, 3));
+    assert!(rt; first.text.as_deref() == Some(HELLO));
+    assert!(rt; (first.segments, first.words) == (1, 3));
+    assert!(rt; (second.segments, second.words) == (1, 3));
     assert!(rt; is_zero(&bytes));
     let mut bytes = [0xeeu8; 23];
     let region = &mut bytes[..];
     let (first, second) = over_scratch(rt.alloc(), region, Root::Text(HELLO), TWO_WORDS);
     let (first, second) = (first?, second?);
-    assert_eq!(rt; first.text.as_deref(), Some(HELLO));
-    assert_eq!(rt; (first.segments, first.words, first.last_words), (2, 4, 3));
-    assert_eq!(rt;
-        (second.segments, second.words, second.last_words),
-        (2, 4, 3)
-    );
+    assert!(rt; first.text.as_deref() == Some(HELLO));
+    assert!(rt; (first.segments, first.words, first.last_words) == (2, 4, 3));
+    assert!(rt; (second.segments, second.words, second.last_words) == (2, 4, 3));
     assert!(rt; is_zero(&bytes));
     let mut bytes = [0xeeu8; 16];
     let (first, second) = over_scratch(rt.alloc(), &mut bytes, TWO_WORDS, TWO_WORDS);
-    assert_eq!(rt; first?.framed_words, 6);
-    assert_eq!(rt; second?.packed.as_slice(), TWO_SEGMENTS_PACKED.as_slice());
+    assert!(rt; first?.framed_words == 6);
+    assert!(rt; second?.packed.as_slice() == TWO_SEGMENTS_PACKED.as_slice());
     assert!(rt; is_zero(&bytes));
     Ok(())
 }
@@ -247,8 +241,8 @@ fn a_lent_slice_is_the_first_segment(rt: HostRuntime) -> std::result::Result<(),
 fn a_slice_without_a_word_isnt_used(rt: HostRuntime) -> std::result::Result<(), Fail> {
     let mut bytes = [0xeeu8; 7];
     let (first, second) = over_scratch(rt.alloc(), &mut bytes, Root::Text(HELLO), TWO_WORDS);
-    assert_eq!(rt; first?.segments, 1);
-    assert_eq!(rt; second?.segments, 1);
+    assert!(rt; first?.segments == 1);
+    assert!(rt; second?.segments == 1);
     assert!(rt; is_zero(&bytes));
     Ok(())
 }
@@ -259,20 +253,20 @@ fn a_single_segment_has_no_second(rt: HostRuntime) -> std::result::Result<(), Fa
     let full = Error::from(ErrorKind::BufferNotLargeEnough);
     let mut bytes = [0xeeu8; 31];
     let (first, second) = over_slice(rt.alloc(), &mut bytes, Root::Text(HELLO), TWO_WORDS);
-    assert_eq!(rt; first?.text.as_deref(), Some(HELLO));
-    assert_eq!(rt; second?.words, 3);
+    assert!(rt; first?.text.as_deref() == Some(HELLO));
+    assert!(rt; second?.words == 3);
     assert!(rt; is_zero(&bytes));
     let mut bytes = [0xeeu8; 23];
     let (first, second) = over_slice(rt.alloc(), &mut bytes, Root::Text(HELLO), Root::Text(b"hi"));
-    assert_eq!(rt; first.err(), Some(full));
+    assert!(rt; first.err() == Some(full));
     let second = second?;
-    assert_eq!(rt; second.text.as_deref(), Some(&b"hi"[..]));
-    assert_eq!(rt; second.words, 2);
+    assert!(rt; second.text.as_deref() == Some(&b"hi"[..]));
+    assert!(rt; second.words == 2);
     assert!(rt; is_zero(&bytes));
     let mut bytes = [0xeeu8; 7];
     let (first, second) = over_slice(rt.alloc(), &mut bytes, Root::Text(b""), Root::Text(b""));
-    assert_eq!(rt; first.err(), Some(full));
-    assert_eq!(rt; second.err(), Some(full));
+    assert!(rt; first.err() == Some(full));
+    assert!(rt; second.err() == Some(full));
     assert!(rt; is_zero(&bytes));
     Ok(())
 }

@@ -70,17 +70,17 @@ fn options(words: Option<usize>, levels: i32) -> ReaderOptions {
 #[test]
 fn messages_are_made_canonical(rt: HostRuntime) -> std::result::Result<(), Fail> {
     let wide = look_at(rt.alloc(), &[&WIDE], DEFAULT_READER_OPTIONS);
-    assert_eq!(rt; wide.canonical?, false);
+    assert!(rt; !wide.canonical?);
     let mut words = Vec::from_slice(rt.alloc(), &WIDE[..24])?;
     words[4] = 2;
-    assert_eq!(rt; wide.words?, words);
-    assert_eq!(rt; wide.paid, 3);
+    assert!(rt; wide.words? == words);
+    assert!(rt; wide.paid == 3);
     let again = look_at(rt.alloc(), &[&words], DEFAULT_READER_OPTIONS);
-    assert_eq!(rt; again.canonical?, true);
-    assert_eq!(rt; again.words?, words);
+    assert!(rt; again.canonical?);
+    assert!(rt; again.words? == words);
     let two = look_at(rt.alloc(), &[&TWO_POINTERS], DEFAULT_READER_OPTIONS);
-    assert_eq!(rt; two.canonical?, true);
-    assert_eq!(rt; two.words?.as_slice(), TWO_POINTERS.as_slice());
+    assert!(rt; two.canonical?);
+    assert!(rt; two.words?.as_slice() == TWO_POINTERS.as_slice());
     Ok(())
 }
 
@@ -90,9 +90,9 @@ fn segments_become_one(rt: HostRuntime) -> std::result::Result<(), Fail> {
     let first = [2u8, 0, 0, 0, 1, 0, 0, 0];
     let second = [0u8, 0, 0, 0, 1, 0, 0, 0, 0, 1, 2, 3, 4, 5, 6, 7];
     let both = look_at(rt.alloc(), &[&first, &second], DEFAULT_READER_OPTIONS);
-    assert_eq!(rt; both.canonical?, false);
-    assert_eq!(rt; both.words?.as_slice(), second.as_slice());
-    assert_eq!(rt; both.paid, 2);
+    assert!(rt; !both.canonical?);
+    assert!(rt; both.words?.as_slice() == second.as_slice());
+    assert!(rt; both.paid == 2);
     Ok(())
 }
 
@@ -119,20 +119,20 @@ fn limits_are_kept(rt: HostRuntime) -> std::result::Result<(), Fail> {
     let nested = Some(ErrorKind::NestingLimitExceeded);
     let dear = Some(ErrorKind::ReadLimitExceeded);
     let kinds = refusals(rt.alloc(), &[&WIDE], options(Some(9), -1));
-    assert_eq!(rt; kinds, (nested, nested));
+    assert!(rt; kinds == (nested, nested));
     let kinds = refusals(rt.alloc(), &[&WIDE], options(Some(9), 0));
-    assert_eq!(rt; kinds, (nested, nested));
+    assert!(rt; kinds == (nested, nested));
     let kinds = refusals(rt.alloc(), &[&WIDE], options(Some(3), 1));
-    assert_eq!(rt; kinds, (None, None));
+    assert!(rt; kinds == (None, None));
     let kinds = refusals(rt.alloc(), &[&WIDE], options(Some(2), 1));
-    assert_eq!(rt; kinds, (dear, dear));
+    assert!(rt; kinds == (dear, dear));
     let kinds = refusals(rt.alloc(), &[], options(Some(9), 1));
     let none = Some(ErrorKind::OutOfBounds);
-    assert_eq!(rt; kinds, (none, none));
+    assert!(rt; kinds == (none, none));
     let kinds = refusals(rt.alloc(), &[&CAPABILITY], options(None, 64));
-    assert_eq!(rt; kinds, (None, Some(ErrorKind::CapabilityInCanonical)));
+    assert!(rt; kinds == (None, Some(ErrorKind::CapabilityInCanonical)));
     let kinds = refusals(rt.alloc(), &[&VOIDS], options(Some(9), 64));
-    assert_eq!(rt; kinds, (dear, dear));
+    assert!(rt; kinds == (dear, dear));
     Ok(())
 }
 
@@ -144,6 +144,6 @@ fn the_options_bound_the_words(rt: HostRuntime) -> std::result::Result<(), Fail>
     let mut limiter = ReadLimiter::new(None);
     let refused = message.canonicalize(rt.alloc(), &mut limiter);
     let kind = refused.err().ok_or("given")?.kind;
-    assert_eq!(rt; kind, ErrorKind::BufferNotLargeEnough);
+    assert!(rt; kind == ErrorKind::BufferNotLargeEnough);
     Ok(())
 }

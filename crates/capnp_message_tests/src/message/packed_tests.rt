@@ -27,17 +27,17 @@ fn number<S: ReaderSegments>(message: &Reader<S>) -> Result<u64> {
 fn packed_messages_are_read_one_by_one(rt: HostRuntime) -> std::result::Result<(), Fail> {
     let mut source = &TWO[..];
     let first = read_message(rt.alloc(), &mut source, DEFAULT_READER_OPTIONS)?;
-    assert_eq!(rt; number(&first)?, 7);
-    assert_eq!(rt; source, &TWO[6..]);
+    assert!(rt; number(&first)? == 7);
+    assert!(rt; source == &TWO[6..]);
     let second = try_read_message(rt.alloc(), &mut source, DEFAULT_READER_OPTIONS)?;
     let second = second.ok_or("no second")?;
-    assert_eq!(rt; number(&second)?, 0);
-    assert_eq!(rt; second.size_in_words(), 1);
+    assert!(rt; number(&second)? == 0);
+    assert!(rt; second.size_in_words() == 1);
     assert!(rt; try_read_message(rt.alloc(), &mut source, DEFAULT_READER_OPTIONS)?.is_none());
     let mut out = Vec::new(rt.alloc());
     write_message_segments(rt.alloc(), &mut out, first.get_segments())?;
     write_message_segments(rt.alloc(), &mut out, second.get_segments())?;
-    assert_eq!(rt; out.as_slice(), TWO.as_slice());
+    assert!(rt; out.as_slice() == TWO.as_slice());
     Ok(())
 }
 
@@ -46,13 +46,10 @@ fn packed_messages_are_read_without_memory(rt: HostRuntime) -> std::result::Resu
     let mut source = &TWO[..];
     let mut buffer = [0u8; 24];
     let first = read_message_no_alloc(&mut source, &mut buffer, DEFAULT_READER_OPTIONS)?;
-    assert_eq!(rt; number(&first)?, 7);
+    assert!(rt; number(&first)? == 7);
     let mut buffer = [0u8; 15];
     let short = try_read_message_no_alloc(&mut source, &mut buffer, DEFAULT_READER_OPTIONS);
-    assert_eq!(rt;
-        short.err(),
-        Some(Error::from(ErrorKind::BufferNotLargeEnough))
-    );
+    assert!(rt; short.err() == Some(Error::from(ErrorKind::BufferNotLargeEnough)));
     Ok(())
 }
 
@@ -67,19 +64,13 @@ fn refusal(alloc: Global, bytes: &[u8], options: ReaderOptions) -> Option<ErrorK
 fn bytes_that_are_no_packed_message_are_refused(rt: HostRuntime) -> std::result::Result<(), Fail> {
     let options = DEFAULT_READER_OPTIONS;
     let cut = refusal(rt.alloc(), &[0xf0, 1, 2], options);
-    assert_eq!(rt; cut, Some(ErrorKind::PrematureEndOfPackedInput));
+    assert!(rt; cut == Some(ErrorKind::PrematureEndOfPackedInput));
     let run = refusal(rt.alloc(), &[0, 1], options);
     let uneven = ErrorKind::PackedInputDidNotEndCleanlyOnASegmentBoundary;
-    assert_eq!(rt; run, Some(uneven));
+    assert!(rt; run == Some(uneven));
     let mut few = options;
     few.traversal_limit_in_words(Some(1));
-    assert_eq!(rt;
-        refusal(rt.alloc(), &TWO, few),
-        Some(ErrorKind::MessageTooLarge)
-    );
-    assert_eq!(rt;
-        refusal(rt.alloc(), &[], options),
-        Some(ErrorKind::PrematureEndOfFile)
-    );
+    assert!(rt; refusal(rt.alloc(), &TWO, few) == Some(ErrorKind::MessageTooLarge));
+    assert!(rt; refusal(rt.alloc(), &[], options) == Some(ErrorKind::PrematureEndOfFile));
     Ok(())
 }

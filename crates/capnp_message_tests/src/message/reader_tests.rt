@@ -80,18 +80,15 @@ fn number<S: ReaderSegments>(message: &Reader<S>) -> Result<u64> {
 
 #[test]
 fn options_are_set(rt: HostRuntime) -> std::result::Result<(), Fail> {
-    assert_eq!(rt;
-        ReaderOptions::new().traversal_limit_in_words,
-        Some(8_388_608)
-    );
-    assert_eq!(rt; ReaderOptions::new().nesting_limit, 64);
+    assert!(rt; ReaderOptions::new().traversal_limit_in_words == Some(8_388_608));
+    assert!(rt; ReaderOptions::new().nesting_limit == 64);
     assert!(rt; ReaderOptions::default() == DEFAULT_READER_OPTIONS);
     let few = options(Some(10), 3);
-    assert_eq!(rt; few.traversal_limit_in_words, Some(10));
-    assert_eq!(rt; few.nesting_limit, 3);
+    assert!(rt; few.traversal_limit_in_words == Some(10));
+    assert!(rt; few.nesting_limit == 3);
     assert!(rt; chained(Some(10), 3) == few);
-    assert_eq!(rt; boundless().traversal_limit_in_words, None);
-    assert_eq!(rt; boundless().nesting_limit, 64);
+    assert!(rt; boundless().traversal_limit_in_words == None);
+    assert!(rt; boundless().nesting_limit == 64);
     let mut limiter = few.read_limiter();
     assert!(rt; limiter.charge(10).is_ok());
     assert!(rt; limiter.charge(1).is_err());
@@ -103,22 +100,19 @@ fn options_are_set(rt: HostRuntime) -> std::result::Result<(), Fail> {
 fn roots_are_read_under_the_limits(rt: HostRuntime) -> std::result::Result<(), Fail> {
     let segments = [&DATA[8..24]];
     let message = Reader::new(SegmentArray::new(&segments), DEFAULT_READER_OPTIONS);
-    assert_eq!(rt; holds_data(&message, b"hi")?, true);
-    assert_eq!(rt; message.size_in_words(), 2);
-    assert_eq!(rt; message.get_segments().len(), 1);
+    assert!(rt; holds_data(&message, b"hi")?);
+    assert!(rt; message.size_in_words() == 2);
+    assert!(rt; message.get_segments().len() == 1);
     let mut none = ReadLimiter::new(Some(0));
     let refused: Result<&[u8]> = message.get_root(&mut none);
-    assert_eq!(rt;
-        refused.err(),
-        Some(Error::from(ErrorKind::ReadLimitExceeded))
-    );
+    assert!(rt; refused.err() == Some(Error::from(ErrorKind::ReadLimitExceeded)));
     let flat = Reader::new(message.into_segments(), options(None, 0));
     let refused = holds_data(&flat, b"hi").err();
-    assert_eq!(rt; refused, Some(Error::from(ErrorKind::NestingLimitExceeded)));
+    assert!(rt; refused == Some(Error::from(ErrorKind::NestingLimitExceeded)));
     let empty = Reader::new(SegmentArray::new(&[]), DEFAULT_READER_OPTIONS);
     let refused = holds_data(&empty, b"").err();
-    assert_eq!(rt; refused, Some(Error::from(ErrorKind::OutOfBounds)));
-    assert_eq!(rt; empty.size_in_words(), 0);
+    assert!(rt; refused == Some(Error::from(ErrorKind::OutOfBounds)));
+    assert!(rt; empty.size_in_words() == 0);
     Ok(())
 }
 
@@ -136,9 +130,9 @@ fn a_typed_root_is_read(rt: HostRuntime) -> std::result::Result<(), Fail> {
     let message = Reader::new(SegmentArray::new(&segments), DEFAULT_READER_OPTIONS);
     let typed = message.into_typed::<Bytes>();
     let mut limiter = ReadLimiter::new(Some(1));
-    assert_eq!(rt; typed.get(&mut limiter)?, &b"hi"[..]);
-    assert_eq!(rt; limiter.granted(), 1);
-    assert_eq!(rt; typed.get_segments().len(), 1);
+    assert!(rt; typed.get(&mut limiter)? == &b"hi"[..]);
+    assert!(rt; limiter.granted() == 1);
+    assert!(rt; typed.get_segments().len() == 1);
     let again: TypedReader<_, Bytes> = TypedReader::from(typed.into_inner());
     assert!(rt; again.get(&mut limiter).is_err());
     Ok(())
@@ -151,18 +145,15 @@ fn messages_are_read_from_streams(rt: HostRuntime) -> std::result::Result<(), Fa
     bytes.extend_from_slice(&DATA[..24])?;
     let mut source = bytes.as_slice();
     let first = read_message(rt.alloc(), &mut source, DEFAULT_READER_OPTIONS)?;
-    assert_eq!(rt; first.get_segments().len(), 2);
-    assert_eq!(rt; first.size_in_words(), 3);
-    assert_eq!(rt; number(&first)?, 7);
+    assert!(rt; first.get_segments().len() == 2);
+    assert!(rt; first.size_in_words() == 3);
+    assert!(rt; number(&first)? == 7);
     let second = try_read_message(rt.alloc(), &mut source, DEFAULT_READER_OPTIONS)?;
     let second = second.ok_or("no second")?;
-    assert_eq!(rt; holds_data(&second, b"hi")?, true);
+    assert!(rt; holds_data(&second, b"hi")?);
     assert!(rt; try_read_message(rt.alloc(), &mut source, DEFAULT_READER_OPTIONS)?.is_none());
     let none = read_message(rt.alloc(), &mut source, DEFAULT_READER_OPTIONS);
-    assert_eq!(rt;
-        none.err(),
-        Some(Error::from(ErrorKind::PrematureEndOfFile))
-    );
+    assert!(rt; none.err() == Some(Error::from(ErrorKind::PrematureEndOfFile)));
     Ok(())
 }
 
@@ -171,14 +162,11 @@ fn messages_are_read_without_memory(rt: HostRuntime) -> std::result::Result<(), 
     let mut buffer = [0u8; 40];
     let mut source = &FAR[..];
     let first = read_message_no_alloc(&mut source, &mut buffer, DEFAULT_READER_OPTIONS)?;
-    assert_eq!(rt; number(&first)?, 7);
+    assert!(rt; number(&first)? == 7);
     let mut source = &FAR[..];
     let mut short = [0u8; 39];
     let refused = try_read_message_no_alloc(&mut source, &mut short, DEFAULT_READER_OPTIONS);
-    assert_eq!(rt;
-        refused.err(),
-        Some(Error::from(ErrorKind::BufferNotLargeEnough))
-    );
+    assert!(rt; refused.err() == Some(Error::from(ErrorKind::BufferNotLargeEnough)));
     let mut none: &[u8] = &[];
     let mut buffer = [0u8; 8];
     let end = try_read_message_no_alloc(&mut none, &mut buffer, DEFAULT_READER_OPTIONS)?;
@@ -190,23 +178,17 @@ fn messages_are_read_without_memory(rt: HostRuntime) -> std::result::Result<(), 
 fn messages_are_lent_from_slices(rt: HostRuntime) -> std::result::Result<(), Fail> {
     let mut slice = &DATA[..];
     let message = read_message_from_flat_slice(rt.alloc(), &mut slice, DEFAULT_READER_OPTIONS)?;
-    assert_eq!(rt; holds_data(&message, b"hi")?, true);
-    assert_eq!(rt; slice, &[0xee][..]);
+    assert!(rt; holds_data(&message, b"hi")?);
+    assert!(rt; slice == &[0xee][..]);
     let cut = read_message_from_flat_slice(rt.alloc(), &mut slice, DEFAULT_READER_OPTIONS);
-    assert_eq!(rt;
-        cut.err(),
-        Some(Error::from(ErrorKind::FailedToFillTheWholeBuffer))
-    );
-    assert_eq!(rt; slice, &[0xee][..]);
+    assert!(rt; cut.err() == Some(Error::from(ErrorKind::FailedToFillTheWholeBuffer)));
+    assert!(rt; slice == &[0xee][..]);
     let mut slice = &FAR[..];
     let message = read_message_from_flat_slice_no_alloc(&mut slice, DEFAULT_READER_OPTIONS)?;
-    assert_eq!(rt; number(&message)?, 7);
+    assert!(rt; number(&message)? == 7);
     assert!(rt; slice.is_empty());
     let cut = read_message_from_flat_slice_no_alloc(&mut &FAR[..39], DEFAULT_READER_OPTIONS);
-    assert_eq!(rt;
-        cut.err(),
-        Some(Error::from(ErrorKind::MessageEndsPrematurely))
-    );
+    assert!(rt; cut.err() == Some(Error::from(ErrorKind::MessageEndsPrematurely)));
     Ok(())
 }
 
@@ -220,16 +202,13 @@ fn refusal(alloc: Global, bytes: &[u8], words: Option<usize>) -> Option<ErrorKin
 #[test]
 fn bytes_that_are_no_message_are_refused(rt: HostRuntime) -> std::result::Result<(), Fail> {
     let cut = refusal(rt.alloc(), &[0; 4], None);
-    assert_eq!(rt; cut, Some(ErrorKind::FailedToFillTheWholeBuffer));
+    assert!(rt; cut == Some(ErrorKind::FailedToFillTheWholeBuffer));
     let many = refusal(rt.alloc(), &[0xff, 1, 0, 0, 0, 0, 0, 0], None);
-    assert_eq!(rt; many, Some(ErrorKind::InvalidNumberOfSegments));
+    assert!(rt; many == Some(ErrorKind::InvalidNumberOfSegments));
     let large = refusal(rt.alloc(), &DATA[..8], Some(1));
-    assert_eq!(rt; large, Some(ErrorKind::MessageTooLarge));
-    assert_eq!(rt; refusal(rt.alloc(), &DATA, Some(2)), None);
-    assert_eq!(rt;
-        refusal(rt.alloc(), &[], None),
-        Some(ErrorKind::PrematureEndOfFile)
-    );
+    assert!(rt; large == Some(ErrorKind::MessageTooLarge));
+    assert!(rt; refusal(rt.alloc(), &DATA, Some(2)) == None);
+    assert!(rt; refusal(rt.alloc(), &[], None) == Some(ErrorKind::PrematureEndOfFile));
     Ok(())
 }
 
@@ -241,11 +220,11 @@ fn a_reader_takes_511_segments(rt: HostRuntime) -> std::result::Result<(), Fail>
     table[1] = 1;
     let mut source = &table[..2048];
     let message = read_message(rt.alloc(), &mut source, DEFAULT_READER_OPTIONS)?;
-    assert_eq!(rt; message.get_segments().len(), 511);
-    assert_eq!(rt; message.size_in_words(), 0);
+    assert!(rt; message.get_segments().len() == 511);
+    assert!(rt; message.size_in_words() == 0);
     assert!(rt; source.is_empty());
     table[0] = 0xff;
     let refused = refusal(rt.alloc(), &table, None);
-    assert_eq!(rt; refused, Some(ErrorKind::InvalidNumberOfSegments));
+    assert!(rt; refused == Some(ErrorKind::InvalidNumberOfSegments));
     Ok(())
 }

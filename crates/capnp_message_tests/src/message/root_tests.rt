@@ -70,6 +70,23 @@ fn two_texts<L: Allocator>(
     seen
 }
 
+/// The same over the heap.
+fn two_texts_on_heap(alloc: Global, first: &str, second: &str) -> Result<(usize, Vec<u8>)> {
+    let mut heap = HeapAllocator::new(alloc);
+    two_texts(alloc, &mut heap, first, second)
+}
+
+/// The same over a slice alone.
+fn two_texts_in(
+    alloc: Global,
+    region: &mut [u8],
+    first: &str,
+    second: &str,
+) -> Result<(usize, Vec<u8>)> {
+    let mut single = SingleSegmentAllocator::new(region);
+    two_texts(alloc, &mut single, first, second)
+}
+
 /// A message of the canonical words of another.
 fn canonical<L: Allocator, S: ReaderSegments>(
     alloc: Global,
@@ -149,31 +166,38 @@ fn edited_in(alloc: Global, region: &mut [u8], used: u32, value: &str) -> Result
     edited_there(alloc, &mut scratch, value)
 }
 
-/// A message of the canonical words of another, in a lent slice, which comes back all zeros.
+/// A message of the canonical words of another, over the heap.
+fn canonical_on_heap(alloc: Global, source: &Reader<SegmentArray<'_>>) -> Result<Vec<u8>> {
+    let mut heap = HeapAllocator::new(alloc);
+    canonical(alloc, &mut heap, source)
+}
+
+/// The same in a lent slice, alone or with the heap behind it. It comes back all zeros.
 fn canonical_in(
     alloc: Global,
     region: &mut [u8],
+    alone: bool,
     source: &Reader<SegmentArray<'_>>,
 ) -> Result<Vec<u8>>
     ensures { AllZero region.new }
 {
-    let mut scratch = ScratchSpaceHeapAllocator::new(alloc, region);
-    canonical(alloc, &mut scratch, source)
+    if alone {
+        let mut single = SingleSegmentAllocator::new(region);
+        canonical(alloc, &mut single, source)
+    } else {
+        let mut scratch = ScratchSpaceHeapAllocator::new(alloc, region);
+        canonical(alloc, &mut scratch, source)
+    }
 }
 
 #[test]
 fn a_root_is_set_again(rt: HostRuntime) -> std::result::Result<(), Fail> {
-    let mut heap = HeapAllocator::new(rt.alloc());
-    let (words, text) = two_texts(rt.alloc(), &mut heap, "hi", "Hello, World!")?;
-    assert_eq!(rt; words, 4);
-    assert_eq!(rt; text.as_slice(), b"Hello, World!\0".as_slice());
+    let (words, text) = two_texts_on_heap(rt.alloc(), "hi", "Hello, World!")?;
+    assert!(rt; words == 4);
+    assert!(rt; text.as_slice() == b"Hello, World!\0".as_slice());
     let mut short = [0xeeu8; 23];
-    let mut single = SingleSegmentAllocator::new(&mut short);
-    let full = two_texts(rt.alloc(), &mut single, "hi", "Hello, World!");
-    assert_eq!(rt;
-        full.err(),
-        Some(Error::from(ErrorKind::BufferNotLargeEnough))
-    );
+    let full = two_texts_in(rt.alloc(), &mut short, "hi", "Hello, World!");
+    assert!(rt; full.err() == Some(Error::from(ErrorKind::BufferNotLargeEnough)));
     Ok(())
 }
 
@@ -184,20 +208,18 @@ fn a_root_is_set_to_canonical_words(rt: HostRuntime) -> std::result::Result<(), 
     let second = [0u8, 0, 0, 0, 1, 0, 0, 0, 0, 1, 2, 3, 4, 5, 6, 7];
     let both: [&[u8]; 2] = [&first, &second];
     let source = Reader::new(SegmentArray::new(&both), DEFAULT_READER_OPTIONS);
-    let mut heap = HeapAllocator::new(rt.alloc());
-    let bytes = canonical(rt.alloc(), &mut heap, &source)?;
-    assert_eq!(rt; bytes.as_slice(), second.as_slice());
+    let bytes = canonical_on_heap(rt.alloc(), &source)?;
+    assert!(rt; bytes.as_slice() == second.as_slice());
     let mut region = [0xeeu8; 16];
-    let bytes = canonical_in(rt.alloc(), &mut region, &source)?;
-    assert_eq!(rt; bytes.as_slice(), second.as_slice());
+    let bytes = canonical_in(rt.alloc(), &mut region, false, &source)?;
+    assert!(rt; bytes.as_slice() == second.as_slice());
     assert!(rt; region.iter().all(|byte| *byte == 0));
-    let mut single = SingleSegmentAllocator::new(&mut region);
-    let bytes = canonical(rt.alloc(), &mut single, &source)?;
-    assert_eq!(rt; bytes.as_slice(), second.as_slice());
-    assert_eq!(rt; source.is_canonical(&mut ReadLimiter::new(None))?, false);
+    let bytes = canonical_in(rt.alloc(), &mut region, true, &source)?;
+    assert!(rt; bytes.as_slice() == second.as_slice());
+    assert!(rt; !source.is_canonical(&mut ReadLimiter::new(None))?);
     let empty = Reader::new(SegmentArray::new(&[]), DEFAULT_READER_OPTIONS);
-    let refused = canonical(rt.alloc(), &mut heap, &empty);
-    assert_eq!(rt; refused.err(), Some(Error::from(ErrorKind::OutOfBounds)));
+    let refused = canonical_on_heap(rt.alloc(), &empty);
+    assert!(rt; refused.err() == Some(Error::from(ErrorKind::OutOfBounds)));
     Ok(())
 }
 
@@ -214,19 +236,19 @@ fn a_message_goes_on_behind_its_words(rt: HostRuntime) -> std::result::Result<()
     let expected = [
         5u8, 0, 0, 0, 0x1a, 0, 0, 0, 0, 0, 0, 0, 0, 0, 0, 0, 0x68, 0x69, 0, 0, 0, 0, 0, 0,
     ];
-    assert_eq!(rt; bytes.as_slice(), expected.as_slice());
+    assert!(rt; bytes.as_slice() == expected.as_slice());
     let mut region = words;
     let bytes = edited_in(rt.alloc(), &mut region, 2, "hi")?;
-    assert_eq!(rt; bytes.as_slice(), expected.as_slice());
+    assert!(rt; bytes.as_slice() == expected.as_slice());
     assert!(rt; region.iter().all(|byte| *byte == 0));
     let mut region = words;
     let bytes = edited_in(rt.alloc(), &mut region[..23], 2, "hi")?;
-    assert_eq!(rt; bytes.len(), 32);
-    assert_eq!(rt; &bytes[..8], [2u8, 0, 0, 0, 1, 0, 0, 0].as_slice());
+    assert!(rt; bytes.len() == 32);
+    assert!(rt; &bytes[..8] == [2u8, 0, 0, 0, 1, 0, 0, 0].as_slice());
     assert!(rt; region[..23].iter().all(|byte| *byte == 0));
     let mut region = [0xeeu8; 16];
     let bytes = edited_in(rt.alloc(), &mut region, 0, "hi")?;
-    assert_eq!(rt; bytes.len(), 16);
+    assert!(rt; bytes.len() == 16);
     assert!(rt; region.iter().all(|byte| *byte == 0));
     Ok(())
 }
@@ -255,7 +277,7 @@ fn typed_text(alloc: Global, value: &[u8]) -> Result<(Vec<u8>, Vec<u8>)> {
 fn a_typed_root_is_set(rt: HostRuntime) -> std::result::Result<(), Fail> {
     let (bytes, root) = typed_text(rt.alloc(), b"hi")?;
     let expected = [1u8, 0, 0, 0, 0x12, 0, 0, 0, 0x68, 0x69, 0, 0, 0, 0, 0, 0];
-    assert_eq!(rt; bytes.as_slice(), expected.as_slice());
-    assert_eq!(rt; root.as_slice(), b"hi".as_slice());
+    assert!(rt; bytes.as_slice() == expected.as_slice());
+    assert!(rt; root.as_slice() == b"hi".as_slice());
     Ok(())
 }

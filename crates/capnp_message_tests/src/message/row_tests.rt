@@ -118,13 +118,13 @@ fn over_each(alloc: Global, input: &[u8], before: Option<&str>) -> Result<Vec<u8
 #[test]
 fn messages_are_rewritten_over_each_allocator(rt: HostRuntime) -> std::result::Result<(), Fail> {
     let far = over_each(rt.alloc(), &FAR, None)?;
-    assert_eq!(rt; far.as_slice(), NEAR.as_slice());
+    assert!(rt; far.as_slice() == NEAR.as_slice());
     let wide = over_each(rt.alloc(), &WIDE, None)?;
-    assert_eq!(rt; wide.as_slice(), TRIMMED.as_slice());
+    assert!(rt; wide.as_slice() == TRIMMED.as_slice());
     let two = over_each(rt.alloc(), &TWO, None)?;
-    assert_eq!(rt; two.as_slice(), TWO.as_slice());
+    assert!(rt; two.as_slice() == TWO.as_slice());
     let list = over_each(rt.alloc(), &LIST, None)?;
-    assert_eq!(rt; list.as_slice(), LIST.as_slice());
+    assert!(rt; list.as_slice() == LIST.as_slice());
     Ok(())
 }
 
@@ -136,14 +136,11 @@ fn a_root_is_replaced_by_a_canonical_copy(rt: HostRuntime) -> std::result::Resul
         0u8, 0, 0, 0, 3, 0, 0, 0, 4, 0, 0, 0, 1, 0, 0, 0, 0, 0, 0, 0, 0, 0, 0, 0, 7, 0, 0, 0, 0, 0,
         0, 0,
     ];
-    assert_eq!(rt; far.as_slice(), expected.as_slice());
+    assert!(rt; far.as_slice() == expected.as_slice());
     let mut region = [0xeeu8; 16];
     let full = over_slice(rt.alloc(), &mut region, true, &mut &FAR[..], Some("hi"));
-    assert_eq!(rt;
-        full.err(),
-        Some(Error::from(ErrorKind::BufferNotLargeEnough))
-    );
-    assert_eq!(rt; region, [0; 16]);
+    assert!(rt; full.err() == Some(Error::from(ErrorKind::BufferNotLargeEnough)));
+    assert!(rt; region == [0; 16]);
     Ok(())
 }
 
@@ -153,9 +150,9 @@ fn a_message_without_words_is_passed_by(rt: HostRuntime) -> std::result::Result<
     let mut input = &NONE_THEN_NULL[..];
     let mut heap = HeapAllocator::new(rt.alloc());
     let none = rewritten(rt.alloc(), &mut heap, &mut input, None);
-    assert_eq!(rt; none.err(), Some(Error::from(ErrorKind::OutOfBounds)));
+    assert!(rt; none.err() == Some(Error::from(ErrorKind::OutOfBounds)));
     let null = over_each(rt.alloc(), input, None)?;
-    assert_eq!(rt; null.as_slice(), &NONE_THEN_NULL[8..]);
+    assert!(rt; null.as_slice() == &NONE_THEN_NULL[8..]);
     Ok(())
 }
 
@@ -164,7 +161,7 @@ fn the_end_of_input_is_told(rt: HostRuntime) -> std::result::Result<(), Fail> {
     let mut cut: &[u8] = &[0, 0, 0, 0];
     let refused = try_read_message(rt.alloc(), &mut cut, ReaderOptions::new());
     let kind = ErrorKind::FailedToFillTheWholeBuffer;
-    assert_eq!(rt; refused.err(), Some(Error::from(kind)));
+    assert!(rt; refused.err() == Some(Error::from(kind)));
     let mut none: &[u8] = &[];
     assert!(rt; try_read_message(rt.alloc(), &mut none, ReaderOptions::new())?.is_none());
     Ok(())
@@ -190,15 +187,12 @@ fn greeted<L: Allocator>(alloc: Global, allocator: &mut L) -> Result<(usize, usi
 
 #[test]
 fn a_text_is_three_words_over_each_allocator(rt: HostRuntime) -> std::result::Result<(), Fail> {
-    assert_eq!(rt;
-        greeted(rt.alloc(), &mut HeapAllocator::new(rt.alloc()))?,
-        (3, 32)
-    );
+    assert!(rt; greeted(rt.alloc(), &mut HeapAllocator::new(rt.alloc()))? == (3, 32));
     let mut region = [0xeeu8; 24];
     let mut scratch = ScratchSpaceHeapAllocator::new(rt.alloc(), &mut region);
-    assert_eq!(rt; greeted(rt.alloc(), &mut scratch)?, (3, 32));
+    assert!(rt; greeted(rt.alloc(), &mut scratch)? == (3, 32));
     drop(scratch);
     let mut single = SingleSegmentAllocator::new(&mut region);
-    assert_eq!(rt; greeted(rt.alloc(), &mut single)?, (3, 32));
+    assert!(rt; greeted(rt.alloc(), &mut single)? == (3, 32));
     Ok(())
 }

@@ -159,36 +159,33 @@ fn over_slice(
 fn an_empty_segment_stands_between_two(rt: HostRuntime) -> std::result::Result<(), Fail> {
     let alloc = rt.alloc();
     let (heap, words) = over_heap(alloc, 1, 1, Some(7))?;
-    assert_eq!(rt; heap.as_slice(), THREE.as_slice());
-    assert_eq!(rt; words, 5);
+    assert!(rt; heap.as_slice() == THREE.as_slice());
+    assert!(rt; words == 5);
     let mut region = [0xeeu8; 8];
     let (scratch, words) = over_scratch(alloc, &mut region, 1, 1, Some(7))?;
-    assert_eq!(rt; scratch.as_slice(), THREE.as_slice());
-    assert_eq!(rt; words, 5);
-    assert_eq!(rt; region, [0; 8]);
+    assert!(rt; scratch.as_slice() == THREE.as_slice());
+    assert!(rt; words == 5);
+    assert!(rt; region == [0; 8]);
     let mut region = [0xeeu8; 16];
     let second = over_slice(alloc, &mut region, 1, Some(7)).err();
     let full = Error::from(ErrorKind::BufferNotLargeEnough);
-    assert_eq!(rt; second, Some(full));
-    assert_eq!(rt; region, [0; 16]);
+    assert!(rt; second == Some(full));
+    assert!(rt; region == [0; 16]);
     let (single, words) = over_slice(alloc, &mut region, 0, Some(7))?;
     let near = [
         0, 0, 0, 0, 2, 0, 0, 0, 0, 0, 0, 0, 1, 0, 0, 0, 7, 0, 0, 0, 0, 0, 0, 0,
     ];
-    assert_eq!(rt; single.as_slice(), &near[..]);
-    assert_eq!(rt; words, 3);
-    assert_eq!(rt; region, [0; 16]);
+    assert!(rt; single.as_slice() == &near[..]);
+    assert!(rt; words == 3);
+    assert!(rt; region == [0; 16]);
     let message = read_message(alloc, &mut heap.as_slice(), DEFAULT_READER_OPTIONS)?;
     let mut limiter = ReadLimiter::new(Some(2));
     let root = PointerReader::get_root_from_arena(&message)?;
     let record = root.get_struct(&mut limiter, None)?;
-    assert_eq!(rt; record.get_data_field::<u64>(0), 7);
-    assert_eq!(rt; message.is_canonical(&mut ReadLimiter::new(None))?, false);
+    assert!(rt; record.get_data_field::<u64>(0) == 7);
+    assert!(rt; !message.is_canonical(&mut ReadLimiter::new(None))?);
     let canonical = message.canonicalize(alloc, &mut ReadLimiter::new(None))?;
-    assert_eq!(rt;
-        canonical.as_slice(),
-        &[[0, 0, 0, 0, 1, 0, 0, 0], [7, 0, 0, 0, 0, 0, 0, 0]][..]
-    );
+    assert!(rt; canonical.as_slice() == &[[0, 0, 0, 0, 1, 0, 0, 0], [7, 0, 0, 0, 0, 0, 0, 0]][..]);
     Ok(())
 }
 
@@ -205,24 +202,24 @@ fn empty_segments_are_written_and_read(rt: HostRuntime) -> std::result::Result<(
     let alloc = rt.alloc();
     let many = Error::from(ErrorKind::InvalidNumberOfSegments);
     let (most, words) = over_heap(alloc, 0, 511, None)?;
-    assert_eq!(rt; (most.len(), words), (2048, 256));
-    assert_eq!(rt; most.iter().position(|byte| *byte != 0), Some(0));
-    assert_eq!(rt; &most[..2], [0xfe, 1].as_slice());
-    assert_eq!(rt; count_read(alloc, &most)?, 511);
+    assert!(rt; (most.len(), words) == (2048, 256));
+    assert!(rt; most.iter().position(|byte| *byte != 0) == Some(0));
+    assert!(rt; &most[..2] == [0xfe, 1].as_slice());
+    assert!(rt; count_read(alloc, &most)? == 511);
     let (more, words) = over_heap(alloc, 0, 512, None)?;
-    assert_eq!(rt; (more.len(), words), (2056, 257));
-    assert_eq!(rt; &more[..2], [0xff, 1].as_slice());
-    assert_eq!(rt; count_read(alloc, &more).err(), Some(many));
+    assert!(rt; (more.len(), words) == (2056, 257));
+    assert!(rt; &more[..2] == [0xff, 1].as_slice());
+    assert!(rt; count_read(alloc, &more).err() == Some(many));
     let mut region = [0xeeu8; 8];
-    assert_eq!(rt; over_scratch(alloc, &mut region, 0, 511, None)?.0, most);
-    assert_eq!(rt; over_scratch(alloc, &mut region, 0, 512, None)?.0, more);
-    assert_eq!(rt; region, [0; 8]);
+    assert!(rt; over_scratch(alloc, &mut region, 0, 511, None)?.0 == most);
+    assert!(rt; over_scratch(alloc, &mut region, 0, 512, None)?.0 == more);
+    assert!(rt; region == [0; 8]);
     let (one, words) = over_slice(alloc, &mut region, 1, None)?;
-    assert_eq!(rt; (one.as_slice(), words), (&[0; 8][..], 1));
-    assert_eq!(rt; count_read(alloc, &one)?, 1);
+    assert!(rt; (one.as_slice(), words) == (&[0; 8][..], 1));
+    assert!(rt; count_read(alloc, &one)? == 1);
     let second = over_slice(alloc, &mut region, 2, None).err();
-    assert_eq!(rt; second, Some(Error::from(ErrorKind::BufferNotLargeEnough)));
-    assert_eq!(rt; region, [0; 8]);
+    assert!(rt; second == Some(Error::from(ErrorKind::BufferNotLargeEnough)));
+    assert!(rt; region == [0; 8]);
     Ok(())
 }
 
@@ -266,6 +263,16 @@ fn refused<L: Allocator>(
     Ok((done.err().map(|e| e.kind), bytes && text))
 }
 
+/// The same over the heap.
+fn refused_on_heap(
+    alloc: Global,
+    segment: &[u8],
+    options: ReaderOptions,
+) -> Result<(Option<ErrorKind>, bool)> {
+    let mut heap = HeapAllocator::new(alloc);
+    refused(alloc, &mut heap, segment, options)
+}
+
 /// The same over a slice that the text fills, with or without the heap behind it. It comes back all zeros.
 fn refused_in(
     alloc: Global,
@@ -302,18 +309,17 @@ fn a_refused_canonical_root_leaves_the_old_one(rt: HostRuntime) -> std::result::
             nesting_limit: levels,
         };
         let wanted = (Some(kind), true);
-        let mut heap = HeapAllocator::new(alloc);
-        assert_eq!(rt; refused(alloc, &mut heap, &segment, options)?, wanted);
+        assert!(rt; refused_on_heap(alloc, &segment, options)? == wanted);
         let scratch = refused_in(alloc, &mut region, false, &segment, options)?;
-        assert_eq!(rt; scratch, wanted);
+        assert!(rt; scratch == wanted);
         let single = refused_in(alloc, &mut region, true, &segment, options)?;
-        assert_eq!(rt; single, wanted);
+        assert!(rt; single == wanted);
     }
     let options = DEFAULT_READER_OPTIONS;
     let full = refused_in(alloc, &mut region, true, &SEVEN, options)?;
-    assert_eq!(rt; full, (Some(ErrorKind::BufferNotLargeEnough), true));
+    assert!(rt; full == (Some(ErrorKind::BufferNotLargeEnough), true));
     let set = refused_in(alloc, &mut region, false, &SEVEN, options)?;
-    assert_eq!(rt; set, (None, false));
-    assert_eq!(rt; region, [0; 16]);
+    assert!(rt; set == (None, false));
+    assert!(rt; region == [0; 16]);
     Ok(())
 }

@@ -17,14 +17,14 @@ const TWO: [u8; 49] = [
 fn no_byte_behind_a_message_is_read(rt: HostRuntime) -> std::result::Result<(), Fail> {
     let mut source = Unbuffered::new(&TWO[..]);
     let first = read_message(rt.alloc(), &mut source, DEFAULT_READER_OPTIONS)?;
-    assert_eq!(rt; first.size_in_words(), 1);
+    assert!(rt; first.size_in_words() == 1);
     let rest = source.into_inner();
-    assert_eq!(rt; rest, &TWO[16..]);
+    assert!(rt; rest == &TWO[16..]);
     let mut source = Unbuffered::new(rest);
     let second = try_read_message(rt.alloc(), &mut source, DEFAULT_READER_OPTIONS)?;
     let second = second.ok_or("no second")?;
-    assert_eq!(rt; second.size_in_words(), 2);
-    assert_eq!(rt; source.into_inner(), &[0xee][..]);
+    assert!(rt; second.size_in_words() == 2);
+    assert!(rt; source.into_inner() == &[0xee][..]);
     Ok(())
 }
 
@@ -36,11 +36,11 @@ fn messages_and_the_end_are_told_apart(rt: HostRuntime) -> std::result::Result<(
     let second = try_read_message(rt.alloc(), &mut source, DEFAULT_READER_OPTIONS)?;
     assert!(rt; second.is_some());
     assert!(rt; try_read_message(rt.alloc(), &mut source, DEFAULT_READER_OPTIONS)?.is_none());
-    assert_eq!(rt; source.failures(), 0);
+    assert!(rt; source.failures() == 0);
     let mut cut = Unbuffered::new(&TWO[..15]);
     let refused = read_message(rt.alloc(), &mut cut, DEFAULT_READER_OPTIONS);
     let short = Error::from(ErrorKind::FailedToFillTheWholeBuffer);
-    assert_eq!(rt; refused.err(), Some(short));
+    assert!(rt; refused.err() == Some(short));
     Ok(())
 }
 
@@ -48,11 +48,11 @@ fn messages_and_the_end_are_told_apart(rt: HostRuntime) -> std::result::Result<(
 #[test]
 fn a_byte_that_is_shown_stays(rt: HostRuntime) -> std::result::Result<(), Fail> {
     let mut source = Unbuffered::new(&TWO[..3]);
-    assert_eq!(rt; source.fill_buf()?, &[0][..]);
-    assert_eq!(rt; source.fill_buf()?, &[0][..]);
+    assert!(rt; source.fill_buf()? == &[0][..]);
+    assert!(rt; source.fill_buf()? == &[0][..]);
     let mut three = [9u8; 3];
     source.read_exact(&mut three)?;
-    assert_eq!(rt; &three[..], &[0, 0, 0][..]);
+    assert!(rt; &three[..] == &[0, 0, 0][..]);
     assert!(rt; source.fill_buf()?.is_empty());
     Ok(())
 }
