@@ -241,40 +241,28 @@ fn plain_values_are_set_and_cleared(rt: HostRuntime) -> std::result::Result<(), 
     let (alloc, two) = (rt.alloc(), Change::Number(2));
     let v = [(3, "u", Change::Number(7)), (3, "v", Change::Number(9))];
     let (none, bytes) = run(alloc, &set, 2, 3, &v)?;
-    assert_eq!(rt; none, None);
-    assert_eq!(rt;
-        bytes.as_slice(),
-        &[0, 0, 0, 0, 1, 0, 0, 0, 9, 0, 1, 0, 0, 0, 0, 0][..]
-    );
+    assert!(rt; none == None);
+    assert!(rt; bytes.as_slice() == &[0, 0, 0, 0, 1, 0, 0, 0, 9, 0, 1, 0, 0, 0, 0, 0][..]);
     let n = [(4, "n", Change::Number(0))];
     let (none, bytes) = run(alloc, &set, 2, 4, &n)?;
-    assert_eq!(rt; none, None);
-    assert_eq!(rt;
-        bytes.as_slice(),
-        &[0, 0, 0, 0, 1, 0, 0, 0, 5, 0, 0, 0, 0, 0, 0, 0][..]
-    );
+    assert!(rt; none == None);
+    assert!(rt; bytes.as_slice() == &[0, 0, 0, 0, 1, 0, 0, 0, 5, 0, 0, 0, 0, 0, 0, 0][..]);
     let g = [
         (6, "x", Change::Number(1)),
         (6, "y", two),
         (5, "z", Change::Number(3)),
     ];
     let (none, bytes) = run(alloc, &set, 2, 5, &g)?;
-    assert_eq!(rt; none, None);
-    assert_eq!(rt;
-        bytes.as_slice(),
-        &[0, 0, 0, 0, 1, 0, 0, 0, 1, 0, 2, 0, 3, 0, 0, 0][..]
-    );
+    assert!(rt; none == None);
+    assert!(rt; bytes.as_slice() == &[0, 0, 0, 0, 1, 0, 0, 0, 1, 0, 2, 0, 3, 0, 0, 0][..]);
     let g = [
         (6, "y", two),
         (5, "z", Change::Number(3)),
         (5, "g", Change::Clear),
     ];
     let (none, bytes) = run(alloc, &set, 2, 5, &g)?;
-    assert_eq!(rt; none, None);
-    assert_eq!(rt;
-        bytes.as_slice(),
-        &[0, 0, 0, 0, 1, 0, 0, 0, 0, 0, 0, 0, 3, 0, 0, 0][..]
-    );
+    assert!(rt; none == None);
+    assert!(rt; bytes.as_slice() == &[0, 0, 0, 0, 1, 0, 0, 0, 0, 0, 0, 0, 3, 0, 0, 0][..]);
     Ok(())
 }
 
@@ -283,32 +271,32 @@ fn texts_and_data_are_set(rt: HostRuntime) -> std::result::Result<(), Fail> {
     let (alloc, hi) = (rt.alloc(), Change::Text("hi"));
     let set = schemas(alloc)?;
     let (none, bytes) = run(alloc, &set, 4, 1, &[(1, "t", hi)])?;
-    assert_eq!(rt; none, None);
+    assert!(rt; none == None);
     let expected = [
         0, 0, 0, 0, 1, 0, 1, 0, 0, 0, 0, 0, 0, 0, 0, 0, 1, 0, 0, 0, 0x1a, 0, 0, 0, 104, 105, 0, 0,
         0, 0, 0, 0,
     ];
-    assert_eq!(rt; bytes.as_slice(), expected.as_slice());
+    assert!(rt; bytes.as_slice() == expected.as_slice());
     let data = [
         (7, "u", Change::Number(7)),
         (7, "t", hi),
         (7, "d", Change::Data(b"ho")),
     ];
     let (none, bytes) = run(alloc, &set, 5, 7, &data)?;
-    assert_eq!(rt; none, None);
+    assert!(rt; none == None);
     let expected = [
         0, 0, 0, 0, 1, 0, 1, 0, 7, 0, 2, 0, 0, 0, 0, 0, 5, 0, 0, 0, 0x12, 0, 0, 0, 0, 0, 0, 0, 0,
         0, 0, 0, 104, 111, 0, 0, 0, 0, 0, 0,
     ];
-    assert_eq!(rt; bytes.as_slice(), expected.as_slice());
+    assert!(rt; bytes.as_slice() == expected.as_slice());
     let untyped = [(7, "p", hi), (7, "t", Change::Clear)];
     let (none, bytes) = run(alloc, &set, 4, 7, &untyped)?;
-    assert_eq!(rt; none, None);
+    assert!(rt; none == None);
     let expected = [
         0, 0, 0, 0, 1, 0, 1, 0, 0, 0, 1, 0, 0, 0, 0, 0, 0, 0, 0, 0, 0, 0, 0, 0, 0, 0, 0, 0, 0, 0,
         0, 0,
     ];
-    assert_eq!(rt; bytes.as_slice(), expected.as_slice());
+    assert!(rt; bytes.as_slice() == expected.as_slice());
     Ok(())
 }
 
@@ -342,8 +330,8 @@ fn a_refusal_leaves_the_union(rt: HostRuntime) -> std::result::Result<(), Fail> 
     ] {
         let edits = [(7, "u", Change::Number(7)), (7, name, change)];
         let (refusal, bytes) = run(alloc, &set, 3, 7, &edits)?;
-        assert_eq!(rt; refusal, Some(kind), "at {name}");
-        assert_eq!(rt; bytes.as_slice(), seven.as_slice(), "at {name}");
+        assert!(rt; refusal == Some(kind), "at {name}");
+        assert!(rt; bytes.as_slice() == seven.as_slice(), "at {name}");
     }
     Ok(())
 }
@@ -354,31 +342,28 @@ fn structs_and_groups_are_begun(rt: HostRuntime) -> std::result::Result<(), Fail
     let set = schemas(alloc)?;
     let child = [(8, "child", Change::Init)];
     let (none, bytes) = run(alloc, &set, 4, 8, &child)?;
-    assert_eq!(rt; none, None);
+    assert!(rt; none == None);
     let expected = [
         0, 0, 0, 0, 0, 0, 1, 0, 0, 0, 0, 0, 1, 0, 1, 0, 0, 0, 0, 0, 0, 0, 0, 0, 0, 0, 0, 0, 0, 0,
         0, 0,
     ];
-    assert_eq!(rt; bytes.as_slice(), expected.as_slice());
+    assert!(rt; bytes.as_slice() == expected.as_slice());
     let group = [
         (6, "y", Change::Number(2)),
         (5, "z", Change::Number(3)),
         (5, "g", Change::Init),
     ];
     let (none, bytes) = run(alloc, &set, 2, 5, &group)?;
-    assert_eq!(rt; none, None);
-    assert_eq!(rt;
-        bytes.as_slice(),
-        &[0, 0, 0, 0, 1, 0, 0, 0, 0, 0, 0, 0, 3, 0, 0, 0][..]
-    );
+    assert!(rt; none == None);
+    assert!(rt; bytes.as_slice() == &[0, 0, 0, 0, 1, 0, 0, 0, 0, 0, 0, 0, 3, 0, 0, 0][..]);
     let untyped = [(7, "p", Change::Text("hi")), (7, "p", Change::Init)];
     let (none, bytes) = run(alloc, &set, 4, 7, &untyped)?;
-    assert_eq!(rt; none, None);
+    assert!(rt; none == None);
     let expected = [
         0, 0, 0, 0, 1, 0, 1, 0, 0, 0, 3, 0, 0, 0, 0, 0, 0, 0, 0, 0, 0, 0, 0, 0, 0, 0, 0, 0, 0, 0,
         0, 0,
     ];
-    assert_eq!(rt; bytes.as_slice(), expected.as_slice());
+    assert!(rt; bytes.as_slice() == expected.as_slice());
     Ok(())
 }
 
@@ -388,20 +373,20 @@ fn lists_are_begun(rt: HostRuntime) -> std::result::Result<(), Fail> {
     let set = schemas(alloc)?;
     let two = Change::InitMany(2);
     let (none, bytes) = run(alloc, &set, 7, 2, &[(2, "items", two)])?;
-    assert_eq!(rt; none, None);
+    assert!(rt; none == None);
     let mut expected = vec![in alloc;
         0, 0, 0, 0, 0, 0, 1, 0, 1, 0, 0, 0, 0x27, 0, 0, 0, 8, 0, 0, 0, 1, 0, 1, 0,
     ]?;
     expected.resize(56, 0)?;
-    assert_eq!(rt; bytes.as_slice(), expected.as_slice());
+    assert!(rt; bytes.as_slice() == expected.as_slice());
     for (name, member, size) in [("t", 1, 0x1a), ("d", 2, 0x12)] {
         let (none, bytes) = run(alloc, &set, 4, 7, &[(7, name, two)])?;
-        assert_eq!(rt; none, None, "at {name}");
+        assert!(rt; none == None, "at {name}");
         let expected = [
             0, 0, 0, 0, 1, 0, 1, 0, 0, 0, member, 0, 0, 0, 0, 0, 1, 0, 0, 0, size, 0, 0, 0, 0, 0,
             0, 0, 0, 0, 0, 0,
         ];
-        assert_eq!(rt; bytes.as_slice(), expected.as_slice(), "at {name}");
+        assert!(rt; bytes.as_slice() == expected.as_slice(), "at {name}");
     }
     Ok(())
 }
