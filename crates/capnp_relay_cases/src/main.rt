@@ -6,22 +6,26 @@
 #![tactic(auto)]
 
 mod faults;
+mod in_place;
 mod runs;
 mod whole;
 
 use faults::Fault;
+use in_place::{InPlace, compare_in_place};
 use runs::{Compared, compare};
 use serde_json::Value as Json;
 use std::alloc::Global;
 use std::process::ExitCode;
 use std::{env, fs, io};
 
-/// How many runs are as they should be, whole or before a message is read, how many weren't compared, and the lines of those that differ.
+/// How many runs are as they should be, whole or before a message is read, how many weren't compared, how many have messages that are answered where they lie as they should be, how many have one that isn't answered there, and the lines of those that differ.
 #[derive(Drop)]
 struct Counts {
     whole: u64,
     begun: u64,
     passed_over: u64,
+    in_place: u64,
+    not_in_place: u64,
     differing: Vec<u64>,
 }
 
@@ -30,6 +34,8 @@ fn count(alloc: Global, text: &str) -> Result<Counts, Fault> {
         whole: 0,
         begun: 0,
         passed_over: 0,
+        in_place: 0,
+        not_in_place: 0,
         differing: Vec::new(alloc),
     };
     let mut number: u64 = 0;
@@ -44,6 +50,12 @@ fn count(alloc: Global, text: &str) -> Result<Counts, Fault> {
             Compared::PassedOver => counts.passed_over = counts.passed_over.saturating_add(1),
             Compared::Other => counts.differing.push(number)?,
         }
+        match compare_in_place(alloc, &run)? {
+            InPlace::Same => counts.in_place = counts.in_place.saturating_add(1),
+            InPlace::Refused => counts.not_in_place = counts.not_in_place.saturating_add(1),
+            InPlace::Other => counts.differing.push(number)?,
+            InPlace::NotAsked => {}
+        }
     }
     Ok(counts)
 }
@@ -54,6 +66,8 @@ fn report(rt: &HostRuntime, counts: &Counts) -> io::Result<ExitCode> {
         whole,
         begun,
         passed_over,
+        in_place,
+        not_in_place,
         differing,
     } = counts;
     println!(rt; "{whole} runs are as they should be")?;
@@ -61,11 +75,15 @@ fn report(rt: &HostRuntime, counts: &Counts) -> io::Result<ExitCode> {
         "{begun} runs that the relay doesn't take are answered as they should be before a message is read"
     )?;
     println!(rt; "{passed_over} runs are not compared")?;
+    println!(rt;
+        "{in_place} runs have messages that are answered where they lie as they should be"
+    )?;
+    println!(rt; "{not_in_place} runs have a message that isn't answered where it lies")?;
     for line in differing {
         println!(rt; "the run of line {line} differs")?;
     }
     println!(rt; "{} runs differ", differing.len())?;
-    if differing.is_empty() && *whole > 0 {
+    if differing.is_empty() && *whole > 0 && *in_place > 0 {
         Ok(ExitCode::SUCCESS)
     } else {
         Ok(ExitCode::FAILURE)

@@ -146,7 +146,7 @@ fn takes(
 }
 
 /// The words of a run.
-fn words_of(alloc: Global, run: &Json) -> Result<Vec<String>, Fault> {
+pub fn words_of(alloc: Global, run: &Json) -> Result<Vec<String>, Fault> {
     let items = run
         .get("args")
         .and_then(Json::as_array)
@@ -160,7 +160,7 @@ fn words_of(alloc: Global, run: &Json) -> Result<Vec<String>, Fault> {
 }
 
 /// The bytes of the file that the word at a place names.
-fn file_at(
+pub fn file_at(
     alloc: Global,
     run: &Json,
     words: &[String],

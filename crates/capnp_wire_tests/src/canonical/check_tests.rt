@@ -40,7 +40,7 @@ fn told(segments: &Vec<Vec<u8>>, words: u64, levels: u32) -> Answer<bool> {
 fn expect_told(rt: &impl Abort, alloc: Global, message: &[u64], wanted: bool) -> Result<(), Fail> {
     let segments = vec![in alloc; bytes_of(alloc, message)?]?;
     let answer = told(&segments, 1000, 64).ok().ok_or("refused")?;
-    assert_eq!(rt; answer, wanted);
+    assert!(rt; answer == wanted);
     Ok(())
 }
 
@@ -54,7 +54,7 @@ fn expect_refused(
 ) -> Result<(), Fail> {
     let segments = vec![in alloc; bytes_of(alloc, message)?]?;
     let refused = told(&segments, words, 64).err().ok_or("told")?;
-    assert_eq!(rt; refused.kind, kind);
+    assert!(rt; refused.kind == kind);
     Ok(())
 }
 
@@ -78,9 +78,9 @@ fn a_trailing_zero_word_and_an_empty_struct(rt: HostRuntime) -> Result<(), Fail>
     ];
     let segments = vec![in alloc; bytes_in(alloc, &filled)?]?;
     let answer = told(&segments, 2, 1).err().ok_or("told")?;
-    assert_eq!(rt; answer.kind, ErrorKind::NestingLimitExceeded);
+    assert!(rt; answer.kind == ErrorKind::NestingLimitExceeded);
     let answer = told(&segments, 2, 2).err().ok_or("told")?;
-    assert_eq!(rt; answer.kind, ErrorKind::ReadLimitExceeded);
+    assert!(rt; answer.kind == ErrorKind::ReadLimitExceeded);
     let answer = told(&segments, 3, 2).ok().ok_or("refused")?;
     assert!(rt; answer);
     Ok(())
@@ -212,17 +212,17 @@ fn heads(rt: HostRuntime) -> Result<(), Fail> {
         .ok()
         .ok_or("refused")?;
     assert!(rt; one);
-    assert_eq!(rt; head.position, 4);
+    assert!(rt; head.position == 4);
     let again = is_canonical(&arena, &mut limiter, first, 64, &mut head)
         .ok()
         .ok_or("refused")?;
     assert!(rt; !again);
-    assert_eq!(rt; head.position, 4);
+    assert!(rt; head.position == 4);
     head.position = 3;
     let row = are_canonical(&arena, &mut limiter, first, 2, 64, &mut head)
         .ok()
         .ok_or("refused")?;
     assert!(rt; row);
-    assert_eq!(rt; head.position, 5);
+    assert!(rt; head.position == 5);
     Ok(())
 }

@@ -12,13 +12,13 @@ use std::test::Fail;
 #[test]
 fn texts_are_bytes(rt: HostRuntime) -> Result<(), Fail> {
     let hi = Reader(b"hi");
-    assert_eq!(rt; hi.len(), 2);
+    assert!(rt; hi.len() == 2);
     assert!(rt; !hi.is_empty());
     assert!(rt; Reader(b"").is_empty());
-    assert_eq!(rt; hi.as_bytes(), b"hi".as_slice());
-    assert_eq!(rt; hi.to_str().ok(), Some("hi"));
+    assert!(rt; hi.as_bytes() == b"hi".as_slice());
+    assert!(rt; hi.to_str().ok() == Some("hi"));
     let text = hi.to_string(rt.alloc())?.ok_or("UTF-8")?;
-    assert_eq!(rt; text.as_str(), "hi");
+    assert!(rt; text.as_str() == "hi");
     Ok(())
 }
 
@@ -27,12 +27,12 @@ fn other_bytes_are_refused(rt: HostRuntime) -> Result<(), Fail> {
     let bytes = [104, 255];
     let text = Reader(&bytes);
     let error = text.to_str().err().ok_or("refused")?;
-    assert_eq!(rt; error.valid_up_to(), 1);
+    assert!(rt; error.valid_up_to() == 1);
     assert!(rt; text.to_string(rt.alloc())?.is_none());
     let slice = <&str>::try_from(text);
     assert!(rt; slice.is_err());
     let shown = format!(in rt.alloc(); "{text:?}")?;
-    assert_eq!(rt; shown.as_str(), "<invalid utf-8: [104, 255]>");
+    assert!(rt; shown.as_str() == "<invalid utf-8: [104, 255]>");
     Ok(())
 }
 
@@ -45,10 +45,10 @@ fn texts_compare_by_bytes(rt: HostRuntime) -> Result<(), Fail> {
     assert!(rt; a != ab);
     assert!(rt; a < ab && ab < b);
     assert!(rt; ab.eq_str("ab") && !ab.eq_str("a"));
-    assert_eq!(rt; ab.cmp_str("b"), Ordering::Less);
-    assert_eq!(rt; ab.cmp_str("a"), Ordering::Greater);
-    assert_eq!(rt; ab.cmp_str("ab"), Ordering::Equal);
-    assert_eq!(rt; <&str>::try_from(ab).ok(), Some("ab"));
+    assert!(rt; ab.cmp_str("b") == Ordering::Less);
+    assert!(rt; ab.cmp_str("a") == Ordering::Greater);
+    assert!(rt; ab.cmp_str("ab") == Ordering::Equal);
+    assert!(rt; <&str>::try_from(ab).ok() == Some("ab"));
     Ok(())
 }
 
@@ -59,21 +59,21 @@ fn texts_are_written(rt: HostRuntime) -> Result<(), Fail> {
     text.push_ascii(b'a');
     text.push_str("bc");
     text.push_ascii(b'd');
-    assert_eq!(rt; text.len(), 5);
+    assert!(rt; text.len() == 5);
     assert!(rt; !text.is_empty());
     assert!(rt; text.reborrow_as_reader() == Reader(b"abcd\0"));
     let shown = format!(in rt.alloc(); "{text:?}")?;
-    assert_eq!(rt; shown.as_str(), "\"abcd\\0\"");
-    assert_eq!(rt; text.to_str().ok(), Some("abcd\0"));
+    assert!(rt; shown.as_str() == "\"abcd\\0\"");
+    assert!(rt; text.to_str().ok() == Some("abcd\0"));
     let mut again = Builder::with_pos(&mut bytes, 1);
     again.push_str("BC");
     let owned = again.to_string(rt.alloc())?.ok_or("UTF-8")?;
-    assert_eq!(rt; owned.as_str(), "aBCd\0");
+    assert!(rt; owned.as_str() == "aBCd\0");
     Builder::new(&mut bytes).as_bytes_mut()[4] = b'!';
-    assert_eq!(rt; Builder::new(&mut bytes).as_bytes(), b"aBCd!".as_slice());
+    assert!(rt; Builder::new(&mut bytes).as_bytes() == b"aBCd!".as_slice());
     let mut last = Builder::with_pos(&mut bytes, 4);
     last.reborrow().push_ascii(b'?');
-    assert_eq!(rt; last.as_bytes(), b"aBCd?".as_slice());
+    assert!(rt; last.as_bytes() == b"aBCd?".as_slice());
     Ok(())
 }
 
@@ -89,7 +89,7 @@ fn clearing_zeroes_all(rt: HostRuntime) -> Result<(), Fail> {
     let mut wrong = [255];
     let text = Builder::new(&mut wrong);
     let shown = format!(in rt.alloc(); "{text:?}")?;
-    assert_eq!(rt; shown.as_str(), "<invalid utf-8>");
+    assert!(rt; shown.as_str() == "<invalid utf-8>");
     Ok(())
 }
 
@@ -121,7 +121,7 @@ fn texts_and_data_are_read_from_pointers(rt: HostRuntime) -> Result<(), Fail> {
     let text = read::<text::Owned, _>(&arena, None)?.ok().ok_or("a text")?;
     assert!(rt; text.eq_str("hi"));
     let data = read::<data::Owned, _>(&arena, None)?.ok().ok_or("data")?;
-    assert_eq!(rt; data, b"hi\0".as_slice());
+    assert!(rt; data == b"hi\0".as_slice());
     let null = [0; 8];
     let segments = [null.as_slice()];
     let arena = ReaderArenaImpl::new(segments.as_slice(), 64);
@@ -136,13 +136,13 @@ fn texts_and_data_are_read_from_pointers(rt: HostRuntime) -> Result<(), Fail> {
     let segments = [open.as_slice()];
     let arena = ReaderArenaImpl::new(segments.as_slice(), 64);
     let refused = read::<text::Owned, _>(&arena, None)?.err();
-    assert_eq!(rt; refused, Some(ErrorKind::TextWithoutZeroByte));
+    assert!(rt; refused == Some(ErrorKind::TextWithoutZeroByte));
     let mut long = [0; 40];
     long[0] = 1;
     long[4] = 0xca;
     let segments = [long.as_slice()];
     let arena = ReaderArenaImpl::new(segments.as_slice(), 64);
     let refused = read::<text::Owned, _>(&arena, None)?.err();
-    assert_eq!(rt; refused, Some(ErrorKind::ReadLimitExceeded));
+    assert!(rt; refused == Some(ErrorKind::ReadLimitExceeded));
     Ok(())
 }

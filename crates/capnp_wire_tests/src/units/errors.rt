@@ -21,9 +21,9 @@ fn errors_show_their_kind(rt: HostRuntime) -> std::result::Result<(), Fail> {
         .err()
         .ok_or("refused")?;
     let text = format!(in rt.alloc(); "fault: framing {error}, {}", ErrorKind::Device)?;
-    assert_eq!(rt; text.as_str(), "fault: framing PrematureEndOfFile, Device");
-    assert_eq!(rt; error, Error::from(ErrorKind::PrematureEndOfFile));
-    assert_eq!(rt; Error::from(AllocError).kind, ErrorKind::OutOfMemory);
-    assert_eq!(rt; pushed(rt.alloc(), 7)?, 1);
+    assert!(rt; text.as_str() == "fault: framing PrematureEndOfFile, Device");
+    assert!(rt; error == Error::from(ErrorKind::PrematureEndOfFile));
+    assert!(rt; Error::from(AllocError).kind == ErrorKind::OutOfMemory);
+    assert!(rt; pushed(rt.alloc(), 7)? == 1);
     Ok(())
 }

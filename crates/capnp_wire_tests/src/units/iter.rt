@@ -55,17 +55,17 @@ fn gathered<I: Iterator<Item = u8> + Drop>(alloc: Global, items: I) -> Result<Ve
 #[test]
 fn items_come_from_both_ends(rt: HostRuntime) -> Result<(), Fail> {
     let mut items = ListIter::new(Bytes(b"abcdef"), 5);
-    assert_eq!(rt; items.size_hint(), (5, Some(5)));
-    assert_eq!(rt; items.next(), Some(b'a'));
-    assert_eq!(rt; items.next_back(), Some(b'e'));
-    assert_eq!(rt; items.len(), 3);
-    assert_eq!(rt; items.nth(1), Some(b'c'));
-    assert_eq!(rt; gathered(rt.alloc(), items)?.as_slice(), b"d".as_slice());
+    assert!(rt; items.size_hint() == (5, Some(5)));
+    assert!(rt; items.next() == Some(b'a'));
+    assert!(rt; items.next_back() == Some(b'e'));
+    assert!(rt; items.len() == 3);
+    assert!(rt; items.nth(1) == Some(b'c'));
+    assert!(rt; gathered(rt.alloc(), items)?.as_slice() == b"d".as_slice());
     let mut short = ShortListIter::new(Bytes(b"abcdef"), 4);
-    assert_eq!(rt; short.next_back(), Some(b'd'));
-    assert_eq!(rt; short.next(), Some(b'a'));
-    assert_eq!(rt; short.len(), 2);
-    assert_eq!(rt; short.nth(2), None);
-    assert_eq!(rt; gathered(rt.alloc(), short)?.as_slice(), b"".as_slice());
+    assert!(rt; short.next_back() == Some(b'd'));
+    assert!(rt; short.next() == Some(b'a'));
+    assert!(rt; short.len() == 2);
+    assert!(rt; short.nth(2) == None);
+    assert!(rt; gathered(rt.alloc(), short)?.as_slice() == b"".as_slice());
     Ok(())
 }

@@ -36,10 +36,10 @@ fn numbers_come_back(rt: HostRuntime) -> Result<(), Fail> {
 #[test]
 fn bytes_have_the_lowest_first(rt: HostRuntime) -> Result<(), Fail> {
     let mut bytes = [1, 2, 3, 4, 5, 6, 7, 0x88];
-    assert_eq!(rt; u32::get(&bytes), 0x0403_0201);
-    assert_eq!(rt; i64::get(&bytes), -0x77f8_f9fa_fbfc_fdff);
+    assert!(rt; u32::get(&bytes) == 0x0403_0201);
+    assert!(rt; i64::get(&bytes) == -0x77f8_f9fa_fbfc_fdff);
     i16::set(&mut bytes[2..], -2);
-    assert_eq!(rt; bytes, [1, 2, 0xfe, 0xff, 5, 6, 7, 0x88]);
-    assert_eq!(rt; u8::mask(0b1100, 0b1010), 0b0110);
+    assert!(rt; bytes == [1, 2, 0xfe, 0xff, 5, 6, 7, 0x88]);
+    assert!(rt; u8::mask(0b1100, 0b1010) == 0b0110);
     Ok(())
 }

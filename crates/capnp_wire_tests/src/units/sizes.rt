@@ -10,17 +10,17 @@ use std::test::Fail;
 fn sizes_are_counted(rt: HostRuntime) -> Result<(), Fail> {
     let words: [Word; 2] = [[1, 2, 3, 4, 5, 6, 7, 8], [9, 0, 0, 0, 0, 0, 0, 0]];
     let bytes = [1, 2, 3, 4, 5, 6, 7, 8, 9, 0, 0, 0, 0, 0, 0, 0];
-    assert_eq!(rt; words_as_bytes(&words), bytes.as_slice());
+    assert!(rt; words_as_bytes(&words) == bytes.as_slice());
     let size = StructSize {
         data_words: 65535,
         pointers: 65535,
     };
-    assert_eq!(rt; size.total(), 131070);
-    assert_eq!(rt; ElementSize::from_number(3), ElementSize::TwoBytes);
-    assert_eq!(rt; ElementSize::InlineComposite.number(), 7);
-    assert_eq!(rt; WirePointerKind::from_number(3), WirePointerKind::Other);
-    assert_eq!(rt; WirePointerKind::Far.number(), 2);
-    assert_eq!(rt; data_bits_per_element(ElementSize::FourBytes), 32);
-    assert_eq!(rt; pointers_per_element(ElementSize::Pointer), 1);
+    assert!(rt; size.total() == 131070);
+    assert!(rt; ElementSize::from_number(3) == ElementSize::TwoBytes);
+    assert!(rt; ElementSize::InlineComposite.number() == 7);
+    assert!(rt; WirePointerKind::from_number(3) == WirePointerKind::Other);
+    assert!(rt; WirePointerKind::Far.number() == 2);
+    assert!(rt; data_bits_per_element(ElementSize::FourBytes) == 32);
+    assert!(rt; pointers_per_element(ElementSize::Pointer) == 1);
     Ok(())
 }

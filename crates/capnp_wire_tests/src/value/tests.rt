@@ -44,7 +44,7 @@ fn expect_written(
     let mut value = read_value(alloc, segments, bounds)?.ok_or("no value")?;
     trim_whole(&mut value);
     let written = canonical(alloc, &value)?;
-    assert_eq!(rt; written.as_slice(), expected);
+    assert!(rt; written.as_slice() == expected);
     Ok(())
 }
 

@@ -101,56 +101,50 @@ fn ask_struct(segments: &[&[u8]], behind: usize) -> Answer<(bool, usize, usize)>
 #[test]
 fn words_that_a_canonical_value_lacks(rt: HostRuntime) -> Result<(), Fail> {
     let padded = ask(&[PADDED], 64, Some(1000))?;
-    assert_eq!(rt; (padded.answer?, padded.head), (false, 1));
-    assert_eq!(rt; (padded.granted, padded.followed), (3, 1));
+    assert!(rt; (padded.answer?, padded.head) == (false, 1));
+    assert!(rt; (padded.granted, padded.followed) == (3, 1));
     let filled = ask(&[FILLED], 64, Some(1000))?;
-    assert_eq!(rt; (filled.answer?, filled.head), (true, 4));
-    assert_eq!(rt; (filled.granted, filled.followed), (3, 3));
+    assert!(rt; (filled.answer?, filled.head) == (true, 4));
+    assert!(rt; (filled.granted, filled.followed) == (3, 3));
     let far = ask(&[FAR, FAR_TARGET], 64, Some(1000))?;
-    assert_eq!(rt; (far.answer?, far.head), (false, 1));
+    assert!(rt; (far.answer?, far.head) == (false, 1));
     let alone = ask(&[FAR_TARGET], 64, Some(1000))?;
-    assert_eq!(rt; (alone.answer?, alone.head), (true, 2));
+    assert!(rt; (alone.answer?, alone.head) == (true, 2));
     Ok(())
 }
 
 #[test]
 fn lists_at_roots_and_behind_them(rt: HostRuntime) -> Result<(), Fail> {
     let wide = ask(&[WITH_NULLS], 64, Some(1000))?;
-    assert_eq!(rt; (wide.answer?, wide.head), (false, 1));
-    assert_eq!(rt; (wide.granted, wide.followed), (6, 2));
+    assert!(rt; (wide.answer?, wide.head) == (false, 1));
+    assert!(rt; (wide.granted, wide.followed) == (6, 2));
     let least = ask(&[WITHOUT_NULLS], 64, Some(1000))?;
-    assert_eq!(rt; (least.answer?, least.head), (true, 5));
-    assert_eq!(rt; (least.granted, least.followed), (4, 2));
+    assert!(rt; (least.answer?, least.head) == (true, 5));
+    assert!(rt; (least.granted, least.followed) == (4, 2));
     let structs = ask(&[STRUCTS], 64, Some(1000))?;
-    assert_eq!(rt; (structs.answer?, structs.head), (true, 8));
-    assert_eq!(rt; (structs.granted, structs.followed), (7, 3));
+    assert!(rt; (structs.answer?, structs.head) == (true, 8));
+    assert!(rt; (structs.granted, structs.followed) == (7, 3));
     let voids = ask(&[VOIDS_BEHIND], 64, Some(1000))?;
-    assert_eq!(rt;
-        voids.answer.err(),
-        Some(Error::from(ErrorKind::ReadLimitExceeded))
-    );
-    assert_eq!(rt; (voids.head, voids.granted, voids.followed), (1, 2, 3));
+    assert!(rt; voids.answer.err() == Some(Error::from(ErrorKind::ReadLimitExceeded)));
+    assert!(rt; (voids.head, voids.granted, voids.followed) == (1, 2, 3));
     let empty = ask(&[&[1, 0, 0, 0, 0, 0, 0, 0]], 64, Some(0))?;
-    assert_eq!(rt; (empty.answer?, empty.head), (true, 1));
+    assert!(rt; (empty.answer?, empty.head) == (true, 1));
     let outside = Some(Error::from(ErrorKind::OutOfBounds));
-    assert_eq!(rt; ask(&[&[]], 64, None).err(), outside);
+    assert!(rt; ask(&[&[]], 64, None).err() == outside);
     Ok(())
 }
 
 #[test]
 fn a_refusal_is_that_of_a_walk(rt: HostRuntime) -> Result<(), Fail> {
     let deep = Some(Error::from(ErrorKind::NestingLimitExceeded));
-    assert_eq!(rt; ask(&[FILLED], 1, Some(1000))?.answer.err(), deep);
-    assert_eq!(rt; ask(&[FILLED], 2, Some(1000))?.answer?, true);
+    assert!(rt; ask(&[FILLED], 1, Some(1000))?.answer.err() == deep);
+    assert!(rt; ask(&[FILLED], 2, Some(1000))?.answer?);
     let none = ask(&[FILLED], -1, Some(1000))?;
-    assert_eq!(rt; (none.answer.err(), none.head), (deep, 1));
-    assert_eq!(rt; (none.granted, none.followed), (0, 0));
+    assert!(rt; (none.answer.err(), none.head) == (deep, 1));
+    assert!(rt; (none.granted, none.followed) == (0, 0));
     let dear = ask(&[FILLED], 64, Some(2))?;
-    assert_eq!(rt;
-        dear.answer.err(),
-        Some(Error::from(ErrorKind::ReadLimitExceeded))
-    );
-    assert_eq!(rt; (dear.head, dear.granted), (1, 2));
+    assert!(rt; dear.answer.err() == Some(Error::from(ErrorKind::ReadLimitExceeded)));
+    assert!(rt; (dear.head, dear.granted) == (1, 2));
     Ok(())
 }
 
@@ -159,22 +153,19 @@ fn elements_without_words_take_no_step(rt: HostRuntime) -> Result<(), Fail> {
     // If each of 2^29 - 1 elements took a step, a hundred walks would take minutes.
     for _ in 0..100 {
         let structs = ask(&[EMPTY_STRUCTS], 1, None)?;
-        assert_eq!(rt;
-            (structs.answer?, structs.head, structs.followed),
-            (true, 2, 1)
-        );
+        assert!(rt; (structs.answer?, structs.head, structs.followed) == (true, 2, 1));
         let voids = ask(&[VOIDS], 1, None)?;
-        assert_eq!(rt; (voids.answer?, voids.head, voids.followed), (true, 1, 1));
+        assert!(rt; (voids.answer?, voids.head, voids.followed) == (true, 1, 1));
     }
     Ok(())
 }
 
 #[test]
 fn structs_with_two_heads(rt: HostRuntime) -> Result<(), Fail> {
-    assert_eq!(rt; ask_struct(&[FILLED], 3)?, (true, 3, 4));
-    assert_eq!(rt; ask_struct(&[FILLED], 4)?, (false, 1, 4));
-    assert_eq!(rt; ask_struct(&[PADDED], 4)?, (false, 1, 4));
-    assert_eq!(rt; ask_struct(&[FAR_TARGET], 2)?, (true, 2, 2));
+    assert!(rt; ask_struct(&[FILLED], 3)? == (true, 3, 4));
+    assert!(rt; ask_struct(&[FILLED], 4)? == (false, 1, 4));
+    assert!(rt; ask_struct(&[PADDED], 4)? == (false, 1, 4));
+    assert!(rt; ask_struct(&[FAR_TARGET], 2)? == (true, 2, 2));
     Ok(())
 }
 
@@ -198,12 +189,12 @@ fn a_default_stands_in_its_own_segment(rt: HostRuntime) -> Result<(), Fail> {
             .get_pointer_field(0)
             .is_canonical(&mut limiter, &mut head)?
     );
-    assert_eq!(rt; (head.position, limiter.followed()), (3, 0));
+    assert!(rt; (head.position, limiter.followed()) == (3, 0));
     assert!(rt;
         !value
             .get_pointer_field(1)
             .is_canonical(&mut limiter, &mut head)?
     );
-    assert_eq!(rt; head.position, 3);
+    assert!(rt; head.position == 3);
     Ok(())
 }

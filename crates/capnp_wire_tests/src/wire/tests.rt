@@ -39,17 +39,17 @@ fn a_struct_behind_a_pad_of_two_words(rt: HostRuntime) -> Result<(), Fail> {
     let mut limiter = ReadLimiter::new(Some(3));
     let root = PointerReader::get_root_from_arena(&arena)?;
     let found = root.get_struct(&mut limiter, None)?;
-    assert_eq!(rt; found.get_data_field::<u64>(0), 7);
-    assert_eq!(rt; found.get_data_field::<u16>(4), 0);
-    assert_eq!(rt; found.get_data_field_mask::<i16>(0, 5), 2);
+    assert!(rt; found.get_data_field::<u64>(0) == 7);
+    assert!(rt; found.get_data_field::<u16>(4) == 0);
+    assert!(rt; found.get_data_field_mask::<i16>(0, 5) == 2);
     assert!(rt; found.get_bool_field(2));
     assert!(rt; found.get_bool_field_mask(3, true));
     assert!(rt; found.is_pointer_field_null(0));
-    assert_eq!(rt; limiter.granted(), 3);
-    assert_eq!(rt; limiter.followed(), 1);
+    assert!(rt; limiter.granted() == 3);
+    assert!(rt; limiter.followed() == 1);
     assert!(rt; matches!(root.get_pointer_type(), Ok(PointerType::Struct)));
     let refused = root.get_struct(&mut limiter, None).err();
-    assert_eq!(rt; refused, Some(Error::from(ErrorKind::ReadLimitExceeded)));
+    assert!(rt; refused == Some(Error::from(ErrorKind::ReadLimitExceeded)));
     Ok(())
 }
 
@@ -61,12 +61,12 @@ fn an_empty_struct_and_a_malformed_pad(rt: HostRuntime) -> Result<(), Fail> {
     let root = PointerReader::get_root_from_arena(&arena)?;
     assert!(rt; !root.is_null());
     let found = root.get_struct(&mut limiter, None)?;
-    assert_eq!(rt; found.get_data_field::<u64>(0), 0);
+    assert!(rt; found.get_data_field::<u64>(0) == 0);
     let segments: &[&[u8]] = &[FAR, FAR_PAD, SEVEN];
     let arena = ReaderArenaImpl::new(segments, 64);
     let root = PointerReader::get_root_from_arena(&arena)?;
     let refused = root.get_struct(&mut limiter, None).err();
-    assert_eq!(rt; refused, Some(Error::from(ErrorKind::MalformedFarPointer)));
+    assert!(rt; refused == Some(Error::from(ErrorKind::MalformedFarPointer)));
     Ok(())
 }
 
@@ -78,9 +78,9 @@ fn what_is_not_there(rt: HostRuntime) -> Result<(), Fail> {
     let arena = ReaderArenaImpl::new(segments, 64);
     let root = PointerReader::get_root_from_arena(&arena)?;
     let refused = root.get_struct(&mut limiter, None).err();
-    assert_eq!(rt; refused, Some(Error::from(ErrorKind::OutOfBounds)));
+    assert!(rt; refused == Some(Error::from(ErrorKind::OutOfBounds)));
     assert!(rt; PointerReader::get_root_from_arena(&NullArena).is_err());
-    assert_eq!(rt; arena.into_segments().len(), 1);
+    assert!(rt; arena.into_segments().len() == 1);
     Ok(())
 }
 
@@ -93,9 +93,9 @@ fn intervals_of_an_arena(rt: HostRuntime) -> Result<(), Fail> {
         segment: 1,
         position: 0,
     };
-    assert_eq!(rt; arena.size_in_words(), 4);
-    assert_eq!(rt; arena.nesting_limit(), 64);
-    assert_eq!(rt; arena.check_offset(pad, 2)?.position, 2);
+    assert!(rt; arena.size_in_words() == 4);
+    assert!(rt; arena.nesting_limit() == 64);
+    assert!(rt; arena.check_offset(pad, 2)?.position == 2);
     assert!(rt; arena.check_offset(pad, -1).is_err());
     assert!(rt; arena.contains_interval(&mut limiter, pad, 2).is_ok());
     assert!(rt; arena.contains_interval(&mut limiter, pad, 3).is_err());
@@ -111,37 +111,34 @@ fn a_byte_list_as_other_lists(rt: HostRuntime) -> Result<(), Fail> {
     let arena = ReaderArenaImpl::new(segments, 1);
     let mut limiter = ReadLimiter::new(None);
     let root = PointerReader::get_root_from_arena(&arena)?;
-    assert_eq!(rt;
-        root.get_list(&mut limiter, ElementSize::Void, None)?.len(),
-        2
-    );
+    assert!(rt; root.get_list(&mut limiter, ElementSize::Void, None)?.len() == 2);
     let bits = root.get_list(&mut limiter, ElementSize::Bit, None)?;
-    assert_eq!(rt; bits.len(), 2);
+    assert!(rt; bits.len() == 2);
     if bits.len() == 2 {
         assert!(rt; bool::get(&bits, 0));
         assert!(rt; !bool::get(&bits, 1));
-        assert_eq!(rt; u8::get(&bits, 1), 0x42);
-        assert_eq!(rt; u16::get(&bits, 1), 0);
+        assert!(rt; u8::get(&bits, 1) == 0x42);
+        assert!(rt; u16::get(&bits, 1) == 0);
         <() as PrimitiveElement>::get(&bits, 1);
     }
     let refused = root.get_list(&mut limiter, u16::element_size(), None).err();
-    assert_eq!(rt; refused, Some(Error::from(ErrorKind::WrongElementSize)));
+    assert!(rt; refused == Some(Error::from(ErrorKind::WrongElementSize)));
     let structs = root.get_list(&mut limiter, ElementSize::InlineComposite, None)?;
-    assert_eq!(rt; structs.len(), 2);
+    assert!(rt; structs.len() == 2);
     if structs.len() == 2 {
         let one = structs.get_struct_element(0);
         let two = structs.get_struct_element(1);
-        assert_eq!(rt; one.get_data_field::<u8>(0), 65);
-        assert_eq!(rt; two.get_data_field::<u8>(0), 66);
-        assert_eq!(rt; two.get_data_field::<u16>(0), 0);
+        assert!(rt; one.get_data_field::<u8>(0) == 65);
+        assert!(rt; two.get_data_field::<u8>(0) == 66);
+        assert!(rt; two.get_data_field::<u16>(0) == 0);
         assert!(rt; structs.get_pointer_element(1).is_null());
     }
-    assert_eq!(rt; root.get_data(&mut limiter, None)?, b"AB".as_slice());
+    assert!(rt; root.get_data(&mut limiter, None)? == b"AB".as_slice());
     let refused = root.get_text(&mut limiter, None).err();
-    assert_eq!(rt; refused, Some(Error::from(ErrorKind::TextWithoutZeroByte)));
+    assert!(rt; refused == Some(Error::from(ErrorKind::TextWithoutZeroByte)));
     let size = root.total_size(&mut limiter)?;
-    assert_eq!(rt; size.word_count, 1);
-    assert_eq!(rt; size.cap_count, 0);
+    assert!(rt; size.word_count == 1);
+    assert!(rt; size.cap_count == 0);
     Ok(())
 }
 
@@ -155,17 +152,17 @@ fn the_size_of_a_struct_with_a_text(rt: HostRuntime) -> Result<(), Fail> {
     let mut limiter = ReadLimiter::new(Some(3));
     let root = PointerReader::get_root_from_arena(&arena)?;
     let size = root.total_size(&mut limiter)?;
-    assert_eq!(rt; size.word_count, 2);
-    assert_eq!(rt; size.cap_count, 0);
-    assert_eq!(rt; limiter.granted(), 2);
+    assert!(rt; size.word_count == 2);
+    assert!(rt; size.cap_count == 0);
+    assert!(rt; limiter.granted() == 2);
     let found = root.get_struct(&mut ReadLimiter::new(None), None)?;
-    assert_eq!(rt; found.total_size(&mut limiter)?.word_count, 2);
+    assert!(rt; found.total_size(&mut limiter)?.word_count == 2);
     let text = found
         .get_pointer_field(0)
         .get_text(&mut ReadLimiter::new(None), None)?;
-    assert_eq!(rt; text, b"hi".as_slice());
+    assert!(rt; text == b"hi".as_slice());
     let refused = root.total_size(&mut limiter).err();
-    assert_eq!(rt; refused, Some(Error::from(ErrorKind::ReadLimitExceeded)));
+    assert!(rt; refused == Some(Error::from(ErrorKind::ReadLimitExceeded)));
     Ok(())
 }
 
@@ -196,7 +193,7 @@ fn a_default_costs_nothing(rt: HostRuntime) -> Result<(), Fail> {
     let arena = ReaderArenaImpl::new(segments, 1);
     let mut limiter = ReadLimiter::new(Some(0));
     assert!(rt; reads_default(&arena, &mut limiter, HI)?);
-    assert_eq!(rt; limiter.granted(), 0);
+    assert!(rt; limiter.granted() == 0);
     Ok(())
 }
 
@@ -295,8 +292,8 @@ fn types_of_a_caller(rt: HostRuntime) -> Result<(), Fail> {
     let words: &[u8] = &[0, 0, 0, 0, 1, 0, 0, 0, 7, 0, 0, 0, 0, 0, 0, 0];
     let segments: &[&[u8]] = &[words];
     let arena = ReaderArenaImpl::new(segments, 1);
-    assert_eq!(rt; <Number as HasStructSize>::STRUCT_SIZE.total(), 1);
-    assert_eq!(rt; <Number as HasTypeId>::TYPE_ID, 0xd1);
+    assert!(rt; <Number as HasStructSize>::STRUCT_SIZE.total() == 1);
+    assert!(rt; <Number as HasTypeId>::TYPE_ID == 0xd1);
     assert!(rt; reads_types(&arena, &mut ReadLimiter::new(None))?);
     Ok(())
 }
@@ -336,20 +333,17 @@ fn list_at_root<A: ReaderArena>(arena: &A) -> Result<(u32, u32, u8, u8), Error> 
 fn owned_and_lent_segments_read_alike(rt: HostRuntime) -> Result<(), Fail> {
     let alloc = rt.alloc();
     let far = ReaderArenaImpl::new(owned(alloc, &[FAR, PAD, SEVEN])?, 64);
-    assert_eq!(rt; number_at_root(&far)?, (7, 3));
+    assert!(rt; number_at_root(&far)? == (7, 3));
     let empty = ReaderArenaImpl::new(owned(alloc, &[FAR, EMPTY_PAD, SEVEN])?, 64);
-    assert_eq!(rt; number_at_root(&empty)?, (0, 2));
+    assert!(rt; number_at_root(&empty)? == (0, 2));
     let malformed = ReaderArenaImpl::new(owned(alloc, &[FAR, FAR_PAD, SEVEN])?, 64);
     let refused = number_at_root(&malformed).err();
-    assert_eq!(rt; refused, Some(Error::from(ErrorKind::MalformedFarPointer)));
+    assert!(rt; refused == Some(Error::from(ErrorKind::MalformedFarPointer)));
     let missing = ReaderArenaImpl::new(owned(alloc, &[&[2, 0, 0, 0, 5, 0, 0, 0]])?, 64);
     let refused = number_at_root(&missing).err();
-    assert_eq!(rt; refused, Some(Error::from(ErrorKind::OutOfBounds)));
+    assert!(rt; refused == Some(Error::from(ErrorKind::OutOfBounds)));
     let list: &[u8] = &[1, 0, 0, 0, 0x12, 0, 0, 0, 0x41, 0x42, 0, 0, 0, 0, 0, 0];
     let lent: &[&[u8]] = &[list];
-    assert_eq!(rt;
-        list_at_root(&ReaderArenaImpl::new(lent, 1))?,
-        (2, 2, 65, 66)
-    );
+    assert!(rt; list_at_root(&ReaderArenaImpl::new(lent, 1))? == (2, 2, 65, 66));
     Ok(())
 }
