@@ -11,3 +11,4 @@ pub mod GroupWrites
 pub mod GroupFields
 pub mod GroupSources
 pub mod GroupRoots
+pub mod GroupEmpties

@@ -3,6 +3,7 @@
 
 mod default;
 mod end;
+mod group_empties;
 mod group_sets;
 mod group_sources;
 mod messages;
