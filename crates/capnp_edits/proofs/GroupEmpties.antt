@@ -1,5 +1,5 @@
 -- Empty values that are put behind pointers.
-use Rattle.std.proofs.Common.{◌≡◌, ℕ, suc, ◌+◌, Bool, true, false, Option, Some, None, Result, Ok, Err, OnOk, refl, sym, subst, arith}
+use Rattle.std.proofs.Common.{◌≡◌, ℕ, suc, ◌+◌, true, false, Option, Some, None, Result, Ok, Err, OnOk, refl, subst, arith}
 use Rattle.std.specs.Prelude.{IfSome, IfErr, option_map, option_copied}
 use Rattle.std.specs.Option.{is_some}
 use Rattle.std.specs.Borrow.{Bor}
@@ -9,7 +9,7 @@ use Rattle.capnp_model.specs.Trees.{Tree, null, struct_list, no_elements}
 use Rattle.capnp_model.specs.Coverage.{Grows}
 use Rattle.capnp_model.specs.Accepted.{default_tree}
 use Rattle.capnp_model.specs.Schemas.{Ty, void, plain, text, blob, untyped, interface, struct, list, Schema, default_or_null}
-use Rattle.capnp_model.specs.Calls.{Content, object, initn_content}
+use Rattle.capnp_model.specs.Calls.{object, initn_content}
 use Rattle.capnp_model.specs.Groups.{empty_tree}
 use Rattle.capnp_units.specs.Segments.{words_in}
 use Rattle.capnp_units.specs.declared.errors.Error.{Error}

@@ -1,10 +1,10 @@
 -- One field of a group after the other is set, where the struct lies.
-use Rattle.std.proofs.Common.{◌≡◌, ℕ, suc, ◌+◌, ◌*◌, ◌<◌, Bool, true, false, [], Option, Some, None, Result, Ok, Err, OnOk, refl, sym, ap, subst, ◌∙◌, arith}
+use Rattle.std.proofs.Common.{◌≡◌, ℕ, suc, ◌+◌, ◌*◌, ◌<◌, Bool, true, false, [], Option, Some, None, Result, Ok, Err, OnOk, sym, ap, subst, ◌∙◌, arith}
 use Rattle.std.specs.Prelude.{option_map}
 use Rattle.capnp_model.specs.Segments.{Segments, Place, after}
-use Rattle.capnp_model.specs.Trees.{Tree, null, capability, structure, plain_list, pointer_list, struct_list, none, child}
+use Rattle.capnp_model.specs.Trees.{Tree, null, structure, child}
 use Rattle.capnp_model.specs.Accepted.{schema_of, areas_of, areas_of_body}
-use Rattle.capnp_model.specs.Schemas.{width, PlainType, Ty, Shape, shape, Field as FieldNode, Body, void_slot, plain_slot, pointer_slot, group_slot, Schema, default_or_null}
+use Rattle.capnp_model.specs.Schemas.{width, PlainType, Ty, Shape, Field as FieldNode, Body, void_slot, plain_slot, pointer_slot, group_slot, Schema, default_or_null}
 use Rattle.capnp_model.specs.Readings.{field_bits, whole_words}
 use Rattle.capnp_model.specs.Calls.{clear, set_to, message, message_root}
 use Rattle.capnp_model.specs.Edits.{Cell, Edit, mark, put_bits, put_child, cleared, after_writes, body_writes, edit_field}

@@ -1,4 +1,4 @@
-use Rattle.std.proofs.Common.{◌≡◌, sym, ◌∙◌}
+use Rattle.std.proofs.Common.{sym, ◌∙◌}
 use Rattle.capnp_model.specs.Accepted.{schema_of}
 use Rattle.capnp_records.specs.Sets.{nodes_of}
 use Rattle.capnp_queries.specs.Types.{ty_of}

@@ -1,11 +1,9 @@
-use Rattle.std.proofs.Common.{rules, ◌≡◌, ◌*◌, ◌^◌, ◌<◌, ℕ, true, false, Some, None, Ok, Err, OnOk, refl, sym, ap, subst, ◌∙◌}
-use Rattle.std.specs.Prelude.{option_map, option_copied, ⊤}
+use Rattle.std.proofs.Common.{rules, ◌≡◌, true, false, OnOk, refl, sym, ap, subst, ◌∙◌}
+use Rattle.std.specs.Prelude.{option_map, option_copied}
 use Rattle.std.specs.Option.{is_some}
-use Rattle.capnp_model.specs.Accepted.{areas_of, default_tree, schema_of}
+use Rattle.capnp_model.specs.Accepted.{default_tree, schema_of}
 use Rattle.capnp_model.specs.Groups.{empty_tree}
 use Rattle.capnp_model.specs.Segments.{words_at}
-use Rattle.capnp_model.specs.Schemas.{width}
-use Rattle.capnp_model.specs.Edits.{Cell}
 use Rattle.capnp_units.specs.Segments.{words_in}
 use Rattle.capnp_wire.specs.Places.{place_view}
 use Rattle.capnp_wire.specs.Views.{seen_struct}
@@ -17,11 +15,10 @@ use Rattle.capnp_queries.specs.Types.{ty_of}
 use Rattle.capnp_queries.specs.declared.slots.FieldPlace.TheVariants as F
 use Rattle.capnp_copy.proofs.RoomLaws.{sizes_grow}
 use Rattle.capnp_footprints.proofs.Spans.{grows_same, grows_then}
-use Rattle.capnp_dynamic.specs.Inside.{LieIn}
 use Rattle.capnp_dynamic.proofs.Marks.{member_none, member_there}
 use Rattle.capnp_dynamic.proofs.Ready.{there_after, data_there, pointer_there}
 use Rattle.capnp_dynamic.proofs.Grown.{there_grown}
-use Rattle.capnp_dynamic.proofs.Groups.{shape_depth, fields_depth, body_depth, depth_of_fields, depth_of_group}
+use Rattle.capnp_dynamic.proofs.Groups.{shape_depth, body_depth, depth_of_fields, depth_of_group}
 use Rattle.capnp_dynamic.proofs.GroupFields.{plain_inside, pointer_inside, group_inside, member_inside, member_depth}
 use Rattle.capnp_edits.specs.Written.{PutsTree}
 use Rattle.capnp_edits.proofs.GroupEmpties.{no_default}
