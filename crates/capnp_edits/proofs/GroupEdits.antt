@@ -1,9 +1,9 @@
 -- Edits under which levels of pointers may be new, one after the other.
-use Rattle.std.proofs.Common.{◌≡◌, ℕ, ◌+◌, ◌<◌, ◌≤◌, List, [], ◌∷◌, Option, Some, refl, sym, ap, subst, arith, Result, Ok, Err, OnOk}
+use Rattle.std.proofs.Common.{◌≡◌, ℕ, ◌+◌, ◌<◌, ◌≤◌, List, [], ◌∷◌, Some, sym, ap, subst, arith, Result, Ok, Err, OnOk}
 use Rattle.std.specs.List.{AllByRecursion}
 use Rattle.capnp_model.specs.Segments.{Segments, Place, after}
 use Rattle.capnp_model.specs.Pointers.{Object}
-use Rattle.capnp_model.specs.Trees.{Tree, Trees, structure, child}
+use Rattle.capnp_model.specs.Trees.{Tree, structure, child}
 use Rattle.capnp_model.specs.Traversal.{tree_of, tree_at}
 use Rattle.capnp_model.specs.Coverage.{Span, covered_object, times_held, Keeps}
 use Rattle.capnp_model.specs.Edits.{Cell, Edit, put_child}

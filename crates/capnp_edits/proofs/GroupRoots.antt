@@ -1,7 +1,6 @@
 -- The struct of a message's root.
-use Rattle.std.proofs.Common.{◌≡◌, ℕ, ℤ, Option, Some, None, Result, Ok, Err, refl, sym, ap, subst, ◌∙◌}
-use Rattle.capnp_model.specs.Kinds.{Kind}
-use Rattle.capnp_model.specs.Segments.{Segments, Place, root}
+use Rattle.std.proofs.Common.{◌≡◌, ℕ, Option, Some, Ok, refl, sym, ap, subst, ◌∙◌}
+use Rattle.capnp_model.specs.Segments.{Segments, root}
 use Rattle.capnp_model.specs.Trees.{Tree, null, capability, structure, plain_list, pointer_list, struct_list, none}
 use Rattle.capnp_model.specs.Traversal.{tree_at}
 use Rattle.capnp_model.specs.Calls.{message_root}

@@ -19,3 +19,4 @@ pub mod BegunLists
 pub mod ElementEnds
 pub mod ElementMessages
 pub mod TakenContents
+pub mod GroupEmpties

@@ -1,7 +1,7 @@
 -- Groups that are set to the value of a message. (Encoding, "Structs")
 use Rattle.std.specs.Prelude.{◌≡◌, ℕ, ◌*◌, Bool, true, false, Option, Some, None}
 use Rattle.capnp_model.specs.Segments.{Segments}
-use Rattle.capnp_model.specs.Schemas.{Shape, Schema}
+use Rattle.capnp_model.specs.Schemas.{Ty, void, plain, text, blob, untyped, interface, struct, list, Shape, Schema}
 use Rattle.capnp_model.specs.Printing.{fields_in}
 use Rattle.capnp_model.specs.Traversal.{tree_at}
 use Rattle.capnp_model.specs.Readings.{discriminant, whole_words}
@@ -49,3 +49,21 @@ fields_copied s members g from c = after_writes (field_writes s members (fields_
 -- First the active member, then the other fields.
 abbrev pub group_copied : Schema → Shape → Cell → Edit
 group_copied s g from c = fields_copied s false g from (fields_copied s true g from c)
+
+-- Whether a type is a list of structs.
+abbrev pub is_struct_list : Ty → Bool
+is_struct_list void = false
+is_struct_list (plain p) = false
+is_struct_list text = false
+is_struct_list blob = false
+is_struct_list untyped = false
+is_struct_list interface = false
+is_struct_list (struct id) = false
+is_struct_list (list void) = false
+is_struct_list (list (plain p)) = false
+is_struct_list (list text) = false
+is_struct_list (list blob) = false
+is_struct_list (list untyped) = false
+is_struct_list (list interface) = false
+is_struct_list (list (struct id)) = true
+is_struct_list (list (list ty)) = false

@@ -17,6 +17,7 @@ ghost use Rattle.capnp_edits.specs.GroupSets.{IsSource, EditsAny, entry_copied, 
 ghost use Rattle.capnp_edits.specs.Written.{WritesField};
 
 use crate::default::words_of;
+use crate::group_empties::put_empty;
 use crate::group_sources::{bits_in, copy_child, has_turn};
 use capnp_call_messages::message::MessageValue;
 use capnp_copy::arena::BuilderArena;
@@ -42,7 +43,7 @@ const ROOT: Place = Place {
     position: 0,
 };
 
-/// Sets a field as it is in what is read, and marks its union. A null pointer is left, but for that of a union's member, which is refused with `TypeMismatch`.
+/// Sets a field as it is in what is read, and marks its union. A null pointer is left, but that of a union's member becomes the empty value of its type; where it has a default, or its type no such value, it is refused with `TypeMismatch`.
 #[cycle(sets)]
 fn copy_field<A: BuilderArena, B: ReaderArena>(
     arena: &mut A,
@@ -69,13 +70,18 @@ fn copy_field<A: BuilderArena, B: ReaderArena>(
             let at = width as usize * offset as usize;
             set_bits(arena, object, at, width, bits_in(source, ty, offset));
         }
-        FieldPlace::Pointer { index, .. } => {
+        FieldPlace::Pointer { index, ty, default } => {
             if !source.is_pointer_field_null(index as usize) {
                 mark(arena, object, field);
                 return copy_child(arena, pointer_place(object, index), source, index);
             }
             if said.discriminant_value != NO_DISCRIMINANT {
-                return Err(Error::from(ErrorKind::TypeMismatch));
+                if default.is_some() {
+                    return Err(Error::from(ErrorKind::TypeMismatch));
+                }
+                mark(arena, object, field);
+                let set = field.parent().set();
+                return put_empty(arena, pointer_place(object, index), set, ty);
             }
         }
         FieldPlace::Group { schema } => {

@@ -5,6 +5,7 @@ mod contents;
 mod default;
 mod elements;
 mod end;
+mod group_empties;
 mod group_sets;
 mod group_sources;
 mod lists;

@@ -1,30 +1,30 @@
-use Rattle.std.proofs.Common.{rules, ◌≡◌, ◌*◌, ◌^◌, ◌<◌, ℕ, true, false, Some, None, Ok, Err, OnOk, refl, sym, ap, subst, ◌∙◌}
-use Rattle.std.specs.Prelude.{option_map, option_copied, ⊤}
+use Rattle.std.proofs.Common.{rules, ◌≡◌, true, false, OnOk, refl, sym, ap, subst, ◌∙◌}
+use Rattle.std.specs.Prelude.{option_map, option_copied}
 use Rattle.std.specs.Option.{is_some}
-use Rattle.capnp_model.specs.Accepted.{areas_of, default_tree}
+use Rattle.capnp_model.specs.Accepted.{default_tree, schema_of}
+use Rattle.capnp_model.specs.Groups.{empty_tree}
 use Rattle.capnp_model.specs.Segments.{words_at}
-use Rattle.capnp_model.specs.Schemas.{width}
-use Rattle.capnp_model.specs.Edits.{Cell}
 use Rattle.capnp_units.specs.Segments.{words_in}
 use Rattle.capnp_wire.specs.Places.{place_view}
 use Rattle.capnp_wire.specs.Views.{seen_struct}
 use Rattle.capnp_records.specs.NodeViews.{field_of, value_of}
 use Rattle.capnp_queries.specs.Fields.{field_count, union_in}
-use Rattle.capnp_queries.specs.Structs.{schema_around, shape_of_struct, fields_of_struct}
+use Rattle.capnp_queries.specs.Structs.{nodes_around, schema_around, shape_of_struct, fields_of_struct}
 use Rattle.capnp_queries.specs.Handles.{entry_of, body_of_place, plain_of}
 use Rattle.capnp_queries.specs.Types.{ty_of}
 use Rattle.capnp_queries.specs.declared.slots.FieldPlace.TheVariants as F
 use Rattle.capnp_copy.proofs.RoomLaws.{sizes_grow}
 use Rattle.capnp_footprints.proofs.Spans.{grows_same, grows_then}
-use Rattle.capnp_dynamic.specs.Inside.{LieIn}
-use Rattle.capnp_dynamic.proofs.Marks.{member_none}
+use Rattle.capnp_dynamic.proofs.Marks.{member_none, member_there}
 use Rattle.capnp_dynamic.proofs.Ready.{there_after, data_there, pointer_there}
 use Rattle.capnp_dynamic.proofs.Grown.{there_grown}
-use Rattle.capnp_dynamic.proofs.Groups.{shape_depth, fields_depth, body_depth, depth_of_fields, depth_of_group}
+use Rattle.capnp_dynamic.proofs.Groups.{shape_depth, body_depth, depth_of_fields, depth_of_group}
 use Rattle.capnp_dynamic.proofs.GroupFields.{plain_inside, pointer_inside, group_inside, member_inside, member_depth}
+use Rattle.capnp_edits.specs.Written.{PutsTree}
+use Rattle.capnp_edits.proofs.GroupEmpties.{no_default}
 use Rattle.capnp_edits.specs.GroupSets.{fields_copied, group_copied}
 use Rattle.capnp_edits.proofs.GroupEdits.{then_ok}
-use Rattle.capnp_edits.proofs.GroupFields.{void_field, plain_field, pointer_field, null_field, group_field, in_turn, out_of_turn, front_begins, front_goes, front_ends}
+use Rattle.capnp_edits.proofs.GroupFields.{void_field, plain_field, pointer_field, null_field, empty_field, group_field, in_turn, out_of_turn, front_begins, front_goes, front_ends}
 use Rattle.capnp_edits.proofs.GroupSources.{null_child, some_child}
 use Rattle.capnp_edits.proofs.group_sets.+sets.Goals as goal
 
@@ -183,3 +183,40 @@ copy_field-returns-in-Group-clause-grows g t c =
     let s = words_in (g.A.ReaderArena.segments c.args.arena.now) in
     let m = words_in (g.A.ReaderArena.segments c.clear_field.new.arena) in
     grows_then s m (words_in (g.A.ReaderArena.segments c.copy_group.new.arena)) (sizes_grow s m c.clear_field.ensures.sizes) c.copy_group.ensures.grows
+
+-- ---- null members
+
+pub copy_field-pointer_place-requires-then-said-clause-inside : goal.copy_field-pointer_place-requires-then-said-clause-inside
+copy_field-pointer_place-requires-then-said-clause-inside g t c =
+    let p = c.args.object in
+    let b = F.Pointer c.in-Pointer.index c.in-Pointer.ty c.in-Pointer.default in
+    let inside = member_inside c.args.field (field_of c.get_proto-said.result.now) c.get_proto-said.ensures (body_of_place b) c.in-Pointer.ensures.body p.data_words p.pointers c.requires.inside in
+    pointer_inside p b c.in-Pointer.index c.in-Pointer.ty c.in-Pointer.default refl inside
+
+pub copy_field-put_empty-requires-clause-there : goal.copy_field-put_empty-requires-clause-there
+copy_field-put_empty-requires-clause-there g t c =
+    let p = c.args.object in
+    let b = F.Pointer c.in-Pointer.index c.in-Pointer.ty c.in-Pointer.default in
+    let inside = member_inside c.args.field (field_of c.get_proto-said.result.now) c.get_proto-said.ensures (body_of_place b) c.in-Pointer.ensures.body p.data_words p.pointers c.requires.inside in
+    let l = pointer_inside p b c.in-Pointer.index c.in-Pointer.ty c.in-Pointer.default refl inside in
+    let m = words_in (g.A.ReaderArena.segments c.mark-then-said.new.arena) in
+    let there = there_after (words_in (g.A.ReaderArena.segments c.args.arena.now)) m p c.mark-then-said.ensures.sizes c.requires.there in
+    subst (λ q. is_some (words_at m q 1) ≡ true) (sym c.pointer_place-then-said.ensures.place) (pointer_there m (place_view p.start) p.data_words p.pointers c.in-Pointer.index l there.words)
+
+pub copy_field-returns-then-said-clause-writes : goal.copy_field-returns-then-said-clause-writes
+copy_field-returns-then-said-clause-writes g t c from is =
+    let p = c.args.object in
+    let f = c.args.field in
+    let d = c.get_proto-said.result.now.discriminant_value in
+    let b = F.Pointer c.in-Pointer.index c.in-Pointer.ty c.in-Pointer.default in
+    let r = field_of c.get_proto-said.result.now in
+    let inside = member_inside f r c.get_proto-said.ensures (body_of_place b) c.in-Pointer.ensures.body p.data_words p.pointers c.requires.inside in
+    let l = pointer_inside p b c.in-Pointer.index c.in-Pointer.ty c.in-Pointer.default refl inside in
+    let s = words_in (g.A.ReaderArena.segments c.args.arena.now) in
+    let m = words_in (g.A.ReaderArena.segments c.mark-then-said.new.arena) in
+    let u = words_in (g.A.ReaderArena.segments c.put_empty.new.arena) in
+    let v = seen_struct g.B.ReaderArena.segments c.args.source.now in
+    let nodes = c.set-set.ensures ∙ ap nodes_around c.parent.ensures in
+    let put = subst (λ ns. OnOk c.put_empty.result (PutsTree m u (place_view c.pointer_place-then-said.result) (empty_tree (schema_of ns) (ty_of c.in-Pointer.ty)))) nodes c.put_empty.ensures.puts in
+    empty_field f r c.get_proto-said.ensures (body_of_place b) c.in-Pointer.ensures.body from s m u p c.put_empty.result c.in-Pointer.index (ty_of c.in-Pointer.ty) (default_tree (option_map value_of (option_copied c.in-Pointer.default))) (place_view c.pointer_place-then-said.result) d refl
+    (member_there d c.if-said.true) (no_default c.in-Pointer.default (sym c.is_some.ensures ∙ c.if-is_some.false)) (null_child v from is c.in-Pointer.index (sym c.is_pointer_field_null.ensures ∙ c.if-not-is_pointer_field_null.false)) l c.pointer_place-then-said.ensures.place c.mark-then-said.ensures.edits put

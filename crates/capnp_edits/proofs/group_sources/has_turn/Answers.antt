@@ -1,4 +1,4 @@
-use Rattle.capnp_edits.proofs.GroupSources.{other_turn, member_turn}
+use Rattle.capnp_edits.proofs.GroupSources.{other_turn}
 use Rattle.capnp_edits.proofs.group_sources.has_turn.Goals as goal
 
 pub returns-then-member : goal.returns-then-member

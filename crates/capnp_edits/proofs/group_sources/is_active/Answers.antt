@@ -1,4 +1,4 @@
-use Rattle.std.proofs.Common.{◌≡◌, ◌==◌, ℕ, Some, ap, ◌∙◌}
+use Rattle.std.proofs.Common.{◌==◌, ℕ, Some, ap, ◌∙◌}
 use Rattle.capnp_model.specs.Readings.{discriminant, is_active, whole_words}
 use Rattle.capnp_wire.specs.Views.{seen_struct}
 use Rattle.capnp_edits.proofs.GroupSources.{two_read}
