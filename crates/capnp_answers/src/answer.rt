@@ -34,10 +34,7 @@ pub enum Reason {
 /// How many words at the front of a buffer are the one segment that is written, and the replies of the calls; or why there is none.
 #[derive(Debug, Drop)]
 pub enum MessageAnswer {
-    Written {
-        count: usize,
-        replies: Vec<Reply>,
-    },
+    Written { count: usize, replies: Vec<Reply> },
     Refused(Reason),
 }
 
@@ -100,13 +97,5 @@ pub fn answer_in_place<M: ReaderArena>(
     ensures zeros { region.new ≡ region.old }
 {
     let mut allocator = ScratchSpaceHeapAllocator::resume(alloc, region);
-    answer_over(
-        alloc,
-        &mut allocator,
-        message,
-        bounds,
-        schema,
-        calls,
-        words,
-    )
+    answer_over(alloc, &mut allocator, message, bounds, schema, calls, words)
 }
