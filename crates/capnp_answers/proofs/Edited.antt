@@ -1,6 +1,6 @@
 -- What calls make of a value that is owned, and what is written of it.
-use Rattle.std.proofs.Common.{◌≡◌, ℕ, zero, suc, pos, ◌<◌, ◌≤◌, ◌^◌, true, false, Some, List, [], ◌∷◌, length, map, refl, ap, sym, ◌∙◌, subst, arith}
-use Rattle.std.specs.Prelude.{nat_le, take}
+use Rattle.std.proofs.Common.{◌≡◌, ℕ, suc, pos, ◌<◌, ◌≤◌, ◌^◌, true, false, Some, List, [], ◌∷◌, length, map, refl, ap, sym, ◌∙◌, subst, arith}
+use Rattle.std.specs.Prelude.{nat_le}
 use Rattle.std.proofs.lemmas.Bool.Decides.{nat_tests}
 use Rattle.capnp_model.specs.Segments.{Segments, Place, root}
 use Rattle.capnp_model.specs.Trees.{Tree, depth, has_capability}
@@ -18,7 +18,7 @@ use Rattle.capnp_calls.specs.Replies.{reply_view}
 use Rattle.capnp_calls.specs.Texts.{as_it_is}
 use Rattle.capnp_calls.specs.declared.reply.Reply.{Reply}
 use Rattle.capnp_canonical.specs.Copies.{copy_visits, Written}
-use Rattle.capnp_canonical.specs.Writes.{filled, words_view}
+use Rattle.capnp_canonical.specs.Writes.{filled}
 use Rattle.capnp_footprints.specs.Footprints.{Owns}
 use Rattle.capnp_footprints.specs.Changes.{Replaces}
 use Rattle.capnp_run.specs.Runs.{RunsRoot}
