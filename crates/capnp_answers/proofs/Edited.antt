@@ -1,6 +1,6 @@
 -- What calls make of a value that is owned, and what is written of it.
-use Rattle.std.proofs.Common.{◌≡◌, ℕ, zero, suc, pos, ◌+◌, ◌*◌, ◌<◌, ◌≤◌, ◌^◌, Bool, true, false, Option, Some, None, List, [], ◌∷◌, ◌++◌, length, map, Ok, Err, inl, inr, refl, ap, sym, ◌∙◌, subst, arith}
-use Rattle.std.specs.Prelude.{nat_lt, nat_le, take, slice_get}
+use Rattle.std.proofs.Common.{◌≡◌, ℕ, suc, pos, ◌<◌, ◌≤◌, ◌^◌, true, false, Some, List, [], ◌∷◌, length, map, refl, ap, sym, ◌∙◌, subst, arith}
+use Rattle.std.specs.Prelude.{nat_le}
 use Rattle.std.proofs.lemmas.Bool.Decides.{nat_tests}
 use Rattle.capnp_model.specs.Segments.{Segments, Place, root}
 use Rattle.capnp_model.specs.Trees.{Tree, depth, has_capability}
@@ -10,7 +10,7 @@ use Rattle.capnp_model.specs.Trimming.{trim}
 use Rattle.capnp_model.specs.Encoding.{canonical_words}
 use Rattle.capnp_model.specs.Traversal.{tree_at}
 use Rattle.capnp_model.specs.Calls.{Call}
-use Rattle.capnp_model.specs.Answers.{Answer, written, refused_depth, answer_struct, edits, replies, widened_root, keeps_nesting}
+use Rattle.capnp_model.specs.Answers.{written, refused_depth, answer_struct, edits, replies, widened_root}
 use Rattle.capnp_units.specs.declared.limiter.ReadLimiter.{ReadLimiter}
 use Rattle.capnp_queries.specs.Structs.{schema_around, shape_of_struct, id_of}
 use Rattle.capnp_queries.specs.declared.structs.StructSchema.{StructSchema}
@@ -18,11 +18,12 @@ use Rattle.capnp_calls.specs.Replies.{reply_view}
 use Rattle.capnp_calls.specs.Texts.{as_it_is}
 use Rattle.capnp_calls.specs.declared.reply.Reply.{Reply}
 use Rattle.capnp_canonical.specs.Copies.{copy_visits, Written}
-use Rattle.capnp_canonical.specs.Writes.{filled, words_view}
+use Rattle.capnp_canonical.specs.Writes.{filled}
 use Rattle.capnp_footprints.specs.Footprints.{Owns}
 use Rattle.capnp_footprints.specs.Changes.{Replaces}
-use Rattle.capnp_run.specs.Runs.{RunsAll, RunsRoot}
+use Rattle.capnp_run.specs.Runs.{RunsRoot}
 use Rattle.capnp_answers.specs.Answers.{AnswersRoot, MeansTree, StandsIn, answer_view}
+use Rattle.capnp_answers.proofs.Whole.{length_filled}
 use Rattle.capnp_answers.specs.declared.answer.MessageAnswer.{MessageAnswer}
 use Rattle.capnp_answers.specs.declared.answer.MessageAnswer.TheVariants as answers
 use Rattle.capnp_answers.specs.declared.answer.Reason.TheVariants as reasons
@@ -45,14 +46,6 @@ answers_written schema calls levels t e told is same low = rw (sym is, low, same
 answers_deep : (schema : StructSchema) (calls : List Call) (levels : ℕ) (t e : Tree) → e ≡ edits (schema_around schema) (id_of schema) calls t → nat_le (depth e) levels ≡ false
     → refused_depth ≡ answer_struct (schema_around schema) as_it_is (id_of schema) calls (pos levels) t
 answers_deep schema calls levels t e is far = rw (sym is, far) refl
-
-length_front : (n : ℕ) (xs : List ℕ) → length (take n xs) ≤ n
-length_front zero xs = omega arith
-length_front (suc n) [] = omega arith
-length_front (suc n) (x ∷ xs) = let low = length_front n xs in omega (arith, low)
-
-length_filled : (count : ℕ) (into : List (List ℕ)) → length (filled count into) ≤ count
-length_filled count into = length_front count (words_view into)
 
 module _ (laws : EditLaws) (s u : Segments) (schema : StructSchema) (calls : List Call) (levels : ℕ) (told : List Reply) (runs : RunsRoot s u schema calls (map reply_view told)) where
   pub writes_root : (a : MessageAnswer) (count : ℕ) (old new : List (List ℕ)) (l m : ReadLimiter) → Written (tree_at levels u root) has_capability (λ t words. canonical_words (trim t)) (copy_visits levels u root) 1 1 old l count new m

@@ -2,7 +2,7 @@
 use Rattle.std.proofs.Common.{◌≡◌, ℕ, zero, suc, ◌+◌, ◌*◌, ◌%◌, ◌<◌, ◌≤◌, ◌^◌, List, [], ◌∷◌, length, refl, ap, ◌∙◌, arith}
 use Rattle.std.specs.Prelude.{nat_eq, ◌-◌, slice_index_or}
 use Rattle.std.specs.Int.{from_le_bytes, w64}
-use Rattle.capnp_model.specs.Trees.{Tree, null, capability, structure, plain_list, pointer_list, struct_list, Trees, none, ◌▸◌}
+use Rattle.capnp_model.specs.Trees.{Tree, null, capability, structure, plain_list, pointer_list, struct_list, none, ◌▸◌}
 use Rattle.capnp_model.specs.Encoding.{canonical_words, pointer, body}
 use Rattle.capnp_canonical.specs.Writes.{filled}
 use Rattle.capnp_answers.specs.Reading.{can_be_opened}

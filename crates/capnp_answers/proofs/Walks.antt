@@ -1,15 +1,14 @@
 -- A canonical copy under a limit is made of a value within it, and stopped only where there is none.
-use Rattle.std.proofs.Common.{◌≡◌, ℕ, pos, ◌+◌, ◌*◌, ◌<◌, ◌≤◌, ◌^◌, Bool, true, false, Option, Some, None, List, [], ◌∷◌, ◌++◌, length, Ok, Err, inl, inr, refl, ap, sym, ◌∙◌, subst, append-nil, take, drop, Result, arith}
+use Rattle.std.proofs.Common.{◌≡◌, ℕ, ◌+◌, ◌<◌, ◌≤◌, Bool, true, false, Option, Some, None, List, [], ◌∷◌, ◌++◌, length, Ok, Err, refl, ap, sym, ◌∙◌, subst, append-nil, take, drop, Result, arith}
 use Rattle.std.specs.Prelude.{nat_lt, nat_le}
 use Rattle.std.specs.Result.{is_err}
 use Rattle.std.proofs.lemmas.List.{drop_all, take_all}
 use Rattle.std.proofs.lemmas.Bool.Decides.{nat_tests}
 use Rattle.capnp_model.specs.Segments.{Segments, Place, root}
-use Rattle.capnp_model.specs.Chains.{◌provided◌}
 use Rattle.capnp_model.specs.Trees.{Tree, depth, has_capability}
 use Rattle.capnp_model.specs.Fits.{Fits}
 use Rattle.capnp_model.specs.Trimming.{trim}
-use Rattle.capnp_model.specs.Encoding.{canonical_words, body, pointer}
+use Rattle.capnp_model.specs.Encoding.{canonical_words}
 use Rattle.capnp_model.specs.Traversal.{tree_at, cost_at}
 use Rattle.capnp_model.specs.Answers.{value_within}
 use Rattle.capnp_model.specs.Visits.{Visit, visits, visits_cost}

@@ -1,15 +1,14 @@
 -- What is answered to a message, from what is answered at its opened root.
-use Rattle.std.proofs.Common.{◌≡◌, ℕ, zero, suc, pos, ◌+◌, ◌*◌, ◌%◌, ◌<◌, ◌≤◌, ◌^◌, Bool, true, false, Option, Some, None, List, [], ◌∷◌, ◌++◌, length, map, refl, ap, sym, ◌∙◌, subst, append-nil, arith}
+use Rattle.std.proofs.Common.{◌≡◌, ℕ, zero, suc, pos, ◌+◌, ◌<◌, ◌≤◌, ◌^◌, true, false, Option, Some, None, List, [], ◌∷◌, ◌++◌, length, refl, ap, sym, ◌∙◌, subst, append-nil, arith}
 use Rattle.std.specs.Prelude.{slice_get, take}
 use Rattle.std.specs.Int.{from_le_bytes, w64}
-use Rattle.capnp_model.specs.Segments.{Segments, Place, root}
+use Rattle.capnp_model.specs.Segments.{Segments, root}
 use Rattle.capnp_model.specs.Trees.{Tree, null, capability, structure, plain_list, pointer_list, struct_list, depth}
 use Rattle.capnp_model.specs.Fits.{Fits}
 use Rattle.capnp_model.specs.Trimming.{trim}
 use Rattle.capnp_model.specs.Encoding.{canonical_words}
-use Rattle.capnp_model.specs.Traversal.{tree_at}
 use Rattle.capnp_model.specs.Calls.{Call}
-use Rattle.capnp_model.specs.Answers.{Answer, refused_value, refused_root, answer, answer_value, answer_struct, opened_root, widened_root, value_within, edits}
+use Rattle.capnp_model.specs.Answers.{Answer, refused_root, answer, answer_value, answer_struct, opened_root, widened_root, value_within, edits}
 use Rattle.capnp_queries.specs.Structs.{schema_around, shape_of_struct, id_of}
 use Rattle.capnp_queries.specs.declared.structs.StructSchema.{StructSchema}
 use Rattle.capnp_calls.specs.Texts.{as_it_is}

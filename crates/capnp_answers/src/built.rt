@@ -30,8 +30,7 @@ use capnp_model::laws::{
 use capnp_object::size::size_at;
 use capnp_queries::structs::StructSchema;
 use capnp_run::root::run_root;
-use capnp_units::errors::{Error, Result};
-use capnp_units::kinds::ErrorKind;
+use capnp_units::errors::Result;
 use capnp_units::limiter::ReadLimiter;
 use capnp_units::sizes::Word;
 use capnp_wire::arena::ReaderArena;

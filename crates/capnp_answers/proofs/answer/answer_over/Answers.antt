@@ -1,4 +1,4 @@
-use Rattle.std.proofs.Common.{ℕ, List, Option, map, ap, sym, subst, ◌∙◌}
+use Rattle.std.proofs.Common.{map, ap, sym, subst, ◌∙◌}
 use Rattle.std.proofs.lemmas.Result.{IfOk-weaker}
 use Rattle.capnp_model.specs.Trimming.{trim}
 use Rattle.capnp_units.specs.Segments.{words_in}
@@ -19,7 +19,7 @@ returns-then-not-can_be_opened-clause-answer g c =
     let into = c.read_canonical.new.words.items in
     let r : ReadsValue c.args.bounds s into c.in-Some.count = subst (Reads c.args.bounds s into) c.in-Some.is c.in_ok-count.ensures in
     let same = ap (filled c.in-Some.count) c.deref.ensures.value ∙ r.words in
-    no_struct c.args.schema (map call_view c.args.calls.now) c.args.bounds s into _ c.in-Some.count r (sym (c.can_be_opened.ensures (trim r.value) same) ∙ c.if-not-can_be_opened.true)
+    no_struct c.args.schema (map call_view c.args.calls.now) c.args.bounds s into into c.in-Some.count r (sym (c.can_be_opened.ensures (trim r.value) same) ∙ c.if-not-can_be_opened.true)
 
 pub returns-clause-answer : goal.returns-clause-answer
 returns-clause-answer g c =
