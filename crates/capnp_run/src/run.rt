@@ -106,7 +106,7 @@ fn answer<A: BuilderArena>(
 
 /// Answers calls in turn at a struct of a message, each at what the calls before it left: its reply is that of the record machine, and the struct becomes what the edits make of it. A refused call and a `get` change nothing, and don't stop the next.
 ///
-/// The struct has at least its schema's two sizes. It is refused by want of memory, as the arena refuses, with `OutOfBounds` where the struct isn't there, with `TypeMismatch` at a call that would set a group, and with `WrongStep` at one that would write in a list; then the calls before have their effect, and the next perhaps a part of it.
+/// The struct has at least its schema's two sizes. It is refused by want of memory, as the arena refuses, with `OutOfBounds` where the struct isn't there, and with `TypeMismatch` at a call that would set a group to a message in which the active member's pointer is null, where that member's slot has a default; then the calls before have their effect, and the next perhaps a part of it.
 pub fn run_at<A: BuilderArena>(
     alloc: Global,
     arena: &mut A,
