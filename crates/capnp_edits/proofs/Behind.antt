@@ -18,8 +18,7 @@ use Rattle.capnp_dynamic.specs.Inits.{struct_named}
 use Rattle.capnp_calls.specs.Taken.{starts_with_name}
 use Rattle.capnp_calls.specs.Slots.{words_in, pointers_in}
 use Rattle.capnp_calls.specs.Finding.{IsFieldGroup}
-use Rattle.capnp_calls.specs.Sizes.{IsDone}
-use Rattle.capnp_calls.specs.Paths.{shape_outcome, shape_edit}
+use Rattle.capnp_calls.specs.Paths.{shape_edit}
 use Rattle.capnp_edits.specs.Written.{WritesValue, HoldsDefault}
 use Rattle.capnp_edits.specs.Elements.{IsDoneWithin, WritesWithin}
 use Rattle.capnp_edits.proofs.Lifting.{cell, behind_pointer}

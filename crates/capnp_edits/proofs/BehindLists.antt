@@ -1,8 +1,7 @@
 -- The list behind a pointer: a call written at its element is written at the pointer.
-use Rattle.std.proofs.Common.{◌≡◌, ℕ, suc, ◌+◌, ◌<◌, List, ◌∷◌, Option, sym, subst, ap, arith}
-use Rattle.capnp_model.specs.Segments.{Segments, Place}
+use Rattle.std.proofs.Common.{◌≡◌, ℕ, suc, ◌+◌, ◌<◌, List, ◌∷◌, Option, subst, ap, arith}
+use Rattle.capnp_model.specs.Segments.{Segments}
 use Rattle.capnp_model.specs.Pointers.{Found}
-use Rattle.capnp_model.specs.Coverage.{Grows}
 use Rattle.capnp_model.specs.Trees.{Tree}
 use Rattle.capnp_model.specs.Schemas.{Ty, list, Schema}
 use Rattle.capnp_model.specs.Calls.{Step, index, Verb}

@@ -1,5 +1,5 @@
 -- A call that goes on inside an element: what it does to the struct or the value there, it does to the element.
-use Rattle.std.proofs.Common.{◌≡◌, ◌≢◌, ℕ, ◌+◌, ◌≤◌, List, [], ◌∷◌, refl, sym, subst, ap, ◌∙◌, arith}
+use Rattle.std.proofs.Common.{◌≡◌, ◌≢◌, ℕ, ◌+◌, List, [], ◌∷◌, refl, subst, ap, arith}
 use Rattle.capnp_model.specs.Segments.{Segments}
 use Rattle.capnp_model.specs.Trees.{Tree, null, structure, child}
 use Rattle.capnp_model.specs.Schemas.{Ty, struct, list, Shape, shape, Schema}

@@ -1,11 +1,11 @@
 -- A list that a pointer names is what its place tells.
-use Rattle.std.proofs.Common.{◌≡◌, ◌⊎◌, inl, inr, ℕ, ◌+◌, ◌<◌, List, Some, Result, Ok, refl, ap, sym, ◌∙◌, subst, arith}
+use Rattle.std.proofs.Common.{◌≡◌, ◌⊎◌, inl, inr, ℕ, ◌+◌, ◌<◌, Some, Ok, refl, ap, sym, ◌∙◌, subst, arith}
 use Rattle.std.specs.Option.{ok_or}
-use Rattle.capnp_model.specs.Kinds.{Kind, OutOfBounds, WrongElementSize}
+use Rattle.capnp_model.specs.Kinds.{OutOfBounds, WrongElementSize}
 use Rattle.capnp_model.specs.Readings.{is_accepted_as}
 use Rattle.capnp_model.specs.Segments.{Segments, Place, after, word_at, words_at}
 use Rattle.capnp_model.specs.Pointers.{a_list, nothing}
-use Rattle.capnp_model.specs.Traversal.{Tag, ListKind, of_bits, list_kind, list_words, tag_in}
+use Rattle.capnp_model.specs.Traversal.{ListKind, of_bits, list_kind, list_words, tag_in}
 use Rattle.capnp_model.specs.Trees.{Tree}
 use Rattle.capnp_model.proofs.Chaining.{bind_ok, ok_is, ok_or_some, guard_ok}
 use Rattle.capnp_object.specs.declared.object.Object.{Object}
@@ -22,7 +22,7 @@ use Rattle.capnp_footprints.specs.Footprints.{OwnsObject}
 use Rattle.capnp_footprints.proofs.Turns.{list_shape, list_counted}
 use Rattle.capnp_footprints.proofs.Turns as turns
 use Rattle.capnp_copy.specs.declared.init.ListPlace.{ListPlace}
-use Rattle.capnp_copy.specs.Elements.{IsWhole, LiesAt}
+use Rattle.capnp_copy.specs.Elements.{LiesAt}
 use Rattle.capnp_copy.specs.Lists.{list_at}
 use Rattle.capnp_copy.specs.Values.{LeadsTo}
 use Rattle.capnp_copy.proofs.ElementLaws.{is_plain}

@@ -1,8 +1,8 @@
 -- Where a call is done at a list, the rest of its path is done at the element, in the list as it stands and as it is widened.
-use Rattle.std.proofs.Common.{◌≡◌, ℕ, zero, suc, Bool, true, false, List, [], ◌∷◌, refl, sym, subst, ap, ◌∙◌}
+use Rattle.std.proofs.Common.{◌≡◌, ℕ, zero, suc, Bool, true, false, List, [], ◌∷◌, refl, sym, subst, ◌∙◌}
 use Rattle.capnp_model.specs.Trees.{Tree, null, capability, structure, plain_list, pointer_list, struct_list, Trees, none, ◌▸◌, Elements, no_elements, element, child, padded_to, resized, size_bits, plain_elements}
 use Rattle.capnp_model.specs.Schemas.{Ty, void, plain, text, blob, untyped, interface, struct, list, Shape, shape, Schema}
-use Rattle.capnp_model.specs.Readings.{Reading, null_pointer, Readings, Extent, whole_words, just_bits, Children, no_children, only_child, list_of, read, read_child, element_as, list_reading, is_list_of, plain_readings, pointer_elements, struct_elements}
+use Rattle.capnp_model.specs.Readings.{Reading, Readings, Extent, whole_words, just_bits, Children, no_children, only_child, read, read_child, element_as, list_reading, is_list_of, plain_readings, pointer_elements, struct_elements}
 use Rattle.capnp_model.specs.Calls.{Step, index, Verb}
 use Rattle.capnp_model.specs.Steps.{Outcome, on_index, step_field, step_element, or_empty, opened, through_value}
 use Rattle.capnp_model.specs.Edits.{Cell, opened_tree, elements_of_plain, elements_of_pointers, padded_elements, widened_list, as_list}

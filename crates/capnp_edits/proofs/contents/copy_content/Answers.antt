@@ -1,12 +1,8 @@
-use Rattle.std.proofs.Common.{◌≡◌, ◌+◌, ◌≤◌, List, [], Result, Ok, Some, refl, ap, sym, subst, ◌∙◌, arith}
-use Rattle.capnp_model.specs.Kinds.{Kind}
-use Rattle.capnp_model.specs.Sections.{number_of}
+use Rattle.std.proofs.Common.{◌≡◌, ◌+◌, [], Ok, refl, ap, sym, subst, arith}
 use Rattle.capnp_model.specs.Segments.{Segments, root}
-use Rattle.capnp_model.specs.Traversal.{tree_at}
 use Rattle.capnp_units.specs.Segments.{words_in}
 use Rattle.capnp_object.specs.Inside.{section_at}
 use Rattle.capnp_object.specs.Objects.{object_at}
-use Rattle.capnp_object.specs.declared.object.Found.{Found}
 use Rattle.capnp_object.specs.declared.place.Place.{Place}
 use Rattle.capnp_wire.specs.Places.{place_view}
 use Rattle.capnp_wire.specs.Views.{Ground}

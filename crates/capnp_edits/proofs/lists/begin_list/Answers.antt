@@ -1,5 +1,5 @@
-use Rattle.std.proofs.Common.{◌≡◌, Ok, sym, ap, subst, ◌∙◌}
-use Rattle.std.specs.Prelude.{None, option_map, option_copied}
+use Rattle.std.proofs.Common.{Ok, sym, ap, subst, ◌∙◌}
+use Rattle.std.specs.Prelude.{option_map, option_copied}
 use Rattle.capnp_model.specs.Accepted.{schema_of}
 use Rattle.capnp_model.specs.Coverage.{Grows}
 use Rattle.capnp_model.specs.Segments.{Segments}
@@ -9,7 +9,6 @@ use Rattle.capnp_records.specs.Sets.{nodes_of}
 use Rattle.capnp_queries.specs.Structs.{id_of}
 use Rattle.capnp_queries.specs.Types.{ty_of}
 use Rattle.capnp_dynamic.specs.Inside.{words_of_shape, pointers_of_shape}
-use Rattle.capnp_dynamic.specs.Inits.{struct_named}
 use Rattle.capnp_builders.proofs.Begun.{Laws, made_then}
 use Rattle.capnp_widening.specs.MovedElements.{as_structs}
 use Rattle.capnp_edits.proofs.BegunLists.{structs_value, other_value, gets_grow}

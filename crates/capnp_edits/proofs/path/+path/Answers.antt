@@ -1,11 +1,11 @@
-use Rattle.std.proofs.Common.{rules, ◌≡◌, ◌≢◌, ◌<◌, true, None, Some, [], ◌∷◌, refl, sym, ap, subst, ◌∙◌}
+use Rattle.std.proofs.Common.{rules, ◌≡◌, ◌≢◌, ◌<◌, true, [], ◌∷◌, refl, sym, ap, subst, ◌∙◌}
 use Rattle.std.specs.Prelude.{map, option_map, option_copied, OnOk}
 use Rattle.std.specs.Option.{is_some}
 use Rattle.capnp_model.specs.Segments.{words_at}
-use Rattle.capnp_model.specs.Schemas.{struct, list, pointer_slot, default_or_null}
+use Rattle.capnp_model.specs.Schemas.{struct, list, default_or_null}
 use Rattle.capnp_model.specs.Trees.{null}
 use Rattle.capnp_model.specs.Accepted.{schema_of, default_tree}
-use Rattle.capnp_model.specs.Calls.{name, index}
+use Rattle.capnp_model.specs.Calls.{name}
 use Rattle.capnp_units.specs.Segments.{words_in}
 use Rattle.capnp_wire.specs.Places.{place_view}
 use Rattle.capnp_records.specs.NodeViews.{field_of, struct_of, value_of}
@@ -15,7 +15,6 @@ use Rattle.capnp_queries.specs.Handles.{body_of_place}
 use Rattle.capnp_queries.specs.Types.{ty_of, ty_of_variant, is_type_of}
 use Rattle.capnp_queries.specs.declared.slots.FieldPlace.TheVariants as F
 use Rattle.capnp_calls.specs.CallViews.{step_view, action_view}
-use Rattle.capnp_calls.specs.Taken.{starts_with_name}
 use Rattle.capnp_calls.proofs.GroupSizes.{group_is_field}
 use Rattle.capnp_calls.proofs.PathAnswers.{none_is, some_is}
 use Rattle.capnp_dynamic.proofs.Ready.{areas_inside, pointer_there}
@@ -27,7 +26,7 @@ use Rattle.capnp_edits.specs.Elements.{WritesWithin, WritesFieldWithin, WritesEl
 use Rattle.capnp_edits.proofs.Outcomes.{by_name, by_group, by_pointer, end_within}
 use Rattle.capnp_edits.proofs.Behind.{on_ok, group_wide, struct_written}
 use Rattle.capnp_edits.proofs.BehindLists.{list_written, list_grows}
-use Rattle.capnp_edits.proofs.ElementSteps.{element_written, element_grows, value_written, value_grows, element_wide}
+use Rattle.capnp_edits.proofs.ElementSteps.{element_written, element_grows, value_written, value_grows}
 use Rattle.capnp_edits.proofs.GrownPaths.{refused_grows, got_grows, child_grows}
 use Rattle.capnp_edits.proofs.path.+path.Goals as goal
 
