@@ -26,7 +26,7 @@ use serde_json::Value as Json;
 use std::alloc::Global;
 
 /// The bytes of the region in which a message is edited; what doesn't fit lies on the heap.
-const REGION: usize = 4096;
+const REGION: usize = 64;
 
 /// How the messages of a run compare that are answered where they lie.
 #[derive(Clone, Copy, PartialEq, Eq, Debug)]
@@ -129,7 +129,7 @@ fn answer_each<I: MessageForm, O: MessageForm>(
             return Ok(true);
         };
         let arena: ReaderArenaImpl<OwnedSegments> = ReaderArenaImpl::new(message, 64);
-        let mut region = vec![in alloc; 0u8; REGION]?;
+        let mut region = [0u8; REGION];
         let answered = answer_in_place(alloc, &arena, bounds, root, calls, &mut region, &mut words);
         let Ok(answer) = answered else {
             return Ok(false);

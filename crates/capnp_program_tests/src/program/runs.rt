@@ -20,9 +20,12 @@ fn a_whole_input_has_status_zero(rt: HostRuntime) -> Result<(), Fail> {
     let alloc = rt.alloc();
     let mut out = Device::new(alloc, ROOM, true);
     let mut log = Device::new(alloc, ROOM, true);
-    assert!(rt; set_a(alloc, &mut &CUT[..16], &mut out, &mut log)? == 0);
-    assert!(rt; out.held.as_slice() == SEVEN.as_slice());
-    assert!(rt; log.held.as_slice() == b"message 1 written; done\n".as_slice());
+    assert_eq!(rt; set_a(alloc, &mut &CUT[..16], &mut out, &mut log)?, 0);
+    assert_eq!(rt; out.held.as_slice(), SEVEN.as_slice());
+    assert_eq!(rt;
+        log.held.as_slice(),
+        b"message 1 written; done\n".as_slice()
+    );
     Ok(())
 }
 
@@ -31,10 +34,10 @@ fn a_cut_input_has_its_line_behind_the_log(rt: HostRuntime) -> Result<(), Fail> 
     let alloc = rt.alloc();
     let mut out = Device::new(alloc, ROOM, true);
     let mut log = Device::new(alloc, ROOM, true);
-    assert!(rt; set_a(alloc, &mut CUT.as_slice(), &mut out, &mut log)? == 1);
-    assert!(rt; out.held.as_slice() == SEVEN.as_slice());
+    assert_eq!(rt; set_a(alloc, &mut CUT.as_slice(), &mut out, &mut log)?, 1);
+    assert_eq!(rt; out.held.as_slice(), SEVEN.as_slice());
     let lines: &[u8] = b"message 1 written; done\nfault: framing FailedToFillTheWholeBuffer\n";
-    assert!(rt; log.held.as_slice() == lines);
+    assert_eq!(rt; log.held.as_slice(), lines);
     Ok(())
 }
 
@@ -44,9 +47,9 @@ fn a_failing_source_is_told(rt: HostRuntime) -> Result<(), Fail> {
     let mut out = Device::new(alloc, ROOM, true);
     let mut log = Device::new(alloc, ROOM, true);
     let mut source = Broken { failures: 0 };
-    assert!(rt; set_a(alloc, &mut source, &mut out, &mut log)? == 1);
+    assert_eq!(rt; set_a(alloc, &mut source, &mut out, &mut log)?, 1);
     assert!(rt; out.held.is_empty());
-    assert!(rt; log.held.as_slice() == b"fault: source\n".as_slice());
+    assert_eq!(rt; log.held.as_slice(), b"fault: source\n".as_slice());
     Ok(())
 }
 
@@ -56,9 +59,9 @@ fn a_failing_output_is_told(rt: HostRuntime) -> Result<(), Fail> {
     for n in 0..SEVEN.len() {
         let mut out = Device::new(alloc, n, true);
         let mut log = Device::new(alloc, ROOM, true);
-        assert!(rt; set_a(alloc, &mut CUT.as_slice(), &mut out, &mut log)? == 1);
-        assert!(rt; out.held.as_slice() == &SEVEN[..n]);
-        assert!(rt; log.held.as_slice() == b"fault: out\n".as_slice());
+        assert_eq!(rt; set_a(alloc, &mut CUT.as_slice(), &mut out, &mut log)?, 1);
+        assert_eq!(rt; out.held.as_slice(), &SEVEN[..n]);
+        assert_eq!(rt; log.held.as_slice(), b"fault: out\n".as_slice());
     }
     Ok(())
 }
@@ -68,12 +71,18 @@ fn a_failing_flush_of_the_output_is_told(rt: HostRuntime) -> Result<(), Fail> {
     let alloc = rt.alloc();
     let mut out = Device::new(alloc, ROOM, false);
     let mut log = Device::new(alloc, ROOM, true);
-    assert!(rt; set_a(alloc, &mut &CUT[..16], &mut out, &mut log)? == 1);
-    assert!(rt; log.held.as_slice() == b"message 1 written; done\nfault: out\n".as_slice());
+    assert_eq!(rt; set_a(alloc, &mut &CUT[..16], &mut out, &mut log)?, 1);
+    assert_eq!(rt;
+        log.held.as_slice(),
+        b"message 1 written; done\nfault: out\n".as_slice()
+    );
     // A fault of the run itself goes before that of a flush.
     let mut log = Device::new(alloc, ROOM, true);
-    assert!(rt; set_a(alloc, &mut &CUT[16..], &mut out, &mut log)? == 1);
-    assert!(rt; log.held.as_slice() == b"fault: framing FailedToFillTheWholeBuffer\n".as_slice());
+    assert_eq!(rt; set_a(alloc, &mut &CUT[16..], &mut out, &mut log)?, 1);
+    assert_eq!(rt;
+        log.held.as_slice(),
+        b"fault: framing FailedToFillTheWholeBuffer\n".as_slice()
+    );
     Ok(())
 }
 
@@ -82,12 +91,15 @@ fn a_failing_log_has_status_one(rt: HostRuntime) -> Result<(), Fail> {
     let alloc = rt.alloc();
     let mut out = Device::new(alloc, ROOM, true);
     let mut log = Device::new(alloc, 8, true);
-    assert!(rt; set_a(alloc, &mut &CUT[..16], &mut out, &mut log)? == 1);
-    assert!(rt; out.held.as_slice() == SEVEN.as_slice());
-    assert!(rt; log.held.as_slice() == b"message ".as_slice());
+    assert_eq!(rt; set_a(alloc, &mut &CUT[..16], &mut out, &mut log)?, 1);
+    assert_eq!(rt; out.held.as_slice(), SEVEN.as_slice());
+    assert_eq!(rt; log.held.as_slice(), b"message ".as_slice());
     // A log that only fails at its flush still gets the line.
     let mut log = Device::new(alloc, ROOM, false);
-    assert!(rt; set_a(alloc, &mut &CUT[..16], &mut out, &mut log)? == 1);
-    assert!(rt; log.held.as_slice() == b"message 1 written; done\nfault: log\n".as_slice());
+    assert_eq!(rt; set_a(alloc, &mut &CUT[..16], &mut out, &mut log)?, 1);
+    assert_eq!(rt;
+        log.held.as_slice(),
+        b"message 1 written; done\nfault: log\n".as_slice()
+    );
     Ok(())
 }

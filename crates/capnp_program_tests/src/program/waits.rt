@@ -77,10 +77,13 @@ fn sinks_are_flushed_before_the_source_is_asked(rt: HostRuntime) -> std::result:
     };
     let mut out = Device::new(alloc, 1000, false);
     let mut log = Device::new(alloc, 1000, true);
-    assert!(rt; set_a(alloc, &mut source, &mut out, &mut log)? == 1);
-    assert!(rt; out.held.len() == WRITTEN);
-    assert!(rt; source.next.len() == 16);
-    assert!(rt; log.held.as_slice() == b"message 1 written; done\nfault: out\n".as_slice());
+    assert_eq!(rt; set_a(alloc, &mut source, &mut out, &mut log)?, 1);
+    assert_eq!(rt; out.held.len(), WRITTEN);
+    assert_eq!(rt; source.next.len(), 16);
+    assert_eq!(rt;
+        log.held.as_slice(),
+        b"message 1 written; done\nfault: out\n".as_slice()
+    );
     // Then the log's.
     let mut source = TwoWindows {
         window: &TWO[..16],
@@ -88,9 +91,12 @@ fn sinks_are_flushed_before_the_source_is_asked(rt: HostRuntime) -> std::result:
     };
     let mut out = Device::new(alloc, 1000, true);
     let mut log = Device::new(alloc, 1000, false);
-    assert!(rt; set_a(alloc, &mut source, &mut out, &mut log)? == 1);
-    assert!(rt; source.next.len() == 16);
-    assert!(rt; log.held.as_slice() == b"message 1 written; done\nfault: log\n".as_slice());
+    assert_eq!(rt; set_a(alloc, &mut source, &mut out, &mut log)?, 1);
+    assert_eq!(rt; source.next.len(), 16);
+    assert_eq!(rt;
+        log.held.as_slice(),
+        b"message 1 written; done\nfault: log\n".as_slice()
+    );
     Ok(())
 }
 
@@ -103,11 +109,11 @@ fn no_sink_is_flushed_while_bytes_are_shown(rt: HostRuntime) -> std::result::Res
     };
     let mut out = Device::new(alloc, 1000, false);
     let mut log = Device::new(alloc, 1000, true);
-    assert!(rt; set_a(alloc, &mut source, &mut out, &mut log)? == 1);
-    assert!(rt; out.held.len() == 2 * WRITTEN);
-    assert!(rt;
-        log.held.as_slice()
-            == b"message 1 written; done\nmessage 2 written; done\nfault: out\n".as_slice()
+    assert_eq!(rt; set_a(alloc, &mut source, &mut out, &mut log)?, 1);
+    assert_eq!(rt; out.held.len(), 2 * WRITTEN);
+    assert_eq!(rt;
+        log.held.as_slice(),
+        b"message 1 written; done\nmessage 2 written; done\nfault: out\n".as_slice()
     );
     Ok(())
 }
