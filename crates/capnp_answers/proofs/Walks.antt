@@ -19,8 +19,8 @@ use Rattle.capnp_units.specs.declared.sizes.MessageSize.{MessageSize}
 use Rattle.capnp_units.specs.declared.limiter.ReadLimiter.{ReadLimiter}
 use Rattle.capnp_object.specs.Walks.{Stopped, CannotPass, SizeGives}
 use Rattle.capnp_canonical.specs.Copies.{copy_visits, Written}
-use Rattle.capnp_value.specs.Reads.{limits_view}
-use Rattle.capnp_value.specs.declared.value.read.Bounds.{Bounds}
+use Rattle.capnp_answers.specs.Bounds.{limits_view}
+use Rattle.capnp_answers.specs.declared.bounds.Bounds.{Bounds}
 use Rattle.capnp_answers.specs.Reading.{ReadsValue}
 
 -- what is written back of a slice of a whole buffer

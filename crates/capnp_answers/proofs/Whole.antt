@@ -14,8 +14,8 @@ use Rattle.capnp_queries.specs.declared.structs.StructSchema.{StructSchema}
 use Rattle.capnp_calls.specs.Texts.{as_it_is}
 use Rattle.capnp_canonical.specs.Writes.{filled, words_view}
 use Rattle.capnp_footprints.specs.Footprints.{Owns}
-use Rattle.capnp_value.specs.Reads.{limits_view}
-use Rattle.capnp_value.specs.declared.value.read.Bounds.{Bounds}
+use Rattle.capnp_answers.specs.Bounds.{limits_view}
+use Rattle.capnp_answers.specs.declared.bounds.Bounds.{Bounds}
 use Rattle.capnp_answers.specs.Answers.{AnswersRoot, AnswersWords, IsAnswered, answer_view, MeansTree}
 use Rattle.capnp_answers.specs.Reading.{ReadsValue, can_be_opened}
 use Rattle.capnp_answers.specs.declared.answer.MessageAnswer.{MessageAnswer}

@@ -1,7 +1,7 @@
 -- What is answered to a message, in a buffer of words.
-use Rattle.std.specs.Prelude.{◌≡◌, ℕ, suc, pos, ◌^◌, ◌<◌, ◌≤◌, List, [], ◌∷◌, Option, Some, length, map, ⊤}
+use Rattle.std.specs.Prelude.{◌≡◌, ℕ, suc, pos, ◌^◌, ◌<◌, ◌≤◌, List, [], ◌∷◌, Option, Some, None, length, map, ⊤}
 use Rattle.capnp_model.specs.Segments.{Segments, root}
-use Rattle.capnp_model.specs.Trees.{Tree, depth}
+use Rattle.capnp_model.specs.Trees.{Tree, null, structure, depth}
 use Rattle.capnp_model.specs.Fits.{Fits}
 use Rattle.capnp_model.specs.Encoding.{canonical_words}
 use Rattle.capnp_model.specs.Trimming.{trim}
@@ -11,11 +11,12 @@ use Rattle.capnp_model.specs.Answers.{Answer, written, refused_value, refused_ro
 use Rattle.capnp_queries.specs.Structs.{schema_around, shape_of_struct, id_of}
 use Rattle.capnp_queries.specs.declared.structs.StructSchema.{StructSchema}
 use Rattle.capnp_calls.specs.Replies.{reply_view}
+use Rattle.capnp_calls.specs.LongLists.{LongInTurn}
 use Rattle.capnp_calls.specs.Texts.{as_it_is}
 use Rattle.capnp_canonical.specs.Writes.{filled}
 use Rattle.capnp_footprints.specs.Footprints.{Owns}
-use Rattle.capnp_value.specs.Reads.{limits_view}
-use Rattle.capnp_value.specs.declared.value.read.Bounds.{Bounds}
+use Rattle.capnp_answers.specs.Bounds.{limits_view}
+use Rattle.capnp_answers.specs.declared.bounds.Bounds.{Bounds}
 use Rattle.capnp_answers.specs.declared.answer.Reason.{Reason}
 use Rattle.capnp_answers.specs.declared.answer.Reason.TheVariants as reasons
 use Rattle.capnp_answers.specs.declared.answer.MessageAnswer.{MessageAnswer}
@@ -68,3 +69,14 @@ pub record IsAnswered (schema : StructSchema) (calls : List Call) (bounds : Boun
 abbrev pub AnswersWords : StructSchema → List Call → ℕ → List ℕ → List (List ℕ) → MessageAnswer → Type 0
 AnswersWords schema calls nesting words into a =
     (t : Tree) → Fits t → depth t ≤ nesting → words ≡ canonical_words t → AnswersStruct schema calls nesting into (widened_root (shape_of_struct schema) t) a
+
+-- A call puts a list that is too long, where the calls start from this value, as it is opened; with no value, and one that isn't opened, none does.
+abbrev pub LongFrom : StructSchema → List Call → Option Tree → Type 0
+LongFrom schema calls None = ⊥
+LongFrom schema calls (Some null) = LongInTurn schema calls (opened_root (schema_around schema) (id_of schema) null)
+LongFrom schema calls (Some (structure words section kids)) = LongInTurn schema calls (opened_root (schema_around schema) (id_of schema) (structure words section kids))
+LongFrom schema calls (Some _) = ⊥
+
+-- A call makes a message too large to be answered.
+abbrev pub IsTooLarge : StructSchema → List Call → Bounds → Segments → Type 0
+IsTooLarge schema calls bounds s = LongFrom schema calls (value_within (limits_view bounds) s)

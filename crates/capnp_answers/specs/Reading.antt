@@ -7,8 +7,8 @@ use Rattle.capnp_model.specs.Trimming.{trim}
 use Rattle.capnp_model.specs.Encoding.{canonical_words}
 use Rattle.capnp_model.specs.Answers.{value_within}
 use Rattle.capnp_canonical.specs.Writes.{filled}
-use Rattle.capnp_value.specs.Reads.{limits_view}
-use Rattle.capnp_value.specs.declared.value.read.Bounds.{Bounds}
+use Rattle.capnp_answers.specs.Bounds.{limits_view}
+use Rattle.capnp_answers.specs.declared.bounds.Bounds.{Bounds}
 
 -- Whether calls can run at a value: a struct, or null.
 abbrev pub can_be_opened : Tree → Bool

@@ -6,6 +6,7 @@ ghost use Rattle.capnp_calls.specs.Taken.{IsRoot};
 ghost use Rattle.capnp_copy.specs.Memory.{AllZero};
 ghost use Rattle.capnp_answers.specs.Answers.{IsAnswered};
 
+use crate::bounds::Bounds;
 use crate::built::answer_built;
 use crate::reading::{can_be_opened, make_room, read_canonical};
 use capnp_allocators::scratch::ScratchSpaceHeapAllocator;
@@ -16,7 +17,6 @@ use capnp_message::builder::Builder;
 use capnp_queries::structs::StructSchema;
 use capnp_units::errors::Result;
 use capnp_units::sizes::Word;
-use capnp_value::value::Bounds;
 use capnp_wire::arena::ReaderArena;
 use std::alloc::Global;
 
@@ -36,6 +36,15 @@ pub enum Reason {
 pub enum MessageAnswer {
     Written { count: usize, replies: Vec<Reply> },
     Refused(Reason),
+}
+
+/// Why no answer was made.
+#[derive(Clone, Copy, Debug, PartialEq, Eq)]
+pub enum Want {
+    /// A growth was refused: by the system, or since the words of one message, those that calls abandon among them, would pass 2^29 - 1.
+    Memory,
+    /// A call puts a text or data of 2^29 bytes or more with its last zero, or a list of structs of 2^29 words or more.
+    Size,
 }
 
 /// The answer to a message, whose value is edited in memory of this allocator. All of it is given back.

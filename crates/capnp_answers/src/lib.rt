@@ -2,5 +2,6 @@
 #![tactic(auto)]
 
 pub mod answer;
+pub mod bounds;
 mod built;
 mod reading;

@@ -6,6 +6,7 @@ ghost use Rattle.capnp_units.specs.Segments.{words_in};
 ghost use Rattle.capnp_canonical.specs.Writes.{filled};
 ghost use Rattle.capnp_answers.specs.Reading.{Reads, can_be_opened};
 
+use crate::bounds::Bounds;
 use capnp_canonical::copy::write_canonical;
 use capnp_canonical::laws::copies_as_walks;
 use capnp_model::laws::{trimmed_values, values_on_walks, values_that_are_read};
@@ -13,7 +14,6 @@ use capnp_units::errors::{Error, Result};
 use capnp_units::kinds::ErrorKind;
 use capnp_units::limiter::ReadLimiter;
 use capnp_units::sizes::Word;
-use capnp_value::value::Bounds;
 use capnp_wire::arena::ReaderArena;
 use capnp_wire::place::Place;
 

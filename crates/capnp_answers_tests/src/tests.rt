@@ -3,6 +3,7 @@ ghost use Rattle.std.specs.Prelude.{◌≡◌};
 ghost use Rattle.capnp_copy.specs.Memory.{AllZero};
 
 use capnp_answers::answer::{MessageAnswer, Reason, answer_in_place};
+use capnp_answers::bounds::Bounds;
 use capnp_calls::reply::Reply;
 use capnp_calls::{Call, CallValue, Step, Verb};
 use capnp_message::options::DEFAULT_READER_OPTIONS;
@@ -14,7 +15,6 @@ use capnp_records::node::{
 };
 use capnp_records::set::SchemaSet;
 use capnp_units::sizes::Word;
-use capnp_value::value::Bounds;
 use std::alloc::{AllocError, Global};
 use std::test::Fail;
 

@@ -8,6 +8,7 @@ pub mod Finding
 pub mod Taken
 pub mod Replies
 pub mod Sizes
+pub mod LongLists
 pub mod Readable
 pub mod Paths
 pub mod Changes

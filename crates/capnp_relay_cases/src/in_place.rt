@@ -5,6 +5,7 @@ use crate::faults::Fault;
 use crate::runs::hex_of;
 use crate::whole::{file_at, words_of};
 use capnp_answers::answer::{MessageAnswer, Reason, answer_in_place};
+use capnp_answers::bounds::Bounds;
 use capnp_calls::reply::Reply;
 use capnp_calls::{Call, CallFault};
 use capnp_files::calls_file::{CallsFile, calls_file};
@@ -21,7 +22,6 @@ use capnp_stream::frames::try_read_message_in;
 use capnp_stream::segments::OwnedSegments;
 use capnp_stream::writing::write_segment_in;
 use capnp_units::sizes::Word;
-use capnp_value::value::Bounds;
 use serde_json::Value as Json;
 use std::alloc::Global;
 
