@@ -1,41 +1,27 @@
-//! Compares what the files of the relay's program are answered with what they should be.
+//! Compares runs of the relay's program with what they should be.
 //!
 //! Each line of the file that is given is a JSON object, a run of the program: `args`, its arguments, `files`, the bytes of each
-//! file in hex, and `stderr`, in hex, of which the last line says why the run was refused. The answers are those of independent
-//! software.
+//! file in hex, `stdin`, `stdout` and `stderr`, in hex, and `status`. The answers are those of independent software.
 #![tactic(auto)]
 
-mod faults;
-mod in_place;
 mod runs;
-mod whole;
 
-use faults::Fault;
-use in_place::{InPlace, compare_in_place};
-use runs::{Compared, compare};
+use runs::{Fault, is_as_it_should_be};
 use serde_json::Value as Json;
 use std::alloc::Global;
 use std::process::ExitCode;
 use std::{env, fs, io};
 
-/// How many runs are as they should be, whole or before a message is read, how many weren't compared, how many have messages that are answered where they lie as they should be, how many have one that isn't answered there, and the lines of those that differ.
+/// How many runs are as they should be, and the lines of those that differ.
 #[derive(Drop)]
 struct Counts {
-    whole: u64,
-    begun: u64,
-    passed_over: u64,
-    in_place: u64,
-    not_in_place: u64,
+    same: u64,
     differing: Vec<u64>,
 }
 
 fn count(alloc: Global, text: &str) -> Result<Counts, Fault> {
     let mut counts = Counts {
-        whole: 0,
-        begun: 0,
-        passed_over: 0,
-        in_place: 0,
-        not_in_place: 0,
+        same: 0,
         differing: Vec::new(alloc),
     };
     let mut number: u64 = 0;
@@ -44,17 +30,10 @@ fn count(alloc: Global, text: &str) -> Result<Counts, Fault> {
         let Ok(run) = Json::from_str(alloc, line) else {
             return Err(Fault::Shape);
         };
-        match compare(alloc, &run)? {
-            Compared::Whole => counts.whole = counts.whole.saturating_add(1),
-            Compared::Begun => counts.begun = counts.begun.saturating_add(1),
-            Compared::PassedOver => counts.passed_over = counts.passed_over.saturating_add(1),
-            Compared::Other => counts.differing.push(number)?,
-        }
-        match compare_in_place(alloc, &run)? {
-            InPlace::Same => counts.in_place = counts.in_place.saturating_add(1),
-            InPlace::Refused => counts.not_in_place = counts.not_in_place.saturating_add(1),
-            InPlace::Other => counts.differing.push(number)?,
-            InPlace::NotAsked => {}
+        if is_as_it_should_be(alloc, &run)? {
+            counts.same = counts.same.saturating_add(1);
+        } else {
+            counts.differing.push(number)?;
         }
     }
     Ok(counts)
@@ -62,28 +41,13 @@ fn count(alloc: Global, text: &str) -> Result<Counts, Fault> {
 
 /// Prints the counts; the status is 0 where no run differs.
 fn report(rt: &HostRuntime, counts: &Counts) -> io::Result<ExitCode> {
-    let Counts {
-        whole,
-        begun,
-        passed_over,
-        in_place,
-        not_in_place,
-        differing,
-    } = counts;
-    println!(rt; "{whole} runs are as they should be")?;
-    println!(rt;
-        "{begun} runs that the relay doesn't take are answered as they should be before a message is read"
-    )?;
-    println!(rt; "{passed_over} runs are not compared")?;
-    println!(rt;
-        "{in_place} runs have messages that are answered where they lie as they should be"
-    )?;
-    println!(rt; "{not_in_place} runs have a message that isn't answered where it lies")?;
+    let Counts { same, differing } = counts;
+    println!(rt; "{same} runs are as they should be")?;
     for line in differing {
         println!(rt; "the run of line {line} differs")?;
     }
     println!(rt; "{} runs differ", differing.len())?;
-    if differing.is_empty() && *whole > 0 && *in_place > 0 {
+    if differing.is_empty() && *same > 0 {
         Ok(ExitCode::SUCCESS)
     } else {
         Ok(ExitCode::FAILURE)

@@ -1,27 +1,35 @@
-//! Runs of the program, and what they are answered.
+//! Runs of the program, and whether it does what it should.
 
-use crate::faults::{Answer, Fault, calls_answer, schema_answer};
-use crate::whole::compare_whole;
+use capnp_program::program::program;
 use hex::FromHexError;
 use serde_json::Value as Json;
-use std::alloc::Global;
+use std::alloc::{AllocError, AllocFailed, Global};
 
-/// How a run compares.
-#[derive(Clone, Copy, PartialEq, Eq, Debug)]
-pub enum Compared {
-    /// The whole run is as it should be.
-    Whole,
-    /// What is answered before a message is read is as it should be; the relay doesn't take the rest.
-    Begun,
-    Other,
-    PassedOver,
+/// What stands behind the calls of a file that names no limit, in place of the last brace.
+const WORDS_MEMBER: &[u8] = b",\"words\":65536}";
+
+/// Why a run can't be compared.
+#[derive(Clone, Copy, Debug, thiserror::Error)]
+pub enum Fault {
+    #[error("out of memory")]
+    Memory,
+    #[error("no run of the program")]
+    Shape,
 }
 
-/// The bytes of a run's member.
-pub fn hex_of(alloc: Global, run: &Json, member: &str) -> Result<Vec<u8>, Fault> {
-    bytes_of(alloc, run.get(member).ok_or(Fault::Shape)?)
+impl From<AllocError> for Fault {
+    fn from(_e: AllocError) -> Fault {
+        Fault::Memory
+    }
 }
 
+impl<T: Drop> From<AllocFailed<T>> for Fault {
+    fn from(_e: AllocFailed<T>) -> Fault {
+        Fault::Memory
+    }
+}
+
+/// The bytes of a text in hex.
 fn bytes_of(alloc: Global, json: &Json) -> Result<Vec<u8>, Fault> {
     let text = json.as_str().ok_or(Fault::Shape)?;
     match hex::decode(alloc, text.as_bytes()) {
@@ -31,103 +39,86 @@ fn bytes_of(alloc: Global, json: &Json) -> Result<Vec<u8>, Fault> {
     }
 }
 
-/// The bytes of the file of a name; none of one that isn't there.
-pub fn file_of(alloc: Global, run: &Json, name: &str) -> Result<Option<Vec<u8>>, Fault> {
-    let files = run.get("files").ok_or(Fault::Shape)?;
-    match files.get(name) {
+/// The bytes of a run's member.
+fn hex_of(alloc: Global, run: &Json, member: &str) -> Result<Vec<u8>, Fault> {
+    bytes_of(alloc, run.get(member).ok_or(Fault::Shape)?)
+}
+
+/// The words of a run.
+fn words_of(alloc: Global, run: &Json) -> Result<Vec<String>, Fault> {
+    let items = run
+        .get("args")
+        .and_then(Json::as_array)
+        .ok_or(Fault::Shape)?;
+    let mut words = Vec::new(alloc);
+    for item in items.as_slice() {
+        let word = item.as_str().ok_or(Fault::Shape)?;
+        words.push(String::from_str(alloc, word)?)?;
+    }
+    Ok(words)
+}
+
+/// The bytes of the file that the word at a place names; none where there is no such word or file.
+fn file_at(
+    alloc: Global,
+    run: &Json,
+    words: &[String],
+    place: usize,
+) -> Result<Option<Vec<u8>>, Fault> {
+    let Some(name) = words.get(place) else {
+        return Ok(None);
+    };
+    match run.get("files").ok_or(Fault::Shape)?.get(name.as_str()) {
         None => Ok(None),
         Some(bytes) => Ok(Some(bytes_of(alloc, bytes)?)),
     }
 }
 
-/// The line of a fault; none of a run that got further.
-fn line_of(alloc: Global, answer: Answer) -> Result<Option<String>, Fault> {
-    Ok(match answer {
-        Answer::SchemaFile => Some(String::from_str(alloc, "fault: schema file")?),
-        Answer::SchemaRule { rule, node } => {
-            Some(format!(in alloc; "fault: schema rule {rule} node {node}")?)
+/// A calls file that names no word limit, with the limit 2^16 in place of 2^23, which would make each run clear 64 MiB; no message
+/// of the runs comes near it. Other files are as they are.
+fn limited(calls: Vec<u8>) -> Result<Vec<u8>, Fault> {
+    let mut calls = calls;
+    let is_open = match std::str::from_utf8(&calls) {
+        Ok(text) => {
+            text.starts_with("{\"calls\":") && text.ends_with('}') && !text.contains("\"words\"")
         }
-        Answer::Root => Some(String::from_str(alloc, "fault: root")?),
-        Answer::CallsFile => Some(String::from_str(alloc, "fault: calls file")?),
-        Answer::Call(n) => Some(format!(in alloc; "fault: call {n}")?),
-        Answer::Opened => None,
-    })
-}
-
-/// Whether a run that is refused with this line got further than its files, its root and its calls.
-fn got_further(line: &str) -> bool {
-    !(line.starts_with("fault: schema")
-        || line == "fault: root"
-        || line == "fault: calls file"
-        || (line.starts_with("fault: call ") && !line.ends_with("not admitted")))
-}
-
-/// What the files, the root and the calls of a run are answered.
-fn answer_of(alloc: Global, run: &Json, words: &Words) -> Result<Answer, Fault> {
-    let schema = schema_answer(alloc, file_of(alloc, run, words.schema)?, words.root)?;
-    if schema != Answer::Opened {
-        return Ok(schema);
+        Err(_) => false,
+    };
+    if is_open {
+        let _brace = calls.pop();
+        calls.extend_from_slice(WORDS_MEMBER)?;
     }
-    if let Some(newer) = words.newer {
-        let newer = schema_answer(alloc, file_of(alloc, run, newer)?, words.root)?;
-        if newer != Answer::Opened {
-            return Ok(newer);
-        }
-    }
-    calls_answer(alloc, file_of(alloc, run, words.calls)?)
+    Ok(calls)
 }
 
-/// The arguments of a run.
-#[derive(Clone, Copy)]
-struct Words<'j> {
-    schema: &'j str,
-    calls: &'j str,
-    root: u64,
-    newer: Option<&'j str>,
-}
-
-/// The arguments, where they are files, a number and a form.
-fn words_of(run: &Json) -> Option<Words<'_>> {
-    let words = run.get("args")?.as_array()?;
-    let [schema, calls, root, _form, newer @ ..] = words.as_slice() else {
-        return None;
+/// Whether the program's status, output and log are those of the run.
+pub fn is_as_it_should_be(alloc: Global, run: &Json) -> Result<bool, Fault> {
+    let words = words_of(alloc, run)?;
+    let schema = file_at(alloc, run, &words, 0)?;
+    let calls = match file_at(alloc, run, &words, 1)? {
+        Some(calls) => Some(limited(calls)?),
+        None => None,
     };
-    let root = root.as_str()?.parse::<u64>().ok()?;
-    Some(Words {
-        schema: schema.as_str()?,
-        calls: calls.as_str()?,
-        root,
-        newer: newer.first().and_then(Json::as_str),
-    })
-}
-
-/// Compares a run with what it should be: whole where the relay takes it, else what it is answered before a message is read.
-pub fn compare(alloc: Global, run: &Json) -> Result<Compared, Fault> {
-    match compare_whole(alloc, run)? {
-        Some(true) => Ok(Compared::Whole),
-        Some(false) => Ok(Compared::Other),
-        None => compare_beginning(alloc, run),
-    }
-}
-
-/// Compares what a run is answered before a message is read with what it should be.
-fn compare_beginning(alloc: Global, run: &Json) -> Result<Compared, Fault> {
-    let errors = hex_of(alloc, run, "stderr")?;
-    let Ok(errors) = std::str::from_utf8(&errors) else {
-        return Ok(Compared::PassedOver);
-    };
-    let last = errors.lines().last().unwrap_or("");
-    let Some(words) = words_of(run) else {
-        return Ok(Compared::PassedOver);
-    };
-    let answer = answer_of(alloc, run, &words)?;
-    let same = match line_of(alloc, answer)? {
-        Some(line) => line.as_str() == last,
-        None => got_further(last),
-    };
-    Ok(if same {
-        Compared::Begun
-    } else {
-        Compared::Other
-    })
+    let newer = file_at(alloc, run, &words, 4)?;
+    let input = hex_of(alloc, run, "stdin")?;
+    let mut source = input.as_slice();
+    let mut out = Vec::new(alloc);
+    let mut log = Vec::new(alloc);
+    let status = program(
+        alloc,
+        &words,
+        schema.as_deref(),
+        calls.as_deref(),
+        newer.as_deref(),
+        &mut source,
+        &mut out,
+        &mut log,
+    );
+    let wanted = run
+        .get("status")
+        .and_then(Json::as_u64)
+        .ok_or(Fault::Shape)?;
+    let is_out = out.as_slice() == hex_of(alloc, run, "stdout")?.as_slice();
+    let is_log = log.as_slice() == hex_of(alloc, run, "stderr")?.as_slice();
+    Ok(is_out && is_log && status as u64 == wanted)
 }
