@@ -1,16 +1,13 @@
--- The slot that a field is.
-use Rattle.std.proofs.Common.{◌≡◌, ℕ, true, Option, Some, refl, sym, ◌∙◌, ap, subst}
+-- The body that a field's node says, and the default of a pointer.
+use Rattle.std.proofs.Common.{◌≡◌, ℕ, true, Option, Some, sym, ◌∙◌, ap, subst}
 use Rattle.std.specs.Prelude.{option_map}
 use Rattle.capnp_model.specs.Trees.{Tree}
 use Rattle.capnp_model.specs.Schemas.{Ty, void, plain, text, blob, untyped, interface, struct, list, type_of, Value, FieldKind, slot, group, Field as FieldNode, StructNode, Shape, Body, pointer_slot}
 use Rattle.capnp_model.specs.Accepted.{default_tree, slot_body, field_body, is_default_of, has_good_default, opens_as, is_good_value, default_reads}
-use Rattle.capnp_queries.specs.Types.{is_pointer}
-use Rattle.capnp_queries.specs.Structs.{nodes_around, schema_around, id_of, shape_of_struct, IsRecordOf}
+use Rattle.capnp_queries.specs.Structs.{nodes_around, schema_around, id_of, IsRecordOf}
 use Rattle.capnp_queries.specs.Handles.{entry_of, IsFieldRecord}
 use Rattle.capnp_queries.specs.declared.fields.Field.{Field}
-use Rattle.capnp_calls.specs.Slots.{words_in, pointers_in, IsInside, IsSlotOf, body_of_slot}
-use Rattle.capnp_calls.specs.Finding.{default_in, IsFieldSlot}
-use Rattle.capnp_calls.specs.declared.slot.Slot.{Slot}
+use Rattle.capnp_calls.specs.Finding.{default_in}
 use Rattle.capnp_calls.proofs.AcceptedSlots.{SoundField, sound_field}
 
 some_same : {A : Type 0} {x y : A} → ◌≡◌ {A = Option A} (Some x) (Some y) → x ≡ y
@@ -22,7 +19,6 @@ body_is f r b rec h = some_same (sym (ap (option_map (λ e. e.body)) rec.entry) 
 
 -- what is known of a pointer slot
 pub record PointerKind (k : FieldKind) (t : Ty) : Type 0 where
-  pub pointer : is_pointer t ≡ true
   pub default : is_default_of t (default_in k) ≡ true
   pub good : is_good_value (λ u. opens_as u t) (default_in k) ≡ true
 
@@ -30,48 +26,40 @@ module _ (i : ℕ) (t : Ty) (x : Option Tree) (offset : ℕ) (d : Option Value) 
   -- the type, and the place with the node's default
   record Parts (u : Ty) : Type 0 where
     type : u ≡ t
-    pointer : is_pointer t ≡ true
     default : is_default_of t d ≡ true
     body : pointer_slot i t x ≡ pointer_slot i t (default_tree d)
 
-  same_parts : (u : Ty) → is_pointer u ≡ true → is_default_of u d ≡ true → pointer_slot offset u (default_tree d) ≡ pointer_slot i t x → Parts u
-  same_parts u p g h =
+  same_parts : (u : Ty) → is_default_of u d ≡ true → pointer_slot offset u (default_tree d) ≡ pointer_slot i t x → Parts u
+  same_parts u g h =
       let ty : u ≡ t = cc h in
       let default : default_tree d ≡ x = cc h in
-      record { type = ty; pointer = subst (λ z. is_pointer z ≡ true) ty p; default = subst (λ z. is_default_of z d ≡ true) ty g; body = ap (pointer_slot i t) (sym default) }
+      record { type = ty; default = subst (λ z. is_default_of z d ≡ true) ty g; body = ap (pointer_slot i t) (sym default) }
 
   parts : (u : Ty) → is_default_of u d ≡ true → slot_body offset u d ≡ pointer_slot i t x → Parts u
   parts void g h = absurd (cc h)
   parts (plain p) g h = absurd (cc h)
-  parts text g h = same_parts text refl g h
-  parts blob g h = same_parts blob refl g h
-  parts untyped g h = same_parts untyped refl g h
-  parts interface g h = same_parts interface refl g h
-  parts (struct id) g h = same_parts (struct id) refl g h
-  parts (list ty) g h = same_parts (list ty) refl g h
+  parts text g h = same_parts text g h
+  parts blob g h = same_parts blob g h
+  parts untyped g h = same_parts untyped g h
+  parts interface g h = same_parts interface g h
+  parts (struct id) g h = same_parts (struct id) g h
+  parts (list ty) g h = same_parts (list ty) g h
 
-pub pointer_kind : (groups : ℕ → Shape) (k : FieldKind) (i : ℕ) (t : Ty) (x : Option Tree) → field_body groups k ≡ pointer_slot i t x → has_good_default k ≡ true → default_reads k ≡ true → PointerKind k t
+pointer_kind : (groups : ℕ → Shape) (k : FieldKind) (i : ℕ) (t : Ty) (x : Option Tree) → field_body groups k ≡ pointer_slot i t x → has_good_default k ≡ true → default_reads k ≡ true → PointerKind k t
 pointer_kind groups (slot offset ty d) i t x h g reads =
     let p = parts i t x offset d (type_of ty) g h in
-    record { pointer = p.pointer; default = p.default; good = subst (λ z. is_good_value (λ u. opens_as u z) d ≡ true) p.type reads }
+    record { default = p.default; good = subst (λ z. is_good_value (λ u. opens_as u z) d ≡ true) p.type reads }
 pointer_kind groups (group id) i t x h g reads = absurd (cc h)
 
-pub pointer_body : (groups : ℕ → Shape) (k : FieldKind) (i : ℕ) (t : Ty) (x : Option Tree) → field_body groups k ≡ pointer_slot i t x → has_good_default k ≡ true → field_body groups k ≡ pointer_slot i t (default_tree (default_in k))
+pointer_body : (groups : ℕ → Shape) (k : FieldKind) (i : ℕ) (t : Ty) (x : Option Tree) → field_body groups k ≡ pointer_slot i t x → has_good_default k ≡ true → field_body groups k ≡ pointer_slot i t (default_tree (default_in k))
 pointer_body groups (slot offset ty d) i t x h g = h ∙ (parts i t x offset d (type_of ty) g h).body
 pointer_body groups (group id) i t x h g = absurd (cc h)
 
--- ---- whole slots
+-- ---- whole fields
 
 module _ (f : Field) (r : FieldNode) (rec : IsFieldRecord f.parent f.index r) (n : StructNode) (holder : IsRecordOf (nodes_around f.parent) (id_of f.parent) n) where
   sound : SoundField f.parent r
   sound = sound_field f.parent f.index r rec n holder
-
-  -- a slot of this body lies in its struct
-  pub slot_inside : (b : Body) → option_map (λ e. e.body) (entry_of f) ≡ Some b → IsInside (words_in (shape_of_struct f.parent)) (pointers_in (shape_of_struct f.parent)) b
-  slot_inside b h = subst (IsInside (words_in (shape_of_struct f.parent)) (pointers_in (shape_of_struct f.parent))) (body_is f r b rec h) sound.inside
-
-  pub slot_is_field : (s : Slot) → option_map (λ e. e.body) (entry_of f) ≡ Some (body_of_slot s) → IsSlotOf (nodes_around f.parent) s → IsFieldSlot f s
-  slot_is_field s h of_set = record { body = h; inside = slot_inside (body_of_slot s) h; of_set = of_set }
 
   pub kind_of_pointer : (i : ℕ) (t : Ty) (x : Option Tree) → option_map (λ e. e.body) (entry_of f) ≡ Some (pointer_slot i t x) → PointerKind r.kind t
   kind_of_pointer i t x h = pointer_kind (schema_around f.parent).shape_of r.kind i t x (body_is f r (pointer_slot i t x) rec h) sound.default sound.reads

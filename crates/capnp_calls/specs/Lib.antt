@@ -2,17 +2,10 @@ pub mod Actions
 pub mod CallViews
 pub mod Texts
 pub mod Contents
-pub mod RootViews
 pub mod Slots
 pub mod Finding
 pub mod Taken
 pub mod Replies
 pub mod Sizes
 pub mod LongLists
-pub mod Readable
 pub mod Paths
-pub mod Changes
-pub mod Clearing
-pub mod Ends
-pub mod PointerTexts
-pub mod SlotTexts

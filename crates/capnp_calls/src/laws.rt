@@ -5,12 +5,11 @@ ghost use Rattle.capnp_queries.specs.declared.structs.StructSchema.{StructSchema
 ghost use Rattle.capnp_calls.specs.declared.call.Call.{Call};
 ghost use Rattle.capnp_calls.specs.CallViews.{call_view};
 ghost use Rattle.capnp_queries.specs.Structs.{schema_around, id_of};
-ghost use Rattle.capnp_calls.specs.Taken.{IsRoot, taken_call};
+ghost use Rattle.capnp_calls.specs.Taken.{IsRoot};
 
 /// What calls set are values of their sorts.
 pub fn calls_are_given()
-    ensures { (root : StructSchema) (calls : List Call)
-        → AreGiven (map (taken_call root) (map call_view calls)) }
+    ensures { (root : StructSchema) (calls : List Call) → AreGiven (map call_view calls) }
 {}
 
 /// A root, as a set finds a struct by its id, is no group.
