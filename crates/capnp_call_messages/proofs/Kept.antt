@@ -14,7 +14,7 @@ use Rattle.capnp_model.specs.Bytes.{bytes_of_words, words_in_bytes}
 use Rattle.capnp_model.specs.Spelling.{AreWords}
 use Rattle.capnp_model.specs.Decoding.{decode}
 use Rattle.capnp_model.specs.Answers.{value_within}
-use Rattle.capnp_model.proofs.Chaining.{bind_some, provided_some}
+use Rattle.capnp_model.proofs.Chaining.{bind_some, provided_some, some_is}
 use Rattle.capnp_model.proofs.ByteWords.{words_back, bytes_length}
 use Rattle.capnp_model.proofs.ReadFits.{tree_at_fits}
 use Rattle.capnp_model.proofs.TrimFits.{Fits-trim}
@@ -25,6 +25,7 @@ use Rattle.capnp_model.proofs.CanonicalCopies.{free_trim}
 use Rattle.capnp_model.specs.Schemas.{default_or_null}
 use Rattle.capnp_call_messages.specs.declared.message.MessageValue.{MessageValue}
 use Rattle.capnp_call_messages.specs.Frames.{default_limits, one_frame, value_in}
+use Rattle.capnp_call_messages.specs.Copied.{canonical_words_in}
 use Rattle.capnp_call_messages.specs.Messages.{tree_of_message}
 
 -- ---- a value within the limits
@@ -54,10 +55,10 @@ read_of s t e =
       few = within (cost_at 64 s root) tests.1;
     }
 
-pub read_fits : (s : Segments) (t : Tree) → value_within default_limits s ≡ Some t → Fits (trim t)
+read_fits : (s : Segments) (t : Tree) → value_within default_limits s ≡ Some t → Fits (trim t)
 read_fits s t e = Fits-trim t (tree_at_fits 64 s root t (read_of s t e).found)
 
-pub read_short : (s : Segments) (t : Tree) → value_within default_limits s ≡ Some t → length (canonical_words (trim t)) ≤ 2 ^ 29
+read_short : (s : Segments) (t : Tree) → value_within default_limits s ≡ Some t → length (canonical_words (trim t)) ≤ 2 ^ 29
 read_short s t e =
     let r = read_of s t e in
     let size = canonical_size 64 s root t r.found in
@@ -78,8 +79,8 @@ spelled_by bs u e c same =
     let eq : bytes_eq (bytes_of_words (canonical_words (trim u))) bs ≡ true = (bytes_eq-Decides (bytes_of_words (canonical_words (trim u))) bs).1 same in
     rw (e, c, eq) refl
 
--- THE LEMMA: they are decoded as the trimmed value.
-pub decoded : (s : Segments) (t : Tree) → value_within default_limits s ≡ Some t → decode (bytes_of_words (canonical_words (trim t))) ≡ Some (trim t)
+-- they are decoded as the trimmed value.
+decoded : (s : Segments) (t : Tree) → value_within default_limits s ≡ Some t → decode (bytes_of_words (canonical_words (trim t))) ≡ Some (trim t)
 decoded s t e =
     let r = read_of s t e in
     let few = r.few in
@@ -92,26 +93,48 @@ decoded s t e =
 
 -- ---- the value that bytes hold
 
+-- canonical words are those of a value
+value_of : (s : Segments) (ws : List ℕ) → Some ws ≡ canonical_words_in s → (t : Tree) × (Some t ≡ value_within default_limits s) × (ws ≡ canonical_words (trim t))
+value_of s ws e = by (value_within default_limits s) refl
+  where
+    by : (o : Option Tree) → o ≡ value_within default_limits s → (t : Tree) × (Some t ≡ value_within default_limits s) × (ws ≡ canonical_words (trim t))
+    by None v = absurd (cc (e ∙ ap (option_map (λ t. canonical_words (trim t))) (sym v)))
+    by (Some t) v = (t, v, some_is ws (canonical_words (trim t)) (e ∙ ap (option_map (λ u. canonical_words (trim u))) (sym v)))
+
+no_value : (s : Segments) → None ≡ canonical_words_in s → None ≡ value_within default_limits s
+no_value s e = by (value_within default_limits s) refl
+  where
+    by : (o : Option Tree) → o ≡ value_within default_limits s → None ≡ value_within default_limits s
+    by None v = v
+    by (Some t) v = absurd (cc (e ∙ ap (option_map (λ u. canonical_words (trim u))) (sym v)))
+
 pub not_framed : (bytes : List ℕ) → None ≡ one_frame bytes → None ≡ value_in bytes
 unfolding value_in
 not_framed bytes f = rw (sym f) refl
 
-pub not_read : (bytes : List ℕ) (s : Segments) → Some s ≡ one_frame bytes → None ≡ value_within default_limits s → None ≡ value_in bytes
+none_in : (bytes : List ℕ) (s : Segments) → Some s ≡ one_frame bytes → None ≡ value_within default_limits s → None ≡ value_in bytes
 unfolding value_in
-not_read bytes s f v = rw (sym f, sym v) refl
+none_in bytes s f v = rw (sym f, sym v) refl
+
+pub not_read : (bytes : List ℕ) (s : Segments) → Some s ≡ one_frame bytes → None ≡ canonical_words_in s → None ≡ value_in bytes
+not_read bytes s f e = none_in bytes s f (no_value s e)
 
 value_is : (bytes : List ℕ) (s : Segments) (t : Tree) → Some s ≡ one_frame bytes → Some t ≡ value_within default_limits s → Some (trim t) ≡ value_in bytes
 unfolding value_in
 value_is bytes s t f v = rw (sym f, sym v) refl
 
-pub kept_is : (bytes kept : List ℕ) (s : Segments) (t : Tree) → Some s ≡ one_frame bytes → Some t ≡ value_within default_limits s → kept ≡ bytes_of_words (canonical_words (trim t)) → Some (default_or_null (decode kept)) ≡ value_in bytes
-kept_is bytes kept s t f v k = ap (λ o. Some (default_or_null o)) (ap decode k ∙ decoded s t (sym v)) ∙ value_is bytes s t f v
+kept_decoded : (kept ws : List ℕ) (s : Segments) (t : Tree) → Some t ≡ value_within default_limits s → ws ≡ canonical_words (trim t) → kept ≡ bytes_of_words ws → decode kept ≡ Some (trim t)
+kept_decoded kept ws s t v is k = ap decode (k ∙ ap bytes_of_words is) ∙ decoded s t (sym v)
 
-pub kept_decodes : (kept : List ℕ) (s : Segments) (t : Tree) → Some t ≡ value_within default_limits s → kept ≡ bytes_of_words (canonical_words (trim t)) → IsSome (decode kept)
-kept_decodes kept s t v k = subst IsSome (sym (ap decode k ∙ decoded s t (sym v))) refl
+pub kept_is : (bytes kept ws : List ℕ) (s : Segments) → Some s ≡ one_frame bytes → Some ws ≡ canonical_words_in s → kept ≡ bytes_of_words ws → Some (default_or_null (decode kept)) ≡ value_in bytes
+kept_is bytes kept ws s f e k =
+    let v = value_of s ws e in
+    ap (λ o. Some (default_or_null o)) (kept_decoded kept ws s v.0 v.1 v.2 k) ∙ value_is bytes s v.0 f v.1
 
-pub mapped : {X Y : Type 0} (f : X → Y) (o : Option X) (x : X) (m : Option Y) → o ≡ Some x → option_map f o ≡ m → Some (f x) ≡ m
-mapped f o x m is e = sym (ap (option_map f) is) ∙ e
+pub kept_decodes : (kept ws : List ℕ) (s : Segments) → Some ws ≡ canonical_words_in s → kept ≡ bytes_of_words ws → IsSome (decode kept)
+kept_decodes kept ws s e k =
+    let v = value_of s ws e in
+    subst IsSome (sym (kept_decoded kept ws s v.0 v.1 v.2 k)) refl
 
 -- ---- a message that is kept
 

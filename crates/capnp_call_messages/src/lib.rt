@@ -1,4 +1,5 @@
 //! Messages as the values of calls, made canonical once.
 #![tactic(auto)]
 
+mod copied;
 pub mod message;

@@ -1,62 +1,48 @@
 //! The value of a message.
 
-ghost use Rattle.std.specs.Prelude.{◌≡◌, ◌^◌, ◌≤◌, length, IsSome, IfOk, option_map};
-ghost use Rattle.capnp_model.specs.Trimming.{trim};
-ghost use Rattle.capnp_model.specs.Fits.{Fits};
-ghost use Rattle.capnp_model.specs.Encoding.{canonical_words};
+ghost use Rattle.std.specs.Prelude.{◌≡◌, ◌%◌, length, IsSome, IfOk, option_map};
 ghost use Rattle.capnp_model.specs.Bytes.{bytes_of_words};
 ghost use Rattle.capnp_model.specs.Decoding.{decode};
-ghost use Rattle.capnp_units.specs.Segments.{words_in};
+ghost use Rattle.capnp_units.specs.Segments.{whole_words, words_in};
+ghost use Rattle.capnp_canonical.specs.Writes.{words_view};
 ghost use Rattle.capnp_stream.specs.Buffers.{found_segments};
-ghost use Rattle.capnp_value.specs.Values.{tree_of_value};
 ghost use Rattle.capnp_call_messages.specs.Frames.{one_frame};
 
-use capnp_model::laws;
+use crate::copied::{MOST_LEVELS, MOST_WORDS, canonical_words};
+use capnp_canonical::laws::segments_of_words;
+use capnp_model::laws::texts_of_messages;
+use capnp_object::arena::ReaderArenaImpl;
 use capnp_stream::buffers::NoAllocSliceSegments;
 use capnp_stream::slices::read_message_from_flat_slice_no_alloc;
-use capnp_value::value::{Bounds, Value, canonical, read_value, trim_whole};
+use capnp_units::sizes::{Word, words_as_bytes};
 use std::alloc::{AllocError, Global};
-
-/// How far a message is followed: 2^23 words and 64 levels of pointers.
-const DEFAULT_BOUNDS: Bounds = Bounds {
-    words: 8_388_608,
-    nesting: 64,
-};
-
-/// The bytes of words, the lowest byte of each first.
-fn bytes_of_words(alloc: Global, words: &[u64]) -> Result<Vec<u8>, AllocError>
-    ensures { IfOk result (λ v. v.items ≡ bytes_of_words words.now) }
-{
-    let mut bytes = Vec::new(alloc);
-    for word in words {
-        bytes.extend_from_slice(&word.to_le_bytes())?;
-    }
-    Ok(bytes)
-}
 
 /// The segments of bytes that are one frame, nothing behind it.
 fn one_frame<'a>(bytes: &'a [u8]) -> Option<NoAllocSliceSegments<'a>>
     ensures { option_map (λ s. words_in (found_segments s)) result ≡ one_frame bytes.now }
 {
-    laws::texts_of_messages();
+    texts_of_messages();
     let mut rest = bytes;
-    let limit = Some(DEFAULT_BOUNDS.words as usize);
-    match read_message_from_flat_slice_no_alloc(&mut rest, limit) {
+    match read_message_from_flat_slice_no_alloc(&mut rest, Some(MOST_WORDS)) {
         Ok(segments) if rest.is_empty() => Some(segments),
         _ => None,
     }
 }
 
-/// The bytes of the canonical words of a value.
-fn canonical_bytes(alloc: Global, mut value: Value) -> Result<Vec<u8>, AllocError>
-    requires fits { Fits (trim (tree_of_value value)) }
-    requires short { length (canonical_words (trim (tree_of_value value))) ≤ 2 ^ 29 }
-    ensures { IfOk result (λ v.
-        v.items ≡ bytes_of_words (canonical_words (trim (tree_of_value value)))) }
+/// A copy of the bytes of whole words.
+fn copied(alloc: Global, bytes: &[u8]) -> Result<Vec<u8>, AllocError>
+    requires { length bytes.now % 8 ≡ 0 }
+    ensures { IfOk result (λ v. v.items ≡ bytes_of_words (whole_words bytes.now)) }
 {
-    trim_whole(&mut value);
-    let words = canonical(alloc, &value)?;
-    bytes_of_words(alloc, &words)
+    bytes.to_vec(alloc)
+}
+
+/// The bytes of words, the lowest byte of each first.
+fn bytes_of_words(alloc: Global, words: &[Word]) -> Result<Vec<u8>, AllocError>
+    ensures { IfOk result (λ v. v.items ≡ bytes_of_words (words_view words.now)) }
+{
+    segments_of_words(words);
+    copied(alloc, words_as_bytes(words))
 }
 
 /// The value of a message, as the bytes of its canonical words.
@@ -78,13 +64,14 @@ impl MessageValue {
         ensures value { IfOk result (λ m. option_map tree_of_message m ≡ value_in bytes.now) }
         ensures wanted { OnErr result (IsSome (one_frame bytes.now)) }
     {
-        match one_frame(bytes) {
-            Some(segments) => match read_value(alloc, &segments, DEFAULT_BOUNDS)? {
-                Some(value) => Ok(Some(MessageValue {
-                    segment: canonical_bytes(alloc, value)?,
-                })),
-                None => Ok(None),
-            },
+        let Some(segments) = one_frame(bytes) else {
+            return Ok(None);
+        };
+        let arena = ReaderArenaImpl::new(segments, MOST_LEVELS as i32);
+        match canonical_words(alloc, &arena)? {
+            Some(words) => Ok(Some(MessageValue {
+                segment: bytes_of_words(alloc, &words)?,
+            })),
             None => Ok(None),
         }
     }
