@@ -1,5 +1,5 @@
 -- What the reader of one message into a kept buffer promises. (Encoding, "Serialization Over a Stream")
-use Rattle.std.specs.Prelude.{◌≡◌, ◌⊎◌, ℕ, ◌<◌, ⊤, List, IfSome, IfErr, vec_len}
+use Rattle.std.specs.Prelude.{◌≡◌, ◌⊎◌, ℕ, ◌<◌, ⊤, List, length, IfSome, IfErr}
 use Rattle.std.specs.declared.convert.AsSlice.{Ghosts}
 use Rattle.std.specs.declared.result.Result.{Result}
 use Rattle.std.specs.declared.option.Option.{Option}
@@ -16,7 +16,7 @@ use Rattle.capnp_stream.specs.declared.kept.MessageBuffer.{MessageBuffer}
 
 -- How many bytes a buffer has.
 abbrev pub buffer_len : MessageBuffer → ℕ
-buffer_len b = vec_len b.bytes
+buffer_len b = length b.bytes.items
 
 -- A message is read, whose segments a buffer lends, or none is left.
 abbrev pub TriesMessageInto : {T : Type 0} {g : Ghosts T ℕ} → Reader → (ErrorKind → Type 0) → Option ℕ → SourceSeen → Result (Option (NoAllocBufferSegments T g)) Error → SourceSeen → Type 0

@@ -1,5 +1,5 @@
 //! Messages that are read one after the other into memory that is kept.
-ghost use Rattle.std.specs.Prelude.{◌≡◌, ℕ, Option, List, true, ◌≤◌, ◌+◌, ◌%◌, ◌^◌, ◌<◌, ◌++◌, length, sum, vec_len, IfOk, IfErr, OnOk, OnErr};
+ghost use Rattle.std.specs.Prelude.{◌≡◌, ℕ, List, true, ◌≤◌, ◌+◌, ◌%◌, ◌^◌, ◌<◌, ◌++◌, length, sum, IfOk, IfErr, OnOk, OnErr};
 ghost use Rattle.std.specs.Int.{from_le_bytes, w64};
 ghost use Rattle.capnp_units.specs.declared.kinds.ErrorKind.{ErrorKind};
 ghost use Rattle.capnp_units.specs.Segments.{words_in};
@@ -7,6 +7,7 @@ ghost use Rattle.capnp_model.specs.Messages.{within};
 ghost use Rattle.capnp_io.specs.Counting.{Counts};
 ghost use Rattle.capnp_stream.specs.Frames.{TellsFault, TakesMessage, TakesStart, TakesTable, IsReadKind};
 ghost use Rattle.capnp_stream.specs.Flat.{table_lengths, frame_segments, Describes};
+ghost use Rattle.capnp_stream.specs.Lent.{IsFillKind};
 ghost use Rattle.capnp_stream.specs.Reading.{WantsBetweenPieces, source_seen};
 ghost use Rattle.capnp_stream.specs.Kept.{buffer_len, TriesMessageInto, WantsForLonger};
 
@@ -28,16 +29,20 @@ pub struct MessageBuffer {
 }
 
 /// Reads a table into the front of a buffer that has room for the longest, and answers how many segments it has, from 1 to 511.
-fn fill_any_table<F: MessageForm, R: BufRead>(source: &mut R, buffer: &mut [u8]) -> Result<usize>
+fn fill_any_table<F: MessageForm, R: BufRead>(
+    source: &mut R,
+    buffer: &mut [u8],
+    limit: Option<usize>,
+) -> Result<usize>
     requires { LONGEST_TABLE ≤ length buffer.old }
     ensures few { IfOk result (λ n. (0 < n) × (n ≤ 511)) }
     ensures count { IfOk result (λ n. n ≡ from_le_bytes w64 buffer.new % 2 ^ 32 + 1) }
-    ensures table { (limit : Option ℕ) → IfOk result (λ n. TakesTable F.reader limit
-        (R.remaining source.old) (R.remaining source.new) (table_lengths n buffer.new)) }
-    ensures refused { (limit : Option ℕ)
-        → TellsFault F.reader limit (R.remaining source.old) result }
-    ensures kind { IfErr result (λ e. IsReadKind F.faults e.kind) }
-    ensures part { (limit : Option ℕ) → OnErr result
+    ensures table { IfOk result (λ n. TakesTable F.reader limit (R.remaining source.old)
+        (R.remaining source.new) (table_lengths n buffer.new)) }
+    ensures refused { TellsFault F.reader limit (R.remaining source.old) result }
+    ensures read_kind { IfErr result (λ e. IsReadKind F.faults e.kind) }
+    ensures fill_kind { IfErr result (λ e. IsFillKind F.faults e.kind) }
+    ensures part { OnErr result
         (TakesStart F.reader limit (R.remaining source.old) (R.remaining source.new)) }
     ensures failures { Counts result (R.failures source.old) (R.failures source.new) }
 {
@@ -92,7 +97,7 @@ impl MessageBuffer {
         ensures failures { Counts result (R.failures source.old) (R.failures source.new) }
     {
         self.grow_to(LONGEST_TABLE)?;
-        let count = fill_any_table::<F, R>(source, &mut self.bytes)?;
+        let count = fill_any_table::<F, R>(source, &mut self.bytes, limit)?;
         let total = words_before(&self.bytes, count);
         if !is_within(total, limit) {
             return Err(Error::from(ErrorKind::MessageTooLarge));
