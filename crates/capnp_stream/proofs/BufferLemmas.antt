@@ -1,15 +1,21 @@
 -- Segments in the buffer of their message, by their numbers.
-use Rattle.std.proofs.Common.{◌≡◌, ℕ, zero, suc, ◌+◌, ◌-◌, ◌*◌, ◌<◌, ◌≤◌, List, [], ◌∷◌, get_or, None, Some, refl, sym, ap, ◌∙◌, arith, length, take, drop, sum}
+use Rattle.std.proofs.Common.{◌≡◌, ℕ, zero, suc, ◌+◌, ◌-◌, ◌*◌, ◌<◌, ◌≤◌, List, [], ◌∷◌, get_or, true, None, Some, refl, sym, ap, subst, ◌∙◌, arith, length, take, drop, sum, length-drop}
 use Rattle.std.specs.List.{slice_get, slice_range}
 use Rattle.std.specs.Option.{option_map}
 use Rattle.std.proofs.lemmas.List.{drop-drop, length-map}
 use Rattle.std.proofs.lemmas.Option.{slice_get-map, slice_get_past}
-use Rattle.capnp_units.specs.Segments.{whole_words}
-use Rattle.capnp_model.specs.Messages.{halves}
-use Rattle.capnp_stream.specs.Ranges.{ranges_from}
-use Rattle.capnp_stream.specs.Flat.{table_lengths, table_bytes, frame_segments}
-use Rattle.capnp_stream.proofs.WordLemmas.{sum-cons}
+use Rattle.std.specs.declared.option.Option.{Option}
+use Rattle.capnp_units.specs.Segments.{whole_words, words_in}
+use Rattle.capnp_model.specs.Messages.{halves, within}
+use Rattle.capnp_model.specs.Spelling.{CanSpell}
+use Rattle.capnp_stream.specs.Ranges.{AreBytes, ranges_from}
+use Rattle.capnp_stream.specs.Flat.{table_lengths, table_bytes, frame_segments, Describes}
+use Rattle.capnp_stream.specs.Writing.{AreWritable}
+use Rattle.capnp_stream.specs.declared.flat.NoAllocSegmentTableInfo.{NoAllocSegmentTableInfo}
+use Rattle.capnp_stream.proofs.WordLemmas.{AreBytes-drop, sum-cons, cut-of_joined, writable-joined}
+use Rattle.capnp_stream.proofs.SpellLemmas.{CanSpell-of_cut}
 use Rattle.capnp_stream.proofs.FlatLemmas.{table-holds}
+use Rattle.capnp_stream.proofs.TableLemmas.{table-short}
 
 length-ranges : (at : ℕ) (ns : List ℕ) → length (ranges_from at ns) ≡ length ns
 length-ranges at [] = refl
@@ -71,3 +77,25 @@ module _ (n : ℕ) (bytes : List ℕ) (whole : table_bytes n ≤ length bytes) w
           let range : slice_get (ranges_from 0 ns) id ≡ Some (a, a + b) = range-there 0 ns id (omega (arith, table-holds n bytes whole)) ∙ ap (λ k. Some (k, k + get_or ns id 0)) start ∙ ap (λ k. Some (a, a + k)) size in
           let end : table_bytes n + 8 * (a + b) ≡ table_bytes n + 8 * a + 8 * b = omega arith in
           slice_get-map part (ranges_from 0 ns) id ∙ ap (option_map part) range ∙ ap Some (range-behind (table_bytes n) (8 * a) (8 * (a + b)) bytes ∙ ap (slice_range bytes (table_bytes n + 8 * a)) end)
+
+-- ---- segments that a table describes can be written again
+
+module _ (info : NoAllocSegmentTableInfo) (bytes : List ℕ) (d : Describes info bytes) (small : AreBytes bytes) where
+  pub described-spells : (limit : Option ℕ) → within (sum (table_lengths info.segments_count bytes)) limit ≡ true → CanSpell limit (words_in (frame_segments info.segments_count bytes))
+  described-spells limit kept =
+      let n = info.segments_count in
+      let ns = table_lengths n bytes in
+      let body = drop (table_bytes n) bytes in
+      let count : length ns ≡ n = table-holds n bytes (omega (arith, d.table, d.fits)) in
+      let room : 8 * sum ns ≤ length body = omega (arith, length-drop (table_bytes n) bytes, d.table, d.total, d.fits) in
+      subst (CanSpell limit) (sym (cut-of_joined body body (ranges_from 0 ns) ns refl refl room))
+      (CanSpell-of_cut limit ns body (omega (arith, count, d.count)) (omega (arith, count, d.few)) (table-short n bytes small) kept (AreBytes-drop (table_bytes n) bytes small))
+
+  pub described-writable : AreWritable (frame_segments info.segments_count bytes)
+  described-writable =
+      let n = info.segments_count in
+      let ns = table_lengths n bytes in
+      let body = drop (table_bytes n) bytes in
+      let count : length ns ≡ n = table-holds n bytes (omega (arith, d.table, d.fits)) in
+      let room : 8 * sum ns ≤ length body = omega (arith, length-drop (table_bytes n) bytes, d.table, d.total, d.fits) in
+      writable-joined body body (ranges_from 0 ns) ns refl refl room (table-short n bytes small) (omega (arith, count, d.count)) (omega (arith, count, d.few))

@@ -1,5 +1,5 @@
 -- Framed messages at the front of a buffer, from the table on.
-use Rattle.std.proofs.Common.{◌≡◌, ℕ, zero, suc, ◌+◌, ◌-◌, ◌*◌, ◌/◌, ◌%◌, ◌^◌, ◌<◌, ◌≤◌, ◌≢◌, add-one, List, [], ◌∷◌, ◌++◌, true, false, leb, ltb, get_or, None, Ok, Err, refl, sym, ap, ◌∙◌, arith, length, take, drop, sum, length-drop, length-take-le}
+use Rattle.std.proofs.Common.{◌≡◌, ℕ, zero, suc, ◌+◌, ◌-◌, ◌*◌, ◌/◌, ◌%◌, ◌^◌, ◌<◌, ◌≤◌, ◌≢◌, add-one, List, [], ◌∷◌, ◌++◌, true, false, leb, ltb, get_or, None, Ok, Err, refl, sym, ap, ◌∙◌, arith, length, take, drop, sum, length-drop, length-take-le, take-append-drop, append_assoc}
 use Rattle.std.proofs.lemmas.Bool.{lt-ltb, le-leb}
 use Rattle.std.proofs.Math.Seq.{take-suc}
 use Rattle.std.proofs.lemmas.List.{drop-drop, drop-take, get_or-drop, nil_from_length, take_all, take_at, drop_at, length-append}
@@ -117,6 +117,16 @@ table-front n t b size =
     let front : take k (whole_words all) ≡ whole_words t = sym (whole-front k all (omega (arith, length-append t b))) ∙ ap whole_words (take_at t b (8 * k) size) in
     let same : take (1 + n) halved ≡ take (1 + n) (halves (whole_words t)) = sym (take-halves (1 + n) k (whole_words all) (omega arith)) ∙ ap (λ ws. take (1 + n) (halves ws)) front in
     sym (drop-take 1 n halved) ∙ ap (drop 1) same ∙ drop-take 1 n (halves (whole_words t))
+
+-- nor does what lies behind a buffer that begins with it
+pub table-grown : (n : ℕ) (a more : List ℕ) → table_bytes n ≤ length a → table_lengths n (a ++ more) ≡ table_lengths n a
+table-grown n a more fits =
+    let t = take (table_bytes n) a in
+    let behind = drop (table_bytes n) a in
+    let size : length t ≡ table_bytes n = length-take-le (table_bytes n) a fits in
+    let joined : t ++ behind ≡ a = take-append-drop (table_bytes n) a in
+    let all : a ++ more ≡ t ++ (behind ++ more) = ap (λ (l : List ℕ). l ++ more) (sym joined) ∙ append_assoc t behind more in
+    ap (table_lengths n) all ∙ table-front n t (behind ++ more) size ∙ sym (table-front n t behind size) ∙ ap (table_lengths n) joined
 
 pub message-in : (n : ℕ) (t body : List ℕ) → length t ≡ table_bytes n → 8 * sum (table_lengths n t) ≤ length body
     → words_in (frame_segments n (t ++ body)) ≡ cut (table_lengths n t) (whole_words (take (8 * sum (table_lengths n t)) body))

@@ -14,9 +14,9 @@ use Rattle.capnp_model.specs.Segments.{Segments}
 use Rattle.capnp_model.specs.Messages.{Reader, within, halves, cut, behind_lengths, behind_first, message_at}
 use Rattle.capnp_model.proofs.Chaining.{ok_is, ok_then, guard_then, bind_ok}
 use Rattle.capnp_stream.specs.Pieces.{EndsEarly, EachIsNeeded, ReadsFronts, TakesPiece, TakesPieceStart}
-use Rattle.capnp_stream.specs.Frames.{IsFrameFault, HasNoMessage, TakesMessage, TakesStart, TakesPart, TakesTable, IsFramingKind, IsCut}
+use Rattle.capnp_stream.specs.Frames.{IsFrameFault, HasNoMessage, TakesMessage, TakesStart, TakesPart, TakesTable, TakesBody, IsFramingKind, IsCut}
 use Rattle.capnp_stream.specs.Flat.{table_bytes}
-use Rattle.capnp_stream.specs.Lent.{NeedsMore}
+use Rattle.capnp_stream.specs.Lent.{NeedsMore, HasLonger}
 use Rattle.capnp_io.proofs.KnownLemmas.{IfSome-of_front, IfSome-of_behind, Consumes-of_kept}
 use Rattle.capnp_stream.proofs.EarlyLemmas.{early-same, early-then, early-guard, early-none, wants-some, none-needed, needed-joined}
 use Rattle.capnp_stream.proofs.PieceLemmas.{err_then, guard_err, message_more}
@@ -244,6 +244,9 @@ module _ (read : Reader) (fronts : ReadsFronts read) (limit : Option ℕ) where
     pub table-needs : (size : ℕ) → within (sum ns) limit ≡ true → size < table_bytes (length ns) + 8 * sum ns → IfSome a (NeedsMore read limit size)
     table-needs size kept short = IfSome-of_front a b table.0 (NeedsMore read limit size) table.1 (λ more. inr (inr (ns, (table.0, more, refl, table.2), kept, short)))
 
+    pub table-longer : (size : ℕ) → within (sum ns) limit ≡ true → size < table_bytes (length ns) + 8 * sum ns → IfSome a (HasLonger read limit size)
+    table-longer size kept short = IfSome-of_front a b table.0 (HasLonger read limit size) table.1 (λ more. (ns, (table.0, more, refl, table.2), kept, short))
+
     pub large-fault : within (sum ns) limit ≡ false → IfSome a (λ xs. IsFrameFault read limit xs MessageTooLarge)
     large-fault large = fault-said read limit table.0 (behind_lengths read limit ns) table.2 table.3 a b table.1 MessageTooLarge (λ more. lengths-refuse read limit ns more large)
 
@@ -267,6 +270,9 @@ module _ (read : Reader) (fronts : ReadsFronts read) (limit : Option ℕ) where
             let Reads : ℕ → Type 0 = λ n. (more : List ℕ) → read n (second.0 ++ more) ≡ Ok (words, more) in
             let whole : says (second.0 ++ []) ≡ Ok (cut ns words, []) = lengths-body read limit ns (second.0 ++ []) words [] kept (subst Reads long second.1 []) in
             (table.0 ++ second.0, table.2 second.0 ∙ ap says (sym (append-nil second.0)) ∙ whole, Consumes-trans a b c table.0 second.0 table.1 second.2)
+
+        pub message-of_body : (s : Segments) → TakesBody read b c ns s → TakesMessage read limit a c s
+        message-of_body s body = subst (TakesMessage read limit a c) (sym body.3) (message-of_pieces body.0 body.1 body.2)
 
 -- ---- behind a look at the bytes to come
 

@@ -11,7 +11,7 @@ use Rattle.capnp_model.specs.Messages.{Reader}
 use Rattle.capnp_io.specs.Counting.{KindCounts}
 use Rattle.capnp_stream.specs.Pieces.{ReadsFronts}
 use Rattle.capnp_stream.specs.Frames.{IsFrameFault, TakesStart, TakesWholePieces, TakesTable, IsFramingKind, IsReadKind, IsCut}
-use Rattle.capnp_stream.specs.Reading.{TriesMessage, ReadsMessage}
+use Rattle.capnp_stream.specs.Reading.{TriesReading, ReadsMessage}
 use Rattle.capnp_stream.specs.Lent.{IsFillKind}
 use Rattle.capnp_stream.specs.Filling.{TriesFilling, FillsMessage}
 use Rattle.capnp_io.proofs.KnownLemmas.{Consumes-of_kept}
@@ -28,10 +28,10 @@ some-seen : (a : Option (List ℕ)) (look : Bool) → IfSome a (λ xs. IsTrue lo
 some-seen None look at unseen = tt
 some-seen (Some x) look at unseen = λ e. let yes : look ≡ true = at.1 e in absurd cc
 
-module _ (read : Reader) (fronts : ReadsFronts read) (faults : ErrorKind → Type 0) (limit : Option ℕ) where
+module _ {M : Type 0} {bytes : M → List (List ℕ)} {Holds : M → Type 0} (read : Reader) (fronts : ReadsFronts read) (faults : ErrorKind → Type 0) (limit : Option ℕ) where
   -- the source failed at the look
   pub tries-failed : (a b : Option (List ℕ)) (m n : ℕ) (e : Error) → e.kind ≡ Device → Keeps a b → KindCounts e.kind m n
-      → TriesMessage read faults limit (record { remaining = a; failures = m }) (Err e) (record { remaining = b; failures = n })
+      → TriesReading {M = M} bytes Holds read faults limit (record { remaining = a; failures = m }) (Err e) (record { remaining = b; failures = n })
   tries-failed a b m n e failed kept count = record {
     message = tt;
     kept = tt;
@@ -49,7 +49,7 @@ module _ (read : Reader) (fronts : ReadsFronts read) (faults : ErrorKind → Typ
   -- some byte was left, and the message was refused
   pub tries-refused : (a b c : Option (List ℕ)) (m n : ℕ) (e : Error) (look : Bool) → IfSome a (λ xs. IsTrue look ↔ (xs ≡ [])) → look ≡ false → Keeps a b
       → (IsFramingKind e.kind → IfSome b (λ xs. IsFrameFault read limit xs e.kind)) → IsReadKind faults e.kind → TakesStart read limit b c → (e.kind ≡ OutOfMemory → TakesWholePieces read limit b c) → KindCounts e.kind m n
-      → TriesMessage read faults limit (record { remaining = a; failures = m }) (Err e) (record { remaining = c; failures = n })
+      → TriesReading {M = M} bytes Holds read faults limit (record { remaining = a; failures = m }) (Err e) (record { remaining = c; failures = n })
   tries-refused a b c m n e look at unseen kept refused kind part wanted count = record {
     message = tt;
     kept = tt;
@@ -64,6 +64,7 @@ module _ (read : Reader) (fronts : ReadsFronts read) (faults : ErrorKind → Typ
     count = count;
   }
 
+module _ (read : Reader) (fronts : ReadsFronts read) (faults : ErrorKind → Type 0) (limit : Option ℕ) where
   -- no byte was left
   pub reads-none : (a b : Option (List ℕ)) (m n : ℕ) (e : Error) → e.kind ≡ PrematureEndOfFile → IsAtEnd a → Keeps a b → n ≡ m
       → ReadsMessage read faults limit (record { remaining = a; failures = m }) (Err e) (record { remaining = b; failures = n })

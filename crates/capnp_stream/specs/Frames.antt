@@ -1,5 +1,5 @@
 -- Messages on streams, in a form that a reader of words gives. (Encoding, "Serialization Over a Stream")
-use Rattle.std.specs.Prelude.{◌≡◌, ◌⊎◌, ℕ, ◌<◌, List, [], ◌∷◌, ◌++◌, length, take, ⊤, IfSome, IfErr, Err, Ok}
+use Rattle.std.specs.Prelude.{◌≡◌, ◌⊎◌, ℕ, ◌<◌, List, [], ◌∷◌, ◌++◌, length, take, sum, ⊤, IfSome, IfErr, Err, Ok}
 use Rattle.std.specs.declared.result.Result.{Result}
 use Rattle.std.specs.declared.option.Option.{Option}
 use Rattle.capnp_units.specs.declared.errors.Error.{Error}
@@ -8,7 +8,7 @@ use Rattle.capnp_units.specs.Errors.{kind_of}
 use Rattle.capnp_units.specs.declared.kinds.ErrorKind.{ErrorKind}
 use Rattle.capnp_units.specs.declared.kinds.ErrorKind.TheVariants.{OutOfMemory, InvalidNumberOfSegments, FailedToFillTheWholeBuffer, PrematureEndOfPackedInput, PackedInputDidNotEndCleanlyOnASegmentBoundary, MessageTooLarge, Device}
 use Rattle.capnp_model.specs.Segments.{Segments}
-use Rattle.capnp_model.specs.Messages.{Reader, behind_lengths, message_at}
+use Rattle.capnp_model.specs.Messages.{Reader, behind_lengths, message_at, cut}
 use Rattle.capnp_model.specs.Spelling.{Spells}
 use Rattle.capnp_stream.specs.Pieces.{EachIsNeeded, TakesPiece, TakesPieceStart, IsPieceFault}
 
@@ -37,6 +37,11 @@ TakesPart read limit old new = (part : List ℕ) × HasNoMessage read limit part
 abbrev pub TakesTable : Reader → Option ℕ → Option (List ℕ) → Option (List ℕ) → List ℕ → Type 0
 TakesTable read limit old new lengths =
     (table : List ℕ) × Consumes old new table × ((more : List ℕ) → message_at read limit (table ++ more) ≡ behind_lengths read limit lengths more) × EachIsNeeded (message_at read limit) table
+
+-- The words of the segments of these lengths were taken, and are these.
+abbrev pub TakesBody : Reader → Option (List ℕ) → Option (List ℕ) → List ℕ → Segments → Type 0
+TakesBody read old new lengths s =
+    (words : List ℕ) × (length words ≡ sum lengths) × TakesPiece read old new words × (s ≡ cut lengths words)
 
 -- No byte was taken, or the first word of a message, or its table.
 abbrev pub TakesWholePieces : Reader → Option ℕ → Option (List ℕ) → Option (List ℕ) → Type 0

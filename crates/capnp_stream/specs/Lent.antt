@@ -19,12 +19,17 @@ abbrev pub TellsLengths : Reader → Option ℕ → List ℕ → List ℕ → Ty
 TellsLengths read limit bytes ns =
     (front rest : List ℕ) × (bytes ≡ front ++ rest) × ((more : List ℕ) → message_at read limit (front ++ more) ≡ behind_lengths read limit ns more)
 
+-- The bytes begin with the table of a message within the limits of segments and words that has more bytes unpacked, with its table, than so many.
+abbrev pub HasLonger : Reader → Option ℕ → ℕ → List ℕ → Type 0
+HasLonger read limit size bytes =
+    (ns : List ℕ) × TellsLengths read limit bytes ns × (within (sum ns) limit ≡ true) × (size < table_bytes (length ns) + 8 * sum ns)
+
 -- No message has so few bytes unpacked, or the bytes begin with the table of a message within the limits of segments and words, and the table, or the table with the segments, has more bytes unpacked than so many.
 abbrev pub NeedsMore : Reader → Option ℕ → ℕ → List ℕ → Type 0
 NeedsMore read limit size bytes =
     (size < 8)
     ⊎ ((n : ℕ) × TellsCount read limit bytes n × (n < 511) × (size < table_bytes (n + 1)))
-    ⊎ ((ns : List ℕ) × TellsLengths read limit bytes ns × (within (sum ns) limit ≡ true) × (size < table_bytes (length ns) + 8 * sum ns))
+    ⊎ HasLonger read limit size bytes
 
 -- A refusal for want of room says that the message needs more than so many bytes.
 abbrev pub TellsNeed : {A : Type 0} → Reader → Option ℕ → ℕ → Option (List ℕ) → Result A Error → Type 0

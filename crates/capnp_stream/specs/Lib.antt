@@ -10,4 +10,5 @@ pub mod Flat
 pub mod Buffers
 pub mod Lent
 pub mod Filling
+pub mod Kept
 pub mod Lending

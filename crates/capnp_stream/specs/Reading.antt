@@ -11,7 +11,7 @@ use Rattle.capnp_model.specs.Messages.{Reader}
 use Rattle.capnp_model.specs.Spelling.{CanSpell}
 use Rattle.capnp_io.specs.Counting.{Counts}
 use Rattle.capnp_stream.specs.Frames.{IsFrameFault, TakesMessage, TakesStart, TakesWholePieces, IsFramingKind, IsReadKind}
-use Rattle.capnp_stream.specs.Segments.{owned_bytes, segment_bytes, segments_of}
+use Rattle.capnp_stream.specs.Segments.{words_in, owned_bytes, segment_bytes, segments_of}
 use Rattle.capnp_stream.specs.Writing.{AreWritable}
 use Rattle.capnp_stream.specs.declared.segments.OwnedSegments.{OwnedSegments}
 
@@ -28,13 +28,13 @@ source_seen remaining failures s = record { remaining = remaining s; failures = 
 abbrev pub WantsBetweenPieces : {A : Type 0} → Reader → Option ℕ → Option (List ℕ) → Option (List ℕ) → Result A Error → Type 0
 WantsBetweenPieces read limit old new result = IfErr result (λ e. e.kind ≡ OutOfMemory → TakesWholePieces read limit old new)
 
--- A message is read, in a form that reads pieces so and whose pieces are at fault by these kinds; or none is left.
-pub record TriesMessage (read : Reader) (faults : ErrorKind → Type 0) (limit : Option ℕ) (old : SourceSeen) (result : Result (Option OwnedSegments) Error) (new : SourceSeen) : Type 0 where
+-- A message is read, in a form that reads pieces so and whose pieces are at fault by these kinds; or none is left. What was read has these bytes in its segments, and this holds of it.
+pub record TriesReading {M : Type 0} (bytes : M → List (List ℕ)) (Holds : M → Type 0) (read : Reader) (faults : ErrorKind → Type 0) (limit : Option ℕ) (old : SourceSeen) (result : Result (Option M) Error) (new : SourceSeen) : Type 0 where
   -- One message is taken, whatever follows it, and can be written again.
-  pub message : IfOk result (λ o. IfSome o (λ m. TakesMessage read limit old.remaining new.remaining (segments_of m)))
-  pub kept : IfOk result (λ o. IfSome o (λ m. CanSpell limit (segments_of m)))
-  pub joined : IfOk result (λ o. IfSome o (λ m. owned_bytes m ≡ concat (segment_bytes m)))
-  pub writable : IfOk result (λ o. IfSome o (λ m. AreWritable (segment_bytes m)))
+  pub message : IfOk result (λ o. IfSome o (λ m. TakesMessage read limit old.remaining new.remaining (words_in (bytes m))))
+  pub kept : IfOk result (λ o. IfSome o (λ m. CanSpell limit (words_in (bytes m))))
+  pub joined : IfOk result (λ o. IfSome o Holds)
+  pub writable : IfOk result (λ o. IfSome o (λ m. AreWritable (bytes m)))
   pub none : IfOk result (λ o. IfNone o (IsAtEnd old.remaining × Keeps old.remaining new.remaining))
   -- The bytes that are left begin with no message, and the kind says why. Memory is wanted between pieces.
   pub refused : IfErr result (λ e. IsFramingKind e.kind → IfSome old.remaining (λ xs. (xs ≢ []) × IsFrameFault read limit xs e.kind))
@@ -44,11 +44,19 @@ pub record TriesMessage (read : Reader) (faults : ErrorKind → Type 0) (limit :
   pub begun : IfErr result (λ e. e.kind ≡ OutOfMemory → IfSome old.remaining (λ xs. xs ≢ []))
   pub count : Counts result old.failures new.failures
 
+-- The bytes of all segments stand one behind the other.
+abbrev pub AreJoined : OwnedSegments → Type 0
+AreJoined m = owned_bytes m ≡ concat (segment_bytes m)
+
+-- A message is read into memory of its own, or none is left.
+abbrev pub TriesMessage : Reader → (ErrorKind → Type 0) → Option ℕ → SourceSeen → Result (Option OwnedSegments) Error → SourceSeen → Type 0
+TriesMessage read faults limit old result new = TriesReading segment_bytes AreJoined read faults limit old result new
+
 -- The same, where the end is a refusal.
 pub record ReadsMessage (read : Reader) (faults : ErrorKind → Type 0) (limit : Option ℕ) (old : SourceSeen) (result : Result OwnedSegments Error) (new : SourceSeen) : Type 0 where
   pub message : IfOk result (λ m. TakesMessage read limit old.remaining new.remaining (segments_of m))
   pub kept : IfOk result (λ m. CanSpell limit (segments_of m))
-  pub joined : IfOk result (λ m. owned_bytes m ≡ concat (segment_bytes m))
+  pub joined : IfOk result AreJoined
   pub writable : IfOk result (λ m. AreWritable (segment_bytes m))
   pub no_byte : IfErr result (λ e. e.kind ≡ PrematureEndOfFile → IsAtEnd old.remaining × Keeps old.remaining new.remaining)
   pub refused : IfErr result (λ e. IsFramingKind e.kind → IfSome old.remaining (λ xs. (xs ≢ []) × IsFrameFault read limit xs e.kind))

@@ -7,6 +7,7 @@ pub mod buffers;
 pub mod flat;
 pub mod forms;
 pub mod frames;
+pub mod kept;
 pub mod lent;
 pub mod segments;
 pub mod slices;

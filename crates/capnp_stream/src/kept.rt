@@ -1,0 +1,131 @@
+//! Messages that are read one after the other into memory that is kept.
+ghost use Rattle.std.specs.Prelude.{◌≡◌, ℕ, List, true, ◌≤◌, ◌+◌, ◌%◌, ◌^◌, ◌<◌, ◌++◌, length, sum, IfOk, IfErr, OnOk, OnErr};
+ghost use Rattle.std.specs.Int.{from_le_bytes, w64};
+ghost use Rattle.capnp_units.specs.declared.kinds.ErrorKind.{ErrorKind};
+ghost use Rattle.capnp_units.specs.Segments.{words_in};
+ghost use Rattle.capnp_model.specs.Messages.{within};
+ghost use Rattle.capnp_io.specs.Counting.{Counts};
+ghost use Rattle.capnp_stream.specs.Frames.{TellsFault, TakesMessage, TakesStart, TakesTable, IsReadKind};
+ghost use Rattle.capnp_stream.specs.Flat.{table_lengths, frame_segments, Describes};
+ghost use Rattle.capnp_stream.specs.Lent.{IsFillKind};
+ghost use Rattle.capnp_stream.specs.Reading.{WantsBetweenPieces, source_seen};
+ghost use Rattle.capnp_stream.specs.Kept.{buffer_len, TriesMessageInto, WantsForLonger};
+
+use crate::buffers::{NoAllocBufferSegments, NoAllocSliceSegments};
+use crate::flat::{NoAllocSegmentTableInfo, words_before};
+use crate::forms::MessageForm;
+use crate::frames::{are_bytes, is_at_end, is_within};
+use crate::lent::fill_body;
+use crate::tables::{LONGEST_TABLE, fill_count, fill_others};
+use capnp_io::traits::BufRead;
+use capnp_units::errors::{Error, Result};
+use capnp_units::kinds::ErrorKind;
+use std::alloc::Global;
+
+/// Memory into which messages are read, one after the other. It grows where a message is longer than those before.
+#[derive(Drop)]
+pub struct MessageBuffer {
+    bytes: Vec<u8>,
+}
+
+/// Reads a table into the front of a buffer that has room for the longest, and answers how many segments it has, from 1 to 511.
+fn fill_any_table<F: MessageForm, R: BufRead>(
+    source: &mut R,
+    buffer: &mut [u8],
+    limit: Option<usize>,
+) -> Result<usize>
+    requires { LONGEST_TABLE ≤ length buffer.old }
+    ensures few { IfOk result (λ n. (0 < n) × (n ≤ 511)) }
+    ensures count { IfOk result (λ n. n ≡ from_le_bytes w64 buffer.new % 2 ^ 32 + 1) }
+    ensures table { IfOk result (λ n. TakesTable F.reader limit (R.remaining source.old)
+        (R.remaining source.new) (table_lengths n buffer.new)) }
+    ensures refused { TellsFault F.reader limit (R.remaining source.old) result }
+    ensures read_kind { IfErr result (λ e. IsReadKind F.faults e.kind) }
+    ensures fill_kind { IfErr result (λ e. IsFillKind F.faults e.kind) }
+    ensures part { OnErr result
+        (TakesStart F.reader limit (R.remaining source.old) (R.remaining source.new)) }
+    ensures failures { Counts result (R.failures source.old) (R.failures source.new) }
+{
+    let count = fill_count::<F, R>(source, buffer)?;
+    fill_others::<F, R>(source, buffer, count)?;
+    Ok(count)
+}
+
+impl MessageBuffer {
+    /// A buffer that has taken no memory yet.
+    pub fn new(alloc: Global) -> MessageBuffer
+        ensures { buffer_len result ≡ 0 }
+    {
+        MessageBuffer {
+            bytes: Vec::new(alloc),
+        }
+    }
+
+    /// Grows to so many bytes where it has fewer. `OutOfMemory`: it has fewer, and the memory was refused. The bytes that were there stay in front.
+    fn grow_to(&mut self, len: usize) -> Result<()>
+        ensures front { (more : List ℕ) × (self.new.bytes.items ≡ self.old.bytes.items ++ more) }
+        ensures room { OnOk result (len ≤ buffer_len self.new) }
+        ensures refusal { IfErr result
+            (λ e. (e.kind ≡ ErrorKind.OutOfMemory) × (buffer_len self.old < len)) }
+    {
+        if self.bytes.len() < len {
+            self.bytes.resize(len, 0)?;
+        }
+        Ok(())
+    }
+
+    /// Reads the next message, its table and then its segments, into the front.
+    fn fill<F: MessageForm, R: BufRead>(
+        &mut self,
+        source: &mut R,
+        limit: Option<usize>,
+    ) -> Result<NoAllocSegmentTableInfo>
+        ensures described { IfOk result (λ i. Describes i self.new.bytes.items) }
+        ensures message { IfOk result (λ i. TakesMessage F.reader limit (R.remaining source.old)
+            (R.remaining source.new)
+            (words_in (frame_segments i.segments_count self.new.bytes.items))) }
+        ensures kept { IfOk result (λ i.
+            within (sum (table_lengths i.segments_count self.new.bytes.items)) limit ≡ true) }
+        ensures refused { TellsFault F.reader limit (R.remaining source.old) result }
+        ensures kind { IfErr result (λ e. IsReadKind F.faults e.kind) }
+        ensures part { OnErr result
+            (TakesStart F.reader limit (R.remaining source.old) (R.remaining source.new)) }
+        ensures wanted { WantsBetweenPieces F.reader limit (R.remaining source.old)
+            (R.remaining source.new) result }
+        ensures longer { WantsForLonger F.reader limit (buffer_len self.old)
+            (R.remaining source.old) result }
+        ensures failures { Counts result (R.failures source.old) (R.failures source.new) }
+    {
+        self.grow_to(LONGEST_TABLE)?;
+        let count = fill_any_table::<F, R>(source, &mut self.bytes, limit)?;
+        let total = words_before(&self.bytes, count);
+        if !is_within(total, limit) {
+            return Err(Error::from(ErrorKind::MessageTooLarge));
+        }
+        self.grow_to(8 * (count / 2 + 1) + 8 * total)?;
+        fill_body::<F, R>(source, &mut self.bytes, count, total)
+    }
+}
+
+/// The segments of the next message in a form, or `None` where no byte is left. They lie in the buffer until the next message is read into it.
+///
+/// A message of more words than the limit is refused. `OutOfMemory`: some byte is left, the buffer is shorter than the longest table or than the message, and the memory for it was refused. After a refusal less than a message was taken, and no byte behind the first that is at fault.
+pub fn try_read_message_into<'a, F: MessageForm, R: BufRead>(
+    source: &mut R,
+    buffer: &'a mut MessageBuffer,
+    limit: Option<usize>,
+) -> Result<Option<NoAllocSliceSegments<'a>>>
+    ensures message { TriesMessageInto F.reader F.faults limit
+        (source_seen R.remaining R.failures source.old) result
+        (source_seen R.remaining R.failures source.new) }
+    ensures longer { WantsForLonger F.reader limit (buffer_len buffer.old)
+        (R.remaining source.old) result }
+{
+    if is_at_end(source)? {
+        return Ok(None);
+    }
+    let info = buffer.fill::<F, R>(source, limit)?;
+    let bytes = buffer.bytes.as_slice();
+    are_bytes(bytes);
+    Ok(Some(NoAllocBufferSegments::from_segment_table_info(bytes, info)))
+}
