@@ -15,12 +15,21 @@ use Rattle.capnp_calls.specs.LongLists.{LongInTurn}
 use Rattle.capnp_calls.specs.Texts.{as_it_is}
 use Rattle.capnp_canonical.specs.Writes.{filled}
 use Rattle.capnp_footprints.specs.Footprints.{Owns}
+use Rattle.capnp_run.specs.declared.fault.RunFault.{RunFault}
+use Rattle.capnp_run.specs.declared.fault.RunFault.TheVariants as faults
 use Rattle.capnp_answers.specs.Bounds.{limits_view}
 use Rattle.capnp_answers.specs.declared.bounds.Bounds.{Bounds}
 use Rattle.capnp_answers.specs.declared.answer.Reason.{Reason}
 use Rattle.capnp_answers.specs.declared.answer.Reason.TheVariants as reasons
+use Rattle.capnp_answers.specs.declared.answer.Want.{Want}
+use Rattle.capnp_answers.specs.declared.answer.Want.TheVariants as wants
 use Rattle.capnp_answers.specs.declared.answer.MessageAnswer.{MessageAnswer}
 use Rattle.capnp_answers.specs.declared.answer.MessageAnswer.TheVariants as answers
+
+-- What is wanted where calls in turn end early.
+abbrev pub want_of : RunFault → Want
+want_of faults.Size = wants.Size
+want_of (faults.Refused e) = wants.Memory
 
 -- The refusal for a reason.
 abbrev pub refusal_view : Reason → Answer
@@ -80,3 +89,8 @@ LongFrom schema calls (Some _) = ⊥
 -- A call makes a message too large to be answered.
 abbrev pub IsTooLarge : StructSchema → List Call → Bounds → Segments → Type 0
 IsTooLarge schema calls bounds s = LongFrom schema calls (value_within (limits_view bounds) s)
+
+-- A call puts such a list, where the calls start from the value with these canonical words.
+abbrev pub LongFromWords : StructSchema → List Call → ℕ → List ℕ → Type 0
+LongFromWords schema calls nesting words =
+    (t : Tree) → Fits t → depth t ≤ nesting → words ≡ canonical_words t → LongInTurn schema calls (widened_root (shape_of_struct schema) t)

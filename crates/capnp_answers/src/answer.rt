@@ -1,21 +1,24 @@
 //! The answer of calls to a message, in a lent region.
-ghost use Rattle.std.specs.Prelude.{◌≡◌, ◌≤◌, map, length, IfOk};
+ghost use Rattle.std.specs.Prelude.{◌≡◌, ◌≢◌, ◌≤◌, map, length, Err, IfOk};
 ghost use Rattle.capnp_units.specs.Segments.{words_in};
 ghost use Rattle.capnp_calls.specs.CallViews.{call_view};
 ghost use Rattle.capnp_calls.specs.Taken.{IsRoot};
 ghost use Rattle.capnp_copy.specs.Memory.{AllZero};
-ghost use Rattle.capnp_answers.specs.Answers.{IsAnswered};
+ghost use Rattle.capnp_run.specs.declared.fault.RunFault.TheVariants as faults;
+ghost use Rattle.capnp_answers.specs.declared.answer.Want.{Want};
+ghost use Rattle.capnp_answers.specs.Answers.{IsAnswered, IsTooLarge, want_of};
 
 use crate::bounds::Bounds;
 use crate::built::answer_built;
-use crate::reading::{can_be_opened, make_room, read_canonical};
+use crate::reading::{can_be_opened, read_value};
 use capnp_allocators::scratch::ScratchSpaceHeapAllocator;
 use capnp_calls::Call;
 use capnp_calls::reply::Reply;
 use capnp_copy::allocator::Allocator;
 use capnp_message::builder::Builder;
 use capnp_queries::structs::StructSchema;
-use capnp_units::errors::Result;
+use capnp_run::fault::RunFault;
+use capnp_units::errors::Error;
 use capnp_units::sizes::Word;
 use capnp_wire::arena::ReaderArena;
 use std::alloc::Global;
@@ -47,6 +50,25 @@ pub enum Want {
     Size,
 }
 
+impl From<Error> for Want {
+    ghost from_gives = { λ _ want. want ≡ Want.Memory };
+
+    fn from(_error: Error) -> Want {
+        Want::Memory
+    }
+}
+
+impl From<RunFault> for Want {
+    ghost from_gives = { λ fault want. want ≡ want_of fault };
+
+    fn from(fault: RunFault) -> Want {
+        match fault {
+            RunFault::Size => Want::Size,
+            RunFault::Refused(_) => Want::Memory,
+        }
+    }
+}
+
 /// The answer to a message, whose value is edited in memory of this allocator. All of it is given back.
 fn answer_over<L: Allocator, M: ReaderArena>(
     alloc: Global,
@@ -56,16 +78,17 @@ fn answer_over<L: Allocator, M: ReaderArena>(
     schema: StructSchema<'_>,
     calls: &[Call],
     words: &mut Vec<Word>,
-) -> Result<MessageAnswer>
+) -> Result<MessageAnswer, Want>
     requires root { IsRoot schema }
     requires one { length (L.loans allocator.old) ≤ 1 }
     ensures answer { IfOk result (λ a. IsAnswered schema.entry (map call_view calls.now) bounds
         (words_in (M.segments message.now)) words.new.items a) }
+    ensures size { result ≡ Err Want.Size → IsTooLarge schema.entry (map call_view calls.now)
+        bounds (words_in (M.segments message.now)) }
     ensures loans { L.loans allocator.new ≡ L.loans allocator.old }
     ensures place { L.place allocator.new ≡ L.place allocator.old }
 {
-    make_room(words, message.size_in_words())?;
-    let Some(count) = read_canonical(message, bounds, words)? else {
+    let Some(count) = read_value(message, bounds, words)? else {
         return Ok(MessageAnswer::Refused(Reason::Value));
     };
     if !can_be_opened(words, count) {
@@ -87,9 +110,9 @@ fn answer_over<L: Allocator, M: ReaderArena>(
 
 /// Answers calls in turn at the root of a message, as the model does, lists and all: the message's value, trimmed, is copied into the region and edited there, and what it becomes is written into the buffer, as its canonical words. A message without a value within the bounds, or with a capability, is skipped as `Value`, one whose root is a list as `Root`, one that the calls nest too deep as `Depth`.
 ///
-/// The region is all zeros before, and after, whatever is answered; it need not have room for the message, whose words then come from `alloc`, as those do that the calls add past its end. The buffer grows where it is too short; what is in it before doesn't matter.
+/// The region is all zeros before, and after, whatever is answered; it need not have room for the message, whose words then come from `alloc`, as those do that the calls add past its end. The buffer grows where it is too short: to the message's own words, to those of the edited message, and where pointers share words, so that the canonical words are more than the message's own, to a word more than the bounds allow. What is in it before doesn't matter.
 ///
-/// It is refused with `OutOfMemory` for want of memory; with `BufferNotLargeEnough` where the message's canonical words are more than its own, since pointers share words; with `SizeOverflow` where the message would have 2^29 words or more; and as `run_root` is, at calls that aren't written in place.
+/// `Size`: a call that is done puts a text or data of 2^29 bytes or more with its last zero, or a list of structs of 2^29 words or more. `Memory`: a growth was refused, by the system or since the words of the edited message would pass 2^29 - 1. After both nothing is promised of the buffer but its words.
 pub fn answer_in_place<M: ReaderArena>(
     alloc: Global,
     message: &M,
@@ -98,11 +121,13 @@ pub fn answer_in_place<M: ReaderArena>(
     calls: &[Call],
     region: &mut [u8],
     words: &mut Vec<Word>,
-) -> Result<MessageAnswer>
+) -> Result<MessageAnswer, Want>
     requires root { IsRoot schema }
     requires zeros { AllZero region.old }
     ensures answer { IfOk result (λ a. IsAnswered schema.entry (map call_view calls.now) bounds
         (words_in (M.segments message.now)) words.new.items a) }
+    ensures size { result ≡ Err Want.Size → IsTooLarge schema.entry (map call_view calls.now)
+        bounds (words_in (M.segments message.now)) }
     ensures zeros { region.new ≡ region.old }
 {
     let mut allocator = ScratchSpaceHeapAllocator::resume(alloc, region);

@@ -1,5 +1,5 @@
 //! The answer of calls to a value that is built.
-ghost use Rattle.std.specs.Prelude.{◌≡◌, ◌≤◌, ◌<◌, ◌^◌, ℕ, true, map, length, IfOk, ◌++◌, []};
+ghost use Rattle.std.specs.Prelude.{◌≡◌, ◌≤◌, ◌<◌, ◌^◌, ℕ, true, map, length, Err, IfOk, ◌++◌, []};
 ghost use Rattle.std.specs.Option.{is_some};
 ghost use Rattle.std.specs.List.{flat_map};
 ghost use Rattle.capnp_model.specs.Segments.{root, words_at};
@@ -10,10 +10,12 @@ ghost use Rattle.capnp_calls.specs.CallViews.{call_view};
 ghost use Rattle.capnp_calls.specs.Taken.{IsRoot};
 ghost use Rattle.capnp_copy.specs.Deep.{IsDeep};
 ghost use Rattle.capnp_message.specs.Built.{loans_held};
-ghost use Rattle.capnp_answers.specs.Answers.{AnswersRoot, AnswersWords};
+ghost use Rattle.capnp_run.specs.Runs.{EndsLongRoot};
+ghost use Rattle.capnp_answers.specs.declared.answer.Want.{Want};
+ghost use Rattle.capnp_answers.specs.Answers.{AnswersRoot, AnswersWords, LongFromWords};
 ghost use Rattle.capnp_canonical.specs.Writes.{filled};
 
-use crate::answer::{MessageAnswer, Reason};
+use crate::answer::{MessageAnswer, Reason, Want};
 use crate::reading::{ROOT, make_room};
 use capnp_calls::Call;
 use capnp_canonical::copy::write_canonical;
@@ -30,7 +32,6 @@ use capnp_model::laws::{
 use capnp_object::size::size_at;
 use capnp_queries::structs::StructSchema;
 use capnp_run::root::run_root;
-use capnp_units::errors::Result;
 use capnp_units::limiter::ReadLimiter;
 use capnp_units::sizes::Word;
 use capnp_wire::arena::ReaderArena;
@@ -55,12 +56,14 @@ fn answer_root<A: BuilderArena>(
     schema: StructSchema<'_>,
     calls: &[Call],
     words: &mut Vec<Word>,
-) -> Result<MessageAnswer>
+) -> Result<MessageAnswer, Want>
     requires arena { IsDeep A.segments A.nesting }
     requires there { is_some (words_at (words_in (A.segments arena.old)) root 1) ≡ true }
     requires root { IsRoot schema }
     ensures all { IfOk result (AnswersRoot schema.entry (map call_view calls.now) levels
         (words_in (A.segments arena.old)) words.new.items) }
+    ensures size { result ≡ Err Want.Size → EndsLongRoot (words_in (A.segments arena.old))
+        schema.entry (map call_view calls.now) }
     ensures books { A.books arena.new ≡ A.books arena.old }
 {
     changes_of_values();
@@ -77,7 +80,7 @@ fn answer_root<A: BuilderArena>(
             if is_deeper(arena, levels) {
                 return Ok(MessageAnswer::Refused(Reason::Depth));
             }
-            Err(e)
+            Err(Want::from(e))
         }
     }
 }
@@ -91,12 +94,14 @@ pub(crate) fn answer_built<A: Allocator>(
     schema: StructSchema<'_>,
     calls: &[Call],
     words: &mut Vec<Word>,
-) -> Result<MessageAnswer>
+) -> Result<MessageAnswer, Want>
     requires empty { builder.old.memory.arena.segments.items ≡ [] }
     requires count { (0 < count) × (count < 2 ^ 29) × (count ≤ length words.old.items) }
     requires root { IsRoot schema }
     ensures all { IfOk result (AnswersWords schema.entry (map call_view calls.now) levels
         (filled count words.old.items) words.new.items) }
+    ensures size { result ≡ Err Want.Size → LongFromWords schema.entry (map call_view calls.now)
+        levels (filled count words.old.items) }
     ensures place { A.place builder.new.memory.arena.allocator
         ≡ A.place builder.old.memory.arena.allocator }
     ensures loans { loans_held builder.new.memory.arena

@@ -36,7 +36,7 @@ pub(crate) fn make_room(words: &mut Vec<Word>, count: usize) -> Result<()>
 /// Writes the canonical words of a message's value into a buffer, and answers how many they are; none where it has no value within the bounds, or one with a capability.
 ///
 /// It is refused with `BufferNotLargeEnough` where the buffer has no room for them.
-pub(crate) fn read_canonical<M: ReaderArena>(
+fn read_canonical<M: ReaderArena>(
     message: &M,
     bounds: Bounds,
     words: &mut Vec<Word>,
@@ -56,6 +56,24 @@ pub(crate) fn read_canonical<M: ReaderArena>(
             _ => Ok(None),
         },
     }
+}
+
+/// Writes the canonical words of a message's value into a buffer, which grows where they don't fit, and answers how many they are; none where the message has no value within the bounds, or one with a capability.
+///
+/// The buffer has room for as many words as the message first. Where its pointers share words, its canonical words may be more; then the buffer becomes a word longer than the bounds allow, and the walk begins again. It is refused with `OutOfMemory` where the buffer can't grow, and with `BufferNotLargeEnough` where the canonical words are 2^29 or more.
+pub(crate) fn read_value<M: ReaderArena>(
+    message: &M,
+    bounds: Bounds,
+    words: &mut Vec<Word>,
+) -> Result<Option<usize>>
+    ensures { IfOk result (Reads bounds (words_in (M.segments message.now)) words.new.items) }
+{
+    make_room(words, message.size_in_words())?;
+    if let Ok(read) = read_canonical(message, bounds, words) {
+        return Ok(read);
+    }
+    make_room(words, bounds.words as usize + 1)?;
+    read_canonical(message, bounds, words)
 }
 
 /// Whether the value whose words stand at the front of a buffer, so many, is a struct or null.

@@ -2,7 +2,7 @@
 ghost use Rattle.std.specs.Prelude.{◌≡◌};
 ghost use Rattle.capnp_copy.specs.Memory.{AllZero};
 
-use capnp_answers::answer::{MessageAnswer, Reason, answer_in_place};
+use capnp_answers::answer::{MessageAnswer, Reason, Want, answer_in_place};
 use capnp_answers::bounds::Bounds;
 use capnp_calls::reply::Reply;
 use capnp_calls::{Call, CallValue, Step, Verb};
@@ -21,6 +21,11 @@ use std::test::Fail;
 /// A message of a struct of one word, 7.
 const SEVEN: [u8; 16] = [0, 0, 0, 0, 1, 0, 0, 0, 7, 0, 0, 0, 0, 0, 0, 0];
 
+/// A message of a struct of two pointers, both to one struct of one word, 7.
+const SHARED: [u8; 32] = [
+    0, 0, 0, 0, 0, 0, 2, 0, 4, 0, 0, 0, 1, 0, 0, 0, 0, 0, 0, 0, 1, 0, 0, 0, 7, 0, 0, 0, 0, 0, 0, 0,
+];
+
 /// A message of a list of one byte, 5.
 const LIST: [u8; 16] = [1, 0, 0, 0, 10, 0, 0, 0, 5, 0, 0, 0, 0, 0, 0, 0];
 
@@ -31,6 +36,7 @@ const CAPABILITY: [u8; 8] = [3, 0, 0, 0, 0, 0, 0, 0];
 fn field(
     alloc: Global,
     name: &str,
+    offset: u32,
     base: BaseType,
     default: Option<DefaultValue>,
 ) -> Result<FieldRecord, AllocError> {
@@ -39,7 +45,7 @@ fn field(
         discriminant_value: NO_DISCRIMINANT,
         annotations: Vec::new(alloc),
         body: FieldBody::Slot {
-            offset: 0,
+            offset,
             ty: TypeRecord {
                 list_count: 0,
                 base,
@@ -49,34 +55,88 @@ fn field(
     })
 }
 
-/// A struct of a number `a` and a text `t`.
-fn pair(alloc: Global) -> Result<Vec<NodeRecord>, AllocError> {
-    let mut fields = Vec::new(alloc);
-    let zero = Some(DefaultValue::UInt16(0));
-    fields.push(field(alloc, "a", BaseType::UInt16, zero)?)?;
-    fields.push(field(alloc, "t", BaseType::Text, None)?)?;
-    let mut nodes = Vec::new(alloc);
-    nodes.push(NodeRecord {
-        id: 1,
+/// A struct of an id, with these sizes and fields.
+fn node(
+    alloc: Global,
+    id: u64,
+    data_word_count: u16,
+    pointer_count: u16,
+    fields: Vec<FieldRecord>,
+) -> Result<NodeRecord, AllocError> {
+    Ok(NodeRecord {
+        id,
         display_name: String::from_str(alloc, "Node")?,
         annotations: Vec::new(alloc),
         body: NodeBody::Struct(StructRecord {
-            data_word_count: 1,
-            pointer_count: 1,
+            data_word_count,
+            pointer_count,
             is_group: false,
             discriminant_count: 0,
             discriminant_offset: 0,
             fields,
         }),
-    })?;
+    })
+}
+
+/// A struct of a number `a` and a text `t`, and one of two such structs, `left` and `right`.
+fn nodes(alloc: Global) -> Result<Vec<NodeRecord>, AllocError> {
+    let mut leaf = Vec::new(alloc);
+    let zero = Some(DefaultValue::UInt16(0));
+    leaf.push(field(alloc, "a", 0, BaseType::UInt16, zero)?)?;
+    leaf.push(field(alloc, "t", 0, BaseType::Text, None)?)?;
+    let mut pair = Vec::new(alloc);
+    pair.push(field(alloc, "left", 0, BaseType::Struct(1), None)?)?;
+    pair.push(field(alloc, "right", 1, BaseType::Struct(1), None)?)?;
+    let mut nodes = Vec::new(alloc);
+    nodes.push(node(alloc, 1, 1, 1, leaf)?)?;
+    nodes.push(node(alloc, 2, 0, 2, pair)?)?;
     Ok(nodes)
+}
+
+/// A call along the fields of some names.
+fn along(
+    alloc: Global,
+    names: &[&str],
+    verb: Verb,
+    value: Option<CallValue>,
+) -> Result<Call, Fail> {
+    let mut path = Vec::new(alloc);
+    for name in names {
+        path.push(Step::Name(String::from_str(alloc, name)?))?;
+    }
+    Ok(Call::new(alloc, path, verb, value)?)
 }
 
 /// A call at the field of a name.
 fn at(alloc: Global, name: &str, verb: Verb, value: Option<CallValue>) -> Result<Call, Fail> {
-    let mut path = Vec::new(alloc);
-    path.push(Step::Name(String::from_str(alloc, name)?))?;
-    Ok(Call::new(alloc, path, verb, value)?)
+    along(alloc, &[name], verb, value)
+}
+
+/// What is answered of calls at the struct of an id to a message of one segment.
+fn outcome(
+    alloc: Global,
+    bytes: &[u8],
+    root: u64,
+    calls: &[Call],
+    region: &mut [u8],
+    words: &mut Vec<Word>,
+) -> Result<Result<MessageAnswer, Want>, Fail>
+    requires zeros { AllZero region.old }
+    ensures zeros { region.new ≡ region.old }
+{
+    let set = SchemaSet::new(nodes(alloc)?)?;
+    let Some(raw) = set.struct_by_id(root) else {
+        return Err(Fail::from("the struct is missing"));
+    };
+    capnp_queries::laws::struct_is_node();
+    let schema = StructSchema::new(&set, raw);
+    let segments = [bytes];
+    let message = Reader::new(SegmentArray::new(&segments), DEFAULT_READER_OPTIONS);
+    let bounds = Bounds {
+        words: 64,
+        nesting: 8,
+    };
+    Ok(answer_in_place(alloc, &message, bounds, schema, calls, region, words))
 }
 
 /// The answer of calls to a message of one segment.
@@ -90,19 +150,10 @@ fn answered(
     requires zeros { AllZero region.old }
     ensures zeros { region.new ≡ region.old }
 {
-    let set = SchemaSet::new(pair(alloc)?)?;
-    let Some(raw) = set.struct_by_id(1) else {
-        return Err(Fail::from("the struct is missing"));
-    };
-    capnp_queries::laws::struct_is_node();
-    let schema = StructSchema::new(&set, raw);
-    let segments = [bytes];
-    let message = Reader::new(SegmentArray::new(&segments), DEFAULT_READER_OPTIONS);
-    let bounds = Bounds {
-        words: 64,
-        nesting: 8,
-    };
-    Ok(answer_in_place(alloc, &message, bounds, schema, calls, region, words)?)
+    match outcome(alloc, bytes, 1, calls, region, words)? {
+        Ok(answer) => Ok(answer),
+        Err(_) => Err(Fail::from("no answer is made")),
+    }
 }
 
 #[test]
@@ -121,12 +172,12 @@ fn a_number_is_set_and_read(rt: HostRuntime) -> Result<(), Fail> {
     let [Reply::Text(old), Reply::Done, Reply::Text(new)] = replies.as_slice() else {
         return Err(Fail::from("a call is answered otherwise"));
     };
-    assert_eq!(rt; old.as_slice(), b"7".as_slice());
-    assert_eq!(rt; new.as_slice(), b"9".as_slice());
+    assert!(rt; old.as_slice() == b"7".as_slice());
+    assert!(rt; new.as_slice() == b"9".as_slice());
     let root: Word = [0, 0, 0, 0, 1, 0, 0, 0];
     let nine: Word = [9, 0, 0, 0, 0, 0, 0, 0];
-    assert_eq!(rt; words.get(..count), Some([root, nine].as_slice()));
-    assert_eq!(rt; region.as_slice(), [0u8; 64].as_slice());
+    assert!(rt; words.get(..count) == Some([root, nine].as_slice()));
+    assert!(rt; region == [0u8; 64]);
     Ok(())
 }
 
@@ -149,11 +200,8 @@ fn a_text_goes_past_a_short_region(rt: HostRuntime) -> Result<(), Fail> {
     let seven: Word = [7, 0, 0, 0, 0, 0, 0, 0];
     let list: Word = [1, 0, 0, 0, 26, 0, 0, 0];
     let hi: Word = *b"hi\0\0\0\0\0\0";
-    assert_eq!(rt;
-        words.get(..count),
-        Some([root, seven, list, hi].as_slice())
-    );
-    assert_eq!(rt; region.as_slice(), [0u8; 16].as_slice());
+    assert!(rt; words.get(..count) == Some([root, seven, list, hi].as_slice()));
+    assert!(rt; region == [0u8; 16]);
     Ok(())
 }
 
@@ -165,11 +213,50 @@ fn lists_and_capabilities_are_skipped(rt: HostRuntime) -> Result<(), Fail> {
     let MessageAnswer::Refused(list) = answered(alloc, &LIST, &[], &mut region, &mut words)? else {
         return Err(Fail::from("a list is answered"));
     };
-    assert_eq!(rt; list, Reason::Root);
+    assert!(rt; list == Reason::Root);
     let skipped = answered(alloc, &CAPABILITY, &[], &mut region, &mut words)?;
     let MessageAnswer::Refused(value) = skipped else {
         return Err(Fail::from("a capability is answered"));
     };
-    assert_eq!(rt; value, Reason::Value);
+    assert!(rt; value == Reason::Value);
+    Ok(())
+}
+
+#[test]
+fn a_shared_struct_is_written_twice(rt: HostRuntime) -> Result<(), Fail> {
+    let alloc = rt.alloc();
+    let mut calls = Vec::new(alloc);
+    let nine = Some(CallValue::Number(9));
+    calls.push(along(alloc, &["left", "a"], Verb::Set, nine)?)?;
+    let mut region = [0u8; 64];
+    let mut words = Vec::new(alloc);
+    let answer = outcome(alloc, &SHARED, 2, &calls, &mut region, &mut words)?;
+    let Ok(MessageAnswer::Written { count, .. }) = answer else {
+        return Err(Fail::from("the message is skipped"));
+    };
+    let root: Word = [0, 0, 0, 0, 0, 0, 2, 0];
+    let pointer: Word = [4, 0, 0, 0, 1, 0, 0, 0];
+    let left: Word = [9, 0, 0, 0, 0, 0, 0, 0];
+    let right: Word = [7, 0, 0, 0, 0, 0, 0, 0];
+    let both = [root, pointer, pointer, left, right];
+    assert!(rt; words.get(..count) == Some(both.as_slice()));
+    assert!(rt; region == [0u8; 64]);
+    Ok(())
+}
+
+#[test]
+fn a_text_is_too_long_with_its_zero(rt: HostRuntime) -> Result<(), Fail> {
+    let alloc = rt.alloc();
+    let mut calls = Vec::new(alloc);
+    calls.push(at(alloc, "a", Verb::Clear, None)?)?;
+    calls.push(at(alloc, "t", Verb::Initn(0x1fff_ffff), None)?)?;
+    let mut region = [0u8; 64];
+    let mut words = Vec::new(alloc);
+    let answer = outcome(alloc, &SEVEN, 1, &calls, &mut region, &mut words)?;
+    let Err(want) = answer else {
+        return Err(Fail::from("the message is answered"));
+    };
+    assert!(rt; want == Want::Size);
+    assert!(rt; region == [0u8; 64]);
     Ok(())
 }

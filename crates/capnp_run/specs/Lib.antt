@@ -1,2 +1,3 @@
 pub mod Runs
 pub mod Written
+pub mod Ends

@@ -15,6 +15,7 @@ use Rattle.capnp_copy.specs.Structs.{struct_at}
 use Rattle.capnp_copy.specs.declared.fields.StructPlace.{StructPlace}
 use Rattle.capnp_queries.specs.Structs.{schema_around, shape_of_struct, id_of}
 use Rattle.capnp_queries.specs.declared.structs.StructSchema.{StructSchema}
+use Rattle.capnp_calls.specs.LongLists.{PutsLong, LongInTurn}
 use Rattle.capnp_calls.specs.Texts.{as_it_is}
 
 -- The record of a value under a root's schema.
@@ -57,3 +58,20 @@ abbrev pub RunsRoot : Segments → Segments → StructSchema → List Call → L
 RunsRoot s u schema calls told =
     (n : ℕ) (t : Tree) → 2 ^ 29 ≤ n → Owns (suc n) s root t
     → (new : Tree) × Replaces (suc n) s u root new × RunsAll schema calls (widened_root (shape_of_struct schema) t) new told
+
+-- The call puts a list that is too long, whatever struct is owned at the place.
+abbrev pub PutsLongAt : Segments → StructPlace → StructSchema → Call → Type 0
+PutsLongAt s p schema c =
+    (n section : ℕ) (kids : Trees) → 2 ^ 29 ≤ n → OwnsObject n s (struct_at p) (structure p.data_words section kids)
+    → PutsLong schema c (structure p.data_words section kids)
+
+-- One of the calls does, at what the calls before it make of the struct.
+abbrev pub EndsLongAt : Segments → StructPlace → StructSchema → List Call → Type 0
+EndsLongAt s p schema calls =
+    (n section : ℕ) (kids : Trees) → 2 ^ 29 ≤ n → OwnsObject n s (struct_at p) (structure p.data_words section kids)
+    → LongInTurn schema calls (structure p.data_words section kids)
+
+-- The same at whatever value is owned at a message's root, opened as a struct of at least the schema's sizes.
+abbrev pub EndsLongRoot : Segments → StructSchema → List Call → Type 0
+EndsLongRoot s schema calls =
+    (n : ℕ) (t : Tree) → 2 ^ 29 ≤ n → Owns (suc n) s root t → LongInTurn schema calls (widened_root (shape_of_struct schema) t)

@@ -1,5 +1,5 @@
 //! Calls in turn at the root of a message.
-ghost use Rattle.std.specs.Prelude.{◌≡◌, map, true, IfOk};
+ghost use Rattle.std.specs.Prelude.{◌≡◌, map, true, Err, IfOk};
 ghost use Rattle.std.specs.Option.{is_some};
 ghost use Rattle.capnp_model.specs.Segments.{root, words_at};
 ghost use Rattle.capnp_units.specs.Segments.{words_in};
@@ -9,8 +9,10 @@ ghost use Rattle.capnp_dynamic.specs.Inside.{words_of_shape, pointers_of_shape};
 ghost use Rattle.capnp_calls.specs.CallViews.{call_view};
 ghost use Rattle.capnp_calls.specs.Replies.{reply_view};
 ghost use Rattle.capnp_calls.specs.Taken.{IsRoot};
-ghost use Rattle.capnp_run.specs.Runs.{RunsRoot};
+ghost use Rattle.capnp_run.specs.declared.fault.RunFault.{RunFault};
+ghost use Rattle.capnp_run.specs.Runs.{RunsRoot, EndsLongRoot};
 
+use crate::fault::RunFault;
 use crate::run::run_at;
 use capnp_calls::Call;
 use capnp_calls::reply::Reply;
@@ -18,7 +20,6 @@ use capnp_copy::arena::BuilderArena;
 use capnp_footprints::laws::{changes_of_values, objects_of_pointers};
 use capnp_footprints::laws_of_depths::{changes_with_fewer_levels, depths_of_owned_values};
 use capnp_queries::structs::StructSchema;
-use capnp_units::errors::Result;
 use capnp_units::sizes::StructSize;
 use capnp_widening::structs::get_struct;
 use capnp_wire::place::Place;
@@ -44,19 +45,21 @@ fn struct_size(schema: StructSchema<'_>) -> StructSize
 
 /// Answers calls in turn at the root of a message, as `run_at` does: the root is got as a struct of at least its schema's two sizes, a null one as the empty struct.
 ///
-/// It is refused as that struct is, with `WrongPointerKind` where the root is a list or a capability, and then as `run_at`.
+/// `Refused`: as that struct is, with `WrongPointerKind` where the root is a list or a capability, and then as `run_at`. `Size`: as `run_at`.
 pub fn run_root<A: BuilderArena>(
     alloc: Global,
     arena: &mut A,
     schema: StructSchema<'_>,
     calls: &[Call],
-) -> Result<Vec<Reply>>
+) -> Result<Vec<Reply>, RunFault>
     requires arena { IsDeep A.segments A.nesting }
     requires there { is_some (words_at (words_in (A.segments arena.old)) root 1) ≡ true }
     requires root { IsRoot schema }
     ensures all { IfOk result (λ told. RunsRoot (words_in (A.segments arena.old))
         (words_in (A.segments arena.new)) schema.entry (map call_view calls.now)
         (map reply_view told.items)) }
+    ensures size { result ≡ Err RunFault.Size → EndsLongRoot (words_in (A.segments arena.old))
+        schema.entry (map call_view calls.now) }
     ensures books { A.books arena.new ≡ A.books arena.old }
 {
     changes_of_values();

@@ -1,5 +1,5 @@
 //! Calls in turn, each tested where the struct is read, and then written.
-ghost use Rattle.std.specs.Prelude.{◌≡◌, ◌+◌, ◌^◌, ◌<◌, map, IfOk};
+ghost use Rattle.std.specs.Prelude.{◌≡◌, ◌+◌, ◌^◌, ◌<◌, ◌≤◌, map, Err, IfOk};
 ghost use Rattle.capnp_model.specs.Answers.{reply_of};
 ghost use Rattle.capnp_model.specs.Trees.{Trees, structure};
 ghost use Rattle.capnp_model.specs.Steps.{step};
@@ -14,10 +14,15 @@ ghost use Rattle.capnp_queries.specs.Structs.{schema_around, shape_of_struct, id
 ghost use Rattle.capnp_dynamic.specs.Edits.{IsThere, IsWide};
 ghost use Rattle.capnp_calls.specs.CallViews.{call_view};
 ghost use Rattle.capnp_calls.specs.Replies.{reply_view};
+ghost use Rattle.capnp_calls.specs.LongLists.{content_put};
+ghost use Rattle.capnp_calls.specs.Sizes.{content_len};
 ghost use Rattle.capnp_calls.specs.Taken.{IsRoot};
 ghost use Rattle.capnp_calls.specs.Texts.{as_it_is};
-ghost use Rattle.capnp_run.specs.Runs.{TestsAt, AnswersAt, RunsAt};
+ghost use Rattle.capnp_run.specs.declared.fault.RunFault.{RunFault};
+ghost use Rattle.capnp_run.specs.Runs.{TestsAt, AnswersAt, PutsLongAt, RunsAt, EndsLongAt};
 
+use crate::fault::RunFault;
+use crate::long::puts_long;
 use capnp_calls::Call;
 use capnp_calls::laws::{calls_are_given, roots_are_no_groups};
 use capnp_calls::reply::Reply;
@@ -29,7 +34,7 @@ use capnp_footprints::laws_of_depths::{changes_with_fewer_levels, depths_of_owne
 use capnp_model::laws_of_edits::records_after_calls;
 use capnp_queries::structs::StructSchema;
 use capnp_replies::root::reply_to;
-use capnp_units::errors::{Error, Result};
+use capnp_units::errors::{self, Error};
 use capnp_units::kinds::ErrorKind;
 use capnp_values::dynamic_struct;
 use capnp_wire::arena::ReaderArena;
@@ -59,7 +64,7 @@ fn test<A: ReaderArena>(
     object: StructPlace,
     schema: StructSchema<'_>,
     call: &Call,
-) -> Result<Reply>
+) -> errors::Result<Reply>
     requires arena { IsDeep A.segments A.nesting }
     requires there { IsThere (words_in (A.segments arena.now)) object }
     ensures replied { IfOk result (λ r.
@@ -71,6 +76,17 @@ fn test<A: ReaderArena>(
     reply_to(alloc, struct_of(arena, object, schema), call)
 }
 
+/// Why a call that is done at the struct wasn't written there.
+fn fault_of(schema: StructSchema<'_>, call: &Call, error: Error) -> RunFault
+    ensures { result ≡ RunFault.Size
+        → 2 ^ 29 ≤ content_len (content_put schema.entry (call_view call.now)) }
+{
+    match error.kind {
+        ErrorKind::SizeOverflow if puts_long(schema, call) => RunFault::Size,
+        _ => RunFault::Refused(error),
+    }
+}
+
 /// Answers a call at the struct, which is there, else it is refused with `OutOfBounds`. After an error nothing is promised of the struct's value.
 fn answer<A: BuilderArena>(
     alloc: Global,
@@ -78,13 +94,15 @@ fn answer<A: BuilderArena>(
     object: StructPlace,
     schema: StructSchema<'_>,
     call: &Call,
-) -> Result<Reply>
+) -> Result<Reply, RunFault>
     requires arena { IsDeep A.segments A.nesting }
     requires near { object.start.position + (object.data_words + object.pointers) < 2 ^ 61 }
     requires wide { IsWide object (shape_of_struct schema) }
     ensures answer { IfOk result (λ r. AnswersAt (words_in (A.segments arena.old))
         (words_in (A.segments arena.new)) object schema.entry (call_view call.now)
         (reply_view r)) }
+    ensures size { result ≡ Err RunFault.Size
+        → PutsLongAt (words_in (A.segments arena.old)) object schema.entry (call_view call.now) }
     ensures books { A.books arena.new ≡ A.books arena.old }
 {
     changes_of_objects();
@@ -92,28 +110,28 @@ fn answer<A: BuilderArena>(
     depths_of_owned_values();
     let words = object.data_words as usize + object.pointers as usize;
     if !has_words(arena, object.start, words) {
-        return Err(Error::from(ErrorKind::OutOfBounds));
+        return Err(RunFault::Refused(Error::from(ErrorKind::OutOfBounds)));
     }
     let reply = test(alloc, arena, object, schema, call)?;
     match reply {
-        Reply::Done => {
-            write_path(arena, object, schema, call.path(), call.action())?;
-            Ok(Reply::Done)
-        }
+        Reply::Done => match write_path(arena, object, schema, call.path(), call.action()) {
+            Ok(()) => Ok(Reply::Done),
+            Err(error) => Err(fault_of(schema, call, error)),
+        },
         other => Ok(other),
     }
 }
 
 /// Answers calls in turn at a struct of a message, each at what the calls before it left: its reply is that of the record machine, and the struct becomes what the edits make of it. A refused call and a `get` change nothing, and don't stop the next.
 ///
-/// The struct has at least its schema's two sizes. It is refused by want of memory, as the arena refuses, with `OutOfBounds` where the struct isn't there, and with `TypeMismatch` at a call that would set a group to a message in which the active member's pointer is null, where that member's slot has a default; then the calls before have their effect, and the next perhaps a part of it.
+/// The struct has at least its schema's two sizes. `Size`: a call that is done puts a text or data of 2^29 bytes or more with its last zero, or a list of structs of 2^29 words or more. `Refused`: want of memory, or what the arena refuses, `SizeOverflow` among it where the words of the message would pass 2^29 - 1, or `OutOfBounds` where the struct isn't there. After both the calls before have their effect, and the next perhaps a part of it.
 pub fn run_at<A: BuilderArena>(
     alloc: Global,
     arena: &mut A,
     object: StructPlace,
     schema: StructSchema<'_>,
     calls: &[Call],
-) -> Result<Vec<Reply>>
+) -> Result<Vec<Reply>, RunFault>
     requires arena { IsDeep A.segments A.nesting }
     requires near { object.start.position + (object.data_words + object.pointers) < 2 ^ 61 }
     requires wide { IsWide object (shape_of_struct schema) }
@@ -121,6 +139,8 @@ pub fn run_at<A: BuilderArena>(
     ensures all { IfOk result (λ told. RunsAt (words_in (A.segments arena.old))
         (words_in (A.segments arena.new)) object schema.entry (map call_view calls.now)
         (map reply_view told.items)) }
+    ensures size { result ≡ Err RunFault.Size → EndsLongAt (words_in (A.segments arena.old))
+        object schema.entry (map call_view calls.now) }
     ensures books { A.books arena.new ≡ A.books arena.old }
 {
     records_after_calls();
