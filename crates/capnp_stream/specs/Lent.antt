@@ -5,9 +5,17 @@ use Rattle.std.specs.declared.option.Option.{Option}
 use Rattle.capnp_units.specs.declared.errors.Error.{Error}
 use Rattle.capnp_units.specs.declared.kinds.ErrorKind.{ErrorKind}
 use Rattle.capnp_units.specs.declared.kinds.ErrorKind.TheVariants.{BufferNotLargeEnough, Device}
+use Rattle.capnp_units.specs.Segments.{words_in}
 use Rattle.capnp_model.specs.Messages.{Reader, within, behind_lengths, behind_first, message_at}
-use Rattle.capnp_stream.specs.Frames.{TakesWholePieces, IsFormKind}
-use Rattle.capnp_stream.specs.Flat.{table_bytes}
+use Rattle.capnp_stream.specs.Frames.{TakesMessage, TakesWholePieces, IsFormKind}
+use Rattle.capnp_stream.specs.Flat.{table_lengths, table_bytes, frame_segments, Describes}
+use Rattle.capnp_stream.specs.declared.flat.NoAllocSegmentTableInfo.{NoAllocSegmentTableInfo}
+
+-- A message was taken, within the limit, and stands unpacked at the front of these bytes.
+pub record HoldsMessage (read : Reader) (limit : Option ℕ) (old new : Option (List ℕ)) (bytes : List ℕ) (info : NoAllocSegmentTableInfo) : Type 0 where
+  pub described : Describes info bytes
+  pub taken : TakesMessage read limit old new (words_in (frame_segments info.segments_count bytes))
+  pub kept : within (sum (table_lengths info.segments_count bytes)) limit ≡ true
 
 -- The first word of a table stands at the front of the bytes, and says this number, which is one less than that of the segments.
 abbrev pub TellsCount : Reader → Option ℕ → List ℕ → ℕ → Type 0

@@ -7,7 +7,7 @@ ghost use Rattle.capnp_model.specs.Messages.{within};
 ghost use Rattle.capnp_io.specs.Counting.{Counts};
 ghost use Rattle.capnp_stream.specs.Frames.{TellsFault, TakesMessage, TakesStart, TakesTable, IsReadKind};
 ghost use Rattle.capnp_stream.specs.Flat.{table_lengths, frame_segments, Describes};
-ghost use Rattle.capnp_stream.specs.Lent.{IsFillKind};
+ghost use Rattle.capnp_stream.specs.Lent.{HoldsMessage, IsFillKind};
 ghost use Rattle.capnp_stream.specs.Reading.{WantsBetweenPieces, source_seen};
 ghost use Rattle.capnp_stream.specs.Kept.{buffer_len, TriesMessageInto, WantsForLonger};
 
@@ -80,12 +80,8 @@ impl MessageBuffer {
         source: &mut R,
         limit: Option<usize>,
     ) -> Result<NoAllocSegmentTableInfo>
-        ensures described { IfOk result (λ i. Describes i self.new.bytes.items) }
-        ensures message { IfOk result (λ i. TakesMessage F.reader limit (R.remaining source.old)
-            (R.remaining source.new)
-            (words_in (frame_segments i.segments_count self.new.bytes.items))) }
-        ensures kept { IfOk result (λ i.
-            within (sum (table_lengths i.segments_count self.new.bytes.items)) limit ≡ true) }
+        ensures message { IfOk result (HoldsMessage F.reader limit (R.remaining source.old)
+            (R.remaining source.new) self.new.bytes.items) }
         ensures refused { TellsFault F.reader limit (R.remaining source.old) result }
         ensures kind { IfErr result (λ e. IsReadKind F.faults e.kind) }
         ensures part { OnErr result
@@ -98,12 +94,19 @@ impl MessageBuffer {
     {
         self.grow_to(LONGEST_TABLE)?;
         let count = fill_any_table::<F, R>(source, &mut self.bytes, limit)?;
+        let table = 8 * (count / 2 + 1);
         let total = words_before(&self.bytes, count);
         if !is_within(total, limit) {
             return Err(Error::from(ErrorKind::MessageTooLarge));
         }
-        self.grow_to(8 * (count / 2 + 1) + 8 * total)?;
-        fill_body::<F, R>(source, &mut self.bytes, count, total)
+        self.grow_to(table + 8 * total)?;
+        let info = NoAllocSegmentTableInfo {
+            segments_count: count,
+            segment_table_length_bytes: table,
+            total_segments_length_bytes: 8 * total,
+        };
+        fill_body::<F, R>(source, &mut self.bytes, info)?;
+        Ok(info)
     }
 }
 

@@ -30,10 +30,10 @@ returns-clause-message g c =
     let Of : List (List ℕ) → Type 0 = λ l. TakesMessage g.F.MessageForm.reader c.args.limit (g.R.Read.remaining c.args.source.now) (g.R.Read.remaining c.fill.new.source) (words_in l) in
     let Kept : List (List ℕ) → Type 0 = λ l. CanSpell c.args.limit (words_in l) in
     record {
-      message = subst Of (sym found) (TakesMessage-of_kept g.F.MessageForm.reader c.args.limit _ _ _ _ c.in_ok-is_at_end.ensures.kept c.in_ok-info.ensures.message);
-      kept = subst Kept (sym found) (described-spells info bytes c.in_ok-info.ensures.described small c.args.limit c.in_ok-info.ensures.kept);
+      message = subst Of (sym found) (TakesMessage-of_kept g.F.MessageForm.reader c.args.limit _ _ _ _ c.in_ok-is_at_end.ensures.kept c.in_ok-info.ensures.message.taken);
+      kept = subst Kept (sym found) (described-spells info bytes c.in_ok-info.ensures.message.described small c.args.limit c.in_ok-info.ensures.message.kept);
       joined = tt;
-      writable = subst AreWritable (sym found) (described-writable info bytes c.in_ok-info.ensures.described small);
+      writable = subst AreWritable (sym found) (described-writable info bytes c.in_ok-info.ensures.message.described small);
       none = tt;
       refused = tt;
       kind = tt;
