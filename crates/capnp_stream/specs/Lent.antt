@@ -8,7 +8,7 @@ use Rattle.capnp_units.specs.declared.kinds.ErrorKind.TheVariants.{BufferNotLarg
 use Rattle.capnp_units.specs.Segments.{words_in}
 use Rattle.capnp_model.specs.Messages.{Reader, within, behind_lengths, behind_first, message_at}
 use Rattle.capnp_stream.specs.Frames.{TakesMessage, TakesWholePieces, IsFormKind}
-use Rattle.capnp_stream.specs.Flat.{table_lengths, table_bytes, frame_segments, Describes}
+use Rattle.capnp_stream.specs.Flat.{table_lengths, table_bytes, message_bytes, frame_segments, Describes}
 use Rattle.capnp_stream.specs.declared.flat.NoAllocSegmentTableInfo.{NoAllocSegmentTableInfo}
 
 -- A message was taken, within the limit, and stands unpacked at the front of these bytes.
@@ -27,10 +27,10 @@ abbrev pub TellsLengths : Reader → Option ℕ → List ℕ → List ℕ → Ty
 TellsLengths read limit bytes ns =
     (front rest : List ℕ) × (bytes ≡ front ++ rest) × ((more : List ℕ) → message_at read limit (front ++ more) ≡ behind_lengths read limit ns more)
 
--- The bytes begin with the table of a message within the limits of segments and words that has more bytes unpacked, with its table, than so many.
+-- The bytes begin with the table of a message within the limits of segments and words that has more bytes unpacked than so many.
 abbrev pub HasLonger : Reader → Option ℕ → ℕ → List ℕ → Type 0
 HasLonger read limit size bytes =
-    (ns : List ℕ) × TellsLengths read limit bytes ns × (within (sum ns) limit ≡ true) × (size < table_bytes (length ns) + 8 * sum ns)
+    (ns : List ℕ) × TellsLengths read limit bytes ns × (within (sum ns) limit ≡ true) × (size < message_bytes ns)
 
 -- No message has so few bytes unpacked, or the bytes begin with the table of a message within the limits of segments and words, and the table, or the table with the segments, has more bytes unpacked than so many.
 abbrev pub NeedsMore : Reader → Option ℕ → ℕ → List ℕ → Type 0
