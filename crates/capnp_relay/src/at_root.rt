@@ -5,7 +5,7 @@ use crate::answers::Answers;
 use capnp_answers::answer::{MessageAnswer, Want, answer_in_place};
 use capnp_answers::bounds::Bounds;
 use capnp_calls::Call;
-use capnp_calls::laws::{calls_as_given, roots_are_no_groups};
+use capnp_calls::laws::{calls_are_given, roots_are_no_groups};
 use capnp_model::laws_of_edits::records_of_written_values;
 use capnp_object::arena::ReaderArenaImpl;
 use capnp_queries::structs::StructSchema;
@@ -40,7 +40,7 @@ impl<'a> Answers for CallsAtRoot<'a> {
         words: &mut Vec<Word>,
     ) -> Result<MessageAnswer, Want> {
         records_of_written_values();
-        calls_as_given();
+        calls_are_given();
         roots_are_no_groups();
         // The bounds tell how deep the message is followed.
         let arena = ReaderArenaImpl::new(message, i32::MAX);

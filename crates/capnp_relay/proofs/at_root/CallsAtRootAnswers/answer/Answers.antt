@@ -12,7 +12,7 @@ returns-clause-value c =
     let s = segments_of c.args.message.now in
     let into = c.answer_in_place.new.words.items in
     let no_group = c.roots_are_no_groups.ensures here.schema here.root in
-    let given = c.calls_as_given.ensures here.schema here.calls.now in
+    let given = c.calls_are_given.ensures here.schema here.calls.now in
     IfOk-weaker c.answer_in_place.result _ _ (λ a h. record {
       same = h.same;
       means = h.means;
