@@ -79,10 +79,6 @@ pub made_puts : {X E : Type 0} (x : Result X E) (old new : ArenaState) (slot : c
 made_puts (Ok x) old new slot t v words e h = subst (PutsTree (words_in old.segments) (words_in new.segments) (place_view slot)) e (becomes_puts (words_in old.segments) (words_in new.segments) (place_view slot) t h.becomes)
 made_puts (Err e') old new slot t v words e h = tt
 
-pub no_default : (o : Option (Bor Value)) → is_some o ≡ false → default_or_null (default_tree (option_map value_of (option_copied o))) ≡ null
-no_default None h = refl
-no_default (Some v) h = absurd (cc h)
-
 pub list_grows : {X : Type 0} (x : Result X Error) (old new : ArenaState) (segment : ℕ) (t : Tree) → OnOk x (Grows (words_in old.segments) (words_in new.segments)) → IfErr x (ObjectNotMade old new segment t) → Grows (words_in old.segments) (words_in new.segments)
 list_grows (Ok x) old new segment t h k = h
 list_grows (Err e) old new segment t h k = same_grows old.segments new.segments k.1.0
