@@ -1,51 +1,21 @@
-//! Canonical words of values, beside those of the values themselves.
+//! Canonical words of values, and who tells that they are.
 
-use crate::copies::{Bounds, Outcome, ROOT, is_as_told, is_copy};
+use crate::copies::{Bounds, Outcome, is_as_told, is_copy};
 use crate::elements::Digest;
+use crate::least::is_least;
+use crate::lent::ROOT;
 use crate::same::Form;
 use crate::sizes::Walk;
 use capnp_canonical::check::is_canonical_message;
 use capnp_canonical::copy::write_canonical;
 use capnp_units::limiter::ReadLimiter;
 use capnp_units::sizes::{Word, words_as_bytes};
-use capnp_value::value::{Bounds as Within, canonical, read_value, trim_whole};
 use capnp_wire::arena::{NullArena, ReaderArena};
 use capnp_wire::backing::{Backing, default_backing};
 use capnp_wire::place::Place;
 use capnp_wire::pointer::PointerReader;
-use std::alloc::{AllocError, Global};
 
-/// The canonical words of the value by itself, where it is there without a capability.
-fn words_of_value(
-    alloc: Global,
-    segments: &[Vec<u8>],
-    bounds: Bounds,
-) -> Result<Option<Vec<u64>>, AllocError> {
-    let within = Within {
-        words: bounds.words.min(0x1fff_fffe),
-        nesting: bounds.levels,
-    };
-    let Some(mut value) = read_value(alloc, &segments, within)? else {
-        return Ok(None);
-    };
-    trim_whole(&mut value);
-    Ok(Some(canonical(alloc, &value)?))
-}
-
-/// Whether words are these numbers.
-fn are_numbers(words: &[Word], numbers: &[u64]) -> bool {
-    if words.len() != numbers.len() {
-        return false;
-    }
-    for i in 0..words.len().min(numbers.len()) {
-        if u64::from_le_bytes(words[i]) != numbers[i] {
-            return false;
-        }
-    }
-    true
-}
-
-/// Whether words are told to be canonical, and to be no more and no less than their value has.
+/// Whether words are told to be canonical, and to be no more and no less than their value has, in structs that are as small as they can be.
 fn are_canonical(words: &[Word], levels: u32) -> bool {
     let copy: Backing<NullArena> = default_backing(words);
     let Ok(root) = PointerReader::get_root_from_arena(&copy) else {
@@ -63,6 +33,7 @@ fn are_canonical(words: &[Word], levels: u32) -> bool {
     whole == Ok(true)
         && stands == Ok(true)
         && head.position == words.len()
+        && is_least(root, levels)
         && size.is_ok_and(|size| size.word_count < most && most - size.word_count == 1)
 }
 
@@ -90,16 +61,15 @@ fn is_told_of<B: ReaderArena>(
     paid && limiter.granted() <= told.granted && limiter.followed() <= told.followed
 }
 
-/// Writes the canonical words of a message's value. Whether they are those of the value by itself, read as its tree, and are told to be canonical.
+/// Writes the canonical words of a message's value. Whether they are told to be canonical, and read as its tree.
 pub fn goes_together<B: ReaderArena>(
-    alloc: Global,
     segments: &[Vec<u8>],
     source: &B,
     told: Walk,
     bounds: Bounds,
     lent: &mut [Word],
     digest: &mut Digest,
-) -> Result<bool, AllocError> {
+) -> bool {
     let mut limiter = ReadLimiter::new(Some(bounds.words as u64));
     let answer = write_canonical(source, &mut limiter, ROOT, bounds.levels, lent);
     let outcome = Outcome {
@@ -111,22 +81,17 @@ pub fn goes_together<B: ReaderArena>(
         Ok(count) => lent.get(..count),
         Err(_) => None,
     };
-    let numbers = words_of_value(alloc, segments, bounds)?;
     if !is_as_told(outcome, told, Form::Trimmed)
         || !is_told_of(segments, source, told, bounds, written)
     {
-        return Ok(false);
+        return false;
     }
-    let (Some(words), Some(numbers)) = (written, &numbers) else {
-        return Ok(written.is_none() && numbers.is_none());
+    let Some(words) = written else {
+        return answer.is_err();
     };
     for word in words {
         digest.add(u64::from_le_bytes(*word));
     }
     let copy: Backing<NullArena> = default_backing(words);
-    Ok(
-        are_numbers(words, numbers)
-            && are_canonical(words, bounds.levels)
-            && is_copy(source, &copy, Form::Trimmed, bounds.levels),
-    )
+    are_canonical(words, bounds.levels) && is_copy(source, &copy, Form::Trimmed, bounds.levels)
 }

@@ -2,6 +2,7 @@
 ghost use Rattle.std.specs.Prelude.{◌≡◌};
 
 use crate::elements::Digest;
+use crate::lent::{Lent, ROOT, have_same_words};
 use crate::same::{Form, are_same};
 use crate::segments::Slabs;
 use crate::sizes::Walk;
@@ -15,15 +16,9 @@ use capnp_units::kinds::ErrorKind;
 use capnp_units::limiter::ReadLimiter;
 use capnp_units::sizes::Word;
 use capnp_wire::arena::ReaderArena;
-use capnp_wire::place::{Place, has_words};
+use capnp_wire::place::has_words;
 use capnp_wire::pointer::PointerReader;
 use std::alloc::Global;
-
-/// Where the root pointer of a message stands.
-pub const ROOT: Place = Place {
-    segment: 0,
-    position: 0,
-};
 
 /// The data that a copy is made over.
 const STANDING: &[u8] = &[1, 2, 3];
@@ -139,14 +134,14 @@ fn copied_over<A: BuilderArena, B: ReaderArena>(
     }
 }
 
-/// Copies the root of a message into an arena. Whether it is the same there, or is refused as is told and leaves what stood.
+/// Copies the root of a message into an arena. Whether it is the same there, and has the same canonical words, or is refused as is told and leaves what stood.
 fn copies_into<A: BuilderArena, B: ReaderArena>(
     arena: &mut A,
     source: &B,
     told: Walk,
     bounds: Bounds,
     form: Form,
-    lent: &mut [Word],
+    lent: &mut Lent,
     digest: &mut Digest,
 ) -> bool
     ensures { A.books arena.new ≡ A.books arena.old }
@@ -156,7 +151,8 @@ fn copies_into<A: BuilderArena, B: ReaderArena>(
     }
     let before = bytes_in_use(arena);
     let mut limiter = ReadLimiter::new(Some(bounds.words as u64));
-    let answer = copied_over(arena, &mut limiter, source, bounds.levels, form, lent);
+    let words = lent.words.as_mut_slice();
+    let answer = copied_over(arena, &mut limiter, source, bounds.levels, form, words);
     let outcome = Outcome {
         answer,
         granted: limiter.granted(),
@@ -165,7 +161,10 @@ fn copies_into<A: BuilderArena, B: ReaderArena>(
     digest.add(arena.size_in_words() as u64);
     digest.add(bytes_in_use(arena));
     let good = match answer {
-        Ok(()) => is_copy(source, arena, form, bounds.levels),
+        Ok(()) => {
+            is_copy(source, arena, form, bounds.levels)
+                && have_same_words(source, arena, bounds.levels, lent)
+        }
         Err(_) => stands(arena, before),
     };
     good && is_as_told(outcome, told, form)
@@ -178,7 +177,7 @@ pub fn goes_together<B: ReaderArena>(
     told: Walk,
     bounds: Bounds,
     form: Form,
-    lent: &mut [Word],
+    lent: &mut Lent,
     digest: &mut Digest,
 ) -> bool {
     let allocator = Slabs {

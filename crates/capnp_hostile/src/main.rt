@@ -6,6 +6,8 @@
 mod canonical;
 mod copies;
 mod elements;
+mod least;
+mod lent;
 mod limits;
 mod messages;
 mod mutations;
@@ -16,11 +18,11 @@ mod sizes;
 mod walk;
 
 use capnp_units::limiter::ReadLimiter;
-use capnp_units::sizes::Word;
 use capnp_wire::arena::{ReaderArena, ReaderArenaImpl};
 use capnp_wire::pointer::PointerReader;
 use copies::Bounds;
 use elements::Digest;
+use lent::Lent;
 use limits::Limits;
 use random::Random;
 use same::Form;
@@ -67,18 +69,23 @@ fn copy_message<A: ReaderArena>(
     segments: &[Vec<u8>],
     arena: &A,
     bounds: Bounds,
-    lent: &mut [Word],
+    lent: &mut Lent,
     digest: &mut Digest,
-) -> Result<bool, AllocError> {
+) -> bool {
     let Ok(root) = PointerReader::get_root_from_arena(arena) else {
-        return Ok(true);
+        return true;
     };
     let told = size_within(root, Some(bounds.words as u64));
-    Ok(
-        copies::goes_together(alloc, arena, told, bounds, Form::Whole, lent, digest)
-            && copies::goes_together(alloc, arena, told, bounds, Form::Trimmed, lent, digest)
-            && canonical::goes_together(alloc, segments, arena, told, bounds, lent, digest)?,
-    )
+    copies::goes_together(alloc, arena, told, bounds, Form::Whole, lent, digest)
+        && copies::goes_together(alloc, arena, told, bounds, Form::Trimmed, lent, digest)
+        && canonical::goes_together(
+            segments,
+            arena,
+            told,
+            bounds,
+            lent.words.as_mut_slice(),
+            digest,
+        )
 }
 
 /// Reads a message as each type that its pointers can be read as, and copies it. Whether the walks over it go together.
@@ -87,20 +94,20 @@ fn read_message(
     limits: Limits,
     bounds: Option<Bounds>,
     segments: &[Vec<u8>],
-    lent: &mut [Word],
+    lent: &mut Lent,
     digest: &mut Digest,
-) -> Result<bool, AllocError> {
+) -> bool {
     let arena = ReaderArenaImpl::new(segments, limits.nesting);
     let Ok(root) = PointerReader::get_root_from_arena(&arena) else {
-        return Ok(true);
+        return true;
     };
     walk(root, &mut ReadLimiter::new(limits.words), digest, LEVELS);
-    if !sizes::go_together(alloc, segments, root, limits, digest)? {
-        return Ok(false);
+    if !sizes::go_together(root, limits, digest) {
+        return false;
     }
     match bounds {
         Some(bounds) => copy_message(alloc, segments, &arena, bounds, lent, digest),
-        None => Ok(true),
+        None => true,
     }
 }
 
@@ -108,13 +115,13 @@ fn read_message(
 fn read_all(alloc: Global, rounds: u32) -> Result<Outcome, AllocError> {
     let mut random = Random::new(SEED);
     let mut digest = Digest(0);
-    let mut lent = vec![in alloc; [0u8; 8]; MOST as usize + 1]?;
+    let mut lent = Lent::new(alloc, MOST as usize + 1)?;
     for round in 0..rounds {
         let number = random.below(messages::COUNT);
         let segments = mutations::mutated(alloc, &mut random, messages::base(number))?;
         let limits = limits::any(&mut random);
         let bounds = bounds_of(limits, round);
-        if !read_message(alloc, limits, bounds, &segments, &mut lent, &mut digest)? {
+        if !read_message(alloc, limits, bounds, &segments, &mut lent, &mut digest) {
             return Ok(Outcome::Difference(round));
         }
     }

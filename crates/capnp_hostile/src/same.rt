@@ -88,7 +88,7 @@ fn are_same_structs<'a, A: ReaderArena, B: ReaderArena>(
 }
 
 /// The list behind a pointer, whatever its elements are.
-fn any_list<'a, A: ReaderArena>(pointer: PointerReader<'a, A>) -> Option<ListReader<'a, A>> {
+pub fn any_list<'a, A: ReaderArena>(pointer: PointerReader<'a, A>) -> Option<ListReader<'a, A>> {
     let mut limiter = ReadLimiter::new(None);
     match pointer.get_list(&mut limiter, ElementSize::Void, None) {
         Ok(list) => Some(list),

@@ -6,10 +6,8 @@ use capnp_units::errors::Error;
 use capnp_units::kinds::ErrorKind;
 use capnp_units::limiter::ReadLimiter;
 use capnp_units::sizes::MessageSize;
-use capnp_value::value::{Bounds, read_value};
 use capnp_wire::arena::ReaderArena;
 use capnp_wire::pointer::PointerReader;
-use std::alloc::{AllocError, Global};
 
 /// The most words that a value is read within.
 pub const MOST: u64 = 8192;
@@ -48,36 +46,18 @@ fn takes_just_that<A: ReaderArena>(root: PointerReader<'_, A>, free: Walk) -> bo
         && less.followed <= free.followed
 }
 
-/// The value is there just where its size is told, capabilities aside.
-fn is_there(
-    alloc: Global,
-    segments: &[Vec<u8>],
-    limits: Limits,
-    told: Walk,
-) -> Result<bool, AllocError> {
-    let words = limits.words.unwrap_or(MOST).min(MOST);
-    if limits.nesting < 0 || told.granted > words {
-        return Ok(true);
-    }
-    let bounds = Bounds {
-        words: words as u32,
-        nesting: limits.nesting as u32,
-    };
-    let value = read_value(alloc, &segments, bounds)?;
-    Ok(match told.size {
-        Ok(size) => value.is_some() == (size.cap_count == 0),
-        Err(_) => value.is_none(),
-    })
+/// A limit that a walk doesn't reach changes nothing.
+fn is_same_within_more<A: ReaderArena>(root: PointerReader<'_, A>, free: Walk) -> bool {
+    let more = size_within(root, Some(free.granted.max(MOST)));
+    more.size == free.size && more.granted == free.granted && more.followed == free.followed
 }
 
-/// The size of the root's value within the limits, without a limit, within what it takes, and beside the value itself.
+/// The size of the root's value within the limits, without a limit, within what it takes, and within more.
 pub fn go_together<A: ReaderArena>(
-    alloc: Global,
-    segments: &[Vec<u8>],
     root: PointerReader<'_, A>,
     limits: Limits,
     digest: &mut Digest,
-) -> Result<bool, AllocError> {
+) -> bool {
     let told = size_within(root, limits.words);
     match told.size {
         Ok(size) => {
@@ -89,5 +69,5 @@ pub fn go_together<A: ReaderArena>(
     digest.add(told.granted);
     digest.add(told.followed);
     let free = size_within(root, None);
-    Ok(takes_just_that(root, free) && is_there(alloc, segments, limits, told)?)
+    takes_just_that(root, free) && is_same_within_more(root, free)
 }
