@@ -12,11 +12,11 @@ use Rattle.capnp_model.specs.Segments.{Segments}
 use Rattle.capnp_model.specs.Bytes.{words_in_bytes, taken}
 use Rattle.capnp_model.specs.Messages.{within, plain_words, flat_words, halves, cut, behind_lengths, behind_first, message_by, flat_at}
 use Rattle.capnp_model.proofs.Chaining.{ok_then, guard_then}
-use Rattle.capnp_stream.specs.Ranges.{ranges_from, bytes_at}
+use Rattle.capnp_stream.specs.Ranges.{AreBytes, ranges_from, bytes_at}
 use Rattle.capnp_stream.specs.Flat.{table_lengths, table_bytes, frame_segments, Describes}
 use Rattle.capnp_stream.specs.declared.flat.NoAllocSegmentTableInfo.{NoAllocSegmentTableInfo}
 use Rattle.capnp_stream.proofs.PieceLemmas.{err_then, guard_err, plain_short}
-use Rattle.capnp_stream.proofs.WordLemmas.{from_le_bytes-take, words_in_bytes-take, words_in_bytes-length, whole_words-step, segments-of_ranges, sum-snoc, whole_words-of_length}
+use Rattle.capnp_stream.proofs.WordLemmas.{AreBytes-drop, from_le_bytes-take, words_in_bytes-take, words_in_bytes-length, whole_words-step, segments-of_ranges, sum-snoc, whole_words-of_length}
 
 -- ---- the halves of a table's words
 
@@ -88,6 +88,34 @@ odd-length bytes id word odd fits reads =
     let inside : i < length bytes / 8 = omega arith in
     let is : get_or (whole_words bytes) i 0 ≡ word = word-there i (length bytes / 8) bytes inside (omega arith) ∙ sym (from_le_bytes-take 8 (drop (8 * i) bytes) (omega arith) (omega (arith, length-drop (8 * i) bytes))) ∙ sym reads in
     sym (get_or-drop 1 (halves (whole_words bytes)) id 0 ∙ ap (λ k. get_or (halves (whole_words bytes)) k 0) at ∙ even-half i (whole_words bytes) ∙ ap (λ w. w % 2 ^ 32) is)
+
+-- the number of a segment, by the four bytes that hold its length
+length-by : (r : ℕ) (bytes : List ℕ) (id : ℕ) → id % 2 ≡ r → AreBytes bytes → table_bytes (id + 1) ≤ length bytes
+    → get_or bytes (4 * id + 4) 0 + get_or bytes (4 * id + 4 + 1) 0 * 256 + get_or bytes (4 * id + 4 + 2) 0 * 65536 + get_or bytes (4 * id + 4 + 3) 0 * 16777216 ≡ get_or (drop 1 (halves (whole_words bytes))) id 0
+length-by zero bytes id even small fits =
+    let at = 4 * id in
+    let word = from_le_bytes w64 (take 8 (drop (8 * ((id + 1) / 2)) bytes)) in
+    let there : 8 * ((id + 1) / 2) ≡ at = omega arith in
+    let f : List ℕ → ℕ = from_le_bytes w64 in
+    let is : word ≡ f (drop at bytes) = from_le_bytes-take 8 (drop (8 * ((id + 1) / 2)) bytes) (omega arith) (omega (arith, length-drop (8 * ((id + 1) / 2)) bytes)) ∙ ap (λ (k : ℕ). f (drop k bytes)) there in
+    let b : (k m : ℕ) → at + k ≡ m → get_or (drop at bytes) k 0 ≡ get_or bytes m 0 = λ k m e. get_or-drop at bytes k 0 ∙ ap (λ j. get_or bytes j 0) e in
+    let half = even-length bytes id word even fits refl in
+    let first = AreBytes-drop at bytes small in
+    omega (arith, half, is, b 4 (at + 4) refl, b 5 (at + 4 + 1) (omega arith), b 6 (at + 4 + 2) (omega arith), b 7 (at + 4 + 3) (omega arith), first 0, first 1, first 2, first 3)
+length-by (suc r) bytes id odd small fits =
+    let at = 4 * id + 4 in
+    let word = from_le_bytes w64 (take 8 (drop (8 * ((id + 1) / 2)) bytes)) in
+    let there : 8 * ((id + 1) / 2) ≡ at = omega arith in
+    let f : List ℕ → ℕ = from_le_bytes w64 in
+    let is : word ≡ f (drop at bytes) = from_le_bytes-take 8 (drop (8 * ((id + 1) / 2)) bytes) (omega arith) (omega (arith, length-drop (8 * ((id + 1) / 2)) bytes)) ∙ ap (λ (k : ℕ). f (drop k bytes)) there in
+    let b : (k m : ℕ) → at + k ≡ m → get_or (drop at bytes) k 0 ≡ get_or bytes m 0 = λ k m e. get_or-drop at bytes k 0 ∙ ap (λ j. get_or bytes j 0) e in
+    let half = odd-length bytes id word (omega (arith, odd)) fits refl in
+    let first = AreBytes-drop at bytes small in
+    omega (arith, half, is, b 0 at (omega arith), b 1 (at + 1) refl, b 2 (at + 2) refl, b 3 (at + 3) refl, first 0, first 1, first 2, first 3)
+
+pub length-at : (bytes : List ℕ) (id : ℕ) → AreBytes bytes → table_bytes (id + 1) ≤ length bytes
+    → get_or bytes (4 * id + 4) 0 + get_or bytes (4 * id + 4 + 1) 0 * 256 + get_or bytes (4 * id + 4 + 2) 0 * 65536 + get_or bytes (4 * id + 4 + 3) 0 * 16777216 ≡ get_or (drop 1 (halves (whole_words bytes))) id 0
+length-at bytes id small fits = length-by (id % 2) bytes id refl small fits
 
 pub table-holds : (n : ℕ) (bytes : List ℕ) → table_bytes n ≤ length bytes → length (table_lengths n bytes) ≡ n
 table-holds n bytes fits =

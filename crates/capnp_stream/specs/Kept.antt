@@ -1,5 +1,5 @@
 -- What the reader of one message into a kept buffer promises. (Encoding, "Serialization Over a Stream")
-use Rattle.std.specs.Prelude.{◌≡◌, ◌⊎◌, ℕ, ◌<◌, ◌≤◌, ⊤, List, length, map, IfSome, IfOk, IfErr}
+use Rattle.std.specs.Prelude.{◌≡◌, ◌⊎◌, ℕ, ◌<◌, ◌≤◌, ⊤, List, length, map, IfSome, IfOk, IfErr, OnOk}
 use Rattle.std.specs.Borrow.{Fml, MutBor}
 use Rattle.std.specs.Io.BufRead.{Rests}
 use Rattle.std.specs.declared.convert.AsSlice.{Ghosts}
@@ -23,6 +23,10 @@ use Rattle.capnp_stream.specs.contracts.kept.MessageBuffer.{the_row}
 abbrev pub buffer_len : MessageBuffer → ℕ
 buffer_len b = length b.bytes.items
 
+-- The buffer has at least as many bytes as before, and, where a message was read, enough for the longest table.
+abbrev pub IsGrown : {A : Type 0} → ℕ → ℕ → Result A Error → Type 0
+IsGrown old new result = (old ≤ new) × OnOk result (table_bytes 511 ≤ new)
+
 -- So many bytes suffice for the longest table, and for these segments with theirs.
 abbrev pub HasRoomFor : Segments → ℕ → Type 0
 HasRoomFor s size = (table_bytes 511 ≤ size) × (message_bytes (map length s) ≤ size)
@@ -35,6 +39,6 @@ RestsGrown b result = Rests the_row b (λ new. (buffer_len b.now ≤ buffer_len 
 abbrev pub TriesMessageInto : {T : Type 0} {g : Ghosts T ℕ} → Reader → (ErrorKind → Type 0) → Option ℕ → SourceSeen → Result (Option (NoAllocBufferSegments T g)) Error → SourceSeen → Type 0
 TriesMessageInto read faults limit old result new = TriesReading found_segments (λ _. ⊤) read faults limit old result new
 
--- Memory is wanted only where a buffer of so many bytes is shorter than the longest table, or than a message that the bytes begin with.
+-- Memory is wanted only where a buffer of so many bytes is shorter than the longest table, or than a message whose table the bytes begin with, within the limits.
 abbrev pub WantsForLonger : {A : Type 0} → Reader → Option ℕ → ℕ → Option (List ℕ) → Result A Error → Type 0
 WantsForLonger read limit size old result = IfErr result (λ e. e.kind ≡ OutOfMemory → (size < table_bytes 511) ⊎ IfSome old (HasLonger read limit size))

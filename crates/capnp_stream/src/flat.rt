@@ -40,17 +40,9 @@ pub(crate) fn length_in(bytes: &[u8], id: usize) -> usize
     ensures length { result ≡ slice_index (drop 1 (halves (whole_words bytes.now))) id }
     ensures bound { result < 2 ^ 32 }
 {
-    let at = 8 * ((id + 1) / 2);
-    let Some((first, _)) = bytes[at..].split_first_chunk::<8>() else {
-        return 0;
-    };
-    let word = u64::from_le_bytes(*first);
-    let half = if id % 2 == 0 {
-        word / HALF
-    } else {
-        word % HALF
-    };
-    half as usize
+    let at = 4 * id + 4;
+    let length = [bytes[at], bytes[at + 1], bytes[at + 2], bytes[at + 3]];
+    u32::from_le_bytes(length) as usize
 }
 
 /// How many words the first `count` segments have together, from the table at the front of bytes.

@@ -10,7 +10,7 @@ ghost use Rattle.capnp_stream.specs.Frames.{TellsFault, TakesMessage, TakesStart
 ghost use Rattle.capnp_stream.specs.Flat.{table_lengths, frame_segments, Describes};
 ghost use Rattle.capnp_stream.specs.Lent.{HoldsMessage, IsFillKind};
 ghost use Rattle.capnp_stream.specs.Reading.{WantsBetweenPieces, source_seen};
-ghost use Rattle.capnp_stream.specs.Kept.{buffer_len, RestsGrown, TriesMessageInto, WantsForLonger};
+ghost use Rattle.capnp_stream.specs.Kept.{buffer_len, IsGrown, RestsGrown, TriesMessageInto, WantsForLonger};
 
 use crate::buffers::{NoAllocBufferSegments, NoAllocSliceSegments};
 use crate::flat::{NoAllocSegmentTableInfo, words_before};
@@ -91,8 +91,7 @@ impl MessageBuffer {
             (R.remaining source.new) result }
         ensures longer { WantsForLonger F.reader limit (buffer_len self.old)
             (R.remaining source.old) result }
-        ensures grown { buffer_len self.old ≤ buffer_len self.new }
-        ensures room { OnOk result (LONGEST_TABLE ≤ buffer_len self.new) }
+        ensures grown { IsGrown (buffer_len self.old) (buffer_len self.new) result }
         ensures failures { Counts result (R.failures source.old) (R.failures source.new) }
     {
         self.grow_to(LONGEST_TABLE)?;
