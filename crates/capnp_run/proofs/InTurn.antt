@@ -20,7 +20,8 @@ use Rattle.capnp_model.specs.CallRuns.{AreGiven}
 use Rattle.std.specs.Prelude.{map}
 use Rattle.capnp_calls.specs.Taken.{taken_call}
 use Rattle.capnp_calls.specs.Texts.{as_it_is}
-use Rattle.capnp_run.specs.Runs.{record_at, AnswersAt}
+use Rattle.capnp_calls.specs.LongLists.{PutsLong}
+use Rattle.capnp_run.specs.Runs.{record_at, AnswersAt, PutsLongAt, EndsLongAt}
 use Rattle.capnp_run.proofs.Levels.{After}
 
 pub edits_more : (root : StructSchema) (before : List Call) (c : Call) (t : Tree) → edits (schema_around root) (id_of root) (before ++ c ∷ []) t ≡ edit (schema_around root) (id_of root) c (edits (schema_around root) (id_of root) before t)
@@ -72,6 +73,14 @@ one_more after again s u v p root before c behind all told x so_far answers n se
         tree = sym is ∙ tree;
       },
     )
+
+-- a call that puts a list which is too long does so at what those before it make
+pub ends_long : After → (s u : Segments) (p : StructPlace) (root : StructSchema) (before : List Call) (c : Call) (behind all : List Call) (told : List Reply)
+    → all ≡ before ++ c ∷ behind → SoFar s u p root before (c ∷ behind) all told → PutsLongAt u p root c → EndsLongAt s p root all
+ends_long after s u p root before c behind all told split so_far puts n section kids most owns =
+    let a = so_far n section kids most owns in
+    let owned = after n s u (struct_at p) (structure p.data_words section kids) (structure p.data_words a.0 a.1) owns a.2 in
+    record { before = before; call = c; behind = behind; split = split; long = subst (PutsLong root c) a.3.tree (puts n a.0 a.1 most owned) }
 
 pub none_behind : (root : StructSchema) (before all : List Call) (told : List Reply) (old new : Tree) → Reaches root before [] all told old new → told ≡ replies (schema_around root) as_it_is (id_of root) all old
 unfolding replies
