@@ -1,15 +1,15 @@
 -- What is written reads under the newer schema as the newer machine makes it.
-use Rattle.std.proofs.Common.{◌≡◌, ℕ, pos, Bool, true, false, if◌then◌else◌, Some, List, [], ◌∷◌, map, sym, ap, ◌∙◌, subst}
+use Rattle.std.proofs.Common.{◌≡◌, ℕ, pos, Option, Bool, true, false, if◌then◌else◌, Some, List, [], ◌∷◌, map, sym, ap, ◌∙◌, subst}
 use Rattle.std.specs.List.{AllByRecursion, list_all}
 use Rattle.capnp_model.specs.Segments.{Segments}
 use Rattle.capnp_model.specs.Trees.{Tree, null, capability, structure, plain_list, pointer_list, struct_list}
 use Rattle.capnp_model.specs.Trimming.{trim}
 use Rattle.capnp_model.specs.Encoding.{canonical_words}
-use Rattle.capnp_model.specs.Calls.{Step, Call as ModelCall}
+use Rattle.capnp_model.specs.Calls.{Call as ModelCall}
 use Rattle.capnp_model.specs.Accepted.{IsAccepted}
 use Rattle.capnp_model.specs.NamedPaths.{IsOpen}
 use Rattle.capnp_model.specs.CallRuns.{IsGiven, AreGiven, IsStart, records_after, record_replies}
-use Rattle.capnp_model.specs.Answers.{Answer, refused_value, refused_root, refused_depth, written, Reply, replies, edits, opened_root, answer}
+use Rattle.capnp_model.specs.Answers.{Answer, refused_value, refused_root, refused_depth, written, Reply, replies, edits, opened_root, answer_value, answer}
 use Rattle.capnp_model.proofs.KeptRules.{and_left, and_right}
 use Rattle.capnp_queries.specs.Structs.{nodes_around, schema_around, id_of}
 use Rattle.capnp_queries.specs.declared.structs.StructSchema.{StructSchema}
@@ -22,18 +22,16 @@ use Rattle.capnp_calls.specs.declared.call.SlotValue.{SlotValue}
 use Rattle.capnp_calls.specs.declared.call.SlotValue.TheVariants as slot
 use Rattle.capnp_calls.specs.CallViews.{call_view, action_view}
 use Rattle.capnp_calls.specs.Texts.{as_it_is}
-use Rattle.capnp_calls.specs.Taken.{is_taken, path_if, taken_call, record_at}
-use Rattle.capnp_value.specs.Reads.{limits_view}
-use Rattle.capnp_value.specs.declared.value.read.Bounds.{Bounds}
-use Rattle.capnp_relay.specs.Messages.{answer_to, IsAnswerBy}
+use Rattle.capnp_answers.specs.Bounds.{limits_view}
+use Rattle.capnp_answers.specs.declared.bounds.Bounds.{Bounds}
+use Rattle.capnp_relay.specs.Messages.{IsAnswerBy}
 use Rattle.capnp_versions.specs.Whole.{IsWhole, IsWholeVerb}
 use Rattle.capnp_versions.specs.SameReplies.{SameReplies}
 use Rattle.capnp_versions.specs.TwoVersions.{TwoVersions, older, newer, newer_record, CanRun}
 use Rattle.capnp_versions.proofs.WholeValues.{fits-whole}
 use Rattle.capnp_versions.proofs.WrittenValues.{value-fits}
-use Rattle.capnp_between.specs.Newer.{is_admitted_between, MayRun, taken_calls, ReadsAsNewer}
+use Rattle.capnp_between.specs.Newer.{is_admitted_between, MayRun, record_at, ReadsAsNewer}
 use Rattle.capnp_between.proofs.OpenedRoots.{opened_whole, opened_start, opened_record}
-use Rattle.capnp_between.proofs.IdleCalls.{beside, going, going-edits, going-records, going-replies, going-all, going-start}
 
 -- ---- what the laws say
 
@@ -62,33 +60,27 @@ whole_action action.Init h = tt
 whole_action (action.Initn n) h = tt
 whole_action action.Clear h = tt
 
-whole_calls : (root : StructSchema) (calls : List Call) → AreGiven (taken_calls root calls) → AllByRecursion (λ c. IsWholeVerb c.verb) (taken_calls root calls)
-whole_calls root [] h = tt
-whole_calls root (c ∷ cs) h = (whole_action c.action h.0, whole_calls root cs h.1)
+whole_calls : (calls : List Call) → AreGiven (map call_view calls) → AllByRecursion (λ c. IsWholeVerb c.verb) (map call_view calls)
+whole_calls [] h = tt
+whole_calls (c ∷ cs) h = (whole_action c.action h.0, whole_calls cs h.1)
 
--- ---- calls that are taken and go along a step are admitted
+-- ---- each call is admitted
 
-admitted_calls : (root newer_root : StructSchema) (calls : List ModelCall) → list_all (is_admitted_between root newer_root) calls ≡ true
-    → AllByRecursion (λ c. is_admitted_between root newer_root c ≡ true) (going (map (taken_call root) calls))
-unfolding going
+admitted_calls : (root newer_root : StructSchema) (calls : List ModelCall) → list_all (is_admitted_between root newer_root) calls ≡ true → AllByRecursion (λ c. is_admitted_between root newer_root c ≡ true) calls
 admitted_calls root newer_root [] h = tt
-admitted_calls root newer_root (c ∷ cs) h = by (is_taken root c) c.path (and_left _ _ h) (admitted_calls root newer_root cs (and_right (is_admitted_between root newer_root c) _ h))
-  where
-    by : (b : Bool) (path : List Step) → is_admitted_between root newer_root (record { path = path; verb = c.verb }) ≡ true
-        → AllByRecursion (λ c. is_admitted_between root newer_root c ≡ true) (going (map (taken_call root) cs))
-        → AllByRecursion (λ c. is_admitted_between root newer_root c ≡ true) (beside (path_if b path) (record { path = path_if b path; verb = c.verb }) (going (map (taken_call root) cs)))
-    by false path e rest = rest
-    by true [] e rest = rest
-    by true (s ∷ path) e rest = (e, rest)
+admitted_calls root newer_root (c ∷ cs) h = (and_left _ _ h, admitted_calls root newer_root cs (and_right (is_admitted_between root newer_root c) _ h))
 
 -- ---- one answer
 
 module _ (root newer_root : StructSchema) (calls : List Call) (bounds : Bounds) where
   abbrev T : List ModelCall
-  T = taken_calls root calls
+  T = map call_view calls
 
   abbrev versions : TwoVersions
   versions = record { older_nodes = nodes_around root; newer_nodes = nodes_around newer_root; older_root = id_of root; newer_root = id_of newer_root }
+
+  abbrev answer_to : Option Tree → Answer
+  answer_to value = answer_value (schema_around root) as_it_is (id_of root) T (pos bounds.nesting) value
 
   -- a value that is answered by a message is a struct or null, and the replies are those at the opened root
   record HasReplied (t : Tree) (rs : List Reply) : Type 0 where
@@ -103,7 +95,7 @@ module _ (root newer_root : StructSchema) (calls : List Call) (bounds : Bounds) 
   struct_replied t segments rs o e true h = record { opens = o; are = replies_of segments _ rs _ h }
   struct_replied t segments rs o e false h = absurd (cc h)
 
-  replied_at : (t : Tree) (segments : Segments) (rs : List Reply) → written segments rs ≡ answer_to root calls (pos bounds.nesting) (Some t) → HasReplied t rs
+  replied_at : (t : Tree) (segments : Segments) (rs : List Reply) → written segments rs ≡ answer_to (Some t) → HasReplied t rs
   replied_at null segments rs e = struct_replied null segments rs tt _ _ e
   replied_at (structure w n ts) segments rs e = struct_replied (structure w n ts) segments rs tt _ _ e
   replied_at (capability i) segments rs e = absurd (cc e)
@@ -113,22 +105,21 @@ module _ (root newer_root : StructSchema) (calls : List Call) (bounds : Bounds) 
 
   module _ (records : Records) (same_replies : Replies) (accepted : IsAccepted (nodes_around root)) (newer_accepted : IsAccepted (nodes_around newer_root))
       (no_group : (schema_around root).is_group (id_of root) ≡ false) (given : AreGiven T) (may : MayRun root newer_root calls) where
-    can_run : (t : Tree) → IsWhole t → IsStart (nodes_around newer_root) (id_of newer_root) T t → CanRun versions (going T) (opened_root (schema_around root) (id_of root) t)
+    can_run : (t : Tree) → IsWhole t → IsStart (nodes_around newer_root) (id_of newer_root) T t → CanRun versions T (opened_root (schema_around root) (id_of root) t)
     can_run t whole start = record {
       versions = record { older_accepted = accepted; newer_accepted = newer_accepted; compatible = may.compatible };
       admitted = admitted_calls root newer_root (map call_view calls) may.admitted;
-      whole_verbs = going-all (λ c. IsWholeVerb c.verb) T (whole_calls root calls given);
+      whole_verbs = whole_calls calls given;
       whole = opened_whole (schema_around root) (id_of root) t whole;
-      start = going-start (nodes_around newer_root) (id_of newer_root) T (opened_root (schema_around root) (id_of root) t)
-          (opened_start (schema_around root) (id_of root) (nodes_around newer_root) (id_of newer_root) T t start);
+      start = opened_start (schema_around root) (id_of root) (nodes_around newer_root) (id_of newer_root) T t start;
     }
 
-    newer_makes : (s : Segments) (segments : Segments) (rs : List Reply) → IsAnswerBy root calls bounds s (written segments rs) → ReadsAsNewer root newer_root calls bounds s (written segments rs)
+    newer_makes : (s : Segments) (segments : Segments) (rs : List Reply) → IsAnswerBy root T bounds s (written segments rs) → ReadsAsNewer newer_root T bounds s (written segments rs)
     unfolding answer
     newer_makes s segments rs h = λ t found kinds.
         let o = schema_around root in
         let n = schema_around newer_root in
-        let had : HasReplied t rs = replied_at t segments rs (h.same ∙ ap (answer_to root calls (pos bounds.nesting)) found) in
+        let had : HasReplied t rs = replied_at t segments rs (h.same ∙ ap answer_to found) in
         let start : IsStart (nodes_around newer_root) (id_of newer_root) T t = record { accepted = newer_accepted; root = sym may.compatible.same_sort ∙ no_group; given = given; opens = had.opens; kinds = kinds } in
         let u : Tree = opened_root o (id_of root) t in
         let can = can_run t (fits-whole t (value-fits (limits_view bounds) s t found)) start in
@@ -136,17 +127,12 @@ module _ (root newer_root : StructSchema) (calls : List Call) (bounds : Bounds) 
         record {
           value = trim (edits o (id_of root) T u);
           means = h.means t found;
-          record_made =
-              ap (λ x. record_at newer_root (trim x)) (going-edits o (id_of root) T u)
-              ∙ records versions (going T) u can
-              ∙ sym (going-records n (id_of newer_root) T (record_at newer_root u))
-              ∙ ap (records_after n (id_of newer_root) T) reads;
+          record_made = records versions T u can ∙ ap (records_after n (id_of newer_root) T) reads;
           replied = subst (λ r. SameReplies T rs (record_replies n as_it_is (id_of newer_root) T r)) reads
-              (subst (λ r. SameReplies T r (record_replies n as_it_is (id_of newer_root) T (record_at newer_root u))) (sym had.are)
-              (going-replies o n as_it_is (id_of root) (id_of newer_root) T u (record_at newer_root u) (same_replies versions (going T) u as_it_is can)));
+              (subst (λ r. SameReplies T r (record_replies n as_it_is (id_of newer_root) T (record_at newer_root u))) (sym had.are) (same_replies versions T u as_it_is can));
         }
 
-    pub ReadsAsNewer-of : (s : Segments) (a : Answer) → IsAnswerBy root calls bounds s a → ReadsAsNewer root newer_root calls bounds s a
+    pub ReadsAsNewer-of : (s : Segments) (a : Answer) → IsAnswerBy root T bounds s a → ReadsAsNewer newer_root T bounds s a
     ReadsAsNewer-of s (written segments rs) h = newer_makes s segments rs h
     ReadsAsNewer-of s refused_value h = tt
     ReadsAsNewer-of s refused_root h = tt

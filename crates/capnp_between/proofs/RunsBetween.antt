@@ -1,11 +1,12 @@
 -- A run of the relay, as one between two versions.
-use Rattle.std.proofs.Common.{◌≡◌, false, List, Result, Ok, Err}
+use Rattle.std.proofs.Common.{◌≡◌, false, List, map, Result, Ok, Err}
 use Rattle.capnp_model.specs.Segments.{Segments}
 use Rattle.capnp_model.specs.Answers.{Answer}
 use Rattle.capnp_model.specs.CallRuns.{AreGiven}
 use Rattle.capnp_queries.specs.Structs.{schema_around, id_of}
 use Rattle.capnp_queries.specs.declared.structs.StructSchema.{StructSchema}
 use Rattle.capnp_calls.specs.declared.call.Call.{Call}
+use Rattle.capnp_calls.specs.CallViews.{call_view}
 use Rattle.capnp_relay.specs.declared.ends.Counts.{Counts}
 use Rattle.capnp_relay.specs.declared.ends.RelayFault.{RelayFault}
 use Rattle.capnp_relay.specs.declared.options.RelayOptions.{RelayOptions}
@@ -13,7 +14,7 @@ use Rattle.capnp_relay.specs.Messages.{IsAnswerBy}
 use Rattle.capnp_relay.specs.Relaying.{relay_work}
 use Rattle.capnp_relay.specs.Run.{Relays}
 use Rattle.capnp_relay.specs.Streams.{Streams}
-use Rattle.capnp_between.specs.Newer.{MayRun, taken_calls}
+use Rattle.capnp_between.specs.Newer.{MayRun}
 use Rattle.capnp_between.specs.Ends.{IsAnswerBetween, between_work, RelaysBetween}
 use Rattle.capnp_between.specs.declared.between.BetweenFault.{BetweenFault}
 use Rattle.capnp_between.specs.declared.between.BetweenFault.TheVariants as fault
@@ -23,8 +24,8 @@ use Rattle.capnp_between.proofs.NewerRecords.{Records, Replies, ReadsAsNewer-of}
 use Rattle.capnp_between.proofs.Answering.{relays_pausing}
 
 module _ (root newer : StructSchema) (calls : List Call) (options : RelayOptions) (records : Records) (same_replies : Replies)
-    (no_group : (schema_around root).is_group (id_of root) ≡ false) (given : AreGiven (taken_calls root calls)) (may : MayRun root newer calls) where
-  answers : (s : Segments) (a : Answer) → IsAnswerBy root calls options.bounds s a → IsAnswerBetween root newer calls options.bounds s a
+    (no_group : (schema_around root).is_group (id_of root) ≡ false) (given : AreGiven (map call_view calls)) (may : MayRun root newer calls) where
+  answers : (s : Segments) (a : Answer) → IsAnswerBy root (map call_view calls) options.bounds s a → IsAnswerBetween root newer (map call_view calls) options.bounds s a
   answers s a h = record {
     same = h;
     reads_newer = ReadsAsNewer-of root newer calls options.bounds records same_replies root.set.now.accepted newer.set.now.accepted no_group given may s a h;
@@ -32,7 +33,7 @@ module _ (root newer : StructSchema) (calls : List Call) (options : RelayOptions
 
   pub relays-between : (may_fail out_grows log_grows : Type 0) (old new : Streams) (result : Result Counts RelayFault) → RelaysPausing may_fail (relay_work root calls options out_grows log_grows) old new result → RelaysPausing may_fail (between_work root newer calls options out_grows log_grows) old new result
   relays-between may_fail out_grows log_grows old new result h =
-      relays_pausing (relay_work root calls options out_grows log_grows) (IsAnswerBetween root newer calls options.bounds) answers may_fail old new result h
+      relays_pausing (relay_work root calls options out_grows log_grows) (IsAnswerBetween root newer (map call_view calls) options.bounds) answers may_fail old new result h
 
 -- no pause fails
 module _ (root newer : StructSchema) (calls : List Call) (options : RelayOptions) (out_grows log_grows : Type 0) (old new : Streams) where

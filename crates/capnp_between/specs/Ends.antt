@@ -1,16 +1,18 @@
 -- How a relay between two versions ends.
 use Rattle.std.specs.Prelude.{⊤, Some, List, map, Result, Ok, Err}
 use Rattle.capnp_model.specs.Segments.{Segments}
+use Rattle.capnp_model.specs.Calls.{Call as ModelCall}
 use Rattle.capnp_model.specs.Answers.{Answer}
 use Rattle.capnp_queries.specs.declared.structs.StructSchema.{StructSchema}
 use Rattle.capnp_calls.specs.declared.call.Call.{Call}
 use Rattle.capnp_calls.specs.CallViews.{call_view}
-use Rattle.capnp_value.specs.declared.value.read.Bounds.{Bounds}
+use Rattle.capnp_answers.specs.Answers.{IsTooLarge}
+use Rattle.capnp_answers.specs.declared.bounds.Bounds.{Bounds}
 use Rattle.capnp_compatible.specs.Ways.{IsFirstRefused}
 use Rattle.capnp_relay.specs.declared.ends.Counts.{Counts}
 use Rattle.capnp_relay.specs.declared.ends.RelayFault.{RelayFault}
 use Rattle.capnp_relay.specs.declared.options.RelayOptions.{RelayOptions}
-use Rattle.capnp_relay.specs.Messages.{IsAnswerBy, IsTooLargeBy}
+use Rattle.capnp_relay.specs.Messages.{IsAnswerBy}
 use Rattle.capnp_relay.specs.Options.{reader_of, writer_of}
 use Rattle.capnp_relay.specs.Work.{Work, work}
 use Rattle.capnp_relay.specs.Streams.{Streams}
@@ -19,14 +21,14 @@ use Rattle.capnp_between.specs.declared.between.BetweenFault.TheVariants as faul
 use Rattle.capnp_between.specs.Newer.{AreCompatible, is_admitted_between, MayRun, ReadsAsNewer}
 
 -- The answer of the relay to a message, which also reads under the newer schema.
-pub record IsAnswerBetween (root newer : StructSchema) (calls : List Call) (bounds : Bounds) (s : Segments) (a : Answer) : Type 0 where
+pub record IsAnswerBetween (root newer : StructSchema) (calls : List ModelCall) (bounds : Bounds) (s : Segments) (a : Answer) : Type 0 where
   pub same : IsAnswerBy root calls bounds s a
-  pub reads_newer : ReadsAsNewer root newer calls bounds s a
+  pub reads_newer : ReadsAsNewer newer calls bounds s a
 
 -- The work of the relay, with such answers.
 abbrev pub between_work : StructSchema → StructSchema → List Call → RelayOptions → Type 0 → Type 0 → Work
 between_work root newer calls options out_grows log_grows =
-    work (reader_of options.input) (writer_of options.output) (Some options.bounds.words) (IsAnswerBetween root newer calls options.bounds) (IsTooLargeBy root calls options.bounds) out_grows log_grows
+    work (reader_of options.input) (writer_of options.output) (Some options.bounds.words) (IsAnswerBetween root newer (map call_view calls) options.bounds) (IsTooLarge root (map call_view calls) options.bounds) out_grows log_grows
 
 -- Why nothing is relayed: the schemas are not compatible, or they are and this call is the first that is not admitted.
 abbrev pub IsHeld : StructSchema → StructSchema → List Call → BetweenFault → Type 0

@@ -4,6 +4,7 @@ use Rattle.std.specs.List.{list_all}
 use Rattle.capnp_model.specs.Segments.{Segments, root as message_root}
 use Rattle.capnp_model.specs.Trees.{Tree}
 use Rattle.capnp_model.specs.Traversal.{tree_at}
+use Rattle.capnp_model.specs.Readings.{Record, record_of}
 use Rattle.capnp_model.specs.Calls.{Call as ModelCall}
 use Rattle.capnp_model.specs.CallRuns.{records_after, record_replies}
 use Rattle.capnp_model.specs.InKindCalls.{IsInKind}
@@ -15,9 +16,8 @@ use Rattle.capnp_queries.specs.declared.structs.StructSchema.{StructSchema}
 use Rattle.capnp_calls.specs.declared.call.Call.{Call}
 use Rattle.capnp_calls.specs.CallViews.{call_view}
 use Rattle.capnp_calls.specs.Texts.{as_it_is}
-use Rattle.capnp_calls.specs.Taken.{taken_call, record_at}
-use Rattle.capnp_value.specs.Reads.{limits_view}
-use Rattle.capnp_value.specs.declared.value.read.Bounds.{Bounds}
+use Rattle.capnp_answers.specs.Bounds.{limits_view}
+use Rattle.capnp_answers.specs.declared.bounds.Bounds.{Bounds}
 use Rattle.capnp_versions.specs.SameReplies.{SameReplies}
 
 -- The newer schema is compatible with the older, from the two roots on.
@@ -33,21 +33,20 @@ pub record MayRun (root newer : StructSchema) (calls : List Call) : Type 0 where
   pub compatible : AreCompatible root newer
   pub admitted : IsTrue (list_all (is_admitted_between root newer) (map call_view calls))
 
--- The calls as they are taken at the older root.
-abbrev pub taken_calls : StructSchema → List Call → List ModelCall
-taken_calls root calls = map (taken_call root) (map call_view calls)
+-- The record of a struct of this tree.
+abbrev pub record_at : StructSchema → Tree → Record
+record_at root t = record_of (schema_around root) (id_of root) t
 
 -- What is written means a value whose newer record is the one that the newer machine makes of the newer record of the
 -- message's value; the replies to calls other than `get` are those of the newer machine.
-pub record NewerMakes (root newer : StructSchema) (calls : List Call) (nesting : ℕ) (t : Tree) (segments : Segments) (replies : List Reply) : Type 0 where
+pub record NewerMakes (newer : StructSchema) (calls : List ModelCall) (nesting : ℕ) (t : Tree) (segments : Segments) (replies : List Reply) : Type 0 where
   pub value : Tree
   pub means : tree_at nesting segments message_root ≡ Some value
-  pub record_made : record_at newer value ≡ records_after (schema_around newer) (id_of newer) (taken_calls root calls) (record_at newer t)
-  pub replied : SameReplies (taken_calls root calls) replies (record_replies (schema_around newer) as_it_is (id_of newer) (taken_calls root calls) (record_at newer t))
+  pub record_made : record_at newer value ≡ records_after (schema_around newer) (id_of newer) calls (record_at newer t)
+  pub replied : SameReplies calls replies (record_replies (schema_around newer) as_it_is (id_of newer) calls (record_at newer t))
 
 -- So it is with the answer to a message, where the lists of the message and the calls are in kind under the newer schema.
-abbrev pub ReadsAsNewer : StructSchema → StructSchema → List Call → Bounds → Segments → Answer → Type 0
-ReadsAsNewer root newer calls bounds s (written segments replies) =
-    (t : Tree) → value_within (limits_view bounds) s ≡ Some t → IsInKind (schema_around newer) (id_of newer) (taken_calls root calls) t
-    → NewerMakes root newer calls bounds.nesting t segments replies
-ReadsAsNewer root newer calls bounds s _ = ⊤
+abbrev pub ReadsAsNewer : StructSchema → List ModelCall → Bounds → Segments → Answer → Type 0
+ReadsAsNewer newer calls bounds s (written segments replies) =
+    (t : Tree) → value_within (limits_view bounds) s ≡ Some t → IsInKind (schema_around newer) (id_of newer) calls t → NewerMakes newer calls bounds.nesting t segments replies
+ReadsAsNewer newer calls bounds s _ = ⊤

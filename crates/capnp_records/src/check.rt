@@ -67,8 +67,8 @@ fn keeps(
         8 => Ok(has_places(node)),
         9 => keeps_places(alloc, nodes, node),
         10 => Ok(has_good_defaults(node)),
-        11 => has_good_default_values(alloc, node),
-        12 => has_good_annotations(alloc, node),
+        11 => Ok(has_good_default_values(node)),
+        12 => Ok(has_good_annotations(node)),
         _ => Ok(true),
     }
 }

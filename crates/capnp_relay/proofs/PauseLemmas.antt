@@ -1,5 +1,5 @@
 -- Runs with pauses.
-use Rattle.std.proofs.Common.{◌≡◌, ℕ, List, [], ◌++◌, Result, Ok, Err, inl, inr, subst, append-nil}
+use Rattle.std.proofs.Common.{◌≡◌, ℕ, List, [], Result, Ok, Err, inl, inr, subst, append-nil}
 use Rattle.capnp_model.specs.Segments.{Segments}
 use Rattle.capnp_model.specs.Answers.{Answer}
 use Rattle.capnp_model.specs.Runs.{outputs_of, lines_of}

@@ -1,39 +1,35 @@
 -- What is written reads as the record that the calls make.
-use Rattle.std.proofs.Common.{◌≡◌, ℕ, ℤ, pos, Option, Some, None, List, Result, Ok, Err, false, map, ap, sym, ◌∙◌}
-use Rattle.std.specs.Prelude.{IfOk}
+use Rattle.std.proofs.Common.{◌≡◌, ℕ, pos, Option, Some, List, false, ap, ◌∙◌}
 use Rattle.capnp_model.specs.Segments.{Segments}
 use Rattle.capnp_model.specs.Trees.{Tree, null, capability, structure, plain_list, pointer_list, struct_list}
 use Rattle.capnp_model.specs.Trimming.{trim}
 use Rattle.capnp_model.specs.Schemas.{Node}
 use Rattle.capnp_model.specs.Readings.{record_of}
-use Rattle.capnp_model.specs.Calls.{Call as ModelCall}
+use Rattle.capnp_model.specs.Calls.{Call}
 use Rattle.capnp_model.specs.Accepted.{schema_of, IsAccepted}
 use Rattle.capnp_model.specs.NamedPaths.{IsOpen}
 use Rattle.capnp_model.specs.CallRuns.{AreGiven, IsStart, records_after}
-use Rattle.capnp_model.specs.Answers.{Answer, refused_value, refused_root, refused_depth, written, Reply, edits, opened_root, value_within}
+use Rattle.capnp_model.specs.Answers.{Answer, refused_value, refused_root, refused_depth, written, Reply, edits, opened_root, value_within, answer_value, answer, IsAnswer}
 use Rattle.capnp_queries.specs.Structs.{nodes_around, schema_around, id_of}
 use Rattle.capnp_queries.specs.declared.structs.StructSchema.{StructSchema}
-use Rattle.capnp_value.specs.Reads.{limits_view}
-use Rattle.capnp_value.specs.declared.value.read.Bounds.{Bounds}
-use Rattle.capnp_calls.specs.declared.call.Call.{Call}
-use Rattle.capnp_calls.specs.CallViews.{call_view}
-use Rattle.capnp_calls.specs.Taken.{taken_call, tree_after_all}
-use Rattle.capnp_relay.specs.Messages.{answer_to, MeansAfter, ReadsAsMade}
-
--- two facts of one result
-pub IfOk-both : {A E : Type 0} (r : Result A E) (P Q R : A → Type 0) → ((a : A) → P a → Q a → R a) → IfOk r P → IfOk r Q → IfOk r R
-IfOk-both (Ok a) P Q R f p q = f a p q
-IfOk-both (Err e) P Q R f p q = tt
+use Rattle.capnp_calls.specs.Texts.{as_it_is}
+use Rattle.capnp_answers.specs.Answers.{MeansAfter}
+use Rattle.capnp_answers.specs.Bounds.{limits_view}
+use Rattle.capnp_answers.specs.declared.bounds.Bounds.{Bounds}
+use Rattle.capnp_relay.specs.Messages.{ReadsAsMade}
 
 -- what the model's law says
 abbrev pub WrittenRecords : Type 0
 WrittenRecords =
-    (nodes : List Node) (id : ℕ) (calls : List ModelCall) (t : Tree) → IsStart nodes id calls t
+    (nodes : List Node) (id : ℕ) (calls : List Call) (t : Tree) → IsStart nodes id calls t
     → record_of (schema_of nodes) id (trim (edits (schema_of nodes) id calls (opened_root (schema_of nodes) id t))) ≡ records_after (schema_of nodes) id calls (record_of (schema_of nodes) id t)
 
 module _ (root : StructSchema) (calls : List Call) (bounds : Bounds) where
+  abbrev answer_to : Option Tree → Answer
+  answer_to value = answer_value (schema_around root) as_it_is (id_of root) calls (pos bounds.nesting) value
+
   -- a value that is answered by a message is a struct or null
-  opens_of : (t : Tree) (segments : Segments) (replies : List Reply) → written segments replies ≡ answer_to root calls (pos bounds.nesting) (Some t) → IsOpen t
+  opens_of : (t : Tree) (segments : Segments) (replies : List Reply) → written segments replies ≡ answer_to (Some t) → IsOpen t
   opens_of null segments replies e = tt
   opens_of (structure w n ts) segments replies e = tt
   opens_of (capability i) segments replies e = absurd (cc e)
@@ -41,13 +37,13 @@ module _ (root : StructSchema) (calls : List Call) (bounds : Bounds) where
   opens_of (pointer_list ts) segments replies e = absurd (cc e)
   opens_of (struct_list w p es) segments replies e = absurd (cc e)
 
-  pub ReadsAsMade-of : WrittenRecords → IsAccepted (nodes_around root) → (schema_around root).is_group (id_of root) ≡ false → AreGiven (map (taken_call root) (map call_view calls)) → (s : Segments) (a : Answer)
-      → a ≡ answer_to root calls (pos bounds.nesting) (value_within (limits_view bounds) s) → MeansAfter root calls bounds.nesting (value_within (limits_view bounds) s) a → ReadsAsMade root calls bounds s a
+  pub ReadsAsMade-of : WrittenRecords → IsAccepted (nodes_around root) → (schema_around root).is_group (id_of root) ≡ false → AreGiven calls → (s : Segments) (a : Answer)
+      → IsAnswer (schema_around root) as_it_is (id_of root) calls (limits_view bounds) s a → MeansAfter root calls bounds.nesting (value_within (limits_view bounds) s) a → ReadsAsMade root calls bounds s a
+  unfolding answer
   ReadsAsMade-of law accepted no_group given s (written segments replies) e means = λ t found kinds. (
-    trim (tree_after_all root (map call_view calls) (opened_root (schema_around root) (id_of root) t)),
+    trim (edits (schema_around root) (id_of root) calls (opened_root (schema_around root) (id_of root) t)),
     means t found,
-    law (nodes_around root) (id_of root) (map (taken_call root) (map call_view calls)) t
-        (record { accepted = accepted; root = no_group; given = given; opens = opens_of t segments replies (e ∙ ap (answer_to root calls (pos bounds.nesting)) found); kinds = kinds }),
+    law (nodes_around root) (id_of root) calls t (record { accepted = accepted; root = no_group; given = given; opens = opens_of t segments replies (e ∙ ap answer_to found); kinds = kinds }),
   )
   ReadsAsMade-of law accepted no_group given s refused_value e means = tt
   ReadsAsMade-of law accepted no_group given s refused_root e means = tt

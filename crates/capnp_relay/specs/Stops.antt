@@ -1,5 +1,5 @@
 -- What one step of a run does to its streams, and how a fault leaves them.
-use Rattle.std.specs.Prelude.{◌≡◌, ℕ, ◌+◌, ◌-◌, ◌^◌, ◌<◌, List, [], ⊤, ◌⊎◌, IfSome}
+use Rattle.std.specs.Prelude.{◌≡◌, ℕ, ◌+◌, ◌-◌, ◌^◌, ◌<◌, Bool, true, false, List, [], ⊤, ◌⊎◌, IfSome, Result, Ok, Err}
 use Rattle.std.specs.Io.KnownBytes.{IsAtEnd}
 use Rattle.capnp_model.specs.Segments.{Segments}
 use Rattle.capnp_model.specs.Messages.{spelled}
@@ -62,3 +62,9 @@ module _ (w : Work) where
       ⊎ (w.log_grows × StopsInLog (λ _. ⊤) n old new before after))
   Stops n faults.Size old new before after = StopsBefore old new before after × (new.source.failures ≡ old.source.failures)
       × ((n ≡ 2 ^ 64) ⊎ ((s : Segments) × TakesMessage w.read w.limit old.source.remaining new.source.remaining s × w.is_too_large s))
+
+  -- One step behind so many answered messages: nothing was left, one more was answered, or there was a fault.
+  abbrev pub Steps : ℕ → Streams → Streams → Counts → Counts → Result Bool Fault → Type 0
+  Steps n old new before after (Ok false) = EndsRun old new before after
+  Steps n old new before after (Ok true) = AnswersNext n old new before after
+  Steps n old new before after (Err fault) = Stops (n + 1) fault old new before after

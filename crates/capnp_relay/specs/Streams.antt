@@ -1,6 +1,5 @@
 -- What is seen of the streams of a run at one moment, and how they change.
 use Rattle.std.specs.Prelude.{◌≡◌, ℕ, ◌<◌, List, length, ◌⊎◌, IsSomeAnd}
-use Rattle.std.specs.declared.option.Option.{Option}
 use Rattle.std.specs.Io.KnownBytes.{Keeps, Appends}
 use Rattle.capnp_io.specs.Counting.{Rose}
 use Rattle.capnp_io.specs.Streams.{AppendsPart, RoomFalls}

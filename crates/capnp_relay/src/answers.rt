@@ -1,56 +1,15 @@
-//! What a message is answered by.
-ghost use Rattle.std.specs.Prelude.{◌≡◌, ◌<◌, IfOk};
+//! What answers messages.
+ghost use Rattle.std.specs.Prelude.{◌≡◌, IfOk, Err};
 ghost use Rattle.capnp_model.specs.Segments.{Segments};
 ghost use Rattle.capnp_model.specs.Answers.{Answer};
 ghost use Rattle.capnp_stream.specs.Segments.{segments_of};
-ghost use Rattle.capnp_relay.specs.Answers.{answer_view, HasFewWords, reason_name};
+ghost use Rattle.capnp_copy.specs.Memory.{AllZero};
+ghost use Rattle.capnp_answers.specs.Answers.{answer_view, StandsIn};
 
-use capnp_calls::reply::Reply;
+use capnp_answers::answer::{MessageAnswer, Want};
 use capnp_stream::segments::OwnedSegments;
+use capnp_units::sizes::Word;
 use std::alloc::Global;
-
-/// Why a message is skipped.
-#[derive(Clone, Copy, Debug, PartialEq, Eq)]
-pub(crate) enum Reason {
-    /// It has no value within the limits, or one with a capability.
-    Value,
-    /// Its root is a list.
-    Root,
-    /// The edited value is nested too deep.
-    Depth,
-}
-
-impl Reason {
-    /// The word that the log has for it.
-    pub(crate) fn name(self) -> &'static str
-        ensures { result.now ≡ reason_name self }
-    {
-        match self {
-            Reason::Value => "value",
-            Reason::Root => "root",
-            Reason::Depth => "depth",
-        }
-    }
-}
-
-/// The words of the one segment that is written, and the replies of the calls; or why there is none.
-#[derive(Debug, Drop)]
-pub(crate) enum MessageAnswer {
-    Written {
-        words: Vec<u64>,
-        replies: Vec<Reply>,
-    },
-    Refused(Reason),
-}
-
-/// Why no answer was made.
-#[derive(Clone, Copy, Debug, PartialEq, Eq)]
-pub(crate) enum Want {
-    /// A growth was refused.
-    Memory,
-    /// A size would pass its bound.
-    Size,
-}
 
 /// What answers a message.
 pub(crate) trait Answers {
@@ -60,9 +19,18 @@ pub(crate) trait Answers {
     /// Whether the message is too large to be answered.
     ghost is_too_large: { Self → Segments → Type 0 };
 
-    fn answer(&self, alloc: Global, message: &OwnedSegments) -> Result<MessageAnswer, Want>
+    /// The answer to a message; what is written stands at the front of the words. The region is all zeros, before and after.
+    fn answer(
+        &self,
+        alloc: Global,
+        message: &OwnedSegments,
+        region: &mut [u8],
+        words: &mut Vec<Word>,
+    ) -> Result<MessageAnswer, Want>
+        requires zeros { AllZero region.old }
         ensures value { IfOk result (λ a.
-            is_answer self.now (segments_of message.now) (answer_view a)) }
+            is_answer self.now (segments_of message.now) (answer_view words.new.items a)) }
+        ensures stands { IfOk result (StandsIn words.new.items) }
         ensures size { result ≡ Err Want.Size → is_too_large self.now (segments_of message.now) }
-        ensures writable { IfOk result (λ a. HasFewWords (answer_view a)) };
+        ensures zeros { region.new ≡ region.old };
 }

@@ -24,10 +24,10 @@ pub enum Fault {
     /// The log refused a line.
     #[error("log")]
     Log,
-    /// A growth was refused.
+    /// A growth was refused, by the system or since the words of one message in memory, those that calls abandon among them, would pass 2^29 - 1.
     #[error("memory")]
     Memory,
-    /// A text that is set, a message that would be written or the number of a message would pass its bound.
+    /// A call puts a text, data or list that is too long for a message, or the number of a message would pass its bound.
     #[error("size")]
     Size,
 }

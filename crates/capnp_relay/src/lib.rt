@@ -6,7 +6,6 @@ mod at_root;
 pub mod ends;
 pub mod laws;
 mod logging;
-mod message;
 pub mod options;
 pub mod pauses;
 pub mod relay;

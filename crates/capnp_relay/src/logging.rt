@@ -1,13 +1,14 @@
 //! The line of the log for a message.
-ghost use Rattle.std.specs.Prelude.{◌≡◌, ◌++◌, codes, IfOk, OnOk};
+ghost use Rattle.std.specs.Prelude.{◌≡◌, ◌++◌, List, ℕ, [], codes, decimal, OnOk};
 ghost use Rattle.std.specs.List.{flat_map};
 ghost use Rattle.capnp_model.specs.Runs.{reply_words, answer_words, line_of};
 ghost use Rattle.capnp_calls.specs.Replies.{reply_view};
-ghost use Rattle.capnp_relay.specs.Answers.{answer_view};
+ghost use Rattle.capnp_answers.specs.Answers.{answer_view, refusal_view};
 
-use crate::answers::MessageAnswer;
+use capnp_answers::answer::{MessageAnswer, Reason};
 use capnp_calls::reply::Reply;
-use std::alloc::{AllocError, Global};
+use itoa::Buffer;
+use std::alloc::AllocError;
 
 /// Appends a reply.
 fn push_reply(line: &mut Vec<u8>, reply: &Reply) -> Result<(), AllocError>
@@ -19,23 +20,6 @@ fn push_reply(line: &mut Vec<u8>, reply: &Reply) -> Result<(), AllocError>
         Reply::Refused(kind) => {
             line.extend_from_slice(b"refused ")?;
             line.extend_from_slice(kind.name().as_bytes())
-        }
-    }
-}
-
-/// Appends what the log says of an answer.
-fn push_answer(line: &mut Vec<u8>, answer: &MessageAnswer) -> Result<(), AllocError>
-    ensures { OnOk result
-        (line.new.items ≡ line.old.items ++ answer_words (answer_view answer.now)) }
-{
-    match answer {
-        MessageAnswer::Written { words: _, replies } => {
-            line.extend_from_slice(b"written")?;
-            push_replies(line, replies)
-        }
-        MessageAnswer::Refused(reason) => {
-            line.extend_from_slice(b"refused: ")?;
-            line.extend_from_slice(reason.name().as_bytes())
         }
     }
 }
@@ -53,16 +37,53 @@ fn push_replies(line: &mut Vec<u8>, replies: &[Reply]) -> Result<(), AllocError>
     Ok(())
 }
 
-/// The line of the answer to message `number`.
+/// What the log says of a message that is skipped.
+fn refusal_words(reason: Reason) -> &'static [u8]
+    ensures { result.now ≡ answer_words (refusal_view reason) }
+{
+    match reason {
+        Reason::Value => b"refused: value",
+        Reason::Root => b"refused: root",
+        Reason::Depth => b"refused: depth",
+    }
+}
+
+/// Appends what the log says of an answer.
+fn push_answer(line: &mut Vec<u8>, answer: &MessageAnswer) -> Result<(), AllocError>
+    ensures { (words : List (List ℕ)) → OnOk result
+        (line.new.items ≡ line.old.items ++ answer_words (answer_view words answer.now)) }
+{
+    match answer {
+        MessageAnswer::Written { count: _, replies } => {
+            line.extend_from_slice(b"written")?;
+            push_replies(line, replies)
+        }
+        MessageAnswer::Refused(reason) => line.extend_from_slice(refusal_words(*reason)),
+    }
+}
+
+/// Appends a number in decimal.
+fn push_number(line: &mut Vec<u8>, number: u64) -> Result<(), AllocError>
+    ensures { OnOk result (line.new.items ≡ line.old.items ++ decimal number) }
+{
+    let mut buffer = Buffer::new();
+    line.extend_from_slice(buffer.format(number).as_bytes())
+}
+
+/// Puts the line of the answer to message `number` in place of the bytes; they grow where they have no room for it.
 pub(crate) fn log_line(
-    alloc: Global,
+    line: &mut Vec<u8>,
     number: u64,
     answer: &MessageAnswer,
-) -> Result<Vec<u8>, AllocError>
-    ensures { IfOk result (λ line. line.items ≡ line_of number (answer_view answer.now)) }
+) -> Result<(), AllocError>
+    ensures { (words : List (List ℕ)) → OnOk result
+        (line.new.items ≡ line_of number (answer_view words answer.now)) }
 {
-    let mut line = format!(in alloc; "message {number} ")?.into_bytes();
-    push_answer(&mut line, answer)?;
+    line.clear();
+    line.extend_from_slice(b"message ")?;
+    push_number(line, number)?;
+    line.push(b' ')?;
+    push_answer(line, answer)?;
     line.push(b'\n')?;
-    Ok(line)
+    Ok(())
 }

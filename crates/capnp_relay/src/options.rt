@@ -2,7 +2,7 @@
 ghost use Rattle.std.specs.Prelude.{◌≡◌, ◌+◌, ◌*◌, IfOk, IfErr};
 ghost use Rattle.capnp_relay.specs.Options.{IsOf, IsRefusalOf};
 
-use capnp_value::value::Bounds;
+use capnp_answers::bounds::Bounds;
 
 /// How messages are spelled.
 #[derive(Clone, Copy, Debug, PartialEq, Eq)]

@@ -20,9 +20,9 @@ use std::alloc::Global;
 
 /// Answers each message of the source, to the end of input or the first bytes that begin with no message.
 ///
-/// A message is read within the options' limits. The calls run at its trimmed root, a null root as the empty struct, and the edited value is written as one canonical message, in the output form. A message without a value within the limits, or with a capability, is skipped as `value`, one whose root is a list as `root`, one that the calls nest too deep as `depth`. Either way the log gets one line. Where the lists of a message are in kind, what is written reads as the record that the calls make of the message's record.
+/// A message is read within the options' limits. Its trimmed value is copied into the region, the calls run there at its root, a null root as the empty struct, and what they make of it is written as one canonical message, in the output form. A message without a value within the limits, or with a capability, is skipped as `value`, one whose root is a list as `root`, one that the calls nest too deep as `depth`. Either way the log gets one line. Where the lists of a message are in kind, what is written reads as the record that the calls make of the message's record.
 ///
-/// The region has 8 bytes for each word of the word limit and 8 more; at every exit it is all zeros. `Framing`: what is left of the source begins with no message. `Source`, `Out`, `Log`: the device failed, or a slice was too short. `Memory`: a growth was refused. `Size`: a call puts a text or data of 2^29 bytes or more with its last zero, or a list of structs of 2^29 words or more, the message that would be written has 2^29 words or more, or it is message number 2^64. What was written before stands.
+/// The region has 8 bytes for each word of the word limit and 8 more; what doesn't fit into it comes from `alloc`. Whatever is in it before, it is all zeros at every exit. `Framing`: what is left of the source begins with no message. `Source`, `Out`, `Log`: the device failed, or a slice was too short. `Memory`: a growth was refused, by the system or since the words of one message in memory, those that calls abandon among them, would pass 2^29 - 1. `Size`: a call puts a text or data of 2^29 bytes or more with its last zero, or a list of structs of 2^29 words or more, or it is message number 2^64. What was written before stands.
 pub fn relay<R: BufRead, W: Write, L: Write>(
     alloc: Global,
     source: &mut R,
@@ -72,22 +72,22 @@ pub fn relay_pausing<R: BufRead, W: Write, L: Write, P: Pause<R, W, L>>(
     match (options.input, options.output) {
         (Form::Framed, Form::Framed) => {
             answer_all::<Framed, Framed, R, W, L, CallsAtRoot<'_>, P>(
-                alloc, source, out, log, &answers, limit,
+                alloc, source, out, log, &answers, limit, region,
             )
         }
         (Form::Framed, Form::Packed) => {
             answer_all::<Framed, Packed, R, W, L, CallsAtRoot<'_>, P>(
-                alloc, source, out, log, &answers, limit,
+                alloc, source, out, log, &answers, limit, region,
             )
         }
         (Form::Packed, Form::Framed) => {
             answer_all::<Packed, Framed, R, W, L, CallsAtRoot<'_>, P>(
-                alloc, source, out, log, &answers, limit,
+                alloc, source, out, log, &answers, limit, region,
             )
         }
         (Form::Packed, Form::Packed) => {
             answer_all::<Packed, Packed, R, W, L, CallsAtRoot<'_>, P>(
-                alloc, source, out, log, &answers, limit,
+                alloc, source, out, log, &answers, limit, region,
             )
         }
     }

@@ -1,5 +1,6 @@
 //! The loop of the relay.
-ghost use Rattle.std.specs.Prelude.{Some};
+ghost use Rattle.std.specs.Prelude.{◌≡◌};
+ghost use Rattle.capnp_copy.specs.Memory.{AllZero};
 ghost use Rattle.capnp_relay.specs.Streams.{streams_of};
 ghost use Rattle.capnp_relay.specs.Work.{work_by};
 ghost use Rattle.capnp_relay.specs.Pauses.{RelaysPausing};
@@ -7,13 +8,12 @@ ghost use Rattle.capnp_relay.specs.Pauses.{RelaysPausing};
 use crate::answers::Answers;
 use crate::ends::{Counts, RelayFault};
 use crate::pauses::Pause;
-use crate::step::step;
+use crate::step::{Buffers, step};
 use capnp_stream::forms::MessageForm;
 use capnp_stream::traits::{BufRead, Read, Write};
 use std::alloc::Global;
 
-/// Answers each message of the source in turn, in one form: a message in the other for each written answer, and a line for each.
-/// Before each read there is a pause.
+/// Answers each message of the source in turn, in one form: a message in the other for each written answer, and a line for each. Before each read there is a pause. The region is all zeros, before and after.
 pub(crate) fn answer_all<
     I: MessageForm,
     O: MessageForm,
@@ -29,12 +29,16 @@ pub(crate) fn answer_all<
     log: &mut L,
     answers: &A,
     limit: usize,
+    region: &mut [u8],
 ) -> Result<Counts, RelayFault>
-    ensures { let seen = streams_of ⟦<R as Read>⟧ ⟦<W as Write>⟧ ⟦<L as Write>⟧ in
-        RelaysPausing P.may_fail (work_by ⟦<A as Answers>⟧ answers.now I.reader O.writer limit W.may_grow
-        L.may_grow)
-        (seen source.old out.old log.old) (seen source.new out.new log.new) result }
+    requires zeros { AllZero region.old }
+    ensures run { let seen = streams_of ⟦<R as Read>⟧ ⟦<W as Write>⟧ ⟦<L as Write>⟧ in
+        RelaysPausing P.may_fail (work_by ⟦<A as Answers>⟧ answers.now I.reader O.writer limit
+        W.may_grow L.may_grow) (seen source.old out.old log.old)
+        (seen source.new out.new log.new) result }
+    ensures zeros { region.new ≡ region.old }
 {
+    let mut buffers = Buffers::new(alloc);
     let mut counts = Counts {
         written: 0,
         refused: 0,
@@ -52,6 +56,8 @@ pub(crate) fn answer_all<
             log,
             answers,
             limit,
+            region,
+            &mut buffers,
             answered,
             &mut counts,
         ) {

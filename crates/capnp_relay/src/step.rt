@@ -1,19 +1,25 @@
 //! One message of a run.
-ghost use Rattle.std.specs.Prelude.{◌≡◌, ◌≢◌, true, false, List, ◌+◌, ◌-◌, ◌*◌, ◌^◌, ◌<◌, ◌⊎◌, Some, IfOk, IfErr, OnOk, length};
+ghost use Rattle.std.specs.Prelude.{◌≡◌, ◌≢◌, List, ◌+◌, ◌-◌, ◌^◌, ◌<◌, ◌≤◌, ◌⊎◌, IfOk, IfErr, OnOk, Err, length};
 ghost use Rattle.capnp_units.specs.declared.kinds.ErrorKind.{ErrorKind};
 ghost use Rattle.capnp_model.specs.Segments.{Segments};
 ghost use Rattle.capnp_model.specs.Messages.{spelled};
 ghost use Rattle.capnp_model.specs.Answers.{Reply as ModelReply, written};
 ghost use Rattle.capnp_model.specs.Runs.{line_of, output_of};
+ghost use Rattle.capnp_copy.specs.Memory.{AllZero};
+ghost use Rattle.capnp_canonical.specs.Writes.{filled};
 ghost use Rattle.capnp_stream.specs.Segments.{whole_words, segments_of};
-ghost use Rattle.capnp_relay.specs.Answers.{answer_view, HasFewWords, HoldsSegment, written_one, refused_one};
+ghost use Rattle.capnp_stream.specs.Writing.{IsSegment};
+ghost use Rattle.capnp_answers.specs.Answers.{answer_view, StandsIn};
+ghost use Rattle.capnp_relay.specs.Answers.{written_one, refused_one};
 ghost use Rattle.capnp_relay.specs.Streams.{SinkTakes, sink_of, streams_of};
 ghost use Rattle.capnp_relay.specs.Work.{work_by};
-ghost use Rattle.capnp_relay.specs.Stops.{EndsRun, AnswersNext, Stops, SinkRefused};
+ghost use Rattle.capnp_relay.specs.Stops.{Steps, SinkRefused};
 
-use crate::answers::{Answers, MessageAnswer, Want};
+use crate::answers::Answers;
 use crate::ends::{Counts, Fault};
 use crate::logging::log_line;
+use capnp_answers::answer::{MessageAnswer, Want};
+use capnp_canonical::laws::segments_of_words;
 use capnp_stream::forms::MessageForm;
 use capnp_stream::frames::try_read_message_in;
 use capnp_stream::segments::OwnedSegments;
@@ -21,73 +27,59 @@ use capnp_stream::traits::{BufRead, Read, Write};
 use capnp_stream::writing::write_segment_in;
 use capnp_units::errors::Error;
 use capnp_units::kinds::ErrorKind;
-use std::alloc::{AllocError, Global};
+use capnp_units::sizes::{Word, words_as_bytes};
+use std::alloc::Global;
 
-/// The bytes of words.
-fn bytes_of(alloc: Global, words: &[u64]) -> Result<Vec<u8>, AllocError>
-    ensures { IfOk result (λ bytes.
-        (whole_words bytes.items ≡ words.now) × (length bytes.items ≡ 8 * length words.now)) }
-{
-    let mut bytes = Vec::new(alloc);
-    for word in words {
-        bytes.extend_from_slice(&word.to_le_bytes())?;
-    }
-    Ok(bytes)
-}
-
-/// The bytes of the segment that is written, none where none is.
-fn segment_of(alloc: Global, answer: &MessageAnswer) -> Result<Vec<u8>, AllocError>
-    requires few { HasFewWords (answer_view answer.now) }
-    ensures { IfOk result (λ bytes. HoldsSegment (answer_view answer.now) bytes.items) }
-{
-    match answer {
-        MessageAnswer::Written { words, replies: _ } => bytes_of(alloc, words),
-        MessageAnswer::Refused(_) => Ok(Vec::new(alloc)),
-    }
-}
-
-/// An answer, with the bytes of the segment and of the line that are written of it.
+/// Buffers that are kept from message to message: they grow only where a message wants more of them than those before.
 #[derive(Drop)]
-pub(crate) struct Prepared {
-    answer: MessageAnswer,
-    segment: Vec<u8>,
+pub(crate) struct Buffers {
+    /// What is written of an answer stands at the front.
+    words: Vec<Word>,
+    /// The line of the log.
     line: Vec<u8>,
 }
 
-/// The answer to a message, of which `answered` came before.
+impl Buffers {
+    /// No words and no line.
+    pub(crate) fn new(alloc: Global) -> Buffers {
+        Buffers {
+            words: Vec::new(alloc),
+            line: Vec::new(alloc),
+        }
+    }
+}
+
+/// The answer to a message, of which `answered` came before. Its words and its line stand in the buffers.
 fn prepare<A: Answers>(
     alloc: Global,
     answers: &A,
     answered: u64,
     message: &OwnedSegments,
-) -> Result<Prepared, Fault>
+    region: &mut [u8],
+    buffers: &mut Buffers,
+) -> Result<MessageAnswer, Fault>
+    requires zeros { AllZero region.old }
     ensures room { OnOk result (answered < 2 ^ 64 - 1) }
-    ensures answer { IfOk result (λ p.
-        A.is_answer answers.now (segments_of message.now) (answer_view p.answer)) }
-    ensures segment { IfOk result (λ p. HoldsSegment (answer_view p.answer) p.segment.items) }
-    ensures line { IfOk result (λ p. p.line.items ≡ line_of (answered + 1) (answer_view p.answer)) }
+    ensures answer { IfOk result (λ a. A.is_answer answers.now (segments_of message.now)
+        (answer_view buffers.new.words.items a)) }
+    ensures stands { IfOk result (StandsIn buffers.new.words.items) }
+    ensures line { IfOk result (λ a. buffers.new.line.items
+        ≡ line_of (answered + 1) (answer_view buffers.new.words.items a)) }
     ensures err { IfErr result (λ f. (f ≡ Fault.Memory) ⊎ (f ≡ Fault.Size)) }
     ensures size { result ≡ Err Fault.Size → (answered ≡ 2 ^ 64 - 1)
         ⊎ A.is_too_large answers.now (segments_of message.now) }
+    ensures zeros { region.new ≡ region.old }
 {
     if answered == u64::MAX {
         return Err(Fault::Size);
     }
-    let answer = match answers.answer(alloc, message) {
+    let answer = match answers.answer(alloc, message, region, &mut buffers.words) {
         Ok(answer) => answer,
         Err(Want::Memory) => return Err(Fault::Memory),
         Err(Want::Size) => return Err(Fault::Size),
     };
-    let segment = match segment_of(alloc, &answer) {
-        Ok(segment) => segment,
-        Err(_) => return Err(Fault::Memory),
-    };
-    match log_line(alloc, answered + 1, &answer) {
-        Ok(line) => Ok(Prepared {
-            answer,
-            segment,
-            line,
-        }),
+    match log_line(&mut buffers.line, answered + 1, &answer) {
+        Ok(()) => Ok(answer),
         Err(_) => Err(Fault::Memory),
     }
 }
@@ -117,30 +109,39 @@ fn sink_fault(e: Error, sink: Fault) -> Fault
     }
 }
 
-/// Writes a written answer as one message, and counts it.
+/// The first words, so many, as the bytes of a segment.
+fn segment_of(words: &[Word], count: usize) -> &[u8]
+    requires there { count ≤ length words.now }
+    requires few { count < 2 ^ 29 }
+    ensures words { whole_words result.now ≡ filled count words.now }
+    ensures segment { IsSegment result.now }
+{
+    let front = &words[..count];
+    segments_of_words(front);
+    words_as_bytes(front)
+}
+
+/// Writes a written answer, whose words stand at the front of these, as one message, and counts it.
 fn put_out<O: MessageForm, W: Write>(
     out: &mut W,
     answer: &MessageAnswer,
-    segment: &[u8],
+    words: &[Word],
     counts: &mut Counts,
 ) -> Result<(), Fault>
-    requires holds { HoldsSegment (answer_view answer.now) segment.now }
+    requires stands { StandsIn words.now answer.now }
     requires room { counts.old.written < 2 ^ 64 - 1 }
-    ensures ok { let sink = sink_of ⟦<W as Write>⟧ in OnOk result
-        (SinkTakes (sink out.old) (sink out.new) (output_of O.writer (answer_view answer.now))
-        × (counts.new.written ≡ counts.old.written + written_one (answer_view answer.now))) }
+    ensures ok { let sink = sink_of ⟦<W as Write>⟧ in let a = answer_view words.now answer.now in
+        OnOk result (SinkTakes (sink out.old) (sink out.new) (output_of O.writer a)
+        × (counts.new.written ≡ counts.old.written + written_one a)) }
     ensures refused { counts.new.refused ≡ counts.old.refused }
     ensures err { let sink = sink_of ⟦<W as Write>⟧ in IfErr result (λ f.
         (segments : Segments) × (replies : List ModelReply)
-        × (answer_view answer.now ≡ written segments replies)
+        × (answer_view words.now answer.now ≡ written segments replies)
         × SinkRefused Fault.Out W.may_grow f (sink out.old) (sink out.new)
         (spelled O.writer segments) × (counts.new ≡ counts.old)) }
 {
-    if let MessageAnswer::Written {
-        words: _,
-        replies: _,
-    } = answer
-    {
+    if let MessageAnswer::Written { count, replies: _ } = answer {
+        let segment = segment_of(words, *count);
         if let Err(e) = write_segment_in::<O, W>(out, segment) {
             return Err(sink_fault(e, Fault::Out));
         }
@@ -149,23 +150,24 @@ fn put_out<O: MessageForm, W: Write>(
     Ok(())
 }
 
-/// Writes the line of an answer, and counts a refusal.
+/// Writes the line of an answer, which stands in the buffers, and counts a refusal.
 fn put_log<L: Write>(
     log: &mut L,
     answer: &MessageAnswer,
-    line: &[u8],
+    buffers: &Buffers,
     counts: &mut Counts,
 ) -> Result<(), Fault>
     requires room { counts.old.refused < 2 ^ 64 - 1 }
     ensures ok { let sink = sink_of ⟦<L as Write>⟧ in OnOk result
-        (SinkTakes (sink log.old) (sink log.new) line.now
-        × (counts.new.refused ≡ counts.old.refused + refused_one (answer_view answer.now))) }
+        (SinkTakes (sink log.old) (sink log.new) buffers.now.line.items
+        × (counts.new.refused ≡ counts.old.refused
+        + refused_one (answer_view buffers.now.words.items answer.now))) }
     ensures written { counts.new.written ≡ counts.old.written }
     ensures err { let sink = sink_of ⟦<L as Write>⟧ in IfErr result (λ f.
-        SinkRefused Fault.Log L.may_grow f (sink log.old) (sink log.new) line.now
+        SinkRefused Fault.Log L.may_grow f (sink log.old) (sink log.new) buffers.now.line.items
         × (counts.new.refused ≡ counts.old.refused)) }
 {
-    if let Err(e) = log.write_all(line) {
+    if let Err(e) = log.write_all(&buffers.line) {
         return Err(sink_fault(e, Fault::Log));
     }
     if let MessageAnswer::Refused(_) = answer {
@@ -174,7 +176,7 @@ fn put_log<L: Write>(
     Ok(())
 }
 
-/// Whether a message came; it is answered then.
+/// Whether a message came; it is answered then. The region is all zeros, before and after.
 pub(crate) fn step<I: MessageForm, O: MessageForm, R: BufRead, W: Write, L: Write, A: Answers>(
     alloc: Global,
     source: &mut R,
@@ -182,29 +184,26 @@ pub(crate) fn step<I: MessageForm, O: MessageForm, R: BufRead, W: Write, L: Writ
     log: &mut L,
     answers: &A,
     limit: usize,
+    region: &mut [u8],
+    buffers: &mut Buffers,
     answered: u64,
     counts: &mut Counts,
 ) -> Result<bool, Fault>
     requires together { counts.old.written + counts.old.refused ≡ answered }
-    ensures end { let seen = streams_of ⟦<R as Read>⟧ ⟦<W as Write>⟧ ⟦<L as Write>⟧ in
-        result ≡ Ok false → EndsRun (seen source.old out.old log.old)
-        (seen source.new out.new log.new) counts.old counts.new }
-    ensures one { let seen = streams_of ⟦<R as Read>⟧ ⟦<W as Write>⟧ ⟦<L as Write>⟧ in
-        result ≡ Ok true → AnswersNext (work_by ⟦<A as Answers>⟧ answers.now I.reader O.writer limit
-        W.may_grow L.may_grow) answered (seen source.old out.old log.old)
-        (seen source.new out.new log.new) counts.old counts.new }
-    ensures fault { let seen = streams_of ⟦<R as Read>⟧ ⟦<W as Write>⟧ ⟦<L as Write>⟧ in
-        IfErr result (λ f. Stops (work_by ⟦<A as Answers>⟧ answers.now I.reader O.writer limit
-        W.may_grow L.may_grow) (answered + 1) f (seen source.old out.old log.old)
-        (seen source.new out.new log.new) counts.old counts.new) }
+    requires zeros { AllZero region.old }
+    ensures run { let seen = streams_of ⟦<R as Read>⟧ ⟦<W as Write>⟧ ⟦<L as Write>⟧ in
+        Steps (work_by ⟦<A as Answers>⟧ answers.now I.reader O.writer limit W.may_grow L.may_grow)
+        answered (seen source.old out.old log.old) (seen source.new out.new log.new)
+        counts.old counts.new result }
+    ensures zeros { region.new ≡ region.old }
 {
     let message = match try_read_message_in::<I, R>(alloc, source, Some(limit)) {
         Ok(Some(message)) => message,
         Ok(None) => return Ok(false),
         Err(e) => return Err(source_fault(e)),
     };
-    let prepared = prepare(alloc, answers, answered, &message)?;
-    put_out::<O, W>(out, &prepared.answer, &prepared.segment, counts)?;
-    put_log(log, &prepared.answer, &prepared.line, counts)?;
+    let answer = prepare(alloc, answers, answered, &message, region, buffers)?;
+    put_out::<O, W>(out, &answer, &buffers.words, counts)?;
+    put_log(log, &answer, buffers, counts)?;
     Ok(true)
 }

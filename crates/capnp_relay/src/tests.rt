@@ -1,20 +1,20 @@
 //! Runs over streams that are whole, cut, fail or are too short.
-ghost use Rattle.std.specs.Prelude.{◌≡◌, ◌≤◌, length, ⊤};
-ghost use Rattle.capnp_units.specs.declared.kinds.ErrorKind.{ErrorKind};
+ghost use Rattle.std.specs.Prelude.{⊤};
 
-use crate::answers::{Answers, MessageAnswer, Reason, Want};
+use crate::answers::Answers;
 use crate::ends::{Counts, Fault, RelayFault};
 use crate::logging::log_line;
 use crate::pauses::NoPause;
 use crate::run::answer_all;
+use capnp_answers::answer::{MessageAnswer, Reason, Want};
 use capnp_calls::reply::Reply;
 use capnp_stream::forms::Framed;
 use capnp_stream::segments::OwnedSegments;
 use capnp_stream::traits::{BufRead, Read, Write};
 use capnp_test_streams::{Drip, Short};
-use capnp_units::errors::{Error, Result};
 use capnp_units::kinds::ErrorKind;
 use capnp_units::segments::ReaderSegments;
+use capnp_units::sizes::Word;
 use std::alloc::Global;
 use std::test::Fail;
 
@@ -24,7 +24,7 @@ fn first_word(message: &OwnedSegments) -> Option<u64> {
     Some(u64::from_le_bytes(*bytes))
 }
 
-/// Answers a message by its first word, and refuses that of a capability as value.
+/// Answers a message by its first word, which stands in the words twice, and refuses that of a capability as value.
 #[derive(Drop)]
 struct Echo;
 
@@ -37,14 +37,17 @@ impl Answers for Echo {
         &self,
         alloc: Global,
         message: &OwnedSegments,
-    ) -> std::result::Result<MessageAnswer, Want> {
+        _region: &mut [u8],
+        words: &mut Vec<Word>,
+    ) -> Result<MessageAnswer, Want> {
         let word = match first_word(message) {
             None | Some(3) => return Ok(MessageAnswer::Refused(Reason::Value)),
             Some(word) => word,
         };
-        match vec![in alloc; word; 1] {
-            Ok(words) => Ok(MessageAnswer::Written {
-                words,
+        words.clear();
+        match words.resize(2, word.to_le_bytes()) {
+            Ok(()) => Ok(MessageAnswer::Written {
+                count: 1,
                 replies: Vec::new(alloc),
             }),
             Err(_) => Err(Want::Memory),
@@ -65,7 +68,9 @@ impl Answers for Wanting {
         &self,
         _alloc: Global,
         _message: &OwnedSegments,
-    ) -> std::result::Result<MessageAnswer, Want> {
+        _region: &mut [u8],
+        _words: &mut Vec<Word>,
+    ) -> Result<MessageAnswer, Want> {
         Err(self.0)
     }
 }
@@ -84,18 +89,26 @@ fn run_framed<R: BufRead, W: Write, L: Write, A: Answers>(
     log: &mut L,
     answers: &A,
     limit: usize,
-) -> std::result::Result<Counts, RelayFault> {
-    answer_all::<Framed, Framed, R, W, L, A, NoPause>(alloc, source, out, log, answers, limit)
+) -> Result<Counts, RelayFault> {
+    answer_all::<Framed, Framed, R, W, L, A, NoPause>(
+        alloc,
+        source,
+        out,
+        log,
+        answers,
+        limit,
+        &mut [],
+    )
 }
 
 /// Why the run over these bytes ends, and what it counted.
-fn ends(alloc: Global, bytes: &[u8], limit: usize) -> std::result::Result<Counts, RelayFault> {
+fn ends(alloc: Global, bytes: &[u8], limit: usize) -> Result<Counts, RelayFault> {
     let mut out = Vec::new(alloc);
     let mut log = Vec::new(alloc);
     run_framed(alloc, &mut &*bytes, &mut out, &mut log, &Echo, limit)
 }
 
-fn fault(fault: Fault, written: u64, refused: u64) -> std::result::Result<Counts, RelayFault> {
+fn fault(fault: Fault, written: u64, refused: u64) -> Result<Counts, RelayFault> {
     Err(RelayFault {
         fault,
         counts: Counts { written, refused },
@@ -103,7 +116,7 @@ fn fault(fault: Fault, written: u64, refused: u64) -> std::result::Result<Counts
 }
 
 #[test]
-fn each_message_is_answered(rt: HostRuntime) -> std::result::Result<(), Fail> {
+fn each_message_is_answered(rt: HostRuntime) -> Result<(), Fail> {
     let alloc = rt.alloc();
     let mut out = Vec::new(alloc);
     let mut log = Vec::new(alloc);
@@ -125,7 +138,7 @@ fn each_message_is_answered(rt: HostRuntime) -> std::result::Result<(), Fail> {
 }
 
 #[test]
-fn lines_have_the_replies(rt: HostRuntime) -> std::result::Result<(), Fail> {
+fn lines_have_the_replies(rt: HostRuntime) -> Result<(), Fail> {
     let alloc = rt.alloc();
     let mut text = Vec::new(alloc);
     text.extend_from_slice(b"\"hi\"")?;
@@ -133,27 +146,22 @@ fn lines_have_the_replies(rt: HostRuntime) -> std::result::Result<(), Fail> {
     replies.push(Reply::Done)?;
     replies.push(Reply::Text(text))?;
     replies.push(Reply::Refused(ErrorKind::InactiveMember))?;
-    let answer = MessageAnswer::Written {
-        words: Vec::new(alloc),
-        replies,
-    };
+    let answer = MessageAnswer::Written { count: 0, replies };
+    let mut line = Vec::new(alloc);
+    log_line(&mut line, 10, &answer)?;
     assert_eq!(rt;
-        log_line(alloc, 10, &answer)?.as_slice(),
+        line.as_slice(),
         b"message 10 written; done; \"hi\"; refused InactiveMember\n".as_slice()
     );
-    assert_eq!(rt;
-        log_line(alloc, 1, &MessageAnswer::Refused(Reason::Root))?.as_slice(),
-        b"message 1 refused: root\n".as_slice()
-    );
-    assert_eq!(rt;
-        log_line(alloc, 1, &MessageAnswer::Refused(Reason::Depth))?.as_slice(),
-        b"message 1 refused: depth\n".as_slice()
-    );
+    log_line(&mut line, 1, &MessageAnswer::Refused(Reason::Root))?;
+    assert_eq!(rt; line.as_slice(), b"message 1 refused: root\n".as_slice());
+    log_line(&mut line, 1, &MessageAnswer::Refused(Reason::Depth))?;
+    assert_eq!(rt; line.as_slice(), b"message 1 refused: depth\n".as_slice());
     Ok(())
 }
 
 #[test]
-fn bytes_that_are_no_message_end_a_run(rt: HostRuntime) -> std::result::Result<(), Fail> {
+fn bytes_that_are_no_message_end_a_run(rt: HostRuntime) -> Result<(), Fail> {
     let alloc = rt.alloc();
     let none = Counts {
         written: 0,
@@ -188,7 +196,7 @@ fn bytes_that_are_no_message_end_a_run(rt: HostRuntime) -> std::result::Result<(
 }
 
 #[test]
-fn a_failed_read_is_no_end(rt: HostRuntime) -> std::result::Result<(), Fail> {
+fn a_failed_read_is_no_end(rt: HostRuntime) -> Result<(), Fail> {
     let alloc = rt.alloc();
     for n in 0..=TWO.len() {
         let mut out = Vec::new(alloc);
@@ -203,7 +211,7 @@ fn a_failed_read_is_no_end(rt: HostRuntime) -> std::result::Result<(), Fail> {
 }
 
 #[test]
-fn a_failed_write_ends_a_run(rt: HostRuntime) -> std::result::Result<(), Fail> {
+fn a_failed_write_ends_a_run(rt: HostRuntime) -> Result<(), Fail> {
     let alloc = rt.alloc();
     for n in 0..16 {
         let mut out = Short::new(alloc, n, false);
@@ -224,7 +232,7 @@ fn a_failed_write_ends_a_run(rt: HostRuntime) -> std::result::Result<(), Fail> {
 }
 
 #[test]
-fn other_faults_end_a_run(rt: HostRuntime) -> std::result::Result<(), Fail> {
+fn other_faults_end_a_run(rt: HostRuntime) -> Result<(), Fail> {
     let alloc = rt.alloc();
     let mut out = Short::new(alloc, 8, true);
     let mut log = Vec::new(alloc);

@@ -1,19 +1,20 @@
 -- Segments in the buffer of their message, by their numbers.
-use Rattle.std.proofs.Common.{◌≡◌, ℕ, zero, suc, ◌+◌, ◌-◌, ◌*◌, ◌<◌, ◌≤◌, List, [], ◌∷◌, get_or, true, None, Some, refl, sym, ap, subst, ◌∙◌, arith, length, take, drop, sum, length-drop}
+use Rattle.std.proofs.Common.{◌≡◌, ℕ, zero, suc, ◌+◌, ◌-◌, ◌*◌, ◌<◌, ◌≤◌, List, [], ◌∷◌, get_or, true, None, Some, refl, sym, ap, subst, ◌∙◌, arith, length, map, take, drop, sum, length-drop}
 use Rattle.std.specs.List.{slice_get, slice_range}
 use Rattle.std.specs.Option.{option_map}
 use Rattle.std.proofs.lemmas.List.{drop-drop, length-map}
 use Rattle.std.proofs.lemmas.Option.{slice_get-map, slice_get_past}
 use Rattle.std.specs.declared.option.Option.{Option}
 use Rattle.capnp_units.specs.Segments.{whole_words, words_in}
-use Rattle.capnp_model.specs.Messages.{halves, within}
+use Rattle.capnp_model.specs.Bytes.{words_in_bytes}
+use Rattle.capnp_model.specs.Messages.{halves, cut, within}
 use Rattle.capnp_model.specs.Spelling.{CanSpell}
 use Rattle.capnp_stream.specs.Ranges.{AreBytes, ranges_from}
-use Rattle.capnp_stream.specs.Flat.{table_lengths, table_bytes, frame_segments, Describes}
+use Rattle.capnp_stream.specs.Flat.{table_lengths, table_bytes, message_bytes, frame_segments, Describes}
 use Rattle.capnp_stream.specs.Writing.{AreWritable}
 use Rattle.capnp_stream.specs.declared.flat.NoAllocSegmentTableInfo.{NoAllocSegmentTableInfo}
-use Rattle.capnp_stream.proofs.WordLemmas.{AreBytes-drop, sum-cons, cut-of_joined, writable-joined}
-use Rattle.capnp_stream.proofs.SpellLemmas.{CanSpell-of_cut}
+use Rattle.capnp_stream.proofs.WordLemmas.{AreBytes-drop, sum-cons, words_in_bytes-length, cut-of_joined, writable-joined}
+use Rattle.capnp_stream.proofs.SpellLemmas.{lengths-cut, CanSpell-of_cut}
 use Rattle.capnp_stream.proofs.FlatLemmas.{table-holds}
 use Rattle.capnp_stream.proofs.TableLemmas.{table-short}
 
@@ -78,24 +79,45 @@ module _ (n : ℕ) (bytes : List ℕ) (whole : table_bytes n ≤ length bytes) w
           let end : table_bytes n + 8 * (a + b) ≡ table_bytes n + 8 * a + 8 * b = omega arith in
           slice_get-map part (ranges_from 0 ns) id ∙ ap (option_map part) range ∙ ap Some (range-behind (table_bytes n) (8 * a) (8 * (a + b)) bytes ∙ ap (slice_range bytes (table_bytes n + 8 * a)) end)
 
--- ---- segments that a table describes can be written again
+-- ---- segments that a table describes
 
-module _ (info : NoAllocSegmentTableInfo) (bytes : List ℕ) (d : Describes info bytes) (small : AreBytes bytes) where
-  pub described-spells : (limit : Option ℕ) → within (sum (table_lengths info.segments_count bytes)) limit ≡ true → CanSpell limit (words_in (frame_segments info.segments_count bytes))
-  described-spells limit kept =
-      let n = info.segments_count in
-      let ns = table_lengths n bytes in
-      let body = drop (table_bytes n) bytes in
-      let count : length ns ≡ n = table-holds n bytes (omega (arith, d.table, d.fits)) in
-      let room : 8 * sum ns ≤ length body = omega (arith, length-drop (table_bytes n) bytes, d.table, d.total, d.fits) in
-      subst (CanSpell limit) (sym (cut-of_joined body body (ranges_from 0 ns) ns refl refl room))
-      (CanSpell-of_cut limit ns body (omega (arith, count, d.count)) (omega (arith, count, d.few)) (table-short n bytes small) kept (AreBytes-drop (table_bytes n) bytes small))
+module _ (info : NoAllocSegmentTableInfo) (bytes : List ℕ) (d : Describes info bytes) where
+  lengths : List ℕ
+  lengths = table_lengths info.segments_count bytes
 
-  pub described-writable : AreWritable (frame_segments info.segments_count bytes)
-  described-writable =
-      let n = info.segments_count in
-      let ns = table_lengths n bytes in
-      let body = drop (table_bytes n) bytes in
-      let count : length ns ≡ n = table-holds n bytes (omega (arith, d.table, d.fits)) in
-      let room : 8 * sum ns ≤ length body = omega (arith, length-drop (table_bytes n) bytes, d.table, d.total, d.fits) in
-      writable-joined body body (ranges_from 0 ns) ns refl refl room (table-short n bytes small) (omega (arith, count, d.count)) (omega (arith, count, d.few))
+  behind : List ℕ
+  behind = drop (table_bytes info.segments_count) bytes
+
+  count : length lengths ≡ info.segments_count
+  unfolding lengths
+  count = table-holds info.segments_count bytes (omega (arith, d.table, d.fits))
+
+  room : 8 * sum lengths ≤ length behind
+  unfolding lengths behind
+  room = omega (arith, length-drop (table_bytes info.segments_count) bytes, d.table, d.total, d.fits)
+
+  parts : words_in (frame_segments info.segments_count bytes) ≡ cut lengths (words_in_bytes (sum lengths) behind)
+  unfolding lengths behind
+  parts = cut-of_joined behind behind (ranges_from 0 lengths) lengths refl refl room
+
+  -- they fit into the bytes
+  pub described-room : message_bytes (map length (words_in (frame_segments info.segments_count bytes))) ≤ length bytes
+  unfolding lengths behind
+  described-room =
+      let words = words_in_bytes (sum lengths) behind in
+      let sizes : map length (words_in (frame_segments info.segments_count bytes)) ≡ lengths = ap (map length) parts ∙ lengths-cut lengths words (omega (arith, words_in_bytes-length (sum lengths) behind)) in
+      let total : message_bytes (map length (words_in (frame_segments info.segments_count bytes))) ≡ message_bytes lengths = ap message_bytes sizes in
+      omega (arith, total, ap table_bytes count, d.table, d.total, d.fits)
+
+  -- they can be written again
+  module _ (small : AreBytes bytes) where
+    pub described-spells : (limit : Option ℕ) → within (sum (table_lengths info.segments_count bytes)) limit ≡ true → CanSpell limit (words_in (frame_segments info.segments_count bytes))
+    unfolding lengths behind
+    described-spells limit kept =
+        subst (CanSpell limit) (sym parts)
+        (CanSpell-of_cut limit lengths behind (omega (arith, count, d.count)) (omega (arith, count, d.few)) (table-short info.segments_count bytes small) kept (AreBytes-drop (table_bytes info.segments_count) bytes small))
+
+    pub described-writable : AreWritable (frame_segments info.segments_count bytes)
+    unfolding lengths behind
+    described-writable =
+        writable-joined behind behind (ranges_from 0 lengths) lengths refl refl room (table-short info.segments_count bytes small) (omega (arith, count, d.count)) (omega (arith, count, d.few))

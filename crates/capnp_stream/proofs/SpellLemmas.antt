@@ -29,11 +29,11 @@ cut-are : (ns ws : List ℕ) → AreWords ws → AllByRecursion AreWords (cut ns
 cut-are [] ws h = tt
 cut-are (n ∷ ns) ws h = (taken-are n ws h, cut-are ns (drop n ws) (dropped-are n ws h))
 
-length-cut : (ns ws : List ℕ) → length (cut ns ws) ≡ length ns
+pub length-cut : (ns ws : List ℕ) → length (cut ns ws) ≡ length ns
 length-cut [] ws = refl
 length-cut (n ∷ ns) ws = ap suc (length-cut ns (drop n ws))
 
-lengths-cut : (ns ws : List ℕ) → sum ns ≤ length ws → map length (cut ns ws) ≡ ns
+pub lengths-cut : (ns ws : List ℕ) → sum ns ≤ length ws → map length (cut ns ws) ≡ ns
 lengths-cut [] ws fits = refl
 lengths-cut (n ∷ ns) ws fits =
     let total = sum-cons n ns in

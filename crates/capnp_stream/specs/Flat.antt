@@ -14,6 +14,10 @@ table_lengths n bytes = take n (drop 1 (halves (whole_words bytes)))
 abbrev pub table_bytes : ℕ → ℕ
 table_bytes n = 8 * (n / 2 + 1)
 
+-- How many bytes the message of segments of these lengths has unpacked, with its table.
+abbrev pub message_bytes : List ℕ → ℕ
+message_bytes ns = table_bytes (length ns) + 8 * sum ns
+
 -- The bytes of the n segments of the message at the front of bytes.
 abbrev pub frame_segments : ℕ → List ℕ → List (List ℕ)
 frame_segments n bytes = bytes_at (drop (table_bytes n) bytes) (ranges_from 0 (table_lengths n bytes))

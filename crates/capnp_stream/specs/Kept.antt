@@ -1,22 +1,35 @@
 -- What the reader of one message into a kept buffer promises. (Encoding, "Serialization Over a Stream")
-use Rattle.std.specs.Prelude.{◌≡◌, ◌⊎◌, ℕ, ◌<◌, ⊤, List, length, IfSome, IfErr}
+use Rattle.std.specs.Prelude.{◌≡◌, ◌⊎◌, ℕ, ◌<◌, ◌≤◌, ⊤, List, length, map, IfSome, IfOk, IfErr}
+use Rattle.std.specs.Borrow.{Fml, MutBor}
+use Rattle.std.specs.Io.BufRead.{Rests}
 use Rattle.std.specs.declared.convert.AsSlice.{Ghosts}
 use Rattle.std.specs.declared.result.Result.{Result}
 use Rattle.std.specs.declared.option.Option.{Option}
 use Rattle.capnp_units.specs.declared.errors.Error.{Error}
 use Rattle.capnp_units.specs.declared.kinds.ErrorKind.{ErrorKind}
 use Rattle.capnp_units.specs.declared.kinds.ErrorKind.TheVariants.{OutOfMemory}
+use Rattle.capnp_units.specs.Segments.{words_in}
+use Rattle.capnp_model.specs.Segments.{Segments}
 use Rattle.capnp_model.specs.Messages.{Reader}
-use Rattle.capnp_stream.specs.Flat.{table_bytes}
+use Rattle.capnp_stream.specs.Flat.{table_bytes, message_bytes}
 use Rattle.capnp_stream.specs.Buffers.{found_segments}
 use Rattle.capnp_stream.specs.Lent.{HasLonger}
 use Rattle.capnp_stream.specs.Reading.{SourceSeen, TriesReading}
 use Rattle.capnp_stream.specs.declared.buffers.NoAllocBufferSegments.{NoAllocBufferSegments}
 use Rattle.capnp_stream.specs.declared.kept.MessageBuffer.{MessageBuffer}
+use Rattle.capnp_stream.specs.contracts.kept.MessageBuffer.{the_row}
 
 -- How many bytes a buffer has.
 abbrev pub buffer_len : MessageBuffer → ℕ
 buffer_len b = length b.bytes.items
+
+-- So many bytes suffice for the longest table, and for these segments with theirs.
+abbrev pub HasRoomFor : Segments → ℕ → Type 0
+HasRoomFor s size = (table_bytes 511 ≤ size) × (message_bytes (map length s) ≤ size)
+
+-- Once the segments are no longer lent the buffer has at least as many bytes as before, and room for them.
+abbrev pub RestsGrown : {T : Type 0} {g : Ghosts T ℕ} → MutBor MessageBuffer → Result (Option (NoAllocBufferSegments T g)) Error → Fml
+RestsGrown b result = Rests the_row b (λ new. (buffer_len b.now ≤ buffer_len new) × IfOk result (λ o. IfSome o (λ s. HasRoomFor (words_in (found_segments s)) (buffer_len new))))
 
 -- A message is read, whose segments a buffer lends, or none is left.
 abbrev pub TriesMessageInto : {T : Type 0} {g : Ghosts T ℕ} → Reader → (ErrorKind → Type 0) → Option ℕ → SourceSeen → Result (Option (NoAllocBufferSegments T g)) Error → SourceSeen → Type 0

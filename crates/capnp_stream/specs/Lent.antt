@@ -5,9 +5,17 @@ use Rattle.std.specs.declared.option.Option.{Option}
 use Rattle.capnp_units.specs.declared.errors.Error.{Error}
 use Rattle.capnp_units.specs.declared.kinds.ErrorKind.{ErrorKind}
 use Rattle.capnp_units.specs.declared.kinds.ErrorKind.TheVariants.{BufferNotLargeEnough, Device}
+use Rattle.capnp_units.specs.Segments.{words_in}
 use Rattle.capnp_model.specs.Messages.{Reader, within, behind_lengths, behind_first, message_at}
-use Rattle.capnp_stream.specs.Frames.{TakesWholePieces, IsFormKind}
-use Rattle.capnp_stream.specs.Flat.{table_bytes}
+use Rattle.capnp_stream.specs.Frames.{TakesMessage, TakesWholePieces, IsFormKind}
+use Rattle.capnp_stream.specs.Flat.{table_lengths, table_bytes, message_bytes, frame_segments, Describes}
+use Rattle.capnp_stream.specs.declared.flat.NoAllocSegmentTableInfo.{NoAllocSegmentTableInfo}
+
+-- A message was taken, within the limit, and stands unpacked at the front of these bytes.
+pub record HoldsMessage (read : Reader) (limit : Option ℕ) (old new : Option (List ℕ)) (bytes : List ℕ) (info : NoAllocSegmentTableInfo) : Type 0 where
+  pub described : Describes info bytes
+  pub taken : TakesMessage read limit old new (words_in (frame_segments info.segments_count bytes))
+  pub kept : within (sum (table_lengths info.segments_count bytes)) limit ≡ true
 
 -- The first word of a table stands at the front of the bytes, and says this number, which is one less than that of the segments.
 abbrev pub TellsCount : Reader → Option ℕ → List ℕ → ℕ → Type 0
@@ -19,10 +27,10 @@ abbrev pub TellsLengths : Reader → Option ℕ → List ℕ → List ℕ → Ty
 TellsLengths read limit bytes ns =
     (front rest : List ℕ) × (bytes ≡ front ++ rest) × ((more : List ℕ) → message_at read limit (front ++ more) ≡ behind_lengths read limit ns more)
 
--- The bytes begin with the table of a message within the limits of segments and words that has more bytes unpacked, with its table, than so many.
+-- The bytes begin with the table of a message within the limits of segments and words that has more bytes unpacked than so many.
 abbrev pub HasLonger : Reader → Option ℕ → ℕ → List ℕ → Type 0
 HasLonger read limit size bytes =
-    (ns : List ℕ) × TellsLengths read limit bytes ns × (within (sum ns) limit ≡ true) × (size < table_bytes (length ns) + 8 * sum ns)
+    (ns : List ℕ) × TellsLengths read limit bytes ns × (within (sum ns) limit ≡ true) × (size < message_bytes ns)
 
 -- No message has so few bytes unpacked, or the bytes begin with the table of a message within the limits of segments and words, and the table, or the table with the segments, has more bytes unpacked than so many.
 abbrev pub NeedsMore : Reader → Option ℕ → ℕ → List ℕ → Type 0

@@ -1,5 +1,6 @@
 //! Messages that are read one after the other into memory that is kept.
 ghost use Rattle.std.specs.Prelude.{◌≡◌, ℕ, List, true, ◌≤◌, ◌+◌, ◌%◌, ◌^◌, ◌<◌, ◌++◌, length, sum, IfOk, IfErr, OnOk, OnErr};
+ghost use Rattle.std.specs.Borrow.{sem};
 ghost use Rattle.std.specs.Int.{from_le_bytes, w64};
 ghost use Rattle.capnp_units.specs.declared.kinds.ErrorKind.{ErrorKind};
 ghost use Rattle.capnp_units.specs.Segments.{words_in};
@@ -7,9 +8,9 @@ ghost use Rattle.capnp_model.specs.Messages.{within};
 ghost use Rattle.capnp_io.specs.Counting.{Counts};
 ghost use Rattle.capnp_stream.specs.Frames.{TellsFault, TakesMessage, TakesStart, TakesTable, IsReadKind};
 ghost use Rattle.capnp_stream.specs.Flat.{table_lengths, frame_segments, Describes};
-ghost use Rattle.capnp_stream.specs.Lent.{IsFillKind};
+ghost use Rattle.capnp_stream.specs.Lent.{HoldsMessage, IsFillKind};
 ghost use Rattle.capnp_stream.specs.Reading.{WantsBetweenPieces, source_seen};
-ghost use Rattle.capnp_stream.specs.Kept.{buffer_len, TriesMessageInto, WantsForLonger};
+ghost use Rattle.capnp_stream.specs.Kept.{buffer_len, RestsGrown, TriesMessageInto, WantsForLonger};
 
 use crate::buffers::{NoAllocBufferSegments, NoAllocSliceSegments};
 use crate::flat::{NoAllocSegmentTableInfo, words_before};
@@ -80,12 +81,8 @@ impl MessageBuffer {
         source: &mut R,
         limit: Option<usize>,
     ) -> Result<NoAllocSegmentTableInfo>
-        ensures described { IfOk result (λ i. Describes i self.new.bytes.items) }
-        ensures message { IfOk result (λ i. TakesMessage F.reader limit (R.remaining source.old)
-            (R.remaining source.new)
-            (words_in (frame_segments i.segments_count self.new.bytes.items))) }
-        ensures kept { IfOk result (λ i.
-            within (sum (table_lengths i.segments_count self.new.bytes.items)) limit ≡ true) }
+        ensures message { IfOk result (HoldsMessage F.reader limit (R.remaining source.old)
+            (R.remaining source.new) self.new.bytes.items) }
         ensures refused { TellsFault F.reader limit (R.remaining source.old) result }
         ensures kind { IfErr result (λ e. IsReadKind F.faults e.kind) }
         ensures part { OnErr result
@@ -94,22 +91,55 @@ impl MessageBuffer {
             (R.remaining source.new) result }
         ensures longer { WantsForLonger F.reader limit (buffer_len self.old)
             (R.remaining source.old) result }
+        ensures grown { buffer_len self.old ≤ buffer_len self.new }
+        ensures room { OnOk result (LONGEST_TABLE ≤ buffer_len self.new) }
         ensures failures { Counts result (R.failures source.old) (R.failures source.new) }
     {
         self.grow_to(LONGEST_TABLE)?;
         let count = fill_any_table::<F, R>(source, &mut self.bytes, limit)?;
+        let table = 8 * (count / 2 + 1);
         let total = words_before(&self.bytes, count);
         if !is_within(total, limit) {
             return Err(Error::from(ErrorKind::MessageTooLarge));
         }
-        self.grow_to(8 * (count / 2 + 1) + 8 * total)?;
-        fill_body::<F, R>(source, &mut self.bytes, count, total)
+        self.grow_to(table + 8 * total)?;
+        let info = NoAllocSegmentTableInfo {
+            segments_count: count,
+            segment_table_length_bytes: table,
+            total_segments_length_bytes: 8 * total,
+        };
+        fill_body::<F, R>(source, &mut self.bytes, info)?;
+        Ok(info)
+    }
+
+    /// The segments of the next message in a form, or `None` where no byte is left. They lie in the buffer until the next message is read into it.
+    ///
+    /// A message of more words than the limit is refused. `OutOfMemory`: some byte is left, the buffer has fewer bytes than the longest table or than the message unpacked, and the memory for them was refused; so a buffer into which a message was read takes none for those that are no longer. After a refusal less than a message was taken, and no byte behind the first that is at fault. The buffer never shrinks.
+    pub fn try_read_message<F: MessageForm, R: BufRead>(
+        &mut self,
+        source: &mut R,
+        limit: Option<usize>,
+    ) -> Result<Option<NoAllocSliceSegments<'_>>>
+        ensures message { TriesMessageInto F.reader F.faults limit
+            (source_seen R.remaining R.failures source.old) result
+            (source_seen R.remaining R.failures source.new) }
+        ensures longer { WantsForLonger F.reader limit (buffer_len self.old)
+            (R.remaining source.old) result }
+        ensures* grown { sem 𝓛 (RestsGrown self.entry result) }
+    {
+        if is_at_end(source)? {
+            return Ok(None);
+        }
+        let info = self.fill::<F, R>(source, limit)?;
+        let bytes = self.bytes.as_slice();
+        are_bytes(bytes);
+        Ok(Some(NoAllocBufferSegments::from_segment_table_info(bytes, info)))
     }
 }
 
 /// The segments of the next message in a form, or `None` where no byte is left. They lie in the buffer until the next message is read into it.
 ///
-/// A message of more words than the limit is refused. `OutOfMemory`: some byte is left, the buffer is shorter than the longest table or than the message, and the memory for it was refused. After a refusal less than a message was taken, and no byte behind the first that is at fault.
+/// Refused as `MessageBuffer::try_read_message`.
 pub fn try_read_message_into<'a, F: MessageForm, R: BufRead>(
     source: &mut R,
     buffer: &'a mut MessageBuffer,
@@ -121,11 +151,5 @@ pub fn try_read_message_into<'a, F: MessageForm, R: BufRead>(
     ensures longer { WantsForLonger F.reader limit (buffer_len buffer.old)
         (R.remaining source.old) result }
 {
-    if is_at_end(source)? {
-        return Ok(None);
-    }
-    let info = buffer.fill::<F, R>(source, limit)?;
-    let bytes = buffer.bytes.as_slice();
-    are_bytes(bytes);
-    Ok(Some(NoAllocBufferSegments::from_segment_table_info(bytes, info)))
+    buffer.try_read_message::<F, R>(source, limit)
 }

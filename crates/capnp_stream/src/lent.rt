@@ -1,5 +1,5 @@
 //! Messages that are read into a buffer of the caller, which take no memory.
-ghost use Rattle.std.specs.Prelude.{◌≡◌, ◌≤◌, ◌+◌, ◌*◌, ◌/◌, ◌%◌, ◌^◌, ◌<◌, true, length, sum, IfOk, IfErr, OnErr};
+ghost use Rattle.std.specs.Prelude.{◌≡◌, ◌≤◌, ◌+◌, ◌*◌, ◌/◌, ◌%◌, ◌^◌, ◌<◌, true, length, sum, IfOk, IfErr, OnOk, OnErr};
 ghost use Rattle.std.specs.Int.{from_le_bytes, w64};
 ghost use Rattle.capnp_units.specs.declared.kinds.ErrorKind.{ErrorKind};
 ghost use Rattle.capnp_units.specs.Segments.{words_in};
@@ -8,7 +8,7 @@ ghost use Rattle.capnp_io.specs.Counting.{Counts};
 ghost use Rattle.capnp_stream.specs.Pieces.{IsPieceKind, is_framed_fault};
 ghost use Rattle.capnp_stream.specs.Frames.{TellsFault, TakesMessage, TakesStart, TakesTable, TakesBody, IsCut};
 ghost use Rattle.capnp_stream.specs.Flat.{table_lengths, table_bytes, frame_segments, Describes};
-ghost use Rattle.capnp_stream.specs.Lent.{TellsNeed, LacksBetweenPieces, IsFillKind};
+ghost use Rattle.capnp_stream.specs.Lent.{HoldsMessage, TellsNeed, LacksBetweenPieces, IsFillKind};
 ghost use Rattle.capnp_stream.specs.Reading.{source_seen};
 ghost use Rattle.capnp_stream.specs.Filling.{TriesFilling, FillsMessage};
 
@@ -52,36 +52,26 @@ fn fill_table<F: MessageForm, R: BufRead>(
     Ok(count)
 }
 
-/// Reads the segments behind a table of `count` segments, of `total` words together, into the buffer that begins with it and has room for them.
+/// Reads the segments that a table describes into the buffer that begins with it. The table stays.
 pub(crate) fn fill_body<F: MessageForm, R: BufRead>(
     source: &mut R,
     buffer: &mut [u8],
-    count: usize,
-    total: usize,
-) -> Result<NoAllocSegmentTableInfo>
-    requires count { count ≡ from_le_bytes w64 buffer.old % 2 ^ 32 + 1 }
-    requires few { count ≤ 511 }
-    requires total { total ≡ sum (table_lengths count buffer.old) }
-    requires fits { table_bytes count + 8 * total ≤ length buffer.old }
-    ensures described { IfOk result (λ i. Describes i buffer.new) }
-    ensures table { IfOk result
-        (λ i. table_lengths i.segments_count buffer.new ≡ table_lengths count buffer.old) }
-    ensures body { IfOk result (λ i. TakesBody F.reader (R.remaining source.old)
-        (R.remaining source.new) (table_lengths count buffer.old)
-        (words_in (frame_segments i.segments_count buffer.new))) }
-    ensures cut { IfErr result (λ e. IsCut F.reader total
+    info: NoAllocSegmentTableInfo,
+) -> Result<()>
+    requires { Describes info buffer.old }
+    ensures described { Describes info buffer.new }
+    ensures table { table_lengths info.segments_count buffer.new
+        ≡ table_lengths info.segments_count buffer.old }
+    ensures body { OnOk result (TakesBody F.reader (R.remaining source.old)
+        (R.remaining source.new) (table_lengths info.segments_count buffer.old)
+        (words_in (frame_segments info.segments_count buffer.new))) }
+    ensures cut { IfErr result (λ e. IsCut F.reader (info.total_segments_length_bytes / 8)
         (R.remaining source.old) (R.remaining source.new) e.kind) }
     ensures own { IfErr result (λ e. IsPieceKind F.faults e.kind) }
     ensures failures { Counts result (R.failures source.old) (R.failures source.new) }
 {
-    let table = 8 * (count / 2 + 1);
-    let (_, body) = buffer.split_at_mut(table);
-    fill_front::<F, R>(source, body, 8 * total)?;
-    Ok(NoAllocSegmentTableInfo {
-        segments_count: count,
-        segment_table_length_bytes: table,
-        total_segments_length_bytes: 8 * total,
-    })
+    let (_, body) = buffer.split_at_mut(info.segment_table_length_bytes);
+    fill_front::<F, R>(source, body, info.total_segments_length_bytes)
 }
 
 /// Reads the next message, its table and then its segments, into the front of a buffer.
@@ -90,11 +80,8 @@ fn fill_message<F: MessageForm, R: BufRead>(
     buffer: &mut [u8],
     limit: Option<usize>,
 ) -> Result<NoAllocSegmentTableInfo>
-    ensures described { IfOk result (λ i. Describes i buffer.new) }
-    ensures message { IfOk result (λ i. TakesMessage F.reader limit (R.remaining source.old)
-        (R.remaining source.new) (words_in (frame_segments i.segments_count buffer.new))) }
-    ensures kept { IfOk result
-        (λ i. within (sum (table_lengths i.segments_count buffer.new)) limit ≡ true) }
+    ensures message { IfOk result (HoldsMessage F.reader limit (R.remaining source.old)
+        (R.remaining source.new) buffer.new) }
     ensures refused { TellsFault F.reader limit (R.remaining source.old) result }
     ensures short { TellsNeed F.reader limit (length buffer.old) (R.remaining source.old) result }
     ensures kind { IfErr result (λ e. IsFillKind F.faults e.kind) }
@@ -113,7 +100,13 @@ fn fill_message<F: MessageForm, R: BufRead>(
     if buffer.len() - table < 8 * total {
         return Err(Error::from(ErrorKind::BufferNotLargeEnough));
     }
-    fill_body::<F, R>(source, buffer, count, total)
+    let info = NoAllocSegmentTableInfo {
+        segments_count: count,
+        segment_table_length_bytes: table,
+        total_segments_length_bytes: 8 * total,
+    };
+    fill_body::<F, R>(source, buffer, info)?;
+    Ok(info)
 }
 
 /// The segments of the next message in a form, or `None` where no byte is left. Its table and its segments lie unpacked in the buffer.

@@ -1,34 +1,27 @@
-use Rattle.std.proofs.Common.{◌≡◌, ◌*◌, ◌^◌, nat_lt, true, ◌&&◌, [], ◌∷◌, length, Some, None, option_map, sym, ◌∙◌, ap, arith}
-use Rattle.capnp_value.specs.Values.{tree_of_value}
-use Rattle.capnp_units.specs.Segments.{whole_words}
+use Rattle.std.proofs.Common.{◌*◌, ◌^◌, ◌<◌, length, sym, ◌∙◌, arith}
 use Rattle.capnp_records.specs.Segments.{wants}
-use Rattle.capnp_records.proofs.Segments.{spelled, tested, good_is, found_fits}
+use Rattle.capnp_records.proofs.Segments.{small_segment, too_many_bad, in_parts_bad, not_canonical_bad, canonical_good}
 use Rattle.capnp_records.proofs.segment.is_good_segment.Goals as goal
+use Rattle.capnp_records.proofs.segment.is_good_segment.Goals.{then-bytes-ge-TOO_MANY_BYTES-via-then-bytes-ge-TOO_MANY_BYTES, then-bytes-ge-TOO_MANY_BYTES-via-else-bytes-ge-TOO_MANY_BYTES+then-bytes-ne0}
 
-pub returns-in_default : goal.returns-in_default
-returns-in_default c =
-    let few : nat_lt (length c.args.bytes.now) (8 * 2 ^ 29) ≡ true = grind (arith, c.if-bytes-ge-TOO_MANY_BYTES.false) in
-    let nothing : option_map tree_of_value c.in_ok-value.field-0 ≡ None = ap (option_map tree_of_value) c.in_default.is in
-    sym (good_is (wants c.args.wanted) c.args.bytes.now (option_map tree_of_value c.in_ok-value.field-0) c.in_ok-value.ensures few ∙ ap (tested (wants c.args.wanted) c.args.bytes.now) nothing)
+pub returns-then-bytes-ge-TOO_MANY_BYTES : goal.returns-then-bytes-ge-TOO_MANY_BYTES
+returns-then-bytes-ge-TOO_MANY_BYTES c = elim c.then-bytes-ge-TOO_MANY_BYTES.branch [
+  | then-bytes-ge-TOO_MANY_BYTES-via-then-bytes-ge-TOO_MANY_BYTES w ↦ sym (too_many_bad (wants c.args.wanted) c.args.bytes.now (omega (arith, w.if-bytes-ge-TOO_MANY_BYTES.true)))
+  | then-bytes-ge-TOO_MANY_BYTES-via-else-bytes-ge-TOO_MANY_BYTES+then-bytes-ne0 w ↦ sym (in_parts_bad (wants c.args.wanted) c.args.bytes.now w.if-bytes-ne0.true)
+]
 
-pub is_spelled-requires-clause-fits : goal.is_spelled-requires-clause-fits
-is_spelled-requires-clause-fits c =
-    found_fits 64 (whole_words c.args.bytes.now ∷ []) (tree_of_value c.in-Some.value) (sym (ap (option_map tree_of_value) c.in-Some.is) ∙ c.in_ok-value.ensures)
+pub is_canonical-requires : goal.is_canonical-requires
+is_canonical-requires c = rw (c.new-arena.ensures.segments, c.as_slice.ensures) (small_segment c.args.bytes.now (omega (arith, c.if-bytes-ge-TOO_MANY_BYTES.false)))
 
-pub returns-in_ok-is_spelled : goal.returns-in_ok-is_spelled
-returns-in_ok-is_spelled c =
-    let few : nat_lt (length c.args.bytes.now) (8 * 2 ^ 29) ≡ true = grind (arith, c.if-bytes-ge-TOO_MANY_BYTES.false) in
-    let t = tree_of_value c.in-Some.value in
-    let some : option_map tree_of_value c.in_ok-value.field-0 ≡ Some t = ap (option_map tree_of_value) c.in-Some.is in
-    c.in_ok-is_spelled.ensures
-    ∙ ap (λ b. b && spelled c.args.bytes.now t) c.if-is_wanted.ensures
-    ∙ sym (good_is (wants c.args.wanted) c.args.bytes.now (option_map tree_of_value c.in_ok-value.field-0) c.in_ok-value.ensures few ∙ ap (tested (wants c.args.wanted) c.args.bytes.now) some)
+pub returns-then-is_canonical : goal.returns-then-is_canonical
+returns-then-is_canonical c =
+    let few : length c.args.bytes.now < 8 * 2 ^ 29 = omega (arith, c.if-bytes-ge-TOO_MANY_BYTES.false) in
+    let is = rw (c.new-arena.ensures.segments, c.as_slice.ensures) at c.is_canonical.ensures in
+    let asked = rw (c.new-arena.ensures.segments, c.as_slice.ensures) at c.is_wanted.ensures in
+    canonical_good (wants c.args.wanted) c.args.bytes.now c.is_wanted.result few c.if-bytes-ne0.false (λ i. omega (arith, c.type_inv.bytes i)) (sym is ∙ c.if-is_canonical.true) asked
 
-pub returns-else-is_wanted : goal.returns-else-is_wanted
-returns-else-is_wanted c =
-    let few : nat_lt (length c.args.bytes.now) (8 * 2 ^ 29) ≡ true = grind (arith, c.if-bytes-ge-TOO_MANY_BYTES.false) in
-    let t = tree_of_value c.in-Some.value in
-    let some : option_map tree_of_value c.in_ok-value.field-0 ≡ Some t = ap (option_map tree_of_value) c.in-Some.is in
-    c.if-is_wanted.false
-    ∙ ap (λ b. b && spelled c.args.bytes.now t) c.if-is_wanted.ensures
-    ∙ sym (good_is (wants c.args.wanted) c.args.bytes.now (option_map tree_of_value c.in_ok-value.field-0) c.in_ok-value.ensures few ∙ ap (tested (wants c.args.wanted) c.args.bytes.now) some)
+pub returns-else-is_canonical : goal.returns-else-is_canonical
+returns-else-is_canonical c =
+    let few : length c.args.bytes.now < 8 * 2 ^ 29 = omega (arith, c.if-bytes-ge-TOO_MANY_BYTES.false) in
+    let is = rw (c.new-arena.ensures.segments, c.as_slice.ensures) at c.is_canonical.ensures in
+    c.if-is_canonical.false ∙ sym (not_canonical_bad (wants c.args.wanted) c.args.bytes.now few (sym is ∙ c.if-is_canonical.false))

@@ -16,7 +16,7 @@ returns-in_ok-extend_from_slice-in-Written c =
     let f : Reply → List ℕ = λ r. h (reply_view r) in
     let items : c.extend_from_slice.new.self.items ≡ line ++ codes "written" = c.in_ok-extend_from_slice-in-Written.ensures.items in
     let all : flat_map f c.deref.result.now ≡ flat_map h (map reply_view replies) = ap (flat_map f) c.deref.ensures.value ∙ sym (flat_map-map h reply_view replies) in
-    rw c.in-Written.is (IfOk-weaker c.push_replies.result _ _ (λ _ e.
+    λ words. rw c.in-Written.is (IfOk-weaker c.push_replies.result _ _ (λ _ e.
     e ∙ ap (λ l. l ++ flat_map f c.deref.result.now) items
     ∙ append_assoc line (codes "written") (flat_map f c.deref.result.now)
     ∙ ap (λ l. line ++ (codes "written" ++ l)) all) c.push_replies.ensures)

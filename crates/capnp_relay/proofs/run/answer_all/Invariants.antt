@@ -8,6 +8,7 @@ use Rattle.capnp_relay.proofs.run.answer_all.Given as goal
 
 abbrev pub invariant-loop-fault : goal.invariant-loop-fault
 invariant-loop-fault g l = record {
+  zeros : l.region ≡ l.initial.region;
   together : l.counts.written + l.counts.refused ≡ l.answered;
   run : (messages : List Segments) × (answers : List Answer) × (length answers ≡ l.answered)
       × Answered (work g.I.MessageForm.reader g.O.MessageForm.writer (Some l.limit) (g.A.Answers.is_answer l.answers) (g.A.Answers.is_too_large l.answers) g.W.Write.may_grow g.L.Write.may_grow) messages answers
