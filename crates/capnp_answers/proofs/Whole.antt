@@ -11,12 +11,14 @@ use Rattle.capnp_model.specs.Calls.{Call}
 use Rattle.capnp_model.specs.Answers.{Answer, refused_root, answer, answer_value, answer_struct, opened_root, widened_root, value_within, edits}
 use Rattle.capnp_queries.specs.Structs.{schema_around, shape_of_struct, id_of}
 use Rattle.capnp_queries.specs.declared.structs.StructSchema.{StructSchema}
+use Rattle.capnp_calls.specs.LongLists.{LongInTurn}
 use Rattle.capnp_calls.specs.Texts.{as_it_is}
 use Rattle.capnp_canonical.specs.Writes.{filled, words_view}
 use Rattle.capnp_footprints.specs.Footprints.{Owns}
+use Rattle.capnp_run.specs.Runs.{EndsLongRoot}
 use Rattle.capnp_answers.specs.Bounds.{limits_view}
 use Rattle.capnp_answers.specs.declared.bounds.Bounds.{Bounds}
-use Rattle.capnp_answers.specs.Answers.{AnswersRoot, AnswersWords, IsAnswered, answer_view, MeansTree}
+use Rattle.capnp_answers.specs.Answers.{AnswersRoot, AnswersWords, IsAnswered, answer_view, MeansTree, LongFrom, LongFromWords, IsTooLarge}
 use Rattle.capnp_answers.specs.Reading.{ReadsValue, can_be_opened}
 use Rattle.capnp_answers.specs.declared.answer.MessageAnswer.{MessageAnswer}
 use Rattle.capnp_answers.specs.declared.answer.MessageAnswer.TheVariants as answers
@@ -40,13 +42,22 @@ length_front (suc n) (x ∷ xs) = let low = length_front n xs in omega (arith, l
 pub length_filled : (count : ℕ) (into : List (List ℕ)) → length (filled count into) ≤ count
 length_filled count into = length_front count (words_view into)
 
+-- how canonical words are owned
+abbrev pub OwnsWords : Type 0
+OwnsWords = (t : Tree) (n : ℕ) (s : Segments) (more : List ℕ) → Fits t → depth t ≤ n → length (canonical_words t) ≤ 2 ^ 29 → slice_get s 0 ≡ Some (canonical_words t ++ more) → Owns n s root t
+
+-- a value whose canonical words are the one segment
+owned_alone : OwnsWords → (levels : ℕ) (s : Segments) (words : List ℕ) (t : Tree) → s ≡ words ∷ [] → length words < 2 ^ 29 → Fits t → depth t ≤ levels → words ≡ canonical_words t → Owns (suc (2 ^ 29 + levels)) s root t
+owned_alone owned levels s words t is few fits deep same =
+    let first : slice_get s 0 ≡ Some (canonical_words t ++ []) = ap (λ x. slice_get x 0) (is ∙ ap (λ ws. ws ∷ []) same) ∙ ap (λ ws. Some ws) (sym (append-nil (canonical_words t))) in
+    owned t (suc (2 ^ 29 + levels)) s [] fits (omega (arith, deep)) (omega (arith, few, ap length same)) first
+
 module _ (schema : StructSchema) (calls : List Call) where
-  pub at_words : ((t : Tree) (n : ℕ) (s : Segments) (more : List ℕ) → Fits t → depth t ≤ n → length (canonical_words t) ≤ 2 ^ 29 → slice_get s 0 ≡ Some (canonical_words t ++ more) → Owns n s root t)
-      → (levels : ℕ) (s : Segments) (words : List ℕ) (into : List (List ℕ)) (a : MessageAnswer) → s ≡ words ∷ [] → length words < 2 ^ 29 → AnswersRoot schema calls levels s into a → AnswersWords schema calls levels words into a
-  at_words owned levels s words into a is few all t fits deep same =
-      let n : ℕ = 2 ^ 29 + levels in
-      let first : slice_get s 0 ≡ Some (canonical_words t ++ []) = ap (λ x. slice_get x 0) (is ∙ ap (λ ws. ws ∷ []) same) ∙ ap (λ ws. Some ws) (sym (append-nil (canonical_words t))) in
-      all n t (omega arith) (owned t (suc n) s [] fits (omega (arith, deep)) (omega (arith, few, ap length same)) first)
+  pub at_words : OwnsWords → (levels : ℕ) (s : Segments) (words : List ℕ) (into : List (List ℕ)) (a : MessageAnswer) → s ≡ words ∷ [] → length words < 2 ^ 29 → AnswersRoot schema calls levels s into a → AnswersWords schema calls levels words into a
+  at_words owned levels s words into a is few all t fits deep same = all (2 ^ 29 + levels) t (omega arith) (owned_alone owned levels s words t is few fits deep same)
+
+  pub long_words : OwnsWords → (levels : ℕ) (s : Segments) (words : List ℕ) → s ≡ words ∷ [] → length words < 2 ^ 29 → EndsLongRoot s schema calls → LongFromWords schema calls levels words
+  long_words owned levels s words is few long t fits deep same = long (2 ^ 29 + levels) t (omega arith) (owned_alone owned levels s words t is few fits deep same)
 
   -- ---- from a value within the bounds
 
@@ -77,6 +88,15 @@ module _ (schema : StructSchema) (calls : List Call) where
   at_list nesting (plain_list size n section) e = refl
   at_list nesting (pointer_list ts) e = refl
   at_list nesting (struct_list d k es) e = refl
+
+  long_opened : (t : Tree) → can_be_opened (trim t) ≡ true → LongInTurn schema calls (opened_root (schema_around schema) (id_of schema) t) → LongFrom schema calls (Some t)
+  unfolding trim
+  long_opened null e long = long
+  long_opened (structure words section kids) e long = long
+  long_opened (capability i) e long = absurd cc
+  long_opened (plain_list size n section) e long = absurd cc
+  long_opened (pointer_list ts) e long = absurd cc
+  long_opened (struct_list d k es) e long = absurd cc
 
   module _ (bounds : Bounds) (s : Segments) where
     answer_is : answer (schema_around schema) as_it_is (id_of schema) calls (limits_view bounds) s ≡ answer_to bounds.nesting (value_within (limits_view bounds) s)
@@ -109,3 +129,8 @@ module _ (schema : StructSchema) (calls : List Call) where
           means = λ t is. subst (λ x. MeansTree bounds.nesting (trim (edits (schema_around schema) (id_of schema) calls x)) (answer_view into a)) (sym opened ∙ ap (opened_root (schema_around schema) (id_of schema)) (one_value r.value t (sym r.within ∙ is))) made.means;
           stands = made.stands;
         }
+
+    pub too_large : (old : List (List ℕ)) (count : ℕ) → (r : ReadsValue bounds s old count) → can_be_opened (trim r.value) ≡ true → LongFromWords schema calls bounds.nesting (filled count old) → IsTooLarge schema calls bounds s
+    too_large old count r opens long =
+        let made = long (trim r.value) r.fits r.deep r.words in
+        subst (LongFrom schema calls) (sym r.within) (long_opened r.value opens (subst (LongInTurn schema calls) (sym (opened_is r.value)) made))

@@ -2,7 +2,7 @@
 use Rattle.std.proofs.Common.{◌≡◌, ℕ, suc, ◌^◌, ◌≤◌, ◌<◌, List, Ok, refl, ap, sym, ◌∙◌, subst, arith}
 use Rattle.capnp_model.specs.Segments.{Segments, Place, root}
 use Rattle.capnp_model.specs.Pointers.{Found, found_at}
-use Rattle.capnp_model.specs.Trees.{Tree, widened, depth}
+use Rattle.capnp_model.specs.Trees.{Tree, Trees, structure, widened, depth}
 use Rattle.capnp_model.specs.Schemas.{Shape, shape}
 use Rattle.capnp_model.specs.Calls.{Call}
 use Rattle.capnp_model.specs.Answers.{Reply, widened_root}
@@ -18,7 +18,8 @@ use Rattle.capnp_queries.specs.Structs.{shape_of_struct}
 use Rattle.capnp_queries.specs.declared.structs.StructSchema.{StructSchema}
 use Rattle.capnp_dynamic.specs.Inside.{words_of_shape, pointers_of_shape}
 use Rattle.capnp_footprints.specs.Totals.{words_of_segments}
-use Rattle.capnp_run.specs.Runs.{RunsAll, RunsAt, RunsRoot}
+use Rattle.capnp_calls.specs.LongLists.{LongInTurn}
+use Rattle.capnp_run.specs.Runs.{RunsAll, RunsAt, RunsRoot, EndsLongAt, EndsLongRoot}
 
 opened : (g : Shape) (t : Tree) → widened (words_of_shape g) (pointers_of_shape g) t ≡ widened_root g t
 opened (shape nid w p u fs) t = refl
@@ -33,27 +34,51 @@ pub record ValueLaws : Type 0 where
   pub replaced_at : (n m : ℕ) (s u : Segments) (p : Place) (t v : Tree) → depth t ≤ m → depth v ≤ m → Owns n s p t → Replaces n s u p v → Replaces m s u p v
   pub up : (n : ℕ) (s u : Segments) (p : Place) (f : Found) (t v : Tree) → found_at s p ≡ Ok f → Owns (suc n) s p t → ReplacesObject n s u f.object v → Replaces (suc n) s u p v
 
-pub at_root : ValueLaws → (s u v : Segments) → words_of_segments s < 2 ^ 29 → words_of_segments u < 2 ^ 29 → (schema : StructSchema) (o : StructPlace) (d k : ℕ) → d ≡ words_of_shape (shape_of_struct schema) → k ≡ pointers_of_shape (shape_of_struct schema)
-    → Widens s u root d k → LeadsTo u root (struct_at o) → (calls : List Call) (told : List Reply) → RunsAt u v o schema calls told → RunsRoot s v schema calls told
-at_root values s u v few few_later schema o d k dw kp widens leads calls told runs n t most owns =
-    let g = shape_of_struct schema in
-    let w : Tree = widened d k t in
-    let wide : w ≡ widened_root g t = ap (λ x. widened x k t) dw ∙ ap (λ x. widened (words_of_shape g) x t) kp ∙ opened g t in
-    let low = values.depths_at (suc n) s root t owns in
-    let change = widens (suc n) t owns in
-    let deeper : depth t ≤ suc (suc n) = omega (arith, low, few, most) in
-    let owned = values.after (suc (suc n)) s u root t w (values.owned_at (suc n) (suc (suc n)) s root t deeper owns) change in
-    let low' = values.depths_at (suc (suc n)) u root w owned in
-    let fits : depth t ≤ suc n = omega (arith, low, few, most) in
-    let fits' : depth w ≤ suc n = omega (arith, low', few_later, most) in
-    let changed : Replaces (suc n) s u root w = values.replaced_at (suc (suc n)) (suc n) s u root t w fits fits' (values.owned_at (suc n) (suc (suc n)) s root t deeper owns) change in
-    let now : Owns (suc n) u root w = values.after (suc n) s u root t w owns changed in
-    let found : Found = record { pads = leads.0; object = struct_at o } in
-    let object = values.down n u root found w leads.1 now in
-    let is = struct_shape n u (place_view o.start) o.data_words o.pointers w object in
-    let run = runs n is.0 is.1 most (subst (OwnsObject n u (struct_at o)) is.2 object) in
-    let lifted = values.up n u v root found w run.0 leads.1 now run.1 in (
-      run.0,
-      values.again (suc n) s u v root w run.0 changed lifted,
-      subst (λ x. RunsAll schema calls x run.0 told) (sym is.2 ∙ wide) run.2,
-    )
+-- the root's value, opened as a struct that is owned at its place
+record Opened (s u : Segments) (g : Shape) (o : StructPlace) (n : ℕ) (t : Tree) : Type 0 where
+  changed : Replaces (suc n) s u root (widened_root g t)
+  now : Owns (suc n) u root (widened_root g t)
+  section : ℕ
+  kids : Trees
+  is : widened_root g t ≡ structure o.data_words section kids
+  object : OwnsObject n u (struct_at o) (structure o.data_words section kids)
+
+module _ (values : ValueLaws) (s u : Segments) (few : words_of_segments s < 2 ^ 29) (few_later : words_of_segments u < 2 ^ 29) (schema : StructSchema) (o : StructPlace) (d k : ℕ) (dw : d ≡ words_of_shape (shape_of_struct schema)) (kp : k ≡ pointers_of_shape (shape_of_struct schema))
+    (widens : Widens s u root d k) (leads : LeadsTo u root (struct_at o)) where
+  abbrev found : Found
+  found = record { pads = leads.0; object = struct_at o }
+
+  opened_at : (n : ℕ) (t : Tree) → 2 ^ 29 ≤ n → Owns (suc n) s root t → Opened s u (shape_of_struct schema) o n t
+  opened_at n t most owns =
+      let g = shape_of_struct schema in
+      let w : Tree = widened_root g t in
+      let wide : widened d k t ≡ w = ap (λ x. widened x k t) dw ∙ ap (λ x. widened (words_of_shape g) x t) kp ∙ opened g t in
+      let low = values.depths_at (suc n) s root t owns in
+      let change = subst (Replaces (suc (suc n)) s u root) wide (widens (suc n) t owns) in
+      let deeper : depth t ≤ suc (suc n) = omega (arith, low, few, most) in
+      let more = values.owned_at (suc n) (suc (suc n)) s root t deeper owns in
+      let owned = values.after (suc (suc n)) s u root t w more change in
+      let low' = values.depths_at (suc (suc n)) u root w owned in
+      let fits : depth t ≤ suc n = omega (arith, low, few, most) in
+      let fits' : depth w ≤ suc n = omega (arith, low', few_later, most) in
+      let changed : Replaces (suc n) s u root w = values.replaced_at (suc (suc n)) (suc n) s u root t w fits fits' more change in
+      let now : Owns (suc n) u root w = values.after (suc n) s u root t w owns changed in
+      let object = values.down n u root found w leads.1 now in
+      let is = struct_shape n u (place_view o.start) o.data_words o.pointers w object in
+      record { changed = changed; now = now; section = is.0; kids = is.1; is = is.2; object = subst (OwnsObject n u (struct_at o)) is.2 object }
+
+  pub at_root : (v : Segments) (calls : List Call) (told : List Reply) → RunsAt u v o schema calls told → RunsRoot s v schema calls told
+  at_root v calls told runs n t most owns =
+      let w : Tree = widened_root (shape_of_struct schema) t in
+      let a = opened_at n t most owns in
+      let run = runs n a.section a.kids most a.object in
+      let lifted = values.up n u v root found w run.0 leads.1 a.now run.1 in (
+        run.0,
+        values.again (suc n) s u v root w run.0 a.changed lifted,
+        subst (λ x. RunsAll schema calls x run.0 told) (sym a.is) run.2,
+      )
+
+  pub long_at_root : (calls : List Call) → EndsLongAt u o schema calls → EndsLongRoot s schema calls
+  long_at_root calls long n t most owns =
+      let a = opened_at n t most owns in
+      subst (LongInTurn schema calls) (sym a.is) (long n a.section a.kids most a.object)

@@ -1,5 +1,5 @@
 -- Calls in turn at a struct that is owned.
-use Rattle.std.proofs.Common.{◌≡◌, ℕ, ◌^◌, ◌≤◌, List, [], ◌∷◌, ◌++◌, refl, ap, sym, ◌∙◌, subst, append_assoc, append-nil}
+use Rattle.std.proofs.Common.{◌≡◌, ℕ, ◌^◌, ◌≤◌, Result, Err, List, [], ◌∷◌, ◌++◌, refl, ap, sym, ◌∙◌, subst, append_assoc, append-nil}
 use Rattle.capnp_model.specs.Segments.{Segments}
 use Rattle.capnp_model.specs.Pointers.{Object}
 use Rattle.capnp_model.specs.Trees.{Tree, Trees, structure}
@@ -16,11 +16,11 @@ use Rattle.capnp_copy.specs.Structs.{struct_at}
 use Rattle.capnp_copy.specs.declared.fields.StructPlace.{StructPlace}
 use Rattle.capnp_queries.specs.Structs.{schema_around, id_of}
 use Rattle.capnp_queries.specs.declared.structs.StructSchema.{StructSchema}
-use Rattle.capnp_model.specs.CallRuns.{AreGiven}
-use Rattle.std.specs.Prelude.{map}
-use Rattle.capnp_calls.specs.Taken.{taken_call}
 use Rattle.capnp_calls.specs.Texts.{as_it_is}
-use Rattle.capnp_run.specs.Runs.{record_at, AnswersAt}
+use Rattle.capnp_calls.specs.LongLists.{PutsLong}
+use Rattle.capnp_run.specs.declared.fault.RunFault.{RunFault}
+use Rattle.capnp_run.specs.declared.fault.RunFault.TheVariants as faults
+use Rattle.capnp_run.specs.Runs.{record_at, AnswersAt, PutsLongAt, EndsLongAt}
 use Rattle.capnp_run.proofs.Levels.{After}
 
 pub edits_more : (root : StructSchema) (before : List Call) (c : Call) (t : Tree) → edits (schema_around root) (id_of root) (before ++ c ∷ []) t ≡ edit (schema_around root) (id_of root) c (edits (schema_around root) (id_of root) before t)
@@ -73,11 +73,18 @@ one_more after again s u v p root before c behind all told x so_far answers n se
       },
     )
 
+-- a call that puts a list which is too long does so at what those before it make
+pub ends_long : After → (s u : Segments) (p : StructPlace) (root : StructSchema) (before : List Call) (c : Call) (behind all : List Call) (told : List Reply)
+    → all ≡ before ++ c ∷ behind → SoFar s u p root before (c ∷ behind) all told → PutsLongAt u p root c → EndsLongAt s p root all
+ends_long after s u p root before c behind all told split so_far puts n section kids most owns =
+    let a = so_far n section kids most owns in
+    let owned = after n s u (struct_at p) (structure p.data_words section kids) (structure p.data_words a.0 a.1) owns a.2 in
+    record { before = before; call = c; behind = behind; split = split; long = subst (PutsLong root c) a.3.tree (puts n a.0 a.1 most owned) }
+
+-- the fault that ends the calls is that of the call
+pub size_kept : {X : Type 0} (r : Result X RunFault) (told fault : RunFault) → r ≡ Err told → told ≡ fault → r ≡ Err faults.Size → fault ≡ faults.Size
+size_kept r told fault is same size = cc
+
 pub none_behind : (root : StructSchema) (before all : List Call) (told : List Reply) (old new : Tree) → Reaches root before [] all told old new → told ≡ replies (schema_around root) as_it_is (id_of root) all old
 unfolding replies
 none_behind root before all told old new r = sym (append-nil told) ∙ r.replied
-
--- a call is as it is given whether or not it is taken
-pub given_plainly : (root : StructSchema) (calls : List Call) → AreGiven (map (taken_call root) calls) → AreGiven calls
-given_plainly root [] h = tt
-given_plainly root (c ∷ calls) h = (h.0, given_plainly root calls h.1)

@@ -1,3 +1,5 @@
+mod PathEnds
+mod LongPuts
 mod Standing
 mod OneCall
 mod Levels

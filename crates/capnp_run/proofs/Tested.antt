@@ -23,14 +23,15 @@ use Rattle.capnp_calls.specs.declared.reply.Reply.TheVariants as reply
 use Rattle.capnp_values.specs.Standing.{IsRecord}
 use Rattle.capnp_calls.specs.Texts.{as_it_is}
 use Rattle.capnp_calls.specs.Replies.{reply_view}
-use Rattle.capnp_calls.specs.Sizes.{IsDone}
+use Rattle.capnp_calls.specs.LongLists.{content_put}
+use Rattle.capnp_calls.specs.Sizes.{IsDone, content_len}
 use Rattle.capnp_calls.specs.Paths.{shape_outcome, shape_edit}
 use Rattle.capnp_footprints.specs.Totals.{words_of_segments}
 use Rattle.capnp_edits.specs.Written.{WritesPath}
 use Rattle.capnp_values.specs.declared.dynamic_struct.Reader.{Reader as DynamicStruct}
 use Rattle.capnp_values.specs.Sources.{struct_seen}
 use Rattle.capnp_replies.specs.Replies.{RepliesTo}
-use Rattle.capnp_run.specs.Runs.{TestsAt, AnswersAt}
+use Rattle.capnp_run.specs.Runs.{TestsAt, AnswersAt, PutsLongAt}
 use Rattle.capnp_run.proofs.Levels.{DepthLaws, After, at_levels, same_levels}
 use Rattle.capnp_run.proofs.Standing.{record_stands}
 use Rattle.capnp_run.proofs.OneCall.{told_done, outcome, outcome_is, stays, edited}
@@ -79,3 +80,8 @@ left_alone s p root c told tests other n section kids most owns =
       record { means = owns.means; changes = changes_nothing s _ },
       stays root c p.data_words cell told (tests n section kids most owns) other,
     )
+
+-- a call that is done puts what is too long
+pub puts_long : (s : Segments) (p : StructPlace) (root : StructSchema) (c : Call) → TestsAt s p root c reply_done → 2 ^ 29 ≤ content_len (content_put root c) → PutsLongAt s p root c
+puts_long s p root c tests long n section kids most owns =
+    record { is_done = told_done (schema_around root) (outcome root c p.data_words (record { section = section; kids = kids })) (tests n section kids most owns); is_long = long }

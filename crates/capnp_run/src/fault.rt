@@ -1,4 +1,5 @@
 //! Why calls in turn end early.
+ghost use Rattle.std.specs.Prelude.{◌≡◌};
 ghost use Rattle.capnp_units.specs.declared.kinds.ErrorKind.{ErrorKind};
 ghost use Rattle.capnp_run.specs.declared.fault.RunFault.{RunFault};
 

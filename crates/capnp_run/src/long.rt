@@ -151,9 +151,8 @@ fn puts_long_at(set: &SchemaSet, end: End<'_>, action: &Action) -> bool
 {
     match action {
         Action::Initn(count) => match end {
-            End::Slot(FieldPlace::Pointer { ty, .. }) | End::Value(ty) => {
-                is_long_list(set, ty, *count)
-            }
+            End::Slot(FieldPlace::Pointer { ty, .. }) => is_long_list(set, ty, *count),
+            End::Value(ty) => is_long_list(set, ty, *count),
             _ => false,
         },
         Action::Set(value) => match end {

@@ -1,4 +1,4 @@
-use Rattle.std.proofs.Common.{subst, refl}
+use Rattle.std.proofs.Common.{◌≡◌, subst, refl}
 use Rattle.capnp_model.specs.Answers.{reply_done}
 use Rattle.capnp_model.specs.Calls.{Step, Verb}
 use Rattle.std.specs.Prelude.{List}
@@ -9,12 +9,12 @@ use Rattle.capnp_calls.specs.Replies.{reply_view}
 use Rattle.capnp_edits.specs.Written.{WritesPath}
 use Rattle.capnp_run.proofs.Levels.{DepthLaws}
 use Rattle.capnp_run.specs.Runs.{TestsAt}
-use Rattle.capnp_run.proofs.Tested.{written, left_alone, other_reply}
+use Rattle.capnp_run.specs.declared.fault.RunFault.TheVariants as faults
+use Rattle.capnp_run.proofs.Tested.{written, left_alone, other_reply, puts_long}
 use Rattle.capnp_run.proofs.run.answer.Goals as goal
 
-pub returns-in_ok-write_path-in-Done-clause-answer :
-    goal.returns-in_ok-write_path-in-Done-clause-answer
-returns-in_ok-write_path-in-Done-clause-answer g c =
+pub returns-in-Ok-clause-answer : goal.returns-in-Ok-clause-answer
+returns-in-Ok-clause-answer g c =
     let seg = g.A.ReaderArena.segments in
     let s = words_in (seg c.args.arena.now) in
     let u = words_in (seg c.write_path.new.arena) in
@@ -22,7 +22,7 @@ returns-in_ok-write_path-in-Done-clause-answer g c =
     let T : Own → Type 0 = λ r. TestsAt s c.args.object c.args.schema (call_view c.args.call.now) (reply_view r) in
     let tests : TestsAt s c.args.object c.args.schema call reply_done = subst T c.in-Done.is c.in_ok-reply.ensures.replied in
     let W : List Step → Verb → Type 0 = λ path verb. WritesPath s u c.args.object c.args.schema path verb in
-    let writes = subst (W call.path) c.action.ensures.action (subst (λ path. W path (action_view c.action.result.now)) c.path.ensures c.in_ok-write_path-in-Done.ensures.writes) in
+    let writes = subst (W call.path) c.action.ensures.action (subst (λ path. W path (action_view c.action.result.now)) c.path.ensures c.in-Ok.ensures.writes) in
     let laws : DepthLaws = record { depths = c.depths_of_owned_values.ensures.objects; owned = c.changes_with_fewer_levels.ensures.object_owned; replaced = c.changes_with_fewer_levels.ensures.object_replaced } in
     written laws c.changes_of_objects.ensures.owned s u (c.requires.arena.few c.args.arena.now) (c.requires.arena.few c.write_path.new.arena) c.args.object c.args.schema call c.requires.wide tests writes
 
@@ -32,5 +32,15 @@ returns-in_default g c =
     let s = words_in (seg c.args.arena.now) in
     record {
       answer = left_alone s c.args.object c.args.schema (call_view c.args.call.now) (reply_view c.in_ok-reply.reply) c.in_ok-reply.ensures.replied (other_reply c.in_ok-reply.reply c.in_default.not-Done);
+      size = λ err. absurd (cc err);
       books = refl;
     }
+
+pub returns-in-Err-clause-size : goal.returns-in-Err-clause-size
+returns-in-Err-clause-size g c err =
+    let s = words_in (g.A.ReaderArena.segments c.args.arena.now) in
+    let call = call_view c.args.call.now in
+    let T : Own → Type 0 = λ r. TestsAt s c.args.object c.args.schema call (reply_view r) in
+    let tests : TestsAt s c.args.object c.args.schema call reply_done = subst T c.in-Done.is c.in_ok-reply.ensures.replied in
+    let is : c.fault_of.result ≡ faults.Size = cc err in
+    puts_long s c.args.object c.args.schema call tests (c.fault_of.ensures is)

@@ -1,7 +1,8 @@
-use Rattle.std.proofs.Common.{◌≡◌, ℕ, suc, ◌+◌, List, ◌∷◌, [], ◌++◌, drop, take, refl, ap, sym, subst, ◌∙◌, add-one}
+use Rattle.std.proofs.Common.{◌≡◌, ℕ, suc, ◌+◌, List, ◌∷◌, [], ◌++◌, drop, take, Err, refl, ap, sym, subst, ◌∙◌, add-one}
 use Rattle.std.specs.Prelude.{map}
 use Rattle.std.proofs.Math.Seq.{drop-cons, take-suc}
-use Rattle.std.proofs.lemmas.List.{map-append, drop_all, take_all}
+use Rattle.std.proofs.lemmas.List.{map-append, drop_all, take_all, take-append-drop}
+use Rattle.std.proofs.lemmas.Result.{err_from_is_err_and}
 use Rattle.capnp_model.specs.Calls.{Call as ModelCall}
 use Rattle.capnp_model.specs.Answers.{Reply}
 use Rattle.capnp_model.specs.Trees.{Tree, structure}
@@ -10,8 +11,10 @@ use Rattle.capnp_calls.specs.declared.call.Call.{Call}
 use Rattle.capnp_calls.specs.CallViews.{call_view}
 use Rattle.capnp_calls.specs.Replies.{reply_view}
 use Rattle.capnp_queries.specs.Structs.{nodes_around, id_of}
-use Rattle.capnp_run.specs.Runs.{record_at}
-use Rattle.capnp_run.proofs.InTurn.{SoFar, at_first, one_more, none_behind, given_plainly}
+use Rattle.capnp_run.specs.declared.fault.RunFault.{RunFault}
+use Rattle.capnp_run.specs.declared.fault.RunFault.TheVariants as faults
+use Rattle.capnp_run.specs.Runs.{record_at, PutsLongAt}
+use Rattle.capnp_run.proofs.InTurn.{SoFar, at_first, one_more, none_behind, ends_long, size_kept}
 use Rattle.capnp_run.proofs.run.run_at.Goals as goal
 
 pub loop-call-init : goal.loop-call-init
@@ -80,6 +83,29 @@ returns-clause-all g c n section kids most owns =
         tree = a.3.tree;
         fields = λ kinds.
             ap (record_at root) a.3.tree
-            ∙ c.records_after_calls.ensures.reads (nodes_around root) (id_of root) all old (record { accepted = root.set.now.accepted; root = c.roots_are_no_groups.ensures root c.requires.root; given = given_plainly root all (c.calls_are_given.ensures root calls); opens = tt; kinds = kinds });
+            ∙ c.records_after_calls.ensures.reads (nodes_around root) (id_of root) all old (record { accepted = root.set.now.accepted; root = c.roots_are_no_groups.ensures root c.requires.root; given = c.calls_are_given.ensures root calls; opens = tt; kinds = kinds });
       },
     )
+
+pub returns-in_err-answer-clause-size : goal.returns-in_err-answer-clause-size
+returns-in_err-answer-clause-size g c err =
+    let seg = g.A.ReaderArena.segments in
+    let s = words_in (seg c.args.arena.now) in
+    let u = words_in (seg c.loop-call.arena) in
+    let p = c.args.object in
+    let root = c.args.schema in
+    let calls = c.args.calls.now in
+    let all = map call_view calls in
+    let i : ℕ = c.loop-call.call-index in
+    let this : Call = c.call-item.result in
+    let behind : List Call = drop (i + 1) calls in
+    let split : drop i calls ≡ this ∷ behind =
+    drop-cons calls i this c.loop-call-test.true ∙ ap (λ x. x ∷ drop (suc i) calls) (sym c.call-item.is) ∙ ap (λ n. this ∷ drop n calls) (sym (add-one i)) in
+    let whole : calls ≡ take i calls ++ this ∷ behind = sym (take-append-drop i calls) ∙ ap (λ xs. take i calls ++ xs) split in
+    let parts : all ≡ map call_view (take i calls) ++ call_view this ∷ map call_view behind = ap (map call_view) whole ∙ map-append call_view (take i calls) (this ∷ behind) in
+    let told = map reply_view c.loop-call.replies.items in
+    let so_far : SoFar s u p root (map call_view (take i calls)) (call_view this ∷ map call_view behind) all told = subst (λ rest. SoFar s u p root (map call_view (take i calls)) rest all told) (ap (map call_view) split) c.loop-call.invariant.so_far in
+    let r = err_from_is_err_and c.from_residual.result c.from_residual.ensures.1 in
+    let is : c.in_err-answer.field-0.0 ≡ faults.Size = size_kept c.from_residual.result r.0 c.in_err-answer.field-0.0 r.1 r.2 err in
+    let long : PutsLongAt u p root (call_view this) = c.in_err-answer.ensures.size (ap (λ (f : RunFault). Err f) is) in
+    ends_long c.changes_of_objects.ensures.owned s u p root (map call_view (take i calls)) (call_view this) (map call_view behind) all told parts so_far long
