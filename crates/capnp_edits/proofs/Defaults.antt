@@ -13,7 +13,7 @@ use Rattle.capnp_calls.specs.Slots.{HasGoodDefault, IsSegment}
 use Rattle.capnp_calls.specs.Finding.{default_in}
 use Rattle.capnp_calls.proofs.FieldSlots.{kind_of_pointer, body_of_pointer}
 use Rattle.capnp_calls.proofs.ReadableSteps.{struct_default_found}
-use Rattle.capnp_edits.specs.Written.{HoldsDefault, has_inside}
+use Rattle.capnp_edits.specs.Written.{HoldsDefault, IsDefault, has_inside}
 
 segment_found : (test : Tree → Bool) (bs : List ℕ) → is_good_segment test bs ≡ true → IsSome (decode bs)
 segment_found test bs h = by (decode bs) (and_right (nat_lt (length bs) (8 * 2 ^ 29)) (elim (decode bs) as (λ (o : Option Tree). Bool) [ None ↦ false | Some t ↦ test t ]) h)
@@ -47,11 +47,14 @@ default_found interface d i h = absurd (cc i)
 default_found (struct id) d i h = struct_default_found id d h
 default_found (list ty) d i h = list_default_found ty d h
 
-module _ (f : Field) (r : FieldNode) (rec : IsFieldRecord f.parent f.index r) (n : StructNode) (holder : IsRecordOf (nodes_around f.parent) (id_of f.parent) n) (i : ℕ) (ty : Ty) (d : Option Tree) (body : option_map (λ e. e.body) (entry_of f) ≡ Some (pointer_slot i ty d)) (inside : has_inside ty ≡ true) where
-  pub said_is : (v : Option Value) → v ≡ default_in r.kind → (ws : Option (List (List ℕ))) → (IsSegment v → HoldsDefault ws (default_or_null (default_tree v))) → HoldsDefault ws (default_or_null d)
-  said_is v said ws h =
+module _ (f : Field) (r : FieldNode) (rec : IsFieldRecord f.parent f.index r) (n : StructNode) (holder : IsRecordOf (nodes_around f.parent) (id_of f.parent) n) (i : ℕ) (ty : Ty) (d : Option Tree) (body : option_map (λ e. e.body) (entry_of f) ≡ Some (pointer_slot i ty d)) where
+  pub default_is : (v : Option Value) → v ≡ default_in r.kind → IsDefault ty d v
+  default_is v said =
       let kind = kind_of_pointer f r rec n holder i ty d body in
-      let segment : IsSegment (default_in r.kind) = default_found ty (default_in r.kind) inside (record { is = kind.default; reads = kind.good }) in
       let same : Some (pointer_slot i ty (default_tree (default_in r.kind))) ≡ Some (pointer_slot i ty d) = sym (body_of_pointer f r rec n holder i ty d body) ∙ body in
       let tree : default_tree (default_in r.kind) ≡ d = cc same in
-      subst (λ x. HoldsDefault ws (default_or_null x)) tree (subst (λ x. HoldsDefault ws (default_or_null (default_tree x))) said (h (subst IsSegment (sym said) segment)))
+      subst (IsDefault ty d) (sym said) (record { good = record { is = kind.default; reads = kind.good }; value = tree })
+
+-- what its words hold
+pub words_said : (ty : Ty) (d : Option Tree) (v : Option Value) → IsDefault ty d v → has_inside ty ≡ true → (ws : Option (List (List ℕ))) → (IsSegment v → HoldsDefault ws (default_or_null (default_tree v))) → HoldsDefault ws (default_or_null d)
+words_said ty d v h inside ws holds = subst (λ x. HoldsDefault ws (default_or_null x)) h.value (holds (default_found ty v inside h.good))

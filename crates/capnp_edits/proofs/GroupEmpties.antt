@@ -1,14 +1,11 @@
 -- Empty values that are put behind pointers.
 use Rattle.std.proofs.Common.{◌≡◌, ℕ, suc, ◌+◌, true, false, Option, Some, None, Result, Ok, Err, OnOk, refl, subst, arith}
-use Rattle.std.specs.Prelude.{IfSome, IfErr, option_map, option_copied}
-use Rattle.std.specs.Option.{is_some}
-use Rattle.std.specs.Borrow.{Bor}
+use Rattle.std.specs.Prelude.{IfSome, IfErr}
 use Rattle.capnp_model.specs.Kinds.{InitnIsOnlyValidForListTextOrDataFields}
 use Rattle.capnp_model.specs.Segments.{Segments, Place}
-use Rattle.capnp_model.specs.Trees.{Tree, null, struct_list, no_elements}
+use Rattle.capnp_model.specs.Trees.{Tree, struct_list, no_elements}
 use Rattle.capnp_model.specs.Coverage.{Grows}
-use Rattle.capnp_model.specs.Accepted.{default_tree}
-use Rattle.capnp_model.specs.Schemas.{Ty, void, plain, text, blob, untyped, interface, struct, list, Schema, default_or_null}
+use Rattle.capnp_model.specs.Schemas.{Ty, void, plain, text, blob, untyped, interface, struct, list, Schema}
 use Rattle.capnp_model.specs.Calls.{object, initn_content}
 use Rattle.capnp_model.specs.Groups.{empty_tree}
 use Rattle.capnp_units.specs.Segments.{words_in}
@@ -18,8 +15,6 @@ use Rattle.capnp_footprints.specs.Changes.{Replaces}
 use Rattle.capnp_footprints.proofs.Levels.{owned_more}
 use Rattle.capnp_copy.specs.Values.{Becomes}
 use Rattle.capnp_builders.specs.Making.{ArenaState, Makes}
-use Rattle.capnp_records.specs.declared.node.Value.{Value}
-use Rattle.capnp_records.specs.NodeViews.{value_of}
 use Rattle.capnp_object.specs.declared.place.Place as code
 use Rattle.capnp_dynamic.specs.NewLists.{tree_of_new, content_of_list, ObjectNotMade}
 use Rattle.capnp_dynamic.specs.declared.initn.NewList.{NewList}
@@ -78,10 +73,6 @@ becomes_puts s u p v h n t own =
 pub made_puts : {X E : Type 0} (x : Result X E) (old new : ArenaState) (slot : code.Place) (t v : Tree) (words : ℕ) → t ≡ v → OnOk x (Makes old new slot t words) → OnOk x (PutsTree (words_in old.segments) (words_in new.segments) (place_view slot) v)
 made_puts (Ok x) old new slot t v words e h = subst (PutsTree (words_in old.segments) (words_in new.segments) (place_view slot)) e (becomes_puts (words_in old.segments) (words_in new.segments) (place_view slot) t h.becomes)
 made_puts (Err e') old new slot t v words e h = tt
-
-pub no_default : (o : Option (Bor Value)) → is_some o ≡ false → default_or_null (default_tree (option_map value_of (option_copied o))) ≡ null
-no_default None h = refl
-no_default (Some v) h = absurd (cc h)
 
 pub list_grows : {X : Type 0} (x : Result X Error) (old new : ArenaState) (segment : ℕ) (t : Tree) → OnOk x (Grows (words_in old.segments) (words_in new.segments)) → IfErr x (ObjectNotMade old new segment t) → Grows (words_in old.segments) (words_in new.segments)
 list_grows (Ok x) old new segment t h k = h

@@ -8,7 +8,7 @@ use Rattle.capnp_model.specs.Schemas.{width, PlainType, Ty, Shape, Field as Fiel
 use Rattle.capnp_model.specs.Readings.{field_bits, whole_words}
 use Rattle.capnp_model.specs.Calls.{clear, set_to, message, message_root}
 use Rattle.capnp_model.specs.Edits.{Cell, Edit, mark, put_bits, put_child, cleared, after_writes, body_writes, edit_field}
-use Rattle.capnp_model.specs.Groups.{empty_tree}
+use Rattle.capnp_model.specs.Groups.{source_tree}
 use Rattle.capnp_wire.specs.Places.{place_view}
 use Rattle.capnp_copy.specs.Structs.{SetsBits}
 use Rattle.capnp_copy.specs.declared.fields.StructPlace.{StructPlace}
@@ -27,7 +27,7 @@ use Rattle.capnp_edits.specs.GroupSets.{EditsAny, entry_turn, entry_copied, copi
 use Rattle.capnp_edits.proofs.Lifting.{edits_alike}
 use Rattle.capnp_edits.proofs.Outcomes.{edit_is}
 use Rattle.capnp_edits.proofs.GroupEdits.{any_of, any_same, any_then, then_ok, same_ok, child_ok}
-use Rattle.capnp_edits.proofs.GroupWrites.{copied_front, front_none, front_next, front_all, group_set, void_copied, plain_copied, group_copied_is, pointer_copied, null_copied, empty_copied}
+use Rattle.capnp_edits.proofs.GroupWrites.{copied_front, front_none, front_next, front_all, group_set, void_copied, plain_copied, group_copied_is, pointer_copied, null_copied, member_copied}
 
 module _ (f : Field) (r : FieldNode) (is : IsFieldRecord f.parent f.index r) (b : Body) (same : option_map (λ e. e.body) (entry_of f) ≡ Some b) (from : Cell) where
   abbrev around : Schema
@@ -76,12 +76,13 @@ module _ (f : Field) (r : FieldNode) (is : IsFieldRecord f.parent f.index r) (b 
         ∙ ap (λ x. after_writes (body_writes around x r.member (mark union r.member) from) c) (sym e) ∙ copied_is c)
         (any_of s s p (λ c. c) (edits_none s p))
 
-    pub empty_field : {E X : Type 0} (x : Result X E) (i : ℕ) (ty : Ty) (d : Option Tree) (q : Place) (k : ℕ) → b ≡ pointer_slot i ty d → r.member ≡ Some k → default_or_null d ≡ null → child from.kids i ≡ null → i < p.pointers → q ≡ after (after (place_view p.start) p.data_words) i → Edits s m p (marked f) → OnOk x (PutsTree m u q (empty_tree around ty)) → OnOk x (EditsAny s u p copied)
-    empty_field x i ty d q k e member bare empty l at h put =
-        then_ok x s m u p (marked f) (put_child i (empty_tree around ty)) copied
-        (λ c. ap (put_child i (empty_tree around ty)) (marks c ∙ ap (λ y. mark union y c) member) ∙ empty_copied around union from c i ty d k empty bare ∙ ap (λ y. after_writes (body_writes around (pointer_slot i ty d) y (mark union y) from) c) (sym member)
+    pub member_field : {E X : Type 0} (x : Result X E) (i : ℕ) (ty : Ty) (d : Option Tree) (q : Place) (k : ℕ) → b ≡ pointer_slot i ty d → r.member ≡ Some k → child from.kids i ≡ null → i < p.pointers → q ≡ after (after (place_view p.start) p.data_words) i → Edits s m p (marked f) → OnOk x (PutsTree m u q (source_tree around ty (default_or_null d) null)) → OnOk x (EditsAny s u p copied)
+    member_field x i ty d q k e member empty l at h put =
+        let t : Tree = source_tree around ty (default_or_null d) null in
+        then_ok x s m u p (marked f) (put_child i t) copied
+        (λ c. ap (put_child i t) (marks c ∙ ap (λ y. mark union y c) member) ∙ member_copied around union from c i ty d k empty ∙ ap (λ y. after_writes (body_writes around (pointer_slot i ty d) y (mark union y) from) c) (sym member)
         ∙ ap (λ y. after_writes (body_writes around y r.member (mark union r.member) from) c) (sym e) ∙ copied_is c)
-        (any_of s m p (marked f) h) (child_ok x m u p i (empty_tree around ty) q l at put)
+        (any_of s m p (marked f) h) (child_ok x m u p i t q l at put)
 
     pub group_field : {E X : Type 0} (x : Result X E) (g : StructSchema) → b ≡ group_slot (shape_of_struct g) → nodes_around g ≡ nodes_around f.parent → Edits s m p (edit_of f clear) → OnOk x (EditsAny m u p (group_copied (schema_around g) (shape_of_struct g) from)) → OnOk x (EditsAny s u p copied)
     group_field x g e nodes h k =

@@ -4,7 +4,7 @@ use Rattle.capnp_model.specs.Trees.{Tree, null, capability, structure, plain_lis
 use Rattle.capnp_model.specs.Schemas.{width, PlainType, Ty, Shape, shape, Fields, no_fields, field, Body, void_slot, plain_slot, pointer_slot, group_slot, Schema, default_or_null}
 use Rattle.capnp_model.specs.Readings.{discriminant, field_bits, whole_words}
 use Rattle.capnp_model.specs.Calls.{set_to, message, message_root}
-use Rattle.capnp_model.specs.Groups.{source_tree, empty_tree}
+use Rattle.capnp_model.specs.Groups.{source_tree}
 use Rattle.capnp_model.specs.Edits.{Cell, Edit, mark, put_bits, put_child, cleared, has_turn, pointer_writes, group_writes, field_writes, body_writes, after_writes, from_message, edit_field}
 use Rattle.capnp_queries.specs.Fields.{field_at, field_count}
 use Rattle.capnp_edits.specs.GroupSets.{copied_if, turn_copied, group_copied}
@@ -133,7 +133,6 @@ module _ (s : Schema) (union : Option ℕ) (from c : Cell) (i : ℕ) (ty : Ty) (
   unfolding group_writes
   null_copied h = ap (λ t. after_writes (pointer_writes s None i ty (default_or_null d) (mark union None) t) c) (sym h)
 
-  pub empty_copied : (m : ℕ) → child from.kids i ≡ null → default_or_null d ≡ null → put_child i (empty_tree s ty) (mark union (Some m) c) ≡ after_writes (body_writes s (pointer_slot i ty d) (Some m) (mark union (Some m)) from) c
+  pub member_copied : (m : ℕ) → child from.kids i ≡ null → put_child i (source_tree s ty (default_or_null d) null) (mark union (Some m) c) ≡ after_writes (body_writes s (pointer_slot i ty d) (Some m) (mark union (Some m)) from) c
   unfolding group_writes
-  empty_copied m h e =
-      ap (λ x. after_writes (pointer_writes s (Some m) i ty x (mark union (Some m)) null) c) (sym e) ∙ ap (λ t. after_writes (pointer_writes s (Some m) i ty (default_or_null d) (mark union (Some m)) t) c) (sym h)
+  member_copied m h = ap (λ t. after_writes (pointer_writes s (Some m) i ty (default_or_null d) (mark union (Some m)) t) c) (sym h)

@@ -20,3 +20,4 @@ pub mod ElementEnds
 pub mod ElementMessages
 pub mod TakenContents
 pub mod GroupEmpties
+pub mod GroupNulls

@@ -1,10 +1,13 @@
 -- Groups that are set to the value of a message. (Encoding, "Structs")
 use Rattle.std.specs.Prelude.{◌≡◌, ℕ, ◌*◌, Bool, true, false, Option, Some, None}
 use Rattle.capnp_model.specs.Segments.{Segments}
-use Rattle.capnp_model.specs.Schemas.{Ty, void, plain, text, blob, untyped, interface, struct, list, Shape, Schema}
+use Rattle.capnp_model.specs.Trees.{Tree, null}
+use Rattle.capnp_model.specs.Schemas.{Ty, void, plain, text, blob, untyped, interface, struct, list, Value, Shape, Schema, default_or_null}
+use Rattle.capnp_model.specs.Accepted.{default_tree}
 use Rattle.capnp_model.specs.Printing.{fields_in}
 use Rattle.capnp_model.specs.Traversal.{tree_at}
 use Rattle.capnp_model.specs.Readings.{discriminant, whole_words}
+use Rattle.capnp_model.specs.Groups.{source_tree}
 use Rattle.capnp_model.specs.Edits.{Cell, Edit, mark, has_turn, field_writes, body_writes, after_writes}
 use Rattle.capnp_wire.specs.Views.{StructView}
 use Rattle.capnp_wire.specs.Laws.{ShowsChildren}
@@ -49,6 +52,10 @@ fields_copied s members g from c = after_writes (field_writes s members (fields_
 -- First the active member, then the other fields.
 abbrev pub group_copied : Schema → Shape → Cell → Edit
 group_copied s g from c = fields_copied s false g from (fields_copied s true g from c)
+
+-- What a null pointer of an active member counts as, with the default that its node says.
+abbrev pub null_tree : Schema → Ty → Option Value → Tree
+null_tree s ty v = source_tree s ty (default_or_null (default_tree v)) null
 
 -- Whether a type is a list of structs.
 abbrev pub is_struct_list : Ty → Bool

@@ -5,7 +5,8 @@ use Rattle.capnp_model.specs.Segments.{Segments, Place, root}
 use Rattle.capnp_model.specs.Trees.{Tree, null, Trees, structure}
 use Rattle.capnp_model.specs.Traversal.{tree_at}
 use Rattle.capnp_model.specs.Coverage.{Grows}
-use Rattle.capnp_model.specs.Schemas.{Ty, void, plain, text, blob, untyped, interface, struct, list, Schema}
+use Rattle.capnp_model.specs.Schemas.{Ty, void, plain, text, blob, untyped, interface, struct, list, Value, Schema}
+use Rattle.capnp_model.specs.Accepted.{default_tree}
 use Rattle.capnp_model.specs.Readings.{Reading, read}
 use Rattle.capnp_model.specs.Calls.{Step, Verb}
 use Rattle.capnp_model.specs.Steps.{Outcome, refused, opened, through_value, step_field, step_element}
@@ -21,6 +22,7 @@ use Rattle.capnp_queries.specs.Handles.{entry_of}
 use Rattle.capnp_queries.specs.declared.structs.StructSchema.{StructSchema}
 use Rattle.capnp_queries.specs.declared.fields.Field.{Field}
 use Rattle.capnp_calls.specs.Sizes.{IsDone}
+use Rattle.capnp_calls.specs.Slots.{HasGoodDefault}
 use Rattle.capnp_calls.specs.Paths.{field_outcome, shape_outcome, shape_edit}
 
 -- Whatever data and children the struct has for which the test holds: they become what the edit makes of them, where some levels of pointers may be new, and nothing else changes.
@@ -81,6 +83,11 @@ WritesValue s u p around ty d path verb =
 abbrev pub HoldsDefault : Option (List (List ℕ)) → Tree → Type 0
 HoldsDefault None d = d ≡ null
 HoldsDefault (Some words) d = tree_at 64 (default_segments words) root ≡ Some d
+
+-- The default that a node says of a pointer of the type is a good one, and has this value, if there is one.
+pub record IsDefault (ty : Ty) (d : Option Tree) (said : Option Value) : Type 0 where
+  pub good : HasGoodDefault ty said
+  pub value : default_tree said ≡ d
 
 -- A path can go on inside a value of the type.
 abbrev pub has_inside : Ty → Bool

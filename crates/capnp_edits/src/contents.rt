@@ -10,7 +10,7 @@ ghost use Rattle.capnp_dynamic.specs.Edits.{IsThere};
 ghost use Rattle.capnp_edits.specs.Written.{GrowsAround};
 ghost use Rattle.capnp_edits.specs.Elements.{TakesTree};
 
-use crate::messages::ROOT;
+use crate::roots::ROOT;
 use capnp_copy::arena::BuilderArena;
 use capnp_copy::fields::StructPlace;
 use capnp_copy_from::contents::copy_content_from;

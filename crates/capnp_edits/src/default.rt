@@ -8,7 +8,7 @@ ghost use Rattle.capnp_records.specs.NodeViews.{kind_of_field, value_of};
 ghost use Rattle.capnp_queries.specs.Handles.{entry_of};
 ghost use Rattle.capnp_calls.specs.Slots.{IsSegment};
 ghost use Rattle.capnp_calls.specs.Finding.{default_in};
-ghost use Rattle.capnp_edits.specs.Written.{HoldsDefault, has_inside};
+ghost use Rattle.capnp_edits.specs.Written.{HoldsDefault, IsDefault, has_inside};
 
 use capnp_queries::fields::Field;
 use capnp_records::node::{FieldBody, FieldRecord, Value};
@@ -45,14 +45,22 @@ fn default_said(field: &FieldRecord) -> Option<&Value>
     }
 }
 
+/// The default of a field that is a pointer, as its node says it.
+pub(crate) fn default_value<'a>(field: Field<'a>) -> Option<&'a Value>
+    ensures { (i : ℕ) (ty : Ty) (d : Option Tree)
+        → option_map (λ e. e.body) (entry_of field.entry) ≡ Some (pointer_slot i ty d)
+        → IsDefault ty d (option_map value_of (option_copied result)) }
+{
+    let holder = field.parent().record();
+    let _words = holder.data_word_count;
+    default_said(field.get_proto())
+}
+
 /// The words of the default of a field that is a pointer to a struct or a list; none where it has no default.
 pub(crate) fn default_of<'a>(field: Field<'a>) -> Option<&'a [Word]>
     ensures { (i : ℕ) (ty : Ty) (d : Option Tree)
         → option_map (λ e. e.body) (entry_of field.entry) ≡ Some (pointer_slot i ty d)
         → has_inside ty ≡ true → HoldsDefault (option_copied result) (default_or_null d) }
 {
-    let holder = field.parent().record();
-    let _words = holder.data_word_count;
-    let record = field.get_proto();
-    default_words(default_said(record))
+    default_words(default_value(field))
 }

@@ -16,9 +16,10 @@ ghost use Rattle.capnp_dynamic.specs.Inside.{LieIn};
 ghost use Rattle.capnp_edits.specs.GroupSets.{IsSource, EditsAny, entry_copied, turn_copied, fields_copied, group_copied};
 ghost use Rattle.capnp_edits.specs.Written.{WritesField};
 
-use crate::default::words_of;
-use crate::group_empties::put_empty;
+use crate::default::{default_value, words_of};
+use crate::group_nulls::put_null;
 use crate::group_sources::{bits_in, copy_child, has_turn};
+use crate::roots::ROOT;
 use capnp_call_messages::message::MessageValue;
 use capnp_copy::arena::BuilderArena;
 use capnp_copy::fields::{StructPlace, set_bits};
@@ -27,23 +28,15 @@ use capnp_queries::fields::Field;
 use capnp_queries::slots::FieldPlace;
 use capnp_queries::structs::StructSchema;
 use capnp_records::node::NO_DISCRIMINANT;
-use capnp_units::errors::{Error, Result};
-use capnp_units::kinds::ErrorKind;
+use capnp_units::errors::Result;
 use capnp_units::limiter::ReadLimiter;
 use capnp_wire::arena::{NullArena, ReaderArena};
 use capnp_wire::backing::{Backing, default_backing};
 use capnp_wire::laws::gets_are_readings;
-use capnp_wire::place::Place;
 use capnp_wire::pointer::PointerReader;
 use capnp_wire::structs::StructReader;
 
-/// Where the root of a message is.
-const ROOT: Place = Place {
-    segment: 0,
-    position: 0,
-};
-
-/// Sets a field as it is in what is read, and marks its union. A null pointer is left, but that of a union's member becomes the empty value of its type; where it has a default, or its type no such value, it is refused with `TypeMismatch`.
+/// Sets a field as it is in what is read, and marks its union. A null pointer is left, but that of a union's member becomes its default, else the empty value of its type; where there is neither, it is refused with `TypeMismatch`.
 #[cycle(sets)]
 fn copy_field<A: BuilderArena, B: ReaderArena>(
     arena: &mut A,
@@ -70,18 +63,16 @@ fn copy_field<A: BuilderArena, B: ReaderArena>(
             let at = width as usize * offset as usize;
             set_bits(arena, object, at, width, bits_in(source, ty, offset));
         }
-        FieldPlace::Pointer { index, ty, default } => {
+        FieldPlace::Pointer { index, ty, .. } => {
             if !source.is_pointer_field_null(index as usize) {
                 mark(arena, object, field);
                 return copy_child(arena, pointer_place(object, index), source, index);
             }
             if said.discriminant_value != NO_DISCRIMINANT {
-                if default.is_some() {
-                    return Err(Error::from(ErrorKind::TypeMismatch));
-                }
                 mark(arena, object, field);
+                let slot = pointer_place(object, index);
                 let set = field.parent().set();
-                return put_empty(arena, pointer_place(object, index), set, ty);
+                return put_null(arena, slot, set, ty, default_value(field));
             }
         }
         FieldPlace::Group { schema } => {

@@ -1,14 +1,11 @@
 //! Values of messages that calls set behind pointers.
-ghost use Rattle.std.specs.Prelude.{◌≡◌, ◌<◌, ◌^◌, true, [], Some, OnOk};
+ghost use Rattle.std.specs.Prelude.{◌≡◌, ◌<◌, ◌^◌, true, [], OnOk};
 ghost use Rattle.std.specs.Option.{is_some};
 ghost use Rattle.capnp_model.specs.Calls.{set_to, message, message_root};
 ghost use Rattle.capnp_model.specs.Coverage.{Grows};
-ghost use Rattle.capnp_model.specs.Segments.{root, words_at};
-ghost use Rattle.capnp_model.specs.Traversal.{tree_at};
-ghost use Rattle.capnp_model.specs.Trees.{Tree};
+ghost use Rattle.capnp_model.specs.Segments.{words_at};
 ghost use Rattle.capnp_units.specs.Segments.{words_in};
 ghost use Rattle.capnp_wire.specs.Places.{place_view};
-ghost use Rattle.capnp_copy_from.specs.Defaults.{default_segments, is_null_at};
 ghost use Rattle.capnp_call_messages.specs.Messages.{tree_of_message};
 ghost use Rattle.capnp_queries.specs.Structs.{shape_of_struct};
 ghost use Rattle.capnp_queries.specs.Types.{ty_of};
@@ -17,31 +14,19 @@ ghost use Rattle.capnp_edits.specs.Written.{WritesField, PutsTree, takes_message
 
 use crate::default::words_of;
 use crate::group_sets::set_group;
+use crate::roots::{copy_root, has_null_root};
 use capnp_call_messages::message::MessageValue;
 use capnp_copy::arena::BuilderArena;
 use capnp_copy::fields::StructPlace;
 use capnp_copy::init::init_struct;
-use capnp_copy_from::copy::copy_from;
 use capnp_dynamic::slots::{mark, pointer_place};
 use capnp_queries::fields::Field;
 use capnp_queries::introspect::{Type, TypeVariant};
 use capnp_queries::slots::FieldPlace;
 use capnp_units::errors::{Error, Result};
 use capnp_units::kinds::ErrorKind;
-use capnp_units::limiter::ReadLimiter;
-use capnp_units::sizes::{StructSize, Word};
-use capnp_wire::arena::NullArena;
-use capnp_wire::backing::{Backing, default_backing};
-use capnp_wire::place::{Place, word_at};
-
-/// How deep the value of a message may be nested.
-const MOST_LEVELS: u32 = 64;
-
-/// Where the root of a message is.
-pub(crate) const ROOT: Place = Place {
-    segment: 0,
-    position: 0,
-};
+use capnp_units::sizes::StructSize;
+use capnp_wire::place::Place;
 
 /// Whether a slot of a type can be set to the value of a message.
 fn takes_message(ty: Type) -> bool
@@ -51,30 +36,6 @@ fn takes_message(ty: Type) -> bool
         TypeVariant::AnyPointer | TypeVariant::Struct(_) | TypeVariant::List(_) => true,
         _ => false,
     }
-}
-
-/// Whether the root that words hold is null.
-fn has_null_root(words: &[Word]) -> bool
-    ensures { result ≡ is_null_at (default_segments words.now) root }
-{
-    let source: Backing<NullArena> = default_backing(words);
-    word_at(&source, ROOT).unwrap_or(0) == 0
-}
-
-/// Puts the value of the root that words hold in place of the value of the pointer at a place.
-fn copy_root<A: BuilderArena>(arena: &mut A, slot: Place, words: &[Word]) -> Result<()>
-    requires there { is_some (words_at (words_in (A.segments arena.old)) (place_view slot) 1)
-        ≡ true }
-    requires near { slot.position < 2 ^ 61 }
-    ensures puts { (t : Tree) → tree_at 64 (default_segments words.now) root ≡ Some t
-        → OnOk result (PutsTree (words_in (A.segments arena.old)) (words_in (A.segments arena.new))
-        (place_view slot) t) }
-    ensures grows { Grows (words_in (A.segments arena.old)) (words_in (A.segments arena.new)) }
-    ensures books { A.books arena.new ≡ A.books arena.old }
-{
-    let source: Backing<NullArena> = default_backing(words);
-    let mut limiter = ReadLimiter::new(None);
-    copy_from(arena, slot, &mut limiter, &source, ROOT, MOST_LEVELS)
 }
 
 /// Puts the value of a message in place of the value of the pointer at a place; a null root counts as the empty struct.

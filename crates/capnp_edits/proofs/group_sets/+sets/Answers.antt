@@ -2,7 +2,9 @@ use Rattle.std.proofs.Common.{rules, ◌≡◌, true, false, OnOk, refl, sym, ap
 use Rattle.std.specs.Prelude.{option_map, option_copied}
 use Rattle.std.specs.Option.{is_some}
 use Rattle.capnp_model.specs.Accepted.{default_tree, schema_of}
-use Rattle.capnp_model.specs.Groups.{empty_tree}
+use Rattle.capnp_model.specs.Groups.{source_tree}
+use Rattle.capnp_model.specs.Schemas.{default_or_null}
+use Rattle.capnp_model.specs.Trees.{null}
 use Rattle.capnp_model.specs.Segments.{words_at}
 use Rattle.capnp_units.specs.Segments.{words_in}
 use Rattle.capnp_wire.specs.Places.{place_view}
@@ -21,10 +23,9 @@ use Rattle.capnp_dynamic.proofs.Grown.{there_grown}
 use Rattle.capnp_dynamic.proofs.Groups.{shape_depth, body_depth, depth_of_fields, depth_of_group}
 use Rattle.capnp_dynamic.proofs.GroupFields.{plain_inside, pointer_inside, group_inside, member_inside, member_depth}
 use Rattle.capnp_edits.specs.Written.{PutsTree}
-use Rattle.capnp_edits.proofs.GroupEmpties.{no_default}
-use Rattle.capnp_edits.specs.GroupSets.{fields_copied, group_copied}
+use Rattle.capnp_edits.specs.GroupSets.{null_tree, fields_copied, group_copied}
 use Rattle.capnp_edits.proofs.GroupEdits.{then_ok}
-use Rattle.capnp_edits.proofs.GroupFields.{void_field, plain_field, pointer_field, null_field, empty_field, group_field, in_turn, out_of_turn, front_begins, front_goes, front_ends}
+use Rattle.capnp_edits.proofs.GroupFields.{void_field, plain_field, pointer_field, null_field, member_field, group_field, in_turn, out_of_turn, front_begins, front_goes, front_ends}
 use Rattle.capnp_edits.proofs.GroupSources.{null_child, some_child}
 use Rattle.capnp_edits.proofs.group_sets.+sets.Goals as goal
 
@@ -186,37 +187,49 @@ copy_field-returns-in-Group-clause-grows g t c =
 
 -- ---- null members
 
-pub copy_field-pointer_place-requires-then-said-clause-inside : goal.copy_field-pointer_place-requires-then-said-clause-inside
-copy_field-pointer_place-requires-then-said-clause-inside g t c =
+pub copy_field-pointer_place-slot-requires-clause-inside : goal.copy_field-pointer_place-slot-requires-clause-inside
+copy_field-pointer_place-slot-requires-clause-inside g t c =
     let p = c.args.object in
     let b = F.Pointer c.in-Pointer.index c.in-Pointer.ty c.in-Pointer.default in
     let inside = member_inside c.args.field (field_of c.get_proto-said.result.now) c.get_proto-said.ensures (body_of_place b) c.in-Pointer.ensures.body p.data_words p.pointers c.requires.inside in
     pointer_inside p b c.in-Pointer.index c.in-Pointer.ty c.in-Pointer.default refl inside
 
-pub copy_field-put_empty-requires-clause-there : goal.copy_field-put_empty-requires-clause-there
-copy_field-put_empty-requires-clause-there g t c =
+pub copy_field-put_null-requires-clause-there : goal.copy_field-put_null-requires-clause-there
+copy_field-put_null-requires-clause-there g t c =
     let p = c.args.object in
     let b = F.Pointer c.in-Pointer.index c.in-Pointer.ty c.in-Pointer.default in
     let inside = member_inside c.args.field (field_of c.get_proto-said.result.now) c.get_proto-said.ensures (body_of_place b) c.in-Pointer.ensures.body p.data_words p.pointers c.requires.inside in
     let l = pointer_inside p b c.in-Pointer.index c.in-Pointer.ty c.in-Pointer.default refl inside in
     let m = words_in (g.A.ReaderArena.segments c.mark-then-said.new.arena) in
     let there = there_after (words_in (g.A.ReaderArena.segments c.args.arena.now)) m p c.mark-then-said.ensures.sizes c.requires.there in
-    subst (λ q. is_some (words_at m q 1) ≡ true) (sym c.pointer_place-then-said.ensures.place) (pointer_there m (place_view p.start) p.data_words p.pointers c.in-Pointer.index l there.words)
+    subst (λ q. is_some (words_at m q 1) ≡ true) (sym c.pointer_place-slot.ensures.place) (pointer_there m (place_view p.start) p.data_words p.pointers c.in-Pointer.index l there.words)
+
+pub copy_field-put_null-requires-clause-good : goal.copy_field-put_null-requires-clause-good
+copy_field-put_null-requires-clause-good g t c =
+    let d = default_tree (option_map value_of (option_copied c.in-Pointer.default)) in
+    (c.default_value.ensures c.in-Pointer.index (ty_of c.in-Pointer.ty) d c.in-Pointer.ensures.body).good
 
 pub copy_field-returns-then-said-clause-writes : goal.copy_field-returns-then-said-clause-writes
 copy_field-returns-then-said-clause-writes g t c from is =
     let p = c.args.object in
     let f = c.args.field in
-    let d = c.get_proto-said.result.now.discriminant_value in
-    let b = F.Pointer c.in-Pointer.index c.in-Pointer.ty c.in-Pointer.default in
+    let k = c.get_proto-said.result.now.discriminant_value in
+    let i = c.in-Pointer.index in
+    let ty = ty_of c.in-Pointer.ty in
+    let b = F.Pointer i c.in-Pointer.ty c.in-Pointer.default in
+    let d = default_tree (option_map value_of (option_copied c.in-Pointer.default)) in
     let r = field_of c.get_proto-said.result.now in
     let inside = member_inside f r c.get_proto-said.ensures (body_of_place b) c.in-Pointer.ensures.body p.data_words p.pointers c.requires.inside in
-    let l = pointer_inside p b c.in-Pointer.index c.in-Pointer.ty c.in-Pointer.default refl inside in
+    let l = pointer_inside p b i c.in-Pointer.ty c.in-Pointer.default refl inside in
     let s = words_in (g.A.ReaderArena.segments c.args.arena.now) in
     let m = words_in (g.A.ReaderArena.segments c.mark-then-said.new.arena) in
-    let u = words_in (g.A.ReaderArena.segments c.put_empty.new.arena) in
+    let u = words_in (g.A.ReaderArena.segments c.put_null.new.arena) in
     let v = seen_struct g.B.ReaderArena.segments c.args.source.now in
+    let x = c.put_null.result in
+    let q = place_view c.pointer_place-slot.result in
     let nodes = c.set-set.ensures ∙ ap nodes_around c.parent.ensures in
-    let put = subst (λ ns. OnOk c.put_empty.result (PutsTree m u (place_view c.pointer_place-then-said.result) (empty_tree (schema_of ns) (ty_of c.in-Pointer.ty)))) nodes c.put_empty.ensures.puts in
-    empty_field f r c.get_proto-said.ensures (body_of_place b) c.in-Pointer.ensures.body from s m u p c.put_empty.result c.in-Pointer.index (ty_of c.in-Pointer.ty) (default_tree (option_map value_of (option_copied c.in-Pointer.default))) (place_view c.pointer_place-then-said.result) d refl
-    (member_there d c.if-said.true) (no_default c.in-Pointer.default (sym c.is_some.ensures ∙ c.if-is_some.false)) (null_child v from is c.in-Pointer.index (sym c.is_pointer_field_null.ensures ∙ c.if-not-is_pointer_field_null.false)) l c.pointer_place-then-said.ensures.place c.mark-then-said.ensures.edits put
+    let value = (c.default_value.ensures i ty d c.in-Pointer.ensures.body).value in
+    let put = subst (λ o. OnOk x (PutsTree m u q (source_tree (schema_of (nodes_around f.parent)) ty (default_or_null o) null))) value
+    (subst (λ ns. OnOk x (PutsTree m u q (null_tree (schema_of ns) ty (option_map value_of (option_copied c.default_value.result))))) nodes c.put_null.ensures.puts) in
+    member_field f r c.get_proto-said.ensures (body_of_place b) c.in-Pointer.ensures.body from s m u p x i ty d q k refl
+    (member_there k c.if-said.true) (null_child v from is i (sym c.is_pointer_field_null.ensures ∙ c.if-not-is_pointer_field_null.false)) l c.pointer_place-slot.ensures.place c.mark-then-said.ensures.edits put

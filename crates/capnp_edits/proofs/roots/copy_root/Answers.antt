@@ -6,7 +6,7 @@ use Rattle.capnp_wire.specs.Views.{Ground}
 use Rattle.capnp_copy_from.specs.Copies.{CopiesValue}
 use Rattle.capnp_copy_from.specs.Defaults.{default_segments}
 use Rattle.capnp_edits.proofs.SetMessages.{copied, copied_grows}
-use Rattle.capnp_edits.proofs.messages.copy_root.Goals as goal
+use Rattle.capnp_edits.proofs.roots.copy_root.Goals as goal
 
 pub returns-clause-puts : goal.returns-clause-puts
 returns-clause-puts g c t e =
