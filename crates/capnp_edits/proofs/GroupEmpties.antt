@@ -1,14 +1,11 @@
 -- Empty values that are put behind pointers.
 use Rattle.std.proofs.Common.{◌≡◌, ℕ, suc, ◌+◌, true, false, Option, Some, None, Result, Ok, Err, OnOk, refl, subst, arith}
-use Rattle.std.specs.Prelude.{IfSome, IfErr, option_map, option_copied}
-use Rattle.std.specs.Option.{is_some}
-use Rattle.std.specs.Borrow.{Bor}
+use Rattle.std.specs.Prelude.{IfSome, IfErr}
 use Rattle.capnp_model.specs.Kinds.{InitnIsOnlyValidForListTextOrDataFields}
 use Rattle.capnp_model.specs.Segments.{Segments, Place}
-use Rattle.capnp_model.specs.Trees.{Tree, null, struct_list, no_elements}
+use Rattle.capnp_model.specs.Trees.{Tree, struct_list, no_elements}
 use Rattle.capnp_model.specs.Coverage.{Grows}
-use Rattle.capnp_model.specs.Accepted.{default_tree}
-use Rattle.capnp_model.specs.Schemas.{Ty, void, plain, text, blob, untyped, interface, struct, list, Schema, default_or_null}
+use Rattle.capnp_model.specs.Schemas.{Ty, void, plain, text, blob, untyped, interface, struct, list, Schema}
 use Rattle.capnp_model.specs.Calls.{object, initn_content}
 use Rattle.capnp_model.specs.Groups.{empty_tree}
 use Rattle.capnp_units.specs.Segments.{words_in}
@@ -18,8 +15,6 @@ use Rattle.capnp_footprints.specs.Changes.{Replaces}
 use Rattle.capnp_footprints.proofs.Levels.{owned_more}
 use Rattle.capnp_copy.specs.Values.{Becomes}
 use Rattle.capnp_builders.specs.Making.{ArenaState, Makes}
-use Rattle.capnp_records.specs.declared.node.Value.{Value}
-use Rattle.capnp_records.specs.NodeViews.{value_of}
 use Rattle.capnp_object.specs.declared.place.Place as code
 use Rattle.capnp_dynamic.specs.NewLists.{tree_of_new, content_of_list, ObjectNotMade}
 use Rattle.capnp_dynamic.specs.declared.initn.NewList.{NewList}

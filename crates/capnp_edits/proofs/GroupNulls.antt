@@ -1,9 +1,8 @@
 -- What null pointers of active members count as.
-use Rattle.std.proofs.Common.{◌≡◌, ◌+◌, ◌++◌, ◌∷◌, [], true, false, List, ℕ, Option, Some, None, Result, OnOk, OnErr, Ok, Err, Vec, Global, refl, sym, ap, subst, ◌∙◌, Bor}
+use Rattle.std.proofs.Common.{◌≡◌, true, false, List, ℕ, Option, Some, None, Result, OnOk, OnErr, Ok, Err, Vec, Global, refl, sym, ap, subst, ◌∙◌, Bor}
 use Rattle.std.specs.Prelude.{option_map, option_copied}
 use Rattle.capnp_model.specs.Coverage.{Grows}
 use Rattle.capnp_model.specs.Segments.{Segments, Place, root}
-use Rattle.capnp_model.specs.Traversal.{tree_at}
 use Rattle.capnp_model.specs.Trees.{Tree, null, capability, structure, plain_list, pointer_list, struct_list}
 use Rattle.capnp_model.specs.Accepted.{default_tree}
 use Rattle.capnp_model.specs.Groups.{empty_tree, source_tree}

@@ -230,6 +230,6 @@ copy_field-returns-then-said-clause-writes g t c from is =
     let nodes = c.set-set.ensures ∙ ap nodes_around c.parent.ensures in
     let value = (c.default_value.ensures i ty d c.in-Pointer.ensures.body).value in
     let put = subst (λ o. OnOk x (PutsTree m u q (source_tree (schema_of (nodes_around f.parent)) ty (default_or_null o) null))) value
-        (subst (λ ns. OnOk x (PutsTree m u q (null_tree (schema_of ns) ty (option_map value_of (option_copied c.default_value.result))))) nodes c.put_null.ensures.puts) in
+    (subst (λ ns. OnOk x (PutsTree m u q (null_tree (schema_of ns) ty (option_map value_of (option_copied c.default_value.result))))) nodes c.put_null.ensures.puts) in
     member_field f r c.get_proto-said.ensures (body_of_place b) c.in-Pointer.ensures.body from s m u p x i ty d q k refl
     (member_there k c.if-said.true) (null_child v from is i (sym c.is_pointer_field_null.ensures ∙ c.if-not-is_pointer_field_null.false)) l c.pointer_place-slot.ensures.place c.mark-then-said.ensures.edits put
