@@ -1,4 +1,0 @@
-pub mod Values
-pub mod Rows
-pub mod Reads
-pub mod Writes
