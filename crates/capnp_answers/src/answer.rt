@@ -1,10 +1,9 @@
 //! The answer of calls to a message, in a lent region.
-ghost use Rattle.std.specs.Prelude.{◌≡◌, ◌≢◌, ◌≤◌, map, length, Err, IfOk};
+ghost use Rattle.std.specs.Prelude.{◌≡◌, ◌≤◌, map, length, Err, IfOk};
 ghost use Rattle.capnp_units.specs.Segments.{words_in};
 ghost use Rattle.capnp_calls.specs.CallViews.{call_view};
 ghost use Rattle.capnp_calls.specs.Taken.{IsRoot};
 ghost use Rattle.capnp_copy.specs.Memory.{AllZero};
-ghost use Rattle.capnp_run.specs.declared.fault.RunFault.TheVariants as faults;
 ghost use Rattle.capnp_answers.specs.declared.answer.Want.{Want};
 ghost use Rattle.capnp_answers.specs.Answers.{IsAnswered, IsTooLarge, want_of};
 

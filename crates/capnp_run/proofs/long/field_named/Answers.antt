@@ -1,4 +1,4 @@
-use Rattle.std.proofs.Common.{◌≡◌, Some, ap, sym, subst, ◌∙◌}
+use Rattle.std.proofs.Common.{◌≡◌, Some, ap, sym, subst}
 use Rattle.capnp_model.specs.InKindCalls.{at_slot, end_at}
 use Rattle.capnp_model.specs.Steps.{target_of}
 use Rattle.capnp_queries.specs.Fields.{place_of_name}

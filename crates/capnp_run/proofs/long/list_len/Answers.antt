@@ -1,4 +1,4 @@
-use Rattle.std.proofs.Common.{◌≡◌, ap, sym, ◌∙◌}
+use Rattle.std.proofs.Common.{ap, sym, ◌∙◌}
 use Rattle.capnp_units.specs.Sizes.{size_number}
 use Rattle.capnp_calls.specs.Sizes.{list_len}
 use Rattle.capnp_dynamic.specs.NewLists.{tree_of_new}
