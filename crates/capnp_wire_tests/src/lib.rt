@@ -1,4 +1,4 @@
-//! Tests of `capnp_units`, `capnp_text`, `capnp_wire`, `capnp_canonical`, `capnp_value`, by their public calls alone.
+//! Tests of `capnp_units`, `capnp_text`, `capnp_wire`, `capnp_canonical`, by their public calls alone.
 #![tactic(auto)]
 
 #[cfg(test)]
@@ -7,7 +7,5 @@ mod canonical;
 mod text;
 #[cfg(test)]
 mod units;
-#[cfg(test)]
-mod value;
 #[cfg(test)]
 mod wire;

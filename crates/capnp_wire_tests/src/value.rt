@@ -1,4 +1,0 @@
-//! Tests of `capnp_value`.
-
-mod size_tests;
-mod tests;
