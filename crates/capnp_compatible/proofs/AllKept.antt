@@ -1,11 +1,10 @@
 -- The walk over all pairs that are reached.
-use Rattle.std.proofs.Common.{◌≡◌, ℕ, zero, suc, ◌+◌, ◌<◌, ◌≤◌, Bool, true, false, ◌&&◌, ◌||◌, ◌==◌, IsTrue, Option, Some, None, List, [], ◌∷◌, ◌++◌, length, take, slice_get, refl, sym, ◌∙◌, ap, subst, arith}
-use Rattle.std.specs.List.{list_all, list_any}
+use Rattle.std.proofs.Common.{◌≡◌, ℕ, zero, suc, ◌+◌, ◌<◌, Bool, true, false, ◌&&◌, ◌||◌, ◌==◌, IsTrue, Some, None, List, [], ◌∷◌, ◌++◌, length, take, slice_get, refl, sym, ◌∙◌, ap, subst, arith}
+use Rattle.std.specs.List.{list_all}
 use Rattle.std.specs.Bool.{MatchBool}
 use Rattle.std.specs.Cmp.Derive.{both_true}
 use Rattle.std.proofs.lemmas.Bool.{or_left, or_right, eq-eqb}
 use Rattle.std.proofs.lemmas.Bool.Decides.{nat_tests}
-use Rattle.std.proofs.lemmas.List.{length-append}
 use Rattle.std.proofs.lemmas.List.Folds.{list_all-append}
 use Rattle.capnp_model.specs.Compatible.{Pairs, has_pair, keeps, IsCompatible}
 use Rattle.capnp_model.specs.Accepted.{schema_of, shape_in}
@@ -14,7 +13,7 @@ use Rattle.capnp_model.proofs.KeptRules.{and_left, and_right}
 use Rattle.capnp_compatible.specs.declared.reached.Reached.{Reached}
 use Rattle.capnp_compatible.specs.declared.keeps.Versions.{Versions}
 use Rattle.capnp_compatible.specs.declared.keeps.Levels.{Levels}
-use Rattle.capnp_compatible.specs.Pairs.{has_each, pairs_of, IsFront}
+use Rattle.capnp_compatible.specs.Pairs.{has_each, pairs_of}
 use Rattle.capnp_compatible.specs.Holders.{nodes_in, schema_in}
 use Rattle.capnp_compatible.specs.Walks.{IsSoundFor, Decides, keeps_at, keeps_all, IsKeptFrom, AreEnough, are_alike}
 use Rattle.capnp_compatible.proofs.NodesFound.{shape_is}

@@ -1,13 +1,13 @@
 -- What the walk over pairs says of types, slots and fields.
-use Rattle.std.proofs.Common.{◌≡◌, ◌≢◌, ℕ, zero, suc, ◌+◌, ◌-◌, ◌<◌, Bool, true, false, not, ◌&&◌, ◌==◌, if◌then◌else◌, cond, Option, Some, None, option_map, List, [], ◌∷◌, map, length, nat_le, count_by, string_bytes, refl, sym, ◌∙◌, ap, subst, arith}
+use Rattle.std.proofs.Common.{◌≡◌, ◌≢◌, ℕ, suc, ◌+◌, Bool, true, false, not, ◌&&◌, ◌==◌, if◌then◌else◌, cond, Option, Some, None, option_map, List, [], ◌∷◌, map, length, count_by, string_bytes, refl, sym, ◌∙◌, ap, subst, arith}
 use Rattle.std.specs.Str.{bytes_eq}
 use Rattle.std.proofs.lemmas.Bool.{le-leb}
 use Rattle.std.proofs.lemmas.List.Recursion.{is_count_by}
 use Rattle.std.proofs.lemmas.Bool.Decides.{nat_tests}
 use Rattle.std.specs.Cmp.Derive.{both_true}
-use Rattle.capnp_model.specs.Schemas.{base_type, type_of, Ty, Value as ModelValue, Shape, shape, Fields, no_fields, field, Body, group_slot}
-use Rattle.capnp_model.specs.Accepted.{is_default_of, opens_as, is_good_value, no_shape, shape_in, field_body, fields_from, slot_body}
-use Rattle.capnp_model.specs.Compatible.{Pairs, has_pair, related, same_option, member_count, is_new, is_no_fields, keeps_union, keeps, keeps_fields, keeps_body}
+use Rattle.capnp_model.specs.Schemas.{base_type, type_of, Shape, shape, Fields, no_fields, field}
+use Rattle.capnp_model.specs.Accepted.{is_default_of, no_shape, shape_in, field_body, fields_from}
+use Rattle.capnp_model.specs.Compatible.{Pairs, related, same_option, member_count, is_new, keeps, keeps_fields, keeps_body}
 use Rattle.capnp_model.proofs.KeptRules.{and_left, and_right}
 use Rattle.capnp_records.specs.NodeViews.{base_of, type_record_of, value_of, member_of, kind_of_field, field_of}
 use Rattle.capnp_records.specs.declared.node.BaseType.{BaseType}

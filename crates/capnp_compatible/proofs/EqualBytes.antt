@@ -1,18 +1,16 @@
 -- Texts, data and segments are equal where the canonical words of their values are.
-use Rattle.std.proofs.Common.{◌≡◌, ℕ, zero, suc, ◌+◌, ◌-◌, ◌*◌, ◌/◌, ◌%◌, ◌^◌, ◌<◌, ◌≤◌, Bool, true, false, not, ◌&&◌, Option, Some, None, List, [], ◌∷◌, ◌++◌, length, nat_lt, refl, sym, ◌∙◌, ap, subst, arith}
+use Rattle.std.proofs.Common.{◌≡◌, ℕ, ◌+◌, ◌-◌, ◌*◌, ◌/◌, ◌%◌, ◌^◌, ◌<◌, ◌≤◌, Bool, true, false, not, ◌&&◌, Option, Some, None, List, [], ◌∷◌, ◌++◌, length, refl, sym, ◌∙◌, ap, subst, arith}
 use Rattle.std.specs.Str.{bytes_eq}
 use Rattle.std.specs.Prelude.{cond}
-use Rattle.std.proofs.lemmas.Bool.{le-leb}
-use Rattle.std.proofs.lemmas.Bool.Decides.{nat_tests}
 use Rattle.std.proofs.lemmas.Slice.Eq.{bytes_eq-Decides}
 use Rattle.std.proofs.lemmas.List.{length-append}
 use Rattle.capnp_model.specs.Chains.{◌>>=◌, ◌provided◌}
 use Rattle.capnp_model.specs.Segments.{root}
 use Rattle.capnp_model.specs.Sections.{number_of, words_of, words_for}
-use Rattle.capnp_model.specs.Trees.{Tree, plain_list, size_bits, has_capability, depth}
+use Rattle.capnp_model.specs.Trees.{Tree, plain_list, has_capability, depth}
 use Rattle.capnp_model.specs.Trimming.{trim}
 use Rattle.capnp_model.specs.Traversal.{tree_at}
-use Rattle.capnp_model.specs.Encoding.{canonical_words, body}
+use Rattle.capnp_model.specs.Encoding.{canonical_words}
 use Rattle.capnp_model.specs.Bytes.{bytes_of_words, words_in_bytes}
 use Rattle.capnp_model.specs.Fits.{Fits}
 use Rattle.capnp_model.specs.Calls.{text_tree, blob_tree}
@@ -26,7 +24,7 @@ use Rattle.capnp_model.proofs.TrimFits.{Fits-trim, depth-trim}
 use Rattle.capnp_model.proofs.Depth.{tree_at_deep}
 use Rattle.capnp_model.proofs.CanonicalWords.{canonical_words_are}
 use Rattle.capnp_model.proofs.ByteWords.{words_back, bytes_length}
-use Rattle.capnp_model.proofs.KeptRules.{and_left, and_right}
+use Rattle.capnp_model.proofs.KeptRules.{and_right}
 
 same_front : (a b x y : ℕ) → x < 256 → y < 256 → a * 2 ^ 8 + x % 2 ^ 8 ≡ b * 2 ^ 8 + y % 2 ^ 8 → (x ≡ y) × (a ≡ b)
 same_front a b x y h k e = (omega arith, omega arith)

@@ -1,12 +1,12 @@
 -- Groups that a newer version extends, field by field.
-use Rattle.std.proofs.Common.{◌≡◌, ℕ, ◌-◌, Bool, true, false, ◌||◌, Option, Some, None, List, ◌∷◌, map, string_bytes, refl, sym, ◌∙◌, ap}
-use Rattle.capnp_model.specs.Schemas.{Ty, void, plain, text, blob, untyped, interface, struct, list, Value as ModelValue, Shape, shape, Fields, no_fields, field, Body, group_slot}
-use Rattle.capnp_model.specs.Accepted.{slot_body, field_body, fields_from, no_shape, shape_in}
+use Rattle.std.proofs.Common.{◌≡◌, ℕ, Bool, true, false, ◌||◌, Option, Some, None, List, ◌∷◌, string_bytes, refl, sym, ◌∙◌, ap}
+use Rattle.capnp_model.specs.Schemas.{Ty, void, plain, text, blob, untyped, interface, struct, list, Value as ModelValue, Shape, Fields, no_fields, Body, group_slot}
+use Rattle.capnp_model.specs.Accepted.{slot_body, no_shape, shape_in}
 use Rattle.capnp_model.specs.Printing.{fields_in}
-use Rattle.capnp_model.specs.Steps.{Target, no_target, target, target_of}
+use Rattle.capnp_model.specs.Steps.{Target, no_target, target}
 use Rattle.capnp_model.specs.Admitted.{At, nowhere, at_body, is_extended, extends_fields, extends_field, into_fields, into_type}
 use Rattle.capnp_model.specs.Calls.{name}
-use Rattle.capnp_records.specs.NodeViews.{member_of, kind_of_field, field_of}
+use Rattle.capnp_records.specs.NodeViews.{member_of}
 use Rattle.capnp_records.specs.declared.node.FieldRecord.{FieldRecord}
 use Rattle.capnp_compatible.specs.declared.nodes.Holder.{Holder}
 use Rattle.capnp_compatible.specs.declared.keeps.Versions.{Versions}

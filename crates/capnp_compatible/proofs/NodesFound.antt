@@ -1,11 +1,11 @@
 -- What indexed nodes say of ids.
-use Rattle.std.proofs.Common.{◌≡◌, ℕ, zero, suc, ◌-◌, ◌<◌, Bool, true, false, ◌&&◌, Option, Some, None, List, [], ◌∷◌, map, length, refl, sym, ◌∙◌, ap, arith}
+use Rattle.std.proofs.Common.{◌≡◌, ℕ, zero, suc, ◌-◌, ◌<◌, Bool, true, ◌&&◌, Option, Some, None, List, [], ◌∷◌, map, length, refl, sym, ap, arith}
 use Rattle.std.specs.List.{list_all}
 use Rattle.std.specs.Cmp.Derive.{both_true}
-use Rattle.capnp_model.specs.Schemas.{Field, Node, Shape, Schema}
+use Rattle.capnp_model.specs.Schemas.{Field, Node}
 use Rattle.capnp_model.specs.Accepted.{find_node, fields_of_kind, enumerants_of_kind, has_good_default, default_reads, is_group_node, names_a, no_shape, shape_of_node, shape_in, schema_of, IsAccepted}
 use Rattle.capnp_model.proofs.KeptRules.{behind, no_break, and_left, and_right, found_passes}
-use Rattle.capnp_compatible.specs.Holders.{is_sound_kind, are_sound_in}
+use Rattle.capnp_compatible.specs.Holders.{are_sound_in}
 
 both_tests : {A : Type 0} (p q : A → Bool) (xs : List A) → list_all p xs ≡ true → list_all q xs ≡ true → list_all (λ x. p x && q x) xs ≡ true
 both_tests p q [] h k = refl

@@ -1,8 +1,8 @@
 -- Related types by their sorts, bits and ids.
-use Rattle.std.proofs.Common.{◌≡◌, ◌≢◌, ℕ, zero, suc, ◌+◌, ◌<◌, Bool, true, false, ◌&&◌, ◌==◌, refl, sym, ◌∙◌, ap, arith}
+use Rattle.std.proofs.Common.{◌≡◌, ◌≢◌, ℕ, zero, suc, Bool, true, false, ◌&&◌, ◌==◌, refl, sym, ◌∙◌, ap, arith}
 use Rattle.std.proofs.lemmas.Bool.Decides.{nat_tests}
-use Rattle.capnp_model.specs.Schemas.{PlainType, bool, int, uint, «enum», Ty, void, plain, text, blob, untyped, interface, struct, list, lists_of, Schema}
-use Rattle.capnp_model.specs.Compatible.{Pairs, has_pair, same_names, related_plain, related}
+use Rattle.capnp_model.specs.Schemas.{bool, int, uint, «enum», Ty, void, plain, text, blob, untyped, interface, struct, list, lists_of, Schema}
+use Rattle.capnp_model.specs.Compatible.{Pairs, related}
 use Rattle.capnp_compatible.specs.Types.{sort, bits, id_in, keeps_id}
 
 number_of_test : (a b : ℕ) → (a == b) ≡ true → a ≡ b

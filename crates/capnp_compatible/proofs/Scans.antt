@@ -1,10 +1,6 @@
 -- Steps of a walk, one after the other.
-use Rattle.std.proofs.Common.{◌≡◌, ℕ, Bool, true, false, ◌&&◌, ◌||◌, ◌==◌, List, [], ◌∷◌, ◌++◌, append_assoc, refl, sym, ◌∙◌, ap, arith}
-use Rattle.std.specs.List.{list_all, list_any}
-use Rattle.std.proofs.lemmas.List.Folds.{list_all-append}
-use Rattle.std.proofs.lemmas.Bool.Decides.{nat_tests}
-use Rattle.capnp_model.specs.Schemas.{Schema}
-use Rattle.capnp_model.specs.Compatible.{Pairs, has_pair}
+use Rattle.std.proofs.Common.{◌≡◌, Bool, true, false, ◌&&◌, [], ◌∷◌, ◌++◌, append_assoc, refl, sym, ◌∙◌, ap}
+use Rattle.capnp_model.specs.Compatible.{Pairs}
 use Rattle.capnp_compatible.specs.declared.reached.Reached.{Reached}
 use Rattle.capnp_compatible.specs.declared.keeps.Versions.{Versions}
 use Rattle.capnp_compatible.specs.Pairs.{has_each, pairs_of, IsFront}

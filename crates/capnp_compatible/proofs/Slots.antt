@@ -1,17 +1,16 @@
 -- Slots of a newer version that keep those of an older.
-use Rattle.std.proofs.Common.{◌≡◌, ℕ, zero, suc, ◌+◌, ◌*◌, ◌<◌, Bool, true, false, ◌&&◌, ◌||◌, ◌==◌, nat_le, if◌then◌else◌, Option, Some, None, refl, sym, ◌∙◌, ap, arith}
+use Rattle.std.proofs.Common.{◌≡◌, ℕ, zero, suc, ◌*◌, ◌<◌, Bool, true, false, ◌&&◌, ◌||◌, ◌==◌, nat_le, if◌then◌else◌, Option, Some, None, refl, sym, ◌∙◌, ap, arith}
 use Rattle.std.proofs.lemmas.Bool.Decides.{nat_tests}
-use Rattle.capnp_model.specs.Schemas.{PlainType, bool, int, uint, «enum», width, BaseType, base_type, Ty, void, plain, text, blob, untyped, interface, struct, list, lists_of, TypeRecord, type_of, Value, Shape, void_slot, plain_slot, pointer_slot, group_slot, Schema}
+use Rattle.capnp_model.specs.Schemas.{PlainType, bool, int, uint, «enum», width, base_type, Ty, void, plain, text, blob, untyped, interface, struct, list, lists_of, type_of, Value, Shape, group_slot, Schema}
 use Rattle.capnp_model.specs.Accepted.{default_bits, default_tree, is_default_of, opens_as, is_good_value, slot_body}
 use Rattle.capnp_model.specs.Compatible.{Pairs, related_plain, related, same_option, is_new, same_default, keeps, keeps_body}
 use Rattle.capnp_records.specs.NodeViews.{member_of, type_record_of, base_of}
 use Rattle.capnp_records.specs.declared.node.BaseType.TheVariants as B
 use Rattle.capnp_records.specs.declared.node.BaseType.{BaseType as RustBase}
 use Rattle.capnp_records.specs.declared.node.TypeRecord.{TypeRecord as RustType}
-use Rattle.capnp_compatible.specs.Types.{sort}
 use Rattle.capnp_compatible.specs.Defaults.{AllBytes, default_bytes, same_value}
 use Rattle.capnp_compatible.proofs.Relations.{is_base}
-use Rattle.capnp_compatible.proofs.EqualDefaults.{same_slot_default, defaults_equal}
+use Rattle.capnp_compatible.proofs.EqualDefaults.{defaults_equal}
 
 and_false : (b : Bool) → (b && false) ≡ false
 and_false true = refl

@@ -1,11 +1,10 @@
 -- What contracts see of indexed nodes, and of what an id's node says.
-use Rattle.std.specs.Prelude.{ℕ, ◌≡◌, ◌==◌, Bool, true, ◌&&◌, Option, Some, None, option_map, List, [], map}
+use Rattle.std.specs.Prelude.{ℕ, ◌≡◌, ◌==◌, Bool, ◌&&◌, option_map, List, map}
 use Rattle.std.specs.List.{list_all}
 use Rattle.std.specs.Map.{lookup}
-use Rattle.capnp_model.specs.Schemas.{Field, FieldKind, Node, Shape, shape, Schema}
+use Rattle.capnp_model.specs.Schemas.{FieldKind, Node, Shape, shape, Schema}
 use Rattle.capnp_model.specs.Accepted.{find_node, fields_of_kind, has_good_default, default_reads, fields_from, schema_of, IsAccepted}
 use Rattle.capnp_records.specs.NodeViews.{node_of, field_of}
-use Rattle.capnp_records.specs.declared.node.NodeRecord.{NodeRecord}
 use Rattle.capnp_records.specs.declared.node.FieldRecord.{FieldRecord}
 use Rattle.capnp_compatible.specs.declared.nodes.Nodes.{Nodes}
 use Rattle.capnp_compatible.specs.declared.nodes.Holder.{Holder}

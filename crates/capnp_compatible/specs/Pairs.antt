@@ -1,5 +1,5 @@
 -- What a walk over pairs of nodes leaves.
-use Rattle.std.specs.Prelude.{ℕ, ◌≡◌, Bool, true, ◌&&◌, ◌==◌, List, ◌++◌}
+use Rattle.std.specs.Prelude.{ℕ, ◌≡◌, Bool, true, ◌&&◌, ◌==◌, ◌++◌}
 use Rattle.std.specs.List.{list_all, list_any}
 use Rattle.capnp_model.specs.Schemas.{Schema}
 use Rattle.capnp_model.specs.Compatible.{Pairs, has_pair, same_names}

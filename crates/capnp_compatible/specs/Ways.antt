@@ -1,8 +1,8 @@
 -- What contracts see of a walk along a call's path.
-use Rattle.std.specs.Prelude.{ℕ, ◌≡◌, ◌-◌, ◌<◌, ◌≤◌, Bool, true, false, Option, Some, None, find, List, [], length, map, take, slice_get, string_bytes}
+use Rattle.std.specs.Prelude.{ℕ, ◌≡◌, ◌-◌, ◌<◌, ◌≤◌, Bool, true, false, Option, Some, None, find, List, length, take, string_bytes}
 use Rattle.std.specs.List.{list_all}
 use Rattle.std.specs.Str.{bytes_eq}
-use Rattle.capnp_model.specs.Schemas.{Ty, void, plain, text, blob, untyped, interface, struct, list, type_of, Shape, pointer_slot, group_slot}
+use Rattle.capnp_model.specs.Schemas.{Ty, struct, list, type_of, Shape, pointer_slot, group_slot}
 use Rattle.capnp_model.specs.Accepted.{shape_in}
 use Rattle.capnp_model.specs.Calls.{Step, Verb as ModelVerb, Call}
 use Rattle.capnp_model.specs.Admitted.{At as ModelAt, at_body, at_element, nowhere, is_admitted_from}

@@ -1,11 +1,11 @@
 -- Files, computed: the plain struct of a number and a text, and a call that sets the number.
-use Rattle.std.proofs.Common.{◌≡◌, ℕ, pos, Bool, false, Option, Some, None, List, [], ◌∷◌, codes, refl}
-use Rattle.capnp_model.specs.Schemas.{uint, BaseType, Value, bits, Field, slot, Node, struct_node}
+use Rattle.std.proofs.Common.{◌≡◌, pos, Some, None, [], ◌∷◌, codes, refl}
+use Rattle.capnp_model.specs.Schemas.{uint, BaseType, bits, slot}
 use Rattle.capnp_model.specs.Calls.{name, index}
-use Rattle.serde_json.specs.Data.{Data, number, string, array, object, unsigned, item, no_items, member, no_members}
+use Rattle.serde_json.specs.Data.{number, string, array, object, unsigned, item, no_items, member, no_members}
 use Rattle.capnp_calls.specs.declared.call.Verb.TheVariants as verb
 use Rattle.capnp_files.specs.SchemaFiles.{type_in, type_of_members, field_in, no_list}
-use Rattle.capnp_files.specs.CallsFiles.{CallParts, call_in, given_number}
+use Rattle.capnp_files.specs.CallsFiles.{call_in, given_number}
 
 -- {"name": "a", "offset": 0, "type": "UInt16"}
 number_field : field_in (object (member (codes "name") (string (codes "a")) (member (codes "offset") (number (unsigned 0)) (member (codes "type") (string (codes "UInt16")) no_members))))

@@ -1,12 +1,11 @@
 -- Types that are the value of an object's only member.
-use Rattle.std.proofs.Common.{◌≡◌, ℕ, suc, ◌<◌, max, if◌then◌else◌, Bool, true, false, ◌∙◌, Option, Some, None, List, codes, option_map, ap, refl, arith}
+use Rattle.std.proofs.Common.{◌≡◌, ℕ, ◌<◌, if◌then◌else◌, Bool, true, false, ◌∙◌, Some, None, List, codes, option_map, ap, refl, arith}
 use Rattle.std.proofs.lemmas.Option.{same_Some}
 use Rattle.std.proofs.lemmas.Slice.Eq.{bytes_eq-Decides}
 use Rattle.std.specs.Str.{bytes_eq}
 use Rattle.capnp_model.specs.Chains.{◌>>=◌}
-use Rattle.capnp_model.specs.Schemas.{TypeRecord}
 use Rattle.serde_json.specs.Find.{as_str, as_object}
-use Rattle.serde_json.specs.Data.{Data, null, boolean, number, string, array, object, Members, no_members, member, depth, members_depth}
+use Rattle.serde_json.specs.Data.{Data, null, boolean, number, string, array, object, Members, no_members, member, depth}
 use Rattle.capnp_files.specs.Json.{only_member, find_named}
 use Rattle.capnp_files.specs.SchemaFiles.{named_bases, no_list, type_in, type_of_members, list_type, type_with_id}
 

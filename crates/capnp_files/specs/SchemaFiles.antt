@@ -3,7 +3,7 @@ use Rattle.std.specs.Prelude.{ℕ, ℤ, pos, negsuc, suc, ◌-◌, ◌^◌, ◌=
 use Rattle.std.specs.List.{count_by}
 use Rattle.std.specs.Str.{bytes_eq}
 use Rattle.capnp_model.specs.Chains.{◌>>=◌, ◌provided◌}
-use Rattle.capnp_model.specs.Schemas.{bool, int, uint, «enum», BaseType, TypeRecord, Value, no_value, bits, text_bytes, blob_bytes, list_segment, struct_segment, Field, slot, group, StructNode, struct_node, enum_node, Node, Enumerant}
+use Rattle.capnp_model.specs.Schemas.{bool, int, uint, «enum», BaseType, TypeRecord, Value, no_value, bits, text_bytes, blob_bytes, list_segment, struct_segment, Field, slot, group, struct_node, enum_node, Node, Enumerant}
 use Rattle.serde_json.specs.Data.{Data, string, object, Members, no_members, member}
 use Rattle.serde_json.specs.Find.{get, as_bool, as_str, as_array, as_number, as_i64}
 use Rattle.capnp_files.specs.Json.{value_in, find_named, with_keys, number_in, number_at, number_or, text_at, hex_in, each_item, items_at}

@@ -1,4 +1,4 @@
-use Rattle.std.proofs.Common.{◌≡◌, ◌+◌, Bool, true, false, List, map, length, take, sym, ◌∙◌, ap, subst}
+use Rattle.std.proofs.Common.{◌≡◌, ◌+◌, true, false, List, map, sym, ◌∙◌, ap, subst}
 use Rattle.std.specs.List.{list_all}
 use Rattle.capnp_model.specs.Schemas.{Node}
 use Rattle.capnp_model.specs.Accepted.{schema_of}
@@ -6,7 +6,7 @@ use Rattle.capnp_model.specs.Admitted.{is_admitted}
 use Rattle.capnp_records.specs.Sets.{nodes_of}
 use Rattle.capnp_calls.specs.CallViews.{call_view}
 use Rattle.capnp_calls.specs.declared.call.Call.{Call}
-use Rattle.capnp_compatible.specs.Holders.{nodes_in, schema_in}
+use Rattle.capnp_compatible.specs.Holders.{schema_in}
 use Rattle.capnp_compatible.specs.Ways.{IsFirstRefused}
 use Rattle.capnp_compatible.proofs.FirstRefused.{first_refused, next_tested, taken_all}
 use Rattle.capnp_compatible.proofs.admitted.admitted.Goals as goal

@@ -1,4 +1,4 @@
-use Rattle.std.proofs.Common.{◌<◌, ℕ, Fits, w8, List, [], ◌∷◌, suc, get_or, arith}
+use Rattle.std.proofs.Common.{ℕ, Fits, w8, List, [], ◌∷◌, suc, get_or, arith}
 use Rattle.capnp_compatible.specs.Defaults.{AreBytes}
 use Rattle.capnp_compatible.proofs.defaults.small.Goals as goal
 

@@ -1,7 +1,7 @@
-use Rattle.std.proofs.Common.{◌≡◌, ◌-◌, ◌||◌, ℕ, Bool, true, false, Option, Some, None, List, [], ◌∷◌, Bor, option_map, map, length, take, drop, string_bytes, sym, ◌∙◌, ap}
+use Rattle.std.proofs.Common.{◌≡◌, ◌-◌, ℕ, true, false, List, ◌∷◌, option_map, length, take, drop, string_bytes, sym, ◌∙◌, ap}
 use Rattle.std.specs.Option.{option_copied}
 use Rattle.std.proofs.lemmas.Result.{IfOk-weaker}
-use Rattle.capnp_model.specs.Schemas.{type_of, Shape, no_fields, group_slot}
+use Rattle.capnp_model.specs.Schemas.{type_of, Shape}
 use Rattle.capnp_model.specs.Accepted.{shape_in}
 use Rattle.capnp_model.specs.Steps.{target}
 use Rattle.capnp_model.specs.Admitted.{is_extended, extends_fields, extends_field}

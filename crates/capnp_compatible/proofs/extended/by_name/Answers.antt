@@ -1,4 +1,4 @@
-use Rattle.std.proofs.Common.{◌≡◌, ◌-◌, ◌<◌, suc, ◌∷◌, ℕ, Bool, true, false, cond, if◌then◌else◌, Option, Some, None, option_map, List, Bor, length, drop, drop-cons, string_bytes, refl, sym, ◌∙◌, ap, arith}
+use Rattle.std.proofs.Common.{◌≡◌, ◌-◌, ◌<◌, suc, ◌∷◌, ℕ, Bool, true, false, cond, if◌then◌else◌, Option, Some, option_map, List, Bor, length, drop, drop-cons, string_bytes, refl, sym, ◌∙◌, ap, arith}
 use Rattle.std.specs.Str.{bytes_eq}
 use Rattle.capnp_records.specs.declared.node.FieldRecord.{FieldRecord}
 use Rattle.capnp_compatible.specs.Ways.{first_named}

@@ -1,4 +1,4 @@
-use Rattle.std.proofs.Common.{◌≡◌, ◌==◌, ◌&&◌, ◌-◌, ◌∷◌, ℕ, Bool, true, false, Option, Some, None, List, Bor, IfSome, length, take, drop, string_bytes, sym, ◌∙◌, ap, subst, rules}
+use Rattle.std.proofs.Common.{◌≡◌, ◌&&◌, ◌-◌, ◌∷◌, ℕ, Bool, true, false, Option, Some, None, List, Bor, IfSome, length, take, drop, string_bytes, sym, ◌∙◌, ap, subst, rules}
 use Rattle.std.proofs.lemmas.Result.{IfOk-weaker}
 use Rattle.std.specs.Option.{option_copied}
 use Rattle.std.specs.Str.{bytes_eq}

@@ -1,4 +1,4 @@
-use Rattle.std.proofs.Common.{◌≡◌, ◌-◌, List, ◌∷◌, length, take, drop}
+use Rattle.std.proofs.Common.{◌≡◌, ◌-◌, ◌∷◌, length, take, drop}
 use Rattle.serde_json.specs.View.{items_view}
 use Rattle.capnp_records.proofs.ListTests.{first_and_rest}
 use Rattle.capnp_files.specs.Json.{each_item}

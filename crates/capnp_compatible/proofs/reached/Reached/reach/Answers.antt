@@ -1,8 +1,8 @@
-use Rattle.std.proofs.Common.{◌≡◌, ◌==◌, ◌&&◌, ◌||◌, ◌++◌, ◌∷◌, [], true, false, ap, sym, ◌∙◌}
+use Rattle.std.proofs.Common.{◌≡◌, ◌==◌, ◌&&◌, ◌||◌, ◌++◌, ◌∷◌, [], true, ap, sym, ◌∙◌}
 use Rattle.std.specs.List.{list_any}
 use Rattle.capnp_model.specs.Compatible.{Pairs, has_pair}
-use Rattle.capnp_compatible.specs.Pairs.{has_each, pairs_of}
-use Rattle.capnp_compatible.proofs.Known.{reached_before, reached_now, one_more, either, was_new, was_there}
+use Rattle.capnp_compatible.specs.Pairs.{pairs_of}
+use Rattle.capnp_compatible.proofs.Known.{reached_before, one_more, either, was_there}
 use Rattle.capnp_compatible.proofs.reached.Reached.reach.Goals as goal
 
 pub returns-in_ok-push-clause-sound : goal.returns-in_ok-push-clause-sound
