@@ -100,7 +100,7 @@ pub fn relay_between<R: BufRead, W: Write, L: Write>(
     )
 }
 
-/// As `relay_between`, with a pause before each message is read. A fault of a pause ends the run as `Out` or `Log`.
+/// As `relay_between`, with a pause before each message is read and a region of any length. A fault of a pause ends the run as `Out` or `Log`.
 pub fn relay_between_pausing<R: BufRead, W: Write, L: Write, P: Pause<R, W, L>>(
     alloc: Global,
     source: &mut R,
@@ -112,7 +112,6 @@ pub fn relay_between_pausing<R: BufRead, W: Write, L: Write, P: Pause<R, W, L>>(
     options: RelayOptions,
     region: &mut [u8],
 ) -> Result<Counts, BetweenFault>
-    requires region { length region.old ≡ 8 * (options.bounds.words + 1) }
     requires root { IsRoot root }
     ensures run { let seen = streams_of ⟦<R as Read>⟧ ⟦<W as Write>⟧ ⟦<L as Write>⟧ in
         RelaysBetween (RelaysPausing P.may_fail) root.entry newer.entry calls.now options W.may_grow

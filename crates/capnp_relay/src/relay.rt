@@ -43,7 +43,7 @@ pub fn relay<R: BufRead, W: Write, L: Write>(
     relay_pausing::<R, W, L, NoPause>(alloc, source, out, log, root, calls, options, region)
 }
 
-/// As `relay`, with a pause before each message is read. A fault of a pause ends the run as `Out` or `Log`: the messages before it
+/// As `relay`, with a pause before each message is read and a region of any length: a message that doesn't fit into it is edited in memory from `alloc`. A fault of a pause ends the run as `Out` or `Log`: the messages before it
 /// are answered whole.
 pub fn relay_pausing<R: BufRead, W: Write, L: Write, P: Pause<R, W, L>>(
     alloc: Global,
@@ -55,7 +55,6 @@ pub fn relay_pausing<R: BufRead, W: Write, L: Write, P: Pause<R, W, L>>(
     options: RelayOptions,
     region: &mut [u8],
 ) -> Result<Counts, RelayFault>
-    requires region { length region.old ≡ 8 * (options.bounds.words + 1) }
     requires root { IsRoot root }
     ensures run { let seen = streams_of ⟦<R as Read>⟧ ⟦<W as Write>⟧ ⟦<L as Write>⟧ in
         RelaysPausing P.may_fail (relay_work root.entry calls.now options W.may_grow L.may_grow)

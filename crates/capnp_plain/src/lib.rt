@@ -1,0 +1,5 @@
+//! Calls that set plain fields of a root, resolved once, and written where a message's canonical words stand.
+#![tactic(auto)]
+
+pub mod plain;
+pub mod sets;

@@ -1,0 +1,17 @@
+//! Numbers that calls put into the data of roots.
+ghost use Rattle.std.specs.Prelude.{◌+◌, ◌^◌, ◌<◌, ◌≤◌};
+
+/// A number that a call puts into the data of a root.
+#[derive(Clone, Copy, Debug, PartialEq, Eq)]
+pub struct PlainSet {
+    /// The word of the data section, from 0 on.
+    pub word: u32,
+    /// Where the number begins in the word, in bits from the lowest on.
+    pub shift: u32,
+    /// The bits of the number, 1 to 64.
+    pub width: u32,
+    /// The number, with the field's default already put to it.
+    pub bits: u64,
+    pub ghost inside: { shift + width ≤ 64 },
+    pub ghost fits: { bits < 2 ^ width },
+}
