@@ -231,6 +231,7 @@ fn write_list<A: ReaderArena>(
 }
 
 /// The least sizes that so many structs in a row can do with.
+#[inline(always)]
 pub(crate) fn cut_of<A: ReaderArena>(
     arena: &A,
     start: Place,
@@ -264,6 +265,7 @@ pub(crate) fn cut_of<A: ReaderArena>(
 }
 
 /// The pointer to a struct that begins so many words behind it. An empty one lies at the pointer itself.
+#[inline(always)]
 pub(crate) fn pointer_to_cut(gap: usize, cut: Cut) -> u64
     requires { gap < 2 ^ 29 }
     ensures { (section : ℕ) (ts : Trees) → tree_count ts ≡ cut.kept_pointers

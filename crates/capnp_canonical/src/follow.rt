@@ -17,6 +17,7 @@ use capnp_units::kinds::ErrorKind;
 use capnp_units::limiter::ReadLimiter;
 
 /// Refuses a capability, and an object that takes a level where none is left.
+#[inline(always)]
 fn ask_data(named: NamedObject, levels: u32) -> Result<()>
     ensures { MatchResult
         result (λ u.
@@ -39,6 +40,7 @@ fn ask_data(named: NamedObject, levels: u32) -> Result<()>
 /// What the pointer at a place names on a walk of at most so many levels. It is counted as followed, and its pads and the object's own words are granted.
 ///
 /// It is refused as `follow_within` is, and a capability with `CapabilityInCanonical`.
+#[inline(always)]
 pub(crate) fn follow_data<A: ReaderArena>(
     arena: &A,
     limiter: &mut ReadLimiter,
@@ -57,6 +59,7 @@ pub(crate) fn follow_data<A: ReaderArena>(
 }
 
 /// Counts so many nulls as followed.
+#[inline(always)]
 pub(crate) fn follow_nulls(limiter: &mut ReadLimiter, count: u32)
     ensures followed { Follows limiter.old limiter.new count }
     ensures granted { Spends limiter.old limiter.new 0 }

@@ -9,6 +9,7 @@ use capnp_object::arena::ReaderArena;
 use capnp_object::place::{Place, has_words};
 
 /// Whether a place lies behind another in its segment, at least so many words on.
+#[inline(always)]
 pub(crate) fn is_behind<A: ReaderArena>(arena: &A, place: Place, words: usize, head: Place) -> bool
     ensures behind { let s = words_in (A.segments arena.now) in
         OnTrue result
@@ -23,6 +24,7 @@ pub(crate) fn is_behind<A: ReaderArena>(arena: &A, place: Place, words: usize, h
 }
 
 /// Moves the head to the end, where there is one.
+#[inline(always)]
 pub(crate) fn move_on(head: &mut Place, end: Option<usize>) -> bool
     ensures some { OnTrue result
         ((end ≡ Some head.new.position) × (head.new.segment ≡ head.old.segment)) }

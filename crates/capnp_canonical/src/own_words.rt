@@ -17,6 +17,7 @@ use capnp_object::place::{Place, word_at};
 use capnp_units::sizes::Word;
 
 /// The word at a place, or 0 where there is none.
+#[inline(always)]
 pub(crate) fn word_or_zero<A: ReaderArena>(arena: &A, place: Place) -> u64
     ensures word { result ≡ unwrap_or
         (word_at (words_in (A.segments arena.now)) (place_view place)) 0 }
@@ -26,6 +27,7 @@ pub(crate) fn word_or_zero<A: ReaderArena>(arena: &A, place: Place) -> u64
 }
 
 /// How many of so many words there are without zeros at the end.
+#[inline(always)]
 pub(crate) fn words_needed<A: ReaderArena>(arena: &A, start: Place, count: u16) -> u16
     requires { AreThere (words_in (A.segments arena.now)) (place_view start) count }
     ensures needed { result ≡ needed_words count
@@ -82,11 +84,13 @@ pub(crate) fn most_needed<A: ReaderArena>(
 }
 
 /// Bytes are numbers below 256.
+#[inline(always)]
 fn are_bytes(bytes: &[u8])
     ensures { (i : ℕ) → slice_index bytes.now i < 256 }
 {}
 
 /// The words of a segment are numbers of 64 bits.
+#[inline(always)]
 pub(crate) fn are_words<A: ReaderArena>(arena: &A, segment: u32)
     ensures { AreWords (segment_words (words_in (A.segments arena.now)) segment) }
 {
@@ -97,6 +101,7 @@ pub(crate) fn are_words<A: ReaderArena>(arena: &A, segment: u32)
 }
 
 /// So many words from a place on, where they are there.
+#[inline(always)]
 fn row_of<A: ReaderArena>(arena: &A, start: Place, count: usize) -> &[Word]
     requires { AreThere (words_in (A.segments arena.now)) (place_view start) count }
     ensures words { words_view result.now
@@ -113,6 +118,7 @@ fn row_of<A: ReaderArena>(arena: &A, start: Place, count: usize) -> &[Word]
 }
 
 /// Puts words over those from a place on.
+#[inline(always)]
 fn lay(into: &mut [Word], at: usize, row: &[Word])
     requires { at + length row.now ≤ length into.old }
     ensures { into.new ≡ take at into.old ++ (row.now ++ drop (at + length row.now) into.old) }
@@ -121,6 +127,7 @@ fn lay(into: &mut [Word], at: usize, row: &[Word])
 }
 
 /// Copies so many words over those from a place on.
+#[inline(always)]
 pub(crate) fn copy_words<A: ReaderArena>(
     arena: &A,
     start: Place,

@@ -14,6 +14,7 @@ use capnp_units::sizes::Word;
 const MOST_WORDS: usize = 0x1fff_ffff;
 
 /// Where so many words end that are behind those that are used. They are refused with `BufferNotLargeEnough` where the slice, or a message, hasn't so many.
+#[inline(always)]
 pub(crate) fn end_of(into: &[Word], used: usize, words: usize) -> Result<usize>
     ensures { MatchResult
         result (λ end. (end ≡ used + words) × (end ≤ length into.now) × (end < 2 ^ 29)) (λ e.
@@ -27,6 +28,7 @@ pub(crate) fn end_of(into: &[Word], used: usize, words: usize) -> Result<usize>
 }
 
 /// Puts a word at a place.
+#[inline(always)]
 pub(crate) fn put(into: &mut [Word], at: usize, word: u64)
     requires { at < length into.old }
     ensures words { words_view into.new ≡ set (words_view into.old) at word }
@@ -36,6 +38,7 @@ pub(crate) fn put(into: &mut [Word], at: usize, word: u64)
 }
 
 /// A struct pointer.
+#[inline(always)]
 pub(crate) fn pointer_to_struct(offset: u64, data_words: u64, pointers: u64) -> u64
     requires offset { offset < 2 ^ 30 }
     requires words { data_words < 2 ^ 16 }
@@ -46,6 +49,7 @@ pub(crate) fn pointer_to_struct(offset: u64, data_words: u64, pointers: u64) -> 
 }
 
 /// A list pointer.
+#[inline(always)]
 pub(crate) fn pointer_to_list(offset: u64, size: u64, count: u64) -> u64
     requires offset { offset < 2 ^ 30 }
     requires size { size < 8 }
@@ -56,6 +60,7 @@ pub(crate) fn pointer_to_list(offset: u64, size: u64, count: u64) -> u64
 }
 
 /// The word at a place.
+#[inline(always)]
 fn word_in(into: &[Word], at: usize) -> u64
     requires { at < length into.now }
     ensures { result ≡ get_or (words_view into.now) at 0 }
@@ -64,6 +69,7 @@ fn word_in(into: &[Word], at: usize) -> u64
 }
 
 /// Clears the bits behind so many in the words that end at a place.
+#[inline(always)]
 pub(crate) fn mask_last(into: &mut [Word], end: usize, bits: u64)
     requires end { end ≤ length into.old }
     requires some { words_for bits ≤ end }

@@ -141,6 +141,7 @@ impl<S: ReaderSegments> ReaderArena for ReaderArenaImpl<S> {
 
     ghost nesting = { λ a. a.nesting_limit };
 
+    #[inline(always)]
     fn get_segment(&self, id: SegmentId) -> Option<&[u8]> {
         self.segments.get_segment(id)
     }

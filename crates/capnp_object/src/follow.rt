@@ -15,6 +15,7 @@ use capnp_units::limiter::ReadLimiter;
 use capnp_units::sizes::ElementSize;
 
 /// What following an object costs by itself, in words: those of a struct or a list, with a list's tag. A list of voids costs a word for each element, and so does a list of structs without a word, beside its tag.
+#[inline(always)]
 pub fn own_cost(object: Object) -> u64
     ensures words { result ≡ own_cost object }
     ensures few { result < 2 ^ 36 }
@@ -50,6 +51,7 @@ pub fn own_cost(object: Object) -> u64
 /// What the pointer at a place names, one level deep. It is counted as followed, and its pads and the object's own words are granted.
 ///
 /// It is refused as `object_at` is, or with `ReadLimitExceeded` where the words pass what is left of the limit. Then it is counted all the same, and no word is granted.
+#[inline(always)]
 pub fn follow<A: ReaderArena>(arena: &A, limiter: &mut ReadLimiter, place: Place) -> Result<Object>
     ensures { FollowGives (words_in (A.segments arena.now)) (place_view place) limiter.old result
         limiter.new }
@@ -61,6 +63,7 @@ pub fn follow<A: ReaderArena>(arena: &A, limiter: &mut ReadLimiter, place: Place
 }
 
 /// Refuses an object that takes a level where none is left. Null and a capability take none.
+#[inline(always)]
 fn ask_level(named: NamedObject, levels: u32) -> Result<()>
     ensures { MatchResult
         result (λ u. suffice_for levels (named_view named) ≡ true) (λ e.

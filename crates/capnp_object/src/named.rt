@@ -43,6 +43,7 @@ pub struct FoundObject {
 }
 
 /// The object of a describing word that ends at a place.
+#[inline(always)]
 fn described_behind(end: Place, pointer: WordPointer) -> Result<NamedObject>
     requires { end.position < 2 ^ 62 }
     ensures { seen named_view result ≡ described (begins (place_view end)) (pointer_view pointer) }
@@ -77,6 +78,7 @@ fn described_behind(end: Place, pointer: WordPointer) -> Result<NamedObject>
 }
 
 /// The object of a describing word, where its place is told.
+#[inline(always)]
 fn described_at(start: Place, pointer: WordPointer) -> Result<NamedObject>
     ensures { seen named_view result
         ≡ described (λ _. Ok (place_view start)) (pointer_view pointer) }
@@ -101,6 +103,7 @@ fn described_at(start: Place, pointer: WordPointer) -> Result<NamedObject>
 }
 
 /// The object behind a landing pad of one word, a pointer.
+#[inline(never)]
 fn in_short_pad<A: ReaderArena>(arena: &A, pad: Place) -> Result<NamedObject>
     ensures { seen named_view result
         ≡ pad_object (words_in (A.segments arena.now)) (place_view pad) 1 }
@@ -114,6 +117,7 @@ fn in_short_pad<A: ReaderArena>(arena: &A, pad: Place) -> Result<NamedObject>
 }
 
 /// The object behind a landing pad of two words: where it begins, and a pointer whose offset isn't looked at.
+#[inline(never)]
 fn in_long_pad<A: ReaderArena>(arena: &A, pad: Place) -> Result<NamedObject>
     ensures { seen named_view result
         ≡ pad_object (words_in (A.segments arena.now)) (place_view pad) 2 }
@@ -128,6 +132,7 @@ fn in_long_pad<A: ReaderArena>(arena: &A, pad: Place) -> Result<NamedObject>
 }
 
 /// The object that the pointer at a place names, with the words of the pads that lead to it.
+#[inline(always)]
 pub fn found_at<A: ReaderArena>(arena: &A, place: Place) -> Result<FoundObject>
     ensures found { seen found_view result
         ≡ found_at (words_in (A.segments arena.now)) (place_view place) }

@@ -64,6 +64,7 @@ pub struct Found {
 }
 
 /// The words that so many plain elements fill.
+#[inline(always)]
 pub fn words_of_elements(size: ElementSize, count: u32) -> u64
     ensures words { result ≡ words_for (data_bits (size_number size) * count) }
     ensures few { result < 2 ^ 33 }
@@ -72,6 +73,7 @@ pub fn words_of_elements(size: ElementSize, count: u32) -> u64
 }
 
 /// A struct, where its words are there.
+#[inline(always)]
 fn whole_struct<A: ReaderArena>(
     arena: &A,
     start: Place,
@@ -94,6 +96,7 @@ fn whole_struct<A: ReaderArena>(
 }
 
 /// A list of plain elements, where its words are there.
+#[inline(always)]
 fn whole_list<A: ReaderArena>(
     arena: &A,
     start: Place,
@@ -113,6 +116,7 @@ fn whole_list<A: ReaderArena>(
 }
 
 /// A list of pointers, where they are there.
+#[inline(always)]
 fn whole_pointers<A: ReaderArena>(arena: &A, start: Place, count: u32) -> Result<Object>
     ensures object { seen (λ o. o) result
         ≡ whole (words_in (A.segments arena.now)) (a_list (place_view start) 6 count) }
@@ -125,6 +129,7 @@ fn whole_pointers<A: ReaderArena>(arena: &A, start: Place, count: u32) -> Result
 }
 
 /// A list of structs, where its tag and the words behind it are there, the tag has the form of a struct pointer, and its elements fit into those words.
+#[inline(always)]
 fn whole_structs<A: ReaderArena>(arena: &A, start: Place, words: u32) -> Result<Object>
     ensures object { seen (λ o. o) result
         ≡ whole (words_in (A.segments arena.now)) (a_list (place_view start) 7 words) }
@@ -159,6 +164,7 @@ fn whole_structs<A: ReaderArena>(arena: &A, start: Place, words: u32) -> Result<
 }
 
 /// An object that a pointer names, where its words are there.
+#[inline(always)]
 pub fn whole<A: ReaderArena>(arena: &A, named: NamedObject) -> Result<Object>
     ensures object { seen (λ o. o) result
         ≡ whole (words_in (A.segments arena.now)) (named_view named) }

@@ -31,6 +31,7 @@ pub struct Place {
 }
 
 /// The word at a position in words of bytes, where they have it whole.
+#[inline(always)]
 fn word_in(bytes: &[u8], position: usize) -> Option<u64>
     ensures word { result ≡ slice_get (whole_words bytes.now) position }
     ensures near { OnSome result (position < 2 ^ 61) }
@@ -43,6 +44,7 @@ fn word_in(bytes: &[u8], position: usize) -> Option<u64>
 }
 
 /// The word at a place, where the segment is there and has it.
+#[inline(always)]
 pub fn word_at<A: ReaderArena>(arena: &A, place: Place) -> Option<u64>
     ensures word { result ≡ word_at (words_in (A.segments arena.now)) (place_view place) }
     ensures near { OnSome result (place.position < 2 ^ 61) }
@@ -51,6 +53,7 @@ pub fn word_at<A: ReaderArena>(arena: &A, place: Place) -> Option<u64>
 }
 
 /// Whether so many words from a place on are there.
+#[inline(always)]
 pub fn has_words<A: ReaderArena>(arena: &A, place: Place, count: usize) -> bool
     ensures there { result ≡ is_some
         (words_at (words_in (A.segments arena.now)) (place_view place) count) }
@@ -66,6 +69,7 @@ pub fn has_words<A: ReaderArena>(arena: &A, place: Place, count: usize) -> bool
 }
 
 /// Where an object begins whose pointer ends at a place: so many words on, by the thirty bits of a signed number. In front of the segment it is refused as out of bounds.
+#[inline(always)]
 pub fn begins_at(end: Place, offset: u32) -> Result<Place>
     requires { end.position < 2 ^ 62 }
     ensures { seen place_view result ≡ begins (place_view end) offset }
@@ -87,6 +91,7 @@ pub fn begins_at(end: Place, offset: u32) -> Result<Place>
 }
 
 /// The place that a far pointer's word tells: the position by bits 3 to 31, the segment by bits 32 to 63.
+#[inline(always)]
 pub fn place_in_word(word: u64) -> Place
     ensures { place_view result ≡ place (bits_at 32 32 word) (bits_at 3 29 word) }
 {

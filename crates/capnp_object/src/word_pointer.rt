@@ -41,6 +41,7 @@ pub enum WordPointer {
 }
 
 /// What a pointer word says. Its bits are drawn in `specs/Pointers.antt` of the model.
+#[inline(always)]
 pub fn pointer_of_word(word: u64) -> WordPointer
     ensures { pointer_view result ≡ pointer_of word }
 {
