@@ -1,11 +1,10 @@
 -- The words of segments of bytes.
-use Rattle.std.proofs.Common.{◌≡◌, ℕ, zero, suc, ◌+◌, ◌-◌, ◌*◌, ◌/◌, ◌≤◌, ◌<◌, Bool, true, false, leb, List, length, take, drop, Some, None, refl, ap, sym, ◌∙◌, arith}
+use Rattle.std.proofs.Common.{◌≡◌, ℕ, zero, suc, ◌+◌, ◌*◌, ◌/◌, ◌≤◌, ◌<◌, Bool, true, false, leb, List, length, take, drop, Some, None, refl, ap, sym, ◌∙◌, arith}
 use Rattle.std.specs.List.{slice_get}
 use Rattle.std.specs.Int.{from_le_bytes, w64}
 use Rattle.std.specs.Option.{option_map, is_some}
 use Rattle.std.proofs.lemmas.List.{drop-drop, take-take, get_or-take}
 use Rattle.std.proofs.lemmas.Bool.{leb-true}
-use Rattle.std.proofs.lemmas.Bool.Decides.{nat_tests}
 use Rattle.std.proofs.lemmas.Option.{slice_get-map, slice_get_past}
 use Rattle.capnp_model.specs.Bytes.{words_in_bytes}
 use Rattle.capnp_model.specs.Chains.{◌provided◌}
@@ -48,12 +47,6 @@ pub words_where : (s : List (List ℕ)) (i k n : ℕ) (bytes : List ℕ) → Som
 words_where s i k n bytes e =
     let there = segment_there s i bytes e in
     rw there (is_some-provided (take n (drop k (whole_words bytes))) (leb (k + n) (length (whole_words bytes))) ∙ ap (leb (k + n)) (whole_words-length bytes))
-
-pub words_within : (s : List (List ℕ)) (i k n : ℕ) (bytes : List ℕ) → Some bytes ≡ slice_get s i → k ≤ length bytes / 8 → leb n (length bytes / 8 - k) ≡ is_some (words_at (words_in s) (place i k) n)
-words_within s i k n bytes e h = grind (arith, nat_tests) ∙ sym (words_where s i k n bytes e)
-
-pub words_behind : (s : List (List ℕ)) (i k n : ℕ) (bytes : List ℕ) → Some bytes ≡ slice_get s i → length bytes / 8 < k → leb k (length bytes / 8) ≡ is_some (words_at (words_in s) (place i k) n)
-words_behind s i k n bytes e h = grind (arith, nat_tests) ∙ sym (words_where s i k n bytes e)
 
 pub no_words : (s : List (List ℕ)) (i k n : ℕ) → None ≡ slice_get s i → false ≡ is_some (words_at (words_in s) (place i k) n)
 no_words s i k n e = let past = segment_past s i e in rw past refl

@@ -6,7 +6,9 @@
 pub mod arena;
 pub mod follow;
 pub mod laws;
+pub mod lists;
 pub mod named;
+pub mod near;
 pub mod object;
 pub mod place;
 pub mod size;

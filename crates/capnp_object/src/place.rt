@@ -1,5 +1,5 @@
 //! Places in segments, and the words there.
-ghost use Rattle.std.specs.Prelude.{◌≡◌, ◌+◌, ◌*◌, ◌/◌, ◌≤◌, ◌<◌, ◌^◌, slice_get, length};
+ghost use Rattle.std.specs.Prelude.{◌≡◌, ◌+◌, ◌*◌, ◌/◌, ◌≤◌, ◌<◌, ◌^◌, nat_le, slice_get, length};
 ghost use Rattle.std.specs.Option.{is_some, OnSome};
 ghost use Rattle.std.specs.Bool.{OnTrue};
 ghost use Rattle.capnp_model.specs.Segments.{place, word_at, words_at};
@@ -32,7 +32,7 @@ pub struct Place {
 
 /// The word at a position in words of bytes, where they have it whole.
 #[inline(always)]
-fn word_in(bytes: &[u8], position: usize) -> Option<u64>
+pub(crate) fn word_in(bytes: &[u8], position: usize) -> Option<u64>
     ensures word { result ≡ slice_get (whole_words bytes.now) position }
     ensures near { OnSome result (position < 2 ^ 61) }
 {
@@ -52,6 +52,16 @@ pub fn word_at<A: ReaderArena>(arena: &A, place: Place) -> Option<u64>
     word_in(arena.get_segment(place.segment)?, place.position)
 }
 
+/// Whether bytes have so many whole words from a position on.
+#[inline(always)]
+pub(crate) fn reach(bytes: &[u8], position: usize, count: usize) -> bool
+    ensures there { result ≡ nat_le (position + count) (length bytes.now / 8) }
+    ensures near { OnTrue result (position + count < 2 ^ 61) }
+{
+    let words = bytes.len() / 8;
+    position <= words && count <= words - position
+}
+
 /// Whether so many words from a place on are there.
 #[inline(always)]
 pub fn has_words<A: ReaderArena>(arena: &A, place: Place, count: usize) -> bool
@@ -60,10 +70,7 @@ pub fn has_words<A: ReaderArena>(arena: &A, place: Place, count: usize) -> bool
     ensures near { OnTrue result (place.position + count < 2 ^ 61) }
 {
     match arena.get_segment(place.segment) {
-        Some(bytes) => {
-            let words = bytes.len() / 8;
-            place.position <= words && count <= words - place.position
-        }
+        Some(bytes) => reach(bytes, place.position, count),
         None => false,
     }
 }

@@ -1,0 +1,74 @@
+-- Lists of plain elements that are told in one look.
+use Rattle.std.proofs.Common.{◌≡◌, ℕ, ◌+◌, ◌-◌, ◌*◌, ◌/◌, ◌^◌, ◌<◌, Bool, true, false, nat_lt, leb, eqb, if◌then◌else◌, List, length, Option, Some, None, Result, Ok, refl, ap, sym, ◌∙◌, subst, arith}
+use Rattle.std.specs.List.{slice_get}
+use Rattle.std.specs.Option.{ok_or, is_some}
+use Rattle.std.proofs.lemmas.Bool.{ne_eqb}
+use Rattle.capnp_model.specs.Kinds.{Kind, OutOfBounds}
+use Rattle.capnp_model.specs.Chains.{◌>>=◌, ◌provided◌, ◌and_then◌}
+use Rattle.capnp_model.specs.Sections.{words_for}
+use Rattle.capnp_model.specs.Segments.{Segments, Place, place, after, word_at, words_at}
+use Rattle.capnp_model.specs.Pointers.{to_struct, to_list, pointer_of, begins, a_list, found_by, found_at}
+use Rattle.capnp_model.specs.Pointers as model
+use Rattle.capnp_model.proofs.Chaining.{ok_is}
+use Rattle.capnp_units.specs.declared.sizes.ElementSize.{ElementSize}
+use Rattle.capnp_units.specs.declared.sizes.ElementSize.TheVariants.{Void, Bit, Byte, TwoBytes, FourBytes, EightBytes, Pointer as OfPointers, InlineComposite}
+use Rattle.capnp_units.specs.Segments.{whole_words, words_in}
+use Rattle.capnp_units.specs.Sizes.{size_number, data_bits}
+use Rattle.capnp_object.specs.declared.lists.NearList.{NearList}
+use Rattle.capnp_object.specs.declared.place.Place.{Place as Where}
+use Rattle.capnp_object.specs.declared.object.Object.{Object}
+use Rattle.capnp_object.specs.declared.object.Object.TheVariants as object
+use Rattle.capnp_object.specs.Places.{place_view}
+use Rattle.capnp_object.specs.Objects.{whole}
+use Rattle.capnp_object.specs.Near.{near_object, IsNear}
+use Rattle.capnp_object.proofs.Words.{segment_there, words_where}
+use Rattle.capnp_object.proofs.Walking.{exact_object}
+
+-- an object begins in the segment where its pointer ends
+begins_where : (p q : Place) (offset : ℕ) → begins p offset ≡ Ok q → q.segment ≡ p.segment
+begins_where p q offset e = by (nat_lt offset (2 ^ 29)) (leb (2 ^ 30) (p.position + offset)) e
+  where
+    by : (b d : Bool) → (if b then Ok (after p offset) else ok_or (place p.segment (p.position + offset - 2 ^ 30) provided d) OutOfBounds) ≡ Ok q → q.segment ≡ p.segment
+    by true d e = ap (λ (x : Place). x.segment) (sym (ok_is _ _ e))
+    by false true e = ap (λ (x : Place). x.segment) (sym (ok_is _ _ e))
+    by false false e = absurd cc
+
+-- a pointer to a list is no word of zeros
+some_word : (w offset size n : ℕ) → to_list offset size n ≡ pointer_of w → w ≡ 0 → ⊥
+some_word w offset size n e z = let none : to_list offset size n ≡ to_struct 0 0 0 = e ∙ ap pointer_of z in cc
+
+plain_of : (o : Option (List ℕ)) (x : Object) → is_some o ≡ true → (ok_or o OutOfBounds and_then λ _. Ok x) ≡ Ok x
+plain_of (Some ws) x h = refl
+plain_of None x h = absurd cc
+
+whole_plain : (s : Segments) (q : Where) (size : ElementSize) (n : ℕ) → size_number size < 6 → is_some (words_at s (place_view q) (words_for (data_bits (size_number size) * n))) ≡ true
+    → whole s (a_list (place_view q) (size_number size) n) ≡ Ok (object.List q size n)
+whole_plain s q Void n h e = plain_of (words_at s (place_view q) (words_for (data_bits 0 * n))) (object.List q Void n) e
+whole_plain s q Bit n h e = plain_of (words_at s (place_view q) (words_for (data_bits 1 * n))) (object.List q Bit n) e
+whole_plain s q Byte n h e = plain_of (words_at s (place_view q) (words_for (data_bits 2 * n))) (object.List q Byte n) e
+whole_plain s q TwoBytes n h e = plain_of (words_at s (place_view q) (words_for (data_bits 3 * n))) (object.List q TwoBytes n) e
+whole_plain s q FourBytes n h e = plain_of (words_at s (place_view q) (words_for (data_bits 4 * n))) (object.List q FourBytes n) e
+whole_plain s q EightBytes n h e = plain_of (words_at s (place_view q) (words_for (data_bits 5 * n))) (object.List q EightBytes n) e
+whole_plain s q OfPointers n h e = absurd (omega arith)
+whole_plain s q InlineComposite n h e = absurd (omega arith)
+
+module _ (segments : List (List ℕ)) (bytes : List ℕ) (p : Place) (w offset : ℕ) (l : NearList) (there : Some bytes ≡ slice_get segments p.segment) (word : Some w ≡ slice_get (whole_words bytes) p.position)
+    (says : to_list offset (size_number l.size) l.count ≡ pointer_of w) (begin : Ok (place_view l.start) ≡ begins (after p 1) offset) where
+  listed : found_at (words_in segments) p ≡ Ok (record { pads = 0; object = a_list (place_view l.start) (size_number l.size) l.count })
+  listed =
+      let at : word_at (words_in segments) p ≡ Some w = ap (λ (o : Option (List ℕ)). o >>= λ ws. slice_get ws p.position) (segment_there segments p.segment bytes there) ∙ sym word in
+      let some : eqb w 0 ≡ false = ne_eqb w 0 (some_word w offset (size_number l.size) l.count says) in
+      rw (at, some) (ap (found_by (words_in segments) p) (sym says) ∙ ap (λ (r : Result Place Kind). (r and_then λ q. Ok (a_list q (size_number l.size) l.count)) and_then λ o. Ok (found_near o)) (sym begin))
+    where
+      found_near : model.Object → model.Found
+      found_near o = record { pads = 0; object = o }
+
+  pub near_is : (words : ℕ) → words ≡ words_for (data_bits (size_number l.size) * l.count) → size_number l.size < 6 → leb (l.start.position + words) (length bytes / 8) ≡ true → l.start.position + words < 2 ^ 61 → IsNear (words_in segments) p l
+  near_is words few plain fit bound =
+      let s : Segments = words_in segments in
+      let all : ℕ = words_for (data_bits (size_number l.size) * l.count) in
+      let same : p.segment ≡ l.start.segment = sym (begins_where (after p 1) (place_view l.start) offset (sym begin)) in
+      let inside : is_some (words_at s (place p.segment l.start.position) words) ≡ true = words_where segments p.segment l.start.position words bytes there ∙ fit in
+      let here : is_some (words_at s (place_view l.start) words) ≡ true = subst (λ (i : ℕ). is_some (words_at s (place i l.start.position) words) ≡ true) same inside in
+      let own : is_some (words_at s (place_view l.start) all) ≡ true = subst (λ (n : ℕ). is_some (words_at s (place_view l.start) n) ≡ true) few here in
+      (exact_object s p (record { pads = 0; object = a_list (place_view l.start) (size_number l.size) l.count }) (near_object l) listed (whole_plain s l.start l.size l.count plain own), (plain, (own, omega arith)))

@@ -1,0 +1,48 @@
+//! Lists of plain elements that are told in one look at their segment.
+ghost use Rattle.std.specs.Prelude.{IfSome};
+ghost use Rattle.capnp_units.specs.Segments.{words_in};
+ghost use Rattle.capnp_object.specs.Places.{place_view};
+ghost use Rattle.capnp_object.specs.Near.{IsNear};
+
+use crate::arena::ReaderArena;
+use crate::lists::NearList;
+use crate::object::words_of_elements;
+use crate::place::{Place, begins_at, reach, word_in};
+use crate::word_pointer::{WordPointer, pointer_of_word};
+
+/// The numbers of the sizes of plain elements are below this one.
+const PLAIN_SIZES: u64 = 6;
+
+/// The list that the pointer at a place names, where it is one of plain elements in the same segment, without a landing pad, and its words are there. It is what `object_at` tells of the place, got sooner: the segment is asked for once.
+///
+/// `None` has no meaning: whatever is there, a list too, `object_at` tells it or refuses it.
+#[inline(always)]
+pub fn near_list<A: ReaderArena>(arena: &A, place: Place) -> Option<NearList>
+    ensures { IfSome result (IsNear (words_in (A.segments arena.now)) (place_view place)) }
+{
+    let bytes = arena.get_segment(place.segment)?;
+    let word = word_in(bytes, place.position)?;
+    let WordPointer::List {
+        offset,
+        size,
+        count,
+    } = pointer_of_word(word)
+    else {
+        return None;
+    };
+    if size.number() >= PLAIN_SIZES {
+        return None;
+    }
+    let end = Place {
+        segment: place.segment,
+        position: place.position + 1,
+    };
+    let Ok(start) = begins_at(end, offset) else {
+        return None;
+    };
+    let words = words_of_elements(size, count) as usize;
+    if !reach(bytes, start.position, words) {
+        return None;
+    }
+    Some(NearList { start, size, count })
+}
