@@ -12,6 +12,7 @@ pub mod Objects
 pub mod Rooms
 pub mod Faults
 pub mod Steps
+pub mod NearFollowed
 pub mod Finals
 pub mod Elements
 pub mod Pointers

@@ -41,7 +41,7 @@ list_followed p of_structs size c ws o e = let a = bind_ok (tag_in ws) _ o e in 
 pub no_levels : (b : Bool) → b ≡ true → b ≡ nat_lt 0 0 → ⊥
 no_levels b h e = let t : nat_lt 0 0 ≡ true = sym e ∙ h in grind (arith, nat_tests)
 
-no_fault : (s : Segments) (m : model.Object) (n : ℕ) (o : Object) → whole s m ≡ Ok o → is_within n o ≡ true → IsData o → fault_of n m ≡ None
+pub no_fault : (s : Segments) (m : model.Object) (n : ℕ) (o : Object) → whole s m ≡ Ok o → is_within n o ≡ true → IsData o → fault_of n m ≡ None
 no_fault s model.nothing n o e h d = refl
 no_fault s (model.a_capability i) n o e h d = absurd (subst IsData (sym (ok_is _ _ e)) d)
 no_fault s (model.a_struct p w k) (suc n) o e h d = refl

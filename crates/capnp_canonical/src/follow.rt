@@ -5,11 +5,14 @@ ghost use Rattle.capnp_units.specs.Segments.{words_in};
 ghost use Rattle.capnp_units.specs.Limits.{Spends, Follows};
 ghost use Rattle.capnp_object.specs.Places.{place_view};
 ghost use Rattle.capnp_object.specs.Named.{named_view};
-ghost use Rattle.capnp_canonical.specs.Copies.{FollowsData, fault_of};
+ghost use Rattle.capnp_object.specs.Follow.{FollowsWithin};
+ghost use Rattle.capnp_canonical.specs.Copies.{FollowsData, FollowsNear, fault_of};
 
 use capnp_object::arena::ReaderArena;
 use capnp_object::follow::own_cost;
+use capnp_object::lists::NearList;
 use capnp_object::named::{NamedObject, found_at};
+use capnp_object::near::near_list;
 use capnp_object::object::{Object, whole};
 use capnp_object::place::Place;
 use capnp_units::errors::{Error, Result};
@@ -56,6 +59,38 @@ pub(crate) fn follow_data<A: ReaderArena>(
     let object = whole(arena, found.object)?;
     limiter.charge(found.pads as u64 + own_cost(object))?;
     Ok(object)
+}
+
+/// The list that `near_list` tells at a place, on a walk of at most so many levels. It is counted as followed, and the list's words are granted. `None` says nothing of what is there, and nothing was counted.
+///
+/// It is refused with `ReadLimitExceeded` where the words pass what is left of the limit. Then it is counted all the same, and no word is granted.
+#[inline(always)]
+pub(crate) fn follow_near_list<A: ReaderArena>(
+    arena: &A,
+    limiter: &mut ReadLimiter,
+    place: Place,
+    levels: u32,
+) -> Result<Option<NearList>>
+    ensures data { FollowsNear
+        (FollowsData levels (words_in (A.segments arena.now)) (place_view place))
+        limiter.old result limiter.new }
+    ensures within { FollowsNear
+        (FollowsWithin levels (words_in (A.segments arena.now)) (place_view place))
+        limiter.old result limiter.new }
+{
+    if levels == 0 {
+        return Ok(None);
+    }
+    let Some(list) = near_list(arena, place) else {
+        return Ok(None);
+    };
+    limiter.follow();
+    limiter.charge(own_cost(Object::List {
+        start: list.start,
+        size: list.size,
+        count: list.count,
+    }))?;
+    Ok(Some(list))
 }
 
 /// Counts so many nulls as followed.
