@@ -12,7 +12,7 @@ use Rattle.capnp_units.proofs.Spending.{spends_nothing}
 use Rattle.capnp_object.specs.declared.lists.NearList.{NearList}
 use Rattle.capnp_object.specs.declared.object.Object.{Object}
 use Rattle.capnp_object.specs.Near.{near_object, IsNear}
-use Rattle.capnp_object.specs.Follow.{own_cost, KeepsBudget, Pays, suffice_for, is_within, object_within, FollowsWithin}
+use Rattle.capnp_object.specs.Follow.{own_cost, KeepsBudget, Pays, suffice_for, object_within, FollowsWithin}
 use Rattle.capnp_object.proofs.Walks.{stopped_first}
 use Rattle.capnp_object.proofs.Walking.{object_found, exact_within}
 use Rattle.capnp_object.proofs.Paying.{same_left, spends_later, pays_later}
@@ -22,6 +22,9 @@ use Rattle.capnp_canonical.proofs.Steps.{no_fault}
 
 pub some_level : (n : ℕ) → 0 < n → nat_lt 0 n ≡ true
 some_level n h = grind (arith, nat_tests)
+
+pub some_left : (n : ℕ) → nat_lt 0 n ≡ true → 0 < n
+some_left n h = grind (arith, nat_tests)
 
 suffices : (n : ℕ) (m : model.Object) → 0 < n → suffice_for n m ≡ true
 suffices n model.nothing h = refl

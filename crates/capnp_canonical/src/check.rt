@@ -1,8 +1,6 @@
 //! Whether values stand as their canonical words.
 ghost use Rattle.std.specs.Prelude.{◌≡◌, ℕ, ◌+◌, ◌*◌, ◌^◌, ◌≤◌, ◌<◌};
-ghost use Rattle.capnp_model.specs.Sections.{words_for};
 ghost use Rattle.capnp_units.specs.Segments.{words_in};
-ghost use Rattle.capnp_units.specs.Sizes.{size_number, data_bits};
 ghost use Rattle.capnp_object.specs.declared.object.Object.TheVariants as seen;
 ghost use Rattle.capnp_object.specs.Places.{place_view};
 ghost use Rattle.capnp_object.specs.Objects.{AreThere, IsInside};
@@ -11,19 +9,18 @@ ghost use Rattle.capnp_canonical.specs.Standing.{HasHead, LeadsTo, Reaches};
 ghost use Rattle.capnp_canonical.specs.Checks.{TestsValue, TestsObject, TestsRow, TestsElements, TellsValue, TellsRow, TellsStruct, TellsMessage};
 
 use crate::copy::{cut_of, pointer_to_cut};
+use crate::follow::follow_near_list;
 use crate::heads::{is_behind, move_on};
+use crate::list_ends::{REACH, list_end, near_list_end};
 use crate::own_words::{are_words, word_or_zero};
 use crate::words::{pointer_to_list, pointer_to_struct};
 use capnp_object::arena::ReaderArena;
 use capnp_object::follow::follow_within;
-use capnp_object::object::{Object, words_of_elements};
+use capnp_object::object::Object;
 use capnp_object::place::{Place, has_words};
 use capnp_units::errors::Result;
 use capnp_units::limiter::ReadLimiter;
-use capnp_units::sizes::{ElementSize, StructSize, data_bits_per_element};
-
-/// A message has fewer words than this, and an offset or a count of words reaches no further.
-const REACH: usize = 0x2000_0000;
+use capnp_units::sizes::StructSize;
 
 /// Where the root pointer of a message stands.
 const ROOT: Place = Place {
@@ -131,7 +128,27 @@ pub fn is_canonical_message<A: ReaderArena>(
 
 /// Where the words of the value of the pointer at a place end, if they stand from the head on.
 #[cycle(check)]
+#[inline(always)]
 fn value_end<A: ReaderArena>(
+    arena: &A,
+    limiter: &mut ReadLimiter,
+    place: Place,
+    levels: u32,
+    head: usize,
+) -> Result<Option<usize>>
+    requires { HasHead (words_in (A.segments arena.now)) (place_view place) 1 head }
+    ensures { TestsValue levels (words_in (A.segments arena.now)) (place_view place) head
+        limiter.old result limiter.new }
+{
+    match follow_near_list(arena, limiter, place, levels)? {
+        Some(list) => Ok(near_list_end(arena, place, list, head)),
+        None => any_end(arena, limiter, place, levels, head),
+    }
+}
+
+/// The same of whatever the pointer leads to, a near list too.
+#[cycle(check)]
+fn any_end<A: ReaderArena>(
     arena: &A,
     limiter: &mut ReadLimiter,
     place: Place,
@@ -236,43 +253,6 @@ fn struct_end<A: ReaderArena>(
     };
     let behind = head + (size.data_words as usize + size.pointers as usize);
     row_end(arena, limiter, first, size.pointers as u32, levels, behind)
-}
-
-/// The same of a list of plain elements. The bits behind its last element are 0 there.
-fn list_end<A: ReaderArena>(
-    arena: &A,
-    place: Place,
-    start: Place,
-    size: ElementSize,
-    count: u32,
-    head: usize,
-) -> Option<usize>
-    requires plain { size_number size < 6 }
-    requires inside { AreThere (words_in (A.segments arena.now)) (place_view start)
-        (words_for (data_bits (size_number size) * count)) }
-    requires short { count < 2 ^ 29 }
-    requires link { Reaches (words_in (A.segments arena.now)) (place_view place) head
-        (seen.List start size count) }
-    ensures { (levels : ℕ) (l : ReadLimiter) → TestsObject levels (words_in (A.segments arena.now))
-        (place_view place) head (seen.List start size count) l (Ok result) l }
-{
-    let gap = (head - place.position - 1) as u64;
-    if word_or_zero(arena, place) != pointer_to_list(gap, size.number(), count as u64) {
-        return None;
-    }
-    let end = start.position + words_of_elements(size, count) as usize;
-    let spare = data_bits_per_element(size) as u64 * count as u64 % 64;
-    if spare != 0 {
-        let last = Place {
-            segment: start.segment,
-            position: end - 1,
-        };
-        let word = word_or_zero(arena, last);
-        if word % (1 << spare) != word {
-            return None;
-        }
-    }
-    Some(end)
 }
 
 /// The same of a list of pointers.

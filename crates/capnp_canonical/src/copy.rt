@@ -1,11 +1,10 @@
 //! The canonical words of a value.
 ghost use Rattle.std.specs.Prelude.{◌≡◌, ℕ, ◌+◌, ◌*◌, ◌^◌, ◌≤◌, ◌<◌};
-ghost use Rattle.capnp_model.specs.Sections.{words_for, needed_words};
+ghost use Rattle.capnp_model.specs.Sections.{needed_words};
 ghost use Rattle.capnp_model.specs.Segments.{after};
 ghost use Rattle.capnp_model.specs.Trees.{Trees, structure, tree_count};
 ghost use Rattle.capnp_model.specs.Encoding.{pointer};
 ghost use Rattle.capnp_units.specs.Segments.{words_in};
-ghost use Rattle.capnp_units.specs.Sizes.{size_number, data_bits};
 ghost use Rattle.capnp_object.specs.declared.object.Object.TheVariants as seen;
 ghost use Rattle.capnp_object.specs.Places.{place_view};
 ghost use Rattle.capnp_object.specs.Objects.{AreThere, IsInside};
@@ -14,15 +13,16 @@ ghost use Rattle.capnp_canonical.specs.Widths.{kept, widest};
 ghost use Rattle.capnp_canonical.specs.Copies.{IsData};
 ghost use Rattle.capnp_canonical.specs.Objects.{IsShort, WritesObject, HasPlace, IsCut, WritesCanonical, WritesValue, WritesRow, WritesElement, WritesElements};
 
-use crate::follow::{follow_data, follow_nulls};
+use crate::follow::{follow_data, follow_near_list, follow_nulls};
+use crate::list_copies::write_list;
 use crate::own_words::{copy_words, most_needed};
-use crate::words::{end_of, mask_last, pointer_to_list, pointer_to_struct, put};
+use crate::words::{end_of, pointer_to_list, pointer_to_struct, put};
 use capnp_object::arena::ReaderArena;
-use capnp_object::object::{Object, words_of_elements};
+use capnp_object::object::Object;
 use capnp_object::place::Place;
 use capnp_units::errors::Result;
 use capnp_units::limiter::ReadLimiter;
-use capnp_units::sizes::{ElementSize, Word, data_bits_per_element};
+use capnp_units::sizes::Word;
 
 /// How the words of a struct are cut: those of its data and its pointers, and of each how many are kept.
 #[derive(Clone, Copy)]
@@ -54,7 +54,29 @@ pub fn write_canonical<A: ReaderArena>(
 
 /// Writes the pointer at a place to what it leads to, which goes behind the words that are used. The answer is where that ends.
 #[cycle(write)]
+#[inline(always)]
 fn write_at<A: ReaderArena>(
+    arena: &A,
+    limiter: &mut ReadLimiter,
+    place: Place,
+    levels: u32,
+    into: &mut [Word],
+    at: usize,
+    used: usize,
+) -> Result<usize>
+    requires { HasPlace (at + 1) used into.old }
+    ensures { WritesValue levels (words_in (A.segments arena.now)) (place_view place) at used
+        into.old limiter.old result into.new limiter.new }
+{
+    match follow_near_list(arena, limiter, place, levels)? {
+        Some(list) => write_list(arena, list.start, list.size, list.count, into, at, used),
+        None => write_any(arena, limiter, place, levels, into, at, used),
+    }
+}
+
+/// The same of whatever the pointer leads to, a near list too.
+#[cycle(write)]
+fn write_any<A: ReaderArena>(
     arena: &A,
     limiter: &mut ReadLimiter,
     place: Place,
@@ -201,33 +223,6 @@ fn write_structs<A: ReaderArena>(
         used + 1,
         end,
     )
-}
-
-/// Writes the pointer to a list of plain elements, and the list behind the words that are used. The bits behind its last element are 0.
-fn write_list<A: ReaderArena>(
-    arena: &A,
-    start: Place,
-    size: ElementSize,
-    count: u32,
-    into: &mut [Word],
-    at: usize,
-    used: usize,
-) -> Result<usize>
-    requires plain { size_number size < 6 }
-    requires inside { AreThere (words_in (A.segments arena.now)) (place_view start)
-        (words_for (data_bits (size_number size) * count)) }
-    requires short { count < 2 ^ 29 }
-    requires place { HasPlace (at + 1) used into.old }
-    ensures { (levels : ℕ) (l : ReadLimiter) → WritesObject (words_in (A.segments arena.now)) levels
-        (seen.List start size count) at used into.old l result into.new l }
-{
-    let words = words_of_elements(size, count) as usize;
-    let end = end_of(into, used, words)?;
-    let word = pointer_to_list((used - at - 1) as u64, size.number(), count as u64);
-    put(into, at, word);
-    copy_words(arena, start, words, into, used);
-    mask_last(into, end, data_bits_per_element(size) as u64 * count as u64);
-    Ok(end)
 }
 
 /// The least sizes that so many structs in a row can do with.

@@ -71,10 +71,10 @@ pub(crate) fn follow_near_list<A: ReaderArena>(
     place: Place,
     levels: u32,
 ) -> Result<Option<NearList>>
-    ensures data { FollowsNear
+    ensures copied { FollowsNear
         (FollowsData levels (words_in (A.segments arena.now)) (place_view place))
         limiter.old result limiter.new }
-    ensures within { FollowsNear
+    ensures walked { FollowsNear
         (FollowsWithin levels (words_in (A.segments arena.now)) (place_view place))
         limiter.old result limiter.new }
 {

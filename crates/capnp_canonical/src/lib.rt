@@ -6,5 +6,7 @@ pub mod copy;
 mod follow;
 mod heads;
 pub mod laws;
+mod list_copies;
+mod list_ends;
 mod own_words;
 mod words;

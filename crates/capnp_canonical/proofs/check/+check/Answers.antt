@@ -14,12 +14,15 @@ use Rattle.capnp_model.proofs.Chaining.{some_is}
 use Rattle.capnp_units.specs.Segments.{words_in}
 use Rattle.capnp_object.specs.declared.object.Object.{Object}
 use Rattle.capnp_object.specs.declared.object.Object.TheVariants as object
+use Rattle.capnp_units.specs.declared.limiter.ReadLimiter.{ReadLimiter}
 use Rattle.capnp_object.specs.Places.{place_view}
+use Rattle.capnp_object.specs.Near.{near_object}
+use Rattle.capnp_object.specs.Follow.{FollowsWithin}
 use Rattle.capnp_object.specs.Objects.{AreThere}
 use Rattle.capnp_object.specs.Inside.{section_at, words_there, tree_in, met_in}
 use Rattle.capnp_object.proofs.Measuring.{unfollowed_at}
 use Rattle.capnp_canonical.specs.Standing.{Stands, StandEach, StandElements, segment_words, IsSmall, HasHead, LeadsTo}
-use Rattle.capnp_canonical.specs.Checks.{TestsObject, TestsElements}
+use Rattle.capnp_canonical.specs.Checks.{TestsValue, TestsObject, TestsElements}
 use Rattle.capnp_canonical.proofs.Checking.{refused_is, differs_at}
 use Rattle.capnp_canonical.proofs.CheckedRows.{row_begun, row_next, row_differs, row_stopped, row_ended}
 use Rattle.capnp_canonical.proofs.CheckedElements.{elements_begun, elements_next, elements_differ, elements_stopped, elements_ended, plain_elements}
@@ -29,6 +32,7 @@ use Rattle.capnp_canonical.proofs.StandingLists.{pointers_tests, pointers_word, 
 use Rattle.capnp_canonical.proofs.StandingPlaces.{struct_where, pointers_where, structs_where}
 use Rattle.capnp_canonical.proofs.StandingValues.{null_tests, capability_tests, deep_tests, null_leaf, other_leaf}
 use Rattle.capnp_canonical.proofs.Steps.{short_at}
+use Rattle.capnp_canonical.proofs.NearFollowed.{some_left}
 use Rattle.capnp_canonical.proofs.check.+check.Goals as goal
 
 pub row_end-loop-i-init : goal.row_end-loop-i-init
@@ -116,8 +120,43 @@ elements_end-returns g t c =
     let last = c.loop-i.auto.i-end in
     elements_ended c.args.levels s (place_view c.args.start) c.args.count c.args.size.data_words c.args.size.pointers c.args.head c.args.limiter.now c.loop-i.i c.loop-i.end c.loop-i.limiter (omega arith) c.requires.inside c.loop-i.invariant
 
-pub value_end-returns-in_err-object : goal.value_end-returns-in_err-object
-value_end-returns-in_err-object g t c =
+pub value_end-returns-in_err-list : goal.value_end-returns-in_err-list
+value_end-returns-in_err-list g t c =
+    let s : Segments = words_in (g.A.ReaderArena.segments c.args.arena.now) in
+    let p : Place = place_view c.args.place in
+    let n = c.args.levels in
+    let l = c.args.limiter.now in
+    let k = c.follow_near_list.new.limiter in
+    let e = c.in_err-list.field-0.0 in
+    let r = err_from_is_err_and c.from_residual.result c.from_residual.ensures.1 in
+    refused_is (tree_at n s p) has_capability (λ u. Stands s p c.args.head (trim u)) (IsSmall s p) (visits n s p) l k c.from_residual.result r.0 e r.1 r.2
+    (unfollowed_at n s p l k (Err e) e e refl refl c.in_err-list.ensures.walked)
+
+pub value_end-returns-in-Some : goal.value_end-returns-in-Some
+value_end-returns-in-Some g t c =
+    let s : Segments = words_in (g.A.ReaderArena.segments c.args.arena.now) in
+    let n = c.args.levels in
+    let k = c.follow_near_list.new.limiter in
+    let followed : FollowsWithin n s (place_view c.args.place) c.args.limiter.now (Ok (near_object c.in-Some.list)) k = rw c.in-Some.is at c.in_ok-list.ensures.walked in
+    let some = some_left n followed.1 in
+    deep_tests n s (place_view c.args.place) c.args.head (near_object c.in-Some.list) c.args.limiter.now k k (Ok c.near_list_end.result) followed.0 (n - 1) (omega arith) (c.near_list_end.ensures (n - 1) k)
+
+pub value_end-returns-in-None : goal.value_end-returns-in-None
+value_end-returns-in-None g t c =
+    let s : Segments = words_in (g.A.ReaderArena.segments c.args.arena.now) in
+    let same : c.follow_near_list.new.limiter ≡ c.args.limiter.now = rw c.in-None.is at c.in_ok-list.ensures.walked in
+    subst (λ (l : ReadLimiter). TestsValue c.args.levels s (place_view c.args.place) c.args.head l c.any_end.result c.any_end.new.limiter) same c.any_end.ensures
+
+pub value_end-near_list_end-requires : goal.value_end-near_list_end-requires
+value_end-near_list_end-requires g t c =
+    let s : Segments = words_in (g.A.ReaderArena.segments c.args.arena.now) in
+    let k = c.follow_near_list.new.limiter in
+    let followed : FollowsWithin c.args.levels s (place_view c.args.place) c.args.limiter.now (Ok (near_object c.in-Some.list)) k = rw c.in-Some.is at c.in_ok-list.ensures.walked in
+    let pays = followed.0 in
+    record { inside = pays.inside; short = short_at s (place_view c.args.place) (near_object c.in-Some.list) c.args.limiter.now k pays; leads = (pays.pads, pays.is); head = c.requires }
+
+pub any_end-returns-in_err-object : goal.any_end-returns-in_err-object
+any_end-returns-in_err-object g t c =
     let s : Segments = words_in (g.A.ReaderArena.segments c.args.arena.now) in
     let p : Place = place_view c.args.place in
     let n = c.args.levels in
@@ -127,25 +166,25 @@ value_end-returns-in_err-object g t c =
     refused_is (tree_at n s p) has_capability (λ u. Stands s p c.args.head (trim u)) (IsSmall s p) (visits n s p) l c.follow_within.new.limiter c.from_residual.result r.0 e r.1 r.2
     (unfollowed_at n s p l c.follow_within.new.limiter (Err e) e e refl refl c.in_err-object.ensures)
 
-pub value_end-returns-in-Null : goal.value_end-returns-in-Null
-value_end-returns-in-Null g t c =
+pub any_end-returns-in-Null : goal.any_end-returns-in-Null
+any_end-returns-in-Null g t c =
     let s : Segments = words_in (g.A.ReaderArena.segments c.args.arena.now) in
     null_leaf c.args.levels s (place_view c.args.place) c.args.head c.in_ok-object.object c.args.limiter.now c.follow_within.new.limiter c.in_ok-object.ensures.0 c.if-levels-eq0.true c.in_ok-object.ensures.1 c.in-Null.is c.requires
 
-pub value_end-returns-in_default : goal.value_end-returns-in_default
-value_end-returns-in_default g t c =
+pub any_end-returns-in_default : goal.any_end-returns-in_default
+any_end-returns-in_default g t c =
     let s : Segments = words_in (g.A.ReaderArena.segments c.args.arena.now) in
     other_leaf c.args.levels s (place_view c.args.place) c.args.head c.in_ok-object.object c.args.limiter.now c.follow_within.new.limiter c.in_ok-object.ensures.0 c.if-levels-eq0.true c.in_ok-object.ensures.1 c.in_default.not-Null
 
-pub value_end-object_end-requires : goal.value_end-object_end-requires
-value_end-object_end-requires g t c =
+pub any_end-object_end-requires : goal.any_end-object_end-requires
+any_end-object_end-requires g t c =
     let s : Segments = words_in (g.A.ReaderArena.segments c.args.arena.now) in
     let some = c.if-levels-eq0.false in
     let pay = c.in_ok-object.ensures.0 in
     λ κs lives. (omega arith, (lives, (pay.inside, (short_at s (place_view c.args.place) c.in_ok-object.object c.args.limiter.now c.follow_within.new.limiter pay, ((pay.pads, pay.is), c.requires)))))
 
-pub value_end-returns : goal.value_end-returns
-value_end-returns g t c =
+pub any_end-returns : goal.any_end-returns
+any_end-returns g t c =
     let s : Segments = words_in (g.A.ReaderArena.segments c.args.arena.now) in
     let some = c.if-levels-eq0.false in
     deep_tests c.args.levels s (place_view c.args.place) c.args.head c.in_ok-object.object c.args.limiter.now c.follow_within.new.limiter c.object_end.new.limiter c.object_end.result c.in_ok-object.ensures.0 (c.args.levels - 1) (omega arith) c.object_end.ensures

@@ -7,25 +7,28 @@ use Rattle.capnp_canonical.proofs.CheckedElements.{ElementsSoFar}
 use Rattle.capnp_canonical.proofs.check.+check.Given as goal
 
 abbrev pub decreases-object_end : goal.decreases-object_end
-decreases-object_end g l = 6 * l.levels + 5
+decreases-object_end g l = 7 * l.levels + 6
 
 abbrev pub decreases-struct_end : goal.decreases-struct_end
-decreases-struct_end g l = 6 * l.levels + 4
+decreases-struct_end g l = 7 * l.levels + 5
 
 abbrev pub decreases-pointers_end : goal.decreases-pointers_end
-decreases-pointers_end g l = 6 * l.levels + 4
+decreases-pointers_end g l = 7 * l.levels + 5
 
 abbrev pub decreases-structs_end : goal.decreases-structs_end
-decreases-structs_end g l = 6 * l.levels + 4
+decreases-structs_end g l = 7 * l.levels + 5
 
 abbrev pub decreases-elements_end : goal.decreases-elements_end
-decreases-elements_end g l = 6 * l.levels + 3
+decreases-elements_end g l = 7 * l.levels + 4
 
 abbrev pub decreases-row_end : goal.decreases-row_end
-decreases-row_end g l = 6 * l.levels + 1
+decreases-row_end g l = 7 * l.levels + 2
+
+abbrev pub decreases-any_end : goal.decreases-any_end
+decreases-any_end g l = 7 * l.levels
 
 abbrev pub decreases-value_end : goal.decreases-value_end
-decreases-value_end g l = 6 * l.levels
+decreases-value_end g l = 7 * l.levels + 1
 
 -- the first i stand, and are paid
 abbrev pub invariant-row_end-loop-i : goal.invariant-row_end-loop-i

@@ -13,18 +13,21 @@ use Rattle.capnp_units.specs.declared.errors.Error.{Error}
 use Rattle.capnp_units.specs.Segments.{words_in}
 use Rattle.capnp_object.specs.declared.object.Object.{Object}
 use Rattle.capnp_object.specs.declared.object.Object.TheVariants as object
+use Rattle.capnp_units.specs.declared.limiter.ReadLimiter.{ReadLimiter}
 use Rattle.capnp_object.specs.Places.{place_view}
+use Rattle.capnp_object.specs.Near.{near_object}
 use Rattle.capnp_object.specs.Inside.{tree_in, met_in, section_at, words_there}
 use Rattle.capnp_canonical.specs.Writes.{words_view, with_link, with_links, with_cells}
 use Rattle.capnp_canonical.specs.Widths.{kept}
-use Rattle.capnp_canonical.specs.Copies.{copy_visits, IsData, Writes, Unwritten}
-use Rattle.capnp_canonical.specs.Objects.{WritesObject}
+use Rattle.capnp_canonical.specs.Copies.{copy_visits, IsData, FollowsData, Writes, Unwritten}
+use Rattle.capnp_canonical.specs.Objects.{WritesObject, WritesValue}
 use Rattle.capnp_canonical.proofs.Copying.{unwritten_at, no_room, halts_is}
 use Rattle.capnp_canonical.proofs.Faults.{stopped_otherwise}
 use Rattle.capnp_canonical.proofs.Rooms.{no_room_for_struct, no_room_for_pointers, no_room_for_structs}
 use Rattle.capnp_canonical.proofs.Rows.{least_words, least_pointers, elements_count}
 use Rattle.capnp_object.proofs.Rows.{each_count}
 use Rattle.capnp_canonical.proofs.Steps.{null_put, leaf_at, deep_at, short_at}
+use Rattle.capnp_canonical.proofs.NearFollowed.{some_left}
 use Rattle.capnp_canonical.proofs.Kept.{widest_one, no_wider}
 use Rattle.capnp_canonical.proofs.Nulls.{kept_count}
 use Rattle.capnp_canonical.proofs.Parts.{part_there, front_there, there_length, word_is}
@@ -33,8 +36,46 @@ use Rattle.capnp_canonical.proofs.Elements.{elements_put, elements_begun, elemen
 use Rattle.capnp_canonical.proofs.Pointers.{trees_put, pointers_begun, pointers_stopped, pointers_next, pointers_ended}
 use Rattle.capnp_canonical.proofs.copy.+write.Goals as goal
 
-pub write_at-returns-in_err-object : goal.write_at-returns-in_err-object
-write_at-returns-in_err-object g t c =
+pub write_at-returns-in_err-list : goal.write_at-returns-in_err-list
+write_at-returns-in_err-list g t c =
+    let s : Segments = words_in (g.A.ReaderArena.segments c.args.arena.now) in
+    let p : Place = place_view c.args.place in
+    let n = c.args.levels in
+    let old = c.args.into.now in
+    let l = c.args.limiter.now in
+    let k = c.follow_near_list.new.limiter in
+    let e = c.in_err-list.field-0.0 in
+    let r = err_from_is_err_and c.from_residual.result c.from_residual.ensures.1 in
+    halts_is (tree_at n s p) has_capability (λ t. with_link c.args.at (trim t)) (copy_visits n s p) c.args.used c.args.used old old l k c.from_residual.result r.0 e r.1 r.2
+    (unwritten_at (tree_at n s p) (λ t. with_link c.args.at (trim t)) (copy_visits n s p) c.args.used c.args.used old l k e c.in_err-list.ensures.copied (λ kind. stopped_otherwise n s p l k e c.in_err-list.ensures.copied kind))
+
+pub write_at-returns-in-Some : goal.write_at-returns-in-Some
+write_at-returns-in-Some g t c =
+    let s : Segments = words_in (g.A.ReaderArena.segments c.args.arena.now) in
+    let n = c.args.levels in
+    let k = c.follow_near_list.new.limiter in
+    let followed : FollowsData n s (place_view c.args.place) c.args.limiter.now (Ok (near_object c.in-Some.list)) k = rw c.in-Some.is at c.in_ok-list.ensures.copied in
+    let some = some_left n followed.1 in
+    deep_at n s (place_view c.args.place) c.args.at c.args.used (near_object c.in-Some.list) c.args.into.now c.write_list.new.into c.args.limiter.now k k
+    (n - 1) c.write_list.result (omega arith) followed.0 followed.1 followed.2 (c.write_list.ensures (n - 1) k)
+
+pub write_at-returns-in-None : goal.write_at-returns-in-None
+write_at-returns-in-None g t c =
+    let s : Segments = words_in (g.A.ReaderArena.segments c.args.arena.now) in
+    let same : c.follow_near_list.new.limiter ≡ c.args.limiter.now = rw c.in-None.is at c.in_ok-list.ensures.copied in
+    subst (λ (l : ReadLimiter). WritesValue c.args.levels s (place_view c.args.place) c.args.at c.args.used c.args.into.now l c.write_any.result c.write_any.new.into c.write_any.new.limiter) same c.write_any.ensures
+
+pub write_at-write_list-requires : goal.write_at-write_list-requires
+write_at-write_list-requires g t c =
+    let s : Segments = words_in (g.A.ReaderArena.segments c.args.arena.now) in
+    let n = c.args.levels in
+    let k = c.follow_near_list.new.limiter in
+    let followed : FollowsData n s (place_view c.args.place) c.args.limiter.now (Ok (near_object c.in-Some.list)) k = rw c.in-Some.is at c.in_ok-list.ensures.copied in
+    let pays = followed.0 in
+    record { plain = pays.inside.0; inside = pays.inside.1; short = short_at s (place_view c.args.place) (near_object c.in-Some.list) c.args.limiter.now k pays; place = c.requires }
+
+pub write_any-returns-in_err-object : goal.write_any-returns-in_err-object
+write_any-returns-in_err-object g t c =
     let s : Segments = words_in (g.A.ReaderArena.segments c.args.arena.now) in
     let p : Place = place_view c.args.place in
     let n = c.args.levels in
@@ -43,14 +84,14 @@ write_at-returns-in_err-object g t c =
     halts_is (tree_at n s p) has_capability (λ t. with_link c.args.at (trim t)) (copy_visits n s p) c.args.used c.args.used old old c.args.limiter.now c.follow_data.new.limiter c.from_residual.result r.0 c.in_err-object.field-0.0 r.1 r.2
     (unwritten_at (tree_at n s p) (λ t. with_link c.args.at (trim t)) (copy_visits n s p) c.args.used c.args.used old c.args.limiter.now c.follow_data.new.limiter c.in_err-object.field-0.0 c.in_err-object.ensures (λ kind. stopped_otherwise n s p c.args.limiter.now c.follow_data.new.limiter c.in_err-object.field-0.0 c.in_err-object.ensures kind))
 
-pub write_at-returns-then-levels-eq0 : goal.write_at-returns-then-levels-eq0
-write_at-returns-then-levels-eq0 g t c =
+pub write_any-returns-then-levels-eq0 : goal.write_any-returns-then-levels-eq0
+write_any-returns-then-levels-eq0 g t c =
     let s : Segments = words_in (g.A.ReaderArena.segments c.args.arena.now) in
     leaf_at c.args.levels s (place_view c.args.place) c.args.at c.args.used c.in_ok-object.object c.args.into.now c.put.new.into c.args.limiter.now c.follow_data.new.limiter c.follow_data.new.limiter
     c.if-levels-eq0.true c.in_ok-object.ensures.0 c.in_ok-object.ensures.1 c.in_ok-object.ensures.2 c.requires c.put.ensures.words c.put.ensures.behind
 
-pub write_at-returns : goal.write_at-returns
-write_at-returns g t c =
+pub write_any-returns : goal.write_any-returns
+write_any-returns g t c =
     let s : Segments = words_in (g.A.ReaderArena.segments c.args.arena.now) in
     let some = c.if-levels-eq0.false in
     deep_at c.args.levels s (place_view c.args.place) c.args.at c.args.used c.in_ok-object.object c.args.into.now c.write_object.new.into c.args.limiter.now c.follow_data.new.limiter c.write_object.new.limiter
@@ -389,8 +430,8 @@ write_structs-write_elements-requires g t c =
     let few_too = sizes.3 in
     λ κs lives. (omega arith, (lives, (c.requires.inside, (fit, ((omega arith, omega arith), ((λ i h. cut_parts s p cut c.args.words c.args.count d k i h sizes.0 sizes.1 sizes.2 sizes.3 c.requires.inside c.requires.fit c.cut_of-cut.ensures.pointers), (omega arith, omega arith, near)))))))
 
-pub write_at-write_object-requires : goal.write_at-write_object-requires
-write_at-write_object-requires g t c =
+pub write_any-write_object-requires : goal.write_any-write_object-requires
+write_any-write_object-requires g t c =
     let s : Segments = words_in (g.A.ReaderArena.segments c.args.arena.now) in
     let some = c.if-levels-eq0.false in
     λ κs lives. (omega arith, (lives, (c.in_ok-object.ensures.0.inside, (c.in_ok-object.ensures.2, (short_at s (place_view c.args.place) c.in_ok-object.object c.args.limiter.now c.follow_data.new.limiter c.in_ok-object.ensures.0, c.requires)))))

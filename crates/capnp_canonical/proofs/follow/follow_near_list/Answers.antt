@@ -9,8 +9,8 @@ use Rattle.capnp_canonical.specs.Copies.{FollowsData}
 use Rattle.capnp_canonical.proofs.NearFollowed.{some_level, near_pays, near_refused, near_stopped, refused_near}
 use Rattle.capnp_canonical.proofs.follow.follow_near_list.Goals as goal
 
-pub returns-in_err-charge-clause-data : goal.returns-in_err-charge-clause-data
-returns-in_err-charge-clause-data g c =
+pub returns-in_err-charge-clause-copied : goal.returns-in_err-charge-clause-copied
+returns-in_err-charge-clause-copied g c =
     let s : Segments = words_in (g.A.ReaderArena.segments c.args.arena.now) in
     let p = place_view c.args.place in
     let n = c.args.levels in
@@ -20,8 +20,8 @@ returns-in_err-charge-clause-data g c =
     refused_near (FollowsData n s p) c.args.limiter.now c.follow.new.self c.charge.new.self c.from_residual.result r.0 c.in_err-charge.field-0.0 r.1 r.2 refused.0
     (near_stopped n s p c.in-Some.list some c.in-Some.ensures c.args.limiter.now c.follow.new.self (c.follow.ensures.limit, c.follow.ensures.granted) c.follow.ensures.followed c.own_cost.result c.own_cost.ensures.words c.in_err-charge.field-0.0 c.in_err-charge.ensures.kind refused.1)
 
-pub returns-in_err-charge-clause-within : goal.returns-in_err-charge-clause-within
-returns-in_err-charge-clause-within g c =
+pub returns-in_err-charge-clause-walked : goal.returns-in_err-charge-clause-walked
+returns-in_err-charge-clause-walked g c =
     let s : Segments = words_in (g.A.ReaderArena.segments c.args.arena.now) in
     let p = place_view c.args.place in
     let n = c.args.levels in
@@ -31,16 +31,16 @@ returns-in_err-charge-clause-within g c =
     refused_near (FollowsWithin n s p) c.args.limiter.now c.follow.new.self c.charge.new.self c.from_residual.result r.0 c.in_err-charge.field-0.0 r.1 r.2 refused.0
     (near_refused n s p c.in-Some.list some c.in-Some.ensures c.args.limiter.now c.follow.new.self (c.follow.ensures.limit, c.follow.ensures.granted) c.follow.ensures.followed c.own_cost.result c.own_cost.ensures.words c.in_err-charge.field-0.0 c.in_err-charge.ensures.kind refused.1)
 
-pub returns-clause-data : goal.returns-clause-data
-returns-clause-data g c =
+pub returns-clause-copied : goal.returns-clause-copied
+returns-clause-copied g c =
     let s : Segments = words_in (g.A.ReaderArena.segments c.args.arena.now) in
     let n = c.args.levels in
     let some : 0 < n = omega (arith, c.if-levels-eq0.false) in
     let pays = near_pays n s (place_view c.args.place) c.in-Some.list some c.in-Some.ensures c.args.limiter.now c.follow.new.self (c.follow.ensures.limit, c.follow.ensures.granted) c.follow.ensures.followed c.own_cost.result c.own_cost.ensures.words c.charge.new.self c.charge.ensures.followed c.in_ok-charge.ensures.ok in
     (pays, some_level n some, tt)
 
-pub returns-clause-within : goal.returns-clause-within
-returns-clause-within g c =
+pub returns-clause-walked : goal.returns-clause-walked
+returns-clause-walked g c =
     let s : Segments = words_in (g.A.ReaderArena.segments c.args.arena.now) in
     let n = c.args.levels in
     let some : 0 < n = omega (arith, c.if-levels-eq0.false) in

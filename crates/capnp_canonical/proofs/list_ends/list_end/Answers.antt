@@ -21,7 +21,7 @@ use Rattle.capnp_canonical.proofs.Parts.{word_is}
 use Rattle.capnp_canonical.proofs.StandingLists.{own_words, list_yes, list_words, list_word, last_whole, last_cut_off}
 use Rattle.capnp_canonical.proofs.StandingObjects.{lead_word, word_matches, word_differs}
 use Rattle.capnp_canonical.proofs.StandingPlaces.{list_where}
-use Rattle.capnp_canonical.proofs.check.list_end.Goals as goal
+use Rattle.capnp_canonical.proofs.list_ends.list_end.Goals as goal
 
 pub returns-then-word_or_zero-pointer_to_list : goal.returns-then-word_or_zero-pointer_to_list
 returns-then-word_or_zero-pointer_to_list g c = λ levels l.

@@ -23,7 +23,7 @@ use Rattle.capnp_canonical.proofs.Rooms.{no_room_for_list}
 use Rattle.capnp_canonical.proofs.Putting.{take_words}
 use Rattle.capnp_canonical.proofs.Objects.{filled_length, list_written}
 use Rattle.capnp_canonical.proofs.Finals.{data_bits_plain, own_at_least}
-use Rattle.capnp_canonical.proofs.copy.write_list.Goals as goal
+use Rattle.capnp_canonical.proofs.list_copies.write_list.Goals as goal
 
 pub returns-in_err-end : goal.returns-in_err-end
 returns-in_err-end g c = λ levels l most room.
