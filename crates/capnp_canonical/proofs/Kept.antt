@@ -1,5 +1,5 @@
 -- Words without zeros at the end, and the nulls behind them.
-use Rattle.std.proofs.Common.{◌≡◌, ℕ, zero, suc, ◌+◌, ◌-◌, ◌*◌, ◌<◌, ◌≤◌, max, eqb, false, List, [], ◌∷◌, length, get_or, drop, refl, ap, sym, ◌∙◌, arith}
+use Rattle.std.proofs.Common.{◌≡◌, ℕ, zero, suc, ◌+◌, ◌-◌, ◌*◌, ◌<◌, ◌≤◌, max, Bool, true, false, eqb, if◌then◌else◌, List, [], ◌∷◌, length, get_or, drop, refl, ap, sym, ◌∙◌, arith}
 use Rattle.std.proofs.Math.Nat.{mul-le-mul_left}
 use Rattle.std.proofs.lemmas.Bool.{ne_eqb}
 use Rattle.capnp_model.specs.Segments.{Place, place, after}
@@ -37,9 +37,51 @@ kept_here n m ws w one e is some = one ∙ go m ws (ap (λ (j : ℕ). kept (drop
         let next : kept xs ≡ suc k = omega arith in
         (let i : suc k + 1 ≡ suc (suc k) = omega arith in i) ∙ sym (ap (keeps x) next)
 
+keeps_few : (w n : ℕ) → keeps w n ≤ suc n
+keeps_few w zero = by (eqb w 0)
+  where
+    by : (b : Bool) → (if b then 0 else 1) ≤ 1
+    by true = omega arith
+    by false = omega arith
+keeps_few w (suc n) = omega arith
+
+-- where all words behind are 0 no more are kept
+pub kept_within : (n : ℕ) (ws : List ℕ) → kept (drop n ws) ≡ 0 → kept ws ≤ n
+kept_within zero ws e = omega arith
+kept_within (suc n) [] e = omega arith
+kept_within (suc n) (w ∷ ws) e = let rest = kept_within n ws e in let one = keeps_few w (kept ws) in omega arith
+
+pub kept_few : (ws : List ℕ) → kept ws ≤ length ws
+kept_few ws = kept_within (length ws) ws (kept_all ws)
+
 -- ---- the most of several
 
-pub widest_more : (f : Place → ℕ) (p : Place) (width n : ℕ) → widest f p width (suc n) ≡ max (widest f p width n) (f (after p (n * width)))
+widest_below : (f : Place → ℕ) (p : Place) (width n w : ℕ) → ((i : ℕ) → i < n → f (after p (i * width)) ≤ w) → widest f p width n ≤ w
+widest_below f p width zero w h = omega arith
+widest_below f p width (suc n) w h =
+    let z : p.position + 0 * width ≡ p.position = omega arith in
+    let here : f (after p (0 * width)) ≡ f p = ap (λ (q : ℕ). f (place p.segment q)) z in
+    let first = h 0 (omega arith) in
+    let rest = widest_below f (after p width) width n w (λ i less.
+    let there : p.position + width + i * width ≡ p.position + suc i * width = omega arith in
+    let same : f (after (after p width) (i * width)) ≡ f (after p (suc i * width)) = ap (λ (q : ℕ). f (place p.segment q)) there in
+    let one = h (suc i) (omega arith) in
+    omega arith) in
+    omega arith
+
+widest_grows : (f : Place → ℕ) (p : Place) (width i n : ℕ) → i ≤ n → widest f p width i ≤ widest f p width n
+widest_grows f p width zero n h = omega arith
+widest_grows f p width (suc i) zero h = absurd (omega arith)
+widest_grows f p width (suc i) (suc n) h = let rest = widest_grows f (after p width) width i n (omega arith) in omega arith
+
+-- where the first need all that any may need, all do
+pub widest_full : (f : Place → ℕ) (p : Place) (width i n w : ℕ) → ((j : ℕ) → j < n → f (after p (j * width)) ≤ w) → i ≤ n → widest f p width i ≡ w → widest f p width n ≡ w
+widest_full f p width i n w h less e =
+    let most = widest_below f p width n w h in
+    let least = widest_grows f p width i n less in
+    omega arith
+
+widest_more : (f : Place → ℕ) (p : Place) (width n : ℕ) → widest f p width (suc n) ≡ max (widest f p width n) (f (after p (n * width)))
 widest_more f p width zero = let z : p.position + 0 * width ≡ p.position = omega arith in ap (λ (q : ℕ). max (f (place p.segment q)) 0) (sym z) ∙ (let m : max (f (after p (0 * width))) 0 ≡ max 0 (f (after p (0 * width))) = omega arith in m)
 widest_more f p width (suc n) =
     let rest = widest_more f (after p width) width n in
@@ -67,6 +109,18 @@ widest_at f p width (suc n) (suc i) h =
     let there : p.position + width + i * width ≡ p.position + suc i * width = omega arith in
     let same : f (after (after p width) (i * width)) ≡ f (after p (suc i * width)) = ap (λ (q : ℕ). f (place p.segment q)) there in
     omega arith
+
+-- one part more
+pub widest_next : (f : Place → ℕ) (p : Place) (width i most r : ℕ) → most ≡ widest f p width i → r ≡ max most (f (after p (i * width))) → r ≡ widest f p width (i + 1)
+widest_next f p width i most r e is =
+    let one : suc i ≡ i + 1 = omega arith in
+    is ∙ ap (λ (m : ℕ). max m (f (after p (i * width)))) e ∙ sym (widest_more f p width i) ∙ ap (widest f p width) one
+
+-- one that needs all that any may need is the last to be asked
+pub widest_stops : (f : Place → ℕ) (p : Place) (width i n w most r : ℕ) → ((j : ℕ) → j < n → f (after p (j * width)) ≤ w) → i < n → most ≡ widest f p width i → r ≡ max most (f (after p (i * width))) → r ≡ w → r ≡ widest f p width n
+widest_stops f p width i n w most r h less e is all =
+    let so_far = widest_next f p width i most r e is in
+    all ∙ sym (widest_full f p width (i + 1) n w h (omega arith) (sym so_far ∙ all))
 
 -- narrower parts take no more words
 pub no_wider : (n v m d k : ℕ) → v ≤ d → m ≤ k → n * (v + m) ≤ n * (d + k)

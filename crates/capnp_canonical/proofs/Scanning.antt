@@ -52,6 +52,25 @@ needed_is (suc m) n s small last = by (nat_lt s (2 ^ (64 * m))) refl (needed_is 
         let lt : m < n = power_less m n s ge small in
         omega arith
 
+needed_within : (most n s : ℕ) → s < 2 ^ (64 * n) → needed_words most s ≤ n
+needed_within zero n s small = omega arith
+needed_within (suc m) n s small = by (nat_lt s (2 ^ (64 * m))) refl (needed_within m n s small)
+  where
+    by : (b : Bool) → nat_lt s (2 ^ (64 * m)) ≡ b → needed_words m s ≤ n → (if b then needed_words m s else suc m) ≤ n
+    by true e rest = rest
+    by false e rest =
+        let ge : 2 ^ (64 * m) ≤ s = grind (arith, nat_tests) in
+        let lt : m < n = power_less m n s ge small in
+        omega arith
+
+-- where all words behind are 0 no more are needed
+pub few_needed : (most n : ℕ) (ws : List ℕ) → section_of (drop n ws) ≡ 0 → needed_words most (section_of ws) ≤ n
+few_needed most n ws e =
+    let split = section_split n ws in
+    let front = front_small n ws in
+    let all : section_of ws ≡ section_of (take n ws) = split ∙ ap (λ (y : ℕ). y * 2 ^ (64 * n) + section_of (take n ws)) e ∙ (let z : 0 * 2 ^ (64 * n) + section_of (take n ws) ≡ section_of (take n ws) = omega arith in z) in
+    needed_within most n (section_of ws) (omega arith)
+
 -- one zero word less
 pub zero_less : (n : ℕ) (ws : List ℕ) → 0 < n → section_of (drop n ws) ≡ 0 → get_or ws (n - 1) 0 ≡ 0 → section_of (drop (n - 1) ws) ≡ 0
 zero_less zero ws h e z = absurd (omega arith)
@@ -84,9 +103,6 @@ last_word n m most ws w one e is f h =
     let last : (j : ℕ) → n ≡ suc j → 2 ^ (64 * j) ≤ s = λ j e. let same : m ≡ j = omega arith in subst (λ (i : ℕ). 2 ^ (64 * i) ≤ s) same big in
     let needed = needed_is most n s small last in
     omega arith
-
-pub no_word : (most : ℕ) (ws : List ℕ) → section_of ws ≡ 0 → 0 ≡ needed_words most (section_of ws)
-no_word most ws e = let z : 0 ≡ min most 0 = omega arith in z ∙ sym (needed_is most 0 0 (omega arith) (λ j e. absurd (omega arith))) ∙ ap (needed_words most) (sym e)
 
 pub nothing_behind_words : (ws : List ℕ) → section_of (drop (length ws) ws) ≡ 0
 nothing_behind_words [] = refl

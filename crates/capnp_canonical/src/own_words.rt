@@ -1,5 +1,5 @@
 //! An object's own words: how many of them are kept, and their copy.
-ghost use Rattle.std.specs.Prelude.{◌≡◌, ◌+◌, ◌*◌, ◌≤◌, ◌<◌, ◌^◌, ◌++◌, ℕ, length, take, drop, slice_index, unwrap_or};
+ghost use Rattle.std.specs.Prelude.{◌≡◌, ◌+◌, ◌*◌, ◌≤◌, ◌<◌, ◌^◌, ◌++◌, ℕ, max, length, take, drop, slice_index, unwrap_or};
 ghost use Rattle.capnp_model.specs.Segments.{after, word_at};
 ghost use Rattle.capnp_model.specs.Sections.{needed_words};
 ghost use Rattle.capnp_model.specs.Spelling.{AreWords};
@@ -26,18 +26,19 @@ pub(crate) fn word_or_zero<A: ReaderArena>(arena: &A, place: Place) -> u64
     word_at(arena, place).unwrap_or(0)
 }
 
-/// How many of so many words there are without zeros at the end.
+/// How many of so many words there are without zeros at the end, and at least so many as were needed before. Only the words behind those are looked at.
 #[inline(always)]
-pub(crate) fn words_needed<A: ReaderArena>(arena: &A, start: Place, count: u16) -> u16
-    requires { AreThere (words_in (A.segments arena.now)) (place_view start) count }
-    ensures needed { result ≡ needed_words count
-        (section_at (words_in (A.segments arena.now)) (place_view start) count) }
-    ensures kept { result ≡ kept
-        (words_there (words_in (A.segments arena.now)) (place_view start) count) }
+fn more_needed<A: ReaderArena>(arena: &A, start: Place, count: u16, most: u16) -> u16
+    requires there { AreThere (words_in (A.segments arena.now)) (place_view start) count }
+    requires before { most ≤ count }
+    ensures needed { result ≡ max most (needed_words count
+        (section_at (words_in (A.segments arena.now)) (place_view start) count)) }
+    ensures kept { result ≡ max most (kept
+        (words_there (words_in (A.segments arena.now)) (place_view start) count)) }
     ensures few { result ≤ count }
 {
     let mut n = count;
-    while n > 0 {
+    while n > most {
         let last = Place {
             segment: start.segment,
             position: start.position + (n - 1) as usize,
@@ -47,10 +48,10 @@ pub(crate) fn words_needed<A: ReaderArena>(arena: &A, start: Place, count: u16) 
         }
         n -= 1;
     }
-    0
+    most
 }
 
-/// The most words that any of so many parts needs, each of so many words and so far from the next.
+/// The most words that any of so many parts needs, each of so many words and so far from the next. Where a part needs all of them no other is looked at.
 pub(crate) fn most_needed<A: ReaderArena>(
     arena: &A,
     start: Place,
@@ -78,7 +79,10 @@ pub(crate) fn most_needed<A: ReaderArena>(
             segment: start.segment,
             position: start.position + i as usize * width,
         };
-        most = most.max(words_needed(arena, part, words));
+        most = more_needed(arena, part, words, most);
+        if most == words {
+            return most;
+        }
     }
     most
 }

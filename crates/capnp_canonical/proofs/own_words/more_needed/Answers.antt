@@ -7,17 +7,17 @@ use Rattle.capnp_units.specs.Segments.{words_in}
 use Rattle.capnp_object.specs.Places.{place_view}
 use Rattle.capnp_object.specs.Inside.{words_there}
 use Rattle.capnp_canonical.specs.Widths.{kept}
-use Rattle.capnp_canonical.proofs.Scanning.{zero_less, last_word, no_word, nothing_behind_words}
-use Rattle.capnp_canonical.proofs.Kept.{kept_all, kept_less, kept_here}
+use Rattle.capnp_canonical.proofs.Scanning.{zero_less, few_needed, last_word, nothing_behind_words}
+use Rattle.capnp_canonical.proofs.Kept.{kept_all, kept_less, kept_here, kept_within}
 use Rattle.capnp_canonical.proofs.Parts.{there_length, section_is, word_is}
-use Rattle.capnp_canonical.proofs.own_words.words_needed.Goals as goal
+use Rattle.capnp_canonical.proofs.own_words.more_needed.Goals as goal
 
 pub loop-n-init : goal.loop-n-init
 loop-n-init g c =
     let s : Segments = words_in (g.A.ReaderArena.segments c.args.arena.now) in
     let p : Place = place_view c.args.start in
     let ws = words_there s p c.args.count in
-    let long = there_length s p c.args.count c.requires.0 in
+    let long = there_length s p c.args.count c.requires.there.0 in
     record {
       few = omega arith;
       zeros = ap (λ (n : ℕ). kept (drop n ws)) (sym long) ∙ kept_all ws;
@@ -31,7 +31,7 @@ loop-n-preserved g c =
     let ws = words_there s p c.args.count in
     let some = c.loop-n-test.true in
     let few = c.loop-n.invariant.few in
-    let word = word_is s p c.args.count c.requires.0 (c.loop-n.n - 1) (omega arith) in
+    let word = word_is s p c.args.count c.requires.there.0 (c.loop-n.n - 1) (omega arith) in
     let is : get_or ws (c.loop-n.n - 1) 0 ≡ 0 = sym (c.word_or_zero.ensures.word ∙ ap (λ o. unwrap_or o 0) word) ∙ c.if-word_or_zero-ne0.false in
     record {
       few = omega arith;
@@ -46,11 +46,12 @@ returns-then-word_or_zero-ne0-clause-needed g c =
     let ws = words_there s p c.args.count in
     let some = c.loop-n-test.true in
     let few = c.loop-n.invariant.few in
-    let word = word_is s p c.args.count c.requires.0 (c.loop-n.n - 1) (omega arith) in
+    let word = word_is s p c.args.count c.requires.there.0 (c.loop-n.n - 1) (omega arith) in
     let is = c.word_or_zero.ensures.word ∙ ap (λ o. unwrap_or o 0) word in
     let least : c.loop-n.n ≡ min c.loop-n.n c.args.count = omega arith in
-    least ∙ last_word c.loop-n.n (c.loop-n.n - 1) c.args.count ws c.word_or_zero.result (omega arith) c.loop-n.invariant.nothing is c.word_or_zero.ensures.fits c.if-word_or_zero-ne0.true
-    ∙ ap (needed_words c.args.count) (sym (section_is s p c.args.count c.requires.0))
+    let needed = least ∙ last_word c.loop-n.n (c.loop-n.n - 1) c.args.count ws c.word_or_zero.result (omega arith) c.loop-n.invariant.nothing is c.word_or_zero.ensures.fits c.if-word_or_zero-ne0.true
+    ∙ ap (needed_words c.args.count) (sym (section_is s p c.args.count c.requires.there.0)) in
+    omega arith
 
 pub returns-then-word_or_zero-ne0-clause-kept : goal.returns-then-word_or_zero-ne0-clause-kept
 returns-then-word_or_zero-ne0-clause-kept g c =
@@ -59,14 +60,25 @@ returns-then-word_or_zero-ne0-clause-kept g c =
     let ws = words_there s p c.args.count in
     let some = c.loop-n-test.true in
     let few = c.loop-n.invariant.few in
-    let word = word_is s p c.args.count c.requires.0 (c.loop-n.n - 1) (omega arith) in
+    let word = word_is s p c.args.count c.requires.there.0 (c.loop-n.n - 1) (omega arith) in
     let is = c.word_or_zero.ensures.word ∙ ap (λ o. unwrap_or o 0) word in
-    kept_here c.loop-n.n (c.loop-n.n - 1) ws c.word_or_zero.result (omega arith) c.loop-n.invariant.zeros is c.if-word_or_zero-ne0.true
+    let all = kept_here c.loop-n.n (c.loop-n.n - 1) ws c.word_or_zero.result (omega arith) c.loop-n.invariant.zeros is c.if-word_or_zero-ne0.true in
+    omega arith
 
 pub returns-clause-needed : goal.returns-clause-needed
 returns-clause-needed g c =
     let s : Segments = words_in (g.A.ReaderArena.segments c.args.arena.now) in
     let p : Place = place_view c.args.start in
     let ws = words_there s p c.args.count in
-    let none : c.loop-n.n ≡ 0 = (let h = c.loop-n-test.false in omega arith) in
-    no_word c.args.count ws (ap (λ (n : ℕ). section_of (drop n ws)) (sym none) ∙ c.loop-n.invariant.nothing) ∙ ap (needed_words c.args.count) (sym (section_is s p c.args.count c.requires.0))
+    let past = c.loop-n-test.false in
+    let few = few_needed c.args.count c.loop-n.n ws c.loop-n.invariant.nothing in
+    let same = ap (needed_words c.args.count) (section_is s p c.args.count c.requires.there.0) in
+    omega arith
+
+pub returns-clause-kept : goal.returns-clause-kept
+returns-clause-kept g c =
+    let s : Segments = words_in (g.A.ReaderArena.segments c.args.arena.now) in
+    let ws = words_there s (place_view c.args.start) c.args.count in
+    let past = c.loop-n-test.false in
+    let few = kept_within c.loop-n.n ws c.loop-n.invariant.zeros in
+    omega arith

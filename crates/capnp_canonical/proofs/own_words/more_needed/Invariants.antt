@@ -5,7 +5,7 @@ use Rattle.capnp_units.specs.Segments.{words_in}
 use Rattle.capnp_object.specs.Places.{place_view}
 use Rattle.capnp_object.specs.Inside.{words_there}
 use Rattle.capnp_canonical.specs.Widths.{kept}
-use Rattle.capnp_canonical.proofs.own_words.words_needed.Given as goal
+use Rattle.capnp_canonical.proofs.own_words.more_needed.Given as goal
 
 abbrev pub invariant-loop-n : goal.invariant-loop-n
 invariant-loop-n g l = record {
