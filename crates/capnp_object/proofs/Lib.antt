@@ -3,7 +3,7 @@ pub mod Pads
 pub mod Tags
 pub mod Linking
 pub mod Walking
-pub mod NearLists
+pub mod NearObjects
 pub mod Paying
 pub mod Walks
 pub mod Rows

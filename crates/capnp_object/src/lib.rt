@@ -12,4 +12,5 @@ pub mod near;
 pub mod object;
 pub mod place;
 pub mod size;
+pub mod structs;
 mod word_pointer;

@@ -1,14 +1,16 @@
-//! Lists of plain elements that are told in one look at their segment.
+//! Structs, and lists of plain elements, that are told in one look at their segment.
 ghost use Rattle.std.specs.Prelude.{IfSome};
 ghost use Rattle.capnp_units.specs.Segments.{words_in};
 ghost use Rattle.capnp_object.specs.Places.{place_view};
-ghost use Rattle.capnp_object.specs.Near.{IsNear};
+ghost use Rattle.capnp_object.specs.Near.{list_object, struct_object, IsNear};
 
 use crate::arena::ReaderArena;
 use crate::lists::NearList;
 use crate::object::words_of_elements;
 use crate::place::{Place, begins_at, reach, word_in};
+use crate::structs::NearStruct;
 use crate::word_pointer::{WordPointer, pointer_of_word};
+use capnp_units::sizes::StructSize;
 
 /// The numbers of the sizes of plain elements are below this one.
 const PLAIN_SIZES: u64 = 6;
@@ -18,7 +20,8 @@ const PLAIN_SIZES: u64 = 6;
 /// `None` has no meaning: whatever is there, a list too, `object_at` tells it or refuses it.
 #[inline(always)]
 pub fn near_list<A: ReaderArena>(arena: &A, place: Place) -> Option<NearList>
-    ensures { IfSome result (IsNear (words_in (A.segments arena.now)) (place_view place)) }
+    ensures { IfSome result (λ list.
+        IsNear (words_in (A.segments arena.now)) (place_view place) (list_object list)) }
 {
     let bytes = arena.get_segment(place.segment)?;
     let word = word_in(bytes, place.position)?;
@@ -45,4 +48,43 @@ pub fn near_list<A: ReaderArena>(arena: &A, place: Place) -> Option<NearList>
         return None;
     }
     Some(NearList { start, size, count })
+}
+
+/// The struct that the pointer at a place names, where it lies in the same segment, without a landing pad, and its words are there. It is what `object_at` tells of the place, got sooner: the segment is asked for once.
+///
+/// `None` has no meaning: whatever is there, a struct too, `object_at` tells it or refuses it.
+#[inline(always)]
+pub fn near_struct<A: ReaderArena>(arena: &A, place: Place) -> Option<NearStruct>
+    ensures { IfSome result (λ near.
+        IsNear (words_in (A.segments arena.now)) (place_view place) (struct_object near)) }
+{
+    let bytes = arena.get_segment(place.segment)?;
+    let word = word_in(bytes, place.position)?;
+    if word == 0 {
+        return None;
+    }
+    let WordPointer::Struct {
+        offset,
+        data_words,
+        pointers,
+    } = pointer_of_word(word)
+    else {
+        return None;
+    };
+    let end = Place {
+        segment: place.segment,
+        position: place.position + 1,
+    };
+    let Ok(start) = begins_at(end, offset) else {
+        return None;
+    };
+    let width = data_words as usize + pointers as usize;
+    if !reach(bytes, start.position, width) {
+        return None;
+    }
+    let size = StructSize {
+        data_words,
+        pointers,
+    };
+    Some(NearStruct { start, size })
 }

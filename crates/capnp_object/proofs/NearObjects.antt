@@ -1,4 +1,4 @@
--- Lists of plain elements that are told in one look.
+-- Objects that are told in one look.
 use Rattle.std.proofs.Common.{◌≡◌, ℕ, ◌+◌, ◌-◌, ◌*◌, ◌/◌, ◌^◌, ◌<◌, Bool, true, false, nat_lt, leb, eqb, if◌then◌else◌, List, length, Option, Some, None, Result, Ok, refl, ap, sym, ◌∙◌, subst, arith}
 use Rattle.std.specs.List.{slice_get}
 use Rattle.std.specs.Option.{ok_or, is_some}
@@ -7,20 +7,19 @@ use Rattle.capnp_model.specs.Kinds.{Kind, OutOfBounds}
 use Rattle.capnp_model.specs.Chains.{◌>>=◌, ◌provided◌, ◌and_then◌}
 use Rattle.capnp_model.specs.Sections.{words_for}
 use Rattle.capnp_model.specs.Segments.{Segments, Place, place, after, word_at, words_at}
-use Rattle.capnp_model.specs.Pointers.{to_struct, to_list, pointer_of, begins, a_list, found_by, found_at}
+use Rattle.capnp_model.specs.Pointers.{to_struct, to_list, pointer_of, begins, a_struct, a_list, found_by, found_at}
 use Rattle.capnp_model.specs.Pointers as model
 use Rattle.capnp_model.proofs.Chaining.{ok_is}
 use Rattle.capnp_units.specs.declared.sizes.ElementSize.{ElementSize}
 use Rattle.capnp_units.specs.declared.sizes.ElementSize.TheVariants.{Void, Bit, Byte, TwoBytes, FourBytes, EightBytes, Pointer as OfPointers, InlineComposite}
 use Rattle.capnp_units.specs.Segments.{whole_words, words_in}
 use Rattle.capnp_units.specs.Sizes.{size_number, data_bits}
-use Rattle.capnp_object.specs.declared.lists.NearList.{NearList}
 use Rattle.capnp_object.specs.declared.place.Place.{Place as Where}
 use Rattle.capnp_object.specs.declared.object.Object.{Object}
 use Rattle.capnp_object.specs.declared.object.Object.TheVariants as object
 use Rattle.capnp_object.specs.Places.{place_view}
 use Rattle.capnp_object.specs.Objects.{whole}
-use Rattle.capnp_object.specs.Near.{near_object, IsNear}
+use Rattle.capnp_object.specs.Near.{IsNear}
 use Rattle.capnp_object.proofs.Words.{segment_there, words_where}
 use Rattle.capnp_object.proofs.Walking.{exact_object}
 
@@ -52,23 +51,42 @@ whole_plain s q EightBytes n h e = plain_of (words_at s (place_view q) (words_fo
 whole_plain s q OfPointers n h e = absurd (omega arith)
 whole_plain s q InlineComposite n h e = absurd (omega arith)
 
-module _ (segments : List (List ℕ)) (bytes : List ℕ) (p : Place) (w offset : ℕ) (l : NearList) (there : Some bytes ≡ slice_get segments p.segment) (word : Some w ≡ slice_get (whole_words bytes) p.position)
-    (says : to_list offset (size_number l.size) l.count ≡ pointer_of w) (begin : Ok (place_view l.start) ≡ begins (after p 1) offset) where
-  listed : found_at (words_in segments) p ≡ Ok (record { pads = 0; object = a_list (place_view l.start) (size_number l.size) l.count })
-  listed =
-      let at : word_at (words_in segments) p ≡ Some w = ap (λ (o : Option (List ℕ)). o >>= λ ws. slice_get ws p.position) (segment_there segments p.segment bytes there) ∙ sym word in
-      let some : eqb w 0 ≡ false = ne_eqb w 0 (some_word w offset (size_number l.size) l.count says) in
-      rw (at, some) (ap (found_by (words_in segments) p) (sym says) ∙ ap (λ (r : Result Place Kind). (r and_then λ q. Ok (a_list q (size_number l.size) l.count)) and_then λ o. Ok (found_near o)) (sym begin))
-    where
-      found_near : model.Object → model.Found
-      found_near o = record { pads = 0; object = o }
+-- an object without a pad
+abbrev found_near : model.Object → model.Found
+found_near o = record { pads = 0; object = o }
 
-  pub near_is : (words : ℕ) → words ≡ words_for (data_bits (size_number l.size) * l.count) → size_number l.size < 6 → leb (l.start.position + words) (length bytes / 8) ≡ true → l.start.position + words < 2 ^ 61 → IsNear (words_in segments) p l
-  near_is words few plain fit bound =
+module _ (segments : List (List ℕ)) (bytes : List ℕ) (p : Place) (w offset : ℕ) (start : Where) (there : Some bytes ≡ slice_get segments p.segment) (word : Some w ≡ slice_get (whole_words bytes) p.position)
+    (begin : Ok (place_view start) ≡ begins (after p 1) offset) where
+  at_place : word_at (words_in segments) p ≡ Some w
+  at_place = ap (λ (o : Option (List ℕ)). o >>= λ ws. slice_get ws p.position) (segment_there segments p.segment bytes there) ∙ sym word
+
+  -- what begins there lies in the segment
+  inside : (words : ℕ) → leb (start.position + words) (length bytes / 8) ≡ true → is_some (words_at (words_in segments) (place_view start) words) ≡ true
+  inside words fit =
       let s : Segments = words_in segments in
-      let all : ℕ = words_for (data_bits (size_number l.size) * l.count) in
-      let same : p.segment ≡ l.start.segment = sym (begins_where (after p 1) (place_view l.start) offset (sym begin)) in
-      let inside : is_some (words_at s (place p.segment l.start.position) words) ≡ true = words_where segments p.segment l.start.position words bytes there ∙ fit in
-      let here : is_some (words_at s (place_view l.start) words) ≡ true = subst (λ (i : ℕ). is_some (words_at s (place i l.start.position) words) ≡ true) same inside in
-      let own : is_some (words_at s (place_view l.start) all) ≡ true = subst (λ (n : ℕ). is_some (words_at s (place_view l.start) n) ≡ true) few here in
-      (exact_object s p (record { pads = 0; object = a_list (place_view l.start) (size_number l.size) l.count }) (near_object l) listed (whole_plain s l.start l.size l.count plain own), (plain, (own, omega arith)))
+      let same : p.segment ≡ start.segment = sym (begins_where (after p 1) (place_view start) offset (sym begin)) in
+      subst (λ (i : ℕ). is_some (words_at s (place i start.position) words) ≡ true) same (words_where segments p.segment start.position words bytes there ∙ fit)
+
+  pub list_near : (size : ElementSize) (n words : ℕ) → to_list offset (size_number size) n ≡ pointer_of w → words ≡ words_for (data_bits (size_number size) * n) → size_number size < 6 → leb (start.position + words) (length bytes / 8) ≡ true → start.position + words < 2 ^ 61
+      → IsNear (words_in segments) p (object.List start size n)
+  list_near size n words says few plain fit bound =
+      let s : Segments = words_in segments in
+      let all : ℕ = words_for (data_bits (size_number size) * n) in
+      let own : is_some (words_at s (place_view start) all) ≡ true = subst (λ (m : ℕ). is_some (words_at s (place_view start) m) ≡ true) few (inside words fit) in
+      (exact_object s p (found_near (a_list (place_view start) (size_number size) n)) (object.List start size n) listed (whole_plain s start size n plain own), (plain, (own, omega arith)))
+    where
+      listed : found_at (words_in segments) p ≡ Ok (found_near (a_list (place_view start) (size_number size) n))
+      listed =
+          let some : eqb w 0 ≡ false = ne_eqb w 0 (some_word w offset (size_number size) n says) in
+          rw (at_place, some) (ap (found_by (words_in segments) p) (sym says) ∙ ap (λ (r : Result Place Kind). (r and_then λ q. Ok (a_list q (size_number size) n)) and_then λ o. Ok (found_near o)) (sym begin))
+
+  pub struct_near : (d k : ℕ) → to_struct offset d k ≡ pointer_of w → (w ≡ 0 → ⊥) → leb (start.position + (d + k)) (length bytes / 8) ≡ true → start.position + (d + k) < 2 ^ 61 → IsNear (words_in segments) p (object.Struct start d k)
+  struct_near d k says nonzero fit bound =
+      let s : Segments = words_in segments in
+      let own = inside (d + k) fit in
+      (exact_object s p (found_near (a_struct (place_view start) d k)) (object.Struct start d k) found (plain_of (words_at s (place_view start) (d + k)) (object.Struct start d k) own), (own, bound))
+    where
+      found : found_at (words_in segments) p ≡ Ok (found_near (a_struct (place_view start) d k))
+      found =
+          let some : eqb w 0 ≡ false = ne_eqb w 0 nonzero in
+          rw (at_place, some) (ap (found_by (words_in segments) p) (sym says) ∙ ap (λ (r : Result Place Kind). (r and_then λ q. Ok (a_struct q d k)) and_then λ o. Ok (found_near o)) (sym begin))
