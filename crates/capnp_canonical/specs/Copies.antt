@@ -8,11 +8,9 @@ use Rattle.capnp_units.specs.declared.errors.Error.{Error}
 use Rattle.capnp_units.specs.declared.kinds.ErrorKind.TheVariants.{BufferNotLargeEnough}
 use Rattle.capnp_units.specs.declared.limiter.ReadLimiter.{ReadLimiter}
 use Rattle.capnp_units.specs.Limits.{Spends}
-use Rattle.capnp_object.specs.declared.lists.NearList.{NearList}
 use Rattle.capnp_object.specs.declared.object.Object.{Object as Seen}
 use Rattle.capnp_object.specs.declared.object.Object.TheVariants as seen
 use Rattle.capnp_object.specs.Follow.{Pays, is_within}
-use Rattle.capnp_object.specs.Near.{near_object}
 use Rattle.capnp_object.specs.Walks.{Walked, Stopped}
 use Rattle.capnp_canonical.specs.Writes.{filled}
 
@@ -45,11 +43,11 @@ abbrev pub FollowsData : ℕ → Segments → Place → ReadLimiter → Result S
 FollowsData n s p old (Ok o) new = Pays s p old o new × (is_within n o ≡ true) × IsData o
 FollowsData n s p old (Err e) new = Stopped (copy_visits n s p) old e new
 
--- A near list that is told was followed in this way; where none is told nothing was followed.
-abbrev pub FollowsNear : (ReadLimiter → Result Seen Error → ReadLimiter → Type 0) → ReadLimiter → Result (Option NearList) Error → ReadLimiter → Type 0
-FollowsNear follows old (Ok (Some list)) new = follows old (Ok (near_object list)) new
-FollowsNear follows old (Ok None) new = new ≡ old
-FollowsNear follows old (Err e) new = follows old (Err e) new
+-- A near object that is told was followed in this way; where none is told nothing was followed.
+abbrev pub FollowsNear : {X : Type 0} → (X → Seen) → (ReadLimiter → Result Seen Error → ReadLimiter → Type 0) → ReadLimiter → Result (Option X) Error → ReadLimiter → Type 0
+FollowsNear object follows old (Ok (Some x)) new = follows old (Ok (object x)) new
+FollowsNear object follows old (Ok None) new = new ≡ old
+FollowsNear object follows old (Err e) new = follows old (Err e) new
 
 -- The slice is as it was from a place on.
 abbrev pub Behind : ℕ → List (List ℕ) → List (List ℕ) → Type 0

@@ -9,8 +9,8 @@ ghost use Rattle.capnp_canonical.specs.Standing.{HasHead, LeadsTo, Reaches};
 ghost use Rattle.capnp_canonical.specs.Checks.{TestsValue, TestsObject, TestsRow, TestsElements, TellsValue, TellsRow, TellsStruct, TellsMessage};
 
 use crate::copy::{cut_of, pointer_to_cut};
-use crate::follow::follow_near_list;
-use crate::heads::{is_behind, move_on};
+use crate::follow::{follow_near_list, follow_near_struct};
+use crate::heads::{ROOT, is_behind, move_on};
 use crate::list_ends::{REACH, list_end, near_list_end};
 use crate::own_words::{are_words, word_or_zero};
 use crate::words::{pointer_to_list, pointer_to_struct};
@@ -21,12 +21,6 @@ use capnp_object::place::{Place, has_words};
 use capnp_units::errors::Result;
 use capnp_units::limiter::ReadLimiter;
 use capnp_units::sizes::StructSize;
-
-/// Where the root pointer of a message stands.
-const ROOT: Place = Place {
-    segment: 0,
-    position: 0,
-};
 
 /// Whether the pointer at a place and its value stand as the value's canonical words: at the place is the pointer, and from the head on, a place behind it in its segment, are the words of what it leads to, trimmed. On a yes the head is left behind those words, else where it was.
 ///
@@ -140,13 +134,20 @@ fn value_end<A: ReaderArena>(
     ensures { TestsValue levels (words_in (A.segments arena.now)) (place_view place) head
         limiter.old result limiter.new }
 {
-    match follow_near_list(arena, limiter, place, levels)? {
-        Some(list) => Ok(near_list_end(arena, place, list, head)),
-        None => any_end(arena, limiter, place, levels, head),
+    if let Some(list) = follow_near_list(arena, limiter, place, levels)? {
+        return Ok(near_list_end(arena, place, list, head));
     }
+    if let Some(near) = follow_near_struct(arena, limiter, place, levels)? {
+        if head - place.position > REACH {
+            return Ok(None);
+        }
+        let below = levels - 1;
+        return struct_end(arena, limiter, place, near.start, near.size, below, head);
+    }
+    any_end(arena, limiter, place, levels, head)
 }
 
-/// The same of whatever the pointer leads to, a near list too.
+/// The same of whatever the pointer leads to, a near list or struct too.
 #[cycle(check)]
 fn any_end<A: ReaderArena>(
     arena: &A,

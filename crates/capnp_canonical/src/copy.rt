@@ -13,7 +13,7 @@ ghost use Rattle.capnp_canonical.specs.Widths.{kept, widest};
 ghost use Rattle.capnp_canonical.specs.Copies.{IsData};
 ghost use Rattle.capnp_canonical.specs.Objects.{IsShort, WritesObject, HasPlace, IsCut, WritesCanonical, WritesValue, WritesRow, WritesElement, WritesElements};
 
-use crate::follow::{follow_data, follow_near_list, follow_nulls};
+use crate::follow::{follow_data, follow_near_list, follow_near_struct, follow_nulls};
 use crate::list_copies::write_list;
 use crate::own_words::{copy_words, most_needed};
 use crate::words::{end_of, pointer_to_list, pointer_to_struct, put};
@@ -22,7 +22,7 @@ use capnp_object::object::Object;
 use capnp_object::place::Place;
 use capnp_units::errors::Result;
 use capnp_units::limiter::ReadLimiter;
-use capnp_units::sizes::Word;
+use capnp_units::sizes::{StructSize, Word};
 
 /// How the words of a struct are cut: those of its data and its pointers, and of each how many are kept.
 #[derive(Clone, Copy)]
@@ -68,13 +68,23 @@ fn write_at<A: ReaderArena>(
     ensures { WritesValue levels (words_in (A.segments arena.now)) (place_view place) at used
         into.old limiter.old result into.new limiter.new }
 {
-    match follow_near_list(arena, limiter, place, levels)? {
-        Some(list) => write_list(arena, list.start, list.size, list.count, into, at, used),
-        None => write_any(arena, limiter, place, levels, into, at, used),
+    if let Some(list) = follow_near_list(arena, limiter, place, levels)? {
+        return write_list(arena, list.start, list.size, list.count, into, at, used);
     }
+    if let Some(near) = follow_near_struct(arena, limiter, place, levels)? {
+        let StructSize {
+            data_words,
+            pointers,
+        } = near.size;
+        let below = levels - 1;
+        return write_struct(
+            arena, limiter, near.start, data_words, pointers, below, into, at, used,
+        );
+    }
+    write_any(arena, limiter, place, levels, into, at, used)
 }
 
-/// The same of whatever the pointer leads to, a near list too.
+/// The same of whatever the pointer leads to, a near list or struct too.
 #[cycle(write)]
 fn write_any<A: ReaderArena>(
     arena: &A,

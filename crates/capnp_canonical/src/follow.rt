@@ -6,15 +6,17 @@ ghost use Rattle.capnp_units.specs.Limits.{Spends, Follows};
 ghost use Rattle.capnp_object.specs.Places.{place_view};
 ghost use Rattle.capnp_object.specs.Named.{named_view};
 ghost use Rattle.capnp_object.specs.Follow.{FollowsWithin};
+ghost use Rattle.capnp_object.specs.Near.{list_object, struct_object};
 ghost use Rattle.capnp_canonical.specs.Copies.{FollowsData, FollowsNear, fault_of};
 
 use capnp_object::arena::ReaderArena;
 use capnp_object::follow::own_cost;
 use capnp_object::lists::NearList;
 use capnp_object::named::{NamedObject, found_at};
-use capnp_object::near::near_list;
+use capnp_object::near::{near_list, near_struct};
 use capnp_object::object::{Object, whole};
 use capnp_object::place::Place;
+use capnp_object::structs::NearStruct;
 use capnp_units::errors::{Error, Result};
 use capnp_units::kinds::ErrorKind;
 use capnp_units::limiter::ReadLimiter;
@@ -71,10 +73,10 @@ pub(crate) fn follow_near_list<A: ReaderArena>(
     place: Place,
     levels: u32,
 ) -> Result<Option<NearList>>
-    ensures copied { FollowsNear
+    ensures copied { FollowsNear list_object
         (FollowsData levels (words_in (A.segments arena.now)) (place_view place))
         limiter.old result limiter.new }
-    ensures walked { FollowsNear
+    ensures walked { FollowsNear list_object
         (FollowsWithin levels (words_in (A.segments arena.now)) (place_view place))
         limiter.old result limiter.new }
 {
@@ -91,6 +93,34 @@ pub(crate) fn follow_near_list<A: ReaderArena>(
         count: list.count,
     }))?;
     Ok(Some(list))
+}
+
+/// The struct that `near_struct` tells at a place, on a walk of at most so many levels. It is counted as followed, and the struct's words are granted. `None` says nothing of what is there, and nothing was counted.
+///
+/// It is refused with `ReadLimitExceeded` where the words pass what is left of the limit. Then it is counted all the same, and no word is granted.
+#[inline(always)]
+pub(crate) fn follow_near_struct<A: ReaderArena>(
+    arena: &A,
+    limiter: &mut ReadLimiter,
+    place: Place,
+    levels: u32,
+) -> Result<Option<NearStruct>>
+    ensures copied { FollowsNear struct_object
+        (FollowsData levels (words_in (A.segments arena.now)) (place_view place))
+        limiter.old result limiter.new }
+    ensures walked { FollowsNear struct_object
+        (FollowsWithin levels (words_in (A.segments arena.now)) (place_view place))
+        limiter.old result limiter.new }
+{
+    if levels == 0 {
+        return Ok(None);
+    }
+    let Some(near) = near_struct(arena, place) else {
+        return Ok(None);
+    };
+    limiter.follow();
+    limiter.charge(near.size.data_words as u64 + near.size.pointers as u64)?;
+    Ok(Some(near))
 }
 
 /// Counts so many nulls as followed.

@@ -8,6 +8,12 @@ ghost use Rattle.capnp_canonical.specs.Checks.{IsBehind};
 use capnp_object::arena::ReaderArena;
 use capnp_object::place::{Place, has_words};
 
+/// Where the root pointer of a message stands.
+pub(crate) const ROOT: Place = Place {
+    segment: 0,
+    position: 0,
+};
+
 /// Whether a place lies behind another in its segment, at least so many words on.
 #[inline(always)]
 pub(crate) fn is_behind<A: ReaderArena>(arena: &A, place: Place, words: usize, head: Place) -> bool

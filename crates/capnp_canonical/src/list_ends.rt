@@ -6,7 +6,7 @@ ghost use Rattle.capnp_units.specs.Sizes.{size_number, data_bits};
 ghost use Rattle.capnp_units.specs.declared.limiter.ReadLimiter.{ReadLimiter};
 ghost use Rattle.capnp_object.specs.declared.object.Object.TheVariants as seen;
 ghost use Rattle.capnp_object.specs.Places.{place_view};
-ghost use Rattle.capnp_object.specs.Near.{near_object};
+ghost use Rattle.capnp_object.specs.Near.{list_object};
 ghost use Rattle.capnp_object.specs.Objects.{AreThere, IsInside};
 ghost use Rattle.capnp_canonical.specs.Objects.{IsShort};
 ghost use Rattle.capnp_canonical.specs.Standing.{HasHead, LeadsTo, Reaches};
@@ -67,13 +67,13 @@ pub(crate) fn near_list_end<A: ReaderArena>(
     list: NearList,
     head: usize,
 ) -> Option<usize>
-    requires inside { IsInside (words_in (A.segments arena.now)) (near_object list) }
-    requires short { IsShort (near_object list) }
+    requires inside { IsInside (words_in (A.segments arena.now)) (list_object list) }
+    requires short { IsShort (list_object list) }
     requires leads { LeadsTo (words_in (A.segments arena.now)) (place_view place)
-        (near_object list) }
+        (list_object list) }
     requires head { HasHead (words_in (A.segments arena.now)) (place_view place) 1 head }
     ensures { (levels : ℕ) (l : ReadLimiter) → TestsObject levels (words_in (A.segments arena.now))
-        (place_view place) head (near_object list) l (Ok result) l }
+        (place_view place) head (list_object list) l (Ok result) l }
 {
     if head - place.position > REACH {
         return None;

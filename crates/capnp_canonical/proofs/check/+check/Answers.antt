@@ -16,13 +16,13 @@ use Rattle.capnp_object.specs.declared.object.Object.{Object}
 use Rattle.capnp_object.specs.declared.object.Object.TheVariants as object
 use Rattle.capnp_units.specs.declared.limiter.ReadLimiter.{ReadLimiter}
 use Rattle.capnp_object.specs.Places.{place_view}
-use Rattle.capnp_object.specs.Near.{near_object}
+use Rattle.capnp_object.specs.Near.{list_object, struct_object}
 use Rattle.capnp_object.specs.Follow.{FollowsWithin}
 use Rattle.capnp_object.specs.Objects.{AreThere}
 use Rattle.capnp_object.specs.Inside.{section_at, words_there, tree_in, met_in}
 use Rattle.capnp_object.proofs.Measuring.{unfollowed_at}
 use Rattle.capnp_canonical.specs.Standing.{Stands, StandEach, StandElements, segment_words, IsSmall, HasHead, LeadsTo}
-use Rattle.capnp_canonical.specs.Checks.{TestsValue, TestsObject, TestsElements}
+use Rattle.capnp_canonical.specs.Checks.{TestsObject, TestsElements}
 use Rattle.capnp_canonical.proofs.Checking.{refused_is, differs_at}
 use Rattle.capnp_canonical.proofs.CheckedRows.{row_begun, row_next, row_differs, row_stopped, row_ended}
 use Rattle.capnp_canonical.proofs.CheckedElements.{elements_begun, elements_next, elements_differ, elements_stopped, elements_ended, plain_elements}
@@ -32,7 +32,7 @@ use Rattle.capnp_canonical.proofs.StandingLists.{pointers_tests, pointers_word, 
 use Rattle.capnp_canonical.proofs.StandingPlaces.{struct_where, pointers_where, structs_where}
 use Rattle.capnp_canonical.proofs.StandingValues.{null_tests, capability_tests, deep_tests, null_leaf, other_leaf}
 use Rattle.capnp_canonical.proofs.Steps.{short_at}
-use Rattle.capnp_canonical.proofs.NearFollowed.{some_left}
+use Rattle.capnp_canonical.proofs.NearFollowed.{some_left, untold}
 use Rattle.capnp_canonical.proofs.check.+check.Goals as goal
 
 pub row_end-loop-i-init : goal.row_end-loop-i-init
@@ -137,23 +137,63 @@ value_end-returns-in-Some g t c =
     let s : Segments = words_in (g.A.ReaderArena.segments c.args.arena.now) in
     let n = c.args.levels in
     let k = c.follow_near_list.new.limiter in
-    let followed : FollowsWithin n s (place_view c.args.place) c.args.limiter.now (Ok (near_object c.in-Some.list)) k = rw c.in-Some.is at c.in_ok-list.ensures.walked in
+    let followed : FollowsWithin n s (place_view c.args.place) c.args.limiter.now (Ok (list_object c.in-Some.list)) k = rw c.in-Some.is at c.in_ok-list.ensures.walked in
     let some = some_left n followed.1 in
-    deep_tests n s (place_view c.args.place) c.args.head (near_object c.in-Some.list) c.args.limiter.now k k (Ok c.near_list_end.result) followed.0 (n - 1) (omega arith) (c.near_list_end.ensures (n - 1) k)
+    deep_tests n s (place_view c.args.place) c.args.head (list_object c.in-Some.list) c.args.limiter.now k k (Ok c.near_list_end.result) followed.0 (n - 1) (omega arith) (c.near_list_end.ensures (n - 1) k)
 
-pub value_end-returns-in-None : goal.value_end-returns-in-None
-value_end-returns-in-None g t c =
+pub value_end-returns-in_err-near : goal.value_end-returns-in_err-near
+value_end-returns-in_err-near g t c =
     let s : Segments = words_in (g.A.ReaderArena.segments c.args.arena.now) in
-    let same : c.follow_near_list.new.limiter ≡ c.args.limiter.now = rw c.in-None.is at c.in_ok-list.ensures.walked in
-    subst (λ (l : ReadLimiter). TestsValue c.args.levels s (place_view c.args.place) c.args.head l c.any_end.result c.any_end.new.limiter) same c.any_end.ensures
+    let p : Place = place_view c.args.place in
+    let n = c.args.levels in
+    let l = c.args.limiter.now in
+    let k = c.follow_near_struct.new.limiter in
+    let e = c.in_err-near.field-0.0 in
+    let r = err_from_is_err_and c.from_residual-in_err-near.result c.from_residual-in_err-near.ensures.1 in
+    let same = untold list_object (FollowsWithin n s p) l c.follow_near_list.new.limiter c.in_ok-list.field-0 c.in_default.not-Some c.in_ok-list.ensures.walked in
+    let stop : FollowsWithin n s p l (Err e) k = subst (λ (x : ReadLimiter). FollowsWithin n s p x (Err e) k) same c.in_err-near.ensures.walked in
+    refused_is (tree_at n s p) has_capability (λ u. Stands s p c.args.head (trim u)) (IsSmall s p) (visits n s p) l k c.from_residual-in_err-near.result r.0 e r.1 r.2
+    (unfollowed_at n s p l k (Err e) e e refl refl stop)
+
+pub value_end-returns-then-head-place-gt-REACH : goal.value_end-returns-then-head-place-gt-REACH
+value_end-returns-then-head-place-gt-REACH g t c =
+    let s : Segments = words_in (g.A.ReaderArena.segments c.args.arena.now) in
+    let p : Place = place_view c.args.place in
+    let n = c.args.levels in
+    let head = c.args.head in
+    let l = c.args.limiter.now in
+    let k = c.follow_near_struct.new.limiter in
+    let o = struct_object c.in-Some-2.near in
+    let far = c.if-head-place-gt-REACH.true in
+    let same = untold list_object (FollowsWithin n s p) l c.follow_near_list.new.limiter c.in_ok-list.field-0 c.in_default.not-Some c.in_ok-list.ensures.walked in
+    let here : FollowsWithin n s p c.follow_near_list.new.limiter (Ok o) k = rw c.in-Some-2.is at c.in_ok-near.ensures.walked in
+    let followed = subst (λ (x : ReadLimiter). FollowsWithin n s p x (Ok o) k) same here in
+    let some = some_left n followed.1 in
+    deep_tests n s p head o l k k (Ok None) followed.0 (n - 1) (omega arith)
+    (differs_at (tree_in s (tree_at (n - 1) s) o) has_capability (λ u. Stands s p head (trim u)) (IsSmall s p) (met_in (visits (n - 1) s) o) k
+    (λ small u end is clean stand. let near = within_reach s p 1 head small c.requires in omega arith))
+
+pub value_end-returns-in-Some-2 : goal.value_end-returns-in-Some-2
+value_end-returns-in-Some-2 g t c =
+    let s : Segments = words_in (g.A.ReaderArena.segments c.args.arena.now) in
+    let p : Place = place_view c.args.place in
+    let n = c.args.levels in
+    let l = c.args.limiter.now in
+    let k = c.follow_near_struct.new.limiter in
+    let o = struct_object c.in-Some-2.near in
+    let same = untold list_object (FollowsWithin n s p) l c.follow_near_list.new.limiter c.in_ok-list.field-0 c.in_default.not-Some c.in_ok-list.ensures.walked in
+    let here : FollowsWithin n s p c.follow_near_list.new.limiter (Ok o) k = rw c.in-Some-2.is at c.in_ok-near.ensures.walked in
+    let followed = subst (λ (x : ReadLimiter). FollowsWithin n s p x (Ok o) k) same here in
+    let some = some_left n followed.1 in
+    deep_tests n s p c.args.head o l k c.struct_end.new.limiter c.struct_end.result followed.0 (n - 1) (omega arith) c.struct_end.ensures
 
 pub value_end-near_list_end-requires : goal.value_end-near_list_end-requires
 value_end-near_list_end-requires g t c =
     let s : Segments = words_in (g.A.ReaderArena.segments c.args.arena.now) in
     let k = c.follow_near_list.new.limiter in
-    let followed : FollowsWithin c.args.levels s (place_view c.args.place) c.args.limiter.now (Ok (near_object c.in-Some.list)) k = rw c.in-Some.is at c.in_ok-list.ensures.walked in
+    let followed : FollowsWithin c.args.levels s (place_view c.args.place) c.args.limiter.now (Ok (list_object c.in-Some.list)) k = rw c.in-Some.is at c.in_ok-list.ensures.walked in
     let pays = followed.0 in
-    record { inside = pays.inside; short = short_at s (place_view c.args.place) (near_object c.in-Some.list) c.args.limiter.now k pays; leads = (pays.pads, pays.is); head = c.requires }
+    record { inside = pays.inside; short = short_at s (place_view c.args.place) (list_object c.in-Some.list) c.args.limiter.now k pays; leads = (pays.pads, pays.is); head = c.requires }
 
 pub any_end-returns-in_err-object : goal.any_end-returns-in_err-object
 any_end-returns-in_err-object g t c =

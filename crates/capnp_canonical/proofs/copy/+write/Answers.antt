@@ -15,19 +15,20 @@ use Rattle.capnp_object.specs.declared.object.Object.{Object}
 use Rattle.capnp_object.specs.declared.object.Object.TheVariants as object
 use Rattle.capnp_units.specs.declared.limiter.ReadLimiter.{ReadLimiter}
 use Rattle.capnp_object.specs.Places.{place_view}
-use Rattle.capnp_object.specs.Near.{near_object}
+use Rattle.capnp_object.specs.Near.{list_object, struct_object}
 use Rattle.capnp_object.specs.Inside.{tree_in, met_in, section_at, words_there}
+use Rattle.capnp_object.specs.Walks.{Stopped}
 use Rattle.capnp_canonical.specs.Writes.{words_view, with_link, with_links, with_cells}
 use Rattle.capnp_canonical.specs.Widths.{kept}
 use Rattle.capnp_canonical.specs.Copies.{copy_visits, IsData, FollowsData, Writes, Unwritten}
-use Rattle.capnp_canonical.specs.Objects.{WritesObject, WritesValue}
+use Rattle.capnp_canonical.specs.Objects.{WritesObject}
 use Rattle.capnp_canonical.proofs.Copying.{unwritten_at, no_room, halts_is}
 use Rattle.capnp_canonical.proofs.Faults.{stopped_otherwise}
 use Rattle.capnp_canonical.proofs.Rooms.{no_room_for_struct, no_room_for_pointers, no_room_for_structs}
 use Rattle.capnp_canonical.proofs.Rows.{least_words, least_pointers, elements_count}
 use Rattle.capnp_object.proofs.Rows.{each_count}
 use Rattle.capnp_canonical.proofs.Steps.{null_put, leaf_at, deep_at, short_at}
-use Rattle.capnp_canonical.proofs.NearFollowed.{some_left}
+use Rattle.capnp_canonical.proofs.NearFollowed.{some_left, untold}
 use Rattle.capnp_canonical.proofs.Kept.{widest_one, no_wider}
 use Rattle.capnp_canonical.proofs.Nulls.{kept_count}
 use Rattle.capnp_canonical.proofs.Parts.{part_there, front_there, there_length, word_is}
@@ -54,25 +55,48 @@ write_at-returns-in-Some g t c =
     let s : Segments = words_in (g.A.ReaderArena.segments c.args.arena.now) in
     let n = c.args.levels in
     let k = c.follow_near_list.new.limiter in
-    let followed : FollowsData n s (place_view c.args.place) c.args.limiter.now (Ok (near_object c.in-Some.list)) k = rw c.in-Some.is at c.in_ok-list.ensures.copied in
+    let followed : FollowsData n s (place_view c.args.place) c.args.limiter.now (Ok (list_object c.in-Some.list)) k = rw c.in-Some.is at c.in_ok-list.ensures.copied in
     let some = some_left n followed.1 in
-    deep_at n s (place_view c.args.place) c.args.at c.args.used (near_object c.in-Some.list) c.args.into.now c.write_list.new.into c.args.limiter.now k k
+    deep_at n s (place_view c.args.place) c.args.at c.args.used (list_object c.in-Some.list) c.args.into.now c.write_list.new.into c.args.limiter.now k k
     (n - 1) c.write_list.result (omega arith) followed.0 followed.1 followed.2 (c.write_list.ensures (n - 1) k)
 
-pub write_at-returns-in-None : goal.write_at-returns-in-None
-write_at-returns-in-None g t c =
+pub write_at-returns-in_err-near : goal.write_at-returns-in_err-near
+write_at-returns-in_err-near g t c =
     let s : Segments = words_in (g.A.ReaderArena.segments c.args.arena.now) in
-    let same : c.follow_near_list.new.limiter ≡ c.args.limiter.now = rw c.in-None.is at c.in_ok-list.ensures.copied in
-    subst (λ (l : ReadLimiter). WritesValue c.args.levels s (place_view c.args.place) c.args.at c.args.used c.args.into.now l c.write_any.result c.write_any.new.into c.write_any.new.limiter) same c.write_any.ensures
+    let p : Place = place_view c.args.place in
+    let n = c.args.levels in
+    let old = c.args.into.now in
+    let l = c.args.limiter.now in
+    let k = c.follow_near_struct.new.limiter in
+    let e = c.in_err-near.field-0.0 in
+    let r = err_from_is_err_and c.from_residual-in_err-near.result c.from_residual-in_err-near.ensures.1 in
+    let same = untold list_object (FollowsData n s p) l c.follow_near_list.new.limiter c.in_ok-list.field-0 c.in_default.not-Some c.in_ok-list.ensures.copied in
+    let stop : Stopped (copy_visits n s p) l e k = subst (λ (x : ReadLimiter). Stopped (copy_visits n s p) x e k) same c.in_err-near.ensures.copied in
+    halts_is (tree_at n s p) has_capability (λ t. with_link c.args.at (trim t)) (copy_visits n s p) c.args.used c.args.used old old l k c.from_residual-in_err-near.result r.0 e r.1 r.2
+    (unwritten_at (tree_at n s p) (λ t. with_link c.args.at (trim t)) (copy_visits n s p) c.args.used c.args.used old l k e stop (λ kind. stopped_otherwise n s p l k e stop kind))
+
+pub write_at-returns-in-Some-2 : goal.write_at-returns-in-Some-2
+write_at-returns-in-Some-2 g t c =
+    let s : Segments = words_in (g.A.ReaderArena.segments c.args.arena.now) in
+    let p : Place = place_view c.args.place in
+    let n = c.args.levels in
+    let l = c.args.limiter.now in
+    let k = c.follow_near_struct.new.limiter in
+    let near = c.in-Some-2.near in
+    let same = untold list_object (FollowsData n s p) l c.follow_near_list.new.limiter c.in_ok-list.field-0 c.in_default.not-Some c.in_ok-list.ensures.copied in
+    let here : FollowsData n s p c.follow_near_list.new.limiter (Ok (struct_object near)) k = rw c.in-Some-2.is at c.in_ok-near.ensures.copied in
+    let followed = subst (λ (x : ReadLimiter). FollowsData n s p x (Ok (struct_object near)) k) same here in
+    let some = some_left n followed.1 in
+    deep_at n s p c.args.at c.args.used (struct_object near) c.args.into.now c.write_struct.new.into l k c.write_struct.new.limiter (n - 1) c.write_struct.result (omega arith) followed.0 followed.1 followed.2 c.write_struct.ensures
 
 pub write_at-write_list-requires : goal.write_at-write_list-requires
 write_at-write_list-requires g t c =
     let s : Segments = words_in (g.A.ReaderArena.segments c.args.arena.now) in
     let n = c.args.levels in
     let k = c.follow_near_list.new.limiter in
-    let followed : FollowsData n s (place_view c.args.place) c.args.limiter.now (Ok (near_object c.in-Some.list)) k = rw c.in-Some.is at c.in_ok-list.ensures.copied in
+    let followed : FollowsData n s (place_view c.args.place) c.args.limiter.now (Ok (list_object c.in-Some.list)) k = rw c.in-Some.is at c.in_ok-list.ensures.copied in
     let pays = followed.0 in
-    record { plain = pays.inside.0; inside = pays.inside.1; short = short_at s (place_view c.args.place) (near_object c.in-Some.list) c.args.limiter.now k pays; place = c.requires }
+    record { plain = pays.inside.0; inside = pays.inside.1; short = short_at s (place_view c.args.place) (list_object c.in-Some.list) c.args.limiter.now k pays; place = c.requires }
 
 pub write_any-returns-in_err-object : goal.write_any-returns-in_err-object
 write_any-returns-in_err-object g t c =
