@@ -1,26 +1,20 @@
 -- Rows of words in bytes.
-use Rattle.std.proofs.Common.{◌≡◌, ℕ, zero, suc, ◌+◌, ◌/◌, ◌≤◌, true, List, ◌∷◌, ◌++◌, length, take, drop, Some, refl, ap, sym, ◌∙◌, arith}
+use Rattle.std.proofs.Common.{◌≡◌, ℕ, ◌+◌, ◌/◌, ◌≤◌, true, List, ◌++◌, length, take, drop, Some, ap, sym, ◌∙◌, arith}
 use Rattle.std.specs.Int.{from_le_bytes, w64}
 use Rattle.std.specs.List.{slice_get}
 use Rattle.std.specs.Option.{is_some}
 use Rattle.std.specs.Simd.{first_chunks}
 use Rattle.std.proofs.Math.Seq.{drop-append_seam}
 use Rattle.std.proofs.lemmas.List.{map-append, take-map, drop-map, length-append, length-take, length-drop, append_assoc}
-use Rattle.capnp_model.specs.Bytes.{words_in_bytes}
 use Rattle.capnp_model.specs.Sections.{words_of}
 use Rattle.capnp_model.specs.Segments.{place, words_at}
 use Rattle.capnp_model.proofs.Chaining.{some_is}
 use Rattle.capnp_units.specs.Segments.{whole_words, words_in}
 use Rattle.capnp_object.specs.Inside.{words_there}
-use Rattle.capnp_object.proofs.Words.{word_of_eight, segment_there}
+use Rattle.capnp_object.proofs.Words.{chunks_are_words, segment_there}
 use Rattle.capnp_canonical.specs.Copies.{Behind}
 use Rattle.capnp_canonical.specs.Writes.{words_view, with_words}
 use Rattle.capnp_canonical.proofs.Parts.{segment_of, there_words}
-
--- words of eight bytes each
-pub chunks_are_words : (n : ℕ) (bytes : List ℕ) → words_view (first_chunks 8 n bytes) ≡ words_in_bytes n bytes
-chunks_are_words zero bytes = refl
-chunks_are_words (suc n) bytes = ap (λ (w : ℕ). w ∷ words_view (first_chunks 8 n (drop 8 bytes))) (word_of_eight bytes) ∙ ap (λ (ws : List ℕ). from_le_bytes w64 bytes ∷ ws) (chunks_are_words n (drop 8 bytes))
 
 -- a part of them is what is there
 pub part_is_there : (s : List (List ℕ)) (i p n : ℕ) (bytes : List ℕ) → Some bytes ≡ slice_get s i → is_some (words_at (words_in s) (place i p) n) ≡ true → words_view (take n (drop p (first_chunks 8 (length bytes / 8) bytes))) ≡ words_there (words_in s) (place i p) n

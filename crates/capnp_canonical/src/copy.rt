@@ -313,6 +313,7 @@ fn write_row<A: ReaderArena>(
 
 /// Writes what is kept of a struct's own words over those from a place on, and what its pointers lead to behind the words that are used.
 #[cycle(write)]
+#[inline(always)]
 fn write_element<A: ReaderArena>(
     arena: &A,
     limiter: &mut ReadLimiter,

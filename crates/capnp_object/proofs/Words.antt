@@ -1,11 +1,12 @@
 -- The words of segments of bytes.
-use Rattle.std.proofs.Common.{◌≡◌, ℕ, zero, suc, ◌+◌, ◌*◌, ◌/◌, ◌≤◌, ◌<◌, Bool, true, false, leb, List, length, take, drop, Some, None, refl, ap, sym, ◌∙◌, arith}
+use Rattle.std.proofs.Common.{◌≡◌, ℕ, zero, suc, ◌+◌, ◌/◌, ◌≤◌, ◌<◌, Bool, true, false, leb, List, ◌∷◌, map, length, get_or, take, drop, Some, None, refl, ap, sym, ◌∙◌, arith}
 use Rattle.std.specs.List.{slice_get}
 use Rattle.std.specs.Int.{from_le_bytes, w64}
 use Rattle.std.specs.Option.{option_map, is_some}
-use Rattle.std.proofs.lemmas.List.{drop-drop, take-take, get_or-take}
+use Rattle.std.specs.Simd.{first_chunks}
+use Rattle.std.proofs.lemmas.List.{take-take, get_or-take}
 use Rattle.std.proofs.lemmas.Bool.{leb-true}
-use Rattle.std.proofs.lemmas.Option.{slice_get-map, slice_get_past}
+use Rattle.std.proofs.lemmas.Option.{slice_get-map, slice_get_past, slice_get_read}
 use Rattle.capnp_model.specs.Bytes.{words_in_bytes}
 use Rattle.capnp_model.specs.Chains.{◌provided◌}
 use Rattle.capnp_model.specs.Segments.{place, words_at}
@@ -17,19 +18,6 @@ words_in_bytes-length (suc n) bytes = let rest = words_in_bytes-length n (drop 8
 
 pub whole_words-length : (bytes : List ℕ) → length (whole_words bytes) ≡ length bytes / 8
 whole_words-length bytes = words_in_bytes-length (length bytes / 8) bytes
-
-words_in_bytes-at : (n i : ℕ) (bytes : List ℕ) → i < n → slice_get (words_in_bytes n bytes) i ≡ Some (from_le_bytes w64 (drop (8 * i) bytes))
-words_in_bytes-at zero i bytes h = absurd (omega arith)
-words_in_bytes-at (suc n) zero bytes h = refl
-words_in_bytes-at (suc n) (suc i) bytes h =
-    let sum : 8 + 8 * i ≡ 8 * suc i = omega arith in
-    words_in_bytes-at n i (drop 8 bytes) (omega arith) ∙ ap (λ (xs : List ℕ). Some (from_le_bytes w64 xs)) (drop-drop (8 * i) 8 bytes) ∙ ap (λ (k : ℕ). Some (from_le_bytes w64 (drop k bytes))) sum
-
-pub word_there : (i : ℕ) (bytes : List ℕ) → i < length bytes / 8 → slice_get (whole_words bytes) i ≡ Some (from_le_bytes w64 (drop (8 * i) bytes))
-word_there i bytes h = words_in_bytes-at (length bytes / 8) i bytes h
-
-pub word_past : (i : ℕ) (bytes : List ℕ) → length bytes / 8 ≤ i → slice_get (whole_words bytes) i ≡ None
-word_past i bytes h = slice_get_past (whole_words bytes) i (let e = whole_words-length bytes in omega arith)
 
 pub segment_there : (s : List (List ℕ)) (i : ℕ) (bytes : List ℕ) → Some bytes ≡ slice_get s i → slice_get (words_in s) i ≡ Some (whole_words bytes)
 segment_there s i bytes e = slice_get-map whole_words s i ∙ ap (option_map whole_words) (sym e)
@@ -68,6 +56,22 @@ word_of_eight bytes =
 
 pub word_of_front : (n : ℕ) (bytes first : List ℕ) → 8 ≤ n → first ≡ take 8 (take n bytes) → from_le_bytes w64 first ≡ from_le_bytes w64 bytes
 word_of_front n bytes first h e = let f : List ℕ → ℕ = from_le_bytes w64 in ap f (e ∙ take-take 8 n bytes h) ∙ word_of_eight bytes
+
+-- words of eight bytes each
+pub chunks_are_words : (n : ℕ) (bytes : List ℕ) → map (from_le_bytes w64) (first_chunks 8 n bytes) ≡ words_in_bytes n bytes
+chunks_are_words zero bytes = refl
+chunks_are_words (suc n) bytes =
+    ap (λ (w : ℕ). w ∷ map (from_le_bytes w64) (first_chunks 8 n (drop 8 bytes))) (word_of_eight bytes) ∙ ap (λ (ws : List ℕ). from_le_bytes w64 bytes ∷ ws) (chunks_are_words n (drop 8 bytes))
+
+module _ (bytes : List ℕ) (chunks : List (List ℕ)) (are : chunks ≡ first_chunks 8 (length bytes / 8) bytes) where
+  chunk_at : (i : ℕ) → slice_get (whole_words bytes) i ≡ option_map (from_le_bytes w64) (slice_get chunks i)
+  chunk_at i = ap (λ (ws : List ℕ). slice_get ws i) (sym (ap (map (from_le_bytes w64)) are ∙ chunks_are_words (length bytes / 8) bytes)) ∙ slice_get-map (from_le_bytes w64) chunks i
+
+  pub word_of_chunk : (i : ℕ) (chunk : List ℕ) → i < length chunks → chunk ≡ get_or chunks i chunk → slice_get (whole_words bytes) i ≡ Some (from_le_bytes w64 chunk)
+  word_of_chunk i chunk h e = chunk_at i ∙ ap (option_map (from_le_bytes w64)) (slice_get_read chunks (length chunks) i chunk refl h e)
+
+  pub no_chunk : (i : ℕ) → length chunks ≤ i → slice_get (whole_words bytes) i ≡ None
+  no_chunk i h = chunk_at i ∙ ap (option_map (from_le_bytes w64)) (slice_get_past chunks i h)
 
 -- what is there lies inside its segment
 pub words_end : (s : List (List ℕ)) (i k n : ℕ) (bytes : List ℕ) → Some bytes ≡ slice_get s i → is_some (words_at (words_in s) (place i k) n) ≡ true → k + n ≤ length bytes / 8

@@ -27,12 +27,14 @@ pub fn own_cost(object: Object) -> u64
             pointers,
             ..
         } => data_words as u64 + pointers as u64,
-        Object::List {
-            size: ElementSize::Void,
-            count,
-            ..
-        } => count as u64,
-        Object::List { size, count, .. } => words_of_elements(size, count),
+        Object::List { size, count, .. } => {
+            let words = words_of_elements(size, count);
+            if size == ElementSize::Void {
+                count as u64
+            } else {
+                words
+            }
+        }
         Object::PointerList { count, .. } => count as u64,
         Object::StructList {
             words,

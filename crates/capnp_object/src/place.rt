@@ -36,11 +36,8 @@ pub(crate) fn word_in(bytes: &[u8], position: usize) -> Option<u64>
     ensures word { result ≡ slice_get (whole_words bytes.now) position }
     ensures near { OnSome result (position < 2 ^ 61) }
 {
-    if position >= bytes.len() / 8 {
-        return None;
-    }
-    let (first, _) = bytes[8 * position..].split_first_chunk::<8>()?;
-    Some(u64::from_le_bytes(*first))
+    let (words, _) = bytes.as_chunks::<8>();
+    Some(u64::from_le_bytes(*words.get(position)?))
 }
 
 /// The word at a place, where the segment is there and has it.

@@ -1,13 +1,12 @@
 -- The word is that of the eight bytes there.
-use Rattle.std.proofs.Common.{ℕ, ◌-◌, ◌*◌, length, drop, Some, ap, sym, ◌∙◌, arith}
-use Rattle.capnp_object.proofs.Words.{word_there, word_past, word_of_front}
+use Rattle.std.proofs.Common.{Some, ap, sym, ◌∙◌}
+use Rattle.capnp_object.proofs.Words.{word_of_chunk, no_chunk}
 use Rattle.capnp_object.proofs.place.word_in.Goals as goal
 
-pub returns-then-position-bytes-clause-word : goal.returns-then-position-bytes-clause-word
-returns-then-position-bytes-clause-word c = sym (word_past c.args.position c.args.bytes.now c.if-position-bytes.true)
+pub returns-in_err-get-clause-word : goal.returns-in_err-get-clause-word
+returns-in_err-get-clause-word c = c.from_residual.ensures ∙ sym (no_chunk c.args.bytes.now c.as_chunks.result.0.now c.as_chunks.ensures.front c.args.position c.in_err-get.ensures.lookup.3)
 
 pub returns-clause-word : goal.returns-clause-word
 returns-clause-word c =
-    let at : ℕ = 8 * c.args.position in
-    let word = word_of_front (length c.args.bytes.now - at) (drop at c.args.bytes.now) c.in_ok-first.first.now (omega arith) c.in_ok-first.ensures.cases.0 in
-    ap Some (c.from_le_bytes.ensures ∙ word) ∙ sym (word_there c.args.position c.args.bytes.now c.if-position-bytes.false)
+    let found = c.in_ok-get.ensures.lookup in
+    ap Some c.from_le_bytes.ensures ∙ sym (word_of_chunk c.args.bytes.now c.as_chunks.result.0.now c.as_chunks.ensures.front c.args.position c.in_ok-get.field-0.now found.3.0 found.1)
