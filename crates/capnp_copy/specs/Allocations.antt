@@ -1,7 +1,7 @@
 -- Words that an arena allocates.
 use Rattle.std.specs.Prelude.{◌≡◌, ℕ, ◌+◌, ◌-◌, ◌^◌, ◌*◌, ◌<◌, ◌≤◌, List, [], ◌∷◌, length, map, take, get_or}
 use Rattle.capnp_model.specs.Segments.{Segments}
-use Rattle.capnp_units.specs.Segments.{whole_words}
+use Rattle.capnp_units.specs.Segments.{whole_words, words_in}
 use Rattle.capnp_footprints.specs.Writes.{with_zeros, segment_end}
 
 -- The words of all segments.
@@ -19,6 +19,14 @@ pub record Allocates (s u : Segments) (i at n : ℕ) : Type 0 where
 -- The ith segment is there, so many words of it are free, and the message may have as many more. The list tells the free words of each segment.
 abbrev pub HasRoom : Segments → List ℕ → ℕ → ℕ → Type 0
 HasRoom s free i n = (i < length s) × (n ≤ get_or free i 0) × (total_words s + n < 2 ^ 29)
+
+-- With so many words more, a message of these segments' bytes would pass its limit of 2^29 - 1.
+abbrev pub PassesLimit : List (List ℕ) → ℕ → Type 0
+PassesLimit bytes n = 2 ^ 29 ≤ total_words (words_in bytes) + n
+
+-- The last of these segments, by their bytes, lacks room for so many words.
+abbrev pub LastIsFull : List (List ℕ) → List ℕ → ℕ → Type 0
+LastIsFull bytes free n = HasRoom (words_in bytes) free (length bytes - 1) n → ⊥
 
 -- Where the ith segment had room for so many words, just these are new in the message, so that no word is a new pad. The list tells the free words of each segment.
 abbrev pub TakesJust : Segments → List ℕ → Segments → ℕ → ℕ → Type 0

@@ -1,11 +1,14 @@
 pub mod Memory
 pub mod Allocations
+pub mod Holding
+pub mod States
 pub use Rattle.capnp_wire.specs.Places
 pub mod Structs
 pub mod Values
 pub mod Rooms
 pub mod Clearing
 pub mod Lists
+pub mod Inits
 pub mod Blobs
 pub mod Elements
 pub mod Bytes

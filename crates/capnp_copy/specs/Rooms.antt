@@ -2,6 +2,8 @@
 use Rattle.std.specs.Prelude.{◌≡◌, ℕ, ◌+◌, ◌-◌, ◌*◌, ◌^◌, ◌<◌, List, [], ◌∷◌, true}
 use Rattle.std.specs.Option.{is_some}
 use Rattle.capnp_model.specs.Segments.{Segments, Place, after, words_at}
+use Rattle.capnp_units.specs.Segments.{words_in}
+use Rattle.capnp_object.specs.declared.place.Place as code
 use Rattle.capnp_wire.specs.Places.{place_view}
 use Rattle.capnp_footprints.specs.Writes.{with_words}
 use Rattle.capnp_copy.specs.Allocations.{Allocates, HasRoom}
@@ -13,6 +15,10 @@ abbrev pub RoomFor : Segments → Segments → Place → ℕ → Room → Type 0
 RoomFor s u p n Here = (n ≡ 0) × (u ≡ s)
 RoomFor s u p n (Near offset) = (0 < n) × Allocates s u p.segment (p.position + 1 + offset) n
 RoomFor s u p n (Far pad) = (0 < n) × Allocates s u pad.segment pad.position (1 + n) × (pad.segment < 2 ^ 32)
+
+-- The same of an arena's bytes, for the pointer at a place.
+abbrev pub MakesRoom : List (List ℕ) → List (List ℕ) → code.Place → ℕ → Room → Type 0
+MakesRoom old new slot n room = RoomFor (words_in old) (words_in new) (place_view slot) n room
 
 -- There is a pad just where the pointer's segment has no room. The list tells the free words of each segment.
 abbrev pub IsNearWhereRoom : Segments → List ℕ → ℕ → ℕ → Room → Type 0

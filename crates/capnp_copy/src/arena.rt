@@ -1,5 +1,5 @@
 //! Arenas in which values are built.
-ghost use Rattle.std.specs.Prelude.{◌≡◌, ◌⊎◌, ◌+◌, ◌-◌, ◌*◌, ◌/◌, ◌<◌, ◌≤◌, ◌^◌, ◌∷◌, [], ◌↔◌, ℕ, List, length, replicate, true, IfOk, IfErr, OnErr, OnSome, IfSome, IfNone};
+ghost use Rattle.std.specs.Prelude.{◌≡◌, ◌⊎◌, ◌*◌, ◌/◌, ◌<◌, ◌∷◌, [], ◌↔◌, ℕ, List, length, replicate, true, IfOk, IfErr, OnErr, OnSome, IfSome, IfNone};
 ghost use Rattle.std.specs.Option.{is_some};
 ghost use Rattle.capnp_model.specs.Bytes.{words_in_bytes};
 ghost use Rattle.capnp_model.specs.Segments.{words_at};
@@ -7,7 +7,7 @@ ghost use Rattle.capnp_units.specs.Segments.{words_in};
 ghost use Rattle.capnp_units.specs.declared.kinds.ErrorKind.TheVariants.{SizeOverflow};
 ghost use Rattle.capnp_wire.specs.Places.{place_view};
 ghost use Rattle.capnp_footprints.specs.Writes.{with_words};
-ghost use Rattle.capnp_copy.specs.Allocations.{total_words, Allocates, HasRoom};
+ghost use Rattle.capnp_copy.specs.Allocations.{Allocates, HasRoom, LastIsFull, PassesLimit};
 
 use capnp_units::errors::Result;
 use capnp_units::sizes::SegmentId;
@@ -40,18 +40,14 @@ pub trait BuilderArena: ReaderArena {
     fn allocate_anywhere(&mut self, words: u32) -> Result<(SegmentId, u32)>
         ensures last { IfOk result (λ p.
             (p.0 < length (Self.segments self.old))
-            ⊎ (HasRoom (words_in (Self.segments self.old)) (room self.old)
-            (length (Self.segments self.old) - 1) words → ⊥)) }
-        ensures full { OnErr result
-            (HasRoom (words_in (Self.segments self.old)) (room self.old)
-            (length (Self.segments self.old) - 1) words → ⊥) }
+            ⊎ LastIsFull (Self.segments self.old) (room self.old) words) }
+        ensures full { OnErr result (LastIsFull (Self.segments self.old) (room self.old) words) }
         ensures ok { IfOk result (λ p.
             Allocates (words_in (Self.segments self.old)) (words_in (Self.segments self.new)) p.0
             p.1 words) }
         ensures refused { OnErr result (Self.segments self.new ≡ Self.segments self.old) }
         ensures kind { IfErr result (λ e.
-            (e.kind ≡ SizeOverflow)
-            ↔ (2 ^ 29 ≤ total_words (words_in (Self.segments self.old)) + words)) }
+            (e.kind ≡ SizeOverflow) ↔ PassesLimit (Self.segments self.old) words) }
         ensures books { books self.new ≡ books self.old };
 
     /// Writes a word in place of the one at a place.

@@ -1,16 +1,13 @@
 //! Texts and data in place of other values.
-ghost use Rattle.std.specs.Prelude.{◌≡◌, ◌+◌, ◌-◌, ◌*◌, ◌/◌, ◌<◌, ◌≤◌, ◌^◌, ◌↔◌, ◌⊎◌, ℕ, true, length, IfOk, IfErr, OnOk, OnErr};
+ghost use Rattle.std.specs.Prelude.{◌≡◌, ◌+◌, ◌*◌, ◌/◌, ◌<◌, ◌≤◌, ◌^◌, true, length};
 ghost use Rattle.std.specs.Option.{is_some};
-ghost use Rattle.capnp_model.specs.Coverage.{Grows};
-ghost use Rattle.capnp_model.specs.Sections.{number_of, words_for};
+ghost use Rattle.capnp_model.specs.Sections.{number_of};
 ghost use Rattle.capnp_model.specs.Segments.{words_at};
-ghost use Rattle.capnp_model.specs.Trees.{plain_list};
 ghost use Rattle.capnp_units.specs.Segments.{words_in};
-ghost use Rattle.capnp_units.specs.declared.kinds.ErrorKind.TheVariants.{SizeOverflow};
 ghost use Rattle.capnp_wire.specs.Places.{place_view};
-ghost use Rattle.capnp_copy.specs.Allocations.{total_words, TakesJust, TakesAtMost, NoRoom};
 ghost use Rattle.capnp_copy.specs.Blobs.{with_bytes, whole_of};
-ghost use Rattle.capnp_copy.specs.Values.{Becomes};
+ghost use Rattle.capnp_copy.specs.Inits.{PutsBytes};
+ghost use Rattle.capnp_copy.specs.States.{state_in};
 
 use crate::allocator::write_in;
 use crate::arena::BuilderArena;
@@ -59,27 +56,8 @@ fn set_bytes<A: BuilderArena>(arena: &mut A, slot: Place, bytes: &[u8], count: u
         ≡ true }
     requires near { slot.position < 2 ^ 61 }
     requires all { (length bytes.now ≤ count) × (count ≤ length bytes.now + 1) }
-    ensures value { IfOk result (λ o.
-        Becomes (words_in (A.segments arena.old)) (words_in (A.segments arena.new))
-        (place_view slot) (plain_list 2 count (number_of 8 bytes.now))) }
-    ensures taken { OnOk result
-        (TakesJust (words_in (A.segments arena.old)) (A.room arena.old)
-        (words_in (A.segments arena.new)) slot.segment (words_for (8 * count))) }
-    ensures bound { OnOk result
-        (TakesAtMost (words_in (A.segments arena.old)) (words_in (A.segments arena.new))
-        (words_for (8 * count)) 1) }
-    ensures full { OnErr result
-        ((2 ^ 29 ≤ count)
-        ⊎ NoRoom (words_in (A.segments arena.old)) (A.room arena.old) slot.segment
-        (words_for (8 * count))) }
-    ensures refused { OnErr result (A.segments arena.new ≡ A.segments arena.old) }
-    ensures kind { IfErr result (λ e.
-        (e.kind ≡ SizeOverflow)
-        ↔ ((2 ^ 29 ≤ count)
-        ⊎ (2 ^ 29 ≤ total_words (words_in (A.segments arena.old)) + (words_for (8 * count) + 1)))) }
-    ensures books { A.books arena.new ≡ A.books arena.old }
-    ensures grows { OnOk result
-        (Grows (words_in (A.segments arena.old)) (words_in (A.segments arena.new))) }
+    ensures { let at = state_in A.segments A.room A.books in
+        PutsBytes (at arena.old) (at arena.new) slot count bytes.now result }
 {
     let list = init_list(arena, slot, ElementSize::Byte, count)?;
     let words = (count as usize + 7) / 8;
@@ -94,28 +72,8 @@ pub fn set_data<A: BuilderArena>(arena: &mut A, slot: Place, bytes: &[u8]) -> Re
     requires there { is_some (words_at (words_in (A.segments arena.old)) (place_view slot) 1)
         ≡ true }
     requires near { slot.position < 2 ^ 61 }
-    ensures value { IfOk result (λ o.
-        Becomes (words_in (A.segments arena.old)) (words_in (A.segments arena.new))
-        (place_view slot) (plain_list 2 (length bytes.now) (number_of 8 bytes.now))) }
-    ensures taken { OnOk result
-        (TakesJust (words_in (A.segments arena.old)) (A.room arena.old)
-        (words_in (A.segments arena.new)) slot.segment (words_for (8 * length bytes.now))) }
-    ensures bound { OnOk result
-        (TakesAtMost (words_in (A.segments arena.old)) (words_in (A.segments arena.new))
-        (words_for (8 * length bytes.now)) 1) }
-    ensures full { OnErr result
-        ((2 ^ 29 ≤ length bytes.now)
-        ⊎ NoRoom (words_in (A.segments arena.old)) (A.room arena.old) slot.segment
-        (words_for (8 * length bytes.now))) }
-    ensures refused { OnErr result (A.segments arena.new ≡ A.segments arena.old) }
-    ensures kind { IfErr result (λ e.
-        (e.kind ≡ SizeOverflow)
-        ↔ ((2 ^ 29 ≤ length bytes.now)
-        ⊎ (2 ^ 29 ≤ total_words (words_in (A.segments arena.old)) +
-        (words_for (8 * length bytes.now) + 1)))) }
-    ensures books { A.books arena.new ≡ A.books arena.old }
-    ensures grows { OnOk result
-        (Grows (words_in (A.segments arena.old)) (words_in (A.segments arena.new))) }
+    ensures { let at = state_in A.segments A.room A.books in
+        PutsBytes (at arena.old) (at arena.new) slot (length bytes.now) bytes.now result }
 {
     if bytes.len() > MOST_WORDS as usize {
         return Err(Error::from(ErrorKind::SizeOverflow));
@@ -130,28 +88,8 @@ pub fn set_text<A: BuilderArena>(arena: &mut A, slot: Place, text: &[u8]) -> Res
     requires there { is_some (words_at (words_in (A.segments arena.old)) (place_view slot) 1)
         ≡ true }
     requires near { slot.position < 2 ^ 61 }
-    ensures value { IfOk result (λ o.
-        Becomes (words_in (A.segments arena.old)) (words_in (A.segments arena.new))
-        (place_view slot) (plain_list 2 (length text.now + 1) (number_of 8 text.now))) }
-    ensures taken { OnOk result
-        (TakesJust (words_in (A.segments arena.old)) (A.room arena.old)
-        (words_in (A.segments arena.new)) slot.segment (words_for (8 * (length text.now + 1)))) }
-    ensures bound { OnOk result
-        (TakesAtMost (words_in (A.segments arena.old)) (words_in (A.segments arena.new))
-        (words_for (8 * (length text.now + 1))) 1) }
-    ensures full { OnErr result
-        ((2 ^ 29 ≤ length text.now + 1)
-        ⊎ NoRoom (words_in (A.segments arena.old)) (A.room arena.old) slot.segment
-        (words_for (8 * (length text.now + 1)))) }
-    ensures refused { OnErr result (A.segments arena.new ≡ A.segments arena.old) }
-    ensures kind { IfErr result (λ e.
-        (e.kind ≡ SizeOverflow)
-        ↔ ((2 ^ 29 ≤ length text.now + 1)
-        ⊎ (2 ^ 29 ≤ total_words (words_in (A.segments arena.old)) +
-        (words_for (8 * (length text.now + 1)) + 1)))) }
-    ensures books { A.books arena.new ≡ A.books arena.old }
-    ensures grows { OnOk result
-        (Grows (words_in (A.segments arena.old)) (words_in (A.segments arena.new))) }
+    ensures { let at = state_in A.segments A.room A.books in
+        PutsBytes (at arena.old) (at arena.new) slot (length text.now + 1) text.now result }
 {
     if text.len() >= MOST_WORDS as usize {
         return Err(Error::from(ErrorKind::SizeOverflow));

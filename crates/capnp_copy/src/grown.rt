@@ -6,7 +6,8 @@ ghost use Rattle.capnp_model.specs.Bytes.{words_in_bytes};
 ghost use Rattle.capnp_model.specs.Segments.{words_at};
 ghost use Rattle.capnp_wire.specs.Places.{place_view};
 ghost use Rattle.capnp_footprints.specs.Writes.{with_words, with_zeros, segment_end};
-ghost use Rattle.capnp_copy.specs.Allocations.{total_of, words_used};
+ghost use Rattle.capnp_copy.specs.Allocations.{total_of};
+ghost use Rattle.capnp_copy.specs.Holding.{held_words, free_words, held_loans, EndsAt, UsesMore};
 
 use crate::allocator::SegmentBytes;
 use crate::held::Held;
@@ -16,24 +17,18 @@ use capnp_wire::place::Place;
 /// Uses so many words more of a segment, where it is there and has as many, and answers the position of the first.
 #[tactic(auto, using(crate::proofs::HeldWords::flat_map_set_same))]
 pub(crate) fn grow_in<S: SegmentBytes>(all: &mut [Held<S>], index: usize, words: u32) -> Option<u32>
-    ensures at { IfSome result (λ at.
-        (index < length all.old)
-        × (at ≡ segment_end (map (λ h. words_used h.used (S.bytes h.segment)) all.old) index)) }
-    ensures words { IfSome result (λ at.
-        map (λ h. words_used h.used (S.bytes h.segment)) all.new
-        ≡ with_zeros (map (λ h. words_used h.used (S.bytes h.segment)) all.old) index words) }
+    ensures at { IfSome result (λ at. EndsAt all.old index at) }
+    ensures words { IfSome result (λ at. UsesMore all.old all.new index words) }
     ensures total { IfSome result (λ at.
         total_of (λ h. h.used) all.new ≡ total_of (λ h. h.used) all.old + words) }
-    ensures room { OnSome result
-        (words ≤ get_or (map (λ h. length (S.bytes h.segment) / 8 - h.used) all.old) index 0) }
+    ensures room { OnSome result (words ≤ get_or (free_words all.old) index 0) }
     ensures full { IfNone result
         ((length all.old ≤ index)
-        ⊎ (get_or (map (λ h. length (S.bytes h.segment) / 8 - h.used) all.old) index 0 < words)
+        ⊎ (get_or (free_words all.old) index 0 < words)
         ⊎ (2 ^ 32 ≤ total_of (λ h. h.used) all.old + words)) }
     ensures none { IfNone result (all.new ≡ all.old) }
     ensures len { length all.new ≡ length all.old }
-    ensures loans { flat_map (λ h. S.loans h.segment) all.new
-        ≡ flat_map (λ h. S.loans h.segment) all.old }
+    ensures loans { held_loans all.new ≡ held_loans all.old }
 {
     if index >= all.len() {
         return None;
@@ -45,15 +40,14 @@ pub(crate) fn grow_in<S: SegmentBytes>(all: &mut [Held<S>], index: usize, words:
 #[tactic(auto, using(crate::proofs::HeldWords::flat_map_set_same))]
 pub(crate) fn write_in_segment<S: SegmentBytes>(all: &mut [Held<S>], place: Place, from: &[u8])
     requires whole { 8 * (length from.now / 8) ≡ length from.now }
-    requires there { is_some (words_at (map (λ h. words_used h.used (S.bytes h.segment)) all.old)
+    requires there { is_some (words_at (held_words all.old)
         (place_view place) (length from.now / 8)) ≡ true }
-    ensures words { map (λ h. words_used h.used (S.bytes h.segment)) all.new
-        ≡ with_words (map (λ h. words_used h.used (S.bytes h.segment)) all.old) (place_view place)
+    ensures words { held_words all.new
+        ≡ with_words (held_words all.old) (place_view place)
         (words_in_bytes (length from.now / 8) from.now) }
     ensures total { total_of (λ h. h.used) all.new ≡ total_of (λ h. h.used) all.old }
     ensures len { length all.new ≡ length all.old }
-    ensures loans { flat_map (λ h. S.loans h.segment) all.new
-        ≡ flat_map (λ h. S.loans h.segment) all.old }
+    ensures loans { held_loans all.new ≡ held_loans all.old }
 {
     let index = place.segment as usize;
     if index < all.len() {
@@ -64,15 +58,14 @@ pub(crate) fn write_in_segment<S: SegmentBytes>(all: &mut [Held<S>], place: Plac
 /// Writes zeros in place of used words.
 #[tactic(auto, using(crate::proofs::HeldWords::flat_map_set_same))]
 pub(crate) fn zero_in_segment<S: SegmentBytes>(all: &mut [Held<S>], place: Place, count: usize)
-    requires there { is_some (words_at (map (λ h. words_used h.used (S.bytes h.segment)) all.old)
+    requires there { is_some (words_at (held_words all.old)
         (place_view place) count) ≡ true }
-    ensures words { map (λ h. words_used h.used (S.bytes h.segment)) all.new
-        ≡ with_words (map (λ h. words_used h.used (S.bytes h.segment)) all.old) (place_view place)
+    ensures words { held_words all.new
+        ≡ with_words (held_words all.old) (place_view place)
         (replicate count 0) }
     ensures total { total_of (λ h. h.used) all.new ≡ total_of (λ h. h.used) all.old }
     ensures len { length all.new ≡ length all.old }
-    ensures loans { flat_map (λ h. S.loans h.segment) all.new
-        ≡ flat_map (λ h. S.loans h.segment) all.old }
+    ensures loans { held_loans all.new ≡ held_loans all.old }
 {
     let index = place.segment as usize;
     if index < all.len() {

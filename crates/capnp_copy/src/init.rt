@@ -1,18 +1,13 @@
 //! New values of zeros and nulls in place of others.
-ghost use Rattle.std.specs.Prelude.{◌≡◌, ◌+◌, ◌-◌, ◌*◌, ◌<◌, ◌≤◌, ◌^◌, ◌↔◌, ◌⊎◌, ℕ, true, IfOk, IfErr, OnOk, OnErr};
+ghost use Rattle.std.specs.Prelude.{◌≡◌, ◌+◌, ◌-◌, ◌<◌, ◌≤◌, ◌^◌, true};
 ghost use Rattle.std.specs.Option.{is_some};
-ghost use Rattle.capnp_model.specs.Coverage.{Grows};
 ghost use Rattle.capnp_model.specs.Segments.{words_at};
-ghost use Rattle.capnp_model.specs.Trees.{structure, none, resized};
 ghost use Rattle.capnp_units.specs.Segments.{words_in};
 ghost use Rattle.capnp_units.specs.Sizes.{size_number};
-ghost use Rattle.capnp_units.specs.declared.kinds.ErrorKind.TheVariants.{SizeOverflow};
 ghost use Rattle.capnp_wire.specs.Places.{place_view};
-ghost use Rattle.capnp_footprints.specs.NewObjects.{new_tree};
-ghost use Rattle.capnp_copy.specs.Allocations.{total_words, TakesJust, TakesAtMost, NoRoom};
-ghost use Rattle.capnp_copy.specs.Lists.{list_at, zeros_of, words_of};
-ghost use Rattle.capnp_copy.specs.Structs.{struct_at};
-ghost use Rattle.capnp_copy.specs.Values.{Becomes, BecomesZeros, LeadsTo, LeadsToZeros};
+ghost use Rattle.capnp_copy.specs.Inits.{InitsZeros, InitsStruct, InitsList};
+ghost use Rattle.capnp_copy.specs.Lists.{words_of};
+ghost use Rattle.capnp_copy.specs.States.{state_in};
 
 use crate::arena::BuilderArena;
 use crate::clear::clear;
@@ -50,31 +45,8 @@ fn init_zeros<A: BuilderArena>(
     requires near { slot.position < 2 ^ 61 }
     requires few { words ≤ 2 ^ 29 }
     requires offset { pointer < 2 ^ 64 - 2 ^ 32 + 4 }
-    ensures value { IfOk result (λ r.
-        BecomesZeros (words_in (A.segments arena.old)) (words_in (A.segments arena.new))
-        (place_view slot) words pointer) }
-    ensures object { IfOk result (λ r.
-        LeadsToZeros (words_in (A.segments arena.new)) (place_view slot) (place_view r) words
-        pointer) }
-    ensures there { IfOk result (λ r.
-        is_some (words_at (words_in (A.segments arena.new)) (place_view r) words) ≡ true) }
-    ensures near { IfOk result (λ r. r.position + words < 2 ^ 61) }
-    ensures taken { OnOk result
-        (TakesJust (words_in (A.segments arena.old)) (A.room arena.old)
-        (words_in (A.segments arena.new)) slot.segment words) }
-    ensures bound { OnOk result
-        (TakesAtMost (words_in (A.segments arena.old)) (words_in (A.segments arena.new))
-        words 1) }
-    ensures full { OnErr result
-        (NoRoom (words_in (A.segments arena.old)) (A.room arena.old) slot.segment words) }
-    ensures refused { OnErr result (A.segments arena.new ≡ A.segments arena.old) }
-    ensures kind { IfErr result (λ e.
-        (0 < words)
-        × ((e.kind ≡ SizeOverflow)
-        ↔ (2 ^ 29 ≤ total_words (words_in (A.segments arena.old)) + (words + 1)))) }
-    ensures books { A.books arena.new ≡ A.books arena.old }
-    ensures grows { OnOk result
-        (Grows (words_in (A.segments arena.old)) (words_in (A.segments arena.new))) }
+    ensures { let at = state_in A.segments A.room A.books in
+        InitsZeros (at arena.old) (at arena.new) slot words pointer result }
 {
     let room = allocate_near(arena, slot, words)?;
     clear(arena, slot);
@@ -93,34 +65,8 @@ pub fn init_struct<A: BuilderArena>(
     requires there { is_some (words_at (words_in (A.segments arena.old)) (place_view slot) 1)
         ≡ true }
     requires near { slot.position < 2 ^ 61 }
-    ensures value { IfOk result (λ o.
-        Becomes (words_in (A.segments arena.old)) (words_in (A.segments arena.new))
-        (place_view slot) (structure size.data_words 0 (resized size.pointers none))) }
-    ensures object { IfOk result (λ o.
-        LeadsTo (words_in (A.segments arena.new)) (place_view slot) (struct_at o)) }
-    ensures size { IfOk result (λ o.
-        (o.data_words ≡ size.data_words) × (o.pointers ≡ size.pointers)) }
-    ensures there { IfOk result (λ o.
-        is_some (words_at (words_in (A.segments arena.new)) (place_view o.start)
-        (o.data_words + o.pointers)) ≡ true) }
-    ensures near { IfOk result (λ o. o.start.position + (o.data_words + o.pointers) < 2 ^ 61) }
-    ensures taken { OnOk result
-        (TakesJust (words_in (A.segments arena.old)) (A.room arena.old)
-        (words_in (A.segments arena.new)) slot.segment (size.data_words + size.pointers)) }
-    ensures bound { OnOk result
-        (TakesAtMost (words_in (A.segments arena.old)) (words_in (A.segments arena.new))
-        (size.data_words + size.pointers) 1) }
-    ensures full { OnErr result
-        (NoRoom (words_in (A.segments arena.old)) (A.room arena.old) slot.segment
-        (size.data_words + size.pointers)) }
-    ensures refused { OnErr result (A.segments arena.new ≡ A.segments arena.old) }
-    ensures kind { IfErr result (λ e.
-        (e.kind ≡ SizeOverflow)
-        ↔ (2 ^ 29 ≤ total_words (words_in (A.segments arena.old)) +
-        (size.data_words + size.pointers + 1))) }
-    ensures books { A.books arena.new ≡ A.books arena.old }
-    ensures grows { OnOk result
-        (Grows (words_in (A.segments arena.old)) (words_in (A.segments arena.new))) }
+    ensures { let at = state_in A.segments A.room A.books in
+        InitsStruct (at arena.old) (at arena.new) slot size result }
 {
     let start = init_zeros(arena, slot, size.total(), struct_word(size))?;
     Ok(StructPlace {
@@ -157,36 +103,8 @@ pub fn init_list<A: BuilderArena>(
         ≡ true }
     requires near { slot.position < 2 ^ 61 }
     requires plain { size_number size < 7 }
-    ensures value { IfOk result (λ o.
-        Becomes (words_in (A.segments arena.old)) (words_in (A.segments arena.new))
-        (place_view slot) (new_tree (zeros_of (size_number size) count))) }
-    ensures object { IfOk result (λ o.
-        LeadsTo (words_in (A.segments arena.new)) (place_view slot) (list_at o)) }
-    ensures list { IfOk result (λ o. (o.size ≡ size) × (o.claimed ≡ count) × (o.count ≡ count)) }
-    ensures there { IfOk result (λ o.
-        is_some (words_at (words_in (A.segments arena.new)) (place_view o.start)
-        (words_of (size_number size) count)) ≡ true) }
-    ensures near { IfOk result (λ o.
-        o.start.position + words_of (size_number size) count < 2 ^ 61) }
-    ensures taken { OnOk result
-        (TakesJust (words_in (A.segments arena.old)) (A.room arena.old)
-        (words_in (A.segments arena.new)) slot.segment (words_of (size_number size) count)) }
-    ensures bound { OnOk result
-        (TakesAtMost (words_in (A.segments arena.old)) (words_in (A.segments arena.new))
-        (words_of (size_number size) count) 1) }
-    ensures full { OnErr result
-        ((2 ^ 29 ≤ count)
-        ⊎ NoRoom (words_in (A.segments arena.old)) (A.room arena.old) slot.segment
-        (words_of (size_number size) count)) }
-    ensures refused { OnErr result (A.segments arena.new ≡ A.segments arena.old) }
-    ensures kind { IfErr result (λ e.
-        (e.kind ≡ SizeOverflow)
-        ↔ ((2 ^ 29 ≤ count)
-        ⊎ (2 ^ 29 ≤ total_words (words_in (A.segments arena.old)) +
-        (words_of (size_number size) count + 1)))) }
-    ensures books { A.books arena.new ≡ A.books arena.old }
-    ensures grows { OnOk result
-        (Grows (words_in (A.segments arena.old)) (words_in (A.segments arena.new))) }
+    ensures { let at = state_in A.segments A.room A.books in
+        InitsList (at arena.old) (at arena.new) slot size count result }
 {
     if count > MOST_WORDS {
         return Err(Error::from(ErrorKind::SizeOverflow));

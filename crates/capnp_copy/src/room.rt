@@ -7,8 +7,8 @@ ghost use Rattle.capnp_units.specs.Segments.{words_in};
 ghost use Rattle.capnp_units.specs.Sizes.{size_number};
 ghost use Rattle.capnp_units.specs.declared.kinds.ErrorKind.TheVariants.{SizeOverflow};
 ghost use Rattle.capnp_wire.specs.Places.{place_view};
-ghost use Rattle.capnp_copy.specs.Allocations.{total_words, NoRoom};
-ghost use Rattle.capnp_copy.specs.Rooms.{RoomFor, IsNearWhereRoom, IsAddressed, HasPad, begin_of, slot_word, with_pad, linked};
+ghost use Rattle.capnp_copy.specs.Allocations.{PassesLimit, NoRoom};
+ghost use Rattle.capnp_copy.specs.Rooms.{MakesRoom, IsNearWhereRoom, IsAddressed, HasPad, begin_of, slot_word, with_pad, linked};
 
 use crate::arena::BuilderArena;
 use capnp_units::errors::Result;
@@ -65,16 +65,12 @@ pub fn list_word(size: ElementSize, count: u32) -> u64
 pub fn allocate_near<A: BuilderArena>(arena: &mut A, slot: Place, words: u32) -> Result<Room>
     requires there { is_some (word_at (words_in (A.segments arena.old)) (place_view slot)) ≡ true }
     requires few { words ≤ 2 ^ 29 }
-    ensures ok { IfOk result
-        (RoomFor (words_in (A.segments arena.old)) (words_in (A.segments arena.new))
-        (place_view slot) words) }
+    ensures ok { IfOk result (MakesRoom (A.segments arena.old) (A.segments arena.new) slot words) }
     ensures near { IfOk result
         (IsNearWhereRoom (words_in (A.segments arena.old)) (A.room arena.old) slot.segment words) }
     ensures refused { OnErr result (A.segments arena.new ≡ A.segments arena.old) }
     ensures kind { IfErr result (λ e.
-        (0 < words)
-        × ((e.kind ≡ SizeOverflow)
-        ↔ (2 ^ 29 ≤ total_words (words_in (A.segments arena.old)) + (words + 1)))) }
+        (0 < words) × ((e.kind ≡ SizeOverflow) ↔ PassesLimit (A.segments arena.old) (words + 1))) }
     ensures full { OnErr result
         (NoRoom (words_in (A.segments arena.old)) (A.room arena.old) slot.segment words) }
     ensures books { A.books arena.new ≡ A.books arena.old }

@@ -3,6 +3,7 @@ ghost use Rattle.std.specs.Prelude.{◌≡◌, ◌≢◌, ◌⊎◌, ◌+◌, �
 ghost use Rattle.std.specs.List.{flat_map};
 ghost use Rattle.capnp_footprints.specs.Writes.{with_zeros, segment_end};
 ghost use Rattle.capnp_copy.specs.Allocations.{total_of, words_used};
+ghost use Rattle.capnp_copy.specs.Holding.{held_words, free_words, held_loans, EndsAt, UsesMore, IsFull};
 ghost use Rattle.capnp_copy.specs.Memory.{ZeroFrom};
 ghost use Rattle.capnp_units.specs.declared.kinds.ErrorKind.TheVariants.{SizeOverflow, OutOfMemory};
 
@@ -56,19 +57,14 @@ impl<A: Allocator> BuilderArenaImpl<A> {
     fn add_segment(&mut self, minimum: u32, used: u32) -> Result<()>
         requires fits { used ≤ minimum }
         requires few { self.old.words + used < 2 ^ 29 }
-        ensures words { OnOk result
-            (map (λ h. words_used h.used (A.Segment.bytes h.segment)) self.new.segments.items
-            ≡ with_zeros
-            (map (λ h. words_used h.used (A.Segment.bytes h.segment)) self.old.segments.items)
+        ensures words { OnOk result (UsesMore self.old.segments.items self.new.segments.items
             (length self.old.segments.items) used) }
         ensures len { OnOk result (length self.old.segments.items < 2 ^ 32 - 1) }
         ensures refused { OnErr result (self.new.segments.items ≡ self.old.segments.items) }
         ensures kind { IfErr result (λ e. e.kind ≢ SizeOverflow) }
         ensures place { A.place self.new.allocator ≡ A.place self.old.allocator }
-        ensures loans { flat_map (λ h. A.Segment.loans h.segment) self.new.segments.items
-            ++ A.loans self.new.allocator
-            ≡ flat_map (λ h. A.Segment.loans h.segment) self.old.segments.items ++ A.loans
-            self.old.allocator }
+        ensures loans { held_loans self.new.segments.items ++ A.loans self.new.allocator
+            ≡ held_loans self.old.segments.items ++ A.loans self.old.allocator }
     {
         if self.segments.len() >= u32::MAX as usize {
             return Err(Error::from(ErrorKind::OutOfMemory));
@@ -95,18 +91,13 @@ impl<A: Allocator> BuilderArenaImpl<A> {
 impl<A: Allocator> BuilderArenaImpl<A> {
     /// Takes a segment of at least so many words from the allocator, of which none is used yet. It is refused with `OutOfMemory` where the list of segments can't grow, else as the allocator refuses; then the arena is as it was.
     pub fn allocate_segment(&mut self, minimum: u32) -> Result<()>
-        ensures words { OnOk result
-            (map (λ h. words_used h.used (A.Segment.bytes h.segment)) self.new.segments.items
-            ≡ with_zeros
-            (map (λ h. words_used h.used (A.Segment.bytes h.segment)) self.old.segments.items)
+        ensures words { OnOk result (UsesMore self.old.segments.items self.new.segments.items
             (length self.old.segments.items) 0) }
         ensures refused { OnErr result (self.new.segments.items ≡ self.old.segments.items) }
         ensures kind { IfErr result (λ e. e.kind ≢ SizeOverflow) }
         ensures place { A.place self.new.allocator ≡ A.place self.old.allocator }
-        ensures loans { flat_map (λ h. A.Segment.loans h.segment) self.new.segments.items
-            ++ A.loans self.new.allocator
-            ≡ flat_map (λ h. A.Segment.loans h.segment) self.old.segments.items ++ A.loans
-            self.old.allocator }
+        ensures loans { held_loans self.new.segments.items ++ A.loans self.new.allocator
+            ≡ held_loans self.old.segments.items ++ A.loans self.old.allocator }
     {
         self.add_segment(minimum, 0)
     }
@@ -121,13 +112,12 @@ impl<A: Allocator> BuilderArenaImpl<A> {
         requires few { used < 2 ^ 29 }
         requires one { length (A.Segment.loans segment) + length (A.loans self.old.allocator) ≤ 1 }
         ensures words { OnOk result
-            (map (λ h. words_used h.used (A.Segment.bytes h.segment)) self.new.segments.items
-            ≡ words_used used (A.Segment.bytes segment) ∷ []) }
+            (held_words self.new.segments.items ≡ words_used used (A.Segment.bytes segment) ∷ []) }
         ensures refused { OnErr result (self.new.segments.items ≡ []) }
         ensures kind { IfErr result (λ e. e.kind ≡ OutOfMemory) }
         ensures place { A.place self.new.allocator ≡ A.place self.old.allocator }
-        ensures loans { flat_map (λ h. A.Segment.loans h.segment) self.new.segments.items
-            ++ A.loans self.new.allocator ≡ A.Segment.loans segment ++ A.loans self.old.allocator }
+        ensures loans { held_loans self.new.segments.items ++ A.loans self.new.allocator
+            ≡ A.Segment.loans segment ++ A.loans self.old.allocator }
     {
         match self.segments.push(Held { segment, used }) {
             Ok(()) => {
@@ -148,30 +138,16 @@ impl<A: Allocator> BuilderArenaImpl<A> {
     /// Uses so many words more of a segment, where it is there and has as many.
     fn use_in(&mut self, segment: SegmentId, words: u32) -> Option<u32>
         requires { self.old.words + words < 2 ^ 29 }
-        ensures at { IfSome result (λ at.
-            (segment < length self.old.segments.items)
-            × (at ≡ segment_end
-            (map (λ h. words_used h.used (A.Segment.bytes h.segment)) self.old.segments.items)
-            segment)) }
+        ensures at { IfSome result (λ at. EndsAt self.old.segments.items segment at) }
         ensures words { IfSome result (λ at.
-            map (λ h. words_used h.used (A.Segment.bytes h.segment)) self.new.segments.items
-            ≡ with_zeros
-            (map (λ h. words_used h.used (A.Segment.bytes h.segment)) self.old.segments.items)
-            segment words) }
+            UsesMore self.old.segments.items self.new.segments.items segment words) }
         ensures room { OnSome result
-            (words ≤ get_or
-            (map (λ h. length (A.Segment.bytes h.segment) / 8 - h.used) self.old.segments.items)
-            segment 0) }
-        ensures full { IfNone result
-            ((length self.old.segments.items ≤ segment)
-            ⊎ (get_or (map (λ h. length (A.Segment.bytes h.segment) / 8 - h.used)
-            self.old.segments.items) segment 0 < words)) }
+            (words ≤ get_or (free_words self.old.segments.items) segment 0) }
+        ensures full { IfNone result (IsFull self.old.segments.items segment words) }
         ensures none { IfNone result (self.new.segments.items ≡ self.old.segments.items) }
         ensures place { A.place self.new.allocator ≡ A.place self.old.allocator }
-        ensures loans { flat_map (λ h. A.Segment.loans h.segment) self.new.segments.items
-            ++ A.loans self.new.allocator
-            ≡ flat_map (λ h. A.Segment.loans h.segment) self.old.segments.items ++ A.loans
-            self.old.allocator }
+        ensures loans { held_loans self.new.segments.items ++ A.loans self.new.allocator
+            ≡ held_loans self.old.segments.items ++ A.loans self.old.allocator }
     {
         let at = grow_in(self.segments.as_mut_slice(), segment as usize, words)?;
         self.words += words;
@@ -181,26 +157,15 @@ impl<A: Allocator> BuilderArenaImpl<A> {
     /// The same of the last segment.
     fn use_in_last(&mut self, words: u32) -> Option<(SegmentId, u32)>
         requires { self.old.words + words < 2 ^ 29 }
-        ensures at { IfSome result (λ p.
-            (p.0 < length self.old.segments.items)
-            × (p.1 ≡ segment_end
-            (map (λ h. words_used h.used (A.Segment.bytes h.segment)) self.old.segments.items)
-            p.0)) }
+        ensures at { IfSome result (λ p. EndsAt self.old.segments.items p.0 p.1) }
         ensures words { IfSome result (λ p.
-            map (λ h. words_used h.used (A.Segment.bytes h.segment)) self.new.segments.items
-            ≡ with_zeros
-            (map (λ h. words_used h.used (A.Segment.bytes h.segment)) self.old.segments.items) p.0
-            words) }
-        ensures full { IfNone result
-            ((length self.old.segments.items ≡ 0)
-            ⊎ (get_or (map (λ h. length (A.Segment.bytes h.segment) / 8 - h.used)
-            self.old.segments.items) (length self.old.segments.items - 1) 0 < words)) }
+            UsesMore self.old.segments.items self.new.segments.items p.0 words) }
+        ensures full { let all = self.old.segments.items in IfNone result
+            ((length all ≡ 0) ⊎ (get_or (free_words all) (length all - 1) 0 < words)) }
         ensures none { IfNone result (self.new.segments.items ≡ self.old.segments.items) }
         ensures place { A.place self.new.allocator ≡ A.place self.old.allocator }
-        ensures loans { flat_map (λ h. A.Segment.loans h.segment) self.new.segments.items
-            ++ A.loans self.new.allocator
-            ≡ flat_map (λ h. A.Segment.loans h.segment) self.old.segments.items ++ A.loans
-            self.old.allocator }
+        ensures loans { held_loans self.new.segments.items ++ A.loans self.new.allocator
+            ≡ held_loans self.old.segments.items ++ A.loans self.old.allocator }
     {
         let count = self.segments.len();
         if count == 0 {
@@ -215,18 +180,13 @@ impl<A: Allocator> BuilderArenaImpl<A> {
     fn use_in_new(&mut self, words: u32) -> Result<(SegmentId, u32)>
         requires { self.old.words + words < 2 ^ 29 }
         ensures at { IfOk result (λ p. (p.0 ≡ length self.old.segments.items) × (p.1 ≡ 0)) }
-        ensures words { OnOk result
-            (map (λ h. words_used h.used (A.Segment.bytes h.segment)) self.new.segments.items
-            ≡ with_zeros
-            (map (λ h. words_used h.used (A.Segment.bytes h.segment)) self.old.segments.items)
+        ensures words { OnOk result (UsesMore self.old.segments.items self.new.segments.items
             (length self.old.segments.items) words) }
         ensures refused { OnErr result (self.new.segments.items ≡ self.old.segments.items) }
         ensures kind { IfErr result (λ e. e.kind ≢ SizeOverflow) }
         ensures place { A.place self.new.allocator ≡ A.place self.old.allocator }
-        ensures loans { flat_map (λ h. A.Segment.loans h.segment) self.new.segments.items
-            ++ A.loans self.new.allocator
-            ≡ flat_map (λ h. A.Segment.loans h.segment) self.old.segments.items ++ A.loans
-            self.old.allocator }
+        ensures loans { held_loans self.new.segments.items ++ A.loans self.new.allocator
+            ≡ held_loans self.old.segments.items ++ A.loans self.old.allocator }
     {
         let count = self.segments.len();
         self.add_segment(words, words)?;
@@ -236,13 +196,11 @@ impl<A: Allocator> BuilderArenaImpl<A> {
     /// Gives every segment back to the allocator.
     #[tactic(auto, using(crate::proofs::HeldWords::total_popped))]
     fn release(&mut self)
-        requires { length (flat_map (λ h. A.Segment.loans h.segment) self.old.segments.items
-            ++ A.loans self.old.allocator) ≤ 1 }
+        requires { length (held_loans self.old.segments.items ++ A.loans self.old.allocator) ≤ 1 }
         ensures empty { self.new.segments.items ≡ [] }
         ensures place { A.place self.new.allocator ≡ A.place self.old.allocator }
         ensures loans { A.loans self.new.allocator
-            ≡ flat_map (λ h. A.Segment.loans h.segment) self.old.segments.items ++ A.loans
-            self.old.allocator }
+            ≡ held_loans self.old.segments.items ++ A.loans self.old.allocator }
     {
         while let Some(held) = self.segments.pop() {
             let Held { segment, used } = held;
@@ -253,12 +211,9 @@ impl<A: Allocator> BuilderArenaImpl<A> {
 
     /// The allocator, to which every segment was given back. There is one lent slice at most among them and in the allocator.
     pub fn into_allocator(mut self) -> A
-        requires { length (flat_map (λ h. A.Segment.loans h.segment) self.segments.items
-            ++ A.loans self.allocator) ≤ 1 }
+        requires { length (held_loans self.segments.items ++ A.loans self.allocator) ≤ 1 }
         ensures place { A.place result ≡ A.place self.allocator }
-        ensures loans { A.loans result
-            ≡ flat_map (λ h. A.Segment.loans h.segment) self.segments.items ++ A.loans
-            self.allocator }
+        ensures loans { A.loans result ≡ held_loans self.segments.items ++ A.loans self.allocator }
     {
         self.release();
         let BuilderArenaImpl {

@@ -1,18 +1,13 @@
 //! New lists of structs in place of other values.
-ghost use Rattle.std.specs.Prelude.{◌≡◌, ◌+◌, ◌-◌, ◌*◌, ◌<◌, ◌≤◌, ◌^◌, ◌↔◌, ◌⊎◌, ℕ, true, IfOk, IfErr, OnOk, OnErr};
+ghost use Rattle.std.specs.Prelude.{◌≡◌, ◌+◌, ◌*◌, ◌<◌, ◌≤◌, ◌^◌, ◌⊎◌, true, IfOk, IfErr};
 ghost use Rattle.std.specs.Option.{is_some};
-ghost use Rattle.capnp_model.specs.Coverage.{Grows};
 ghost use Rattle.capnp_model.specs.Segments.{words_at};
-ghost use Rattle.capnp_model.specs.Trees.{struct_list};
 ghost use Rattle.capnp_model.specs.Encoding.{struct_pointer};
 ghost use Rattle.capnp_units.specs.Segments.{words_in};
-ghost use Rattle.capnp_units.specs.Sizes.{size_number};
 ghost use Rattle.capnp_units.specs.declared.kinds.ErrorKind.TheVariants.{SizeOverflow};
 ghost use Rattle.capnp_wire.specs.Places.{place_view};
-ghost use Rattle.capnp_footprints.specs.NewObjects.{zero_elements};
-ghost use Rattle.capnp_copy.specs.Allocations.{total_words, TakesJust, TakesAtMost, NoRoom};
-ghost use Rattle.capnp_copy.specs.Lists.{list_at};
-ghost use Rattle.capnp_copy.specs.Values.{Becomes, LeadsTo};
+ghost use Rattle.capnp_copy.specs.Inits.{InitsStructList};
+ghost use Rattle.capnp_copy.specs.States.{state_in};
 
 use crate::arena::BuilderArena;
 use crate::clear::clear;
@@ -60,39 +55,8 @@ pub fn init_struct_list<A: BuilderArena>(
     requires there { is_some (words_at (words_in (A.segments arena.old)) (place_view slot) 1)
         ≡ true }
     requires near { slot.position < 2 ^ 61 }
-    ensures value { IfOk result (λ o.
-        Becomes (words_in (A.segments arena.old)) (words_in (A.segments arena.new))
-        (place_view slot)
-        (struct_list size.data_words size.pointers (zero_elements count size.pointers))) }
-    ensures object { IfOk result (λ o.
-        LeadsTo (words_in (A.segments arena.new)) (place_view slot) (list_at o)) }
-    ensures list { IfOk result (λ o.
-        (size_number o.size ≡ 7) × (o.claimed ≡ count * (size.data_words + size.pointers))
-        × (o.count ≡ count) × (o.data_words ≡ size.data_words) × (o.pointers ≡ size.pointers)) }
-    ensures there { IfOk result (λ o.
-        is_some (words_at (words_in (A.segments arena.new)) (place_view o.start) (1 + o.claimed))
-        ≡ true) }
-    ensures near { IfOk result (λ o. o.start.position + (1 + o.claimed) < 2 ^ 61) }
-    ensures taken { OnOk result
-        (TakesJust (words_in (A.segments arena.old)) (A.room arena.old)
-        (words_in (A.segments arena.new)) slot.segment
-        (1 + count * (size.data_words + size.pointers))) }
-    ensures bound { OnOk result
-        (TakesAtMost (words_in (A.segments arena.old)) (words_in (A.segments arena.new))
-        (1 + count * (size.data_words + size.pointers)) 1) }
-    ensures full { OnErr result
-        ((2 ^ 29 ≤ count) ⊎ (2 ^ 29 ≤ count * (size.data_words + size.pointers))
-        ⊎ NoRoom (words_in (A.segments arena.old)) (A.room arena.old) slot.segment
-        (1 + count * (size.data_words + size.pointers))) }
-    ensures refused { OnErr result (A.segments arena.new ≡ A.segments arena.old) }
-    ensures kind { IfErr result (λ e.
-        (e.kind ≡ SizeOverflow)
-        ↔ ((2 ^ 29 ≤ count) ⊎ (2 ^ 29 ≤ count * (size.data_words + size.pointers))
-        ⊎ (2 ^ 29 ≤ total_words (words_in (A.segments arena.old)) +
-        (count * (size.data_words + size.pointers) + 2)))) }
-    ensures books { A.books arena.new ≡ A.books arena.old }
-    ensures grows { OnOk result
-        (Grows (words_in (A.segments arena.old)) (words_in (A.segments arena.new))) }
+    ensures { let at = state_in A.segments A.room A.books in
+        InitsStructList (at arena.old) (at arena.new) slot count size result }
 {
     let words = words_of_structs(count, size)?;
     let room = allocate_near(arena, slot, 1 + words)?;

@@ -1,17 +1,18 @@
 -- Copies of values from one arena into another, against a budget.
-use Rattle.std.specs.Prelude.{◌≡◌, ◌↔◌, ◌⊎◌, ⊤, ℕ, suc, ◌+◌, ◌*◌, ◌≤◌, List, [], ◌∷◌, ◌++◌, length, Option, Some, Result, Ok, Err}
+use Rattle.std.specs.Prelude.{◌≡◌, ◌↔◌, ◌⊎◌, ⊤, ℕ, suc, ◌+◌, ◌*◌, ◌≤◌, List, [], ◌∷◌, ◌++◌, length, replicate, Option, Some, Result, Ok, Err}
 use Rattle.capnp_model.specs.Chains.{◌>>=◌}
 use Rattle.capnp_model.specs.Sections.{number_of, words_for}
-use Rattle.capnp_model.specs.Segments.{Segments, Place}
+use Rattle.capnp_model.specs.Segments.{Segments, Place, words_at}
 use Rattle.capnp_model.specs.Pointers.{Object, a_struct, a_list}
 use Rattle.capnp_model.specs.Trees.{Tree, structure, struct_list, Trees, tree_count, Elements, element_count}
-use Rattle.capnp_model.specs.Traversal.{tree_of, tree_at, each}
-use Rattle.capnp_model.specs.Coverage.{span, times_held, Grows, from_each}
+use Rattle.capnp_model.specs.Traversal.{tree_of, tree_at, each, each_element}
+use Rattle.capnp_model.specs.Coverage.{span, times_held, Grows, from_each, from_elements}
 use Rattle.capnp_model.specs.Visits.{Visit, visits}
 use Rattle.capnp_units.specs.declared.errors.Error.{Error}
 use Rattle.capnp_units.specs.declared.kinds.ErrorKind.TheVariants.{SizeOverflow}
 use Rattle.capnp_units.specs.declared.limiter.ReadLimiter.{ReadLimiter}
 use Rattle.capnp_units.specs.Limits.{Spends, Follows}
+use Rattle.capnp_units.specs.Segments.{words_in}
 use Rattle.capnp_object.specs.declared.object.Found.{Found}
 use Rattle.capnp_object.specs.declared.object.Object as wire
 use Rattle.capnp_object.specs.declared.object.Object.TheVariants as object
@@ -25,7 +26,7 @@ use Rattle.capnp_footprints.specs.Children.{with_first}
 use Rattle.capnp_footprints.specs.Footprints.{object_footprint, Owns, OwnsObject}
 use Rattle.capnp_footprints.specs.Changes.{Changes, Replaces, ReplacesObject}
 use Rattle.capnp_copy.specs.Allocations.{total_words}
-use Rattle.capnp_copy_from.specs.Objects.{copied_words, IsTooLarge}
+use Rattle.capnp_copy_from.specs.Objects.{copied_words, copied_at, IsTooLarge}
 
 -- Whatever value is owned there becomes the tree, which has so many levels at most, and nothing else changes.
 abbrev pub BecomesCopy : ℕ → Segments → Segments → Place → Tree → Type 0
@@ -174,3 +175,22 @@ FillsElements levels s u r d k count es =
 abbrev pub LeavesElements : ℕ → Segments → Segments → Place → ℕ → ℕ → ℕ → Type 0
 LeavesElements levels s u r d k count =
     (n : ℕ) (fs : Elements) → levels ≤ n → element_count fs ≡ count → OwnsObject n s (a_list r 7 (count * (d + k))) (struct_list d k fs) → (es : Elements) × ReplacesObject n s u (a_list r 7 (count * (d + k))) (struct_list d k es)
+
+-- So many words from a place on are there, in segments of these bytes, and all are zero.
+abbrev pub HasZeros : List (List ℕ) → location.Place → ℕ → Type 0
+HasZeros bytes start n = words_at (words_in bytes) (place_view start) n ≡ Some (replicate n 0)
+
+-- The zero words from r on become an object of the size of this one, with the tree that is read; or it is refused, and they are some object of that size.
+abbrev pub FillsObject : ℕ → Segments → wire.Object → Option Tree → Segments → Segments → Place → ReadLimiter → Result ⊤ Error → ReadLimiter → Type 0
+FillsObject levels from o there s u r old result new =
+    CopyGives from there (met_in (visits levels from) o) (λ v. (n : ℕ) → levels ≤ n → Fills n s u r (copied_words o) (copied_at r o) v) ((t : Tree) × Fills levels s u r (copied_words o) (copied_at r o) t) s u old result new
+
+-- The struct at r gets a section, and the values of as many pointers as it has, which are read from q on; or it is refused, and has some others.
+abbrev pub CopiesOverStruct : ℕ → Segments → Place → ℕ → ℕ → ℕ → Segments → Segments → Place → ReadLimiter → Result ⊤ Error → ReadLimiter → Type 0
+CopiesOverStruct levels from q section d k s u r old result new =
+    CopyGives from (each (tree_at levels from) q k) (from_each (visits levels from) q k) (FillsStruct levels s u r d k section) (LeavesStruct levels s u r d k) s u old result new
+
+-- The structs of the list at r become as many of their size, whose words are these and stand from q on; or it is refused, and they are some others.
+abbrev pub CopiesOverElements : ℕ → Segments → Place → List ℕ → ℕ → ℕ → ℕ → Segments → Segments → Place → ReadLimiter → Result ⊤ Error → ReadLimiter → Type 0
+CopiesOverElements levels from q words d k count s u r old result new =
+    CopyGives from (each_element (tree_at levels from) q words d k count) (from_elements (visits levels from) q d k count) (FillsElements levels s u r d k count) (LeavesElements levels s u r d k count) s u old result new

@@ -15,13 +15,20 @@ use Rattle.capnp_object.specs.declared.object.Object as wire
 use Rattle.capnp_object.specs.declared.object.Object.TheVariants as object
 use Rattle.capnp_object.specs.Places.{place_view}
 use Rattle.capnp_object.specs.Inside.{met_in}
-use Rattle.capnp_wire.specs.Elements.{step_bits}
+use Rattle.capnp_wire.specs.Elements.{step_bits, step_words}
 use Rattle.capnp_copy_from.specs.Copies.{ObjectGives}
 use Rattle.capnp_copy_from.specs.declared.lists.ListSource.{ListSource}
 
+-- The bits of its elements, and the words of its pointers or structs.
+abbrev pub listed_bits : ListSource → ℕ
+listed_bits x = step_bits (size_number x.size) x.data_words x.pointers * x.count
+
+abbrev pub listed_words : ListSource → ℕ
+listed_words x = step_words (size_number x.size) x.data_words x.pointers * x.count
+
 -- The section of the elements that these bytes hold: what lies behind the last isn't looked at. (Encoding, "Lists")
 abbrev pub listed_section : ListSource → List ℕ → ℕ
-listed_section x bytes = number_of 8 bytes % 2 ^ (step_bits (size_number x.size) x.data_words x.pointers * x.count)
+listed_section x bytes = number_of 8 bytes % 2 ^ listed_bits x
 
 -- The object that such a list is, by the size of its elements. No words are claimed behind structs.
 abbrev pub object_of_size : ElementSize → ListSource → wire.Object

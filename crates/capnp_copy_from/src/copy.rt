@@ -1,17 +1,16 @@
 //! The plain copy of a value into an arena, in place of another.
-ghost use Rattle.std.specs.Prelude.{◌≡◌, ℕ, ◌+◌, ◌*◌, ◌^◌, ◌<◌, ◌≤◌, true, Some, length, map, replicate};
+ghost use Rattle.std.specs.Prelude.{◌≡◌, ℕ, ◌+◌, ◌*◌, ◌^◌, ◌<◌, ◌≤◌, true, length, map};
 ghost use Rattle.std.specs.Option.{is_some};
 ghost use Rattle.capnp_model.specs.Segments.{after, words_at};
-ghost use Rattle.capnp_model.specs.Trees.{Tree};
-ghost use Rattle.capnp_model.specs.Traversal.{tree_at, each, each_element};
-ghost use Rattle.capnp_model.specs.Coverage.{from_each, from_elements};
+ghost use Rattle.capnp_model.specs.Traversal.{tree_at, each};
+ghost use Rattle.capnp_model.specs.Coverage.{from_each};
 ghost use Rattle.capnp_model.specs.Visits.{visits};
 ghost use Rattle.capnp_units.specs.Segments.{words_in};
 ghost use Rattle.capnp_object.specs.Places.{place_view};
 ghost use Rattle.capnp_object.specs.Objects.{AreThere, IsInside};
-ghost use Rattle.capnp_object.specs.Inside.{tree_in, met_in, section_at, words_there};
-ghost use Rattle.capnp_copy_from.specs.Copies.{BecomesCopy, CopyGives, CopiesValue, CopiesObject, FollowsFew, Fills, FillsStruct, LeavesStruct, FillsRow, LeavesRow, FillsElements, LeavesElements};
-ghost use Rattle.capnp_copy_from.specs.Objects.{copied_words, most_counted, copied_at, is_leaf, leaf_value};
+ghost use Rattle.capnp_object.specs.Inside.{tree_in, section_at, words_there};
+ghost use Rattle.capnp_copy_from.specs.Copies.{BecomesCopy, CopyGives, CopiesValue, CopiesObject, FollowsFew, FillsRow, LeavesRow, HasZeros, FillsObject, CopiesOverStruct, CopiesOverElements};
+ghost use Rattle.capnp_copy_from.specs.Objects.{copied_words, most_counted, is_leaf, leaf_value};
 
 use crate::objects::{copy_at, pointer_word, room_for, tag_word};
 use crate::words::copy_words;
@@ -125,18 +124,13 @@ fn fill<A: BuilderArena, B: ReaderArena>(
     object: Object,
     levels: u32,
 ) -> Result<()>
-    requires zeros { words_at (words_in (A.segments arena.old)) (place_view start)
-        (copied_words object) ≡ Some (replicate (copied_words object) 0) }
+    requires zeros { HasZeros (A.segments arena.old) start (copied_words object) }
     requires near { start.position + copied_words object < 2 ^ 61 }
     requires few { most_counted object < 2 ^ 29 }
     requires inside { IsInside (words_in (B.segments source.now)) object }
     ensures copy { let from = words_in (B.segments source.now) in
-        let s = words_in (A.segments arena.old) in let u = words_in (A.segments arena.new) in
-        let r = place_view start in
-        CopyGives from (tree_in from (tree_at levels from) object)
-        (met_in (visits levels from) object) (λ v.
-        (n : ℕ) → levels ≤ n → Fills n s u r (copied_words object) (copied_at r object) v)
-        ((t : Tree) × Fills levels s u r (copied_words object) (copied_at r object) t) s u
+        FillsObject levels from object (tree_in from (tree_at levels from) object)
+        (words_in (A.segments arena.old)) (words_in (A.segments arena.new)) (place_view start)
         limiter.old result limiter.new }
     ensures books { A.books arena.new ≡ A.books arena.old }
 {
@@ -231,13 +225,10 @@ fn fill_struct<A: BuilderArena, B: ReaderArena>(
     requires near { start.position + (data_words + pointers) < 2 ^ 61 }
     requires inside { AreThere (words_in (B.segments source.now)) (place_view from)
         (data_words + pointers) }
-    ensures copy { let b = words_in (B.segments source.now) in
-        let s = words_in (A.segments arena.old) in let u = words_in (A.segments arena.new) in
-        let r = place_view start in let p = place_view from in
-        CopyGives b (each (tree_at levels b) (after p data_words) pointers)
-        (from_each (visits levels b) (after p data_words) pointers)
-        (FillsStruct levels s u r data_words pointers (section_at b p data_words))
-        (LeavesStruct levels s u r data_words pointers) s u limiter.old result limiter.new }
+    ensures copy { let b = words_in (B.segments source.now) in let p = place_view from in
+        CopiesOverStruct levels b (after p data_words) (section_at b p data_words) data_words
+        pointers (words_in (A.segments arena.old)) (words_in (A.segments arena.new))
+        (place_view start) limiter.old result limiter.new }
     ensures books { A.books arena.new ≡ A.books arena.old }
 {
     copy_words(arena, start, source, from, data_words as usize);
@@ -276,14 +267,10 @@ fn fill_elements<A: BuilderArena, B: ReaderArena>(
     requires near { start.position + (1 + count * (data_words + pointers)) < 2 ^ 61 }
     requires inside { AreThere (words_in (B.segments source.now)) (place_view from) words }
     requires fit { count * (data_words + pointers) ≤ words }
-    ensures copy { let b = words_in (B.segments source.now) in
-        let s = words_in (A.segments arena.old) in let u = words_in (A.segments arena.new) in
-        let r = place_view start in let p = place_view from in
-        CopyGives b
-        (each_element (tree_at levels b) p (words_there b p words) data_words pointers count)
-        (from_elements (visits levels b) p data_words pointers count)
-        (FillsElements levels s u r data_words pointers count)
-        (LeavesElements levels s u r data_words pointers count) s u limiter.old result limiter.new }
+    ensures copy { let b = words_in (B.segments source.now) in let p = place_view from in
+        CopiesOverElements levels b p (words_there b p words) data_words pointers count
+        (words_in (A.segments arena.old)) (words_in (A.segments arena.new)) (place_view start)
+        limiter.old result limiter.new }
     ensures books { A.books arena.new ≡ A.books arena.old }
 {
     if pointers == 0 {

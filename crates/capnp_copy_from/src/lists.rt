@@ -1,21 +1,19 @@
 //! Lists that are copied by their parts.
-ghost use Rattle.std.specs.Prelude.{◌≡◌, ◌≢◌, ℕ, ◌+◌, ◌*◌, ◌%◌, ◌^◌, ◌<◌, ◌≤◌, true, Some, length, map, replicate};
+ghost use Rattle.std.specs.Prelude.{◌≡◌, ◌≢◌, ℕ, ◌+◌, ◌*◌, ◌%◌, ◌^◌, ◌<◌, ◌≤◌, true, length};
 ghost use Rattle.std.specs.Option.{is_some};
 ghost use Rattle.capnp_model.specs.Sections.{number_of, words_for, words_of};
-ghost use Rattle.capnp_model.specs.Segments.{after, words_at};
+ghost use Rattle.capnp_model.specs.Segments.{words_at};
 ghost use Rattle.capnp_model.specs.Pointers.{a_list};
-ghost use Rattle.capnp_model.specs.Trees.{Tree, plain_list};
-ghost use Rattle.capnp_model.specs.Traversal.{tree_at, each, each_element};
-ghost use Rattle.capnp_model.specs.Coverage.{from_each, from_elements};
-ghost use Rattle.capnp_model.specs.Visits.{visits};
+ghost use Rattle.capnp_model.specs.Trees.{plain_list};
+ghost use Rattle.capnp_model.specs.Traversal.{tree_at};
 ghost use Rattle.capnp_units.specs.Segments.{words_in};
 ghost use Rattle.capnp_units.specs.Sizes.{size_number, data_bits};
 ghost use Rattle.capnp_object.specs.Places.{place_view};
-ghost use Rattle.capnp_object.specs.Inside.{met_in};
 ghost use Rattle.capnp_wire.specs.Elements.{step_bits, step_words};
-ghost use Rattle.capnp_copy_from.specs.Copies.{CopyGives, Fills, FillsStruct, LeavesStruct, FillsElements, LeavesElements};
-ghost use Rattle.capnp_copy_from.specs.Objects.{copied_words, most_counted, copied_at};
-ghost use Rattle.capnp_copy_from.specs.Lists.{CopiesList, listed_object, listed_tree};
+ghost use Rattle.capnp_copy.specs.States.{KeepsSizes};
+ghost use Rattle.capnp_copy_from.specs.Copies.{Fills, HasZeros, FillsObject, CopiesOverStruct, CopiesOverElements};
+ghost use Rattle.capnp_copy_from.specs.Objects.{copied_words, most_counted};
+ghost use Rattle.capnp_copy_from.specs.Lists.{CopiesList, listed_object, listed_tree, listed_bits, listed_words};
 
 use crate::copy::fill_row;
 use crate::objects::{copy_at, pointer_word, room_for, tag_word};
@@ -68,19 +66,16 @@ fn write_elements<A: BuilderArena>(
     count: u32,
 )
     requires plain { size_number size < 6 }
-    requires zeros { let k = words_for (data_bits (size_number size) * count) in
-        words_at (words_in (A.segments arena.old)) (place_view start) k ≡ Some (replicate k 0) }
+    requires zeros { HasZeros (A.segments arena.old) start
+        (words_for (data_bits (size_number size) * count)) }
     requires near { start.position + words_for (data_bits (size_number size) * count) < 2 ^ 61 }
     requires all { (data_bits (size_number size) * count ≤ 8 * length bytes.now)
         × (8 * length bytes.now < data_bits (size_number size) * count + 8) }
-    ensures fills { (n : ℕ) → Fills n (words_in (A.segments arena.old))
-        (words_in (A.segments arena.new)) (place_view start)
-        (words_for (data_bits (size_number size) * count))
-        (a_list (place_view start) (size_number size) count)
-        (plain_list (size_number size) count
-        (number_of 8 bytes.now % 2 ^ (data_bits (size_number size) * count))) }
-    ensures sizes { map length (words_in (A.segments arena.new))
-        ≡ map length (words_in (A.segments arena.old)) }
+    ensures fills { let bits = data_bits (size_number size) * count in
+        (n : ℕ) → Fills n (words_in (A.segments arena.old)) (words_in (A.segments arena.new))
+        (place_view start) (words_for bits) (a_list (place_view start) (size_number size) count)
+        (plain_list (size_number size) count (number_of 8 bytes.now % 2 ^ bits)) }
+    ensures sizes { KeepsSizes (A.segments arena.old) (A.segments arena.new) }
     ensures books { A.books arena.new ≡ A.books arena.old }
 {
     let words = words_of_elements(size, count) as usize;
@@ -104,12 +99,9 @@ fn fill_element<A: BuilderArena, B: ReaderArena>(
     requires near { (start.position + (data_words + pointers) < 2 ^ 61)
         × (first.position + pointers < 2 ^ 62) }
     requires all { length section.now ≡ 8 * data_words }
-    ensures copy { let b = words_in (B.segments source.now) in
-        let s = words_in (A.segments arena.old) in let u = words_in (A.segments arena.new) in
-        let r = place_view start in let p = place_view first in
-        CopyGives b (each (tree_at levels b) p pointers) (from_each (visits levels b) p pointers)
-        (FillsStruct levels s u r data_words pointers (number_of 8 section.now))
-        (LeavesStruct levels s u r data_words pointers) s u limiter.old result limiter.new }
+    ensures copy { CopiesOverStruct levels (words_in (B.segments source.now)) (place_view first)
+        (number_of 8 section.now) data_words pointers (words_in (A.segments arena.old))
+        (words_in (A.segments arena.new)) (place_view start) limiter.old result limiter.new }
     ensures books { A.books arena.new ≡ A.books arena.old }
 {
     arena.write_words(start, section);
@@ -135,16 +127,11 @@ fn fill_structs<A: BuilderArena, B: ReaderArena>(
     requires source_near { list.start.position + list.count * (list.data_words + list.pointers)
         < 2 ^ 61 }
     requires all { length bytes.now ≡ 8 * (list.count * (list.data_words + list.pointers)) }
-    ensures copy { let b = words_in (B.segments source.now) in
-        let s = words_in (A.segments arena.old) in let u = words_in (A.segments arena.new) in
-        let r = place_view start in let p = place_view list.start in let d = list.data_words in
-        let k = list.pointers in
-        CopyGives b
-        (each_element (tree_at levels b) p
-        (words_of (list.count * (d + k)) (number_of 8 bytes.now)) d k list.count)
-        (from_elements (visits levels b) p d k list.count)
-        (FillsElements levels s u r d k list.count) (LeavesElements levels s u r d k list.count) s
-        u limiter.old result limiter.new }
+    ensures copy { let n = list.count * (list.data_words + list.pointers) in
+        CopiesOverElements levels (words_in (B.segments source.now)) (place_view list.start)
+        (words_of n (number_of 8 bytes.now)) list.data_words list.pointers list.count
+        (words_in (A.segments arena.old)) (words_in (A.segments arena.new)) (place_view start)
+        limiter.old result limiter.new }
     ensures books { A.books arena.new ≡ A.books arena.old }
 {
     if list.pointers == 0 {
@@ -192,23 +179,15 @@ fn fill_list<A: BuilderArena, B: ReaderArena>(
     list: ListSource,
     levels: u32,
 ) -> Result<()>
-    requires zeros { words_at (words_in (A.segments arena.old)) (place_view start)
-        (copied_words (listed_object list))
-        ≡ Some (replicate (copied_words (listed_object list)) 0) }
+    requires zeros { HasZeros (A.segments arena.old) start (copied_words (listed_object list)) }
     requires near { start.position + copied_words (listed_object list) < 2 ^ 61 }
     requires few { most_counted (listed_object list) < 2 ^ 29 }
-    requires inside { step_bits (size_number list.size) list.data_words list.pointers * list.count
-        ≤ 8 * length bytes.now }
-    requires source_near { list.start.position + step_words (size_number list.size)
-        list.data_words list.pointers * list.count < 2 ^ 61 }
+    requires inside { listed_bits list ≤ 8 * length bytes.now }
+    requires source_near { list.start.position + listed_words list < 2 ^ 61 }
     ensures copy { let from = words_in (B.segments source.now) in
-        let s = words_in (A.segments arena.old) in let u = words_in (A.segments arena.new) in
-        let r = place_view start in let o = listed_object list in
-        CopyGives from (listed_tree (tree_at levels from) list bytes.now)
-        (met_in (visits levels from) o) (λ v.
-        (n : ℕ) → levels ≤ n → Fills n s u r (copied_words o) (copied_at r o) v)
-        ((t : Tree) × Fills levels s u r (copied_words o) (copied_at r o) t) s u limiter.old
-        result limiter.new }
+        FillsObject levels from (listed_object list)
+        (listed_tree (tree_at levels from) list bytes.now) (words_in (A.segments arena.old))
+        (words_in (A.segments arena.new)) (place_view start) limiter.old result limiter.new }
     ensures books { A.books arena.new ≡ A.books arena.old }
 {
     match list.size {

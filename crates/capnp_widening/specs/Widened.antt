@@ -1,22 +1,28 @@
 -- Structs that are widened. (Encoding, "Structs")
-use Rattle.std.specs.Prelude.{◌≡◌, ◌↔◌, ◌⊎◌, ℕ, suc, max, length, ◌+◌, ◌-◌, ◌*◌, ◌^◌, ◌<◌, ◌≤◌, List, Option, Some, None, Result, Ok, Err}
+use Rattle.std.specs.Prelude.{◌≡◌, ◌↔◌, ◌⊎◌, ℕ, suc, max, length, ◌+◌, ◌-◌, ◌*◌, ◌^◌, ◌<◌, ◌≤◌, List, Option, Some, None, Result, Ok, Err, IfOk, IfErr, OnOk, OnErr}
 use Rattle.capnp_model.specs.Kinds.{Kind}
 use Rattle.capnp_model.specs.Segments.{Segments, Place, after}
 use Rattle.capnp_model.specs.Pointers.{a_struct}
 use Rattle.capnp_model.specs.Trees.{Tree, widened}
 use Rattle.capnp_units.specs.declared.errors.Error.{Error}
 use Rattle.capnp_units.specs.declared.kinds.ErrorKind.TheVariants.{SizeOverflow, WrongPointerKind}
+use Rattle.capnp_units.specs.declared.sizes.StructSize.{StructSize}
 use Rattle.capnp_units.specs.Errors.{kind_of}
+use Rattle.capnp_units.specs.Segments.{words_in}
 use Rattle.capnp_wire.specs.Places.{place_view}
 use Rattle.capnp_object.specs.declared.place.Place as code
 use Rattle.capnp_object.specs.declared.object.Object.{Object}
 use Rattle.capnp_object.specs.declared.object.Object.TheVariants as object
 use Rattle.capnp_object.specs.declared.object.Found.{Found}
+use Rattle.capnp_object.specs.Objects.{object_at}
 use Rattle.capnp_footprints.specs.Footprints.{Owns}
 use Rattle.capnp_footprints.specs.Changes.{Replaces}
 use Rattle.capnp_copy.specs.Allocations.{total_words, HasRoom, TakesJust, TakesAtMost, NoRoom}
 use Rattle.capnp_copy.specs.Rooms.{RoomFor, begin_of}
+use Rattle.capnp_copy.specs.States.{ArenaState, HasWords}
+use Rattle.capnp_copy.specs.Structs.{struct_at}
 use Rattle.capnp_copy.specs.Values.{LeadsTo}
+use Rattle.capnp_copy.specs.declared.fields.StructPlace.{StructPlace}
 use Rattle.capnp_copy.specs.declared.room.Room.{Room}
 
 -- Room for a wider object that the pointer at a place will name: in the old object's segment, or anywhere, and then so many words more are there behind it, for pads of the pointers that move to it.
@@ -32,6 +38,18 @@ TakesNear s free u i j n = (i ≡ j → TakesJust s free u j n) × ((i ≡ j →
 abbrev pub NoWiderRoom : Segments → List ℕ → ℕ → ℕ → ℕ → ℕ → Type 0
 NoWiderRoom s free i j n pads =
     (i ≡ j → HasRoom s free j n → ⊥) × ((i ≡ j → ⊥) → HasRoom s free j (1 + n) → ⊥) × (HasRoom s free (length s - 1) (1 + (n + pads)) → ⊥)
+
+-- Room for a wider object, of an arena's state before and after, and of what it answers.
+abbrev pub MakesWiderRoom : ArenaState → ArenaState → code.Place → ℕ → ℕ → ℕ → Room × Option code.Place → Type 0
+MakesWiderRoom old new slot segment n pads r = WiderRoom (words_in old.segments) (words_in new.segments) (place_view slot) segment n pads r.0 r.1
+
+-- What is taken near the old object, of an arena's state before and after.
+abbrev pub TakesNearObject : ArenaState → ArenaState → code.Place → ℕ → ℕ → Type 0
+TakesNearObject old new slot segment n = TakesNear (words_in old.segments) old.room (words_in new.segments) slot.segment segment n
+
+-- So many words and pads have no room, of an arena's state before.
+abbrev pub LacksWiderRoom : ArenaState → code.Place → ℕ → ℕ → ℕ → Type 0
+LacksWiderRoom old slot segment n pads = NoWiderRoom (words_in old.segments) old.room slot.segment segment n pads
 
 -- Whatever value is owned there is widened to at least so many data words and pointers, null to a struct of just these, and nothing else changes.
 abbrev pub Widens : Segments → Segments → Place → ℕ → ℕ → Type 0
@@ -66,6 +84,10 @@ StructLacks s free i (Ok f) d k = ObjectLacks s free i f.object d k
 abbrev pub GrowthRefused : Segments → ℕ → Error → Type 0
 GrowthRefused s n e = (e.kind ≡ SizeOverflow) ↔ (2 ^ 29 ≤ total_words s + n)
 
+-- The same of segments by their bytes.
+abbrev pub RefusesWords : List (List ℕ) → ℕ → Error → Type 0
+RefusesWords bytes n e = GrowthRefused (words_in bytes) n e
+
 -- Why an object isn't given as a struct of at least these sizes: it is another one, or the words of a new struct and a pad are refused, and for a narrower one also two for each pointer of the old.
 abbrev pub ObjectRefused : Segments → Object → ℕ → ℕ → Error → Type 0
 ObjectRefused s object.Null d k e = GrowthRefused s (d + k + 1) e
@@ -76,3 +98,31 @@ ObjectRefused s _ d k e = e.kind ≡ WrongPointerKind
 abbrev pub StructRefused : Segments → Result Found Kind → ℕ → ℕ → Error → Type 0
 StructRefused s (Err kind) d k e = kind ≡ kind_of e.kind
 StructRefused s (Ok f) d k e = ObjectRefused s f.object d k e
+
+-- A struct of these sizes stands in place of a narrower one, where the answer says.
+pub record WidensStruct (old new : ArenaState) (slot : code.Place) (was : StructPlace) (wanted : StructSize) (r : Result StructPlace Error) : Type 0 where
+  pub value : IfOk r (λ o. Widens (words_in old.segments) (words_in new.segments) (place_view slot) wanted.data_words wanted.pointers)
+  pub object : IfOk r (λ o. LeadsTo (words_in new.segments) (place_view slot) (struct_at o))
+  pub size : IfOk r (λ o. (o.data_words ≡ wanted.data_words) × (o.pointers ≡ wanted.pointers))
+  pub there : IfOk r (λ o. HasWords new.segments o.start (o.data_words + o.pointers))
+  pub near : IfOk r (λ o. o.start.position + (o.data_words + o.pointers) < 2 ^ 61)
+  pub taken : OnOk r (TakesNearObject old new slot was.start.segment (wanted.data_words + wanted.pointers))
+  pub bound : OnOk r (TakesAtMost (words_in old.segments) (words_in new.segments) (wanted.data_words + wanted.pointers) (1 + 2 * was.pointers))
+  pub full : OnErr r (LacksWiderRoom old slot was.start.segment (wanted.data_words + wanted.pointers) (2 * was.pointers))
+  pub refused : OnErr r (new.segments ≡ old.segments)
+  pub kind : IfErr r (GrowthRefused (words_in old.segments) (wanted.data_words + wanted.pointers + 1 + 2 * was.pointers))
+  pub books : new.books ≡ old.books
+
+-- A struct of at least these sizes stands where the answer says, in place of null or of a narrower one; one that is wide enough stays.
+pub record GetsStruct (old new : ArenaState) (slot : code.Place) (wanted : StructSize) (r : Result StructPlace Error) : Type 0 where
+  pub value : IfOk r (λ o. Widens (words_in old.segments) (words_in new.segments) (place_view slot) wanted.data_words wanted.pointers)
+  pub object : IfOk r (λ o. LeadsTo (words_in new.segments) (place_view slot) (struct_at o))
+  pub size : IfOk r (λ o. (wanted.data_words ≤ o.data_words) × (wanted.pointers ≤ o.pointers))
+  pub wide : IsWide (words_in old.segments) (place_view slot) wanted.data_words wanted.pointers → new.segments ≡ old.segments
+  pub there : IfOk r (λ o. HasWords new.segments o.start (o.data_words + o.pointers))
+  pub near : IfOk r (λ o. o.start.position + (o.data_words + o.pointers) < 2 ^ 61)
+  pub taken : OnOk r (StructTakes (words_in old.segments) old.room (words_in new.segments) slot.segment (object_at (words_in old.segments) (place_view slot)) wanted.data_words wanted.pointers)
+  pub full : OnErr r (StructLacks (words_in old.segments) old.room slot.segment (object_at (words_in old.segments) (place_view slot)) wanted.data_words wanted.pointers)
+  pub refused : OnErr r (new.segments ≡ old.segments)
+  pub kind : IfErr r (StructRefused (words_in old.segments) (object_at (words_in old.segments) (place_view slot)) wanted.data_words wanted.pointers)
+  pub books : new.books ≡ old.books

@@ -1,12 +1,14 @@
 -- Lists that are got as lists of structs, and widened. (Encoding, "Lists")
-use Rattle.std.specs.Prelude.{◌≡◌, ◌⊎◌, ℕ, suc, max, ◌+◌, ◌*◌, ◌^◌, ◌≤◌, List, Some, Result, Ok, Err}
+use Rattle.std.specs.Prelude.{◌≡◌, ◌⊎◌, ℕ, suc, max, ◌+◌, ◌*◌, ◌^◌, ◌≤◌, List, Some, Result, Ok, Err, IfOk, IfErr, OnOk, OnErr}
 use Rattle.capnp_model.specs.Chains.{◌and_then◌}
 use Rattle.capnp_model.specs.Kinds.{Kind}
 use Rattle.capnp_model.specs.Segments.{Segments, Place, word_at}
 use Rattle.capnp_model.specs.Trees.{Tree}
 use Rattle.capnp_units.specs.declared.errors.Error.{Error}
 use Rattle.capnp_units.specs.declared.sizes.ElementSize.TheVariants.{InlineComposite}
+use Rattle.capnp_units.specs.declared.sizes.StructSize.{StructSize}
 use Rattle.capnp_units.specs.Errors.{kind_of}
+use Rattle.capnp_units.specs.Segments.{words_in}
 use Rattle.capnp_wire.specs.Places.{place_view}
 use Rattle.capnp_object.specs.declared.place.Place as code
 use Rattle.capnp_object.specs.Objects.{object_at}
@@ -14,12 +16,13 @@ use Rattle.capnp_footprints.specs.Footprints.{Owns}
 use Rattle.capnp_footprints.specs.Changes.{Replaces}
 use Rattle.capnp_copy.specs.Elements.{IsWhole}
 use Rattle.capnp_copy.specs.Lists.{list_at}
+use Rattle.capnp_copy.specs.States.{ArenaState}
 use Rattle.capnp_copy.specs.Values.{LeadsTo}
 use Rattle.capnp_copy.specs.declared.init.ListPlace.{ListPlace}
 use Rattle.capnp_widening.specs.Got.{list_in}
-use Rattle.capnp_widening.specs.MovedElements.{as_structs, least_words, least_pointers}
+use Rattle.capnp_widening.specs.MovedElements.{as_structs, least_words, least_pointers, HasStructs}
 use Rattle.capnp_copy.specs.Allocations.{TakesAtMost}
-use Rattle.capnp_widening.specs.Widened.{GrowthRefused, TakesNear, NoWiderRoom}
+use Rattle.capnp_widening.specs.Widened.{GrowthRefused, TakesNear, NoWiderRoom, TakesNearObject, LacksWiderRoom}
 
 -- The list that the pointer at a place names, of elements that can be structs, else the kind of the fault: a list of bits can't.
 abbrev pub list_there : Segments → code.Place → Result ListPlace Kind
@@ -70,3 +73,29 @@ ListLacks s free i (Ok o) d k = NoWiderRoom s free i o.start.segment (words_of_s
 abbrev pub ListRefused : Segments → Place → Result ListPlace Kind → ℕ → ℕ → Error → Type 0
 ListRefused s p (Err kind) d k e = kind ≡ kind_of e.kind
 ListRefused s p (Ok o) d k e = (word_at s p ≡ Some 0 → ⊥) × (IsWideList o d k → ⊥) × GrowthRefused s (words_wanted o (max d (least_words o)) (max k (least_pointers o))) e
+
+-- A list of structs of these sizes stands in place of a narrower list, where the answer says.
+pub record WidensToList (old new : ArenaState) (slot : code.Place) (was : ListPlace) (wanted : StructSize) (r : Result ListPlace Error) : Type 0 where
+  pub value : IfOk r (λ o. WidensList (words_in old.segments) (words_in new.segments) (place_view slot) wanted.data_words wanted.pointers)
+  pub object : IfOk r (λ o. LeadsTo (words_in new.segments) (place_view slot) (list_at o))
+  pub list : IfOk r (λ o. (o.size ≡ InlineComposite) × (o.count ≡ was.count) × (o.data_words ≡ wanted.data_words) × (o.pointers ≡ wanted.pointers))
+  pub there : IfOk r (HasStructs (words_in new.segments))
+  pub inside : IfOk r (IsWhole (words_in new.segments))
+  pub taken : OnOk r (TakesNearObject old new slot was.start.segment (1 + was.count * (wanted.data_words + wanted.pointers)))
+  pub bound : OnOk r (TakesAtMost (words_in old.segments) (words_in new.segments) (1 + was.count * (wanted.data_words + wanted.pointers)) (1 + 2 * (was.count * least_pointers was)))
+  pub full : OnErr r (LacksWiderRoom old slot was.start.segment (1 + was.count * (wanted.data_words + wanted.pointers)) (2 * (was.count * least_pointers was)) ⊎ (2 ^ 29 ≤ words_wanted was wanted.data_words wanted.pointers))
+  pub refused : OnErr r (new.segments ≡ old.segments)
+  pub kind : IfErr r (GrowthRefused (words_in old.segments) (words_wanted was wanted.data_words wanted.pointers))
+  pub books : new.books ≡ old.books
+
+-- The list stands where the answer says as one of structs of at least these sizes; one that is wide enough, and null, stays.
+pub record GetsStructList (old new : ArenaState) (slot : code.Place) (wanted : StructSize) (r : Result ListPlace Error) : Type 0 where
+  pub value : IfOk r (λ o. WidensList (words_in old.segments) (words_in new.segments) (place_view slot) wanted.data_words wanted.pointers)
+  pub list : IfOk r (StructsGot (words_in old.segments) (words_in new.segments) slot wanted.data_words wanted.pointers)
+  pub taken : OnOk r (ListTakes (words_in old.segments) old.room (words_in new.segments) slot wanted.data_words wanted.pointers)
+  pub bound : OnOk r (ListTakesAtMost (words_in old.segments) (words_in new.segments) slot wanted.data_words wanted.pointers)
+  pub full : OnErr r (ListLacks (words_in old.segments) old.room slot.segment (list_there (words_in old.segments) slot) wanted.data_words wanted.pointers)
+  pub wide : HasWideList (words_in old.segments) slot wanted.data_words wanted.pointers → new.segments ≡ old.segments
+  pub refused : OnErr r (new.segments ≡ old.segments)
+  pub kind : IfErr r (ListRefused (words_in old.segments) (place_view slot) (list_there (words_in old.segments) slot) wanted.data_words wanted.pointers)
+  pub books : new.books ≡ old.books

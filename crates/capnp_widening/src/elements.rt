@@ -1,11 +1,11 @@
 //! Elements of lists that move to wider structs of a new list.
-ghost use Rattle.std.specs.Prelude.{◌≡◌, ◌+◌, ◌*◌, ◌<◌, ◌≤◌, ◌^◌, [], ℕ, length, map, true};
-ghost use Rattle.std.specs.Option.{is_some};
-ghost use Rattle.capnp_model.specs.Segments.{after, words_at};
+ghost use Rattle.std.specs.Prelude.{◌≡◌, ◌+◌, ◌*◌, ◌<◌, ◌≤◌, ◌^◌, []};
+ghost use Rattle.capnp_model.specs.Segments.{after};
 ghost use Rattle.capnp_units.specs.Segments.{words_in};
 ghost use Rattle.capnp_units.specs.Sizes.{size_number};
 ghost use Rattle.capnp_wire.specs.Places.{place_view};
 ghost use Rattle.capnp_copy.specs.Allocations.{total_words};
+ghost use Rattle.capnp_copy.specs.States.{HasWords, KeepsSizes};
 ghost use Rattle.capnp_widening.specs.Moves.{HasPads, IsReached, pads_of};
 ghost use Rattle.capnp_widening.specs.MovedElements.{struct_begin, MovesElement, least_pointers, HasStructs, HasPointers, HasList, HasWider, FillsElements};
 
@@ -52,18 +52,15 @@ fn move_element<A: BuilderArena>(
     to: StructPlace,
     pads: Option<Place>,
 )
-    requires from { is_some (words_at (words_in (A.segments arena.old)) (place_view from.start)
-        (from.data_words + from.pointers)) ≡ true }
-    requires to { is_some (words_at (words_in (A.segments arena.old)) (place_view to.start)
-        (to.data_words + to.pointers)) ≡ true }
+    requires from { HasWords (A.segments arena.old) from.start (from.data_words + from.pointers) }
+    requires to { HasWords (A.segments arena.old) to.start (to.data_words + to.pointers) }
     requires wider { (from.data_words ≤ to.data_words) × (from.pointers ≤ to.pointers) }
     requires pads { HasPads (words_in (A.segments arena.old)) pads from.pointers }
     requires reached { IsReached pads from.start.segment to.start.segment }
     requires few { total_words (words_in (A.segments arena.old)) < 2 ^ 29 }
     ensures moves { MovesElement (words_in (A.segments arena.old))
         (words_in (A.segments arena.new)) from to (pads_of pads from.pointers) }
-    ensures sizes { map length (words_in (A.segments arena.new))
-        ≡ map length (words_in (A.segments arena.old)) }
+    ensures sizes { KeepsSizes (A.segments arena.old) (A.segments arena.new) }
     ensures books { A.books arena.new ≡ A.books arena.old }
 {
     copy_words(arena, from.start, to.start, from.data_words as u32);
@@ -88,8 +85,7 @@ fn move_elements<A: BuilderArena>(
     requires few { total_words (words_in (A.segments arena.old)) < 2 ^ 29 }
     ensures fills { FillsElements (words_in (A.segments arena.old))
         (words_in (A.segments arena.new)) old new (pads_of pads (old.count * least_pointers old)) }
-    ensures sizes { map length (words_in (A.segments arena.new))
-        ≡ map length (words_in (A.segments arena.old)) }
+    ensures sizes { KeepsSizes (A.segments arena.old) (A.segments arena.new) }
     ensures books { A.books arena.new ≡ A.books arena.old }
 {
     for i in 0..old.count {
@@ -116,8 +112,7 @@ fn move_each_pointer<A: BuilderArena>(
     requires few { total_words (words_in (A.segments arena.old)) < 2 ^ 29 }
     ensures fills { FillsElements (words_in (A.segments arena.old))
         (words_in (A.segments arena.new)) old new (pads_of pads (old.count * least_pointers old)) }
-    ensures sizes { map length (words_in (A.segments arena.new))
-        ≡ map length (words_in (A.segments arena.old)) }
+    ensures sizes { KeepsSizes (A.segments arena.old) (A.segments arena.new) }
     ensures books { A.books arena.new ≡ A.books arena.old }
 {
     for i in 0..old.count {
@@ -138,8 +133,7 @@ fn copy_numbers<A: BuilderArena>(arena: &mut A, old: ListPlace, new: ListPlace)
     requires wider { HasWider (words_in (A.segments arena.old)) old new }
     ensures fills { FillsElements (words_in (A.segments arena.old))
         (words_in (A.segments arena.new)) old new [] }
-    ensures sizes { map length (words_in (A.segments arena.new))
-        ≡ map length (words_in (A.segments arena.old)) }
+    ensures sizes { KeepsSizes (A.segments arena.old) (A.segments arena.new) }
     ensures books { A.books arena.new ≡ A.books arena.old }
 {
     for i in 0..old.count {
@@ -163,8 +157,7 @@ pub fn fill_elements<A: BuilderArena>(
     requires few { total_words (words_in (A.segments arena.old)) < 2 ^ 29 }
     ensures fills { FillsElements (words_in (A.segments arena.old))
         (words_in (A.segments arena.new)) old new (pads_of pads (old.count * least_pointers old)) }
-    ensures sizes { map length (words_in (A.segments arena.new))
-        ≡ map length (words_in (A.segments arena.old)) }
+    ensures sizes { KeepsSizes (A.segments arena.old) (A.segments arena.new) }
     ensures books { A.books arena.new ≡ A.books arena.old }
 {
     match old.size {

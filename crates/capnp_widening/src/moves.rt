@@ -1,11 +1,11 @@
 //! Words and pointers that move from an object to another.
-ghost use Rattle.std.specs.Prelude.{◌≡◌, ◌+◌, ◌-◌, ◌*◌, ◌<◌, ◌≤◌, ◌^◌, ℕ, length, map, true, IfOk};
-ghost use Rattle.std.specs.Option.{is_some, option_map};
-ghost use Rattle.capnp_model.specs.Segments.{words_at};
+ghost use Rattle.std.specs.Prelude.{◌≡◌, ◌+◌, ◌-◌, ◌*◌, ◌<◌, ◌≤◌, ◌^◌, IfOk};
+ghost use Rattle.std.specs.Option.{option_map};
 ghost use Rattle.capnp_units.specs.Segments.{words_in};
 ghost use Rattle.capnp_wire.specs.Places.{place_view};
 ghost use Rattle.capnp_object.specs.Named.{named_view};
 ghost use Rattle.capnp_copy.specs.Allocations.{total_words};
+ghost use Rattle.capnp_copy.specs.States.{HasWords, KeepsSizes};
 ghost use Rattle.capnp_widening.specs.Moves.{CopiesWords, pads_of, HasPads, IsReached, offset_to, pointed_at, MovesValue, MovesRow, start_of, pad_from, IsNearPad, AreNamed};
 
 use capnp_copy::arena::BuilderArena;
@@ -32,15 +32,12 @@ const EMPTY_STRUCT: u64 = 0xffff_fffc;
 
 /// Writes so many words from one place on at another, where no word lies in both.
 pub fn copy_words<A: BuilderArena>(arena: &mut A, from: Place, to: Place, count: u32)
-    requires from { is_some (words_at (words_in (A.segments arena.old)) (place_view from) count)
-        ≡ true }
-    requires to { is_some (words_at (words_in (A.segments arena.old)) (place_view to) count)
-        ≡ true }
+    requires from { HasWords (A.segments arena.old) from count }
+    requires to { HasWords (A.segments arena.old) to count }
     requires near { (from.position + count < 2 ^ 61) × (to.position + count < 2 ^ 61) }
     ensures words { CopiesWords (words_in (A.segments arena.old))
         (words_in (A.segments arena.new)) (place_view from) (place_view to) count }
-    ensures sizes { map length (words_in (A.segments arena.new))
-        ≡ map length (words_in (A.segments arena.old)) }
+    ensures sizes { KeepsSizes (A.segments arena.old) (A.segments arena.new) }
     ensures books { A.books arena.new ≡ A.books arena.old }
 {
     for i in 0..count {
@@ -65,8 +62,7 @@ fn point_at<A: BuilderArena>(
     pad: Option<Place>,
     pointer: u64,
 )
-    requires slot { is_some (words_at (words_in (A.segments arena.old)) (place_view slot) 1)
-        ≡ true }
+    requires slot { HasWords (A.segments arena.old) slot 1 }
     requires pad { HasPads (words_in (A.segments arena.old)) pad 1 }
     requires near { (slot.position < 2 ^ 29) × (start.position < 2 ^ 29) }
     requires offset { pointer < 2 ^ 64 - 2 ^ 32 + 4 }
@@ -112,16 +108,14 @@ fn start_of(found: Result<FoundObject>) -> Option<Place>
 
 /// Moves the value of the pointer at one place to another, where null is: the first becomes null. What lies behind the pointer stays where it is, so the new one needs a pad of two words where it stands in another segment.
 pub fn move_pointer<A: BuilderArena>(arena: &mut A, from: Place, to: Place, pad: Option<Place>)
-    requires from { is_some (words_at (words_in (A.segments arena.old)) (place_view from) 1)
-        ≡ true }
-    requires to { is_some (words_at (words_in (A.segments arena.old)) (place_view to) 1) ≡ true }
+    requires from { HasWords (A.segments arena.old) from 1 }
+    requires to { HasWords (A.segments arena.old) to 1 }
     requires pad { HasPads (words_in (A.segments arena.old)) pad 1 }
     requires reached { IsReached pad from.segment to.segment }
     requires few { total_words (words_in (A.segments arena.old)) < 2 ^ 29 }
     ensures value { MovesValue (words_in (A.segments arena.old)) (words_in (A.segments arena.new))
         (place_view from) (place_view to) (pads_of pad 1) }
-    ensures sizes { map length (words_in (A.segments arena.new))
-        ≡ map length (words_in (A.segments arena.old)) }
+    ensures sizes { KeepsSizes (A.segments arena.old) (A.segments arena.new) }
     ensures books { A.books arena.new ≡ A.books arena.old }
 {
     let word = word_at(arena, from).unwrap_or(0);
@@ -156,18 +150,15 @@ pub fn move_pointers<A: BuilderArena>(
     count: u32,
     pads: Option<Place>,
 )
-    requires from { is_some (words_at (words_in (A.segments arena.old)) (place_view from) count)
-        ≡ true }
-    requires to { is_some (words_at (words_in (A.segments arena.old)) (place_view to) count)
-        ≡ true }
+    requires from { HasWords (A.segments arena.old) from count }
+    requires to { HasWords (A.segments arena.old) to count }
     requires pads { HasPads (words_in (A.segments arena.old)) pads count }
     requires reached { IsReached pads from.segment to.segment }
     requires few { total_words (words_in (A.segments arena.old)) < 2 ^ 29 }
     requires near { (from.position + count < 2 ^ 61) × (to.position + count < 2 ^ 61) }
     ensures row { MovesRow (words_in (A.segments arena.old)) (words_in (A.segments arena.new))
         (place_view from) (place_view to) count (pads_of pads count) }
-    ensures sizes { map length (words_in (A.segments arena.new))
-        ≡ map length (words_in (A.segments arena.old)) }
+    ensures sizes { KeepsSizes (A.segments arena.old) (A.segments arena.new) }
     ensures books { A.books arena.new ≡ A.books arena.old }
 {
     for i in 0..count {

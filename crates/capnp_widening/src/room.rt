@@ -4,7 +4,8 @@ ghost use Rattle.std.specs.Option.{is_some};
 ghost use Rattle.capnp_model.specs.Segments.{word_at};
 ghost use Rattle.capnp_units.specs.Segments.{words_in};
 ghost use Rattle.capnp_wire.specs.Places.{place_view};
-ghost use Rattle.capnp_widening.specs.Widened.{WiderRoom, TakesNear, NoWiderRoom, GrowthRefused};
+ghost use Rattle.capnp_copy.specs.States.{state_in};
+ghost use Rattle.capnp_widening.specs.Widened.{MakesWiderRoom, TakesNearObject, LacksWiderRoom, RefusesWords};
 
 use capnp_copy::arena::BuilderArena;
 use capnp_copy::room::Room;
@@ -25,18 +26,14 @@ pub fn allocate_wider<A: BuilderArena>(
     requires there { is_some (word_at (words_in (A.segments arena.old)) (place_view slot)) ≡ true }
     requires some { 0 < words }
     requires few { (words ≤ 2 ^ 29) × (pads ≤ 2 ^ 30) }
-    ensures ok { IfOk result (λ r.
-        WiderRoom (words_in (A.segments arena.old)) (words_in (A.segments arena.new))
-        (place_view slot) segment words pads r.0 r.1) }
-    ensures near { OnOk result
-        (TakesNear (words_in (A.segments arena.old)) (A.room arena.old)
-        (words_in (A.segments arena.new)) slot.segment segment words) }
+    ensures ok { let at = state_in A.segments A.room A.books in IfOk result
+        (MakesWiderRoom (at arena.old) (at arena.new) slot segment words pads) }
+    ensures near { let at = state_in A.segments A.room A.books in OnOk result
+        (TakesNearObject (at arena.old) (at arena.new) slot segment words) }
     ensures refused { OnErr result (A.segments arena.new ≡ A.segments arena.old) }
-    ensures kind { IfErr result
-        (GrowthRefused (words_in (A.segments arena.old)) (1 + (words + pads))) }
-    ensures full { OnErr result
-        (NoWiderRoom (words_in (A.segments arena.old)) (A.room arena.old) slot.segment segment
-        words pads) }
+    ensures kind { IfErr result (RefusesWords (A.segments arena.old) (1 + (words + pads))) }
+    ensures full { let at = state_in A.segments A.room A.books in OnErr result
+        (LacksWiderRoom (at arena.old) slot segment words pads) }
     ensures books { A.books arena.new ≡ A.books arena.old }
 {
     if slot.segment == segment {

@@ -1,18 +1,15 @@
 //! Lists that are got as lists of structs, and widened.
-ghost use Rattle.std.specs.Prelude.{◌≡◌, ◌⊎◌, ◌+◌, ◌*◌, ◌<◌, ◌≤◌, ◌^◌, ◌↔◌, ℕ, true, Ok, IfOk, IfErr, OnOk, OnErr};
+ghost use Rattle.std.specs.Prelude.{◌≡◌, ◌+◌, ◌*◌, ◌<◌, ◌≤◌, ◌^◌, ◌↔◌, true, Ok, IfOk, IfErr};
 ghost use Rattle.std.specs.Option.{is_some};
 ghost use Rattle.capnp_model.specs.Segments.{words_at};
 ghost use Rattle.capnp_units.specs.Segments.{words_in};
 ghost use Rattle.capnp_units.specs.declared.kinds.ErrorKind.TheVariants.{SizeOverflow};
-ghost use Rattle.capnp_units.specs.declared.sizes.ElementSize.TheVariants.{InlineComposite};
 ghost use Rattle.capnp_wire.specs.Places.{place_view};
-ghost use Rattle.capnp_copy.specs.Allocations.{TakesAtMost};
-ghost use Rattle.capnp_copy.specs.Elements.{IsWhole};
 ghost use Rattle.capnp_copy.specs.Lists.{list_at};
+ghost use Rattle.capnp_copy.specs.States.{state_in};
 ghost use Rattle.capnp_copy.specs.Values.{LeadsTo};
-ghost use Rattle.capnp_widening.specs.MovedElements.{least_words, least_pointers, HasStructs};
-ghost use Rattle.capnp_widening.specs.Widened.{TakesNear, NoWiderRoom, GrowthRefused};
-ghost use Rattle.capnp_widening.specs.WidenedLists.{list_there, WidensList, IsWideList, HasWideList, words_wanted, StructsGot, ListTakes, ListTakesAtMost, ListLacks, ListRefused};
+ghost use Rattle.capnp_widening.specs.MovedElements.{least_words, least_pointers};
+ghost use Rattle.capnp_widening.specs.WidenedLists.{list_there, IsWideList, words_wanted, WidensToList, GetsStructList};
 
 use crate::elements::fill_elements;
 use crate::lists::get_list;
@@ -87,34 +84,8 @@ fn widen_list<A: BuilderArena>(
     requires near { slot.position < 2 ^ 61 }
     requires wider { (least_words old ≤ size.data_words) × (least_pointers old ≤ size.pointers) }
     requires short { (size.data_words + size.pointers ≡ 0) → (old.count < 2 ^ 29) }
-    ensures value { IfOk result (λ o.
-        WidensList (words_in (A.segments arena.old)) (words_in (A.segments arena.new))
-        (place_view slot) size.data_words size.pointers) }
-    ensures object { IfOk result (λ o.
-        LeadsTo (words_in (A.segments arena.new)) (place_view slot) (list_at o)) }
-    ensures list { IfOk result (λ o.
-        (o.size ≡ InlineComposite) × (o.count ≡ old.count) × (o.data_words ≡ size.data_words)
-        × (o.pointers ≡ size.pointers)) }
-    ensures there { IfOk result (HasStructs (words_in (A.segments arena.new))) }
-    ensures inside { IfOk result (IsWhole (words_in (A.segments arena.new))) }
-    ensures taken { OnOk result
-        (TakesNear (words_in (A.segments arena.old)) (A.room arena.old)
-        (words_in (A.segments arena.new)) slot.segment old.start.segment
-        (1 + old.count * (size.data_words + size.pointers))) }
-    ensures bound { OnOk result
-        (TakesAtMost (words_in (A.segments arena.old)) (words_in (A.segments arena.new))
-        (1 + old.count * (size.data_words + size.pointers))
-        (1 + 2 * (old.count * least_pointers old))) }
-    ensures full { OnErr result
-        (NoWiderRoom (words_in (A.segments arena.old)) (A.room arena.old) slot.segment
-        old.start.segment (1 + old.count * (size.data_words + size.pointers))
-        (2 * (old.count * least_pointers old))
-        ⊎ (2 ^ 29 ≤ words_wanted old size.data_words size.pointers)) }
-    ensures refused { OnErr result (A.segments arena.new ≡ A.segments arena.old) }
-    ensures kind { IfErr result
-        (GrowthRefused (words_in (A.segments arena.old))
-        (words_wanted old size.data_words size.pointers)) }
-    ensures books { A.books arena.new ≡ A.books arena.old }
+    ensures { let at = state_in A.segments A.room A.books in
+        WidensToList (at arena.old) (at arena.new) slot old size result }
 {
     let (words, pad_words) = words_of_wider(old, size)?;
     let (room, pads) = allocate_wider(arena, slot, old.start.segment, 1 + words, pad_words)?;
@@ -149,28 +120,8 @@ pub fn get_struct_list<A: BuilderArena>(
     requires there { is_some (words_at (words_in (A.segments arena.old)) (place_view slot) 1)
         ≡ true }
     requires near { slot.position < 2 ^ 61 }
-    ensures value { IfOk result (λ o.
-        WidensList (words_in (A.segments arena.old)) (words_in (A.segments arena.new))
-        (place_view slot) size.data_words size.pointers) }
-    ensures list { IfOk result
-        (StructsGot (words_in (A.segments arena.old)) (words_in (A.segments arena.new)) slot
-        size.data_words size.pointers) }
-    ensures taken { OnOk result
-        (ListTakes (words_in (A.segments arena.old)) (A.room arena.old)
-        (words_in (A.segments arena.new)) slot size.data_words size.pointers) }
-    ensures bound { OnOk result
-        (ListTakesAtMost (words_in (A.segments arena.old)) (words_in (A.segments arena.new)) slot
-        size.data_words size.pointers) }
-    ensures full { OnErr result
-        (ListLacks (words_in (A.segments arena.old)) (A.room arena.old) slot.segment
-        (list_there (words_in (A.segments arena.old)) slot) size.data_words size.pointers) }
-    ensures wide { HasWideList (words_in (A.segments arena.old)) slot size.data_words
-        size.pointers → A.segments arena.new ≡ A.segments arena.old }
-    ensures refused { OnErr result (A.segments arena.new ≡ A.segments arena.old) }
-    ensures kind { IfErr result
-        (ListRefused (words_in (A.segments arena.old)) (place_view slot)
-        (list_there (words_in (A.segments arena.old)) slot) size.data_words size.pointers) }
-    ensures books { A.books arena.new ≡ A.books arena.old }
+    ensures { let at = state_in A.segments A.room A.books in
+        GetsStructList (at arena.old) (at arena.new) slot size result }
 {
     let old = get_list(arena, slot, ElementSize::InlineComposite)?;
     if word_at(arena, slot) == Some(0) || is_wide(old, size) {

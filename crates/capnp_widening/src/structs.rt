@@ -1,14 +1,13 @@
 //! Structs that are got, and widened.
-ghost use Rattle.std.specs.Prelude.{◌≡◌, ◌+◌, ◌-◌, ◌*◌, ◌<◌, ◌≤◌, ◌^◌, ◌↔◌, max, ℕ, true, Ok, IfOk, IfErr, OnOk, OnErr};
+ghost use Rattle.std.specs.Prelude.{◌≡◌, ◌+◌, ◌<◌, ◌≤◌, ◌^◌, true};
 ghost use Rattle.std.specs.Option.{is_some};
 ghost use Rattle.capnp_model.specs.Segments.{after, words_at};
 ghost use Rattle.capnp_units.specs.Segments.{words_in};
 ghost use Rattle.capnp_wire.specs.Places.{place_view};
-ghost use Rattle.capnp_object.specs.Objects.{object_at};
-ghost use Rattle.capnp_copy.specs.Allocations.{TakesAtMost};
+ghost use Rattle.capnp_copy.specs.States.{state_in};
 ghost use Rattle.capnp_copy.specs.Structs.{struct_at};
 ghost use Rattle.capnp_copy.specs.Values.{LeadsTo};
-ghost use Rattle.capnp_widening.specs.Widened.{Widens, IsWide, TakesNear, NoWiderRoom, StructTakes, StructLacks, GrowthRefused, StructRefused};
+ghost use Rattle.capnp_widening.specs.Widened.{WidensStruct, GetsStruct};
 
 use crate::moves::{copy_words, move_pointers};
 use crate::room::allocate_wider;
@@ -41,32 +40,8 @@ fn widen_struct<A: BuilderArena>(
     requires close { old.start.position + (old.data_words + old.pointers) < 2 ^ 61 }
     requires wider { (old.data_words ≤ size.data_words) × (old.pointers ≤ size.pointers)
         × (0 < size.data_words + size.pointers) }
-    ensures value { IfOk result (λ o.
-        Widens (words_in (A.segments arena.old)) (words_in (A.segments arena.new))
-        (place_view slot) size.data_words size.pointers) }
-    ensures object { IfOk result (λ o.
-        LeadsTo (words_in (A.segments arena.new)) (place_view slot) (struct_at o)) }
-    ensures size { IfOk result (λ o.
-        (o.data_words ≡ size.data_words) × (o.pointers ≡ size.pointers)) }
-    ensures there { IfOk result (λ o.
-        is_some (words_at (words_in (A.segments arena.new)) (place_view o.start)
-        (o.data_words + o.pointers)) ≡ true) }
-    ensures near { IfOk result (λ o. o.start.position + (o.data_words + o.pointers) < 2 ^ 61) }
-    ensures taken { OnOk result
-        (TakesNear (words_in (A.segments arena.old)) (A.room arena.old)
-        (words_in (A.segments arena.new)) slot.segment old.start.segment
-        (size.data_words + size.pointers)) }
-    ensures bound { OnOk result
-        (TakesAtMost (words_in (A.segments arena.old)) (words_in (A.segments arena.new))
-        (size.data_words + size.pointers) (1 + 2 * old.pointers)) }
-    ensures full { OnErr result
-        (NoWiderRoom (words_in (A.segments arena.old)) (A.room arena.old) slot.segment
-        old.start.segment (size.data_words + size.pointers) (2 * old.pointers)) }
-    ensures refused { OnErr result (A.segments arena.new ≡ A.segments arena.old) }
-    ensures kind { IfErr result
-        (GrowthRefused (words_in (A.segments arena.old))
-        (size.data_words + size.pointers + 1 + 2 * old.pointers)) }
-    ensures books { A.books arena.new ≡ A.books arena.old }
+    ensures { let at = state_in A.segments A.room A.books in
+        WidensStruct (at arena.old) (at arena.new) slot old size result }
 {
     let pad_words = 2 * old.pointers as u32;
     let (room, pads) = allocate_wider(arena, slot, old.start.segment, size.total(), pad_words)?;
@@ -106,34 +81,8 @@ pub fn get_struct<A: BuilderArena>(
     requires there { is_some (words_at (words_in (A.segments arena.old)) (place_view slot) 1)
         ≡ true }
     requires near { slot.position < 2 ^ 61 }
-    ensures value { IfOk result (λ o.
-        Widens (words_in (A.segments arena.old)) (words_in (A.segments arena.new))
-        (place_view slot) size.data_words size.pointers) }
-    ensures object { IfOk result (λ o.
-        LeadsTo (words_in (A.segments arena.new)) (place_view slot) (struct_at o)) }
-    ensures size { IfOk result (λ o.
-        (size.data_words ≤ o.data_words) × (size.pointers ≤ o.pointers)) }
-    ensures wide { IsWide (words_in (A.segments arena.old)) (place_view slot) size.data_words
-        size.pointers → A.segments arena.new ≡ A.segments arena.old }
-    ensures there { IfOk result (λ o.
-        is_some (words_at (words_in (A.segments arena.new)) (place_view o.start)
-        (o.data_words + o.pointers)) ≡ true) }
-    ensures near { IfOk result (λ o. o.start.position + (o.data_words + o.pointers) < 2 ^ 61) }
-    ensures taken { OnOk result
-        (StructTakes (words_in (A.segments arena.old)) (A.room arena.old)
-        (words_in (A.segments arena.new)) slot.segment
-        (object_at (words_in (A.segments arena.old)) (place_view slot)) size.data_words
-        size.pointers) }
-    ensures full { OnErr result
-        (StructLacks (words_in (A.segments arena.old)) (A.room arena.old) slot.segment
-        (object_at (words_in (A.segments arena.old)) (place_view slot)) size.data_words
-        size.pointers) }
-    ensures refused { OnErr result (A.segments arena.new ≡ A.segments arena.old) }
-    ensures kind { IfErr result
-        (StructRefused (words_in (A.segments arena.old))
-        (object_at (words_in (A.segments arena.old)) (place_view slot)) size.data_words
-        size.pointers) }
-    ensures books { A.books arena.new ≡ A.books arena.old }
+    ensures { let at = state_in A.segments A.room A.books in
+        GetsStruct (at arena.old) (at arena.new) slot size result }
 {
     let found = object_at(arena, slot)?;
     match found.object {

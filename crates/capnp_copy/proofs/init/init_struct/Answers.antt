@@ -1,17 +1,38 @@
-use Rattle.std.proofs.Common.{◌≡◌, ◌+◌, ◌≤◌, ◌^◌, ℕ, replicate, ap, sym, refl, true, subst, arith, rules}
+use Rattle.std.proofs.Common.{◌≡◌, ◌+◌, ◌<◌, ◌^◌, ℕ, replicate, ap, sym, refl, true, subst, arith}
 use Rattle.std.specs.Option.{is_some}
 use Rattle.capnp_model.specs.Segments.{words_at}
 use Rattle.capnp_units.specs.Segments.{words_in}
 use Rattle.capnp_wire.specs.Places.{place_view}
 use Rattle.capnp_footprints.specs.NewObjects.{new_struct}
+use Rattle.capnp_copy.specs.Allocations.{TakesJust, TakesAtMost}
 use Rattle.capnp_copy.proofs.init.init_struct.Goals as goal
 
-pub returns-clause-value : goal.returns-clause-value
-returns-clause-value g c =
-    let words : replicate {A = ℕ} (c.args.size.data_words + c.args.size.pointers) 0 ≡ replicate c.total.result 0 = ap (λ (n : ℕ). replicate {A = ℕ} n 0) (sym c.total.ensures) in
-    c.in_ok-start.ensures.value (new_struct c.args.size.data_words c.args.size.pointers) words (sym c.struct_word.ensures.word) c.struct_word.ensures.fits
-
-pub returns-clause-object : goal.returns-clause-object
-returns-clause-object g c =
-    let words : replicate {A = ℕ} (c.args.size.data_words + c.args.size.pointers) 0 ≡ replicate c.total.result 0 = ap (λ (n : ℕ). replicate {A = ℕ} n 0) (sym c.total.ensures) in
-    c.in_ok-start.ensures.object (new_struct c.args.size.data_words c.args.size.pointers) words (sym c.struct_word.ensures.word) c.struct_word.ensures.fits
+pub returns : goal.returns
+returns g c =
+    let s = words_in (g.A.ReaderArena.segments c.args.arena.now) in
+    let u = words_in (g.A.ReaderArena.segments c.init_zeros.new.arena) in
+    let free = g.A.BuilderArena.room c.args.arena.now in
+    let slot = c.args.slot in
+    let size = c.args.size in
+    let n : ℕ = c.total.result in
+    let m : ℕ = size.data_words + size.pointers in
+    let same : n ≡ m = c.total.ensures in
+    let words : replicate {A = ℕ} m 0 ≡ replicate n 0 = ap (λ (k : ℕ). replicate {A = ℕ} k 0) (sym same) in
+    let start = c.in_ok-start.start in
+    let e = c.in_ok-start.ensures in
+    let before : start.position + n < 2 ^ 61 = e.near in
+    let near : start.position + m < 2 ^ 61 = omega (arith, before, same) in
+    record {
+      value = e.value (new_struct size.data_words size.pointers) words (sym c.struct_word.ensures.word) c.struct_word.ensures.fits;
+      object = e.object (new_struct size.data_words size.pointers) words (sym c.struct_word.ensures.word) c.struct_word.ensures.fits;
+      size = (refl, refl);
+      there = subst (λ (k : ℕ). is_some (words_at u (place_view start) k) ≡ true) same e.there;
+      near = near;
+      taken = subst (λ (k : ℕ). TakesJust s free u slot.segment k) same e.taken;
+      bound = subst (λ (k : ℕ). TakesAtMost s u k 1) same e.bound;
+      full = tt;
+      refused = tt;
+      kind = tt;
+      books = e.books;
+      grows = e.grows;
+    }

@@ -23,44 +23,54 @@ widen_list-requires-clause-short g c = λ zeros.
     let least = c.element_size-least.ensures in
     known_short s old c.args.size.data_words c.args.size.pointers (known s c.args.slot old found leads) narrow (omega (arith, zeros, c.max.ensures, c.max-2.ensures, least.0, least.1))
 
-pub returns-then-eq-clause-value : goal.returns-then-eq-clause-value
-returns-then-eq-clause-value g c =
+pub returns-then-eq : goal.returns-then-eq
+returns-then-eq g c =
     let s = words_in (g.A.ReaderArena.segments c.args.arena.now) in
     let p = place_view c.args.slot in
     let old = c.in_ok-old.old in
     let d = c.args.size.data_words in
     let k = c.args.size.pointers in
     let found : list_there s c.args.slot ≡ Ok c.in_ok-old.old = search rules in
-    elim c.then-eq.branch [
-      | then-eq-via-then-eq w ↦ (let e : word_at s p ≡ Some 0 = search rules in null_stays s p d k e)
-      | then-eq-via-else-eq+then-is_wide w ↦ (
-          let some : word_at s p ≡ Some 0 → ⊥ = search rules in
-          let leads = leads_unless_null s p old some c.in_ok-old.ensures.object in
-          let wide : IsWideList c.in_ok-old.old c.args.size.data_words c.args.size.pointers = search rules in
-          wide_list_stays s p old d k leads (known s c.args.slot old found leads) wide
-          )
-    ]
+    let free = g.A.BuilderArena.room c.args.arena.now in
+    record {
+      value = (
+          elim c.then-eq.branch [
+            | then-eq-via-then-eq w ↦ (let e : word_at s p ≡ Some 0 = search rules in null_stays s p d k e)
+            | then-eq-via-else-eq+then-is_wide w ↦ (
+                let some : word_at s p ≡ Some 0 → ⊥ = search rules in
+                let leads = leads_unless_null s p old some c.in_ok-old.ensures.object in
+                let wide : IsWideList c.in_ok-old.old c.args.size.data_words c.args.size.pointers = search rules in
+                wide_list_stays s p old d k leads (known s c.args.slot old found leads) wide
+                )
+          ]
+          );
+      list = (
+          elim c.then-eq.branch [
+            | then-eq-via-then-eq w ↦ (let e : word_at s p ≡ Some 0 = search rules in let none = null_of_structs s c.args.slot old found e in null_got s c.args.slot old d k found none.0 none.1 e)
+            | then-eq-via-else-eq+then-is_wide w ↦ (
+                let some : word_at s p ≡ Some 0 → ⊥ = search rules in
+                let leads = leads_unless_null s p old some c.in_ok-old.ensures.object in
+                let wide : IsWideList c.in_ok-old.old c.args.size.data_words c.args.size.pointers = search rules in
+                wide_got s c.args.slot old d k found leads (whole_unless_null s p old some c.in_ok-old.ensures.inside) wide
+                )
+          ]
+          );
+      taken = (
+          elim c.then-eq.branch [
+            | then-eq-via-then-eq w ↦ (let e : word_at s p ≡ Some 0 = search rules in nothing_taken s free c.args.slot d k (inl e))
+            | then-eq-via-else-eq+then-is_wide w ↦ (let wide : IsWideList c.in_ok-old.old c.args.size.data_words c.args.size.pointers = search rules in nothing_taken s free c.args.slot d k (inr (old, found, wide)))
+          ]
+          );
+      bound = list_takes_none (words_in (g.A.ReaderArena.segments c.args.arena.now)) c.args.slot c.args.size.data_words c.args.size.pointers;
+      full = search rules;
+      wide = search rules;
+      refused = search rules;
+      kind = search rules;
+      books = search rules;
+    }
 
-pub returns-then-eq-clause-list : goal.returns-then-eq-clause-list
-returns-then-eq-clause-list g c =
-    let s = words_in (g.A.ReaderArena.segments c.args.arena.now) in
-    let p = place_view c.args.slot in
-    let old = c.in_ok-old.old in
-    let d = c.args.size.data_words in
-    let k = c.args.size.pointers in
-    let found : list_there s c.args.slot ≡ Ok c.in_ok-old.old = search rules in
-    elim c.then-eq.branch [
-      | then-eq-via-then-eq w ↦ (let e : word_at s p ≡ Some 0 = search rules in let none = null_of_structs s c.args.slot old found e in null_got s c.args.slot old d k found none.0 none.1 e)
-      | then-eq-via-else-eq+then-is_wide w ↦ (
-          let some : word_at s p ≡ Some 0 → ⊥ = search rules in
-          let leads = leads_unless_null s p old some c.in_ok-old.ensures.object in
-          let wide : IsWideList c.in_ok-old.old c.args.size.data_words c.args.size.pointers = search rules in
-          wide_got s c.args.slot old d k found leads (whole_unless_null s p old some c.in_ok-old.ensures.inside) wide
-          )
-    ]
-
-pub returns-clause-value : goal.returns-clause-value
-returns-clause-value g c =
+pub returns : goal.returns
+returns g c =
     let s = words_in (g.A.ReaderArena.segments c.args.arena.now) in
     let u = words_in (g.A.ReaderArena.segments c.widen_list.new.arena) in
     let p = place_view c.args.slot in
@@ -73,90 +83,16 @@ returns-clause-value g c =
     let least = c.element_size-least.ensures in
     let ed = c.max.ensures ∙ ap (max c.args.size.data_words) least.0 in
     let ek = c.max-2.ensures ∙ ap (max c.args.size.pointers) least.1 in
-    ok_then (λ o. WidensList s u p c.max.result c.max-2.result) (λ o. WidensList s u p c.args.size.data_words c.args.size.pointers) (λ o h. most_list_widens s u p old d k c.max.result c.max-2.result leads (known s c.args.slot old found leads) ed ek h) c.widen_list.result c.widen_list.ensures.value
-
-pub returns-clause-list : goal.returns-clause-list
-returns-clause-list g c =
-    let s = words_in (g.A.ReaderArena.segments c.args.arena.now) in
-    let u = words_in (g.A.ReaderArena.segments c.widen_list.new.arena) in
-    let p = place_view c.args.slot in
-    let old = c.in_ok-old.old in
-    let d = c.args.size.data_words in
-    let k = c.args.size.pointers in
-    let found : list_there s c.args.slot ≡ Ok c.in_ok-old.old = search rules in
-    let least = c.element_size-least.ensures in
-    let ed = c.max.ensures ∙ ap (max c.args.size.data_words) least.0 in
-    let ek = c.max-2.ensures ∙ ap (max c.args.size.pointers) least.1 in
-    new_got s u c.args.slot old d k c.max.result c.max-2.result found ed ek c.widen_list.result c.widen_list.ensures.object c.widen_list.ensures.list c.widen_list.ensures.inside
-
-pub returns-clause-kind : goal.returns-clause-kind
-returns-clause-kind g c =
-    let s = words_in (g.A.ReaderArena.segments c.args.arena.now) in
-    let p = place_view c.args.slot in
-    let old = c.in_ok-old.old in
-    let d = c.args.size.data_words in
-    let k = c.args.size.pointers in
-    let found : list_there s c.args.slot ≡ Ok c.in_ok-old.old = search rules in
-    let some : word_at s p ≡ Some 0 → ⊥ = search rules in
+    let free = g.A.BuilderArena.room c.args.arena.now in
     let narrow : IsWideList c.in_ok-old.old c.args.size.data_words c.args.size.pointers → ⊥ = search rules in
-    let least = c.element_size-least.ensures in
-    let ed = c.max.ensures ∙ ap (max c.args.size.data_words) least.0 in
-    let ek = c.max-2.ensures ∙ ap (max c.args.size.pointers) least.1 in
-    err_then (GrowthRefused s (words_wanted old c.max.result c.max-2.result)) (ListRefused s p (list_there s c.args.slot) d k) (λ e h. refused_list s c.args.slot old d k c.max.result c.max-2.result e found some narrow ed ek h) c.widen_list.result c.widen_list.ensures.kind
-
-pub returns-then-eq-clause-taken : goal.returns-then-eq-clause-taken
-returns-then-eq-clause-taken g c =
-    let s = words_in (g.A.ReaderArena.segments c.args.arena.now) in
-    let free = g.A.BuilderArena.room c.args.arena.now in
-    let p = place_view c.args.slot in
-    let old = c.in_ok-old.old in
-    let d = c.args.size.data_words in
-    let k = c.args.size.pointers in
-    let found : list_there s c.args.slot ≡ Ok c.in_ok-old.old = search rules in
-    elim c.then-eq.branch [
-      | then-eq-via-then-eq w ↦ (let e : word_at s p ≡ Some 0 = search rules in nothing_taken s free c.args.slot d k (inl e))
-      | then-eq-via-else-eq+then-is_wide w ↦ (let wide : IsWideList c.in_ok-old.old c.args.size.data_words c.args.size.pointers = search rules in nothing_taken s free c.args.slot d k (inr (old, found, wide)))
-    ]
-
-pub returns-clause-taken : goal.returns-clause-taken
-returns-clause-taken g c =
-    let s = words_in (g.A.ReaderArena.segments c.args.arena.now) in
-    let u = words_in (g.A.ReaderArena.segments c.widen_list.new.arena) in
-    let free = g.A.BuilderArena.room c.args.arena.now in
-    let old = c.in_ok-old.old in
-    let d = c.args.size.data_words in
-    let k = c.args.size.pointers in
-    let found : list_there s c.args.slot ≡ Ok c.in_ok-old.old = search rules in
-    let least = c.element_size-least.ensures in
-    let ed = c.max.ensures ∙ ap (max c.args.size.data_words) least.0 in
-    let ek = c.max-2.ensures ∙ ap (max c.args.size.pointers) least.1 in
-    if_ok_then (list_takes s free u c.args.slot old d k c.max.result c.max-2.result found ed ek) c.widen_list.result c.widen_list.ensures.taken
-
-pub returns-then-eq-clause-bound : goal.returns-then-eq-clause-bound
-returns-then-eq-clause-bound g c = list_takes_none (words_in (g.A.ReaderArena.segments c.args.arena.now)) c.args.slot c.args.size.data_words c.args.size.pointers
-
-pub returns-clause-bound : goal.returns-clause-bound
-returns-clause-bound g c =
-    let s = words_in (g.A.ReaderArena.segments c.args.arena.now) in
-    let u = words_in (g.A.ReaderArena.segments c.widen_list.new.arena) in
-    let old = c.in_ok-old.old in
-    let d = c.args.size.data_words in
-    let k = c.args.size.pointers in
-    let found : list_there s c.args.slot ≡ Ok c.in_ok-old.old = search rules in
-    let least = c.element_size-least.ensures in
-    let ed = c.max.ensures ∙ ap (max c.args.size.data_words) least.0 in
-    let ek = c.max-2.ensures ∙ ap (max c.args.size.pointers) least.1 in
-    on_ok (list_takes_most s u c.args.slot old d k c.max.result c.max-2.result found ed ek) c.widen_list.result c.widen_list.ensures.bound
-
-pub returns-clause-full : goal.returns-clause-full
-returns-clause-full g c =
-    let s = words_in (g.A.ReaderArena.segments c.args.arena.now) in
-    let free = g.A.BuilderArena.room c.args.arena.now in
-    let old = c.in_ok-old.old in
-    let d = c.args.size.data_words in
-    let k = c.args.size.pointers in
-    let found : list_there s c.args.slot ≡ Ok c.in_ok-old.old = search rules in
-    let least = c.element_size-least.ensures in
-    let ed = c.max.ensures ∙ ap (max c.args.size.data_words) least.0 in
-    let ek = c.max-2.ensures ∙ ap (max c.args.size.pointers) least.1 in
-    on_err (list_lacks s free c.args.slot.segment (list_there s c.args.slot) old d k c.max.result c.max-2.result found ed ek) c.widen_list.result c.widen_list.ensures.full
+    record {
+      value = ok_then (λ o. WidensList s u p c.max.result c.max-2.result) (λ o. WidensList s u p c.args.size.data_words c.args.size.pointers) (λ o h. most_list_widens s u p old d k c.max.result c.max-2.result leads (known s c.args.slot old found leads) ed ek h) c.widen_list.result c.widen_list.ensures.value;
+      list = new_got s u c.args.slot old d k c.max.result c.max-2.result found ed ek c.widen_list.result c.widen_list.ensures.object c.widen_list.ensures.list c.widen_list.ensures.inside;
+      taken = if_ok_then (list_takes s free u c.args.slot old d k c.max.result c.max-2.result found ed ek) c.widen_list.result c.widen_list.ensures.taken;
+      bound = on_ok (list_takes_most s u c.args.slot old d k c.max.result c.max-2.result found ed ek) c.widen_list.result c.widen_list.ensures.bound;
+      full = on_err (list_lacks s free c.args.slot.segment (list_there s c.args.slot) old d k c.max.result c.max-2.result found ed ek) c.widen_list.result c.widen_list.ensures.full;
+      wide = search rules;
+      refused = search rules;
+      kind = err_then (GrowthRefused s (words_wanted old c.max.result c.max-2.result)) (ListRefused s p (list_there s c.args.slot) d k) (λ e h. refused_list s c.args.slot old d k c.max.result c.max-2.result e found some narrow ed ek h) c.widen_list.result c.widen_list.ensures.kind;
+      books = search rules;
+    }

@@ -1,4 +1,4 @@
-use Rattle.std.proofs.Common.{◌≡◌, ◌+◌, ◌*◌, ◌<◌, ℕ, length, map, true, ap, sym, ◌∙◌, subst, OnErr, rules, arith}
+use Rattle.std.proofs.Common.{◌≡◌, ◌+◌, ◌*◌, ◌<◌, ℕ, length, map, true, refl, ap, sym, ◌∙◌, subst, OnErr, rules, arith}
 use Rattle.std.specs.Option.{is_some}
 use Rattle.capnp_model.specs.Segments.{Segments, Place, after, words_at}
 use Rattle.capnp_model.specs.Pointers.{a_struct}
@@ -277,8 +277,8 @@ link-requires-clause-room g c =
     let grows = (wider_extends s m p c.args.old.start.segment (d + k) (2 * k0) room pads r).0 in
     wider_addressed s m p c.args.old.start.segment (d + k) (2 * k0) room pads (has_word s p c.requires.there) r
 
-pub returns-clause-value : goal.returns-clause-value
-returns-clause-value g c =
+pub returns : goal.returns
+returns g c =
     let s = words_in (g.A.ReaderArena.segments c.args.arena.now) in
     let m = words_in (g.A.ReaderArena.segments c.allocate_wider.new.arena) in
     let p = place_view c.args.slot in
@@ -303,120 +303,46 @@ returns-clause-value g c =
     let at : place_view c.pointers_behind-target.result ≡ after b d = c.pointers_behind-target.ensures ∙ ap (λ (q : Place). after q c.args.size.data_words) c.begin_of-start.ensures in
     let row : MovesRow x y (after a d0) (after b d) k0 (pads_of pads k0) = subst (λ (q : Place). MovesRow x y (after (place_view c.args.old.start) c.args.old.data_words) q c.args.old.pointers (pads_of c.in_ok-room.pads c.args.old.pointers)) at (subst (λ (q : Place). MovesRow x y q (place_view c.pointers_behind-target.result) c.args.old.pointers (pads_of c.in_ok-room.pads c.args.old.pointers)) c.pointers_behind-source.ensures c.move_pointers.ensures.row) in
     let links : u ≡ linked z p room (struct_pointer 0 d k) = c.link.ensures.words ∙ ap (linked z (place_view c.args.slot) c.in_ok-room.room) c.struct_word.ensures.word in
-    struct_widened s m x y z u p a c.requires.found.0 d0 k0 d k c.args.old.start.segment room pads (has_word s p c.requires.there) c.requires.found.1 c.requires.wider.0 c.requires.wider.1 some c.struct_word.ensures.fits r copies row c.clear.ensures.clears links
-
-pub returns-clause-object : goal.returns-clause-object
-returns-clause-object g c =
-    let s = words_in (g.A.ReaderArena.segments c.args.arena.now) in
-    let m = words_in (g.A.ReaderArena.segments c.allocate_wider.new.arena) in
-    let p = place_view c.args.slot in
-    let d = c.args.size.data_words in
-    let k = c.args.size.pointers in
-    let d0 = c.args.old.data_words in
-    let k0 = c.args.old.pointers in
-    let room = c.in_ok-room.room in
-    let pads = c.in_ok-room.pads in
-    let b = begin_of (place_view c.args.slot) c.in_ok-room.room in
-    let r : WiderRoom s m p c.args.old.start.segment (c.args.size.data_words + c.args.size.pointers) (2 * c.args.old.pointers) room pads = subst (λ (j : ℕ). WiderRoom s m p c.args.old.start.segment j (2 * c.args.old.pointers) room pads) c.total.ensures c.in_ok-room.ensures.ok in
-    let some : 0 < c.args.size.data_words + c.args.size.pointers = c.requires.wider.2 in
-    let w = wider_words s m p c.args.old.start.segment (d + k) k0 room pads some r in
-    let grows = (wider_extends s m p c.args.old.start.segment (d + k) (2 * k0) room pads r).0 in
-    let x = words_in (g.A.ReaderArena.segments c.copy_words.new.arena) in
-    let y = words_in (g.A.ReaderArena.segments c.move_pointers.new.arena) in
-    let z = words_in (g.A.ReaderArena.segments c.clear.new.arena) in
-    let sizes : map length z ≡ map length m = c.clear.ensures.sizes ∙ c.move_pointers.ensures.sizes ∙ c.copy_words.ensures.sizes in
-    let u = words_in (g.A.ReaderArena.segments c.link.new.arena) in
-    let links : u ≡ linked z p room (struct_pointer 0 d k) = c.link.ensures.words ∙ ap (linked z (place_view c.args.slot) c.in_ok-room.room) c.struct_word.ensures.word in
-    let there = still_some m z p 1 (sizes_grow m z sizes) (still_some s m p 1 grows c.requires.there) in
-    let all = linked_leads s m z p c.args.old.start.segment (d + k) (2 * k0) room pads (new_struct d k) (has_word s p c.requires.there) there (pad_stays m z room (sizes_grow m z sizes) w.pad) some r (some_pointer d k some) c.struct_word.ensures.fits in
-    subst (λ (q : Place). LeadsTo u p (a_struct q c.args.size.data_words c.args.size.pointers)) (sym c.begin_of-start.ensures) (subst (λ (v : Segments). LeadsTo v p (a_struct b d k)) (sym links) all)
-
-pub returns-clause-there : goal.returns-clause-there
-returns-clause-there g c =
-    let s = words_in (g.A.ReaderArena.segments c.args.arena.now) in
-    let m = words_in (g.A.ReaderArena.segments c.allocate_wider.new.arena) in
-    let p = place_view c.args.slot in
-    let d = c.args.size.data_words in
-    let k = c.args.size.pointers in
-    let d0 = c.args.old.data_words in
-    let k0 = c.args.old.pointers in
-    let room = c.in_ok-room.room in
-    let pads = c.in_ok-room.pads in
-    let b = begin_of (place_view c.args.slot) c.in_ok-room.room in
-    let r : WiderRoom s m p c.args.old.start.segment (c.args.size.data_words + c.args.size.pointers) (2 * c.args.old.pointers) room pads = subst (λ (j : ℕ). WiderRoom s m p c.args.old.start.segment j (2 * c.args.old.pointers) room pads) c.total.ensures c.in_ok-room.ensures.ok in
-    let some : 0 < c.args.size.data_words + c.args.size.pointers = c.requires.wider.2 in
-    let w = wider_words s m p c.args.old.start.segment (d + k) k0 room pads some r in
-    let grows = (wider_extends s m p c.args.old.start.segment (d + k) (2 * k0) room pads r).0 in
-    let x = words_in (g.A.ReaderArena.segments c.copy_words.new.arena) in
-    let y = words_in (g.A.ReaderArena.segments c.move_pointers.new.arena) in
-    let z = words_in (g.A.ReaderArena.segments c.clear.new.arena) in
-    let sizes : map length z ≡ map length m = c.clear.ensures.sizes ∙ c.move_pointers.ensures.sizes ∙ c.copy_words.ensures.sizes in
-    let u = words_in (g.A.ReaderArena.segments c.link.new.arena) in
-    let there = still_linked z p room c.struct_word.result b (d + k) (still_some m z b (d + k) (sizes_grow m z sizes) w.words_there) in
-    subst (λ (q : Place). is_some (words_at u q (c.args.size.data_words + c.args.size.pointers)) ≡ true) (sym c.begin_of-start.ensures) (subst (λ (v : Segments). is_some (words_at v b (d + k)) ≡ true) (sym c.link.ensures.words) there)
-
-pub returns-clause-near : goal.returns-clause-near
-returns-clause-near g c =
-    let s = words_in (g.A.ReaderArena.segments c.args.arena.now) in
-    let m = words_in (g.A.ReaderArena.segments c.allocate_wider.new.arena) in
-    let p = place_view c.args.slot in
-    let d = c.args.size.data_words in
-    let k = c.args.size.pointers in
-    let d0 = c.args.old.data_words in
-    let k0 = c.args.old.pointers in
-    let room = c.in_ok-room.room in
-    let pads = c.in_ok-room.pads in
-    let b = begin_of (place_view c.args.slot) c.in_ok-room.room in
-    let r : WiderRoom s m p c.args.old.start.segment (c.args.size.data_words + c.args.size.pointers) (2 * c.args.old.pointers) room pads = subst (λ (j : ℕ). WiderRoom s m p c.args.old.start.segment j (2 * c.args.old.pointers) room pads) c.total.ensures c.in_ok-room.ensures.ok in
-    let some : 0 < c.args.size.data_words + c.args.size.pointers = c.requires.wider.2 in
-    let w = wider_words s m p c.args.old.start.segment (d + k) k0 room pads some r in
-    let grows = (wider_extends s m p c.args.old.start.segment (d + k) (2 * k0) room pads r).0 in
+    let slot_there = still_some m z p 1 (sizes_grow m z sizes) (still_some s m p 1 grows c.requires.there) in
+    let leads = linked_leads s m z p c.args.old.start.segment (d + k) (2 * k0) room pads (new_struct d k) (has_word s p c.requires.there) slot_there (pad_stays m z room (sizes_grow m z sizes) w.pad) some r (some_pointer d k some) c.struct_word.ensures.fits in
     let l = within_total m b (d + k) w.words_there in
-    let at = ap (λ (q : Place). q.position) c.begin_of-start.ensures in
-    omega (arith, l, at, w.few)
-
-pub returns-clause-taken : goal.returns-clause-taken
-returns-clause-taken g c =
-    let s = words_in (g.A.ReaderArena.segments c.args.arena.now) in
-    let m = words_in (g.A.ReaderArena.segments c.allocate_wider.new.arena) in
-    let p = place_view c.args.slot in
-    let d = c.args.size.data_words in
-    let k = c.args.size.pointers in
-    let k0 = c.args.old.pointers in
-    let room = c.in_ok-room.room in
-    let pads = c.in_ok-room.pads in
     let segment = c.args.old.start.segment in
-    let z = words_in (g.A.ReaderArena.segments c.clear.new.arena) in
-    let sizes : map length z ≡ map length m = c.clear.ensures.sizes ∙ c.move_pointers.ensures.sizes ∙ c.copy_words.ensures.sizes in
-    let u = words_in (g.A.ReaderArena.segments c.link.new.arena) in
     let same : map length u ≡ map length m = ap (λ (v : Segments). map length v) c.link.ensures.words ∙ (linked_sizes z p room c.struct_word.result ∙ sizes) in
     let free = g.A.BuilderArena.room c.args.arena.now in
-    let all = near_so s free m u c.args.slot.segment segment c.total.result same c.in_ok-room.ensures.near in
-    subst (λ (n : ℕ). TakesNear s free u c.args.slot.segment segment n) c.total.ensures all
+    let words_there = still_linked z p room c.struct_word.result b (d + k) (still_some m z b (d + k) (sizes_grow m z sizes) w.words_there) in
+    let position = ap (λ (q : Place). q.position) c.begin_of-start.ensures in
+    let taken = near_so s free m u c.args.slot.segment segment c.total.result same c.in_ok-room.ensures.near in
+    record {
+      value = struct_widened s m x y z u p a c.requires.found.0 d0 k0 d k c.args.old.start.segment room pads (has_word s p c.requires.there) c.requires.found.1 c.requires.wider.0 c.requires.wider.1 some c.struct_word.ensures.fits r copies row c.clear.ensures.clears links;
+      object = subst (λ (q : Place). LeadsTo u p (a_struct q c.args.size.data_words c.args.size.pointers)) (sym c.begin_of-start.ensures) (subst (λ (v : Segments). LeadsTo v p (a_struct b d k)) (sym links) leads);
+      size = (refl, refl);
+      there = subst (λ (q : Place). is_some (words_at u q (c.args.size.data_words + c.args.size.pointers)) ≡ true) (sym c.begin_of-start.ensures) (subst (λ (v : Segments). is_some (words_at v b (d + k)) ≡ true) (sym c.link.ensures.words) words_there);
+      near = omega (arith, l, position, w.few);
+      taken = subst (λ (n : ℕ). TakesNear s free u c.args.slot.segment segment n) c.total.ensures taken;
+      bound = bounds_so s m u (d + k) (1 + 2 * k0) same (wider_bounds s m p segment (d + k) (2 * k0) room pads c.requires.wider.2 r);
+      full = tt;
+      refused = tt;
+      kind = tt;
+      books = c.link.ensures.books ∙ (c.clear.ensures.books ∙ (c.move_pointers.ensures.books ∙ (c.copy_words.ensures.books ∙ c.in_ok-room.ensures.books)));
+    }
 
-pub returns-clause-bound : goal.returns-clause-bound
-returns-clause-bound g c =
-    let s = words_in (g.A.ReaderArena.segments c.args.arena.now) in
-    let m = words_in (g.A.ReaderArena.segments c.allocate_wider.new.arena) in
-    let p = place_view c.args.slot in
-    let d = c.args.size.data_words in
-    let k = c.args.size.pointers in
-    let k0 = c.args.old.pointers in
-    let room = c.in_ok-room.room in
-    let pads = c.in_ok-room.pads in
-    let segment = c.args.old.start.segment in
-    let z = words_in (g.A.ReaderArena.segments c.clear.new.arena) in
-    let sizes : map length z ≡ map length m = c.clear.ensures.sizes ∙ c.move_pointers.ensures.sizes ∙ c.copy_words.ensures.sizes in
-    let u = words_in (g.A.ReaderArena.segments c.link.new.arena) in
-    let same : map length u ≡ map length m = ap (λ (v : Segments). map length v) c.link.ensures.words ∙ (linked_sizes z p room c.struct_word.result ∙ sizes) in
-    let r : WiderRoom s m p c.args.old.start.segment (c.args.size.data_words + c.args.size.pointers) (2 * c.args.old.pointers) room pads = subst (λ (j : ℕ). WiderRoom s m p c.args.old.start.segment j (2 * c.args.old.pointers) room pads) c.total.ensures c.in_ok-room.ensures.ok in
-    bounds_so s m u (d + k) (1 + 2 * k0) same (wider_bounds s m p segment (d + k) (2 * k0) room pads c.requires.wider.2 r)
-
-pub returns-in_err-room-clause-full : goal.returns-in_err-room-clause-full
-returns-in_err-room-clause-full g c =
+pub returns-in_err-room : goal.returns-in_err-room
+returns-in_err-room g c =
     let s = words_in (g.A.ReaderArena.segments c.args.arena.now) in
     let free = g.A.BuilderArena.room c.args.arena.now in
     let i = c.args.slot.segment in
     let j = c.args.old.start.segment in
     let h : OnErr c.from_residual.result (NoWiderRoom s free i j c.total.result (2 * c.args.old.pointers)) = search rules in
-    subst (λ (n : ℕ). OnErr c.from_residual.result (NoWiderRoom s free i j n (2 * c.args.old.pointers))) c.total.ensures h
+    record {
+      value = search rules;
+      object = search rules;
+      size = search rules;
+      there = search rules;
+      near = search rules;
+      taken = search rules;
+      bound = search rules;
+      full = subst (λ (n : ℕ). OnErr c.from_residual.result (NoWiderRoom s free i j n (2 * c.args.old.pointers))) c.total.ensures h;
+      refused = search rules;
+      kind = search rules;
+      books = search rules;
+    }
