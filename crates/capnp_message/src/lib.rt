@@ -8,6 +8,7 @@ pub mod laws;
 pub mod message;
 pub mod opened;
 pub mod options;
+pub mod placed;
 pub mod reader;
 pub mod roots;
 pub mod serialize;

@@ -26,9 +26,9 @@ use std::marker::PhantomData;
 
 /// A message that is built, whose root is what `T` says.
 ///
-/// It is no value that may be dropped: its message ends by `into_allocator`.
+/// It is no value that may be dropped: its message ends by `into_allocator`. Handles of its values take `&mut typed.message.memory`.
 pub struct TypedBuilder<T, A: Allocator> {
-    pub(crate) message: Builder<A>,
+    pub message: Builder<A>,
     root: PhantomData<T>,
 }
 

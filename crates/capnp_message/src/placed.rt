@@ -1,0 +1,328 @@
+//! Handles that know where their values lie, and are made at a pointer of a message that is built.
+ghost use Rattle.std.specs.Prelude.{◌≡◌, ◌+◌, ◌<◌, ◌^◌, ◌↔◌, ◌++◌, ◌∷◌, [], ℕ, None, true, IfOk, IfErr, OnErr};
+ghost use Rattle.std.specs.List.{flat_map};
+ghost use Rattle.std.specs.Option.{is_some};
+ghost use Rattle.capnp_model.specs.Segments.{Segments, words_at};
+ghost use Rattle.capnp_units.specs.Segments.{words_in};
+ghost use Rattle.capnp_units.specs.declared.errors.Error.{Error};
+ghost use Rattle.capnp_units.specs.declared.kinds.ErrorKind.TheVariants.{SizeOverflow};
+ghost use Rattle.capnp_units.specs.declared.sizes.StructSize.{StructSize};
+ghost use Rattle.capnp_object.specs.declared.place.Place as code;
+ghost use Rattle.capnp_wire.specs.Places.{place_view};
+ghost use Rattle.capnp_copy.specs.Allocations.{total_words};
+ghost use Rattle.capnp_copy.specs.declared.fields.StructPlace.{StructPlace};
+ghost use Rattle.capnp_builders.specs.Blobs.{DataMade, TextMade, DataGot, NoDataGot, TextGot, NoTextGot};
+ghost use Rattle.capnp_builders.specs.Inputs.{IsTooLong};
+ghost use Rattle.capnp_message.specs.Built.{rooted, words_held, loans_held};
+ghost use Rattle.capnp_message.specs.Placed.{root_slot, StructPlaced, StructIsTooLarge, StructFound, NoStructFound, NoRootFound};
+
+use crate::builder::Builder;
+use crate::canonical::ROOT;
+use crate::roots::begin;
+use crate::typed_builder::TypedBuilder;
+use capnp_builders::gets::struct_or_default;
+use capnp_builders::pointer_builder::PointerBuilder;
+use capnp_copy::allocator::{Allocator, SegmentBytes};
+use capnp_copy::arena::{BuilderArena, Memory};
+pub use capnp_copy::bytes::BlobPlace;
+pub use capnp_copy::fields::StructPlace;
+use capnp_copy::init::init_struct;
+use capnp_units::errors::Result;
+pub use capnp_units::sizes::StructSize;
+use capnp_wire::place::Place;
+
+/// A handle that knows where its value lies and holds no memory, so that its calls take the memory of the message. One over a struct is a `PlacedStruct`.
+pub trait Placed: Sized {
+    /// From the segments before to those then, what is made in place of the value at a place, with a count, and the handle.
+    ghost is_made: { Segments → Segments → code.Place → ℕ → Self → Type 0 };
+
+    /// With such a count it is too large for a message that has so many words.
+    ghost is_too_large: { ℕ → ℕ → Type 0 };
+
+    /// From the segments before to those then, what is got at a place, and the handle.
+    ghost is_got: { Segments → Segments → code.Place → Self → Type 0 };
+
+    /// Why it isn't got, and what stands then.
+    ghost is_not_got: { Segments → Segments → code.Place → Error → Type 0 };
+
+    /// Puts a new value in place of the pointer's, which is cleared, with so many bytes or elements; types that count none don't look at the length.
+    ///
+    /// It is refused with `SizeOverflow` just where the value is too large, else as the allocator refuses; then all stands as it was.
+    fn init_at<A: BuilderArena>(memory: &mut Memory<A>, place: Place, length: u32) -> Result<Self>
+        requires there { is_some (words_at (words_in (A.segments memory.old.arena))
+            (place_view place) 1) ≡ true }
+        requires near { place.position < 2 ^ 61 }
+        ensures books { A.books memory.new.arena ≡ A.books memory.old.arena }
+        ensures made { IfOk result (λ o.
+            is_made (words_in (A.segments memory.old.arena))
+            (words_in (A.segments memory.new.arena)) place length o) }
+        ensures refused { OnErr result
+            (A.segments memory.new.arena ≡ A.segments memory.old.arena) }
+        ensures kind { IfErr result (λ e.
+            (e.kind ≡ SizeOverflow)
+            ↔ is_too_large length
+            (total_words (words_in (A.segments memory.old.arena)))) };
+
+    /// The value that the pointer names.
+    ///
+    /// It is refused as the type says.
+    fn get_at<A: BuilderArena>(memory: &mut Memory<A>, place: Place) -> Result<Self>
+        requires there { is_some (words_at (words_in (A.segments memory.old.arena))
+            (place_view place) 1) ≡ true }
+        requires near { place.position < 2 ^ 61 }
+        ensures books { A.books memory.new.arena ≡ A.books memory.old.arena }
+        ensures got { IfOk result (λ o.
+            is_got (words_in (A.segments memory.old.arena))
+            (words_in (A.segments memory.new.arena)) place o) }
+        ensures refused { IfErr result (λ e.
+            is_not_got (words_in (A.segments memory.old.arena))
+            (words_in (A.segments memory.new.arena)) place e) };
+}
+
+/// A handle over a struct: it is made of the place where the struct lies, and so are roots of its type.
+pub trait PlacedStruct: Sized {
+    /// The data words and the pointers of such a struct.
+    ghost STRUCT_SIZE: { StructSize };
+
+    /// The place.
+    ghost place_of: { Self → StructPlace };
+
+    /// The data words and the pointers of such a struct.
+    const STRUCT_SIZE: StructSize;
+
+    /// The handle of the struct at a place.
+    fn at_place(place: StructPlace) -> Self
+        ensures { place_of result ≡ place };
+}
+
+/// A type of values, with the handle that they are built by.
+pub trait OwnedPlaced {
+    /// The handle.
+    type Builder: Placed;
+}
+
+/// Puts a struct of zeros and nulls in place of the pointer's value, which is cleared, and answers where it lies.
+///
+/// It is refused with `SizeOverflow` just where the message's words would pass 2^29 - 1 with a pad counted, else as the allocator refuses; then all stands as it was.
+fn init_struct_at<A: BuilderArena>(
+    memory: &mut Memory<A>,
+    place: Place,
+    size: StructSize,
+) -> Result<StructPlace>
+    requires there { is_some (words_at (words_in (A.segments memory.old.arena))
+        (place_view place) 1) ≡ true }
+    requires near { place.position < 2 ^ 61 }
+    ensures books { A.books memory.new.arena ≡ A.books memory.old.arena }
+    ensures made { IfOk result
+        (StructPlaced size (words_in (A.segments memory.old.arena))
+        (words_in (A.segments memory.new.arena)) place) }
+    ensures refused { OnErr result
+        (A.segments memory.new.arena ≡ A.segments memory.old.arena) }
+    ensures kind { IfErr result (λ e.
+        (e.kind ≡ SizeOverflow)
+        ↔ StructIsTooLarge size
+        (total_words (words_in (A.segments memory.old.arena)))) }
+{
+    init_struct(&mut memory.arena, place, size)
+}
+
+/// The struct that the pointer names, with at least these sections, as `PointerBuilder::get_struct` gives it without a default.
+fn get_struct_at<A: BuilderArena>(
+    memory: &mut Memory<A>,
+    place: Place,
+    size: StructSize,
+) -> Result<StructPlace>
+    requires there { is_some (words_at (words_in (A.segments memory.old.arena))
+        (place_view place) 1) ≡ true }
+    requires near { place.position < 2 ^ 61 }
+    ensures books { A.books memory.new.arena ≡ A.books memory.old.arena }
+    ensures got { IfOk result
+        (StructFound size (words_in (A.segments memory.old.arena))
+        (words_in (A.segments memory.new.arena)) place) }
+    ensures refused { IfErr result
+        (NoStructFound size (words_in (A.segments memory.old.arena))
+        (words_in (A.segments memory.new.arena)) place) }
+{
+    struct_or_default(&mut memory.arena, place, size, None)
+}
+
+/// A struct is made of zeros and nulls, whatever the count, and got with at least the sizes of its type.
+impl<T: PlacedStruct> Placed for T {
+    ghost is_made = { λ s u slot n o. StructPlaced T.STRUCT_SIZE s u slot (T.place_of o) };
+
+    ghost is_too_large = { λ n words. StructIsTooLarge T.STRUCT_SIZE words };
+
+    ghost is_got = { λ s u slot o. StructFound T.STRUCT_SIZE s u slot (T.place_of o) };
+
+    ghost is_not_got = { λ s u slot e. NoStructFound T.STRUCT_SIZE s u slot e };
+
+    fn init_at<A: BuilderArena>(memory: &mut Memory<A>, place: Place, _length: u32) -> Result<T> {
+        let place = init_struct_at(memory, place, T::STRUCT_SIZE)?;
+        Ok(T::at_place(place))
+    }
+
+    fn get_at<A: BuilderArena>(memory: &mut Memory<A>, place: Place) -> Result<T> {
+        let place = get_struct_at(memory, place, T::STRUCT_SIZE)?;
+        Ok(T::at_place(place))
+    }
+}
+
+/// Where the bytes of a text lie, its zero byte not counted; a `TextBuilder` over the place writes them.
+#[derive(Clone, Copy)]
+pub struct TextPlace(pub BlobPlace);
+
+/// A text is made of so many zero bytes.
+impl Placed for TextPlace {
+    ghost is_made = { λ s u slot n o. TextMade s u slot n o.0 };
+
+    ghost is_too_large = { λ n words. IsTooLong (n + 1) words };
+
+    ghost is_got = { λ s u slot o. TextGot None s u slot o.0 };
+
+    ghost is_not_got = { λ s u slot e. NoTextGot None s u slot e };
+
+    fn init_at<A: BuilderArena>(
+        memory: &mut Memory<A>,
+        place: Place,
+        length: u32,
+    ) -> Result<TextPlace> {
+        let pointer = PointerBuilder { memory, place };
+        Ok(TextPlace(pointer.init_text(length)?.place))
+    }
+
+    fn get_at<A: BuilderArena>(memory: &mut Memory<A>, place: Place) -> Result<TextPlace> {
+        let pointer = PointerBuilder { memory, place };
+        Ok(TextPlace(pointer.get_text(None)?.place))
+    }
+}
+
+/// Where data lie; a `DataBuilder` over the place writes them.
+#[derive(Clone, Copy)]
+pub struct DataPlace(pub BlobPlace);
+
+/// Data are made of so many zero bytes.
+impl Placed for DataPlace {
+    ghost is_made = { λ s u slot n o. DataMade s u slot n o.0 };
+
+    ghost is_too_large = { λ n words. IsTooLong n words };
+
+    ghost is_got = { λ s u slot o. DataGot None s u slot o.0 };
+
+    ghost is_not_got = { λ s u slot e. NoDataGot None s u slot e };
+
+    fn init_at<A: BuilderArena>(
+        memory: &mut Memory<A>,
+        place: Place,
+        length: u32,
+    ) -> Result<DataPlace> {
+        let pointer = PointerBuilder { memory, place };
+        Ok(DataPlace(pointer.init_data(length)?.place))
+    }
+
+    fn get_at<A: BuilderArena>(memory: &mut Memory<A>, place: Place) -> Result<DataPlace> {
+        let pointer = PointerBuilder { memory, place };
+        Ok(DataPlace(pointer.get_data(None)?.place))
+    }
+}
+
+impl<A: Allocator> Builder<A> {
+    /// Puts a new value of so many bytes or elements at the root, in place of the one that it had, which is cleared, and answers its handle.
+    ///
+    /// It is refused with `SizeOverflow` only where the value is too large for the message, else as the allocator refuses; or with `OutOfBounds` where the first segment was allocated by hand and has no word. Then all stands as it was, but that a root that is null may have been made.
+    pub fn initn_root<T: Placed>(&mut self, length: u32) -> Result<T>
+        ensures made { IfOk result (T.is_made (rooted (words_held self.old.memory.arena))
+            (words_held self.new.memory.arena) root_slot length) }
+        ensures refused { OnErr result (rooted (words_held self.new.memory.arena)
+            ≡ rooted (words_held self.old.memory.arena)) }
+        ensures kind { IfErr result (λ e. e.kind ≡ SizeOverflow
+            → T.is_too_large length (total_words (rooted (words_held self.old.memory.arena)))) }
+        ensures place { A.place self.new.memory.arena.allocator
+            ≡ A.place self.old.memory.arena.allocator }
+        ensures loans { loans_held self.new.memory.arena ≡ loans_held self.old.memory.arena }
+    {
+        begin(&mut self.memory.arena)?;
+        T::init_at(&mut self.memory, ROOT, length)
+    }
+
+    /// The same with no bytes or elements: a struct of zeros and nulls, for a handle over structs.
+    pub fn init_root<T: Placed>(&mut self) -> Result<T>
+        ensures made { IfOk result (T.is_made (rooted (words_held self.old.memory.arena))
+            (words_held self.new.memory.arena) root_slot 0) }
+        ensures refused { OnErr result (rooted (words_held self.new.memory.arena)
+            ≡ rooted (words_held self.old.memory.arena)) }
+        ensures kind { IfErr result (λ e. e.kind ≡ SizeOverflow
+            → T.is_too_large 0 (total_words (rooted (words_held self.old.memory.arena)))) }
+        ensures place { A.place self.new.memory.arena.allocator
+            ≡ A.place self.old.memory.arena.allocator }
+        ensures loans { loans_held self.new.memory.arena ≡ loans_held self.old.memory.arena }
+    {
+        self.initn_root(0)
+    }
+
+    /// The handle of the value that the root has, which is made, as null, where the message has no segment yet.
+    ///
+    /// Where there is no root it is refused as the allocator refuses, or with `OutOfBounds` where the first segment was allocated by hand and has no word, and all stands as it was; else as the type refuses it.
+    pub fn get_root<T: Placed>(&mut self) -> Result<T>
+        ensures got { IfOk result (T.is_got (rooted (words_held self.old.memory.arena))
+            (words_held self.new.memory.arena) root_slot) }
+        ensures refused { IfErr result (NoRootFound T.is_not_got (words_held self.old.memory.arena)
+            (words_held self.new.memory.arena)) }
+        ensures place { A.place self.new.memory.arena.allocator
+            ≡ A.place self.old.memory.arena.allocator }
+        ensures loans { loans_held self.new.memory.arena ≡ loans_held self.old.memory.arena }
+    {
+        begin(&mut self.memory.arena)?;
+        T::get_at(&mut self.memory, ROOT)
+    }
+}
+
+impl<T: OwnedPlaced, A: Allocator> TypedBuilder<T, A> {
+    /// Puts a new value of so many bytes or elements at the root, as `Builder::initn_root`.
+    pub fn initn_root(&mut self, length: u32) -> Result<T::Builder>
+        ensures made { IfOk result (T.Builder.is_made
+            (rooted (words_held self.old.message.memory.arena))
+            (words_held self.new.message.memory.arena) root_slot length) }
+        ensures refused { OnErr result (rooted (words_held self.new.message.memory.arena)
+            ≡ rooted (words_held self.old.message.memory.arena)) }
+        ensures kind { IfErr result (λ e. e.kind ≡ SizeOverflow → T.Builder.is_too_large length
+            (total_words (rooted (words_held self.old.message.memory.arena)))) }
+        ensures place { A.place self.new.message.memory.arena.allocator
+            ≡ A.place self.old.message.memory.arena.allocator }
+        ensures loans { loans_held self.new.message.memory.arena
+            ≡ loans_held self.old.message.memory.arena }
+    {
+        self.message.initn_root(length)
+    }
+
+    /// Puts a new value without bytes or elements at the root, as `Builder::init_root`.
+    pub fn init_root(&mut self) -> Result<T::Builder>
+        ensures made { IfOk result (T.Builder.is_made
+            (rooted (words_held self.old.message.memory.arena))
+            (words_held self.new.message.memory.arena) root_slot 0) }
+        ensures refused { OnErr result (rooted (words_held self.new.message.memory.arena)
+            ≡ rooted (words_held self.old.message.memory.arena)) }
+        ensures kind { IfErr result (λ e. e.kind ≡ SizeOverflow → T.Builder.is_too_large 0
+            (total_words (rooted (words_held self.old.message.memory.arena)))) }
+        ensures place { A.place self.new.message.memory.arena.allocator
+            ≡ A.place self.old.message.memory.arena.allocator }
+        ensures loans { loans_held self.new.message.memory.arena
+            ≡ loans_held self.old.message.memory.arena }
+    {
+        self.message.init_root()
+    }
+
+    /// The handle of the value that the root has, as `Builder::get_root`.
+    pub fn get_root(&mut self) -> Result<T::Builder>
+        ensures got { IfOk result (T.Builder.is_got
+            (rooted (words_held self.old.message.memory.arena))
+            (words_held self.new.message.memory.arena) root_slot) }
+        ensures refused { IfErr result (NoRootFound T.Builder.is_not_got
+            (words_held self.old.message.memory.arena) (words_held self.new.message.memory.arena)) }
+        ensures place { A.place self.new.message.memory.arena.allocator
+            ≡ A.place self.old.message.memory.arena.allocator }
+        ensures loans { loans_held self.new.message.memory.arena
+            ≡ loans_held self.old.message.memory.arena }
+    {
+        self.message.get_root()
+    }
+}
