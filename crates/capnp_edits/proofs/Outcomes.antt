@@ -45,7 +45,7 @@ never_zero : (o : Option ℕ) → option_map (λ j. suc j) o ≡ Some 0 → ⊥
 never_zero None h = cc h
 never_zero (Some j) h = cc h
 
-found_at : (n : List ℕ) (fs : Fields) (i : ℕ) (e : Entry) → place_of_name n fs ≡ Some i → field_at fs i ≡ Some e → target_of n fs ≡ target e.member e.body
+pub found_at : (n : List ℕ) (fs : Fields) (i : ℕ) (e : Entry) → place_of_name n fs ≡ Some i → field_at fs i ≡ Some e → target_of n fs ≡ target e.member e.body
 found_at n no_fields i e p h = absurd (cc h)
 found_at n (field m member body fs) zero e p h = by (bytes_eq m n) p
   where

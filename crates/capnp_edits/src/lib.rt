@@ -15,4 +15,4 @@ mod names;
 pub mod path;
 mod roots;
 mod schemas;
-mod values;
+pub mod values;

@@ -27,8 +27,8 @@ use capnp_units::kinds::ErrorKind;
 use capnp_values::dynamic_value::Reader;
 use capnp_wire::arena::NullArena;
 
-/// The bits of a value in a slot of a plain type; none where it is of another sort or out of range.
-pub(crate) fn bits_for(ty: PlainType, value: &SlotValue) -> Option<u64>
+/// The bits of a value in a slot of a plain type, the default not yet put to them; none where it is of another sort or out of range.
+pub fn bits_for(ty: PlainType, value: &SlotValue) -> Option<u64>
     ensures content { bits_content result
         ≡ plain_content (plain_of ty) (slot_value_view value.now) }
     ensures fit { IfSome result (λ n. n < 2 ^ width (plain_of ty)) }

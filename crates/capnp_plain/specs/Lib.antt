@@ -1,1 +1,3 @@
 pub mod PlainSets
+pub mod DataWords
+pub mod PlainFields

@@ -1,5 +1,7 @@
 //! Calls that set plain fields of a root, resolved once, and written where a message's canonical words stand.
 #![tactic(auto)]
 
+mod fields;
 pub mod plain;
 pub mod sets;
+mod words;

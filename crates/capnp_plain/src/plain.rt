@@ -12,6 +12,7 @@ pub struct PlainSet {
     pub width: u32,
     /// The number, with the field's default already put to it.
     pub bits: u64,
+    pub ghost some: { 0 < width },
     pub ghost inside: { shift + width ≤ 64 },
     pub ghost fits: { bits < 2 ^ width },
 }

@@ -1,5 +1,5 @@
 //! Calls that set plain fields of a root.
-ghost use Rattle.std.specs.Prelude.{◌≡◌, ◌+◌, ◌^◌, ◌<◌, ◌≤◌, List, true, map, length, IfOk, IfErr, IfSome};
+ghost use Rattle.std.specs.Prelude.{◌≡◌, List, true, map, length, IfOk, IfErr, IfSome};
 ghost use Rattle.capnp_units.specs.declared.kinds.ErrorKind.{ErrorKind};
 ghost use Rattle.capnp_model.specs.Trees.{Tree};
 ghost use Rattle.capnp_model.specs.Trimming.{trim};
@@ -11,7 +11,9 @@ ghost use Rattle.capnp_calls.specs.CallViews.{call_view};
 ghost use Rattle.capnp_canonical.specs.Writes.{words_view};
 ghost use Rattle.capnp_plain.specs.PlainSets.{IsPlain, ArePlain, SetsWords};
 
+use crate::fields::{field_set, only_name, value_set};
 use crate::plain::PlainSet;
+use crate::words::put_in_root;
 use capnp_calls::Call;
 use capnp_queries::structs::StructSchema;
 use capnp_units::errors::Result;
@@ -19,33 +21,44 @@ use capnp_units::sizes::Word;
 use std::alloc::Global;
 
 /// What a call puts into the data of a root; none where it isn't the `set` of a plain field of the root that is no member of a union, to a value of its type.
-pub fn plain_set(_schema: StructSchema<'_>, _call: &Call) -> Option<PlainSet>
-    ensures { IfSome result (IsPlain _schema.entry (call_view _call.now)) }
+pub fn plain_set(schema: StructSchema<'_>, call: &Call) -> Option<PlainSet>
+    ensures { IfSome result (IsPlain schema.entry (call_view call.now)) }
 {
-    None
+    let value = value_set(call.action())?;
+    let name = only_name(call.path())?;
+    match schema.get_field_by_name(name) {
+        Ok(field) => field_set(field, value),
+        Err(_) => None,
+    }
 }
 
 /// What each call puts into the data of a root; none where one puts none. `OutOfMemory`: the list can't grow.
 pub fn plain_sets(
-    _alloc: Global,
-    _schema: StructSchema<'_>,
-    _calls: &[Call],
+    alloc: Global,
+    schema: StructSchema<'_>,
+    calls: &[Call],
 ) -> Result<Option<Vec<PlainSet>>>
     ensures plain { IfOk result (λ found. IfSome found
-        (λ sets. ArePlain _schema.entry (map call_view _calls.now) sets.items)) }
+        (λ sets. ArePlain schema.entry (map call_view calls.now) sets.items)) }
     ensures kind { IfErr result (λ e. e.kind ≡ ErrorKind.OutOfMemory) }
 {
-    Ok(None)
+    let mut sets = Vec::new(alloc);
+    for call in calls {
+        match plain_set(schema, call) {
+            Some(set) => sets.push(set)?,
+            None => return Ok(None),
+        }
+    }
+    Ok(Some(sets))
 }
 
 /// Puts numbers into the data of a root whose message is these canonical words, and says whether they are the canonical words of what that makes, trimmed: where the root is no struct with a word for each number, or its last data word becomes zero, they aren't, and some of the numbers may be put. Nothing but the root's data changes.
-pub fn write_sets(words: &mut [Word], _sets: &[PlainSet]) -> bool
+pub fn write_sets(words: &mut [Word], sets: &[PlainSet]) -> bool
     ensures sets { (schema : AnySchema) (calls : List ModelCall) (t : Tree) → result ≡ true
-        → ArePlain schema calls _sets.now → Fits t → trim t ≡ t
+        → ArePlain schema calls sets.now → Fits t → trim t ≡ t
         → words_view words.old ≡ canonical_words t
         → SetsWords schema calls t (words_view words.new) }
     ensures len { length words.new ≡ length words.old }
 {
-    let _count = words.len();
-    false
+    put_in_root(words, sets)
 }
