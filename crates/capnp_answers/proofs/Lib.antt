@@ -2,3 +2,4 @@ pub mod Walks
 pub mod Heads
 pub mod Edited
 pub mod Whole
+pub mod Alone

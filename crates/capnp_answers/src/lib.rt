@@ -4,4 +4,5 @@
 pub mod answer;
 pub mod bounds;
 mod built;
+mod near;
 mod reading;

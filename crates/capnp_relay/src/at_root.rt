@@ -9,7 +9,7 @@ use capnp_calls::laws::{calls_are_given, roots_are_no_groups};
 use capnp_model::laws_of_edits::records_of_written_values;
 use capnp_object::arena::ReaderArenaImpl;
 use capnp_queries::structs::StructSchema;
-use capnp_stream::segments::OwnedSegments;
+use capnp_stream::buffers::NoAllocSliceSegments;
 use capnp_units::sizes::Word;
 use std::alloc::Global;
 
@@ -35,7 +35,7 @@ impl<'a> Answers for CallsAtRoot<'a> {
     fn answer(
         &self,
         alloc: Global,
-        message: &OwnedSegments,
+        message: &NoAllocSliceSegments<'_>,
         region: &mut [u8],
         words: &mut Vec<Word>,
     ) -> Result<MessageAnswer, Want> {

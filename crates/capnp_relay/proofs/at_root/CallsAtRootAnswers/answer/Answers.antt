@@ -1,6 +1,7 @@
 use Rattle.std.proofs.Common.{map}
 use Rattle.std.proofs.lemmas.Result.{IfOk-weaker}
-use Rattle.capnp_stream.specs.Segments.{segments_of}
+use Rattle.capnp_units.specs.Segments.{words_in}
+use Rattle.capnp_stream.specs.Buffers.{found_segments}
 use Rattle.capnp_calls.specs.CallViews.{call_view}
 use Rattle.capnp_answers.specs.Answers.{answer_view}
 use Rattle.capnp_relay.proofs.Reading.{ReadsAsMade-of}
@@ -9,7 +10,7 @@ use Rattle.capnp_relay.proofs.at_root.CallsAtRootAnswers.answer.Goals as goal
 pub returns-clause-value : goal.returns-clause-value
 returns-clause-value c =
     let here = c.args.self.now in
-    let s = segments_of c.args.message.now in
+    let s = words_in (found_segments c.args.message.now) in
     let into = c.answer_in_place.new.words.items in
     let no_group = c.roots_are_no_groups.ensures here.schema here.root in
     let given = c.calls_are_given.ensures here.schema here.calls.now in
