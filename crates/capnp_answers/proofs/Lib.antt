@@ -3,3 +3,4 @@ pub mod Heads
 pub mod Edited
 pub mod Whole
 pub mod Alone
+pub mod Plain

@@ -6,3 +6,4 @@ pub mod bounds;
 mod built;
 mod near;
 mod reading;
+pub mod root_calls;

@@ -1,16 +1,18 @@
 //! The relay.
 ghost use Rattle.std.specs.Prelude.{◌≡◌, ◌+◌, ◌*◌, length, replicate};
 ghost use Rattle.capnp_calls.specs.Taken.{IsRoot};
+ghost use Rattle.capnp_relay.specs.declared.ends.Fault.{Fault};
 ghost use Rattle.capnp_relay.specs.Streams.{streams_of};
 ghost use Rattle.capnp_relay.specs.Run.{Relays};
 ghost use Rattle.capnp_relay.specs.Pauses.{RelaysPausing};
 ghost use Rattle.capnp_relay.specs.Relaying.{relay_work};
 
 use crate::at_root::CallsAtRoot;
-use crate::ends::{Counts, RelayFault};
+use crate::ends::{Counts, Fault, RelayFault};
 use crate::options::{Form, RelayOptions};
 use crate::pauses::{NoPause, Pause};
 use crate::run::answer_all;
+use capnp_answers::root_calls::RootCalls;
 use capnp_calls::Call;
 use capnp_packing::form::Packed;
 use capnp_queries::structs::StructSchema;
@@ -43,6 +45,20 @@ pub fn relay<R: BufRead, W: Write, L: Write>(
     relay_pausing::<R, W, L, NoPause>(alloc, source, out, log, root, calls, options, region)
 }
 
+/// A run that wants memory before it answers a message.
+fn wants_memory() -> RelayFault
+    ensures fault { result.fault ≡ Fault.Memory }
+    ensures counts { (result.counts.written ≡ 0) × (result.counts.refused ≡ 0) }
+{
+    RelayFault {
+        fault: Fault::Memory,
+        counts: Counts {
+            written: 0,
+            refused: 0,
+        },
+    }
+}
+
 /// As `relay`, with a pause before each message is read and a region of any length: a message that doesn't fit into it is edited in memory from `alloc`. A fault of a pause ends the run as `Out` or `Log`: the messages before it
 /// are answered whole.
 pub fn relay_pausing<R: BufRead, W: Write, L: Write, P: Pause<R, W, L>>(
@@ -63,8 +79,11 @@ pub fn relay_pausing<R: BufRead, W: Write, L: Write, P: Pause<R, W, L>>(
 {
     region.fill(0);
     let limit = options.bounds.words as usize;
+    let calls = match RootCalls::new(alloc, root, calls) {
+        Ok(calls) => calls,
+        Err(_) => return Err(wants_memory()),
+    };
     let answers = CallsAtRoot {
-        schema: root,
         calls,
         bounds: options.bounds,
     };

@@ -11,7 +11,7 @@ ghost use Rattle.capnp_stream.specs.Buffers.{found_segments};
 ghost use Rattle.capnp_stream.specs.Segments.{whole_words, words_in};
 ghost use Rattle.capnp_stream.specs.Writing.{IsSegment};
 ghost use Rattle.capnp_answers.specs.Answers.{answer_view, StandsIn};
-ghost use Rattle.capnp_relay.specs.Answers.{written_one, refused_one};
+ghost use Rattle.capnp_relay.specs.Answers.{written_one, refused_one, WritesFront};
 ghost use Rattle.capnp_relay.specs.Streams.{SinkTakes, sink_of, streams_of};
 ghost use Rattle.capnp_relay.specs.Work.{work_by};
 ghost use Rattle.capnp_relay.specs.Stops.{Steps, SinkRefused};
@@ -126,6 +126,19 @@ fn segment_of(words: &[Word], count: usize) -> &[u8]
     words_as_bytes(front)
 }
 
+/// How many words at the front of a buffer are written for an answer; none where the message is skipped.
+#[inline]
+fn written_count(answer: &MessageAnswer) -> Option<usize>
+    ensures { (words : List (List ℕ)) → StandsIn words answer.now
+        → WritesFront words (answer_view words answer.now) result }
+{
+    match answer {
+        MessageAnswer::Written { count, replies: _ } => Some(*count),
+        MessageAnswer::Done { count, calls: _ } => Some(*count),
+        MessageAnswer::Refused(_) => None,
+    }
+}
+
 /// Writes a written answer, whose words stand at the front of these, as one message, and counts it.
 fn put_out<O: MessageForm, W: Write>(
     out: &mut W,
@@ -145,8 +158,8 @@ fn put_out<O: MessageForm, W: Write>(
         × SinkRefused Fault.Out W.may_grow f (sink out.old) (sink out.new)
         (spelled O.writer segments) × (counts.new ≡ counts.old)) }
 {
-    if let MessageAnswer::Written { count, replies: _ } = answer {
-        let segment = segment_of(words, *count);
+    if let Some(count) = written_count(answer) {
+        let segment = segment_of(words, count);
         if let Err(e) = write_segment_in::<O, W>(out, segment) {
             return Err(sink_fault(e, Fault::Out));
         }
