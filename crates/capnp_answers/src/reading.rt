@@ -30,6 +30,7 @@ pub(crate) const ROOT: Place = Place {
 const MESSAGE_WORDS: usize = 0x2000_0000;
 
 /// Makes the buffer at least so many words long. `OutOfMemory`: it can't grow.
+#[inline]
 pub(crate) fn make_room(words: &mut Vec<Word>, count: usize) -> Result<()>
     ensures { OnOk result (count ≤ length words.new.items) }
 {
@@ -102,6 +103,7 @@ fn stands_canonical(message: &OneSegment<'_>, bounds: Bounds) -> bool
 }
 
 /// Puts words over the first of a buffer.
+#[inline]
 fn lay_front(into: &mut [Word], row: &[Word])
     requires { length row.now ≤ length into.old }
     ensures { into.new ≡ row.now ++ drop (length row.now) into.old }
@@ -148,6 +150,7 @@ pub(crate) fn read_value<M: ReaderArena>(
 }
 
 /// Whether the value whose words stand at the front of a buffer, so many, is a struct or null.
+#[inline]
 pub(crate) fn can_be_opened(words: &[Word], count: usize) -> bool
     requires { (0 < count) × (count ≤ length words.now) }
     ensures { (t : Tree) → filled count words.now ≡ canonical_words t → result ≡ can_be_opened t }

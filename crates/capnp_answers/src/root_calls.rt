@@ -25,7 +25,7 @@ pub struct RootCalls<'a> {
     pub(crate) calls: &'a [Call],
     sets: Option<Vec<PlainSet>>,
     pub ghost root: { IsRoot schema },
-    pub ghost found: { ∥ IfSome sets (λ s. ArePlain schema (map call_view calls.now) s.items) ∥₁ },
+    ghost found: { ∥ IfSome sets (λ s. ArePlain schema (map call_view calls.now) s.items) ∥₁ },
 }
 
 impl<'a> RootCalls<'a> {
@@ -52,7 +52,7 @@ impl<'a> RootCalls<'a> {
         self.sets.is_some()
     }
 
-    /// Puts what the calls set into the canonical words at the front of a buffer, so many, of a message whose root is a struct, and says whether they are the canonical words of what the calls make of it, each of which is done. If not, some of it may be put.
+    /// Puts what the calls set into the canonical words of a message, which stand at the front of a buffer, so many, and says whether they are then the canonical words of what the calls make of it, each of which is done. If not, some of it may be put.
     pub(crate) fn put(&self, words: &mut [Word], count: usize) -> bool
         requires { count ≤ length words.old }
         ensures sets { (t : Tree) → result ≡ true → Fits t → trim t ≡ t

@@ -12,6 +12,7 @@ use itoa::Buffer;
 use std::alloc::AllocError;
 
 /// Appends a reply.
+#[inline]
 fn push_reply(line: &mut Vec<u8>, reply: &Reply) -> Result<(), AllocError>
     ensures { OnOk result (line.new.items ≡ line.old.items ++ reply_words (reply_view reply.now)) }
 {
@@ -80,6 +81,7 @@ fn push_answer(line: &mut Vec<u8>, answer: &MessageAnswer) -> Result<(), AllocEr
 }
 
 /// Appends a number in decimal.
+#[inline]
 fn push_number(line: &mut Vec<u8>, number: u64) -> Result<(), AllocError>
     ensures { OnOk result (line.new.items ≡ line.old.items ++ decimal number) }
 {

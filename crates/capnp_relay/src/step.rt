@@ -115,6 +115,7 @@ fn sink_fault(e: Error, sink: Fault) -> Fault
 }
 
 /// The first words, so many, as the bytes of a segment.
+#[inline]
 fn segment_of(words: &[Word], count: usize) -> &[u8]
     requires there { count ≤ length words.now }
     requires few { count < 2 ^ 29 }
@@ -169,6 +170,7 @@ fn put_out<O: MessageForm, W: Write>(
 }
 
 /// Writes the line of an answer, and counts a refusal.
+#[inline]
 fn put_log<L: Write>(
     log: &mut L,
     answer: &MessageAnswer,

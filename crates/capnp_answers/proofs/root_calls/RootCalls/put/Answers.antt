@@ -14,6 +14,6 @@ returns-in-Some-clause-sets c t done fits trimmed same =
     let old = c.args.words.now in
     let new = c.write_sets.new.words in
     ∥∥₁_elim c.args.self.now.found (SetsWords-prop schema calls t (filled count (new ++ drop count old))) (λ plain.
-        let here = rw c.in-Some.is at plain in
-        subst (SetsWords schema calls t) (sym (front_new count old new c.write_sets.ensures.len c.requires))
-        (c.write_sets.ensures.sets schema calls t done (subst (ArePlain schema calls) (sym c.deref.ensures.value) here) fits trimmed (front_old count old ∙ same)))
+    let here = rw c.in-Some.is at plain in
+    subst (SetsWords schema calls t) (sym (front_new count old new c.write_sets.ensures.len c.requires))
+    (c.write_sets.ensures.sets schema calls t done (subst (ArePlain schema calls) (sym c.deref.ensures.value) here) fits trimmed (front_old count old ∙ same)))
