@@ -1,5 +1,5 @@
 -- Calls that set plain fields of a root, put where the words of its message stand.
-use Rattle.std.proofs.Common.{◌≡◌, ℕ, ◌+◌, ◌<◌, ◌≤◌, ◌^◌, true, Some, List, [], ◌∷◌, ◌++◌, length, take, drop, refl, ap, sym, ◌∙◌, subst, length-drop, length-take, arith}
+use Rattle.std.proofs.Common.{◌≡◌, ℕ, ◌<◌, ◌≤◌, ◌^◌, true, Some, List, [], ◌∷◌, ◌++◌, length, take, drop, refl, ap, sym, ◌∙◌, subst, length-take, arith}
 use Rattle.std.specs.Prelude.{nat_le, replicate}
 use Rattle.std.specs.Coded.{×_prop, Unit-prop}
 use Rattle.std.specs.Int.{from_le_bytes, w64}

@@ -1,4 +1,4 @@
-use Rattle.std.proofs.Common.{◌≡◌, List, ℕ, ◌/◌, ◌≤◌, ◌++◌, length, take, drop, ap, sym, ◌∙◌, arith}
+use Rattle.std.proofs.Common.{◌≡◌, List, ℕ, ◌/◌, ◌++◌, length, drop, ap, ◌∙◌}
 use Rattle.capnp_canonical.specs.Writes.{words_view}
 use Rattle.capnp_canonical.proofs.Rowing.{chunks_are_words}
 use Rattle.capnp_answers.proofs.Alone.{front_filled}

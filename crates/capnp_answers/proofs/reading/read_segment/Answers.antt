@@ -1,7 +1,3 @@
-use Rattle.std.proofs.Common.{subst, sym}
-use Rattle.std.specs.Bool.{OnTrue}
-use Rattle.capnp_units.specs.Segments.{whole_words}
-use Rattle.capnp_answers.specs.Reading.{StandsCanonical}
 use Rattle.capnp_answers.proofs.Alone.{copied}
 use Rattle.capnp_answers.proofs.reading.read_segment.Goals as goal
 
