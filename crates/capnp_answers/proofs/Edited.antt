@@ -10,7 +10,7 @@ use Rattle.capnp_model.specs.Trimming.{trim}
 use Rattle.capnp_model.specs.Encoding.{canonical_words}
 use Rattle.capnp_model.specs.Traversal.{tree_at}
 use Rattle.capnp_model.specs.Calls.{Call}
-use Rattle.capnp_model.specs.Answers.{written, refused_depth, answer_struct, edits, replies, widened_root}
+use Rattle.capnp_model.specs.Answers.{Reply as ModelReply, written, refused_depth, answer_struct, edits, replies, widened_root}
 use Rattle.capnp_units.specs.declared.limiter.ReadLimiter.{ReadLimiter}
 use Rattle.capnp_queries.specs.Structs.{schema_around, shape_of_struct, id_of}
 use Rattle.capnp_queries.specs.declared.structs.StructSchema.{StructSchema}
@@ -39,8 +39,8 @@ pub record EditLaws : Type 0 where
   pub trim_depth : (t : Tree) → depth (trim t) ≤ depth t
   pub means : (t : Tree) (n : ℕ) → Fits t → depth t ≤ n → length (canonical_words t) ≤ 2 ^ 29 → tree_at n (canonical_words t ∷ []) root ≡ Some t
 
-answers_written : (schema : StructSchema) (calls : List Call) (levels : ℕ) (t e : Tree) (told : List Reply) → e ≡ edits (schema_around schema) (id_of schema) calls t → map reply_view told ≡ replies (schema_around schema) as_it_is (id_of schema) calls t → nat_le (depth e) levels ≡ true
-    → written (canonical_words (trim e) ∷ []) (map reply_view told) ≡ answer_struct (schema_around schema) as_it_is (id_of schema) calls (pos levels) t
+pub answers_written : (schema : StructSchema) (calls : List Call) (levels : ℕ) (t e : Tree) (told : List ModelReply) → e ≡ edits (schema_around schema) (id_of schema) calls t → told ≡ replies (schema_around schema) as_it_is (id_of schema) calls t → nat_le (depth e) levels ≡ true
+    → written (canonical_words (trim e) ∷ []) told ≡ answer_struct (schema_around schema) as_it_is (id_of schema) calls (pos levels) t
 answers_written schema calls levels t e told is same low = rw (sym is, low, same) refl
 
 answers_deep : (schema : StructSchema) (calls : List Call) (levels : ℕ) (t e : Tree) → e ≡ edits (schema_around schema) (id_of schema) calls t → nat_le (depth e) levels ≡ false
@@ -66,7 +66,7 @@ module _ (laws : EditLaws) (s u : Segments) (schema : StructSchema) (calls : Lis
       let means = laws.means (trim e) levels (laws.trim_fits e (laws.fits levels u root e there)) (omega (arith, less, low)) short in
       let keeps : nat_le (depth e) levels ≡ true = grind (arith, nat_tests) in
       record {
-        same = view ∙ ap (λ ws. written (ws ∷ []) (map reply_view told)) words ∙ answers_written schema calls levels (widened_root (shape_of_struct schema) t) e told run.2.tree run.2.replied keeps;
+        same = view ∙ ap (λ ws. written (ws ∷ []) (map reply_view told)) words ∙ answers_written schema calls levels (widened_root (shape_of_struct schema) t) e (map reply_view told) run.2.tree run.2.replied keeps;
         means = subst (MeansTree levels (trim (edits (schema_around schema) (id_of schema) calls (widened_root (shape_of_struct schema) t)))) (sym view) (subst (λ ws. tree_at levels (ws ∷ []) root ≡ Some (trim (edits (schema_around schema) (id_of schema) calls (widened_root (shape_of_struct schema) t)))) (sym words) (means ∙ ap (λ x. Some (trim x)) run.2.tree));
         stands = stands w.bound w.near;
       }

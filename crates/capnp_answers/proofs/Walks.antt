@@ -1,5 +1,5 @@
 -- A canonical copy under a limit is made of a value within it, and stopped only where there is none.
-use Rattle.std.proofs.Common.{◌≡◌, ℕ, ◌+◌, ◌<◌, ◌≤◌, Bool, true, false, Option, Some, None, List, [], ◌∷◌, ◌++◌, length, Ok, Err, refl, ap, sym, ◌∙◌, subst, append-nil, take, drop, Result, arith}
+use Rattle.std.proofs.Common.{◌≡◌, ℕ, ◌+◌, ◌<◌, ◌≤◌, ◌^◌, Bool, true, false, Option, Some, None, List, [], ◌∷◌, ◌++◌, length, Ok, Err, refl, ap, sym, ◌∙◌, subst, append-nil, take, drop, Result, arith}
 use Rattle.std.specs.Prelude.{nat_lt, nat_le}
 use Rattle.std.specs.Result.{is_err}
 use Rattle.std.proofs.lemmas.List.{drop_all, take_all}
@@ -17,11 +17,11 @@ use Rattle.capnp_units.specs.Limits.{left_of, Allows}
 use Rattle.capnp_units.specs.declared.errors.Error.{Error}
 use Rattle.capnp_units.specs.declared.sizes.MessageSize.{MessageSize}
 use Rattle.capnp_units.specs.declared.limiter.ReadLimiter.{ReadLimiter}
-use Rattle.capnp_object.specs.Walks.{Stopped, CannotPass, SizeGives}
+use Rattle.capnp_object.specs.Walks.{Walked, Stopped, CannotPass, SizeGives}
 use Rattle.capnp_canonical.specs.Copies.{copy_visits, Written}
 use Rattle.capnp_answers.specs.Bounds.{limits_view}
 use Rattle.capnp_answers.specs.declared.bounds.Bounds.{Bounds}
-use Rattle.capnp_answers.specs.Reading.{ReadsValue}
+use Rattle.capnp_answers.specs.Reading.{ReadsValue, StandsCanonical}
 
 -- what is written back of a slice of a whole buffer
 pub put_back : {X : Type 0} (len : ℕ) (new items : List X) → len ≡ length items → length new ≡ length items → take len (new ++ drop (length new) items) ≡ new
@@ -129,6 +129,22 @@ module _ (laws : WalkLaws) (s : Segments) where
           inside = w.bound;
           some = omega (arith, w.more);
           few = w.near;
+        }
+
+    -- a message that a whole walk finds to be canonical
+    pub stands_within : (l m : ReadLimiter) (t : Tree) → left_of l ≡ Some b.words → Walked (visits b.nesting s root) l m → tree_at b.nesting s root ≡ Some t → has_capability t ≡ false
+        → s ≡ canonical_words (trim t) ∷ [] → length (canonical_words (trim t)) < 2 ^ 29 → StandsCanonical b s
+    stands_within l m t left walked there clean alone few =
+        let cost : cost_at b.nesting s root ≡ walked.cost = some_is _ _ (sym (laws.cost b.nesting s root t there) ∙ walked.cost_is) in
+        let allowed : walked.cost ≤ b.words = subst (λ o. Allows o walked.cost) left walked.spends.allowed in
+        let low : nat_le (cost_at b.nesting s root) b.words ≡ true = grind (arith, nat_tests) in
+        record {
+          value = t;
+          within = some_within (Some t) t refl clean low there;
+          fits = laws.trim_fits t (laws.fits b.nesting s root t there);
+          deep = (let low' = laws.deep b.nesting s root t there in let less = laws.trim_depth t in omega (arith, low', less));
+          alone = alone;
+          few = few;
         }
 
 -- a walk over a value without a limit is stopped only where the value is deeper

@@ -18,7 +18,7 @@ use Rattle.capnp_footprints.specs.Footprints.{Owns}
 use Rattle.capnp_run.specs.Runs.{EndsLongRoot}
 use Rattle.capnp_answers.specs.Bounds.{limits_view}
 use Rattle.capnp_answers.specs.declared.bounds.Bounds.{Bounds}
-use Rattle.capnp_answers.specs.Answers.{AnswersRoot, AnswersWords, IsAnswered, answer_view, MeansTree, LongFrom, LongFromWords, IsTooLarge}
+use Rattle.capnp_answers.specs.Answers.{AnswersRoot, AnswersStruct, AnswersWords, IsAnswered, answer_view, MeansTree, LongFrom, LongFromWords, IsTooLarge}
 use Rattle.capnp_answers.specs.Reading.{ReadsValue, can_be_opened}
 use Rattle.capnp_answers.specs.declared.answer.MessageAnswer.{MessageAnswer}
 use Rattle.capnp_answers.specs.declared.answer.MessageAnswer.TheVariants as answers
@@ -119,16 +119,19 @@ module _ (schema : StructSchema) (calls : List Call) where
           stands = tt;
         }
 
-    pub at_value : (old into : List (List ℕ)) (count : ℕ) (a : MessageAnswer) → (r : ReadsValue bounds s old count) → can_be_opened (trim r.value) ≡ true
-        → AnswersWords schema calls bounds.nesting (filled count old) into a → IsAnswered schema calls bounds s into a
-    at_value old into count a r opens all =
-        let made = all (trim r.value) r.fits r.deep r.words in
+    pub at_struct : (old into : List (List ℕ)) (count : ℕ) (a : MessageAnswer) → (r : ReadsValue bounds s old count) → can_be_opened (trim r.value) ≡ true
+        → AnswersStruct schema calls bounds.nesting into (widened_root (shape_of_struct schema) (trim r.value)) a → IsAnswered schema calls bounds s into a
+    at_struct old into count a r opens made =
         let opened = opened_is r.value in
         record {
           same = made.same ∙ ap (answer_struct (schema_around schema) as_it_is (id_of schema) calls (pos bounds.nesting)) (sym opened) ∙ sym (answer_is ∙ ap (answer_to bounds.nesting) r.within ∙ at_opened bounds.nesting r.value opens);
           means = λ t is. subst (λ x. MeansTree bounds.nesting (trim (edits (schema_around schema) (id_of schema) calls x)) (answer_view into a)) (sym opened ∙ ap (opened_root (schema_around schema) (id_of schema)) (one_value r.value t (sym r.within ∙ is))) made.means;
           stands = made.stands;
         }
+
+    pub at_value : (old into : List (List ℕ)) (count : ℕ) (a : MessageAnswer) → (r : ReadsValue bounds s old count) → can_be_opened (trim r.value) ≡ true
+        → AnswersWords schema calls bounds.nesting (filled count old) into a → IsAnswered schema calls bounds s into a
+    at_value old into count a r opens all = at_struct old into count a r opens (all (trim r.value) r.fits r.deep r.words)
 
     pub too_large : (old : List (List ℕ)) (count : ℕ) → (r : ReadsValue bounds s old count) → can_be_opened (trim r.value) ≡ true → LongFromWords schema calls bounds.nesting (filled count old) → IsTooLarge schema calls bounds s
     too_large old count r opens long =

@@ -1,5 +1,5 @@
 -- What is answered to a message, in a buffer of words.
-use Rattle.std.specs.Prelude.{◌≡◌, ℕ, suc, pos, ◌^◌, ◌<◌, ◌≤◌, List, [], ◌∷◌, Option, Some, None, length, map, ⊤}
+use Rattle.std.specs.Prelude.{◌≡◌, ℕ, suc, pos, ◌^◌, ◌<◌, ◌≤◌, List, [], ◌∷◌, Option, Some, None, Result, Ok, Err, length, map, replicate, true, ⊤}
 use Rattle.capnp_model.specs.Segments.{Segments, root}
 use Rattle.capnp_model.specs.Trees.{Tree, null, structure, depth}
 use Rattle.capnp_model.specs.Fits.{Fits}
@@ -7,7 +7,7 @@ use Rattle.capnp_model.specs.Encoding.{canonical_words}
 use Rattle.capnp_model.specs.Trimming.{trim}
 use Rattle.capnp_model.specs.Traversal.{tree_at}
 use Rattle.capnp_model.specs.Calls.{Call}
-use Rattle.capnp_model.specs.Answers.{Answer, written, refused_value, refused_root, refused_depth, edits, opened_root, value_within, answer_struct, IsAnswer, widened_root}
+use Rattle.capnp_model.specs.Answers.{Answer, reply_done, written, refused_value, refused_root, refused_depth, edits, opened_root, value_within, answer_struct, IsAnswer, widened_root}
 use Rattle.capnp_queries.specs.Structs.{schema_around, shape_of_struct, id_of}
 use Rattle.capnp_queries.specs.declared.structs.StructSchema.{StructSchema}
 use Rattle.capnp_calls.specs.Replies.{reply_view}
@@ -19,6 +19,7 @@ use Rattle.capnp_run.specs.declared.fault.RunFault.{RunFault}
 use Rattle.capnp_run.specs.declared.fault.RunFault.TheVariants as faults
 use Rattle.capnp_answers.specs.Bounds.{limits_view}
 use Rattle.capnp_answers.specs.declared.bounds.Bounds.{Bounds}
+use Rattle.capnp_answers.specs.Reading.{ReadsValue, can_be_opened}
 use Rattle.capnp_answers.specs.declared.answer.Reason.{Reason}
 use Rattle.capnp_answers.specs.declared.answer.Reason.TheVariants as reasons
 use Rattle.capnp_answers.specs.declared.answer.Want.{Want}
@@ -40,11 +41,13 @@ refusal_view reasons.Depth = refused_depth
 -- The answer as the model has it; the one segment that is written stands at the front of a buffer.
 abbrev pub answer_view : List (List ℕ) → MessageAnswer → Answer
 answer_view into (answers.Written count replies) = written (filled count into ∷ []) (map reply_view replies.items)
+answer_view into (answers.Done count calls) = written (filled count into ∷ []) (replicate calls reply_done)
 answer_view into (answers.Refused reason) = refusal_view reason
 
 -- What is written stands within the buffer, and has fewer words than 2^29.
 abbrev pub StandsIn : List (List ℕ) → MessageAnswer → Type 0
 StandsIn into (answers.Written count replies) = (count ≤ length into) × (count < 2 ^ 29)
+StandsIn into (answers.Done count calls) = (count ≤ length into) × (count < 2 ^ 29)
 StandsIn into (answers.Refused reason) = ⊤
 
 -- What is written, if anything, means this tree within so many levels.
@@ -73,6 +76,11 @@ pub record IsAnswered (schema : StructSchema) (calls : List Call) (bounds : Boun
   pub same : IsAnswer (schema_around schema) as_it_is (id_of schema) calls (limits_view bounds) s (answer_view into a)
   pub means : MeansAfter schema calls bounds.nesting (value_within (limits_view bounds) s) (answer_view into a)
   pub stands : StandsIn into a
+
+-- A message's value is a struct or null, and the first words of a buffer are those of it, trimmed; or the message is skipped for this reason, whatever is called.
+abbrev pub ReadsRoot : Bounds → Segments → List (List ℕ) → Result ℕ Reason → Type 0
+ReadsRoot bounds s into (Ok count) = (r : ReadsValue bounds s into count) × (can_be_opened (trim r.value) ≡ true)
+ReadsRoot bounds s into (Err reason) = (schema : StructSchema) (calls : List Call) (any : List (List ℕ)) → IsAnswered schema calls bounds s any (answers.Refused reason)
 
 -- The same of the value with these canonical words.
 abbrev pub AnswersWords : StructSchema → List Call → ℕ → List ℕ → List (List ℕ) → MessageAnswer → Type 0

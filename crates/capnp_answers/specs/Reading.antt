@@ -1,5 +1,5 @@
 -- The words of a message's value within bounds. (Encoding, "Canonicalization")
-use Rattle.std.specs.Prelude.{◌≡◌, ℕ, ◌^◌, ◌<◌, ◌≤◌, Bool, true, false, List, Option, Some, None, length}
+use Rattle.std.specs.Prelude.{◌≡◌, ℕ, ◌^◌, ◌<◌, ◌≤◌, Bool, true, false, List, [], ◌∷◌, Option, Some, None, length}
 use Rattle.capnp_model.specs.Segments.{Segments}
 use Rattle.capnp_model.specs.Trees.{Tree, null, structure, depth}
 use Rattle.capnp_model.specs.Fits.{Fits}
@@ -31,3 +31,12 @@ pub record ReadsValue (bounds : Bounds) (s : Segments) (into : List (List ℕ)) 
 abbrev pub Reads : Bounds → Segments → List (List ℕ) → Option ℕ → Type 0
 Reads bounds s into None = value_within (limits_view bounds) s ≡ None
 Reads bounds s into (Some count) = ReadsValue bounds s into count
+
+-- A message is one segment, of the canonical words of its value, which is within the bounds.
+pub record StandsCanonical (bounds : Bounds) (s : Segments) : Type 0 where
+  pub value : Tree
+  pub within : value_within (limits_view bounds) s ≡ Some value
+  pub fits : Fits (trim value)
+  pub deep : depth (trim value) ≤ bounds.nesting
+  pub alone : s ≡ canonical_words (trim value) ∷ []
+  pub few : length (canonical_words (trim value)) < 2 ^ 29

@@ -1,21 +1,20 @@
 //! The answer of calls to a message, in a lent region.
-ghost use Rattle.std.specs.Prelude.{◌≡◌, ◌≤◌, map, length, Err, IfOk};
+ghost use Rattle.std.specs.Prelude.{◌≡◌, ◌≤◌, length, Err, IfOk, IfErr, IfSome};
 ghost use Rattle.capnp_units.specs.Segments.{words_in};
-ghost use Rattle.capnp_calls.specs.CallViews.{call_view};
-ghost use Rattle.capnp_calls.specs.Taken.{IsRoot};
 ghost use Rattle.capnp_copy.specs.Memory.{AllZero};
 ghost use Rattle.capnp_answers.specs.declared.answer.Want.{Want};
-ghost use Rattle.capnp_answers.specs.Answers.{IsAnswered, IsTooLarge, want_of};
+ghost use Rattle.capnp_answers.specs.Answers.{IsAnswered, IsTooLarge, ReadsRoot, want_of};
+ghost use Rattle.capnp_answers.specs.RootCalls.{root_schema, root_calls};
 
 use crate::bounds::Bounds;
 use crate::built::answer_built;
 use crate::reading::{can_be_opened, read_value};
+use crate::root_calls::RootCalls;
 use capnp_allocators::scratch::ScratchSpaceHeapAllocator;
-use capnp_calls::Call;
 use capnp_calls::reply::Reply;
 use capnp_copy::allocator::Allocator;
 use capnp_message::builder::Builder;
-use capnp_queries::structs::StructSchema;
+use capnp_model::laws::{trimmed_values, words_mean_their_value};
 use capnp_run::fault::RunFault;
 use capnp_units::errors::Error;
 use capnp_units::sizes::Word;
@@ -37,6 +36,8 @@ pub enum Reason {
 #[derive(Debug, Drop)]
 pub enum MessageAnswer {
     Written { count: usize, replies: Vec<Reply> },
+    /// The same where each call is done: how many they are, in place of their replies.
+    Done { count: usize, calls: usize },
     Refused(Reason),
 }
 
@@ -68,46 +69,85 @@ impl From<RunFault> for Want {
     }
 }
 
+/// How many words at the front of a buffer are those of a message's value, trimmed, which is a struct or null; or why the message is skipped.
+fn read_root<M: ReaderArena>(
+    message: &M,
+    bounds: Bounds,
+    words: &mut Vec<Word>,
+) -> Result<Result<usize, Reason>, Want>
+    ensures root { IfOk result
+        (ReadsRoot bounds (words_in (M.segments message.now)) words.new.items) }
+    ensures memory { IfErr result (λ want. want ≡ Want.Memory) }
+{
+    let Some(count) = read_value(message, bounds, words)? else {
+        return Ok(Err(Reason::Value));
+    };
+    if !can_be_opened(words, count) {
+        return Ok(Err(Reason::Root));
+    }
+    Ok(Ok(count))
+}
+
+/// The answer where each call sets a plain field of the root, made in the words that the message was read to; none where what the calls make of its value has other words than those.
+fn answer_plain<M: ReaderArena>(
+    message: &M,
+    bounds: Bounds,
+    calls: &RootCalls<'_>,
+    words: &mut Vec<Word>,
+) -> Result<Option<MessageAnswer>, Want>
+    ensures answer { IfOk result (λ found. IfSome found (IsAnswered (root_schema calls.now)
+        (root_calls calls.now) bounds (words_in (M.segments message.now)) words.new.items)) }
+    ensures memory { IfErr result (λ want. want ≡ Want.Memory) }
+{
+    trimmed_values();
+    words_mean_their_value();
+    let count = match read_root(message, bounds, words)? {
+        Ok(count) => count,
+        Err(reason) => return Ok(Some(MessageAnswer::Refused(reason))),
+    };
+    if !calls.put(words.as_mut_slice(), count) {
+        return Ok(None);
+    }
+    let calls = calls.calls.len();
+    Ok(Some(MessageAnswer::Done { count, calls }))
+}
+
 /// The answer to a message, whose value is edited in memory of this allocator. All of it is given back.
 fn answer_over<L: Allocator, M: ReaderArena>(
     alloc: Global,
     allocator: &mut L,
     message: &M,
     bounds: Bounds,
-    schema: StructSchema<'_>,
-    calls: &[Call],
+    calls: &RootCalls<'_>,
     words: &mut Vec<Word>,
 ) -> Result<MessageAnswer, Want>
-    requires root { IsRoot schema }
     requires one { length (L.loans allocator.old) ≤ 1 }
-    ensures answer { IfOk result (λ a. IsAnswered schema.entry (map call_view calls.now) bounds
-        (words_in (M.segments message.now)) words.new.items a) }
-    ensures size { result ≡ Err Want.Size → IsTooLarge schema.entry (map call_view calls.now)
-        bounds (words_in (M.segments message.now)) }
+    ensures answer { IfOk result (IsAnswered (root_schema calls.now) (root_calls calls.now) bounds
+        (words_in (M.segments message.now)) words.new.items) }
+    ensures size { result ≡ Err Want.Size → IsTooLarge (root_schema calls.now)
+        (root_calls calls.now) bounds (words_in (M.segments message.now)) }
     ensures loans { L.loans allocator.new ≡ L.loans allocator.old }
     ensures place { L.place allocator.new ≡ L.place allocator.old }
 {
-    let Some(count) = read_value(message, bounds, words)? else {
-        return Ok(MessageAnswer::Refused(Reason::Value));
+    let count = match read_root(message, bounds, words)? {
+        Ok(count) => count,
+        Err(reason) => return Ok(MessageAnswer::Refused(reason)),
     };
-    if !can_be_opened(words, count) {
-        return Ok(MessageAnswer::Refused(Reason::Root));
-    }
     let mut builder = Builder::new(alloc, allocator);
     let answered = answer_built(
         alloc,
         &mut builder,
         count,
         bounds.nesting,
-        schema,
-        calls,
+        calls.schema,
+        calls.calls,
         words,
     );
     let _allocator = builder.into_allocator();
     answered
 }
 
-/// Answers calls in turn at the root of a message, as the model does, lists and all: the message's value, trimmed, is copied into the region and edited there, and what it becomes is written into the buffer, as its canonical words. A message without a value within the bounds, or with a capability, is skipped as `Value`, one whose root is a list as `Root`, one that the calls nest too deep as `Depth`.
+/// Answers calls in turn at the root of a message, as the model does, lists and all: the message's value, trimmed, is copied into the region and edited there, and what it becomes is written into the buffer, as its canonical words. Where each call sets a plain field of the root, and no word is put or trimmed by that, the value is edited in the buffer, and the region isn't touched. A message without a value within the bounds, or with a capability, is skipped as `Value`, one whose root is a list as `Root`, one that the calls nest too deep as `Depth`.
 ///
 /// The region is all zeros before, and after, whatever is answered; it need not have room for the message, whose words then come from `alloc`, as those do that the calls add past its end. The buffer grows where it is too short: to the message's own words, to those of the edited message, and where pointers share words, so that the canonical words are more than the message's own, to a word more than the bounds allow. What is in it before doesn't matter.
 ///
@@ -116,19 +156,22 @@ pub fn answer_in_place<M: ReaderArena>(
     alloc: Global,
     message: &M,
     bounds: Bounds,
-    schema: StructSchema<'_>,
-    calls: &[Call],
+    calls: &RootCalls<'_>,
     region: &mut [u8],
     words: &mut Vec<Word>,
 ) -> Result<MessageAnswer, Want>
-    requires root { IsRoot schema }
     requires zeros { AllZero region.old }
-    ensures answer { IfOk result (λ a. IsAnswered schema.entry (map call_view calls.now) bounds
-        (words_in (M.segments message.now)) words.new.items a) }
-    ensures size { result ≡ Err Want.Size → IsTooLarge schema.entry (map call_view calls.now)
-        bounds (words_in (M.segments message.now)) }
+    ensures answer { IfOk result (IsAnswered (root_schema calls.now) (root_calls calls.now) bounds
+        (words_in (M.segments message.now)) words.new.items) }
+    ensures size { result ≡ Err Want.Size → IsTooLarge (root_schema calls.now)
+        (root_calls calls.now) bounds (words_in (M.segments message.now)) }
     ensures zeros { region.new ≡ region.old }
 {
+    if calls.are_plain() {
+        if let Some(answer) = answer_plain(message, bounds, calls, words)? {
+            return Ok(answer);
+        }
+    }
     let mut allocator = ScratchSpaceHeapAllocator::resume(alloc, region);
-    answer_over(alloc, &mut allocator, message, bounds, schema, calls, words)
+    answer_over(alloc, &mut allocator, message, bounds, calls, words)
 }

@@ -4,4 +4,6 @@
 pub mod answer;
 pub mod bounds;
 mod built;
+mod near;
 mod reading;
+pub mod root_calls;

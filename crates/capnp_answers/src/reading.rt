@@ -1,15 +1,18 @@
 //! The canonical words of the value of a message.
-ghost use Rattle.std.specs.Prelude.{◌≡◌, ◌≤◌, ◌<◌, IfOk, OnOk, length};
+ghost use Rattle.std.specs.Prelude.{◌≡◌, ◌≤◌, ◌<◌, ◌/◌, true, [], ◌∷◌, ◌++◌, IfOk, OnOk, length, drop};
+ghost use Rattle.std.specs.Bool.{OnTrue};
 ghost use Rattle.capnp_model.specs.Encoding.{canonical_words};
 ghost use Rattle.capnp_model.specs.Trees.{Tree};
-ghost use Rattle.capnp_units.specs.Segments.{words_in};
+ghost use Rattle.capnp_units.specs.Segments.{whole_words, words_in};
 ghost use Rattle.capnp_canonical.specs.Writes.{filled};
-ghost use Rattle.capnp_answers.specs.Reading.{Reads, can_be_opened};
+ghost use Rattle.capnp_answers.specs.Reading.{Reads, StandsCanonical, can_be_opened};
 
 use crate::bounds::Bounds;
+use crate::near::{OneSegment, only_segment};
+use capnp_canonical::check::is_canonical_message;
 use capnp_canonical::copy::write_canonical;
 use capnp_canonical::laws::copies_as_walks;
-use capnp_model::laws::{trimmed_values, values_on_walks, values_that_are_read};
+use capnp_model::laws::{canonical_tests, trimmed_values, values_on_walks, values_that_are_read};
 use capnp_units::errors::{Error, Result};
 use capnp_units::kinds::ErrorKind;
 use capnp_units::limiter::ReadLimiter;
@@ -23,7 +26,11 @@ pub(crate) const ROOT: Place = Place {
     position: 0,
 };
 
+/// A message has fewer words than this.
+const MESSAGE_WORDS: usize = 0x2000_0000;
+
 /// Makes the buffer at least so many words long. `OutOfMemory`: it can't grow.
+#[inline]
 pub(crate) fn make_room(words: &mut Vec<Word>, count: usize) -> Result<()>
     ensures { OnOk result (count ≤ length words.new.items) }
 {
@@ -61,7 +68,7 @@ fn read_canonical<M: ReaderArena>(
 /// Writes the canonical words of a message's value into a buffer, which grows where they don't fit, and answers how many they are; none where the message has no value within the bounds, or one with a capability.
 ///
 /// The buffer has room for as many words as the message first. Where its pointers share words, its canonical words may be more; then the buffer becomes a word longer than the bounds allow, and the walk begins again. It is refused with `OutOfMemory` where the buffer can't grow, and with `BufferNotLargeEnough` where the canonical words are 2^29 or more.
-pub(crate) fn read_value<M: ReaderArena>(
+fn write_value<M: ReaderArena>(
     message: &M,
     bounds: Bounds,
     words: &mut Vec<Word>,
@@ -76,7 +83,74 @@ pub(crate) fn read_value<M: ReaderArena>(
     read_canonical(message, bounds, words)
 }
 
+/// Whether the words of a message of one segment are the canonical words of its value, which is within the bounds and has no capability, and fewer than 2^29. They are looked at up to the first that is otherwise.
+fn stands_canonical(message: &OneSegment<'_>, bounds: Bounds) -> bool
+    ensures { OnTrue result (StandsCanonical bounds (words_in (message.now.bytes.now ∷ []))) }
+{
+    values_that_are_read();
+    values_on_walks();
+    trimmed_values();
+    copies_as_walks();
+    canonical_tests();
+    if message.bytes.len() / 8 >= MESSAGE_WORDS {
+        return false;
+    }
+    let mut limiter = ReadLimiter::new(Some(bounds.words as u64));
+    match is_canonical_message(message, &mut limiter, bounds.nesting) {
+        Ok(stands) => stands,
+        Err(_) => false,
+    }
+}
+
+/// Puts words over the first of a buffer.
+#[inline]
+fn lay_front(into: &mut [Word], row: &[Word])
+    requires { length row.now ≤ length into.old }
+    ensures { into.new ≡ row.now ++ drop (length row.now) into.old }
+{
+    into[..row.len()].copy_from_slice(row);
+}
+
+/// Copies the words of a segment to the front of a buffer, which grows where they don't fit, and answers how many they are.
+fn copy_segment(bytes: &[u8], words: &mut Vec<Word>) -> Result<usize>
+    ensures words { IfOk result (λ count. filled count words.new.items ≡ whole_words bytes.now) }
+    ensures count { IfOk result
+        (λ count. (count ≡ length bytes.now / 8) × (count ≤ length words.new.items)) }
+{
+    let (whole, _) = bytes.as_chunks::<8>();
+    make_room(words, whole.len())?;
+    lay_front(words.as_mut_slice(), whole);
+    Ok(whole.len())
+}
+
+/// As `write_value`, of a message of this one segment: where its words are canonical already they are copied as they stand.
+fn read_segment(bytes: &[u8], bounds: Bounds, words: &mut Vec<Word>) -> Result<Option<usize>>
+    ensures { IfOk result (Reads bounds (words_in (bytes.now ∷ [])) words.new.items) }
+{
+    let message = OneSegment { bytes };
+    if !stands_canonical(&message, bounds) {
+        return write_value(&message, bounds, words);
+    }
+    let count = copy_segment(bytes, words)?;
+    Ok(Some(count))
+}
+
+/// As `write_value`; a message of one segment is read by its bytes alone, and copied where its words are canonical already.
+pub(crate) fn read_value<M: ReaderArena>(
+    message: &M,
+    bounds: Bounds,
+    words: &mut Vec<Word>,
+) -> Result<Option<usize>>
+    ensures { IfOk result (Reads bounds (words_in (M.segments message.now)) words.new.items) }
+{
+    match only_segment(message) {
+        Some(bytes) => read_segment(bytes, bounds, words),
+        None => write_value(message, bounds, words),
+    }
+}
+
 /// Whether the value whose words stand at the front of a buffer, so many, is a struct or null.
+#[inline]
 pub(crate) fn can_be_opened(words: &[Word], count: usize) -> bool
     requires { (0 < count) × (count ≤ length words.now) }
     ensures { (t : Tree) → filled count words.now ≡ canonical_words t → result ≡ can_be_opened t }

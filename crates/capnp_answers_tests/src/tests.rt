@@ -4,6 +4,7 @@ ghost use Rattle.capnp_copy.specs.Memory.{AllZero};
 
 use capnp_answers::answer::{MessageAnswer, Reason, Want, answer_in_place};
 use capnp_answers::bounds::Bounds;
+use capnp_answers::root_calls::RootCalls;
 use capnp_calls::reply::Reply;
 use capnp_calls::{Call, CallValue, Step, Verb};
 use capnp_message::options::DEFAULT_READER_OPTIONS;
@@ -136,7 +137,8 @@ fn outcome(
         words: 64,
         nesting: 8,
     };
-    Ok(answer_in_place(alloc, &message, bounds, schema, calls, region, words))
+    let calls = RootCalls::new(alloc, schema, calls)?;
+    Ok(answer_in_place(alloc, &message, bounds, &calls, region, words))
 }
 
 /// The answer of calls to a message of one segment.
@@ -178,6 +180,53 @@ fn a_number_is_set_and_read(rt: HostRuntime) -> Result<(), Fail> {
     let nine: Word = [9, 0, 0, 0, 0, 0, 0, 0];
     assert!(rt; words.get(..count) == Some([root, nine].as_slice()));
     assert!(rt; region == [0u8; 64]);
+    Ok(())
+}
+
+/// How many words are written where all calls are done, and how many calls.
+fn all_done(answer: &MessageAnswer) -> Option<(usize, usize)> {
+    match answer {
+        MessageAnswer::Done { count, calls } => Some((*count, *calls)),
+        MessageAnswer::Written { count, replies } => {
+            for reply in replies {
+                let Reply::Done = reply else {
+                    return None;
+                };
+            }
+            Some((*count, replies.len()))
+        }
+        MessageAnswer::Refused(_) => None,
+    }
+}
+
+#[test]
+fn numbers_are_set_where_they_lie(rt: HostRuntime) -> Result<(), Fail> {
+    let alloc = rt.alloc();
+    let mut calls = Vec::new(alloc);
+    calls.push(at(alloc, "a", Verb::Set, Some(CallValue::Number(8)))?)?;
+    calls.push(at(alloc, "a", Verb::Set, Some(CallValue::Number(9)))?)?;
+    let mut region = [0u8; 64];
+    let mut words = Vec::new(alloc);
+    let answer = answered(alloc, &SEVEN, &calls, &mut region, &mut words)?;
+    assert!(rt; all_done(&answer) == Some((2, 2)));
+    let root: Word = [0, 0, 0, 0, 1, 0, 0, 0];
+    let nine: Word = [9, 0, 0, 0, 0, 0, 0, 0];
+    assert!(rt; words.get(..2) == Some([root, nine].as_slice()));
+    assert!(rt; region == [0u8; 64]);
+    Ok(())
+}
+
+#[test]
+fn a_number_that_becomes_zero_is_trimmed(rt: HostRuntime) -> Result<(), Fail> {
+    let alloc = rt.alloc();
+    let mut calls = Vec::new(alloc);
+    calls.push(at(alloc, "a", Verb::Set, Some(CallValue::Number(0)))?)?;
+    let mut region = [0u8; 64];
+    let mut words = Vec::new(alloc);
+    let answer = answered(alloc, &SEVEN, &calls, &mut region, &mut words)?;
+    assert!(rt; all_done(&answer) == Some((1, 1)));
+    let empty: Word = [0xfc, 0xff, 0xff, 0xff, 0, 0, 0, 0];
+    assert!(rt; words.get(..1) == Some([empty].as_slice()));
     Ok(())
 }
 

@@ -3,3 +3,4 @@ pub mod RunLemmas
 pub mod Whole
 pub mod Reading
 pub mod PauseLemmas
+pub mod LogLemmas

@@ -70,21 +70,21 @@ SinkTakes-trans a b c bs cs p q = record {
   failures = q.failures ∙ p.failures;
 }
 
-module _ (w : Work) (fronts : ReadsFronts w.read) where
-  -- no message is answered yet
-  pub Answered-nil : (old : Streams) (counts : Counts) → counts.written ≡ 0 → counts.refused ≡ 0 → Answered w [] [] old old counts
-  Answered-nil old counts frames refusals = record {
-    taken = [];
-    begins = refl;
-    consumed = Consumes-nil old.source.remaining;
-    answered = tt;
-    out = SinkTakes-nil old.out;
-    log = SinkTakes-nil old.log;
-    written = frames;
-    refused = refusals;
-    source_failures = refl;
-  }
+-- no message is answered yet
+pub Answered-nil : (w : Work) (old : Streams) (counts : Counts) → counts.written ≡ 0 → counts.refused ≡ 0 → Answered w [] [] old old counts
+Answered-nil w old counts frames refusals = record {
+  taken = [];
+  begins = refl;
+  consumed = Consumes-nil old.source.remaining;
+  answered = tt;
+  out = SinkTakes-nil old.out;
+  log = SinkTakes-nil old.log;
+  written = frames;
+  refused = refusals;
+  source_failures = refl;
+}
 
+module _ (w : Work) (fronts : ReadsFronts w.read) where
   -- one more
   pub Answered-more : (messages : List Segments) (answers : List Answer) (old mid new : Streams) (before after : Counts) (n : ℕ) → length answers + 1 ≡ n
       → Answered w messages answers old mid before → (one : AnswersOne w n mid new before after)

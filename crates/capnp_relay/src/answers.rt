@@ -2,12 +2,13 @@
 ghost use Rattle.std.specs.Prelude.{◌≡◌, IfOk, Err};
 ghost use Rattle.capnp_model.specs.Segments.{Segments};
 ghost use Rattle.capnp_model.specs.Answers.{Answer};
-ghost use Rattle.capnp_stream.specs.Segments.{segments_of};
+ghost use Rattle.capnp_units.specs.Segments.{words_in};
+ghost use Rattle.capnp_stream.specs.Buffers.{found_segments};
 ghost use Rattle.capnp_copy.specs.Memory.{AllZero};
 ghost use Rattle.capnp_answers.specs.Answers.{answer_view, StandsIn};
 
 use capnp_answers::answer::{MessageAnswer, Want};
-use capnp_stream::segments::OwnedSegments;
+use capnp_stream::buffers::NoAllocSliceSegments;
 use capnp_units::sizes::Word;
 use std::alloc::Global;
 
@@ -23,14 +24,15 @@ pub(crate) trait Answers {
     fn answer(
         &self,
         alloc: Global,
-        message: &OwnedSegments,
+        message: &NoAllocSliceSegments<'_>,
         region: &mut [u8],
         words: &mut Vec<Word>,
     ) -> Result<MessageAnswer, Want>
         requires zeros { AllZero region.old }
-        ensures value { IfOk result (λ a.
-            is_answer self.now (segments_of message.now) (answer_view words.new.items a)) }
+        ensures value { IfOk result (λ a. is_answer self.now
+            (words_in (found_segments message.now)) (answer_view words.new.items a)) }
         ensures stands { IfOk result (StandsIn words.new.items) }
-        ensures size { result ≡ Err Want.Size → is_too_large self.now (segments_of message.now) }
+        ensures size { result ≡ Err Want.Size → is_too_large self.now
+            (words_in (found_segments message.now)) }
         ensures zeros { region.new ≡ region.old };
 }

@@ -1,41 +1,36 @@
 //! Calls at the roots of messages.
-ghost use Rattle.capnp_calls.specs.Taken.{IsRoot};
 
 use crate::answers::Answers;
 use capnp_answers::answer::{MessageAnswer, Want, answer_in_place};
 use capnp_answers::bounds::Bounds;
-use capnp_calls::Call;
+use capnp_answers::root_calls::RootCalls;
 use capnp_calls::laws::{calls_are_given, roots_are_no_groups};
 use capnp_model::laws_of_edits::records_of_written_values;
 use capnp_object::arena::ReaderArenaImpl;
-use capnp_queries::structs::StructSchema;
-use capnp_stream::segments::OwnedSegments;
+use capnp_stream::buffers::NoAllocSliceSegments;
 use capnp_units::sizes::Word;
 use std::alloc::Global;
 
-/// Calls at the roots of messages: the schema of a root, the calls, and how far a message is followed.
-#[derive(Clone, Copy)]
+/// Calls at the roots of messages, and how far a message is followed.
+#[derive(Drop)]
 pub(crate) struct CallsAtRoot<'a> {
-    pub(crate) schema: StructSchema<'a>,
-    pub(crate) calls: &'a [Call],
+    pub(crate) calls: RootCalls<'a>,
     pub(crate) bounds: Bounds,
-    pub ghost root: { IsRoot schema },
 }
 
 impl<'a> Answers for CallsAtRoot<'a> {
-    ghost use Rattle.std.specs.Prelude.{map};
-    ghost use Rattle.capnp_calls.specs.CallViews.{call_view};
     ghost use Rattle.capnp_answers.specs.Answers.{IsTooLarge};
+    ghost use Rattle.capnp_answers.specs.RootCalls.{root_schema, root_calls};
     ghost use Rattle.capnp_relay.specs.Messages.{IsAnswerBy};
 
-    ghost is_answer = { λ c. IsAnswerBy c.schema (map call_view c.calls.now) c.bounds };
+    ghost is_answer = { λ c. IsAnswerBy (root_schema c.calls) (root_calls c.calls) c.bounds };
 
-    ghost is_too_large = { λ c. IsTooLarge c.schema (map call_view c.calls.now) c.bounds };
+    ghost is_too_large = { λ c. IsTooLarge (root_schema c.calls) (root_calls c.calls) c.bounds };
 
     fn answer(
         &self,
         alloc: Global,
-        message: &OwnedSegments,
+        message: &NoAllocSliceSegments<'_>,
         region: &mut [u8],
         words: &mut Vec<Word>,
     ) -> Result<MessageAnswer, Want> {
@@ -44,14 +39,6 @@ impl<'a> Answers for CallsAtRoot<'a> {
         roots_are_no_groups();
         // The bounds tell how deep the message is followed.
         let arena = ReaderArenaImpl::new(message, i32::MAX);
-        answer_in_place(
-            alloc,
-            &arena,
-            self.bounds,
-            self.schema,
-            self.calls,
-            region,
-            words,
-        )
+        answer_in_place(alloc, &arena, self.bounds, &self.calls, region, words)
     }
 }

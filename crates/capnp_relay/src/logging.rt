@@ -1,6 +1,7 @@
 //! The line of the log for a message.
-ghost use Rattle.std.specs.Prelude.{◌≡◌, ◌++◌, List, ℕ, [], codes, decimal, OnOk};
+ghost use Rattle.std.specs.Prelude.{◌≡◌, ◌++◌, List, ℕ, [], codes, decimal, replicate, OnOk};
 ghost use Rattle.std.specs.List.{flat_map};
+ghost use Rattle.capnp_model.specs.Answers.{reply_done};
 ghost use Rattle.capnp_model.specs.Runs.{reply_words, answer_words, line_of};
 ghost use Rattle.capnp_calls.specs.Replies.{reply_view};
 ghost use Rattle.capnp_answers.specs.Answers.{answer_view, refusal_view};
@@ -11,6 +12,7 @@ use itoa::Buffer;
 use std::alloc::AllocError;
 
 /// Appends a reply.
+#[inline]
 fn push_reply(line: &mut Vec<u8>, reply: &Reply) -> Result<(), AllocError>
     ensures { OnOk result (line.new.items ≡ line.old.items ++ reply_words (reply_view reply.now)) }
 {
@@ -37,7 +39,19 @@ fn push_replies(line: &mut Vec<u8>, replies: &[Reply]) -> Result<(), AllocError>
     Ok(())
 }
 
+/// Appends the replies of so many calls that are done, each behind a semicolon.
+fn push_done(line: &mut Vec<u8>, calls: usize) -> Result<(), AllocError>
+    ensures { OnOk result (line.new.items
+        ≡ line.old.items ++ flat_map (λ r. codes "; " ++ reply_words r) (replicate calls reply_done)) }
+{
+    for _call in 0..calls {
+        line.extend_from_slice(b"; done")?;
+    }
+    Ok(())
+}
+
 /// What the log says of a message that is skipped.
+#[inline]
 fn refusal_words(reason: Reason) -> &'static [u8]
     ensures { result.now ≡ answer_words (refusal_view reason) }
 {
@@ -58,11 +72,16 @@ fn push_answer(line: &mut Vec<u8>, answer: &MessageAnswer) -> Result<(), AllocEr
             line.extend_from_slice(b"written")?;
             push_replies(line, replies)
         }
+        MessageAnswer::Done { count: _, calls } => {
+            line.extend_from_slice(b"written")?;
+            push_done(line, *calls)
+        }
         MessageAnswer::Refused(reason) => line.extend_from_slice(refusal_words(*reason)),
     }
 }
 
 /// Appends a number in decimal.
+#[inline]
 fn push_number(line: &mut Vec<u8>, number: u64) -> Result<(), AllocError>
     ensures { OnOk result (line.new.items ≡ line.old.items ++ decimal number) }
 {

@@ -1,16 +1,18 @@
 //! The relay.
 ghost use Rattle.std.specs.Prelude.{◌≡◌, ◌+◌, ◌*◌, length, replicate};
 ghost use Rattle.capnp_calls.specs.Taken.{IsRoot};
+ghost use Rattle.capnp_relay.specs.declared.ends.Fault.{Fault};
 ghost use Rattle.capnp_relay.specs.Streams.{streams_of};
 ghost use Rattle.capnp_relay.specs.Run.{Relays};
 ghost use Rattle.capnp_relay.specs.Pauses.{RelaysPausing};
 ghost use Rattle.capnp_relay.specs.Relaying.{relay_work};
 
 use crate::at_root::CallsAtRoot;
-use crate::ends::{Counts, RelayFault};
+use crate::ends::{Counts, Fault, RelayFault};
 use crate::options::{Form, RelayOptions};
 use crate::pauses::{NoPause, Pause};
 use crate::run::answer_all;
+use capnp_answers::root_calls::RootCalls;
 use capnp_calls::Call;
 use capnp_packing::form::Packed;
 use capnp_queries::structs::StructSchema;
@@ -20,7 +22,7 @@ use std::alloc::Global;
 
 /// Answers each message of the source, to the end of input or the first bytes that begin with no message.
 ///
-/// A message is read within the options' limits. Its trimmed value is copied into the region, the calls run there at its root, a null root as the empty struct, and what they make of it is written as one canonical message, in the output form. A message without a value within the limits, or with a capability, is skipped as `value`, one whose root is a list as `root`, one that the calls nest too deep as `depth`. Either way the log gets one line. Where the lists of a message are in kind, what is written reads as the record that the calls make of the message's record.
+/// A message is read within the options' limits. Its trimmed value is copied into the region, the calls run there at its root, a null root as the empty struct, and what they make of it is written as one canonical message, in the output form. Where each call sets a plain field of the root, and no word is put or trimmed by that, the value isn't copied, but edited where it is written from. A message without a value within the limits, or with a capability, is skipped as `value`, one whose root is a list as `root`, one that the calls nest too deep as `depth`. Either way the log gets one line. Where the lists of a message are in kind, what is written reads as the record that the calls make of the message's record.
 ///
 /// The region has 8 bytes for each word of the word limit and 8 more; what doesn't fit into it comes from `alloc`. Whatever is in it before, it is all zeros at every exit. `Framing`: what is left of the source begins with no message. `Source`, `Out`, `Log`: the device failed, or a slice was too short. `Memory`: a growth was refused, by the system or since the words of one message in memory, those that calls abandon among them, would pass 2^29 - 1. `Size`: a call puts a text or data of 2^29 bytes or more with its last zero, or a list of structs of 2^29 words or more, or it is message number 2^64. What was written before stands.
 pub fn relay<R: BufRead, W: Write, L: Write>(
@@ -43,6 +45,20 @@ pub fn relay<R: BufRead, W: Write, L: Write>(
     relay_pausing::<R, W, L, NoPause>(alloc, source, out, log, root, calls, options, region)
 }
 
+/// A run that wants memory before it answers a message.
+fn wants_memory() -> RelayFault
+    ensures fault { result.fault ≡ Fault.Memory }
+    ensures counts { (result.counts.written ≡ 0) × (result.counts.refused ≡ 0) }
+{
+    RelayFault {
+        fault: Fault::Memory,
+        counts: Counts {
+            written: 0,
+            refused: 0,
+        },
+    }
+}
+
 /// As `relay`, with a pause before each message is read and a region of any length: a message that doesn't fit into it is edited in memory from `alloc`. A fault of a pause ends the run as `Out` or `Log`: the messages before it
 /// are answered whole.
 pub fn relay_pausing<R: BufRead, W: Write, L: Write, P: Pause<R, W, L>>(
@@ -63,8 +79,11 @@ pub fn relay_pausing<R: BufRead, W: Write, L: Write, P: Pause<R, W, L>>(
 {
     region.fill(0);
     let limit = options.bounds.words as usize;
+    let calls = match RootCalls::new(alloc, root, calls) {
+        Ok(calls) => calls,
+        Err(_) => return Err(wants_memory()),
+    };
     let answers = CallsAtRoot {
-        schema: root,
         calls,
         bounds: options.bounds,
     };

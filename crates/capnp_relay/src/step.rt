@@ -1,5 +1,5 @@
 //! One message of a run.
-ghost use Rattle.std.specs.Prelude.{◌≡◌, ◌≢◌, List, ◌+◌, ◌-◌, ◌^◌, ◌<◌, ◌≤◌, ◌⊎◌, IfOk, IfErr, OnOk, Err, length};
+ghost use Rattle.std.specs.Prelude.{◌≡◌, ◌≢◌, ℕ, List, ◌+◌, ◌-◌, ◌^◌, ◌<◌, ◌≤◌, ◌⊎◌, IfOk, IfErr, OnOk, Err, length};
 ghost use Rattle.capnp_units.specs.declared.kinds.ErrorKind.{ErrorKind};
 ghost use Rattle.capnp_model.specs.Segments.{Segments};
 ghost use Rattle.capnp_model.specs.Messages.{spelled};
@@ -7,10 +7,11 @@ ghost use Rattle.capnp_model.specs.Answers.{Reply as ModelReply, written};
 ghost use Rattle.capnp_model.specs.Runs.{line_of, output_of};
 ghost use Rattle.capnp_copy.specs.Memory.{AllZero};
 ghost use Rattle.capnp_canonical.specs.Writes.{filled};
-ghost use Rattle.capnp_stream.specs.Segments.{whole_words, segments_of};
+ghost use Rattle.capnp_stream.specs.Buffers.{found_segments};
+ghost use Rattle.capnp_stream.specs.Segments.{whole_words, words_in};
 ghost use Rattle.capnp_stream.specs.Writing.{IsSegment};
 ghost use Rattle.capnp_answers.specs.Answers.{answer_view, StandsIn};
-ghost use Rattle.capnp_relay.specs.Answers.{written_one, refused_one};
+ghost use Rattle.capnp_relay.specs.Answers.{written_one, refused_one, WritesFront};
 ghost use Rattle.capnp_relay.specs.Streams.{SinkTakes, sink_of, streams_of};
 ghost use Rattle.capnp_relay.specs.Work.{work_by};
 ghost use Rattle.capnp_relay.specs.Stops.{Steps, SinkRefused};
@@ -20,9 +21,9 @@ use crate::ends::{Counts, Fault};
 use crate::logging::log_line;
 use capnp_answers::answer::{MessageAnswer, Want};
 use capnp_canonical::laws::segments_of_words;
+use capnp_stream::buffers::NoAllocSliceSegments;
 use capnp_stream::forms::MessageForm;
-use capnp_stream::frames::try_read_message_in;
-use capnp_stream::segments::OwnedSegments;
+use capnp_stream::kept::MessageBuffer;
 use capnp_stream::traits::{BufRead, Read, Write};
 use capnp_stream::writing::write_segment_in;
 use capnp_units::errors::Error;
@@ -33,6 +34,8 @@ use std::alloc::Global;
 /// Buffers that are kept from message to message: they grow only where a message wants more of them than those before.
 #[derive(Drop)]
 pub(crate) struct Buffers {
+    /// The message that was read lies at the front.
+    message: MessageBuffer,
     /// What is written of an answer stands at the front.
     words: Vec<Word>,
     /// The line of the log.
@@ -40,45 +43,47 @@ pub(crate) struct Buffers {
 }
 
 impl Buffers {
-    /// No words and no line.
+    /// Buffers that have taken no memory yet.
     pub(crate) fn new(alloc: Global) -> Buffers {
         Buffers {
+            message: MessageBuffer::new(alloc),
             words: Vec::new(alloc),
             line: Vec::new(alloc),
         }
     }
 }
 
-/// The answer to a message, of which `answered` came before. Its words and its line stand in the buffers.
+/// The answer to a message, of which `answered` came before. Its words stand at the front of the buffer, and its line is put in place of the bytes.
 fn prepare<A: Answers>(
     alloc: Global,
     answers: &A,
     answered: u64,
-    message: &OwnedSegments,
+    message: &NoAllocSliceSegments<'_>,
     region: &mut [u8],
-    buffers: &mut Buffers,
+    words: &mut Vec<Word>,
+    line: &mut Vec<u8>,
 ) -> Result<MessageAnswer, Fault>
     requires zeros { AllZero region.old }
     ensures room { OnOk result (answered < 2 ^ 64 - 1) }
-    ensures answer { IfOk result (λ a. A.is_answer answers.now (segments_of message.now)
-        (answer_view buffers.new.words.items a)) }
-    ensures stands { IfOk result (StandsIn buffers.new.words.items) }
-    ensures line { IfOk result (λ a. buffers.new.line.items
-        ≡ line_of (answered + 1) (answer_view buffers.new.words.items a)) }
+    ensures answer { IfOk result (λ a. A.is_answer answers.now
+        (words_in (found_segments message.now)) (answer_view words.new.items a)) }
+    ensures stands { IfOk result (StandsIn words.new.items) }
+    ensures line { IfOk result
+        (λ a. line.new.items ≡ line_of (answered + 1) (answer_view words.new.items a)) }
     ensures err { IfErr result (λ f. (f ≡ Fault.Memory) ⊎ (f ≡ Fault.Size)) }
     ensures size { result ≡ Err Fault.Size → (answered ≡ 2 ^ 64 - 1)
-        ⊎ A.is_too_large answers.now (segments_of message.now) }
+        ⊎ A.is_too_large answers.now (words_in (found_segments message.now)) }
     ensures zeros { region.new ≡ region.old }
 {
     if answered == u64::MAX {
         return Err(Fault::Size);
     }
-    let answer = match answers.answer(alloc, message, region, &mut buffers.words) {
+    let answer = match answers.answer(alloc, message, region, words) {
         Ok(answer) => answer,
         Err(Want::Memory) => return Err(Fault::Memory),
         Err(Want::Size) => return Err(Fault::Size),
     };
-    match log_line(&mut buffers.line, answered + 1, &answer) {
+    match log_line(line, answered + 1, &answer) {
         Ok(()) => Ok(answer),
         Err(_) => Err(Fault::Memory),
     }
@@ -110,6 +115,7 @@ fn sink_fault(e: Error, sink: Fault) -> Fault
 }
 
 /// The first words, so many, as the bytes of a segment.
+#[inline]
 fn segment_of(words: &[Word], count: usize) -> &[u8]
     requires there { count ≤ length words.now }
     requires few { count < 2 ^ 29 }
@@ -119,6 +125,19 @@ fn segment_of(words: &[Word], count: usize) -> &[u8]
     let front = &words[..count];
     segments_of_words(front);
     words_as_bytes(front)
+}
+
+/// How many words at the front of a buffer are written for an answer; none where the message is skipped.
+#[inline]
+fn written_count(answer: &MessageAnswer) -> Option<usize>
+    ensures { (words : List (List ℕ)) → StandsIn words answer.now
+        → WritesFront words (answer_view words answer.now) result }
+{
+    match answer {
+        MessageAnswer::Written { count, replies: _ } => Some(*count),
+        MessageAnswer::Done { count, calls: _ } => Some(*count),
+        MessageAnswer::Refused(_) => None,
+    }
 }
 
 /// Writes a written answer, whose words stand at the front of these, as one message, and counts it.
@@ -140,8 +159,8 @@ fn put_out<O: MessageForm, W: Write>(
         × SinkRefused Fault.Out W.may_grow f (sink out.old) (sink out.new)
         (spelled O.writer segments) × (counts.new ≡ counts.old)) }
 {
-    if let MessageAnswer::Written { count, replies: _ } = answer {
-        let segment = segment_of(words, *count);
+    if let Some(count) = written_count(answer) {
+        let segment = segment_of(words, count);
         if let Err(e) = write_segment_in::<O, W>(out, segment) {
             return Err(sink_fault(e, Fault::Out));
         }
@@ -150,24 +169,24 @@ fn put_out<O: MessageForm, W: Write>(
     Ok(())
 }
 
-/// Writes the line of an answer, which stands in the buffers, and counts a refusal.
+/// Writes the line of an answer, and counts a refusal.
+#[inline]
 fn put_log<L: Write>(
     log: &mut L,
     answer: &MessageAnswer,
-    buffers: &Buffers,
+    line: &[u8],
     counts: &mut Counts,
 ) -> Result<(), Fault>
     requires room { counts.old.refused < 2 ^ 64 - 1 }
-    ensures ok { let sink = sink_of ⟦<L as Write>⟧ in OnOk result
-        (SinkTakes (sink log.old) (sink log.new) buffers.now.line.items
-        × (counts.new.refused ≡ counts.old.refused
-        + refused_one (answer_view buffers.now.words.items answer.now))) }
+    ensures ok { (words : List (List ℕ)) → let sink = sink_of ⟦<L as Write>⟧ in OnOk result
+        (SinkTakes (sink log.old) (sink log.new) line.now
+        × (counts.new.refused ≡ counts.old.refused + refused_one (answer_view words answer.now))) }
     ensures written { counts.new.written ≡ counts.old.written }
     ensures err { let sink = sink_of ⟦<L as Write>⟧ in IfErr result (λ f.
-        SinkRefused Fault.Log L.may_grow f (sink log.old) (sink log.new) buffers.now.line.items
+        SinkRefused Fault.Log L.may_grow f (sink log.old) (sink log.new) line.now
         × (counts.new.refused ≡ counts.old.refused)) }
 {
-    if let Err(e) = log.write_all(&buffers.line) {
+    if let Err(e) = log.write_all(line) {
         return Err(sink_fault(e, Fault::Log));
     }
     if let MessageAnswer::Refused(_) = answer {
@@ -197,13 +216,24 @@ pub(crate) fn step<I: MessageForm, O: MessageForm, R: BufRead, W: Write, L: Writ
         counts.old counts.new result }
     ensures zeros { region.new ≡ region.old }
 {
-    let message = match try_read_message_in::<I, R>(alloc, source, Some(limit)) {
+    let message = match buffers
+        .message
+        .try_read_message::<I, R>(source, Some(limit))
+    {
         Ok(Some(message)) => message,
         Ok(None) => return Ok(false),
         Err(e) => return Err(source_fault(e)),
     };
-    let answer = prepare(alloc, answers, answered, &message, region, buffers)?;
+    let answer = prepare(
+        alloc,
+        answers,
+        answered,
+        &message,
+        region,
+        &mut buffers.words,
+        &mut buffers.line,
+    )?;
     put_out::<O, W>(out, &answer, &buffers.words, counts)?;
-    put_log(log, &answer, buffers, counts)?;
+    put_log(log, &answer, &buffers.line, counts)?;
     Ok(true)
 }

@@ -8,8 +8,8 @@ use crate::pauses::NoPause;
 use crate::run::answer_all;
 use capnp_answers::answer::{MessageAnswer, Reason, Want};
 use capnp_calls::reply::Reply;
+use capnp_stream::buffers::NoAllocSliceSegments;
 use capnp_stream::forms::Framed;
-use capnp_stream::segments::OwnedSegments;
 use capnp_stream::traits::{BufRead, Read, Write};
 use capnp_test_streams::{Drip, Short};
 use capnp_units::kinds::ErrorKind;
@@ -19,7 +19,7 @@ use std::alloc::Global;
 use std::test::Fail;
 
 /// The first word of a message.
-fn first_word(message: &OwnedSegments) -> Option<u64> {
+fn first_word(message: &NoAllocSliceSegments<'_>) -> Option<u64> {
     let bytes = message.get_segment(0)?.first_chunk::<8>()?;
     Some(u64::from_le_bytes(*bytes))
 }
@@ -36,7 +36,7 @@ impl Answers for Echo {
     fn answer(
         &self,
         alloc: Global,
-        message: &OwnedSegments,
+        message: &NoAllocSliceSegments<'_>,
         _region: &mut [u8],
         words: &mut Vec<Word>,
     ) -> Result<MessageAnswer, Want> {
@@ -67,7 +67,7 @@ impl Answers for Wanting {
     fn answer(
         &self,
         _alloc: Global,
-        _message: &OwnedSegments,
+        _message: &NoAllocSliceSegments<'_>,
         _region: &mut [u8],
         _words: &mut Vec<Word>,
     ) -> Result<MessageAnswer, Want> {

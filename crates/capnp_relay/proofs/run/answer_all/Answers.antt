@@ -7,7 +7,7 @@ use Rattle.capnp_relay.proofs.PauseLemmas.{Answered-rests}
 use Rattle.capnp_relay.proofs.run.answer_all.Goals as goal
 
 pub loop-fault-init : goal.loop-fault-init
-loop-fault-init g c = record { zeros = refl; together = refl; run = ([], [], refl, Answered-nil _ g.met.I.MessageForm.fronts _ _ refl refl) }
+loop-fault-init g c = record { zeros = refl; together = refl; run = ([], [], refl, Answered-nil _ _ _ refl refl) }
 
 pub loop-fault-preserved : goal.loop-fault-preserved
 loop-fault-preserved g c =

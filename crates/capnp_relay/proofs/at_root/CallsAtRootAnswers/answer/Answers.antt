@@ -1,20 +1,21 @@
-use Rattle.std.proofs.Common.{map}
 use Rattle.std.proofs.lemmas.Result.{IfOk-weaker}
-use Rattle.capnp_stream.specs.Segments.{segments_of}
-use Rattle.capnp_calls.specs.CallViews.{call_view}
+use Rattle.capnp_units.specs.Segments.{words_in}
+use Rattle.capnp_stream.specs.Buffers.{found_segments}
 use Rattle.capnp_answers.specs.Answers.{answer_view}
+use Rattle.capnp_answers.specs.RootCalls.{root_schema, root_calls}
 use Rattle.capnp_relay.proofs.Reading.{ReadsAsMade-of}
 use Rattle.capnp_relay.proofs.at_root.CallsAtRootAnswers.answer.Goals as goal
 
 pub returns-clause-value : goal.returns-clause-value
 returns-clause-value c =
     let here = c.args.self.now in
-    let s = segments_of c.args.message.now in
+    let root = root_schema here.calls in
+    let s = words_in (found_segments c.args.message.now) in
     let into = c.answer_in_place.new.words.items in
-    let no_group = c.roots_are_no_groups.ensures here.schema here.root in
-    let given = c.calls_are_given.ensures here.schema here.calls.now in
+    let no_group = c.roots_are_no_groups.ensures root here.calls.root in
+    let given = c.calls_are_given.ensures root here.calls.calls.now in
     IfOk-weaker c.answer_in_place.result _ _ (λ a h. record {
       same = h.same;
       means = h.means;
-      reads = ReadsAsMade-of here.schema (map call_view here.calls.now) here.bounds c.records_of_written_values.ensures.reads here.schema.set.now.accepted no_group given s (answer_view into a) h.same h.means;
+      reads = ReadsAsMade-of root (root_calls here.calls) here.bounds c.records_of_written_values.ensures.reads root.set.now.accepted no_group given s (answer_view into a) h.same h.means;
     }) (rw c.new-arena.ensures.segments at c.answer_in_place.ensures.answer)
