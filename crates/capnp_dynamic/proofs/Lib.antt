@@ -14,3 +14,5 @@ pub mod Verbs
 pub mod InitSlots
 pub mod NewLists
 pub mod Begun
+pub mod Sources
+pub mod AnyValues

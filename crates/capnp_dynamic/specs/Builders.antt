@@ -1,5 +1,5 @@
 -- What contracts see of struct builders. (Encoding, "Structs")
-use Rattle.std.specs.Prelude.{◌≡◌, ℕ, ℤ, List, length, map, Option, IfSome, Result}
+use Rattle.std.specs.Prelude.{◌≡◌, ⊤, ℕ, ℤ, List, length, map, Option, IfSome, Result}
 use Rattle.capnp_model.specs.Segments.{Segments}
 use Rattle.capnp_model.specs.Calls.{Content}
 use Rattle.capnp_model.specs.Edits.{Edit}
@@ -10,11 +10,13 @@ use Rattle.capnp_wire.specs.Views.{StructView, struct_at}
 use Rattle.capnp_queries.specs.Structs.{schema_around, shape_of_struct}
 use Rattle.capnp_queries.specs.Handles.{entry_of}
 use Rattle.capnp_queries.specs.declared.fields.Field.{Field}
+use Rattle.capnp_copy_from.specs.Copies.{GrowsByZeros}
 use Rattle.capnp_builders.specs.Making.{state_of}
 use Rattle.capnp_dynamic.specs.Edits.{IsThere, IsWide, Edits}
 use Rattle.capnp_dynamic.specs.Puts.{PutsContent}
 use Rattle.capnp_dynamic.specs.Inits.{LiesIn}
 use Rattle.capnp_dynamic.specs.Begun.{TellsBegun, IsPartThere}
+use Rattle.capnp_dynamic.specs.Values.{Given, PutsGiven}
 use Rattle.capnp_dynamic.specs.declared.init.Part.{Part}
 use Rattle.capnp_dynamic.specs.declared.dynamic_struct.Builder.{Builder}
 
@@ -47,6 +49,13 @@ module _ {A : Type 0} (bytes : A → List (List ℕ)) where
     pub schema : new.schema ≡ old.schema
     pub bytes_stay : bytes new.memory.now.arena ≡ bytes old.memory.now.arena
 
+  -- The handle is as it was, and all words of the message stand; new ones are zero.
+  pub record KeepsWords (old new : Builder A) : Type 0 where
+    pub same : new.memory.ghost_name ≡ old.memory.ghost_name
+    pub place : new.place ≡ old.place
+    pub schema : new.schema ≡ old.schema
+    pub stands : GrowsByZeros (words_around old) (words_around new)
+
   -- The struct as readers see it, under the arena's nesting limit.
   abbrev pub struct_of : (A → ℤ) → Builder A → StructView
   struct_of nesting b = struct_at (bytes b.memory.now.arena) (nesting b.memory.now.arena) (place_view b.place.start) b.place.data_words b.place.pointers
@@ -58,6 +67,13 @@ module _ {A : Type 0} (segments : A → List (List ℕ)) (room : A → List ℕ)
     pub place : new.place ≡ old.place
     pub schema : new.schema ≡ old.schema
     pub puts : PutsContent (state_of segments room books old.memory.now) (state_of segments room books new.memory.now) old.place f content r
+
+  -- What is given for a value is put into a field of the struct, by a handle that stays where it was.
+  pub record Sets (old new : Builder A) (f : Content → Edit) (given : Given) (r : Result ⊤ Error) : Type 0 where
+    pub same : new.memory.ghost_name ≡ old.memory.ghost_name
+    pub place : new.place ≡ old.place
+    pub schema : new.schema ≡ old.schema
+    pub puts : PutsGiven (state_of segments room books old.memory.now) (state_of segments room books new.memory.now) old.place f given r
 
 -- The struct that was put into a field: where it lies behind the field's pointer, under which schema; it is there, and wide enough.
 pub record IsPartOf {A : Type 0} (bytes : A → List (List ℕ)) (old new : Builder A) (f : Field) (part : Part) : Type 0 where

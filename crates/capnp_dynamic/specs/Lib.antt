@@ -4,8 +4,10 @@ pub mod Calls
 pub mod Given
 pub mod Blobs
 pub mod Puts
+pub mod Sources
 pub mod Inits
 pub mod Begun
+pub mod Values
 pub mod NewLists
 pub mod Builders
 pub mod Lending

@@ -1,9 +1,10 @@
 //! Structs whose schema is known at run time, to write.
 ghost use Rattle.std.specs.Prelude.{◌≡◌, ◌↔◌, true, Ok, IsOkAnd, IfOk, OnOk, OnErr};
 ghost use Rattle.capnp_model.specs.Calls.{clear, init, initn};
-ghost use Rattle.capnp_dynamic.specs.Builders.{IsReady, WritesInPlace, Stays, Puts, IsPartOf, IsBegunBy, struct_of};
+ghost use Rattle.capnp_dynamic.specs.Builders.{IsReady, WritesInPlace, Stays, KeepsWords, Puts, Sets, IsPartOf, IsBegunBy, struct_of};
 ghost use Rattle.capnp_dynamic.specs.Calls.{edit_of};
-ghost use Rattle.capnp_dynamic.specs.Given.{is_flat, set_content, set_edit};
+ghost use Rattle.capnp_dynamic.specs.Given.{is_flat};
+ghost use Rattle.capnp_dynamic.specs.Values.{is_for_slot, value_given, content_edit};
 ghost use Rattle.capnp_dynamic.specs.Edits.{IsThere, IsWide};
 ghost use Rattle.capnp_dynamic.specs.Begun.{begun_field};
 ghost use Rattle.capnp_dynamic.specs.Inits.{init_content, is_slot};
@@ -19,8 +20,8 @@ ghost use Rattle.capnp_values.specs.Shown.{has_field, active_index, AnswersNamed
 use crate::begin::begin_field;
 use crate::init::{Part, init_slot};
 use crate::initn::initn_slot;
-use crate::setting::set_flat;
 use crate::slots::clear_field;
+use crate::values::set_value;
 use capnp_builders::struct_builder::StructBuilder;
 use capnp_copy::arena::{BuilderArena, Memory};
 use capnp_copy::fields::StructPlace;
@@ -28,6 +29,7 @@ use capnp_queries::fields::Field;
 use capnp_queries::structs::StructSchema;
 use capnp_units::errors::Result;
 use capnp_values::{dynamic_struct, dynamic_value};
+use capnp_wire::arena::ReaderArena;
 use capnp_wire::structs::StructReader;
 
 /// Whether a struct has at least a schema's two sizes, as its builder asks.
@@ -149,41 +151,52 @@ impl<'a, A: BuilderArena> Builder<'a, A> {
         Ok(())
     }
 
-    /// Sets a field to a value that is Void, a truth value, a number, an enum's, a text or data. A plain field takes a value of its type, one of an enum any enum's; a field of texts or of data takes one of its own, an untyped one both; a Void field takes each. A union member becomes the active one. A plain value takes no memory; a text or data the words of its list where the struct's segment has room for them, else at most one more.
+    /// Sets a field to a value. A plain field takes a value of its type, one of an enum any enum's; a field of texts or of data takes one of its own, one of structs any struct and one of lists any list, whatever their schema, which are copied whole; an untyped one takes these four; a Void field takes each value. A union member becomes the active one. A plain value takes no memory; a text or data the words of its list where the struct's segment has room for them, else at most one more; a copy at most twice the words of its objects.
     ///
-    /// It is refused with `CannotSetAnyPointerFieldToAPrimitiveValue` where the field is untyped, with `SettingDynamicCapabilitiesIsUnsupported` where it is a capability, with `NotAStruct` where it is a group, and else with `TypeMismatch`; a text or data with `SizeOverflow` just where its bytes, a text's with its zero byte, or the message's words, a pad counted, would pass 2^29 - 1, else as the allocator refuses. Then the struct is as it was, its union included.
-    pub fn set<B>(&mut self, field: Field<'_>, value: dynamic_value::Reader<'_, B>) -> Result<()>
+    /// It is refused with `SettingDynamicCapabilitiesIsUnsupported` where the field is a capability, or untyped and the value a capability, else with `CannotSetAnyPointerFieldToAPrimitiveValue` where the field is untyped, with `NotAStruct` where it is a group, and else with `TypeMismatch`; a text or data with `SizeOverflow` just where its bytes, a text's with its zero byte, or the message's words, a pad counted, would pass 2^29 - 1, else as the allocator refuses; a struct or a list as `PointerBuilder::set_struct` and `set_list` under no limit of words. Then all words stand as they were, the struct's union included, and those that were allocated for a copy are zero.
+    pub fn set<B: ReaderArena>(
+        &mut self,
+        field: Field<'_>,
+        value: dynamic_value::Reader<'_, B>,
+    ) -> Result<()>
         requires ready { IsReady A.segments self.old }
         requires field { field.parent ≡ self.old.schema }
-        requires flat { is_flat value ≡ true }
         ensures same { self.new.memory.ghost_name ≡ self.old.memory.ghost_name }
-        ensures puts { Puts A.segments A.room A.books self.old self.new
-            (set_edit field.entry value.entry) (set_content value.entry (entry_of field.entry))
-            result }
-        ensures refused { OnErr result (Stays A.segments self.old self.new) }
+        ensures sets { is_for_slot value.entry (entry_of field.entry) ≡ true
+            → Sets A.segments A.room A.books self.old self.new (content_edit field.entry)
+            (value_given B.segments value.entry (entry_of field.entry)) result }
+        ensures refused { OnErr result (KeepsWords A.segments self.old self.new) }
+        ensures flat { is_flat value.entry ≡ true
+            → OnErr result (Stays A.segments self.old self.new) }
         ensures books { A.books self.new.memory.now.arena ≡ A.books self.old.memory.now.arena }
         ensures ready { IsReady A.segments self.new }
     {
         let place = self.place;
-        set_flat(&mut self.memory.arena, place, field, &value)
+        set_value(self.memory, place, field, &value)
     }
 
     /// Sets the field of a name, as by `set`. A name that the struct lacks is refused by `FieldNotFound`, and the struct is as it was.
-    pub fn set_named<B>(&mut self, name: &str, value: dynamic_value::Reader<'_, B>) -> Result<()>
+    pub fn set_named<B: ReaderArena>(
+        &mut self,
+        name: &str,
+        value: dynamic_value::Reader<'_, B>,
+    ) -> Result<()>
         requires ready { IsReady A.segments self.old }
-        requires flat { is_flat value ≡ true }
         ensures same { self.new.memory.ghost_name ≡ self.old.memory.ghost_name }
-        ensures set { AnswersNamed self.old.schema name.now (λ f.
-            Puts A.segments A.room A.books self.old self.new (set_edit f value.entry)
-            (set_content value.entry (entry_of f))) result }
-        ensures refused { OnErr result (Stays A.segments self.old self.new) }
+        ensures set { AnswersNamed self.old.schema name.now (λ f r.
+            is_for_slot value.entry (entry_of f) ≡ true
+            → Sets A.segments A.room A.books self.old self.new (content_edit f)
+            (value_given B.segments value.entry (entry_of f)) r) result }
+        ensures refused { OnErr result (KeepsWords A.segments self.old self.new) }
+        ensures flat { is_flat value.entry ≡ true
+            → OnErr result (Stays A.segments self.old self.new) }
         ensures books { A.books self.new.memory.now.arena ≡ A.books self.old.memory.now.arena }
         ensures ready { IsReady A.segments self.new }
     {
         let place = self.place;
         let schema = self.schema;
         let field = schema.get_field_by_name(name)?;
-        set_flat(&mut self.memory.arena, place, field, &value)
+        set_value(self.memory, place, field, &value)
     }
 
     /// Clears the field of a name, as by `clear`. A name that the struct lacks is refused by `FieldNotFound`, and nothing else is; then the struct is as it was.

@@ -7,3 +7,4 @@ pub mod init;
 pub mod initn;
 pub mod setting;
 pub mod slots;
+pub mod values;

@@ -20,21 +20,22 @@ use capnp_units::errors::{Error, Result};
 use capnp_units::kinds::ErrorKind;
 use capnp_units::sizes::StructSize;
 use capnp_values::dynamic_value::Reader;
+use capnp_wire::arena::NullArena;
 use capnp_wire::place::{Place, has_words};
 use std::alloc::Global;
 use std::test::Fail;
 
-const ROOT: Place = Place {
+pub(crate) const ROOT: Place = Place {
     segment: 0,
     position: 0,
 };
 
 /// Hands out one segment of so many words.
 #[derive(Drop)]
-struct Single {
-    alloc: Global,
-    words: u32,
-    is_left: bool,
+pub(crate) struct Single {
+    pub(crate) alloc: Global,
+    pub(crate) words: u32,
+    pub(crate) is_left: bool,
 }
 
 impl Allocator for Single {
@@ -61,7 +62,7 @@ impl Allocator for Single {
 
 /// What is done to the field of a name.
 #[derive(Clone, Copy)]
-enum Change<'a> {
+pub(crate) enum Change<'a> {
     Number(u16),
     Text(&'a str),
     Data(&'a [u8]),
@@ -71,7 +72,10 @@ enum Change<'a> {
 }
 
 /// A struct of zeros and nulls at the root, of a schema's two sizes.
-fn begun<A: BuilderArena>(memory: &mut Memory<A>, schema: StructSchema<'_>) -> Result<StructPlace>
+pub(crate) fn begun<A: BuilderArena>(
+    memory: &mut Memory<A>,
+    schema: StructSchema<'_>,
+) -> Result<StructPlace>
     ensures { A.books memory.new.arena ≡ A.books memory.old.arena }
 {
     memory.arena.allocate_anywhere(1)?;
@@ -114,19 +118,19 @@ fn put<A: BuilderArena>(builder: &mut Builder<'_, A>, name: &str, change: Change
     ensures books { A.books builder.new.memory.now.arena ≡ A.books builder.old.memory.now.arena }
 {
     match change {
-        Change::Number(value) => builder.set_named(name, Reader::<()>::UInt16(value)),
+        Change::Number(value) => builder.set_named(name, Reader::<NullArena>::UInt16(value)),
         Change::Text(value) => {
             let value = text::Reader(value.as_bytes());
-            builder.set_named(name, Reader::<()>::Text(value))
+            builder.set_named(name, Reader::<NullArena>::Text(value))
         }
-        Change::Data(value) => builder.set_named(name, Reader::<()>::Data(value)),
+        Change::Data(value) => builder.set_named(name, Reader::<NullArena>::Data(value)),
         Change::Clear => builder.clear_named(name),
         Change::Init | Change::InitMany(_) => begin(builder, name, change),
     }
 }
 
 /// Whether a struct has at least its schema's sizes.
-fn is_wide<A: BuilderArena>(
+pub(crate) fn is_wide<A: BuilderArena>(
     memory: &mut Memory<A>,
     place: StructPlace,
     schema: StructSchema<'_>,
@@ -139,7 +143,7 @@ fn is_wide<A: BuilderArena>(
 }
 
 /// A struct to write under its schema.
-fn builder_of<'a, A: BuilderArena>(
+pub(crate) fn builder_of<'a, A: BuilderArena>(
     memory: &'a mut Memory<A>,
     place: StructPlace,
     schema: StructSchema<'a>,
@@ -175,7 +179,7 @@ fn edit<A: BuilderArena>(
 }
 
 /// The schema of an id.
-fn schema_of(set: &SchemaSet, id: u64) -> Result<StructSchema<'_>> {
+pub(crate) fn schema_of(set: &SchemaSet, id: u64) -> Result<StructSchema<'_>> {
     let Some(raw) = set.struct_or_group_by_id(id) else {
         return Err(Error::from(ErrorKind::NotAStruct));
     };
@@ -183,7 +187,7 @@ fn schema_of(set: &SchemaSet, id: u64) -> Result<StructSchema<'_>> {
 }
 
 /// A struct of the first edit's schema at the root, edited by each, and how the last was refused. Each names its schema, the struct's or its group's.
-fn edited<A: BuilderArena>(
+pub(crate) fn edited<A: BuilderArena>(
     memory: &mut Memory<A>,
     set: &SchemaSet,
     id: u64,
@@ -227,7 +231,10 @@ fn run(
 }
 
 /// The used bytes of the first segment.
-fn first_of<A: Allocator>(alloc: Global, arena: &BuilderArenaImpl<A>) -> Result<Vec<u8>> {
+pub(crate) fn first_of<A: Allocator>(
+    alloc: Global,
+    arena: &BuilderArenaImpl<A>,
+) -> Result<Vec<u8>> {
     let all = arena.get_segments_for_output(alloc)?;
     if all.is_empty() {
         return Err(Error::from(ErrorKind::OutOfBounds));

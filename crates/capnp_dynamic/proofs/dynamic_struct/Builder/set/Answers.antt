@@ -3,10 +3,10 @@ use Rattle.capnp_dynamic.proofs.Grown.{there_grown}
 use Rattle.capnp_dynamic.proofs.Ready.{field_inside}
 use Rattle.capnp_dynamic.proofs.dynamic_struct.Builder.set.Goals as goal
 
-pub set_flat-requires-clause-inside : goal.set_flat-requires-clause-inside
-set_flat-requires-clause-inside g c = field_inside c.args.self.now.place c.args.self.now.schema c.args.field c.requires.field c.requires.ready.wide
+pub set_value-requires-clause-inside : goal.set_value-requires-clause-inside
+set_value-requires-clause-inside g c = field_inside c.args.self.now.place c.args.self.now.schema c.args.field c.requires.field c.requires.ready.wide
 
 pub returns-clause-ready : goal.returns-clause-ready
 returns-clause-ready g c =
     let old = c.args.self.now in
-    record { there = there_grown (words_in (g.A.ReaderArena.segments old.memory.now.arena)) (words_in (g.A.ReaderArena.segments c.set_flat.new.arena)) old.place c.set_flat.ensures.grows c.requires.ready.there; wide = c.requires.ready.wide }
+    record { there = there_grown (words_in (g.A.ReaderArena.segments old.memory.now.arena)) (words_in (g.A.ReaderArena.segments c.set_value.new.memory.arena)) old.place c.set_value.ensures.stands.grows c.requires.ready.there; wide = c.requires.ready.wide }

@@ -1,0 +1,239 @@
+//! Values of any kind, set into slots: structs and lists are copied whole.
+ghost use Rattle.std.specs.Prelude.{◌≡◌, ◌<◌, ◌^◌, ◌&&◌, true, false, option_map, OnSome, OnErr};
+ghost use Rattle.std.specs.Option.{is_some};
+ghost use Rattle.capnp_model.specs.Accepted.{areas_of};
+ghost use Rattle.capnp_model.specs.Segments.{words_at};
+ghost use Rattle.capnp_units.specs.Segments.{words_in};
+ghost use Rattle.capnp_wire.specs.Places.{place_view};
+ghost use Rattle.capnp_wire.specs.Views.{seen_struct, seen_list};
+ghost use Rattle.capnp_builders.specs.Copied.{SetsStruct, SetsList};
+ghost use Rattle.capnp_builders.specs.Making.{state_of};
+ghost use Rattle.capnp_queries.specs.Structs.{shape_of_struct};
+ghost use Rattle.capnp_queries.specs.Handles.{entry_of};
+ghost use Rattle.capnp_queries.specs.Types.{ty_of};
+ghost use Rattle.capnp_values.specs.Sources.{WithoutLimit, struct_seen, list_seen};
+ghost use Rattle.capnp_dynamic.specs.Begun.{is_untyped};
+ghost use Rattle.capnp_dynamic.specs.Edits.{IsThere};
+ghost use Rattle.capnp_dynamic.specs.Given.{is_flat};
+ghost use Rattle.capnp_dynamic.specs.Inside.{LieIn};
+ghost use Rattle.capnp_dynamic.specs.Sources.{source_seen, source_given, SetsSource, PutsSource, EditsWithin, Stands};
+ghost use Rattle.capnp_dynamic.specs.Values.{is_capability, value_given, IsPointerSlot, content_edit, tree_edit, PutsGiven};
+
+use crate::setting::set_flat;
+use crate::slots::{mark, pointer_place};
+use capnp_builders::pointer_builder::PointerBuilder;
+use capnp_copy::arena::{BuilderArena, Memory};
+use capnp_copy::fields::StructPlace;
+use capnp_queries::fields::Field;
+use capnp_queries::introspect::{Type, TypeVariant};
+use capnp_queries::slots::FieldPlace;
+use capnp_units::errors::{Error, Result};
+use capnp_units::kinds::ErrorKind;
+use capnp_units::limiter::ReadLimiter;
+use capnp_values::dynamic_value::Reader;
+use capnp_values::source::{ListSource, StructSource};
+use capnp_wire::arena::ReaderArena;
+use capnp_wire::list::ListReader;
+use capnp_wire::place::Place;
+use capnp_wire::structs::StructReader;
+
+/// A struct or a list that is copied.
+pub enum Source<'a, B> {
+    Struct(StructSource<'a, B>),
+    List(ListSource<'a, B>),
+}
+
+/// The struct or the list that a value is, if a slot of a pointer's type takes it.
+fn source_for<'a, B: ReaderArena>(ty: Type, value: &Reader<'a, B>) -> Option<Source<'a, B>>
+    ensures given { option_map (source_seen B.segments) result
+        ≡ source_given B.segments value.now (ty_of ty) }
+    ensures flat { OnSome result (is_flat value.now ≡ false) }
+{
+    match (ty.which(), value) {
+        (TypeVariant::Struct(_) | TypeVariant::AnyPointer, Reader::Struct(value)) => {
+            Some(Source::Struct(value.source()))
+        }
+        (TypeVariant::List(_) | TypeVariant::AnyPointer, Reader::List(value)) => {
+            Some(Source::List(value.source()))
+        }
+        _ => None,
+    }
+}
+
+/// Whether a slot of a type is untyped and the value a capability.
+fn is_untyped_capability<B>(ty: Type, value: &Reader<'_, B>) -> bool
+    ensures { result ≡ (is_untyped (ty_of ty) && is_capability value.now) }
+{
+    match (ty.which(), value) {
+        (TypeVariant::AnyPointer, Reader::Capability(_)) => true,
+        _ => false,
+    }
+}
+
+/// Puts a copy of a struct in place of the value of the pointer at a place.
+fn put_struct<A: BuilderArena, B: ReaderArena>(
+    memory: &mut Memory<A>,
+    slot: Place,
+    limiter: &mut ReadLimiter,
+    value: StructReader<'_, B>,
+) -> Result<()>
+    requires there { is_some (words_at (words_in (A.segments memory.old.arena)) (place_view slot)
+        1) ≡ true }
+    requires near { slot.position < 2 ^ 61 }
+    ensures copy { SetsStruct (seen_struct B.segments value.entry)
+        (words_in (A.segments memory.old.arena))
+        (words_in (A.segments memory.new.arena)) (place_view slot) limiter.old result limiter.new }
+    ensures books { A.books memory.new.arena ≡ A.books memory.old.arena }
+{
+    let mut pointer = PointerBuilder {
+        memory,
+        place: slot,
+    };
+    pointer.set_struct(limiter, value)
+}
+
+/// Puts a copy of a list in place of the value of the pointer at a place.
+fn put_list<A: BuilderArena, B: ReaderArena>(
+    memory: &mut Memory<A>,
+    slot: Place,
+    limiter: &mut ReadLimiter,
+    value: ListReader<'_, B>,
+) -> Result<()>
+    requires there { is_some (words_at (words_in (A.segments memory.old.arena)) (place_view slot)
+        1) ≡ true }
+    requires near { slot.position < 2 ^ 61 }
+    ensures copy { SetsList (seen_list B.segments value.entry)
+        (words_in (A.segments memory.old.arena))
+        (words_in (A.segments memory.new.arena)) (place_view slot) limiter.old result limiter.new }
+    ensures books { A.books memory.new.arena ≡ A.books memory.old.arena }
+{
+    let mut pointer = PointerBuilder {
+        memory,
+        place: slot,
+    };
+    pointer.set_list(limiter, value)
+}
+
+/// The same of a struct of a message or of a default.
+fn put_any_struct<A: BuilderArena, B: ReaderArena>(
+    memory: &mut Memory<A>,
+    slot: Place,
+    limiter: &mut ReadLimiter,
+    source: StructSource<'_, B>,
+) -> Result<()>
+    requires there { is_some (words_at (words_in (A.segments memory.old.arena)) (place_view slot)
+        1) ≡ true }
+    requires near { slot.position < 2 ^ 61 }
+    ensures copy { SetsStruct (struct_seen B.segments source.entry)
+        (words_in (A.segments memory.old.arena))
+        (words_in (A.segments memory.new.arena)) (place_view slot) limiter.old result limiter.new }
+    ensures books { A.books memory.new.arena ≡ A.books memory.old.arena }
+{
+    match source {
+        StructSource::Message(value) => put_struct(memory, slot, limiter, value),
+        StructSource::Default(value) => put_struct(memory, slot, limiter, value),
+    }
+}
+
+/// The same of a list.
+fn put_any_list<A: BuilderArena, B: ReaderArena>(
+    memory: &mut Memory<A>,
+    slot: Place,
+    limiter: &mut ReadLimiter,
+    source: ListSource<'_, B>,
+) -> Result<()>
+    requires there { is_some (words_at (words_in (A.segments memory.old.arena)) (place_view slot)
+        1) ≡ true }
+    requires near { slot.position < 2 ^ 61 }
+    ensures copy { SetsList (list_seen B.segments source.entry)
+        (words_in (A.segments memory.old.arena))
+        (words_in (A.segments memory.new.arena)) (place_view slot) limiter.old result limiter.new }
+    ensures books { A.books memory.new.arena ≡ A.books memory.old.arena }
+{
+    match source {
+        ListSource::Message(value) => put_list(memory, slot, limiter, value),
+        ListSource::Default(value) => put_list(memory, slot, limiter, value),
+    }
+}
+
+/// Puts a copy of a struct or of a list in place of the value of the pointer at a place, under no limit of words.
+pub fn put_source<A: BuilderArena, B: ReaderArena>(
+    memory: &mut Memory<A>,
+    slot: Place,
+    source: Source<'_, B>,
+) -> Result<()>
+    requires there { is_some (words_at (words_in (A.segments memory.old.arena)) (place_view slot)
+        1) ≡ true }
+    requires near { slot.position < 2 ^ 61 }
+    ensures copy { WithoutLimit (SetsSource (source_seen B.segments source.entry)
+        (words_in (A.segments memory.old.arena))
+        (words_in (A.segments memory.new.arena)) (place_view slot)) result }
+    ensures books { A.books memory.new.arena ≡ A.books memory.old.arena }
+{
+    let mut unlimited = ReadLimiter::new(None);
+    match source {
+        Source::Struct(source) => put_any_struct(memory, slot, &mut unlimited, source),
+        Source::List(source) => put_any_list(memory, slot, &mut unlimited, source),
+    }
+}
+
+/// Sets a slot behind a pointer of a struct to a copy, and then marks the union.
+fn set_source<A: BuilderArena, B: ReaderArena>(
+    memory: &mut Memory<A>,
+    object: StructPlace,
+    field: Field<'_>,
+    index: u32,
+    source: Source<'_, B>,
+) -> Result<()>
+    requires there { IsThere (words_in (A.segments memory.old.arena)) object }
+    requires inside { LieIn object.data_words object.pointers
+        (areas_of (shape_of_struct field.parent)) }
+    requires index { index < object.pointers }
+    requires slot { IsPointerSlot index (entry_of field) }
+    ensures puts { let s = words_in (A.segments memory.old.arena) in
+        let u = words_in (A.segments memory.new.arena) in
+        WithoutLimit (PutsSource (source_seen B.segments source.entry) s u (λ n t.
+        EditsWithin n s u object (tree_edit field.entry t))) result }
+    ensures stands { Stands (words_in (A.segments memory.old.arena))
+        (words_in (A.segments memory.new.arena)) result }
+    ensures books { A.books memory.new.arena ≡ A.books memory.old.arena }
+{
+    put_source(memory, pointer_place(object, index), source)?;
+    mark(&mut memory.arena, object, field);
+    Ok(())
+}
+
+/// Sets a slot to a value, or a Void slot to any. The value is looked at and memory taken before the union is marked, and the pointer written last, so that after a refusal all words stand, and those that were allocated are zero; after that of a value without pointers nothing was allocated.
+pub fn set_value<A: BuilderArena, B: ReaderArena>(
+    memory: &mut Memory<A>,
+    object: StructPlace,
+    field: Field<'_>,
+    value: &Reader<'_, B>,
+) -> Result<()>
+    requires there { IsThere (words_in (A.segments memory.old.arena)) object }
+    requires inside { LieIn object.data_words object.pointers
+        (areas_of (shape_of_struct field.parent)) }
+    ensures puts { let at = state_of A.segments A.room A.books in
+        PutsGiven (at memory.old) (at memory.new) object (content_edit field.entry)
+        (value_given B.segments value.now (entry_of field.entry)) result }
+    ensures stands { Stands (words_in (A.segments memory.old.arena))
+        (words_in (A.segments memory.new.arena)) result }
+    ensures flat { is_flat value.now ≡ true → OnErr result
+        (A.segments memory.new.arena ≡ A.segments memory.old.arena) }
+    ensures books { A.books memory.new.arena ≡ A.books memory.old.arena }
+{
+    let _said = field.get_proto();
+    match field.place() {
+        FieldPlace::Pointer { index, ty, .. } => {
+            if let Some(source) = source_for(ty, value) {
+                return set_source(memory, object, field, index, source);
+            }
+            if is_untyped_capability(ty, value) {
+                let kind = ErrorKind::SettingDynamicCapabilitiesIsUnsupported;
+                return Err(Error::from(kind));
+            }
+            set_flat(&mut memory.arena, object, field, value)
+        }
+        _ => set_flat(&mut memory.arena, object, field, value),
+    }
+}
