@@ -1,20 +1,17 @@
 //! Builds an entry of an address book, writes it as a packed message, reads it back, and prints it.
 #![tactic(auto)]
 
-ghost use Rattle.std.specs.Prelude.{◌≡◌};
+ghost use Rattle.std.specs.Prelude.{◌≡◌, ◌<◌};
+ghost use Rattle.capnp_message.specs.Built.{words_held, loans_held};
+ghost use Rattle.capnp_message.specs.Placed.{StructLies};
 
 use capnp_builders::pointer_builder::PointerBuilder;
-use capnp_copy::allocator::Allocator;
-use capnp_copy::arena::{BuilderArena, Memory};
-use capnp_copy::fields::StructPlace;
-use capnp_message::message::{Builder, DEFAULT_READER_OPTIONS};
-use capnp_message::roots::root_of;
-use capnp_message::serialize_packed;
+use capnp_builders::struct_builder::StructBuilder;
+use capnp_message::message::{Allocator, Builder, DEFAULT_READER_OPTIONS};
+use capnp_message::placed::{PlacedStruct, StructPlace, StructSize};
+use capnp_message::serialize_packed::{read_message, write_message};
 use capnp_text::text;
-use capnp_units::errors::{Error, Result};
-use capnp_units::kinds::ErrorKind;
-use capnp_units::sizes::StructSize;
-use capnp_wire::place::{Place, has_words};
+use capnp_units::errors::Result;
 use capnp_wire::pointer::PointerReader;
 use std::alloc::Global;
 
@@ -22,46 +19,50 @@ use std::alloc::Global;
 #[derive(Drop)]
 struct Person(StructPlace);
 
-const PERSON: StructSize = StructSize {
-    data_words: 0,
-    pointers: 2,
-};
+impl PlacedStruct for Person {
+    ghost STRUCT_SIZE = { record { data_words = 0; pointers = 2 } };
 
-impl Person {
-    fn set_text<A: BuilderArena>(
-        &self,
-        memory: &mut Memory<A>,
-        at: usize,
-        value: &str,
-    ) -> Result<()>
-        ensures { A.books memory.new.arena ≡ A.books memory.old.arena }
-    {
-        let Place { segment, position } = self.0.start;
-        let position = position.saturating_add(at);
-        let place = Place { segment, position };
-        if position >= 1 << 60 || !has_words(&memory.arena, place, 1) {
-            return Err(Error::from(ErrorKind::OutOfBounds));
-        }
-        PointerBuilder { memory, place }.set_text(value.as_bytes())
+    ghost place_of = { λ person. person.0 };
+
+    const STRUCT_SIZE: StructSize = StructSize {
+        data_words: 0,
+        pointers: 2,
+    };
+
+    fn at_place(place: StructPlace) -> Person {
+        Person(place)
     }
 }
 
-fn build<A: BuilderArena>(memory: &mut Memory<A>) -> Result<()>
-    ensures { A.books memory.new.arena ≡ A.books memory.old.arena }
+impl Person {
+    fn set<A: Allocator>(&self, message: &mut Builder<A>, at: usize, text: &str) -> Result<()>
+        requires there { StructLies (words_held message.old.memory.arena) self.now.0 }
+        requires inside { at < self.now.0.pointers }
+        ensures { loans_held message.new.memory.arena ≡ loans_held message.old.memory.arena }
+    {
+        let (memory, place) = (&mut message.memory, self.0);
+        let field = StructBuilder { memory, place }.get_pointer_field(at);
+        let PointerBuilder { memory, place } = field;
+        PointerBuilder { memory, place }.set_text(text.as_bytes())
+    }
+}
+
+fn build<A: Allocator>(message: &mut Builder<A>) -> Result<()>
+    ensures { loans_held message.new.memory.arena ≡ loans_held message.old.memory.arena }
 {
-    let person = Person(root_of(memory)?.init_struct(PERSON)?.place);
-    person.set_text(memory, 0, "Alice")?;
-    person.set_text(memory, 1, "alice@example.com")
+    let person = message.init_root::<Person>()?;
+    person.set(message, 0, "Alice")?;
+    let person = message.get_root::<Person>()?;
+    person.set(message, 1, "alice@example.com")
 }
 
 /// The person's mail address, read back from a packed message.
 fn relayed<A: Allocator>(alloc: Global, message: &Builder<A>) -> Result<Option<String>> {
     let mut packed = Vec::new(alloc);
     if message.memory.arena.len() > 0 {
-        serialize_packed::write_message(alloc, &mut packed, message)?;
+        write_message(alloc, &mut packed, message)?;
     }
-    let mut bytes = packed.as_slice();
-    let message = serialize_packed::read_message(alloc, &mut bytes, DEFAULT_READER_OPTIONS)?;
+    let message = read_message(alloc, &mut packed.as_slice(), DEFAULT_READER_OPTIONS)?;
     let mut limiter = DEFAULT_READER_OPTIONS.read_limiter();
     let person = PointerReader::get_root_from_arena(&message)?.get_struct(&mut limiter, None)?;
     let mail = person.get_pointer_field(1).get_text(&mut limiter, None)?;
@@ -70,11 +71,10 @@ fn relayed<A: Allocator>(alloc: Global, message: &Builder<A>) -> Result<Option<S
 
 fn main(rt: HostRuntime) -> std::io::Result<()> {
     let mut message = Builder::new_default(rt.alloc());
-    let built = build(&mut message.memory);
-    let read = relayed(rt.alloc(), &message);
+    let mail = build(&mut message).and(relayed(rt.alloc(), &message));
     let _heap = message.into_allocator();
-    match (built, read) {
-        (Ok(()), Ok(Some(mail))) => println!(rt; "{mail}"),
+    match mail {
+        Ok(Some(mail)) => println!(rt; "{mail}"),
         _ => println!(rt; "no address"),
     }
 }
