@@ -1,0 +1,7 @@
+//! Tests of `capnp_plain`, by its public calls alone.
+#![tactic(auto)]
+
+#[cfg(test)]
+mod schemas;
+#[cfg(test)]
+mod tests;
