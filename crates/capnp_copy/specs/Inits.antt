@@ -40,7 +40,7 @@ HasNoRoom old slot n = NoRoom (words_in old.segments) old.room slot.segment n
 abbrev pub Keeps : ArenaState → ArenaState → Type 0
 Keeps old new = Grows (words_in old.segments) (words_in new.segments)
 
--- An object of so many zero words stands in place of the value, where the answer says; its pointer's word is told with offset 0.
+-- An object of so many zero words stands in place of the value, where the answer says, and its pointer's word is told with offset 0; or there is no room, and all stands as it was.
 pub record InitsZeros (old new : ArenaState) (slot : code.Place) (words pointer : ℕ) (r : Result code.Place Error) : Type 0 where
   pub value : IfOk r (λ o. BecomesZeros (words_in old.segments) (words_in new.segments) (place_view slot) words pointer)
   pub object : IfOk r (λ o. LeadsToZeros (words_in new.segments) (place_view slot) (place_view o) words pointer)
@@ -54,7 +54,7 @@ pub record InitsZeros (old new : ArenaState) (slot : code.Place) (words pointer 
   pub books : new.books ≡ old.books
   pub grows : OnOk r (Keeps old new)
 
--- A struct of zeros and nulls stands in place of the value, where the answer says.
+-- A struct of zeros and nulls stands in place of the value, where the answer says; or there is no room, and all stands as it was.
 pub record InitsStruct (old new : ArenaState) (slot : code.Place) (wanted : StructSize) (r : Result StructPlace Error) : Type 0 where
   pub value : IfOk r (λ o. BecomesAt old new slot (structure wanted.data_words 0 (resized wanted.pointers none)))
   pub object : IfOk r (λ o. LeadsTo (words_in new.segments) (place_view slot) (struct_at o))
@@ -69,7 +69,7 @@ pub record InitsStruct (old new : ArenaState) (slot : code.Place) (wanted : Stru
   pub books : new.books ≡ old.books
   pub grows : OnOk r (Keeps old new)
 
--- A list of so many zeros, or nulls, of a size stands in place of the value, where the answer says.
+-- A list of so many zeros, or nulls, of a size stands in place of the value, where the answer says; or there is no room, or too many are wanted, and all stands as it was.
 pub record InitsList (old new : ArenaState) (slot : code.Place) (size : ElementSize) (count : ℕ) (r : Result ListPlace Error) : Type 0 where
   pub value : IfOk r (λ o. BecomesAt old new slot (new_tree (zeros_of (size_number size) count)))
   pub object : IfOk r (λ o. LeadsTo (words_in new.segments) (place_view slot) (list_at o))
@@ -84,7 +84,7 @@ pub record InitsList (old new : ArenaState) (slot : code.Place) (size : ElementS
   pub books : new.books ≡ old.books
   pub grows : OnOk r (Keeps old new)
 
--- A list of so many structs of zeros and nulls stands in place of the value, where the answer says.
+-- A list of so many structs of zeros and nulls stands in place of the value, where the answer says; or there is no room, or too much is wanted, and all stands as it was.
 pub record InitsStructList (old new : ArenaState) (slot : code.Place) (count : ℕ) (size : StructSize) (r : Result ListPlace Error) : Type 0 where
   pub value : IfOk r (λ o. BecomesAt old new slot (struct_list size.data_words size.pointers (zero_elements count size.pointers)))
   pub object : IfOk r (λ o. LeadsTo (words_in new.segments) (place_view slot) (list_at o))
@@ -99,7 +99,7 @@ pub record InitsStructList (old new : ArenaState) (slot : code.Place) (count : �
   pub books : new.books ≡ old.books
   pub grows : OnOk r (Keeps old new)
 
--- A list of so many bytes stands in place of the value: these, and zeros behind them.
+-- A list of so many bytes stands in place of the value, these and zeros behind them; or there is no room, or they are too many, and all stands as it was.
 pub record PutsBytes {X : Type 0} (old new : ArenaState) (slot : code.Place) (count : ℕ) (bytes : List ℕ) (r : Result X Error) : Type 0 where
   pub value : IfOk r (λ o. BecomesAt old new slot (plain_list 2 count (number_of 8 bytes)))
   pub taken : OnOk r (TakesWhereRoom old new slot (words_for (8 * count)))

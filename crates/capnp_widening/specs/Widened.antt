@@ -99,7 +99,7 @@ abbrev pub StructRefused : Segments → Result Found Kind → ℕ → ℕ → Er
 StructRefused s (Err kind) d k e = kind ≡ kind_of e.kind
 StructRefused s (Ok f) d k e = ObjectRefused s f.object d k e
 
--- A struct of these sizes stands in place of a narrower one, where the answer says.
+-- A struct of these sizes stands in place of a narrower one, where the answer says; or there is no room, and all stands as it was.
 pub record WidensStruct (old new : ArenaState) (slot : code.Place) (was : StructPlace) (wanted : StructSize) (r : Result StructPlace Error) : Type 0 where
   pub value : IfOk r (λ o. Widens (words_in old.segments) (words_in new.segments) (place_view slot) wanted.data_words wanted.pointers)
   pub object : IfOk r (λ o. LeadsTo (words_in new.segments) (place_view slot) (struct_at o))
@@ -113,7 +113,7 @@ pub record WidensStruct (old new : ArenaState) (slot : code.Place) (was : Struct
   pub kind : IfErr r (GrowthRefused (words_in old.segments) (wanted.data_words + wanted.pointers + 1 + 2 * was.pointers))
   pub books : new.books ≡ old.books
 
--- A struct of at least these sizes stands where the answer says, in place of null or of a narrower one; one that is wide enough stays.
+-- A struct of at least these sizes stands where the answer says, in place of null or of a narrower one; one that is wide enough stays. Or it is refused, and all stands as it was.
 pub record GetsStruct (old new : ArenaState) (slot : code.Place) (wanted : StructSize) (r : Result StructPlace Error) : Type 0 where
   pub value : IfOk r (λ o. Widens (words_in old.segments) (words_in new.segments) (place_view slot) wanted.data_words wanted.pointers)
   pub object : IfOk r (λ o. LeadsTo (words_in new.segments) (place_view slot) (struct_at o))

@@ -74,7 +74,7 @@ abbrev pub ListRefused : Segments → Place → Result ListPlace Kind → ℕ �
 ListRefused s p (Err kind) d k e = kind ≡ kind_of e.kind
 ListRefused s p (Ok o) d k e = (word_at s p ≡ Some 0 → ⊥) × (IsWideList o d k → ⊥) × GrowthRefused s (words_wanted o (max d (least_words o)) (max k (least_pointers o))) e
 
--- A list of structs of these sizes stands in place of a narrower list, where the answer says.
+-- A list of structs of these sizes stands in place of a narrower list, where the answer says; or there is no room, and all stands as it was.
 pub record WidensToList (old new : ArenaState) (slot : code.Place) (was : ListPlace) (wanted : StructSize) (r : Result ListPlace Error) : Type 0 where
   pub value : IfOk r (λ o. WidensList (words_in old.segments) (words_in new.segments) (place_view slot) wanted.data_words wanted.pointers)
   pub object : IfOk r (λ o. LeadsTo (words_in new.segments) (place_view slot) (list_at o))
@@ -88,7 +88,7 @@ pub record WidensToList (old new : ArenaState) (slot : code.Place) (was : ListPl
   pub kind : IfErr r (GrowthRefused (words_in old.segments) (words_wanted was wanted.data_words wanted.pointers))
   pub books : new.books ≡ old.books
 
--- The list stands where the answer says as one of structs of at least these sizes; one that is wide enough, and null, stays.
+-- The list stands where the answer says as one of structs of at least these sizes; one that is wide enough, and null, stays. Or it is refused, and all stands as it was.
 pub record GetsStructList (old new : ArenaState) (slot : code.Place) (wanted : StructSize) (r : Result ListPlace Error) : Type 0 where
   pub value : IfOk r (λ o. WidensList (words_in old.segments) (words_in new.segments) (place_view slot) wanted.data_words wanted.pointers)
   pub list : IfOk r (StructsGot (words_in old.segments) (words_in new.segments) slot wanted.data_words wanted.pointers)
