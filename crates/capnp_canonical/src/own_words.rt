@@ -121,13 +121,22 @@ fn row_of<A: ReaderArena>(arena: &A, start: Place, count: usize) -> &[Word]
     }
 }
 
+/// So many words are copied faster one by one than all at once.
+const FEW_WORDS: usize = 8;
+
 /// Puts words over those from a place on.
 #[inline(always)]
 fn lay(into: &mut [Word], at: usize, row: &[Word])
     requires { at + length row.now ≤ length into.old }
     ensures { into.new ≡ take at into.old ++ (row.now ++ drop (at + length row.now) into.old) }
 {
-    into[at..at + row.len()].copy_from_slice(row);
+    if row.len() > FEW_WORDS {
+        into[at..at + row.len()].copy_from_slice(row);
+        return;
+    }
+    for i in 0..row.len() {
+        into[at + i] = row[i];
+    }
 }
 
 /// Copies so many words over those from a place on.
