@@ -4,3 +4,4 @@ pub mod Fronts
 pub mod Pointers
 pub mod Contents
 pub mod NewElements
+pub mod AnyValues

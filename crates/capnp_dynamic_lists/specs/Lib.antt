@@ -4,5 +4,6 @@ pub mod Parts
 pub mod Elements
 pub mod Blobs
 pub mod Puts
+pub mod Values
 pub mod Builders
 pub mod Lending

@@ -13,13 +13,15 @@ ghost use Rattle.capnp_dynamic.specs.Given.{is_flat};
 ghost use Rattle.capnp_dynamic.specs.Inits.{struct_named};
 ghost use Rattle.capnp_dynamic.specs.Puts.{answered};
 ghost use Rattle.capnp_dynamic_lists.specs.Lists.{IsListThere, HasRoom, HasPointer, HasSizes};
-ghost use Rattle.capnp_dynamic_lists.specs.Elements.{Holds, HoldsStructs, flat_element, element_edit};
-ghost use Rattle.capnp_dynamic_lists.specs.Builders.{IsReady, IsPartAt, Stays, Puts};
+ghost use Rattle.capnp_dynamic_lists.specs.Elements.{Holds, HoldsStructs, element_edit};
+ghost use Rattle.capnp_dynamic_lists.specs.Builders.{IsReady, IsReadyAfter, IsPartAt, Stays, KeepsWords, Puts, Sets};
+ghost use Rattle.capnp_dynamic_lists.specs.Values.{struct_given, element_given};
 
-use crate::elements::{plain_type, set_flat};
+use crate::elements::plain_type;
 use crate::init::init_element;
 use crate::laws::elements_as_structs;
 use crate::places::element_struct;
+use crate::values::set_value;
 use capnp_builders::list_builder::ListBuilder;
 use capnp_copy::arena::{BuilderArena, Memory};
 use capnp_copy::init::ListPlace;
@@ -33,6 +35,7 @@ use capnp_units::errors::{Error, Result};
 use capnp_units::kinds::ErrorKind;
 use capnp_units::sizes::{ElementSize, data_bits_per_element};
 use capnp_values::dynamic_value;
+use capnp_wire::arena::ReaderArena;
 
 /// Whether each element has so many bits at its front.
 fn has_room(place: ListPlace, width: u32) -> bool
@@ -213,24 +216,30 @@ impl<'a, A: BuilderArena> Builder<'a, A> {
         self.element_type
     }
 
-    /// Sets the element at an index, which is one of the list's, to a value that is Void, a truth value, a number, an enum's, a text or data. A plain element takes a value of its type, one of an enum any enum's; one of texts or of data a value of its own; a Void one takes each. Elements that are wider than their type keep the bits behind it. A plain value takes no memory; a text or data the words of its list where the list's segment has room for them, else at most one more.
+    /// Sets the element at an index, which is one of the list's, to a value. A plain element takes a value of its type, one of an enum any enum's; one of texts or of data a value of its own; one of lists any list, which is copied whole; one of structs a struct of its own schema, whose content it takes over as far as it fits; a Void one takes each value. Elements that are wider than their type keep the bits behind it. A plain value takes no memory; a text or data the words of its list where the list's segment has room for them, else at most one more; a copy at most twice the words of its objects.
     ///
-    /// It is refused with `ListAnyPointerNotSupported` where the elements are untyped pointers, and else with `TypeMismatch`; a text or data with `SizeOverflow` just where its bytes, a text's with its zero byte, or the message's words, a pad counted, would pass 2^29 - 1, else as the allocator refuses. Then the list is as it was.
-    pub fn set<B>(&mut self, index: u32, value: dynamic_value::Reader<'_, B>) -> Result<()>
+    /// It is refused with `ListAnyPointerNotSupported` where the elements are untyped pointers, with `ListCapabilityNotSupported` where they are capabilities and the value is one, and else with `TypeMismatch`; a text or data with `SizeOverflow` just where its bytes, a text's with its zero byte, or the message's words, a pad counted, would pass 2^29 - 1, else as the allocator refuses; a list as `PointerBuilder::set_list` and a struct as `StructBuilder::copy_content_from` under no limit of words. Then all words stand as they were, and those that were allocated are zero; but an element that is a struct may have the data and the first pointers of the refused one.
+    pub fn set<B: ReaderArena>(
+        &mut self,
+        index: u32,
+        value: dynamic_value::Reader<'_, B>,
+    ) -> Result<()>
         requires ready { IsReady A.segments self.old }
         requires index { index < self.old.place.count }
-        requires flat { is_flat value ≡ true }
         ensures same { self.new.memory.ghost_name ≡ self.old.memory.ghost_name }
-        ensures puts { let ty = ty_of self.old.element_type in
-            Puts A.segments A.room A.books self.old self.new (element_edit value.entry ty) index
-            (flat_element value.entry ty) result }
-        ensures refused { OnErr result (Stays A.segments self.old self.new) }
+        ensures sets { let ty = ty_of self.old.element_type in
+            Sets A.segments A.room A.books self.old self.new (element_edit value.entry ty) index
+            (element_given B.segments value.entry ty) result }
+        ensures refused { struct_given B.segments value.entry (ty_of self.old.element_type) ≡ None
+            → OnErr result (KeepsWords A.segments self.old self.new) }
+        ensures flat { is_flat value.entry ≡ true
+            → OnErr result (Stays A.segments self.old self.new) }
+        ensures ready { IsReadyAfter A.segments self.old self.new result }
         ensures books { A.books self.new.memory.now.arena ≡ A.books self.old.memory.now.arena }
-        ensures ready { IsReady A.segments self.new }
     {
         let place = self.place;
         let ty = self.element_type;
-        set_flat(&mut self.memory.arena, place, ty, index, &value)
+        set_value(self.memory, place, ty, index, &value)
     }
 
     /// Puts a text or data of so many zero bytes, a text's zero byte besides, or a list of so many zeros, nulls or empty structs into the element at an index, which is one of the list's and is cleared. The new list takes its words, the tag of structs among them, where this one's segment has room for them, else at most one more.

@@ -7,3 +7,4 @@ pub mod elements;
 pub mod init;
 pub mod laws;
 pub mod places;
+pub mod values;
