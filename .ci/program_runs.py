@@ -5,8 +5,7 @@ usage: program_runs.py PROGRAM EXAMPLES RUNS
 
 EXAMPLES is the folder of README's examples. RUNS has one run a line: the words, the files, the input, and
 the status, output and log that independent software gives (crates/capnp_relay_cases/data/relay.jsonl). The
-program's status, output and log must be those, byte by byte. Left out, and counted: runs that name the greatest word
-limit, whose region has 4 GiB. Ends with status 1 at the first difference.
+program's status, output and log must be those, byte by byte. Ends with status 1 at the first difference.
 """
 import json
 import os
@@ -18,9 +17,6 @@ import time
 
 # Seconds that one run, or one answer, may take.
 LIMIT = 60
-
-# The greatest word limit, in hex as the files of a run stand in its line.
-GREATEST_LIMIT = b"536870910".hex()
 
 
 def difference(program, run):
@@ -93,14 +89,11 @@ def answers_the_examples(program, folder):
 
 def main(program, folder, runs):
     """Prints how many runs passed, and returns the status."""
-    program, passed, left = os.path.abspath(program), 0, 0
+    program, passed = os.path.abspath(program), 0
     if not answers_the_examples(program, folder):
         return 1
     with open(runs, encoding="ascii") as file:
         for number, line in enumerate(file, 1):
-            if GREATEST_LIMIT in line:
-                left += 1
-                continue
             differs = difference(program, json.loads(line))
             if differs:
                 print(f"run {number} differs in its {differs}")
@@ -108,7 +101,7 @@ def main(program, folder, runs):
             passed += 1
     if not passed or not waits_for_nothing(program):
         return 1
-    print(f"built program: both examples, {passed} stored runs ({left} left out), three messages through a pipe one by one: as they should be")
+    print(f"built program: both examples, {passed} stored runs, three messages through a pipe one by one: as they should be")
     return 0
 
 

@@ -16,6 +16,10 @@ use capnp_relay::ends::{Counts, Fault, RelayFault};
 use capnp_relay::relay::relay_pausing;
 use std::alloc::Global;
 
+/// The most bytes of the region in which messages are edited. A run writes zeros to all of it before its first message, so it has
+/// room for the messages of most streams and no more; one that is longer is edited in memory from `alloc`.
+const REGION_LEN: usize = 64 * 1024;
+
 /// The end of the relay that was asked for; nothing is read or written where it is held back.
 fn relay_asked<R: Windowed, W: Flush, L: Flush>(
     alloc: Global,
@@ -31,7 +35,8 @@ fn relay_asked<R: Windowed, W: Flush, L: Flush>(
     ensures untouched { IfErr result (λ _. (source.new ≡ source.old)
         × (out.new ≡ out.old) × (log.new ≡ log.old)) }
 {
-    let mut region = vec![in alloc; 0u8; settings.options.region_len()]?;
+    let region_len = settings.options.region_len().min(REGION_LEN);
+    let mut region = vec![in alloc; 0u8; region_len]?;
     let root = settings.version.root();
     let calls = settings.calls.as_slice();
     let options = settings.options;

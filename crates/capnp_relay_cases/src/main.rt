@@ -12,30 +12,21 @@ use std::alloc::Global;
 use std::process::ExitCode;
 use std::{env, fs, io};
 
-/// The greatest word limit, 2^29 - 2, in hex as the files of a run stand in its line. A run with that limit clears 4 GiB.
-const GREATEST_LIMIT: &str = "353336383730393130";
-
-/// How many runs are as they should be, how many have the greatest word limit and are not compared, and the lines of those that differ.
+/// How many runs are as they should be, and the lines of those that differ.
 #[derive(Drop)]
 struct Counts {
     same: u64,
-    passed_over: u64,
     differing: Vec<u64>,
 }
 
 fn count(alloc: Global, text: &str) -> Result<Counts, Fault> {
     let mut counts = Counts {
         same: 0,
-        passed_over: 0,
         differing: Vec::new(alloc),
     };
     let mut number: u64 = 0;
     for line in text.lines() {
         number = number.saturating_add(1);
-        if line.contains(GREATEST_LIMIT) {
-            counts.passed_over = counts.passed_over.saturating_add(1);
-            continue;
-        }
         let Ok(run) = Json::from_str(alloc, line) else {
             return Err(Fault::Shape);
         };
@@ -50,13 +41,8 @@ fn count(alloc: Global, text: &str) -> Result<Counts, Fault> {
 
 /// Prints the counts; the status is 0 where no run differs.
 fn report(rt: &HostRuntime, counts: &Counts) -> io::Result<ExitCode> {
-    let Counts {
-        same,
-        passed_over,
-        differing,
-    } = counts;
+    let Counts { same, differing } = counts;
     println!(rt; "{same} runs are as they should be")?;
-    println!(rt; "{passed_over} runs with a region of 4 GiB are not compared")?;
     for line in differing {
         println!(rt; "the run of line {line} differs")?;
     }

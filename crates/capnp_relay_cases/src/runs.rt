@@ -5,9 +5,6 @@ use hex::FromHexError;
 use serde_json::Value as Json;
 use std::alloc::{AllocError, AllocFailed, Global};
 
-/// What stands behind the calls of a file that names no limit, in place of the last brace.
-const WORDS_MEMBER: &[u8] = b",\"words\":65536}";
-
 /// Why a run can't be compared.
 #[derive(Clone, Copy, Debug, thiserror::Error)]
 pub enum Fault {
@@ -74,31 +71,11 @@ fn file_at(
     }
 }
 
-/// A calls file that names no word limit, with the limit 2^16 in place of 2^23, which would make each run clear 64 MiB; no message
-/// of the runs comes near it. Other files are as they are.
-fn limited(calls: Vec<u8>) -> Result<Vec<u8>, Fault> {
-    let mut calls = calls;
-    let is_open = match std::str::from_utf8(&calls) {
-        Ok(text) => {
-            text.starts_with("{\"calls\":") && text.ends_with('}') && !text.contains("\"words\"")
-        }
-        Err(_) => false,
-    };
-    if is_open {
-        let _brace = calls.pop();
-        calls.extend_from_slice(WORDS_MEMBER)?;
-    }
-    Ok(calls)
-}
-
 /// Whether the program's status, output and log are those of the run.
 pub fn is_as_it_should_be(alloc: Global, run: &Json) -> Result<bool, Fault> {
     let words = words_of(alloc, run)?;
     let schema = file_at(alloc, run, &words, 0)?;
-    let calls = match file_at(alloc, run, &words, 1)? {
-        Some(calls) => Some(limited(calls)?),
-        None => None,
-    };
+    let calls = file_at(alloc, run, &words, 1)?;
     let newer = file_at(alloc, run, &words, 4)?;
     let input = hex_of(alloc, run, "stdin")?;
     let mut source = input.as_slice();

@@ -156,7 +156,7 @@ fn random_texts_are_read_however_they_are_shown(rt: HostRuntime) -> std::result:
         let whole = read_alike(&rt, alloc, &text, count)?;
         assert!(rt; whole.kind.is_none());
         assert!(rt; whole.words == words);
-        assert_eq!(rt; whole.rest, 0);
+        assert!(rt; whole.rest == 0);
         damage(&mut random, &mut text);
         let damaged = read_alike(&rt, alloc, &text, count)?;
         if damaged.kind.is_some() {
@@ -174,16 +174,16 @@ fn long_runs_are_read_however_they_are_shown(rt: HostRuntime) -> std::result::Re
     let zeros = read_alike(&rt, alloc, &[0, 255, 0, 1, 7], 258)?;
     assert!(rt; zeros.kind.is_none());
     assert!(rt; zeros.words.iter().all(|b| *b == 0));
-    assert_eq!(rt; zeros.rest, 1);
+    assert!(rt; zeros.rest == 1);
     let full = vec![in alloc; 255u8; 2050]?;
     let dense = read_alike(&rt, alloc, &full, 256)?;
     assert!(rt; dense.kind.is_none());
     assert!(rt; dense.words.iter().all(|b| *b == 255));
-    assert_eq!(rt; dense.rest, 0);
+    assert!(rt; dense.rest == 0);
     let passed = read_alike(&rt, alloc, &[0x10, 1, 0, 0], 2)?;
     assert!(rt; passed.kind.is_none());
     assert!(rt; passed.words == vec![in alloc; 0, 0, 0, 0, 1, 0, 0, 0, 0, 0, 0, 0, 0, 0, 0, 0]?);
-    assert_eq!(rt; passed.rest, 0);
+    assert!(rt; passed.rest == 0);
     Ok(())
 }
 

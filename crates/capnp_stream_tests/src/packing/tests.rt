@@ -138,18 +138,18 @@ fn expect_piece(rt: &impl Abort, alloc: Global, mut source: Shown<'_>, words: &[
 {
     let mut buf = vec![in alloc; 9u8; words.len()]?;
     Packed::read_piece(&mut source, &mut buf)?;
-    assert_eq!(rt; buf.as_slice(), words);
-    assert_eq!(rt; source.bytes, [5, 6].as_slice());
+    assert!(rt; buf.as_slice() == words);
+    assert!(rt; source.bytes == [5, 6].as_slice());
     Ok(())
 }
 
 /// Reads the message of three segments.
 fn expect_three<R: BufRead>(rt: &impl Abort, alloc: Global, source: &mut R) -> Result<()> {
     let message = read_message(alloc, source, Some(3))?;
-    assert_eq!(rt; message.len(), 3);
-    assert_eq!(rt; message.get_segment(0), Some(&ZEROS[..8]));
-    assert_eq!(rt; message.get_segment(1), Some(&ZEROS[..0]));
-    assert_eq!(rt; message.get_segment(2), Some(&SEVENS[..]));
+    assert!(rt; message.len() == 3);
+    assert!(rt; message.get_segment(0) == Some(&ZEROS[..8]));
+    assert!(rt; message.get_segment(1) == Some(&ZEROS[..0]));
+    assert!(rt; message.get_segment(2) == Some(&SEVENS[..]));
     Ok(())
 }
 
@@ -187,13 +187,10 @@ fn packed(alloc: Global, words: &[u8]) -> Result<Vec<u8>> {
 fn words_are_packed(rt: HostRuntime) -> std::result::Result<(), Fail> {
     let alloc = rt.alloc();
     let one = packed(alloc, &[0, 0, 12, 0, 0, 34, 0, 0])?;
-    assert_eq!(rt; one.as_slice(), [0x24, 12, 34].as_slice());
+    assert!(rt; one.as_slice() == [0x24, 12, 34].as_slice());
     let zeros = vec![in alloc; 0u8; 258 * 8]?;
-    assert_eq!(rt;
-        packed(alloc, &zeros)?.as_slice(),
-        [0, 255, 0, 1].as_slice()
-    );
-    assert_eq!(rt; packed(alloc, &DENSE)?.as_slice(), PACKED_DENSE.as_slice());
+    assert!(rt; packed(alloc, &zeros)?.as_slice() == [0, 255, 0, 1].as_slice());
+    assert!(rt; packed(alloc, &DENSE)?.as_slice() == PACKED_DENSE.as_slice());
     assert!(rt; packed(alloc, &[])?.is_empty());
 
     let mut held = Vec::new(alloc);
@@ -201,22 +198,22 @@ fn words_are_packed(rt: HostRuntime) -> std::result::Result<(), Fail> {
     let mut words = PackedWrite { inner: &mut sink };
     words.write_all(&DENSE)?;
     words.write_all(&[0; 8])?;
-    assert_eq!(rt; words.inner.failures(), 0);
+    assert!(rt; words.inner.failures() == 0);
     assert!(rt; held.starts_with(&PACKED_DENSE));
     assert!(rt; held.ends_with(&[0, 0]));
-    assert_eq!(rt; held.len(), 20);
+    assert!(rt; held.len() == 20);
 
     let mut place = [9u8; 4];
     let mut rest = place.as_mut_slice();
     Packed::write_piece(&mut rest, &[0, 0, 12, 0, 0, 34, 0, 0])?;
-    assert_eq!(rt; rest.len(), 1);
+    assert!(rt; rest.len() == 1);
     let mut short = PackedWrite { inner: rest };
     let full = short.write_piece(&[1, 0, 0, 0, 0, 0, 0, 0]).err();
     assert!(rt; full == Some(Error::from(ErrorKind::BufferNotLargeEnough)));
     let ragged = short.write_all(&[0; 9]).err();
     assert!(rt; ragged == Some(Error::from(ErrorKind::BufferNotLargeEnough)));
-    assert_eq!(rt; short.inner.len(), 1);
-    assert_eq!(rt; place.as_slice(), [0x24, 12, 34, 9].as_slice());
+    assert!(rt; short.inner.len() == 1);
+    assert!(rt; place.as_slice() == [0x24, 12, 34, 9].as_slice());
     Ok(())
 }
 
@@ -264,17 +261,17 @@ fn messages_are_read_and_written(rt: HostRuntime) -> std::result::Result<(), Fai
     let marked_zero = [0x30, 2, 0, 0x10, 1, 1, 7, 5, 6];
     let mut source = marked_zero.as_slice();
     let message = read_message(alloc, &mut source, Some(2))?;
-    assert_eq!(rt; message.len(), 1);
-    assert_eq!(rt; message.get_segment(0), Some(SEGMENT.as_slice()));
-    assert_eq!(rt; source, [5, 6].as_slice());
+    assert!(rt; message.len() == 1);
+    assert!(rt; message.get_segment(0) == Some(SEGMENT.as_slice()));
+    assert!(rt; source == [5, 6].as_slice());
 
     let mut out = Vec::new(alloc);
     let segments: [&[u8]; 1] = [&SEGMENT];
     write_message_segments(alloc, &mut out, &segments.as_slice())?;
-    assert_eq!(rt; out.as_slice(), MESSAGE.as_slice());
+    assert!(rt; out.as_slice() == MESSAGE.as_slice());
     let mut sink = Sink::new(Vec::new(alloc));
     write_segment(&mut sink, &SEGMENT)?;
-    assert_eq!(rt; sink.failures(), 0);
+    assert!(rt; sink.failures() == 0);
     Ok(())
 }
 
@@ -289,12 +286,12 @@ fn segments_are_one_piece(rt: HostRuntime) -> std::result::Result<(), Fail> {
     let mut out = Vec::new(alloc);
     let segments: [&[u8]; 3] = [&[0; 8], &[], &SEVENS];
     write_message_segments(alloc, &mut out, &segments.as_slice())?;
-    assert_eq!(rt; out.as_slice(), THREE.as_slice());
+    assert!(rt; out.as_slice() == THREE.as_slice());
 
     let over_segments = [0x11, 2, 1, 0x10, 2, 0, 2];
     let mut source = Source::new(alloc, over_segments.as_slice())?;
     let zeros = read_message(alloc, &mut source, None)?;
-    assert_eq!(rt; zeros.get_segment(2), Some(&ZEROS[..]));
+    assert!(rt; zeros.get_segment(2) == Some(&ZEROS[..]));
     Ok(())
 }
 
@@ -303,8 +300,8 @@ fn messages_are_read_into_buffers(rt: HostRuntime) -> std::result::Result<(), Fa
     let mut buffer = [9u8; 24];
     let mut source = MESSAGE.as_slice();
     let message = read_message_no_alloc(&mut source, &mut buffer, Some(2))?;
-    assert_eq!(rt; message.len(), 1);
-    assert_eq!(rt; message.get_segment(0), Some(&SEGMENT[..]));
+    assert!(rt; message.len() == 1);
+    assert!(rt; message.get_segment(0) == Some(&SEGMENT[..]));
     assert!(rt; source.is_empty());
     for n in 0..24 {
         let mut again = Shown::new(&MESSAGE, 0, 1);
@@ -340,8 +337,8 @@ fn cut_and_failing_messages_are_refused(rt: HostRuntime) -> std::result::Result<
         source.left = n;
         let failed = try_read_message(alloc, &mut source, None).err();
         assert!(rt; failed == Some(Error::from(ErrorKind::Device)), "at {n}");
-        assert_eq!(rt; source.failures(), 1, "at {n}");
-        assert_eq!(rt; source.bytes.len(), 6 - n, "at {n}");
+        assert!(rt; source.failures() == 1, "at {n}");
+        assert!(rt; source.bytes.len() == 6 - n, "at {n}");
     }
     Ok(())
 }
@@ -353,16 +350,15 @@ fn words_are_read_a_piece_at_a_time(rt: HostRuntime) -> std::result::Result<(), 
     };
     let mut first = [9u8; 8];
     let mut segment = [9u8; 16];
-    assert_eq!(rt;
-        words.read(&mut first[..7]).err(),
-        Some(Error::from(ErrorKind::BufferNotLargeEnough))
+    assert!(rt;
+        words.read(&mut first[..7]).err() == Some(Error::from(ErrorKind::BufferNotLargeEnough))
     );
-    assert_eq!(rt; words.read(&mut first[..0])?, 0);
-    assert_eq!(rt; words.read(&mut first)?, 8);
-    assert_eq!(rt; first, [0, 0, 0, 0, 2, 0, 0, 0]);
+    assert!(rt; words.read(&mut first[..0])? == 0);
+    assert!(rt; words.read(&mut first)? == 8);
+    assert!(rt; first == [0, 0, 0, 0, 2, 0, 0, 0]);
     words.read_exact(&mut segment)?;
-    assert_eq!(rt; segment, SEGMENT);
-    assert_eq!(rt; words.read(&mut first)?, 0);
+    assert!(rt; segment == SEGMENT);
+    assert!(rt; words.read(&mut first)? == 0);
     assert!(rt;
         words.read_exact(&mut first).err()
             == Some(Error::from(ErrorKind::FailedToFillTheWholeBuffer))
@@ -373,7 +369,7 @@ fn words_are_read_a_piece_at_a_time(rt: HostRuntime) -> std::result::Result<(), 
     let mut failing = PackedRead { inner: source };
     let failed = failing.read(&mut first).err();
     assert!(rt; failed == Some(Error::from(ErrorKind::Device)));
-    assert_eq!(rt; failing.failures(), 1);
-    assert_eq!(rt; failing.inner.bytes.len(), 5);
+    assert!(rt; failing.failures() == 1);
+    assert!(rt; failing.inner.bytes.len() == 5);
     Ok(())
 }

@@ -93,13 +93,13 @@ fn a_failed_read_is_no_end(rt: HostRuntime) -> std::result::Result<(), Fail> {
         let mut source = Source::new(alloc, reader)?;
         let failed = try_read_message(alloc, &mut source, None).err();
         assert!(rt; failed == Some(Error::from(ErrorKind::Device)), "at {n}");
-        assert_eq!(rt; source.failures(), 1, "at {n}");
+        assert!(rt; source.failures() == 1, "at {n}");
     }
     let reader = Stumbling::new(&TWO, 0, io::ErrorKind::Other);
     let mut source = Source::new(alloc, reader)?;
     assert!(rt; source.fill_buf().is_err());
     expect_two(&rt, alloc, &mut source)?;
-    assert_eq!(rt; source.failures(), 1);
+    assert!(rt; source.failures() == 1);
     Ok(())
 }
 
@@ -110,7 +110,7 @@ fn an_interrupted_read_is_tried_again(rt: HostRuntime) -> std::result::Result<()
         let reader = Stumbling::new(&TWO, n, io::ErrorKind::Interrupted);
         let mut source = Source::new(alloc, reader)?;
         expect_two(&rt, alloc, &mut source)?;
-        assert_eq!(rt; source.failures(), 0, "at {n}");
+        assert!(rt; source.failures() == 0, "at {n}");
     }
     Ok(())
 }
@@ -120,12 +120,12 @@ fn the_end_of_input_is_no_failure(rt: HostRuntime) -> std::result::Result<(), Fa
     let alloc = rt.alloc();
     let mut source = Source::new(alloc, TWO.as_slice())?;
     let mut buf = [0u8; 64];
-    assert_eq!(rt; source.read(&mut buf)?, 40);
-    assert_eq!(rt; &buf[..40], TWO.as_slice());
-    assert_eq!(rt; source.read(&mut buf)?, 0);
+    assert!(rt; source.read(&mut buf)? == 40);
+    assert!(rt; &buf[..40] == TWO.as_slice());
+    assert!(rt; source.read(&mut buf)? == 0);
     assert!(rt; source.fill_buf()?.is_empty());
     assert!(rt; try_read_message(alloc, &mut source, None)?.is_none());
-    assert_eq!(rt; source.failures(), 0);
+    assert!(rt; source.failures() == 0);
     Ok(())
 }
 
@@ -140,8 +140,8 @@ fn a_faltering_write_is_counted(rt: HostRuntime) -> std::result::Result<(), Fail
         drop(sink);
         let whole = HELD_BEFORE[n] == 24;
         assert!(rt; failed.is_none() == whole, "at {n}");
-        assert_eq!(rt; failures, u64::from(!whole), "at {n}");
-        assert_eq!(rt; held.as_slice(), &WRITTEN[..HELD_BEFORE[n]], "at {n}");
+        assert!(rt; failures == u64::from(!whole), "at {n}");
+        assert!(rt; held.as_slice() == &WRITTEN[..HELD_BEFORE[n]], "at {n}");
     }
     Ok(())
 }
@@ -153,9 +153,9 @@ fn an_interrupted_write_is_tried_again(rt: HostRuntime) -> std::result::Result<(
         let mut held = Vec::new(alloc);
         let mut sink = Sink::new(Faltering::new(&mut held, n, io::ErrorKind::Interrupted));
         write_segment(&mut sink, &WRITTEN[8..])?;
-        assert_eq!(rt; sink.failures(), 0, "at {n}");
+        assert!(rt; sink.failures() == 0, "at {n}");
         drop(sink);
-        assert_eq!(rt; held.as_slice(), WRITTEN.as_slice(), "at {n}");
+        assert!(rt; held.as_slice() == WRITTEN.as_slice(), "at {n}");
     }
     Ok(())
 }
@@ -171,11 +171,11 @@ fn a_flush_counts_as_a_write(rt: HostRuntime) -> std::result::Result<(), Fail> {
             sink.flush() == Err(Error::from(ErrorKind::Device)),
             "at {n}"
         );
-        assert_eq!(rt; sink.failures(), 1, "at {n}");
+        assert!(rt; sink.failures() == 1, "at {n}");
         sink.flush()?;
-        assert_eq!(rt; sink.failures(), 1, "at {n}");
+        assert!(rt; sink.failures() == 1, "at {n}");
         drop(sink);
-        assert_eq!(rt; held.as_slice(), [1, 2].as_slice(), "at {n}");
+        assert!(rt; held.as_slice() == [1, 2].as_slice(), "at {n}");
     }
     for n in 0..2 {
         let mut held = Vec::new(alloc);
@@ -183,9 +183,9 @@ fn a_flush_counts_as_a_write(rt: HostRuntime) -> std::result::Result<(), Fail> {
         let mut sink = Sink::buffered(alloc, device)?;
         sink.write_all(&[1, 2])?;
         sink.flush()?;
-        assert_eq!(rt; sink.failures(), 0, "at {n}");
+        assert!(rt; sink.failures() == 0, "at {n}");
         drop(sink);
-        assert_eq!(rt; held.as_slice(), [1, 2].as_slice(), "at {n}");
+        assert!(rt; held.as_slice() == [1, 2].as_slice(), "at {n}");
     }
     Ok(())
 }
@@ -200,10 +200,10 @@ fn buffered_bytes_keep_their_order(rt: HostRuntime) -> std::result::Result<(), F
     out.write_all(&large)?;
     out.write_all(&[3])?;
     out.flush()?;
-    assert_eq!(rt; out.failures(), 0);
+    assert!(rt; out.failures() == 0);
     drop(out);
-    assert_eq!(rt; held.len(), 70003);
-    assert_eq!(rt; held.first(), Some(&1));
-    assert_eq!(rt; held.last(), Some(&3));
+    assert!(rt; held.len() == 70003);
+    assert!(rt; held.first() == Some(&1));
+    assert!(rt; held.last() == Some(&3));
     Ok(())
 }

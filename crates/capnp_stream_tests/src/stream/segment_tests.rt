@@ -96,7 +96,7 @@ fn no_alloc_refusal(bytes: &[u8], limit: Option<usize>) -> Option<ErrorKind> {
 
 /// The three segments are there.
 fn expect_three<S: ReaderSegments>(rt: &impl Abort, segments: &S) {
-    assert_eq!(rt; segments.len(), 3);
+    assert!(rt; segments.len() == 3);
     assert!(rt; !segments.is_empty());
     assert!(rt; segments.get_segment(0) == Some(&THREE[16..24]));
     assert!(rt; segments.get_segment(1) == Some(&THREE[24..24]));
@@ -110,20 +110,17 @@ fn several_segments_are_written(rt: HostRuntime) -> std::result::Result<(), Fail
     let segments = [&THREE[16..24], &THREE[24..24], &THREE[24..40]];
     let mut out = Vec::new(alloc);
     write_message_segments(alloc, &mut out, &segments.as_slice())?;
-    assert_eq!(rt; out.as_slice(), THREE.as_slice());
-    assert_eq!(rt; compute_serialized_size_in_words(&segments.as_slice()), 5);
+    assert!(rt; out.as_slice() == THREE.as_slice());
+    assert!(rt; compute_serialized_size_in_words(&segments.as_slice()) == 5);
     let words = write_message_segments_to_words(alloc, &segments.as_slice())?;
-    assert_eq!(rt; words.as_slice(), THREE.as_slice());
+    assert!(rt; words.as_slice() == THREE.as_slice());
 
     let mut again = Vec::new(alloc);
     write_message_segments_in::<Framed, _, _>(alloc, &mut again, &segments.as_slice())?;
-    assert_eq!(rt; again.as_slice(), THREE.as_slice());
+    assert!(rt; again.as_slice() == THREE.as_slice());
     let mut one = Vec::new(alloc);
     write_segment_in::<Framed, _>(&mut one, &THREE[16..24])?;
-    assert_eq!(rt;
-        one.as_slice(),
-        [0, 0, 0, 0, 1, 0, 0, 0, 1, 2, 3, 4, 5, 6, 7, 8].as_slice()
-    );
+    assert!(rt; one.as_slice() == [0, 0, 0, 0, 1, 0, 0, 0, 1, 2, 3, 4, 5, 6, 7, 8].as_slice());
     Ok(())
 }
 
@@ -134,8 +131,8 @@ fn many_segments_are_written_and_refused(rt: HostRuntime) -> std::result::Result
     let segments = vec![in alloc; nothing; 512]?;
     let mut out = Vec::new(alloc);
     write_message_segments(alloc, &mut out, &segments)?;
-    assert_eq!(rt; out.len(), 2056);
-    assert_eq!(rt; out.first(), Some(&255));
+    assert!(rt; out.len() == 2056);
+    assert!(rt; out.first() == Some(&255));
     let failed = read_message(alloc, &mut out.as_slice(), None).err();
     assert!(rt; failed.map(|e| e.kind) == Some(ErrorKind::InvalidNumberOfSegments));
     assert!(rt; flat_refusal(alloc, &out, None) == Some(ErrorKind::InvalidNumberOfSegments));
@@ -210,11 +207,8 @@ fn segments_give_their_words(rt: HostRuntime) -> std::result::Result<(), Fail> {
     let words = message.segment_words(alloc, 2)?;
     assert!(rt; words.map(|w| w.as_slice() == [9, 10].as_slice()) == Some(true));
     assert!(rt; message.segment_words(alloc, 3)?.is_none());
-    assert_eq!(rt;
-        words_of(alloc, &THREE[24..])?.as_slice(),
-        [9, 10].as_slice()
-    );
-    assert_eq!(rt; message.as_slice(), &THREE[16..]);
+    assert!(rt; words_of(alloc, &THREE[24..])?.as_slice() == [9, 10].as_slice());
+    assert!(rt; message.as_slice() == &THREE[16..]);
     message.as_mut_slice()[8] = 7;
     assert!(rt; message.get_segment(2).map(|s| s.first() == Some(&7)) == Some(true));
     Ok(())
@@ -227,20 +221,17 @@ fn tables_tell_where_segments_lie(rt: HostRuntime) -> std::result::Result<(), Fa
     table.try_push_segment(1)?;
     table.try_push_segment(0)?;
     table.try_push_segment(2)?;
-    assert_eq!(rt; table.total_words(), 3);
+    assert!(rt; table.total_words() == 3);
     let large = table.try_push_segment(usize::MAX - 2).err();
     assert!(rt; large.map(|e| e.kind) == Some(ErrorKind::MessageTooLarge));
     let owned = table.into_owned_segments(alloc)?;
-    assert_eq!(rt; owned.len(), 3);
+    assert!(rt; owned.len() == 3);
     assert!(rt; owned.get_segment(2) == Some([0u8; 16].as_slice()));
 
     let mut again = SegmentLengthsBuilder::with_capacity(alloc, 0)?;
     again.try_push_segment(4)?;
     again.try_push_segment(1)?;
-    assert_eq!(rt;
-        again.to_segment_indices().as_slice(),
-        [(0, 4), (4, 5)].as_slice()
-    );
+    assert!(rt; again.to_segment_indices().as_slice() == [(0, 4), (4, 5)].as_slice());
     Ok(())
 }
 
@@ -264,15 +255,15 @@ fn slices_are_read(rt: HostRuntime) -> std::result::Result<(), Fail> {
     let mut slice = bytes.as_slice();
     let lent = read_message_from_flat_slice(alloc, &mut slice, Some(3))?;
     expect_three(&rt, &lent);
-    assert_eq!(rt; slice, [5, 5].as_slice());
+    assert!(rt; slice == [5, 5].as_slice());
     let mut slice = bytes.as_slice();
     let found = read_message_from_flat_slice_no_alloc(&mut slice, Some(3))?;
     expect_three(&rt, &found);
-    assert_eq!(rt; slice, [5, 5].as_slice());
+    assert!(rt; slice == [5, 5].as_slice());
 
     let held = BufferSegments::new(alloc, Vec::from_slice(alloc, &bytes)?, None)?;
     expect_three(&rt, &held);
-    assert_eq!(rt; held.into_buffer().len(), 42);
+    assert!(rt; held.into_buffer().len() == 42);
     expect_three(&rt, &NoAllocBufferSegments::from_buffer(bytes, None)?);
     Ok(())
 }
@@ -292,7 +283,7 @@ fn cut_slices_are_refused(rt: HostRuntime) -> std::result::Result<(), Fail> {
     assert!(rt; no_alloc_refusal(&THREE, Some(2)) == large);
     let mut slice = &THREE[..39];
     assert!(rt; read_message_from_flat_slice(alloc, &mut slice, None).is_err());
-    assert_eq!(rt; slice, &THREE[..39]);
+    assert!(rt; slice == &THREE[..39]);
     Ok(())
 }
 

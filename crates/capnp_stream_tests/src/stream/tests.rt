@@ -32,10 +32,10 @@ pub(crate) const WRITTEN: [u8; 24] = [
 /// Reads the message of two segments.
 pub(crate) fn expect_two<R: BufRead>(rt: &impl Abort, alloc: Global, source: &mut R) -> Result<()> {
     let message = read_message(alloc, source, Some(3))?;
-    assert_eq!(rt; message.len(), 2);
-    assert_eq!(rt; message.get_segment(0), Some(&TWO[16..24]));
-    assert_eq!(rt; message.get_segment(1), Some(&TWO[24..40]));
-    assert_eq!(rt; message.get_segment(2), None);
+    assert!(rt; message.len() == 2);
+    assert!(rt; message.get_segment(0) == Some(&TWO[16..24]));
+    assert!(rt; message.get_segment(1) == Some(&TWO[24..40]));
+    assert!(rt; message.get_segment(2) == None);
     Ok(())
 }
 
@@ -51,9 +51,9 @@ fn refusal(alloc: Global, mut bytes: &[u8], limit: Option<usize>) -> Option<Erro
 fn bytes_behind_a_message_are_left(rt: HostRuntime) -> std::result::Result<(), Fail> {
     let mut source = ONE.as_slice();
     let message = read_message(rt.alloc(), &mut source, None)?;
-    assert_eq!(rt; message.len(), 1);
-    assert_eq!(rt; message.get_segment(0), Some([0u8; 8].as_slice()));
-    assert_eq!(rt; source, [5, 6].as_slice());
+    assert!(rt; message.len() == 1);
+    assert!(rt; message.get_segment(0) == Some([0u8; 8].as_slice()));
+    assert!(rt; source == [5, 6].as_slice());
     Ok(())
 }
 
@@ -84,8 +84,8 @@ fn cut_and_failing_input_is_refused(rt: HostRuntime) -> std::result::Result<(), 
         let mut source = Drip::new(&TWO, n);
         let failed = try_read_message(alloc, &mut source, None).err();
         assert!(rt; failed == Some(Error::from(ErrorKind::Device)), "at {n}");
-        assert_eq!(rt; source.failures(), 1, "at {n}");
-        assert_eq!(rt; source.rest().len(), 40 - n, "at {n}");
+        assert!(rt; source.failures() == 1, "at {n}");
+        assert!(rt; source.rest().len() == 40 - n, "at {n}");
     }
     Ok(())
 }
@@ -103,8 +103,8 @@ fn counts_and_sizes_are_limited(rt: HostRuntime) -> std::result::Result<(), Fail
     empty[0] = 254;
     empty[1] = 1;
     let message = read_message(alloc, &mut empty.as_slice(), Some(0))?;
-    assert_eq!(rt; message.len(), 511);
-    assert_eq!(rt; message.get_segment(510), Some([].as_slice()));
+    assert!(rt; message.len() == 511);
+    assert!(rt; message.get_segment(510) == Some([].as_slice()));
     empty[0] = 255;
     assert!(rt; refusal(alloc, &empty, Some(0)) == many);
     Ok(())
@@ -115,25 +115,25 @@ fn messages_are_written(rt: HostRuntime) -> std::result::Result<(), Fail> {
     let alloc = rt.alloc();
     let mut out = Vec::new(alloc);
     write_segment(&mut out, &WRITTEN[8..])?;
-    assert_eq!(rt; out.as_slice(), WRITTEN.as_slice());
+    assert!(rt; out.as_slice() == WRITTEN.as_slice());
 
     let mut place = [1u8; 25];
     let mut rest = place.as_mut_slice();
     write_segment(&mut rest, &WRITTEN[8..])?;
-    assert_eq!(rt; rest.len(), 1);
+    assert!(rt; rest.len() == 1);
     let full = write_segment(&mut rest, &[]).err();
     assert!(rt; full == Some(Error::from(ErrorKind::BufferNotLargeEnough)));
     assert!(rt; place.starts_with(&WRITTEN));
-    assert_eq!(rt; place.last(), Some(&1));
+    assert!(rt; place.last() == Some(&1));
 
     let mut place = [1u8; 25];
     let mut writer = SliceWriter::new(&mut place);
     write_segment(&mut writer, &WRITTEN[8..])?;
-    assert_eq!(rt; writer.as_slice(), WRITTEN.as_slice());
-    assert_eq!(rt; writer.room(), 1);
+    assert!(rt; writer.as_slice() == WRITTEN.as_slice());
+    assert!(rt; writer.room() == 1);
     drop(writer);
     assert!(rt; place.starts_with(&WRITTEN));
-    assert_eq!(rt; place.last(), Some(&1));
+    assert!(rt; place.last() == Some(&1));
     Ok(())
 }
 
@@ -144,8 +144,8 @@ fn a_short_write_is_no_whole_one(rt: HostRuntime) -> std::result::Result<(), Fai
         let mut out = Short::new(alloc, n, false);
         let failed = write_segment(&mut out, &WRITTEN[8..]).err();
         assert!(rt; failed == Some(Error::from(ErrorKind::Device)), "at {n}");
-        assert_eq!(rt; out.failures(), 1, "at {n}");
-        assert_eq!(rt; out.held(), &WRITTEN[..n], "at {n}");
+        assert!(rt; out.failures() == 1, "at {n}");
+        assert!(rt; out.held() == &WRITTEN[..n], "at {n}");
     }
     Ok(())
 }
