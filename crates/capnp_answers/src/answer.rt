@@ -88,7 +88,7 @@ fn read_root<M: ReaderArena>(
     Ok(Ok(count))
 }
 
-/// The answer where each call sets a plain field of the root, made in the words that the message was read to; none where what the calls make of its value has other words than those.
+/// The answer where each call sets a plain field of the root, made in the words that the message was read to; none where that would put or trim a word.
 fn answer_plain<M: ReaderArena>(
     message: &M,
     bounds: Bounds,
