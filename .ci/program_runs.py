@@ -42,30 +42,46 @@ def read_so_many(pipe, count):
     return got
 
 
-def waits_for_nothing(program):
-    """Whether each message is answered and logged before the next is sent, and the program then ends with status 0."""
+def waits_for_nothing(program, form, message, answer, ahead):
+    """Whether each message is answered and logged before the next is sent, but for so many bytes ahead, and the program then ends
+    with status 0."""
     schema = [{"id": 1, "name": "P", "data": 1, "pointers": 1, "fields": [{"name": "a", "type": "UInt16", "offset": 0}]}]
     calls = {"calls": [{"path": ["a"], "verb": "set", "value": {"number": 7}}], "words": 1000, "nesting": 64}
-    message = bytes.fromhex("00000000010000000000000000000000")
-    answer = bytes.fromhex("000000000200000000000000010000000700000000000000")
+    numbers = (1, 2, 3)
+    given, sent = message * len(numbers), 0
     with tempfile.TemporaryDirectory() as room:
         for name, value in (("schema.json", schema), ("calls.json", calls)):
             with open(os.path.join(room, name), "w", encoding="ascii") as file:
                 json.dump(value, file)
         pipes = {"stdin": subprocess.PIPE, "stdout": subprocess.PIPE, "stderr": subprocess.PIPE}
-        child = subprocess.Popen([program, "schema.json", "calls.json", "1", "framed"], cwd=room, bufsize=0, **pipes)
-        for number in (1, 2, 3):
-            child.stdin.write(message)
+        child = subprocess.Popen([program, "schema.json", "calls.json", "1", form], cwd=room, bufsize=0, **pipes)
+        for number in numbers:
+            end = number * len(message) + ahead
+            child.stdin.write(given[sent:end])
+            sent = end
             line = f"message {number} written; done\n".encode()
             got = (read_so_many(child.stdout, len(answer)), read_so_many(child.stderr, len(line)))
             if got != (answer, line):
                 child.kill()
-                print(f"message {number} through a pipe: {got}, and not {(answer, line)}")
+                print(f"message {number}, {form}, through a pipe, {ahead} bytes ahead: {got}, and not {(answer, line)}")
                 return False
         rest = child.communicate(timeout=LIMIT)
     if child.returncode != 0 or rest != (b"", b""):
-        print(f"the end of a pipe: status {child.returncode}, {rest}")
+        print(f"the end of a pipe, {form}, {ahead} bytes ahead: status {child.returncode}, {rest}")
         return False
+    return True
+
+
+def waits_for_no_part(program):
+    """Whether that holds in both forms, whatever part of the next message is sent ahead."""
+    spelled = {
+        "framed": ("00000000010000000000000000000000", "000000000200000000000000010000000700000000000000"),
+        "packed": ("10010000", "100210010107"),
+    }
+    for form, texts in spelled.items():
+        message, answer = (bytes.fromhex(text) for text in texts)
+        if not all(waits_for_nothing(program, form, message, answer, ahead) for ahead in range(len(message))):
+            return False
     return True
 
 
@@ -99,9 +115,9 @@ def main(program, folder, runs):
                 print(f"run {number} differs in its {differs}")
                 return 1
             passed += 1
-    if not passed or not waits_for_nothing(program):
+    if not passed or not waits_for_no_part(program):
         return 1
-    print(f"built program: both examples, {passed} stored runs, three messages through a pipe one by one: as they should be")
+    print(f"built program: both examples, {passed} stored runs, three messages through a pipe one by one and with each part of the next, in both forms: as they should be")
     return 0
 
 

@@ -4,3 +4,5 @@ pub mod AskedExamples
 pub mod Asking
 pub mod Telling
 pub mod Running
+mod Tables
+mod Showing

@@ -1,7 +1,9 @@
 //! The relay's program but for its files and streams: the words and the files of a run, and the run.
 #![tactic(auto)]
 
+pub mod ahead;
 pub mod arguments;
+pub mod input;
 mod lines;
 pub mod program;
 mod run;

@@ -44,7 +44,7 @@ fn put_fault<L: Flush>(alloc: Global, log: &mut L, stop: Stop)
 ///
 /// The first fault is told: of the words, the schema file, its rules, the root, the same three of the newer file, the calls file,
 /// the calls, the limits, compatibility and the calls that aren't admitted, in this order, before anything is read or written; then
-/// those of the run. Both sinks are flushed before a message is read while the source shows no byte. The one word `--help` has the usage written to the output, and is a fault of the words.
+/// those of the run. Both sinks are flushed before a message is read, unless the bytes that the source shows hold it. The one word `--help` has the usage written to the output, and is a fault of the words.
 pub fn program<R: Windowed, W: Flush, L: Flush>(
     alloc: Global,
     words: &[String],

@@ -6,22 +6,26 @@ ghost use Rattle.capnp_program.specs.Asked.{request, IsHeldBack};
 ghost use Rattle.capnp_program.specs.Settings.{asked_of};
 ghost use Rattle.capnp_program.specs.Program.{seen, Ran, RelaysAll};
 
+use crate::ahead::BoundedForm;
 use crate::settings::Settings;
 use crate::sinks::Flush;
 use crate::sources::{FlushBeforeWait, Windowed};
 use crate::stop::Stop;
 use capnp_between::between::{BetweenFault, relay_between_pausing};
 use capnp_io::traits::{Read, Write};
+use capnp_packing::form::Packed;
 use capnp_relay::ends::{Counts, Fault, RelayFault};
+use capnp_relay::options::Form;
 use capnp_relay::relay::relay_pausing;
+use capnp_stream::forms::Framed;
 use std::alloc::Global;
 
 /// The most bytes of the region in which messages are edited. A run writes zeros to all of it before its first message, so it has
 /// room for the messages of most streams and no more; one that is longer is edited in memory from `alloc`.
 const REGION_LEN: usize = 64 * 1024;
 
-/// The end of the relay that was asked for; nothing is read or written where it is held back.
-fn relay_asked<R: Windowed, W: Flush, L: Flush>(
+/// The end of the relay that was asked for, of input in this form; nothing is read or written where it is held back.
+fn relay_in<F: BoundedForm, R: Windowed, W: Flush, L: Flush>(
     alloc: Global,
     settings: &Settings,
     source: &mut R,
@@ -41,7 +45,7 @@ fn relay_asked<R: Windowed, W: Flush, L: Flush>(
     let calls = settings.calls.as_slice();
     let options = settings.options;
     let Some(newer) = &settings.newer else {
-        return Ok(relay_pausing::<R, W, L, FlushBeforeWait>(
+        return Ok(relay_pausing::<R, W, L, FlushBeforeWait<F>>(
             alloc,
             source,
             out,
@@ -53,7 +57,7 @@ fn relay_asked<R: Windowed, W: Flush, L: Flush>(
         ));
     };
     let newer = newer.root();
-    match relay_between_pausing::<R, W, L, FlushBeforeWait>(
+    match relay_between_pausing::<R, W, L, FlushBeforeWait<F>>(
         alloc,
         source,
         out,
@@ -69,6 +73,27 @@ fn relay_asked<R: Windowed, W: Flush, L: Flush>(
         Err(BetweenFault::NotCompatible) => Err(Stop::NotCompatible),
         Err(BetweenFault::NotAdmitted(n)) => Err(Stop::NotAdmitted(n)),
         Err(BetweenFault::Memory) => Err(Stop::Relay(Fault::Memory)),
+    }
+}
+
+/// The end of the relay that was asked for; nothing is read or written where it is held back.
+fn relay_asked<R: Windowed, W: Flush, L: Flush>(
+    alloc: Global,
+    settings: &Settings,
+    source: &mut R,
+    out: &mut W,
+    log: &mut L,
+) -> Result<Result<Counts, RelayFault>, Stop>
+    ensures ran { let three = streams_of ⟦<R as Read>⟧ ⟦<W as Write>⟧ ⟦<L as Write>⟧ in
+        IfOk result (Ran (asked_of settings.now) W.may_grow L.may_grow
+        (three source.old out.old log.old) (three source.new out.new log.new)) }
+    ensures held { IfErr result (IsHeldBack (asked_of settings.now)) }
+    ensures untouched { IfErr result (λ _. (source.new ≡ source.old)
+        × (out.new ≡ out.old) × (log.new ≡ log.old)) }
+{
+    match settings.input {
+        Form::Framed => relay_in::<Framed, R, W, L>(alloc, settings, source, out, log),
+        Form::Packed => relay_in::<Packed, R, W, L>(alloc, settings, source, out, log),
     }
 }
 

@@ -15,7 +15,7 @@ use capnp_calls::{Call, CallFault, CallValue, Step, Verb};
 use capnp_files::calls_file::{CallsFile, calls_file};
 use capnp_files::fault::FileFault;
 use capnp_relay::ends::Fault;
-use capnp_relay::options::{ReaderOptions, RelayOptions};
+use capnp_relay::options::{Form, ReaderOptions, RelayOptions};
 use std::alloc::Global;
 
 /// What a run is asked.
@@ -26,6 +26,8 @@ pub struct Settings {
     pub(crate) newer: Option<Version>,
     pub calls: Vec<Call>,
     pub options: RelayOptions,
+    /// The form of the input.
+    pub(crate) input: Form,
     pub ghost same_root: { HasRoot newer version.root.id },
 }
 
@@ -117,6 +119,7 @@ impl Settings {
                 newer,
                 calls,
                 options,
+                input: arguments.input,
             }),
             Err(_) => Err(Stop::Options),
         }

@@ -1,55 +1,58 @@
 //! Sources that may wait, and the flushes before they do.
-ghost use Rattle.std.specs.Prelude.{◌≡◌, [], OnOk, IfErr, ⊤};
-ghost use Rattle.capnp_relay.specs.Streams.{sink_seen};
+ghost use Rattle.std.specs.Prelude.{◌≡◌, ℕ, Option, List, [], length, OnOk, IfErr, IfSome, ⊤};
+ghost use Rattle.std.specs.Io.{StartsWith};
+ghost use Rattle.capnp_model.specs.Messages.{message_at};
+ghost use Rattle.capnp_stream.specs.Pieces.{EndsEarly};
+ghost use Rattle.capnp_relay.specs.Streams.{sink_of};
 ghost use Rattle.capnp_relay.specs.Pauses.{SinkRests, FailsInPause};
 
+use crate::ahead::{BoundedForm, holds_next};
 use crate::sinks::Flush;
 use capnp_relay::ends::Fault;
 use capnp_relay::pauses::Pause;
-use capnp_stream::adapters::Source;
-use capnp_stream::traits::BufRead;
-use std::io;
+use capnp_stream::traits::{BufRead, Read, Write};
+use std::marker::PhantomData;
 
-/// A source that tells how many bytes it shows without a wait.
+/// A source that tells which bytes it shows without a wait.
 pub trait Windowed: BufRead {
-    /// How many bytes were shown and are not yet taken: where there are none the next read may wait.
-    fn buffered(&self) -> usize
-        ensures { result ≡ Self.shown self.now };
-}
+    /// The bytes that were shown and are not yet taken.
+    ghost window: { Self → List ℕ };
 
-impl<S: io::Read> Windowed for Source<S> {
-    fn buffered(&self) -> usize {
-        self.buffered()
-    }
+    /// The bytes that were shown and are not yet taken, a beginning of those to come: a read of more than these may wait.
+    fn window(&self) -> &[u8]
+        ensures bytes { result.now ≡ window self.now }
+        ensures len { length result.now ≡ Self.shown self.now }
+        ensures front { IfSome (Self.remaining self.now) (λ xs. StartsWith xs result.now) };
 }
 
 impl Windowed for &[u8] {
-    fn buffered(&self) -> usize {
-        self.len()
+    ghost window = { λ s. s.now };
+
+    fn window(&self) -> &[u8] {
+        *self
     }
 }
 
-/// Hands on what both sinks hold, the output's before the log's, where the source shows no byte, so that the next read may wait.
-/// `Out`, `Log`: the sink's device failed.
-pub fn flush_before_wait<R: Windowed, W: Flush, L: Flush>(
+/// Hands on what both sinks hold, the output's before the log's, unless the bytes that the source shows tell the next message, or
+/// what is wrong with it, so that it is read without a wait. `Out`, `Log`: the sink's device failed.
+pub fn flush_before_wait<F: BoundedForm, R: Windowed, W: Flush, L: Flush>(
     source: &R,
     out: &mut W,
     log: &mut L,
 ) -> Result<(), Fault>
+    ensures whole { OnOk result ((limit : Option ℕ)
+        → EndsEarly (message_at F.reader limit (R.window source.now))
+        → (W.held out.new ≡ []) × (L.held log.new ≡ [])) }
     ensures empty { OnOk result
         (R.shown source.now ≡ 0 → (W.held out.new ≡ []) × (L.held log.new ≡ [])) }
-    ensures rests { OnOk result
-        (SinkRests (sink_seen W.contents W.failures W.room out.old)
-        (sink_seen W.contents W.failures W.room out.new)
-        × SinkRests (sink_seen L.contents L.failures L.room log.old)
-        (sink_seen L.contents L.failures L.room log.new)) }
-    ensures fault { IfErr result (λ f. FailsInPause f
-        (sink_seen W.contents W.failures W.room out.old)
-        (sink_seen W.contents W.failures W.room out.new)
-        (sink_seen L.contents L.failures L.room log.old)
-        (sink_seen L.contents L.failures L.room log.new)) }
+    ensures rests { let sink = sink_of ⟦<W as Write>⟧ in let line = sink_of ⟦<L as Write>⟧ in
+        OnOk result (SinkRests (sink out.old) (sink out.new)
+        × SinkRests (line log.old) (line log.new)) }
+    ensures fault { let sink = sink_of ⟦<W as Write>⟧ in let line = sink_of ⟦<L as Write>⟧ in
+        IfErr result (λ f. FailsInPause f (sink out.old) (sink out.new)
+        (line log.old) (line log.new)) }
 {
-    if source.buffered() > 0 {
+    if holds_next::<F>(source.window()) {
         return Ok(());
     }
     if out.flush().is_err() {
@@ -61,14 +64,16 @@ pub fn flush_before_wait<R: Windowed, W: Flush, L: Flush>(
     Ok(())
 }
 
-/// Before a wait for input both sinks are flushed.
+/// Before a wait for input both sinks are flushed. The input has this form.
 #[derive(Clone, Copy, Debug)]
-pub struct FlushBeforeWait;
+pub struct FlushBeforeWait<F> {
+    form: PhantomData<F>,
+}
 
-impl<R: Windowed, W: Flush, L: Flush> Pause<R, W, L> for FlushBeforeWait {
+impl<F: BoundedForm, R: Windowed, W: Flush, L: Flush> Pause<R, W, L> for FlushBeforeWait<F> {
     ghost may_fail = { ⊤ };
 
     fn pause(source: &R, out: &mut W, log: &mut L) -> Result<(), Fault> {
-        flush_before_wait(source, out, log)
+        flush_before_wait::<F, R, W, L>(source, out, log)
     }
 }

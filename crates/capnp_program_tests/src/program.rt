@@ -2,6 +2,7 @@
 
 mod devices;
 mod faults;
+mod inputs;
 mod large;
 mod newer;
 mod runs;

@@ -44,8 +44,10 @@ impl BufRead for Broken {
 }
 
 impl Windowed for Broken {
-    fn buffered(&self) -> usize {
-        0
+    ghost window = { λ _. [] };
+
+    fn window(&self) -> &[u8] {
+        &[]
     }
 }
 

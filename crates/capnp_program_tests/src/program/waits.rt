@@ -3,7 +3,7 @@ ghost use Rattle.std.specs.Prelude.{◌≡◌, length};
 ghost use Rattle.capnp_units.specs.declared.kinds.ErrorKind.{ErrorKind};
 
 use crate::program::devices::Device;
-use crate::program::samples::set_a;
+use crate::program::samples::{SET_A, run, set_a};
 use capnp_program::sources::Windowed;
 use capnp_stream::traits::{BufRead, Read};
 use capnp_units::errors::Result;
@@ -54,8 +54,10 @@ impl<'a> BufRead for TwoWindows<'a> {
 }
 
 impl<'a> Windowed for TwoWindows<'a> {
-    fn buffered(&self) -> usize {
-        self.window.len()
+    ghost window = { λ s. s.window.now };
+
+    fn window(&self) -> &[u8] {
+        self.window
     }
 }
 
@@ -77,13 +79,10 @@ fn sinks_are_flushed_before_the_source_is_asked(rt: HostRuntime) -> std::result:
     };
     let mut out = Device::new(alloc, 1000, false);
     let mut log = Device::new(alloc, 1000, true);
-    assert_eq!(rt; set_a(alloc, &mut source, &mut out, &mut log)?, 1);
-    assert_eq!(rt; out.held.len(), WRITTEN);
-    assert_eq!(rt; source.next.len(), 16);
-    assert_eq!(rt;
-        log.held.as_slice(),
-        b"message 1 written; done\nfault: out\n".as_slice()
-    );
+    assert!(rt; set_a(alloc, &mut source, &mut out, &mut log)? == 1);
+    assert!(rt; out.held.len() == WRITTEN);
+    assert!(rt; source.next.len() == 16);
+    assert!(rt; log.held.as_slice() == b"message 1 written; done\nfault: out\n".as_slice());
     // Then the log's.
     let mut source = TwoWindows {
         window: &TWO[..16],
@@ -91,12 +90,9 @@ fn sinks_are_flushed_before_the_source_is_asked(rt: HostRuntime) -> std::result:
     };
     let mut out = Device::new(alloc, 1000, true);
     let mut log = Device::new(alloc, 1000, false);
-    assert_eq!(rt; set_a(alloc, &mut source, &mut out, &mut log)?, 1);
-    assert_eq!(rt; source.next.len(), 16);
-    assert_eq!(rt;
-        log.held.as_slice(),
-        b"message 1 written; done\nfault: log\n".as_slice()
-    );
+    assert!(rt; set_a(alloc, &mut source, &mut out, &mut log)? == 1);
+    assert!(rt; source.next.len() == 16);
+    assert!(rt; log.held.as_slice() == b"message 1 written; done\nfault: log\n".as_slice());
     Ok(())
 }
 
@@ -109,11 +105,65 @@ fn no_sink_is_flushed_while_bytes_are_shown(rt: HostRuntime) -> std::result::Res
     };
     let mut out = Device::new(alloc, 1000, false);
     let mut log = Device::new(alloc, 1000, true);
-    assert_eq!(rt; set_a(alloc, &mut source, &mut out, &mut log)?, 1);
-    assert_eq!(rt; out.held.len(), 2 * WRITTEN);
-    assert_eq!(rt;
-        log.held.as_slice(),
-        b"message 1 written; done\nmessage 2 written; done\nfault: out\n".as_slice()
+    assert!(rt; set_a(alloc, &mut source, &mut out, &mut log)? == 1);
+    assert!(rt; out.held.len() == 2 * WRITTEN);
+    assert!(rt;
+        log.held.as_slice()
+            == b"message 1 written; done\nmessage 2 written; done\nfault: out\n".as_slice()
     );
+    Ok(())
+}
+
+#[test]
+fn sinks_are_flushed_before_the_rest_of_a_message_is_asked_for(
+    rt: HostRuntime,
+) -> std::result::Result<(), Fail> {
+    let alloc = rt.alloc();
+    // Of the second message the source shows nothing, a part of the table, the table, and a part of the segment.
+    for shown in [16, 20, 24, 28] {
+        let mut source = TwoWindows {
+            window: &TWO[..shown],
+            next: &TWO[shown..],
+        };
+        let mut out = Device::new(alloc, 1000, false);
+        let mut log = Device::new(alloc, 1000, true);
+        assert!(rt; set_a(alloc, &mut source, &mut out, &mut log)? == 1);
+        assert!(rt; out.held.len() == WRITTEN);
+        assert!(rt; source.window.len() == shown - 16);
+        assert!(rt; log.held.as_slice() == b"message 1 written; done\nfault: out\n".as_slice());
+    }
+    Ok(())
+}
+
+#[test]
+fn sinks_are_flushed_where_packed_words_may_be_longer(
+    rt: HostRuntime,
+) -> std::result::Result<(), Fail> {
+    let alloc = rt.alloc();
+    // Four messages of a null root, each a packed word in the table and one behind it. Ten bytes suffice for a word: so many are
+    // shown behind the tables of the first two.
+    let mut source = [16, 1, 0, 0, 16, 1, 0, 0, 16, 1, 0, 0, 16, 1, 0, 0].as_slice();
+    let mut out = Device::new(alloc, 1000, false);
+    let mut log = Device::new(alloc, 1000, true);
+    let words = ["p.json", "c.json", "1", "packed-framed"];
+    assert!(rt; run(alloc, &words, SET_A, &mut source, &mut out, &mut log)? == 1);
+    assert!(rt; out.held.len() == 2 * WRITTEN);
+    assert!(rt; source.len() == 8);
+    Ok(())
+}
+
+#[test]
+fn a_long_table_is_flushed_before(rt: HostRuntime) -> std::result::Result<(), Fail> {
+    let alloc = rt.alloc();
+    // 33 segments, of which the first has the root.
+    let mut bytes = [0u8; 4 + 4 * 33 + 8];
+    bytes[0] = 32;
+    bytes[4] = 1;
+    let mut source = bytes.as_slice();
+    let mut out = Device::new(alloc, 1000, false);
+    let mut log = Device::new(alloc, 1000, true);
+    assert!(rt; set_a(alloc, &mut source, &mut out, &mut log)? == 1);
+    assert!(rt; out.held.is_empty());
+    assert!(rt; log.held.as_slice() == b"fault: out\n".as_slice());
     Ok(())
 }

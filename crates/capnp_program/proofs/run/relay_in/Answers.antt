@@ -1,7 +1,7 @@
 use Rattle.std.proofs.Common.{Ok, Err}
 use Rattle.capnp_relay.specs.Streams.{source_seen, sink_seen, streams}
 use Rattle.capnp_program.proofs.Running.{ran_alone, ran_beside}
-use Rattle.capnp_program.proofs.run.relay_asked.Goals as goal
+use Rattle.capnp_program.proofs.run.relay_in.Goals as goal
 
 pub returns-in_default-clause-ran : goal.returns-in_default-clause-ran
 returns-in_default-clause-ran g c =
