@@ -7,3 +7,4 @@ mod built;
 mod near;
 mod reading;
 pub mod root_calls;
+mod several;

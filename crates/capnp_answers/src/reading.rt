@@ -9,6 +9,7 @@ ghost use Rattle.capnp_answers.specs.Reading.{Reads, StandsCanonical, can_be_ope
 
 use crate::bounds::Bounds;
 use crate::near::{OneSegment, only_segment};
+use crate::several::NearSegments;
 use capnp_canonical::check::is_canonical_message;
 use capnp_canonical::copy::write_canonical;
 use capnp_canonical::laws::copies_as_walks;
@@ -135,7 +136,7 @@ fn read_segment(bytes: &[u8], bounds: Bounds, words: &mut Vec<Word>) -> Result<O
     Ok(Some(count))
 }
 
-/// As `write_value`; a message of one segment is read by its bytes alone, and copied where its words are canonical already.
+/// As `write_value`; a message of one segment is read by its bytes alone, and copied where its words are canonical already, and of one of several the first segments are asked for once.
 pub(crate) fn read_value<M: ReaderArena>(
     message: &M,
     bounds: Bounds,
@@ -145,7 +146,7 @@ pub(crate) fn read_value<M: ReaderArena>(
 {
     match only_segment(message) {
         Some(bytes) => read_segment(bytes, bounds, words),
-        None => write_value(message, bounds, words),
+        None => write_value(&NearSegments::new(message), bounds, words),
     }
 }
 
