@@ -79,7 +79,7 @@ pub trait Placed: Sized {
             (words_in (A.segments memory.new.arena)) place e) };
 }
 
-/// A handle over a struct: it is made of the place where the struct lies, and so are roots of its type.
+/// A handle over a struct, which is made of the place where the struct lies.
 pub trait PlacedStruct: Sized {
     /// The data words and the pointers of such a struct.
     ghost STRUCT_SIZE: { StructSize };
@@ -146,7 +146,7 @@ fn get_struct_at<A: BuilderArena>(
     struct_or_default(&mut memory.arena, place, size, None)
 }
 
-/// A struct is made of zeros and nulls, whatever the count, and got with at least the sizes of its type.
+/// A struct is made of zeros and nulls, whatever the count. It is got with at least the sizes of its type, and refused, as by `PointerBuilder::get_struct`.
 impl<T: PlacedStruct> Placed for T {
     ghost is_made = { λ s u slot n o. StructPlaced T.STRUCT_SIZE s u slot (T.place_of o) };
 

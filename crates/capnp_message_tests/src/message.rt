@@ -3,6 +3,7 @@
 mod allocator_tests;
 mod canonical_tests;
 mod packed_tests;
+mod placed_tests;
 mod reader_tests;
 mod root_tests;
 mod row_tests;
