@@ -33,6 +33,38 @@ const LIST: [u8; 16] = [1, 0, 0, 0, 10, 0, 0, 0, 5, 0, 0, 0, 0, 0, 0, 0];
 /// A message of a capability.
 const CAPABILITY: [u8; 8] = [3, 0, 0, 0, 0, 0, 0, 0];
 
+/// A message of five segments, each named by far pointers from another: a struct of two pointers, `left` of 7 and "hi" and `right` of 5 and "yo". Its landing pads are single but for that of `right`, which is of two words.
+///
+/// Of the first segment: the root's pointer, and the text of `left`.
+const FAR_FIRST: [u8; 24] = [
+    2, 0, 0, 0, 1, 0, 0, 0, 1, 0, 0, 0, 26, 0, 0, 0, b'h', b'i', 0, 0, 0, 0, 0, 0,
+];
+
+/// Of the second: the root.
+const FAR_SECOND: [u8; 24] = [
+    0, 0, 0, 0, 0, 0, 2, 0, 2, 0, 0, 0, 2, 0, 0, 0, 6, 0, 0, 0, 3, 0, 0, 0,
+];
+
+/// Of the third: `left`.
+const FAR_THIRD: [u8; 24] = [
+    0, 0, 0, 0, 1, 0, 1, 0, 7, 0, 0, 0, 0, 0, 0, 0, 10, 0, 0, 0, 0, 0, 0, 0,
+];
+
+/// Of the fourth: the landing pad of `right`.
+const FAR_FOURTH: [u8; 16] = [2, 0, 0, 0, 4, 0, 0, 0, 0, 0, 0, 0, 1, 0, 1, 0];
+
+/// Of the fifth: `right`, and its text.
+const FAR_FIFTH: [u8; 24] = [
+    5, 0, 0, 0, 0, 0, 0, 0, 1, 0, 0, 0, 26, 0, 0, 0, b'y', b'o', 0, 0, 0, 0, 0, 0,
+];
+
+/// The same value in one segment.
+const TOGETHER: [u8; 72] = [
+    0, 0, 0, 0, 0, 0, 2, 0, 4, 0, 0, 0, 1, 0, 1, 0, 12, 0, 0, 0, 1, 0, 1, 0, 7, 0, 0, 0, 0, 0, 0,
+    0, 1, 0, 0, 0, 26, 0, 0, 0, b'h', b'i', 0, 0, 0, 0, 0, 0, 5, 0, 0, 0, 0, 0, 0, 0, 1, 0, 0, 0,
+    26, 0, 0, 0, b'y', b'o', 0, 0, 0, 0, 0, 0,
+];
+
 /// A field of a name that is a slot of a type.
 fn field(
     alloc: Global,
@@ -113,10 +145,10 @@ fn at(alloc: Global, name: &str, verb: Verb, value: Option<CallValue>) -> Result
     along(alloc, &[name], verb, value)
 }
 
-/// What is answered of calls at the struct of an id to a message of one segment.
-fn outcome(
+/// What is answered of calls at the struct of an id to a message of these segments.
+fn outcome_of(
     alloc: Global,
-    bytes: &[u8],
+    segments: &[&[u8]],
     root: u64,
     calls: &[Call],
     region: &mut [u8],
@@ -131,14 +163,28 @@ fn outcome(
     };
     capnp_queries::laws::struct_is_node();
     let schema = StructSchema::new(&set, raw);
-    let segments = [bytes];
-    let message = Reader::new(SegmentArray::new(&segments), DEFAULT_READER_OPTIONS);
+    let message = Reader::new(SegmentArray::new(segments), DEFAULT_READER_OPTIONS);
     let bounds = Bounds {
         words: 64,
         nesting: 8,
     };
     let calls = RootCalls::new(alloc, schema, calls)?;
     Ok(answer_in_place(alloc, &message, bounds, &calls, region, words))
+}
+
+/// What is answered of calls at the struct of an id to a message of one segment.
+fn outcome(
+    alloc: Global,
+    bytes: &[u8],
+    root: u64,
+    calls: &[Call],
+    region: &mut [u8],
+    words: &mut Vec<Word>,
+) -> Result<Result<MessageAnswer, Want>, Fail>
+    requires zeros { AllZero region.old }
+    ensures zeros { region.new ≡ region.old }
+{
+    outcome_of(alloc, &[bytes], root, calls, region, words)
 }
 
 /// The answer of calls to a message of one segment.
@@ -290,6 +336,39 @@ fn a_shared_struct_is_written_twice(rt: HostRuntime) -> Result<(), Fail> {
     let both = [root, pointer, pointer, left, right];
     assert!(rt; words.get(..count) == Some(both.as_slice()));
     assert!(rt; region == [0u8; 64]);
+    Ok(())
+}
+
+/// The words of an answer that is written.
+fn written<'a>(answer: &Result<MessageAnswer, Want>, words: &'a [Word]) -> Option<&'a [Word]> {
+    let Ok(MessageAnswer::Written { count, .. }) = answer else {
+        return None;
+    };
+    words.get(..*count)
+}
+
+#[test]
+fn five_segments_are_answered_as_one(rt: HostRuntime) -> Result<(), Fail> {
+    let alloc = rt.alloc();
+    let mut calls = Vec::new(alloc);
+    calls.push(along(alloc, &["right", "t"], Verb::Get, None)?)?;
+    let apart: [&[u8]; 5] = [&FAR_FIRST, &FAR_SECOND, &FAR_THIRD, &FAR_FOURTH, &FAR_FIFTH];
+    let mut region = [0u8; 128];
+    let mut far_words = Vec::new(alloc);
+    let far = outcome_of(alloc, &apart, 2, &calls, &mut region, &mut far_words)?;
+    let mut near_words = Vec::new(alloc);
+    let near = outcome(alloc, &TOGETHER, 2, &calls, &mut region, &mut near_words)?;
+    let far_written = written(&far, far_words.as_slice());
+    assert!(rt; far_written.map(|words| words.len()) == Some(9));
+    assert!(rt; far_written == written(&near, near_words.as_slice()));
+    let Ok(MessageAnswer::Written { replies, .. }) = far else {
+        return Err(Fail::from("the message is skipped"));
+    };
+    let [Reply::Text(text)] = replies.as_slice() else {
+        return Err(Fail::from("the call is answered otherwise"));
+    };
+    assert!(rt; text.as_slice() == b"\"yo\"".as_slice());
+    assert!(rt; region == [0u8; 128]);
     Ok(())
 }
 
