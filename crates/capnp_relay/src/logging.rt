@@ -41,8 +41,8 @@ fn push_replies(line: &mut Vec<u8>, replies: &[Reply]) -> Result<(), AllocError>
 
 /// Appends the replies of so many calls that are done, each behind a semicolon.
 fn push_done(line: &mut Vec<u8>, calls: usize) -> Result<(), AllocError>
-    ensures { OnOk result (line.new.items
-        ≡ line.old.items ++ flat_map (λ r. codes "; " ++ reply_words r) (replicate calls reply_done)) }
+    ensures { OnOk result (line.new.items ≡ line.old.items
+        ++ flat_map (λ r. codes "; " ++ reply_words r) (replicate calls reply_done)) }
 {
     for _call in 0..calls {
         line.extend_from_slice(b"; done")?;

@@ -223,7 +223,8 @@ fn roots_with_a_count_are_made(rt: HostRuntime) -> std::result::Result<(), Fail>
 
 /// A typed message whose root is got before it is made, and then written.
 fn got_and_made<A: Allocator>(typed: &mut TypedBuilder<LabelledNumbers, A>) -> Result<(u32, u32)>
-    ensures { loans_held typed.new.message.memory.arena ≡ loans_held typed.old.message.memory.arena }
+    ensures { loans_held typed.new.message.memory.arena
+        ≡ loans_held typed.old.message.memory.arena }
 {
     let got = typed.get_root()?;
     let before = number_of(&mut typed.message.memory, got.0)?;
