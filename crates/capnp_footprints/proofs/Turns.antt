@@ -147,6 +147,11 @@ pub childless_count : (k : ℕ) (es : Elements) → element_count (childless k e
 childless_count k no_elements = refl
 childless_count k (element a ts es) = ap suc (childless_count k es)
 
+pub element_shape : (d i : ℕ) (es : Elements) → i < element_count es → (section : ℕ) × (kids : Trees) × (element_at d es i ≡ structure d section kids)
+element_shape d i no_elements l = absurd (omega (arith, l))
+element_shape d zero (element a ts es) l = (a, ts, refl)
+element_shape d (suc i) (element a ts es) l = element_shape d i es (omega (arith, l))
+
 pub structs_here : (n : ℕ) (s u : Segments) (p : Place) (m d k i : ℕ) (es fs : Elements) → i < element_count fs → OwnsObject n s (a_list p 7 m) (struct_list d k fs) → ReplacesObject n s u (a_list p 7 m) (struct_list d k (with_first_elements i es fs)) → OwnsObject n u (a_struct (after (after p 1) (i * (d + k))) d k) (element_at d fs i)
 structs_here n s u p m d k i es fs l o r =
     subst (OwnsObject n u (a_struct (after (after p 1) (i * (d + k))) d k)) (elements_here d i es fs) (element_of_list n u p m d k i (with_first_elements i es fs) (omega (arith, l, elements_counted i es fs)) (object_replaced_owned n s u (a_list p 7 m) _ _ o r))

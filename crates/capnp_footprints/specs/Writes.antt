@@ -1,6 +1,6 @@
 -- Words written in place of others, and new words.
 use Rattle.std.specs.Prelude.{ℕ, zero, suc, List, [], ◌∷◌, ◌++◌, length, replicate}
-use Rattle.capnp_model.specs.Segments.{Segments, Place}
+use Rattle.capnp_model.specs.Segments.{Segments, Place, place}
 
 -- The words with others in place of as many from the kth on; past the last word nothing is written.
 unfoldable pub spliced : ℕ → List ℕ → List ℕ → List ℕ
@@ -34,3 +34,7 @@ unfoldable pub segment_end : Segments → ℕ → ℕ
 segment_end [] i = 0
 segment_end (xs ∷ s) zero = length xs
 segment_end (xs ∷ s) (suc i) = segment_end s i
+
+-- The same as a place, where new words of the segment begin.
+abbrev pub end_of : Segments → ℕ → Place
+end_of s i = place i (segment_end s i)

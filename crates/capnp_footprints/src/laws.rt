@@ -11,8 +11,8 @@ ghost use Rattle.capnp_model.specs.Encoding.{struct_pointer};
 ghost use Rattle.capnp_footprints.specs.Footprints.{footprint, Owns, OwnsObject};
 ghost use Rattle.capnp_footprints.specs.Changes.{Changes, Replaces, ReplacesObject, ZeroBeside};
 ghost use Rattle.capnp_footprints.specs.Elements.{element_at, with_element};
-ghost use Rattle.capnp_footprints.specs.NewObjects.{pointed, pointed_far};
-ghost use Rattle.capnp_footprints.specs.Writes.{spliced, with_words, with_zeros, segment_end};
+ghost use Rattle.capnp_footprints.specs.NewObjects.{new_struct, Fits, pointed, pointed_far, IsNear, IsNamed};
+ghost use Rattle.capnp_footprints.specs.Writes.{spliced, with_words, with_zeros, end_of};
 
 /// A value may be replaced again and again, no word of it is taken twice afterwards, and the words beside it that were zero are.
 pub fn changes_of_values()
@@ -80,16 +80,19 @@ pub fn children_of_lists()
         → ReplacesObject n s u (a_list p 6 k) (pointer_list (with_child kids i t)) }
 {}
 
-/// Words written into a data section, or into a list of plain elements, change the section, and nothing else.
+/// Words written into a data section change the section, and nothing else.
 pub fn words_of_data()
-    ensures structs { (n : ℕ) (s : Segments) (p : Place) (d k i w section : ℕ) (kids : Trees)
+    ensures { (n : ℕ) (s : Segments) (p : Place) (d k i w section : ℕ) (kids : Trees)
         (vs ws : List ℕ)
         → i + length vs ≤ d → words_at s p d ≡ Some ws
         → OwnsObject n s (a_struct p d k) (structure w section kids)
         → ReplacesObject n s (with_words s (after p i) vs) (a_struct p d k) (structure w
         (section_of (spliced i vs ws)) kids) }
-    ensures lists { (n : ℕ) (s : Segments) (p : Place) (size count i : ℕ) (t : Tree)
-        (vs ws : List ℕ)
+{}
+
+/// Words written into a list of plain elements change its bits, and nothing else.
+pub fn words_of_plain_lists()
+    ensures { (n : ℕ) (s : Segments) (p : Place) (size count i : ℕ) (t : Tree) (vs ws : List ℕ)
         → list_kind size ≡ of_bits → i + length vs ≤ words_for (size_bits size * count)
         → words_at s p (words_for (size_bits size * count)) ≡ Some ws
         → OwnsObject n s (a_list p size count) t
@@ -115,14 +118,13 @@ pub fn new_structs()
     ensures empty { (n : ℕ) (s : Segments) (p : Place) → word_at s p ≡ Some 0
         → Replaces (suc n) s (pointed s p (struct_pointer (2 ^ 30 - 1) 0 0)) p
         (structure 0 0 none) }
-    ensures near { (n : ℕ) (s : Segments) (p : Place) (d k offset : ℕ) → p.segment < length s
-        → word_at s p ≡ Some 0 → 0 < d + k → p.position + 1 + offset ≡ segment_end s p.segment
-        → offset < 2 ^ 29 → d < 2 ^ 16 → k < 2 ^ 16
-        → Replaces (suc n) s
-        (pointed (with_zeros s p.segment (d + k)) p (struct_pointer offset d k))
-        p (structure d 0 (resized k none)) }
-    ensures far { (n : ℕ) (s : Segments) (p : Place) (i d k : ℕ) → i ≤ length s → i < 2 ^ 32
-        → word_at s p ≡ Some 0 → segment_end s i < 2 ^ 29 → d < 2 ^ 16 → k < 2 ^ 16
-        → Replaces (suc n) s (pointed_far (with_zeros s i (1 + (d + k))) p
-        (place i (segment_end s i)) (struct_pointer 0 d k)) p (structure d 0 (resized k none)) }
+    ensures near { (n d k offset : ℕ) (s : Segments) (p : Place) → p.segment < length s
+        → word_at s p ≡ Some 0 → 0 < d + k → IsNear p (end_of s p.segment) offset
+        → Fits (new_struct d k)
+        → Replaces (suc n) s (pointed (with_zeros s p.segment (d + k)) p
+        (struct_pointer offset d k)) p (structure d 0 (resized k none)) }
+    ensures far { (n i d k : ℕ) (s : Segments) (p : Place) → i ≤ length s → word_at s p ≡ Some 0
+        → IsNamed (end_of s i) → Fits (new_struct d k)
+        → Replaces (suc n) s (pointed_far (with_zeros s i (1 + (d + k))) p (end_of s i)
+        (struct_pointer 0 d k)) p (structure d 0 (resized k none)) }
 {}

@@ -12,6 +12,7 @@ ghost use Rattle.capnp_footprints.specs.Footprints.{footprint, object_footprint,
 ghost use Rattle.capnp_footprints.specs.Changes.{Changes, Clears, Replaces, ReplacesObject, Leads};
 ghost use Rattle.capnp_footprints.specs.Elements.{element_at};
 ghost use Rattle.capnp_footprints.specs.Children.{with_first, with_first_elements, childless};
+ghost use Rattle.capnp_footprints.specs.Turns.{ChildrenInTurn, Structs, struct_of, ElementsInTurn};
 ghost use Rattle.capnp_footprints.specs.Writes.{with_words, zeroed};
 
 /// Words become zero, in turn; where all words of a value did, it is null.
@@ -55,69 +56,65 @@ pub fn childless_objects()
         → Changes s u (object_footprint n s (a_list p 7 m)) (times_held (span p (1 + m) ∷ [])) }
 {}
 
-/// The first i children of a struct became others; the next is as it was (`here`), and becomes another (`next`), up to the last (`done`).
-pub fn struct_children_in_turn()
-    ensures shape { (n : ℕ) (s : Segments) (p : Place) (d k : ℕ) (t : Tree)
+/// The value of an object has its shape: a struct's has its data words, a list of pointers has children, a list of structs has as many elements as its tag counts.
+pub fn shapes_of_objects()
+    ensures structs { (n : ℕ) (s : Segments) (p : Place) (d k : ℕ) (t : Tree)
         → OwnsObject n s (a_struct p d k) t
         → (section : ℕ) × (kids : Trees) × (t ≡ structure d section kids) }
-    ensures here { (n : ℕ) (s u : Segments) (p : Place) (d k i w section : ℕ) (ts kids : Trees)
-        → i < k
-        → OwnsObject n s (a_struct p d k) (structure w section kids)
-        → ReplacesObject n s u (a_struct p d k) (structure w section (with_first i ts kids))
+    ensures lists { (n : ℕ) (s : Segments) (p : Place) (k : ℕ) (t : Tree)
+        → OwnsObject n s (a_list p 6 k) t → (kids : Trees) × (t ≡ pointer_list kids) }
+    ensures structs_in_lists { (n : ℕ) (s : Segments) (p : Place) (m : ℕ) (ws : List ℕ)
+        (tag : Tag) (t : Tree)
+        → words_at s p (1 + m) ≡ Some ws → tag_in ws ≡ Ok tag → OwnsObject n s (a_list p 7 m) t
+        → (es : Elements) × (t ≡ struct_list tag.data_words tag.pointers es) ×
+        (element_count es ≡ tag.count) }
+{}
+
+/// The first i children of a struct became others; the next is as it was (`here`), and becomes another (`next`), up to the last (`done`).
+pub fn struct_children_in_turn()
+    ensures here { (n d k i w section : ℕ) (s u : Segments) (p : Place) (ts kids : Trees)
+        → i < k → ChildrenInTurn n s u (a_struct p d k) (structure w section) i ts kids
         → Owns n u (after (after p d) i) (child kids i) }
-    ensures next { (n : ℕ) (s u v : Segments) (p : Place) (d k i w section : ℕ) (ts kids : Trees)
-        → i < k
-        → OwnsObject n s (a_struct p d k) (structure w section kids)
-        → ReplacesObject n s u (a_struct p d k) (structure w section (with_first i ts kids))
+    ensures next { (n d k i w section : ℕ) (s u v : Segments) (p : Place) (ts kids : Trees)
+        → i < k → ChildrenInTurn n s u (a_struct p d k) (structure w section) i ts kids
         → Replaces n u v (after (after p d) i) (child ts i)
-        → ReplacesObject n s v (a_struct p d k) (structure w section (with_first (suc i) ts kids)) }
-    ensures done { (n : ℕ) (s : Segments) (p : Place) (d k w section : ℕ) (ts kids : Trees)
+        → ChildrenInTurn n s v (a_struct p d k) (structure w section) (suc i) ts kids }
+    ensures done { (n d k w section : ℕ) (s : Segments) (p : Place) (ts kids : Trees)
         → OwnsObject n s (a_struct p d k) (structure w section kids)
         → with_first k ts kids ≡ resized k ts }
 {}
 
 /// The same of the children of a list of pointers.
 pub fn list_children_in_turn()
-    ensures shape { (n : ℕ) (s : Segments) (p : Place) (k : ℕ) (t : Tree)
-        → OwnsObject n s (a_list p 6 k) t → (kids : Trees) × (t ≡ pointer_list kids) }
-    ensures here { (n : ℕ) (s u : Segments) (p : Place) (k i : ℕ) (ts kids : Trees) → i < k
-        → OwnsObject n s (a_list p 6 k) (pointer_list kids)
-        → ReplacesObject n s u (a_list p 6 k) (pointer_list (with_first i ts kids))
+    ensures here { (n k i : ℕ) (s u : Segments) (p : Place) (ts kids : Trees)
+        → i < k → ChildrenInTurn n s u (a_list p 6 k) pointer_list i ts kids
         → Owns n u (after p i) (child kids i) }
-    ensures next { (n : ℕ) (s u v : Segments) (p : Place) (k i : ℕ) (ts kids : Trees) → i < k
-        → OwnsObject n s (a_list p 6 k) (pointer_list kids)
-        → ReplacesObject n s u (a_list p 6 k) (pointer_list (with_first i ts kids))
+    ensures next { (n k i : ℕ) (s u v : Segments) (p : Place) (ts kids : Trees)
+        → i < k → ChildrenInTurn n s u (a_list p 6 k) pointer_list i ts kids
         → Replaces n u v (after p i) (child ts i)
-        → ReplacesObject n s v (a_list p 6 k) (pointer_list (with_first (suc i) ts kids)) }
-    ensures done { (n : ℕ) (s : Segments) (p : Place) (k : ℕ) (ts kids : Trees)
+        → ChildrenInTurn n s v (a_list p 6 k) pointer_list (suc i) ts kids }
+    ensures done { (n k : ℕ) (s : Segments) (p : Place) (ts kids : Trees)
         → OwnsObject n s (a_list p 6 k) (pointer_list kids) → with_first k ts kids ≡ resized k ts }
 {}
 
 /// The same of the elements of a list of structs, each of which is changed as a struct.
 pub fn elements_in_turn()
-    ensures shape { (n : ℕ) (s : Segments) (p : Place) (m : ℕ) (ws : List ℕ) (tag : Tag) (t : Tree)
-        → words_at s p (1 + m) ≡ Some ws → tag_in ws ≡ Ok tag → OwnsObject n s (a_list p 7 m) t
-        → (es : Elements) × (t ≡ struct_list tag.data_words tag.pointers es) ×
-        (element_count es ≡ tag.count) }
-    ensures here { (n : ℕ) (s u : Segments) (p : Place) (m d k i : ℕ) (es fs : Elements)
-        → i < element_count fs
-        → OwnsObject n s (a_list p 7 m) (struct_list d k fs)
-        → ReplacesObject n s u (a_list p 7 m) (struct_list d k (with_first_elements i es fs))
-        → OwnsObject n u (a_struct (after (after p 1) (i * (d + k))) d k) (element_at d fs i) }
-    ensures next { (n : ℕ) (s u v : Segments) (p : Place) (m d k i section : ℕ) (kids : Trees)
-        (es fs : Elements)
-        → i < element_count es → i < element_count fs → element_at d es i ≡ structure d section kids
-        → OwnsObject n s (a_list p 7 m) (struct_list d k fs)
-        → ReplacesObject n s u (a_list p 7 m) (struct_list d k (with_first_elements i es fs))
-        → ReplacesObject n u v (a_struct (after (after p 1) (i * (d + k))) d k)
-        (structure d section kids)
-        → ReplacesObject n s v (a_list p 7 m) (struct_list d k (with_first_elements
-        (suc i) es fs)) }
+    ensures here { (n i : ℕ) (s u : Segments) (a : Structs) (es fs : Elements)
+        → i < element_count fs → ElementsInTurn n s u a i es fs
+        → OwnsObject n u (struct_of a i) (element_at a.data_words fs i) }
+    ensures next { (n i : ℕ) (s u v : Segments) (a : Structs) (es fs : Elements)
+        → i < element_count es → i < element_count fs → ElementsInTurn n s u a i es fs
+        → ReplacesObject n u v (struct_of a i) (element_at a.data_words es i)
+        → ElementsInTurn n s v a (suc i) es fs }
     ensures done { (es fs : Elements) → element_count es ≡ element_count fs
         → with_first_elements (element_count fs) es fs ≡ es }
-    ensures childless_at { (k d i section : ℕ) (kids : Trees) (es : Elements) → i < element_count es
+{}
+
+/// Elements lose their children, and nothing else.
+pub fn childless_elements()
+    ensures element { (k d i section : ℕ) (kids : Trees) (es : Elements) → i < element_count es
         → element_at d es i ≡ structure d section kids
         → element_at d (childless k es) i ≡ structure d section (resized k none) }
-    ensures childless_count { (k : ℕ) (es : Elements)
+    ensures count { (k : ℕ) (es : Elements)
         → element_count (childless k es) ≡ element_count es }
 {}

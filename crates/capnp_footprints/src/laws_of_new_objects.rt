@@ -2,19 +2,19 @@
 //!
 //! A caller allocates zero words, clears the pointer's old value, writes a tag or the words of a list where there are any, and last the words of the pointer.
 ghost use Rattle.std.specs.Prelude.{◌≡◌, ◌≢◌, ℕ, suc, ◌+◌, ◌-◌, ◌^◌, ◌<◌, ◌≤◌, List, [], ◌∷◌, length, replicate, Some, Ok};
-ghost use Rattle.capnp_model.specs.Segments.{Segments, Place, place, after, word_at};
+ghost use Rattle.capnp_model.specs.Segments.{Segments, Place, after, word_at};
 ghost use Rattle.capnp_model.specs.Pointers.{found_at};
 ghost use Rattle.capnp_model.specs.Trees.{Tree, null};
 ghost use Rattle.capnp_footprints.specs.Footprints.{Owns};
 ghost use Rattle.capnp_footprints.specs.Changes.{Replaces};
 ghost use Rattle.capnp_footprints.specs.NewObjects.{New, new_words, new_pointer, new_object, new_tree, Fits, pointed, pointed_far, IsNear, IsNamed, Prepared};
-ghost use Rattle.capnp_footprints.specs.Writes.{spliced, with_words, with_zeros, segment_end};
+ghost use Rattle.capnp_footprints.specs.Writes.{spliced, with_words, with_zeros, end_of};
 
 /// Zero words were allocated, then the value was cleared; or it was cleared, and no words are needed.
 pub fn prepared_words()
     ensures new { (n : ℕ) (s u : Segments) (p : Place) (t : Tree) (i k : ℕ) → i ≤ length s
         → Owns (suc n) s p t → Replaces (suc n) (with_zeros s i k) u p null
-        → Prepared n s u p (place i (segment_end s i)) k (replicate k 0) }
+        → Prepared n s u p (end_of s i) k (replicate k 0) }
     ensures here { (n : ℕ) (s u : Segments) (p : Place) → Replaces (suc n) s u p null
         → Prepared n s u p p 0 [] }
     ensures next { (n : ℕ) (s u : Segments) (p : Place) → Replaces (suc n) s u p null
@@ -24,7 +24,7 @@ pub fn prepared_words()
         → Prepared n s u p r (1 + k) (0 ∷ replicate k 0) }
 {}
 
-/// Words are written into those that were allocated: some, all, all behind the pad, or the tag of a list of structs, near or behind the pad.
+/// Words are written into those that were allocated: some, all, or all behind the pad.
 pub fn words_before_pointers()
     ensures some { (n : ℕ) (s u : Segments) (p r : Place) (i k : ℕ) (vs ws : List ℕ)
         → i + length vs ≤ k → Prepared n s u p r k ws
@@ -34,10 +34,14 @@ pub fn words_before_pointers()
     ensures rest { (n : ℕ) (s u : Segments) (p r : Place) (k w : ℕ) (vs ws : List ℕ) → length vs ≡ k
         → Prepared n s u p r (1 + k) (w ∷ ws)
         → Prepared n s (with_words u (after r 1) vs) p r (1 + k) (w ∷ vs) }
-    ensures tag { (n : ℕ) (s u : Segments) (p r : Place) (m tag : ℕ)
+{}
+
+/// The tag of a list of structs is written in front of zeros, near or behind the pad.
+pub fn tags_before_pointers()
+    ensures near { (n : ℕ) (s u : Segments) (p r : Place) (m tag : ℕ)
         → Prepared n s u p r (1 + m) (replicate (1 + m) 0)
         → Prepared n s (pointed u r tag) p r (1 + m) (tag ∷ replicate m 0) }
-    ensures far_tag { (n : ℕ) (s u : Segments) (p r : Place) (m tag : ℕ)
+    ensures far { (n : ℕ) (s u : Segments) (p r : Place) (m tag : ℕ)
         → Prepared n s u p r (1 + (1 + m)) (replicate (1 + (1 + m)) 0)
         → Prepared n s (pointed u (after r 1) tag) p r (1 + (1 + m)) (0 ∷ (tag ∷ replicate m 0)) }
 {}
@@ -60,14 +64,13 @@ pub fn objects_of_zeros()
     ensures near { (n : ℕ) (s u : Segments) (p : Place) (t : Tree) (offset k : ℕ) (x : New)
         → p.segment < length s → new_words x ≡ replicate k 0 → Owns (suc n) s p t
         → Replaces (suc n) (with_zeros s p.segment k) u p null
-        → p.position + 1 + offset ≡ segment_end s p.segment → offset < 2 ^ 29
-        → 0 < new_pointer offset x → Fits x
+        → IsNear p (end_of s p.segment) offset → 0 < new_pointer offset x → Fits x
         → Replaces (suc n) s (pointed u p (new_pointer offset x)) p (new_tree x) }
     ensures far { (n : ℕ) (s u : Segments) (p : Place) (t : Tree) (i k : ℕ) (x : New) → i ≤ length s
         → new_words x ≡ replicate k 0 → Owns (suc n) s p t
-        → Replaces (suc n) (with_zeros s i (1 + k)) u p null → IsNamed (place i (segment_end s i))
+        → Replaces (suc n) (with_zeros s i (1 + k)) u p null → IsNamed (end_of s i)
         → Fits x
-        → Replaces (suc n) s (pointed_far u p (place i (segment_end s i)) (new_pointer 0 x)) p
+        → Replaces (suc n) s (pointed_far u p (end_of s i) (new_pointer 0 x)) p
         (new_tree x) }
 {}
 

@@ -143,12 +143,16 @@ pub fn words_mean_their_value()
         → AreWords (canonical_words t) }
 {}
 
-/// A value has no more words than following it costs; its canonical words mean the trimmed value, are equal just for equal trimmed values, and are their own canonical words.
-pub fn canonical_messages()
-    ensures size { (n : ℕ) (s : Segments) (p : Place) (t : Tree) → tree_at n s p ≡ Some t
+/// The objects of a value have no more words than following its pointer costs, and the canonical words of the trimmed value at most one more, that of the root.
+pub fn words_within_costs()
+    ensures whole { (n : ℕ) (s : Segments) (p : Place) (t : Tree) → tree_at n s p ≡ Some t
         → length (body t) ≤ cost_at n s p }
-    ensures trimmed_size { (n : ℕ) (s : Segments) (p : Place) (t : Tree) → tree_at n s p ≡ Some t
+    ensures trimmed { (n : ℕ) (s : Segments) (p : Place) (t : Tree) → tree_at n s p ≡ Some t
         → length (canonical_words (trim t)) ≤ cost_at n s p + 1 }
+{}
+
+/// The canonical words of a value mean the trimmed value, are equal just for equal trimmed values, and are their own canonical words.
+pub fn canonical_messages()
     ensures means { (n : ℕ) (s : Segments) (p : Place) (t : Tree) → tree_at n s p ≡ Some t
         → cost_at n s p < 2 ^ 29 → tree_at n (canonical_words (trim t) ∷ []) root ≡ Some (trim t) }
     ensures equal { (n : ℕ) (s u : Segments) (p q : Place) (t v : Tree) → tree_at n s p ≡ Some t
@@ -161,18 +165,22 @@ pub fn canonical_messages()
         → canonical_words (trim u) ≡ canonical_words (trim t) }
 {}
 
-/// The test for canonical words holds just where they stand, that for a message just where they are its one segment, and so of each canonical copy.
-pub fn canonical_tests()
-    ensures holds_at { (n : ℕ) (s : Segments) (p : Place) → is_canonical_at n s p ≡ true
+/// The test for canonical words at a place holds just where they stand.
+pub fn canonical_tests_at_places()
+    ensures holds { (n : ℕ) (s : Segments) (p : Place) → is_canonical_at n s p ≡ true
         → (t : Tree) × (tree_at n s p ≡ Some t) × (has_capability t ≡ false)
         × (words_at s p (length (canonical_words (trim t))) ≡ Some (canonical_words (trim t))) }
-    ensures at { (n : ℕ) (s : Segments) (p : Place) (t : Tree) → tree_at n s p ≡ Some t
+    ensures stands { (n : ℕ) (s : Segments) (p : Place) (t : Tree) → tree_at n s p ≡ Some t
         → has_capability t ≡ false
         → words_at s p (length (canonical_words (trim t))) ≡ Some (canonical_words (trim t))
         → is_canonical_at n s p ≡ true }
     ensures begins { (n : ℕ) (s : Segments) (t : Tree) (more : List ℕ) → Fits t → depth t ≤ n
         → length (canonical_words t) ≤ 2 ^ 29 → has_capability t ≡ false → trim t ≡ t
         → slice_get s 0 ≡ Some (canonical_words t ++ more) → is_canonical_at n s root ≡ true }
+{}
+
+/// The test for a canonical message holds just where the canonical words of its value are its one segment, and so of each canonical copy.
+pub fn canonical_tests()
     ensures holds_of { (n : ℕ) (s : Segments) → is_canonical_message n s ≡ true → (t : Tree)
         × (tree_at n s root ≡ Some t) × (has_capability t ≡ false)
         × (s ≡ canonical_words (trim t) ∷ []) }
@@ -212,7 +220,7 @@ pub fn written_messages()
         → Packs limit (packed_message s) s }
 {}
 
-/// Bytes at whose front a message is read begin with its text, bytes behind a text change nothing, no text begins another, and a slice is read as a stream is.
+/// Bytes at whose front a message is read begin with its text, bytes behind a text change nothing, and a slice is read as a stream is.
 pub fn texts_of_messages()
     ensures framed_front { (limit : Option ℕ) (b : List ℕ) (s : Segments) (rest : List ℕ)
         → frame_at limit b ≡ Ok (s, rest) → (x : List ℕ) × (b ≡ x ++ rest) × Frames limit x s }
@@ -226,9 +234,13 @@ pub fn texts_of_messages()
         → frame_at limit b ≡ Ok r → flat_at limit b ≡ Ok r }
     ensures of_slice { (limit : Option ℕ) (b : List ℕ) (r : Segments × List ℕ)
         → flat_at limit b ≡ Ok r → frame_at limit b ≡ Ok r }
-    ensures one_framed { (limit : Option ℕ) (b c : List ℕ) (s u : Segments) (x y : List ℕ)
+{}
+
+/// No text of a message begins another one.
+pub fn texts_by_their_fronts()
+    ensures framed { (limit : Option ℕ) (b c : List ℕ) (s u : Segments) (x y : List ℕ)
         → Frames limit b s → Frames limit c u → b ++ x ≡ c ++ y → (b ≡ c) × (s ≡ u) }
-    ensures one_packed { (limit : Option ℕ) (b c : List ℕ) (s u : Segments) (x y : List ℕ)
+    ensures packed { (limit : Option ℕ) (b c : List ℕ) (s u : Segments) (x y : List ℕ)
         → Packs limit b s → Packs limit c u → b ++ x ≡ c ++ y → (b ≡ c) × (s ≡ u) }
 {}
 
@@ -290,7 +302,7 @@ pub fn views_along_versions()
         ≡ projected (schema_of a) x (record_of (schema_of c) z t) }
 {}
 
-/// A walk over a value without a fault costs what following its pointers costs, and follows just its pointers, nulls included; the faults of any value are those that a walk meets. A walk that is refused at a visit has followed no more pointers than it began with and one for each word that it paid.
+/// A walk over a value without a fault costs what following its pointers costs, and follows just its pointers, nulls included; the faults of any value are those that a walk meets.
 pub fn values_on_walks()
     ensures cost { (n : ℕ) (s : Segments) (p : Place) (t : Tree) → tree_at n s p ≡ Some t
         → visits_cost (visits n s p) ≡ Some (cost_at n s p) }
@@ -304,10 +316,14 @@ pub fn values_on_walks()
         → length (from_each (visits n s) p k) ≡ each_pointers_of ts }
     ensures faults { (n : ℕ) (s : Segments) (p : Place)
         → faults_among (visits n s p) ≡ faults_at n s p }
-    ensures few { (n : ℕ) (s : Segments) (p : Place) (before : List Visit) (last : Visit)
+{}
+
+/// A walk that is refused at a visit has followed no more pointers than it began with and one for each word that it paid.
+pub fn refused_walks()
+    ensures value { (n : ℕ) (s : Segments) (p : Place) (before : List Visit) (last : Visit)
         (rest : List Visit) (paid : ℕ) → visits n s p ≡ before ++ last ∷ rest
         → visits_cost before ≡ Some paid → length before ≤ paid }
-    ensures few_in_row { (n : ℕ) (s : Segments) (p : Place) (k : ℕ) (before : List Visit)
+    ensures row { (n : ℕ) (s : Segments) (p : Place) (k : ℕ) (before : List Visit)
         (last : Visit) (rest : List Visit) (paid : ℕ)
         → from_each (visits n s) p k ≡ before ++ last ∷ rest → visits_cost before ≡ Some paid
         → length before + 1 ≤ k + paid }

@@ -36,7 +36,7 @@ pub fn records_after_one_call()
         → IsStart nodes id (c ∷ calls) t → IsStart nodes id calls (edit (schema_of nodes) id c t) }
 {}
 
-/// Calls one after the other give the value whose record they make of the record, and the replies that they give at the records; bits and pointers of the root that its schema does not name stay.
+/// Calls one after the other give the value whose record they make of the record, and the replies that they give at the records; the next calls can start from it.
 pub fn records_after_calls()
     ensures reads { (nodes : List Node) (id : ℕ) (calls : List Call) (t : Tree)
         → IsStart nodes id calls t
@@ -46,13 +46,17 @@ pub fn records_after_calls()
         (t : Tree) → IsStart nodes id calls t
         → replies (schema_of nodes) quoted id calls t
         ≡ record_replies (schema_of nodes) quoted id calls (record_of (schema_of nodes) id t) }
-    ensures beside { (nodes : List Node) (id : ℕ) (calls : List Call) (t : Tree)
+    ensures next { (nodes : List Node) (id : ℕ) (calls : List Call) (t : Tree)
+        → IsStart nodes id calls t → IsStart nodes id [] (edits (schema_of nodes) id calls t) }
+{}
+
+/// Bits and pointers of the root that its schema does not name stay, whatever the calls.
+pub fn root_beside_its_schema()
+    ensures { (nodes : List Node) (id : ℕ) (calls : List Call) (t : Tree)
         → IsStart nodes id calls t → (areas : List Area)
         → are_apart (areas_of ((schema_of nodes).shape_of id)) areas ≡ true
         → SameAll areas (view_of_value (schema_of nodes) t)
         (view_of_value (schema_of nodes) (edits (schema_of nodes) id calls t)) }
-    ensures next { (nodes : List Node) (id : ℕ) (calls : List Call) (t : Tree)
-        → IsStart nodes id calls t → IsStart nodes id [] (edits (schema_of nodes) id calls t) }
 {}
 
 /// What is written after the calls on a message's value reads as what the calls make of the record of the value that was read.

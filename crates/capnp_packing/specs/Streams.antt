@@ -1,10 +1,12 @@
 -- Packed bytes as streams of words. (Encoding, "Packing")
-use Rattle.std.specs.Prelude.{◌≡◌, ◌≢◌, ◌⊎◌, ℕ, ◌/◌, ◌%◌, ◌<◌, List, ⊤}
+use Rattle.std.specs.Prelude.{◌≡◌, ◌≢◌, ◌⊎◌, ℕ, ◌/◌, ◌%◌, ◌<◌, List, [], ⊤, IfSome, IfOk, IfErr, OnOk}
+use Rattle.std.specs.declared.result.Result.{Result}
 use Rattle.std.specs.declared.option.Option.{Option}
 use Rattle.std.specs.Io.KnownBytes.{Keeps, IsAtEnd}
 use Rattle.capnp_model.specs.Packing.{unpacked}
 use Rattle.capnp_stream.specs.Pieces.{TakesPiece}
 use Rattle.capnp_packing.specs.Parts.{Refuses}
+use Rattle.capnp_units.specs.declared.errors.Error.{Error}
 use Rattle.capnp_units.specs.declared.kinds.ErrorKind.{ErrorKind}
 use Rattle.capnp_units.specs.declared.kinds.ErrorKind.TheVariants.{FailedToFillTheWholeBuffer, PrematureEndOfPackedInput, PackedInputDidNotEndCleanlyOnASegmentBoundary, BufferNotLargeEnough, Device}
 
@@ -32,3 +34,17 @@ pub record ReadsPiece (count len : ℕ) (old new : Option (List ℕ)) (words : L
 -- Why a buffer of so many bytes wasn't read: it ends in a part of a word, and nothing was taken, or the bytes begin with no such piece, or the device failed.
 abbrev pub RefusesPiece : ℕ → Option (List ℕ) → Option (List ℕ) → ErrorKind → Type 0
 RefusesPiece len old new kind = ((kind ≡ BufferNotLargeEnough) × (len % 8 ≢ 0) × Keeps old new) ⊎ Refuses (unpacked (len / 8)) old new kind
+
+-- What a call that reads at most one piece into a buffer of so many bytes promises of the bytes that are left before and after it. The buffer then has these words.
+pub record TriesPiece (len : ℕ) (old : Option (List ℕ)) (result : Result ℕ Error) (new : Option (List ℕ)) (words : List ℕ) : Type 0 where
+  pub whole : IfOk result (λ _. len % 8 ≡ 0)
+  pub piece : IfOk result (λ n. ReadsPiece n len old new words)
+  pub fault : IfErr result (λ e. RefusesPiece len old new e.kind)
+  -- Bytes are at fault only where some are left.
+  pub some : IfErr result (λ e. e.kind ≢ Device → len % 8 ≡ 0 → IfSome old (λ xs. xs ≢ []))
+
+-- The same of a call that reads a piece, and no fewer words than the buffer has.
+pub record FillsWithPiece (len : ℕ) (old : Option (List ℕ)) (result : Result (Unit {0}) Error) (new : Option (List ℕ)) (words : List ℕ) : Type 0 where
+  pub whole : OnOk result (len % 8 ≡ 0)
+  pub piece : OnOk result (TakesPiece unpacked old new words)
+  pub fault : IfErr result (λ e. RefusesPiece len old new e.kind)

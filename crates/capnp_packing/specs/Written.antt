@@ -1,10 +1,15 @@
 -- What was written of packed words. (Encoding, "Packing")
-use Rattle.std.specs.Prelude.{◌≡◌, ◌≤◌, ◌<◌, ◌%◌, ℕ, List, ◌++◌, length, take}
+use Rattle.std.specs.Prelude.{◌≡◌, ◌≤◌, ◌<◌, ◌%◌, ℕ, List, ◌++◌, length, take, IfOk, IfErr, OnErr}
+use Rattle.std.specs.declared.result.Result.{Result}
 use Rattle.std.specs.declared.option.Option.{Option}
 use Rattle.std.specs.Io.KnownBytes.{Appends}
 use Rattle.capnp_model.specs.Packing.{next, packed_from}
 use Rattle.capnp_stream.specs.Segments.{whole_words}
-use Rattle.capnp_io.specs.Streams.{RoomFalls}
+use Rattle.capnp_units.specs.declared.errors.Error.{Error}
+use Rattle.capnp_io.specs.Counting.{Counts}
+use Rattle.capnp_io.specs.Streams.{AppendsPart, RoomFalls, IsWriteRefusal}
+use Rattle.capnp_io.specs.Writes.{SinkSeen}
+use denote.Ref.{Bor}
 
 -- The written spelling of further words of a piece, from a group on.
 unfoldable pub packed_on : List ℕ → List ℕ
@@ -23,3 +28,12 @@ pub record Packs (bytes buf : List ℕ) (len : ℕ) (run rest : List ℕ) : Type
   pub shorter : length rest < length bytes
   pub whole : length rest % 8 ≡ 0
   pub spells : packed_on (whole_words bytes) ≡ (take len buf ++ run) ++ packed_on (whole_words rest)
+
+-- The groups of the first words are written, and the bytes of the words that are left are answered; on a refusal a beginning of the spelling of all words was written.
+pub record WritesFirst (grows : Type 0) (bytes : List ℕ) (old : SinkSeen) (result : Result (Bor (List ℕ)) Error) (new : SinkSeen) : Type 0 where
+  pub ok : IfOk result (λ rest. WritesUpTo (whole_words bytes) (whole_words rest.now) old.contents new.contents old.room new.room)
+  pub whole : IfOk result (λ rest. length rest.now % 8 ≡ 0)
+  pub shorter : IfOk result (λ rest. length rest.now < length bytes)
+  pub err : OnErr result (AppendsPart old.contents new.contents (packed_on (whole_words bytes)))
+  pub refusal : IfErr result (λ e. IsWriteRefusal grows old.room (length (packed_on (whole_words bytes))) e.kind)
+  pub count : Counts result old.failures new.failures

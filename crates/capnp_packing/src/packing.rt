@@ -1,11 +1,12 @@
 //! Writes packed pieces.
-ghost use Rattle.std.specs.Prelude.{◌≡◌, ◌≤◌, ◌<◌, ◌%◌, length, IfOk, IfErr, OnOk, OnErr};
+ghost use Rattle.std.specs.Prelude.{◌≡◌, ◌<◌, ◌%◌, length, IfErr, OnOk, OnErr};
 ghost use Rattle.std.specs.Io.KnownBytes.{Appends};
 ghost use Rattle.capnp_model.specs.Packing.{packed};
 ghost use Rattle.capnp_io.specs.Counting.{Counts};
 ghost use Rattle.capnp_stream.specs.Segments.{whole_words};
 ghost use Rattle.capnp_io.specs.Streams.{AppendsPart, RoomFalls, IsWriteRefusal};
-ghost use Rattle.capnp_packing.specs.Written.{packed_on, WritesUpTo};
+ghost use Rattle.capnp_io.specs.Writes.{sink_seen};
+ghost use Rattle.capnp_packing.specs.Written.{WritesFirst};
 
 use crate::written::pack_groups;
 use capnp_stream::traits::Write;
@@ -33,18 +34,9 @@ fn write_run<W: Write>(out: &mut W, run: &[u8]) -> Result<()>
 fn write_groups<'a, W: Write>(out: &mut W, bytes: &'a [u8]) -> Result<&'a [u8]>
     requires whole { length bytes.now % 8 ≡ 0 }
     requires some { 0 < length bytes.now }
-    ensures ok { IfOk result (λ rest.
-        WritesUpTo (whole_words bytes.now) (whole_words rest.now) (W.contents out.old)
-        (W.contents out.new) (W.room out.old) (W.room out.new)) }
-    ensures rest_whole { IfOk result (λ rest. length rest.now % 8 ≡ 0) }
-    ensures shorter { IfOk result (λ rest. length rest.now < length bytes.now) }
-    ensures err { OnErr result
-        (AppendsPart (W.contents out.old) (W.contents out.new)
-        (packed_on (whole_words bytes.now))) }
-    ensures refusal { IfErr result (λ e.
-        IsWriteRefusal W.may_grow (W.room out.old) (length (packed_on (whole_words bytes.now)))
-        e.kind) }
-    ensures count { Counts result (W.failures out.old) (W.failures out.new) }
+    ensures { WritesFirst W.may_grow bytes.now
+        (sink_seen W.contents W.failures W.room out.old) result
+        (sink_seen W.contents W.failures W.room out.new) }
 {
     let mut buf = [0u8; BUFFER_LEN];
     let made = pack_groups(bytes, &mut buf);

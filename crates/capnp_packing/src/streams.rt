@@ -1,15 +1,14 @@
 //! Packed bytes as streams of words.
-ghost use Rattle.std.specs.Prelude.{◌≡◌, ◌≢◌, ◌⊎◌, ◌%◌, [], length, None, IfSome, IfOk, IfErr, OnOk, IsErrAnd};
+ghost use Rattle.std.specs.Prelude.{◌≡◌, ◌≢◌, ◌⊎◌, ◌%◌, length, None, IfErr, OnOk, IsErrAnd};
 ghost use Rattle.std.specs.Io.{ReadsAtMost};
 ghost use Rattle.std.specs.Io.KnownBytes.{Consumes, ReadConsumes};
 ghost use Rattle.capnp_units.specs.declared.kinds.ErrorKind.{ErrorKind};
-ghost use Rattle.capnp_model.specs.Packing.{packed, unpacked};
+ghost use Rattle.capnp_model.specs.Packing.{packed};
 ghost use Rattle.capnp_io.specs.Counting.{Counts};
-ghost use Rattle.capnp_stream.specs.Pieces.{TakesPiece};
 ghost use Rattle.capnp_stream.specs.Segments.{whole_words};
 ghost use Rattle.capnp_io.specs.Streams.{ConsumesFewer, EndsBefore};
 ghost use Rattle.capnp_io.specs.Writes.{Writes, sink_seen};
-ghost use Rattle.capnp_packing.specs.Streams.{IsUnpackingKind, ReadsPiece, RefusesPiece};
+ghost use Rattle.capnp_packing.specs.Streams.{IsUnpackingKind, TriesPiece, FillsWithPiece};
 
 use crate::bytes::is_at_end;
 use crate::packing::write_words;
@@ -39,16 +38,8 @@ impl<R: BufRead> Read for PackedRead<R> {
         ensures bytes { ReadConsumes None None result buf.new }
         ensures refusal { IfErr result (λ e. IsUnpackingKind e.kind) }
         ensures count { Counts result (R.failures self.old.inner) (R.failures self.new.inner) }
-        ensures whole { IfOk result (λ _. length buf.old % 8 ≡ 0) }
-        ensures piece { IfOk result (λ n.
-            ReadsPiece n (length buf.old) (R.remaining self.old.inner)
-            (R.remaining self.new.inner) (whole_words buf.new)) }
-        ensures fault { IfErr result (λ e.
-            RefusesPiece (length buf.old) (R.remaining self.old.inner)
-            (R.remaining self.new.inner) e.kind) }
-        ensures some { IfErr result (λ e.
-            e.kind ≢ ErrorKind.Device → length buf.old % 8 ≡ 0
-            → IfSome (R.remaining self.old.inner) (λ xs. xs ≢ [])) }
+        ensures piece { TriesPiece (length buf.old) (R.remaining self.old.inner) result
+            (R.remaining self.new.inner) (whole_words buf.new) }
     {
         if buf.len() % 8 != 0 {
             return Err(Error::from(ErrorKind::BufferNotLargeEnough));
@@ -70,13 +61,8 @@ impl<R: BufRead> Read for PackedRead<R> {
             ⊎ ((e.kind ≡ ErrorKind.FailedToFillTheWholeBuffer)
             × EndsBefore None None (length buf.old))) }
         ensures count { Counts result (R.failures self.old.inner) (R.failures self.new.inner) }
-        ensures whole { OnOk result (length buf.old % 8 ≡ 0) }
-        ensures piece { OnOk result
-            (TakesPiece unpacked (R.remaining self.old.inner) (R.remaining self.new.inner)
-            (whole_words buf.new)) }
-        ensures fault { IfErr result (λ e.
-            RefusesPiece (length buf.old) (R.remaining self.old.inner)
-            (R.remaining self.new.inner) e.kind) }
+        ensures piece { FillsWithPiece (length buf.old) (R.remaining self.old.inner) result
+            (R.remaining self.new.inner) (whole_words buf.new) }
     {
         if buf.len() % 8 != 0 {
             return Err(Error::from(ErrorKind::BufferNotLargeEnough));

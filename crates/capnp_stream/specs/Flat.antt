@@ -1,5 +1,5 @@
 -- Framed messages at the front of a buffer. (Encoding, "Serialization Over a Stream")
-use Rattle.std.specs.Prelude.{◌≡◌, ℕ, ◌+◌, ◌*◌, ◌/◌, ◌%◌, ◌^◌, ◌≤◌, List, length, take, drop, sum}
+use Rattle.std.specs.Prelude.{◌≡◌, ℕ, ◌+◌, ◌*◌, ◌/◌, ◌%◌, ◌^◌, ◌<◌, ◌≤◌, List, length, take, drop, sum}
 use Rattle.std.specs.Int.{from_le_bytes, w64}
 use Rattle.capnp_units.specs.Segments.{whole_words}
 use Rattle.capnp_model.specs.Messages.{halves}
@@ -21,6 +21,13 @@ message_bytes ns = table_bytes (length ns) + 8 * sum ns
 -- The bytes of the n segments of the message at the front of bytes.
 abbrev pub frame_segments : ℕ → List ℕ → List (List ℕ)
 frame_segments n bytes = bytes_at (drop (table_bytes n) bytes) (ranges_from 0 (table_lengths n bytes))
+
+-- The bytes have room for a table of so many segments, from 1 to 511, and begin with its count.
+pub record CountsTable (bytes : List ℕ) (n : ℕ) : Type 0 where
+  pub some : 0 < n
+  pub few : n ≤ 511
+  pub count : n ≡ from_le_bytes w64 bytes % 2 ^ 32 + 1
+  pub there : table_bytes n ≤ length bytes
 
 -- The bytes begin with this table, then have its segments' bytes.
 pub record Describes (info : NoAllocSegmentTableInfo) (bytes : List ℕ) : Type 0 where

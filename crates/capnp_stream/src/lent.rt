@@ -7,7 +7,7 @@ ghost use Rattle.capnp_model.specs.Messages.{plain_words, within};
 ghost use Rattle.capnp_io.specs.Counting.{Counts};
 ghost use Rattle.capnp_stream.specs.Pieces.{IsPieceKind, is_framed_fault};
 ghost use Rattle.capnp_stream.specs.Frames.{TellsFault, TakesMessage, TakesStart, TakesTable, TakesBody, IsCut};
-ghost use Rattle.capnp_stream.specs.Flat.{table_lengths, table_bytes, frame_segments, Describes};
+ghost use Rattle.capnp_stream.specs.Flat.{table_lengths, frame_segments, CountsTable, Describes};
 ghost use Rattle.capnp_stream.specs.Lent.{HoldsMessage, TellsNeed, LacksBetweenPieces, IsFillKind};
 ghost use Rattle.capnp_stream.specs.Reading.{source_seen};
 ghost use Rattle.capnp_stream.specs.Filling.{TriesFilling, FillsMessage};
@@ -27,9 +27,7 @@ fn fill_table<F: MessageForm, R: BufRead>(
     buffer: &mut [u8],
     limit: Option<usize>,
 ) -> Result<usize>
-    ensures few { IfOk result (λ n. (0 < n) × (n ≤ 511)) }
-    ensures count { IfOk result (λ n. n ≡ from_le_bytes w64 buffer.new % 2 ^ 32 + 1) }
-    ensures there { IfOk result (λ n. table_bytes n ≤ length buffer.new) }
+    ensures count { IfOk result (CountsTable buffer.new) }
     ensures table { IfOk result (λ n. TakesTable F.reader limit (R.remaining source.old)
         (R.remaining source.new) (table_lengths n buffer.new)) }
     ensures refused { TellsFault F.reader limit (R.remaining source.old) result }

@@ -23,7 +23,7 @@ use capnp_copy::segments::BuilderArenaImpl;
 use capnp_footprints::laws::{
     changes_of_values, changes_with_more_levels, children_of_structs, objects_of_pointers,
 };
-use capnp_footprints::laws_of_clearing::struct_children_in_turn;
+use capnp_footprints::laws_of_clearing::shapes_of_objects;
 use capnp_units::errors::{Error, Result};
 use capnp_units::kinds::ErrorKind;
 use capnp_units::limiter::ReadLimiter;
@@ -46,7 +46,7 @@ fn values_behind_structs()
 {
     objects_of_pointers();
     children_of_structs();
-    struct_children_in_turn();
+    shapes_of_objects();
 }
 
 /// Sets the number of the struct that the first pointer of the root's struct leads to. Both are made in place of null, and widened where they lack the pointer or the number.

@@ -1,5 +1,5 @@
-use Rattle.capnp_footprints.proofs.Writing.{struct_words, plain_words}
+use Rattle.capnp_footprints.proofs.Writing.{struct_words}
 use Rattle.capnp_footprints.proofs.laws.words_of_data.Goals as goal
 
 pub returns : goal.returns
-returns c = record { structs = struct_words; lists = plain_words }
+returns c = struct_words

@@ -1,6 +1,9 @@
-use Rattle.capnp_footprints.proofs.Detached.{detached_start, detached_more, detached_split, detached_fewer, detached_end}
-use Rattle.capnp_footprints.proofs.SpareMoves.{detached_swapped}
+use Rattle.capnp_footprints.proofs.Detached.{detached_start, detached_more, detached_end}
 use Rattle.capnp_footprints.proofs.laws_of_detached_objects.spare_words.Goals as goal
 
 pub returns : goal.returns
-returns c = record { start = detached_start; more = detached_more; split = detached_split; swapped = detached_swapped; fewer = detached_fewer; end = detached_end }
+returns c = record {
+  start = detached_start;
+  more = λ n i k s u p t v spare o l h. detached_more n s u p t v spare o i k l h;
+  end = detached_end;
+}

@@ -1,5 +1,5 @@
-use Rattle.capnp_footprints.proofs.Prepared.{prepared_written, whole_written, rest_written, tag_written, tag_written_far}
+use Rattle.capnp_footprints.proofs.Prepared.{prepared_written, whole_written, rest_written}
 use Rattle.capnp_footprints.proofs.laws_of_new_objects.words_before_pointers.Goals as goal
 
 pub returns : goal.returns
-returns c = record { some = prepared_written; all = whole_written; rest = rest_written; tag = tag_written; far_tag = tag_written_far }
+returns c = record { some = prepared_written; all = whole_written; rest = rest_written }

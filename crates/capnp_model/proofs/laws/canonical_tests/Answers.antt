@@ -1,6 +1,6 @@
-use Rattle.capnp_model.proofs.CanonicalTests.{canonical_test, test_canonical, message_test, test_message}
-use Rattle.capnp_model.proofs.CanonicalCopies.{copy_is_canonical, begins_canonical}
+use Rattle.capnp_model.proofs.CanonicalTests.{message_test, test_message}
+use Rattle.capnp_model.proofs.CanonicalCopies.{copy_is_canonical}
 use Rattle.capnp_model.proofs.laws.canonical_tests.Goals as goal
 
 pub returns : goal.returns
-returns c = record { holds_at = canonical_test; at = test_canonical; begins = begins_canonical; holds_of = message_test; message = test_message; copy = copy_is_canonical }
+returns c = record { holds_of = message_test; message = test_message; copy = copy_is_canonical }

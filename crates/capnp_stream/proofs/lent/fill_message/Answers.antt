@@ -21,7 +21,7 @@ returns-then-buffer-table-clause-short g c =
     let ns = table_lengths n c.fill_table.new.buffer in
     let total : c.words_before-total.result ≡ sum ns = c.words_before-total.ensures.total in
     let kept : within (sum ns) c.args.limit ≡ true = ap (λ m. within m c.args.limit) (sym total) ∙ sym c.is_within.ensures ∙ c.if-not-is_within.false in
-    let long : table_bytes (length ns) ≡ table_bytes n = ap table_bytes (table-holds n c.fill_table.new.buffer c.in_ok-count.ensures.there) in
+    let long : table_bytes (length ns) ≡ table_bytes n = ap table_bytes (table-holds n c.fill_table.new.buffer c.in_ok-count.ensures.count.there) in
     λ _. table-needs g.F.MessageForm.reader g.met.F.MessageForm.fronts c.args.limit ns _ _ c.in_ok-count.ensures.table (length c.args.buffer.now) kept (omega (arith, long, total, c.if-buffer-table.true, c.fill_table.auto.buffer))
 
 pub returns-then-buffer-table-clause-part : goal.returns-then-buffer-table-clause-part

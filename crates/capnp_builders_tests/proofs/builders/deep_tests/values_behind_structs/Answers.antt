@@ -13,7 +13,7 @@ pub returns : goal.returns
 returns c =
     let pointers = c.objects_of_pointers.ensures in
     let children = c.children_of_structs.ensures in
-    let shape = c.struct_children_in_turn.ensures.shape in
+    let shape = c.shapes_of_objects.ensures.structs in
     record {
       down = λ n s p q d k i t leads less own.
           let object = pointers.down n s p _ t leads.1 own in

@@ -7,17 +7,27 @@ use Rattle.capnp_packing.specs.Parts.{Takes}
 use Rattle.capnp_packing.proofs.PieceLemmas.{piece-taken, piece-of_kept, failed-at_once}
 use Rattle.capnp_packing.proofs.streams.PackedReadRead.read.Goals as goal
 
-pub returns-in_err-is_at_end-clause-fault : goal.returns-in_err-is_at_end-clause-fault
-returns-in_err-is_at_end-clause-fault g c =
+pub returns-in_err-is_at_end-clause-piece : goal.returns-in_err-is_at_end-clause-piece
+returns-in_err-is_at_end-clause-piece g c =
     let some : 0 < length c.args.buf.now = omega (arith, eqb-false (length c.args.buf.now) 0 (sym c.is_empty.ensures ∙ c.if-is_empty.false)) in
     let p = err_from_is_err_and c.from_residual.result c.from_residual.ensures.1 in
-    rw (p.1, p.2, c.in_err-is_at_end.ensures.refusal) (inr (failed-at_once (length c.args.buf.now / 8) _ _ (omega (arith, some)) c.is_at_end.ensures.kept))
+    record {
+      whole = search rules;
+      piece = search rules;
+      fault = rw (p.1, p.2, c.in_err-is_at_end.ensures.refusal) (inr (failed-at_once (length c.args.buf.now / 8) _ _ (omega (arith, some)) c.is_at_end.ensures.kept));
+      some = search rules;
+    }
 
 pub returns-clause-piece : goal.returns-clause-piece
 returns-clause-piece g c =
     let buf = c.read_words.new.buf in
     let P : ℕ → Type 0 = λ n. Takes (unpacked (n / 8)) (g.R.Read.remaining c.is_at_end.new.source) (g.R.Read.remaining c.read_words.new.source) (whole_words buf) in
     record {
-      piece = λ some. (c.read_words.auto.buf, piece-of_kept _ _ _ _ c.is_at_end.ensures.kept (piece-taken _ _ buf (subst P (sym c.read_words.auto.buf) c.in_ok-read_words.ensures.ok)));
-      end = search rules;
+      whole = search rules;
+      piece = record {
+        piece = λ some. (c.read_words.auto.buf, piece-of_kept _ _ _ _ c.is_at_end.ensures.kept (piece-taken _ _ buf (subst P (sym c.read_words.auto.buf) c.in_ok-read_words.ensures.ok)));
+        end = search rules;
+      };
+      fault = search rules;
+      some = search rules;
     }

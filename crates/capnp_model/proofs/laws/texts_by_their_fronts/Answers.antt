@@ -1,0 +1,5 @@
+use Rattle.capnp_model.proofs.MessagePrefixes.{one_framed_text, one_packed_text}
+use Rattle.capnp_model.proofs.laws.texts_by_their_fronts.Goals as goal
+
+pub returns : goal.returns
+returns c = record { framed = one_framed_text; packed = one_packed_text }
