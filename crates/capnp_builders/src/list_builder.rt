@@ -1,5 +1,5 @@
 //! Lists that are built.
-ghost use Rattle.std.specs.Prelude.{◌≡◌, ◌+◌, ◌*◌, ◌<◌, ◌≤◌, ◌^◌, ◌==◌, ℕ, true, length, map};
+ghost use Rattle.std.specs.Prelude.{◌≡◌, ◌+◌, ◌*◌, ◌<◌, ◌≤◌, ◌^◌, ◌==◌, true, length, map};
 ghost use Rattle.std.specs.Option.{is_some};
 ghost use Rattle.capnp_model.specs.Segments.{after, words_at};
 ghost use Rattle.capnp_units.specs.Sizes.{size_number};
@@ -8,6 +8,8 @@ ghost use Rattle.capnp_units.specs.Segments.{words_in};
 ghost use Rattle.capnp_wire.specs.Places.{place_view};
 ghost use Rattle.capnp_wire.specs.Views.{seen_list, list_at};
 ghost use Rattle.capnp_copy.specs.Elements.{first_element, HasElements, IsWhole, IsInElement, HasElement, SetsElement};
+ghost use Rattle.capnp_copy.specs.States.{HasWords};
+ghost use Rattle.capnp_builders.specs.Elements.{IsStructElement};
 
 use crate::element::BuilderElement;
 use crate::pointer_builder::PointerBuilder;
@@ -160,17 +162,10 @@ impl<'a, A: BuilderArena> ListBuilder<'a, A> {
         requires inside { index < self.place.count }
         ensures same { result.memory.ghost_name ≡ self.entry.memory.ghost_name }
         ensures now { result.memory.now ≡ self.entry.memory.now }
-        ensures place { place_view result.place.start
-            ≡ after (after (place_view self.entry.place.start) 1)
-            (index * (self.entry.place.data_words + self.entry.place.pointers)) }
-        ensures size { (result.place.data_words ≡ self.entry.place.data_words)
-            × (result.place.pointers ≡ self.entry.place.pointers) }
+        ensures element { IsStructElement self.entry.place index result.place }
         ensures there { IsWhole (words_in (A.segments self.entry.memory.now.arena)) self.entry.place
-            → is_some (words_at (words_in (A.segments result.memory.now.arena))
-            (place_view result.place.start) (result.place.data_words + result.place.pointers))
-            ≡ true }
-        ensures near { result.place.start.position +
-            (result.place.data_words + result.place.pointers) < 2 ^ 61 }
+            → HasWords (A.segments result.memory.now.arena) result.place.start
+            (result.place.data_words + result.place.pointers) }
     {
         let ListBuilder { memory, place } = self;
         let start = place.start;

@@ -1,11 +1,12 @@
 //! Structs that are built.
-ghost use Rattle.std.specs.Prelude.{◌≡◌, ◌+◌, ◌*◌, ◌<◌, ◌≤◌, ◌^◌, ◌==◌, ℕ, true, bit_xor, length, map};
+ghost use Rattle.std.specs.Prelude.{◌≡◌, ◌+◌, ◌*◌, ◌<◌, ◌≤◌, ◌^◌, ◌==◌, true, bit_xor, length, map};
 ghost use Rattle.std.specs.Borrow.{sem};
 ghost use Rattle.std.specs.Option.{is_some};
 ghost use Rattle.capnp_model.specs.Segments.{after, words_at};
 ghost use Rattle.capnp_units.specs.Segments.{words_in};
 ghost use Rattle.capnp_wire.specs.Places.{place_view};
 ghost use Rattle.capnp_wire.specs.Views.{bit_of_bool, seen_struct, struct_at};
+ghost use Rattle.capnp_copy.specs.States.{HasWords};
 ghost use Rattle.capnp_copy.specs.Structs.{HasBits, SetsBits};
 
 use crate::pointer_builder::PointerBuilder;
@@ -86,14 +87,11 @@ impl<'a, A: BuilderArena> StructBuilder<'a, A> {
         requires inside { ptr_index < self.place.pointers }
         ensures same { result.memory.ghost_name ≡ self.entry.memory.ghost_name }
         ensures now { result.memory.now ≡ self.entry.memory.now }
-        ensures place { place_view result.place
-            ≡ after (after (place_view self.entry.place.start) self.entry.place.data_words)
-            ptr_index }
-        ensures there { is_some (words_at (words_in (A.segments self.entry.memory.now.arena))
-            (place_view self.entry.place.start)
-            (self.entry.place.data_words + self.entry.place.pointers)) ≡ true
-            → is_some (words_at (words_in (A.segments result.memory.now.arena))
-            (place_view result.place) 1) ≡ true }
+        ensures place { let o = self.entry.place in place_view result.place
+            ≡ after (after (place_view o.start) o.data_words) ptr_index }
+        ensures there { HasWords (A.segments self.entry.memory.now.arena) self.entry.place.start
+            (self.entry.place.data_words + self.entry.place.pointers)
+            → HasWords (A.segments result.memory.now.arena) result.place 1 }
         ensures near { result.place.position < 2 ^ 61 }
     {
         let StructBuilder { memory, place } = self;
