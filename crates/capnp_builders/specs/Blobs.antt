@@ -1,5 +1,5 @@
 -- Texts and data that are got. (Encoding, "Blobs")
-use Rattle.std.specs.Prelude.{◌≡◌, ◌⊎◌, ⊤, ℕ, ◌+◌, ◌-◌, ◌*◌, ◌^◌, ◌<◌, ◌==◌, nat_lt, ◌&&◌, Bool, List, Option, Some, None, Result, Ok, Err, IfOk, IfErr, unwrap_or}
+use Rattle.std.specs.Prelude.{◌≡◌, ◌⊎◌, ℕ, ◌+◌, ◌-◌, ◌*◌, ◌^◌, ◌<◌, ◌==◌, nat_lt, ◌&&◌, Bool, List, Option, Some, None, Result, Ok, Err, IfOk, IfErr, unwrap_or}
 use Rattle.capnp_model.specs.Kinds.{Kind, WrongElementSize, WrongPointerKind, TextWithoutZeroByte}
 use Rattle.capnp_model.specs.Chains.{◌and_then◌, guard}
 use Rattle.capnp_model.specs.Sections.{words_for, bits_at}

@@ -1,7 +1,6 @@
 //! Lists that are built.
-ghost use Rattle.std.specs.Prelude.{◌≡◌, ◌+◌, ◌*◌, ◌<◌, ◌≤◌, ◌^◌, ◌==◌, true, length, map};
-ghost use Rattle.std.specs.Option.{is_some};
-ghost use Rattle.capnp_model.specs.Segments.{after, words_at};
+ghost use Rattle.std.specs.Prelude.{◌≡◌, ◌+◌, ◌*◌, ◌<◌, ◌≤◌, ◌^◌, ◌==◌, length, map};
+ghost use Rattle.capnp_model.specs.Segments.{after};
 ghost use Rattle.capnp_units.specs.Sizes.{size_number};
 ghost use Rattle.std.specs.Borrow.{sem};
 ghost use Rattle.capnp_units.specs.Segments.{words_in};
@@ -140,8 +139,7 @@ impl<'a, A: BuilderArena> ListBuilder<'a, A> {
         ensures now { result.memory.now ≡ self.entry.memory.now }
         ensures place { place_view result.place ≡ after (place_view self.entry.place.start) index }
         ensures there { IsWhole (words_in (A.segments self.entry.memory.now.arena)) self.entry.place
-            → is_some (words_at (words_in (A.segments result.memory.now.arena))
-            (place_view result.place) 1) ≡ true }
+            → HasWords (A.segments result.memory.now.arena) result.place 1 }
         ensures near { result.place.position < 2 ^ 61 }
     {
         let ListBuilder { memory, place } = self;
