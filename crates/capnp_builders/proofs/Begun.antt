@@ -1,5 +1,5 @@
 -- A default in place of null, and what is made of it.
-use Rattle.std.proofs.Common.{◌≡◌, ℕ, zero, suc, ◌+◌, ◌≤◌, ◌==◌, ◌||◌, not, unwrap_or, if◌then◌else◌, Bool, true, false, List, Option, Some, None, Result, Ok, refl, ap, sym, subst, arith}
+use Rattle.std.proofs.Common.{◌≡◌, ◌⊎◌, inr, ℕ, zero, suc, ◌+◌, ◌≤◌, ◌==◌, ◌||◌, not, unwrap_or, if◌then◌else◌, Bool, true, false, List, Option, Some, None, Result, Ok, Err, IfErr, OnErr, refl, ap, sym, subst, arith}
 use Rattle.std.specs.Bool.{⊤}
 use Rattle.std.specs.Option.{ok_or}
 use Rattle.capnp_model.specs.Kinds.{Kind, OutOfBounds}
@@ -7,6 +7,10 @@ use Rattle.capnp_model.specs.Chains.{◌and_then◌}
 use Rattle.capnp_model.specs.Segments.{Segments, Place, root, word_at}
 use Rattle.capnp_model.specs.Pointers.{nothing, a_struct, Found, found_by, pointer_of}
 use Rattle.capnp_model.specs.Trees.{Tree}
+use Rattle.capnp_units.specs.declared.errors.Error.{Error}
+use Rattle.capnp_units.specs.Errors.{kind_of}
+use Rattle.capnp_units.specs.Segments.{words_in}
+use Rattle.capnp_wire.specs.Places.{seen}
 use Rattle.capnp_footprints.specs.Footprints.{Owns}
 use Rattle.capnp_footprints.specs.Changes.{Replaces}
 use Rattle.capnp_copy_from.specs.Defaults.{WritesDefault, is_null_at}
@@ -75,3 +79,15 @@ kept_if f s m p x e w = (w.kept (kept_by false (is_null_at f root) f s p e refl 
 pub wide_stays : (default : Option (List (List ℕ))) (s m : Segments) (p : Place) (d k : ℕ) (x : ⊤) → Begins default s m p (Ok x) → IsWide s p d k → m ≡ s
 wide_stays None s m p d k x b w = b.0
 wide_stays (Some words) s m p d k x b w = kept_if _ s m p x (struct_named s p w.0 w.3.0 w.1 w.2 (word_at s p) w.3.1) b
+
+-- ---- what is there is refused
+
+-- All stands as it was begun.
+pub refused_then : {X : Type 0} (default : Option (List (List ℕ))) (s : Segments) (m u : List (List ℕ)) (p : Place) (Refused : Segments → Error → Type 0) → Begins default s (words_in m) p (Ok tt) → (r : Result X Error) → OnErr r (u ≡ m) → IfErr r (Refused (words_in m)) → IfErr r (λ e. Begins default s (words_in u) p (Err e) ⊎ (Begins default s (words_in u) p (Ok tt) × Refused (words_in u) e))
+refused_then default s m u p Refused b (Ok x) same why = tt
+refused_then default s m u p Refused b (Err e) same why = inr (subst (λ (y : List (List ℕ)). Begins default s (words_in y) p (Ok tt) × Refused (words_in y) e) (sym same) (b, why))
+
+-- What is named there is a fault.
+pub refused_as : {X : Type 0} (default : Option (List (List ℕ))) (s u : Segments) (p : Place) (named : Result X Kind) → Begins default s u p (Ok tt) → (r : Result X Error) → seen (λ o. o) r ≡ named → IfErr r (λ e. Begins default s u p (Err e) ⊎ (Begins default s u p (Ok tt) × (named ≡ Err (kind_of e.kind))))
+refused_as default s u p named b (Ok x) is = tt
+refused_as default s u p named b (Err e) is = inr (b, sym is)

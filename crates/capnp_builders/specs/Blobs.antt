@@ -1,5 +1,5 @@
 -- Texts and data that are got. (Encoding, "Blobs")
-use Rattle.std.specs.Prelude.{◌≡◌, ◌⊎◌, ⊤, ℕ, ◌+◌, ◌-◌, ◌*◌, ◌^◌, ◌<◌, ◌==◌, nat_lt, ◌&&◌, Bool, List, Option, Some, None, Result, Ok, Err, unwrap_or}
+use Rattle.std.specs.Prelude.{◌≡◌, ◌⊎◌, ℕ, ◌+◌, ◌-◌, ◌*◌, ◌^◌, ◌<◌, ◌==◌, nat_lt, ◌&&◌, Bool, List, Option, Some, None, Result, Ok, Err, IfOk, IfErr, unwrap_or}
 use Rattle.capnp_model.specs.Kinds.{Kind, WrongElementSize, WrongPointerKind, TextWithoutZeroByte}
 use Rattle.capnp_model.specs.Chains.{◌and_then◌, guard}
 use Rattle.capnp_model.specs.Sections.{words_for, bits_at}
@@ -9,6 +9,7 @@ use Rattle.capnp_model.specs.Trees.{plain_list}
 use Rattle.capnp_units.specs.declared.errors.Error.{Error}
 use Rattle.capnp_units.specs.declared.sizes.ElementSize.TheVariants.{Byte}
 use Rattle.capnp_units.specs.Errors.{kind_of}
+use Rattle.capnp_units.specs.Segments.{words_in}
 use Rattle.capnp_object.specs.declared.object.Object.{Object}
 use Rattle.capnp_object.specs.declared.object.Object.TheVariants as object
 use Rattle.capnp_object.specs.declared.place.Place as code
@@ -16,6 +17,7 @@ use Rattle.capnp_object.specs.Objects.{object_at}
 use Rattle.capnp_wire.specs.Places.{place_view}
 use Rattle.capnp_wire.specs.Views.{section_at}
 use Rattle.capnp_copy.specs.declared.bytes.BlobPlace.{BlobPlace}
+use Rattle.capnp_copy.specs.States.{ArenaState}
 use Rattle.capnp_copy.specs.Values.{Becomes, LeadsTo}
 use Rattle.capnp_builders.specs.Gets.{Begins, Gets}
 
@@ -64,6 +66,13 @@ pub record BlobGot (named : Segments → code.Place → Result BlobPlace Kind) (
 abbrev pub NoBlobGot : (Segments → code.Place → Result BlobPlace Kind) → Option (List (List ℕ)) → Segments → Segments → code.Place → Error → Type 0
 NoBlobGot named default s u slot e = Begins default s u (place_view slot) (Err e) ⊎ (Begins default s u (place_view slot) (Ok tt) × (named u slot ≡ Err (kind_of e.kind)))
 
+-- They are got, near, or aren't given; the arena borrows what it did.
+pub record GetsBlobOrDefault (named : Segments → code.Place → Result BlobPlace Kind) (whole : ℕ → ℕ) (default : Option (List (List ℕ))) (old new : ArenaState) (slot : code.Place) (r : Result BlobPlace Error) : Type 0 where
+  pub got : IfOk r (BlobGot named whole default (words_in old.segments) (words_in new.segments) slot)
+  pub near : IfOk r (λ o. o.start.position < 2 ^ 61)
+  pub refused : IfErr r (NoBlobGot named default (words_in old.segments) (words_in new.segments) slot)
+  pub books : new.books ≡ old.books
+
 -- A list of so many zero bytes is made in place of the value, and the answered place is where the pointer leads.
 pub record BytesMade (s u : Segments) (slot : code.Place) (n : ℕ) (start : code.Place) : Type 0 where
   pub value : Becomes s u (place_view slot) (plain_list 2 n 0)
@@ -80,6 +89,9 @@ DataGot = BlobGot data_named (λ n. n)
 abbrev pub NoDataGot : Option (List (List ℕ)) → Segments → Segments → code.Place → Error → Type 0
 NoDataGot = NoBlobGot data_named
 
+abbrev pub GetsDataOrDefault : Option (List (List ℕ)) → ArenaState → ArenaState → code.Place → Result BlobPlace Error → Type 0
+GetsDataOrDefault = GetsBlobOrDefault data_named (λ n. n)
+
 -- a text, with its zero byte behind it
 abbrev pub TextMade : Segments → Segments → code.Place → ℕ → BlobPlace → Type 0
 TextMade s u slot n o = BytesMade s u slot (n + 1) o.start × (o.count ≡ n)
@@ -89,3 +101,6 @@ TextGot = BlobGot text_named (λ n. n + 1)
 
 abbrev pub NoTextGot : Option (List (List ℕ)) → Segments → Segments → code.Place → Error → Type 0
 NoTextGot = NoBlobGot text_named
+
+abbrev pub GetsTextOrDefault : Option (List (List ℕ)) → ArenaState → ArenaState → code.Place → Result BlobPlace Error → Type 0
+GetsTextOrDefault = GetsBlobOrDefault text_named (λ n. n + 1)

@@ -1,5 +1,5 @@
 -- Values that are got, with a default in place of null. (Encoding, "Default Values")
-use Rattle.std.specs.Prelude.{◌≡◌, ◌⊎◌, ⊤, ℕ, ◌+◌, ◌≤◌, Bool, true, false, List, Option, Some, None, Result, Ok, Err}
+use Rattle.std.specs.Prelude.{◌≡◌, ◌⊎◌, ⊤, ℕ, ◌+◌, ◌^◌, ◌<◌, ◌≤◌, Bool, true, false, List, Option, Some, None, Result, Ok, Err, IfOk, IfErr}
 use Rattle.capnp_model.specs.Kinds.{Kind}
 use Rattle.capnp_model.specs.Chains.{◌and_then◌}
 use Rattle.capnp_model.specs.Segments.{Segments, Place, root, word_at}
@@ -9,6 +9,7 @@ use Rattle.capnp_units.specs.declared.errors.Error.{Error}
 use Rattle.capnp_units.specs.declared.sizes.ElementSize.{ElementSize}
 use Rattle.capnp_units.specs.declared.sizes.StructSize.{StructSize}
 use Rattle.capnp_units.specs.Errors.{kind_of}
+use Rattle.capnp_units.specs.Segments.{words_in}
 use Rattle.capnp_object.specs.declared.place.Place as code
 use Rattle.capnp_object.specs.Objects.{object_at}
 use Rattle.capnp_wire.specs.Places.{place_view}
@@ -17,6 +18,7 @@ use Rattle.capnp_footprints.specs.Changes.{Replaces}
 use Rattle.capnp_copy_from.specs.Defaults.{WritesDefault, default_segments, is_null_at}
 use Rattle.capnp_copy.specs.Elements.{LiesAt}
 use Rattle.capnp_copy.specs.Lists.{list_at}
+use Rattle.capnp_copy.specs.States.{ArenaState, HasWords}
 use Rattle.capnp_copy.specs.Structs.{struct_at}
 use Rattle.capnp_copy.specs.Values.{LeadsTo}
 use Rattle.capnp_copy.specs.declared.fields.StructPlace.{StructPlace}
@@ -60,6 +62,14 @@ pub record StructGot (default : Option (List (List ℕ))) (s u : Segments) (p : 
 abbrev pub NoStructGot : Option (List (List ℕ)) → Segments → Segments → Place → StructSize → Error → Type 0
 NoStructGot default s u p size e = Begins default s u p (Err e) ⊎ (Begins default s u p (Ok tt) × StructRefused u (object_at u p) size.data_words size.pointers e)
 
+-- A struct of at least these sizes is got, with all its words, or it isn't given; the arena borrows what it did.
+pub record GetsStructOrDefault (default : Option (List (List ℕ))) (old new : ArenaState) (slot : code.Place) (size : StructSize) (r : Result StructPlace Error) : Type 0 where
+  pub got : IfOk r (StructGot default (words_in old.segments) (words_in new.segments) (place_view slot) size)
+  pub there : IfOk r (λ o. HasWords new.segments o.start (o.data_words + o.pointers))
+  pub near : IfOk r (λ o. o.start.position + (o.data_words + o.pointers) < 2 ^ 61)
+  pub refused : IfErr r (NoStructGot default (words_in old.segments) (words_in new.segments) (place_view slot) size)
+  pub books : new.books ≡ old.books
+
 -- The list that the pointer at a place names, where elements of a size are expected, else the kind of the fault.
 abbrev pub list_named : Segments → code.Place → ElementSize → Result ListPlace Kind
 list_named s slot expected = object_at s (place_view slot) and_then λ f. list_in slot expected f.object
@@ -76,6 +86,12 @@ pub record ListGot (default : Option (List (List ℕ))) (s u : Segments) (slot :
 abbrev pub NoListGot : Option (List (List ℕ)) → Segments → Segments → code.Place → ElementSize → Error → Type 0
 NoListGot default s u slot expected e = Begins default s u (place_view slot) (Err e) ⊎ (Begins default s u (place_view slot) (Ok tt) × (list_named u slot expected ≡ Err (kind_of e.kind)))
 
+-- A list is got or isn't given, and the arena borrows what it did.
+pub record GetsListOrDefault (default : Option (List (List ℕ))) (old new : ArenaState) (slot : code.Place) (expected : ElementSize) (r : Result ListPlace Error) : Type 0 where
+  pub got : IfOk r (ListGot default (words_in old.segments) (words_in new.segments) slot expected)
+  pub refused : IfErr r (NoListGot default (words_in old.segments) (words_in new.segments) slot expected)
+  pub books : new.books ≡ old.books
+
 -- A list of structs of at least these sizes is got: the default is written first, and then what is there widened, where its elements are narrower or no structs.
 pub record StructListGot (default : Option (List (List ℕ))) (s u : Segments) (slot : code.Place) (size : StructSize) (o : ListPlace) : Type 0 where
   pub begun_with : Segments
@@ -87,3 +103,9 @@ pub record StructListGot (default : Option (List (List ℕ))) (s u : Segments) (
 -- Why no such list is given, and what stands then, as of structs.
 abbrev pub NoStructListGot : Option (List (List ℕ)) → Segments → Segments → code.Place → StructSize → Error → Type 0
 NoStructListGot default s u slot size e = Begins default s u (place_view slot) (Err e) ⊎ (Begins default s u (place_view slot) (Ok tt) × ListRefused u (place_view slot) (list_there u slot) size.data_words size.pointers e)
+
+-- A list of structs of at least these sizes is got or isn't given, and the arena borrows what it did.
+pub record GetsStructListOrDefault (default : Option (List (List ℕ))) (old new : ArenaState) (slot : code.Place) (size : StructSize) (r : Result ListPlace Error) : Type 0 where
+  pub got : IfOk r (StructListGot default (words_in old.segments) (words_in new.segments) slot size)
+  pub refused : IfErr r (NoStructListGot default (words_in old.segments) (words_in new.segments) slot size)
+  pub books : new.books ≡ old.books

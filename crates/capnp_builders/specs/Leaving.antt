@@ -1,9 +1,13 @@
--- What a memory ends as that is lent to read.
-use Rattle.std.specs.Prelude.{◌≡◌, ⊤}
+-- Who holds a memory, and what one ends as that is lent to read.
+use Rattle.std.specs.Prelude.{◌≡◌, ⊤, Result, IfOk}
 use Rattle.std.specs.Borrow.{MutBor, Fml, RattleType, follows_so}
 use mathlib.Core.Option.{none}
 use Rattle.capnp_copy.specs.declared.arena.Memory.{Memory}
 use Rattle.capnp_copy.specs.contracts.arena.Memory as memory
+
+-- A handle that is answered holds this memory, as a member tells of it.
+abbrev pub HoldsMemory : {A X E : Type 0} → (X → MutBor (Memory A)) → MutBor (Memory A) → Result X E → Type 0
+HoldsMemory memory_of memory r = IfOk r (λ o. (memory_of o).ghost_name ≡ memory.ghost_name)
 
 module _ (A : RattleType) where
   -- it stays as it is

@@ -1,5 +1,5 @@
 -- What a handle ends as that was lent for a while: it leads to the memory as the other handle left it.
-use Rattle.std.specs.Prelude.{ℕ, [], ◌∷◌}
+use Rattle.std.specs.Prelude.{[]}
 use Rattle.std.specs.Borrow.{MutBor, Fml, RattleType, follows}
 use mir.Syntax.{named}
 use Rattle.capnp_copy.specs.contracts.arena.Memory as memory

@@ -1,5 +1,6 @@
 pub use Rattle.capnp_copy.specs.Structs
 pub use Rattle.capnp_copy.specs.Values
+pub mod Elements
 pub mod Gets
 pub mod Lending
 pub mod Inputs

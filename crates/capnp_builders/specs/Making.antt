@@ -1,6 +1,7 @@
 -- What is made in place of a pointer's value. (Encoding, "Structs", "Lists", "Blobs")
 use Rattle.std.specs.Prelude.{◌≡◌, ◌↔◌, ◌⊎◌, ℕ, ◌+◌, ◌*◌, ◌^◌, ◌<◌, ◌≤◌, List}
 use Rattle.capnp_model.specs.Sections.{words_for}
+use Rattle.capnp_model.specs.Segments.{Segments}
 use Rattle.capnp_model.specs.Pointers.{a_list}
 use Rattle.capnp_model.specs.Trees.{Tree, structure, plain_list, struct_list, none, resized}
 use Rattle.capnp_units.specs.declared.errors.Error.{Error}
@@ -13,25 +14,26 @@ use Rattle.capnp_object.specs.Objects.{AreThere}
 use Rattle.capnp_object.specs.declared.place.Place as code
 use Rattle.capnp_wire.specs.Places.{place_view}
 use Rattle.capnp_footprints.specs.NewObjects.{new_tree, zero_elements}
-use Rattle.capnp_copy.specs.Allocations.{total_words, TakesJust, TakesAtMost, NoRoom}
+use Rattle.capnp_copy.specs.Allocations.{total_words, NoRoom}
 use Rattle.capnp_copy.specs.Elements.{IsWhole}
+use Rattle.capnp_copy.specs.Inits.{BecomesAt, TakesWhereRoom, TakesWithPad}
 use Rattle.capnp_copy.specs.Lists.{list_at, zeros_of, words_of}
+use Rattle.capnp_copy.specs.States.{state_in}
+pub use Rattle.capnp_copy.specs.States.{ArenaState}
 use Rattle.capnp_copy.specs.Structs.{struct_at}
-use Rattle.capnp_copy.specs.Values.{Becomes, LeadsTo}
+use Rattle.capnp_copy.specs.Values.{LeadsTo}
 use Rattle.capnp_copy.specs.declared.arena.Memory.{Memory}
 use Rattle.capnp_copy.specs.declared.bytes.BlobPlace.{BlobPlace}
 use Rattle.capnp_copy.specs.declared.fields.StructPlace.{StructPlace}
 use Rattle.capnp_copy.specs.declared.init.ListPlace.{ListPlace}
 
--- What an arena holds: the bytes of each segment, how many words of it are free, and the names of what the arena borrows.
-pub record ArenaState : Type 0 where
-  pub segments : List (List ℕ)
-  pub room : List ℕ
-  pub books : List (List ℕ)
-
--- that of a memory's arena, by the three members that tell it
+-- What a memory's arena holds, by the three members that tell it.
 abbrev pub state_of : {A : Type 0} → (A → List (List ℕ)) → (A → List ℕ) → (A → List (List ℕ)) → Memory A → ArenaState
-state_of segments room books memory = record { segments = segments memory.arena; room = room memory.arena; books = books memory.arena }
+state_of segments room books memory = state_in segments room books memory.arena
+
+-- The words of its segments, by the member that tells their bytes.
+abbrev pub memory_words : {A : Type 0} → (A → List (List ℕ)) → Memory A → Segments
+memory_words segments memory = words_in (segments memory.arena)
 
 -- All segments of a memory's arena stand as they were, and nothing else is borrowed, by the members that tell both.
 abbrev pub StaysAt : {A : Type 0} → (A → List (List ℕ)) → (A → List (List ℕ)) → Memory A → Memory A → Type 0
@@ -43,9 +45,9 @@ Stays old new = (new.segments ≡ old.segments) × (new.books ≡ old.books)
 
 -- The value of the pointer at a place becomes this one, and nothing else changes; what it takes are its own words where there is room, else at most a pad's more.
 pub record Makes (old new : ArenaState) (slot : code.Place) (value : Tree) (words : ℕ) : Type 0 where
-  pub becomes : Becomes (words_in old.segments) (words_in new.segments) (place_view slot) value
-  pub taken : TakesJust (words_in old.segments) old.room (words_in new.segments) slot.segment words
-  pub bound : TakesAtMost (words_in old.segments) (words_in new.segments) words 1
+  pub becomes : BecomesAt old new slot value
+  pub taken : TakesWhereRoom old new slot words
+  pub bound : TakesWithPad old new words
   pub books : new.books ≡ old.books
 
 -- So many words were refused: with `SizeOverflow` just where they and a pad's would make the message's pass 2^29 - 1, and only where there was no room for them.

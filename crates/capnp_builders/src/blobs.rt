@@ -1,22 +1,18 @@
 //! Texts and data that are made where a pointer names them, and got there.
-ghost use Rattle.std.specs.Prelude.{◌≡◌, ◌⊎◌, ◌+◌, ◌*◌, ◌<◌, ◌≤◌, ◌^◌, ◌↔◌, true, Some, option_copied, IfOk, IfErr, OnErr, IfSome, IfNone};
+ghost use Rattle.std.specs.Prelude.{◌≡◌, ◌⊎◌, ◌+◌, ◌*◌, ◌<◌, ◌^◌, Some, option_copied, Ok, Err, IfOk, IfErr, IfSome, IfNone};
 ghost use Rattle.std.specs.Borrow.{sem, RestsIfErr};
-ghost use Rattle.std.specs.Option.{is_some};
 ghost use Rattle.capnp_model.specs.Sections.{words_for};
-ghost use Rattle.capnp_model.specs.Segments.{word_at, words_at};
+ghost use Rattle.capnp_model.specs.Segments.{word_at};
 ghost use Rattle.capnp_model.specs.Pointers.{a_list};
-ghost use Rattle.capnp_model.specs.Trees.{plain_list};
 ghost use Rattle.capnp_object.specs.Objects.{AreThere};
 ghost use Rattle.capnp_units.specs.Segments.{words_in};
-ghost use Rattle.capnp_units.specs.declared.kinds.ErrorKind.TheVariants.{SizeOverflow};
 ghost use Rattle.capnp_wire.specs.Places.{place_view, seen};
-ghost use Rattle.capnp_copy.specs.Allocations.{total_words, TakesJust, TakesAtMost, NoRoom};
-ghost use Rattle.capnp_copy.specs.Values.{Becomes, LeadsTo};
+ghost use Rattle.capnp_copy.specs.States.{state_in, HasWords};
+ghost use Rattle.capnp_copy.specs.Values.{LeadsTo};
 ghost use Rattle.capnp_copy.specs.contracts.arena.Memory.{the_row};
-ghost use Rattle.capnp_builders.specs.Blobs.{bytes_named, data_named, text_named, ends_in_zero, DataGot, NoDataGot, TextGot, NoTextGot};
 ghost use Rattle.capnp_copy.specs.declared.bytes.BlobPlace.{BlobPlace};
-ghost use Rattle.capnp_builders.specs.Making.{state_of, StaysAt, MakesData, MakesText, BytesRefused};
-ghost use Rattle.capnp_builders.specs.Inputs.{IsTooLong};
+ghost use Rattle.capnp_builders.specs.Blobs.{bytes_named, data_named, text_named, ends_in_zero, GetsDataOrDefault, GetsTextOrDefault};
+ghost use Rattle.capnp_builders.specs.Making.{state_of, StaysAt, MakesData, MakesText, BytesRefused, MakesBytes, BytesNotSet};
 
 use crate::data_builder::DataBuilder;
 use crate::gets::begin;
@@ -39,30 +35,12 @@ use capnp_wire::place::{Place, word_at};
 
 /// Puts a list of so many zero bytes in place of the value of the pointer at a place.
 fn init_bytes<A: BuilderArena>(arena: &mut A, slot: Place, count: u32) -> Result<Place>
-    requires there { is_some (words_at (words_in (A.segments arena.old)) (place_view slot) 1)
-        ≡ true }
+    requires there { HasWords (A.segments arena.old) slot 1 }
     requires near { slot.position < 2 ^ 61 }
-    ensures value { IfOk result (λ o.
-        Becomes (words_in (A.segments arena.old)) (words_in (A.segments arena.new))
-        (place_view slot) (plain_list 2 count 0)) }
-    ensures object { IfOk result (λ o.
-        LeadsTo (words_in (A.segments arena.new)) (place_view slot)
-        (a_list (place_view o) 2 count)) }
-    ensures near { IfOk result (λ o. o.position < 2 ^ 61) }
-    ensures taken { IfOk result (λ o.
-        TakesJust (words_in (A.segments arena.old)) (A.room arena.old)
-        (words_in (A.segments arena.new)) slot.segment (words_for (8 * count))) }
-    ensures bound { IfOk result (λ o.
-        TakesAtMost (words_in (A.segments arena.old)) (words_in (A.segments arena.new))
-        (words_for (8 * count)) 1) }
-    ensures full { OnErr result
-        ((2 ^ 29 ≤ count)
-        ⊎ NoRoom (words_in (A.segments arena.old)) (A.room arena.old) slot.segment
-        (words_for (8 * count))) }
-    ensures refused { OnErr result (A.segments arena.new ≡ A.segments arena.old) }
-    ensures kind { IfErr result (λ e.
-        (e.kind ≡ SizeOverflow) ↔ IsTooLong count (total_words (words_in (A.segments arena.old)))) }
-    ensures books { A.books arena.new ≡ A.books arena.old }
+    ensures made { let at = state_in A.segments A.room A.books in
+        IfOk result (MakesBytes (at arena.old) (at arena.new) slot count) }
+    ensures refused { let at = state_in A.segments A.room A.books in
+        IfErr result (BytesNotSet (at arena.old) (at arena.new) slot.segment count) }
 {
     let list = init_list(arena, slot, ElementSize::Byte, count)?;
     Ok(list.start)
@@ -173,17 +151,10 @@ fn data_here<A: BuilderArena>(
     slot: Place,
     default: Option<&[Word]>,
 ) -> Result<BlobPlace>
-    requires there { is_some (words_at (words_in (A.segments arena.old)) (place_view slot) 1)
-        ≡ true }
+    requires there { HasWords (A.segments arena.old) slot 1 }
     requires near { slot.position < 2 ^ 61 }
-    ensures got { IfOk result
-        (DataGot (option_copied default.entry) (words_in (A.segments arena.old))
-        (words_in (A.segments arena.new)) slot) }
-    ensures near { IfOk result (λ o. o.start.position < 2 ^ 61) }
-    ensures refused { IfErr result
-        (NoDataGot (option_copied default.entry) (words_in (A.segments arena.old))
-        (words_in (A.segments arena.new)) slot) }
-    ensures books { A.books arena.new ≡ A.books arena.old }
+    ensures { let at = state_in A.segments A.room A.books in
+        GetsDataOrDefault (option_copied default.entry) (at arena.old) (at arena.new) slot result }
 {
     changes_of_values();
     changes_with_more_levels();
@@ -197,17 +168,10 @@ fn text_here<A: BuilderArena>(
     slot: Place,
     default: Option<&[Word]>,
 ) -> Result<BlobPlace>
-    requires there { is_some (words_at (words_in (A.segments arena.old)) (place_view slot) 1)
-        ≡ true }
+    requires there { HasWords (A.segments arena.old) slot 1 }
     requires near { slot.position < 2 ^ 61 }
-    ensures got { IfOk result
-        (TextGot (option_copied default.entry) (words_in (A.segments arena.old))
-        (words_in (A.segments arena.new)) slot) }
-    ensures near { IfOk result (λ o. o.start.position < 2 ^ 61) }
-    ensures refused { IfErr result
-        (NoTextGot (option_copied default.entry) (words_in (A.segments arena.old))
-        (words_in (A.segments arena.new)) slot) }
-    ensures books { A.books arena.new ≡ A.books arena.old }
+    ensures { let at = state_in A.segments A.room A.books in
+        GetsTextOrDefault (option_copied default.entry) (at arena.old) (at arena.new) slot result }
 {
     changes_of_values();
     changes_with_more_levels();
@@ -217,31 +181,12 @@ fn text_here<A: BuilderArena>(
 
 /// Puts a text of so many zero bytes, and one behind them, in place of the value of the pointer at a place.
 fn init_text_bytes<A: BuilderArena>(arena: &mut A, slot: Place, count: u32) -> Result<Place>
-    requires there { is_some (words_at (words_in (A.segments arena.old)) (place_view slot) 1)
-        ≡ true }
+    requires there { HasWords (A.segments arena.old) slot 1 }
     requires near { slot.position < 2 ^ 61 }
-    ensures value { IfOk result (λ o.
-        Becomes (words_in (A.segments arena.old)) (words_in (A.segments arena.new))
-        (place_view slot) (plain_list 2 (count + 1) 0)) }
-    ensures object { IfOk result (λ o.
-        LeadsTo (words_in (A.segments arena.new)) (place_view slot)
-        (a_list (place_view o) 2 (count + 1))) }
-    ensures near { IfOk result (λ o. o.position < 2 ^ 61) }
-    ensures taken { IfOk result (λ o.
-        TakesJust (words_in (A.segments arena.old)) (A.room arena.old)
-        (words_in (A.segments arena.new)) slot.segment (words_for (8 * (count + 1)))) }
-    ensures bound { IfOk result (λ o.
-        TakesAtMost (words_in (A.segments arena.old)) (words_in (A.segments arena.new))
-        (words_for (8 * (count + 1))) 1) }
-    ensures full { OnErr result
-        ((2 ^ 29 ≤ count + 1)
-        ⊎ NoRoom (words_in (A.segments arena.old)) (A.room arena.old) slot.segment
-        (words_for (8 * (count + 1)))) }
-    ensures refused { OnErr result (A.segments arena.new ≡ A.segments arena.old) }
-    ensures kind { IfErr result (λ e.
-        (e.kind ≡ SizeOverflow)
-        ↔ IsTooLong (count + 1) (total_words (words_in (A.segments arena.old)))) }
-    ensures books { A.books arena.new ≡ A.books arena.old }
+    ensures made { let at = state_in A.segments A.room A.books in
+        IfOk result (MakesBytes (at arena.old) (at arena.new) slot (count + 1)) }
+    ensures refused { let at = state_in A.segments A.room A.books in
+        IfErr result (BytesNotSet (at arena.old) (at arena.new) slot.segment (count + 1)) }
 {
     if count >= MOST_WORDS {
         return Err(Error::from(ErrorKind::SizeOverflow));
@@ -254,8 +199,7 @@ impl<'a, A: BuilderArena> PointerBuilder<'a, A> {
     ///
     /// It is refused with `SizeOverflow` just where the bytes or the message's words, a pad counted, would pass 2^29 - 1, else as the allocator refuses; then all stands as it was.
     pub fn init_data(self, size: ElementCount32) -> Result<DataBuilder<'a, A>>
-        requires there { is_some (words_at (words_in (A.segments self.memory.now.arena))
-            (place_view self.place) 1) ≡ true }
+        requires there { HasWords (A.segments self.memory.now.arena) self.place 1 }
         requires near { self.place.position < 2 ^ 61 }
         ensures same { IfOk result (λ o. o.memory.ghost_name ≡ self.entry.memory.ghost_name) }
         ensures made { let at = state_of A.segments A.room A.books in IfOk result (λ o.
@@ -276,8 +220,7 @@ impl<'a, A: BuilderArena> PointerBuilder<'a, A> {
     ///
     /// It is refused with `SizeOverflow` just where the bytes with the zero byte or the message's words, a pad counted, would pass 2^29 - 1, else as the allocator refuses; then all stands as it was.
     pub fn init_text(self, size: ElementCount32) -> Result<TextBuilder<'a, A>>
-        requires there { is_some (words_at (words_in (A.segments self.memory.now.arena))
-            (place_view self.place) 1) ≡ true }
+        requires there { HasWords (A.segments self.memory.now.arena) self.place 1 }
         requires near { self.place.position < 2 ^ 61 }
         ensures same { IfOk result (λ o. o.memory.ghost_name ≡ self.entry.memory.ghost_name) }
         ensures made { let at = state_of A.segments A.room A.books in IfOk result (λ o.
@@ -302,24 +245,16 @@ impl<'a, A: BuilderArena> PointerBuilder<'a, A> {
     ///
     /// It is refused as `write_default` is; then by the fault of what is there, with `WrongPointerKind` where it isn't a list, and with `WrongElementSize` where its elements aren't bytes. Then all words stand as they were, and new ones are zero; only where the default was written, and isn't data, the default stands.
     pub fn get_data(self, default: Option<&[Word]>) -> Result<DataBuilder<'a, A>>
-        requires there { is_some (words_at (words_in (A.segments self.memory.now.arena))
-            (place_view self.place) 1) ≡ true }
+        requires there { HasWords (A.segments self.memory.now.arena) self.place 1 }
         requires near { self.place.position < 2 ^ 61 }
         ensures same { IfOk result (λ o. o.memory.ghost_name ≡ self.entry.memory.ghost_name) }
-        ensures got { IfOk result (λ o.
-            DataGot (option_copied default.entry)
-            (words_in (A.segments self.entry.memory.now.arena))
-            (words_in (A.segments o.memory.now.arena)) self.entry.place o.place) }
-        ensures near { IfOk result (λ o. o.place.start.position < 2 ^ 61) }
-        ensures books { IfOk result (λ o.
-            A.books o.memory.now.arena ≡ A.books self.entry.memory.now.arena) }
-        ensures* refused { sem 𝓛 (RestsIfErr (the_row A.row)
-            self.entry.memory (λ o. o.memory.ghost_name)
-            result (λ n.
-            IfErr result
-            (NoDataGot (option_copied default.entry)
-            (words_in (A.segments self.entry.memory.now.arena)) (words_in (A.segments n.arena))
-            self.entry.place) × (A.books n.arena ≡ A.books self.entry.memory.now.arena))) }
+        ensures got { let at = state_of A.segments A.room A.books in IfOk result (λ o.
+            GetsDataOrDefault (option_copied default.entry) (at self.entry.memory.now)
+            (at o.memory.now) self.entry.place (Ok o.place)) }
+        ensures* refused { let at = state_of A.segments A.room A.books in sem 𝓛 (RestsIfErr
+            (the_row A.row) self.entry.memory (λ o. o.memory.ghost_name) result (λ n.
+            IfErr result (λ e. GetsDataOrDefault (option_copied default.entry)
+            (at self.entry.memory.now) (at n) self.entry.place (Err e)))) }
     {
         let PointerBuilder { memory, place } = self;
         let place = data_here(&mut memory.arena, place, default)?;
@@ -330,25 +265,17 @@ impl<'a, A: BuilderArena> PointerBuilder<'a, A> {
     ///
     /// It is refused as data are, and with `TextWithoutZeroByte` where the last byte isn't zero or there is none.
     pub fn get_text(self, default: Option<&[Word]>) -> Result<TextBuilder<'a, A>>
-        requires there { is_some (words_at (words_in (A.segments self.memory.now.arena))
-            (place_view self.place) 1) ≡ true }
+        requires there { HasWords (A.segments self.memory.now.arena) self.place 1 }
         requires near { self.place.position < 2 ^ 61 }
         ensures same { IfOk result (λ o. o.memory.ghost_name ≡ self.entry.memory.ghost_name) }
-        ensures got { IfOk result (λ o.
-            TextGot (option_copied default.entry)
-            (words_in (A.segments self.entry.memory.now.arena))
-            (words_in (A.segments o.memory.now.arena)) self.entry.place o.place) }
+        ensures got { let at = state_of A.segments A.room A.books in IfOk result (λ o.
+            GetsTextOrDefault (option_copied default.entry) (at self.entry.memory.now)
+            (at o.memory.now) self.entry.place (Ok o.place)) }
         ensures position { IfOk result (λ o. o.position ≡ o.place.count) }
-        ensures near { IfOk result (λ o. o.place.start.position < 2 ^ 61) }
-        ensures books { IfOk result (λ o.
-            A.books o.memory.now.arena ≡ A.books self.entry.memory.now.arena) }
-        ensures* refused { sem 𝓛 (RestsIfErr (the_row A.row)
-            self.entry.memory (λ o. o.memory.ghost_name)
-            result (λ n.
-            IfErr result
-            (NoTextGot (option_copied default.entry)
-            (words_in (A.segments self.entry.memory.now.arena)) (words_in (A.segments n.arena))
-            self.entry.place) × (A.books n.arena ≡ A.books self.entry.memory.now.arena))) }
+        ensures* refused { let at = state_of A.segments A.room A.books in sem 𝓛 (RestsIfErr
+            (the_row A.row) self.entry.memory (λ o. o.memory.ghost_name) result (λ n.
+            IfErr result (λ e. GetsTextOrDefault (option_copied default.entry)
+            (at self.entry.memory.now) (at n) self.entry.place (Err e)))) }
     {
         let PointerBuilder { memory, place } = self;
         let place = text_here(&mut memory.arena, place, default)?;

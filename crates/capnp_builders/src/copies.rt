@@ -1,10 +1,9 @@
 //! Copies of what readers stand at.
-ghost use Rattle.std.specs.Prelude.{◌≡◌, ◌+◌, ◌<◌, ◌^◌, true};
-ghost use Rattle.std.specs.Option.{is_some};
-ghost use Rattle.capnp_model.specs.Segments.{words_at};
+ghost use Rattle.std.specs.Prelude.{◌≡◌, ◌+◌, ◌<◌, ◌^◌};
 ghost use Rattle.capnp_units.specs.Segments.{words_in};
 ghost use Rattle.capnp_wire.specs.Places.{place_view};
 ghost use Rattle.capnp_wire.specs.Views.{seen_pointer, seen_struct, seen_list};
+ghost use Rattle.capnp_copy.specs.States.{HasWords};
 ghost use Rattle.capnp_builders.specs.Copied.{CopiesPointer, SetsStruct, SetsList, TakesOver};
 
 use crate::pointer_builder::PointerBuilder;
@@ -33,8 +32,7 @@ fn copy_pointer<A: BuilderArena, B: ReaderArena>(
     limiter: &mut ReadLimiter,
     other: PointerReader<'_, B>,
 ) -> Result<()>
-    requires there { is_some (words_at (words_in (A.segments arena.old)) (place_view slot) 1)
-        ≡ true }
+    requires there { HasWords (A.segments arena.old) slot 1 }
     requires near { slot.position < 2 ^ 61 }
     ensures copy { CopiesPointer (seen_pointer B.segments other.entry)
         (words_in (A.segments arena.old))
@@ -64,8 +62,7 @@ fn copy_struct<A: BuilderArena, B: ReaderArena>(
     limiter: &mut ReadLimiter,
     other: StructReader<'_, B>,
 ) -> Result<()>
-    requires there { is_some (words_at (words_in (A.segments arena.old)) (place_view slot) 1)
-        ≡ true }
+    requires there { HasWords (A.segments arena.old) slot 1 }
     requires near { slot.position < 2 ^ 61 }
     ensures copy { SetsStruct (seen_struct B.segments other.entry) (words_in (A.segments arena.old))
         (words_in (A.segments arena.new)) (place_view slot) limiter.old result limiter.new }
@@ -107,8 +104,7 @@ fn copy_list<A: BuilderArena, B: ReaderArena>(
     limiter: &mut ReadLimiter,
     other: ListReader<'_, B>,
 ) -> Result<()>
-    requires there { is_some (words_at (words_in (A.segments arena.old)) (place_view slot) 1)
-        ≡ true }
+    requires there { HasWords (A.segments arena.old) slot 1 }
     requires near { slot.position < 2 ^ 61 }
     ensures copy { SetsList (seen_list B.segments other.entry) (words_in (A.segments arena.old))
         (words_in (A.segments arena.new)) (place_view slot) limiter.old result limiter.new }
@@ -143,8 +139,8 @@ fn copy_content<A: BuilderArena, B: ReaderArena>(
     limiter: &mut ReadLimiter,
     other: StructReader<'_, B>,
 ) -> Result<()>
-    requires there { is_some (words_at (words_in (A.segments arena.old)) (place_view object.start)
-        (object.data_words + object.pointers)) ≡ true }
+    requires there { HasWords (A.segments arena.old)
+        object.start (object.data_words + object.pointers) }
     requires near { object.start.position + (object.data_words + object.pointers) < 2 ^ 61 }
     ensures content { TakesOver (seen_struct B.segments other.entry)
         (words_in (A.segments arena.old))
@@ -189,8 +185,7 @@ impl<'a, A: BuilderArena> PointerBuilder<'a, A> {
         limiter: &mut ReadLimiter,
         other: PointerReader<'_, B>,
     ) -> Result<()>
-        requires there { is_some (words_at (words_in (A.segments self.old.memory.now.arena))
-            (place_view self.old.place) 1) ≡ true }
+        requires there { HasWords (A.segments self.old.memory.now.arena) self.old.place 1 }
         requires near { self.old.place.position < 2 ^ 61 }
         ensures same { self.new.memory.ghost_name ≡ self.old.memory.ghost_name }
         ensures place { self.new.place ≡ self.old.place }
@@ -212,8 +207,7 @@ impl<'a, A: BuilderArena> PointerBuilder<'a, A> {
         limiter: &mut ReadLimiter,
         value: StructReader<'_, B>,
     ) -> Result<()>
-        requires there { is_some (words_at (words_in (A.segments self.old.memory.now.arena))
-            (place_view self.old.place) 1) ≡ true }
+        requires there { HasWords (A.segments self.old.memory.now.arena) self.old.place 1 }
         requires near { self.old.place.position < 2 ^ 61 }
         ensures same { self.new.memory.ghost_name ≡ self.old.memory.ghost_name }
         ensures place { self.new.place ≡ self.old.place }
@@ -235,8 +229,7 @@ impl<'a, A: BuilderArena> PointerBuilder<'a, A> {
         limiter: &mut ReadLimiter,
         value: ListReader<'_, B>,
     ) -> Result<()>
-        requires there { is_some (words_at (words_in (A.segments self.old.memory.now.arena))
-            (place_view self.old.place) 1) ≡ true }
+        requires there { HasWords (A.segments self.old.memory.now.arena) self.old.place 1 }
         requires near { self.old.place.position < 2 ^ 61 }
         ensures same { self.new.memory.ghost_name ≡ self.old.memory.ghost_name }
         ensures place { self.new.place ≡ self.old.place }
@@ -260,9 +253,8 @@ impl<'a, A: BuilderArena> StructBuilder<'a, A> {
         limiter: &mut ReadLimiter,
         other: StructReader<'_, B>,
     ) -> Result<()>
-        requires there { is_some (words_at (words_in (A.segments self.old.memory.now.arena))
-            (place_view self.old.place.start)
-            (self.old.place.data_words + self.old.place.pointers)) ≡ true }
+        requires there { HasWords (A.segments self.old.memory.now.arena)
+            self.old.place.start (self.old.place.data_words + self.old.place.pointers) }
         requires near { self.old.place.start.position
             + (self.old.place.data_words + self.old.place.pointers) < 2 ^ 61 }
         ensures same { self.new.memory.ghost_name ≡ self.old.memory.ghost_name }

@@ -1,12 +1,12 @@
 //! Values that are got where a pointer names them, with a default in place of null.
-ghost use Rattle.std.specs.Prelude.{◌≡◌, ◌+◌, ◌<◌, ◌^◌, true, option_copied, IfOk, IfErr};
+ghost use Rattle.std.specs.Prelude.{◌≡◌, ◌<◌, ◌^◌, option_copied, Ok, Err, IfOk, IfErr};
 ghost use Rattle.std.specs.Borrow.{sem, RestsIfErr};
-ghost use Rattle.std.specs.Option.{is_some};
-ghost use Rattle.capnp_model.specs.Segments.{words_at};
 ghost use Rattle.capnp_units.specs.Segments.{words_in};
 ghost use Rattle.capnp_wire.specs.Places.{place_view};
+ghost use Rattle.capnp_copy.specs.States.{state_in, HasWords};
 ghost use Rattle.capnp_copy.specs.contracts.arena.Memory.{the_row};
-ghost use Rattle.capnp_builders.specs.Gets.{Begins, StructGot, NoStructGot, ListGot, NoListGot, StructListGot, NoStructListGot};
+ghost use Rattle.capnp_builders.specs.Gets.{Begins, GetsStructOrDefault, GetsListOrDefault, GetsStructListOrDefault};
+ghost use Rattle.capnp_builders.specs.Making.{state_of};
 
 use crate::list_builder::ListBuilder;
 use crate::pointer_builder::PointerBuilder;
@@ -29,8 +29,7 @@ pub(crate) fn begin<A: BuilderArena>(
     slot: Place,
     default: Option<&[Word]>,
 ) -> Result<()>
-    requires there { is_some (words_at (words_in (A.segments arena.old))
-        (place_view slot) 1) ≡ true }
+    requires there { HasWords (A.segments arena.old) slot 1 }
     requires near { slot.position < 2 ^ 61 }
     ensures begins { Begins (option_copied default.entry) (words_in (A.segments arena.old))
         (words_in (A.segments arena.new)) (place_view slot) result }
@@ -49,19 +48,10 @@ pub fn struct_or_default<A: BuilderArena>(
     size: StructSize,
     default: Option<&[Word]>,
 ) -> Result<StructPlace>
-    requires there { is_some (words_at (words_in (A.segments arena.old))
-        (place_view slot) 1) ≡ true }
+    requires there { HasWords (A.segments arena.old) slot 1 }
     requires near { slot.position < 2 ^ 61 }
-    ensures got { IfOk result (StructGot (option_copied default.entry)
-        (words_in (A.segments arena.old)) (words_in (A.segments arena.new)) (place_view slot)
-        size) }
-    ensures there { IfOk result (λ o. is_some (words_at (words_in (A.segments arena.new))
-        (place_view o.start) (o.data_words + o.pointers)) ≡ true) }
-    ensures near { IfOk result (λ o. o.start.position + (o.data_words + o.pointers) < 2 ^ 61) }
-    ensures refused { IfErr result (NoStructGot (option_copied default.entry)
-        (words_in (A.segments arena.old)) (words_in (A.segments arena.new)) (place_view slot)
-        size) }
-    ensures books { A.books arena.new ≡ A.books arena.old }
+    ensures { let at = state_in A.segments A.room A.books in GetsStructOrDefault
+        (option_copied default.entry) (at arena.old) (at arena.new) slot size result }
 {
     changes_of_values();
     changes_with_more_levels();
@@ -76,14 +66,10 @@ fn list_here<A: BuilderArena>(
     expected: ElementSize,
     default: Option<&[Word]>,
 ) -> Result<ListPlace>
-    requires there { is_some (words_at (words_in (A.segments arena.old))
-        (place_view slot) 1) ≡ true }
+    requires there { HasWords (A.segments arena.old) slot 1 }
     requires near { slot.position < 2 ^ 61 }
-    ensures got { IfOk result (ListGot (option_copied default.entry)
-        (words_in (A.segments arena.old)) (words_in (A.segments arena.new)) slot expected) }
-    ensures refused { IfErr result (NoListGot (option_copied default.entry)
-        (words_in (A.segments arena.old)) (words_in (A.segments arena.new)) slot expected) }
-    ensures books { A.books arena.new ≡ A.books arena.old }
+    ensures { let at = state_in A.segments A.room A.books in GetsListOrDefault
+        (option_copied default.entry) (at arena.old) (at arena.new) slot expected result }
 {
     changes_of_values();
     changes_with_more_levels();
@@ -98,14 +84,10 @@ fn struct_list_here<A: BuilderArena>(
     size: StructSize,
     default: Option<&[Word]>,
 ) -> Result<ListPlace>
-    requires there { is_some (words_at (words_in (A.segments arena.old))
-        (place_view slot) 1) ≡ true }
+    requires there { HasWords (A.segments arena.old) slot 1 }
     requires near { slot.position < 2 ^ 61 }
-    ensures got { IfOk result (StructListGot (option_copied default.entry)
-        (words_in (A.segments arena.old)) (words_in (A.segments arena.new)) slot size) }
-    ensures refused { IfErr result (NoStructListGot (option_copied default.entry)
-        (words_in (A.segments arena.old)) (words_in (A.segments arena.new)) slot size) }
-    ensures books { A.books arena.new ≡ A.books arena.old }
+    ensures { let at = state_in A.segments A.room A.books in GetsStructListOrDefault
+        (option_copied default.entry) (at arena.old) (at arena.new) slot size result }
 {
     changes_of_values();
     changes_with_more_levels();
@@ -122,25 +104,16 @@ impl<'a, A: BuilderArena> PointerBuilder<'a, A> {
         size: StructSize,
         default: Option<&[Word]>,
     ) -> Result<StructBuilder<'a, A>>
-        requires there { is_some (words_at (words_in (A.segments self.memory.now.arena))
-            (place_view self.place) 1) ≡ true }
+        requires there { HasWords (A.segments self.memory.now.arena) self.place 1 }
         requires near { self.place.position < 2 ^ 61 }
         ensures same { IfOk result (λ o. o.memory.ghost_name ≡ self.entry.memory.ghost_name) }
-        ensures got { IfOk result (λ o. StructGot (option_copied default.entry)
-            (words_in (A.segments self.entry.memory.now.arena))
-            (words_in (A.segments o.memory.now.arena)) (place_view self.entry.place) size o.place) }
-        ensures there { IfOk result (λ o.
-            is_some (words_at (words_in (A.segments o.memory.now.arena))
-            (place_view o.place.start) (o.place.data_words + o.place.pointers)) ≡ true) }
-        ensures near { IfOk result (λ o.
-            o.place.start.position + (o.place.data_words + o.place.pointers) < 2 ^ 61) }
-        ensures books { IfOk result (λ o.
-            A.books o.memory.now.arena ≡ A.books self.entry.memory.now.arena) }
-        ensures* refused { sem 𝓛 (RestsIfErr (the_row A.row) self.entry.memory
-            (λ o. o.memory.ghost_name) result (λ n. IfErr result (NoStructGot
-            (option_copied default.entry) (words_in (A.segments self.entry.memory.now.arena))
-            (words_in (A.segments n.arena)) (place_view self.entry.place) size)
-            × (A.books n.arena ≡ A.books self.entry.memory.now.arena))) }
+        ensures got { let at = state_of A.segments A.room A.books in IfOk result (λ o.
+            GetsStructOrDefault (option_copied default.entry) (at self.entry.memory.now)
+            (at o.memory.now) self.entry.place size (Ok o.place)) }
+        ensures* refused { let at = state_of A.segments A.room A.books in sem 𝓛 (RestsIfErr
+            (the_row A.row) self.entry.memory (λ o. o.memory.ghost_name) result (λ n.
+            IfErr result (λ e. GetsStructOrDefault (option_copied default.entry)
+            (at self.entry.memory.now) (at n) self.entry.place size (Err e)))) }
     {
         let PointerBuilder { memory, place } = self;
         let place = struct_or_default(&mut memory.arena, place, size, default)?;
@@ -155,20 +128,16 @@ impl<'a, A: BuilderArena> PointerBuilder<'a, A> {
         element_size: ElementSize,
         default: Option<&[Word]>,
     ) -> Result<ListBuilder<'a, A>>
-        requires there { is_some (words_at (words_in (A.segments self.memory.now.arena))
-            (place_view self.place) 1) ≡ true }
+        requires there { HasWords (A.segments self.memory.now.arena) self.place 1 }
         requires near { self.place.position < 2 ^ 61 }
         ensures same { IfOk result (λ o. o.memory.ghost_name ≡ self.entry.memory.ghost_name) }
-        ensures got { IfOk result (λ o. ListGot (option_copied default.entry)
-            (words_in (A.segments self.entry.memory.now.arena))
-            (words_in (A.segments o.memory.now.arena)) self.entry.place element_size o.place) }
-        ensures books { IfOk result (λ o.
-            A.books o.memory.now.arena ≡ A.books self.entry.memory.now.arena) }
-        ensures* refused { sem 𝓛 (RestsIfErr (the_row A.row) self.entry.memory
-            (λ o. o.memory.ghost_name) result (λ n. IfErr result (NoListGot
-            (option_copied default.entry) (words_in (A.segments self.entry.memory.now.arena))
-            (words_in (A.segments n.arena)) self.entry.place element_size)
-            × (A.books n.arena ≡ A.books self.entry.memory.now.arena))) }
+        ensures got { let at = state_of A.segments A.room A.books in IfOk result (λ o.
+            GetsListOrDefault (option_copied default.entry) (at self.entry.memory.now)
+            (at o.memory.now) self.entry.place element_size (Ok o.place)) }
+        ensures* refused { let at = state_of A.segments A.room A.books in sem 𝓛 (RestsIfErr
+            (the_row A.row) self.entry.memory (λ o. o.memory.ghost_name) result (λ n.
+            IfErr result (λ e. GetsListOrDefault (option_copied default.entry)
+            (at self.entry.memory.now) (at n) self.entry.place element_size (Err e)))) }
     {
         let PointerBuilder { memory, place } = self;
         let place = list_here(&mut memory.arena, place, element_size, default)?;
@@ -183,20 +152,16 @@ impl<'a, A: BuilderArena> PointerBuilder<'a, A> {
         element_size: StructSize,
         default: Option<&[Word]>,
     ) -> Result<ListBuilder<'a, A>>
-        requires there { is_some (words_at (words_in (A.segments self.memory.now.arena))
-            (place_view self.place) 1) ≡ true }
+        requires there { HasWords (A.segments self.memory.now.arena) self.place 1 }
         requires near { self.place.position < 2 ^ 61 }
         ensures same { IfOk result (λ o. o.memory.ghost_name ≡ self.entry.memory.ghost_name) }
-        ensures got { IfOk result (λ o. StructListGot (option_copied default.entry)
-            (words_in (A.segments self.entry.memory.now.arena))
-            (words_in (A.segments o.memory.now.arena)) self.entry.place element_size o.place) }
-        ensures books { IfOk result (λ o.
-            A.books o.memory.now.arena ≡ A.books self.entry.memory.now.arena) }
-        ensures* refused { sem 𝓛 (RestsIfErr (the_row A.row) self.entry.memory
-            (λ o. o.memory.ghost_name) result (λ n. IfErr result (NoStructListGot
-            (option_copied default.entry) (words_in (A.segments self.entry.memory.now.arena))
-            (words_in (A.segments n.arena)) self.entry.place element_size)
-            × (A.books n.arena ≡ A.books self.entry.memory.now.arena))) }
+        ensures got { let at = state_of A.segments A.room A.books in IfOk result (λ o.
+            GetsStructListOrDefault (option_copied default.entry) (at self.entry.memory.now)
+            (at o.memory.now) self.entry.place element_size (Ok o.place)) }
+        ensures* refused { let at = state_of A.segments A.room A.books in sem 𝓛 (RestsIfErr
+            (the_row A.row) self.entry.memory (λ o. o.memory.ghost_name) result (λ n.
+            IfErr result (λ e. GetsStructListOrDefault (option_copied default.entry)
+            (at self.entry.memory.now) (at n) self.entry.place element_size (Err e)))) }
     {
         let PointerBuilder { memory, place } = self;
         let place = struct_list_here(&mut memory.arena, place, element_size, default)?;

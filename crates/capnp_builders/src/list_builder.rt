@@ -1,13 +1,14 @@
 //! Lists that are built.
-ghost use Rattle.std.specs.Prelude.{◌≡◌, ◌+◌, ◌*◌, ◌<◌, ◌≤◌, ◌^◌, ◌==◌, ℕ, true, length, map};
-ghost use Rattle.std.specs.Option.{is_some};
-ghost use Rattle.capnp_model.specs.Segments.{after, words_at};
+ghost use Rattle.std.specs.Prelude.{◌≡◌, ◌+◌, ◌*◌, ◌<◌, ◌≤◌, ◌^◌, ◌==◌, length, map};
+ghost use Rattle.capnp_model.specs.Segments.{after};
 ghost use Rattle.capnp_units.specs.Sizes.{size_number};
 ghost use Rattle.std.specs.Borrow.{sem};
 ghost use Rattle.capnp_units.specs.Segments.{words_in};
 ghost use Rattle.capnp_wire.specs.Places.{place_view};
 ghost use Rattle.capnp_wire.specs.Views.{seen_list, list_at};
 ghost use Rattle.capnp_copy.specs.Elements.{first_element, HasElements, IsWhole, IsInElement, HasElement, SetsElement};
+ghost use Rattle.capnp_copy.specs.States.{HasWords};
+ghost use Rattle.capnp_builders.specs.Elements.{IsStructElement};
 
 use crate::element::BuilderElement;
 use crate::pointer_builder::PointerBuilder;
@@ -138,8 +139,7 @@ impl<'a, A: BuilderArena> ListBuilder<'a, A> {
         ensures now { result.memory.now ≡ self.entry.memory.now }
         ensures place { place_view result.place ≡ after (place_view self.entry.place.start) index }
         ensures there { IsWhole (words_in (A.segments self.entry.memory.now.arena)) self.entry.place
-            → is_some (words_at (words_in (A.segments result.memory.now.arena))
-            (place_view result.place) 1) ≡ true }
+            → HasWords (A.segments result.memory.now.arena) result.place 1 }
         ensures near { result.place.position < 2 ^ 61 }
     {
         let ListBuilder { memory, place } = self;
@@ -160,17 +160,10 @@ impl<'a, A: BuilderArena> ListBuilder<'a, A> {
         requires inside { index < self.place.count }
         ensures same { result.memory.ghost_name ≡ self.entry.memory.ghost_name }
         ensures now { result.memory.now ≡ self.entry.memory.now }
-        ensures place { place_view result.place.start
-            ≡ after (after (place_view self.entry.place.start) 1)
-            (index * (self.entry.place.data_words + self.entry.place.pointers)) }
-        ensures size { (result.place.data_words ≡ self.entry.place.data_words)
-            × (result.place.pointers ≡ self.entry.place.pointers) }
+        ensures element { IsStructElement self.entry.place index result.place }
         ensures there { IsWhole (words_in (A.segments self.entry.memory.now.arena)) self.entry.place
-            → is_some (words_at (words_in (A.segments result.memory.now.arena))
-            (place_view result.place.start) (result.place.data_words + result.place.pointers))
-            ≡ true }
-        ensures near { result.place.start.position +
-            (result.place.data_words + result.place.pointers) < 2 ^ 61 }
+            → HasWords (A.segments result.memory.now.arena) result.place.start
+            (result.place.data_words + result.place.pointers) }
     {
         let ListBuilder { memory, place } = self;
         let start = place.start;

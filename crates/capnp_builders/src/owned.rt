@@ -1,21 +1,21 @@
 //! What callers' types are built as.
-ghost use Rattle.std.specs.Prelude.{◌≡◌, ◌+◌, ◌<◌, ◌^◌, ◌↔◌, ℕ, List, Option, Ok, Err, true, option_copied, IfOk, IfErr};
+ghost use Rattle.std.specs.Prelude.{◌≡◌, ◌+◌, ◌<◌, ◌^◌, ◌↔◌, ℕ, List, Option, Ok, Err, option_copied, IfOk, IfErr};
 ghost use Rattle.std.specs.Borrow.{sem, MutBor, RestsIfErr};
-ghost use Rattle.std.specs.Option.{is_some};
-ghost use Rattle.capnp_model.specs.Segments.{Segments, words_at};
-ghost use Rattle.capnp_units.specs.Segments.{words_in};
+ghost use Rattle.capnp_model.specs.Segments.{Segments};
 ghost use Rattle.capnp_units.specs.declared.errors.Error.{Error};
 ghost use Rattle.capnp_units.specs.declared.kinds.ErrorKind.TheVariants.{SizeOverflow};
 ghost use Rattle.capnp_object.specs.declared.place.Place.{Place};
 ghost use Rattle.capnp_wire.specs.Places.{place_view};
 ghost use Rattle.capnp_copy.specs.Allocations.{total_words};
 ghost use Rattle.capnp_copy.specs.Clearing.{ClearsValue};
-ghost use Rattle.capnp_copy.specs.declared.arena.Memory.{Memory};
+ghost use Rattle.capnp_copy.specs.States.{HasWords};
 ghost use Rattle.capnp_copy.specs.contracts.arena.Memory.{the_row};
+ghost use Rattle.capnp_copy.specs.declared.arena.Memory.{Memory};
 ghost use Rattle.capnp_builders.specs.Blobs.{DataMade, TextMade, DataGot, NoDataGot, TextGot, NoTextGot};
 ghost use Rattle.capnp_builders.specs.Gets.{Begins};
 ghost use Rattle.capnp_builders.specs.Inputs.{IsTooLong};
-ghost use Rattle.capnp_builders.specs.Making.{StaysAt};
+ghost use Rattle.capnp_builders.specs.Leaving.{HoldsMemory};
+ghost use Rattle.capnp_builders.specs.Making.{StaysAt, memory_words};
 
 use crate::data_builder::DataBuilder;
 use crate::gets::begin;
@@ -50,47 +50,34 @@ pub trait FromPointerBuilder<'a, A: BuilderArena>: Sized {
     ///
     /// It is refused as the type says; then all stands as it was.
     fn init_pointer(builder: PointerBuilder<'a, A>, length: u32) -> Result<Self>
-        requires there { is_some (words_at (words_in (A.segments builder.memory.now.arena))
-            (place_view builder.place) 1) ≡ true }
+        requires there { HasWords (A.segments builder.memory.now.arena) builder.place 1 }
         requires near { builder.place.position < 2 ^ 61 }
-        ensures same { IfOk result
-            (λ o. (memory_of o).ghost_name ≡ builder.entry.memory.ghost_name) }
-        ensures made { IfOk result (λ o.
-            is_made (words_in (A.segments builder.entry.memory.now.arena))
-            (words_in (A.segments (memory_of o).now.arena)) builder.entry.place length o) }
+        ensures same { HoldsMemory memory_of builder.entry.memory result }
+        ensures made { let b = builder.entry in let at = memory_words A.segments in IfOk result
+            (λ o. is_made (at b.memory.now) (at (memory_of o).now) b.place length o) }
         ensures books { IfOk result (λ o.
             A.books (memory_of o).now.arena ≡ A.books builder.entry.memory.now.arena) }
         ensures kind { IfErr result
-            (is_not_made (words_in (A.segments builder.entry.memory.now.arena)) length) }
-        ensures* refused { sem 𝓛 (RestsIfErr (the_row A.row)
-            builder.entry.memory (λ o. (memory_of o).ghost_name)
-            result (λ n.
-            (A.segments n.arena ≡ A.segments builder.entry.memory.now.arena)
-            × (A.books n.arena ≡ A.books builder.entry.memory.now.arena))) };
+            (is_not_made (memory_words A.segments builder.entry.memory.now) length) }
+        ensures* refused { let b = builder.entry in sem 𝓛 (RestsIfErr (the_row A.row) b.memory
+            (λ o. (memory_of o).ghost_name) result (StaysAt A.segments A.books b.memory.now)) };
 
     /// The value that the pointer names, to write. In place of null the default is written, where there is one and its root isn't null.
     ///
     /// It is refused as the type says.
     fn get_from_pointer(builder: PointerBuilder<'a, A>, default: Option<&[Word]>) -> Result<Self>
-        requires there { is_some (words_at (words_in (A.segments builder.memory.now.arena))
-            (place_view builder.place) 1) ≡ true }
+        requires there { HasWords (A.segments builder.memory.now.arena) builder.place 1 }
         requires near { builder.place.position < 2 ^ 61 }
-        ensures same { IfOk result
-            (λ o. (memory_of o).ghost_name ≡ builder.entry.memory.ghost_name) }
-        ensures got { IfOk result (λ o.
-            is_got (option_copied default.entry)
-            (words_in (A.segments builder.entry.memory.now.arena))
-            (words_in (A.segments (memory_of o).now.arena)) builder.entry.place o) }
+        ensures same { HoldsMemory memory_of builder.entry.memory result }
+        ensures got { let b = builder.entry in let at = memory_words A.segments in IfOk result
+            (λ o. is_got (option_copied default.entry) (at b.memory.now) (at (memory_of o).now)
+            b.place o) }
         ensures books { IfOk result (λ o.
             A.books (memory_of o).now.arena ≡ A.books builder.entry.memory.now.arena) }
-        ensures* refused { sem 𝓛 (RestsIfErr (the_row A.row)
-            builder.entry.memory (λ o. (memory_of o).ghost_name)
-            result (λ n.
-            IfErr result
-            (is_not_got (option_copied default.entry)
-            (words_in (A.segments builder.entry.memory.now.arena))
-            (words_in (A.segments n.arena)) builder.entry.place)
-            × (A.books n.arena ≡ A.books builder.entry.memory.now.arena))) };
+        ensures* refused { let b = builder.entry in let at = memory_words A.segments in sem 𝓛
+            (RestsIfErr (the_row A.row) b.memory (λ o. (memory_of o).ghost_name) result (λ n.
+            IfErr result (is_not_got (option_copied default.entry) (at b.memory.now) (at n) b.place)
+            × (A.books n.arena ≡ A.books b.memory.now.arena))) };
 }
 
 /// Data are made of so many zero bytes.
@@ -106,24 +93,17 @@ impl<'a, A: BuilderArena> FromPointerBuilder<'a, A> for DataBuilder<'a, A> {
     ghost is_not_got = { λ default s u slot e. NoDataGot default s u slot e };
 
     fn init_pointer(builder: PointerBuilder<'a, A>, length: u32) -> Result<DataBuilder<'a, A>>
-        requires there { is_some (words_at (words_in (A.segments builder.memory.now.arena))
-            (place_view builder.place) 1) ≡ true }
+        requires there { HasWords (A.segments builder.memory.now.arena) builder.place 1 }
         requires near { builder.place.position < 2 ^ 61 }
         ensures same { IfOk result (λ o. o.memory.ghost_name ≡ builder.entry.memory.ghost_name) }
-        ensures made { IfOk result (λ o.
-            DataMade (words_in (A.segments builder.entry.memory.now.arena))
-            (words_in (A.segments o.memory.now.arena)) builder.entry.place length o.place) }
+        ensures made { let b = builder.entry in let at = memory_words A.segments in IfOk result
+            (λ o. DataMade (at b.memory.now) (at o.memory.now) b.place length o.place) }
         ensures books { IfOk result (λ o.
             A.books o.memory.now.arena ≡ A.books builder.entry.memory.now.arena) }
-        ensures kind { IfErr result (λ e.
-            (e.kind ≡ SizeOverflow)
-            ↔ IsTooLong length
-            (total_words (words_in (A.segments builder.entry.memory.now.arena)))) }
-        ensures* refused { sem 𝓛 (RestsIfErr (the_row A.row)
-            builder.entry.memory (λ o. o.memory.ghost_name)
-            result (λ n.
-            (A.segments n.arena ≡ A.segments builder.entry.memory.now.arena)
-            × (A.books n.arena ≡ A.books builder.entry.memory.now.arena))) }
+        ensures kind { IfErr result (λ e. (e.kind ≡ SizeOverflow) ↔ IsTooLong length
+            (total_words (memory_words A.segments builder.entry.memory.now))) }
+        ensures* refused { let b = builder.entry in sem 𝓛 (RestsIfErr (the_row A.row) b.memory
+            (λ o. o.memory.ghost_name) result (StaysAt A.segments A.books b.memory.now)) }
     {
         builder.init_data(length)
     }
@@ -132,23 +112,18 @@ impl<'a, A: BuilderArena> FromPointerBuilder<'a, A> for DataBuilder<'a, A> {
         builder: PointerBuilder<'a, A>,
         default: Option<&[Word]>,
     ) -> Result<DataBuilder<'a, A>>
-        requires there { is_some (words_at (words_in (A.segments builder.memory.now.arena))
-            (place_view builder.place) 1) ≡ true }
+        requires there { HasWords (A.segments builder.memory.now.arena) builder.place 1 }
         requires near { builder.place.position < 2 ^ 61 }
         ensures same { IfOk result (λ o. o.memory.ghost_name ≡ builder.entry.memory.ghost_name) }
-        ensures got { IfOk result (λ o.
-            DataGot (option_copied default.entry)
-            (words_in (A.segments builder.entry.memory.now.arena))
-            (words_in (A.segments o.memory.now.arena)) builder.entry.place o.place) }
+        ensures got { let b = builder.entry in let at = memory_words A.segments in IfOk result
+            (λ o. DataGot (option_copied default.entry) (at b.memory.now) (at o.memory.now)
+            b.place o.place) }
         ensures books { IfOk result (λ o.
             A.books o.memory.now.arena ≡ A.books builder.entry.memory.now.arena) }
-        ensures* refused { sem 𝓛 (RestsIfErr (the_row A.row)
-            builder.entry.memory (λ o. o.memory.ghost_name)
-            result (λ n.
-            IfErr result
-            (NoDataGot (option_copied default.entry)
-            (words_in (A.segments builder.entry.memory.now.arena)) (words_in (A.segments n.arena))
-            builder.entry.place) × (A.books n.arena ≡ A.books builder.entry.memory.now.arena))) }
+        ensures* refused { let b = builder.entry in let at = memory_words A.segments in sem 𝓛
+            (RestsIfErr (the_row A.row) b.memory (λ o. o.memory.ghost_name) result (λ n.
+            IfErr result (NoDataGot (option_copied default.entry) (at b.memory.now) (at n) b.place)
+            × (A.books n.arena ≡ A.books b.memory.now.arena))) }
     {
         builder.get_data(default)
     }
@@ -168,25 +143,18 @@ impl<'a, A: BuilderArena> FromPointerBuilder<'a, A> for TextBuilder<'a, A> {
     ghost is_not_got = { λ default s u slot e. NoTextGot default s u slot e };
 
     fn init_pointer(builder: PointerBuilder<'a, A>, length: u32) -> Result<TextBuilder<'a, A>>
-        requires there { is_some (words_at (words_in (A.segments builder.memory.now.arena))
-            (place_view builder.place) 1) ≡ true }
+        requires there { HasWords (A.segments builder.memory.now.arena) builder.place 1 }
         requires near { builder.place.position < 2 ^ 61 }
         ensures same { IfOk result (λ o. o.memory.ghost_name ≡ builder.entry.memory.ghost_name) }
-        ensures made { IfOk result (λ o.
-            TextMade (words_in (A.segments builder.entry.memory.now.arena))
-            (words_in (A.segments o.memory.now.arena)) builder.entry.place length o.place
+        ensures made { let b = builder.entry in let at = memory_words A.segments in IfOk result
+            (λ o. TextMade (at b.memory.now) (at o.memory.now) b.place length o.place
             × (o.position ≡ 0)) }
         ensures books { IfOk result (λ o.
             A.books o.memory.now.arena ≡ A.books builder.entry.memory.now.arena) }
-        ensures kind { IfErr result (λ e.
-            (e.kind ≡ SizeOverflow)
-            ↔ IsTooLong (length + 1)
-            (total_words (words_in (A.segments builder.entry.memory.now.arena)))) }
-        ensures* refused { sem 𝓛 (RestsIfErr (the_row A.row)
-            builder.entry.memory (λ o. o.memory.ghost_name)
-            result (λ n.
-            (A.segments n.arena ≡ A.segments builder.entry.memory.now.arena)
-            × (A.books n.arena ≡ A.books builder.entry.memory.now.arena))) }
+        ensures kind { IfErr result (λ e. (e.kind ≡ SizeOverflow) ↔ IsTooLong (length + 1)
+            (total_words (memory_words A.segments builder.entry.memory.now))) }
+        ensures* refused { let b = builder.entry in sem 𝓛 (RestsIfErr (the_row A.row) b.memory
+            (λ o. o.memory.ghost_name) result (StaysAt A.segments A.books b.memory.now)) }
     {
         builder.init_text(length)
     }
@@ -195,24 +163,18 @@ impl<'a, A: BuilderArena> FromPointerBuilder<'a, A> for TextBuilder<'a, A> {
         builder: PointerBuilder<'a, A>,
         default: Option<&[Word]>,
     ) -> Result<TextBuilder<'a, A>>
-        requires there { is_some (words_at (words_in (A.segments builder.memory.now.arena))
-            (place_view builder.place) 1) ≡ true }
+        requires there { HasWords (A.segments builder.memory.now.arena) builder.place 1 }
         requires near { builder.place.position < 2 ^ 61 }
         ensures same { IfOk result (λ o. o.memory.ghost_name ≡ builder.entry.memory.ghost_name) }
-        ensures got { IfOk result (λ o.
-            TextGot (option_copied default.entry)
-            (words_in (A.segments builder.entry.memory.now.arena))
-            (words_in (A.segments o.memory.now.arena)) builder.entry.place o.place
-            × (o.position ≡ o.place.count)) }
+        ensures got { let b = builder.entry in let at = memory_words A.segments in IfOk result
+            (λ o. TextGot (option_copied default.entry) (at b.memory.now) (at o.memory.now)
+            b.place o.place × (o.position ≡ o.place.count)) }
         ensures books { IfOk result (λ o.
             A.books o.memory.now.arena ≡ A.books builder.entry.memory.now.arena) }
-        ensures* refused { sem 𝓛 (RestsIfErr (the_row A.row)
-            builder.entry.memory (λ o. o.memory.ghost_name)
-            result (λ n.
-            IfErr result
-            (NoTextGot (option_copied default.entry)
-            (words_in (A.segments builder.entry.memory.now.arena)) (words_in (A.segments n.arena))
-            builder.entry.place) × (A.books n.arena ≡ A.books builder.entry.memory.now.arena))) }
+        ensures* refused { let b = builder.entry in let at = memory_words A.segments in sem 𝓛
+            (RestsIfErr (the_row A.row) b.memory (λ o. o.memory.ghost_name) result (λ n.
+            IfErr result (NoTextGot (option_copied default.entry) (at b.memory.now) (at n) b.place)
+            × (A.books n.arena ≡ A.books b.memory.now.arena))) }
     {
         builder.get_text(default)
     }
@@ -232,19 +194,17 @@ impl<'a, A: BuilderArena> FromPointerBuilder<'a, A> for PointerBuilder<'a, A> {
     ghost is_not_got = { λ default s u slot e. Begins default s u (place_view slot) (Err e) };
 
     fn init_pointer(builder: PointerBuilder<'a, A>, _length: u32) -> Result<PointerBuilder<'a, A>>
-        requires there { is_some (words_at (words_in (A.segments builder.memory.now.arena))
-            (place_view builder.place) 1) ≡ true }
+        requires there { HasWords (A.segments builder.memory.now.arena) builder.place 1 }
         requires near { builder.place.position < 2 ^ 61 }
         ensures same { IfOk result (λ o. o.memory.ghost_name ≡ builder.entry.memory.ghost_name) }
-        ensures made { IfOk result (λ o.
-            ClearsValue (words_in (A.segments builder.entry.memory.now.arena))
-            (words_in (A.segments o.memory.now.arena)) (place_view builder.entry.place)
-            × (o.place ≡ builder.entry.place)) }
+        ensures made { let b = builder.entry in let at = memory_words A.segments in IfOk result
+            (λ o. ClearsValue (at b.memory.now) (at o.memory.now) (place_view b.place)
+            × (o.place ≡ b.place)) }
         ensures books { IfOk result (λ o.
             A.books o.memory.now.arena ≡ A.books builder.entry.memory.now.arena) }
         ensures kind { IfErr result (λ e. ⊥) }
-        ensures* refused { sem 𝓛 (RestsIfErr (the_row A.row) builder.entry.memory
-            (λ o. o.memory.ghost_name) result (StaysAt A.segments A.books builder.entry.memory.now)) }
+        ensures* refused { let b = builder.entry in sem 𝓛 (RestsIfErr (the_row A.row) b.memory
+            (λ o. o.memory.ghost_name) result (StaysAt A.segments A.books b.memory.now)) }
     {
         let PointerBuilder { memory, place } = builder;
         clear(&mut memory.arena, place);
@@ -255,25 +215,18 @@ impl<'a, A: BuilderArena> FromPointerBuilder<'a, A> for PointerBuilder<'a, A> {
         builder: PointerBuilder<'a, A>,
         default: Option<&[Word]>,
     ) -> Result<PointerBuilder<'a, A>>
-        requires there { is_some (words_at (words_in (A.segments builder.memory.now.arena))
-            (place_view builder.place) 1) ≡ true }
+        requires there { HasWords (A.segments builder.memory.now.arena) builder.place 1 }
         requires near { builder.place.position < 2 ^ 61 }
         ensures same { IfOk result (λ o. o.memory.ghost_name ≡ builder.entry.memory.ghost_name) }
-        ensures got { IfOk result (λ o.
-            Begins (option_copied default.entry)
-            (words_in (A.segments builder.entry.memory.now.arena))
-            (words_in (A.segments o.memory.now.arena)) (place_view builder.entry.place) (Ok tt)
-            × (o.place ≡ builder.entry.place)) }
+        ensures got { let b = builder.entry in let at = memory_words A.segments in IfOk result
+            (λ o. Begins (option_copied default.entry) (at b.memory.now) (at o.memory.now)
+            (place_view b.place) (Ok tt) × (o.place ≡ b.place)) }
         ensures books { IfOk result (λ o.
             A.books o.memory.now.arena ≡ A.books builder.entry.memory.now.arena) }
-        ensures* refused { sem 𝓛 (RestsIfErr (the_row A.row)
-            builder.entry.memory (λ o. o.memory.ghost_name)
-            result (λ n.
-            IfErr result (λ e.
-            Begins (option_copied default.entry)
-            (words_in (A.segments builder.entry.memory.now.arena)) (words_in (A.segments n.arena))
-            (place_view builder.entry.place) (Err e))
-            × (A.books n.arena ≡ A.books builder.entry.memory.now.arena))) }
+        ensures* refused { let b = builder.entry in let at = memory_words A.segments in sem 𝓛
+            (RestsIfErr (the_row A.row) b.memory (λ o. o.memory.ghost_name) result (λ n.
+            IfErr result (λ e. Begins (option_copied default.entry) (at b.memory.now) (at n)
+            (place_view b.place) (Err e)) × (A.books n.arena ≡ A.books b.memory.now.arena))) }
     {
         let PointerBuilder { memory, place } = builder;
         begin(&mut memory.arena, place, default)?;

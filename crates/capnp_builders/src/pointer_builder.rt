@@ -1,16 +1,16 @@
 //! Pointers that are built.
-ghost use Rattle.std.specs.Prelude.{◌≡◌, ◌+◌, ◌*◌, ◌<◌, ◌^◌, ◌==◌, true, length, unwrap_or, IfOk, IfErr, OnOk, map};
+ghost use Rattle.std.specs.Prelude.{◌≡◌, ◌+◌, ◌*◌, ◌<◌, ◌^◌, ◌==◌, length, unwrap_or, IfOk, IfErr, OnOk, map};
 ghost use Rattle.std.specs.Borrow.{sem, RestsIfErr};
-ghost use Rattle.std.specs.Option.{is_some};
 ghost use Rattle.capnp_model.specs.Sections.{number_of, words_for};
-ghost use Rattle.capnp_model.specs.Segments.{root, word_at, words_at};
+ghost use Rattle.capnp_model.specs.Segments.{root, word_at};
 ghost use Rattle.capnp_model.specs.Trees.{plain_list};
 ghost use Rattle.capnp_units.specs.Segments.{words_in};
 ghost use Rattle.capnp_units.specs.Sizes.{size_number};
 ghost use Rattle.capnp_wire.specs.Places.{place_view};
-ghost use Rattle.capnp_copy.specs.Clearing.{ClearsValue};
-ghost use Rattle.capnp_copy.specs.contracts.arena.Memory.{the_row};
 ghost use Rattle.capnp_wire.specs.Views.{seen_pointer, pointer_at};
+ghost use Rattle.capnp_copy.specs.Clearing.{ClearsValue};
+ghost use Rattle.capnp_copy.specs.States.{HasWords};
+ghost use Rattle.capnp_copy.specs.contracts.arena.Memory.{the_row};
 ghost use Rattle.capnp_builders.specs.Leaving.{LeavesMemory};
 ghost use Rattle.capnp_builders.specs.Making.{state_of, StaysAt, Makes, MakesStruct, MakesList, MakesStructList, StructRefused, ElementsRefused, StructsRefused, BytesNotSet};
 
@@ -120,8 +120,7 @@ impl<'a, A: BuilderArena> PointerBuilder<'a, A> {
     ///
     /// It is refused with `SizeOverflow` just where the message's words would pass 2^29 - 1 with a pad counted, else as the allocator refuses; then all stands as it was.
     pub fn init_struct(self, size: StructSize) -> Result<StructBuilder<'a, A>>
-        requires there { is_some (words_at (words_in (A.segments self.memory.now.arena))
-            (place_view self.place) 1) ≡ true }
+        requires there { HasWords (A.segments self.memory.now.arena) self.place 1 }
         requires near { self.place.position < 2 ^ 61 }
         ensures same { IfOk result (λ o. o.memory.ghost_name ≡ self.entry.memory.ghost_name) }
         ensures made { let at = state_of A.segments A.room A.books in IfOk result (λ o.
@@ -145,8 +144,7 @@ impl<'a, A: BuilderArena> PointerBuilder<'a, A> {
         element_size: ElementSize,
         element_count: ElementCount32,
     ) -> Result<ListBuilder<'a, A>>
-        requires there { is_some (words_at (words_in (A.segments self.memory.now.arena))
-            (place_view self.place) 1) ≡ true }
+        requires there { HasWords (A.segments self.memory.now.arena) self.place 1 }
         requires near { self.place.position < 2 ^ 61 }
         requires plain { size_number element_size < 7 }
         ensures same { IfOk result (λ o. o.memory.ghost_name ≡ self.entry.memory.ghost_name) }
@@ -154,7 +152,8 @@ impl<'a, A: BuilderArena> PointerBuilder<'a, A> {
             MakesList (at self.entry.memory.now) (at o.memory.now) self.entry.place
             element_size element_count o.place) }
         ensures kind { let at = state_of A.segments A.room A.books in IfErr result
-            (ElementsRefused (at self.entry.memory.now) self.entry.place.segment element_size element_count) }
+            (ElementsRefused (at self.entry.memory.now) self.entry.place.segment element_size
+            element_count) }
         ensures* refused { sem 𝓛 (RestsIfErr (the_row A.row) self.entry.memory
             (λ o. o.memory.ghost_name) result (StaysAt A.segments A.books self.entry.memory.now)) }
     {
@@ -171,15 +170,15 @@ impl<'a, A: BuilderArena> PointerBuilder<'a, A> {
         element_count: ElementCount32,
         element_size: StructSize,
     ) -> Result<ListBuilder<'a, A>>
-        requires there { is_some (words_at (words_in (A.segments self.memory.now.arena))
-            (place_view self.place) 1) ≡ true }
+        requires there { HasWords (A.segments self.memory.now.arena) self.place 1 }
         requires near { self.place.position < 2 ^ 61 }
         ensures same { IfOk result (λ o. o.memory.ghost_name ≡ self.entry.memory.ghost_name) }
         ensures made { let at = state_of A.segments A.room A.books in IfOk result (λ o.
             MakesStructList (at self.entry.memory.now) (at o.memory.now) self.entry.place
             element_count element_size o.place) }
         ensures kind { let at = state_of A.segments A.room A.books in IfErr result
-            (StructsRefused (at self.entry.memory.now) self.entry.place.segment element_count element_size) }
+            (StructsRefused (at self.entry.memory.now) self.entry.place.segment element_count
+            element_size) }
         ensures* refused { sem 𝓛 (RestsIfErr (the_row A.row) self.entry.memory
             (λ o. o.memory.ghost_name) result (StaysAt A.segments A.books self.entry.memory.now)) }
     {
@@ -192,14 +191,14 @@ impl<'a, A: BuilderArena> PointerBuilder<'a, A> {
     ///
     /// It is refused with `SizeOverflow` just where the bytes or the message's words, a pad counted, would pass 2^29 - 1, else as the allocator refuses; then all stands as it was.
     pub fn set_data(&mut self, value: &[u8]) -> Result<()>
-        requires there { is_some (words_at (words_in (A.segments self.old.memory.now.arena))
-            (place_view self.old.place) 1) ≡ true }
+        requires there { HasWords (A.segments self.old.memory.now.arena) self.old.place 1 }
         requires near { self.old.place.position < 2 ^ 61 }
         ensures same { (self.new.memory.ghost_name ≡ self.old.memory.ghost_name)
             × (self.new.place ≡ self.old.place) }
         ensures made { let at = state_of A.segments A.room A.books in OnOk result
             (Makes (at self.old.memory.now) (at self.new.memory.now) self.old.place
-            (plain_list 2 (length value.now) (number_of 8 value.now)) (words_for (8 * length value.now))) }
+            (plain_list 2 (length value.now) (number_of 8 value.now))
+            (words_for (8 * length value.now))) }
         ensures refused { let at = state_of A.segments A.room A.books in IfErr result
             (BytesNotSet (at self.old.memory.now) (at self.new.memory.now)
             self.old.place.segment (length value.now)) }
@@ -212,14 +211,14 @@ impl<'a, A: BuilderArena> PointerBuilder<'a, A> {
     ///
     /// It is refused with `SizeOverflow` just where the bytes with the zero byte or the message's words, a pad counted, would pass 2^29 - 1, else as the allocator refuses; then all stands as it was.
     pub fn set_text(&mut self, value: &[u8]) -> Result<()>
-        requires there { is_some (words_at (words_in (A.segments self.old.memory.now.arena))
-            (place_view self.old.place) 1) ≡ true }
+        requires there { HasWords (A.segments self.old.memory.now.arena) self.old.place 1 }
         requires near { self.old.place.position < 2 ^ 61 }
         ensures same { (self.new.memory.ghost_name ≡ self.old.memory.ghost_name)
             × (self.new.place ≡ self.old.place) }
         ensures made { let at = state_of A.segments A.room A.books in OnOk result
             (Makes (at self.old.memory.now) (at self.new.memory.now) self.old.place
-            (plain_list 2 (length value.now + 1) (number_of 8 value.now)) (words_for (8 * (length value.now + 1)))) }
+            (plain_list 2 (length value.now + 1) (number_of 8 value.now))
+            (words_for (8 * (length value.now + 1)))) }
         ensures refused { let at = state_of A.segments A.room A.books in IfErr result
             (BytesNotSet (at self.old.memory.now) (at self.new.memory.now)
             self.old.place.segment (length value.now + 1)) }

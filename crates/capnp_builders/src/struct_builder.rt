@@ -1,11 +1,11 @@
 //! Structs that are built.
-ghost use Rattle.std.specs.Prelude.{◌≡◌, ◌+◌, ◌*◌, ◌<◌, ◌≤◌, ◌^◌, ◌==◌, ℕ, true, bit_xor, length, map};
+ghost use Rattle.std.specs.Prelude.{◌≡◌, ◌+◌, ◌*◌, ◌<◌, ◌≤◌, ◌^◌, ◌==◌, bit_xor, length, map};
 ghost use Rattle.std.specs.Borrow.{sem};
-ghost use Rattle.std.specs.Option.{is_some};
-ghost use Rattle.capnp_model.specs.Segments.{after, words_at};
+ghost use Rattle.capnp_model.specs.Segments.{after};
 ghost use Rattle.capnp_units.specs.Segments.{words_in};
 ghost use Rattle.capnp_wire.specs.Places.{place_view};
 ghost use Rattle.capnp_wire.specs.Views.{bit_of_bool, seen_struct, struct_at};
+ghost use Rattle.capnp_copy.specs.States.{HasWords};
 ghost use Rattle.capnp_copy.specs.Structs.{HasBits, SetsBits};
 
 use crate::pointer_builder::PointerBuilder;
@@ -19,8 +19,7 @@ use capnp_wire::structs::StructReader;
 
 /// The struct at a place, to read.
 fn read_at<'a, A: BuilderArena>(arena: &'a A, place: StructPlace) -> StructReader<'a, A>
-    requires there { is_some (words_at (words_in (A.segments arena.now)) (place_view place.start)
-        place.data_words) ≡ true }
+    requires there { HasWords (A.segments arena.now) place.start place.data_words }
     requires near { place.start.position + (place.data_words + place.pointers) < 2 ^ 61 }
     ensures { seen_struct A.segments result
         ≡ struct_at (A.segments arena.now) (A.nesting arena.now) (place_view place.start)
@@ -52,8 +51,8 @@ impl<'a, A: BuilderArena> StructBuilder<'a, A> {
 
     /// The struct to read. Its pointers are followed under the arena's nesting limit.
     pub fn as_reader(&self) -> StructReader<'_, A>
-        requires there { is_some (words_at (words_in (A.segments self.now.memory.now.arena))
-            (place_view self.now.place.start) self.now.place.data_words) ≡ true }
+        requires there { HasWords (A.segments self.now.memory.now.arena)
+            self.now.place.start self.now.place.data_words }
         requires near { self.now.place.start.position +
             (self.now.place.data_words + self.now.place.pointers) < 2 ^ 61 }
         ensures { seen_struct A.segments result
@@ -66,8 +65,8 @@ impl<'a, A: BuilderArena> StructBuilder<'a, A> {
 
     /// The same, of which no handle to write is left.
     pub fn into_reader(self) -> StructReader<'a, A>
-        requires there { is_some (words_at (words_in (A.segments self.memory.now.arena))
-            (place_view self.place.start) self.place.data_words) ≡ true }
+        requires there { HasWords (A.segments self.memory.now.arena)
+            self.place.start self.place.data_words }
         requires near { self.place.start.position + (self.place.data_words + self.place.pointers)
             < 2 ^ 61 }
         ensures { seen_struct A.segments result
@@ -86,14 +85,11 @@ impl<'a, A: BuilderArena> StructBuilder<'a, A> {
         requires inside { ptr_index < self.place.pointers }
         ensures same { result.memory.ghost_name ≡ self.entry.memory.ghost_name }
         ensures now { result.memory.now ≡ self.entry.memory.now }
-        ensures place { place_view result.place
-            ≡ after (after (place_view self.entry.place.start) self.entry.place.data_words)
-            ptr_index }
-        ensures there { is_some (words_at (words_in (A.segments self.entry.memory.now.arena))
-            (place_view self.entry.place.start)
-            (self.entry.place.data_words + self.entry.place.pointers)) ≡ true
-            → is_some (words_at (words_in (A.segments result.memory.now.arena))
-            (place_view result.place) 1) ≡ true }
+        ensures place { let o = self.entry.place in place_view result.place
+            ≡ after (after (place_view o.start) o.data_words) ptr_index }
+        ensures there { HasWords (A.segments self.entry.memory.now.arena) self.entry.place.start
+            (self.entry.place.data_words + self.entry.place.pointers)
+            → HasWords (A.segments result.memory.now.arena) result.place 1 }
         ensures near { result.place.position < 2 ^ 61 }
     {
         let StructBuilder { memory, place } = self;
@@ -152,8 +148,8 @@ impl<'a, A: BuilderArena> StructBuilder<'a, A> {
 
     /// Writes a number of the data section, counted in its own width. The field lies in the section; its neighbours keep their bits.
     pub fn set_data_field<T: Primitive>(&mut self, offset: ElementCount, value: T)
-        requires there { is_some (words_at (words_in (A.segments self.old.memory.now.arena))
-            (place_view self.old.place.start) self.old.place.data_words) ≡ true }
+        requires there { HasWords (A.segments self.old.memory.now.arena)
+            self.old.place.start self.old.place.data_words }
         requires near { self.old.place.start.position < 2 ^ 61 }
         requires inside { T.BYTES * offset + T.BYTES ≤ 8 * self.old.place.data_words }
         ensures same { self.new.memory.ghost_name ≡ self.old.memory.ghost_name }
@@ -178,8 +174,8 @@ impl<'a, A: BuilderArena> StructBuilder<'a, A> {
         value: T,
         mask: T::T,
     )
-        requires there { is_some (words_at (words_in (A.segments self.old.memory.now.arena))
-            (place_view self.old.place.start) self.old.place.data_words) ≡ true }
+        requires there { HasWords (A.segments self.old.memory.now.arena)
+            self.old.place.start self.old.place.data_words }
         requires near { self.old.place.start.position < 2 ^ 61 }
         requires inside { T.BYTES * offset + T.BYTES ≤ 8 * self.old.place.data_words }
         ensures same { self.new.memory.ghost_name ≡ self.old.memory.ghost_name }
@@ -196,8 +192,8 @@ impl<'a, A: BuilderArena> StructBuilder<'a, A> {
 
     /// Writes a bit of the data section, counted in bits. The field lies in the section; its neighbours keep their bits.
     pub fn set_bool_field(&mut self, offset: ElementCount, value: bool)
-        requires there { is_some (words_at (words_in (A.segments self.old.memory.now.arena))
-            (place_view self.old.place.start) self.old.place.data_words) ≡ true }
+        requires there { HasWords (A.segments self.old.memory.now.arena)
+            self.old.place.start self.old.place.data_words }
         requires near { self.old.place.start.position < 2 ^ 61 }
         requires inside { offset < 64 * self.old.place.data_words }
         ensures same { self.new.memory.ghost_name ≡ self.old.memory.ghost_name }
@@ -216,8 +212,8 @@ impl<'a, A: BuilderArena> StructBuilder<'a, A> {
 
     /// The same, exclusive or the field's default.
     pub fn set_bool_field_mask(&mut self, offset: ElementCount, value: bool, mask: bool)
-        requires there { is_some (words_at (words_in (A.segments self.old.memory.now.arena))
-            (place_view self.old.place.start) self.old.place.data_words) ≡ true }
+        requires there { HasWords (A.segments self.old.memory.now.arena)
+            self.old.place.start self.old.place.data_words }
         requires near { self.old.place.start.position < 2 ^ 61 }
         requires inside { offset < 64 * self.old.place.data_words }
         ensures same { self.new.memory.ghost_name ≡ self.old.memory.ghost_name }

@@ -1,15 +1,13 @@
 //! What a pointer can be set to.
-ghost use Rattle.std.specs.Prelude.{◌≡◌, ◌+◌, ◌*◌, ◌<◌, ◌≤◌, ◌^◌, ◌↔◌, ◌⊎◌, ℕ, true, length, string_bytes, IfOk, IfErr, OnOk, OnErr};
-ghost use Rattle.std.specs.Option.{is_some};
-ghost use Rattle.capnp_model.specs.Sections.{number_of, words_for};
-ghost use Rattle.capnp_model.specs.Segments.{words_at};
+ghost use Rattle.std.specs.Prelude.{◌≡◌, ◌+◌, ◌<◌, ◌^◌, ◌↔◌, ℕ, length, string_bytes, IfErr, OnOk, OnErr};
+ghost use Rattle.capnp_model.specs.Sections.{number_of};
 ghost use Rattle.capnp_model.specs.Trees.{Tree, plain_list};
-ghost use Rattle.capnp_units.specs.Segments.{words_in};
 ghost use Rattle.capnp_units.specs.declared.kinds.ErrorKind.TheVariants.{SizeOverflow};
-ghost use Rattle.capnp_wire.specs.Places.{place_view};
 ghost use Rattle.capnp_copy.specs.Allocations.{total_words};
+ghost use Rattle.capnp_copy.specs.Inits.{BecomesAt};
+ghost use Rattle.capnp_copy.specs.States.{HasWords};
 ghost use Rattle.capnp_builders.specs.Inputs.{IsTooLong};
-ghost use Rattle.capnp_copy.specs.Values.{Becomes};
+ghost use Rattle.capnp_builders.specs.Making.{state_of, memory_words};
 
 use crate::pointer_builder::PointerBuilder;
 use capnp_copy::arena::BuilderArena;
@@ -33,20 +31,16 @@ pub trait SetterInput<T>: Sized {
         value: Self,
         canonicalize: bool,
     ) -> Result<()>
-        requires there { is_some (words_at (words_in (A.segments builder.memory.now.arena))
-            (place_view builder.place) 1) ≡ true }
+        requires there { HasWords (A.segments builder.memory.now.arena) builder.place 1 }
         requires near { builder.place.position < 2 ^ 61 }
         ensures books { A.books builder.exit.0.now.arena ≡ A.books builder.entry.memory.now.arena }
-        ensures value { OnOk result
-            (Becomes (words_in (A.segments builder.entry.memory.now.arena))
-            (words_in (A.segments builder.exit.0.now.arena)) (place_view builder.entry.place)
+        ensures value { let at = state_of A.segments A.room A.books in OnOk result
+            (BecomesAt (at builder.entry.memory.now) (at builder.exit.0.now) builder.entry.place
             (tree value)) }
         ensures refused { OnErr result
             (A.segments builder.exit.0.now.arena ≡ A.segments builder.entry.memory.now.arena) }
-        ensures kind { IfErr result (λ e.
-            (e.kind ≡ SizeOverflow)
-            ↔ is_too_large value
-            (total_words (words_in (A.segments builder.entry.memory.now.arena)))) };
+        ensures kind { IfErr result (λ e. (e.kind ≡ SizeOverflow) ↔ is_too_large value
+            (total_words (memory_words A.segments builder.entry.memory.now))) };
 }
 
 /// Data are set to these bytes.

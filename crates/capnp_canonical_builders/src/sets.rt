@@ -61,10 +61,10 @@ pub fn set_struct_canonical<A: BuilderArena, B: ReaderArena, C: BuilderArena>(
     requires scratch { HasSlot (words_of C.segments scratch.old) scratch.old.place }
     ensures same { StaysThere builder.old builder.new }
     ensures scratch { StaysThere scratch.old scratch.new }
-    ensures copy { let d = words_of C.segments scratch.new in let k = place_view scratch.old.place in
-        let v = seen_struct B.segments value.entry in ThroughScratch
-        (SetsStruct v (words_of C.segments scratch.old) d k) (level_above v.levels) d k
-        lent.old lent.new (words_of A.segments builder.old) (words_of A.segments builder.new)
+    ensures copy { let d = words_of C.segments scratch.new in
+        let k = place_view scratch.old.place in let v = seen_struct B.segments value.entry in
+        ThroughScratch (SetsStruct v (words_of C.segments scratch.old) d k) (level_above v.levels)
+        d k lent.old lent.new (words_of A.segments builder.old) (words_of A.segments builder.new)
         (place_view builder.old.place) limiter.old result limiter.new }
     ensures books { (A.books builder.new.memory.now.arena ≡ A.books builder.old.memory.now.arena)
         × (C.books scratch.new.memory.now.arena ≡ C.books scratch.old.memory.now.arena) }
@@ -95,10 +95,10 @@ pub fn set_list_canonical<A: BuilderArena, B: ReaderArena, C: BuilderArena>(
     requires scratch { HasSlot (words_of C.segments scratch.old) scratch.old.place }
     ensures same { StaysThere builder.old builder.new }
     ensures scratch { StaysThere scratch.old scratch.new }
-    ensures copy { let d = words_of C.segments scratch.new in let k = place_view scratch.old.place in
-        let v = seen_list B.segments value.entry in ThroughScratch
-        (SetsList v (words_of C.segments scratch.old) d k) (level_above v.levels) d k
-        lent.old lent.new (words_of A.segments builder.old) (words_of A.segments builder.new)
+    ensures copy { let d = words_of C.segments scratch.new in
+        let k = place_view scratch.old.place in let v = seen_list B.segments value.entry in
+        ThroughScratch (SetsList v (words_of C.segments scratch.old) d k) (level_above v.levels)
+        d k lent.old lent.new (words_of A.segments builder.old) (words_of A.segments builder.new)
         (place_view builder.old.place) limiter.old result limiter.new }
     ensures books { (A.books builder.new.memory.now.arena ≡ A.books builder.old.memory.now.arena)
         × (C.books scratch.new.memory.now.arena ≡ C.books scratch.old.memory.now.arena) }

@@ -1,4 +1,4 @@
-use Rattle.std.proofs.Common.{◌≡◌, ℕ, Result, Ok, ap, sym, ◌∙◌}
+use Rattle.std.proofs.Common.{Result, Ok, ap, sym, ◌∙◌}
 use Rattle.capnp_model.specs.Kinds.{Kind}
 use Rattle.capnp_model.specs.Pointers.{a_list}
 use Rattle.capnp_units.specs.declared.sizes.ElementSize.{ElementSize}

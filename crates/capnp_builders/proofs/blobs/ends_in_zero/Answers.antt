@@ -1,4 +1,4 @@
-use Rattle.std.proofs.Common.{◌≡◌, ◌-◌, ◌*◌, ◌/◌, ◌<◌, ℕ, Bool, true, ◌==◌, ◌&&◌, nat_lt, ap, sym, ◌∙◌, arith, rules}
+use Rattle.std.proofs.Common.{◌≡◌, ◌-◌, ◌*◌, ◌<◌, ℕ, Bool, true, ◌==◌, ◌&&◌, nat_lt, ap, sym, ◌∙◌, rules}
 use Rattle.capnp_model.specs.Sections.{words_for, bits_at}
 use Rattle.capnp_units.specs.Segments.{words_in}
 use Rattle.capnp_wire.specs.Places.{place_view}

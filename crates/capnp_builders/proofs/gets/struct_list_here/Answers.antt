@@ -1,4 +1,5 @@
-use Rattle.std.proofs.Common.{◌≡◌, ℕ, List, Option, Result, Ok, Err, IfOk, ap, option_copied}
+use Rattle.std.proofs.Common.{◌≡◌, ℕ, List, Option, Result, Ok, Err, IfOk, ap, option_copied, inl, rules}
+use Rattle.std.proofs.lemmas.Result.{err_from_is_err_and}
 use Rattle.capnp_model.specs.Segments.{Segments}
 use Rattle.capnp_units.specs.declared.sizes.StructSize.{StructSize}
 use Rattle.capnp_units.specs.Segments.{words_in}
@@ -6,9 +7,9 @@ use Rattle.capnp_object.specs.declared.place.Place as code
 use Rattle.capnp_wire.specs.Places.{place_view}
 use Rattle.capnp_copy.specs.declared.init.ListPlace.{ListPlace}
 use Rattle.capnp_widening.specs.MovedElements.{as_structs}
-use Rattle.capnp_widening.specs.WidenedLists.{WidensList, StructsGot, HasWideList}
+use Rattle.capnp_widening.specs.WidenedLists.{WidensList, StructsGot, HasWideList, ListRefused, list_there}
 use Rattle.capnp_builders.specs.Gets.{Begins, StructListGot}
-use Rattle.capnp_builders.proofs.Begun.{Laws, made_then}
+use Rattle.capnp_builders.proofs.Begun.{Laws, made_then, refused_then}
 use Rattle.capnp_builders.proofs.gets.struct_list_here.Goals as goal
 
 got_by : {E : Type 0} (l : Laws) (default : Option (List (List ℕ))) (s m u : Segments) (slot : code.Place) (size : StructSize) → Begins default s m (place_view slot) (Ok tt) → (HasWideList m slot size.data_words size.pointers → u ≡ m) → (r : Result ListPlace E) → IfOk r (λ o. WidensList m u (place_view slot) size.data_words size.pointers) → IfOk r (StructsGot m u slot size.data_words size.pointers) → IfOk r (StructListGot default s u slot size)
@@ -22,8 +23,8 @@ got_by l default s m u slot size b stays (Ok x) w o =
       list = o;
     }
 
-pub returns-clause-got : goal.returns-clause-got
-returns-clause-got g c =
+pub returns : goal.returns
+returns g c =
     let s : Segments = words_in (g.A.ReaderArena.segments c.args.arena.now) in
     let m : Segments = words_in (g.A.ReaderArena.segments c.begin.new.arena) in
     let u : Segments = words_in (g.A.ReaderArena.segments c.get_struct_list.new.arena) in
@@ -35,4 +36,14 @@ returns-clause-got g c =
       more_replaced = c.changes_with_more_levels.ensures.replaced;
     } in
     let e = c.get_struct_list.ensures in
-    got_by laws (option_copied c.args.default) s m u c.args.slot c.args.size c.in_ok-begin.ensures.begins (λ wide. ap words_in (e.wide wide)) c.get_struct_list.result e.value e.list
+    record {
+      got = got_by laws (option_copied c.args.default) s m u c.args.slot c.args.size c.in_ok-begin.ensures.begins (λ wide. ap words_in (e.wide wide)) c.get_struct_list.result e.value e.list;
+      refused = refused_then (option_copied c.args.default) s (g.A.ReaderArena.segments c.begin.new.arena) (g.A.ReaderArena.segments c.get_struct_list.new.arena) (place_view c.args.slot) (λ x. ListRefused x (place_view c.args.slot) (list_there x c.args.slot) c.args.size.data_words c.args.size.pointers) c.in_ok-begin.ensures.begins c.get_struct_list.result e.refused e.kind;
+      books = search rules;
+    }
+
+pub returns-in_err-begin : goal.returns-in_err-begin
+returns-in_err-begin g c =
+    let p = err_from_is_err_and c.from_residual.result c.from_residual.ensures.1 in
+    let e = c.in_err-begin.ensures in
+    rw (p.1, p.2) (record { got = tt; refused = inl e.begins; books = e.books })

@@ -1,15 +1,17 @@
-use Rattle.std.proofs.Common.{◌≡◌, ℕ, ◌≤◌, List, Option, Result, Ok, Err, IfOk, ap, sym, ◌∙◌, subst, option_copied}
+use Rattle.std.proofs.Common.{◌≡◌, ℕ, ◌≤◌, List, Option, Result, Ok, Err, IfOk, ap, sym, ◌∙◌, subst, option_copied, inl, rules}
+use Rattle.std.proofs.lemmas.Result.{err_from_is_err_and}
 use Rattle.capnp_model.specs.Segments.{Segments, Place}
 use Rattle.capnp_model.specs.Trees.{widened}
 use Rattle.capnp_units.specs.declared.sizes.StructSize.{StructSize}
 use Rattle.capnp_units.specs.Segments.{words_in}
+use Rattle.capnp_object.specs.Objects.{object_at}
 use Rattle.capnp_wire.specs.Places.{place_view}
 use Rattle.capnp_copy.specs.Structs.{struct_at}
 use Rattle.capnp_copy.specs.Values.{LeadsTo}
 use Rattle.capnp_copy.specs.declared.fields.StructPlace.{StructPlace}
-use Rattle.capnp_widening.specs.Widened.{Widens, IsWide}
+use Rattle.capnp_widening.specs.Widened.{Widens, IsWide, StructRefused}
 use Rattle.capnp_builders.specs.Gets.{Begins, StructGot}
-use Rattle.capnp_builders.proofs.Begun.{Laws, made_then, wide_stays}
+use Rattle.capnp_builders.proofs.Begun.{Laws, made_then, refused_then, wide_stays}
 use Rattle.capnp_builders.proofs.gets.struct_or_default.Goals as goal
 
 got_by : {E : Type 0} (l : Laws) (default : Option (List (List ℕ))) (s m u : Segments) (p : Place) (size : StructSize) → Begins default s m p (Ok tt) → (IsWide m p size.data_words size.pointers → u ≡ m) → (r : Result StructPlace E) → IfOk r (λ o. Widens m u p size.data_words size.pointers) → IfOk r (λ o. LeadsTo u p (struct_at o)) → IfOk r (λ o. (size.data_words ≤ o.data_words) × (size.pointers ≤ o.pointers)) → IfOk r (StructGot default s u p size)
@@ -25,8 +27,8 @@ got_by l default s m u p size b stays (Ok x) w o z =
       enough = z;
     }
 
-pub returns-clause-got : goal.returns-clause-got
-returns-clause-got g c =
+pub returns : goal.returns
+returns g c =
     let s : Segments = words_in (g.A.ReaderArena.segments c.args.arena.now) in
     let m : Segments = words_in (g.A.ReaderArena.segments c.begin.new.arena) in
     let u : Segments = words_in (g.A.ReaderArena.segments c.get_struct.new.arena) in
@@ -38,4 +40,16 @@ returns-clause-got g c =
       more_replaced = c.changes_with_more_levels.ensures.replaced;
     } in
     let e = c.get_struct.ensures in
-    got_by laws (option_copied c.args.default) s m u (place_view c.args.slot) c.args.size c.in_ok-begin.ensures.begins (λ wide. ap words_in (e.wide wide)) c.get_struct.result e.value e.object e.size
+    record {
+      got = got_by laws (option_copied c.args.default) s m u (place_view c.args.slot) c.args.size c.in_ok-begin.ensures.begins (λ wide. ap words_in (e.wide wide)) c.get_struct.result e.value e.object e.size;
+      there = e.there;
+      near = e.near;
+      refused = refused_then (option_copied c.args.default) s (g.A.ReaderArena.segments c.begin.new.arena) (g.A.ReaderArena.segments c.get_struct.new.arena) (place_view c.args.slot) (λ x. StructRefused x (object_at x (place_view c.args.slot)) c.args.size.data_words c.args.size.pointers) c.in_ok-begin.ensures.begins c.get_struct.result e.refused e.kind;
+      books = search rules;
+    }
+
+pub returns-in_err-begin : goal.returns-in_err-begin
+returns-in_err-begin g c =
+    let p = err_from_is_err_and c.from_residual.result c.from_residual.ensures.1 in
+    let e = c.in_err-begin.ensures in
+    rw (p.1, p.2) (record { got = tt; there = tt; near = tt; refused = inl e.begins; books = e.books })

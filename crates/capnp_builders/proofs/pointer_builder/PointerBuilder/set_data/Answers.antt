@@ -1,4 +1,4 @@
-use Rattle.std.proofs.Common.{◌+◌, ◌*◌, length}
+use Rattle.std.proofs.Common.{◌*◌, length}
 use Rattle.capnp_model.specs.Sections.{number_of, words_for}
 use Rattle.capnp_model.specs.Trees.{plain_list}
 use Rattle.capnp_builders.specs.Making.{state_of}

@@ -1,4 +1,4 @@
-use Rattle.std.proofs.Common.{ℕ, List, ◌+◌, ◌≡◌, length, string_bytes, OnOk, subst, rules}
+use Rattle.std.proofs.Common.{ℕ, List, ◌+◌, ◌≡◌, length, OnOk, subst, rules}
 use Rattle.capnp_model.specs.Sections.{number_of}
 use Rattle.capnp_model.specs.Trees.{plain_list}
 use Rattle.capnp_units.specs.Segments.{words_in}
