@@ -333,6 +333,7 @@ fn structs_end<A: ReaderArena>(
 
 /// Where the words end of what the pointers in a row lead to, if they stand from the head on.
 #[cycle(check)]
+#[inline(always)]
 fn row_end<A: ReaderArena>(
     arena: &A,
     limiter: &mut ReadLimiter,

@@ -284,6 +284,7 @@ pub(crate) fn pointer_to_cut(gap: usize, cut: Cut) -> u64
 
 /// Writes the pointers in a row over the words from a place on, and what they lead to behind the words that are used.
 #[cycle(write)]
+#[inline(always)]
 fn write_row<A: ReaderArena>(
     arena: &A,
     limiter: &mut ReadLimiter,

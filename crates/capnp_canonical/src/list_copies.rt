@@ -18,6 +18,7 @@ use capnp_units::errors::Result;
 use capnp_units::sizes::{ElementSize, Word, data_bits_per_element};
 
 /// Writes the pointer to a list of plain elements, and the list behind the words that are used. The bits behind its last element are 0.
+#[inline(always)]
 pub(crate) fn write_list<A: ReaderArena>(
     arena: &A,
     start: Place,

@@ -24,6 +24,7 @@ use capnp_units::sizes::{ElementSize, data_bits_per_element};
 pub(crate) const REACH: usize = 0x2000_0000;
 
 /// Where the words of a list of plain elements end, if the pointer at a place leads to it and it stands from the head on. The bits behind its last element are 0 there.
+#[inline(always)]
 pub(crate) fn list_end<A: ReaderArena>(
     arena: &A,
     place: Place,
@@ -61,6 +62,7 @@ pub(crate) fn list_end<A: ReaderArena>(
 }
 
 /// The same of a near list, however far the head is.
+#[inline(always)]
 pub(crate) fn near_list_end<A: ReaderArena>(
     arena: &A,
     place: Place,

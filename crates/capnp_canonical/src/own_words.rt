@@ -52,6 +52,7 @@ fn more_needed<A: ReaderArena>(arena: &A, start: Place, count: u16, most: u16) -
 }
 
 /// The most words that any of so many parts needs, each of so many words and so far from the next. Where a part needs all of them no other is looked at.
+#[inline(always)]
 pub(crate) fn most_needed<A: ReaderArena>(
     arena: &A,
     start: Place,
