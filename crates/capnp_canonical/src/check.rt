@@ -11,16 +11,22 @@ ghost use Rattle.capnp_canonical.specs.Checks.{TestsValue, TestsObject, TestsRow
 use crate::copy::{cut_of, pointer_to_cut};
 use crate::follow::{follow_near_list, follow_near_struct};
 use crate::heads::{ROOT, is_behind, move_on};
-use crate::list_ends::{REACH, list_end, near_list_end};
+use crate::list_ends::{REACH, list_end};
 use crate::own_words::{are_words, word_or_zero};
 use crate::words::{pointer_to_list, pointer_to_struct};
 use capnp_object::arena::ReaderArena;
 use capnp_object::follow::follow_within;
+use capnp_object::lists::NearList;
 use capnp_object::object::Object;
 use capnp_object::place::{Place, has_words};
 use capnp_units::errors::Result;
 use capnp_units::limiter::ReadLimiter;
 use capnp_units::sizes::StructSize;
+
+/// How many kinds of pointers the lowest two bits of a word have.
+const KINDS: u64 = 4;
+/// The kind of those that lead to a landing pad, as no canonical pointer does.
+const FAR: u64 = 2;
 
 /// Whether the pointer at a place and its value stand as the value's canonical words: at the place is the pointer, and from the head on, a place behind it in its segment, are the words of what it leads to, trimmed. On a yes the head is left behind those words, else where it was.
 ///
@@ -135,7 +141,7 @@ fn value_end<A: ReaderArena>(
         limiter.old result limiter.new }
 {
     if let Some(list) = follow_near_list(arena, limiter, place, levels)? {
-        return Ok(near_list_end(arena, place, list, head));
+        return Ok(list_end(arena, place, list, head));
     }
     if let Some(near) = follow_near_struct(arena, limiter, place, levels)? {
         if head - place.position > REACH {
@@ -190,6 +196,9 @@ fn object_end<A: ReaderArena>(
     if head - place.position > REACH {
         return Ok(None);
     }
+    if word_or_zero(arena, place) % KINDS == FAR {
+        return Ok(None);
+    }
     match object {
         Object::Null => Ok(Some(head)),
         Object::Capability { .. } => Ok(None),
@@ -204,7 +213,10 @@ fn object_end<A: ReaderArena>(
             };
             struct_end(arena, limiter, place, start, size, levels, head)
         }
-        Object::List { start, size, count } => Ok(list_end(arena, place, start, size, count, head)),
+        Object::List { start, size, count } => {
+            let list = NearList::new(start, size, count);
+            Ok(list_end(arena, place, list, head))
+        }
         Object::PointerList { start, count } => {
             pointers_end(arena, limiter, place, start, count, levels, head)
         }

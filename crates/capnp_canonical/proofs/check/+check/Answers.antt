@@ -16,14 +16,16 @@ use Rattle.capnp_object.specs.declared.object.Object.{Object}
 use Rattle.capnp_object.specs.declared.object.Object.TheVariants as object
 use Rattle.capnp_units.specs.declared.limiter.ReadLimiter.{ReadLimiter}
 use Rattle.capnp_object.specs.Places.{place_view}
-use Rattle.capnp_object.specs.Near.{list_object, struct_object}
+use Rattle.capnp_object.specs.Near.{list_object, struct_object, IsMeasured, IsNear}
 use Rattle.capnp_object.specs.Follow.{FollowsWithin}
 use Rattle.capnp_object.specs.Objects.{AreThere}
 use Rattle.capnp_object.specs.Inside.{section_at, words_there, tree_in, met_in}
 use Rattle.capnp_object.proofs.Measuring.{unfollowed_at}
 use Rattle.capnp_canonical.specs.Standing.{Stands, StandEach, StandElements, segment_words, IsSmall, HasHead, LeadsTo}
 use Rattle.capnp_canonical.specs.Checks.{TestsObject, TestsElements}
+use Rattle.capnp_canonical.specs.Objects.{IsShort}
 use Rattle.capnp_canonical.proofs.Checking.{refused_is, differs_at}
+use Rattle.capnp_canonical.proofs.NearPlaces.{far_differs, near_leads}
 use Rattle.capnp_canonical.proofs.CheckedRows.{row_begun, row_next, row_differs, row_stopped, row_ended}
 use Rattle.capnp_canonical.proofs.CheckedElements.{elements_begun, elements_next, elements_differ, elements_stopped, elements_ended, plain_elements}
 use Rattle.capnp_canonical.proofs.Parts.{part_there, front_there}
@@ -139,7 +141,7 @@ value_end-returns-in-Some g t c =
     let k = c.follow_near_list.new.limiter in
     let followed : FollowsWithin n s (place_view c.args.place) c.args.limiter.now (Ok (list_object c.in-Some.list)) k = rw c.in-Some.is at c.in_ok-list.ensures.walked in
     let some = some_left n followed.1 in
-    deep_tests n s (place_view c.args.place) c.args.head (list_object c.in-Some.list) c.args.limiter.now k k (Ok c.near_list_end.result) followed.0 (n - 1) (omega arith) (c.near_list_end.ensures (n - 1) k)
+    deep_tests n s (place_view c.args.place) c.args.head (list_object c.in-Some.list) c.args.limiter.now k k (Ok c.list_end.result) followed.0 (n - 1) (omega arith) (c.list_end.ensures (n - 1) k)
 
 pub value_end-returns-in_err-near : goal.value_end-returns-in_err-near
 value_end-returns-in_err-near g t c =
@@ -187,13 +189,14 @@ value_end-returns-in-Some-2 g t c =
     let some = some_left n followed.1 in
     deep_tests n s p c.args.head o l k c.struct_end.new.limiter c.struct_end.result followed.0 (n - 1) (omega arith) c.struct_end.ensures
 
-pub value_end-near_list_end-requires : goal.value_end-near_list_end-requires
-value_end-near_list_end-requires g t c =
+pub value_end-list_end-requires : goal.value_end-list_end-requires
+value_end-list_end-requires g t c =
     let s : Segments = words_in (g.A.ReaderArena.segments c.args.arena.now) in
     let k = c.follow_near_list.new.limiter in
     let followed : FollowsWithin c.args.levels s (place_view c.args.place) c.args.limiter.now (Ok (list_object c.in-Some.list)) k = rw c.in-Some.is at c.in_ok-list.ensures.walked in
     let pays = followed.0 in
-    record { inside = pays.inside; short = short_at s (place_view c.args.place) (list_object c.in-Some.list) c.args.limiter.now k pays; leads = (pays.pads, pays.is); head = c.requires }
+    let near : IsNear s (place_view c.args.place) (list_object c.in-Some.list) × IsMeasured c.in-Some.list = rw c.in-Some.is at c.in_ok-list.ensures.near in
+    record { near = near.0; measured = near.1; short = short_at s (place_view c.args.place) (list_object c.in-Some.list) c.args.limiter.now k pays; head = c.requires }
 
 pub any_end-returns-in_err-object : goal.any_end-returns-in_err-object
 any_end-returns-in_err-object g t c =
@@ -239,6 +242,23 @@ object_end-returns-then-head-place-gt-REACH g t c =
     differs_at (tree_in s (tree_at n s) o) has_capability (λ u. Stands s p c.args.head (trim u)) (IsSmall s p) (met_in (visits n s) o) c.args.limiter.now
     (λ small u end is clean stand. let near = within_reach s p 1 c.args.head small c.requires.head in omega arith)
 
+pub object_end-returns-then-word_or_zero-eq-FAR : goal.object_end-returns-then-word_or_zero-eq-FAR
+object_end-returns-then-word_or_zero-eq-FAR g t c =
+    let s : Segments = words_in (g.A.ReaderArena.segments c.args.arena.now) in
+    let p : Place = place_view c.args.place in
+    let n = c.args.levels in
+    let o = c.args.object in
+    differs_at (tree_in s (tree_at n s) o) has_capability (λ u. Stands s p c.args.head (trim u)) (IsSmall s p) (met_in (visits n s) o) c.args.limiter.now
+    (λ small u end is clean stand. far_differs s p c.args.head c.word_or_zero.result end (trim u) c.word_or_zero.ensures.word c.if-word_or_zero-eq-FAR.true stand)
+
+pub object_end-list_end-requires : goal.object_end-list_end-requires
+object_end-list_end-requires g t c =
+    let s : Segments = words_in (g.A.ReaderArena.segments c.args.arena.now) in
+    let p : Place = place_view c.args.place in
+    let near = near_leads s p c.args.object c.word_or_zero.result c.requires.leads c.word_or_zero.ensures.word c.if-word_or_zero-eq-FAR.false in
+    let is : c.args.object ≡ list_object c.new-list.result = c.in-List.is ∙ sym c.new-list.ensures.object in
+    record { near = subst (IsNear s p) is (near, c.requires.inside); measured = c.new-list.ensures.measured; short = subst IsShort is c.requires.short; head = c.requires.head }
+
 pub object_end-returns-in-Null : goal.object_end-returns-in-Null
 object_end-returns-in-Null g t c =
     let s : Segments = words_in (g.A.ReaderArena.segments c.args.arena.now) in
@@ -259,7 +279,7 @@ object_end-returns-in-List g t c =
     let s : Segments = words_in (g.A.ReaderArena.segments c.args.arena.now) in
     let p : Place = place_view c.args.place in
     let l = c.args.limiter.now in
-    subst (λ (o : Object). TestsObject c.args.levels s p c.args.head o l (Ok c.list_end.result) l) (sym c.in-List.is) (c.list_end.ensures c.args.levels l)
+    subst (λ (o : Object). TestsObject c.args.levels s p c.args.head o l (Ok c.list_end.result) l) (sym (c.in-List.is ∙ sym c.new-list.ensures.object)) (c.list_end.ensures c.args.levels l)
 
 pub struct_end-returns-then-word_or_zero-pointer_to_cut : goal.struct_end-returns-then-word_or_zero-pointer_to_cut
 struct_end-returns-then-word_or_zero-pointer_to_cut g t c =
