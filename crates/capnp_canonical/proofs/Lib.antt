@@ -25,6 +25,7 @@ pub mod CheckedElements
 pub mod StandingPlaces
 pub mod StandingObjects
 pub mod NearPlaces
+pub mod NearStructs
 pub mod StandingLists
 pub mod StandingValues
 pub mod Telling

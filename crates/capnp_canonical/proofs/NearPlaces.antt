@@ -268,6 +268,7 @@ module _ (s : Segments) (p : Place) (head : ℕ) (whole_words : AreWords (segmen
       pub small : offset < 2 ^ 30
       pub begin : begins (after p 1) offset ≡ Ok (place_view start)
       pub word : w ≡ struct_pointer offset d k
+      pub narrow : (d < 2 ^ 16) × (k < 2 ^ 16)
 
     told : Told
     told = by (bits_at 0 2 w) refl (near_says s p (object.Struct start d k) w tt e there)
@@ -283,6 +284,7 @@ module _ (s : Segments) (p : Place) (head : ℕ) (whole_words : AreWords (segmen
               small = offset_small w;
               begin = x.1 ∙ ap (λ (r : Place). Ok r) (sym is.0);
               word = struct_word_of w (word_small s p w whole_words there) kind ∙ ap (λ (j : ℕ). struct_pointer offset j b) (sym is.1) ∙ ap (struct_pointer offset d) (sym is.2);
+              narrow = let d_is = is.1 in let k_is = is.2 in (omega arith, omega arith);
             }
         by (suc zero) kind x =
             let a = bind_ok (ok_or (words_at s x.0 (list_words (list_kind (bits_at 32 3 w)) (bits_at 32 3 w) (bits_at 35 29 w))) OutOfBounds) _ (object.Struct start d k) x.2 in
@@ -293,6 +295,9 @@ module _ (s : Segments) (p : Place) (head : ℕ) (whole_words : AreWords (segmen
             no_struct of_pointers q ws e = absurd cc
             no_struct of_structs q ws e = let t = bind_ok (tag_in ws) _ (object.Struct start d k) e in absurd cc
         by (suc (suc k)) kind x = absurd x
+
+    pub struct_narrow : (d < 2 ^ 16) × (k < 2 ^ 16)
+    struct_narrow = let t = told in t.narrow
 
     pub struct_near : (place_view start).position ≡ head → p.position + 1 ≤ head → (word_at s p ≡ Some (struct_pointer (head - p.position - 1) d k)) × (place_view start ≡ place p.segment head)
     struct_near here less =
