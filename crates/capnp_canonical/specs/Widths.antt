@@ -19,6 +19,11 @@ abbrev pub widest : (Place → ℕ) → Place → ℕ → ℕ → ℕ
 widest needed p width zero = 0
 widest needed p width (suc n) = max (needed p) (widest needed (after p width) width n)
 
+-- The last of so many words is no zero, where there is one: as data all of them are needed, as pointers all are kept.
+pub record NeedsAll (s : Segments) (p : Place) (n : ℕ) : Type 0 where
+  pub needed : needed_words n (section_at s p n) ≡ n
+  pub all_kept : kept (words_there s p n) ≡ n
+
 -- A struct of so many words and pointers can't do with fewer.
 abbrev pub IsLeast : Segments → Place → ℕ → ℕ → Type 0
 IsLeast s p d k = (needed_words d (section_at s p d) ≡ d) × (kept (words_there s (after p d) k) ≡ k)

@@ -11,7 +11,7 @@ ghost use Rattle.capnp_object.specs.Inside.{section_at, words_there};
 ghost use Rattle.capnp_canonical.specs.Copies.{Behind};
 ghost use Rattle.capnp_canonical.specs.Standing.{segment_words};
 ghost use Rattle.capnp_canonical.specs.Writes.{words_view, with_words};
-ghost use Rattle.capnp_canonical.specs.Widths.{kept, widest, IsLeast};
+ghost use Rattle.capnp_canonical.specs.Widths.{kept, widest, NeedsAll, IsLeast};
 
 use capnp_object::arena::ReaderArena;
 use capnp_object::place::{Place, word_at};
@@ -52,6 +52,30 @@ fn more_needed<A: ReaderArena>(arena: &A, start: Place, count: u16, most: u16) -
     most
 }
 
+/// Whether the last of so many words is no zero, where there is one.
+#[inline(always)]
+fn needs_all<A: ReaderArena>(arena: &A, start: Place, count: u16) -> bool
+    requires { AreThere (words_in (A.segments arena.now)) (place_view start) count }
+    ensures all { let s = words_in (A.segments arena.now) in
+        OnTrue result (NeedsAll s (place_view start) count) }
+    ensures words { let s = words_in (A.segments arena.now) in OnFalse result
+        (needed_words count (section_at s (place_view start) count) ≡ count → ⊥) }
+    ensures pointers { let s = words_in (A.segments arena.now) in OnFalse result
+        (kept (words_there s (place_view start) count) ≡ count → ⊥) }
+{
+    if count == 0 {
+        return true;
+    }
+    let last = Place {
+        segment: start.segment,
+        position: start.position + (count - 1) as usize,
+    };
+    if word_or_zero(arena, last) == 0 {
+        return false;
+    }
+    true
+}
+
 /// Whether a struct can't do with fewer words or pointers: neither its last data word nor its last pointer is 0.
 #[inline(always)]
 pub(crate) fn is_least<A: ReaderArena>(arena: &A, start: Place, size: StructSize) -> bool
@@ -62,15 +86,14 @@ pub(crate) fn is_least<A: ReaderArena>(arena: &A, start: Place, size: StructSize
     ensures less { OnFalse result (IsLeast (words_in (A.segments arena.now)) (place_view start)
         size.data_words size.pointers → ⊥) }
 {
-    let (words, pointers) = (size.data_words, size.pointers);
     let first = Place {
         segment: start.segment,
-        position: start.position + words as usize,
+        position: start.position + size.data_words as usize,
     };
-    if more_needed(arena, start, words, words.saturating_sub(1)) != words {
+    if !needs_all(arena, start, size.data_words) {
         return false;
     }
-    if more_needed(arena, first, pointers, pointers.saturating_sub(1)) != pointers {
+    if !needs_all(arena, first, size.pointers) {
         return false;
     }
     true
