@@ -24,6 +24,8 @@ pub mod CheckedRows
 pub mod CheckedElements
 pub mod StandingPlaces
 pub mod StandingObjects
+pub mod NearPlaces
+pub mod NearStructs
 pub mod StandingLists
 pub mod StandingValues
 pub mod Telling

@@ -56,18 +56,23 @@ word_matches s p r x w e is same = e ∙ ap (λ (v : ℕ). Some v) (ap (λ (o : 
 pub word_differs : (s : Segments) (p : Place) (r x : ℕ) → r ≡ unwrap_or (word_at s p) 0 → (r ≡ x → ⊥) → word_at s p ≡ Some x → ⊥
 word_differs s p r x is apart e = apart (is ∙ ap (λ (o : Option ℕ). unwrap_or o 0) e)
 
--- a word of a pointer has no room for so large a count
 word_bound : (ws : List ℕ) (i w : ℕ) → AreWords ws → slice_get ws i ≡ Some w → w < 2 ^ 64
 word_bound [] i w h e = absurd cc
 word_bound (v ∷ ws) zero w h e = subst (λ (x : ℕ). x < 2 ^ 64) (some_is _ _ e) h.0
 word_bound (v ∷ ws) (suc i) w h e = word_bound ws i w h.1 e
 
-pub wide_pointer : (s : Segments) (p : Place) (gap z n : ℕ) → AreWords (segment_words s p.segment) → 2 ^ 29 ≤ n → word_at s p ≡ Some (list_pointer gap z n) → ⊥
+-- a word of words of 64 bits
+pub word_small : (s : Segments) (p : Place) (w : ℕ) → AreWords (segment_words s p.segment) → word_at s p ≡ Some w → w < 2 ^ 64
 unfolding segment_words
-wide_pointer s p gap z n whole large e =
-    let a = bind_some (slice_get s p.segment) _ (list_pointer gap z n) e in
+word_small s p w whole e =
+    let a = bind_some (slice_get s p.segment) _ w e in
     let is : unwrap_or (slice_get s p.segment) [] ≡ a.0 = ap (λ (o : Option (List ℕ)). unwrap_or o []) a.1 in
-    let bound = word_bound a.0 p.position (list_pointer gap z n) (subst AreWords is whole) a.2 in
+    word_bound a.0 p.position w (subst AreWords is whole) a.2
+
+-- a word of a pointer has no room for so large a count
+pub wide_pointer : (s : Segments) (p : Place) (gap z n : ℕ) → AreWords (segment_words s p.segment) → 2 ^ 29 ≤ n → word_at s p ≡ Some (list_pointer gap z n) → ⊥
+wide_pointer s p gap z n whole large e =
+    let bound = word_small s p (list_pointer gap z n) whole e in
     omega arith
 
 -- among so few words each place is within reach

@@ -1,11 +1,13 @@
 -- Canonical words where they stand: a pointer at a place, and from a head on, behind it in its segment, the words of what it points to. (Encoding, "Canonicalization")
-use Rattle.std.specs.Prelude.{◌≡◌, ℕ, ◌+◌, ◌-◌, ◌*◌, ◌^◌, ◌<◌, ◌≤◌, List, [], length, Some, Ok, slice_get, unwrap_or}
+use Rattle.std.specs.Prelude.{◌≡◌, ℕ, ◌+◌, ◌-◌, ◌*◌, ◌%◌, ◌^◌, ◌<◌, ◌≤◌, List, [], length, Some, Ok, slice_get, unwrap_or}
+use Rattle.capnp_model.specs.Sections.{words_for, words_of}
 use Rattle.capnp_model.specs.Segments.{Segments, Place, place, word_at, words_at}
 use Rattle.capnp_model.specs.Spelling.{AreWords}
 use Rattle.capnp_model.specs.Trees.{Tree, Trees, Elements, tree_count, element_count}
 use Rattle.capnp_model.specs.Encoding.{pointer, body, links, bodies, cells, element_bodies}
 use Rattle.capnp_object.specs.declared.object.Object.{Object}
 use Rattle.capnp_object.specs.Objects.{AreThere, object_at}
+use Rattle.capnp_object.specs.Inside.{section_at}
 
 -- The words from a place on begin with these.
 abbrev pub Hold : Segments → Place → List ℕ → Type 0
@@ -52,3 +54,7 @@ pub record Reaches (s : Segments) (p : Place) (head : ℕ) (o : Object) : Type 0
   pub leads : LeadsTo s p o
   pub given : HasHead s p 1 head
   pub near : head ≤ p.position + 2 ^ 29
+
+-- In the words from a place on that hold so many bits, the bits behind those are 0.
+abbrev pub EndsClear : Segments → Place → ℕ → Type 0
+EndsClear s p bits = let section = section_at s p (words_for bits) in words_of (words_for bits) (section % 2 ^ bits) ≡ words_of (words_for bits) section

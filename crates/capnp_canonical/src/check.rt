@@ -3,24 +3,32 @@ ghost use Rattle.std.specs.Prelude.{◌≡◌, ℕ, ◌+◌, ◌*◌, ◌^◌, �
 ghost use Rattle.capnp_units.specs.Segments.{words_in};
 ghost use Rattle.capnp_object.specs.declared.object.Object.TheVariants as seen;
 ghost use Rattle.capnp_object.specs.Places.{place_view};
+ghost use Rattle.capnp_object.specs.Near.{struct_object, IsNear};
 ghost use Rattle.capnp_object.specs.Objects.{AreThere, IsInside};
 ghost use Rattle.capnp_canonical.specs.Objects.{IsShort};
 ghost use Rattle.capnp_canonical.specs.Standing.{HasHead, LeadsTo, Reaches};
 ghost use Rattle.capnp_canonical.specs.Checks.{TestsValue, TestsObject, TestsRow, TestsElements, TellsValue, TellsRow, TellsStruct, TellsMessage};
 
-use crate::copy::{cut_of, pointer_to_cut};
+use crate::copy::cut_of;
 use crate::follow::{follow_near_list, follow_near_struct};
-use crate::heads::{ROOT, is_behind, move_on};
-use crate::list_ends::{REACH, list_end, near_list_end};
-use crate::own_words::{are_words, word_or_zero};
+use crate::heads::{ROOT, is_behind, move_on, struct_start};
+use crate::list_ends::{REACH, list_end};
+use crate::own_words::{are_words, is_least, word_or_zero};
 use crate::words::{pointer_to_list, pointer_to_struct};
 use capnp_object::arena::ReaderArena;
 use capnp_object::follow::follow_within;
+use capnp_object::lists::NearList;
 use capnp_object::object::Object;
 use capnp_object::place::{Place, has_words};
+use capnp_object::structs::NearStruct;
 use capnp_units::errors::Result;
 use capnp_units::limiter::ReadLimiter;
 use capnp_units::sizes::StructSize;
+
+/// How many kinds of pointers the lowest two bits of a word have.
+const KINDS: u64 = 4;
+/// The kind of those that lead to a landing pad, as no canonical pointer does.
+const FAR: u64 = 2;
 
 /// Whether the pointer at a place and its value stand as the value's canonical words: at the place is the pointer, and from the head on, a place behind it in its segment, are the words of what it leads to, trimmed. On a yes the head is left behind those words, else where it was.
 ///
@@ -135,14 +143,10 @@ fn value_end<A: ReaderArena>(
         limiter.old result limiter.new }
 {
     if let Some(list) = follow_near_list(arena, limiter, place, levels)? {
-        return Ok(near_list_end(arena, place, list, head));
+        return Ok(list_end(arena, place, list, head));
     }
     if let Some(near) = follow_near_struct(arena, limiter, place, levels)? {
-        if head - place.position > REACH {
-            return Ok(None);
-        }
-        let below = levels - 1;
-        return struct_end(arena, limiter, place, near.start, near.size, below, head);
+        return struct_end(arena, limiter, place, near, levels - 1, head);
     }
     any_end(arena, limiter, place, levels, head)
 }
@@ -190,6 +194,9 @@ fn object_end<A: ReaderArena>(
     if head - place.position > REACH {
         return Ok(None);
     }
+    if word_or_zero(arena, place) % KINDS == FAR {
+        return Ok(None);
+    }
     match object {
         Object::Null => Ok(Some(head)),
         Object::Capability { .. } => Ok(None),
@@ -202,9 +209,13 @@ fn object_end<A: ReaderArena>(
                 data_words,
                 pointers,
             };
-            struct_end(arena, limiter, place, start, size, levels, head)
+            let near = NearStruct { start, size };
+            struct_end(arena, limiter, place, near, levels, head)
         }
-        Object::List { start, size, count } => Ok(list_end(arena, place, start, size, count, head)),
+        Object::List { start, size, count } => {
+            let list = NearList::new(start, size, count);
+            Ok(list_end(arena, place, list, head))
+        }
         Object::PointerList { start, count } => {
             pointers_end(arena, limiter, place, start, count, levels, head)
         }
@@ -232,28 +243,30 @@ fn struct_end<A: ReaderArena>(
     arena: &A,
     limiter: &mut ReadLimiter,
     place: Place,
-    start: Place,
-    size: StructSize,
+    near: NearStruct,
     levels: u32,
     head: usize,
 ) -> Result<Option<usize>>
-    requires inside { AreThere (words_in (A.segments arena.now)) (place_view start)
-        (size.data_words + size.pointers) }
-    requires link { Reaches (words_in (A.segments arena.now)) (place_view place) head
-        (seen.Struct start size.data_words size.pointers) }
+    requires near { IsNear (words_in (A.segments arena.now)) (place_view place)
+        (struct_object near) }
+    requires head { HasHead (words_in (A.segments arena.now)) (place_view place) 1 head }
     ensures { TestsObject levels (words_in (A.segments arena.now)) (place_view place) head
-        (seen.Struct start size.data_words size.pointers) limiter.old result limiter.new }
+        (struct_object near) limiter.old result limiter.new }
 {
-    let cut = cut_of(arena, start, size.data_words, size.pointers, 1);
-    if word_or_zero(arena, place) != pointer_to_cut(head - place.position - 1, cut) {
+    let data_words = near.size.data_words as usize;
+    let words = data_words + near.size.pointers as usize;
+    if near.start.position != struct_start(place, words, head) {
+        return Ok(None);
+    }
+    if !is_least(arena, near.start, near.size) {
         return Ok(None);
     }
     let first = Place {
-        segment: start.segment,
-        position: start.position + size.data_words as usize,
+        segment: near.start.segment,
+        position: near.start.position + data_words,
     };
-    let behind = head + (size.data_words as usize + size.pointers as usize);
-    row_end(arena, limiter, first, size.pointers as u32, levels, behind)
+    let pointers = near.size.pointers as u32;
+    row_end(arena, limiter, first, pointers, levels, head + words)
 }
 
 /// The same of a list of pointers.
@@ -333,6 +346,7 @@ fn structs_end<A: ReaderArena>(
 
 /// Where the words end of what the pointers in a row lead to, if they stand from the head on.
 #[cycle(check)]
+#[inline(always)]
 fn row_end<A: ReaderArena>(
     arena: &A,
     limiter: &mut ReadLimiter,

@@ -18,6 +18,7 @@ use crate::list_copies::write_list;
 use crate::own_words::{copy_words, most_needed};
 use crate::words::{end_of, pointer_to_list, pointer_to_struct, put};
 use capnp_object::arena::ReaderArena;
+use capnp_object::lists::NearList;
 use capnp_object::object::Object;
 use capnp_object::place::Place;
 use capnp_units::errors::Result;
@@ -69,7 +70,7 @@ fn write_at<A: ReaderArena>(
         into.old limiter.old result into.new limiter.new }
 {
     if let Some(list) = follow_near_list(arena, limiter, place, levels)? {
-        return write_list(arena, list.start, list.size, list.count, into, at, used);
+        return write_list(arena, list, into, at, used);
     }
     if let Some(near) = follow_near_struct(arena, limiter, place, levels)? {
         let StructSize {
@@ -138,7 +139,8 @@ fn write_object<A: ReaderArena>(
             arena, limiter, start, data_words, pointers, levels, into, at, used,
         ),
         Object::List { start, size, count } => {
-            write_list(arena, start, size, count, into, at, used)
+            let list = NearList::new(start, size, count);
+            write_list(arena, list, into, at, used)
         }
         Object::PointerList { start, count } => {
             let end = end_of(into, used, count as usize)?;
@@ -284,6 +286,7 @@ pub(crate) fn pointer_to_cut(gap: usize, cut: Cut) -> u64
 
 /// Writes the pointers in a row over the words from a place on, and what they lead to behind the words that are used.
 #[cycle(write)]
+#[inline(always)]
 fn write_row<A: ReaderArena>(
     arena: &A,
     limiter: &mut ReadLimiter,

@@ -1,12 +1,12 @@
 //! Following pointers of values without capabilities.
-ghost use Rattle.std.specs.Prelude.{◌≡◌, Some, None, MatchResult};
+ghost use Rattle.std.specs.Prelude.{◌≡◌, Some, None, IfOk, IfSome, MatchResult};
 ghost use Rattle.capnp_units.specs.Errors.{kind_of};
 ghost use Rattle.capnp_units.specs.Segments.{words_in};
 ghost use Rattle.capnp_units.specs.Limits.{Spends, Follows};
 ghost use Rattle.capnp_object.specs.Places.{place_view};
 ghost use Rattle.capnp_object.specs.Named.{named_view};
-ghost use Rattle.capnp_object.specs.Follow.{FollowsWithin};
-ghost use Rattle.capnp_object.specs.Near.{list_object, struct_object};
+ghost use Rattle.capnp_object.specs.Follow.{FollowsWithin, own_cost};
+ghost use Rattle.capnp_object.specs.Near.{list_object, struct_object, IsMeasured, IsNear};
 ghost use Rattle.capnp_canonical.specs.Copies.{FollowsData, FollowsNear, fault_of};
 
 use capnp_object::arena::ReaderArena;
@@ -20,6 +20,7 @@ use capnp_object::structs::NearStruct;
 use capnp_units::errors::{Error, Result};
 use capnp_units::kinds::ErrorKind;
 use capnp_units::limiter::ReadLimiter;
+use capnp_units::sizes::ElementSize;
 
 /// Refuses a capability, and an object that takes a level where none is left.
 #[inline(always)]
@@ -63,6 +64,19 @@ pub(crate) fn follow_data<A: ReaderArena>(
     Ok(object)
 }
 
+/// What following a list costs by itself, in words: a list of voids its count.
+#[inline(always)]
+fn list_cost(list: NearList) -> u64
+    requires { IsMeasured list }
+    ensures { result ≡ own_cost (list_object list) }
+{
+    if list.size == ElementSize::Void {
+        list.count as u64
+    } else {
+        list.words as u64
+    }
+}
+
 /// The list that `near_list` tells at a place, on a walk of at most so many levels. It is counted as followed, and the list's words are granted. `None` says nothing of what is there, and nothing was counted.
 ///
 /// It is refused with `ReadLimitExceeded` where the words pass what is left of the limit. Then it is counted all the same, and no word is granted.
@@ -79,6 +93,9 @@ pub(crate) fn follow_near_list<A: ReaderArena>(
     ensures walked { FollowsNear list_object
         (FollowsWithin levels (words_in (A.segments arena.now)) (place_view place))
         limiter.old result limiter.new }
+    ensures near { IfOk result (λ found. IfSome found (λ list.
+        IsNear (words_in (A.segments arena.now)) (place_view place) (list_object list)
+        × IsMeasured list)) }
 {
     if levels == 0 {
         return Ok(None);
@@ -87,11 +104,7 @@ pub(crate) fn follow_near_list<A: ReaderArena>(
         return Ok(None);
     };
     limiter.follow();
-    limiter.charge(own_cost(Object::List {
-        start: list.start,
-        size: list.size,
-        count: list.count,
-    }))?;
+    limiter.charge(list_cost(list))?;
     Ok(Some(list))
 }
 
@@ -111,6 +124,8 @@ pub(crate) fn follow_near_struct<A: ReaderArena>(
     ensures walked { FollowsNear struct_object
         (FollowsWithin levels (words_in (A.segments arena.now)) (place_view place))
         limiter.old result limiter.new }
+    ensures near { IfOk result (λ found. IfSome found (λ near.
+        IsNear (words_in (A.segments arena.now)) (place_view place) (struct_object near))) }
 {
     if levels == 0 {
         return Ok(None);

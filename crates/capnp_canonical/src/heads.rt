@@ -14,6 +14,15 @@ pub(crate) const ROOT: Place = Place {
     position: 0,
 };
 
+/// Where a struct of so many words stands whose pointer is at a place: from the head on, or at its pointer where it has none.
+#[inline(always)]
+pub(crate) fn struct_start(place: Place, words: usize, head: usize) -> usize
+    ensures empty { words ≡ 0 → result ≡ place.position }
+    ensures some { (words ≡ 0 → ⊥) → result ≡ head }
+{
+    if words == 0 { place.position } else { head }
+}
+
 /// Whether a place lies behind another in its segment, at least so many words on.
 #[inline(always)]
 pub(crate) fn is_behind<A: ReaderArena>(arena: &A, place: Place, words: usize, head: Place) -> bool

@@ -1,82 +1,68 @@
 //! Whether lists of plain elements stand as their canonical words.
-ghost use Rattle.std.specs.Prelude.{◌≡◌, ℕ, ◌*◌, ◌^◌, ◌<◌, Ok};
-ghost use Rattle.capnp_model.specs.Sections.{words_for};
+ghost use Rattle.std.specs.Prelude.{◌≡◌, ℕ};
+ghost use Rattle.std.specs.Bool.{OnTrue, OnFalse};
+ghost use Rattle.capnp_model.specs.Spelling.{AreWords};
 ghost use Rattle.capnp_units.specs.Segments.{words_in};
-ghost use Rattle.capnp_units.specs.Sizes.{size_number, data_bits};
 ghost use Rattle.capnp_units.specs.declared.limiter.ReadLimiter.{ReadLimiter};
-ghost use Rattle.capnp_object.specs.declared.object.Object.TheVariants as seen;
 ghost use Rattle.capnp_object.specs.Places.{place_view};
-ghost use Rattle.capnp_object.specs.Near.{list_object};
-ghost use Rattle.capnp_object.specs.Objects.{AreThere, IsInside};
+ghost use Rattle.capnp_object.specs.Near.{list_object, IsMeasured, IsNear};
+ghost use Rattle.capnp_object.specs.Objects.{AreThere};
 ghost use Rattle.capnp_canonical.specs.Objects.{IsShort};
-ghost use Rattle.capnp_canonical.specs.Standing.{HasHead, LeadsTo, Reaches};
+ghost use Rattle.capnp_canonical.specs.Standing.{EndsClear, HasHead, segment_words};
 ghost use Rattle.capnp_canonical.specs.Checks.{TestsObject};
 
 use crate::own_words::word_or_zero;
-use crate::words::pointer_to_list;
 use capnp_object::arena::ReaderArena;
 use capnp_object::lists::NearList;
-use capnp_object::object::words_of_elements;
 use capnp_object::place::Place;
-use capnp_units::sizes::{ElementSize, data_bits_per_element};
 
 /// A message has fewer words than this, and an offset or a count of words reaches no further.
 pub(crate) const REACH: usize = 0x2000_0000;
 
-/// Where the words of a list of plain elements end, if the pointer at a place leads to it and it stands from the head on. The bits behind its last element are 0 there.
-pub(crate) fn list_end<A: ReaderArena>(
-    arena: &A,
-    place: Place,
-    start: Place,
-    size: ElementSize,
-    count: u32,
-    head: usize,
-) -> Option<usize>
-    requires plain { size_number size < 6 }
-    requires inside { AreThere (words_in (A.segments arena.now)) (place_view start)
-        (words_for (data_bits (size_number size) * count)) }
-    requires short { count < 2 ^ 29 }
-    requires link { Reaches (words_in (A.segments arena.now)) (place_view place) head
-        (seen.List start size count) }
-    ensures { (levels : ℕ) (l : ReadLimiter) → TestsObject levels (words_in (A.segments arena.now))
-        (place_view place) head (seen.List start size count) l (Ok result) l }
+/// Whether the bits behind a list's last element are 0.
+#[inline(always)]
+fn ends_clear<A: ReaderArena>(arena: &A, list: NearList) -> bool
+    requires measured { IsMeasured list }
+    requires inside { AreThere (words_in (A.segments arena.now)) (place_view list.start) list.words }
+    requires whole { AreWords
+        (segment_words (words_in (A.segments arena.now)) list.start.segment) }
+    ensures clear { OnTrue result
+        (EndsClear (words_in (A.segments arena.now)) (place_view list.start) list.bits) }
+    ensures spare { OnFalse result
+        (EndsClear (words_in (A.segments arena.now)) (place_view list.start) list.bits → ⊥) }
 {
-    let gap = (head - place.position - 1) as u64;
-    if word_or_zero(arena, place) != pointer_to_list(gap, size.number(), count as u64) {
-        return None;
+    let spare = list.bits % 64;
+    if spare == 0 {
+        return true;
     }
-    let end = start.position + words_of_elements(size, count) as usize;
-    let spare = data_bits_per_element(size) as u64 * count as u64 % 64;
-    if spare != 0 {
-        let last = Place {
-            segment: start.segment,
-            position: end - 1,
-        };
-        let word = word_or_zero(arena, last);
-        if word % (1 << spare) != word {
-            return None;
-        }
-    }
-    Some(end)
+    let last = Place {
+        segment: list.start.segment,
+        position: list.start.position + list.words - 1,
+    };
+    let word = word_or_zero(arena, last);
+    word % (1 << spare) == word
 }
 
-/// The same of a near list, however far the head is.
-pub(crate) fn near_list_end<A: ReaderArena>(
+/// Where the words of a list of plain elements end, if it stands from the head on: the pointer at a place leads to it there, and the bits behind its last element are 0.
+#[inline(always)]
+pub(crate) fn list_end<A: ReaderArena>(
     arena: &A,
     place: Place,
     list: NearList,
     head: usize,
 ) -> Option<usize>
-    requires inside { IsInside (words_in (A.segments arena.now)) (list_object list) }
+    requires near { IsNear (words_in (A.segments arena.now)) (place_view place) (list_object list) }
+    requires measured { IsMeasured list }
     requires short { IsShort (list_object list) }
-    requires leads { LeadsTo (words_in (A.segments arena.now)) (place_view place)
-        (list_object list) }
     requires head { HasHead (words_in (A.segments arena.now)) (place_view place) 1 head }
     ensures { (levels : ℕ) (l : ReadLimiter) → TestsObject levels (words_in (A.segments arena.now))
         (place_view place) head (list_object list) l (Ok result) l }
 {
-    if head - place.position > REACH {
+    if list.start.position != head {
         return None;
     }
-    list_end(arena, place, list.start, list.size, list.count, head)
+    if !ends_clear(arena, list) {
+        return None;
+    }
+    Some(head + list.words)
 }

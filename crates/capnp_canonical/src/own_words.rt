@@ -1,5 +1,6 @@
 //! An object's own words: how many of them are kept, and their copy.
 ghost use Rattle.std.specs.Prelude.{◌≡◌, ◌+◌, ◌*◌, ◌≤◌, ◌<◌, ◌^◌, ◌++◌, ℕ, max, length, take, drop, slice_index, unwrap_or};
+ghost use Rattle.std.specs.Bool.{OnTrue, OnFalse};
 ghost use Rattle.capnp_model.specs.Segments.{after, word_at};
 ghost use Rattle.capnp_model.specs.Sections.{needed_words};
 ghost use Rattle.capnp_model.specs.Spelling.{AreWords};
@@ -10,11 +11,11 @@ ghost use Rattle.capnp_object.specs.Inside.{section_at, words_there};
 ghost use Rattle.capnp_canonical.specs.Copies.{Behind};
 ghost use Rattle.capnp_canonical.specs.Standing.{segment_words};
 ghost use Rattle.capnp_canonical.specs.Writes.{words_view, with_words};
-ghost use Rattle.capnp_canonical.specs.Widths.{kept, widest};
+ghost use Rattle.capnp_canonical.specs.Widths.{kept, widest, NeedsAll, IsLeast};
 
 use capnp_object::arena::ReaderArena;
 use capnp_object::place::{Place, word_at};
-use capnp_units::sizes::Word;
+use capnp_units::sizes::{StructSize, Word};
 
 /// The word at a place, or 0 where there is none.
 #[inline(always)]
@@ -51,7 +52,55 @@ fn more_needed<A: ReaderArena>(arena: &A, start: Place, count: u16, most: u16) -
     most
 }
 
+/// Whether the last of so many words is no zero, where there is one.
+#[inline(always)]
+fn needs_all<A: ReaderArena>(arena: &A, start: Place, count: u16) -> bool
+    requires { AreThere (words_in (A.segments arena.now)) (place_view start) count }
+    ensures all { let s = words_in (A.segments arena.now) in
+        OnTrue result (NeedsAll s (place_view start) count) }
+    ensures words { let s = words_in (A.segments arena.now) in OnFalse result
+        (needed_words count (section_at s (place_view start) count) ≡ count → ⊥) }
+    ensures pointers { let s = words_in (A.segments arena.now) in OnFalse result
+        (kept (words_there s (place_view start) count) ≡ count → ⊥) }
+{
+    if count == 0 {
+        return true;
+    }
+    let last = Place {
+        segment: start.segment,
+        position: start.position + (count - 1) as usize,
+    };
+    if word_or_zero(arena, last) == 0 {
+        return false;
+    }
+    true
+}
+
+/// Whether a struct can't do with fewer words or pointers: neither its last data word nor its last pointer is 0.
+#[inline(always)]
+pub(crate) fn is_least<A: ReaderArena>(arena: &A, start: Place, size: StructSize) -> bool
+    requires { AreThere (words_in (A.segments arena.now)) (place_view start)
+        (size.data_words + size.pointers) }
+    ensures least { OnTrue result (IsLeast (words_in (A.segments arena.now)) (place_view start)
+        size.data_words size.pointers) }
+    ensures less { OnFalse result (IsLeast (words_in (A.segments arena.now)) (place_view start)
+        size.data_words size.pointers → ⊥) }
+{
+    let first = Place {
+        segment: start.segment,
+        position: start.position + size.data_words as usize,
+    };
+    if !needs_all(arena, start, size.data_words) {
+        return false;
+    }
+    if !needs_all(arena, first, size.pointers) {
+        return false;
+    }
+    true
+}
+
 /// The most words that any of so many parts needs, each of so many words and so far from the next. Where a part needs all of them no other is looked at.
+#[inline(always)]
 pub(crate) fn most_needed<A: ReaderArena>(
     arena: &A,
     start: Place,

@@ -51,6 +51,11 @@ whole_plain s q EightBytes n h e = plain_of (words_at s (place_view q) (words_fo
 whole_plain s q OfPointers n h e = absurd (omega arith)
 whole_plain s q InlineComposite n h e = absurd (omega arith)
 
+-- the bits of a list's elements
+abbrev pub bits_of : Object → ℕ
+bits_of (object.List p size n) = data_bits (size_number size) * n
+bits_of _ = 0
+
 -- an object without a pad
 abbrev found_near : model.Object → model.Found
 found_near o = record { pads = 0; object = o }

@@ -1,6 +1,8 @@
 -- Objects in the segment of the pointer to them.
-use Rattle.std.specs.Prelude.{◌≡◌, Ok}
+use Rattle.std.specs.Prelude.{◌≡◌, ◌*◌, Ok}
+use Rattle.capnp_model.specs.Sections.{words_for}
 use Rattle.capnp_model.specs.Segments.{Segments, Place}
+use Rattle.capnp_units.specs.Sizes.{size_number, data_bits}
 use Rattle.capnp_object.specs.declared.lists.NearList.{NearList}
 use Rattle.capnp_object.specs.declared.structs.NearStruct.{NearStruct}
 use Rattle.capnp_object.specs.declared.object.Object.{Object}
@@ -10,6 +12,10 @@ use Rattle.capnp_object.specs.Objects.{object_at, IsInside}
 -- The list as an object.
 abbrev pub list_object : NearList → Object
 list_object l = object.List l.start l.size l.count
+
+-- The bits of a list are those of its elements, and its words hold them.
+abbrev pub IsMeasured : NearList → Type 0
+IsMeasured l = (l.bits ≡ data_bits (size_number l.size) * l.count) × (l.words ≡ words_for l.bits)
 
 -- The struct as an object.
 abbrev pub struct_object : NearStruct → Object

@@ -2,11 +2,10 @@
 ghost use Rattle.std.specs.Prelude.{IfSome};
 ghost use Rattle.capnp_units.specs.Segments.{words_in};
 ghost use Rattle.capnp_object.specs.Places.{place_view};
-ghost use Rattle.capnp_object.specs.Near.{list_object, struct_object, IsNear};
+ghost use Rattle.capnp_object.specs.Near.{list_object, struct_object, IsMeasured, IsNear};
 
 use crate::arena::ReaderArena;
 use crate::lists::NearList;
-use crate::object::words_of_elements;
 use crate::place::{Place, begins_at, reach, word_in};
 use crate::structs::NearStruct;
 use crate::word_pointer::{WordPointer, pointer_of_word};
@@ -20,8 +19,9 @@ const PLAIN_SIZES: u64 = 6;
 /// `None` has no meaning: whatever is there, a list too, `object_at` tells it or refuses it.
 #[inline(always)]
 pub fn near_list<A: ReaderArena>(arena: &A, place: Place) -> Option<NearList>
-    ensures { IfSome result (λ list.
+    ensures near { IfSome result (λ list.
         IsNear (words_in (A.segments arena.now)) (place_view place) (list_object list)) }
+    ensures measured { IfSome result IsMeasured }
 {
     let bytes = arena.get_segment(place.segment)?;
     let word = word_in(bytes, place.position)?;
@@ -43,11 +43,11 @@ pub fn near_list<A: ReaderArena>(arena: &A, place: Place) -> Option<NearList>
     let Ok(start) = begins_at(end, offset) else {
         return None;
     };
-    let words = words_of_elements(size, count) as usize;
-    if !reach(bytes, start.position, words) {
+    let list = NearList::new(start, size, count);
+    if !reach(bytes, start.position, list.words) {
         return None;
     }
-    Some(NearList { start, size, count })
+    Some(list)
 }
 
 /// The struct that the pointer at a place names, where it lies in the same segment, without a landing pad, and its words are there. It is what `object_at` tells of the place, got sooner: the segment is asked for once.

@@ -1,13 +1,13 @@
 -- What each step of the check tells.
-use Rattle.std.proofs.Common.{◌≡◌, ℕ, ◌+◌, ◌-◌, ◌*◌, true, Some, None, Ok, Err, refl, ap, sym, ◌∙◌, subst, arith}
+use Rattle.std.proofs.Common.{◌≡◌, ℕ, ◌+◌, ◌-◌, ◌*◌, true, Some, None, Ok, Err, refl, ap, sym, ◌∙◌, subst, inl, inr, arith}
 use Rattle.std.specs.Option.{is_some}
 use Rattle.std.proofs.lemmas.Result.{err_from_is_err_and}
 use Rattle.capnp_model.specs.Segments.{Segments, Place, place, after, words_at}
-use Rattle.capnp_model.specs.Trees.{structure, has_capability, have_capability, elements_have_capability}
+use Rattle.capnp_model.specs.Trees.{has_capability, have_capability, elements_have_capability}
 use Rattle.capnp_model.specs.Traversal.{tree_at, each, each_element}
 use Rattle.capnp_model.specs.Trimming.{trim, trim_each, trim_elements}
 use Rattle.capnp_model.specs.Coverage.{from_each, from_elements}
-use Rattle.capnp_model.specs.Encoding.{struct_pointer, list_pointer, pointer}
+use Rattle.capnp_model.specs.Encoding.{struct_pointer, list_pointer}
 use Rattle.capnp_model.specs.Spelling.{AreWords}
 use Rattle.capnp_model.specs.Visits.{visits}
 use Rattle.capnp_model.proofs.Chaining.{some_is}
@@ -16,20 +16,23 @@ use Rattle.capnp_object.specs.declared.object.Object.{Object}
 use Rattle.capnp_object.specs.declared.object.Object.TheVariants as object
 use Rattle.capnp_units.specs.declared.limiter.ReadLimiter.{ReadLimiter}
 use Rattle.capnp_object.specs.Places.{place_view}
-use Rattle.capnp_object.specs.Near.{list_object, struct_object}
+use Rattle.capnp_object.specs.Near.{list_object, struct_object, IsMeasured, IsNear}
 use Rattle.capnp_object.specs.Follow.{FollowsWithin}
 use Rattle.capnp_object.specs.Objects.{AreThere}
-use Rattle.capnp_object.specs.Inside.{section_at, words_there, tree_in, met_in}
+use Rattle.capnp_object.specs.Inside.{words_there, tree_in, met_in}
 use Rattle.capnp_object.proofs.Measuring.{unfollowed_at}
 use Rattle.capnp_canonical.specs.Standing.{Stands, StandEach, StandElements, segment_words, IsSmall, HasHead, LeadsTo}
 use Rattle.capnp_canonical.specs.Checks.{TestsObject, TestsElements}
+use Rattle.capnp_canonical.specs.Objects.{IsShort}
 use Rattle.capnp_canonical.proofs.Checking.{refused_is, differs_at}
+use Rattle.capnp_canonical.proofs.NearPlaces.{far_differs, near_leads}
+use Rattle.capnp_canonical.proofs.NearStructs.{struct_stands, least_words, least_count, struct_there}
 use Rattle.capnp_canonical.proofs.CheckedRows.{row_begun, row_next, row_differs, row_stopped, row_ended}
 use Rattle.capnp_canonical.proofs.CheckedElements.{elements_begun, elements_next, elements_differ, elements_stopped, elements_ended, plain_elements}
 use Rattle.capnp_canonical.proofs.Parts.{part_there, front_there}
-use Rattle.capnp_canonical.proofs.StandingObjects.{least_struct, within_reach, wide_pointer, struct_tests, struct_word, struct_head, lead_word, word_matches, word_differs}
+use Rattle.capnp_canonical.proofs.StandingObjects.{within_reach, wide_pointer, struct_tests, struct_head, lead_word, word_matches, word_differs}
 use Rattle.capnp_canonical.proofs.StandingLists.{pointers_tests, pointers_word, structs_tests, structs_read, least_of}
-use Rattle.capnp_canonical.proofs.StandingPlaces.{struct_where, pointers_where, structs_where}
+use Rattle.capnp_canonical.proofs.StandingPlaces.{pointers_where, structs_where}
 use Rattle.capnp_canonical.proofs.StandingValues.{null_tests, capability_tests, deep_tests, null_leaf, other_leaf}
 use Rattle.capnp_canonical.proofs.Steps.{short_at}
 use Rattle.capnp_canonical.proofs.NearFollowed.{some_left, untold}
@@ -139,7 +142,7 @@ value_end-returns-in-Some g t c =
     let k = c.follow_near_list.new.limiter in
     let followed : FollowsWithin n s (place_view c.args.place) c.args.limiter.now (Ok (list_object c.in-Some.list)) k = rw c.in-Some.is at c.in_ok-list.ensures.walked in
     let some = some_left n followed.1 in
-    deep_tests n s (place_view c.args.place) c.args.head (list_object c.in-Some.list) c.args.limiter.now k k (Ok c.near_list_end.result) followed.0 (n - 1) (omega arith) (c.near_list_end.ensures (n - 1) k)
+    deep_tests n s (place_view c.args.place) c.args.head (list_object c.in-Some.list) c.args.limiter.now k k (Ok c.list_end.result) followed.0 (n - 1) (omega arith) (c.list_end.ensures (n - 1) k)
 
 pub value_end-returns-in_err-near : goal.value_end-returns-in_err-near
 value_end-returns-in_err-near g t c =
@@ -155,24 +158,6 @@ value_end-returns-in_err-near g t c =
     refused_is (tree_at n s p) has_capability (λ u. Stands s p c.args.head (trim u)) (IsSmall s p) (visits n s p) l k c.from_residual-in_err-near.result r.0 e r.1 r.2
     (unfollowed_at n s p l k (Err e) e e refl refl stop)
 
-pub value_end-returns-then-head-place-gt-REACH : goal.value_end-returns-then-head-place-gt-REACH
-value_end-returns-then-head-place-gt-REACH g t c =
-    let s : Segments = words_in (g.A.ReaderArena.segments c.args.arena.now) in
-    let p : Place = place_view c.args.place in
-    let n = c.args.levels in
-    let head = c.args.head in
-    let l = c.args.limiter.now in
-    let k = c.follow_near_struct.new.limiter in
-    let o = struct_object c.in-Some-2.near in
-    let far = c.if-head-place-gt-REACH.true in
-    let same = untold list_object (FollowsWithin n s p) l c.follow_near_list.new.limiter c.in_ok-list.field-0 c.in_default.not-Some c.in_ok-list.ensures.walked in
-    let here : FollowsWithin n s p c.follow_near_list.new.limiter (Ok o) k = rw c.in-Some-2.is at c.in_ok-near.ensures.walked in
-    let followed = subst (λ (x : ReadLimiter). FollowsWithin n s p x (Ok o) k) same here in
-    let some = some_left n followed.1 in
-    deep_tests n s p head o l k k (Ok None) followed.0 (n - 1) (omega arith)
-    (differs_at (tree_in s (tree_at (n - 1) s) o) has_capability (λ u. Stands s p head (trim u)) (IsSmall s p) (met_in (visits (n - 1) s) o) k
-    (λ small u end is clean stand. let near = within_reach s p 1 head small c.requires in omega arith))
-
 pub value_end-returns-in-Some-2 : goal.value_end-returns-in-Some-2
 value_end-returns-in-Some-2 g t c =
     let s : Segments = words_in (g.A.ReaderArena.segments c.args.arena.now) in
@@ -187,13 +172,24 @@ value_end-returns-in-Some-2 g t c =
     let some = some_left n followed.1 in
     deep_tests n s p c.args.head o l k c.struct_end.new.limiter c.struct_end.result followed.0 (n - 1) (omega arith) c.struct_end.ensures
 
-pub value_end-near_list_end-requires : goal.value_end-near_list_end-requires
-value_end-near_list_end-requires g t c =
+pub value_end-list_end-requires : goal.value_end-list_end-requires
+value_end-list_end-requires g t c =
     let s : Segments = words_in (g.A.ReaderArena.segments c.args.arena.now) in
     let k = c.follow_near_list.new.limiter in
     let followed : FollowsWithin c.args.levels s (place_view c.args.place) c.args.limiter.now (Ok (list_object c.in-Some.list)) k = rw c.in-Some.is at c.in_ok-list.ensures.walked in
     let pays = followed.0 in
-    record { inside = pays.inside; short = short_at s (place_view c.args.place) (list_object c.in-Some.list) c.args.limiter.now k pays; leads = (pays.pads, pays.is); head = c.requires }
+    let near : IsNear s (place_view c.args.place) (list_object c.in-Some.list) × IsMeasured c.in-Some.list = rw c.in-Some.is at c.in_ok-list.ensures.near in
+    record { near = near.0; measured = near.1; short = short_at s (place_view c.args.place) (list_object c.in-Some.list) c.args.limiter.now k pays; head = c.requires }
+
+pub value_end-struct_end-requires : goal.value_end-struct_end-requires
+value_end-struct_end-requires g t c =
+    let s : Segments = words_in (g.A.ReaderArena.segments c.args.arena.now) in
+    let p : Place = place_view c.args.place in
+    let n = c.args.levels in
+    let near : IsNear s p (struct_object c.in-Some-2.near) = rw c.in-Some-2.is at c.in_ok-near.ensures.near in
+    let here : FollowsWithin n s p c.follow_near_list.new.limiter (Ok (struct_object c.in-Some-2.near)) c.follow_near_struct.new.limiter = rw c.in-Some-2.is at c.in_ok-near.ensures.walked in
+    let some = some_left n here.1 in
+    λ κs lives. (omega arith, (lives, (near, c.requires)))
 
 pub any_end-returns-in_err-object : goal.any_end-returns-in_err-object
 any_end-returns-in_err-object g t c =
@@ -239,6 +235,30 @@ object_end-returns-then-head-place-gt-REACH g t c =
     differs_at (tree_in s (tree_at n s) o) has_capability (λ u. Stands s p c.args.head (trim u)) (IsSmall s p) (met_in (visits n s) o) c.args.limiter.now
     (λ small u end is clean stand. let near = within_reach s p 1 c.args.head small c.requires.head in omega arith)
 
+pub object_end-returns-then-word_or_zero-eq-FAR : goal.object_end-returns-then-word_or_zero-eq-FAR
+object_end-returns-then-word_or_zero-eq-FAR g t c =
+    let s : Segments = words_in (g.A.ReaderArena.segments c.args.arena.now) in
+    let p : Place = place_view c.args.place in
+    let n = c.args.levels in
+    let o = c.args.object in
+    differs_at (tree_in s (tree_at n s) o) has_capability (λ u. Stands s p c.args.head (trim u)) (IsSmall s p) (met_in (visits n s) o) c.args.limiter.now
+    (λ small u end is clean stand. far_differs s p c.args.head c.word_or_zero.result end (trim u) c.word_or_zero.ensures.word c.if-word_or_zero-eq-FAR.true stand)
+
+pub object_end-struct_end-requires : goal.object_end-struct_end-requires
+object_end-struct_end-requires g t c =
+    let s : Segments = words_in (g.A.ReaderArena.segments c.args.arena.now) in
+    let p : Place = place_view c.args.place in
+    let near = near_leads s p c.args.object c.word_or_zero.result c.requires.leads c.word_or_zero.ensures.word c.if-word_or_zero-eq-FAR.false in
+    λ κs lives. (omega arith, (lives, (subst (IsNear s p) c.in-Struct.is (near, c.requires.inside), c.requires.head)))
+
+pub object_end-list_end-requires : goal.object_end-list_end-requires
+object_end-list_end-requires g t c =
+    let s : Segments = words_in (g.A.ReaderArena.segments c.args.arena.now) in
+    let p : Place = place_view c.args.place in
+    let near = near_leads s p c.args.object c.word_or_zero.result c.requires.leads c.word_or_zero.ensures.word c.if-word_or_zero-eq-FAR.false in
+    let is : c.args.object ≡ list_object c.new-list.result = c.in-List.is ∙ sym c.new-list.ensures.object in
+    record { near = subst (IsNear s p) is (near, c.requires.inside); measured = c.new-list.ensures.measured; short = subst IsShort is c.requires.short; head = c.requires.head }
+
 pub object_end-returns-in-Null : goal.object_end-returns-in-Null
 object_end-returns-in-Null g t c =
     let s : Segments = words_in (g.A.ReaderArena.segments c.args.arena.now) in
@@ -259,67 +279,61 @@ object_end-returns-in-List g t c =
     let s : Segments = words_in (g.A.ReaderArena.segments c.args.arena.now) in
     let p : Place = place_view c.args.place in
     let l = c.args.limiter.now in
-    subst (λ (o : Object). TestsObject c.args.levels s p c.args.head o l (Ok c.list_end.result) l) (sym c.in-List.is) (c.list_end.ensures c.args.levels l)
+    subst (λ (o : Object). TestsObject c.args.levels s p c.args.head o l (Ok c.list_end.result) l) (sym (c.in-List.is ∙ sym c.new-list.ensures.object)) (c.list_end.ensures c.args.levels l)
 
-pub struct_end-returns-then-word_or_zero-pointer_to_cut : goal.struct_end-returns-then-word_or_zero-pointer_to_cut
-struct_end-returns-then-word_or_zero-pointer_to_cut g t c =
+pub struct_end-returns-then-near-struct_start : goal.struct_end-returns-then-near-struct_start
+struct_end-returns-then-near-struct_start g t c =
     let s : Segments = words_in (g.A.ReaderArena.segments c.args.arena.now) in
     let p : Place = place_view c.args.place in
-    let q : Place = place_view c.args.start in
     let n = c.args.levels in
-    let f = tree_at n s in
-    let d = c.args.size.data_words in
-    let k = c.args.size.pointers in
+    let o = struct_object c.args.near in
     let head = c.args.head in
-    let cut = c.cut_of-cut.result in
-    let section = section_at s q d in
-    let x = c.pointer_to_cut.result in
-    let least = least_struct n s q d k cut.kept_words cut.kept_pointers c.requires.inside.0 c.cut_of-cut.ensures.words c.cut_of-cut.ensures.pointers in
-    differs_at (tree_in s f (object.Struct c.args.start d k)) has_capability (λ u. Stands s p head (trim u)) (IsSmall s p) (met_in (visits n s) (object.Struct c.args.start d k)) c.args.limiter.now
-    (λ small u end e clean stand. word_differs s p c.word_or_zero.result x c.word_or_zero.ensures.word c.if-word_or_zero-pointer_to_cut.true
-    (struct_word s p (after q d) head d k cut.kept_words cut.kept_pointers x section end f u least.0 least.1 (c.pointer_to_cut.ensures section) e stand))
+    let begins = c.struct_start.ensures in
+    differs_at (tree_in s (tree_at n s) o) has_capability (λ u. Stands s p head (trim u)) (IsSmall s p) (met_in (visits n s) o) c.args.limiter.now
+    (λ small u end e clean stand.
+    let x = struct_stands n s p head c.args.near.start c.args.near.size.data_words c.args.near.size.pointers c.requires.near.1.0 c.requires.head.whole c.requires.near.0 c.requires.head.behind end u (within_reach s p 1 head small c.requires.head) e stand in
+    elim x.1 [
+      | inl here ↦ c.if-near-struct_start.true (ap (λ (r : Place). r.position) here.0 ∙ sym (begins.some (λ z. let more = here.1 in omega arith)))
+      | inr here ↦ c.if-near-struct_start.true (ap (λ (r : Place). r.position) here.0 ∙ sym (begins.empty (let d_none = here.1 in let k_none = here.2 in omega arith)))
+    ])
+
+pub struct_end-returns-then-not-is_least : goal.struct_end-returns-then-not-is_least
+struct_end-returns-then-not-is_least g t c =
+    let s : Segments = words_in (g.A.ReaderArena.segments c.args.arena.now) in
+    let p : Place = place_view c.args.place in
+    let n = c.args.levels in
+    let o = struct_object c.args.near in
+    let head = c.args.head in
+    differs_at (tree_in s (tree_at n s) o) has_capability (λ u. Stands s p head (trim u)) (IsSmall s p) (met_in (visits n s) o) c.args.limiter.now
+    (λ small u end e clean stand.
+    let x = struct_stands n s p head c.args.near.start c.args.near.size.data_words c.args.near.size.pointers c.requires.near.1.0 c.requires.head.whole c.requires.near.0 c.requires.head.behind end u (within_reach s p 1 head small c.requires.head) e stand in
+    c.if-not-is_least.ensures.less x.0)
 
 pub struct_end-row_end-requires : goal.struct_end-row_end-requires
 struct_end-row_end-requires g t c =
     let s : Segments = words_in (g.A.ReaderArena.segments c.args.arena.now) in
     let p : Place = place_view c.args.place in
-    let q : Place = place_view c.args.start in
-    let o = object.Struct c.args.start c.args.size.data_words c.args.size.pointers in
-    let d = c.args.size.data_words in
-    let k = c.args.size.pointers in
-    let head = c.args.head in
-    let cut = c.cut_of-cut.result in
-    let behind = c.requires.link.given.behind in
-    let reach = c.requires.link.near in
-    let bound = c.requires.inside.1 in
-    let w = lead_word s p o c.requires.link.leads in
-    let word = word_matches s p c.word_or_zero.result c.pointer_to_cut.result w.0 w.1 c.word_or_zero.ensures.word c.if-word_or_zero-pointer_to_cut.false in
-    let here = struct_where s p head c.args.start d k c.requires.link.leads (head - p.position - 1) cut.kept_words cut.kept_pointers c.pointer_to_cut.result (omega arith) (omega arith) c.cut_of-cut.ensures.narrow.0 c.cut_of-cut.ensures.narrow.1 c.pointer_to_cut.ensures word in
-    λ κs lives. (omega arith, (lives, ((part_there s q (d + k) c.requires.inside.0 d k (omega arith), omega arith), struct_head c.args.levels s p head c.args.start d k c.requires.inside c.requires.link.given here.2)))
+    let start = c.args.near.start in
+    let d = c.args.near.size.data_words in
+    let k = c.args.near.size.pointers in
+    let bound = c.requires.near.1.1 in
+    let begins = c.struct_start.ensures in
+    let there = struct_there c.args.levels s p c.args.head start d k c.requires.near.1.0 c.requires.head.whole c.requires.near.0 c.requires.head.behind c.struct_start.result c.if-near-struct_start.false begins.empty begins.some in
+    λ κs lives. (omega arith, (lives, ((part_there s (place_view start) (d + k) c.requires.near.1.0 d k (omega arith), omega arith), struct_head c.args.levels s p c.args.head start d k c.requires.near.1 c.requires.head there.0)))
 
 pub struct_end-returns : goal.struct_end-returns
 struct_end-returns g t c =
     let s : Segments = words_in (g.A.ReaderArena.segments c.args.arena.now) in
     let p : Place = place_view c.args.place in
-    let q : Place = place_view c.args.start in
     let n = c.args.levels in
-    let f = tree_at n s in
-    let o = object.Struct c.args.start c.args.size.data_words c.args.size.pointers in
-    let d = c.args.size.data_words in
-    let k = c.args.size.pointers in
+    let start = c.args.near.start in
+    let d = c.args.near.size.data_words in
+    let k = c.args.near.size.pointers in
     let head = c.args.head in
-    let cut = c.cut_of-cut.result in
-    let section = section_at s q d in
-    let x = c.pointer_to_cut.result in
-    let behind = c.requires.link.given.behind in
-    let reach = c.requires.link.near in
-    let least = least_struct n s q d k cut.kept_words cut.kept_pointers c.requires.inside.0 c.cut_of-cut.ensures.words c.cut_of-cut.ensures.pointers in
-    let w = lead_word s p o c.requires.link.leads in
-    let word = word_matches s p c.word_or_zero.result x w.0 w.1 c.word_or_zero.ensures.word c.if-word_or_zero-pointer_to_cut.false in
-    let here = struct_where s p head c.args.start d k c.requires.link.leads (head - p.position - 1) cut.kept_words cut.kept_pointers x (omega arith) (omega arith) c.cut_of-cut.ensures.narrow.0 c.cut_of-cut.ensures.narrow.1 c.pointer_to_cut.ensures word in
-    struct_tests n s p head c.args.start d k c.requires.inside c.requires.link.given here.2 (here.0 ∙ least.0)
-    (λ ts y. least.1 ts y ∙ sym here.1)
-    (λ ts count. word ∙ ap (λ (j : ℕ). Some j) (c.pointer_to_cut.ensures section ts (count ∙ here.1)) ∙ ap (λ (j : ℕ). Some (pointer (head - p.position - 1) (structure j section ts))) (sym here.0))
+    let begins = c.struct_start.ensures in
+    let least = c.if-not-is_least.ensures.least in
+    let there = struct_there n s p head start d k c.requires.near.1.0 c.requires.head.whole c.requires.near.0 c.requires.head.behind c.struct_start.result c.if-near-struct_start.false begins.empty begins.some in
+    struct_tests n s p head start d k c.requires.near.1 c.requires.head there.0 (least_words n s p head start d k c.requires.near.1.0 c.requires.head.whole c.requires.near.0 c.requires.head.behind least) (least_count n s p head start d k c.requires.near.1.0 c.requires.head.whole c.requires.near.0 c.requires.head.behind least) there.1
     c.args.limiter.now c.row_end.new.limiter c.row_end.result c.row_end.ensures
 
 pub pointers_end-returns-then-count-ge-REACH : goal.pointers_end-returns-then-count-ge-REACH

@@ -15,13 +15,14 @@ use Rattle.capnp_object.specs.declared.object.Object.{Object}
 use Rattle.capnp_object.specs.declared.object.Object.TheVariants as object
 use Rattle.capnp_units.specs.declared.limiter.ReadLimiter.{ReadLimiter}
 use Rattle.capnp_object.specs.Places.{place_view}
-use Rattle.capnp_object.specs.Near.{list_object, struct_object}
+use Rattle.capnp_object.specs.Near.{list_object, struct_object, IsMeasured, IsNear}
+use Rattle.capnp_object.specs.Objects.{IsInside}
 use Rattle.capnp_object.specs.Inside.{tree_in, met_in, section_at, words_there}
 use Rattle.capnp_object.specs.Walks.{Stopped}
 use Rattle.capnp_canonical.specs.Writes.{words_view, with_link, with_links, with_cells}
 use Rattle.capnp_canonical.specs.Widths.{kept}
 use Rattle.capnp_canonical.specs.Copies.{copy_visits, IsData, FollowsData, Writes, Unwritten}
-use Rattle.capnp_canonical.specs.Objects.{WritesObject}
+use Rattle.capnp_canonical.specs.Objects.{IsShort, WritesObject}
 use Rattle.capnp_canonical.proofs.Copying.{unwritten_at, no_room, halts_is}
 use Rattle.capnp_canonical.proofs.Faults.{stopped_otherwise}
 use Rattle.capnp_canonical.proofs.Rooms.{no_room_for_struct, no_room_for_pointers, no_room_for_structs}
@@ -96,7 +97,8 @@ write_at-write_list-requires g t c =
     let k = c.follow_near_list.new.limiter in
     let followed : FollowsData n s (place_view c.args.place) c.args.limiter.now (Ok (list_object c.in-Some.list)) k = rw c.in-Some.is at c.in_ok-list.ensures.copied in
     let pays = followed.0 in
-    record { plain = pays.inside.0; inside = pays.inside.1; short = short_at s (place_view c.args.place) (list_object c.in-Some.list) c.args.limiter.now k pays; place = c.requires }
+    let near : IsNear s (place_view c.args.place) (list_object c.in-Some.list) × IsMeasured c.in-Some.list = rw c.in-Some.is at c.in_ok-list.ensures.near in
+    record { inside = pays.inside; measured = near.1; short = short_at s (place_view c.args.place) (list_object c.in-Some.list) c.args.limiter.now k pays; place = c.requires }
 
 pub write_any-returns-in_err-object : goal.write_any-returns-in_err-object
 write_any-returns-in_err-object g t c =
@@ -130,7 +132,13 @@ pub write_object-returns-in-List : goal.write_object-returns-in-List
 write_object-returns-in-List g t c =
     let s : Segments = words_in (g.A.ReaderArena.segments c.args.arena.now) in
     let l = c.args.limiter.now in
-    subst (λ (o : Object). WritesObject s c.args.levels o c.args.at c.args.used c.args.into.now l c.write_list.result c.write_list.new.into l) (sym c.in-List.is) (c.write_list.ensures c.args.levels l)
+    subst (λ (o : Object). WritesObject s c.args.levels o c.args.at c.args.used c.args.into.now l c.write_list.result c.write_list.new.into l) (sym (c.in-List.is ∙ sym c.new-list.ensures.object)) (c.write_list.ensures c.args.levels l)
+
+pub write_object-write_list-requires : goal.write_object-write_list-requires
+write_object-write_list-requires g t c =
+    let s : Segments = words_in (g.A.ReaderArena.segments c.args.arena.now) in
+    let is : c.args.object ≡ list_object c.new-list.result = c.in-List.is ∙ sym c.new-list.ensures.object in
+    record { inside = subst (IsInside s) is c.requires.inside; measured = c.new-list.ensures.measured; short = subst IsShort is c.requires.short; place = c.requires.place }
 
 pub write_object-returns-in-StructList : goal.write_object-returns-in-StructList
 write_object-returns-in-StructList g t c =

@@ -28,28 +28,28 @@ use Rattle.capnp_canonical.proofs.list_copies.write_list.Goals as goal
 pub returns-in_err-end : goal.returns-in_err-end
 returns-in_err-end g c = λ levels l most room.
     let s : Segments = words_in (g.A.ReaderArena.segments c.args.arena.now) in
-    let z = size_number c.args.size in
-    let n = c.args.count in
-    let o = object.List c.args.start c.args.size n in
+    let z = size_number c.args.list.size in
+    let n = c.args.list.count in
+    let o = object.List c.args.list.start c.args.list.size n in
     let old = c.args.into.now in
     let e = c.in_err-end.field-0.0 in
     let r = err_from_is_err_and c.from_residual.result c.from_residual.ensures.1 in
     let own = own_at_least z n in
     let bits : ℕ = data_bits z * n in
-    let section = section_at s (place_view c.args.start) (words_for bits) in
-    let words : c.words_of_elements-words.result ≡ words_for (data_bits z * n) = c.words_of_elements-words.ensures.words in
-    let same : words_for (data_bits z * n) ≡ words_for (size_bits z * n) = ap (λ (j : ℕ). words_for (j * n)) (sym (data_bits_plain z c.requires.plain)) in
+    let section = section_at s (place_view c.args.list.start) (words_for bits) in
+    let words : c.args.list.words ≡ words_for (data_bits z * n) = (c.requires.measured.1 ∙ ap words_for c.requires.measured.0) in
+    let same : words_for (data_bits z * n) ≡ words_for (size_bits z * n) = ap (λ (j : ℕ). words_for (j * n)) (sym (data_bits_plain z c.requires.inside.0)) in
     let full = c.in_err-end.ensures.1 in
     no_room (tree_in s (tree_at levels s) o) has_capability (λ t. with_link c.args.at (trim t)) [] most c.args.used old l c.from_residual.result e (r.1 ∙ ap (λ (y : Error). Err y) r.2) c.in_err-end.ensures.0 (omega arith)
-    (no_room_for_list c.args.at c.args.used c.words_of_elements-words.result old c.requires.place.1 full z n (section % 2 ^ bits) (omega arith))
+    (no_room_for_list c.args.at c.args.used c.args.list.words old c.requires.place.1 full z n (section % 2 ^ bits) (omega arith))
 
 pub returns : goal.returns
 unfolding has_capability
 returns g c = λ levels l most room.
     let s : Segments = words_in (g.A.ReaderArena.segments c.args.arena.now) in
-    let p : Place = place_view c.args.start in
-    let z = size_number c.args.size in
-    let n = c.args.count in
+    let p : Place = place_view c.args.list.start in
+    let z = size_number c.args.list.size in
+    let n = c.args.list.count in
     let at = c.args.at in
     let used = c.args.used in
     let bits : ℕ = data_bits z * n in
@@ -59,8 +59,8 @@ returns g c = λ levels l most room.
     let mid = c.copy_words.new.into in
     let new = c.mask_last.new.into in
     let word = c.pointer_to_list-word.result in
-    let count = c.words_of_elements-words.result in
-    let count_is : count ≡ all = c.words_of_elements-words.ensures.words in
+    let count = c.args.list.words in
+    let count_is : count ≡ all = (c.requires.measured.1 ∙ ap words_for c.requires.measured.0) in
     let end = c.in_ok-end.end in
     let end_is : end ≡ used + count = c.in_ok-end.ensures.0 in
     let bound = c.in_ok-end.ensures.1 in
@@ -74,9 +74,9 @@ returns g c = λ levels l most room.
     let size = length-map first (from_le_bytes w64) in
     let section = section_at s p all in
     let front = set (filled used old) at word in
-    let b : ℕ = c.data_bits_per_element.result * n in
-    let b_is : b ≡ bits = ap (λ (x : ℕ). x * n) c.data_bits_per_element.ensures in
-    let plain = data_bits_plain z c.requires.plain in
+    let b : ℕ = c.args.list.bits in
+    let b_is : b ≡ bits = c.requires.measured.0 in
+    let plain = data_bits_plain z c.requires.inside.0 in
     let copied : filled end mid ≡ front ++ words_of (words_for b) section =
     ap (take end) c.copy_words.ensures.words ∙ ap (λ (j : ℕ). take j (with_words used count (section_at s p count) (words_view first))) end_is
     ∙ take_words used count (section_at s p count) (words_view first) (omega arith)
