@@ -43,6 +43,10 @@ AppendsPart-more a b bs cs p = (p.0, p.1 ++ cs, ap (λ l. l ++ cs) p.2 ∙ appen
 pub AppendsPart-next : (a b c : Option (List ℕ)) (bs cs : List ℕ) → Appends a b bs → AppendsPart b c cs → AppendsPart a c (bs ++ cs)
 AppendsPart-next a b c bs cs first p = (bs ++ p.0, p.1, ap (λ l. bs ++ l) p.2 ∙ sym (append_assoc bs p.0 p.1), Appends-trans a b c bs p.0 first p.3)
 
+-- a beginning of what lies behind the first n is a beginning of all
+pub AppendsPart-behind : (a b c : Option (List ℕ)) (n : ℕ) (bs : List ℕ) → Appends a b (take n bs) → AppendsPart b c (drop n bs) → AppendsPart a c bs
+AppendsPart-behind a b c n bs first p = subst (AppendsPart a c) (take-append-drop n bs) (AppendsPart-next a b c (take n bs) (drop n bs) first p)
+
 -- the rest of a part of a list
 pub slice_range-drop : (xs : List ℕ) (a b n : ℕ) → n ≤ b - a → slice_range xs (a + n) b ≡ drop n (slice_range xs a b)
 slice_range-drop xs a b n fits =

@@ -15,7 +15,7 @@ use std::io;
 use std::io::BufWriter;
 
 /// How many bytes are asked of a reader at once.
-pub const INPUT_BUFFER_LEN: usize = 256 * 1024;
+pub const INPUT_BUFFER_LEN: usize = 64 * 1024;
 
 /// How many bytes a buffered sink holds back.
 pub const OUTPUT_BUFFER_LEN: usize = 64 * 1024;
@@ -238,6 +238,7 @@ impl<S: io::Write> Write for Sink<S> {
 
     ghost failures = { λ s. s.failures };
 
+    #[inline(always)]
     fn write_all(&mut self, buf: &[u8]) -> Result<()> {
         match write_whole(&mut self.inner, buf) {
             Ok(()) => Ok(()),

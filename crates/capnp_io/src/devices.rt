@@ -1,5 +1,5 @@
 //! Reads and writes of a device, tried again where a signal interrupts them.
-ghost use Rattle.std.specs.Prelude.{◌≡◌, [], IfErr, OnOk, OnErr};
+ghost use Rattle.std.specs.Prelude.{◌≡◌, ◌≤◌, [], length, drop, IfErr, OnOk, OnErr};
 ghost use Rattle.std.specs.Io.{ReadsAtMost, WritesAtMost};
 ghost use Rattle.std.specs.Io.KnownBytes.{Keeps, ReadConsumes, WriteAppends, Appends};
 ghost use Rattle.std.specs.Io.Buffered.{writer_buffer, writer_contents};
@@ -69,7 +69,7 @@ pub(crate) fn flush_retrying<S: io::Write + Drop>(to: &mut BufWriter<S>) -> Resu
 }
 
 /// Writes until all is written. A device that takes nothing has failed.
-pub(crate) fn write_whole<S: io::Write>(to: &mut S, buf: &[u8]) -> Result<()>
+fn write_each<S: io::Write>(to: &mut S, buf: &[u8]) -> Result<()>
     ensures ok { OnOk result (Appends (S.contents to.old) (S.contents to.new) buf.now) }
     ensures err { OnErr result (AppendsPart (S.contents to.old) (S.contents to.new) buf.now) }
     ensures refusal { IfErr result (λ e. e.kind ≡ ErrorKind.Device) }
@@ -83,4 +83,51 @@ pub(crate) fn write_whole<S: io::Write>(to: &mut S, buf: &[u8]) -> Result<()>
         at += n;
     }
     Ok(())
+}
+
+/// Writes what is left behind the first `at` bytes, of which a write took no more.
+#[cold]
+#[inline(never)]
+fn write_behind<S: io::Write>(to: &mut S, buf: &[u8], at: usize) -> Result<()>
+    requires { at ≤ length buf.now }
+    ensures ok { OnOk result (Appends (S.contents to.old) (S.contents to.new) (drop at buf.now)) }
+    ensures err { OnErr result
+        (AppendsPart (S.contents to.old) (S.contents to.new) (drop at buf.now)) }
+    ensures refusal { IfErr result (λ e. e.kind ≡ ErrorKind.Device) }
+{
+    if at == 0 {
+        return Err(Error::from(ErrorKind::Device));
+    }
+    write_each(to, &buf[at..])
+}
+
+/// Writes anew, unless a write failed by more than a signal.
+#[cold]
+#[inline(never)]
+fn write_again<S: io::Write>(to: &mut S, buf: &[u8], failed: io::Error) -> Result<()>
+    ensures ok { OnOk result (Appends (S.contents to.old) (S.contents to.new) buf.now) }
+    ensures err { OnErr result (AppendsPart (S.contents to.old) (S.contents to.new) buf.now) }
+    ensures refusal { IfErr result (λ e. e.kind ≡ ErrorKind.Device) }
+{
+    if failed.kind() != io::ErrorKind::Interrupted {
+        return Err(Error::from(ErrorKind::Device));
+    }
+    write_each(to, buf)
+}
+
+/// Writes until all is written, which mostly is one write. A device that takes nothing has failed.
+#[inline(always)]
+pub(crate) fn write_whole<S: io::Write>(to: &mut S, buf: &[u8]) -> Result<()>
+    ensures ok { OnOk result (Appends (S.contents to.old) (S.contents to.new) buf.now) }
+    ensures err { OnErr result (AppendsPart (S.contents to.old) (S.contents to.new) buf.now) }
+    ensures refusal { IfErr result (λ e. e.kind ≡ ErrorKind.Device) }
+{
+    if buf.is_empty() {
+        return Ok(());
+    }
+    match to.write(buf) {
+        Ok(n) if n == buf.len() => Ok(()),
+        Ok(n) => write_behind(to, buf, n),
+        Err(e) => write_again(to, buf, e),
+    }
 }

@@ -1,19 +1,6 @@
-use Rattle.std.proofs.Common.{rules}
-use Rattle.std.proofs.KnownBytes.{Appends-kept}
-use Rattle.std.proofs.lemmas.Result.{err_from_is_err_and}
-use Rattle.capnp_io.proofs.KnownLemmas.{Appends-part, Appends-take}
+use Rattle.std.proofs.lemmas.Result.{on_err_weaker}
+use Rattle.capnp_io.proofs.KnownLemmas.{AppendsPart-behind}
 use Rattle.capnp_io.proofs.devices.write_whole.Goals as goal
 
-pub loop-at-preserved : goal.loop-at-preserved
-loop-at-preserved g c = record {
-  within = search rules;
-  taken = Appends-take _ _ _ c.loop-at.at c.in_ok-n.n c.args.buf.now c.loop-at.invariant.taken c.in_ok-n.ensures.bytes;
-}
-
-pub returns-in_err-n-clause-err : goal.returns-in_err-n-clause-err
-returns-in_err-n-clause-err g c =
-    let p = err_from_is_err_and c.from_residual.result c.from_residual.ensures.1 in
-    rw p.1 (Appends-part _ _ c.loop-at.at c.args.buf.now (Appends-kept _ _ _ _ c.loop-at.invariant.taken c.in_err-n.ensures.bytes))
-
-pub returns-then-n-eq0-clause-err : goal.returns-then-n-eq0-clause-err
-returns-then-n-eq0-clause-err g c = Appends-part _ _ _ c.args.buf.now (Appends-take _ _ _ c.loop-at.at c.in_ok-n.n c.args.buf.now c.loop-at.invariant.taken c.in_ok-n.ensures.bytes)
+pub returns-in-Ok-2-clause-err : goal.returns-in-Ok-2-clause-err
+returns-in-Ok-2-clause-err g c = on_err_weaker c.write_behind.result (AppendsPart-behind _ _ _ c.in-Ok.n c.args.buf.now c.in-Ok.ensures.bytes) c.write_behind.ensures.err
