@@ -9,3 +9,4 @@ pub mod FlatLemmas
 pub mod TableLemmas
 pub mod ReadLemmas
 pub mod BufferLemmas
+pub mod ShownLemmas

@@ -1,5 +1,5 @@
 -- From the parts of a reader's promise to the whole.
-use Rattle.std.proofs.Common.{◌≡◌, ◌≢◌, inl, inr, ℕ, [], List, Bool, true, false, None, Some, IsTrue, ◌↔◌, IfSome, Err, subst, sym}
+use Rattle.std.proofs.Common.{◌≡◌, ◌≢◌, ◌⊎◌, ◌<◌, ◌∙◌, inl, inr, ℕ, [], List, Bool, true, false, None, Some, IsTrue, ◌↔◌, IfSome, Result, Ok, Err, subst, sym}
 use Rattle.std.specs.declared.convert.AsSlice.{Ghosts}
 use Rattle.std.specs.declared.option.Option.{Option}
 use Rattle.std.specs.Io.KnownBytes.{Keeps, IsAtEnd}
@@ -12,10 +12,12 @@ use Rattle.capnp_io.specs.Counting.{KindCounts}
 use Rattle.capnp_stream.specs.Pieces.{ReadsFronts}
 use Rattle.capnp_stream.specs.Frames.{IsFrameFault, TakesStart, TakesWholePieces, TakesTable, IsFramingKind, IsReadKind, IsCut}
 use Rattle.capnp_stream.specs.Reading.{TriesReading, ReadsMessage}
-use Rattle.capnp_stream.specs.Lent.{IsFillKind}
+use Rattle.capnp_stream.specs.Lent.{IsFillKind, HasLonger}
 use Rattle.capnp_stream.specs.Filling.{TriesFilling, FillsMessage}
-use Rattle.capnp_io.proofs.KnownLemmas.{Consumes-of_kept}
-use Rattle.capnp_stream.proofs.FrameLemmas.{part-of_kept, TakesStart-of_kept, fault-of_kept}
+use Rattle.capnp_stream.specs.Flat.{table_bytes}
+use Rattle.capnp_stream.specs.Kept.{WantsForLonger}
+use Rattle.capnp_io.proofs.KnownLemmas.{Consumes-of_kept, IfSome-of_kept}
+use Rattle.capnp_stream.proofs.FrameLemmas.{part-of_kept, TakesStart-of_kept, TakesMessage-of_kept, fault-of_kept}
 
 module _ (read : Reader) (limit : Option ℕ) where
   pub pieces-of_kept : (a b c : Option (List ℕ)) → Keeps a b → TakesWholePieces read limit b c → TakesWholePieces read limit a c
@@ -63,6 +65,64 @@ module _ {M : Type 0} {bytes : M → List (List ℕ)} {Holds : M → Type 0} (re
     begun = λ w. some-seen a look at unseen;
     count = count;
   }
+
+IsAtEnd-of_kept : (a b : Option (List ℕ)) → Keeps a b → IsAtEnd b → IsAtEnd a
+IsAtEnd-of_kept None b kept at = tt
+IsAtEnd-of_kept (Some x) None kept at = absurd kept
+IsAtEnd-of_kept (Some x) (Some y) kept at = sym kept ∙ at
+
+-- behind a look at the bytes to come, which took none of them
+module _ {M : Type 0} {bytes : M → List (List ℕ)} {Holds : M → Type 0} (read : Reader) (faults : ErrorKind → Type 0) (limit : Option ℕ) (a b c : Option (List ℕ)) (kept : Keeps a b) (l m n : ℕ) (same : m ≡ l) where
+  pub tries-behind : (result : Result (Option M) Error) → TriesReading {M = M} bytes Holds read faults limit (record { remaining = b; failures = m }) result (record { remaining = c; failures = n })
+      → TriesReading {M = M} bytes Holds read faults limit (record { remaining = a; failures = l }) result (record { remaining = c; failures = n })
+  tries-behind (Ok (Some found)) t = record {
+    message = TakesMessage-of_kept read limit a b c _ kept t.message;
+    kept = t.kept;
+    joined = t.joined;
+    writable = t.writable;
+    none = tt;
+    refused = tt;
+    kind = tt;
+    part = tt;
+    wanted = tt;
+    begun = tt;
+    count = t.count ∙ same;
+  }
+  tries-behind (Ok None) t = record {
+    message = tt;
+    kept = tt;
+    joined = tt;
+    writable = tt;
+    none = (IsAtEnd-of_kept a b kept t.none.0, Keeps-trans a b c kept t.none.1);
+    refused = tt;
+    kind = tt;
+    part = tt;
+    wanted = tt;
+    begun = tt;
+    count = t.count ∙ same;
+  }
+  tries-behind (Err e) t = record {
+    message = tt;
+    kept = tt;
+    joined = tt;
+    writable = tt;
+    none = tt;
+    refused = λ framing. IfSome-of_kept a b _ kept (t.refused framing);
+    kind = t.kind;
+    part = TakesStart-of_kept read limit a b c kept t.part;
+    wanted = λ w. pieces-of_kept read limit a b c kept (t.wanted w);
+    begun = λ w. IfSome-of_kept a b _ kept (t.begun w);
+    count = subst (λ k. KindCounts e.kind k n) same t.count;
+  }
+
+module _ (read : Reader) (limit : Option ℕ) (a b : Option (List ℕ)) (kept : Keeps a b) where
+  longer-of : (size : ℕ) → (size < table_bytes 511) ⊎ IfSome b (HasLonger read limit size) → (size < table_bytes 511) ⊎ IfSome a (HasLonger read limit size)
+  longer-of size (inl short) = inl short
+  longer-of size (inr long) = inr (IfSome-of_kept a b (HasLonger read limit size) kept long)
+
+  pub longer-behind : {A : Type 0} (size : ℕ) (result : Result A Error) → WantsForLonger read limit size b result → WantsForLonger read limit size a result
+  longer-behind size (Ok x) w = tt
+  longer-behind size (Err e) w = λ want. longer-of size (w want)
 
 module _ (read : Reader) (fronts : ReadsFronts read) (faults : ErrorKind → Type 0) (limit : Option ℕ) where
   -- no byte was left

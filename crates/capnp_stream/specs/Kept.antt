@@ -11,7 +11,8 @@ use Rattle.capnp_units.specs.declared.kinds.ErrorKind.TheVariants.{OutOfMemory}
 use Rattle.capnp_units.specs.Segments.{words_in}
 use Rattle.capnp_model.specs.Segments.{Segments}
 use Rattle.capnp_model.specs.Messages.{Reader}
-use Rattle.capnp_stream.specs.Flat.{table_bytes, message_bytes}
+use Rattle.capnp_stream.specs.Flat.{table_bytes, message_bytes, frame_segments, Describes}
+use Rattle.capnp_stream.specs.declared.flat.NoAllocSegmentTableInfo.{NoAllocSegmentTableInfo}
 use Rattle.capnp_stream.specs.Buffers.{found_segments}
 use Rattle.capnp_stream.specs.Lent.{HasLonger}
 use Rattle.capnp_stream.specs.Reading.{SourceSeen, TriesReading}
@@ -27,6 +28,10 @@ buffer_len b = length b.bytes.items
 abbrev pub IsGrown : {A : Type 0} → ℕ → ℕ → Result A Error → Type 0
 IsGrown old new result = (old ≤ new) × OnOk result (table_bytes 511 ≤ new)
 
+-- Where a message was read, a buffer has enough bytes for the longest table.
+abbrev pub HasTableRoom : ℕ → Result (Option NoAllocSegmentTableInfo) Error → Type 0
+HasTableRoom size result = IfOk result (λ o. IfSome o (λ _. table_bytes 511 ≤ size))
+
 -- So many bytes suffice for the longest table, and for these segments with theirs.
 abbrev pub HasRoomFor : Segments → ℕ → Type 0
 HasRoomFor s size = (table_bytes 511 ≤ size) × (message_bytes (map length s) ≤ size)
@@ -38,6 +43,10 @@ RestsGrown b result = Rests the_row b (λ new. (buffer_len b.now ≤ buffer_len 
 -- A message is read, whose segments a buffer lends, or none is left.
 abbrev pub TriesMessageInto : {T : Type 0} {g : Ghosts T ℕ} → Reader → (ErrorKind → Type 0) → Option ℕ → SourceSeen → Result (Option (NoAllocBufferSegments T g)) Error → SourceSeen → Type 0
 TriesMessageInto read faults limit old result new = TriesReading found_segments (λ _. ⊤) read faults limit old result new
+
+-- The same, where the message stands unpacked at the front of these bytes, as its table describes it.
+abbrev pub TriesTableIn : Reader → (ErrorKind → Type 0) → Option ℕ → List ℕ → SourceSeen → Result (Option NoAllocSegmentTableInfo) Error → SourceSeen → Type 0
+TriesTableIn read faults limit bytes old result new = TriesReading (λ i. frame_segments i.segments_count bytes) (λ i. Describes i bytes) read faults limit old result new
 
 -- Memory is wanted only where a buffer of so many bytes is shorter than the longest table, or than a message whose table the bytes begin with, within the limits.
 abbrev pub WantsForLonger : {A : Type 0} → Reader → Option ℕ → ℕ → Option (List ℕ) → Result A Error → Type 0

@@ -12,3 +12,4 @@ pub mod Lent
 pub mod Filling
 pub mod Kept
 pub mod Lending
+pub mod Shown

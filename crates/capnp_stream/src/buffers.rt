@@ -196,6 +196,7 @@ impl<T: AsSlice<u8>> ReaderSegments for NoAllocBufferSegments<T> {
 
     ghost segments = { found_segments };
 
+    #[inline(always)]
     fn get_segment(&self, id: SegmentId) -> Option<&[u8]> {
         let id = id as usize;
         if id >= self.info.segments_count {

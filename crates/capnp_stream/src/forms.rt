@@ -1,13 +1,17 @@
 //! The forms in which messages are spelled on streams.
-ghost use Rattle.std.specs.Prelude.{◌≡◌, ◌/◌, ◌%◌, length, IfErr, OnOk, OnErr};
+ghost use Rattle.std.specs.Prelude.{◌≡◌, ◌/◌, ◌%◌, length, IfOk, IfErr, OnOk, OnErr};
 ghost use Rattle.capnp_units.specs.declared.kinds.ErrorKind.{ErrorKind};
 ghost use Rattle.capnp_model.specs.Bytes.{bytes_of_words};
 ghost use Rattle.capnp_model.specs.Messages.{Reader, Writer, plain_words};
 ghost use Rattle.capnp_io.specs.Counting.{Counts};
 ghost use Rattle.capnp_stream.specs.Pieces.{ReadsFronts, TakesPiece, TakesPieceStart, IsPieceFault, IsPieceKind, is_framed_fault};
 ghost use Rattle.capnp_stream.specs.Segments.{whole_words};
+ghost use Rattle.capnp_stream.specs.Shown.{TakesShown};
+ghost use Rattle.std.specs.Io.KnownBytes.{Keeps};
 ghost use Rattle.capnp_io.specs.Writes.{Writes, sink_seen};
 
+use crate::flat::NoAllocSegmentTableInfo;
+use crate::shown::lay_message;
 use capnp_io::traits::{BufRead, Read, Write};
 use capnp_units::errors::Result;
 
@@ -36,6 +40,24 @@ pub trait MessageForm {
             (R.remaining source.old) (R.remaining source.new)) }
         ensures count { Counts result (R.failures source.old) (R.failures source.new) };
 
+    /// Reads a message of at most so many words to the front of a buffer, where the source shows every byte of it and the buffer has room, and answers how it lies there. Otherwise, or where the form has no such way, `None`: it is to be read piece by piece.
+    ///
+    /// Nothing is taken but a message that is read. `Device`: the source failed.
+    #[inline(always)]
+    fn read_shown<R: BufRead>(
+        source: &mut R,
+        buffer: &mut [u8],
+        limit: Option<usize>,
+    ) -> Result<Option<NoAllocSegmentTableInfo>>
+        ensures message { IfOk result (TakesShown reader limit (R.remaining source.old)
+            (R.remaining source.new) buffer.new) }
+        ensures kept { OnErr result (Keeps (R.remaining source.old) (R.remaining source.new)) }
+        ensures refusal { IfErr result (λ e. e.kind ≡ ErrorKind.Device) }
+        ensures count { Counts result (R.failures source.old) (R.failures source.new) }
+    {
+        Ok(None)
+    }
+
     /// Writes the piece of these bytes, which are whole words. After a refusal a beginning of it was written.
     fn write_piece<W: Write>(out: &mut W, bytes: &[u8]) -> Result<()>
         requires { length bytes.now % 8 ≡ 0 }
@@ -62,6 +84,19 @@ impl MessageForm for Framed {
 
     fn read_piece<R: BufRead>(source: &mut R, buf: &mut [u8]) -> Result<()> {
         source.read_exact(buf)
+    }
+
+    #[inline(always)]
+    fn read_shown<R: BufRead>(
+        source: &mut R,
+        buffer: &mut [u8],
+        limit: Option<usize>,
+    ) -> Result<Option<NoAllocSegmentTableInfo>> {
+        let Some(info) = lay_message(source.fill_buf()?, buffer, limit) else {
+            return Ok(None);
+        };
+        source.consume(info.segment_table_length_bytes + info.total_segments_length_bytes);
+        Ok(Some(info))
     }
 
     fn write_piece<W: Write>(out: &mut W, bytes: &[u8]) -> Result<()> {

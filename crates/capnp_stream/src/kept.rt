@@ -10,7 +10,9 @@ ghost use Rattle.capnp_stream.specs.Frames.{TellsFault, TakesMessage, TakesStart
 ghost use Rattle.capnp_stream.specs.Flat.{table_lengths, frame_segments, Describes};
 ghost use Rattle.capnp_stream.specs.Lent.{HoldsMessage, IsFillKind};
 ghost use Rattle.capnp_stream.specs.Reading.{WantsBetweenPieces, source_seen};
-ghost use Rattle.capnp_stream.specs.Kept.{buffer_len, IsGrown, RestsGrown, TriesMessageInto, WantsForLonger};
+ghost use Rattle.capnp_stream.specs.Kept.{buffer_len, HasTableRoom, IsGrown, RestsGrown, TriesMessageInto, TriesTableIn, WantsForLonger};
+ghost use Rattle.capnp_stream.specs.Shown.{TakesShown};
+ghost use Rattle.std.specs.Io.KnownBytes.{Keeps};
 
 use crate::buffers::{NoAllocBufferSegments, NoAllocSliceSegments};
 use crate::flat::{NoAllocSegmentTableInfo, words_before};
@@ -111,9 +113,76 @@ impl MessageBuffer {
         Ok(info)
     }
 
+    /// Reads the next message to the front where the source shows every byte of it, and the buffer has room for it and for the longest table. Otherwise `None`, and nothing is taken.
+    #[inline(always)]
+    fn read_shown<F: MessageForm, R: BufRead>(
+        &mut self,
+        source: &mut R,
+        limit: Option<usize>,
+    ) -> Result<Option<NoAllocSegmentTableInfo>>
+        ensures message { IfOk result (TakesShown F.reader limit (R.remaining source.old)
+            (R.remaining source.new) self.new.bytes.items) }
+        ensures len { buffer_len self.new ≡ buffer_len self.old }
+        ensures room { HasTableRoom (buffer_len self.new) result }
+        ensures kept { OnErr result (Keeps (R.remaining source.old) (R.remaining source.new)) }
+        ensures refusal { IfErr result (λ e. e.kind ≡ ErrorKind.Device) }
+        ensures count { Counts result (R.failures source.old) (R.failures source.new) }
+    {
+        if self.bytes.len() < LONGEST_TABLE {
+            return Ok(None);
+        }
+        F::read_shown(source, &mut self.bytes, limit)
+    }
+
+    /// Reads the next message to the front piece by piece, or `None` where no byte is left.
+    #[inline(never)]
+    fn read_pieces<F: MessageForm, R: BufRead>(
+        &mut self,
+        source: &mut R,
+        limit: Option<usize>,
+    ) -> Result<Option<NoAllocSegmentTableInfo>>
+        ensures message { TriesTableIn F.reader F.faults limit self.new.bytes.items
+            (source_seen R.remaining R.failures source.old) result
+            (source_seen R.remaining R.failures source.new) }
+        ensures longer { WantsForLonger F.reader limit (buffer_len self.old)
+            (R.remaining source.old) result }
+        ensures grown { buffer_len self.old ≤ buffer_len self.new }
+        ensures room { HasTableRoom (buffer_len self.new) result }
+    {
+        if is_at_end(source)? {
+            return Ok(None);
+        }
+        let info = self.fill::<F, R>(source, limit)?;
+        are_bytes(&self.bytes);
+        Ok(Some(info))
+    }
+
+    /// Reads the next message to the front, whole where the source shows it, else piece by piece, or `None` where no byte is left.
+    #[inline(always)]
+    fn read_next<F: MessageForm, R: BufRead>(
+        &mut self,
+        source: &mut R,
+        limit: Option<usize>,
+    ) -> Result<Option<NoAllocSegmentTableInfo>>
+        ensures message { TriesTableIn F.reader F.faults limit self.new.bytes.items
+            (source_seen R.remaining R.failures source.old) result
+            (source_seen R.remaining R.failures source.new) }
+        ensures longer { WantsForLonger F.reader limit (buffer_len self.old)
+            (R.remaining source.old) result }
+        ensures grown { buffer_len self.old ≤ buffer_len self.new }
+        ensures room { HasTableRoom (buffer_len self.new) result }
+    {
+        if let Some(info) = self.read_shown::<F, R>(source, limit)? {
+            are_bytes(&self.bytes);
+            return Ok(Some(info));
+        }
+        self.read_pieces::<F, R>(source, limit)
+    }
+
     /// The segments of the next message in a form, or `None` where no byte is left. They lie in the buffer until the next message is read into it.
     ///
     /// A message of more words than the limit is refused. `OutOfMemory`: some byte is left, the buffer has fewer bytes than the longest table or than the message unpacked, and the memory for them was refused; so a buffer into which a message was read takes none for those that are no longer. After a refusal less than a message was taken, and no byte behind the first that is at fault. The buffer never shrinks.
+    #[inline(always)]
     pub fn try_read_message<F: MessageForm, R: BufRead>(
         &mut self,
         source: &mut R,
@@ -126,12 +195,10 @@ impl MessageBuffer {
             (R.remaining source.old) result }
         ensures* grown { sem 𝓛 (RestsGrown self.entry result) }
     {
-        if is_at_end(source)? {
+        let Some(info) = self.read_next::<F, R>(source, limit)? else {
             return Ok(None);
-        }
-        let info = self.fill::<F, R>(source, limit)?;
+        };
         let bytes = self.bytes.as_slice();
-        are_bytes(bytes);
         Ok(Some(NoAllocBufferSegments::from_segment_table_info(bytes, info)))
     }
 }

@@ -10,6 +10,7 @@ pub mod frames;
 pub mod kept;
 pub mod lent;
 pub mod segments;
+mod shown;
 pub mod slices;
 mod tables;
 pub mod writing;
