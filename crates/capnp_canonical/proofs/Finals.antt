@@ -27,7 +27,7 @@ use Rattle.capnp_object.specs.Walks.{Walked}
 use Rattle.capnp_object.proofs.Rows.{each_count, nothing_met}
 use Rattle.capnp_object.proofs.Walks.{walked_none, walked_both}
 use Rattle.capnp_object.specs.Objects.{AreThere}
-use Rattle.capnp_canonical.specs.declared.copy.Cut.{Cut}
+use Rattle.capnp_canonical.specs.declared.cuts.Cut.{Cut}
 use Rattle.capnp_canonical.specs.Objects.{IsCut}
 use Rattle.capnp_canonical.specs.Widths.{kept, widest}
 use Rattle.capnp_canonical.specs.Writes.{words_view, filled, with_words, with_link, with_links, with_cells}

@@ -1,3 +1,4 @@
+pub mod Held
 pub mod Scanning
 pub mod Parts
 pub mod Copying

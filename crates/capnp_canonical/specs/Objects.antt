@@ -13,7 +13,7 @@ use Rattle.capnp_object.specs.declared.object.Object.TheVariants as object
 use Rattle.capnp_object.specs.Objects.{AreThere}
 use Rattle.capnp_object.specs.Follow.{own_cost}
 use Rattle.capnp_object.specs.Inside.{tree_in, met_in, section_at, words_there}
-use Rattle.capnp_canonical.specs.declared.copy.Cut.{Cut}
+use Rattle.capnp_canonical.specs.declared.cuts.Cut.{Cut}
 use Rattle.capnp_canonical.specs.Widths.{kept}
 use Rattle.capnp_canonical.specs.Writes.{with_link, with_links, with_cells}
 use Rattle.capnp_canonical.specs.Copies.{copy_visits, Writes}

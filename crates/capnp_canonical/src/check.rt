@@ -9,7 +9,7 @@ ghost use Rattle.capnp_canonical.specs.Objects.{IsShort};
 ghost use Rattle.capnp_canonical.specs.Standing.{HasHead, LeadsTo, Reaches};
 ghost use Rattle.capnp_canonical.specs.Checks.{TestsValue, TestsObject, TestsRow, TestsElements, TellsValue, TellsRow, TellsStruct, TellsMessage};
 
-use crate::copy::cut_of;
+use crate::cuts::cut_of;
 use crate::follow::{follow_near_list, follow_near_struct};
 use crate::heads::{ROOT, is_behind, move_on, struct_start};
 use crate::list_ends::{REACH, list_end};
@@ -19,7 +19,7 @@ use capnp_object::arena::ReaderArena;
 use capnp_object::follow::follow_within;
 use capnp_object::lists::NearList;
 use capnp_object::object::Object;
-use capnp_object::place::{Place, has_words};
+use capnp_object::place::{Place, has_words, segment_bytes};
 use capnp_object::structs::NearStruct;
 use capnp_units::errors::Result;
 use capnp_units::limiter::ReadLimiter;
@@ -92,7 +92,8 @@ pub fn is_canonical_struct<A: ReaderArena>(
         size.data_words size.pointers (place_view head.old) limiter.old result
         (place_view head.new) limiter.new }
 {
-    let cut = cut_of(arena, start, size.data_words, size.pointers, 1);
+    let bytes = segment_bytes(arena, start.segment);
+    let cut = cut_of(arena, bytes, start, size.data_words, size.pointers, 1);
     if cut.kept_words != size.data_words || cut.kept_pointers != size.pointers {
         return Ok(false);
     }
@@ -142,10 +143,11 @@ fn value_end<A: ReaderArena>(
     ensures { TestsValue levels (words_in (A.segments arena.now)) (place_view place) head
         limiter.old result limiter.new }
 {
-    if let Some(list) = follow_near_list(arena, limiter, place, levels)? {
+    let bytes = segment_bytes(arena, place.segment);
+    if let Some(list) = follow_near_list(arena, bytes, limiter, place, levels)? {
         return Ok(list_end(arena, place, list, head));
     }
-    if let Some(near) = follow_near_struct(arena, limiter, place, levels)? {
+    if let Some(near) = follow_near_struct(arena, bytes, limiter, place, levels)? {
         return struct_end(arena, limiter, place, near, levels - 1, head);
     }
     any_end(arena, limiter, place, levels, head)
@@ -319,7 +321,8 @@ fn structs_end<A: ReaderArena>(
         (seen.StructList start words count size.data_words size.pointers) limiter.old result
         limiter.new }
 {
-    let cut = cut_of(arena, start, size.data_words, size.pointers, count);
+    let bytes = segment_bytes(arena, start.segment);
+    let cut = cut_of(arena, bytes, start, size.data_words, size.pointers, count);
     let own = count as usize * (cut.kept_words as usize + cut.kept_pointers as usize);
     if own >= REACH {
         return Ok(None);

@@ -1,38 +1,26 @@
 //! The canonical words of a value.
 ghost use Rattle.std.specs.Prelude.{◌≡◌, ℕ, ◌+◌, ◌*◌, ◌^◌, ◌≤◌, ◌<◌};
-ghost use Rattle.capnp_model.specs.Sections.{needed_words};
 ghost use Rattle.capnp_model.specs.Segments.{after};
-ghost use Rattle.capnp_model.specs.Trees.{Trees, structure, tree_count};
-ghost use Rattle.capnp_model.specs.Encoding.{pointer};
 ghost use Rattle.capnp_units.specs.Segments.{words_in};
 ghost use Rattle.capnp_object.specs.declared.object.Object.TheVariants as seen;
+ghost use Rattle.capnp_object.specs.Arenas.{bytes_of};
 ghost use Rattle.capnp_object.specs.Places.{place_view};
 ghost use Rattle.capnp_object.specs.Objects.{AreThere, IsInside};
-ghost use Rattle.capnp_object.specs.Inside.{section_at, words_there};
-ghost use Rattle.capnp_canonical.specs.Widths.{kept, widest};
 ghost use Rattle.capnp_canonical.specs.Copies.{IsData};
 ghost use Rattle.capnp_canonical.specs.Objects.{IsShort, WritesObject, HasPlace, IsCut, WritesCanonical, WritesValue, WritesRow, WritesElement, WritesElements};
 
+use crate::cuts::{Cut, cut_of, pointer_to_cut};
 use crate::follow::{follow_data, follow_near_list, follow_near_struct, follow_nulls};
 use crate::list_copies::write_list;
-use crate::own_words::{copy_words, most_needed};
+use crate::own_words::copy_words;
 use crate::words::{end_of, pointer_to_list, pointer_to_struct, put};
 use capnp_object::arena::ReaderArena;
 use capnp_object::lists::NearList;
 use capnp_object::object::Object;
-use capnp_object::place::Place;
+use capnp_object::place::{Place, segment_bytes};
 use capnp_units::errors::Result;
 use capnp_units::limiter::ReadLimiter;
 use capnp_units::sizes::{StructSize, Word};
-
-/// How the words of a struct are cut: those of its data and its pointers, and of each how many are kept.
-#[derive(Clone, Copy)]
-pub(crate) struct Cut {
-    pub(crate) data_words: u16,
-    pub(crate) pointers: u16,
-    pub(crate) kept_words: u16,
-    pub(crate) kept_pointers: u16,
-}
 
 /// Writes the canonical words of the value of the pointer at a place: the word of the pointer to it, and the words of its objects behind that, each before those that it points to. The answer is how many there are; the slice behind them stays as it was.
 ///
@@ -50,7 +38,8 @@ pub fn write_canonical<A: ReaderArena>(
         into.old limiter.old result into.new limiter.new }
 {
     let used = end_of(into, 0, 1)?;
-    write_at(arena, limiter, place, levels, into, 0, used)
+    let bytes = segment_bytes(arena, place.segment);
+    write_at(arena, bytes, limiter, place, levels, into, 0, used)
 }
 
 /// Writes the pointer at a place to what it leads to, which goes behind the words that are used. The answer is where that ends.
@@ -58,6 +47,7 @@ pub fn write_canonical<A: ReaderArena>(
 #[inline(always)]
 fn write_at<A: ReaderArena>(
     arena: &A,
+    bytes: &[u8],
     limiter: &mut ReadLimiter,
     place: Place,
     levels: u32,
@@ -65,21 +55,22 @@ fn write_at<A: ReaderArena>(
     at: usize,
     used: usize,
 ) -> Result<usize>
-    requires { HasPlace (at + 1) used into.old }
+    requires bytes { bytes.now ≡ bytes_of (A.segments arena.now) place.segment }
+    requires place { HasPlace (at + 1) used into.old }
     ensures { WritesValue levels (words_in (A.segments arena.now)) (place_view place) at used
         into.old limiter.old result into.new limiter.new }
 {
-    if let Some(list) = follow_near_list(arena, limiter, place, levels)? {
-        return write_list(arena, list, into, at, used);
+    if let Some(list) = follow_near_list(arena, bytes, limiter, place, levels)? {
+        return write_list(arena, bytes, list, into, at, used);
     }
-    if let Some(near) = follow_near_struct(arena, limiter, place, levels)? {
+    if let Some(near) = follow_near_struct(arena, bytes, limiter, place, levels)? {
         let StructSize {
             data_words,
             pointers,
         } = near.size;
         let below = levels - 1;
         return write_struct(
-            arena, limiter, near.start, data_words, pointers, below, into, at, used,
+            arena, bytes, limiter, near.start, data_words, pointers, below, into, at, used,
         );
     }
     write_any(arena, limiter, place, levels, into, at, used)
@@ -135,18 +126,23 @@ fn write_object<A: ReaderArena>(
             start,
             data_words,
             pointers,
-        } => write_struct(
-            arena, limiter, start, data_words, pointers, levels, into, at, used,
-        ),
+        } => {
+            let bytes = segment_bytes(arena, start.segment);
+            write_struct(
+                arena, bytes, limiter, start, data_words, pointers, levels, into, at, used,
+            )
+        }
         Object::List { start, size, count } => {
+            let bytes = segment_bytes(arena, start.segment);
             let list = NearList::new(start, size, count);
-            write_list(arena, list, into, at, used)
+            write_list(arena, bytes, list, into, at, used)
         }
         Object::PointerList { start, count } => {
             let end = end_of(into, used, count as usize)?;
             let word = pointer_to_list((used - at - 1) as u64, 6, count as u64);
             put(into, at, word);
-            write_row(arena, limiter, start, count, levels, into, used, end)
+            let bytes = segment_bytes(arena, start.segment);
+            write_row(arena, bytes, limiter, start, count, levels, into, used, end)
         }
         Object::StructList {
             start,
@@ -154,9 +150,13 @@ fn write_object<A: ReaderArena>(
             count,
             data_words,
             pointers,
-        } => write_structs(
-            arena, limiter, start, words, count, data_words, pointers, levels, into, at, used,
-        ),
+        } => {
+            let bytes = segment_bytes(arena, start.segment);
+            write_structs(
+                arena, bytes, limiter, start, words, count, data_words, pointers, levels, into, at,
+                used,
+            )
+        }
     }
 }
 
@@ -164,6 +164,7 @@ fn write_object<A: ReaderArena>(
 #[cycle(write)]
 fn write_struct<A: ReaderArena>(
     arena: &A,
+    bytes: &[u8],
     limiter: &mut ReadLimiter,
     start: Place,
     data_words: u16,
@@ -173,6 +174,7 @@ fn write_struct<A: ReaderArena>(
     at: usize,
     used: usize,
 ) -> Result<usize>
+    requires bytes { bytes.now ≡ bytes_of (A.segments arena.now) start.segment }
     requires inside { AreThere (words_in (A.segments arena.now)) (place_view start)
         (data_words + pointers) }
     requires place { HasPlace (at + 1) used into.old }
@@ -180,18 +182,19 @@ fn write_struct<A: ReaderArena>(
         (seen.Struct start data_words pointers) at used
         into.old limiter.old result into.new limiter.new }
 {
-    let cut = cut_of(arena, start, data_words, pointers, 1);
+    let cut = cut_of(arena, bytes, start, data_words, pointers, 1);
     let words = cut.kept_words as usize + cut.kept_pointers as usize;
     let end = end_of(into, used, words)?;
     let word = pointer_to_cut(used - at - 1, cut);
     put(into, at, word);
-    write_element(arena, limiter, start, cut, levels, into, used, end)
+    write_element(arena, bytes, limiter, start, cut, levels, into, used, end)
 }
 
 /// Writes the pointer to a list of structs, and the list with what is below it behind the words that are used.
 #[cycle(write)]
 fn write_structs<A: ReaderArena>(
     arena: &A,
+    bytes: &[u8],
     limiter: &mut ReadLimiter,
     start: Place,
     words: u32,
@@ -203,6 +206,7 @@ fn write_structs<A: ReaderArena>(
     at: usize,
     used: usize,
 ) -> Result<usize>
+    requires bytes { bytes.now ≡ bytes_of (A.segments arena.now) start.segment }
     requires inside { AreThere (words_in (A.segments arena.now)) (place_view start) words }
     requires fit { count * (data_words + pointers) ≤ words }
     requires few { count < 2 ^ 30 }
@@ -211,7 +215,7 @@ fn write_structs<A: ReaderArena>(
         (seen.StructList start words count data_words pointers) at used
         into.old limiter.old result into.new limiter.new }
 {
-    let cut = cut_of(arena, start, data_words, pointers, count);
+    let cut = cut_of(arena, bytes, start, data_words, pointers, count);
     let width = cut.kept_words as usize + cut.kept_pointers as usize;
     let own = count as usize * width;
     let end = end_of(into, used, 1 + own)?;
@@ -225,6 +229,7 @@ fn write_structs<A: ReaderArena>(
     put(into, used, tag);
     write_elements(
         arena,
+        bytes,
         limiter,
         start,
         words,
@@ -237,58 +242,12 @@ fn write_structs<A: ReaderArena>(
     )
 }
 
-/// The least sizes that so many structs in a row can do with.
-#[inline(always)]
-pub(crate) fn cut_of<A: ReaderArena>(
-    arena: &A,
-    start: Place,
-    data_words: u16,
-    pointers: u16,
-    count: u32,
-) -> Cut
-    requires { AreThere (words_in (A.segments arena.now)) (place_view start)
-        (count * (data_words + pointers)) }
-    ensures sizes { (result.data_words ≡ data_words) × (result.pointers ≡ pointers)
-        × (result.kept_words ≤ data_words) × (result.kept_pointers ≤ pointers) }
-    ensures narrow { (result.kept_words < 2 ^ 16) × (result.kept_pointers < 2 ^ 16) }
-    ensures words { let s = words_in (A.segments arena.now) in result.kept_words
-        ≡ widest (λ p. needed_words data_words (section_at s p data_words))
-        (place_view start) (data_words + pointers) count }
-    ensures pointers { let s = words_in (A.segments arena.now) in result.kept_pointers
-        ≡ widest (λ p. kept (words_there s p pointers))
-        (after (place_view start) data_words) (data_words + pointers) count }
-{
-    let width = data_words as usize + pointers as usize;
-    let first = Place {
-        segment: start.segment,
-        position: start.position + data_words as usize,
-    };
-    Cut {
-        data_words,
-        pointers,
-        kept_words: most_needed(arena, start, data_words, width, count),
-        kept_pointers: most_needed(arena, first, pointers, width, count),
-    }
-}
-
-/// The pointer to a struct that begins so many words behind it. An empty one lies at the pointer itself.
-#[inline(always)]
-pub(crate) fn pointer_to_cut(gap: usize, cut: Cut) -> u64
-    requires { gap < 2 ^ 29 }
-    ensures { (section : ℕ) (ts : Trees) → tree_count ts ≡ cut.kept_pointers
-        → result ≡ pointer gap (structure cut.kept_words section ts) }
-{
-    if cut.kept_words == 0 && cut.kept_pointers == 0 {
-        return pointer_to_struct(0x3fff_ffff, 0, 0);
-    }
-    pointer_to_struct(gap as u64, cut.kept_words as u64, cut.kept_pointers as u64)
-}
-
 /// Writes the pointers in a row over the words from a place on, and what they lead to behind the words that are used.
 #[cycle(write)]
 #[inline(always)]
 fn write_row<A: ReaderArena>(
     arena: &A,
+    bytes: &[u8],
     limiter: &mut ReadLimiter,
     first: Place,
     count: u32,
@@ -297,6 +256,7 @@ fn write_row<A: ReaderArena>(
     at: usize,
     used: usize,
 ) -> Result<usize>
+    requires bytes { bytes.now ≡ bytes_of (A.segments arena.now) first.segment }
     requires first { first.position + count < 2 ^ 62 }
     requires place { HasPlace (at + count) used into.old }
     ensures { WritesRow levels (words_in (A.segments arena.now)) (place_view first) count at used
@@ -308,7 +268,16 @@ fn write_row<A: ReaderArena>(
             segment: first.segment,
             position: first.position + i as usize,
         };
-        let next = write_at(arena, limiter, place, levels, into, at + i as usize, end)?;
+        let next = write_at(
+            arena,
+            bytes,
+            limiter,
+            place,
+            levels,
+            into,
+            at + i as usize,
+            end,
+        )?;
         end = next;
     }
     Ok(end)
@@ -319,6 +288,7 @@ fn write_row<A: ReaderArena>(
 #[inline(always)]
 fn write_element<A: ReaderArena>(
     arena: &A,
+    bytes: &[u8],
     limiter: &mut ReadLimiter,
     start: Place,
     cut: Cut,
@@ -327,13 +297,14 @@ fn write_element<A: ReaderArena>(
     at: usize,
     used: usize,
 ) -> Result<usize>
+    requires bytes { bytes.now ≡ bytes_of (A.segments arena.now) start.segment }
     requires cut { IsCut (words_in (A.segments arena.now)) (place_view start) cut }
     requires place { HasPlace (at + (cut.kept_words + cut.kept_pointers)) used into.old }
     ensures { WritesElement levels (words_in (A.segments arena.now)) (place_view start) cut at used
         into.old limiter.old result into.new limiter.new }
 {
     let kept = cut.kept_words as usize;
-    copy_words(arena, start, kept, into, at);
+    copy_words(arena, bytes, start, kept, into, at);
     let first = Place {
         segment: start.segment,
         position: start.position + cut.data_words as usize,
@@ -341,6 +312,7 @@ fn write_element<A: ReaderArena>(
     let pointers = cut.kept_pointers as u32;
     let end = write_row(
         arena,
+        bytes,
         limiter,
         first,
         pointers,
@@ -357,6 +329,7 @@ fn write_element<A: ReaderArena>(
 #[cycle(write)]
 fn write_elements<A: ReaderArena>(
     arena: &A,
+    bytes: &[u8],
     limiter: &mut ReadLimiter,
     start: Place,
     words: u32,
@@ -367,6 +340,7 @@ fn write_elements<A: ReaderArena>(
     at: usize,
     used: usize,
 ) -> Result<usize>
+    requires bytes { bytes.now ≡ bytes_of (A.segments arena.now) start.segment }
     requires inside { AreThere (words_in (A.segments arena.now)) (place_view start) words }
     requires fit { count * (cut.data_words + cut.pointers) ≤ words }
     requires sizes { (cut.kept_words ≤ cut.data_words) × (cut.kept_pointers ≤ cut.pointers) }
@@ -388,7 +362,9 @@ fn write_elements<A: ReaderArena>(
             position: start.position + i as usize * width,
         };
         let place = at + i as usize * kept;
-        let next = write_element(arena, limiter, element, cut, levels, into, place, end)?;
+        let next = write_element(
+            arena, bytes, limiter, element, cut, levels, into, place, end,
+        )?;
         end = next;
     }
     Ok(end)

@@ -3,6 +3,7 @@ ghost use Rattle.std.specs.Prelude.{◌≡◌, Some, None, IfOk, IfSome, MatchRe
 ghost use Rattle.capnp_units.specs.Errors.{kind_of};
 ghost use Rattle.capnp_units.specs.Segments.{words_in};
 ghost use Rattle.capnp_units.specs.Limits.{Spends, Follows};
+ghost use Rattle.capnp_object.specs.Arenas.{bytes_of};
 ghost use Rattle.capnp_object.specs.Places.{place_view};
 ghost use Rattle.capnp_object.specs.Named.{named_view};
 ghost use Rattle.capnp_object.specs.Follow.{FollowsWithin, own_cost};
@@ -13,7 +14,7 @@ use capnp_object::arena::ReaderArena;
 use capnp_object::follow::own_cost;
 use capnp_object::lists::NearList;
 use capnp_object::named::{NamedObject, found_at};
-use capnp_object::near::{near_list, near_struct};
+use capnp_object::near::{near_list_in, near_struct_in};
 use capnp_object::object::{Object, whole};
 use capnp_object::place::Place;
 use capnp_object::structs::NearStruct;
@@ -77,16 +78,18 @@ fn list_cost(list: NearList) -> u64
     }
 }
 
-/// The list that `near_list` tells at a place, on a walk of at most so many levels. It is counted as followed, and the list's words are granted. `None` says nothing of what is there, and nothing was counted.
+/// The list that `near_list_in` tells at a place in the segment of these bytes, on a walk of at most so many levels. It is counted as followed, and the list's words are granted. `None` says nothing of what is there, and nothing was counted.
 ///
 /// It is refused with `ReadLimitExceeded` where the words pass what is left of the limit. Then it is counted all the same, and no word is granted.
 #[inline(always)]
 pub(crate) fn follow_near_list<A: ReaderArena>(
     arena: &A,
+    bytes: &[u8],
     limiter: &mut ReadLimiter,
     place: Place,
     levels: u32,
 ) -> Result<Option<NearList>>
+    requires { bytes.now ≡ bytes_of (A.segments arena.now) place.segment }
     ensures copied { FollowsNear list_object
         (FollowsData levels (words_in (A.segments arena.now)) (place_view place))
         limiter.old result limiter.new }
@@ -95,12 +98,12 @@ pub(crate) fn follow_near_list<A: ReaderArena>(
         limiter.old result limiter.new }
     ensures near { IfOk result (λ found. IfSome found (λ list.
         IsNear (words_in (A.segments arena.now)) (place_view place) (list_object list)
-        × IsMeasured list)) }
+        × IsMeasured list × (list.start.segment ≡ place.segment))) }
 {
     if levels == 0 {
         return Ok(None);
     }
-    let Some(list) = near_list(arena, place) else {
+    let Some(list) = near_list_in(bytes, place) else {
         return Ok(None);
     };
     limiter.follow();
@@ -108,16 +111,18 @@ pub(crate) fn follow_near_list<A: ReaderArena>(
     Ok(Some(list))
 }
 
-/// The struct that `near_struct` tells at a place, on a walk of at most so many levels. It is counted as followed, and the struct's words are granted. `None` says nothing of what is there, and nothing was counted.
+/// The struct that `near_struct_in` tells at a place in the segment of these bytes, on a walk of at most so many levels. It is counted as followed, and the struct's words are granted. `None` says nothing of what is there, and nothing was counted.
 ///
 /// It is refused with `ReadLimitExceeded` where the words pass what is left of the limit. Then it is counted all the same, and no word is granted.
 #[inline(always)]
 pub(crate) fn follow_near_struct<A: ReaderArena>(
     arena: &A,
+    bytes: &[u8],
     limiter: &mut ReadLimiter,
     place: Place,
     levels: u32,
 ) -> Result<Option<NearStruct>>
+    requires { bytes.now ≡ bytes_of (A.segments arena.now) place.segment }
     ensures copied { FollowsNear struct_object
         (FollowsData levels (words_in (A.segments arena.now)) (place_view place))
         limiter.old result limiter.new }
@@ -125,12 +130,13 @@ pub(crate) fn follow_near_struct<A: ReaderArena>(
         (FollowsWithin levels (words_in (A.segments arena.now)) (place_view place))
         limiter.old result limiter.new }
     ensures near { IfOk result (λ found. IfSome found (λ near.
-        IsNear (words_in (A.segments arena.now)) (place_view place) (struct_object near))) }
+        IsNear (words_in (A.segments arena.now)) (place_view place) (struct_object near)
+        × (near.start.segment ≡ place.segment))) }
 {
     if levels == 0 {
         return Ok(None);
     }
-    let Some(near) = near_struct(arena, place) else {
+    let Some(near) = near_struct_in(bytes, place) else {
         return Ok(None);
     };
     limiter.follow();

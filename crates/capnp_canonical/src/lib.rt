@@ -3,6 +3,7 @@
 
 pub mod check;
 pub mod copy;
+mod cuts;
 mod follow;
 mod heads;
 pub mod laws;

@@ -1,7 +1,8 @@
 //! Copies of lists of plain elements.
-ghost use Rattle.std.specs.Prelude.{ℕ, ◌+◌};
+ghost use Rattle.std.specs.Prelude.{◌≡◌, ℕ, ◌+◌};
 ghost use Rattle.capnp_units.specs.Segments.{words_in};
 ghost use Rattle.capnp_units.specs.declared.limiter.ReadLimiter.{ReadLimiter};
+ghost use Rattle.capnp_object.specs.Arenas.{bytes_of};
 ghost use Rattle.capnp_object.specs.Objects.{IsInside};
 ghost use Rattle.capnp_object.specs.Near.{list_object, IsMeasured};
 ghost use Rattle.capnp_canonical.specs.Objects.{IsShort, WritesObject, HasPlace};
@@ -17,11 +18,13 @@ use capnp_units::sizes::Word;
 #[inline(always)]
 pub(crate) fn write_list<A: ReaderArena>(
     arena: &A,
+    bytes: &[u8],
     list: NearList,
     into: &mut [Word],
     at: usize,
     used: usize,
 ) -> Result<usize>
+    requires bytes { bytes.now ≡ bytes_of (A.segments arena.now) list.start.segment }
     requires inside { IsInside (words_in (A.segments arena.now)) (list_object list) }
     requires measured { IsMeasured list }
     requires short { IsShort (list_object list) }
@@ -36,7 +39,7 @@ pub(crate) fn write_list<A: ReaderArena>(
         list.count as u64,
     );
     put(into, at, word);
-    copy_words(arena, list.start, list.words, into, used);
+    copy_words(arena, bytes, list.start, list.words, into, used);
     mask_last(into, end, list.bits);
     Ok(end)
 }

@@ -5,6 +5,7 @@ ghost use Rattle.capnp_model.specs.Segments.{after, word_at};
 ghost use Rattle.capnp_model.specs.Sections.{needed_words};
 ghost use Rattle.capnp_model.specs.Spelling.{AreWords};
 ghost use Rattle.capnp_units.specs.Segments.{words_in};
+ghost use Rattle.capnp_object.specs.Arenas.{bytes_of};
 ghost use Rattle.capnp_object.specs.Places.{place_view};
 ghost use Rattle.capnp_object.specs.Objects.{AreThere};
 ghost use Rattle.capnp_object.specs.Inside.{section_at, words_there};
@@ -14,7 +15,7 @@ ghost use Rattle.capnp_canonical.specs.Writes.{words_view, with_words};
 ghost use Rattle.capnp_canonical.specs.Widths.{kept, widest, NeedsAll, IsLeast};
 
 use capnp_object::arena::ReaderArena;
-use capnp_object::place::{Place, word_at};
+use capnp_object::place::{Place, segment_bytes, word_at, word_in};
 use capnp_units::sizes::{StructSize, Word};
 
 /// The word at a place, or 0 where there is none.
@@ -27,9 +28,21 @@ pub(crate) fn word_or_zero<A: ReaderArena>(arena: &A, place: Place) -> u64
     word_at(arena, place).unwrap_or(0)
 }
 
+/// The same of a place in the segment of these bytes.
+#[inline(always)]
+fn word_or_zero_in<A: ReaderArena>(arena: &A, bytes: &[u8], place: Place) -> u64
+    requires bytes { bytes.now ≡ bytes_of (A.segments arena.now) place.segment }
+    ensures word { result ≡ unwrap_or
+        (word_at (words_in (A.segments arena.now)) (place_view place)) 0 }
+    ensures fits { result < 2 ^ 64 }
+{
+    word_in(bytes, place.position).unwrap_or(0)
+}
+
 /// How many of so many words there are without zeros at the end, and at least so many as were needed before. Only the words behind those are looked at.
 #[inline(always)]
-fn more_needed<A: ReaderArena>(arena: &A, start: Place, count: u16, most: u16) -> u16
+fn more_needed<A: ReaderArena>(arena: &A, bytes: &[u8], start: Place, count: u16, most: u16) -> u16
+    requires bytes { bytes.now ≡ bytes_of (A.segments arena.now) start.segment }
     requires there { AreThere (words_in (A.segments arena.now)) (place_view start) count }
     requires before { most ≤ count }
     ensures needed { result ≡ max most (needed_words count
@@ -44,7 +57,7 @@ fn more_needed<A: ReaderArena>(arena: &A, start: Place, count: u16, most: u16) -
             segment: start.segment,
             position: start.position + (n - 1) as usize,
         };
-        if word_or_zero(arena, last) != 0 {
+        if word_or_zero_in(arena, bytes, last) != 0 {
             return n;
         }
         n -= 1;
@@ -103,11 +116,13 @@ pub(crate) fn is_least<A: ReaderArena>(arena: &A, start: Place, size: StructSize
 #[inline(always)]
 pub(crate) fn most_needed<A: ReaderArena>(
     arena: &A,
+    bytes: &[u8],
     start: Place,
     words: u16,
     width: usize,
     count: u32,
 ) -> u16
+    requires bytes { bytes.now ≡ bytes_of (A.segments arena.now) start.segment }
     requires short { width < 2 ^ 17 }
     requires there { (i : ℕ) → i < count
         → AreThere (words_in (A.segments arena.now)) (after (place_view start) (i * width)) words }
@@ -128,7 +143,7 @@ pub(crate) fn most_needed<A: ReaderArena>(
             segment: start.segment,
             position: start.position + i as usize * width,
         };
-        most = more_needed(arena, part, words, most);
+        most = more_needed(arena, bytes, part, words, most);
         if most == words {
             return most;
         }
@@ -142,32 +157,34 @@ fn are_bytes(bytes: &[u8])
     ensures { (i : ℕ) → slice_index bytes.now i < 256 }
 {}
 
+/// The words of the segment of these bytes are numbers of 64 bits.
+#[inline(always)]
+fn are_words_of<A: ReaderArena>(arena: &A, bytes: &[u8], segment: u32)
+    requires { bytes.now ≡ bytes_of (A.segments arena.now) segment }
+    ensures { AreWords (segment_words (words_in (A.segments arena.now)) segment) }
+{
+    are_bytes(bytes);
+}
+
 /// The words of a segment are numbers of 64 bits.
 #[inline(always)]
 pub(crate) fn are_words<A: ReaderArena>(arena: &A, segment: u32)
     ensures { AreWords (segment_words (words_in (A.segments arena.now)) segment) }
 {
-    match arena.get_segment(segment) {
-        Some(bytes) => are_bytes(bytes),
-        None => {}
-    }
+    are_words_of(arena, segment_bytes(arena, segment), segment);
 }
 
 /// So many words from a place on, where they are there.
 #[inline(always)]
-fn row_of<A: ReaderArena>(arena: &A, start: Place, count: usize) -> &[Word]
-    requires { AreThere (words_in (A.segments arena.now)) (place_view start) count }
+fn row_of<'a, A: ReaderArena>(arena: &A, bytes: &'a [u8], start: Place, count: usize) -> &'a [Word]
+    requires bytes { bytes.now ≡ bytes_of (A.segments arena.now) start.segment }
+    requires there { AreThere (words_in (A.segments arena.now)) (place_view start) count }
     ensures words { words_view result.now
         ≡ words_there (words_in (A.segments arena.now)) (place_view start) count }
     ensures len { length result.now ≡ count }
 {
-    match arena.get_segment(start.segment) {
-        Some(bytes) => {
-            let (words, _) = bytes.as_chunks::<8>();
-            &words[start.position..start.position + count]
-        }
-        None => &[],
-    }
+    let (words, _) = bytes.as_chunks::<8>();
+    &words[start.position..start.position + count]
 }
 
 /// So many words are copied faster one by one than all at once.
@@ -192,11 +209,13 @@ fn lay(into: &mut [Word], at: usize, row: &[Word])
 #[inline(always)]
 pub(crate) fn copy_words<A: ReaderArena>(
     arena: &A,
+    bytes: &[u8],
     start: Place,
     count: usize,
     into: &mut [Word],
     at: usize,
 )
+    requires bytes { bytes.now ≡ bytes_of (A.segments arena.now) start.segment }
     requires there { AreThere (words_in (A.segments arena.now)) (place_view start) count }
     requires room { at + count ≤ length into.old }
     ensures words { words_view into.new
@@ -205,6 +224,6 @@ pub(crate) fn copy_words<A: ReaderArena>(
         (words_view into.old) }
     ensures behind { Behind (at + count) into.old into.new }
 {
-    are_words(arena, start.segment);
-    lay(into, at, row_of(arena, start, count));
+    are_words_of(arena, bytes, start.segment);
+    lay(into, at, row_of(arena, bytes, start, count));
 }

@@ -1,5 +1,6 @@
 -- Objects that are told in one look.
-use Rattle.std.proofs.Common.{◌≡◌, ℕ, ◌+◌, ◌-◌, ◌*◌, ◌/◌, ◌^◌, ◌<◌, Bool, true, false, nat_lt, leb, eqb, if◌then◌else◌, List, length, Option, Some, None, Result, Ok, refl, ap, sym, ◌∙◌, subst, arith}
+use Rattle.std.proofs.Common.{◌≡◌, ℕ, ◌+◌, ◌-◌, ◌*◌, ◌/◌, ◌^◌, ◌<◌, Bool, true, false, nat_lt, leb, eqb, if◌then◌else◌, List, [], length, Option, Some, None, Result, Ok, refl, ap, sym, ◌∙◌, subst, arith}
+use Rattle.std.specs.Prelude.{unwrap_or}
 use Rattle.std.specs.List.{slice_get}
 use Rattle.std.specs.Option.{ok_or, is_some}
 use Rattle.std.proofs.lemmas.Bool.{ne_eqb}
@@ -17,6 +18,7 @@ use Rattle.capnp_units.specs.Sizes.{size_number, data_bits}
 use Rattle.capnp_object.specs.declared.place.Place.{Place as Where}
 use Rattle.capnp_object.specs.declared.object.Object.{Object}
 use Rattle.capnp_object.specs.declared.object.Object.TheVariants as object
+use Rattle.capnp_object.specs.Arenas.{bytes_of}
 use Rattle.capnp_object.specs.Places.{place_view}
 use Rattle.capnp_object.specs.Objects.{whole}
 use Rattle.capnp_object.specs.Near.{IsNear}
@@ -24,13 +26,21 @@ use Rattle.capnp_object.proofs.Words.{segment_there, words_where}
 use Rattle.capnp_object.proofs.Walking.{exact_object}
 
 -- an object begins in the segment where its pointer ends
-begins_where : (p q : Place) (offset : ℕ) → begins p offset ≡ Ok q → q.segment ≡ p.segment
+pub begins_where : (p q : Place) (offset : ℕ) → begins p offset ≡ Ok q → q.segment ≡ p.segment
 begins_where p q offset e = by (nat_lt offset (2 ^ 29)) (leb (2 ^ 30) (p.position + offset)) e
   where
     by : (b d : Bool) → (if b then Ok (after p offset) else ok_or (place p.segment (p.position + offset - 2 ^ 30) provided d) OutOfBounds) ≡ Ok q → q.segment ≡ p.segment
     by true d e = ap (λ (x : Place). x.segment) (sym (ok_is _ _ e))
     by false true e = ap (λ (x : Place). x.segment) (sym (ok_is _ _ e))
     by false false e = absurd cc
+
+-- a segment that has a word is there
+pub held : (segments : List (List ℕ)) (i position w : ℕ) (bytes : List ℕ) → bytes ≡ bytes_of segments i → Some w ≡ slice_get (whole_words bytes) position → Some bytes ≡ slice_get segments i
+held segments i position w bytes is word = by (slice_get segments i) is
+  where
+    by : (o : Option (List ℕ)) → bytes ≡ unwrap_or o [] → Some bytes ≡ o
+    by None e = let none : Some w ≡ slice_get (whole_words []) position = word ∙ ap (λ (bs : List ℕ). slice_get (whole_words bs) position) e in absurd cc
+    by (Some bs) e = ap (λ (x : List ℕ). Some x) e
 
 -- a pointer to a list is no word of zeros
 some_word : (w offset size n : ℕ) → to_list offset size n ≡ pointer_of w → w ≡ 0 → ⊥
@@ -55,6 +65,11 @@ whole_plain s q InlineComposite n h e = absurd (omega arith)
 abbrev pub bits_of : Object → ℕ
 bits_of (object.List p size n) = data_bits (size_number size) * n
 bits_of _ = 0
+
+-- the segment of a list
+abbrev pub segment_of : Object → ℕ
+segment_of (object.List p size n) = p.segment
+segment_of _ = 0
 
 -- an object without a pad
 abbrev found_near : model.Object → model.Found

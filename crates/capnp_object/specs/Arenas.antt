@@ -1,5 +1,5 @@
 -- What arenas tell of their segments.
-use Rattle.std.specs.Prelude.{ℕ, zero, suc, ℤ, pos, negsuc, ◌+◌, ◌-◌, ◌/◌, nat_lt, if◌then◌else◌, List, length, slice_get, Option, Some, None, Result, Ok, Err}
+use Rattle.std.specs.Prelude.{ℕ, zero, suc, ℤ, pos, negsuc, ◌+◌, ◌-◌, ◌/◌, nat_lt, if◌then◌else◌, List, [], length, slice_get, Option, Some, None, unwrap_or, Result, Ok, Err}
 use Rattle.std.specs.Option.{is_some}
 use Rattle.capnp_model.specs.Kinds.{Kind, OutOfBounds}
 use Rattle.capnp_model.specs.Segments.{Segments, Place, place, after, words_at}
@@ -8,6 +8,10 @@ use Rattle.capnp_model.specs.Segments.{Segments, Place, place, after, words_at}
 abbrev pub word_count : Option (List ℕ) → ℕ
 word_count None = 0
 word_count (Some bytes) = length bytes / 8
+
+-- The bytes of a segment, none where it isn't there.
+abbrev pub bytes_of : List (List ℕ) → ℕ → List ℕ
+bytes_of segments i = unwrap_or (slice_get segments i) []
 
 -- The words of so many segments, from the first on.
 abbrev pub words_before : List (List ℕ) → ℕ → ℕ

@@ -1,12 +1,13 @@
 //! Structs, and lists of plain elements, that are told in one look at their segment.
-ghost use Rattle.std.specs.Prelude.{IfSome};
+ghost use Rattle.std.specs.Prelude.{◌≡◌, ℕ, List, IfSome};
 ghost use Rattle.capnp_units.specs.Segments.{words_in};
+ghost use Rattle.capnp_object.specs.Arenas.{bytes_of};
 ghost use Rattle.capnp_object.specs.Places.{place_view};
 ghost use Rattle.capnp_object.specs.Near.{list_object, struct_object, IsMeasured, IsNear};
 
 use crate::arena::ReaderArena;
 use crate::lists::NearList;
-use crate::place::{Place, begins_at, reach, word_in};
+use crate::place::{Place, begins_at, reach, segment_bytes, word_in};
 use crate::structs::NearStruct;
 use crate::word_pointer::{WordPointer, pointer_of_word};
 use capnp_units::sizes::StructSize;
@@ -23,7 +24,18 @@ pub fn near_list<A: ReaderArena>(arena: &A, place: Place) -> Option<NearList>
         IsNear (words_in (A.segments arena.now)) (place_view place) (list_object list)) }
     ensures measured { IfSome result IsMeasured }
 {
-    let bytes = arena.get_segment(place.segment)?;
+    near_list_in(segment_bytes(arena, place.segment), place)
+}
+
+/// The same of a place in the segment of these bytes, which isn't asked for.
+#[inline(always)]
+pub fn near_list_in(bytes: &[u8], place: Place) -> Option<NearList>
+    ensures near { (segments : List (List ℕ)) → bytes.now ≡ bytes_of segments place.segment
+        → IfSome result (λ list.
+        IsNear (words_in segments) (place_view place) (list_object list)) }
+    ensures measured { IfSome result IsMeasured }
+    ensures segment { IfSome result (λ list. list.start.segment ≡ place.segment) }
+{
     let word = word_in(bytes, place.position)?;
     let WordPointer::List {
         offset,
@@ -58,7 +70,17 @@ pub fn near_struct<A: ReaderArena>(arena: &A, place: Place) -> Option<NearStruct
     ensures { IfSome result (λ near.
         IsNear (words_in (A.segments arena.now)) (place_view place) (struct_object near)) }
 {
-    let bytes = arena.get_segment(place.segment)?;
+    near_struct_in(segment_bytes(arena, place.segment), place)
+}
+
+/// The same of a place in the segment of these bytes, which isn't asked for.
+#[inline(always)]
+pub fn near_struct_in(bytes: &[u8], place: Place) -> Option<NearStruct>
+    ensures near { (segments : List (List ℕ)) → bytes.now ≡ bytes_of segments place.segment
+        → IfSome result (λ near.
+        IsNear (words_in segments) (place_view place) (struct_object near)) }
+    ensures segment { IfSome result (λ near. near.start.segment ≡ place.segment) }
+{
     let word = word_in(bytes, place.position)?;
     if word == 0 {
         return None;

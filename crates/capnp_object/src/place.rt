@@ -6,6 +6,7 @@ ghost use Rattle.capnp_model.specs.Segments.{place, word_at, words_at};
 ghost use Rattle.capnp_model.specs.Sections.{bits_at};
 ghost use Rattle.capnp_model.specs.Pointers.{begins};
 ghost use Rattle.capnp_units.specs.Segments.{whole_words, words_in};
+ghost use Rattle.capnp_object.specs.Arenas.{bytes_of};
 ghost use Rattle.capnp_object.specs.Places.{place_view, seen};
 
 use crate::arena::ReaderArena;
@@ -32,7 +33,7 @@ pub struct Place {
 
 /// The word at a position in words of bytes, where they have it whole.
 #[inline(always)]
-pub(crate) fn word_in(bytes: &[u8], position: usize) -> Option<u64>
+pub fn word_in(bytes: &[u8], position: usize) -> Option<u64>
     ensures word { result ≡ slice_get (whole_words bytes.now) position }
     ensures near { OnSome result (position < 2 ^ 61) }
 {
@@ -47,6 +48,17 @@ pub fn word_at<A: ReaderArena>(arena: &A, place: Place) -> Option<u64>
     ensures near { OnSome result (place.position < 2 ^ 61) }
 {
     word_in(arena.get_segment(place.segment)?, place.position)
+}
+
+/// The bytes of a segment, none where it isn't there.
+#[inline(always)]
+pub fn segment_bytes<A: ReaderArena>(arena: &A, segment: u32) -> &[u8]
+    ensures { result.now ≡ bytes_of (A.segments arena.now) segment }
+{
+    match arena.get_segment(segment) {
+        Some(bytes) => bytes,
+        None => &[],
+    }
 }
 
 /// Whether bytes have so many whole words from a position on.

@@ -178,7 +178,7 @@ value_end-list_end-requires g t c =
     let k = c.follow_near_list.new.limiter in
     let followed : FollowsWithin c.args.levels s (place_view c.args.place) c.args.limiter.now (Ok (list_object c.in-Some.list)) k = rw c.in-Some.is at c.in_ok-list.ensures.walked in
     let pays = followed.0 in
-    let near : IsNear s (place_view c.args.place) (list_object c.in-Some.list) × IsMeasured c.in-Some.list = rw c.in-Some.is at c.in_ok-list.ensures.near in
+    let near : IsNear s (place_view c.args.place) (list_object c.in-Some.list) × IsMeasured c.in-Some.list × (c.in-Some.list.start.segment ≡ c.args.place.segment) = rw c.in-Some.is at c.in_ok-list.ensures.near in
     record { near = near.0; measured = near.1; short = short_at s (place_view c.args.place) (list_object c.in-Some.list) c.args.limiter.now k pays; head = c.requires }
 
 pub value_end-struct_end-requires : goal.value_end-struct_end-requires
@@ -186,10 +186,10 @@ value_end-struct_end-requires g t c =
     let s : Segments = words_in (g.A.ReaderArena.segments c.args.arena.now) in
     let p : Place = place_view c.args.place in
     let n = c.args.levels in
-    let near : IsNear s p (struct_object c.in-Some-2.near) = rw c.in-Some-2.is at c.in_ok-near.ensures.near in
+    let near : IsNear s p (struct_object c.in-Some-2.near) × (c.in-Some-2.near.start.segment ≡ c.args.place.segment) = rw c.in-Some-2.is at c.in_ok-near.ensures.near in
     let here : FollowsWithin n s p c.follow_near_list.new.limiter (Ok (struct_object c.in-Some-2.near)) c.follow_near_struct.new.limiter = rw c.in-Some-2.is at c.in_ok-near.ensures.walked in
     let some = some_left n here.1 in
-    λ κs lives. (omega arith, (lives, (near, c.requires)))
+    λ κs lives. (omega arith, (lives, (near.0, c.requires)))
 
 pub any_end-returns-in_err-object : goal.any_end-returns-in_err-object
 any_end-returns-in_err-object g t c =

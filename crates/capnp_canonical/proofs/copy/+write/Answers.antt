@@ -16,6 +16,7 @@ use Rattle.capnp_object.specs.declared.object.Object.TheVariants as object
 use Rattle.capnp_units.specs.declared.limiter.ReadLimiter.{ReadLimiter}
 use Rattle.capnp_object.specs.Places.{place_view}
 use Rattle.capnp_object.specs.Near.{list_object, struct_object, IsMeasured, IsNear}
+use Rattle.capnp_object.specs.Arenas.{bytes_of}
 use Rattle.capnp_object.specs.Objects.{IsInside}
 use Rattle.capnp_object.specs.Inside.{tree_in, met_in, section_at, words_there}
 use Rattle.capnp_object.specs.Walks.{Stopped}
@@ -29,6 +30,7 @@ use Rattle.capnp_canonical.proofs.Rooms.{no_room_for_struct, no_room_for_pointer
 use Rattle.capnp_canonical.proofs.Rows.{least_words, least_pointers, elements_count}
 use Rattle.capnp_object.proofs.Rows.{each_count}
 use Rattle.capnp_canonical.proofs.Steps.{null_put, leaf_at, deep_at, short_at}
+use Rattle.capnp_object.proofs.NearObjects.{segment_of}
 use Rattle.capnp_canonical.proofs.NearFollowed.{some_left, untold}
 use Rattle.capnp_canonical.proofs.Kept.{widest_one, no_wider}
 use Rattle.capnp_canonical.proofs.Nulls.{kept_count}
@@ -97,8 +99,20 @@ write_at-write_list-requires g t c =
     let k = c.follow_near_list.new.limiter in
     let followed : FollowsData n s (place_view c.args.place) c.args.limiter.now (Ok (list_object c.in-Some.list)) k = rw c.in-Some.is at c.in_ok-list.ensures.copied in
     let pays = followed.0 in
-    let near : IsNear s (place_view c.args.place) (list_object c.in-Some.list) × IsMeasured c.in-Some.list = rw c.in-Some.is at c.in_ok-list.ensures.near in
-    record { inside = pays.inside; measured = near.1; short = short_at s (place_view c.args.place) (list_object c.in-Some.list) c.args.limiter.now k pays; place = c.requires }
+    let near : IsNear s (place_view c.args.place) (list_object c.in-Some.list) × IsMeasured c.in-Some.list × (c.in-Some.list.start.segment ≡ c.args.place.segment) = rw c.in-Some.is at c.in_ok-list.ensures.near in
+    record { bytes = c.requires.bytes ∙ ap (bytes_of (g.A.ReaderArena.segments c.args.arena.now)) (sym near.2); inside = pays.inside; measured = near.1; short = short_at s (place_view c.args.place) (list_object c.in-Some.list) c.args.limiter.now k pays; place = c.requires.place }
+
+pub write_at-write_struct-requires : goal.write_at-write_struct-requires
+write_at-write_struct-requires g t c =
+    let segments = g.A.ReaderArena.segments c.args.arena.now in
+    let s : Segments = words_in segments in
+    let p : Place = place_view c.args.place in
+    let n = c.args.levels in
+    let near = c.in-Some-2.near in
+    let here : FollowsData n s p c.follow_near_list.new.limiter (Ok (struct_object near)) c.follow_near_struct.new.limiter = rw c.in-Some-2.is at c.in_ok-near.ensures.copied in
+    let some = some_left n here.1 in
+    let there : IsNear s p (struct_object near) × (near.start.segment ≡ c.args.place.segment) = rw c.in-Some-2.is at c.in_ok-near.ensures.near in
+    λ κs lives. (omega arith, (lives, (c.requires.bytes ∙ ap (bytes_of segments) (sym there.1), (here.0.inside, c.requires.place))))
 
 pub write_any-returns-in_err-object : goal.write_any-returns-in_err-object
 write_any-returns-in_err-object g t c =
@@ -138,7 +152,7 @@ pub write_object-write_list-requires : goal.write_object-write_list-requires
 write_object-write_list-requires g t c =
     let s : Segments = words_in (g.A.ReaderArena.segments c.args.arena.now) in
     let is : c.args.object ≡ list_object c.new-list.result = c.in-List.is ∙ sym c.new-list.ensures.object in
-    record { inside = subst (IsInside s) is c.requires.inside; measured = c.new-list.ensures.measured; short = subst IsShort is c.requires.short; place = c.requires.place }
+    record { bytes = c.segment_bytes-bytes-in-List.ensures ∙ ap (bytes_of (g.A.ReaderArena.segments c.args.arena.now)) (sym (ap segment_of c.new-list.ensures.object)); inside = subst (IsInside s) is c.requires.inside; measured = c.new-list.ensures.measured; short = subst IsShort is c.requires.short; place = c.requires.place }
 
 pub write_object-returns-in-StructList : goal.write_object-returns-in-StructList
 write_object-returns-in-StructList g t c =
@@ -460,7 +474,7 @@ write_structs-write_elements-requires g t c =
     let e1 = sizes.1 in
     let few = sizes.2 in
     let few_too = sizes.3 in
-    λ κs lives. (omega arith, (lives, (c.requires.inside, (fit, ((omega arith, omega arith), ((λ i h. cut_parts s p cut c.args.words c.args.count d k i h sizes.0 sizes.1 sizes.2 sizes.3 c.requires.inside c.requires.fit c.cut_of-cut.ensures.pointers), (omega arith, omega arith, near)))))))
+    λ κs lives. (omega arith, (lives, (c.requires.bytes, (c.requires.inside, (fit, ((omega arith, omega arith), ((λ i h. cut_parts s p cut c.args.words c.args.count d k i h sizes.0 sizes.1 sizes.2 sizes.3 c.requires.inside c.requires.fit c.cut_of-cut.ensures.pointers), (omega arith, omega arith, near))))))))
 
 pub write_any-write_object-requires : goal.write_any-write_object-requires
 write_any-write_object-requires g t c =

@@ -17,7 +17,7 @@ returns-clause-words g c =
     let old = c.args.into.now in
     let row = c.row_of.result.now in
     let is = c.lay.ensures ∙ ap (λ (n : ℕ). take at old ++ (row ++ drop (at + n) old)) c.row_of.ensures.len in
-    row_put at count (section_at s p count) old c.lay.new.into row is (c.row_of.ensures.words ∙ sym (own_words_are s p count c.requires.there.0 c.are_words.ensures))
+    row_put at count (section_at s p count) old c.lay.new.into row is (c.row_of.ensures.words ∙ sym (own_words_are s p count c.requires.there.0 c.are_words_of.ensures))
 
 pub returns-clause-behind : goal.returns-clause-behind
 returns-clause-behind g c =

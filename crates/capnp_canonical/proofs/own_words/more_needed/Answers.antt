@@ -32,37 +32,37 @@ loop-n-preserved g c =
     let some = c.loop-n-test.true in
     let few = c.loop-n.invariant.few in
     let word = word_is s p c.args.count c.requires.there.0 (c.loop-n.n - 1) (omega arith) in
-    let is : get_or ws (c.loop-n.n - 1) 0 ≡ 0 = sym (c.word_or_zero.ensures.word ∙ ap (λ o. unwrap_or o 0) word) ∙ c.if-word_or_zero-ne0.false in
+    let is : get_or ws (c.loop-n.n - 1) 0 ≡ 0 = sym (c.word_or_zero_in.ensures.word ∙ ap (λ o. unwrap_or o 0) word) ∙ c.if-word_or_zero_in-ne0.false in
     record {
       few = omega arith;
       zeros = kept_less c.loop-n.n ws (omega arith) c.loop-n.invariant.zeros is;
       nothing = zero_less c.loop-n.n ws (omega arith) c.loop-n.invariant.nothing is;
     }
 
-pub returns-then-word_or_zero-ne0-clause-needed : goal.returns-then-word_or_zero-ne0-clause-needed
-returns-then-word_or_zero-ne0-clause-needed g c =
+pub returns-then-word_or_zero_in-ne0-clause-needed : goal.returns-then-word_or_zero_in-ne0-clause-needed
+returns-then-word_or_zero_in-ne0-clause-needed g c =
     let s : Segments = words_in (g.A.ReaderArena.segments c.args.arena.now) in
     let p : Place = place_view c.args.start in
     let ws = words_there s p c.args.count in
     let some = c.loop-n-test.true in
     let few = c.loop-n.invariant.few in
     let word = word_is s p c.args.count c.requires.there.0 (c.loop-n.n - 1) (omega arith) in
-    let is = c.word_or_zero.ensures.word ∙ ap (λ o. unwrap_or o 0) word in
+    let is = c.word_or_zero_in.ensures.word ∙ ap (λ o. unwrap_or o 0) word in
     let least : c.loop-n.n ≡ min c.loop-n.n c.args.count = omega arith in
-    let needed = least ∙ last_word c.loop-n.n (c.loop-n.n - 1) c.args.count ws c.word_or_zero.result (omega arith) c.loop-n.invariant.nothing is c.word_or_zero.ensures.fits c.if-word_or_zero-ne0.true
+    let needed = least ∙ last_word c.loop-n.n (c.loop-n.n - 1) c.args.count ws c.word_or_zero_in.result (omega arith) c.loop-n.invariant.nothing is c.word_or_zero_in.ensures.fits c.if-word_or_zero_in-ne0.true
     ∙ ap (needed_words c.args.count) (sym (section_is s p c.args.count c.requires.there.0)) in
     omega arith
 
-pub returns-then-word_or_zero-ne0-clause-kept : goal.returns-then-word_or_zero-ne0-clause-kept
-returns-then-word_or_zero-ne0-clause-kept g c =
+pub returns-then-word_or_zero_in-ne0-clause-kept : goal.returns-then-word_or_zero_in-ne0-clause-kept
+returns-then-word_or_zero_in-ne0-clause-kept g c =
     let s : Segments = words_in (g.A.ReaderArena.segments c.args.arena.now) in
     let p : Place = place_view c.args.start in
     let ws = words_there s p c.args.count in
     let some = c.loop-n-test.true in
     let few = c.loop-n.invariant.few in
     let word = word_is s p c.args.count c.requires.there.0 (c.loop-n.n - 1) (omega arith) in
-    let is = c.word_or_zero.ensures.word ∙ ap (λ o. unwrap_or o 0) word in
-    let all = kept_here c.loop-n.n (c.loop-n.n - 1) ws c.word_or_zero.result (omega arith) c.loop-n.invariant.zeros is c.if-word_or_zero-ne0.true in
+    let is = c.word_or_zero_in.ensures.word ∙ ap (λ o. unwrap_or o 0) word in
+    let all = kept_here c.loop-n.n (c.loop-n.n - 1) ws c.word_or_zero_in.result (omega arith) c.loop-n.invariant.zeros is c.if-word_or_zero_in-ne0.true in
     omega arith
 
 pub returns-clause-needed : goal.returns-clause-needed

@@ -1,5 +1,5 @@
 -- The last word tells.
-use Rattle.std.proofs.Common.{◌≡◌, ℕ, ◌+◌, ◌-◌, ◌<◌, min, get_or, drop, ap, sym, ◌∙◌, arith}
+use Rattle.std.proofs.Common.{◌≡◌, ℕ, ◌-◌, ◌<◌, min, get_or, drop, ap, sym, ◌∙◌, arith}
 use Rattle.std.specs.Prelude.{unwrap_or}
 use Rattle.capnp_model.specs.Sections.{section_of, needed_words}
 use Rattle.capnp_model.specs.Segments.{Segments, Place}

@@ -1,0 +1,60 @@
+-- What is read of the bytes of a segment.
+use Rattle.std.proofs.Common.{◌≡◌, ℕ, zero, suc, ◌+◌, ◌/◌, ◌^◌, ◌<◌, true, List, [], length, drop, Option, Some, None, refl, ap, sym, ◌∙◌, subst, arith}
+use Rattle.std.specs.Prelude.{unwrap_or, slice_index}
+use Rattle.std.specs.List.{slice_get}
+use Rattle.std.specs.Option.{is_some}
+use Rattle.std.specs.Int.{from_le_bytes, w64}
+use Rattle.std.proofs.lemmas.List.{get_or-drop}
+use Rattle.capnp_model.specs.Bytes.{words_in_bytes}
+use Rattle.capnp_model.specs.Chains.{◌>>=◌}
+use Rattle.capnp_model.specs.Segments.{place, word_at, words_at}
+use Rattle.capnp_model.specs.Spelling.{AreWords}
+use Rattle.capnp_units.specs.Segments.{whole_words, words_in}
+use Rattle.capnp_object.specs.Arenas.{bytes_of}
+use Rattle.capnp_object.proofs.Words.{segment_there, segment_past, none_there}
+use Rattle.capnp_canonical.specs.Standing.{segment_words}
+
+abbrev AreBytes : List ℕ → Type 0
+AreBytes bytes = (i : ℕ) → slice_index bytes i < 256
+
+word_bound : (bytes : List ℕ) → AreBytes bytes → from_le_bytes w64 bytes < 2 ^ 64
+word_bound bytes small = omega (arith, small 0, small 1, small 2, small 3, small 4, small 5, small 6, small 7)
+
+dropped : (n : ℕ) (bytes : List ℕ) → AreBytes bytes → AreBytes (drop n bytes)
+dropped n bytes small i = rw (get_or-drop n bytes i 0) (small (n + i))
+
+words_are : (n : ℕ) (bytes : List ℕ) → AreBytes bytes → AreWords (words_in_bytes n bytes)
+words_are zero bytes small = tt
+words_are (suc n) bytes small = (word_bound bytes small, words_are n (drop 8 bytes) (dropped 8 bytes small))
+
+module _ (segments : List (List ℕ)) (i : ℕ) (bytes : List ℕ) (is : bytes ≡ bytes_of segments i) where
+  segment_is : (o : Option (List ℕ)) → slice_get (words_in segments) i ≡ o → AreWords (unwrap_or o []) → AreWords (segment_words (words_in segments) i)
+  unfolding segment_words
+  segment_is o e small = subst AreWords (ap (λ (x : Option (List ℕ)). unwrap_or x []) (sym e)) small
+
+  -- its words
+  pub words_held : AreBytes bytes → AreWords (segment_words (words_in segments) i)
+  words_held small = by (slice_get segments i) refl is
+    where
+      by : (o : Option (List ℕ)) → slice_get segments i ≡ o → bytes ≡ unwrap_or o [] → AreWords (segment_words (words_in segments) i)
+      by None e f = segment_is None (segment_past segments i (sym e)) tt
+      by (Some bs) e f = segment_is (Some (words_in_bytes (length bs / 8) bs)) (segment_there segments i bs (sym e)) (words_are (length bs / 8) bs (subst AreBytes f small))
+
+  -- one of them
+  pub word_held : (k : ℕ) → slice_get (whole_words bytes) k ≡ word_at (words_in segments) (place i k)
+  word_held k = by (slice_get segments i) refl is
+    where
+      at : Option (List ℕ) → Option ℕ
+      at o = o >>= λ ws. slice_get ws k
+
+      by : (o : Option (List ℕ)) → slice_get segments i ≡ o → bytes ≡ unwrap_or o [] → slice_get (whole_words bytes) k ≡ word_at (words_in segments) (place i k)
+      by None e f = ap (λ (bs : List ℕ). slice_get (whole_words bs) k) f ∙ sym (ap at (segment_past segments i (sym e)))
+      by (Some bs) e f = ap (λ (xs : List ℕ). slice_get (whole_words xs) k) f ∙ sym (ap at (segment_there segments i bs (sym e)))
+
+  -- where words are there the segment is
+  pub segment_held : (k n : ℕ) → is_some (words_at (words_in segments) (place i k) n) ≡ true → Some bytes ≡ slice_get segments i
+  segment_held k n there = by (slice_get segments i) refl is
+    where
+      by : (o : Option (List ℕ)) → slice_get segments i ≡ o → bytes ≡ unwrap_or o [] → Some bytes ≡ slice_get segments i
+      by None e f = absurd (none_there segments i k n (sym e) there)
+      by (Some bs) e f = ap (λ (x : List ℕ). Some x) f ∙ sym e
