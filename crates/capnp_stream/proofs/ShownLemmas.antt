@@ -139,24 +139,43 @@ one-length bytes word long reads =
     let word_is : word ≡ from_le_bytes w64 front = reads ∙ sym (from_le_bytes-take 8 bytes (omega arith) long) in
     ap (table_lengths 1) (sym (take-append-drop 8 bytes)) ∙ joined-table 0 word front behind (length-take-le 8 bytes long) word_is (omega arith)
 
--- a buffer that begins as the bytes do begins with the message of theirs
-pub Lays-one : (limit : Option ℕ) (shown bytes : List ℕ) (word words : ℕ) → word ≡ from_le_bytes w64 shown → word % 2 ^ 32 ≡ 0 → words ≡ word / 2 ^ 32 → 8 + 8 * words ≤ length shown → 8 + 8 * words ≤ length bytes
-    → take (8 + 8 * words) bytes ≡ take (8 + 8 * words) shown → within words limit ≡ true → Lays limit shown bytes (record { segments_count = 1; segment_table_length_bytes = 8; total_segments_length_bytes = 8 * words })
-Lays-one limit shown bytes word words reads one is there room same fine =
-    let len = 8 + 8 * words in
-    let f : List ℕ → ℕ = from_le_bytes w64 in
-    let laid : word ≡ f bytes = reads ∙ sym (from_le_bytes-take len shown (omega arith) there) ∙ ap f (sym same) ∙ from_le_bytes-take len bytes (omega arith) room in
-    let ns : table_lengths 1 bytes ≡ words ∷ [] = one-length bytes word (omega (arith, room)) laid ∙ ap (λ k. k ∷ []) (sym is) in
+pub Describes-one : (bytes : List ℕ) (word words : ℕ) → word ≡ from_le_bytes w64 bytes → word % 2 ^ 32 ≡ 0 → words ≡ word / 2 ^ 32 → 8 + 8 * words ≤ length bytes
+    → Describes (record { segments_count = 1; segment_table_length_bytes = 8; total_segments_length_bytes = 8 * words }) bytes
+Describes-one bytes word words reads one is there =
+    let ns : table_lengths 1 bytes ≡ words ∷ [] = one-length bytes word (omega (arith, there)) reads ∙ ap (λ k. k ∷ []) (sym is) in
     let total : sum (table_lengths 1 bytes) ≡ words = ap sum ns ∙ omega (arith, sum-cons words []) in
     record {
+      count = omega (arith, one, ap (λ w. w % 2 ^ 32) reads);
+      few = omega arith;
+      table = refl;
+      total = ap (λ k. 8 * k) (sym total);
+      fits = there;
+    }
+
+-- ---- a copy
+
+-- a buffer that begins with the bytes of a message has that message
+pub Lays-copied : (limit : Option ℕ) (shown bytes : List ℕ) (info : NoAllocSegmentTableInfo) → Describes info shown → bytes_in_all info ≤ length bytes → take (bytes_in_all info) bytes ≡ take (bytes_in_all info) shown
+    → within (info.total_segments_length_bytes / 8) limit ≡ true → Lays limit shown bytes info
+Lays-copied limit shown bytes info d room same fine =
+    let n = info.segments_count in
+    let len = bytes_in_all info in
+    let f : List ℕ → ℕ = from_le_bytes w64 in
+    let text = take len bytes in
+    let size : length text ≡ len = length-take-le len bytes room in
+    let laid : table_lengths n bytes ≡ table_lengths n text = sym (ap (table_lengths n) (take-append-drop len bytes)) ∙ table-grown n text (drop len bytes) (omega (arith, size, d.table)) in
+    let lengths : table_lengths n bytes ≡ table_lengths n shown = laid ∙ ap (table_lengths n) same ∙ front-lengths info shown d in
+    let word : f bytes ≡ f shown = sym (from_le_bytes-take len bytes (omega (arith, d.table)) room) ∙ ap f same ∙ from_le_bytes-take len shown (omega (arith, d.table)) d.fits in
+    let words : sum (table_lengths n bytes) ≡ info.total_segments_length_bytes / 8 = ap sum lengths ∙ omega (arith, d.total) in
+    record {
       described = record {
-        count = omega (arith, one, ap (λ w. w % 2 ^ 32) laid);
-        few = omega arith;
-        table = refl;
-        total = ap (λ k. 8 * k) (sym total);
+        count = d.count ∙ ap (λ w. w % 2 ^ 32 + 1) (sym word);
+        few = d.few;
+        table = d.table;
+        total = d.total ∙ ap (λ l. 8 * sum l) (sym lengths);
         fits = room;
       };
-      kept = ap (λ k. within k limit) total ∙ fine;
-      there = there;
+      kept = ap (λ k. within k limit) words ∙ fine;
+      there = d.fits;
       same = same;
     }
