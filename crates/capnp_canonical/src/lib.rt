@@ -10,4 +10,5 @@ pub mod laws;
 mod list_copies;
 mod list_ends;
 mod own_words;
+mod value_ends;
 mod words;

@@ -36,7 +36,7 @@ use Rattle.capnp_canonical.proofs.StandingPlaces.{pointers_where, structs_where}
 use Rattle.capnp_canonical.proofs.StandingValues.{null_tests, capability_tests, deep_tests, null_leaf, other_leaf}
 use Rattle.capnp_canonical.proofs.Steps.{short_at}
 use Rattle.capnp_canonical.proofs.NearFollowed.{some_left, untold}
-use Rattle.capnp_canonical.proofs.check.+check.Goals as goal
+use Rattle.capnp_canonical.proofs.value_ends.+check.Goals as goal
 
 pub row_end-loop-i-init : goal.row_end-loop-i-init
 row_end-loop-i-init g t c = row_begun c.args.levels (words_in (g.A.ReaderArena.segments c.args.arena.now)) (place_view c.args.first) c.args.count c.args.head c.args.limiter.now c.requires.head

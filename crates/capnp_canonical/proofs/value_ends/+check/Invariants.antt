@@ -4,7 +4,7 @@ use Rattle.capnp_units.specs.Segments.{words_in}
 use Rattle.capnp_object.specs.Places.{place_view}
 use Rattle.capnp_canonical.proofs.CheckedRows.{RowSoFar}
 use Rattle.capnp_canonical.proofs.CheckedElements.{ElementsSoFar}
-use Rattle.capnp_canonical.proofs.check.+check.Given as goal
+use Rattle.capnp_canonical.proofs.value_ends.+check.Given as goal
 
 abbrev pub decreases-object_end : goal.decreases-object_end
 decreases-object_end g l = 7 * l.levels + 6
