@@ -176,6 +176,7 @@ module _ (levels : ℕ) (from : Segments) (p : Place) (k : ℕ) (s : Segments) (
     pub row_stopped : (e : Error) → Refused from (visits levels from (after p i)) (GrowsByZeros u w) u w m e m' → Refused from (from_each (visits levels from) p k) (LeavesRow levels from p s w r d k) s w l e m'
     row_stopped e x = record {
       left = record {
+        grows = grows_then s u w so.grows x.left.grows;
         copied = i;
         few = omega (arith, in_row);
         read = so.first;

@@ -207,6 +207,7 @@ pub content_refused : (levels : ℕ) (from : Segments) (x : StructSource) (s m u
     → Refused from (from_each (visits levels from) (place_view x.first) (min x.pointers o.pointers)) (TakesPart levels from x s u o) s u old e new
 content_refused levels from x s m u o k old new e shared w sizes g = record {
   left = record {
+    grows = grows_then s m u (sizes_grow s m sizes) g.left.grows;
     copied = g.left.copied;
     few = subst (λ (j : ℕ). g.left.copied ≤ j) shared g.left.few;
     read = g.left.read;

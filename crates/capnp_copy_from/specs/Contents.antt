@@ -3,7 +3,7 @@ use Rattle.std.specs.Prelude.{◌≡◌, ⊤, ℕ, ◌*◌, ◌%◌, ◌^◌, �
 use Rattle.capnp_model.specs.Segments.{Segments}
 use Rattle.capnp_model.specs.Trees.{structure, Trees, resized}
 use Rattle.capnp_model.specs.Traversal.{tree_at, each}
-use Rattle.capnp_model.specs.Coverage.{from_each}
+use Rattle.capnp_model.specs.Coverage.{Grows, from_each}
 use Rattle.capnp_model.specs.Visits.{visits}
 use Rattle.capnp_units.specs.declared.errors.Error.{Error}
 use Rattle.capnp_units.specs.declared.limiter.ReadLimiter.{ReadLimiter}
@@ -26,6 +26,7 @@ TakesContent levels s u o section ts =
 
 -- Its section is what fits of the source's, its first children those that were read, so many, and the others stay.
 pub record TakesPart (levels : ℕ) (from : Segments) (x : StructSource) (s u : Segments) (o : StructPlace) : Type 0 where
+  pub grows : Grows s u
   pub copied : ℕ
   pub few : copied ≤ min x.pointers o.pointers
   pub read : Trees

@@ -160,6 +160,7 @@ pub record FillsRow (levels : ℕ) (s u : Segments) (r : Place) (d k : ℕ) (ts 
 
 -- Only some of them did, the first that are read from a place on.
 pub record LeavesRow (levels : ℕ) (from : Segments) (p : Place) (s u : Segments) (r : Place) (d k : ℕ) : Type 0 where
+  pub grows : Grows s u
   pub copied : ℕ
   pub few : copied ≤ k
   pub read : Trees
