@@ -23,7 +23,8 @@ pub(crate) const REACH: usize = 0x2000_0000;
 #[inline(always)]
 fn ends_clear<A: ReaderArena>(arena: &A, list: NearList) -> bool
     requires measured { IsMeasured list }
-    requires inside { AreThere (words_in (A.segments arena.now)) (place_view list.start) list.words }
+    requires inside { AreThere (words_in (A.segments arena.now)) (place_view list.start)
+        list.words }
     requires whole { AreWords
         (segment_words (words_in (A.segments arena.now)) list.start.segment) }
     ensures clear { OnTrue result

@@ -142,6 +142,7 @@ fn object_end<A: ReaderArena>(
 
 /// The same of a struct.
 #[cycle(check)]
+#[inline(never)]
 fn struct_end<A: ReaderArena>(
     arena: &A,
     limiter: &mut ReadLimiter,
