@@ -149,6 +149,14 @@ pub unpacked_enough : (n : ℕ) (bytes : List ℕ) → 10 * n ≤ length bytes �
 unfolding Suffice
 unpacked_enough n bytes = unpacked_from_enough n first bytes
 
+-- nothing is read for no word
+pub plain_words_none : (bytes : List ℕ) → plain_words 0 bytes ≡ Ok ([], bytes)
+plain_words_none bytes = let whole : leb 0 (length bytes) ≡ true = le-leb 0 (length bytes) (omega arith) in rw whole refl
+
+pub unpacked_none : (bytes : List ℕ) → unpacked 0 bytes ≡ Ok ([], bytes)
+unfolding unpacked_from
+unpacked_none bytes = refl
+
 -- there are some
 pub some_plain : 0 < 8
 some_plain = omega arith

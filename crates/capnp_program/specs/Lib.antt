@@ -8,3 +8,4 @@ pub mod Lines
 pub mod Program
 pub mod Inputs
 pub mod Enough
+pub mod Ahead

@@ -1,10 +1,12 @@
 //! The input of a program, which can be looked at before it is taken.
-ghost use Rattle.std.specs.Prelude.{◌≡◌, [], length, IfSome, IfOk, IfErr, OnOk};
-ghost use Rattle.std.specs.Io.KnownBytes.{Keeps, ReadConsumes};
+ghost use Rattle.std.specs.Prelude.{◌≡◌, ◌⊎◌, [], length, IfSome, IfOk, IfErr, OnOk};
+ghost use Rattle.std.specs.Io.KnownBytes.{Keeps, Consumes, ReadConsumes};
 ghost use Rattle.std.specs.Io.{ReadsAtMost};
 ghost use Rattle.std.specs.Io.Buffered.{reader_buffer, reader_inner, reader_remaining};
 ghost use Rattle.capnp_units.specs.declared.kinds.ErrorKind.{ErrorKind};
 ghost use Rattle.capnp_io.specs.Counting.{Counts};
+ghost use Rattle.capnp_io.specs.Streams.{ConsumesFewer, EndsBefore};
+ghost use Rattle.capnp_program.specs.Inputs.{input_remaining, input_failures};
 
 use crate::sources::Windowed;
 use capnp_io::adapters::INPUT_BUFFER_LEN;
@@ -15,7 +17,7 @@ use std::alloc::Global;
 use std::io;
 use std::io::{BufRead as _, BufReader, Read as _};
 
-/// A reader with a buffer of 256 KiB, which shows what it holds without a wait, and counts the failures of its device.
+/// A reader with a buffer of 64 KiB, which shows what it holds without a wait, and counts the failures of its device.
 ///
 /// A call that a signal interrupts is made again. After a failure the bytes that were read before it are still there, and the next
 /// call asks the reader again.
@@ -42,8 +44,9 @@ impl<S: io::Read> Input<S> {
     }
 }
 
-/// Asks the reader for more where all that it gave is taken. At the end of input nothing comes.
-fn refill<S: io::Read>(inner: &mut BufReader<S>) -> Result<()>
+/// Asks the reader for more. At the end of input nothing comes.
+#[inline(never)]
+fn refill_retrying<S: io::Read>(inner: &mut BufReader<S>) -> Result<()>
     ensures kept { Keeps (reader_remaining S.remaining inner.old)
         (reader_remaining S.remaining inner.new) }
     ensures end { OnOk result (IfSome (reader_remaining S.remaining inner.old)
@@ -61,6 +64,21 @@ fn refill<S: io::Read>(inner: &mut BufReader<S>) -> Result<()>
         }
     }
     Err(Error::from(ErrorKind::Device))
+}
+
+/// Asks the reader for more where all that it gave is taken.
+#[inline(always)]
+fn refill<S: io::Read>(inner: &mut BufReader<S>) -> Result<()>
+    ensures kept { Keeps (reader_remaining S.remaining inner.old)
+        (reader_remaining S.remaining inner.new) }
+    ensures end { OnOk result (IfSome (reader_remaining S.remaining inner.old)
+        (λ xs. length (reader_buffer inner.new) ≡ 0 → xs ≡ [])) }
+    ensures refusal { IfErr result (λ e. e.kind ≡ ErrorKind.Device) }
+{
+    if !inner.buffer().is_empty() {
+        return Ok(());
+    }
+    refill_retrying(inner)
 }
 
 /// One read.
@@ -83,12 +101,33 @@ fn read_retrying<S: io::Read>(inner: &mut BufReader<S>, buf: &mut [u8]) -> Resul
     Err(Error::from(ErrorKind::Device))
 }
 
-impl<S: io::Read> Read for Input<S> {
-    ghost use Rattle.capnp_program.specs.Inputs.{input_remaining};
+/// Fills the whole of `buf` by reads, or refuses at the end of input, which it then has reached.
+#[inline(never)]
+fn read_whole<S: io::Read>(input: &mut Input<S>, buf: &mut [u8]) -> Result<()>
+    ensures ok { OnOk result (Consumes (input_remaining S.remaining input.old)
+        (input_remaining S.remaining input.new) buf.new) }
+    ensures part { let old = input_remaining S.remaining input.old in
+        let new = input_remaining S.remaining input.new in
+        IfErr result (λ e. ((e.kind ≡ ErrorKind.Device) × ConsumesFewer old new (length buf.old))
+        ⊎ ((e.kind ≡ ErrorKind.FailedToFillTheWholeBuffer)
+        × EndsBefore old new (length buf.old))) }
+    ensures count { Counts result (input_failures input.old) (input_failures input.new) }
+{
+    let mut at = 0;
+    while at < buf.len() {
+        let n = input.read(&mut buf[at..])?;
+        if n == 0 {
+            return Err(Error::from(ErrorKind::FailedToFillTheWholeBuffer));
+        }
+        at += n;
+    }
+    Ok(())
+}
 
+impl<S: io::Read> Read for Input<S> {
     ghost remaining = { input_remaining S.remaining };
 
-    ghost failures = { λ i. i.failures };
+    ghost failures = { input_failures };
 
     ghost refuses = { λ k. k ≡ ErrorKind.Device };
 
@@ -100,6 +139,18 @@ impl<S: io::Read> Read for Input<S> {
                 Err(e)
             }
         }
+    }
+
+    #[inline(always)]
+    fn read_exact(&mut self, buf: &mut [u8]) -> Result<()> {
+        let len = buf.len();
+        let window = self.inner.buffer();
+        if len > window.len() {
+            return read_whole(self, buf);
+        }
+        buf.copy_from_slice(&window[..len]);
+        self.inner.consume(len);
+        Ok(())
     }
 
     fn failures(&self) -> u64 {

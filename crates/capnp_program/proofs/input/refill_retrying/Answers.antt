@@ -2,7 +2,7 @@ use Rattle.std.proofs.Common.{Some, length, subst}
 use Rattle.std.specs.Io.BufRead.{FillKeeps}
 use Rattle.std.specs.Io.Buffered.{reader_buffer, reader_remaining}
 use Rattle.capnp_program.proofs.Showing.{none_shown}
-use Rattle.capnp_program.proofs.input.refill.Goals as goal
+use Rattle.capnp_program.proofs.input.refill_retrying.Goals as goal
 
 pub returns-in-Ok-clause-end : goal.returns-in-Ok-clause-end
 returns-in-Ok-clause-end g c =
