@@ -5,6 +5,7 @@ mod answers;
 mod at_root;
 pub mod ends;
 pub mod laws;
+mod line;
 mod logging;
 pub mod options;
 pub mod pauses;
