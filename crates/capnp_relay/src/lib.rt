@@ -7,6 +7,7 @@ pub mod ends;
 pub mod laws;
 mod line;
 mod logging;
+mod message;
 pub mod options;
 pub mod pauses;
 pub mod relay;
