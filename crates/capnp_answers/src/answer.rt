@@ -70,6 +70,7 @@ impl From<RunFault> for Want {
 }
 
 /// How many words at the front of a buffer are those of a message's value, trimmed, which is a struct or null; or why the message is skipped.
+#[inline(always)]
 fn read_root<M: ReaderArena>(
     message: &M,
     bounds: Bounds,
@@ -89,6 +90,7 @@ fn read_root<M: ReaderArena>(
 }
 
 /// The answer where each call sets a plain field of the root, made in the words that the message was read to; none where that would put or trim a word.
+#[inline(always)]
 fn answer_plain<M: ReaderArena>(
     message: &M,
     bounds: Bounds,
@@ -113,6 +115,7 @@ fn answer_plain<M: ReaderArena>(
 }
 
 /// The answer to a message, whose value is edited in memory of this allocator. All of it is given back.
+#[inline(never)]
 fn answer_over<L: Allocator, M: ReaderArena>(
     alloc: Global,
     allocator: &mut L,
@@ -152,6 +155,7 @@ fn answer_over<L: Allocator, M: ReaderArena>(
 /// The region is all zeros before, and after, whatever is answered; it need not have room for the message, whose words then come from `alloc`, as those do that the calls add past its end. The buffer grows where it is too short: to the message's own words, to those of the edited message, and where pointers share words, so that the canonical words are more than the message's own, to a word more than the bounds allow. What is in it before doesn't matter.
 ///
 /// `Size`: a call that is done puts a text or data of 2^29 bytes or more with its last zero, or a list of structs of 2^29 words or more. `Memory`: a growth was refused, by the system or since the words of the edited message would pass 2^29 - 1. After both nothing is promised of the buffer but its words.
+#[inline(always)]
 pub fn answer_in_place<M: ReaderArena>(
     alloc: Global,
     message: &M,

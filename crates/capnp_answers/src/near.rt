@@ -34,7 +34,7 @@ impl ReaderArena for OneSegment<'_> {
 }
 
 /// The bytes of the one segment of a message; none where it has more than one, or none.
-#[inline]
+#[inline(always)]
 pub(crate) fn only_segment<M: ReaderArena>(message: &M) -> Option<&[u8]>
     ensures { IfSome result (λ bytes. M.segments message.now ≡ bytes.now ∷ []) }
 {

@@ -30,13 +30,22 @@ pub(crate) const ROOT: Place = Place {
 /// A message has fewer words than this.
 const MESSAGE_WORDS: usize = 0x2000_0000;
 
+/// Makes the buffer so many words long. `OutOfMemory`: it can't grow.
+#[inline(never)]
+fn grow(words: &mut Vec<Word>, count: usize) -> Result<()>
+    ensures { OnOk result (count ≤ length words.new.items) }
+{
+    words.resize(count, [0u8; 8])?;
+    Ok(())
+}
+
 /// Makes the buffer at least so many words long. `OutOfMemory`: it can't grow.
-#[inline]
+#[inline(always)]
 pub(crate) fn make_room(words: &mut Vec<Word>, count: usize) -> Result<()>
     ensures { OnOk result (count ≤ length words.new.items) }
 {
     if words.len() < count {
-        words.resize(count, [0u8; 8])?;
+        return grow(words, count);
     }
     Ok(())
 }
@@ -69,6 +78,7 @@ fn read_canonical<M: ReaderArena>(
 /// Writes the canonical words of a message's value into a buffer, which grows where they don't fit, and answers how many they are; none where the message has no value within the bounds, or one with a capability.
 ///
 /// The buffer has room for as many words as the message first. Where its pointers share words, its canonical words may be more; then the buffer becomes a word longer than the bounds allow, and the walk begins again. It is refused with `OutOfMemory` where the buffer can't grow, and with `BufferNotLargeEnough` where the canonical words are 2^29 or more.
+#[inline(never)]
 fn write_value<M: ReaderArena>(
     message: &M,
     bounds: Bounds,
@@ -85,6 +95,7 @@ fn write_value<M: ReaderArena>(
 }
 
 /// Whether the words of a message of one segment are the canonical words of its value, which is within the bounds and has no capability, and fewer than 2^29. They are looked at up to the first that is otherwise.
+#[inline(always)]
 fn stands_canonical(message: &OneSegment<'_>, bounds: Bounds) -> bool
     ensures { OnTrue result (StandsCanonical bounds (words_in (message.now.bytes.now ∷ []))) }
 {
@@ -113,6 +124,7 @@ fn lay_front(into: &mut [Word], row: &[Word])
 }
 
 /// Copies the words of a segment to the front of a buffer, which grows where they don't fit, and answers how many they are.
+#[inline(always)]
 fn copy_segment(bytes: &[u8], words: &mut Vec<Word>) -> Result<usize>
     ensures words { IfOk result (λ count. filled count words.new.items ≡ whole_words bytes.now) }
     ensures count { IfOk result
@@ -125,6 +137,7 @@ fn copy_segment(bytes: &[u8], words: &mut Vec<Word>) -> Result<usize>
 }
 
 /// As `write_value`, of a message of this one segment: where its words are canonical already they are copied as they stand.
+#[inline(always)]
 fn read_segment(bytes: &[u8], bounds: Bounds, words: &mut Vec<Word>) -> Result<Option<usize>>
     ensures { IfOk result (Reads bounds (words_in (bytes.now ∷ [])) words.new.items) }
 {
@@ -137,6 +150,7 @@ fn read_segment(bytes: &[u8], bounds: Bounds, words: &mut Vec<Word>) -> Result<O
 }
 
 /// As `write_value`; a message of one segment is read by its bytes alone, and copied where its words are canonical already, and of one of several the first segments are asked for once.
+#[inline(always)]
 pub(crate) fn read_value<M: ReaderArena>(
     message: &M,
     bounds: Bounds,

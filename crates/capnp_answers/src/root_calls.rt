@@ -53,6 +53,7 @@ impl<'a> RootCalls<'a> {
     }
 
     /// Puts what the calls set into the canonical words of a message, which stand at the front of a buffer, so many, and says whether they are then the canonical words of what the calls make of it, each of which is done. If not, some of it may be put.
+    #[inline(always)]
     pub(crate) fn put(&self, words: &mut [Word], count: usize) -> bool
         requires { count ≤ length words.old }
         ensures sets { (t : Tree) → result ≡ true → Fits t → trim t ≡ t

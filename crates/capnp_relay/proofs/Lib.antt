@@ -4,3 +4,4 @@ pub mod Whole
 pub mod Reading
 pub mod PauseLemmas
 pub mod LogLemmas
+mod LineLemmas

@@ -7,3 +7,4 @@ pub mod Messages
 pub mod Options
 pub mod Relaying
 pub mod Pauses
+pub mod Lines

@@ -1,12 +1,12 @@
 //! Calls at the roots of messages.
 
 use crate::answers::Answers;
+use crate::message::Message;
 use capnp_answers::answer::{MessageAnswer, Want, answer_in_place};
 use capnp_answers::bounds::Bounds;
 use capnp_answers::root_calls::RootCalls;
 use capnp_calls::laws::{calls_are_given, roots_are_no_groups};
 use capnp_model::laws_of_edits::records_of_written_values;
-use capnp_object::arena::ReaderArenaImpl;
 use capnp_stream::buffers::NoAllocSliceSegments;
 use capnp_units::sizes::Word;
 use std::alloc::Global;
@@ -27,6 +27,7 @@ impl<'a> Answers for CallsAtRoot<'a> {
 
     ghost is_too_large = { λ c. IsTooLarge (root_schema c.calls) (root_calls c.calls) c.bounds };
 
+    #[inline(always)]
     fn answer(
         &self,
         alloc: Global,
@@ -37,8 +38,7 @@ impl<'a> Answers for CallsAtRoot<'a> {
         records_of_written_values();
         calls_are_given();
         roots_are_no_groups();
-        // The bounds tell how deep the message is followed.
-        let arena = ReaderArenaImpl::new(message, i32::MAX);
+        let arena = Message { segments: message };
         answer_in_place(alloc, &arena, self.bounds, &self.calls, region, words)
     }
 }

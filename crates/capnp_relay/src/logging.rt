@@ -1,5 +1,5 @@
 //! The line of the log for a message.
-ghost use Rattle.std.specs.Prelude.{◌≡◌, ◌++◌, List, ℕ, [], codes, decimal, replicate, OnOk};
+ghost use Rattle.std.specs.Prelude.{◌≡◌, ◌+◌, ◌++◌, List, ℕ, [], codes, decimal, length, replicate, IfOk, OnOk};
 ghost use Rattle.std.specs.List.{flat_map};
 ghost use Rattle.capnp_model.specs.Answers.{reply_done};
 ghost use Rattle.capnp_model.specs.Runs.{reply_words, answer_words, line_of};
@@ -89,20 +89,22 @@ fn push_number(line: &mut Vec<u8>, number: u64) -> Result<(), AllocError>
     line.extend_from_slice(buffer.format(number).as_bytes())
 }
 
-/// Puts the line of the answer to message `number` in place of the bytes; they grow where they have no room for it.
+/// Puts the line of the answer to message `number` in place of the bytes; they grow where they have no room for it. It answers where the last digit of the number stands.
 pub(crate) fn log_line(
     line: &mut Vec<u8>,
     number: u64,
     answer: &MessageAnswer,
-) -> Result<(), AllocError>
-    ensures { (words : List (List ℕ)) → OnOk result
+) -> Result<usize, AllocError>
+    ensures line { (words : List (List ℕ)) → OnOk result
         (line.new.items ≡ line_of number (answer_view words answer.now)) }
+    ensures digit { IfOk result (λ digit. digit + 1 ≡ 8 + length (decimal number)) }
 {
     line.clear();
     line.extend_from_slice(b"message ")?;
     push_number(line, number)?;
+    let behind = line.len();
     line.push(b' ')?;
     push_answer(line, answer)?;
     line.push(b'\n')?;
-    Ok(())
+    Ok(behind - 1)
 }

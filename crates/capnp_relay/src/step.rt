@@ -4,7 +4,7 @@ ghost use Rattle.capnp_units.specs.declared.kinds.ErrorKind.{ErrorKind};
 ghost use Rattle.capnp_model.specs.Segments.{Segments};
 ghost use Rattle.capnp_model.specs.Messages.{spelled};
 ghost use Rattle.capnp_model.specs.Answers.{Reply as ModelReply, written};
-ghost use Rattle.capnp_model.specs.Runs.{line_of, output_of};
+ghost use Rattle.capnp_model.specs.Runs.{output_of};
 ghost use Rattle.capnp_copy.specs.Memory.{AllZero};
 ghost use Rattle.capnp_canonical.specs.Writes.{filled};
 ghost use Rattle.capnp_stream.specs.Buffers.{found_segments};
@@ -12,13 +12,14 @@ ghost use Rattle.capnp_stream.specs.Segments.{whole_words, words_in};
 ghost use Rattle.capnp_stream.specs.Writing.{IsSegment};
 ghost use Rattle.capnp_answers.specs.Answers.{answer_view, StandsIn};
 ghost use Rattle.capnp_relay.specs.Answers.{written_one, refused_one, WritesFront};
+ghost use Rattle.capnp_relay.specs.Lines.{IsLine, KeepsLine};
 ghost use Rattle.capnp_relay.specs.Streams.{SinkTakes, sink_of, streams_of};
 ghost use Rattle.capnp_relay.specs.Work.{work_by};
 ghost use Rattle.capnp_relay.specs.Stops.{Steps, SinkRefused};
 
 use crate::answers::Answers;
 use crate::ends::{Counts, Fault};
-use crate::logging::log_line;
+use crate::line::Line;
 use capnp_answers::answer::{MessageAnswer, Want};
 use capnp_canonical::laws::segments_of_words;
 use capnp_stream::buffers::NoAllocSliceSegments;
@@ -39,21 +40,24 @@ pub(crate) struct Buffers {
     /// What is written of an answer stands at the front.
     words: Vec<Word>,
     /// The line of the log.
-    line: Vec<u8>,
+    line: Line,
 }
 
 impl Buffers {
     /// Buffers that have taken no memory yet.
-    pub(crate) fn new(alloc: Global) -> Buffers {
+    pub(crate) fn new(alloc: Global) -> Buffers
+        ensures { KeepsLine result.line }
+    {
         Buffers {
             message: MessageBuffer::new(alloc),
             words: Vec::new(alloc),
-            line: Vec::new(alloc),
+            line: Line::new(alloc),
         }
     }
 }
 
 /// The answer to a message, of which `answered` came before. Its words stand at the front of the buffer, and its line is put in place of the bytes.
+#[inline(always)]
 fn prepare<A: Answers>(
     alloc: Global,
     answers: &A,
@@ -61,15 +65,16 @@ fn prepare<A: Answers>(
     message: &NoAllocSliceSegments<'_>,
     region: &mut [u8],
     words: &mut Vec<Word>,
-    line: &mut Vec<u8>,
+    line: &mut Line,
 ) -> Result<MessageAnswer, Fault>
     requires zeros { AllZero region.old }
+    requires kept { KeepsLine line.old }
     ensures room { OnOk result (answered < 2 ^ 64 - 1) }
     ensures answer { IfOk result (λ a. A.is_answer answers.now
         (words_in (found_segments message.now)) (answer_view words.new.items a)) }
     ensures stands { IfOk result (StandsIn words.new.items) }
     ensures line { IfOk result
-        (λ a. line.new.items ≡ line_of (answered + 1) (answer_view words.new.items a)) }
+        (λ a. IsLine (answered + 1) (answer_view words.new.items a) line.new) }
     ensures err { IfErr result (λ f. (f ≡ Fault.Memory) ⊎ (f ≡ Fault.Size)) }
     ensures size { result ≡ Err Fault.Size → (answered ≡ 2 ^ 64 - 1)
         ⊎ A.is_too_large answers.now (words_in (found_segments message.now)) }
@@ -83,7 +88,7 @@ fn prepare<A: Answers>(
         Err(Want::Memory) => return Err(Fault::Memory),
         Err(Want::Size) => return Err(Fault::Size),
     };
-    match log_line(line, answered + 1, &answer) {
+    match line.set(answered + 1, &answer) {
         Ok(()) => Ok(answer),
         Err(_) => Err(Fault::Memory),
     }
@@ -141,6 +146,7 @@ fn written_count(answer: &MessageAnswer) -> Option<usize>
 }
 
 /// Writes a written answer, whose words stand at the front of these, as one message, and counts it.
+#[inline(always)]
 fn put_out<O: MessageForm, W: Write>(
     out: &mut W,
     answer: &MessageAnswer,
@@ -196,6 +202,7 @@ fn put_log<L: Write>(
 }
 
 /// Whether a message came; it is answered then. The region is all zeros, before and after.
+#[inline(always)]
 pub(crate) fn step<I: MessageForm, O: MessageForm, R: BufRead, W: Write, L: Write, A: Answers>(
     alloc: Global,
     source: &mut R,
@@ -210,10 +217,12 @@ pub(crate) fn step<I: MessageForm, O: MessageForm, R: BufRead, W: Write, L: Writ
 ) -> Result<bool, Fault>
     requires together { counts.old.written + counts.old.refused ≡ answered }
     requires zeros { AllZero region.old }
+    requires line { KeepsLine buffers.old.line }
     ensures run { let seen = streams_of ⟦<R as Read>⟧ ⟦<W as Write>⟧ ⟦<L as Write>⟧ in
         Steps (work_by ⟦<A as Answers>⟧ answers.now I.reader O.writer limit W.may_grow L.may_grow)
         answered (seen source.old out.old log.old) (seen source.new out.new log.new)
         counts.old counts.new result }
+    ensures line { OnOk result (KeepsLine buffers.new.line) }
     ensures zeros { region.new ≡ region.old }
 {
     let message = match buffers
@@ -234,6 +243,6 @@ pub(crate) fn step<I: MessageForm, O: MessageForm, R: BufRead, W: Write, L: Writ
         &mut buffers.line,
     )?;
     put_out::<O, W>(out, &answer, &buffers.words, counts)?;
-    put_log(log, &answer, &buffers.line, counts)?;
+    put_log(log, &answer, &buffers.line.bytes, counts)?;
     Ok(true)
 }

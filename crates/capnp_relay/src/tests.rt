@@ -3,6 +3,7 @@ ghost use Rattle.std.specs.Prelude.{⊤};
 
 use crate::answers::Answers;
 use crate::ends::{Counts, Fault, RelayFault};
+use crate::line::Line;
 use crate::logging::log_line;
 use crate::pauses::NoPause;
 use crate::run::answer_all;
@@ -134,6 +135,24 @@ fn each_message_is_answered(rt: HostRuntime) -> Result<(), Fail> {
         log.as_slice(),
         b"message 1 refused: value\nmessage 2 written\n".as_slice()
     );
+    Ok(())
+}
+
+#[test]
+fn a_kept_line_counts_on(rt: HostRuntime) -> Result<(), Fail> {
+    let alloc = rt.alloc();
+    let done = MessageAnswer::Done { count: 1, calls: 2 };
+    let mut line = Line::new(alloc);
+    line.set(8, &done)?;
+    line.set(9, &done)?;
+    assert!(rt; line.bytes.as_slice() == b"message 9 written; done; done\n".as_slice());
+    line.set(10, &done)?;
+    assert!(rt; line.bytes.as_slice() == b"message 10 written; done; done\n".as_slice());
+    line.set(11, &done)?;
+    assert!(rt; line.bytes.as_slice() == b"message 11 written; done; done\n".as_slice());
+    line.set(12, &MessageAnswer::Refused(Reason::Root))?;
+    line.set(13, &done)?;
+    assert!(rt; line.bytes.as_slice() == b"message 13 written; done; done\n".as_slice());
     Ok(())
 }
 

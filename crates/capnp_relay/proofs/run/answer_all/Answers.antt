@@ -7,7 +7,7 @@ use Rattle.capnp_relay.proofs.PauseLemmas.{Answered-rests}
 use Rattle.capnp_relay.proofs.run.answer_all.Goals as goal
 
 pub loop-fault-init : goal.loop-fault-init
-loop-fault-init g c = record { zeros = refl; together = refl; run = ([], [], refl, Answered-nil _ _ _ refl refl) }
+loop-fault-init g c = record { zeros = refl; line = c.new-buffers.ensures; together = refl; run = ([], [], refl, Answered-nil _ _ _ refl refl) }
 
 pub loop-fault-preserved : goal.loop-fault-preserved
 loop-fault-preserved g c =
@@ -19,6 +19,7 @@ loop-fault-preserved g c =
     let number = run.2 in
     record {
       zeros = c.in-Ok-true.ensures.zeros ∙ c.loop-fault.invariant.zeros;
+      line = c.in-Ok-true.ensures.line;
       together = omega (arith, each, one.1.6.written, one.1.6.refused, c.loop-fault.invariant.together);
       run = (
         run.0 ++ s ∷ [],

@@ -4,11 +4,13 @@ use Rattle.capnp_model.specs.Answers.{Answer}
 use Rattle.capnp_relay.specs.Streams.{source_seen, sink_seen, streams}
 use Rattle.capnp_relay.specs.Work.{work}
 use Rattle.capnp_relay.specs.Run.{Answered}
+use Rattle.capnp_relay.specs.Lines.{KeepsLine}
 use Rattle.capnp_relay.proofs.run.answer_all.Given as goal
 
 abbrev pub invariant-loop-fault : goal.invariant-loop-fault
 invariant-loop-fault g l = record {
   zeros : l.region ≡ l.initial.region;
+  line : KeepsLine l.buffers.line;
   together : l.counts.written + l.counts.refused ≡ l.answered;
   run : (messages : List Segments) × (answers : List Answer) × (length answers ≡ l.answered)
       × Answered (work g.I.MessageForm.reader g.O.MessageForm.writer (Some l.limit) (g.A.Answers.is_answer l.answers) (g.A.Answers.is_too_large l.answers) g.W.Write.may_grow g.L.Write.may_grow) messages answers

@@ -50,5 +50,5 @@ returns-in_err-put_log-clause-run g c =
     let new = streams (source_seen g.R.Read.remaining g.R.Read.failures c.try_read_message.new.source) (sink_seen g.W.Write.contents g.W.Write.failures g.W.Write.room c.put_out.new.out) (sink_seen g.L.Write.contents g.L.Write.failures g.L.Write.room c.put_log.new.log) in
     rw (p.1, p.2) (Stops-of_log (work g.I.MessageForm.reader g.O.MessageForm.writer (Some c.args.limit) (g.A.Answers.is_answer c.args.answers.now) (g.A.Answers.is_too_large c.args.answers.now) g.W.Write.may_grow g.L.Write.may_grow) g.met.I.MessageForm.fronts (c.args.answered + 1) old new c.args.counts.now c.put_log.new.counts
     (words_in (found_segments c.in-Ok-Some.message)) taken c.in-Ok-Some.ensures.message.count _ a c.in_ok-answer.ensures.answer
-    put.0 (subst P (c.deref-2.ensures.value ∙ c.in_ok-answer.ensures.line) stops.0)
+    put.0 (subst P (c.deref-2.ensures.value ∙ c.in_ok-answer.ensures.line.0) stops.0)
     (c.in_err-put_log.ensures.written ∙ put.1) (stops.1 ∙ c.in_ok-put_out.ensures.refused))

@@ -18,4 +18,4 @@ returns-clause-value c =
       same = h.same;
       means = h.means;
       reads = ReadsAsMade-of root (root_calls here.calls) here.bounds c.records_of_written_values.ensures.reads root.set.now.accepted no_group given s (answer_view into a) h.same h.means;
-    }) (rw c.new-arena.ensures.segments at c.answer_in_place.ensures.answer)
+    }) c.answer_in_place.ensures.answer
