@@ -144,6 +144,9 @@ impl<S: io::Read> Read for Input<S> {
     #[inline(always)]
     fn read_exact(&mut self, buf: &mut [u8]) -> Result<()> {
         let len = buf.len();
+        if len == 0 {
+            return Ok(());
+        }
         let window = self.inner.buffer();
         if len > window.len() {
             return read_whole(self, buf);

@@ -35,6 +35,7 @@ impl Windowed for &[u8] {
 
 /// Hands on what both sinks hold, the output's before the log's, unless the bytes that the source shows tell the next message, or
 /// what is wrong with it, so that it is read without a wait. `Out`, `Log`: the sink's device failed.
+#[inline(always)]
 pub fn flush_before_wait<F: BoundedForm, R: Windowed, W: Flush, L: Flush>(
     source: &R,
     out: &mut W,
@@ -73,6 +74,7 @@ pub struct FlushBeforeWait<F> {
 impl<F: BoundedForm, R: Windowed, W: Flush, L: Flush> Pause<R, W, L> for FlushBeforeWait<F> {
     ghost may_fail = { ⊤ };
 
+    #[inline(always)]
     fn pause(source: &R, out: &mut W, log: &mut L) -> Result<(), Fault> {
         flush_before_wait::<F, R, W, L>(source, out, log)
     }
