@@ -11,6 +11,7 @@ pub mod element;
 pub mod laws;
 pub mod levels;
 pub mod list;
+mod list_pointer;
 pub mod parts;
 pub mod pointer;
 mod section;

@@ -1,18 +1,13 @@
 //! Pointers to read.
-ghost use Rattle.std.specs.Prelude.{◌≡◌, ◌≢◌, ◌+◌, ◌*◌, ◌<◌, ◌≤◌, ◌^◌, ◌%◌, length, Ok, IfOk, option_copied};
+ghost use Rattle.std.specs.Prelude.{◌≡◌, Ok, IfOk, option_copied};
 ghost use Rattle.std.specs.Option.{is_some};
 ghost use Rattle.capnp_model.specs.Kinds.{OutOfBounds};
 ghost use Rattle.capnp_model.specs.Chains.{◌and_then◌, guard};
 ghost use Rattle.capnp_model.specs.Segments.{words_at};
 ghost use Rattle.capnp_units.specs.Segments.{words_in};
-ghost use Rattle.capnp_units.specs.Limits.{left_of};
-ghost use Rattle.capnp_wire.specs.Views.{backing_bytes, ground_of, seen_pointer, seen_struct, seen_list, list_view, pointer_at};
-ghost use Rattle.capnp_wire.specs.Reads.{root_of, is_null, with_default, GetGives, read_struct, read_bytes, read_blob, read_text, read_list, read_elements, list_head, type_behind};
+ghost use Rattle.capnp_wire.specs.Views.{backing_bytes, ground_of, seen_pointer, seen_struct, pointer_at};
+ghost use Rattle.capnp_wire.specs.Reads.{root_of, is_null, with_default, GetGives, read_struct, read_bytes, read_blob, read_text, type_behind};
 ghost use Rattle.capnp_object.specs.Places.{seen, place_view};
-ghost use Rattle.capnp_wire.specs.Elements.{step_bits, step_words};
-ghost use Rattle.capnp_model.specs.Sections.{number_of};
-ghost use Rattle.capnp_model.specs.Readings.{is_accepted_as};
-ghost use Rattle.capnp_units.specs.Sizes.{size_number};
 ghost use Rattle.capnp_object.specs.Objects.{IsInside};
 ghost use Rattle.capnp_wire.specs.ValueSizes.{PointerSize};
 
@@ -20,8 +15,7 @@ use crate::arena::ReaderArena;
 use crate::backing::{Backing, default_backing, front_of};
 use crate::follow::follow;
 use crate::levels::{level_below, levels_of};
-use crate::list::ListReader;
-use crate::object::{Object, object_at, words_of_elements};
+use crate::object::{Object, object_at};
 use crate::place::{Place, has_words, word_at};
 use crate::size::{NOTHING, size_at};
 use crate::structs::StructReader;
@@ -29,9 +23,7 @@ use capnp_object::named::{NamedObject, found_at};
 use capnp_units::errors::{Error, Result};
 use capnp_units::kinds::ErrorKind;
 use capnp_units::limiter::ReadLimiter;
-use capnp_units::sizes::{
-    ElementSize, MessageSize, PointerType, Word, data_bits_per_element, pointers_per_element,
-};
+use capnp_units::sizes::{ElementSize, MessageSize, PointerType, Word};
 
 /// A pointer to read: at a place, or null. What it leads to is lent from what it stands on.
 #[derive_where(Clone, Copy)]
@@ -109,7 +101,7 @@ impl<'a, A: ReaderArena> PointerReader<'a, A> {
     }
 
     /// What the pointer names, paid for; null is followed to nothing, and a default costs nothing.
-    fn reach(&self, limiter: &mut ReadLimiter) -> Result<Object>
+    pub(crate) fn reach(&self, limiter: &mut ReadLimiter) -> Result<Object>
         ensures object { GetGives (λ o. o) (λ o. Ok o) (seen_pointer A.segments self.now)
             limiter.old result limiter.new }
         ensures inside { IfOk result
@@ -287,106 +279,6 @@ impl<'a, A: ReaderArena> PointerReader<'a, A> {
         Ok(sort)
     }
 
-    /// A list whose bytes are lent, where a level is left and its elements can be read as ones of the expected size.
-    fn list_of(
-        &self,
-        expected: ElementSize,
-        bytes: &'a [u8],
-        start: Place,
-        count: u32,
-        size: ElementSize,
-        data_words: u16,
-        pointers: u16,
-    ) -> Result<ListReader<'a, A>>
-        requires inside { step_bits (size_number size) data_words pointers * count ≤ 8 * length
-            bytes.now }
-        requires near { start.position + step_words (size_number size) data_words pointers * count
-            < 2 ^ 61 }
-        ensures list { seen (seen_list A.segments) result
-            ≡ read_elements self.now.levels expected
-            (list_view (ground_of A.segments self.now.backing) size count
-            (number_of 8 bytes.now) (place_view start) data_words pointers) size data_words
-            pointers }
-        ensures bytewise { size_number expected ≢ 1
-            → IfOk result (λ l. size_number (seen_list A.segments l).size ≢ 1) }
-    {
-        let levels = level_below(self.levels)?;
-        if !is_accepted(expected, size, data_words, pointers) {
-            return Err(Error::from(ErrorKind::WrongElementSize));
-        }
-        Ok(ListReader::of_parts(
-            self.backing,
-            bytes,
-            start,
-            count,
-            size,
-            data_words,
-            pointers,
-            levels,
-        ))
-    }
-
-    /// The list behind the pointer; null is the empty list of the expected size.
-    fn list_here(
-        &self,
-        limiter: &mut ReadLimiter,
-        expected: ElementSize,
-    ) -> Result<ListReader<'a, A>>
-        ensures list { GetGives (seen_list A.segments)
-            (read_list (ground_of A.segments self.now.backing) self.now.levels expected)
-            (seen_pointer A.segments self.now) limiter.old result limiter.new }
-        ensures bytewise { size_number expected ≢ 1
-            → IfOk result (λ l. size_number (seen_list A.segments l).size ≢ 1) }
-    {
-        match self.reach(limiter)? {
-            Object::Null => Ok(ListReader::empty(self.backing, expected, self.levels)),
-            Object::List { start, size, count } => {
-                let words = words_of_elements(size, count) as usize;
-                let bytes = self.backing.lend(start, words);
-                self.list_of(expected, bytes, start, count, size, 0, 0)
-            }
-            Object::PointerList { start, count } => {
-                self.list_of(expected, &[], start, count, ElementSize::Pointer, 0, 0)
-            }
-            Object::StructList {
-                start,
-                count,
-                data_words,
-                pointers,
-                ..
-            } => {
-                let words = count as usize * (data_words as usize + pointers as usize);
-                let bytes = self.backing.lend(start, words);
-                let size = ElementSize::InlineComposite;
-                self.list_of(expected, bytes, start, count, size, data_words, pointers)
-            }
-            Object::Struct { .. } | Object::Capability { .. } => {
-                Err(Error::from(ErrorKind::WrongPointerKind))
-            }
-        }
-    }
-
-    /// The list behind the pointer, its elements lent in place, which can be read as ones of the expected size. A null pointer reads as the default's root, and without one as the empty list of that size.
-    ///
-    /// It is refused as a struct is, and with `WrongElementSize` where its elements are too narrow: single bits are read as single bits alone, and never from structs; any other element has to have the bits and the pointers of the expected one, which for `InlineComposite` are none.
-    pub fn get_list(
-        &self,
-        limiter: &mut ReadLimiter,
-        expected: ElementSize,
-        default: Option<&'a [Word]>,
-    ) -> Result<ListReader<'a, A>>
-        ensures list { let p = with_default (seen_pointer A.segments self.now)
-            (option_copied default.entry) in
-            GetGives (seen_list A.segments) (read_list p.basis p.levels expected) p limiter.old
-            result limiter.new }
-
-        // Where no single bits are expected, none are given.
-        ensures bytewise { size_number expected ≢ 1
-            → IfOk result (λ l. size_number (seen_list A.segments l).size ≢ 1) }
-    {
-        self.with_default(default).list_here(limiter, expected)
-    }
-
     /// The size of the pointer's value: the words of its objects at every depth, without pads and without the pointer itself, and its capabilities. Each count stops at the greatest number of its type. In an arena all of it is followed and paid for.
     ///
     /// Pointers are followed in the order of reading, nulls too. It is refused at the first fault within the levels that are left, by its kind, and under a negative nesting limit with `NestingLimitExceeded` for every value; with `ReadLimitExceeded` at the first object that is there and costs more words than are left. Then the objects before it are paid for, and it counts as followed. On success just the value's pointers count as followed, and else no more than words are granted, and one.
@@ -408,22 +300,5 @@ impl<'a, A: ReaderArena> PointerReader<'a, A> {
                 size_at(&self.backing, &mut unlimited, place, levels)
             }
         }
-    }
-}
-
-/// Whether elements of a size can be read as ones of an expected size. Structs have so many data words and pointers.
-fn is_accepted(expected: ElementSize, size: ElementSize, data_words: u16, pointers: u16) -> bool
-    ensures { result ≡ is_accepted_as (size_number expected) (list_head size data_words pointers) }
-{
-    let bits = data_bits_per_element(expected) as u64;
-    let refs = pointers_per_element(expected);
-    match size {
-        ElementSize::InlineComposite => {
-            expected != ElementSize::Bit
-                && bits <= 64 * data_words as u64
-                && refs <= pointers as u32
-        }
-        ElementSize::Bit => expected == ElementSize::Bit,
-        _ => { bits <= data_bits_per_element(size) as u64 && refs <= pointers_per_element(size) }
     }
 }
