@@ -22,6 +22,14 @@ words_held {segment = segment} arena = used_words (λ h. h.used) (λ h. segment.
 abbrev pub loans_held : {A S : Type 0} {allocator : Allocator A S} {segment : SegmentBytes S} → BuilderArenaImpl A S allocator segment → List ℕ
 loans_held {allocator = allocator} {segment = segment} arena = flat_map (λ h. segment.loans h.segment) arena.segments.items ++ allocator.loans arena.allocator
 
+-- What the allocator of an arena borrows and never hands out.
+abbrev pub place_held : {A S : Type 0} {allocator : Allocator A S} {segment : SegmentBytes S} → BuilderArenaImpl A S allocator segment → List ℕ
+place_held {allocator = allocator} arena = allocator.place arena.allocator
+
+-- The slices that were lent to a segment and to the allocator of an arena.
+abbrev pub lent_with : {A S : Type 0} {allocator : Allocator A S} {segment : SegmentBytes S} → S → BuilderArenaImpl A S allocator segment → List ℕ
+lent_with {allocator = allocator} {segment = segment} x arena = segment.loans x ++ allocator.loans arena.allocator
+
 -- The segments with a root pointer, which is null where there was none. (Encoding, "Messages")
 abbrev pub rooted : Segments → Segments
 rooted [] = (0 ∷ []) ∷ []

@@ -2,7 +2,7 @@
 ghost use Rattle.std.specs.Prelude.{◌≡◌, ◌≤◌, ◌++◌, [], length, IfErr, OnOk, OnErr};
 ghost use Rattle.std.specs.List.{flat_map};
 ghost use Rattle.capnp_units.specs.declared.kinds.ErrorKind.TheVariants.{OutOfMemory};
-ghost use Rattle.capnp_message.specs.Built.{opened_words, words_held, loans_held};
+ghost use Rattle.capnp_message.specs.Built.{opened_words, words_held, place_held, loans_held};
 
 use crate::builder::Builder;
 use capnp_allocators::opening::OpensSegment;
@@ -20,8 +20,7 @@ impl<A: OpensSegment> Builder<A> {
             ≡ opened_words (A.opened self.old.memory.arena.allocator)) }
         ensures refused { OnErr result (self.new.memory.arena.segments.items ≡ []) }
         ensures kind { IfErr result (λ e. e.kind ≡ OutOfMemory) }
-        ensures place { A.place self.new.memory.arena.allocator
-            ≡ A.place self.old.memory.arena.allocator }
+        ensures place { place_held self.new.memory.arena ≡ place_held self.old.memory.arena }
         ensures loans { loans_held self.new.memory.arena ≡ A.loans self.old.memory.arena.allocator }
     {
         match self.memory.arena.allocator.take_opened() {

@@ -10,10 +10,11 @@ ghost use Rattle.capnp_units.specs.declared.sizes.StructSize.{StructSize};
 ghost use Rattle.capnp_object.specs.declared.place.Place as code;
 ghost use Rattle.capnp_wire.specs.Places.{place_view};
 ghost use Rattle.capnp_copy.specs.Allocations.{total_words};
+ghost use Rattle.capnp_copy.specs.States.{HasWords};
 ghost use Rattle.capnp_copy.specs.declared.fields.StructPlace.{StructPlace};
 ghost use Rattle.capnp_builders.specs.Blobs.{DataMade, TextMade, DataGot, NoDataGot, TextGot, NoTextGot};
 ghost use Rattle.capnp_builders.specs.Inputs.{IsTooLong};
-ghost use Rattle.capnp_message.specs.Built.{rooted, words_held, loans_held};
+ghost use Rattle.capnp_message.specs.Built.{rooted, words_held, place_held, loans_held};
 ghost use Rattle.capnp_message.specs.Placed.{root_slot, StructPlaced, StructIsTooLarge, StructFound, NoStructFound, NoRootFound};
 
 use crate::builder::Builder;
@@ -49,8 +50,7 @@ pub trait Placed: Sized {
     ///
     /// It is refused with `SizeOverflow` just where the value is too large, else as the allocator refuses; then all stands as it was.
     fn init_at<A: BuilderArena>(memory: &mut Memory<A>, place: Place, length: u32) -> Result<Self>
-        requires there { is_some (words_at (words_in (A.segments memory.old.arena))
-            (place_view place) 1) ≡ true }
+        requires there { HasWords (A.segments memory.old.arena) place 1 }
         requires near { place.position < 2 ^ 61 }
         ensures books { A.books memory.new.arena ≡ A.books memory.old.arena }
         ensures made { IfOk result (λ o.
@@ -67,8 +67,7 @@ pub trait Placed: Sized {
     ///
     /// It is refused as the type says.
     fn get_at<A: BuilderArena>(memory: &mut Memory<A>, place: Place) -> Result<Self>
-        requires there { is_some (words_at (words_in (A.segments memory.old.arena))
-            (place_view place) 1) ≡ true }
+        requires there { HasWords (A.segments memory.old.arena) place 1 }
         requires near { place.position < 2 ^ 61 }
         ensures books { A.books memory.new.arena ≡ A.books memory.old.arena }
         ensures got { IfOk result (λ o.
@@ -109,8 +108,7 @@ fn init_struct_at<A: BuilderArena>(
     place: Place,
     size: StructSize,
 ) -> Result<StructPlace>
-    requires there { is_some (words_at (words_in (A.segments memory.old.arena))
-        (place_view place) 1) ≡ true }
+    requires there { HasWords (A.segments memory.old.arena) place 1 }
     requires near { place.position < 2 ^ 61 }
     ensures books { A.books memory.new.arena ≡ A.books memory.old.arena }
     ensures made { IfOk result
@@ -132,8 +130,7 @@ fn get_struct_at<A: BuilderArena>(
     place: Place,
     size: StructSize,
 ) -> Result<StructPlace>
-    requires there { is_some (words_at (words_in (A.segments memory.old.arena))
-        (place_view place) 1) ≡ true }
+    requires there { HasWords (A.segments memory.old.arena) place 1 }
     requires near { place.position < 2 ^ 61 }
     ensures books { A.books memory.new.arena ≡ A.books memory.old.arena }
     ensures got { IfOk result
@@ -236,8 +233,7 @@ impl<A: Allocator> Builder<A> {
             ≡ rooted (words_held self.old.memory.arena)) }
         ensures kind { IfErr result (λ e. e.kind ≡ SizeOverflow
             → T.is_too_large length (total_words (rooted (words_held self.old.memory.arena)))) }
-        ensures place { A.place self.new.memory.arena.allocator
-            ≡ A.place self.old.memory.arena.allocator }
+        ensures place { place_held self.new.memory.arena ≡ place_held self.old.memory.arena }
         ensures loans { loans_held self.new.memory.arena ≡ loans_held self.old.memory.arena }
     {
         begin(&mut self.memory.arena)?;
@@ -252,8 +248,7 @@ impl<A: Allocator> Builder<A> {
             ≡ rooted (words_held self.old.memory.arena)) }
         ensures kind { IfErr result (λ e. e.kind ≡ SizeOverflow
             → T.is_too_large 0 (total_words (rooted (words_held self.old.memory.arena)))) }
-        ensures place { A.place self.new.memory.arena.allocator
-            ≡ A.place self.old.memory.arena.allocator }
+        ensures place { place_held self.new.memory.arena ≡ place_held self.old.memory.arena }
         ensures loans { loans_held self.new.memory.arena ≡ loans_held self.old.memory.arena }
     {
         self.initn_root(0)
@@ -267,8 +262,7 @@ impl<A: Allocator> Builder<A> {
             (words_held self.new.memory.arena) root_slot) }
         ensures refused { IfErr result (NoRootFound T.is_not_got (words_held self.old.memory.arena)
             (words_held self.new.memory.arena)) }
-        ensures place { A.place self.new.memory.arena.allocator
-            ≡ A.place self.old.memory.arena.allocator }
+        ensures place { place_held self.new.memory.arena ≡ place_held self.old.memory.arena }
         ensures loans { loans_held self.new.memory.arena ≡ loans_held self.old.memory.arena }
     {
         begin(&mut self.memory.arena)?;
@@ -286,8 +280,8 @@ impl<T: OwnedPlaced, A: Allocator> TypedBuilder<T, A> {
             ≡ rooted (words_held self.old.message.memory.arena)) }
         ensures kind { IfErr result (λ e. e.kind ≡ SizeOverflow → T.Builder.is_too_large length
             (total_words (rooted (words_held self.old.message.memory.arena)))) }
-        ensures place { A.place self.new.message.memory.arena.allocator
-            ≡ A.place self.old.message.memory.arena.allocator }
+        ensures place { place_held self.new.message.memory.arena
+            ≡ place_held self.old.message.memory.arena }
         ensures loans { loans_held self.new.message.memory.arena
             ≡ loans_held self.old.message.memory.arena }
     {
@@ -303,8 +297,8 @@ impl<T: OwnedPlaced, A: Allocator> TypedBuilder<T, A> {
             ≡ rooted (words_held self.old.message.memory.arena)) }
         ensures kind { IfErr result (λ e. e.kind ≡ SizeOverflow → T.Builder.is_too_large 0
             (total_words (rooted (words_held self.old.message.memory.arena)))) }
-        ensures place { A.place self.new.message.memory.arena.allocator
-            ≡ A.place self.old.message.memory.arena.allocator }
+        ensures place { place_held self.new.message.memory.arena
+            ≡ place_held self.old.message.memory.arena }
         ensures loans { loans_held self.new.message.memory.arena
             ≡ loans_held self.old.message.memory.arena }
     {
@@ -318,8 +312,8 @@ impl<T: OwnedPlaced, A: Allocator> TypedBuilder<T, A> {
             (words_held self.new.message.memory.arena) root_slot) }
         ensures refused { IfErr result (NoRootFound T.Builder.is_not_got
             (words_held self.old.message.memory.arena) (words_held self.new.message.memory.arena)) }
-        ensures place { A.place self.new.message.memory.arena.allocator
-            ≡ A.place self.old.message.memory.arena.allocator }
+        ensures place { place_held self.new.message.memory.arena
+            ≡ place_held self.old.message.memory.arena }
         ensures loans { loans_held self.new.message.memory.arena
             ≡ loans_held self.old.message.memory.arena }
     {

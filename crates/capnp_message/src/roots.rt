@@ -9,10 +9,12 @@ ghost use Rattle.std.specs.Option.{is_some};
 ghost use Rattle.capnp_model.specs.Segments.{root, words_at};
 ghost use Rattle.capnp_units.specs.declared.kinds.ErrorKind.TheVariants.{SizeOverflow};
 ghost use Rattle.capnp_copy.specs.Allocations.{total_words};
+ghost use Rattle.capnp_copy.specs.States.{HasWords};
 ghost use Rattle.capnp_copy.specs.Values.{Becomes};
 ghost use Rattle.capnp_wire.specs.Reads.{root_of};
-ghost use Rattle.capnp_message.specs.Built.{used_bytes, rooted, words_held, loans_held};
+ghost use Rattle.capnp_message.specs.Built.{used_bytes, rooted, words_held, place_held, loans_held};
 ghost use Rattle.capnp_message.specs.Options.{boundless};
+ghost use Rattle.capnp_message.specs.Placed.{root_slot};
 ghost use Rattle.capnp_message.specs.Roots.{ReadsRoot};
 
 use crate::builder::Builder;
@@ -69,8 +71,7 @@ pub fn root_of<A: BuilderArena>(memory: &mut Memory<A>) -> Result<PointerBuilder
     ensures place { IfOk result (λ p. place_view p.place ≡ root) }
     ensures rooted { IfOk result (λ p. words_in (A.segments p.memory.now.arena)
         ≡ rooted (words_in (A.segments memory.entry.now.arena))) }
-    ensures there { IfOk result (λ p.
-        is_some (words_at (words_in (A.segments p.memory.now.arena)) root 1) ≡ true) }
+    ensures there { IfOk result (λ p. HasWords (A.segments p.memory.now.arena) root_slot 1) }
     ensures books { IfOk result (λ p. A.books p.memory.now.arena
         ≡ A.books memory.entry.now.arena) }
     ensures kind { IfErr result (λ e. e.kind ≢ SizeOverflow) }
@@ -97,8 +98,7 @@ impl<A: Allocator> Builder<A> {
             ≡ rooted (words_held self.old.memory.arena)) }
         ensures kind { IfErr result (λ e. e.kind ≡ SizeOverflow
             → V.is_too_large value (total_words (rooted (words_held self.old.memory.arena)))) }
-        ensures place { A.place self.new.memory.arena.allocator
-            ≡ A.place self.old.memory.arena.allocator }
+        ensures place { place_held self.new.memory.arena ≡ place_held self.old.memory.arena }
         ensures loans { loans_held self.new.memory.arena ≡ loans_held self.old.memory.arena }
     {
         begin(&mut self.memory.arena)?;

@@ -7,7 +7,7 @@ ghost use Rattle.capnp_units.specs.declared.kinds.ErrorKind.TheVariants.{SizeOve
 ghost use Rattle.capnp_copy.specs.Allocations.{total_words};
 ghost use Rattle.capnp_copy.specs.Values.{Becomes};
 ghost use Rattle.capnp_wire.specs.Reads.{root_of};
-ghost use Rattle.capnp_message.specs.Built.{used_bytes, rooted, words_held, loans_held};
+ghost use Rattle.capnp_message.specs.Built.{used_bytes, rooted, words_held, place_held, loans_held};
 ghost use Rattle.capnp_allocators.specs.Growth.{suggested_growth};
 ghost use Rattle.capnp_message.specs.Options.{boundless};
 ghost use Rattle.capnp_message.specs.Roots.{ReadsRoot};
@@ -52,8 +52,8 @@ impl<T, A: Allocator> TypedBuilder<T, A> {
         ensures kind { IfErr result (λ e. e.kind ≡ SizeOverflow
             → V.is_too_large value (total_words (rooted (words_held
             self.old.message.memory.arena)))) }
-        ensures place { A.place self.new.message.memory.arena.allocator
-            ≡ A.place self.old.message.memory.arena.allocator }
+        ensures place { place_held self.new.message.memory.arena
+            ≡ place_held self.old.message.memory.arena }
         ensures loans { loans_held self.new.message.memory.arena
             ≡ loans_held self.old.message.memory.arena }
     {

@@ -7,7 +7,7 @@ ghost use Rattle.capnp_units.specs.declared.kinds.ErrorKind.TheVariants.{OutOfMe
 ghost use Rattle.capnp_canonical.specs.Writes.{words_view};
 ghost use Rattle.capnp_copy.specs.Allocations.{words_used};
 ghost use Rattle.capnp_copy.specs.Memory.{ZeroFrom};
-ghost use Rattle.capnp_message.specs.Built.{words_held, loans_held};
+ghost use Rattle.capnp_message.specs.Built.{words_held, place_held, loans_held, lent_with};
 ghost use Rattle.capnp_message.specs.Canonical.{ReplacesRoot, SetsCanonical};
 
 use crate::builder::Builder;
@@ -55,8 +55,7 @@ impl<A: Allocator> Builder<A> {
         ensures words { OnOk result (words_held self.new.memory.arena ≡ words_view words.now ∷ []) }
         ensures refused { OnErr result (words_held self.new.memory.arena ≡ []) }
         ensures kind { IfErr result (λ e. (e.kind ≡ SizeOverflow) ↔ (2 ^ 29 ≤ length words.now)) }
-        ensures place { A.place self.new.memory.arena.allocator
-            ≡ A.place self.old.memory.arena.allocator }
+        ensures place { place_held self.new.memory.arena ≡ place_held self.old.memory.arena }
         ensures loans { loans_held self.new.memory.arena ≡ A.loans self.old.memory.arena.allocator }
     {
         let count = words.len();
@@ -90,8 +89,7 @@ impl<A: Allocator> Builder<A> {
             source.now.options.traversal_limit_in_words (words_in (S.segments source.now.segments))
             (words_held self.old.memory.arena) (words_held self.new.memory.arena) limiter.old result
             limiter.new }
-        ensures place { A.place self.new.memory.arena.allocator
-            ≡ A.place self.old.memory.arena.allocator }
+        ensures place { place_held self.new.memory.arena ≡ place_held self.old.memory.arena }
         ensures loans { loans_held self.new.memory.arena ≡ loans_held self.old.memory.arena }
     {
         let words = source.canonicalize(alloc, limiter)?;
@@ -120,10 +118,8 @@ impl<A: Allocator> Builder<A> {
             ≡ words_used used (A.Segment.bytes segment) ∷ []) }
         ensures refused { OnErr result (self.new.memory.arena.segments.items ≡ []) }
         ensures kind { IfErr result (λ e. e.kind ≡ OutOfMemory) }
-        ensures place { A.place self.new.memory.arena.allocator
-            ≡ A.place self.old.memory.arena.allocator }
-        ensures loans { loans_held self.new.memory.arena ≡ A.Segment.loans segment
-            ++ A.loans self.old.memory.arena.allocator }
+        ensures place { place_held self.new.memory.arena ≡ place_held self.old.memory.arena }
+        ensures loans { loans_held self.new.memory.arena ≡ lent_with segment self.old.memory.arena }
     {
         self.memory.arena.hold_segment(segment, used)
     }
