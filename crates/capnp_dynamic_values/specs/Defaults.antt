@@ -1,0 +1,61 @@
+-- Defaults that are written in place of null. (Encoding, "Default Values")
+use Rattle.std.specs.Prelude.{◌≡◌, ◌↔◌, ℕ, ◌+◌, ◌/◌, Bool, true, false, List, length, Option, Some, None}
+use Rattle.std.specs.Simd.{first_chunks}
+use Rattle.capnp_model.specs.Sections.{number_of}
+use Rattle.capnp_model.specs.Segments.{Segments, Place}
+use Rattle.capnp_model.specs.Schemas.{Value, no_value, bits, text_bytes, blob_bytes, list_segment, struct_segment, untyped_value, interface_value}
+use Rattle.capnp_model.specs.Trees.{plain_list}
+use Rattle.capnp_units.specs.declared.errors.Error.{Error}
+use Rattle.capnp_units.specs.declared.kinds.ErrorKind.TheVariants.{SizeOverflow}
+use Rattle.capnp_copy.specs.Allocations.{total_words}
+use Rattle.capnp_copy.specs.Values.{Becomes}
+use Rattle.capnp_copy_from.specs.Defaults.{is_null_at}
+use Rattle.capnp_builders.specs.Inputs.{IsTooLong}
+
+-- The words of a default's bytes.
+abbrev pub default_chunks : List ℕ → List (List ℕ)
+default_chunks bytes = first_chunks 8 (length bytes / 8) bytes
+
+-- The words of the default of a struct or a list, if there is one.
+abbrev pub default_words : Option Value → Option (List (List ℕ))
+default_words None = None
+default_words (Some no_value) = None
+default_words (Some (bits p n)) = None
+default_words (Some (text_bytes bytes)) = None
+default_words (Some (blob_bytes bytes)) = None
+default_words (Some (list_segment bytes)) = Some (default_chunks bytes)
+default_words (Some (struct_segment bytes)) = Some (default_chunks bytes)
+default_words (Some untyped_value) = None
+default_words (Some interface_value) = None
+
+-- A list of bytes: how many, and their number.
+pub record ByteList : Type 0 where
+  pub count : ℕ
+  pub section : ℕ
+
+-- The list of bytes of the default of a text, with its zero byte, or of data, if there is one.
+abbrev pub default_bytes : Option Value → Option ByteList
+default_bytes None = None
+default_bytes (Some no_value) = None
+default_bytes (Some (bits p n)) = None
+default_bytes (Some (text_bytes bytes)) = Some (record { count = length bytes + 1; section = number_of 8 bytes })
+default_bytes (Some (blob_bytes bytes)) = Some (record { count = length bytes; section = number_of 8 bytes })
+default_bytes (Some (list_segment bytes)) = None
+default_bytes (Some (struct_segment bytes)) = None
+default_bytes (Some untyped_value) = None
+default_bytes (Some interface_value) = None
+
+-- The default is written where the pointer is null; else all words stand.
+abbrev pub BytesPut : Bool → ByteList → Segments → Segments → Place → Type 0
+BytesPut true d s u p = Becomes s u p (plain_list 2 d.count d.section)
+BytesPut false d s u p = u ≡ s
+
+-- A default, where there is one, is written in place of null; else all words stand.
+abbrev pub BytesBegin : Option ByteList → Segments → Segments → Place → Type 0
+BytesBegin None s u p = u ≡ s
+BytesBegin (Some d) s u p = BytesPut (is_null_at s p) d s u p
+
+-- It is too large for the message just where the kind says so, else the allocator refused; all words stand.
+abbrev pub BytesNotBegun : Option ByteList → Segments → Segments → Place → Error → Type 0
+BytesNotBegun None s u p e = ⊥
+BytesNotBegun (Some d) s u p e = (is_null_at s p ≡ true) × ((e.kind ≡ SizeOverflow) ↔ IsTooLong d.count (total_words s)) × (u ≡ s)

@@ -1,0 +1,4 @@
+pub mod Untyped
+pub mod Defaults
+pub mod Inputs
+pub mod Lending

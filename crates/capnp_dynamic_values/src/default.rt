@@ -1,0 +1,98 @@
+//! Defaults, written in place of null.
+ghost use Rattle.std.specs.Prelude.{◌≡◌, ◌<◌, ◌^◌, true, option_map, option_copied, IfErr, OnOk};
+ghost use Rattle.std.specs.Option.{is_some};
+ghost use Rattle.capnp_model.specs.Segments.{words_at};
+ghost use Rattle.capnp_units.specs.Segments.{words_in};
+ghost use Rattle.capnp_wire.specs.Places.{place_view};
+ghost use Rattle.capnp_records.specs.NodeViews.{kind_of_field, value_of};
+ghost use Rattle.capnp_values.specs.Shown.{default_said};
+ghost use Rattle.capnp_copy_from.specs.Defaults.{is_null_at};
+ghost use Rattle.capnp_builders.specs.Gets.{Begins};
+ghost use Rattle.capnp_dynamic_values.specs.Defaults.{default_chunks, default_words, default_bytes, BytesBegin, BytesNotBegun};
+
+use capnp_copy::arena::BuilderArena;
+use capnp_copy::blobs::{set_data, set_text};
+use capnp_copy_from::defaults::write_default;
+use capnp_records::node::{FieldBody, Value};
+use capnp_units::errors::Result;
+use capnp_units::sizes::Word;
+use capnp_wire::place::{Place, word_at};
+
+/// The default that a slot's record says.
+pub(crate) fn default_of(body: &FieldBody) -> Option<&Value>
+    ensures { option_map value_of (option_copied result) ≡ default_said (kind_of_field body.now) }
+{
+    match body {
+        FieldBody::Slot { default, .. } => default.as_ref(),
+        FieldBody::Group { .. } => None,
+    }
+}
+
+/// The words of a default's bytes.
+fn words_of(bytes: &[u8]) -> &[Word]
+    ensures { result.now ≡ default_chunks bytes.now }
+{
+    let (words, _) = bytes.as_chunks::<8>();
+    words
+}
+
+/// The words of the default of a struct or a list, if there is one.
+pub(crate) fn default_words(default: Option<&Value>) -> Option<&[Word]>
+    ensures { option_copied result
+        ≡ default_words (option_map value_of (option_copied default.entry)) }
+{
+    match default {
+        Some(Value::Struct(bytes) | Value::List(bytes)) => Some(words_of(bytes)),
+        _ => None,
+    }
+}
+
+/// Whether the pointer at a place is null, or not there.
+fn is_null<A: BuilderArena>(arena: &A, slot: Place) -> bool
+    ensures { result ≡ is_null_at (words_in (A.segments arena.now)) (place_view slot) }
+{
+    word_at(arena, slot).unwrap_or(0) == 0
+}
+
+/// Puts a copy of a default, where there is one, in place of null, as `write_default`.
+pub(crate) fn begin<A: BuilderArena>(
+    arena: &mut A,
+    slot: Place,
+    default: Option<&[Word]>,
+) -> Result<()>
+    requires there { is_some (words_at (words_in (A.segments arena.old)) (place_view slot) 1)
+        ≡ true }
+    requires near { slot.position < 2 ^ 61 }
+    ensures begins { Begins (option_copied default.entry) (words_in (A.segments arena.old))
+        (words_in (A.segments arena.new)) (place_view slot) result }
+    ensures books { A.books arena.new ≡ A.books arena.old }
+{
+    match default {
+        None => Ok(()),
+        Some(words) => write_default(arena, slot, words),
+    }
+}
+
+/// Puts the default of a text or of data, where there is one, in place of null.
+pub(crate) fn begin_bytes<A: BuilderArena>(
+    arena: &mut A,
+    slot: Place,
+    default: Option<&Value>,
+) -> Result<()>
+    requires there { is_some (words_at (words_in (A.segments arena.old)) (place_view slot) 1)
+        ≡ true }
+    requires near { slot.position < 2 ^ 61 }
+    ensures begins { OnOk result (BytesBegin
+        (default_bytes (option_map value_of (option_copied default.entry)))
+        (words_in (A.segments arena.old)) (words_in (A.segments arena.new)) (place_view slot)) }
+    ensures refused { IfErr result (BytesNotBegun
+        (default_bytes (option_map value_of (option_copied default.entry)))
+        (words_in (A.segments arena.old)) (words_in (A.segments arena.new)) (place_view slot)) }
+    ensures books { A.books arena.new ≡ A.books arena.old }
+{
+    match default {
+        Some(Value::Text(bytes)) if is_null(arena, slot) => set_text(arena, slot, bytes),
+        Some(Value::Data(bytes)) if is_null(arena, slot) => set_data(arena, slot, bytes),
+        _ => Ok(()),
+    }
+}
