@@ -1,4 +1,4 @@
-//! Dynamic values that are built: values whose type is known at run time, and pointers of no type, to write.
+//! Pointers of no type, written where they lie in a message.
 #![tactic(auto)]
 
 pub mod any_pointer;
