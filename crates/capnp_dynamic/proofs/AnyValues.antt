@@ -2,14 +2,18 @@
 use Rattle.std.proofs.Common.{◌≡◌, ℕ, true, false, Bor, List, Option, Some, None, Result, refl, sym, ap, subst, ◌∙◌}
 use Rattle.std.specs.Prelude.{⊤, ◌&&◌, Bool, option_map}
 use Rattle.capnp_model.specs.Kinds.{SettingDynamicCapabilitiesIsUnsupported}
-use Rattle.capnp_model.specs.Schemas.{Ty, Body, void_slot, plain_slot, pointer_slot, group_slot}
+use Rattle.capnp_model.specs.Schemas.{Ty, Shape, Body, void_slot, plain_slot, pointer_slot, group_slot}
 use Rattle.capnp_model.specs.Trees.{Tree}
 use Rattle.capnp_model.specs.Calls.{refused_by, object}
 use Rattle.capnp_model.specs.Edits.{Cell, Edit, mark, put_child, put_content}
 use Rattle.capnp_units.specs.declared.errors.Error.{Error}
 use Rattle.capnp_copy.specs.declared.fields.StructPlace.{StructPlace}
 use Rattle.capnp_builders.specs.Making.{ArenaState}
-use Rattle.capnp_queries.specs.Fields.{Entry, union_in}
+use Rattle.capnp_model.specs.Coverage.{Grows}
+use Rattle.capnp_model.specs.Segments.{Segments}
+use Rattle.capnp_wire.specs.Views.{StructView}
+use Rattle.capnp_queries.specs.Fields.{Entry, union_in, shape_id, type_of_body}
+use Rattle.capnp_queries.specs.declared.structs.StructSchema.{StructSchema}
 use Rattle.capnp_queries.specs.Structs.{shape_of_struct}
 use Rattle.capnp_queries.specs.Handles.{entry_of, body_of_place}
 use Rattle.capnp_queries.specs.declared.fields.Field.{Field}
@@ -21,9 +25,9 @@ use Rattle.capnp_values.specs.declared.dynamic_value.Reader.{Reader}
 use Rattle.capnp_dynamic.specs.Edits.{marked_in}
 use Rattle.capnp_dynamic.specs.Given.{flat_content, set_content, set_entry, set_edit}
 use Rattle.capnp_dynamic.specs.Puts.{PutsContent}
-use Rattle.capnp_dynamic.specs.Sources.{SourceView, source_given}
+use Rattle.capnp_dynamic.specs.Sources.{SourceView, source_given, Stands}
 use Rattle.capnp_dynamic.specs.Begun.{is_untyped}
-use Rattle.capnp_dynamic.specs.Values.{Given, made, copied, is_capability, made_behind, given, value_given, IsPointerBody, IsPointerSlot, entry_edit, content_edit, PutsGiven}
+use Rattle.capnp_dynamic.specs.Values.{Given, made, copied, fields, is_capability, struct_given, group_refusal, sets_no_group, Leaves, made_behind, given, value_given, IsPointerBody, IsPointerSlot, entry_edit, content_edit, PutsGiven}
 use Rattle.capnp_dynamic.proofs.SetPointers.{marked_last}
 
 -- ---- a copy behind a pointer
@@ -80,14 +84,25 @@ module _ {A : Type 0} (bytes : A → List (List ℕ)) (v : Reader A) where
   capability_behind o i ty d h none is_one =
       given_is o (pointer_slot i ty d) h ∙ other_behind None i ty d none ∙ ap (λ (b : Bool). made (made_behind b v (pointer_slot i ty d))) is_one
 
-  made_elsewhere : (f : FieldPlace) → ((i : ℕ) (ty : CodeType) (d : Option (Bor Value)) → f ≡ F.Pointer i ty d → ⊥) → given bytes v (body_of_place f) ≡ made (flat_content v (body_of_place f))
-  made_elsewhere (F.Void o) other = refl
-  made_elsewhere (F.Plain ty o d) other = refl
-  made_elsewhere (F.Pointer i ty d) other = absurd (other i ty d refl)
-  made_elsewhere (F.Group g) other = refl
+  made_elsewhere : (f : FieldPlace) → ((i : ℕ) (ty : CodeType) (d : Option (Bor Value)) → f ≡ F.Pointer i ty d → ⊥) → ((g : StructSchema) → f ≡ F.Group g → ⊥) → given bytes v (body_of_place f) ≡ made (flat_content v (body_of_place f))
+  made_elsewhere (F.Void o) other slot = refl
+  made_elsewhere (F.Plain ty o d) other slot = refl
+  made_elsewhere (F.Pointer i ty d) other slot = absurd (other i ty d refl)
+  made_elsewhere (F.Group g) other slot = absurd (slot g refl)
 
-  pub flat_elsewhere : (o : Option Entry) (f : FieldPlace) → option_map (λ e. e.body) o ≡ Some (body_of_place f) → ((i : ℕ) (ty : CodeType) (d : Option (Bor Value)) → f ≡ F.Pointer i ty d → ⊥) → value_given bytes v o ≡ made (set_content v o)
-  flat_elsewhere o f h other = given_is o (body_of_place f) h ∙ made_elsewhere f other ∙ ap made (sym (set_is o (body_of_place f) h))
+  pub flat_elsewhere : (o : Option Entry) (f : FieldPlace) → option_map (λ e. e.body) o ≡ Some (body_of_place f) → ((i : ℕ) (ty : CodeType) (d : Option (Bor Value)) → f ≡ F.Pointer i ty d → ⊥) → ((g : StructSchema) → f ≡ F.Group g → ⊥) → value_given bytes v o ≡ made (set_content v o)
+  flat_elsewhere o f h other slot = given_is o (body_of_place f) h ∙ made_elsewhere f other slot ∙ ap made (sym (set_is o (body_of_place f) h))
+
+  -- ---- groups
+
+  abbrev by_struct : Option StructView → Given
+  by_struct o = elim o as (λ _. Given) [ Some x ↦ fields x | None ↦ made (refused_by (group_refusal v)) ]
+
+  pub fields_given : (o : Option Entry) (g : Shape) (x : StructView) → option_map (λ e. e.body) o ≡ Some (group_slot g) → struct_given bytes v (shape_id g) ≡ Some x → value_given bytes v o ≡ fields x
+  fields_given o g x h e = given_is o (group_slot g) h ∙ ap by_struct e
+
+  pub group_refused : (o : Option Entry) (g : Shape) → option_map (λ e. e.body) o ≡ Some (group_slot g) → struct_given bytes v (shape_id g) ≡ None → value_given bytes v o ≡ made (refused_by (group_refusal v))
+  group_refused o g h e = given_is o (group_slot g) h ∙ ap by_struct e
 
   -- ---- what is put
 
@@ -96,12 +111,25 @@ module _ {A : Type 0} (bytes : A → List (List ℕ)) (v : Reader A) where
   edit_same union (Some e) = refl
 
   pub flat_puts : (old new : ArenaState) (p : StructPlace) (f : Field) (r : Result ⊤ Error) → value_given bytes v (entry_of f) ≡ made (set_content v (entry_of f))
-      → PutsContent old new p (set_edit f v) (set_content v (entry_of f)) r → PutsGiven old new p (content_edit f) (value_given bytes v (entry_of f)) r
+      → PutsContent old new p (set_edit f v) (set_content v (entry_of f)) r → PutsGiven old new p f (value_given bytes v (entry_of f)) r
   flat_puts old new p f r e h =
       let union = union_in (shape_of_struct f.parent) in
       let k = set_content v (entry_of f) in
       let put : PutsContent old new p (content_edit f k) k r = subst (λ (x : Edit). PutsContent old new p x k r) (edit_same union (entry_of f)) h in
-      subst (λ (x : Given). PutsGiven old new p (content_edit f) x r) (sym e) put
+      subst (λ (x : Given). PutsGiven old new p f x r) (sym e) put
 
-  pub given_puts : (old new : ArenaState) (p : StructPlace) (f : Field) (g : Given) (r : Result ⊤ Error) → value_given bytes v (entry_of f) ≡ g → PutsGiven old new p (content_edit f) g r → PutsGiven old new p (content_edit f) (value_given bytes v (entry_of f)) r
-  given_puts old new p f g r e h = subst (λ (x : Given). PutsGiven old new p (content_edit f) x r) (sym e) h
+  pub given_puts : (old new : ArenaState) (p : StructPlace) (f : Field) (g : Given) (r : Result ⊤ Error) → value_given bytes v (entry_of f) ≡ g → PutsGiven old new p f g r → PutsGiven old new p f (value_given bytes v (entry_of f)) r
+  given_puts old new p f g r e h = subst (λ (x : Given). PutsGiven old new p f x r) (sym e) h
+
+-- the type of a group's field
+pub group_type : (o : Option Entry) (b : Body) (t : Ty) → option_map (λ e. e.body) o ≡ Some b → option_map (λ e. type_of_body e.body) o ≡ Some t → t ≡ type_of_body b
+group_type None b t h k = absurd (cc h)
+group_type (Some e) b t h k = sym (same_some k) ∙ ap type_of_body (same_some h)
+
+-- ---- what is there later
+
+pub leaves_of : (g : Given) (s u : Segments) (r : Result ⊤ Error) → Stands s u r → Leaves g s u r
+leaves_of g s u r h = record { grows = h.grows; stands = λ _. h.refused }
+
+pub leaves_group : (g : Given) (x : StructView) (s u : Segments) (r : Result ⊤ Error) → g ≡ fields x → Grows s u → Leaves g s u r
+leaves_group g x s u r e h = record { grows = h; stands = λ (no : sets_no_group g ≡ true). absurd (cc (e, no)) }

@@ -67,7 +67,7 @@ mark_last (Some at) None i t c = refl
 mark_last (Some at) (Some m) i t c = refl
 
 -- an edit that stands at each level
-object_replaced_more : (n m : ℕ) (s u : Segments) (o : Object) (t v : Tree) → n ≤ m → OwnsObject n s o t → ReplacesObject n s u o v → ReplacesObject m s u o v
+pub object_replaced_more : (n m : ℕ) (s u : Segments) (o : Object) (t v : Tree) → n ≤ m → OwnsObject n s o t → ReplacesObject n s u o v → ReplacesObject m s u o v
 object_replaced_more n m s u o t v l h r =
     let x = object_more n m s o t l h.means in
     let y = object_more n m u o v l r.means in

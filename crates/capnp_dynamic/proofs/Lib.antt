@@ -16,3 +16,11 @@ pub mod NewLists
 pub mod Begun
 pub mod Sources
 pub mod AnyValues
+pub mod AnyEdits
+pub mod FieldWrites
+pub mod CopiedFields
+pub mod SourceReadings
+pub mod EmptyValues
+pub mod NullMembers
+pub mod FieldRefusals
+mod GroupExamples

@@ -1,5 +1,5 @@
 -- Fields that `init` begins. (Encoding, "Structs")
-use Rattle.std.specs.Prelude.{◌≡◌, Bool, true, false, Option, Some, None}
+use Rattle.std.specs.Prelude.{◌≡◌, Bool, true, false, Option, Some, None, IfSome, Result}
 use Rattle.capnp_model.specs.Accepted.{areas_of}
 use Rattle.capnp_model.specs.Kinds.{TypeMismatch}
 use Rattle.capnp_model.specs.Segments.{Segments}
@@ -7,7 +7,13 @@ use Rattle.capnp_model.specs.Schemas.{Ty, void, plain, text, blob, untyped, inte
 use Rattle.capnp_model.specs.Calls.{Content, refused_by, bits_of, init, slot_content}
 use Rattle.capnp_copy.specs.declared.fields.StructPlace.{StructPlace}
 use Rattle.capnp_queries.specs.Fields.{Entry}
+use Rattle.capnp_queries.specs.Handles.{entry_of}
+use Rattle.capnp_queries.specs.declared.fields.Field.{Field}
+use Rattle.capnp_units.specs.declared.errors.Error.{Error}
+use Rattle.capnp_builders.specs.Making.{ArenaState}
 use Rattle.capnp_queries.specs.Structs.{schema_around, shape_of_struct}
+use Rattle.capnp_dynamic.specs.Calls.{edit_of}
+use Rattle.capnp_dynamic.specs.Puts.{PutsContent}
 use Rattle.capnp_dynamic.specs.Edits.{IsThere, IsWide}
 use Rattle.capnp_dynamic.specs.Inside.{LieIn}
 use Rattle.capnp_dynamic.specs.Inits.{LiesBehind}
@@ -64,3 +70,15 @@ TellsBegun s u p around (Some e) o = TellsPart s u p around e.body o
 pub record IsPartThere (u : Segments) (part : Part) : Type 0 where
   pub there : IsThere u part.place
   pub inside : LieIn part.place.data_words part.place.pointers (areas_of (shape_of_struct part.schema))
+
+-- ---- in a field
+
+-- A field is begun: what is put, what is told, and that what is told is there.
+abbrev pub PutsBegun : {X : Type 0} → ArenaState → ArenaState → StructPlace → Field → Result X Error → Type 0
+PutsBegun old new p f r = PutsContent old new p (edit_of f init) (begun_field (schema_around f.parent) (entry_of f)) r
+
+abbrev pub TellsField : Segments → Segments → StructPlace → Field → Option Part → Type 0
+TellsField s u p f o = TellsBegun s u p (schema_around f.parent) (entry_of f) o
+
+abbrev pub IsThereIfTold : Segments → Option Part → Type 0
+IsThereIfTold u o = IfSome o (IsPartThere u)

@@ -1,5 +1,5 @@
 -- What contracts see of struct builders. (Encoding, "Structs")
-use Rattle.std.specs.Prelude.{◌≡◌, ⊤, ℕ, ℤ, List, length, map, Option, IfSome, Result}
+use Rattle.std.specs.Prelude.{◌≡◌, true, ⊤, ℕ, ℤ, List, length, map, Option, IfSome, Result, OnErr}
 use Rattle.capnp_model.specs.Segments.{Segments}
 use Rattle.capnp_model.specs.Calls.{Content}
 use Rattle.capnp_model.specs.Edits.{Edit}
@@ -16,7 +16,7 @@ use Rattle.capnp_dynamic.specs.Edits.{IsThere, IsWide, Edits}
 use Rattle.capnp_dynamic.specs.Puts.{PutsContent}
 use Rattle.capnp_dynamic.specs.Inits.{LiesIn}
 use Rattle.capnp_dynamic.specs.Begun.{TellsBegun, IsPartThere}
-use Rattle.capnp_dynamic.specs.Values.{Given, PutsGiven}
+use Rattle.capnp_dynamic.specs.Values.{Given, PutsGiven, sets_no_group}
 use Rattle.capnp_dynamic.specs.declared.init.Part.{Part}
 use Rattle.capnp_dynamic.specs.declared.dynamic_struct.Builder.{Builder}
 
@@ -68,12 +68,13 @@ module _ {A : Type 0} (segments : A → List (List ℕ)) (room : A → List ℕ)
     pub schema : new.schema ≡ old.schema
     pub puts : PutsContent (state_of segments room books old.memory.now) (state_of segments room books new.memory.now) old.place f content r
 
-  -- What is given for a value is put into a field of the struct, by a handle that stays where it was.
-  pub record Sets (old new : Builder A) (f : Content → Edit) (given : Given) (r : Result ⊤ Error) : Type 0 where
+  -- What is given for a value is put into a field of the struct, by a handle that stays where it was. After a refusal all words stand, and new ones are zero, but where a group was to be set to a struct.
+  pub record Sets (old new : Builder A) (f : Field) (given : Given) (r : Result ⊤ Error) : Type 0 where
     pub same : new.memory.ghost_name ≡ old.memory.ghost_name
     pub place : new.place ≡ old.place
     pub schema : new.schema ≡ old.schema
     pub puts : PutsGiven (state_of segments room books old.memory.now) (state_of segments room books new.memory.now) old.place f given r
+    pub stands : sets_no_group given ≡ true → OnErr r (GrowsByZeros (words_around segments old) (words_around segments new))
 
 -- The struct that was put into a field: where it lies behind the field's pointer, under which schema; it is there, and wide enough.
 pub record IsPartOf {A : Type 0} (bytes : A → List (List ℕ)) (old new : Builder A) (f : Field) (part : Part) : Type 0 where

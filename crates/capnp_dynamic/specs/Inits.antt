@@ -1,10 +1,10 @@
 -- Structs that `init` puts into slots. (Encoding, "Structs")
-use Rattle.std.specs.Prelude.{◌≡◌, ℕ, ◌+◌, Bool, true, false, Option, Some, None}
+use Rattle.std.specs.Prelude.{◌≡◌, ℕ, ◌+◌, Bool, true, false, Option, Some, None, Result}
 use Rattle.capnp_model.specs.Kinds.{Kind, TypeMismatch, InitIsOnlyValidForStructAndAnyPointerFields}
 use Rattle.capnp_model.specs.Segments.{Segments, after}
 use Rattle.capnp_model.specs.Schemas.{Ty, void, plain, text, blob, untyped, interface, struct, list, Shape, Schema, Body, void_slot, plain_slot, pointer_slot, group_slot}
 use Rattle.capnp_model.specs.Trees.{Trees, structure}
-use Rattle.capnp_model.specs.Calls.{Content, refused_by, bits_of, object, empty_struct}
+use Rattle.capnp_model.specs.Calls.{Content, refused_by, bits_of, object, empty_struct, init}
 use Rattle.capnp_units.specs.declared.errors.Error.{Error}
 use Rattle.capnp_wire.specs.Places.{place_view}
 use Rattle.capnp_footprints.specs.Footprints.{OwnsObject}
@@ -12,10 +12,15 @@ use Rattle.capnp_object.specs.declared.place.Place as code
 use Rattle.capnp_copy.specs.Structs.{struct_at}
 use Rattle.capnp_copy.specs.Values.{LeadsTo}
 use Rattle.capnp_copy.specs.declared.fields.StructPlace.{StructPlace}
-use Rattle.capnp_builders.specs.Making.{ArenaState, WordsRefused, Stays}
+use Rattle.capnp_builders.specs.Making.{ArenaState, Makes, WordsRefused, Stays}
 use Rattle.capnp_queries.specs.Fields.{Entry}
 use Rattle.capnp_queries.specs.Structs.{schema_around, id_of}
+use Rattle.capnp_queries.specs.Handles.{entry_of}
 use Rattle.capnp_queries.specs.declared.structs.StructSchema.{StructSchema}
+use Rattle.capnp_queries.specs.declared.fields.Field.{Field}
+use Rattle.capnp_dynamic.specs.Calls.{edit_of}
+use Rattle.capnp_dynamic.specs.Puts.{PutsContent}
+use Rattle.capnp_dynamic.specs.declared.init.Part.{Part}
 use Rattle.capnp_dynamic.specs.Inside.{words_of_shape, pointers_of_shape}
 
 -- The id of the struct that a type names, if it is a struct's.
@@ -76,3 +81,21 @@ LiesIn s u p around (Some e) o g = LiesBehind s u p around e.body o g
 -- No such struct was made, and all stands as it was.
 abbrev pub StructNotMade : ArenaState → ArenaState → code.Place → Shape → Error → Type 0
 StructNotMade old new slot g e = WordsRefused old slot.segment (words_of_shape g + pointers_of_shape g) e × Stays old new
+
+-- ---- in a field
+
+-- A struct of zeros and nulls of a shape's sizes is made.
+abbrev pub MakesEmptyStruct : ArenaState → ArenaState → code.Place → Shape → Type 0
+MakesEmptyStruct old new slot g = Makes old new slot (empty_struct g) (words_of_shape g + pointers_of_shape g)
+
+-- The pointer leads to the struct.
+abbrev pub LeadsToStruct : Segments → code.Place → StructPlace → Type 0
+LeadsToStruct u slot o = LeadsTo u (place_view slot) (struct_at o)
+
+-- Such a struct is put into a slot.
+abbrev pub PutsNewStruct : {X : Type 0} → ArenaState → ArenaState → StructPlace → Field → Result X Error → Type 0
+PutsNewStruct old new p f r = PutsContent old new p (edit_of f init) (init_content (schema_around f.parent) (entry_of f)) r
+
+-- Where it lies, and of which schema it is.
+abbrev pub LiesInField : Segments → Segments → StructPlace → Field → Part → Type 0
+LiesInField s u p f part = LiesIn s u p (schema_around f.parent) (entry_of f) part.place part.schema

@@ -1,7 +1,8 @@
 -- Where the fields of a struct lie in its sections. (Encoding, "Structs")
 use Rattle.std.specs.Prelude.{ℕ, ◌+◌, ◌*◌, ◌<◌, ◌≤◌, List, [], ◌∷◌}
 use Rattle.capnp_model.specs.Schemas.{Shape, shape}
-use Rattle.capnp_model.specs.Accepted.{Area, bit_area, pointer_area}
+use Rattle.capnp_model.specs.Accepted.{Area, bit_area, pointer_area, areas_of}
+use Rattle.capnp_copy.specs.declared.fields.StructPlace.{StructPlace}
 
 -- The words of a shape's data section.
 abbrev pub words_of_shape : Shape → ℕ
@@ -16,3 +17,7 @@ abbrev pub LieIn : ℕ → ℕ → List Area → Type 0
 LieIn words pointers [] = Unit {0}
 LieIn words pointers (bit_area at width ∷ areas) = (at + width ≤ 64 * words) × LieIn words pointers areas
 LieIn words pointers (pointer_area i ∷ areas) = (i < pointers) × LieIn words pointers areas
+
+-- All fields of a shape lie in the struct.
+abbrev pub HasFields : StructPlace → Shape → Type 0
+HasFields p g = LieIn p.data_words p.pointers (areas_of g)

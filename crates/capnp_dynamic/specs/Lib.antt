@@ -5,6 +5,8 @@ pub mod Given
 pub mod Blobs
 pub mod Puts
 pub mod Sources
+pub mod GroupSets
+pub mod GroupRefusals
 pub mod Inits
 pub mod Begun
 pub mod Values

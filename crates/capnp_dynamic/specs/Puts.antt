@@ -2,6 +2,7 @@
 use Rattle.std.specs.Prelude.{◌≡◌, ◌⊎◌, ⊤, ℕ, suc, ◌+◌, ◌*◌, ◌^◌, ◌≤◌, List, map, length, Result, Ok, Err, OnOk, IfErr}
 use Rattle.capnp_model.specs.Kinds.{Kind}
 use Rattle.capnp_model.specs.Segments.{Segments}
+use Rattle.capnp_model.specs.Coverage.{Grows}
 use Rattle.capnp_model.specs.Trees.{Tree, null, capability, structure, plain_list, pointer_list, struct_list, Trees, tree_count, element_count}
 use Rattle.capnp_model.specs.Sizes.{object_words}
 use Rattle.capnp_model.specs.Calls.{Content, refused_by, bits_of, object}
@@ -37,6 +38,10 @@ pub record PutsObject (old new : ArenaState) (p : StructPlace) (f : Edit) (words
 pub record PutsBits (old new : ArenaState) (p : StructPlace) (f : Edit) : Type 0 where
   pub writes : Edits (words_in old.segments) (words_in new.segments) p f
   pub sizes : map length (words_in new.segments) ≡ map length (words_in old.segments)
+
+-- Segments of these bytes are there later too, and no shorter.
+abbrev pub BytesGrow : List (List ℕ) → List (List ℕ) → Type 0
+BytesGrow old new = Grows (words_in old) (words_in new)
 
 -- Whether a call was done, or the kind of its refusal.
 abbrev pub answered : {X : Type 0} → Result X Error → Result ⊤ Kind

@@ -1,31 +1,37 @@
 -- What `set` puts into a slot for any value. (Encoding, "Structs", "Lists", "Blobs")
-use Rattle.std.specs.Prelude.{◌≡◌, ⊤, ℕ, Bool, true, false, ◌&&◌, List, Option, Some, None, Result}
-use Rattle.capnp_model.specs.Kinds.{TypeMismatch, SettingDynamicCapabilitiesIsUnsupported}
+use Rattle.std.specs.Prelude.{◌≡◌, ⊤, ℕ, ◌==◌, if◌then◌else◌, Bool, true, false, ◌&&◌, List, Option, Some, None, Result, IfErr, OnErr}
+use Rattle.capnp_model.specs.Kinds.{Kind, TypeMismatch, NotAStruct, SettingDynamicCapabilitiesIsUnsupported}
 use Rattle.capnp_model.specs.Schemas.{Body, void_slot, plain_slot, pointer_slot, group_slot}
 use Rattle.capnp_model.specs.Trees.{Tree}
 use Rattle.capnp_model.specs.Calls.{Content, refused_by, object}
-use Rattle.capnp_model.specs.Edits.{Edit, mark, put_content}
+use Rattle.capnp_model.specs.Coverage.{Grows}
+use Rattle.capnp_model.specs.Edits.{Cell, Edit, mark, put_content}
+use Rattle.capnp_model.specs.Segments.{Segments}
 use Rattle.capnp_units.specs.Segments.{words_in}
 use Rattle.capnp_units.specs.declared.errors.Error.{Error}
 use Rattle.capnp_copy.specs.declared.fields.StructPlace.{StructPlace}
 use Rattle.capnp_builders.specs.Making.{ArenaState}
-use Rattle.capnp_queries.specs.Fields.{Entry, union_in}
-use Rattle.capnp_queries.specs.Structs.{shape_of_struct}
+use Rattle.capnp_wire.specs.Views.{StructView}
+use Rattle.capnp_copy_from.specs.Copies.{GrowsByZeros}
+use Rattle.capnp_queries.specs.Fields.{Entry, union_in, shape_id}
+use Rattle.capnp_queries.specs.Structs.{shape_of_struct, id_of}
 use Rattle.capnp_queries.specs.Handles.{entry_of}
 use Rattle.capnp_queries.specs.declared.fields.Field.{Field}
-use Rattle.capnp_values.specs.Sources.{WithoutLimit}
+use Rattle.capnp_values.specs.Sources.{WithoutLimit, struct_seen}
 use Rattle.capnp_values.specs.declared.dynamic_value.Reader.{Reader}
 use Rattle.capnp_values.specs.declared.dynamic_value.Reader.TheVariants as value
 use Rattle.capnp_dynamic.specs.Begun.{is_untyped}
 use Rattle.capnp_dynamic.specs.Given.{flat_content}
-use Rattle.capnp_dynamic.specs.Inits.{is_slot}
+use Rattle.capnp_dynamic.specs.GroupSets.{IsSource, WritesAsFar, copied_field}
+use Rattle.capnp_dynamic.specs.GroupRefusals.{FieldRefused}
 use Rattle.capnp_dynamic.specs.Puts.{PutsContent}
 use Rattle.capnp_dynamic.specs.Sources.{SourceView, source_given, PutsSource, EditsWithin}
 
--- What is put: content that is made, or a copy.
+-- What is put: content that is made, a copy, or the fields of a struct, to which a group is set.
 pub data Given : Type 0 where
   made : Content → Given
   copied : SourceView → Given
+  fields : StructView → Given
 
 -- The value is a capability.
 abbrev pub is_capability : {A : Type 0} → Reader A → Bool
@@ -47,37 +53,61 @@ is_capability (value.List l) = false
 is_capability (value.AnyPointer p) = false
 is_capability (value.Capability c) = true
 
--- The value is no struct, or the field no group.
-abbrev pub is_for_slot : {A : Type 0} → Reader A → Option Entry → Bool
-is_for_slot value.Void o = true
-is_for_slot (value.Bool b) o = true
-is_for_slot (value.Int8 z) o = true
-is_for_slot (value.Int16 z) o = true
-is_for_slot (value.Int32 z) o = true
-is_for_slot (value.Int64 z) o = true
-is_for_slot (value.UInt8 n) o = true
-is_for_slot (value.UInt16 n) o = true
-is_for_slot (value.UInt32 n) o = true
-is_for_slot (value.UInt64 n) o = true
-is_for_slot (value.Enum e) o = true
-is_for_slot (value.Text t) o = true
-is_for_slot (value.Data d) o = true
-is_for_slot (value.Struct r) o = is_slot o
-is_for_slot (value.List l) o = true
-is_for_slot (value.AnyPointer p) o = true
-is_for_slot (value.Capability c) o = true
+-- The struct that a value is, if it is one of the schema of an id.
+abbrev pub struct_given : {A : Type 0} → (A → List (List ℕ)) → Reader A → ℕ → Option StructView
+struct_given bytes value.Void id = None
+struct_given bytes (value.Bool b) id = None
+struct_given bytes (value.Int8 z) id = None
+struct_given bytes (value.Int16 z) id = None
+struct_given bytes (value.Int32 z) id = None
+struct_given bytes (value.Int64 z) id = None
+struct_given bytes (value.UInt8 n) id = None
+struct_given bytes (value.UInt16 n) id = None
+struct_given bytes (value.UInt32 n) id = None
+struct_given bytes (value.UInt64 n) id = None
+struct_given bytes (value.Enum e) id = None
+struct_given bytes (value.Text t) id = None
+struct_given bytes (value.Data d) id = None
+struct_given bytes (value.Struct r) id = if id_of r.schema == id then Some (struct_seen bytes r.source) else None
+struct_given bytes (value.List l) id = None
+struct_given bytes (value.AnyPointer p) id = None
+struct_given bytes (value.Capability c) id = None
+
+-- Why a group isn't set to a value: it is a struct of another schema, or no struct.
+abbrev pub group_refusal : {A : Type 0} → Reader A → Kind
+group_refusal value.Void = NotAStruct
+group_refusal (value.Bool b) = NotAStruct
+group_refusal (value.Int8 z) = NotAStruct
+group_refusal (value.Int16 z) = NotAStruct
+group_refusal (value.Int32 z) = NotAStruct
+group_refusal (value.Int64 z) = NotAStruct
+group_refusal (value.UInt8 n) = NotAStruct
+group_refusal (value.UInt16 n) = NotAStruct
+group_refusal (value.UInt32 n) = NotAStruct
+group_refusal (value.UInt64 n) = NotAStruct
+group_refusal (value.Enum e) = NotAStruct
+group_refusal (value.Text t) = NotAStruct
+group_refusal (value.Data d) = NotAStruct
+group_refusal (value.Struct r) = TypeMismatch
+group_refusal (value.List l) = NotAStruct
+group_refusal (value.AnyPointer p) = NotAStruct
+group_refusal (value.Capability c) = NotAStruct
 
 -- What else is put into a slot behind a pointer: what a value without pointers makes. An untyped slot refuses a capability as one.
 abbrev pub made_behind : {A : Type 0} → Bool → Reader A → Body → Content
 made_behind true v b = refused_by SettingDynamicCapabilitiesIsUnsupported
 made_behind false v b = flat_content v b
 
--- What is put into a slot for a value: the copy of a struct or of a list, where the slot takes it; else what a value without pointers makes.
+-- What is put into a group for a value: the fields of a struct of its schema.
+abbrev pub given_group : {A : Type 0} → (A → List (List ℕ)) → Reader A → ℕ → Given
+given_group bytes v id = elim (struct_given bytes v id) [ Some x ↦ fields x | None ↦ made (refused_by (group_refusal v)) ]
+
+-- What is put into a field for a value: the copy of a struct or of a list, where the slot takes it; else what a value without pointers makes.
 abbrev pub given : {A : Type 0} → (A → List (List ℕ)) → Reader A → Body → Given
 given bytes v (void_slot j) = made (flat_content v (void_slot j))
 given bytes v (plain_slot p at d) = made (flat_content v (plain_slot p at d))
 given bytes v (pointer_slot i ty d) = elim (source_given bytes v ty) [ Some x ↦ copied x | None ↦ made (made_behind (is_untyped ty && is_capability v) v (pointer_slot i ty d)) ]
-given bytes v (group_slot g) = made (flat_content v (group_slot g))
+given bytes v (group_slot g) = given_group bytes v (shape_id g)
 
 -- The same of a field.
 abbrev pub value_given : {A : Type 0} → (A → List (List ℕ)) → Reader A → Option Entry → Given
@@ -107,10 +137,22 @@ content_edit f k = entry_edit (union_in (shape_of_struct f.parent)) k (entry_of 
 abbrev pub tree_edit : Field → Tree → Edit
 tree_edit f t = content_edit f (object t)
 
--- What is answered, and what the struct becomes, by what is put: content as `PutsContent` says; a copy as the whole tree that is read, under no limit of words.
-abbrev pub PutsGiven : ArenaState → ArenaState → StructPlace → (Content → Edit) → Given → Result ⊤ Error → Type 0
-PutsGiven old new p f (made k) r = PutsContent old new p (f k) k r
+-- What is answered, and what the struct becomes, by what is put: content as `PutsContent` says; a copy as the whole tree that is read, under no limit of words; of the fields of a struct the model's writes of a group, or a beginning of them, and why a field isn't set.
+abbrev pub PutsGiven : ArenaState → ArenaState → StructPlace → Field → Given → Result ⊤ Error → Type 0
+PutsGiven old new p f (made k) r = PutsContent old new p (content_edit f k) k r
 PutsGiven old new p f (copied x) r =
     let s = words_in old.segments in
     let u = words_in new.segments in
-    WithoutLimit (PutsSource x s u (λ n t. EditsWithin n s u p (f (object t)))) r
+    WithoutLimit (PutsSource x s u (λ n t. EditsWithin n s u p (tree_edit f t))) r
+PutsGiven old new p f (fields v) r = ((from : Cell) → IsSource v from → WritesAsFar (words_in old.segments) (words_in new.segments) p (copied_field f from) r) × IfErr r (FieldRefused f v)
+
+-- No group is set to the fields of a struct.
+abbrev pub sets_no_group : Given → Bool
+sets_no_group (made k) = true
+sets_no_group (copied x) = true
+sets_no_group (fields v) = false
+
+-- Each segment of the message is there later too, and no shorter; after a refusal all words stand, and new ones are zero, but where a group was to be set to a struct.
+pub record Leaves (given : Given) (s u : Segments) (r : Result ⊤ Error) : Type 0 where
+  pub grows : Grows s u
+  pub stands : sets_no_group given ≡ true → OnErr r (GrowsByZeros s u)

@@ -1,17 +1,14 @@
 //! Fields that are begun.
-ghost use Rattle.std.specs.Prelude.{◌≡◌, IfSome, IfOk, OnErr};
+ghost use Rattle.std.specs.Prelude.{◌≡◌, IfOk, OnErr};
 ghost use Rattle.capnp_model.specs.Accepted.{areas_of};
-ghost use Rattle.capnp_model.specs.Calls.{init};
 ghost use Rattle.capnp_model.specs.Coverage.{Grows};
 ghost use Rattle.capnp_units.specs.Segments.{words_in};
-ghost use Rattle.capnp_queries.specs.Structs.{schema_around, shape_of_struct};
-ghost use Rattle.capnp_queries.specs.Handles.{entry_of};
+ghost use Rattle.capnp_queries.specs.Structs.{shape_of_struct};
 ghost use Rattle.capnp_queries.specs.Types.{ty_of};
 ghost use Rattle.capnp_dynamic.specs.Edits.{IsThere};
 ghost use Rattle.capnp_dynamic.specs.Inside.{LieIn};
-ghost use Rattle.capnp_dynamic.specs.Calls.{edit_of};
-ghost use Rattle.capnp_dynamic.specs.Begun.{begun_field, is_untyped, TellsBegun, IsPartThere};
-ghost use Rattle.capnp_dynamic.specs.Puts.{state_in, PutsContent};
+ghost use Rattle.capnp_dynamic.specs.Begun.{PutsBegun, TellsField, IsThereIfTold, is_untyped};
+ghost use Rattle.capnp_dynamic.specs.Puts.{state_in};
 
 use crate::init::{Part, init_slot};
 use crate::slots::clear_field;
@@ -45,13 +42,10 @@ pub fn begin_field<'a, A: BuilderArena>(
     requires inside { LieIn object.data_words object.pointers
         (areas_of (shape_of_struct field.parent)) }
     ensures puts { let at = state_in A.segments A.room A.books in
-        PutsContent (at arena.old) (at arena.new) object (edit_of field.entry init)
-        (begun_field (schema_around field.entry.parent) (entry_of field.entry)) result }
-    ensures tells { IfOk result
-        (TellsBegun (words_in (A.segments arena.old)) (words_in (A.segments arena.new)) object
-        (schema_around field.entry.parent) (entry_of field.entry)) }
-    ensures there { IfOk result (λ o.
-        IfSome o (IsPartThere (words_in (A.segments arena.new)))) }
+        PutsBegun (at arena.old) (at arena.new) object field.entry result }
+    ensures tells { IfOk result (TellsField (words_in (A.segments arena.old))
+        (words_in (A.segments arena.new)) object field.entry) }
+    ensures there { IfOk result (IsThereIfTold (words_in (A.segments arena.new))) }
     ensures refused { OnErr result (A.segments arena.new ≡ A.segments arena.old) }
     ensures grows { Grows (words_in (A.segments arena.old)) (words_in (A.segments arena.new)) }
     ensures books { A.books arena.new ≡ A.books arena.old }

@@ -1,16 +1,17 @@
 //! Structs whose schema is known at run time, to write.
-ghost use Rattle.std.specs.Prelude.{◌≡◌, ◌↔◌, true, Ok, IsOkAnd, IfOk, OnOk, OnErr};
+ghost use Rattle.std.specs.Prelude.{◌≡◌, ◌↔◌, true, None, Ok, IsOkAnd, IfOk, OnOk, OnErr};
 ghost use Rattle.capnp_model.specs.Calls.{clear, init, initn};
-ghost use Rattle.capnp_dynamic.specs.Builders.{IsReady, WritesInPlace, Stays, KeepsWords, Puts, Sets, IsPartOf, IsBegunBy, struct_of};
+ghost use Rattle.capnp_dynamic.specs.Builders.{IsReady, WritesInPlace, Stays, Puts, Sets, IsPartOf, IsBegunBy, struct_of};
 ghost use Rattle.capnp_dynamic.specs.Calls.{edit_of};
 ghost use Rattle.capnp_dynamic.specs.Given.{is_flat};
-ghost use Rattle.capnp_dynamic.specs.Values.{is_for_slot, value_given, content_edit};
+ghost use Rattle.capnp_dynamic.specs.Values.{value_given};
 ghost use Rattle.capnp_dynamic.specs.Edits.{IsThere, IsWide};
 ghost use Rattle.capnp_dynamic.specs.Begun.{begun_field};
 ghost use Rattle.capnp_dynamic.specs.Inits.{init_content, is_slot};
 ghost use Rattle.capnp_dynamic.specs.NewLists.{initn_field};
 ghost use Rattle.capnp_units.specs.Segments.{words_in};
-ghost use Rattle.capnp_queries.specs.Structs.{schema_around, shape_of_struct};
+ghost use Rattle.capnp_queries.specs.Fields.{place_of_name};
+ghost use Rattle.capnp_queries.specs.Structs.{schema_around, shape_of_struct, fields_of_struct};
 ghost use Rattle.capnp_queries.specs.Handles.{entry_of, IsFieldAt};
 ghost use Rattle.capnp_wire.specs.Places.{place_view};
 ghost use Rattle.capnp_wire.specs.Views.{struct_at};
@@ -151,9 +152,11 @@ impl<'a, A: BuilderArena> Builder<'a, A> {
         Ok(())
     }
 
-    /// Sets a field to a value. A plain field takes a value of its type, one of an enum any enum's; a field of texts or of data takes one of its own, one of structs any struct and one of lists any list, whatever their schema, which are copied whole; an untyped one takes these four; a Void field takes each value. A union member becomes the active one. A plain value takes no memory; a text or data the words of its list where the struct's segment has room for them, else at most one more; a copy at most twice the words of its objects.
+    /// Sets a field to a value. A plain field takes a value of its type, one of an enum any enum's; a field of texts or of data takes one of its own, one of structs any struct and one of lists any list, whatever their schema, which are copied whole; an untyped one takes these four; a Void field takes each value. A group takes a struct of its own schema: it is cleared, then the struct's active member is set in it, and then its other fields by index, nested groups likewise; a null pointer is left, but that of an active member becomes its default, else the empty value of its type. A union member becomes the active one. A plain value takes no memory; a text or data the words of its list where the struct's segment has room for them, else at most one more; a copy at most twice the words of its objects.
     ///
-    /// It is refused with `SettingDynamicCapabilitiesIsUnsupported` where the field is a capability, or untyped and the value a capability, else with `CannotSetAnyPointerFieldToAPrimitiveValue` where the field is untyped, with `NotAStruct` where it is a group, and else with `TypeMismatch`; a text or data with `SizeOverflow` just where its bytes, a text's with its zero byte, or the message's words, a pad counted, would pass 2^29 - 1, else as the allocator refuses; a struct or a list as `PointerBuilder::set_struct` and `set_list` under no limit of words. Then all words stand as they were, the struct's union included, and those that were allocated for a copy are zero.
+    /// It is refused with `SettingDynamicCapabilitiesIsUnsupported` where the field is a capability, or untyped and the value a capability, else with `CannotSetAnyPointerFieldToAPrimitiveValue` where the field is untyped, with `NotAStruct` where it is a group and the value no struct, and else with `TypeMismatch`; a text or data with `SizeOverflow` just where its bytes, a text's with its zero byte, or the message's words, a pad counted, would pass 2^29 - 1, else as the allocator refuses; a struct or a list as `PointerBuilder::set_struct` and `set_list` under no limit of words. Then all words stand as they were, the struct's union included, and those that were allocated for a copy are zero.
+    ///
+    /// A struct into a group is refused at the first of its fields that can't be set: with `CannotSetAnyPointerFieldToAPrimitiveValue` at an untyped pointer that isn't null or is an active member, with `SettingDynamicCapabilitiesIsUnsupported` at such a capability, as `dynamic_struct::Reader::get` where a pointer can't be read as its type, and else as a copy is or for want of room. Then the group has a beginning of its writes, and all else stands.
     pub fn set<B: ReaderArena>(
         &mut self,
         field: Field<'_>,
@@ -162,10 +165,8 @@ impl<'a, A: BuilderArena> Builder<'a, A> {
         requires ready { IsReady A.segments self.old }
         requires field { field.parent ≡ self.old.schema }
         ensures same { self.new.memory.ghost_name ≡ self.old.memory.ghost_name }
-        ensures sets { is_for_slot value.entry (entry_of field.entry) ≡ true
-            → Sets A.segments A.room A.books self.old self.new (content_edit field.entry)
+        ensures sets { Sets A.segments A.room A.books self.old self.new field.entry
             (value_given B.segments value.entry (entry_of field.entry)) result }
-        ensures refused { OnErr result (KeepsWords A.segments self.old self.new) }
         ensures flat { is_flat value.entry ≡ true
             → OnErr result (Stays A.segments self.old self.new) }
         ensures books { A.books self.new.memory.now.arena ≡ A.books self.old.memory.now.arena }
@@ -175,7 +176,7 @@ impl<'a, A: BuilderArena> Builder<'a, A> {
         set_value(self.memory, place, field, &value)
     }
 
-    /// Sets the field of a name, as by `set`. A name that the struct lacks is refused by `FieldNotFound`, and the struct is as it was.
+    /// Sets the field of a name, as by `set`. A name that the struct lacks is refused by `FieldNotFound`, and all is as it was.
     pub fn set_named<B: ReaderArena>(
         &mut self,
         name: &str,
@@ -184,10 +185,10 @@ impl<'a, A: BuilderArena> Builder<'a, A> {
         requires ready { IsReady A.segments self.old }
         ensures same { self.new.memory.ghost_name ≡ self.old.memory.ghost_name }
         ensures set { AnswersNamed self.old.schema name.now (λ f r.
-            is_for_slot value.entry (entry_of f) ≡ true
-            → Sets A.segments A.room A.books self.old self.new (content_edit f)
+            Sets A.segments A.room A.books self.old self.new f
             (value_given B.segments value.entry (entry_of f)) r) result }
-        ensures refused { OnErr result (KeepsWords A.segments self.old self.new) }
+        ensures unknown { place_of_name name.now (fields_of_struct self.old.schema) ≡ None
+            → Stays A.segments self.old self.new }
         ensures flat { is_flat value.entry ≡ true
             → OnErr result (Stays A.segments self.old self.new) }
         ensures books { A.books self.new.memory.now.arena ≡ A.books self.old.memory.now.arena }

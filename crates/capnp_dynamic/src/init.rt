@@ -1,25 +1,19 @@
 //! Structs of zeros and nulls, put into slots.
-ghost use Rattle.std.specs.Prelude.{◌≡◌, ◌+◌, ◌<◌, ◌^◌, true, option_map, IfSome, IfOk, IfErr, OnOk, OnErr};
+ghost use Rattle.std.specs.Prelude.{◌≡◌, ◌<◌, ◌^◌, true, option_map, IfSome, IfOk, IfErr, OnOk, OnErr};
 ghost use Rattle.std.specs.Option.{is_some};
-ghost use Rattle.capnp_model.specs.Accepted.{areas_of};
-ghost use Rattle.capnp_model.specs.Calls.{empty_struct, init};
 ghost use Rattle.capnp_model.specs.Coverage.{Grows};
 ghost use Rattle.capnp_model.specs.Segments.{words_at};
 ghost use Rattle.capnp_units.specs.Segments.{words_in};
 ghost use Rattle.capnp_units.specs.Errors.{kind_of};
 ghost use Rattle.capnp_wire.specs.Places.{place_view};
 ghost use Rattle.capnp_records.specs.Sets.{nodes_of};
-ghost use Rattle.capnp_copy.specs.Structs.{struct_at};
-ghost use Rattle.capnp_copy.specs.Values.{LeadsTo};
-ghost use Rattle.capnp_builders.specs.Making.{Makes};
-ghost use Rattle.capnp_queries.specs.Structs.{nodes_around, schema_around, shape_of_struct, id_of};
+ghost use Rattle.capnp_queries.specs.Structs.{nodes_around, shape_of_struct, id_of};
 ghost use Rattle.capnp_queries.specs.Handles.{entry_of};
 ghost use Rattle.capnp_queries.specs.Types.{ty_of, is_type_of};
-ghost use Rattle.capnp_dynamic.specs.Inside.{LieIn, words_of_shape, pointers_of_shape};
+ghost use Rattle.capnp_dynamic.specs.Inside.{HasFields, words_of_shape, pointers_of_shape};
 ghost use Rattle.capnp_dynamic.specs.Edits.{IsThere, IsWide};
-ghost use Rattle.capnp_dynamic.specs.Calls.{edit_of};
-ghost use Rattle.capnp_dynamic.specs.Inits.{struct_named, no_struct, init_content, is_slot, LiesIn, StructNotMade};
-ghost use Rattle.capnp_dynamic.specs.Puts.{state_in, PutsContent};
+ghost use Rattle.capnp_dynamic.specs.Inits.{struct_named, no_struct, is_slot, MakesEmptyStruct, LeadsToStruct, PutsNewStruct, LiesInField, StructNotMade};
+ghost use Rattle.capnp_dynamic.specs.Puts.{state_in, BytesGrow};
 
 use crate::slots::{mark, pointer_place};
 use capnp_copy::arena::BuilderArena;
@@ -86,18 +80,14 @@ fn put_struct<A: BuilderArena>(
     requires there { is_some (words_at (words_in (A.segments arena.old)) (place_view slot) 1)
         ≡ true }
     requires near { slot.position < 2 ^ 61 }
-    ensures made { let at = state_in A.segments A.room A.books in
-        let g = shape_of_struct schema.entry in
-        OnOk result (Makes (at arena.old) (at arena.new) slot (empty_struct g)
-        (words_of_shape g + pointers_of_shape g)) }
-    ensures leads { IfOk result (λ o.
-        LeadsTo (words_in (A.segments arena.new)) (place_view slot) (struct_at o)) }
+    ensures made { let at = state_in A.segments A.room A.books in OnOk result
+        (MakesEmptyStruct (at arena.old) (at arena.new) slot (shape_of_struct schema.entry)) }
+    ensures leads { IfOk result (LeadsToStruct (words_in (A.segments arena.new)) slot) }
     ensures there { IfOk result (λ o. IsThere (words_in (A.segments arena.new)) o) }
     ensures wide { IfOk result (λ o. IsWide o (shape_of_struct schema.entry)) }
     ensures refused { let at = state_in A.segments A.room A.books in IfErr result
         (StructNotMade (at arena.old) (at arena.new) slot (shape_of_struct schema.entry)) }
-    ensures grows { OnOk result
-        (Grows (words_in (A.segments arena.old)) (words_in (A.segments arena.new))) }
+    ensures grows { OnOk result (BytesGrow (A.segments arena.old) (A.segments arena.new)) }
     ensures books { A.books arena.new ≡ A.books arena.old }
 {
     init_struct(arena, slot, struct_size(schema))
@@ -112,15 +102,12 @@ pub fn init_slot<'a, A: BuilderArena>(
     field: Field<'a>,
 ) -> Result<Part<'a>>
     requires there { IsThere (words_in (A.segments arena.old)) object }
-    requires inside { LieIn object.data_words object.pointers
-        (areas_of (shape_of_struct field.parent)) }
+    requires inside { HasFields object (shape_of_struct field.parent) }
     requires slot { is_slot (entry_of field) ≡ true }
     ensures puts { let at = state_in A.segments A.room A.books in
-        PutsContent (at arena.old) (at arena.new) object (edit_of field.entry init)
-        (init_content (schema_around field.entry.parent) (entry_of field.entry)) result }
-    ensures lies { IfOk result (λ o.
-        LiesIn (words_in (A.segments arena.old)) (words_in (A.segments arena.new)) object
-        (schema_around field.entry.parent) (entry_of field.entry) o.place o.schema) }
+        PutsNewStruct (at arena.old) (at arena.new) object field.entry result }
+    ensures lies { IfOk result (LiesInField (words_in (A.segments arena.old))
+        (words_in (A.segments arena.new)) object field.entry) }
     ensures there { IfOk result (λ o. IsThere (words_in (A.segments arena.new)) o.place) }
     ensures wide { IfOk result (λ o. IsWide o.place (shape_of_struct o.schema)) }
     ensures refused { OnErr result (A.segments arena.new ≡ A.segments arena.old) }

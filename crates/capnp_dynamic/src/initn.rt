@@ -22,7 +22,7 @@ ghost use Rattle.capnp_dynamic.specs.Inside.{LieIn};
 ghost use Rattle.capnp_dynamic.specs.Edits.{IsThere};
 ghost use Rattle.capnp_dynamic.specs.Calls.{edit_of};
 ghost use Rattle.capnp_dynamic.specs.NewLists.{tree_of_new, IsMade, content_of_list, initn_field, ObjectNotMade};
-ghost use Rattle.capnp_dynamic.specs.Puts.{state_in, PutsContent};
+ghost use Rattle.capnp_dynamic.specs.Puts.{state_in, BytesGrow, PutsContent};
 
 use crate::init::struct_size;
 use crate::slots::{mark, pointer_place};
@@ -102,8 +102,7 @@ fn put_text<A: BuilderArena>(arena: &mut A, slot: Place, count: u32) -> Result<(
         OnOk result (Makes (at arena.old) (at arena.new) slot t (object_words t)) }
     ensures refused { let at = state_in A.segments A.room A.books in IfErr result
         (ObjectNotMade (at arena.old) (at arena.new) slot.segment (plain_list 2 (suc count) 0)) }
-    ensures grows { OnOk result
-        (Grows (words_in (A.segments arena.old)) (words_in (A.segments arena.new))) }
+    ensures grows { OnOk result (BytesGrow (A.segments arena.old) (A.segments arena.new)) }
     ensures books { A.books arena.new ≡ A.books arena.old }
 {
     if count >= MOST_WORDS {
@@ -130,8 +129,7 @@ fn put_elements<A: BuilderArena>(
     ensures refused { let at = state_in A.segments A.room A.books in
         let t = new_tree (zeros_of (size_number size) count) in
         IfErr result (ObjectNotMade (at arena.old) (at arena.new) slot.segment t) }
-    ensures grows { OnOk result
-        (Grows (words_in (A.segments arena.old)) (words_in (A.segments arena.new))) }
+    ensures grows { OnOk result (BytesGrow (A.segments arena.old) (A.segments arena.new)) }
     ensures books { A.books arena.new ≡ A.books arena.old }
 {
     init_list(arena, slot, size, count)?;
@@ -154,8 +152,7 @@ fn put_structs<A: BuilderArena>(
     ensures refused { let at = state_in A.segments A.room A.books in
         let t = struct_list size.data_words size.pointers (zero_elements count size.pointers) in
         IfErr result (ObjectNotMade (at arena.old) (at arena.new) slot.segment t) }
-    ensures grows { OnOk result
-        (Grows (words_in (A.segments arena.old)) (words_in (A.segments arena.new))) }
+    ensures grows { OnOk result (BytesGrow (A.segments arena.old) (A.segments arena.new)) }
     ensures books { A.books arena.new ≡ A.books arena.old }
 {
     init_struct_list(arena, slot, count, size)?;
@@ -177,8 +174,7 @@ pub fn put_list<A: BuilderArena>(
         OnOk result (Makes (at arena.old) (at arena.new) slot t (object_words t)) }
     ensures refused { let at = state_in A.segments A.room A.books in IfErr result
         (ObjectNotMade (at arena.old) (at arena.new) slot.segment (tree_of_new list count)) }
-    ensures grows { OnOk result
-        (Grows (words_in (A.segments arena.old)) (words_in (A.segments arena.new))) }
+    ensures grows { OnOk result (BytesGrow (A.segments arena.old) (A.segments arena.new)) }
     ensures books { A.books arena.new ≡ A.books arena.old }
 {
     match list {

@@ -3,6 +3,10 @@
 
 pub mod begin;
 pub mod dynamic_struct;
+mod group_empties;
+mod group_nulls;
+mod group_sets;
+mod group_sources;
 pub mod init;
 pub mod initn;
 pub mod setting;

@@ -33,7 +33,7 @@ use capnp_values::dynamic_value::Reader;
 use capnp_wire::place::Place;
 
 /// A text or data.
-enum Blob<'a> {
+pub(crate) enum Blob<'a> {
     Text(&'a [u8]),
     Data(&'a [u8]),
 }
@@ -83,7 +83,7 @@ fn blob_for<'a, B>(ty: Type, value: &Reader<'a, B>) -> Option<Blob<'a>>
 }
 
 /// Puts a text or data in place of the value of the pointer at a place, which is cleared.
-fn put_blob<A: BuilderArena>(arena: &mut A, slot: Place, blob: Blob<'_>) -> Result<()>
+pub(crate) fn put_blob<A: BuilderArena>(arena: &mut A, slot: Place, blob: Blob<'_>) -> Result<()>
     requires there { is_some (words_at (words_in (A.segments arena.old)) (place_view slot) 1)
         ≡ true }
     requires near { slot.position < 2 ^ 61 }

@@ -1,11 +1,12 @@
 //! Values of any kind, set into slots: structs and lists are copied whole.
-ghost use Rattle.std.specs.Prelude.{◌≡◌, ◌<◌, ◌^◌, ◌&&◌, true, false, option_map, OnSome, OnErr};
+ghost use Rattle.std.specs.Prelude.{ℕ, ◌≡◌, ◌<◌, ◌^◌, ◌&&◌, true, false, option_map, OnSome, OnErr};
 ghost use Rattle.std.specs.Option.{is_some};
 ghost use Rattle.capnp_model.specs.Accepted.{areas_of};
+ghost use Rattle.capnp_model.specs.Schemas.{struct};
 ghost use Rattle.capnp_model.specs.Segments.{words_at};
+ghost use Rattle.capnp_units.specs.Errors.{kind_of};
 ghost use Rattle.capnp_units.specs.Segments.{words_in};
 ghost use Rattle.capnp_wire.specs.Places.{place_view};
-ghost use Rattle.capnp_wire.specs.Views.{seen_struct, seen_list};
 ghost use Rattle.capnp_builders.specs.Copied.{SetsStruct, SetsList};
 ghost use Rattle.capnp_builders.specs.Making.{state_of};
 ghost use Rattle.capnp_queries.specs.Structs.{shape_of_struct};
@@ -17,8 +18,9 @@ ghost use Rattle.capnp_dynamic.specs.Edits.{IsThere};
 ghost use Rattle.capnp_dynamic.specs.Given.{is_flat};
 ghost use Rattle.capnp_dynamic.specs.Inside.{LieIn};
 ghost use Rattle.capnp_dynamic.specs.Sources.{source_seen, source_given, SetsSource, PutsSource, EditsWithin, Stands};
-ghost use Rattle.capnp_dynamic.specs.Values.{is_capability, value_given, IsPointerSlot, content_edit, tree_edit, PutsGiven};
+ghost use Rattle.capnp_dynamic.specs.Values.{is_capability, struct_given, group_refusal, value_given, IsPointerSlot, tree_edit, PutsGiven, Leaves};
 
+use crate::group_sets::set_group;
 use crate::setting::set_flat;
 use crate::slots::{mark, pointer_place};
 use capnp_builders::pointer_builder::PointerBuilder;
@@ -33,9 +35,7 @@ use capnp_units::limiter::ReadLimiter;
 use capnp_values::dynamic_value::Reader;
 use capnp_values::source::{ListSource, StructSource};
 use capnp_wire::arena::ReaderArena;
-use capnp_wire::list::ListReader;
 use capnp_wire::place::Place;
-use capnp_wire::structs::StructReader;
 
 /// A struct or a list that is copied.
 pub enum Source<'a, B> {
@@ -70,52 +70,8 @@ fn is_untyped_capability<B>(ty: Type, value: &Reader<'_, B>) -> bool
     }
 }
 
-/// Puts a copy of a struct in place of the value of the pointer at a place.
+/// Puts a copy of a struct, of a message or of a default, in place of the value of the pointer at a place.
 fn put_struct<A: BuilderArena, B: ReaderArena>(
-    memory: &mut Memory<A>,
-    slot: Place,
-    limiter: &mut ReadLimiter,
-    value: StructReader<'_, B>,
-) -> Result<()>
-    requires there { is_some (words_at (words_in (A.segments memory.old.arena)) (place_view slot)
-        1) ≡ true }
-    requires near { slot.position < 2 ^ 61 }
-    ensures copy { SetsStruct (seen_struct B.segments value.entry)
-        (words_in (A.segments memory.old.arena))
-        (words_in (A.segments memory.new.arena)) (place_view slot) limiter.old result limiter.new }
-    ensures books { A.books memory.new.arena ≡ A.books memory.old.arena }
-{
-    let mut pointer = PointerBuilder {
-        memory,
-        place: slot,
-    };
-    pointer.set_struct(limiter, value)
-}
-
-/// Puts a copy of a list in place of the value of the pointer at a place.
-fn put_list<A: BuilderArena, B: ReaderArena>(
-    memory: &mut Memory<A>,
-    slot: Place,
-    limiter: &mut ReadLimiter,
-    value: ListReader<'_, B>,
-) -> Result<()>
-    requires there { is_some (words_at (words_in (A.segments memory.old.arena)) (place_view slot)
-        1) ≡ true }
-    requires near { slot.position < 2 ^ 61 }
-    ensures copy { SetsList (seen_list B.segments value.entry)
-        (words_in (A.segments memory.old.arena))
-        (words_in (A.segments memory.new.arena)) (place_view slot) limiter.old result limiter.new }
-    ensures books { A.books memory.new.arena ≡ A.books memory.old.arena }
-{
-    let mut pointer = PointerBuilder {
-        memory,
-        place: slot,
-    };
-    pointer.set_list(limiter, value)
-}
-
-/// The same of a struct of a message or of a default.
-fn put_any_struct<A: BuilderArena, B: ReaderArena>(
     memory: &mut Memory<A>,
     slot: Place,
     limiter: &mut ReadLimiter,
@@ -129,14 +85,18 @@ fn put_any_struct<A: BuilderArena, B: ReaderArena>(
         (words_in (A.segments memory.new.arena)) (place_view slot) limiter.old result limiter.new }
     ensures books { A.books memory.new.arena ≡ A.books memory.old.arena }
 {
+    let mut pointer = PointerBuilder {
+        memory,
+        place: slot,
+    };
     match source {
-        StructSource::Message(value) => put_struct(memory, slot, limiter, value),
-        StructSource::Default(value) => put_struct(memory, slot, limiter, value),
+        StructSource::Message(value) => pointer.set_struct(limiter, value),
+        StructSource::Default(value) => pointer.set_struct(limiter, value),
     }
 }
 
 /// The same of a list.
-fn put_any_list<A: BuilderArena, B: ReaderArena>(
+fn put_list<A: BuilderArena, B: ReaderArena>(
     memory: &mut Memory<A>,
     slot: Place,
     limiter: &mut ReadLimiter,
@@ -150,9 +110,13 @@ fn put_any_list<A: BuilderArena, B: ReaderArena>(
         (words_in (A.segments memory.new.arena)) (place_view slot) limiter.old result limiter.new }
     ensures books { A.books memory.new.arena ≡ A.books memory.old.arena }
 {
+    let mut pointer = PointerBuilder {
+        memory,
+        place: slot,
+    };
     match source {
-        ListSource::Message(value) => put_list(memory, slot, limiter, value),
-        ListSource::Default(value) => put_list(memory, slot, limiter, value),
+        ListSource::Message(value) => pointer.set_list(limiter, value),
+        ListSource::Default(value) => pointer.set_list(limiter, value),
     }
 }
 
@@ -172,8 +136,8 @@ pub fn put_source<A: BuilderArena, B: ReaderArena>(
 {
     let mut unlimited = ReadLimiter::new(None);
     match source {
-        Source::Struct(source) => put_any_struct(memory, slot, &mut unlimited, source),
-        Source::List(source) => put_any_list(memory, slot, &mut unlimited, source),
+        Source::Struct(source) => put_struct(memory, slot, &mut unlimited, source),
+        Source::List(source) => put_list(memory, slot, &mut unlimited, source),
     }
 }
 
@@ -203,21 +167,49 @@ fn set_source<A: BuilderArena, B: ReaderArena>(
     Ok(())
 }
 
-/// Sets a slot to a value, or a Void slot to any. The value is looked at and memory taken before the union is marked, and the pointer written last, so that after a refusal all words stand, and those that were allocated are zero; after that of a value without pointers nothing was allocated.
-pub fn set_value<A: BuilderArena, B: ReaderArena>(
+/// The struct to which a group is set by a value: one of the group's schema.
+fn struct_for<'a, B: ReaderArena>(ty: Type, value: &Reader<'a, B>) -> Option<StructSource<'a, B>>
+    ensures given { (id : ℕ) → ty_of ty ≡ struct id → option_map (struct_seen B.segments) result
+        ≡ struct_given B.segments value.now id }
+    ensures flat { OnSome result (is_flat value.now ≡ false) }
+{
+    match (ty.which(), value) {
+        (TypeVariant::Struct(raw), Reader::Struct(value)) => {
+            if value.get_schema().raw().id == raw.id {
+                Some(value.source())
+            } else {
+                None
+            }
+        }
+        _ => None,
+    }
+}
+
+/// Why a group isn't set to a value.
+fn group_refusal<B>(value: &Reader<'_, B>) -> ErrorKind
+    ensures { kind_of result ≡ group_refusal value.now }
+{
+    match value {
+        Reader::Struct(_) => ErrorKind::TypeMismatch,
+        _ => ErrorKind::NotAStruct,
+    }
+}
+
+/// Sets a field to a value, or a Void one to any. The value is looked at and memory taken before the union is marked, and the pointer written last, so that after a refusal all words stand, and those that were allocated are zero; after that of a value without pointers nothing was allocated. But a group that is set to a struct of its schema has a beginning of its writes after a refusal.
+pub fn set_value<'a, A: BuilderArena, B: ReaderArena>(
     memory: &mut Memory<A>,
     object: StructPlace,
-    field: Field<'_>,
-    value: &Reader<'_, B>,
+    field: Field<'a>,
+    value: &Reader<'a, B>,
 ) -> Result<()>
     requires there { IsThere (words_in (A.segments memory.old.arena)) object }
     requires inside { LieIn object.data_words object.pointers
         (areas_of (shape_of_struct field.parent)) }
     ensures puts { let at = state_of A.segments A.room A.books in
-        PutsGiven (at memory.old) (at memory.new) object (content_edit field.entry)
+        PutsGiven (at memory.old) (at memory.new) object field.entry
         (value_given B.segments value.now (entry_of field.entry)) result }
-    ensures stands { Stands (words_in (A.segments memory.old.arena))
-        (words_in (A.segments memory.new.arena)) result }
+    ensures leaves { Leaves (value_given B.segments value.now (entry_of field.entry))
+        (words_in (A.segments memory.old.arena)) (words_in (A.segments memory.new.arena)) result }
     ensures flat { is_flat value.now ≡ true → OnErr result
         (A.segments memory.new.arena ≡ A.segments memory.old.arena) }
     ensures books { A.books memory.new.arena ≡ A.books memory.old.arena }
@@ -233,6 +225,12 @@ pub fn set_value<A: BuilderArena, B: ReaderArena>(
                 return Err(Error::from(kind));
             }
             set_flat(&mut memory.arena, object, field, value)
+        }
+        FieldPlace::Group { .. } => {
+            let Some(source) = struct_for(field.get_type(), value) else {
+                return Err(Error::from(group_refusal(value)));
+            };
+            set_group(&mut memory.arena, object, field, source)
         }
         _ => set_flat(&mut memory.arena, object, field, value),
     }

@@ -9,11 +9,11 @@ use Rattle.capnp_dynamic.proofs.values.put_source.Goals as goal
 pub returns-in-Struct-clause-copy : goal.returns-in-Struct-clause-copy
 returns-in-Struct-clause-copy g c =
     let s = words_in (g.A.ReaderArena.segments c.args.memory.now.arena) in
-    let u = words_in (g.A.ReaderArena.segments c.put_any_struct.new.memory.arena) in
-    subst (λ x. WithoutLimit (SetsSource x s u (place_view c.args.slot)) c.put_any_struct.result) (sym (ap (source_seen g.B.ReaderArena.segments) c.in-Struct.is)) (c.new-unlimited.result, c.put_any_struct.new.limiter, c.new-unlimited.ensures.left, c.put_any_struct.ensures.copy)
+    let u = words_in (g.A.ReaderArena.segments c.put_struct.new.memory.arena) in
+    subst (λ x. WithoutLimit (SetsSource x s u (place_view c.args.slot)) c.put_struct.result) (sym (ap (source_seen g.B.ReaderArena.segments) c.in-Struct.is)) (c.new-unlimited.result, c.put_struct.new.limiter, c.new-unlimited.ensures.left, c.put_struct.ensures.copy)
 
 pub returns-in-List-clause-copy : goal.returns-in-List-clause-copy
 returns-in-List-clause-copy g c =
     let s = words_in (g.A.ReaderArena.segments c.args.memory.now.arena) in
-    let u = words_in (g.A.ReaderArena.segments c.put_any_list.new.memory.arena) in
-    subst (λ x. WithoutLimit (SetsSource x s u (place_view c.args.slot)) c.put_any_list.result) (sym (ap (source_seen g.B.ReaderArena.segments) c.in-List.is)) (c.new-unlimited.result, c.put_any_list.new.limiter, c.new-unlimited.ensures.left, c.put_any_list.ensures.copy)
+    let u = words_in (g.A.ReaderArena.segments c.put_list.new.memory.arena) in
+    subst (λ x. WithoutLimit (SetsSource x s u (place_view c.args.slot)) c.put_list.result) (sym (ap (source_seen g.B.ReaderArena.segments) c.in-List.is)) (c.new-unlimited.result, c.put_list.new.limiter, c.new-unlimited.ensures.left, c.put_list.ensures.copy)

@@ -1,9 +1,7 @@
-use Rattle.std.proofs.Common.{inl, refl}
+use Rattle.std.proofs.Common.{◌≡◌, Some, None, inl, refl, ◌∙◌}
 use Rattle.capnp_units.specs.Segments.{words_in}
-use Rattle.capnp_footprints.proofs.Algebra.{changes_nothing}
 use Rattle.capnp_dynamic.proofs.Grown.{there_grown}
 use Rattle.capnp_dynamic.proofs.Ready.{field_inside}
-use Rattle.capnp_dynamic.proofs.Sources.{if_refused}
 use Rattle.capnp_dynamic.proofs.dynamic_struct.Builder.set_named.Goals as goal
 
 pub set_value-requires-clause-inside : goal.set_value-requires-clause-inside
@@ -12,11 +10,10 @@ set_value-requires-clause-inside g c = field_inside c.args.self.now.place c.args
 pub returns-clause-ready : goal.returns-clause-ready
 returns-clause-ready g c =
     let old = c.args.self.now in
-    record { there = there_grown (words_in (g.A.ReaderArena.segments old.memory.now.arena)) (words_in (g.A.ReaderArena.segments c.set_value.new.memory.arena)) old.place c.set_value.ensures.stands.grows c.requires.ready.there; wide = c.requires.ready.wide }
+    record { there = there_grown (words_in (g.A.ReaderArena.segments old.memory.now.arena)) (words_in (g.A.ReaderArena.segments c.set_value.new.memory.arena)) old.place c.set_value.ensures.leaves.grows c.requires.ready.there; wide = c.requires.ready.wide }
 
 pub returns-clause-set : goal.returns-clause-set
-returns-clause-set g c = inl (c.in_ok-field.field, c.in_ok-field.ensures.found, λ _. record { same = refl; place = refl; schema = refl; puts = c.set_value.ensures.puts })
+returns-clause-set g c = inl (c.in_ok-field.field, c.in_ok-field.ensures.found, record { same = refl; place = refl; schema = refl; puts = c.set_value.ensures.puts; stands = c.set_value.ensures.leaves.stands })
 
-pub returns-in_err-field-clause-refused : goal.returns-in_err-field-clause-refused
-returns-in_err-field-clause-refused g c =
-    if_refused c.from_residual.result (record { same = refl; place = refl; schema = refl; stands = changes_nothing (words_in (g.A.ReaderArena.segments c.args.self.now.memory.now.arena)) (λ q. 0) })
+pub returns-clause-unknown : goal.returns-clause-unknown
+returns-clause-unknown g c none = (let found : Some c.in_ok-field.field.index ≡ None = c.in_ok-field.ensures.found.index ∙ none in absurd (cc found))

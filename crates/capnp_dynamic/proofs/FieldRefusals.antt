@@ -1,0 +1,116 @@
+-- Why a group isn't set to a struct.
+use Rattle.std.proofs.Common.{◌≡◌, ◌⊎◌, ℕ, zero, suc, Bool, true, false, if◌then◌else◌, List, Option, Some, None, Result, Ok, Err, IfErr, inl, inr, refl, sym, ap, subst, ◌∙◌}
+use Rattle.std.specs.Prelude.{⊤, MatchOption, option_map}
+use Rattle.capnp_model.specs.Kinds.{NestingLimitExceeded}
+use Rattle.capnp_model.specs.Segments.{Segments, Place, after}
+use Rattle.capnp_model.specs.Trees.{Tree}
+use Rattle.capnp_model.specs.Accepted.{schema_of, default_tree, slot_body, field_body}
+use Rattle.capnp_model.specs.Printing.{fields_in}
+use Rattle.capnp_model.specs.Schemas.{Ty, void, plain, text, blob, untyped, interface, struct, list, type_of, Value, FieldKind, slot, group, Shape, shape, Fields, no_fields, field, Body, pointer_slot, group_slot, Schema}
+use Rattle.capnp_units.specs.Errors.{kind_of}
+use Rattle.capnp_units.specs.Limits.{left_of}
+use Rattle.capnp_units.specs.declared.errors.Error.{Error}
+use Rattle.capnp_units.specs.declared.limiter.ReadLimiter.{ReadLimiter}
+use Rattle.capnp_wire.specs.Reads.{is_null}
+use Rattle.capnp_wire.specs.Views.{StructView, pointer_field}
+use Rattle.capnp_copy_from.specs.Copies.{CopiesValue}
+use Rattle.capnp_queries.specs.Fields.{Entry, field_at}
+use Rattle.capnp_queries.specs.Structs.{nodes_around, schema_around, shape_of_struct, fields_of_struct}
+use Rattle.capnp_queries.specs.Handles.{entry_of}
+use Rattle.capnp_queries.specs.declared.structs.StructSchema.{StructSchema}
+use Rattle.capnp_queries.specs.declared.fields.Field.{Field}
+use Rattle.capnp_values.specs.Shown.{opened, default_opened, slot_opened, slot_shown, kind_shown, ShowsField}
+use Rattle.capnp_dynamic.specs.GroupRefusals.{CopyRefused, ChildRefused, SomeRefused, NullRefused, PointerRefused, FieldsRefused, BodyRefused, EntryRefused, FieldRefused}
+use Rattle.capnp_dynamic.proofs.GroupFields.{body_is}
+
+-- ---- copies
+
+pub copy_refused : (levels : ℕ) (f s u : Segments) (q p : Place) (old new : ReadLimiter) (r : Result ⊤ Error) → left_of old ≡ None → CopiesValue levels f q s u p old r new → IfErr r (CopyRefused levels f q)
+copy_refused levels f s u q p old new (Ok x) none h = tt
+copy_refused levels f s u q p old new (Err e) none h = record { old = old; new = new; unlimited = none; words = u; why = h.why }
+
+pub child_refused : (v : StructView) (i levels : ℕ) → v.levels ≡ Some levels → (r : Result ⊤ Error) → IfErr r (CopyRefused levels v.basis.segments (after v.first i)) → IfErr r (ChildRefused v i)
+child_refused v i levels l (Ok x) h = tt
+child_refused v i levels l (Err e) h = subst (λ o. MatchOption o (kind_of e.kind ≡ NestingLimitExceeded) (λ n. CopyRefused n v.basis.segments (after v.first i) e)) (sym l) h
+
+pub child_without : (v : StructView) (i : ℕ) (e : Error) → v.levels ≡ None → kind_of e.kind ≡ NestingLimitExceeded → ChildRefused v i e
+child_without v i e l h = subst (λ o. MatchOption o (kind_of e.kind ≡ NestingLimitExceeded) (λ n. CopyRefused n v.basis.segments (after v.first i) e)) (sym l) h
+
+-- ---- what a pointer that isn't null is read as
+
+module _ (s : Schema) (v : StructView) (i : ℕ) (t : Ty) (x : Option Tree) (some : is_null (pointer_field v i) ≡ false) where
+  slot_is : (d : Option Value) → slot_opened s t d (pointer_field v i) ≡ opened s t (pointer_field v i)
+  slot_is None = refl
+  slot_is (Some d) = ap (λ (b : Bool). if b then default_opened s t (pointer_field v i) d else opened s t (pointer_field v i)) some
+
+  same_slot : (offset : ℕ) (u : Ty) (d : Option Value) → pointer_slot offset u (default_tree d) ≡ pointer_slot i t x → slot_opened s u d (pointer_field v offset) ≡ opened s t (pointer_field v i)
+  same_slot offset u d h =
+      let at : offset ≡ i = cc h in
+      let ty : u ≡ t = cc h in
+      ap (λ k. slot_opened s u d (pointer_field v k)) at ∙ ap (λ y. slot_opened s y d (pointer_field v i)) ty ∙ slot_is d
+
+  slot_read : (offset : ℕ) (u : Ty) (d : Option Value) → slot_body offset u d ≡ pointer_slot i t x → slot_shown s v offset u d ≡ opened s t (pointer_field v i)
+  slot_read offset void d h = absurd (cc h)
+  slot_read offset (plain p) d h = absurd (cc h)
+  slot_read offset text d h = same_slot offset text d h
+  slot_read offset blob d h = same_slot offset blob d h
+  slot_read offset untyped d h = same_slot offset untyped d h
+  slot_read offset interface d h = same_slot offset interface d h
+  slot_read offset (struct id) d h = same_slot offset (struct id) d h
+  slot_read offset (list ty) d h = same_slot offset (list ty) d h
+
+  kind_read : (k : FieldKind) → field_body s.shape_of k ≡ pointer_slot i t x → kind_shown s v k ≡ opened s t (pointer_field v i)
+  kind_read (slot offset ty d) h = slot_read offset (type_of ty) d h
+  kind_read (group id) h = absurd (cc h)
+
+pub read_refused : {A : Type 0} (bytes : A → List (List ℕ)) (f : Field) (v : StructView) (i : ℕ) (t : Ty) (x : Option Tree) → option_map (λ e. e.body) (entry_of f) ≡ Some (pointer_slot i t x) → is_null (pointer_field v i) ≡ false
+    → (e : Error) → ShowsField bytes v f (Err e) → opened (schema_around f.parent) t (pointer_field v i) ≡ Err (kind_of e.kind)
+read_refused bytes f v i t x body some e h = sym (kind_read (schema_around f.parent) v i t x some h.said.kind (body_is f h.said h.is (pointer_slot i t x) body)) ∙ sym h.shows
+
+-- ---- a field
+
+same_some : {A : Type 0} {x y : A} → ◌≡◌ {A = Option A} (Some x) (Some y) → x ≡ y
+same_some h = cc h
+
+pointer_body : (s : Schema) (v : StructView) (i : ℕ) (ty : Ty) (d : Option Tree) (b : Bool) (e : Error) → is_null (pointer_field v i) ≡ b → PointerRefused b s v i ty e → BodyRefused s (pointer_slot i ty d) v e
+unfolding FieldsRefused
+pointer_body s v i ty d b e is h = subst (λ (y : Bool). PointerRefused y s v i ty e) (sym is) h
+
+pointer_refused : (s : Schema) (v : StructView) (o : Option Entry) (i : ℕ) (ty : Ty) (d : Option Tree) (b : Bool) → option_map (λ e. e.body) o ≡ Some (pointer_slot i ty d) → is_null (pointer_field v i) ≡ b → (r : Result ⊤ Error) → IfErr r (PointerRefused b s v i ty) → IfErr r (EntryRefused s o v)
+pointer_refused s v None i ty d b body is r h = absurd (cc body)
+pointer_refused s v (Some x) i ty d b body is (Ok y) h = tt
+pointer_refused s v (Some x) i ty d b body is (Err e) h = subst (λ (y : Body). BodyRefused s y v e) (sym (same_some body)) (pointer_body s v i ty d b e is h)
+
+pub null_refused : (s : Schema) (v : StructView) (o : Option Entry) (i : ℕ) (ty : Ty) (d : Option Tree) → option_map (λ e. e.body) o ≡ Some (pointer_slot i ty d) → is_null (pointer_field v i) ≡ true → (r : Result ⊤ Error) → IfErr r (NullRefused ty) → IfErr r (EntryRefused s o v)
+null_refused s v o i ty d body is r h = pointer_refused s v o i ty d true body is r h
+
+pub some_refused : (s : Schema) (v : StructView) (o : Option Entry) (i : ℕ) (ty : Ty) (d : Option Tree) → option_map (λ e. e.body) o ≡ Some (pointer_slot i ty d) → is_null (pointer_field v i) ≡ false → (r : Result ⊤ Error) → IfErr r (SomeRefused s v i ty) → IfErr r (EntryRefused s o v)
+some_refused s v o i ty d body is r h = pointer_refused s v o i ty d false body is r h
+
+group_body : (s : Schema) (g : Shape) (v : StructView) (e : Error) → FieldsRefused s (fields_in g) v e → BodyRefused s (group_slot g) v e
+unfolding FieldsRefused
+group_body s (shape nid w p u fs) v e h = h
+
+group_entry : (s : Schema) (g : Shape) (v : StructView) (o : Option Entry) → option_map (λ e. e.body) o ≡ Some (group_slot g) → (r : Result ⊤ Error) → IfErr r (FieldsRefused s (fields_in g) v) → IfErr r (EntryRefused s o v)
+group_entry s g v None body r h = absurd (cc body)
+group_entry s g v (Some x) body (Ok y) h = tt
+group_entry s g v (Some x) body (Err e) h = subst (λ (y : Body). BodyRefused s y v e) (sym (same_some body)) (group_body s g v e h)
+
+pub group_isnt_set : (f : Field) (g : StructSchema) (v : StructView) → option_map (λ e. e.body) (entry_of f) ≡ Some (group_slot (shape_of_struct g)) → nodes_around g ≡ nodes_around f.parent → (r : Result ⊤ Error) → IfErr r (FieldsRefused (schema_around g) (fields_of_struct g) v) → IfErr r (FieldRefused f v)
+group_isnt_set f g v body nodes r h = group_entry (schema_around f.parent) (shape_of_struct g) v (entry_of f) body r (subst (λ ns. IfErr r (FieldsRefused (schema_of ns) (fields_of_struct g) v)) nodes h)
+
+-- ---- one of the fields
+
+at_field : (s : Schema) (fs : Fields) (i : ℕ) (x : Entry) (v : StructView) (e : Error) → field_at fs i ≡ Some x → BodyRefused s x.body v e → FieldsRefused s fs v e
+unfolding FieldsRefused
+at_field s no_fields zero x v e h k = absurd (cc h)
+at_field s no_fields (suc i) x v e h k = absurd (cc h)
+at_field s (field n m b fs) zero x v e h k = inl (subst (λ (y : Entry). BodyRefused s y.body v e) (sym (same_some h)) k)
+at_field s (field n m b fs) (suc i) x v e h k = inr (at_field s fs i x v e h k)
+
+by_entry : (s : Schema) (fs : Fields) (i : ℕ) (o : Option Entry) (v : StructView) (e : Error) → field_at fs i ≡ o → EntryRefused s o v e → FieldsRefused s fs v e
+by_entry s fs i None v e h k = absurd k
+by_entry s fs i (Some x) v e h k = at_field s fs i x v e h k
+
+pub one_refused : (g : StructSchema) (f : Field) → f.parent ≡ g → (v : StructView) (e : Error) → FieldRefused f v e → FieldsRefused (schema_around g) (fields_of_struct g) v e
+one_refused g f parent v e h = subst (λ (y : StructSchema). FieldsRefused (schema_around y) (fields_of_struct y) v e) parent (by_entry (schema_around f.parent) (fields_of_struct f.parent) f.index (entry_of f) v e refl h)

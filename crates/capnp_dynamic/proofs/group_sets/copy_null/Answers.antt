@@ -1,0 +1,102 @@
+-- A null pointer that is left, refused, or put as what it counts as and then marked.
+use Rattle.std.proofs.Common.{◌≡◌, true, Some, inl, inr, refl, sym, ap, subst, ◌∙◌}
+use Rattle.std.proofs.lemmas.Result.{err_from_is_err_and}
+use Rattle.std.specs.Prelude.{option_map, option_copied}
+use Rattle.std.specs.Option.{is_some}
+use Rattle.capnp_model.specs.Accepted.{schema_of}
+use Rattle.capnp_model.specs.Groups.{source_tree}
+use Rattle.capnp_model.specs.Schemas.{pointer_slot, default_or_null}
+use Rattle.capnp_model.specs.Segments.{words_at}
+use Rattle.capnp_model.specs.Trees.{null}
+use Rattle.capnp_units.specs.Segments.{words_in}
+use Rattle.capnp_wire.specs.Places.{place_view}
+use Rattle.capnp_records.specs.NodeViews.{field_of, value_of}
+use Rattle.capnp_queries.specs.Structs.{nodes_around}
+use Rattle.capnp_queries.specs.Types.{ty_of}
+use Rattle.capnp_copy.proofs.RoomLaws.{sizes_grow}
+use Rattle.capnp_footprints.proofs.Algebra.{changes_nothing}
+use Rattle.capnp_footprints.proofs.Spans.{grows_then}
+use Rattle.capnp_dynamic.specs.GroupSets.{PutsAny, null_tree, copied_field}
+use Rattle.capnp_dynamic.proofs.Marks.{member_none, member_there}
+use Rattle.capnp_dynamic.proofs.Ready.{pointer_there}
+use Rattle.capnp_dynamic.proofs.Grown.{there_grown}
+use Rattle.capnp_dynamic.proofs.AnyEdits.{far_refused, far_err}
+use Rattle.capnp_dynamic.proofs.CopiedFields.{null_field, member_field}
+use Rattle.capnp_dynamic.proofs.group_sets.copy_null.Goals as goal
+
+pub returns-then-said-clause-writes : goal.returns-then-said-clause-writes
+returns-then-said-clause-writes g c from empty =
+    let slot = c.requires.slot.0 in
+    let i = c.args.index in
+    let ty = ty_of c.args.ty in
+    let s = words_in (g.A.ReaderArena.segments c.args.arena.now) in
+    null_field c.args.field (field_of c.get_proto-said.result.now) c.get_proto-said.ensures (pointer_slot i ty slot.0) slot.1 from s s s c.args.object tt i ty slot.0 refl
+    (member_none c.get_proto-said.result.now.discriminant_value c.if-said.true) empty
+
+pub returns-in_err-test_type-clause-writes : goal.returns-in_err-test_type-clause-writes
+returns-in_err-test_type-clause-writes g c from empty =
+    let s = words_in (g.A.ReaderArena.segments c.args.arena.now) in
+    let h = err_from_is_err_and c.from_residual.result c.from_residual.ensures.1 in
+    far_err c.from_residual.result s s c.args.object (copied_field c.args.field from) h.0 c.in_err-test_type.field-0.0 h.1 h.2 (far_refused s s c.args.object (copied_field c.args.field from) c.in_err-test_type.field-0.0 (changes_nothing s (λ q. 0)))
+
+pub put_null-requires-clause-there : goal.put_null-requires-clause-there
+put_null-requires-clause-there g c =
+    let p = c.args.object in
+    let s = words_in (g.A.ReaderArena.segments c.args.arena.now) in
+    subst (λ q. is_some (words_at s q 1) ≡ true) (sym c.pointer_place-slot.ensures.place) (pointer_there s (place_view p.start) p.data_words p.pointers c.args.index c.requires.inside.1 c.requires.there.words)
+
+pub put_null-requires-clause-readable : goal.put_null-requires-clause-readable
+put_null-requires-clause-readable g c =
+    let slot = c.requires.slot.0 in
+    (c.default_value.ensures c.args.index (ty_of c.args.ty) slot.0 slot.1).readable
+
+pub mark-requires-clause-there : goal.mark-requires-clause-there
+mark-requires-clause-there g c =
+    let s = words_in (g.A.ReaderArena.segments c.args.arena.now) in
+    let m = words_in (g.A.ReaderArena.segments c.put_null.new.arena) in
+    there_grown s m c.args.object c.put_null.ensures.stands.grows c.requires.there
+
+pub returns-in_err-put_null-clause-writes : goal.returns-in_err-put_null-clause-writes
+returns-in_err-put_null-clause-writes g c from empty =
+    let s = words_in (g.A.ReaderArena.segments c.args.arena.now) in
+    let m = words_in (g.A.ReaderArena.segments c.put_null.new.arena) in
+    let h = err_from_is_err_and c.from_residual-in_err-put_null.result c.from_residual-in_err-put_null.ensures.1 in
+    far_err c.from_residual-in_err-put_null.result s m c.args.object (copied_field c.args.field from) h.0 c.in_err-put_null.field-0.0 h.1 h.2 (far_refused s m c.args.object (copied_field c.args.field from) c.in_err-put_null.field-0.0 c.in_err-put_null.ensures.stands.refused)
+
+pub returns-in_err-put_null-clause-grows : goal.returns-in_err-put_null-clause-grows
+returns-in_err-put_null-clause-grows g c = c.put_null.ensures.stands.grows
+
+pub returns-clause-writes : goal.returns-clause-writes
+returns-clause-writes g c from empty =
+    let slot = c.requires.slot.0 in
+    let f = c.args.field in
+    let i = c.args.index in
+    let ty = ty_of c.args.ty in
+    let s = words_in (g.A.ReaderArena.segments c.args.arena.now) in
+    let m = words_in (g.A.ReaderArena.segments c.put_null.new.arena) in
+    let u = words_in (g.A.ReaderArena.segments c.mark.new.arena) in
+    let q = place_view c.pointer_place-slot.result in
+    let k = c.get_proto-said.result.now.discriminant_value in
+    let nodes = c.set.ensures ∙ ap nodes_around c.parent.ensures in
+    let value = (c.default_value.ensures i ty slot.0 slot.1).value in
+    let put = subst (λ o. PutsAny s m q (source_tree (schema_of (nodes_around f.parent)) ty (default_or_null o) null)) value
+    (subst (λ ns. PutsAny s m q (null_tree (schema_of ns) ty (option_map value_of (option_copied c.default_value.result)))) nodes c.in_ok-put_null.ensures.puts) in
+    member_field f (field_of c.get_proto-said.result.now) c.get_proto-said.ensures (pointer_slot i ty slot.0) slot.1 from s m u c.args.object tt i ty slot.0 q k refl
+    (member_there k c.if-said.false) empty c.requires.inside.1 c.pointer_place-slot.ensures.place put c.mark.ensures.edits
+
+pub returns-clause-grows : goal.returns-clause-grows
+returns-clause-grows g c =
+    let s = words_in (g.A.ReaderArena.segments c.args.arena.now) in
+    let m = words_in (g.A.ReaderArena.segments c.put_null.new.arena) in
+    let u = words_in (g.A.ReaderArena.segments c.mark.new.arena) in
+    grows_then s m u c.put_null.ensures.stands.grows (sizes_grow m u c.mark.ensures.sizes)
+
+pub returns-in_err-test_type-clause-why : goal.returns-in_err-test_type-clause-why
+returns-in_err-test_type-clause-why g c =
+    let h = err_from_is_err_and c.from_residual.result c.from_residual.ensures.1 in
+    rw (h.1, h.2) (inr (sym c.in_err-test_type.ensures))
+
+pub returns-in_err-put_null-clause-why : goal.returns-in_err-put_null-clause-why
+returns-in_err-put_null-clause-why g c =
+    let h = err_from_is_err_and c.from_residual-in_err-put_null.result c.from_residual-in_err-put_null.ensures.1 in
+    rw (h.1, h.2) (inl (sym c.in_ok-test_type.ensures))

@@ -1,0 +1,93 @@
+-- A pointer that is refused, or copied and then marked.
+use Rattle.std.proofs.Common.{◌≡◌, true, Err, inl, inr, refl, sym, subst}
+use Rattle.std.proofs.lemmas.Result.{err_from_is_err_and}
+use Rattle.std.specs.Option.{is_some}
+use Rattle.capnp_model.specs.Schemas.{pointer_slot}
+use Rattle.capnp_model.specs.Segments.{words_at}
+use Rattle.capnp_units.specs.Segments.{words_in}
+use Rattle.capnp_wire.specs.Places.{place_view}
+use Rattle.capnp_records.specs.NodeViews.{field_of}
+use Rattle.capnp_queries.specs.Types.{ty_of}
+use Rattle.capnp_copy.proofs.RoomLaws.{sizes_grow}
+use Rattle.capnp_footprints.proofs.Algebra.{changes_nothing}
+use Rattle.capnp_footprints.proofs.Spans.{grows_then}
+use Rattle.capnp_dynamic.specs.GroupSets.{copied_field}
+use Rattle.capnp_dynamic.proofs.Ready.{pointer_there}
+use Rattle.capnp_dynamic.proofs.Grown.{there_grown}
+use Rattle.capnp_dynamic.proofs.AnyEdits.{far_refused, far_err}
+use Rattle.capnp_dynamic.proofs.CopiedFields.{pointer_field}
+use Rattle.capnp_wire.specs.Views.{StructView, seen_struct}
+use Rattle.capnp_values.specs.Shown.{ShowsField}
+use Rattle.capnp_dynamic.proofs.FieldRefusals.{read_refused}
+use Rattle.capnp_dynamic.proofs.group_sets.copy_some.Goals as goal
+
+pub returns-in_err-test_type-clause-writes : goal.returns-in_err-test_type-clause-writes
+returns-in_err-test_type-clause-writes g c from is =
+    let s = words_in (g.A.ReaderArena.segments c.args.arena.now) in
+    let h = err_from_is_err_and c.from_residual.result c.from_residual.ensures.1 in
+    far_err c.from_residual.result s s c.args.object (copied_field c.args.field from) h.0 c.in_err-test_type.field-0.0 h.1 h.2 (far_refused s s c.args.object (copied_field c.args.field from) c.in_err-test_type.field-0.0 (changes_nothing s (λ q. 0)))
+
+pub returns-in_err-get-clause-writes : goal.returns-in_err-get-clause-writes
+returns-in_err-get-clause-writes g c from is =
+    let s = words_in (g.A.ReaderArena.segments c.args.arena.now) in
+    let h = err_from_is_err_and c.from_residual-in_err-get.result c.from_residual-in_err-get.ensures.1 in
+    far_err c.from_residual-in_err-get.result s s c.args.object (copied_field c.args.field from) h.0 c.in_err-get.field-0.0 h.1 h.2 (far_refused s s c.args.object (copied_field c.args.field from) c.in_err-get.field-0.0 (changes_nothing s (λ q. 0)))
+
+pub copy_child-requires-clause-there : goal.copy_child-requires-clause-there
+copy_child-requires-clause-there g c =
+    let p = c.args.object in
+    let s = words_in (g.A.ReaderArena.segments c.args.arena.now) in
+    subst (λ q. is_some (words_at s q 1) ≡ true) (sym c.pointer_place.ensures.place) (pointer_there s (place_view p.start) p.data_words p.pointers c.args.index c.requires.inside.1 c.requires.there.words)
+
+pub mark-requires-clause-there : goal.mark-requires-clause-there
+mark-requires-clause-there g c =
+    let s = words_in (g.A.ReaderArena.segments c.args.arena.now) in
+    let m = words_in (g.A.ReaderArena.segments c.copy_child.new.arena) in
+    there_grown s m c.args.object c.copy_child.ensures.stands.grows c.requires.there
+
+pub returns-in_err-copy_child-clause-writes : goal.returns-in_err-copy_child-clause-writes
+returns-in_err-copy_child-clause-writes g c from is =
+    let s = words_in (g.A.ReaderArena.segments c.args.arena.now) in
+    let m = words_in (g.A.ReaderArena.segments c.copy_child.new.arena) in
+    let h = err_from_is_err_and c.from_residual-in_err-copy_child.result c.from_residual-in_err-copy_child.ensures.1 in
+    far_err c.from_residual-in_err-copy_child.result s m c.args.object (copied_field c.args.field from) h.0 c.in_err-copy_child.field-0.0 h.1 h.2 (far_refused s m c.args.object (copied_field c.args.field from) c.in_err-copy_child.field-0.0 c.in_err-copy_child.ensures.stands.refused)
+
+pub returns-in_err-copy_child-clause-grows : goal.returns-in_err-copy_child-clause-grows
+returns-in_err-copy_child-clause-grows g c = c.copy_child.ensures.stands.grows
+
+pub returns-clause-writes : goal.returns-clause-writes
+returns-clause-writes g c from is =
+    let slot = c.requires.slot in
+    let i = c.args.index in
+    let ty = ty_of c.args.ty in
+    let s = words_in (g.A.ReaderArena.segments c.args.arena.now) in
+    let m = words_in (g.A.ReaderArena.segments c.copy_child.new.arena) in
+    let u = words_in (g.A.ReaderArena.segments c.mark.new.arena) in
+    let put = c.in_ok-copy_child.ensures.puts from is in
+    pointer_field c.args.field (field_of c.get_proto-said.result.now) c.get_proto-said.ensures (pointer_slot i ty slot.0) slot.1 from s m u c.args.object tt i ty slot.0 (place_view c.pointer_place.result) refl
+    put.0 c.requires.inside.1 c.pointer_place.ensures.place put.1 c.mark.ensures.edits
+
+pub returns-clause-grows : goal.returns-clause-grows
+returns-clause-grows g c =
+    let s = words_in (g.A.ReaderArena.segments c.args.arena.now) in
+    let m = words_in (g.A.ReaderArena.segments c.copy_child.new.arena) in
+    let u = words_in (g.A.ReaderArena.segments c.mark.new.arena) in
+    grows_then s m u c.copy_child.ensures.stands.grows (sizes_grow m u c.mark.ensures.sizes)
+
+pub returns-in_err-test_type-clause-why : goal.returns-in_err-test_type-clause-why
+returns-in_err-test_type-clause-why g c =
+    let h = err_from_is_err_and c.from_residual.result c.from_residual.ensures.1 in
+    rw (h.1, h.2) (inl (sym c.in_err-test_type.ensures))
+
+pub returns-in_err-get-clause-why : goal.returns-in_err-get-clause-why
+returns-in_err-get-clause-why g c =
+    let h = err_from_is_err_and c.from_residual-in_err-get.result c.from_residual-in_err-get.ensures.1 in
+    let bytes = g.B.ReaderArena.segments in
+    let e = c.in_err-get.field-0.0 in
+    let shows = subst (λ (v : StructView). ShowsField bytes v c.args.field (Err e)) c.new.ensures.source c.in_err-get.ensures in
+    rw (h.1, h.2) (inr (inl (read_refused bytes c.args.field (seen_struct bytes c.args.source.now) c.args.index (ty_of c.args.ty) c.requires.slot.0 c.requires.slot.1 c.requires.some e shows)))
+
+pub returns-in_err-copy_child-clause-why : goal.returns-in_err-copy_child-clause-why
+returns-in_err-copy_child-clause-why g c =
+    let h = err_from_is_err_and c.from_residual-in_err-copy_child.result c.from_residual-in_err-copy_child.ensures.1 in
+    rw (h.1, h.2) (inr (inr c.in_err-copy_child.ensures.why))

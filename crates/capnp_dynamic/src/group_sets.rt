@@ -1,0 +1,250 @@
+//! Groups that are set to structs.
+ghost use Rattle.std.specs.Prelude.{◌≡◌, ◌<◌, true, false, IfErr};
+ghost use Rattle.capnp_model.specs.Accepted.{areas_of};
+ghost use Rattle.capnp_model.specs.Coverage.{Grows};
+ghost use Rattle.capnp_model.specs.Edits.{Cell};
+ghost use Rattle.capnp_model.specs.Trees.{child, null};
+ghost use Rattle.capnp_units.specs.Segments.{words_in};
+ghost use Rattle.capnp_wire.specs.Reads.{is_null};
+ghost use Rattle.capnp_wire.specs.Views.{seen_struct, pointer_field};
+ghost use Rattle.capnp_queries.specs.Handles.{entry_of};
+ghost use Rattle.capnp_queries.specs.Structs.{nodes_around, schema_around, shape_of_struct, fields_of_struct};
+ghost use Rattle.capnp_queries.specs.Types.{ty_of, is_type_of};
+ghost use Rattle.capnp_values.specs.Sources.{struct_seen};
+ghost use Rattle.capnp_dynamic.specs.Edits.{IsThere};
+ghost use Rattle.capnp_dynamic.specs.Inside.{LieIn};
+ghost use Rattle.capnp_dynamic.specs.Puts.{answered};
+ghost use Rattle.capnp_dynamic.specs.GroupRefusals.{type_tested, NullRefused, SomeRefused, FieldsRefused, FieldRefused};
+ghost use Rattle.capnp_dynamic.specs.GroupSets.{IsSource, WritesAsFar, IsPointerAt, copied_field, copied_turn, copied_fields, copied_group};
+
+use crate::group_nulls::{default_value, put_null};
+use crate::group_sources::{bits_in, copy_child, has_turn};
+use crate::slots::{clear_field, mark, pointer_place, width_of};
+use capnp_copy::arena::BuilderArena;
+use capnp_copy::fields::{StructPlace, set_bits};
+use capnp_queries::fields::Field;
+use capnp_queries::introspect::{Type, TypeVariant};
+use capnp_queries::slots::FieldPlace;
+use capnp_queries::structs::StructSchema;
+use capnp_records::node::NO_DISCRIMINANT;
+use capnp_units::errors::{Error, Result};
+use capnp_units::kinds::ErrorKind;
+use capnp_values::dynamic_struct::Reader;
+use capnp_values::source::StructSource;
+use capnp_wire::arena::ReaderArena;
+use capnp_wire::structs::StructReader;
+
+/// Tests that a slot of a pointer's type is one that is set: untyped pointers and capabilities aren't.
+fn test_type(ty: Type) -> Result<()>
+    ensures { answered result ≡ type_tested (ty_of ty) }
+{
+    let kind = match ty.which() {
+        TypeVariant::AnyPointer => ErrorKind::CannotSetAnyPointerFieldToAPrimitiveValue,
+        TypeVariant::Capability => ErrorKind::SettingDynamicCapabilitiesIsUnsupported,
+        _ => return Ok(()),
+    };
+    Err(Error::from(kind))
+}
+
+/// Sets a field behind a pointer that is null in what is read: it is left, but as a union's member it becomes its default, else the empty value of its type, and the union is marked.
+fn copy_null<A: BuilderArena>(
+    arena: &mut A,
+    object: StructPlace,
+    field: Field<'_>,
+    index: u32,
+    ty: Type,
+) -> Result<()>
+    requires there { IsThere (words_in (A.segments arena.old)) object }
+    requires inside { LieIn object.data_words object.pointers
+        (areas_of (shape_of_struct field.parent)) × (index < object.pointers) }
+    requires slot { IsPointerAt index (ty_of ty) (entry_of field)
+        × (is_type_of (nodes_around field.parent) ty ≡ true) }
+    ensures writes { (from : Cell) → child from.kids index ≡ null
+        → WritesAsFar (words_in (A.segments arena.old)) (words_in (A.segments arena.new)) object
+        (copied_field field.entry from) result }
+    ensures why { IfErr result (NullRefused (ty_of ty)) }
+    ensures grows { Grows (words_in (A.segments arena.old)) (words_in (A.segments arena.new)) }
+    ensures books { A.books arena.new ≡ A.books arena.old }
+{
+    let said = field.get_proto();
+    if said.discriminant_value == NO_DISCRIMINANT {
+        return Ok(());
+    }
+    test_type(ty)?;
+    let slot = pointer_place(object, index);
+    put_null(arena, slot, field.parent().set(), ty, default_value(field))?;
+    mark(arena, object, field);
+    Ok(())
+}
+
+/// Sets a field behind a pointer that isn't null in what is read, and then marks its union. It is refused where the pointer can't be read as the field's type.
+fn copy_some<'a, A: BuilderArena, B: ReaderArena>(
+    arena: &mut A,
+    object: StructPlace,
+    field: Field<'a>,
+    source: &StructReader<'a, B>,
+    index: u32,
+    ty: Type,
+) -> Result<()>
+    requires there { IsThere (words_in (A.segments arena.old)) object }
+    requires inside { LieIn object.data_words object.pointers
+        (areas_of (shape_of_struct field.parent)) × (index < object.pointers) }
+    requires slot { IsPointerAt index (ty_of ty) (entry_of field) }
+    requires some { is_null (pointer_field (seen_struct B.segments source.now) index) ≡ false }
+    ensures writes { (from : Cell) → IsSource (seen_struct B.segments source.now) from
+        → WritesAsFar (words_in (A.segments arena.old)) (words_in (A.segments arena.new)) object
+        (copied_field field.entry from) result }
+    ensures why { IfErr result (SomeRefused (schema_around field.entry.parent)
+        (seen_struct B.segments source.now) index (ty_of ty)) }
+    ensures grows { Grows (words_in (A.segments arena.old)) (words_in (A.segments arena.new)) }
+    ensures books { A.books arena.new ≡ A.books arena.old }
+{
+    let _said = field.get_proto();
+    test_type(ty)?;
+    Reader::new(*source, field.parent()).get(field)?;
+    copy_child(arena, pointer_place(object, index), source, index)?;
+    mark(arena, object, field);
+    Ok(())
+}
+
+/// Sets a field as it is in what is read, and marks its union.
+#[cycle(sets)]
+fn copy_field<'a, A: BuilderArena, B: ReaderArena>(
+    arena: &mut A,
+    object: StructPlace,
+    field: Field<'a>,
+    source: &StructReader<'a, B>,
+) -> Result<()>
+    requires there { IsThere (words_in (A.segments arena.old)) object }
+    requires inside { LieIn object.data_words object.pointers
+        (areas_of (shape_of_struct field.parent)) }
+    ensures writes { (from : Cell) → IsSource (seen_struct B.segments source.now) from
+        → WritesAsFar (words_in (A.segments arena.old)) (words_in (A.segments arena.new)) object
+        (copied_field field.entry from) result }
+    ensures why { IfErr result (FieldRefused field.entry (seen_struct B.segments source.now)) }
+    ensures grows { Grows (words_in (A.segments arena.old)) (words_in (A.segments arena.new)) }
+    ensures books { A.books arena.new ≡ A.books arena.old }
+{
+    let _said = field.get_proto();
+    match field.place() {
+        FieldPlace::Void { .. } => {
+            mark(arena, object, field);
+            Ok(())
+        }
+        FieldPlace::Plain { ty, offset, .. } => {
+            mark(arena, object, field);
+            let width = width_of(ty);
+            let at = width as usize * offset as usize;
+            set_bits(arena, object, at, width, bits_in(source, ty, offset));
+            Ok(())
+        }
+        FieldPlace::Pointer { index, ty, .. } => {
+            if source.is_pointer_field_null(index as usize) {
+                return copy_null(arena, object, field, index, ty);
+            }
+            copy_some(arena, object, field, source, index, ty)
+        }
+        FieldPlace::Group { schema } => {
+            clear_field(arena, object, field);
+            copy_group(arena, object, schema, source)
+        }
+    }
+}
+
+/// The same of a field in its turn: of the member that is active in what is read, or of a field that is no member.
+#[cycle(sets)]
+fn copy_turn<'a, A: BuilderArena, B: ReaderArena>(
+    arena: &mut A,
+    object: StructPlace,
+    field: Field<'a>,
+    source: &StructReader<'a, B>,
+    members: bool,
+) -> Result<()>
+    requires there { IsThere (words_in (A.segments arena.old)) object }
+    requires inside { LieIn object.data_words object.pointers
+        (areas_of (shape_of_struct field.parent)) }
+    ensures writes { (from : Cell) → IsSource (seen_struct B.segments source.now) from
+        → WritesAsFar (words_in (A.segments arena.old)) (words_in (A.segments arena.new)) object
+        (copied_turn field.entry members from) result }
+    ensures why { IfErr result (FieldRefused field.entry (seen_struct B.segments source.now)) }
+    ensures grows { Grows (words_in (A.segments arena.old)) (words_in (A.segments arena.new)) }
+    ensures books { A.books arena.new ≡ A.books arena.old }
+{
+    if !has_turn(source, field, members) {
+        return Ok(());
+    }
+    copy_field(arena, object, field, source)
+}
+
+/// The same of the fields of a group that have their turn.
+#[cycle(sets)]
+fn copy_fields<'a, A: BuilderArena, B: ReaderArena>(
+    arena: &mut A,
+    object: StructPlace,
+    schema: StructSchema<'a>,
+    source: &StructReader<'a, B>,
+    members: bool,
+) -> Result<()>
+    requires there { IsThere (words_in (A.segments arena.old)) object }
+    requires inside { LieIn object.data_words object.pointers (areas_of (shape_of_struct schema)) }
+    ensures writes { (from : Cell) → IsSource (seen_struct B.segments source.now) from
+        → WritesAsFar (words_in (A.segments arena.old)) (words_in (A.segments arena.new)) object
+        (copied_fields (schema_around schema.entry) members (shape_of_struct schema.entry) from)
+        result }
+    ensures why { IfErr result (FieldsRefused (schema_around schema.entry)
+        (fields_of_struct schema.entry) (seen_struct B.segments source.now)) }
+    ensures grows { Grows (words_in (A.segments arena.old)) (words_in (A.segments arena.new)) }
+    ensures books { A.books arena.new ≡ A.books arena.old }
+{
+    if let Ok(fields) = schema.get_fields() {
+        for i in 0..fields.len() {
+            copy_turn(arena, object, fields.get(i), source, members)?;
+        }
+    }
+    Ok(())
+}
+
+/// Sets the fields of a cleared group as they are in what is read: the active member, then those that are no members.
+#[cycle(sets)]
+fn copy_group<'a, A: BuilderArena, B: ReaderArena>(
+    arena: &mut A,
+    object: StructPlace,
+    schema: StructSchema<'a>,
+    source: &StructReader<'a, B>,
+) -> Result<()>
+    requires there { IsThere (words_in (A.segments arena.old)) object }
+    requires inside { LieIn object.data_words object.pointers (areas_of (shape_of_struct schema)) }
+    ensures writes { (from : Cell) → IsSource (seen_struct B.segments source.now) from
+        → WritesAsFar (words_in (A.segments arena.old)) (words_in (A.segments arena.new)) object
+        (copied_group (schema_around schema.entry) (shape_of_struct schema.entry) from) result }
+    ensures why { IfErr result (FieldsRefused (schema_around schema.entry)
+        (fields_of_struct schema.entry) (seen_struct B.segments source.now)) }
+    ensures grows { Grows (words_in (A.segments arena.old)) (words_in (A.segments arena.new)) }
+    ensures books { A.books arena.new ≡ A.books arena.old }
+{
+    copy_fields(arena, object, schema, source, true)?;
+    copy_fields(arena, object, schema, source, false)
+}
+
+/// Sets a field that is a group to a struct, of a message or of a default, and marks its union: the group is cleared, then the struct's active member is set, then its other fields by index. After a refusal a beginning of these writes stands.
+pub(crate) fn set_group<'a, A: BuilderArena, B: ReaderArena>(
+    arena: &mut A,
+    object: StructPlace,
+    field: Field<'a>,
+    source: StructSource<'a, B>,
+) -> Result<()>
+    requires there { IsThere (words_in (A.segments arena.old)) object }
+    requires inside { LieIn object.data_words object.pointers
+        (areas_of (shape_of_struct field.parent)) }
+    ensures writes { (from : Cell) → IsSource (struct_seen B.segments source.entry) from
+        → WritesAsFar (words_in (A.segments arena.old)) (words_in (A.segments arena.new)) object
+        (copied_field field.entry from) result }
+    ensures why { IfErr result (FieldRefused field.entry (struct_seen B.segments source.entry)) }
+    ensures grows { Grows (words_in (A.segments arena.old)) (words_in (A.segments arena.new)) }
+    ensures books { A.books arena.new ≡ A.books arena.old }
+{
+    match source {
+        StructSource::Message(source) => copy_field(arena, object, field, &source),
+        StructSource::Default(source) => copy_field(arena, object, field, &source),
+    }
+}
