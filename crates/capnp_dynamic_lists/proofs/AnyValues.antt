@@ -16,8 +16,6 @@ use Rattle.capnp_units.specs.declared.limiter.ReadLimiter.{ReadLimiter}
 use Rattle.capnp_object.specs.declared.place.Place as code
 use Rattle.capnp_wire.specs.Places.{place_view}
 use Rattle.capnp_wire.specs.Views.{StructView}
-use Rattle.capnp_footprints.specs.Footprints.{OwnsObject}
-use Rattle.capnp_copy.specs.Lists.{list_at}
 use Rattle.capnp_copy.specs.declared.fields.StructPlace.{StructPlace}
 use Rattle.capnp_copy.specs.declared.init.ListPlace.{ListPlace}
 use Rattle.capnp_copy_from.specs.Copies.{GrowsByZeros, BecomesCopy, StructSource, CopyGives}
@@ -28,13 +26,12 @@ use Rattle.capnp_values.specs.Sources.{WithoutLimit}
 use Rattle.capnp_values.specs.declared.dynamic_value.Reader.{Reader}
 use Rattle.capnp_dynamic.specs.Sources.{SourceView, SetsSource, PutsSource}
 use Rattle.capnp_dynamic.specs.Values.{is_capability}
-use Rattle.capnp_dynamic.proofs.Deeper.{object_owned_more}
 use Rattle.capnp_dynamic.proofs.Sources.{walk_map, walk_to, same_words, source_put, source_refused}
 use Rattle.capnp_dynamic_lists.specs.Elements.{Holds, HoldsStructs, flat_element, element_edit}
-use Rattle.capnp_dynamic_lists.specs.Lists.{IsListThere, IsListOf, HasPointer}
+use Rattle.capnp_dynamic_lists.specs.Lists.{IsListThere, HasPointer}
 use Rattle.capnp_dynamic_lists.specs.Parts.{cell_in}
 use Rattle.capnp_dynamic_lists.specs.Places.{IsStructAt, IsPointerAt}
-use Rattle.capnp_dynamic_lists.specs.Values.{Given, made, copied, taken, struct_given, list_given, are_capabilities, made_element, element_given, ElementWithin, content_edit, part_edit, TakesPart, TakesFields, TakesStruct, GrowsHere, Leaves, PutsGiven, AreStructs, IsStructType, IsListType}
+use Rattle.capnp_dynamic_lists.specs.Values.{Given, made, copied, taken, struct_given, list_given, are_capabilities, made_element, element_given, ElementWithin, content_edit, part_edit, TakesPart, TakesFields, TakesStruct, Leaves, PutsGiven, AreStructs, IsStructType, IsListType}
 use Rattle.capnp_dynamic_lists.proofs.Parts.{struct_part}
 use Rattle.capnp_dynamic_lists.proofs.Pointers.{pointer_parts}
 
@@ -87,28 +84,12 @@ module _ (s u : Segments) (o : ListPlace) (i : ℕ) (p : StructPlace) (l : i < o
 
   -- ---- what is there later too
 
-  struct_grows : (levels : ℕ) (from : Segments) (x : StructSource) (old : ReadLimiter) (r : Result ⊤ Error) (new : ReadLimiter) → CopiesContent levels from x s u p old r new → (n : ℕ) (t : Tree) → IsListOf o t → OwnsObject n s (list_at o) t → Grows s u
-  struct_grows levels from x old (Ok y) new h n t is own = h.grows
-  struct_grows levels from x old (Err e) new h n t is own =
-      let more = object_owned_more n (n + levels) s (list_at o) t (omega arith) own in
-      let y = struct_part s o i p l at (n + levels) t is more in
-      let c = cell_in t i in
-      (h.left.left (n + levels) c.section c.kids (omega arith) y.owns).changes.grows
+  struct_grows : (levels : ℕ) (from : Segments) (x : StructSource) (old : ReadLimiter) (r : Result ⊤ Error) (new : ReadLimiter) → CopiesContent levels from x s u p old r new → Grows s u
+  struct_grows levels from x old (Ok y) new h = h.grows
+  struct_grows levels from x old (Err e) new h = h.left.grows
 
-  done_grows : (levels : ℕ) (from : Segments) (x : StructSource) (old : ReadLimiter) (r : Result ⊤ Error) (new : ReadLimiter) → CopiesContent levels from x s u p old r new → OnOk r (Grows s u)
-  done_grows levels from x old (Ok y) new h = h.grows
-  done_grows levels from x old (Err e) new h = tt
-
-  on_ok : (r : Result ⊤ Error) (P : Type 0) → P → OnOk r P
-  on_ok (Ok y) P h = h
-  on_ok (Err e) P h = tt
-
-  pub content_grows : (v : StructView) (r : Result ⊤ Error) → WithoutLimit (TakesOver v s u p) r → GrowsHere o s u r
-  content_grows v r h =
-      record {
-        done = walk_to v.levels v.basis.paid _ h.0 r h.1 (λ w. on_ok r (Grows s u) (same_words s u w.1)) (λ n a b w. done_grows n v.basis.segments w.0 a r b w.2) h.3;
-        owned = λ n t is own. walk_to v.levels v.basis.paid _ h.0 r h.1 (λ w. same_words s u w.1) (λ k a b w. struct_grows k v.basis.segments w.0 a r b w.2 n t is own) h.3;
-      }
+  pub content_grows : (v : StructView) (r : Result ⊤ Error) → WithoutLimit (TakesOver v s u p) r → Grows s u
+  content_grows v r h = walk_to v.levels v.basis.paid _ h.0 r h.1 (λ w. same_words s u w.1) (λ k a b w. struct_grows k v.basis.segments w.0 a r b w.2) h.3
 
 -- ---- the elements' type
 
@@ -159,15 +140,11 @@ module _ {A : Type 0} (bytes : A → List (List ℕ)) (v : Reader A) (ty : Ty) w
   pub puts : (old new : ArenaState) (o : ListPlace) (i : ℕ) (g : Given) (r : Result ⊤ Error) → element_given bytes v ty ≡ g → PutsGiven old new o (element_edit v ty) i g r → PutsGiven old new o (element_edit v ty) i (element_given bytes v ty) r
   puts old new o i g r e h = subst (λ (x : Given). PutsGiven old new o (element_edit v ty) i x r) (sym e) h
 
-pub grows_here : (o : ListPlace) (s u : Segments) (r : Result ⊤ Error) → Grows s u → GrowsHere o s u r
-grows_here o s u (Ok y) h = record { done = h; owned = λ n t is own. h }
-grows_here o s u (Err e) h = record { done = tt; owned = λ n t is own. h }
+pub leaves : (source : Option StructView) (s u : Segments) (r : Result ⊤ Error) → Grows s u → OnErr r (GrowsByZeros s u) → Leaves source s u r
+leaves source s u r g h = record { grows = g; stands = λ _. h }
 
-pub leaves : (source : Option StructView) (o : ListPlace) (s u : Segments) (r : Result ⊤ Error) → Grows s u → OnErr r (GrowsByZeros s u) → Leaves source o s u r
-leaves source o s u r g h = record { grows = grows_here o s u r g; stands = λ _. h }
-
-pub leaves_part : (source : Option StructView) (x : StructView) (o : ListPlace) (s u : Segments) (r : Result ⊤ Error) → source ≡ Some x → GrowsHere o s u r → Leaves source o s u r
-leaves_part source x o s u r e g = record { grows = g; stands = λ (h : source ≡ None). absurd (cc (e, h)) }
+pub leaves_part : (source : Option StructView) (x : StructView) (s u : Segments) (r : Result ⊤ Error) → source ≡ Some x → Grows s u → Leaves source s u r
+leaves_part source x s u r e g = record { grows = g; stands = λ (h : source ≡ None). absurd (cc (e, h)) }
 
 -- ---- the handle
 

@@ -3,13 +3,10 @@ use Rattle.std.specs.Prelude.{◌≡◌, ⊤, ℕ, List, Result, OnOk, true}
 use Rattle.capnp_model.specs.Segments.{Segments}
 use Rattle.capnp_model.specs.Accepted.{schema_of}
 use Rattle.capnp_model.specs.Schemas.{struct}
-use Rattle.capnp_model.specs.Trees.{Tree}
 use Rattle.capnp_model.specs.Calls.{Content}
 use Rattle.capnp_model.specs.Edits.{Edit}
 use Rattle.capnp_units.specs.Segments.{words_in}
 use Rattle.capnp_units.specs.declared.errors.Error.{Error}
-use Rattle.capnp_footprints.specs.Footprints.{OwnsObject}
-use Rattle.capnp_copy.specs.Lists.{list_at}
 use Rattle.capnp_copy_from.specs.Copies.{GrowsByZeros}
 use Rattle.capnp_builders.specs.Making.{state_of}
 use Rattle.capnp_records.specs.Sets.{nodes_of}
@@ -17,7 +14,7 @@ use Rattle.capnp_queries.specs.Structs.{nodes_around, shape_of_struct, id_of}
 use Rattle.capnp_queries.specs.Types.{ty_of, is_type_of}
 use Rattle.capnp_dynamic.specs.Edits.{IsThere, IsWide}
 use Rattle.capnp_dynamic.specs.declared.init.Part.{Part}
-use Rattle.capnp_dynamic_lists.specs.Lists.{IsListThere, IsListOf}
+use Rattle.capnp_dynamic_lists.specs.Lists.{IsListThere}
 use Rattle.capnp_dynamic_lists.specs.Elements.{Holds, HoldsStructs}
 use Rattle.capnp_dynamic_lists.specs.Places.{IsStructAt}
 use Rattle.capnp_dynamic_lists.specs.Puts.{PutsContent}
@@ -60,11 +57,6 @@ module _ {A : Type 0} (bytes : A → List (List ℕ)) where
     pub element_type : new.element_type ≡ old.element_type
     pub stands : GrowsByZeros (words_around old) (words_around new)
     pub ready : IsReady new
-
-  -- The handle is ready after what was done, and after what was refused where the list was owned.
-  pub record IsReadyAfter (old new : Builder A) (r : Result ⊤ Error) : Type 0 where
-    pub done : OnOk r (IsReady new)
-    pub owned : (n : ℕ) (t : Tree) → IsListOf old.place t → OwnsObject n (words_around old) (list_at old.place) t → IsReady new
 
 module _ {A : Type 0} (segments : A → List (List ℕ)) (room : A → List ℕ) (books : A → List (List ℕ)) where
   -- Content is put into an element, by a handle that stays where it was.

@@ -1,5 +1,5 @@
 -- What `set` puts into an element for any value. (Encoding, "Lists", "Structs", "Blobs")
-use Rattle.std.specs.Prelude.{◌≡◌, ⊤, ℕ, ◌≤◌, ◌==◌, min, if◌then◌else◌, Bool, true, false, ◌&&◌, List, Option, Some, None, MatchOption, Result, OnOk, OnErr}
+use Rattle.std.specs.Prelude.{◌≡◌, ⊤, ℕ, ◌≤◌, ◌==◌, min, if◌then◌else◌, Bool, true, false, ◌&&◌, List, Option, Some, None, MatchOption, Result, OnErr}
 use Rattle.capnp_model.specs.Kinds.{ListCapabilityNotSupported}
 use Rattle.capnp_model.specs.Segments.{Segments}
 use Rattle.capnp_model.specs.Schemas.{Ty, void, plain, text, blob, untyped, interface, struct, list}
@@ -151,14 +151,9 @@ PutsGiven old new o f i (taken v) r = WithoutLimit (TakesStruct v (words_in old.
 
 -- ---- what is there later too
 
--- Each segment of the message is there later too, and no shorter: after what was done, and after what was refused where the list was owned.
-pub record GrowsHere (o : ListPlace) (s u : Segments) (r : Result ⊤ Error) : Type 0 where
-  pub done : OnOk r (Grows s u)
-  pub owned : (n : ℕ) (t : Tree) → IsListOf o t → OwnsObject n s (list_at o) t → Grows s u
-
--- The same; and all words stand after a refusal, unless a struct was to be taken over, and new ones are zero.
-pub record Leaves (source : Option StructView) (o : ListPlace) (s u : Segments) (r : Result ⊤ Error) : Type 0 where
-  pub grows : GrowsHere o s u r
+-- Each segment of the message is there later too, and no shorter; and all words stand after a refusal, unless a struct was to be taken over, and new ones are zero.
+pub record Leaves (source : Option StructView) (s u : Segments) (r : Result ⊤ Error) : Type 0 where
+  pub grows : Grows s u
   pub stands : source ≡ None → OnErr r (GrowsByZeros s u)
 
 -- ---- lists of structs

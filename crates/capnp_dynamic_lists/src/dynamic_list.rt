@@ -14,7 +14,7 @@ ghost use Rattle.capnp_dynamic.specs.Inits.{struct_named};
 ghost use Rattle.capnp_dynamic.specs.Puts.{answered};
 ghost use Rattle.capnp_dynamic_lists.specs.Lists.{IsListThere, HasRoom, HasPointer, HasSizes};
 ghost use Rattle.capnp_dynamic_lists.specs.Elements.{Holds, HoldsStructs, element_edit};
-ghost use Rattle.capnp_dynamic_lists.specs.Builders.{IsReady, IsReadyAfter, IsPartAt, Stays, KeepsWords, Puts, Sets};
+ghost use Rattle.capnp_dynamic_lists.specs.Builders.{IsReady, IsPartAt, Stays, KeepsWords, Puts, Sets};
 ghost use Rattle.capnp_dynamic_lists.specs.Values.{struct_given, element_given};
 
 use crate::elements::plain_type;
@@ -234,7 +234,7 @@ impl<'a, A: BuilderArena> Builder<'a, A> {
             → OnErr result (KeepsWords A.segments self.old self.new) }
         ensures flat { is_flat value.entry ≡ true
             → OnErr result (Stays A.segments self.old self.new) }
-        ensures ready { IsReadyAfter A.segments self.old self.new result }
+        ensures ready { IsReady A.segments self.new }
         ensures books { A.books self.new.memory.now.arena ≡ A.books self.old.memory.now.arena }
     {
         let place = self.place;

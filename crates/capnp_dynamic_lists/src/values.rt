@@ -16,7 +16,7 @@ ghost use Rattle.capnp_dynamic.specs.Sources.{source_seen, PutsSource};
 ghost use Rattle.capnp_dynamic.specs.Values.{is_capability};
 ghost use Rattle.capnp_dynamic_lists.specs.Elements.{Holds, element_edit};
 ghost use Rattle.capnp_dynamic_lists.specs.Lists.{IsListThere, HasPointer};
-ghost use Rattle.capnp_dynamic_lists.specs.Values.{struct_given, list_given, are_capabilities, element_given, ElementWithin, TakesStruct, AreStructs, IsStructType, IsListType, GrowsHere, Leaves, PutsGiven};
+ghost use Rattle.capnp_dynamic_lists.specs.Values.{struct_given, list_given, are_capabilities, element_given, ElementWithin, TakesStruct, AreStructs, IsStructType, IsListType, Leaves, PutsGiven};
 
 use crate::elements::set_flat;
 use crate::places::{element_pointer, element_struct};
@@ -148,8 +148,8 @@ fn set_struct<A: BuilderArena, B: ReaderArena>(
     ensures takes { WithoutLimit (TakesStruct (struct_seen B.segments source.entry)
         (words_in (A.segments memory.old.arena)) (words_in (A.segments memory.new.arena)) list
         index) result }
-    ensures grows { GrowsHere list (words_in (A.segments memory.old.arena))
-        (words_in (A.segments memory.new.arena)) result }
+    ensures grows { Grows (words_in (A.segments memory.old.arena))
+        (words_in (A.segments memory.new.arena)) }
     ensures books { A.books memory.new.arena ≡ A.books memory.old.arena }
 {
     let mut unlimited = ReadLimiter::new(None);
@@ -170,7 +170,7 @@ pub fn set_value<A: BuilderArena, B: ReaderArena>(
     ensures puts { let at = state_of A.segments A.room A.books in
         PutsGiven (at memory.old) (at memory.new) list (element_edit value.now (ty_of ty)) index
         (element_given B.segments value.now (ty_of ty)) result }
-    ensures leaves { Leaves (struct_given B.segments value.now (ty_of ty)) list
+    ensures leaves { Leaves (struct_given B.segments value.now (ty_of ty))
         (words_in (A.segments memory.old.arena)) (words_in (A.segments memory.new.arena)) result }
     ensures flat { is_flat value.now ≡ true → OnErr result
         (A.segments memory.new.arena ≡ A.segments memory.old.arena) }

@@ -14,10 +14,10 @@ set_source-requires-clause-pointer g c = pointers_of c.args.list (ty_of c.args.t
 pub returns-then-are_capabilities-clause-leaves : goal.returns-then-are_capabilities-clause-leaves
 returns-then-are_capabilities-clause-leaves g c =
     let s = words_in (g.A.ReaderArena.segments c.args.memory.now.arena) in
-    leaves (struct_given g.B.ReaderArena.segments c.args.value.now (ty_of c.args.ty)) c.args.list s s (Err c.from.result) (grows_same s) (changes_nothing s (λ q. 0))
+    leaves (struct_given g.B.ReaderArena.segments c.args.value.now (ty_of c.args.ty)) s s (Err c.from.result) (grows_same s) (changes_nothing s (λ q. 0))
 
 pub returns-clause-leaves : goal.returns-clause-leaves
 returns-clause-leaves g c =
     let old = g.A.ReaderArena.segments c.args.memory.now.arena in
     let new = g.A.ReaderArena.segments c.set_flat.new.arena in
-    leaves (struct_given g.B.ReaderArena.segments c.args.value.now (ty_of c.args.ty)) c.args.list (words_in old) (words_in new) c.set_flat.result c.set_flat.ensures.grows (flat_stands old new c.set_flat.result c.set_flat.ensures.refused)
+    leaves (struct_given g.B.ReaderArena.segments c.args.value.now (ty_of c.args.ty)) (words_in old) (words_in new) c.set_flat.result c.set_flat.ensures.grows (flat_stands old new c.set_flat.result c.set_flat.ensures.refused)

@@ -1,5 +1,5 @@
 use Rattle.std.proofs.Common.{refl}
-use Rattle.std.proofs.lemmas.Result.{on_ok_weaker, on_err_weaker}
+use Rattle.std.proofs.lemmas.Result.{on_err_weaker}
 use Rattle.capnp_model.specs.Accepted.{schema_of}
 use Rattle.capnp_units.specs.Segments.{words_in}
 use Rattle.capnp_records.specs.Sets.{nodes_of}
@@ -35,8 +35,4 @@ returns-clause-ready g c =
     let ready = c.requires.ready in
     let s = words_in (g.A.ReaderArena.segments old.memory.now.arena) in
     let u = words_in (g.A.ReaderArena.segments c.set_value.new.memory.arena) in
-    let grows = c.set_value.ensures.leaves.grows in
-    record {
-      done = on_ok_weaker c.set_value.result (λ z. record { there = list_grown s u old.place z ready.there; holds = ready.holds; sizes = ready.sizes; known = ready.known }) grows.done;
-      owned = λ n t is own. record { there = list_grown s u old.place (grows.owned n t is own) ready.there; holds = ready.holds; sizes = ready.sizes; known = ready.known };
-    }
+    record { there = list_grown s u old.place c.set_value.ensures.leaves.grows ready.there; holds = ready.holds; sizes = ready.sizes; known = ready.known }
