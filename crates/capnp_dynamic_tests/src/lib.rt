@@ -2,7 +2,11 @@
 #![tactic(auto)]
 
 #[cfg(test)]
+mod group_tests;
+#[cfg(test)]
 mod list_tests;
+#[cfg(test)]
+mod part_tests;
 #[cfg(test)]
 mod schemas;
 #[cfg(test)]

@@ -7,7 +7,7 @@ use capnp_records::set::SchemaSet;
 use std::alloc::{AllocError, Global};
 use std::test::Fail;
 
-fn field(
+pub(crate) fn field(
     alloc: Global,
     name: &str,
     member: u16,
@@ -22,7 +22,7 @@ fn field(
 }
 
 /// A slot of numbers.
-fn number(offset: u32, default: u16) -> FieldBody {
+pub(crate) fn number(offset: u32, default: u16) -> FieldBody {
     FieldBody::Slot {
         offset,
         ty: of(BaseType::UInt16),
@@ -39,7 +39,7 @@ fn pointer(base: BaseType) -> FieldBody {
     }
 }
 
-fn of(base: BaseType) -> TypeRecord {
+pub(crate) fn of(base: BaseType) -> TypeRecord {
     TypeRecord {
         list_count: 0,
         base,

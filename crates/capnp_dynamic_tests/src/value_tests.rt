@@ -95,7 +95,7 @@ fn set_in<A: BuilderArena, B: ReaderArena>(
 }
 
 /// The same in a segment of so many words, and its used bytes then.
-fn run<B: ReaderArena>(
+pub(crate) fn run<B: ReaderArena>(
     alloc: Global,
     set_of: &SchemaSet,
     words: u32,
