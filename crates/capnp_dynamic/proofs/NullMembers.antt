@@ -175,7 +175,6 @@ passes test nodes id i f h e = by (find_node nodes id) i refl e
     by None (suc j) k g = absurd cc
     by (Some n) j k g = kind_passes test n.kind j f (found_passes (λ m. list_all test (fields_of_kind m.kind)) nodes id n h k) g
 
-
 segment_found : (test : Tree → Bool) (bs : List ℕ) → is_good_segment test bs ≡ true → IsSome (decode bs)
 segment_found test bs h = by (decode bs) (and_right (nat_lt (length bs) (8 * 2 ^ 29)) (elim (decode bs) as (λ (o : Option Tree). Bool) [ None ↦ false | Some t ↦ test t ]) h)
   where

@@ -29,8 +29,8 @@ set_source-requires-clause-index g c =
     let inside = member_inside c.args.field (field_of c.get_proto-said.result.now) c.get_proto-said.ensures (body_of_place b) c.in-Pointer.ensures.body p.data_words p.pointers c.requires.inside in
     pointer_inside p b c.in-Pointer.index c.in-Pointer.ty c.in-Pointer.default refl inside
 
-pub returns-then-source_for-clause-leaves : goal.returns-then-source_for-clause-leaves
-returns-then-source_for-clause-leaves g c =
+pub returns-in-Some-clause-leaves : goal.returns-in-Some-clause-leaves
+returns-in-Some-clause-leaves g c =
     leaves_of (value_given g.B.ReaderArena.segments c.args.value.now (entry_of c.args.field)) (words_in (g.A.ReaderArena.segments c.args.memory.now.arena)) (words_in (g.A.ReaderArena.segments c.set_source.new.memory.arena)) c.set_source.result c.set_source.ensures.stands
 
 pub returns-then-is_untyped_capability-clause-leaves : goal.returns-then-is_untyped_capability-clause-leaves
@@ -85,8 +85,8 @@ returns-in_default-struct_for-clause-leaves g c =
     let s = words_in (g.A.ReaderArena.segments c.args.memory.now.arena) in
     leaves_of (value_given g.B.ReaderArena.segments c.args.value.now (entry_of c.args.field)) s s (Err c.from-in_default-struct_for.result) (record { grows = grows_same s; refused = changes_nothing s (λ q. 0) })
 
-pub returns-in-Group-clause-puts : goal.returns-in-Group-clause-puts
-returns-in-Group-clause-puts g c =
+pub returns-in-Some-struct_for-clause-puts : goal.returns-in-Some-struct_for-clause-puts
+returns-in-Some-struct_for-clause-puts g c =
     let at = state_of g.A.ReaderArena.segments g.A.BuilderArena.room g.A.BuilderArena.books in
     let bytes = g.B.ReaderArena.segments in
     let v = c.args.value.now in
@@ -98,8 +98,8 @@ returns-in-Group-clause-puts g c =
     given_puts bytes v (at c.args.memory.now) (at (record { arena = c.set_group.new.arena })) c.args.object f (fields x) c.set_group.result
     (fields_given bytes v (entry_of f) own x c.in-Group.ensures.body some) (c.set_group.ensures.writes, c.set_group.ensures.why)
 
-pub returns-in-Group-clause-leaves : goal.returns-in-Group-clause-leaves
-returns-in-Group-clause-leaves g c =
+pub returns-in-Some-struct_for-clause-leaves : goal.returns-in-Some-struct_for-clause-leaves
+returns-in-Some-struct_for-clause-leaves g c =
     let bytes = g.B.ReaderArena.segments in
     let v = c.args.value.now in
     let f = c.args.field in
