@@ -1,0 +1,39 @@
+//! Calls in turn at the struct of a builder.
+ghost use Rattle.std.specs.Prelude.{◌≡◌, map, Err, IfOk};
+ghost use Rattle.capnp_copy.specs.Deep.{IsDeep};
+ghost use Rattle.capnp_dynamic.specs.Builders.{IsReady, words_around};
+ghost use Rattle.capnp_calls.specs.CallViews.{call_view};
+ghost use Rattle.capnp_calls.specs.Replies.{reply_view};
+ghost use Rattle.capnp_calls.specs.Taken.{IsRoot};
+ghost use Rattle.capnp_run.specs.declared.fault.RunFault.{RunFault};
+ghost use Rattle.capnp_run.specs.Handles.{IsSameHandle};
+ghost use Rattle.capnp_run.specs.Runs.{RunsAt, EndsLongAt};
+
+use crate::fault::RunFault;
+use crate::run::run_at;
+use capnp_calls::Call;
+use capnp_calls::reply::Reply;
+use capnp_copy::arena::BuilderArena;
+use capnp_dynamic::dynamic_struct;
+use std::alloc::Global;
+
+/// Answers calls in turn at the struct of a builder, as `run_at` does, whose refusals it has. The handle stays where it was.
+pub fn run<A: BuilderArena>(
+    alloc: Global,
+    root: &mut dynamic_struct::Builder<'_, A>,
+    calls: &[Call],
+) -> Result<Vec<Reply>, RunFault>
+    requires arena { IsDeep A.segments A.nesting }
+    requires ready { IsReady A.segments root.old }
+    requires root { IsRoot root.old.schema }
+    ensures all { let words = words_around A.segments in IfOk result (λ told.
+        RunsAt (words root.old) (words root.new) root.old.place root.old.schema
+        (map call_view calls.now) (map reply_view told.items)) }
+    ensures size { result ≡ Err RunFault.Size → EndsLongAt (words_around A.segments root.old)
+        root.old.place root.old.schema (map call_view calls.now) }
+    ensures handle { IsSameHandle root.old root.new }
+    ensures books { A.books root.new.memory.now.arena ≡ A.books root.old.memory.now.arena }
+{
+    let (place, schema) = (root.place, root.schema);
+    run_at(alloc, &mut root.memory.arena, place, schema, calls)
+}
