@@ -6,8 +6,6 @@ mod group_tests;
 #[cfg(test)]
 mod list_tests;
 #[cfg(test)]
-mod part_tests;
-#[cfg(test)]
 mod schemas;
 #[cfg(test)]
 mod tests;
