@@ -1,17 +1,10 @@
 //! A caller's types: a person of an address book, who has an id and a name.
-ghost use Rattle.std.specs.Prelude.{◌≡◌, ◌+◌, ◌<◌, ◌≤◌, ◌^◌, ◌↔◌, true, option_copied, IfOk, IfErr};
+ghost use Rattle.std.specs.Prelude.{◌≡◌, ◌<◌, ◌^◌, option_copied, IfOk, IfErr};
 ghost use Rattle.std.specs.Borrow.{sem, RestsIfErr};
-ghost use Rattle.std.specs.Option.{is_some};
-ghost use Rattle.capnp_model.specs.Segments.{words_at};
-ghost use Rattle.capnp_units.specs.Segments.{words_in};
-ghost use Rattle.capnp_model.specs.Trees.{structure, none, resized};
-ghost use Rattle.capnp_units.specs.declared.kinds.ErrorKind.TheVariants.{SizeOverflow};
-ghost use Rattle.capnp_wire.specs.Places.{place_view};
-ghost use Rattle.capnp_copy.specs.Allocations.{total_words};
-ghost use Rattle.capnp_copy.specs.Structs.{struct_at};
-ghost use Rattle.capnp_copy.specs.Values.{Becomes, LeadsTo};
+ghost use Rattle.capnp_copy.specs.States.{HasWords};
 ghost use Rattle.capnp_copy.specs.contracts.arena.Memory.{the_row};
-ghost use Rattle.capnp_builders.specs.Gets.{StructGot, NoStructGot};
+ghost use Rattle.capnp_builders.specs.Making.{StaysAt, memory_words};
+ghost use Rattle.capnp_builders_tests.specs.Persons.{IsPersonMade, IsNotMade, IsPersonGot, IsNotGot};
 
 use crate::builders::build_tests::ROOT;
 use crate::builders::tests::Exact;
@@ -67,39 +60,26 @@ impl<'a, A: BuilderArena> From<StructBuilder<'a, A>> for PersonBuilder<'a, A> {
 impl<'a, A: BuilderArena> FromPointerBuilder<'a, A> for PersonBuilder<'a, A> {
     ghost memory_of = { λ o. o.memory };
 
-    ghost is_made = { λ s u slot n o.
-        Becomes s u (place_view slot) (structure 1 0 (resized 1 none))
-        × LeadsTo u (place_view slot) (struct_at o.place) };
+    ghost is_made = { λ s u slot n o. IsPersonMade s u slot o.place };
 
-    ghost is_not_made = { λ s n e. (e.kind ≡ SizeOverflow) ↔ (2 ^ 29 ≤ total_words s + 3) };
+    ghost is_not_made = { λ s n e. IsNotMade s e };
 
-    ghost is_got = { λ default s u slot o.
-        StructGot default s u (place_view slot) (record { data_words = 1; pointers = 1 }) o.place };
+    ghost is_got = { λ default s u slot o. IsPersonGot default s u slot o.place };
 
-    ghost is_not_got = { λ default s u slot.
-        NoStructGot default s u (place_view slot) (record { data_words = 1; pointers = 1 }) };
+    ghost is_not_got = { λ default s u slot e. IsNotGot default s u slot e };
 
     fn init_pointer(builder: PointerBuilder<'a, A>, _length: u32) -> Result<PersonBuilder<'a, A>>
-        requires there { is_some (words_at (words_in (A.segments builder.memory.now.arena))
-            (place_view builder.place) 1) ≡ true }
+        requires there { HasWords (A.segments builder.memory.now.arena) builder.place 1 }
         requires near { builder.place.position < 2 ^ 61 }
         ensures same { IfOk result (λ o. o.memory.ghost_name ≡ builder.entry.memory.ghost_name) }
-        ensures made { IfOk result (λ o.
-            Becomes (words_in (A.segments builder.entry.memory.now.arena))
-            (words_in (A.segments o.memory.now.arena)) (place_view builder.entry.place)
-            (structure 1 0 (resized 1 none))
-            × LeadsTo (words_in (A.segments o.memory.now.arena)) (place_view builder.entry.place)
-            (struct_at o.place)) }
+        ensures made { let b = builder.entry in let at = memory_words A.segments in IfOk result
+            (λ o. IsPersonMade (at b.memory.now) (at o.memory.now) b.place o.place) }
         ensures books { IfOk result (λ o.
             A.books o.memory.now.arena ≡ A.books builder.entry.memory.now.arena) }
-        ensures kind { IfErr result (λ e.
-            (e.kind ≡ SizeOverflow)
-            ↔ (2 ^ 29 ≤ total_words (words_in (A.segments builder.entry.memory.now.arena)) + 3)) }
-        ensures* refused { sem 𝓛 (RestsIfErr (the_row A.row)
-            builder.entry.memory (λ o. o.memory.ghost_name)
-            result (λ n.
-            (A.segments n.arena ≡ A.segments builder.entry.memory.now.arena)
-            × (A.books n.arena ≡ A.books builder.entry.memory.now.arena))) }
+        ensures kind { IfErr result
+            (IsNotMade (memory_words A.segments builder.entry.memory.now)) }
+        ensures* refused { let b = builder.entry in sem 𝓛 (RestsIfErr (the_row A.row) b.memory
+            (λ o. o.memory.ghost_name) result (StaysAt A.segments A.books b.memory.now)) }
     {
         let PointerBuilder { memory, place } = builder;
         let place = init_struct(&mut memory.arena, place, SIZE)?;
@@ -110,25 +90,18 @@ impl<'a, A: BuilderArena> FromPointerBuilder<'a, A> for PersonBuilder<'a, A> {
         builder: PointerBuilder<'a, A>,
         default: Option<&[Word]>,
     ) -> Result<PersonBuilder<'a, A>>
-        requires there { is_some (words_at (words_in (A.segments builder.memory.now.arena))
-            (place_view builder.place) 1) ≡ true }
+        requires there { HasWords (A.segments builder.memory.now.arena) builder.place 1 }
         requires near { builder.place.position < 2 ^ 61 }
         ensures same { IfOk result (λ o. o.memory.ghost_name ≡ builder.entry.memory.ghost_name) }
-        ensures got { IfOk result (λ o.
-            StructGot (option_copied default.entry)
-            (words_in (A.segments builder.entry.memory.now.arena))
-            (words_in (A.segments o.memory.now.arena)) (place_view builder.entry.place)
-            (record { data_words = 1; pointers = 1 }) o.place) }
+        ensures got { let b = builder.entry in let at = memory_words A.segments in IfOk result
+            (λ o. IsPersonGot (option_copied default.entry) (at b.memory.now) (at o.memory.now)
+            b.place o.place) }
         ensures books { IfOk result (λ o.
             A.books o.memory.now.arena ≡ A.books builder.entry.memory.now.arena) }
-        ensures* refused { sem 𝓛 (RestsIfErr (the_row A.row)
-            builder.entry.memory (λ o. o.memory.ghost_name)
-            result (λ n.
-            IfErr result
-            (NoStructGot (option_copied default.entry)
-            (words_in (A.segments builder.entry.memory.now.arena)) (words_in (A.segments n.arena))
-            (place_view builder.entry.place) (record { data_words = 1; pointers = 1 }))
-            × (A.books n.arena ≡ A.books builder.entry.memory.now.arena))) }
+        ensures* refused { let b = builder.entry in let at = memory_words A.segments in sem 𝓛
+            (RestsIfErr (the_row A.row) b.memory (λ o. o.memory.ghost_name) result (λ n.
+            IfErr result (IsNotGot (option_copied default.entry) (at b.memory.now) (at n) b.place)
+            × (A.books n.arena ≡ A.books b.memory.now.arena))) }
     {
         let PointerBuilder { memory, place } = builder;
         let place = struct_or_default(&mut memory.arena, place, SIZE, default)?;

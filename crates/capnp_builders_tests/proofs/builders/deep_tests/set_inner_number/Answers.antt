@@ -13,6 +13,6 @@ returns-clause-edited g c =
       up = c.values_behind_structs.ensures.up;
       number = c.values_behind_structs.ensures.number;
     } in
-    let outer = c.in_ok-outer.ensures.got in
-    let inner = c.in_ok-inner.ensures.got in
+    let outer = c.in_ok-outer.ensures.got.got in
+    let inner = c.in_ok-inner.ensures.got.got in
     edited_at laws _ _ _ _ _ _ _ _ _ _ _ _ c.in_ok-inner.inner.place c.args.value (search rules) c.get_root.ensures.place (search rules) c.get_pointer_field-slot.ensures.place (search rules) outer.value outer.object outer.enough.1 inner.value inner.object c.set_data_field.ensures.sets
