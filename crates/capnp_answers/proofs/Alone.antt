@@ -21,7 +21,7 @@ use Rattle.capnp_canonical.specs.Checks.{TellsMessage}
 use Rattle.capnp_canonical.specs.Writes.{filled, words_view}
 use Rattle.capnp_answers.specs.Reading.{ReadsValue, StandsCanonical}
 use Rattle.capnp_answers.specs.declared.bounds.Bounds.{Bounds}
-use Rattle.capnp_answers.proofs.Walks.{WalkLaws, put_back, stands_within}
+use Rattle.capnp_answers.proofs.Walks.{ValueLaws, put_back, stands_within}
 
 some_past : (past : Option (List ℕ)) (y : List ℕ) → past ≡ Some y → is_some past ≡ false → ⊥
 some_past None y p none = cc
@@ -59,7 +59,7 @@ module _ (bytes : List ℕ) (b : Bounds) where
   abbrev Message : Segments
   Message = whole_words bytes ∷ []
 
-  pub stands : WalkLaws → CanonicalHolds → (l m : ReadLimiter) (is : Bool) → left_of l ≡ Some b.words → length bytes / 8 < 2 ^ 29 → TellsMessage b.nesting Message l (Ok is) m → OnTrue is (StandsCanonical b Message)
+  pub stands : ValueLaws → CanonicalHolds → (l m : ReadLimiter) (is : Bool) → left_of l ≡ Some b.words → length bytes / 8 < 2 ^ 29 → TellsMessage b.nesting Message l (Ok is) m → OnTrue is (StandsCanonical b Message)
   stands laws holds l m false left few tells = tt
   stands laws holds l m true left few tells =
       let h = holds b.nesting Message tells.0 in

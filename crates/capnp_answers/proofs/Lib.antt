@@ -4,3 +4,4 @@ pub mod Edited
 pub mod Whole
 pub mod Alone
 pub mod Plain
+pub mod Fronts

@@ -1,4 +1,5 @@
 pub mod Answers
 pub mod Reading
 pub mod Bounds
+pub mod Found
 pub mod RootCalls

@@ -89,9 +89,9 @@ fn read_root<M: ReaderArena>(
     Ok(Ok(count))
 }
 
-/// The answer where each call sets a plain field of the root, made in the words that the message was read to; none where that would put or trim a word.
+/// The answer where it is known what each call puts, made in the words that the message was read to; none where one can't be put there.
 #[inline(always)]
-fn answer_plain<M: ReaderArena>(
+fn answer_known<M: ReaderArena>(
     message: &M,
     bounds: Bounds,
     calls: &RootCalls<'_>,
@@ -107,11 +107,14 @@ fn answer_plain<M: ReaderArena>(
         Ok(count) => count,
         Err(reason) => return Ok(Some(MessageAnswer::Refused(reason))),
     };
-    if !calls.put(words.as_mut_slice(), count) {
+    let Some(after) = calls.put(words, count)? else {
         return Ok(None);
-    }
+    };
     let calls = calls.calls.len();
-    Ok(Some(MessageAnswer::Done { count, calls }))
+    Ok(Some(MessageAnswer::Done {
+        count: after,
+        calls,
+    }))
 }
 
 /// The answer to a message, whose value is edited in memory of this allocator. All of it is given back.
@@ -144,15 +147,16 @@ fn answer_over<L: Allocator, M: ReaderArena>(
         bounds.nesting,
         calls.schema,
         calls.calls,
+        &calls.ways,
         words,
     );
     let _allocator = builder.into_allocator();
     answered
 }
 
-/// Answers calls in turn at the root of a message, as the model does, lists and all: the message's value, trimmed, is copied into the region and edited there, and what it becomes is written into the buffer, as its canonical words. Where each call sets a plain field of the root, and no word is put or trimmed by that, the value is edited in the buffer, and the region isn't touched. A message without a value within the bounds, or with a capability, is skipped as `Value`, one whose root is a list as `Root`, one that the calls nest too deep as `Depth`.
+/// Answers calls in turn at the root of a message, as the model does, lists and all: the message's value, trimmed, is copied into the region and edited there, and what it becomes is written into the buffer, as its canonical words. Where each call sets a plain field, a text or data, on its way through structs and elements of lists of structs, and none of these fields is a union's member or a group, the value is edited in the buffer and the region isn't touched, as long as all that is on the way is there, a text or data has an old one whose place it takes, and no struct gets wider or narrower. A message without a value within the bounds, or with a capability, is skipped as `Value`, one whose root is a list as `Root`, one that the calls nest too deep as `Depth`.
 ///
-/// The region is all zeros before, and after, whatever is answered; it need not have room for the message, whose words then come from `alloc`, as those do that the calls add past its end. The buffer grows where it is too short: to the message's own words, to those of the edited message, and where pointers share words, so that the canonical words are more than the message's own, to a word more than the bounds allow. What is in it before doesn't matter.
+/// The region is all zeros before, and after, whatever is answered; it need not have room for the message, whose words then come from `alloc`, as those do that the calls add past its end. The buffer grows where it is too short: to the message's own words, to those that it has after a call, and where pointers share words, so that the canonical words are more than the message's own, to a word more than the bounds allow. What is in it before doesn't matter.
 ///
 /// `Size`: a call that is done puts a text or data of 2^29 bytes or more with its last zero, or a list of structs of 2^29 words or more. `Memory`: a growth was refused, by the system or since the words of the edited message would pass 2^29 - 1. After both nothing is promised of the buffer but its words.
 #[inline(always)]
@@ -171,8 +175,8 @@ pub fn answer_in_place<M: ReaderArena>(
         (root_calls calls.now) bounds (words_in (M.segments message.now)) }
     ensures zeros { region.new ≡ region.old }
 {
-    if calls.are_plain() {
-        if let Some(answer) = answer_plain(message, bounds, calls, words)? {
+    if calls.are_known() {
+        if let Some(answer) = answer_known(message, bounds, calls, words)? {
             return Ok(answer);
         }
     }

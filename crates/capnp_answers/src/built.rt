@@ -7,9 +7,11 @@ ghost use Rattle.capnp_model.specs.Trees.{Tree, depth};
 ghost use Rattle.capnp_model.specs.Traversal.{tree_at};
 ghost use Rattle.capnp_units.specs.Segments.{words_in};
 ghost use Rattle.capnp_calls.specs.CallViews.{call_view};
-ghost use Rattle.capnp_calls.specs.Taken.{IsRoot};
+ghost use Rattle.capnp_calls.specs.Roots.{IsRoot};
 ghost use Rattle.capnp_copy.specs.Deep.{IsDeep};
 ghost use Rattle.capnp_message.specs.Built.{loans_held};
+ghost use Rattle.capnp_queries.specs.Structs.{schema_around};
+ghost use Rattle.capnp_ways.specs.Ways.{AreWays};
 ghost use Rattle.capnp_run.specs.Runs.{EndsLongRoot};
 ghost use Rattle.capnp_answers.specs.declared.answer.Want.{Want};
 ghost use Rattle.capnp_answers.specs.Answers.{AnswersRoot, AnswersWords, LongFromWords};
@@ -34,6 +36,7 @@ use capnp_queries::structs::StructSchema;
 use capnp_run::root::run_root;
 use capnp_units::limiter::ReadLimiter;
 use capnp_units::sizes::Word;
+use capnp_ways::ways::Ways;
 use capnp_wire::arena::ReaderArena;
 use std::alloc::Global;
 
@@ -55,11 +58,13 @@ fn answer_root<A: BuilderArena>(
     levels: u32,
     schema: StructSchema<'_>,
     calls: &[Call],
+    ways: &Ways,
     words: &mut Vec<Word>,
 ) -> Result<MessageAnswer, Want>
     requires arena { IsDeep A.segments A.nesting }
     requires there { is_some (words_at (words_in (A.segments arena.old)) root 1) ≡ true }
     requires root { IsRoot schema }
+    requires ways { AreWays (schema_around schema) (map call_view calls.now) ways.now }
     ensures all { IfOk result (AnswersRoot schema.entry (map call_view calls.now) levels
         (words_in (A.segments arena.old)) words.new.items) }
     ensures size { result ≡ Err Want.Size → EndsLongRoot (words_in (A.segments arena.old))
@@ -71,7 +76,7 @@ fn answer_root<A: BuilderArena>(
     values_that_are_read();
     trimmed_values();
     words_mean_their_value();
-    let replies = run_root(alloc, arena, schema, calls)?;
+    let replies = run_root(alloc, arena, schema, calls, ways)?;
     make_room(words, arena.size_in_words())?;
     let mut unlimited = ReadLimiter::new(None);
     match write_canonical(arena, &mut unlimited, ROOT, levels, words.as_mut_slice()) {
@@ -93,11 +98,13 @@ pub(crate) fn answer_built<A: Allocator>(
     levels: u32,
     schema: StructSchema<'_>,
     calls: &[Call],
+    ways: &Ways,
     words: &mut Vec<Word>,
 ) -> Result<MessageAnswer, Want>
     requires empty { builder.old.memory.arena.segments.items ≡ [] }
     requires count { (0 < count) × (count < 2 ^ 29) × (count ≤ length words.old.items) }
     requires root { IsRoot schema }
+    requires ways { AreWays (schema_around schema) (map call_view calls.now) ways.now }
     ensures all { IfOk result (AnswersWords schema.entry (map call_view calls.now) levels
         (filled count words.old.items) words.new.items) }
     ensures size { result ≡ Err Want.Size → LongFromWords schema.entry (map call_view calls.now)
@@ -116,6 +123,7 @@ pub(crate) fn answer_built<A: Allocator>(
         levels,
         schema,
         calls,
+        ways,
         words,
     )
 }

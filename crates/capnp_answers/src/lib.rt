@@ -4,6 +4,7 @@
 pub mod answer;
 pub mod bounds;
 mod built;
+mod found;
 mod near;
 mod reading;
 pub mod root_calls;

@@ -2,21 +2,12 @@
 ghost use Rattle.std.specs.Prelude.{◌≡◌};
 ghost use Rattle.capnp_copy.specs.Memory.{AllZero};
 
-use capnp_answers::answer::{MessageAnswer, Reason, Want, answer_in_place};
-use capnp_answers::bounds::Bounds;
-use capnp_answers::root_calls::RootCalls;
+use crate::fixtures::{all_done, along, at, outcome, outcome_of};
+use capnp_answers::answer::{MessageAnswer, Reason, Want};
 use capnp_calls::reply::Reply;
-use capnp_calls::{Call, CallValue, Step, Verb};
-use capnp_message::options::DEFAULT_READER_OPTIONS;
-use capnp_message::reader::{Reader, SegmentArray};
-use capnp_queries::structs::StructSchema;
-use capnp_records::node::{
-    BaseType, FieldBody, FieldRecord, NO_DISCRIMINANT, NodeBody, NodeRecord, StructRecord,
-    TypeRecord, Value as DefaultValue,
-};
-use capnp_records::set::SchemaSet;
+use capnp_calls::{Call, CallValue, Verb};
 use capnp_units::sizes::Word;
-use std::alloc::{AllocError, Global};
+use std::alloc::Global;
 use std::test::Fail;
 
 /// A message of a struct of one word, 7.
@@ -65,128 +56,6 @@ const TOGETHER: [u8; 72] = [
     26, 0, 0, 0, b'y', b'o', 0, 0, 0, 0, 0, 0,
 ];
 
-/// A field of a name that is a slot of a type.
-fn field(
-    alloc: Global,
-    name: &str,
-    offset: u32,
-    base: BaseType,
-    default: Option<DefaultValue>,
-) -> Result<FieldRecord, AllocError> {
-    Ok(FieldRecord {
-        name: String::from_str(alloc, name)?,
-        discriminant_value: NO_DISCRIMINANT,
-        annotations: Vec::new(alloc),
-        body: FieldBody::Slot {
-            offset,
-            ty: TypeRecord {
-                list_count: 0,
-                base,
-            },
-            default,
-        },
-    })
-}
-
-/// A struct of an id, with these sizes and fields.
-fn node(
-    alloc: Global,
-    id: u64,
-    data_word_count: u16,
-    pointer_count: u16,
-    fields: Vec<FieldRecord>,
-) -> Result<NodeRecord, AllocError> {
-    Ok(NodeRecord {
-        id,
-        display_name: String::from_str(alloc, "Node")?,
-        annotations: Vec::new(alloc),
-        body: NodeBody::Struct(StructRecord {
-            data_word_count,
-            pointer_count,
-            is_group: false,
-            discriminant_count: 0,
-            discriminant_offset: 0,
-            fields,
-        }),
-    })
-}
-
-/// A struct of a number `a` and a text `t`, and one of two such structs, `left` and `right`.
-fn nodes(alloc: Global) -> Result<Vec<NodeRecord>, AllocError> {
-    let mut leaf = Vec::new(alloc);
-    let zero = Some(DefaultValue::UInt16(0));
-    leaf.push(field(alloc, "a", 0, BaseType::UInt16, zero)?)?;
-    leaf.push(field(alloc, "t", 0, BaseType::Text, None)?)?;
-    let mut pair = Vec::new(alloc);
-    pair.push(field(alloc, "left", 0, BaseType::Struct(1), None)?)?;
-    pair.push(field(alloc, "right", 1, BaseType::Struct(1), None)?)?;
-    let mut nodes = Vec::new(alloc);
-    nodes.push(node(alloc, 1, 1, 1, leaf)?)?;
-    nodes.push(node(alloc, 2, 0, 2, pair)?)?;
-    Ok(nodes)
-}
-
-/// A call along the fields of some names.
-fn along(
-    alloc: Global,
-    names: &[&str],
-    verb: Verb,
-    value: Option<CallValue>,
-) -> Result<Call, Fail> {
-    let mut path = Vec::new(alloc);
-    for name in names {
-        path.push(Step::Name(String::from_str(alloc, name)?))?;
-    }
-    Ok(Call::new(alloc, path, verb, value)?)
-}
-
-/// A call at the field of a name.
-fn at(alloc: Global, name: &str, verb: Verb, value: Option<CallValue>) -> Result<Call, Fail> {
-    along(alloc, &[name], verb, value)
-}
-
-/// What is answered of calls at the struct of an id to a message of these segments.
-fn outcome_of(
-    alloc: Global,
-    segments: &[&[u8]],
-    root: u64,
-    calls: &[Call],
-    region: &mut [u8],
-    words: &mut Vec<Word>,
-) -> Result<Result<MessageAnswer, Want>, Fail>
-    requires zeros { AllZero region.old }
-    ensures zeros { region.new ≡ region.old }
-{
-    let set = SchemaSet::new(nodes(alloc)?)?;
-    let Some(raw) = set.struct_by_id(root) else {
-        return Err(Fail::from("the struct is missing"));
-    };
-    capnp_queries::laws::struct_is_node();
-    let schema = StructSchema::new(&set, raw);
-    let message = Reader::new(SegmentArray::new(segments), DEFAULT_READER_OPTIONS);
-    let bounds = Bounds {
-        words: 64,
-        nesting: 8,
-    };
-    let calls = RootCalls::new(alloc, schema, calls)?;
-    Ok(answer_in_place(alloc, &message, bounds, &calls, region, words))
-}
-
-/// What is answered of calls at the struct of an id to a message of one segment.
-fn outcome(
-    alloc: Global,
-    bytes: &[u8],
-    root: u64,
-    calls: &[Call],
-    region: &mut [u8],
-    words: &mut Vec<Word>,
-) -> Result<Result<MessageAnswer, Want>, Fail>
-    requires zeros { AllZero region.old }
-    ensures zeros { region.new ≡ region.old }
-{
-    outcome_of(alloc, &[bytes], root, calls, region, words)
-}
-
 /// The answer of calls to a message of one segment.
 fn answered(
     alloc: Global,
@@ -227,22 +96,6 @@ fn a_number_is_set_and_read(rt: HostRuntime) -> Result<(), Fail> {
     assert!(rt; words.get(..count) == Some([root, nine].as_slice()));
     assert!(rt; region == [0u8; 64]);
     Ok(())
-}
-
-/// How many words are written where all calls are done, and how many calls.
-fn all_done(answer: &MessageAnswer) -> Option<(usize, usize)> {
-    match answer {
-        MessageAnswer::Done { count, calls } => Some((*count, *calls)),
-        MessageAnswer::Written { count, replies } => {
-            for reply in replies {
-                let Reply::Done = reply else {
-                    return None;
-                };
-            }
-            Some((*count, replies.len()))
-        }
-        MessageAnswer::Refused(_) => None,
-    }
 }
 
 #[test]

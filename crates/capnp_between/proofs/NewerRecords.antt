@@ -31,7 +31,8 @@ use Rattle.capnp_versions.specs.TwoVersions.{TwoVersions, older, newer, newer_re
 use Rattle.capnp_versions.proofs.WholeValues.{fits-whole}
 use Rattle.capnp_versions.proofs.WrittenValues.{value-fits}
 use Rattle.capnp_between.specs.Newer.{is_admitted_between, MayRun, record_at, ReadsAsNewer}
-use Rattle.capnp_between.proofs.OpenedRoots.{opened_whole, opened_start, opened_record}
+use Rattle.capnp_model.proofs.TrimmedKinds.{start_opened_by, record_opened_by}
+use Rattle.capnp_between.proofs.OpenedRoots.{opened_whole}
 
 -- ---- what the laws say
 
@@ -111,7 +112,7 @@ module _ (root newer_root : StructSchema) (calls : List Call) (bounds : Bounds) 
       admitted = admitted_calls root newer_root (map call_view calls) may.admitted;
       whole_verbs = whole_calls calls given;
       whole = opened_whole (schema_around root) (id_of root) t whole;
-      start = opened_start (schema_around root) (id_of root) (nodes_around newer_root) (id_of newer_root) T t start;
+      start = start_opened_by (schema_around root) (id_of root) (nodes_around newer_root) (id_of newer_root) T t start;
     }
 
     newer_makes : (s : Segments) (segments : Segments) (rs : List Reply) → IsAnswerBy root T bounds s (written segments rs) → ReadsAsNewer newer_root T bounds s (written segments rs)
@@ -123,7 +124,7 @@ module _ (root newer_root : StructSchema) (calls : List Call) (bounds : Bounds) 
         let start : IsStart (nodes_around newer_root) (id_of newer_root) T t = record { accepted = newer_accepted; root = sym may.compatible.same_sort ∙ no_group; given = given; opens = had.opens; kinds = kinds } in
         let u : Tree = opened_root o (id_of root) t in
         let can = can_run t (fits-whole t (value-fits (limits_view bounds) s t found)) start in
-        let reads : record_at newer_root u ≡ record_at newer_root t = opened_record o (id_of root) n (id_of newer_root) t had.opens kinds.of_tree in
+        let reads : record_at newer_root u ≡ record_at newer_root t = record_opened_by o (id_of root) n (id_of newer_root) t had.opens kinds.of_tree in
         record {
           value = trim (edits o (id_of root) T u);
           means = h.means t found;

@@ -1,6 +1,6 @@
 //! The relay between two versions of a schema.
 ghost use Rattle.std.specs.Prelude.{◌≡◌, ◌+◌, ◌*◌, length, replicate, IfErr, OnOk};
-ghost use Rattle.capnp_calls.specs.Taken.{IsRoot};
+ghost use Rattle.capnp_calls.specs.Roots.{IsRoot};
 ghost use Rattle.capnp_relay.specs.Streams.{streams_of};
 ghost use Rattle.capnp_relay.specs.Run.{Relays};
 ghost use Rattle.capnp_relay.specs.Pauses.{RelaysPausing};

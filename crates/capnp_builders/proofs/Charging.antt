@@ -8,7 +8,7 @@ use Rattle.capnp_units.specs.declared.limiter.ReadLimiter.{ReadLimiter}
 use Rattle.capnp_units.specs.Limits.{limit_of}
 use Rattle.capnp_units.specs.Segments.{words_in}
 use Rattle.capnp_units.specs.Sizes.{size_number}
-use Rattle.capnp_wire.specs.declared.backing.Backing.{Backing}
+use Rattle.capnp_backing.specs.declared.backing.Backing.{Backing}
 use Rattle.capnp_wire.specs.Elements.{step_bits}
 use Rattle.capnp_wire.specs.Views.{backing_bytes, is_paid, Ground, ground_of, ListView}
 use Rattle.capnp_copy_from.specs.declared.lists.ListSource.{ListSource}

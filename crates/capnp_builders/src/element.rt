@@ -5,7 +5,7 @@ ghost use Rattle.capnp_model.specs.Sections.{bits_at};
 ghost use Rattle.capnp_wire.specs.Views.{bit_of_bool};
 
 use capnp_copy::bits::{bit_of, bits_of, number_in};
-use capnp_wire::element::PrimitiveElement;
+use capnp_elements::element::PrimitiveElement;
 
 /// What an element of a list is written as: a whole number, a truth value, or nothing.
 pub trait BuilderElement: PrimitiveElement {

@@ -11,7 +11,7 @@ use Rattle.capnp_queries.specs.Structs.{nodes_around, schema_around, id_of, IsRe
 use Rattle.capnp_queries.specs.Handles.{IsFieldRecord}
 use Rattle.capnp_queries.specs.declared.structs.StructSchema.{StructSchema}
 use Rattle.capnp_queries.proofs.Records.{struct_is}
-use Rattle.capnp_calls.specs.Taken.{IsRoot}
+use Rattle.capnp_calls.specs.Roots.{IsRoot}
 
 passed : (p : FieldNode → Bool) (fs : List FieldNode) (i : ℕ) (f : FieldNode) → list_all p fs ≡ true → slice_get fs i ≡ Some f → p f ≡ true
 passed p [] zero f h e = absurd (cc e)

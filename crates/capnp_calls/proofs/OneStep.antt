@@ -1,6 +1,6 @@
--- The reply to what is made of a part; fields that are no groups; pointers that need no more beside them.
-use Rattle.std.proofs.Common.{◌≡◌, ℕ, zero, suc, ◌≤◌, Option, refl, ap, arith}
-use Rattle.capnp_model.specs.Trees.{Tree, Trees, none, ◌▸◌, tree_count, padded_to}
+-- The reply to what is made of a part; fields that are no groups.
+use Rattle.std.proofs.Common.{◌≡◌, ℕ, Option, refl}
+use Rattle.capnp_model.specs.Trees.{Tree}
 use Rattle.capnp_model.specs.Schemas.{PlainType, Ty, Body, plain_slot, pointer_slot, void_slot, Schema}
 use Rattle.capnp_model.specs.Steps.{Outcome, refused, shown, done, outcome_map}
 use Rattle.capnp_model.specs.Answers.{reply_of}
@@ -16,8 +16,3 @@ pub data IsSlot : Body → Type 0 where
   is_void : (offset : ℕ) → IsSlot (void_slot offset)
   is_plain : (p : PlainType) (at d : ℕ) → IsSlot (plain_slot p at d)
   is_pointer : (i : ℕ) (ty : Ty) (d : Option Tree) → IsSlot (pointer_slot i ty d)
-
-pub padded_enough : (p : ℕ) (ts : Trees) → p ≤ tree_count ts → padded_to p ts ≡ ts
-padded_enough zero ts h = refl
-padded_enough (suc p) none h = absurd (omega arith)
-padded_enough (suc p) (t ▸ ts) h = ap (λ us. t ▸ us) (padded_enough p ts (omega arith))

@@ -1,19 +1,9 @@
 -- The default of a struct can be read.
-use Rattle.std.proofs.Common.{◌≡◌, ℕ, ◌*◌, ◌^◌, Bool, true, false, nat_lt, Option, Some, None, List, length, refl}
-use Rattle.std.specs.Prelude.{IsSome}
-use Rattle.capnp_model.specs.Trees.{Tree}
+use Rattle.std.proofs.Common.{◌≡◌, ℕ, true, Option, Some, None}
 use Rattle.capnp_model.specs.Schemas.{struct, Value, no_value, bits, text_bytes, blob_bytes, list_segment, struct_segment, untyped_value, interface_value}
-use Rattle.capnp_model.specs.Decoding.{decode}
-use Rattle.capnp_model.specs.Accepted.{is_default_of, opens_as, is_good_segment, is_good_value}
-use Rattle.capnp_model.proofs.KeptRules.{and_right}
+use Rattle.capnp_model.specs.Accepted.{is_default_of, opens_as, is_good_value}
+use Rattle.capnp_records.proofs.Segments.{segment_found}
 use Rattle.capnp_calls.specs.Slots.{HasGoodDefault, IsSegment}
-
-segment_found : (test : Tree → Bool) (bs : List ℕ) → is_good_segment test bs ≡ true → IsSome (decode bs)
-segment_found test bs h = by (decode bs) (and_right (nat_lt (length bs) (8 * 2 ^ 29)) (elim (decode bs) as (λ (o : Option Tree). Bool) [ None ↦ false | Some t ↦ test t ]) h)
-  where
-    by : (o : Option Tree) → (elim o as (λ (x : Option Tree). Bool) [ None ↦ false | Some t ↦ test t ]) ≡ true → IsSome o
-    by None k = absurd (cc k)
-    by (Some t) k = refl
 
 pub struct_default_found : (id : ℕ) (d : Option Value) → HasGoodDefault (struct id) d → IsSegment d
 struct_default_found id d h = by d h.is h.reads

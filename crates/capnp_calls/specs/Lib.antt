@@ -4,7 +4,7 @@ pub mod Texts
 pub mod Contents
 pub mod Slots
 pub mod Finding
-pub mod Taken
+pub mod Roots
 pub mod Replies
 pub mod Sizes
 pub mod LongLists

@@ -5,7 +5,7 @@ ghost use Rattle.capnp_queries.specs.declared.structs.StructSchema.{StructSchema
 ghost use Rattle.capnp_calls.specs.declared.call.Call.{Call};
 ghost use Rattle.capnp_calls.specs.CallViews.{call_view};
 ghost use Rattle.capnp_queries.specs.Structs.{schema_around, id_of};
-ghost use Rattle.capnp_calls.specs.Taken.{IsRoot};
+ghost use Rattle.capnp_calls.specs.Roots.{IsRoot};
 
 /// What calls set are values of their sorts.
 pub fn calls_are_given()

@@ -1,3 +1,4 @@
 //! Tests of `capnp_compatible`.
 
+mod schemas;
 mod tests;

@@ -34,3 +34,4 @@ pub mod Rowing
 pub mod StandingStructs
 pub mod FewFollowed
 pub mod Flat
+pub mod Limited

@@ -1,12 +1,12 @@
 -- Empty values that are put behind pointers.
-use Rattle.std.proofs.Common.{◌≡◌, ℕ, true, false, Option, Some, None, List, Result, Ok, Err, OnOk, refl, subst}
-use Rattle.std.specs.Prelude.{IfSome, IfErr, OnErr}
+use Rattle.std.proofs.Common.{◌≡◌, ℕ, true, false, Option, Some, None, List, Result, Ok, Err, OnOk, refl, sym, subst}
+use Rattle.std.specs.Prelude.{IfSome, IfNone, IfErr, OnErr}
 use Rattle.capnp_model.specs.Kinds.{InitnIsOnlyValidForListTextOrDataFields}
 use Rattle.capnp_model.specs.Segments.{Segments}
-use Rattle.capnp_model.specs.Trees.{Tree, struct_list, no_elements}
+use Rattle.capnp_model.specs.Trees.{Tree, null, struct_list, no_elements}
 use Rattle.capnp_model.specs.Coverage.{Grows}
 use Rattle.capnp_model.specs.Schemas.{Ty, void, plain, text, blob, untyped, interface, struct, list, Schema}
-use Rattle.capnp_model.specs.Calls.{object, initn_content}
+use Rattle.capnp_model.specs.Calls.{refused_by, object, initn_content}
 use Rattle.capnp_model.specs.Groups.{empty_tree}
 use Rattle.capnp_units.specs.Segments.{words_in}
 use Rattle.capnp_units.specs.declared.errors.Error.{Error}
@@ -15,6 +15,10 @@ use Rattle.capnp_footprints.proofs.Spans.{grows_same}
 use Rattle.capnp_wire.specs.Places.{place_view}
 use Rattle.capnp_builders.specs.Making.{ArenaState, Makes, BytesNotSet}
 use Rattle.capnp_object.specs.declared.place.Place as code
+use Rattle.capnp_queries.specs.Types.{ty_of_variant}
+use Rattle.capnp_records.specs.declared.raw.RawBrandedStructSchema.{RawBrandedStructSchema}
+use Rattle.capnp_queries.specs.declared.introspect.TypeVariant.{TypeVariant}
+use Rattle.capnp_queries.specs.declared.introspect.TypeVariant.TheVariants as V
 use Rattle.capnp_dynamic.specs.NewLists.{tree_of_new, content_of_list, ObjectNotMade}
 use Rattle.capnp_dynamic.specs.declared.initn.NewList.{NewList}
 use Rattle.capnp_dynamic.specs.Sources.{Stands}
@@ -63,6 +67,33 @@ other_empty s (list (list ty)) l h e = object_same _ _ e
 pub some_empty : (s : Schema) (ty : Ty) → is_struct_list ty ≡ false → (o : Option NewList) → ((n : ℕ) → content_of_list o n ≡ initn_content s n ty InitnIsOnlyValidForListTextOrDataFields) → IfSome o (λ l. tree_of_new l 0 ≡ empty_tree s ty)
 some_empty s ty h None e = tt
 some_empty s ty h (Some l) e = other_empty s ty l h (e 0)
+
+pub no_list : (s : Schema) (ty : Ty) (o : Option NewList) → ((n : ℕ) → content_of_list o n ≡ initn_content s n ty InitnIsOnlyValidForListTextOrDataFields) → IfNone o (refused_by InitnIsOnlyValidForListTextOrDataFields ≡ initn_content s 0 ty InitnIsOnlyValidForListTextOrDataFields)
+no_list s ty None e = e 0
+no_list s ty (Some l) e = tt
+
+-- a type that is no struct's, and has no empty list either, has no empty value
+by_variant : (s : Schema) (v : TypeVariant) → ((x : RawBrandedStructSchema) → v ≡ V.Struct x → ⊥) → refused_by InitnIsOnlyValidForListTextOrDataFields ≡ initn_content s 0 (ty_of_variant v) InitnIsOnlyValidForListTextOrDataFields → empty_tree s (ty_of_variant v) ≡ null
+by_variant s V.Void not e = refl
+by_variant s V.Bool not e = refl
+by_variant s V.Int8 not e = refl
+by_variant s V.Int16 not e = refl
+by_variant s V.Int32 not e = refl
+by_variant s V.Int64 not e = refl
+by_variant s V.UInt8 not e = refl
+by_variant s V.UInt16 not e = refl
+by_variant s V.UInt32 not e = refl
+by_variant s V.UInt64 not e = refl
+by_variant s V.Text not e = absurd (cc e)
+by_variant s V.Data not e = absurd (cc e)
+by_variant s (V.Struct x) not e = absurd (not x refl)
+by_variant s V.AnyPointer not e = refl
+by_variant s V.Capability not e = refl
+by_variant s (V.Enum x) not e = refl
+by_variant s (V.List t) not e = absurd (cc e)
+
+pub no_empty : (s : Schema) (ty : Ty) (v : TypeVariant) → ty_of_variant v ≡ ty → ((x : RawBrandedStructSchema) → v ≡ V.Struct x → ⊥) → refused_by InitnIsOnlyValidForListTextOrDataFields ≡ initn_content s 0 ty InitnIsOnlyValidForListTextOrDataFields → empty_tree s ty ≡ null
+no_empty s ty v is not e = subst (λ y. empty_tree s y ≡ null) is (by_variant s v not (subst (λ y. refused_by InitnIsOnlyValidForListTextOrDataFields ≡ initn_content s 0 y InitnIsOnlyValidForListTextOrDataFields) (sym is) e))
 
 -- ---- where it is put
 

@@ -1,5 +1,5 @@
 -- Why a group isn't set to a struct.
-use Rattle.std.proofs.Common.{◌≡◌, ◌⊎◌, ℕ, zero, suc, Bool, true, false, if◌then◌else◌, List, Option, Some, None, Result, Ok, Err, IfErr, inl, inr, refl, sym, ap, subst, ◌∙◌}
+use Rattle.std.proofs.Common.{◌≡◌, ℕ, zero, suc, Bool, true, false, if◌then◌else◌, List, Option, Some, None, Result, Ok, Err, IfErr, inl, inr, refl, sym, ap, subst, ◌∙◌}
 use Rattle.std.specs.Prelude.{⊤, MatchOption, option_map}
 use Rattle.capnp_model.specs.Kinds.{NestingLimitExceeded}
 use Rattle.capnp_model.specs.Segments.{Segments, Place, after}
@@ -20,21 +20,21 @@ use Rattle.capnp_queries.specs.Handles.{entry_of}
 use Rattle.capnp_queries.specs.declared.structs.StructSchema.{StructSchema}
 use Rattle.capnp_queries.specs.declared.fields.Field.{Field}
 use Rattle.capnp_values.specs.Shown.{opened, default_opened, slot_opened, slot_shown, kind_shown, ShowsField}
-use Rattle.capnp_dynamic.specs.GroupRefusals.{CopyRefused, ChildRefused, SomeRefused, NullRefused, PointerRefused, FieldsRefused, BodyRefused, EntryRefused, FieldRefused}
+use Rattle.capnp_dynamic.specs.GroupRefusals.{CopyRefused, ChildRefused, SomeRefused, NullBodyRefused, NullEntryRefused, PointerRefused, FieldsRefused, BodyRefused, EntryRefused, FieldRefused}
 use Rattle.capnp_dynamic.proofs.GroupFields.{body_is}
 
 -- ---- copies
 
-pub copy_refused : (levels : ℕ) (f s u : Segments) (q p : Place) (old new : ReadLimiter) (r : Result ⊤ Error) → left_of old ≡ None → CopiesValue levels f q s u p old r new → IfErr r (CopyRefused levels f q)
+pub copy_refused : (levels : ℕ) (f s u : Segments) (q p : Place) (old new : ReadLimiter) (r : Result ⊤ Error) → left_of old ≡ None → CopiesValue levels f q s u p old r new → IfErr r (CopyRefused levels f q u)
 copy_refused levels f s u q p old new (Ok x) none h = tt
-copy_refused levels f s u q p old new (Err e) none h = record { old = old; new = new; unlimited = none; words = u; why = h.why }
+copy_refused levels f s u q p old new (Err e) none h = record { old = old; new = new; unlimited = none; why = h.why }
 
-pub child_refused : (v : StructView) (i levels : ℕ) → v.levels ≡ Some levels → (r : Result ⊤ Error) → IfErr r (CopyRefused levels v.basis.segments (after v.first i)) → IfErr r (ChildRefused v i)
-child_refused v i levels l (Ok x) h = tt
-child_refused v i levels l (Err e) h = subst (λ o. MatchOption o (kind_of e.kind ≡ NestingLimitExceeded) (λ n. CopyRefused n v.basis.segments (after v.first i) e)) (sym l) h
+pub child_refused : (v : StructView) (i levels : ℕ) (u : Segments) → v.levels ≡ Some levels → (r : Result ⊤ Error) → IfErr r (CopyRefused levels v.basis.segments (after v.first i) u) → IfErr r (ChildRefused v i u)
+child_refused v i levels u l (Ok x) h = tt
+child_refused v i levels u l (Err e) h = subst (λ o. MatchOption o (kind_of e.kind ≡ NestingLimitExceeded) (λ n. CopyRefused n v.basis.segments (after v.first i) u e)) (sym l) h
 
-pub child_without : (v : StructView) (i : ℕ) (e : Error) → v.levels ≡ None → kind_of e.kind ≡ NestingLimitExceeded → ChildRefused v i e
-child_without v i e l h = subst (λ o. MatchOption o (kind_of e.kind ≡ NestingLimitExceeded) (λ n. CopyRefused n v.basis.segments (after v.first i) e)) (sym l) h
+pub child_without : (v : StructView) (i : ℕ) (u : Segments) (e : Error) → v.levels ≡ None → kind_of e.kind ≡ NestingLimitExceeded → ChildRefused v i u e
+child_without v i u e l h = subst (λ o. MatchOption o (kind_of e.kind ≡ NestingLimitExceeded) (λ n. CopyRefused n v.basis.segments (after v.first i) u e)) (sym l) h
 
 -- ---- what a pointer that isn't null is read as
 
@@ -72,45 +72,46 @@ read_refused bytes f v i t x body some e h = sym (kind_read (schema_around f.par
 same_some : {A : Type 0} {x y : A} → ◌≡◌ {A = Option A} (Some x) (Some y) → x ≡ y
 same_some h = cc h
 
-pointer_body : (s : Schema) (v : StructView) (i : ℕ) (ty : Ty) (d : Option Tree) (b : Bool) (e : Error) → is_null (pointer_field v i) ≡ b → PointerRefused b s v i ty e → BodyRefused s (pointer_slot i ty d) v e
+pointer_body : (s : Schema) (v : StructView) (i : ℕ) (ty : Ty) (d : Option Tree) (b : Bool) (u : Segments) (e : Error) → is_null (pointer_field v i) ≡ b → PointerRefused b s v i ty d u e → BodyRefused s (pointer_slot i ty d) v u e
 unfolding FieldsRefused
-pointer_body s v i ty d b e is h = subst (λ (y : Bool). PointerRefused y s v i ty e) (sym is) h
+pointer_body s v i ty d b u e is h = subst (λ (y : Bool). PointerRefused y s v i ty d u e) (sym is) h
 
-pointer_refused : (s : Schema) (v : StructView) (o : Option Entry) (i : ℕ) (ty : Ty) (d : Option Tree) (b : Bool) → option_map (λ e. e.body) o ≡ Some (pointer_slot i ty d) → is_null (pointer_field v i) ≡ b → (r : Result ⊤ Error) → IfErr r (PointerRefused b s v i ty) → IfErr r (EntryRefused s o v)
-pointer_refused s v None i ty d b body is r h = absurd (cc body)
-pointer_refused s v (Some x) i ty d b body is (Ok y) h = tt
-pointer_refused s v (Some x) i ty d b body is (Err e) h = subst (λ (y : Body). BodyRefused s y v e) (sym (same_some body)) (pointer_body s v i ty d b e is h)
+pub null_refused : (s : Schema) (v : StructView) (u : Segments) (o : Option Entry) (i : ℕ) (ty : Ty) (d : Option Tree) → option_map (λ e. e.body) o ≡ Some (pointer_slot i ty d) → is_null (pointer_field v i) ≡ true → (r : Result ⊤ Error) → IfErr r (NullEntryRefused s o u) → IfErr r (EntryRefused s o v u)
+null_refused s v u None i ty d body is r h = absurd (cc body)
+null_refused s v u (Some x) i ty d body is (Ok y) h = tt
+null_refused s v u (Some x) i ty d body is (Err e) h =
+    let same = same_some body in
+    subst (λ (y : Body). BodyRefused s y v u e) (sym same) (pointer_body s v i ty d true u e is (subst (λ (y : Body). NullBodyRefused s y u e) same h))
 
-pub null_refused : (s : Schema) (v : StructView) (o : Option Entry) (i : ℕ) (ty : Ty) (d : Option Tree) → option_map (λ e. e.body) o ≡ Some (pointer_slot i ty d) → is_null (pointer_field v i) ≡ true → (r : Result ⊤ Error) → IfErr r (NullRefused ty) → IfErr r (EntryRefused s o v)
-null_refused s v o i ty d body is r h = pointer_refused s v o i ty d true body is r h
+pub some_refused : (s : Schema) (v : StructView) (u : Segments) (o : Option Entry) (i : ℕ) (ty : Ty) (d : Option Tree) → option_map (λ e. e.body) o ≡ Some (pointer_slot i ty d) → is_null (pointer_field v i) ≡ false → (r : Result ⊤ Error) → IfErr r (SomeRefused s v i ty u) → IfErr r (EntryRefused s o v u)
+some_refused s v u None i ty d body is r h = absurd (cc body)
+some_refused s v u (Some x) i ty d body is (Ok y) h = tt
+some_refused s v u (Some x) i ty d body is (Err e) h = subst (λ (y : Body). BodyRefused s y v u e) (sym (same_some body)) (pointer_body s v i ty d false u e is h)
 
-pub some_refused : (s : Schema) (v : StructView) (o : Option Entry) (i : ℕ) (ty : Ty) (d : Option Tree) → option_map (λ e. e.body) o ≡ Some (pointer_slot i ty d) → is_null (pointer_field v i) ≡ false → (r : Result ⊤ Error) → IfErr r (SomeRefused s v i ty) → IfErr r (EntryRefused s o v)
-some_refused s v o i ty d body is r h = pointer_refused s v o i ty d false body is r h
-
-group_body : (s : Schema) (g : Shape) (v : StructView) (e : Error) → FieldsRefused s (fields_in g) v e → BodyRefused s (group_slot g) v e
+group_body : (s : Schema) (g : Shape) (v : StructView) (u : Segments) (e : Error) → FieldsRefused s (fields_in g) v u e → BodyRefused s (group_slot g) v u e
 unfolding FieldsRefused
-group_body s (shape nid w p u fs) v e h = h
+group_body s (shape nid w p un fs) v u e h = h
 
-group_entry : (s : Schema) (g : Shape) (v : StructView) (o : Option Entry) → option_map (λ e. e.body) o ≡ Some (group_slot g) → (r : Result ⊤ Error) → IfErr r (FieldsRefused s (fields_in g) v) → IfErr r (EntryRefused s o v)
-group_entry s g v None body r h = absurd (cc body)
-group_entry s g v (Some x) body (Ok y) h = tt
-group_entry s g v (Some x) body (Err e) h = subst (λ (y : Body). BodyRefused s y v e) (sym (same_some body)) (group_body s g v e h)
+group_entry : (s : Schema) (g : Shape) (v : StructView) (u : Segments) (o : Option Entry) → option_map (λ e. e.body) o ≡ Some (group_slot g) → (r : Result ⊤ Error) → IfErr r (FieldsRefused s (fields_in g) v u) → IfErr r (EntryRefused s o v u)
+group_entry s g v u None body r h = absurd (cc body)
+group_entry s g v u (Some x) body (Ok y) h = tt
+group_entry s g v u (Some x) body (Err e) h = subst (λ (y : Body). BodyRefused s y v u e) (sym (same_some body)) (group_body s g v u e h)
 
-pub group_isnt_set : (f : Field) (g : StructSchema) (v : StructView) → option_map (λ e. e.body) (entry_of f) ≡ Some (group_slot (shape_of_struct g)) → nodes_around g ≡ nodes_around f.parent → (r : Result ⊤ Error) → IfErr r (FieldsRefused (schema_around g) (fields_of_struct g) v) → IfErr r (FieldRefused f v)
-group_isnt_set f g v body nodes r h = group_entry (schema_around f.parent) (shape_of_struct g) v (entry_of f) body r (subst (λ ns. IfErr r (FieldsRefused (schema_of ns) (fields_of_struct g) v)) nodes h)
+pub group_isnt_set : (f : Field) (g : StructSchema) (v : StructView) (u : Segments) → option_map (λ e. e.body) (entry_of f) ≡ Some (group_slot (shape_of_struct g)) → nodes_around g ≡ nodes_around f.parent → (r : Result ⊤ Error) → IfErr r (FieldsRefused (schema_around g) (fields_of_struct g) v u) → IfErr r (FieldRefused f v u)
+group_isnt_set f g v u body nodes r h = group_entry (schema_around f.parent) (shape_of_struct g) v u (entry_of f) body r (subst (λ ns. IfErr r (FieldsRefused (schema_of ns) (fields_of_struct g) v u)) nodes h)
 
 -- ---- one of the fields
 
-at_field : (s : Schema) (fs : Fields) (i : ℕ) (x : Entry) (v : StructView) (e : Error) → field_at fs i ≡ Some x → BodyRefused s x.body v e → FieldsRefused s fs v e
+at_field : (s : Schema) (fs : Fields) (i : ℕ) (x : Entry) (v : StructView) (u : Segments) (e : Error) → field_at fs i ≡ Some x → BodyRefused s x.body v u e → FieldsRefused s fs v u e
 unfolding FieldsRefused
-at_field s no_fields zero x v e h k = absurd (cc h)
-at_field s no_fields (suc i) x v e h k = absurd (cc h)
-at_field s (field n m b fs) zero x v e h k = inl (subst (λ (y : Entry). BodyRefused s y.body v e) (sym (same_some h)) k)
-at_field s (field n m b fs) (suc i) x v e h k = inr (at_field s fs i x v e h k)
+at_field s no_fields zero x v u e h k = absurd (cc h)
+at_field s no_fields (suc i) x v u e h k = absurd (cc h)
+at_field s (field n m b fs) zero x v u e h k = inl (subst (λ (y : Entry). BodyRefused s y.body v u e) (sym (same_some h)) k)
+at_field s (field n m b fs) (suc i) x v u e h k = inr (at_field s fs i x v u e h k)
 
-by_entry : (s : Schema) (fs : Fields) (i : ℕ) (o : Option Entry) (v : StructView) (e : Error) → field_at fs i ≡ o → EntryRefused s o v e → FieldsRefused s fs v e
-by_entry s fs i None v e h k = absurd k
-by_entry s fs i (Some x) v e h k = at_field s fs i x v e h k
+by_entry : (s : Schema) (fs : Fields) (i : ℕ) (o : Option Entry) (v : StructView) (u : Segments) (e : Error) → field_at fs i ≡ o → EntryRefused s o v u e → FieldsRefused s fs v u e
+by_entry s fs i None v u e h k = absurd k
+by_entry s fs i (Some x) v u e h k = at_field s fs i x v u e h k
 
-pub one_refused : (g : StructSchema) (f : Field) → f.parent ≡ g → (v : StructView) (e : Error) → FieldRefused f v e → FieldsRefused (schema_around g) (fields_of_struct g) v e
-one_refused g f parent v e h = subst (λ (y : StructSchema). FieldsRefused (schema_around y) (fields_of_struct y) v e) parent (by_entry (schema_around f.parent) (fields_of_struct f.parent) f.index (entry_of f) v e refl h)
+pub one_refused : (g : StructSchema) (f : Field) → f.parent ≡ g → (v : StructView) (u : Segments) (e : Error) → FieldRefused f v u e → FieldsRefused (schema_around g) (fields_of_struct g) v u e
+one_refused g f parent v u e h = subst (λ (y : StructSchema). FieldsRefused (schema_around y) (fields_of_struct y) v u e) parent (by_entry (schema_around f.parent) (fields_of_struct f.parent) f.index (entry_of f) v u e refl h)

@@ -2,12 +2,12 @@
 use Rattle.std.proofs.Common.{◌≡◌, ℕ, zero, suc, Bool, true, false, List, [], ◌∷◌, ◌++◌, Option, Some, None, refl, sym, ap, ◌∙◌}
 use Rattle.std.proofs.lemmas.List.{append_assoc, append-nil}
 use Rattle.capnp_model.specs.Trees.{Tree, null, capability, structure, plain_list, pointer_list, struct_list, child}
-use Rattle.capnp_model.specs.Schemas.{width, PlainType, Ty, Shape, shape, Fields, no_fields, field, void_slot, plain_slot, pointer_slot, group_slot, Schema, default_or_null}
+use Rattle.capnp_model.specs.Schemas.{width, PlainType, Ty, Shape, shape, Fields, no_fields, field, Body, void_slot, plain_slot, pointer_slot, group_slot, Schema, default_or_null}
 use Rattle.capnp_model.specs.Readings.{discriminant, field_bits, whole_words}
 use Rattle.capnp_model.specs.Groups.{source_tree}
 use Rattle.capnp_model.specs.Edits.{Cell, Edit, mark, put_bits, put_child, cleared, has_turn, pointer_writes, group_writes, field_writes, body_writes}
-use Rattle.capnp_queries.specs.Fields.{field_at, field_count}
-use Rattle.capnp_dynamic.specs.GroupSets.{writes_if, turn_writes, copied_group}
+use Rattle.capnp_queries.specs.Fields.{Entry, field_at, field_count}
+use Rattle.capnp_dynamic.specs.GroupSets.{writes_if, entry_writes, turn_writes, copied_group}
 
 -- the writes of the first i fields
 unfoldable pub front_writes : Schema → Bool → ℕ → Fields → Option ℕ → Cell → List Edit
@@ -140,3 +140,9 @@ module _ (s : Schema) (before : Edit) (from : Cell) (i : ℕ) (ty : Ty) (d : Opt
 
   pub member_written : (m : ℕ) → child from.kids i ≡ null → (λ c. put_child i (source_tree s ty (default_or_null d) null) (before c)) ∷ [] ≡ body_writes s (pointer_slot i ty d) (Some m) before from
   member_written m h = ap (λ t. pointer_writes s (Some m) i ty (default_or_null d) before t) (sym h) ∙ pointer_written s (Some m) before from i ty d
+
+-- ---- a field that is a group
+
+pub group_writes_are : (s : Schema) (union : Option ℕ) (e : Entry) (g : Shape) → e.body ≡ group_slot g → (from : Cell) → entry_writes s union (Some e) from ≡ group_writes s g (mark union e.member) from
+unfolding group_writes
+group_writes_are s union e g body from = ap (λ (b : Body). body_writes s b e.member (mark union e.member) from) body

@@ -1,5 +1,5 @@
 -- Worked groups that are set to structs.
-use Rattle.std.proofs.Common.{◌≡◌, ℕ, ◌+◌, ◌*◌, ◌^◌, List, [], ◌∷◌, Option, Some, None, refl}
+use Rattle.std.proofs.Common.{◌≡◌, ◌+◌, ◌*◌, ◌^◌, List, [], ◌∷◌, Some, None, refl}
 use Rattle.capnp_model.specs.Trees.{null, none, ◌▸◌}
 use Rattle.capnp_model.specs.Calls.{text_tree}
 use Rattle.capnp_model.specs.Schemas.{uint, text, Shape, shape, no_fields, field, plain_slot, pointer_slot, group_slot, Schema}

@@ -23,4 +23,5 @@ pub mod SourceReadings
 pub mod EmptyValues
 pub mod NullMembers
 pub mod FieldRefusals
+pub mod NullRefusals
 mod GroupExamples

@@ -1,5 +1,5 @@
 -- What null pointers of active members count as.
-use Rattle.std.proofs.Common.{◌≡◌, ℕ, zero, suc, ◌*◌, ◌/◌, ◌^◌, ◌==◌, nat_lt, Bool, true, false, not, unwrap_or, List, [], ◌∷◌, ◌++◌, length, take, drop, slice_get, Option, Some, None, Result, OnOk, OnErr, Ok, Err, Vec, Global, refl, sym, ap, subst, ◌∙◌, arith, Bor}
+use Rattle.std.proofs.Common.{◌≡◌, ℕ, zero, suc, ◌*◌, ◌/◌, ◌^◌, ◌==◌, nat_lt, Bool, true, false, not, unwrap_or, List, [], ◌∷◌, ◌++◌, length, take, drop, slice_get, Option, Some, None, Ok, Vec, Global, refl, sym, ap, subst, ◌∙◌, arith, Bor}
 use Rattle.std.specs.Prelude.{option_map, option_copied, IsSome}
 use Rattle.std.specs.List.{flat_map, list_all}
 use Rattle.std.specs.Option.{ok_or}
@@ -25,6 +25,7 @@ use Rattle.capnp_model.proofs.ByteWords.{bytes_length}
 use Rattle.capnp_units.specs.Segments.{words_in}
 use Rattle.capnp_footprints.proofs.Zeros.{null_read}
 use Rattle.capnp_footprints.proofs.Nulls.{null_word}
+use Rattle.capnp_records.proofs.Segments.{segment_found}
 use Rattle.capnp_records.specs.NodeViews.{value_of}
 use Rattle.capnp_records.specs.Sets.{struct_in}
 use Rattle.capnp_records.specs.declared.node.Value.{Value as Said}
@@ -35,7 +36,7 @@ use Rattle.capnp_queries.specs.Handles.{entry_of, IsFieldRecord}
 use Rattle.capnp_queries.specs.declared.fields.Field.{Field}
 use Rattle.capnp_values.specs.Shown.{default_said}
 use Rattle.capnp_values.proofs.GoodDefaults.{defaults_kept}
-use Rattle.capnp_dynamic.specs.GroupSets.{PutsAny, null_tree, HoldsDefault, IsReadable, IsDefault}
+use Rattle.capnp_dynamic.specs.GroupSets.{HoldsDefault, IsReadable, IsDefault}
 use Rattle.capnp_dynamic.proofs.GroupFields.{body_is}
 
 -- ---- null or not
@@ -131,23 +132,19 @@ some_stands s ty (plain_list size n x) h = refl
 some_stands s ty (pointer_list ts) h = refl
 some_stands s ty (struct_list w p es) h = refl
 
-module _ {X E : Type 0} (x : Result X E) (s u : Segments) (p : Place) (around : Schema) (ty : Ty) where
-  -- the same default, said in another way
-  pub null_same : (v w : Option Value) → v ≡ w → OnOk x (PutsAny s u p (null_tree around ty w)) → OnOk x (PutsAny s u p (null_tree around ty v))
-  null_same v w e h = subst (λ y. OnOk x (PutsAny s u p (null_tree around ty y))) (sym e) h
-
+module _ (around : Schema) (ty : Ty) where
   -- the empty value stands for null, where the default is null
-  pub empty_stands : (d : Tree) → d ≡ null → OnOk x (PutsAny s u p (empty_tree around ty)) → OnOk x (PutsAny s u p (source_tree around ty d null))
-  empty_stands d e h = subst (λ y. OnOk x (PutsAny s u p (source_tree around ty y null))) (sym e) h
+  pub empty_stands : (d : Tree) → d ≡ null → empty_tree around ty ≡ source_tree around ty d null
+  empty_stands d e = ap (λ y. source_tree around ty y null) (sym e)
 
   -- words whose root is null, and words whose root isn't
-  pub null_root : (d : Tree) (ws : List (List ℕ)) → HoldsDefault ws d → is_null_at (default_segments ws) root ≡ true → OnOk x (PutsAny s u p (empty_tree around ty)) → OnOk x (PutsAny s u p (source_tree around ty d null))
-  null_root d ws holds e h = empty_stands d (null_value 64 (default_segments ws) root d holds e) h
+  pub null_root : (d : Tree) (ws : List (List ℕ)) → HoldsDefault ws d → is_null_at (default_segments ws) root ≡ true → empty_tree around ty ≡ source_tree around ty d null
+  null_root d ws holds e = empty_stands d (null_value 64 (default_segments ws) root d holds e)
 
-  pub some_root : (d : Tree) (ws : List (List ℕ)) → HoldsDefault ws d → is_null_at (default_segments ws) root ≡ false → OnOk x (PutsAny s u p d) → OnOk x (PutsAny s u p (source_tree around ty d null))
-  some_root d ws holds e h =
+  pub some_root : (d : Tree) (ws : List (List ℕ)) → HoldsDefault ws d → is_null_at (default_segments ws) root ≡ false → d ≡ source_tree around ty d null
+  some_root d ws holds e =
       let some : d ≡ null → ⊥ = λ z. (let no : true ≡ false = sym (null_at 64 (default_segments ws) root (holds ∙ ap (λ (t : Tree). Some t) z)) ∙ e in cc) in
-      subst (λ t. OnOk x (PutsAny s u p t)) (some_stands around ty d some) h
+      some_stands around ty d some
 
 -- ---- the default that a node says is the field's, and can be read
 
@@ -174,13 +171,6 @@ passes test nodes id i f h e = by (find_node nodes id) i refl e
     by None zero k g = absurd cc
     by None (suc j) k g = absurd cc
     by (Some n) j k g = kind_passes test n.kind j f (found_passes (λ m. list_all test (fields_of_kind m.kind)) nodes id n h k) g
-
-segment_found : (test : Tree → Bool) (bs : List ℕ) → is_good_segment test bs ≡ true → IsSome (decode bs)
-segment_found test bs h = by (decode bs) (and_right (nat_lt (length bs) (8 * 2 ^ 29)) (elim (decode bs) as (λ (o : Option Tree). Bool) [ None ↦ false | Some t ↦ test t ]) h)
-  where
-    by : (o : Option Tree) → (elim o as (λ (x : Option Tree). Bool) [ None ↦ false | Some t ↦ test t ]) ≡ true → IsSome o
-    by None k = absurd (cc k)
-    by (Some t) k = refl
 
 readable : (test : Tree → Bool) (d : Option Value) → is_good_value test d ≡ true → IsReadable d
 readable test None h = tt

@@ -49,13 +49,6 @@ module _ {A : Type 0} (bytes : A → List (List ℕ)) where
     pub schema : new.schema ≡ old.schema
     pub bytes_stay : bytes new.memory.now.arena ≡ bytes old.memory.now.arena
 
-  -- The handle is as it was, and all words of the message stand; new ones are zero.
-  pub record KeepsWords (old new : Builder A) : Type 0 where
-    pub same : new.memory.ghost_name ≡ old.memory.ghost_name
-    pub place : new.place ≡ old.place
-    pub schema : new.schema ≡ old.schema
-    pub stands : GrowsByZeros (words_around old) (words_around new)
-
   -- The struct as readers see it, under the arena's nesting limit.
   abbrev pub struct_of : (A → ℤ) → Builder A → StructView
   struct_of nesting b = struct_at (bytes b.memory.now.arena) (nesting b.memory.now.arena) (place_view b.place.start) b.place.data_words b.place.pointers

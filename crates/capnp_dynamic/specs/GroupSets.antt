@@ -1,5 +1,5 @@
 -- Groups that are set to structs. (Encoding, "Structs")
-use Rattle.std.specs.Prelude.{◌≡◌, ⊤, ℕ, ◌+◌, ◌*◌, Bool, true, false, List, [], ◌∷◌, ◌++◌, Option, Some, None, option_map, IsSome, Result, Ok, Err}
+use Rattle.std.specs.Prelude.{◌≡◌, ⊤, ℕ, ◌+◌, ◌*◌, Bool, true, false, List, [], ◌++◌, Option, Some, None, option_map, IsSome, Result, Ok, Err, OnOk, IfErr}
 use Rattle.capnp_model.specs.Segments.{Segments, Place, root}
 use Rattle.capnp_model.specs.Trees.{Tree, null, child, Trees, structure}
 use Rattle.capnp_model.specs.Traversal.{tree_at}
@@ -10,7 +10,10 @@ use Rattle.capnp_model.specs.Printing.{fields_in}
 use Rattle.capnp_model.specs.Readings.{discriminant, whole_words}
 use Rattle.capnp_model.specs.Groups.{source_tree}
 use Rattle.capnp_model.specs.Edits.{Cell, Edit, mark, has_turn, field_writes, body_writes, after_writes}
+use Rattle.capnp_units.specs.Segments.{words_in}
 use Rattle.capnp_units.specs.declared.errors.Error.{Error}
+use Rattle.capnp_object.specs.Places.{place_view}
+use Rattle.capnp_object.specs.declared.place.Place as code
 use Rattle.capnp_footprints.specs.Footprints.{Owns, OwnsObject}
 use Rattle.capnp_footprints.specs.Changes.{Replaces, ReplacesObject}
 use Rattle.capnp_wire.specs.Views.{StructView, pointer_field}
@@ -22,6 +25,9 @@ use Rattle.capnp_queries.specs.Fields.{Entry, union_in}
 use Rattle.capnp_queries.specs.Structs.{schema_around, shape_of_struct}
 use Rattle.capnp_queries.specs.Handles.{entry_of}
 use Rattle.capnp_queries.specs.declared.fields.Field.{Field}
+use Rattle.capnp_builders.specs.Making.{ArenaState}
+use Rattle.capnp_dynamic.specs.GroupRefusals.{NotPut, FieldRefused}
+use Rattle.capnp_dynamic.specs.Sources.{Stands}
 
 -- A struct that is read has these data, in whole words, and these children, where they can be read.
 pub record IsSource (v : StructView) (from : Cell) : Type 0 where
@@ -81,6 +87,11 @@ copied_fields s members g from = field_writes s members (fields_in g) (union_in 
 abbrev pub copied_group : Schema → Shape → Cell → List Edit
 copied_group s g from = copied_fields s true g from ++ copied_fields s false g from
 
+-- A field that is a group is set to the fields of a struct that is read: the model's writes of the group (`group_writes`) are done, or a beginning of them, and then one of the fields isn't set.
+pub record SetsFields (v : StructView) (s u : Segments) (p : StructPlace) (f : Field) (r : Result ⊤ Error) : Type 0 where
+  pub writes : (from : Cell) → IsSource v from → WritesAsFar s u p (copied_field f from) r
+  pub why : IfErr r (FieldRefused f v u)
+
 -- ---- pointers
 
 -- The field is the slot of the pointer of an index, of a type.
@@ -103,6 +114,13 @@ IsReadable _ = Unit {0}
 pub record IsDefault (d : Option Tree) (said : Option Value) : Type 0 where
   pub readable : IsReadable said
   pub value : default_tree said ≡ d
+
+-- A value is put in place of that of the pointer at a place, whatever this was; where it isn't, all words stand, and new ones are zero.
+pub record PutsValue (old new : ArenaState) (slot : code.Place) (t : Tree) (r : Result ⊤ Error) : Type 0 where
+  pub puts : OnOk r (PutsAny (words_in old.segments) (words_in new.segments) (place_view slot) t)
+  pub stands : Stands (words_in old.segments) (words_in new.segments) r
+  pub why : IfErr r (NotPut old new slot.segment t)
+  pub books : new.books ≡ old.books
 
 -- The words of a default hold this value, at most 64 levels deep.
 abbrev pub HoldsDefault : List (List ℕ) → Tree → Type 0

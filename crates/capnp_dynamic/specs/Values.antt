@@ -1,11 +1,11 @@
 -- What `set` puts into a slot for any value. (Encoding, "Structs", "Lists", "Blobs")
-use Rattle.std.specs.Prelude.{◌≡◌, ⊤, ℕ, ◌==◌, if◌then◌else◌, Bool, true, false, ◌&&◌, List, Option, Some, None, Result, IfErr, OnErr}
+use Rattle.std.specs.Prelude.{◌≡◌, ⊤, ℕ, ◌==◌, if◌then◌else◌, Bool, true, false, ◌&&◌, List, Option, Some, None, Result, OnErr}
 use Rattle.capnp_model.specs.Kinds.{Kind, TypeMismatch, NotAStruct, SettingDynamicCapabilitiesIsUnsupported}
 use Rattle.capnp_model.specs.Schemas.{Body, void_slot, plain_slot, pointer_slot, group_slot}
 use Rattle.capnp_model.specs.Trees.{Tree}
 use Rattle.capnp_model.specs.Calls.{Content, refused_by, object}
 use Rattle.capnp_model.specs.Coverage.{Grows}
-use Rattle.capnp_model.specs.Edits.{Cell, Edit, mark, put_content}
+use Rattle.capnp_model.specs.Edits.{Edit, mark, put_content}
 use Rattle.capnp_model.specs.Segments.{Segments}
 use Rattle.capnp_units.specs.Segments.{words_in}
 use Rattle.capnp_units.specs.declared.errors.Error.{Error}
@@ -22,8 +22,7 @@ use Rattle.capnp_values.specs.declared.dynamic_value.Reader.{Reader}
 use Rattle.capnp_values.specs.declared.dynamic_value.Reader.TheVariants as value
 use Rattle.capnp_dynamic.specs.Begun.{is_untyped}
 use Rattle.capnp_dynamic.specs.Given.{flat_content}
-use Rattle.capnp_dynamic.specs.GroupSets.{IsSource, WritesAsFar, copied_field}
-use Rattle.capnp_dynamic.specs.GroupRefusals.{FieldRefused}
+use Rattle.capnp_dynamic.specs.GroupSets.{SetsFields}
 use Rattle.capnp_dynamic.specs.Puts.{PutsContent}
 use Rattle.capnp_dynamic.specs.Sources.{SourceView, source_given, PutsSource, EditsWithin}
 
@@ -144,7 +143,7 @@ PutsGiven old new p f (copied x) r =
     let s = words_in old.segments in
     let u = words_in new.segments in
     WithoutLimit (PutsSource x s u (λ n t. EditsWithin n s u p (tree_edit f t))) r
-PutsGiven old new p f (fields v) r = ((from : Cell) → IsSource v from → WritesAsFar (words_in old.segments) (words_in new.segments) p (copied_field f from) r) × IfErr r (FieldRefused f v)
+PutsGiven old new p f (fields v) r = SetsFields v (words_in old.segments) (words_in new.segments) p f r
 
 -- No group is set to the fields of a struct.
 abbrev pub sets_no_group : Given → Bool

@@ -1,16 +1,18 @@
 //! Empty values, as which null pointers of active members count where groups are set.
-ghost use Rattle.std.specs.Prelude.{◌≡◌, ◌<◌, ◌^◌, true, IfSome, OnOk};
+ghost use Rattle.std.specs.Prelude.{◌≡◌, ◌<◌, ◌^◌, true, IfSome, IfNone};
 ghost use Rattle.std.specs.Option.{is_some};
 ghost use Rattle.capnp_model.specs.Accepted.{schema_of};
+ghost use Rattle.capnp_model.specs.Calls.{refused_by, initn_content};
 ghost use Rattle.capnp_model.specs.Groups.{empty_tree};
+ghost use Rattle.capnp_model.specs.Kinds.{InitnIsOnlyValidForListTextOrDataFields};
 ghost use Rattle.capnp_model.specs.Segments.{words_at};
 ghost use Rattle.capnp_units.specs.Segments.{words_in};
 ghost use Rattle.capnp_wire.specs.Places.{place_view};
 ghost use Rattle.capnp_records.specs.Sets.{nodes_of};
 ghost use Rattle.capnp_queries.specs.Types.{ty_of, is_type_of};
 ghost use Rattle.capnp_dynamic.specs.NewLists.{tree_of_new, IsMade};
-ghost use Rattle.capnp_dynamic.specs.GroupSets.{PutsAny, is_struct_list};
-ghost use Rattle.capnp_dynamic.specs.Sources.{Stands};
+ghost use Rattle.capnp_dynamic.specs.GroupSets.{PutsValue, is_struct_list};
+ghost use Rattle.capnp_dynamic.specs.Puts.{state_in};
 
 use crate::initn::{NewList, list_for, put_list};
 use capnp_copy::arena::BuilderArena;
@@ -47,6 +49,9 @@ fn empty_list(set: &SchemaSet, ty: Type) -> Option<NewList>
     ensures list { IfSome result (λ l.
         tree_of_new l 0 ≡ empty_tree (schema_of (nodes_of set.now)) (ty_of ty)) }
     ensures made { IfSome result IsMade }
+    ensures none { IfNone result (refused_by InitnIsOnlyValidForListTextOrDataFields
+        ≡ initn_content (schema_of (nodes_of set.now)) 0 (ty_of ty)
+        InitnIsOnlyValidForListTextOrDataFields) }
 {
     if is_struct_list(ty) {
         return Some(NewList::Structs(NOTHING));
@@ -54,7 +59,7 @@ fn empty_list(set: &SchemaSet, ty: Type) -> Option<NewList>
     list_for(set, ty)
 }
 
-/// Puts the empty value of a type in place of the value of the pointer at a place. A type without one is refused with `TypeMismatch`.
+/// Puts the empty value of a type in place of the value of the pointer at a place. A type without one is refused with `TypeMismatch`, others only for want of room.
 pub(crate) fn put_empty<A: BuilderArena>(
     arena: &mut A,
     slot: Place,
@@ -65,12 +70,9 @@ pub(crate) fn put_empty<A: BuilderArena>(
         ≡ true }
     requires near { slot.position < 2 ^ 61 }
     requires known { is_type_of (nodes_of set.now) ty ≡ true }
-    ensures puts { OnOk result (PutsAny (words_in (A.segments arena.old))
-        (words_in (A.segments arena.new)) (place_view slot)
-        (empty_tree (schema_of (nodes_of set.now)) (ty_of ty))) }
-    ensures stands { Stands (words_in (A.segments arena.old)) (words_in (A.segments arena.new))
-        result }
-    ensures books { A.books arena.new ≡ A.books arena.old }
+    ensures { let at = state_in A.segments A.room A.books in
+        PutsValue (at arena.old) (at arena.new) slot
+        (empty_tree (schema_of (nodes_of set.now)) (ty_of ty)) result }
 {
     if let TypeVariant::Struct(_) = ty.which() {
         init_struct(arena, slot, NOTHING)?;

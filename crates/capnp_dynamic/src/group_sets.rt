@@ -1,4 +1,4 @@
-//! Groups that are set to structs.
+//! Groups that are set to structs, over places in an arena: for builders of structs, and for calls that are written where a message lies (`capnp_edits`).
 ghost use Rattle.std.specs.Prelude.{◌≡◌, ◌<◌, true, false, IfErr};
 ghost use Rattle.capnp_model.specs.Accepted.{areas_of};
 ghost use Rattle.capnp_model.specs.Coverage.{Grows};
@@ -14,8 +14,8 @@ ghost use Rattle.capnp_values.specs.Sources.{struct_seen};
 ghost use Rattle.capnp_dynamic.specs.Edits.{IsThere};
 ghost use Rattle.capnp_dynamic.specs.Inside.{LieIn};
 ghost use Rattle.capnp_dynamic.specs.Puts.{answered};
-ghost use Rattle.capnp_dynamic.specs.GroupRefusals.{type_tested, NullRefused, SomeRefused, FieldsRefused, FieldRefused};
-ghost use Rattle.capnp_dynamic.specs.GroupSets.{IsSource, WritesAsFar, IsPointerAt, copied_field, copied_turn, copied_fields, copied_group};
+ghost use Rattle.capnp_dynamic.specs.GroupRefusals.{type_tested, NullFieldRefused, SomeRefused, FieldsRefused, FieldRefused};
+ghost use Rattle.capnp_dynamic.specs.GroupSets.{IsSource, WritesAsFar, IsPointerAt, SetsFields, copied_field, copied_turn, copied_fields, copied_group};
 
 use crate::group_nulls::{default_value, put_null};
 use crate::group_sources::{bits_in, copy_child, has_turn};
@@ -62,7 +62,7 @@ fn copy_null<A: BuilderArena>(
     ensures writes { (from : Cell) → child from.kids index ≡ null
         → WritesAsFar (words_in (A.segments arena.old)) (words_in (A.segments arena.new)) object
         (copied_field field.entry from) result }
-    ensures why { IfErr result (NullRefused (ty_of ty)) }
+    ensures why { IfErr result (NullFieldRefused field.entry (words_in (A.segments arena.new))) }
     ensures grows { Grows (words_in (A.segments arena.old)) (words_in (A.segments arena.new)) }
     ensures books { A.books arena.new ≡ A.books arena.old }
 {
@@ -95,7 +95,7 @@ fn copy_some<'a, A: BuilderArena, B: ReaderArena>(
         → WritesAsFar (words_in (A.segments arena.old)) (words_in (A.segments arena.new)) object
         (copied_field field.entry from) result }
     ensures why { IfErr result (SomeRefused (schema_around field.entry.parent)
-        (seen_struct B.segments source.now) index (ty_of ty)) }
+        (seen_struct B.segments source.now) index (ty_of ty) (words_in (A.segments arena.new))) }
     ensures grows { Grows (words_in (A.segments arena.old)) (words_in (A.segments arena.new)) }
     ensures books { A.books arena.new ≡ A.books arena.old }
 {
@@ -121,7 +121,8 @@ fn copy_field<'a, A: BuilderArena, B: ReaderArena>(
     ensures writes { (from : Cell) → IsSource (seen_struct B.segments source.now) from
         → WritesAsFar (words_in (A.segments arena.old)) (words_in (A.segments arena.new)) object
         (copied_field field.entry from) result }
-    ensures why { IfErr result (FieldRefused field.entry (seen_struct B.segments source.now)) }
+    ensures why { IfErr result (FieldRefused field.entry (seen_struct B.segments source.now)
+        (words_in (A.segments arena.new))) }
     ensures grows { Grows (words_in (A.segments arena.old)) (words_in (A.segments arena.new)) }
     ensures books { A.books arena.new ≡ A.books arena.old }
 {
@@ -166,7 +167,8 @@ fn copy_turn<'a, A: BuilderArena, B: ReaderArena>(
     ensures writes { (from : Cell) → IsSource (seen_struct B.segments source.now) from
         → WritesAsFar (words_in (A.segments arena.old)) (words_in (A.segments arena.new)) object
         (copied_turn field.entry members from) result }
-    ensures why { IfErr result (FieldRefused field.entry (seen_struct B.segments source.now)) }
+    ensures why { IfErr result (FieldRefused field.entry (seen_struct B.segments source.now)
+        (words_in (A.segments arena.new))) }
     ensures grows { Grows (words_in (A.segments arena.old)) (words_in (A.segments arena.new)) }
     ensures books { A.books arena.new ≡ A.books arena.old }
 {
@@ -192,7 +194,8 @@ fn copy_fields<'a, A: BuilderArena, B: ReaderArena>(
         (copied_fields (schema_around schema.entry) members (shape_of_struct schema.entry) from)
         result }
     ensures why { IfErr result (FieldsRefused (schema_around schema.entry)
-        (fields_of_struct schema.entry) (seen_struct B.segments source.now)) }
+        (fields_of_struct schema.entry) (seen_struct B.segments source.now)
+        (words_in (A.segments arena.new))) }
     ensures grows { Grows (words_in (A.segments arena.old)) (words_in (A.segments arena.new)) }
     ensures books { A.books arena.new ≡ A.books arena.old }
 {
@@ -218,7 +221,8 @@ fn copy_group<'a, A: BuilderArena, B: ReaderArena>(
         → WritesAsFar (words_in (A.segments arena.old)) (words_in (A.segments arena.new)) object
         (copied_group (schema_around schema.entry) (shape_of_struct schema.entry) from) result }
     ensures why { IfErr result (FieldsRefused (schema_around schema.entry)
-        (fields_of_struct schema.entry) (seen_struct B.segments source.now)) }
+        (fields_of_struct schema.entry) (seen_struct B.segments source.now)
+        (words_in (A.segments arena.new))) }
     ensures grows { Grows (words_in (A.segments arena.old)) (words_in (A.segments arena.new)) }
     ensures books { A.books arena.new ≡ A.books arena.old }
 {
@@ -226,8 +230,8 @@ fn copy_group<'a, A: BuilderArena, B: ReaderArena>(
     copy_fields(arena, object, schema, source, false)
 }
 
-/// Sets a field that is a group to a struct, of a message or of a default, and marks its union: the group is cleared, then the struct's active member is set, then its other fields by index. After a refusal a beginning of these writes stands.
-pub(crate) fn set_group<'a, A: BuilderArena, B: ReaderArena>(
+/// Sets a field that is a group to a struct, of a message or of a default, whatever its schema, and marks its union: the group is cleared, then the struct's active member is set, then its other fields by index. It is refused where one of these fields is: a pointer that can't be read as the field's type, or whose value isn't copied, an untyped one and a capability, and where a null pointer of the active member finds no room for its default or its empty value. After a refusal a beginning of the writes stands, and all else.
+pub fn set_group<'a, A: BuilderArena, B: ReaderArena>(
     arena: &mut A,
     object: StructPlace,
     field: Field<'a>,
@@ -236,10 +240,9 @@ pub(crate) fn set_group<'a, A: BuilderArena, B: ReaderArena>(
     requires there { IsThere (words_in (A.segments arena.old)) object }
     requires inside { LieIn object.data_words object.pointers
         (areas_of (shape_of_struct field.parent)) }
-    ensures writes { (from : Cell) → IsSource (struct_seen B.segments source.entry) from
-        → WritesAsFar (words_in (A.segments arena.old)) (words_in (A.segments arena.new)) object
-        (copied_field field.entry from) result }
-    ensures why { IfErr result (FieldRefused field.entry (struct_seen B.segments source.entry)) }
+    ensures sets { SetsFields (struct_seen B.segments source.entry)
+        (words_in (A.segments arena.old)) (words_in (A.segments arena.new)) object field.entry
+        result }
     ensures grows { Grows (words_in (A.segments arena.old)) (words_in (A.segments arena.new)) }
     ensures books { A.books arena.new ≡ A.books arena.old }
 {

@@ -104,7 +104,8 @@ pub(crate) fn copy_child<A: BuilderArena, B: ReaderArena>(
         (words_in (A.segments arena.new)) (place_view slot) (child from.kids index)) }
     ensures stands { Stands (words_in (A.segments arena.old)) (words_in (A.segments arena.new))
         result }
-    ensures why { IfErr result (ChildRefused (seen_struct B.segments source.now) index) }
+    ensures why { IfErr result (ChildRefused (seen_struct B.segments source.now) index
+        (words_in (A.segments arena.new))) }
     ensures books { A.books arena.new ≡ A.books arena.old }
 {
     let Some(levels) = source.levels() else {

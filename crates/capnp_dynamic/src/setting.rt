@@ -32,8 +32,8 @@ use capnp_units::kinds::ErrorKind;
 use capnp_values::dynamic_value::Reader;
 use capnp_wire::place::Place;
 
-/// A text or data.
-pub(crate) enum Blob<'a> {
+/// A text, without its zero byte, or data.
+pub enum Blob<'a> {
     Text(&'a [u8]),
     Data(&'a [u8]),
 }
@@ -82,8 +82,8 @@ fn blob_for<'a, B>(ty: Type, value: &Reader<'a, B>) -> Option<Blob<'a>>
     }
 }
 
-/// Puts a text or data in place of the value of the pointer at a place, which is cleared.
-pub(crate) fn put_blob<A: BuilderArena>(arena: &mut A, slot: Place, blob: Blob<'_>) -> Result<()>
+/// Puts a text, with its zero byte, or data in place of the value of the pointer at a place, which is cleared: behind the pointers of structs, and of elements of lists (`capnp_dynamic_lists`). It is refused for want of room, or with `SizeOverflow` where its list has 2^29 bytes or more; then all stands as it was.
+pub fn put_blob<A: BuilderArena>(arena: &mut A, slot: Place, blob: Blob<'_>) -> Result<()>
     requires there { is_some (words_at (words_in (A.segments arena.old)) (place_view slot) 1)
         ≡ true }
     requires near { slot.position < 2 ^ 61 }

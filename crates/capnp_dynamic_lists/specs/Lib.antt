@@ -7,3 +7,4 @@ pub mod Puts
 pub mod Values
 pub mod Builders
 pub mod Lending
+pub mod Readers

@@ -14,6 +14,10 @@ ghost use Rattle.capnp_dynamic.specs.Inits.{struct_named};
 ghost use Rattle.capnp_dynamic.specs.Puts.{answered};
 ghost use Rattle.capnp_dynamic_lists.specs.Lists.{IsListThere, HasRoom, HasPointer, HasSizes};
 ghost use Rattle.capnp_dynamic_lists.specs.Elements.{Holds, HoldsStructs, element_edit};
+ghost use Rattle.capnp_copy.specs.Elements.{first_element};
+ghost use Rattle.capnp_wire.specs.Views.{list_at};
+ghost use Rattle.capnp_values.specs.Sources.{list_seen};
+ghost use Rattle.capnp_dynamic_lists.specs.Readers.{IsBytewise, list_of};
 ghost use Rattle.capnp_dynamic_lists.specs.Builders.{IsReady, IsPartAt, Stays, KeepsWords, Puts, Sets};
 ghost use Rattle.capnp_dynamic_lists.specs.Values.{struct_given, element_given};
 
@@ -24,6 +28,7 @@ use crate::places::element_struct;
 use crate::values::set_value;
 use capnp_builders::list_builder::ListBuilder;
 use capnp_copy::arena::{BuilderArena, Memory};
+use capnp_copy::elements::first_element;
 use capnp_copy::init::ListPlace;
 use capnp_dynamic::dynamic_struct;
 use capnp_dynamic::init::Part;
@@ -34,8 +39,10 @@ use capnp_records::set::SchemaSet;
 use capnp_units::errors::{Error, Result};
 use capnp_units::kinds::ErrorKind;
 use capnp_units::sizes::{ElementSize, data_bits_per_element};
+use capnp_values::dynamic_list::Reader;
 use capnp_values::dynamic_value;
 use capnp_wire::arena::ReaderArena;
+use capnp_wire::list::ListReader;
 
 /// Whether each element has so many bits at its front.
 fn has_room(place: ListPlace, width: u32) -> bool
@@ -98,13 +105,40 @@ pub fn holds<A: BuilderArena>(
     }
 }
 
+/// The list at a place, to read under its elements' type.
+fn read_at<'a, A: BuilderArena>(
+    arena: &'a A,
+    place: ListPlace,
+    set: &'a SchemaSet,
+    element_type: Type,
+) -> Reader<'a, A>
+    requires there { IsListThere (words_in (A.segments arena.now)) place }
+    requires known { is_type_of (nodes_of set.now) element_type ≡ true }
+    requires bytewise { IsBytewise place (ty_of element_type) }
+    ensures source { list_seen A.segments result.source
+        ≡ list_at (A.segments arena.now) (A.nesting arena.now) (first_element place) place.size
+        place.count place.data_words place.pointers }
+    ensures set { nodes_of result.set.now ≡ nodes_of set.now }
+    ensures element_type { result.element_type ≡ element_type }
+{
+    let reader = ListReader::at(
+        arena,
+        first_element(place),
+        place.count,
+        place.size,
+        place.data_words,
+        place.pointers,
+    );
+    Reader::new(reader, set, element_type)
+}
+
 /// A list to write, whose elements are of a type of a set.
 #[derive(Drop)]
 pub struct Builder<'a, A> {
-    pub(crate) memory: &'a mut Memory<A>,
-    pub(crate) place: ListPlace,
-    pub(crate) set: &'a SchemaSet,
-    pub(crate) element_type: Type,
+    pub memory: &'a mut Memory<A>,
+    pub place: ListPlace,
+    pub set: &'a SchemaSet,
+    pub element_type: Type,
 }
 
 impl<'a, A: BuilderArena> Builder<'a, A> {
@@ -193,6 +227,36 @@ impl<'a, A: BuilderArena> Builder<'a, A> {
             }),
             _ => Err(Error::from(ErrorKind::TypeMismatch)),
         }
+    }
+
+    /// The list to read, under its elements' type. Its pointers are followed under the arena's nesting limit. Its elements aren't bits, unless they are of type Bool.
+    pub fn reborrow_as_reader(&self) -> Reader<'_, A>
+        requires ready { IsReady A.segments self.now }
+        requires bytewise { IsBytewise self.now.place (ty_of self.now.element_type) }
+        ensures source { list_seen A.segments result.source
+            ≡ list_of A.segments A.nesting self.now }
+        ensures set { nodes_of result.set.now ≡ nodes_of self.now.set.now }
+        ensures element_type { result.element_type ≡ self.now.element_type }
+    {
+        read_at(&self.memory.arena, self.place, self.set, self.element_type)
+    }
+
+    /// The same, of which no handle to write is left.
+    pub fn into_reader(self) -> Reader<'a, A>
+        requires ready { IsReady A.segments self }
+        requires bytewise { IsBytewise self.place (ty_of self.element_type) }
+        ensures source { list_seen A.segments result.source
+            ≡ list_of A.segments A.nesting self.entry }
+        ensures set { nodes_of result.set.now ≡ nodes_of self.entry.set.now }
+        ensures element_type { result.element_type ≡ self.entry.element_type }
+    {
+        let Builder {
+            memory,
+            place,
+            set,
+            element_type,
+        } = self;
+        read_at(&memory.arena, place, set, element_type)
     }
 
     /// How many elements there are.

@@ -1,6 +1,7 @@
 //! Defaults, written in place of null.
 ghost use Rattle.std.specs.Prelude.{◌≡◌, ◌<◌, ◌^◌, true, option_map, option_copied, IfErr, OnOk};
 ghost use Rattle.std.specs.Option.{is_some};
+ghost use Rattle.capnp_model.specs.Coverage.{Grows};
 ghost use Rattle.capnp_model.specs.Segments.{words_at};
 ghost use Rattle.capnp_units.specs.Segments.{words_in};
 ghost use Rattle.capnp_wire.specs.Places.{place_view};
@@ -19,7 +20,7 @@ use capnp_units::sizes::Word;
 use capnp_wire::place::{Place, word_at};
 
 /// The default that a slot's record says.
-pub(crate) fn default_of(body: &FieldBody) -> Option<&Value>
+pub fn default_of(body: &FieldBody) -> Option<&Value>
     ensures { option_map value_of (option_copied result) ≡ default_said (kind_of_field body.now) }
 {
     match body {
@@ -37,7 +38,7 @@ fn words_of(bytes: &[u8]) -> &[Word]
 }
 
 /// The words of the default of a struct or a list, if there is one.
-pub(crate) fn default_words(default: Option<&Value>) -> Option<&[Word]>
+pub fn default_words(default: Option<&Value>) -> Option<&[Word]>
     ensures { option_copied result
         ≡ default_words (option_map value_of (option_copied default.entry)) }
 {
@@ -73,8 +74,8 @@ pub(crate) fn begin<A: BuilderArena>(
     }
 }
 
-/// Puts the default of a text or of data, where there is one, in place of null.
-pub(crate) fn begin_bytes<A: BuilderArena>(
+/// Puts the default of a text or of data, where there is one, in place of null. It is refused as `set_text` and `set_data` are; then all words stand.
+pub fn begin_bytes<A: BuilderArena>(
     arena: &mut A,
     slot: Place,
     default: Option<&Value>,
@@ -88,6 +89,7 @@ pub(crate) fn begin_bytes<A: BuilderArena>(
     ensures refused { IfErr result (BytesNotBegun
         (default_bytes (option_map value_of (option_copied default.entry)))
         (words_in (A.segments arena.old)) (words_in (A.segments arena.new)) (place_view slot)) }
+    ensures grows { Grows (words_in (A.segments arena.old)) (words_in (A.segments arena.new)) }
     ensures books { A.books arena.new ≡ A.books arena.old }
 {
     match default {

@@ -15,7 +15,7 @@ use Rattle.capnp_queries.specs.declared.fields.Field.{Field}
 use Rattle.capnp_dynamic.specs.Inside.{words_of_shape, pointers_of_shape}
 use Rattle.capnp_dynamic.specs.Edits.{IsWide}
 use Rattle.capnp_dynamic.specs.Inits.{struct_named}
-use Rattle.capnp_calls.specs.Taken.{starts_with_name}
+use Rattle.capnp_calls.specs.Roots.{starts_with_name}
 use Rattle.capnp_calls.specs.Slots.{words_in, pointers_in}
 use Rattle.capnp_calls.specs.Finding.{IsFieldGroup}
 use Rattle.capnp_calls.specs.Paths.{shape_edit}

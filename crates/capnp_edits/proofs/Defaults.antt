@@ -1,26 +1,19 @@
 -- The default that a node says of a pointer to a struct or a list is a segment, and the one of the field.
-use Rattle.std.proofs.Common.{◌≡◌, ℕ, ◌*◌, ◌^◌, nat_lt, Bool, true, false, List, length, Option, Some, None, refl, sym, subst, ◌∙◌}
-use Rattle.std.specs.Prelude.{option_map, IsSome}
-use Rattle.capnp_model.specs.Decoding.{decode}
-use Rattle.capnp_model.proofs.KeptRules.{and_right}
+use Rattle.std.proofs.Common.{◌≡◌, ℕ, true, List, Option, Some, None, refl, sym, subst, ◌∙◌}
+use Rattle.std.specs.Prelude.{option_map}
 use Rattle.capnp_model.specs.Trees.{Tree}
-use Rattle.capnp_model.specs.Schemas.{Ty, void, plain, text, blob, untyped, interface, struct, list, pointer_slot, default_or_null, Value, no_value, bits, text_bytes, blob_bytes, list_segment, struct_segment, untyped_value, interface_value, Field as FieldNode, StructNode}
-use Rattle.capnp_model.specs.Accepted.{default_tree, is_default_of, opens_as, is_good_segment, is_good_value}
+use Rattle.capnp_model.specs.Schemas.{Ty, void, plain, text, blob, untyped, interface, struct, list, pointer_slot, default_or_null, Value, no_value, bits, text_bytes, blob_bytes, list_segment, struct_segment, untyped_value, interface_value, FieldKind, slot, group, Field as FieldNode, StructNode}
+use Rattle.capnp_model.specs.Accepted.{default_tree, is_default_of, opens_as, is_good_value}
 use Rattle.capnp_queries.specs.Structs.{nodes_around, id_of, IsRecordOf}
 use Rattle.capnp_queries.specs.Handles.{entry_of, IsFieldRecord}
 use Rattle.capnp_queries.specs.declared.fields.Field.{Field}
 use Rattle.capnp_calls.specs.Slots.{HasGoodDefault, IsSegment}
 use Rattle.capnp_calls.specs.Finding.{default_in}
 use Rattle.capnp_calls.proofs.FieldSlots.{kind_of_pointer, body_of_pointer}
+use Rattle.capnp_records.proofs.Segments.{segment_found}
 use Rattle.capnp_calls.proofs.ReadableSteps.{struct_default_found}
+use Rattle.capnp_values.specs.Shown.{default_said}
 use Rattle.capnp_edits.specs.Written.{HoldsDefault, IsDefault, has_inside}
-
-segment_found : (test : Tree → Bool) (bs : List ℕ) → is_good_segment test bs ≡ true → IsSome (decode bs)
-segment_found test bs h = by (decode bs) (and_right (nat_lt (length bs) (8 * 2 ^ 29)) (elim (decode bs) as (λ (o : Option Tree). Bool) [ None ↦ false | Some t ↦ test t ]) h)
-  where
-    by : (o : Option Tree) → (elim o as (λ (x : Option Tree). Bool) [ None ↦ false | Some t ↦ test t ]) ≡ true → IsSome o
-    by None k = absurd (cc k)
-    by (Some t) k = refl
 
 -- the default of a list can be read
 list_default_found : (ty : Ty) (d : Option Value) → HasGoodDefault (list ty) d → IsSegment d
@@ -47,13 +40,18 @@ default_found interface d i h = absurd (cc i)
 default_found (struct id) d i h = struct_default_found id d h
 default_found (list ty) d i h = list_default_found ty d h
 
+-- what a node says of a field
+said_in : (k : FieldKind) → default_said k ≡ default_in k
+said_in (slot offset ty d) = refl
+said_in (group id) = refl
+
 module _ (f : Field) (r : FieldNode) (rec : IsFieldRecord f.parent f.index r) (n : StructNode) (holder : IsRecordOf (nodes_around f.parent) (id_of f.parent) n) (i : ℕ) (ty : Ty) (d : Option Tree) (body : option_map (λ e. e.body) (entry_of f) ≡ Some (pointer_slot i ty d)) where
-  pub default_is : (v : Option Value) → v ≡ default_in r.kind → IsDefault ty d v
+  pub default_is : (v : Option Value) → v ≡ default_said r.kind → IsDefault ty d v
   default_is v said =
       let kind = kind_of_pointer f r rec n holder i ty d body in
       let same : Some (pointer_slot i ty (default_tree (default_in r.kind))) ≡ Some (pointer_slot i ty d) = sym (body_of_pointer f r rec n holder i ty d body) ∙ body in
       let tree : default_tree (default_in r.kind) ≡ d = cc same in
-      subst (IsDefault ty d) (sym said) (record { good = record { is = kind.default; reads = kind.good }; value = tree })
+      subst (IsDefault ty d) (sym (said ∙ said_in r.kind)) (record { good = record { is = kind.default; reads = kind.good }; value = tree })
 
 -- what its words hold
 pub words_said : (ty : Ty) (d : Option Tree) (v : Option Value) → IsDefault ty d v → has_inside ty ≡ true → (ws : Option (List (List ℕ))) → (IsSegment v → HoldsDefault ws (default_or_null (default_tree v))) → HoldsDefault ws (default_or_null d)

@@ -18,7 +18,7 @@ use Rattle.capnp_copy.specs.declared.init.ListPlace.{ListPlace}
 use Rattle.capnp_dynamic_lists.specs.Lists.{IsListOf}
 use Rattle.capnp_dynamic_lists.specs.Parts.{cell_in, IsStructOf, IsPointerOf, on_child}
 use Rattle.capnp_calls.specs.Sizes.{IsDone}
-use Rattle.capnp_edits.specs.Written.{PutsTree}
+use Rattle.capnp_dynamic.specs.GroupSets.{PutsAny}
 use Rattle.capnp_edits.specs.Elements.{WritesElement, TakesTree}
 use Rattle.capnp_edits.proofs.SetMessages.{list_done}
 use Rattle.capnp_edits.proofs.ElementEnds.{set_done, last_edit}
@@ -32,18 +32,19 @@ content_is s e (pointer_list ts) h = list_done s (list e) (pointer_list ts) (is_
 content_is s e (struct_list w p es) h = list_done s (list e) (struct_list w p es) (is_list_of (struct_list w p es) e) h
 
 message_written : (s u : Segments) (o : ListPlace) (k : ℕ) (q : code.Place) → ((n : ℕ) (t : Tree) → IsListOf o t → OwnsObject n s (list_at o) t → IsPointerOf n s o k q t)
-    → (around : Schema) (e : Ty) (t : Tree) → PutsTree s u (place_view q) (message_root t) → WritesElement s u o around (list e) k [] (set_to (message t))
+    → (around : Schema) (e : Ty) (t : Tree) → PutsAny s u (place_view q) (message_root t) → WritesElement s u o around (list e) k [] (set_to (message t))
 message_written s u o k q parts around e t puts n v is own is_done =
     let new : Tree = message_root t in
     let x = parts n v is own in
-    let lifted = x.lifts (n + 65) u (λ y. new) (omega arith) (puts n (child (cell_in v k).kids 0) x.owns) in
+    let w = puts n (child (cell_in v k).kids 0) x.owns in
+    let lifted = x.lifts (n + w.0) u (λ y. new) (omega arith) w.1 in
     let content : element_content around (set_to (message t)) (list e) ≡ object new = content_is around e t (set_done around (list e) (message t) (cell_in v k) is_done) in
     let same : on_child (λ y. new) ≡ edit_element around [] (set_to (message t)) (list e) =
     ap (λ (y : Content). λ (words pointers : ℕ) (c : Cell). put_in_element words pointers (list e) y c) (sym content) ∙ last_edit around (set_to (message t)) (list e) in
-    (65, subst (λ (f : ℕ → ℕ → Edit). ReplacesObject (n + 65) s u (list_at o) (edit_list f k v)) same lifted)
+    (w.0, subst (λ (f : ℕ → ℕ → Edit). ReplacesObject (n + w.0) s u (list_at o) (edit_list f k v)) same lifted)
 
 pub list_set : {X E : Type 0} (s u : Segments) (o : ListPlace) (k : ℕ) (q : code.Place) → ((n : ℕ) (t : Tree) → IsListOf o t → OwnsObject n s (list_at o) t → IsPointerOf n s o k q t)
-    → (around : Schema) (ty e : Ty) (t : Tree) → list e ≡ ty → (r : Result X E) → OnOk r (PutsTree s u (place_view q) (message_root t)) → OnOk r (WritesElement s u o around ty k [] (set_to (message t)))
+    → (around : Schema) (ty e : Ty) (t : Tree) → list e ≡ ty → (r : Result X E) → OnOk r (PutsAny s u (place_view q) (message_root t)) → OnOk r (WritesElement s u o around ty k [] (set_to (message t)))
 list_set s u o k q parts around ty e t same (Ok x) puts = subst (λ y. WritesElement s u o around y k [] (set_to (message t))) same (message_written s u o k q parts around e t puts)
 list_set s u o k q parts around ty e t same (Err x) puts = tt
 

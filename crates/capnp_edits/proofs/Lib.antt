@@ -6,10 +6,6 @@ pub mod Behind
 pub mod Defaults
 pub mod GrownPaths
 pub mod SetMessages
-pub mod GroupEdits
-pub mod GroupWrites
-pub mod GroupFields
-pub mod GroupSources
 pub mod GroupRoots
 pub mod ListSteps
 pub mod GotLists
@@ -19,5 +15,3 @@ pub mod BegunLists
 pub mod ElementEnds
 pub mod ElementMessages
 pub mod TakenContents
-pub mod GroupEmpties
-pub mod GroupNulls

@@ -1,5 +1,5 @@
 -- A field that is set to the value of a message.
-use Rattle.std.proofs.Common.{◌≡◌, ℕ, suc, ◌+◌, ◌<◌, Bool, true, false, if◌then◌else◌, [], Option, Some, Result, Ok, Err, OnOk, refl, sym, ap, subst, ◌∙◌, arith}
+use Rattle.std.proofs.Common.{◌≡◌, ℕ, ◌+◌, ◌<◌, Bool, true, false, if◌then◌else◌, [], Option, Some, Result, OnOk, refl, sym, ap, subst, ◌∙◌, arith}
 use Rattle.std.specs.Prelude.{⊤, option_map}
 use Rattle.capnp_model.specs.Kinds.{TypeMismatch}
 use Rattle.capnp_model.specs.Segments.{Segments, Place, root, after}
@@ -11,18 +11,14 @@ use Rattle.capnp_model.specs.Steps.{reading_after, step_field}
 use Rattle.capnp_model.specs.Calls.{set_to, message, message_root, refused_by, object, struct_content, slot_content}
 use Rattle.capnp_model.specs.Edits.{Cell, mark, put_child, put_content}
 use Rattle.capnp_units.specs.declared.errors.Error.{Error}
-use Rattle.capnp_units.specs.declared.limiter.ReadLimiter.{ReadLimiter}
 use Rattle.capnp_wire.specs.Places.{place_view}
 use Rattle.capnp_footprints.specs.Footprints.{Owns, OwnsObject}
 use Rattle.capnp_footprints.specs.Changes.{Replaces, ReplacesObject}
 use Rattle.capnp_footprints.proofs.Lift.{child_of_struct, struct_of_child, object_replaced_owned, object_replaced_then}
-use Rattle.capnp_footprints.proofs.Levels.{owned_more}
 use Rattle.capnp_copy.specs.Structs.{struct_at}
 use Rattle.capnp_copy.specs.Values.{Becomes}
 use Rattle.capnp_copy.specs.declared.fields.StructPlace.{StructPlace}
-use Rattle.capnp_copy_from.specs.Copies.{CopiesValue}
 use Rattle.capnp_copy_from.specs.Defaults.{is_null_at}
-use Rattle.capnp_model.specs.Coverage.{Grows}
 use Rattle.capnp_queries.specs.Fields.{union_in}
 use Rattle.capnp_queries.specs.Structs.{schema_around, shape_of_struct}
 use Rattle.capnp_queries.specs.Handles.{entry_of, IsFieldRecord}
@@ -32,33 +28,20 @@ use Rattle.capnp_dynamic.proofs.Deeper.{object_owned_more, mark_last}
 use Rattle.capnp_calls.specs.Sizes.{IsDone}
 use Rattle.capnp_calls.specs.Paths.{field_outcome}
 use Rattle.capnp_calls.proofs.OneStep.{is_pointer}
-use Rattle.capnp_edits.specs.Written.{edit_at, WritesField, PutsTree, takes_message}
+use Rattle.capnp_dynamic.specs.GroupSets.{PutsAny}
+use Rattle.capnp_dynamic.proofs.AnyEdits.{puts_becomes}
+use Rattle.capnp_dynamic.proofs.NullMembers.{null_at, null_value}
+use Rattle.capnp_edits.specs.Written.{edit_at, WritesField, takes_message}
 use Rattle.capnp_edits.proofs.Lifting.{cell}
 use Rattle.capnp_edits.proofs.Outcomes.{done_at, edit_is}
 use Rattle.capnp_edits.proofs.Ends.{slot_put, last_step}
-use Rattle.capnp_edits.proofs.Begun.{null_at, null_value}
 
 -- ---- the value is put
 
-same_tree : (a b : Tree) → Some a ≡ Some b → a ≡ b
-same_tree a b h = cc
-
-pub copied : (f s u : Segments) (p : Place) (old new : ReadLimiter) (r : Result ⊤ Error) (t : Tree) → CopiesValue 64 f root s u p old r new → tree_at 64 f root ≡ Some t → OnOk r (PutsTree s u p t)
-copied f s u p old new (Ok x) t h e =
-    let same : h.value ≡ t = same_tree h.value t (sym h.there_is ∙ e) in
-    λ n v own. subst (λ y. Replaces (n + 65) s u p y) same (h.made (n + 65) v (omega arith) (owned_more n (n + 65) s p v (omega arith) own))
-copied f s u p old new (Err e') t h e = tt
-
-pub copied_grows : (f s u : Segments) (p : Place) (old new : ReadLimiter) (r : Result ⊤ Error) → CopiesValue 64 f root s u p old r new → Grows s u
-copied_grows f s u p old new (Ok x) h = h.grows
-copied_grows f s u p old new (Err e) h = h.left.grows
-
-pub emptied : (f s u : Segments) (p : Place) (t : Tree) → tree_at 64 f root ≡ Some t → is_null_at f root ≡ true → Becomes s u p (structure 0 0 (resized 0 none)) → PutsTree s u p (message_root t)
-emptied f s u p t e h b n v own =
+pub emptied : (f s u : Segments) (p : Place) (t : Tree) → tree_at 64 f root ≡ Some t → is_null_at f root ≡ true → Becomes s u p (structure 0 0 (resized 0 none)) → PutsAny s u p (message_root t)
+emptied f s u p t e h b =
     let empty : t ≡ null = null_value 64 f root t e h in
-    let deep : suc (n + 64) ≡ n + 65 = omega arith in
-    let put : Replaces (n + 65) s u p (structure 0 0 none) = subst (λ k. Replaces k s u p (structure 0 0 none)) deep (b (n + 64) v (owned_more n (n + 64) s p v (omega arith) own)) in
-    subst (λ x. Replaces (n + 65) s u p (message_root x)) (sym empty) put
+    subst (λ x. PutsAny s u p (message_root x)) (sym empty) (puts_becomes s u p (structure 0 0 none) b)
 
 root_is : (f : Segments) (t : Tree) → tree_at 64 f root ≡ Some t → is_null_at f root ≡ false → t ≡ message_root t
 root_is f null e h = (let no : true ≡ false = sym (null_at 64 f root e) ∙ h in absurd cc)
@@ -68,8 +51,8 @@ root_is f (plain_list size n x) e h = refl
 root_is f (pointer_list ts) e h = refl
 root_is f (struct_list w p es) e h = refl
 
-pub root_put : (f s u : Segments) (p : Place) (r : Result ⊤ Error) (t : Tree) → tree_at 64 f root ≡ Some t → is_null_at f root ≡ false → OnOk r (PutsTree s u p t) → OnOk r (PutsTree s u p (message_root t))
-root_put f s u p r t e h o = subst (λ y. OnOk r (PutsTree s u p y)) (root_is f t e h) o
+pub root_put : (f s u : Segments) (p : Place) (r : Result ⊤ Error) (t : Tree) → tree_at 64 f root ≡ Some t → is_null_at f root ≡ false → OnOk r (PutsAny s u p t) → OnOk r (PutsAny s u p (message_root t))
+root_put f s u p r t e h o = subst (λ y. OnOk r (PutsAny s u p y)) (root_is f t e h) o
 
 -- ---- what the call puts
 
@@ -105,7 +88,7 @@ module _ (s : Schema) (union member : Option ℕ) (i : ℕ) (d : Option Tree) (c
 -- ---- the field is set
 
 pub message_end : (f : Field) (r : FieldNode) (is : IsFieldRecord f.parent f.index r) (i : ℕ) (ty : Ty) (d : Option Tree) → option_map (λ e. e.body) (entry_of f) ≡ Some (pointer_slot i ty d) → takes_message ty ≡ true → (t : Tree) (s m u : Segments) (p : StructPlace) (q : Place)
-    → i < p.pointers → q ≡ after (after (place_view p.start) p.data_words) i → PutsTree s m q (message_root t) → Edits m u p (marked f) → WritesField s u p f [] (set_to (message t))
+    → i < p.pointers → q ≡ after (after (place_view p.start) p.data_words) i → PutsAny s m q (message_root t) → Edits m u p (marked f) → WritesField s u p f [] (set_to (message t))
 message_end f r is i ty d same takes t s m u p q l at puts marks n section kids o done =
     let around = schema_around f.parent in
     let union = union_in (shape_of_struct f.parent) in
@@ -115,16 +98,18 @@ message_end f r is i ty d same takes t s m u p q l at puts marks n section kids 
     let c : Cell = cell section kids in
     let slot = after (after (place_view p.start) p.data_words) i in
     let owned = child_of_struct n s (place_view p.start) p.data_words p.pointers i p.data_words section kids l o in
-    let put : Replaces (n + 65) s m slot new = subst (λ x. Replaces (n + 65) s m x new) at (puts n (child kids i) (subst (λ x. Owns n s x (child kids i)) (sym at) owned)) in
-    let more = object_owned_more n (n + 65) s (struct_at p) (structure p.data_words section kids) (omega arith) o in
-    let first : ReplacesObject (n + 65) s m (struct_at p) (structure p.data_words section (with_child kids i new)) = struct_of_child (n + 65) s m (place_view p.start) p.data_words p.pointers i p.data_words section kids new l more put in
+    let w = puts n (child kids i) (subst (λ x. Owns n s x (child kids i)) (sym at) owned) in
+    let k : ℕ = n + w.0 in
+    let put : Replaces k s m slot new = subst (λ x. Replaces k s m x new) at w.1 in
+    let more = object_owned_more n k s (struct_at p) (structure p.data_words section kids) (omega arith) o in
+    let first : ReplacesObject k s m (struct_at p) (structure p.data_words section (with_child kids i new)) = struct_of_child k s m (place_view p.start) p.data_words p.pointers i p.data_words section kids new l more put in
     let mid : Cell = put_child i new c in
-    let own : OwnsObject (n + 65) m (struct_at p) (structure p.data_words section (with_child kids i new)) = object_replaced_owned (n + 65) s m (struct_at p) (structure p.data_words section kids) (structure p.data_words section (with_child kids i new)) more first in
+    let own : OwnsObject k m (struct_at p) (structure p.data_words section (with_child kids i new)) = object_replaced_owned k s m (struct_at p) (structure p.data_words section kids) (structure p.data_words section (with_child kids i new)) more first in
     let last : Cell = marked f mid in
-    let second : ReplacesObject (n + 65) m u (struct_at p) (structure p.data_words last.section last.kids) = marks (n + 65) section (with_child kids i new) own in
-    let whole = object_replaced_then (n + 65) s m u (struct_at p) (structure p.data_words section (with_child kids i new)) (structure p.data_words last.section last.kids) first second in
+    let second : ReplacesObject k m u (struct_at p) (structure p.data_words last.section last.kids) = marks k section (with_child kids i new) own in
+    let whole = object_replaced_then k s m u (struct_at p) (structure p.data_words section (with_child kids i new)) (structure p.data_words last.section last.kids) first second in
     let content : slot_content around verb b ≡ object new = content_is around union r.member i d c ty t takes (done_at f r is b same [] verb c done) in
     let edit : last ≡ edit_at f [] verb (entry_of f) c =
     ap (λ e. marked_in union e mid) is.entry ∙ mark_last union r.member i new c ∙ ap (λ x. put_content b x (mark union r.member c)) (sym content)
     ∙ slot_put around verb b (is_pointer i ty d) (mark union r.member c) ∙ last_step around verb union r.member b c ∙ edit_is f r is b same [] verb c in
-    (65, subst (λ (x : Cell). ReplacesObject (n + 65) s u (struct_at p) (structure p.data_words x.section x.kids)) edit whole)
+    (w.0, subst (λ (x : Cell). ReplacesObject k s u (struct_at p) (structure p.data_words x.section x.kids)) edit whole)

@@ -1,11 +1,10 @@
 -- Calls along paths, written where a struct lies. (Encoding, "Structs")
-use Rattle.std.specs.Prelude.{◌≡◌, ℕ, ◌+◌, Bool, true, false, List, [], ◌∷◌, Option, Some, None}
+use Rattle.std.specs.Prelude.{◌≡◌, ℕ, ◌+◌, Bool, true, false, List, [], ◌∷◌, Option, Some, None, option_map}
 use Rattle.capnp_model.specs.Kinds.{WrongStep}
-use Rattle.capnp_model.specs.Segments.{Segments, Place, root}
+use Rattle.capnp_model.specs.Segments.{Segments, Place}
 use Rattle.capnp_model.specs.Trees.{Tree, null, Trees, structure}
-use Rattle.capnp_model.specs.Traversal.{tree_at}
 use Rattle.capnp_model.specs.Coverage.{Grows}
-use Rattle.capnp_model.specs.Schemas.{Ty, void, plain, text, blob, untyped, interface, struct, list, Value, Schema}
+use Rattle.capnp_model.specs.Schemas.{Ty, void, plain, text, blob, untyped, interface, struct, list, Value, Shape, group_slot, Schema}
 use Rattle.capnp_model.specs.Accepted.{default_tree}
 use Rattle.capnp_model.specs.Readings.{Reading, read}
 use Rattle.capnp_model.specs.Calls.{Step, Verb}
@@ -15,12 +14,12 @@ use Rattle.capnp_footprints.specs.Footprints.{Owns, OwnsObject}
 use Rattle.capnp_footprints.specs.Changes.{Replaces, ReplacesObject}
 use Rattle.capnp_copy.specs.Structs.{struct_at}
 use Rattle.capnp_copy.specs.declared.fields.StructPlace.{StructPlace}
-use Rattle.capnp_copy_from.specs.Defaults.{default_segments}
 use Rattle.capnp_queries.specs.Fields.{Entry, union_in}
 use Rattle.capnp_queries.specs.Structs.{schema_around, shape_of_struct}
 use Rattle.capnp_queries.specs.Handles.{entry_of}
 use Rattle.capnp_queries.specs.declared.structs.StructSchema.{StructSchema}
 use Rattle.capnp_queries.specs.declared.fields.Field.{Field}
+use Rattle.capnp_dynamic.specs.GroupSets as dynamic
 use Rattle.capnp_calls.specs.Sizes.{IsDone}
 use Rattle.capnp_calls.specs.Slots.{HasGoodDefault}
 use Rattle.capnp_calls.specs.Paths.{field_outcome, shape_outcome, shape_edit}
@@ -62,6 +61,10 @@ edit_at f path verb (Some e) c = edit_field (schema_around f.parent) path verb (
 abbrev pub WritesField : Segments → Segments → StructPlace → Field → List Step → Verb → Type 0
 WritesField s u p f path verb = EditsWhere (IsDoneAt f path verb (entry_of f)) s u p (edit_at f path verb (entry_of f))
 
+-- The field is a group.
+abbrev pub IsGroup : Option Entry → Type 0
+IsGroup o = (g : Shape) × (option_map (λ e. e.body) o ≡ Some (group_slot g))
+
 -- ---- at a pointer's value
 
 -- What the record machine makes of the steps into a pointer's value of a type; null is its default, else the empty value.
@@ -82,7 +85,7 @@ WritesValue s u p around ty d path verb =
 -- The words of a default, if there is one, hold this value, at most 64 levels deep; no default is null.
 abbrev pub HoldsDefault : Option (List (List ℕ)) → Tree → Type 0
 HoldsDefault None d = d ≡ null
-HoldsDefault (Some words) d = tree_at 64 (default_segments words) root ≡ Some d
+HoldsDefault (Some words) d = dynamic.HoldsDefault words d
 
 -- The default that a node says of a pointer of the type is a good one, and has this value, if there is one.
 pub record IsDefault (ty : Ty) (d : Option Tree) (said : Option Value) : Type 0 where
@@ -112,7 +115,3 @@ takes_message untyped = true
 takes_message interface = false
 takes_message (struct id) = true
 takes_message (list ty) = true
-
--- Whatever value is owned there becomes the tree, where 65 levels of pointers may be new, and nothing else changes.
-abbrev pub PutsTree : Segments → Segments → Place → Tree → Type 0
-PutsTree s u p v = (n : ℕ) (t : Tree) → Owns n s p t → Replaces (n + 65) s u p v

@@ -10,10 +10,10 @@ ghost use Rattle.capnp_dynamic.specs.Edits.{IsThere};
 ghost use Rattle.capnp_edits.specs.Written.{GrowsAround};
 ghost use Rattle.capnp_edits.specs.Elements.{TakesTree};
 
-use crate::roots::ROOT;
 use capnp_copy::arena::BuilderArena;
 use capnp_copy::fields::StructPlace;
 use capnp_copy_from::contents::copy_content_from;
+use capnp_dynamic::roots::ROOT;
 use capnp_object::object::{Object, object_at};
 use capnp_units::errors::{Error, Result};
 use capnp_units::kinds::ErrorKind;

@@ -1,27 +1,17 @@
 //! Defaults of structs, as words.
-ghost use Rattle.std.specs.Prelude.{ℕ, ◌≡◌, true, Option, Some, IsSome, option_map, option_copied};
-ghost use Rattle.capnp_model.specs.Decoding.{decode};
+ghost use Rattle.std.specs.Prelude.{ℕ, ◌≡◌, true, Option, Some, option_map, option_copied};
 ghost use Rattle.capnp_model.specs.Trees.{Tree};
 ghost use Rattle.capnp_model.specs.Schemas.{Ty, pointer_slot, default_or_null};
 ghost use Rattle.capnp_model.specs.Accepted.{default_tree};
-ghost use Rattle.capnp_records.specs.NodeViews.{kind_of_field, value_of};
+ghost use Rattle.capnp_records.specs.NodeViews.{value_of};
 ghost use Rattle.capnp_queries.specs.Handles.{entry_of};
 ghost use Rattle.capnp_calls.specs.Slots.{IsSegment};
-ghost use Rattle.capnp_calls.specs.Finding.{default_in};
 ghost use Rattle.capnp_edits.specs.Written.{HoldsDefault, IsDefault, has_inside};
 
+use capnp_dynamic::roots::{default_said, words_of};
 use capnp_queries::fields::Field;
-use capnp_records::node::{FieldBody, FieldRecord, Value};
+use capnp_records::node::Value;
 use capnp_units::sizes::Word;
-
-/// The words of a default's bytes.
-pub(crate) fn words_of(bytes: &[u8]) -> &[Word]
-    ensures { IsSome (decode bytes.now)
-        → HoldsDefault (Some result.now) (default_or_null (decode bytes.now)) }
-{
-    let (words, _) = bytes.as_chunks::<8>();
-    words
-}
 
 /// The words of the default of a struct or a list; none where there is no such default.
 fn default_words(default: Option<&Value>) -> Option<&[Word]>
@@ -34,19 +24,8 @@ fn default_words(default: Option<&Value>) -> Option<&[Word]>
     }
 }
 
-/// The default of a field, as its node says it.
-fn default_said(field: &FieldRecord) -> Option<&Value>
-    ensures { option_map value_of (option_copied result)
-        ≡ default_in (kind_of_field field.now.body) }
-{
-    match &field.body {
-        FieldBody::Slot { default, .. } => default.as_ref(),
-        FieldBody::Group { .. } => None,
-    }
-}
-
 /// The default of a field that is a pointer, as its node says it.
-pub(crate) fn default_value<'a>(field: Field<'a>) -> Option<&'a Value>
+fn default_value<'a>(field: Field<'a>) -> Option<&'a Value>
     ensures { (i : ℕ) (ty : Ty) (d : Option Tree)
         → option_map (λ e. e.body) (entry_of field.entry) ≡ Some (pointer_slot i ty d)
         → IsDefault ty d (option_map value_of (option_copied result)) }

@@ -16,7 +16,6 @@ ghost use Rattle.capnp_dynamic_lists.specs.Elements.{Holds, HoldsStructs};
 ghost use Rattle.capnp_edits.specs.Elements.{WritesElement, GrowsIn};
 
 use crate::contents::copy_content;
-use crate::default::words_of;
 use crate::lists::plain_type;
 use crate::messages::put_message;
 use crate::values::bits_for;
@@ -26,6 +25,7 @@ use capnp_copy::arena::BuilderArena;
 use capnp_copy::elements::set_element;
 use capnp_copy::fields::set_bits;
 use capnp_copy::init::ListPlace;
+use capnp_dynamic::roots::words_of;
 use capnp_dynamic::slots::width_of;
 use capnp_dynamic_lists::elements::set_flat;
 use capnp_dynamic_lists::init::init_element;

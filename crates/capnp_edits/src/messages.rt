@@ -1,32 +1,44 @@
 //! Values of messages that calls set behind pointers.
 ghost use Rattle.std.specs.Prelude.{◌≡◌, ◌<◌, ◌^◌, true, [], OnOk};
 ghost use Rattle.std.specs.Option.{is_some};
+ghost use Rattle.capnp_model.specs.Accepted.{areas_of};
 ghost use Rattle.capnp_model.specs.Calls.{set_to, message, message_root};
 ghost use Rattle.capnp_model.specs.Coverage.{Grows};
 ghost use Rattle.capnp_model.specs.Segments.{words_at};
 ghost use Rattle.capnp_units.specs.Segments.{words_in};
 ghost use Rattle.capnp_wire.specs.Places.{place_view};
+ghost use Rattle.capnp_wire.specs.Views.{seen_struct};
 ghost use Rattle.capnp_call_messages.specs.Messages.{tree_of_message};
+ghost use Rattle.capnp_queries.specs.Handles.{entry_of};
 ghost use Rattle.capnp_queries.specs.Structs.{shape_of_struct};
 ghost use Rattle.capnp_queries.specs.Types.{ty_of};
 ghost use Rattle.capnp_dynamic.specs.Edits.{IsThere, IsWide};
-ghost use Rattle.capnp_edits.specs.Written.{WritesField, PutsTree, takes_message};
+ghost use Rattle.capnp_dynamic.specs.GroupSets.{PutsAny, SetsFields};
+ghost use Rattle.capnp_dynamic.specs.Inside.{LieIn};
+ghost use Rattle.capnp_edits.specs.Written.{WritesField, IsGroup, takes_message};
 
-use crate::default::words_of;
-use crate::group_sets::set_group;
-use crate::roots::{copy_root, has_null_root};
 use capnp_call_messages::message::MessageValue;
 use capnp_copy::arena::BuilderArena;
 use capnp_copy::fields::StructPlace;
 use capnp_copy::init::init_struct;
+use capnp_dynamic::group_sets;
+use capnp_dynamic::roots::{ROOT, copy_root, has_null_root, words_of};
 use capnp_dynamic::slots::{mark, pointer_place};
+use capnp_model::laws_of_edits::groups_set_by_writes;
 use capnp_queries::fields::Field;
 use capnp_queries::introspect::{Type, TypeVariant};
 use capnp_queries::slots::FieldPlace;
 use capnp_units::errors::{Error, Result};
 use capnp_units::kinds::ErrorKind;
+use capnp_units::limiter::ReadLimiter;
 use capnp_units::sizes::StructSize;
+use capnp_values::source::StructSource;
+use capnp_wire::arena::{NullArena, ReaderArena};
+use capnp_wire::backing::{Backing, default_backing};
+use capnp_wire::laws::gets_are_readings;
 use capnp_wire::place::Place;
+use capnp_wire::pointer::PointerReader;
+use capnp_wire::structs::StructReader;
 
 /// Whether a slot of a type can be set to the value of a message.
 fn takes_message(ty: Type) -> bool
@@ -47,7 +59,7 @@ pub(crate) fn put_message<A: BuilderArena>(
     requires there { is_some (words_at (words_in (A.segments arena.old)) (place_view slot) 1)
         ≡ true }
     requires near { slot.position < 2 ^ 61 }
-    ensures puts { OnOk result (PutsTree (words_in (A.segments arena.old))
+    ensures puts { OnOk result (PutsAny (words_in (A.segments arena.old))
         (words_in (A.segments arena.new)) (place_view slot)
         (message_root (tree_of_message message.now))) }
     ensures grows { Grows (words_in (A.segments arena.old)) (words_in (A.segments arena.new)) }
@@ -63,6 +75,49 @@ pub(crate) fn put_message<A: BuilderArena>(
         return Ok(());
     }
     copy_root(arena, slot, words)
+}
+
+/// Sets a field that is a group to a struct of a message.
+fn set_fields<A: BuilderArena, B: ReaderArena>(
+    arena: &mut A,
+    object: StructPlace,
+    field: Field<'_>,
+    source: StructReader<'_, B>,
+) -> Result<()>
+    requires there { IsThere (words_in (A.segments arena.old)) object }
+    requires inside { LieIn object.data_words object.pointers
+        (areas_of (shape_of_struct field.parent)) }
+    ensures sets { SetsFields (seen_struct B.segments source.entry)
+        (words_in (A.segments arena.old)) (words_in (A.segments arena.new)) object field.entry
+        result }
+    ensures grows { Grows (words_in (A.segments arena.old)) (words_in (A.segments arena.new)) }
+    ensures books { A.books arena.new ≡ A.books arena.old }
+{
+    group_sets::set_group(arena, object, field, StructSource::Message(source))
+}
+
+/// Sets a field that is a group to the value of a message, whose root counts as a struct, and marks its union: the group is cleared, then its active member is set, then its other fields.
+fn set_group<A: BuilderArena>(
+    arena: &mut A,
+    object: StructPlace,
+    field: Field<'_>,
+    value: &MessageValue,
+) -> Result<()>
+    requires there { IsThere (words_in (A.segments arena.old)) object }
+    requires wide { IsWide object (shape_of_struct field.parent) }
+    requires group { IsGroup (entry_of field) }
+    ensures writes { OnOk result (WritesField (words_in (A.segments arena.old))
+        (words_in (A.segments arena.new)) object field.entry []
+        (set_to (message (tree_of_message value.now)))) }
+    ensures grows { Grows (words_in (A.segments arena.old)) (words_in (A.segments arena.new)) }
+    ensures books { A.books arena.new ≡ A.books arena.old }
+{
+    gets_are_readings();
+    groups_set_by_writes();
+    let backing: Backing<NullArena> = default_backing(words_of(value.segment()));
+    let mut unlimited = ReadLimiter::new(None);
+    let root = PointerReader::at(&backing, ROOT).get_struct(&mut unlimited, None)?;
+    set_fields(arena, object, field, root)
 }
 
 /// Sets a group or a field of a struct's, a list's or no type to the value of a message, or a Void field to any, and marks its union. Other fields are refused with `TypeMismatch`.
@@ -94,7 +149,7 @@ pub(crate) fn set_message<A: BuilderArena>(
             mark(arena, object, field);
             Ok(())
         }
-        FieldPlace::Group { schema } => set_group(arena, object, field, schema, value),
+        FieldPlace::Group { .. } => set_group(arena, object, field, value),
         FieldPlace::Plain { .. } => Err(Error::from(ErrorKind::TypeMismatch)),
     }
 }

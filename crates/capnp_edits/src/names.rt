@@ -1,23 +1,11 @@
 //! The steps with which paths begin.
 ghost use Rattle.std.specs.Prelude.{◌≡◌, ◌<◌, IfSome, option_map, length, map};
 ghost use Rattle.capnp_calls.specs.CallViews.{step_view};
-ghost use Rattle.capnp_calls.specs.Taken.{starts_with_name, BeginsWith};
+ghost use Rattle.capnp_calls.specs.Roots.{starts_with_name};
 ghost use Rattle.capnp_edits.specs.Elements.{BeginsWithIndex};
 
 use capnp_calls::Step;
-
-/// The name with which a path begins, and the steps behind it; none where it doesn't begin with a name.
-pub(crate) fn first_name(path: &[Step]) -> Option<(&str, &[Step])>
-    ensures split { BeginsWith (map step_view path.now)
-        (option_map (λ p. (p.0.now, map step_view p.1.now)) result) }
-    ensures shorter { IfSome result (λ p. length p.1.now < length path.now) }
-{
-    match path {
-        [Step::Name(name), rest @ ..] => Some((name.as_str(), rest)),
-        [Step::Index(_), ..] => None,
-        [] => None,
-    }
-}
+use capnp_ways::steps::first_name;
 
 /// Whether a path begins with a name.
 pub(crate) fn begins_with_name(path: &[Step]) -> bool

@@ -11,10 +11,12 @@ ghost use Rattle.capnp_records.specs.Sets.{nodes_of};
 ghost use Rattle.capnp_queries.specs.Structs.{schema_around, shape_of_struct, id_of};
 ghost use Rattle.capnp_queries.specs.Types.{ty_of, is_type_of};
 ghost use Rattle.capnp_calls.specs.CallViews.{step_view, action_view};
-ghost use Rattle.capnp_calls.specs.Taken.{starts_with_name};
+ghost use Rattle.capnp_calls.specs.Roots.{starts_with_name};
+ghost use Rattle.capnp_copy.specs.States.{HasWords};
 ghost use Rattle.capnp_dynamic.specs.Edits.{IsThere, IsWide};
 ghost use Rattle.capnp_dynamic_lists.specs.Lists.{IsListThere};
 ghost use Rattle.capnp_dynamic_lists.specs.Elements.{Holds, HoldsStructs};
+ghost use Rattle.capnp_ways.specs.Ways.{IsWay};
 ghost use Rattle.capnp_edits.specs.Written.{WritesPath, WritesValue, HoldsDefault, GrowsAround, GrowsBehind, has_inside};
 ghost use Rattle.capnp_edits.specs.Elements.{WritesWithin, WritesFieldWithin, WritesElement, GrowsIn};
 
@@ -22,7 +24,7 @@ use crate::default::default_of;
 use crate::elements::write_element_end;
 use crate::end::write_end;
 use crate::lists::{holds, list_behind};
-use crate::names::{begins_with_name, first_index, first_name};
+use crate::names::{begins_with_name, first_index};
 use crate::schemas::struct_size;
 use capnp_builders::gets::struct_or_default;
 use capnp_calls::{Action, Step};
@@ -40,9 +42,14 @@ use capnp_records::set::SchemaSet;
 use capnp_units::errors::{Error, Result};
 use capnp_units::kinds::ErrorKind;
 use capnp_units::sizes::Word;
+use capnp_ways::find::{get_field, rest_of_way};
+use capnp_ways::steps::first_name;
+use capnp_ways::ways::FoundField;
 use capnp_wire::place::Place;
 
 /// Writes a call along its path, at a struct that is there and wide enough for its schema. Where the record machine does the call, whatever struct is owned there becomes what the call's edit makes of it, and nothing else changes. On the way a null pointer gets its default, else an empty struct; a narrower struct is widened to its schema's sizes, and a list whose elements' type is a struct becomes one of structs of its sizes, whatever its elements were.
+///
+/// The way says what the names of the path find, as far as it is known: no name is compared where that was found under the struct that stands there.
 ///
 /// Whether the call is done isn't looked at: a caller tests that on a reader first. A path that begins with no name or goes on by a name or an index where the schema has none, and a `get`, are refused with `WrongStep`; a name that the struct lacks with `FieldNotFound`; an index that is none of the list's with `IndexOutOfRange`; a struct on the way as by `struct_or_default`, and a list as by `get_list` and `get_struct_list` of `capnp_widening`; the last field as by `clear_field`, `begin_field`, `initn_slot` and `set_flat`, an element where the path ends as by `set_flat` and `init_element` of `capnp_dynamic_lists` and by `copy_content_from`, and a value that a field or an element doesn't take with `TypeMismatch`. After a refusal structs and lists on the way may be widened or have their defaults, the last field may be as before, and a group, or an element that is a struct, may have a part of the value; each segment of the message is still there, and no shorter.
 ///
@@ -52,10 +59,12 @@ pub fn write_path<A: BuilderArena>(
     object: StructPlace,
     schema: StructSchema<'_>,
     path: &[Step],
+    way: &[FoundField],
     action: &Action,
 ) -> Result<()>
     requires there { IsThere (words_in (A.segments arena.old)) object }
     requires wide { IsWide object (shape_of_struct schema) }
+    requires way { IsWay (schema_around schema) (map step_view path.now) way.now }
     ensures writes { OnOk result (WritesPath (words_in (A.segments arena.old))
         (words_in (A.segments arena.new)) object schema.entry (map step_view path.now)
         (action_view action.now)) }
@@ -63,7 +72,7 @@ pub fn write_path<A: BuilderArena>(
         (words_in (A.segments arena.new)) object }
     ensures books { A.books arena.new ≡ A.books arena.old }
 {
-    write_steps(arena, object, schema, path, action)
+    write_steps(arena, object, schema, path, way, action)
 }
 
 /// Writes a call along its path at a struct, as `write_path`, where the record machine does it as it reads the struct's data to some extent.
@@ -73,10 +82,12 @@ fn write_steps<A: BuilderArena>(
     object: StructPlace,
     schema: StructSchema<'_>,
     path: &[Step],
+    way: &[FoundField],
     action: &Action,
 ) -> Result<()>
     requires there { IsThere (words_in (A.segments arena.old)) object }
     requires wide { IsWide object (shape_of_struct schema) }
+    requires way { IsWay (schema_around schema) (map step_view path.now) way.now }
     ensures writes { OnOk result (WritesWithin (words_in (A.segments arena.old))
         (words_in (A.segments arena.new)) object schema.entry (map step_view path.now)
         (action_view action.now)) }
@@ -87,12 +98,12 @@ fn write_steps<A: BuilderArena>(
     let Some((name, rest)) = first_name(path) else {
         return Err(Error::from(ErrorKind::WrongStep));
     };
-    let field = schema.get_field_by_name(name)?;
+    let field = get_field(schema, name, way)?;
     let _said = field.get_proto();
     if rest.is_empty() {
         write_end(arena, object, field, action)
     } else {
-        write_behind(arena, object, field, rest, action)
+        write_behind(arena, object, field, rest, rest_of_way(way), action)
     }
 }
 
@@ -103,11 +114,13 @@ fn write_behind<A: BuilderArena>(
     object: StructPlace,
     field: Field<'_>,
     rest: &[Step],
+    way: &[FoundField],
     action: &Action,
 ) -> Result<()>
     requires there { IsThere (words_in (A.segments arena.old)) object }
     requires wide { IsWide object (shape_of_struct field.parent) }
     requires some { map step_view rest.now ≢ [] }
+    requires way { IsWay (schema_around field.parent) (map step_view rest.now) way.now }
     ensures writes { OnOk result (WritesFieldWithin (words_in (A.segments arena.old))
         (words_in (A.segments arena.new)) object field.entry (map step_view rest.now)
         (action_view action.now)) }
@@ -119,11 +132,11 @@ fn write_behind<A: BuilderArena>(
     let _words = holder.data_word_count;
     let _said = field.get_proto();
     match field.place() {
-        FieldPlace::Group { schema } => write_steps(arena, object, schema, rest, action),
+        FieldPlace::Group { schema } => write_steps(arena, object, schema, rest, way, action),
         FieldPlace::Pointer { index, ty, .. } => {
             let slot = pointer_place(object, index);
             let set = field.parent().set();
-            write_value(arena, slot, set, ty, default_of(field), rest, action)
+            write_value(arena, slot, set, ty, default_of(field), rest, way, action)
         }
         FieldPlace::Void { .. } | FieldPlace::Plain { .. } => {
             Err(Error::from(ErrorKind::WrongStep))
@@ -140,12 +153,13 @@ fn write_value<A: BuilderArena>(
     ty: Type,
     default: Option<&[Word]>,
     path: &[Step],
+    way: &[FoundField],
     action: &Action,
 ) -> Result<()>
-    requires there { is_some (words_at (words_in (A.segments arena.old)) (place_view slot) 1)
-        ≡ true }
+    requires there { HasWords (A.segments arena.old) slot 1 }
     requires near { slot.position < 2 ^ 61 }
     requires known { is_type_of (nodes_of set.now) ty ≡ true }
+    requires way { IsWay (schema_of (nodes_of set.now)) (map step_view path.now) way.now }
     ensures writes { (d : Tree)
         → (has_inside (ty_of ty) ≡ true → HoldsDefault (option_copied default.entry) d)
         → OnOk result (WritesValue (words_in (A.segments arena.old))
@@ -158,10 +172,10 @@ fn write_value<A: BuilderArena>(
     match ty.which() {
         TypeVariant::Struct(raw) if begins_with_name(path) => {
             let schema = StructSchema::new(set, raw);
-            write_struct(arena, slot, schema, default, path, action)
+            write_struct(arena, slot, schema, default, path, way, action)
         }
         TypeVariant::List(element) => {
-            write_list(arena, slot, set, element, default, path, action)
+            write_list(arena, slot, set, element, default, path, way, action)
         }
         _ => Err(Error::from(ErrorKind::WrongStep)),
     }
@@ -175,12 +189,14 @@ fn write_struct<A: BuilderArena>(
     schema: StructSchema<'_>,
     default: Option<&[Word]>,
     path: &[Step],
+    way: &[FoundField],
     action: &Action,
 ) -> Result<()>
     requires there { is_some (words_at (words_in (A.segments arena.old)) (place_view slot) 1)
         ≡ true }
     requires near { slot.position < 2 ^ 61 }
     requires named { starts_with_name (map step_view path.now) ≡ true }
+    requires way { IsWay (schema_around schema) (map step_view path.now) way.now }
     ensures writes { (d : Tree) → HoldsDefault (option_copied default.entry) d
         → OnOk result (WritesValue (words_in (A.segments arena.old))
         (words_in (A.segments arena.new)) (place_view slot) (schema_around schema.entry)
@@ -190,7 +206,7 @@ fn write_struct<A: BuilderArena>(
     ensures books { A.books arena.new ≡ A.books arena.old }
 {
     let inner = struct_or_default(arena, slot, struct_size(schema), default)?;
-    write_steps(arena, inner, schema, path, action)
+    write_steps(arena, inner, schema, path, way, action)
 }
 
 /// Writes a call along the rest of its path at the list behind a pointer, whose elements are of a type. A null pointer gets the default that these words hold.
@@ -202,12 +218,14 @@ fn write_list<A: BuilderArena>(
     element: Type,
     default: Option<&[Word]>,
     path: &[Step],
+    way: &[FoundField],
     action: &Action,
 ) -> Result<()>
     requires there { is_some (words_at (words_in (A.segments arena.old)) (place_view slot) 1)
         ≡ true }
     requires near { slot.position < 2 ^ 61 }
     requires known { is_type_of (nodes_of set.now) element ≡ true }
+    requires way { IsWay (schema_of (nodes_of set.now)) (map step_view path.now) way.now }
     ensures writes { (d : Tree) → HoldsDefault (option_copied default.entry) d
         → OnOk result (WritesValue (words_in (A.segments arena.old))
         (words_in (A.segments arena.new)) (place_view slot) (schema_of (nodes_of set.now))
@@ -226,7 +244,7 @@ fn write_list<A: BuilderArena>(
     if !holds(inner, set, element) {
         return Err(Error::from(ErrorKind::WrongElementSize));
     }
-    write_element(arena, inner, index, set, element, rest, action)
+    write_element(arena, inner, index, set, element, rest, way, action)
 }
 
 /// Writes a call along the rest of its path at an element of a list, whose elements are there under their type.
@@ -238,6 +256,7 @@ fn write_element<A: BuilderArena>(
     set: &SchemaSet,
     ty: Type,
     rest: &[Step],
+    way: &[FoundField],
     action: &Action,
 ) -> Result<()>
     requires there { IsListThere (words_in (A.segments arena.old)) list }
@@ -245,6 +264,7 @@ fn write_element<A: BuilderArena>(
     requires holds { Holds list (ty_of ty) }
     requires sizes { HoldsStructs (schema_of (nodes_of set.now)) list (ty_of ty) }
     requires known { is_type_of (nodes_of set.now) ty ≡ true }
+    requires way { IsWay (schema_of (nodes_of set.now)) (map step_view rest.now) way.now }
     ensures writes { OnOk result (WritesElement (words_in (A.segments arena.old))
         (words_in (A.segments arena.new)) list (schema_of (nodes_of set.now)) (ty_of ty) index
         (map step_view rest.now) (action_view action.now)) }
@@ -259,12 +279,19 @@ fn write_element<A: BuilderArena>(
         TypeVariant::Struct(raw) => {
             elements_as_structs();
             let schema = StructSchema::new(set, raw);
-            write_steps(arena, element_struct(list, index), schema, rest, action)
+            write_steps(
+                arena,
+                element_struct(list, index),
+                schema,
+                rest,
+                way,
+                action,
+            )
         }
         TypeVariant::List(element) => {
             elements_as_pointers();
             let slot = element_pointer(list, index);
-            write_list(arena, slot, set, element, None, rest, action)
+            write_list(arena, slot, set, element, None, rest, way, action)
         }
         _ => Err(Error::from(ErrorKind::WrongStep)),
     }

@@ -1,9 +1,9 @@
 //! Whole lists, read as each type that elements have.
 
+use capnp_elements::element::PrimitiveElement;
 use capnp_units::limiter::ReadLimiter;
 use capnp_units::sizes::Word;
 use capnp_wire::arena::ReaderArena;
-use capnp_wire::element::PrimitiveElement;
 use capnp_wire::pointer::PointerReader;
 
 /// Longer lists are read up to here; only lists of voids are longer in these messages, and those only where there is no limit of words.

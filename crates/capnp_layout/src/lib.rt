@@ -1,6 +1,7 @@
 //! The layout layer under one name: units and sizes, arenas, and the readers of pointers, structs and lists.
 #![tactic(auto)]
 
+pub use capnp_elements::element::PrimitiveElement;
 pub use capnp_units::errors::{Error, Result};
 pub use capnp_units::iter::{IndexMove, ItemIter, ListIndex, ListIter, ShortListIter};
 pub use capnp_units::kinds::ErrorKind;
@@ -13,7 +14,6 @@ pub use capnp_units::sizes::{
 };
 pub use capnp_units::units;
 pub use capnp_wire::arena::{NullArena, ReaderArena, ReaderArenaImpl};
-pub use capnp_wire::element::PrimitiveElement;
 pub use capnp_wire::laws;
 pub use capnp_wire::list::ListReader;
 pub use capnp_wire::place::Place;

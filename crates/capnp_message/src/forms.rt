@@ -16,9 +16,9 @@ use capnp_stream::buffers::NoAllocSliceSegments;
 use capnp_stream::forms::MessageForm;
 use capnp_stream::segments::OwnedSegments;
 use capnp_stream::traits::{BufRead, Write};
-use capnp_stream::writing::write_message_segments_in;
 use capnp_stream::{frames, lent};
 use capnp_units::errors::Result;
+use capnp_writing::messages::write_message_segments_in;
 use std::alloc::Global;
 
 /// The next message in a form, or `None` where no byte is left.

@@ -1,14 +1,11 @@
 //! Handles that know where their values lie, and are made at a pointer of a message that is built.
-ghost use Rattle.std.specs.Prelude.{◌≡◌, ◌+◌, ◌<◌, ◌^◌, ◌↔◌, ◌++◌, ◌∷◌, [], ℕ, None, true, IfOk, IfErr, OnErr};
-ghost use Rattle.std.specs.List.{flat_map};
-ghost use Rattle.std.specs.Option.{is_some};
-ghost use Rattle.capnp_model.specs.Segments.{Segments, words_at};
+ghost use Rattle.std.specs.Prelude.{◌≡◌, ◌+◌, ◌<◌, ◌^◌, ◌↔◌, ℕ, None, IfOk, IfErr, OnErr};
+ghost use Rattle.capnp_model.specs.Segments.{Segments};
 ghost use Rattle.capnp_units.specs.Segments.{words_in};
 ghost use Rattle.capnp_units.specs.declared.errors.Error.{Error};
 ghost use Rattle.capnp_units.specs.declared.kinds.ErrorKind.TheVariants.{SizeOverflow};
 ghost use Rattle.capnp_units.specs.declared.sizes.StructSize.{StructSize};
 ghost use Rattle.capnp_object.specs.declared.place.Place as code;
-ghost use Rattle.capnp_wire.specs.Places.{place_view};
 ghost use Rattle.capnp_copy.specs.Allocations.{total_words};
 ghost use Rattle.capnp_copy.specs.States.{HasWords};
 ghost use Rattle.capnp_copy.specs.declared.fields.StructPlace.{StructPlace};
@@ -23,7 +20,7 @@ use crate::roots::begin;
 use crate::typed_builder::TypedBuilder;
 use capnp_builders::gets::struct_or_default;
 use capnp_builders::pointer_builder::PointerBuilder;
-use capnp_copy::allocator::{Allocator, SegmentBytes};
+use capnp_copy::allocator::Allocator;
 use capnp_copy::arena::{BuilderArena, Memory};
 pub use capnp_copy::bytes::BlobPlace;
 pub use capnp_copy::fields::StructPlace;

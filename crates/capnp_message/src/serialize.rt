@@ -30,10 +30,10 @@ pub use capnp_stream::frames::SEGMENTS_COUNT_LIMIT;
 pub use capnp_stream::segments::{OwnedSegments, SegmentLengthsBuilder};
 use capnp_stream::slices;
 use capnp_stream::traits::{BufRead, Write};
-pub use capnp_stream::writing::{
+use capnp_units::errors::Result;
+pub use capnp_writing::messages::{
     compute_serialized_size_in_words, write_message_segments, write_message_segments_to_words,
 };
-use capnp_units::errors::Result;
 use std::alloc::Global;
 
 /// The next framed message, or `None` where no byte is left.

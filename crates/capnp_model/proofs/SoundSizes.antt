@@ -171,7 +171,7 @@ pub record MoreRules (nodes : List Node) : Type 0 where
   groups : list_all (is_good_group nodes) nodes ≡ true
   places : list_all (on_struct has_places) nodes ≡ true
 
-more_rules : (nodes : List Node) → IsAccepted nodes → MoreRules nodes
+pub more_rules : (nodes : List Node) → IsAccepted nodes → MoreRules nodes
 more_rules nodes h =
     let a = behind nodes 1 11 h in
     let b = behind nodes 2 10 a.1 in
@@ -294,7 +294,7 @@ module _ (nodes : List Node) (r : MoreRules nodes) where
       once : (k : ℕ) → (k == 1) ≡ true → k ≤ 1
       once k h = grind arith
 
-  group_room : (levels id : ℕ) (n : Node) (words pointers g : ℕ) → find_node nodes id ≡ Some n → (sizes_of n).0 ≡ words → (sizes_of n).1 ≡ pointers → list_any (λ x. x == g) (groups_used n) ≡ true → HasRoom (shape_in nodes levels g) words pointers
+  pub group_room : (levels id : ℕ) (n : Node) (words pointers g : ℕ) → find_node nodes id ≡ Some n → (sizes_of n).0 ≡ words → (sizes_of n).1 ≡ pointers → list_any (λ x. x == g) (groups_used n) ≡ true → HasRoom (shape_in nodes levels g) words pointers
   unfolding shape_in
   group_room zero id n words pointers g e a b u = (omega arith, omega arith)
   group_room (suc levels) id n words pointers g e a b u = by (find_node nodes g) refl

@@ -131,33 +131,39 @@ trim_open (plain_list z n k) o = absurd o
 trim_open (pointer_list ts) o = absurd o
 trim_open (struct_list w p es) o = absurd o
 
+-- calls can start from a root that is opened under another schema
+pub start_opened_by : (o : Schema) (other : ℕ) (nodes : List Node) (id : ℕ) (calls : List Call) (t : Tree) → IsStart nodes id calls t → IsStart nodes id calls (opened_root o other t)
+unfolding opened_root
+start_opened_by o other nodes id calls t k =
+    let s = schema_of nodes in
+    record {
+      accepted = k.accepted;
+      root = k.root;
+      given = k.given;
+      opens = opened_open (o.shape_of other) (trim t) (trim_open t k.opens);
+      kinds = record {
+        of_tree = opened_kind s id (o.shape_of other) (trim t) (trim_open t k.opens) (in_kind-trim s t (struct id) ∙ k.kinds.of_tree);
+        reached = k.kinds.reached;
+        has_root = k.kinds.has_root;
+        are_closed = k.kinds.are_closed;
+        of_defaults = k.kinds.of_defaults;
+        of_values = k.kinds.of_values;
+      };
+    }
+
+-- its record is the value's
+pub record_opened_by : (o : Schema) (other : ℕ) (s : Schema) (id : ℕ) (t : Tree) → IsOpen t → in_kind s t (struct id) ≡ true → record_of s id (opened_root o other t) ≡ record_of s id t
+unfolding opened_root record_of
+record_opened_by o other s id t opens kind =
+    opened_record s (s.shape_of id) (o.shape_of other) (trim t) (trim_open t opens) ∙ trimmed_record s id t kind
+
 module _ (nodes : List Node) (id : ℕ) where
   -- calls can start from the opened root
   pub opened_start : (calls : List Call) (t : Tree) → IsStart nodes id calls t → IsStart nodes id calls (opened_root (schema_of nodes) id t)
-  unfolding opened_root
-  opened_start calls t k =
-      let s = schema_of nodes in
-      let trimmed = in_kind-trim s t (struct id) ∙ k.kinds.of_tree in
-      record {
-        accepted = k.accepted;
-        root = k.root;
-        given = k.given;
-        opens = opened_open (s.shape_of id) (trim t) (trim_open t k.opens);
-        kinds = record {
-          of_tree = opened_kind s id (s.shape_of id) (trim t) (trim_open t k.opens) trimmed;
-          reached = k.kinds.reached;
-          has_root = k.kinds.has_root;
-          are_closed = k.kinds.are_closed;
-          of_defaults = k.kinds.of_defaults;
-          of_values = k.kinds.of_values;
-        };
-      }
+  opened_start = start_opened_by (schema_of nodes) id nodes id
 
   opened_reads : (calls : List Call) (t : Tree) → IsStart nodes id calls t → record_of (schema_of nodes) id (opened_root (schema_of nodes) id t) ≡ record_of (schema_of nodes) id t
-  unfolding opened_root record_of
-  opened_reads calls t k =
-      let s = schema_of nodes in
-      opened_record s (s.shape_of id) (s.shape_of id) (trim t) (trim_open t k.opens) ∙ trimmed_record s id t k.kinds.of_tree
+  opened_reads calls t k = record_opened_by (schema_of nodes) id (schema_of nodes) id t k.opens k.kinds.of_tree
 
   -- what is written reads as what the calls make of the record of what was read
   pub written_record : (calls : List Call) (t : Tree) → IsStart nodes id calls t

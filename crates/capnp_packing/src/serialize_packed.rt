@@ -15,10 +15,10 @@ use capnp_stream::frames::{read_message_in, try_read_message_in};
 use capnp_stream::lent::{read_message_no_alloc_in, try_read_message_no_alloc_in};
 use capnp_stream::segments::OwnedSegments;
 use capnp_stream::traits::{BufRead, Read, Write};
-use capnp_stream::writing::{write_message_segments_in, write_segment_in};
 use capnp_units::errors::Result;
 use capnp_units::kinds::ErrorKind;
 use capnp_units::segments::ReaderSegments;
+use capnp_writing::messages::{write_message_segments_in, write_segment_in};
 use std::alloc::Global;
 
 /// The segments of the next packed message, or `None` where no byte is left. `limit` is in words, all segments together.

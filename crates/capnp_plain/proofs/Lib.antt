@@ -1,5 +1,12 @@
-pub mod DataWords
-pub mod Roots
 pub mod PlainCalls
 pub mod SetRoots
 pub mod NamedFields
+pub mod SplicedKids
+pub mod SplicedCells
+pub mod SplicedStructs
+pub mod SplicedLists
+pub mod SplicedPaths
+pub mod SplicedSteps
+pub mod SplicedCalls
+pub mod CallWays
+pub mod SpliceRuns

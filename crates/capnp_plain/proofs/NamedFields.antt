@@ -15,9 +15,10 @@ use Rattle.capnp_queries.specs.declared.structs.StructSchema.{StructSchema}
 use Rattle.capnp_queries.specs.declared.fields.Field.{Field}
 use Rattle.capnp_calls.specs.Texts.{as_it_is}
 use Rattle.capnp_edits.proofs.Outcomes.{found_at}
-use Rattle.capnp_plain.specs.PlainSets.{put_set, IsPlain, ArePlain}
+use Rattle.capnp_plain.specs.PlainSets.{IsPlain, ArePlain}
+use Rattle.capnp_splice.specs.DataWords.{put_set}
 use Rattle.capnp_plain.specs.PlainFields.{PutsNumber, PutsInto, SetsEntry}
-use Rattle.capnp_plain.specs.declared.plain.PlainSet.{PlainSet}
+use Rattle.capnp_splice.specs.declared.plain.PlainSet.{PlainSet}
 use Rattle.capnp_plain.proofs.PlainCalls.{is_replied, is_edited}
 
 -- A plain slot that is no member's is set by a number.

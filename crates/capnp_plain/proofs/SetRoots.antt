@@ -1,7 +1,7 @@
 -- The value and the replies of calls that put numbers.
-use Rattle.std.proofs.Common.{◌≡◌, ℕ, zero, suc, ◌*◌, ◌^◌, ◌<◌, List, [], ◌∷◌, length, replicate, refl, ap, sym, subst, ◌∙◌, arith}
+use Rattle.std.proofs.Common.{◌≡◌, ℕ, suc, ◌*◌, ◌^◌, ◌<◌, List, [], ◌∷◌, length, replicate, refl, ap, sym, subst, ◌∙◌}
 use Rattle.capnp_model.specs.Sections.{needed_words}
-use Rattle.capnp_model.specs.Trees.{Tree, null, capability, structure, plain_list, pointer_list, struct_list, Trees, none, ◌▸◌, padded_to, depth, depths}
+use Rattle.capnp_model.specs.Trees.{Tree, null, capability, structure, plain_list, pointer_list, struct_list, Trees, depth}
 use Rattle.capnp_model.specs.Trimming.{trim, trim_each, stripped}
 use Rattle.capnp_model.specs.Fits.{Fits}
 use Rattle.capnp_model.specs.Encoding.{canonical_words}
@@ -14,16 +14,12 @@ use Rattle.capnp_model.proofs.Widening.{trim-widened}
 use Rattle.capnp_queries.specs.Structs.{schema_around, shape_of_struct, id_of}
 use Rattle.capnp_queries.specs.declared.structs.StructSchema.{StructSchema}
 use Rattle.capnp_calls.specs.Texts.{as_it_is}
-use Rattle.capnp_plain.specs.PlainSets.{put_set, ArePlain, after_calls, SetsWords}
-use Rattle.capnp_plain.specs.DataWords.{put_sets, AreWordsAfter}
-use Rattle.capnp_plain.specs.declared.plain.PlainSet.{PlainSet}
+use Rattle.capnp_plain.specs.PlainSets.{ArePlain, after_calls, SetsWords}
+use Rattle.capnp_plain.proofs.SplicedKids.{depths_padded}
+use Rattle.capnp_splice.specs.DataWords.{put_set, put_sets, AreWordsAfter}
+use Rattle.capnp_splice.specs.declared.plain.PlainSet.{PlainSet}
 
 -- ---- structs as their schema opens them
-
-depths_padded : (p : ℕ) (ts : Trees) → depths (padded_to p ts) ≡ depths ts
-depths_padded zero ts = refl
-depths_padded (suc p) none = let more = depths_padded p none in omega arith
-depths_padded (suc p) (t ▸ ts) = let more = depths_padded p ts in omega arith
 
 as_deep : (g : Shape) (n s u : ℕ) (kids : Trees) → depth (widened_root g (structure n u kids)) ≡ depth (structure n s kids)
 as_deep (shape nid words pointers union fs) n s u kids = ap suc (depths_padded pointers kids)

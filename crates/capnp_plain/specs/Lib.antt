@@ -1,3 +1,4 @@
 pub mod PlainSets
-pub mod DataWords
 pub mod PlainFields
+pub mod Ways
+pub mod CallSplices

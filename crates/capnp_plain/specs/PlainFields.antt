@@ -3,7 +3,7 @@ use Rattle.std.specs.Prelude.{◌≡◌, ℕ, ◌+◌, ◌*◌, bit_xor, Option,
 use Rattle.capnp_model.specs.Schemas.{PlainType, width, Body, void_slot, plain_slot, pointer_slot, group_slot}
 use Rattle.capnp_model.specs.Calls.{CallValue, bits_of, plain_content}
 use Rattle.capnp_queries.specs.Fields.{Entry}
-use Rattle.capnp_plain.specs.declared.plain.PlainSet.{PlainSet}
+use Rattle.capnp_splice.specs.declared.plain.PlainSet.{PlainSet}
 
 -- A slot that begins at a bit of the data is set to a value by putting the number, with the slot's default.
 pub record PutsNumber (q : PlainType) (at default : ℕ) (v : CallValue) (p : PlainSet) : Type 0 where

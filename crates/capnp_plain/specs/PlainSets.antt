@@ -1,6 +1,5 @@
 -- Calls that set plain fields of a root: numbers put into its data section. (Encoding, "Structs")
-use Rattle.std.specs.Prelude.{◌≡◌, ℕ, ◌+◌, ◌*◌, List, [], ◌∷◌, length, replicate, ⊤}
-use Rattle.capnp_model.specs.Sections.{with_bits}
+use Rattle.std.specs.Prelude.{◌≡◌, ℕ, List, [], ◌∷◌, length, replicate, ⊤}
 use Rattle.capnp_model.specs.Trees.{Tree, Trees, structure, depth}
 use Rattle.capnp_model.specs.Trimming.{trim}
 use Rattle.capnp_model.specs.Fits.{Fits}
@@ -13,11 +12,8 @@ use Rattle.capnp_model.specs.Answers.{reply_of, reply_done, replies, edits, wide
 use Rattle.capnp_queries.specs.Structs.{schema_around, shape_of_struct, id_of}
 use Rattle.capnp_queries.specs.declared.structs.StructSchema.{StructSchema}
 use Rattle.capnp_calls.specs.Texts.{as_it_is}
-use Rattle.capnp_plain.specs.declared.plain.PlainSet.{PlainSet}
-
--- The section after a number is put there.
-abbrev pub put_set : PlainSet → ℕ → ℕ
-put_set p section = with_bits (64 * p.word + p.shift) p.width p.bits section
+use Rattle.capnp_splice.specs.DataWords.{put_set}
+use Rattle.capnp_splice.specs.declared.plain.PlainSet.{PlainSet}
 
 -- A call is done at a root whatever it reads as, and puts a number into its data.
 pub record IsPlain (schema : StructSchema) (c : Call) (p : PlainSet) : Type 0 where

@@ -6,13 +6,13 @@ ghost use Rattle.capnp_queries.specs.Handles.{plain_of, entry_of};
 ghost use Rattle.capnp_calls.specs.CallViews.{step_view, slot_value_view, action_view};
 ghost use Rattle.capnp_plain.specs.PlainFields.{SetsEntry};
 
-use crate::plain::PlainSet;
 use capnp_calls::{Action, SlotValue, Step};
 use capnp_dynamic::slots::width_of;
 use capnp_edits::values::bits_for;
 use capnp_queries::fields::Field;
 use capnp_queries::slots::{FieldPlace, PlainType};
 use capnp_records::node::NO_DISCRIMINANT;
+use capnp_splice::plain::PlainSet;
 
 /// The one name that a path has; none where it has other steps.
 pub(crate) fn only_name(path: &[Step]) -> Option<&str>
@@ -35,7 +35,7 @@ pub(crate) fn value_set(action: &Action) -> Option<&SlotValue>
 }
 
 /// Whether a field is a member of a union.
-fn is_member(field: Field<'_>) -> bool
+pub(crate) fn is_member(field: Field<'_>) -> bool
     ensures { result ≡ false → option_map (λ e. e.member) (entry_of field.entry) ≡ Some None }
 {
     field.get_proto().discriminant_value != NO_DISCRIMINANT

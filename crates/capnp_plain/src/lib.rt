@@ -2,6 +2,6 @@
 #![tactic(auto)]
 
 mod fields;
-pub mod plain;
 pub mod sets;
-mod words;
+pub mod splices;
+mod ways;

@@ -12,10 +12,10 @@ ghost use Rattle.capnp_canonical.specs.Writes.{words_view};
 ghost use Rattle.capnp_plain.specs.PlainSets.{IsPlain, ArePlain, SetsWords};
 
 use crate::fields::{field_set, only_name, value_set};
-use crate::plain::PlainSet;
-use crate::words::put_in_root;
 use capnp_calls::Call;
 use capnp_queries::structs::StructSchema;
+use capnp_splice::plain::PlainSet;
+use capnp_splice::words::put_in_root;
 use capnp_units::errors::Result;
 use capnp_units::sizes::Word;
 use std::alloc::Global;

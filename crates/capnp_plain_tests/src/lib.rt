@@ -2,6 +2,10 @@
 #![tactic(auto)]
 
 #[cfg(test)]
+mod orders;
+#[cfg(test)]
 mod schemas;
+#[cfg(test)]
+mod splices;
 #[cfg(test)]
 mod tests;

@@ -1,9 +1,9 @@
 //! Numbers that calls put into canonical words. The expected bytes are worked by hand from the encoding document: a field's bits stand in the data section at its offset times its width, the lowest byte first, exclusive or with its default's.
 use crate::schemas::{ROOT, schemas};
 use capnp_calls::{Call, CallValue, Step, Verb};
-use capnp_plain::plain::PlainSet;
 use capnp_plain::sets::{plain_set, plain_sets, write_sets};
 use capnp_queries::structs::StructSchema;
+use capnp_splice::plain::PlainSet;
 use capnp_units::sizes::Word;
 use std::alloc::Global;
 use std::test::Fail;

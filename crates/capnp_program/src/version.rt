@@ -49,7 +49,7 @@ impl Version {
     ghost use Rattle.std.specs.Option.{option_copied};
     ghost use Rattle.capnp_records.specs.Sets.{nodes_of};
     ghost use Rattle.capnp_queries.specs.Structs.{nodes_around, id_of};
-    ghost use Rattle.capnp_calls.specs.Taken.{IsRoot};
+    ghost use Rattle.capnp_calls.specs.Roots.{IsRoot};
     ghost use Rattle.capnp_program.specs.Faults.{IsRefusalOf};
     ghost use Rattle.capnp_program.specs.Asked.{version_in};
 

@@ -4,10 +4,10 @@ ghost use Rattle.capnp_units.specs.Sizes.{size_number};
 ghost use Rattle.capnp_wire.specs.Views.{seen_list};
 
 use crate::tree::{Node, Shape, Tree};
+use capnp_elements::element::PrimitiveElement;
 use capnp_units::limiter::ReadLimiter;
 use capnp_units::sizes::ElementSize;
 use capnp_wire::arena::ReaderArena;
-use capnp_wire::element::PrimitiveElement;
 use capnp_wire::list::ListReader;
 use capnp_wire::pointer::PointerReader;
 use capnp_wire::structs::StructReader;

@@ -1,6 +1,6 @@
 -- Values that stand as bytes.
 use Rattle.std.proofs.Common.{◌≡◌, ℕ, zero, suc, ◌+◌, ◌-◌, ◌*◌, ◌/◌, ◌%◌, ◌^◌, ◌<◌, ◌≤◌, Bool, true, false, not, ◌&&◌, nat_lt, Option, Some, None, List, [], ◌∷◌, ◌++◌, length, take, drop, Ok, Err, refl, sym, ◌∙◌, ap, subst, arith, append-nil, length-drop, length-take-le, take-append-drop}
-use Rattle.std.specs.Prelude.{slice_index}
+use Rattle.std.specs.Prelude.{IsSome, slice_index}
 use Rattle.std.specs.Int.{from_le_bytes, to_le_bytes, w64}
 use Rattle.std.specs.Str.{bytes_eq}
 use Rattle.std.proofs.lemmas.Bool.Decides.{nat_tests}
@@ -26,6 +26,7 @@ use Rattle.capnp_model.proofs.ByteWords.{words_back, bytes_length}
 use Rattle.capnp_model.proofs.CanonicalTests.{message_test, test_message}
 use Rattle.capnp_model.proofs.CanonicalWords.{canonical_words_are}
 use Rattle.capnp_model.proofs.Chaining.{bind_some, provided_some, some_is}
+use Rattle.capnp_model.proofs.KeptRules.{and_right}
 use Rattle.capnp_model.proofs.ReadFits.{tree_at_fits}
 use Rattle.capnp_model.proofs.TrimFits.{Fits-trim}
 use Rattle.capnp_units.specs.declared.errors.Error.{Error}
@@ -212,6 +213,14 @@ undecoded_bad test bytes none = by (decode bytes) refl
     by : (o : Option Tree) → decode bytes ≡ o → is_good_segment test bytes ≡ false
     by None e = good_by test bytes None e ∙ and_false (nat_lt (length bytes) (8 * 2 ^ 29))
     by (Some t) e = absurd (none t e)
+
+-- those of a good one have a value
+pub segment_found : (test : Tree → Bool) (bytes : List ℕ) → is_good_segment test bytes ≡ true → IsSome (decode bytes)
+segment_found test bytes h = by (decode bytes) (and_right (nat_lt (length bytes) (8 * 2 ^ 29)) (elim (decode bytes) as (λ (o : Option Tree). Bool) [ None ↦ false | Some t ↦ test t ]) h)
+  where
+    by : (o : Option Tree) → (elim o as (λ (x : Option Tree). Bool) [ None ↦ false | Some t ↦ test t ]) ≡ true → IsSome o
+    by None k = absurd (cc k)
+    by (Some t) k = refl
 
 -- too many bytes are bad
 pub too_many_bad : (test : Tree → Bool) (bytes : List ℕ) → 8 * 2 ^ 29 ≤ length bytes → is_good_segment test bytes ≡ false

@@ -26,10 +26,10 @@ use capnp_stream::buffers::NoAllocSliceSegments;
 use capnp_stream::forms::MessageForm;
 use capnp_stream::kept::MessageBuffer;
 use capnp_stream::traits::{BufRead, Read, Write};
-use capnp_stream::writing::write_segment_in;
 use capnp_units::errors::Error;
 use capnp_units::kinds::ErrorKind;
 use capnp_units::sizes::{Word, words_as_bytes};
+use capnp_writing::messages::write_segment_in;
 use std::alloc::Global;
 
 /// Buffers that are kept from message to message: they grow only where a message wants more of them than those before.

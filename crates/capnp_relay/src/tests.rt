@@ -123,18 +123,14 @@ fn each_message_is_answered(rt: HostRuntime) -> Result<(), Fail> {
     let mut log = Vec::new(alloc);
     let mut source = TWO.as_slice();
     let end = run_framed(alloc, &mut source, &mut out, &mut log, &Echo, 1000);
-    assert_eq!(rt;
-        end,
-        Ok(Counts {
+    assert!(rt;
+        end == Ok(Counts {
             written: 1,
             refused: 1
         })
     );
-    assert_eq!(rt; out.as_slice(), &TWO[16..]);
-    assert_eq!(rt;
-        log.as_slice(),
-        b"message 1 refused: value\nmessage 2 written\n".as_slice()
-    );
+    assert!(rt; out.as_slice() == &TWO[16..]);
+    assert!(rt; log.as_slice() == b"message 1 refused: value\nmessage 2 written\n".as_slice());
     Ok(())
 }
 
@@ -168,14 +164,13 @@ fn lines_have_the_replies(rt: HostRuntime) -> Result<(), Fail> {
     let answer = MessageAnswer::Written { count: 0, replies };
     let mut line = Vec::new(alloc);
     log_line(&mut line, 10, &answer)?;
-    assert_eq!(rt;
-        line.as_slice(),
-        b"message 10 written; done; \"hi\"; refused InactiveMember\n".as_slice()
+    assert!(rt;
+        line.as_slice() == b"message 10 written; done; \"hi\"; refused InactiveMember\n".as_slice()
     );
     log_line(&mut line, 1, &MessageAnswer::Refused(Reason::Root))?;
-    assert_eq!(rt; line.as_slice(), b"message 1 refused: root\n".as_slice());
+    assert!(rt; line.as_slice() == b"message 1 refused: root\n".as_slice());
     log_line(&mut line, 1, &MessageAnswer::Refused(Reason::Depth))?;
-    assert_eq!(rt; line.as_slice(), b"message 1 refused: depth\n".as_slice());
+    assert!(rt; line.as_slice() == b"message 1 refused: depth\n".as_slice());
     Ok(())
 }
 
@@ -186,30 +181,20 @@ fn bytes_that_are_no_message_end_a_run(rt: HostRuntime) -> Result<(), Fail> {
         written: 0,
         refused: 0,
     };
-    assert_eq!(rt; ends(alloc, &[], 1000), Ok(none));
+    assert!(rt; ends(alloc, &[], 1000) == Ok(none));
     let cut = ErrorKind::FailedToFillTheWholeBuffer;
-    assert_eq!(rt;
-        ends(alloc, &[0, 0, 0, 0], 1000),
-        fault(Fault::Framing(cut), 0, 0)
-    );
-    assert_eq!(rt;
-        ends(alloc, &TWO[..31], 1000),
-        fault(Fault::Framing(cut), 0, 1)
-    );
+    assert!(rt; ends(alloc, &[0, 0, 0, 0], 1000) == fault(Fault::Framing(cut), 0, 0));
+    assert!(rt; ends(alloc, &TWO[..31], 1000) == fault(Fault::Framing(cut), 0, 1));
     let many = ErrorKind::InvalidNumberOfSegments;
-    assert_eq!(rt;
-        ends(alloc, &[0xff, 1, 0, 0, 0, 0, 0, 0], 1000),
-        fault(Fault::Framing(many), 0, 0)
+    assert!(rt;
+        ends(alloc, &[0xff, 1, 0, 0, 0, 0, 0, 0], 1000) == fault(Fault::Framing(many), 0, 0)
     );
     let large = ErrorKind::MessageTooLarge;
-    assert_eq!(rt;
-        ends(alloc, &[0, 0, 0, 0, 2, 0, 0, 0], 1),
-        fault(Fault::Framing(large), 0, 0)
-    );
+    assert!(rt; ends(alloc, &[0, 0, 0, 0, 2, 0, 0, 0], 1) == fault(Fault::Framing(large), 0, 0));
     let end = fault(Fault::Framing(large), 0, 0);
-    assert_eq!(rt;
-        format!(in alloc; "{}", end.err().ok_or("no fault")?)?.as_str(),
-        "fault: framing MessageTooLarge"
+    assert!(rt;
+        format!(in alloc; "{}", end.err().ok_or("no fault")?)?.as_str()
+            == "fault: framing MessageTooLarge"
     );
     Ok(())
 }
@@ -223,8 +208,8 @@ fn a_failed_read_is_no_end(rt: HostRuntime) -> Result<(), Fail> {
         let mut source = Drip::new(&TWO, n);
         let end = run_framed(alloc, &mut source, &mut out, &mut log, &Echo, 1000);
         let (written, refused) = ((n / 32) as u64, (n.min(16) / 16) as u64);
-        assert_eq!(rt; end, fault(Fault::Source, written, refused));
-        assert_eq!(rt; out.len(), n / 32 * 16);
+        assert!(rt; end == fault(Fault::Source, written, refused));
+        assert!(rt; out.len() == n / 32 * 16);
     }
     Ok(())
 }
@@ -237,16 +222,16 @@ fn a_failed_write_ends_a_run(rt: HostRuntime) -> Result<(), Fail> {
         let mut log = Vec::new(alloc);
         let mut source = TWO.as_slice();
         let end = run_framed(alloc, &mut source, &mut out, &mut log, &Echo, 1000);
-        assert_eq!(rt; end, fault(Fault::Out, 0, 1));
-        assert_eq!(rt; out.held(), &TWO[16..16 + n]);
-        assert_eq!(rt; log.as_slice(), b"message 1 refused: value\n".as_slice());
+        assert!(rt; end == fault(Fault::Out, 0, 1));
+        assert!(rt; out.held() == &TWO[16..16 + n]);
+        assert!(rt; log.as_slice() == b"message 1 refused: value\n".as_slice());
     }
     let mut out = Vec::new(alloc);
     let mut log = Short::new(alloc, 30, false);
     let end = run_framed(alloc, &mut TWO.as_slice(), &mut out, &mut log, &Echo, 1000);
-    assert_eq!(rt; end, fault(Fault::Log, 1, 1));
-    assert_eq!(rt; out.as_slice(), &TWO[16..]);
-    assert_eq!(rt; log.held(), b"message 1 refused: value\nmessa".as_slice());
+    assert!(rt; end == fault(Fault::Log, 1, 1));
+    assert!(rt; out.as_slice() == &TWO[16..]);
+    assert!(rt; log.held() == b"message 1 refused: value\nmessa".as_slice());
     Ok(())
 }
 
@@ -256,7 +241,7 @@ fn other_faults_end_a_run(rt: HostRuntime) -> Result<(), Fail> {
     let mut out = Short::new(alloc, 8, true);
     let mut log = Vec::new(alloc);
     let end = run_framed(alloc, &mut TWO.as_slice(), &mut out, &mut log, &Echo, 1000);
-    assert_eq!(rt; end, fault(Fault::Memory, 0, 1));
+    assert!(rt; end == fault(Fault::Memory, 0, 1));
     let mut room = [0u8; 15];
     let end = run_framed(
         alloc,
@@ -266,7 +251,7 @@ fn other_faults_end_a_run(rt: HostRuntime) -> Result<(), Fail> {
         &Echo,
         1000,
     );
-    assert_eq!(rt; end, fault(Fault::Out, 0, 1));
+    assert!(rt; end == fault(Fault::Out, 0, 1));
     for (want, told) in [(Want::Memory, Fault::Memory), (Want::Size, Fault::Size)] {
         let end = run_framed(
             alloc,
@@ -276,7 +261,7 @@ fn other_faults_end_a_run(rt: HostRuntime) -> Result<(), Fail> {
             &Wanting(want),
             1000,
         );
-        assert_eq!(rt; end, fault(told, 0, 0));
+        assert!(rt; end == fault(told, 0, 0));
     }
     Ok(())
 }

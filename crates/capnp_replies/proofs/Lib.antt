@@ -10,3 +10,4 @@ pub mod KeptValues
 pub mod GroupFaults
 pub mod GroupReplies
 pub mod SlotFaults
+pub mod Ways

@@ -21,7 +21,7 @@ use Rattle.capnp_values.specs.Sources.{masked_bits}
 use Rattle.capnp_values.specs.Shown.{Shown, a_number, an_enum, a_text, a_blob, a_struct, a_list, a_pointer, a_capability, number_shown, slot_shown, kind_shown}
 use Rattle.capnp_values.specs.Standing.{IsRecord, AreItems, IsReading, Answers, filled, or_default, or_empty as or_empty_value}
 use Rattle.capnp_calls.specs.Texts.{as_it_is}
-use Rattle.capnp_calls.specs.Taken.{starts_with_name}
+use Rattle.capnp_calls.specs.Roots.{starts_with_name}
 use Rattle.capnp_calls.proofs.OneStep.{reply_of-map}
 use Rattle.capnp_calls.proofs.NamedFields.{not_found}
 use Rattle.capnp_replies.specs.Parts.{record_reply, items_reply, RepliesAtStruct, RepliesAtList, RepliesBehind, OfField, IsFieldReply, starts_with_index}

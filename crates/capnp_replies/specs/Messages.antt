@@ -7,7 +7,7 @@ use Rattle.capnp_model.specs.Schemas.{Schema}
 use Rattle.capnp_model.specs.Readings.{record_as, record_of}
 use Rattle.capnp_model.specs.Calls.{object, refused_by, message_root, struct_content}
 use Rattle.capnp_object.specs.declared.arena.NullArena.{NullArena}
-use Rattle.capnp_wire.specs.declared.backing.Backing.{Backing}
+use Rattle.capnp_backing.specs.declared.backing.Backing.{Backing}
 use Rattle.capnp_wire.specs.Views.{backing_bytes, pointer_at, StructView}
 use Rattle.capnp_values.specs.Standing.{Leads, IsRecord}
 

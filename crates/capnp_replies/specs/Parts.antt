@@ -1,5 +1,5 @@
 -- What the rest of a path replies at a part of a struct that is read. (Encoding, "Structs" and "Lists")
-use Rattle.std.specs.Prelude.{ℕ, ◌≡◌, Bool, true, false, Option, Some, None, option_map, List, ◌∷◌}
+use Rattle.std.specs.Prelude.{ℕ, ◌≡◌, Bool, true, false, Option, Some, None, option_map, List, ◌∷◌, ⊤}
 use Rattle.capnp_model.specs.Kinds.{WrongStep}
 use Rattle.capnp_model.specs.Printing.{fields_in}
 use Rattle.capnp_model.specs.Schemas.{Ty, Body, void_slot, plain_slot, pointer_slot, group_slot, Fields, Shape, Schema}
@@ -18,6 +18,8 @@ use Rattle.capnp_values.specs.Shown.{Shown, a_number, an_enum, a_text, a_blob, a
 use Rattle.capnp_values.specs.Standing.{IsRecord, AreItems}
 use Rattle.capnp_model.specs.ActiveMembers.{element_of as reading_of}
 use Rattle.capnp_calls.specs.Texts.{as_it_is}
+use Rattle.capnp_ways.specs.Ways.{IsWay}
+use Rattle.capnp_ways.specs.declared.ways.FoundField.{FoundField}
 
 -- The machine's reply along a path at a record.
 abbrev pub record_reply : Schema → Fields → List Step → Verb → Record → Reply
@@ -90,3 +92,14 @@ IsSlot (group_slot g) = ⊥
 abbrev pub IsGroupOf : Field → Option StructSchema → Type 0
 IsGroupOf f (Some g) = (option_map (λ e. e.body) (entry_of f) ≡ Some (group_slot (shape_of_struct g))) × (nodes_around g ≡ nodes_around f.parent)
 IsGroupOf f None = (e : Entry) → entry_of f ≡ Some e → IsSlot e.body
+
+-- At what is shown, a way is one under the schema that explains it.
+abbrev pub IsWayIn : Shown → List Step → List FoundField → Type 0
+IsWayIn (a_number ty n) path way = ⊤
+IsWayIn (an_enum s id n) path way = ⊤
+IsWayIn (a_text bytes) path way = ⊤
+IsWayIn (a_blob bytes) path way = ⊤
+IsWayIn (a_struct s g v) path way = IsWay s path way
+IsWayIn (a_list s ty l) path way = IsWay s path way
+IsWayIn (a_pointer p) path way = ⊤
+IsWayIn a_capability path way = ⊤

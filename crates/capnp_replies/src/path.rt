@@ -9,8 +9,8 @@ ghost use Rattle.capnp_values.specs.Shown.{shown};
 ghost use Rattle.capnp_values.specs.Sources.{struct_seen, list_seen};
 ghost use Rattle.capnp_calls.specs.CallViews.{step_view, action_view};
 ghost use Rattle.capnp_calls.specs.Replies.{reply_view};
-ghost use Rattle.capnp_calls.specs.Taken.{BeginsWith};
-ghost use Rattle.capnp_replies.specs.Parts.{BeginsAt, RepliesBehind, RepliesAtStruct, RepliesAtList, RepliesAtElement, OfField, IsFieldReply};
+ghost use Rattle.capnp_ways.specs.Ways.{IsWay};
+ghost use Rattle.capnp_replies.specs.Parts.{IsWayIn, BeginsAt, RepliesBehind, RepliesAtStruct, RepliesAtList, RepliesAtElement, OfField, IsFieldReply};
 
 use crate::active::is_active;
 use crate::ends::{element_end, field_end};
@@ -21,21 +21,11 @@ use capnp_units::errors::Result;
 use capnp_units::kinds::ErrorKind;
 use capnp_values::laws::{elements_are_read, records_are_read};
 use capnp_values::{dynamic_list, dynamic_struct, dynamic_value};
+use capnp_ways::find::{find_field, rest_of_way};
+use capnp_ways::steps::first_name;
+use capnp_ways::ways::FoundField;
 use capnp_wire::arena::ReaderArena;
 use std::alloc::Global;
-
-/// The name with which a path begins, and the steps behind it; none where it doesn't begin with a name.
-fn first_name(path: &[Step]) -> Option<(&str, &[Step])>
-    ensures split { BeginsWith (map step_view path.now)
-        (option_map (λ p. (p.0.now, map step_view p.1.now)) result) }
-    ensures shorter { IfSome result (λ p. length p.1.now < length path.now) }
-{
-    match path {
-        [Step::Name(name), rest @ ..] => Some((name.as_str(), rest)),
-        [Step::Index(_), ..] => None,
-        [] => None,
-    }
-}
 
 /// The index with which a path begins, and the steps behind it; none where it doesn't begin with an index.
 fn first_index(path: &[Step]) -> Option<(u32, &[Step])>
@@ -56,8 +46,10 @@ pub(crate) fn at_struct<A: ReaderArena>(
     alloc: Global,
     reader: dynamic_struct::Reader<'_, A>,
     path: &[Step],
+    way: &[FoundField],
     action: &Action,
 ) -> Result<Reply>
+    requires way { IsWay (schema_around reader.schema) (map step_view path.now) way.now }
     ensures replied { let r = reader.entry in IfOk result (λ reply.
         RepliesAtStruct (schema_around r.schema) (shape_of_struct r.schema)
         (struct_seen A.segments r.source) (map step_view path.now) (action_view action.now)
@@ -67,8 +59,8 @@ pub(crate) fn at_struct<A: ReaderArena>(
     let Some((name, rest)) = first_name(path) else {
         return Ok(Reply::Refused(ErrorKind::WrongStep));
     };
-    match reader.get_schema().find_field_by_name(name) {
-        Ok(Some(field)) => at_field(alloc, reader, field, rest, action),
+    match find_field(reader.get_schema(), name, way) {
+        Ok(Some(field)) => at_field(alloc, reader, field, rest, rest_of_way(way), action),
         Ok(None) => Ok(Reply::Refused(ErrorKind::FieldNotFound)),
         Err(e) => Err(e),
     }
@@ -81,9 +73,11 @@ fn at_field<A: ReaderArena>(
     reader: dynamic_struct::Reader<'_, A>,
     field: Field<'_>,
     rest: &[Step],
+    way: &[FoundField],
     action: &Action,
 ) -> Result<Reply>
     requires parent { field.parent ≡ reader.schema }
+    requires way { IsWay (schema_around field.parent) (map step_view rest.now) way.now }
     ensures replied { IfOk result (λ reply.
         OfField field.entry (struct_seen A.segments reader.entry.source)
         (IsFieldReply (map step_view rest.now) (action_view action.now) (reply_view reply))) }
@@ -97,7 +91,7 @@ fn at_field<A: ReaderArena>(
         return Ok(Reply::Refused(ErrorKind::InactiveMember));
     }
     match reader.get(field) {
-        Ok(value) => behind(alloc, value, rest, action),
+        Ok(value) => behind(alloc, value, rest, way, action),
         Err(_) => Ok(Reply::Refused(ErrorKind::UnreadablePointer)),
     }
 }
@@ -108,16 +102,18 @@ fn behind<A: ReaderArena>(
     alloc: Global,
     value: dynamic_value::Reader<'_, A>,
     path: &[Step],
+    way: &[FoundField],
     action: &Action,
 ) -> Result<Reply>
+    requires way { IsWayIn (shown A.segments value) (map step_view path.now) way.now }
     ensures replied { IfOk result (λ reply.
         RepliesBehind (shown A.segments value.entry) (map step_view path.now)
         (action_view action.now) (reply_view reply)) }
     ensures memory { IfErr result (λ e. e.kind ≡ ErrorKind.OutOfMemory) }
 {
     match value {
-        dynamic_value::Reader::Struct(inner) => at_struct(alloc, inner, path, action),
-        dynamic_value::Reader::List(list) => at_list(alloc, list, path, action),
+        dynamic_value::Reader::Struct(inner) => at_struct(alloc, inner, path, way, action),
+        dynamic_value::Reader::List(list) => at_list(alloc, list, path, way, action),
         dynamic_value::Reader::Void
         | dynamic_value::Reader::Bool(_)
         | dynamic_value::Reader::Int8(_)
@@ -142,8 +138,10 @@ fn at_list<A: ReaderArena>(
     alloc: Global,
     list: dynamic_list::Reader<'_, A>,
     path: &[Step],
+    way: &[FoundField],
     action: &Action,
 ) -> Result<Reply>
+    requires way { IsWay (schema_of (nodes_of list.set.now)) (map step_view path.now) way.now }
     ensures replied { let l = list.entry in IfOk result (λ reply.
         RepliesAtList (schema_of (nodes_of l.set.now)) (ty_of l.element_type)
         (list_seen A.segments l.source) (map step_view path.now) (action_view action.now)
@@ -155,7 +153,7 @@ fn at_list<A: ReaderArena>(
         return Ok(Reply::Refused(ErrorKind::WrongStep));
     };
     if index < list.len() {
-        at_element(alloc, list, index, rest, action)
+        at_element(alloc, list, index, rest, way, action)
     } else {
         Ok(Reply::Refused(ErrorKind::IndexOutOfRange))
     }
@@ -168,9 +166,11 @@ fn at_element<A: ReaderArena>(
     list: dynamic_list::Reader<'_, A>,
     index: u32,
     rest: &[Step],
+    way: &[FoundField],
     action: &Action,
 ) -> Result<Reply>
     requires inside { index < (list_seen A.segments list.source).count }
+    requires way { IsWay (schema_of (nodes_of list.set.now)) (map step_view rest.now) way.now }
     ensures replied { let l = list.entry in IfOk result (λ reply.
         RepliesAtElement (schema_of (nodes_of l.set.now)) (ty_of l.element_type)
         (list_seen A.segments l.source) index (map step_view rest.now) (action_view action.now)
@@ -182,7 +182,7 @@ fn at_element<A: ReaderArena>(
         return element_end(alloc, list, index, action);
     }
     match list.get(index) {
-        Ok(value) => behind(alloc, value, rest, action),
+        Ok(value) => behind(alloc, value, rest, way, action),
         Err(_) => Ok(Reply::Refused(ErrorKind::UnreadablePointer)),
     }
 }

@@ -3,6 +3,8 @@ ghost use Rattle.std.specs.Prelude.{◌≡◌, IfOk, IfErr};
 ghost use Rattle.capnp_units.specs.declared.kinds.ErrorKind.{ErrorKind};
 ghost use Rattle.capnp_calls.specs.CallViews.{call_view};
 ghost use Rattle.capnp_calls.specs.Replies.{reply_view};
+ghost use Rattle.capnp_queries.specs.Structs.{schema_around};
+ghost use Rattle.capnp_ways.specs.Ways.{IsWay};
 ghost use Rattle.capnp_replies.specs.Replies.{RepliesTo};
 
 use crate::path::at_struct;
@@ -10,20 +12,23 @@ use capnp_calls::Call;
 use capnp_calls::reply::Reply;
 use capnp_units::errors::Result;
 use capnp_values::dynamic_struct;
+use capnp_ways::ways::FoundField;
 use capnp_wire::arena::ReaderArena;
 use std::alloc::Global;
 
-/// What a call replies at a struct: the text of a `get`, a refusal, or `Done` where it is to be written. Nothing is written, and the struct may have other sizes than its schema says.
+/// What a call replies at a struct: the text of a `get`, a refusal, or `Done` where it is to be written. Nothing is written, and the struct may have other sizes than its schema says. The way says what the names of the path find, as far as it is known: no name is compared where that was found under the struct that stands there.
 ///
 /// It takes memory for the text of a `get` alone, and stack for each step of the path and each group within a group that is set. The error is `OutOfMemory`.
 pub fn reply_to<A: ReaderArena>(
     alloc: Global,
     root: dynamic_struct::Reader<'_, A>,
     call: &Call,
+    way: &[FoundField],
 ) -> Result<Reply>
+    requires way { IsWay (schema_around root.schema) (call_view call.now).path way.now }
     ensures replied { IfOk result (λ reply.
         RepliesTo A.segments root.entry (call_view call.now) (reply_view reply)) }
     ensures memory { IfErr result (λ e. e.kind ≡ ErrorKind.OutOfMemory) }
 {
-    at_struct(alloc, root, call.path(), call.action())
+    at_struct(alloc, root, call.path(), way, call.action())
 }

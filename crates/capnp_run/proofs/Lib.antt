@@ -7,3 +7,4 @@ mod Tested
 mod InTurn
 mod AtRoot
 mod Copied
+pub mod CallWays

@@ -4,7 +4,7 @@ ghost use Rattle.capnp_copy.specs.Deep.{IsDeep};
 ghost use Rattle.capnp_dynamic.specs.Builders.{IsReady, words_around};
 ghost use Rattle.capnp_calls.specs.CallViews.{call_view};
 ghost use Rattle.capnp_calls.specs.Replies.{reply_view};
-ghost use Rattle.capnp_calls.specs.Taken.{IsRoot};
+ghost use Rattle.capnp_calls.specs.Roots.{IsRoot};
 ghost use Rattle.capnp_run.specs.declared.fault.RunFault.{RunFault};
 ghost use Rattle.capnp_run.specs.Handles.{IsSameHandle};
 ghost use Rattle.capnp_run.specs.Runs.{RunsAt, EndsLongAt};
@@ -15,9 +15,10 @@ use capnp_calls::Call;
 use capnp_calls::reply::Reply;
 use capnp_copy::arena::BuilderArena;
 use capnp_dynamic::dynamic_struct;
+use capnp_ways::ways::Ways;
 use std::alloc::Global;
 
-/// Answers calls in turn at the struct of a builder, as `run_at` does, whose refusals it has. The handle stays where it was.
+/// Answers calls in turn at the struct of a builder, as `run_at` does, whose refusals it has, with ways that are found first. Memory for these that is refused is `Refused` too, before any call. The handle stays where it was.
 pub fn run<A: BuilderArena>(
     alloc: Global,
     root: &mut dynamic_struct::Builder<'_, A>,
@@ -35,5 +36,6 @@ pub fn run<A: BuilderArena>(
     ensures books { A.books root.new.memory.now.arena ≡ A.books root.old.memory.now.arena }
 {
     let (place, schema) = (root.place, root.schema);
-    run_at(alloc, &mut root.memory.arena, place, schema, calls)
+    let ways = Ways::new(alloc, schema, calls)?;
+    run_at(alloc, &mut root.memory.arena, place, schema, calls, &ways)
 }

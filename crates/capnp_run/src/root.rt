@@ -4,11 +4,12 @@ ghost use Rattle.std.specs.Option.{is_some};
 ghost use Rattle.capnp_model.specs.Segments.{root, words_at};
 ghost use Rattle.capnp_units.specs.Segments.{words_in};
 ghost use Rattle.capnp_copy.specs.Deep.{IsDeep};
-ghost use Rattle.capnp_queries.specs.Structs.{shape_of_struct};
+ghost use Rattle.capnp_queries.specs.Structs.{schema_around, shape_of_struct};
 ghost use Rattle.capnp_dynamic.specs.Inside.{words_of_shape, pointers_of_shape};
 ghost use Rattle.capnp_calls.specs.CallViews.{call_view};
 ghost use Rattle.capnp_calls.specs.Replies.{reply_view};
-ghost use Rattle.capnp_calls.specs.Taken.{IsRoot};
+ghost use Rattle.capnp_calls.specs.Roots.{IsRoot};
+ghost use Rattle.capnp_ways.specs.Ways.{AreWays};
 ghost use Rattle.capnp_run.specs.declared.fault.RunFault.{RunFault};
 ghost use Rattle.capnp_run.specs.Runs.{RunsRoot, EndsLongRoot};
 
@@ -21,6 +22,7 @@ use capnp_footprints::laws::{changes_of_values, objects_of_pointers};
 use capnp_footprints::laws_of_depths::{changes_with_fewer_levels, depths_of_owned_values};
 use capnp_queries::structs::StructSchema;
 use capnp_units::sizes::StructSize;
+use capnp_ways::ways::Ways;
 use capnp_widening::structs::get_struct;
 use capnp_wire::place::Place;
 use std::alloc::Global;
@@ -51,10 +53,12 @@ pub fn run_root<A: BuilderArena>(
     arena: &mut A,
     schema: StructSchema<'_>,
     calls: &[Call],
+    ways: &Ways,
 ) -> Result<Vec<Reply>, RunFault>
     requires arena { IsDeep A.segments A.nesting }
     requires there { is_some (words_at (words_in (A.segments arena.old)) root 1) ≡ true }
     requires root { IsRoot schema }
+    requires ways { AreWays (schema_around schema) (map call_view calls.now) ways.now }
     ensures all { IfOk result (λ told. RunsRoot (words_in (A.segments arena.old))
         (words_in (A.segments arena.new)) schema.entry (map call_view calls.now)
         (map reply_view told.items)) }
@@ -67,5 +71,5 @@ pub fn run_root<A: BuilderArena>(
     depths_of_owned_values();
     objects_of_pointers();
     let object = get_struct(arena, ROOT, struct_size(schema))?;
-    run_at(alloc, arena, object, schema, calls)
+    run_at(alloc, arena, object, schema, calls, ways)
 }

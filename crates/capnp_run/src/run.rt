@@ -16,8 +16,9 @@ ghost use Rattle.capnp_calls.specs.CallViews.{call_view};
 ghost use Rattle.capnp_calls.specs.Replies.{reply_view};
 ghost use Rattle.capnp_calls.specs.LongLists.{content_put};
 ghost use Rattle.capnp_calls.specs.Sizes.{content_len};
-ghost use Rattle.capnp_calls.specs.Taken.{IsRoot};
+ghost use Rattle.capnp_calls.specs.Roots.{IsRoot};
 ghost use Rattle.capnp_calls.specs.Texts.{as_it_is};
+ghost use Rattle.capnp_ways.specs.Ways.{IsWay, AreWays};
 ghost use Rattle.capnp_run.specs.declared.fault.RunFault.{RunFault};
 ghost use Rattle.capnp_run.specs.Runs.{TestsAt, AnswersAt, PutsLongAt, RunsAt, EndsLongAt};
 
@@ -37,6 +38,7 @@ use capnp_replies::root::reply_to;
 use capnp_units::errors::{self, Error};
 use capnp_units::kinds::ErrorKind;
 use capnp_values::dynamic_struct;
+use capnp_ways::ways::{FoundField, Ways};
 use capnp_wire::arena::ReaderArena;
 use capnp_wire::place::has_words;
 use capnp_wire::structs::StructReader;
@@ -64,16 +66,18 @@ fn test<A: ReaderArena>(
     object: StructPlace,
     schema: StructSchema<'_>,
     call: &Call,
+    way: &[FoundField],
 ) -> errors::Result<Reply>
     requires arena { IsDeep A.segments A.nesting }
     requires there { IsThere (words_in (A.segments arena.now)) object }
+    requires way { IsWay (schema_around schema) (call_view call.now).path way.now }
     ensures replied { IfOk result (λ r.
         TestsAt (words_in (A.segments arena.now)) object schema.entry (call_view call.now)
         (reply_view r)) }
 {
     changes_with_fewer_levels();
     depths_of_owned_values();
-    reply_to(alloc, struct_of(arena, object, schema), call)
+    reply_to(alloc, struct_of(arena, object, schema), call, way)
 }
 
 /// Why a call that is done at the struct wasn't written there.
@@ -94,10 +98,12 @@ fn answer<A: BuilderArena>(
     object: StructPlace,
     schema: StructSchema<'_>,
     call: &Call,
+    way: &[FoundField],
 ) -> Result<Reply, RunFault>
     requires arena { IsDeep A.segments A.nesting }
     requires near { object.start.position + (object.data_words + object.pointers) < 2 ^ 61 }
     requires wide { IsWide object (shape_of_struct schema) }
+    requires way { IsWay (schema_around schema) (call_view call.now).path way.now }
     ensures answer { IfOk result (λ r. AnswersAt (words_in (A.segments arena.old))
         (words_in (A.segments arena.new)) object schema.entry (call_view call.now)
         (reply_view r)) }
@@ -112,9 +118,9 @@ fn answer<A: BuilderArena>(
     if !has_words(arena, object.start, words) {
         return Err(RunFault::Refused(Error::from(ErrorKind::OutOfBounds)));
     }
-    let reply = test(alloc, arena, object, schema, call)?;
+    let reply = test(alloc, arena, object, schema, call, way)?;
     match reply {
-        Reply::Done => match write_path(arena, object, schema, call.path(), call.action()) {
+        Reply::Done => match write_path(arena, object, schema, call.path(), way, call.action()) {
             Ok(()) => Ok(Reply::Done),
             Err(error) => Err(fault_of(schema, call, error)),
         },
@@ -124,18 +130,20 @@ fn answer<A: BuilderArena>(
 
 /// Answers calls in turn at a struct of a message, each at what the calls before it left: its reply is that of the record machine, and the struct becomes what the edits make of it. A refused call and a `get` change nothing, and don't stop the next.
 ///
-/// The struct has at least its schema's two sizes. `Size`: a call that is done puts a text or data of 2^29 bytes or more with its last zero, or a list of structs of 2^29 words or more. `Refused`: want of memory, or what the arena refuses, `SizeOverflow` among it where the words of the message would pass 2^29 - 1, or `OutOfBounds` where the struct isn't there. After both the calls before have their effect, and the next perhaps a part of it.
+/// The struct has at least its schema's two sizes. The ways say what the names of the calls' paths find under the schema, so that none is looked for here. `Size`: a call that is done puts a text or data of 2^29 bytes or more with its last zero, or a list of structs of 2^29 words or more. `Refused`: want of memory, or what the arena refuses, `SizeOverflow` among it where the words of the message would pass 2^29 - 1, or `OutOfBounds` where the struct isn't there. After both the calls before have their effect, and the next perhaps a part of it.
 pub fn run_at<A: BuilderArena>(
     alloc: Global,
     arena: &mut A,
     object: StructPlace,
     schema: StructSchema<'_>,
     calls: &[Call],
+    ways: &Ways,
 ) -> Result<Vec<Reply>, RunFault>
     requires arena { IsDeep A.segments A.nesting }
     requires near { object.start.position + (object.data_words + object.pointers) < 2 ^ 61 }
     requires wide { IsWide object (shape_of_struct schema) }
     requires root { IsRoot schema }
+    requires ways { AreWays (schema_around schema) (map call_view calls.now) ways.now }
     ensures all { IfOk result (λ told. RunsAt (words_in (A.segments arena.old))
         (words_in (A.segments arena.new)) object schema.entry (map call_view calls.now)
         (map reply_view told.items)) }
@@ -149,7 +157,8 @@ pub fn run_at<A: BuilderArena>(
     changes_of_objects();
     let mut replies = Vec::new(alloc);
     for call in calls {
-        replies.push(answer(alloc, arena, object, schema, call)?)?;
+        let way = ways.of(replies.len());
+        replies.push(answer(alloc, arena, object, schema, call, way)?)?;
     }
     Ok(replies)
 }

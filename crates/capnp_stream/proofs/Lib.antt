@@ -3,8 +3,6 @@ pub mod EarlyLemmas
 pub mod PieceLemmas
 pub mod FrameLemmas
 pub mod SpellLemmas
-pub mod WriteLemmas
-pub mod WritesLemmas
 pub mod FlatLemmas
 pub mod TableLemmas
 pub mod ReadLemmas

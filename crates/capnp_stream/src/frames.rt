@@ -24,7 +24,7 @@ use std::alloc::Global;
 pub const SEGMENTS_COUNT_LIMIT: usize = 512;
 
 /// How many numbers a half of a word holds.
-pub(crate) const HALF: u64 = 1 << 32;
+pub const HALF: u64 = 1 << 32;
 
 /// Whether no byte is left. Nothing is taken.
 pub(crate) fn is_at_end<R: BufRead>(source: &mut R) -> Result<bool>

@@ -1,6 +1,6 @@
 //! Messages of any number of segments on streams, framed and in other forms, over the sources and sinks of `capnp_io`, which it passes on.
 //!
-//! The calls take and answer segments and a limit of words. What needs a message's reader or builder, its options and its allocators stands above.
+//! The calls take and answer segments and a limit of words. What needs a message's reader or builder, its options and its allocators stands above, and so do the calls that write messages.
 #![tactic(auto)]
 
 pub mod buffers;
@@ -13,6 +13,5 @@ pub mod segments;
 mod shown;
 pub mod slices;
 mod tables;
-pub mod writing;
 
 pub use capnp_io::{adapters, memory, slice_writer, traits};

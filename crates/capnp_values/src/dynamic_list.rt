@@ -16,6 +16,7 @@ use capnp_records::set::SchemaSet;
 use capnp_units::errors::Result;
 use capnp_units::iter::{IndexMove, ListIter};
 use capnp_wire::arena::ReaderArena;
+use capnp_wire::list::ListReader;
 use std::alloc::AllocError;
 
 /// A list to read, of a message or of a default, whose elements can be read as its type's.
@@ -42,8 +43,21 @@ impl<A> Copy for Reader<'_, A> {}
 
 impl<'a, A: ReaderArena> Reader<'a, A> {
     ghost use Rattle.capnp_object.specs.Places.{seen};
+    ghost use Rattle.capnp_wire.specs.Views.{seen_list};
     ghost use Rattle.capnp_values.specs.Sources.{list_seen};
     ghost use Rattle.capnp_values.specs.Shown.{shown, shown_at, GivesElements};
+
+    /// A message's list of elements of a type of the set. Its elements aren't bits, unless they are of type Bool.
+    pub fn new(reader: ListReader<'a, A>, set: &'a SchemaSet, element_type: Type) -> Self
+        requires known { is_type_of (nodes_of set.now) element_type ≡ true }
+        requires bytewise { size_number (size_of (ty_of element_type)) ≢ 1
+            → size_number (seen_list A.segments reader).size ≢ 1 }
+        ensures source { list_seen A.segments result.source ≡ seen_list A.segments reader.entry }
+        ensures set { nodes_of result.set.now ≡ nodes_of set.now }
+        ensures element_type { result.element_type ≡ element_type }
+    {
+        Reader::of_source(ListSource::Message(reader), set, element_type)
+    }
 
     /// A list of elements of a type of the set.
     pub(crate) fn of_source(

@@ -10,6 +10,6 @@ pub mod dynamic_struct;
 pub mod dynamic_value;
 pub mod laws;
 pub mod of_value;
-mod opening;
+pub mod opening;
 mod plain;
 pub mod source;

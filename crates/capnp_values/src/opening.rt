@@ -26,7 +26,7 @@ use capnp_units::sizes::ElementSize;
 use capnp_wire::arena::ReaderArena;
 
 /// The size that lists of the type are asked for with.
-pub(crate) fn element_size(ty: Type) -> ElementSize
+pub fn element_size(ty: Type) -> ElementSize
     ensures { result ≡ size_of (ty_of ty) }
 {
     match ty.which() {

@@ -8,12 +8,12 @@ ghost use Rattle.capnp_wire.specs.ValueSizes.{PointerSize, StructSizeOf};
 ghost use Rattle.capnp_values.specs.Sources.{pointer_seen, struct_seen, list_seen, size_in, default_segments, WithoutLimit, masked_bits, text_at, data_at, struct_at, list_at};
 
 use crate::defaults::Defaults;
+use capnp_elements::element::PrimitiveElement;
 use capnp_units::errors::Result;
 use capnp_units::limiter::ReadLimiter;
 use capnp_units::primitive::{Mask, Primitive, Zero};
 use capnp_units::sizes::{ElementSize, MessageSize};
 use capnp_wire::arena::ReaderArena;
-use capnp_wire::element::PrimitiveElement;
 use capnp_wire::list::ListReader;
 use capnp_wire::pointer::PointerReader;
 use capnp_wire::structs::StructReader;

@@ -1,45 +1,20 @@
 -- Readers as their callers see them.
 pub use Rattle.capnp_object.specs.Inside.{section_in}
 unfoldable pub use Rattle.capnp_object.specs.Inside.{section_at}
-use Rattle.std.specs.Prelude.{ℕ, ℤ, ◌+◌, ◌*◌, ◌%◌, ◌^◌, nat_lt, nat_le, if◌then◌else◌, Bool, true, false, List, [], ◌∷◌, length, Option, Some, None}
-use Rattle.std.specs.List.{flat_map}
+pub use Rattle.capnp_backing.specs.Grounds.{backing_bytes, is_paid, Ground, ground_of, default_ground}
+use Rattle.std.specs.Prelude.{ℕ, ℤ, ◌+◌, ◌*◌, ◌%◌, ◌^◌, nat_lt, nat_le, if◌then◌else◌, Bool, true, false, List, length, Option, Some, None}
 use Rattle.capnp_model.specs.Answers.{levels}
 use Rattle.capnp_model.specs.Sections.{bits_at, number_of, words_for}
-use Rattle.capnp_model.specs.Segments.{Segments, Place, root, after}
+use Rattle.capnp_model.specs.Segments.{Place, root, after}
 use Rattle.capnp_units.specs.declared.sizes.ElementSize.{ElementSize}
 use Rattle.capnp_units.specs.Segments.{words_in}
 use Rattle.capnp_units.specs.Sizes.{size_number}
-use Rattle.capnp_wire.specs.declared.backing.Backing.{Backing}
-use Rattle.capnp_wire.specs.declared.backing.Backing.TheVariants as backing
 use Rattle.capnp_object.specs.declared.place.Place as wire
 use Rattle.capnp_wire.specs.declared.pointer.PointerReader.{PointerReader}
 use Rattle.capnp_wire.specs.declared.structs.StructReader.{StructReader}
 use Rattle.capnp_wire.specs.declared.list.ListReader.{ListReader}
 use Rattle.capnp_object.specs.Places.{place_view}
 use Rattle.capnp_wire.specs.Elements.{step_bits, element_bits, step_words, element_pointers}
-
--- The bytes of the segments that a reader sees.
-abbrev pub backing_bytes : {A : Type 0} → (A → List (List ℕ)) → Backing A → List (List ℕ)
-backing_bytes bytes (backing.Arena a) = bytes a.now
-backing_bytes bytes (backing.Default words) = words.now ∷ []
-
--- Whether what is followed there is paid for.
-abbrev pub is_paid : {A : Type 0} → Backing A → Bool
-is_paid (backing.Arena a) = true
-is_paid (backing.Default words) = false
-
--- The segments that a reader sees, and whether what is followed there is paid for, as it is but in a default.
-pub record Ground : Type 0 where
-  pub segments : Segments
-  pub paid : Bool
-
--- What a reader stands on.
-abbrev pub ground_of : {A : Type 0} → (A → List (List ℕ)) → Backing A → Ground
-ground_of bytes b = record { segments = words_in (backing_bytes bytes b); paid = is_paid b }
-
--- A default whose words have these bytes.
-abbrev pub default_ground : List (List ℕ) → Ground
-default_ground words = record { segments = words_in (flat_map (λ word. word) words ∷ []); paid = false }
 
 -- A pointer to read: where it stands, if it does, and how many levels may be followed from it.
 pub record PointerView : Type 0 where

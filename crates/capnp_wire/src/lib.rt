@@ -3,11 +3,10 @@
 //! Numbers lie in words of eight bytes, the lowest byte first. A reader stands over an arena of segments or over a default value, and what it follows is paid for from a `ReadLimiter`.
 #![tactic(auto)]
 
+pub use capnp_backing::backing;
 pub use capnp_object::{arena, follow, object, place, size};
 
-pub mod backing;
 pub mod canonical;
-pub mod element;
 pub mod laws;
 pub mod levels;
 pub mod list;

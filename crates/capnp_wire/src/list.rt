@@ -315,7 +315,7 @@ impl<'a, A: ReaderArena> ListReader<'a, A> {
     }
 
     /// The number at the front of an element, 0 where the element is narrower.
-    pub(crate) fn number<T: Primitive + Zero>(&self, index: u32) -> T
+    pub fn number<T: Primitive + Zero>(&self, index: u32) -> T
         requires { index < (seen_list A.segments self.now).count }
         ensures { result ≡ T.from_bits
             (element_number (seen_list A.segments self.now) index (8 * T.BYTES)) }
@@ -327,7 +327,7 @@ impl<'a, A: ReaderArena> ListReader<'a, A> {
     }
 
     /// The lowest bit of an element, false where it has none.
-    pub(crate) fn bit(&self, index: u32) -> bool
+    pub fn bit(&self, index: u32) -> bool
         requires { index < (seen_list A.segments self.now).count }
         ensures { result ≡ (element_number (seen_list A.segments self.now) index 1 == 1) }
     {

@@ -12,11 +12,12 @@ ghost use Rattle.capnp_object.specs.Objects.{IsInside};
 ghost use Rattle.capnp_wire.specs.ValueSizes.{PointerSize};
 
 use crate::arena::ReaderArena;
-use crate::backing::{Backing, default_backing, front_of};
+use crate::backing::{Backing, default_backing};
 use crate::follow::follow;
 use crate::levels::{level_below, levels_of};
 use crate::object::{Object, object_at};
 use crate::place::{Place, has_words, word_at};
+use crate::section::front_of;
 use crate::size::{NOTHING, size_at};
 use crate::structs::StructReader;
 use capnp_object::named::{NamedObject, found_at};

@@ -1,7 +1,7 @@
 //! Numbers in the bytes of data sections.
 ghost use Rattle.std.specs.Prelude.{◌≡◌, ◌+◌, ◌*◌, ◌/◌, ◌<◌, ◌≤◌, ◌^◌, ◌==◌, ℕ, length, slice_index, MatchOption};
 ghost use Rattle.std.specs.Bool.{OnTrue, OnFalse};
-ghost use Rattle.capnp_model.specs.Sections.{bits_at, number_of};
+ghost use Rattle.capnp_model.specs.Sections.{bits_at, number_of, numbers_in};
 
 /// The bytes from a number of so many bytes on, which stands behind others of its width, where it lies wholly in the section.
 pub(crate) fn bytes_from(section: &[u8], index: usize, width: usize) -> Option<&[u8]>
@@ -27,6 +27,14 @@ pub(crate) fn bit_of(bytes: &[u8], index: usize) -> bool
     ensures { result ≡ (bits_at index 1 (number_of 8 bytes.now) == 1) }
 {
     bytes[index / 8] / (1 << (index % 8)) % 2 == 1
+}
+
+/// So many bytes at the front of others.
+pub(crate) fn front_of(bytes: &[u8], count: usize) -> &[u8]
+    requires { count ≤ length bytes.now }
+    ensures { result.now ≡ numbers_in 8 count (number_of 8 bytes.now) }
+{
+    &bytes[..count]
 }
 
 /// Bytes are numbers below 256.

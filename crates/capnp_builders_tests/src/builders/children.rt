@@ -5,12 +5,12 @@ use crate::builders::calls::{Call, FAR, handle, is_there, make_call, sized};
 use capnp_builders::struct_builder::StructBuilder;
 use capnp_copy::arena::{BuilderArena, Memory};
 use capnp_copy::fields::StructPlace;
+use capnp_elements::element::PrimitiveElement;
 use capnp_units::errors::{Error, Result};
 use capnp_units::kinds::ErrorKind;
 use capnp_units::limiter::ReadLimiter;
 use capnp_units::sizes::ElementSize;
 use capnp_wire::arena::ReaderArena;
-use capnp_wire::element::PrimitiveElement;
 use capnp_wire::place::{Place, has_words};
 use capnp_wire::pointer::PointerReader;
 

@@ -237,26 +237,13 @@ fn numbers_and_texts(rt: HostRuntime) -> Result<(), Fail> {
     let hi = [
         0, 0, 0, 0, 0, 0, 1, 0, 1, 0, 0, 0, 0x1a, 0, 0, 0, 104, 105, 0, 0, 0, 0, 0, 0,
     ];
-    assert_eq!(rt;
-        plain(alloc, &set, 1, &hi)?.as_slice(),
-        b">(a = 0, t = \"hi\")".as_slice()
+    assert!(rt; plain(alloc, &set, 1, &hi)?.as_slice() == b">(a = 0, t = \"hi\")".as_slice());
+    assert!(rt; plain(alloc, &set, 1, &[0; 8])?.as_slice() == b">(a = 0)".as_slice());
+    assert!(rt;
+        indented(alloc, &set, 1, &hi)?.as_slice() == b">(\n  a = 0,\n  t = \"hi\"\n)".as_slice()
     );
-    assert_eq!(rt;
-        plain(alloc, &set, 1, &[0; 8])?.as_slice(),
-        b">(a = 0)".as_slice()
-    );
-    assert_eq!(rt;
-        indented(alloc, &set, 1, &hi)?.as_slice(),
-        b">(\n  a = 0,\n  t = \"hi\"\n)".as_slice()
-    );
-    assert_eq!(rt;
-        plain(alloc, &set, 9, &[0; 8])?.as_slice(),
-        b">()".as_slice()
-    );
-    assert_eq!(rt;
-        indented(alloc, &set, 9, &[0; 8])?.as_slice(),
-        b">()".as_slice()
-    );
+    assert!(rt; plain(alloc, &set, 9, &[0; 8])?.as_slice() == b">()".as_slice());
+    assert!(rt; indented(alloc, &set, 9, &[0; 8])?.as_slice() == b">()".as_slice());
     Ok(())
 }
 
@@ -264,34 +251,18 @@ fn numbers_and_texts(rt: HostRuntime) -> Result<(), Fail> {
 fn lists_of_structs(rt: HostRuntime) -> Result<(), Fail> {
     let alloc = rt.alloc();
     let set = records(alloc)?;
-    assert_eq!(rt;
-        plain(alloc, &set, 2, &ITEMS)?.as_slice(),
-        b">(items = [(a = 5), (a = 6)])".as_slice()
+    assert!(rt;
+        plain(alloc, &set, 2, &ITEMS)?.as_slice() == b">(items = [(a = 5), (a = 6)])".as_slice()
     );
     let lines = b">(\n  items = [\n    (\n      a = 5\n    ),\n    (\n      a = 6\n    )\n  ]\n)";
-    assert_eq!(rt;
-        indented(alloc, &set, 2, &ITEMS)?.as_slice(),
-        lines.as_slice()
-    );
-    assert_eq!(rt;
-        plain(alloc, &set, 2, &[0; 8])?.as_slice(),
-        b">()".as_slice()
-    );
-    assert_eq!(rt;
-        indented(alloc, &set, 2, &[0; 8])?.as_slice(),
-        b">(\n)".as_slice()
-    );
+    assert!(rt; indented(alloc, &set, 2, &ITEMS)?.as_slice() == lines.as_slice());
+    assert!(rt; plain(alloc, &set, 2, &[0; 8])?.as_slice() == b">()".as_slice());
+    assert!(rt; indented(alloc, &set, 2, &[0; 8])?.as_slice() == b">(\n)".as_slice());
     let none = [
         0, 0, 0, 0, 0, 0, 1, 0, 1, 0, 0, 0, 7, 0, 0, 0, 0, 0, 0, 0, 1, 0, 1, 0,
     ];
-    assert_eq!(rt;
-        plain(alloc, &set, 2, &none)?.as_slice(),
-        b">(items = [])".as_slice()
-    );
-    assert_eq!(rt;
-        indented(alloc, &set, 2, &none)?.as_slice(),
-        b">(\n  items = []\n)".as_slice()
-    );
+    assert!(rt; plain(alloc, &set, 2, &none)?.as_slice() == b">(items = [])".as_slice());
+    assert!(rt; indented(alloc, &set, 2, &none)?.as_slice() == b">(\n  items = []\n)".as_slice());
     Ok(())
 }
 
@@ -300,24 +271,14 @@ fn unions_and_groups(rt: HostRuntime) -> Result<(), Fail> {
     let alloc = rt.alloc();
     let set = records(alloc)?;
     let mut bytes = [0, 0, 0, 0, 1, 0, 0, 0, 7, 0, 0, 0, 3, 0, 0, 0];
-    assert_eq!(rt;
-        plain(alloc, &set, 3, &bytes)?.as_slice(),
-        b">(u = 7, w = 3)".as_slice()
-    );
+    assert!(rt; plain(alloc, &set, 3, &bytes)?.as_slice() == b">(u = 7, w = 3)".as_slice());
     bytes[10] = 1;
-    assert_eq!(rt;
-        plain(alloc, &set, 3, &bytes)?.as_slice(),
-        b">(w = 3, v = 7)".as_slice()
-    );
+    assert!(rt; plain(alloc, &set, 3, &bytes)?.as_slice() == b">(w = 3, v = 7)".as_slice());
     bytes[10] = 2;
-    assert_eq!(rt;
-        plain(alloc, &set, 3, &bytes)?.as_slice(),
-        b">(w = 3)".as_slice()
-    );
+    assert!(rt; plain(alloc, &set, 3, &bytes)?.as_slice() == b">(w = 3)".as_slice());
     let group = [0, 0, 0, 0, 1, 0, 0, 0, 0, 0, 0, 0, 3, 0, 0, 0];
-    assert_eq!(rt;
-        plain(alloc, &set, 5, &group)?.as_slice(),
-        b">(g = (x = 0, y = 0), z = 3)".as_slice()
+    assert!(rt;
+        plain(alloc, &set, 5, &group)?.as_slice() == b">(g = (x = 0, y = 0), z = 3)".as_slice()
     );
     Ok(())
 }
@@ -333,10 +294,7 @@ fn other_sorts(rt: HostRuntime) -> Result<(), Fail> {
     ];
     let expected =
         b">(v = (), b = true, i = -1, l = -2, e = blue, f = 5, d = 0x\"0aff\", p = <opaque pointer>, c = <external capability>, t = <invalid utf-8: [104, 255]>)";
-    assert_eq!(rt;
-        plain(alloc, &set, 7, &bytes)?.as_slice(),
-        expected.as_slice()
-    );
+    assert!(rt; plain(alloc, &set, 7, &bytes)?.as_slice() == expected.as_slice());
     Ok(())
 }
 
@@ -345,13 +303,10 @@ fn escapes(rt: HostRuntime) -> Result<(), Fail> {
     let arena_value: Reader<'_, Arena<'_>> = Reader::from("\"\\\n\r\t\0\u{1}\u{1f}\u{7f}~");
     let mut out = Vec::new(rt.alloc());
     let _done = print(arena_value, false, &mut out).ok().ok_or("printed")?;
-    assert_eq!(rt;
-        out.as_slice(),
-        b"\"\\\"\\\\\\n\\r\\t\\0\\u{1}\\u{1f}\\u{7f}~\"".as_slice()
-    );
+    assert!(rt; out.as_slice() == b"\"\\\"\\\\\\n\\r\\t\\0\\u{1}\\u{1f}\\u{7f}~\"".as_slice());
     let none: Reader<'_, Arena<'_>> = Reader::Capability(Capability);
     let _done = print(none, true, &mut out).ok().ok_or("printed")?;
-    assert_eq!(rt; out.len(), 53);
+    assert!(rt; out.len() == 53);
     Ok(())
 }
 
@@ -363,9 +318,9 @@ fn faults_leave_the_vector(rt: HostRuntime) -> Result<(), Fail> {
         0, 0, 0, 0, 0, 0, 1, 0, 1, 0, 0, 0, 0x12, 0, 0, 0, 104, 105, 0, 0, 0, 0, 0, 0,
     ];
     let error = text(alloc, &set, 1, &bytes, false)?.err().ok_or("refused")?;
-    assert_eq!(rt; error.kind, ErrorKind::TextWithoutZeroByte);
+    assert!(rt; error.kind == ErrorKind::TextWithoutZeroByte);
     let past = [0, 0, 0, 0, 0, 0, 1, 0, 9, 0, 0, 0, 0x12, 0, 0, 0];
     let error = text(alloc, &set, 1, &past, true)?.err().ok_or("refused")?;
-    assert_eq!(rt; error.kind, ErrorKind::OutOfBounds);
+    assert!(rt; error.kind == ErrorKind::OutOfBounds);
     Ok(())
 }

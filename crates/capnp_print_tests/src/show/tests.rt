@@ -179,22 +179,10 @@ fn structs_of_numbers_and_texts(rt: HostRuntime) -> Result<(), Fail> {
         0, 0, 0, 0, 3, 0, 0, 0, 0, 0, 0, 0, 2, 0, 0, 0, 7, 0, 0, 0, 0, 0, 0, 0, 99, 0, 0, 0, 0, 0,
         0, 0,
     ];
-    assert_eq!(rt;
-        text(alloc, 8, &newer, DEFAULT)?.as_slice(),
-        b"(a = 7, b = 99)".as_slice()
-    );
-    assert_eq!(rt;
-        text(alloc, 1, &newer, DEFAULT)?.as_slice(),
-        b"(a = 7)".as_slice()
-    );
-    assert_eq!(rt;
-        text(alloc, 1, &HI, DEFAULT)?.as_slice(),
-        b"(a = 0, t = \"hi\")".as_slice()
-    );
-    assert_eq!(rt;
-        text(alloc, 1, &NULL_ROOT, DEFAULT)?.as_slice(),
-        b"(a = 0)".as_slice()
-    );
+    assert!(rt; text(alloc, 8, &newer, DEFAULT)?.as_slice() == b"(a = 7, b = 99)".as_slice());
+    assert!(rt; text(alloc, 1, &newer, DEFAULT)?.as_slice() == b"(a = 7)".as_slice());
+    assert!(rt; text(alloc, 1, &HI, DEFAULT)?.as_slice() == b"(a = 0, t = \"hi\")".as_slice());
+    assert!(rt; text(alloc, 1, &NULL_ROOT, DEFAULT)?.as_slice() == b"(a = 0)".as_slice());
     Ok(())
 }
 
@@ -204,16 +192,12 @@ fn unions_and_groups(rt: HostRuntime) -> Result<(), Fail> {
     let newest = [
         0, 0, 0, 0, 2, 0, 0, 0, 0, 0, 0, 0, 1, 0, 0, 0, 7, 0, 2, 0, 0, 0, 0, 0,
     ];
-    assert_eq!(rt;
-        text(alloc, 3, &newest, DEFAULT)?.as_slice(),
-        b"(w = 7)".as_slice()
-    );
+    assert!(rt; text(alloc, 3, &newest, DEFAULT)?.as_slice() == b"(w = 7)".as_slice());
     let cleared = [
         0, 0, 0, 0, 2, 0, 0, 0, 0, 0, 0, 0, 1, 0, 0, 0, 0, 0, 0, 0, 3, 0, 0, 0,
     ];
-    assert_eq!(rt;
-        text(alloc, 5, &cleared, DEFAULT)?.as_slice(),
-        b"(g = (x = 0, y = 0), z = 3)".as_slice()
+    assert!(rt;
+        text(alloc, 5, &cleared, DEFAULT)?.as_slice() == b"(g = (x = 0, y = 0), z = 3)".as_slice()
     );
     Ok(())
 }
@@ -229,17 +213,14 @@ const ITEMS: [u8; 65] = [
 fn lists(rt: HostRuntime) -> Result<(), Fail> {
     let alloc = rt.alloc();
     let items = b"(items = [(a = 5), (a = 6)])".as_slice();
-    assert_eq!(rt; text(alloc, 2, &ITEMS, DEFAULT)?.as_slice(), items);
-    assert_eq!(rt; text(alloc, 2, &ITEMS, limited(None, 2))?.as_slice(), items);
-    assert_eq!(rt;
-        text(alloc, 2, &ITEMS, limited(Some(7), 2))?.as_slice(),
-        items
-    );
+    assert!(rt; text(alloc, 2, &ITEMS, DEFAULT)?.as_slice() == items);
+    assert!(rt; text(alloc, 2, &ITEMS, limited(None, 2))?.as_slice() == items);
+    assert!(rt; text(alloc, 2, &ITEMS, limited(Some(7), 2))?.as_slice() == items);
     let cut = [
         0, 0, 0, 0, 5, 0, 0, 0, 0, 0, 0, 0, 0, 0, 1, 0, 1, 0, 0, 0, 0x17, 0, 0, 0, 8, 0, 0, 0, 1,
         0, 0, 0, 5, 0, 0, 0, 0, 0, 0, 0, 6, 0, 0, 0, 0, 0, 0, 0,
     ];
-    assert_eq!(rt; text(alloc, 2, &cut, DEFAULT)?.as_slice(), items);
+    assert!(rt; text(alloc, 2, &cut, DEFAULT)?.as_slice() == items);
     Ok(())
 }
 
@@ -250,39 +231,32 @@ fn the_trimmed_value_is_shown(rt: HostRuntime) -> Result<(), Fail> {
         0, 0, 0, 0, 4, 0, 0, 0, 0, 0, 0, 0, 0, 0, 1, 0, 1, 0, 0, 0, 0x0f, 0, 0, 0, 4, 0, 0, 0, 1,
         0, 0, 0, 5, 0, 0, 0, 0, 0, 0, 0,
     ];
-    assert_eq!(rt;
-        text(alloc, 7, &filled, DEFAULT)?.as_slice(),
-        b"(ns = [5])".as_slice()
-    );
+    assert!(rt; text(alloc, 7, &filled, DEFAULT)?.as_slice() == b"(ns = [5])".as_slice());
     let mut zeros = filled;
     zeros[32] = 0;
-    assert_eq!(rt;
-        fault(alloc, 7, &zeros, DEFAULT)?,
-        Some(ShowFault::Unreadable)
-    );
+    assert!(rt; fault(alloc, 7, &zeros, DEFAULT)? == Some(ShowFault::Unreadable));
     Ok(())
 }
 
 #[test]
 fn bytes_that_are_no_message(rt: HostRuntime) -> Result<(), Fail> {
     let alloc = rt.alloc();
-    assert_eq!(rt;
-        fault(alloc, 1, &[], DEFAULT)?,
-        Some(ShowFault::Framing(ErrorKind::PrematureEndOfFile))
+    assert!(rt;
+        fault(alloc, 1, &[], DEFAULT)? == Some(ShowFault::Framing(ErrorKind::PrematureEndOfFile))
     );
     for at in [1usize, 4, 8, 15, 31] {
-        assert_eq!(rt;
-            fault(alloc, 1, &HI[..at], DEFAULT)?,
-            Some(ShowFault::Framing(ErrorKind::FailedToFillTheWholeBuffer))
+        assert!(rt;
+            fault(alloc, 1, &HI[..at], DEFAULT)?
+                == Some(ShowFault::Framing(ErrorKind::FailedToFillTheWholeBuffer))
         );
     }
-    assert_eq!(rt;
-        fault(alloc, 1, &[0xff, 1, 0, 0, 0, 0, 0, 0], DEFAULT)?,
-        Some(ShowFault::Framing(ErrorKind::InvalidNumberOfSegments))
+    assert!(rt;
+        fault(alloc, 1, &[0xff, 1, 0, 0, 0, 0, 0, 0], DEFAULT)?
+            == Some(ShowFault::Framing(ErrorKind::InvalidNumberOfSegments))
     );
-    assert_eq!(rt;
-        fault(alloc, 1, &HI, limited(Some(2), -1))?,
-        Some(ShowFault::Framing(ErrorKind::MessageTooLarge))
+    assert!(rt;
+        fault(alloc, 1, &HI, limited(Some(2), -1))?
+            == Some(ShowFault::Framing(ErrorKind::MessageTooLarge))
     );
     Ok(())
 }
@@ -293,20 +267,11 @@ fn messages_without_a_value(rt: HostRuntime) -> Result<(), Fail> {
     let capability = [0, 0, 0, 0, 1, 0, 0, 0, 3, 0, 0, 0, 0, 0, 0, 0];
     let outside = [0, 0, 0, 0, 1, 0, 0, 0, 0, 0, 0, 0, 1, 0, 0, 0];
     for message in [[0, 0, 0, 0, 0, 0, 0, 0].as_slice(), &capability, &outside] {
-        assert_eq!(rt; fault(alloc, 1, message, DEFAULT)?, Some(ShowFault::Value));
+        assert!(rt; fault(alloc, 1, message, DEFAULT)? == Some(ShowFault::Value));
     }
-    assert_eq!(rt;
-        fault(alloc, 1, &HI, limited(None, 1))?,
-        Some(ShowFault::Value)
-    );
-    assert_eq!(rt;
-        fault(alloc, 1, &NULL_ROOT, limited(None, -1))?,
-        Some(ShowFault::Value)
-    );
-    assert_eq!(rt;
-        text(alloc, 1, &NULL_ROOT, limited(None, 0))?.as_slice(),
-        b"(a = 0)".as_slice()
-    );
+    assert!(rt; fault(alloc, 1, &HI, limited(None, 1))? == Some(ShowFault::Value));
+    assert!(rt; fault(alloc, 1, &NULL_ROOT, limited(None, -1))? == Some(ShowFault::Value));
+    assert!(rt; text(alloc, 1, &NULL_ROOT, limited(None, 0))?.as_slice() == b"(a = 0)".as_slice());
     Ok(())
 }
 
@@ -316,18 +281,9 @@ const VOIDS: [u8; 16] = [0, 0, 0, 0, 1, 0, 0, 0, 1, 0, 0, 0, 0x40, 0x1f, 0, 0];
 #[test]
 fn values_are_paid_for(rt: HostRuntime) -> Result<(), Fail> {
     let alloc = rt.alloc();
-    assert_eq!(rt;
-        fault(alloc, 1, &VOIDS, limited(Some(999), 64))?,
-        Some(ShowFault::Value)
-    );
-    assert_eq!(rt;
-        fault(alloc, 1, &VOIDS, limited(Some(1000), 64))?,
-        Some(ShowFault::Root)
-    );
-    assert_eq!(rt;
-        fault(alloc, 1, &VOIDS, limited(None, 64))?,
-        Some(ShowFault::Root)
-    );
+    assert!(rt; fault(alloc, 1, &VOIDS, limited(Some(999), 64))? == Some(ShowFault::Value));
+    assert!(rt; fault(alloc, 1, &VOIDS, limited(Some(1000), 64))? == Some(ShowFault::Root));
+    assert!(rt; fault(alloc, 1, &VOIDS, limited(None, 64))? == Some(ShowFault::Root));
     Ok(())
 }
 
@@ -340,14 +296,11 @@ const HELLO: [u8; 32] = [
 #[test]
 fn what_is_no_record(rt: HostRuntime) -> Result<(), Fail> {
     let alloc = rt.alloc();
-    assert_eq!(rt; fault(alloc, 1, &HELLO, DEFAULT)?, Some(ShowFault::Root));
+    assert!(rt; fault(alloc, 1, &HELLO, DEFAULT)? == Some(ShowFault::Root));
     let list = [0, 0, 0, 0, 1, 0, 0, 0, 1, 0, 0, 0, 0, 0, 0, 0];
-    assert_eq!(rt; fault(alloc, 1, &list, DEFAULT)?, Some(ShowFault::Root));
+    assert!(rt; fault(alloc, 1, &list, DEFAULT)? == Some(ShowFault::Root));
     let mut unended = HI;
     unended[20] = 0x12;
-    assert_eq!(rt;
-        fault(alloc, 1, &unended, DEFAULT)?,
-        Some(ShowFault::Unreadable)
-    );
+    assert!(rt; fault(alloc, 1, &unended, DEFAULT)? == Some(ShowFault::Unreadable));
     Ok(())
 }

@@ -112,7 +112,7 @@ fn long_schema_files_are_read(rt: HostRuntime) -> Result<(), AllocError> {
         assert!(rt; schema_file(rt.alloc(), &bytes).is_ok());
         let other = long.with_end(rt.alloc(), long.other)?;
         let answer = schema_file(rt.alloc(), &other).err();
-        assert_eq!(rt; answer, Some(FileFault::Form));
+        assert!(rt; answer == Some(FileFault::Form));
     }
     Ok(())
 }
@@ -124,7 +124,7 @@ fn long_calls_files_are_read(rt: HostRuntime) -> Result<(), AllocError> {
         assert!(rt; calls_file(rt.alloc(), &bytes).is_ok());
         let other = long.with_end(rt.alloc(), long.other)?;
         let answer = calls_file(rt.alloc(), &other).err();
-        assert_eq!(rt; answer, Some(FileFault::Form));
+        assert!(rt; answer == Some(FileFault::Form));
     }
     Ok(())
 }

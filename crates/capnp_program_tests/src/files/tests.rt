@@ -30,15 +30,12 @@ fn nodes_are_those_of_the_file(rt: HostRuntime) -> Result<(), FileFault> {
     let NodeBody::Struct(holder) = &plain.body else {
         return Err(FileFault::Form);
     };
-    assert_eq!(rt; (holder.data_word_count, holder.pointer_count), (1, 2));
-    assert_eq!(rt;
-        (holder.discriminant_count, holder.discriminant_offset),
-        (2, 1)
-    );
+    assert!(rt; (holder.data_word_count, holder.pointer_count) == (1, 2));
+    assert!(rt; (holder.discriminant_count, holder.discriminant_offset) == (2, 1));
     let [_, _, rows, last] = holder.fields.as_slice() else {
         return Err(FileFault::Form);
     };
-    assert_eq!(rt; rows.discriminant_value, NO_DISCRIMINANT);
+    assert!(rt; rows.discriminant_value == NO_DISCRIMINANT);
     let FieldBody::Slot { offset, ty, .. } = &rows.body else {
         return Err(FileFault::Form);
     };
@@ -46,18 +43,18 @@ fn nodes_are_those_of_the_file(rt: HostRuntime) -> Result<(), FileFault> {
         list_count: 2,
         base: BaseType::Int8,
     };
-    assert_eq!(rt; (*offset, *ty), (1, lists));
+    assert!(rt; (*offset, *ty) == (1, lists));
     let FieldBody::Group { node } = &last.body else {
         return Err(FileFault::Form);
     };
-    assert_eq!(rt; *node, group.id);
+    assert!(rt; *node == group.id);
     let NodeBody::Enum(enumerants) = &names.body else {
         return Err(FileFault::Form);
     };
     let [_, second] = enumerants.as_slice() else {
         return Err(FileFault::Form);
     };
-    assert_eq!(rt; second.name.as_str(), "y");
+    assert!(rt; second.name.as_str() == "y");
     Ok(())
 }
 
@@ -79,7 +76,7 @@ fn other_forms_are_refused(rt: HostRuntime) {
         r#"[{"id":1,"name":"P","data":1,"pointers":0,"fields":[{"name":"a","type":"Int8","offset":0,"discriminant":65535}]}]"#,
         r#"[{"id":1,"name":"P","data":1,"pointers":0,"fields":[{"name":"a","type":{"list":"Int8","enum":1},"offset":0}]}]"#,
     ] {
-        assert_eq!(rt; read(rt.alloc(), text).err(), Some(FileFault::Form));
+        assert!(rt; read(rt.alloc(), text).err() == Some(FileFault::Form));
     }
 }
 
@@ -92,25 +89,25 @@ const CALLS: &str = r#"{"calls": [
 #[test]
 fn calls_are_those_of_the_file(rt: HostRuntime) -> Result<(), FileFault> {
     let file = calls_file(rt.alloc(), CALLS.as_bytes())?;
-    assert_eq!(rt; (file.words, file.nesting), (8_388_608, -1));
+    assert!(rt; (file.words, file.nesting) == (8_388_608, -1));
     let [first, second, third, fourth] = file.calls.as_slice() else {
         return Err(FileFault::Form);
     };
     let [Step::Name(items), Step::Index(0), Step::Name(a)] = first.0.as_slice() else {
         return Err(FileFault::Form);
     };
-    assert_eq!(rt; (items.as_str(), a.as_str()), ("items", "a"));
-    assert_eq!(rt; first.1, Verb::Set);
+    assert!(rt; (items.as_str(), a.as_str()) == ("items", "a"));
+    assert!(rt; first.1 == Verb::Set);
     let Some(CallValue::Number(number)) = &first.2 else {
         return Err(FileFault::Form);
     };
-    assert_eq!(rt; *number, -7);
-    assert_eq!(rt; second.1, Verb::Initn(4_294_967_295));
+    assert!(rt; *number == -7);
+    assert!(rt; second.1 == Verb::Initn(4_294_967_295));
     let Some(CallValue::Data(bytes)) = &third.2 else {
         return Err(FileFault::Form);
     };
-    assert_eq!(rt; bytes.as_slice(), [10, 255].as_slice());
-    assert_eq!(rt; fourth.1, Verb::Get);
+    assert!(rt; bytes.as_slice() == [10, 255].as_slice());
+    assert!(rt; fourth.1 == Verb::Get);
     Ok(())
 }
 
@@ -132,6 +129,6 @@ fn other_forms_of_calls_are_refused(rt: HostRuntime) {
         r#"{"calls":[{"path":[],"verb":"set","value":null}]}"#,
     ] {
         let answer = calls_file(rt.alloc(), text.as_bytes()).err();
-        assert_eq!(rt; answer, Some(FileFault::Form));
+        assert!(rt; answer == Some(FileFault::Form));
     }
 }

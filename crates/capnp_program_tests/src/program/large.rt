@@ -143,9 +143,9 @@ fn a_long_message_goes_from_form_to_form(rt: HostRuntime) -> Result<(), Fail> {
     for (from, input) in [(Form::Framed, &framed), (Form::Packed, &packed)] {
         for (to, output) in [(Form::Framed, &framed), (Form::Packed, &packed)] {
             let run = relay_words(alloc, (from, to), input, &calls)?;
-            assert_eq!(rt; run.end, written(1));
+            assert!(rt; run.end == written(1));
             assert!(rt; run.out.as_slice() == output.as_slice());
-            assert_eq!(rt; run.log.as_slice(), b"message 1 written\n".as_slice());
+            assert!(rt; run.log.as_slice() == b"message 1 written\n".as_slice());
         }
     }
     Ok(())
@@ -172,7 +172,7 @@ fn many_messages_are_answered(rt: HostRuntime) -> Result<(), Fail> {
         log.extend_from_slice(line.as_bytes())?;
     }
     let run = relay_words(alloc, (Form::Framed, Form::Framed), &input, &calls)?;
-    assert_eq!(rt; run.end, written(1000));
+    assert!(rt; run.end == written(1000));
     assert!(rt; run.out.as_slice() == output.as_slice());
     assert!(rt; run.log.as_slice() == log.as_slice());
     Ok(())
@@ -196,9 +196,9 @@ fn many_calls_are_answered(rt: HostRuntime) -> Result<(), Fail> {
     let mut output = Vec::new(alloc);
     push_words(&mut output, &[header(2), structure(0, 1, 0), 50])?;
     let run = relay_words(alloc, (Form::Framed, Form::Framed), &input, &calls)?;
-    assert_eq!(rt; run.end, written(1));
-    assert_eq!(rt; run.out.as_slice(), output.as_slice());
-    assert_eq!(rt; run.log.as_slice(), log.as_slice());
+    assert!(rt; run.end == written(1));
+    assert!(rt; run.out.as_slice() == output.as_slice());
+    assert!(rt; run.log.as_slice() == log.as_slice());
     Ok(())
 }
 
@@ -240,7 +240,7 @@ fn a_long_text_is_set_and_shown(rt: HostRuntime) -> Result<(), Fail> {
         push_words(&mut output, &[0])?;
     }
     let run = relay_words(alloc, (Form::Framed, Form::Framed), &input, &calls)?;
-    assert_eq!(rt; run.end, written(1));
+    assert!(rt; run.end == written(1));
     assert!(rt; run.out.as_slice() == output.as_slice());
     assert!(rt; run.log.as_slice() == log.as_slice());
     Ok(())
@@ -312,8 +312,8 @@ fn each_kind_of_list_is_kept(rt: HostRuntime) -> Result<(), Fail> {
     let calls = Vec::new(alloc);
     let frame = each_list(alloc)?.frame(alloc)?;
     let run = relay_words(alloc, (Form::Framed, Form::Framed), &frame, &calls)?;
-    assert_eq!(rt; run.log.as_slice(), b"message 1 written\n".as_slice());
-    assert_eq!(rt; run.out.as_slice(), frame.as_slice());
-    assert_eq!(rt; run.end, written(1));
+    assert!(rt; run.log.as_slice() == b"message 1 written\n".as_slice());
+    assert!(rt; run.out.as_slice() == frame.as_slice());
+    assert!(rt; run.end == written(1));
     Ok(())
 }

@@ -323,12 +323,12 @@ fn messages_go_from_form_to_form(rt: HostRuntime) -> Result<(), Fail> {
     let packed: &[u8] = &[0x10, 1, 0, 0];
     for (from, input) in [(Form::Framed, framed), (Form::Packed, packed)] {
         let run = relay_in(alloc, (from, Form::Framed), input, &calls, 64)?;
-        assert_eq!(rt; run.ended, Ok(counts(1, 0)));
-        assert_eq!(rt; run.out.as_slice(), SEVEN.as_slice());
-        assert_eq!(rt; run.log.as_slice(), b"message 1 written; done\n".as_slice());
+        assert!(rt; run.ended == Ok(counts(1, 0)));
+        assert!(rt; run.out.as_slice() == SEVEN.as_slice());
+        assert!(rt; run.log.as_slice() == b"message 1 written; done\n".as_slice());
         let run = relay_in(alloc, (from, Form::Packed), input, &calls, 64)?;
-        assert_eq!(rt; run.ended, Ok(counts(1, 0)));
-        assert_eq!(rt; run.out.as_slice(), SEVEN_PACKED.as_slice());
+        assert!(rt; run.ended == Ok(counts(1, 0)));
+        assert!(rt; run.out.as_slice() == SEVEN_PACKED.as_slice());
     }
     Ok(())
 }
@@ -342,13 +342,13 @@ fn packed_messages_stand_one_behind_the_other(rt: HostRuntime) -> Result<(), Fai
         0x10, 2, 0x10, 1, 1, 7, 0x30, 2, 0, 0x10, 1, 1, 7, 0x10, 2, 0x10, 1, 1, 7,
     ];
     let run = relay_in(alloc, (Form::Packed, Form::Packed), input, &none, 64)?;
-    assert_eq!(rt; run.ended, Ok(counts(3, 0)));
-    assert_eq!(rt;
-        run.out.as_slice(),
-        [
-            0x10, 2, 0x10, 1, 1, 7, 0x10, 2, 0x10, 1, 1, 7, 0x10, 2, 0x10, 1, 1, 7
-        ]
-        .as_slice()
+    assert!(rt; run.ended == Ok(counts(3, 0)));
+    assert!(rt;
+        run.out.as_slice()
+            == [
+                0x10, 2, 0x10, 1, 1, 7, 0x10, 2, 0x10, 1, 1, 7, 0x10, 2, 0x10, 1, 1, 7
+            ]
+            .as_slice()
     );
     Ok(())
 }
@@ -367,12 +367,12 @@ fn packed_bytes_that_are_no_message_end_a_run(rt: HostRuntime) -> Result<(), Fai
         ),
     ] {
         let run = relay_in(alloc, (Form::Packed, Form::Packed), input, &none, 64)?;
-        assert_eq!(rt;
-            run.ended,
-            Err(RelayFault {
-                fault: Fault::Framing(kind),
-                counts: counts(0, 0)
-            })
+        assert!(rt;
+            run.ended
+                == Err(RelayFault {
+                    fault: Fault::Framing(kind),
+                    counts: counts(0, 0)
+                })
         );
     }
     Ok(())

@@ -134,11 +134,8 @@ fn a_set_member_becomes_the_active_one(rt: HostRuntime) -> Result<(), Fail> {
     calls.push(at(alloc, "v", Verb::Set, Some(CallValue::Number(9)))?)?;
     calls.push(at(alloc, "u", Verb::Get, None)?)?;
     let (out, log) = relayed(alloc, union(alloc)?, &framed(alloc, 7)?, &calls)?;
-    assert_eq!(rt; out, framed(alloc, 0x1_0009)?);
-    assert_eq!(rt;
-        log.as_slice(),
-        b"message 1 written; done; refused InactiveMember\n".as_slice()
-    );
+    assert!(rt; out == framed(alloc, 0x1_0009)?);
+    assert!(rt; log.as_slice() == b"message 1 written; done; refused InactiveMember\n".as_slice());
     Ok(())
 }
 
@@ -149,11 +146,8 @@ fn an_unknown_member_is_active(rt: HostRuntime) -> Result<(), Fail> {
     calls.push(at(alloc, "u", Verb::Get, None)?)?;
     let input = framed(alloc, 0x2_0007)?;
     let (out, log) = relayed(alloc, union(alloc)?, &input, &calls)?;
-    assert_eq!(rt; out, input);
-    assert_eq!(rt;
-        log.as_slice(),
-        b"message 1 written; refused InactiveMember\n".as_slice()
-    );
+    assert!(rt; out == input);
+    assert!(rt; log.as_slice() == b"message 1 written; refused InactiveMember\n".as_slice());
     Ok(())
 }
 
@@ -169,11 +163,8 @@ fn a_default_is_no_bits(rt: HostRuntime) -> Result<(), Fail> {
     let nodes = one_word(alloc, 0, fields)?;
     let input = b"\x00\x00\x00\x00\x01\x00\x00\x00\x00\x00\x00\x00\x00\x00\x00\x00".as_slice();
     let (out, log) = relayed(alloc, nodes, input, &calls)?;
-    assert_eq!(rt; out, framed(alloc, 5)?);
-    assert_eq!(rt;
-        log.as_slice(),
-        b"message 1 written; 5; done; 0\n".as_slice()
-    );
+    assert!(rt; out == framed(alloc, 5)?);
+    assert!(rt; log.as_slice() == b"message 1 written; 5; done; 0\n".as_slice());
     Ok(())
 }
 
@@ -184,10 +175,7 @@ fn a_number_out_of_range_leaves_the_union(rt: HostRuntime) -> Result<(), Fail> {
     calls.push(at(alloc, "v", Verb::Set, Some(CallValue::Number(70000)))?)?;
     let input = framed(alloc, 7)?;
     let (out, log) = relayed(alloc, union(alloc)?, &input, &calls)?;
-    assert_eq!(rt; out, input);
-    assert_eq!(rt;
-        log.as_slice(),
-        b"message 1 written; refused TypeMismatch\n".as_slice()
-    );
+    assert!(rt; out == input);
+    assert!(rt; log.as_slice() == b"message 1 written; refused TypeMismatch\n".as_slice());
     Ok(())
 }

@@ -139,23 +139,23 @@ fn fields_are_found(rt: HostRuntime) -> Result<(), Fail> {
     let raw = set.struct_or_group_by_id(1).ok_or("struct")?;
     let schema = StructSchema::new(&set, raw);
     let fields = schema.get_fields()?;
-    assert_eq!(rt; fields.len(), 6);
-    assert_eq!(rt; schema.get_field_by_name("e")?.get_index(), 2);
+    assert!(rt; fields.len() == 6);
+    assert!(rt; schema.get_field_by_name("e")?.get_index() == 2);
     assert!(rt; schema.find_field_by_name("b")?.is_none());
     let refused = schema.get_field_by_name("b").err().ok_or("refused")?;
-    assert_eq!(rt; refused.kind, ErrorKind::FieldNotFound);
+    assert!(rt; refused.kind == ErrorKind::FieldNotFound);
     let first = schema.get_field_by_discriminant(0)?.ok_or("member 0")?;
-    assert_eq!(rt; first.get_proto().name.as_str(), "x");
+    assert!(rt; first.get_proto().name.as_str() == "x");
     assert!(rt; schema.get_field_by_discriminant(2)?.is_none());
-    assert_eq!(rt; schema.discriminant_offset(), Some(2));
+    assert!(rt; schema.discriminant_offset() == Some(2));
     let mut members = schema.get_union_fields()?.iter();
-    assert_eq!(rt; members.next().map(|field| field.get_index()), Some(3));
-    assert_eq!(rt; members.next().map(|field| field.get_index()), Some(1));
+    assert!(rt; members.next().map(|field| field.get_index()) == Some(3));
+    assert!(rt; members.next().map(|field| field.get_index()) == Some(1));
     assert!(rt; members.next().is_none());
     let mut others = schema.get_non_union_fields()?.into_iter();
-    assert_eq!(rt; others.next_back().map(|field| field.get_index()), Some(5));
-    assert_eq!(rt; others.next().map(|field| field.get_index()), Some(0));
-    assert_eq!(rt; others.len(), 2);
+    assert!(rt; others.next_back().map(|field| field.get_index()) == Some(5));
+    assert!(rt; others.next().map(|field| field.get_index()) == Some(0));
+    assert!(rt; others.len() == 2);
     Ok(())
 }
 
@@ -228,16 +228,16 @@ fn schemas_are_keys(rt: HostRuntime) -> Result<(), Fail> {
     let mut schemas = HashMap::new(rt.alloc());
     let _none = schemas.insert(one, 1u8)?;
     let _none = schemas.insert(two, 2u8)?;
-    assert_eq!(rt; schemas.len(), 2);
-    assert_eq!(rt; schemas.get(&again), Some(&1));
+    assert!(rt; schemas.len() == 2);
+    assert!(rt; schemas.get(&again) == Some(&1));
     let x = one.get_field_by_name("x")?;
     let y = one.get_field_by_name("y")?;
     assert!(rt; x != y && x == again.get_field_by_name("x")?);
     let mut fields = HashMap::new(rt.alloc());
     let _none = fields.insert(x, 1u8)?;
     let _none = fields.insert(y, 2u8)?;
-    assert_eq!(rt; fields.len(), 2);
-    assert_eq!(rt; fields.get(&again.get_field_by_name("y")?), Some(&2));
+    assert!(rt; fields.len() == 2);
+    assert!(rt; fields.get(&again.get_field_by_name("y")?) == Some(&2));
     Ok(())
 }
 
@@ -248,63 +248,60 @@ fn enumerants_are_keys(rt: HostRuntime) -> Result<(), Fail> {
     let again = EnumSchema::new(&set, set.enum_by_id(7).ok_or("7")?);
     assert!(rt; colours == again && colours.get_proto().id == 7);
     let list = colours.get_enumerants()?;
-    assert_eq!(rt; list.len(), 2);
+    assert!(rt; list.len() == 2);
     let red = list.get(0);
     let green = list.get(1);
     assert!(rt; red != green);
     let mut names = HashMap::new(rt.alloc());
     let _none = names.insert(red, 1u8)?;
     let _none = names.insert(green, 2u8)?;
-    assert_eq!(rt; names.len(), 2);
+    assert!(rt; names.len() == 2);
     let mut ordinal: u16 = 0;
     for enumerant in again.get_enumerants()? {
-        assert_eq!(rt; enumerant.get_ordinal(), ordinal);
+        assert!(rt; enumerant.get_ordinal() == ordinal);
         assert!(rt; enumerant.get_containing_enum() == colours);
         assert!(rt; names.contains_key(&enumerant));
         ordinal = ordinal.saturating_add(1);
     }
-    assert_eq!(rt; ordinal, 2);
-    assert_eq!(rt; names.get(&list.get(1)), Some(&2));
-    assert_eq!(rt; green.get_proto().name.as_str(), "green");
+    assert!(rt; ordinal == 2);
+    assert!(rt; names.get(&list.get(1)) == Some(&2));
+    assert!(rt; green.get_proto().name.as_str() == "green");
     assert!(rt; green.get_annotations()?.is_empty());
     Ok(())
 }
 
 #[test]
 fn types_and_annotations(rt: HostRuntime) -> Result<(), Fail> {
-    assert_eq!(rt; u32::introspect().which(), TypeVariant::UInt32);
+    assert!(rt; u32::introspect().which() == TypeVariant::UInt32);
     assert!(rt; u32::introspect().which() != TypeVariant::Int32);
     let base = bool::introspect();
-    assert_eq!(rt; base.list_count(), 0);
+    assert!(rt; base.list_count() == 0);
     let list = Type::list_of(base);
-    assert_eq!(rt; list.which(), TypeVariant::List(base));
-    assert_eq!(rt; list.list_count(), 1);
-    assert_eq!(rt;
-        bool::introspect().expected_element_size(),
-        ElementSize::Bit
-    );
-    assert_eq!(rt; list.expected_element_size(), ElementSize::Pointer);
+    assert!(rt; list.which() == TypeVariant::List(base));
+    assert!(rt; list.list_count() == 1);
+    assert!(rt; bool::introspect().expected_element_size() == ElementSize::Bit);
+    assert!(rt; list.expected_element_size() == ElementSize::Pointer);
     assert!(rt; list.is_pointer_type() && !bool::introspect().is_pointer_type());
     assert!(rt; Type::from(TypeVariant::UInt8).loose_equals(u8::introspect()));
     let set = set(rt.alloc())?;
     let schema = StructSchema::new(&set, set.struct_or_group_by_id(1).ok_or("1")?);
     let notes = schema.get_annotations()?;
-    assert_eq!(rt; notes.len(), 1);
+    assert!(rt; notes.len() == 1);
     let note = notes.find(99).ok_or("note")?;
-    assert_eq!(rt; note.get_type(), u16::introspect());
+    assert!(rt; note.get_type() == u16::introspect());
     assert!(rt; matches!(note.get_value(), Value::UInt16(5)));
     assert!(rt; notes.find(98).is_none());
     let mut noted = notes.iter();
-    assert_eq!(rt; noted.len(), 1);
-    assert_eq!(rt; noted.next_back().map(|note| note.get_id()), Some(99));
+    assert!(rt; noted.len() == 1);
+    assert!(rt; noted.next_back().map(|note| note.get_id()) == Some(99));
     assert!(rt; noted.next().is_none());
     let mut ids: u64 = 0;
     for note in notes {
         ids = ids.saturating_add(note.get_id());
     }
-    assert_eq!(rt; ids, 99);
-    assert_eq!(rt; text::Owned::introspect().which(), TypeVariant::Text);
-    assert_eq!(rt; data::Owned::introspect().which(), TypeVariant::Data);
+    assert!(rt; ids == 99);
+    assert!(rt; text::Owned::introspect().which() == TypeVariant::Text);
+    assert!(rt; data::Owned::introspect().which() == TypeVariant::Data);
     Ok(())
 }
 

@@ -41,13 +41,12 @@ fn lowest_rule_and_first_node(rt: HostRuntime) -> Result<(), Fail> {
     ] {
         let nodes = (broken(alloc, 1, first)?, broken(alloc, 2, second)?);
         let (one, two) = nodes;
-        assert_eq!(rt;
-            fault_of_two(alloc, one, two)?,
-            expected,
+        assert!(rt;
+            fault_of_two(alloc, one, two)? == expected,
             "{first} and {second}"
         );
         let twice = fault_of_two(alloc, broken(alloc, 7, first)?, broken(alloc, 7, second)?)?;
-        assert_eq!(rt; twice, rule(1, 1), "{first} and {second} of one id");
+        assert!(rt; twice == rule(1, 1), "{first} and {second} of one id");
     }
     Ok(())
 }
@@ -89,18 +88,18 @@ fn offsets_at_the_ends(rt: HostRuntime) -> Result<(), Fail> {
                 _ => Value::UInt64(1),
             });
             let fault = fault_at(alloc, base, default, offset, 65535)?;
-            assert_eq!(rt; fault, expected, "{base:?} at {offset}");
+            assert!(rt; fault == expected, "{base:?} at {offset}");
         }
     }
     let void = fault_at(alloc, BaseType::Void, Some(Value::Void), most, 0)?;
-    assert_eq!(rt; void, None);
+    assert!(rt; void == None);
     for (offset, expected) in [(0, None), (1, rule(8, 0)), (most, rule(8, 0))] {
         let text = fault_at(alloc, BaseType::Text, None, offset, 0)?;
-        assert_eq!(rt; text, expected, "a text at {offset}");
+        assert!(rt; text == expected, "a text at {offset}");
     }
     for (offset, expected) in [(3, None), (4, rule(7, 0)), (most, rule(7, 0))] {
         let fault = fault_of(alloc, two_members(alloc, 1, offset)?)?;
-        assert_eq!(rt; fault, expected, "a discriminant at {offset}");
+        assert!(rt; fault == expected, "a discriminant at {offset}");
     }
     Ok(())
 }

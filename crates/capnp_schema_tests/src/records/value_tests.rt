@@ -110,9 +110,8 @@ fn defaults_of_each_sort(rt: HostRuntime) -> Result<(), Fail> {
             };
             let fault = fault_of_slot(alloc, ty, value(alloc, sort)?)?;
             let expected = if is_right { None } else { rule(10, 1) };
-            assert_eq!(rt;
-                fault,
-                expected,
+            assert!(rt;
+                fault == expected,
                 "a default of sort {sort} under type {place}"
             );
         }
@@ -192,7 +191,7 @@ fn types_of_annotations(rt: HostRuntime) -> Result<(), Fail> {
                 rule(broken, node)
             };
             let fault = fault_at(alloc, place, ty, sort, None)?;
-            assert_eq!(rt; fault, expected, "{list_count} {base:?} at {place}");
+            assert!(rt; fault == expected, "{list_count} {base:?} at {place}");
             place = place.saturating_add(1);
         }
     }
@@ -231,10 +230,13 @@ fn depths_of_values(rt: HostRuntime) -> Result<(), Fail> {
         let bytes = deep(alloc, around, last)?;
         let noted = fault_at(alloc, 5, ty, 0, Some(bytes.as_slice()))?;
         let expected = if is_right { None } else { rule(12, 2) };
-        assert_eq!(rt; noted, expected, "{around} around {last} in an annotation");
+        assert!(rt;
+            noted == expected,
+            "{around} around {last} in an annotation"
+        );
         let default = fault_of_slot(alloc, ty, Some(Value::Struct(bytes)))?;
         let expected = if is_right { None } else { rule(11, 1) };
-        assert_eq!(rt; default, expected, "{around} around {last} as a default");
+        assert!(rt; default == expected, "{around} around {last} as a default");
     }
     Ok(())
 }

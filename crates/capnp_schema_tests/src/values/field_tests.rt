@@ -127,8 +127,8 @@ fn plain_fields_and_defaults(rt: HostRuntime) -> Result<(), Fail> {
         let segments = [bytes.as_slice()];
         let arena = ReaderArenaImpl::new(segments.as_slice(), 1);
         let (numbers, name) = told(alloc, root(&arena, &set, 1)?)?;
-        assert_eq!(rt; numbers.as_slice(), expected.as_slice());
-        assert_eq!(rt; name, colour);
+        assert!(rt; numbers.as_slice() == expected.as_slice());
+        assert!(rt; name == colour);
     }
     Ok(())
 }
@@ -219,9 +219,9 @@ fn groups_as_members(rt: HostRuntime) -> Result<(), Fail> {
         let segments = [bytes.as_slice()];
         let arena = ReaderArenaImpl::new(segments.as_slice(), 2);
         let numbers = numbers_inside(root(&arena, &set, 1)?)?;
-        assert_eq!(rt; numbers.as_slice(), [9, 14, t].as_slice());
+        assert!(rt; numbers.as_slice() == [9, 14, t].as_slice());
         let told = are_there(root(&arena, &set, 1)?)?;
-        assert_eq!(rt; told.as_slice(), there.as_slice());
+        assert!(rt; told.as_slice() == there.as_slice());
     }
     Ok(())
 }
@@ -320,15 +320,15 @@ fn nulls_at_the_last_level(rt: HostRuntime) -> Result<(), Fail> {
     let hi = Ok(0x6869);
     let arena = ReaderArenaImpl::new(segments.as_slice(), 1);
     for (name, expected) in [("t", hi), ("next", too_deep), ("more", too_deep)] {
-        assert_eq!(rt; read(root(&arena, &set, 1)?, name), expected);
+        assert!(rt; read(root(&arena, &set, 1)?, name) == expected);
     }
     for (levels, yo) in [(2, too_deep), (3, Ok(0x796f))] {
         let arena = ReaderArenaImpl::new(segments.as_slice(), levels);
         let expected = [yo, Ok(0), hi, hi];
         let child = answers(inside(root(&arena, &set, 1)?, "next")?)?;
-        assert_eq!(rt; child.as_slice(), expected.as_slice());
+        assert!(rt; child.as_slice() == expected.as_slice());
         let element = answers(first(root(&arena, &set, 1)?)?)?;
-        assert_eq!(rt; element.as_slice(), expected.as_slice());
+        assert!(rt; element.as_slice() == expected.as_slice());
     }
     Ok(())
 }
@@ -343,7 +343,7 @@ fn defaults_in_defaults(rt: HostRuntime) -> Result<(), Fail> {
     let mut holder = root(&arena, &set, 2)?;
     for step in 0u32..200 {
         let is_end = step == 0 || step == 64 || step == 128 || step == 192;
-        assert_eq!(rt; holder.has_named("next").ok(), Some(!is_end), "at {step}");
+        assert!(rt; holder.has_named("next").ok() == Some(!is_end), "at {step}");
         holder = inside(holder, "next")?;
     }
     Ok(())

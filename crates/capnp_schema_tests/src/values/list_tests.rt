@@ -322,13 +322,13 @@ fn lists_of_each_type(rt: HostRuntime) -> Result<(), Fail> {
     let mut place: u64 = 0;
     for (words, expected) in PLAIN {
         let numbers = elements(alloc, &set, place, words)?;
-        assert_eq!(rt; numbers.as_slice(), expected, "a list of type {place}");
+        assert!(rt; numbers.as_slice() == expected, "a list of type {place}");
         assert!(rt; elements(alloc, &set, place, &[0])?.is_empty());
         place = place.saturating_add(1);
     }
     for (words, expected) in POINTERS {
         let numbers = elements(alloc, &set, place, words)?;
-        assert_eq!(rt; numbers.as_slice(), expected, "a list of type {place}");
+        assert!(rt; numbers.as_slice() == expected, "a list of type {place}");
         assert!(rt; elements(alloc, &set, place, &[0])?.is_empty());
         place = place.saturating_add(1);
     }

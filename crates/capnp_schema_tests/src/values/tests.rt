@@ -164,7 +164,7 @@ fn plain_fields_and_texts(rt: HostRuntime) -> Result<(), Fail> {
         return Ok(None.ok_or("a text")?);
     };
     assert!(rt; text.eq_str("hi"));
-    assert_eq!(rt; p.total_size().ok().ok_or("a size")?.word_count, 3);
+    assert!(rt; p.total_size().ok().ok_or("a size")?.word_count == 3);
     Ok(())
 }
 
@@ -181,12 +181,12 @@ fn lists_of_structs(rt: HostRuntime) -> Result<(), Fail> {
     let Reader::List(items) = get(q, 0)? else {
         return Ok(None.ok_or("a list")?);
     };
-    assert_eq!(rt; items.len(), 2);
+    assert!(rt; items.len() == 2);
     let mut total: u32 = 0;
     for index in 0..items.len() {
         if let Some(Reader::Struct(item)) = items.get(index).ok() {
             if let Reader::UInt16(a) = get(item, 0)? {
-                assert_eq!(rt; a as u32, 5 + index);
+                assert!(rt; a as u32 == 5 + index);
                 total = total.saturating_add(1);
             }
         }
@@ -196,7 +196,7 @@ fn lists_of_structs(rt: HostRuntime) -> Result<(), Fail> {
             total = total.saturating_add(1);
         }
     }
-    assert_eq!(rt; total, 4);
+    assert!(rt; total == 4);
     Ok(())
 }
 
@@ -256,7 +256,7 @@ fn texts_without_a_zero_byte(rt: HostRuntime) -> Result<(), Fail> {
     let fields = p.get_schema().get_fields().ok().ok_or("fields")?;
     if fields.len() == 2 {
         let error = p.get(fields.get(1)).err().ok_or("refused")?;
-        assert_eq!(rt; error.kind, ErrorKind::TextWithoutZeroByte);
+        assert!(rt; error.kind == ErrorKind::TextWithoutZeroByte);
     }
     assert!(rt; matches!(get(p, 0)?, Reader::UInt16(0)));
     Ok(())
@@ -283,12 +283,12 @@ fn active_members(rt: HostRuntime) -> Result<(), Fail> {
             1 => Some("v"),
             _ => None,
         };
-        assert_eq!(rt; active(root(&arena, &set, 3)?)?, expected);
+        assert!(rt; active(root(&arena, &set, 3)?)? == expected);
     }
     let null = [0; 8];
     let segments = [null.as_slice()];
     let arena = ReaderArenaImpl::new(segments.as_slice(), 64);
-    assert_eq!(rt; active(root(&arena, &set, 1)?)?, None);
+    assert!(rt; active(root(&arena, &set, 1)?)? == None);
     Ok(())
 }
 
@@ -303,9 +303,9 @@ fn fields_by_name(rt: HostRuntime) -> Result<(), Fail> {
     assert!(rt; p.has_named("a").ok().ok_or("told")?);
     assert!(rt; !p.has_named("t").ok().ok_or("told")?);
     let missing = p.get_named("zz").err().ok_or("refused")?;
-    assert_eq!(rt; missing.kind, ErrorKind::FieldNotFound);
+    assert!(rt; missing.kind == ErrorKind::FieldNotFound);
     let missing = p.has_named("zz").err().ok_or("refused")?;
-    assert_eq!(rt; missing.kind, ErrorKind::FieldNotFound);
+    assert!(rt; missing.kind == ErrorKind::FieldNotFound);
     Ok(())
 }
 
@@ -319,7 +319,7 @@ fn values_of_known_types(rt: HostRuntime) -> Result<(), Fail> {
     } else {
         0u16
     };
-    assert_eq!(rt; number, 7);
+    assert!(rt; number == 7);
     let value: Reader<'_, Arena<'_>> = Reader::from("hi");
     let is_hi = if let Reader::Text(text) = value {
         text.eq_str("hi")

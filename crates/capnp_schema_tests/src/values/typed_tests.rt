@@ -59,7 +59,7 @@ fn untyped_pointers_as_types(rt: HostRuntime) -> Result<(), Fail> {
     let arena = ReaderArenaImpl::new(segments.as_slice(), 64);
     let pointer = any(root(&arena, &set, 5)?)?;
     assert!(rt; is_hi(pointer));
-    assert_eq!(rt; pointer.target_size().ok().ok_or("a size")?.word_count, 1);
+    assert!(rt; pointer.target_size().ok().ok_or("a size")?.word_count == 1);
     let null = [0; 8];
     let segments = [null.as_slice()];
     let arena = ReaderArenaImpl::new(segments.as_slice(), 0);
@@ -131,7 +131,7 @@ fn structs_as_callers_types(rt: HostRuntime) -> Result<(), Fail> {
         let own = value.downcast_struct::<Own<1>>();
         number = own.into_internal_struct_reader().get_data_field::<u16>(0);
     }
-    assert_eq!(rt; number, 7);
+    assert!(rt; number == 7);
     let null = [0; 8];
     let segments = [null.as_slice()];
     let arena = ReaderArenaImpl::new(segments.as_slice(), 64);
@@ -182,13 +182,13 @@ fn values_of_annotations(rt: HostRuntime) -> Result<(), Fail> {
         assert!(rt; matches!(field, Reader::UInt16(7)));
         read += 1;
     }
-    assert_eq!(rt; read, 3);
+    assert!(rt; read == 3);
     let text = Type::from(TypeVariant::Text);
     if set.holds(text) {
         let refused = Reader::<Arena<'_>>::new(&set, &seven, text)
             .err()
             .ok_or("refused")?;
-        assert_eq!(rt; refused.kind, ErrorKind::TypeMismatch);
+        assert!(rt; refused.kind == ErrorKind::TypeMismatch);
     }
     Ok(())
 }

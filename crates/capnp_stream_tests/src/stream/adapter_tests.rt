@@ -3,9 +3,9 @@ use crate::stream::tests::{TWO, WRITTEN, expect_two};
 use capnp_io::adapters::{Sink, Source};
 use capnp_io::traits::{BufRead, Read, Write};
 use capnp_stream::frames::try_read_message;
-use capnp_stream::writing::write_segment;
 use capnp_units::errors::Error;
 use capnp_units::kinds::ErrorKind;
+use capnp_writing::messages::write_segment;
 use std::io;
 use std::test::Fail;
 

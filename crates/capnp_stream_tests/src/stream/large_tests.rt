@@ -5,12 +5,12 @@ use capnp_io::adapters::{Sink, Source};
 use capnp_stream::frames::{read_message, try_read_message};
 use capnp_stream::lent::read_message_no_alloc;
 use capnp_stream::segments::SegmentLengthsBuilder;
-use capnp_stream::writing::{
-    write_message_segments, write_message_segments_to_words, write_segment,
-};
 use capnp_units::errors::Result;
 use capnp_units::kinds::ErrorKind;
 use capnp_units::segments::ReaderSegments;
+use capnp_writing::messages::{
+    write_message_segments, write_message_segments_to_words, write_segment,
+};
 use std::alloc::Global;
 use std::process::Abort;
 use std::test::Fail;

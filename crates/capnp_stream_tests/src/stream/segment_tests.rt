@@ -13,13 +13,13 @@ use capnp_stream::lent::{
 };
 use capnp_stream::segments::{SegmentLengthsBuilder, words_of};
 use capnp_stream::slices::{read_message_from_flat_slice, read_message_from_flat_slice_no_alloc};
-use capnp_stream::writing::{
-    compute_serialized_size_in_words, write_message_segments, write_message_segments_in,
-    write_message_segments_to_words, write_segment_in,
-};
 use capnp_units::errors::Result;
 use capnp_units::kinds::ErrorKind;
 use capnp_units::segments::ReaderSegments;
+use capnp_writing::messages::{
+    compute_serialized_size_in_words, write_message_segments, write_message_segments_in,
+    write_message_segments_to_words, write_segment_in,
+};
 use std::alloc::Global;
 use std::process::Abort;
 use std::test::Fail;

@@ -2,12 +2,12 @@
 
 ghost use Rattle.std.specs.Prelude.{◌≡◌};
 
+use capnp_elements::element::PrimitiveElement;
 use capnp_units::errors::Error;
 use capnp_units::kinds::ErrorKind;
 use capnp_units::limiter::ReadLimiter;
 use capnp_units::sizes::{ElementSize, PointerType, StructSize, Word};
 use capnp_wire::arena::{NullArena, ReaderArena, ReaderArenaImpl};
-use capnp_wire::element::PrimitiveElement;
 use capnp_wire::list::ListReader;
 use capnp_wire::place::Place;
 use capnp_wire::pointer::PointerReader;

@@ -1,26 +1,40 @@
 use Rattle.std.proofs.Common.{sym, ◌∙◌}
 use Rattle.capnp_model.specs.Accepted.{schema_of}
 use Rattle.capnp_model.specs.Decoding.{decode}
+use Rattle.capnp_model.specs.Groups.{empty_tree, source_tree}
 use Rattle.capnp_model.specs.Schemas.{default_or_null}
-use Rattle.capnp_units.specs.Segments.{words_in}
-use Rattle.capnp_wire.specs.Places.{place_view}
+use Rattle.capnp_model.specs.Segments.{root}
+use Rattle.capnp_model.specs.Traversal.{cost_at}
+use Rattle.capnp_model.specs.Trees.{null}
 use Rattle.capnp_records.specs.Sets.{nodes_of}
+use Rattle.capnp_copy_from.specs.Defaults.{default_segments}
 use Rattle.capnp_queries.specs.Types.{ty_of}
+use Rattle.capnp_dynamic.specs.Puts.{state_in}
 use Rattle.capnp_dynamic.proofs.NullMembers.{null_root, some_root}
+use Rattle.capnp_dynamic.proofs.NullRefusals.{put_as, copy_not_put}
 use Rattle.capnp_dynamic.proofs.group_nulls.put_segment.Goals as goal
 
-pub returns-then-has_null_root-clause-puts : goal.returns-then-has_null_root-clause-puts
-returns-then-has_null_root-clause-puts g c =
-    let s = words_in (g.A.ReaderArena.segments c.args.arena.now) in
-    let u = words_in (g.A.ReaderArena.segments c.put_empty.new.arena) in
-    null_root c.put_empty.result s u (place_view c.args.slot) (schema_of (nodes_of c.args.set.now)) (ty_of c.args.ty) (default_or_null (decode c.args.bytes.now)) c.words_of-words.result.now (c.words_of-words.ensures c.requires.reads)
-    (sym c.has_null_root.ensures ∙ c.if-has_null_root.true) c.put_empty.ensures.puts
-
-pub returns-clause-puts : goal.returns-clause-puts
-returns-clause-puts g c =
-    let s = words_in (g.A.ReaderArena.segments c.args.arena.now) in
-    let u = words_in (g.A.ReaderArena.segments c.copy_root.new.arena) in
+pub returns-then-has_null_root : goal.returns-then-has_null_root
+returns-then-has_null_root g c =
+    let at = state_in g.A.ReaderArena.segments g.A.BuilderArena.room g.A.BuilderArena.books in
+    let around = schema_of (nodes_of c.args.set.now) in
+    let ty = ty_of c.args.ty in
     let d = default_or_null (decode c.args.bytes.now) in
+    let same = null_root around ty d c.words_of-words.result.now (c.words_of-words.ensures c.requires.reads) (sym c.has_null_root.ensures ∙ c.if-has_null_root.true) in
+    put_as (at c.args.arena.now) (at c.put_empty.new.arena) c.args.slot (empty_tree around ty) (source_tree around ty d null) c.put_empty.result same c.put_empty.ensures
+
+pub returns : goal.returns
+returns g c =
+    let at = state_in g.A.ReaderArena.segments g.A.BuilderArena.room g.A.BuilderArena.books in
+    let old = at c.args.arena.now in
+    let new = at c.copy_root.new.arena in
+    let around = schema_of (nodes_of c.args.set.now) in
+    let ty = ty_of c.args.ty in
+    let d = default_or_null (decode c.args.bytes.now) in
+    let ws = c.words_of-words.result.now in
+    let from = default_segments ws in
     let holds = c.words_of-words.ensures c.requires.reads in
-    some_root c.copy_root.result s u (place_view c.args.slot) (schema_of (nodes_of c.args.set.now)) (ty_of c.args.ty) d c.words_of-words.result.now holds
-    (sym c.has_null_root.ensures ∙ c.if-has_null_root.false) (c.copy_root.ensures.puts d holds)
+    let same = some_root around ty d ws holds (sym c.has_null_root.ensures ∙ c.if-has_null_root.false) in
+    let e = c.copy_root.ensures in
+    let why = copy_not_put old new c.args.slot.segment ws d (cost_at 64 from root) holds (c.values_on_walks.ensures.cost 64 from root d holds) c.copy_root.result e.why in
+    put_as old new c.args.slot d (source_tree around ty d null) c.copy_root.result same (record { puts = e.puts d holds; stands = e.stands; why = why; books = e.books })

@@ -1,4 +1,4 @@
-use Rattle.std.proofs.Common.{rules, ◌≡◌, ◌+◌, ◌++◌, true, false, Ok, Err, refl, sym, ap, subst, ◌∙◌}
+use Rattle.std.proofs.Common.{rules, ◌≡◌, ◌+◌, ◌++◌, true, false, Ok, Err, refl, sym, ap, ◌∙◌}
 use Rattle.std.proofs.lemmas.Result.{err_from_is_err_and}
 use Rattle.std.specs.Prelude.{option_map, option_copied}
 use Rattle.capnp_model.specs.Accepted.{default_tree}
@@ -190,20 +190,20 @@ copy_field-returns-in-Group-clause-grows g t c =
 pub copy_field-returns-then-is_pointer_field_null-clause-why : goal.copy_field-returns-then-is_pointer_field_null-clause-why
 copy_field-returns-then-is_pointer_field_null-clause-why g t c =
     let f = c.args.field in
-    null_refused (schema_around f.parent) (seen_struct g.B.ReaderArena.segments c.args.source.now) (entry_of f) c.in-Pointer.index (ty_of c.in-Pointer.ty) _ c.in-Pointer.ensures.body (sym c.is_pointer_field_null.ensures ∙ c.if-is_pointer_field_null.true) c.copy_null.result c.copy_null.ensures.why
+    null_refused (schema_around f.parent) (seen_struct g.B.ReaderArena.segments c.args.source.now) (words_in (g.A.ReaderArena.segments c.copy_null.new.arena)) (entry_of f) c.in-Pointer.index (ty_of c.in-Pointer.ty) _ c.in-Pointer.ensures.body (sym c.is_pointer_field_null.ensures ∙ c.if-is_pointer_field_null.true) c.copy_null.result c.copy_null.ensures.why
 
 pub copy_field-returns-else-is_pointer_field_null-clause-why : goal.copy_field-returns-else-is_pointer_field_null-clause-why
 copy_field-returns-else-is_pointer_field_null-clause-why g t c =
     let f = c.args.field in
-    some_refused (schema_around f.parent) (seen_struct g.B.ReaderArena.segments c.args.source.now) (entry_of f) c.in-Pointer.index (ty_of c.in-Pointer.ty) _ c.in-Pointer.ensures.body (sym c.is_pointer_field_null.ensures ∙ c.if-is_pointer_field_null.false) c.copy_some.result c.copy_some.ensures.why
+    some_refused (schema_around f.parent) (seen_struct g.B.ReaderArena.segments c.args.source.now) (words_in (g.A.ReaderArena.segments c.copy_some.new.arena)) (entry_of f) c.in-Pointer.index (ty_of c.in-Pointer.ty) _ c.in-Pointer.ensures.body (sym c.is_pointer_field_null.ensures ∙ c.if-is_pointer_field_null.false) c.copy_some.result c.copy_some.ensures.why
 
 pub copy_field-returns-in-Group-clause-why : goal.copy_field-returns-in-Group-clause-why
-copy_field-returns-in-Group-clause-why g t c = group_isnt_set c.args.field c.in-Group.schema (seen_struct g.B.ReaderArena.segments c.args.source.now) c.in-Group.ensures.body c.in-Group.ensures.of_set c.copy_group.result c.copy_group.ensures.why
+copy_field-returns-in-Group-clause-why g t c = group_isnt_set c.args.field c.in-Group.schema (seen_struct g.B.ReaderArena.segments c.args.source.now) (words_in (g.A.ReaderArena.segments c.copy_group.new.arena)) c.in-Group.ensures.body c.in-Group.ensures.of_set c.copy_group.result c.copy_group.ensures.why
 
 pub copy_fields-returns-in_err-copy_turn-clause-why : goal.copy_fields-returns-in_err-copy_turn-clause-why
 copy_fields-returns-in_err-copy_turn-clause-why g t c =
     let h = err_from_is_err_and c.from_residual.result c.from_residual.ensures.1 in
-    rw (h.1, h.2) (one_refused c.args.schema c.get.result (c.get.ensures.parent ∙ c.in-Ok.ensures) (seen_struct g.B.ReaderArena.segments c.args.source.now) c.in_err-copy_turn.field-0.0 c.in_err-copy_turn.ensures.why)
+    rw (h.1, h.2) (one_refused c.args.schema c.get.result (c.get.ensures.parent ∙ c.in-Ok.ensures) (seen_struct g.B.ReaderArena.segments c.args.source.now) (words_in (g.A.ReaderArena.segments c.copy_turn.new.arena)) c.in_err-copy_turn.field-0.0 c.in_err-copy_turn.ensures.why)
 
 pub copy_group-returns-in_err-copy_fields-clause-why : goal.copy_group-returns-in_err-copy_fields-clause-why
 copy_group-returns-in_err-copy_fields-clause-why g t c =

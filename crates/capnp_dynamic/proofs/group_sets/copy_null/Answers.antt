@@ -1,5 +1,5 @@
 -- A null pointer that is left, refused, or put as what it counts as and then marked.
-use Rattle.std.proofs.Common.{◌≡◌, true, Some, inl, inr, refl, sym, ap, subst, ◌∙◌}
+use Rattle.std.proofs.Common.{◌≡◌, true, refl, sym, ap, subst, ◌∙◌}
 use Rattle.std.proofs.lemmas.Result.{err_from_is_err_and}
 use Rattle.std.specs.Prelude.{option_map, option_copied}
 use Rattle.std.specs.Option.{is_some}
@@ -16,12 +16,15 @@ use Rattle.capnp_queries.specs.Types.{ty_of}
 use Rattle.capnp_copy.proofs.RoomLaws.{sizes_grow}
 use Rattle.capnp_footprints.proofs.Algebra.{changes_nothing}
 use Rattle.capnp_footprints.proofs.Spans.{grows_then}
+use Rattle.capnp_dynamic.specs.Puts.{state_in}
+use Rattle.capnp_dynamic.specs.GroupRefusals.{NotPut}
 use Rattle.capnp_dynamic.specs.GroupSets.{PutsAny, null_tree, copied_field}
 use Rattle.capnp_dynamic.proofs.Marks.{member_none, member_there}
 use Rattle.capnp_dynamic.proofs.Ready.{pointer_there}
 use Rattle.capnp_dynamic.proofs.Grown.{there_grown}
 use Rattle.capnp_dynamic.proofs.AnyEdits.{far_refused, far_err}
 use Rattle.capnp_dynamic.proofs.CopiedFields.{null_field, member_field}
+use Rattle.capnp_dynamic.proofs.NullRefusals.{null_untaken, null_unplaced}
 use Rattle.capnp_dynamic.proofs.group_sets.copy_null.Goals as goal
 
 pub returns-then-said-clause-writes : goal.returns-then-said-clause-writes
@@ -93,10 +96,24 @@ returns-clause-grows g c =
 
 pub returns-in_err-test_type-clause-why : goal.returns-in_err-test_type-clause-why
 returns-in_err-test_type-clause-why g c =
+    let slot = c.requires.slot.0 in
     let h = err_from_is_err_and c.from_residual.result c.from_residual.ensures.1 in
-    rw (h.1, h.2) (inr (sym c.in_err-test_type.ensures))
+    rw (h.1, h.2) (null_untaken c.args.field c.args.index (ty_of c.args.ty) slot.0 slot.1 c.in_err-test_type.field-0.0 (words_in (g.A.ReaderArena.segments c.args.arena.now)) (sym c.in_err-test_type.ensures))
 
 pub returns-in_err-put_null-clause-why : goal.returns-in_err-put_null-clause-why
 returns-in_err-put_null-clause-why g c =
     let h = err_from_is_err_and c.from_residual-in_err-put_null.result c.from_residual-in_err-put_null.ensures.1 in
-    rw (h.1, h.2) (inl (sym c.in_ok-test_type.ensures))
+    let at = state_in g.A.ReaderArena.segments g.A.BuilderArena.room g.A.BuilderArena.books in
+    let old = at c.args.arena.now in
+    let new = at c.put_null.new.arena in
+    let slot = c.requires.slot.0 in
+    let f = c.args.field in
+    let i = c.args.index in
+    let ty = ty_of c.args.ty in
+    let e = c.in_err-put_null.field-0.0 in
+    let at_segment = c.pointer_place-slot.result.segment in
+    let nodes = c.set.ensures ∙ ap nodes_around c.parent.ensures in
+    let value = (c.default_value.ensures i ty slot.0 slot.1).value in
+    let why = subst (λ o. NotPut old new at_segment (source_tree (schema_of (nodes_around f.parent)) ty (default_or_null o) null) e) value
+    (subst (λ ns. NotPut old new at_segment (null_tree (schema_of ns) ty (option_map value_of (option_copied c.default_value.result))) e) nodes c.in_err-put_null.ensures.why) in
+    rw (h.1, h.2) (null_unplaced f i ty slot.0 slot.1 e (field_of c.get_proto-said.result.now) c.get_proto-said.ensures (sym c.in_ok-test_type.ensures) old new at_segment why)

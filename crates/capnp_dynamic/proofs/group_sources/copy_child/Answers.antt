@@ -39,7 +39,7 @@ pub returns-in_default-clause-stands : goal.returns-in_default-clause-stands
 returns-in_default-clause-stands g c = stands_same (Err c.from.result) (words_in (g.A.ReaderArena.segments c.args.arena.now))
 
 pub returns-in_default-clause-why : goal.returns-in_default-clause-why
-returns-in_default-clause-why g c = child_without (seen_struct g.B.ReaderArena.segments c.args.source.now) c.args.index c.from.result (sym c.levels.ensures ∙ c.in_default.is) (ap kind_of c.from.ensures)
+returns-in_default-clause-why g c = child_without (seen_struct g.B.ReaderArena.segments c.args.source.now) c.args.index (words_in (g.A.ReaderArena.segments c.args.arena.now)) c.from.result (sym c.levels.ensures ∙ c.in_default.is) (ap kind_of c.from.ensures)
 
 pub returns-clause-why : goal.returns-clause-why
 returns-clause-why g c =
@@ -52,5 +52,5 @@ returns-clause-why g c =
     let basis = ap (λ (x : Ground). x.segments) c.backing.ensures in
     let copies = subst (λ (f : Segments). CopiesValue n f q s u p c.new-limiter.result c.copy_from.result c.copy_from.new.limiter) basis c.copy_from.ensures.copy in
     let there = subst (λ (x : Place). CopiesValue n v.basis.segments (after x c.args.index) s u p c.new-limiter.result c.copy_from.result c.copy_from.new.limiter) c.first_pointer-first.ensures.place copies in
-    child_refused v c.args.index n (sym c.levels.ensures ∙ c.in-Some.is) c.copy_from.result
+    child_refused v c.args.index n u (sym c.levels.ensures ∙ c.in-Some.is) c.copy_from.result
     (copy_refused n v.basis.segments s u (after v.first c.args.index) p c.new-limiter.result c.copy_from.new.limiter c.copy_from.result c.new-limiter.ensures.left there)

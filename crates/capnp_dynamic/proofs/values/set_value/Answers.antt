@@ -1,5 +1,5 @@
 -- A copy, a refusal, or what a value without pointers makes.
-use Rattle.std.proofs.Common.{◌≡◌, false, Option, Some, None, Err, refl, sym, ap, ◌∙◌}
+use Rattle.std.proofs.Common.{false, Err, refl, sym, ap, ◌∙◌}
 use Rattle.std.specs.Prelude.{option_map}
 use Rattle.capnp_model.specs.Calls.{refused_by}
 use Rattle.capnp_model.specs.Schemas.{group_slot}
@@ -96,7 +96,7 @@ returns-in-Some-struct_for-clause-puts g c =
     let ty = group_type (entry_of f) (group_slot own) (ty_of c.get_type.result) c.in-Group.ensures.body c.get_type.ensures.ty in
     let some = sym (c.struct_for.ensures.given (shape_id own) ty) ∙ ap (option_map (struct_seen bytes)) c.in-Some-struct_for.is in
     given_puts bytes v (at c.args.memory.now) (at (record { arena = c.set_group.new.arena })) c.args.object f (fields x) c.set_group.result
-    (fields_given bytes v (entry_of f) own x c.in-Group.ensures.body some) (c.set_group.ensures.writes, c.set_group.ensures.why)
+    (fields_given bytes v (entry_of f) own x c.in-Group.ensures.body some) c.set_group.ensures.sets
 
 pub returns-in-Some-struct_for-clause-leaves : goal.returns-in-Some-struct_for-clause-leaves
 returns-in-Some-struct_for-clause-leaves g c =

@@ -12,6 +12,7 @@ use Rattle.capnp_records.specs.NodeViews.{value_of}
 use Rattle.capnp_copy.specs.Values.{Becomes}
 use Rattle.capnp_copy_from.specs.Defaults.{is_null_at}
 use Rattle.capnp_dynamic_values.specs.Defaults.{ByteList, default_bytes, BytesPut, BytesBegin}
+use Rattle.capnp_dynamic_values.proofs.InputGrowth.{bytes_grow}
 use Rattle.capnp_dynamic_values.proofs.default.begin_bytes.Goals as goal
 
 put_by : (d : ByteList) (s u : Segments) (p : Place) (r : Result ⊤ Error) → is_null_at s p ≡ true → IfOk r (λ o. Becomes s u p (plain_list 2 d.count d.section)) → OnOk r (BytesBegin (Some d) s u p)
@@ -39,3 +40,11 @@ returns-in-Some-Data-clause-begins g c =
     let is : option_map value_of (option_copied c.args.default) ≡ data_of bytes = search rules in
     subst (λ d. OnOk c.set_data.result (BytesBegin (default_bytes d) s u p)) (sym is)
     (put_by (record { count = length bytes; section = number_of 8 bytes }) s u p c.set_data.result (search rules) c.set_data.ensures.value)
+
+pub returns-in-Some-Text-clause-grows : goal.returns-in-Some-Text-clause-grows
+returns-in-Some-Text-clause-grows g c =
+    bytes_grow (g.A.ReaderArena.segments c.args.arena.now) (g.A.ReaderArena.segments c.set_text.new.arena) c.set_text.result c.set_text.ensures.grows c.set_text.ensures.refused
+
+pub returns-in-Some-Data-clause-grows : goal.returns-in-Some-Data-clause-grows
+returns-in-Some-Data-clause-grows g c =
+    bytes_grow (g.A.ReaderArena.segments c.args.arena.now) (g.A.ReaderArena.segments c.set_data.new.arena) c.set_data.result c.set_data.ensures.grows c.set_data.ensures.refused

@@ -9,6 +9,7 @@ use Rattle.capnp_units.specs.Segments.{words_in}
 use Rattle.capnp_wire.specs.Places.{place_view}
 use Rattle.capnp_records.specs.NodeViews.{field_of, value_of}
 use Rattle.capnp_call_messages.specs.Messages.{tree_of_message}
+use Rattle.capnp_queries.specs.Structs.{shape_of_struct}
 use Rattle.capnp_queries.specs.Handles.{body_of_place}
 use Rattle.capnp_queries.specs.Types.{ty_of}
 use Rattle.capnp_queries.specs.declared.slots.FieldPlace.TheVariants as F
@@ -69,3 +70,6 @@ returns-in_ok-put_message-in-Pointer-clause-writes g c =
     let takes : takes_message (ty_of c.in-Pointer.ty) ≡ true = sym c.takes_message.ensures ∙ c.if-not-takes_message.false in
     message_end f (field_of c.get_proto-said.result.now) c.get_proto-said.ensures c.in-Pointer.index (ty_of c.in-Pointer.ty) (default_tree (option_map value_of (option_copied c.in-Pointer.default))) c.in-Pointer.ensures.body takes (tree_of_message c.args.value.now) s m u p (place_view c.pointer_place.result)
     l c.pointer_place.ensures.place c.in_ok-put_message-in-Pointer.ensures.puts c.mark-in-Pointer.ensures.edits
+
+pub set_group-requires-clause-group : goal.set_group-requires-clause-group
+set_group-requires-clause-group g c = (shape_of_struct c.in-Group.schema, c.in-Group.ensures.body)

@@ -21,6 +21,7 @@ use Rattle.capnp_dynamic.proofs.Ready.{areas_inside, pointer_there}
 use Rattle.capnp_dynamic.proofs.GroupFields.{pointer_inside, member_inside}
 use Rattle.capnp_dynamic_lists.specs.Lists.{HasPointer}
 use Rattle.capnp_dynamic_lists.specs.Elements.{Holds}
+use Rattle.capnp_ways.specs.Ways.{IsWay}
 use Rattle.capnp_edits.specs.Written.{WritesField, WritesValue}
 use Rattle.capnp_edits.specs.Elements.{WritesWithin, WritesFieldWithin, WritesElement}
 use Rattle.capnp_edits.proofs.Outcomes.{by_name, by_group, by_pointer, end_within}
@@ -66,6 +67,7 @@ write_behind-write_steps-requires g t c κs within =
     let holder = subst (λ p. IsRecordOf (nodes_around p) (id_of p) n) c.parent.ensures c.record-holder.ensures in
     let is = group_is_field f (field_of c.get_proto-said.result.now) c.get_proto-said.ensures n holder c.in-Group.schema c.in-Group.ensures.of_set c.in-Group.ensures.body in
     let wide = group_wide c.args.object f c.in-Group.schema is c.requires.wide in
+    let way : IsWay (schema_around c.in-Group.schema) (map step_view c.args.rest.now) c.args.way.now = subst (λ ns. IsWay (schema_of ns) (map step_view c.args.rest.now) c.args.way.now) (sym c.in-Group.ensures.of_set) c.requires.way in
     search rules
 
 pub write_behind-pointer_place-slot-requires-clause-inside : goal.write_behind-pointer_place-slot-requires-clause-inside
@@ -87,6 +89,7 @@ write_behind-write_value-requires g t c κs within =
     let there = subst (λ q. is_some (words_at s q 1) ≡ true) (sym c.pointer_place-slot.ensures.place) (pointer_there s (place_view p.start) p.data_words p.pointers c.in-Pointer.index l c.requires.there.words) in
     let nodes = c.set-set.ensures ∙ ap nodes_around c.parent-in-Pointer.ensures in
     let known : is_type_of (nodes_of c.set-set.result.now) c.in-Pointer.ty ≡ true = ap (λ ns. is_type_of ns c.in-Pointer.ty) nodes ∙ c.in-Pointer.ensures.of_set in
+    let way : IsWay (schema_of (nodes_of c.set-set.result.now)) (map step_view c.args.rest.now) c.args.way.now = subst (λ ns. IsWay (schema_of ns) (map step_view c.args.rest.now) c.args.way.now) (sym nodes) c.requires.way in
     search rules
 
 pub write_behind-returns-in-Group-clause-writes : goal.write_behind-returns-in-Group-clause-writes

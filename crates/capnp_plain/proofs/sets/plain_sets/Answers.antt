@@ -5,7 +5,7 @@ use Rattle.capnp_model.specs.Calls.{Call as ModelCall}
 use Rattle.capnp_calls.specs.declared.call.Call.{Call}
 use Rattle.capnp_calls.specs.CallViews.{call_view}
 use Rattle.capnp_plain.specs.PlainSets.{ArePlain}
-use Rattle.capnp_plain.specs.declared.plain.PlainSet.{PlainSet}
+use Rattle.capnp_splice.specs.declared.plain.PlainSet.{PlainSet}
 use Rattle.capnp_plain.proofs.NamedFields.{one_more}
 use Rattle.capnp_plain.proofs.sets.plain_sets.Goals as goal
 

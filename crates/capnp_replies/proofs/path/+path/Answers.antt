@@ -1,4 +1,4 @@
-use Rattle.std.proofs.Common.{◌≡◌, ◌≢◌, ◌<◌, ◌≤◌, [], None, Some, sym, ap, refl, subst, ◌∙◌}
+use Rattle.std.proofs.Common.{rules, ◌≡◌, ◌≢◌, ◌<◌, ◌≤◌, [], None, Some, sym, ap, refl, subst, ◌∙◌}
 use Rattle.std.specs.Prelude.{map}
 use Rattle.std.proofs.lemmas.Result.{IfOk-weaker}
 use Rattle.capnp_model.specs.Accepted.{schema_of}
@@ -8,10 +8,13 @@ use Rattle.capnp_queries.specs.Fields.{place_of_name}
 use Rattle.capnp_queries.specs.declared.structs.StructSchema.{StructSchema}
 use Rattle.capnp_queries.specs.Structs.{schema_around, fields_of_struct}
 use Rattle.capnp_values.specs.Records.{reading_at}
+use Rattle.capnp_values.specs.Shown.{shown}
 use Rattle.capnp_values.specs.Sources.{struct_seen, list_seen}
 use Rattle.capnp_calls.specs.CallViews.{step_view, action_view}
 use Rattle.capnp_calls.specs.Replies.{reply_view}
 use Rattle.capnp_calls.proofs.PathAnswers.{some_is}
+use Rattle.capnp_replies.specs.Parts.{IsWayIn}
+use Rattle.capnp_replies.proofs.Ways.{HasWay, kind_way, element_way}
 use Rattle.capnp_replies.proofs.Steps.{no_name, named_reply, missing_reply, no_index}
 use Rattle.capnp_replies.proofs.Typed.{typed}
 use Rattle.capnp_replies.proofs.Parts.{field_answer, inactive_answer, element_answer, index_answer, past_answer}
@@ -64,6 +67,14 @@ at_field-returns-in-Err-clause-replied g t c e r at rec =
     let got = c.in-Err.ensures in
     field_answer c.records_are_read.ensures.fields f got.said v (map step_view c.args.rest.now) (action_view c.args.action.now) _ e r _ got.is got.default got.shows some at rec (sym (c.is_active.ensures e r at rec) ∙ c.if-not-is_active.false) refl
 
+pub at_field-behind-requires : goal.at_field-behind-requires
+at_field-behind-requires g t c κs within =
+    let f = c.args.field in
+    let seg = g.A.ReaderArena.segments in
+    let path = map step_view c.args.rest.now in
+    let way : IsWayIn (shown seg c.in-Ok.value) path c.args.way.now = subst (HasWay path c.args.way.now) (sym c.in-Ok.ensures.shows) (kind_way (schema_around f.parent) path c.args.way.now (struct_seen seg c.args.reader.source) c.in-Ok.ensures.said.kind c.requires.way) in
+    search rules
+
 -- ---- at_list
 
 pub at_list-returns-in_default-clause-replied : goal.at_list-returns-in_default-clause-replied
@@ -105,3 +116,11 @@ at_element-returns-in-Err-clause-replied g t c rs are =
     let ty = typed l.element_type in
     let some : map step_view c.args.rest.now ≢ [] = some_is step_view c.args.rest.now (sym c.is_empty.ensures ∙ c.if-is_empty.false) in
     element_answer c.elements_are_read.ensures (schema_of (nodes_of l.set.now)) ty.0 (ty_of l.element_type) ty.1 v rs are c.args.index c.requires.inside (map step_view c.args.rest.now) (action_view c.args.action.now) _ _ c.in-Err.ensures some refl
+
+pub at_element-behind-requires : goal.at_element-behind-requires
+at_element-behind-requires g t c κs within =
+    let l = c.args.list in
+    let seg = g.A.ReaderArena.segments in
+    let path = map step_view c.args.rest.now in
+    let way : IsWayIn (shown seg c.in-Ok.value) path c.args.way.now = subst (HasWay path c.args.way.now) (sym c.in-Ok.ensures) (element_way (schema_of (nodes_of l.set.now)) path c.args.way.now (ty_of l.element_type) (list_seen seg l.source) c.args.index c.requires.way) in
+    search rules

@@ -1,7 +1,8 @@
-use Rattle.std.proofs.Common.{◌≡◌, ℕ, suc, ◌+◌, List, ◌∷◌, [], ◌++◌, drop, take, Err, refl, ap, sym, subst, ◌∙◌, add-one}
+use Rattle.std.proofs.Common.{◌≡◌, ℕ, suc, ◌+◌, List, ◌∷◌, [], ◌++◌, drop, take, Err, length, refl, ap, sym, subst, ◌∙◌, add-one}
 use Rattle.std.specs.Prelude.{map}
 use Rattle.std.proofs.Math.Seq.{drop-cons, take-suc}
-use Rattle.std.proofs.lemmas.List.{map-append, drop_all, take_all, take-append-drop}
+use Rattle.std.proofs.lemmas.List.{map-append, drop_all, take_all, take-append-drop, length_push}
+use Rattle.std.proofs.lemmas.Option.{slice_get_read}
 use Rattle.std.proofs.lemmas.Result.{err_from_is_err_and}
 use Rattle.capnp_model.specs.Calls.{Call as ModelCall}
 use Rattle.capnp_model.specs.Answers.{Reply}
@@ -10,7 +11,9 @@ use Rattle.capnp_units.specs.Segments.{words_in}
 use Rattle.capnp_calls.specs.declared.call.Call.{Call}
 use Rattle.capnp_calls.specs.CallViews.{call_view}
 use Rattle.capnp_calls.specs.Replies.{reply_view}
-use Rattle.capnp_queries.specs.Structs.{nodes_around, id_of}
+use Rattle.capnp_queries.specs.Structs.{nodes_around, schema_around, id_of}
+use Rattle.capnp_ways.specs.Ways.{IsWay}
+use Rattle.capnp_run.proofs.CallWays.{way_of_this}
 use Rattle.capnp_run.specs.declared.fault.RunFault.{RunFault}
 use Rattle.capnp_run.specs.declared.fault.RunFault.TheVariants as faults
 use Rattle.capnp_run.specs.Runs.{record_at, PutsLongAt}
@@ -23,8 +26,18 @@ loop-call-init g c =
     let calls = map call_view c.args.calls.now in
     record {
       so_far = subst (λ xs. SoFar s s c.args.object c.args.schema [] calls calls (map reply_view xs)) (sym c.new-replies.ensures.items) (at_first s c.args.object c.args.schema calls);
+      count = ap length c.new-replies.ensures.items;
       books = refl;
     }
+
+pub answer-requires-clause-way : goal.answer-requires-clause-way
+answer-requires-clause-way g c =
+    let calls = c.args.calls.now in
+    let i : ℕ = c.loop-call.call-index in
+    let this : Call = c.call-item.result in
+    let at : c.len.result ≡ i = c.len.ensures ∙ (c.loop-call.replies.ok.0 ∙ c.loop-call.invariant.count) in
+    let known = way_of_this (schema_around c.args.schema) calls c.args.ways.now i c.len.result this c.requires.ways (slice_get_read calls (length calls) i this refl c.loop-call-test.true c.call-item.is) at in
+    subst (λ way. IsWay (schema_around c.args.schema) (call_view this).path way) (sym c.of-way.ensures) known
 
 pub loop-call-preserved : goal.loop-call-preserved
 loop-call-preserved g c =
@@ -55,6 +68,7 @@ loop-call-preserved g c =
     let Q : List Reply → Type 0 = λ xs. SoFar s v p root (map call_view (take (i + 1) calls)) (map call_view behind) all xs in
     record {
       so_far = subst Q (sym pushed) (subst P (sym done) next);
+      count = ap length c.in_ok-push.ensures.items ∙ length_push c.loop-call.replies.items c.in_ok-answer.field-0 ∙ ap (λ n. n + 1) c.loop-call.invariant.count;
       books = c.in_ok-answer.ensures.books ∙ c.loop-call.invariant.books;
     }
 

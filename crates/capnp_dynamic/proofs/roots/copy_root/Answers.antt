@@ -1,0 +1,37 @@
+use Rattle.std.proofs.Common.{ap, subst}
+use Rattle.capnp_model.specs.Segments.{Segments, Place, root}
+use Rattle.capnp_units.specs.Segments.{words_in}
+use Rattle.capnp_wire.specs.Places.{place_view}
+use Rattle.capnp_wire.specs.Views.{Ground}
+use Rattle.capnp_copy_from.specs.Copies.{CopiesValue}
+use Rattle.capnp_copy_from.specs.Defaults.{default_segments}
+use Rattle.capnp_dynamic.proofs.SourceReadings.{value_copied, copy_stands}
+use Rattle.capnp_dynamic.proofs.FieldRefusals.{copy_refused}
+use Rattle.capnp_dynamic.proofs.roots.copy_root.Goals as goal
+
+pub returns-clause-puts : goal.returns-clause-puts
+returns-clause-puts g c t e =
+    let s : Segments = words_in (g.A.ReaderArena.segments c.args.arena.now) in
+    let u : Segments = words_in (g.A.ReaderArena.segments c.copy_from.new.arena) in
+    let p : Place = place_view c.args.slot in
+    let is = ap (λ (x : Ground). x.segments) c.default_backing-source.ensures in
+    value_copied 64 (default_segments c.args.words.now) s u root p c.new-limiter.result c.copy_from.new.limiter c.copy_from.result t
+    (subst (λ (f : Segments). CopiesValue 64 f root s u p c.new-limiter.result c.copy_from.result c.copy_from.new.limiter) is c.copy_from.ensures.copy) e
+
+pub returns-clause-stands : goal.returns-clause-stands
+returns-clause-stands g c =
+    let s : Segments = words_in (g.A.ReaderArena.segments c.args.arena.now) in
+    let u : Segments = words_in (g.A.ReaderArena.segments c.copy_from.new.arena) in
+    let p : Place = place_view c.args.slot in
+    let is = ap (λ (x : Ground). x.segments) c.default_backing-source.ensures in
+    copy_stands 64 (default_segments c.args.words.now) s u root p c.new-limiter.result c.copy_from.new.limiter c.copy_from.result
+    (subst (λ (f : Segments). CopiesValue 64 f root s u p c.new-limiter.result c.copy_from.result c.copy_from.new.limiter) is c.copy_from.ensures.copy)
+
+pub returns-clause-why : goal.returns-clause-why
+returns-clause-why g c =
+    let s : Segments = words_in (g.A.ReaderArena.segments c.args.arena.now) in
+    let u : Segments = words_in (g.A.ReaderArena.segments c.copy_from.new.arena) in
+    let p : Place = place_view c.args.slot in
+    let is = ap (λ (x : Ground). x.segments) c.default_backing-source.ensures in
+    copy_refused 64 (default_segments c.args.words.now) s u root p c.new-limiter.result c.copy_from.new.limiter c.copy_from.result c.new-limiter.ensures.left
+    (subst (λ (f : Segments). CopiesValue 64 f root s u p c.new-limiter.result c.copy_from.result c.copy_from.new.limiter) is c.copy_from.ensures.copy)

@@ -1,0 +1,38 @@
+-- The message grows where values are got.
+use Rattle.std.proofs.Common.{◌≡◌, ℕ, ◌<◌, ◌||◌, not, Bool, true, false, List, Option, Some, None, Result, Ok, Err, refl, sym, subst, ap}
+use Rattle.std.specs.Bool.{⊤}
+use Rattle.capnp_model.specs.Segments.{Segments, Place, root, after}
+use Rattle.capnp_model.specs.Coverage.{Grows}
+use Rattle.capnp_model.specs.Trees.{Tree, child}
+use Rattle.capnp_units.specs.declared.errors.Error.{Error}
+use Rattle.capnp_wire.specs.Places.{place_view}
+use Rattle.capnp_footprints.specs.Footprints.{Owns}
+use Rattle.capnp_footprints.proofs.Spans.{grows_same}
+use Rattle.capnp_footprints.proofs.Lift.{child_of_struct}
+use Rattle.capnp_copy.specs.declared.fields.StructPlace.{StructPlace}
+use Rattle.capnp_copy_from.specs.Defaults.{WritesDefault, is_null_at}
+use Rattle.capnp_builders.specs.Gets.{Begins, Gets}
+use Rattle.capnp_dynamic_gets.specs.Slots.{GrowsBehind}
+use Rattle.capnp_dynamic_gets.specs.Fields.{GrowsAround}
+
+default_grows : (f s u : Segments) (p : Place) (r : Result ⊤ Error) (a b : Bool) → is_null_at s p ≡ a → is_null_at f root ≡ b → WritesDefault f s u p r → Grows s u
+default_grows f s u p r false b ea eb w = subst (Grows s) (sym (w.kept (ap (λ x. not x || is_null_at f root) ea)).0) (grows_same s)
+default_grows f s u p r true true ea eb w = subst (Grows s) (sym (w.kept (subst (λ x. (not (is_null_at s p) || x) ≡ true) (sym eb) (subst (λ y. (not y || true) ≡ true) (sym ea) refl))).0) (grows_same s)
+default_grows f s u p (Ok x) true false ea eb w = (w.written ea eb).copies.grows
+default_grows f s u p (Err e) true false ea eb w = (w.written ea eb).copies.left.grows
+
+pub begin_grows : (default : Option (List (List ℕ))) (s u : Segments) (p : Place) (r : Result ⊤ Error) → Begins default s u p r → Grows s u
+begin_grows None s u p r b = subst (Grows s) (sym b.0) (grows_same s)
+begin_grows (Some words) s u p r b = default_grows _ s u p r _ _ refl refl b
+
+pub gets_grow : (default : Option (List (List ℕ))) (s u : Segments) (p : Place) (made : Tree → Tree) → Gets default s u p made → GrowsBehind s u p
+gets_grow default s u p made got n t own = let x = got n t own in x.2.changes.grows
+
+pub behind_any : (s u : Segments) (p : Place) → Grows s u → GrowsBehind s u p
+behind_any s u p g n t own = g
+
+-- a child of a struct
+pub child_grows : (s u : Segments) (p : StructPlace) (i : ℕ) (r : Place) → i < p.pointers → r ≡ after (after (place_view p.start) p.data_words) i → GrowsBehind s u r → GrowsAround s u p
+child_grows s u p i r l e h n section kids o =
+    let owned = child_of_struct n s (place_view p.start) p.data_words p.pointers i p.data_words section kids l o in
+    h n (child kids i) (subst (λ q. Owns n s q (child kids i)) (sym e) owned)

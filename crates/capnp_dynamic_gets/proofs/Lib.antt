@@ -1,0 +1,9 @@
+mod AcceptedLists
+mod FoundLists
+mod BegunBytes
+mod GroupPlaces
+mod Grown
+mod PlainValues
+mod GotParts
+mod GotLists
+mod GotElements

@@ -1,0 +1,9 @@
+pub mod Blobs
+pub mod Structs
+pub mod Lists
+pub mod Plain
+pub mod Slots
+pub mod Fields
+pub mod Elements
+pub mod Builders
+pub mod Kinds

@@ -1,0 +1,48 @@
+//! Gets of dynamic builders of lists.
+ghost use Rattle.std.specs.Prelude.{◌≡◌, ◌<◌, IfOk, IfSome};
+ghost use Rattle.capnp_units.specs.Segments.{words_in};
+ghost use Rattle.capnp_dynamic_lists.specs.Builders.{IsReady, words_around};
+ghost use Rattle.capnp_dynamic_values.specs.Built.{memory_in, placed_of, IsPlaced, IsAtEnd, IsReady as IsValueReady};
+ghost use Rattle.capnp_dynamic_gets.specs.Builders.{GetsAt, KeepsListReady};
+
+use crate::elements::get_element;
+use capnp_copy::arena::BuilderArena;
+use capnp_dynamic_lists::dynamic_list::Builder;
+use capnp_dynamic_values::dynamic_value;
+use capnp_dynamic_values::placed::Placed;
+use capnp_units::errors::Result;
+
+/// The element at an index, which is one of the list's, as a value to write, which `value` lends: a plain one as it is read, by the bits at its front; a struct where it lies, with the list's sizes; any other where it lies behind the element's pointer. A null pointer stays null: a text, data and a list of no structs are empty, and an untyped pointer is null. A list of structs is widened to their schema's sizes.
+///
+/// It is refused as `get` of a struct's builder is.
+pub fn get<'b, A: BuilderArena>(builder: &mut Builder<'b, A>, index: u32) -> Result<Placed<'b>>
+    requires ready { IsReady A.segments builder.old }
+    requires index { index < builder.old.place.count }
+    ensures same { builder.new.memory.ghost_name ≡ builder.old.memory.ghost_name }
+    ensures gets { GetsAt A.segments A.nesting builder.old builder.new index result }
+    ensures there { IfOk result (IsPlaced (words_around A.segments builder.new)) }
+    ensures ready { KeepsListReady A.segments builder.old builder.new }
+    ensures books { A.books builder.new.memory.now.arena ≡ A.books builder.old.memory.now.arena }
+{
+    let place = builder.place;
+    let set = builder.set;
+    let ty = builder.element_type;
+    get_element(builder.memory, place, set, ty, index)
+}
+
+/// A value of the list's message that a get told, to write, as long as it stays where it is. Of a plain value the memory isn't held.
+pub fn value<'a, A: BuilderArena>(
+    builder: Builder<'a, A>,
+    placed: Placed<'a>,
+) -> dynamic_value::Builder<'a, A>
+    requires there { IsPlaced (words_in (A.segments builder.memory.now.arena)) placed }
+    ensures same { IfSome (memory_in result)
+        (λ m. m.ghost_name ≡ builder.entry.memory.ghost_name) }
+    ensures now { IfSome (memory_in result) (λ m. m.now ≡ builder.entry.memory.now) }
+    ensures placed { placed_of result ≡ placed.entry }
+    ensures end { IsAtEnd result }
+    ensures ready { IsValueReady A.segments result }
+{
+    let Builder { memory, .. } = builder;
+    dynamic_value::Builder::new(memory, placed)
+}

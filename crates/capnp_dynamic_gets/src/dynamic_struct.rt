@@ -1,0 +1,74 @@
+//! Gets of dynamic builders of structs.
+ghost use Rattle.std.specs.Prelude.{◌≡◌, None, IfOk, IfSome};
+ghost use Rattle.capnp_units.specs.Segments.{words_in};
+ghost use Rattle.capnp_queries.specs.Fields.{place_of_name};
+ghost use Rattle.capnp_queries.specs.Structs.{fields_of_struct};
+ghost use Rattle.capnp_values.specs.Shown.{AnswersNamed};
+ghost use Rattle.capnp_dynamic.specs.Builders.{IsReady, Stays, words_around};
+ghost use Rattle.capnp_dynamic_values.specs.Built.{memory_in, placed_of, IsPlaced, IsAtEnd, IsReady as IsValueReady};
+ghost use Rattle.capnp_dynamic_gets.specs.Builders.{Gets, KeepsReady};
+
+use crate::fields::get_field;
+use capnp_copy::arena::BuilderArena;
+use capnp_dynamic::dynamic_struct::Builder;
+use capnp_dynamic_values::dynamic_value;
+use capnp_dynamic_values::placed::Placed;
+use capnp_queries::fields::Field;
+use capnp_units::errors::Result;
+
+/// A field of a struct, as a value to write, which `value` lends: a plain one as it is read, by its bits, exclusive or those of its default; a group as the same struct under its own schema; any other where it lies behind the field's pointer. A null pointer gets its default, where there is one; else a struct gets one of zeros and nulls, and any other stays null: a text, data and a list are empty, and an untyped pointer is null. A struct, and a list of structs, are widened to their schema's sizes. A union member that isn't the active one is got all the same, and the union stays as it is.
+///
+/// It is refused by the fault of what lies behind the field's pointer, with `WrongPointerKind`, `WrongElementSize` or `TextWithoutZeroByte` where that isn't of the field's type; a default and a wider copy with `SizeOverflow` just where the message's words would pass 2^29 - 1, else as the allocator refuses. Then all words stand as they were, and new ones are zero; only a default that was written in place of null stays, where what it is is refused, or has no room to be widened.
+pub fn get<'b, A: BuilderArena>(
+    builder: &mut Builder<'_, A>,
+    field: Field<'b>,
+) -> Result<Placed<'b>>
+    requires ready { IsReady A.segments builder.old }
+    requires field { field.parent ≡ builder.old.schema }
+    ensures same { builder.new.memory.ghost_name ≡ builder.old.memory.ghost_name }
+    ensures gets { Gets A.segments A.nesting builder.old builder.new field.entry result }
+    ensures there { IfOk result (IsPlaced (words_around A.segments builder.new)) }
+    ensures ready { KeepsReady A.segments builder.old builder.new }
+    ensures books { A.books builder.new.memory.now.arena ≡ A.books builder.old.memory.now.arena }
+{
+    let place = builder.place;
+    get_field(builder.memory, place, field)
+}
+
+/// The field of a name, as by `get`. A name that the struct lacks is refused by `FieldNotFound`, and all is as it was.
+pub fn get_named<'b, A: BuilderArena>(
+    builder: &mut Builder<'b, A>,
+    name: &str,
+) -> Result<Placed<'b>>
+    requires ready { IsReady A.segments builder.old }
+    ensures same { builder.new.memory.ghost_name ≡ builder.old.memory.ghost_name }
+    ensures gets { AnswersNamed builder.old.schema name.now (λ f r.
+        Gets A.segments A.nesting builder.old builder.new f r) result }
+    ensures unknown { place_of_name name.now (fields_of_struct builder.old.schema) ≡ None
+        → Stays A.segments builder.old builder.new }
+    ensures there { IfOk result (IsPlaced (words_around A.segments builder.new)) }
+    ensures ready { KeepsReady A.segments builder.old builder.new }
+    ensures books { A.books builder.new.memory.now.arena ≡ A.books builder.old.memory.now.arena }
+{
+    let place = builder.place;
+    let schema = builder.schema;
+    let field = schema.get_field_by_name(name)?;
+    get_field(builder.memory, place, field)
+}
+
+/// A value of the struct's message that a get told, to write, as long as it stays where it is. Of a plain value the memory isn't held.
+pub fn value<'a, A: BuilderArena>(
+    builder: Builder<'a, A>,
+    placed: Placed<'a>,
+) -> dynamic_value::Builder<'a, A>
+    requires there { IsPlaced (words_in (A.segments builder.memory.now.arena)) placed }
+    ensures same { IfSome (memory_in result)
+        (λ m. m.ghost_name ≡ builder.entry.memory.ghost_name) }
+    ensures now { IfSome (memory_in result) (λ m. m.now ≡ builder.entry.memory.now) }
+    ensures placed { placed_of result ≡ placed.entry }
+    ensures end { IsAtEnd result }
+    ensures ready { IsValueReady A.segments result }
+{
+    let Builder { memory, .. } = builder;
+    dynamic_value::Builder::new(memory, placed)
+}

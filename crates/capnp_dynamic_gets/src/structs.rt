@@ -1,0 +1,57 @@
+//! Structs behind pointers, got to be written.
+ghost use Rattle.std.specs.Prelude.{◌≡◌, ◌<◌, ◌^◌, option_map, option_copied, IfOk, IfErr};
+ghost use Rattle.capnp_units.specs.Segments.{words_in};
+ghost use Rattle.capnp_wire.specs.Places.{place_view};
+ghost use Rattle.capnp_copy.specs.States.{HasWords};
+ghost use Rattle.capnp_records.specs.NodeViews.{value_of};
+ghost use Rattle.capnp_queries.specs.Structs.{shape_of_struct};
+ghost use Rattle.capnp_dynamic_values.specs.Defaults.{default_words};
+ghost use Rattle.capnp_dynamic_gets.specs.Structs.{size_of_shape, PartGot, NoPartGot};
+ghost use Rattle.capnp_dynamic_gets.specs.Slots.{GrowsBehind};
+
+use capnp_builders::gets::struct_or_default;
+use capnp_copy::arena::BuilderArena;
+use capnp_dynamic::init::Part;
+use capnp_dynamic_values::default::default_words;
+use capnp_queries::structs::StructSchema;
+use capnp_records::node::Value;
+use capnp_units::errors::Result;
+use capnp_units::sizes::StructSize;
+use capnp_wire::place::Place;
+
+/// The two sizes of a schema's structs.
+pub(crate) fn size_of(schema: StructSchema<'_>) -> StructSize
+    ensures { result ≡ size_of_shape (shape_of_struct schema.entry) }
+{
+    let record = schema.record();
+    StructSize {
+        data_words: record.data_word_count,
+        pointers: record.pointer_count,
+    }
+}
+
+/// The struct that the pointer at a place names, with at least its schema's sizes. A null pointer gets the default, where there is one, else a struct of zeros and nulls; a narrower struct is widened.
+///
+/// It is refused as `struct_or_default` of the builders is.
+pub fn struct_slot<'a, A: BuilderArena>(
+    arena: &mut A,
+    slot: Place,
+    schema: StructSchema<'a>,
+    default: Option<&Value>,
+) -> Result<Part<'a>>
+    requires there { HasWords (A.segments arena.old) slot 1 }
+    requires near { slot.position < 2 ^ 61 }
+    ensures got { IfOk result (PartGot
+        (default_words (option_map value_of (option_copied default.entry)))
+        (words_in (A.segments arena.old)) (words_in (A.segments arena.new)) slot schema.entry) }
+    ensures refused { IfErr result (NoPartGot
+        (default_words (option_map value_of (option_copied default.entry)))
+        (words_in (A.segments arena.old)) (words_in (A.segments arena.new)) slot
+        (shape_of_struct schema.entry)) }
+    ensures grows { GrowsBehind (words_in (A.segments arena.old)) (words_in (A.segments arena.new))
+        (place_view slot) }
+    ensures books { A.books arena.new ≡ A.books arena.old }
+{
+    let place = struct_or_default(arena, slot, size_of(schema), default_words(default))?;
+    Ok(Part { place, schema })
+}

@@ -1,0 +1,172 @@
+-- Values that are built, by where they lie. (Encoding, "Structs", "Lists", "Blobs")
+use Rattle.std.specs.Prelude.{◌≡◌, ◌<◌, ◌^◌, ℕ, ℤ, true, List, Option, Some, None}
+use Rattle.std.specs.Borrow.{MutBor}
+use Rattle.capnp_model.specs.Segments.{Segments}
+use Rattle.capnp_model.specs.Accepted.{schema_of}
+use Rattle.capnp_units.specs.Segments.{words_in}
+use Rattle.capnp_copy.specs.Bytes.{HasBytes}
+use Rattle.capnp_copy.specs.declared.arena.Memory.{Memory}
+use Rattle.capnp_records.specs.Sets.{nodes_of}
+use Rattle.capnp_queries.specs.Structs.{shape_of_struct}
+use Rattle.capnp_queries.specs.Types.{ty_of, is_type_of}
+use Rattle.capnp_model.specs.Schemas.{Node}
+use Rattle.capnp_wire.specs.Views.{PointerView, StructView, ListView}
+use Rattle.capnp_queries.specs.declared.introspect.«Type».{«Type» as SchemaType}
+use Rattle.capnp_queries.specs.declared.structs.StructSchema.{StructSchema}
+use Rattle.capnp_values.specs.Sources.{pointer_seen, struct_seen, list_seen}
+use Rattle.capnp_values.specs.declared.dynamic_value.Reader.{Reader}
+use Rattle.capnp_values.specs.declared.dynamic_value.Reader.TheVariants as reader
+use Rattle.capnp_dynamic.specs.Edits.{IsThere, IsWide}
+use Rattle.capnp_dynamic.specs.Builders.{IsReady as IsStructReady, struct_of}
+use Rattle.capnp_dynamic_lists.specs.Lists.{IsListThere}
+use Rattle.capnp_dynamic_lists.specs.Elements.{Holds, HoldsStructs}
+use Rattle.capnp_dynamic_lists.specs.Readers.{IsBytewise, list_of}
+use Rattle.capnp_dynamic_lists.specs.Builders.{IsReady as IsListReady}
+use Rattle.capnp_dynamic_values.specs.Untyped.{IsPointerThere, IsReady as IsPointerReady, pointer_of}
+use Rattle.capnp_dynamic_values.specs.declared.placed.ListPart.{ListPart}
+use Rattle.capnp_dynamic_values.specs.declared.placed.Placed.{Placed}
+use Rattle.capnp_dynamic_values.specs.declared.placed.Placed.TheVariants as placed
+use Rattle.capnp_dynamic_values.specs.declared.dynamic_value.Builder.{Builder}
+use Rattle.capnp_dynamic_values.specs.declared.dynamic_value.Builder.TheVariants as value
+
+-- The memory that a value holds; a plain one holds none.
+abbrev pub memory_in : {A : Type 0} → Builder A → Option (MutBor (Memory A))
+memory_in value.Void = None
+memory_in (value.Bool x) = None
+memory_in (value.Int8 x) = None
+memory_in (value.Int16 x) = None
+memory_in (value.Int32 x) = None
+memory_in (value.Int64 x) = None
+memory_in (value.UInt8 x) = None
+memory_in (value.UInt16 x) = None
+memory_in (value.UInt32 x) = None
+memory_in (value.UInt64 x) = None
+memory_in (value.Enum x) = None
+memory_in (value.Text t) = Some t.memory
+memory_in (value.Data d) = Some d.memory
+memory_in (value.Struct b) = Some b.memory
+memory_in (value.List l) = Some l.memory
+memory_in (value.AnyPointer p) = Some p.memory
+memory_in (value.Capability c) = None
+
+-- The plain value itself, or where the value lies.
+abbrev pub placed_of : {A : Type 0} → Builder A → Placed
+placed_of value.Void = placed.Void
+placed_of (value.Bool x) = placed.Bool x
+placed_of (value.Int8 x) = placed.Int8 x
+placed_of (value.Int16 x) = placed.Int16 x
+placed_of (value.Int32 x) = placed.Int32 x
+placed_of (value.Int64 x) = placed.Int64 x
+placed_of (value.UInt8 x) = placed.UInt8 x
+placed_of (value.UInt16 x) = placed.UInt16 x
+placed_of (value.UInt32 x) = placed.UInt32 x
+placed_of (value.UInt64 x) = placed.UInt64 x
+placed_of (value.Enum x) = placed.Enum x
+placed_of (value.Text t) = placed.Text t.place
+placed_of (value.Data d) = placed.Data d.place
+placed_of (value.Struct b) = placed.Struct (record { place = b.place; schema = b.schema })
+placed_of (value.List l) = placed.List (record { place = l.place; set = l.set; element_type = l.element_type })
+placed_of (value.AnyPointer p) = placed.AnyPointer p.place
+placed_of (value.Capability c) = placed.Capability c
+
+-- ---- what is there
+
+-- The list is there, with elements of its type, which is of its set; its elements are bits only where they are of type Bool.
+pub record IsListPlaced (s : Segments) (l : ListPart) : Type 0 where
+  pub there : IsListThere s l.place
+  pub holds : Holds l.place (ty_of l.element_type)
+  pub sizes : HoldsStructs (schema_of (nodes_of l.set.now)) l.place (ty_of l.element_type)
+  pub known : is_type_of (nodes_of l.set.now) l.element_type ≡ true
+  pub bytewise : IsBytewise l.place (ty_of l.element_type)
+
+-- What a value lies at is there: a struct or a group as wide as its schema, a list with elements of its type, a pointer's word; texts and data are near.
+abbrev pub IsPlaced : Segments → Placed → Type 0
+IsPlaced s placed.Void = Unit {0}
+IsPlaced s (placed.Bool x) = Unit {0}
+IsPlaced s (placed.Int8 x) = Unit {0}
+IsPlaced s (placed.Int16 x) = Unit {0}
+IsPlaced s (placed.Int32 x) = Unit {0}
+IsPlaced s (placed.Int64 x) = Unit {0}
+IsPlaced s (placed.UInt8 x) = Unit {0}
+IsPlaced s (placed.UInt16 x) = Unit {0}
+IsPlaced s (placed.UInt32 x) = Unit {0}
+IsPlaced s (placed.UInt64 x) = Unit {0}
+IsPlaced s (placed.Enum x) = Unit {0}
+IsPlaced s (placed.Text o) = o.start.position < 2 ^ 61
+IsPlaced s (placed.Data o) = o.start.position < 2 ^ 61
+IsPlaced s (placed.Struct part) = IsThere s part.place × IsWide part.place (shape_of_struct part.schema)
+IsPlaced s (placed.List part) = IsListPlaced s part
+IsPlaced s (placed.AnyPointer p) = IsPointerThere s p
+IsPlaced s (placed.Capability c) = Unit {0}
+
+-- A text is written from its end on.
+abbrev pub IsAtEnd : {A : Type 0} → Builder A → Type 0
+IsAtEnd (value.Text t) = t.position ≡ t.place.count
+IsAtEnd _ = Unit {0}
+
+module _ {A : Type 0} (bytes : A → List (List ℕ)) where
+  -- What a value lies at is there, in the memory that it holds.
+  abbrev pub IsReady : Builder A → Type 0
+  IsReady value.Void = Unit {0}
+  IsReady (value.Bool x) = Unit {0}
+  IsReady (value.Int8 x) = Unit {0}
+  IsReady (value.Int16 x) = Unit {0}
+  IsReady (value.Int32 x) = Unit {0}
+  IsReady (value.Int64 x) = Unit {0}
+  IsReady (value.UInt8 x) = Unit {0}
+  IsReady (value.UInt16 x) = Unit {0}
+  IsReady (value.UInt32 x) = Unit {0}
+  IsReady (value.UInt64 x) = Unit {0}
+  IsReady (value.Enum x) = Unit {0}
+  IsReady (value.Text t) = t.place.start.position < 2 ^ 61
+  IsReady (value.Data d) = d.place.start.position < 2 ^ 61
+  IsReady (value.Struct b) = IsStructReady bytes b
+  IsReady (value.List l) = IsListReady bytes l × IsBytewise l.place (ty_of l.element_type)
+  IsReady (value.AnyPointer p) = IsPointerReady bytes p
+  IsReady (value.Capability c) = Unit {0}
+
+-- ---- what it is read as
+
+-- a text of such bytes, and data
+abbrev pub IsTextOf : {A : Type 0} → (List ℕ → Type 0) → Reader A → Type 0
+IsTextOf Are (reader.Text t) = Are t.0.now
+IsTextOf Are _ = ⊥
+
+abbrev pub IsDataOf : {A : Type 0} → (List ℕ → Type 0) → Reader A → Type 0
+IsDataOf Are (reader.Data d) = Are d.now
+IsDataOf Are _ = ⊥
+
+-- the struct of a view, under a schema
+abbrev pub IsStructOf : {A : Type 0} → (A → List (List ℕ)) → StructView → StructSchema → Reader A → Type 0
+IsStructOf bytes v schema (reader.Struct r) = (struct_seen bytes r.source ≡ v) × (r.schema ≡ schema)
+IsStructOf bytes v schema _ = ⊥
+
+-- the list of a view, of elements of a type of the nodes
+abbrev pub IsListOf : {A : Type 0} → (A → List (List ℕ)) → ListView → List Node → SchemaType → Reader A → Type 0
+IsListOf bytes v nodes ty (reader.List l) = (list_seen bytes l.source ≡ v) × (nodes_of l.set.now ≡ nodes) × (l.element_type ≡ ty)
+IsListOf bytes v nodes ty _ = ⊥
+
+-- the untyped pointer of a view
+abbrev pub IsPointerOf : {A : Type 0} → (A → List (List ℕ)) → PointerView → Reader A → Type 0
+IsPointerOf bytes v (reader.AnyPointer p) = pointer_seen bytes p.source ≡ v
+IsPointerOf bytes v _ = ⊥
+
+-- A value is read as what lies there: a plain one as itself.
+abbrev pub ReadsAs : {A : Type 0} → (A → List (List ℕ)) → (A → ℤ) → Builder A → Reader A → Type 0
+ReadsAs bytes nesting value.Void r = r ≡ reader.Void
+ReadsAs bytes nesting (value.Bool x) r = r ≡ reader.Bool x
+ReadsAs bytes nesting (value.Int8 x) r = r ≡ reader.Int8 x
+ReadsAs bytes nesting (value.Int16 x) r = r ≡ reader.Int16 x
+ReadsAs bytes nesting (value.Int32 x) r = r ≡ reader.Int32 x
+ReadsAs bytes nesting (value.Int64 x) r = r ≡ reader.Int64 x
+ReadsAs bytes nesting (value.UInt8 x) r = r ≡ reader.UInt8 x
+ReadsAs bytes nesting (value.UInt16 x) r = r ≡ reader.UInt16 x
+ReadsAs bytes nesting (value.UInt32 x) r = r ≡ reader.UInt32 x
+ReadsAs bytes nesting (value.UInt64 x) r = r ≡ reader.UInt64 x
+ReadsAs bytes nesting (value.Enum x) r = r ≡ reader.Enum x
+ReadsAs bytes nesting (value.Text t) r = IsTextOf (HasBytes (words_in (bytes t.memory.now.arena)) t.place) r
+ReadsAs bytes nesting (value.Data d) r = IsDataOf (HasBytes (words_in (bytes d.memory.now.arena)) d.place) r
+ReadsAs bytes nesting (value.Struct b) r = IsStructOf bytes (struct_of bytes nesting b) b.schema r
+ReadsAs bytes nesting (value.List l) r = IsListOf bytes (list_of bytes nesting l) (nodes_of l.set.now) l.element_type r
+ReadsAs bytes nesting (value.AnyPointer p) r = IsPointerOf bytes (pointer_of bytes nesting p) r
+ReadsAs bytes nesting (value.Capability c) r = r ≡ reader.Capability c

@@ -1,0 +1,146 @@
+//! Handles of values that were got, and what these are read as.
+ghost use Rattle.std.specs.Prelude.{◌≡◌, IfSome, is_some, true};
+ghost use Rattle.capnp_units.specs.Segments.{words_in};
+ghost use Rattle.capnp_dynamic_values.specs.Built.{memory_in, placed_of, IsPlaced, IsReady, IsAtEnd, ReadsAs};
+
+use crate::any_pointer;
+use crate::downcast::DowncastBuilder;
+use crate::dynamic_value::Builder;
+use crate::placed::{ListPart, Placed};
+use capnp_builders::data_builder::DataBuilder;
+use capnp_builders::text_builder::TextBuilder;
+use capnp_copy::arena::{BuilderArena, Memory};
+use capnp_copy::bytes::BlobPlace;
+use capnp_dynamic::dynamic_struct;
+use capnp_dynamic::init::Part;
+use capnp_dynamic_lists::dynamic_list;
+use capnp_values::dynamic_value::Reader;
+use capnp_wire::place::Place;
+
+/// A text, to write from its end on.
+fn text_at<'a, A: BuilderArena>(memory: &'a mut Memory<A>, place: BlobPlace) -> TextBuilder<'a, A>
+    ensures same { result.memory.ghost_name ≡ memory.entry.ghost_name }
+    ensures now { result.memory.now ≡ memory.old }
+    ensures place { (result.place ≡ place) × (result.position ≡ place.count) }
+{
+    let position = place.count as usize;
+    TextBuilder {
+        memory,
+        place,
+        position,
+    }
+}
+
+/// A struct or a group.
+fn struct_at<'a, A: BuilderArena>(
+    memory: &'a mut Memory<A>,
+    part: Part<'a>,
+) -> dynamic_struct::Builder<'a, A>
+    ensures same { result.memory.ghost_name ≡ memory.entry.ghost_name }
+    ensures now { result.memory.now ≡ memory.old }
+    ensures part { (result.place ≡ part.entry.place) × (result.schema ≡ part.entry.schema) }
+{
+    let Part { place, schema } = part;
+    dynamic_struct::Builder {
+        memory,
+        place,
+        schema,
+    }
+}
+
+/// A list.
+fn list_at<'a, A: BuilderArena>(
+    memory: &'a mut Memory<A>,
+    part: ListPart<'a>,
+) -> dynamic_list::Builder<'a, A>
+    ensures same { result.memory.ghost_name ≡ memory.entry.ghost_name }
+    ensures now { result.memory.now ≡ memory.old }
+    ensures place { result.place ≡ part.entry.place }
+    ensures set { result.set ≡ part.entry.set }
+    ensures element_type { result.element_type ≡ part.entry.element_type }
+{
+    let ListPart {
+        place,
+        set,
+        element_type,
+    } = part;
+    dynamic_list::Builder {
+        memory,
+        place,
+        set,
+        element_type,
+    }
+}
+
+impl<'a, A: BuilderArena> Builder<'a, A> {
+    /// A value of a message, to write: one that a `get` told, as long as it stays where it is. Of a plain value the memory isn't held. A text is written from its end on.
+    pub fn new(memory: &'a mut Memory<A>, placed: Placed<'a>) -> Self
+        requires there { IsPlaced (words_in (A.segments memory.old.arena)) placed }
+        ensures same { IfSome (memory_in result) (λ m. m.ghost_name ≡ memory.entry.ghost_name) }
+        ensures now { IfSome (memory_in result) (λ m. m.now ≡ memory.old) }
+        ensures placed { placed_of result ≡ placed.entry }
+        ensures end { IsAtEnd result }
+        ensures ready { IsReady A.segments result }
+    {
+        match placed {
+            Placed::Void => Builder::Void,
+            Placed::Bool(value) => Builder::Bool(value),
+            Placed::Int8(value) => Builder::Int8(value),
+            Placed::Int16(value) => Builder::Int16(value),
+            Placed::Int32(value) => Builder::Int32(value),
+            Placed::Int64(value) => Builder::Int64(value),
+            Placed::UInt8(value) => Builder::UInt8(value),
+            Placed::UInt16(value) => Builder::UInt16(value),
+            Placed::UInt32(value) => Builder::UInt32(value),
+            Placed::UInt64(value) => Builder::UInt64(value),
+            Placed::Enum(value) => Builder::Enum(value),
+            Placed::Text(place) => Builder::Text(text_at(memory, place)),
+            Placed::Data(place) => Builder::Data(DataBuilder { memory, place }),
+            Placed::Struct(part) => Builder::Struct(struct_at(memory, part)),
+            Placed::List(part) => Builder::List(list_at(memory, part)),
+            Placed::AnyPointer(place) => Builder::AnyPointer(any_pointer::Builder {
+                memory,
+                place,
+            }),
+            Placed::Capability(value) => Builder::Capability(value),
+        }
+    }
+
+    /// The value to read, of which no handle to write is left. Its pointers are followed under the arena's nesting limit.
+    pub fn into_reader(self) -> Reader<'a, A>
+        requires ready { IsReady A.segments self }
+        ensures { ReadsAs A.segments A.nesting self.entry result }
+    {
+        match self {
+            Builder::Void => Reader::Void,
+            Builder::Bool(value) => Reader::Bool(value),
+            Builder::Int8(value) => Reader::Int8(value),
+            Builder::Int16(value) => Reader::Int16(value),
+            Builder::Int32(value) => Reader::Int32(value),
+            Builder::Int64(value) => Reader::Int64(value),
+            Builder::UInt8(value) => Reader::UInt8(value),
+            Builder::UInt16(value) => Reader::UInt16(value),
+            Builder::UInt32(value) => Reader::UInt32(value),
+            Builder::UInt64(value) => Reader::UInt64(value),
+            Builder::Enum(value) => Reader::Enum(value),
+            Builder::Text(text) => Reader::Text(text.into_reader()),
+            Builder::Data(data) => Reader::Data(data.into_reader()),
+            Builder::Struct(inner) => Reader::Struct(inner.into_reader()),
+            Builder::List(list) => Reader::List(list.into_reader()),
+            Builder::AnyPointer(pointer) => Reader::AnyPointer(pointer.into_reader()),
+            Builder::Capability(value) => Reader::Capability(value),
+        }
+    }
+}
+
+impl<'a, A> Builder<'a, A> {
+    ghost use Rattle.std.specs.Prelude.{Some};
+
+    /// The value in the variant of a type, of which the value is; `fits` of the type tells.
+    pub fn downcast<T: DowncastBuilder<'a, A>>(self) -> T
+        requires { is_some (T.variant self) ≡ true }
+        ensures { T.variant self.entry ≡ Some result }
+    {
+        T::downcast_builder(self)
+    }
+}

@@ -1,0 +1,29 @@
+use Rattle.std.proofs.Common.{Some, ap, subst, ◌∙◌}
+use Rattle.std.specs.Prelude.{IsSome}
+use Rattle.capnp_model.specs.Decoding.{decode}
+use Rattle.capnp_model.specs.Schemas.{default_or_null}
+use Rattle.capnp_units.specs.Segments.{words_in}
+use Rattle.capnp_wire.specs.Levels.{level_below}
+use Rattle.capnp_wire.specs.Views.{Ground, PointerView}
+use Rattle.capnp_copy_from.specs.Defaults.{default_segments}
+use Rattle.capnp_call_messages.specs.Messages.{tree_of_message}
+use Rattle.capnp_dynamic.proofs.Ready.{areas_inside}
+use Rattle.capnp_dynamic.specs.GroupSets.{HoldsDefault}
+use Rattle.capnp_edits.proofs.GroupRoots.{root_behind, group_set}
+use Rattle.capnp_edits.proofs.messages.set_group.Goals as goal
+
+pub set_fields-requires-clause-inside : goal.set_fields-requires-clause-inside
+set_fields-requires-clause-inside g c = areas_inside c.args.field.parent c.args.object c.requires.wide
+
+pub returns-clause-writes : goal.returns-clause-writes
+returns-clause-writes g c =
+    let t = tree_of_message c.args.value.now in
+    let ws = c.words_of.result.now in
+    let holds = subst (λ bs. IsSome (decode bs) → HoldsDefault ws (default_or_null (decode bs))) c.segment.ensures c.words_of.ensures c.args.value.now.readable in
+    let gives = c.in_ok-root.ensures in
+    let segments = ap (λ (x : PointerView). x.basis.segments) c.at.ensures ∙ ap (λ (x : Ground). x.segments) c.default_backing-backing.ensures in
+    let level = ap (λ (x : PointerView). level_below x.levels) c.at.ensures in
+    let x = root_behind c.gets_are_readings.ensures.structs _ (default_segments ws) (Some 2147483646) (ap (λ (x : PointerView). x.place) c.at.ensures) segments level t holds gives.0 gives.1 _ gives.3 in
+    let s = words_in (g.A.ReaderArena.segments c.args.arena.now) in
+    let u = words_in (g.A.ReaderArena.segments c.set_fields.new.arena) in
+    group_set c.groups_set_by_writes.ensures.whole x.from t x.words x.root c.args.field c.requires.group.0 c.requires.group.1 s u c.args.object c.set_fields.result (c.set_fields.ensures.sets.writes x.from x.source)

@@ -1,0 +1,4 @@
+pub mod DataWords
+pub mod Blobs
+pub mod Splices
+pub mod Cells

@@ -1,0 +1,12 @@
+//! Numbers, texts and data put into the canonical words of a message, where they stand.
+#![tactic(auto)]
+
+mod area;
+pub mod blob;
+mod elements;
+pub mod plain;
+mod pointers;
+pub mod put;
+pub mod splice;
+pub mod texts;
+pub mod words;

@@ -1,0 +1,29 @@
+//! What is put into a message, and where.
+
+use crate::blob::Blob;
+use crate::plain::PlainSet;
+
+/// A step from a struct to the next one on the way to a field.
+#[derive(Clone, Copy, Debug, PartialEq, Eq)]
+pub enum Hop {
+    /// To the struct behind a pointer, counted from 0 on.
+    Pointer(u32),
+    /// To an element of the list of structs behind a pointer.
+    Element { pointer: u32, index: u32 },
+}
+
+/// What is put into a struct.
+#[derive(Debug, Drop)]
+pub enum Put {
+    /// A number, into its data.
+    Number(PlainSet),
+    /// A text or data, in place of the list of bytes, bits or numbers behind a pointer.
+    Blob { pointer: u32, blob: Blob },
+}
+
+/// What is put into a struct that is reached from the root by hops.
+#[derive(Debug, Drop)]
+pub struct Splice {
+    pub hops: Vec<Hop>,
+    pub put: Put,
+}
