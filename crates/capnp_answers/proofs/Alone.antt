@@ -16,7 +16,7 @@ use Rattle.capnp_model.specs.Canonical.{is_canonical_message}
 use Rattle.capnp_units.specs.Limits.{left_of}
 use Rattle.capnp_units.specs.Segments.{whole_words}
 use Rattle.capnp_units.specs.declared.limiter.ReadLimiter.{ReadLimiter}
-use Rattle.capnp_object.proofs.Words.{whole_words-length}
+use Rattle.capnp_object.proofs.lemmas.Words.{whole_words-length}
 use Rattle.capnp_canonical.specs.Checks.{TellsMessage}
 use Rattle.capnp_canonical.specs.Writes.{filled, words_view}
 use Rattle.capnp_answers.specs.Reading.{ReadsValue, StandsCanonical}

@@ -1,7 +1,7 @@
-pub mod Walks
-pub mod Heads
-pub mod Edited
-pub mod Whole
-pub mod Alone
-pub mod Plain
-pub mod Fronts
+mod Walks
+mod Heads
+mod Edited
+mod Whole
+mod Alone
+mod Plain
+mod Fronts

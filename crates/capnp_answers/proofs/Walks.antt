@@ -17,7 +17,7 @@ use Rattle.capnp_units.specs.declared.sizes.MessageSize.{MessageSize}
 use Rattle.capnp_units.specs.declared.limiter.ReadLimiter.{ReadLimiter}
 use Rattle.capnp_object.specs.Walks.{Walked, CannotPass, SizeGives}
 use Rattle.capnp_canonical.specs.Copies.{copy_visits, Written}
-use Rattle.capnp_canonical.proofs.Limited.{WalkLaws, no_cost, walked_within, written_within}
+use Rattle.capnp_canonical.proofs.lemmas.Limited.{WalkLaws, no_cost, walked_within, written_within}
 use Rattle.capnp_answers.specs.declared.bounds.Bounds.{Bounds}
 use Rattle.capnp_answers.specs.Reading.{ReadsValue, StandsCanonical}
 

@@ -1,4 +1,4 @@
-pub mod OpenedRoots
-pub mod NewerRecords
-pub mod Answering
-pub mod RunsBetween
+mod OpenedRoots
+mod NewerRecords
+mod Answering
+mod RunsBetween

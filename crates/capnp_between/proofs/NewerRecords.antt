@@ -10,11 +10,11 @@ use Rattle.capnp_model.specs.Accepted.{IsAccepted}
 use Rattle.capnp_model.specs.NamedPaths.{IsOpen}
 use Rattle.capnp_model.specs.CallRuns.{IsGiven, AreGiven, IsStart, records_after, record_replies}
 use Rattle.capnp_model.specs.Answers.{Answer, refused_value, refused_root, refused_depth, written, Reply, replies, edits, opened_root, answer_value, answer}
-use Rattle.capnp_model.proofs.KeptRules.{and_left, and_right}
+use Rattle.capnp_model.proofs.lemmas.KeptRules.{and_left, and_right}
 use Rattle.capnp_queries.specs.Structs.{nodes_around, schema_around, id_of}
 use Rattle.capnp_queries.specs.declared.structs.StructSchema.{StructSchema}
 use Rattle.capnp_call_messages.specs.Messages.{tree_of_message}
-use Rattle.capnp_call_messages.proofs.Kept.{message_fits}
+use Rattle.capnp_call_messages.proofs.lemmas.Kept.{message_fits}
 use Rattle.capnp_calls.specs.declared.call.Call.{Call}
 use Rattle.capnp_calls.specs.declared.call.Action.{Action}
 use Rattle.capnp_calls.specs.declared.call.Action.TheVariants as action
@@ -28,10 +28,10 @@ use Rattle.capnp_relay.specs.Messages.{IsAnswerBy}
 use Rattle.capnp_versions.specs.Whole.{IsWhole, IsWholeVerb}
 use Rattle.capnp_versions.specs.SameReplies.{SameReplies}
 use Rattle.capnp_versions.specs.TwoVersions.{TwoVersions, older, newer, newer_record, CanRun}
-use Rattle.capnp_versions.proofs.WholeValues.{fits-whole}
-use Rattle.capnp_versions.proofs.WrittenValues.{value-fits}
+use Rattle.capnp_versions.proofs.lemmas.WholeValues.{fits-whole}
+use Rattle.capnp_versions.proofs.lemmas.WrittenValues.{value-fits}
 use Rattle.capnp_between.specs.Newer.{is_admitted_between, MayRun, record_at, ReadsAsNewer}
-use Rattle.capnp_model.proofs.TrimmedKinds.{start_opened_by, record_opened_by}
+use Rattle.capnp_model.proofs.lemmas.TrimmedKinds.{start_opened_by, record_opened_by}
 use Rattle.capnp_between.proofs.OpenedRoots.{opened_whole}
 
 -- ---- what the laws say

@@ -5,9 +5,9 @@ use Rattle.capnp_model.specs.Trees.{Tree, null, capability, structure, plain_lis
 use Rattle.capnp_model.specs.Trimming.{trim}
 use Rattle.capnp_model.specs.Schemas.{Shape, shape, Schema}
 use Rattle.capnp_model.specs.Answers.{widened_root, opened_root}
-use Rattle.capnp_model.proofs.Numbers.{wider}
+use Rattle.capnp_model.proofs.lemmas.Numbers.{wider}
 use Rattle.capnp_versions.specs.Whole.{IsWhole}
-use Rattle.capnp_versions.proofs.WholeValues.{whole-trim, whole-resized, whole-padded_to}
+use Rattle.capnp_versions.proofs.lemmas.WholeValues.{whole-trim, whole-resized, whole-padded_to}
 
 widened_whole : (g : Shape) (t : Tree) → IsWhole t → IsWhole (widened_root g t)
 widened_whole (shape nid w p u fs) null h = (pow_pos (64 * w), whole-resized p none tt)

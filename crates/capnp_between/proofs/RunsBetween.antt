@@ -19,7 +19,7 @@ use Rattle.capnp_between.specs.Ends.{IsAnswerBetween, between_work, RelaysBetwee
 use Rattle.capnp_between.specs.declared.between.BetweenFault.{BetweenFault}
 use Rattle.capnp_between.specs.declared.between.BetweenFault.TheVariants as fault
 use Rattle.capnp_relay.specs.Pauses.{RelaysPausing}
-use Rattle.capnp_relay.proofs.PauseLemmas.{never_pausing}
+use Rattle.capnp_relay.proofs.lemmas.PauseLemmas.{never_pausing}
 use Rattle.capnp_between.proofs.NewerRecords.{Records, Replies, ReadsAsNewer-of}
 use Rattle.capnp_between.proofs.Answering.{relays_pausing}
 

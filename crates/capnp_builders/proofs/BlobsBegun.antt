@@ -10,7 +10,7 @@ use Rattle.capnp_copy.specs.declared.bytes.BlobPlace.{BlobPlace}
 use Rattle.capnp_copy.specs.Values.{LeadsTo}
 use Rattle.capnp_builders.specs.Blobs.{BlobGot}
 use Rattle.capnp_builders.specs.Gets.{Begins}
-use Rattle.capnp_builders.proofs.Begun.{Laws, listed_then}
+use Rattle.capnp_builders.proofs.lemmas.Begun.{Laws, listed_then}
 
 pub got_by : (named : Segments → code.Place → Result BlobPlace Kind) (whole : ℕ → ℕ) (l : Laws) (default : Option (List (List ℕ))) (s u : Segments) (slot : code.Place) → Begins default s u (place_view slot) (Ok tt) → (r : Result BlobPlace Error) → seen (λ o. o) r ≡ named u slot → IfOk r (λ o. (word_at u (place_view slot) ≡ Some 0) ⊎ LeadsTo u (place_view slot) (a_list (place_view o.start) 2 (whole o.count))) → IfOk r (BlobGot named whole default s u slot)
 got_by named whole l default s u slot b (Err e) is o = tt

@@ -1,6 +1,4 @@
-pub mod Begun
-pub mod BlobEnds
-pub mod BlobsBegun
-pub mod Charging
-pub mod ListsMade
-pub mod Makes
+pub mod lemmas
+mod BlobEnds
+mod BlobsBegun
+mod ListsMade

@@ -13,9 +13,9 @@ use Rattle.capnp_wire.specs.Places.{place_view}
 use Rattle.capnp_copy.specs.Elements.{IsWhole}
 use Rattle.capnp_copy.specs.Lists.{words_of}
 use Rattle.capnp_copy.specs.declared.init.ListPlace.{ListPlace}
-use Rattle.capnp_footprints.proofs.Rows.{after_none}
-use Rattle.capnp_widening.proofs.Standing.{front_there}
-use Rattle.capnp_widening.proofs.WholeLists.{structs_whole}
+use Rattle.capnp_footprints.proofs.lemmas.Rows.{after_none}
+use Rattle.capnp_widening.proofs.lemmas.Standing.{front_there}
+use Rattle.capnp_widening.proofs.lemmas.WholeLists.{structs_whole}
 
 -- what a list that lies whole is, by the number of its size
 abbrev WholeOf : Segments → code.Place → ℕ → ℕ → ℕ → ℕ → ℕ → Type 0

@@ -1,3 +1,3 @@
-pub mod Kept
-pub mod MessageExamples
-pub mod Walks
+pub mod lemmas
+mod MessageExamples
+mod Walks

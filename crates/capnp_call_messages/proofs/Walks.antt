@@ -7,13 +7,13 @@ use Rattle.capnp_model.specs.Encoding.{canonical_words}
 use Rattle.capnp_model.specs.Traversal.{tree_at}
 use Rattle.capnp_model.specs.Answers.{value_within}
 use Rattle.capnp_model.specs.Visits.{Visit}
-use Rattle.capnp_model.proofs.Chaining.{some_is}
+use Rattle.capnp_model.proofs.lemmas.Chaining.{some_is}
 use Rattle.capnp_units.specs.Limits.{left_of, Allows}
 use Rattle.capnp_units.specs.declared.errors.Error.{Error}
 use Rattle.capnp_units.specs.declared.limiter.ReadLimiter.{ReadLimiter}
 use Rattle.capnp_canonical.specs.Copies.{copy_visits, Written, Filled}
 use Rattle.capnp_canonical.specs.Writes.{filled}
-use Rattle.capnp_canonical.proofs.Limited.{WalkLaws, limits, written_within}
+use Rattle.capnp_canonical.proofs.lemmas.Limited.{WalkLaws, limits, written_within}
 use Rattle.capnp_call_messages.specs.Frames.{default_limits}
 use Rattle.capnp_call_messages.specs.Copied.{canonical_words_in}
 

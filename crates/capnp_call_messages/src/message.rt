@@ -10,7 +10,7 @@ ghost use Rattle.capnp_call_messages.specs.Frames.{one_frame};
 
 use crate::copied::{MOST_LEVELS, MOST_WORDS, canonical_words};
 use capnp_canonical::laws::segments_of_words;
-use capnp_model::laws::texts_of_messages;
+use capnp_model::laws::texts_in_slices;
 use capnp_object::arena::ReaderArenaImpl;
 use capnp_stream::buffers::NoAllocSliceSegments;
 use capnp_stream::slices::read_message_from_flat_slice_no_alloc;
@@ -21,7 +21,7 @@ use std::alloc::{AllocError, Global};
 fn one_frame<'a>(bytes: &'a [u8]) -> Option<NoAllocSliceSegments<'a>>
     ensures { option_map (λ s. words_in (found_segments s)) result ≡ one_frame bytes.now }
 {
-    texts_of_messages();
+    texts_in_slices();
     let mut rest = bytes;
     match read_message_from_flat_slice_no_alloc(&mut rest, Some(MOST_WORDS)) {
         Ok(segments) if rest.is_empty() => Some(segments),

@@ -3,14 +3,14 @@ use Rattle.std.proofs.Common.{◌≡◌, ℕ, zero, suc, Bool, true, false, not,
 use Rattle.std.specs.List.{list_all}
 use Rattle.capnp_model.specs.Schemas.{Field as FieldNode, StructNode, NodeKind, struct_node, enum_node, Node}
 use Rattle.capnp_model.specs.Accepted.{find_node, fields_of_kind, is_group_node, is_struct_node, names_a, schema_of, has_good_default, default_reads, IsAccepted}
-use Rattle.capnp_model.proofs.KeptRules.{and_left, and_right, found_passes, behind, no_break}
-use Rattle.capnp_model.proofs.SoundRules.{rules_kept}
+use Rattle.capnp_model.proofs.lemmas.KeptRules.{and_left, and_right, found_passes, behind, no_break}
+use Rattle.capnp_model.proofs.lemmas.SoundRules.{rules_kept}
 use Rattle.capnp_records.specs.declared.raw.RawBrandedStructSchema.{RawBrandedStructSchema}
-use Rattle.capnp_records.proofs.PlainStructs.{place_is_found}
+use Rattle.capnp_records.proofs.lemmas.PlainStructs.{place_is_found}
 use Rattle.capnp_queries.specs.Structs.{nodes_around, schema_around, id_of, IsRecordOf}
 use Rattle.capnp_queries.specs.Handles.{IsFieldRecord}
 use Rattle.capnp_queries.specs.declared.structs.StructSchema.{StructSchema}
-use Rattle.capnp_queries.proofs.Records.{struct_is}
+use Rattle.capnp_queries.proofs.lemmas.Records.{struct_is}
 use Rattle.capnp_calls.specs.Roots.{IsRoot}
 
 passed : (p : FieldNode → Bool) (fs : List FieldNode) (i : ℕ) (f : FieldNode) → list_all p fs ≡ true → slice_get fs i ≡ Some f → p f ≡ true

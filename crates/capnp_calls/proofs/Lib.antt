@@ -1,10 +1,3 @@
-pub mod SlotShown
-pub mod OneStep
-pub mod ReadableSteps
-pub mod PathAnswers
-pub mod AcceptedSlots
-pub mod FieldSlots
-pub mod GroupSizes
-pub mod NamedFields
-pub mod ClearedGroups
-pub mod GivenCalls
+pub mod lemmas
+mod AcceptedSlots
+mod GivenCalls

@@ -8,17 +8,17 @@ use Rattle.capnp_model.specs.Trimming.{trim, trim_each, trim_elements}
 use Rattle.capnp_model.specs.Coverage.{from_each, from_elements}
 use Rattle.capnp_model.specs.Visits.{visits}
 use Rattle.capnp_model.specs.Encoding.{bodies}
-use Rattle.capnp_model.proofs.Chaining.{bind_some, some_is}
-use Rattle.capnp_model.proofs.TrimFits.{count-trim_each, count-trim_elements}
+use Rattle.capnp_model.proofs.lemmas.Chaining.{bind_some, some_is}
+use Rattle.capnp_model.proofs.lemmas.TrimFits.{count-trim_each, count-trim_elements}
 use Rattle.capnp_units.specs.declared.errors.Error.{Error}
 use Rattle.capnp_units.specs.declared.limiter.ReadLimiter.{ReadLimiter}
 use Rattle.capnp_object.specs.Objects.{AreThere}
 use Rattle.capnp_object.specs.Inside.{words_there}
 use Rattle.capnp_object.specs.Walks.{Stopped}
-use Rattle.capnp_object.proofs.Rows.{row_end, each_count, elements_start, element_next, elements_met_next}
+use Rattle.capnp_object.proofs.lemmas.Rows.{row_end, each_count, elements_start, element_next, elements_met_next}
 use Rattle.capnp_canonical.specs.Standing.{Hold, StandEach, StandElements, IsSmall, HasHead}
 use Rattle.capnp_canonical.specs.Checks.{Agrees, Differs}
-use Rattle.capnp_canonical.proofs.Checking.{SoFar, Parts, begun, next, differs, stopped, ended}
+use Rattle.capnp_canonical.proofs.lemmas.Checking.{SoFar, Parts, begun, next, differs, stopped, ended}
 use Rattle.capnp_canonical.proofs.CheckedRows.{head_next, row_begun, row_ended}
 use Rattle.capnp_canonical.proofs.Holding.{hold_none, hold_end, hold_own}
 use Rattle.capnp_canonical.proofs.Parts.{part_there, part_room}

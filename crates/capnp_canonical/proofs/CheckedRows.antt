@@ -8,16 +8,16 @@ use Rattle.capnp_model.specs.Trimming.{trim, trim_each}
 use Rattle.capnp_model.specs.Coverage.{from_each}
 use Rattle.capnp_model.specs.Visits.{visits}
 use Rattle.capnp_model.specs.Encoding.{body}
-use Rattle.capnp_model.proofs.Chaining.{bind_some, some_is}
-use Rattle.capnp_model.proofs.TrimFits.{count-trim_each}
+use Rattle.capnp_model.proofs.lemmas.Chaining.{bind_some, some_is}
+use Rattle.capnp_model.proofs.lemmas.TrimFits.{count-trim_each}
 use Rattle.capnp_units.specs.declared.errors.Error.{Error}
 use Rattle.capnp_units.specs.declared.limiter.ReadLimiter.{ReadLimiter}
 use Rattle.capnp_object.specs.Objects.{AreThere}
 use Rattle.capnp_object.specs.Walks.{Stopped}
-use Rattle.capnp_object.proofs.Rows.{row_start, row_end, met_next, each_next, each_count}
+use Rattle.capnp_object.proofs.lemmas.Rows.{row_start, row_end, met_next, each_next, each_count}
 use Rattle.capnp_canonical.specs.Standing.{Stands, StandEach, IsSmall, HasHead}
 use Rattle.capnp_canonical.specs.Checks.{Agrees, Differs}
-use Rattle.capnp_canonical.proofs.Checking.{SoFar, Parts, begun, next, differs, stopped, ended}
+use Rattle.capnp_canonical.proofs.lemmas.Checking.{SoFar, Parts, begun, next, differs, stopped, ended}
 use Rattle.capnp_canonical.proofs.Holding.{hold_none, hold_end}
 use Rattle.capnp_canonical.proofs.Parts.{part_there}
 use Rattle.capnp_canonical.proofs.SameVisits.{or_left, or_right}

@@ -2,15 +2,15 @@
 use Rattle.std.proofs.Common.{◌≡◌, ℕ, ◌+◌, ◌-◌, ◌^◌, ◌<◌, ◌≤◌, min, Bool, false, List, [], ◌++◌, length, drop, Option, Some, Result, Ok, Err, refl, ap, sym, ◌∙◌, subst, inl, inr, arith}
 use Rattle.std.proofs.lemmas.List.{append_assoc, append-nil, drop-drop}
 use Rattle.capnp_model.specs.Visits.{Visit, visits_cost}
-use Rattle.capnp_model.proofs.Chaining.{some_is}
-use Rattle.capnp_model.proofs.Visits.{cost_together}
+use Rattle.capnp_model.proofs.lemmas.Chaining.{some_is}
+use Rattle.capnp_model.proofs.lemmas.Visits.{cost_together}
 use Rattle.capnp_units.specs.declared.errors.Error.{Error}
 use Rattle.capnp_units.specs.declared.kinds.ErrorKind.TheVariants.{BufferNotLargeEnough}
 use Rattle.capnp_units.specs.declared.limiter.ReadLimiter.{ReadLimiter}
 use Rattle.capnp_units.specs.Limits.{Spends}
-use Rattle.capnp_units.proofs.Spending.{spends_both}
+use Rattle.capnp_units.proofs.lemmas.Spending.{spends_both}
 use Rattle.capnp_object.specs.Walks.{Walked, Stopped}
-use Rattle.capnp_object.proofs.Walks.{walked_none, walked_both, stopped_later}
+use Rattle.capnp_object.proofs.lemmas.Walks.{walked_none, walked_both, stopped_later}
 use Rattle.capnp_canonical.specs.Writes.{filled}
 use Rattle.capnp_canonical.specs.Copies.{Behind, room_of, HasNoRoomFor, Filled, Halted, Unwritten, Written, Writes}
 

@@ -8,11 +8,11 @@ use Rattle.capnp_model.specs.Coverage.{from_each, from_elements}
 use Rattle.capnp_model.specs.Visits.{Visit}
 use Rattle.capnp_units.specs.declared.errors.Error.{Error}
 use Rattle.capnp_units.specs.declared.limiter.ReadLimiter.{ReadLimiter}
-use Rattle.capnp_model.proofs.Stripping.{count-resized}
-use Rattle.capnp_model.proofs.TrimFits.{count-trim_elements}
+use Rattle.capnp_model.proofs.lemmas.Stripping.{count-resized}
+use Rattle.capnp_model.proofs.lemmas.TrimFits.{count-trim_elements}
 use Rattle.capnp_object.specs.Objects.{AreThere}
 use Rattle.capnp_object.specs.Inside.{section_at, words_there}
-use Rattle.capnp_object.proofs.Rows.{row_end, elements_start, elements_met_next}
+use Rattle.capnp_object.proofs.lemmas.Rows.{row_end, elements_start, elements_met_next}
 use Rattle.capnp_canonical.specs.Writes.{filled, with_cells}
 use Rattle.capnp_canonical.specs.Copies.{copy_visits, Written, Unwritten}
 use Rattle.capnp_canonical.proofs.Copying.{SoFar, begun, next, ended, stopped}

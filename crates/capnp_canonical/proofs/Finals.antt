@@ -15,17 +15,17 @@ use Rattle.capnp_model.specs.Trimming.{stripped, with_pointers, trim, trim_each,
 use Rattle.capnp_model.specs.Coverage.{from_each, from_elements}
 use Rattle.capnp_model.specs.Encoding.{struct_pointer, list_pointer, pointer}
 use Rattle.capnp_model.specs.Visits.{Visit, visits_cost}
-use Rattle.capnp_model.proofs.Chaining.{bind_some, some_is}
-use Rattle.capnp_model.proofs.Visits.{cost_together}
-use Rattle.capnp_model.proofs.TrimFits.{count-trim_each}
+use Rattle.capnp_model.proofs.lemmas.Chaining.{bind_some, some_is}
+use Rattle.capnp_model.proofs.lemmas.Visits.{cost_together}
+use Rattle.capnp_model.proofs.lemmas.TrimFits.{count-trim_each}
 use Rattle.capnp_units.specs.declared.errors.Error.{Error}
 use Rattle.capnp_units.specs.declared.limiter.ReadLimiter.{ReadLimiter}
 use Rattle.capnp_units.specs.Limits.{Spends, Follows}
 use Rattle.capnp_units.specs.Sizes.{data_bits}
 use Rattle.capnp_object.specs.Inside.{section_at, words_there}
 use Rattle.capnp_object.specs.Walks.{Walked}
-use Rattle.capnp_object.proofs.Rows.{each_count, nothing_met}
-use Rattle.capnp_object.proofs.Walks.{walked_none, walked_both}
+use Rattle.capnp_object.proofs.lemmas.Rows.{each_count, nothing_met}
+use Rattle.capnp_object.proofs.lemmas.Walks.{walked_none, walked_both}
 use Rattle.capnp_object.specs.Objects.{AreThere}
 use Rattle.capnp_canonical.specs.declared.cuts.Cut.{Cut}
 use Rattle.capnp_canonical.specs.Objects.{IsCut}

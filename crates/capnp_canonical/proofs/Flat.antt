@@ -5,7 +5,7 @@ use Rattle.std.specs.Simd.{first_chunks}
 use Rattle.std.proofs.lemmas.List.{length-append, take_at, drop_at}
 use Rattle.capnp_units.specs.Segments.{whole_words}
 use Rattle.capnp_canonical.specs.Writes.{words_view}
-use Rattle.capnp_object.proofs.Words.{chunks_are_words}
+use Rattle.capnp_object.proofs.lemmas.Words.{chunks_are_words}
 
 -- Each word has eight bytes.
 abbrev pub Eights : List (List ℕ) → Type 0

@@ -10,20 +10,20 @@ use Rattle.capnp_model.specs.Pointers as model
 use Rattle.capnp_model.specs.Trees.{plain_list, size_bits}
 use Rattle.capnp_model.specs.Traversal.{tag_in, ListKind, of_bits, of_pointers, of_structs, list_kind, list_words, list_tree, tree_of, tree_at}
 use Rattle.capnp_model.specs.Visits.{Visit, visits_of, list_visits, object_visits, leaf_visits}
-use Rattle.capnp_model.proofs.Chaining.{bind_ok, ok_is, ok_or_some}
-use Rattle.capnp_model.proofs.ReadFits.{tree_at_fits}
+use Rattle.capnp_model.proofs.lemmas.Chaining.{bind_ok, ok_is, ok_or_some}
+use Rattle.capnp_model.proofs.lemmas.ReadFits.{tree_at_fits}
 use Rattle.capnp_units.specs.declared.errors.Error.{Error}
 use Rattle.capnp_units.specs.declared.limiter.ReadLimiter.{ReadLimiter}
 use Rattle.capnp_units.specs.Limits.{Follows}
 use Rattle.capnp_units.specs.Errors.{kind_of}
-use Rattle.capnp_units.proofs.Spending.{spends_nothing}
+use Rattle.capnp_units.proofs.lemmas.Spending.{spends_nothing}
 use Rattle.capnp_object.specs.declared.object.Object.{Object}
 use Rattle.capnp_object.specs.Objects.{whole_list, whole}
 use Rattle.capnp_object.specs.Follow.{own_cost, KeepsBudget, is_within}
 use Rattle.capnp_object.specs.Inside.{met_in}
-use Rattle.capnp_object.proofs.Linking.{IsPlain, IsSized, visits_whole}
-use Rattle.capnp_object.proofs.Walks.{stopped_first}
-use Rattle.capnp_object.proofs.Paying.{spends_later}
+use Rattle.capnp_object.proofs.lemmas.Linking.{IsPlain, IsSized, visits_whole}
+use Rattle.capnp_object.proofs.lemmas.Walks.{stopped_first}
+use Rattle.capnp_object.proofs.lemmas.Paying.{spends_later}
 use Rattle.capnp_canonical.specs.Copies.{unless_capability, copy_visits, fault_of, IsData, FollowsData}
 
 -- ---- a step that is refused

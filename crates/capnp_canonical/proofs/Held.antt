@@ -11,7 +11,7 @@ use Rattle.capnp_model.specs.Segments.{place, word_at, words_at}
 use Rattle.capnp_model.specs.Spelling.{AreWords}
 use Rattle.capnp_units.specs.Segments.{whole_words, words_in}
 use Rattle.capnp_object.specs.Arenas.{bytes_of}
-use Rattle.capnp_object.proofs.Words.{segment_there, segment_past, none_there}
+use Rattle.capnp_object.proofs.lemmas.Words.{segment_there, segment_past, none_there}
 use Rattle.capnp_canonical.specs.Standing.{segment_words}
 
 abbrev AreBytes : List ℕ → Type 0

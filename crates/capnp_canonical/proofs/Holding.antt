@@ -8,10 +8,10 @@ use Rattle.std.proofs.lemmas.List.{length-append, take-take, drop-take, drop-dro
 use Rattle.capnp_model.specs.Segments.{Segments, Place, place, after, words_at}
 use Rattle.capnp_model.specs.Sections.{words_of, section_of}
 use Rattle.capnp_model.specs.Spelling.{AreWords}
-use Rattle.capnp_model.proofs.Chaining.{some_is}
-use Rattle.capnp_model.proofs.Numbers.{numbers_in-number_of}
+use Rattle.capnp_model.proofs.lemmas.Chaining.{some_is}
+use Rattle.capnp_model.proofs.lemmas.Numbers.{numbers_in-number_of}
 use Rattle.capnp_object.specs.Inside.{section_at, words_there}
-use Rattle.capnp_object.proofs.Tags.{words_from, words_are}
+use Rattle.capnp_object.proofs.lemmas.Tags.{words_from, words_are}
 use Rattle.capnp_canonical.specs.Standing.{Hold, segment_words}
 use Rattle.capnp_canonical.proofs.Parts.{segment_of, there_is, there_words, there_length, section_is}
 

@@ -1,37 +1,34 @@
-pub mod Held
-pub mod Scanning
-pub mod Parts
-pub mod Copying
-pub mod Putting
-pub mod Kept
-pub mod Masks
-pub mod Fronts
-pub mod Following
-pub mod Nulls
-pub mod Rows
-pub mod Objects
-pub mod Rooms
-pub mod Faults
-pub mod Steps
-pub mod NearFollowed
-pub mod Finals
-pub mod Elements
-pub mod Pointers
-pub mod SameVisits
-pub mod Holding
-pub mod StandingRows
-pub mod Checking
-pub mod CheckedRows
-pub mod CheckedElements
-pub mod StandingPlaces
-pub mod StandingObjects
-pub mod NearPlaces
-pub mod NearStructs
-pub mod StandingLists
-pub mod StandingValues
-pub mod Telling
-pub mod Rowing
-pub mod StandingStructs
-pub mod FewFollowed
-pub mod Flat
-pub mod Limited
+pub mod lemmas
+mod Held
+mod Parts
+mod Copying
+mod Putting
+mod Kept
+mod Masks
+mod Fronts
+mod Following
+mod Nulls
+mod Rows
+mod Objects
+mod Rooms
+mod Steps
+mod NearFollowed
+mod Finals
+mod Elements
+mod Pointers
+mod SameVisits
+mod Holding
+mod StandingRows
+mod CheckedRows
+mod CheckedElements
+mod StandingPlaces
+mod StandingObjects
+mod NearPlaces
+mod NearStructs
+mod StandingLists
+mod StandingValues
+mod Telling
+mod Rowing
+mod StandingStructs
+mod FewFollowed
+mod Flat

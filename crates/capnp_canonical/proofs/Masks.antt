@@ -5,7 +5,7 @@ use Rattle.std.proofs.lemmas.Nat.{pow_pos}
 use Rattle.std.proofs.lemmas.List.{length-append}
 use lib.Pow as pow
 use Rattle.capnp_model.specs.Sections.{words_of, words_for}
-use Rattle.capnp_model.proofs.Numbers.{length-numbers_in}
+use Rattle.capnp_model.proofs.lemmas.Numbers.{length-numbers_in}
 
 -- the lowest word, and those behind it
 low_word : (s j : ℕ) → s % 2 ^ (j + 64) % 2 ^ 64 ≡ s % 2 ^ 64

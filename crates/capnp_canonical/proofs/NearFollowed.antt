@@ -8,13 +8,13 @@ use Rattle.capnp_units.specs.declared.errors.Error.{Error}
 use Rattle.capnp_units.specs.declared.kinds.ErrorKind.TheVariants.{ReadLimitExceeded}
 use Rattle.capnp_units.specs.declared.limiter.ReadLimiter.{ReadLimiter}
 use Rattle.capnp_units.specs.Limits.{left_of, followed_of, IsPassed, Spends, Follows}
-use Rattle.capnp_units.proofs.Spending.{spends_nothing}
+use Rattle.capnp_units.proofs.lemmas.Spending.{spends_nothing}
 use Rattle.capnp_object.specs.declared.object.Object.{Object}
 use Rattle.capnp_object.specs.Near.{IsNear}
 use Rattle.capnp_object.specs.Follow.{own_cost, KeepsBudget, Pays, suffice_for, is_within, object_within, FollowsWithin}
-use Rattle.capnp_object.proofs.Walks.{stopped_first}
-use Rattle.capnp_object.proofs.Walking.{object_found, exact_within}
-use Rattle.capnp_object.proofs.Paying.{same_left, spends_later, pays_later}
+use Rattle.capnp_object.proofs.lemmas.Walks.{stopped_first}
+use Rattle.capnp_object.proofs.lemmas.Walking.{object_found, exact_within}
+use Rattle.capnp_object.proofs.lemmas.Paying.{same_left, spends_later, pays_later}
 use Rattle.capnp_canonical.specs.Copies.{copy_visits, IsData, FollowsData, FollowsNear}
 use Rattle.capnp_canonical.proofs.Following.{copy_first}
 use Rattle.capnp_canonical.proofs.Steps.{no_fault}

@@ -13,7 +13,7 @@ use Rattle.capnp_model.specs.Spelling.{AreWords}
 use Rattle.capnp_model.specs.Traversal.{ListKind, of_bits, of_pointers, of_structs, tag_in, list_kind, list_words}
 use Rattle.capnp_model.specs.Trees.{Tree, null, capability, structure, plain_list, pointer_list, struct_list, none, ◌▸◌}
 use Rattle.capnp_model.specs.Encoding.{struct_pointer, list_pointer, pointer}
-use Rattle.capnp_model.proofs.Chaining.{bind_ok, ok_is, ok_or_some, some_is}
+use Rattle.capnp_model.proofs.lemmas.Chaining.{bind_ok, ok_is, ok_or_some, some_is}
 use Rattle.capnp_units.specs.declared.sizes.ElementSize.{ElementSize}
 use Rattle.capnp_units.specs.Sizes.{size_number}
 use Rattle.capnp_object.specs.declared.place.Place as wire
@@ -21,8 +21,8 @@ use Rattle.capnp_object.specs.declared.object.Object.{Object}
 use Rattle.capnp_object.specs.declared.object.Object.TheVariants as object
 use Rattle.capnp_object.specs.Places.{place_view, placed}
 use Rattle.capnp_object.specs.Objects.{plain_size, whole_list, whole, object_at}
-use Rattle.capnp_object.proofs.Linking.{plain_number}
-use Rattle.capnp_object.proofs.Walking.{object_found}
+use Rattle.capnp_object.proofs.lemmas.Linking.{plain_number}
+use Rattle.capnp_object.proofs.lemmas.Walking.{object_found}
 use Rattle.capnp_canonical.specs.Standing.{segment_words, Stands, LeadsTo}
 use Rattle.capnp_canonical.proofs.StandingObjects.{word_small, lead_word}
 

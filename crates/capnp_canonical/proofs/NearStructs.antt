@@ -10,8 +10,8 @@ use Rattle.capnp_model.specs.Trees.{Tree, structure, Trees, none, ◌▸◌, tre
 use Rattle.capnp_model.specs.Traversal.{tree_at, each}
 use Rattle.capnp_model.specs.Trimming.{stripped, trim, trim_each}
 use Rattle.capnp_model.specs.Encoding.{struct_pointer, pointer}
-use Rattle.capnp_model.proofs.Numbers.{needed_words_le}
-use Rattle.capnp_model.proofs.Stripping.{count-resized}
+use Rattle.capnp_model.proofs.lemmas.Numbers.{needed_words_le}
+use Rattle.capnp_model.proofs.lemmas.Stripping.{count-resized}
 use Rattle.capnp_object.specs.declared.place.Place as wire
 use Rattle.capnp_object.specs.declared.object.Object.TheVariants as object
 use Rattle.capnp_object.specs.Places.{place_view}

@@ -12,7 +12,7 @@ use Rattle.capnp_model.specs.Traversal.{tree_at, tree_of, leaf_of, list_tree, Li
 use Rattle.capnp_model.specs.Coverage.{from_each}
 use Rattle.capnp_model.specs.Visits.{Visit, visits_cost}
 use Rattle.capnp_model.specs.Trimming.{after_stripping, stripped, trim, trim_each}
-use Rattle.capnp_model.proofs.Chaining.{bind_some, bind_ok, bind_found, some_is, ok_is}
+use Rattle.capnp_model.proofs.lemmas.Chaining.{bind_some, bind_ok, bind_found, some_is, ok_is}
 use Rattle.capnp_canonical.specs.Widths.{keeps, kept}
 use Rattle.capnp_canonical.specs.Copies.{copy_visits}
 

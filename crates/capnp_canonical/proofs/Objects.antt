@@ -7,8 +7,8 @@ use Rattle.capnp_model.specs.Sections.{words_of, words_for, needed_words}
 use Rattle.capnp_model.specs.Trees.{Tree, null, structure, plain_list, pointer_list, struct_list, Trees, Elements, no_elements, element, tree_count, element_count, resized, size_bits}
 use Rattle.capnp_model.specs.Trimming.{stripped, common_words, common_pointers, with_pointers, trim, trim_each, trim_elements}
 use Rattle.capnp_model.specs.Encoding.{struct_pointer, list_pointer, pointer, body, cells, element_bodies, canonical_words}
-use Rattle.capnp_model.proofs.TrimFits.{count-trim_each, count-with_pointers, count-trim_elements}
-use Rattle.capnp_model.proofs.Stripping.{resized-stripped}
+use Rattle.capnp_model.proofs.lemmas.TrimFits.{count-trim_each, count-with_pointers, count-trim_elements}
+use Rattle.capnp_model.proofs.lemmas.Stripping.{resized-stripped}
 use Rattle.capnp_canonical.specs.Writes.{words_view, filled, with_link, with_links, with_cells}
 use Rattle.capnp_canonical.proofs.Putting.{resized_all, links_written, cells_written, cells_of_one}
 

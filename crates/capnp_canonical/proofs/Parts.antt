@@ -9,8 +9,8 @@ use Rattle.capnp_model.specs.Chains.{◌>>=◌, ◌provided◌}
 use Rattle.capnp_model.specs.Sections.{section_of}
 use Rattle.capnp_model.specs.Segments.{Segments, Place, after, word_at, words_at}
 use Rattle.capnp_object.specs.Inside.{section_in, section_at, words_there}
-use Rattle.capnp_object.proofs.Linking.{section_front}
-use Rattle.capnp_object.proofs.Tags.{words_from, words_are}
+use Rattle.capnp_object.proofs.lemmas.Linking.{section_front}
+use Rattle.capnp_object.proofs.lemmas.Tags.{words_from, words_are}
 
 word_of_part : (xs : List ℕ) (p n i : ℕ) → i < n → p + n ≤ length xs → slice_get xs (p + i) ≡ Some (get_or (take n (drop p xs)) i 0)
 word_of_part [] p n i h le = absurd (omega arith)

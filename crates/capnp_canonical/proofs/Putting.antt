@@ -6,8 +6,8 @@ use Rattle.std.proofs.lemmas.List.{drop-set-lt, take-append-drop, take-append-le
 use Rattle.capnp_model.specs.Sections.{words_of}
 use Rattle.capnp_model.specs.Trees.{Tree, Trees, none, ◌▸◌, Elements, no_elements, element, tree_count, element_count, resized}
 use Rattle.capnp_model.specs.Encoding.{pointer, body, links, bodies, cells, element_bodies}
-use Rattle.capnp_model.proofs.Numbers.{length-numbers_in}
-use Rattle.capnp_model.proofs.RoundTrip.{links_length}
+use Rattle.capnp_model.proofs.lemmas.Numbers.{length-numbers_in}
+use Rattle.capnp_model.proofs.lemmas.RoundTrip.{links_length}
 use Rattle.capnp_canonical.specs.Writes.{with_words, with_link, with_links, with_cells}
 
 pub none_behind : {A : Type 0} (vs : List A) (i : ℕ) → length vs ≤ i → drop i vs ≡ []

@@ -7,11 +7,11 @@ use Rattle.capnp_model.specs.Sections.{words_of, words_for, needed_words}
 use Rattle.capnp_model.specs.Trees.{Tree, structure, plain_list, pointer_list, struct_list, Trees, Elements, no_elements, element, tree_count, element_count, resized, size_bits}
 use Rattle.capnp_model.specs.Trimming.{stripped, common_words, common_pointers, with_pointers, trim, trim_each, trim_elements}
 use Rattle.capnp_model.specs.Encoding.{pointer, body, links, bodies, cells, element_bodies, canonical_words}
-use Rattle.capnp_model.proofs.Chaining.{bind_some, some_is}
-use Rattle.capnp_model.proofs.Numbers.{length-numbers_in}
-use Rattle.capnp_model.proofs.RoundTrip.{links_length}
-use Rattle.capnp_model.proofs.Stripping.{count-resized}
-use Rattle.capnp_model.proofs.TrimFits.{count-trim_each, count-trim_elements}
+use Rattle.capnp_model.proofs.lemmas.Chaining.{bind_some, some_is}
+use Rattle.capnp_model.proofs.lemmas.Numbers.{length-numbers_in}
+use Rattle.capnp_model.proofs.lemmas.RoundTrip.{links_length}
+use Rattle.capnp_model.proofs.lemmas.Stripping.{count-resized}
+use Rattle.capnp_model.proofs.lemmas.TrimFits.{count-trim_each, count-trim_elements}
 use Rattle.capnp_canonical.specs.Writes.{filled, with_link, with_links, with_cells}
 use Rattle.capnp_canonical.specs.Copies.{room_of, HasNoRoomFor}
 use Rattle.capnp_canonical.proofs.Objects.{filled_length}

@@ -8,10 +8,10 @@ use Rattle.std.proofs.Math.Seq.{drop-append_seam, drop-cons, set-append_seam, ta
 use Rattle.std.proofs.lemmas.List.{take-append-drop, set-append_right, map-append, take-map, drop-map, length-append, length-take, length-drop, append_assoc}
 use Rattle.capnp_model.specs.Sections.{words_of}
 use Rattle.capnp_model.specs.Segments.{place, words_at}
-use Rattle.capnp_model.proofs.Chaining.{some_is}
+use Rattle.capnp_model.proofs.lemmas.Chaining.{some_is}
 use Rattle.capnp_units.specs.Segments.{whole_words, words_in}
 use Rattle.capnp_object.specs.Inside.{words_there}
-use Rattle.capnp_object.proofs.Words.{chunks_are_words, segment_there}
+use Rattle.capnp_object.proofs.lemmas.Words.{chunks_are_words, segment_there}
 use Rattle.capnp_canonical.specs.Copies.{Behind}
 use Rattle.capnp_canonical.specs.Writes.{words_view, with_words}
 use Rattle.capnp_canonical.proofs.Parts.{segment_of, there_words}

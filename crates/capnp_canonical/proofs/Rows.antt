@@ -8,11 +8,11 @@ use Rattle.capnp_model.specs.Trees.{Tree, Trees, none, ◌▸◌, Elements, no_e
 use Rattle.capnp_model.specs.Traversal.{tree_at, each, each_element}
 use Rattle.capnp_model.specs.Encoding.{cells, element_bodies}
 use Rattle.capnp_model.specs.Trimming.{common_words, common_pointers, with_pointers, stripped, trim, trim_each, trim_elements}
-use Rattle.capnp_model.proofs.Chaining.{bind_some, some_is}
-use Rattle.capnp_model.proofs.TrimFits.{count-trim_each, count-with_pointers, count-trim_elements}
-use Rattle.capnp_model.proofs.Stripping.{count-resized}
+use Rattle.capnp_model.proofs.lemmas.Chaining.{bind_some, some_is}
+use Rattle.capnp_model.proofs.lemmas.TrimFits.{count-trim_each, count-with_pointers, count-trim_elements}
+use Rattle.capnp_model.proofs.lemmas.Stripping.{count-resized}
 use Rattle.capnp_object.specs.Inside.{section_at, words_there}
-use Rattle.capnp_object.proofs.Rows.{each_next, element_next, each_count}
+use Rattle.capnp_object.proofs.lemmas.Rows.{each_next, element_next, each_count}
 use Rattle.capnp_canonical.specs.Widths.{kept, widest}
 use Rattle.capnp_canonical.specs.Writes.{with_link, with_links, with_cells}
 use Rattle.capnp_canonical.proofs.Parts.{there_length, section_is, word_is, part_there, part_is}

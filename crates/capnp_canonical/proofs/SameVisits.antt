@@ -10,7 +10,7 @@ use Rattle.capnp_model.specs.Trees.{Tree, capability, Trees, Elements, has_capab
 use Rattle.capnp_model.specs.Traversal.{tree_at, tree_of, leaf_of, list_tree, ListKind, of_bits, of_pointers, of_structs, list_kind, list_words, tag_in, each, each_element}
 use Rattle.capnp_model.specs.Coverage.{from_each, from_elements}
 use Rattle.capnp_model.specs.Visits.{Visit, visits_of, list_visits, object_visits, leaf_visits, visits}
-use Rattle.capnp_model.proofs.Chaining.{bind_some, some_is}
+use Rattle.capnp_model.proofs.lemmas.Chaining.{bind_some, some_is}
 use Rattle.capnp_canonical.specs.Copies.{unless_capability, copy_visits}
 
 pub or_left : (a b : Bool) → a || b ≡ false → a ≡ false

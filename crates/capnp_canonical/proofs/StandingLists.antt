@@ -12,11 +12,11 @@ use Rattle.capnp_model.specs.Coverage.{from_each, from_elements}
 use Rattle.capnp_model.specs.Visits.{visits}
 use Rattle.capnp_model.specs.Trimming.{common_words, common_pointers, with_pointers, trim, trim_each, trim_elements}
 use Rattle.capnp_model.specs.Encoding.{struct_pointer, list_pointer, links, bodies, cells, element_bodies}
-use Rattle.capnp_model.proofs.Chaining.{bind_some, some_is}
-use Rattle.capnp_model.proofs.Locality.{word_is, word_was}
-use Rattle.capnp_model.proofs.Numbers.{length-numbers_in}
-use Rattle.capnp_model.proofs.RoundTrip.{links_length}
-use Rattle.capnp_model.proofs.TrimFits.{count-trim_each, count-with_pointers, count-trim_elements}
+use Rattle.capnp_model.proofs.lemmas.Chaining.{bind_some, some_is}
+use Rattle.capnp_model.proofs.lemmas.Locality.{word_is, word_was}
+use Rattle.capnp_model.proofs.lemmas.Numbers.{length-numbers_in}
+use Rattle.capnp_model.proofs.lemmas.RoundTrip.{links_length}
+use Rattle.capnp_model.proofs.lemmas.TrimFits.{count-trim_each, count-with_pointers, count-trim_elements}
 use Rattle.capnp_units.specs.declared.errors.Error.{Error}
 use Rattle.capnp_units.specs.declared.limiter.ReadLimiter.{ReadLimiter}
 use Rattle.capnp_units.specs.declared.sizes.ElementSize.{ElementSize}
@@ -26,12 +26,12 @@ use Rattle.capnp_object.specs.declared.object.Object.TheVariants as object
 use Rattle.capnp_object.specs.Places.{place_view}
 use Rattle.capnp_object.specs.Objects.{AreThere}
 use Rattle.capnp_object.specs.Inside.{section_at, words_there}
-use Rattle.capnp_object.proofs.Rows.{each_count}
-use Rattle.capnp_object.proofs.Walks.{walked_none}
+use Rattle.capnp_object.proofs.lemmas.Rows.{each_count}
+use Rattle.capnp_object.proofs.lemmas.Walks.{walked_none}
 use Rattle.capnp_canonical.specs.Widths.{kept, widest}
 use Rattle.capnp_canonical.specs.Standing.{Hold, Stands, StandEach, StandElements, segment_words, IsSmall}
 use Rattle.capnp_canonical.specs.Checks.{Tests, TestsObject, TestsRow, TestsElements}
-use Rattle.capnp_canonical.proofs.Checking.{made_of}
+use Rattle.capnp_canonical.proofs.lemmas.Checking.{made_of}
 use Rattle.capnp_canonical.proofs.Finals.{data_bits_plain}
 use Rattle.capnp_canonical.proofs.Holding.{hold_parts, hold_both, hold_at, hold_own, own_words_are}
 use Rattle.capnp_canonical.proofs.Masks.{last_cut}

@@ -15,24 +15,24 @@ use Rattle.capnp_model.specs.Coverage.{from_each}
 use Rattle.capnp_model.specs.Visits.{visits}
 use Rattle.capnp_model.specs.Trimming.{stripped, trim, trim_each}
 use Rattle.capnp_model.specs.Encoding.{list_pointer, pointer, body, links, bodies}
-use Rattle.capnp_model.proofs.Chaining.{bind_some, bind_ok, ok_or_some, some_is}
-use Rattle.capnp_model.proofs.Numbers.{length-numbers_in}
-use Rattle.capnp_model.proofs.RoundTrip.{links_length}
-use Rattle.capnp_model.proofs.TrimFits.{count-trim_each}
+use Rattle.capnp_model.proofs.lemmas.Chaining.{bind_some, bind_ok, ok_or_some, some_is}
+use Rattle.capnp_model.proofs.lemmas.Numbers.{length-numbers_in}
+use Rattle.capnp_model.proofs.lemmas.RoundTrip.{links_length}
+use Rattle.capnp_model.proofs.lemmas.TrimFits.{count-trim_each}
 use Rattle.capnp_object.specs.declared.place.Place as wire
 use Rattle.capnp_object.specs.declared.object.Object.{Object}
 use Rattle.capnp_object.specs.declared.object.Object.TheVariants as object
 use Rattle.capnp_object.specs.Places.{place_view}
 use Rattle.capnp_object.specs.Objects.{AreThere}
 use Rattle.capnp_object.specs.Inside.{section_at, words_there}
-use Rattle.capnp_object.proofs.Rows.{each_count}
-use Rattle.capnp_object.proofs.Walking.{object_found, link_tree}
+use Rattle.capnp_object.proofs.lemmas.Rows.{each_count}
+use Rattle.capnp_object.proofs.lemmas.Walking.{object_found, link_tree}
 use Rattle.capnp_units.specs.declared.errors.Error.{Error}
 use Rattle.capnp_units.specs.declared.limiter.ReadLimiter.{ReadLimiter}
 use Rattle.capnp_canonical.specs.Widths.{kept, widest}
 use Rattle.capnp_canonical.specs.Standing.{Hold, Stands, StandEach, segment_words, IsSmall, HasHead, LeadsTo}
 use Rattle.capnp_canonical.specs.Checks.{TestsObject, TestsRow}
-use Rattle.capnp_canonical.proofs.Checking.{made_of}
+use Rattle.capnp_canonical.proofs.lemmas.Checking.{made_of}
 use Rattle.capnp_canonical.proofs.Holding.{hold_parts, hold_both, hold_at, hold_none, hold_own, place_within}
 use Rattle.capnp_canonical.proofs.Kept.{widest_one}
 use Rattle.capnp_canonical.proofs.Nulls.{some_read, kept_count}

@@ -8,9 +8,9 @@ use Rattle.capnp_model.specs.Pointers as model
 use Rattle.capnp_model.specs.Trees.{structure, Trees, none, tree_count, resized}
 use Rattle.capnp_model.specs.Traversal.{Tag, tag_of, tag_in, of_bits, list_kind, list_words}
 use Rattle.capnp_model.specs.Encoding.{struct_pointer, list_pointer, pointer}
-use Rattle.capnp_model.proofs.Chaining.{bind_ok, ok_is, ok_or_some, some_is, guard_ok}
-use Rattle.capnp_model.proofs.PointerWords.{struct_says, list_says, begins_behind, begins_here, list_kind_small}
-use Rattle.capnp_model.proofs.Stripping.{count-resized}
+use Rattle.capnp_model.proofs.lemmas.Chaining.{bind_ok, ok_is, ok_or_some, some_is, guard_ok}
+use Rattle.capnp_model.proofs.lemmas.PointerWords.{struct_says, list_says, begins_behind, begins_here, list_kind_small}
+use Rattle.capnp_model.proofs.lemmas.Stripping.{count-resized}
 use Rattle.capnp_units.specs.declared.sizes.ElementSize.{ElementSize}
 use Rattle.capnp_units.specs.Sizes.{size_number}
 use Rattle.capnp_object.specs.declared.place.Place as wire
@@ -18,8 +18,8 @@ use Rattle.capnp_object.specs.declared.object.Object.{Object}
 use Rattle.capnp_object.specs.declared.object.Object.TheVariants as object
 use Rattle.capnp_object.specs.Places.{place_view, placed}
 use Rattle.capnp_object.specs.Objects.{whole_list, whole}
-use Rattle.capnp_object.proofs.Walking.{object_found}
-use Rattle.capnp_object.proofs.Tags.{front_word}
+use Rattle.capnp_object.proofs.lemmas.Walking.{object_found}
+use Rattle.capnp_object.proofs.lemmas.Tags.{front_word}
 use Rattle.capnp_canonical.specs.Standing.{LeadsTo}
 
 -- ---- what the pointer leads to

@@ -5,9 +5,9 @@ use Rattle.capnp_model.specs.Sections.{words_of}
 use Rattle.capnp_model.specs.Segments.{Segments, Place, place, after}
 use Rattle.capnp_model.specs.Trees.{Tree, Trees, ◌▸◌, Elements, element, tree_count, element_count}
 use Rattle.capnp_model.specs.Encoding.{pointer, body, links, bodies, cells, element_bodies}
-use Rattle.capnp_model.proofs.Locality.{word_is, word_was}
-use Rattle.capnp_model.proofs.Numbers.{length-numbers_in}
-use Rattle.capnp_model.proofs.RoundTrip.{links_length}
+use Rattle.capnp_model.proofs.lemmas.Locality.{word_is, word_was}
+use Rattle.capnp_model.proofs.lemmas.Numbers.{length-numbers_in}
+use Rattle.capnp_model.proofs.lemmas.RoundTrip.{links_length}
 use Rattle.capnp_canonical.specs.Standing.{Hold, Stands, StandEach, StandElements}
 use Rattle.capnp_canonical.proofs.Holding.{hold_parts, hold_both, hold_at}
 use Rattle.capnp_canonical.proofs.Putting.{links_sum}

@@ -8,14 +8,14 @@ use Rattle.capnp_model.specs.Traversal.{tree_at, each}
 use Rattle.capnp_model.specs.Coverage.{from_each}
 use Rattle.capnp_model.specs.Visits.{visits}
 use Rattle.capnp_model.specs.Trimming.{stripped, trim, trim_each}
-use Rattle.capnp_model.proofs.TrimFits.{count-trim_each}
+use Rattle.capnp_model.proofs.lemmas.TrimFits.{count-trim_each}
 use Rattle.capnp_object.specs.Inside.{section_at, words_there}
-use Rattle.capnp_object.proofs.Rows.{each_count}
+use Rattle.capnp_object.proofs.lemmas.Rows.{each_count}
 use Rattle.capnp_units.specs.declared.errors.Error.{Error}
 use Rattle.capnp_units.specs.declared.limiter.ReadLimiter.{ReadLimiter}
 use Rattle.capnp_canonical.specs.Widths.{kept, widest}
 use Rattle.capnp_canonical.specs.Checks.{TellsRow, TellsStruct}
-use Rattle.capnp_canonical.proofs.Checking.{began_none}
+use Rattle.capnp_canonical.proofs.lemmas.Checking.{began_none}
 use Rattle.capnp_canonical.proofs.Objects.{stripped_front}
 use Rattle.capnp_canonical.proofs.Putting.{resized_all}
 use Rattle.capnp_canonical.proofs.StandingObjects.{least_struct}

@@ -8,7 +8,7 @@ use Rattle.capnp_model.specs.Trees.{Tree, null, capability, has_capability}
 use Rattle.capnp_model.specs.Traversal.{tree_at, leaf_of, list_kind, list_words}
 use Rattle.capnp_model.specs.Trimming.{trim}
 use Rattle.capnp_model.specs.Visits.{Visit, visits}
-use Rattle.capnp_model.proofs.Chaining.{bind_ok, ok_is, some_is}
+use Rattle.capnp_model.proofs.lemmas.Chaining.{bind_ok, ok_is, some_is}
 use Rattle.capnp_units.specs.declared.errors.Error.{Error}
 use Rattle.capnp_units.specs.declared.limiter.ReadLimiter.{ReadLimiter}
 use Rattle.capnp_object.specs.declared.object.Object.{Object}
@@ -16,11 +16,11 @@ use Rattle.capnp_object.specs.declared.object.Object.TheVariants as object
 use Rattle.capnp_object.specs.Objects.{whole}
 use Rattle.capnp_object.specs.Follow.{own_cost, suffice_for, is_within, Pays}
 use Rattle.capnp_object.specs.Inside.{tree_in, met_in}
-use Rattle.capnp_object.proofs.Walking.{object_found, link_tree, link_visits, leaf_visited}
-use Rattle.capnp_object.proofs.Walks.{walked_none, walked_one}
+use Rattle.capnp_object.proofs.lemmas.Walking.{object_found, link_tree, link_visits, leaf_visited}
+use Rattle.capnp_object.proofs.lemmas.Walks.{walked_none, walked_one}
 use Rattle.capnp_canonical.specs.Standing.{Stands, IsSmall, HasHead, LeadsTo}
 use Rattle.capnp_canonical.specs.Checks.{Tests, TestsValue, TestsObject}
-use Rattle.capnp_canonical.proofs.Checking.{paid_then, differs_at}
+use Rattle.capnp_canonical.proofs.lemmas.Checking.{paid_then, differs_at}
 use Rattle.capnp_canonical.proofs.StandingObjects.{null_stands, null_word}
 use Rattle.capnp_canonical.proofs.Steps.{list_followed, no_levels}
 

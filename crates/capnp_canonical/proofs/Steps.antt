@@ -13,8 +13,8 @@ use Rattle.capnp_model.specs.Trees.{Tree, null, has_capability}
 use Rattle.capnp_model.specs.Traversal.{tree_at, Tag, tag_of, tag_in, ListKind, of_bits, of_pointers, of_structs, list_kind, list_words}
 use Rattle.capnp_model.specs.Trimming.{trim}
 use Rattle.capnp_model.specs.Visits.{Visit, visits_cost}
-use Rattle.capnp_model.proofs.Chaining.{bind_ok, ok_is, guard_ok}
-use Rattle.capnp_model.proofs.ReadFits.{tree_at_fits}
+use Rattle.capnp_model.proofs.lemmas.Chaining.{bind_ok, ok_is, guard_ok}
+use Rattle.capnp_model.proofs.lemmas.ReadFits.{tree_at_fits}
 use Rattle.capnp_units.specs.declared.errors.Error.{Error}
 use Rattle.capnp_units.specs.declared.limiter.ReadLimiter.{ReadLimiter}
 use Rattle.capnp_object.specs.declared.object.Object.{Object}
@@ -22,8 +22,8 @@ use Rattle.capnp_object.specs.declared.object.Object.TheVariants as object
 use Rattle.capnp_object.specs.Objects.{whole_list, whole}
 use Rattle.capnp_object.specs.Follow.{own_cost, Pays, is_within}
 use Rattle.capnp_object.specs.Inside.{tree_in, met_in}
-use Rattle.capnp_object.proofs.Walking.{object_found, link_tree}
-use Rattle.capnp_object.proofs.Walks.{walked_none, walked_one}
+use Rattle.capnp_object.proofs.lemmas.Walking.{object_found, link_tree}
+use Rattle.capnp_object.proofs.lemmas.Walks.{walked_none, walked_one}
 use Rattle.capnp_canonical.specs.Writes.{words_view, filled, with_link}
 use Rattle.capnp_canonical.specs.Copies.{copy_visits, fault_of, IsData, Behind, Writes}
 use Rattle.capnp_canonical.specs.Objects.{IsShort, WritesObject, HasPlace}

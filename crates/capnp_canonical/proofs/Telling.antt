@@ -13,21 +13,21 @@ use Rattle.capnp_model.specs.Trees.{Tree, has_capability}
 use Rattle.capnp_model.specs.Traversal.{tree_at}
 use Rattle.capnp_model.specs.Trimming.{trim}
 use Rattle.capnp_model.specs.Visits.{Visit, visits}
-use Rattle.capnp_model.proofs.CanonicalTests.{message_test, test_message}
-use Rattle.capnp_model.proofs.Chaining.{some_is}
-use Rattle.capnp_model.proofs.Locality.{word_is, word_was}
+use Rattle.capnp_model.proofs.lemmas.CanonicalTests.{message_test, test_message}
+use Rattle.capnp_model.proofs.lemmas.Chaining.{some_is}
+use Rattle.capnp_model.proofs.lemmas.Locality.{word_is, word_was}
 use Rattle.capnp_units.specs.declared.limiter.ReadLimiter.{ReadLimiter}
 use Rattle.capnp_object.specs.declared.place.Place as wire
 use Rattle.capnp_object.specs.declared.object.Object.{Object}
 use Rattle.capnp_object.specs.Places.{place_view}
 use Rattle.capnp_object.specs.Follow.{own_cost, is_within, Pays}
 use Rattle.capnp_object.specs.Inside.{met_in}
-use Rattle.capnp_object.proofs.Tags.{words_from, words_are}
-use Rattle.capnp_object.proofs.Walking.{object_found, link_visits, leaf_visited}
-use Rattle.capnp_object.proofs.Walks.{walked_one}
+use Rattle.capnp_object.proofs.lemmas.Tags.{words_from, words_are}
+use Rattle.capnp_object.proofs.lemmas.Walking.{object_found, link_visits, leaf_visited}
+use Rattle.capnp_object.proofs.lemmas.Walks.{walked_one}
 use Rattle.capnp_canonical.specs.Standing.{Hold, Stands, IsSmall}
 use Rattle.capnp_canonical.specs.Checks.{Began, Agrees, Differs, Tests, Tells, TellsMessage, IsBehind}
-use Rattle.capnp_canonical.proofs.Checking.{began_none}
+use Rattle.capnp_canonical.proofs.lemmas.Checking.{began_none}
 use Rattle.capnp_canonical.proofs.Holding.{hold_parts, hold_both, hold_end}
 use Rattle.capnp_canonical.proofs.StandingValues.{leaf_object}
 

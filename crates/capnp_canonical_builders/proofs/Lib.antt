@@ -1,1 +1,1 @@
-pub mod Scratches
+mod Scratches

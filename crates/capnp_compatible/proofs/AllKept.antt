@@ -9,7 +9,7 @@ use Rattle.std.proofs.lemmas.List.Folds.{list_all-append}
 use Rattle.capnp_model.specs.Compatible.{Pairs, has_pair, keeps, IsCompatible}
 use Rattle.capnp_model.specs.Accepted.{schema_of, shape_in}
 use Rattle.capnp_model.specs.Schemas.{Node}
-use Rattle.capnp_model.proofs.KeptRules.{and_left, and_right}
+use Rattle.capnp_model.proofs.lemmas.KeptRules.{and_left, and_right}
 use Rattle.capnp_compatible.specs.declared.reached.Reached.{Reached}
 use Rattle.capnp_compatible.specs.declared.keeps.Versions.{Versions}
 use Rattle.capnp_compatible.specs.declared.keeps.Levels.{Levels}

@@ -8,7 +8,7 @@ use Rattle.std.specs.Cmp.Derive.{both_true}
 use Rattle.capnp_model.specs.Schemas.{base_type, type_of, Shape, shape, Fields, no_fields, field}
 use Rattle.capnp_model.specs.Accepted.{is_default_of, no_shape, shape_in, field_body, fields_from}
 use Rattle.capnp_model.specs.Compatible.{Pairs, related, same_option, member_count, is_new, keeps, keeps_fields, keeps_body}
-use Rattle.capnp_model.proofs.KeptRules.{and_left, and_right}
+use Rattle.capnp_model.proofs.lemmas.KeptRules.{and_left, and_right}
 use Rattle.capnp_records.specs.NodeViews.{base_of, type_record_of, value_of, member_of, kind_of_field, field_of}
 use Rattle.capnp_records.specs.declared.node.BaseType.{BaseType}
 use Rattle.capnp_records.specs.declared.node.TypeRecord.{TypeRecord}

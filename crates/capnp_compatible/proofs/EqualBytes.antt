@@ -16,15 +16,15 @@ use Rattle.capnp_model.specs.Fits.{Fits}
 use Rattle.capnp_model.specs.Calls.{text_tree, blob_tree}
 use Rattle.capnp_model.specs.Decoding.{decode}
 use Rattle.capnp_compatible.specs.Defaults.{AreBytes}
-use Rattle.capnp_model.proofs.Numbers.{length-numbers_in}
-use Rattle.capnp_model.proofs.FittingValues.{bytes_fit}
-use Rattle.capnp_model.proofs.RoundTrip.{enc_means, enc_is}
-use Rattle.capnp_model.proofs.ReadFits.{tree_at_fits}
-use Rattle.capnp_model.proofs.TrimFits.{Fits-trim, depth-trim}
-use Rattle.capnp_model.proofs.Depth.{tree_at_deep}
-use Rattle.capnp_model.proofs.CanonicalWords.{canonical_words_are}
-use Rattle.capnp_model.proofs.ByteWords.{words_back, bytes_length}
-use Rattle.capnp_model.proofs.KeptRules.{and_right}
+use Rattle.capnp_model.proofs.lemmas.Numbers.{length-numbers_in}
+use Rattle.capnp_model.proofs.lemmas.FittingValues.{bytes_fit}
+use Rattle.capnp_model.proofs.lemmas.RoundTrip.{enc_means, enc_is}
+use Rattle.capnp_model.proofs.lemmas.ReadFits.{tree_at_fits}
+use Rattle.capnp_model.proofs.lemmas.TrimFits.{Fits-trim, depth-trim}
+use Rattle.capnp_model.proofs.lemmas.Depth.{tree_at_deep}
+use Rattle.capnp_model.proofs.lemmas.CanonicalWords.{canonical_words_are}
+use Rattle.capnp_model.proofs.lemmas.ByteWords.{words_back, bytes_length}
+use Rattle.capnp_model.proofs.lemmas.KeptRules.{and_right}
 
 same_front : (a b x y : ℕ) → x < 256 → y < 256 → a * 2 ^ 8 + x % 2 ^ 8 ≡ b * 2 ^ 8 + y % 2 ^ 8 → (x ≡ y) × (a ≡ b)
 same_front a b x y h k e = (omega arith, omega arith)

@@ -7,7 +7,7 @@ use Rattle.capnp_model.specs.Schemas.{PlainType, Ty, void, plain, text, blob, un
 use Rattle.capnp_model.specs.Decoding.{decode}
 use Rattle.capnp_model.specs.Accepted.{default_bits, default_tree, is_default_of, opens_as, is_good_segment, is_good_value}
 use Rattle.capnp_model.specs.Compatible.{Pairs, related, same_default}
-use Rattle.capnp_model.proofs.KeptRules.{and_left, and_right}
+use Rattle.capnp_model.proofs.lemmas.KeptRules.{and_left, and_right}
 use Rattle.capnp_compatible.specs.Defaults.{AllBytes, default_bytes, same_bytes, same_value}
 use Rattle.capnp_compatible.proofs.EqualBytes.{data_equal, texts_equal, segments_equal}
 

@@ -3,7 +3,7 @@ use Rattle.std.proofs.Common.{◌≡◌, ℕ, Bool, true, false, not, cond, ◌&
 use Rattle.std.proofs.lemmas.List.Folds.{list_all-append}
 use Rattle.std.proofs.lemmas.Bool.Decides.{nat_tests}
 use Rattle.capnp_model.specs.Compatible.{Pairs, has_pair}
-use Rattle.capnp_model.proofs.KeptRules.{and_left, and_right}
+use Rattle.capnp_model.proofs.lemmas.KeptRules.{and_left, and_right}
 use Rattle.capnp_compatible.specs.Pairs.{has_each}
 use Rattle.capnp_compatible.proofs.Scans.{and_true}
 

@@ -1,12 +1,12 @@
-pub mod Relations
-pub mod Scans
-pub mod EqualBytes
-pub mod EqualDefaults
-pub mod Slots
-pub mod Known
-pub mod NodesFound
-pub mod Bodies
-pub mod Ways
-pub mod AllKept
-pub mod ExtendedGroups
-pub mod FirstRefused
+mod Relations
+mod Scans
+mod EqualBytes
+mod EqualDefaults
+mod Slots
+mod Known
+mod NodesFound
+mod Bodies
+mod Ways
+mod AllKept
+mod ExtendedGroups
+mod FirstRefused

@@ -4,7 +4,7 @@ use Rattle.std.specs.List.{list_all}
 use Rattle.std.specs.Cmp.Derive.{both_true}
 use Rattle.capnp_model.specs.Schemas.{Field, Node}
 use Rattle.capnp_model.specs.Accepted.{find_node, fields_of_kind, enumerants_of_kind, has_good_default, default_reads, is_group_node, names_a, no_shape, shape_of_node, shape_in, schema_of, IsAccepted}
-use Rattle.capnp_model.proofs.KeptRules.{behind, no_break, and_left, and_right, found_passes}
+use Rattle.capnp_model.proofs.lemmas.KeptRules.{behind, no_break, and_left, and_right, found_passes}
 use Rattle.capnp_compatible.specs.Holders.{are_sound_in}
 
 both_tests : {A : Type 0} (p q : A → Bool) (xs : List A) → list_all p xs ≡ true → list_all q xs ≡ true → list_all (λ x. p x && q x) xs ≡ true

@@ -7,20 +7,20 @@ use Rattle.capnp_model.specs.Sections.{number_of, section_of, words_for}
 use Rattle.capnp_model.specs.Segments.{Segments, Place, after, words_at}
 use Rattle.capnp_model.specs.Pointers.{Object, a_list, Found}
 use Rattle.capnp_model.specs.Trees.{Tree, plain_list}
-use Rattle.capnp_wire.proofs.Bytes.{AreBytes}
+use Rattle.capnp_wire.proofs.lemmas.Bytes.{AreBytes}
 use Rattle.capnp_footprints.specs.Footprints.{OwnsObject}
 use Rattle.capnp_footprints.specs.Changes.{ReplacesObject}
 use Rattle.capnp_footprints.specs.Writes.{spliced, with_words}
-use Rattle.capnp_footprints.proofs.Rows.{after_none}
-use Rattle.capnp_footprints.proofs.Kept.{words_length}
-use Rattle.capnp_footprints.proofs.Levels.{owned_more}
-use Rattle.capnp_footprints.proofs.Lift.{object_of_pointer, pointer_of_object, replaced_owned, replaced_then, object_replaced_owned, object_replaced_then}
-use Rattle.capnp_footprints.proofs.Splices.{splice_words, spliced_whole}
-use Rattle.capnp_footprints.proofs.Writing.{plain_words}
+use Rattle.capnp_footprints.proofs.lemmas.Rows.{after_none}
+use Rattle.capnp_footprints.proofs.lemmas.Kept.{words_length}
+use Rattle.capnp_footprints.proofs.lemmas.Levels.{owned_more}
+use Rattle.capnp_footprints.proofs.lemmas.Lift.{object_of_pointer, pointer_of_object, replaced_owned, replaced_then, object_replaced_owned, object_replaced_then}
+use Rattle.capnp_footprints.proofs.lemmas.Splices.{splice_words, spliced_whole}
+use Rattle.capnp_footprints.proofs.lemmas.Writing.{plain_words}
 use Rattle.capnp_copy.specs.Blobs.{whole_of, last_of, front_of, with_bytes}
 use Rattle.capnp_copy.specs.Values.{Becomes, LeadsTo}
-use Rattle.capnp_copy.proofs.RoomLaws.{some_of}
-use Rattle.capnp_copy.proofs.BlobNumbers.{front_words_length, front_section, all_words, number_fits, filled}
+use Rattle.capnp_copy.proofs.lemmas.RoomLaws.{some_of}
+use Rattle.capnp_copy.proofs.lemmas.BlobNumbers.{front_words_length, front_section, all_words, number_fits, filled}
 
 -- the words in front are written
 front_written : (n : ℕ) (m : Segments) (r : Place) (count w : ℕ) (t : Tree) (vs ws : List ℕ) → w ≡ words_for (8 * count) → length vs ≤ w → words_at m r w ≡ Some ws → OwnsObject n m (a_list r 2 count) t

@@ -11,28 +11,28 @@ use Rattle.capnp_model.specs.Sections.{numbers_in, number_of, section_of, words_
 use Rattle.capnp_model.specs.Segments.{Segments, Place, after, word_at, words_at}
 use Rattle.capnp_model.specs.Pointers.{a_list}
 use Rattle.capnp_model.specs.Trees.{plain_list}
-use Rattle.capnp_model.proofs.Bits.{above}
-use Rattle.capnp_model.proofs.Numbers.{number_of_lt}
+use Rattle.capnp_model.proofs.lemmas.Bits.{above}
+use Rattle.capnp_model.proofs.lemmas.Numbers.{number_of_lt}
 use Rattle.capnp_object.specs.declared.place.Place as code
-use Rattle.capnp_object.proofs.Words.{whole_words-length}
+use Rattle.capnp_object.proofs.lemmas.Words.{whole_words-length}
 use Rattle.capnp_wire.specs.Places.{place_view}
 use Rattle.capnp_wire.specs.Views.{section_in, section_at}
-use Rattle.capnp_wire.proofs.Bytes.{AreBytes, number_of-take, number_of-drop}
-use Rattle.capnp_wire.proofs.ListLaws.{numbers_low}
+use Rattle.capnp_wire.proofs.lemmas.Bytes.{AreBytes, number_of-take, number_of-drop}
+use Rattle.capnp_wire.proofs.lemmas.ListLaws.{numbers_low}
 use Rattle.capnp_footprints.specs.Changes.{ReplacesObject}
 use Rattle.capnp_footprints.specs.Footprints.{OwnsObject}
 use Rattle.capnp_footprints.specs.Writes.{spliced, with_words}
-use Rattle.capnp_footprints.proofs.Kept.{words_length}
-use Rattle.capnp_footprints.proofs.Lift.{object_replaced_owned, object_replaced_then}
-use Rattle.capnp_footprints.proofs.Rows.{after_none}
-use Rattle.capnp_footprints.proofs.Spans.{words_front}
-use Rattle.capnp_footprints.proofs.Writing.{plain_words}
+use Rattle.capnp_footprints.proofs.lemmas.Kept.{words_length}
+use Rattle.capnp_footprints.proofs.lemmas.Lift.{object_replaced_owned, object_replaced_then}
+use Rattle.capnp_footprints.proofs.lemmas.Rows.{after_none}
+use Rattle.capnp_footprints.proofs.lemmas.Spans.{words_front}
+use Rattle.capnp_footprints.proofs.lemmas.Writing.{plain_words}
 use Rattle.capnp_copy.specs.Blobs.{whole_of, front_of}
 use Rattle.capnp_copy.specs.Bytes.{SetsBytes}
 use Rattle.capnp_copy.specs.Memory.{overwritten}
-use Rattle.capnp_copy.proofs.BlobNumbers.{front_section, number_fits}
+use Rattle.capnp_copy.proofs.lemmas.BlobNumbers.{front_section, number_fits}
 use Rattle.capnp_copy.proofs.ByteWords.{words_of_zeros}
-use Rattle.capnp_copy.proofs.ElementLaws.{plain_parts, low_bits, masked_with, set_plain, no_plain_word, none_written, same_list}
+use Rattle.capnp_copy.proofs.lemmas.ElementLaws.{plain_parts, low_bits, masked_with, set_plain, no_plain_word, none_written, same_list}
 
 -- ---- bytes that are read
 

@@ -9,7 +9,7 @@ use Rattle.capnp_model.specs.Pointers.{a_struct, a_list}
 use Rattle.capnp_model.specs.Trees.{Tree, structure, struct_list, Trees, none, resized, Elements, no_elements, element, element_count}
 use Rattle.capnp_model.specs.Traversal.{tag_in, each, each_element, tree_at}
 use Rattle.capnp_model.specs.Coverage.{Span, from_each, from_elements}
-use Rattle.capnp_model.proofs.Chaining.{bind_some, bind_ok, ok_is, some_is}
+use Rattle.capnp_model.proofs.lemmas.Chaining.{bind_some, bind_ok, ok_is, some_is}
 use Rattle.capnp_object.specs.Places.{place_view, placed}
 use Rattle.capnp_object.specs.Objects.{whole}
 use Rattle.capnp_object.specs.declared.place.Place as code
@@ -18,12 +18,12 @@ use Rattle.capnp_object.specs.declared.object.Object.TheVariants as object
 use Rattle.capnp_footprints.specs.Footprints.{behind, object_footprint, OwnsObject}
 use Rattle.capnp_footprints.specs.Changes.{ReplacesObject}
 use Rattle.capnp_footprints.specs.Elements.{element_at, with_element}
-use Rattle.capnp_footprints.proofs.Algebra.{changes_nothing}
-use Rattle.capnp_footprints.proofs.Lift.{object_replaced_owned, object_replaced_then}
-use Rattle.capnp_footprints.proofs.Cells.{element_parts, element_of_list, list_of_element}
+use Rattle.capnp_footprints.proofs.lemmas.Algebra.{changes_nothing}
+use Rattle.capnp_footprints.proofs.lemmas.Lift.{object_replaced_owned, object_replaced_then}
+use Rattle.capnp_footprints.proofs.lemmas.Cells.{element_parts, element_of_list, list_of_element}
 use Rattle.capnp_footprints.specs.Children.{childless}
 use Rattle.capnp_copy.specs.Clearing.{ClearsKids, ClearsElements}
-use Rattle.capnp_footprints.proofs.Nulls.{nulls_behind}
+use Rattle.capnp_footprints.proofs.lemmas.Nulls.{nulls_behind}
 
 -- the children of the first of them are null
 pub childless_to : ℕ → ℕ → Elements → Elements

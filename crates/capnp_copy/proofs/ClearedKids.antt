@@ -4,11 +4,11 @@ use Rattle.capnp_model.specs.Segments.{Segments, Place, after, words_at}
 use Rattle.capnp_model.specs.Pointers.{a_struct}
 use Rattle.capnp_model.specs.Trees.{Tree, null, structure, Trees, none, ◌▸◌, tree_count, with_child, resized}
 use Rattle.capnp_model.specs.Traversal.{tree_at}
-use Rattle.capnp_object.proofs.Rows.{each_count}
+use Rattle.capnp_object.proofs.lemmas.Rows.{each_count}
 use Rattle.capnp_footprints.specs.Footprints.{object_footprint, OwnsObject}
 use Rattle.capnp_footprints.specs.Changes.{ReplacesObject}
-use Rattle.capnp_footprints.proofs.Algebra.{changes_nothing}
-use Rattle.capnp_footprints.proofs.Lift.{struct_parts, object_replaced_owned, object_replaced_then, child_of_struct, struct_of_child}
+use Rattle.capnp_footprints.proofs.lemmas.Algebra.{changes_nothing}
+use Rattle.capnp_footprints.proofs.lemmas.Lift.{struct_parts, object_replaced_owned, object_replaced_then, child_of_struct, struct_of_child}
 use Rattle.capnp_copy.specs.Clearing.{ClearsValue, ClearsKids}
 
 -- the first of them are null

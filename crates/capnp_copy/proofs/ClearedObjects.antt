@@ -10,23 +10,23 @@ use Rattle.capnp_model.specs.Pointers.{Object, nothing, a_struct, a_list, a_capa
 use Rattle.capnp_model.specs.Trees.{Tree, structure, pointer_list, struct_list, Trees, none, resized, Elements, element_count, size_bits}
 use Rattle.capnp_model.specs.Traversal.{Tag, tag_in, each, each_element, ListKind, of_bits, list_kind, list_words, list_tree, tree_of, tree_at}
 use Rattle.capnp_model.specs.Coverage.{Span, span, times_held, from_each, from_elements, covered_tag, covered_object}
-use Rattle.capnp_model.proofs.PointerWords.{list_kind_small}
+use Rattle.capnp_model.proofs.lemmas.PointerWords.{list_kind_small}
 use Rattle.capnp_units.specs.Sizes.{data_bits}
-use Rattle.capnp_model.proofs.Chaining.{bind_some, bind_found, some_is}
+use Rattle.capnp_model.proofs.lemmas.Chaining.{bind_some, bind_found, some_is}
 use Rattle.capnp_footprints.specs.Footprints.{behind, object_footprint, OwnsObject}
 use Rattle.capnp_footprints.specs.Changes.{Changes, ReplacesObject}
-use Rattle.capnp_footprints.proofs.Spans.{held, held_is}
-use Rattle.capnp_footprints.proofs.Rows.{after_none}
-use Rattle.capnp_footprints.proofs.There.{words_there}
-use Rattle.capnp_footprints.proofs.Algebra.{On, changes_nothing, changes_then, changes_alike}
-use Rattle.capnp_footprints.proofs.Lift.{struct_parts, struct_of_parts, list_parts}
-use Rattle.capnp_footprints.proofs.Writing.{plain_is}
-use Rattle.capnp_footprints.proofs.Cells.{element_parts}
+use Rattle.capnp_footprints.proofs.lemmas.Spans.{held, held_is}
+use Rattle.capnp_footprints.proofs.lemmas.Rows.{after_none}
+use Rattle.capnp_footprints.proofs.lemmas.There.{words_there}
+use Rattle.capnp_footprints.proofs.lemmas.Algebra.{On, changes_nothing, changes_then, changes_alike}
+use Rattle.capnp_footprints.proofs.lemmas.Lift.{struct_parts, struct_of_parts, list_parts}
+use Rattle.capnp_footprints.proofs.lemmas.Writing.{plain_is}
+use Rattle.capnp_footprints.proofs.lemmas.Cells.{element_parts}
 use Rattle.capnp_footprints.specs.Children.{childless}
 use Rattle.capnp_copy.specs.Clearing.{zeroed_there, ClearsObject, ClearsKids, ClearsElements}
-use Rattle.capnp_footprints.proofs.Nulls.{nulls_behind}
+use Rattle.capnp_footprints.proofs.lemmas.Nulls.{nulls_behind}
 use Rattle.capnp_copy.proofs.ClearedElements.{childless_behind}
-use Rattle.capnp_copy.proofs.ZeroedWords.{vanish}
+use Rattle.capnp_copy.proofs.lemmas.ZeroedWords.{vanish}
 
 -- an object whose words alone are left loses them
 words_go : (s u : Segments) (c : Place → ℕ) (p : Place) (m : ℕ) (ws : List ℕ) (xs : List Span) (d : Place → ℕ) → xs ≡ [] → ((q : Place) → d q ≡ times_held (span p m ∷ xs) q) → words_at u p m ≡ Some ws → Changes s u c d → Changes s (zeroed_there u p m) c (λ q. 0)

@@ -10,23 +10,23 @@ use Rattle.capnp_model.specs.Pointers.{Pointer, to_struct, to_list, to_pad, to_c
 use Rattle.capnp_model.specs.Trees.{Tree, null}
 use Rattle.capnp_model.specs.Traversal.{tree_of, tree_at}
 use Rattle.capnp_model.specs.Coverage.{Span, span, times_held, pad_of, pads_by, pads_at, covered_object, Keeps}
-use Rattle.capnp_model.proofs.Chaining.{bind_ok, bind_found, ok_or_some, ok_is, some_is}
-use Rattle.capnp_model.proofs.Locality.{word_is, word_was}
+use Rattle.capnp_model.proofs.lemmas.Chaining.{bind_ok, bind_found, ok_or_some, ok_is, some_is}
+use Rattle.capnp_model.proofs.lemmas.Locality.{word_is, word_was}
 use Rattle.capnp_footprints.specs.Footprints.{behind, footprint, object_footprint, Owns, OwnsObject}
 use Rattle.capnp_footprints.specs.Changes.{absent, Changes, Replaces}
 use Rattle.capnp_footprints.specs.Writes.{with_words}
-use Rattle.capnp_footprints.proofs.Spans.{held, held_is, held_le, held_self, there, still_there, grows_then}
-use Rattle.capnp_footprints.proofs.There.{words_there}
-use Rattle.capnp_footprints.proofs.Rows.{words_grown}
-use Rattle.capnp_footprints.proofs.Kept.{object_same, value_same}
-use Rattle.capnp_footprints.proofs.Algebra.{On, changes_lift, changes_then, changes_alike}
-use Rattle.capnp_footprints.proofs.Levels.{replaced_by_itself, owned_more, footprint_more}
-use Rattle.capnp_footprints.proofs.Lift.{value_on, slot_is, object_of_pointer}
-use Rattle.capnp_footprints.proofs.Splices.{Rewrites, splice_rewrites}
-use Rattle.capnp_footprints.proofs.Writing.{rewrites_keep, written_word}
+use Rattle.capnp_footprints.proofs.lemmas.Spans.{held, held_is, held_le, held_self, there, still_there, grows_then}
+use Rattle.capnp_footprints.proofs.lemmas.There.{words_there}
+use Rattle.capnp_footprints.proofs.lemmas.Rows.{words_grown}
+use Rattle.capnp_footprints.proofs.lemmas.Kept.{object_same, value_same}
+use Rattle.capnp_footprints.proofs.lemmas.Algebra.{On, changes_lift, changes_then, changes_alike}
+use Rattle.capnp_footprints.proofs.lemmas.Levels.{replaced_by_itself, owned_more, footprint_more}
+use Rattle.capnp_footprints.proofs.lemmas.Lift.{value_on, slot_is, object_of_pointer}
+use Rattle.capnp_footprints.proofs.lemmas.Splices.{Rewrites, splice_rewrites}
+use Rattle.capnp_footprints.proofs.lemmas.Writing.{rewrites_keep, written_word}
 use Rattle.capnp_copy.specs.Clearing.{zeroed_there, ClearsValue, ClearsObject}
-use Rattle.capnp_footprints.proofs.Zeros.{null_read, null_footprint}
-use Rattle.capnp_copy.proofs.ZeroedWords.{held_none, vanish}
+use Rattle.capnp_footprints.proofs.lemmas.Zeros.{null_read, null_footprint}
+use Rattle.capnp_copy.proofs.lemmas.ZeroedWords.{held_none, vanish}
 
 -- ---- the pad
 

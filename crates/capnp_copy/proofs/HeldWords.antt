@@ -13,7 +13,7 @@ use Rattle.capnp_units.specs.Segments.{whole_words, words_in}
 use Rattle.std.specs.Int.{to_le_bytes, w64}
 use Rattle.std.proofs.lemmas.Nat.{from_le_bytes-to_le_bytes_8}
 use Rattle.capnp_wire.specs.Arenas.{words_before}
-use Rattle.capnp_object.proofs.Words.{whole_words-length}
+use Rattle.capnp_object.proofs.lemmas.Words.{whole_words-length}
 use Rattle.capnp_footprints.specs.Writes.{spliced, spliced_in, with_words, with_zeros, segment_end}
 use Rattle.capnp_copy.specs.Memory.{ZeroFrom, overwritten}
 use Rattle.capnp_copy.specs.Allocations.{total_words, total_of, words_used, Allocates}

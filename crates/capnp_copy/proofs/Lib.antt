@@ -1,21 +1,13 @@
-pub mod Zeros
-pub mod ByteWords
-pub mod HeldWords
-pub mod Shifts
-pub mod FieldLaws
-pub mod Ends
-pub mod ZeroedWords
-pub mod ClearedKids
-pub mod ClearedElements
-pub mod ClearedObjects
-pub mod ClearedSlots
-pub mod RoomLaws
-pub mod Making
-pub mod ListWords
-pub mod MakingStructs
-pub mod BlobNumbers
-pub mod BlobValues
-pub mod ElementLaws
-pub mod Taken
-pub mod ByteSets
-pub mod Parts
+pub mod lemmas
+mod Zeros
+mod ByteWords
+mod HeldWords
+mod Shifts
+mod ClearedKids
+mod ClearedElements
+mod ClearedObjects
+mod ClearedSlots
+mod ListWords
+mod MakingStructs
+mod BlobValues
+mod ByteSets

@@ -10,18 +10,18 @@ use Rattle.capnp_wire.specs.Places.{place_view}
 use Rattle.capnp_footprints.specs.Changes.{Replaces}
 use Rattle.capnp_footprints.specs.Writes.{segment_end}
 use Rattle.capnp_footprints.specs.NewObjects.{New, new_structs, new_words, new_pointer, new_object, new_tree, Fits, pointed, pointed_far, zero_elements, IsNear, IsNamed, Prepared}
-use Rattle.capnp_footprints.proofs.Spans.{grows_then}
-use Rattle.capnp_footprints.proofs.Splices.{splice_grows}
-use Rattle.capnp_footprints.proofs.Levels.{owned_more}
-use Rattle.capnp_footprints.proofs.Prepared.{prepared_new, tag_written, tag_written_far, near_new, far_new, near_leads, far_leads, starts_near}
+use Rattle.capnp_footprints.proofs.lemmas.Spans.{grows_then}
+use Rattle.capnp_footprints.proofs.lemmas.Splices.{splice_grows}
+use Rattle.capnp_footprints.proofs.lemmas.Levels.{owned_more}
+use Rattle.capnp_footprints.proofs.lemmas.Prepared.{prepared_new, tag_written, tag_written_far, near_new, far_new, near_leads, far_leads, starts_near}
 use Rattle.capnp_copy.specs.declared.room.Room.{Room}
 use Rattle.capnp_copy.specs.declared.room.Room.TheVariants.{Here, Near, Far}
 use Rattle.capnp_copy.specs.Clearing.{ClearsValue}
 use Rattle.capnp_copy.specs.Rooms.{RoomFor, begin_of, linked}
 use Rattle.capnp_copy.specs.Values.{Becomes, LeadsTo}
-use Rattle.capnp_copy.proofs.Ends.{end_within}
-use Rattle.capnp_copy.proofs.RoomLaws.{word_there, room_grows, room_pad, pad_stays}
-use Rattle.capnp_copy.proofs.Making.{at_offset, nulled_in, beyond, word_later, some_word}
+use Rattle.capnp_copy.proofs.lemmas.Ends.{end_within}
+use Rattle.capnp_copy.proofs.lemmas.RoomLaws.{word_there, room_grows, room_pad, pad_stays}
+use Rattle.capnp_copy.proofs.lemmas.Making.{at_offset, nulled_in, beyond, word_later, some_word}
 
 -- some list pointer isn't 0
 some_list : (o n : ℕ) → 0 < list_pointer o 7 n

@@ -5,7 +5,7 @@ use Rattle.std.proofs.Math.Pow.{pow-lt}
 use Rattle.std.proofs.lemmas.Nat.{pow_pos}
 use lib.Pow as pow
 use Rattle.capnp_model.specs.Sections.{with_bits}
-use Rattle.capnp_model.proofs.Bounds.{with_bits_lt}
+use Rattle.capnp_model.proofs.lemmas.Bounds.{with_bits_lt}
 
 same_small : (x : ℕ) → x < 2 ^ 64 → x % 2 ^ 64 ≡ x
 same_small x l = omega arith

@@ -8,13 +8,13 @@ use Rattle.capnp_model.specs.Trimming.{trim}
 use Rattle.capnp_model.specs.Traversal.{tree_at}
 use Rattle.capnp_model.specs.Visits.{Visit, visits, visits_cost}
 use Rattle.capnp_model.specs.Encoding.{canonical_words}
-use Rattle.capnp_model.proofs.Chaining.{bind_some, some_is}
+use Rattle.capnp_model.proofs.lemmas.Chaining.{bind_some, some_is}
 use Rattle.capnp_units.specs.declared.errors.Error.{Error}
 use Rattle.capnp_units.specs.declared.kinds.ErrorKind.{ErrorKind}
 use Rattle.capnp_units.specs.declared.limiter.ReadLimiter.{ReadLimiter}
 use Rattle.capnp_units.specs.Limits.{less, left_of, granted_of}
 use Rattle.capnp_object.specs.Walks.{Walked, Stopped, CannotPass}
-use Rattle.capnp_footprints.proofs.Algebra.{changes_nothing}
+use Rattle.capnp_footprints.proofs.lemmas.Algebra.{changes_nothing}
 use Rattle.capnp_canonical.specs.Copies.{copy_visits, Halted, Written, Filled, room_of}
 use Rattle.capnp_copy_from.specs.Copies.{BecomesCopy, CopiesValue, FollowsFew, Unplaced}
 use Rattle.capnp_copy_canonical.specs.Canonical.{IsRead, IsFree, canonical_message, CopiesCanonical, HasNoRoom}

@@ -1,1 +1,1 @@
-pub mod Copied
+mod Copied

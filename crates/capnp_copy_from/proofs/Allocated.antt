@@ -10,16 +10,16 @@ use Rattle.capnp_footprints.specs.Footprints.{footprint, Owns}
 use Rattle.capnp_footprints.specs.Changes.{absent}
 use Rattle.capnp_footprints.specs.Detached.{all_taken, Detached}
 use Rattle.capnp_footprints.specs.Writes.{with_zeros, segment_end}
-use Rattle.capnp_footprints.proofs.Algebra.{changes_nothing, changes_alike}
-use Rattle.capnp_footprints.proofs.Detached.{detached_start, detached_more, detached_split}
-use Rattle.capnp_footprints.proofs.Growing.{zeros_extend, zero_held}
-use Rattle.capnp_footprints.proofs.Spans.{held, held_is, held_split, there, words_front, words_back}
-use Rattle.capnp_footprints.proofs.Zeros.{held_none, drop_zeros}
+use Rattle.capnp_footprints.proofs.lemmas.Algebra.{changes_nothing, changes_alike}
+use Rattle.capnp_footprints.proofs.lemmas.Detached.{detached_start, detached_more, detached_split}
+use Rattle.capnp_footprints.proofs.lemmas.Growing.{zeros_extend, zero_held}
+use Rattle.capnp_footprints.proofs.lemmas.Spans.{held, held_is, held_split, there, words_front, words_back}
+use Rattle.capnp_footprints.proofs.lemmas.Zeros.{held_none, drop_zeros}
 use Rattle.capnp_copy.specs.Allocations.{Allocates}
 use Rattle.capnp_copy.specs.declared.room.Room.{Room}
 use Rattle.capnp_copy.specs.declared.room.Room.TheVariants.{Here, Near, Far}
 use Rattle.capnp_copy.specs.Rooms.{RoomFor, begin_of}
-use Rattle.capnp_copy.proofs.RoomLaws.{some_of}
+use Rattle.capnp_copy.proofs.lemmas.RoomLaws.{some_of}
 use Rattle.capnp_copy_from.specs.Copies.{GrowsByZeros}
 
 -- the pad of an object in such room

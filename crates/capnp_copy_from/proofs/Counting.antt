@@ -4,8 +4,8 @@ use Rattle.std.proofs.Common.{◌≡◌, ◌⊎◌, ℕ, ◌+◌, ◌≤◌, Lis
 use Rattle.std.proofs.lemmas.List.{length-append, append_assoc, append-nil}
 use Rattle.capnp_model.specs.Segments.{Segments, Place}
 use Rattle.capnp_model.specs.Visits.{Visit, visits, visits_cost}
-use Rattle.capnp_model.proofs.Chaining.{bind_some, some_is}
-use Rattle.capnp_model.proofs.Visits.{follows_few}
+use Rattle.capnp_model.proofs.lemmas.Chaining.{bind_some, some_is}
+use Rattle.capnp_model.proofs.lemmas.Visits.{follows_few}
 use Rattle.capnp_units.specs.declared.errors.Error.{Error}
 use Rattle.capnp_units.specs.declared.limiter.ReadLimiter.{ReadLimiter}
 use Rattle.capnp_object.specs.Follow.{found_cost}

@@ -12,27 +12,27 @@ use Rattle.capnp_model.specs.Trees.{Tree, structure, struct_list, Trees, none, E
 use Rattle.capnp_model.specs.Traversal.{Tag, tag_in, tree_at, each, each_element}
 use Rattle.capnp_model.specs.Coverage.{Span, span, times_held, Grows, from_each, from_elements, covered_tag, covered_object}
 use Rattle.capnp_model.specs.Visits.{Visit, visits}
-use Rattle.capnp_model.proofs.Chaining.{some_is}
+use Rattle.capnp_model.proofs.lemmas.Chaining.{some_is}
 use Rattle.capnp_units.specs.declared.errors.Error.{Error}
 use Rattle.capnp_units.specs.declared.limiter.ReadLimiter.{ReadLimiter}
 use Rattle.capnp_object.specs.Inside.{words_there}
 use Rattle.capnp_object.specs.Walks.{Walked}
-use Rattle.capnp_object.proofs.Rows.{element_next, elements_met_next, elements_start, row_end, nothing_met, plain_elements_read}
-use Rattle.capnp_object.proofs.Walks.{walked_none, walked_both}
+use Rattle.capnp_object.proofs.lemmas.Rows.{element_next, elements_met_next, elements_start, row_end, nothing_met, plain_elements_read}
+use Rattle.capnp_object.proofs.lemmas.Walks.{walked_none, walked_both}
 use Rattle.capnp_footprints.specs.Children.{with_first_elements}
 use Rattle.capnp_footprints.specs.Elements.{element_at, with_element}
 use Rattle.capnp_footprints.specs.Footprints.{behind, object_footprint, OwnsObject}
 use Rattle.capnp_footprints.specs.Changes.{ReplacesObject}
 use Rattle.capnp_footprints.specs.Writes.{with_words, spliced}
-use Rattle.capnp_footprints.proofs.Algebra.{changes_nothing}
-use Rattle.capnp_footprints.proofs.Cells.{ElementParts, element_parts, list_of_parts, tag_alike, counted, list_of_element}
-use Rattle.capnp_footprints.proofs.Kept.{words_length}
-use Rattle.capnp_footprints.proofs.Lift.{object_replaced_owned, object_replaced_then}
-use Rattle.capnp_footprints.proofs.Rows.{after_none}
-use Rattle.capnp_footprints.proofs.Spans.{held, held_is, grows_same, grows_then}
-use Rattle.capnp_footprints.proofs.Splices.{Rewrites, splice_rewrites, splice_words, splice_grows, spliced_whole}
-use Rattle.capnp_footprints.proofs.Turns.{structs_here, structs_next, elements_done}
-use Rattle.capnp_footprints.proofs.Writing.{wider, changes_inside}
+use Rattle.capnp_footprints.proofs.lemmas.Algebra.{changes_nothing}
+use Rattle.capnp_footprints.proofs.lemmas.Cells.{ElementParts, element_parts, list_of_parts, tag_alike, counted, list_of_element}
+use Rattle.capnp_footprints.proofs.lemmas.Kept.{words_length}
+use Rattle.capnp_footprints.proofs.lemmas.Lift.{object_replaced_owned, object_replaced_then}
+use Rattle.capnp_footprints.proofs.lemmas.Rows.{after_none}
+use Rattle.capnp_footprints.proofs.lemmas.Spans.{held, held_is, grows_same, grows_then}
+use Rattle.capnp_footprints.proofs.lemmas.Splices.{Rewrites, splice_rewrites, splice_words, splice_grows, spliced_whole}
+use Rattle.capnp_footprints.proofs.lemmas.Turns.{structs_here, structs_next, elements_done}
+use Rattle.capnp_footprints.proofs.lemmas.Writing.{wider, changes_inside}
 use Rattle.capnp_copy_from.specs.Copies.{TakesFew, Copied, Refused, FillsStruct, LeavesStruct, FillsElements, LeavesElements}
 use Rattle.capnp_copy_from.proofs.Parts.{there_length, part_is}
 use Rattle.capnp_copy_from.proofs.Refusals.{why_later}

@@ -10,7 +10,7 @@ use Rattle.capnp_model.specs.Trees.{Tree}
 use Rattle.capnp_model.specs.Traversal.{tag_in, list_kind, list_words, ListKind, of_bits, of_pointers, of_structs, tree_at}
 use Rattle.capnp_model.specs.Coverage.{Grows}
 use Rattle.capnp_model.specs.Visits.{Visit, visits}
-use Rattle.capnp_model.proofs.Chaining.{bind_ok, ok_is}
+use Rattle.capnp_model.proofs.lemmas.Chaining.{bind_ok, ok_is}
 use Rattle.capnp_units.specs.declared.errors.Error.{Error}
 use Rattle.capnp_units.specs.declared.limiter.ReadLimiter.{ReadLimiter}
 use Rattle.capnp_object.specs.declared.object.Object.{Object}
@@ -19,10 +19,10 @@ use Rattle.capnp_object.specs.Objects.{whole_list, whole}
 use Rattle.capnp_object.specs.Follow.{own_cost, suffice_for, is_within, Pays, FollowsWithin}
 use Rattle.capnp_object.specs.Inside.{tree_in, met_in}
 use Rattle.capnp_object.specs.Walks.{Walked, Stopped}
-use Rattle.capnp_object.proofs.LevelLaws.{trees, visited}
-use Rattle.capnp_object.proofs.Measuring.{unfollowed_at}
-use Rattle.capnp_object.proofs.Walking.{object_found, leaf_visited}
-use Rattle.capnp_object.proofs.Walks.{walked_none, walked_one}
+use Rattle.capnp_object.proofs.lemmas.LevelLaws.{trees, visited}
+use Rattle.capnp_object.proofs.lemmas.Measuring.{unfollowed_at}
+use Rattle.capnp_object.proofs.lemmas.Walking.{object_found, leaf_visited}
+use Rattle.capnp_object.proofs.lemmas.Walks.{walked_none, walked_one}
 use Rattle.capnp_copy.specs.Allocations.{total_words}
 use Rattle.capnp_copy_from.proofs.Taking.{none_taken, object_untaken}
 use Rattle.capnp_copy_from.specs.Objects.{copied_words, is_leaf, leaf_value}

@@ -5,18 +5,18 @@ use Rattle.capnp_model.specs.Pointers.{a_capability, found_by, found_at}
 use Rattle.capnp_model.specs.Trees.{null, capability}
 use Rattle.capnp_model.specs.Traversal.{tree_at}
 use Rattle.capnp_model.specs.Coverage.{Span, span, pads_by, pad_of, pads_at, times_held}
-use Rattle.capnp_model.proofs.PointerWords.{capability_says}
+use Rattle.capnp_model.proofs.lemmas.PointerWords.{capability_says}
 use Rattle.capnp_footprints.specs.Footprints.{behind, footprint}
 use Rattle.capnp_footprints.specs.Changes.{Changes}
 use Rattle.capnp_footprints.specs.Writes.{with_words}
-use Rattle.capnp_footprints.proofs.Algebra.{changes_then, changes_alike}
-use Rattle.capnp_footprints.proofs.Lift.{value_on}
-use Rattle.capnp_footprints.proofs.Nulls.{null_word}
-use Rattle.capnp_footprints.proofs.Pointing.{not_zero}
-use Rattle.capnp_footprints.proofs.Spans.{held, held_is}
-use Rattle.capnp_footprints.proofs.Splices.{splice_rewrites}
-use Rattle.capnp_footprints.proofs.Writing.{changes_inside, written_word}
-use Rattle.capnp_footprints.proofs.Zeros.{null_footprint}
+use Rattle.capnp_footprints.proofs.lemmas.Algebra.{changes_then, changes_alike}
+use Rattle.capnp_footprints.proofs.lemmas.Lift.{value_on}
+use Rattle.capnp_footprints.proofs.lemmas.Nulls.{null_word}
+use Rattle.capnp_footprints.proofs.lemmas.Pointing.{not_zero}
+use Rattle.capnp_footprints.proofs.lemmas.Spans.{held, held_is}
+use Rattle.capnp_footprints.proofs.lemmas.Splices.{splice_rewrites}
+use Rattle.capnp_footprints.proofs.lemmas.Writing.{changes_inside, written_word}
+use Rattle.capnp_footprints.proofs.lemmas.Zeros.{null_footprint}
 use Rattle.capnp_copy.specs.Clearing.{ClearsValue}
 use Rattle.capnp_object.specs.declared.object.Object.{Object}
 use Rattle.capnp_object.specs.declared.object.Object.TheVariants as object

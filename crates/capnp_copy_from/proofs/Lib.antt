@@ -1,17 +1,17 @@
-pub mod ByteParts
-pub mod Parts
-pub mod Leaves
-pub mod Allocated
-pub mod Linked
-pub mod Filling
-pub mod Refusals
-pub mod Following
-pub mod Rows
-pub mod Made
-pub mod Elements
-pub mod Placed
-pub mod Listed
-pub mod TakenContent
-pub mod Counting
-pub mod Taking
-pub mod SectionBytes
+pub mod lemmas
+mod ByteParts
+mod Parts
+mod Leaves
+mod Allocated
+mod Linked
+mod Refusals
+mod Following
+mod Rows
+mod Made
+mod Elements
+mod Placed
+mod Listed
+mod TakenContent
+mod Counting
+mod Taking
+mod SectionBytes

@@ -6,14 +6,14 @@ use Rattle.capnp_wire.specs.Places.{place_view}
 use Rattle.capnp_footprints.specs.Changes.{Replaces}
 use Rattle.capnp_footprints.specs.Detached.{Detached, Reaches}
 use Rattle.capnp_footprints.specs.NewObjects.{New, new_pointer, new_object, Fits, pointed, IsNear, IsNamed}
-use Rattle.capnp_footprints.proofs.Detached.{detached_near}
-use Rattle.capnp_footprints.proofs.FarPointing.{detached_far, reaches_ahead}
-use Rattle.capnp_footprints.proofs.Prepared.{starts_here, some_pointer}
+use Rattle.capnp_footprints.proofs.lemmas.Detached.{detached_near}
+use Rattle.capnp_footprints.proofs.lemmas.FarPointing.{detached_far, reaches_ahead}
+use Rattle.capnp_footprints.proofs.lemmas.Prepared.{starts_here, some_pointer}
 use Rattle.capnp_copy.specs.declared.room.Room.{Room}
 use Rattle.capnp_copy.specs.declared.room.Room.TheVariants.{Here, Near, Far}
 use Rattle.capnp_copy.specs.Rooms.{RoomFor, begin_of, linked}
-use Rattle.capnp_copy.proofs.Ends.{end_within}
-use Rattle.capnp_copy.proofs.Making.{at_offset}
+use Rattle.capnp_copy.proofs.lemmas.Ends.{end_within}
+use Rattle.capnp_copy.proofs.lemmas.Making.{at_offset}
 use Rattle.capnp_copy_from.proofs.Allocated.{pads_in}
 
 pub linked_value : (n : ℕ) (s m u : Segments) (p : Place) (k : ℕ) (room : Room) (x : New) (v : Tree) → RoomFor s m p k room → ((o : ℕ) → 0 < k → 0 < new_pointer o x) → Fits x → Detached n s u p null (pads_in room) (new_object (begin_of p room) x) v → Replaces (suc n) s (linked u p room (new_pointer 0 x)) p v

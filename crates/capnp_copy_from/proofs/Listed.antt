@@ -7,7 +7,7 @@ use Rattle.capnp_model.specs.Bytes.{words_in_bytes}
 use Rattle.capnp_model.specs.Sections.{number_of, section_of, words_for, words_of}
 use Rattle.capnp_model.specs.Segments.{Segments, Place, after, words_at}
 use Rattle.capnp_model.specs.Pointers.{a_list}
-use Rattle.capnp_model.proofs.Numbers.{number_of_lt, section_of-words_of}
+use Rattle.capnp_model.proofs.lemmas.Numbers.{number_of_lt, section_of-words_of}
 use Rattle.capnp_copy_from.specs.Copies.{Fills, Copied}
 use Rattle.capnp_copy_from.specs.Objects.{copied_words, copied_at}
 use Rattle.capnp_model.specs.Traversal.{tree_at}
@@ -15,14 +15,14 @@ use Rattle.capnp_model.specs.Visits.{visits}
 use Rattle.capnp_units.specs.declared.limiter.ReadLimiter.{ReadLimiter}
 use Rattle.capnp_object.specs.declared.object.Object.{Object}
 use Rattle.capnp_object.specs.Inside.{met_in}
-use Rattle.capnp_object.proofs.Walks.{walked_none}
-use Rattle.capnp_copy.proofs.RoomLaws.{sizes_grow}
+use Rattle.capnp_object.proofs.lemmas.Walks.{walked_none}
+use Rattle.capnp_copy.proofs.lemmas.RoomLaws.{sizes_grow}
 use Rattle.capnp_copy_from.proofs.Taking.{total_alike, takes_none}
 use Rattle.capnp_copy_from.proofs.Made.{words_fill}
 use Rattle.capnp_footprints.specs.Writes.{spliced, spliced_in, with_words}
-use Rattle.capnp_wire.proofs.Bytes.{AreBytes, number_of-drop, number_of-take}
+use Rattle.capnp_wire.proofs.lemmas.Bytes.{AreBytes, number_of-drop, number_of-take}
 use Rattle.std.proofs.Math.Pow.{mod-mod-pow}
-use Rattle.capnp_units.proofs.FirstBytes.{first_eight}
+use Rattle.capnp_units.proofs.lemmas.FirstBytes.{first_eight}
 use Rattle.capnp_units.specs.Segments.{whole_words}
 use Rattle.capnp_units.specs.Sizes.{size_number, data_bits}
 use Rattle.capnp_units.specs.declared.sizes.ElementSize.{ElementSize}
@@ -33,7 +33,7 @@ use Rattle.capnp_wire.specs.Elements.{step_bits}
 use Rattle.capnp_copy_from.specs.declared.lists.ListSource.{ListSource}
 use Rattle.capnp_copy_from.specs.Lists.{object_of_size, tree_of_size, listed_object}
 use Rattle.capnp_copy.specs.Blobs.{whole_of, last_of, front_of, with_bytes}
-use Rattle.capnp_copy.proofs.BlobNumbers.{front_words_length, front_section, all_words, number_fits}
+use Rattle.capnp_copy.proofs.lemmas.BlobNumbers.{front_words_length, front_section, all_words, number_fits}
 
 -- ---- words one behind the other
 

@@ -13,7 +13,7 @@ use Rattle.capnp_model.specs.Traversal.{tree_of, tree_at, each}
 use Rattle.capnp_model.specs.Coverage.{span, times_held, Grows, from_each}
 use Rattle.capnp_model.specs.Encoding.{struct_pointer}
 use Rattle.capnp_model.specs.Visits.{Visit}
-use Rattle.capnp_model.proofs.PointerWords.{list_kind_small}
+use Rattle.capnp_model.proofs.lemmas.PointerWords.{list_kind_small}
 use Rattle.capnp_units.specs.declared.errors.Error.{Error}
 use Rattle.capnp_units.specs.declared.limiter.ReadLimiter.{ReadLimiter}
 use Rattle.capnp_units.specs.Sizes.{data_bits}
@@ -23,19 +23,19 @@ use Rattle.capnp_footprints.specs.Footprints.{behind, object_footprint, OwnsObje
 use Rattle.capnp_footprints.specs.Changes.{Changes, ReplacesObject}
 use Rattle.capnp_footprints.specs.NewObjects.{new_structs, zero_elements, Fits}
 use Rattle.capnp_footprints.specs.Writes.{with_words, spliced}
-use Rattle.capnp_footprints.proofs.Algebra.{changes_then, changes_alike}
-use Rattle.capnp_footprints.proofs.Lift.{struct_parts, object_on, object_replaced_owned, object_replaced_then}
-use Rattle.capnp_footprints.proofs.NewKinds.{is_new}
-use Rattle.capnp_footprints.proofs.Prepared.{first_of_more, tag_in_front}
-use Rattle.capnp_footprints.proofs.Rows.{after_none}
-use Rattle.capnp_footprints.proofs.Spans.{held, grows_then}
-use Rattle.capnp_footprints.proofs.Splices.{Rewrites, splice_rewrites, splice_words, splice_grows, spliced_whole}
-use Rattle.capnp_footprints.proofs.Writing.{wider, changes_inside, plain_is, plain_tree, struct_data}
-use Rattle.capnp_footprints.proofs.Zeros.{zero_struct, zero_struct_takes}
+use Rattle.capnp_footprints.proofs.lemmas.Algebra.{changes_then, changes_alike}
+use Rattle.capnp_footprints.proofs.lemmas.Lift.{struct_parts, object_on, object_replaced_owned, object_replaced_then}
+use Rattle.capnp_footprints.proofs.lemmas.NewKinds.{is_new}
+use Rattle.capnp_footprints.proofs.lemmas.Prepared.{first_of_more, tag_in_front}
+use Rattle.capnp_footprints.proofs.lemmas.Rows.{after_none}
+use Rattle.capnp_footprints.proofs.lemmas.Spans.{held, grows_then}
+use Rattle.capnp_footprints.proofs.lemmas.Splices.{Rewrites, splice_rewrites, splice_words, splice_grows, spliced_whole}
+use Rattle.capnp_footprints.proofs.lemmas.Writing.{wider, changes_inside, plain_is, plain_tree, struct_data}
+use Rattle.capnp_footprints.proofs.lemmas.Zeros.{zero_struct, zero_struct_takes}
 use Rattle.capnp_copy_from.specs.Copies.{CopyGives, Fills, FillsStruct, LeavesStruct, FillsRow, LeavesRow, FillsElements, LeavesElements}
 use Rattle.capnp_copy.specs.Allocations.{total_words}
 use Rattle.capnp_copy_from.proofs.Taking.{takes_none, takes_both, written_total}
-use Rattle.capnp_copy_from.proofs.Filling.{fills_of, fills_replaced, held_owned}
+use Rattle.capnp_copy_from.proofs.lemmas.Filling.{fills_of, fills_replaced, held_owned}
 use Rattle.capnp_copy_from.proofs.Rows.{row_whole}
 use Rattle.capnp_copy_from.proofs.Parts.{there_is, there_length, section_is, front_there}
 

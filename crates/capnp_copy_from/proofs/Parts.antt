@@ -7,7 +7,7 @@ use Rattle.std.proofs.lemmas.List.{length-take, length-drop, drop-drop, take-tak
 use Rattle.capnp_model.specs.Sections.{section_of}
 use Rattle.capnp_model.specs.Segments.{Segments, Place, after, words_at}
 use Rattle.capnp_object.specs.Inside.{section_in, section_at, words_there}
-use Rattle.capnp_object.proofs.Tags.{words_from, words_are}
+use Rattle.capnp_object.proofs.lemmas.Tags.{words_from, words_are}
 
 pub there_of : (s : Segments) (p : Place) (n : ℕ) (ws : List ℕ) → words_at s p n ≡ Some ws → words_there s p n ≡ ws
 unfolding words_there

@@ -20,23 +20,23 @@ use Rattle.capnp_object.specs.Objects.{IsInside}
 use Rattle.capnp_object.specs.Follow.{own_cost, Pays}
 use Rattle.capnp_object.specs.Inside.{tree_in, met_in}
 use Rattle.capnp_object.specs.Walks.{Walked, Stopped}
-use Rattle.capnp_object.proofs.Walks.{walked_none, walked_both}
+use Rattle.capnp_object.proofs.lemmas.Walks.{walked_none, walked_both}
 use Rattle.capnp_footprints.specs.Footprints.{object_footprint, Owns}
 use Rattle.capnp_footprints.specs.Changes.{Replaces}
 use Rattle.capnp_footprints.specs.Detached.{Detached}
 use Rattle.capnp_footprints.specs.NewObjects.{New, new_struct, new_list, new_pointers, new_structs, new_pointer, new_object, Fits}
-use Rattle.capnp_footprints.proofs.Algebra.{changes_nothing, changes_alike}
-use Rattle.capnp_footprints.proofs.Detached.{detached_owns, detached_value}
-use Rattle.capnp_footprints.proofs.Spans.{held_is, grows_same, grows_then}
-use Rattle.capnp_footprints.proofs.Splices.{splice_grows}
-use Rattle.capnp_footprints.proofs.Zeros.{held_none}
+use Rattle.capnp_footprints.proofs.lemmas.Algebra.{changes_nothing, changes_alike}
+use Rattle.capnp_footprints.proofs.lemmas.Detached.{detached_owns, detached_value}
+use Rattle.capnp_footprints.proofs.lemmas.Spans.{held_is, grows_same, grows_then}
+use Rattle.capnp_footprints.proofs.lemmas.Splices.{splice_grows}
+use Rattle.capnp_footprints.proofs.lemmas.Zeros.{held_none}
 use Rattle.capnp_wire.specs.Places.{place_view}
 use Rattle.capnp_copy.specs.Allocations.{total_words}
 use Rattle.capnp_copy.specs.Clearing.{ClearsValue, ClearsObject}
 use Rattle.capnp_copy.specs.declared.room.Room.{Room}
 use Rattle.capnp_copy.specs.declared.room.Room.TheVariants.{Here, Near, Far}
 use Rattle.capnp_copy.specs.Rooms.{RoomFor, begin_of, slot_word, with_pad, linked}
-use Rattle.capnp_copy.proofs.RoomLaws.{sizes_grow, room_grows}
+use Rattle.capnp_copy.proofs.lemmas.RoomLaws.{sizes_grow, room_grows}
 use Rattle.capnp_copy_from.specs.Objects.{copied_words, copied_at, copied_pointer, IsTooLarge, IsSpelled, is_leaf}
 use Rattle.capnp_copy_from.specs.Copies.{BecomesCopy, GrowsByZeros, Copied, Refused, Unplaced, CopyGives, Fills, ObjectCopied, HasNoPlace, ObjectRefused, ObjectGives}
 use Rattle.capnp_units.specs.declared.sizes.ElementSize.{ElementSize}
@@ -44,7 +44,7 @@ use Rattle.capnp_units.specs.declared.sizes.ElementSize.TheVariants.{Void, Bit, 
 use Rattle.capnp_copy_from.specs.declared.lists.ListSource.{ListSource}
 use Rattle.capnp_copy_from.specs.Lists.{object_of_size}
 use Rattle.capnp_copy_from.proofs.Allocated.{pads_in, allocated, room_new}
-use Rattle.capnp_copy_from.proofs.Filling.{filled_detached, given_up}
+use Rattle.capnp_copy_from.proofs.lemmas.Filling.{filled_detached, given_up}
 use Rattle.capnp_copy_from.proofs.Following.{paid_walk}
 use Rattle.capnp_copy_from.proofs.Linked.{linked_value}
 use Rattle.capnp_copy_from.proofs.Refusals.{why_later}

@@ -9,7 +9,7 @@ use Rattle.capnp_units.specs.declared.kinds.ErrorKind.TheVariants.{SizeOverflow}
 use Rattle.capnp_units.specs.declared.limiter.ReadLimiter.{ReadLimiter}
 use Rattle.capnp_object.specs.Follow.{found_cost}
 use Rattle.capnp_object.specs.Walks.{Walked, Stopped}
-use Rattle.capnp_object.proofs.Walks.{walked_both, stopped_later}
+use Rattle.capnp_object.proofs.lemmas.Walks.{walked_both, stopped_later}
 use Rattle.capnp_copy.specs.Allocations.{total_words}
 use Rattle.capnp_copy_from.specs.Objects.{IsTooLarge}
 use Rattle.capnp_copy_from.specs.Copies.{Unplaced, Refused, CopyGives}

@@ -11,19 +11,19 @@ use Rattle.capnp_model.specs.Visits.{Visit, visits}
 use Rattle.capnp_units.specs.declared.errors.Error.{Error}
 use Rattle.capnp_units.specs.declared.limiter.ReadLimiter.{ReadLimiter}
 use Rattle.capnp_object.specs.Walks.{Walked}
-use Rattle.capnp_model.proofs.Chaining.{bind_some, some_is}
-use Rattle.capnp_object.proofs.Rows.{each_next, met_next, row_start, row_end}
-use Rattle.capnp_object.proofs.Walks.{walked_none, walked_both}
+use Rattle.capnp_model.proofs.lemmas.Chaining.{bind_some, some_is}
+use Rattle.capnp_object.proofs.lemmas.Rows.{each_next, met_next, row_start, row_end}
+use Rattle.capnp_object.proofs.lemmas.Walks.{walked_none, walked_both}
 use Rattle.capnp_footprints.specs.Children.{with_first}
 use Rattle.capnp_footprints.specs.Footprints.{OwnsObject}
 use Rattle.capnp_footprints.specs.Changes.{Replaces, ReplacesObject}
-use Rattle.capnp_footprints.proofs.Algebra.{changes_nothing}
-use Rattle.capnp_footprints.proofs.Lift.{struct_parts, child_of_struct, struct_of_child, object_replaced_owned, object_replaced_then}
-use Rattle.capnp_footprints.proofs.Spans.{grows_same, grows_then}
-use Rattle.capnp_footprints.proofs.Rows.{after_none, after_sum}
-use Rattle.capnp_footprints.proofs.Turns.{struct_here, struct_next, struct_done, each_counted}
+use Rattle.capnp_footprints.proofs.lemmas.Algebra.{changes_nothing}
+use Rattle.capnp_footprints.proofs.lemmas.Lift.{struct_parts, child_of_struct, struct_of_child, object_replaced_owned, object_replaced_then}
+use Rattle.capnp_footprints.proofs.lemmas.Spans.{grows_same, grows_then}
+use Rattle.capnp_footprints.proofs.lemmas.Rows.{after_none, after_sum}
+use Rattle.capnp_footprints.proofs.lemmas.Turns.{struct_here, struct_next, struct_done, each_counted}
 use Rattle.capnp_copy_from.specs.Copies.{TakesFew, BecomesCopy, GrowsByZeros, Copied, Refused, FillsRow, LeavesRow}
-use Rattle.capnp_copy_from.proofs.Filling.{value_stands}
+use Rattle.capnp_copy_from.proofs.lemmas.Filling.{value_stands}
 use Rattle.capnp_copy_from.proofs.Refusals.{why_later}
 use Rattle.capnp_copy_from.proofs.Taking.{takes_none, takes_both}
 

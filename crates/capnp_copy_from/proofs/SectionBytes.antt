@@ -13,20 +13,20 @@ use Rattle.capnp_model.specs.Coverage.{Grows}
 use Rattle.capnp_model.specs.Visits.{Visit}
 use Rattle.capnp_units.specs.declared.errors.Error.{Error}
 use Rattle.capnp_units.specs.declared.limiter.ReadLimiter.{ReadLimiter}
-use Rattle.capnp_wire.proofs.Bytes.{AreBytes}
+use Rattle.capnp_wire.proofs.lemmas.Bytes.{AreBytes}
 use Rattle.capnp_footprints.specs.Footprints.{OwnsObject}
 use Rattle.capnp_footprints.specs.Changes.{ReplacesObject}
 use Rattle.capnp_footprints.specs.Writes.{spliced, with_words}
-use Rattle.capnp_footprints.proofs.Rows.{after_none}
-use Rattle.capnp_footprints.proofs.Kept.{words_length}
-use Rattle.capnp_footprints.proofs.Lift.{object_replaced_owned, object_replaced_then}
-use Rattle.capnp_footprints.proofs.Spans.{grows_then}
-use Rattle.capnp_footprints.proofs.Splices.{splice_words, splice_grows, spliced_whole}
-use Rattle.capnp_footprints.proofs.Writing.{struct_words}
+use Rattle.capnp_footprints.proofs.lemmas.Rows.{after_none}
+use Rattle.capnp_footprints.proofs.lemmas.Kept.{words_length}
+use Rattle.capnp_footprints.proofs.lemmas.Lift.{object_replaced_owned, object_replaced_then}
+use Rattle.capnp_footprints.proofs.lemmas.Spans.{grows_then}
+use Rattle.capnp_footprints.proofs.lemmas.Splices.{splice_words, splice_grows, spliced_whole}
+use Rattle.capnp_footprints.proofs.lemmas.Writing.{struct_words}
 use Rattle.capnp_copy.specs.Allocations.{total_words}
 use Rattle.capnp_copy.specs.Blobs.{whole_of, last_of, front_of, with_bytes}
-use Rattle.capnp_copy.proofs.RoomLaws.{some_of}
-use Rattle.capnp_copy.proofs.BlobNumbers.{front_words_length, front_section, all_words, number_fits, filled}
+use Rattle.capnp_copy.proofs.lemmas.RoomLaws.{some_of}
+use Rattle.capnp_copy.proofs.lemmas.BlobNumbers.{front_words_length, front_section, all_words, number_fits, filled}
 use Rattle.capnp_copy_from.specs.Copies.{CopyGives, Fills, FillsRow, LeavesRow}
 use Rattle.capnp_copy_from.proofs.Made.{struct_fills, section_copied}
 use Rattle.capnp_copy_from.proofs.Parts as parts

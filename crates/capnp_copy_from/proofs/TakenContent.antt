@@ -11,30 +11,30 @@ use Rattle.capnp_model.specs.Trees.{null, structure, Trees, none, ◌▸◌, tre
 use Rattle.capnp_model.specs.Traversal.{tree_at, each}
 use Rattle.capnp_model.specs.Coverage.{from_each}
 use Rattle.capnp_model.specs.Visits.{visits}
-use Rattle.capnp_model.proofs.SectionElements.{section_of-zeros}
+use Rattle.capnp_model.proofs.lemmas.SectionElements.{section_of-zeros}
 use Rattle.capnp_units.specs.declared.errors.Error.{Error}
 use Rattle.capnp_units.specs.declared.limiter.ReadLimiter.{ReadLimiter}
 use Rattle.capnp_wire.specs.Places.{place_view}
-use Rattle.capnp_wire.proofs.Bytes.{AreBytes, number_of-take}
+use Rattle.capnp_wire.proofs.lemmas.Bytes.{AreBytes, number_of-take}
 use Rattle.capnp_footprints.specs.Children.{with_first}
 use Rattle.capnp_footprints.specs.Footprints.{OwnsObject, object_footprint}
 use Rattle.capnp_footprints.specs.Changes.{Replaces, ReplacesObject}
 use Rattle.capnp_footprints.specs.Writes.{spliced, with_words}
-use Rattle.capnp_footprints.proofs.Algebra.{changes_nothing}
-use Rattle.capnp_footprints.proofs.Kept.{words_length}
-use Rattle.capnp_footprints.proofs.Lift.{object_replaced_owned, object_replaced_then}
-use Rattle.capnp_footprints.proofs.Rows.{after_none}
-use Rattle.capnp_footprints.proofs.Spans.{grows_then}
-use Rattle.capnp_footprints.proofs.Splices.{splice_words, spliced_whole}
-use Rattle.capnp_footprints.proofs.Turns.{struct_counted, struct_here, struct_next, struct_done}
-use Rattle.capnp_footprints.proofs.Writing.{struct_words}
+use Rattle.capnp_footprints.proofs.lemmas.Algebra.{changes_nothing}
+use Rattle.capnp_footprints.proofs.lemmas.Kept.{words_length}
+use Rattle.capnp_footprints.proofs.lemmas.Lift.{object_replaced_owned, object_replaced_then}
+use Rattle.capnp_footprints.proofs.lemmas.Rows.{after_none}
+use Rattle.capnp_footprints.proofs.lemmas.Spans.{grows_then}
+use Rattle.capnp_footprints.proofs.lemmas.Splices.{splice_words, spliced_whole}
+use Rattle.capnp_footprints.proofs.lemmas.Turns.{struct_counted, struct_here, struct_next, struct_done}
+use Rattle.capnp_footprints.proofs.lemmas.Writing.{struct_words}
 use Rattle.capnp_copy.specs.Blobs.{whole_of, last_of, front_of, with_bytes}
 use Rattle.capnp_copy.specs.Clearing.{ClearsValue}
 use Rattle.capnp_copy.specs.Structs.{struct_at}
 use Rattle.capnp_copy.specs.declared.fields.StructPlace.{StructPlace}
-use Rattle.capnp_copy.proofs.BlobNumbers.{front_words_length, front_section, all_words, number_fits}
-use Rattle.capnp_copy.proofs.RoomLaws.{some_of, sizes_grow}
-use Rattle.capnp_copy.proofs.ZeroedWords.{written_sizes}
+use Rattle.capnp_copy.proofs.lemmas.BlobNumbers.{front_words_length, front_section, all_words, number_fits}
+use Rattle.capnp_copy.proofs.lemmas.RoomLaws.{some_of, sizes_grow}
+use Rattle.capnp_copy.proofs.lemmas.ZeroedWords.{written_sizes}
 use Rattle.capnp_object.specs.Walks.{Stopped}
 use Rattle.capnp_copy_from.specs.Copies.{Copied, Refused, Unplaced, FillsRow, LeavesRow, StructSource}
 use Rattle.capnp_copy_from.specs.Contents.{fitting, TakesContent, TakesPart, ClearsRest, SetsSection}

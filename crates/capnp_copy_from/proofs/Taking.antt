@@ -5,18 +5,18 @@ use Rattle.capnp_model.specs.Sections.{words_for}
 use Rattle.capnp_model.specs.Segments.{Segments, Place}
 use Rattle.capnp_units.specs.declared.limiter.ReadLimiter.{ReadLimiter}
 use Rattle.capnp_units.specs.Sizes.{size_number, data_bits}
-use Rattle.capnp_units.proofs.Spending.{spends_nothing, spends_both}
+use Rattle.capnp_units.proofs.lemmas.Spending.{spends_nothing, spends_both}
 use Rattle.capnp_object.specs.declared.object.Object.{Object}
 use Rattle.capnp_object.specs.declared.object.Object.TheVariants as object
 use Rattle.capnp_object.specs.Objects.{IsInside}
 use Rattle.capnp_object.specs.Follow.{own_cost, Pays}
 use Rattle.capnp_footprints.specs.Writes.{with_words, with_zeros}
-use Rattle.capnp_footprints.proofs.Pointing.{not_zero}
+use Rattle.capnp_footprints.proofs.lemmas.Pointing.{not_zero}
 use Rattle.capnp_copy.specs.Allocations.{total_words}
 use Rattle.capnp_copy.specs.declared.room.Room.{Room}
 use Rattle.capnp_copy.specs.declared.room.Room.TheVariants.{Here, Near, Far}
 use Rattle.capnp_copy.specs.Rooms.{RoomFor}
-use Rattle.capnp_copy.proofs.ZeroedWords.{written_sizes}
+use Rattle.capnp_copy.proofs.lemmas.ZeroedWords.{written_sizes}
 use Rattle.capnp_copy_from.specs.Objects.{copied_words}
 use Rattle.capnp_copy_from.specs.Copies.{TakesFew, TakesObject}
 

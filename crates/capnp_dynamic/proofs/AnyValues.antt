@@ -28,7 +28,7 @@ use Rattle.capnp_dynamic.specs.Puts.{PutsContent}
 use Rattle.capnp_dynamic.specs.Sources.{SourceView, source_given, Stands}
 use Rattle.capnp_dynamic.specs.Begun.{is_untyped}
 use Rattle.capnp_dynamic.specs.Values.{Given, made, copied, fields, is_capability, struct_given, group_refusal, sets_no_group, Leaves, made_behind, given, value_given, IsPointerBody, IsPointerSlot, entry_edit, content_edit, PutsGiven}
-use Rattle.capnp_dynamic.proofs.SetPointers.{marked_last}
+use Rattle.capnp_dynamic.proofs.lemmas.SetPointers.{marked_last}
 
 -- ---- a copy behind a pointer
 

@@ -16,7 +16,7 @@ use Rattle.capnp_queries.specs.declared.fields.Field.{Field}
 use Rattle.capnp_queries.specs.declared.structs.StructSchema.{StructSchema}
 use Rattle.capnp_copy.specs.declared.fields.StructPlace.{StructPlace}
 use Rattle.capnp_copy.specs.declared.room.Room.TheVariants.{Here}
-use Rattle.capnp_copy.proofs.Taken.{room_takes, room_bounds, takes_so, bounds_so}
+use Rattle.capnp_copy.proofs.lemmas.Taken.{room_takes, room_bounds, takes_so, bounds_so}
 use Rattle.capnp_builders.specs.Making.{ArenaState}
 use Rattle.capnp_dynamic.specs.Calls.{edit_of}
 use Rattle.capnp_dynamic.specs.Edits.{Edits, IsWide}
@@ -24,10 +24,10 @@ use Rattle.capnp_dynamic.specs.Begun.{begun_body, begun_field, is_untyped, Tells
 use Rattle.capnp_dynamic.specs.Inits.{struct_content, init_content, LiesBehind, LiesIn}
 use Rattle.capnp_dynamic.specs.Puts.{PutsObject, PutsContent}
 use Rattle.capnp_dynamic.specs.declared.init.Part.{Part}
-use Rattle.capnp_dynamic.proofs.Deeper.{edits_deepen}
-use Rattle.capnp_dynamic.proofs.GroupFields.{body_is}
+use Rattle.capnp_dynamic.proofs.lemmas.Deeper.{edits_deepen}
+use Rattle.capnp_dynamic.proofs.lemmas.GroupFields.{body_is}
 use Rattle.capnp_dynamic.proofs.Verbs.{edit_is}
-use Rattle.capnp_dynamic.proofs.Writes.{edits_same}
+use Rattle.capnp_dynamic.proofs.lemmas.Writes.{edits_same}
 
 -- nothing is put, and nothing taken
 puts_null : (old new : ArenaState) (p : StructPlace) (f : Cell → Cell) → Edits (words_in old.segments) (words_in new.segments) p f → map length (words_in new.segments) ≡ map length (words_in old.segments) → PutsObject old new p f (object_words null)

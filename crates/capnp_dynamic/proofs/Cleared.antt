@@ -13,8 +13,8 @@ use Rattle.capnp_queries.specs.declared.fields.Field.{Field}
 use Rattle.capnp_copy.specs.declared.fields.StructPlace.{StructPlace}
 use Rattle.capnp_dynamic.specs.Edits.{Edits, marked, marked_in}
 use Rattle.capnp_dynamic.specs.Calls.{edit_of, edit_entry}
-use Rattle.capnp_dynamic.proofs.Writes.{edits_then, edits_same}
-use Rattle.capnp_dynamic.proofs.GroupFields.{body_is}
+use Rattle.capnp_dynamic.proofs.lemmas.Writes.{edits_then, edits_same}
+use Rattle.capnp_dynamic.proofs.lemmas.GroupFields.{body_is}
 
 -- what the verb puts is what a cleared group's fields get
 cleared_is : (s : Schema) (b : Body) (c : Cell) → cleared_body b c ≡ put_field s clear b c

@@ -21,11 +21,11 @@ use Rattle.capnp_queries.specs.declared.fields.Field.{Field}
 use Rattle.capnp_dynamic.specs.Calls.{edit_entry, edit_of}
 use Rattle.capnp_dynamic.specs.Edits.{Edits, marked, marked_in}
 use Rattle.capnp_dynamic.specs.GroupSets.{EditsAny, PutsAny, WritesAsFar, entry_turn, entry_writes, writes_if, turn_writes, copied_field, copied_turn, copied_fields, copied_group}
-use Rattle.capnp_dynamic.proofs.Writes.{edits_then}
-use Rattle.capnp_dynamic.proofs.Deeper.{mark_last}
-use Rattle.capnp_dynamic.proofs.GroupFields.{body_is}
-use Rattle.capnp_dynamic.proofs.AnyEdits.{any_of, any_same, any_child, any_then, far_none, far_same, far_then, far_more}
-use Rattle.capnp_dynamic.proofs.FieldWrites.{front_writes, front_none, front_next, front_all, front_rest, void_writes, plain_writes, group_written, some_written, null_written, member_written}
+use Rattle.capnp_dynamic.proofs.lemmas.Writes.{edits_then}
+use Rattle.capnp_dynamic.proofs.lemmas.Deeper.{mark_last}
+use Rattle.capnp_dynamic.proofs.lemmas.GroupFields.{body_is}
+use Rattle.capnp_dynamic.proofs.lemmas.AnyEdits.{any_of, any_same, any_child, any_then, far_none, far_same, far_then, far_more}
+use Rattle.capnp_dynamic.proofs.lemmas.FieldWrites.{front_writes, front_none, front_next, front_all, front_rest, void_writes, plain_writes, group_written, some_written, null_written, member_written}
 
 module _ (f : Field) (r : FieldNode) (is : IsFieldRecord f.parent f.index r) (b : Body) (same : option_map (λ e. e.body) (entry_of f) ≡ Some b) (from : Cell) where
   abbrev around : Schema

@@ -5,22 +5,22 @@ use Rattle.capnp_model.specs.Pointers.{Found}
 use Rattle.capnp_model.specs.Trees.{Tree, structure, with_child}
 use Rattle.capnp_model.specs.Coverage.{span, pads_at, times_held}
 use Rattle.capnp_model.specs.Edits.{put_child}
-use Rattle.capnp_model.proofs.Locality.{found_kept}
+use Rattle.capnp_model.proofs.lemmas.Locality.{found_kept}
 use Rattle.capnp_wire.specs.Places.{place_view}
 use Rattle.capnp_footprints.specs.Writes.{with_words}
-use Rattle.capnp_footprints.proofs.Algebra.{changes_nothing, beside_kept}
-use Rattle.capnp_footprints.proofs.Lift.{struct_is, slot_is, object_replaced_owned}
-use Rattle.capnp_footprints.proofs.Rows.{child_le}
-use Rattle.capnp_footprints.proofs.Spans.{held_is}
-use Rattle.capnp_footprints.proofs.Splices.{Rewrites, splice_rewrites}
-use Rattle.capnp_footprints.proofs.Writing.{changes_inside, wider}
+use Rattle.capnp_footprints.proofs.lemmas.Algebra.{changes_nothing, beside_kept}
+use Rattle.capnp_footprints.proofs.lemmas.Lift.{struct_is, slot_is, object_replaced_owned}
+use Rattle.capnp_footprints.proofs.lemmas.Rows.{child_le}
+use Rattle.capnp_footprints.proofs.lemmas.Spans.{held_is}
+use Rattle.capnp_footprints.proofs.lemmas.Splices.{Rewrites, splice_rewrites}
+use Rattle.capnp_footprints.proofs.lemmas.Writing.{changes_inside, wider}
 use Rattle.capnp_copy.specs.Structs.{struct_at, WritesWord}
 use Rattle.capnp_copy.specs.Values.{LeadsTo}
 use Rattle.capnp_copy.specs.declared.fields.StructPlace.{StructPlace}
 use Rattle.capnp_dynamic.specs.Edits.{WritesData}
 use Rattle.capnp_dynamic.specs.Inits.{LeadsFrom}
 use Rattle.capnp_dynamic.specs.Puts.{Deepens}
-use Rattle.capnp_dynamic.proofs.Deeper.{object_owned_more}
+use Rattle.capnp_dynamic.proofs.lemmas.Deeper.{object_owned_more}
 
 pub data_same : (s : Segments) (p : StructPlace) → WritesData s s p
 data_same s p = changes_nothing s (times_held (span (place_view p.start) p.data_words ∷ []))

@@ -10,8 +10,8 @@ use Rattle.capnp_model.specs.Calls.{refused_by, object, initn_content}
 use Rattle.capnp_model.specs.Groups.{empty_tree}
 use Rattle.capnp_units.specs.Segments.{words_in}
 use Rattle.capnp_units.specs.declared.errors.Error.{Error}
-use Rattle.capnp_footprints.proofs.Algebra.{changes_nothing}
-use Rattle.capnp_footprints.proofs.Spans.{grows_same}
+use Rattle.capnp_footprints.proofs.lemmas.Algebra.{changes_nothing}
+use Rattle.capnp_footprints.proofs.lemmas.Spans.{grows_same}
 use Rattle.capnp_wire.specs.Places.{place_view}
 use Rattle.capnp_builders.specs.Making.{ArenaState, Makes, BytesNotSet}
 use Rattle.capnp_object.specs.declared.place.Place as code
@@ -23,9 +23,9 @@ use Rattle.capnp_dynamic.specs.NewLists.{tree_of_new, content_of_list, ObjectNot
 use Rattle.capnp_dynamic.specs.declared.initn.NewList.{NewList}
 use Rattle.capnp_dynamic.specs.Sources.{Stands}
 use Rattle.capnp_dynamic.specs.GroupSets.{PutsAny, is_struct_list}
-use Rattle.capnp_dynamic.proofs.Sources.{words_stand}
-use Rattle.capnp_dynamic.proofs.Grown.{same_grows}
-use Rattle.capnp_dynamic.proofs.AnyEdits.{puts_becomes}
+use Rattle.capnp_dynamic.proofs.lemmas.Sources.{words_stand}
+use Rattle.capnp_dynamic.proofs.lemmas.Grown.{same_grows}
+use Rattle.capnp_dynamic.proofs.lemmas.AnyEdits.{puts_becomes}
 
 pub struct_list_empty : (s : Schema) (ty : Ty) → is_struct_list ty ≡ true → struct_list 0 0 no_elements ≡ empty_tree s ty
 struct_list_empty s void h = absurd (cc h)

@@ -21,7 +21,7 @@ use Rattle.capnp_queries.specs.declared.structs.StructSchema.{StructSchema}
 use Rattle.capnp_queries.specs.declared.fields.Field.{Field}
 use Rattle.capnp_values.specs.Shown.{opened, default_opened, slot_opened, slot_shown, kind_shown, ShowsField}
 use Rattle.capnp_dynamic.specs.GroupRefusals.{CopyRefused, ChildRefused, SomeRefused, NullBodyRefused, NullEntryRefused, PointerRefused, FieldsRefused, BodyRefused, EntryRefused, FieldRefused}
-use Rattle.capnp_dynamic.proofs.GroupFields.{body_is}
+use Rattle.capnp_dynamic.proofs.lemmas.GroupFields.{body_is}
 
 -- ---- copies
 

@@ -8,13 +8,13 @@ use Rattle.capnp_model.specs.Segments.{Segments, Place, after}
 use Rattle.capnp_model.specs.Trees.{Tree, null, child}
 use Rattle.capnp_footprints.specs.Footprints.{Owns}
 use Rattle.capnp_footprints.specs.Changes.{Replaces}
-use Rattle.capnp_footprints.proofs.Lift.{child_of_struct, struct_of_child}
+use Rattle.capnp_footprints.proofs.lemmas.Lift.{child_of_struct, struct_of_child}
 use Rattle.capnp_wire.specs.Places.{place_view}
 use Rattle.capnp_copy.specs.Structs.{SetsBits}
 use Rattle.capnp_copy.specs.Clearing.{ClearsValue}
 use Rattle.capnp_copy.specs.declared.fields.StructPlace.{StructPlace}
 use Rattle.capnp_dynamic.specs.Edits.{Edits, cleared_entry}
-use Rattle.capnp_dynamic.proofs.Writes.{edits_none, edits_alike}
+use Rattle.capnp_dynamic.proofs.lemmas.Writes.{edits_none, edits_alike}
 
 -- ---- how deep groups are nested
 

@@ -12,7 +12,7 @@ use Rattle.capnp_units.specs.declared.errors.Error.{Error}
 use Rattle.capnp_units.specs.declared.kinds.ErrorKind.TheVariants.{SizeOverflow}
 use Rattle.capnp_wire.specs.Places.{place_view}
 use Rattle.capnp_object.specs.declared.place.Place as code
-use Rattle.capnp_footprints.proofs.Turns.{resized_count}
+use Rattle.capnp_footprints.proofs.lemmas.Turns.{resized_count}
 use Rattle.capnp_queries.specs.Structs.{schema_around, id_of}
 use Rattle.capnp_queries.specs.Handles.{entry_of, IsFieldRecord}
 use Rattle.capnp_queries.specs.declared.structs.StructSchema.{StructSchema}
@@ -25,7 +25,7 @@ use Rattle.capnp_dynamic.specs.Edits.{Edits, marked}
 use Rattle.capnp_dynamic.specs.Inside.{words_of_shape, pointers_of_shape}
 use Rattle.capnp_dynamic.specs.Inits.{struct_named, no_struct, struct_content, init_content, LeadsFrom, LiesBehind, LiesIn, StructNotMade}
 use Rattle.capnp_dynamic.specs.Puts.{PutsContent, ObjectRefused}
-use Rattle.capnp_dynamic.proofs.GroupFields.{body_is}
+use Rattle.capnp_dynamic.proofs.lemmas.GroupFields.{body_is}
 use Rattle.capnp_dynamic.proofs.Verbs.{child_put as put_child_there, child_refused}
 
 -- ---- the struct of a shape

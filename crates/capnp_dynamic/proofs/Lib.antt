@@ -1,27 +1,16 @@
-pub mod Ready
-pub mod Writes
-pub mod Deeper
-pub mod Grown
-pub mod DataWords
-pub mod Bytes
-pub mod Marks
-pub mod Groups
-pub mod GroupFields
-pub mod Cleared
-pub mod SetSlots
-pub mod SetPointers
-pub mod Verbs
-pub mod InitSlots
-pub mod NewLists
-pub mod Begun
-pub mod Sources
-pub mod AnyValues
-pub mod AnyEdits
-pub mod FieldWrites
-pub mod CopiedFields
-pub mod SourceReadings
-pub mod EmptyValues
-pub mod NullMembers
-pub mod FieldRefusals
-pub mod NullRefusals
+pub mod lemmas
+mod DataWords
+mod Marks
+mod Groups
+mod Cleared
+mod Verbs
+mod InitSlots
+mod NewLists
+mod Begun
+mod AnyValues
+mod CopiedFields
+mod SourceReadings
+mod EmptyValues
+mod FieldRefusals
+mod NullRefusals
 mod GroupExamples

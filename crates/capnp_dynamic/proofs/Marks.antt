@@ -11,7 +11,7 @@ use Rattle.capnp_queries.specs.declared.structs.StructSchema.{StructSchema}
 use Rattle.capnp_queries.specs.declared.fields.Field.{Field}
 use Rattle.capnp_copy.specs.declared.fields.StructPlace.{StructPlace}
 use Rattle.capnp_dynamic.specs.Edits.{Edits, marked, marked_in}
-use Rattle.capnp_dynamic.proofs.Writes.{edits_none, edits_alike}
+use Rattle.capnp_dynamic.proofs.lemmas.Writes.{edits_none, edits_alike}
 
 pub member_there : (d : ℕ) → (d ≡ 65535 → ⊥) → member_of d ≡ Some d
 member_there d h = by (d == 65535) refl

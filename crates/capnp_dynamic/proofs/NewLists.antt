@@ -12,8 +12,8 @@ use Rattle.capnp_units.specs.Segments.{words_in}
 use Rattle.capnp_units.specs.declared.errors.Error.{Error}
 use Rattle.capnp_units.specs.declared.kinds.ErrorKind.TheVariants.{SizeOverflow}
 use Rattle.capnp_footprints.specs.NewObjects.{new_tree, new_list, new_pointers, zero_elements}
-use Rattle.capnp_footprints.proofs.MovedElements.{zero_count}
-use Rattle.capnp_footprints.proofs.Turns.{resized_count}
+use Rattle.capnp_footprints.proofs.lemmas.MovedElements.{zero_count}
+use Rattle.capnp_footprints.proofs.lemmas.Turns.{resized_count}
 use Rattle.capnp_queries.specs.Structs.{schema_around}
 use Rattle.capnp_queries.specs.Handles.{entry_of, IsFieldRecord}
 use Rattle.capnp_queries.specs.declared.fields.Field.{Field}
@@ -27,7 +27,7 @@ use Rattle.capnp_builders.specs.Making.{ArenaState, Makes, ListRefused}
 use Rattle.capnp_dynamic.specs.Calls.{edit_of}
 use Rattle.capnp_dynamic.specs.NewLists.{initn_field}
 use Rattle.capnp_dynamic.specs.Puts.{PutsContent, IsTooLong, ObjectRefused}
-use Rattle.capnp_dynamic.proofs.GroupFields.{body_is}
+use Rattle.capnp_dynamic.proofs.lemmas.GroupFields.{body_is}
 use Rattle.capnp_dynamic.proofs.InitSlots.{no_words}
 
 -- ---- their words

@@ -12,7 +12,7 @@ use Rattle.capnp_model.specs.Sizes.{object_words}
 use Rattle.capnp_model.specs.Traversal.{tree_at}
 use Rattle.capnp_model.specs.Trees.{Tree, null, capability, structure, plain_list, pointer_list, struct_list}
 use Rattle.capnp_model.specs.Visits.{Visit, visits, visits_cost}
-use Rattle.capnp_model.proofs.Chaining.{bind_some}
+use Rattle.capnp_model.proofs.lemmas.Chaining.{bind_some}
 use Rattle.capnp_units.specs.Errors.{kind_of}
 use Rattle.capnp_units.specs.Limits.{left_of}
 use Rattle.capnp_units.specs.Segments.{words_in}
@@ -32,7 +32,7 @@ use Rattle.capnp_queries.specs.declared.fields.Field.{Field}
 use Rattle.capnp_dynamic.specs.NewLists.{ObjectNotMade}
 use Rattle.capnp_dynamic.specs.GroupRefusals.{type_tested, CopyRefused, CopyUnplaced, NotPut, ValueUnplaced, NullRefused, NullBodyRefused, NullEntryRefused, NullFieldRefused}
 use Rattle.capnp_dynamic.specs.GroupSets.{PutsValue}
-use Rattle.capnp_dynamic.proofs.GroupFields.{body_is}
+use Rattle.capnp_dynamic.proofs.lemmas.GroupFields.{body_is}
 use Rattle.capnp_dynamic.proofs.EmptyValues.{made_puts, list_stands}
 
 -- ---- copies of values that can be read

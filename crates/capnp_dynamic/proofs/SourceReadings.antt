@@ -10,13 +10,13 @@ use Rattle.capnp_model.specs.Trees.{Tree, null, child}
 use Rattle.capnp_model.specs.Traversal.{tree_at}
 use Rattle.capnp_model.specs.Readings.{field_bits, just_bits, whole_words, discriminant, is_active}
 use Rattle.capnp_model.specs.Edits.{Cell, has_turn}
-use Rattle.capnp_model.proofs.Chaining.{some_is}
-use Rattle.capnp_model.proofs.Numbers.{number_of_lt, wider}
+use Rattle.capnp_model.proofs.lemmas.Chaining.{some_is}
+use Rattle.capnp_model.proofs.lemmas.Numbers.{number_of_lt, wider}
 use Rattle.capnp_units.specs.declared.errors.Error.{Error}
 use Rattle.capnp_units.specs.declared.limiter.ReadLimiter.{ReadLimiter}
-use Rattle.capnp_footprints.proofs.Levels.{owned_more}
-use Rattle.capnp_footprints.proofs.Zeros.{null_read}
-use Rattle.capnp_footprints.proofs.Nulls.{null_word}
+use Rattle.capnp_footprints.proofs.lemmas.Levels.{owned_more}
+use Rattle.capnp_footprints.proofs.lemmas.Zeros.{null_read}
+use Rattle.capnp_footprints.proofs.lemmas.Nulls.{null_word}
 use Rattle.capnp_wire.specs.Views.{StructView, pointer_field}
 use Rattle.capnp_wire.specs.Reads.{is_null_at, is_null}
 use Rattle.capnp_wire.specs.Laws.{reads_behind}

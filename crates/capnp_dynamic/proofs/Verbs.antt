@@ -20,8 +20,8 @@ use Rattle.capnp_builders.specs.Making.{ArenaState, Makes}
 use Rattle.capnp_dynamic.specs.Calls.{edit_of, edit_entry}
 use Rattle.capnp_dynamic.specs.Edits.{Edits, marked, marked_in}
 use Rattle.capnp_dynamic.specs.Puts.{PutsContent, ObjectRefused}
-use Rattle.capnp_dynamic.proofs.GroupFields.{body_is}
-use Rattle.capnp_dynamic.proofs.SetPointers.{object_made, written_after, puts_same, marked_last}
+use Rattle.capnp_dynamic.proofs.lemmas.GroupFields.{body_is}
+use Rattle.capnp_dynamic.proofs.lemmas.SetPointers.{object_made, written_after, puts_same, marked_last}
 
 last_step : (s : Schema) (verb : Verb) (union : Option ℕ) (e : Entry) (c : Cell) → put_field s verb e.body (mark union e.member c) ≡ edit_field s [] verb union e.member e.body c
 unfolding edit_field

@@ -7,8 +7,8 @@ use Rattle.capnp_model.specs.Sections.{words_for}
 use Rattle.capnp_model.specs.Segments.{Segments, Place, after, word_at}
 use Rattle.capnp_model.specs.Pointers.{nothing}
 use Rattle.capnp_model.specs.Schemas.{Shape, Schema, struct, lists_of}
-use Rattle.capnp_model.proofs.Chaining.{bind_ok, ok_is, guard_ok}
-use Rattle.capnp_model.proofs.Locality.{word_is}
+use Rattle.capnp_model.proofs.lemmas.Chaining.{bind_ok, ok_is, guard_ok}
+use Rattle.capnp_model.proofs.lemmas.Locality.{word_is}
 use Rattle.capnp_object.specs.declared.object.Object.{Object}
 use Rattle.capnp_object.specs.declared.object.Object.TheVariants as object
 use Rattle.capnp_object.specs.declared.object.Found.{Found}
@@ -20,15 +20,15 @@ use Rattle.capnp_units.specs.Sizes.{size_number}
 use Rattle.capnp_wire.specs.Elements.{step_bits, step_words}
 use Rattle.capnp_wire.specs.Places.{place_view}
 use Rattle.capnp_wire.specs.Reads.{list_head}
-use Rattle.capnp_footprints.proofs.Spans.{words_front, words_back}
+use Rattle.capnp_footprints.proofs.lemmas.Spans.{words_front, words_back}
 use Rattle.capnp_copy.specs.Elements.{IsWhole}
 use Rattle.capnp_copy.specs.Lists.{list_at}
 use Rattle.capnp_copy.specs.Values.{LeadsTo}
 use Rattle.capnp_copy.specs.declared.init.ListPlace.{ListPlace}
 use Rattle.capnp_widening.specs.Got.{list_in}
 use Rattle.capnp_widening.specs.MovedElements.{least_words, least_pointers}
-use Rattle.capnp_widening.proofs.GotStructs.{same_object}
-use Rattle.capnp_widening.proofs.ObjectsThere.{named_at}
+use Rattle.capnp_widening.proofs.lemmas.GotStructs.{same_object}
+use Rattle.capnp_widening.proofs.lemmas.ObjectsThere.{named_at}
 use Rattle.capnp_builders.specs.Gets.{list_named, ListGot, StructListGot}
 use Rattle.capnp_queries.specs.Types.{ty_of_base}
 use Rattle.capnp_queries.specs.declared.introspect.Base.{Base}

@@ -7,7 +7,7 @@ use Rattle.capnp_queries.specs.Handles.{entry_of, IsFieldRecord}
 use Rattle.capnp_queries.specs.declared.structs.StructSchema.{StructSchema}
 use Rattle.capnp_queries.specs.declared.fields.Field.{Field}
 use Rattle.capnp_calls.specs.Slots.{words_in, pointers_in}
-use Rattle.capnp_calls.proofs.GroupSizes.{group_is_field}
+use Rattle.capnp_calls.proofs.lemmas.GroupSizes.{group_is_field}
 use Rattle.capnp_dynamic.specs.Inside.{words_of_shape, pointers_of_shape}
 use Rattle.capnp_dynamic.specs.Edits.{IsWide}
 

@@ -7,8 +7,8 @@ use Rattle.capnp_model.specs.Trees.{Tree, child}
 use Rattle.capnp_units.specs.declared.errors.Error.{Error}
 use Rattle.capnp_wire.specs.Places.{place_view}
 use Rattle.capnp_footprints.specs.Footprints.{Owns}
-use Rattle.capnp_footprints.proofs.Spans.{grows_same}
-use Rattle.capnp_footprints.proofs.Lift.{child_of_struct}
+use Rattle.capnp_footprints.proofs.lemmas.Spans.{grows_same}
+use Rattle.capnp_footprints.proofs.lemmas.Lift.{child_of_struct}
 use Rattle.capnp_copy.specs.declared.fields.StructPlace.{StructPlace}
 use Rattle.capnp_copy_from.specs.Defaults.{WritesDefault, is_null_at}
 use Rattle.capnp_builders.specs.Gets.{Begins, Gets}

@@ -26,7 +26,7 @@ use Rattle.capnp_values.specs.Sources.{WithoutLimit}
 use Rattle.capnp_values.specs.declared.dynamic_value.Reader.{Reader}
 use Rattle.capnp_dynamic.specs.Sources.{SourceView, SetsSource, PutsSource}
 use Rattle.capnp_dynamic.specs.Values.{is_capability}
-use Rattle.capnp_dynamic.proofs.Sources.{walk_map, walk_to, same_words, source_put, source_refused}
+use Rattle.capnp_dynamic.proofs.lemmas.Sources.{walk_map, walk_to, same_words, source_put, source_refused}
 use Rattle.capnp_dynamic_lists.specs.Elements.{Holds, HoldsStructs, flat_element, element_edit}
 use Rattle.capnp_dynamic_lists.specs.Lists.{IsListThere, HasPointer}
 use Rattle.capnp_dynamic_lists.specs.Parts.{cell_in}

@@ -19,7 +19,7 @@ use Rattle.capnp_builders.specs.Making.{ArenaState, Makes, Stays, BytesRefused, 
 use Rattle.capnp_values.specs.declared.dynamic_value.Reader.{Reader}
 use Rattle.capnp_dynamic.specs.Given.{plain_given, bits_given}
 use Rattle.capnp_dynamic.specs.Puts.{ObjectRefused}
-use Rattle.capnp_dynamic.proofs.Grown.{same_grows}
+use Rattle.capnp_dynamic.proofs.lemmas.Grown.{same_grows}
 use Rattle.capnp_dynamic_lists.specs.Blobs.{bytes_of}
 use Rattle.capnp_dynamic_lists.specs.declared.blobs.Blob.{Blob}
 use Rattle.capnp_dynamic_lists.specs.Lists.{HasPointer, IsListThere, EditsElement}

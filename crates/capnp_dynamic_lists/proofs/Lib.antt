@@ -1,7 +1,7 @@
-pub mod PlainElements
-pub mod Parts
-pub mod Fronts
-pub mod Pointers
-pub mod Contents
-pub mod NewElements
-pub mod AnyValues
+pub mod lemmas
+mod PlainElements
+mod Parts
+mod Pointers
+mod Contents
+mod NewElements
+mod AnyValues

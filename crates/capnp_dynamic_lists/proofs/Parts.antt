@@ -10,15 +10,15 @@ use Rattle.capnp_wire.specs.Places.{place_view}
 use Rattle.capnp_footprints.specs.Footprints.{OwnsObject}
 use Rattle.capnp_footprints.specs.Changes.{ReplacesObject}
 use Rattle.capnp_footprints.specs.Elements.{element_at, with_element}
-use Rattle.capnp_footprints.proofs.Cells.{element_of_list, list_of_element}
+use Rattle.capnp_footprints.proofs.lemmas.Cells.{element_of_list, list_of_element}
 use Rattle.capnp_copy.specs.Structs.{struct_at}
 use Rattle.capnp_copy.specs.Lists.{list_at}
 use Rattle.capnp_copy.specs.declared.fields.StructPlace.{StructPlace}
 use Rattle.capnp_copy.specs.declared.init.ListPlace.{ListPlace}
-use Rattle.capnp_widening.proofs.Standing.{part_there}
+use Rattle.capnp_widening.proofs.lemmas.Standing.{part_there}
 use Rattle.capnp_dynamic.specs.Edits.{IsThere, Edits}
 use Rattle.capnp_dynamic.specs.Puts.{Deepens}
-use Rattle.capnp_dynamic.proofs.Deeper.{object_owned_more}
+use Rattle.capnp_dynamic.proofs.lemmas.Deeper.{object_owned_more}
 use Rattle.capnp_dynamic_lists.specs.Lists.{IsListThere, IsListOf, EditsElement, DeepensElement}
 use Rattle.capnp_dynamic_lists.specs.Parts.{struct_cell, cell_in, IsStructOf}
 use Rattle.capnp_dynamic_lists.specs.Places.{IsStructAt}

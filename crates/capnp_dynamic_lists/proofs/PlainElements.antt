@@ -5,8 +5,8 @@ use Rattle.std.proofs.lemmas.Nat.{pow_pos}
 use lib.Pow as pow
 use Rattle.capnp_model.specs.Sections.{with_bits, numbers_in, number_of}
 use Rattle.capnp_model.specs.Edits.{on_plain, put_bits}
-use Rattle.capnp_model.proofs.Bounds.{with_bits_lt}
-use Rattle.capnp_model.proofs.Numbers.{number_of-numbers_in}
+use Rattle.capnp_model.proofs.lemmas.Bounds.{with_bits_lt}
+use Rattle.capnp_model.proofs.lemmas.Numbers.{number_of-numbers_in}
 
 spread : (a b c d e p q r : ℕ) → r ≡ p * q → (a * b + c) * r + (d * q + e) ≡ ((a * b + c) * p + d) * q + e
 spread a b c d e p q r h = rw h (grind arith)

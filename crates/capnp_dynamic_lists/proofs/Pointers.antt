@@ -14,12 +14,12 @@ use Rattle.capnp_object.specs.declared.place.Place as code
 use Rattle.capnp_wire.specs.Places.{place_view}
 use Rattle.capnp_footprints.specs.Footprints.{Owns, OwnsObject}
 use Rattle.capnp_footprints.specs.Changes.{Replaces, ReplacesObject}
-use Rattle.capnp_footprints.proofs.Lift.{child_of_struct, struct_of_child, child_of_list, list_of_child}
+use Rattle.capnp_footprints.proofs.lemmas.Lift.{child_of_struct, struct_of_child, child_of_list, list_of_child}
 use Rattle.capnp_copy.specs.Values.{Becomes}
 use Rattle.capnp_copy.specs.Lists.{list_at}
 use Rattle.capnp_copy.specs.declared.init.ListPlace.{ListPlace}
-use Rattle.capnp_widening.proofs.Standing.{part_there}
-use Rattle.capnp_dynamic.proofs.Deeper.{object_owned_more}
+use Rattle.capnp_widening.proofs.lemmas.Standing.{part_there}
+use Rattle.capnp_dynamic.proofs.lemmas.Deeper.{object_owned_more}
 use Rattle.capnp_dynamic_lists.specs.Lists.{HasPointer, IsListThere, IsListOf, DeepensElement}
 use Rattle.capnp_dynamic_lists.specs.Parts.{struct_cell, cell_in, on_child, IsPointerOf}
 use Rattle.capnp_dynamic_lists.specs.Places.{IsPointerAt}

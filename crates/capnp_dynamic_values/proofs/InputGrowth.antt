@@ -16,7 +16,7 @@ use Rattle.capnp_units.specs.declared.errors.Error.{Error}
 use Rattle.capnp_units.specs.declared.limiter.ReadLimiter.{ReadLimiter}
 use Rattle.capnp_units.specs.Segments.{words_in}
 use Rattle.capnp_wire.specs.Views.{PointerView}
-use Rattle.capnp_copy.proofs.RoomLaws.{sizes_grow}
+use Rattle.capnp_copy.proofs.lemmas.RoomLaws.{sizes_grow}
 use Rattle.capnp_copy_from.specs.Copies.{CopiesValue}
 use Rattle.capnp_builders.specs.Copied.{Charged, WithoutLevels, BecomesNull, CopiesPointer}
 use Rattle.capnp_values.specs.Sources.{WithoutLimit}

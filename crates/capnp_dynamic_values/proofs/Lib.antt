@@ -1,2 +1,2 @@
-pub mod Stood
-pub mod InputGrowth
+mod Stood
+mod InputGrowth

@@ -5,10 +5,10 @@ use Rattle.capnp_model.specs.Trees.{Tree, null, capability, structure, plain_lis
 use Rattle.capnp_model.specs.Traversal.{tree_at}
 use Rattle.capnp_model.specs.Schemas.{Ty}
 use Rattle.capnp_model.specs.Edits.{opened_tree}
-use Rattle.capnp_model.proofs.Chaining.{some_is}
+use Rattle.capnp_model.proofs.lemmas.Chaining.{some_is}
 use Rattle.capnp_copy_from.specs.Defaults.{default_segments, is_null_at}
 use Rattle.capnp_builders.specs.Gets.{in_place, begun}
-use Rattle.capnp_dynamic.proofs.NullMembers.{null_at, null_value}
+use Rattle.capnp_dynamic.proofs.lemmas.NullMembers.{null_at, null_value}
 use Rattle.capnp_edits.specs.Written.{HoldsDefault}
 
 -- ---- the value to begin with

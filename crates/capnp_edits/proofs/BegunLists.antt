@@ -8,7 +8,7 @@ use Rattle.capnp_model.specs.Edits.{widened_list, as_list}
 use Rattle.capnp_widening.specs.MovedElements.{as_structs}
 use Rattle.capnp_widening.specs.WidenedLists.{WidensList}
 use Rattle.capnp_builders.specs.Gets.{Begins, Gets}
-use Rattle.capnp_builders.proofs.Begun.{Laws, made_then, listed_then}
+use Rattle.capnp_builders.proofs.lemmas.Begun.{Laws, made_then, listed_then}
 use Rattle.capnp_dynamic.specs.Inside.{words_of_shape, pointers_of_shape}
 use Rattle.capnp_dynamic.specs.Inits.{struct_named}
 use Rattle.capnp_edits.specs.Written.{GrowsBehind}

@@ -23,7 +23,7 @@ use Rattle.capnp_edits.specs.Written.{WritesValue, HoldsDefault}
 use Rattle.capnp_edits.specs.Elements.{IsDoneWithin, WritesWithin}
 use Rattle.capnp_edits.proofs.Lifting.{cell, behind_pointer}
 use Rattle.capnp_edits.proofs.Begun.{begun_opened}
-use Rattle.capnp_edits.proofs.Outcomes.{whole_within, struct_done, struct_edit}
+use Rattle.capnp_edits.proofs.lemmas.Outcomes.{whole_within, struct_done, struct_edit}
 
 pub on_ok : {X E : Type 0} (r : Result X E) (P Q : Type 0) → (P → Q) → OnOk r P → OnOk r Q
 on_ok (Ok x) P Q f h = f h

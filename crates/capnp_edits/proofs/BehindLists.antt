@@ -10,9 +10,9 @@ use Rattle.capnp_object.specs.declared.place.Place as code
 use Rattle.capnp_wire.specs.Places.{place_view}
 use Rattle.capnp_footprints.specs.Footprints.{Owns, OwnsObject}
 use Rattle.capnp_footprints.specs.Changes.{Replaces}
-use Rattle.capnp_footprints.proofs.Lift.{object_of_pointer, pointer_of_object, replaced_owned, replaced_then}
-use Rattle.capnp_footprints.proofs.Levels.{owned_more, replaced_more}
-use Rattle.capnp_footprints.proofs.Spans.{grows_then}
+use Rattle.capnp_footprints.proofs.lemmas.Lift.{object_of_pointer, pointer_of_object, replaced_owned, replaced_then}
+use Rattle.capnp_footprints.proofs.lemmas.Levels.{owned_more, replaced_more}
+use Rattle.capnp_footprints.proofs.lemmas.Spans.{grows_then}
 use Rattle.capnp_copy.specs.Lists.{list_at}
 use Rattle.capnp_copy.specs.declared.init.ListPlace.{ListPlace}
 use Rattle.capnp_edits.specs.Written.{WritesValue, HoldsDefault, GrowsBehind}

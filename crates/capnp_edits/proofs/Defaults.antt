@@ -9,9 +9,9 @@ use Rattle.capnp_queries.specs.Handles.{entry_of, IsFieldRecord}
 use Rattle.capnp_queries.specs.declared.fields.Field.{Field}
 use Rattle.capnp_calls.specs.Slots.{HasGoodDefault, IsSegment}
 use Rattle.capnp_calls.specs.Finding.{default_in}
-use Rattle.capnp_calls.proofs.FieldSlots.{kind_of_pointer, body_of_pointer}
-use Rattle.capnp_records.proofs.Segments.{segment_found}
-use Rattle.capnp_calls.proofs.ReadableSteps.{struct_default_found}
+use Rattle.capnp_calls.proofs.lemmas.FieldSlots.{kind_of_pointer, body_of_pointer}
+use Rattle.capnp_records.proofs.lemmas.Segments.{segment_found}
+use Rattle.capnp_calls.proofs.lemmas.ReadableSteps.{struct_default_found}
 use Rattle.capnp_values.specs.Shown.{default_said}
 use Rattle.capnp_edits.specs.Written.{HoldsDefault, IsDefault, has_inside}
 

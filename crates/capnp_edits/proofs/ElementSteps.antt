@@ -25,11 +25,11 @@ use Rattle.capnp_dynamic_lists.specs.Places.{IsStructAt}
 use Rattle.capnp_dynamic_lists.specs.Parts.{cell_in, IsStructOf, IsPointerOf, on_child}
 use Rattle.capnp_calls.specs.Sizes.{IsDone}
 use Rattle.capnp_calls.specs.Paths.{shape_edit}
-use Rattle.capnp_calls.proofs.SlotShown.{read_child-child}
+use Rattle.capnp_calls.proofs.lemmas.SlotShown.{read_child-child}
 use Rattle.capnp_edits.specs.Written.{WritesValue, value_outcome, value_edit, GrowsAround, GrowsBehind}
 use Rattle.capnp_edits.specs.Elements.{IsDoneWithin, WritesWithin, IsElementDone, WritesElement, GrowsIn}
 use Rattle.capnp_edits.proofs.Begun.{null_opened}
-use Rattle.capnp_edits.proofs.Outcomes.{unmapped}
+use Rattle.capnp_edits.proofs.lemmas.Outcomes.{unmapped}
 
 -- ---- an element that is a struct
 

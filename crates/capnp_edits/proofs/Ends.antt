@@ -23,11 +23,11 @@ use Rattle.capnp_dynamic.specs.Calls.{edit_entry, edit_of}
 use Rattle.capnp_dynamic.specs.Edits.{Edits, marked, marked_in}
 use Rattle.capnp_dynamic.specs.Given.{flat_content, set_content, set_entry, set_edit}
 use Rattle.capnp_dynamic.specs.Puts.{PutsContent}
-use Rattle.capnp_dynamic.proofs.Writes.{edits_then}
-use Rattle.capnp_calls.proofs.OneStep.{IsSlot, is_void, is_plain, is_pointer}
+use Rattle.capnp_dynamic.proofs.lemmas.Writes.{edits_then}
+use Rattle.capnp_calls.proofs.lemmas.OneStep.{IsSlot, is_void, is_plain, is_pointer}
 use Rattle.capnp_edits.specs.Written.{EditsWhere, IsDoneAt, edit_at, WritesField}
 use Rattle.capnp_edits.proofs.Lifting.{edits_any, deepens_any, edits_alike}
-use Rattle.capnp_edits.proofs.Outcomes.{edit_is}
+use Rattle.capnp_edits.proofs.lemmas.Outcomes.{edit_is}
 
 -- ---- the same edit in other words
 

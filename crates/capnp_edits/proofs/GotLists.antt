@@ -7,7 +7,7 @@ use Rattle.capnp_model.specs.Segments.{Segments, Place, after, word_at, words_at
 use Rattle.capnp_model.specs.Pointers.{a_list, nothing}
 use Rattle.capnp_model.specs.Traversal.{ListKind, of_bits, list_kind, list_words, tag_in}
 use Rattle.capnp_model.specs.Trees.{Tree}
-use Rattle.capnp_model.proofs.Chaining.{bind_ok, ok_is, ok_or_some, guard_ok}
+use Rattle.capnp_model.proofs.lemmas.Chaining.{bind_ok, ok_is, ok_or_some, guard_ok}
 use Rattle.capnp_object.specs.declared.object.Object.{Object}
 use Rattle.capnp_object.specs.declared.object.Object.TheVariants as object
 use Rattle.capnp_object.specs.declared.object.Found.{Found}
@@ -19,17 +19,17 @@ use Rattle.capnp_units.specs.Sizes.{size_number}
 use Rattle.capnp_wire.specs.Places.{place_view, placed}
 use Rattle.capnp_wire.specs.Reads.{list_head}
 use Rattle.capnp_footprints.specs.Footprints.{OwnsObject}
-use Rattle.capnp_footprints.proofs.Turns.{list_shape, list_counted}
-use Rattle.capnp_footprints.proofs.Turns as turns
+use Rattle.capnp_footprints.proofs.lemmas.Turns.{list_shape, list_counted}
+use Rattle.capnp_footprints.proofs.lemmas.Turns as turns
 use Rattle.capnp_copy.specs.declared.init.ListPlace.{ListPlace}
 use Rattle.capnp_copy.specs.Elements.{LiesAt}
 use Rattle.capnp_copy.specs.Lists.{list_at}
 use Rattle.capnp_copy.specs.Values.{LeadsTo}
-use Rattle.capnp_copy.proofs.ElementLaws.{is_plain}
+use Rattle.capnp_copy.proofs.lemmas.ElementLaws.{is_plain}
 use Rattle.capnp_widening.specs.Got.{list_in}
-use Rattle.capnp_widening.proofs.CopiedNumbers.{plain_shape}
-use Rattle.capnp_widening.proofs.GotStructs.{same_object}
-use Rattle.capnp_widening.proofs.ObjectsThere.{named_at}
+use Rattle.capnp_widening.proofs.lemmas.CopiedNumbers.{plain_shape}
+use Rattle.capnp_widening.proofs.lemmas.GotStructs.{same_object}
+use Rattle.capnp_widening.proofs.lemmas.ObjectsThere.{named_at}
 use Rattle.capnp_builders.specs.Gets.{list_named}
 use Rattle.capnp_dynamic_lists.specs.Lists.{IsListOf}
 use Rattle.capnp_edits.specs.Elements.{IsListFound}

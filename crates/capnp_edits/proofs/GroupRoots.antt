@@ -8,8 +8,8 @@ use Rattle.capnp_model.specs.Schemas.{Shape, Body, group_slot, Schema}
 use Rattle.capnp_model.specs.Calls.{set_to, message, message_root}
 use Rattle.capnp_model.specs.Edits.{Cell, Edit, mark, group_writes, after_writes, from_message, edit_field}
 use Rattle.capnp_units.specs.declared.errors.Error.{Error}
-use Rattle.capnp_model.proofs.Depth.{tree_at_more}
-use Rattle.capnp_model.proofs.Chaining.{bind_ok, ok_is, some_is}
+use Rattle.capnp_model.proofs.lemmas.Depth.{tree_at_more}
+use Rattle.capnp_model.proofs.lemmas.Chaining.{bind_ok, ok_is, some_is}
 use Rattle.capnp_object.specs.declared.object.Object.{Object}
 use Rattle.capnp_object.specs.declared.object.Object.TheVariants as object
 use Rattle.capnp_object.specs.declared.object.Found.{Found}
@@ -24,7 +24,7 @@ use Rattle.capnp_queries.specs.Handles.{entry_of}
 use Rattle.capnp_queries.specs.declared.fields.Field.{Field}
 use Rattle.capnp_copy.specs.declared.fields.StructPlace.{StructPlace}
 use Rattle.capnp_dynamic.specs.GroupSets.{IsSource, WritesAsFar, entry_writes, copied_field}
-use Rattle.capnp_dynamic.proofs.FieldWrites.{group_writes_are}
+use Rattle.capnp_dynamic.proofs.lemmas.FieldWrites.{group_writes_are}
 use Rattle.capnp_edits.specs.Written.{WritesField, IsDoneAt, edit_at}
 use Rattle.capnp_edits.proofs.Lifting.{cell, edits_alike}
 

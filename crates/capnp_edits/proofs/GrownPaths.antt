@@ -9,10 +9,10 @@ use Rattle.capnp_units.specs.declared.errors.Error.{Error}
 use Rattle.capnp_units.specs.declared.sizes.StructSize.{StructSize}
 use Rattle.capnp_wire.specs.Places.{place_view}
 use Rattle.capnp_footprints.specs.Footprints.{Owns, OwnsObject}
-use Rattle.capnp_footprints.proofs.Spans.{grows_same, grows_then}
-use Rattle.capnp_footprints.proofs.Lift.{object_of_pointer, child_of_struct, replaced_owned}
-use Rattle.capnp_footprints.proofs.Levels.{owned_more}
-use Rattle.capnp_footprints.proofs.Turns.{struct_shape}
+use Rattle.capnp_footprints.proofs.lemmas.Spans.{grows_same, grows_then}
+use Rattle.capnp_footprints.proofs.lemmas.Lift.{object_of_pointer, child_of_struct, replaced_owned}
+use Rattle.capnp_footprints.proofs.lemmas.Levels.{owned_more}
+use Rattle.capnp_footprints.proofs.lemmas.Turns.{struct_shape}
 use Rattle.capnp_copy.specs.Structs.{struct_at}
 use Rattle.capnp_copy.specs.declared.fields.StructPlace.{StructPlace}
 use Rattle.capnp_copy_from.specs.Defaults.{WritesDefault, is_null_at}

@@ -1,17 +1,17 @@
-pub mod Lifting
-pub mod Outcomes
-pub mod Begun
-pub mod Ends
-pub mod Behind
-pub mod Defaults
-pub mod GrownPaths
-pub mod SetMessages
-pub mod GroupRoots
-pub mod ListSteps
-pub mod GotLists
-pub mod BehindLists
-pub mod ElementSteps
-pub mod BegunLists
-pub mod ElementEnds
-pub mod ElementMessages
-pub mod TakenContents
+pub mod lemmas
+mod Lifting
+mod Begun
+mod Ends
+mod Behind
+mod Defaults
+mod GrownPaths
+mod SetMessages
+mod GroupRoots
+mod ListSteps
+mod GotLists
+mod BehindLists
+mod ElementSteps
+mod BegunLists
+mod ElementEnds
+mod ElementMessages
+mod TakenContents

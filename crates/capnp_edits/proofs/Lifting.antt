@@ -8,16 +8,16 @@ use Rattle.capnp_model.specs.Calls.{Step, Verb}
 use Rattle.capnp_model.specs.Edits.{Cell, Edit, put_child}
 use Rattle.capnp_footprints.specs.Footprints.{Owns, OwnsObject}
 use Rattle.capnp_footprints.specs.Changes.{Replaces, ReplacesObject}
-use Rattle.capnp_footprints.proofs.Lift.{object_of_pointer, pointer_of_object, child_of_struct, struct_of_child, replaced_owned, replaced_then}
-use Rattle.capnp_footprints.proofs.Levels.{owned_more, replaced_more}
-use Rattle.capnp_footprints.proofs.Turns.{struct_shape}
+use Rattle.capnp_footprints.proofs.lemmas.Lift.{object_of_pointer, pointer_of_object, child_of_struct, struct_of_child, replaced_owned, replaced_then}
+use Rattle.capnp_footprints.proofs.lemmas.Levels.{owned_more, replaced_more}
+use Rattle.capnp_footprints.proofs.lemmas.Turns.{struct_shape}
 use Rattle.capnp_wire.specs.Places.{place_view}
 use Rattle.capnp_copy.specs.Structs.{struct_at}
 use Rattle.capnp_copy.specs.Values.{LeadsTo}
 use Rattle.capnp_copy.specs.declared.fields.StructPlace.{StructPlace}
 use Rattle.capnp_dynamic.specs.Edits.{Edits}
 use Rattle.capnp_dynamic.specs.Puts.{Deepens}
-use Rattle.capnp_dynamic.proofs.Deeper.{object_owned_more}
+use Rattle.capnp_dynamic.proofs.lemmas.Deeper.{object_owned_more}
 use Rattle.capnp_calls.specs.Sizes.{IsDone}
 use Rattle.capnp_edits.specs.Written.{EditsWhere, value_outcome, value_edit, WritesValue}
 

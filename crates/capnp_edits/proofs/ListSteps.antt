@@ -6,14 +6,14 @@ use Rattle.capnp_model.specs.Readings.{Reading, Readings, Extent, whole_words, j
 use Rattle.capnp_model.specs.Calls.{Step, index, Verb}
 use Rattle.capnp_model.specs.Steps.{Outcome, on_index, step_field, step_element, or_empty, opened, through_value}
 use Rattle.capnp_model.specs.Edits.{Cell, opened_tree, elements_of_plain, elements_of_pointers, padded_elements, widened_list, as_list}
-use Rattle.capnp_model.proofs.Marks.{read_child-padded_to}
-use Rattle.capnp_model.proofs.Paths.{nothing_in}
+use Rattle.capnp_model.proofs.lemmas.Marks.{read_child-padded_to}
+use Rattle.capnp_model.proofs.lemmas.Paths.{nothing_in}
 use Rattle.capnp_dynamic_lists.specs.Parts.{plain_cell, struct_cell, cell_in}
 use Rattle.capnp_calls.specs.Sizes.{IsDone}
 use Rattle.capnp_edits.specs.Written.{value_outcome}
 use Rattle.capnp_edits.specs.Elements.{IsElementDone}
 use Rattle.capnp_edits.proofs.Lifting.{cell}
-use Rattle.capnp_edits.proofs.Outcomes.{unmapped}
+use Rattle.capnp_edits.proofs.lemmas.Outcomes.{unmapped}
 
 module _ (s : Schema) (ty : Ty) (rest : List Step) (verb : Verb) where
   abbrev f : Reading → Outcome Reading

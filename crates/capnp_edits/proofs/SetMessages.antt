@@ -14,7 +14,7 @@ use Rattle.capnp_units.specs.declared.errors.Error.{Error}
 use Rattle.capnp_wire.specs.Places.{place_view}
 use Rattle.capnp_footprints.specs.Footprints.{Owns, OwnsObject}
 use Rattle.capnp_footprints.specs.Changes.{Replaces, ReplacesObject}
-use Rattle.capnp_footprints.proofs.Lift.{child_of_struct, struct_of_child, object_replaced_owned, object_replaced_then}
+use Rattle.capnp_footprints.proofs.lemmas.Lift.{child_of_struct, struct_of_child, object_replaced_owned, object_replaced_then}
 use Rattle.capnp_copy.specs.Structs.{struct_at}
 use Rattle.capnp_copy.specs.Values.{Becomes}
 use Rattle.capnp_copy.specs.declared.fields.StructPlace.{StructPlace}
@@ -24,16 +24,16 @@ use Rattle.capnp_queries.specs.Structs.{schema_around, shape_of_struct}
 use Rattle.capnp_queries.specs.Handles.{entry_of, IsFieldRecord}
 use Rattle.capnp_queries.specs.declared.fields.Field.{Field}
 use Rattle.capnp_dynamic.specs.Edits.{Edits, marked, marked_in}
-use Rattle.capnp_dynamic.proofs.Deeper.{object_owned_more, mark_last}
+use Rattle.capnp_dynamic.proofs.lemmas.Deeper.{object_owned_more, mark_last}
 use Rattle.capnp_calls.specs.Sizes.{IsDone}
 use Rattle.capnp_calls.specs.Paths.{field_outcome}
-use Rattle.capnp_calls.proofs.OneStep.{is_pointer}
+use Rattle.capnp_calls.proofs.lemmas.OneStep.{is_pointer}
 use Rattle.capnp_dynamic.specs.GroupSets.{PutsAny}
-use Rattle.capnp_dynamic.proofs.AnyEdits.{puts_becomes}
-use Rattle.capnp_dynamic.proofs.NullMembers.{null_at, null_value}
+use Rattle.capnp_dynamic.proofs.lemmas.AnyEdits.{puts_becomes}
+use Rattle.capnp_dynamic.proofs.lemmas.NullMembers.{null_at, null_value}
 use Rattle.capnp_edits.specs.Written.{edit_at, WritesField, takes_message}
 use Rattle.capnp_edits.proofs.Lifting.{cell}
-use Rattle.capnp_edits.proofs.Outcomes.{done_at, edit_is}
+use Rattle.capnp_edits.proofs.lemmas.Outcomes.{done_at, edit_is}
 use Rattle.capnp_edits.proofs.Ends.{slot_put, last_step}
 
 -- ---- the value is put

@@ -7,9 +7,9 @@ use Rattle.capnp_model.specs.Pointers.{Found, found_at, nothing, a_struct}
 use Rattle.capnp_model.specs.Traversal.{tree_of, tree_at, each}
 use Rattle.capnp_model.specs.Trees.{Tree, null, structure, Trees, none, ◌▸◌, resized}
 use Rattle.capnp_model.specs.Calls.{message_root}
-use Rattle.capnp_model.proofs.Chaining.{bind_some, bind_found, some_is, ok_is}
+use Rattle.capnp_model.proofs.lemmas.Chaining.{bind_some, bind_found, some_is, ok_is}
 use Rattle.capnp_object.specs.Inside.{section_at}
-use Rattle.capnp_object.proofs.Linking.{section_front}
+use Rattle.capnp_object.proofs.lemmas.Linking.{section_front}
 use Rattle.capnp_units.specs.declared.errors.Error.{Error}
 use Rattle.capnp_units.specs.declared.limiter.ReadLimiter.{ReadLimiter}
 use Rattle.capnp_wire.specs.Places.{place_view}
@@ -19,7 +19,7 @@ use Rattle.capnp_copy.specs.Values.{LeadsTo}
 use Rattle.capnp_copy.specs.declared.fields.StructPlace.{StructPlace}
 use Rattle.capnp_copy_from.specs.Copies.{StructSource}
 use Rattle.capnp_copy_from.specs.Contents.{CopiesContent, TakesContent}
-use Rattle.capnp_dynamic.proofs.Deeper.{object_owned_more}
+use Rattle.capnp_dynamic.proofs.lemmas.Deeper.{object_owned_more}
 use Rattle.capnp_edits.specs.Written.{GrowsAround}
 use Rattle.capnp_edits.specs.Elements.{TakesTree}
 

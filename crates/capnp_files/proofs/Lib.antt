@@ -1,4 +1,4 @@
-pub mod OnlyMembers
-pub mod JsonTexts
-pub mod FileExamples
-pub mod EachItem
+mod OnlyMembers
+mod JsonTexts
+mod FileExamples
+mod EachItem

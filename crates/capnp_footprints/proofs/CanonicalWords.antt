@@ -10,14 +10,14 @@ use Rattle.capnp_model.specs.Trees.{Tree, Trees, Elements, null, capability, str
 use Rattle.capnp_model.specs.Coverage.{Span, span, pads_at, from_each, from_elements, covered_object, times_held}
 use Rattle.capnp_model.specs.Fits.{Fits, FitEach, FitElements}
 use Rattle.capnp_model.specs.Encoding.{struct_pointer, pointer, body, links, bodies, cells, element_bodies, canonical_words}
-use Rattle.capnp_model.proofs.Numbers.{length-numbers_in}
-use Rattle.capnp_model.proofs.PointerWords.{struct_says, capability_says, begins_behind, begins_here, list_kind_small}
-use Rattle.capnp_model.proofs.Holding.{Holds, holds_left, holds_right, holds_words, holds_word, holds_at}
-use Rattle.capnp_model.proofs.RoundTrip.{links_length, cells_length, enc_means_first}
+use Rattle.capnp_model.proofs.lemmas.Numbers.{length-numbers_in}
+use Rattle.capnp_model.proofs.lemmas.PointerWords.{struct_says, capability_says, begins_behind, begins_here, list_kind_small}
+use Rattle.capnp_model.proofs.lemmas.Holding.{Holds, holds_left, holds_right, holds_words, holds_word, holds_at}
+use Rattle.capnp_model.proofs.lemmas.RoundTrip.{links_length, cells_length, enc_means_first}
 use Rattle.capnp_footprints.specs.Footprints.{behind, footprint, Owns}
-use Rattle.capnp_footprints.proofs.Spans.{times_held_append, held, held_is, held_le, held_split}
-use Rattle.capnp_footprints.proofs.Zeros.{held_none}
-use Rattle.capnp_footprints.proofs.Pointing.{Names, struct_names, list_names, near_found}
+use Rattle.capnp_footprints.proofs.lemmas.Spans.{times_held_append, held, held_is, held_le, held_split}
+use Rattle.capnp_footprints.proofs.lemmas.Zeros.{held_none}
+use Rattle.capnp_footprints.proofs.lemmas.Pointing.{Names, struct_names, list_names, near_found}
 
 -- a span by itself
 only_held : (p : Place) (n : ℕ) (q : Place) → times_held (span p n ∷ []) q ≡ held p n q

@@ -6,21 +6,21 @@ use Rattle.capnp_model.specs.Sections.{bits_at, words_for}
 use Rattle.capnp_model.specs.Segments.{Segments, Place, after, words_at, place, word_at}
 use Rattle.capnp_model.specs.Traversal.{of_bits, list_kind, tree_of, tree_at}
 use Rattle.capnp_model.specs.Trees.{Tree, Elements, null, structure, pointer_list, struct_list, none, element_count, size_bits, resized}
-use Rattle.capnp_model.proofs.SoundRules.{apart}
+use Rattle.capnp_model.proofs.lemmas.SoundRules.{apart}
 use Rattle.capnp_footprints.specs.Changes.{Changes, ReplacesObject, Replaces, Clears}
 use Rattle.capnp_footprints.specs.Children.{childless}
 use Rattle.capnp_footprints.specs.Footprints.{behind, object_footprint, OwnsObject, footprint, Owns, own_words}
 use Rattle.capnp_footprints.specs.Writes.{with_words}
-use Rattle.capnp_footprints.proofs.Algebra.{On, changes_lift, changes_then, changes_nothing, changes_alike}
-use Rattle.capnp_footprints.proofs.Cells.{element_parts, list_is}
+use Rattle.capnp_footprints.proofs.lemmas.Algebra.{On, changes_lift, changes_then, changes_nothing, changes_alike}
+use Rattle.capnp_footprints.proofs.lemmas.Cells.{element_parts, list_is}
 use Rattle.capnp_footprints.proofs.Clearing.{on_later, clears_words, null_now, own_le, own_there, no_own, pads_are}
-use Rattle.capnp_footprints.proofs.Kept.{value_same, object_same}
-use Rattle.capnp_footprints.proofs.Lift.{struct_parts, value_on, slot_is, object_of_pointer, list_parts}
-use Rattle.capnp_footprints.proofs.Nulls.{nulls_behind, childless_behind}
-use Rattle.capnp_footprints.proofs.Rows.{words_grown, footprint_is}
-use Rattle.capnp_footprints.proofs.Spans.{held, held_is, held_split, held_self}
-use Rattle.capnp_footprints.proofs.Splices.{Rewrites, splice_rewrites}
-use Rattle.capnp_footprints.proofs.Writing.{rewrites_keep, changes_inside, plain_is, written_word}
+use Rattle.capnp_footprints.proofs.lemmas.Kept.{value_same, object_same}
+use Rattle.capnp_footprints.proofs.lemmas.Lift.{struct_parts, value_on, slot_is, object_of_pointer, list_parts}
+use Rattle.capnp_footprints.proofs.lemmas.Nulls.{nulls_behind, childless_behind}
+use Rattle.capnp_footprints.proofs.lemmas.Rows.{words_grown, footprint_is}
+use Rattle.capnp_footprints.proofs.lemmas.Spans.{held, held_is, held_split, held_self}
+use Rattle.capnp_footprints.proofs.lemmas.Splices.{Rewrites, splice_rewrites}
+use Rattle.capnp_footprints.proofs.lemmas.Writing.{rewrites_keep, changes_inside, plain_is, written_word}
 
 -- the same footprint with the pointer's word rewritten
 slot_zeroed : (s : Segments) (p : Place) → Rewrites s (with_words s p (0 ∷ [])) p 1

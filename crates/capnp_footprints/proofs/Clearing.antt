@@ -10,20 +10,20 @@ use Rattle.capnp_model.specs.Sections.{bits_at}
 use Rattle.capnp_model.specs.Segments.{Segments, Place, after, words_at, place, word_at}
 use Rattle.capnp_model.specs.Traversal.{list_kind, list_words, tree_of}
 use Rattle.capnp_model.specs.Trees.{Tree, null}
-use Rattle.capnp_model.proofs.Chaining.{bind_some, some_is, ok_is, bind_ok, ok_or_some}
+use Rattle.capnp_model.proofs.lemmas.Chaining.{bind_some, some_is, ok_is, bind_ok, ok_or_some}
 use Rattle.capnp_footprints.specs.Changes.{Changes, Replaces, Clears, absent}
 use Rattle.capnp_footprints.specs.Footprints.{behind, object_footprint, footprint, Owns, own_words}
 use Rattle.capnp_footprints.specs.Writes.{with_words, spliced}
-use Rattle.capnp_footprints.proofs.Algebra.{On, changes_alike}
-use Rattle.capnp_footprints.proofs.Growing.{zero_held}
-use Rattle.capnp_footprints.proofs.Kept.{words_length}
-use Rattle.capnp_footprints.proofs.Lift.{value_on}
-use Rattle.capnp_footprints.proofs.Nulls.{from_described}
-use Rattle.capnp_footprints.proofs.Rows.{footprint_is, after_none}
-use Rattle.capnp_footprints.proofs.Spans.{held, held_is, held_self, there, grows_then, Whether, it_is, it_is_not, whether, still_there}
-use Rattle.capnp_footprints.proofs.Splices.{Rewrites, splice_rewrites, splice_words, spliced_whole}
-use Rattle.capnp_footprints.proofs.There.{AreThere}
-use Rattle.capnp_footprints.proofs.Zeros.{held_none, null_footprint, null_read}
+use Rattle.capnp_footprints.proofs.lemmas.Algebra.{On, changes_alike}
+use Rattle.capnp_footprints.proofs.lemmas.Growing.{zero_held}
+use Rattle.capnp_footprints.proofs.lemmas.Kept.{words_length}
+use Rattle.capnp_footprints.proofs.lemmas.Lift.{value_on}
+use Rattle.capnp_footprints.proofs.lemmas.Nulls.{from_described}
+use Rattle.capnp_footprints.proofs.lemmas.Rows.{footprint_is, after_none}
+use Rattle.capnp_footprints.proofs.lemmas.Spans.{held, held_is, held_self, there, grows_then, Whether, it_is, it_is_not, whether, still_there}
+use Rattle.capnp_footprints.proofs.lemmas.Splices.{Rewrites, splice_rewrites, splice_words, spliced_whole}
+use Rattle.capnp_footprints.proofs.lemmas.There.{AreThere}
+use Rattle.capnp_footprints.proofs.lemmas.Zeros.{held_none, null_footprint, null_read}
 
 pub on_later : (s u : Segments) (c d : Place → ℕ) → On s c → Grows s u → ((q : Place) → d q ≤ c q) → On u d
 on_later s u c d on g l q h = let x = on q (omega (arith, h, l q)) in still_there s u q x.0 g x.1

@@ -4,10 +4,10 @@ use Rattle.std.specs.List.{slice_get, AllByRecursion}
 use Rattle.std.proofs.lemmas.Bool.{leb-true}
 use Rattle.capnp_model.specs.Segments.{Segments, Place, place}
 use Rattle.capnp_model.specs.Coverage.{Span, times_held}
-use Rattle.capnp_model.proofs.Chaining.{bind_some, provided_some}
+use Rattle.capnp_model.proofs.lemmas.Chaining.{bind_some, provided_some}
 use Rattle.capnp_footprints.specs.Totals.{words_of_segments}
-use Rattle.capnp_footprints.proofs.Spans.{held, held_is, held_in}
-use Rattle.capnp_footprints.proofs.There.{AreThere}
+use Rattle.capnp_footprints.proofs.lemmas.Spans.{held, held_is, held_in}
+use Rattle.capnp_footprints.proofs.lemmas.There.{AreThere}
 
 -- the words of spans
 abbrev pub words_of_spans : List Span → ℕ

@@ -8,12 +8,12 @@ use Rattle.capnp_model.specs.Pointers.{Object, nothing, a_struct, a_list, a_capa
 use Rattle.capnp_model.specs.Trees.{Tree, Trees, Elements, depth, depths, element_depths}
 use Rattle.capnp_model.specs.Traversal.{Tag, tag_in, each, each_element, ListKind, of_bits, of_pointers, of_structs, list_kind, list_words, list_tree, tree_of, tree_at}
 use Rattle.capnp_model.specs.Coverage.{Span, span, pads_at, from_each, from_elements, covered_tag, covered_list, covered_object, covered_found}
-use Rattle.capnp_model.proofs.Chaining.{bind_some, bind_found, some_is}
-use Rattle.capnp_model.proofs.Depth.{tree_at_deep}
+use Rattle.capnp_model.proofs.lemmas.Chaining.{bind_some, bind_found, some_is}
+use Rattle.capnp_model.proofs.lemmas.Depth.{tree_at_deep}
 use Rattle.capnp_footprints.specs.Footprints.{behind, Owns, OwnsObject}
 use Rattle.capnp_footprints.specs.Totals.{words_of_segments}
 use Rattle.capnp_footprints.proofs.Counting.{words_of_spans, spans_append, spans_within}
-use Rattle.capnp_footprints.proofs.There.{behind_full, object_full, value_full}
+use Rattle.capnp_footprints.proofs.lemmas.There.{behind_full, object_full, value_full}
 
 -- one level: what `f` reads at a pointer is no deeper than what `b` covers there has words, and one level more
 module _ (s : Segments) (f : Place → Option Tree) (b : Place → List Span) (h : (p : Place) (t : Tree) → f p ≡ Some t → depth t ≤ 1 + words_of_spans (b p)) where

@@ -9,12 +9,12 @@ use Rattle.capnp_model.specs.Pointers.{Object, nothing, a_struct, a_list, a_capa
 use Rattle.capnp_model.specs.Trees.{Tree, Trees, Elements, ◌▸◌, element, depth, depths, element_depths}
 use Rattle.capnp_model.specs.Traversal.{tag_in, each, each_element, ListKind, of_bits, of_pointers, of_structs, list_kind, list_words, list_tree, tree_of, tree_at}
 use Rattle.capnp_model.specs.Coverage.{Span, span, times_held, from_each, from_elements, covered_tag, covered_list, covered_object}
-use Rattle.capnp_model.proofs.Chaining.{bind_some, bind_found, some_is}
-use Rattle.capnp_model.proofs.Levels.{tree_at_reads}
+use Rattle.capnp_model.proofs.lemmas.Chaining.{bind_some, bind_found, some_is}
+use Rattle.capnp_model.proofs.lemmas.Levels.{tree_at_reads}
 use Rattle.capnp_footprints.specs.Changes.{Replaces, ReplacesObject}
 use Rattle.capnp_footprints.specs.Footprints.{behind, footprint, object_footprint, Owns, OwnsObject}
-use Rattle.capnp_footprints.proofs.Algebra.{changes_alike}
-use Rattle.capnp_footprints.proofs.Levels.{behind_more}
+use Rattle.capnp_footprints.proofs.lemmas.Algebra.{changes_alike}
+use Rattle.capnp_footprints.proofs.lemmas.Levels.{behind_more}
 
 -- one level: what `f` and `b` tell of values that are at most m deep, `g` and `c` tell too
 module _ (m : ℕ) (s : Segments) (f g : Place → Option Tree) (b c : Place → List Span) (h : (p : Place) (t : Tree) → f p ≡ Some t → depth t ≤ m → (g p ≡ Some t) × (c p ≡ b p)) where

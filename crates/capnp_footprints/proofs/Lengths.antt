@@ -12,17 +12,17 @@ use Rattle.capnp_model.specs.Trimming.{trim}
 use Rattle.capnp_model.specs.Traversal.{Tag, tag_in, each, each_element, ListKind, of_bits, of_pointers, of_structs, list_kind, list_words, list_tree, leaf_of, tree_of, tree_at}
 use Rattle.capnp_model.specs.Encoding.{body, bodies, links, cells, element_bodies, canonical_words}
 use Rattle.capnp_model.specs.Coverage.{Span, span, pads_at, from_each, from_elements, covered_tag, covered_list, covered_object, covered_found}
-use Rattle.capnp_model.proofs.Chaining.{bind_some, bind_found, some_is}
-use Rattle.capnp_model.proofs.Numbers.{length-numbers_in}
-use Rattle.capnp_model.proofs.RoundTrip.{links_length}
-use Rattle.capnp_model.proofs.Canonical.{size-trim}
-use Rattle.capnp_model.proofs.ReadFits.{tree_at_fits}
+use Rattle.capnp_model.proofs.lemmas.Chaining.{bind_some, bind_found, some_is}
+use Rattle.capnp_model.proofs.lemmas.Numbers.{length-numbers_in}
+use Rattle.capnp_model.proofs.lemmas.RoundTrip.{links_length}
+use Rattle.capnp_model.proofs.lemmas.Canonical.{size-trim}
+use Rattle.capnp_model.proofs.lemmas.ReadFits.{tree_at_fits}
 use Rattle.capnp_footprints.specs.Footprints.{behind, Owns}
 use Rattle.capnp_footprints.specs.Totals.{words_of_segments}
 use Rattle.capnp_footprints.proofs.Counting.{words_of_spans, spans_append, spans_within}
-use Rattle.capnp_footprints.proofs.Kept.{words_length, tag_fits}
-use Rattle.capnp_footprints.proofs.There.{value_full}
-use Rattle.capnp_footprints.proofs.Turns.{each_counted}
+use Rattle.capnp_footprints.proofs.lemmas.Kept.{words_length, tag_fits}
+use Rattle.capnp_footprints.proofs.lemmas.There.{value_full}
+use Rattle.capnp_footprints.proofs.lemmas.Turns.{each_counted}
 
 -- one level: what `f` reads at a pointer has no more words than what `b` covers there
 module _ (s : Segments) (f : Place → Option Tree) (b : Place → List Span) (h : (p : Place) (t : Tree) → f p ≡ Some t → length (body t) ≤ words_of_spans (b p)) where

@@ -1,33 +1,10 @@
-pub mod Spans
-pub mod Kept
-pub mod There
-pub mod Algebra
-pub mod Rows
-pub mod Lift
-pub mod Splices
-pub mod Growing
-pub mod Writing
-pub mod Levels
-pub mod Cells
-pub mod Zeros
-pub mod Nulls
-pub mod Clearing
-pub mod Cleared
-pub mod Turns
-pub mod Pointing
-pub mod NewKinds
-pub mod Prepared
-pub mod Detached
-pub mod FarPointing
-pub mod Moving
-pub mod MovedChildren
-pub mod PointerRows
-pub mod SpareMoves
-pub mod Direct
-pub mod MovedElements
-pub mod NewObjects
-pub mod CanonicalWords
-pub mod Counting
-pub mod Depths
-pub mod FewerLevels
+pub mod lemmas
+mod Clearing
+mod Cleared
+mod MovedChildren
+mod NewObjects
+mod CanonicalWords
+mod Counting
+mod Depths
+mod FewerLevels
 mod Lengths

@@ -5,17 +5,17 @@ use Rattle.capnp_model.specs.Pointers.{Object, a_struct, a_list, found_at, Found
 use Rattle.capnp_model.specs.Segments.{Segments, Place, after}
 use Rattle.capnp_model.specs.Traversal.{tree_at}
 use Rattle.capnp_model.specs.Trees.{Tree, Trees, null, structure, pointer_list, with_child}
-use Rattle.capnp_model.proofs.Locality.{all_right}
-use Rattle.capnp_model.proofs.SoundRules.{apart}
+use Rattle.capnp_model.proofs.lemmas.Locality.{all_right}
+use Rattle.capnp_model.proofs.lemmas.SoundRules.{apart}
 use Rattle.capnp_footprints.specs.Changes.{Changes}
 use Rattle.capnp_footprints.specs.Detached.{all_taken, Detached, AreZero, Moves}
 use Rattle.capnp_footprints.specs.Footprints.{object_footprint, OwnsObject, footprint}
 use Rattle.capnp_footprints.specs.Rows.{Lifts}
-use Rattle.capnp_footprints.proofs.Algebra.{changes_lift, changes_alike, beside_kept}
-use Rattle.capnp_footprints.proofs.Detached.{zeros_kept, part_changed, detached_owns}
-use Rattle.capnp_footprints.proofs.Lift.{slot_is, object_of_pointer, struct_is, pointer_of_object_with, struct_of_child_with, pointers_are, list_of_child_with}
-use Rattle.capnp_footprints.proofs.Rows.{child_le}
-use Rattle.capnp_footprints.proofs.Spans.{times_held_append}
+use Rattle.capnp_footprints.proofs.lemmas.Algebra.{changes_lift, changes_alike, beside_kept}
+use Rattle.capnp_footprints.proofs.lemmas.Detached.{zeros_kept, part_changed, detached_owns}
+use Rattle.capnp_footprints.proofs.lemmas.Lift.{slot_is, object_of_pointer, struct_is, pointer_of_object_with, struct_of_child_with, pointers_are, list_of_child_with}
+use Rattle.capnp_footprints.proofs.lemmas.Rows.{child_le}
+use Rattle.capnp_footprints.proofs.lemmas.Spans.{times_held_append}
 
 pub child_moved : (n : ℕ) (s u w : Segments) (p : Place) (t v t' v' c : Tree) (xs spare : List Span) (o : Object) (f : Found) (a b : Place) → Detached n s u p t (xs ++ spare) o v → found_at u p ≡ Ok f
     → ((q : Place) → footprint n u a q ≤ object_footprint n u f.object q) → ((q : Place) → footprint n u b q ≤ object_footprint n u o q) → Moves n u w a b xs c → Lifts n u w a f.object t' → Lifts n u w b o v' → Detached n s w p t' spare o v' × (found_at w p ≡ Ok f)

@@ -10,19 +10,19 @@ use Rattle.capnp_model.specs.Sections.{bits_at}
 use Rattle.capnp_model.specs.Segments.{Segments, Place, after, words_at, place, word_at}
 use Rattle.capnp_model.specs.Traversal.{tree_at}
 use Rattle.capnp_model.specs.Trees.{structure, none, resized}
-use Rattle.capnp_model.proofs.Locality.{word_was, word_is}
-use Rattle.capnp_model.proofs.PointerWords.{struct_says, begins_behind, begins_here}
+use Rattle.capnp_model.proofs.lemmas.Locality.{word_was, word_is}
+use Rattle.capnp_model.proofs.lemmas.PointerWords.{struct_says, begins_behind, begins_here}
 use Rattle.capnp_footprints.specs.Changes.{Changes, Replaces, absent}
 use Rattle.capnp_footprints.specs.Footprints.{footprint}
 use Rattle.capnp_footprints.specs.Writes.{with_words, with_zeros, segment_end}
-use Rattle.capnp_footprints.proofs.Growing.{Extends, zeros_extend}
-use Rattle.capnp_footprints.proofs.Lift.{slot_is}
-use Rattle.capnp_footprints.proofs.Rows.{after_none}
-use Rattle.capnp_footprints.proofs.Spans.{words_back, held, held_is, held_split, held_self, there, words_front, grows_then, grows_same, held_le}
-use Rattle.capnp_footprints.proofs.Splices.{Rewrites, splice_rewrites}
-use Rattle.capnp_footprints.proofs.There.{words_there}
-use Rattle.capnp_footprints.proofs.Writing.{rewrites_keep, written_word}
-use Rattle.capnp_footprints.proofs.Zeros.{held_none, null_footprint, zero_struct, zero_struct_takes}
+use Rattle.capnp_footprints.proofs.lemmas.Growing.{Extends, zeros_extend}
+use Rattle.capnp_footprints.proofs.lemmas.Lift.{slot_is}
+use Rattle.capnp_footprints.proofs.lemmas.Rows.{after_none}
+use Rattle.capnp_footprints.proofs.lemmas.Spans.{words_back, held, held_is, held_split, held_self, there, words_front, grows_then, grows_same, held_le}
+use Rattle.capnp_footprints.proofs.lemmas.Splices.{Rewrites, splice_rewrites}
+use Rattle.capnp_footprints.proofs.lemmas.There.{words_there}
+use Rattle.capnp_footprints.proofs.lemmas.Writing.{rewrites_keep, written_word}
+use Rattle.capnp_footprints.proofs.lemmas.Zeros.{held_none, null_footprint, zero_struct, zero_struct_takes}
 
 -- ---- the change
 

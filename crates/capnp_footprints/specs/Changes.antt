@@ -1,12 +1,12 @@
 -- What writing changes: one value becomes another, and nothing else.
-use Rattle.std.specs.Prelude.{◌≡◌, ℕ, ◌+◌, ◌<◌, ◌≤◌, if◌then◌else◌, Some, Ok}
+use Rattle.std.specs.Prelude.{◌≡◌, ℕ, ◌+◌, ◌<◌, ◌≤◌, [], ◌∷◌, if◌then◌else◌, Some, Ok}
 use Rattle.std.specs.Option.{is_some}
 use Rattle.capnp_model.specs.Sections.{bits_at}
 use Rattle.capnp_model.specs.Segments.{Segments, Place, place, word_at}
 use Rattle.capnp_model.specs.Pointers.{Object, Found, found_at}
 use Rattle.capnp_model.specs.Trees.{Tree}
 use Rattle.capnp_model.specs.Traversal.{tree_of, tree_at}
-use Rattle.capnp_model.specs.Coverage.{Grows}
+use Rattle.capnp_model.specs.Coverage.{Grows, span, times_held}
 use Rattle.capnp_footprints.specs.Footprints.{footprint, object_footprint}
 
 -- 1 where there is no word.
@@ -33,6 +33,10 @@ pub record Replaces (n : ℕ) (s u : Segments) (p : Place) (t : Tree) : Type 0 w
 pub record ReplacesObject (n : ℕ) (s u : Segments) (o : Object) (t : Tree) : Type 0 where
   pub means : tree_of u (tree_at n u) o ≡ Some t
   pub changes : Changes s u (object_footprint n s o) (object_footprint n u o)
+
+-- What belonged to an object is replaced by k words at a place, and nothing else changes.
+abbrev pub TakesWords : ℕ → Segments → Segments → Object → Place → ℕ → Type 0
+TakesWords n s u o p k = Changes s u (object_footprint n s o) (times_held (span p k ∷ []))
 
 -- Every word that c doesn't count is zero.
 abbrev pub ZeroBeside : Segments → (Place → ℕ) → Type 0

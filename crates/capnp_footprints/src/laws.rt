@@ -115,9 +115,8 @@ pub fn elements_of_lists()
 
 /// A null pointer gets a new struct of zeros and nulls: one without words lies at the pointer itself, another behind the end of the pointer's segment, or in any segment behind a pad of one word. Nothing else changes.
 pub fn new_structs()
-    ensures empty { (n : ℕ) (s : Segments) (p : Place) → word_at s p ≡ Some 0
-        → Replaces (suc n) s (pointed s p (struct_pointer (2 ^ 30 - 1) 0 0)) p
-        (structure 0 0 none) }
+    ensures empty { (n : ℕ) (s : Segments) (p : Place) → word_at s p ≡ Some 0 → Replaces (suc n) s
+        (pointed s p (struct_pointer (2 ^ 30 - 1) 0 0)) p (structure 0 0 none) }
     ensures near { (n d k offset : ℕ) (s : Segments) (p : Place) → p.segment < length s
         → word_at s p ≡ Some 0 → 0 < d + k → IsNear p (end_of s p.segment) offset
         → Fits (new_struct d k)

@@ -9,7 +9,7 @@ ghost use Rattle.capnp_model.specs.Trees.{Tree, null, structure, pointer_list, s
 ghost use Rattle.capnp_model.specs.Traversal.{Tag, tag_in, of_bits, list_kind};
 ghost use Rattle.capnp_model.specs.Coverage.{Span, span, times_held};
 ghost use Rattle.capnp_footprints.specs.Footprints.{footprint, object_footprint, own_words, Owns, OwnsObject};
-ghost use Rattle.capnp_footprints.specs.Changes.{Changes, Clears, Replaces, ReplacesObject, Leads};
+ghost use Rattle.capnp_footprints.specs.Changes.{Changes, Clears, Replaces, ReplacesObject, TakesWords, Leads};
 ghost use Rattle.capnp_footprints.specs.Elements.{element_at};
 ghost use Rattle.capnp_footprints.specs.Children.{with_first, with_first_elements, childless};
 ghost use Rattle.capnp_footprints.specs.Turns.{ChildrenInTurn, Structs, struct_of, ElementsInTurn};
@@ -44,16 +44,15 @@ pub fn cleared_pointers()
 pub fn childless_objects()
     ensures structs { (n : ℕ) (s u : Segments) (p : Place) (d k w section : ℕ)
         → ReplacesObject n s u (a_struct p d k) (structure w section (resized k none))
-        → Changes s u (object_footprint n s (a_struct p d k)) (times_held (span p (d + k) ∷ [])) }
+        → TakesWords n s u (a_struct p d k) p (d + k) }
     ensures plain { (n : ℕ) (s : Segments) (p : Place) (size count : ℕ) → list_kind size ≡ of_bits
-        → Changes s s (object_footprint n s (a_list p size count)) (times_held (span p
-        (words_for (size_bits size * count)) ∷ [])) }
+        → TakesWords n s s (a_list p size count) p (words_for (size_bits size * count)) }
     ensures pointers { (n : ℕ) (s u : Segments) (p : Place) (k : ℕ)
         → ReplacesObject n s u (a_list p 6 k) (pointer_list (resized k none))
-        → Changes s u (object_footprint n s (a_list p 6 k)) (times_held (span p k ∷ [])) }
+        → TakesWords n s u (a_list p 6 k) p k }
     ensures structs_in_lists { (n : ℕ) (s u : Segments) (p : Place) (m d k : ℕ) (es : Elements)
         → ReplacesObject n s u (a_list p 7 m) (struct_list d k (childless k es))
-        → Changes s u (object_footprint n s (a_list p 7 m)) (times_held (span p (1 + m) ∷ [])) }
+        → TakesWords n s u (a_list p 7 m) p (1 + m) }
 {}
 
 /// The value of an object has its shape: a struct's has its data words, a list of pointers has children, a list of structs has as many elements as its tag counts.

@@ -38,8 +38,7 @@ pub fn shares_of_spare_words()
 /// Spare words become an object: of zeros, with its words written, or with the tag of a list of structs written.
 pub fn objects_of_spare_words()
     ensures zeros { (n k : ℕ) (s u : Segments) (p r : Place) (t : Tree) (x : New)
-        (spare : List Span)
-        → HasSpare n s u p t r k spare → new_words x ≡ replicate k 0 → Fits x
+        (spare : List Span) → HasSpare n s u p t r k spare → new_words x ≡ replicate k 0 → Fits x
         → HasNew n s u p t r x spare }
     ensures written { (n k : ℕ) (s u : Segments) (p r : Place) (t : Tree) (x : New)
         (spare : List Span)
@@ -68,9 +67,8 @@ pub fn changes_of_detached_objects()
 /// The value is null, and its pointer is written: to the object, to a spare word as pad, or to two of them. The value is the object's, and nothing else changed.
 pub fn pointers_to_detached_objects()
     ensures near { (n offset : ℕ) (s u : Segments) (p r : Place) (x : New) (v : Tree)
-        (spare : List Span)
-        → AwaitsPointer n s u p r x v spare → Reaches p r offset → 0 < new_pointer offset x
-        → Replaces (suc n) s (pointed u p (new_pointer offset x)) p v }
+        (spare : List Span) → AwaitsPointer n s u p r x v spare → Reaches p r offset
+        → 0 < new_pointer offset x → Replaces (suc n) s (pointed u p (new_pointer offset x)) p v }
     ensures far { (n offset : ℕ) (s u : Segments) (p r pad : Place) (x : New) (v : Tree)
         (spare : List Span)
         → AwaitsPointer n s u p r x v (span pad 1 ∷ spare) → IsNamed pad → Reaches pad r offset

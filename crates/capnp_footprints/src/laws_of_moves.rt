@@ -23,9 +23,8 @@ pub fn moved_values()
         → IsMovable n s a b [] w f t → 2 ≤ bits_at 0 2 w
         → Moves n s (pointed (zeroed s a 1) b w) a b [] t }
     ensures near { (n w offset : ℕ) (s : Segments) (a b r : Place) (x : New) (t : Tree)
-        → IsMovable n s a b [] w (found_new r x) t
-        → Reaches b r offset → 0 < new_pointer offset x → Fits x
-        → Moves n s (pointed (zeroed s a 1) b (new_pointer offset x)) a b [] t }
+        → IsMovable n s a b [] w (found_new r x) t → Reaches b r offset → 0 < new_pointer offset x
+        → Fits x → Moves n s (pointed (zeroed s a 1) b (new_pointer offset x)) a b [] t }
     ensures empty { (n w : ℕ) (s : Segments) (a b r : Place) (t : Tree)
         → IsMovable n s a b [] w (found_new r (new_struct 0 0)) t
         → Moves n s (pointed (zeroed s a 1) b (struct_pointer (2 ^ 30 - 1) 0 0)) a b [] t }

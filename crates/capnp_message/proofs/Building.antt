@@ -16,22 +16,22 @@ use Rattle.capnp_model.specs.Trees.{Tree}
 use Rattle.capnp_units.specs.declared.errors.Error.{Error}
 use Rattle.capnp_units.specs.declared.kinds.ErrorKind.TheVariants.{SizeOverflow}
 use Rattle.capnp_units.specs.declared.limiter.ReadLimiter.{ReadLimiter}
-use Rattle.capnp_object.proofs.Words.{word_of_eight}
+use Rattle.capnp_object.proofs.lemmas.Words.{word_of_eight}
 use Rattle.capnp_canonical.specs.Writes.{words_view}
 use Rattle.capnp_footprints.specs.Writes.{spliced, with_words, with_zeros, segment_end}
-use Rattle.capnp_footprints.proofs.Splices.{spliced_whole}
+use Rattle.capnp_footprints.proofs.lemmas.Splices.{spliced_whole}
 use Rattle.capnp_copy.specs.Allocations.{Allocates, total_words}
 use Rattle.capnp_copy.specs.Values.{Becomes}
 use Rattle.capnp_model.specs.Encoding.{canonical_words}
 use Rattle.capnp_model.specs.Traversal.{tree_at}
 use Rattle.capnp_model.specs.Trimming.{trim}
 use Rattle.capnp_model.specs.Visits.{Visit, visits, visits_cost}
-use Rattle.capnp_model.proofs.Chaining.{bind_some, some_is}
+use Rattle.capnp_model.proofs.lemmas.Chaining.{bind_some, some_is}
 use Rattle.capnp_units.specs.declared.kinds.ErrorKind.{ErrorKind}
 use Rattle.capnp_units.specs.Limits.{less, left_of, granted_of}
 use Rattle.capnp_object.specs.Walks.{CannotPass, Stopped}
 use Rattle.capnp_copy_from.specs.Copies.{BecomesCopy, CopiesValue, Unplaced}
-use Rattle.capnp_copy_from.proofs.Filling.{value_stands}
+use Rattle.capnp_copy_from.proofs.lemmas.Filling.{value_stands}
 use Rattle.capnp_message.specs.Canonical.{GivesCanonical, IsFree, HasNoRoot, CopiesWords, ReplacesRoot, IsReplaced, HasNoRoom, SetsCanonical}
 use Rattle.capnp_units.specs.Segments.{words_in}
 use Rattle.capnp_message.specs.Built.{rooted, used_words}

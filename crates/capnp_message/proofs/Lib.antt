@@ -1,7 +1,7 @@
-pub mod Written
-pub mod Held
-pub mod Rooms
-pub mod Owning
-pub mod Building
-pub mod Blobs
-pub mod NullRoot
+mod Written
+mod Held
+mod Rooms
+mod Owning
+mod Building
+mod Blobs
+mod NullRoot

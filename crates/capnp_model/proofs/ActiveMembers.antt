@@ -10,8 +10,8 @@ use Rattle.capnp_model.specs.Accepted.{IsAccepted, schema_of}
 use Rattle.capnp_model.specs.Calls.{Step, name, index, Verb, Call}
 use Rattle.capnp_model.specs.Steps.{Outcome, done, Target, no_target, target, target_of, entry_of, unless_member, replaced, at_target, on_name, on_index, opened, through_value, through_field, step_field, step_element, step_path, step}
 use Rattle.capnp_model.specs.ActiveMembers.{element_of, reading_at, IsActiveAt, AreMembers, SparesName, SparesValue, SparesField, SparesBehind, SparesElement, Spares}
-use Rattle.capnp_model.proofs.FineShapes.{IsGood, AreGood, IsGoodBody}
-use Rattle.capnp_model.proofs.SoundRules.{rules_kept, good_shape}
+use Rattle.capnp_model.proofs.lemmas.FineShapes.{IsGood, AreGood, IsGoodBody}
+use Rattle.capnp_model.proofs.lemmas.SoundRules.{rules_kept, good_shape}
 use Rattle.capnp_model.proofs.WellReadings.{typed, IsEntry, IsBody, AreElements, AreEntries, same_slot, record_well}
 use Rattle.capnp_model.proofs.RecordEntries.{unmap, found_entry, missing_entry, written_entry, other_entry, one_member, good_target}
 

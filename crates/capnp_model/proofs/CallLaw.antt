@@ -9,9 +9,9 @@ use Rattle.capnp_model.specs.Steps.{Outcome, done, step, step_path}
 use Rattle.capnp_model.specs.Edits.{edit, if_done, write_path}
 use Rattle.capnp_model.specs.Accepted.{schema_of, IsAccepted}
 use Rattle.capnp_model.specs.NamedPaths.{IsInRange, IsOpen, GoesByNames}
-use Rattle.capnp_model.proofs.SoundShapes.{IsFineSchema}
-use Rattle.capnp_model.proofs.Paths.{path_law}
-use Rattle.capnp_model.proofs.SoundRules.{accepted_is_fine}
+use Rattle.capnp_model.proofs.lemmas.SoundShapes.{IsFineSchema}
+use Rattle.capnp_model.proofs.lemmas.Paths.{path_law}
+use Rattle.capnp_model.proofs.lemmas.SoundRules.{accepted_is_fine}
 
 on_path : (s : Schema) → IsFineSchema s → (verb : Verb) → IsInRange verb → (id : ℕ) → s.is_group id ≡ false → (path : List Step) (t : Tree) (r : Record) → GoesByNames s (fields_in (s.shape_of id)) path → IsOpen t
     → step_path s (fields_in (s.shape_of id)) path verb (record_by_shape s (s.shape_of id) t) ≡ done r → record_by_shape s (s.shape_of id) (write_path s (s.shape_of id) path verb t) ≡ r

@@ -8,7 +8,7 @@ use Rattle.capnp_model.specs.Calls.{whole_number, truth, enumerant, text_value, 
 use Rattle.capnp_model.specs.Groups.{empty_tree, source_tree}
 use Rattle.capnp_model.specs.Edits.{Cell, Edit, put_child, mark, put_content, is_kept, edit_if, cleared, cleared_fields, cleared_body, pointer_writes, has_turn, group_writes, field_writes, body_writes, after_writes, from_message, put_group, put_field, put_in_element}
 use Rattle.capnp_model.specs.EditDepths.{verb_depth}
-use Rattle.capnp_model.proofs.Stripping.{depths-resized}
+use Rattle.capnp_model.proofs.lemmas.Stripping.{depths-resized}
 use Rattle.capnp_model.proofs.ContentDepths.{depths-with_child, depth-child, ContentWithin, root_depth, new_list_within, slot_within}
 
 -- ---- changes of a cell

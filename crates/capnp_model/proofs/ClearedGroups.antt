@@ -10,15 +10,15 @@ use Rattle.capnp_model.specs.Readings.{Reading, number, record_as, entry, no_chi
 use Rattle.capnp_model.specs.Accepted.{Area, union_area, areas_of, areas_of_fields, areas_of_body, are_apart, is_apart_from, has_no_overlap, fields_are_apart, body_has_no_overlap}
 use Rattle.capnp_model.specs.Edits.{Cell, mark, put_child, is_kept, edit_if, cleared, cleared_fields, cleared_body}
 use Rattle.capnp_model.specs.InKind.{in_kind, child_in_kind, fields_in_kind, body_in_kind, shape_in_kind}
-use Rattle.capnp_model.proofs.SoundShapes.{MarkApart, Apart}
-use Rattle.capnp_model.proofs.KeptRules.{and_left, and_right, and_three}
+use Rattle.capnp_model.proofs.lemmas.SoundShapes.{MarkApart, Apart}
+use Rattle.capnp_model.proofs.lemmas.KeptRules.{and_left, and_right, and_three}
 use Rattle.capnp_model.proofs.ApartAreas.{apart_of, Apart-sym}
-use Rattle.capnp_model.proofs.FineShapes.{IsGood, AreGood, IsGoodBody}
-use Rattle.capnp_model.proofs.Bits.{bits_at-with_bits}
+use Rattle.capnp_model.proofs.lemmas.FineShapes.{IsGood, AreGood, IsGoodBody}
+use Rattle.capnp_model.proofs.lemmas.Bits.{bits_at-with_bits}
 use Rattle.capnp_model.proofs.Views.{body_of-same}
-use Rattle.capnp_model.proofs.Marks.{view_of}
-use Rattle.capnp_model.proofs.Paths.{read_child-is, Apart-left, Apart-right}
-use Rattle.capnp_model.proofs.KeptCells.{KeptAll, KeptAll-refl, KeptAll-trans, kept_views, child-with_child, kept_if_put, kept_if_written, child_in_kind-is, discriminant-kept, body_in_kind-kept, both}
+use Rattle.capnp_model.proofs.lemmas.Marks.{view_of}
+use Rattle.capnp_model.proofs.lemmas.Paths.{read_child-is, Apart-left, Apart-right}
+use Rattle.capnp_model.proofs.lemmas.KeptCells.{KeptAll, KeptAll-refl, KeptAll-trans, kept_views, child-with_child, kept_if_put, kept_if_written, child_in_kind-is, discriminant-kept, body_in_kind-kept, both}
 use Rattle.capnp_model.proofs.FieldsApart.{IsIn, off_union_in, OfField, IsLocal, AllChosen, IsBeside, run, run_meets}
 
 pub zero_bits : (at w : ℕ) → bits_at at w 0 ≡ 0

@@ -6,7 +6,7 @@ use Rattle.capnp_model.specs.Readings.{record_of}
 use Rattle.capnp_model.specs.Accepted.{schema_of, IsAccepted}
 use Rattle.capnp_model.specs.Compatible.{IsCompatible}
 use Rattle.capnp_model.specs.Projection.{projected}
-use Rattle.capnp_model.proofs.KeptShapes.{older_record}
+use Rattle.capnp_model.proofs.lemmas.KeptShapes.{older_record}
 use Rattle.capnp_model.proofs.Transitive.{compatible_along_versions}
 
 -- THE LAW: both are the record under the oldest

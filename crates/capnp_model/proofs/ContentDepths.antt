@@ -7,7 +7,7 @@ use Rattle.capnp_model.specs.Schemas.{PlainType, bool, int, uint, «enum», Ty, 
 use Rattle.capnp_model.specs.Readings.{is_list_of}
 use Rattle.capnp_model.specs.Calls.{CallValue, whole_number, truth, enumerant, text_value, blob_value, message, Verb, get, set_to, init, initn, clear, Content, refused_by, bits_of, object, plain_content, struct_content, message_root, value_content, empty_elements, empty_structs, empty_struct, new_list, init_content, initn_content, slot_content, element_content}
 use Rattle.capnp_model.specs.EditDepths.{verb_depth}
-use Rattle.capnp_model.proofs.Stripping.{depths-resized}
+use Rattle.capnp_model.proofs.lemmas.Stripping.{depths-resized}
 
 -- ---- children
 

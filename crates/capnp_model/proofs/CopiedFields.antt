@@ -12,14 +12,14 @@ use Rattle.capnp_model.specs.Accepted.{Area, pointer_area, union_area, areas_of_
 use Rattle.capnp_model.specs.Groups.{empty_tree, source_tree, has_active, copied_record, copied_reading}
 use Rattle.capnp_model.specs.Edits.{Cell, Edit, mark, put_bits, put_child, edit_if, pointer_writes, has_turn, group_writes, field_writes, body_writes, after_writes}
 use Rattle.capnp_model.specs.InKind.{Kinds, in_kind, child_in_kind, fields_in_kind, body_in_kind, shape_in_kind}
-use Rattle.capnp_model.proofs.SoundShapes.{MarkApart, HasPlace, Apart}
-use Rattle.capnp_model.proofs.KeptRules.{and_left, and_right}
-use Rattle.capnp_model.proofs.Bits.{bits_at-with_bits}
+use Rattle.capnp_model.proofs.lemmas.SoundShapes.{MarkApart, HasPlace, Apart}
+use Rattle.capnp_model.proofs.lemmas.KeptRules.{and_left, and_right}
+use Rattle.capnp_model.proofs.lemmas.Bits.{bits_at-with_bits}
 use Rattle.capnp_model.proofs.Writes.{discriminant_after}
 use Rattle.capnp_model.proofs.Views.{body_of-same}
-use Rattle.capnp_model.proofs.Marks.{view_of}
-use Rattle.capnp_model.proofs.Paths.{read_child-is, marks_mark}
-use Rattle.capnp_model.proofs.KeptCells.{KeptAll, KeptAll-refl, KeptAll-trans, kept_views, child-with_child, kept_if_put, kept_if_written, kept_if_marked, child_in_kind-is, discriminant-kept, body_in_kind-kept, both, or_right}
+use Rattle.capnp_model.proofs.lemmas.Marks.{view_of}
+use Rattle.capnp_model.proofs.lemmas.Paths.{read_child-is, marks_mark}
+use Rattle.capnp_model.proofs.lemmas.KeptCells.{KeptAll, KeptAll-refl, KeptAll-trans, kept_views, child-with_child, kept_if_put, kept_if_written, kept_if_marked, child_in_kind-is, discriminant-kept, body_in_kind-kept, both, or_right}
 use Rattle.capnp_model.proofs.FieldsApart.{IsIn, OfField, IsLocal, run}
 use Rattle.capnp_model.proofs.ClearedGroups.{IsBlank, blank_kept, nothing_read}
 

@@ -10,12 +10,12 @@ use Rattle.capnp_model.specs.Groups.{copied_record, copied_entries, copied_readi
 use Rattle.capnp_model.specs.Edits.{Cell, Edit, mark, edit_if, cleared, cleared_fields, has_turn, group_writes, field_writes, after_writes, IsBegun, edit_field}
 use Rattle.capnp_model.specs.InKind.{child_in_kind, fields_in_kind, body_in_kind, shape_in_kind}
 use Rattle.capnp_model.specs.InKindCalls.{defaults_in_kind, field_defaults_in_kind, body_default_in_kind}
-use Rattle.capnp_model.proofs.SoundShapes.{MarkApart, HasPlace, Apart}
-use Rattle.capnp_model.proofs.KeptRules.{and_left, and_right, and_three}
+use Rattle.capnp_model.proofs.lemmas.SoundShapes.{MarkApart, HasPlace, Apart}
+use Rattle.capnp_model.proofs.lemmas.KeptRules.{and_left, and_right, and_three}
 use Rattle.capnp_model.proofs.ApartAreas.{Apart-sym}
-use Rattle.capnp_model.proofs.FineShapes.{HasUnion, IsGoodMember, IsGood, AreGood, IsGoodBody, mark_of, place_of, back_of}
-use Rattle.capnp_model.proofs.Paths.{Apart-left, Apart-right}
-use Rattle.capnp_model.proofs.KeptCells.{KeptAll, KeptAll-refl, KeptAll-trans, child_in_kind-is, discriminant-kept, both, or_right}
+use Rattle.capnp_model.proofs.lemmas.FineShapes.{HasUnion, IsGoodMember, IsGood, AreGood, IsGoodBody, mark_of, place_of, back_of}
+use Rattle.capnp_model.proofs.lemmas.Paths.{Apart-left, Apart-right}
+use Rattle.capnp_model.proofs.lemmas.KeptCells.{KeptAll, KeptAll-refl, KeptAll-trans, child_in_kind-is, discriminant-kept, both, or_right}
 use Rattle.capnp_model.proofs.FieldsApart.{IsIn, off_union_in, apart_in, AllChosen, IsBeside, run, run_meets}
 use Rattle.capnp_model.proofs.ClearedGroups.{Blank, Blank-local, blank_kept, first_member, AreCleared, fields_cleared, all_apart_in, union_apart, not_zero}
 use Rattle.capnp_model.proofs.CopiedFields.{Copied, Copied-local, CopiesBody, IsReady, Ready-local, active_is, after_both, behind_mark, copied_is, copy_op, has_active-knows, kind_in, knows, one_turn, plain_copied, pointer_copied, runs_written, turn_active}

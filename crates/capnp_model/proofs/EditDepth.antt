@@ -15,9 +15,9 @@ use Rattle.capnp_model.specs.Calls.{Step, name, index, Verb, Call, element_conte
 use Rattle.capnp_model.specs.Steps.{Outcome, refused, shown, done, step, Target, no_target, target, target_if, target_of}
 use Rattle.capnp_model.specs.Edits.{Cell, Edit, put_child, mark, opened_tree, edit_target, edit_named, in_struct, edit_struct, elements_of_plain, elements_of_pointers, padded_elements, widened_list, as_list, on_pointers, on_elements, edit_list, edit_value, edit_through, edit_through_element, edit_field, edit_element, write_path, if_done, edit}
 use Rattle.capnp_model.specs.EditDepths.{verb_depth, call_depth}
-use Rattle.capnp_model.proofs.Chaining.{bind_some, provided_some}
-use Rattle.capnp_model.proofs.Depth.{tree_at_deep}
-use Rattle.capnp_model.proofs.Stripping.{depths-resized}
+use Rattle.capnp_model.proofs.lemmas.Chaining.{bind_some, provided_some}
+use Rattle.capnp_model.proofs.lemmas.Depth.{tree_at_deep}
+use Rattle.capnp_model.proofs.lemmas.Stripping.{depths-resized}
 use Rattle.capnp_model.proofs.ContentDepths.{depths-with_child, depth-child, depths-padded_to, depth-widened, element_within}
 use Rattle.capnp_model.proofs.CellDepths.{Deepens, DefaultsWithin, AllDefaultsWithin, BodyWithin, mark_deepens, field_put, element_put}
 

@@ -16,16 +16,16 @@ use Rattle.capnp_model.specs.InKind.{in_kind, child_in_kind}
 use Rattle.capnp_model.specs.InKindCalls.{at_value}
 use Rattle.capnp_model.specs.NamedPaths.{IsInRange}
 use Rattle.capnp_model.specs.CallRuns.{IsGiven}
-use Rattle.capnp_model.proofs.SoundShapes.{FitsSlot}
-use Rattle.capnp_model.proofs.FitCalls.{plain_fits}
-use Rattle.capnp_model.proofs.Stripping.{count-resized}
-use Rattle.capnp_model.proofs.Bits.{bits_at-with_bits}
+use Rattle.capnp_model.proofs.lemmas.SoundShapes.{FitsSlot}
+use Rattle.capnp_model.proofs.lemmas.FitCalls.{plain_fits}
+use Rattle.capnp_model.proofs.lemmas.Stripping.{count-resized}
+use Rattle.capnp_model.proofs.lemmas.Bits.{bits_at-with_bits}
 use Rattle.capnp_model.proofs.Views.{shape_record-same}
-use Rattle.capnp_model.proofs.Marks.{view_of}
-use Rattle.capnp_model.proofs.Paths.{read_child-with_child, done_is, shown_not_done}
-use Rattle.capnp_model.proofs.KeptCells.{KeptAll, kept_views, child-with_child, child_in_kind-is, shape_in_kind-kept}
-use Rattle.capnp_model.proofs.ListElements.{HasRoom, ElementRoom, IsElement}
-use Rattle.capnp_model.proofs.ReachedStructs.{AllInside, IsWithin}
+use Rattle.capnp_model.proofs.lemmas.Marks.{view_of}
+use Rattle.capnp_model.proofs.lemmas.Paths.{read_child-with_child, done_is, shown_not_done}
+use Rattle.capnp_model.proofs.lemmas.KeptCells.{KeptAll, kept_views, child-with_child, child_in_kind-is, shape_in_kind-kept}
+use Rattle.capnp_model.proofs.lemmas.ListElements.{HasRoom, ElementRoom, IsElement}
+use Rattle.capnp_model.proofs.lemmas.ReachedStructs.{AllInside, IsWithin}
 use Rattle.capnp_model.proofs.KindsOfContents.{ContentInKind, initn_kinds, value_kinds, verb_in_kind}
 
 -- ---- what an element is given

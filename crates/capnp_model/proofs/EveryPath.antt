@@ -13,18 +13,18 @@ use Rattle.capnp_model.specs.InKindCalls.{defaults_in_kind, at_slot, at_value, e
 use Rattle.capnp_model.specs.NamedPaths.{IsOpen}
 use Rattle.capnp_model.specs.CallRuns.{IsGiven, view_of_value}
 use Rattle.capnp_model.specs.Views.{SameAll}
-use Rattle.capnp_model.proofs.SoundShapes.{Apart, IsFine}
-use Rattle.capnp_model.proofs.KeptRules.{and_right}
-use Rattle.capnp_model.proofs.FineShapes.{fine_shape, found}
-use Rattle.capnp_model.proofs.Marks.{view_of, same_everywhere, SameAll-trans, read_child-padded_to}
-use Rattle.capnp_model.proofs.Paths.{struct-replaced, read_child-with_child, read_child-is, mark_apart, field_apart, unmap, IsMapped, mapped, Opens, open_default, record_is, entry_of-fields_of, nothing_in, still_active, IsThrough, through, to_through, Apart-left, Apart-right}
-use Rattle.capnp_model.proofs.KeptCells.{kept_views, KeptAll, child-with_child, kept_if_put, child_in_kind-is, discriminant-kept, IsPut, is_done, fields_stay_in_kind}
+use Rattle.capnp_model.proofs.lemmas.SoundShapes.{Apart, IsFine}
+use Rattle.capnp_model.proofs.lemmas.KeptRules.{and_right}
+use Rattle.capnp_model.proofs.lemmas.FineShapes.{fine_shape, found}
+use Rattle.capnp_model.proofs.lemmas.Marks.{view_of, same_everywhere, SameAll-trans, read_child-padded_to}
+use Rattle.capnp_model.proofs.lemmas.Paths.{struct-replaced, read_child-with_child, read_child-is, mark_apart, field_apart, unmap, IsMapped, mapped, Opens, open_default, record_is, entry_of-fields_of, nothing_in, still_active, IsThrough, through, to_through, Apart-left, Apart-right}
+use Rattle.capnp_model.proofs.lemmas.KeptCells.{kept_views, KeptAll, child-with_child, kept_if_put, child_in_kind-is, discriminant-kept, IsPut, is_done, fields_stay_in_kind}
 use Rattle.capnp_model.proofs.FieldsApart.{IsIn}
 use Rattle.capnp_model.proofs.ClearedGroups.{nothing_read, nothing_in_kind}
 use Rattle.capnp_model.proofs.CopiedFields.{IsValue, read_value, IsPresent, read_present, quiet_shape, quiet_child, kind_in}
-use Rattle.capnp_model.proofs.ListElements.{IsReal, IsElement, ChangesElement, child_in_kind-padded_to}
+use Rattle.capnp_model.proofs.lemmas.ListElements.{IsReal, IsElement, ChangesElement, child_in_kind-padded_to}
 use Rattle.capnp_model.proofs.ListsInKind.{list_law}
-use Rattle.capnp_model.proofs.ReachedStructs.{IsReached, IsSound, IsSoundBody, IsWithin, sound_target}
+use Rattle.capnp_model.proofs.lemmas.ReachedStructs.{IsReached, IsSound, IsSoundBody, IsWithin, sound_target}
 use Rattle.capnp_model.proofs.KindsOfContents.{verb_in_kind}
 use Rattle.capnp_model.proofs.ElementEnds.{element_after, element_content_kinds, element_fits, pointer_put, put_law}
 use Rattle.capnp_model.proofs.FieldEnds.{field_leaf}

@@ -9,7 +9,7 @@ use Rattle.capnp_model.specs.Trees.{Tree, Trees, Elements}
 use Rattle.capnp_model.specs.Traversal.{tag_in, each, each_element, ListKind, of_bits, of_pointers, of_structs, list_kind, list_words, list_tree, leaf_of, tree_of, tree_at}
 use Rattle.capnp_model.specs.Coverage.{from_each, from_elements}
 use Rattle.capnp_model.specs.Faults.{faults_of, list_faults, object_faults, leaf_faults, faults_at}
-use Rattle.capnp_model.proofs.Chaining.{bind_some, bind_found}
+use Rattle.capnp_model.proofs.lemmas.Chaining.{bind_some, bind_found}
 
 -- ---- lists without an element
 

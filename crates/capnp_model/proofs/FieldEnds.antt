@@ -14,14 +14,14 @@ use Rattle.capnp_model.specs.InKind.{in_kind, fields_in_kind}
 use Rattle.capnp_model.specs.InKindCalls.{defaults_in_kind, at_slot, group_source_in_kind}
 use Rattle.capnp_model.specs.NamedPaths.{IsInRange, IsSlot}
 use Rattle.capnp_model.specs.CallRuns.{IsGiven}
-use Rattle.capnp_model.proofs.SoundShapes.{HasPlace, Apart, FitsSlot, IsFine}
-use Rattle.capnp_model.proofs.Bits.{bits_at-with_bits, xor_twice}
-use Rattle.capnp_model.proofs.Paths.{read_child-with_child, done_is, shown_not_done, after_call, put_is}
-use Rattle.capnp_model.proofs.KeptCells.{KeptAll-refl, child-with_child, kept_if_put, kept_if_written, child_in_kind-is, IsPut}
+use Rattle.capnp_model.proofs.lemmas.SoundShapes.{HasPlace, Apart, FitsSlot, IsFine}
+use Rattle.capnp_model.proofs.lemmas.Bits.{bits_at-with_bits, xor_twice}
+use Rattle.capnp_model.proofs.lemmas.Paths.{read_child-with_child, done_is, shown_not_done, after_call, put_is}
+use Rattle.capnp_model.proofs.lemmas.KeptCells.{KeptAll-refl, child-with_child, kept_if_put, kept_if_written, child_in_kind-is, IsPut}
 use Rattle.capnp_model.proofs.ClearedGroups.{group_cleared}
 use Rattle.capnp_model.proofs.CopiedFields.{behind_mark}
 use Rattle.capnp_model.proofs.CopiedGroups.{group_copied}
-use Rattle.capnp_model.proofs.ReachedStructs.{IsSoundBody}
+use Rattle.capnp_model.proofs.lemmas.ReachedStructs.{IsSoundBody}
 use Rattle.capnp_model.proofs.KindsOfContents.{ContentInKind, plain_kinds, slot_kinds, verb_in_kind}
 use Rattle.capnp_model.proofs.ElementEnds.{in_range}
 

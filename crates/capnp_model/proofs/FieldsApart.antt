@@ -3,11 +3,11 @@ use Rattle.std.proofs.Common.{◌≡◌, ℕ, ◌==◌, Bool, true, false, ◌||
 use Rattle.capnp_model.specs.Schemas.{Fields, no_fields, field, Body, Schema}
 use Rattle.capnp_model.specs.Accepted.{Area, union_area, areas_of, areas_of_fields, areas_of_body, are_members, are_apart, is_apart_from, has_no_overlap, fields_are_apart, body_has_no_overlap}
 use Rattle.capnp_model.specs.Edits.{Cell, Edit, edit_if}
-use Rattle.capnp_model.proofs.SoundShapes.{MarkApart, Apart}
-use Rattle.capnp_model.proofs.KeptRules.{and_left, and_right, and_three}
+use Rattle.capnp_model.proofs.lemmas.SoundShapes.{MarkApart, Apart}
+use Rattle.capnp_model.proofs.lemmas.KeptRules.{and_left, and_right, and_three}
 use Rattle.capnp_model.proofs.ApartAreas.{apart_of, Apart-sym}
-use Rattle.capnp_model.proofs.FineShapes.{IsGoodMember, IsNewMember, AreGood, IsGoodBody, mark_of, front_of, back_of}
-use Rattle.capnp_model.proofs.KeptCells.{KeptAll, KeptAll-refl, KeptAll-trans}
+use Rattle.capnp_model.proofs.lemmas.FineShapes.{IsGoodMember, IsNewMember, AreGood, IsGoodBody, mark_of, front_of, back_of}
+use Rattle.capnp_model.proofs.lemmas.KeptCells.{KeptAll, KeptAll-refl, KeptAll-trans}
 
 -- The member and the field stand among the fields.
 abbrev pub IsIn : Option ℕ → Body → Fields → Type 0

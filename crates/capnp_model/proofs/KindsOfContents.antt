@@ -8,7 +8,7 @@ use Rattle.capnp_model.specs.Readings.{expected_size, is_list_of}
 use Rattle.capnp_model.specs.Calls.{CallValue, whole_number, truth, enumerant, text_value, blob_value, message, Verb, get, set_to, init, initn, clear, Content, refused_by, bits_of, object, message_root, struct_content, plain_content, value_content, empty_struct, empty_elements, empty_structs, new_list, init_content, initn_content, slot_content}
 use Rattle.capnp_model.specs.InKind.{in_kind, child_in_kind, children_in_kind, elements_in_kind}
 use Rattle.capnp_model.specs.InKindCalls.{PathEnd, at_slot, at_value, target_in_kind}
-use Rattle.capnp_model.proofs.KeptCells.{both}
+use Rattle.capnp_model.proofs.lemmas.KeptCells.{both}
 use Rattle.capnp_model.proofs.CopiedFields.{same_number, quiet_shape, quiet_child}
 
 -- ---- the value of a call

@@ -5,8 +5,8 @@ use Rattle.capnp_model.specs.Pointers.{Object, nothing, a_struct, a_list, a_capa
 use Rattle.capnp_model.specs.Trees.{Tree, Trees, Elements}
 use Rattle.capnp_model.specs.Traversal.{tag_in, each, each_element, ListKind, of_bits, of_pointers, of_structs, list_kind, list_words, list_tree, leaf_of, tree_of, tree_at}
 use Rattle.capnp_model.specs.Means.{Names, Means, means_null, means_capability, means_struct, means_plain, means_pointers, means_structs, MeansEach, means_none, means_next, MeansElements, means_no_elements, means_element}
-use Rattle.capnp_model.proofs.Chaining.{bind_some, bind_found, some_is}
-use Rattle.capnp_model.proofs.Depth.{tree_at_more}
+use Rattle.capnp_model.proofs.lemmas.Chaining.{bind_some, bind_found, some_is}
+use Rattle.capnp_model.proofs.lemmas.Depth.{tree_at_more}
 
 mutual
   unfolding tree_at

@@ -7,9 +7,9 @@ use Rattle.capnp_model.specs.Bytes.{words_in_bytes, taken}
 use Rattle.capnp_model.specs.Packing.{first, unpacked}
 use Rattle.capnp_model.specs.Messages.{Reader, within, message_by, plain_words, halves, cut, behind_lengths, behind_first, message_at, frame_at, packed_at}
 use Rattle.capnp_model.specs.Spelling.{Frames, Packs}
-use Rattle.capnp_model.proofs.Chaining.{ok_then, ok_is, bind_ok}
+use Rattle.capnp_model.proofs.lemmas.Chaining.{ok_then, ok_is, bind_ok}
 use Rattle.capnp_model.proofs.PackedFronts.{Front, joined, taken_fronts, unpacked_from_fronts}
-use Rattle.capnp_model.proofs.MessagePrefixes.{LooksNoFurther, plain_words_more, unpacked_more}
+use Rattle.capnp_model.proofs.lemmas.MessagePrefixes.{LooksNoFurther, plain_words_more, unpacked_more}
 
 -- A reader that reads the same of just the bytes that it takes.
 abbrev pub ReadsFront : Reader → Type 0

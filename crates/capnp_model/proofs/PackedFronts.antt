@@ -6,8 +6,8 @@ use Rattle.capnp_model.specs.Kinds.{Kind, FailedToFillTheWholeBuffer, PackedInpu
 use Rattle.capnp_model.specs.Chains.{◌and_then◌, guard}
 use Rattle.capnp_model.specs.Bytes.{taken}
 use Rattle.capnp_model.specs.Packing.{Run, first, next, zeros, verbatim, byte_at, spread, counted, run_at, group_at, started, with_word, unpacked_from}
-use Rattle.capnp_model.proofs.Chaining.{ok_then, ok_is, bind_ok, cond_ok}
-use Rattle.capnp_model.proofs.ByteWords.{taken_front}
+use Rattle.capnp_model.proofs.lemmas.Chaining.{ok_then, ok_is, bind_ok, cond_ok}
+use Rattle.capnp_model.proofs.lemmas.ByteWords.{taken_front}
 use Rattle.capnp_model.proofs.PackedPrefixes.{taken_more, byte_at_more, spread_more, with_word_ok, group_at_more}
 
 -- The bytes begin with some of which just this is read, and then the rest.

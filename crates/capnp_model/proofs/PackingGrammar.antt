@@ -8,8 +8,8 @@ use Rattle.capnp_model.specs.Chains.{◌and_then◌, guard}
 use Rattle.capnp_model.specs.Bytes.{taken}
 use Rattle.capnp_model.specs.Packing.{Run, first, next, zeros, verbatim, byte_at, spread, counted, run_at, group_at, started, with_word, unpacked_from, unpacked}
 use Rattle.capnp_model.specs.PackingGrammar.{Marked, marked_end, marked_zero, marked_byte, AsTheyAre, are_none, are_more, Spell, spell_nothing, spell_word, spell_zeros, spell_verbatim}
-use Rattle.capnp_model.proofs.Chaining.{ok_then, ok_is, bind_ok, guard_then, cond_ok}
-use Rattle.capnp_model.proofs.ByteWords.{taken_front}
+use Rattle.capnp_model.proofs.lemmas.Chaining.{ok_then, ok_is, bind_ok, guard_then, cond_ok}
+use Rattle.capnp_model.proofs.lemmas.ByteWords.{taken_front}
 use Rattle.capnp_model.proofs.Packing.{IsRun}
 use Rattle.capnp_model.proofs.PackedPrefixes.{with_word_ok, unpacked_from_more}
 use Rattle.capnp_model.proofs.PackedFronts.{unpacked_from_fronts}

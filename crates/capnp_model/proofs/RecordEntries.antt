@@ -5,7 +5,7 @@ use Rattle.std.proofs.lemmas.Slice.Eq.{bytes_eq-Decides}
 use Rattle.capnp_model.specs.Schemas.{Fields, no_fields, field, Body, Schema}
 use Rattle.capnp_model.specs.Readings.{Reading, inactive, Record, no_more, entry, is_active}
 use Rattle.capnp_model.specs.Steps.{Outcome, refused, shown, done, outcome_map, no_target, target, target_if, target_of, choose, entry_of, unless_member, replaced}
-use Rattle.capnp_model.proofs.FineShapes.{IsNewMember, AreGood, IsGoodBody}
+use Rattle.capnp_model.proofs.lemmas.FineShapes.{IsNewMember, AreGood, IsGoodBody}
 use Rattle.capnp_model.proofs.WellReadings.{IsEntry, IsBody, AreEntries}
 
 -- ---- an entry by its name

@@ -12,7 +12,7 @@ use Rattle.capnp_model.specs.Schemas.{PlainType, bool, int, uint, «enum», Ty, 
 use Rattle.capnp_model.specs.Accepted.{find_node, fields_of_kind, default_bits, default_tree, slot_body, field_body, fields_from, union_place, no_shape, shape_of_node, shape_in, schema_of}
 use Rattle.capnp_model.specs.Compatible.{Pairs, has_pair, same_names, related_plain, related, same_option, member_count, keeps_union, same_default, keeps, keeps_fields, keeps_body, IsCompatible}
 use Rattle.capnp_model.specs.InKindCalls.{struct_ids}
-use Rattle.capnp_model.proofs.KeptRules.{and_left, and_right, found_passes}
+use Rattle.capnp_model.proofs.lemmas.KeptRules.{and_left, and_right, found_passes}
 
 same : (n : ℕ) → (n == n) ≡ true
 same n = eq-eqb n n refl

@@ -10,7 +10,7 @@ use Rattle.capnp_model.specs.Trees.{has_capability}
 use Rattle.capnp_model.specs.Trimming.{trim}
 use Rattle.capnp_model.specs.Accepted.{fault_of, shape_in, has_no_overlap, areas_of, schema_of}
 use Rattle.capnp_model.specs.Compatible.{Pairs, IsCompatible, keeps}
-use Rattle.capnp_model.proofs.KeptShapes.{pair_is_kept}
+use Rattle.capnp_model.proofs.lemmas.KeptShapes.{pair_is_kept}
 use Rattle.capnp_model.specs.Admitted.{is_admitted, is_admitted_from, is_extended}
 use Rattle.capnp_model.proofs.ExampleSchemas.{one, slot_field, u16_field, u8_field, text_field, group_field, node, pair_with, union_with, group_holder, group_node, example_nodes, newer_nodes}
 

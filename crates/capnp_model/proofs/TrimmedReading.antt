@@ -1,6 +1,6 @@
 -- A trimmed tree reads as the tree, where lists are in kind.
-use Rattle.capnp_model.proofs.Stripping.{resized-stripped}
-use Rattle.capnp_model.proofs.TrimTwice.{trim-trim}
+use Rattle.capnp_model.proofs.lemmas.Stripping.{resized-stripped}
+use Rattle.capnp_model.proofs.lemmas.TrimTwice.{trim-trim}
 use Rattle.std.proofs.Common.{◌≡◌, ℕ, zero, suc, ◌*◌, ◌≤◌, ◌==◌, ◌&&◌, ◌||◌, not, Option, Bool, true, false, if◌then◌else◌, refl, sym, ◌∙◌, ap, subst, arith}
 use Rattle.capnp_model.specs.Trees.{Tree, null, capability, structure, plain_list, pointer_list, struct_list, Trees, none, ◌▸◌, Elements, no_elements, element, tree_count, resized}
 use Rattle.capnp_model.specs.Trimming.{stripped, after_stripping, common_pointers, with_pointers, common_words, trim, trim_each, trim_elements}

@@ -1,7 +1,7 @@
 -- What a write to one field does to a struct's record.
 use Rattle.std.proofs.Common.{◌≡◌, ℕ, ◌+◌, ◌^◌, ◌<◌, ◌≤◌, ◌==◌, ◌&&◌, List, [], ◌∷◌, Option, Some, None, Bool, true, false, nat_lt, nat_le, if◌then◌else◌, ◌⊎◌, inl, inr, refl, sym, ◌∙◌, ap, arith}
 use Rattle.std.specs.Str.{bytes_eq}
-use Rattle.capnp_model.proofs.SoundShapes.{AllApart}
+use Rattle.capnp_model.proofs.lemmas.SoundShapes.{AllApart}
 use Rattle.capnp_model.specs.Sections.{bits_at, with_bits}
 use Rattle.capnp_model.specs.Schemas.{Fields, no_fields, field, Body}
 use Rattle.capnp_model.specs.Readings.{Reading, entry, Extent, whole_words, just_bits, field_bits, is_active, only_if, shape_record, fields_of, body_of}
@@ -9,7 +9,7 @@ use Rattle.capnp_model.specs.Accepted.{Area, bit_area, pointer_area, share, area
 use Rattle.capnp_model.specs.Steps.{choose, unless_member, replaced}
 use Rattle.capnp_model.specs.Views.{View, SameAt, SameAll}
 use Rattle.capnp_model.proofs.Views.{body_of-same}
-use Rattle.capnp_model.proofs.Bits.{bits_at-with_bits_below, bits_at-with_bits_above}
+use Rattle.capnp_model.proofs.lemmas.Bits.{bits_at-with_bits_below, bits_at-with_bits_above}
 
 -- ---- one field is written: the others read as before
 

@@ -220,7 +220,7 @@ pub fn written_messages()
         → Packs limit (packed_message s) s }
 {}
 
-/// Bytes at whose front a message is read begin with its text, bytes behind a text change nothing, and a slice is read as a stream is.
+/// Bytes at whose front a message is read begin with its text, and bytes behind a text change nothing.
 pub fn texts_of_messages()
     ensures framed_front { (limit : Option ℕ) (b : List ℕ) (s : Segments) (rest : List ℕ)
         → frame_at limit b ≡ Ok (s, rest) → (x : List ℕ) × (b ≡ x ++ rest) × Frames limit x s }
@@ -230,6 +230,10 @@ pub fn texts_of_messages()
         → frame_at limit b ≡ Ok r → frame_at limit (b ++ x) ≡ Ok (r.0, r.1 ++ x) }
     ensures packed_more { (limit : Option ℕ) (b : List ℕ) (r : Segments × List ℕ) (x : List ℕ)
         → packed_at limit b ≡ Ok r → packed_at limit (b ++ x) ≡ Ok (r.0, r.1 ++ x) }
+{}
+
+/// A slice is read as a stream is.
+pub fn texts_in_slices()
     ensures in_slice { (limit : Option ℕ) (b : List ℕ) (r : Segments × List ℕ)
         → frame_at limit b ≡ Ok r → flat_at limit b ≡ Ok r }
     ensures of_slice { (limit : Option ℕ) (b : List ℕ) (r : Segments × List ℕ)
@@ -311,9 +315,8 @@ pub fn values_on_walks()
     ensures row_cost { (n : ℕ) (s : Segments) (p : Place) (k : ℕ) (ts : Trees)
         → each (tree_at n s) p k ≡ Some ts
         → visits_cost (from_each (visits n s) p k) ≡ Some (cost_each (cost_at n s) p k) }
-    ensures row_count { (n : ℕ) (s : Segments) (p : Place) (k : ℕ) (ts : Trees)
-        → each (tree_at n s) p k ≡ Some ts
-        → length (from_each (visits n s) p k) ≡ each_pointers_of ts }
+    ensures row_count { (n : ℕ) (s : Segments) (p : Place) (k : ℕ) (ts : Trees) → each (tree_at n s)
+        p k ≡ Some ts → length (from_each (visits n s) p k) ≡ each_pointers_of ts }
     ensures faults { (n : ℕ) (s : Segments) (p : Place)
         → faults_among (visits n s p) ≡ faults_at n s p }
 {}

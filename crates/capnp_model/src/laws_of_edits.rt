@@ -65,8 +65,7 @@ pub fn records_of_written_values()
     ensures start { (nodes : List Node) (id : ℕ) (calls : List Call) (t : Tree)
         → IsStart nodes id calls t → IsStart nodes id calls (opened_root (schema_of nodes) id t) }
     ensures reads { (nodes : List Node) (id : ℕ) (calls : List Call) (t : Tree)
-        → IsStart nodes id calls t
-        → record_of (schema_of nodes) id
+        → IsStart nodes id calls t → record_of (schema_of nodes) id
         (trim (edits (schema_of nodes) id calls (opened_root (schema_of nodes) id t)))
         ≡ records_after (schema_of nodes) id calls (record_of (schema_of nodes) id t) }
     ensures replied { (nodes : List Node) (id : ℕ) (quoted : List ℕ → List ℕ) (calls : List Call)

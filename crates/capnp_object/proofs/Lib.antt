@@ -1,11 +1,2 @@
-pub mod Words
-pub mod Pads
-pub mod Tags
-pub mod Linking
-pub mod Walking
-pub mod NearObjects
-pub mod Paying
-pub mod Walks
-pub mod Rows
-pub mod Measuring
-pub mod LevelLaws
+pub mod lemmas
+mod Pads

@@ -7,8 +7,8 @@ use Rattle.capnp_model.specs.Kinds.{Kind}
 use Rattle.capnp_model.specs.Sections.{bits_at}
 use Rattle.capnp_model.specs.Segments.{Segments, Place, place, after, word_at, words_at}
 use Rattle.capnp_model.specs.Pointers.{Pointer, pointer_of, begins, described, Object}
-use Rattle.capnp_model.proofs.Chaining.{bind_some, some_is}
-use Rattle.capnp_model.proofs.Locality.{word_is}
+use Rattle.capnp_model.proofs.lemmas.Chaining.{bind_some, some_is}
+use Rattle.capnp_model.proofs.lemmas.Locality.{word_is}
 use Rattle.capnp_object.specs.Named.{pad_object}
 
 two_of_drop : (xs : List ℕ) (k a b : ℕ) → slice_get xs k ≡ Some a → slice_get xs (suc k) ≡ Some b → take 2 (drop k xs) ≡ a ∷ b ∷ []

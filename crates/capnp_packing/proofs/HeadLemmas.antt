@@ -8,7 +8,7 @@ use Rattle.capnp_model.specs.Kinds.{Kind, PackedInputDidNotEndCleanlyOnASegmentB
 use Rattle.capnp_model.specs.Chains.{◌and_then◌}
 use Rattle.capnp_model.specs.Packing as model
 use Rattle.capnp_model.specs.Packing.{spread, run_at, group_at, with_word, unpacked_from}
-use Rattle.capnp_model.proofs.Chaining.{ok_then, guard_then}
+use Rattle.capnp_model.proofs.lemmas.Chaining.{ok_then, guard_then}
 use Rattle.std.proofs.Common.{take-take}
 use Rattle.capnp_packing.specs.Parts.{tagged}
 use Rattle.capnp_packing.specs.Tags.{marks}
@@ -17,7 +17,7 @@ use Rattle.capnp_packing.specs.Steps.{IsGroup, BeginsWith}
 use Rattle.capnp_packing.specs.declared.runs.Run.{Run}
 use Rattle.capnp_packing.specs.declared.runs.Run.TheVariants.{Next, Zeros, Verbatim}
 use Rattle.capnp_stream.specs.Pieces.{EndsEarly, EachIsNeeded}
-use Rattle.capnp_stream.proofs.EarlyLemmas.{early-same, early-then, none-needed, needed-joined}
+use Rattle.capnp_stream.proofs.lemmas.EarlyLemmas.{early-same, early-then, none-needed, needed-joined}
 use Rattle.capnp_packing.proofs.PartLemmas.{byte-needed}
 
 -- ---- the head of a group

@@ -1,10 +1,10 @@
-pub mod TagLemmas
-pub mod PartLemmas
-pub mod HeadLemmas
-pub mod UnpackLemmas
-pub mod ReadLemmas
-pub mod GroupLemmas
-pub mod PieceLemmas
-pub mod RunLemmas
-pub mod WriteLemmas
-pub mod SizeLemmas
+mod TagLemmas
+mod PartLemmas
+mod HeadLemmas
+mod UnpackLemmas
+mod ReadLemmas
+mod GroupLemmas
+mod PieceLemmas
+mod RunLemmas
+mod WriteLemmas
+mod SizeLemmas

@@ -12,9 +12,9 @@ use Rattle.capnp_model.specs.Kinds.{Kind}
 use Rattle.capnp_model.specs.Chains.{◌and_then◌, guard}
 use Rattle.capnp_model.specs.Bytes.{taken}
 use Rattle.capnp_model.specs.Packing.{Run, byte_at, spread, counted, run_at}
-use Rattle.capnp_model.proofs.Chaining.{ok_then, bind_ok}
+use Rattle.capnp_model.proofs.lemmas.Chaining.{ok_then, bind_ok}
 use Rattle.capnp_stream.specs.Pieces.{EndsEarly, EachIsNeeded}
-use Rattle.capnp_stream.proofs.EarlyLemmas.{early-same, early-then, none-needed, needed-joined}
+use Rattle.capnp_stream.proofs.lemmas.EarlyLemmas.{early-same, early-then, none-needed, needed-joined}
 use Rattle.capnp_packing.specs.Parts.{Rule, Leads, Takes, IsFault, Refuses, byte_or, count_at, tagged, with_front}
 
 -- ---- single bytes

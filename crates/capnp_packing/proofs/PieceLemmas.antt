@@ -12,9 +12,9 @@ use Rattle.capnp_model.specs.Packing.{unpacked_from, unpacked}
 use Rattle.capnp_stream.specs.Pieces.{EachIsNeeded, TakesPiece, TakesPieceStart}
 use Rattle.capnp_stream.specs.Segments.{whole_words}
 use Rattle.capnp_io.specs.Streams.{ConsumesFewer}
-use Rattle.capnp_io.proofs.KnownLemmas.{Consumes-of_kept}
-use Rattle.capnp_stream.proofs.EarlyLemmas.{none-needed}
-use Rattle.capnp_stream.proofs.WordLemmas.{words_in_bytes-length, whole_words-of_length}
+use Rattle.capnp_io.proofs.lemmas.KnownLemmas.{Consumes-of_kept}
+use Rattle.capnp_stream.proofs.lemmas.EarlyLemmas.{none-needed}
+use Rattle.capnp_stream.proofs.lemmas.WordLemmas.{words_in_bytes-length, whole_words-of_length}
 use Rattle.capnp_packing.specs.Parts.{Rule, Leads, Takes, IsFault, Refuses, with_front}
 use Rattle.capnp_packing.specs.Streams.{IsUnpackingKind}
 use Rattle.capnp_packing.specs.Runs.{run_view}

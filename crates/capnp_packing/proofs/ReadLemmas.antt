@@ -18,7 +18,7 @@ use Rattle.capnp_packing.specs.Steps.{Unpacks, Reads}
 use Rattle.capnp_packing.specs.declared.runs.Run.{Run}
 use Rattle.capnp_packing.specs.declared.runs.Run.TheVariants.{First, Next, Zeros, Verbatim}
 use Rattle.capnp_packing.specs.declared.shown.Step.{Step}
-use Rattle.capnp_stream.proofs.EarlyLemmas.{none-needed}
+use Rattle.capnp_stream.proofs.lemmas.EarlyLemmas.{none-needed}
 use Rattle.capnp_packing.proofs.PartLemmas.{with_front-nil, Leads-by, Leads-trans, Refuses-behind}
 use Rattle.capnp_packing.proofs.UnpackLemmas.{one-word}
 

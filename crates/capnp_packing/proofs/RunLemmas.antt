@@ -8,7 +8,7 @@ use mir.Val.{bool_byte}
 use Rattle.capnp_model.specs.Bytes.{words_in_bytes}
 use Rattle.capnp_model.specs.Packing.{byte_tag, nonzero, zero_bytes, run_of}
 use Rattle.capnp_stream.specs.Segments.{AreBytes, whole_words}
-use Rattle.capnp_stream.proofs.WordLemmas.{whole_words-step}
+use Rattle.capnp_stream.proofs.lemmas.WordLemmas.{whole_words-step}
 
 -- ---- the bytes of a word
 

@@ -16,7 +16,7 @@ use Rattle.capnp_model.specs.Kinds.{Kind}
 use Rattle.std.proofs.lemmas.List.{get_or_past}
 use Rattle.capnp_model.specs.Chains.{◌and_then◌}
 use Rattle.capnp_model.specs.Packing.{byte_at, spread, byte_tag, nonzero, zero_bytes}
-use Rattle.capnp_model.proofs.Chaining.{ok_then}
+use Rattle.capnp_model.proofs.lemmas.Chaining.{ok_then}
 use Rattle.capnp_packing.specs.Parts.{tagged}
 use Rattle.capnp_packing.specs.Tags.{marks, sources, places, eight_places}
 

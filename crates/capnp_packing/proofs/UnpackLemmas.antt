@@ -8,8 +8,8 @@ use Rattle.capnp_model.specs.Chains.{◌and_then◌}
 use Rattle.capnp_model.specs.Bytes.{words_in_bytes, taken}
 use Rattle.capnp_model.specs.Packing as model
 use Rattle.capnp_model.specs.Packing.{spread, run_at, group_at, with_word, unpacked_from}
-use Rattle.capnp_model.proofs.Chaining.{ok_then}
-use Rattle.capnp_stream.proofs.WordLemmas.{from_le_bytes-take, words_in_bytes-take, words_in_bytes-drop}
+use Rattle.capnp_model.proofs.lemmas.Chaining.{ok_then}
+use Rattle.capnp_stream.proofs.lemmas.WordLemmas.{from_le_bytes-take, words_in_bytes-take, words_in_bytes-drop}
 use lib.Seq.{take-add}
 use Rattle.capnp_packing.specs.Parts.{with_front}
 use Rattle.capnp_packing.specs.Tags.{marks}
@@ -19,7 +19,7 @@ use Rattle.capnp_packing.specs.declared.runs.Run.{Run}
 use Rattle.capnp_packing.specs.declared.runs.Run.TheVariants.{First, Next, Zeros, Verbatim}
 use Rattle.capnp_packing.specs.declared.shown.Step.{Step}
 use Rattle.capnp_stream.specs.Pieces.{EndsEarly, EachIsNeeded}
-use Rattle.capnp_stream.proofs.EarlyLemmas.{early-same, early-then, none-needed, needed-joined}
+use Rattle.capnp_stream.proofs.lemmas.EarlyLemmas.{early-same, early-then, none-needed, needed-joined}
 use Rattle.capnp_packing.proofs.PartLemmas.{early-front, with_front-nil, with_front-more}
 use Rattle.capnp_packing.proofs.HeadLemmas.{length-take-le-any, shown-next, shown-zeros, shown-words}
 

@@ -11,14 +11,14 @@ use Rattle.capnp_model.specs.Packing as model
 use Rattle.capnp_model.specs.Packing.{byte_tag, nonzero, count_byte, longest_run, packed_from, packed}
 use Rattle.capnp_stream.specs.Segments.{AreBytes, whole_words}
 use Rattle.capnp_io.specs.Streams.{AppendsPart, RoomFalls, IsWriteRefusal}
-use Rattle.capnp_io.proofs.KnownLemmas.{AppendsPart-more, AppendsPart-next}
-use Rattle.capnp_stream.proofs.WordLemmas.{words_in_bytes-take, words_in_bytes-drop, bytes_of_words-back}
+use Rattle.capnp_io.proofs.lemmas.KnownLemmas.{AppendsPart-more, AppendsPart-next}
+use Rattle.capnp_stream.proofs.lemmas.WordLemmas.{words_in_bytes-take, words_in_bytes-drop, bytes_of_words-back}
 use Rattle.capnp_packing.specs.Runs.{run_view, run_words, run_bytes}
 use Rattle.std.proofs.Common.{◌%◌, ◌⊎◌, inl, inr, set, length-set}
 use Rattle.std.proofs.lemmas.Bool.{ne_eqb}
 use Rattle.std.proofs.lemmas.List.{take_more_set}
 use borrow.Rule.Slice.PartMut.{put_mid}
-use Rattle.capnp_io.proofs.Filling.{take-put_mid_more}
+use Rattle.capnp_io.proofs.lemmas.Filling.{take-put_mid_more}
 use Rattle.capnp_packing.specs.Written.{packed_on, WritesUpTo, Packs}
 use Rattle.capnp_packing.specs.declared.runs.Run.{Run}
 use Rattle.capnp_packing.specs.declared.runs.Run.TheVariants.{First, Next, Zeros, Verbatim}

@@ -1,7 +1,7 @@
 -- Unpacked pieces are fronts of the bytes. (Encoding, "Packing")
 use Rattle.std.proofs.Common.{ℕ, suc, []}
 use Rattle.capnp_model.specs.Packing.{unpacked_from, unpacked}
-use Rattle.capnp_model.proofs.MessagePrefixes.{unpacked_more}
+use Rattle.capnp_model.proofs.lemmas.MessagePrefixes.{unpacked_more}
 use Rattle.capnp_stream.specs.Pieces.{EndsEarly, ReadsFronts}
 
 wants : (n : ℕ) → EndsEarly (unpacked (suc n) [])

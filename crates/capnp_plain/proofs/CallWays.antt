@@ -12,7 +12,7 @@ use Rattle.capnp_queries.specs.Handles.{entry_of}
 use Rattle.capnp_queries.specs.declared.structs.StructSchema.{StructSchema}
 use Rattle.capnp_queries.specs.declared.fields.Field.{Field}
 use Rattle.capnp_calls.specs.Texts.{as_it_is}
-use Rattle.capnp_edits.proofs.Outcomes.{found_at}
+use Rattle.capnp_edits.proofs.lemmas.Outcomes.{found_at}
 use Rattle.capnp_splice.specs.declared.splice.Hop.{Hop}
 use Rattle.capnp_splice.specs.declared.splice.Put.{Put}
 use Rattle.capnp_splice.specs.declared.splice.Splice.{Splice}

@@ -1,12 +1,12 @@
-pub mod PlainCalls
-pub mod SetRoots
-pub mod NamedFields
-pub mod SplicedKids
-pub mod SplicedCells
-pub mod SplicedStructs
-pub mod SplicedLists
-pub mod SplicedPaths
-pub mod SplicedSteps
-pub mod SplicedCalls
-pub mod CallWays
-pub mod SpliceRuns
+mod PlainCalls
+mod SetRoots
+mod NamedFields
+mod SplicedKids
+mod SplicedCells
+mod SplicedStructs
+mod SplicedLists
+mod SplicedPaths
+mod SplicedSteps
+mod SplicedCalls
+mod CallWays
+mod SpliceRuns

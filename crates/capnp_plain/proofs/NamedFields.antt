@@ -7,14 +7,14 @@ use Rattle.capnp_model.specs.Schemas.{PlainType, width, Body, void_slot, plain_s
 use Rattle.capnp_model.specs.Calls.{Step, name, Verb, set_to, CallValue, Call}
 use Rattle.capnp_model.specs.Steps.{target, target_of}
 use Rattle.capnp_model.specs.Answers.{widened_root}
-use Rattle.capnp_model.proofs.Bits.{xor_twice}
+use Rattle.capnp_model.proofs.lemmas.Bits.{xor_twice}
 use Rattle.capnp_queries.specs.Fields.{Entry, field_at, place_of_name}
 use Rattle.capnp_queries.specs.Structs.{schema_around, shape_of_struct, fields_of_struct, index_named, id_of}
 use Rattle.capnp_queries.specs.Handles.{entry_of}
 use Rattle.capnp_queries.specs.declared.structs.StructSchema.{StructSchema}
 use Rattle.capnp_queries.specs.declared.fields.Field.{Field}
 use Rattle.capnp_calls.specs.Texts.{as_it_is}
-use Rattle.capnp_edits.proofs.Outcomes.{found_at}
+use Rattle.capnp_edits.proofs.lemmas.Outcomes.{found_at}
 use Rattle.capnp_plain.specs.PlainSets.{IsPlain, ArePlain}
 use Rattle.capnp_splice.specs.DataWords.{put_set}
 use Rattle.capnp_plain.specs.PlainFields.{PutsNumber, PutsInto, SetsEntry}

@@ -8,7 +8,7 @@ use Rattle.capnp_model.specs.Schemas.{Shape, shape}
 use Rattle.capnp_model.specs.Calls.{Call}
 use Rattle.capnp_model.specs.Answers.{Reply, reply_done, replies, edits, widened_root}
 use Rattle.capnp_model.specs.Edits.{edit}
-use Rattle.capnp_model.proofs.Widening.{trim-widened}
+use Rattle.capnp_model.proofs.lemmas.Widening.{trim-widened}
 use Rattle.capnp_queries.specs.Structs.{schema_around, shape_of_struct, id_of}
 use Rattle.capnp_queries.specs.declared.structs.StructSchema.{StructSchema}
 use Rattle.capnp_calls.specs.Texts.{as_it_is}

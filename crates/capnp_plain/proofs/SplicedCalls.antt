@@ -11,7 +11,7 @@ use Rattle.capnp_model.specs.Calls.{Step, name, set_to, CallValue, Call}
 use Rattle.capnp_model.specs.Steps.{Outcome, refused, shown, done, step}
 use Rattle.capnp_model.specs.Edits.{Cell, write_path, if_done, edit}
 use Rattle.capnp_model.specs.Answers.{reply_of, reply_done}
-use Rattle.capnp_model.proofs.Stripping.{stripped-stripped}
+use Rattle.capnp_model.proofs.lemmas.Stripping.{stripped-stripped}
 use Rattle.capnp_calls.specs.Sizes.{IsDone}
 use Rattle.capnp_splice.specs.Splices.{IsSpliced}
 use Rattle.capnp_splice.specs.declared.splice.Splice.{Splice}

@@ -8,13 +8,13 @@ use Rattle.capnp_model.specs.Trees.{Tree, Trees, tree_count, child, with_child, 
 use Rattle.capnp_model.specs.Fits.{Fits, FitEach}
 use Rattle.capnp_model.specs.Trimming.{stripped, trim, trim_each}
 use Rattle.capnp_model.specs.Edits.{Cell, Edit, put_child}
-use Rattle.capnp_model.proofs.Bits.{above}
-use Rattle.capnp_model.proofs.Bounds.{joined_lt}
-use Rattle.capnp_model.proofs.Widening.{stripped-with_child, trim_each-with_child}
+use Rattle.capnp_model.proofs.lemmas.Bits.{above}
+use Rattle.capnp_model.proofs.lemmas.Bounds.{joined_lt}
+use Rattle.capnp_model.proofs.lemmas.Widening.{stripped-with_child, trim_each-with_child}
 use Rattle.capnp_splice.specs.DataWords.{put_set}
 use Rattle.capnp_splice.specs.Splices.{PutsNumber}
 use Rattle.capnp_splice.specs.declared.plain.PlainSet.{PlainSet}
-use Rattle.capnp_splice.proofs.DataWords.{put_lt}
+use Rattle.capnp_splice.proofs.lemmas.DataWords.{put_lt}
 use Rattle.capnp_plain.proofs.SplicedKids.{child_same, child_fits, null_trimmed, count_put, bare_count_put, depths_put}
 
 -- A trimmed cell, of so many words, and the whole one.

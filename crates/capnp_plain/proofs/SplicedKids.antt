@@ -3,7 +3,7 @@ use Rattle.std.proofs.Common.{◌≡◌, ℕ, zero, suc, ◌≤◌, max, false, 
 use Rattle.capnp_model.specs.Trees.{Tree, null, capability, structure, plain_list, pointer_list, struct_list, Trees, none, ◌▸◌, tree_count, child, with_child, resized, padded_to, is_null, depth, depths}
 use Rattle.capnp_model.specs.Fits.{Fits, FitEach}
 use Rattle.capnp_model.specs.Trimming.{after_stripping, stripped, trim, trim_each}
-use Rattle.capnp_model.proofs.Stripping.{count-stripped}
+use Rattle.capnp_model.proofs.lemmas.Stripping.{count-stripped}
 
 -- ---- one child
 

@@ -6,10 +6,10 @@ use Rattle.capnp_model.specs.Fits.{Fits, FitElements}
 use Rattle.capnp_model.specs.Trimming.{stripped, common_words, common_pointers, with_pointers, trim, trim_each, trim_elements}
 use Rattle.capnp_model.specs.Schemas.{Shape, shape}
 use Rattle.capnp_model.specs.Edits.{Cell, Edit, padded_elements, widened_list, edit_list, on_elements}
-use Rattle.capnp_model.proofs.Numbers.{needed_words-more, needed_words_le}
-use Rattle.capnp_model.proofs.Stripping.{stripped-resized, resized-stripped, count-resized}
-use Rattle.capnp_model.proofs.TrimTwice.{common_words_le}
-use Rattle.capnp_model.proofs.Widening.{bare-padded_to}
+use Rattle.capnp_model.proofs.lemmas.Numbers.{needed_words-more, needed_words_le}
+use Rattle.capnp_model.proofs.lemmas.Stripping.{stripped-resized, resized-stripped, count-resized}
+use Rattle.capnp_model.proofs.lemmas.TrimTwice.{common_words_le}
+use Rattle.capnp_model.proofs.lemmas.Widening.{bare-padded_to}
 use Rattle.capnp_splice.specs.Splices.{InElements, InList}
 use Rattle.capnp_plain.proofs.SplicedKids.{depths_padded, resized_all}
 use Rattle.capnp_plain.proofs.SplicedCells.{IsCut, Follows, IsEditOf, Makes, IsChangeOf, needs_kept}

@@ -8,7 +8,7 @@ use Rattle.capnp_model.specs.Printing.{fields_in}
 use Rattle.capnp_model.specs.Calls.{Step, name, index, Verb, set_to, CallValue, Content}
 use Rattle.capnp_model.specs.Steps.{Target, target}
 use Rattle.capnp_model.specs.Edits.{Cell, Edit, put_bits, put_child, mark, put_content, put_field, opened_tree, edit_target, edit_named, edit_struct, edit_list, as_list, edit_field, edit_element}
-use Rattle.capnp_model.proofs.Bits.{xor_twice}
+use Rattle.capnp_model.proofs.lemmas.Bits.{xor_twice}
 use Rattle.capnp_splice.specs.Blobs.{tree_of_blob}
 use Rattle.capnp_splice.specs.DataWords.{put_set}
 use Rattle.capnp_splice.specs.Splices.{IsPlainList, PutsNumber as PutsInCell, Puts, InStruct, InList, PutsBehind}

@@ -10,10 +10,10 @@ use Rattle.capnp_model.specs.Printing.{fields_in}
 use Rattle.capnp_model.specs.Calls.{Step, name, index, Verb, set_to, CallValue, Content}
 use Rattle.capnp_model.specs.Steps.{Outcome, refused, shown, done, outcome_map, target, target_of, replaced, at_target, on_name, on_index, reading_after, opened, through_value, step_path, step_field, step_element}
 use Rattle.capnp_model.specs.Edits.{Cell, put_child}
-use Rattle.capnp_model.proofs.Paths.{entry_of-fields_of}
-use Rattle.capnp_model.proofs.Stripping.{stripped-stripped, stripped-resized}
+use Rattle.capnp_model.proofs.lemmas.Paths.{entry_of-fields_of}
+use Rattle.capnp_model.proofs.lemmas.Stripping.{stripped-stripped, stripped-resized}
 use Rattle.capnp_calls.specs.Sizes.{IsDone}
-use Rattle.capnp_calls.proofs.SlotShown.{read_child-child}
+use Rattle.capnp_calls.proofs.lemmas.SlotShown.{read_child-child}
 use Rattle.capnp_splice.specs.Splices.{InStruct, InElements, InList, PutsBehind}
 use Rattle.capnp_splice.specs.declared.splice.Hop.{Hop}
 use Rattle.capnp_splice.specs.declared.splice.Hop.TheVariants as hops

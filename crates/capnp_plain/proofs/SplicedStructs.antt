@@ -5,9 +5,9 @@ use Rattle.capnp_model.specs.Trees.{Tree, null, capability, structure, plain_lis
 use Rattle.capnp_model.specs.Fits.{Fits}
 use Rattle.capnp_model.specs.Trimming.{stripped, trim, trim_each}
 use Rattle.capnp_model.specs.Edits.{Cell, Edit, in_struct}
-use Rattle.capnp_model.proofs.Numbers.{needed_words-more, needed_words_le, wider}
-use Rattle.capnp_model.proofs.Stripping.{stripped-stripped}
-use Rattle.capnp_model.proofs.Widening.{bare-padded_to}
+use Rattle.capnp_model.proofs.lemmas.Numbers.{needed_words-more, needed_words_le, wider}
+use Rattle.capnp_model.proofs.lemmas.Stripping.{stripped-stripped}
+use Rattle.capnp_model.proofs.lemmas.Widening.{bare-padded_to}
 use Rattle.capnp_splice.specs.Splices.{InStruct}
 use Rattle.capnp_plain.proofs.SplicedKids.{depths_padded, all_kept}
 use Rattle.capnp_plain.proofs.SplicedCells.{IsCut, Follows, IsEditOf, Makes, IsChangeOf, needs_kept}

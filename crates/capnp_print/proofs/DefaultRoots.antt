@@ -17,9 +17,9 @@ use Rattle.capnp_model.specs.Traversal.{tree_at}
 use Rattle.capnp_model.specs.Encoding.{canonical_words}
 use Rattle.capnp_model.specs.Decoding.{decode}
 use Rattle.capnp_model.specs.Accepted.{is_good_segment}
-use Rattle.capnp_model.proofs.Chaining.{bind_some, provided_some}
-use Rattle.capnp_model.proofs.KeptRules.{and_right}
-use Rattle.capnp_model.proofs.ByteWords.{bytes_length}
+use Rattle.capnp_model.proofs.lemmas.Chaining.{bind_some, provided_some}
+use Rattle.capnp_model.proofs.lemmas.KeptRules.{and_right}
+use Rattle.capnp_model.proofs.lemmas.ByteWords.{bytes_length}
 use Rattle.capnp_units.specs.Segments.{words_in}
 use Rattle.capnp_wire.specs.Views.{PointerView, arena_root}
 use Rattle.capnp_wire.specs.Reads.{is_null_at, is_null, default_root}

@@ -14,7 +14,7 @@ use Rattle.capnp_model.specs.Schemas.{Ty, void, plain, text, blob, untyped, inte
 use Rattle.capnp_model.specs.Readings.{null_pointer, fault, text_of, blob_of, body_of, read, text_reading}
 use Rattle.capnp_model.specs.Printing.{Style, as_type, as_body}
 use Rattle.capnp_model.specs.Accepted.{slot_body, field_body, default_tree, is_good_segment, opens_as}
-use Rattle.capnp_model.proofs.Numbers.{numbers_in-number_of}
+use Rattle.capnp_model.proofs.lemmas.Numbers.{numbers_in-number_of}
 use Rattle.capnp_wire.specs.Views.{PointerView, StructView, pointer_field}
 use Rattle.capnp_wire.specs.Reads.{is_null}
 use Rattle.capnp_values.specs.GoodDefaults.{IsGoodDefault, KeepsDefault}
@@ -26,10 +26,10 @@ use Rattle.capnp_print.specs.ShownReadings.{read_or_fault, reading_within, left_
 use Rattle.capnp_print.specs.Defaults.{is_null_segment, is_entered, enters}
 use Rattle.capnp_print.specs.Printed.{printed, empty_printed, bytes_shown, default_shown, text_shown, null_printed}
 use Rattle.capnp_print.proofs.DefaultRoots.{decoded, encoded, segment_null, null_pointed, null_is_null}
-use Rattle.capnp_print.proofs.ElementTexts.{text_or_fault}
+use Rattle.capnp_print.proofs.lemmas.ElementTexts.{text_or_fault}
 use Rattle.capnp_print.proofs.FieldTexts.{Prints, field_without}
 use Rattle.capnp_print.proofs.NullTexts.{null_opened, empty_text_shown, no_default, a_default, no_more_defaults}
-use Rattle.capnp_print.proofs.Shows.{Read}
+use Rattle.capnp_print.proofs.lemmas.Shows.{Read}
 
 -- ---- texts and data as defaults
 

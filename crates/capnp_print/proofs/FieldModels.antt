@@ -15,9 +15,9 @@ use Rattle.capnp_print.specs.ShownReadings.{record_read, children_read, reading_
 use Rattle.capnp_print.specs.Members.{field_read}
 use Rattle.capnp_print.specs.Models.{unopened, unopened_fields, FieldsAreModels}
 use Rattle.capnp_print.specs.Printed.{text_in, printed, null_printed}
-use Rattle.capnp_print.proofs.Children.{within}
-use Rattle.capnp_print.proofs.ModelTexts.{body_as, fields_of_shape, whole_model}
-use Rattle.capnp_print.proofs.SoundShapes.{SoundFields, SoundBody, shapes_sound}
+use Rattle.capnp_print.proofs.lemmas.Children.{within}
+use Rattle.capnp_print.proofs.lemmas.ModelTexts.{body_as, fields_of_shape, whole_model}
+use Rattle.capnp_print.proofs.lemmas.SoundShapes.{SoundFields, SoundBody, shapes_sound}
 use Rattle.capnp_print.proofs.WholeReadings.{wholes}
 
 same_record : (a b : Record) → record_as a ≡ record_as b → a ≡ b

@@ -13,9 +13,9 @@ use Rattle.capnp_values.specs.Standing.{IsPointerType}
 use Rattle.capnp_print.specs.Texts.{as_it_is}
 use Rattle.capnp_print.specs.ShownReadings.{read_or_fault, reading_within, left_of}
 use Rattle.capnp_print.specs.Printed.{printed, null_printed}
-use Rattle.capnp_print.proofs.Children.{within, number_shown_text}
-use Rattle.capnp_print.proofs.ElementTexts.{text_or_fault, there_text, pointer_text}
-use Rattle.capnp_print.proofs.Shows.{Read}
+use Rattle.capnp_print.proofs.lemmas.Children.{within, number_shown_text}
+use Rattle.capnp_print.proofs.lemmas.ElementTexts.{text_or_fault, there_text, pointer_text}
+use Rattle.capnp_print.proofs.lemmas.Shows.{Read}
 
 module _ (left : ℕ) (style : Style) (s : Schema) (v : StructView) where
   -- the field prints as its reading

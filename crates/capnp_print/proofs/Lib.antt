@@ -1,27 +1,21 @@
-pub mod Children
-pub mod DefaultRoots
-pub mod DefaultTexts
-pub mod Empties
-pub mod Weights
-pub mod EnumNames
-pub mod ElementTexts
-pub mod EntersThere
-pub mod FieldTexts
-pub mod FieldModels
-pub mod Lighter
-pub mod Loops
-pub mod MemberWeights
-pub mod Models
-pub mod ModelTexts
-pub mod NullTexts
-pub mod Opening
-pub mod PrintedFields
-pub mod PrintedExamples
-pub mod Results
-pub mod Shows
-pub mod SingleTexts
-pub mod SoundShapes
-pub mod TextLemmas
-pub mod TwoBlanks
-pub mod WholeReadings
-pub mod Wholes
+pub mod lemmas
+mod DefaultRoots
+mod DefaultTexts
+mod Empties
+mod Weights
+mod EnumNames
+mod EntersThere
+mod FieldTexts
+mod FieldModels
+mod Lighter
+mod Loops
+mod MemberWeights
+mod NullTexts
+mod Opening
+mod PrintedExamples
+mod Results
+mod SingleTexts
+mod TextLemmas
+mod TwoBlanks
+mod WholeReadings
+mod Wholes

@@ -3,14 +3,14 @@ use Rattle.std.proofs.Common.{◌≡◌, ℕ, suc, ◌+◌, ◌*◌, ◌<◌, �
 use Rattle.std.proofs.Math.Nat.{mul-le-mul_left, mul-suc}
 use Rattle.std.proofs.lemmas.Bool.Decides.{nat_tests}
 use Rattle.capnp_model.specs.Schemas.{PlainType, bool, int, uint, «enum», width, Ty, void, plain, text, blob, untyped, interface, struct, list, Schema}
-use Rattle.capnp_model.proofs.Chaining.{bind_ok, ok_is}
+use Rattle.capnp_model.proofs.lemmas.Chaining.{bind_ok, ok_is}
 use Rattle.capnp_wire.specs.Views.{PointerView, StructView, ListView, pointer_field, element_of, element_number}
 use Rattle.capnp_wire.specs.Reads.{empty_struct, read_struct, read_list, object_behind}
 use Rattle.capnp_values.specs.ListSizes.{size_of}
 use Rattle.capnp_values.specs.Sources.{read_behind}
 use Rattle.capnp_values.specs.Shown.{Shown, a_list, number_shown, opened, element_shown}
 use Rattle.capnp_print.specs.ShownReadings.{left_of}
-use Rattle.capnp_print.proofs.Children.{struct_levels, list_levels}
+use Rattle.capnp_print.proofs.lemmas.Children.{struct_levels, list_levels}
 use Rattle.capnp_print.proofs.NullTexts.{empty_shown}
 use Rattle.capnp_print.proofs.Weights.{shape_depth, deep, some_depth, struct_height, list_height, weight, IsShallow}
 

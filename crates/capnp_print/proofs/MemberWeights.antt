@@ -10,7 +10,7 @@ use Rattle.capnp_model.specs.Readings.{null_pointer, just_bits, discriminant, fi
 use Rattle.capnp_model.specs.Printing.{is_shown, fields_in}
 use Rattle.capnp_model.specs.Segments.{after}
 use Rattle.capnp_model.specs.Accepted.{slot_body, field_body, default_bits, default_tree, is_good_segment, opens_as}
-use Rattle.capnp_model.proofs.Chaining.{ok_is, bind_ok}
+use Rattle.capnp_model.proofs.lemmas.Chaining.{ok_is, bind_ok}
 use Rattle.capnp_queries.specs.Fields.{Entry, field_at}
 use Rattle.capnp_wire.specs.Views.{PointerView, StructView, pointer_field}
 use Rattle.capnp_wire.specs.Reads.{is_null, is_null_at, default_root}
@@ -20,11 +20,11 @@ use Rattle.capnp_values.specs.Standing.{NullsAreRead}
 use Rattle.capnp_values.specs.Shown.{Shown, a_struct, opened, segment_opened, default_opened, slot_opened, slot_shown, kind_shown, is_null_slot}
 use Rattle.capnp_print.specs.ShownReadings.{left_of, reading_within, read_or_fault}
 use Rattle.capnp_print.specs.Defaults.{is_null_segment, is_entered, enters}
-use Rattle.capnp_print.proofs.Children.{no_pointer}
+use Rattle.capnp_print.proofs.lemmas.Children.{no_pointer}
 use Rattle.capnp_print.proofs.NullTexts.{empty_shown, null_opened}
 use Rattle.capnp_print.proofs.DefaultRoots.{decoded, encoded, segment_null, null_pointed, null_is_null}
 use Rattle.capnp_print.proofs.Lighter.{heavy, plain_weight, child_weight, empty_weight}
-use Rattle.capnp_print.proofs.Shows.{Read}
+use Rattle.capnp_print.proofs.lemmas.Shows.{Read}
 use Rattle.capnp_print.proofs.Weights.{shape_depth, fields_depth, body_depth, entry_depth, deep, far, far_is, struct_height, weight, IsShallow}
 
 -- ---- a struct with a pointer field that is printed has sections

@@ -22,7 +22,7 @@ use Rattle.capnp_print.specs.Texts.{as_it_is}
 use Rattle.capnp_print.specs.ShownReadings.{levels_of}
 use Rattle.capnp_print.specs.Printed.{Text, struct_between, printed, empty_printed, text_shown, default_shown, null_printed, shown_text}
 use Rattle.capnp_print.proofs.Empties.{empty_same}
-use Rattle.capnp_print.proofs.Children.{below, within, empty_record, no_elements_read}
+use Rattle.capnp_print.proofs.lemmas.Children.{below, within, empty_record, no_elements_read}
 use Rattle.capnp_print.proofs.TextLemmas.{text_text-utf8}
 
 word_null : (s : Segments) (q : Place) → is_null_at s (Some q) ≡ true → model.found_at s q ≡ Ok (record { pads = 0; object = model.nothing })

@@ -21,8 +21,8 @@ use Rattle.capnp_print.specs.Texts.{as_it_is}
 use Rattle.capnp_print.specs.Printed.{printed, null_printed, shown_text}
 use Rattle.capnp_print.specs.Parts.{member_text, IsActive, IsPrinted, enters_there, counted, ShowsMember, OpensMember}
 use Rattle.capnp_print.specs.ShownReadings.{left_of}
-use Rattle.capnp_print.proofs.ElementTexts.{text_or_fault}
-use Rattle.capnp_print.proofs.Shows.{Read}
+use Rattle.capnp_print.proofs.lemmas.ElementTexts.{text_or_fault}
+use Rattle.capnp_print.proofs.lemmas.Shows.{Read}
 use Rattle.capnp_print.proofs.Weights.{measure, shallow, far}
 use Rattle.capnp_print.proofs.Wholes.{member_here, member_entered, member_lighter, member_far}
 

@@ -10,7 +10,7 @@ use Rattle.capnp_print.specs.Texts.{as_it_is}
 use Rattle.capnp_print.specs.ShownReadings.{reading_of}
 use Rattle.capnp_print.specs.Printed.{text_in, null_printed, schema_shown, as_shown, shown_text}
 use Rattle.capnp_print.specs.Answers.{IsRefused, IsTextOf, Prints}
-use Rattle.capnp_print.proofs.Models.{printed_print}
+use Rattle.capnp_print.proofs.lemmas.Models.{printed_print}
 
 -- the text that is appended is the model's
 pub text_of_shown : (style : Style) (x : Shown) (bytes : List ℕ) → shown_text 64 style x ≡ Ok bytes → IsTextOf style x bytes

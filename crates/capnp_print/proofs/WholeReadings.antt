@@ -9,7 +9,7 @@ use Rattle.capnp_model.specs.Schemas.{PlainType, width, Ty, void, plain, text, b
 use Rattle.capnp_model.specs.Readings.{Reading, inactive, null_pointer, fault, number, text_of, blob_of, list_of, record_as, opaque, Readings, no_readings, ◌▹◌, entry, Extent, just_bits, Children, field_bits, discriminant, is_active, only_if, shape_record, fields_of, body_of, element_as, read, read_child}
 use Rattle.capnp_model.specs.ActiveMembers.{element_of as item_of}
 use Rattle.capnp_model.specs.Accepted.{schema_of, IsAccepted}
-use Rattle.capnp_model.proofs.Chaining.{bind_ok, ok_is}
+use Rattle.capnp_model.proofs.lemmas.Chaining.{bind_ok, ok_is}
 use Rattle.capnp_object.specs.declared.object.Object.{Object}
 use Rattle.capnp_wire.specs.Views.{Ground, PointerView, StructView, ListView, pointer_field, element_of, element_number}
 use Rattle.capnp_wire.specs.Reads.{is_null, empty_struct, read_struct, read_list, read_blob, read_text, object_behind}
@@ -18,14 +18,14 @@ use Rattle.capnp_values.specs.Sources.{read_behind}
 use Rattle.capnp_values.specs.Records.{is_there}
 use Rattle.capnp_values.specs.Shown.{Shown, a_number, an_enum, a_text, a_blob, a_struct, a_list, a_pointer, a_capability, opened}
 use Rattle.capnp_values.specs.Standing.{Leads, Stands, IsRecord, AreItems, or_empty, IsReading, Answers, IsPointerType, PointersAreRead}
-use Rattle.capnp_values.proofs.ElementReadings.{item_count, IsElement, AreElements, elements_stand}
-use Rattle.capnp_values.proofs.FieldReadings.{aligned_by, bits_shown, discriminants, null_behind, child_read}
-use Rattle.capnp_values.proofs.Nulls.{nulls}
-use Rattle.capnp_values.proofs.RecordReadings.{pointer_there}
+use Rattle.capnp_values.proofs.lemmas.ElementReadings.{item_count, IsElement, AreElements, elements_stand}
+use Rattle.capnp_values.proofs.lemmas.FieldReadings.{aligned_by, bits_shown, discriminants, null_behind, child_read}
+use Rattle.capnp_values.proofs.lemmas.Nulls.{nulls}
+use Rattle.capnp_values.proofs.lemmas.RecordReadings.{pointer_there}
 use Rattle.capnp_print.specs.Models.{unopened, unopened_each, unopened_fields, IsOfNodes, WholesAreRead}
 use Rattle.capnp_print.specs.ShownReadings.{read_or_fault, pointer_reading, children_read, record_read, element_read, elements_read, reading_within, left_of, levels_of}
-use Rattle.capnp_print.proofs.Children.{below, within, no_pointer, struct_levels, list_levels}
-use Rattle.capnp_print.proofs.SoundShapes.{IsNamed, SoundShape, SoundFields, SoundBody, shapes_sound}
+use Rattle.capnp_print.proofs.lemmas.Children.{below, within, no_pointer, struct_levels, list_levels}
+use Rattle.capnp_print.proofs.lemmas.SoundShapes.{IsNamed, SoundShape, SoundFields, SoundBody, shapes_sound}
 
 -- ---- names
 

@@ -23,13 +23,13 @@ use Rattle.capnp_print.specs.Defaults.{enters}
 use Rattle.capnp_print.specs.Members.{field_read, field_shown}
 use Rattle.capnp_print.specs.Parts.{fields_text, member_text, elements_text, enters_there}
 use Rattle.capnp_print.specs.Printed.{Text, mark, list_between, struct_between, printed, null_printed, shown_text}
-use Rattle.capnp_print.proofs.Children.{within}
+use Rattle.capnp_print.proofs.lemmas.Children.{within}
 use Rattle.capnp_print.proofs.DefaultTexts.{field_entered, field_refused, field_empty}
-use Rattle.capnp_print.proofs.ElementTexts.{text_or_fault, element_text}
+use Rattle.capnp_print.proofs.lemmas.ElementTexts.{text_or_fault, element_text}
 use Rattle.capnp_print.proofs.FieldTexts.{field_there}
 use Rattle.capnp_print.proofs.Loops.{Left, Rest, Going, begins, record_is, fields_after, left_out, left_in, none_left, element_next, elements_end, list_text_is, list_text_empty, struct_text_is, struct_text_empty}
 use Rattle.capnp_print.proofs.MemberWeights.{field_lighter, field_far}
-use Rattle.capnp_print.proofs.Shows.{Read}
+use Rattle.capnp_print.proofs.lemmas.Shows.{Read}
 use Rattle.capnp_print.proofs.Weights.{IsShallow, weight, far}
 
 module _ (left : ℕ) (style : Style) where

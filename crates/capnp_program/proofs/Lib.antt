@@ -1,8 +1,8 @@
 mod Digits
-pub mod MadeCalls
-pub mod AskedExamples
-pub mod Asking
-pub mod Telling
-pub mod Running
+mod MadeCalls
+mod AskedExamples
+mod Asking
+mod Telling
+mod Running
 mod Tables
 mod Showing

@@ -10,10 +10,10 @@ use Rattle.capnp_units.specs.declared.kinds.ErrorKind.TheVariants.{FailedToFillT
 use Rattle.capnp_model.specs.Kinds.{Kind, InvalidNumberOfSegments, MessageTooLarge}
 use Rattle.capnp_model.specs.Chains.{guard}
 use Rattle.capnp_model.specs.Messages.{Reader, halves, within, behind_lengths, behind_first, message_at}
-use Rattle.capnp_model.proofs.Chaining.{ok_then}
+use Rattle.capnp_model.proofs.lemmas.Chaining.{ok_then}
 use Rattle.capnp_io.specs.Counting.{KindCounts}
 use Rattle.capnp_stream.specs.Pieces.{EndsEarly, ReadsFronts, TakesPiece, IsPieceFault}
-use Rattle.capnp_stream.proofs.EarlyLemmas.{early-then}
+use Rattle.capnp_stream.proofs.lemmas.EarlyLemmas.{early-then}
 use Rattle.capnp_program.specs.Enough.{then_early, guard_late}
 
 -- the numbers of a word and of those behind it

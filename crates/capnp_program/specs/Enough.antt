@@ -7,7 +7,7 @@ use Rattle.capnp_model.specs.Chains.{◌and_then◌, guard}
 use Rattle.capnp_model.specs.Bytes.{taken}
 use Rattle.capnp_model.specs.Messages.{plain_words}
 use Rattle.capnp_model.specs.Packing.{Run, first, next, zeros, verbatim, byte_at, spread, counted, run_at, group_at, started, with_word, unpacked_from, unpacked}
-use Rattle.capnp_model.proofs.Chaining.{bind_ok, ok_is}
+use Rattle.capnp_model.proofs.lemmas.Chaining.{bind_ok, ok_is}
 use Rattle.capnp_stream.specs.Pieces.{IsEarlyEnd, EndsEarly}
 
 -- a step that ends early does so behind a first one that doesn't

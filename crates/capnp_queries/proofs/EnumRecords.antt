@@ -7,7 +7,7 @@ use Rattle.capnp_records.specs.Sets.{enumerants_found}
 use Rattle.capnp_records.specs.declared.node.EnumerantRecord.{EnumerantRecord}
 use Rattle.capnp_queries.specs.Enums.{nodes_of_enum, enum_id, enumerants_recorded, is_named_enumerant, AreEnumerantsOf, IsEnumerantRecord}
 use Rattle.capnp_queries.specs.declared.enums.EnumSchema.{EnumSchema}
-use Rattle.capnp_queries.proofs.Records.{enumerants_named, passed_at}
+use Rattle.capnp_queries.proofs.lemmas.Records.{enumerants_named, passed_at}
 
 pub enumerants_known : (nodes : List Node) → IsAccepted nodes → (id : ℕ) (es : List EnumerantNode) → enumerants_found nodes id ≡ Some es → AreEnumerantsOf nodes id es
 enumerants_known nodes accepted id es h = let k = enumerants_named nodes accepted id es h in record { found = h; named = k.0; few = k.1 }

@@ -12,8 +12,8 @@ use Rattle.capnp_queries.specs.Fields.{Entry, field_at, field_count, entry_in, i
 use Rattle.capnp_queries.specs.Structs.{nodes_around, schema_around, id_of, fields_of_struct, fields_recorded, IsRecordOf}
 use Rattle.capnp_queries.specs.Handles.{IsFieldRecord}
 use Rattle.capnp_queries.specs.declared.structs.StructSchema.{StructSchema}
-use Rattle.capnp_model.proofs.KeptRules.{and_left}
-use Rattle.capnp_queries.proofs.Records.{passed_at, entry_from, group_id, is_group_struct}
+use Rattle.capnp_model.proofs.lemmas.KeptRules.{and_left}
+use Rattle.capnp_queries.proofs.lemmas.Records.{passed_at, entry_from, group_id, is_group_struct}
 
 pub field_known : (sch : StructSchema) (r : StructRecord) → IsRecordOf (nodes_around sch) (id_of sch) (struct_of r) → (i : ℕ) (x : FieldRecord) → i < length r.fields.items → x ≡ get_or r.fields.items i x → IsFieldRecord sch i (field_of x)
 field_known sch r k i x lt e =

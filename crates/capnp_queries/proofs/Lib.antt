@@ -1,7 +1,5 @@
-pub mod Shapes
-pub mod Records
-pub mod FieldRecords
-pub mod Places
-pub mod Tabled
-pub mod EnumRecords
-pub mod RawNodes
+pub mod lemmas
+mod FieldRecords
+mod Tabled
+mod EnumRecords
+mod RawNodes

@@ -8,7 +8,7 @@ use Rattle.std.proofs.lemmas.Bool.Decides.{nat_tests}
 use Rattle.capnp_model.specs.Schemas.{Node}
 use Rattle.capnp_model.specs.Accepted.{find_node, groups_used, meets_below}
 use Rattle.capnp_records.specs.Levels.{groups_below, PassSame, PassMore}
-use Rattle.capnp_records.proofs.ListTests.{list_any-append, list_any-flat_map, list_any-same}
+use Rattle.capnp_records.proofs.lemmas.ListTests.{list_any-append, list_any-flat_map, list_any-same}
 
 or_false : (b : Bool) → (b || false) ≡ b
 or_false true = refl

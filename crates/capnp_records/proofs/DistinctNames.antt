@@ -4,7 +4,7 @@ use Rattle.std.specs.List.{list_any}
 use Rattle.std.specs.Str.{bytes_eq}
 use Rattle.std.proofs.lemmas.Cmp.{nat_list_eq_equiv}
 use Rattle.capnp_model.specs.Accepted.{are_distinct}
-use Rattle.capnp_records.proofs.ListTests.{list_any-same, list_any-append}
+use Rattle.capnp_records.proofs.lemmas.ListTests.{list_any-same, list_any-append}
 use Rattle.capnp_records.proofs.Forward.{pairs, forward, forward_all}
 
 distinct_is_pairs : (xs : List (List ℕ)) → are_distinct xs ≡ pairs bytes_eq xs

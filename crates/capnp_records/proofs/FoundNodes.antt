@@ -2,11 +2,11 @@
 use Rattle.std.proofs.Common.{◌≡◌, ℕ, Bool, true, ◌&&◌, ◌==◌, Option, Some, None, List, map, get_or, sym, ◌∙◌, ap, arith}
 use Rattle.capnp_model.specs.Schemas.{Enumerant, StructNode, Node}
 use Rattle.capnp_model.specs.Accepted.{find_node, IsAccepted}
-use Rattle.capnp_model.proofs.KeptRules.{and_left}
+use Rattle.capnp_model.proofs.lemmas.KeptRules.{and_left}
 use Rattle.capnp_records.specs.NodeViews.{node_of, kind_of}
 use Rattle.capnp_records.specs.Sets.{is_at, struct_in, enumerants_in, struct_found, enumerants_found}
 use Rattle.capnp_records.specs.declared.node.NodeRecord.{NodeRecord}
-use Rattle.capnp_records.proofs.PlainStructs.{at_place, place_is_found}
+use Rattle.capnp_records.proofs.lemmas.PlainStructs.{at_place, place_is_found}
 
 same_number : (a b : ℕ) → (a == b) ≡ true → a ≡ b
 same_number a b h = grind arith

@@ -1,15 +1,13 @@
-pub mod ListTests
-pub mod Stored
-pub mod Overlaps
-pub mod Breaks
-pub mod PlainStructs
-pub mod Segments
-pub mod Forward
-pub mod Marked
-pub mod Members
-pub mod DistinctNames
-pub mod Below
-pub mod FoundNodes
-pub mod FieldPlaces
-pub mod FieldTables
-pub mod Holders
+pub mod lemmas
+mod Stored
+mod Overlaps
+mod Breaks
+mod Forward
+mod Marked
+mod Members
+mod DistinctNames
+mod Below
+mod FoundNodes
+mod FieldPlaces
+mod FieldTables
+mod Holders

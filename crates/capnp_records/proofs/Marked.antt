@@ -11,7 +11,7 @@ use Rattle.capnp_records.specs.declared.marks.Marks.{Marks}
 use Rattle.capnp_records.specs.Storage.{areas_in, areas_seen}
 use Rattle.capnp_records.specs.Claims.{claim_of, claims_are_apart}
 use Rattle.capnp_records.specs.Marks.{has, covers, mark_at, AllowsAll, Refuses, Puts, most_mark, level_mark}
-use Rattle.capnp_records.proofs.ListTests.{and_left, and_right, list_any-append, list_all-flat_map}
+use Rattle.capnp_records.proofs.lemmas.ListTests.{and_left, and_right, list_any-append, list_all-flat_map}
 use Rattle.capnp_records.proofs.Forward.{pairs}
 
 is_true : (b : Bool) → (b ≡ false → ⊥) → b ≡ true

@@ -5,7 +5,7 @@ use Rattle.std.proofs.lemmas.Grind.{common_steps}
 use Rattle.std.proofs.lemmas.Bool.Decides.{nat_tests}
 use Rattle.capnp_model.specs.Accepted.{are_once}
 use Rattle.capnp_records.specs.Marks.{Raised}
-use Rattle.capnp_records.proofs.ListTests.{list_any-append}
+use Rattle.capnp_records.proofs.lemmas.ListTests.{list_any-append}
 use Rattle.capnp_records.proofs.Forward.{pairs, forward, forward_all, forward_step}
 
 -- two members are the same

@@ -1,7 +1,7 @@
-pub mod StepLemmas
-pub mod RunLemmas
-pub mod Whole
-pub mod Reading
-pub mod PauseLemmas
-pub mod LogLemmas
+pub mod lemmas
+mod StepLemmas
+mod RunLemmas
+mod Whole
+mod Reading
+mod LogLemmas
 mod LineLemmas

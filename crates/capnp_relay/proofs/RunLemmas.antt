@@ -9,7 +9,7 @@ use Rattle.capnp_model.specs.Messages.{Reader, Writer, message_at}
 use Rattle.capnp_model.specs.Answers.{Answer, refused_value, refused_root, refused_depth, written}
 use Rattle.capnp_model.specs.Runs.{BeginWith, AnswerEach, output_of, outputs_of, line_of, lines_of}
 use Rattle.capnp_stream.specs.Pieces.{ReadsFronts}
-use Rattle.capnp_stream.proofs.PieceLemmas.{message_more}
+use Rattle.capnp_stream.proofs.lemmas.PieceLemmas.{message_more}
 use Rattle.capnp_io.specs.Streams.{RoomFalls}
 use Rattle.capnp_relay.specs.declared.ends.Counts.{Counts}
 use Rattle.capnp_relay.specs.Answers.{written_one, refused_one}

@@ -6,7 +6,7 @@ use Rattle.capnp_units.specs.declared.kinds.ErrorKind.TheVariants.{OutOfMemory, 
 use Rattle.capnp_io.specs.Counting.{KindCounts}
 use Rattle.capnp_io.specs.Streams.{IsWriteRefusal}
 use Rattle.capnp_stream.specs.Frames.{TakesMessage}
-use Rattle.capnp_stream.proofs.FrameLemmas.{TakesPart-of_message}
+use Rattle.capnp_stream.proofs.lemmas.FrameLemmas.{TakesPart-of_message}
 use Rattle.capnp_model.specs.Segments.{Segments}
 use Rattle.capnp_model.specs.Messages.{spelled}
 use Rattle.capnp_stream.specs.Pieces.{ReadsFronts}

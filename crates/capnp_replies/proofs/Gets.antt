@@ -27,11 +27,11 @@ use Rattle.capnp_print.specs.Parts.{member_text}
 use Rattle.capnp_print.specs.ShownReadings.{element_read, elements_read, reading_within, left_of, reading_of as whole_reading}
 use Rattle.capnp_print.specs.Printed.{Text, text_in, printed, null_printed, schema_shown, as_shown, shown_text}
 use Rattle.capnp_print.specs.Answers.{IsTextOf}
-use Rattle.capnp_print.proofs.Children.{within}
-use Rattle.capnp_print.proofs.ElementTexts.{text_or_fault, element_text}
-use Rattle.capnp_print.proofs.Models.{printed_print}
-use Rattle.capnp_print.proofs.ModelTexts.{whole_model}
-use Rattle.capnp_print.proofs.SoundShapes.{no_default_is, shapes_sound}
+use Rattle.capnp_print.proofs.lemmas.Children.{within}
+use Rattle.capnp_print.proofs.lemmas.ElementTexts.{text_or_fault, element_text}
+use Rattle.capnp_print.proofs.lemmas.Models.{printed_print}
+use Rattle.capnp_print.proofs.lemmas.ModelTexts.{whole_model}
+use Rattle.capnp_print.proofs.lemmas.SoundShapes.{no_default_is, shapes_sound}
 use Rattle.capnp_calls.specs.Texts.{as_it_is as as_replied}
 use Rattle.capnp_calls.specs.Replies.{reply_view}
 use Rattle.capnp_calls.specs.declared.reply.Reply.{Reply as Own}

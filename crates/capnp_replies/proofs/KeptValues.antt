@@ -13,7 +13,7 @@ use Rattle.capnp_model.specs.Schemas.{width, Ty, void, plain, text, blob, untype
 use Rattle.capnp_model.specs.Accepted.{schema_of}
 use Rattle.capnp_model.specs.Readings.{null_pointer, fault, record_as, Readings, Children, whole_words, shape_record, expected_size, is_list_of, list_reading, read, record_of, record_by_shape}
 use Rattle.capnp_model.specs.Calls.{object, refused_by, message, message_root, struct_content, value_content}
-use Rattle.capnp_model.proofs.Chaining.{bind_some, provided_some}
+use Rattle.capnp_model.proofs.lemmas.Chaining.{bind_some, provided_some}
 use Rattle.capnp_units.specs.Segments.{words_in}
 use Rattle.capnp_units.specs.Sizes.{size_number}
 use Rattle.capnp_units.specs.declared.sizes.ElementSize.{ElementSize}

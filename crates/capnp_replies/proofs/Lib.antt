@@ -1,13 +1,13 @@
-pub mod Records
-pub mod Sorts
-pub mod Steps
-pub mod Endings
-pub mod Typed
-pub mod Parts
-pub mod Gets
-pub mod Roots
-pub mod KeptValues
-pub mod GroupFaults
-pub mod GroupReplies
-pub mod SlotFaults
-pub mod Ways
+mod Records
+mod Sorts
+mod Steps
+mod Endings
+mod Typed
+mod Parts
+mod Gets
+mod Roots
+mod KeptValues
+mod GroupFaults
+mod GroupReplies
+mod SlotFaults
+mod Ways

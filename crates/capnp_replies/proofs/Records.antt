@@ -14,10 +14,10 @@ use Rattle.capnp_queries.specs.declared.structs.StructSchema.{StructSchema}
 use Rattle.capnp_queries.specs.declared.fields.Field.{Field}
 use Rattle.capnp_values.specs.Records.{reading_at, is_live}
 use Rattle.capnp_values.specs.Shown.{discriminant_shown, active_index}
-use Rattle.capnp_print.proofs.Shows.{none_active, value_active}
+use Rattle.capnp_print.proofs.lemmas.Shows.{none_active, value_active}
 use Rattle.capnp_values.specs.Standing.{Stands, IsRecord, DiscriminantsAreRead}
-use Rattle.capnp_values.proofs.RecordReadings.{union_counted, pointer_live}
-use Rattle.capnp_values.proofs.FieldReadings.{child_read}
+use Rattle.capnp_values.proofs.lemmas.RecordReadings.{union_counted, pointer_live}
+use Rattle.capnp_values.proofs.lemmas.FieldReadings.{child_read}
 
 -- ---- the discriminant
 

@@ -4,7 +4,7 @@ use Rattle.capnp_model.specs.Kinds.{Kind}
 use Rattle.capnp_model.specs.Chains.{◌and_then◌}
 use Rattle.capnp_model.specs.Schemas.{PlainType, bool, int, uint, «enum», width, Ty, void, plain, text, blob, untyped, interface, struct, list, Value, no_value, bits, text_bytes, blob_bytes, list_segment, struct_segment, untyped_value, interface_value, Schema}
 use Rattle.capnp_model.specs.Accepted.{default_bits}
-use Rattle.capnp_model.proofs.Chaining.{ok_is, bind_ok}
+use Rattle.capnp_model.proofs.lemmas.Chaining.{ok_is, bind_ok}
 use Rattle.capnp_wire.specs.Views.{PointerView, StructView, ListView, pointer_field, element_of, element_number}
 use Rattle.capnp_wire.specs.Reads.{is_null}
 use Rattle.capnp_values.specs.Sources.{default_pointer, masked_bits}

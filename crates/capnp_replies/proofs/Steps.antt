@@ -10,7 +10,7 @@ use Rattle.capnp_model.specs.Printing.{fields_in}
 use Rattle.capnp_model.specs.Calls.{Step, name, index, Verb}
 use Rattle.capnp_model.specs.Steps.{Outcome, Target, target, target_if, target_of, entry_of as reading_named, replaced, at_target, on_name, on_index, or_empty, opened, through_value, through_field, step_field, step_element}
 use Rattle.capnp_model.specs.Answers.{Reply, reply_of, reply_refused}
-use Rattle.capnp_model.proofs.Paths.{entry_of-fields_of}
+use Rattle.capnp_model.proofs.lemmas.Paths.{entry_of-fields_of}
 use Rattle.capnp_wire.specs.Views.{StructView}
 use Rattle.capnp_queries.specs.Fields.{Entry, field_at, place_of_name, union_in}
 use Rattle.capnp_queries.specs.Structs.{schema_around, shape_of_struct, fields_of_struct}
@@ -22,8 +22,8 @@ use Rattle.capnp_values.specs.Shown.{Shown, a_number, an_enum, a_text, a_blob, a
 use Rattle.capnp_values.specs.Standing.{IsRecord, AreItems, IsReading, Answers, filled, or_default, or_empty as or_empty_value}
 use Rattle.capnp_calls.specs.Texts.{as_it_is}
 use Rattle.capnp_calls.specs.Roots.{starts_with_name}
-use Rattle.capnp_calls.proofs.OneStep.{reply_of-map}
-use Rattle.capnp_calls.proofs.NamedFields.{not_found}
+use Rattle.capnp_calls.proofs.lemmas.OneStep.{reply_of-map}
+use Rattle.capnp_calls.proofs.lemmas.NamedFields.{not_found}
 use Rattle.capnp_replies.specs.Parts.{record_reply, items_reply, RepliesAtStruct, RepliesAtList, RepliesBehind, OfField, IsFieldReply, starts_with_index}
 use Rattle.capnp_replies.proofs.Records.{record_is, shape_is, field_of_record, not_live}
 use Rattle.capnp_replies.proofs.Sorts.{IsSorted, slot_sorted}

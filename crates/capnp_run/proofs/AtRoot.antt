@@ -9,7 +9,7 @@ use Rattle.capnp_model.specs.Answers.{Reply, widened_root}
 use Rattle.capnp_wire.specs.Places.{place_view}
 use Rattle.capnp_footprints.specs.Footprints.{Owns, OwnsObject}
 use Rattle.capnp_footprints.specs.Changes.{Replaces, ReplacesObject}
-use Rattle.capnp_footprints.proofs.Turns.{struct_shape}
+use Rattle.capnp_footprints.proofs.lemmas.Turns.{struct_shape}
 use Rattle.capnp_copy.specs.Structs.{struct_at}
 use Rattle.capnp_copy.specs.Values.{LeadsTo}
 use Rattle.capnp_copy.specs.declared.fields.StructPlace.{StructPlace}

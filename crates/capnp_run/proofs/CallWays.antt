@@ -7,7 +7,7 @@ use Rattle.capnp_calls.specs.declared.call.Call.{Call}
 use Rattle.capnp_calls.specs.CallViews.{call_view}
 use Rattle.capnp_ways.specs.declared.ways.Ways.{Ways}
 use Rattle.capnp_ways.specs.Ways.{IsWay, AreWays, way_at}
-use Rattle.capnp_ways.proofs.EachWay.{way_of_call}
+use Rattle.capnp_ways.proofs.lemmas.EachWay.{way_of_call}
 
 pub way_of_this : (s : Schema) (calls : List Call) (ways : Ways) (i k : ℕ) (this : Call) → AreWays s (map call_view calls) ways → slice_get calls i ≡ Some this → k ≡ i → IsWay s (call_view this).path (way_at ways k)
 way_of_this s calls ways i k this are at same =

@@ -7,4 +7,4 @@ mod Tested
 mod InTurn
 mod AtRoot
 mod Copied
-pub mod CallWays
+mod CallWays

@@ -7,8 +7,8 @@ use Rattle.capnp_model.specs.Trees.{struct_list, none}
 use Rattle.capnp_model.specs.Calls.{Verb, initn, initn_content, element_content}
 use Rattle.capnp_model.specs.InKindCalls.{PathEnd}
 use Rattle.capnp_footprints.specs.NewObjects.{new_list, new_pointers, new_tree, zero_elements}
-use Rattle.capnp_footprints.proofs.MovedElements.{zero_count}
-use Rattle.capnp_footprints.proofs.Turns.{resized_count}
+use Rattle.capnp_footprints.proofs.lemmas.MovedElements.{zero_count}
+use Rattle.capnp_footprints.proofs.lemmas.Turns.{resized_count}
 use Rattle.capnp_copy.specs.Lists.{zeros_of}
 use Rattle.capnp_calls.specs.Sizes.{list_len, content_len, end_content}
 

@@ -13,7 +13,7 @@ use Rattle.capnp_dynamic.specs.Inside.{words_of_shape, pointers_of_shape}
 use Rattle.capnp_calls.specs.Texts.{as_it_is}
 use Rattle.capnp_calls.specs.Sizes.{IsDone}
 use Rattle.capnp_calls.specs.Paths.{shape_outcome, shape_edit}
-use Rattle.capnp_widening.proofs.GotStructs.{padded_enough}
+use Rattle.capnp_widening.proofs.lemmas.GotStructs.{padded_enough}
 use Rattle.capnp_run.specs.Runs.{record_at, Answers}
 
 no_text : (o : Option (List ℕ)) → reply_done ≡ text_reply o → ⊥

@@ -10,13 +10,13 @@ use Rattle.capnp_model.specs.Traversal.{each, tree_of, tree_at}
 use Rattle.capnp_model.specs.Answers.{levels}
 use Rattle.capnp_model.specs.Schemas.{Schema, Shape}
 use Rattle.capnp_model.specs.Readings.{record_as, shape_record, whole_words, read_child}
-use Rattle.capnp_model.proofs.Chaining.{bind_some, some_is}
+use Rattle.capnp_model.proofs.lemmas.Chaining.{bind_some, some_is}
 use Rattle.capnp_units.specs.Segments.{words_in}
 use Rattle.capnp_object.specs.Inside.{section_at}
-use Rattle.capnp_object.proofs.Linking.{section_front}
-use Rattle.capnp_footprints.proofs.Rows.{child_read}
-use Rattle.capnp_footprints.proofs.Turns.{each_counted}
-use Rattle.capnp_canonical.proofs.Scanning.{front_small}
+use Rattle.capnp_object.proofs.lemmas.Linking.{section_front}
+use Rattle.capnp_footprints.proofs.lemmas.Rows.{child_read}
+use Rattle.capnp_footprints.proofs.lemmas.Turns.{each_counted}
+use Rattle.capnp_canonical.proofs.lemmas.Scanning.{front_small}
 use Rattle.capnp_wire.specs.Views.{struct_at}
 use Rattle.capnp_wire.specs.Laws.{reads_behind}
 use Rattle.capnp_values.specs.Standing.{Stands, IsRecord}

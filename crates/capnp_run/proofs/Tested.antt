@@ -11,8 +11,8 @@ use Rattle.capnp_units.specs.Segments.{words_in}
 use Rattle.capnp_wire.specs.Places.{place_view}
 use Rattle.capnp_wire.specs.Views.{StructView}
 use Rattle.capnp_wire.specs.Views as views
-use Rattle.capnp_footprints.proofs.Algebra.{changes_nothing}
-use Rattle.capnp_footprints.proofs.Turns.{struct_counted}
+use Rattle.capnp_footprints.proofs.lemmas.Algebra.{changes_nothing}
+use Rattle.capnp_footprints.proofs.lemmas.Turns.{struct_counted}
 use Rattle.capnp_copy.specs.Structs.{struct_at}
 use Rattle.capnp_copy.specs.declared.fields.StructPlace.{StructPlace}
 use Rattle.capnp_queries.specs.Structs.{schema_around, shape_of_struct, id_of}

@@ -1,4 +1,4 @@
-pub mod Framing
-pub mod Roots
-pub mod Shown
-pub mod Walks
+mod Framing
+mod Roots
+mod Shown
+mod Walks

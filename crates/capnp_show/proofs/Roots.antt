@@ -11,7 +11,7 @@ use Rattle.capnp_model.specs.Traversal.{tree_at}
 use Rattle.capnp_model.specs.Schemas.{struct, Schema}
 use Rattle.capnp_model.specs.Readings.{Reading, fault, record_as, record_of, read}
 use Rattle.capnp_model.specs.Printing.{Style, on_one_line, print, nulls_as, as_group, record_text}
-use Rattle.capnp_model.proofs.Chaining.{bind_found, bind_ok, ok_is}
+use Rattle.capnp_model.proofs.lemmas.Chaining.{bind_found, bind_ok, ok_is}
 use Rattle.capnp_units.specs.Errors.{kind_of}
 use Rattle.capnp_units.specs.Segments.{words_in}
 use Rattle.capnp_units.specs.Limits.{left_of, IsPassed}

@@ -10,7 +10,7 @@ use Rattle.capnp_model.specs.Messages.{within}
 use Rattle.capnp_model.specs.Traversal.{tree_at, cost_at}
 use Rattle.capnp_model.specs.Encoding.{canonical_words}
 use Rattle.capnp_model.specs.Answers.{levels, value_within}
-use Rattle.capnp_model.proofs.Chaining.{bind_some, provided_some}
+use Rattle.capnp_model.proofs.lemmas.Chaining.{bind_some, provided_some}
 use Rattle.capnp_message.specs.declared.options.ReaderOptions.{ReaderOptions}
 use Rattle.capnp_queries.specs.Structs.{schema_around, id_of}
 use Rattle.capnp_queries.specs.declared.structs.StructSchema.{StructSchema}

@@ -11,7 +11,7 @@ use Rattle.capnp_model.specs.Messages.{within}
 use Rattle.capnp_model.specs.Sizes.{object_words, capability_count}
 use Rattle.capnp_model.specs.Traversal.{tree_at, cost_at}
 use Rattle.capnp_model.specs.Visits.{Visit, visits, visits_cost}
-use Rattle.capnp_model.proofs.Chaining.{bind_some, some_is}
+use Rattle.capnp_model.proofs.lemmas.Chaining.{bind_some, some_is}
 use Rattle.capnp_units.specs.Limits.{limit_of, left_of, granted_of, less, Allows, IsPassed}
 use Rattle.capnp_units.specs.declared.errors.Error.{Error}
 use Rattle.capnp_units.specs.declared.limiter.ReadLimiter.{ReadLimiter}

@@ -9,7 +9,7 @@ ghost use Rattle.capnp_show.specs.Streams.{streamed};
 
 use capnp_message::message::{Reader, ReaderOptions};
 use capnp_message::serialize::{NoAllocSliceSegments, read_message_from_flat_slice_no_alloc};
-use capnp_model::laws::texts_of_messages;
+use capnp_model::laws::texts_in_slices;
 use capnp_units::errors::{Error, Result};
 use capnp_units::kinds::ErrorKind;
 
@@ -39,7 +39,7 @@ pub(crate) fn first_message<'a>(
     ensures refused { IfErr result (λ e.
         first_message options.traversal_limit_in_words bytes.now ≡ Err (kind_of e.kind)) }
 {
-    texts_of_messages();
+    texts_in_slices();
     let mut left = bytes;
     match read_message_from_flat_slice_no_alloc(&mut left, options) {
         Ok(message) => Ok(message),

@@ -7,9 +7,9 @@ use Rattle.std.proofs.Math.Nat.{mod-lt, mod-eq_of_lt, div-eq_of_lt, zero-div}
 use lib.Pow as pow
 use Rattle.capnp_model.specs.Sections.{bits_at, with_bits, number_of, section_of}
 use Rattle.capnp_model.specs.Spelling.{AreWords}
-use Rattle.capnp_model.proofs.Numbers.{number_of_lt, wider}
-use Rattle.capnp_model.proofs.SectionElements.{number_of-more}
-use Rattle.capnp_wire.proofs.Bytes.{number_of-drop, number_of-take}
+use Rattle.capnp_model.proofs.lemmas.Numbers.{number_of_lt, wider}
+use Rattle.capnp_model.proofs.lemmas.SectionElements.{number_of-more}
+use Rattle.capnp_wire.proofs.lemmas.Bytes.{number_of-drop, number_of-take}
 use Rattle.capnp_canonical.specs.Writes.{words_view}
 
 pub zeros_behind : (xs ys : List ℕ) → number_of 8 ys ≡ 0 → number_of 8 (xs ++ ys) ≡ number_of 8 xs

@@ -5,7 +5,7 @@ use Rattle.capnp_model.specs.Trees.{struct_list, none, Elements, no_elements, el
 use Rattle.capnp_model.specs.Fits.{FitEach, FitElements}
 use Rattle.capnp_model.specs.Encoding.{struct_pointer, body, links, bodies, cells, element_bodies}
 use Rattle.capnp_model.specs.Edits.{Cell}
-use Rattle.capnp_model.proofs.Numbers.{length-numbers_in}
+use Rattle.capnp_model.proofs.lemmas.Numbers.{length-numbers_in}
 use Rattle.capnp_splice.specs.Splices.{InElements}
 use Rattle.capnp_splice.proofs.Children.{links_length}
 

@@ -6,7 +6,7 @@ use Rattle.capnp_model.specs.Trees.{Tree, null, capability, structure, plain_lis
 use Rattle.capnp_model.specs.Fits.{Fits, FitElements}
 use Rattle.capnp_model.specs.Encoding.{pointer, struct_pointer, list_pointer, body, links, bodies, cells, element_bodies}
 use Rattle.capnp_model.specs.Edits.{Cell, put_child}
-use Rattle.capnp_model.proofs.Numbers.{length-numbers_in}
+use Rattle.capnp_model.proofs.lemmas.Numbers.{length-numbers_in}
 use Rattle.capnp_canonical.specs.Writes.{filled}
 use Rattle.capnp_splice.specs.Splices.{PutsBehind, InList}
 use Rattle.capnp_splice.specs.Cells.{Frame, framed, StandsIn, HasPut, IsStructs, MovesElements}

@@ -6,7 +6,7 @@ use Rattle.capnp_model.specs.Sections.{words_of}
 use Rattle.capnp_model.specs.Trees.{Elements, no_elements, element, element_count}
 use Rattle.capnp_model.specs.Fits.{FitElements}
 use Rattle.capnp_model.specs.Encoding.{links, bodies, cells, element_bodies}
-use Rattle.capnp_model.proofs.Numbers.{length-numbers_in}
+use Rattle.capnp_model.proofs.lemmas.Numbers.{length-numbers_in}
 use Rattle.capnp_canonical.specs.Writes.{words_view}
 use Rattle.capnp_splice.specs.Cells.{shifted, AreNear}
 use Rattle.capnp_splice.proofs.Children.{links_length}

@@ -1,14 +1,14 @@
-pub mod ByteNumbers
-pub mod DataWords
-pub mod Roots
-pub mod Segmenting
-pub mod Shifts
-pub mod Children
-pub mod Pointing
-pub mod Placing
-pub mod Numbering
-pub mod Putting
-pub mod ElementParts
-pub mod ElementShifts
-pub mod ElementPutting
+pub mod lemmas
+mod ByteNumbers
+mod Roots
+mod Segmenting
+mod Shifts
+mod Children
+mod Pointing
+mod Placing
+mod Numbering
+mod Putting
+mod ElementParts
+mod ElementShifts
+mod ElementPutting
 mod Examples

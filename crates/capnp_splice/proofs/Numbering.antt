@@ -5,14 +5,14 @@ use Rattle.std.proofs.lemmas.List.{length-map}
 use Rattle.capnp_model.specs.Sections.{words_of}
 use Rattle.capnp_model.specs.Edits.{Cell}
 use Rattle.capnp_model.specs.Encoding.{links, bodies}
-use Rattle.capnp_model.proofs.Numbers.{length-numbers_in}
+use Rattle.capnp_model.proofs.lemmas.Numbers.{length-numbers_in}
 use Rattle.capnp_canonical.specs.Writes.{words_view, filled}
 use Rattle.capnp_splice.specs.DataWords.{put_set, AreData}
 use Rattle.capnp_splice.specs.Cells.{Frame, StandsIn, HasPut}
 use Rattle.capnp_splice.specs.declared.area.Area.{Area}
 use Rattle.capnp_splice.specs.declared.plain.PlainSet.{PlainSet}
 use Rattle.capnp_splice.specs.declared.splice.Put.TheVariants as puts
-use Rattle.capnp_splice.proofs.DataWords.{long_as}
+use Rattle.capnp_splice.proofs.lemmas.DataWords.{long_as}
 use Rattle.capnp_splice.proofs.Segmenting.{part_is, part_put}
 
 pub number_put : (area : Area) (f : Frame) (c : Cell) (n m : ℕ) (p : PlainSet) (xs ys : List (List ℕ)) → StandsIn area f c (filled n xs) → n ≤ length xs → m ≡ area.data_words

@@ -5,7 +5,7 @@ use Rattle.capnp_model.specs.Trees.{Tree, structure, Trees, none, ◌▸◌, tre
 use Rattle.capnp_model.specs.Fits.{Fits, FitEach}
 use Rattle.capnp_model.specs.Encoding.{pointer, struct_pointer, body, links, bodies}
 use Rattle.capnp_model.specs.Edits.{Cell, put_child}
-use Rattle.capnp_model.proofs.Numbers.{length-numbers_in}
+use Rattle.capnp_model.proofs.lemmas.Numbers.{length-numbers_in}
 use Rattle.capnp_canonical.specs.Writes.{words_view, filled}
 use Rattle.capnp_splice.specs.Cells.{Frame, framed, StandsIn, IsNear}
 use Rattle.capnp_splice.specs.declared.area.Area.{Area}

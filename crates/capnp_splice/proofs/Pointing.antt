@@ -5,7 +5,7 @@ use Rattle.capnp_model.specs.Trees.{Tree, null, capability, structure, plain_lis
 use Rattle.capnp_model.specs.Fits.{Fits}
 use Rattle.capnp_model.specs.Sections.{words_for}
 use Rattle.capnp_model.specs.Encoding.{pointer, struct_pointer, body, cells, element_bodies}
-use Rattle.capnp_model.proofs.Numbers.{length-numbers_in}
+use Rattle.capnp_model.proofs.lemmas.Numbers.{length-numbers_in}
 use Rattle.capnp_canonical.specs.Writes.{filled}
 use Rattle.capnp_splice.specs.Splices.{IsPlainList}
 use Rattle.capnp_splice.specs.Cells.{IsStructs}

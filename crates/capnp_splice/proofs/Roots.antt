@@ -8,11 +8,11 @@ use Rattle.capnp_model.specs.Sections.{words_of, needed_words}
 use Rattle.capnp_model.specs.Trees.{Tree, null, capability, structure, plain_list, pointer_list, struct_list, Trees, none, ◌▸◌}
 use Rattle.capnp_model.specs.Fits.{Fits}
 use Rattle.capnp_model.specs.Encoding.{pointer, links, bodies, canonical_words}
-use Rattle.capnp_model.proofs.Numbers.{length-numbers_in}
+use Rattle.capnp_model.proofs.lemmas.Numbers.{length-numbers_in}
 use Rattle.capnp_canonical.specs.Writes.{words_view}
 use Rattle.capnp_splice.specs.DataWords.{put_sets, AreData, HasData, AreRootAfter, AreWordsAfter}
 use Rattle.capnp_splice.specs.declared.plain.PlainSet.{PlainSet}
-use Rattle.capnp_splice.proofs.DataWords.{long_as}
+use Rattle.capnp_splice.proofs.lemmas.DataWords.{long_as}
 
 -- A pointer to a struct tells its words of data.
 pub is_struct : (t : Tree) (p : ℕ) → Fits t → p ≡ pointer 0 t → p % 4 ≡ 0 → (p ≡ 0 → ⊥) → HasData (p / 2 ^ 32 % 2 ^ 16) t

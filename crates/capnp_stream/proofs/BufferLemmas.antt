@@ -13,7 +13,7 @@ use Rattle.capnp_stream.specs.Ranges.{AreBytes, ranges_from}
 use Rattle.capnp_stream.specs.Flat.{table_lengths, table_bytes, message_bytes, frame_segments, Describes}
 use Rattle.capnp_stream.specs.Writing.{AreWritable}
 use Rattle.capnp_stream.specs.declared.flat.NoAllocSegmentTableInfo.{NoAllocSegmentTableInfo}
-use Rattle.capnp_stream.proofs.WordLemmas.{AreBytes-drop, sum-cons, words_in_bytes-length, cut-of_joined, writable-joined}
+use Rattle.capnp_stream.proofs.lemmas.WordLemmas.{AreBytes-drop, sum-cons, words_in_bytes-length, cut-of_joined, writable-joined}
 use Rattle.capnp_stream.proofs.SpellLemmas.{lengths-cut, CanSpell-of_cut}
 use Rattle.capnp_stream.proofs.FlatLemmas.{table-holds}
 use Rattle.capnp_stream.proofs.TableLemmas.{table-short}

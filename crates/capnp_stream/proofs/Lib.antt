@@ -1,10 +1,7 @@
-pub mod WordLemmas
-pub mod EarlyLemmas
-pub mod PieceLemmas
-pub mod FrameLemmas
-pub mod SpellLemmas
-pub mod FlatLemmas
-pub mod TableLemmas
-pub mod ReadLemmas
-pub mod BufferLemmas
-pub mod ShownLemmas
+pub mod lemmas
+mod SpellLemmas
+mod FlatLemmas
+mod TableLemmas
+mod ReadLemmas
+mod BufferLemmas
+mod ShownLemmas

@@ -16,8 +16,8 @@ use Rattle.capnp_stream.specs.Lent.{IsFillKind, HasLonger}
 use Rattle.capnp_stream.specs.Filling.{TriesFilling, FillsMessage}
 use Rattle.capnp_stream.specs.Flat.{table_bytes}
 use Rattle.capnp_stream.specs.Kept.{WantsForLonger}
-use Rattle.capnp_io.proofs.KnownLemmas.{Consumes-of_kept, IfSome-of_kept}
-use Rattle.capnp_stream.proofs.FrameLemmas.{part-of_kept, TakesStart-of_kept, TakesMessage-of_kept, fault-of_kept}
+use Rattle.capnp_io.proofs.lemmas.KnownLemmas.{Consumes-of_kept, IfSome-of_kept}
+use Rattle.capnp_stream.proofs.lemmas.FrameLemmas.{part-of_kept, TakesStart-of_kept, TakesMessage-of_kept, fault-of_kept}
 
 module _ (read : Reader) (limit : Option ℕ) where
   pub pieces-of_kept : (a b c : Option (List ℕ)) → Keeps a b → TakesWholePieces read limit b c → TakesWholePieces read limit a c

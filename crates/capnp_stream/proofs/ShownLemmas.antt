@@ -12,12 +12,12 @@ use Rattle.capnp_model.specs.Kinds.{Kind}
 use Rattle.capnp_model.specs.Chains.{guard}
 use Rattle.capnp_model.specs.Segments.{Segments}
 use Rattle.capnp_model.specs.Messages.{within, plain_words, flat_words, else_refused, halves, cut, behind_lengths, behind_first, message_at, flat_at}
-use Rattle.capnp_model.proofs.Chaining.{ok_then, bind_ok}
+use Rattle.capnp_model.proofs.lemmas.Chaining.{ok_then, bind_ok}
 use Rattle.capnp_stream.specs.Flat.{table_lengths, table_bytes, frame_segments, Describes}
 use Rattle.capnp_stream.specs.Lent.{HoldsMessage}
 use Rattle.capnp_stream.specs.Shown.{bytes_in_all, Lays}
 use Rattle.capnp_stream.specs.declared.flat.NoAllocSegmentTableInfo.{NoAllocSegmentTableInfo}
-use Rattle.capnp_stream.proofs.WordLemmas.{from_le_bytes-take, sum-cons}
+use Rattle.capnp_stream.proofs.lemmas.WordLemmas.{from_le_bytes-take, sum-cons}
 use Rattle.capnp_stream.proofs.FlatLemmas.{table-grown, message-in, joined-table, flat-whole}
 
 -- ---- what is a message in a slice is one on a stream

@@ -6,7 +6,7 @@ use Rattle.std.specs.declared.option.Option.{Option}
 use Rattle.capnp_model.specs.Bytes.{words_in_bytes}
 use Rattle.capnp_model.specs.Messages.{cut, within, halves}
 use Rattle.capnp_model.specs.Spelling.{AreWords, AreShort, CanSpell}
-use Rattle.capnp_stream.proofs.WordLemmas.{AreBytes, AreBytes-drop, words_in_bytes-length, sum-cons}
+use Rattle.capnp_stream.proofs.lemmas.WordLemmas.{AreBytes, AreBytes-drop, words_in_bytes-length, sum-cons}
 
 word-bound : (bytes : List ℕ) → AreBytes bytes → from_le_bytes w64 bytes < 2 ^ 64
 word-bound bytes small = omega (arith, small 0, small 1, small 2, small 3, small 4, small 5, small 6, small 7)

@@ -11,11 +11,11 @@ use Rattle.capnp_stream.specs.Pieces.{ReadsFronts, TakesPiece, TakesPieceStart, 
 use Rattle.capnp_stream.specs.Frames.{IsFrameFault, TakesStart, TakesTable, IsFramingKind, IsReadKind, IsCut}
 use Rattle.capnp_stream.specs.Flat.{table_lengths, table_bytes}
 use Rattle.capnp_stream.specs.Lent.{NeedsMore, IsFillKind}
-use Rattle.capnp_stream.proofs.WordLemmas.{words_in_bytes-length, from_le_bytes-take}
+use Rattle.capnp_stream.proofs.lemmas.WordLemmas.{words_in_bytes-length, from_le_bytes-take}
 use Rattle.capnp_stream.proofs.SpellLemmas.{halves-are, short-taken, short-dropped, words-are, sum-short}
-use Rattle.capnp_stream.proofs.PieceLemmas.{IsCut-of_piece}
+use Rattle.capnp_stream.proofs.lemmas.PieceLemmas.{IsCut-of_piece}
 use Rattle.capnp_stream.proofs.FlatLemmas.{joined-table, table-holds}
-use Rattle.capnp_stream.proofs.FrameLemmas.{first-part, first-needs, others-fault, others-part, table-of_pieces, TakesTable-of_lengths}
+use Rattle.capnp_stream.proofs.lemmas.FrameLemmas.{first-part, first-needs, others-fault, others-part, table-of_pieces, TakesTable-of_lengths}
 
 module _ (read : Reader) (fronts : ReadsFronts read) (limit : Option ℕ) (n : ℕ) (old : List ℕ) (is : n ≡ from_le_bytes w64 old % 2 ^ 32 + 1) (few : n ≤ 511)
     (a b : Option (List ℕ)) (first : TakesPiece read a b (from_le_bytes w64 old ∷ [])) where

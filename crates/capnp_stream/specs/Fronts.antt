@@ -6,7 +6,7 @@ use Rattle.capnp_model.specs.Kinds.{Kind, FailedToFillTheWholeBuffer}
 use Rattle.capnp_model.specs.Chains.{◌and_then◌}
 use Rattle.capnp_model.specs.Bytes.{words_in_bytes}
 use Rattle.capnp_model.specs.Messages.{plain_words}
-use Rattle.capnp_model.proofs.MessagePrefixes.{plain_words_more}
+use Rattle.capnp_model.proofs.lemmas.MessagePrefixes.{plain_words_more}
 use Rattle.capnp_stream.specs.Pieces.{EndsEarly, ReadsFronts}
 
 -- no byte ends too early for a word

@@ -1,3 +1,2 @@
-pub mod FirstBytes
-pub mod ItemsLemmas
-pub mod Spending
+pub mod lemmas
+mod ItemsLemmas

@@ -1,16 +1,8 @@
-pub mod Bits
-pub mod DefaultReadings
-pub mod ElementReadings
-pub mod Elements
+pub mod lemmas
+mod Bits
+mod Elements
 mod Examples
-pub mod FieldKinds
-pub mod FieldReadings
-pub mod GoodDefaults
-pub mod Named
-pub mod Nulls
-pub mod PointerReadings
-pub mod PlainDefaults
-pub mod Presence
-pub mod RecordReadings
-pub mod Unlimited
-pub mod ValueReadings
+mod FieldKinds
+mod Named
+mod PointerReadings
+mod ValueReadings

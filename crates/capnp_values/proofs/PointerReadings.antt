@@ -13,8 +13,8 @@ use Rattle.capnp_model.specs.Traversal.{each, each_element, tree_at, tree_of, le
 use Rattle.capnp_model.specs.Schemas.{width, Shape, Schema, Ty, void, plain, text, blob, untyped, interface, struct, list}
 use Rattle.capnp_model.specs.Readings.{Reading, null_pointer, fault, text_of, blob_of, list_of, record_as, opaque, read, text_reading, list_reading, is_list_of, plain_readings, pointer_elements, struct_elements, Readings, no_readings, is_accepted_as, expected_size, whole_words, no_children, shape_record}
 use Rattle.capnp_model.specs.Fits.{Fits}
-use Rattle.capnp_model.proofs.Chaining.{guard_ok, ok_then, bind_some, bind_found, some_is, ok_is, bind_ok}
-use Rattle.capnp_model.proofs.ReadFits.{tree_at_fits}
+use Rattle.capnp_model.proofs.lemmas.Chaining.{guard_ok, ok_then, bind_some, bind_found, some_is, ok_is, bind_ok}
+use Rattle.capnp_model.proofs.lemmas.ReadFits.{tree_at_fits}
 use Rattle.capnp_object.specs.declared.object.Object.{Object}
 use Rattle.capnp_object.specs.declared.object.Object.TheVariants as object
 use Rattle.capnp_object.specs.declared.object.Found.{Found}

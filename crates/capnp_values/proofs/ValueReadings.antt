@@ -9,8 +9,8 @@ use Rattle.capnp_model.specs.Accepted.{same_plain}
 use Rattle.capnp_values.specs.Shown.{number_shown}
 use Rattle.capnp_values.specs.Standing.{Answers, PointersAreRead}
 use Rattle.capnp_values.specs.ValuesShown.{value_shown, ValuesAreRead}
-use Rattle.capnp_values.proofs.FieldReadings.{number_read}
-use Rattle.capnp_values.proofs.DefaultReadings.{null_leads, segment_read}
+use Rattle.capnp_values.proofs.lemmas.FieldReadings.{number_read}
+use Rattle.capnp_values.proofs.lemmas.DefaultReadings.{null_leads, segment_read}
 
 number_value : (s : Schema) (p q : PlainType) (n : ℕ) → same_plain p q ≡ true → Answers s (value_shown s (plain p) (bits q n)) (number n)
 number_value s p q n h =

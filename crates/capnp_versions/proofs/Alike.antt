@@ -4,10 +4,10 @@ use Rattle.capnp_model.specs.Trees.{Tree, null, capability, structure, plain_lis
 use Rattle.capnp_model.specs.Sections.{with_bits}
 use Rattle.capnp_model.specs.Trimming.{after_stripping, stripped, trim, trim_each}
 use Rattle.capnp_model.specs.Edits.{Cell, put_bits, put_child}
-use Rattle.capnp_model.proofs.Bounds.{with_bits_lt}
-use Rattle.capnp_model.proofs.Widening.{bare, bare-with_child, trim-structure}
+use Rattle.capnp_model.proofs.lemmas.Bounds.{with_bits_lt}
+use Rattle.capnp_model.proofs.lemmas.Widening.{bare, bare-with_child, trim-structure}
 use Rattle.capnp_versions.specs.Whole.{IsWhole, AreWhole}
-use Rattle.capnp_versions.proofs.WholeValues.{whole-child, whole-with_child}
+use Rattle.capnp_versions.proofs.lemmas.WholeValues.{whole-child, whole-with_child}
 
 -- one trimmed value
 pub record Alike (t u : Tree) : Type 0 where

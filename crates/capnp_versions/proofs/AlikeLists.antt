@@ -5,10 +5,10 @@ use Rattle.capnp_model.specs.Trees.{Tree, null, capability, structure, plain_lis
 use Rattle.capnp_model.specs.Sections.{number_of}
 use Rattle.capnp_model.specs.Trimming.{after_stripping, trim, trim_each}
 use Rattle.capnp_model.specs.Edits.{Cell, Edit, elements_of_plain, elements_of_pointers, padded_elements, least_words, on_plain, on_pointers, on_elements, edit_list}
-use Rattle.capnp_model.proofs.Numbers.{numbers_in_lt, wider}
-use Rattle.capnp_model.proofs.Widening.{bare-padded_to}
+use Rattle.capnp_model.proofs.lemmas.Numbers.{numbers_in_lt, wider}
+use Rattle.capnp_model.proofs.lemmas.Widening.{bare-padded_to}
 use Rattle.capnp_versions.specs.Whole.{AreWhole, HaveWhole}
-use Rattle.capnp_versions.proofs.WholeValues.{whole-padded_to, whole-resized, whole-more}
+use Rattle.capnp_versions.proofs.lemmas.WholeValues.{whole-padded_to, whole-resized, whole-more}
 use Rattle.capnp_versions.proofs.Alike.{Alike, SameCell, Agree, alike-child}
 use Rattle.capnp_versions.proofs.SameLists.{SameElements, alike-elements, same-padded, whole-padded_elements, AtElement, SameWhole, edited-elements}
 use Rattle.capnp_versions.proofs.SameContents.{bare_nulls}

@@ -10,11 +10,11 @@ use Rattle.capnp_model.specs.Calls.{Step, name, index, Verb}
 use Rattle.capnp_model.specs.Steps.{on_name, opened, through_value, through_field, step_field, step_element}
 use Rattle.capnp_model.specs.Edits.{Cell, mark, edit_target, edit_named, edit_struct, widened_list, as_list, edit_list, edit_value, edit_field, edit_element, opened_tree, put_child, put_field}
 use Rattle.capnp_model.specs.Admitted.{is_group_write, is_struct_type}
-use Rattle.capnp_model.proofs.Numbers.{wider}
-use Rattle.capnp_model.proofs.Widening.{bare-padded_to}
-use Rattle.capnp_model.proofs.OlderReading.{Related, related_void, related_plain', related_text, related_blob, related_untyped, related_interface, related_struct, related_list}
+use Rattle.capnp_model.proofs.lemmas.Numbers.{wider}
+use Rattle.capnp_model.proofs.lemmas.Widening.{bare-padded_to}
+use Rattle.capnp_model.proofs.lemmas.OlderReading.{Related, related_void, related_plain', related_text, related_blob, related_untyped, related_interface, related_struct, related_list}
 use Rattle.capnp_versions.specs.Whole.{IsWhole, IsWholeVerb}
-use Rattle.capnp_versions.proofs.WholeValues.{whole-padded_to, whole-resized}
+use Rattle.capnp_versions.proofs.lemmas.WholeValues.{whole-padded_to, whole-resized}
 use Rattle.capnp_versions.proofs.Alike.{Alike, SameCell, Agree, agree-more, agree-then, agree-put_bits, agree-put_child, alike-child, alike-structure, IsStructLike, struct_like, struct-like}
 use Rattle.capnp_versions.proofs.SameLists.{IsListLike, list_like, list-like}
 use Rattle.capnp_versions.proofs.SameShapes.{Congruent, no_change, AnyPair}

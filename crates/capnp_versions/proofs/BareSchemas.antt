@@ -18,9 +18,9 @@ use Rattle.capnp_model.specs.Edits.{write_path, if_done, edit}
 use Rattle.capnp_model.specs.Messages.{within}
 use Rattle.capnp_model.specs.Answers.{Limits, levels, value_within, edits, widened_root, opened_root}
 use Rattle.capnp_model.specs.Accepted.{find_node, default_tree, slot_body, field_body, fields_from, union_place, no_shape, shape_of_node, shape_in, schema_of}
-use Rattle.capnp_model.proofs.Chaining.{bind_some, provided_some}
-use Rattle.capnp_model.proofs.KeptRules.{and_left}
-use Rattle.capnp_model.proofs.CanonicalCopies.{free_trim}
+use Rattle.capnp_model.proofs.lemmas.Chaining.{bind_some, provided_some}
+use Rattle.capnp_model.proofs.lemmas.KeptRules.{and_left}
+use Rattle.capnp_model.proofs.lemmas.CanonicalCopies.{free_trim}
 use Rattle.capnp_versions.specs.Capabilities.{SetsNoCapability}
 use Rattle.capnp_versions.proofs.BareValues.{IsBare, is-bare, has-none, bare-widened}
 use Rattle.capnp_versions.proofs.BareContents.{IsBareVerb, is-bare-verb}

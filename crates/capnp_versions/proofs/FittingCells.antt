@@ -10,10 +10,10 @@ use Rattle.capnp_model.specs.Calls.{whole_number, truth, enumerant, text_value, 
 use Rattle.capnp_model.specs.Groups.{empty_tree, source_tree}
 use Rattle.capnp_model.specs.Edits.{Cell, Edit, put_bits, put_child, mark, put_content, is_kept, edit_if, cleared, cleared_fields, cleared_body, pointer_writes, has_turn, group_writes, field_writes, body_writes, after_writes, from_message, put_group, put_field, put_in_element}
 use Rattle.capnp_model.specs.NamedPaths.{IsInRange}
-use Rattle.capnp_model.proofs.Bounds.{with_bits_lt}
-use Rattle.capnp_model.proofs.Stripping.{count-resized}
-use Rattle.capnp_model.proofs.SoundShapes.{FitsSlot}
-use Rattle.capnp_model.proofs.FitCalls.{IsGoodSlot, contents_fit}
+use Rattle.capnp_model.proofs.lemmas.Bounds.{with_bits_lt}
+use Rattle.capnp_model.proofs.lemmas.Stripping.{count-resized}
+use Rattle.capnp_model.proofs.lemmas.SoundShapes.{FitsSlot}
+use Rattle.capnp_model.proofs.lemmas.FitCalls.{IsGoodSlot, contents_fit}
 use Rattle.capnp_versions.proofs.SameContents.{shape_words, IsWrite}
 use Rattle.capnp_versions.proofs.FittingParts.{Lengths, FitsBy, AllFitBy, SpelledBy, count-with, all-with, all-resized, child-fits, UnionFits, MemberFits, ShapeFits, FieldsFit, BodyFits, pointers_of_shape, SchemaFits}
 use Rattle.capnp_versions.proofs.FittingContents.{ContentFits, blob-fits, text-fits, root-fits, new-list-fits, slot-content}

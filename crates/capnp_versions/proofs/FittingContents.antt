@@ -8,8 +8,8 @@ use Rattle.capnp_model.specs.Trees.{element_count, Tree, null, capability, struc
 use Rattle.capnp_model.specs.Schemas.{PlainType, bool, int, uint, «enum», width, Ty, void, plain, text, blob, untyped, interface, struct, list, Shape, shape, Body, void_slot, plain_slot, pointer_slot, group_slot, Schema}
 use Rattle.capnp_model.specs.Readings.{is_list_of}
 use Rattle.capnp_model.specs.Calls.{CallValue, whole_number, truth, enumerant, text_value, blob_value, message, Verb, get, set_to, init, initn, clear, Content, refused_by, bits_of, object, plain_content, struct_content, message_root, value_content, blob_tree, text_tree, empty_elements, empty_structs, empty_struct, new_list, init_content, initn_content, slot_content, element_content}
-use Rattle.capnp_model.proofs.Numbers.{number_of_lt}
-use Rattle.capnp_model.proofs.Stripping.{count-resized}
+use Rattle.capnp_model.proofs.lemmas.Numbers.{number_of_lt}
+use Rattle.capnp_model.proofs.lemmas.Stripping.{count-resized}
 use Rattle.capnp_versions.proofs.FittingParts.{Lengths, FitsBy, AllFitBy, ElementsFitBy, SpelledBy, all-resized, StructFits, SchemaFits}
 
 pub small-size : (w : ℕ) → size_of_width w < 6

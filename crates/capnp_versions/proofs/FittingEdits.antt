@@ -10,8 +10,8 @@ use Rattle.capnp_model.specs.Steps.{target, target_if, target_of, on_name, step_
 use Rattle.capnp_model.specs.Edits.{Cell, mark, opened_tree, edit_target, edit_named, edit_struct, elements_of_plain, elements_of_pointers, padded_elements, least_words, widened_list, as_list, edit_list, edit_value, edit_through, edit_through_element, edit_field, edit_element, write_path}
 use Rattle.capnp_model.specs.NamedPaths.{IsOpen}
 use Rattle.capnp_model.specs.Printing.{fields_in}
-use Rattle.capnp_model.proofs.Numbers.{wider}
-use Rattle.capnp_model.proofs.Stripping.{count-resized}
+use Rattle.capnp_model.proofs.lemmas.Numbers.{wider}
+use Rattle.capnp_model.proofs.lemmas.Stripping.{count-resized}
 use Rattle.capnp_versions.proofs.WroteLists.{at-plain-element, at-child, at-pointer-element, at-element, at-padded-element}
 use Rattle.capnp_versions.proofs.Wrote.{Wrote, wrote-map, field-is-write, element-is-write, WritesField, WritesElement, WritesName, FoundName, found_name, find_name, WritesStruct, into_struct, WritesList, into_list, no-name, no-index, through-pointer, reads-padded, reads-nothing}
 use Rattle.capnp_versions.proofs.OpenedValues.{null_default}

@@ -7,9 +7,9 @@ use Rattle.capnp_model.specs.Trees.{tree_count, element_count, Tree, null, capab
 use Rattle.capnp_model.specs.Schemas.{width, Ty, void, plain, text, blob, untyped, interface, struct, list, Shape, shape, Schema}
 use Rattle.capnp_model.specs.Readings.{is_list_of, have_room}
 use Rattle.capnp_model.specs.Edits.{Cell, Edit, elements_of_plain, elements_of_pointers, padded_elements, least_words, widened_list, on_plain, on_pointers, on_elements}
-use Rattle.capnp_model.proofs.Numbers.{number_of_lt, wider, length-numbers_in}
-use Rattle.capnp_model.proofs.Stripping.{count-resized}
-use Rattle.capnp_model.proofs.KeptRules.{and_right}
+use Rattle.capnp_model.proofs.lemmas.Numbers.{number_of_lt, wider, length-numbers_in}
+use Rattle.capnp_model.proofs.lemmas.Stripping.{count-resized}
+use Rattle.capnp_model.proofs.lemmas.KeptRules.{and_right}
 use Rattle.capnp_versions.proofs.SameLists.{AtElement}
 use Rattle.capnp_versions.proofs.WroteLists.{AtChild}
 use Rattle.capnp_versions.proofs.Comparisons.{le_is}

@@ -4,7 +4,7 @@ use Rattle.capnp_model.specs.Trees.{size_bits, element_count, Tree, null, capabi
 use Rattle.capnp_model.specs.Schemas.{width, Shape, shape, Fields, no_fields, field, Body, void_slot, plain_slot, pointer_slot, group_slot, Schema, default_or_null}
 use Rattle.capnp_model.specs.Calls.{Verb, set_to, initn, enumerant, text_value, blob_value, message}
 use Rattle.capnp_model.specs.Fits.{Fits, FitEach, FitElements}
-use Rattle.capnp_model.proofs.FitCalls.{IsPointer}
+use Rattle.capnp_model.proofs.lemmas.FitCalls.{IsPointer}
 use Rattle.capnp_versions.proofs.SameContents.{shape_words}
 use Rattle.capnp_versions.proofs.Within.{AllNarrow}
 use Rattle.capnp_versions.specs.Fitting.{NumbersFit, AllNumbersFit, ElementNumbersFit, HasShortLists, AllHaveShortLists, ElementsHaveShortLists}

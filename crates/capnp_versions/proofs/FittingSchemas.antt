@@ -13,9 +13,9 @@ use Rattle.capnp_model.specs.Steps.{Outcome, refused, shown, done, step, step_pa
 use Rattle.capnp_model.specs.Edits.{write_path, if_done, edit}
 use Rattle.capnp_model.specs.Answers.{edits}
 use Rattle.capnp_model.specs.Fits.{Fits}
-use Rattle.capnp_model.proofs.KeptRules.{and_left, and_right, found_passes}
-use Rattle.capnp_model.proofs.FineShapes.{IsGoodMember, IsGood, AreGood, IsGoodBody}
-use Rattle.capnp_model.proofs.SoundRules.{RulesKept, rules_kept, good_shape}
+use Rattle.capnp_model.proofs.lemmas.KeptRules.{and_left, and_right, found_passes}
+use Rattle.capnp_model.proofs.lemmas.FineShapes.{IsGoodMember, IsGood, AreGood, IsGoodBody}
+use Rattle.capnp_model.proofs.lemmas.SoundRules.{RulesKept, rules_kept, good_shape}
 use Rattle.capnp_versions.specs.Fitting.{HasShortLists, IsSpelledVerb, HasSmallSections, HaveSmallSections, AreSpelled}
 use Rattle.capnp_versions.proofs.Comparisons.{lt_is}
 use Rattle.capnp_versions.proofs.SameContents.{shape_words}

@@ -3,10 +3,10 @@ use Rattle.std.proofs.Common.{sym, subst, ℕ, ◌*◌, ◌^◌, ◌<◌, ◌≤
 use Rattle.capnp_model.specs.Sections.{needed_words}
 use Rattle.capnp_model.specs.Trees.{element_count, Tree, null, capability, structure, plain_list, pointer_list, struct_list, Trees, none, ◌▸◌, Elements, no_elements, element}
 use Rattle.capnp_model.specs.Trimming.{after_stripping, stripped, common_words, common_pointers, with_pointers, least_list, trim, trim_each, trim_elements}
-use Rattle.capnp_model.proofs.Numbers.{wider, needed_words_le, needed_words_hold}
-use Rattle.capnp_model.proofs.Stripping.{count-stripped, count-resized}
-use Rattle.capnp_model.proofs.TrimTwice.{common_words_le}
-use Rattle.capnp_model.proofs.TrimFits.{count-with_pointers, count-trim_elements, count-trim_each}
+use Rattle.capnp_model.proofs.lemmas.Numbers.{wider, needed_words_le, needed_words_hold}
+use Rattle.capnp_model.proofs.lemmas.Stripping.{count-stripped, count-resized}
+use Rattle.capnp_model.proofs.lemmas.TrimTwice.{common_words_le}
+use Rattle.capnp_model.proofs.lemmas.TrimFits.{count-with_pointers, count-trim_elements, count-trim_each}
 use Rattle.capnp_versions.proofs.FittingParts.{Lengths, FitsBy, AllFitBy, ElementsFitBy, all-resized}
 
 module _ (L : Lengths) where

@@ -4,7 +4,7 @@ use Rattle.std.specs.List.{list_all, list_any, flat_map, count_by}
 use Rattle.std.proofs.lemmas.List.Recursion.{is_count_by}
 use Rattle.capnp_model.specs.Schemas.{Node}
 use Rattle.capnp_model.specs.Accepted.{find_node, fields_of_kind, groups_used, names_a, is_group_node, names_its_sort, types_in, has_good_ids, uses_of, holder_of, sizes_of, fits_in, meets_below, is_good_group, has_places, on_struct, default_reads, IsAccepted}
-use Rattle.capnp_model.proofs.KeptRules.{and_left, and_right, and_three, behind, no_break, found_passes}
+use Rattle.capnp_model.proofs.lemmas.KeptRules.{and_left, and_right, and_three, behind, no_break, found_passes}
 use Rattle.capnp_versions.proofs.Comparisons.{le_is, same_number}
 
 -- what each node keeps

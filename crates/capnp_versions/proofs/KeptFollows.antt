@@ -10,11 +10,11 @@ use Rattle.capnp_model.specs.Calls.{Step, name, index, Verb}
 use Rattle.capnp_model.specs.Steps.{Target, no_target, target, target_if, target_of}
 use Rattle.capnp_model.specs.Compatible.{Pairs, has_pair, related_plain, related, same_option, is_new, member_count, keeps_union, same_default, keeps, keeps_fields, keeps_body}
 use Rattle.capnp_model.specs.Admitted.{is_extended, extends_fields, extends_field, is_group_write, is_set, is_struct_type, At, at_body, at_element, nowhere, into_fields, into_type, is_admitted_from}
-use Rattle.capnp_model.proofs.KeptRules.{and_right, and_three, and_four}
-use Rattle.capnp_model.proofs.KeptShapes.{option_is}
-use Rattle.capnp_model.proofs.OlderReading.{Related}
-use Rattle.capnp_model.proofs.FineShapes.{HasUnion, IsGoodMember, IsNewName, IsGood, AreGood, IsGoodBody}
-use Rattle.capnp_model.proofs.RoundTrip.{enc_is}
+use Rattle.capnp_model.proofs.lemmas.KeptRules.{and_right, and_three, and_four}
+use Rattle.capnp_model.proofs.lemmas.KeptShapes.{option_is}
+use Rattle.capnp_model.proofs.lemmas.OlderReading.{Related}
+use Rattle.capnp_model.proofs.lemmas.FineShapes.{HasUnion, IsGoodMember, IsNewName, IsGood, AreGood, IsGoodBody}
+use Rattle.capnp_model.proofs.lemmas.RoundTrip.{enc_is}
 use Rattle.capnp_versions.proofs.SameShapes.{UnionWithin, AnyPair, SameShape, same_shape, SameFields, same_none, same_field, SameBody, same_void, same_plain', same_pointer, same_group}
 use Rattle.capnp_versions.proofs.SameContents.{shape_words}
 use Rattle.capnp_versions.proofs.Comparisons.{le_is, same_number}

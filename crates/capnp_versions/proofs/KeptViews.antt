@@ -2,10 +2,10 @@
 use Rattle.std.proofs.Common.{◌≡◌, ℕ, ◌==◌, true, Option, Some, None, refl, subst}
 use Rattle.capnp_model.specs.Schemas.{Ty, Shape, shape, Fields, no_fields, field, Body, void_slot, plain_slot, pointer_slot, group_slot, Schema}
 use Rattle.capnp_model.specs.Compatible.{Pairs, related_plain, related, same_default, keeps, keeps_body}
-use Rattle.capnp_model.proofs.KeptRules.{and_three, MembersIn, OwnsMembers, AllOwn, OwnBody}
-use Rattle.capnp_model.proofs.KeptShapes.{HasPair, shape_is_kept}
-use Rattle.capnp_model.proofs.FineShapes.{IsGood, AreGood, IsGoodBody}
-use Rattle.capnp_model.proofs.OlderReading.{Related, KeptShape, KeptBody, kept_void, kept_plain, kept_pointer, kept_group}
+use Rattle.capnp_model.proofs.lemmas.KeptRules.{and_three, MembersIn, OwnsMembers, AllOwn, OwnBody}
+use Rattle.capnp_model.proofs.lemmas.KeptShapes.{HasPair, shape_is_kept}
+use Rattle.capnp_model.proofs.lemmas.FineShapes.{IsGood, AreGood, IsGoodBody}
+use Rattle.capnp_model.proofs.lemmas.OlderReading.{Related, KeptShape, KeptBody, kept_void, kept_plain, kept_pointer, kept_group}
 use Rattle.capnp_versions.proofs.Comparisons.{same_number}
 use Rattle.capnp_versions.proofs.RelatedTypes.{plain_is, related-by}
 

@@ -1,46 +1,45 @@
-pub mod Comparisons
-pub mod WholeValues
-pub mod Alike
-pub mod SameLists
-pub mod SameShapes
-pub mod SameContents
-pub mod Wrote
-pub mod WroteLists
-pub mod Follows
-pub mod RelatedTypes
-pub mod OpenedValues
-pub mod AlikeLists
-pub mod AlikePaths
-pub mod Holders
-pub mod Within
-pub mod SelfFollows
-pub mod Structs
-pub mod TrimmedEdits
-pub mod TrimmedCalls
-pub mod Partners
-pub mod FittingParts
-pub mod FittingContents
-pub mod FittingCells
-pub mod FittingLists
-pub mod FittingEdits
-pub mod FittingSchemas
-pub mod FittingTrims
-pub mod WrittenValues
-pub mod SufficientSizes
-pub mod OwnOutput
-pub mod KeptFollows
-pub mod ReplacedViews
-pub mod OlderContents
-pub mod KeptViews
-pub mod GroupViews
-pub mod SeenValues
-pub mod OlderSteps
-pub mod WriteOnly
-pub mod Versions
-pub mod TrimmedRelays
-pub mod SizeExamples
-pub mod BareValues
-pub mod BareContents
-pub mod BareCells
-pub mod BareEdits
-pub mod BareSchemas
+pub mod lemmas
+mod Comparisons
+mod Alike
+mod SameLists
+mod SameShapes
+mod SameContents
+mod Wrote
+mod WroteLists
+mod Follows
+mod RelatedTypes
+mod OpenedValues
+mod AlikeLists
+mod AlikePaths
+mod Holders
+mod Within
+mod SelfFollows
+mod Structs
+mod TrimmedEdits
+mod TrimmedCalls
+mod Partners
+mod FittingParts
+mod FittingContents
+mod FittingCells
+mod FittingLists
+mod FittingEdits
+mod FittingSchemas
+mod FittingTrims
+mod SufficientSizes
+mod OwnOutput
+mod KeptFollows
+mod ReplacedViews
+mod OlderContents
+mod KeptViews
+mod GroupViews
+mod SeenValues
+mod OlderSteps
+mod WriteOnly
+mod Versions
+mod TrimmedRelays
+mod SizeExamples
+mod BareValues
+mod BareContents
+mod BareCells
+mod BareEdits
+mod BareSchemas

@@ -9,8 +9,8 @@ use Rattle.capnp_model.specs.Printing.{as_type, as_body}
 use Rattle.capnp_model.specs.Projection.{project}
 use Rattle.capnp_model.specs.Calls.{CallValue, whole_number, truth, enumerant, text_value, blob_value, message, Verb, get, set_to, init, initn, clear, Content, refused_by, bits_of, object, plain_content, value_content, empty_struct, empty_elements, empty_structs, new_list, init_content, initn_content, element_content}
 use Rattle.capnp_model.specs.Steps.{done, outcome_map, reading_after, at_field, at_element}
-use Rattle.capnp_model.proofs.OlderReading.{SamePlain, same_bool, same_int, same_uint, same_enum, Related, related_void, related_plain', related_text, related_blob, related_untyped, related_interface, related_struct, related_list, KeptShape, read-project}
-use Rattle.capnp_model.proofs.Paths.{read_child-is}
+use Rattle.capnp_model.proofs.lemmas.OlderReading.{SamePlain, same_bool, same_int, same_uint, same_enum, Related, related_void, related_plain', related_text, related_blob, related_untyped, related_interface, related_struct, related_list, KeptShape, read-project}
+use Rattle.capnp_model.proofs.lemmas.Paths.{read_child-is}
 use Rattle.capnp_versions.specs.SameReplies.{IsWrite}
 use Rattle.capnp_versions.proofs.Wrote.{reads-nothing}
 

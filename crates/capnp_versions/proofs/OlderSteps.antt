@@ -10,11 +10,11 @@ use Rattle.capnp_model.specs.Calls.{Step, name, index, Verb}
 use Rattle.capnp_model.specs.Steps.{Outcome, refused, shown, done, outcome_map, Target, no_target, target, target_if, target_of, entry_of, replaced, at_target, on_name, on_index, empty_reading, opened, or_empty, through_value, through_field, step_field, step_element}
 use Rattle.capnp_model.specs.Compatible.{Pairs, has_pair, related, member_count, keeps_union, same_default, keeps, keeps_fields, keeps_body}
 use Rattle.capnp_model.specs.Admitted.{At, at_body, at_element, nowhere, into_fields, into_type, is_admitted_from}
-use Rattle.capnp_model.proofs.KeptRules.{and_three, and_four}
-use Rattle.capnp_model.proofs.KeptShapes.{option_is, HasPair}
-use Rattle.capnp_model.proofs.FineShapes.{IsGoodMember, IsNewName, IsGood, IsGoodBody}
-use Rattle.capnp_model.proofs.OlderReading.{SamePlain, Related, related_void, related_plain', related_text, related_blob, related_untyped, related_interface, related_struct, related_list, KeptShape, kept, KeptBody, kept_plain, KidsAgree, shape_record-project, body_of-project, no_children_agree, read-project}
-use Rattle.capnp_model.proofs.Paths.{entry_of-fields_of}
+use Rattle.capnp_model.proofs.lemmas.KeptRules.{and_three, and_four}
+use Rattle.capnp_model.proofs.lemmas.KeptShapes.{option_is, HasPair}
+use Rattle.capnp_model.proofs.lemmas.FineShapes.{IsGoodMember, IsNewName, IsGood, IsGoodBody}
+use Rattle.capnp_model.proofs.lemmas.OlderReading.{SamePlain, Related, related_void, related_plain', related_text, related_blob, related_untyped, related_interface, related_struct, related_list, KeptShape, kept, KeptBody, kept_plain, KidsAgree, shape_record-project, body_of-project, no_children_agree, read-project}
+use Rattle.capnp_model.proofs.lemmas.Paths.{entry_of-fields_of}
 use Rattle.capnp_versions.proofs.SameShapes.{SameShape, SameBody, same_group}
 use Rattle.capnp_versions.specs.SameReplies.{IsWrite}
 use Rattle.capnp_versions.proofs.SameContents.{shape_words}

@@ -15,15 +15,15 @@ use Rattle.capnp_model.specs.Calls.{Call}
 use Rattle.capnp_model.specs.Answers.{Answer, refused_value, refused_root, refused_depth, written, Limits, opened_root, widened_root, edits}
 use Rattle.capnp_model.specs.Runs.{outputs_of, AnswerEach, BeginWith, End, finished}
 use Rattle.capnp_model.specs.SameRuns.{IsFormReader, IsForm, Work, IsAnswerIn, Relays}
-use Rattle.capnp_model.proofs.Chaining.{ok_then, bind_ok}
-use Rattle.capnp_model.proofs.TrimTwice.{trim-trim}
-use Rattle.capnp_model.proofs.Written.{ReadsBack, plain_back, packed_back, message_back}
-use Rattle.capnp_model.proofs.RunLaws.{form_nothing, same_messages}
+use Rattle.capnp_model.proofs.lemmas.Chaining.{ok_then, bind_ok}
+use Rattle.capnp_model.proofs.lemmas.TrimTwice.{trim-trim}
+use Rattle.capnp_model.proofs.lemmas.Written.{ReadsBack, plain_back, packed_back, message_back}
+use Rattle.capnp_model.proofs.lemmas.RunLaws.{form_nothing, same_messages}
 use Rattle.capnp_versions.specs.Fitting.{AreSpelled}
 use Rattle.capnp_versions.specs.OwnOutput.{edited_value, SizesSuffice, IsWritten, with_calls, relay_of}
-use Rattle.capnp_versions.proofs.WholeValues.{fits-whole}
+use Rattle.capnp_versions.proofs.lemmas.WholeValues.{fits-whole}
 use Rattle.capnp_versions.proofs.Structs.{edits_are_structs, trim_struct, opened_is_struct, reopened}
-use Rattle.capnp_versions.proofs.WrittenValues.{HasWritten, has-written, IsReadBack, read-back, sizes-fit}
+use Rattle.capnp_versions.proofs.lemmas.WrittenValues.{HasWritten, has-written, IsReadBack, read-back, sizes-fit}
 
 -- ---- a message that is read within a limit is read without one
 

@@ -5,9 +5,9 @@ use Rattle.std.proofs.lemmas.Slice.Eq.{bytes_eq-Decides}
 use Rattle.capnp_model.specs.Schemas.{Fields, no_fields, field, Body, Schema}
 use Rattle.capnp_model.specs.Steps.{no_target, target, target_if, target_of}
 use Rattle.capnp_model.specs.Compatible.{Pairs, same_option, is_new, keeps, keeps_fields, keeps_body}
-use Rattle.capnp_model.proofs.KeptRules.{and_right, and_three}
-use Rattle.capnp_model.proofs.KeptShapes.{option_is}
-use Rattle.capnp_model.proofs.FineShapes.{IsNewName, AreGood}
+use Rattle.capnp_model.proofs.lemmas.KeptRules.{and_right, and_three}
+use Rattle.capnp_model.proofs.lemmas.KeptShapes.{option_is}
+use Rattle.capnp_model.proofs.lemmas.FineShapes.{IsNewName, AreGood}
 
 other_name : (k l : List ℕ) → bytes_eq l k ≡ false → bytes_eq k l ≡ false
 other_name k l h = by (bytes_eq k l) refl

@@ -7,8 +7,8 @@ use Rattle.capnp_model.specs.Readings.{Reading, Record, entry, Children, Extent,
 use Rattle.capnp_model.specs.Printing.{as_body}
 use Rattle.capnp_model.specs.Projection.{project, project_fields}
 use Rattle.capnp_model.specs.Steps.{target, target_if, target_of, choose, unless_member, replaced}
-use Rattle.capnp_model.proofs.FineShapes.{IsNewName, AreGood}
-use Rattle.capnp_model.proofs.OlderReading.{KeptFields, kept_all, kept_added, kept_field, IsAbsent, KidsAgree, body_of-project}
+use Rattle.capnp_model.proofs.lemmas.FineShapes.{IsNewName, AreGood}
+use Rattle.capnp_model.proofs.lemmas.OlderReading.{KeptFields, kept_all, kept_added, kept_field, IsAbsent, KidsAgree, body_of-project}
 
 -- a field of the name is just this one
 abbrev pub NamedIs : List ℕ → Body → Fields → Type 0

@@ -12,13 +12,13 @@ use Rattle.capnp_model.specs.Admitted.{is_set, is_struct_type}
 use Rattle.capnp_model.specs.NamedPaths.{IsInRange}
 use Rattle.capnp_model.specs.Edits.{put_bits, put_content, put_in_element, put_group, put_field}
 use Rattle.capnp_model.specs.Trimming.{after_stripping, trim}
-use Rattle.capnp_model.proofs.SoundShapes.{FitsSlot}
-use Rattle.capnp_model.proofs.FitCalls.{contents_fit}
-use Rattle.capnp_model.proofs.Widening.{bare}
-use Rattle.capnp_model.proofs.OlderReading.{SamePlain, same_bool, same_int, same_uint, same_enum, Related, related_void, related_plain', related_text, related_blob, related_untyped, related_interface, related_struct, related_list}
+use Rattle.capnp_model.proofs.lemmas.SoundShapes.{FitsSlot}
+use Rattle.capnp_model.proofs.lemmas.FitCalls.{contents_fit}
+use Rattle.capnp_model.proofs.lemmas.Widening.{bare}
+use Rattle.capnp_model.proofs.lemmas.OlderReading.{SamePlain, same_bool, same_int, same_uint, same_enum, Related, related_void, related_plain', related_text, related_blob, related_untyped, related_interface, related_struct, related_list}
 pub use Rattle.capnp_versions.specs.SameReplies.{IsWrite}
 use Rattle.capnp_versions.specs.Whole.{IsWhole, HaveWhole, IsWholeVerb}
-use Rattle.capnp_versions.proofs.WholeValues.{whole-resized}
+use Rattle.capnp_versions.proofs.lemmas.WholeValues.{whole-resized}
 use Rattle.capnp_versions.proofs.Alike.{alike-self, Alike, Agree, agree-more, agree-put_bits, agree-put_child, alike-structure}
 use Rattle.capnp_versions.proofs.SameLists.{SameElements, alike-elements}
 use Rattle.capnp_versions.proofs.SameShapes.{Congruent, no_change, AnyPair, SameBody, same_void, same_plain', same_pointer, same_group, width-same, congruent-cleared, congruent-message}

@@ -4,11 +4,11 @@ use Rattle.capnp_model.specs.Trees.{Tree, null, capability, structure, plain_lis
 use Rattle.capnp_model.specs.Sections.{needed_words}
 use Rattle.capnp_model.specs.Trimming.{stripped, common_words, common_pointers, with_pointers, trim, trim_each, trim_elements}
 use Rattle.capnp_model.specs.Edits.{Cell, Edit, on_elements, padded_elements}
-use Rattle.capnp_model.proofs.Numbers.{needed_words-more}
-use Rattle.capnp_model.proofs.Stripping.{resized-stripped, stripped-resized}
-use Rattle.capnp_model.proofs.Widening.{bare, bare-padded_to}
+use Rattle.capnp_model.proofs.lemmas.Numbers.{needed_words-more}
+use Rattle.capnp_model.proofs.lemmas.Stripping.{resized-stripped, stripped-resized}
+use Rattle.capnp_model.proofs.lemmas.Widening.{bare, bare-padded_to}
 use Rattle.capnp_versions.specs.Whole.{HaveWhole}
-use Rattle.capnp_versions.proofs.WholeValues.{whole-padded_to}
+use Rattle.capnp_versions.proofs.lemmas.WholeValues.{whole-padded_to}
 use Rattle.capnp_versions.proofs.Alike.{Alike, SameCell, Agree}
 
 -- so many elements, each with the same cell

@@ -8,9 +8,9 @@ use Rattle.capnp_model.specs.Schemas.{PlainType, bool, int, uint, «enum», widt
 use Rattle.capnp_model.specs.Readings.{whole_words, discriminant}
 use Rattle.capnp_model.specs.Groups.{empty_tree, source_tree}
 use Rattle.capnp_model.specs.Edits.{Cell, Edit, put_bits, put_child, mark, is_kept, edit_if, cleared, cleared_fields, cleared_body, pointer_writes, has_turn, group_writes, field_writes, body_writes, after_writes, from_message}
-use Rattle.capnp_model.proofs.OlderReading.{SamePlain, same_bool, same_int, same_uint, same_enum, Related, related_void, related_plain', related_text, related_blob, related_untyped, related_interface, related_struct, related_list}
+use Rattle.capnp_model.proofs.lemmas.OlderReading.{SamePlain, same_bool, same_int, same_uint, same_enum, Related, related_void, related_plain', related_text, related_blob, related_untyped, related_interface, related_struct, related_list}
 use Rattle.capnp_versions.specs.Whole.{IsWhole, AreWhole}
-use Rattle.capnp_versions.proofs.WholeValues.{whole-child}
+use Rattle.capnp_versions.proofs.lemmas.WholeValues.{whole-child}
 use Rattle.capnp_versions.proofs.Alike.{alike-self, Alike, SameCell, Agree, agree-same, agree-more, agree-then, agree-put_bits, agree-put_child}
 
 -- ---- edits that do the same

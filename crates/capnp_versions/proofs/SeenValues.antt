@@ -5,7 +5,7 @@ use Rattle.capnp_model.specs.Trees.{Tree, null, capability, structure, plain_lis
 use Rattle.capnp_model.specs.Schemas.{Ty, struct, list, Schema}
 use Rattle.capnp_model.specs.Readings.{Reading, fault, list_of, record_as, Readings, no_readings, ◌▹◌, Children, no_children, only_child, Extent, whole_words, just_bits, shape_record, element_as, list_reading, plain_readings, read, read_child, pointer_elements, struct_elements}
 use Rattle.capnp_model.specs.Steps.{opened, or_empty}
-use Rattle.capnp_model.proofs.Paths.{read_child-is}
+use Rattle.capnp_model.proofs.lemmas.Paths.{read_child-is}
 
 -- what the children at places read as
 abbrev pub kids_of : Schema → (ℕ → Tree) → Children

@@ -8,11 +8,11 @@ use Rattle.capnp_model.specs.Calls.{Step, name, index, Verb}
 use Rattle.capnp_model.specs.Steps.{target, target_if, target_of}
 use Rattle.capnp_model.specs.Admitted.{is_set}
 use Rattle.capnp_model.specs.InKindCalls.{PathEnd, at_slot, at_value, end_at, end_of}
-use Rattle.capnp_model.proofs.OlderReading.{SamePlain, same_bool, same_int, same_uint, same_enum, Related, related_void, related_plain', related_text, related_blob, related_untyped, related_interface, related_struct, related_list}
-use Rattle.capnp_model.proofs.FineShapes.{IsGoodMember, IsGood, AreGood, IsGoodBody}
+use Rattle.capnp_model.proofs.lemmas.OlderReading.{SamePlain, same_bool, same_int, same_uint, same_enum, Related, related_void, related_plain', related_text, related_blob, related_untyped, related_interface, related_struct, related_list}
+use Rattle.capnp_model.proofs.lemmas.FineShapes.{IsGoodMember, IsGood, AreGood, IsGoodBody}
 use Rattle.capnp_versions.specs.Whole.{IsWhole}
 use Rattle.capnp_versions.specs.StructElements.{is_struct_value}
-use Rattle.capnp_versions.proofs.WholeValues.{fits-whole}
+use Rattle.capnp_versions.proofs.lemmas.WholeValues.{fits-whole}
 use Rattle.capnp_versions.proofs.SameShapes.{UnionWithin, MarkWithin, AnyPair, SameShape, same_shape, SameFields, same_none, same_field, SameBody, same_void, same_plain', same_pointer, same_group}
 use Rattle.capnp_versions.proofs.SameContents.{shape_words}
 use Rattle.capnp_versions.proofs.Follows.{SameMark, IsNarrow, HasWords, NameFollows, ValueFollows, FieldFollows, ElementFollows}

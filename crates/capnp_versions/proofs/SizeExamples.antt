@@ -15,7 +15,7 @@ use Rattle.capnp_model.specs.Accepted.{schema_of, shape_in, has_no_overlap, area
 use Rattle.capnp_model.specs.InKind.{in_kind}
 use Rattle.capnp_model.specs.InKindCalls.{defaults_in_kind, named_structs, end_of}
 use Rattle.capnp_model.specs.CallRuns.{IsStart}
-use Rattle.capnp_model.proofs.Chaining.{some_is}
+use Rattle.capnp_model.proofs.lemmas.Chaining.{some_is}
 use Rattle.capnp_versions.specs.Fitting.{AreSpelled}
 use Rattle.capnp_versions.specs.OwnOutput.{HaveFewWords}
 use Rattle.capnp_versions.specs.TwoRelays.{TwoRelays, first, second, joined, Writes, CanRelay}

@@ -9,7 +9,7 @@ use Rattle.capnp_model.specs.Steps.{Outcome, refused, shown, done, step}
 use Rattle.capnp_model.specs.Edits.{Edit, edit, edit_struct, edit_field, if_done, write_path}
 use Rattle.capnp_model.specs.NamedPaths.{IsOpen}
 use Rattle.capnp_model.specs.Answers.{widened_root, opened_root, edits}
-use Rattle.capnp_model.proofs.Widening.{trim-widened}
+use Rattle.capnp_model.proofs.lemmas.Widening.{trim-widened}
 use Rattle.capnp_versions.specs.Whole.{IsWhole}
 
 abbrev pub IsStruct : Tree → Type 0

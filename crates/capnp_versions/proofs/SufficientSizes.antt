@@ -12,16 +12,16 @@ use Rattle.capnp_model.specs.Schemas.{Node}
 use Rattle.capnp_model.specs.Accepted.{schema_of}
 use Rattle.capnp_model.specs.Calls.{whole_number, truth, enumerant, text_value, blob_value, message, Verb, get, set_to, init, initn, clear, Call}
 use Rattle.capnp_model.specs.Answers.{Limits, opened_root}
-use Rattle.capnp_model.proofs.Chaining.{some_is}
-use Rattle.capnp_model.proofs.Numbers.{length-numbers_in}
-use Rattle.capnp_model.proofs.RoundTrip.{links_length}
+use Rattle.capnp_model.proofs.lemmas.Chaining.{some_is}
+use Rattle.capnp_model.proofs.lemmas.Numbers.{length-numbers_in}
+use Rattle.capnp_model.proofs.lemmas.RoundTrip.{links_length}
 use Rattle.capnp_versions.specs.Fitting.{HasShortLists, AllHaveShortLists, ElementsHaveShortLists, IsSpelledVerb, HoldsShortLists, AreSpelled}
 use Rattle.capnp_versions.specs.OwnOutput.{edited_value, SizesSuffice, HaveFewWords, relay_of}
 use Rattle.capnp_versions.specs.TwoRelays.{Writes}
 use Rattle.capnp_versions.proofs.FittingParts.{any_lengths, short_lengths, FitsBy, AllFitBy, ElementsFitBy, SpelledBy, of-any, numbers-of, fits-by-parts}
 use Rattle.capnp_versions.proofs.FittingTrims.{numbers-trim}
 use Rattle.capnp_versions.proofs.FittingSchemas.{schema-fits, all-edited-numbers}
-use Rattle.capnp_versions.proofs.WrittenValues.{has-written, value-fits, opened-fits}
+use Rattle.capnp_versions.proofs.lemmas.WrittenValues.{has-written, value-fits, opened-fits}
 
 -- ---- few words, short lists
 

@@ -12,15 +12,15 @@ use Rattle.capnp_model.specs.Accepted.{schema_of, IsAccepted}
 use Rattle.capnp_model.specs.InKindCalls.{at_value, end_of}
 use Rattle.capnp_model.specs.Admitted.{is_set}
 use Rattle.capnp_model.specs.NamedPaths.{IsOpen}
-use Rattle.capnp_model.proofs.FineShapes.{IsGood}
-use Rattle.capnp_model.proofs.SoundRules.{rules_kept, good_shape}
-use Rattle.capnp_model.proofs.TrimmedAnswers.{trimmed_record}
-use Rattle.capnp_model.proofs.TrimTwice.{trim-trim}
+use Rattle.capnp_model.proofs.lemmas.FineShapes.{IsGood}
+use Rattle.capnp_model.proofs.lemmas.SoundRules.{rules_kept, good_shape}
+use Rattle.capnp_model.proofs.lemmas.TrimmedAnswers.{trimmed_record}
+use Rattle.capnp_model.proofs.lemmas.TrimTwice.{trim-trim}
 use Rattle.capnp_versions.specs.Whole.{IsWholeVerb}
 use Rattle.capnp_versions.specs.StructElements.{is_struct_value, sets_struct_element, IsPlain}
 use Rattle.capnp_versions.specs.Roots.{IsRootInKind}
 use Rattle.capnp_versions.proofs.Structs.{open-trim}
-use Rattle.capnp_versions.proofs.WholeValues.{whole-trim}
+use Rattle.capnp_versions.proofs.lemmas.WholeValues.{whole-trim}
 use Rattle.capnp_versions.proofs.Alike.{Alike}
 use Rattle.capnp_versions.proofs.Wrote.{Wrote, wrote-done}
 use Rattle.capnp_versions.proofs.SameContents.{shape_words}

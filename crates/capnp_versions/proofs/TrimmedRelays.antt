@@ -10,17 +10,17 @@ use Rattle.capnp_model.specs.Schemas.{Shape, shape, Schema}
 use Rattle.capnp_model.specs.Accepted.{schema_of}
 use Rattle.capnp_model.specs.CallRuns.{IsStart}
 use Rattle.capnp_model.specs.Answers.{widened_root, opened_root, edits}
-use Rattle.capnp_model.proofs.Chaining.{some_is}
-use Rattle.capnp_model.proofs.TrimTwice.{trim-trim}
-use Rattle.capnp_model.proofs.TrimmedKinds.{opened_start}
-use Rattle.capnp_model.proofs.Numbers.{wider}
+use Rattle.capnp_model.proofs.lemmas.Chaining.{some_is}
+use Rattle.capnp_model.proofs.lemmas.TrimTwice.{trim-trim}
+use Rattle.capnp_model.proofs.lemmas.TrimmedKinds.{opened_start}
+use Rattle.capnp_model.proofs.lemmas.Numbers.{wider}
 use Rattle.capnp_versions.specs.Whole.{IsWhole}
 use Rattle.capnp_versions.specs.OwnOutput.{WritesFitting, HaveFewWords}
 use Rattle.capnp_versions.specs.TwoRelays.{TwoRelays, first, second, joined, Writes, CanRelay, AreShort}
-use Rattle.capnp_versions.proofs.WholeValues.{fits-whole, whole-trim, whole-resized, whole-padded_to}
+use Rattle.capnp_versions.proofs.lemmas.WholeValues.{fits-whole, whole-trim, whole-resized, whole-padded_to}
 use Rattle.capnp_versions.proofs.Alike.{Alike, alike-self}
 use Rattle.capnp_versions.proofs.Structs.{IsStruct, trim_struct, edits_are_structs, opened_is_struct, reopened}
-use Rattle.capnp_versions.proofs.WrittenValues.{has-written, value-fits, read-back, sizes-fit}
+use Rattle.capnp_versions.proofs.lemmas.WrittenValues.{has-written, value-fits, read-back, sizes-fit}
 use Rattle.capnp_versions.proofs.SufficientSizes.{sizes-suffice}
 use Rattle.capnp_versions.proofs.TrimmedCalls.{edits-append, alike-calls, trimmed_start}
 

@@ -17,10 +17,10 @@ use Rattle.capnp_model.specs.InKind.{in_kind}
 use Rattle.capnp_model.specs.NamedPaths.{IsOpen}
 use Rattle.capnp_model.specs.CallRuns.{IsStart, records_after, record_replies}
 use Rattle.capnp_model.specs.Answers.{reply_of, replies, edits}
-use Rattle.capnp_model.proofs.KeptShapes.{pair_is_kept, older_record}
-use Rattle.capnp_model.proofs.TrimmedAnswers.{trimmed_record}
-use Rattle.capnp_model.proofs.TrimmedKinds.{in_kind-trim}
-use Rattle.capnp_model.proofs.EditLaws.{edit_open, next_start, last_start, record_after_calls, replies_to_calls}
+use Rattle.capnp_model.proofs.lemmas.KeptShapes.{pair_is_kept, older_record}
+use Rattle.capnp_model.proofs.lemmas.TrimmedAnswers.{trimmed_record}
+use Rattle.capnp_model.proofs.lemmas.TrimmedKinds.{in_kind-trim}
+use Rattle.capnp_model.proofs.lemmas.EditLaws.{edit_open, next_start, last_start, record_after_calls, replies_to_calls}
 use Rattle.capnp_versions.specs.Whole.{IsWhole, IsWholeVerb}
 use Rattle.capnp_versions.specs.SameReplies.{IsWrite, SameUnlessGet, SameReplies}
 use Rattle.capnp_versions.specs.TwoVersions.{TwoVersions, older, newer, newer_record, older_view, CanEdit, CanStep, CanRun}

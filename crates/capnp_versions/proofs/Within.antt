@@ -19,16 +19,16 @@ use Rattle.capnp_model.specs.Decoding.{decode}
 use Rattle.capnp_model.specs.Schemas.{width, Ty, void, plain, text, blob, untyped, interface, struct, list, BaseType, base_type, lists_of, type_of, Value, no_value, bits, text_bytes, blob_bytes, list_segment, struct_segment, untyped_value, interface_value, FieldKind, slot, group, Field, StructNode, NodeKind, struct_node, enum_node, Node, Shape, shape, Fields, no_fields, field, Body, void_slot, plain_slot, pointer_slot, group_slot}
 use Rattle.capnp_model.specs.Calls.{text_tree, blob_tree}
 use Rattle.capnp_model.specs.Accepted.{find_node, fields_of_kind, on_struct, groups_of_field, sizes_of, default_tree, slot_body, field_body, fields_from, union_place, no_shape, shape_of_node, shape_in, schema_of, members_of, are_once, has_good_union, is_inside, has_its_place, has_places, is_default_of, has_good_default, opens_as, is_good_segment, is_good_value, default_reads, IsAccepted}
-use Rattle.capnp_model.proofs.Chaining.{bind_some, provided_some, some_is}
-use Rattle.capnp_model.proofs.TrimFits.{Fits-trim, depth-trim}
-use Rattle.capnp_model.proofs.ByteWords.{words_back, bytes_length}
-use Rattle.capnp_model.proofs.CanonicalWords.{canonical_words_are}
-use Rattle.capnp_model.proofs.Depth.{tree_at_deep}
-use Rattle.capnp_model.proofs.Numbers.{length-numbers_in, number_of_lt}
-use Rattle.capnp_model.proofs.ReadFits.{tree_at_fits}
-use Rattle.capnp_model.proofs.RoundTrip.{enc_means}
-use Rattle.capnp_model.proofs.KeptRules.{and_left, and_right, and_three, found_passes}
-use Rattle.capnp_model.proofs.SoundRules.{RulesKept, rules_kept}
+use Rattle.capnp_model.proofs.lemmas.Chaining.{bind_some, provided_some, some_is}
+use Rattle.capnp_model.proofs.lemmas.TrimFits.{Fits-trim, depth-trim}
+use Rattle.capnp_model.proofs.lemmas.ByteWords.{words_back, bytes_length}
+use Rattle.capnp_model.proofs.lemmas.CanonicalWords.{canonical_words_are}
+use Rattle.capnp_model.proofs.lemmas.Depth.{tree_at_deep}
+use Rattle.capnp_model.proofs.lemmas.Numbers.{length-numbers_in, number_of_lt}
+use Rattle.capnp_model.proofs.lemmas.ReadFits.{tree_at_fits}
+use Rattle.capnp_model.proofs.lemmas.RoundTrip.{enc_means}
+use Rattle.capnp_model.proofs.lemmas.KeptRules.{and_left, and_right, and_three, found_passes}
+use Rattle.capnp_model.proofs.lemmas.SoundRules.{RulesKept, rules_kept}
 use Rattle.capnp_versions.proofs.Comparisons.{le_is, lt_is}
 use Rattle.capnp_versions.proofs.SameShapes.{UnionWithin}
 use Rattle.capnp_versions.proofs.SameContents.{shape_words}

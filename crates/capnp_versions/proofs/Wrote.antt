@@ -9,8 +9,8 @@ use Rattle.capnp_model.specs.Steps.{Outcome, refused, shown, done, outcome_map, 
 use Rattle.capnp_model.specs.Edits.{Cell, opened_tree}
 use Rattle.capnp_model.specs.NamedPaths.{IsOpen}
 use Rattle.capnp_model.specs.Admitted.{is_group_write}
-use Rattle.capnp_model.proofs.Paths.{read_child-is, entry_of-fields_of}
-use Rattle.capnp_model.proofs.Marks.{read_child-padded_to}
+use Rattle.capnp_model.proofs.lemmas.Paths.{read_child-is, entry_of-fields_of}
+use Rattle.capnp_model.proofs.lemmas.Marks.{read_child-padded_to}
 use Rattle.capnp_versions.specs.SameReplies.{IsWrite}
 
 -- the call is carried out and writes

@@ -6,7 +6,7 @@ use Rattle.capnp_model.specs.Readings.{no_children, only_child, whole_words, jus
 use Rattle.capnp_model.specs.Calls.{Step, Verb}
 use Rattle.capnp_model.specs.Steps.{on_index, step_element}
 use Rattle.capnp_model.specs.Edits.{Cell, elements_of_plain, elements_of_pointers, padded_elements}
-use Rattle.capnp_model.proofs.Paths.{read_child-is}
+use Rattle.capnp_model.proofs.lemmas.Paths.{read_child-is}
 use Rattle.capnp_versions.proofs.SameLists.{AtElement}
 use Rattle.capnp_versions.proofs.Wrote.{Wrote, wrote-map, WritesElement, reads-nothing, reads-padded}
 

@@ -2,7 +2,7 @@
 use Rattle.std.proofs.Common.{◌≡◌, ◌⊎◌, inl, inr, ℕ, max, ◌+◌, ◌*◌, ◌^◌, ◌<◌, ◌≤◌, List, Option, Some, None, Result, Ok, Err, OnOk, OnErr, refl, ap, sym, ◌∙◌, subst, arith}
 use Rattle.capnp_model.specs.Kinds.{Kind}
 use Rattle.capnp_model.specs.Segments.{Segments, Place, word_at}
-use Rattle.capnp_model.proofs.Chaining.{ok_is}
+use Rattle.capnp_model.proofs.lemmas.Chaining.{ok_is}
 use Rattle.capnp_wire.specs.Places.{place_view}
 use Rattle.capnp_object.specs.declared.place.Place as code
 use Rattle.capnp_object.specs.declared.object.Object.{Object}
@@ -12,7 +12,7 @@ use Rattle.capnp_copy.specs.Allocations.{total_words, TakesJust, TakesAtMost, No
 use Rattle.capnp_copy.specs.Elements.{IsWhole, LiesAt}
 use Rattle.capnp_copy.specs.declared.init.ListPlace.{ListPlace}
 use Rattle.capnp_copy.specs.declared.room.Room.{Room}
-use Rattle.capnp_copy.proofs.Taken.{room_bounds}
+use Rattle.capnp_copy.proofs.lemmas.Taken.{room_bounds}
 use Rattle.capnp_widening.specs.MovedElements.{least_words, least_pointers}
 use Rattle.capnp_widening.specs.Widened.{WiderRoom, TakesNear, NoWiderRoom, ObjectTakes, StructTakes, ObjectLacks, StructLacks}
 use Rattle.capnp_widening.specs.WidenedLists.{list_there, words_wanted, words_of_structs, ListTakesAtMost, ListLacks}

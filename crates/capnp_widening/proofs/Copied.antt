@@ -4,14 +4,14 @@ use Rattle.std.proofs.lemmas.List.{length-take}
 use Rattle.std.proofs.Math.Seq.{take-add}
 use Rattle.capnp_model.specs.Segments.{Segments, Place, after, word_at, words_at}
 use Rattle.capnp_model.specs.Coverage.{span, times_held}
-use Rattle.capnp_model.proofs.Locality.{word_was}
+use Rattle.capnp_model.proofs.lemmas.Locality.{word_was}
 use Rattle.capnp_footprints.specs.Writes.{with_words}
-use Rattle.capnp_footprints.proofs.Spans.{held, held_is, held_split, words_front, words_back}
-use Rattle.capnp_footprints.proofs.Kept.{words_length}
-use Rattle.capnp_footprints.proofs.Splices.{Rewrites, splice_rewrites}
-use Rattle.capnp_footprints.proofs.Writing.{rewrites_keep, held_part}
+use Rattle.capnp_footprints.proofs.lemmas.Spans.{held, held_is, held_split, words_front, words_back}
+use Rattle.capnp_footprints.proofs.lemmas.Kept.{words_length}
+use Rattle.capnp_footprints.proofs.lemmas.Splices.{Rewrites, splice_rewrites}
+use Rattle.capnp_footprints.proofs.lemmas.Writing.{rewrites_keep, held_part}
 use Rattle.capnp_widening.specs.Moves.{CopiesWords}
-use Rattle.capnp_widening.proofs.Standing.{written_then, written_none}
+use Rattle.capnp_widening.proofs.lemmas.Standing.{written_then, written_none}
 
 -- the first i are copied
 pub CopiedSoFar : Segments → Segments → Place → Place → ℕ → ℕ → Type 0

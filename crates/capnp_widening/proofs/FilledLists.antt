@@ -7,7 +7,7 @@ use Rattle.capnp_model.specs.Trees.{Tree, struct_list, Elements, element_count}
 use Rattle.capnp_model.specs.Traversal.{tag_in, each, each_element, tree_at}
 use Rattle.capnp_model.specs.Trimming.{with_pointers}
 use Rattle.capnp_model.specs.Edits.{padded_elements}
-use Rattle.capnp_model.proofs.Chaining.{bind_some, bind_found, some_is}
+use Rattle.capnp_model.proofs.lemmas.Chaining.{bind_some, bind_found, some_is}
 use Rattle.capnp_units.specs.Sizes.{size_number}
 use Rattle.capnp_wire.specs.Places.{place_view}
 use Rattle.capnp_wire.specs.Elements.{element_bits, element_pointers}
@@ -16,11 +16,11 @@ use Rattle.capnp_footprints.specs.Children.{with_first_elements, childless}
 use Rattle.capnp_footprints.specs.Detached.{Detached}
 use Rattle.capnp_footprints.specs.Footprints.{OwnsObject}
 use Rattle.capnp_footprints.specs.NewObjects.{zero_elements}
-use Rattle.capnp_footprints.proofs.Cells.{element_parts}
-use Rattle.capnp_footprints.proofs.Detached.{detached_owns}
-use Rattle.capnp_footprints.proofs.Lift.{object_of_pointer}
-use Rattle.capnp_footprints.proofs.MovedElements.{zero_count, wider_count}
-use Rattle.capnp_footprints.proofs.Turns.{each_counted, resized_padded, elements_done}
+use Rattle.capnp_footprints.proofs.lemmas.Cells.{element_parts}
+use Rattle.capnp_footprints.proofs.lemmas.Detached.{detached_owns}
+use Rattle.capnp_footprints.proofs.lemmas.Lift.{object_of_pointer}
+use Rattle.capnp_footprints.proofs.lemmas.MovedElements.{zero_count, wider_count}
+use Rattle.capnp_footprints.proofs.lemmas.Turns.{each_counted, resized_padded, elements_done}
 use Rattle.capnp_copy.specs.declared.init.ListPlace.{ListPlace}
 use Rattle.capnp_widening.specs.Moves.{pads_of}
 use Rattle.capnp_widening.specs.MovedElements.{least_words, least_pointers, IsOfList, zeros_at, FillsElements, as_structs}

@@ -10,8 +10,8 @@ use Rattle.capnp_model.specs.Traversal.{Tag, ListKind, of_bits, list_kind, list_
 use Rattle.capnp_model.specs.Trees.{Tree, plain_list, size_bits}
 use Rattle.capnp_model.specs.Coverage.{Grows}
 use Rattle.capnp_model.specs.Fits.{Fits}
-use Rattle.capnp_model.proofs.Chaining.{bind_ok, ok_is, ok_or_some, guard_ok}
-use Rattle.capnp_model.proofs.ReadFits.{tree_at_fits}
+use Rattle.capnp_model.proofs.lemmas.Chaining.{bind_ok, ok_is, ok_or_some, guard_ok}
+use Rattle.capnp_model.proofs.lemmas.ReadFits.{tree_at_fits}
 use Rattle.capnp_object.specs.declared.object.Object.{Object}
 use Rattle.capnp_object.specs.declared.object.Object.TheVariants as object
 use Rattle.capnp_object.specs.declared.place.Place as code
@@ -23,24 +23,24 @@ use Rattle.capnp_units.specs.Sizes.{size_number}
 use Rattle.capnp_wire.specs.Places.{place_view, placed}
 use Rattle.capnp_wire.specs.Reads.{list_head}
 use Rattle.capnp_footprints.specs.Footprints.{OwnsObject}
-use Rattle.capnp_footprints.proofs.Kept.{tag_fits, words_length}
-use Rattle.capnp_footprints.proofs.Spans.{words_back}
-use Rattle.capnp_footprints.proofs.Turns.{list_shape}
-use Rattle.capnp_footprints.proofs.Turns as turns
+use Rattle.capnp_footprints.proofs.lemmas.Kept.{tag_fits, words_length}
+use Rattle.capnp_footprints.proofs.lemmas.Spans.{words_back}
+use Rattle.capnp_footprints.proofs.lemmas.Turns.{list_shape}
+use Rattle.capnp_footprints.proofs.lemmas.Turns as turns
 use Rattle.capnp_copy.specs.declared.init.ListPlace.{ListPlace}
 use Rattle.capnp_copy.specs.Allocations.{total_words}
 use Rattle.capnp_copy.specs.Elements.{HasElements}
 use Rattle.capnp_copy.specs.Lists.{list_at}
 use Rattle.capnp_copy.specs.Values.{LeadsTo}
-use Rattle.capnp_copy.proofs.ElementLaws.{is_plain}
+use Rattle.capnp_copy.proofs.lemmas.ElementLaws.{is_plain}
 use Rattle.capnp_widening.specs.Got.{list_in}
 use Rattle.capnp_widening.specs.MovedElements.{IsOfList, HasList, HasStructs, least_words, least_pointers}
 use Rattle.capnp_widening.specs.WidenedLists.{list_there, IsWideList}
 use Rattle.capnp_widening.proofs.SpreadPointers.{one_pointer}
-use Rattle.capnp_widening.proofs.CopiedNumbers.{plain_shape}
-use Rattle.capnp_widening.proofs.GotStructs.{same_object}
-use Rattle.capnp_widening.proofs.ObjectsThere.{named_at}
-use Rattle.capnp_widening.proofs.Standing.{part_there, still_some, within_total}
+use Rattle.capnp_widening.proofs.lemmas.CopiedNumbers.{plain_shape}
+use Rattle.capnp_widening.proofs.lemmas.GotStructs.{same_object}
+use Rattle.capnp_widening.proofs.lemmas.ObjectsThere.{named_at}
+use Rattle.capnp_widening.proofs.lemmas.Standing.{part_there, still_some, within_total}
 
 -- what is known of each kind
 pub data Known (s : Segments) (o : ListPlace) : Type 0 where

@@ -1,17 +1,13 @@
-pub mod Standing
-pub mod Copied
-pub mod MovedPointers
-pub mod MovedRows
-pub mod WiderRooms
-pub mod WidenedStructs
-pub mod ObjectsThere
-pub mod WholeLists
-pub mod GotStructs
-pub mod Bounds
-pub mod MovedLists
-pub mod FilledLists
-pub mod SpreadPointers
-pub mod CopiedNumbers
-pub mod KnownLists
-pub mod WidenedLists
-pub mod WideLists
+pub mod lemmas
+mod Copied
+mod MovedPointers
+mod MovedRows
+mod WiderRooms
+mod WidenedStructs
+mod Bounds
+mod MovedLists
+mod FilledLists
+mod SpreadPointers
+mod KnownLists
+mod WidenedLists
+mod WideLists

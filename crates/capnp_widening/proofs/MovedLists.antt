@@ -15,21 +15,21 @@ use Rattle.capnp_footprints.specs.Elements.{element_at, with_element}
 use Rattle.capnp_footprints.specs.Footprints.{object_footprint, OwnsObject}
 use Rattle.capnp_footprints.specs.NewObjects.{zero_elements}
 use Rattle.capnp_footprints.specs.Writes.{with_words}
-use Rattle.capnp_footprints.proofs.Cells.{list_of_element, element_parts, parts_fit, list_is, element_le}
-use Rattle.capnp_footprints.proofs.Detached.{detached_owns, detached_object, detached_split}
-use Rattle.capnp_footprints.proofs.Lift.{slot_is, object_of_pointer, struct_is}
-use Rattle.capnp_footprints.proofs.MovedElements.{zero_count, element_same, struct_filled, old_element, new_element, moved_source, moved_target}
-use Rattle.capnp_footprints.proofs.PointerRows.{element_row}
-use Rattle.capnp_footprints.proofs.Rows.{after_sum}
-use Rattle.capnp_footprints.proofs.Spans.{held, held_is}
-use Rattle.capnp_footprints.proofs.SpareMoves.{detached_swapped}
-use Rattle.capnp_footprints.proofs.Turns.{struct_shape, elements_here, elements_counted}
-use Rattle.capnp_footprints.proofs.Writing.{held_part}
+use Rattle.capnp_footprints.proofs.lemmas.Cells.{list_of_element, element_parts, parts_fit, list_is, element_le}
+use Rattle.capnp_footprints.proofs.lemmas.Detached.{detached_owns, detached_object, detached_split}
+use Rattle.capnp_footprints.proofs.lemmas.Lift.{slot_is, object_of_pointer, struct_is}
+use Rattle.capnp_footprints.proofs.lemmas.MovedElements.{zero_count, element_same, struct_filled, old_element, new_element, moved_source, moved_target}
+use Rattle.capnp_footprints.proofs.lemmas.PointerRows.{element_row}
+use Rattle.capnp_footprints.proofs.lemmas.Rows.{after_sum}
+use Rattle.capnp_footprints.proofs.lemmas.Spans.{held, held_is}
+use Rattle.capnp_footprints.proofs.lemmas.SpareMoves.{detached_swapped}
+use Rattle.capnp_footprints.proofs.lemmas.Turns.{struct_shape, elements_here, elements_counted}
+use Rattle.capnp_footprints.proofs.lemmas.Writing.{held_part}
 use Rattle.capnp_copy.specs.declared.fields.StructPlace.{StructPlace}
 use Rattle.capnp_copy.specs.declared.init.ListPlace.{ListPlace}
 use Rattle.capnp_widening.specs.Moves.{CopiesWords, MovesRow, pads_of, pad_from, HasPads}
 use Rattle.capnp_widening.specs.MovedElements.{struct_begin, MovesElement}
-use Rattle.capnp_widening.proofs.Standing.{still_some, sizes_grow, part_there}
+use Rattle.capnp_widening.proofs.lemmas.Standing.{still_some, sizes_grow, part_there}
 use Rattle.capnp_widening.proofs.MovedRows.{pads_left, all_left_first}
 use Rattle.capnp_widening.proofs.WiderRooms.{found_beside}
 

@@ -11,7 +11,7 @@ use Rattle.capnp_model.specs.Trees.{Tree, null}
 use Rattle.capnp_model.specs.Traversal.{tree_of, tree_at, leaf_of, list_kind, list_words}
 use Rattle.capnp_model.specs.Coverage.{Span, span}
 use Rattle.capnp_model.specs.Encoding.{struct_pointer}
-use Rattle.capnp_model.proofs.Chaining.{bind_some, bind_found, some_is, ok_is, ok_or_some, provided_some}
+use Rattle.capnp_model.proofs.lemmas.Chaining.{bind_some, bind_found, some_is, ok_is, ok_or_some, provided_some}
 use Rattle.capnp_wire.specs.Places.{place_view}
 use Rattle.capnp_object.specs.declared.place.Place as code
 use Rattle.capnp_object.specs.declared.named.FoundObject.{FoundObject}
@@ -22,15 +22,15 @@ use Rattle.capnp_footprints.specs.Footprints.{Owns}
 use Rattle.capnp_footprints.specs.Detached.{Reaches, Moves, IsMovable, IsDirect}
 use Rattle.capnp_footprints.specs.NewObjects.{New, new_struct, new_list, filled_list, new_pointers, new_structs, new_pointer, new_object, Fits, pointed, pointed_double_far, IsNamed}
 use Rattle.capnp_footprints.specs.Writes.{zeroed}
-use Rattle.capnp_footprints.proofs.Direct.{direct}
-use Rattle.capnp_footprints.proofs.FarPointing.{reaches_ahead, reaches_back}
-use Rattle.capnp_footprints.proofs.Moving.{null_moves, moved_verbatim, moved_near, moved_double_far}
-use Rattle.capnp_footprints.proofs.SpareMoves.{moves_unused, empty_moved}
-use Rattle.capnp_footprints.proofs.Zeros.{null_read}
-use Rattle.capnp_footprints.proofs.Spans.{words_front}
+use Rattle.capnp_footprints.proofs.lemmas.Direct.{direct}
+use Rattle.capnp_footprints.proofs.lemmas.FarPointing.{reaches_ahead, reaches_back}
+use Rattle.capnp_footprints.proofs.lemmas.Moving.{null_moves, moved_verbatim, moved_near, moved_double_far}
+use Rattle.capnp_footprints.proofs.lemmas.SpareMoves.{moves_unused, empty_moved}
+use Rattle.capnp_footprints.proofs.lemmas.Zeros.{null_read}
+use Rattle.capnp_footprints.proofs.lemmas.Spans.{words_front}
 use Rattle.capnp_copy.specs.Allocations.{total_words}
 use Rattle.capnp_widening.specs.Moves.{MovesValue, pads_of, HasPads, IsReached, AreNamed, offset_to, pointed_at, start_of}
-use Rattle.capnp_widening.proofs.Standing.{within_total}
+use Rattle.capnp_widening.proofs.lemmas.Standing.{within_total}
 
 -- a move that takes no spare word
 without : (n : ℕ) (s : Segments) (a b : Place) (spare : List Span) (w : ℕ) (f : Found) (t : Tree) → IsMovable n s a b spare w f t → IsMovable n s a b [] w f t

@@ -7,20 +7,20 @@ use Rattle.capnp_model.specs.Pointers.{Object, Found, found_at}
 use Rattle.capnp_model.specs.Trees.{Tree, null, Trees, none, child, with_child, tree_count, resized}
 use Rattle.capnp_model.specs.Traversal.{tree_at}
 use Rattle.capnp_model.specs.Coverage.{Span, span}
-use Rattle.capnp_model.proofs.Chaining.{bind_found, bind_ok, ok_or_some}
+use Rattle.capnp_model.proofs.lemmas.Chaining.{bind_found, bind_ok, ok_or_some}
 use Rattle.capnp_wire.specs.Places.{place_view}
 use Rattle.capnp_object.specs.declared.place.Place as code
 use Rattle.capnp_footprints.specs.Children.{with_first}
 use Rattle.capnp_footprints.specs.Detached.{Detached}
 use Rattle.capnp_footprints.specs.Rows.{IsRowOf}
-use Rattle.capnp_footprints.proofs.Detached.{detached_owns, detached_split, detached_fewer}
-use Rattle.capnp_footprints.proofs.Lift.{object_of_pointer}
-use Rattle.capnp_footprints.proofs.PointerRows.{row_movable, row_moved}
-use Rattle.capnp_footprints.proofs.Rows.{after_sum}
-use Rattle.capnp_footprints.proofs.SpareMoves.{detached_swapped}
-use Rattle.capnp_footprints.proofs.Turns.{first_here, first_next, first_all, first_wider, resized_count}
+use Rattle.capnp_footprints.proofs.lemmas.Detached.{detached_owns, detached_split, detached_fewer}
+use Rattle.capnp_footprints.proofs.lemmas.Lift.{object_of_pointer}
+use Rattle.capnp_footprints.proofs.lemmas.PointerRows.{row_movable, row_moved}
+use Rattle.capnp_footprints.proofs.lemmas.Rows.{after_sum}
+use Rattle.capnp_footprints.proofs.lemmas.SpareMoves.{detached_swapped}
+use Rattle.capnp_footprints.proofs.lemmas.Turns.{first_here, first_next, first_all, first_wider, resized_count}
 use Rattle.capnp_widening.specs.Moves.{pads_of, pad_from, HasPads, IsReached, IsNearPad, MovesValue, MovesRow}
-use Rattle.capnp_widening.proofs.Standing.{part_there}
+use Rattle.capnp_widening.proofs.lemmas.Standing.{part_there}
 
 -- ---- the pads that are left
 

@@ -14,12 +14,12 @@ use Rattle.capnp_footprints.specs.Detached.{Detached}
 use Rattle.capnp_footprints.specs.Elements.{element_at, with_element}
 use Rattle.capnp_footprints.specs.Footprints.{OwnsObject}
 use Rattle.capnp_footprints.specs.NewObjects.{zero_elements}
-use Rattle.capnp_footprints.proofs.Detached.{detached_owns}
-use Rattle.capnp_footprints.proofs.Lift.{object_of_pointer}
-use Rattle.capnp_footprints.proofs.MovedElements.{zero_count, zero_element, element_same}
-use Rattle.capnp_footprints.proofs.PointerRows.{list_row, element_row, row_movable, row_moved}
-use Rattle.capnp_footprints.proofs.Rows.{after_none}
-use Rattle.capnp_footprints.proofs.Turns.{first_here, first_next, resized_padded, list_shape, list_counted, elements_here, elements_next, elements_counted, elements_done}
+use Rattle.capnp_footprints.proofs.lemmas.Detached.{detached_owns}
+use Rattle.capnp_footprints.proofs.lemmas.Lift.{object_of_pointer}
+use Rattle.capnp_footprints.proofs.lemmas.MovedElements.{zero_count, zero_element, element_same}
+use Rattle.capnp_footprints.proofs.lemmas.PointerRows.{list_row, element_row, row_movable, row_moved}
+use Rattle.capnp_footprints.proofs.lemmas.Rows.{after_none}
+use Rattle.capnp_footprints.proofs.lemmas.Turns.{first_here, first_next, resized_padded, list_shape, list_counted, elements_here, elements_next, elements_counted, elements_done}
 use Rattle.capnp_copy.specs.declared.init.ListPlace.{ListPlace}
 use Rattle.capnp_widening.specs.Moves.{MovesValue, pads_of, pad_from}
 use Rattle.capnp_widening.specs.MovedElements.{least_pointers, zeros_at, FillsElements, as_structs}

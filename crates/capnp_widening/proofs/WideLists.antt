@@ -8,7 +8,7 @@ use Rattle.capnp_model.specs.Traversal.{each, each_element, tree_at}
 use Rattle.capnp_model.specs.Trees.{Tree, null, plain_list, pointer_list, struct_list, Trees, none, ◌▸◌, tree_count, padded_to, Elements, no_elements, element, element_count, plain_elements}
 use Rattle.capnp_model.specs.Edits.{elements_of_plain, elements_of_pointers, padded_elements}
 use Rattle.capnp_model.specs.Edits as edit
-use Rattle.capnp_model.proofs.Chaining.{bind_some, bind_ok, some_is, ok_is}
+use Rattle.capnp_model.proofs.lemmas.Chaining.{bind_some, bind_ok, some_is, ok_is}
 use Rattle.capnp_units.specs.Sizes.{size_number}
 use Rattle.capnp_units.specs.declared.errors.Error.{Error}
 use Rattle.capnp_units.specs.declared.sizes.ElementSize.TheVariants.{InlineComposite}
@@ -21,24 +21,24 @@ use Rattle.capnp_object.specs.declared.object.Found.{Found}
 use Rattle.capnp_object.specs.Objects.{object_at, whole}
 use Rattle.capnp_footprints.specs.Footprints.{OwnsObject}
 use Rattle.capnp_footprints.specs.Changes.{Replaces}
-use Rattle.capnp_footprints.proofs.Cells.{element_parts}
-use Rattle.capnp_footprints.proofs.Levels.{owned_more, replaced_by_itself}
-use Rattle.capnp_footprints.proofs.Lift.{object_of_pointer}
-use Rattle.capnp_footprints.proofs.Turns.{each_counted, list_shape}
-use Rattle.capnp_footprints.proofs.Zeros.{null_read}
+use Rattle.capnp_footprints.proofs.lemmas.Cells.{element_parts}
+use Rattle.capnp_footprints.proofs.lemmas.Levels.{owned_more, replaced_by_itself}
+use Rattle.capnp_footprints.proofs.lemmas.Lift.{object_of_pointer}
+use Rattle.capnp_footprints.proofs.lemmas.Turns.{each_counted, list_shape}
+use Rattle.capnp_footprints.proofs.lemmas.Zeros.{null_read}
 use Rattle.capnp_copy.specs.declared.init.ListPlace.{ListPlace}
 use Rattle.capnp_copy.specs.Lists.{list_at}
 use Rattle.capnp_copy.specs.Values.{LeadsTo}
-use Rattle.capnp_copy.proofs.ElementLaws.{is_plain}
+use Rattle.capnp_copy.proofs.lemmas.ElementLaws.{is_plain}
 use Rattle.capnp_widening.specs.MovedElements.{least_words, least_pointers, IsOfList, as_structs}
 use Rattle.capnp_widening.specs.Widened.{GrowthRefused, TakesNear}
 use Rattle.capnp_widening.specs.WidenedLists.{list_there, IsWideList, WidensList, words_wanted, HasWideList, StructsGot, ListTakes, ListRefused}
-use Rattle.capnp_widening.proofs.GotStructs.{padded_enough, padded_most, same_object}
-use Rattle.capnp_widening.proofs.ObjectsThere.{named_at}
+use Rattle.capnp_widening.proofs.lemmas.GotStructs.{padded_enough, padded_most, same_object}
+use Rattle.capnp_widening.proofs.lemmas.ObjectsThere.{named_at}
 use Rattle.capnp_widening.specs.Got.{list_in}
 use Rattle.capnp_widening.proofs.FilledLists.{struct_words, struct_pointers, structs_shape}
 use Rattle.capnp_widening.proofs.SpreadPointers.{one_pointer}
-use Rattle.capnp_widening.proofs.CopiedNumbers.{plain_shape, one_data_word}
+use Rattle.capnp_widening.proofs.lemmas.CopiedNumbers.{plain_shape, one_data_word}
 use Rattle.capnp_widening.proofs.KnownLists.{Known, plain_known, pointers_known, structs_known, known_trees}
 
 -- ---- elements that are padded

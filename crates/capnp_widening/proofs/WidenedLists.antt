@@ -6,7 +6,7 @@ use Rattle.capnp_model.specs.Pointers.{Object, nothing, a_list, Found, found_at}
 use Rattle.capnp_model.specs.Trees.{Tree, null}
 use Rattle.capnp_model.specs.Coverage.{Span, span, pads_at}
 use Rattle.capnp_model.specs.Encoding.{struct_pointer, list_pointer}
-use Rattle.capnp_model.proofs.Locality.{found_kept}
+use Rattle.capnp_model.proofs.lemmas.Locality.{found_kept}
 use Rattle.capnp_units.specs.Sizes.{size_number}
 use Rattle.capnp_wire.specs.Places.{place_view}
 use Rattle.capnp_object.specs.declared.place.Place as code
@@ -15,13 +15,13 @@ use Rattle.capnp_footprints.specs.Changes.{Replaces}
 use Rattle.capnp_footprints.specs.Detached.{Detached}
 use Rattle.capnp_footprints.specs.NewObjects.{new_structs, new_pointer, Fits, pointed}
 use Rattle.capnp_footprints.specs.Writes.{with_words}
-use Rattle.capnp_footprints.proofs.Detached.{detached_owns, detached_tagged, detached_value}
-use Rattle.capnp_footprints.proofs.Levels.{owned_more}
-use Rattle.capnp_footprints.proofs.Lift.{slot_is, object_of_pointer}
-use Rattle.capnp_footprints.proofs.Spans.{held, held_is, held_split}
-use Rattle.capnp_footprints.proofs.Splices.{Rewrites, splice_rewrites}
-use Rattle.capnp_footprints.proofs.Writing.{rewrites_keep}
-use Rattle.capnp_copy.proofs.Taken.{takes_so}
+use Rattle.capnp_footprints.proofs.lemmas.Detached.{detached_owns, detached_tagged, detached_value}
+use Rattle.capnp_footprints.proofs.lemmas.Levels.{owned_more}
+use Rattle.capnp_footprints.proofs.lemmas.Lift.{slot_is, object_of_pointer}
+use Rattle.capnp_footprints.proofs.lemmas.Spans.{held, held_is, held_split}
+use Rattle.capnp_footprints.proofs.lemmas.Splices.{Rewrites, splice_rewrites}
+use Rattle.capnp_footprints.proofs.lemmas.Writing.{rewrites_keep}
+use Rattle.capnp_copy.proofs.lemmas.Taken.{takes_so}
 use Rattle.capnp_copy.specs.Clearing.{ClearsValue}
 use Rattle.capnp_copy.specs.Lists.{list_at}
 use Rattle.capnp_copy.specs.Rooms.{begin_of, linked}

@@ -14,15 +14,15 @@ use Rattle.capnp_footprints.specs.Changes.{Replaces, ReplacesObject}
 use Rattle.capnp_footprints.specs.Detached.{Detached}
 use Rattle.capnp_footprints.specs.NewObjects.{new_struct, new_pointer, Fits}
 use Rattle.capnp_footprints.specs.Writes.{spliced, with_words}
-use Rattle.capnp_footprints.proofs.Detached.{detached_owns, detached_zeros, detached_object, detached_value}
-use Rattle.capnp_footprints.proofs.Kept.{words_length}
-use Rattle.capnp_footprints.proofs.Levels.{owned_more}
-use Rattle.capnp_footprints.proofs.Lift.{slot_is, object_of_pointer, struct_is, struct_parts}
-use Rattle.capnp_footprints.proofs.PointerRows.{struct_row}
-use Rattle.capnp_footprints.proofs.Rows.{after_none}
-use Rattle.capnp_footprints.proofs.Spans.{held, held_is, words_front}
-use Rattle.capnp_footprints.proofs.Turns.{struct_shape, struct_counted, resized_padded}
-use Rattle.capnp_footprints.proofs.Writing.{struct_words, held_part}
+use Rattle.capnp_footprints.proofs.lemmas.Detached.{detached_owns, detached_zeros, detached_object, detached_value}
+use Rattle.capnp_footprints.proofs.lemmas.Kept.{words_length}
+use Rattle.capnp_footprints.proofs.lemmas.Levels.{owned_more}
+use Rattle.capnp_footprints.proofs.lemmas.Lift.{slot_is, object_of_pointer, struct_is, struct_parts}
+use Rattle.capnp_footprints.proofs.lemmas.PointerRows.{struct_row}
+use Rattle.capnp_footprints.proofs.lemmas.Rows.{after_none}
+use Rattle.capnp_footprints.proofs.lemmas.Spans.{held, held_is, words_front}
+use Rattle.capnp_footprints.proofs.lemmas.Turns.{struct_shape, struct_counted, resized_padded}
+use Rattle.capnp_footprints.proofs.lemmas.Writing.{struct_words, held_part}
 use Rattle.capnp_copy.specs.Clearing.{ClearsValue}
 use Rattle.capnp_copy.specs.Rooms.{begin_of, linked}
 use Rattle.capnp_copy.specs.declared.room.Room.{Room}

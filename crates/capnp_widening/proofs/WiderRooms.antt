@@ -13,17 +13,17 @@ use Rattle.capnp_footprints.specs.Changes.{Replaces, ReplacesObject}
 use Rattle.capnp_footprints.specs.Detached.{Detached}
 use Rattle.capnp_footprints.specs.NewObjects.{New, new_pointer, new_object, Fits, pointed, IsNear, IsNamed}
 use Rattle.capnp_footprints.specs.Writes.{with_zeros, segment_end}
-use Rattle.capnp_footprints.proofs.Algebra.{beside_kept}
-use Rattle.capnp_footprints.proofs.Detached.{detached_start, detached_more, detached_split, detached_near}
-use Rattle.capnp_footprints.proofs.FarPointing.{detached_far, reaches_ahead}
-use Rattle.capnp_footprints.proofs.Growing.{zeros_extend}
-use Rattle.capnp_model.proofs.Locality.{found_kept}
-use Rattle.capnp_footprints.proofs.Lift.{slot_is}
-use Rattle.capnp_footprints.proofs.Prepared.{near_leads, far_leads, starts_near}
-use Rattle.capnp_footprints.proofs.Rows.{after_none}
-use Rattle.capnp_footprints.proofs.Spans.{grows_same, words_front, words_back}
-use Rattle.capnp_footprints.proofs.SpareMoves.{detached_swapped}
-use Rattle.capnp_footprints.proofs.There.{spans_kept}
+use Rattle.capnp_footprints.proofs.lemmas.Algebra.{beside_kept}
+use Rattle.capnp_footprints.proofs.lemmas.Detached.{detached_start, detached_more, detached_split, detached_near}
+use Rattle.capnp_footprints.proofs.lemmas.FarPointing.{detached_far, reaches_ahead}
+use Rattle.capnp_footprints.proofs.lemmas.Growing.{zeros_extend}
+use Rattle.capnp_model.proofs.lemmas.Locality.{found_kept}
+use Rattle.capnp_footprints.proofs.lemmas.Lift.{slot_is}
+use Rattle.capnp_footprints.proofs.lemmas.Prepared.{near_leads, far_leads, starts_near}
+use Rattle.capnp_footprints.proofs.lemmas.Rows.{after_none}
+use Rattle.capnp_footprints.proofs.lemmas.Spans.{grows_same, words_front, words_back}
+use Rattle.capnp_footprints.proofs.lemmas.SpareMoves.{detached_swapped}
+use Rattle.capnp_footprints.proofs.lemmas.There.{spans_kept}
 use Rattle.capnp_copy.specs.Allocations.{Allocates, total_words}
 use Rattle.capnp_copy.specs.Rooms.{RoomFor, IsAddressed, HasPad, begin_of, linked}
 use Rattle.capnp_copy.specs.Values.{LeadsTo}
@@ -32,7 +32,7 @@ use Rattle.capnp_copy.specs.declared.room.Room.TheVariants.{Here, Near, Far}
 use Rattle.capnp_widening.specs.Moves.{pads_of, HasPads}
 use Rattle.capnp_widening.specs.Widened.{WiderRoom}
 use Rattle.capnp_widening.proofs.MovedPointers.{at_offset}
-use Rattle.capnp_widening.proofs.Standing.{end_within, word_before_end, one_word, within_total, part_there}
+use Rattle.capnp_widening.proofs.lemmas.Standing.{end_within, word_before_end, one_word, within_total, part_there}
 
 -- the pad's own word
 pub pad_spare : Room → List Span

@@ -10,7 +10,7 @@ use Rattle.capnp_units.specs.declared.sizes.ElementSize.{ElementSize}
 use Rattle.capnp_units.specs.declared.sizes.ElementSize.TheVariants.{Void, Bit, Byte, TwoBytes, FourBytes, EightBytes, Pointer, InlineComposite}
 use Rattle.capnp_units.specs.Sizes.{size_number}
 use Rattle.capnp_wire.specs.Elements.{step_bits, element_bits, step_words}
-use Rattle.capnp_wire.proofs.Bytes.{number_of-drop, number_of-take}
+use Rattle.capnp_wire.proofs.lemmas.Bytes.{number_of-drop, number_of-take}
 
 -- Elements of whole bytes.
 pub record AreBytewise (step bits : ℕ) : Type 0 where

@@ -5,7 +5,7 @@ use Rattle.std.proofs.lemmas.Nat.{pow_pos}
 use Rattle.std.proofs.Math.Nat.{mod-lt, mod-eq_of_lt}
 use lib.Pow as pow
 use Rattle.capnp_model.specs.Sections.{bits_at, number_of}
-use Rattle.capnp_wire.proofs.Bytes.{number_of-drop}
+use Rattle.capnp_wire.proofs.lemmas.Bytes.{number_of-drop}
 use Rattle.capnp_wire.proofs.Elements.{bits_of_low}
 
 -- what is behind so many bytes

@@ -1,8 +1,7 @@
-pub mod Bytes
-pub mod Gets
-pub mod Elements
-pub mod Fields
-pub mod Sizing
-pub mod ListLaws
-pub mod ReadingLaws
-pub mod Telling
+pub mod lemmas
+mod Gets
+mod Elements
+mod Fields
+mod Sizing
+mod ReadingLaws
+mod Telling

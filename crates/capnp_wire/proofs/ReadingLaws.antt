@@ -9,7 +9,7 @@ use Rattle.capnp_model.specs.Trees.{Tree, null, structure, plain_list, pointer_l
 use Rattle.capnp_model.specs.Traversal.{tree_at, each, each_element}
 use Rattle.capnp_model.specs.Schemas.{Schema, Ty, text, blob, struct, list}
 use Rattle.capnp_model.specs.Readings.{fault, text_reading, list_reading, is_list_of, Readings, expected_size, is_accepted_as, plain_readings, pointer_elements, struct_elements, read}
-use Rattle.capnp_model.proofs.Chaining.{bind_some, some_is, bind_ok, ok_is, guard_ok}
+use Rattle.capnp_model.proofs.lemmas.Chaining.{bind_some, some_is, bind_ok, ok_is, guard_ok}
 use Rattle.capnp_units.specs.declared.sizes.ElementSize.{ElementSize}
 use Rattle.capnp_units.specs.declared.sizes.ElementSize.TheVariants.{Void, Bit, Byte, TwoBytes, FourBytes, EightBytes, Pointer, InlineComposite}
 use Rattle.capnp_units.specs.Sizes.{size_number, data_bits}
@@ -24,9 +24,9 @@ use Rattle.capnp_wire.specs.Views.{Ground, section_at, StructView, struct_view, 
 use Rattle.capnp_wire.specs.Reads.{read_struct, as_text, read_blob, read_text, read_list, read_elements, list_head}
 use Rattle.capnp_wire.specs.Laws.{bytes_read, reads_behind, ShowsStruct, ShowsList, IsRead, BytesAreRead, StructsAreRead, ListsAreRead}
 use Rattle.std.proofs.lemmas.Bool.Decides.{nat_tests}
-use Rattle.capnp_object.proofs.Rows.{each_count}
-use Rattle.capnp_object.proofs.LevelLaws.{trees}
-use Rattle.capnp_wire.proofs.ListLaws.{numbers_at, numbers_low, each_child, Holds, holds_at, structs_shown}
+use Rattle.capnp_object.proofs.lemmas.Rows.{each_count}
+use Rattle.capnp_object.proofs.lemmas.LevelLaws.{trees}
+use Rattle.capnp_wire.proofs.lemmas.ListLaws.{numbers_at, numbers_low, each_child, Holds, holds_at, structs_shown}
 
 -- ---- texts and data
 

@@ -13,8 +13,8 @@ use Rattle.capnp_units.specs.declared.limiter.ReadLimiter.{ReadLimiter}
 use Rattle.capnp_units.specs.declared.sizes.MessageSize.{MessageSize}
 use Rattle.capnp_units.specs.Limits.{less, limit_of, granted_of, left_of, IsPassed}
 use Rattle.capnp_object.specs.Walks.{Counts, SizeGives}
-use Rattle.capnp_object.proofs.Walks.{walked_none, first_fault}
-use Rattle.capnp_object.proofs.Measuring.{wordless, nothing_counted}
+use Rattle.capnp_object.proofs.lemmas.Walks.{walked_none, first_fault}
+use Rattle.capnp_object.proofs.lemmas.Measuring.{wordless, nothing_counted}
 use Rattle.capnp_wire.specs.Views.{PointerView, StructView}
 use Rattle.capnp_wire.specs.ValueSizes.{SizeOn, NoLevels, tree_behind, visits_behind, PointerSize, StructSizeOf}
 

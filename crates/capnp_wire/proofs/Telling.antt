@@ -11,7 +11,7 @@ use Rattle.capnp_units.specs.declared.limiter.ReadLimiter.{ReadLimiter}
 use Rattle.capnp_units.specs.Limits.{limit_of}
 use Rattle.capnp_canonical.specs.Standing.{IsSmall}
 use Rattle.capnp_canonical.specs.Checks.{Tells, TellsValue, TellsStruct}
-use Rattle.capnp_canonical.proofs.Checking.{began_none}
+use Rattle.capnp_canonical.proofs.lemmas.Checking.{began_none}
 use Rattle.capnp_wire.specs.Views.{PointerView, StructView}
 use Rattle.capnp_wire.specs.Canonical.{ToldOn, NoLevels, PointerTells, LiesAt, StandsAs, StructTellsIn, section_words}
 

@@ -1,2 +1,2 @@
-pub mod WriteLemmas
-pub mod WritesLemmas
+pub mod lemmas
+mod WritesLemmas

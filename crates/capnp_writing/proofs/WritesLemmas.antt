@@ -4,8 +4,8 @@ use Rattle.std.proofs.KnownBytes.{Appends-trans, Appends-nil}
 use Rattle.capnp_units.specs.declared.errors.Error.{Error}
 use Rattle.capnp_io.specs.Counting.{KindCounts}
 use Rattle.capnp_io.specs.Writes.{SinkSeen, Writes}
-use Rattle.capnp_io.proofs.KnownLemmas.{AppendsPart-more, AppendsPart-next}
-use Rattle.capnp_writing.proofs.WriteLemmas.{RoomFalls-none, RoomFalls-next, IsWriteRefusal-first, IsWriteRefusal-next, IsWriteRefusal-or}
+use Rattle.capnp_io.proofs.lemmas.KnownLemmas.{AppendsPart-more, AppendsPart-next}
+use Rattle.capnp_writing.proofs.lemmas.WriteLemmas.{RoomFalls-none, RoomFalls-next, IsWriteRefusal-first, IsWriteRefusal-next, IsWriteRefusal-or}
 
 pub writes-nothing : (grows : Type 0) (a : SinkSeen) → Writes grows [] a (Ok tt) a
 writes-nothing grows a = record { ok = Appends-nil a.contents; falls = RoomFalls-none a.room; err = tt; refusal = tt; count = refl }

@@ -1,6 +1,6 @@
 use Rattle.std.proofs.Common.{◌≡◌, List, ℕ, ◌/◌, ◌++◌, length, drop, ap, ◌∙◌}
 use Rattle.capnp_canonical.specs.Writes.{words_view}
-use Rattle.capnp_object.proofs.Words.{chunks_are_words}
+use Rattle.capnp_object.proofs.lemmas.Words.{chunks_are_words}
 use Rattle.capnp_answers.proofs.Alone.{front_filled}
 use Rattle.capnp_answers.proofs.reading.copy_segment.Goals as goal
 

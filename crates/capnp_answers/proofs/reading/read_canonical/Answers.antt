@@ -1,7 +1,7 @@
 use Rattle.std.proofs.Common.{inl, inr, List, ℕ, ap, sym, subst, ◌∙◌, length}
 use Rattle.capnp_units.specs.Segments.{words_in}
 use Rattle.capnp_answers.specs.Reading.{ReadsValue}
-use Rattle.capnp_canonical.proofs.Limited.{stopped_none}
+use Rattle.capnp_canonical.proofs.lemmas.Limited.{stopped_none}
 use Rattle.capnp_answers.proofs.Walks.{ValueLaws, put_back, value_read}
 use Rattle.capnp_answers.proofs.reading.read_canonical.Goals as goal
 

@@ -1,7 +1,7 @@
 -- A part of bytes is that part of their words.
 use Rattle.std.proofs.Common.{◌≡◌, ℕ, ◌+◌, ◌-◌, ◌*◌, take, drop, ap, ◌∙◌, arith}
 use Rattle.capnp_model.specs.Sections.{number_of}
-use Rattle.capnp_backing.proofs.Bytes.{section_of_part}
+use Rattle.capnp_backing.proofs.lemmas.Bytes.{section_of_part}
 use Rattle.capnp_backing.proofs.backing.words_of.Goals as goal
 
 pub returns-clause-section : goal.returns-clause-section

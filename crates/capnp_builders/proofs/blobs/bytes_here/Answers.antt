@@ -6,7 +6,7 @@ use Rattle.capnp_units.specs.Segments.{words_in}
 use Rattle.capnp_units.specs.Sizes.{size_number}
 use Rattle.capnp_wire.specs.Places.{place_view}
 use Rattle.capnp_object.specs.declared.object.Object.{Object}
-use Rattle.capnp_widening.proofs.ObjectsThere.{plain_named, leads_named}
+use Rattle.capnp_widening.proofs.lemmas.ObjectsThere.{plain_named, leads_named}
 use Rattle.capnp_builders.proofs.blobs.bytes_here.Goals as goal
 
 pub returns-in-List-default-Byte-default-clause-object : goal.returns-in-List-default-Byte-default-clause-object

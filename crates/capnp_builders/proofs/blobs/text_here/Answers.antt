@@ -4,7 +4,7 @@ use Rattle.capnp_model.specs.Segments.{Segments}
 use Rattle.capnp_units.specs.Segments.{words_in}
 use Rattle.capnp_builders.specs.Blobs.{text_named}
 use Rattle.capnp_wire.specs.Places.{place_view}
-use Rattle.capnp_builders.proofs.Begun.{Laws, refused_as}
+use Rattle.capnp_builders.proofs.lemmas.Begun.{Laws, refused_as}
 use Rattle.capnp_builders.proofs.BlobsBegun.{got_by}
 use Rattle.capnp_builders.proofs.blobs.text_here.Goals as goal
 

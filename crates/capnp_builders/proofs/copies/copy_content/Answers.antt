@@ -7,7 +7,7 @@ use Rattle.capnp_wire.specs.Views.{backing_bytes, is_paid, seen_struct}
 use Rattle.capnp_copy_from.specs.Copies.{StructSource, struct_source}
 use Rattle.capnp_copy_from.specs.Contents.{CopiesContent}
 use Rattle.capnp_builders.specs.Copied.{Walk, Charged, WithoutLevels, IsSourceOf}
-use Rattle.capnp_builders.proofs.Charging.{matched, in_arena, in_default}
+use Rattle.capnp_builders.proofs.lemmas.Charging.{matched, in_arena, in_default}
 use Rattle.capnp_builders.proofs.copies.copy_content.Goals as goal
 
 pub returns-in-Arena-clause-content : goal.returns-in-Arena-clause-content

@@ -7,7 +7,7 @@ use Rattle.capnp_wire.specs.Views.{backing_bytes, is_paid, seen_list}
 use Rattle.capnp_copy_from.specs.declared.lists.ListSource.{ListSource}
 use Rattle.capnp_copy_from.specs.Lists.{CopiesList}
 use Rattle.capnp_builders.specs.Copied.{Walk, Charged, WithoutLevels, IsListOf}
-use Rattle.capnp_builders.proofs.Charging.{matched, in_arena, in_default, same_section}
+use Rattle.capnp_builders.proofs.lemmas.Charging.{matched, in_arena, in_default, same_section}
 use Rattle.capnp_builders.proofs.copies.copy_list.Goals as goal
 
 pub returns-in-Arena-clause-copy : goal.returns-in-Arena-clause-copy

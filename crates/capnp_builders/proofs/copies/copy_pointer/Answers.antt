@@ -7,7 +7,7 @@ use Rattle.capnp_wire.specs.Places.{place_view}
 use Rattle.capnp_wire.specs.Views.{is_paid, seen_pointer}
 use Rattle.capnp_copy_from.specs.Copies.{CopiesValue}
 use Rattle.capnp_builders.specs.Copied.{Walk, Charged, WithoutLevels, BecomesNull}
-use Rattle.capnp_builders.proofs.Charging.{matched, in_default}
+use Rattle.capnp_builders.proofs.lemmas.Charging.{matched, in_default}
 use Rattle.capnp_builders.proofs.copies.copy_pointer.Goals as goal
 
 pub returns-in-Default-clause-copy : goal.returns-in-Default-clause-copy

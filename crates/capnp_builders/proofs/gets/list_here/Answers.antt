@@ -11,7 +11,7 @@ use Rattle.capnp_copy.specs.Lists.{list_at}
 use Rattle.capnp_copy.specs.Values.{LeadsTo}
 use Rattle.capnp_copy.specs.declared.init.ListPlace.{ListPlace}
 use Rattle.capnp_builders.specs.Gets.{Begins, list_named, ListGot}
-use Rattle.capnp_builders.proofs.Begun.{Laws, listed_then, refused_as}
+use Rattle.capnp_builders.proofs.lemmas.Begun.{Laws, listed_then, refused_as}
 use Rattle.capnp_builders.proofs.gets.list_here.Goals as goal
 
 got_by : (l : Laws) (default : Option (List (List ℕ))) (s u : Segments) (slot : code.Place) (expected : ElementSize) → Begins default s u (place_view slot) (Ok tt) → (r : Result ListPlace Error) → seen (λ o. o) r ≡ list_named u slot expected → IfOk r (λ o. (word_at u (place_view slot) ≡ Some 0) ⊎ LeadsTo u (place_view slot) (list_at o)) → IfOk r (LiesAt u (place_view slot)) → IfOk r (ListGot default s u slot expected)

@@ -9,7 +9,7 @@ use Rattle.capnp_copy.specs.declared.init.ListPlace.{ListPlace}
 use Rattle.capnp_widening.specs.MovedElements.{as_structs}
 use Rattle.capnp_widening.specs.WidenedLists.{WidensList, StructsGot, HasWideList, ListRefused, list_there}
 use Rattle.capnp_builders.specs.Gets.{Begins, StructListGot}
-use Rattle.capnp_builders.proofs.Begun.{Laws, made_then, refused_then}
+use Rattle.capnp_builders.proofs.lemmas.Begun.{Laws, made_then, refused_then}
 use Rattle.capnp_builders.proofs.gets.struct_list_here.Goals as goal
 
 got_by : {E : Type 0} (l : Laws) (default : Option (List (List ℕ))) (s m u : Segments) (slot : code.Place) (size : StructSize) → Begins default s m (place_view slot) (Ok tt) → (HasWideList m slot size.data_words size.pointers → u ≡ m) → (r : Result ListPlace E) → IfOk r (λ o. WidensList m u (place_view slot) size.data_words size.pointers) → IfOk r (StructsGot m u slot size.data_words size.pointers) → IfOk r (StructListGot default s u slot size)

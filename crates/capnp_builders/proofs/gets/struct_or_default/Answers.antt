@@ -11,7 +11,7 @@ use Rattle.capnp_copy.specs.Values.{LeadsTo}
 use Rattle.capnp_copy.specs.declared.fields.StructPlace.{StructPlace}
 use Rattle.capnp_widening.specs.Widened.{Widens, IsWide, StructRefused}
 use Rattle.capnp_builders.specs.Gets.{Begins, StructGot}
-use Rattle.capnp_builders.proofs.Begun.{Laws, made_then, refused_then, wide_stays}
+use Rattle.capnp_builders.proofs.lemmas.Begun.{Laws, made_then, refused_then, wide_stays}
 use Rattle.capnp_builders.proofs.gets.struct_or_default.Goals as goal
 
 got_by : {E : Type 0} (l : Laws) (default : Option (List (List ℕ))) (s m u : Segments) (p : Place) (size : StructSize) → Begins default s m p (Ok tt) → (IsWide m p size.data_words size.pointers → u ≡ m) → (r : Result StructPlace E) → IfOk r (λ o. Widens m u p size.data_words size.pointers) → IfOk r (λ o. LeadsTo u p (struct_at o)) → IfOk r (λ o. (size.data_words ≤ o.data_words) × (size.pointers ≤ o.pointers)) → IfOk r (StructGot default s u p size)

@@ -2,8 +2,8 @@ use Rattle.std.proofs.Common.{inl, inr, arith}
 use Rattle.capnp_model.specs.Segments.{root}
 use Rattle.capnp_units.specs.Segments.{words_in}
 use Rattle.capnp_canonical.specs.Copies.{copy_visits, room_of}
-use Rattle.capnp_canonical.proofs.Faults.{stopped_otherwise}
-use Rattle.capnp_canonical.proofs.Limited.{WalkLaws, stopped_none}
+use Rattle.capnp_canonical.proofs.lemmas.Faults.{stopped_otherwise}
+use Rattle.capnp_canonical.proofs.lemmas.Limited.{WalkLaws, stopped_none}
 use Rattle.capnp_call_messages.proofs.Walks.{written_words, full_few, no_words}
 use Rattle.capnp_call_messages.proofs.copied.write_words.Goals as goal
 

@@ -1,6 +1,6 @@
 use Rattle.std.proofs.Common.{rules, ◌≡◌, ℕ, ◌/◌, List, length, sym, subst, arith}
 use Rattle.std.specs.Prelude.{IfOk}
-use Rattle.capnp_stream.proofs.WordLemmas.{bytes_of_words-back}
+use Rattle.capnp_stream.proofs.lemmas.WordLemmas.{bytes_of_words-back}
 use Rattle.capnp_call_messages.proofs.message.copied.Goals as goal
 
 pub returns : goal.returns

@@ -9,7 +9,7 @@ use Rattle.capnp_model.specs.Visits.{visits}
 use Rattle.capnp_units.specs.declared.errors.Error.{Error}
 use Rattle.capnp_units.specs.Segments.{words_in}
 use Rattle.capnp_object.specs.Places.{place_view}
-use Rattle.capnp_object.proofs.Measuring.{unfollowed_at}
+use Rattle.capnp_object.proofs.lemmas.Measuring.{unfollowed_at}
 use Rattle.capnp_canonical.specs.Standing.{Stands, IsSmall}
 use Rattle.capnp_canonical.specs.Checks.{IsBehind, TellsValue}
 use Rattle.capnp_canonical.proofs.Telling.{none_left, tells_moved, first_began}

@@ -25,12 +25,12 @@ use Rattle.capnp_canonical.specs.Widths.{kept}
 use Rattle.capnp_canonical.specs.Copies.{copy_visits, IsData, FollowsData, Writes, Unwritten}
 use Rattle.capnp_canonical.specs.Objects.{IsShort, WritesObject}
 use Rattle.capnp_canonical.proofs.Copying.{unwritten_at, no_room, halts_is}
-use Rattle.capnp_canonical.proofs.Faults.{stopped_otherwise}
+use Rattle.capnp_canonical.proofs.lemmas.Faults.{stopped_otherwise}
 use Rattle.capnp_canonical.proofs.Rooms.{no_room_for_struct, no_room_for_pointers, no_room_for_structs}
 use Rattle.capnp_canonical.proofs.Rows.{least_words, least_pointers, elements_count}
-use Rattle.capnp_object.proofs.Rows.{each_count}
+use Rattle.capnp_object.proofs.lemmas.Rows.{each_count}
 use Rattle.capnp_canonical.proofs.Steps.{null_put, leaf_at, deep_at, short_at}
-use Rattle.capnp_object.proofs.NearObjects.{segment_of}
+use Rattle.capnp_object.proofs.lemmas.NearObjects.{segment_of}
 use Rattle.capnp_canonical.proofs.NearFollowed.{some_left, untold}
 use Rattle.capnp_canonical.proofs.Kept.{widest_one, no_wider}
 use Rattle.capnp_canonical.proofs.Nulls.{kept_count}

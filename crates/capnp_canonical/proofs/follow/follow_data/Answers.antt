@@ -6,14 +6,14 @@ use Rattle.capnp_units.specs.declared.errors.Error.{Error}
 use Rattle.capnp_units.specs.declared.limiter.ReadLimiter.{ReadLimiter}
 use Rattle.capnp_units.specs.Segments.{words_in}
 use Rattle.capnp_units.specs.Limits.{left_of, IsPassed}
-use Rattle.capnp_units.proofs.Spending.{spends_nothing}
+use Rattle.capnp_units.proofs.lemmas.Spending.{spends_nothing}
 use Rattle.capnp_object.specs.declared.object.Object.{Object}
 use Rattle.capnp_object.specs.Places.{place_view}
 use Rattle.capnp_object.specs.Named.{found_view}
 use Rattle.capnp_object.specs.Follow.{own_cost, KeepsBudget}
-use Rattle.capnp_object.proofs.Walks.{stopped_first}
-use Rattle.capnp_object.proofs.Walking.{exact_object}
-use Rattle.capnp_object.proofs.Paying.{same_left, spends_later, pays_later}
+use Rattle.capnp_object.proofs.lemmas.Walks.{stopped_first}
+use Rattle.capnp_object.proofs.lemmas.Walking.{exact_object}
+use Rattle.capnp_object.proofs.lemmas.Paying.{same_left, spends_later, pays_later}
 use Rattle.capnp_canonical.specs.Copies.{copy_visits, FollowsData}
 use Rattle.capnp_canonical.proofs.Following.{copy_missing, copy_fault, copy_broken, copy_first, stops_at_fault, followed}
 use Rattle.capnp_canonical.proofs.follow.follow_data.Goals as goal

@@ -16,7 +16,7 @@ use Rattle.capnp_units.specs.Sizes.{size_number, data_bits}
 use Rattle.capnp_object.specs.declared.object.Object.TheVariants as object
 use Rattle.capnp_object.specs.Places.{place_view}
 use Rattle.capnp_object.specs.Inside.{section_at, tree_in}
-use Rattle.capnp_object.proofs.Walks.{walked_none}
+use Rattle.capnp_object.proofs.lemmas.Walks.{walked_none}
 use Rattle.capnp_canonical.specs.Writes.{words_view, filled, with_words, with_link}
 use Rattle.capnp_canonical.proofs.Copying.{behind_both, no_room}
 use Rattle.capnp_canonical.proofs.Rooms.{no_room_for_list}

@@ -14,7 +14,7 @@ use Rattle.capnp_object.specs.Near.{list_object}
 use Rattle.capnp_object.specs.Inside.{section_at, tree_in, met_in}
 use Rattle.capnp_canonical.specs.Standing.{Stands, segment_words, IsSmall, EndsClear}
 use Rattle.capnp_canonical.specs.Checks.{TestsObject}
-use Rattle.capnp_canonical.proofs.Checking.{differs_at}
+use Rattle.capnp_canonical.proofs.lemmas.Checking.{differs_at}
 use Rattle.capnp_canonical.proofs.NearPlaces.{list_near}
 use Rattle.capnp_canonical.proofs.StandingLists.{list_yes, list_words, list_word}
 use Rattle.capnp_canonical.proofs.StandingObjects.{lead_word, within_reach}

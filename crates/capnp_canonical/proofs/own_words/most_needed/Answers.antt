@@ -2,7 +2,7 @@
 use Rattle.std.proofs.Common.{◌≡◌, ℕ, ◌*◌, ◌≤◌, true, ap, sym, ◌∙◌, arith}
 use Rattle.capnp_model.specs.Sections.{needed_words}
 use Rattle.std.specs.Option.{is_some}
-use Rattle.capnp_model.proofs.Numbers.{needed_words_le}
+use Rattle.capnp_model.proofs.lemmas.Numbers.{needed_words_le}
 use Rattle.capnp_model.specs.Segments.{Segments, Place, after, words_at}
 use Rattle.capnp_units.specs.Segments.{words_in}
 use Rattle.capnp_object.specs.Places.{place_view}

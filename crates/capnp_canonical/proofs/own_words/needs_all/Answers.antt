@@ -7,7 +7,7 @@ use Rattle.capnp_units.specs.Segments.{words_in}
 use Rattle.capnp_object.specs.Places.{place_view}
 use Rattle.capnp_object.specs.Inside.{section_at, words_there}
 use Rattle.capnp_canonical.specs.Widths.{kept}
-use Rattle.capnp_canonical.proofs.Scanning.{zero_less, few_needed, last_word, nothing_behind_words}
+use Rattle.capnp_canonical.proofs.lemmas.Scanning.{zero_less, few_needed, last_word, nothing_behind_words}
 use Rattle.capnp_canonical.proofs.Kept.{kept_all, kept_less, kept_here, kept_within}
 use Rattle.capnp_canonical.proofs.Parts.{no_words_there, there_length, section_is, word_is}
 use Rattle.capnp_canonical.proofs.own_words.needs_all.Goals as goal

@@ -1,6 +1,6 @@
 -- A part of the segment's words.
 use Rattle.std.proofs.Common.{◌≡◌, ℕ, ◌+◌, ◌-◌, List, take, drop, ap, ◌∙◌, arith}
-use Rattle.capnp_object.proofs.Words.{words_end}
+use Rattle.capnp_object.proofs.lemmas.Words.{words_end}
 use Rattle.capnp_canonical.specs.Writes.{words_view}
 use Rattle.capnp_canonical.proofs.Held.{segment_held}
 use Rattle.capnp_canonical.proofs.Rowing.{part_is_there}

@@ -10,7 +10,7 @@ use Rattle.capnp_model.specs.Coverage.{from_each, from_elements}
 use Rattle.capnp_model.specs.Encoding.{struct_pointer, list_pointer}
 use Rattle.capnp_model.specs.Spelling.{AreWords}
 use Rattle.capnp_model.specs.Visits.{visits}
-use Rattle.capnp_model.proofs.Chaining.{some_is}
+use Rattle.capnp_model.proofs.lemmas.Chaining.{some_is}
 use Rattle.capnp_units.specs.Segments.{words_in}
 use Rattle.capnp_object.specs.declared.object.Object.{Object}
 use Rattle.capnp_object.specs.declared.object.Object.TheVariants as object
@@ -20,11 +20,11 @@ use Rattle.capnp_object.specs.Near.{list_object, struct_object, IsMeasured, IsNe
 use Rattle.capnp_object.specs.Follow.{FollowsWithin}
 use Rattle.capnp_object.specs.Objects.{AreThere}
 use Rattle.capnp_object.specs.Inside.{words_there, tree_in, met_in}
-use Rattle.capnp_object.proofs.Measuring.{unfollowed_at}
+use Rattle.capnp_object.proofs.lemmas.Measuring.{unfollowed_at}
 use Rattle.capnp_canonical.specs.Standing.{Stands, StandEach, StandElements, segment_words, IsSmall, HasHead, LeadsTo}
 use Rattle.capnp_canonical.specs.Checks.{TestsObject, TestsElements}
 use Rattle.capnp_canonical.specs.Objects.{IsShort}
-use Rattle.capnp_canonical.proofs.Checking.{refused_is, differs_at}
+use Rattle.capnp_canonical.proofs.lemmas.Checking.{refused_is, differs_at}
 use Rattle.capnp_canonical.proofs.NearPlaces.{far_differs, near_leads}
 use Rattle.capnp_canonical.proofs.NearStructs.{struct_stands, least_words, least_count, struct_there}
 use Rattle.capnp_canonical.proofs.CheckedRows.{row_begun, row_next, row_differs, row_stopped, row_ended}

@@ -6,7 +6,7 @@ use Rattle.capnp_units.specs.Segments.{words_in}
 use Rattle.capnp_wire.specs.Places.{place_view}
 use Rattle.capnp_wire.specs.Views.{is_paid, seen_pointer}
 use Rattle.capnp_builders.specs.Copied.{Walk, Charged, WithoutLevels, BecomesNull}
-use Rattle.capnp_builders.proofs.Charging.{matched, in_default}
+use Rattle.capnp_builders.proofs.lemmas.Charging.{matched, in_default}
 use Rattle.capnp_canonical_builders.specs.Copied.{CopiesThrough}
 use Rattle.capnp_canonical_builders.proofs.copy.copy_pointer.Goals as goal
 

@@ -1,6 +1,6 @@
 use Rattle.std.proofs.Common.{◌≡◌, ◌-◌, List, ◌∷◌, map, length, take, drop, sym, ◌∙◌, ap}
 use Rattle.std.proofs.lemmas.Result.{IfOk-weaker}
-use Rattle.capnp_records.proofs.ListTests.{first_and_rest, no_more}
+use Rattle.capnp_records.proofs.lemmas.ListTests.{first_and_rest, no_more}
 use Rattle.capnp_calls.specs.CallViews.{step_view, call_view}
 use Rattle.capnp_calls.specs.declared.call.Step.{Step}
 use Rattle.capnp_compatible.specs.Holders.{schema_in}

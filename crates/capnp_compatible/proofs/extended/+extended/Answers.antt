@@ -9,7 +9,7 @@ use Rattle.capnp_records.specs.NodeViews.{member_of, type_record_of, value_of}
 use Rattle.capnp_records.specs.declared.node.FieldBody.{FieldBody}
 use Rattle.capnp_records.specs.declared.node.FieldBody.TheVariants as B
 use Rattle.capnp_records.specs.declared.node.FieldRecord.{FieldRecord}
-use Rattle.capnp_records.proofs.ListTests.{first_and_rest, no_more}
+use Rattle.capnp_records.proofs.lemmas.ListTests.{first_and_rest, no_more}
 use Rattle.capnp_compatible.specs.declared.keeps.Levels.{Levels}
 use Rattle.capnp_compatible.specs.Holders.{nodes_in, shape_by}
 use Rattle.capnp_compatible.specs.Walks.{older_fields, newer_fields, older_body, newer_body}

@@ -7,7 +7,7 @@ use Rattle.capnp_model.specs.Compatible.{Pairs, member_count, keeps_fields}
 use Rattle.capnp_records.specs.NodeViews.{kind_of_field}
 use Rattle.capnp_records.specs.declared.node.FieldBody.TheVariants as B
 use Rattle.capnp_records.specs.declared.node.FieldRecord.{FieldRecord}
-use Rattle.capnp_records.proofs.ListTests.{first_and_rest, no_more}
+use Rattle.capnp_records.proofs.lemmas.ListTests.{first_and_rest, no_more}
 use Rattle.capnp_compatible.specs.declared.keeps.Levels.{Levels}
 use Rattle.capnp_compatible.specs.Holders.{nodes_in, schema_in, shape_by, is_sound_kind, are_sound}
 use Rattle.capnp_compatible.specs.Pairs.{has_each, pairs_of}

@@ -1,6 +1,6 @@
 use Rattle.std.proofs.Common.{◌≡◌, ◌∙◌, ℕ, List, replicate, refl, rules}
 use Rattle.capnp_copy.specs.Memory.{overwritten}
-use Rattle.capnp_copy.proofs.BlobNumbers.{last_number}
+use Rattle.capnp_copy.proofs.lemmas.BlobNumbers.{last_number}
 use Rattle.capnp_copy.proofs.blobs.last_word.Goals as goal
 
 pub returns : goal.returns

@@ -4,8 +4,8 @@ use Rattle.capnp_model.specs.Bytes.{words_in_bytes}
 use Rattle.capnp_model.specs.Segments.{Segments, after, words_at}
 use Rattle.capnp_units.specs.Segments.{words_in}
 use Rattle.capnp_wire.specs.Places.{place_view}
-use Rattle.capnp_footprints.proofs.Splices.{splice_grows}
-use Rattle.capnp_copy.proofs.RoomLaws.{part_there, still_some}
+use Rattle.capnp_footprints.proofs.lemmas.Splices.{splice_grows}
+use Rattle.capnp_copy.proofs.lemmas.RoomLaws.{part_there, still_some}
 use Rattle.capnp_copy.proofs.blobs.write_bytes.Goals as goal
 
 pub write_word-requires : goal.write_word-requires

@@ -1,5 +1,5 @@
 use Rattle.std.proofs.Common.{sym, arith}
-use Rattle.capnp_wire.proofs.Bytes.{bytes_of_front}
+use Rattle.capnp_wire.proofs.lemmas.Bytes.{bytes_of_front}
 use Rattle.capnp_copy.proofs.bytes.front_of.Goals as goal
 
 pub returns : goal.returns

@@ -4,14 +4,14 @@ use Rattle.capnp_model.specs.Sections.{number_of, with_bits}
 use Rattle.capnp_model.specs.Segments.{Segments, after}
 use Rattle.capnp_model.specs.Pointers.{a_list}
 use Rattle.capnp_model.specs.Trees.{plain_list}
-use Rattle.capnp_model.proofs.Locality.{word_is}
-use Rattle.capnp_model.proofs.Numbers.{number_of_lt}
+use Rattle.capnp_model.proofs.lemmas.Locality.{word_is}
+use Rattle.capnp_model.proofs.lemmas.Numbers.{number_of_lt}
 use Rattle.capnp_units.specs.Segments.{words_in}
 use Rattle.capnp_wire.specs.Places.{place_view}
 use Rattle.capnp_footprints.specs.Changes.{ReplacesObject}
 use Rattle.capnp_footprints.specs.Writes.{with_words}
 use Rattle.capnp_copy.proofs.ByteSets.{none_set, part_set, no_part}
-use Rattle.capnp_copy.proofs.ZeroedWords.{written_sizes}
+use Rattle.capnp_copy.proofs.lemmas.ZeroedWords.{written_sizes}
 use Rattle.capnp_copy.proofs.bytes.set_in_word.Goals as goal
 
 pub returns-then-is_empty-clause-sets : goal.returns-then-is_empty-clause-sets

@@ -7,7 +7,7 @@ use Rattle.capnp_units.specs.Segments.{words_in}
 use Rattle.capnp_wire.specs.Places.{place_view}
 use Rattle.capnp_footprints.specs.Changes.{ReplacesObject}
 use Rattle.capnp_copy.proofs.ByteSets.{zeros_set}
-use Rattle.capnp_copy.proofs.ZeroedWords.{written_sizes}
+use Rattle.capnp_copy.proofs.lemmas.ZeroedWords.{written_sizes}
 use Rattle.capnp_copy.proofs.bytes.zero_front.Goals as goal
 
 pub returns-then-has_words-clause-sets : goal.returns-then-has_words-clause-sets

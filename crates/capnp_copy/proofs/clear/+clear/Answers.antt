@@ -14,7 +14,7 @@ use Rattle.capnp_copy.proofs.ClearedKids.{KidsSoFar, kids_none, kids_next, kids_
 use Rattle.capnp_copy.proofs.ClearedElements.{ElementsSoFar, list_first, elements_absent, elements_none, elements_next, elements_all, elements_without}
 use Rattle.capnp_copy.proofs.ClearedObjects.{nothing_goes, capability_goes, after_kids, after_pointers, after_elements, after_plain}
 use Rattle.capnp_copy.proofs.ClearedSlots.{clears_null, clears_fault, clears_found}
-use Rattle.capnp_copy.proofs.ZeroedWords.{null_there}
+use Rattle.capnp_copy.proofs.lemmas.ZeroedWords.{null_there}
 use Rattle.capnp_copy.proofs.clear.+clear.Goals as goal
 
 pub clear-returns-then-word-eq0-clause-clears : goal.clear-returns-then-word-eq0-clause-clears

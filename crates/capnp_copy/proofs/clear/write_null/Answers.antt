@@ -3,7 +3,7 @@ use Rattle.capnp_model.specs.Segments.{Segments}
 use Rattle.capnp_units.specs.Segments.{words_in}
 use Rattle.capnp_wire.specs.Places.{place_view}
 use Rattle.capnp_copy.specs.Clearing.{nonzero_words}
-use Rattle.capnp_copy.proofs.ZeroedWords.{written_sizes, null_fewer, null_there}
+use Rattle.capnp_copy.proofs.lemmas.ZeroedWords.{written_sizes, null_fewer, null_there}
 use Rattle.capnp_copy.proofs.clear.write_null.Goals as goal
 
 pub write_word-requires : goal.write_word-requires

@@ -4,7 +4,7 @@ use Rattle.capnp_units.specs.Segments.{words_in}
 use Rattle.capnp_wire.specs.Places.{place_view}
 use Rattle.capnp_footprints.specs.Writes.{with_words}
 use Rattle.capnp_copy.specs.Clearing.{nonzero_words, zeroed_there}
-use Rattle.capnp_copy.proofs.ZeroedWords.{written_sizes, zeroes_fewer}
+use Rattle.capnp_copy.proofs.lemmas.ZeroedWords.{written_sizes, zeroes_fewer}
 use Rattle.capnp_copy.proofs.clear.zero_there.Goals as goal
 
 pub returns-then-has_words-clause-sizes : goal.returns-then-has_words-clause-sizes

@@ -3,7 +3,7 @@ use Rattle.capnp_model.specs.Sections.{bits_at}
 use Rattle.capnp_units.specs.Segments.{words_in}
 use Rattle.capnp_units.specs.Sizes.{size_number}
 use Rattle.capnp_wire.specs.Places.{place_view}
-use Rattle.capnp_copy.proofs.ElementLaws.{is_plain, get_plain, no_plain_word}
+use Rattle.capnp_copy.proofs.lemmas.ElementLaws.{is_plain, get_plain, no_plain_word}
 use Rattle.capnp_copy.proofs.elements.get_element.Goals as goal
 
 pub returns-in-Some : goal.returns-in-Some

@@ -9,9 +9,9 @@ use Rattle.capnp_units.specs.Sizes.{size_number}
 use Rattle.capnp_wire.specs.Places.{place_view}
 use Rattle.capnp_footprints.specs.Changes.{ReplacesObject}
 use Rattle.capnp_footprints.specs.Writes.{with_words}
-use Rattle.capnp_model.proofs.Locality.{word_is}
-use Rattle.capnp_copy.proofs.ElementLaws.{is_plain, set_plain, no_plain_word, same_list}
-use Rattle.capnp_copy.proofs.ZeroedWords.{written_sizes}
+use Rattle.capnp_model.proofs.lemmas.Locality.{word_is}
+use Rattle.capnp_copy.proofs.lemmas.ElementLaws.{is_plain, set_plain, no_plain_word, same_list}
+use Rattle.capnp_copy.proofs.lemmas.ZeroedWords.{written_sizes}
 use Rattle.capnp_copy.proofs.elements.set_element.Goals as goal
 
 pub returns-then-width-eq0-clause-sets : goal.returns-then-width-eq0-clause-sets

@@ -1,7 +1,7 @@
 use Rattle.std.proofs.Common.{◌/◌, sym, ◌∙◌, arith, rules}
 use Rattle.capnp_units.specs.Segments.{words_in}
 use Rattle.capnp_wire.specs.Places.{place_view}
-use Rattle.capnp_copy.proofs.FieldLaws.{get_field, no_word}
+use Rattle.capnp_copy.proofs.lemmas.FieldLaws.{get_field, no_word}
 use Rattle.capnp_copy.proofs.fields.get_bits.Goals as goal
 
 pub returns-in-Some : goal.returns-in-Some

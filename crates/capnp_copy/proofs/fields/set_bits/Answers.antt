@@ -7,8 +7,8 @@ use Rattle.capnp_units.specs.Segments.{words_in}
 use Rattle.capnp_wire.specs.Places.{place_view}
 use Rattle.capnp_footprints.specs.Changes.{ReplacesObject}
 use Rattle.capnp_footprints.specs.Writes.{with_words}
-use Rattle.capnp_copy.proofs.FieldLaws.{set_field, no_word, no_word_there}
-use Rattle.capnp_copy.proofs.ZeroedWords.{written_sizes}
+use Rattle.capnp_copy.proofs.lemmas.FieldLaws.{set_field, no_word, no_word_there}
+use Rattle.capnp_copy.proofs.lemmas.ZeroedWords.{written_sizes}
 use Rattle.capnp_copy.proofs.fields.set_bits.Goals as goal
 
 pub returns-in-Some-clause-sets : goal.returns-in-Some-clause-sets

@@ -6,10 +6,10 @@ use Rattle.capnp_wire.specs.Places.{place_view}
 use Rattle.capnp_footprints.specs.NewObjects.{new_pointer, new_object, new_tree}
 use Rattle.capnp_copy.specs.Rooms.{begin_of, linked}
 use Rattle.capnp_copy.specs.Values.{Becomes, LeadsTo}
-use Rattle.capnp_footprints.proofs.Spans.{grows_then}
-use Rattle.capnp_copy.proofs.RoomLaws.{word_there, sizes_grow, still_some, still_linked, room_addressed, room_grows, room_pad, pad_stays, room_words, room_near}
-use Rattle.capnp_copy.proofs.Making.{made, leads}
-use Rattle.capnp_copy.proofs.Taken.{room_takes, room_bounds, linked_sizes, takes_so, bounds_so}
+use Rattle.capnp_footprints.proofs.lemmas.Spans.{grows_then}
+use Rattle.capnp_copy.proofs.lemmas.RoomLaws.{word_there, sizes_grow, still_some, still_linked, room_addressed, room_grows, room_pad, pad_stays, room_words, room_near}
+use Rattle.capnp_copy.proofs.lemmas.Making.{made, leads}
+use Rattle.capnp_copy.proofs.lemmas.Taken.{room_takes, room_bounds, linked_sizes, takes_so, bounds_so}
 use Rattle.capnp_copy.proofs.init.init_zeros.Goals as goal
 
 pub allocate_near-requires-clause-there : goal.allocate_near-requires-clause-there

@@ -1,4 +1,4 @@
-use Rattle.capnp_copy.proofs.Parts.{section_there, front_there}
+use Rattle.capnp_copy.proofs.lemmas.Parts.{section_there, front_there}
 use Rattle.capnp_copy.proofs.laws.words_in_part.Goals as goal
 
 pub returns-clause-behind : goal.returns-clause-behind

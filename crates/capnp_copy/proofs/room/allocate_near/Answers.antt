@@ -1,6 +1,6 @@
 use Rattle.std.proofs.Common.{arith, ◌+◌}
 use Rattle.capnp_units.specs.Segments.{words_in}
-use Rattle.capnp_copy.proofs.Ends.{word_before_end, end_within}
+use Rattle.capnp_copy.proofs.lemmas.Ends.{word_before_end, end_within}
 use Rattle.capnp_copy.proofs.room.allocate_near.Goals as goal
 
 pub overflow_add-offset : goal.overflow_add-offset

@@ -3,7 +3,7 @@ use Rattle.std.specs.Option.{is_some}
 use Rattle.capnp_model.specs.Segments.{Segments, words_at}
 use Rattle.capnp_units.specs.Segments.{words_in}
 use Rattle.capnp_wire.specs.Places.{place_view}
-use Rattle.capnp_copy.proofs.RoomLaws.{still_padded}
+use Rattle.capnp_copy.proofs.lemmas.RoomLaws.{still_padded}
 use Rattle.capnp_copy.proofs.room.link.Goals as goal
 
 pub write_word-requires : goal.write_word-requires

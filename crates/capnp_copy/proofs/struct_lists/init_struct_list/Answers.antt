@@ -11,13 +11,13 @@ use Rattle.capnp_footprints.specs.NewObjects.{new_structs, zero_elements, Fits, 
 use Rattle.capnp_footprints.specs.Writes.{with_words}
 use Rattle.capnp_copy.specs.Rooms.{begin_of, linked}
 use Rattle.capnp_copy.specs.Values.{Becomes, LeadsTo}
-use Rattle.capnp_footprints.proofs.Spans.{grows_then}
-use Rattle.capnp_copy.proofs.RoomLaws.{word_there, sizes_grow, still_some, still_written, still_linked, first_there, room_addressed, room_grows, room_pad, pad_stays, room_words, room_near}
-use Rattle.capnp_footprints.proofs.Splices.{splice_grows}
+use Rattle.capnp_footprints.proofs.lemmas.Spans.{grows_then}
+use Rattle.capnp_copy.proofs.lemmas.RoomLaws.{word_there, sizes_grow, still_some, still_written, still_linked, first_there, room_addressed, room_grows, room_pad, pad_stays, room_words, room_near}
+use Rattle.capnp_footprints.proofs.lemmas.Splices.{splice_grows}
 use Rattle.capnp_copy.proofs.MakingStructs.{structs_made, structs_lead}
 use Rattle.capnp_copy.specs.Allocations.{total_words, TakesJust, TakesAtMost, NoRoom}
-use Rattle.capnp_copy.proofs.ZeroedWords.{written_sizes}
-use Rattle.capnp_copy.proofs.Taken.{room_takes, room_bounds, linked_sizes, takes_so, bounds_so}
+use Rattle.capnp_copy.proofs.lemmas.ZeroedWords.{written_sizes}
+use Rattle.capnp_copy.proofs.lemmas.Taken.{room_takes, room_bounds, linked_sizes, takes_so, bounds_so}
 use Rattle.capnp_copy.proofs.struct_lists.init_struct_list.Goals as goal
 
 pub allocate_near-requires-clause-there : goal.allocate_near-requires-clause-there

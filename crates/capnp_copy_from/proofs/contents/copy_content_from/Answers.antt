@@ -7,7 +7,7 @@ use Rattle.capnp_model.specs.Coverage.{from_each}
 use Rattle.capnp_model.specs.Visits.{visits}
 use Rattle.capnp_units.specs.Segments.{words_in}
 use Rattle.capnp_object.specs.Places.{place_view}
-use Rattle.capnp_copy.proofs.RoomLaws.{sizes_grow, still_some}
+use Rattle.capnp_copy.proofs.lemmas.RoomLaws.{sizes_grow, still_some}
 use Rattle.capnp_copy_from.specs.Copies.{struct_source}
 use Rattle.capnp_copy_from.specs.Contents.{TakesContent, TakesPart, SetsSection}
 use Rattle.capnp_copy_from.proofs.Parts.{front_there}

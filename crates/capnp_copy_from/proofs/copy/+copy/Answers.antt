@@ -16,13 +16,13 @@ use Rattle.capnp_object.specs.Objects.{IsInside}
 use Rattle.capnp_object.specs.Inside.{tree_in, met_in, section_at, words_there}
 use Rattle.capnp_object.specs.declared.object.Object.{Object}
 use Rattle.capnp_object.specs.declared.object.Object.TheVariants as object
-use Rattle.capnp_object.proofs.Walks.{walked_none}
+use Rattle.capnp_object.proofs.lemmas.Walks.{walked_none}
 use Rattle.capnp_footprints.specs.Writes.{with_words}
-use Rattle.capnp_footprints.proofs.Rows.{after_sum}
-use Rattle.capnp_footprints.proofs.Splices.{splice_grows}
+use Rattle.capnp_footprints.proofs.lemmas.Rows.{after_sum}
+use Rattle.capnp_footprints.proofs.lemmas.Splices.{splice_grows}
 use Rattle.capnp_copy.specs.Clearing.{ClearsObject}
 use Rattle.capnp_copy.specs.Rooms.{begin_of, linked}
-use Rattle.capnp_copy.proofs.RoomLaws.{word_there, sizes_grow, still_some, room_addressed, room_grows, room_pad, pad_stays, room_near}
+use Rattle.capnp_copy.proofs.lemmas.RoomLaws.{word_there, sizes_grow, still_some, room_addressed, room_grows, room_pad, pad_stays, room_near}
 use Rattle.capnp_copy_from.specs.Copies.{BecomesCopy, GrowsByZeros, Copied, Refused, Fills, FillsRow, LeavesRow, FillsElements, LeavesElements}
 use Rattle.capnp_copy_from.specs.Objects.{copied_words, most_counted, copied_at, copied_pointer}
 use Rattle.capnp_copy_from.proofs.Parts.{section_is, part_there, front_there, part_is}

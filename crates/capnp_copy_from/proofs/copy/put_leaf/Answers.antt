@@ -4,8 +4,8 @@ use Rattle.capnp_units.specs.Segments.{words_in}
 use Rattle.capnp_object.specs.Places.{place_view}
 use Rattle.capnp_object.specs.declared.object.Object.{Object}
 use Rattle.capnp_footprints.specs.Writes.{with_words}
-use Rattle.capnp_copy.proofs.ZeroedWords.{written_sizes}
-use Rattle.capnp_copy.proofs.RoomLaws.{sizes_grow, still_some}
+use Rattle.capnp_copy.proofs.lemmas.ZeroedWords.{written_sizes}
+use Rattle.capnp_copy.proofs.lemmas.RoomLaws.{sizes_grow, still_some}
 use Rattle.capnp_copy_from.specs.Copies.{BecomesCopy}
 use Rattle.capnp_copy_from.specs.Objects.{leaf_value, copied_pointer}
 use Rattle.capnp_copy_from.proofs.Leaves.{null_now, capability_now, leaf_null}

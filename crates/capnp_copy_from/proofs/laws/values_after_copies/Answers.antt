@@ -1,6 +1,6 @@
 use Rattle.std.proofs.Common.{◌+◌, arith}
-use Rattle.capnp_footprints.proofs.Levels.{owned_more}
-use Rattle.capnp_copy_from.proofs.Filling.{value_stands}
+use Rattle.capnp_footprints.proofs.lemmas.Levels.{owned_more}
+use Rattle.capnp_copy_from.proofs.lemmas.Filling.{value_stands}
 use Rattle.capnp_copy_from.proofs.laws.values_after_copies.Goals as goal
 
 pub returns : goal.returns

@@ -5,14 +5,14 @@ use Rattle.capnp_model.specs.Segments.{Segments, Place}
 use Rattle.capnp_model.specs.Pointers.{a_struct}
 use Rattle.capnp_model.specs.Trees.{structure}
 use Rattle.capnp_footprints.specs.Changes.{ReplacesObject}
-use Rattle.capnp_object.proofs.Words.{whole_words-length}
+use Rattle.capnp_object.proofs.lemmas.Words.{whole_words-length}
 use Rattle.capnp_model.specs.Traversal.{tree_at, each}
 use Rattle.capnp_model.specs.Coverage.{Grows, from_each}
 use Rattle.capnp_model.specs.Visits.{visits}
 use Rattle.capnp_units.specs.Segments.{words_in}
 use Rattle.capnp_object.specs.Places.{place_view}
-use Rattle.capnp_footprints.proofs.Splices.{splice_grows}
-use Rattle.capnp_copy.proofs.RoomLaws.{still_some}
+use Rattle.capnp_footprints.proofs.lemmas.Splices.{splice_grows}
+use Rattle.capnp_copy.proofs.lemmas.RoomLaws.{still_some}
 use Rattle.capnp_copy.specs.Allocations.{total_words}
 use Rattle.capnp_copy_from.proofs.Listed.{all_section}
 use Rattle.capnp_copy_from.proofs.Made.{words_copied, section_copied}

@@ -17,9 +17,9 @@ use Rattle.capnp_units.specs.Sizes.{size_number, data_bits}
 use Rattle.capnp_object.specs.Places.{place_view}
 use Rattle.capnp_object.specs.Inside.{met_in}
 use Rattle.capnp_footprints.specs.Writes.{with_words}
-use Rattle.capnp_footprints.proofs.Splices.{splice_grows}
+use Rattle.capnp_footprints.proofs.lemmas.Splices.{splice_grows}
 use Rattle.capnp_wire.specs.Elements.{step_bits}
-use Rattle.capnp_copy.proofs.RoomLaws.{still_some}
+use Rattle.capnp_copy.proofs.lemmas.RoomLaws.{still_some}
 use Rattle.capnp_copy_from.specs.Copies.{CopyGives, Fills, FillsElements, LeavesElements}
 use Rattle.capnp_copy_from.specs.Objects.{copied_words, most_counted, copied_at}
 use Rattle.capnp_copy_from.specs.Lists.{object_of_size, tree_of_size, listed_section}

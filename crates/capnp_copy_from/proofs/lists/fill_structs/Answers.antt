@@ -8,10 +8,10 @@ use Rattle.capnp_model.specs.Coverage.{from_elements}
 use Rattle.capnp_model.specs.Visits.{visits}
 use Rattle.capnp_units.specs.Segments.{whole_words, words_in}
 use Rattle.capnp_object.specs.Places.{place_view}
-use Rattle.capnp_object.proofs.Words.{whole_words-length}
-use Rattle.capnp_footprints.proofs.Rows.{after_sum}
-use Rattle.capnp_wire.proofs.Bytes.{section_of_part}
-use Rattle.capnp_copy.proofs.RoomLaws.{still_some}
+use Rattle.capnp_object.proofs.lemmas.Words.{whole_words-length}
+use Rattle.capnp_footprints.proofs.lemmas.Rows.{after_sum}
+use Rattle.capnp_wire.proofs.lemmas.Bytes.{section_of_part}
+use Rattle.capnp_copy.proofs.lemmas.RoomLaws.{still_some}
 use Rattle.capnp_copy_from.specs.Copies.{FillsElements, LeavesElements, Copied}
 use Rattle.capnp_copy_from.proofs.Elements.{elements_begun, elements_next, elements_stopped, elements_ended, all_at_once, element_within}
 use Rattle.capnp_copy_from.proofs.Listed.{all_read}

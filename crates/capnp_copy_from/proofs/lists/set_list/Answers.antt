@@ -12,7 +12,7 @@ use Rattle.capnp_object.specs.Inside.{met_in}
 use Rattle.capnp_footprints.specs.NewObjects.{Fits}
 use Rattle.capnp_copy.specs.Clearing.{ClearsObject}
 use Rattle.capnp_copy.specs.Rooms.{begin_of, linked}
-use Rattle.capnp_copy.proofs.RoomLaws.{sizes_grow, still_some, room_addressed, room_grows, room_pad, pad_stays, room_near}
+use Rattle.capnp_copy.proofs.lemmas.RoomLaws.{sizes_grow, still_some, room_addressed, room_grows, room_pad, pad_stays, room_near}
 use Rattle.capnp_copy_from.specs.Copies.{Copied, Refused, Fills, ObjectGives, ObjectCopied, ObjectRefused}
 use Rattle.capnp_copy_from.specs.Lists.{listed_object, listed_tree}
 use Rattle.capnp_copy_from.specs.Objects.{copied_words, copied_at, copied_pointer, is_leaf, IsSpelled}

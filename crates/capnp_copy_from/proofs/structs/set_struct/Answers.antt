@@ -14,7 +14,7 @@ use Rattle.capnp_object.specs.Places.{place_view}
 use Rattle.capnp_object.specs.declared.object.Object.TheVariants as object
 use Rattle.capnp_copy.specs.Clearing.{ClearsObject}
 use Rattle.capnp_copy.specs.Rooms.{begin_of, linked}
-use Rattle.capnp_copy.proofs.RoomLaws.{sizes_grow, still_some, room_addressed, room_grows, room_pad, pad_stays, room_near}
+use Rattle.capnp_copy.proofs.lemmas.RoomLaws.{sizes_grow, still_some, room_addressed, room_grows, room_pad, pad_stays, room_near}
 use Rattle.capnp_copy_from.specs.Copies.{Copied, Refused, Fills, ObjectCopied, ObjectRefused, ObjectGives}
 use Rattle.capnp_copy_from.specs.Objects.{copied_words, copied_at, copied_pointer}
 use Rattle.capnp_copy_from.proofs.Allocated.{room_new}

@@ -2,7 +2,7 @@
 use Rattle.std.proofs.Common.{◌≡◌, ◌+◌, ◌-◌, ◌*◌, ℕ, take, drop, ap, sym, ◌∙◌, arith}
 use Rattle.capnp_units.specs.Segments.{whole_words, words_in}
 use Rattle.capnp_object.specs.Places.{place_view}
-use Rattle.capnp_object.proofs.Words.{words_end, none_there}
+use Rattle.capnp_object.proofs.lemmas.Words.{words_end, none_there}
 use Rattle.capnp_footprints.specs.Writes.{with_words}
 use Rattle.capnp_copy_from.proofs.ByteParts.{words_there}
 use Rattle.capnp_copy_from.proofs.Parts.{there_of}

@@ -11,7 +11,7 @@ use Rattle.capnp_queries.specs.Types.{ty_of}
 use Rattle.capnp_dynamic.specs.NewLists.{tree_of_new}
 use Rattle.capnp_dynamic.specs.Puts.{state_in}
 use Rattle.capnp_dynamic.specs.GroupSets.{PutsAny}
-use Rattle.capnp_dynamic.proofs.AnyEdits.{puts_becomes}
+use Rattle.capnp_dynamic.proofs.lemmas.AnyEdits.{puts_becomes}
 use Rattle.capnp_dynamic.proofs.EmptyValues.{no_empty, kept_stands, stands_same}
 use Rattle.capnp_dynamic.proofs.NullRefusals.{object_put}
 use Rattle.capnp_dynamic.proofs.group_empties.put_empty.Goals as goal

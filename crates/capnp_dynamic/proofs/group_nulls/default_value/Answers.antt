@@ -1,6 +1,6 @@
 use Rattle.std.specs.Prelude.{option_map, option_copied}
 use Rattle.capnp_records.specs.NodeViews.{field_of, value_of}
-use Rattle.capnp_dynamic.proofs.NullMembers.{default_is}
+use Rattle.capnp_dynamic.proofs.lemmas.NullMembers.{default_is}
 use Rattle.capnp_dynamic.proofs.group_nulls.default_value.Goals as goal
 
 pub returns : goal.returns

@@ -10,14 +10,14 @@ use Rattle.capnp_queries.specs.Fields.{field_count, union_in}
 use Rattle.capnp_queries.specs.Structs.{schema_around, shape_of_struct, fields_of_struct}
 use Rattle.capnp_queries.specs.Handles.{entry_of, body_of_place, plain_of}
 use Rattle.capnp_queries.specs.declared.slots.FieldPlace.TheVariants as F
-use Rattle.capnp_copy.proofs.RoomLaws.{sizes_grow}
-use Rattle.capnp_footprints.proofs.Spans.{grows_same, grows_then}
+use Rattle.capnp_copy.proofs.lemmas.RoomLaws.{sizes_grow}
+use Rattle.capnp_footprints.proofs.lemmas.Spans.{grows_same, grows_then}
 use Rattle.capnp_dynamic.specs.GroupSets.{copied_fields}
-use Rattle.capnp_dynamic.proofs.Ready.{there_after, data_there}
-use Rattle.capnp_dynamic.proofs.Grown.{there_grown}
+use Rattle.capnp_dynamic.proofs.lemmas.Ready.{there_after, data_there}
+use Rattle.capnp_dynamic.proofs.lemmas.Grown.{there_grown}
 use Rattle.capnp_dynamic.proofs.Groups.{shape_depth, body_depth, depth_of_fields, depth_of_group}
-use Rattle.capnp_dynamic.proofs.GroupFields.{plain_inside, pointer_inside, group_inside, member_inside, member_depth}
-use Rattle.capnp_dynamic.proofs.AnyEdits.{far_then, far_more, far_err}
+use Rattle.capnp_dynamic.proofs.lemmas.GroupFields.{plain_inside, pointer_inside, group_inside, member_inside, member_depth}
+use Rattle.capnp_dynamic.proofs.lemmas.AnyEdits.{far_then, far_more, far_err}
 use Rattle.capnp_dynamic.proofs.SourceReadings.{null_child}
 use Rattle.capnp_dynamic.proofs.CopiedFields.{void_field, plain_field, group_field, in_turn, out_of_turn, front_begins, front_goes, front_ends, front_stops}
 use Rattle.capnp_queries.specs.Types.{ty_of}

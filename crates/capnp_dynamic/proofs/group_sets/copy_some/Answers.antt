@@ -8,13 +8,13 @@ use Rattle.capnp_units.specs.Segments.{words_in}
 use Rattle.capnp_wire.specs.Places.{place_view}
 use Rattle.capnp_records.specs.NodeViews.{field_of}
 use Rattle.capnp_queries.specs.Types.{ty_of}
-use Rattle.capnp_copy.proofs.RoomLaws.{sizes_grow}
-use Rattle.capnp_footprints.proofs.Algebra.{changes_nothing}
-use Rattle.capnp_footprints.proofs.Spans.{grows_then}
+use Rattle.capnp_copy.proofs.lemmas.RoomLaws.{sizes_grow}
+use Rattle.capnp_footprints.proofs.lemmas.Algebra.{changes_nothing}
+use Rattle.capnp_footprints.proofs.lemmas.Spans.{grows_then}
 use Rattle.capnp_dynamic.specs.GroupSets.{copied_field}
-use Rattle.capnp_dynamic.proofs.Ready.{pointer_there}
-use Rattle.capnp_dynamic.proofs.Grown.{there_grown}
-use Rattle.capnp_dynamic.proofs.AnyEdits.{far_refused, far_err}
+use Rattle.capnp_dynamic.proofs.lemmas.Ready.{pointer_there}
+use Rattle.capnp_dynamic.proofs.lemmas.Grown.{there_grown}
+use Rattle.capnp_dynamic.proofs.lemmas.AnyEdits.{far_refused, far_err}
 use Rattle.capnp_dynamic.proofs.CopiedFields.{pointer_field}
 use Rattle.capnp_wire.specs.Views.{StructView, seen_struct}
 use Rattle.capnp_values.specs.Shown.{ShowsField}

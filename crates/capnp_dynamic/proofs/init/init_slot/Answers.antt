@@ -6,19 +6,19 @@ use Rattle.capnp_model.specs.Calls.{empty_struct}
 use Rattle.capnp_model.specs.Segments.{words_at}
 use Rattle.capnp_units.specs.Segments.{words_in}
 use Rattle.capnp_records.specs.NodeViews.{field_of}
-use Rattle.capnp_footprints.proofs.Spans.{grows_then}
+use Rattle.capnp_footprints.proofs.lemmas.Spans.{grows_then}
 use Rattle.capnp_wire.specs.Places.{place_view}
-use Rattle.capnp_copy.proofs.RoomLaws.{sizes_grow}
+use Rattle.capnp_copy.proofs.lemmas.RoomLaws.{sizes_grow}
 use Rattle.capnp_queries.specs.Handles.{body_of_place}
 use Rattle.capnp_queries.specs.Structs.{nodes_around, shape_of_struct, id_of}
 use Rattle.capnp_queries.specs.Types.{ty_of}
 use Rattle.capnp_queries.specs.declared.slots.FieldPlace.TheVariants as F
 use Rattle.capnp_dynamic.specs.Inside.{words_of_shape, pointers_of_shape}
 use Rattle.capnp_dynamic.specs.Puts.{state_in}
-use Rattle.capnp_dynamic.proofs.Ready.{there_after, pointer_there}
-use Rattle.capnp_dynamic.proofs.Grown.{same_grows, there_grown}
-use Rattle.capnp_dynamic.proofs.GroupFields.{pointer_inside, member_inside}
-use Rattle.capnp_dynamic.proofs.SetPointers.{object_made}
+use Rattle.capnp_dynamic.proofs.lemmas.Ready.{there_after, pointer_there}
+use Rattle.capnp_dynamic.proofs.lemmas.Grown.{same_grows, there_grown}
+use Rattle.capnp_dynamic.proofs.lemmas.GroupFields.{pointer_inside, member_inside}
+use Rattle.capnp_dynamic.proofs.lemmas.SetPointers.{object_made}
 use Rattle.capnp_dynamic.proofs.DataWords.{leads_from}
 use Rattle.capnp_dynamic.proofs.InitSlots.{empty_words, inits, lies, refuses}
 use Rattle.capnp_dynamic.proofs.init.init_slot.Goals as goal

@@ -17,9 +17,9 @@ use Rattle.capnp_queries.specs.Types.{ty_of}
 use Rattle.capnp_queries.specs.declared.slots.FieldPlace.TheVariants as F
 use Rattle.capnp_dynamic.specs.NewLists.{tree_of_new}
 use Rattle.capnp_dynamic.specs.Puts.{state_in}
-use Rattle.capnp_dynamic.proofs.Ready.{pointer_there}
-use Rattle.capnp_dynamic.proofs.Grown.{same_grows}
-use Rattle.capnp_dynamic.proofs.GroupFields.{pointer_inside, member_inside}
+use Rattle.capnp_dynamic.proofs.lemmas.Ready.{pointer_there}
+use Rattle.capnp_dynamic.proofs.lemmas.Grown.{same_grows}
+use Rattle.capnp_dynamic.proofs.lemmas.GroupFields.{pointer_inside, member_inside}
 use Rattle.capnp_dynamic.proofs.Verbs.{child_put, child_refused}
 use Rattle.capnp_dynamic.proofs.NewLists.{initn_as, list_put}
 use Rattle.capnp_dynamic.proofs.initn.initn_slot.Goals as goal

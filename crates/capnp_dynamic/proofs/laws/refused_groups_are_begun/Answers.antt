@@ -2,7 +2,7 @@ use Rattle.std.proofs.Common.{refl, sym, ap, ◌∙◌}
 use Rattle.capnp_queries.specs.Fields.{union_in}
 use Rattle.capnp_queries.specs.Structs.{schema_around, shape_of_struct}
 use Rattle.capnp_dynamic.specs.GroupSets.{entry_writes}
-use Rattle.capnp_dynamic.proofs.FieldWrites.{group_writes_are}
+use Rattle.capnp_dynamic.proofs.lemmas.FieldWrites.{group_writes_are}
 use Rattle.capnp_dynamic.proofs.laws.refused_groups_are_begun.Goals as goal
 
 pub returns : goal.returns

@@ -2,7 +2,7 @@ use Rattle.std.proofs.Common.{List, ℕ, sym, subst}
 use Rattle.capnp_model.specs.Schemas.{default_or_null}
 use Rattle.capnp_model.specs.Decoding.{decode}
 use Rattle.capnp_dynamic.specs.GroupSets.{HoldsDefault}
-use Rattle.capnp_dynamic.proofs.NullMembers.{words_hold, some_tree}
+use Rattle.capnp_dynamic.proofs.lemmas.NullMembers.{words_hold, some_tree}
 use Rattle.capnp_dynamic.proofs.roots.words_of.Goals as goal
 
 pub returns : goal.returns

@@ -5,19 +5,19 @@ use Rattle.capnp_model.specs.Schemas.{width, void_slot}
 use Rattle.capnp_model.specs.Segments.{words_at}
 use Rattle.capnp_units.specs.Segments.{words_in}
 use Rattle.capnp_records.specs.NodeViews.{field_of}
-use Rattle.capnp_footprints.proofs.Spans.{grows_then}
+use Rattle.capnp_footprints.proofs.lemmas.Spans.{grows_then}
 use Rattle.capnp_wire.specs.Places.{place_view}
-use Rattle.capnp_copy.proofs.RoomLaws.{sizes_grow}
+use Rattle.capnp_copy.proofs.lemmas.RoomLaws.{sizes_grow}
 use Rattle.capnp_queries.specs.Handles.{plain_of, body_of_place}
 use Rattle.capnp_queries.specs.Types.{ty_of}
 use Rattle.capnp_queries.specs.declared.slots.FieldPlace.TheVariants as F
 use Rattle.capnp_dynamic.specs.Blobs.{bytes_of}
 use Rattle.capnp_dynamic.specs.Puts.{state_in}
-use Rattle.capnp_dynamic.proofs.Ready.{there_after, data_there, pointer_there}
-use Rattle.capnp_dynamic.proofs.Grown.{same_grows}
-use Rattle.capnp_dynamic.proofs.GroupFields.{plain_inside, pointer_inside, member_inside}
-use Rattle.capnp_dynamic.proofs.SetSlots.{fits_slot, sets_bits, sets_plain}
-use Rattle.capnp_dynamic.proofs.SetPointers.{sets_bytes, refuses_bytes}
+use Rattle.capnp_dynamic.proofs.lemmas.Ready.{there_after, data_there, pointer_there}
+use Rattle.capnp_dynamic.proofs.lemmas.Grown.{same_grows}
+use Rattle.capnp_dynamic.proofs.lemmas.GroupFields.{plain_inside, pointer_inside, member_inside}
+use Rattle.capnp_dynamic.proofs.lemmas.SetSlots.{fits_slot, sets_bits, sets_plain}
+use Rattle.capnp_dynamic.proofs.lemmas.SetPointers.{sets_bytes, refuses_bytes}
 use Rattle.capnp_dynamic.proofs.setting.set_flat.Goals as goal
 
 pub set_bits-requires-clause-there : goal.set_bits-requires-clause-there

@@ -7,10 +7,10 @@ use Rattle.capnp_queries.specs.Fields.{field_count, union_in}
 use Rattle.capnp_queries.specs.Structs.{shape_of_struct, fields_of_struct}
 use Rattle.capnp_queries.specs.Handles.{body_of_place}
 use Rattle.capnp_dynamic.specs.Inside.{LieIn}
-use Rattle.capnp_dynamic.proofs.Ready.{union_areas, there_after}
-use Rattle.capnp_dynamic.proofs.Writes.{edits_alike, edits_same}
+use Rattle.capnp_dynamic.proofs.lemmas.Ready.{union_areas, there_after}
+use Rattle.capnp_dynamic.proofs.lemmas.Writes.{edits_alike, edits_same}
 use Rattle.capnp_dynamic.proofs.Groups.{shape_depth, fields_depth, body_depth, depth_of_fields, depth_of_group, cleared_front, front_none, clears_void, clears_pointer, clears_group}
-use Rattle.capnp_dynamic.proofs.GroupFields.{plain_inside, pointer_inside, group_inside, plain_cleared, member_depth, member_inside, kept_cleared, other_left, first_kept, none_kept, others_not_kept, fields_next, fields_all}
+use Rattle.capnp_dynamic.proofs.lemmas.GroupFields.{plain_inside, pointer_inside, group_inside, plain_cleared, member_depth, member_inside, kept_cleared, other_left, first_kept, none_kept, others_not_kept, fields_next, fields_all}
 use Rattle.capnp_dynamic.proofs.slots.+groups.Goals.{clear_member-then-member-eq0-via-then-member-eq0, clear_member-then-member-eq0-via-else-member-eq0+then-member}
 use Rattle.capnp_dynamic.proofs.slots.+groups.Goals as goal
 

@@ -1,8 +1,8 @@
 use Rattle.capnp_units.specs.Segments.{words_in}
 use Rattle.capnp_records.specs.NodeViews.{field_of}
 use Rattle.capnp_queries.specs.Handles.{body_of_place}
-use Rattle.capnp_dynamic.proofs.Ready.{there_after}
-use Rattle.capnp_dynamic.proofs.GroupFields.{member_inside}
+use Rattle.capnp_dynamic.proofs.lemmas.Ready.{there_after}
+use Rattle.capnp_dynamic.proofs.lemmas.GroupFields.{member_inside}
 use Rattle.capnp_dynamic.proofs.Cleared.{clears_field}
 use Rattle.capnp_dynamic.proofs.slots.clear_field.Goals as goal
 

@@ -3,7 +3,7 @@ use Rattle.capnp_model.specs.Accepted.{union_area}
 use Rattle.capnp_queries.specs.Fields.{union_in}
 use Rattle.capnp_queries.specs.Structs.{shape_of_struct}
 use Rattle.capnp_dynamic.specs.Inside.{LieIn}
-use Rattle.capnp_dynamic.proofs.Ready.{union_areas}
+use Rattle.capnp_dynamic.proofs.lemmas.Ready.{union_areas}
 use Rattle.capnp_units.specs.Segments.{words_in}
 use Rattle.capnp_dynamic.proofs.DataWords.{data_same}
 use Rattle.capnp_dynamic.proofs.Marks.{marks_member, marks_none}

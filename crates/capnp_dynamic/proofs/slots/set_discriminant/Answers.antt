@@ -3,9 +3,9 @@ use Rattle.capnp_model.specs.Accepted.{union_area}
 use Rattle.capnp_model.specs.Edits.{mark}
 use Rattle.capnp_units.specs.Segments.{words_in}
 use Rattle.capnp_dynamic.specs.Inside.{LieIn}
-use Rattle.capnp_dynamic.proofs.Ready.{in_word}
+use Rattle.capnp_dynamic.proofs.lemmas.Ready.{in_word}
 use Rattle.capnp_dynamic.proofs.DataWords.{data_same, data_written}
-use Rattle.capnp_dynamic.proofs.Writes.{edits_none, edits_alike}
+use Rattle.capnp_dynamic.proofs.lemmas.Writes.{edits_none, edits_alike}
 use Rattle.capnp_dynamic.proofs.slots.set_discriminant.Goals as goal
 
 pub set_bits-requires-clause-inside : goal.set_bits-requires-clause-inside

@@ -1,13 +1,13 @@
 use Rattle.std.proofs.lemmas.Result.{err_from_is_err_and}
 use Rattle.capnp_units.specs.Segments.{words_in}
 use Rattle.capnp_wire.specs.Places.{place_view}
-use Rattle.capnp_footprints.proofs.Spans.{grows_then}
-use Rattle.capnp_copy.proofs.RoomLaws.{sizes_grow}
+use Rattle.capnp_footprints.proofs.lemmas.Spans.{grows_then}
+use Rattle.capnp_copy.proofs.lemmas.RoomLaws.{sizes_grow}
 use Rattle.capnp_dynamic.specs.Edits.{marked}
 use Rattle.capnp_dynamic.specs.Sources.{source_seen, EditsWithin}
 use Rattle.capnp_dynamic.specs.Values.{tree_edit}
-use Rattle.capnp_dynamic.proofs.Grown.{there_grown}
-use Rattle.capnp_dynamic.proofs.Sources.{source_grows, source_stands, if_refused, source_put, source_refused, child_put}
+use Rattle.capnp_dynamic.proofs.lemmas.Grown.{there_grown}
+use Rattle.capnp_dynamic.proofs.lemmas.Sources.{source_grows, source_stands, if_refused, source_put, source_refused, child_put}
 use Rattle.capnp_dynamic.proofs.AnyValues.{field_put}
 use Rattle.capnp_dynamic.proofs.values.set_source.Goals as goal
 

@@ -6,8 +6,8 @@ use Rattle.capnp_model.specs.Schemas.{group_slot}
 use Rattle.capnp_units.specs.Errors.{kind_of}
 use Rattle.capnp_units.specs.Segments.{words_in}
 use Rattle.capnp_records.specs.NodeViews.{field_of}
-use Rattle.capnp_footprints.proofs.Algebra.{changes_nothing}
-use Rattle.capnp_footprints.proofs.Spans.{grows_same}
+use Rattle.capnp_footprints.proofs.lemmas.Algebra.{changes_nothing}
+use Rattle.capnp_footprints.proofs.lemmas.Spans.{grows_same}
 use Rattle.capnp_builders.specs.Making.{state_of}
 use Rattle.capnp_values.specs.Sources.{struct_seen}
 use Rattle.capnp_queries.specs.Fields.{shape_id}
@@ -18,8 +18,8 @@ use Rattle.capnp_queries.specs.declared.slots.FieldPlace.TheVariants as F
 use Rattle.capnp_dynamic.specs.Sources.{source_seen, source_given}
 use Rattle.capnp_dynamic.specs.Values.{made, fields, struct_given, group_refusal, value_given}
 use Rattle.capnp_dynamic.proofs.AnyValues.{leaves_of, leaves_group, fields_given, group_refused, group_type, given_puts, none_given, told, flat_behind, flat_elsewhere, flat_puts}
-use Rattle.capnp_dynamic.proofs.GroupFields.{pointer_inside, member_inside}
-use Rattle.capnp_dynamic.proofs.Sources.{words_stand}
+use Rattle.capnp_dynamic.proofs.lemmas.GroupFields.{pointer_inside, member_inside}
+use Rattle.capnp_dynamic.proofs.lemmas.Sources.{words_stand}
 use Rattle.capnp_dynamic.proofs.values.set_value.Goals as goal
 
 pub set_source-requires-clause-index : goal.set_source-requires-clause-index

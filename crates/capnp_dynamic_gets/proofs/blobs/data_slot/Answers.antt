@@ -4,7 +4,7 @@ use Rattle.capnp_model.specs.Segments.{Segments}
 use Rattle.capnp_units.specs.Segments.{words_in}
 use Rattle.capnp_wire.specs.Places.{place_view}
 use Rattle.capnp_records.specs.NodeViews.{value_of}
-use Rattle.capnp_copy.proofs.RoomLaws.{still_some}
+use Rattle.capnp_copy.proofs.lemmas.RoomLaws.{still_some}
 use Rattle.capnp_builders.specs.Blobs.{data_named}
 use Rattle.capnp_dynamic_values.specs.Defaults.{default_bytes}
 use Rattle.capnp_dynamic_gets.proofs.BegunBytes.{got_if_ok, refused_if_err, bytes_grow}

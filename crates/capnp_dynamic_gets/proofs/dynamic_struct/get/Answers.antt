@@ -1,5 +1,5 @@
 use Rattle.capnp_units.specs.Segments.{words_in}
-use Rattle.capnp_dynamic.proofs.Grown.{there_grown}
+use Rattle.capnp_dynamic.proofs.lemmas.Grown.{there_grown}
 use Rattle.capnp_dynamic_gets.proofs.dynamic_struct.get.Goals as goal
 
 pub returns-clause-ready : goal.returns-clause-ready

@@ -1,6 +1,6 @@
 use Rattle.std.proofs.Common.{inl, refl}
 use Rattle.capnp_units.specs.Segments.{words_in}
-use Rattle.capnp_dynamic.proofs.Grown.{there_grown}
+use Rattle.capnp_dynamic.proofs.lemmas.Grown.{there_grown}
 use Rattle.capnp_dynamic_gets.proofs.dynamic_struct.get_named.Goals as goal
 
 pub returns-clause-gets : goal.returns-clause-gets

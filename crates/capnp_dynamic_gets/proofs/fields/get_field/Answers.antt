@@ -8,8 +8,8 @@ use Rattle.capnp_records.specs.NodeViews.{field_of, struct_of}
 use Rattle.capnp_queries.specs.Structs.{nodes_around, id_of, IsRecordOf}
 use Rattle.capnp_queries.specs.Handles.{body_of_place, plain_of}
 use Rattle.capnp_queries.specs.declared.slots.FieldPlace.TheVariants as F
-use Rattle.capnp_dynamic.proofs.Ready.{areas_inside, pointer_there}
-use Rattle.capnp_dynamic.proofs.GroupFields.{pointer_inside, member_inside}
+use Rattle.capnp_dynamic.proofs.lemmas.Ready.{areas_inside, pointer_there}
+use Rattle.capnp_dynamic.proofs.lemmas.GroupFields.{pointer_inside, member_inside}
 use Rattle.capnp_dynamic_gets.proofs.Grown.{child_grows}
 use Rattle.capnp_dynamic_gets.proofs.GroupPlaces.{group_wide}
 use Rattle.capnp_dynamic_gets.proofs.PlainValues.{plain_there}

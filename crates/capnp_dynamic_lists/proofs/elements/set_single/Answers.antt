@@ -6,7 +6,7 @@ use Rattle.std.specs.Option.{option_map}
 use Rattle.capnp_queries.specs.Types.{ty_of, ty_of_variant}
 use Rattle.capnp_queries.specs.Handles.{plain_of}
 use Rattle.capnp_dynamic_lists.specs.Elements.{single_edit}
-use Rattle.capnp_dynamic_lists.proofs.Fronts.{none_written, edits_as, plain_put, void_put}
+use Rattle.capnp_dynamic_lists.proofs.lemmas.Fronts.{none_written, edits_as, plain_put, void_put}
 use Rattle.capnp_dynamic_lists.proofs.elements.set_single.Goals as goal
 
 pub returns-in-Some-clause-edits : goal.returns-in-Some-clause-edits

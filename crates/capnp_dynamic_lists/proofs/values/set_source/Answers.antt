@@ -2,7 +2,7 @@ use Rattle.std.proofs.Common.{arith}
 use Rattle.capnp_units.specs.Segments.{words_in}
 use Rattle.capnp_wire.specs.Places.{place_view}
 use Rattle.capnp_dynamic.specs.Sources.{source_seen}
-use Rattle.capnp_dynamic.proofs.Sources.{source_grows, source_left}
+use Rattle.capnp_dynamic.proofs.lemmas.Sources.{source_grows, source_left}
 use Rattle.capnp_dynamic_lists.proofs.Pointers.{pointer_there}
 use Rattle.capnp_dynamic_lists.proofs.AnyValues.{copy_put}
 use Rattle.capnp_dynamic_lists.proofs.values.set_source.Goals as goal

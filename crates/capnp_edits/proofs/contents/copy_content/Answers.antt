@@ -9,7 +9,7 @@ use Rattle.capnp_wire.specs.Views.{Ground}
 use Rattle.capnp_copy_from.specs.Copies.{StructSource, struct_source}
 use Rattle.capnp_copy_from.specs.Contents.{CopiesContent}
 use Rattle.capnp_copy_from.specs.Defaults.{default_segments}
-use Rattle.capnp_widening.proofs.GotStructs.{struct_there, null_there}
+use Rattle.capnp_widening.proofs.lemmas.GotStructs.{struct_there, null_there}
 use Rattle.capnp_edits.proofs.TakenContents.{struct_taken, null_taken, content_grows}
 use Rattle.capnp_edits.proofs.contents.copy_content.Goals as goal
 

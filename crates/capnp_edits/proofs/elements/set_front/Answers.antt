@@ -4,8 +4,8 @@ use Rattle.capnp_model.specs.Segments.{Segments}
 use Rattle.capnp_model.specs.Edits.{put_bits}
 use Rattle.capnp_units.specs.Segments.{words_in}
 use Rattle.capnp_wire.specs.Places.{place_view}
-use Rattle.capnp_copy.proofs.Parts.{front_there}
-use Rattle.capnp_dynamic_lists.proofs.Fronts.{plain_front, of_structs}
+use Rattle.capnp_copy.proofs.lemmas.Parts.{front_there}
+use Rattle.capnp_dynamic_lists.proofs.lemmas.Fronts.{plain_front, of_structs}
 use Rattle.capnp_edits.proofs.elements.set_front.Goals as goal
 
 pub set_bits-requires : goal.set_bits-requires

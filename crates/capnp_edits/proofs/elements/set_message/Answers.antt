@@ -8,7 +8,7 @@ use Rattle.capnp_queries.specs.Types.{ty_of, ty_of_variant}
 use Rattle.capnp_call_messages.specs.Messages.{tree_of_message}
 use Rattle.capnp_dynamic_lists.specs.Lists.{HasPointer}
 use Rattle.capnp_dynamic_lists.specs.Elements.{Holds}
-use Rattle.capnp_dynamic_lists.proofs.Fronts.{none_written}
+use Rattle.capnp_dynamic_lists.proofs.lemmas.Fronts.{none_written}
 use Rattle.capnp_edits.proofs.ElementEnds.{void_end}
 use Rattle.capnp_edits.proofs.ElementMessages.{struct_set, list_set}
 use Rattle.capnp_edits.proofs.ElementSteps.{element_grows}

@@ -1,11 +1,11 @@
 use Rattle.std.proofs.Common.{ap, sym, ◌∙◌}
 use Rattle.std.specs.Option.{option_map}
 use Rattle.capnp_units.specs.Segments.{words_in}
-use Rattle.capnp_copy.proofs.RoomLaws.{sizes_grow}
+use Rattle.capnp_copy.proofs.lemmas.RoomLaws.{sizes_grow}
 use Rattle.capnp_queries.specs.Types.{ty_of, ty_of_variant}
 use Rattle.capnp_queries.specs.Handles.{plain_of}
 use Rattle.capnp_calls.specs.CallViews.{slot_value_view}
-use Rattle.capnp_dynamic_lists.proofs.Fronts.{none_written}
+use Rattle.capnp_dynamic_lists.proofs.lemmas.Fronts.{none_written}
 use Rattle.capnp_edits.proofs.ElementEnds.{plain_end, void_end}
 use Rattle.capnp_edits.proofs.elements.set_plain.Goals as goal
 

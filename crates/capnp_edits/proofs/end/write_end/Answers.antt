@@ -3,14 +3,14 @@ use Rattle.capnp_units.specs.Segments.{words_in}
 use Rattle.capnp_model.specs.Calls.{clear, init, initn}
 use Rattle.capnp_queries.specs.Handles.{entry_of}
 use Rattle.capnp_calls.specs.CallViews.{action_view}
-use Rattle.capnp_dynamic.proofs.Ready.{areas_inside}
+use Rattle.capnp_dynamic.proofs.lemmas.Ready.{areas_inside}
 use Rattle.capnp_edits.specs.Written.{WritesField}
 use Rattle.capnp_queries.specs.Structs.{schema_around}
 use Rattle.capnp_dynamic.specs.Begun.{begun_field}
 use Rattle.capnp_dynamic.specs.NewLists.{initn_field}
 use Rattle.capnp_dynamic.specs.Puts.{state_in}
 use Rattle.capnp_edits.proofs.Ends.{edited_end, put_end}
-use Rattle.capnp_copy.proofs.RoomLaws.{sizes_grow}
+use Rattle.capnp_copy.proofs.lemmas.RoomLaws.{sizes_grow}
 use Rattle.capnp_edits.proofs.end.write_end.Goals as goal
 
 pub clear_field-requires-clause-inside : goal.clear_field-requires-clause-inside

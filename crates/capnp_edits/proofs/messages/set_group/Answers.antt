@@ -7,7 +7,7 @@ use Rattle.capnp_wire.specs.Levels.{level_below}
 use Rattle.capnp_wire.specs.Views.{Ground, PointerView}
 use Rattle.capnp_copy_from.specs.Defaults.{default_segments}
 use Rattle.capnp_call_messages.specs.Messages.{tree_of_message}
-use Rattle.capnp_dynamic.proofs.Ready.{areas_inside}
+use Rattle.capnp_dynamic.proofs.lemmas.Ready.{areas_inside}
 use Rattle.capnp_dynamic.specs.GroupSets.{HoldsDefault}
 use Rattle.capnp_edits.proofs.GroupRoots.{root_behind, group_set}
 use Rattle.capnp_edits.proofs.messages.set_group.Goals as goal

@@ -13,10 +13,10 @@ use Rattle.capnp_queries.specs.Structs.{shape_of_struct}
 use Rattle.capnp_queries.specs.Handles.{body_of_place}
 use Rattle.capnp_queries.specs.Types.{ty_of}
 use Rattle.capnp_queries.specs.declared.slots.FieldPlace.TheVariants as F
-use Rattle.capnp_calls.proofs.OneStep.{is_void}
-use Rattle.capnp_dynamic.proofs.Ready.{areas_inside, pointer_there}
-use Rattle.capnp_dynamic.proofs.Grown.{there_grown}
-use Rattle.capnp_dynamic.proofs.GroupFields.{pointer_inside, member_inside}
+use Rattle.capnp_calls.proofs.lemmas.OneStep.{is_void}
+use Rattle.capnp_dynamic.proofs.lemmas.Ready.{areas_inside, pointer_there}
+use Rattle.capnp_dynamic.proofs.lemmas.Grown.{there_grown}
+use Rattle.capnp_dynamic.proofs.lemmas.GroupFields.{pointer_inside, member_inside}
 use Rattle.capnp_edits.specs.Written.{takes_message}
 use Rattle.capnp_edits.proofs.Ends.{bits_end}
 use Rattle.capnp_edits.proofs.SetMessages.{message_end}

@@ -15,16 +15,16 @@ use Rattle.capnp_queries.specs.Handles.{body_of_place}
 use Rattle.capnp_queries.specs.Types.{ty_of, ty_of_variant, is_type_of}
 use Rattle.capnp_queries.specs.declared.slots.FieldPlace.TheVariants as F
 use Rattle.capnp_calls.specs.CallViews.{step_view, action_view}
-use Rattle.capnp_calls.proofs.GroupSizes.{group_is_field}
-use Rattle.capnp_calls.proofs.PathAnswers.{none_is, some_is}
-use Rattle.capnp_dynamic.proofs.Ready.{areas_inside, pointer_there}
-use Rattle.capnp_dynamic.proofs.GroupFields.{pointer_inside, member_inside}
+use Rattle.capnp_calls.proofs.lemmas.GroupSizes.{group_is_field}
+use Rattle.capnp_calls.proofs.lemmas.PathAnswers.{none_is, some_is}
+use Rattle.capnp_dynamic.proofs.lemmas.Ready.{areas_inside, pointer_there}
+use Rattle.capnp_dynamic.proofs.lemmas.GroupFields.{pointer_inside, member_inside}
 use Rattle.capnp_dynamic_lists.specs.Lists.{HasPointer}
 use Rattle.capnp_dynamic_lists.specs.Elements.{Holds}
 use Rattle.capnp_ways.specs.Ways.{IsWay}
 use Rattle.capnp_edits.specs.Written.{WritesField, WritesValue}
 use Rattle.capnp_edits.specs.Elements.{WritesWithin, WritesFieldWithin, WritesElement}
-use Rattle.capnp_edits.proofs.Outcomes.{by_name, by_group, by_pointer, end_within}
+use Rattle.capnp_edits.proofs.lemmas.Outcomes.{by_name, by_group, by_pointer, end_within}
 use Rattle.capnp_edits.proofs.Behind.{on_ok, group_wide, struct_written}
 use Rattle.capnp_edits.proofs.BehindLists.{list_written, list_grows}
 use Rattle.capnp_edits.proofs.ElementSteps.{element_written, element_grows, value_written, value_grows}

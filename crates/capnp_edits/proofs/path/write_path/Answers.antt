@@ -3,7 +3,7 @@ use Rattle.capnp_units.specs.Segments.{words_in}
 use Rattle.capnp_calls.specs.CallViews.{step_view, action_view}
 use Rattle.capnp_edits.specs.Written.{WritesPath}
 use Rattle.capnp_edits.specs.Elements.{WritesWithin}
-use Rattle.capnp_edits.proofs.Outcomes.{path_within}
+use Rattle.capnp_edits.proofs.lemmas.Outcomes.{path_within}
 use Rattle.capnp_edits.proofs.Behind.{on_ok}
 use Rattle.capnp_edits.proofs.path.write_path.Goals as goal
 

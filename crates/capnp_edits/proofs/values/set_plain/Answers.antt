@@ -7,12 +7,12 @@ use Rattle.capnp_records.specs.NodeViews.{field_of}
 use Rattle.capnp_queries.specs.Handles.{plain_of, body_of_place}
 use Rattle.capnp_queries.specs.declared.slots.FieldPlace.TheVariants as F
 use Rattle.capnp_calls.specs.CallViews.{slot_value_view}
-use Rattle.capnp_calls.proofs.OneStep.{is_void}
-use Rattle.capnp_dynamic.proofs.Ready.{areas_inside, there_after, data_there}
-use Rattle.capnp_dynamic.proofs.GroupFields.{plain_inside, member_inside}
-use Rattle.capnp_dynamic.proofs.SetSlots.{fits_slot}
+use Rattle.capnp_calls.proofs.lemmas.OneStep.{is_void}
+use Rattle.capnp_dynamic.proofs.lemmas.Ready.{areas_inside, there_after, data_there}
+use Rattle.capnp_dynamic.proofs.lemmas.GroupFields.{plain_inside, member_inside}
+use Rattle.capnp_dynamic.proofs.lemmas.SetSlots.{fits_slot}
 use Rattle.capnp_edits.proofs.Ends.{bits_end, plain_end}
-use Rattle.capnp_copy.proofs.RoomLaws.{sizes_grow}
+use Rattle.capnp_copy.proofs.lemmas.RoomLaws.{sizes_grow}
 use Rattle.capnp_edits.proofs.values.set_plain.Goals as goal
 
 pub mark-requires-clause-inside : goal.mark-requires-clause-inside

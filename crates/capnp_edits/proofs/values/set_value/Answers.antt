@@ -7,7 +7,7 @@ use Rattle.capnp_dynamic.specs.Puts.{state_in}
 use Rattle.capnp_edits.specs.Written.{WritesField}
 use Rattle.capnp_edits.proofs.Ends.{text_end, data_end}
 use Rattle.capnp_units.specs.Segments.{words_in}
-use Rattle.capnp_dynamic.proofs.Ready.{areas_inside}
+use Rattle.capnp_dynamic.proofs.lemmas.Ready.{areas_inside}
 use Rattle.capnp_edits.proofs.values.set_value.Goals as goal
 
 pub set_flat-requires-clause-inside : goal.set_flat-requires-clause-inside

@@ -1,6 +1,6 @@
 use Rattle.std.proofs.Common.{◌≡◌, ◌-◌, ◌∷◌, length, take, drop}
 use Rattle.serde_json.specs.View.{items_view}
-use Rattle.capnp_records.proofs.ListTests.{first_and_rest}
+use Rattle.capnp_records.proofs.lemmas.ListTests.{first_and_rest}
 use Rattle.capnp_files.specs.Json.{each_item}
 use Rattle.capnp_files.specs.CallsFiles.{call_in}
 use Rattle.capnp_files.specs.CallViews.{parts_of}

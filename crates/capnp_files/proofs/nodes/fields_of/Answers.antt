@@ -1,7 +1,7 @@
 use Rattle.std.proofs.Common.{◌≡◌, ◌-◌, ◌∷◌, length, take, drop}
 use Rattle.serde_json.specs.View.{items_view}
 use Rattle.capnp_records.specs.NodeViews.{field_of}
-use Rattle.capnp_records.proofs.ListTests.{first_and_rest}
+use Rattle.capnp_records.proofs.lemmas.ListTests.{first_and_rest}
 use Rattle.capnp_files.specs.Json.{each_item}
 use Rattle.capnp_files.specs.SchemaFiles.{field_in}
 use Rattle.capnp_files.proofs.EachItem.{read_more}

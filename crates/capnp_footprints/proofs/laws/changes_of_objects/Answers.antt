@@ -1,4 +1,4 @@
-use Rattle.capnp_footprints.proofs.Lift.{object_replaced_then, object_replaced_owned}
+use Rattle.capnp_footprints.proofs.lemmas.Lift.{object_replaced_then, object_replaced_owned}
 use Rattle.capnp_footprints.proofs.laws.changes_of_objects.Goals as goal
 
 pub returns : goal.returns

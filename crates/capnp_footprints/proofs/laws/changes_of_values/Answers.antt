@@ -1,10 +1,10 @@
 use Rattle.capnp_model.specs.Segments.{place}
 use Rattle.capnp_footprints.specs.Footprints.{footprint}
 use Rattle.capnp_footprints.specs.Writes.{with_zeros, segment_end}
-use Rattle.capnp_footprints.proofs.Lift.{replaced_then, replaced_owned}
-use Rattle.capnp_footprints.proofs.Algebra.{still_zero}
-use Rattle.capnp_footprints.proofs.Growing.{zeros_extend}
-use Rattle.capnp_footprints.proofs.Levels.{replaced_by_itself, grown_owned}
+use Rattle.capnp_footprints.proofs.lemmas.Lift.{replaced_then, replaced_owned}
+use Rattle.capnp_footprints.proofs.lemmas.Algebra.{still_zero}
+use Rattle.capnp_footprints.proofs.lemmas.Growing.{zeros_extend}
+use Rattle.capnp_footprints.proofs.lemmas.Levels.{replaced_by_itself, grown_owned}
 use Rattle.capnp_footprints.proofs.laws.changes_of_values.Goals as goal
 
 pub returns : goal.returns

@@ -1,4 +1,4 @@
-use Rattle.capnp_footprints.proofs.Levels.{owned_more, replaced_more}
+use Rattle.capnp_footprints.proofs.lemmas.Levels.{owned_more, replaced_more}
 use Rattle.capnp_footprints.proofs.laws.changes_with_more_levels.Goals as goal
 
 pub returns : goal.returns

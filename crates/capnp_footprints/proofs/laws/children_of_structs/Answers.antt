@@ -1,4 +1,4 @@
-use Rattle.capnp_footprints.proofs.Lift.{child_of_struct, struct_of_child}
+use Rattle.capnp_footprints.proofs.lemmas.Lift.{child_of_struct, struct_of_child}
 use Rattle.capnp_footprints.proofs.laws.children_of_structs.Goals as goal
 
 pub returns : goal.returns

@@ -1,4 +1,4 @@
-use Rattle.capnp_footprints.proofs.Levels.{value_beside_change}
+use Rattle.capnp_footprints.proofs.lemmas.Levels.{value_beside_change}
 use Rattle.capnp_footprints.proofs.laws.values_beside_changes.Goals as goal
 
 pub returns : goal.returns

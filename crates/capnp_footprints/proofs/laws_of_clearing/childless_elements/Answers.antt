@@ -1,4 +1,4 @@
-use Rattle.capnp_footprints.proofs.Turns.{childless_at, childless_count}
+use Rattle.capnp_footprints.proofs.lemmas.Turns.{childless_at, childless_count}
 use Rattle.capnp_footprints.proofs.laws_of_clearing.childless_elements.Goals as goal
 
 pub returns : goal.returns

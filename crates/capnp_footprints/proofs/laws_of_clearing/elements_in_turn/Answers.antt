@@ -1,7 +1,7 @@
 use Rattle.std.proofs.Common.{subst}
 use Rattle.capnp_footprints.specs.Changes.{ReplacesObject}
 use Rattle.capnp_footprints.specs.Turns.{struct_of}
-use Rattle.capnp_footprints.proofs.Turns.{structs_here, structs_next, elements_done, element_shape}
+use Rattle.capnp_footprints.proofs.lemmas.Turns.{structs_here, structs_next, elements_done, element_shape}
 use Rattle.capnp_footprints.proofs.laws_of_clearing.elements_in_turn.Goals as goal
 
 pub returns : goal.returns

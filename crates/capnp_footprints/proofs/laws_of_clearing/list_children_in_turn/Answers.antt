@@ -1,4 +1,4 @@
-use Rattle.capnp_footprints.proofs.Turns.{list_here, list_next, list_done}
+use Rattle.capnp_footprints.proofs.lemmas.Turns.{list_here, list_next, list_done}
 use Rattle.capnp_footprints.proofs.laws_of_clearing.list_children_in_turn.Goals as goal
 
 pub returns : goal.returns

@@ -1,4 +1,4 @@
-use Rattle.capnp_footprints.proofs.Turns.{struct_shape, list_shape, structs_shape}
+use Rattle.capnp_footprints.proofs.lemmas.Turns.{struct_shape, list_shape, structs_shape}
 use Rattle.capnp_footprints.proofs.laws_of_clearing.shapes_of_objects.Goals as goal
 
 pub returns : goal.returns

@@ -1,4 +1,4 @@
-use Rattle.capnp_footprints.proofs.Turns.{struct_here, struct_next, struct_done}
+use Rattle.capnp_footprints.proofs.lemmas.Turns.{struct_here, struct_next, struct_done}
 use Rattle.capnp_footprints.proofs.laws_of_clearing.struct_children_in_turn.Goals as goal
 
 pub returns : goal.returns

@@ -1,5 +1,5 @@
-use Rattle.capnp_footprints.proofs.Detached.{detached_split, detached_fewer}
-use Rattle.capnp_footprints.proofs.SpareMoves.{detached_swapped}
+use Rattle.capnp_footprints.proofs.lemmas.Detached.{detached_split, detached_fewer}
+use Rattle.capnp_footprints.proofs.lemmas.SpareMoves.{detached_swapped}
 use Rattle.capnp_footprints.proofs.laws_of_detached_objects.shares_of_spare_words.Goals as goal
 
 pub returns : goal.returns

@@ -1,4 +1,4 @@
-use Rattle.capnp_footprints.proofs.Detached.{detached_start, detached_more, detached_end}
+use Rattle.capnp_footprints.proofs.lemmas.Detached.{detached_start, detached_more, detached_end}
 use Rattle.capnp_footprints.proofs.laws_of_detached_objects.spare_words.Goals as goal
 
 pub returns : goal.returns

@@ -1,4 +1,4 @@
-use Rattle.capnp_footprints.proofs.Turns.{first_here, first_next, first_all, first_wider, resized_padded, resized_count}
+use Rattle.capnp_footprints.proofs.lemmas.Turns.{first_here, first_next, first_all, first_wider, resized_padded, resized_count}
 use Rattle.capnp_footprints.proofs.laws_of_moves.children_in_turn.Goals as goal
 
 pub returns : goal.returns

@@ -2,7 +2,7 @@ use Rattle.capnp_model.specs.Pointers.{a_struct}
 use Rattle.capnp_model.specs.Segments.{after}
 use Rattle.capnp_model.specs.Trees.{structure}
 use Rattle.capnp_footprints.proofs.MovedChildren.{struct_slots_apart}
-use Rattle.capnp_footprints.proofs.PointerRows.{row_moved, struct_row}
+use Rattle.capnp_footprints.proofs.lemmas.PointerRows.{row_moved, struct_row}
 use Rattle.capnp_footprints.proofs.laws_of_moves.moved_children.Goals as goal
 
 pub returns : goal.returns

@@ -1,5 +1,5 @@
-use Rattle.capnp_footprints.proofs.Moving.{null_moves, moved_verbatim, moved_near}
-use Rattle.capnp_footprints.proofs.SpareMoves.{empty_moved}
+use Rattle.capnp_footprints.proofs.lemmas.Moving.{null_moves, moved_verbatim, moved_near}
+use Rattle.capnp_footprints.proofs.lemmas.SpareMoves.{empty_moved}
 use Rattle.capnp_footprints.proofs.laws_of_moves.moved_values.Goals as goal
 
 pub returns : goal.returns

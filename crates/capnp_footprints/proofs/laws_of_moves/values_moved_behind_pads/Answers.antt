@@ -1,4 +1,4 @@
-use Rattle.capnp_footprints.proofs.Moving.{moved_far, moved_double_far}
+use Rattle.capnp_footprints.proofs.lemmas.Moving.{moved_far, moved_double_far}
 use Rattle.capnp_footprints.proofs.laws_of_moves.values_moved_behind_pads.Goals as goal
 
 pub returns : goal.returns

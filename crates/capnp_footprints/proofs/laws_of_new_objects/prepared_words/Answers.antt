@@ -1,4 +1,4 @@
-use Rattle.capnp_footprints.proofs.Prepared.{prepared_new, prepared_here, prepared_next, pad_first}
+use Rattle.capnp_footprints.proofs.lemmas.Prepared.{prepared_new, prepared_here, prepared_next, pad_first}
 use Rattle.capnp_footprints.proofs.laws_of_new_objects.prepared_words.Goals as goal
 
 pub returns : goal.returns

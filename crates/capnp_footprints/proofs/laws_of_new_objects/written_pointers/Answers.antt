@@ -1,5 +1,5 @@
 use Rattle.std.proofs.Common.{◌-◌, ◌^◌, arith}
-use Rattle.capnp_footprints.proofs.Prepared.{near_leads, far_leads, starts_near, starts_here, some_pointer}
+use Rattle.capnp_footprints.proofs.lemmas.Prepared.{near_leads, far_leads, starts_near, starts_here, some_pointer}
 use Rattle.capnp_footprints.proofs.laws_of_new_objects.written_pointers.Goals as goal
 
 pub returns : goal.returns

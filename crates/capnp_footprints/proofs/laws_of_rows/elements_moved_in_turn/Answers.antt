@@ -1,6 +1,6 @@
 use Rattle.std.proofs.Common.{refl}
 use Rattle.capnp_model.specs.Trees.{element_count}
-use Rattle.capnp_footprints.proofs.MovedElements.{element_same, moved_source, moved_target}
+use Rattle.capnp_footprints.proofs.lemmas.MovedElements.{element_same, moved_source, moved_target}
 use Rattle.capnp_footprints.proofs.laws_of_rows.elements_moved_in_turn.Goals as goal
 
 pub returns : goal.returns

@@ -1,6 +1,6 @@
 use Rattle.std.proofs.Common.{refl}
 use Rattle.capnp_model.specs.Trees.{element_count}
-use Rattle.capnp_footprints.proofs.MovedElements.{old_element, new_element}
+use Rattle.capnp_footprints.proofs.lemmas.MovedElements.{old_element, new_element}
 use Rattle.capnp_footprints.proofs.laws_of_rows.moved_elements.Goals as goal
 
 pub returns : goal.returns

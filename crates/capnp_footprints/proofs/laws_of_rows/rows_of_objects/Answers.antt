@@ -1,4 +1,4 @@
-use Rattle.capnp_footprints.proofs.PointerRows.{struct_row, list_row, element_row}
+use Rattle.capnp_footprints.proofs.lemmas.PointerRows.{struct_row, list_row, element_row}
 use Rattle.capnp_footprints.proofs.laws_of_rows.rows_of_objects.Goals as goal
 
 pub returns : goal.returns

@@ -1,7 +1,7 @@
 use Rattle.std.proofs.Common.{rules}
 use Rattle.std.proofs.KnownBytes.{Appends-kept}
 use Rattle.std.proofs.lemmas.Result.{err_from_is_err_and}
-use Rattle.capnp_io.proofs.KnownLemmas.{Appends-part, Appends-take}
+use Rattle.capnp_io.proofs.lemmas.KnownLemmas.{Appends-part, Appends-take}
 use Rattle.capnp_io.proofs.devices.write_each.Goals as goal
 
 pub loop-at-preserved : goal.loop-at-preserved

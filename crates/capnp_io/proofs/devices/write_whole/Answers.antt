@@ -1,5 +1,5 @@
 use Rattle.std.proofs.lemmas.Result.{on_err_weaker}
-use Rattle.capnp_io.proofs.KnownLemmas.{AppendsPart-behind}
+use Rattle.capnp_io.proofs.lemmas.KnownLemmas.{AppendsPart-behind}
 use Rattle.capnp_io.proofs.devices.write_whole.Goals as goal
 
 pub returns-in-Ok-2-clause-err : goal.returns-in-Ok-2-clause-err

@@ -1,4 +1,4 @@
-use Rattle.capnp_model.proofs.Canonical.{canonical_means, canonical_is, canonical_same, canonical_again}
+use Rattle.capnp_model.proofs.lemmas.Canonical.{canonical_means, canonical_is, canonical_same, canonical_again}
 use Rattle.capnp_model.proofs.laws.canonical_messages.Goals as goal
 
 pub returns : goal.returns

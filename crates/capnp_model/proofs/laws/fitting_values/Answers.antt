@@ -1,4 +1,4 @@
-use Rattle.capnp_model.proofs.FittingValues.{FitEach-with_child, Fits-widened, words_fit, bytes_fit, zeros_fit}
+use Rattle.capnp_model.proofs.lemmas.FittingValues.{FitEach-with_child, Fits-widened, words_fit, bytes_fit, zeros_fit}
 use Rattle.capnp_model.proofs.laws.fitting_values.Goals as goal
 
 pub returns : goal.returns

@@ -1,4 +1,4 @@
-use Rattle.capnp_model.proofs.Visits.{follows_few, row_follows_few}
+use Rattle.capnp_model.proofs.lemmas.Visits.{follows_few, row_follows_few}
 use Rattle.capnp_model.proofs.laws.refused_walks.Goals as goal
 
 pub returns : goal.returns

@@ -1,4 +1,4 @@
-use Rattle.capnp_model.proofs.SizesOfValues.{words_length_of, none_counted, none_there}
+use Rattle.capnp_model.proofs.lemmas.SizesOfValues.{words_length_of, none_counted, none_there}
 use Rattle.capnp_model.proofs.laws.sizes_of_values.Goals as goal
 
 pub returns : goal.returns

@@ -1,4 +1,4 @@
-use Rattle.capnp_model.proofs.MessagePrefixes.{one_framed_text, one_packed_text}
+use Rattle.capnp_model.proofs.lemmas.MessagePrefixes.{one_framed_text, one_packed_text}
 use Rattle.capnp_model.proofs.laws.texts_by_their_fronts.Goals as goal
 
 pub returns : goal.returns

@@ -1,4 +1,4 @@
-use Rattle.capnp_model.proofs.Visits.{values_tell, rows_tell, faults_of_visits}
+use Rattle.capnp_model.proofs.lemmas.Visits.{values_tell, rows_tell, faults_of_visits}
 use Rattle.capnp_model.proofs.laws.values_on_walks.Goals as goal
 
 pub returns : goal.returns

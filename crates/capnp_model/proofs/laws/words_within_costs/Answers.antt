@@ -1,5 +1,5 @@
 use Rattle.capnp_model.proofs.Size.{tree_at_size}
-use Rattle.capnp_model.proofs.Canonical.{canonical_size}
+use Rattle.capnp_model.proofs.lemmas.Canonical.{canonical_size}
 use Rattle.capnp_model.proofs.laws.words_within_costs.Goals as goal
 
 pub returns : goal.returns

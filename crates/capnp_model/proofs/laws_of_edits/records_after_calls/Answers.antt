@@ -1,4 +1,4 @@
-use Rattle.capnp_model.proofs.EditLaws.{record_after_calls, replies_to_calls, last_start}
+use Rattle.capnp_model.proofs.lemmas.EditLaws.{record_after_calls, replies_to_calls, last_start}
 use Rattle.capnp_model.proofs.laws_of_edits.records_after_calls.Goals as goal
 
 pub returns : goal.returns

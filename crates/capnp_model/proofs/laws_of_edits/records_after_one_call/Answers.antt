@@ -1,4 +1,4 @@
-use Rattle.capnp_model.proofs.EditLaws.{one_call, next_start}
+use Rattle.capnp_model.proofs.lemmas.EditLaws.{one_call, next_start}
 use Rattle.capnp_model.proofs.laws_of_edits.records_after_one_call.Goals as goal
 
 pub returns : goal.returns

@@ -1,4 +1,4 @@
-use Rattle.capnp_model.proofs.TrimmedKinds.{in_kind-trim, opened_start, written_record, written_replies}
+use Rattle.capnp_model.proofs.lemmas.TrimmedKinds.{in_kind-trim, opened_start, written_record, written_replies}
 use Rattle.capnp_model.proofs.laws_of_edits.records_of_written_values.Goals as goal
 
 pub returns : goal.returns

@@ -1,4 +1,4 @@
-use Rattle.capnp_model.proofs.RunLaws.{in_two_forms, of_same_messages}
+use Rattle.capnp_model.proofs.lemmas.RunLaws.{in_two_forms, of_same_messages}
 use Rattle.capnp_model.proofs.laws_of_runs.runs_in_two_forms.Goals as goal
 
 pub returns : goal.returns

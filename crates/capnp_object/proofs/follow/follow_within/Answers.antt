@@ -10,8 +10,8 @@ use Rattle.capnp_object.specs.declared.object.Found.{Found}
 use Rattle.capnp_object.specs.Places.{place_view}
 use Rattle.capnp_object.specs.Named.{found_view}
 use Rattle.capnp_object.specs.Follow.{found_cost, KeepsBudget}
-use Rattle.capnp_object.proofs.Walking.{within_missing, level_refused, whole_is_refused, exact_within, exact_object, still_within}
-use Rattle.capnp_object.proofs.Paying.{same_left, pays_later, refused_by}
+use Rattle.capnp_object.proofs.lemmas.Walking.{within_missing, level_refused, whole_is_refused, exact_within, exact_object, still_within}
+use Rattle.capnp_object.proofs.lemmas.Paying.{same_left, pays_later, refused_by}
 use Rattle.capnp_object.proofs.follow.follow_within.Goals as goal
 
 pub returns-in_err-found : goal.returns-in_err-found

@@ -6,7 +6,7 @@ use Rattle.capnp_units.specs.Segments.{words_in}
 use Rattle.capnp_object.specs.declared.object.Object.{Object}
 use Rattle.capnp_object.specs.Places.{place_view}
 use Rattle.capnp_object.specs.Near.{IsNear}
-use Rattle.capnp_object.proofs.NearObjects.{begins_where, held, list_near, bits_of, segment_of}
+use Rattle.capnp_object.proofs.lemmas.NearObjects.{begins_where, held, list_near, bits_of, segment_of}
 use Rattle.capnp_object.proofs.near.near_list_in.Goals as goal
 
 pub returns-clause-near : goal.returns-clause-near

@@ -2,7 +2,7 @@
 use Rattle.std.proofs.Common.{sym}
 use Rattle.capnp_model.specs.Segments.{after}
 use Rattle.capnp_object.specs.Places.{place_view}
-use Rattle.capnp_object.proofs.NearObjects.{begins_where, held, struct_near}
+use Rattle.capnp_object.proofs.lemmas.NearObjects.{begins_where, held, struct_near}
 use Rattle.capnp_object.proofs.near.near_struct_in.Goals as goal
 
 pub returns-clause-near : goal.returns-clause-near

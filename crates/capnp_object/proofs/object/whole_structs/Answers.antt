@@ -6,7 +6,7 @@ use Rattle.capnp_units.specs.Errors.{kind_of}
 use Rattle.capnp_object.specs.declared.object.Object.{Object}
 use Rattle.capnp_units.specs.Segments.{words_in}
 use Rattle.capnp_object.specs.Places.{place_view}
-use Rattle.capnp_object.proofs.Tags.{structs_found, structs_short, no_structs}
+use Rattle.capnp_object.proofs.lemmas.Tags.{structs_found, structs_short, no_structs}
 use Rattle.capnp_object.proofs.object.whole_structs.Goals as goal
 
 abbrev refused : ErrorKind → Result Object Kind

@@ -1,6 +1,6 @@
 -- The words of the segment are counted.
 use Rattle.std.proofs.Common.{sym, ◌∙◌}
-use Rattle.capnp_object.proofs.Words.{words_where, no_words}
+use Rattle.capnp_object.proofs.lemmas.Words.{words_where, no_words}
 use Rattle.capnp_object.proofs.place.has_words.Goals as goal
 
 pub returns-in-Some-clause-there : goal.returns-in-Some-clause-there

@@ -1,6 +1,6 @@
 -- The word is that of the eight bytes there.
 use Rattle.std.proofs.Common.{Some, ap, sym, ◌∙◌}
-use Rattle.capnp_object.proofs.Words.{word_of_chunk, no_chunk}
+use Rattle.capnp_object.proofs.lemmas.Words.{word_of_chunk, no_chunk}
 use Rattle.capnp_object.proofs.place.word_in.Goals as goal
 
 pub returns-in_err-get-clause-word : goal.returns-in_err-get-clause-word

@@ -9,9 +9,9 @@ use Rattle.capnp_model.specs.Coverage.{from_each, from_elements}
 use Rattle.capnp_model.specs.Visits.{visits}
 use Rattle.capnp_units.specs.Segments.{words_in}
 use Rattle.capnp_object.specs.Places.{place_view}
-use Rattle.capnp_object.proofs.Measuring.{null_in, capability_in, list_in, struct_in, pointers_in, structs_in, structs_refused, leaf_at, deep_at, unfollowed_at, plain_in, wordless, nothing_more, nothing_counted, refused_is}
-use Rattle.capnp_object.proofs.Walks.{begun, ended, next, stopped}
-use Rattle.capnp_object.proofs.Rows.{row_start, row_end, met_next, row_join, no_words, no_capabilities, no_element_words, no_element_capabilities, elements_start, elements_met_next, element_join}
+use Rattle.capnp_object.proofs.lemmas.Measuring.{null_in, capability_in, list_in, struct_in, pointers_in, structs_in, structs_refused, leaf_at, deep_at, unfollowed_at, plain_in, wordless, nothing_more, nothing_counted, refused_is}
+use Rattle.capnp_object.proofs.lemmas.Walks.{begun, ended, next, stopped}
+use Rattle.capnp_object.proofs.lemmas.Rows.{row_start, row_end, met_next, row_join, no_words, no_capabilities, no_element_words, no_element_capabilities, elements_start, elements_met_next, element_join}
 use Rattle.capnp_object.proofs.size.+size.Goals as goal
 
 pub size_at-returns-in_err-object : goal.size_at-returns-in_err-object

@@ -7,7 +7,7 @@ use Rattle.capnp_model.specs.Coverage.{from_each, from_elements}
 use Rattle.capnp_model.specs.Visits.{visits}
 use Rattle.capnp_units.specs.Segments.{words_in}
 use Rattle.capnp_object.specs.Places.{place_view}
-use Rattle.capnp_object.proofs.Walks.{SoFar}
+use Rattle.capnp_object.proofs.lemmas.Walks.{SoFar}
 use Rattle.capnp_object.proofs.size.+size.Given as goal
 
 abbrev pub decreases-size_inside : goal.decreases-size_inside

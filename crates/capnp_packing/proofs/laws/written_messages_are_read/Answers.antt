@@ -3,7 +3,7 @@ use Rattle.std.proofs.Common.{◌≡◌, ℕ, Option, List, [], ◌++◌, Some, 
 use Rattle.capnp_model.specs.Segments.{Segments}
 use Rattle.capnp_model.specs.Packing.{unpacked}
 use Rattle.capnp_model.specs.Messages.{packed_at}
-use Rattle.capnp_model.proofs.Chaining.{ok_is}
+use Rattle.capnp_model.proofs.lemmas.Chaining.{ok_is}
 use Rattle.capnp_stream.specs.Frames.{TakesMessage}
 use Rattle.capnp_packing.proofs.laws.written_messages_are_read.Goals as goal
 

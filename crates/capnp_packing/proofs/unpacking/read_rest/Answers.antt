@@ -1,7 +1,7 @@
 use Rattle.std.proofs.Common.{◌≡◌, ◌-◌, length, refl, rules, arith, ◌∙◌}
 use Rattle.std.proofs.lemmas.Result.{err_from_is_err_and}
 use borrow.Rule.Slice.PartMut.{put_mid}
-use Rattle.capnp_io.proofs.Filling.{take-put_mid_more}
+use Rattle.capnp_io.proofs.lemmas.Filling.{take-put_mid_more}
 use Rattle.capnp_packing.proofs.PieceLemmas.{piece-start, piece-refused, piece-more, piece-end}
 use Rattle.capnp_packing.proofs.unpacking.read_rest.Goals as goal
 

@@ -2,7 +2,7 @@ use Rattle.std.proofs.Common.{◌≡◌, ℕ, ◌+◌, ◌-◌, ◌/◌, List, �
 use Rattle.std.proofs.lemmas.List.{take_all}
 use Rattle.std.proofs.lemmas.Result.{on_ok_weaker, IfErr-weaker}
 use borrow.Rule.Slice.PartMut.{put_mid}
-use Rattle.capnp_io.proofs.Filling.{take-put_mid_more}
+use Rattle.capnp_io.proofs.lemmas.Filling.{take-put_mid_more}
 use Rattle.capnp_model.specs.Bytes.{words_in_bytes}
 use Rattle.capnp_model.specs.Packing.{unpacked_from, unpacked}
 use Rattle.capnp_stream.specs.Segments.{whole_words}

@@ -1,6 +1,6 @@
 use Rattle.std.proofs.Common.{◌≡◌, ◌-◌, ◌≤◌, List, ℕ, ◌++◌, length, take, ap, ◌∙◌, arith, rules, length-take-le, length-drop}
 use borrow.Rule.Slice.PartMut.{put_mid}
-use Rattle.capnp_io.proofs.Filling.{take-put_mid_more}
+use Rattle.capnp_io.proofs.lemmas.Filling.{take-put_mid_more}
 use Rattle.capnp_packing.proofs.UnpackLemmas.{rest-of}
 use Rattle.capnp_packing.proofs.RunLemmas.{words-front}
 use Rattle.capnp_packing.proofs.WriteLemmas.{run-front, packs-head, packs-group}

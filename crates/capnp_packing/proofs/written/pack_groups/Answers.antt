@@ -2,7 +2,7 @@ use Rattle.std.proofs.Common.{◌≡◌, ◌+◌, ◌-◌, ◌≤◌, List, ℕ,
 use Rattle.std.proofs.lemmas.Bool.{eqb-true}
 use Rattle.std.proofs.lemmas.List.{nil_from_length}
 use borrow.Rule.Slice.PartMut.{put_mid}
-use Rattle.capnp_io.proofs.Filling.{take-put_mid_more}
+use Rattle.capnp_io.proofs.lemmas.Filling.{take-put_mid_more}
 use Rattle.capnp_stream.specs.Segments.{whole_words}
 use Rattle.capnp_packing.specs.Written.{Packs}
 use Rattle.capnp_packing.specs.declared.runs.Run.TheVariants.{Next}

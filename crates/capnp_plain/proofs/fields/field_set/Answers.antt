@@ -2,10 +2,10 @@
 use Rattle.std.proofs.Common.{◌*◌, bit_xor, refl, ap, sym, ◌∙◌}
 use Rattle.capnp_model.specs.Schemas.{width}
 use Rattle.capnp_model.specs.Calls.{bits_of}
-use Rattle.capnp_model.proofs.Bits.{xor_twice}
+use Rattle.capnp_model.proofs.lemmas.Bits.{xor_twice}
 use Rattle.capnp_queries.specs.Handles.{plain_of, entry_of}
 use Rattle.capnp_calls.specs.CallViews.{slot_value_view}
-use Rattle.capnp_dynamic.proofs.SetSlots.{fits_slot}
+use Rattle.capnp_dynamic.proofs.lemmas.SetSlots.{fits_slot}
 use Rattle.capnp_plain.proofs.NamedFields.{sets_entry}
 use Rattle.capnp_plain.proofs.fields.field_set.Goals as goal
 

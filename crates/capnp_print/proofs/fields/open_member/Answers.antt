@@ -5,7 +5,7 @@ use Rattle.capnp_queries.specs.Structs.{schema_around}
 use Rattle.capnp_values.specs.Sources.{struct_seen}
 use Rattle.capnp_values.specs.Shown.{shown, kind_shown}
 use Rattle.capnp_print.specs.Parts.{member_text, enters_there, counted}
-use Rattle.capnp_print.proofs.ElementTexts.{text_or_fault}
+use Rattle.capnp_print.proofs.lemmas.ElementTexts.{text_or_fault}
 use Rattle.capnp_print.proofs.Opening.{fails}
 use Rattle.capnp_print.proofs.Wholes.{member_here, member_entered, member_refused}
 use Rattle.capnp_print.proofs.fields.open_member.Goals as goal

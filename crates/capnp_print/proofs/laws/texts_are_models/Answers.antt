@@ -1,4 +1,4 @@
-use Rattle.capnp_print.proofs.ModelTexts.{texts}
+use Rattle.capnp_print.proofs.lemmas.ModelTexts.{texts}
 use Rattle.capnp_print.proofs.laws.texts_are_models.Goals as goal
 
 pub returns : goal.returns

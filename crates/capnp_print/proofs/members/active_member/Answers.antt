@@ -6,7 +6,7 @@ use Rattle.capnp_queries.specs.Structs.{schema_around, fields_of_struct}
 use Rattle.capnp_queries.specs.declared.structs.StructSchema.{StructSchema}
 use Rattle.capnp_values.specs.Sources.{struct_seen}
 use Rattle.capnp_values.specs.Shown.{discriminant_shown}
-use Rattle.capnp_print.proofs.Shows.{none_active, value_active}
+use Rattle.capnp_print.proofs.lemmas.Shows.{none_active, value_active}
 use Rattle.capnp_print.proofs.members.active_member.Goals as goal
 
 pub returns-in-None : goal.returns-in-None

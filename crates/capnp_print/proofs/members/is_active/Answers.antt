@@ -1,6 +1,6 @@
 use Rattle.capnp_records.specs.NodeViews.{field_of}
 use Rattle.capnp_values.specs.Sources.{struct_seen}
-use Rattle.capnp_print.proofs.PrintedFields.{by_none, none_said}
+use Rattle.capnp_print.proofs.lemmas.PrintedFields.{by_none, none_said}
 use Rattle.capnp_print.proofs.members.is_active.Goals as goal
 
 pub returns-then-member : goal.returns-then-member

@@ -8,7 +8,7 @@ use Rattle.capnp_units.specs.declared.errors.Error.{Error}
 use Rattle.capnp_values.specs.Sources.{struct_seen}
 use Rattle.capnp_values.specs.Shown.{discriminant_shown}
 use Rattle.capnp_print.specs.Members.{field_shown}
-use Rattle.capnp_print.proofs.PrintedFields.{by_has, by_value, none_said, first_said, later_said}
+use Rattle.capnp_print.proofs.lemmas.PrintedFields.{by_has, by_value, none_said, first_said, later_said}
 use Rattle.capnp_print.proofs.members.is_printed.Goals as goal
 
 pub returns-then-member : goal.returns-then-member

@@ -17,11 +17,11 @@ use Rattle.capnp_print.specs.Parts.{fields_text, member_text, elements_text, IsP
 use Rattle.capnp_print.specs.Printed.{Text, mark, shown_text}
 use Rattle.capnp_print.specs.Singles.{single_text}
 use Rattle.capnp_print.specs.Texts.{style_of}
-use Rattle.capnp_print.proofs.ElementTexts.{text_or_fault}
+use Rattle.capnp_print.proofs.lemmas.ElementTexts.{text_or_fault}
 use Rattle.capnp_print.proofs.Lighter.{element_weight}
 use Rattle.capnp_print.proofs.Loops.{memory, refused, refused_more, between_signs, ends, goes_same, goes_on, goes_wrong}
 use Rattle.capnp_print.proofs.Opening.{opened_text, opened_lighter}
-use Rattle.capnp_print.proofs.PrintedFields.{active_shown}
+use Rattle.capnp_print.proofs.lemmas.PrintedFields.{active_shown}
 use Rattle.capnp_print.proofs.SingleTexts.{single_value}
 use Rattle.capnp_print.proofs.Weights.{weight, measure, shallow}
 use Rattle.capnp_print.proofs.Wholes.{entry_exists, entry_at, name_is, elements_begin, shown_same, struct_empty, struct_some, list_empty, list_some, told_empty, told_some, FieldsLeft, fields_begin, field_left_out, field_left_in, fields_end, ElementsLeft, element_left, no_elements_left}

@@ -1,6 +1,6 @@
 use Rattle.std.proofs.Common.{◌≡◌, ◌*◌, [], ◌∷◌, length, Ok, ap, sym, subst, ◌∙◌, arith}
 use Rattle.capnp_units.specs.Segments.{whole_words}
-use Rattle.capnp_stream.proofs.WordLemmas.{whole_words-of_length}
+use Rattle.capnp_stream.proofs.lemmas.WordLemmas.{whole_words-of_length}
 use Rattle.capnp_program.proofs.Tables.{none_is_read, piece_is_read}
 use Rattle.capnp_program.proofs.ahead.read_first_word.Goals as goal
 

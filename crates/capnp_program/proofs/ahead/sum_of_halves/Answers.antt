@@ -1,6 +1,6 @@
 use Rattle.std.proofs.Common.{◌≡◌, ◌+◌, ◌≤◌, List, ℕ, length, ap, ◌∙◌, arith, length-drop}
 use Rattle.std.specs.Int.{w64, from_le_bytes}
-use Rattle.capnp_stream.proofs.WordLemmas.{from_le_bytes-take}
+use Rattle.capnp_stream.proofs.lemmas.WordLemmas.{from_le_bytes-take}
 use Rattle.capnp_program.proofs.Tables.{halves_of_front}
 use Rattle.capnp_program.proofs.ahead.sum_of_halves.Goals as goal
 

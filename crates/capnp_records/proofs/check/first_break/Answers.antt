@@ -4,7 +4,7 @@ use Rattle.capnp_records.specs.NodeViews.{node_of}
 use Rattle.capnp_records.specs.Listed.{listed}
 use Rattle.capnp_records.specs.declared.node.NodeRecord.{NodeRecord}
 use Rattle.capnp_records.proofs.Breaks.{node_kept}
-use Rattle.capnp_records.proofs.ListTests.{default_any}
+use Rattle.capnp_records.proofs.lemmas.ListTests.{default_any}
 use Rattle.capnp_records.proofs.check.first_break.Goals as goal
 
 pub loop-i-preserved : goal.loop-i-preserved

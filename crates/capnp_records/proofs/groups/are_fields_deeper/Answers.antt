@@ -8,7 +8,7 @@ use Rattle.capnp_model.specs.Schemas.{Field}
 use Rattle.capnp_model.specs.Accepted.{groups_of_field}
 use Rattle.capnp_records.specs.NodeViews.{field_of}
 use Rattle.capnp_records.specs.Uses.{depths_in}
-use Rattle.capnp_records.proofs.ListTests.{list_all-flat_map}
+use Rattle.capnp_records.proofs.lemmas.ListTests.{list_all-flat_map}
 use Rattle.capnp_records.proofs.groups.are_fields_deeper.Goals as goal
 
 pub returns : goal.returns

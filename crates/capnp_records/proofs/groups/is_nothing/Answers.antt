@@ -1,6 +1,6 @@
 use Rattle.std.proofs.Common.{◌≡◌, ◌==◌, ◌<◌, true, length, sym, ◌∙◌, arith}
 use Rattle.std.proofs.lemmas.Bool.Decides.{nat_tests}
-use Rattle.capnp_records.proofs.ListTests.{no_more}
+use Rattle.capnp_records.proofs.lemmas.ListTests.{no_more}
 use Rattle.capnp_records.proofs.groups.is_nothing.Goals as goal
 
 pub returns : goal.returns

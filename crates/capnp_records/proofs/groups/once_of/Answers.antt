@@ -1,7 +1,7 @@
 use Rattle.std.proofs.Common.{◌≡◌, ℕ, Bool, true, false, not, nat_eq, Option, Some, None, get_or, option_copied, refl, sym, ◌∙◌, ap, Bor}
 use Rattle.std.specs.HashMap.{get}
 use Rattle.std.specs.Option.{is_some}
-use Rattle.capnp_records.proofs.ListTests.{default_any}
+use Rattle.capnp_records.proofs.lemmas.ListTests.{default_any}
 use Rattle.capnp_records.proofs.Holders.{once_more}
 use Rattle.capnp_records.proofs.groups.once_of.Goals as goal
 

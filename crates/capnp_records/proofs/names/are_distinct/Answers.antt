@@ -4,7 +4,7 @@ use Rattle.std.specs.Str.{bytes_eq}
 use Rattle.std.specs.List.Sorted.{IsPermutation}
 use Rattle.std.proofs.lemmas.List.{map_more}
 use Rattle.std.proofs.lemmas.List.Sorted.{list_any-IsPermutation}
-use Rattle.capnp_records.proofs.ListTests.{default_any}
+use Rattle.capnp_records.proofs.lemmas.ListTests.{default_any}
 use Rattle.capnp_records.proofs.Forward.{forward, forward_step}
 use Rattle.capnp_records.proofs.DistinctNames.{from_the_front, turned, one_more}
 use Rattle.capnp_records.proofs.names.are_distinct.Goals as goal

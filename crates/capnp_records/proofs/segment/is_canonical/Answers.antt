@@ -1,6 +1,6 @@
 use Rattle.std.proofs.Common.{sym}
 use Rattle.capnp_units.specs.Segments.{words_in}
-use Rattle.capnp_records.proofs.Segments.{stopped_not}
+use Rattle.capnp_records.proofs.lemmas.Segments.{stopped_not}
 use Rattle.capnp_records.proofs.segment.is_canonical.Goals as goal
 
 pub returns-in-Err : goal.returns-in-Err

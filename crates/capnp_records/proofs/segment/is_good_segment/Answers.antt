@@ -1,6 +1,6 @@
 use Rattle.std.proofs.Common.{◌*◌, ◌^◌, ◌<◌, length, sym, ◌∙◌, arith}
 use Rattle.capnp_records.specs.Segments.{wants}
-use Rattle.capnp_records.proofs.Segments.{small_segment, too_many_bad, in_parts_bad, not_canonical_bad, canonical_good}
+use Rattle.capnp_records.proofs.lemmas.Segments.{small_segment, too_many_bad, in_parts_bad, not_canonical_bad, canonical_good}
 use Rattle.capnp_records.proofs.segment.is_good_segment.Goals as goal
 use Rattle.capnp_records.proofs.segment.is_good_segment.Goals.{then-bytes-ge-TOO_MANY_BYTES-via-then-bytes-ge-TOO_MANY_BYTES, then-bytes-ge-TOO_MANY_BYTES-via-else-bytes-ge-TOO_MANY_BYTES+then-bytes-ne0}
 

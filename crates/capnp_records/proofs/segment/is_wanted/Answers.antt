@@ -4,7 +4,7 @@ use Rattle.capnp_units.specs.Errors.{kind_of}
 use Rattle.capnp_units.specs.Segments.{words_in}
 use Rattle.capnp_records.specs.Segments.{wants}
 use Rattle.capnp_records.specs.declared.segment.Wanted.{Wanted}
-use Rattle.capnp_records.proofs.Segments.{wanted_by_form, no_value}
+use Rattle.capnp_records.proofs.lemmas.Segments.{wanted_by_form, no_value}
 use Rattle.capnp_records.proofs.segment.is_wanted.Goals as goal
 
 pub returns-in-Ok : goal.returns-in-Ok

@@ -2,7 +2,7 @@ use Rattle.std.proofs.Common.{◌≡◌, ◌<◌, ◌≤◌, ◌&&◌, ◌||◌,
 use Rattle.std.specs.List.{list_all, list_any}
 use Rattle.std.proofs.lemmas.Bool.Decides.{nat_tests}
 use Rattle.capnp_model.specs.Accepted.{are_once}
-use Rattle.capnp_records.proofs.ListTests.{default_any}
+use Rattle.capnp_records.proofs.lemmas.ListTests.{default_any}
 use Rattle.capnp_records.proofs.Members.{same_member, from_the_front, next_member, member_twice, seen_more, marked_member}
 use Rattle.capnp_records.proofs.unions.are_once_below.Goals as goal
 

@@ -6,7 +6,7 @@ use Rattle.std.proofs.lemmas.List.Folds.{list_all-map}
 use Rattle.capnp_model.specs.Schemas.{Annotation, Enumerant}
 use Rattle.capnp_model.specs.Accepted.{is_good_value}
 use Rattle.capnp_records.specs.NodeViews.{enumerant_of}
-use Rattle.capnp_records.proofs.ListTests.{list_all-flat_map}
+use Rattle.capnp_records.proofs.lemmas.ListTests.{list_all-flat_map}
 use Rattle.capnp_records.proofs.values.enumerants_are_good.Goals as goal
 
 pub returns : goal.returns

@@ -3,7 +3,7 @@ use Rattle.capnp_relay.proofs.RunLemmas.{Answered-nil, Answered-more, one_each}
 use Rattle.capnp_relay.specs.Streams.{source_seen, sink_seen, streams}
 use Rattle.capnp_relay.specs.Work.{work}
 use Rattle.capnp_relay.specs.Stops.{Stops}
-use Rattle.capnp_relay.proofs.PauseLemmas.{Answered-rests}
+use Rattle.capnp_relay.proofs.lemmas.PauseLemmas.{Answered-rests}
 use Rattle.capnp_relay.proofs.run.answer_all.Goals as goal
 
 pub loop-fault-init : goal.loop-fault-init

@@ -10,7 +10,7 @@ use Rattle.capnp_queries.specs.Handles.{entry_of}
 use Rattle.capnp_queries.specs.declared.structs.StructSchema.{StructSchema}
 use Rattle.capnp_values.specs.Records.{reading_at}
 use Rattle.capnp_values.specs.Standing.{IsRecord}
-use Rattle.capnp_calls.proofs.ClearedGroups.{depth_of_fields, depth_of_entry, depth_of_group}
+use Rattle.capnp_calls.proofs.lemmas.ClearedGroups.{depth_of_fields, depth_of_entry, depth_of_group}
 use Rattle.capnp_replies.proofs.GroupFaults.{other, same, fault_from, from_first, none_past, one_more, none_told, first_turn, both_turns, inner_fault, out_of_turn, not_active, turned}
 use Rattle.capnp_replies.proofs.faults.+groups.Goals as goal
 

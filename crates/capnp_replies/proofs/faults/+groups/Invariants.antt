@@ -3,7 +3,7 @@ use Rattle.std.proofs.Common.{◌≡◌, ◌+◌, ◌*◌}
 use Rattle.capnp_model.specs.Groups.{fields_fault}
 use Rattle.capnp_wire.specs.Views.{seen_struct}
 use Rattle.capnp_queries.specs.Structs.{shape_of_struct, fields_of_struct}
-use Rattle.capnp_calls.proofs.ClearedGroups.{shape_depth, fields_depth}
+use Rattle.capnp_calls.proofs.lemmas.ClearedGroups.{shape_depth, fields_depth}
 use Rattle.capnp_replies.specs.Faults.{OfRecord}
 use Rattle.capnp_replies.proofs.GroupFaults.{fault_from}
 use Rattle.capnp_replies.proofs.faults.+groups.Given as goal

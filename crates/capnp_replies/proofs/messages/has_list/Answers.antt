@@ -4,7 +4,7 @@ use Rattle.capnp_wire.specs.Views.{PointerView, seen_pointer, seen_list}
 use Rattle.capnp_wire.specs.Reads.{read_list}
 use Rattle.capnp_queries.specs.Types.{ty_of}
 use Rattle.capnp_values.specs.Standing.{Leads}
-use Rattle.capnp_values.proofs.Unlimited.{answers_reading}
+use Rattle.capnp_values.proofs.lemmas.Unlimited.{answers_reading}
 use Rattle.capnp_replies.proofs.KeptValues.{null_list, list_is, list_refused}
 use Rattle.capnp_replies.proofs.messages.has_list.Goals as goal
 

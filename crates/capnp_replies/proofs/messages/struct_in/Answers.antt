@@ -3,7 +3,7 @@ use Rattle.capnp_units.specs.Errors.{kind_of}
 use Rattle.capnp_wire.specs.Views.{PointerView, seen_pointer, seen_struct}
 use Rattle.capnp_wire.specs.Reads.{read_struct}
 use Rattle.capnp_values.specs.Standing.{Leads}
-use Rattle.capnp_values.proofs.Unlimited.{answers_reading}
+use Rattle.capnp_values.proofs.lemmas.Unlimited.{answers_reading}
 use Rattle.capnp_replies.proofs.KeptValues.{struct_is, struct_refused}
 use Rattle.capnp_replies.proofs.messages.struct_in.Goals as goal
 

@@ -12,7 +12,7 @@ use Rattle.capnp_values.specs.Shown.{shown}
 use Rattle.capnp_values.specs.Sources.{struct_seen, list_seen}
 use Rattle.capnp_calls.specs.CallViews.{step_view, action_view}
 use Rattle.capnp_calls.specs.Replies.{reply_view}
-use Rattle.capnp_calls.proofs.PathAnswers.{some_is}
+use Rattle.capnp_calls.proofs.lemmas.PathAnswers.{some_is}
 use Rattle.capnp_replies.specs.Parts.{IsWayIn}
 use Rattle.capnp_replies.proofs.Ways.{HasWay, kind_way, element_way}
 use Rattle.capnp_replies.proofs.Steps.{no_name, named_reply, missing_reply, no_index}

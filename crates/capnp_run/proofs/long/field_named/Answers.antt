@@ -5,7 +5,7 @@ use Rattle.capnp_queries.specs.Fields.{place_of_name}
 use Rattle.capnp_queries.specs.Handles.{body_of_place}
 use Rattle.capnp_queries.specs.Structs.{fields_of_struct}
 use Rattle.capnp_queries.specs.declared.structs.StructSchema.{StructSchema}
-use Rattle.capnp_calls.proofs.NamedFields.{not_found}
+use Rattle.capnp_calls.proofs.lemmas.NamedFields.{not_found}
 use Rattle.capnp_run.proofs.PathEnds.{end_named}
 use Rattle.capnp_run.proofs.long.field_named.Goals as goal
 

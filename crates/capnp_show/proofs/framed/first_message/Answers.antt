@@ -7,7 +7,7 @@ use Rattle.capnp_show.proofs.Framing.{of_slice, of_refused, of_nothing}
 use Rattle.capnp_show.proofs.framed.first_message.Goals as goal
 
 pub returns-in-Ok-clause-message : goal.returns-in-Ok-clause-message
-returns-in-Ok-clause-message c = (_, of_slice c.texts_of_messages.ensures.of_slice c.args.options.traversal_limit_in_words c.args.bytes.now _ c.in-Ok.ensures.message)
+returns-in-Ok-clause-message c = (_, of_slice c.texts_in_slices.ensures.of_slice c.args.options.traversal_limit_in_words c.args.bytes.now _ c.in-Ok.ensures.message)
 
 pub returns-in-Err-clause-refused : goal.returns-in-Err-clause-refused
 returns-in-Err-clause-refused c = by c.is_empty.result refl

@@ -5,7 +5,7 @@ use Rattle.std.proofs.lemmas.List.{length-map}
 use Rattle.std.proofs.Math.Nat.{mod-lt}
 use Rattle.std.proofs.lemmas.Nat.{pow_pos}
 use Rattle.capnp_model.specs.Sections.{number_of, section_of, words_of, words_for}
-use Rattle.capnp_model.proofs.Numbers.{number_of_lt, wider, numbers_in-number_of}
+use Rattle.capnp_model.proofs.lemmas.Numbers.{number_of_lt, wider, numbers_in-number_of}
 use Rattle.capnp_canonical.specs.Writes.{words_view}
 use Rattle.capnp_splice.proofs.ByteNumbers.{next_word, next_whole, all_bits}
 use Rattle.capnp_splice.proofs.texts.blob_of.Goals as goal

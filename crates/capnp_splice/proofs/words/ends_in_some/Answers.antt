@@ -1,6 +1,6 @@
 -- The last word is one of the section's.
 use Rattle.std.proofs.Common.{◌≡◌, true, not, nat_eq, ℕ, ◌∙◌, arith}
-use Rattle.capnp_splice.proofs.DataWords.{least}
+use Rattle.capnp_splice.proofs.lemmas.DataWords.{least}
 use Rattle.capnp_splice.proofs.words.ends_in_some.Goals as goal
 
 is_some : (n : ℕ) → not (nat_eq n 0) ≡ true → n ≡ 0 → ⊥

@@ -1,7 +1,7 @@
 -- A word of the section is written.
 use Rattle.std.proofs.Common.{ap, ◌∙◌}
 use Rattle.capnp_model.specs.Sections.{with_bits}
-use Rattle.capnp_splice.proofs.DataWords.{slice_put}
+use Rattle.capnp_splice.proofs.lemmas.DataWords.{slice_put}
 use Rattle.capnp_splice.proofs.words.put.Goals as goal
 
 pub returns-clause-words : goal.returns-clause-words

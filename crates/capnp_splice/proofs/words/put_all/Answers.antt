@@ -1,7 +1,7 @@
 -- One number more.
 use Rattle.std.proofs.Common.{ℕ, sym, subst, ◌∙◌}
 use Rattle.capnp_splice.specs.DataWords.{AreData}
-use Rattle.capnp_splice.proofs.DataWords.{next_put}
+use Rattle.capnp_splice.proofs.lemmas.DataWords.{next_put}
 use Rattle.capnp_splice.proofs.words.put_all.Goals as goal
 
 pub loop-set-preserved : goal.loop-set-preserved

@@ -2,7 +2,7 @@
 use Rattle.std.proofs.Common.{◌≡◌, ℕ, suc, length, sym, subst, ◌∙◌}
 use Rattle.capnp_model.specs.Sections.{needed_words}
 use Rattle.capnp_splice.specs.DataWords.{put_set}
-use Rattle.capnp_splice.proofs.DataWords.{last_some}
+use Rattle.capnp_splice.proofs.lemmas.DataWords.{last_some}
 use Rattle.capnp_splice.proofs.words.put_number.Goals as goal
 
 pub returns-else-at-slice-2-clause-last : goal.returns-else-at-slice-2-clause-last

@@ -3,7 +3,7 @@ use Rattle.std.specs.Int.{from_le_bytes, w64}
 use Rattle.capnp_model.specs.Messages.{within, flat_at}
 use Rattle.capnp_units.specs.Segments.{words_in}
 use Rattle.capnp_stream.specs.Flat.{table_lengths, table_bytes, frame_segments}
-use Rattle.capnp_stream.proofs.WordLemmas.{from_le_bytes-take}
+use Rattle.capnp_stream.proofs.lemmas.WordLemmas.{from_le_bytes-take}
 use Rattle.capnp_stream.proofs.FlatLemmas.{flat-nothing, flat-wants, flat-many, flat-cut, flat-large, flat-ends, flat-whole}
 use Rattle.capnp_stream.proofs.flat.info_at.Goals as goal
 

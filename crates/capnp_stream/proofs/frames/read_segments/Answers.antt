@@ -7,9 +7,9 @@ use Rattle.capnp_model.specs.Spelling.{CanSpell}
 use Rattle.capnp_stream.specs.Ranges.{AreBytes}
 use Rattle.capnp_stream.specs.Segments.{whole_words, lengths_of, segments_of}
 use Rattle.capnp_stream.specs.Frames.{TakesMessage, IsCut}
-use Rattle.capnp_stream.proofs.WordLemmas.{whole_words-of_length, words_in_bytes-length, cut-of_joined, concat-of_joined, writable-joined}
+use Rattle.capnp_stream.proofs.lemmas.WordLemmas.{whole_words-of_length, words_in_bytes-length, cut-of_joined, concat-of_joined, writable-joined}
 use Rattle.capnp_stream.proofs.SpellLemmas.{CanSpell-of_cut}
-use Rattle.capnp_stream.proofs.FrameLemmas.{large-part, body-part, message-of_pieces}
+use Rattle.capnp_stream.proofs.lemmas.FrameLemmas.{large-part, body-part, message-of_pieces}
 use Rattle.capnp_stream.proofs.ReadLemmas.{table-wanted}
 use Rattle.capnp_stream.proofs.frames.read_segments.Goals as goal
 

@@ -1,7 +1,7 @@
 use Rattle.std.proofs.Common.{inl, inr, arith, ap, sym, subst, sum}
 use Rattle.std.proofs.lemmas.Result.{err_from_is_err_and}
 use Rattle.capnp_model.specs.Spelling.{AreShort}
-use Rattle.capnp_stream.proofs.FrameLemmas.{no-part, TakesTable-of_lengths}
+use Rattle.capnp_stream.proofs.lemmas.FrameLemmas.{no-part, TakesTable-of_lengths}
 use Rattle.capnp_stream.proofs.TableLemmas.{count-part, rest-fault, rest-part, table-of_buffer, table-short, table-sum}
 use Rattle.capnp_stream.proofs.frames.read_table.Goals as goal
 

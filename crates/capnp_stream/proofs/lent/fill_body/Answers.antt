@@ -6,7 +6,7 @@ use Rattle.capnp_model.specs.Messages.{cut}
 use Rattle.capnp_units.specs.Segments.{whole_words, words_in}
 use Rattle.capnp_stream.specs.Pieces.{TakesPiece}
 use Rattle.capnp_stream.specs.Flat.{table_lengths, table_bytes, frame_segments}
-use Rattle.capnp_stream.proofs.WordLemmas.{words_in_bytes-length, from_le_bytes-front}
+use Rattle.capnp_stream.proofs.lemmas.WordLemmas.{words_in_bytes-length, from_le_bytes-front}
 use Rattle.capnp_stream.proofs.FlatLemmas.{table-front, message-in}
 use Rattle.capnp_stream.proofs.lent.fill_body.Goals as goal
 

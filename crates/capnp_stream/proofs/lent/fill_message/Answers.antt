@@ -4,7 +4,7 @@ use Rattle.capnp_model.specs.Messages.{within}
 use Rattle.capnp_stream.specs.Frames.{IsCut}
 use Rattle.capnp_stream.specs.Flat.{table_lengths, table_bytes}
 use Rattle.capnp_stream.proofs.FlatLemmas.{table-holds}
-use Rattle.capnp_stream.proofs.FrameLemmas.{large-part, table-part, table-needs, body-part, message-of_body}
+use Rattle.capnp_stream.proofs.lemmas.FrameLemmas.{large-part, table-part, table-needs, body-part, message-of_body}
 use Rattle.capnp_stream.proofs.lent.fill_message.Goals as goal
 
 pub returns-then-not-is_within-clause-part : goal.returns-then-not-is_within-clause-part

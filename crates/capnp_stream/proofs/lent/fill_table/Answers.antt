@@ -1,6 +1,6 @@
 use Rattle.std.proofs.Common.{inl, inr, arith, length}
 use Rattle.std.proofs.lemmas.Result.{err_from_is_err_and}
-use Rattle.capnp_stream.proofs.FrameLemmas.{no-part}
+use Rattle.capnp_stream.proofs.lemmas.FrameLemmas.{no-part}
 use Rattle.capnp_stream.proofs.TableLemmas.{count-part, count-needs, rest-fault, rest-part, table-of_buffer}
 use Rattle.capnp_stream.proofs.lent.fill_table.Goals as goal
 

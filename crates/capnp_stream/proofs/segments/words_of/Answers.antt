@@ -1,6 +1,6 @@
 use Rattle.std.proofs.Common.{◌≤◌, ℕ, List, length, ap, ◌∙◌, arith}
 use Rattle.std.specs.Int.{from_le_bytes, w64}
-use Rattle.capnp_stream.proofs.WordLemmas.{words-step}
+use Rattle.capnp_stream.proofs.lemmas.WordLemmas.{words-step}
 use Rattle.capnp_stream.proofs.segments.words_of.Goals as goal
 
 pub loop-first-preserved : goal.loop-first-preserved

@@ -2,9 +2,9 @@ use Rattle.std.proofs.Common.{◌≡◌, ◌∷◌, [], ◌++◌, arith, length,
 use Rattle.std.specs.Int.{from_le_bytes, w64}
 use Rattle.std.proofs.lemmas.Result.{err_from_is_err_and}
 use Rattle.capnp_stream.specs.Pieces.{TakesPiece}
-use Rattle.capnp_stream.proofs.WordLemmas.{from_le_bytes-front}
-use Rattle.capnp_stream.proofs.PieceLemmas.{IsCut-of_piece, one-word}
-use Rattle.capnp_stream.proofs.FrameLemmas.{start-fault, start-part, many-fault, many-part}
+use Rattle.capnp_stream.proofs.lemmas.WordLemmas.{from_le_bytes-front}
+use Rattle.capnp_stream.proofs.lemmas.PieceLemmas.{IsCut-of_piece, one-word}
+use Rattle.capnp_stream.proofs.lemmas.FrameLemmas.{start-fault, start-part, many-fault, many-part}
 use Rattle.capnp_stream.proofs.tables.fill_count.Goals as goal
 
 pub returns-in_err-read_piece-clause-refused : goal.returns-in_err-read_piece-clause-refused

@@ -1,7 +1,7 @@
 use Rattle.capnp_wire.specs.Views.{seen_pointer, seen_struct}
 use Rattle.capnp_wire.specs.Reads.{read_struct}
 use Rattle.capnp_values.specs.Sources.{default_segments}
-use Rattle.capnp_values.proofs.Unlimited.{answers_default}
+use Rattle.capnp_values.proofs.lemmas.Unlimited.{answers_default}
 use Rattle.capnp_values.proofs.defaults.default_struct.Goals as goal
 
 pub returns : goal.returns

@@ -1,4 +1,4 @@
-use Rattle.capnp_values.proofs.ElementReadings.{elements}
+use Rattle.capnp_values.proofs.lemmas.ElementReadings.{elements}
 use Rattle.capnp_values.proofs.laws.elements_are_read.Goals as goal
 
 pub returns : goal.returns

@@ -1,4 +1,4 @@
-use Rattle.capnp_values.proofs.DefaultReadings.{fields}
+use Rattle.capnp_values.proofs.lemmas.DefaultReadings.{fields}
 use Rattle.capnp_values.proofs.laws.fields_are_read.Goals as goal
 
 pub returns : goal.returns

@@ -1,4 +1,4 @@
-use Rattle.capnp_values.proofs.Nulls.{nulls}
+use Rattle.capnp_values.proofs.lemmas.Nulls.{nulls}
 use Rattle.capnp_values.proofs.laws.nulls_are_read.Goals as goal
 
 pub returns : goal.returns

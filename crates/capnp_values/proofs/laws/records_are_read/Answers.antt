@@ -1,4 +1,4 @@
-use Rattle.capnp_values.proofs.RecordReadings.{fields_of_records, members_of_records, values_of_records}
+use Rattle.capnp_values.proofs.lemmas.RecordReadings.{fields_of_records, members_of_records, values_of_records}
 use Rattle.capnp_values.proofs.laws.records_are_read.Goals as goal
 
 pub returns-clause-fields : goal.returns-clause-fields

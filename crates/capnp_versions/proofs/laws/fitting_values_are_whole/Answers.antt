@@ -1,4 +1,4 @@
-use Rattle.capnp_versions.proofs.WholeValues.{fits-whole}
+use Rattle.capnp_versions.proofs.lemmas.WholeValues.{fits-whole}
 use Rattle.capnp_versions.proofs.laws.fitting_values_are_whole.Goals as goal
 
 pub returns : goal.returns

@@ -1,4 +1,4 @@
-use Rattle.capnp_versions.proofs.WrittenValues.{sizes-fit}
+use Rattle.capnp_versions.proofs.lemmas.WrittenValues.{sizes-fit}
 use Rattle.capnp_versions.proofs.SufficientSizes.{sizes-suffice}
 use Rattle.capnp_versions.proofs.laws_of_fitting.sizes_that_suffice.Goals as goal
 

@@ -3,7 +3,7 @@ use Rattle.std.proofs.Common.{◌<◌, sym, subst}
 use Rattle.capnp_queries.specs.Fields.{field_count}
 use Rattle.capnp_queries.specs.Structs.{fields_of_struct}
 use Rattle.capnp_queries.specs.declared.structs.StructSchema.{StructSchema}
-use Rattle.capnp_ways.proofs.EachWay.{place_inside}
+use Rattle.capnp_ways.proofs.lemmas.EachWay.{place_inside}
 use Rattle.capnp_ways.proofs.find.known_field.Goals as goal
 
 pub get-requires : goal.get-requires

@@ -7,7 +7,7 @@ use Rattle.capnp_records.specs.declared.raw.RawBrandedStructSchema.{RawBrandedSt
 use Rattle.capnp_queries.specs.Fields.{place_of_name}
 use Rattle.capnp_queries.specs.Structs.{schema_around}
 use Rattle.capnp_calls.specs.CallViews.{step_view}
-use Rattle.capnp_ways.proofs.EachWay.{stops, name_noted}
+use Rattle.capnp_ways.proofs.lemmas.EachWay.{stops, name_noted}
 use Rattle.capnp_ways.proofs.ways.+way.Goals as goal
 
 pub note_behind-returns-in-Void-clause-way : goal.note_behind-returns-in-Void-clause-way

@@ -2,7 +2,7 @@ use Rattle.std.proofs.Common.{◌≡◌, length, map}
 use Rattle.capnp_units.specs.Segments.{words_in}
 use Rattle.capnp_units.specs.Sizes.{size_number}
 use Rattle.capnp_wire.specs.Places.{place_view}
-use Rattle.capnp_widening.proofs.CopiedNumbers.{NumbersSoFar}
+use Rattle.capnp_widening.proofs.lemmas.CopiedNumbers.{NumbersSoFar}
 use Rattle.capnp_widening.proofs.elements.copy_numbers.Given as goal
 
 -- the first i written

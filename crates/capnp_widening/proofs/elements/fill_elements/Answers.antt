@@ -2,7 +2,7 @@ use Rattle.std.proofs.Common.{◌≡◌, ◌*◌, ap, arith}
 use Rattle.capnp_units.specs.Segments.{words_in}
 use Rattle.capnp_units.specs.Sizes.{size_number}
 use Rattle.capnp_widening.specs.MovedElements.{least_pointers}
-use Rattle.capnp_widening.proofs.CopiedNumbers.{fills_voids, fills_beside_pads}
+use Rattle.capnp_widening.proofs.lemmas.CopiedNumbers.{fills_voids, fills_beside_pads}
 use Rattle.capnp_widening.proofs.elements.fill_elements.Goals as goal
 
 pub returns-in-Void-clause-fills : goal.returns-in-Void-clause-fills

@@ -7,7 +7,7 @@ use Rattle.capnp_wire.specs.Places.{place_view}
 use Rattle.capnp_object.specs.declared.place.Place as code
 use Rattle.capnp_widening.specs.Moves.{HasPads, pads_of, pad_from, MovesValue}
 use Rattle.capnp_widening.specs.MovedElements.{least_pointers, struct_begin}
-use Rattle.capnp_widening.proofs.Standing.{still_some, sizes_grow, sizes_total, part_there, pads_stay}
+use Rattle.capnp_widening.proofs.lemmas.Standing.{still_some, sizes_grow, sizes_total, part_there, pads_stay}
 use Rattle.capnp_widening.proofs.MovedRows.{one_pad}
 use Rattle.capnp_widening.proofs.MovedLists.{struct_there, pointers_begin}
 use Rattle.capnp_widening.proofs.SpreadPointers.{PointersSoFar, pointers_none, pointers_next, one_pointer, fills_pointers}

@@ -4,7 +4,7 @@ use Rattle.capnp_model.specs.Segments.{Place, after, words_at}
 use Rattle.capnp_units.specs.Segments.{words_in}
 use Rattle.capnp_wire.specs.Places.{place_view}
 use Rattle.capnp_widening.specs.Moves.{MovesRow, pads_of}
-use Rattle.capnp_widening.proofs.Standing.{still_some, sizes_grow, sizes_total, part_there, front_there, pads_stay, within_total}
+use Rattle.capnp_widening.proofs.lemmas.Standing.{still_some, sizes_grow, sizes_total, part_there, front_there, pads_stay, within_total}
 use Rattle.capnp_widening.proofs.elements.move_element.Goals as goal
 
 pub copy_words-requires-clause-from : goal.copy_words-requires-clause-from

@@ -6,7 +6,7 @@ use Rattle.capnp_units.specs.Sizes.{size_number}
 use Rattle.capnp_wire.specs.Places.{place_view}
 use Rattle.capnp_object.specs.declared.place.Place as code
 use Rattle.capnp_widening.specs.Moves.{HasPads}
-use Rattle.capnp_widening.proofs.Standing.{sizes_grow, sizes_total, pads_stay, within_total}
+use Rattle.capnp_widening.proofs.lemmas.Standing.{sizes_grow, sizes_total, pads_stay, within_total}
 use Rattle.capnp_widening.proofs.MovedLists.{ElementsSoFar, elements_none, elements_next, some_pads, struct_there, next_fits}
 use Rattle.capnp_widening.proofs.FilledLists.{fills_structs, struct_words, struct_pointers}
 use Rattle.capnp_widening.proofs.elements.move_elements.Goals as goal

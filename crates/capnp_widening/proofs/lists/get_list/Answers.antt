@@ -7,8 +7,8 @@ use Rattle.capnp_wire.specs.Places.{place_view}
 use Rattle.capnp_object.specs.declared.object.Object.{Object}
 use Rattle.capnp_copy.specs.Elements.{IsWhole}
 use Rattle.capnp_copy.specs.Lists.{list_at}
-use Rattle.capnp_widening.proofs.WholeLists.{numbers_whole, pointers_whole, structs_named_whole, seen_inside}
-use Rattle.capnp_widening.proofs.ObjectsThere.{plain_named, pointers_named, structs_named, leads_named}
+use Rattle.capnp_widening.proofs.lemmas.WholeLists.{numbers_whole, pointers_whole, structs_named_whole, seen_inside}
+use Rattle.capnp_widening.proofs.lemmas.ObjectsThere.{plain_named, pointers_named, structs_named, leads_named}
 use Rattle.capnp_widening.proofs.lists.get_list.Goals.{in-List, in-PointerList, in-StructList}
 use Rattle.capnp_widening.proofs.lists.get_list.Goals as goal
 

@@ -2,7 +2,7 @@ use Rattle.std.proofs.Common.{◌≡◌, ◌<◌, ℕ, [], ◌∷◌, length, ma
 use Rattle.capnp_model.specs.Segments.{Segments, after}
 use Rattle.capnp_units.specs.Segments.{words_in}
 use Rattle.capnp_wire.specs.Places.{place_view}
-use Rattle.capnp_widening.proofs.Standing.{still_some, sizes_grow, part_there, written_sizes}
+use Rattle.capnp_widening.proofs.lemmas.Standing.{still_some, sizes_grow, part_there, written_sizes}
 use Rattle.capnp_widening.proofs.Copied.{CopiedSoFar, copied_none, copied_next, copied_all}
 use Rattle.capnp_widening.proofs.moves.copy_words.Goals as goal
 

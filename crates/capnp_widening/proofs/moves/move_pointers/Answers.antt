@@ -4,7 +4,7 @@ use Rattle.capnp_units.specs.Segments.{words_in}
 use Rattle.capnp_wire.specs.Places.{place_view}
 use Rattle.capnp_object.specs.declared.place.Place as code
 use Rattle.capnp_widening.specs.Moves.{HasPads, pads_of, pad_from, MovesValue}
-use Rattle.capnp_widening.proofs.Standing.{still_some, sizes_grow, sizes_total, part_there, pads_stay}
+use Rattle.capnp_widening.proofs.lemmas.Standing.{still_some, sizes_grow, sizes_total, part_there, pads_stay}
 use Rattle.capnp_widening.proofs.MovedRows.{RowSoFar, row_none, row_next, row_all, one_pad}
 use Rattle.capnp_widening.proofs.moves.move_pointers.Goals as goal
 

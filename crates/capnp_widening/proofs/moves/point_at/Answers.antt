@@ -7,7 +7,7 @@ use Rattle.capnp_object.specs.declared.place.Place as code
 use Rattle.capnp_footprints.specs.Writes.{with_words}
 use Rattle.capnp_footprints.specs.NewObjects.{far_pointer, double_far_pointer}
 use Rattle.capnp_widening.specs.Moves.{HasPads, pointed_at}
-use Rattle.capnp_widening.proofs.Standing.{still_written, part_there, written_then}
+use Rattle.capnp_widening.proofs.lemmas.Standing.{still_written, part_there, written_then}
 use Rattle.capnp_widening.proofs.moves.point_at.Goals as goal
 
 pub write_word-requires-in-Some-2 : goal.write_word-requires-in-Some-2

@@ -4,7 +4,7 @@ use Rattle.capnp_units.specs.Segments.{words_in}
 use Rattle.capnp_wire.specs.Places.{place_view}
 use Rattle.capnp_widening.specs.Widened.{GrowthRefused}
 use Rattle.capnp_widening.specs.WidenedLists.{list_there, WidensList, IsWideList, words_wanted, ListRefused}
-use Rattle.capnp_widening.proofs.GotStructs.{ok_then, err_then}
+use Rattle.capnp_widening.proofs.lemmas.GotStructs.{ok_then, err_then}
 use Rattle.capnp_widening.proofs.KnownLists.{known, leads_unless_null, known_short}
 use Rattle.capnp_widening.proofs.WideLists.{null_stays, wide_list_stays, most_list_widens, null_got, null_of_structs, wide_got, new_got, refused_list, nothing_taken, list_takes, if_ok_then}
 use Rattle.capnp_widening.proofs.Bounds.{on_ok, on_err, list_takes_none, list_takes_most, list_lacks, whole_unless_null}

@@ -8,16 +8,16 @@ use Rattle.capnp_units.specs.declared.sizes.ElementSize.TheVariants.{InlineCompo
 use Rattle.capnp_wire.specs.Places.{place_view}
 use Rattle.capnp_footprints.specs.NewObjects.{new_structs, Fits, pointed}
 use Rattle.capnp_footprints.specs.Writes.{with_words}
-use Rattle.capnp_copy.proofs.Taken.{linked_sizes, bounds_so}
+use Rattle.capnp_copy.proofs.lemmas.Taken.{linked_sizes, bounds_so}
 use Rattle.capnp_copy.specs.Allocations.{TakesAtMost}
 use Rattle.capnp_copy.specs.declared.init.ListPlace.{ListPlace}
 use Rattle.capnp_widening.proofs.Bounds.{on_err, wider_bounds}
-use Rattle.capnp_widening.proofs.WholeLists.{structs_whole}
+use Rattle.capnp_widening.proofs.lemmas.WholeLists.{structs_whole}
 use Rattle.capnp_copy.specs.Rooms.{begin_of, linked}
 use Rattle.capnp_copy.specs.Values.{LeadsTo}
 use Rattle.capnp_widening.specs.MovedElements.{least_pointers}
 use Rattle.capnp_widening.specs.Widened.{WiderRoom, TakesNear, NoWiderRoom, GrowthRefused}
-use Rattle.capnp_widening.proofs.Standing.{still_some, sizes_grow, sizes_total, written_sizes, part_there, front_there, has_word, pads_stay, pad_stays, still_linked, within_total}
+use Rattle.capnp_widening.proofs.lemmas.Standing.{still_some, sizes_grow, sizes_total, written_sizes, part_there, front_there, has_word, pads_stay, pad_stays, still_linked, within_total}
 use Rattle.capnp_widening.proofs.KnownLists.{known, known_trees, known_list}
 use Rattle.capnp_widening.proofs.WiderRooms.{wider_addressed, wider_words, wider_extends, linked_leads}
 use Rattle.capnp_widening.proofs.WidenedLists.{list_widened, some_list, near_so}

@@ -5,7 +5,7 @@ use Rattle.capnp_object.specs.Objects.{object_at}
 use Rattle.capnp_model.specs.Trees.{structure, resized, none}
 use Rattle.capnp_copy.specs.Values.{Becomes}
 use Rattle.capnp_widening.specs.Widened.{Widens, GrowthRefused, StructRefused}
-use Rattle.capnp_widening.proofs.GotStructs.{struct_there, null_there, null_is_not_wide, narrow_is_not_wide, null_widens, wide_widens, most_widens, ok_then, err_then, refused_widening}
+use Rattle.capnp_widening.proofs.lemmas.GotStructs.{struct_there, null_there, null_is_not_wide, narrow_is_not_wide, null_widens, wide_widens, most_widens, ok_then, err_then, refused_widening}
 use Rattle.capnp_widening.proofs.Bounds.{both_ok, on_err, null_takes, wide_takes, struct_takes, null_lacks, struct_lacks}
 use Rattle.capnp_widening.proofs.structs.get_struct.Goals.{else-data_words-size-via-then-data_words-size+else-pointers-size, else-data_words-size-via-else-data_words-size}
 use Rattle.capnp_widening.proofs.structs.get_struct.Goals as goal

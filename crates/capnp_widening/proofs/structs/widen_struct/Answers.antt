@@ -10,9 +10,9 @@ use Rattle.capnp_copy.specs.Rooms.{begin_of, linked}
 use Rattle.capnp_copy.specs.Values.{LeadsTo}
 use Rattle.capnp_widening.specs.Moves.{CopiesWords, MovesRow, pads_of}
 use Rattle.capnp_widening.specs.Widened.{WiderRoom, TakesNear, NoWiderRoom}
-use Rattle.capnp_widening.proofs.Standing.{still_some, sizes_grow, sizes_total, part_there, front_there, has_word, pads_stay, pad_stays, still_linked, within_total}
+use Rattle.capnp_widening.proofs.lemmas.Standing.{still_some, sizes_grow, sizes_total, part_there, front_there, has_word, pads_stay, pad_stays, still_linked, within_total}
 use Rattle.capnp_widening.proofs.WiderRooms.{wider_addressed, wider_words, wider_extends, linked_leads}
-use Rattle.capnp_copy.proofs.Taken.{linked_sizes, bounds_so}
+use Rattle.capnp_copy.proofs.lemmas.Taken.{linked_sizes, bounds_so}
 use Rattle.capnp_widening.proofs.Bounds.{wider_bounds}
 use Rattle.capnp_widening.proofs.WidenedLists.{near_so}
 use Rattle.capnp_widening.proofs.WidenedStructs.{struct_widened, some_pointer}

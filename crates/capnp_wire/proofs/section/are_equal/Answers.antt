@@ -4,7 +4,7 @@ use Rattle.std.specs.Bool.{OnTrue, OnFalse}
 use Rattle.std.proofs.lemmas.Bool.Decides.{Decides-eqb}
 use Rattle.std.proofs.lemmas.Slice.Eq.{slice_eq-Decides}
 use Rattle.capnp_model.specs.Sections.{number_of}
-use Rattle.capnp_wire.proofs.Bytes.{bytes_of_number}
+use Rattle.capnp_wire.proofs.lemmas.Bytes.{bytes_of_number}
 use Rattle.capnp_wire.proofs.section.are_equal.Goals as goal
 
 on_true : (r : Bool) (P : Type 0) → (r ≡ true → P) → OnTrue r P

@@ -1,6 +1,6 @@
 -- Bytes are the numbers in theirs.
 use Rattle.std.proofs.Common.{sym, arith}
-use Rattle.capnp_wire.proofs.Bytes.{bytes_of_front}
+use Rattle.capnp_wire.proofs.lemmas.Bytes.{bytes_of_front}
 use Rattle.capnp_wire.proofs.section.front_of.Goals as goal
 
 pub returns : goal.returns

@@ -1,5 +1,5 @@
 use Rattle.std.proofs.Common.{arith, sym}
-use Rattle.capnp_writing.proofs.WriteLemmas.{length-there, length-gone, is-segment}
+use Rattle.capnp_writing.proofs.lemmas.WriteLemmas.{length-there, length-gone, is-segment}
 use Rattle.capnp_writing.proofs.messages.length_of.Goals as goal
 
 pub returns-in-Some-clause-length : goal.returns-in-Some-clause-length

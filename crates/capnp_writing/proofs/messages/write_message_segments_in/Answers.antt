@@ -5,7 +5,7 @@ use Rattle.std.proofs.lemmas.Result.{err_from_is_err_and}
 use Rattle.capnp_model.specs.Messages.{spelled}
 use Rattle.capnp_units.specs.Segments.{whole_words, words_in}
 use Rattle.capnp_io.specs.Writes.{sink_seen}
-use Rattle.capnp_writing.proofs.WriteLemmas.{whole-text}
+use Rattle.capnp_writing.proofs.lemmas.WriteLemmas.{whole-text}
 use Rattle.capnp_writing.proofs.WritesLemmas.{writes-text, writes-stop, writes-then, writes-or}
 use Rattle.capnp_writing.proofs.messages.write_message_segments_in.Goals as goal
 

@@ -1,5 +1,5 @@
 use Rattle.std.proofs.Common.{arith}
-use Rattle.capnp_stream.proofs.WordLemmas.{frame-length}
+use Rattle.capnp_stream.proofs.lemmas.WordLemmas.{frame-length}
 use Rattle.capnp_writing.proofs.messages.write_segment.Goals as goal
 
 pub returns-clause-size : goal.returns-clause-size

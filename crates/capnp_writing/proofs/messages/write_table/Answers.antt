@@ -2,7 +2,7 @@ use Rattle.std.proofs.Common.{arith, ◌≡◌, [], ◌∷◌, ℕ, List, Err, O
 use Rattle.std.proofs.lemmas.Result.{err_from_is_err_and}
 use Rattle.capnp_units.specs.Segments.{whole_words}
 use Rattle.capnp_io.specs.Writes.{Writes, sink_seen}
-use Rattle.capnp_writing.proofs.WriteLemmas.{word-bytes}
+use Rattle.capnp_writing.proofs.lemmas.WriteLemmas.{word-bytes}
 use Rattle.capnp_writing.proofs.WritesLemmas.{writes-stop, writes-then}
 use Rattle.capnp_writing.proofs.messages.write_table.Goals as goal
 

@@ -1,8 +1,8 @@
 -- The words that are there lie inside their segment.
 use Rattle.std.proofs.Common.{List, ℕ, ◌∙◌}
 use Rattle.capnp_backing.specs.Grounds.{backing_bytes}
-use Rattle.capnp_object.proofs.Words.{words_end, none_there}
-use Rattle.capnp_backing.proofs.Bytes.{section_there}
+use Rattle.capnp_object.proofs.lemmas.Words.{words_end, none_there}
+use Rattle.capnp_backing.proofs.lemmas.Bytes.{section_there}
 use Rattle.capnp_backing.proofs.backing.Backing.lend.Goals as goal
 
 pub words_of-requires : goal.words_of-requires

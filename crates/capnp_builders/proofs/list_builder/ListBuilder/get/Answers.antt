@@ -2,7 +2,7 @@ use Rattle.std.proofs.Common.{◌≡◌, ◌*◌, ℕ, ap, ◌∙◌, rules}
 use Rattle.capnp_model.specs.Sections.{bits_at}
 use Rattle.capnp_model.specs.Trees.{size_bits}
 use Rattle.capnp_units.specs.Sizes.{size_number}
-use Rattle.capnp_copy.proofs.FieldLaws.{bits_again}
+use Rattle.capnp_copy.proofs.lemmas.FieldLaws.{bits_again}
 use Rattle.capnp_builders.proofs.list_builder.ListBuilder.get.Goals as goal
 
 pub returns : goal.returns

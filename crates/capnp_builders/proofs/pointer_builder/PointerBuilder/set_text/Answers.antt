@@ -2,7 +2,7 @@ use Rattle.std.proofs.Common.{◌+◌, ◌*◌, length}
 use Rattle.capnp_model.specs.Sections.{number_of, words_for}
 use Rattle.capnp_model.specs.Trees.{plain_list}
 use Rattle.capnp_builders.specs.Making.{state_of}
-use Rattle.capnp_builders.proofs.Makes.{makes_if, not_set_if}
+use Rattle.capnp_builders.proofs.lemmas.Makes.{makes_if, not_set_if}
 use Rattle.capnp_builders.proofs.pointer_builder.PointerBuilder.set_text.Goals as goal
 
 pub returns-clause-made : goal.returns-clause-made

@@ -1,7 +1,7 @@
 use Rattle.std.proofs.Common.{◌∙◌, ap, Bool, not}
 use Rattle.std.specs.Bool.{beq}
 use Rattle.capnp_model.specs.Sections.{bits_at}
-use Rattle.capnp_copy.proofs.FieldLaws.{masked_back, bits_below}
+use Rattle.capnp_copy.proofs.lemmas.FieldLaws.{masked_back, bits_below}
 use Rattle.capnp_builders.proofs.struct_builder.StructBuilder.get_bool_field_mask.Goals as goal
 
 pub returns : goal.returns

@@ -1,6 +1,6 @@
 use Rattle.std.proofs.Common.{◌≡◌, ℕ, ◌*◌, ap, ◌∙◌, rules}
 use Rattle.capnp_model.specs.Sections.{bits_at}
-use Rattle.capnp_copy.proofs.FieldLaws.{bits_again}
+use Rattle.capnp_copy.proofs.lemmas.FieldLaws.{bits_again}
 use Rattle.capnp_builders.proofs.struct_builder.StructBuilder.get_data_field.Goals as goal
 
 pub returns : goal.returns

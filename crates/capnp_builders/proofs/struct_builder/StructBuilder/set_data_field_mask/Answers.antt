@@ -1,4 +1,4 @@
-use Rattle.capnp_copy.proofs.FieldLaws.{sets_alike}
+use Rattle.capnp_copy.proofs.lemmas.FieldLaws.{sets_alike}
 use Rattle.capnp_builders.proofs.struct_builder.StructBuilder.set_data_field_mask.Goals as goal
 
 pub returns-clause-sets : goal.returns-clause-sets

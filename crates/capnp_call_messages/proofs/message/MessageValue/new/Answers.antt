@@ -4,7 +4,7 @@ use Rattle.capnp_model.specs.Bytes.{bytes_of_words}
 use Rattle.capnp_canonical.specs.Writes.{words_view}
 use Rattle.capnp_stream.specs.Buffers.{found_segments}
 use Rattle.capnp_call_messages.specs.Copied.{canonical_words_in}
-use Rattle.capnp_call_messages.proofs.Kept.{kept_decodes, kept_is, not_read, not_framed}
+use Rattle.capnp_call_messages.proofs.lemmas.Kept.{kept_decodes, kept_is, not_read, not_framed}
 use Rattle.capnp_call_messages.proofs.message.MessageValue.new.Goals as goal
 
 pub returns-in_default-clause-value : goal.returns-in_default-clause-value

@@ -3,7 +3,7 @@ use Rattle.std.specs.List.{list_any}
 use Rattle.std.proofs.lemmas.Bool.Decides.{nat_tests}
 use Rattle.capnp_model.specs.Compatible.{same_names}
 use Rattle.capnp_model.specs.Schemas.{Schema}
-use Rattle.capnp_model.proofs.KeptRules.{and_left, and_right}
+use Rattle.capnp_model.proofs.lemmas.KeptRules.{and_left, and_right}
 use Rattle.capnp_compatible.proofs.reached.Reached.know.Goals as goal
 
 same_number : (a b : ℕ) → (a == b) ≡ true → a ≡ b

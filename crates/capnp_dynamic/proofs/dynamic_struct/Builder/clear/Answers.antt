@@ -1,5 +1,5 @@
 use Rattle.capnp_units.specs.Segments.{words_in}
-use Rattle.capnp_dynamic.proofs.Ready.{field_inside, there_after}
+use Rattle.capnp_dynamic.proofs.lemmas.Ready.{field_inside, there_after}
 use Rattle.capnp_dynamic.proofs.dynamic_struct.Builder.clear.Goals as goal
 
 pub clear_field-requires-clause-inside : goal.clear_field-requires-clause-inside

@@ -1,6 +1,6 @@
 use Rattle.capnp_units.specs.Segments.{words_in}
-use Rattle.capnp_dynamic.proofs.Grown.{there_grown}
-use Rattle.capnp_dynamic.proofs.Ready.{field_inside}
+use Rattle.capnp_dynamic.proofs.lemmas.Grown.{there_grown}
+use Rattle.capnp_dynamic.proofs.lemmas.Ready.{field_inside}
 use Rattle.capnp_dynamic.proofs.dynamic_struct.Builder.init_struct.Goals as goal
 
 pub init_slot-requires-clause-inside : goal.init_slot-requires-clause-inside

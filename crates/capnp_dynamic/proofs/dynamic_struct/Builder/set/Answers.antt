@@ -1,7 +1,7 @@
 use Rattle.std.proofs.Common.{refl}
 use Rattle.capnp_units.specs.Segments.{words_in}
-use Rattle.capnp_dynamic.proofs.Grown.{there_grown}
-use Rattle.capnp_dynamic.proofs.Ready.{field_inside}
+use Rattle.capnp_dynamic.proofs.lemmas.Grown.{there_grown}
+use Rattle.capnp_dynamic.proofs.lemmas.Ready.{field_inside}
 use Rattle.capnp_dynamic.proofs.dynamic_struct.Builder.set.Goals as goal
 
 pub set_value-requires-clause-inside : goal.set_value-requires-clause-inside

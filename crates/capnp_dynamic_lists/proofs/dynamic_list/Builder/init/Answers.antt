@@ -1,5 +1,5 @@
 use Rattle.capnp_units.specs.Segments.{words_in}
-use Rattle.capnp_dynamic_lists.proofs.Fronts.{list_grown}
+use Rattle.capnp_dynamic_lists.proofs.lemmas.Fronts.{list_grown}
 use Rattle.capnp_dynamic_lists.proofs.dynamic_list.Builder.init.Goals as goal
 
 pub returns-clause-ready : goal.returns-clause-ready

@@ -4,7 +4,7 @@ use Rattle.capnp_model.specs.Accepted.{schema_of}
 use Rattle.capnp_units.specs.Segments.{words_in}
 use Rattle.capnp_records.specs.Sets.{nodes_of}
 use Rattle.capnp_queries.specs.Types.{ty_of}
-use Rattle.capnp_dynamic_lists.proofs.Fronts.{list_grown}
+use Rattle.capnp_dynamic_lists.proofs.lemmas.Fronts.{list_grown}
 use Rattle.capnp_dynamic_lists.proofs.AnyValues.{are_structs}
 use Rattle.capnp_dynamic_lists.proofs.dynamic_list.Builder.set.Goals as goal
 

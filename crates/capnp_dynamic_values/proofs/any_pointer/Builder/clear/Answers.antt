@@ -1,6 +1,6 @@
 use Rattle.capnp_units.specs.Segments.{words_in}
 use Rattle.capnp_wire.specs.Places.{place_view}
-use Rattle.capnp_copy.proofs.RoomLaws.{words_stay}
+use Rattle.capnp_copy.proofs.lemmas.RoomLaws.{words_stay}
 use Rattle.capnp_dynamic_values.proofs.any_pointer.Builder.clear.Goals as goal
 
 pub returns-clause-ready : goal.returns-clause-ready

@@ -1,6 +1,6 @@
 use Rattle.std.proofs.Common.{ap, ◌∙◌, min, length, take, drop, ◌++◌}
 use Rattle.capnp_io.specs.Adapters.{window_bytes, source_remaining}
-use Rattle.capnp_io.proofs.KnownLemmas.{Consumes-of_window}
+use Rattle.capnp_io.proofs.lemmas.KnownLemmas.{Consumes-of_window}
 use Rattle.capnp_io.proofs.adapters.SourceRead.read.Goals as goal
 
 pub returns-clause-bytes : goal.returns-clause-bytes

@@ -1,6 +1,6 @@
 use Rattle.std.proofs.Common.{◌-◌, ◌≤◌, arith, drop}
 use Rattle.std.proofs.lemmas.List.{length-take}
-use Rattle.capnp_io.proofs.KnownLemmas.{slice_range-drop}
+use Rattle.capnp_io.proofs.lemmas.KnownLemmas.{slice_range-drop}
 use Rattle.capnp_io.proofs.adapters.Window.consume.Goals as goal
 
 pub returns : goal.returns

@@ -1,7 +1,7 @@
 use Rattle.std.proofs.Common.{sym, subst, rules, arith, inr, take, ◌++◌, length, ◌<◌, length-append, length-take-le}
 use Rattle.std.specs.Io.KnownBytes.{Consumes}
 use Rattle.std.proofs.KnownBytes.{Consumes-trans}
-use Rattle.capnp_io.proofs.Filling.{take-put_mid_more}
+use Rattle.capnp_io.proofs.lemmas.Filling.{take-put_mid_more}
 use Rattle.capnp_io.proofs.traits.Read.read_exact.Goals as goal
 
 pub loop-at-preserved : goal.loop-at-preserved

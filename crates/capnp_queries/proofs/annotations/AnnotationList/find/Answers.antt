@@ -2,7 +2,7 @@ use Rattle.std.proofs.Common.{◌≡◌, ◌≢◌, ◌==◌, ◌+◌, ℕ, Bool
 use Rattle.std.specs.Prelude.{find}
 use Rattle.std.proofs.lemmas.Bool.Decides.{nat_tests}
 use Rattle.capnp_records.specs.declared.node.AnnotationRecord.{AnnotationRecord}
-use Rattle.capnp_queries.proofs.Records.{rest_from}
+use Rattle.capnp_queries.proofs.lemmas.Records.{rest_from}
 use Rattle.capnp_queries.proofs.annotations.AnnotationList.find.Goals as goal
 
 found : (id : ℕ) (x : AnnotationRecord) (xs : List AnnotationRecord) (b : Bool) → (x.id == id) ≡ b → find (λ a. a.id == id) (x ∷ xs) ≡ (if b then Some x else find (λ a. a.id == id) xs)

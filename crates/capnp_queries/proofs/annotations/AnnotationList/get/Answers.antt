@@ -2,7 +2,7 @@ use Rattle.std.proofs.Common.{◌≡◌}
 use Rattle.capnp_model.specs.Accepted.{names_its_sort}
 use Rattle.capnp_records.specs.NodeViews.{annotation_of}
 use Rattle.capnp_records.specs.Sets.{nodes_of}
-use Rattle.capnp_queries.proofs.Records.{item_passes, item_there}
+use Rattle.capnp_queries.proofs.lemmas.Records.{item_passes, item_there}
 use Rattle.capnp_queries.proofs.annotations.AnnotationList.get.Goals as goal
 
 pub invariant_of-result : goal.invariant_of-result

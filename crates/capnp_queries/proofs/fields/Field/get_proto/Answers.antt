@@ -1,7 +1,7 @@
 use Rattle.std.proofs.Common.{◌≡◌, ◌<◌, length, sym, ◌∙◌, subst, ℕ, arith}
 use Rattle.capnp_records.specs.NodeViews.{struct_of, field_of}
 use Rattle.capnp_queries.specs.Structs.{nodes_around, id_of}
-use Rattle.capnp_queries.proofs.Records.{count_is, length_map}
+use Rattle.capnp_queries.proofs.lemmas.Records.{count_is, length_map}
 use Rattle.capnp_queries.proofs.FieldRecords.{field_known}
 use Rattle.capnp_queries.proofs.fields.Field.get_proto.Goals as goal
 

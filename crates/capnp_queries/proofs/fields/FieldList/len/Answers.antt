@@ -1,7 +1,7 @@
 use Rattle.std.proofs.Common.{sym, ◌∙◌}
 use Rattle.capnp_records.specs.NodeViews.{struct_of, field_of}
 use Rattle.capnp_queries.specs.Structs.{nodes_around, id_of}
-use Rattle.capnp_queries.proofs.Records.{count_is, length_map}
+use Rattle.capnp_queries.proofs.lemmas.Records.{count_is, length_map}
 use Rattle.capnp_queries.proofs.fields.FieldList.len.Goals as goal
 
 pub returns : goal.returns

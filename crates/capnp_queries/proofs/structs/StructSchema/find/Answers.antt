@@ -4,8 +4,8 @@ use Rattle.capnp_records.specs.NodeViews.{struct_of, field_of}
 use Rattle.capnp_queries.specs.Fields.{field_count, place_of_name}
 use Rattle.capnp_queries.specs.Names.{place_named}
 use Rattle.capnp_queries.specs.Structs.{nodes_around, id_of, fields_of_struct}
-use Rattle.capnp_queries.proofs.Records.{count_is}
-use Rattle.capnp_queries.proofs.Places.{name_found, index_inside}
+use Rattle.capnp_queries.proofs.lemmas.Records.{count_is}
+use Rattle.capnp_queries.proofs.lemmas.Places.{name_found, index_inside}
 use Rattle.capnp_queries.proofs.structs.StructSchema.find.Goals as goal
 
 pub overflow_cast-index : goal.overflow_cast-index

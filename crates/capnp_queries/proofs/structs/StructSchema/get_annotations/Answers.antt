@@ -3,7 +3,7 @@ use Rattle.capnp_records.specs.NodeViews.{node_of, annotation_of}
 use Rattle.capnp_records.specs.declared.node.AnnotationRecord.{AnnotationRecord}
 use Rattle.capnp_queries.specs.Fields.{are_named}
 use Rattle.capnp_queries.specs.Structs.{nodes_around, id_of}
-use Rattle.capnp_queries.proofs.Records.{node_named, few_annotations}
+use Rattle.capnp_queries.proofs.lemmas.Records.{node_named, few_annotations}
 use Rattle.capnp_queries.proofs.structs.StructSchema.get_annotations.Goals as goal
 
 pub new-requires-clause-named : goal.new-requires-clause-named

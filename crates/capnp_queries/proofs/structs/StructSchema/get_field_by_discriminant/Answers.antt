@@ -1,7 +1,7 @@
 use Rattle.std.proofs.Common.{◌≡◌, ◌≤◌, ◌<◌, ℕ, List, length, slice_index, Some, sym, ◌∙◌, ap, subst, arith}
 use Rattle.capnp_queries.specs.Fields.{is_value, place_of_member}
 use Rattle.capnp_queries.specs.Structs.{fields_of_struct}
-use Rattle.capnp_queries.proofs.Places.{index_inside}
+use Rattle.capnp_queries.proofs.lemmas.Places.{index_inside}
 use Rattle.capnp_queries.proofs.structs.StructSchema.get_field_by_discriminant.Goals as goal
 
 pub returns-then-discriminant-members : goal.returns-then-discriminant-members

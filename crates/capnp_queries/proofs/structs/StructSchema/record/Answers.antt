@@ -1,6 +1,6 @@
 use Rattle.capnp_records.specs.NodeViews.{struct_of}
 use Rattle.capnp_queries.specs.Structs.{nodes_around, id_of}
-use Rattle.capnp_queries.proofs.Records.{record_known}
+use Rattle.capnp_queries.proofs.lemmas.Records.{record_known}
 use Rattle.capnp_queries.proofs.structs.StructSchema.record.Goals as goal
 
 pub returns : goal.returns

@@ -1,5 +1,5 @@
 use Rattle.std.proofs.Common.{◌<◌, ℕ, sym, ◌∙◌, subst}
-use Rattle.capnp_model.proofs.SoundRules.{found_id}
+use Rattle.capnp_model.proofs.lemmas.SoundRules.{found_id}
 use Rattle.capnp_records.specs.NodeViews.{node_of}
 use Rattle.capnp_records.specs.Sets.{nodes_of}
 use Rattle.capnp_records.proofs.FieldPlaces.{no_node, node_placed, get_at, placed_inside, placed_found}

@@ -1,7 +1,7 @@
 use Rattle.std.proofs.Common.{map, sym, ◌∙◌, ap}
 use Rattle.std.specs.List.{list_all}
 use Rattle.capnp_model.specs.Accepted.{is_short}
-use Rattle.capnp_model.proofs.SoundRules.{rules_kept}
+use Rattle.capnp_model.proofs.lemmas.SoundRules.{rules_kept}
 use Rattle.capnp_records.specs.NodeViews.{node_of}
 use Rattle.capnp_records.proofs.set.SchemaSet.new.Goals as goal
 

@@ -1,7 +1,7 @@
 use Rattle.std.proofs.Common.{arith, ◌*◌, sym, subst, sum}
 use Rattle.std.specs.Prelude.{All}
 use Rattle.capnp_stream.specs.Segments.{lengths_of}
-use Rattle.capnp_stream.proofs.WordLemmas.{IsWithin, ranges_from-within}
+use Rattle.capnp_stream.proofs.lemmas.WordLemmas.{IsWithin, ranges_from-within}
 use Rattle.capnp_stream.proofs.buffers.BufferSegments.behind_table.Goals as goal
 
 pub invariant_of-result : goal.invariant_of-result

@@ -2,7 +2,7 @@ use Rattle.std.proofs.Common.{arith, subst, ◌≡◌, ◌*◌, ◌/◌, ◌⊎�
 use Rattle.std.proofs.lemmas.Result.{IfOk-weaker, IfErr-weaker}
 use Rattle.capnp_io.specs.Streams.{ConsumesFewer, EndsBefore}
 use Rattle.capnp_units.specs.declared.kinds.ErrorKind.TheVariants.{FailedToFillTheWholeBuffer}
-use Rattle.capnp_stream.proofs.PieceLemmas.{plain-piece, plain-fault, plain-part}
+use Rattle.capnp_stream.proofs.lemmas.PieceLemmas.{plain-piece, plain-fault, plain-part}
 use Rattle.capnp_stream.proofs.forms.FramedMessageForm.read_piece.Goals as goal
 
 pub returns-clause-ok : goal.returns-clause-ok

@@ -1,6 +1,6 @@
 use Rattle.std.proofs.Common.{ℕ, List, arith, subst, sym}
 use Rattle.capnp_io.specs.Writes.{Writes, sink_seen}
-use Rattle.capnp_stream.proofs.PieceLemmas.{plain-bytes}
+use Rattle.capnp_stream.proofs.lemmas.PieceLemmas.{plain-bytes}
 use Rattle.capnp_stream.proofs.forms.FramedMessageForm.write_piece.Goals as goal
 
 pub returns : goal.returns

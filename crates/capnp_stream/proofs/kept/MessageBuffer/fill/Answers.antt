@@ -9,9 +9,9 @@ use Rattle.capnp_stream.specs.Frames.{IsCut, TakesBody}
 use Rattle.capnp_stream.specs.Flat.{table_lengths, table_bytes, frame_segments}
 use Rattle.capnp_stream.specs.Lent.{HoldsMessage}
 use Rattle.capnp_stream.specs.declared.flat.NoAllocSegmentTableInfo.{NoAllocSegmentTableInfo}
-use Rattle.capnp_stream.proofs.WordLemmas.{from_le_bytes-front}
+use Rattle.capnp_stream.proofs.lemmas.WordLemmas.{from_le_bytes-front}
 use Rattle.capnp_stream.proofs.FlatLemmas.{table-holds, table-grown}
-use Rattle.capnp_stream.proofs.FrameLemmas.{no-part, large-part, large-fault, table-part, table-longer, body-fault, body-part, message-of_body}
+use Rattle.capnp_stream.proofs.lemmas.FrameLemmas.{no-part, large-part, large-fault, table-part, table-longer, body-fault, body-part, message-of_body}
 use Rattle.capnp_stream.proofs.kept.MessageBuffer.fill.Goals as goal
 
 pub returns-in_err-grow_to-clause-part : goal.returns-in_err-grow_to-clause-part

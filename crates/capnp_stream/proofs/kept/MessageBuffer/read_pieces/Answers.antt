@@ -1,7 +1,7 @@
 use Rattle.std.proofs.lemmas.Result.{err_from_is_err_and}
 use Rattle.std.proofs.Common.{◌∙◌, subst}
 use Rattle.capnp_stream.specs.Ranges.{AreBytes}
-use Rattle.capnp_stream.proofs.FrameLemmas.{TakesMessage-of_kept}
+use Rattle.capnp_stream.proofs.lemmas.FrameLemmas.{TakesMessage-of_kept}
 use Rattle.capnp_stream.proofs.BufferLemmas.{described-spells, described-writable}
 use Rattle.capnp_stream.proofs.ReadLemmas.{tries-failed}
 use Rattle.capnp_stream.proofs.kept.MessageBuffer.read_pieces.Goals as goal

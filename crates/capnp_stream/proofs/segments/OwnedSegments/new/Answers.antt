@@ -1,6 +1,6 @@
 use Rattle.std.proofs.Common.{arith, subst, sym, length}
 use Rattle.std.specs.Prelude.{All}
-use Rattle.capnp_stream.proofs.WordLemmas.{IsWithin, ranges_from-within}
+use Rattle.capnp_stream.proofs.lemmas.WordLemmas.{IsWithin, ranges_from-within}
 use Rattle.capnp_stream.proofs.segments.OwnedSegments.new.Goals as goal
 
 pub invariant_of-result : goal.invariant_of-result

@@ -1,6 +1,6 @@
 use Rattle.std.proofs.Common.{◌≡◌, ◌+◌, ◌∷◌, [], ◌++◌, sym, subst, List, ℕ, sum}
 use Rattle.capnp_stream.specs.Ranges.{range_lengths, ranges_from}
-use Rattle.capnp_stream.proofs.WordLemmas.{joined-push, total-push}
+use Rattle.capnp_stream.proofs.lemmas.WordLemmas.{joined-push, total-push}
 use Rattle.capnp_stream.proofs.segments.SegmentLengthsBuilder.push_within.Goals as goal
 
 pub invariant_of-self : goal.invariant_of-self

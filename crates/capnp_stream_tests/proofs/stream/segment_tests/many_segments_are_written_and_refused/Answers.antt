@@ -1,5 +1,5 @@
 use Rattle.std.proofs.Common.{arith}
-use Rattle.capnp_writing.proofs.WriteLemmas.{copies-writable}
+use Rattle.capnp_writing.proofs.lemmas.WriteLemmas.{copies-writable}
 use Rattle.capnp_stream_tests.proofs.stream.segment_tests.many_segments_are_written_and_refused.Goals as goal
 
 pub write_message_segments-requires : goal.write_message_segments-requires

@@ -12,10 +12,10 @@ use Rattle.capnp_queries.specs.Fields.{entry_in}
 use Rattle.capnp_queries.specs.declared.slots.FieldPlace.TheVariants as place
 use Rattle.capnp_values.specs.Sources.{pointer_seen, struct_seen, masked_bits}
 use Rattle.capnp_values.specs.Shown.{Shown, a_struct, number_shown, slot_opened}
-use Rattle.capnp_values.proofs.GoodDefaults.{good_default}
+use Rattle.capnp_values.proofs.lemmas.GoodDefaults.{good_default}
 use Rattle.capnp_values.proofs.FieldKinds.{body_said, shown_by_body}
 use Rattle.capnp_values.proofs.Named.{pointer_type}
-use Rattle.capnp_values.proofs.PlainDefaults.{default_fits}
+use Rattle.capnp_values.proofs.lemmas.PlainDefaults.{default_fits}
 use Rattle.capnp_values.proofs.dynamic_struct.Reader.get.Goals as goal
 
 abbrev answered : Shown → Result Shown Kind

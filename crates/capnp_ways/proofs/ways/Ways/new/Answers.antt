@@ -9,7 +9,7 @@ use Rattle.capnp_calls.specs.declared.call.Call.{Call}
 use Rattle.capnp_calls.specs.CallViews.{call_view}
 use Rattle.capnp_ways.specs.declared.ways.FoundField.{FoundField}
 use Rattle.capnp_ways.specs.Ways.{IsWay, IsEachWay}
-use Rattle.capnp_ways.proofs.EachWay.{one_more}
+use Rattle.capnp_ways.proofs.lemmas.EachWay.{one_more}
 use Rattle.capnp_ways.proofs.ways.Ways.new.Goals as goal
 
 pub loop-call-preserved : goal.loop-call-preserved

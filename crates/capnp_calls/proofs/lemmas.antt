@@ -1,0 +1,8 @@
+pub mod SlotShown
+pub mod OneStep
+pub mod ReadableSteps
+pub mod PathAnswers
+pub mod FieldSlots
+pub mod GroupSizes
+pub mod NamedFields
+pub mod ClearedGroups

@@ -1,0 +1,84 @@
+-- A group is no larger than the struct or the group that holds it.
+use Rattle.std.proofs.Common.{◌≡◌, ℕ, zero, suc, ◌≤◌, true, false, ◌||◌, ◌==◌, Option, Some, None, List, [], ◌∷◌, length, slice_get, refl, sym, ◌∙◌, ap, subst, arith}
+use Rattle.std.specs.List.{list_any, flat_map}
+use Rattle.std.proofs.lemmas.List.Folds.{list_any-append}
+use Rattle.std.specs.Prelude.{option_map}
+use Rattle.capnp_model.specs.Schemas.{slot, group, Field as FieldNode, StructNode, FieldKind, NodeKind, struct_node, enum_node, Node, Shape, shape, group_slot, Ty, void, plain, text, blob, untyped, interface, struct, list, type_of, Value}
+use Rattle.capnp_model.specs.Accepted.{fields_of_kind, groups_of_field, groups_used, slot_body, field_body, schema_of, sizes_of, IsAccepted}
+use Rattle.capnp_model.proofs.lemmas.KeptCells.{or_right}
+use Rattle.capnp_model.proofs.lemmas.ListElements.{HasRoom}
+use Rattle.capnp_model.proofs.lemmas.SoundSizes.{more_rules, group_room}
+use Rattle.capnp_queries.specs.Structs.{nodes_around, schema_around, id_of, shape_of_struct, IsRecordOf}
+use Rattle.capnp_queries.specs.Handles.{entry_of, IsFieldRecord}
+use Rattle.capnp_queries.specs.declared.structs.StructSchema.{StructSchema}
+use Rattle.capnp_queries.specs.declared.fields.Field.{Field}
+use Rattle.capnp_queries.proofs.lemmas.Records.{struct_is}
+use Rattle.capnp_calls.specs.Slots.{words_in, pointers_in}
+use Rattle.capnp_calls.specs.Finding.{IsFieldGroup}
+use Rattle.capnp_calls.proofs.lemmas.FieldSlots.{body_is}
+
+-- ---- shapes
+
+sizes_are : (g : Shape) (words pointers : ℕ) → HasRoom g words pointers → (words_in g ≤ words) × (pointers_in g ≤ pointers)
+sizes_are (shape id w p u fs) words pointers h = h
+
+-- ---- fields
+
+equal : (n : ℕ) → (n == n) ≡ true
+equal n = grind arith
+
+-- the group of a field is used
+uses_group : (fs : List FieldNode) (i : ℕ) (r : FieldNode) (g : ℕ) → slice_get fs i ≡ Some r → r.kind ≡ group g → list_any (λ x. x == g) (flat_map (λ (f : FieldNode). groups_of_field f.kind) fs) ≡ true
+uses_group [] zero r g e k = absurd (cc e)
+uses_group [] (suc i) r g e k = absurd (cc e)
+uses_group (f ∷ fs) zero r g e k =
+    let same : f ≡ r = cc e in
+    list_any-append (λ x. x == g) (groups_of_field f.kind) (flat_map (λ (f : FieldNode). groups_of_field f.kind) fs)
+    ∙ ap (λ z. list_any (λ x. x == g) z || list_any (λ x. x == g) (flat_map (λ (f : FieldNode). groups_of_field f.kind) fs)) (ap (λ (x : FieldNode). groups_of_field x.kind) same ∙ ap groups_of_field k)
+    ∙ ap (λ b. (b || false) || list_any (λ x. x == g) (flat_map (λ (f : FieldNode). groups_of_field f.kind) fs)) (equal g)
+uses_group (f ∷ fs) (suc i) r g e k =
+    list_any-append (λ x. x == g) (groups_of_field f.kind) (flat_map (λ (f : FieldNode). groups_of_field f.kind) fs)
+    ∙ or_right (list_any (λ x. x == g) (groups_of_field f.kind)) (list_any (λ x. x == g) (flat_map (λ (f : FieldNode). groups_of_field f.kind) fs)) (uses_group fs i r g e k)
+
+never_group : (offset : ℕ) (u : Ty) (d : Option Value) (g : Shape) → slot_body offset u d ≡ group_slot g → ⊥
+never_group offset void d g h = cc h
+never_group offset (plain p) d g h = cc h
+never_group offset text d g h = cc h
+never_group offset blob d g h = cc h
+never_group offset untyped d g h = cc h
+never_group offset interface d g h = cc h
+never_group offset (struct id) d g h = cc h
+never_group offset (list ty) d g h = cc h
+
+data IsGroup (groups : ℕ → Shape) (k : FieldKind) (g : Shape) : Type 0 where
+  is_group : (id : ℕ) → k ≡ group id → groups id ≡ g → IsGroup groups k g
+
+group_kind : (groups : ℕ → Shape) (k : FieldKind) (g : Shape) → field_body groups k ≡ group_slot g → IsGroup groups k g
+group_kind groups (slot offset ty d) g h = absurd (never_group offset (type_of ty) d g h)
+group_kind groups (group id) g h = is_group id refl (cc h)
+
+pub group_is_field : (f : Field) (r : FieldNode) → IsFieldRecord f.parent f.index r → (n : StructNode) → IsRecordOf (nodes_around f.parent) (id_of f.parent) n
+    → (g : StructSchema) → nodes_around g ≡ nodes_around f.parent → option_map (λ e. e.body) (entry_of f) ≡ Some (group_slot (shape_of_struct g)) → IsFieldGroup f g
+unfolding schema_of
+group_is_field f r rec n holder g same h = by (group_kind (schema_around f.parent).shape_of r.kind (shape_of_struct g) (body_is f r (group_slot (shape_of_struct g)) rec h))
+  where
+    nodes : List Node
+    nodes = nodes_around f.parent
+
+    by : IsGroup (schema_around f.parent).shape_of r.kind (shape_of_struct g) → IsFieldGroup f g
+    by (is_group id kind shape_is) =
+        let accepted : IsAccepted nodes = f.parent.set.now.accepted in
+        let m = struct_is nodes (id_of f.parent) n holder.found in
+        let at : slice_get n.fields f.index ≡ Some r = sym (ap (λ (o : Option StructNode). slice_get (elim o as (λ (p : Option StructNode). List FieldNode) [ None ↦ [] | Some m ↦ m.fields ]) f.index) holder.found) ∙ rec.recorded in
+        let uses : list_any (λ x. x == id) (groups_used m.node) ≡ true =
+        ap (λ k. list_any (λ x. x == id) (flat_map (λ (f : FieldNode). groups_of_field f.kind) (fields_of_kind k))) m.kind ∙ uses_group n.fields f.index r id at kind in
+        let sizes : sizes_of m.node ≡ (n.words, n.pointers) = ap (λ k. elim k as (λ (x : NodeKind). ℕ × ℕ) [ struct_node s ↦ (s.words, s.pointers) | enum_node es ↦ (0, 0) ]) m.kind in
+        let small : HasRoom ((schema_of nodes).shape_of id) n.words n.pointers =
+        group_room nodes (more_rules nodes accepted) (length nodes) (id_of f.parent) m.node n.words n.pointers id m.found (ap (λ z. z.0) sizes) (ap (λ z. z.1) sizes) uses in
+        let here = sizes_are (shape_of_struct g) n.words n.pointers (subst (λ x. HasRoom x n.words n.pointers) shape_is small) in
+        record {
+          body = h;
+          words = subst (λ x. words_in (shape_of_struct g) ≤ x) (sym (ap words_in holder.shape)) here.0;
+          pointers = subst (λ x. pointers_in (shape_of_struct g) ≤ x) (sym (ap pointers_in holder.shape)) here.1;
+          nodes = same;
+        }

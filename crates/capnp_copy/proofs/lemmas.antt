@@ -1,0 +1,9 @@
+pub mod FieldLaws
+pub mod Ends
+pub mod ZeroedWords
+pub mod RoomLaws
+pub mod Making
+pub mod BlobNumbers
+pub mod ElementLaws
+pub mod Taken
+pub mod Parts

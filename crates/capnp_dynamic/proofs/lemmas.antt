@@ -1,0 +1,12 @@
+pub mod Ready
+pub mod Writes
+pub mod Deeper
+pub mod Grown
+pub mod Bytes
+pub mod GroupFields
+pub mod SetSlots
+pub mod SetPointers
+pub mod Sources
+pub mod AnyEdits
+pub mod FieldWrites
+pub mod NullMembers

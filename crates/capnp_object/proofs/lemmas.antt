@@ -1,0 +1,10 @@
+pub mod Words
+pub mod Tags
+pub mod Linking
+pub mod Walking
+pub mod NearObjects
+pub mod Paying
+pub mod Walks
+pub mod Rows
+pub mod Measuring
+pub mod LevelLaws

@@ -1,0 +1,3 @@
+pub mod ListTests
+pub mod PlainStructs
+pub mod Segments

@@ -1,0 +1,4 @@
+pub mod WordLemmas
+pub mod EarlyLemmas
+pub mod PieceLemmas
+pub mod FrameLemmas

@@ -1,0 +1,9 @@
+pub mod DefaultReadings
+pub mod ElementReadings
+pub mod FieldReadings
+pub mod GoodDefaults
+pub mod Nulls
+pub mod PlainDefaults
+pub mod Presence
+pub mod RecordReadings
+pub mod Unlimited

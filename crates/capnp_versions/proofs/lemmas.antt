@@ -1,0 +1,2 @@
+pub mod WholeValues
+pub mod WrittenValues

@@ -1,0 +1,5 @@
+pub mod Standing
+pub mod ObjectsThere
+pub mod WholeLists
+pub mod GotStructs
+pub mod CopiedNumbers

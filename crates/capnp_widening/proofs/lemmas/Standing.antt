@@ -1,0 +1,176 @@
+-- Words that stay where they are, and words that are written one behind the other.
+use Rattle.std.proofs.Common.{◌≡◌, ℕ, zero, suc, ◌+◌, ◌-◌, ◌*◌, ◌<◌, ◌≤◌, true, false, List, [], ◌∷◌, ◌++◌, length, map, Option, Some, None, refl, ap, sym, ◌∙◌, subst, arith}
+use Rattle.std.specs.List.{slice_get}
+use Rattle.std.specs.Option.{is_some}
+use Rattle.std.proofs.lemmas.Bool.{leb-true}
+use Rattle.capnp_model.specs.Segments.{Segments, Place, place, after, word_at, words_at}
+use Rattle.capnp_model.specs.Coverage.{Grows}
+use Rattle.capnp_model.proofs.lemmas.Chaining.{some_is, bind_some, provided_some}
+use Rattle.capnp_model.proofs.lemmas.Locality.{word_was}
+use Rattle.capnp_footprints.specs.Writes.{spliced, spliced_in, with_words, segment_end}
+use Rattle.capnp_footprints.proofs.lemmas.Spans.{words_front, words_back}
+use Rattle.capnp_footprints.proofs.lemmas.Rows.{words_grown, after_none}
+use Rattle.capnp_footprints.proofs.lemmas.Kept.{words_length}
+use Rattle.capnp_footprints.proofs.lemmas.Splices.{spliced_length, spliced_nothing, splice_grows}
+use Rattle.capnp_wire.specs.Places.{place_view}
+use Rattle.capnp_object.specs.declared.place.Place as code
+use Rattle.capnp_copy.specs.Allocations.{total_words}
+use Rattle.capnp_copy.specs.Rooms.{HasPad, linked, slot_word}
+use Rattle.capnp_copy.specs.declared.room.Room.{Room}
+use Rattle.capnp_copy.specs.declared.room.Room.TheVariants.{Here, Near, Far}
+use Rattle.capnp_footprints.specs.NewObjects.{far_pointer, double_far_pointer}
+use Rattle.capnp_widening.specs.Moves.{HasPads, pointed_at, offset_to}
+
+-- ---- what is there
+
+pub some_of : (s : Segments) (p : Place) (n : ℕ) → is_some (words_at s p n) ≡ true → (ws : List ℕ) × (words_at s p n ≡ Some ws)
+some_of s p n e = by_cases (words_at s p n) refl
+  where
+    by_cases : (o : Option (List ℕ)) → words_at s p n ≡ o → (ws : List ℕ) × (words_at s p n ≡ Some ws)
+    by_cases (Some ws) f = (ws, f)
+    by_cases None f = absurd (let g : is_some (words_at s p n) ≡ false = ap is_some f in let h : true ≡ false = sym e ∙ g in cc)
+
+pub one_word : (s : Segments) (p : Place) → is_some (words_at s p 1) ≡ true → (w : ℕ) × (word_at s p ≡ Some w)
+one_word s p e = let x = some_of s p 1 e in one x.0 x.1 (words_length s p 1 x.0 x.1)
+  where
+    one : (ws : List ℕ) → words_at s p 1 ≡ Some ws → length ws ≡ 1 → (w : ℕ) × (word_at s p ≡ Some w)
+    one [] f l = absurd (omega (arith, l))
+    one (w ∷ []) f l = (w, word_was s p w f)
+    one (a ∷ (b ∷ ws)) f l = absurd (omega (arith, l))
+
+pub still_some : (s u : Segments) (p : Place) (n : ℕ) → Grows s u → is_some (words_at s p n) ≡ true → is_some (words_at u p n) ≡ true
+still_some s u p n g e = let x = some_of s p n e in let y = words_grown s u p n x.0 g x.1 in ap is_some y.1
+
+pub sizes_grow : (s u : Segments) → map length u ≡ map length s → Grows s u
+sizes_grow [] u e i xs f = absurd cc
+sizes_grow (ws ∷ s) [] e i xs f = absurd cc
+sizes_grow (ws ∷ s) (vs ∷ u) e zero xs f =
+    let same : length vs ≡ length ws = cc in
+    let is : ws ≡ xs = some_is _ _ f in
+    let long : length ws ≡ length xs = ap length is in
+    (vs, refl, omega (arith, same, long))
+sizes_grow (ws ∷ s) (vs ∷ u) e (suc i) xs f = let rest : map length u ≡ map length s = cc in sizes_grow s u rest i xs f
+
+pub sizes_total : (s u : Segments) → map length u ≡ map length s → total_words u ≡ total_words s
+unfolding total_words
+sizes_total [] [] e = refl
+sizes_total [] (vs ∷ u) e = absurd cc
+sizes_total (ws ∷ s) [] e = absurd cc
+sizes_total (ws ∷ s) (vs ∷ u) e =
+    let same : length vs ≡ length ws = cc in
+    let rest : map length u ≡ map length s = cc in
+    omega (arith, same, sizes_total s u rest)
+
+pub part_there : (s : Segments) (p : Place) (i n w : ℕ) → i + n ≤ w → is_some (words_at s p w) ≡ true → is_some (words_at s (after p i) n) ≡ true
+part_there s p i n w l e =
+    let sum : w ≡ i + (n + (w - i - n)) = omega (arith, l) in
+    let x = some_of s p w e in
+    let all : words_at s p (i + (n + (w - i - n))) ≡ Some x.0 = subst (λ (k : ℕ). words_at s p k ≡ Some x.0) sum x.1 in
+    ap is_some (words_front s (after p i) n (w - i - n) _ (words_back s p i (n + (w - i - n)) x.0 all))
+
+pub still_written : (s : Segments) (q p : Place) (vs : List ℕ) (n : ℕ) → is_some (words_at s p n) ≡ true → is_some (words_at (with_words s q vs) p n) ≡ true
+still_written s q p vs n e = still_some s (with_words s q vs) p n (splice_grows s q vs) e
+
+spliced_sizes : (s : Segments) (i k : ℕ) (vs : List ℕ) → map length (spliced_in s i k vs) ≡ map length s
+spliced_sizes [] i k vs = refl
+spliced_sizes (xs ∷ s) zero k vs = ap (λ (n : ℕ). n ∷ map length s) (spliced_length k vs xs)
+spliced_sizes (xs ∷ s) (suc i) k vs = ap (λ (ns : List ℕ). length xs ∷ ns) (spliced_sizes s i k vs)
+
+pub written_sizes : (s : Segments) (p : Place) (vs : List ℕ) → map length (with_words s p vs) ≡ map length s
+unfolding with_words
+written_sizes s p vs = spliced_sizes s p.segment p.position vs
+
+-- ---- words written behind others
+
+spliced_empty : (k : ℕ) (vs : List ℕ) → spliced k vs [] ≡ []
+unfolding spliced
+spliced_empty zero vs = refl
+spliced_empty (suc k) vs = refl
+
+spliced_then : (j k : ℕ) (vs ws xs : List ℕ) → j ≡ k + length vs → spliced j ws (spliced k vs xs) ≡ spliced k (vs ++ ws) xs
+unfolding spliced
+spliced_then j k vs ws [] e = ap (spliced j ws) (spliced_empty k vs) ∙ spliced_empty j ws ∙ sym (spliced_empty k (vs ++ ws))
+spliced_then zero zero [] ws (x ∷ xs) e = refl
+spliced_then (suc j) zero [] ws (x ∷ xs) e = absurd (omega (arith, e))
+spliced_then zero zero (v ∷ vs) ws (x ∷ xs) e = absurd (omega (arith, e))
+spliced_then (suc j) zero (v ∷ vs) ws (x ∷ xs) e = ap (λ (ys : List ℕ). v ∷ ys) (spliced_then j zero vs ws xs (omega (arith, e)))
+spliced_then zero (suc k) vs ws (x ∷ xs) e = absurd (omega (arith, e))
+spliced_then (suc j) (suc k) vs ws (x ∷ xs) e = ap (λ (ys : List ℕ). x ∷ ys) (spliced_then j k vs ws xs (omega (arith, e)))
+
+spliced_in_then : (s : Segments) (i j k : ℕ) (vs ws : List ℕ) → j ≡ k + length vs → spliced_in (spliced_in s i k vs) i j ws ≡ spliced_in s i k (vs ++ ws)
+spliced_in_then [] i j k vs ws e = refl
+spliced_in_then (xs ∷ s) zero j k vs ws e = ap (λ (ys : List ℕ). ys ∷ s) (spliced_then j k vs ws xs e)
+spliced_in_then (xs ∷ s) (suc i) j k vs ws e = ap (λ (t : Segments). xs ∷ t) (spliced_in_then s i j k vs ws e)
+
+pub written_then : (s : Segments) (p : Place) (n : ℕ) (vs ws : List ℕ) → n ≡ length vs → with_words (with_words s p vs) (after p n) ws ≡ with_words s p (vs ++ ws)
+unfolding with_words
+written_then s p n vs ws e = spliced_in_then s p.segment (p.position + n) p.position vs ws (ap (λ (m : ℕ). p.position + m) e)
+
+spliced_none : (s : Segments) (i k : ℕ) → spliced_in s i k [] ≡ s
+spliced_none [] i k = refl
+spliced_none (xs ∷ s) zero k = ap (λ (ys : List ℕ). ys ∷ s) (spliced_nothing k xs)
+spliced_none (xs ∷ s) (suc i) k = ap (λ (t : Segments). xs ∷ t) (spliced_none s i k)
+
+pub written_none : (s : Segments) (p : Place) → with_words s p [] ≡ s
+unfolding with_words
+written_none s p = spliced_none s p.segment p.position
+
+-- ---- where segments end
+
+ended : (s : Segments) (i : ℕ) (xs : List ℕ) → slice_get s i ≡ Some xs → length xs ≤ total_words s
+unfolding total_words
+ended [] i xs e = absurd cc
+ended (ws ∷ s) zero xs e = let is : ws ≡ xs = some_is _ _ e in let long : length ws ≡ length xs = ap length is in omega (arith, long)
+ended (ws ∷ s) (suc i) xs e = let l = ended s i xs e in omega (arith, l)
+
+pub within_total : (s : Segments) (p : Place) (n : ℕ) → is_some (words_at s p n) ≡ true → p.position + n ≤ total_words s
+within_total s p n e =
+    let x = some_of s p n e in
+    let y = bind_some (slice_get s p.segment) _ x.0 x.1 in
+    let g = provided_some _ _ _ y.2 in
+    omega (arith, leb-true _ _ g.0, ended s p.segment y.0 y.1)
+
+-- ---- pads
+
+pub pads_stay : (s u : Segments) (pad : Option code.Place) (k : ℕ) → Grows s u → HasPads s pad k → HasPads u pad k
+pads_stay s u None k g h = tt
+pads_stay s u (Some p) k g h = (still_some s u (place_view p) (2 * k) g h.0, h.1)
+
+pub pointed_sizes : (s : Segments) (p r : Place) (pad : Option code.Place) (w : ℕ) → map length (pointed_at s p r pad w) ≡ map length s
+pointed_sizes s p r None w = written_sizes s p ((w + 4 * offset_to p r) ∷ [])
+pointed_sizes s p r (Some pad) w = written_sizes (with_words s (place_view pad) (far_pointer r ∷ (w ∷ []))) p (double_far_pointer (place_view pad) ∷ []) ∙ written_sizes s (place_view pad) (far_pointer r ∷ (w ∷ []))
+
+-- ---- a word and the end of its segment
+
+get_short : (xs : List ℕ) (k : ℕ) → is_some (slice_get xs k) ≡ true → k < length xs
+get_short [] k e = absurd cc
+get_short (x ∷ xs) zero e = omega arith
+get_short (x ∷ xs) (suc k) e = let l = get_short xs k e in omega (arith, l)
+
+pub word_before_end : (s : Segments) (i k : ℕ) → is_some (word_at s (place i k)) ≡ true → k < segment_end s i
+unfolding segment_end
+word_before_end [] i k e = absurd cc
+word_before_end (xs ∷ s) zero k e = get_short xs k e
+word_before_end (xs ∷ s) (suc i) k e = word_before_end s i k e
+
+pub end_within : (s : Segments) (i : ℕ) → segment_end s i ≤ total_words s
+unfolding segment_end total_words
+end_within [] i = omega arith
+end_within (xs ∷ s) zero = omega arith
+end_within (xs ∷ s) (suc i) = let l = end_within s i in omega (arith, l)
+
+pub front_there : (s : Segments) (p : Place) (n w : ℕ) → n ≤ w → is_some (words_at s p w) ≡ true → is_some (words_at s p n) ≡ true
+front_there s p n w l e = subst (λ (q : Place). is_some (words_at s q n) ≡ true) (after_none p) (part_there s p 0 n w (omega (arith, l)) e)
+
+pub has_word : (s : Segments) (p : Place) → is_some (words_at s p 1) ≡ true → is_some (word_at s p) ≡ true
+has_word s p e = ap is_some (one_word s p e).1
+
+pub pad_stays : (u v : Segments) (room : Room) → Grows u v → HasPad u room → HasPad v room
+pad_stays u v Here g h = tt
+pad_stays u v (Near offset) g h = tt
+pad_stays u v (Far pad) g h = still_some u v (place_view pad) 1 g h
+
+pub still_linked : (s : Segments) (p : Place) (room : Room) (w : ℕ) (q : Place) (n : ℕ) → is_some (words_at s q n) ≡ true → is_some (words_at (linked s p room w) q n) ≡ true
+still_linked s p Here w q n e = still_written s p q (slot_word Here w ∷ []) n e
+still_linked s p (Near offset) w q n e = still_written s p q (slot_word (Near offset) w ∷ []) n e
+still_linked s p (Far pad) w q n e = still_written (with_words s (place_view pad) (w ∷ [])) p q (slot_word (Far pad) w ∷ []) n (still_written s (place_view pad) q (w ∷ []) n e)
