@@ -3,42 +3,13 @@ use Rattle.std.proofs.Common.{◌≡◌, ℕ, zero, suc, ◌≤◌, max, false, 
 use Rattle.capnp_model.specs.Trees.{Tree, null, capability, structure, plain_list, pointer_list, struct_list, Trees, none, ◌▸◌, tree_count, child, with_child, resized, padded_to, is_null, depth, depths}
 use Rattle.capnp_model.specs.Fits.{Fits, FitEach}
 use Rattle.capnp_model.specs.Trimming.{after_stripping, stripped, trim, trim_each}
-use Rattle.capnp_model.proofs.lemmas.Stripping.{count-stripped}
+use Rattle.capnp_model.proofs.lemmas.Stripping.{count-stripped, child-stripped, child-trim_each}
 
 -- ---- one child
 
-child_after : (u : Tree) (rest : Trees) → child (after_stripping u rest) zero ≡ u
-child_after null none = refl
-child_after null (a ▸ b) = refl
-child_after (capability k) rest = refl
-child_after (structure w n k) rest = refl
-child_after (plain_list s count k) rest = refl
-child_after (pointer_list k) rest = refl
-child_after (struct_list w p k) rest = refl
-
-child_behind : (u : Tree) (rest : Trees) (i : ℕ) → child (after_stripping u rest) (suc i) ≡ child rest i
-child_behind null none i = refl
-child_behind null (a ▸ b) i = refl
-child_behind (capability k) rest i = refl
-child_behind (structure w n k) rest i = refl
-child_behind (plain_list s count k) rest i = refl
-child_behind (pointer_list k) rest i = refl
-child_behind (struct_list w p k) rest i = refl
-
-child_stripped : (ts : Trees) (i : ℕ) → child (stripped ts) i ≡ child ts i
-child_stripped none i = refl
-child_stripped (t ▸ ts) zero = child_after t (stripped ts)
-child_stripped (t ▸ ts) (suc i) = child_behind t (stripped ts) i ∙ child_stripped ts i
-
-child_trimmed : (ts : Trees) (i : ℕ) → child (trim_each ts) i ≡ trim (child ts i)
-unfolding trim
-child_trimmed none i = refl
-child_trimmed (t ▸ ts) zero = refl
-child_trimmed (t ▸ ts) (suc i) = child_trimmed ts i
-
 -- Where trimming leaves the same children, it leaves the same child.
 pub child_same : (ts us : Trees) (i : ℕ) → stripped (trim_each ts) ≡ stripped us → child us i ≡ trim (child ts i)
-child_same ts us i e = sym (child_stripped us i) ∙ ap (λ (xs : Trees). child xs i) (sym e) ∙ child_stripped (trim_each ts) i ∙ child_trimmed ts i
+child_same ts us i e = sym (child-stripped us i) ∙ ap (λ (xs : Trees). child xs i) (sym e) ∙ child-stripped (trim_each ts) i ∙ child-trim_each ts i
 
 pub child_fits : (ts : Trees) (i : ℕ) → FitEach ts → Fits (child ts i)
 child_fits none i f = tt

@@ -5,6 +5,7 @@ use Rattle.capnp_model.specs.Sections.{with_bits}
 use Rattle.capnp_model.specs.Trimming.{after_stripping, stripped, trim, trim_each}
 use Rattle.capnp_model.specs.Edits.{Cell, put_bits, put_child}
 use Rattle.capnp_model.proofs.lemmas.Bounds.{with_bits_lt}
+use Rattle.capnp_model.proofs.lemmas.Stripping.{child-stripped, child-trim_each}
 use Rattle.capnp_model.proofs.lemmas.Widening.{bare, bare-with_child, trim-structure}
 use Rattle.capnp_versions.specs.Whole.{IsWhole, AreWhole}
 use Rattle.capnp_versions.proofs.lemmas.WholeValues.{whole-child, whole-with_child}
@@ -31,35 +32,6 @@ pub record Agree (bits : ℕ) (c e e' : Cell) : Type 0 where
   pub within : (size : ℕ) → bits ≤ size → c.section < 2 ^ size → e.section < 2 ^ size
 
 -- ---- children
-
-child_after : (u : Tree) (rest : Trees) → child (after_stripping u rest) zero ≡ u
-child_after null none = refl
-child_after null (a ▸ b) = refl
-child_after (capability k) rest = refl
-child_after (structure w n k) rest = refl
-child_after (plain_list z n k) rest = refl
-child_after (pointer_list k) rest = refl
-child_after (struct_list w p k) rest = refl
-
-child_behind : (u : Tree) (rest : Trees) (i : ℕ) → child (after_stripping u rest) (suc i) ≡ child rest i
-child_behind null none i = refl
-child_behind null (a ▸ b) i = refl
-child_behind (capability k) rest i = refl
-child_behind (structure w n k) rest i = refl
-child_behind (plain_list z n k) rest i = refl
-child_behind (pointer_list k) rest i = refl
-child_behind (struct_list w p k) rest i = refl
-
-pub child-stripped : (ts : Trees) (i : ℕ) → child (stripped ts) i ≡ child ts i
-child-stripped none i = refl
-child-stripped (t ▸ ts) zero = child_after t (stripped ts)
-child-stripped (t ▸ ts) (suc i) = child_behind t (stripped ts) i ∙ child-stripped ts i
-
-pub child-trim_each : (ts : Trees) (i : ℕ) → child (trim_each ts) i ≡ trim (child ts i)
-unfolding trim
-child-trim_each none i = refl
-child-trim_each (t ▸ ts) zero = refl
-child-trim_each (t ▸ ts) (suc i) = child-trim_each ts i
 
 pub child-bare : (ts : Trees) (i : ℕ) → child (bare ts) i ≡ trim (child ts i)
 child-bare ts i = child-stripped (trim_each ts) i ∙ child-trim_each ts i

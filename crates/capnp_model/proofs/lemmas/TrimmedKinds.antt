@@ -10,7 +10,7 @@ use Rattle.capnp_model.specs.InKind.{one_kind, element_kinds, struct_kinds, list
 use Rattle.capnp_model.specs.Accepted.{schema_of}
 use Rattle.capnp_model.specs.NamedPaths.{IsOpen}
 use Rattle.capnp_model.specs.CallRuns.{IsStart, records_after, record_replies}
-use Rattle.capnp_model.proofs.lemmas.Stripping.{resized-stripped}
+use Rattle.capnp_model.proofs.lemmas.Stripping.{resized-stripped, child-stripped}
 use Rattle.capnp_model.proofs.lemmas.Marks.{read_child-padded_to}
 use Rattle.capnp_model.proofs.lemmas.Paths.{nothing_in}
 use Rattle.capnp_model.proofs.lemmas.TrimmedAnswers.{trimmed_record}
@@ -20,29 +20,6 @@ use Rattle.capnp_model.proofs.lemmas.ListElements.{child_in_kind-padded_to}
 use Rattle.capnp_model.proofs.lemmas.EditLaws.{record_after_calls, replies_to_calls, last_start}
 
 -- ---- children
-
-first_child : (u : Tree) (rest : Trees) → child (after_stripping u rest) zero ≡ u
-first_child null none = refl
-first_child null (a ▸ b) = refl
-first_child (capability k) rest = refl
-first_child (structure w n k) rest = refl
-first_child (plain_list z count k) rest = refl
-first_child (pointer_list k) rest = refl
-first_child (struct_list w p k) rest = refl
-
-later_child : (u : Tree) (rest : Trees) (i : ℕ) → child (after_stripping u rest) (suc i) ≡ child rest i
-later_child null none i = refl
-later_child null (a ▸ b) i = refl
-later_child (capability k) rest i = refl
-later_child (structure w n k) rest i = refl
-later_child (plain_list z count k) rest i = refl
-later_child (pointer_list k) rest i = refl
-later_child (struct_list w p k) rest i = refl
-
-child-stripped : (ts : Trees) (i : ℕ) → child (stripped ts) i ≡ child ts i
-child-stripped none i = refl
-child-stripped (t ▸ ts) zero = first_child t (stripped ts)
-child-stripped (t ▸ ts) (suc i) = later_child t (stripped ts) i ∙ child-stripped ts i
 
 no_child : (p i : ℕ) → child (resized p none) i ≡ null
 no_child zero i = refl
