@@ -130,7 +130,7 @@ fn list_opens_as(object: Object, ty: TypeRecord) -> bool
 }
 
 /// Whether an object is null or can be read as the type.
-#[tactic(auto, using(crate::proofs::Segments::lists))]
+#[tactic(auto, using(crate::proofs::lemmas::Segments::lists))]
 fn opens_as(object: Object, ty: TypeRecord) -> bool
     ensures { result ≡ opens_as (form_of object) (type_of (type_record_of ty)) }
 {

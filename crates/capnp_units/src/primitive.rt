@@ -303,7 +303,7 @@ impl Primitive for u64 {
 
     ghost of_a_word = { inr (inr (inr refl)) };
 
-    #[tactic(auto, using(crate::proofs::FirstBytes::first_eight))]
+    #[tactic(auto, using(crate::proofs::lemmas::FirstBytes::first_eight))]
     fn get(bytes: &[u8]) -> u64 {
         u64::from_le_bytes([
             bytes[0], bytes[1], bytes[2], bytes[3], bytes[4], bytes[5], bytes[6], bytes[7],

@@ -41,7 +41,7 @@ pub enum ListSource<'a, A> {
 
 // ---- gets without a budget
 
-#[tactic(auto, using(crate::proofs::Unlimited::answers_reading))]
+#[tactic(auto, using(crate::proofs::lemmas::Unlimited::answers_reading))]
 fn text_behind<'a, A: ReaderArena>(pointer: PointerReader<'a, A>) -> Result<&'a [u8]>
     ensures { seen (λ r. r.now) result ≡ text_at (seen_pointer A.segments pointer.entry) }
 {
@@ -49,7 +49,7 @@ fn text_behind<'a, A: ReaderArena>(pointer: PointerReader<'a, A>) -> Result<&'a 
     pointer.get_text(&mut unlimited, None)
 }
 
-#[tactic(auto, using(crate::proofs::Unlimited::answers_reading))]
+#[tactic(auto, using(crate::proofs::lemmas::Unlimited::answers_reading))]
 fn data_behind<'a, A: ReaderArena>(pointer: PointerReader<'a, A>) -> Result<&'a [u8]>
     ensures { seen (λ r. r.now) result ≡ data_at (seen_pointer A.segments pointer.entry) }
 {
@@ -57,7 +57,7 @@ fn data_behind<'a, A: ReaderArena>(pointer: PointerReader<'a, A>) -> Result<&'a 
     pointer.get_data(&mut unlimited, None)
 }
 
-#[tactic(auto, using(crate::proofs::Unlimited::answers_reading))]
+#[tactic(auto, using(crate::proofs::lemmas::Unlimited::answers_reading))]
 fn struct_behind<'a, A: ReaderArena>(pointer: PointerReader<'a, A>) -> Result<StructReader<'a, A>>
     ensures { seen (seen_struct A.segments) result
         ≡ struct_at (seen_pointer A.segments pointer.entry) }
@@ -66,7 +66,7 @@ fn struct_behind<'a, A: ReaderArena>(pointer: PointerReader<'a, A>) -> Result<St
     pointer.get_struct(&mut unlimited, None)
 }
 
-#[tactic(auto, using(crate::proofs::Unlimited::answers_reading))]
+#[tactic(auto, using(crate::proofs::lemmas::Unlimited::answers_reading))]
 fn list_behind<'a, A: ReaderArena>(
     pointer: PointerReader<'a, A>,
     expected: ElementSize,
