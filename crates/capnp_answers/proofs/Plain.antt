@@ -46,10 +46,6 @@ mutual
 pub SetsWords-prop : (schema : StructSchema) (calls : List Call) (t : Tree) (new : List ℕ) → IsProp (SetsWords schema calls t new)
 SetsWords-prop schema calls t new = hlevel (props, Fits-prop)
 
--- the words at the front, and those that are put over them
-pub front_old : (count : ℕ) (old : List (List ℕ)) → words_view (take count old) ≡ filled count old
-front_old count old = sym (take-map (from_le_bytes w64) count old)
-
 pub front_new : (count : ℕ) (old new : List (List ℕ)) → length new ≡ length (take count old) → count ≤ length old → filled count (new ++ drop count old) ≡ words_view new
 front_new count old new size inside =
     let long : length new ≡ count = size ∙ omega (arith, length-take count old, inside) in

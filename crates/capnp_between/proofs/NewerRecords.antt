@@ -10,7 +10,6 @@ use Rattle.capnp_model.specs.Accepted.{IsAccepted}
 use Rattle.capnp_model.specs.NamedPaths.{IsOpen}
 use Rattle.capnp_model.specs.CallRuns.{IsGiven, AreGiven, IsStart, records_after, record_replies}
 use Rattle.capnp_model.specs.Answers.{Answer, refused_value, refused_root, refused_depth, written, Reply, replies, edits, opened_root, answer_value, answer}
-use Rattle.capnp_model.proofs.lemmas.KeptRules.{and_left, and_right}
 use Rattle.capnp_queries.specs.Structs.{nodes_around, schema_around, id_of}
 use Rattle.capnp_queries.specs.declared.structs.StructSchema.{StructSchema}
 use Rattle.capnp_call_messages.specs.Messages.{tree_of_message}
@@ -30,9 +29,10 @@ use Rattle.capnp_versions.specs.SameReplies.{SameReplies}
 use Rattle.capnp_versions.specs.TwoVersions.{TwoVersions, older, newer, newer_record, CanRun}
 use Rattle.capnp_versions.proofs.lemmas.WholeValues.{fits-whole}
 use Rattle.capnp_versions.proofs.lemmas.WrittenValues.{value-fits}
+use Rattle.capnp_model.proofs.lemmas.Tests.{and_left, and_right}
+use Rattle.capnp_versions.proofs.lemmas.TrimmedRelays.{whole_opened}
 use Rattle.capnp_between.specs.Newer.{is_admitted_between, MayRun, record_at, ReadsAsNewer}
 use Rattle.capnp_model.proofs.lemmas.TrimmedKinds.{start_opened_by, record_opened_by}
-use Rattle.capnp_between.proofs.OpenedRoots.{opened_whole}
 
 -- ---- what the laws say
 
@@ -111,7 +111,7 @@ module _ (root newer_root : StructSchema) (calls : List Call) (bounds : Bounds) 
       versions = record { older_accepted = accepted; newer_accepted = newer_accepted; compatible = may.compatible };
       admitted = admitted_calls root newer_root (map call_view calls) may.admitted;
       whole_verbs = whole_calls calls given;
-      whole = opened_whole (schema_around root) (id_of root) t whole;
+      whole = whole_opened (schema_around root) (id_of root) t whole;
       start = start_opened_by (schema_around root) (id_of root) (nodes_around newer_root) (id_of newer_root) T t start;
     }
 

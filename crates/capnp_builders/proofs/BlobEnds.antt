@@ -6,11 +6,11 @@ use Rattle.capnp_model.specs.Segments.{Segments, Place, after, word_at, words_at
 use Rattle.capnp_model.specs.Coverage.{span}
 use Rattle.capnp_model.proofs.lemmas.WordBits.{bits_at-section_of}
 use Rattle.capnp_wire.specs.Views.{section_in, section_at}
-use Rattle.capnp_footprints.proofs.lemmas.Kept.{words_length}
 use Rattle.capnp_footprints.proofs.lemmas.Spans.{held_in, held_is, not_there}
 use Rattle.capnp_footprints.proofs.lemmas.There.{words_there}
 use Rattle.capnp_copy.proofs.lemmas.FieldLaws.{word_in}
 use Rattle.capnp_copy.proofs.lemmas.RoomLaws.{some_of}
+use Rattle.capnp_model.proofs.lemmas.ReadFits.{words_length}
 
 pub last_byte : (s : Segments) (p : Place) (c word : ℕ) → 0 < c → is_some (words_at s p (words_for (8 * c))) ≡ true → word_at s (after p ((c - 1) / 8)) ≡ Some word → bits_at (8 * (c - 1)) 8 (section_at s p (words_for (8 * c))) ≡ bits_at (8 * ((c - 1) % 8)) 8 word
 unfolding section_at

@@ -14,8 +14,8 @@ use Rattle.capnp_copy.specs.Elements.{IsWhole}
 use Rattle.capnp_copy.specs.Lists.{words_of}
 use Rattle.capnp_copy.specs.declared.init.ListPlace.{ListPlace}
 use Rattle.capnp_footprints.proofs.lemmas.Rows.{after_none}
-use Rattle.capnp_widening.proofs.lemmas.Standing.{front_there}
-use Rattle.capnp_widening.proofs.lemmas.WholeLists.{structs_whole}
+use Rattle.capnp_widening.proofs.lemmas.WholeLists.{structs_whole, at_front}
+use Rattle.capnp_copy.proofs.lemmas.Parts.{front_there}
 
 -- what a list that lies whole is, by the number of its size
 abbrev WholeOf : Segments → code.Place → ℕ → ℕ → ℕ → ℕ → ℕ → Type 0
@@ -23,9 +23,6 @@ WholeOf s start z d k n c =
     (AreThere s (after (place_view start) (cond (eqb z 7) 1 0)) (words_for (step_bits z d k * n)) × ((after (place_view start) (cond (eqb z 7) 1 0)).position + step_words z d k * n < 2 ^ 61))
     × (z ≡ 6 → AreThere s (place_view start) n)
     × (z ≡ 7 → AreThere s (place_view start) (1 + c) × (n * (d + k) ≤ c))
-
-at_front : (s : Segments) (p : Place) (n : ℕ) → AreThere s p n → AreThere s (after p 0) n
-at_front s p n h = (subst (λ (q : Place). is_some (words_at s q n) ≡ true) (sym (after_none p)) h.0, omega (arith, h.1))
 
 whole_by : (s : Segments) (start : code.Place) (z d k n c : ℕ) → z < 7 → AreThere s (place_view start) (words_of z n) → WholeOf s start z d k n c
 whole_by s start zero d k n c l h = ((at_front s (place_view start) _ h, omega (arith, h.1)), (λ e. absurd (omega (arith, e))), λ e. absurd (omega (arith, e)))

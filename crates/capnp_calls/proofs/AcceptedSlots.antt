@@ -3,14 +3,15 @@ use Rattle.std.proofs.Common.{◌≡◌, ℕ, zero, suc, Bool, true, false, not,
 use Rattle.std.specs.List.{list_all}
 use Rattle.capnp_model.specs.Schemas.{Field as FieldNode, StructNode, NodeKind, struct_node, enum_node, Node}
 use Rattle.capnp_model.specs.Accepted.{find_node, fields_of_kind, is_group_node, is_struct_node, names_a, schema_of, has_good_default, default_reads, IsAccepted}
-use Rattle.capnp_model.proofs.lemmas.KeptRules.{and_left, and_right, found_passes, behind, no_break}
-use Rattle.capnp_model.proofs.lemmas.SoundRules.{rules_kept}
+use Rattle.capnp_model.proofs.lemmas.KeptRules.{found_passes, behind, no_break}
+use Rattle.capnp_model.proofs.lemmas.SoundRules.{rules_kept, no_group_kind}
 use Rattle.capnp_records.specs.declared.raw.RawBrandedStructSchema.{RawBrandedStructSchema}
 use Rattle.capnp_records.proofs.lemmas.PlainStructs.{place_is_found}
 use Rattle.capnp_queries.specs.Structs.{nodes_around, schema_around, id_of, IsRecordOf}
 use Rattle.capnp_queries.specs.Handles.{IsFieldRecord}
 use Rattle.capnp_queries.specs.declared.structs.StructSchema.{StructSchema}
 use Rattle.capnp_queries.proofs.lemmas.Records.{struct_is}
+use Rattle.capnp_model.proofs.lemmas.Tests.{same_number, and_left, and_right}
 use Rattle.capnp_calls.specs.Roots.{IsRoot}
 
 passed : (p : FieldNode → Bool) (fs : List FieldNode) (i : ℕ) (f : FieldNode) → list_all p fs ≡ true → slice_get fs i ≡ Some f → p f ≡ true
@@ -56,17 +57,6 @@ sound_field s i f is r h =
 
 -- ---- the root is no group
 
-not_both : (k : NodeKind) → (elim k as (λ (y : NodeKind). Bool) [ struct_node t ↦ not t.is_group | enum_node es ↦ false ]) ≡ true → (elim k as (λ (y : NodeKind). Bool) [ struct_node t ↦ t.is_group | enum_node es ↦ false ]) ≡ false
-not_both (struct_node t) h = by t.is_group h
-  where
-    by : (b : Bool) → not b ≡ true → b ≡ false
-    by false g = refl
-    by true g = absurd (cc g)
-not_both (enum_node es) h = refl
-
-same_number : (a b : ℕ) → (a == b) ≡ true → a ≡ b
-same_number a b h = grind arith
-
 root_at : (nodes : List Node) → IsAccepted nodes → (raw : RawBrandedStructSchema) (o : Option Node) → slice_get nodes raw.number ≡ o
     → (elim o as (λ (x : Option Node). Bool) [ None ↦ false | Some n ↦ n.id == raw.id && is_struct_node n ]) ≡ true → names_a is_group_node nodes raw.id ≡ false
 root_at nodes accepted raw None e h = absurd (cc h)
@@ -74,7 +64,7 @@ root_at nodes accepted raw (Some n) e h =
     let id : n.id ≡ raw.id = same_number n.id raw.id (and_left (n.id == raw.id) (is_struct_node n) h) in
     let found : find_node nodes raw.id ≡ Some n = ap (find_node nodes) (sym id) ∙ place_is_found nodes accepted raw.number n e in
     ap (λ (x : Option Node). elim x as (λ (y : Option Node). Bool) [ None ↦ false | Some m ↦ is_group_node m ]) found
-    ∙ not_both n.kind (and_right (n.id == raw.id) (is_struct_node n) h)
+    ∙ no_group_kind n.kind (and_right (n.id == raw.id) (is_struct_node n) h)
 
 pub root_is_no_group : (root : StructSchema) → IsRoot root → (schema_around root).is_group (id_of root) ≡ false
 unfolding schema_of

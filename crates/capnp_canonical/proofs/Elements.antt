@@ -19,7 +19,7 @@ use Rattle.capnp_canonical.proofs.Copying.{SoFar, begun, next, ended, stopped}
 use Rattle.capnp_canonical.proofs.Rows.{element_join, element_parts, elements_count, part_section}
 use Rattle.capnp_canonical.proofs.Rooms.{cell_longer, cells_longer}
 use Rattle.capnp_canonical.proofs.Parts.{part_room}
-use Rattle.capnp_canonical.proofs.Putting.{cells_all}
+use Rattle.capnp_canonical.proofs.lemmas.Putting.{cells_all}
 use Rattle.capnp_canonical.proofs.Objects.{filled_length}
 
 -- The elements from one of them on.

@@ -27,6 +27,7 @@ use Rattle.capnp_object.specs.Walks.{Walked}
 use Rattle.capnp_object.proofs.lemmas.Rows.{each_count, nothing_met}
 use Rattle.capnp_object.proofs.lemmas.Walks.{walked_none, walked_both}
 use Rattle.capnp_object.specs.Objects.{AreThere}
+use Rattle.capnp_model.proofs.lemmas.CanonicalCopies.{free_resized}
 use Rattle.capnp_canonical.specs.declared.cuts.Cut.{Cut}
 use Rattle.capnp_canonical.specs.Objects.{IsCut}
 use Rattle.capnp_canonical.specs.Widths.{kept, widest}
@@ -36,13 +37,10 @@ use Rattle.capnp_canonical.proofs.Copying.{behind_none, behind_more, behind_both
 use Rattle.capnp_canonical.proofs.Parts.{there_length, section_is, word_is, part_there, part_room, front_section}
 use Rattle.capnp_canonical.proofs.Kept.{widest_at}
 use Rattle.capnp_canonical.proofs.Fronts.{front_words}
-use Rattle.capnp_canonical.proofs.Putting.{struct_cell, take_with_words}
-use Rattle.capnp_canonical.proofs.Nulls.{free, free_cost, free_length, nulls_read, each_nulls, met_both, no_capability_more, kept_front, kept_zeros}
+use Rattle.capnp_canonical.proofs.lemmas.Putting.{struct_cell, take_with_words}
+use Rattle.capnp_canonical.proofs.Nulls.{free, free_cost, free_length, nulls_read, each_nulls, met_both, kept_front, kept_zeros}
 use Rattle.capnp_canonical.proofs.Rows.{least_words, least_pointers, elements_count, empty_elements}
 use Rattle.capnp_canonical.proofs.Objects.{filled_length, filled_part, filled_put, struct_written, pointers_written, structs_written}
-
-pub data_bits_plain : (n : ℕ) → n < 6 → size_bits n ≡ data_bits n
-data_bits_plain n h = let t : nat_lt n 6 ≡ true = grind (arith, nat_tests) in rw t refl
 
 -- a list's words cost no less
 pub own_at_least : (z n : ℕ) → words_for (data_bits z * n) ≤ (if z == 0 then n else words_for (data_bits z * n))
@@ -171,7 +169,7 @@ module _ (n : ℕ) (s : Segments) (p : Place) (a b at d' used section : ℕ) (ol
       record {
         what = resized (a + b) x.what;
         there_is = made.0;
-        clean = no_capability_more (a + b) x.what x.clean;
+        clean = free_resized (a + b) x.what x.clean;
         words = x.words ∙ made.1;
         behind = behind_both (at + d') end end old mid new (omega arith) (omega arith) behind x.behind;
         bound = x.bound;

@@ -24,18 +24,10 @@ use Rattle.capnp_object.specs.Inside.{met_in}
 use Rattle.capnp_object.proofs.lemmas.Linking.{IsPlain, IsSized, visits_whole}
 use Rattle.capnp_object.proofs.lemmas.Walks.{stopped_first}
 use Rattle.capnp_object.proofs.lemmas.Paying.{spends_later}
+use Rattle.capnp_object.proofs.lemmas.Walking.{refused_step, list_refused}
 use Rattle.capnp_canonical.specs.Copies.{unless_capability, copy_visits, fault_of, IsData, FollowsData}
 
 -- ---- a step that is refused
-
-refused_step : {A B : Type 0} (r : Result A Kind) (f : A → Result B Kind) (h : A → List Visit) (k : Kind) → (r and_then f) ≡ Err k → ((x : A) → r ≡ Ok x → f x ≡ Err k → h x ≡ Err k ∷ []) → visits_of h r ≡ Err k ∷ []
-refused_step (Ok x) f h k e g = g x refl e
-refused_step (Err j) f h k e g = let is : j ≡ k = cc in ap (λ (x : Kind). Err x ∷ []) is
-
-list_refused : (v : Place → List Visit) (pads : ℕ) (p : Place) (kind : ListKind) (size n : ℕ) (ws : List ℕ) (k : Kind) → whole_list p kind size n ws ≡ Err k → list_visits v pads p kind size n ws ≡ Err k ∷ []
-list_refused v pads p of_bits size n ws k e = absurd cc
-list_refused v pads p of_pointers size n ws k e = absurd cc
-list_refused v pads p of_structs size n ws k e = refused_step (tag_in ws) _ _ k e (λ t is g. absurd cc)
 
 whole_refused : (s : Segments) (v : Place → List Visit) (pads n : ℕ) (m : model.Object) (k : Kind) → fault_of n m ≡ None → whole s m ≡ Err k → unless_capability m (object_visits s v pads m) ≡ Err k ∷ []
 whole_refused s v pads n model.nothing k h e = absurd cc

@@ -2,7 +2,6 @@ pub mod lemmas
 mod Held
 mod Parts
 mod Copying
-mod Putting
 mod Kept
 mod Masks
 mod Fronts
@@ -24,11 +23,9 @@ mod CheckedElements
 mod StandingPlaces
 mod StandingObjects
 mod NearPlaces
-mod NearStructs
 mod StandingLists
 mod StandingValues
 mod Telling
 mod Rowing
 mod StandingStructs
-mod FewFollowed
 mod Flat

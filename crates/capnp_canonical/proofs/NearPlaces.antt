@@ -23,6 +23,7 @@ use Rattle.capnp_object.specs.Places.{place_view, placed}
 use Rattle.capnp_object.specs.Objects.{plain_size, whole_list, whole, object_at}
 use Rattle.capnp_object.proofs.lemmas.Linking.{plain_number}
 use Rattle.capnp_object.proofs.lemmas.Walking.{object_found}
+use Rattle.capnp_model.proofs.lemmas.ReadFits.{list_kind_cases}
 use Rattle.capnp_canonical.specs.Standing.{segment_words, Stands, LeadsTo}
 use Rattle.capnp_canonical.proofs.StandingObjects.{word_small, lead_word}
 
@@ -197,17 +198,6 @@ count_of (object.List q z n) = n
 count_of (object.Struct q d k) = k
 count_of _ = 0
 
-few_bits : (size : ℕ) → size < 8 → list_kind size ≡ of_bits → size < 6
-few_bits zero h e = omega arith
-few_bits (suc zero) h e = omega arith
-few_bits (suc (suc zero)) h e = omega arith
-few_bits (suc (suc (suc zero))) h e = omega arith
-few_bits (suc (suc (suc (suc zero)))) h e = omega arith
-few_bits (suc (suc (suc (suc (suc zero))))) h e = omega arith
-few_bits (suc (suc (suc (suc (suc (suc zero)))))) h e = absurd cc
-few_bits (suc (suc (suc (suc (suc (suc (suc zero))))))) h e = absurd cc
-few_bits (suc (suc (suc (suc (suc (suc (suc (suc k)))))))) h e = absurd (omega arith)
-
 module _ (s : Segments) (q : Place) (start : wire.Place) (z : ElementSize) (n size count : ℕ) (small : size < 8) where
   -- What a list is of whose words these are.
   abbrev IsListOf : Type 0
@@ -222,7 +212,7 @@ module _ (s : Segments) (q : Place) (start : wire.Place) (z : ElementSize) (n si
       by : (kind : ListKind) → list_kind size ≡ kind → (ws : List ℕ) → whole_list q kind size count ws ≡ Ok (object.List start z n) → IsListOf
       by of_bits k ws e =
           let is : object.List (placed q) (plain_size size) count ≡ object.List start z n = ok_is _ _ e in
-          (ap (λ (o : Object). place_view (start_of o)) (sym is), ap size_of (sym is) ∙ plain_number size (few_bits size small k), ap count_of (sym is))
+          (ap (λ (o : Object). place_view (start_of o)) (sym is), ap size_of (sym is) ∙ plain_number size (list_kind_cases size small k), ap count_of (sym is))
       by of_pointers k ws e = absurd cc
       by of_structs k ws e = let t = bind_ok (tag_in ws) _ (object.List start z n) e in absurd cc
 

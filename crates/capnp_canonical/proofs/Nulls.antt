@@ -144,16 +144,6 @@ met_both g p (suc a) b =
     ap (from_each g p) sum ∙ ap (λ xs. g p ++ xs) (met_both g (after p 1) a b) ∙ ap (λ (q : ℕ). g p ++ (from_each g (after p 1) a ++ from_each g (place p.segment q) b)) there
     ∙ sym (append_assoc (g p) (from_each g (after p 1) a) (from_each g (after p (suc a)) b))
 
-pub no_capability_more : (n : ℕ) (ts : Trees) → have_capability ts ≡ false → have_capability (resized n ts) ≡ false
-unfolding has_capability
-no_capability_more zero ts h = refl
-no_capability_more (suc n) none h = no_capability_more n none h
-no_capability_more (suc n) (t ▸ ts) h = by (has_capability t) refl h (no_capability_more n ts)
-  where
-    by : (b : Bool) → has_capability t ≡ b → b || have_capability ts ≡ false → (have_capability ts ≡ false → have_capability (resized n ts) ≡ false) → has_capability t || have_capability (resized n ts) ≡ false
-    by true e g f = absurd cc
-    by false e g f = rw e (f g)
-
 pub kept_front : (a b : ℕ) (ts : Trees) → tree_count ts ≡ a → resized a (trim_each (resized (a + b) ts)) ≡ trim_each ts
 unfolding trim
 kept_front zero b none e = refl

@@ -15,7 +15,7 @@ use Rattle.capnp_canonical.specs.Copies.{copy_visits, Written, Unwritten}
 use Rattle.capnp_canonical.proofs.Copying.{SoFar, begun, next, ended, stopped}
 use Rattle.capnp_canonical.proofs.Rows.{row_join, row_parts}
 use Rattle.capnp_canonical.proofs.Rooms.{link_longer, links_longer}
-use Rattle.capnp_canonical.proofs.Putting.{links_all}
+use Rattle.capnp_canonical.proofs.lemmas.Putting.{links_all}
 use Rattle.capnp_canonical.proofs.Objects.{filled_length}
 
 -- The trees from one of the pointers on.

@@ -15,7 +15,7 @@ use Rattle.capnp_model.proofs.lemmas.TrimFits.{count-trim_each, count-trim_eleme
 use Rattle.capnp_canonical.specs.Writes.{filled, with_link, with_links, with_cells}
 use Rattle.capnp_canonical.specs.Copies.{room_of, HasNoRoomFor}
 use Rattle.capnp_canonical.proofs.Objects.{filled_length}
-use Rattle.capnp_canonical.proofs.Putting.{resized_all}
+use Rattle.capnp_canonical.proofs.lemmas.Putting.{resized_all}
 
 -- ---- what is put takes no word away
 

@@ -16,7 +16,7 @@ use Rattle.capnp_object.proofs.lemmas.Rows.{each_next, element_next, each_count}
 use Rattle.capnp_canonical.specs.Widths.{kept, widest}
 use Rattle.capnp_canonical.specs.Writes.{with_link, with_links, with_cells}
 use Rattle.capnp_canonical.proofs.Parts.{there_length, section_is, word_is, part_there, part_is}
-use Rattle.capnp_canonical.proofs.Putting.{link_step, cell_step}
+use Rattle.capnp_canonical.proofs.lemmas.Putting.{link_step, cell_step}
 use Rattle.capnp_canonical.proofs.Nulls.{kept_count}
 
 -- ---- one more pointer

@@ -39,7 +39,7 @@ use Rattle.capnp_canonical.proofs.Nulls.{some_read, kept_count}
 use Rattle.capnp_canonical.proofs.Objects.{stripped_front}
 use Rattle.capnp_canonical.proofs.Parts.{front_there, part_there, there_length}
 use Rattle.capnp_canonical.proofs.Parts as parts
-use Rattle.capnp_canonical.proofs.Putting.{resized_all}
+use Rattle.capnp_canonical.proofs.lemmas.Putting.{resized_all}
 use Rattle.capnp_canonical.proofs.StandingPlaces.{IsThere}
 
 -- ---- the pointer's word

@@ -10,7 +10,7 @@ use Rattle.capnp_model.proofs.lemmas.Numbers.{length-numbers_in}
 use Rattle.capnp_model.proofs.lemmas.RoundTrip.{links_length}
 use Rattle.capnp_canonical.specs.Standing.{Hold, Stands, StandEach, StandElements}
 use Rattle.capnp_canonical.proofs.Holding.{hold_parts, hold_both, hold_at}
-use Rattle.capnp_canonical.proofs.Putting.{links_sum}
+use Rattle.capnp_canonical.proofs.lemmas.Putting.{links_sum}
 
 -- ---- pointers in a row
 

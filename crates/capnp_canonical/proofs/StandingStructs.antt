@@ -17,7 +17,7 @@ use Rattle.capnp_canonical.specs.Widths.{kept, widest}
 use Rattle.capnp_canonical.specs.Checks.{TellsRow, TellsStruct}
 use Rattle.capnp_canonical.proofs.lemmas.Checking.{began_none}
 use Rattle.capnp_canonical.proofs.Objects.{stripped_front}
-use Rattle.capnp_canonical.proofs.Putting.{resized_all}
+use Rattle.capnp_canonical.proofs.lemmas.Putting.{resized_all}
 use Rattle.capnp_canonical.proofs.StandingObjects.{least_struct}
 
 -- the sizes of a struct

@@ -25,6 +25,7 @@ use Rattle.capnp_object.specs.Inside.{met_in}
 use Rattle.capnp_object.proofs.lemmas.Tags.{words_from, words_are}
 use Rattle.capnp_object.proofs.lemmas.Walking.{object_found, link_visits, leaf_visited}
 use Rattle.capnp_object.proofs.lemmas.Walks.{walked_one}
+use Rattle.capnp_model.proofs.lemmas.Tests.{never_true}
 use Rattle.capnp_canonical.specs.Standing.{Hold, Stands, IsSmall}
 use Rattle.capnp_canonical.specs.Checks.{Began, Agrees, Differs, Tests, Tells, TellsMessage, IsBehind}
 use Rattle.capnp_canonical.proofs.lemmas.Checking.{began_none}
@@ -40,10 +41,6 @@ on_true P false e h = absurd cc
 pub on_false : (P : Type 0) (b : Bool) → b ≡ false → OnFalse b P → P
 on_false P true e h = absurd cc
 on_false P false e h = h
-
-pub never_true : (b : Bool) → (b ≡ true → ⊥) → b ≡ false
-never_true true h = absurd (h refl)
-never_true false h = refl
 
 pub tells_moved : {X : Type 0} (there : Option X) (bad : X → Bool) (stands : X → ℕ → Type 0) (Q premise : Type 0) (path : List Visit) (h h' : Place) (l m : ReadLimiter) (end : Option ℕ) (b : Bool) → Q → OnTrue b ((end ≡ Some h'.position) × (h'.segment ≡ h.segment)) → OnFalse b ((end ≡ None) × (h' ≡ h))
     → Tests there bad stands premise path l (Ok end) m → Tells there bad (λ x e. Q × stands x e) premise path h l (Ok b) h' m

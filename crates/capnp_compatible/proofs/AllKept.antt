@@ -9,7 +9,7 @@ use Rattle.std.proofs.lemmas.List.Folds.{list_all-append}
 use Rattle.capnp_model.specs.Compatible.{Pairs, has_pair, keeps, IsCompatible}
 use Rattle.capnp_model.specs.Accepted.{schema_of, shape_in}
 use Rattle.capnp_model.specs.Schemas.{Node}
-use Rattle.capnp_model.proofs.lemmas.KeptRules.{and_left, and_right}
+use Rattle.capnp_model.proofs.lemmas.Tests.{same_number, and_left, and_right}
 use Rattle.capnp_compatible.specs.declared.reached.Reached.{Reached}
 use Rattle.capnp_compatible.specs.declared.keeps.Versions.{Versions}
 use Rattle.capnp_compatible.specs.declared.keeps.Levels.{Levels}
@@ -17,9 +17,6 @@ use Rattle.capnp_compatible.specs.Pairs.{has_each, pairs_of}
 use Rattle.capnp_compatible.specs.Holders.{nodes_in, schema_in}
 use Rattle.capnp_compatible.specs.Walks.{IsSoundFor, Decides, keeps_at, keeps_all, IsKeptFrom, AreEnough, are_alike}
 use Rattle.capnp_compatible.proofs.NodesFound.{shape_is}
-
-same_number : (a b : ℕ) → (a == b) ≡ true → a ≡ b
-same_number a b h = grind (arith, nat_tests)
 
 -- ---- pairs among pairs
 

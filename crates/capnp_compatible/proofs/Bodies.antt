@@ -8,7 +8,6 @@ use Rattle.std.specs.Cmp.Derive.{both_true}
 use Rattle.capnp_model.specs.Schemas.{base_type, type_of, Shape, shape, Fields, no_fields, field}
 use Rattle.capnp_model.specs.Accepted.{is_default_of, no_shape, shape_in, field_body, fields_from}
 use Rattle.capnp_model.specs.Compatible.{Pairs, related, same_option, member_count, is_new, keeps, keeps_fields, keeps_body}
-use Rattle.capnp_model.proofs.lemmas.KeptRules.{and_left, and_right}
 use Rattle.capnp_records.specs.NodeViews.{base_of, type_record_of, value_of, member_of, kind_of_field, field_of}
 use Rattle.capnp_records.specs.declared.node.BaseType.{BaseType}
 use Rattle.capnp_records.specs.declared.node.TypeRecord.{TypeRecord}
@@ -16,6 +15,7 @@ use Rattle.capnp_records.specs.declared.node.Value.{Value}
 use Rattle.capnp_records.specs.declared.node.FieldBody.{FieldBody}
 use Rattle.capnp_records.specs.declared.node.FieldBody.TheVariants as B
 use Rattle.capnp_records.specs.declared.node.FieldRecord.{FieldRecord}
+use Rattle.capnp_model.proofs.lemmas.Tests.{and_false, and_assoc, and_left, and_right, test_is_true, test_is_false, and_comm}
 use Rattle.capnp_compatible.specs.declared.reached.Reached.{Reached}
 use Rattle.capnp_compatible.specs.declared.nodes.Holder.{Holder}
 use Rattle.capnp_compatible.specs.declared.keeps.Versions.{Versions}
@@ -27,7 +27,7 @@ use Rattle.capnp_compatible.specs.Pairs.{has_each, pairs_of, IsFront}
 use Rattle.capnp_compatible.specs.Walks.{IsSoundFor, Decides, Moves, begins_with, has_room, keeps_at, older_fields, newer_fields, older_body, newer_body}
 use Rattle.capnp_compatible.proofs.Relations.{related_by_sort, related_lists}
 use Rattle.capnp_compatible.proofs.Slots.{slots_kept, slot_no_group, group_no_slot, groups_kept, base_is, type_wide, same_members}
-use Rattle.capnp_compatible.proofs.Scans.{and_assoc, and_false, and_swap, front_itself, front_of_front, decides_here, decides_same}
+use Rattle.capnp_compatible.proofs.Scans.{front_itself, front_of_front, decides_here, decides_same}
 
 -- ---- types
 
@@ -52,24 +52,11 @@ same_sorts v old new ok a b h d = decides_same v old new ok _ (bases_test v a b)
 by_count : (v : Versions) (a b : TypeRecord) (pairs : Pairs) → types_test v a b pairs ≡ (a.list_count == b.list_count && bases_test v a.base b.base pairs)
 by_count v a b pairs = related_lists (schema_in v.older) (schema_in v.newer) pairs a.list_count b.list_count (base_type (base_of a.base)) (base_type (base_of b.base)) (base_is a.base) (base_is b.base)
 
-number_is : (a b : ℕ) → a ≡ b → (a == b) ≡ true
-number_is a b h = grind (arith, nat_tests)
-
-pub numbers_apart : (a b : ℕ) → a ≢ b → (a == b) ≡ false
-numbers_apart a b h = by (a == b) refl
-  where
-    same : (a == b) ≡ true → a ≡ b
-    same e = grind (arith, nat_tests)
-
-    by : (x : Bool) → (a == b) ≡ x → x ≡ false
-    by false e = refl
-    by true e = absurd (h (same e))
-
 pub other_counts : (v : Versions) (r : Reached) (a b : TypeRecord) → a.list_count ≢ b.list_count → IsSoundFor v r → Decides v r r false (types_test v a b)
-other_counts v r a b h s = decides_here v r false (types_test v a b) s (λ pairs. by_count v a b pairs ∙ ap (λ x. x && bases_test v a.base b.base pairs) (numbers_apart a.list_count b.list_count h))
+other_counts v r a b h s = decides_here v r false (types_test v a b) s (λ pairs. by_count v a b pairs ∙ ap (λ x. x && bases_test v a.base b.base pairs) (test_is_false a.list_count b.list_count h))
 
 pub same_counts : (v : Versions) (old new : Reached) (ok : Bool) (a b : TypeRecord) → a.list_count ≡ b.list_count → Decides v old new ok (bases_test v a.base b.base) → Decides v old new ok (types_test v a b)
-same_counts v old new ok a b h d = decides_same v old new ok (bases_test v a.base b.base) (types_test v a b) d (λ pairs. by_count v a b pairs ∙ ap (λ x. x && bases_test v a.base b.base pairs) (number_is a.list_count b.list_count h))
+same_counts v old new ok a b h d = decides_same v old new ok (bases_test v a.base b.base) (types_test v a b) d (λ pairs. by_count v a b pairs ∙ ap (λ x. x && bases_test v a.base b.base pairs) (test_is_true a.list_count b.list_count h))
 
 -- ---- slots and groups
 
@@ -92,10 +79,10 @@ module _ (v : Versions) (levels : Levels) (a b : ℕ) (t u : TypeRecord) (d e : 
   other_values r h s = decides_here v r false _ s (λ pairs. slots pairs ∙ ap (λ z. (a == b && z) && types_test v t u pairs) h ∙ ap (λ z. z && types_test v t u pairs) (and_false (a == b)))
 
   pub other_places : (r : Reached) → a ≢ b → IsSoundFor v r → Decides v r r false (bodies_test v levels (B.Slot a t d) (B.Slot b u e))
-  other_places r h s = decides_here v r false _ s (λ pairs. slots pairs ∙ ap (λ z. (z && same_value (option_map value_of d) (option_map value_of e)) && types_test v t u pairs) (numbers_apart a b h))
+  other_places r h s = decides_here v r false _ s (λ pairs. slots pairs ∙ ap (λ z. (z && same_value (option_map value_of d) (option_map value_of e)) && types_test v t u pairs) (test_is_false a b h))
 
   pub same_slots : (old new : Reached) (ok : Bool) → same_value (option_map value_of d) (option_map value_of e) ≡ true → a ≡ b → Decides v old new ok (types_test v t u) → Decides v old new ok (bodies_test v levels (B.Slot a t d) (B.Slot b u e))
-  same_slots old new ok h k w = decides_same v old new ok (types_test v t u) _ w (λ pairs. slots pairs ∙ ap (λ z. (a == b && z) && types_test v t u pairs) h ∙ ap (λ z. (z && true) && types_test v t u pairs) (number_is a b k))
+  same_slots old new ok h k w = decides_same v old new ok (types_test v t u) _ w (λ pairs. slots pairs ∙ ap (λ z. (a == b && z) && types_test v t u pairs) h ∙ ap (λ z. (z && true) && types_test v t u pairs) (test_is_true a b k))
 
 pub slot_and_group : (v : Versions) (levels : Levels) (r : Reached) (a g : ℕ) (t : TypeRecord) (d : Option Value) → IsSoundFor v r → Decides v r r false (bodies_test v levels (B.Slot a t d) (B.Group g))
 slot_and_group v levels r a g t d s = decides_here v r false _ s (λ pairs. group_no_slot (schema_in v.older) (schema_in v.newer) pairs (shape_in (nodes_in v.newer) levels.newer g) a (type_of (type_record_of t)) (option_map value_of d))
@@ -112,10 +99,10 @@ abbrev pub fields_test : Versions → Levels → FieldRecord → FieldRecord →
 fields_test v levels f g pairs = same_option (member_of f.discriminant_value) (member_of g.discriminant_value) && bodies_test v levels f.body g.body pairs
 
 pub other_members : (v : Versions) (levels : Levels) (r : Reached) (f g : FieldRecord) → f.discriminant_value ≢ g.discriminant_value → IsSoundFor v r → Decides v r r false (fields_test v levels f g)
-other_members v levels r f g h s = decides_here v r false _ s (λ pairs. ap (λ z. z && bodies_test v levels f.body g.body pairs) (same_members f.discriminant_value g.discriminant_value ∙ numbers_apart f.discriminant_value g.discriminant_value h))
+other_members v levels r f g h s = decides_here v r false _ s (λ pairs. ap (λ z. z && bodies_test v levels f.body g.body pairs) (same_members f.discriminant_value g.discriminant_value ∙ test_is_false f.discriminant_value g.discriminant_value h))
 
 pub kept_members : (v : Versions) (levels : Levels) (old new : Reached) (ok : Bool) (f g : FieldRecord) → f.discriminant_value ≡ g.discriminant_value → Decides v old new ok (bodies_test v levels f.body g.body) → Decides v old new ok (fields_test v levels f g)
-kept_members v levels old new ok f g h d = decides_same v old new ok (bodies_test v levels f.body g.body) _ d (λ pairs. ap (λ z. z && bodies_test v levels f.body g.body pairs) (same_members f.discriminant_value g.discriminant_value ∙ number_is f.discriminant_value g.discriminant_value h))
+kept_members v levels old new ok f g h d = decides_same v old new ok (bodies_test v levels f.body g.body) _ d (λ pairs. ap (λ z. z && bodies_test v levels f.body g.body pairs) (same_members f.discriminant_value g.discriminant_value ∙ test_is_true f.discriminant_value g.discriminant_value h))
 
 abbrev pub rest_test : Versions → Levels → ℕ → List FieldRecord → Fields → Pairs → Bool
 rest_test v levels count left rest pairs = keeps_fields (schema_in v.older) (schema_in v.newer) pairs count (older_fields v levels left) rest
@@ -181,7 +168,7 @@ moves_not v levels old new count left f fs g is h d = record {
 pub nothing_left : (v : Versions) (levels : Levels) (count : ℕ) (left : List FieldRecord) (pairs : Pairs) → rest_test v levels count left no_fields pairs ≡ (length left == 0)
 unfolding keeps_fields
 nothing_left v levels count [] pairs = refl
-nothing_left v levels count (f ∷ fs) pairs = sym (numbers_apart (suc (length fs)) 0 (λ h. omega (arith, h)))
+nothing_left v levels count (f ∷ fs) pairs = sym (test_is_false (suc (length fs)) 0 (λ h. omega (arith, h)))
 
 one_field : (groups : ℕ → Shape) (f : FieldRecord) (fs : List FieldRecord) → member_count (fields_from groups (map field_of (f ∷ fs))) ≡ cond (not (f.discriminant_value == 65535)) (1 + member_count (fields_from groups (map field_of fs))) (member_count (fields_from groups (map field_of fs)))
 one_field groups f fs = by (f.discriminant_value == 65535)
@@ -260,5 +247,5 @@ module _ (v : Versions) (levels : Levels) (start old : Reached) (whole : Pairs �
         tested pairs
         ∙ ap (λ (xs : List FieldRecord). has_each pairs (pairs_of old) && rest_test v levels count left (newer_fields v levels xs) pairs) e
         ∙ ap (λ z. has_each pairs (pairs_of old) && z) (nothing_left v levels count left pairs)
-        ∙ and_swap (has_each pairs (pairs_of old)) (length left == 0);
+        ∙ and_comm (has_each pairs (pairs_of old)) (length left == 0);
   }

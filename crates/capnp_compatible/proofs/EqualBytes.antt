@@ -15,6 +15,7 @@ use Rattle.capnp_model.specs.Bytes.{bytes_of_words, words_in_bytes}
 use Rattle.capnp_model.specs.Fits.{Fits}
 use Rattle.capnp_model.specs.Calls.{text_tree, blob_tree}
 use Rattle.capnp_model.specs.Decoding.{decode}
+use Rattle.capnp_model.proofs.lemmas.Tests.{and_right}
 use Rattle.capnp_compatible.specs.Defaults.{AreBytes}
 use Rattle.capnp_model.proofs.lemmas.Numbers.{length-numbers_in}
 use Rattle.capnp_model.proofs.lemmas.FittingValues.{bytes_fit}
@@ -24,7 +25,6 @@ use Rattle.capnp_model.proofs.lemmas.TrimFits.{Fits-trim, depth-trim}
 use Rattle.capnp_model.proofs.lemmas.Depth.{tree_at_deep}
 use Rattle.capnp_model.proofs.lemmas.CanonicalWords.{canonical_words_are}
 use Rattle.capnp_model.proofs.lemmas.ByteWords.{words_back, bytes_length}
-use Rattle.capnp_model.proofs.lemmas.KeptRules.{and_right}
 
 same_front : (a b x y : ℕ) → x < 256 → y < 256 → a * 2 ^ 8 + x % 2 ^ 8 ≡ b * 2 ^ 8 + y % 2 ^ 8 → (x ≡ y) × (a ≡ b)
 same_front a b x y h k e = (omega arith, omega arith)

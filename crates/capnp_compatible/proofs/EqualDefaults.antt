@@ -7,7 +7,7 @@ use Rattle.capnp_model.specs.Schemas.{PlainType, Ty, void, plain, text, blob, un
 use Rattle.capnp_model.specs.Decoding.{decode}
 use Rattle.capnp_model.specs.Accepted.{default_bits, default_tree, is_default_of, opens_as, is_good_segment, is_good_value}
 use Rattle.capnp_model.specs.Compatible.{Pairs, related, same_default}
-use Rattle.capnp_model.proofs.lemmas.KeptRules.{and_left, and_right}
+use Rattle.capnp_model.proofs.lemmas.Tests.{and_true, lt_is, and_left, and_right}
 use Rattle.capnp_compatible.specs.Defaults.{AllBytes, default_bytes, same_bytes, same_value}
 use Rattle.capnp_compatible.proofs.EqualBytes.{data_equal, texts_equal, segments_equal}
 
@@ -17,21 +17,14 @@ same_slot_default void d e = true
 same_slot_default (plain p) d e = default_bits d == default_bits e
 same_slot_default _ d e = same_default (default_tree d) (default_tree e)
 
-below : (a b : ℕ) → nat_lt a b ≡ true → a < b
-below a b h = grind (arith, nat_tests)
-
-and_true : (b : Bool) → (b && true) ≡ b
-and_true true = refl
-and_true false = refl
-
 segments : (test other : Tree → Bool) (xs ys : List ℕ) → is_good_segment test xs ≡ true → is_good_segment other ys ≡ true → same_default (decode xs) (decode ys) ≡ bytes_eq xs ys
 segments test other xs ys g h = by (decode xs) (decode ys) refl refl (and_right (nat_lt (length xs) (8 * 2 ^ 29)) _ g) (and_right (nat_lt (length ys) (8 * 2 ^ 29)) _ h)
   where
     a : length xs < 8 * 2 ^ 29
-    a = below (length xs) (8 * 2 ^ 29) (and_left (nat_lt (length xs) (8 * 2 ^ 29)) _ g)
+    a = lt_is (length xs) (8 * 2 ^ 29) (and_left (nat_lt (length xs) (8 * 2 ^ 29)) _ g)
 
     b : length ys < 8 * 2 ^ 29
-    b = below (length ys) (8 * 2 ^ 29) (and_left (nat_lt (length ys) (8 * 2 ^ 29)) _ h)
+    b = lt_is (length ys) (8 * 2 ^ 29) (and_left (nat_lt (length ys) (8 * 2 ^ 29)) _ h)
 
     by : (o p : Option Tree) → decode xs ≡ o → decode ys ≡ p → (elim o as (λ (x : Option Tree). Bool) [ None ↦ false | Some t ↦ test t ]) ≡ true → (elim p as (λ (x : Option Tree). Bool) [ None ↦ false | Some t ↦ other t ]) ≡ true → same_default o p ≡ bytes_eq xs ys
     by None p e f k l = absurd (cc k)
@@ -75,7 +68,7 @@ text_defaults (Some (bits qd nd)) e h k g l x y = absurd (cc h)
 text_defaults (Some (text_bytes bd)) None h k g l x y = refl
 text_defaults (Some (text_bytes bd)) (Some no_value) h k g l x y = absurd (cc k)
 text_defaults (Some (text_bytes bd)) (Some (bits qe ne)) h k g l x y = absurd (cc k)
-text_defaults (Some (text_bytes bd)) (Some (text_bytes be)) h k g l x y = texts_equal bd be x y (below (length bd) (2 ^ 29 - 1) h) (below (length be) (2 ^ 29 - 1) k)
+text_defaults (Some (text_bytes bd)) (Some (text_bytes be)) h k g l x y = texts_equal bd be x y (lt_is (length bd) (2 ^ 29 - 1) h) (lt_is (length be) (2 ^ 29 - 1) k)
 text_defaults (Some (text_bytes bd)) (Some (blob_bytes be)) h k g l x y = absurd (cc k)
 text_defaults (Some (text_bytes bd)) (Some (list_segment be)) h k g l x y = absurd (cc k)
 text_defaults (Some (text_bytes bd)) (Some (struct_segment be)) h k g l x y = absurd (cc k)
@@ -104,7 +97,7 @@ blob_defaults (Some (blob_bytes bd)) None h k g l x y = refl
 blob_defaults (Some (blob_bytes bd)) (Some no_value) h k g l x y = absurd (cc k)
 blob_defaults (Some (blob_bytes bd)) (Some (bits qe ne)) h k g l x y = absurd (cc k)
 blob_defaults (Some (blob_bytes bd)) (Some (text_bytes be)) h k g l x y = absurd (cc k)
-blob_defaults (Some (blob_bytes bd)) (Some (blob_bytes be)) h k g l x y = data_equal bd be x y (below (length bd) (2 ^ 29) h) (below (length be) (2 ^ 29) k)
+blob_defaults (Some (blob_bytes bd)) (Some (blob_bytes be)) h k g l x y = data_equal bd be x y (lt_is (length bd) (2 ^ 29) h) (lt_is (length be) (2 ^ 29) k)
 blob_defaults (Some (blob_bytes bd)) (Some (list_segment be)) h k g l x y = absurd (cc k)
 blob_defaults (Some (blob_bytes bd)) (Some (struct_segment be)) h k g l x y = absurd (cc k)
 blob_defaults (Some (blob_bytes bd)) (Some untyped_value) h k g l x y = absurd (cc k)
@@ -219,9 +212,6 @@ interface_defaults (Some (list_segment bd)) e h k = absurd (cc h)
 interface_defaults (Some (struct_segment bd)) e h k = absurd (cc h)
 interface_defaults (Some untyped_value) e h k = absurd (cc h)
 interface_defaults (Some interface_value) e h k = absurd (cc h)
-
-number_is : (a : ℕ) → (a == a) ≡ true
-number_is a = grind arith
 
 -- the defaults of related types are equal where their values are
 pub defaults_equal : (o n : Schema) (pairs : Pairs) (t u : Ty) (d e : Option Value) → related o n pairs t u ≡ true → is_default_of t d ≡ true → is_default_of u e ≡ true

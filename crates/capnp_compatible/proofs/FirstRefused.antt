@@ -5,6 +5,8 @@ use Rattle.std.proofs.lemmas.List.{map_more}
 use Rattle.std.proofs.lemmas.List.Folds.{list_all-append}
 use Rattle.capnp_model.specs.Calls.{Call as ModelCall}
 use Rattle.capnp_calls.specs.declared.call.Call.{Call}
+use Rattle.capnp_model.proofs.lemmas.Tests.{and_true}
+use Rattle.capnp_records.proofs.lemmas.FieldPlaces.{length_mapped}
 use Rattle.capnp_compatible.specs.Ways.{IsFirstRefused}
 
 taken_map : {A B : Type 0} (f : A → B) (n : ℕ) (xs : List A) → take n (map f xs) ≡ map f (take n xs)
@@ -12,19 +14,11 @@ taken_map f zero xs = refl
 taken_map f (suc n) [] = refl
 taken_map f (suc n) (x ∷ xs) = ap (λ ys. f x ∷ ys) (taken_map f n xs)
 
-length_map : {A B : Type 0} (f : A → B) (xs : List A) → length (map f xs) ≡ length xs
-length_map f [] = refl
-length_map f (x ∷ xs) = ap suc (length_map f xs)
-
 pub taken_all : {A : Type 0} (xs : List A) (n : ℕ) → length xs ≤ n → take n xs ≡ xs
 taken_all [] zero h = refl
 taken_all [] (suc n) h = refl
 taken_all (x ∷ xs) zero h = absurd (omega arith)
 taken_all (x ∷ xs) (suc n) h = ap (λ ys. x ∷ ys) (taken_all xs n (omega arith))
-
-and_true : (b : Bool) → (b && true) ≡ b
-and_true true = refl
-and_true false = refl
 
 -- one call more is tested
 pub next_tested : (test : ModelCall → Bool) (f : Call → ModelCall) (xs : List Call) (i : ℕ) (x : Call) (b : Bool) → i < length xs → x ≡ get_or xs i x → list_all test (map f (take i xs)) ≡ true → b ≡ test (f x) → list_all test (map f (take (i + 1) xs)) ≡ b
@@ -37,7 +31,7 @@ first_refused test f xs i x lt is h e =
     let less : i + 1 - 1 ≡ i = omega arith in
     record {
       some = omega arith;
-      within = omega (arith, length_map f xs);
+      within = omega (arith, length_mapped f xs);
       before = ap (λ k. list_all test (take k (map f xs))) less ∙ ap (list_all test) (taken_map f i xs) ∙ h;
       here = ap (list_all test) (taken_map f (i + 1) xs) ∙ next_tested test f xs i x false lt is h e;
     }

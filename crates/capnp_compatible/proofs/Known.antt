@@ -3,12 +3,8 @@ use Rattle.std.proofs.Common.{◌≡◌, ℕ, Bool, true, false, not, cond, ◌&
 use Rattle.std.proofs.lemmas.List.Folds.{list_all-append}
 use Rattle.std.proofs.lemmas.Bool.Decides.{nat_tests}
 use Rattle.capnp_model.specs.Compatible.{Pairs, has_pair}
-use Rattle.capnp_model.proofs.lemmas.KeptRules.{and_left, and_right}
+use Rattle.capnp_model.proofs.lemmas.Tests.{same_number, and_true, and_left, and_right}
 use Rattle.capnp_compatible.specs.Pairs.{has_each}
-use Rattle.capnp_compatible.proofs.Scans.{and_true}
-
-same_number : (a b : ℕ) → (a == b) ≡ true → a ≡ b
-same_number a b h = grind (arith, nat_tests)
 
 -- one among pairs that are all there is there
 there : (pairs more : Pairs) (i j : ℕ) → has_pair more i j ≡ true → has_each pairs more ≡ true → has_pair pairs i j ≡ true
@@ -34,10 +30,6 @@ reached_before pairs more i j h = by (has_each pairs more) refl
 pub reached_now : (pairs more : Pairs) (i j : ℕ) → has_each pairs (more ++ (i, j) ∷ []) ≡ (has_each pairs more && has_pair pairs i j)
 reached_now pairs more i j = list_all-append (λ p. has_pair pairs p.0 p.1) more ((i, j) ∷ []) ∙ ap (λ b. has_each pairs more && b) (and_true (has_pair pairs i j))
 
-or_assoc : (a b c : Bool) → ((a || b) || c) ≡ (a || (b || c))
-or_assoc true b c = refl
-or_assoc false b c = refl
-
 or_swap : (a b : Bool) → (a || (b || false)) ≡ (b || a)
 or_swap true true = refl
 or_swap true false = refl
@@ -57,10 +49,3 @@ pub either : (b c : Bool) → cond b true c ≡ (b || c)
 either true c = refl
 either false c = refl
 
-pub was_new : (b : Bool) → true ≡ not b → b ≡ false
-was_new false h = refl
-was_new true h = absurd (cc h)
-
-pub was_there : (b : Bool) → false ≡ not b → b ≡ true
-was_there true h = refl
-was_there false h = absurd (cc h)

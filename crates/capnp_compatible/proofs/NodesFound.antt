@@ -4,12 +4,10 @@ use Rattle.std.specs.List.{list_all}
 use Rattle.std.specs.Cmp.Derive.{both_true}
 use Rattle.capnp_model.specs.Schemas.{Field, Node}
 use Rattle.capnp_model.specs.Accepted.{find_node, fields_of_kind, enumerants_of_kind, has_good_default, default_reads, is_group_node, names_a, no_shape, shape_of_node, shape_in, schema_of, IsAccepted}
-use Rattle.capnp_model.proofs.lemmas.KeptRules.{behind, no_break, and_left, and_right, found_passes}
+use Rattle.capnp_model.proofs.lemmas.KeptRules.{behind, no_break, found_passes}
+use Rattle.capnp_model.proofs.lemmas.Tests.{and_left, and_right}
+use Rattle.capnp_queries.proofs.lemmas.Records.{all_both}
 use Rattle.capnp_compatible.specs.Holders.{are_sound_in}
-
-both_tests : {A : Type 0} (p q : A → Bool) (xs : List A) → list_all p xs ≡ true → list_all q xs ≡ true → list_all (λ x. p x && q x) xs ≡ true
-both_tests p q [] h k = refl
-both_tests p q (x ∷ xs) h k = both_true (both_true (and_left (p x) (list_all p xs) h) (and_left (q x) (list_all q xs) k)) (both_tests p q xs (and_right (p x) (list_all p xs) h) (and_right (q x) (list_all q xs) k))
 
 has_defaults : Node → Bool
 has_defaults n = list_all (λ f. has_good_default f.kind) (fields_of_kind n.kind)
@@ -21,7 +19,7 @@ all_sound : (nodes : List Node) → list_all has_defaults nodes ≡ true → lis
 unfolding has_defaults have_reading
 all_sound [] h k = refl
 all_sound (n ∷ nodes) h k =
-    both_true (both_tests (λ (f : Field). has_good_default f.kind) (λ (f : Field). default_reads f.kind) (fields_of_kind n.kind) (and_left (has_defaults n) (list_all has_defaults nodes) h) (and_left (have_reading n) (list_all have_reading nodes) k))
+    both_true (all_both (λ (f : Field). has_good_default f.kind) (λ (f : Field). default_reads f.kind) (fields_of_kind n.kind) (and_left (has_defaults n) (list_all has_defaults nodes) h) (and_left (have_reading n) (list_all have_reading nodes) k))
     (all_sound nodes (and_right (has_defaults n) (list_all has_defaults nodes) h) (and_right (have_reading n) (list_all have_reading nodes) k))
 
 sound_nodes : (nodes : List Node) → IsAccepted nodes → list_all are_sound_in nodes ≡ true

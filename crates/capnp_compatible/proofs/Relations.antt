@@ -3,17 +3,11 @@ use Rattle.std.proofs.Common.{◌≡◌, ◌≢◌, ℕ, zero, suc, Bool, true, 
 use Rattle.std.proofs.lemmas.Bool.Decides.{nat_tests}
 use Rattle.capnp_model.specs.Schemas.{bool, int, uint, «enum», Ty, void, plain, text, blob, untyped, interface, struct, list, lists_of, Schema}
 use Rattle.capnp_model.specs.Compatible.{Pairs, related}
+use Rattle.capnp_model.proofs.lemmas.Tests.{same_number, and_true, not_zero}
 use Rattle.capnp_compatible.specs.Types.{sort, bits, id_in, keeps_id}
-
-number_of_test : (a b : ℕ) → (a == b) ≡ true → a ≡ b
-number_of_test a b h = grind (arith, nat_tests)
 
 test_fails : (a b : ℕ) → (a == b) ≡ false → a ≢ b
 test_fails a b h = grind (arith, nat_tests)
-
-pub and_true : (b : Bool) → (b && true) ≡ b
-and_true true = refl
-and_true false = refl
 
 -- no list
 abbrev pub is_base : Ty → Bool
@@ -138,17 +132,14 @@ related_by_sort o n pairs (list a) b h k = absurd (cc h)
 zero_and_more : (d : ℕ) → (0 == suc d) ≡ false
 zero_and_more d = grind (arith, nat_tests)
 
-more_and_zero : (c : ℕ) → (suc c == 0) ≡ false
-more_and_zero c = grind (arith, nat_tests)
-
 both_more : (c d : ℕ) → (c == d) ≡ (suc c == suc d)
 both_more c d = by (c == d) (suc c == suc d) refl refl
   where
     by : (x y : Bool) → (c == d) ≡ x → (suc c == suc d) ≡ y → x ≡ y
     by true true p q = refl
     by false false p q = refl
-    by true false p q = absurd (omega (arith, number_of_test c d p, test_fails (suc c) (suc d) q))
-    by false true p q = absurd (omega (arith, number_of_test (suc c) (suc d) q, test_fails c d p))
+    by true false p q = absurd (omega (arith, same_number c d p, test_fails (suc c) (suc d) q))
+    by false true p q = absurd (omega (arith, same_number (suc c) (suc d) q, test_fails c d p))
 
 -- lists of types are related where they are as deep and the types are
 pub related_lists : (o n : Schema) (pairs : Pairs) (c d : ℕ) (a b : Ty) → is_base a ≡ true → is_base b ≡ true
@@ -168,7 +159,7 @@ related_lists o n pairs zero (suc d) a b h k = no_list a (lists_of d b) h ∙ ap
     no_list interface y g = refl
     no_list (struct i) y g = refl
     no_list (list x) y g = absurd (cc g)
-related_lists o n pairs (suc c) zero a b h k = no_list (lists_of c a) b k ∙ ap (λ x. x && related o n pairs a b) (sym (more_and_zero c))
+related_lists o n pairs (suc c) zero a b h k = no_list (lists_of c a) b k ∙ ap (λ x. x && related o n pairs a b) (sym (not_zero c))
   where
     no_list : (x y : Ty) → is_base y ≡ true → related o n pairs (list x) y ≡ false
     no_list x void g = refl

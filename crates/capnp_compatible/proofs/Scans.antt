@@ -1,28 +1,11 @@
 -- Steps of a walk, one after the other.
 use Rattle.std.proofs.Common.{◌≡◌, Bool, true, false, ◌&&◌, [], ◌∷◌, ◌++◌, append_assoc, refl, sym, ◌∙◌, ap}
 use Rattle.capnp_model.specs.Compatible.{Pairs}
+use Rattle.capnp_model.proofs.lemmas.Tests.{and_assoc, and_comm}
 use Rattle.capnp_compatible.specs.declared.reached.Reached.{Reached}
 use Rattle.capnp_compatible.specs.declared.keeps.Versions.{Versions}
 use Rattle.capnp_compatible.specs.Pairs.{has_each, pairs_of, IsFront}
 use Rattle.capnp_compatible.specs.Walks.{IsSoundFor, Decides}
-
-pub and_assoc : (a b c : Bool) → ((a && b) && c) ≡ (a && (b && c))
-and_assoc true b c = refl
-and_assoc false b c = refl
-
-pub and_swap : (a b : Bool) → (a && b) ≡ (b && a)
-and_swap true true = refl
-and_swap true false = refl
-and_swap false true = refl
-and_swap false false = refl
-
-pub and_false : (b : Bool) → (b && false) ≡ false
-and_false true = refl
-and_false false = refl
-
-pub and_true : (b : Bool) → (b && true) ≡ b
-and_true true = refl
-and_true false = refl
 
 append_none : (xs : Pairs) → xs ++ [] ≡ xs
 append_none [] = refl
@@ -37,7 +20,7 @@ front_of_front xs ys zs a b = record { rest = a.rest ++ b.rest; parts = b.parts 
 module _ (v : Versions) where
   -- nothing is reached, and the test does not look at pairs
   pub decides_here : (r : Reached) (ok : Bool) (test : Pairs → Bool) → IsSoundFor v r → ((pairs : Pairs) → test pairs ≡ ok) → Decides v r r ok test
-  decides_here r ok test s h = record { sound = s; grows = front_itself (pairs_of r); tested = λ pairs. ap (λ b. has_each pairs (pairs_of r) && b) (h pairs) ∙ and_swap (has_each pairs (pairs_of r)) ok }
+  decides_here r ok test s h = record { sound = s; grows = front_itself (pairs_of r); tested = λ pairs. ap (λ b. has_each pairs (pairs_of r) && b) (h pairs) ∙ and_comm (has_each pairs (pairs_of r)) ok }
 
   -- another test that is the same
   pub decides_same : (old new : Reached) (ok : Bool) (test other : Pairs → Bool) → Decides v old new ok test → ((pairs : Pairs) → other pairs ≡ test pairs) → Decides v old new ok other

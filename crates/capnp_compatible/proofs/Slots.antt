@@ -8,13 +8,10 @@ use Rattle.capnp_records.specs.NodeViews.{member_of, type_record_of, base_of}
 use Rattle.capnp_records.specs.declared.node.BaseType.TheVariants as B
 use Rattle.capnp_records.specs.declared.node.BaseType.{BaseType as RustBase}
 use Rattle.capnp_records.specs.declared.node.TypeRecord.{TypeRecord as RustType}
+use Rattle.capnp_model.proofs.lemmas.Tests.{same_number, and_false, test_is_true}
 use Rattle.capnp_compatible.specs.Defaults.{AllBytes, default_bytes, same_value}
 use Rattle.capnp_compatible.proofs.Relations.{is_base}
 use Rattle.capnp_compatible.proofs.EqualDefaults.{defaults_equal}
-
-and_false : (b : Bool) → (b && false) ≡ false
-and_false true = refl
-and_false false = refl
 
 pointers : (x r m v : Bool) → (r ≡ true → m ≡ v) → ((x && r) && m) ≡ ((x && v) && r)
 pointers true true m true h = h refl
@@ -44,9 +41,6 @@ abbrev pub IsWide : Ty → Type 0
 IsWide (plain p) = 0 < width p
 IsWide _ = Unit {0}
 
-same_number : (a b : ℕ) → (a == b) ≡ true → a ≡ b
-same_number a b h = grind (arith, nat_tests)
-
 same_width : (o n : Schema) (p q : PlainType) → related_plain o n p q ≡ true → width p ≡ width q
 same_width o n bool bool h = refl
 same_width o n bool (int w) h = absurd (cc h)
@@ -71,9 +65,6 @@ by_truth false false f g = refl
 by_truth true false f g = sym (f refl)
 by_truth false true f g = g refl
 
-is_number : (a b : ℕ) → a ≡ b → (a == b) ≡ true
-is_number a b h = grind (arith, nat_tests)
-
 cancelled : (w a b : ℕ) → 0 < w → w * a ≡ w * b → a ≡ b
 cancelled w zero zero h e = refl
 cancelled w zero (suc b) h e = absurd (omega arith)
@@ -84,11 +75,11 @@ same_place : (o n : Schema) (p q : PlainType) (a b : ℕ) → 0 < width p → re
 same_place o n p q a b wide r =
     let w = same_width o n p q r in
     by_truth (width p * a == width q * b) (a == b)
-    (λ h. is_number a b (cancelled (width p) a b wide (same_number (width p * a) (width q * b) h ∙ ap (λ v. v * b) (sym w))))
-    (λ h. is_number (width p * a) (width q * b) (ap (λ x. width p * x) (same_number a b h) ∙ ap (λ v. v * b) w))
+    (λ h. test_is_true a b (cancelled (width p) a b wide (same_number (width p * a) (width q * b) h ∙ ap (λ v. v * b) (sym w))))
+    (λ h. test_is_true (width p * a) (width q * b) (ap (λ x. width p * x) (same_number a b h) ∙ ap (λ v. v * b) w))
 
 no_number : (a b : ℕ) → (a == b) ≡ false → a ≡ b → ⊥
-no_number a b h e = absurd (cc (sym h ∙ is_number a b e))
+no_number a b h e = absurd (cc (sym h ∙ test_is_true a b e))
 
 -- the newer slot keeps the older just where places, values of defaults and types agree
 pub slots_kept : (o n : Schema) (pairs : Pairs) (a b : ℕ) (t u : Ty) (d e : Option Value) → IsWide t → is_default_of t d ≡ true → is_default_of u e ≡ true
@@ -242,7 +233,7 @@ pub same_members : (d e : ℕ) → same_option (member_of d) (member_of e) ≡ (
 same_members d e = by (d == 65535) (e == 65535) refl refl
   where
     by : (x y : Bool) → (d == 65535) ≡ x → (e == 65535) ≡ y → same_option (if x then None else Some d) (if y then None else Some e) ≡ (d == e)
-    by true true p q = sym (is_number d e (same_number d 65535 p ∙ sym (same_number e 65535 q)))
+    by true true p q = sym (test_is_true d e (same_number d 65535 p ∙ sym (same_number e 65535 q)))
     by true false p q = by_truth false (d == e) (λ h. absurd (cc h)) (λ h. absurd (no_number e 65535 q (sym (same_number d e h) ∙ same_number d 65535 p)))
     by false true p q = by_truth false (d == e) (λ h. absurd (cc h)) (λ h. absurd (no_number d 65535 p (same_number d e h ∙ same_number e 65535 q)))
     by false false p q = refl

@@ -50,10 +50,6 @@ struct_type_is interface = refl
 struct_type_is (struct i) = refl
 struct_type_is (list t) = refl
 
-pub list_type : (c : ℕ) (t : Ty) → 0 < c → lists_of c t ≡ list (lists_of (c - 1) t)
-list_type zero t h = absurd (omega arith)
-list_type (suc c) t h = let less : suc c - 1 ≡ c = omega arith in ap (λ (k : ℕ). list (lists_of k t)) (sym less)
-
 module _ (o n : Schema) where
   pub name_into_type : (l : List ℕ) (t u : Ty) (go : At → Bool) → into_type o n (name l) t u go
       ≡ elim (struct_id_in t) [ None ↦ true | Some i ↦ elim (struct_id_in u) as (λ (x : Option ℕ). Bool) [ None ↦ true | Some j ↦ into_fields l (fields_in (o.shape_of i)) (fields_in (n.shape_of j)) go ] ]

@@ -22,17 +22,18 @@ use Rattle.capnp_wire.proofs.lemmas.ListLaws.{numbers_low}
 use Rattle.capnp_footprints.specs.Changes.{ReplacesObject}
 use Rattle.capnp_footprints.specs.Footprints.{OwnsObject}
 use Rattle.capnp_footprints.specs.Writes.{spliced, with_words}
-use Rattle.capnp_footprints.proofs.lemmas.Kept.{words_length}
 use Rattle.capnp_footprints.proofs.lemmas.Lift.{object_replaced_owned, object_replaced_then}
 use Rattle.capnp_footprints.proofs.lemmas.Rows.{after_none}
 use Rattle.capnp_footprints.proofs.lemmas.Spans.{words_front}
 use Rattle.capnp_footprints.proofs.lemmas.Writing.{plain_words}
+use Rattle.capnp_model.proofs.lemmas.WordBits.{written_in_low}
+use Rattle.capnp_model.proofs.lemmas.ReadFits.{words_length}
 use Rattle.capnp_copy.specs.Blobs.{whole_of, front_of}
 use Rattle.capnp_copy.specs.Bytes.{SetsBytes}
 use Rattle.capnp_copy.specs.Memory.{overwritten}
-use Rattle.capnp_copy.proofs.lemmas.BlobNumbers.{front_section, number_fits}
+use Rattle.capnp_copy.proofs.lemmas.BlobNumbers.{front_section, number_fits, number_behind}
 use Rattle.capnp_copy.proofs.ByteWords.{words_of_zeros}
-use Rattle.capnp_copy.proofs.lemmas.ElementLaws.{plain_parts, low_bits, masked_with, set_plain, no_plain_word, none_written, same_list}
+use Rattle.capnp_copy.proofs.lemmas.ElementLaws.{plain_parts, low_bits, set_plain, no_plain_word, none_written, same_list}
 
 -- ---- bytes that are read
 
@@ -181,7 +182,7 @@ whole_set n s p m at section bytes small first whole l o =
     ∙ ap (λ (k : ℕ). with_bits k (64 * length vs) (section_of vs) (section_of ws) % 2 ^ (8 * m)) at_is
     ∙ ap (λ (k : ℕ). with_bits (8 * at) k (section_of vs) (section_of ws) % 2 ^ (8 * m)) wide
     ∙ ap (λ (k : ℕ). with_bits (8 * at) (8 * length bytes) k (section_of ws) % 2 ^ (8 * m)) number
-    ∙ masked_with (8 * at) (8 * length bytes) (number_of 8 bytes) (section_of ws) (8 * m) (number_of_lt 8 bytes) (omega (arith, l))
+    ∙ written_in_low (8 * at) (8 * length bytes) (number_of 8 bytes) (section_of ws) (8 * m) (number_of_lt 8 bytes) (omega (arith, l))
     ∙ ap (with_bits (8 * at) (8 * length bytes) (number_of 8 bytes)) x.section_is in
     subst (λ (k : ℕ). ReplacesObject n s (with_words s (after p (at / 8)) vs) (a_list p 2 m) (plain_list 2 m k)) now written
 
@@ -213,11 +214,6 @@ sets_in_turn s u v start at k bytes l f g n m section few o =
 
 pub sets_then : (s u v : Segments) (start : code.Place) (at k : ℕ) (bytes : List ℕ) → k ≤ length bytes → SetsBytes s u start at (take k bytes) → SetsBytes u v start (at + k) (take (length bytes - k) (drop k bytes)) → SetsBytes s v start at bytes
 sets_then s u v start at k bytes l f g = sets_in_turn s u v start at k bytes l f (subst (λ (xs : List ℕ). SetsBytes u v start (at + k) xs) (take_rest bytes k) g)
-
--- eight bytes that begin with these, and then are zeros
-number_behind : (xs ys : List ℕ) → number_of 8 ys ≡ 0 → number_of 8 (xs ++ ys) ≡ number_of 8 xs
-number_behind [] ys z = z
-number_behind (x ∷ xs) ys z = ap (λ (n : ℕ). n * 2 ^ 8 + x % 2 ^ 8) (number_behind xs ys z)
 
 pub all_number : (bytes all : List ℕ) → length bytes ≤ 8 → all ≡ overwritten 0 bytes (replicate 8 0) → bits_at 0 64 (number_of 8 all) ≡ number_of 8 bytes
 all_number bytes all l e =

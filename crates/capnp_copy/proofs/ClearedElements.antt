@@ -22,6 +22,7 @@ use Rattle.capnp_footprints.proofs.lemmas.Algebra.{changes_nothing}
 use Rattle.capnp_footprints.proofs.lemmas.Lift.{object_replaced_owned, object_replaced_then}
 use Rattle.capnp_footprints.proofs.lemmas.Cells.{element_parts, element_of_list, list_of_element}
 use Rattle.capnp_footprints.specs.Children.{childless}
+use Rattle.capnp_footprints.proofs.lemmas.Turns.{element_shape}
 use Rattle.capnp_copy.specs.Clearing.{ClearsKids, ClearsElements}
 use Rattle.capnp_footprints.proofs.lemmas.Nulls.{nulls_behind}
 
@@ -36,11 +37,6 @@ unfolding childless_to
 still_count k zero es = refl
 still_count k (suc i) no_elements = refl
 still_count k (suc i) (element s ts es) = ap suc (still_count k i es)
-
-element_is : (d i : ℕ) (es : Elements) → i < element_count es → (section : ℕ) × (kids : Trees) × (element_at d es i ≡ structure d section kids)
-element_is d i no_elements l = absurd (omega (arith, l))
-element_is d zero (element s ts es) l = (s, ts, refl)
-element_is d (suc i) (element s ts es) l = element_is d i es (omega (arith, l))
 
 childless_next : (d k i section : ℕ) (kids : Trees) (es : Elements) → i < element_count es → element_at d (childless_to k i es) i ≡ structure d section kids → with_element (childless_to k i es) i section (resized k none) ≡ childless_to k (suc i) es
 unfolding childless_to
@@ -130,7 +126,7 @@ elements_next s u v p m q m' c d k i w l h clears = λ n es o. (
     let less : i < element_count es = omega (arith, l, known.count) in
     let now = h n es o in
     let mine = object_replaced_owned n s u (a_list p 7 m) _ _ o now in
-    let x = element_is d i (childless_to k i es) few in
+    let x = element_shape d i (childless_to k i es) few in
     let one = element_of_list n u p m d k i (childless_to k i es) few mine in
     let one' = subst (λ (t : Tree). OwnsObject n u (a_struct (after (after p 1) (i * (d + k))) d k) t) x.2 one in
     let next = list_of_element n u v p m d k i x.0 (resized k none) (childless_to k i es) few mine (clears n d x.0 x.1 one') in

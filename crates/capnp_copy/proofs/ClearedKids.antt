@@ -9,6 +9,7 @@ use Rattle.capnp_footprints.specs.Footprints.{object_footprint, OwnsObject}
 use Rattle.capnp_footprints.specs.Changes.{ReplacesObject}
 use Rattle.capnp_footprints.proofs.lemmas.Algebra.{changes_nothing}
 use Rattle.capnp_footprints.proofs.lemmas.Lift.{struct_parts, object_replaced_owned, object_replaced_then, child_of_struct, struct_of_child}
+use Rattle.capnp_footprints.proofs.lemmas.Turns.{struct_counted}
 use Rattle.capnp_copy.specs.Clearing.{ClearsValue, ClearsKids}
 
 -- the first of them are null
@@ -30,9 +31,6 @@ nulled_all zero (t ▸ ts) e = absurd (omega (arith, e))
 nulled_all (suc k) none e = absurd (omega (arith, e))
 nulled_all (suc k) (t ▸ ts) e = ap (λ (us : Trees). null ▸ us) (nulled_all k ts (omega (arith, e)))
 
-kids_of : (n : ℕ) (s : Segments) (p : Place) (d k w section : ℕ) (kids : Trees) → OwnsObject n s (a_struct p d k) (structure w section kids) → tree_count kids ≡ k
-kids_of n s p d k w section kids o = each_count (tree_at n s) (after p d) k kids (struct_parts n s p d k w section kids o.means).1.kids_are
-
 -- the first i of a struct's children have become null
 pub KidsSoFar : Segments → Segments → Place → ℕ → ℕ → ℕ → Type 0
 KidsSoFar s u p d k i = (n w section : ℕ) (kids : Trees) → OwnsObject n s (a_struct p d k) (structure w section kids) → ReplacesObject n s u (a_struct p d k) (structure w section (nulled i kids))
@@ -48,7 +46,7 @@ kids_next s u v p d k i l h c = λ n w section kids o. (
     let mine = object_replaced_owned n s u (a_struct p d k) _ _ o now in
     let one = c n _ (child_of_struct n u p d k i w section (nulled i kids) l mine) in
     let next = struct_of_child n u v p d k i w section (nulled i kids) null l mine one in
-    let few = kids_of n s p d k w section kids o in
+    let few = struct_counted n s p d k w section kids o in
     let same : structure w section (with_child (nulled i kids) i null) ≡ structure w section (nulled (suc i) kids) = ap (structure w section) (nulled_next i kids (omega (arith, few, l))) in
     object_replaced_then n s u v (a_struct p d k) _ _ now (subst (λ (t : Tree). ReplacesObject n u v (a_struct p d k) t) same next)
     )
@@ -56,7 +54,7 @@ kids_next s u v p d k i l h c = λ n w section kids o. (
 pub kids_all : (s u : Segments) (p : Place) (d k : ℕ) → KidsSoFar s u p d k k → ClearsKids s u p d k
 unfolding KidsSoFar
 kids_all s u p d k h = λ n w section kids o.
-    subst (λ (ts : Trees). ReplacesObject n s u (a_struct p d k) (structure w section ts)) (nulled_all k kids (kids_of n s p d k w section kids o)) (h n w section kids o)
+    subst (λ (ts : Trees). ReplacesObject n s u (a_struct p d k) (structure w section ts)) (nulled_all k kids (struct_counted n s p d k w section kids o)) (h n w section kids o)
 
 pub kids_without : (s : Segments) (p : Place) (d k : ℕ) → k ≡ 0 → ClearsKids s s p d k
 kids_without s p d k e = kids_all s s p d k (subst (λ (i : ℕ). KidsSoFar s s p d k i) (sym e) (kids_none s p d k))

@@ -25,8 +25,8 @@ use Rattle.capnp_footprints.proofs.lemmas.Lift.{value_on, slot_is, object_of_poi
 use Rattle.capnp_footprints.proofs.lemmas.Splices.{Rewrites, splice_rewrites}
 use Rattle.capnp_footprints.proofs.lemmas.Writing.{rewrites_keep, written_word}
 use Rattle.capnp_copy.specs.Clearing.{zeroed_there, ClearsValue, ClearsObject}
-use Rattle.capnp_footprints.proofs.lemmas.Zeros.{null_read, null_footprint}
-use Rattle.capnp_copy.proofs.lemmas.ZeroedWords.{held_none, vanish}
+use Rattle.capnp_footprints.proofs.lemmas.Zeros.{null_read, null_footprint, held_none}
+use Rattle.capnp_copy.proofs.lemmas.ZeroedWords.{vanish}
 
 -- ---- the pad
 

@@ -13,7 +13,7 @@ use Rattle.capnp_units.specs.Segments.{whole_words, words_in}
 use Rattle.std.specs.Int.{to_le_bytes, w64}
 use Rattle.std.proofs.lemmas.Nat.{from_le_bytes-to_le_bytes_8}
 use Rattle.capnp_wire.specs.Arenas.{words_before}
-use Rattle.capnp_object.proofs.lemmas.Words.{whole_words-length}
+use Rattle.capnp_object.proofs.lemmas.Words.{whole_words-length, is_some-provided}
 use Rattle.capnp_footprints.specs.Writes.{spliced, spliced_in, with_words, with_zeros, segment_end}
 use Rattle.capnp_copy.specs.Memory.{ZeroFrom, overwritten}
 use Rattle.capnp_copy.specs.Allocations.{total_words, total_of, words_used, Allocates}
@@ -61,10 +61,6 @@ both_ok (Err e) p q f = tt
 pub if_err : {X Y : Type 0} (o : Result X Y) {P R : Y → Type 0} → IfErr o P → ((e : Y) → P e → R e) → IfErr o R
 if_err (Ok x) p f = tt
 if_err (Err e) p f = f e p
-
-is_some-provided : {A : Type 0} (x : A) (b : Bool) → is_some (x provided b) ≡ b
-is_some-provided x true = refl
-is_some-provided x false = refl
 
 pub flat_map_set_same : {X : Type 0} (f : X → List ℕ) (xs : List X) (i : ℕ) (y d : X) → f y ≡ f (get_or xs i d) → flat_map f (set xs i y) ≡ flat_map f xs
 flat_map_set_same f [] i y d e = refl

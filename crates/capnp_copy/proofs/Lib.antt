@@ -9,5 +9,4 @@ mod ClearedObjects
 mod ClearedSlots
 mod ListWords
 mod MakingStructs
-mod BlobValues
 mod ByteSets

@@ -7,3 +7,4 @@ pub mod BlobNumbers
 pub mod ElementLaws
 pub mod Taken
 pub mod Parts
+pub mod BlobValues

@@ -8,6 +8,7 @@ use Rattle.capnp_model.specs.Segments.{place, words_at}
 use Rattle.capnp_units.specs.Segments.{whole_words, words_in}
 use Rattle.capnp_object.proofs.lemmas.Tags.{words_are}
 use Rattle.capnp_object.proofs.lemmas.Words.{word_of_eight, word_of_front, whole_words-length, segment_there}
+use Rattle.capnp_backing.proofs.lemmas.Bytes.{words_in_bytes-take}
 
 front_word : (n : ℕ) (bytes : List ℕ) → 8 ≤ n → from_le_bytes w64 (take n bytes) ≡ from_le_bytes w64 bytes
 front_word n bytes h = sym (word_of_eight (take n bytes)) ∙ word_of_front n bytes (take 8 (take n bytes)) h refl
@@ -20,12 +21,6 @@ words_in_front (suc n) bytes =
     (ap (λ (w : ℕ). w ∷ words_in_bytes n (drop 8 (take (8 + 8 * n) bytes))) (front_word (8 + 8 * n) bytes (omega arith))
     ∙ ap (λ (l : List ℕ). from_le_bytes w64 bytes ∷ words_in_bytes n l) (drop-take 8 (8 * n) bytes)
     ∙ ap (λ (ws : List ℕ). from_le_bytes w64 bytes ∷ ws) (words_in_front n (drop 8 bytes)))
-
-first_words : (n m : ℕ) (bytes : List ℕ) → take n (words_in_bytes (n + m) bytes) ≡ words_in_bytes n bytes
-first_words zero m bytes = refl
-first_words (suc n) m bytes =
-    let next : suc n + m ≡ suc (n + m) = omega arith in
-    rw next (ap (λ (ws : List ℕ). from_le_bytes w64 bytes ∷ ws) (first_words n m (drop 8 bytes)))
 
 words_behind : (n m : ℕ) (bytes : List ℕ) → drop n (words_in_bytes (n + m) bytes) ≡ words_in_bytes m (drop (8 * n) bytes)
 words_behind zero m bytes = let same : zero + m ≡ m = omega arith in rw same refl
@@ -41,7 +36,7 @@ words_of_part p n bytes h =
     let part = take (8 * n) (drop (8 * p) bytes) in
     let long : length part ≡ 8 * n = length-take-le (8 * n) (drop (8 * p) bytes) (omega (arith, length-drop (8 * p) bytes)) in
     let count : length part / 8 ≡ n = omega arith in
-    ap (λ (k : ℕ). words_in_bytes k part) count ∙ words_in_front n (drop (8 * p) bytes) ∙ sym (first_words n r (drop (8 * p) bytes))
+    ap (λ (k : ℕ). words_in_bytes k part) count ∙ words_in_front n (drop (8 * p) bytes) ∙ sym (words_in_bytes-take n r (drop (8 * p) bytes))
     ∙ ap (take n) (sym (words_behind p (n + r) bytes)) ∙ ap (λ (k : ℕ). take n (drop p (words_in_bytes k bytes))) all
 
 -- the words at a place are those of its bytes

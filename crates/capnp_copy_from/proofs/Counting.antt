@@ -10,23 +10,8 @@ use Rattle.capnp_units.specs.declared.errors.Error.{Error}
 use Rattle.capnp_units.specs.declared.limiter.ReadLimiter.{ReadLimiter}
 use Rattle.capnp_object.specs.Follow.{found_cost}
 use Rattle.capnp_object.specs.Walks.{Walked, Stopped}
+use Rattle.capnp_canonical.proofs.lemmas.FewFollowed.{cost_front, last_of}
 use Rattle.capnp_copy_from.specs.Copies.{Unplaced, CopiesValue, FollowsFew}
-
--- visits that are paid begin with such
-cost_front : (a b : List Visit) (cost : ℕ) → visits_cost (a ++ b) ≡ Some cost → (paid : ℕ) × (visits_cost a ≡ Some paid) × (paid ≤ cost)
-cost_front [] b cost e = (0, refl, omega arith)
-cost_front (Err k ∷ a) b cost e = absurd cc
-cost_front (Ok c ∷ a) b cost e =
-    let x = bind_some (visits_cost (a ++ b)) _ cost e in
-    let sum : c + x.0 ≡ cost = some_is _ _ x.2 in
-    let y = cost_front a b x.0 x.1 in
-    let less = y.2 in
-    (c + y.0, rw y.1 refl, omega (arith, sum, less))
-
--- the last of some, with those before it
-last_of : (v : Visit) (vs : List Visit) → (before : List Visit) × (last : Visit) × (v ∷ vs ≡ before ++ last ∷ [])
-last_of v [] = ([], v, refl)
-last_of v (w ∷ vs) = let x = last_of w vs in (v ∷ x.0, x.1, ap (λ (ws : List Visit). v ∷ ws) x.2)
 
 walked_few : (n : ℕ) (s : Segments) (p : Place) (path rest : List Visit) (old new : ReadLimiter) → visits n s p ≡ path ++ rest → Walked path old new → FollowsFew old new
 walked_few n s p [] rest old new is w = record { granted = w.cost; followed = 0; spends = w.spends; follows = w.follows; few = omega arith }

@@ -26,13 +26,14 @@ use Rattle.capnp_footprints.specs.Changes.{ReplacesObject}
 use Rattle.capnp_footprints.specs.Writes.{with_words, spliced}
 use Rattle.capnp_footprints.proofs.lemmas.Algebra.{changes_nothing}
 use Rattle.capnp_footprints.proofs.lemmas.Cells.{ElementParts, element_parts, list_of_parts, tag_alike, counted, list_of_element}
-use Rattle.capnp_footprints.proofs.lemmas.Kept.{words_length}
 use Rattle.capnp_footprints.proofs.lemmas.Lift.{object_replaced_owned, object_replaced_then}
 use Rattle.capnp_footprints.proofs.lemmas.Rows.{after_none}
 use Rattle.capnp_footprints.proofs.lemmas.Spans.{held, held_is, grows_same, grows_then}
 use Rattle.capnp_footprints.proofs.lemmas.Splices.{Rewrites, splice_rewrites, splice_words, splice_grows, spliced_whole}
-use Rattle.capnp_footprints.proofs.lemmas.Turns.{structs_here, structs_next, elements_done}
+use Rattle.capnp_footprints.proofs.lemmas.Turns.{structs_here, structs_next, elements_done, element_shape, elements_counted}
 use Rattle.capnp_footprints.proofs.lemmas.Writing.{wider, changes_inside}
+use Rattle.capnp_footprints.proofs.lemmas.Prepared.{behind_first}
+use Rattle.capnp_model.proofs.lemmas.ReadFits.{words_length}
 use Rattle.capnp_copy_from.specs.Copies.{TakesFew, Copied, Refused, FillsStruct, LeavesStruct, FillsElements, LeavesElements}
 use Rattle.capnp_copy_from.proofs.Parts.{there_length, part_is}
 use Rattle.capnp_copy_from.proofs.Refusals.{why_later}
@@ -74,23 +75,6 @@ first_chained no_elements gs fs (suc i) e = absurd (omega (arith, e))
 first_chained (element a ts es) gs fs zero e = absurd (omega (arith, e))
 first_chained (element a ts es) gs no_elements (suc i) e = refl
 first_chained (element a ts es) gs (element b us fs) (suc i) e = ap (λ (xs : Elements). element a ts xs) (first_chained es gs fs i (omega (arith, e)))
-
-first_count : (i : ℕ) (es fs : Elements) → element_count (with_first_elements i es fs) ≡ element_count fs
-first_count zero es fs = refl
-first_count (suc i) es no_elements = refl
-first_count (suc i) no_elements (element b us fs) = refl
-first_count (suc i) (element a ts es) (element b us fs) = ap suc (first_count i es fs)
-
-first_here : (d i : ℕ) (es fs : Elements) → element_at d (with_first_elements i es fs) i ≡ element_at d fs i
-first_here d zero es fs = refl
-first_here d (suc i) es no_elements = refl
-first_here d (suc i) no_elements (element b us fs) = refl
-first_here d (suc i) (element a ts es) (element b us fs) = first_here d i es fs
-
-element_shape : (d i : ℕ) (fs : Elements) → i < element_count fs → (own : ℕ) × (kids : Trees) × (element_at d fs i ≡ structure d own kids)
-element_shape d i no_elements l = absurd (omega (arith, l))
-element_shape d zero (element b us fs) l = (b, us, refl)
-element_shape d (suc i) (element b us fs) l = element_shape d i fs (omega (arith, l))
 
 -- an element lies within its list
 pub element_within : (i count w d words : ℕ) → i < count → d ≤ w → count * w ≤ words → i * w + d ≤ words
@@ -178,7 +162,7 @@ module _ (levels : ℕ) (from : Segments) (p : Place) (ws : List ℕ) (d k count
           let shape = element_shape d i fs inside in
           let slot : OwnsObject n u (a_struct (after (after r 1) (i * (d + k))) d k) (structure d shape.0 shape.1) = subst (OwnsObject n u (a_struct (after (after r 1) (i * (d + k))) d k)) shape.2 here in
           let y = x.left n shape.0 shape.1 h slot in
-          let long = first_count i so.first fs in
+          let long = elements_counted i so.first fs in
           let next = list_of_element n u w r (count * (d + k)) d k i y.0 y.1 (with_first_elements i so.first fs) (omega (arith, long, inside)) mine y.2 in
           (with_element (with_first_elements i so.first fs) i y.0 y.1, object_replaced_then n s u w (a_list r 7 (count * (d + k))) _ _ now next)
           );
@@ -233,10 +217,6 @@ list_alone n s p m d es q x =
     let none_behind : times_held (span p (1 + m) ∷ from_elements (behind n s) (after p 1) d 0 (element_count es)) q ≡ times_held (span p (1 + m) ∷ []) q = ap (λ (xs : List Span). times_held (span p (1 + m) ∷ xs) q) (nothing_met (behind n s) (after p 1) d (element_count es)) in
     omega (arith, e, none_behind, held_is p (1 + m) [] q)
 
-written_behind : (tag : ℕ) (vs xs : List ℕ) → length vs ≡ length xs → spliced 1 vs (tag ∷ xs) ≡ tag ∷ vs
-unfolding spliced
-written_behind tag vs xs e = ap (λ (ys : List ℕ). tag ∷ ys) (spliced_whole vs xs e)
-
 -- the words of the elements become others
 plain_replaced : (n : ℕ) (s u : Segments) (r : Place) (m d : ℕ) (fs es : Elements) (vs : List ℕ) → length vs ≡ m → element_count fs ≡ element_count es → u ≡ with_words s (after r 1) vs → ((f : Place → Option Tree) (q : Place) → each_element f q vs d 0 (element_count es) ≡ Some es)
     → OwnsObject n s (a_list r 7 m) (struct_list d 0 fs) → ReplacesObject n s u (a_list r 7 m) (struct_list d 0 es)
@@ -250,7 +230,7 @@ plain_replaced n s u r m d fs es vs long number now read o =
         let v : Segments = with_words s (after r 1) vs in
         let short : length vs ≡ length rest = omega (arith, e, long) in
         let fit : 1 + length vs ≤ 1 + m = omega (arith, long) in
-        let words : words_at (with_words s (after r 1) vs) r (1 + m) ≡ Some (tag ∷ vs) = splice_words s r 1 (1 + m) vs (tag ∷ rest) fit there ∙ ap (λ (ws : List ℕ). Some ws) (written_behind tag vs rest short) in
+        let words : words_at (with_words s (after r 1) vs) r (1 + m) ≡ Some (tag ∷ vs) = splice_words s r 1 (1 + m) vs (tag ∷ rest) fit there ∙ ap (λ (ws : List ℕ). Some ws) (behind_first tag vs rest short) in
         let same : tag ∷ rest ≡ x.words = some_is _ _ (sym there ∙ x.there) in
         let tag_was : tag_in (tag ∷ rest) ≡ Ok (record { count = element_count fs; data_words = d; pointers = 0 }) = ap tag_in same ∙ x.tag_is in
         let tag_now : tag_in (tag ∷ vs) ≡ Ok (record { count = element_count fs; data_words = d; pointers = 0 }) = tag_alike (tag ∷ rest) (tag ∷ vs) _ refl (omega (arith, short)) tag_was in

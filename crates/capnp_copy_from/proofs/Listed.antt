@@ -8,6 +8,7 @@ use Rattle.capnp_model.specs.Sections.{number_of, section_of, words_for, words_o
 use Rattle.capnp_model.specs.Segments.{Segments, Place, after, words_at}
 use Rattle.capnp_model.specs.Pointers.{a_list}
 use Rattle.capnp_model.proofs.lemmas.Numbers.{number_of_lt, section_of-words_of}
+use Rattle.capnp_backing.proofs.lemmas.Bytes.{word_is}
 use Rattle.capnp_copy_from.specs.Copies.{Fills, Copied}
 use Rattle.capnp_copy_from.specs.Objects.{copied_words, copied_at}
 use Rattle.capnp_model.specs.Traversal.{tree_at}
@@ -87,11 +88,6 @@ as_words s r w bytes small count = by_cases (ltb (whole_of bytes) w) refl
         of_all (words_in_bytes (whole_of bytes) (front_of bytes)) false least (omega (arith, long, l, count)) (front_section bytes small ∙ number_fits bytes (8 * whole_of bytes) full) refl
 
 -- ---- words of bytes
-
-word_is : (bytes : List ℕ) → 8 ≤ length bytes → AreBytes bytes → from_le_bytes w64 bytes ≡ number_of 8 bytes % 2 ^ 64
-word_is bytes long small =
-    let one : number_of 8 bytes / 2 ^ 0 ≡ number_of 8 bytes = omega arith in
-    first_eight bytes long (small 0) (small 1) (small 2) (small 3) (small 4) (small 5) (small 6) (small 7) ∙ ap (λ (m : ℕ). m % 2 ^ 64) one
 
 words_read : (n : ℕ) (bytes : List ℕ) → 8 * n ≤ length bytes → AreBytes bytes → words_of n (number_of 8 bytes) ≡ words_in_bytes n bytes
 words_read zero bytes long small = refl

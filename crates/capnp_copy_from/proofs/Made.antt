@@ -25,13 +25,14 @@ use Rattle.capnp_footprints.specs.NewObjects.{new_structs, zero_elements, Fits}
 use Rattle.capnp_footprints.specs.Writes.{with_words, spliced}
 use Rattle.capnp_footprints.proofs.lemmas.Algebra.{changes_then, changes_alike}
 use Rattle.capnp_footprints.proofs.lemmas.Lift.{struct_parts, object_on, object_replaced_owned, object_replaced_then}
-use Rattle.capnp_footprints.proofs.lemmas.NewKinds.{is_new}
+use Rattle.capnp_footprints.proofs.lemmas.NewKinds.{is_new, zero_counted}
 use Rattle.capnp_footprints.proofs.lemmas.Prepared.{first_of_more, tag_in_front}
 use Rattle.capnp_footprints.proofs.lemmas.Rows.{after_none}
 use Rattle.capnp_footprints.proofs.lemmas.Spans.{held, grows_then}
 use Rattle.capnp_footprints.proofs.lemmas.Splices.{Rewrites, splice_rewrites, splice_words, splice_grows, spliced_whole}
 use Rattle.capnp_footprints.proofs.lemmas.Writing.{wider, changes_inside, plain_is, plain_tree, struct_data}
 use Rattle.capnp_footprints.proofs.lemmas.Zeros.{zero_struct, zero_struct_takes}
+use Rattle.capnp_object.proofs.lemmas.Measuring.{data_bits_plain}
 use Rattle.capnp_copy_from.specs.Copies.{CopyGives, Fills, FillsStruct, LeavesStruct, FillsRow, LeavesRow, FillsElements, LeavesElements}
 use Rattle.capnp_copy.specs.Allocations.{total_words}
 use Rattle.capnp_copy_from.proofs.Taking.{takes_none, takes_both, written_total}
@@ -127,9 +128,6 @@ pointers_fill levels b p from there path s u r k old new (Err e) z g =
 
 -- ---- lists of plain elements
 
-data_bits_plain : (n : ℕ) → n < 6 → size_bits n ≡ data_bits n
-data_bits_plain n h = let t : nat_lt n 6 ≡ true = grind (arith, nat_tests) in rw t refl
-
 -- any words that are written
 pub words_fill : (n : ℕ) (s u : Segments) (r : Place) (size count k : ℕ) (vs : List ℕ) → size < 6 → k ≡ words_for (data_bits size * count) → length vs ≡ k → words_at s r k ≡ Some (replicate k 0) → u ≡ with_words s r vs
     → Fills n s u r k (a_list r size count) (plain_list size count (section_of vs % 2 ^ (data_bits size * count)))
@@ -156,10 +154,6 @@ list_fills n from p s u r size count k plain is there z now =
     (words_fill n s u r size count k (words_there from p k) plain is (there_length from p k there) z now)
 
 -- ---- lists of structs
-
-zero_count : (c k : ℕ) → element_count (zero_elements c k) ≡ c
-zero_count zero k = refl
-zero_count (suc c) k = ap suc (zero_count c k)
 
 -- the tag is written first
 pub record Tagged (n : ℕ) (s u : Segments) (r : Place) (d k count : ℕ) : Type 0 where
@@ -198,13 +192,13 @@ structs_fill levels from there path s m u r d k count old new (Ok x) fits z now 
       walked = g.walked;
       grows = grows_then s m u (subst (λ (v : Segments). Grows s v) (sym now) (splice_grows s r (struct_pointer count d k ∷ []))) g.grows;
       takes = takes_both s m u old old new (takes_none s m old (ap total_words now ∙ written_total s r (struct_pointer count d k ∷ []))) g.takes;
-      made = λ n h. (let t = tagged n s m r d k count fits z now in elements_fill n s m u r d k count g.value t (g.made n (zero_elements count k) h (zero_count count k) t.owned));
+      made = λ n h. (let t = tagged n s m r d k count fits z now in elements_fill n s m u r d k count g.value t (g.made n (zero_elements count k) h (zero_counted count k) t.owned));
     }
 structs_fill levels from there path s m u r d k count old new (Err e) fits z now g =
     record {
       left = (
           let t = tagged levels s m r d k count fits z now in
-          let x = g.left levels (zero_elements count k) (omega arith) (zero_count count k) t.owned in
+          let x = g.left levels (zero_elements count k) (omega arith) (zero_counted count k) t.owned in
           (struct_list d k x.0, elements_fill levels s m u r d k count x.0 t x.1)
           );
       takes = takes_both s m u old old new (takes_none s m old (ap total_words now ∙ written_total s r (struct_pointer count d k ∷ []))) g.takes;

@@ -9,10 +9,6 @@ use Rattle.capnp_model.specs.Segments.{Segments, Place, after, words_at}
 use Rattle.capnp_object.specs.Inside.{section_in, section_at, words_there}
 use Rattle.capnp_object.proofs.lemmas.Tags.{words_from, words_are}
 
-pub there_of : (s : Segments) (p : Place) (n : ℕ) (ws : List ℕ) → words_at s p n ≡ Some ws → words_there s p n ≡ ws
-unfolding words_there
-there_of s p n ws e = ap (λ (o : Option (List ℕ)). unwrap_or o []) e
-
 module _ (s : Segments) (p : Place) (n : ℕ) (there : is_some (words_at s p n) ≡ true) where
   -- the segment's words
   segment_of : (words : List ℕ) × (slice_get s p.segment ≡ Some words) × (p.position + n ≤ length words)

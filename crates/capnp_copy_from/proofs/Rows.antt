@@ -22,6 +22,7 @@ use Rattle.capnp_footprints.proofs.lemmas.Lift.{struct_parts, child_of_struct, s
 use Rattle.capnp_footprints.proofs.lemmas.Spans.{grows_same, grows_then}
 use Rattle.capnp_footprints.proofs.lemmas.Rows.{after_none, after_sum}
 use Rattle.capnp_footprints.proofs.lemmas.Turns.{struct_here, struct_next, struct_done, each_counted}
+use Rattle.capnp_canonical.proofs.lemmas.Putting.{resized_all}
 use Rattle.capnp_copy_from.specs.Copies.{TakesFew, BecomesCopy, GrowsByZeros, Copied, Refused, FillsRow, LeavesRow}
 use Rattle.capnp_copy_from.proofs.lemmas.Filling.{value_stands}
 use Rattle.capnp_copy_from.proofs.Refusals.{why_later}
@@ -64,13 +65,6 @@ first_joined (t ▸ ts) us kids zero e = absurd (omega (arith, e))
 first_joined (t ▸ ts) us none (suc i) e = refl
 first_joined (t ▸ ts) us (k ▸ kids) (suc i) e = ap (λ (xs : Trees). t ▸ xs) (first_joined ts us kids i (omega (arith, e)))
 
--- just as many
-resized_same : (k : ℕ) (ts : Trees) → tree_count ts ≡ k → resized k ts ≡ ts
-resized_same zero none e = refl
-resized_same zero (t ▸ ts) e = absurd (omega (arith, e))
-resized_same (suc k) none e = absurd (omega (arith, e))
-resized_same (suc k) (t ▸ ts) e = ap (λ (xs : Trees). t ▸ xs) (resized_same k ts (omega (arith, e)))
-
 -- a child in its own place
 same_child : (ts : Trees) (i : ℕ) → i < tree_count ts → with_child ts i (child ts i) ≡ ts
 same_child none i l = absurd (omega (arith, l))
@@ -100,7 +94,7 @@ each_more f p (suc i) ts t e g =
 
 -- the whole row
 pub row_whole : (n : ℕ) (s : Segments) (r : Place) (d k own : ℕ) (ts kids : Trees) → tree_count ts ≡ k → OwnsObject n s (a_struct r d k) (structure d own kids) → with_first k ts kids ≡ ts
-row_whole n s r d k own ts kids count o = struct_done n s r d k d own ts kids o ∙ resized_same k ts count
+row_whole n s r d k own ts kids count o = struct_done n s r d k d own ts kids o ∙ resized_all k ts count
 
 -- ---- the row
 

@@ -18,7 +18,6 @@ use Rattle.capnp_footprints.specs.Footprints.{OwnsObject}
 use Rattle.capnp_footprints.specs.Changes.{ReplacesObject}
 use Rattle.capnp_footprints.specs.Writes.{spliced, with_words}
 use Rattle.capnp_footprints.proofs.lemmas.Rows.{after_none}
-use Rattle.capnp_footprints.proofs.lemmas.Kept.{words_length}
 use Rattle.capnp_footprints.proofs.lemmas.Lift.{object_replaced_owned, object_replaced_then}
 use Rattle.capnp_footprints.proofs.lemmas.Spans.{grows_then}
 use Rattle.capnp_footprints.proofs.lemmas.Splices.{splice_words, splice_grows, spliced_whole}
@@ -27,6 +26,8 @@ use Rattle.capnp_copy.specs.Allocations.{total_words}
 use Rattle.capnp_copy.specs.Blobs.{whole_of, last_of, front_of, with_bytes}
 use Rattle.capnp_copy.proofs.lemmas.RoomLaws.{some_of}
 use Rattle.capnp_copy.proofs.lemmas.BlobNumbers.{front_words_length, front_section, all_words, number_fits, filled}
+use Rattle.capnp_copy.proofs.lemmas.BlobValues.{front_there}
+use Rattle.capnp_model.proofs.lemmas.ReadFits.{words_length}
 use Rattle.capnp_copy_from.specs.Copies.{CopyGives, Fills, FillsRow, LeavesRow}
 use Rattle.capnp_copy_from.proofs.Made.{struct_fills, section_copied}
 use Rattle.capnp_copy_from.proofs.Parts as parts
@@ -53,11 +54,6 @@ front_written n m r d k own kids vs ws l there o =
     let fits : 0 + length vs ≤ d = omega (arith, l) in
     let all = struct_words n m r d k 0 d own kids vs ws fits there o in
     subst (λ (q : Place). ReplacesObject n m (with_words m q vs) (a_struct r d k) (structure d (section_of (spliced 0 vs ws)) kids)) (after_none r) all
-
-front_there : (m : Segments) (r : Place) (w : ℕ) (vs ws : List ℕ) → length vs ≤ w → words_at m r w ≡ Some ws → words_at (with_words m r vs) r w ≡ Some (spliced 0 vs ws)
-front_there m r w vs ws l there =
-    let fits : 0 + length vs ≤ w = omega (arith, l) in
-    subst (λ (q : Place). words_at (with_words m q vs) r w ≡ Some (spliced 0 vs ws)) (after_none r) (splice_words m r 0 w vs ws fits there)
 
 pub section_written : (n : ℕ) (m : Segments) (r : Place) (d k own : ℕ) (kids : Trees) (bytes : List ℕ) → AreBytes bytes → d ≡ words_for (8 * length bytes) → is_some (words_at m r d) ≡ true → OwnsObject n m (a_struct r d k) (structure d own kids)
     → ReplacesObject n m (with_bytes m r d bytes) (a_struct r d k) (structure d (number_of 8 bytes) kids)

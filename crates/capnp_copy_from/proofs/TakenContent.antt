@@ -21,7 +21,6 @@ use Rattle.capnp_footprints.specs.Footprints.{OwnsObject, object_footprint}
 use Rattle.capnp_footprints.specs.Changes.{Replaces, ReplacesObject}
 use Rattle.capnp_footprints.specs.Writes.{spliced, with_words}
 use Rattle.capnp_footprints.proofs.lemmas.Algebra.{changes_nothing}
-use Rattle.capnp_footprints.proofs.lemmas.Kept.{words_length}
 use Rattle.capnp_footprints.proofs.lemmas.Lift.{object_replaced_owned, object_replaced_then}
 use Rattle.capnp_footprints.proofs.lemmas.Rows.{after_none}
 use Rattle.capnp_footprints.proofs.lemmas.Spans.{grows_then}
@@ -36,6 +35,7 @@ use Rattle.capnp_copy.proofs.lemmas.BlobNumbers.{front_words_length, front_secti
 use Rattle.capnp_copy.proofs.lemmas.RoomLaws.{some_of, sizes_grow}
 use Rattle.capnp_copy.proofs.lemmas.ZeroedWords.{written_sizes}
 use Rattle.capnp_object.specs.Walks.{Stopped}
+use Rattle.capnp_model.proofs.lemmas.ReadFits.{words_length}
 use Rattle.capnp_copy_from.specs.Copies.{Copied, Refused, Unplaced, FillsRow, LeavesRow, StructSource}
 use Rattle.capnp_copy_from.specs.Contents.{fitting, TakesContent, TakesPart, ClearsRest, SetsSection}
 use Rattle.capnp_copy_from.proofs.Taking.{total_alike, takes_none, takes_same, takes_both}
@@ -123,13 +123,6 @@ data_written n s m u r d k own w rest kids bytes small count sum there first las
         let z = front_more n s (with_words s r (words_in_bytes (whole_of bytes) (front_of bytes))) r d k w own (words_in_bytes (whole_of bytes) (front_of bytes)) (replicate rest 0) kids wide (omega (arith, nulls, sum)) o x in
         let all : length (words_in_bytes (whole_of bytes) (front_of bytes) ++ replicate rest 0) ≡ d = length-append (words_in_bytes (whole_of bytes) (front_of bytes)) (replicate rest 0) ∙ omega (arith, wide, nulls, sum) in
         front_all n s _ r d k (number_of 8 bytes) (words_in_bytes (whole_of bytes) (front_of bytes) ++ replicate rest 0) kids all (section_zeros (words_in_bytes (whole_of bytes) (front_of bytes)) rest ∙ front_section bytes small ∙ number_fits bytes (8 * whole_of bytes) full) z
-
-pub bytes_sizes : (s : Segments) (r : Place) (d : ℕ) (bytes : List ℕ) → map length (with_bytes s r d bytes) ≡ map length s
-bytes_sizes s r d bytes = by_cases (ltb (whole_of bytes) d)
-  where
-    by_cases : (b : Bool) → map length (cond b (with_words (with_words s r (words_in_bytes (whole_of bytes) (front_of bytes))) (after r (whole_of bytes)) (last_of bytes ∷ [])) (with_words s r (words_in_bytes (whole_of bytes) (front_of bytes)))) ≡ map length s
-    by_cases true = written_sizes (with_words s r (words_in_bytes (whole_of bytes) (front_of bytes))) (after r (whole_of bytes)) (last_of bytes ∷ []) ∙ written_sizes s r (words_in_bytes (whole_of bytes) (front_of bytes))
-    by_cases false = written_sizes s r (words_in_bytes (whole_of bytes) (front_of bytes))
 
 -- the bytes that fit
 pub bytes_fit : (bytes : List ℕ) (d : ℕ) → number_of 8 (take (min (length bytes) (8 * d)) bytes) ≡ number_of 8 bytes % 2 ^ (64 * d)

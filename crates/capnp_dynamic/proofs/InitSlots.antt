@@ -12,7 +12,6 @@ use Rattle.capnp_units.specs.declared.errors.Error.{Error}
 use Rattle.capnp_units.specs.declared.kinds.ErrorKind.TheVariants.{SizeOverflow}
 use Rattle.capnp_wire.specs.Places.{place_view}
 use Rattle.capnp_object.specs.declared.place.Place as code
-use Rattle.capnp_footprints.proofs.lemmas.Turns.{resized_count}
 use Rattle.capnp_queries.specs.Structs.{schema_around, id_of}
 use Rattle.capnp_queries.specs.Handles.{entry_of, IsFieldRecord}
 use Rattle.capnp_queries.specs.declared.structs.StructSchema.{StructSchema}
@@ -20,6 +19,7 @@ use Rattle.capnp_queries.specs.declared.fields.Field.{Field}
 use Rattle.capnp_copy.specs.Allocations.{total_words, NoRoom}
 use Rattle.capnp_copy.specs.declared.fields.StructPlace.{StructPlace}
 use Rattle.capnp_builders.specs.Making.{ArenaState, Makes, WordsRefused}
+use Rattle.capnp_model.proofs.lemmas.Stripping.{count-resized}
 use Rattle.capnp_dynamic.specs.Calls.{edit_of}
 use Rattle.capnp_dynamic.specs.Edits.{Edits, marked}
 use Rattle.capnp_dynamic.specs.Inside.{words_of_shape, pointers_of_shape}
@@ -40,7 +40,7 @@ no_words (suc p) = let h = no_words p in omega (arith, h)
 
 pub empty_words : (g : Shape) → object_words (empty_struct g) ≡ words_of_shape g + pointers_of_shape g
 unfolding object_words
-empty_words (shape nid w p u fs) = let a = no_words p in let b = resized_count p none in omega (arith, a, b)
+empty_words (shape nid w p u fs) = let a = no_words p in let b = count-resized p none in omega (arith, a, b)
 
 same_sum : (a b c d : ℕ) → a ≡ c → b ≡ d → a + b ≡ c + d
 same_sum a b c d e f = ap (λ n. n + b) e ∙ ap (λ n. c + n) f

@@ -12,8 +12,6 @@ use Rattle.capnp_units.specs.Segments.{words_in}
 use Rattle.capnp_units.specs.declared.errors.Error.{Error}
 use Rattle.capnp_units.specs.declared.kinds.ErrorKind.TheVariants.{SizeOverflow}
 use Rattle.capnp_footprints.specs.NewObjects.{new_tree, new_list, new_pointers, zero_elements}
-use Rattle.capnp_footprints.proofs.lemmas.MovedElements.{zero_count}
-use Rattle.capnp_footprints.proofs.lemmas.Turns.{resized_count}
 use Rattle.capnp_queries.specs.Structs.{schema_around}
 use Rattle.capnp_queries.specs.Handles.{entry_of, IsFieldRecord}
 use Rattle.capnp_queries.specs.declared.fields.Field.{Field}
@@ -24,6 +22,8 @@ use Rattle.capnp_wire.specs.Places.{place_view}
 use Rattle.capnp_object.specs.declared.place.Place as code
 use Rattle.capnp_copy.specs.declared.fields.StructPlace.{StructPlace}
 use Rattle.capnp_builders.specs.Making.{ArenaState, Makes, ListRefused}
+use Rattle.capnp_footprints.proofs.lemmas.NewKinds.{zero_counted}
+use Rattle.capnp_model.proofs.lemmas.Stripping.{count-resized}
 use Rattle.capnp_dynamic.specs.Calls.{edit_of}
 use Rattle.capnp_dynamic.specs.NewLists.{initn_field}
 use Rattle.capnp_dynamic.specs.Puts.{PutsContent, IsTooLong, ObjectRefused}
@@ -37,7 +37,7 @@ unfolding object_words
 zeros_words size n = by (size == 6)
   where
     by : (b : Bool) → object_words (new_tree (if b then new_pointers n else new_list size n)) ≡ (if b then n else words_for (size_bits size * n))
-    by true = let a = no_words n in let b = resized_count n none in omega (arith, a, b)
+    by true = let a = no_words n in let b = count-resized n none in omega (arith, a, b)
     by false = refl
 
 elements_words : (d k n : ℕ) → element_object_words d (zero_elements n k) ≡ n * (d + k)
@@ -46,7 +46,7 @@ elements_words d k zero = omega arith
 elements_words d k (suc n) =
     let rest = elements_words d k n in
     let a = no_words k in
-    let b = resized_count k none in
+    let b = count-resized k none in
     let c : suc n * (d + k) ≡ n * (d + k) + (d + k) = grind arith in
     omega (arith, rest, a, b, c)
 
@@ -77,7 +77,7 @@ long_zeros : (size n : ℕ) → (2 ^ 29 ≤ n → IsTooLong (new_tree (zeros_of 
 long_zeros size n = by (size == 6)
   where
     by : (b : Bool) → (2 ^ 29 ≤ n → IsTooLong (new_tree (if b then new_pointers n else new_list size n))) × (IsTooLong (new_tree (if b then new_pointers n else new_list size n)) → 2 ^ 29 ≤ n)
-    by true = (λ h. subst (λ m. 2 ^ 29 ≤ m) (sym (resized_count n none)) h, λ h. subst (λ m. 2 ^ 29 ≤ m) (resized_count n none) h)
+    by true = (λ h. subst (λ m. 2 ^ 29 ≤ m) (sym (count-resized n none)) h, λ h. subst (λ m. 2 ^ 29 ≤ m) (count-resized n none) h)
     by false = (λ h. h, λ h. h)
 
 pub list_refused : (old : ArenaState) (segment size n : ℕ) (e : Error) → ListRefused old segment (2 ^ 29 ≤ n) (words_of size n) e → ObjectRefused old segment (new_tree (zeros_of size n)) e
@@ -89,7 +89,7 @@ structs_refused old segment n d k e kind full =
     let total = total_words (words_in old.segments) in
     let m = n * (d + k) in
     let es = zero_elements n k in
-    let count : element_count (zero_elements n k) ≡ n = zero_count n k in
+    let count : element_count (zero_elements n k) ≡ n = zero_counted n k in
     let Long : Type 0 = (2 ^ 29 ≤ n) ⊎ (2 ^ 29 ≤ n * (d + k)) in
     let Now : Type 0 = (2 ^ 29 ≤ element_count es) ⊎ (2 ^ 29 ≤ element_count es * (d + k)) in
     let to : Long → Now = subst (λ c. Long → (2 ^ 29 ≤ c) ⊎ (2 ^ 29 ≤ c * (d + k))) (sym count) (λ h. h) in

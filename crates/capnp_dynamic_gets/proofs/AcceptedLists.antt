@@ -4,7 +4,6 @@ use Rattle.std.proofs.lemmas.Bool.Decides.{nat_tests}
 use Rattle.capnp_model.specs.Readings.{is_accepted_as}
 use Rattle.capnp_model.specs.Schemas.{Schema, Ty, void, plain, text, blob, untyped, interface, struct, list, lists_of}
 use Rattle.capnp_model.specs.Trees.{size_bits}
-use Rattle.capnp_model.proofs.lemmas.KeptRules.{and_left, and_right}
 use Rattle.capnp_units.specs.declared.sizes.ElementSize.{ElementSize}
 use Rattle.capnp_units.specs.declared.sizes.ElementSize.TheVariants.{Void, Bit, Byte, TwoBytes, FourBytes, EightBytes, Pointer, InlineComposite}
 use Rattle.capnp_units.specs.Sizes.{size_number}
@@ -18,6 +17,7 @@ use Rattle.capnp_dynamic.specs.Inits.{struct_named}
 use Rattle.capnp_dynamic_lists.specs.Lists.{HasRoom, HasPointer}
 use Rattle.capnp_dynamic_lists.specs.Elements.{Holds, HoldsStructs}
 use Rattle.capnp_dynamic_lists.specs.Readers.{IsBytewise}
+use Rattle.capnp_model.proofs.lemmas.Tests.{and_left, and_right}
 use Rattle.capnp_dynamic_gets.specs.Plain.{IsPlainType}
 
 at_most : (a b : ℕ) → nat_le a b ≡ true → a ≤ b

@@ -15,10 +15,10 @@ use Rattle.capnp_copy.specs.Structs.{struct_at}
 use Rattle.capnp_copy.specs.Lists.{list_at}
 use Rattle.capnp_copy.specs.declared.fields.StructPlace.{StructPlace}
 use Rattle.capnp_copy.specs.declared.init.ListPlace.{ListPlace}
-use Rattle.capnp_widening.proofs.lemmas.Standing.{part_there}
 use Rattle.capnp_dynamic.specs.Edits.{IsThere, Edits}
 use Rattle.capnp_dynamic.specs.Puts.{Deepens}
 use Rattle.capnp_dynamic.proofs.lemmas.Deeper.{object_owned_more}
+use Rattle.capnp_copy.proofs.lemmas.Parts.{section_there}
 use Rattle.capnp_dynamic_lists.specs.Lists.{IsListThere, IsListOf, EditsElement, DeepensElement}
 use Rattle.capnp_dynamic_lists.specs.Parts.{struct_cell, cell_in, IsStructOf}
 use Rattle.capnp_dynamic_lists.specs.Places.{IsStructAt}
@@ -115,7 +115,7 @@ module _ (s : Segments) (o : ListPlace) (i : ℕ) (p : StructPlace) (l : i < o.c
       let near = x.0.1 in
       let sizes : place_view p.start ≡ after (after q 1) (i * w) = at.place ∙ ap (λ (j : ℕ). after (after q 1) (i * (j + o.pointers))) (sym at.data_words) ∙ ap (λ (j : ℕ). after (after q 1) (i * (p.data_words + j))) (sym at.pointers) in
       let sum : after q (1 + i * w) ≡ after (after q 1) (i * w) = ap (λ (j : ℕ). place q.segment j) (omega arith) in
-      let part : is_some (words_at s (after q (1 + i * w)) w) ≡ true = part_there s q (1 + i * w) w (1 + o.claimed) (omega (arith, inside, fit)) x.0.0 in
+      let part : is_some (words_at s (after q (1 + i * w)) w) ≡ true = section_there s q (1 + i * w) w (1 + o.claimed) (omega (arith, inside, fit)) x.0.0 in
       let position : p.start.position ≡ q.position + 1 + i * w = ap (λ (r : Place). r.position) sizes in
       record {
         words = subst (λ r. is_some (words_at s r w) ≡ true) (sum ∙ sym sizes) part;

@@ -18,8 +18,8 @@ use Rattle.capnp_footprints.proofs.lemmas.Lift.{child_of_struct, struct_of_child
 use Rattle.capnp_copy.specs.Values.{Becomes}
 use Rattle.capnp_copy.specs.Lists.{list_at}
 use Rattle.capnp_copy.specs.declared.init.ListPlace.{ListPlace}
-use Rattle.capnp_widening.proofs.lemmas.Standing.{part_there}
 use Rattle.capnp_dynamic.proofs.lemmas.Deeper.{object_owned_more}
+use Rattle.capnp_copy.proofs.lemmas.Parts.{section_there}
 use Rattle.capnp_dynamic_lists.specs.Lists.{HasPointer, IsListThere, IsListOf, DeepensElement}
 use Rattle.capnp_dynamic_lists.specs.Parts.{struct_cell, cell_in, on_child, IsPointerOf}
 use Rattle.capnp_dynamic_lists.specs.Places.{IsPointerAt}
@@ -125,7 +125,7 @@ module _ (s : Segments) (o : ListPlace) (i : ℕ) (q : code.Place) (has : HasPoi
       let near = x.0.1 in
       let there : Place = after (after (after p 1) (i * w)) o.data_words in
       let sum : after p (1 + i * w + o.data_words) ≡ there = ap (λ (k : ℕ). place p.segment k) (omega arith) in
-      let part = part_there s p (1 + i * w + o.data_words) 1 (1 + o.claimed) (omega (arith, inside, fit, some)) x.0.0 in
+      let part = section_there s p (1 + i * w + o.data_words) 1 (1 + o.claimed) (omega (arith, inside, fit, some)) x.0.0 in
       let few : there.position + 1 < 2 ^ 61 = omega (arith, inside, fit, some, near) in
       subst (λ r. AreThere s r 1) (sym (at.structs seven)) (subst (λ r. is_some (words_at s r 1) ≡ true) sum part, few)
 
@@ -135,7 +135,7 @@ module _ (s : Segments) (o : ListPlace) (i : ℕ) (q : code.Place) (has : HasPoi
       let x = there.whole.1 (has.pointers other) in
       let near = x.1 in
       let few : (after p i).position + 1 < 2 ^ 61 = omega (arith, l, near) in
-      subst (λ r. AreThere s r 1) (sym (at.pointers other)) (part_there s p i 1 o.count (omega (arith, l)) x.0, few)
+      subst (λ r. AreThere s r 1) (sym (at.pointers other)) (section_there s p i 1 o.count (omega (arith, l)) x.0, few)
 
   pub pointer_there : AreThere s (place_view q) 1
   pointer_there = elim (by_size o.size) [ inl seven ↦ in_struct seven | inr other ↦ is_pointer other ]

@@ -25,7 +25,7 @@ use Rattle.capnp_dynamic_lists.specs.Places.{IsStructAt}
 use Rattle.capnp_dynamic_lists.specs.Parts.{cell_in, IsStructOf, IsPointerOf, on_child}
 use Rattle.capnp_calls.specs.Sizes.{IsDone}
 use Rattle.capnp_calls.specs.Paths.{shape_edit}
-use Rattle.capnp_calls.proofs.lemmas.SlotShown.{read_child-child}
+use Rattle.capnp_model.proofs.lemmas.Paths.{read_child-is}
 use Rattle.capnp_edits.specs.Written.{WritesValue, value_outcome, value_edit, GrowsAround, GrowsBehind}
 use Rattle.capnp_edits.specs.Elements.{IsDoneWithin, WritesWithin, IsElementDone, WritesElement, GrowsIn}
 use Rattle.capnp_edits.proofs.Begun.{null_opened}
@@ -82,7 +82,7 @@ value_within : (s : Schema) (e : Ty) (path : List Step) (verb : Verb) (c : Cell)
 unfolding step_element
 value_within s e [] verb c some h = absurd (some refl)
 value_within s e (st ∷ rest) verb c some h =
-    subst (λ r. IsDone (through_value s st (step_field s rest verb) (step_element s rest verb) (list e) (opened s (list e) null r))) (read_child-child s c.kids 0 (list e)) h.1
+    subst (λ r. IsDone (through_value s st (step_field s rest verb) (step_element s rest verb) (list e) (opened s (list e) null r))) (read_child-is s c.kids 0 (list e)) h.1
 
 value_edits : (s : Schema) (e : Ty) (path : List Step) (verb : Verb) → path ≢ [] → (words pointers : ℕ) (c : Cell) → on_child (value_edit s (list e) null path verb) words pointers c ≡ edit_element s path verb (list e) words pointers c
 unfolding edit_element

@@ -25,13 +25,13 @@ use Rattle.capnp_copy.specs.declared.init.ListPlace.{ListPlace}
 use Rattle.capnp_copy.specs.Elements.{LiesAt}
 use Rattle.capnp_copy.specs.Lists.{list_at}
 use Rattle.capnp_copy.specs.Values.{LeadsTo}
-use Rattle.capnp_copy.proofs.lemmas.ElementLaws.{is_plain}
 use Rattle.capnp_widening.specs.Got.{list_in}
 use Rattle.capnp_widening.proofs.lemmas.CopiedNumbers.{plain_shape}
 use Rattle.capnp_widening.proofs.lemmas.GotStructs.{same_object}
 use Rattle.capnp_widening.proofs.lemmas.ObjectsThere.{named_at}
 use Rattle.capnp_builders.specs.Gets.{list_named}
 use Rattle.capnp_dynamic_lists.specs.Lists.{IsListOf}
+use Rattle.capnp_model.proofs.lemmas.PointerWords.{list_kind_small}
 use Rattle.capnp_edits.specs.Elements.{IsListFound}
 
 -- what the place of a list tells
@@ -62,7 +62,7 @@ from_structs slot expected q words n d k o e =
 
 told_plain : (s : Segments) (slot : code.Place) (expected : ElementSize) (o : ListPlace) (f : Object) → size_number o.size < 6 → whole s (list_at o) ≡ Ok f → list_in slot expected f ≡ Ok o → Told s o
 told_plain s slot expected o f l e is =
-    let kind = is_plain (size_number o.size) l in
+    let kind = list_kind_small (size_number o.size) l in
     let x = bind_ok (ok_or (words_at s (place_view o.start) (list_words (list_kind (size_number o.size)) (size_number o.size) o.claimed)) OutOfBounds) _ f e in
     let y : whole_list (place_view o.start) of_bits (size_number o.size) o.claimed x.0 ≡ Ok f = subst (λ (kd : ListKind). whole_list (place_view o.start) kd (size_number o.size) o.claimed x.0 ≡ Ok f) kind x.2 in
     let object_is = ok_is _ _ y in

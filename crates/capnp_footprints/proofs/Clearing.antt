@@ -11,12 +11,12 @@ use Rattle.capnp_model.specs.Segments.{Segments, Place, after, words_at, place, 
 use Rattle.capnp_model.specs.Traversal.{list_kind, list_words, tree_of}
 use Rattle.capnp_model.specs.Trees.{Tree, null}
 use Rattle.capnp_model.proofs.lemmas.Chaining.{bind_some, some_is, ok_is, bind_ok, ok_or_some}
+use Rattle.capnp_model.proofs.lemmas.ReadFits.{words_length}
 use Rattle.capnp_footprints.specs.Changes.{Changes, Replaces, Clears, absent}
 use Rattle.capnp_footprints.specs.Footprints.{behind, object_footprint, footprint, Owns, own_words}
 use Rattle.capnp_footprints.specs.Writes.{with_words, spliced}
 use Rattle.capnp_footprints.proofs.lemmas.Algebra.{On, changes_alike}
 use Rattle.capnp_footprints.proofs.lemmas.Growing.{zero_held}
-use Rattle.capnp_footprints.proofs.lemmas.Kept.{words_length}
 use Rattle.capnp_footprints.proofs.lemmas.Lift.{value_on}
 use Rattle.capnp_footprints.proofs.lemmas.Nulls.{from_described}
 use Rattle.capnp_footprints.proofs.lemmas.Rows.{footprint_is, after_none}

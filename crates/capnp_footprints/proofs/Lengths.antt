@@ -16,11 +16,12 @@ use Rattle.capnp_model.proofs.lemmas.Chaining.{bind_some, bind_found, some_is}
 use Rattle.capnp_model.proofs.lemmas.Numbers.{length-numbers_in}
 use Rattle.capnp_model.proofs.lemmas.RoundTrip.{links_length}
 use Rattle.capnp_model.proofs.lemmas.Canonical.{size-trim}
-use Rattle.capnp_model.proofs.lemmas.ReadFits.{tree_at_fits}
+use Rattle.capnp_model.proofs.lemmas.ReadFits.{tree_at_fits, words_length}
+use Rattle.capnp_model.proofs.lemmas.Size.{leaf_size}
 use Rattle.capnp_footprints.specs.Footprints.{behind, Owns}
 use Rattle.capnp_footprints.specs.Totals.{words_of_segments}
 use Rattle.capnp_footprints.proofs.Counting.{words_of_spans, spans_append, spans_within}
-use Rattle.capnp_footprints.proofs.lemmas.Kept.{words_length, tag_fits}
+use Rattle.capnp_footprints.proofs.lemmas.Kept.{tag_fits}
 use Rattle.capnp_footprints.proofs.lemmas.There.{value_full}
 use Rattle.capnp_footprints.proofs.lemmas.Turns.{each_counted}
 
@@ -93,17 +94,11 @@ module _ (s : Segments) (f : Place → Option Tree) (b : Place → List Span) (h
       let x = bind_some (words_at s p (list_words (list_kind size) size n)) _ t e in
       list_within p (list_kind size) size n x.0 t x.1 x.2
 
-leaf_within : (o : Object) (t : Tree) → leaf_of o ≡ Some t → length (body t) ≤ 0
-leaf_within nothing t e = subst (λ (u : Tree). length (body u) ≤ 0) (some_is _ _ e) (omega arith)
-leaf_within (a_capability i) t e = subst (λ (u : Tree). length (body u) ≤ 0) (some_is _ _ e) (omega arith)
-leaf_within (a_struct p d k) t e = absurd cc
-leaf_within (a_list p size n) t e = absurd cc
-
 value_within : (n : ℕ) (s : Segments) (p : Place) (t : Tree) → tree_at n s p ≡ Some t → length (body t) ≤ words_of_spans (behind n s p)
 unfolding tree_at behind
 value_within zero s p t e =
     let x = bind_found (found_at s p) _ t e in
-    let l = leaf_within x.0.object t x.2 in
+    let l = leaf_size x.0.object t x.2 in
     omega (arith, l)
 value_within (suc n) s p t e =
     let x = bind_found (found_at s p) _ t e in

@@ -23,6 +23,7 @@ use Rattle.capnp_footprints.proofs.lemmas.Splices.{Rewrites, splice_rewrites}
 use Rattle.capnp_footprints.proofs.lemmas.There.{words_there}
 use Rattle.capnp_footprints.proofs.lemmas.Writing.{rewrites_keep, written_word}
 use Rattle.capnp_footprints.proofs.lemmas.Zeros.{held_none, null_footprint, zero_struct, zero_struct_takes}
+use Rattle.capnp_footprints.proofs.lemmas.Pointing.{not_zero}
 
 -- ---- the change
 
@@ -48,9 +49,6 @@ module _ (s m u : Segments) (p r : Place) (k : ℕ) (x : Extends s m r k) (was :
       }
 
 -- ---- a struct behind the end of the pointer's own segment
-
-not_zero : (w : ℕ) → 0 < w → eqb w 0 ≡ false
-not_zero w l = grind (arith, nat_tests)
 
 struct_word_pos : (o d k : ℕ) → 0 < d + k → 0 < struct_pointer o d k
 struct_word_pos o d k l = omega (arith, l)

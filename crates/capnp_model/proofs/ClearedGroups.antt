@@ -11,15 +11,16 @@ use Rattle.capnp_model.specs.Accepted.{Area, union_area, areas_of, areas_of_fiel
 use Rattle.capnp_model.specs.Edits.{Cell, mark, put_child, is_kept, edit_if, cleared, cleared_fields, cleared_body}
 use Rattle.capnp_model.specs.InKind.{in_kind, child_in_kind, fields_in_kind, body_in_kind, shape_in_kind}
 use Rattle.capnp_model.proofs.lemmas.SoundShapes.{MarkApart, Apart}
-use Rattle.capnp_model.proofs.lemmas.KeptRules.{and_left, and_right, and_three}
+use Rattle.capnp_model.proofs.lemmas.KeptRules.{and_three}
 use Rattle.capnp_model.proofs.ApartAreas.{apart_of, Apart-sym}
 use Rattle.capnp_model.proofs.lemmas.FineShapes.{IsGood, AreGood, IsGoodBody}
 use Rattle.capnp_model.proofs.lemmas.Bits.{bits_at-with_bits}
 use Rattle.capnp_model.proofs.Views.{body_of-same}
 use Rattle.capnp_model.proofs.lemmas.Marks.{view_of}
 use Rattle.capnp_model.proofs.lemmas.Paths.{read_child-is, Apart-left, Apart-right}
-use Rattle.capnp_model.proofs.lemmas.KeptCells.{KeptAll, KeptAll-refl, KeptAll-trans, kept_views, child-with_child, kept_if_put, kept_if_written, child_in_kind-is, discriminant-kept, body_in_kind-kept, both}
+use Rattle.capnp_model.proofs.lemmas.KeptCells.{KeptAll, KeptAll-refl, KeptAll-trans, kept_views, child-with_child, kept_if_put, kept_if_written, child_in_kind-is, discriminant-kept, body_in_kind-kept}
 use Rattle.capnp_model.proofs.FieldsApart.{IsIn, off_union_in, OfField, IsLocal, AllChosen, IsBeside, run, run_meets}
+use Rattle.capnp_model.proofs.lemmas.Tests.{both, and_left, and_right, not_zero}
 
 pub zero_bits : (at w : ℕ) → bits_at at w 0 ≡ 0
 zero_bits at w = ap (λ z. z % 2 ^ w) (zero-div (2 ^ at)) ∙ zero-mod (2 ^ w)
@@ -85,9 +86,6 @@ place_first None ys c h = KeptAll-refl ys c
 place_first (Some at) ys c h = kept_if_written c at 16 0 (zero_fits 16) ys h.0
 
 -- ---- all fields
-
-pub not_zero : (k : ℕ) → (suc k == 0) ≡ false
-not_zero k = grind arith
 
 -- fields that are members of no value but 0 read as before, others are inactive
 entry_cleared : (u m : Option ℕ) (x y : Reading) → (is_kept m ≡ true → x ≡ y) → only_if (is_active m (first_member u)) x ≡ only_if (is_active m (first_member u)) y

@@ -13,15 +13,15 @@ use Rattle.capnp_model.specs.Groups.{empty_tree, source_tree, has_active, copied
 use Rattle.capnp_model.specs.Edits.{Cell, Edit, mark, put_bits, put_child, edit_if, pointer_writes, has_turn, group_writes, field_writes, body_writes, after_writes}
 use Rattle.capnp_model.specs.InKind.{Kinds, in_kind, child_in_kind, fields_in_kind, body_in_kind, shape_in_kind}
 use Rattle.capnp_model.proofs.lemmas.SoundShapes.{MarkApart, HasPlace, Apart}
-use Rattle.capnp_model.proofs.lemmas.KeptRules.{and_left, and_right}
 use Rattle.capnp_model.proofs.lemmas.Bits.{bits_at-with_bits}
 use Rattle.capnp_model.proofs.Writes.{discriminant_after}
 use Rattle.capnp_model.proofs.Views.{body_of-same}
 use Rattle.capnp_model.proofs.lemmas.Marks.{view_of}
 use Rattle.capnp_model.proofs.lemmas.Paths.{read_child-is, marks_mark}
-use Rattle.capnp_model.proofs.lemmas.KeptCells.{KeptAll, KeptAll-refl, KeptAll-trans, kept_views, child-with_child, kept_if_put, kept_if_written, kept_if_marked, child_in_kind-is, discriminant-kept, body_in_kind-kept, both, or_right}
+use Rattle.capnp_model.proofs.lemmas.KeptCells.{KeptAll, KeptAll-refl, KeptAll-trans, kept_views, child-with_child, kept_if_put, kept_if_written, kept_if_marked, child_in_kind-is, discriminant-kept, body_in_kind-kept}
 use Rattle.capnp_model.proofs.FieldsApart.{IsIn, OfField, IsLocal, run}
 use Rattle.capnp_model.proofs.ClearedGroups.{IsBlank, blank_kept, nothing_read}
+use Rattle.capnp_model.proofs.lemmas.Tests.{number_is, both, or_right, and_left, and_right}
 
 -- ---- values of the source
 
@@ -100,9 +100,6 @@ source_is s ty _ (pointer_list ts) = inr refl
 source_is s ty null (struct_list w p es) = inr refl
 source_is s ty _ (struct_list w p es) = inr refl
 
-pub same_number : (n : ℕ) → (n == n) ≡ true
-same_number n = grind arith
-
 mutual
   unfolding fields_in_kind
 
@@ -133,7 +130,7 @@ empty_in_kind s blob = refl
 empty_in_kind s (struct id) = quiet_shape (s.shape_of id) 0 (child_in_kind s none) (λ i e. quiet_child s 0 i e)
 empty_in_kind s (list (struct id)) = refl
 empty_in_kind s (list void) = refl
-empty_in_kind s (list (plain p)) = ap (λ z. z && true) (same_number (size_of_width (width p)))
+empty_in_kind s (list (plain p)) = ap (λ z. z && true) (number_is (size_of_width (width p)))
 empty_in_kind s (list text) = refl
 empty_in_kind s (list _) = refl
 empty_in_kind s _ = refl

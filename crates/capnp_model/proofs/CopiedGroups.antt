@@ -11,14 +11,15 @@ use Rattle.capnp_model.specs.Edits.{Cell, Edit, mark, edit_if, cleared, cleared_
 use Rattle.capnp_model.specs.InKind.{child_in_kind, fields_in_kind, body_in_kind, shape_in_kind}
 use Rattle.capnp_model.specs.InKindCalls.{defaults_in_kind, field_defaults_in_kind, body_default_in_kind}
 use Rattle.capnp_model.proofs.lemmas.SoundShapes.{MarkApart, HasPlace, Apart}
-use Rattle.capnp_model.proofs.lemmas.KeptRules.{and_left, and_right, and_three}
+use Rattle.capnp_model.proofs.lemmas.KeptRules.{and_three}
 use Rattle.capnp_model.proofs.ApartAreas.{Apart-sym}
-use Rattle.capnp_model.proofs.lemmas.FineShapes.{HasUnion, IsGoodMember, IsGood, AreGood, IsGoodBody, mark_of, place_of, back_of}
-use Rattle.capnp_model.proofs.lemmas.Paths.{Apart-left, Apart-right}
-use Rattle.capnp_model.proofs.lemmas.KeptCells.{KeptAll, KeptAll-refl, KeptAll-trans, child_in_kind-is, discriminant-kept, both, or_right}
+use Rattle.capnp_model.proofs.lemmas.FineShapes.{HasUnion, IsGoodMember, IsGood, AreGood, IsGoodBody, place_of, back_of}
+use Rattle.capnp_model.proofs.lemmas.Paths.{Apart-left, Apart-right, mark_apart}
+use Rattle.capnp_model.proofs.lemmas.KeptCells.{KeptAll, KeptAll-refl, KeptAll-trans, child_in_kind-is, discriminant-kept}
 use Rattle.capnp_model.proofs.FieldsApart.{IsIn, off_union_in, apart_in, AllChosen, IsBeside, run, run_meets}
-use Rattle.capnp_model.proofs.ClearedGroups.{Blank, Blank-local, blank_kept, first_member, AreCleared, fields_cleared, all_apart_in, union_apart, not_zero}
+use Rattle.capnp_model.proofs.ClearedGroups.{Blank, Blank-local, blank_kept, first_member, AreCleared, fields_cleared, all_apart_in, union_apart}
 use Rattle.capnp_model.proofs.CopiedFields.{Copied, Copied-local, CopiesBody, IsReady, Ready-local, active_is, after_both, behind_mark, copied_is, copy_op, has_active-knows, kind_in, knows, one_turn, plain_copied, pointer_copied, runs_written, turn_active}
+use Rattle.capnp_model.proofs.lemmas.Tests.{both, or_right, and_left, and_right, not_zero}
 
 -- ---- a whole group
 
@@ -202,7 +203,7 @@ module _ (s : Schema) (nid w p : ℕ) (u : Option ℕ) (fs : Fields) (good : Are
   -- the first phase leaves the fields that are no members
   beside_members : (b : Body) → IsIn None b fs → IsBeside u (λ m. has_turn true m source) fs (areas_of_body b)
   beside_members b i None x j h = absurd (cc h)
-  beside_members b i (Some k) x j h = (mark_of u (Some k) (areas_of_body b) (off_union_in u fs None b off i), Apart-sym (areas_of_body b) (areas_of_body x) (apart_in fs b k x apart i j))
+  beside_members b i (Some k) x j h = (mark_apart u (Some k) (areas_of_body b) (off_union_in u fs None b off i), Apart-sym (areas_of_body b) (areas_of_body x) (apart_in fs b k x apart i j))
 
   others_ready : (m : Option ℕ) (b : Body) → IsIn m b fs → has_turn false m source ≡ true → IsReady m b member_cell
   others_ready (Some k) b i h = tt
@@ -271,8 +272,8 @@ module _ (s : Schema) (nid w p : ℕ) (u : Option ℕ) (fs : Fields) (good : Are
   keeps_rest ys h k =
       KeptAll-trans ys c cleared_cell whole_cell (clears.keeps ys h k)
       (KeptAll-trans ys cleared_cell member_cell whole_cell
-      (first_phase.1 ys (λ m b i l. (mark_of u m ys h, all_apart_in fs ys k m b i)))
-      (second_phase.1 ys (λ m b i l. (mark_of u m ys h, all_apart_in fs ys k m b i))))
+      (first_phase.1 ys (λ m b i l. (mark_apart u m ys h, all_apart_in fs ys k m b i)))
+      (second_phase.1 ys (λ m b i l. (mark_apart u m ys h, all_apart_in fs ys k m b i))))
 
   group_copy : IsCopied s (shape nid w p u fs) from c whole_cell
   unfolding shape_record copied_record areas_of fields_in_kind

@@ -4,10 +4,12 @@ use Rattle.capnp_model.specs.Schemas.{Fields, no_fields, field, Body, Schema}
 use Rattle.capnp_model.specs.Accepted.{Area, union_area, areas_of, areas_of_fields, areas_of_body, are_members, are_apart, is_apart_from, has_no_overlap, fields_are_apart, body_has_no_overlap}
 use Rattle.capnp_model.specs.Edits.{Cell, Edit, edit_if}
 use Rattle.capnp_model.proofs.lemmas.SoundShapes.{MarkApart, Apart}
-use Rattle.capnp_model.proofs.lemmas.KeptRules.{and_left, and_right, and_three}
+use Rattle.capnp_model.proofs.lemmas.KeptRules.{and_three}
 use Rattle.capnp_model.proofs.ApartAreas.{apart_of, Apart-sym}
-use Rattle.capnp_model.proofs.lemmas.FineShapes.{IsGoodMember, IsNewMember, AreGood, IsGoodBody, mark_of, front_of, back_of}
+use Rattle.capnp_model.proofs.lemmas.FineShapes.{IsGoodMember, IsNewMember, AreGood, IsGoodBody, front_of, back_of}
 use Rattle.capnp_model.proofs.lemmas.KeptCells.{KeptAll, KeptAll-refl, KeptAll-trans}
+use Rattle.capnp_model.proofs.lemmas.Tests.{and_left, and_right}
+use Rattle.capnp_model.proofs.lemmas.Paths.{mark_apart}
 
 -- The member and the field stand among the fields.
 abbrev pub IsIn : Option ℕ → Body → Fields → Type 0
@@ -117,10 +119,10 @@ module _ (s : Schema) (u v : Option ℕ) (chosen : Option ℕ → Bool) (one : (
       by true e beside here rest more =
           let w = works m x (inl (refl, refl)) e c (ready m x (inl (refl, refl)) e) in
           let moved : AllChosen chosen P fs (op m x c) =
-          λ k b i h. P-local k b c (op m x c) (w.1 (areas_of_body b) (mark_of v m (areas_of_body b) (off_union_in v fs k b rest i)) (two_apart m x fs k b beside good.2 e i h)) (ready k b (inr i) h) in
+          λ k b i h. P-local k b c (op m x c) (w.1 (areas_of_body b) (mark_apart v m (areas_of_body b) (off_union_in v fs k b rest i)) (two_apart m x fs k b beside good.2 e i h)) (ready k b (inr i) h) in
           let d = more (op m x c) moved in
           let kept : KeptAll (areas_of_body x) (op m x c) (run chosen op fs (op m x c)) =
-          d.1 (areas_of_body x) (λ k b i h. (mark_of v k (areas_of_body x) here, Apart-sym (areas_of_body x) (areas_of_body b) (two_apart m x fs k b beside good.2 e i h))) in (
+          d.1 (areas_of_body x) (λ k b i h. (mark_apart v k (areas_of_body x) here, Apart-sym (areas_of_body x) (areas_of_body b) (two_apart m x fs k b beside good.2 e i h))) in (
             (λ k b i h. elim i [
               | inl f ↦ subst (λ z. Q z b (run chosen op fs (op m x c))) (sym f.0) (subst (λ z. Q m z (run chosen op fs (op m x c))) (sym f.1) (Q-local m x (op m x c) (run chosen op fs (op m x c)) kept w.0))
               | inr j ↦ d.0 k b j h

@@ -8,8 +8,8 @@ use Rattle.capnp_model.specs.Readings.{expected_size, is_list_of}
 use Rattle.capnp_model.specs.Calls.{CallValue, whole_number, truth, enumerant, text_value, blob_value, message, Verb, get, set_to, init, initn, clear, Content, refused_by, bits_of, object, message_root, struct_content, plain_content, value_content, empty_struct, empty_elements, empty_structs, new_list, init_content, initn_content, slot_content}
 use Rattle.capnp_model.specs.InKind.{in_kind, child_in_kind, children_in_kind, elements_in_kind}
 use Rattle.capnp_model.specs.InKindCalls.{PathEnd, at_slot, at_value, target_in_kind}
-use Rattle.capnp_model.proofs.lemmas.KeptCells.{both}
-use Rattle.capnp_model.proofs.CopiedFields.{same_number, quiet_shape, quiet_child}
+use Rattle.capnp_model.proofs.CopiedFields.{quiet_shape, quiet_child}
+use Rattle.capnp_model.proofs.lemmas.Tests.{number_is, both}
 
 -- ---- the value of a call
 
@@ -45,7 +45,7 @@ quiet_children s (suc n) (struct id) e = absurd (cc e)
 new_in_kind : (s : Schema) (n : ℕ) (ty : Ty) → in_kind s (new_list s n ty) (list ty) ≡ true
 unfolding in_kind
 new_in_kind s n void = refl
-new_in_kind s n (plain p) = ap (λ z. z && true) (same_number (size_of_width (width p)))
+new_in_kind s n (plain p) = ap (λ z. z && true) (number_is (size_of_width (width p)))
 new_in_kind s n (struct id) = by (s.shape_of id)
   where
     by : (g : Shape) → in_kind s (empty_structs g n) (list (struct id)) ≡ true

@@ -8,11 +8,10 @@ use Rattle.capnp_model.specs.Readings.{Reading, record_as, list_of, Readings, â—
 use Rattle.capnp_model.specs.Steps.{Outcome, done, on_index}
 use Rattle.capnp_model.specs.Edits.{Edit, as_list, elements_of_plain, widened_list, padded_elements, on_plain, on_pointers, on_elements, edit_list}
 use Rattle.capnp_model.specs.InKind.{in_kind, child_in_kind, children_in_kind, elements_in_kind}
-use Rattle.capnp_model.proofs.lemmas.KeptRules.{and_left, and_right}
 use Rattle.capnp_model.proofs.lemmas.Numbers.{numbers_in_lt}
-use Rattle.capnp_model.proofs.lemmas.KeptCells.{both}
 use Rattle.capnp_model.proofs.CopiedFields.{quiet_shape, quiet_child}
 use Rattle.capnp_model.proofs.lemmas.ListElements.{ChangesElement, HasRoom, IsPlain, IsPointed, IsReal, no_size, on_children, on_section, on_structs, padded_in_kind, padded_reads, room, w}
+use Rattle.capnp_model.proofs.lemmas.Tests.{both, and_left, and_right}
 
 -- ---- a list under its type
 

@@ -10,7 +10,7 @@ use Rattle.capnp_model.specs.Packing.{Run, first, next, zeros, verbatim, byte_at
 use Rattle.capnp_model.specs.PackingGrammar.{Marked, marked_end, marked_zero, marked_byte, AsTheyAre, are_none, are_more, Spell, spell_nothing, spell_word, spell_zeros, spell_verbatim}
 use Rattle.capnp_model.proofs.lemmas.Chaining.{ok_then, ok_is, bind_ok, guard_then, cond_ok}
 use Rattle.capnp_model.proofs.lemmas.ByteWords.{taken_front}
-use Rattle.capnp_model.proofs.Packing.{IsRun}
+use Rattle.capnp_model.proofs.Packing.{IsRun, counted_again}
 use Rattle.capnp_model.proofs.PackedPrefixes.{with_word_ok, unpacked_from_more}
 use Rattle.capnp_model.proofs.PackedFronts.{unpacked_from_fronts}
 
@@ -70,9 +70,6 @@ word_on n t w = run_at n t w.1 and_then run_on w.0
 group_by : (n t : ℕ) (bytes word behind more : List ℕ) (run : Run) → spread 8 t bytes ≡ Ok (word, behind) → run_at n t behind ≡ Ok (run, more) → group_at n (t ∷ bytes) ≡ Ok (from_le_bytes w64 word, run, more)
 group_by n t bytes word behind more run e h = ok_then (spread 8 t bytes) (word_on n t) (word, behind) _ e (ok_then (run_at n t behind) (run_on word) (run, more) _ h refl)
 
-counted_by : (n k : ℕ) (run : ℕ → Run) (more : List ℕ) → k ≤ n → counted n run (k ∷ more) ≡ Ok (run k, more)
-counted_by n k run more within = guard_then (leb k n) PackedInputDidNotEndCleanlyOnASegmentBoundary (Ok (run k, more)) (Ok (run k, more)) (le-leb k n within) refl
-
 no_run : (n t : ℕ) (more : List ℕ) → t ≢ 0 → t ≢ 255 → run_at n t more ≡ Ok (next, more)
 no_run n t more some full = let a = ne_eqb t 0 some in let b = ne_eqb t 255 full in rw (a, b) refl
 
@@ -86,13 +83,13 @@ groups_read (spell_word {text} {rest} {words} t word some full eight marked more
 groups_read (spell_zeros {rest} {words} k more) run over =
     let ws = replicate k 0 ++ words in
     let fits : k ≤ length ws = omega (arith, length-append (replicate k 0) words, length-replicate {A = ℕ} k 0) in
-    over_step (length ws) run over 0 (k ∷ rest) (0, zeros k, rest) (group_by (length ws) 0 (k ∷ rest) (replicate 8 0) (k ∷ rest) rest (zeros k) refl (counted_by (length ws) k zeros rest fits))
+    over_step (length ws) run over 0 (k ∷ rest) (0, zeros k, rest) (group_by (length ws) 0 (k ∷ rest) (replicate 8 0) (k ∷ rest) rest (zeros k) refl (counted_again (length ws) k zeros rest fits))
     ∙ ap (with_word 0) (zeros_read k rest words (groups_read more (zeros 0) tt))
 groups_read (spell_verbatim {text} {rest} {run = vs} {words} k word eight are more) run over =
     let ws = vs ++ words in
     let fits : k ≤ length ws = omega (arith, length-append vs words, are-length are) in
     over_step (length ws) run over 255 (word ++ (k ∷ (text ++ rest))) (from_le_bytes w64 word, verbatim k, text ++ rest)
-    (group_by (length ws) 255 (word ++ (k ∷ (text ++ rest))) word (k ∷ (text ++ rest)) (text ++ rest) (verbatim k) (full_spread word (k ∷ (text ++ rest)) eight) (counted_by (length ws) k verbatim (text ++ rest) fits))
+    (group_by (length ws) 255 (word ++ (k ∷ (text ++ rest))) word (k ∷ (text ++ rest)) (text ++ rest) (verbatim k) (full_spread word (k ∷ (text ++ rest)) eight) (counted_again (length ws) k verbatim (text ++ rest) fits))
     ∙ ap (with_word (from_le_bytes w64 word)) (are_read are rest words (groups_read more (verbatim 0) tt))
 
 pub piece_read : (text words rest : List ℕ) → Spell text words → unpacked (length words) (text ++ rest) ≡ Ok (words, rest)

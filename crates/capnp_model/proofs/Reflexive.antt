@@ -12,10 +12,8 @@ use Rattle.capnp_model.specs.Schemas.{PlainType, bool, int, uint, «enum», Ty, 
 use Rattle.capnp_model.specs.Accepted.{find_node, fields_of_kind, default_bits, default_tree, slot_body, field_body, fields_from, union_place, no_shape, shape_of_node, shape_in, schema_of}
 use Rattle.capnp_model.specs.Compatible.{Pairs, has_pair, same_names, related_plain, related, same_option, member_count, keeps_union, same_default, keeps, keeps_fields, keeps_body, IsCompatible}
 use Rattle.capnp_model.specs.InKindCalls.{struct_ids}
-use Rattle.capnp_model.proofs.lemmas.KeptRules.{and_left, and_right, found_passes}
-
-same : (n : ℕ) → (n == n) ≡ true
-same n = eq-eqb n n refl
+use Rattle.capnp_model.proofs.lemmas.KeptRules.{found_passes}
+use Rattle.capnp_model.proofs.lemmas.Tests.{number_is, and_left, and_right}
 
 -- ---- the structs that node records name
 
@@ -46,8 +44,8 @@ module _ (s : Schema) (pairs : Pairs) where
 
   plain_self : (p : PlainType) → related_plain s s p p ≡ true
   plain_self bool = refl
-  plain_self (int w) = same w
-  plain_self (uint w) = same w
+  plain_self (int w) = number_is w
+  plain_self (uint w) = number_is w
   plain_self («enum» i) = names_self (s.names_of i)
 
   related_self : (ty : Ty) → list_all (is_own pairs) (struct_ids ty) ≡ true → related s s pairs ty ty ≡ true
@@ -62,11 +60,11 @@ module _ (s : Schema) (pairs : Pairs) where
 
   option_self : (o : Option ℕ) → same_option o o ≡ true
   option_self None = refl
-  option_self (Some a) = same a
+  option_self (Some a) = number_is a
 
   union_self : (u : Option ℕ) → keeps_union u u ≡ true
   union_self None = refl
-  union_self (Some a) = same a
+  union_self (Some a) = number_is a
 
   default_self : (d : Option Tree) → same_default d d ≡ true
   default_self None = refl
@@ -74,14 +72,14 @@ module _ (s : Schema) (pairs : Pairs) where
 
   slot_self : (offset : ℕ) (ty : Ty) (d : Option Value) → related s s pairs ty ty ≡ true → keeps_body s s pairs (slot_body offset ty d) (slot_body offset ty d) ≡ true
   unfolding keeps
-  slot_self offset void d h = same offset
-  slot_self offset (plain p) d h = both_true (both_true h (same _)) (same (default_bits d))
-  slot_self offset text d h = both_true (both_true (same offset) h) (default_self (default_tree d))
-  slot_self offset blob d h = both_true (both_true (same offset) h) (default_self (default_tree d))
-  slot_self offset untyped d h = both_true (both_true (same offset) h) (default_self (default_tree d))
-  slot_self offset interface d h = both_true (both_true (same offset) h) (default_self (default_tree d))
-  slot_self offset (struct i) d h = both_true (both_true (same offset) h) (default_self (default_tree d))
-  slot_self offset (list ty) d h = both_true (both_true (same offset) h) (default_self (default_tree d))
+  slot_self offset void d h = number_is offset
+  slot_self offset (plain p) d h = both_true (both_true h (number_is _)) (number_is (default_bits d))
+  slot_self offset text d h = both_true (both_true (number_is offset) h) (default_self (default_tree d))
+  slot_self offset blob d h = both_true (both_true (number_is offset) h) (default_self (default_tree d))
+  slot_self offset untyped d h = both_true (both_true (number_is offset) h) (default_self (default_tree d))
+  slot_self offset interface d h = both_true (both_true (number_is offset) h) (default_self (default_tree d))
+  slot_self offset (struct i) d h = both_true (both_true (number_is offset) h) (default_self (default_tree d))
+  slot_self offset (list ty) d h = both_true (both_true (number_is offset) h) (default_self (default_tree d))
 
   -- ---- fields, by the shapes of groups
 
@@ -136,7 +134,7 @@ module _ (nodes : List Node) (pairs : Pairs) (own : list_all (λ n. list_all (is
 own_ids : (pairs : Pairs) (ids : List ℕ) → ((i : ℕ) → has_pair (twice ids) i i ≡ true → has_pair pairs i i ≡ true) → list_all (is_own pairs) ids ≡ true
 unfolding twice
 own_ids pairs [] h = refl
-own_ids pairs (x ∷ xs) h = both_true (h x (or_left (x == x && x == x) _ (both_true (same x) (same x)))) (own_ids pairs xs (λ i k. h i (or_right (x == i && x == i) _ k)))
+own_ids pairs (x ∷ xs) h = both_true (h x (or_left (x == x && x == x) _ (both_true (number_is x) (number_is x)))) (own_ids pairs xs (λ i k. h i (or_right (x == i && x == i) _ k)))
 
 each_own : (test : ℕ → Bool) (nodes : List Node) → list_all test (flat_map ids_of nodes) ≡ true → list_all (λ n. list_all test (ids_of n)) nodes ≡ true
 each_own test [] h = refl
@@ -155,7 +153,7 @@ unfolding schema_of
 compatible_with_itself nodes id = record {
   pairs = all;
   same_sort = refl;
-  has_roots = or_left (id == id && id == id) _ (both_true (same id) (same id));
+  has_roots = or_left (id == id && id == id) _ (both_true (number_is id) (number_is id));
   are_kept = both_true (kept id) (all_twice (λ p. keeps (schema_of nodes) (schema_of nodes) all ((schema_of nodes).shape_of p.0) ((schema_of nodes).shape_of p.1)) kept (flat_map ids_of nodes));
 }
   where

@@ -11,10 +11,11 @@ use Rattle.capnp_model.specs.Encoding.{canonical_words}
 use Rattle.capnp_model.specs.Schemas.{PlainType, bool, int, uint, «enum», Ty, void, plain, text, blob, untyped, interface, struct, list, Node, Shape, shape, Fields, no_fields, field, Body, void_slot, plain_slot, pointer_slot, group_slot, Schema}
 use Rattle.capnp_model.specs.Accepted.{schema_of, IsAccepted}
 use Rattle.capnp_model.specs.Compatible.{Pairs, has_pair, same_names, related_plain, related, same_option, member_count, is_new, keeps_union, same_default, keeps, keeps_fields, keeps_body, IsCompatible}
-use Rattle.capnp_model.proofs.lemmas.KeptRules.{and_left, and_right, and_three, and_four}
+use Rattle.capnp_model.proofs.lemmas.KeptRules.{and_three, and_four}
 use Rattle.capnp_model.proofs.lemmas.KeptShapes.{option_is}
 use Rattle.capnp_model.proofs.lemmas.FineShapes.{IsNewName, IsGood, AreGood, IsGoodBody}
 use Rattle.capnp_model.proofs.lemmas.SoundRules.{rules_kept, good_shape}
+use Rattle.capnp_model.proofs.lemmas.Tests.{and_left, and_right}
 
 -- ---- pairs that meet in the middle
 

@@ -7,14 +7,8 @@ use Rattle.capnp_model.specs.Trimming.{stripped, after_stripping, common_pointer
 use Rattle.capnp_model.specs.Schemas.{width, Ty, void, plain, text, blob, untyped, interface, struct, list, Shape, shape, Fields, no_fields, field, Body, void_slot, plain_slot, pointer_slot, group_slot, Schema}
 use Rattle.capnp_model.specs.Readings.{expected_size, Reading, null_pointer, record_as, opaque, Readings, ◌▹◌, entry, Children, only_child, whole_words, just_bits, discriminant, is_active, only_if, shape_record, fields_of, body_of, is_list_of, have_room, element_as, list_reading, struct_reading, other_list_reading, read, read_child, pointer_elements, struct_elements}
 use Rattle.capnp_model.specs.InKind.{Kinds, fields_in_kind, body_in_kind, shape_in_kind, element_kinds, struct_kinds, list_kinds, one_kind, in_kind, child_in_kind, children_in_kind, elements_in_kind}
-
-and_left : (a b : Bool) → (a && b) ≡ true → a ≡ true
-and_left true b h = refl
-and_left false b h = absurd (cc h)
-
-and_right : (a b : Bool) → (a && b) ≡ true → b ≡ true
-and_right true b h = h
-and_right false b h = absurd (cc h)
+use Rattle.capnp_model.proofs.lemmas.Paths.{nothing_in}
+use Rattle.capnp_model.proofs.lemmas.Tests.{and_left, and_right}
 
 -- the children that are in kind read alike
 abbrev Alike : Kinds → Children → Children → Type 0
@@ -72,16 +66,10 @@ read_child-stripped s none i ty = refl
 read_child-stripped s (t ▸ ts) zero ty = read_first s t (stripped ts) ty
 read_child-stripped s (t ▸ ts) (suc i) ty = read_later s t (stripped ts) i ty ∙ read_child-stripped s ts i ty
 
-read_nothing : (s : Schema) (p i : ℕ) (ty : Ty) → read_child s (resized p none) i ty ≡ null_pointer
-unfolding read
-read_nothing s zero i ty = refl
-read_nothing s (suc p) zero ty = refl
-read_nothing s (suc p) (suc i) ty = read_nothing s p i ty
-
 -- cutting behind all children but nulls
 read_child-resized : (s : Schema) (p : ℕ) (ts : Trees) (i : ℕ) (ty : Ty) → tree_count ts ≤ p → read_child s (resized p ts) i ty ≡ read_child s ts i ty
 unfolding read
-read_child-resized s p none i ty h = read_nothing s p i ty
+read_child-resized s p none i ty h = nothing_in s p i ty
 read_child-resized s zero (t ▸ ts) i ty h = absurd (omega arith)
 read_child-resized s (suc p) (t ▸ ts) zero ty h = refl
 read_child-resized s (suc p) (t ▸ ts) (suc i) ty h = read_child-resized s p ts i ty (omega arith)

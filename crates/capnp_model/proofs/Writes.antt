@@ -10,6 +10,7 @@ use Rattle.capnp_model.specs.Steps.{choose, unless_member, replaced}
 use Rattle.capnp_model.specs.Views.{View, SameAt, SameAll}
 use Rattle.capnp_model.proofs.Views.{body_of-same}
 use Rattle.capnp_model.proofs.lemmas.Bits.{bits_at-with_bits_below, bits_at-with_bits_above}
+use Rattle.capnp_model.proofs.lemmas.Tests.{number_is}
 
 -- ---- one field is written: the others read as before
 
@@ -33,12 +34,9 @@ abbrev pub IsWritten : List ℕ → Option ℕ → Reading → Fields → View �
 IsWritten n written x no_fields v v' = Unit {0}
 IsWritten n written x (field m member body fs) v v' = AtField written x (bytes_eq m n) member body v v' × IsWritten n written x fs v v'
 
-eqb_same : (k : ℕ) → (k == k) ≡ true
-eqb_same k = grind arith
-
 active_again : (member d : Option ℕ) → is_active member (discriminant_after member d) ≡ true
 active_again None d = refl
-active_again (Some k) d = eqb_same k
+active_again (Some k) d = number_is k
 
 other_reads : (written member d : Option ℕ) (body : Body) (v v' : View) → IsOther written member body v v'
     → only_if (is_active member (discriminant_after written d)) (body_of body v'.size v'.section v'.kids)

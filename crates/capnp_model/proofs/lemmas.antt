@@ -1,3 +1,4 @@
+pub mod Tests
 pub mod FittingValues
 pub mod Chaining
 pub mod Levels
@@ -43,3 +44,6 @@ pub mod ReachedStructs
 pub mod SoundSizes
 pub mod EditLaws
 pub mod TrimmedKinds
+pub mod EveryPath
+pub mod ActiveMembers
+pub mod Size

@@ -1,3 +1,4 @@
+pub mod lemmas
 mod TagLemmas
 mod PartLemmas
 mod HeadLemmas
@@ -6,5 +7,4 @@ mod ReadLemmas
 mod GroupLemmas
 mod PieceLemmas
 mod RunLemmas
-mod WriteLemmas
 mod SizeLemmas

@@ -15,6 +15,7 @@ use Rattle.capnp_model.specs.Packing.{Run, byte_at, spread, counted, run_at}
 use Rattle.capnp_model.proofs.lemmas.Chaining.{ok_then, bind_ok}
 use Rattle.capnp_stream.specs.Pieces.{EndsEarly, EachIsNeeded}
 use Rattle.capnp_stream.proofs.lemmas.EarlyLemmas.{early-same, early-then, none-needed, needed-joined}
+use Rattle.capnp_stream.proofs.lemmas.PieceLemmas.{err_then}
 use Rattle.capnp_packing.specs.Parts.{Rule, Leads, Takes, IsFault, Refuses, byte_or, count_at, tagged, with_front}
 
 -- ---- single bytes
@@ -63,10 +64,6 @@ Refuses-behind f g a b c k p q = record {
 
 pub Leads-then : {A B : Type 0} (f : Rule A) (k : A × List ℕ → Result (B × List ℕ) Kind) (a b : Option (List ℕ)) (x : A) → Takes f a b x → Leads (λ bytes. f bytes and_then k) a b (λ more. k (x, more))
 Leads-then f k a b x p = record { part = p.part; taken = p.taken; says = λ more. ok_then (f (p.part ++ more)) k (x, more) (k (x, more)) (p.says more) refl; needed = λ n below. early-then (f (take n p.part)) k (p.needed n below) }
-
-err_then : {A B : Type 0} (r : Result A Kind) (f : A → Result B Kind) (k : Kind) → r ≡ Err k → (r and_then f) ≡ Err k
-err_then (Ok x) f k e = absurd cc
-err_then (Err d) f k e = let same : d ≡ k = cc in ap Err same
 
 known-then : {A B : Type 0} (f : Rule A) (s : A × List ℕ → Result (B × List ℕ) Kind) (a : Option (List ℕ)) (k : Kind) → IfSome a (λ xs. f xs ≡ Err k) → IfSome a (λ xs. (f xs and_then s) ≡ Err k)
 known-then f s None k h = tt

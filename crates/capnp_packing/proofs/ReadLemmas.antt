@@ -12,6 +12,7 @@ use Rattle.std.proofs.KnownBytes.{Consumes-nil, Consumes-kept}
 use Rattle.capnp_units.specs.declared.kinds.ErrorKind.{ErrorKind}
 use Rattle.capnp_units.specs.declared.kinds.ErrorKind.TheVariants.{Device}
 use Rattle.capnp_io.specs.Streams.{Drops}
+use Rattle.capnp_stream.proofs.lemmas.ShownLemmas.{shown-taken}
 use Rattle.capnp_packing.specs.Parts.{Leads, Refuses, with_front}
 use Rattle.capnp_packing.specs.Runs.{run_view, NeedsBytes}
 use Rattle.capnp_packing.specs.Steps.{Unpacks, Reads}
@@ -24,21 +25,11 @@ use Rattle.capnp_packing.proofs.UnpackLemmas.{one-word}
 
 -- ---- what was read of a source
 
--- what was shown and then consumed
-shown-consumed : (a b c : Option (List ℕ)) (shown : List ℕ) (n : ℕ) → n ≤ length shown → Keeps a b → IfSome a (λ xs. take (length shown) xs ≡ shown) → Drops b c n → Consumes a c (take n shown)
-shown-consumed None b c shown n within kept front gone = tt
-shown-consumed (Some x) None c shown n within kept front gone = absurd kept
-shown-consumed (Some x) (Some y) None shown n within kept front gone = absurd gone
-shown-consumed (Some x) (Some y) (Some z) shown n within kept front gone =
-    let rest : z ≡ drop n x = gone ∙ ap (drop n) kept in
-    let cut : take n shown ≡ take n x = ap (take n) (sym front) ∙ take-take n (length shown) x within in
-    sym (take-append-drop n x) ∙ ap (λ (l : List ℕ). l ++ drop n x) (sym cut) ∙ ap (λ (l : List ℕ). take n shown ++ l) (sym rest)
-
 pub Reads-shown : (run : Run) (a b c : Option (List ℕ)) (shown buf : List ℕ) (step : Step) → Unpacks run shown buf step → Keeps a b → IfSome a (λ xs. take (length shown) xs ≡ shown) → Drops b c step.taken → Reads run a c buf step
 Reads-shown run a b c shown buf step made kept front gone = record {
   fits = made.fits;
   whole = made.whole;
-  leads = record { part = take step.taken shown; taken = shown-consumed a b c shown step.taken made.within kept front gone; says = made.spells.says; needed = made.spells.needed };
+  leads = record { part = take step.taken shown; taken = shown-taken a b c shown step.taken made.within kept front gone; says = made.spells.says; needed = made.spells.needed };
 }
 
 -- words that need no bytes

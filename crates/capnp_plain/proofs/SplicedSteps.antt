@@ -10,10 +10,9 @@ use Rattle.capnp_model.specs.Printing.{fields_in}
 use Rattle.capnp_model.specs.Calls.{Step, name, index, Verb, set_to, CallValue, Content}
 use Rattle.capnp_model.specs.Steps.{Outcome, refused, shown, done, outcome_map, target, target_of, replaced, at_target, on_name, on_index, reading_after, opened, through_value, step_path, step_field, step_element}
 use Rattle.capnp_model.specs.Edits.{Cell, put_child}
-use Rattle.capnp_model.proofs.lemmas.Paths.{entry_of-fields_of}
+use Rattle.capnp_model.proofs.lemmas.Paths.{entry_of-fields_of, read_child-is}
 use Rattle.capnp_model.proofs.lemmas.Stripping.{stripped-stripped, stripped-resized}
 use Rattle.capnp_calls.specs.Sizes.{IsDone}
-use Rattle.capnp_calls.proofs.lemmas.SlotShown.{read_child-child}
 use Rattle.capnp_splice.specs.Splices.{InStruct, InElements, InList, PutsBehind}
 use Rattle.capnp_splice.specs.declared.splice.Hop.{Hop}
 use Rattle.capnp_splice.specs.declared.splice.Hop.TheVariants as hops
@@ -171,7 +170,7 @@ module _ (s : Schema) (v : CallValue) (put : Put) where
       let there : through (child old.kids i) = child_done (InStruct (PutsBehind put way)) through i words cut new old (struct_done (PutsBehind put way) id (default_or_null h.7.0) b.0 b.1 behind) is p in
       let slot : Body = pointer_slot i (struct id) h.7.0 in
       let at : IsDone (step_field s (name b.0 ∷ b.1) verb slot (body_of slot whole_words old.section (read_child s old.kids))) =
-      named_through b.0 b.1 i id h.7.0 (read_child s old.kids i (struct id)) (subst (λ (r : Reading). IsDone (through_value s (name b.0) (step_field s b.1 verb) (step_element s b.1 verb) (struct id) (opened s (struct id) (default_or_null h.7.0) r))) (sym (read_child-child s old.kids i (struct id))) there) in
+      named_through b.0 b.1 i id h.7.0 (read_child s old.kids i (struct id)) (subst (λ (r : Reading). IsDone (through_value s (name b.0) (step_field s b.1 verb) (step_element s b.1 verb) (struct id) (opened s (struct id) (default_or_null h.7.0) r))) (sym (read_child-is s old.kids i (struct id))) there) in
       subst (λ (way : List Step). IsDone (step_path s (fields_in g) way verb (record_at g old.section old.kids))) (sym (h.5 ∙ ap (λ (rest : List Step). name h.0 ∷ rest) (h.7.2 ∙ b.2)))
       (named_done g h.0 (name b.0 ∷ b.1) slot old.section old.kids (h.6 ∙ ap (target None) h.7.1) at)
   path_done (hops.Element i k ∷ way) g path h words cut new old is p =
@@ -184,6 +183,6 @@ module _ (s : Schema) (v : CallValue) (put : Put) where
       let there : after (read s (child old.kids i) (list (struct id))) = child_done (InList (PutsBehind put way) k) (λ t. after (read s t (list (struct id)))) i words cut new old (list_done (PutsBehind put way) id (default_or_null h.7.0) k b.0 b.1 behind) is p in
       let slot : Body = pointer_slot i (list (struct id)) h.7.0 in
       let at : IsDone (step_field s (index k ∷ rest) verb slot (body_of slot whole_words old.section (read_child s old.kids))) =
-      indexed_through k rest i id h.7.0 (read_child s old.kids i (list (struct id))) (subst after (sym (read_child-child s old.kids i (list (struct id)))) there) in
+      indexed_through k rest i id h.7.0 (read_child s old.kids i (list (struct id))) (subst after (sym (read_child-is s old.kids i (list (struct id)))) there) in
       subst (λ (way : List Step). IsDone (step_path s (fields_in g) way verb (record_at g old.section old.kids))) (sym (h.5 ∙ ap (λ (rest : List Step). name h.0 ∷ rest) (h.7.2 ∙ ap (λ (rest : List Step). index k ∷ rest) b.2)))
       (named_done g h.0 (index k ∷ rest) slot old.section old.kids (h.6 ∙ ap (target None) h.7.1) at)

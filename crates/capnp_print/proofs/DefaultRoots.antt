@@ -18,21 +18,15 @@ use Rattle.capnp_model.specs.Encoding.{canonical_words}
 use Rattle.capnp_model.specs.Decoding.{decode}
 use Rattle.capnp_model.specs.Accepted.{is_good_segment}
 use Rattle.capnp_model.proofs.lemmas.Chaining.{bind_some, provided_some}
-use Rattle.capnp_model.proofs.lemmas.KeptRules.{and_right}
 use Rattle.capnp_model.proofs.lemmas.ByteWords.{bytes_length}
 use Rattle.capnp_units.specs.Segments.{words_in}
 use Rattle.capnp_wire.specs.Views.{PointerView, arena_root}
 use Rattle.capnp_wire.specs.Reads.{is_null_at, is_null, default_root}
 use Rattle.capnp_values.specs.Sources.{null_default, default_pointer}
 use Rattle.capnp_values.specs.Standing.{NullsAreRead}
+use Rattle.capnp_values.proofs.lemmas.DefaultReadings.{joined, found}
+use Rattle.capnp_model.proofs.lemmas.Tests.{and_right}
 use Rattle.capnp_print.specs.Defaults.{is_null_segment}
-
-found : (test : Tree → Bool) (o : Option Tree) → (elim o as (λ (x : Option Tree). Bool) [ None ↦ false | Some t ↦ test t ]) ≡ true → (t : Tree) × (o ≡ Some t)
-found test None h = absurd cc
-found test (Some t) h = (t, refl)
-
-pub decoded : (test : Tree → Bool) (bs : List ℕ) → is_good_segment test bs ≡ true → (t : Tree) × (decode bs ≡ Some t)
-decoded test bs h = found test (decode bs) (and_right (nat_lt (length bs) (8 * 2 ^ 29)) _ h)
 
 -- the words of a default stand in one segment
 pub record Encoded (bs : List ℕ) (t : Tree) : Type 0 where
@@ -40,22 +34,6 @@ pub record Encoded (bs : List ℕ) (t : Tree) : Type 0 where
   pub words : ℕ
   pub long : length bs ≡ 8 * words
   pub same : bytes_of_words (canonical_words (trim t)) ≡ bs
-
-pub encoded : (bs : List ℕ) (t : Tree) → decode bs ≡ Some t → Encoded bs t
-unfolding decode
-encoded bs t e =
-    let a = bind_some (tree_at 64 (words_in_bytes (length bs / 8) bs ∷ []) root) _ t e in
-    let b = provided_some a.0 t _ a.2 in
-    let ws : List ℕ = canonical_words (trim a.0) in
-    let same : bytes_of_words ws ≡ bs = (bytes_eq-Decides (bytes_of_words ws) bs).0 (and_right (not (has_capability a.0)) (bytes_eq (bytes_of_words ws) bs) b.0) in
-    record { tree = a.1 ∙ ap (λ (x : Tree). Some x) b.1; words = length ws; long = ap length (sym same) ∙ bytes_length ws; same = ap (λ (x : Tree). bytes_of_words (canonical_words (trim x))) (sym b.1) ∙ same }
-
-joined : (n : ℕ) (bs : List ℕ) → length bs ≡ 8 * n → flat_map (λ w. w) (first_chunks 8 n bs) ≡ bs
-joined zero [] h = refl
-joined zero (b ∷ bs) h = absurd (omega arith)
-joined (suc n) bs h =
-    let less : length (drop 8 bs) ≡ 8 * n = omega (arith, length-drop 8 bs) in
-    ap (λ (x : List ℕ). take 8 bs ++ x) (joined n (drop 8 bs) less) ∙ take-append-drop 8 bs
 
 -- the root is null where the value is
 root_null : (bs : List ℕ) → is_null_segment bs ≡ is_null (arena_root (bs ∷ []) (pos 64))

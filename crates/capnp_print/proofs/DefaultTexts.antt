@@ -21,35 +21,18 @@ use Rattle.capnp_values.specs.GoodDefaults.{IsGoodDefault, KeepsDefault}
 use Rattle.capnp_values.specs.Sources.{default_pointer, null_default}
 use Rattle.capnp_values.specs.Standing.{IsPointerType, NullsAreRead}
 use Rattle.capnp_values.specs.Shown.{Shown, opened, segment_opened, default_opened, slot_opened, slot_shown, kind_shown, is_null_slot}
+use Rattle.capnp_values.proofs.lemmas.DefaultReadings.{last_is, text_is, with_zero, decoded, encoded}
 use Rattle.capnp_print.specs.Texts.{as_it_is}
 use Rattle.capnp_print.specs.ShownReadings.{read_or_fault, reading_within, left_of}
 use Rattle.capnp_print.specs.Defaults.{is_null_segment, is_entered, enters}
 use Rattle.capnp_print.specs.Printed.{printed, empty_printed, bytes_shown, default_shown, text_shown, null_printed}
-use Rattle.capnp_print.proofs.DefaultRoots.{decoded, encoded, segment_null, null_pointed, null_is_null}
+use Rattle.capnp_print.proofs.DefaultRoots.{segment_null, null_pointed, null_is_null}
 use Rattle.capnp_print.proofs.lemmas.ElementTexts.{text_or_fault}
 use Rattle.capnp_print.proofs.FieldTexts.{Prints, field_without}
 use Rattle.capnp_print.proofs.NullTexts.{null_opened, empty_text_shown, no_default, a_default, no_more_defaults}
 use Rattle.capnp_print.proofs.lemmas.Shows.{Read}
 
 -- ---- texts and data as defaults
-
-last_is : (bs : List ℕ) → slice_index (bs ++ 0 ∷ []) (length bs) ≡ 0
-last_is [] = refl
-last_is (b ∷ bs) = last_is bs
-
-text_is : (bs : List ℕ) → text_reading (bs ++ 0 ∷ []) ≡ text_of bs
-text_is [] = refl
-text_is (b ∷ bs) =
-    let whole : List ℕ = b ∷ (bs ++ 0 ∷ []) in
-    let long : length (bs ++ 0 ∷ []) ≡ suc (length bs) = omega (arith, length-append bs (0 ∷ [])) in
-    let cut : take (suc (length bs)) whole ≡ b ∷ bs = take_at (b ∷ bs) (0 ∷ []) (suc (length bs)) refl in
-    ap (λ (k : ℕ). if slice_index whole k == 0 then text_of (take k whole) else fault TextWithoutZeroByte) long
-    ∙ ap (λ (x : ℕ). if x == 0 then text_of (take (suc (length bs)) whole) else fault TextWithoutZeroByte) (last_is (b ∷ bs))
-    ∙ ap text_of cut
-
-with_zero : (bs : List ℕ) → AllByRecursion (λ b. b < 2 ^ 8) bs → AllByRecursion (λ b. b < 2 ^ 8) (bs ++ 0 ∷ [])
-with_zero [] h = (omega arith, tt)
-with_zero (b ∷ bs) h = (h.0, with_zero bs h.1)
 
 text_read : (s : Schema) (bs : List ℕ) → AllByRecursion (λ b. b < 2 ^ 8) bs → read s (text_tree bs) text ≡ text_of bs
 unfolding read
@@ -60,10 +43,6 @@ unfolding read
 blob_read s bs h = ap blob_of (numbers_in-number_of 8 bs h)
 
 -- ---- defaults that are entered
-
-not_true : (b : Bool) → not b ≡ true → b ≡ false
-not_true true h = absurd cc
-not_true false h = refl
 
 not_false : (b : Bool) → not b ≡ false → b ≡ true
 not_false true h = refl

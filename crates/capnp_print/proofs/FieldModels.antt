@@ -10,6 +10,8 @@ use Rattle.capnp_wire.specs.Views.{StructView}
 use Rattle.capnp_values.specs.Records.{reading_at}
 use Rattle.capnp_values.specs.Shown.{a_struct, discriminant_shown}
 use Rattle.capnp_values.specs.Standing.{IsRecord, PointersAreRead}
+use Rattle.capnp_model.proofs.lemmas.Paths.{record_is}
+use Rattle.capnp_values.proofs.lemmas.RecordReadings.{shape_is, field_of_record}
 use Rattle.capnp_print.specs.Texts.{as_it_is}
 use Rattle.capnp_print.specs.ShownReadings.{record_read, children_read, reading_within, left_of}
 use Rattle.capnp_print.specs.Members.{field_read}
@@ -19,23 +21,6 @@ use Rattle.capnp_print.proofs.lemmas.Children.{within}
 use Rattle.capnp_print.proofs.lemmas.ModelTexts.{body_as, fields_of_shape, whole_model}
 use Rattle.capnp_print.proofs.lemmas.SoundShapes.{SoundFields, SoundBody, shapes_sound}
 use Rattle.capnp_print.proofs.WholeReadings.{wholes}
-
-same_record : (a b : Record) → record_as a ≡ record_as b → a ≡ b
-same_record a b e = cc
-
--- what a record of fields has at an index
-at_index : (fs : Fields) (i : ℕ) (d : Option ℕ) (size : Extent) (section : ℕ) (kids : Children) (e : Entry) → field_at fs i ≡ Some e → reading_at i (fields_of fs d size section kids) ≡ only_if (is_active e.member d) (body_of e.body size section kids)
-unfolding fields_of
-at_index no_fields zero d size section kids e h = absurd cc
-at_index no_fields (suc i) d size section kids e h = absurd cc
-at_index (field n m b fs) zero d size section kids e h =
-    let is : ◌≡◌ {A = Entry} (record { name = n; member = m; body = b }) e = cc in
-    ap (λ (x : Entry). only_if (is_active x.member d) (body_of x.body size section kids)) is
-at_index (field n m b fs) (suc i) d size section kids e h = at_index fs i d size section kids e h
-
-shape_is : (g : Shape) (size : Extent) (section : ℕ) (kids : Children) → shape_record g size section kids ≡ fields_of (fields_in g) (discriminant (union_in g) size section) size section kids
-unfolding shape_record
-shape_is (shape nid w p u fs) size section kids = refl
 
 reading_unopened : (i : ℕ) (r : Record) → reading_at i (unopened_fields r) ≡ unopened (reading_at i r)
 reading_unopened i no_more = refl
@@ -54,14 +39,14 @@ module _ (pointers : PointersAreRead) (s : StructSchema) (v : StructView) (i : �
   shown_record : record_read (reading_within (left_of v.levels)) (schema_around s) (shape_of_struct s) v ≡ unopened_fields r
   shown_record =
       let x = a_struct (schema_around s) (shape_of_struct s) v in
-      same_record _ _ (sym (within (suc (left_of v.levels)) x) ∙ wholes pointers (nodes_around s) x (record_as r) s.set.now.accepted (id_of s, refl) (refl, is))
+      record_is _ _ (sym (within (suc (left_of v.levels)) x) ∙ wholes pointers (nodes_around s) x (record_as r) s.set.now.accepted (id_of s, refl) (refl, is))
 
   -- what it has at the field's index
   pub field_is : field_read (schema_around s) v (discriminant_shown s v) e ≡ unopened (reading_at i r)
   field_is =
       let kids = children_read (reading_within (left_of v.levels)) (schema_around s) v in
       let g = shape_of_struct s in
-      sym (at_index (fields_in g) i (discriminant_shown s v) (just_bits v.bits) v.section kids e at) ∙ ap (reading_at i) (sym (shape_is g (just_bits v.bits) v.section kids) ∙ shown_record) ∙ reading_unopened i r
+      sym (field_of_record (fields_in g) i (discriminant_shown s v) (just_bits v.bits) v.section kids e at) ∙ ap (reading_at i) (sym (shape_is g (just_bits v.bits) v.section kids) ∙ shown_record) ∙ reading_unopened i r
 
 pub fields : PointersAreRead → FieldsAreModels
 fields pointers s v i e r at is style =

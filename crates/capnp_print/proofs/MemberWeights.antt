@@ -18,11 +18,12 @@ use Rattle.capnp_values.specs.GoodDefaults.{IsGoodDefault, KeepsDefault}
 use Rattle.capnp_values.specs.Sources.{read_behind, default_pointer, null_default, masked_bits}
 use Rattle.capnp_values.specs.Standing.{NullsAreRead}
 use Rattle.capnp_values.specs.Shown.{Shown, a_struct, opened, segment_opened, default_opened, slot_opened, slot_shown, kind_shown, is_null_slot}
+use Rattle.capnp_values.proofs.lemmas.DefaultReadings.{decoded, encoded}
 use Rattle.capnp_print.specs.ShownReadings.{left_of, reading_within, read_or_fault}
 use Rattle.capnp_print.specs.Defaults.{is_null_segment, is_entered, enters}
 use Rattle.capnp_print.proofs.lemmas.Children.{no_pointer}
 use Rattle.capnp_print.proofs.NullTexts.{empty_shown, null_opened}
-use Rattle.capnp_print.proofs.DefaultRoots.{decoded, encoded, segment_null, null_pointed, null_is_null}
+use Rattle.capnp_print.proofs.DefaultRoots.{segment_null, null_pointed, null_is_null}
 use Rattle.capnp_print.proofs.Lighter.{heavy, plain_weight, child_weight, empty_weight}
 use Rattle.capnp_print.proofs.lemmas.Shows.{Read}
 use Rattle.capnp_print.proofs.Weights.{shape_depth, fields_depth, body_depth, entry_depth, deep, far, far_is, struct_height, weight, IsShallow}

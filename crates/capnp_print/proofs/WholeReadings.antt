@@ -19,9 +19,10 @@ use Rattle.capnp_values.specs.Records.{is_there}
 use Rattle.capnp_values.specs.Shown.{Shown, a_number, an_enum, a_text, a_blob, a_struct, a_list, a_pointer, a_capability, opened}
 use Rattle.capnp_values.specs.Standing.{Leads, Stands, IsRecord, AreItems, or_empty, IsReading, Answers, IsPointerType, PointersAreRead}
 use Rattle.capnp_values.proofs.lemmas.ElementReadings.{item_count, IsElement, AreElements, elements_stand}
-use Rattle.capnp_values.proofs.lemmas.FieldReadings.{aligned_by, bits_shown, discriminants, null_behind, child_read}
+use Rattle.capnp_values.proofs.lemmas.FieldReadings.{aligned_by, bits_shown, discriminants, null_behind}
 use Rattle.capnp_values.proofs.lemmas.Nulls.{nulls}
 use Rattle.capnp_values.proofs.lemmas.RecordReadings.{pointer_there}
+use Rattle.capnp_model.proofs.lemmas.Paths.{read_child-is}
 use Rattle.capnp_print.specs.Models.{unopened, unopened_each, unopened_fields, IsOfNodes, WholesAreRead}
 use Rattle.capnp_print.specs.ShownReadings.{read_or_fault, pointer_reading, children_read, record_read, element_read, elements_read, reading_within, left_of, levels_of}
 use Rattle.capnp_print.proofs.lemmas.Children.{below, within, no_pointer, struct_levels, list_levels}
@@ -197,7 +198,7 @@ module _ (pointers : PointersAreRead) (s : Schema) (sound : (id : ℕ) → Sound
 
     children_same : (k : ℕ) (v : StructView) (e : Extent) (section : ℕ) (kids : Trees) → Stands k v e section kids → (left_of v.levels < n) ⊎ ((i : ℕ) → is_null (pointer_field v i) ≡ true) → SameChildren (children_read (below n) s v) (read_child s kids)
     children_same k v e section kids stands small i ty pointer named =
-        pointer_same k (pointer_field v i) (child kids i) ty (stands.children i) pointer named (either small) ∙ ap unopened (sym (child_read s kids i ty))
+        pointer_same k (pointer_field v i) (child kids i) ty (stands.children i) pointer named (either small) ∙ ap unopened (sym (read_child-is s kids i ty))
       where
         either : (left_of v.levels < n) ⊎ ((j : ℕ) → is_null (pointer_field v j) ≡ true) → (left_of v.levels < n) ⊎ (is_null (pointer_field v i) ≡ true)
         either (inl h) = inl h

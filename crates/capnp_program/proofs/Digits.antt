@@ -7,6 +7,7 @@ use Rattle.std.proofs.lemmas.Bool.{ltb-true, lt-ltb}
 use Rattle.std.proofs.lemmas.Result.{OkIff-at_ok, OkIff-at_err}
 use Rattle.std.proofs.lemmas.Str.Parse.{WeighsDigits, IsNumeralModel, numerals_by_weight, tells_all_ascii_digits, parse_plain, not_in_digits}
 use Rattle.capnp_model.specs.Chains.{◌provided◌}
+use Rattle.capnp_model.proofs.lemmas.Tests.{both_true as both}
 use Rattle.capnp_program.specs.Arguments.{digits_number, is_empty, decimal_in}
 
 weighs : WeighsDigits digits_number
@@ -15,10 +16,6 @@ weighs = record { empty = refl; more = λ c cs k. refl }
 
 pub numerals : IsNumeralModel (λ ds. all_ascii_digits ds ≡ true) digits_number
 numerals = numerals_by_weight (λ ds. all_ascii_digits ds ≡ true) tells_all_ascii_digits digits_number weighs
-
-both : (a b : Bool) → (a && b) ≡ true → (a ≡ true) × (b ≡ true)
-both true b e = (refl, e)
-both false b e = absurd cc
 
 none_unless : (n : ℕ) (b : Bool) → (b ≡ true → ⊥) → None ≡ (n provided b)
 none_unless n true h = absurd (h refl)

@@ -13,6 +13,7 @@ use Rattle.std.specs.Prelude.{⊤}
 use Rattle.capnp_relay.specs.Pauses.{RelaysPausing}
 use Rattle.capnp_relay.specs.Streams.{Streams}
 use Rattle.capnp_between.specs.Ends.{RunsBetween}
+use Rattle.capnp_model.proofs.lemmas.Tests.{same_some}
 use Rattle.capnp_program.specs.declared.version.Version.{Version}
 use Rattle.capnp_program.specs.declared.settings.Settings.{Settings}
 use Rattle.capnp_program.specs.Asked.{Asked}
@@ -20,9 +21,6 @@ use Rattle.capnp_program.specs.Settings.{asked_of}
 use Rattle.capnp_program.specs.Versions.{nodes_at, HasRoot}
 use Rattle.capnp_program.specs.Program.{Seen, Flushes, fault_behind, Ran, Runs}
 use Rattle.capnp_program.proofs.Asking.{asks_alone, asks_beside}
-
-some_same : {A : Type 0} {a b : A} → ◌≡◌ {A = Option A} (Some a) (Some b) → a ≡ b
-some_same e = cc
 
 -- ---- what ran, or was held back
 
@@ -33,7 +31,7 @@ module _ (root : StructSchema) (calls : List Call) (s : Settings) (out_grows log
 
   module _ (newer : StructSchema) (v : Version) (e : s.newer ≡ Some v) (newer_nodes : nodes_around newer ≡ nodes_at v) (newer_id : id_of newer ≡ v.root.id) where
     same_id : v.root.id ≡ s.version.root.id
-    same_id = some_same (subst (λ o. HasRoot o s.version.root.id) e s.same_root)
+    same_id = same_some (subst (λ o. HasRoot o s.version.root.id) e s.same_root)
 
     pub ran_beside : (result : Result Counts RelayFault) → RunsBetween (RelaysPausing ⊤) root newer calls s.options out_grows log_grows old new result → Ran (asked_of s) out_grows log_grows old new result
     ran_beside result h = record { root = root; newer = Some newer; calls = calls; options = s.options; asks = asks_beside root calls s nodes id same newer v e newer_nodes; may = (newer_id ∙ same_id ∙ sym id, h.may); relays = h.relays }

@@ -8,11 +8,11 @@ use Rattle.capnp_model.specs.Schemas.{Ty, struct}
 use Rattle.capnp_records.specs.NodeViews.{field_of, struct_of}
 use Rattle.capnp_records.specs.declared.node.StructRecord.{StructRecord}
 use Rattle.capnp_records.specs.declared.node.FieldRecord.{FieldRecord}
+use Rattle.capnp_model.proofs.lemmas.Tests.{and_left}
 use Rattle.capnp_queries.specs.Fields.{Entry, field_at, field_count, entry_in, is_named, names_kind, are_named, are_few, shape_id, type_of_body}
 use Rattle.capnp_queries.specs.Structs.{nodes_around, schema_around, id_of, fields_of_struct, fields_recorded, IsRecordOf}
 use Rattle.capnp_queries.specs.Handles.{IsFieldRecord}
 use Rattle.capnp_queries.specs.declared.structs.StructSchema.{StructSchema}
-use Rattle.capnp_model.proofs.lemmas.KeptRules.{and_left}
 use Rattle.capnp_queries.proofs.lemmas.Records.{passed_at, entry_from, group_id, is_group_struct}
 
 pub field_known : (sch : StructSchema) (r : StructRecord) → IsRecordOf (nodes_around sch) (id_of sch) (struct_of r) → (i : ℕ) (x : FieldRecord) → i < length r.fields.items → x ≡ get_or r.fields.items i x → IsFieldRecord sch i (field_of x)

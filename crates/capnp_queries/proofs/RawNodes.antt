@@ -2,13 +2,9 @@
 use Rattle.std.proofs.Common.{◌≡◌, ◌==◌, ◌&&◌, ℕ, Bool, true, false, not, Option, Some, None, List, slice_get, refl}
 use Rattle.capnp_model.specs.Schemas.{StructNode, NodeKind, struct_node, enum_node, Node}
 use Rattle.capnp_model.specs.Accepted.{is_struct_node}
-use Rattle.capnp_model.proofs.lemmas.KeptRules.{and_left, and_right}
 use Rattle.capnp_records.specs.Sets.{has_struct, IsStructOf, IsNodeOf}
 use Rattle.capnp_records.specs.declared.raw.RawBrandedStructSchema.{RawBrandedStructSchema}
-
-both : (a b : Bool) → a ≡ true → b ≡ true → (a && b) ≡ true
-both true b h k = k
-both false b h k = absurd (cc h)
+use Rattle.capnp_model.proofs.lemmas.Tests.{both, and_left, and_right}
 
 any_struct : (k : NodeKind) → (elim k as (λ (x : NodeKind). Bool) [ struct_node s ↦ not s.is_group | enum_node es ↦ false ]) ≡ true → (elim k as (λ (x : NodeKind). Bool) [ struct_node s ↦ true | enum_node es ↦ false ]) ≡ true
 any_struct (struct_node s) e = refl

@@ -4,18 +4,15 @@ use Rattle.std.specs.List.{list_all}
 use Rattle.capnp_model.specs.Schemas.{Field, StructNode, NodeKind, struct_node, enum_node, Node, Fields}
 use Rattle.capnp_model.specs.Printing.{fields_in}
 use Rattle.capnp_model.specs.Accepted.{find_node, fields_from, schema_of, IsAccepted}
-use Rattle.capnp_model.proofs.lemmas.KeptRules.{and_left, and_right}
 use Rattle.capnp_records.specs.Sets.{has_struct, is_at, struct_in, struct_found}
 use Rattle.capnp_records.specs.Tables.{place_from, members_from, others_from, AreTablesOf}
 use Rattle.capnp_records.specs.declared.tables.FieldTables.{FieldTables}
 use Rattle.capnp_records.proofs.lemmas.PlainStructs.{place_is_found}
+use Rattle.capnp_model.proofs.lemmas.Tests.{same_number, and_left, and_right}
 use Rattle.capnp_queries.specs.Fields.{field_count, place_of_member, member_count, others_at}
 use Rattle.capnp_queries.specs.Structs.{IsRecordOf, IsTabled}
 use Rattle.capnp_queries.proofs.lemmas.Records.{record_known, count_is, count_from}
 use Rattle.capnp_queries.proofs.lemmas.Places.{placed, not_placed, union_kept, UnionKept, member_there, no_member_there, members_counted, members_short, table_length, table_at, table_inside, others_same, others_inside, others_short}
-
-same_number : (a b : ℕ) → (a == b) ≡ true → a ≡ b
-same_number a b h = grind arith
 
 -- what stands at the place of a raw schema is a struct or a group
 pub struct_there : (nodes : List Node) → IsAccepted nodes → (k id : ℕ) → is_at has_struct nodes k id ≡ true → (s : StructNode) × (struct_found nodes id ≡ Some s)

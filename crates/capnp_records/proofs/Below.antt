@@ -7,16 +7,13 @@ use Rattle.std.proofs.lemmas.Grind.{common_steps, flat_map-append}
 use Rattle.std.proofs.lemmas.Bool.Decides.{nat_tests}
 use Rattle.capnp_model.specs.Schemas.{Node}
 use Rattle.capnp_model.specs.Accepted.{find_node, groups_used, meets_below}
+use Rattle.capnp_model.proofs.lemmas.Tests.{or_assoc}
 use Rattle.capnp_records.specs.Levels.{groups_below, PassSame, PassMore}
 use Rattle.capnp_records.proofs.lemmas.ListTests.{list_any-append, list_any-flat_map, list_any-same}
 
 or_false : (b : Bool) → (b || false) ≡ b
 or_false true = refl
 or_false false = refl
-
-or_assoc : (a b c : Bool) → ((a || b) || c) ≡ (a || (b || c))
-or_assoc true b c = refl
-or_assoc false b c = refl
 
 or_swap : (a b : Bool) → (a || b) ≡ (b || a)
 or_swap true true = refl

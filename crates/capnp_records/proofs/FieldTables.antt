@@ -2,15 +2,12 @@
 use Rattle.std.proofs.Common.{◌≡◌, ℕ, ◌<◌, Bool, true, false, ◌&&◌, ◌==◌, Option, Some, None, List, map, length, get_or, slice_get, refl, sym, ◌∙◌, ap, subst, arith}
 use Rattle.capnp_model.specs.Schemas.{StructNode, NodeKind, struct_node, enum_node, Node}
 use Rattle.capnp_model.specs.Accepted.{find_node, IsAccepted}
-use Rattle.capnp_model.proofs.lemmas.KeptRules.{and_left}
+use Rattle.capnp_model.proofs.lemmas.Tests.{same_number, and_left}
 use Rattle.capnp_records.specs.Sets.{has_struct, is_at, struct_in, struct_found}
 use Rattle.capnp_records.specs.Tables.{members_in, others_in, AreTablesOf}
 use Rattle.capnp_records.specs.declared.tables.FieldTables.{FieldTables as Places}
 use Rattle.capnp_records.proofs.lemmas.PlainStructs.{place_is_found}
-use Rattle.capnp_records.proofs.FieldPlaces.{same_length, same_at, in_range}
-
-same_number : (a b : ℕ) → (a == b) ≡ true → a ≡ b
-same_number a b h = grind arith
+use Rattle.capnp_records.proofs.lemmas.FieldPlaces.{same_length, same_at, in_range}
 
 kind_is : (k : NodeKind) (s : StructNode) → struct_in k ≡ Some s → k ≡ struct_node s
 kind_is (struct_node r) s e = let is : r ≡ s = cc e in ap struct_node is

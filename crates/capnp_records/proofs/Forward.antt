@@ -3,24 +3,11 @@ use Rattle.std.proofs.Common.{◌≡◌, ℕ, suc, ◌+◌, ◌<◌, Bool, true,
 use Rattle.std.specs.List.{list_all, list_any}
 use Rattle.std.proofs.lemmas.List.{map_more}
 use Rattle.std.proofs.lemmas.List.Folds.{list_all-append}
+use Rattle.capnp_model.proofs.lemmas.Tests.{and_true, and_assoc, and_swap}
 
 not_or : (a b : Bool) → not (a || b) ≡ (not a && not b)
 not_or true b = refl
 not_or false b = refl
-
-and_assoc : (a b c : Bool) → ((a && b) && c) ≡ (a && (b && c))
-and_assoc true b c = refl
-and_assoc false b c = refl
-
-and_cross : (a b c d : Bool) → ((a && b) && (c && d)) ≡ ((a && c) && (b && d))
-and_cross true true c d = refl
-and_cross true false true d = refl
-and_cross true false false d = refl
-and_cross false b c d = refl
-
-and_true : (b : Bool) → (b && true) ≡ b
-and_true true = refl
-and_true false = refl
 
 module _ {A : Type 0} (clash : A → A → Bool) where
   -- no two clash
@@ -47,7 +34,7 @@ module _ {A : Type 0} (clash : A → A → Bool) where
   none_cons (d ∷ done) x xs =
       ap (λ b. b && none done (x ∷ xs)) (not_or (clash d x) (list_any (clash d) xs))
       ∙ ap (λ b. (not (clash d x) && not (list_any (clash d) xs)) && b) (none_cons done x xs)
-      ∙ and_cross (not (clash d x)) (not (list_any (clash d) xs)) (not (list_any (λ e. clash e x) done)) (none done xs)
+      ∙ and_swap (not (clash d x)) (not (list_any (clash d) xs)) (not (list_any (λ e. clash e x) done)) (none done xs)
       ∙ ap (λ b. b && (not (list_any (clash d) xs) && none done xs)) (sym (not_or (clash d x) (list_any (λ e. clash e x) done)))
 
   forward_is : (done xs : List A) → forward done xs ≡ (none done xs && pairs xs)

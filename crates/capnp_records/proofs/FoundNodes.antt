@@ -2,14 +2,11 @@
 use Rattle.std.proofs.Common.{◌≡◌, ℕ, Bool, true, ◌&&◌, ◌==◌, Option, Some, None, List, map, get_or, sym, ◌∙◌, ap, arith}
 use Rattle.capnp_model.specs.Schemas.{Enumerant, StructNode, Node}
 use Rattle.capnp_model.specs.Accepted.{find_node, IsAccepted}
-use Rattle.capnp_model.proofs.lemmas.KeptRules.{and_left}
+use Rattle.capnp_model.proofs.lemmas.Tests.{same_number, and_left}
 use Rattle.capnp_records.specs.NodeViews.{node_of, kind_of}
 use Rattle.capnp_records.specs.Sets.{is_at, struct_in, enumerants_in, struct_found, enumerants_found}
 use Rattle.capnp_records.specs.declared.node.NodeRecord.{NodeRecord}
 use Rattle.capnp_records.proofs.lemmas.PlainStructs.{at_place, place_is_found}
-
-same_number : (a b : ℕ) → (a == b) ≡ true → a ≡ b
-same_number a b h = grind arith
 
 -- the node at the place is the one that its id finds
 pub node_found : (test : Node → Bool) (xs : List NodeRecord) → IsAccepted (map node_of xs) → (k id : ℕ) (x : NodeRecord) → is_at test (map node_of xs) k id ≡ true → x ≡ get_or xs k x → find_node (map node_of xs) id ≡ Some (node_of x)

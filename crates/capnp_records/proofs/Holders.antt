@@ -7,11 +7,11 @@ use Rattle.std.proofs.lemmas.Bool.Decides.{nat_tests}
 use Rattle.capnp_model.specs.Schemas.{Node}
 use Rattle.capnp_model.specs.Accepted.{find_node, groups_used, holder_of, meets_below}
 use Rattle.capnp_model.proofs.lemmas.SoundRules.{found_id}
+use Rattle.capnp_model.proofs.lemmas.Tests.{and_left, and_right}
 use Rattle.capnp_records.specs.NodeViews.{node_of}
 use Rattle.capnp_records.specs.Tables.{node_place}
 use Rattle.capnp_records.specs.Uses.{once_in, holder_place, holds_deeper}
 use Rattle.capnp_records.specs.declared.node.NodeRecord.{NodeRecord}
-use Rattle.capnp_records.proofs.lemmas.ListTests.{and_left, and_right}
 
 -- ---- the first of an id
 

@@ -1,5 +1,4 @@
 pub mod lemmas
-mod Stored
 mod Overlaps
 mod Breaks
 mod Forward
@@ -8,6 +7,5 @@ mod Members
 mod DistinctNames
 mod Below
 mod FoundNodes
-mod FieldPlaces
 mod FieldTables
 mod Holders

@@ -4,6 +4,7 @@ use Rattle.std.specs.List.{list_all, list_any}
 use Rattle.std.proofs.lemmas.Bool.Decides.{nat_tests}
 use Rattle.std.proofs.lemmas.Grind.{common_steps, flat_map-append}
 use Rattle.capnp_model.specs.Accepted.{Area as ModelArea, bit_area, pointer_area, share, are_apart}
+use Rattle.capnp_model.proofs.lemmas.Tests.{never_true, or_right as or_there, and_left, and_right, and_right_false, or_left_false, or_right_false, or_left}
 use Rattle.capnp_records.specs.declared.area.Area.{Area}
 use Rattle.capnp_records.specs.declared.area.Area.TheVariants as A
 use Rattle.capnp_records.specs.declared.overlap.Claim.{Claim}
@@ -11,32 +12,8 @@ use Rattle.capnp_records.specs.declared.marks.Marks.{Marks}
 use Rattle.capnp_records.specs.Storage.{areas_in, areas_seen}
 use Rattle.capnp_records.specs.Claims.{claim_of, claims_are_apart}
 use Rattle.capnp_records.specs.Marks.{has, covers, mark_at, AllowsAll, Refuses, Puts, most_mark, level_mark}
-use Rattle.capnp_records.proofs.lemmas.ListTests.{and_left, and_right, list_any-append, list_all-flat_map}
+use Rattle.capnp_records.proofs.lemmas.ListTests.{list_any-append, list_all-flat_map}
 use Rattle.capnp_records.proofs.Forward.{pairs}
-
-is_true : (b : Bool) → (b ≡ false → ⊥) → b ≡ true
-is_true true h = refl
-is_true false h = absurd (h refl)
-
-is_false : (b : Bool) → (b ≡ true → ⊥) → b ≡ false
-is_false false h = refl
-is_false true h = absurd (h refl)
-
-or_left : (a b : Bool) → (a || b) ≡ false → a ≡ false
-or_left false b h = refl
-or_left true b h = absurd (cc h)
-
-or_right : (a b : Bool) → (a || b) ≡ false → b ≡ false
-or_right false b h = h
-or_right true b h = absurd (cc h)
-
-or_here : (a b : Bool) → a ≡ true → (a || b) ≡ true
-or_here true b h = refl
-or_here false b h = absurd (cc h)
-
-or_there : (a b : Bool) → b ≡ true → (a || b) ≡ true
-or_there true b h = refl
-or_there false b h = h
 
 -- ---- what areas cover
 
@@ -54,7 +31,7 @@ pub seen_at : (as' : List Area) (i : ℕ) (a : Area) (pointer : Bool) (k : ℕ) 
 seen_at [] i a pointer k lt is h = absurd (omega arith)
 seen_at (b ∷ as') zero a pointer k lt is h =
     list_any-append (λ x. has x pointer k) (areas_in b) (areas_seen as')
-    ∙ or_here (covers (areas_in b) pointer k) (covers (areas_seen as') pointer k) (ap (λ x. covers (areas_in x) pointer k) (sym is) ∙ h)
+    ∙ or_left (covers (areas_in b) pointer k) (covers (areas_seen as') pointer k) (ap (λ x. covers (areas_in x) pointer k) (sym is) ∙ h)
 seen_at (b ∷ as') (suc i) a pointer k lt is h =
     list_any-append (λ x. has x pointer k) (areas_in b) (areas_seen as')
     ∙ or_there (covers (areas_in b) pointer k) (covers (areas_seen as') pointer k) (seen_at as' i a pointer k (omega arith) is h)
@@ -117,7 +94,7 @@ shared_point (pointer_area i) (pointer_area j) false k h g = absurd (cc h)
 shared_point (pointer_area i) (pointer_area j) true k h g = grind (arith, nat_tests)
 
 no_shared_point : (x y : ModelArea) → is_wide x ≡ true → is_wide y ≡ true → ((pointer : Bool) (k : ℕ) → has y pointer k ≡ true → has x pointer k ≡ false) → share x y ≡ false
-no_shared_point (bit_area a n) (bit_area b m) v w h = is_false (nat_lt a (b + m) && nat_lt b (a + n)) refute
+no_shared_point (bit_area a n) (bit_area b m) v w h = never_true (nat_lt a (b + m) && nat_lt b (a + n)) refute
   where
     refute : (nat_lt a (b + m) && nat_lt b (a + n)) ≡ true → ⊥
     refute e =
@@ -132,7 +109,7 @@ no_shared_point (bit_area a n) (bit_area b m) v w h = is_false (nat_lt a (b + m)
         cc (sym (h false (max a b) (inside b m (max a b) low' high')) ∙ inside a n (max a b) low high)
 no_shared_point (bit_area a n) (pointer_area j) v w h = refl
 no_shared_point (pointer_area i) (bit_area b m) v w h = refl
-no_shared_point (pointer_area i) (pointer_area j) v w h = is_false (i == j) refute
+no_shared_point (pointer_area i) (pointer_area j) v w h = never_true (i == j) refute
   where
     itself : (n : ℕ) → (n == n) ≡ true
     itself n = grind arith
@@ -142,17 +119,13 @@ no_shared_point (pointer_area i) (pointer_area j) v w h = is_false (i == j) refu
 
 -- ---- areas that share
 
-and_false : (a b : Bool) → b ≡ false → (a && b) ≡ false
-and_false true b n = n
-and_false false b n = refl
-
 shared_row : (x : ModelArea) (ys : List ModelArea) (pointer : Bool) (k : ℕ) → has x pointer k ≡ true → covers ys pointer k ≡ true → list_all (λ y. not (share x y)) ys ≡ false
 shared_row x [] pointer k e f = absurd (cc f)
 shared_row x (y ∷ ys) pointer k e f = cases (has y pointer k) refl (shared_row x ys pointer k e)
   where
     cases : (b : Bool) → has y pointer k ≡ b → (covers ys pointer k ≡ true → list_all (λ z. not (share x z)) ys ≡ false) → (not (share x y) && list_all (λ z. not (share x z)) ys) ≡ false
     cases true r more = ap (λ b. not b && list_all (λ z. not (share x z)) ys) (shared_point x y pointer k e r)
-    cases false r more = and_false (not (share x y)) (list_all (λ z. not (share x z)) ys) (more (ap (λ b. b || covers ys pointer k) (sym r) ∙ f))
+    cases false r more = and_right_false (not (share x y)) (list_all (λ z. not (share x z)) ys) (more (ap (λ b. b || covers ys pointer k) (sym r) ∙ f))
 
 pub shared : (xs ys : List ModelArea) (pointer : Bool) (k : ℕ) → covers xs pointer k ≡ true → covers ys pointer k ≡ true → are_apart xs ys ≡ false
 shared [] ys pointer k h g = absurd (cc h)
@@ -160,19 +133,19 @@ shared (x ∷ xs) ys pointer k h g = cases (has x pointer k) refl (λ more. shar
   where
     cases : (b : Bool) → has x pointer k ≡ b → (covers xs pointer k ≡ true → are_apart xs ys ≡ false) → (list_all (λ y. not (share x y)) ys && are_apart xs ys) ≡ false
     cases true e more = ap (λ b. b && are_apart xs ys) (shared_row x ys pointer k e g)
-    cases false e more = and_false (list_all (λ y. not (share x y)) ys) (are_apart xs ys) (more (ap (λ b. b || covers xs pointer k) (sym e) ∙ h))
+    cases false e more = and_right_false (list_all (λ y. not (share x y)) ys) (are_apart xs ys) (more (ap (λ b. b || covers xs pointer k) (sym e) ∙ h))
 
 apart_row : (x : ModelArea) (ys : List ModelArea) → is_wide x ≡ true → list_all is_wide ys ≡ true → ((pointer : Bool) (k : ℕ) → covers ys pointer k ≡ true → has x pointer k ≡ false) → list_all (λ y. not (share x y)) ys ≡ true
 apart_row x [] v w h = refl
 apart_row x (y ∷ ys) v w h =
-    ap (λ b. not b && list_all (λ z. not (share x z)) ys) (no_shared_point x y v (and_left (is_wide y) (list_all is_wide ys) w) (λ pointer k e. h pointer k (or_here (has y pointer k) (covers ys pointer k) e)))
+    ap (λ b. not b && list_all (λ z. not (share x z)) ys) (no_shared_point x y v (and_left (is_wide y) (list_all is_wide ys) w) (λ pointer k e. h pointer k (or_left (has y pointer k) (covers ys pointer k) e)))
     ∙ apart_row x ys v (and_right (is_wide y) (list_all is_wide ys) w) (λ pointer k e. h pointer k (or_there (has y pointer k) (covers ys pointer k) e))
 
 pub apart : (xs ys : List ModelArea) → list_all is_wide xs ≡ true → list_all is_wide ys ≡ true → ((pointer : Bool) (k : ℕ) → covers ys pointer k ≡ true → covers xs pointer k ≡ false) → are_apart xs ys ≡ true
 apart [] ys v w h = refl
 apart (x ∷ xs) ys v w h =
-    ap (λ b. b && are_apart xs ys) (apart_row x ys (and_left (is_wide x) (list_all is_wide xs) v) w (λ pointer k e. or_left (has x pointer k) (covers xs pointer k) (h pointer k e)))
-    ∙ apart xs ys (and_right (is_wide x) (list_all is_wide xs) v) w (λ pointer k e. or_right (has x pointer k) (covers xs pointer k) (h pointer k e))
+    ap (λ b. b && are_apart xs ys) (apart_row x ys (and_left (is_wide x) (list_all is_wide xs) v) w (λ pointer k e. or_left_false (has x pointer k) (covers xs pointer k) (h pointer k e)))
+    ∙ apart xs ys (and_right (is_wide x) (list_all is_wide xs) v) w (λ pointer k e. or_right_false (has x pointer k) (covers xs pointer k) (h pointer k e))
 
 -- ---- claims that clash
 
@@ -208,14 +181,14 @@ none_clash x [] v w h = refl
 none_clash x (d ∷ done) v w h =
     let first : clash d x ≡ false = by (d.0 && x.0) refl in
     ap (λ b. b || list_any (λ e. clash e x) done) first
-    ∙ none_clash x done (and_right (list_all is_wide d.1) (list_all (λ c. list_all is_wide c.1) done) v) w (λ pointer k e. or_right (not (d.0 && x.0) && covers d.1 pointer k) (blocked done x.0 pointer k) (h pointer k e))
+    ∙ none_clash x done (and_right (list_all is_wide d.1) (list_all (λ c. list_all is_wide c.1) done) v) w (λ pointer k e. or_right_false (not (d.0 && x.0) && covers d.1 pointer k) (blocked done x.0 pointer k) (h pointer k e))
   where
     by : (b : Bool) → (d.0 && x.0) ≡ b → not ((d.0 && x.0) || are_apart d.1 x.1) ≡ false
     by true e = ap (λ b. not (b || are_apart d.1 x.1)) e
     by false e =
         ap (λ b. not ((d.0 && x.0) || b))
         (apart d.1 x.1 (and_left (list_all is_wide d.1) (list_all (λ c. list_all is_wide c.1) done) v) w
-        (λ pointer k f. ap (λ b. not b && covers d.1 pointer k) (sym e) ∙ or_left (not (d.0 && x.0) && covers d.1 pointer k) (blocked done x.0 pointer k) (h pointer k f)))
+        (λ pointer k f. ap (λ b. not b && covers d.1 pointer k) (sym e) ∙ or_left_false (not (d.0 && x.0) && covers d.1 pointer k) (blocked done x.0 pointer k) (h pointer k f)))
         ∙ ap (λ b. not (b || true)) e
 
 some_clash : (x : Bool × List ModelArea) (done : List (Bool × List ModelArea)) (pointer : Bool) (k : ℕ) → covers x.1 pointer k ≡ true → blocked done x.0 pointer k ≡ true → list_any (λ d. clash d x) done ≡ true
@@ -230,7 +203,7 @@ some_clash x (d ∷ done) pointer k h g = by (not (d.0 && x.0) && covers d.1 poi
     by true e more =
         let apart_members : (d.0 && x.0) ≡ false = no (d.0 && x.0) (and_left (not (d.0 && x.0)) (covers d.1 pointer k) e) in
         let same : are_apart d.1 x.1 ≡ false = shared d.1 x.1 pointer k (and_right (not (d.0 && x.0)) (covers d.1 pointer k) e) h in
-        or_here (clash d x) (list_any (λ e. clash e x) done) (ap (λ b. not (b || are_apart d.1 x.1)) apart_members ∙ ap (λ b. not b) same)
+        or_left (clash d x) (list_any (λ e. clash e x) done) (ap (λ b. not (b || are_apart d.1 x.1)) apart_members ∙ ap (λ b. not b) same)
     by false e more = or_there (clash d x) (list_any (λ e. clash e x) done) (more (ap (λ b. b || blocked done x.0 pointer k) (sym e) ∙ g))
 
 pub allowed : (m : Marks) (x : Bool × List ModelArea) (done : List (Bool × List ModelArea)) → IsMarked m done → AreWide done → list_all is_wide x.1 ≡ true → AllowsAll m x.1 (most_mark x.0) → list_any (λ d. clash d x) done ≡ false
@@ -267,9 +240,9 @@ marked_more m n done x h p member pointer k =
     and_true true = refl
     and_true false = refl
 
-    and_false : (b : Bool) → (b && false) ≡ false
-    and_false true = refl
-    and_false false = refl
+    and_right_false : (b : Bool) → (b && false) ≡ false
+    and_right_false true = refl
+    and_right_false false = refl
 
     by : (b : Bool) → covers x.1 pointer k ≡ b → nat_lt (most_mark member) (elim b as (λ (t : Bool). ℕ) [ true ↦ max (level_mark x.0) (mark_at m pointer k) | false ↦ mark_at m pointer k ]) ≡ (blocked done member pointer k || ((not (x.0 && member) && covers x.1 pointer k) || false))
     by true e =
@@ -279,7 +252,7 @@ marked_more m n done x h p member pointer k =
     by false e =
         h member pointer k
         ∙ sym (or_false (blocked done member pointer k))
-        ∙ ap (λ b. blocked done member pointer k || b) (sym (or_false (not (x.0 && member) && covers x.1 pointer k) ∙ ap (λ b. not (x.0 && member) && b) e ∙ and_false (not (x.0 && member))))
+        ∙ ap (λ b. blocked done member pointer k || b) (sym (or_false (not (x.0 && member) && covers x.1 pointer k) ∙ ap (λ b. not (x.0 && member) && b) e ∙ and_right_false (not (x.0 && member))))
 
 pub nothing_marked : (m : Marks) → ((pointer : Bool) (k : ℕ) → mark_at m pointer k ≡ 0) → IsMarked m []
 nothing_marked m h true pointer k = ap (nat_lt 1) (h pointer k)

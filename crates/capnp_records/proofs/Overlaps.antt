@@ -5,19 +5,10 @@ use Rattle.std.proofs.lemmas.List.{map_more}
 use Rattle.std.proofs.lemmas.List.Folds.{list_all-append}
 use Rattle.capnp_model.specs.Schemas.{Enumerant, Ty, void, plain, text, blob, untyped, interface, struct, list, Value, group, Field, StructNode, NodeKind, struct_node, enum_node, Node, Shape, shape}
 use Rattle.capnp_model.specs.Accepted.{find_node, Area, share, are_apart, union_place, union_area, slot_body, field_body, fields_from, shape_of_node, no_shape, shape_in, areas_of, areas_of_fields, areas_of_body, are_members, is_apart_from, has_no_overlap, fields_are_apart, body_has_no_overlap}
+use Rattle.capnp_model.proofs.lemmas.Tests.{and_assoc, and_swap}
 use Rattle.capnp_records.specs.NodeViews.{kind_of_field, field_of}
 use Rattle.capnp_records.specs.declared.node.FieldRecord.{FieldRecord}
 use Rattle.capnp_records.specs.Claims.{claim_in, claims_in, areas_claimed, claims_are_apart, groups_have_no_overlap, IsWritten, IsUnwritten}
-
-and_assoc : (a b c : Bool) → ((a && b) && c) ≡ (a && (b && c))
-and_assoc true b c = refl
-and_assoc false b c = refl
-
-and_cross : (a b c d : Bool) → ((a && b) && (c && d)) ≡ ((a && c) && (b && d))
-and_cross true true c d = refl
-and_cross true false true d = refl
-and_cross true false false d = refl
-and_cross false b c d = refl
 
 pub areas_and_more : (cs : List (Bool × List Area)) (c : Bool × List Area) → areas_claimed (cs ++ c ∷ []) ≡ areas_claimed cs ++ c.1
 areas_and_more [] c = append_none c.1
@@ -34,7 +25,7 @@ apart_append [] ys zs = refl
 apart_append (x ∷ xs) ys zs =
     ap (λ b. b && are_apart xs (ys ++ zs)) (list_all-append (λ y. not (share x y)) ys zs)
     ∙ ap (λ b. (list_all (λ y. not (share x y)) ys && list_all (λ y. not (share x y)) zs) && b) (apart_append xs ys zs)
-    ∙ and_cross (list_all (λ y. not (share x y)) ys) (list_all (λ y. not (share x y)) zs) (are_apart xs ys) (are_apart xs zs)
+    ∙ and_swap (list_all (λ y. not (share x y)) ys) (list_all (λ y. not (share x y)) zs) (are_apart xs ys) (are_apart xs zs)
 
 apart_none : (xs : List Area) → are_apart xs [] ≡ true
 apart_none [] = refl
@@ -69,7 +60,7 @@ module _ (groups : ℕ → Shape) where
       let body = field_body groups f.kind in
       let rest = fields_from groups fs in
       ap (λ t. (is_apart_from f.member (areas_of_body body) rest && body_has_no_overlap body) && t) (fields_apart fs)
-      ∙ and_cross (is_apart_from f.member (areas_of_body body) rest) (body_has_no_overlap body) (claims_are_apart (map (claim_in groups) fs)) (groups_have_no_overlap groups fs)
+      ∙ and_swap (is_apart_from f.member (areas_of_body body) rest) (body_has_no_overlap body) (claims_are_apart (map (claim_in groups) fs)) (groups_have_no_overlap groups fs)
       ∙ ap (λ t. (t && claims_are_apart (map (claim_in groups) fs)) && (body_has_no_overlap body && groups_have_no_overlap groups fs)) (apart_from_fields f.member (areas_of_body body) fs)
 
   apart_in_struct : (nid words pointers : ℕ) (s : StructNode) → has_no_overlap (shape nid words pointers (union_place s) (fields_from groups s.fields)) ≡ (claims_are_apart (claims_in groups s) && groups_have_no_overlap groups s.fields)

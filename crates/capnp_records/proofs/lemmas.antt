@@ -1,3 +1,5 @@
 pub mod ListTests
 pub mod PlainStructs
 pub mod Segments
+pub mod FieldPlaces
+pub mod Stored

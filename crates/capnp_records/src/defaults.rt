@@ -90,7 +90,7 @@ fn is_default_of_list(default: &Option<Value>) -> bool
     }
 }
 
-#[tactic(auto, using(crate::proofs::Stored::types))]
+#[tactic(auto, using(crate::proofs::lemmas::Stored::types))]
 fn is_default_of(ty: TypeRecord, default: &Option<Value>) -> bool
     ensures { result ≡ is_default_of (type_of (type_record_of ty))
         (option_map value_of default.now) }

@@ -39,7 +39,7 @@ fn storage_of_base(base: BaseType) -> Storage
     }
 }
 
-#[tactic(auto, using(crate::proofs::Stored::types))]
+#[tactic(auto, using(crate::proofs::lemmas::Stored::types))]
 pub(crate) fn storage_of(ty: TypeRecord) -> Storage
     ensures same { result ≡ storage_of (type_of (type_record_of ty)) }
     ensures narrow { bits_in result ≤ 64 }
@@ -52,7 +52,7 @@ pub(crate) fn storage_of(ty: TypeRecord) -> Storage
 }
 
 /// Whether the field lies in the sections of its struct. A group has its place elsewhere.
-#[tactic(auto, using(crate::proofs::Stored::places))]
+#[tactic(auto, using(crate::proofs::lemmas::Stored::places))]
 pub(crate) fn has_its_place(holder: &StructRecord, body: &FieldBody) -> bool
     ensures { result ≡ has_its_place (struct_of holder.now) (kind_of_field body.now) }
 {
@@ -70,7 +70,7 @@ pub(crate) fn has_its_place(holder: &StructRecord, body: &FieldBody) -> bool
 }
 
 /// What a slot takes.
-#[tactic(auto, using(crate::proofs::Stored::areas))]
+#[tactic(auto, using(crate::proofs::lemmas::Stored::areas))]
 pub(crate) fn area_of(offset: u32, ty: TypeRecord) -> Area
     ensures { (d : Option Value) → areas_in result
         ≡ areas_of_body (slot_body offset (type_of (type_record_of ty)) d) }

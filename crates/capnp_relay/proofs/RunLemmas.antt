@@ -11,6 +11,8 @@ use Rattle.capnp_model.specs.Runs.{BeginWith, AnswerEach, output_of, outputs_of,
 use Rattle.capnp_stream.specs.Pieces.{ReadsFronts}
 use Rattle.capnp_stream.proofs.lemmas.PieceLemmas.{message_more}
 use Rattle.capnp_io.specs.Streams.{RoomFalls}
+use Rattle.capnp_writing.proofs.lemmas.WriteLemmas.{RoomFalls-none}
+use Rattle.capnp_packing.proofs.lemmas.WriteLemmas.{RoomFalls-trans}
 use Rattle.capnp_relay.specs.declared.ends.Counts.{Counts}
 use Rattle.capnp_relay.specs.Answers.{written_one, refused_one}
 use Rattle.capnp_relay.specs.Streams.{Streams, SinkSeen, SinkTakes}
@@ -49,19 +51,8 @@ lines_of-more n (first ∷ answers) a =
     ∙ sym (append_assoc here (lines_of (n + 1) answers) (line_of (length answers + (n + 1)) a))
     ∙ ap (λ k. (here ++ lines_of (n + 1) answers) ++ line_of k a) {y = length (first ∷ answers) + n} (omega arith)
 
-RoomFalls-nil : (a : Option ℕ) → RoomFalls a a 0
-RoomFalls-nil None = refl
-RoomFalls-nil (Some n) = omega arith
-
-RoomFalls-trans : (a b c : Option ℕ) (m n : ℕ) → RoomFalls a b m → RoomFalls b c n → RoomFalls a c (m + n)
-RoomFalls-trans None None c m n p q = q
-RoomFalls-trans None (Some y) c m n p q = absurd cc
-RoomFalls-trans (Some x) None c m n p q = absurd p
-RoomFalls-trans (Some x) (Some y) None m n p q = absurd q
-RoomFalls-trans (Some x) (Some y) (Some z) m n p q = omega (arith, p, q)
-
 pub SinkTakes-nil : (a : SinkSeen) → SinkTakes a a []
-SinkTakes-nil a = record { appends = Appends-nil a.contents; falls = RoomFalls-nil a.room; failures = refl }
+SinkTakes-nil a = record { appends = Appends-nil a.contents; falls = RoomFalls-none a.room; failures = refl }
 
 pub SinkTakes-trans : (a b c : SinkSeen) (bs cs : List ℕ) → SinkTakes a b bs → SinkTakes b c cs → SinkTakes a c (bs ++ cs)
 SinkTakes-trans a b c bs cs p q = record {

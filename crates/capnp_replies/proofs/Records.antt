@@ -17,7 +17,7 @@ use Rattle.capnp_values.specs.Shown.{discriminant_shown, active_index}
 use Rattle.capnp_print.proofs.lemmas.Shows.{none_active, value_active}
 use Rattle.capnp_values.specs.Standing.{Stands, IsRecord, DiscriminantsAreRead}
 use Rattle.capnp_values.proofs.lemmas.RecordReadings.{union_counted, pointer_live}
-use Rattle.capnp_values.proofs.lemmas.FieldReadings.{child_read}
+use Rattle.capnp_model.proofs.lemmas.Paths.{read_child-is}
 
 -- ---- the discriminant
 
@@ -65,7 +65,7 @@ body_live : (s : Schema) (kids : Trees) (b : Body) (e : Extent) (section : ℕ) 
 unfolding body_of
 body_live s kids (void_slot j) e section = refl
 body_live s kids (plain_slot p at d) e section = refl
-body_live s kids (pointer_slot i ty d) e section = ap is_live (child_read s kids i ty) ∙ pointer_live s ty (child kids i)
+body_live s kids (pointer_slot i ty d) e section = ap is_live (read_child-is s kids i ty) ∙ pointer_live s ty (child kids i)
 body_live s kids (group_slot g) e section = refl
 
 only_live : (a : Bool) (r : Reading) → is_live r ≡ true → is_live (only_if a r) ≡ a

@@ -7,20 +7,20 @@ use Rattle.capnp_model.specs.Trees.{struct_list, none}
 use Rattle.capnp_model.specs.Calls.{Verb, initn, initn_content, element_content}
 use Rattle.capnp_model.specs.InKindCalls.{PathEnd}
 use Rattle.capnp_footprints.specs.NewObjects.{new_list, new_pointers, new_tree, zero_elements}
-use Rattle.capnp_footprints.proofs.lemmas.MovedElements.{zero_count}
-use Rattle.capnp_footprints.proofs.lemmas.Turns.{resized_count}
 use Rattle.capnp_copy.specs.Lists.{zeros_of}
 use Rattle.capnp_calls.specs.Sizes.{list_len, content_len, end_content}
+use Rattle.capnp_footprints.proofs.lemmas.NewKinds.{zero_counted}
+use Rattle.capnp_model.proofs.lemmas.Stripping.{count-resized}
 
 pub elements_len : (size n : ℕ) → n ≡ list_len (new_tree (zeros_of size n))
 elements_len size n = by (size == 6)
   where
     by : (b : Bool) → n ≡ list_len (new_tree (if b then new_pointers n else new_list size n))
-    by true = sym (resized_count n none)
+    by true = sym (count-resized n none)
     by false = refl
 
 pub structs_len : (n d k m : ℕ) → m ≡ max n (n * (d + k)) → m ≡ list_len (struct_list d k (zero_elements n k))
-structs_len n d k m is = is ∙ ap (λ c. max c (c * (d + k))) (sym (zero_count n k))
+structs_len n d k m is = is ∙ ap (λ c. max c (c * (d + k))) (sym (zero_counted n k))
 
 -- an element gets as many as a slot of its type, whatever the kind by which it else is refused
 pub element_len : (s : Schema) (n : ℕ) (ty : Ty) (k : Kind) → content_len (initn_content s n ty k) ≡ content_len (element_content s (initn n) ty)

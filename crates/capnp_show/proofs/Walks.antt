@@ -18,6 +18,7 @@ use Rattle.capnp_units.specs.declared.limiter.ReadLimiter.{ReadLimiter}
 use Rattle.capnp_units.specs.declared.sizes.MessageSize.{MessageSize}
 use Rattle.capnp_object.specs.Walks.{Walked, Stopped, CannotPass, SizeGives}
 use Rattle.capnp_canonical.specs.Copies.{copy_visits, Filled, Halted, room_of}
+use Rattle.capnp_model.proofs.lemmas.Tests.{and_right_false}
 use Rattle.capnp_show.specs.Copied.{value_to}
 
 -- ---- costs
@@ -81,10 +82,6 @@ a_value_in n limit s t there clean h =
     ap (λ (o : Option Tree). o >>= λ x. x provided (not (has_capability x) && within (cost_at n s root) limit)) there
     ∙ ap (λ (b : Bool). t provided (not b && within (cost_at n s root) limit)) clean ∙ ap (λ (b : Bool). t provided b) h
 
-second_false : (a b : Bool) → b ≡ false → (a && b) ≡ false
-second_false true b e = e
-second_false false b e = refl
-
 module _ (costs : Costs) (n : ℕ) (limit : Option ℕ) (s : Segments) where
   stopped_past : (t : Tree) (l m : ReadLimiter) (e : Error) → tree_at n s root ≡ Some t → IsFresh limit l → Stopped (visits n s root) l e m → within (cost_at n s root) limit ≡ false
   stopped_past t l m e there fresh stop =
@@ -98,7 +95,7 @@ module _ (costs : Costs) (n : ℕ) (limit : Option ℕ) (s : Segments) where
     where
       by : (o : Option Tree) → tree_at n s root ≡ o → value_to n limit s ≡ None
       by None there = ap (λ (o : Option Tree). o >>= λ x. x provided (not (has_capability x) && within (cost_at n s root) limit)) there
-      by (Some t) there = no_value_in n limit s t there (second_false (not (has_capability t)) (within (cost_at n s root) limit) (stopped_past t l m e there fresh stop))
+      by (Some t) there = no_value_in n limit s t there (and_right_false (not (has_capability t)) (within (cost_at n s root) limit) (stopped_past t l m e there fresh stop))
 
   -- What a walk that wasn't refused tells of the value.
   pub record IsSized (size : MessageSize) (granted : ℕ) (t : Tree) : Type 0 where

@@ -11,10 +11,7 @@ use Rattle.capnp_model.proofs.lemmas.Numbers.{number_of_lt, wider}
 use Rattle.capnp_model.proofs.lemmas.SectionElements.{number_of-more}
 use Rattle.capnp_wire.proofs.lemmas.Bytes.{number_of-drop, number_of-take}
 use Rattle.capnp_canonical.specs.Writes.{words_view}
-
-pub zeros_behind : (xs ys : List ℕ) → number_of 8 ys ≡ 0 → number_of 8 (xs ++ ys) ≡ number_of 8 xs
-zeros_behind [] ys z = z
-zeros_behind (x ∷ xs) ys z = ap (λ (n : ℕ). n * 2 ^ 8 + x % 2 ^ 8) (zeros_behind xs ys z)
+use Rattle.capnp_copy.proofs.lemmas.BlobNumbers.{number_behind}
 
 -- ---- eight bytes, or what there is of them
 
@@ -33,7 +30,7 @@ part_cases n m l e less = by (nat_lt l 8) refl
 pub part_word : (rest part zs all : List ℕ) (m : ℕ) → m ≡ min (length rest) 8 → part ≡ take m rest → number_of 8 zs ≡ 0 → all ≡ part ++ drop (length part) zs → bits_at 0 64 (number_of 8 all) ≡ number_of 8 rest % 2 ^ 64
 part_word rest part zs all m e front z is =
     let none : number_of 8 (drop (length part) zs) ≡ 0 = number_of-drop 8 (length part) zs ∙ ap (λ (n : ℕ). n / 2 ^ (8 * length part)) z ∙ zero-div (2 ^ (8 * length part)) in
-    let same : number_of 8 all ≡ number_of 8 rest % 2 ^ (8 * m) = ap (number_of 8) is ∙ zeros_behind part (drop (length part) zs) none ∙ ap (number_of 8) front ∙ number_of-take 8 m rest in
+    let same : number_of 8 all ≡ number_of 8 rest % 2 ^ (8 * m) = ap (number_of 8) is ∙ number_behind part (drop (length part) zs) none ∙ ap (number_of 8) front ∙ number_of-take 8 m rest in
     ap (λ (n : ℕ). n / 2 ^ 0 % 2 ^ 64) same ∙ part_cases (number_of 8 rest) m (length rest) e (number_of_lt 8 rest)
 
 -- The bytes from a word's place on.

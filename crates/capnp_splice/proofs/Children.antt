@@ -66,10 +66,6 @@ joined_count : (ts us : Trees) → tree_count (joined ts us) ≡ tree_count ts +
 joined_count none us = omega arith
 joined_count (t ▸ ts) us = let e = joined_count ts us in omega arith
 
-pub links_length : (ts : Trees) (behind before : ℕ) → length (links behind before ts) ≡ tree_count ts
-links_length none behind before = refl
-links_length (t ▸ ts) behind before = ap suc (links_length ts behind (before + length (body t)))
-
 links_joined : (ts us : Trees) (behind before : ℕ) → links behind before (joined ts us) ≡ links (tree_count us + behind) before ts ++ links behind (before + length (bodies ts)) us
 links_joined none us behind before = let e : before ≡ before + 0 = omega arith in ap (λ (n : ℕ). links behind n us) e
 links_joined (t ▸ ts) us behind before =

@@ -6,8 +6,8 @@ use Rattle.capnp_model.specs.Fits.{FitEach, FitElements}
 use Rattle.capnp_model.specs.Encoding.{struct_pointer, body, links, bodies, cells, element_bodies}
 use Rattle.capnp_model.specs.Edits.{Cell}
 use Rattle.capnp_model.proofs.lemmas.Numbers.{length-numbers_in}
+use Rattle.capnp_model.proofs.lemmas.RoundTrip.{links_length}
 use Rattle.capnp_splice.specs.Splices.{InElements}
-use Rattle.capnp_splice.proofs.Children.{links_length}
 
 abbrev pub joined : Elements → Elements → Elements
 joined no_elements ds = ds

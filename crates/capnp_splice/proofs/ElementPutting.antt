@@ -19,7 +19,7 @@ use Rattle.capnp_splice.proofs.Children as slots
 use Rattle.capnp_splice.proofs.ElementParts.{fronts, backs, cell_at, with_cell, cell-parts, in_elements, fronts_count, backs_count, with_cell-count, FitsCell, cell-fits, fronts-fit, backs-fit, with_cell-fits, cells_before, cells_before-length, cells_length, around}
 use Rattle.capnp_splice.proofs.Segmenting.{filled_length}
 use Rattle.capnp_splice.proofs.Placing.{slot_front, slot_gap, slot_later, slot_between, slot_back, slotted, own_slot, slot_place, slot_near, moved}
-use Rattle.capnp_splice.proofs.Putting.{Moves, pointer_there}
+use Rattle.capnp_splice.proofs.Putting.{Moves, pointer_there, regrouped as split}
 
 pub framed_length : (d : ℕ) (f : Frame) (c : Cell) → length (framed d f c) ≡ length f.front + (d + (tree_count c.kids + (length f.middle + (length (bodies c.kids) + length f.back))))
 framed_length d f c =
@@ -160,9 +160,6 @@ module _ (put : Put) (way : List Hop) (area inner : Area) (list : Structs) (f : 
   in_list (plain_list y n s) e h = absurd h
   in_list (pointer_list ts) e h = absurd h
   in_list (struct_list w k es) e h = in_structs es (e ∙ ap (λ (y : ℕ). struct_list y k es) (sym h.1) ∙ ap (λ (y : ℕ). struct_list list.data_words y es) (sym h.2)) h.0
-
-split : (x l m b q : List ℕ) (p : ℕ) → x ++ p ∷ (l ++ (m ++ (b ++ q))) ≡ (x ++ p ∷ (l ++ m)) ++ (b ++ q)
-split x l m b q p = simp append_assoc
 
 pub element_put : (put : Put) (way : List Hop) (area inner : Area) (list : Structs) (f : Frame) (c : Cell) (i j p count now : ℕ) (xs mid after ys : List (List ℕ)) (a m : ℕ)
     → StandsIn area f c (filled count xs) → i < area.pointers → area.at + area.data_words + area.pointers ≤ count → count ≤ length xs → count < 2 ^ 29 → now < 2 ^ 29 → now ≤ length mid → length after ≡ length mid

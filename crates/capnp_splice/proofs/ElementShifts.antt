@@ -8,8 +8,8 @@ use Rattle.capnp_model.specs.Fits.{FitElements}
 use Rattle.capnp_model.specs.Encoding.{links, bodies, cells, element_bodies}
 use Rattle.capnp_model.proofs.lemmas.Numbers.{length-numbers_in}
 use Rattle.capnp_canonical.specs.Writes.{words_view}
+use Rattle.capnp_model.proofs.lemmas.RoundTrip.{links_length}
 use Rattle.capnp_splice.specs.Cells.{shifted, AreNear}
-use Rattle.capnp_splice.proofs.Children.{links_length}
 use Rattle.capnp_splice.proofs.Shifts.{Shift, links_shifted}
 
 -- The words of so many elements, their pointers shifted.

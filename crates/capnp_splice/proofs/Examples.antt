@@ -64,8 +64,6 @@ back_by_a_word = refl
 null_stays : shifted 4 0 ≡ 0
 null_stays = refl
 
-empty_struct_stays : shifted 4 0xffff_fffc ≡ 0xffff_fffc
+pub empty_struct_stays : shifted 4 0xffff_fffc ≡ 0xffff_fffc
 empty_struct_stays = refl
 
-capability_stays : shifted 4 0x5_0000_0003 ≡ 0x5_0000_0003
-capability_stays = refl

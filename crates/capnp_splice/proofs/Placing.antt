@@ -7,9 +7,10 @@ use Rattle.capnp_model.specs.Encoding.{pointer, struct_pointer, body, links, bod
 use Rattle.capnp_model.specs.Edits.{Cell, put_child}
 use Rattle.capnp_model.proofs.lemmas.Numbers.{length-numbers_in}
 use Rattle.capnp_canonical.specs.Writes.{words_view, filled}
+use Rattle.capnp_model.proofs.lemmas.RoundTrip.{links_length}
 use Rattle.capnp_splice.specs.Cells.{Frame, framed, StandsIn, IsNear}
 use Rattle.capnp_splice.specs.declared.area.Area.{Area}
-use Rattle.capnp_splice.proofs.Children.{fronts, backs, with_child-parts, child-parts, fronts_count, backs_count, with_child-count, child-fits, backs-fit, with_child-fit, links_length, around}
+use Rattle.capnp_splice.proofs.Children.{fronts, backs, with_child-parts, child-parts, fronts_count, backs_count, with_child-count, child-fits, backs-fit, with_child-fit, around}
 use Rattle.capnp_splice.proofs.Segmenting.{filled_length, part_is, part_put}
 
 -- ---- the words around a pointer and its target
@@ -128,13 +129,6 @@ regrouped x l m w k b q p = simp append_assoc
 
 pub in_struct_frame : (d e s : ℕ) (ts : Trees) (f : Frame) (c : Cell) (i p n : ℕ) → slotted d f c i p n (body (structure e s ts)) ≡ framed e (struct_frame d f c i p n) (record { section = s; kids = ts })
 in_struct_frame d e s ts f c i p n = regrouped (slot_front d f c i) (slot_later f c i n) (slot_between f c i) (words_of e s) (links 0 0 ts) (bodies ts) (slot_back f c i) p
-
-pub alike : (gap d s u : ℕ) (ts us : Trees) → tree_count ts ≡ tree_count us → pointer gap (structure d s ts) ≡ pointer gap (structure d u us)
-alike gap zero s u none none e = refl
-alike gap zero s u none (v ▸ us) e = absurd (omega (arith, e))
-alike gap zero s u (t ▸ ts) none e = absurd (omega (arith, e))
-alike gap zero s u (t ▸ ts) (v ▸ us) e = ap (struct_pointer gap 0) e
-alike gap (suc d) s u ts us e = ap (struct_pointer gap (suc d)) e
 
 pub enters : (area inner : Area) (f : Frame) (c : Cell) (i s : ℕ) (ts : Trees) (ws : List ℕ) → StandsIn area f c ws → i < area.pointers → child c.kids i ≡ structure inner.data_words s ts → inner.pointers ≡ tree_count ts
     → inner.at ≡ area.at + area.data_words + i + 1 + slot_gap f c i

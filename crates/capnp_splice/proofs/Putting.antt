@@ -8,6 +8,8 @@ use Rattle.capnp_model.specs.Fits.{Fits, FitEach}
 use Rattle.capnp_model.specs.Encoding.{pointer, list_pointer, body, links, bodies, canonical_words}
 use Rattle.capnp_model.specs.Edits.{Cell, put_child}
 use Rattle.capnp_canonical.specs.Writes.{words_view, filled}
+use Rattle.capnp_canonical.proofs.lemmas.NearStructs.{same_pointer}
+use Rattle.capnp_model.proofs.lemmas.RoundTrip.{links_length}
 use Rattle.capnp_splice.specs.Blobs.{tree_of_blob}
 use Rattle.capnp_splice.specs.Splices.{IsPlainList, PutsBehind, InStruct, HasSpliced}
 use Rattle.capnp_splice.specs.Cells.{Frame, StandsIn, HasPut, IsStruct, IsNear}
@@ -19,9 +21,9 @@ use Rattle.capnp_splice.specs.declared.splice.Hop.TheVariants as hops
 use Rattle.capnp_splice.specs.declared.splice.Put.{Put}
 use Rattle.capnp_splice.specs.declared.splice.Put.TheVariants as puts
 use Rattle.capnp_splice.specs.declared.splice.Splice.{Splice}
-use Rattle.capnp_splice.proofs.Children.{fronts, backs, links_length, child-fits}
+use Rattle.capnp_splice.proofs.Children.{fronts, backs, child-fits}
 use Rattle.capnp_splice.proofs.Segmenting.{filled_length, word_is, word_put}
-use Rattle.capnp_splice.proofs.Placing.{slot_front, slot_gap, slot_later, slot_between, slot_back, slotted, own_slot, slot_place, slot_near, moved, struct_frame, in_struct_frame, alike, enters}
+use Rattle.capnp_splice.proofs.Placing.{slot_front, slot_gap, slot_later, slot_between, slot_back, slotted, own_slot, slot_place, slot_near, moved, struct_frame, in_struct_frame, enters}
 
 -- The pointer at a place of the words.
 pub pointer_there : (area : Area) (f : Frame) (c : Cell) (i p count : ℕ) (xs : List (List ℕ)) → StandsIn area f c (filled count xs) → i < area.pointers → area.at + area.data_words + i < length xs
@@ -55,7 +57,7 @@ module _ (put : Put) (way : List Hop) (area inner : Area) (f : Frame) (c : Cell)
       let new : Cell = h.cell in
       let t : Tree = structure w new.section new.kids in
       let same : tree_count ts ≡ tree_count new.kids = sym pointers ∙ sym h.stands.pointers in
-      let told : p ≡ pointer (slot_gap f c i) t = alike (slot_gap f c i) w s new.section ts new.kids same in
+      let told : p ≡ pointer (slot_gap f c i) t = same_pointer (slot_gap f c i) w s new.section ts new.kids same in
       let fits : Fits (structure w s ts) = subst Fits e (child-fits c.kids i st.each) in
       let fit : Fits t = (fits.0, subst (λ (k : ℕ). k < 2 ^ 16) same fits.1, h.stands.section, h.stands.each) in
       let is : filled now mid ≡ slotted d f c i (pointer (slot_gap f c i) t) n (body t) =
@@ -90,7 +92,7 @@ pointer_put put way area inner f c i p count now xs mid ys a m st l own room few
 
 -- ---- bytes in place of the list behind the pointer
 
-regrouped : (x l m t q : List ℕ) (p : ℕ) → x ++ p ∷ (l ++ (m ++ (t ++ q))) ≡ (x ++ p ∷ (l ++ m)) ++ (t ++ q)
+pub regrouped : (x l m t q : List ℕ) (p : ℕ) → x ++ p ∷ (l ++ (m ++ (t ++ q))) ≡ (x ++ p ∷ (l ++ m)) ++ (t ++ q)
 regrouped x l m t q p = simp append_assoc
 
 module _ (b : Blob) (area : Area) (f : Frame) (c : Cell) (i p v count now : ℕ) (bytes : List ℕ) (run : Run) (xs mid ys : List (List ℕ)) (a m : ℕ)
@@ -182,7 +184,7 @@ module _ (p : Splice) (inner : Area) (count now : ℕ) (xs new : List (List ℕ)
       (record { place = sym at; between = refl; spelled = e ∙ nothing_behind word (words_of w s) (links 0 0 ts) (bodies ts); section = fits.2; pointers = sym pointers; each = fits.3 }) in
       let cell : Cell = h.cell in
       let same : tree_count ts ≡ tree_count cell.kids = sym pointers ∙ sym h.stands.pointers in
-      let told : word ≡ pointer 0 (structure w cell.section cell.kids) = alike 0 w s cell.section ts cell.kids same in
+      let told : word ≡ pointer 0 (structure w cell.section cell.kids) = same_pointer 0 w s cell.section ts cell.kids same in
       record {
         value = structure w cell.section cell.kids;
         spliced = (cell, h.puts, refl);

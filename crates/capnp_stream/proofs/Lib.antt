@@ -4,4 +4,3 @@ mod FlatLemmas
 mod TableLemmas
 mod ReadLemmas
 mod BufferLemmas
-mod ShownLemmas

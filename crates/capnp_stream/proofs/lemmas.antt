@@ -2,3 +2,4 @@ pub mod WordLemmas
 pub mod EarlyLemmas
 pub mod PieceLemmas
 pub mod FrameLemmas
+pub mod ShownLemmas

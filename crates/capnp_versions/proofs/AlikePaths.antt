@@ -13,6 +13,7 @@ use Rattle.capnp_model.specs.Admitted.{is_group_write, is_struct_type}
 use Rattle.capnp_model.proofs.lemmas.Numbers.{wider}
 use Rattle.capnp_model.proofs.lemmas.Widening.{bare-padded_to}
 use Rattle.capnp_model.proofs.lemmas.OlderReading.{Related, related_void, related_plain', related_text, related_blob, related_untyped, related_interface, related_struct, related_list}
+use Rattle.capnp_model.proofs.lemmas.EveryPath.{opened_null}
 use Rattle.capnp_versions.specs.Whole.{IsWhole, IsWholeVerb}
 use Rattle.capnp_versions.proofs.lemmas.WholeValues.{whole-padded_to, whole-resized}
 use Rattle.capnp_versions.proofs.Alike.{Alike, SameCell, Agree, agree-more, agree-then, agree-put_bits, agree-put_child, alike-child, alike-structure, IsStructLike, struct_like, struct-like}
@@ -24,7 +25,7 @@ use Rattle.capnp_versions.proofs.Wrote.{Wrote, wrote-map, field-is-write, elemen
 use Rattle.capnp_versions.proofs.WroteLists.{at-plain, at-plain-element, at-child, at-pointer-element, at-element, at-padded-element}
 use Rattle.capnp_versions.proofs.Follows.{SameMark, IsNarrow, HasWords, NameFollows, ValueFollows, PointerFollows, EndFollows, FieldFollows, ElementFollows}
 use Rattle.capnp_versions.proofs.RelatedTypes.{not_struct, same_sort, same_bits, roomy}
-use Rattle.capnp_versions.proofs.OpenedValues.{opened_alike, null_default}
+use Rattle.capnp_versions.proofs.OpenedValues.{opened_alike}
 use Rattle.capnp_versions.proofs.AlikeLists.{plain-like, IsPointersLike, pointers_like, pointers-like, edited-structs, widened-plain, widened-pointers, widened-structs, edited-plain, edited-pointers}
 
 congruent_marks : (bits : ℕ) (u m u' m' : Option ℕ) → SameMark bits u m u' m' → Congruent bits (mark u m) (mark u' m')
@@ -311,8 +312,8 @@ module _ (o n : Schema) (verb : Verb) (whole : IsWholeVerb verb) where
         → Wrote (through_value o st (step_field o path verb) (step_element o path verb) ty (opened o ty null (read o (child c.kids 0) ty))) → Wrote (through_value n st (step_field n path verb) (step_element n path verb) ty' (opened n ty' null (read n (child d.kids 0) ty')))
         → Agree bits c (put_child 0 (edit_value o st (edit_field o path verb) (edit_element o path verb) ty (child c.kids 0)) c) (put_child 0 (edit_value n st (edit_field n path verb) (edit_element n path verb) ty' (child d.kids 0)) d)
     pointer_element st bits ty ty' r follows c d s k k' =
-        subst (λ z. Agree bits c (put_child 0 (edit_value o st (edit_field o path verb) (edit_element o path verb) ty z) c) (put_child 0 (edit_value n st (edit_field n path verb) (edit_element n path verb) ty' (child d.kids 0)) d)) (null_default ty (child c.kids 0))
-        (subst (λ z. Agree bits c (put_child 0 (edit_value o st (edit_field o path verb) (edit_element o path verb) ty (opened_tree ty null (child c.kids 0))) c) (put_child 0 (edit_value n st (edit_field n path verb) (edit_element n path verb) ty' z) d)) (null_default ty' (child d.kids 0))
+        subst (λ z. Agree bits c (put_child 0 (edit_value o st (edit_field o path verb) (edit_element o path verb) ty z) c) (put_child 0 (edit_value n st (edit_field n path verb) (edit_element n path verb) ty' (child d.kids 0)) d)) (opened_null ty (child c.kids 0))
+        (subst (λ z. Agree bits c (put_child 0 (edit_value o st (edit_field o path verb) (edit_element o path verb) ty (opened_tree ty null (child c.kids 0))) c) (put_child 0 (edit_value n st (edit_field n path verb) (edit_element n path verb) ty' z) d)) (opened_null ty' (child d.kids 0))
         (at_pointer st bits 0 ty ty' null r tt follows c d s k k'))
 
     struct_element : (l : List ℕ) (i j : ℕ) (g g' : Shape) → o.shape_of i ≡ g → n.shape_of j ≡ g' → NameFollows o n verb (FieldFollows o n verb path) l (64 * shape_words g) g g' → (c d : Cell) → SameCell c d

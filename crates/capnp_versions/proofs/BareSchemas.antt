@@ -19,8 +19,8 @@ use Rattle.capnp_model.specs.Messages.{within}
 use Rattle.capnp_model.specs.Answers.{Limits, levels, value_within, edits, widened_root, opened_root}
 use Rattle.capnp_model.specs.Accepted.{find_node, default_tree, slot_body, field_body, fields_from, union_place, no_shape, shape_of_node, shape_in, schema_of}
 use Rattle.capnp_model.proofs.lemmas.Chaining.{bind_some, provided_some}
-use Rattle.capnp_model.proofs.lemmas.KeptRules.{and_left}
 use Rattle.capnp_model.proofs.lemmas.CanonicalCopies.{free_trim}
+use Rattle.capnp_model.proofs.lemmas.Tests.{not_true, and_left}
 use Rattle.capnp_versions.specs.Capabilities.{SetsNoCapability}
 use Rattle.capnp_versions.proofs.BareValues.{IsBare, is-bare, has-none, bare-widened}
 use Rattle.capnp_versions.proofs.BareContents.{IsBareVerb, is-bare-verb}
@@ -29,16 +29,12 @@ use Rattle.capnp_versions.proofs.BareEdits.{written-bare}
 
 -- ---- defaults
 
-not-true : (b : Bool) → not b ≡ true → b ≡ false
-not-true true h = absurd (cc h)
-not-true false h = refl
-
 decoded-bare : (bs : List ℕ) (t : Tree) → decode bs ≡ Some t → IsBare t
 unfolding decode
 decoded-bare bs t h =
     let found = bind_some (tree_at 64 (words_in_bytes (length bs / 8) bs ∷ []) root) (λ v. v provided (not (has_capability v) && bytes_eq (bytes_of_words (canonical_words (trim v))) bs)) t h in
     let kept = provided_some found.0 t (not (has_capability found.0) && bytes_eq (bytes_of_words (canonical_words (trim found.0))) bs) found.2 in
-    subst IsBare kept.1 (is-bare found.0 (not-true (has_capability found.0) (and_left (not (has_capability found.0)) (bytes_eq (bytes_of_words (canonical_words (trim found.0))) bs) kept.0)))
+    subst IsBare kept.1 (is-bare found.0 (not_true (has_capability found.0) (and_left (not (has_capability found.0)) (bytes_eq (bytes_of_words (canonical_words (trim found.0))) bs) kept.0)))
 
 segment-bare : (bs : List ℕ) → IsBare (default_or_null (decode bs))
 segment-bare bs = by (decode bs) refl
@@ -135,7 +131,7 @@ read-has-none limits segments t h =
     let n = bind_some (levels limits.nesting) (λ k. tree_at k segments root >>= λ v. v provided (not (has_capability v) && within (cost_at k segments root) limits.words)) t h in
     let found = bind_some (tree_at n.0 segments root) (λ v. v provided (not (has_capability v) && within (cost_at n.0 segments root) limits.words)) t n.2 in
     let kept = provided_some found.0 t (not (has_capability found.0) && within (cost_at n.0 segments root) limits.words) found.2 in
-    subst (λ v. has_capability v ≡ false) kept.1 (not-true (has_capability found.0) (and_left (not (has_capability found.0)) (within (cost_at n.0 segments root) limits.words) kept.0))
+    subst (λ v. has_capability v ≡ false) kept.1 (not_true (has_capability found.0) (and_left (not (has_capability found.0)) (within (cost_at n.0 segments root) limits.words) kept.0))
 
 -- THE LAW: nor has what a relay writes any.
 pub relay-puts-none : (nodes : List Node) (id : ℕ) (calls : List Call) (limits : Limits) (segments : Segments) (t : Tree) → AllByRecursion (λ c. SetsNoCapability c.verb) calls → value_within limits segments ≡ Some t

@@ -1,7 +1,7 @@
 -- Values without a capability, by parts.
 use Rattle.std.proofs.Common.{◌≡◌, ℕ, zero, suc, false, refl}
 use Rattle.capnp_model.specs.Trees.{Tree, null, capability, structure, plain_list, pointer_list, struct_list, Trees, none, ◌▸◌, Elements, no_elements, element, child, with_child, resized, padded_to, widened, has_capability, have_capability, elements_have_capability}
-use Rattle.capnp_model.proofs.lemmas.SizesOfValues.{neither}
+use Rattle.capnp_model.proofs.lemmas.Tests.{neither}
 
 abbrev mutual
   -- There is no capability in a value.

@@ -12,12 +12,13 @@ use Rattle.capnp_model.specs.NamedPaths.{IsOpen}
 use Rattle.capnp_model.specs.Printing.{fields_in}
 use Rattle.capnp_model.proofs.lemmas.Numbers.{wider}
 use Rattle.capnp_model.proofs.lemmas.Stripping.{count-resized}
+use Rattle.capnp_model.proofs.lemmas.EveryPath.{opened_null}
+use Rattle.capnp_model.proofs.lemmas.FittingValues.{count-padded_to}
 use Rattle.capnp_versions.proofs.WroteLists.{at-plain-element, at-child, at-pointer-element, at-element, at-padded-element}
 use Rattle.capnp_versions.proofs.Wrote.{Wrote, wrote-map, field-is-write, element-is-write, WritesField, WritesElement, WritesName, FoundName, found_name, find_name, WritesStruct, into_struct, WritesList, into_list, no-name, no-index, through-pointer, reads-padded, reads-nothing}
-use Rattle.capnp_versions.proofs.OpenedValues.{null_default}
 use Rattle.capnp_versions.proofs.Within.{AllNarrow}
 use Rattle.capnp_versions.proofs.SameContents.{shape_words}
-use Rattle.capnp_versions.proofs.FittingParts.{Lengths, FitsBy, SpelledBy, all-padded, child-fits, count-padded, UnionFits, MemberFits, ShapeFits, FieldsFit, BodyFits, pointers_of_shape, StructFits, SchemaFits, shape-wider}
+use Rattle.capnp_versions.proofs.FittingParts.{Lengths, FitsBy, SpelledBy, all-padded, child-fits, UnionFits, MemberFits, ShapeFits, FieldsFit, BodyFits, pointers_of_shape, StructFits, SchemaFits, shape-wider}
 use Rattle.capnp_versions.proofs.FittingContents.{nulls-fit, element-content}
 use Rattle.capnp_versions.proofs.FittingCells.{Good, put-child-keeps, mark-keeps, in-range, field-put, Room, element-ok, element-put}
 use Rattle.capnp_versions.proofs.FittingLists.{count-on-elements, count-on-pointers, widened-list-fits, plain-list-fits, elements-keep, pointers-keep, NoStruct, pointer-room, struct-room}
@@ -66,7 +67,7 @@ module _ (L : Lengths) where
           (g.words, omega arith, good.0, good.2)
       struct-by l (shape nid x y u fs) g (structure n section ts) h o wrote =
           let c : Cell = record { section = section; kids = padded_to y ts } in
-          let k = count-padded y ts in
+          let k = count-padded_to y ts in
           let inside = shape-wider L x y (max x n) (max y (tree_count ts)) (shape nid x y u fs) (omega arith) (omega arith) g.inside in
           let good = name-keeps l nid x y (max x n) (max y (tree_count ts)) u fs c inside (record { size = whole_words; section = section; kids = read_child s ts; reads = λ i ty. reads-padded s y ts i ty; wrote = wrote })
           (wider section (64 * n) (64 * max x n) (omega arith) h.2, k, all-padded L y ts h.3) in
@@ -180,7 +181,7 @@ module _ (L : Lengths) where
           put-child-keeps L w q i _ h.0 (value-fits (index k) ty (default_or_null d) (child c.kids i) h.1 h.2 (child-fits L c.kids i good.2) (active-pointer (index k) i ty d write.active (write.kids i ty) (child c.kids i) (write.reads i ty) write.wrote)) c good
 
       list-element : (i : ℕ) (ty : Ty) (t : Tree) → AllNarrow ty → FitsBy L t → Wrote (through_value s (index i) (step_field s path verb) (step_element s path verb) (list ty) (opened s (list ty) null (read s t (list ty)))) → FitsBy L (edit_value s (index i) (edit_field s path verb) (edit_element s path verb) (list ty) t)
-      list-element i ty t narrow h write = subst (λ z. FitsBy L (edit_value s (index i) (edit_field s path verb) (edit_element s path verb) (list ty) z)) (null_default (list ty) t) (value-fits (index i) (list ty) null t narrow tt h write)
+      list-element i ty t narrow h write = subst (λ z. FitsBy L (edit_value s (index i) (edit_field s path verb) (edit_element s path verb) (list ty) z)) (opened_null (list ty) t) (value-fits (index i) (list ty) null t narrow tt h write)
 
       named-element : (l : List ℕ) (g : Shape) (w q : ℕ) (c : Cell) → StructFits L g → shape_words g ≤ w → pointers_of_shape g ≤ q → WritesName s verb path l g c → Good L w q c → Good L w q (elim g as (λ x. Cell) [ shape nid x y u fs ↦ edit_named (edit_field s path verb) l u fs c ])
       named-element l (shape nid x y u fs) w q c g a b write good = name-keeps l nid x y w q u fs c (shape-wider L x y w q (shape nid x y u fs) a b g.inside) write good

@@ -9,13 +9,13 @@ use Rattle.capnp_model.specs.Readings.{is_list_of, have_room}
 use Rattle.capnp_model.specs.Edits.{Cell, Edit, elements_of_plain, elements_of_pointers, padded_elements, least_words, widened_list, on_plain, on_pointers, on_elements}
 use Rattle.capnp_model.proofs.lemmas.Numbers.{number_of_lt, wider, length-numbers_in}
 use Rattle.capnp_model.proofs.lemmas.Stripping.{count-resized}
-use Rattle.capnp_model.proofs.lemmas.KeptRules.{and_right}
+use Rattle.capnp_model.proofs.lemmas.Tests.{le_is, and_right}
+use Rattle.capnp_model.proofs.lemmas.FittingValues.{count-padded_to}
 use Rattle.capnp_versions.proofs.SameLists.{AtElement}
 use Rattle.capnp_versions.proofs.WroteLists.{AtChild}
-use Rattle.capnp_versions.proofs.Comparisons.{le_is}
 use Rattle.capnp_versions.proofs.RelatedTypes.{a-word}
 use Rattle.capnp_versions.proofs.Within.{AllNarrow}
-use Rattle.capnp_versions.proofs.FittingParts.{Lengths, FitsBy, AllFitBy, ElementsFitBy, all-padded, child-fits, count-padded, StructFits}
+use Rattle.capnp_versions.proofs.FittingParts.{Lengths, FitsBy, AllFitBy, ElementsFitBy, all-padded, child-fits, StructFits}
 use Rattle.capnp_versions.proofs.FittingContents.{nulls-fit}
 use Rattle.capnp_versions.proofs.FittingCells.{Good, Room}
 
@@ -72,13 +72,13 @@ module _ (L : Lengths) where
 
   pub of-pointers-fit : (w p : ℕ) (ts : Trees) → AllFitBy L ts → ElementsFitBy L w (max p 1) (elements_of_pointers p ts)
   of-pointers-fit w p none h = tt
-  of-pointers-fit w p (t ▸ ts) h = (pow_pos (64 * w), count-padded p (t ▸ none) ∙ omega arith, all-padded L p (t ▸ none) (h.0, tt), of-pointers-fit w p ts h.1)
+  of-pointers-fit w p (t ▸ ts) h = (pow_pos (64 * w), count-padded_to p (t ▸ none) ∙ omega arith, all-padded L p (t ▸ none) (h.0, tt), of-pointers-fit w p ts h.1)
 
   pub padded-fit : (w p d k : ℕ) (es : Elements) → ElementsFitBy L d k es → ElementsFitBy L (max w d) (max p k) (padded_elements p es)
   padded-fit w p d k no_elements h = tt
   padded-fit w p d k (element n ts es) h =
       let c = h.1 in
-      (wider n (64 * d) (64 * max w d) (omega arith) h.0, count-padded p ts ∙ omega arith, all-padded L p ts h.2, padded-fit w p d k es h.3)
+      (wider n (64 * d) (64 * max w d) (omega arith) h.0, count-padded_to p ts ∙ omega arith, all-padded L p ts h.2, padded-fit w p d k es h.3)
 
   pub widened-list-fits : (g : Shape) → StructFits L g → (t : Tree) → FitsBy L t → FitsBy L (widened_list g t)
   widened-list-fits (shape nid w p u fs) g null h = tt

@@ -113,11 +113,6 @@ count-with none i t h = absurd (omega arith)
 count-with (u ▸ ts) zero t h = refl
 count-with (u ▸ ts) (suc i) t h = ap suc (count-with ts i t (omega arith))
 
-pub count-padded : (n : ℕ) (ts : Trees) → tree_count (padded_to n ts) ≡ max n (tree_count ts)
-count-padded zero ts = omega arith
-count-padded (suc n) none = ap suc (count-padded n none) ∙ omega arith
-count-padded (suc n) (t ▸ ts) = ap suc (count-padded n ts) ∙ omega arith
-
 module _ (L : Lengths) where
   pub all-with : (ts : Trees) (i : ℕ) (t : Tree) → AllFitBy L ts → FitsBy L t → AllFitBy L (with_child ts i t)
   all-with none zero t h k = (k, tt)

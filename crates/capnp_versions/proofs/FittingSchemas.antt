@@ -13,11 +13,11 @@ use Rattle.capnp_model.specs.Steps.{Outcome, refused, shown, done, step, step_pa
 use Rattle.capnp_model.specs.Edits.{write_path, if_done, edit}
 use Rattle.capnp_model.specs.Answers.{edits}
 use Rattle.capnp_model.specs.Fits.{Fits}
-use Rattle.capnp_model.proofs.lemmas.KeptRules.{and_left, and_right, found_passes}
+use Rattle.capnp_model.proofs.lemmas.KeptRules.{found_passes}
 use Rattle.capnp_model.proofs.lemmas.FineShapes.{IsGoodMember, IsGood, AreGood, IsGoodBody}
 use Rattle.capnp_model.proofs.lemmas.SoundRules.{RulesKept, rules_kept, good_shape}
+use Rattle.capnp_model.proofs.lemmas.Tests.{lt_is, and_left, and_right}
 use Rattle.capnp_versions.specs.Fitting.{HasShortLists, IsSpelledVerb, HasSmallSections, HaveSmallSections, AreSpelled}
-use Rattle.capnp_versions.proofs.Comparisons.{lt_is}
 use Rattle.capnp_versions.proofs.SameContents.{shape_words}
 use Rattle.capnp_versions.proofs.SameShapes.{UnionWithin}
 use Rattle.capnp_versions.proofs.Holders.{PlacesKept, places_kept, uses, group_fits}

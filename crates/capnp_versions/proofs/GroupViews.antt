@@ -12,10 +12,11 @@ use Rattle.capnp_model.specs.Groups.{empty_tree, source_tree, or_else, pointer_f
 use Rattle.capnp_model.specs.Steps.{done, outcome_map, at_field, copied_or_refused, set_group_from}
 use Rattle.capnp_model.specs.Compatible.{Pairs, related, same_option, is_new, member_count, keeps_union, same_default, keeps, keeps_fields, keeps_body}
 use Rattle.capnp_model.specs.Admitted.{is_group_write}
-use Rattle.capnp_model.proofs.lemmas.KeptRules.{and_right, and_three, and_four}
+use Rattle.capnp_model.proofs.lemmas.KeptRules.{and_three, and_four}
 use Rattle.capnp_model.proofs.lemmas.KeptShapes.{HasPair}
 use Rattle.capnp_model.proofs.lemmas.FineShapes.{IsGood, AreGood, IsGoodBody}
 use Rattle.capnp_model.proofs.lemmas.OlderReading.{same_bool, same_int, same_uint, same_enum, Related, related_void, related_plain', related_text, related_blob, related_untyped, related_interface, related_struct, related_list, KeptShape, KidsAgree, shape_record-project, body_of-project, no_children_agree, read-project, read_child-project}
+use Rattle.capnp_model.proofs.lemmas.Tests.{and_right}
 use Rattle.capnp_versions.proofs.SameShapes.{SameShape, same_shape, SameFields, same_none, same_field, SameBody, same_void, same_plain', same_pointer, same_group}
 use Rattle.capnp_versions.specs.SameReplies.{IsWrite}
 use Rattle.capnp_versions.proofs.ReplacedViews.{take_shared}

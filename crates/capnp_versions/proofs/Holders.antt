@@ -4,8 +4,9 @@ use Rattle.std.specs.List.{list_all, list_any, flat_map, count_by}
 use Rattle.std.proofs.lemmas.List.Recursion.{is_count_by}
 use Rattle.capnp_model.specs.Schemas.{Node}
 use Rattle.capnp_model.specs.Accepted.{find_node, fields_of_kind, groups_used, names_a, is_group_node, names_its_sort, types_in, has_good_ids, uses_of, holder_of, sizes_of, fits_in, meets_below, is_good_group, has_places, on_struct, default_reads, IsAccepted}
-use Rattle.capnp_model.proofs.lemmas.KeptRules.{and_left, and_right, and_three, behind, no_break, found_passes}
-use Rattle.capnp_versions.proofs.Comparisons.{le_is, same_number}
+use Rattle.capnp_model.proofs.lemmas.KeptRules.{and_three, behind, no_break, found_passes}
+use Rattle.capnp_model.proofs.lemmas.Tests.{same_number, le_is, and_left, and_right}
+use Rattle.capnp_model.proofs.lemmas.SoundRules.{found_id}
 
 -- what each node keeps
 pub record PlacesKept (nodes : List Node) : Type 0 where
@@ -102,14 +103,6 @@ each_is_group nodes (x ∷ xs) g h k = by (x == g) refl (each_is_group nodes xs 
     by : (b : Bool) → (x == g) ≡ b → (list_any (λ z. z == g) xs ≡ true → names_a is_group_node nodes g ≡ true) → (b || list_any (λ z. z == g) xs) ≡ true → names_a is_group_node nodes g ≡ true
     by true e more l = let same : x ≡ g = grind arith in subst (λ z. names_a is_group_node nodes z ≡ true) same (and_left (names_a is_group_node nodes x) _ h)
     by false e more l = more l
-
-found_id : (ns : List Node) (id : ℕ) (n : Node) → find_node ns id ≡ Some n → n.id ≡ id
-found_id [] id n e = absurd (cc e)
-found_id (m ∷ ns) id n e = by (m.id == id) refl (found_id ns id n) e
-  where
-    by : (b : Bool) → (m.id == id) ≡ b → (find_node ns id ≡ Some n → n.id ≡ id) → (if b then Some m else find_node ns id) ≡ Some n → n.id ≡ id
-    by true same more k = let is : m ≡ n = cc in let number : m.id ≡ id = grind arith in ap (λ (x : Node). x.id) (sym is) ∙ number
-    by false same more k = more k
 
 -- a group is no larger than its holder
 pub group_fits : (nodes : List Node) → PlacesKept nodes → list_all (has_good_ids nodes) nodes ≡ true → (id : ℕ) (h : Node) (g : ℕ) (n : Node) → find_node nodes id ≡ Some h → uses h g ≡ true → find_node nodes g ≡ Some n → ((sizes_of n).0 ≤ (sizes_of h).0) × ((sizes_of n).1 ≤ (sizes_of h).1)

@@ -10,14 +10,14 @@ use Rattle.capnp_model.specs.Calls.{Step, name, index, Verb}
 use Rattle.capnp_model.specs.Steps.{Target, no_target, target, target_if, target_of}
 use Rattle.capnp_model.specs.Compatible.{Pairs, has_pair, related_plain, related, same_option, is_new, member_count, keeps_union, same_default, keeps, keeps_fields, keeps_body}
 use Rattle.capnp_model.specs.Admitted.{is_extended, extends_fields, extends_field, is_group_write, is_set, is_struct_type, At, at_body, at_element, nowhere, into_fields, into_type, is_admitted_from}
-use Rattle.capnp_model.proofs.lemmas.KeptRules.{and_right, and_three, and_four}
+use Rattle.capnp_model.proofs.lemmas.KeptRules.{and_three, and_four}
 use Rattle.capnp_model.proofs.lemmas.KeptShapes.{option_is}
 use Rattle.capnp_model.proofs.lemmas.OlderReading.{Related}
 use Rattle.capnp_model.proofs.lemmas.FineShapes.{HasUnion, IsGoodMember, IsNewName, IsGood, AreGood, IsGoodBody}
 use Rattle.capnp_model.proofs.lemmas.RoundTrip.{enc_is}
+use Rattle.capnp_model.proofs.lemmas.Tests.{same_number, le_is, and_right, neither}
 use Rattle.capnp_versions.proofs.SameShapes.{UnionWithin, AnyPair, SameShape, same_shape, SameFields, same_none, same_field, SameBody, same_void, same_plain', same_pointer, same_group}
 use Rattle.capnp_versions.proofs.SameContents.{shape_words}
-use Rattle.capnp_versions.proofs.Comparisons.{le_is, same_number}
 use Rattle.capnp_versions.proofs.RelatedTypes.{plain_is, related-by}
 use Rattle.capnp_versions.proofs.Follows.{SameMark, HasWords, NameFollows, ValueFollows, PointerFollows, FieldFollows, ElementFollows}
 use Rattle.capnp_versions.proofs.Within.{FitsDefault, AllNarrow, HasMember, IsWithin, AreWithin, BodyWithin}
@@ -45,11 +45,6 @@ not_named l x (field k m b fs) h (inl e) = by (bytes_eq l x) refl
     by false f = f
     by true f = absurd (cc (sym h.0 ∙ (bytes_eq-Decides k l).1 (e ∙ sym ((bytes_eq-Decides l x).0 f))))
 not_named l x (field k m b fs) h (inr i) = not_named l x fs h.1 i
-
-neither : (a b : Bool) → (a || b) ≡ false → (a ≡ false) × (b ≡ false)
-neither false false h = (refl, refl)
-neither false true h = absurd (cc h)
-neither true b h = absurd (cc h)
 
 module _ (o n : Schema) (pairs : Pairs) where
   types_related : (a b : Ty) → related o n pairs a b ≡ true → Related o n AnyPair a b

@@ -6,7 +6,7 @@ use Rattle.capnp_model.proofs.lemmas.KeptRules.{and_three, MembersIn, OwnsMember
 use Rattle.capnp_model.proofs.lemmas.KeptShapes.{HasPair, shape_is_kept}
 use Rattle.capnp_model.proofs.lemmas.FineShapes.{IsGood, AreGood, IsGoodBody}
 use Rattle.capnp_model.proofs.lemmas.OlderReading.{Related, KeptShape, KeptBody, kept_void, kept_plain, kept_pointer, kept_group}
-use Rattle.capnp_versions.proofs.Comparisons.{same_number}
+use Rattle.capnp_model.proofs.lemmas.Tests.{same_number}
 use Rattle.capnp_versions.proofs.RelatedTypes.{plain_is, related-by}
 
 members_in : (s : Schema) (u : Option ℕ) (fs : Fields) → AreGood s u fs → MembersIn u fs

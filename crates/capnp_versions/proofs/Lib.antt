@@ -36,7 +36,6 @@ mod SeenValues
 mod OlderSteps
 mod WriteOnly
 mod Versions
-mod TrimmedRelays
 mod SizeExamples
 mod BareValues
 mod BareContents

@@ -10,7 +10,7 @@ use Rattle.capnp_model.specs.Projection.{project}
 use Rattle.capnp_model.specs.Calls.{CallValue, whole_number, truth, enumerant, text_value, blob_value, message, Verb, get, set_to, init, initn, clear, Content, refused_by, bits_of, object, plain_content, value_content, empty_struct, empty_elements, empty_structs, new_list, init_content, initn_content, element_content}
 use Rattle.capnp_model.specs.Steps.{done, outcome_map, reading_after, at_field, at_element}
 use Rattle.capnp_model.proofs.lemmas.OlderReading.{SamePlain, same_bool, same_int, same_uint, same_enum, Related, related_void, related_plain', related_text, related_blob, related_untyped, related_interface, related_struct, related_list, KeptShape, read-project}
-use Rattle.capnp_model.proofs.lemmas.Paths.{read_child-is}
+use Rattle.capnp_model.proofs.lemmas.Paths.{read_child-is, nothing_in}
 use Rattle.capnp_versions.specs.SameReplies.{IsWrite}
 use Rattle.capnp_versions.proofs.Wrote.{reads-nothing}
 
@@ -28,18 +28,15 @@ plain_is p q (message t) (same_enum i j) = refl
 
 -- ---- new structs read alike, whatever their sizes
 
-nothing : (s : Schema) (p i : ℕ) (ty : Ty) → read_child s (resized p none) i ty ≡ null_pointer
-nothing s p i ty = read_child-is s (resized p none) i ty ∙ sym (reads-nothing s p i ty)
-
 new_struct : (s : Schema) (g g' : Shape) (i : ℕ) → read s (empty_struct g) (struct i) ≡ read s (empty_struct g') (struct i)
 unfolding read
-new_struct s (shape nid w p u fs) (shape nid' w' p' u' fs') i = ap (λ (kids : Children). record_as (shape_record (s.shape_of i) whole_words 0 kids)) (λ k j ty. (nothing s p j ty ∙ sym (nothing s p' j ty)) k)
+new_struct s (shape nid w p u fs) (shape nid' w' p' u' fs') i = ap (λ (kids : Children). record_as (shape_record (s.shape_of i) whole_words 0 kids)) (λ k j ty. (nothing_in s p j ty ∙ sym (nothing_in s p' j ty)) k)
 
 new_elements : (s : Schema) (k p p' i : ℕ) → struct_elements s (empty_elements k p) (struct i) ≡ struct_elements s (empty_elements k p') (struct i)
 unfolding read
 new_elements s zero p p' i = refl
 new_elements s (suc k) p p' i =
-    ap (λ (kids : Children). record_as (shape_record (s.shape_of i) whole_words 0 kids) ▹ struct_elements s (empty_elements k p) (struct i)) (λ z j ty. (nothing s p j ty ∙ sym (nothing s p' j ty)) z)
+    ap (λ (kids : Children). record_as (shape_record (s.shape_of i) whole_words 0 kids) ▹ struct_elements s (empty_elements k p) (struct i)) (λ z j ty. (nothing_in s p j ty ∙ sym (nothing_in s p' j ty)) z)
     ∙ ap (λ rs. record_as (shape_record (s.shape_of i) whole_words 0 (read_child s (resized p' none))) ▹ rs) (new_elements s k p p' i)
 
 takes_structs : (w p i : ℕ) (es : Elements) → is_list_of (struct_list w p es) (struct i) ≡ true

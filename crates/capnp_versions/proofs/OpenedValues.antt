@@ -7,15 +7,6 @@ use Rattle.capnp_model.specs.Edits.{opened_tree}
 use Rattle.capnp_versions.specs.Whole.{IsWhole}
 use Rattle.capnp_versions.proofs.Alike.{Alike}
 
--- a null under no default stays null
-pub null_default : (ty : Ty) (t : Tree) → opened_tree ty null t ≡ t
-null_default ty null = refl
-null_default ty (capability i) = refl
-null_default ty (structure w m ts) = refl
-null_default ty (plain_list z m x) = refl
-null_default ty (pointer_list ts) = refl
-null_default ty (struct_list w p es) = refl
-
 -- values of one trimmed value that are opened by one default
 pub opened_alike : (ty ty' : Ty) (d t t' : Tree) → Alike t t' → IsWhole d → Alike (opened_tree ty d t) (opened_tree ty' d t')
 unfolding trim

@@ -5,16 +5,10 @@ use Rattle.std.proofs.lemmas.Slice.Eq.{bytes_eq-Decides}
 use Rattle.capnp_model.specs.Schemas.{Fields, no_fields, field, Body, Schema}
 use Rattle.capnp_model.specs.Steps.{no_target, target, target_if, target_of}
 use Rattle.capnp_model.specs.Compatible.{Pairs, same_option, is_new, keeps, keeps_fields, keeps_body}
-use Rattle.capnp_model.proofs.lemmas.KeptRules.{and_right, and_three}
+use Rattle.capnp_model.proofs.lemmas.KeptRules.{and_three}
 use Rattle.capnp_model.proofs.lemmas.KeptShapes.{option_is}
 use Rattle.capnp_model.proofs.lemmas.FineShapes.{IsNewName, AreGood}
-
-other_name : (k l : List ℕ) → bytes_eq l k ≡ false → bytes_eq k l ≡ false
-other_name k l h = by (bytes_eq k l) refl
-  where
-    by : (b : Bool) → bytes_eq k l ≡ b → bytes_eq k l ≡ false
-    by false e = e
-    by true e = let same : k ≡ l = (bytes_eq-Decides k l).0 e in absurd (cc (sym h ∙ (bytes_eq-Decides l k).1 (sym same)))
+use Rattle.capnp_model.proofs.lemmas.Tests.{and_right}
 
 -- a new name finds nothing
 pub not_found : (l : List ℕ) (fs : Fields) → IsNewName l fs → target_of l fs ≡ no_target

@@ -5,15 +5,14 @@ use Rattle.capnp_model.specs.Schemas.{PlainType, width, Ty, void, plain, text, b
 use Rattle.capnp_model.specs.Readings.{have_room, is_list_of}
 use Rattle.capnp_model.specs.Edits.{as_list}
 use Rattle.capnp_model.specs.Admitted.{is_struct_type}
-use Rattle.capnp_model.proofs.lemmas.KeptRules.{and_left}
 use Rattle.capnp_model.proofs.lemmas.OlderReading.{same_bool, same_int, same_uint, same_enum, Related, related_void, related_plain', related_text, related_blob, related_untyped, related_interface, related_struct, related_list}
+use Rattle.capnp_model.proofs.lemmas.Tests.{same_number, le_is, and_left}
 use Rattle.capnp_versions.proofs.SameShapes.{AnyPair}
 use Rattle.capnp_versions.proofs.SameContents.{element_bits}
 use Rattle.capnp_versions.proofs.Follows.{IsNarrow}
 use Rattle.capnp_model.specs.Compatible.{Pairs, has_pair, related_plain, related}
 use Rattle.capnp_model.specs.Schemas.{bool, int, uint, «enum»}
 use Rattle.capnp_model.proofs.lemmas.OlderReading.{SamePlain}
-use Rattle.capnp_versions.proofs.Comparisons.{le_is, same_number}
 
 -- ---- types that are related
 

@@ -10,6 +10,7 @@ use Rattle.capnp_model.specs.Edits.{Edit, edit, edit_struct, edit_field, if_done
 use Rattle.capnp_model.specs.NamedPaths.{IsOpen}
 use Rattle.capnp_model.specs.Answers.{widened_root, opened_root, edits}
 use Rattle.capnp_model.proofs.lemmas.Widening.{trim-widened}
+use Rattle.capnp_model.proofs.lemmas.TrimmedKinds.{trim_open}
 use Rattle.capnp_versions.specs.Whole.{IsWhole}
 
 abbrev pub IsStruct : Tree → Type 0
@@ -48,15 +49,6 @@ widened_is g (plain_list z n x) h = absurd h
 widened_is g (pointer_list ts) h = absurd h
 widened_is g (struct_list d k es) h = absurd h
 
-pub open-trim : (t : Tree) → IsOpen t → IsOpen (trim t)
-unfolding trim
-open-trim null h = tt
-open-trim (structure w n ts) h = tt
-open-trim (capability i) h = absurd h
-open-trim (plain_list z n x) h = absurd h
-open-trim (pointer_list ts) h = absurd h
-open-trim (struct_list d k es) h = absurd h
-
 pub trim_struct : (t : Tree) → IsStruct t → IsStruct (trim t)
 unfolding trim
 trim_struct (structure w n ts) h = tt
@@ -69,7 +61,7 @@ trim_struct (struct_list d k es) h = absurd h
 -- a root that is opened for the calls
 pub opened_is_struct : (s : Schema) (id : ℕ) (t : Tree) → IsOpen t → IsStruct (opened_root s id t)
 unfolding opened_root
-opened_is_struct s id t h = widened_is (s.shape_of id) (trim t) (open-trim t h)
+opened_is_struct s id t h = widened_is (s.shape_of id) (trim t) (trim_open t h)
 
 -- a struct that is opened again is trimmed to itself
 pub reopened : (g : Shape) (t : Tree) → IsStruct t → IsWhole t → trim (widened_root g t) ≡ trim t

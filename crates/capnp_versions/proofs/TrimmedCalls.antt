@@ -13,13 +13,12 @@ use Rattle.capnp_model.specs.CallRuns.{IsStart}
 use Rattle.capnp_model.specs.Answers.{edits}
 use Rattle.capnp_model.proofs.lemmas.TrimTwice.{trim-trim}
 use Rattle.capnp_model.proofs.lemmas.TrimmedAnswers.{trimmed_record}
-use Rattle.capnp_model.proofs.lemmas.TrimmedKinds.{in_kind-trim}
+use Rattle.capnp_model.proofs.lemmas.TrimmedKinds.{in_kind-trim, trim_open}
 use Rattle.capnp_model.proofs.lemmas.EditLaws.{next_start}
 use Rattle.capnp_versions.specs.Whole.{IsWhole}
 use Rattle.capnp_versions.specs.StructElements.{ArePlain}
 use Rattle.capnp_versions.proofs.lemmas.WholeValues.{whole-trim}
 use Rattle.capnp_versions.proofs.Alike.{Alike}
-use Rattle.capnp_versions.proofs.Structs.{open-trim}
 use Rattle.capnp_versions.proofs.TrimmedEdits.{alike-edits}
 
 -- ---- calls in turn
@@ -57,7 +56,7 @@ module _ (nodes : List Node) (id : ℕ) where
     accepted = x.accepted;
     root = x.root;
     given = x.given;
-    opens = open-trim t x.opens;
+    opens = trim_open t x.opens;
     kinds = record { of_tree = in_kind-trim s t (struct id) ∙ x.kinds.of_tree; reached = x.kinds.reached; has_root = x.kinds.has_root; are_closed = x.kinds.are_closed; of_defaults = x.kinds.of_defaults; of_values = x.kinds.of_values };
   }
 

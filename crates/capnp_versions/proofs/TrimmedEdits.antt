@@ -16,10 +16,11 @@ use Rattle.capnp_model.proofs.lemmas.FineShapes.{IsGood}
 use Rattle.capnp_model.proofs.lemmas.SoundRules.{rules_kept, good_shape}
 use Rattle.capnp_model.proofs.lemmas.TrimmedAnswers.{trimmed_record}
 use Rattle.capnp_model.proofs.lemmas.TrimTwice.{trim-trim}
+use Rattle.capnp_model.proofs.lemmas.TrimmedKinds.{trim_open}
+use Rattle.capnp_model.proofs.lemmas.ActiveMembers.{shape_good}
 use Rattle.capnp_versions.specs.Whole.{IsWholeVerb}
 use Rattle.capnp_versions.specs.StructElements.{is_struct_value, sets_struct_element, IsPlain}
 use Rattle.capnp_versions.specs.Roots.{IsRootInKind}
-use Rattle.capnp_versions.proofs.Structs.{open-trim}
 use Rattle.capnp_versions.proofs.lemmas.WholeValues.{whole-trim}
 use Rattle.capnp_versions.proofs.Alike.{Alike}
 use Rattle.capnp_versions.proofs.Wrote.{Wrote, wrote-done}
@@ -28,10 +29,6 @@ use Rattle.capnp_versions.proofs.Follows.{NameFollows, FieldFollows}
 use Rattle.capnp_versions.proofs.AlikePaths.{structs_agree}
 use Rattle.capnp_versions.proofs.Within.{accepted-within}
 use Rattle.capnp_versions.proofs.SelfFollows.{root-follows}
-
-pub accepted-good : (nodes : List Node) → IsAccepted nodes → (id : ℕ) → IsGood (schema_of nodes) ((schema_of nodes).shape_of id)
-unfolding schema_of
-accepted-good nodes h id = good_shape nodes (rules_kept nodes h) _ id
 
 -- ---- one call under two schemas
 
@@ -81,7 +78,7 @@ module _ (nodes : List Node) (accepted : IsAccepted nodes) (id : ℕ) (c : Call)
       by : (o : Outcome Record) → step s id c (record_of s id t) ≡ o → Alike (edit s id c t) (edit s id c u)
       by (done r) e =
           written-alike s s c whole id id (omega arith)
-          (λ l path p. root-follows s (accepted-within nodes accepted) (accepted-good nodes accepted) c.verb path l id (ends l path p))
+          (λ l path p. root-follows s (accepted-within nodes accepted) (shape_good nodes accepted) c.verb path l id (ends l path p))
           t u a x y r r e (ap (step s id c) (sym same) ∙ e)
       by (refused k) e = both_left t u a (λ r h. cc (sym e ∙ h)) same
       by (shown how z) e = both_left t u a (λ r h. cc (sym e ∙ h)) same
@@ -89,4 +86,4 @@ module _ (nodes : List Node) (accepted : IsAccepted nodes) (id : ℕ) (c : Call)
 -- THE LAW: trimming before or after a call gives one trimmed value
 pub trimmed-edit : (nodes : List Node) (id : ℕ) (c : Call) (t : Tree) → IsPlain (schema_of nodes) id c → IsRootInKind nodes id t → trim (edit (schema_of nodes) id c (trim t)) ≡ trim (edit (schema_of nodes) id c t)
 trimmed-edit nodes id c t plain h =
-    (alike-edits nodes h.accepted id c plain.whole plain.sets_none (trim t) t (record { trims = trim-trim t; whole = whole-trim t h.whole; whole' = h.whole }) (open-trim t h.opens) h.opens (trimmed_record (schema_of nodes) id t h.kinds)).trims
+    (alike-edits nodes h.accepted id c plain.whole plain.sets_none (trim t) t (record { trims = trim-trim t; whole = whole-trim t h.whole; whole' = h.whole }) (trim_open t h.opens) h.opens (trimmed_record (schema_of nodes) id t h.kinds)).trims

@@ -21,6 +21,7 @@ use Rattle.capnp_model.proofs.lemmas.KeptShapes.{pair_is_kept, older_record}
 use Rattle.capnp_model.proofs.lemmas.TrimmedAnswers.{trimmed_record}
 use Rattle.capnp_model.proofs.lemmas.TrimmedKinds.{in_kind-trim}
 use Rattle.capnp_model.proofs.lemmas.EditLaws.{edit_open, next_start, last_start, record_after_calls, replies_to_calls}
+use Rattle.capnp_model.proofs.lemmas.ActiveMembers.{shape_good}
 use Rattle.capnp_versions.specs.Whole.{IsWhole, IsWholeVerb}
 use Rattle.capnp_versions.specs.SameReplies.{IsWrite, SameUnlessGet, SameReplies}
 use Rattle.capnp_versions.specs.TwoVersions.{TwoVersions, older, newer, newer_record, older_view, CanEdit, CanStep, CanRun}
@@ -28,7 +29,7 @@ use Rattle.capnp_versions.proofs.Alike.{Alike, alike-self}
 use Rattle.capnp_versions.proofs.SameContents.{shape_words}
 use Rattle.capnp_versions.proofs.Follows.{NameFollows, FieldFollows}
 use Rattle.capnp_versions.proofs.Within.{accepted-within}
-use Rattle.capnp_versions.proofs.TrimmedEdits.{accepted-good, written-alike, left}
+use Rattle.capnp_versions.proofs.TrimmedEdits.{written-alike, left}
 use Rattle.capnp_versions.proofs.KeptFollows.{words_kept, root-kept}
 use Rattle.capnp_versions.proofs.SeenValues.{kids_of, nothing_seen, child_seen}
 use Rattle.capnp_versions.proofs.OlderSteps.{root-view}
@@ -58,7 +59,7 @@ module _ (nodes nodes' : List Node) (accepted : IsAccepted nodes) (accepted' : I
           seen : (section : ℕ) (f : ℕ → Tree) → let r : Record = shape_record (n.shape_of newer) whole_words section (kids_of n f) in
               on_name (step_field o path c.verb) l (fields_in (o.shape_of older)) (project_fields o (fields_in (o.shape_of older)) r) ≡ outcome_map (project_fields o (fields_in (o.shape_of older))) (on_name (step_field n path c.verb) l (fields_in (n.shape_of newer)) r)
           seen section f =
-              root-view o n compatible.pairs c.verb write closed (accepted-within nodes accepted) (accepted-within nodes' accepted') (accepted-good nodes accepted) (accepted-good nodes' accepted') path l older newer compatible.has_roots h whole_words section f
+              root-view o n compatible.pairs c.verb write closed (accepted-within nodes accepted) (accepted-within nodes' accepted') (shape_good nodes accepted) (shape_good nodes' accepted') path l older newer compatible.has_roots h whole_words section f
 
           by : (t : Tree) → let r : Record = record_by_shape n (n.shape_of newer) t in
               on_name (step_field o path c.verb) l (fields_in (o.shape_of older)) (project_fields o (fields_in (o.shape_of older)) r) ≡ outcome_map (project_fields o (fields_in (o.shape_of older))) (on_name (step_field n path c.verb) l (fields_in (n.shape_of newer)) r)
@@ -106,7 +107,7 @@ module _ (nodes nodes' : List Node) (accepted : IsAccepted nodes) (accepted' : I
     module _ (whole : IsWholeVerb c.verb) where
       follows : (l : List ℕ) (path : List Step) → c.path ≡ name l ∷ path → NameFollows o n c.verb (FieldFollows o n c.verb path) l (64 * shape_words (o.shape_of older)) (o.shape_of older) (n.shape_of newer)
       follows l path e =
-          (root-kept o n compatible.pairs c.verb closed (accepted-within nodes accepted) (accepted-within nodes' accepted') (accepted-good nodes accepted) (accepted-good nodes' accepted') path l older newer compatible.has_roots
+          (root-kept o n compatible.pairs c.verb closed (accepted-within nodes accepted) (accepted-within nodes' accepted') (shape_good nodes accepted) (shape_good nodes' accepted') path l older newer compatible.has_roots
           (ap (λ z. is_admitted_from o n z c.verb (at_element (struct older) (struct newer))) (sym e) ∙ admitted)).0
 
       words : shape_words (o.shape_of older) ≤ shape_words (n.shape_of newer)

@@ -27,9 +27,9 @@ use Rattle.capnp_model.proofs.lemmas.Depth.{tree_at_deep}
 use Rattle.capnp_model.proofs.lemmas.Numbers.{length-numbers_in, number_of_lt}
 use Rattle.capnp_model.proofs.lemmas.ReadFits.{tree_at_fits}
 use Rattle.capnp_model.proofs.lemmas.RoundTrip.{enc_means}
-use Rattle.capnp_model.proofs.lemmas.KeptRules.{and_left, and_right, and_three, found_passes}
+use Rattle.capnp_model.proofs.lemmas.KeptRules.{and_three, found_passes}
 use Rattle.capnp_model.proofs.lemmas.SoundRules.{RulesKept, rules_kept}
-use Rattle.capnp_versions.proofs.Comparisons.{le_is, lt_is}
+use Rattle.capnp_model.proofs.lemmas.Tests.{lt_is, le_is, and_left, and_right}
 use Rattle.capnp_versions.proofs.SameShapes.{UnionWithin}
 use Rattle.capnp_versions.proofs.SameContents.{shape_words}
 use Rattle.capnp_versions.proofs.Holders.{PlacesKept, places_kept, uses, group_fits}

@@ -11,6 +11,7 @@ use Rattle.capnp_model.specs.NamedPaths.{IsOpen}
 use Rattle.capnp_model.specs.Admitted.{is_group_write}
 use Rattle.capnp_model.proofs.lemmas.Paths.{read_child-is, entry_of-fields_of}
 use Rattle.capnp_model.proofs.lemmas.Marks.{read_child-padded_to}
+use Rattle.capnp_model.proofs.lemmas.TrimmedKinds.{no_child}
 use Rattle.capnp_versions.specs.SameReplies.{IsWrite}
 
 -- the call is carried out and writes
@@ -195,14 +196,9 @@ module _ (s : Schema) (verb : Verb) where
 
 -- ---- children of cells
 
-pub child-none : (p i : ℕ) → child (resized p none) i ≡ null
-child-none zero i = refl
-child-none (suc p) zero = refl
-child-none (suc p) (suc i) = child-none p i
-
 pub reads-nothing : (s : Schema) (p i : ℕ) (ty : Ty) → null_pointer ≡ read s (child (resized p none) i) ty
 unfolding read
-reads-nothing s p i ty = ap (λ t. read s t ty) (sym (child-none p i))
+reads-nothing s p i ty = ap (λ t. read s t ty) (sym (no_child p i))
 
 pub reads-padded : (s : Schema) (p : ℕ) (ts : Trees) (i : ℕ) (ty : Ty) → read_child s ts i ty ≡ read s (child (padded_to p ts) i) ty
 reads-padded s p ts i ty = sym (read_child-padded_to s p ts i ty) ∙ read_child-is s (padded_to p ts) i ty

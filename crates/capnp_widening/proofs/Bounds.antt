@@ -28,10 +28,6 @@ pub both_ok : {X E P Q R : Type 0} → (P → Q → R) → (r : Result X E) → 
 both_ok f (Ok x) h k = f h k
 both_ok f (Err e) h k = tt
 
-pub on_ok : {X E P Q : Type 0} → (P → Q) → (r : Result X E) → OnOk r P → OnOk r Q
-on_ok f (Ok x) h = f h
-on_ok f (Err e) h = tt
-
 pub on_err : {X E P Q : Type 0} → (P → Q) → (r : Result X E) → OnErr r P → OnErr r Q
 on_err f (Ok x) h = tt
 on_err f (Err e) h = f h

@@ -7,9 +7,9 @@ use Rattle.capnp_model.specs.Coverage.{span, times_held}
 use Rattle.capnp_model.proofs.lemmas.Locality.{word_was}
 use Rattle.capnp_footprints.specs.Writes.{with_words}
 use Rattle.capnp_footprints.proofs.lemmas.Spans.{held, held_is, held_split, words_front, words_back}
-use Rattle.capnp_footprints.proofs.lemmas.Kept.{words_length}
 use Rattle.capnp_footprints.proofs.lemmas.Splices.{Rewrites, splice_rewrites}
 use Rattle.capnp_footprints.proofs.lemmas.Writing.{rewrites_keep, held_part}
+use Rattle.capnp_model.proofs.lemmas.ReadFits.{words_length}
 use Rattle.capnp_widening.specs.Moves.{CopiesWords}
 use Rattle.capnp_widening.proofs.lemmas.Standing.{written_then, written_none}
 

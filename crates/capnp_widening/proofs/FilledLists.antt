@@ -19,9 +19,10 @@ use Rattle.capnp_footprints.specs.NewObjects.{zero_elements}
 use Rattle.capnp_footprints.proofs.lemmas.Cells.{element_parts}
 use Rattle.capnp_footprints.proofs.lemmas.Detached.{detached_owns}
 use Rattle.capnp_footprints.proofs.lemmas.Lift.{object_of_pointer}
-use Rattle.capnp_footprints.proofs.lemmas.MovedElements.{zero_count, wider_count}
 use Rattle.capnp_footprints.proofs.lemmas.Turns.{each_counted, resized_padded, elements_done}
 use Rattle.capnp_copy.specs.declared.init.ListPlace.{ListPlace}
+use Rattle.capnp_footprints.proofs.lemmas.NewKinds.{zero_counted}
+use Rattle.capnp_model.proofs.lemmas.TrimFits.{count-with_pointers}
 use Rattle.capnp_widening.specs.Moves.{pads_of}
 use Rattle.capnp_widening.specs.MovedElements.{least_words, least_pointers, IsOfList, zeros_at, FillsElements, as_structs}
 use Rattle.capnp_widening.proofs.MovedRows.{none_left}
@@ -84,9 +85,9 @@ fills_structs s u old new pads e7 n7 many lw lp all = λ n q z p t spare is e h.
     let y = all n q z p es spare count e' h4 in
     let old_tree : Tree = struct_list old.data_words old.pointers (with_first_elements old.count (childless old.pointers shape.2) shape.2) in
     let y1 = none_left n z u p old_tree (struct_list d k (with_first_elements c (with_pointers k es) (zero_elements c k))) pads (old.count * old.pointers) spare (a_list (place_view new.start) 7 new.claimed) y.0 in
-    let zeros : element_count (zero_elements old.count new.pointers) ≡ old.count = zero_count old.count new.pointers in
+    let zeros : element_count (zero_elements old.count new.pointers) ≡ old.count = zero_counted old.count new.pointers in
     let done : with_first_elements old.count (with_pointers new.pointers shape.2) (zero_elements old.count new.pointers) ≡ with_pointers new.pointers shape.2 =
-    ap (λ (x : ℕ). with_first_elements x (with_pointers new.pointers shape.2) (zero_elements old.count new.pointers)) (sym zeros) ∙ elements_done (with_pointers new.pointers shape.2) (zero_elements old.count new.pointers) (wider_count new.pointers shape.2 ∙ count ∙ sym zeros) in
+    ap (λ (x : ℕ). with_first_elements x (with_pointers new.pointers shape.2) (zero_elements old.count new.pointers)) (sym zeros) ∙ elements_done (with_pointers new.pointers shape.2) (zero_elements old.count new.pointers) (count-with_pointers new.pointers shape.2 ∙ count ∙ sym zeros) in
     let own' : OwnsObject n s (a_list (place_view old.start) 7 old.claimed) (struct_list old.data_words old.pointers shape.2) = subst (OwnsObject n s (a_list (place_view old.start) 7 old.claimed)) tree own in
     let padded = elements_padded n s a old.claimed d0 k0 k es lk own' in
     let most_words : new.data_words ≡ max new.data_words old.data_words = omega (arith, ld) in

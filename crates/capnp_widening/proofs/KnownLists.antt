@@ -11,7 +11,7 @@ use Rattle.capnp_model.specs.Trees.{Tree, plain_list, size_bits}
 use Rattle.capnp_model.specs.Coverage.{Grows}
 use Rattle.capnp_model.specs.Fits.{Fits}
 use Rattle.capnp_model.proofs.lemmas.Chaining.{bind_ok, ok_is, ok_or_some, guard_ok}
-use Rattle.capnp_model.proofs.lemmas.ReadFits.{tree_at_fits}
+use Rattle.capnp_model.proofs.lemmas.ReadFits.{tree_at_fits, words_length}
 use Rattle.capnp_object.specs.declared.object.Object.{Object}
 use Rattle.capnp_object.specs.declared.object.Object.TheVariants as object
 use Rattle.capnp_object.specs.declared.place.Place as code
@@ -23,7 +23,7 @@ use Rattle.capnp_units.specs.Sizes.{size_number}
 use Rattle.capnp_wire.specs.Places.{place_view, placed}
 use Rattle.capnp_wire.specs.Reads.{list_head}
 use Rattle.capnp_footprints.specs.Footprints.{OwnsObject}
-use Rattle.capnp_footprints.proofs.lemmas.Kept.{tag_fits, words_length}
+use Rattle.capnp_footprints.proofs.lemmas.Kept.{tag_fits}
 use Rattle.capnp_footprints.proofs.lemmas.Spans.{words_back}
 use Rattle.capnp_footprints.proofs.lemmas.Turns.{list_shape}
 use Rattle.capnp_footprints.proofs.lemmas.Turns as turns
@@ -32,7 +32,9 @@ use Rattle.capnp_copy.specs.Allocations.{total_words}
 use Rattle.capnp_copy.specs.Elements.{HasElements}
 use Rattle.capnp_copy.specs.Lists.{list_at}
 use Rattle.capnp_copy.specs.Values.{LeadsTo}
-use Rattle.capnp_copy.proofs.lemmas.ElementLaws.{is_plain}
+use Rattle.capnp_copy.proofs.lemmas.RoomLaws.{still_some}
+use Rattle.capnp_copy.proofs.lemmas.Parts.{section_there}
+use Rattle.capnp_model.proofs.lemmas.PointerWords.{list_kind_small}
 use Rattle.capnp_widening.specs.Got.{list_in}
 use Rattle.capnp_widening.specs.MovedElements.{IsOfList, HasList, HasStructs, least_words, least_pointers}
 use Rattle.capnp_widening.specs.WidenedLists.{list_there, IsWideList}
@@ -40,7 +42,7 @@ use Rattle.capnp_widening.proofs.SpreadPointers.{one_pointer}
 use Rattle.capnp_widening.proofs.lemmas.CopiedNumbers.{plain_shape}
 use Rattle.capnp_widening.proofs.lemmas.GotStructs.{same_object}
 use Rattle.capnp_widening.proofs.lemmas.ObjectsThere.{named_at}
-use Rattle.capnp_widening.proofs.lemmas.Standing.{part_there, still_some, within_total}
+use Rattle.capnp_widening.proofs.lemmas.Standing.{within_total}
 
 -- what is known of each kind
 pub data Known (s : Segments) (o : ListPlace) : Type 0 where
@@ -81,7 +83,7 @@ short s p a pads size n ws e k there =
 
 known_plain : (s : Segments) (slot : code.Place) (o : ListPlace) (f : Object) → size_number o.size < 6 → LeadsTo s (place_view slot) (list_at o) → whole s (list_at o) ≡ Ok f → list_in slot InlineComposite f ≡ Ok o → Known s o
 known_plain s slot o f l leads e is =
-    let kind = is_plain (size_number o.size) l in
+    let kind = list_kind_small (size_number o.size) l in
     let x = bind_ok (ok_or (words_at s (place_view o.start) (list_words (list_kind (size_number o.size)) (size_number o.size) o.claimed)) OutOfBounds) _ f e in
     let words = ok_or_some _ _ _ x.1 in
     let there : words_at s (place_view o.start) (words_for (size_bits (size_number o.size) * o.claimed)) ≡ Some x.0 = subst (λ (kd : ListKind). words_at s (place_view o.start) (list_words kd (size_number o.size) o.claimed) ≡ Some x.0) kind words in
@@ -91,7 +93,7 @@ known_plain s slot o f l leads e is =
     let z = from_plain slot (placed (place_view o.start)) (plain_size (size_number o.size)) o.claimed o in_list in
     let few = short s (place_view slot) (place_view o.start) leads.0 (size_number o.size) o.claimed x.0 leads.1 kind there in
     plain_known l (sym z.1) (omega (arith, few, z.1)) (let all : is_some (words_at s (place_view o.start) (words_for (size_bits (size_number o.size) * o.claimed))) ≡ true = ap is_some there in
-    subst (λ (r : Place). is_some (words_at s r 0) ≡ true) (after_zero (place_view o.start)) (part_there s (place_view o.start) 0 0 (words_for (size_bits (size_number o.size) * o.claimed)) (omega arith) all))
+    subst (λ (r : Place). is_some (words_at s r 0) ≡ true) (after_zero (place_view o.start)) (section_there s (place_view o.start) 0 0 (words_for (size_bits (size_number o.size) * o.claimed)) (omega arith) all))
   where
     after_zero : (p : Place) → after p 0 ≡ p
     after_zero p = let e : p.position + 0 ≡ p.position = omega arith in ap (place p.segment) e
@@ -141,7 +143,7 @@ known s slot o e leads =
 
 pub known_trees : (s : Segments) (o : ListPlace) → Known s o → (n : ℕ) (t : Tree) → OwnsObject n s (list_at o) t → IsOfList o t
 known_trees s o (plain_known l claims few there) n t own =
-    let x = plain_shape n s (place_view o.start) (size_number o.size) o.claimed t (is_plain (size_number o.size) l) own in
+    let x = plain_shape n s (place_view o.start) (size_number o.size) o.claimed t (list_kind_small (size_number o.size) l) own in
     subst (IsOfList o) (sym x.1) tt
 known_trees s o (pointers_known size claims there) n t own =
     let six : size_number o.size ≡ 6 = ap size_number size in
@@ -178,7 +180,7 @@ known_list s x o (structs_known size ws there tag) g small =
     let long : length (drop 1 ws) ≡ o.claimed = words_length s (after (place_view o.start) 1) o.claimed (drop 1 ws) (words_back s (place_view o.start) 1 o.claimed ws there) in
     let fits = tag_fits ws (record { count = o.count; data_words = o.data_words; pointers = o.pointers }) tag in
     let all : is_some (words_at s (place_view o.start) (1 + o.claimed)) ≡ true = ap is_some there in
-    let part = part_there s (place_view o.start) 1 (o.count * (o.data_words + o.pointers)) (1 + o.claimed) (omega (arith, fits, long)) all in
+    let part = section_there s (place_view o.start) 1 (o.count * (o.data_words + o.pointers)) (1 + o.claimed) (omega (arith, fits, long)) all in
     let here = still_some s x (after (place_view o.start) 1) (o.count * (o.data_words + o.pointers)) g part in
     let within = within_total x (after (place_view o.start) 1) (o.count * (o.data_words + o.pointers)) here in
     let seven : size_number o.size ≡ 7 = ap size_number size in

@@ -18,7 +18,7 @@ use Rattle.capnp_footprints.specs.Writes.{with_words}
 use Rattle.capnp_footprints.proofs.lemmas.Cells.{list_of_element, element_parts, parts_fit, list_is, element_le}
 use Rattle.capnp_footprints.proofs.lemmas.Detached.{detached_owns, detached_object, detached_split}
 use Rattle.capnp_footprints.proofs.lemmas.Lift.{slot_is, object_of_pointer, struct_is}
-use Rattle.capnp_footprints.proofs.lemmas.MovedElements.{zero_count, element_same, struct_filled, old_element, new_element, moved_source, moved_target}
+use Rattle.capnp_footprints.proofs.lemmas.MovedElements.{element_same, struct_filled, old_element, new_element, moved_source, moved_target}
 use Rattle.capnp_footprints.proofs.lemmas.PointerRows.{element_row}
 use Rattle.capnp_footprints.proofs.lemmas.Rows.{after_sum}
 use Rattle.capnp_footprints.proofs.lemmas.Spans.{held, held_is}
@@ -27,9 +27,11 @@ use Rattle.capnp_footprints.proofs.lemmas.Turns.{struct_shape, elements_here, el
 use Rattle.capnp_footprints.proofs.lemmas.Writing.{held_part}
 use Rattle.capnp_copy.specs.declared.fields.StructPlace.{StructPlace}
 use Rattle.capnp_copy.specs.declared.init.ListPlace.{ListPlace}
+use Rattle.capnp_footprints.proofs.lemmas.NewKinds.{zero_counted}
+use Rattle.capnp_copy.proofs.lemmas.RoomLaws.{still_some, sizes_grow}
+use Rattle.capnp_copy.proofs.lemmas.Parts.{section_there}
 use Rattle.capnp_widening.specs.Moves.{CopiesWords, MovesRow, pads_of, pad_from, HasPads}
 use Rattle.capnp_widening.specs.MovedElements.{struct_begin, MovesElement}
-use Rattle.capnp_widening.proofs.lemmas.Standing.{still_some, sizes_grow, part_there}
 use Rattle.capnp_widening.proofs.MovedRows.{pads_left, all_left_first}
 use Rattle.capnp_widening.proofs.WiderRooms.{found_beside}
 
@@ -94,7 +96,7 @@ module _ (n : ℕ) (z u x w : Segments) (p a b : Place) (q m0 d0 k0 m d k count 
   few_here = omega (arith, few, elements_counted j (childless k0 es) es)
 
   few_there : j < element_count (with_first_elements j (with_pointers k es) (zero_elements count k))
-  few_there = omega (arith, l, elements_counted j (with_pointers k es) (zero_elements count k), zero_count count k)
+  few_there = omega (arith, l, elements_counted j (with_pointers k es) (zero_elements count k), zero_counted count k)
 
   own : OwnsObject n u (a_list a 7 m0) (struct_list d0 k0 (with_first_elements j (childless k0 es) es))
   own = object_of_pointer n u p (record { pads = q; object = a_list a 7 m0 }) _ e (detached_owns n z u p _ _ (pads ++ spare) (a_list b 7 m) h).0
@@ -141,13 +143,13 @@ next_fits d k (suc i) (suc count) l = let x = next_fits d k i count (omega (arit
 
 pub struct_there : (s u : Segments) (p : Place) (d k count i : ℕ) → i < count → map length u ≡ map length s → is_some (words_at s (after p 1) (count * (d + k))) ≡ true → is_some (words_at u (after (after p 1) (i * (d + k))) (d + k)) ≡ true
 struct_there s u p d k count i l sizes e =
-    still_some s u (after (after p 1) (i * (d + k))) (d + k) (sizes_grow s u sizes) (part_there s (after p 1) (i * (d + k)) (d + k) (count * (d + k)) (next_fits d k i count l) e)
+    still_some s u (after (after p 1) (i * (d + k))) (d + k) (sizes_grow s u sizes) (section_there s (after p 1) (i * (d + k)) (d + k) (count * (d + k)) (next_fits d k i count l) e)
 
 pub some_pads : (s : Segments) (pads : Option code.Place) (count k i : ℕ) → i < count → HasPads s pads (count * k) → HasPads s (pad_from pads (i * k)) k
 some_pads s None count k i l h = tt
 some_pads s (Some p) count k i l h =
     let fits = next_fits 0 k i count l in
-    (part_there s (place_view p) (2 * (i * k)) (2 * k) (2 * (count * k)) (omega (arith, fits)) h.0, (let n = h.1 in omega (arith, fits, n)))
+    (section_there s (place_view p) (2 * (i * k)) (2 * k) (2 * (count * k)) (omega (arith, fits)) h.0, (let n = h.1 in omega (arith, fits, n)))
 
 pub elements_next : (s u w : Segments) (old new : ListPlace) (from to : StructPlace) (pads pad : Option code.Place) (j : ℕ) → j < old.count → old.data_words ≤ new.data_words → old.pointers ≤ new.pointers
     → place_view from.start ≡ struct_begin old j → from.data_words ≡ old.data_words → from.pointers ≡ old.pointers → place_view to.start ≡ struct_begin new j → to.data_words ≡ new.data_words → pad ≡ pad_from pads (j * old.pointers)

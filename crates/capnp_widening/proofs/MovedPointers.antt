@@ -29,6 +29,7 @@ use Rattle.capnp_footprints.proofs.lemmas.SpareMoves.{moves_unused, empty_moved}
 use Rattle.capnp_footprints.proofs.lemmas.Zeros.{null_read}
 use Rattle.capnp_footprints.proofs.lemmas.Spans.{words_front}
 use Rattle.capnp_copy.specs.Allocations.{total_words}
+use Rattle.capnp_copy.proofs.lemmas.Making.{at_offset}
 use Rattle.capnp_widening.specs.Moves.{MovesValue, pads_of, HasPads, IsReached, AreNamed, offset_to, pointed_at, start_of}
 use Rattle.capnp_widening.proofs.lemmas.Standing.{within_total}
 
@@ -119,13 +120,6 @@ base_word o (new_structs count d k) l f = list_base (count * (d + k))
   where
     list_base : (m : ℕ) → (1 + 4 * o + 2 ^ 32 * 7 + 2 ^ 35 * m) % 4 + (1 + 4 * o + 2 ^ 32 * 7 + 2 ^ 35 * m) / 2 ^ 32 * 2 ^ 32 ≡ 1 + 4 * 0 + 2 ^ 32 * 7 + 2 ^ 35 * m
     list_base m = omega (arith, l)
-
-pub at_offset : (o : ℕ) (x : New) → new_pointer 0 x + 4 * o ≡ new_pointer o x
-at_offset o (new_struct d k) = omega arith
-at_offset o (new_list size count) = omega arith
-at_offset o (filled_list size count ws) = omega arith
-at_offset o (new_pointers count) = omega arith
-at_offset o (new_structs count d k) = omega arith
 
 empty_is : (x : New) (r : Place) → new_pointer 0 x ≡ 0 → new_object r x ≡ a_struct r 0 0
 empty_is (new_struct d k) r e =

@@ -18,9 +18,11 @@ use Rattle.capnp_footprints.proofs.lemmas.Lift.{object_of_pointer}
 use Rattle.capnp_footprints.proofs.lemmas.PointerRows.{row_movable, row_moved}
 use Rattle.capnp_footprints.proofs.lemmas.Rows.{after_sum}
 use Rattle.capnp_footprints.proofs.lemmas.SpareMoves.{detached_swapped}
-use Rattle.capnp_footprints.proofs.lemmas.Turns.{first_here, first_next, first_all, first_wider, resized_count}
+use Rattle.capnp_footprints.proofs.lemmas.Turns.{first_here, first_next, first_all, first_wider}
+use Rattle.capnp_model.proofs.lemmas.TrimmedKinds.{no_child}
+use Rattle.capnp_copy.proofs.lemmas.Parts.{section_there}
+use Rattle.capnp_model.proofs.lemmas.Stripping.{count-resized}
 use Rattle.capnp_widening.specs.Moves.{pads_of, pad_from, HasPads, IsReached, IsNearPad, MovesValue, MovesRow}
-use Rattle.capnp_widening.proofs.lemmas.Standing.{part_there}
 
 -- ---- the pads that are left
 
@@ -53,11 +55,6 @@ none_left n z u p t v None k spare o h = h
 none_left n z u p t v (Some q) k spare o h = detached_fewer n z u p t v spare (span (after (place_view q) (2 * k)) (2 * (k - k))) o h
 
 -- ---- the row
-
-pub child_nulls : (m i : ℕ) → child (resized m none) i ≡ null
-child_nulls zero i = refl
-child_nulls (suc m) zero = refl
-child_nulls (suc m) (suc i) = child_nulls m i
 
 -- a value that is read has a word that leads somewhere
 pub record Led (s : Segments) (p : Place) : Type 0 where
@@ -100,12 +97,12 @@ row_next s u w a b k pads i li before moves = λ n m z p f o v v' kids spare l r
     let inner = object_of_pointer n u p f (v (with_first i none kids)) x.1 (detached_owns n z u p (v (with_first i none kids)) (v' (with_first i kids (resized m none))) (pads_left pads k i ++ spare) o x.0).0 in
     let mine = row.owned u (with_first i none kids) i li inner in
     let there = led n u (after a i) (child (with_first i none kids) i) mine.means in
-    let empty : child (with_first i kids (resized m none)) i ≡ null = first_here i kids (resized m none) ∙ child_nulls m i in
+    let empty : child (with_first i kids (resized m none)) i ≡ null = first_here i kids (resized m none) ∙ no_child m i in
     let movable = row_movable n z u p a b k m i i there.word v v' (with_first i none kids) (with_first i kids (resized m none)) (pads_of (pad_from pads i) 1) (pads_left pads k (suc i) ++ spare) f there.found o li (omega (arith, li, l)) row row' x.1 d there.there there.leads empty in
     let moved = moves n there.word there.found (child (with_first i none kids) i) movable in
     let y = row_moved n z u w p a b k m i i v v' (with_first i none kids) (with_first i kids (resized m none)) (child (with_first i none kids) i) (pads_of (pad_from pads i) 1) (pads_left pads k (suc i) ++ spare) f o li (omega (arith, li, l)) row row' x.1 d moved in
     let source : with_child (with_first i none kids) i null ≡ with_first (suc i) none kids = first_next i none kids (omega (arith, li, count)) in
-    let target : with_child (with_first i kids (resized m none)) i (child (with_first i none kids) i) ≡ with_first (suc i) kids (resized m none) = ap (with_child (with_first i kids (resized m none)) i) (first_here i none kids) ∙ first_next i kids (resized m none) (omega (arith, li, l, resized_count m none)) in
+    let target : with_child (with_first i kids (resized m none)) i (child (with_first i none kids) i) ≡ with_first (suc i) kids (resized m none) = ap (with_child (with_first i kids (resized m none)) i) (first_here i none kids) ∙ first_next i kids (resized m none) (omega (arith, li, l, count-resized m none)) in
     let now = subst (λ (ts : Trees). Detached n z w p (v ts) (pads_left pads k (suc i) ++ spare) o (v' (with_child (with_first i kids (resized m none)) i (child (with_first i none kids) i)))) source y.0 in
     (subst (λ (ts : Trees). Detached n z w p (v (with_first (suc i) none kids)) (pads_left pads k (suc i) ++ spare) o (v' ts)) target now, y.1)
     )
@@ -127,7 +124,7 @@ row_all s u a b k pads before = λ n m z p f o v v' kids spare l row row' e h. (
 
 pub one_pad : (s : Segments) (pads : Option code.Place) (k i : ℕ) → i < k → HasPads s pads k → HasPads s (pad_from pads i) 1
 one_pad s None k i l h = tt
-one_pad s (Some p) k i l h = (part_there s (place_view p) (2 * i) 2 (2 * k) (omega (arith, l)) h.0, (let n = h.1 in omega (arith, l, n)))
+one_pad s (Some p) k i l h = (section_there s (place_view p) (2 * i) 2 (2 * k) (omega (arith, l)) h.0, (let n = h.1 in omega (arith, l, n)))
 
 pub near_pad : (s : Segments) (pads : Option code.Place) (k i : ℕ) → i < k → HasPads s pads k → IsNearPad pads i
 near_pad s None k i l h = tt

@@ -16,14 +16,16 @@ use Rattle.capnp_footprints.specs.Footprints.{OwnsObject}
 use Rattle.capnp_footprints.specs.NewObjects.{zero_elements}
 use Rattle.capnp_footprints.proofs.lemmas.Detached.{detached_owns}
 use Rattle.capnp_footprints.proofs.lemmas.Lift.{object_of_pointer}
-use Rattle.capnp_footprints.proofs.lemmas.MovedElements.{zero_count, zero_element, element_same}
+use Rattle.capnp_footprints.proofs.lemmas.MovedElements.{zero_element, element_same}
 use Rattle.capnp_footprints.proofs.lemmas.PointerRows.{list_row, element_row, row_movable, row_moved}
 use Rattle.capnp_footprints.proofs.lemmas.Rows.{after_none}
 use Rattle.capnp_footprints.proofs.lemmas.Turns.{first_here, first_next, resized_padded, list_shape, list_counted, elements_here, elements_next, elements_counted, elements_done}
 use Rattle.capnp_copy.specs.declared.init.ListPlace.{ListPlace}
+use Rattle.capnp_model.proofs.lemmas.TrimmedKinds.{no_child}
+use Rattle.capnp_footprints.proofs.lemmas.NewKinds.{zero_counted}
 use Rattle.capnp_widening.specs.Moves.{MovesValue, pads_of, pad_from}
 use Rattle.capnp_widening.specs.MovedElements.{least_pointers, zeros_at, FillsElements, as_structs}
-use Rattle.capnp_widening.proofs.MovedRows.{pads_left, all_left_first, none_left, child_nulls, led}
+use Rattle.capnp_widening.proofs.MovedRows.{pads_left, all_left_first, none_left, led}
 use Rattle.capnp_widening.proofs.MovedLists.{some_taken}
 
 -- ---- trees
@@ -52,7 +54,7 @@ module _ (n : ℕ) (z u w : Segments) (p a b : Place) (q m d k count j : ℕ) (k
   few = omega (arith, l, counted)
 
   few_there : j < element_count (with_first_elements j (elements_of_pointers k kids) (zero_elements count k))
-  few_there = omega (arith, l, elements_counted j (elements_of_pointers k kids) (zero_elements count k), zero_count count k)
+  few_there = omega (arith, l, elements_counted j (elements_of_pointers k kids) (zero_elements count k), zero_counted count k)
 
   pub pointer_moved : Detached n z w p (pointer_list (with_first (suc j) none kids)) spare (a_list b 7 m) (struct_list d k (with_first_elements (suc j) (elements_of_pointers k kids) (zero_elements count k))) × (found_at w p ≡ Ok (record { pads = q; object = a_list a 6 count }))
   pointer_moved =
@@ -65,14 +67,14 @@ module _ (n : ℕ) (z u w : Segments) (p a b : Place) (q m d k count j : ℕ) (k
       let here : element_at d (with_first_elements j (elements_of_pointers k kids) (zero_elements count k)) j ≡ structure d 0 (resized k none) = elements_here d j (elements_of_pointers k kids) (zero_elements count k) ∙ zero_element d k count j l in
       let same = element_same d j 0 (resized k none) targets few_there here in
       let h1 = subst (λ (fs : Elements). Detached n z u p (pointer_list (with_first j none kids)) (pads ++ spare) (a_list b 7 m) (struct_list d k fs)) (sym same) h in
-      let movable = row_movable n z u p a (after (after (after b 1) (j * (d + k))) d) count k j 0 there.word (λ ks. pointer_list ks) (λ ks. struct_list d k (with_element targets j 0 ks)) (with_first j none kids) (resized k none) pads spare (record { pads = q; object = a_list a 6 count }) there.found (a_list b 7 m) l (omega (arith, lk)) row row' e h1 there.there there.leads (child_nulls k 0) in
+      let movable = row_movable n z u p a (after (after (after b 1) (j * (d + k))) d) count k j 0 there.word (λ ks. pointer_list ks) (λ ks. struct_list d k (with_element targets j 0 ks)) (with_first j none kids) (resized k none) pads spare (record { pads = q; object = a_list a 6 count }) there.found (a_list b 7 m) l (omega (arith, lk)) row row' e h1 there.there there.leads (no_child k 0) in
       let at : MovesValue u w (after a j) (after (after (after (after b 1) (j * (d + k))) d) 0) pads = subst (λ (r : Place). MovesValue u w (after a j) r pads) (sym (after_none (after (after (after b 1) (j * (d + k))) d))) moves in
       let moved = at n there.word there.found (child (with_first j none kids) j) movable in
       let y = row_moved n z u w p a (after (after (after b 1) (j * (d + k))) d) count k j 0 (λ ks. pointer_list ks) (λ ks. struct_list d k (with_element targets j 0 ks)) (with_first j none kids) (resized k none) (child (with_first j none kids) j) pads spare (record { pads = q; object = a_list a 6 count }) (a_list b 7 m) l (omega (arith, lk)) row row' e h1 moved in
       let source : with_child (with_first j none kids) j null ≡ with_first (suc j) none kids = first_next j none kids few in
       let kids_are : with_child (resized k none) 0 (child (with_first j none kids) j) ≡ padded_to k (child kids j ▸ none) = ap (with_child (resized k none) 0) (first_here j none kids) ∙ first_child k (child kids j) lk in
       let target : with_element targets j 0 (with_child (resized k none) 0 (child (with_first j none kids) j)) ≡ with_first_elements (suc j) (elements_of_pointers k kids) (zero_elements count k) =
-      ap (with_element targets j 0) kids_are ∙ elements_next d j 0 (padded_to k (child kids j ▸ none)) (elements_of_pointers k kids) (zero_elements count k) (omega (arith, few, pointers_count k kids)) (omega (arith, l, zero_count count k)) (pointers_at d k j kids few) in
+      ap (with_element targets j 0) kids_are ∙ elements_next d j 0 (padded_to k (child kids j ▸ none)) (elements_of_pointers k kids) (zero_elements count k) (omega (arith, few, pointers_count k kids)) (omega (arith, l, zero_counted count k)) (pointers_at d k j kids few) in
       let y1 = subst (λ (ks : Trees). Detached n z w p (pointer_list ks) spare (a_list b 7 m) (struct_list d k (with_element targets j 0 (with_child (resized k none) 0 (child (with_first j none kids) j))))) source y.0 in
       (subst (λ (fs : Elements). Detached n z w p (pointer_list (with_first (suc j) none kids)) spare (a_list b 7 m) (struct_list d k fs)) target y1, y.1)
 
@@ -125,7 +127,7 @@ fills_pointers s u old new pads e6 claims n7 many lp all = λ n q z p t spare is
     let h4 = subst (λ (v : Tree). Detached n z s p v (pads_of pads old.count ++ spare) (a_list (place_view new.start) 7 new.claimed) (struct_list new.data_words new.pointers (zero_elements old.count new.pointers))) shape.1 h3 in
     let y = all n q z p shape.0 spare count e' h4 in
     let y1 = none_left n z u p (pointer_list (with_first c none shape.0)) (struct_list d k (with_first_elements c (elements_of_pointers k shape.0) (zero_elements c k))) pads old.count spare (a_list (place_view new.start) 7 new.claimed) y.0 in
-    let zeros : element_count (zero_elements old.count new.pointers) ≡ old.count = zero_count old.count new.pointers in
+    let zeros : element_count (zero_elements old.count new.pointers) ≡ old.count = zero_counted old.count new.pointers in
     let done : with_first_elements old.count (elements_of_pointers new.pointers shape.0) (zero_elements old.count new.pointers) ≡ elements_of_pointers new.pointers shape.0 =
     ap (λ (x : ℕ). with_first_elements x (elements_of_pointers new.pointers shape.0) (zero_elements old.count new.pointers)) (sym zeros) ∙ elements_done (elements_of_pointers new.pointers shape.0) (zero_elements old.count new.pointers) (pointers_count new.pointers shape.0 ∙ count ∙ sym zeros) in
     let most : new.pointers ≡ max new.pointers 1 = omega (arith, lk) in

@@ -29,7 +29,7 @@ use Rattle.capnp_footprints.proofs.lemmas.Zeros.{null_read}
 use Rattle.capnp_copy.specs.declared.init.ListPlace.{ListPlace}
 use Rattle.capnp_copy.specs.Lists.{list_at}
 use Rattle.capnp_copy.specs.Values.{LeadsTo}
-use Rattle.capnp_copy.proofs.lemmas.ElementLaws.{is_plain}
+use Rattle.capnp_model.proofs.lemmas.PointerWords.{list_kind_small}
 use Rattle.capnp_widening.specs.MovedElements.{least_words, least_pointers, IsOfList, as_structs}
 use Rattle.capnp_widening.specs.Widened.{GrowthRefused, TakesNear}
 use Rattle.capnp_widening.specs.WidenedLists.{list_there, IsWideList, WidensList, words_wanted, HasWideList, StructsGot, ListTakes, ListRefused}
@@ -125,7 +125,7 @@ most_pointers k j (t ▸ ts) e = ap (λ (us : Trees). element 0 us (elements_of_
 
 same_structs : (n : ℕ) (s : Segments) (old : ListPlace) (t : Tree) (d k d' k' : ℕ) → Known s old → OwnsObject n s (list_at old) t → d' ≡ max d (least_words old) → k' ≡ max k (least_pointers old) → as_structs d' k' t ≡ as_structs d k t
 same_structs n s old t d k d' k' (plain_known l claims few there) o ed ek =
-    let x = plain_shape n s (place_view old.start) (size_number old.size) old.claimed t (is_plain (size_number old.size) l) o in
+    let x = plain_shape n s (place_view old.start) (size_number old.size) old.claimed t (list_kind_small (size_number old.size) l) o in
     let words = plain_least (size_number old.size) old.data_words l in
     let pointers = plain_pointers (size_number old.size) old.pointers l in
     let ew : max d' (edit.least_words (size_number old.size)) ≡ max d (edit.least_words (size_number old.size)) = omega (arith, ed, words) in

@@ -15,7 +15,6 @@ use Rattle.capnp_footprints.specs.Detached.{Detached}
 use Rattle.capnp_footprints.specs.NewObjects.{new_struct, new_pointer, Fits}
 use Rattle.capnp_footprints.specs.Writes.{spliced, with_words}
 use Rattle.capnp_footprints.proofs.lemmas.Detached.{detached_owns, detached_zeros, detached_object, detached_value}
-use Rattle.capnp_footprints.proofs.lemmas.Kept.{words_length}
 use Rattle.capnp_footprints.proofs.lemmas.Levels.{owned_more}
 use Rattle.capnp_footprints.proofs.lemmas.Lift.{slot_is, object_of_pointer, struct_is, struct_parts}
 use Rattle.capnp_footprints.proofs.lemmas.PointerRows.{struct_row}
@@ -26,6 +25,7 @@ use Rattle.capnp_footprints.proofs.lemmas.Writing.{struct_words, held_part}
 use Rattle.capnp_copy.specs.Clearing.{ClearsValue}
 use Rattle.capnp_copy.specs.Rooms.{begin_of, linked}
 use Rattle.capnp_copy.specs.declared.room.Room.{Room}
+use Rattle.capnp_model.proofs.lemmas.ReadFits.{words_length}
 use Rattle.capnp_widening.specs.Moves.{CopiesWords, MovesRow, pads_of}
 use Rattle.capnp_widening.specs.Widened.{WiderRoom, Widens}
 use Rattle.capnp_widening.proofs.WiderRooms.{pad_spare, room_spare, wider_extends, found_grown, found_beside, linked_value}

@@ -29,10 +29,14 @@ use Rattle.capnp_copy.specs.Rooms.{RoomFor, IsAddressed, HasPad, begin_of, linke
 use Rattle.capnp_copy.specs.Values.{LeadsTo}
 use Rattle.capnp_copy.specs.declared.room.Room.{Room}
 use Rattle.capnp_copy.specs.declared.room.Room.TheVariants.{Here, Near, Far}
+use Rattle.capnp_copy.proofs.lemmas.Making.{at_offset}
+use Rattle.capnp_copy.proofs.lemmas.RoomLaws.{zeros_now}
+use Rattle.capnp_copy.proofs.lemmas.Taken.{longer_total}
+use Rattle.capnp_copy.proofs.lemmas.Parts.{section_there}
+use Rattle.capnp_copy.proofs.lemmas.Ends.{word_before_end, end_within}
 use Rattle.capnp_widening.specs.Moves.{pads_of, HasPads}
 use Rattle.capnp_widening.specs.Widened.{WiderRoom}
-use Rattle.capnp_widening.proofs.MovedPointers.{at_offset}
-use Rattle.capnp_widening.proofs.lemmas.Standing.{end_within, word_before_end, one_word, within_total, part_there}
+use Rattle.capnp_widening.proofs.lemmas.Standing.{one_word, within_total}
 
 -- the pad's own word
 pub pad_spare : Room → List Span
@@ -154,19 +158,6 @@ linked_leads s m z p segment words pads (Far q) pad x e there padded l r positiv
 
 -- ---- its words
 
-zeros_now : (s m : Segments) (i at k : ℕ) → Allocates s m i at k → words_at m (place i at) k ≡ Some (replicate k 0)
-zeros_now s m i at k a =
-    let x = zeros_extend s i k a.among in
-    let e : words_at (with_zeros s i k) (place i (segment_end s i)) k ≡ Some (replicate k 0) = x.zeros in
-    let f : words_at (with_zeros s i k) (place i at) k ≡ Some (replicate k 0) = ap (λ (j : ℕ). words_at (with_zeros s i k) (place i j) k) a.end ∙ e in
-    subst (λ (v : Segments). words_at v (place i at) k ≡ Some (replicate k 0)) (sym a.now) f
-
-longer_total : (s : Segments) (i k : ℕ) → total_words (with_zeros s i k) ≡ total_words s + k
-unfolding total_words with_zeros
-longer_total [] i k = omega (arith, length-replicate {A = ℕ} k 0)
-longer_total (xs ∷ s) zero k = omega (arith, length-replicate {A = ℕ} k 0, length-append xs (replicate k 0))
-longer_total (xs ∷ s) (suc i) k = omega (arith, longer_total s i k)
-
 few_now : (s m : Segments) (i at k : ℕ) → Allocates s m i at k → total_words m < 2 ^ 29
 few_now s m i at k a = let e = ap total_words a.now in omega (arith, e, longer_total s i k, a.few)
 
@@ -200,8 +191,8 @@ wider_words s m p segment words k room None l r =
 wider_words s m p segment words k room (Some q) l r =
     let x = room_words s m p (words + 2 * k) room (omega (arith, l)) r.0 in
     let all = within_total m (begin_of p room) (words + 2 * k) x.words in
-    let back = part_there m (begin_of p room) words (2 * k) (words + 2 * k) (omega arith) x.words in
-    let front = part_there m (begin_of p room) 0 words (words + 2 * k) (omega arith) x.words in
+    let back = section_there m (begin_of p room) words (2 * k) (words + 2 * k) (omega arith) x.words in
+    let front = section_there m (begin_of p room) 0 words (words + 2 * k) (omega arith) x.words in
     let none : after (begin_of p room) 0 ≡ begin_of p room = after_none (begin_of p room) in
     let at : q.position ≡ (begin_of p room).position + words = ap (λ (y : Place). y.position) r.1 in
     record {

@@ -9,6 +9,7 @@ use Rattle.capnp_model.specs.Readings.{field_bits, just_bits}
 use Rattle.capnp_units.specs.declared.sizes.ElementSize.{ElementSize}
 use Rattle.capnp_units.specs.declared.sizes.ElementSize.TheVariants.{Void, Bit, Byte, TwoBytes, FourBytes, EightBytes, Pointer, InlineComposite}
 use Rattle.capnp_units.specs.Sizes.{size_number}
+use Rattle.capnp_model.proofs.lemmas.WordBits.{low_bits}
 use Rattle.capnp_wire.specs.Elements.{step_bits, element_bits, step_words}
 use Rattle.capnp_wire.proofs.lemmas.Bytes.{number_of-drop, number_of-take}
 
@@ -59,9 +60,6 @@ pub element_inside : (x y step bits index count size : ℕ) → x ≡ step → y
 element_inside x y step bits index count size e f b h inside = rw (e, f) (element_fits step bits index count size b h inside)
 
 -- ---- bits below a bound
-
-low_bits : (s k m : ℕ) → k ≤ m → s % 2 ^ m % 2 ^ k ≡ s % 2 ^ k
-low_bits s k m h = let e : (m - k) + k ≡ m = omega arith in subst (λ (z : ℕ). s % 2 ^ z % 2 ^ k ≡ s % 2 ^ k) e (pow.mod-mod-pow s (m - k) k)
 
 pub bits_of_low : (s j width m : ℕ) → j + width ≤ m → bits_at j width (s % 2 ^ m) ≡ bits_at j width s
 bits_of_low s j width m h =

@@ -45,7 +45,7 @@ number_of-take w (suc n) (x ∷ xs) =
 
 -- ---- words
 
-word_is : (bytes : List ℕ) → 8 ≤ length bytes → AreBytes bytes → from_le_bytes w64 bytes ≡ number_of 8 bytes % 2 ^ 64
+pub word_is : (bytes : List ℕ) → 8 ≤ length bytes → AreBytes bytes → from_le_bytes w64 bytes ≡ number_of 8 bytes % 2 ^ 64
 word_is bytes long small =
     let one : number_of 8 bytes / 2 ^ 0 ≡ number_of 8 bytes = omega arith in
     first_eight bytes long (small 0) (small 1) (small 2) (small 3) (small 4) (small 5) (small 6) (small 7) ∙ ap (λ (m : ℕ). m % 2 ^ 64) one
@@ -62,7 +62,7 @@ words_are_bits (suc n) bytes long small =
     ap (λ (m : ℕ). m * 2 ^ 64 + from_le_bytes w64 bytes % 2 ^ 64) rest ∙ ap (λ (m : ℕ). (all / 2 ^ 64 % 2 ^ (64 * n)) * 2 ^ 64 + m) first
     ∙ sym (pow.mod-pow-add all (64 * n) 64) ∙ ap (λ (k : ℕ). all % 2 ^ k) sum
 
-words_in_bytes-take : (n m : ℕ) (bytes : List ℕ) → take n (words_in_bytes (n + m) bytes) ≡ words_in_bytes n bytes
+pub words_in_bytes-take : (n m : ℕ) (bytes : List ℕ) → take n (words_in_bytes (n + m) bytes) ≡ words_in_bytes n bytes
 words_in_bytes-take zero m bytes = refl
 words_in_bytes-take (suc n) m bytes =
     let next : suc n + m ≡ suc (n + m) = omega arith in

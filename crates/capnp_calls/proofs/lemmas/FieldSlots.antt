@@ -7,15 +7,13 @@ use Rattle.capnp_model.specs.Accepted.{default_tree, slot_body, field_body, is_d
 use Rattle.capnp_queries.specs.Structs.{nodes_around, schema_around, id_of, IsRecordOf}
 use Rattle.capnp_queries.specs.Handles.{entry_of, IsFieldRecord}
 use Rattle.capnp_queries.specs.declared.fields.Field.{Field}
+use Rattle.capnp_model.proofs.lemmas.Tests.{same_some}
 use Rattle.capnp_calls.specs.Finding.{default_in}
 use Rattle.capnp_calls.proofs.AcceptedSlots.{SoundField, sound_field}
 
-some_same : {A : Type 0} {x y : A} → ◌≡◌ {A = Option A} (Some x) (Some y) → x ≡ y
-some_same h = cc h
-
 -- the body that the node says
 pub body_is : (f : Field) (r : FieldNode) (b : Body) → IsFieldRecord f.parent f.index r → option_map (λ e. e.body) (entry_of f) ≡ Some b → field_body (schema_around f.parent).shape_of r.kind ≡ b
-body_is f r b rec h = some_same (sym (ap (option_map (λ e. e.body)) rec.entry) ∙ h)
+body_is f r b rec h = same_some (sym (ap (option_map (λ e. e.body)) rec.entry) ∙ h)
 
 -- what is known of a pointer slot
 pub record PointerKind (k : FieldKind) (t : Ty) : Type 0 where

@@ -5,7 +5,6 @@ use Rattle.std.proofs.lemmas.List.Folds.{list_any-append}
 use Rattle.std.specs.Prelude.{option_map}
 use Rattle.capnp_model.specs.Schemas.{slot, group, Field as FieldNode, StructNode, FieldKind, NodeKind, struct_node, enum_node, Node, Shape, shape, group_slot, Ty, void, plain, text, blob, untyped, interface, struct, list, type_of, Value}
 use Rattle.capnp_model.specs.Accepted.{fields_of_kind, groups_of_field, groups_used, slot_body, field_body, schema_of, sizes_of, IsAccepted}
-use Rattle.capnp_model.proofs.lemmas.KeptCells.{or_right}
 use Rattle.capnp_model.proofs.lemmas.ListElements.{HasRoom}
 use Rattle.capnp_model.proofs.lemmas.SoundSizes.{more_rules, group_room}
 use Rattle.capnp_queries.specs.Structs.{nodes_around, schema_around, id_of, shape_of_struct, IsRecordOf}
@@ -13,6 +12,7 @@ use Rattle.capnp_queries.specs.Handles.{entry_of, IsFieldRecord}
 use Rattle.capnp_queries.specs.declared.structs.StructSchema.{StructSchema}
 use Rattle.capnp_queries.specs.declared.fields.Field.{Field}
 use Rattle.capnp_queries.proofs.lemmas.Records.{struct_is}
+use Rattle.capnp_model.proofs.lemmas.Tests.{number_is, or_right}
 use Rattle.capnp_calls.specs.Slots.{words_in, pointers_in}
 use Rattle.capnp_calls.specs.Finding.{IsFieldGroup}
 use Rattle.capnp_calls.proofs.lemmas.FieldSlots.{body_is}
@@ -24,9 +24,6 @@ sizes_are (shape id w p u fs) words pointers h = h
 
 -- ---- fields
 
-equal : (n : ℕ) → (n == n) ≡ true
-equal n = grind arith
-
 -- the group of a field is used
 uses_group : (fs : List FieldNode) (i : ℕ) (r : FieldNode) (g : ℕ) → slice_get fs i ≡ Some r → r.kind ≡ group g → list_any (λ x. x == g) (flat_map (λ (f : FieldNode). groups_of_field f.kind) fs) ≡ true
 uses_group [] zero r g e k = absurd (cc e)
@@ -35,7 +32,7 @@ uses_group (f ∷ fs) zero r g e k =
     let same : f ≡ r = cc e in
     list_any-append (λ x. x == g) (groups_of_field f.kind) (flat_map (λ (f : FieldNode). groups_of_field f.kind) fs)
     ∙ ap (λ z. list_any (λ x. x == g) z || list_any (λ x. x == g) (flat_map (λ (f : FieldNode). groups_of_field f.kind) fs)) (ap (λ (x : FieldNode). groups_of_field x.kind) same ∙ ap groups_of_field k)
-    ∙ ap (λ b. (b || false) || list_any (λ x. x == g) (flat_map (λ (f : FieldNode). groups_of_field f.kind) fs)) (equal g)
+    ∙ ap (λ b. (b || false) || list_any (λ x. x == g) (flat_map (λ (f : FieldNode). groups_of_field f.kind) fs)) (number_is g)
 uses_group (f ∷ fs) (suc i) r g e k =
     list_any-append (λ x. x == g) (groups_of_field f.kind) (flat_map (λ (f : FieldNode). groups_of_field f.kind) fs)
     ∙ or_right (list_any (λ x. x == g) (groups_of_field f.kind)) (list_any (λ x. x == g) (flat_map (λ (f : FieldNode). groups_of_field f.kind) fs)) (uses_group fs i r g e k)

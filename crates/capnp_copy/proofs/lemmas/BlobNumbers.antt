@@ -95,7 +95,7 @@ filled (v ∷ vs) x (w ∷ ws) e = ap (λ (ys : List ℕ). v ∷ ys) (filled vs 
 
 -- ---- the last word's bytes
 
-number_behind : (xs ys : List ℕ) → number_of 8 ys ≡ 0 → number_of 8 (xs ++ ys) ≡ number_of 8 xs
+pub number_behind : (xs ys : List ℕ) → number_of 8 ys ≡ 0 → number_of 8 (xs ++ ys) ≡ number_of 8 xs
 number_behind [] ys z = z
 number_behind (x ∷ xs) ys z = ap (λ (n : ℕ). n * 2 ^ 8 + x % 2 ^ 8) (number_behind xs ys z)
 

@@ -10,28 +10,19 @@ use Rattle.capnp_model.specs.Trees.{plain_list, size_bits}
 use Rattle.capnp_model.specs.Traversal.{tree_of, tree_at, of_bits, list_kind}
 use Rattle.capnp_model.specs.Coverage.{span}
 use Rattle.capnp_model.proofs.lemmas.Bits.{bits_at-with_bits, above}
-use Rattle.capnp_model.proofs.lemmas.WordBits.{section_of-put, bits_at-section_of}
+use Rattle.capnp_model.proofs.lemmas.WordBits.{section_of-put, bits_at-section_of, written_in_low}
 use Rattle.capnp_footprints.specs.Footprints.{OwnsObject, object_footprint}
 use Rattle.capnp_footprints.specs.Changes.{ReplacesObject}
 use Rattle.capnp_footprints.specs.Writes.{spliced, with_words}
 use Rattle.capnp_footprints.proofs.lemmas.Algebra.{changes_nothing}
-use Rattle.capnp_footprints.proofs.lemmas.Kept.{words_length}
 use Rattle.capnp_footprints.proofs.lemmas.Spans.{held_in, held_is, not_there}
 use Rattle.capnp_footprints.proofs.lemmas.There.{words_there}
 use Rattle.capnp_footprints.proofs.lemmas.Splices.{spliced_one}
 use Rattle.capnp_footprints.proofs.lemmas.Writing.{plain_tree, plain_words}
+use Rattle.capnp_model.proofs.lemmas.ReadFits.{words_length}
 use Rattle.capnp_copy.proofs.lemmas.FieldLaws.{word_in}
 
 -- ---- the sizes of plain elements
-
-pub is_plain : (size : ℕ) → size < 6 → list_kind size ≡ of_bits
-is_plain zero l = refl
-is_plain (suc zero) l = refl
-is_plain (suc (suc zero)) l = refl
-is_plain (suc (suc (suc zero))) l = refl
-is_plain (suc (suc (suc (suc zero)))) l = refl
-is_plain (suc (suc (suc (suc (suc zero))))) l = refl
-is_plain (suc (suc (suc (suc (suc (suc n)))))) l = absurd (omega (arith, l))
 
 pub in_one_word : (size i w : ℕ) → w ≤ size_bits size → size_bits size * i % 64 + w ≤ 64
 in_one_word zero i w l = omega (arith, l)
@@ -85,11 +76,6 @@ masked_by at w v s k fits =
     ∙ ap (λ (m : ℕ). (m * 2 ^ w + v) * 2 ^ at + s % 2 ^ at) (sym high)
     ∙ ap (λ (m : ℕ). (s % 2 ^ (k + (at + w)) / 2 ^ (at + w) * 2 ^ w + v) * 2 ^ at + m) (sym low)
 
-pub masked_with : (at w v s m : ℕ) → v < 2 ^ w → at + w ≤ m → with_bits at w v s % 2 ^ m ≡ with_bits at w v (s % 2 ^ m)
-masked_with at w v s m fits l =
-    let e : (m - (at + w)) + (at + w) ≡ m = omega (arith, l) in
-    subst (λ (j : ℕ). with_bits at w v s % 2 ^ j ≡ with_bits at w v (s % 2 ^ j)) e (masked_by at w v s (m - (at + w)) fits)
-
 masked_bits : (at w s m : ℕ) → at + w ≤ m → bits_at at w (s % 2 ^ m) ≡ bits_at at w s
 masked_bits at w s m l =
     let e : ((m - (at + w)) + w) + at ≡ m = omega (arith, l) in
@@ -139,7 +125,7 @@ set_plain n s p size count at width value word section k e small inside one_word
     in
     let now : section_of (spliced (at / 64) (with_bits (at % 64) width value word ∷ []) ws) % 2 ^ (size_bits size * count) ≡ with_bits at width value section =
     ap (λ (m : ℕ). m % 2 ^ (size_bits size * count)) put
-    ∙ masked_with at width value (section_of ws) (size_bits size * count) fits inside
+    ∙ written_in_low at width value (section_of ws) (size_bits size * count) fits inside
     ∙ ap (λ (m : ℕ). with_bits at width value m) x.section_is
     in
     subst (λ (m : ℕ). ReplacesObject n s (with_words s (after p (at / 64)) (with_bits (at % 64) width value word ∷ [])) (a_list p size count) (plain_list size count m)) now r

@@ -6,7 +6,7 @@ use Rattle.capnp_model.specs.Segments.{Segments, place, word_at}
 use Rattle.capnp_footprints.specs.Writes.{segment_end}
 use Rattle.capnp_copy.specs.Allocations.{total_words}
 
-get_short : (xs : List ℕ) (k : ℕ) → is_some (slice_get xs k) ≡ true → k < length xs
+pub get_short : (xs : List ℕ) (k : ℕ) → is_some (slice_get xs k) ≡ true → k < length xs
 get_short [] k e = absurd cc
 get_short (x ∷ xs) zero e = omega arith
 get_short (x ∷ xs) (suc k) e = let l = get_short xs k e in omega (arith, l)

@@ -11,6 +11,7 @@ use Rattle.capnp_model.specs.Trees.{Trees, structure}
 use Rattle.std.proofs.Math.Nat.{mod-mod, mod-lt}
 use Rattle.std.proofs.lemmas.Nat.{pow_pos}
 use Rattle.capnp_wire.specs.Views.{bit_of_bool}
+use Rattle.capnp_model.proofs.lemmas.ReadFits.{words_length}
 use Rattle.capnp_copy.specs.declared.fields.StructPlace.{StructPlace}
 use Rattle.capnp_copy.specs.Structs.{SetsBits}
 use Rattle.capnp_model.proofs.lemmas.WordBits.{section_of-put, bits_at-section_of}
@@ -20,7 +21,6 @@ use Rattle.capnp_footprints.specs.Writes.{spliced, with_words}
 use Rattle.capnp_footprints.proofs.lemmas.Spans.{words_front, held_in, held_is, not_there}
 use Rattle.capnp_footprints.proofs.lemmas.There.{words_there}
 use Rattle.capnp_model.specs.Coverage.{span}
-use Rattle.capnp_footprints.proofs.lemmas.Kept.{words_length}
 use Rattle.capnp_footprints.proofs.lemmas.Lift.{struct_parts}
 use Rattle.capnp_footprints.proofs.lemmas.Splices.{spliced_one}
 use Rattle.capnp_footprints.proofs.lemmas.Growing.{word_held}

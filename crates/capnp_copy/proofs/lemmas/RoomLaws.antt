@@ -10,9 +10,9 @@ use Rattle.capnp_wire.specs.Places.{place_view}
 use Rattle.capnp_footprints.specs.Writes.{with_words, with_zeros, segment_end}
 use Rattle.capnp_footprints.proofs.lemmas.Spans.{words_front, words_back, grows_then}
 use Rattle.capnp_footprints.proofs.lemmas.Rows.{words_grown}
-use Rattle.capnp_footprints.proofs.lemmas.Kept.{words_length}
 use Rattle.capnp_footprints.proofs.lemmas.Splices.{splice_grows}
 use Rattle.capnp_footprints.proofs.lemmas.Growing.{Extends, zeros_extend}
+use Rattle.capnp_model.proofs.lemmas.ReadFits.{words_length}
 use Rattle.capnp_copy.specs.Allocations.{total_words, Allocates}
 use Rattle.capnp_copy.specs.declared.room.Room.{Room}
 use Rattle.capnp_copy.specs.declared.room.Room.TheVariants.{Here, Near, Far}
@@ -72,7 +72,7 @@ room_grows s u p n Here r = subst (λ (x : Segments). Grows s x) (sym r.1) (λ i
 room_grows s u p n (Near offset) r = let a = r.1 in subst (λ (x : Segments). Grows s x) (sym a.now) (zeros_extend s p.segment n a.among).grows
 room_grows s u p n (Far pad) r = let a = r.1 in subst (λ (x : Segments). Grows s x) (sym a.now) (zeros_extend s pad.segment (1 + n) a.among).grows
 
-zeros_now : (s u : Segments) (i at n : ℕ) → Allocates s u i at n → words_at u (place i at) n ≡ Some (replicate n 0)
+pub zeros_now : (s u : Segments) (i at n : ℕ) → Allocates s u i at n → words_at u (place i at) n ≡ Some (replicate n 0)
 zeros_now s u i at n a =
     let x = zeros_extend s i n a.among in
     let e : words_at (with_zeros s i n) (place i (segment_end s i)) n ≡ Some (replicate n 0) = x.zeros in

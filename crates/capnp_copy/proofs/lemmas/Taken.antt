@@ -48,7 +48,7 @@ bytes_sizes s p n bytes = by_cases _
 
 -- ---- how many words a message has
 
-longer_total : (s : Segments) (i k : ℕ) → total_words (with_zeros s i k) ≡ total_words s + k
+pub longer_total : (s : Segments) (i k : ℕ) → total_words (with_zeros s i k) ≡ total_words s + k
 unfolding total_words with_zeros
 longer_total [] i k = omega (arith, length-replicate {A = ℕ} k 0)
 longer_total (xs ∷ s) zero k = omega (arith, length-append xs (replicate k 0), length-replicate {A = ℕ} k 0)

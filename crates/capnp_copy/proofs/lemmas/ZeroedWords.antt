@@ -12,12 +12,13 @@ use Rattle.capnp_footprints.proofs.lemmas.Spans.{held, held_low, held_high, ther
 use Rattle.capnp_footprints.proofs.lemmas.Rows.{after_none}
 use Rattle.capnp_footprints.proofs.lemmas.Splices.{Rewrites, splice_rewrites, splice_words, spliced_length, spliced_whole}
 use Rattle.capnp_footprints.proofs.lemmas.Growing.{zero_held, held_not}
-use Rattle.capnp_footprints.proofs.lemmas.Kept.{words_length}
+use Rattle.capnp_footprints.proofs.lemmas.Zeros.{held_none}
+use Rattle.capnp_model.proofs.lemmas.ReadFits.{words_length}
 use Rattle.capnp_copy.specs.Clearing.{nonzero_of, nonzero_words, zeroed_there}
 
 -- ---- segments keep their lengths
 
-spliced_sizes : (s : Segments) (i k : ℕ) (vs : List ℕ) → map length (spliced_in s i k vs) ≡ map length s
+pub spliced_sizes : (s : Segments) (i k : ℕ) (vs : List ℕ) → map length (spliced_in s i k vs) ≡ map length s
 spliced_sizes [] i k vs = refl
 spliced_sizes (xs ∷ s) zero k vs = ap (λ (n : ℕ). n ∷ map length s) (spliced_length k vs xs)
 spliced_sizes (xs ∷ s) (suc i) k vs = ap (λ (ns : List ℕ). length xs ∷ ns) (spliced_sizes s i k vs)
@@ -109,9 +110,6 @@ written_zeros s p n ws e long =
     let now : words_at (with_words s (after p 0) (replicate n 0)) p n ≡ Some (spliced 0 (replicate n 0) ws) = splice_words s p 0 n (replicate n 0) ws l e in
     let all : spliced 0 (replicate n 0) ws ≡ replicate n 0 = spliced_whole (replicate n 0) ws (length-replicate {A = ℕ} n 0 ∙ sym long) in
     ap (λ (q : Place). words_at (with_words s q (replicate n 0)) p n) (sym (after_none p)) ∙ now ∙ ap (λ (vs : List ℕ). let o : Option (List ℕ) = Some vs in o) all
-
-pub held_none : (p q : Place) → held p 0 q ≡ 0
-held_none p q = held_not p 0 q (λ h. absurd (let a = held_low p 0 q h in let b = held_high p 0 q h in omega (arith, a, b)))
 
 vanish_there : (s : Segments) (p : Place) (n : ℕ) (ws : List ℕ) → words_at s p n ≡ Some ws → Changes s (with_words s p (replicate n 0)) (held p n) (λ q. 0)
 vanish_there s p n ws e =

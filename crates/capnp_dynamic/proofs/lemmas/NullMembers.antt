@@ -20,7 +20,7 @@ use Rattle.capnp_model.specs.Accepted.{find_node, fields_of_kind, default_tree, 
 use Rattle.capnp_model.specs.Groups.{empty_tree, source_tree}
 use Rattle.capnp_model.specs.Schemas.{Ty, void, plain, text, blob, untyped, interface, struct, list, type_of, Value, no_value, bits, text_bytes, blob_bytes, list_segment, struct_segment, untyped_value, interface_value, FieldKind, slot, group, Field as FieldNode, StructNode, NodeKind, struct_node, enum_node, Node, Shape, pointer_slot, Schema, default_or_null}
 use Rattle.capnp_model.proofs.lemmas.Chaining.{bind_some, bind_found, bind_ok, ok_or_some, some_is, provided_some}
-use Rattle.capnp_model.proofs.lemmas.KeptRules.{and_left, and_right, found_passes}
+use Rattle.capnp_model.proofs.lemmas.KeptRules.{found_passes}
 use Rattle.capnp_model.proofs.lemmas.ByteWords.{bytes_length}
 use Rattle.capnp_units.specs.Segments.{words_in}
 use Rattle.capnp_footprints.proofs.lemmas.Zeros.{null_read}
@@ -36,6 +36,7 @@ use Rattle.capnp_queries.specs.Handles.{entry_of, IsFieldRecord}
 use Rattle.capnp_queries.specs.declared.fields.Field.{Field}
 use Rattle.capnp_values.specs.Shown.{default_said}
 use Rattle.capnp_values.proofs.lemmas.GoodDefaults.{defaults_kept}
+use Rattle.capnp_model.proofs.lemmas.Tests.{and_left, and_right}
 use Rattle.capnp_dynamic.specs.GroupSets.{HoldsDefault, IsReadable, IsDefault}
 use Rattle.capnp_dynamic.proofs.lemmas.GroupFields.{body_is}
 

@@ -12,7 +12,7 @@ use Rattle.capnp_model.specs.Calls.{Step, name, index, Verb, get, set_to, init, 
 use Rattle.capnp_model.specs.Steps.{Outcome, refused, shown, done, outcome_map, target, target_if, target_of, on_name, at_target, replaced, at_field, opened, through_value, through_field, step_path, step_field, step_element}
 use Rattle.capnp_model.specs.Edits.{Cell, Edit, put_child, opened_tree, edit_target, edit_named, edit_struct, edit_field, in_struct}
 use Rattle.capnp_model.proofs.lemmas.Marks.{read_child-padded_to}
-use Rattle.capnp_model.proofs.lemmas.Paths.{entry_of-fields_of}
+use Rattle.capnp_model.proofs.lemmas.Paths.{entry_of-fields_of, read_child-is}
 use Rattle.capnp_wire.specs.Places.{place_view}
 use Rattle.capnp_queries.specs.Fields.{Entry, field_at, place_of_name, union_in, entry_in}
 use Rattle.capnp_queries.specs.Structs.{nodes_around, schema_around, shape_of_struct, fields_of_struct}
@@ -25,7 +25,6 @@ use Rattle.capnp_calls.specs.Replies.{is_active_in}
 use Rattle.capnp_calls.specs.Sizes.{IsDone}
 use Rattle.capnp_calls.specs.Paths.{field_outcome, shape_outcome, shape_edit}
 use Rattle.capnp_calls.proofs.lemmas.FieldSlots.{body_is}
-use Rattle.capnp_calls.proofs.lemmas.SlotShown.{read_child-child}
 use Rattle.capnp_edits.specs.Elements.{IsDoneWithin, WritesWithin, IsFieldDone, WritesFieldWithin}
 use Rattle.capnp_edits.specs.Written.{EditsWhere, WritesPath, IsDoneAt, edit_at, WritesField, value_outcome, value_edit, WritesValue}
 use Rattle.capnp_edits.proofs.Lifting.{cell, edits_alike, through_child}
@@ -218,7 +217,7 @@ module _ (s : Schema) (st : Step) (rest : List Step) (verb : Verb) (i : ℕ) (ty
   pub pointer_done : (c : Cell) (x : Extent) → IsDone (step_field s (st ∷ rest) verb (pointer_slot i ty d) (body_of (pointer_slot i ty d) x c.section (read_child s c.kids))) → IsDone (value_outcome s ty (default_or_null d) (st ∷ rest) verb (child c.kids i))
   unfolding step_field body_of
   pointer_done c x h =
-      subst (λ r. IsDone (through_value s st (step_field s rest verb) (step_element s rest verb) ty (opened s ty (default_or_null d) r))) (read_child-child s c.kids i ty) (through_is (read_child s c.kids i ty) h)
+      subst (λ r. IsDone (through_value s st (step_field s rest verb) (step_element s rest verb) ty (opened s ty (default_or_null d) r))) (read_child-is s c.kids i ty) (through_is (read_child s c.kids i ty) h)
 
   pub pointer_edit : (union member : Option ℕ) (c : Cell) → put_child i (value_edit s ty (default_or_null d) (st ∷ rest) verb (child c.kids i)) c ≡ edit_field s (st ∷ rest) verb union member (pointer_slot i ty d) c
   unfolding edit_field

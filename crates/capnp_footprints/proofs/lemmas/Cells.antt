@@ -11,11 +11,12 @@ use Rattle.capnp_model.specs.Trees.{Tree, structure, struct_list, Trees, Element
 use Rattle.capnp_model.specs.Traversal.{Tag, tag_in, each, each_element, tree_of, tree_at}
 use Rattle.capnp_model.specs.Coverage.{Span, span, times_held, from_each, from_elements, covered_tag, covered_object, Keeps}
 use Rattle.capnp_model.proofs.lemmas.Chaining.{bind_some, bind_found, some_is}
+use Rattle.capnp_model.proofs.lemmas.ReadFits.{words_length}
 use Rattle.capnp_footprints.specs.Footprints.{behind, object_footprint, OwnsObject}
 use Rattle.capnp_footprints.specs.Changes.{Changes, ReplacesObject}
 use Rattle.capnp_footprints.specs.Elements.{element_at, with_element}
 use Rattle.capnp_footprints.proofs.lemmas.Spans.{held, held_is, held_split, times_held_append, words_front, words_back, words_join, keeps_front, keeps_back}
-use Rattle.capnp_footprints.proofs.lemmas.Kept.{each_same, elements_same, value_same, words_length, tag_fits}
+use Rattle.capnp_footprints.proofs.lemmas.Kept.{each_same, elements_same, value_same, tag_fits}
 use Rattle.capnp_footprints.proofs.lemmas.Algebra.{changes_lift, beside_kept}
 use Rattle.capnp_footprints.proofs.lemmas.Lift.{struct_parts, alone, not_with}
 

@@ -63,7 +63,7 @@ get_lt [] i l = absurd (omega (arith, l))
 get_lt (x ∷ s) zero l = (x, refl)
 get_lt (x ∷ s) (suc i) l = get_lt s i (omega (arith, l))
 
-get_none : (xs : List ℕ) (k : ℕ) → slice_get xs k ≡ None → length xs ≤ k
+pub get_none : (xs : List ℕ) (k : ℕ) → slice_get xs k ≡ None → length xs ≤ k
 get_none [] k e = omega arith
 get_none (x ∷ xs) zero e = absurd cc
 get_none (x ∷ xs) (suc k) e = let r = get_none xs k e in omega (arith, r)

@@ -14,6 +14,7 @@ use Rattle.capnp_model.specs.Traversal.{Tag, tag_of, tag_in, each, each_element,
 use Rattle.capnp_model.specs.Coverage.{Span, span, pads_by, pads_at, from_each, from_elements, covered_tag, covered_list, covered_object, covered_found, Keeps}
 use Rattle.capnp_model.proofs.lemmas.Chaining.{bind_some, bind_found, bind_ok, ok_or_some, provided_some, ok_is, guard_ok}
 use Rattle.capnp_model.proofs.lemmas.Locality.{all_left, all_right, found_kept, word_is, word_was}
+use Rattle.capnp_model.proofs.lemmas.ReadFits.{words_length}
 use Rattle.capnp_footprints.specs.Footprints.{behind}
 use Rattle.capnp_footprints.proofs.lemmas.Spans.{words_front, words_back, keeps_front, keeps_back}
 
@@ -30,13 +31,6 @@ tag_fits (w ∷ ws) t e =
 nil_behind : (xs : List Span) → xs ++ [] ≡ xs
 nil_behind [] = refl
 nil_behind (x ∷ xs) = ap (λ (ys : List Span). x ∷ ys) (nil_behind xs)
-
-pub words_length : (s : Segments) (p : Place) (n : ℕ) (ws : List ℕ) → words_at s p n ≡ Some ws → length ws ≡ n
-words_length s p n ws e =
-    let x = bind_some (slice_get s p.segment) _ ws e in
-    let g = provided_some _ _ _ x.2 in
-    let fits = leb-true _ _ g.0 in
-    sym (ap length g.1) ∙ length-take n (drop p.position x.0) ∙ omega (arith, fits, length-drop p.position x.0)
 
 module _ (s u : Segments) where
   Kept : List Span → Type 0

@@ -12,10 +12,11 @@ use Rattle.capnp_model.specs.Trees.{Tree, Trees, structure, pointer_list, with_c
 use Rattle.capnp_model.proofs.lemmas.Chaining.{bind_some, bind_found, some_is, ok_is, bind_ok, ok_or_some}
 use Rattle.capnp_model.proofs.lemmas.Locality.{found_kept}
 use Rattle.capnp_model.proofs.lemmas.SoundRules.{apart}
+use Rattle.capnp_model.proofs.lemmas.ReadFits.{words_length}
 use Rattle.capnp_footprints.specs.Changes.{Changes, ReplacesObject, Replaces}
 use Rattle.capnp_footprints.specs.Footprints.{behind, object_footprint, OwnsObject, footprint, Owns}
 use Rattle.capnp_footprints.proofs.lemmas.Algebra.{On, changes_lift, changes_then, changes_alike, beside_kept, still_apart}
-use Rattle.capnp_footprints.proofs.lemmas.Kept.{words_length, pads_kept}
+use Rattle.capnp_footprints.proofs.lemmas.Kept.{pads_kept}
 use Rattle.capnp_footprints.proofs.lemmas.Rows.{words_grown, row, child_le, child_read, row_replaced}
 use Rattle.capnp_footprints.proofs.lemmas.Spans.{words_back, held, held_is, held_split, words_front, words_join, times_held_append}
 use Rattle.capnp_footprints.proofs.lemmas.There.{words_there, behind_full, object_full, value_full}

@@ -7,6 +7,8 @@ use Rattle.capnp_model.specs.Sections.{section_of, number_of}
 use Rattle.capnp_model.specs.Segments.{Segments, Place, after, words_at}
 use Rattle.capnp_model.specs.Trees.{Trees, Elements, no_elements, element, none, structure, struct_list, resized, element_count}
 use Rattle.capnp_model.specs.Trimming.{with_pointers}
+use Rattle.capnp_model.proofs.lemmas.TrimFits.{count-with_pointers}
+use Rattle.capnp_model.proofs.lemmas.ReadFits.{words_length}
 use Rattle.capnp_footprints.specs.Changes.{ReplacesObject}
 use Rattle.capnp_footprints.specs.Children.{with_first_elements, childless}
 use Rattle.capnp_footprints.specs.Detached.{Detached}
@@ -16,12 +18,12 @@ use Rattle.capnp_footprints.specs.NewObjects.{zero_elements}
 use Rattle.capnp_footprints.specs.Writes.{spliced, with_words}
 use Rattle.capnp_footprints.proofs.lemmas.Cells.{element_of_list}
 use Rattle.capnp_footprints.proofs.lemmas.Detached.{detached_owns}
-use Rattle.capnp_footprints.proofs.lemmas.Kept.{words_length}
 use Rattle.capnp_footprints.proofs.lemmas.Lift.{object_of_pointer, struct_parts}
 use Rattle.capnp_footprints.proofs.lemmas.Rows.{after_none}
 use Rattle.capnp_footprints.proofs.lemmas.Spans.{words_front}
 use Rattle.capnp_footprints.proofs.lemmas.Turns.{elements_here, elements_next, elements_counted, childless_at, childless_count}
 use Rattle.capnp_footprints.proofs.lemmas.Writing.{struct_words}
+use Rattle.capnp_footprints.proofs.lemmas.NewKinds.{zero_counted}
 
 -- ---- trees
 
@@ -29,14 +31,6 @@ pub zero_element : (d k count j : ℕ) → j < count → element_at d (zero_elem
 zero_element d k zero j l = absurd (omega (arith, l))
 zero_element d k (suc count) zero l = refl
 zero_element d k (suc count) (suc j) l = zero_element d k count j (omega (arith, l))
-
-pub zero_count : (count k : ℕ) → element_count (zero_elements count k) ≡ count
-zero_count zero k = refl
-zero_count (suc count) k = ap suc (zero_count count k)
-
-pub wider_count : (k : ℕ) (es : Elements) → element_count (with_pointers k es) ≡ element_count es
-wider_count k no_elements = refl
-wider_count k (element s ts es) = ap suc (wider_count k es)
 
 pub wider_element : (d0 d k j section : ℕ) (kids : Trees) (es : Elements) → j < element_count es → element_at d0 es j ≡ structure d0 section kids → element_at d (with_pointers k es) j ≡ structure d section (resized k kids)
 wider_element d0 d k j section kids no_elements l e = absurd (omega (arith, l))
@@ -92,7 +86,7 @@ module _ (n : ℕ) (z u : Segments) (p a b : Place) (pads m0 d0 k0 m d k count j
   few_here = omega (arith, few, elements_counted j (childless k0 es) es)
 
   few_there : j < element_count (with_first_elements j (with_pointers k es) (zero_elements count k))
-  few_there = omega (arith, l, elements_counted j (with_pointers k es) (zero_elements count k), zero_count count k)
+  few_there = omega (arith, l, elements_counted j (with_pointers k es) (zero_elements count k), zero_counted count k)
 
   outer : OwnsObject n u (a_list a 7 m0) (struct_list d0 k0 (with_first_elements j (childless k0 es) es))
   outer = object_of_pointer n u p (record { pads = pads; object = a_list a 7 m0 }) _ e (detached_owns n z u p _ _ spare (a_list b 7 m) h).0
@@ -111,4 +105,4 @@ pub moved_source : (d0 k0 j section : ℕ) (kids : Trees) (es : Elements) → j 
 moved_source d0 k0 j section kids es l e = elements_next d0 j section (resized k0 none) (childless k0 es) es (omega (arith, l, childless_count k0 es)) l (childless_at k0 d0 j section kids es l e)
 
 pub moved_target : (d0 d k count j section : ℕ) (kids : Trees) (es : Elements) → j < element_count es → element_count es ≡ count → element_at d0 es j ≡ structure d0 section kids → with_element (with_first_elements j (with_pointers k es) (zero_elements count k)) j section (resized k kids) ≡ with_first_elements (suc j) (with_pointers k es) (zero_elements count k)
-moved_target d0 d k count j section kids es l c e = elements_next d j section (resized k kids) (with_pointers k es) (zero_elements count k) (omega (arith, l, wider_count k es)) (omega (arith, l, c, zero_count count k)) (wider_element d0 d k j section kids es l e)
+moved_target d0 d k count j section kids es l c e = elements_next d j section (resized k kids) (with_pointers k es) (zero_elements count k) (omega (arith, l, count-with_pointers k es)) (omega (arith, l, c, zero_counted count k)) (wider_element d0 d k j section kids es l e)

@@ -10,10 +10,10 @@ use Rattle.capnp_model.specs.Traversal.{tag_in, each, each_element, tree_of, tre
 use Rattle.capnp_model.specs.Trees.{plain_list, none, element, element_count, size_bits, resized}
 use Rattle.capnp_model.proofs.lemmas.PointerWords.{struct_says, list_kind_small}
 use Rattle.capnp_model.proofs.lemmas.SectionElements.{section_of-zeros}
+use Rattle.capnp_model.proofs.lemmas.ReadFits.{words_length}
 use Rattle.capnp_footprints.specs.Footprints.{behind, object_footprint}
 use Rattle.capnp_footprints.specs.NewObjects.{Fits, new_list, New, new_struct, filled_list, new_pointers, new_structs, new_object, new_words, zero_elements, new_tree}
 use Rattle.capnp_footprints.proofs.lemmas.Cells.{list_is, ElementParts, list_of_parts}
-use Rattle.capnp_footprints.proofs.lemmas.Kept.{words_length}
 use Rattle.capnp_footprints.proofs.lemmas.Spans.{words_back, held, held_is, held_split, words_front}
 use Rattle.capnp_footprints.proofs.lemmas.Writing.{plain_is, plain_tree}
 use Rattle.capnp_footprints.proofs.lemmas.Zeros.{zero_struct, zero_struct_takes, zeros_read, zeros_behind, drop_zeros}
@@ -39,7 +39,7 @@ zero_elements_read n s p d k (suc c) e =
       ap (λ (xs : List Span). xs ++ from_elements (behind n s) (after p (d + k)) d k c) (zeros_behind n s (after p d) k kids_there) ∙ inner.1,
     )
 
-zero_counted : (c k : ℕ) → element_count (zero_elements c k) ≡ c
+pub zero_counted : (c k : ℕ) → element_count (zero_elements c k) ≡ c
 zero_counted zero k = refl
 zero_counted (suc c) k = ap suc (zero_counted c k)
 

@@ -8,13 +8,13 @@ use Rattle.capnp_model.specs.Traversal.{tree_at}
 use Rattle.capnp_model.specs.Trees.{Tree, null}
 use Rattle.capnp_model.proofs.lemmas.Locality.{word_was, word_is}
 use Rattle.capnp_model.proofs.lemmas.PointerWords.{begins_behind, begins_here}
+use Rattle.capnp_model.proofs.lemmas.ReadFits.{words_length}
 use Rattle.capnp_footprints.specs.Changes.{Changes, Replaces, absent}
 use Rattle.capnp_footprints.specs.Footprints.{footprint, Owns}
 use Rattle.capnp_footprints.specs.NewObjects.{Fits, new_list, New, new_struct, filled_list, new_pointers, new_structs, new_pointer, new_object, far_pointer, IsNamed, new_words, new_tree, pointed, pointed_far, Prepared, IsNear}
 use Rattle.capnp_footprints.specs.Writes.{with_words, spliced, with_zeros, segment_end}
 use Rattle.capnp_footprints.proofs.lemmas.Algebra.{On, changes_then, changes_alike, beside_kept}
 use Rattle.capnp_footprints.proofs.lemmas.Growing.{zeros_extend, held_not}
-use Rattle.capnp_footprints.proofs.lemmas.Kept.{words_length}
 use Rattle.capnp_footprints.proofs.lemmas.Levels.{grown_value}
 use Rattle.capnp_footprints.proofs.lemmas.Lift.{value_on, slot_is}
 use Rattle.capnp_footprints.proofs.lemmas.NewKinds.{is_new}
@@ -224,7 +224,7 @@ whole_written n s u p r k vs ws l h =
     let here : Prepared n s (with_words u r vs) p r k (spliced 0 vs ws) = subst (λ (q : Place). Prepared n s (with_words u q vs) p r k (spliced 0 vs ws)) (after_none r) x in
     subst (λ (xs : List ℕ). Prepared n s (with_words u r vs) p r k xs) (spliced_whole vs ws (l ∙ sym (words_length u r k ws h.words_there))) here
 
-behind_first : (w : ℕ) (vs ws : List ℕ) → length vs ≡ length ws → spliced 1 vs (w ∷ ws) ≡ w ∷ vs
+pub behind_first : (w : ℕ) (vs ws : List ℕ) → length vs ≡ length ws → spliced 1 vs (w ∷ ws) ≡ w ∷ vs
 unfolding spliced
 behind_first w vs ws l = ap (λ (xs : List ℕ). w ∷ xs) (spliced_whole vs ws l)
 

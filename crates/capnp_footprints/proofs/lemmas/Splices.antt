@@ -9,6 +9,7 @@ use Rattle.capnp_model.proofs.lemmas.Chaining.{bind_some, provided_some, some_is
 use Rattle.capnp_footprints.specs.Writes.{spliced, spliced_in, with_words}
 use Rattle.capnp_footprints.specs.Changes.{absent}
 use Rattle.capnp_footprints.proofs.lemmas.Spans.{held, held_in, Whether, it_is, it_is_not, whether, there, still_there}
+use Rattle.capnp_footprints.proofs.lemmas.Growing.{get_none}
 
 pub spliced_length : (k : ℕ) (vs xs : List ℕ) → length (spliced k vs xs) ≡ length xs
 unfolding spliced
@@ -125,17 +126,12 @@ none_past s p vs i (inr ne) e = other_in s p.segment i p.position vs ne ∙ e
 pub splice_grows : (s : Segments) (p : Place) (vs : List ℕ) → Grows s (with_words s p vs)
 splice_grows s p vs i xs e = let a = same_length s p vs i xs e in (a.0, a.1, omega (arith, a.2))
 
-get_past : (xs : List ℕ) (k : ℕ) → slice_get xs k ≡ None → length xs ≤ k
-get_past [] k e = omega arith
-get_past (x ∷ xs) zero e = absurd cc
-get_past (x ∷ xs) (suc k) e = let r = get_past xs k e in omega (arith, r)
-
 none_by : (s : Segments) (p : Place) (vs : List ℕ) (q : Place) (o : Option (List ℕ)) → slice_get s q.segment ≡ o → word_at s q ≡ None → word_at (with_words s p vs) q ≡ None
 none_by s p vs q None there e = let f = none_past s p vs q.segment (cases_eq p.segment q.segment) there in rw f refl
 none_by s p vs q (Some xs) there e =
     let a = same_length s p vs q.segment xs there in
     let is : slice_get (with_words s p vs) q.segment ≡ Some a.0 = a.1 in
-    let past : length xs ≤ q.position = get_past xs q.position (let f : word_at s q ≡ slice_get xs q.position = rw there refl in sym f ∙ e) in
+    let past : length xs ≤ q.position = get_none xs q.position (let f : word_at s q ≡ slice_get xs q.position = rw there refl in sym f ∙ e) in
     rw is (slice_get_past a.0 q.position (omega (arith, past, a.2)))
 
 absent_same : (s : Segments) (p : Place) (vs : List ℕ) (q : Place) → Whether s q → absent s q ≡ absent (with_words s p vs) q

@@ -49,11 +49,6 @@ resized_padded zero (t ▸ ts) l = absurd (omega (arith, l))
 resized_padded (suc k) none l = ap (λ (vs : Trees). null ▸ vs) (resized_padded k none (omega arith))
 resized_padded (suc k) (t ▸ ts) l = ap (λ (vs : Trees). t ▸ vs) (resized_padded k ts (omega (arith, l)))
 
-pub resized_count : (k : ℕ) (ts : Trees) → tree_count (resized k ts) ≡ k
-resized_count zero ts = refl
-resized_count (suc k) none = ap suc (resized_count k none)
-resized_count (suc k) (t ▸ ts) = ap suc (resized_count k ts)
-
 pub each_counted : (f : Place → Option Tree) (p : Place) (k : ℕ) (ts : Trees) → each f p k ≡ Some ts → tree_count ts ≡ k
 each_counted f p zero ts e = sym (ap tree_count (some_is _ _ e))
 each_counted f p (suc k) ts e =

@@ -10,10 +10,11 @@ use Rattle.capnp_model.specs.Traversal.{of_bits, list_kind, tree_of, tree_at}
 use Rattle.capnp_model.specs.Trees.{Tree, Trees, structure, plain_list, size_bits}
 use Rattle.capnp_model.proofs.lemmas.Locality.{word_was, word_is}
 use Rattle.capnp_model.proofs.lemmas.SoundRules.{apart}
+use Rattle.capnp_model.proofs.lemmas.ReadFits.{words_length}
 use Rattle.capnp_footprints.specs.Changes.{Changes, ReplacesObject}
 use Rattle.capnp_footprints.specs.Footprints.{behind, object_footprint, OwnsObject}
 use Rattle.capnp_footprints.specs.Writes.{with_words, spliced}
-use Rattle.capnp_footprints.proofs.lemmas.Kept.{words_length, value_same, each_same}
+use Rattle.capnp_footprints.proofs.lemmas.Kept.{value_same, each_same}
 use Rattle.capnp_footprints.proofs.lemmas.Lift.{struct_parts, StructParts, struct_of_parts, struct_is}
 use Rattle.capnp_footprints.proofs.lemmas.Rows.{after_none}
 use Rattle.capnp_footprints.proofs.lemmas.Spans.{words_back, held, held_is, held_split, words_join, there}

@@ -15,7 +15,7 @@ use Rattle.capnp_model.proofs.lemmas.Stripping.{count-stripped}
 use Rattle.capnp_model.proofs.lemmas.TrimTwice.{common_words_le, trim-trim}
 use Rattle.capnp_model.proofs.lemmas.TrimFits.{count-trim_each, count-with_pointers, count-trim_elements, common_pointers_le, FitElements-least, Fits-trim, FitElements-trim_elements, depth-trim}
 use Rattle.capnp_model.proofs.lemmas.RoundTrip.{links_length, cells_length, enc_means, enc_is}
-use Rattle.capnp_model.proofs.Size.{tree_at_size}
+use Rattle.capnp_model.proofs.lemmas.Size.{tree_at_size}
 use Rattle.capnp_model.proofs.lemmas.ReadFits.{tree_at_fits}
 use Rattle.capnp_model.proofs.lemmas.Depth.{tree_at_deep}
 

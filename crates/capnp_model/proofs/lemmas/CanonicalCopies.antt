@@ -11,10 +11,10 @@ use Rattle.capnp_model.specs.Fits.{Fits}
 use Rattle.capnp_model.specs.Canonical.{is_canonical_at, is_canonical_message}
 use Rattle.capnp_model.proofs.lemmas.Holding.{holds_words}
 use Rattle.capnp_model.proofs.lemmas.RoundTrip.{enc_means_first}
-use Rattle.capnp_model.proofs.lemmas.SizesOfValues.{neither}
 use Rattle.capnp_model.proofs.lemmas.TrimTwice.{trim-trim}
 use Rattle.capnp_model.proofs.lemmas.Canonical.{canonical_means}
 use Rattle.capnp_model.proofs.lemmas.CanonicalTests.{test_canonical, test_message}
+use Rattle.capnp_model.proofs.lemmas.Tests.{neither}
 
 free_after : (t : Tree) (ts : Trees) → has_capability t ≡ false → have_capability ts ≡ false → have_capability (after_stripping t ts) ≡ false
 unfolding has_capability
@@ -31,7 +31,7 @@ unfolding has_capability
 free_stripped none e = refl
 free_stripped (t ▸ ts) e = let b = neither (has_capability t) (have_capability ts) e in free_after t (stripped ts) b.0 (free_stripped ts b.1)
 
-free_resized : (p : ℕ) (ts : Trees) → have_capability ts ≡ false → have_capability (resized p ts) ≡ false
+pub free_resized : (p : ℕ) (ts : Trees) → have_capability ts ≡ false → have_capability (resized p ts) ≡ false
 unfolding has_capability
 free_resized zero ts e = refl
 free_resized (suc p) none e = free_resized p none refl

@@ -10,14 +10,11 @@ use Rattle.capnp_model.specs.Traversal.{tree_at}
 use Rattle.capnp_model.specs.Encoding.{canonical_words}
 use Rattle.capnp_model.specs.Canonical.{canonical_at, is_canonical_at, is_one_segment, is_canonical_message}
 use Rattle.capnp_model.proofs.lemmas.Chaining.{bind_some, provided_some}
+use Rattle.capnp_model.proofs.lemmas.Tests.{not_true}
 
 passed : {A : Type 0} (test : A → Bool) (o : Option A) → passes test o ≡ true → (x : A) × (o ≡ Some x) × (test x ≡ true)
 passed test None e = absurd cc
 passed test (Some x) e = (x, refl, e)
-
-not_true : (b : Bool) → not b ≡ true → b ≡ false
-not_true true e = absurd cc
-not_true false e = refl
 
 -- The canonical words at a place are those of a value without a capability.
 canonical_of : (n : ℕ) (s : Segments) (p : Place) (ws : List ℕ) → canonical_at n s p ≡ Some ws → (t : Tree) × (tree_at n s p ≡ Some t) × (has_capability t ≡ false) × (canonical_words (trim t) ≡ ws)

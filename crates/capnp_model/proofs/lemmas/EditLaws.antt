@@ -19,7 +19,6 @@ use Rattle.capnp_model.specs.Accepted.{are_apart, Area, bit_area, pointer_area, 
 use Rattle.capnp_model.specs.NamedPaths.{IsOpen}
 use Rattle.capnp_model.specs.CallRuns.{IsGiven, AreGiven, IsStart, view_of_value, records_after, record_replies}
 use Rattle.capnp_model.specs.Views.{SameAll}
-use Rattle.capnp_model.proofs.lemmas.KeptRules.{and_left, and_right}
 use Rattle.capnp_model.proofs.lemmas.SoundRules.{rules_kept, good_shape, apart}
 use Rattle.capnp_model.proofs.ApartAreas.{apart_of}
 use Rattle.capnp_model.proofs.lemmas.Marks.{SameAll-refl, SameAll-trans}
@@ -29,8 +28,9 @@ use Rattle.capnp_model.proofs.lemmas.ListElements.{IsReal}
 use Rattle.capnp_model.proofs.ListsInKind.{ReadsStraight}
 use Rattle.capnp_model.proofs.lemmas.SoundSizes.{IsNoGroup, AllStraight, accepted_sound, all_pass}
 use Rattle.capnp_model.proofs.lemmas.ReachedStructs.{AreReal, FieldsReal, BodyReal, IsReached}
-use Rattle.capnp_model.proofs.EveryPath.{IsBesideKept, path_law}
+use Rattle.capnp_model.proofs.lemmas.EveryPath.{IsBesideKept, path_law}
 use Rattle.capnp_model.proofs.KindsOfContents.{verb_in_kind}
+use Rattle.capnp_model.proofs.lemmas.Tests.{and_left, and_right}
 
 -- ---- an element of one word as a struct
 

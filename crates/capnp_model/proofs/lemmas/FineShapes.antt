@@ -7,9 +7,11 @@ use Rattle.capnp_model.specs.Readings.{whole_words}
 use Rattle.capnp_model.specs.Accepted.{Area, bit_area, are_apart, union_area, areas_of, areas_of_fields, areas_of_body, are_members, is_apart_from, has_no_overlap, fields_are_apart, body_has_no_overlap}
 use Rattle.capnp_model.specs.Steps.{target, target_if, target_of}
 use Rattle.capnp_model.proofs.lemmas.SoundShapes.{MarkApart, HasPlace, Apart, IsApartFrom, AtName, IsAlone, IsFineShape, AreFineGroups, IsFineGroup}
-use Rattle.capnp_model.proofs.lemmas.KeptRules.{and_left, and_right, and_three}
+use Rattle.capnp_model.proofs.lemmas.KeptRules.{and_three}
 use Rattle.capnp_model.proofs.ApartAreas.{apart_of, Apart-sym, all_left, all_right}
 use Rattle.capnp_model.proofs.lemmas.FitCalls.{IsGoodSlot, contents_fit}
+use Rattle.capnp_model.proofs.lemmas.Tests.{and_left, and_right}
+use Rattle.capnp_model.proofs.lemmas.Paths.{mark_apart}
 
 -- ---- what the other rules give of a shape
 
@@ -56,11 +58,6 @@ good_slot s (group_slot g) h = tt
 
 -- ---- one field among the others
 
-pub mark_of : (u member : Option ℕ) (ys : List Area) → Apart (union_area u) ys → MarkApart u member ys
-mark_of (Some at) (Some k) ys h = h.0
-mark_of (Some at) None ys h = tt
-mark_of None member ys h = tt
-
 pub place_of : (u m : Option ℕ) → IsGoodMember u m → HasPlace u m whole_words
 place_of (Some at) (Some k) h = (tt, h.1)
 place_of None (Some k) h = absurd h.0
@@ -80,15 +77,15 @@ or_apart None n b c h new = apart_of (areas_of_body b) (areas_of_body c) h
 -- the later field beside the earlier
 later : (u m n : Option ℕ) (b c : Body) → Apart (union_area u) (areas_of_body b) → Apart (union_area u) (areas_of_body c) → Beside m b n c → IsApartFrom u m b n c
 later u (Some k) (Some j) b c hb hc h = h.0
-later u (Some k) None b c hb hc h = (mark_of u (Some k) (areas_of_body c) hc, h)
-later u None n b c hb hc h = (mark_of u None (areas_of_body c) hc, h)
+later u (Some k) None b c hb hc h = (mark_apart u (Some k) (areas_of_body c) hc, h)
+later u None n b c hb hc h = (mark_apart u None (areas_of_body c) hc, h)
 
 -- the earlier field beside the later
 earlier : (u m n : Option ℕ) (b c : Body) → Apart (union_area u) (areas_of_body b) → Apart (union_area u) (areas_of_body c) → Beside m b n c → IsApartFrom u n c m b
 earlier u (Some k) (Some j) b c hb hc h = h.1
-earlier u (Some k) None b c hb hc h = (mark_of u None (areas_of_body b) hb, Apart-sym (areas_of_body b) (areas_of_body c) h)
-earlier u None (Some j) b c hb hc h = (mark_of u (Some j) (areas_of_body b) hb, Apart-sym (areas_of_body b) (areas_of_body c) h)
-earlier u None None b c hb hc h = (mark_of u None (areas_of_body b) hb, Apart-sym (areas_of_body b) (areas_of_body c) h)
+earlier u (Some k) None b c hb hc h = (mark_apart u None (areas_of_body b) hb, Apart-sym (areas_of_body b) (areas_of_body c) h)
+earlier u None (Some j) b c hb hc h = (mark_apart u (Some j) (areas_of_body b) hb, Apart-sym (areas_of_body b) (areas_of_body c) h)
+earlier u None None b c hb hc h = (mark_apart u None (areas_of_body b) hb, Apart-sym (areas_of_body b) (areas_of_body c) h)
 
 first_new : (m n : Option ℕ) (l : List ℕ) (c : Body) (fs : Fields) → IsNewMember m (field l n c fs) → IsNewMember m (field [] n c no_fields) × IsNewMember m fs
 first_new None n l c fs h = (tt, tt)
@@ -187,7 +184,7 @@ mutual
             let found_good = good_target s u n fs member body e good in
             record {
               place = place_of u member found_good.0;
-              unmarked = mark_of u member (areas_of_body body) (Apart-sym (areas_of_body body) (union_area u) off);
+              unmarked = mark_apart u member (areas_of_body body) (Apart-sym (areas_of_body body) (union_area u) off);
               off_union = off;
               alone = alone s u n fs member body e good fields uf;
               contents = contents_fit s body (good_slot s body found_good.1);

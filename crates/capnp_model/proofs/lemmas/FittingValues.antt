@@ -19,7 +19,7 @@ FitEach-padded_to zero ts f = f
 FitEach-padded_to (suc n) none f = (tt, FitEach-padded_to n none tt)
 FitEach-padded_to (suc n) (t ▸ ts) f = (f.0, FitEach-padded_to n ts f.1)
 
-count-padded_to : (n : ℕ) (ts : Trees) → tree_count (padded_to n ts) ≡ max n (tree_count ts)
+pub count-padded_to : (n : ℕ) (ts : Trees) → tree_count (padded_to n ts) ≡ max n (tree_count ts)
 count-padded_to zero ts = omega arith
 count-padded_to (suc n) none = ap suc (count-padded_to n none) ∙ omega arith
 count-padded_to (suc n) (t ▸ ts) = ap suc (count-padded_to n ts) ∙ omega arith

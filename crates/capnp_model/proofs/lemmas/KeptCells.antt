@@ -10,10 +10,10 @@ use Rattle.capnp_model.specs.Edits.{Cell, mark, put_bits, put_child}
 use Rattle.capnp_model.specs.InKind.{in_kind, child_in_kind, fields_in_kind, body_in_kind, shape_in_kind}
 use Rattle.capnp_model.specs.Views.{SameAll}
 use Rattle.capnp_model.proofs.lemmas.SoundShapes.{AllApart, MarkApart, HasPlace, Apart, IsApartFrom, AtName, IsAlone}
-use Rattle.capnp_model.proofs.lemmas.KeptRules.{and_left, and_right}
 use Rattle.capnp_model.proofs.Writes.{discriminant_after, same_bits_if_apart}
 use Rattle.capnp_model.proofs.lemmas.Marks.{view_of}
 use Rattle.capnp_model.proofs.lemmas.Paths.{IsDone, read_child-is}
+use Rattle.capnp_model.proofs.lemmas.Tests.{both, or_right, and_left, and_right}
 
 -- The bits or the child of an area are the same.
 abbrev pub KeptAt : Area → Cell → Cell → Type 0
@@ -128,14 +128,6 @@ pub record IsPut (s : Schema) (u member : Option ℕ) (body : Body) (c c' : Cell
 
 pub is_done : (s : Schema) (u member : Option ℕ) (body : Body) (c c' : Cell) (r : Reading) → IsPut s u member body c c' r → IsDone s u member body c c' r
 is_done s u member body c c' r d = record { reads = d.reads; keeps = λ ys h k. kept_views s ys c c' (d.keeps ys h k); marks = d.marks }
-
-pub or_right : (a b : Bool) → b ≡ true → (a || b) ≡ true
-or_right true b h = refl
-or_right false b h = h
-
-pub both : (a b : Bool) → a ≡ true → b ≡ true → (a && b) ≡ true
-both true b h k = k
-both false b h k = absurd (cc h)
 
 module _ (s : Schema) (u member : Option ℕ) (body : Body) (c c' : Cell) (r : Reading) (d : IsPut s u member body c c' r) where
   other_in_kind : (written m : Option ℕ) (other : Body) (e : Option ℕ) → member ≡ written → IsApartFrom u written body m other

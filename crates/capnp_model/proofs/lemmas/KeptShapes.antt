@@ -9,11 +9,9 @@ use Rattle.capnp_model.specs.Accepted.{schema_of, IsAccepted}
 use Rattle.capnp_model.specs.Compatible.{Pairs, has_pair, related_plain, related, same_option, member_count, is_new, keeps_union, same_default, keeps, keeps_fields, keeps_body, IsCompatible}
 use Rattle.capnp_model.specs.Projection.{project_fields, projected}
 use Rattle.capnp_model.specs.Printing.{fields_in}
-use Rattle.capnp_model.proofs.lemmas.KeptRules.{and_left, and_right, and_three, and_four, MembersIn, OwnsMembers, AllOwn, OwnBody, unions_are_good, shape_owns}
+use Rattle.capnp_model.proofs.lemmas.KeptRules.{and_three, and_four, MembersIn, OwnsMembers, AllOwn, OwnBody, unions_are_good, shape_owns}
 use Rattle.capnp_model.proofs.lemmas.OlderReading.{SamePlain, same_bool, same_int, same_uint, same_enum, Related, related_void, related_plain', related_text, related_blob, related_untyped, related_interface, related_struct, related_list, SameActive, KeptShape, kept, KeptFields, kept_all, kept_added, kept_field, KeptBody, kept_void, kept_plain, kept_pointer, kept_group, KidsAgree, shape_record-project, read_child-project, no_children_agree}
-
-same_number : (a b : ℕ) → (a == b) ≡ true → a ≡ b
-same_number a b h = grind arith
+use Rattle.capnp_model.proofs.lemmas.Tests.{same_number, and_left, and_right}
 
 pub option_is : (a b : Option ℕ) → same_option a b ≡ true → a ≡ b
 option_is None None h = refl

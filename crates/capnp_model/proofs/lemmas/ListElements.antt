@@ -10,11 +10,11 @@ use Rattle.capnp_model.specs.Readings.{Reading, number, Readings, ◌▹◌, Chi
 use Rattle.capnp_model.specs.Steps.{Outcome, done, on_index}
 use Rattle.capnp_model.specs.Edits.{Cell, Edit, padded_elements, on_plain, on_pointers, on_elements}
 use Rattle.capnp_model.specs.InKind.{Kinds, one_kind, element_kinds, in_kind, child_in_kind, children_in_kind, elements_in_kind}
-use Rattle.capnp_model.proofs.lemmas.KeptRules.{and_left, and_right}
 use Rattle.capnp_model.proofs.lemmas.Numbers.{length-numbers_in}
 use Rattle.capnp_model.proofs.lemmas.Marks.{read_child-padded_to}
 use Rattle.capnp_model.proofs.lemmas.Paths.{unmap, IsMapped, mapped, read_child-is}
-use Rattle.capnp_model.proofs.lemmas.KeptCells.{child_in_kind-is, both}
+use Rattle.capnp_model.proofs.lemmas.KeptCells.{child_in_kind-is}
+use Rattle.capnp_model.proofs.lemmas.Tests.{both, and_left, and_right}
 
 -- ---- types of elements
 

@@ -75,7 +75,7 @@ ReadsAll read other = (n : ℕ) (b : List ℕ) (r : List ℕ × List ℕ) → re
 else_refused_ok : {A : Type 0} (k : Kind) (a : Result A Kind) (x : A) → a ≡ Ok x → else_refused k a ≡ Ok x
 else_refused_ok k a x e = rw e refl
 
-ok_else_refused : {A : Type 0} (k : Kind) (a : Result A Kind) (x : A) → else_refused k a ≡ Ok x → a ≡ Ok x
+pub ok_else_refused : {A : Type 0} (k : Kind) (a : Result A Kind) (x : A) → else_refused k a ≡ Ok x → a ≡ Ok x
 ok_else_refused k (Ok y) x e = e
 ok_else_refused k (Err d) x e = absurd cc
 

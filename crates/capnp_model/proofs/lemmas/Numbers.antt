@@ -6,6 +6,7 @@ use Rattle.std.proofs.lemmas.Nat.{pow_pos}
 use lib.Pow as pow
 use Rattle.capnp_model.specs.Sections.{numbers_in, number_of, words_of, section_of, needed_words, words_for}
 use Rattle.capnp_model.proofs.lemmas.Bounds.{joined_lt}
+use Rattle.capnp_model.proofs.lemmas.Tests.{is_lt}
 
 pub length-numbers_in : (w n s : ℕ) → length (numbers_in w n s) ≡ n
 length-numbers_in w zero s = refl
@@ -75,14 +76,11 @@ needed_words_hold (suc w) n h = by (nat_lt n (2 ^ (64 * w))) refl (needed_words_
     by true e more = more (grind arith)
     by false e more = h
 
-below_is_true : (a b : ℕ) → a < b → nat_lt a b ≡ true
-below_is_true a b h = grind arith
-
 one_word_more : (v w n : ℕ) → w ≤ suc v → n < 2 ^ (64 * w) → (w ≤ v → needed_words v n ≡ needed_words w n) → (b : Bool) → nat_lt v w ≡ b → needed_words (suc v) n ≡ needed_words w n
 one_word_more v w n le h more true e = let same : suc v ≡ w = grind arith in ap (λ z. needed_words z n) same
 one_word_more v w n le h more false e =
     let less : w ≤ v = grind arith in
-    ap (λ (b : Bool). if b then needed_words v n else suc v) (below_is_true n (2 ^ (64 * v)) (wider n (64 * w) (64 * v) (omega arith) h)) ∙ more less
+    ap (λ (b : Bool). if b then needed_words v n else suc v) (is_lt n (2 ^ (64 * v)) (wider n (64 * w) (64 * v) (omega arith) h)) ∙ more less
 
 -- a section that fits into fewer words needs the same words
 pub needed_words-more : (v w n : ℕ) → w ≤ v → n < 2 ^ (64 * w) → needed_words v n ≡ needed_words w n

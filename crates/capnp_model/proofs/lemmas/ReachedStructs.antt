@@ -4,10 +4,11 @@ use Rattle.capnp_model.specs.Schemas.{Shape, shape, Fields, no_fields, field, Bo
 use Rattle.capnp_model.specs.Accepted.{Area, bit_area, pointer_area, areas_of, areas_of_body, is_apart_from, has_no_overlap, fields_are_apart, body_has_no_overlap}
 use Rattle.capnp_model.specs.Steps.{target, target_of}
 use Rattle.capnp_model.specs.InKindCalls.{defaults_in_kind, field_defaults_in_kind, body_default_in_kind}
-use Rattle.capnp_model.proofs.lemmas.KeptRules.{and_left, and_right, and_three}
+use Rattle.capnp_model.proofs.lemmas.KeptRules.{and_three}
 use Rattle.capnp_model.proofs.lemmas.FineShapes.{IsGood, AreGood, IsGoodBody, found}
 use Rattle.capnp_model.proofs.lemmas.ListElements.{IsReal}
 use Rattle.capnp_model.proofs.ListsInKind.{ReadsStraight}
+use Rattle.capnp_model.proofs.lemmas.Tests.{and_left, and_right}
 
 -- ---- what accepted schemas give, for structs that are reached
 

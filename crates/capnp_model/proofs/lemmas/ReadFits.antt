@@ -84,7 +84,7 @@ words_length s p n ws e =
     let is = ap length g.1 in
     omega (arith, length-take n (drop p.position a.0), length-drop p.position a.0)
 
-list_kind_cases : (size : ℕ) → size < 8 → list_kind size ≡ of_bits → size < 6
+pub list_kind_cases : (size : ℕ) → size < 8 → list_kind size ≡ of_bits → size < 6
 list_kind_cases size lt e = by (eqb size 6) (eqb size 7) refl refl e
   where
     by : (a b : Bool) → eqb size 6 ≡ a → eqb size 7 ≡ b → cond a of_pointers (cond b of_structs of_bits) ≡ of_bits → size < 6

@@ -8,6 +8,7 @@ use Rattle.capnp_model.specs.Encoding.{body, links, bodies, cells, element_bodie
 use Rattle.capnp_model.specs.Sizes.{object_words, each_object_words, element_object_words, capability_count, each_capability_count, element_capability_count}
 use Rattle.capnp_model.proofs.lemmas.Numbers.{length-numbers_in}
 use Rattle.capnp_model.proofs.lemmas.RoundTrip.{links_length}
+use Rattle.capnp_model.proofs.lemmas.Tests.{neither}
 
 mutual
   unfolding object_words
@@ -34,10 +35,6 @@ mutual
       let one = words_length_each ts in
       let rest = words_length_elements es (before + length (bodies ts)) d k in
       omega (arith, length-append (words_of d section) (l ++ c), length-append l c, length-append (bodies ts) (element_bodies es), length-numbers_in 64 d section, links_length ts (element_count es * (d + k)) before)
-
-pub neither : (a b : Bool) → (a || b) ≡ false → (a ≡ false) × (b ≡ false)
-neither true b e = absurd cc
-neither false b e = (refl, e)
 
 mutual
   unfolding capability_count has_capability

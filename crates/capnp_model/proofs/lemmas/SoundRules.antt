@@ -7,8 +7,9 @@ use Rattle.std.proofs.lemmas.List.Folds.{list_all-append}
 use Rattle.capnp_model.specs.Schemas.{PlainType, width, Ty, void, plain, text, blob, untyped, interface, struct, list, BaseType, base_type, lists_of, type_of, Value, no_value, bits, text_bytes, blob_bytes, list_segment, struct_segment, untyped_value, interface_value, FieldKind, slot, group, Field, StructNode, NodeKind, struct_node, enum_node, Node, Shape, shape, field, Schema}
 use Rattle.capnp_model.specs.Accepted.{find_node, fields_of_kind, names_of_kind, on_struct, slot_types, types_in, is_group_node, is_struct_node, names_a, slot_body, field_body, fields_from, default_bits, union_place, no_shape, shape_of_node, shape_in, schema_of, annotation_lists, annotations_in, groups_used, is_short, is_empty_name, are_distinct, has_good_names, names_its_sort, has_good_ids, members_of, are_once, has_good_union, has_no_overlap, areas_of, same_plain, is_default_of, has_good_default, IsAccepted}
 use Rattle.capnp_model.proofs.lemmas.SoundShapes.{IsFineSchema}
-use Rattle.capnp_model.proofs.lemmas.KeptRules.{and_left, and_right, and_three, behind, no_break, found_passes}
+use Rattle.capnp_model.proofs.lemmas.KeptRules.{and_three, behind, no_break, found_passes}
 use Rattle.capnp_model.proofs.lemmas.FineShapes.{HasUnion, IsGoodMember, IsNewName, IsNewMember, IsGood, AreGood, IsGoodBody, fine_shape}
+use Rattle.capnp_model.proofs.lemmas.Tests.{and_left, and_right}
 
 -- what each node keeps
 pub record RulesKept (nodes : List Node) : Type 0 where
@@ -46,7 +47,7 @@ not_or : (a b : Bool) → not (a || b) ≡ true → (a ≡ false) × (not b ≡ 
 not_or false b h = (refl, h)
 not_or true b h = absurd (cc h)
 
-other_name : (k l : List ℕ) → bytes_eq l k ≡ false → bytes_eq k l ≡ false
+pub other_name : (k l : List ℕ) → bytes_eq l k ≡ false → bytes_eq k l ≡ false
 other_name k l h = by (bytes_eq k l) refl
   where
     by : (b : Bool) → bytes_eq k l ≡ b → bytes_eq k l ≡ false
@@ -125,7 +126,7 @@ type_is : (c : ℕ) (b : BaseType) (id : ℕ) → lists_of c (base_type b) ≡ s
 type_is zero b id h = base_is b id h
 type_is (suc c) b id h = absurd (cc h)
 
-no_group_kind : (k : NodeKind) → (elim k as (λ (x : NodeKind). Bool) [ struct_node s ↦ not s.is_group | enum_node es ↦ false ]) ≡ true → (elim k as (λ (x : NodeKind). Bool) [ struct_node s ↦ s.is_group | enum_node es ↦ false ]) ≡ false
+pub no_group_kind : (k : NodeKind) → (elim k as (λ (x : NodeKind). Bool) [ struct_node s ↦ not s.is_group | enum_node es ↦ false ]) ≡ true → (elim k as (λ (x : NodeKind). Bool) [ struct_node s ↦ s.is_group | enum_node es ↦ false ]) ≡ false
 no_group_kind (struct_node s) h = by s.is_group h
   where
     by : (b : Bool) → not b ≡ true → b ≡ false

@@ -6,11 +6,11 @@ use Rattle.std.proofs.lemmas.List.Sums.{sum_by-cons, sum_by-append}
 use Rattle.capnp_model.specs.Trees.{size_bits, size_of_width}
 use Rattle.capnp_model.specs.Schemas.{width, Ty, void, plain, text, blob, untyped, interface, struct, list, BaseType, base_type, lists_of, type_of, Value, FieldKind, slot, group, Field, StructNode, NodeKind, struct_node, enum_node, Node, Shape, shape, Fields, Body}
 use Rattle.capnp_model.specs.Accepted.{Area, bit_area, pointer_area, union_area, areas_of, areas_of_fields, areas_of_body, find_node, fields_of_kind, on_struct, slot_types, types_in, groups_of_field, groups_used, is_group_node, names_a, slot_body, field_body, fields_from, union_place, no_shape, shape_of_node, shape_in, schema_of, annotations_in, names_its_sort, has_good_ids, uses_of, holder_of, sizes_of, fits_in, meets_below, is_good_group, members_of, are_once, has_good_union, is_inside, has_its_place, has_places, IsAccepted}
-use Rattle.capnp_model.proofs.lemmas.KeptRules.{and_left, and_right, and_three, behind, no_break, found_passes}
+use Rattle.capnp_model.proofs.lemmas.KeptRules.{and_three, behind, no_break, found_passes}
 use Rattle.capnp_model.proofs.lemmas.SoundRules.{RulesKept, rules_kept, no_group, found_id}
-use Rattle.capnp_model.proofs.lemmas.KeptCells.{or_right}
 use Rattle.capnp_model.proofs.lemmas.ListElements.{IsReal, HasRoom}
 use Rattle.capnp_model.proofs.lemmas.ReachedStructs.{AreReal, FieldsReal, BodyReal, AllInside, IsWithin}
+use Rattle.capnp_model.proofs.lemmas.Tests.{number_is, lt_is, le_is, or_right, and_left, and_right}
 
 -- ---- types
 
@@ -92,12 +92,6 @@ straight_width w h o = by (w == 1) (w == 8) (w == 16) (w == 32) refl refl refl r
     by false false false false e f g i k = subst (λ z. (z * o + z ≤ 64) ⊎ (64 ≤ z * o)) k (at 1 64 refl (λ l. let m = below 1 l in omega arith) (λ l. let m = above 1 l in omega arith))
 
 -- ---- slots
-
-le_is : (a b : ℕ) → nat_le a b ≡ true → a ≤ b
-le_is a b h = grind arith
-
-lt_is : (a b : ℕ) → nat_lt a b ≡ true → a < b
-lt_is a b h = grind arith
 
 plain_inside : (w o words : ℕ) → nat_le (w * (o + 1)) (64 * words) ≡ true → w * o + w ≤ 64 * words
 plain_inside w o words h = let e : w * (o + 1) ≡ w * o + w = omega arith in subst (λ z. z ≤ 64 * words) e (le_is (w * (o + 1)) (64 * words) h)
@@ -197,9 +191,6 @@ pub record AreSoundFields (nodes : List Node) (words pointers : ℕ) (fs : Field
   inside : AllInside words pointers (areas_of_fields fs)
   straight : AllStraight (areas_of_fields fs)
 
-eq_refl : (n : ℕ) → (n == n) ≡ true
-eq_refl n = grind arith
-
 module _ (nodes : List Node) (n : StructNode) (groups : ℕ → Shape) (sound : (g : ℕ) → IsSoundShape nodes (groups g)) where
   kind_sound : (k : FieldKind) → list_all (λ t. names_its_sort nodes t.base) (slot_types k) ≡ true → has_its_place n k ≡ true
       → ((g : ℕ) → list_any (λ x. x == g) (groups_of_field k) ≡ true → HasRoom (groups g) n.words n.pointers) → IsSoundSlot nodes n.words n.pointers (field_body groups k)
@@ -207,7 +198,7 @@ module _ (nodes : List Node) (n : StructNode) (groups : ℕ → Shape) (sound : 
   kind_sound (slot offset ty d) h place each = slot_sound nodes n offset (type_of ty) d (real_type nodes ty.list_count ty.base (and_left (names_its_sort nodes ty.base) true h)) place
   kind_sound (group g) h place each =
       let s = sound g in
-      record { real = s.real; inside = room_inside (groups g) n.words n.pointers s.within (each g (ap (λ z. z || false) (eq_refl g))); straight = s.straight }
+      record { real = s.real; inside = room_inside (groups g) n.words n.pointers s.within (each g (ap (λ z. z || false) (number_is g))); straight = s.straight }
 
   any_left : (g : ℕ) (xs ys : List ℕ) → list_any (λ x. x == g) xs ≡ true → list_any (λ x. x == g) (xs ++ ys) ≡ true
   any_left g xs ys h = list_any-append (λ x. x == g) xs ys ∙ ap (λ z. z || list_any (λ x. x == g) ys) h

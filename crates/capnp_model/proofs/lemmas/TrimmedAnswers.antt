@@ -10,16 +10,14 @@ use Rattle.capnp_model.specs.Calls.{Call}
 use Rattle.capnp_model.specs.Answers.{Answer, Limits, value_within, opened_root, answer_struct, answer_value, answer, widened_root}
 use Rattle.capnp_model.proofs.TrimmedReading.{read-trim}
 use Rattle.capnp_model.proofs.lemmas.TrimTwice.{trim-trim}
-
-same_record : (r r' : Record) → record_as r ≡ record_as r' → r ≡ r'
-same_record r r' h = cc
+use Rattle.capnp_model.proofs.lemmas.Paths.{record_is}
 
 -- THE LAW: a trimmed value has the value's record, where lists are in kind.
 pub trimmed_record : (s : Schema) (id : ℕ) (t : Tree) → in_kind s t (struct id) ≡ true → record_of s id (trim t) ≡ record_of s id t
 unfolding record_of record_by_shape trim read
 trimmed_record s id null h = refl
 trimmed_record s id (capability i) h = refl
-trimmed_record s id (structure w n ts) h = same_record _ _ (read-trim s (structure w n ts) (struct id) h)
+trimmed_record s id (structure w n ts) h = record_is _ _ (read-trim s (structure w n ts) (struct id) h)
 trimmed_record s id (plain_list z n k) h = refl
 trimmed_record s id (pointer_list ts) h = refl
 trimmed_record s id (struct_list w p es) h = refl

@@ -21,7 +21,7 @@ use Rattle.capnp_model.proofs.lemmas.EditLaws.{record_after_calls, replies_to_ca
 
 -- ---- children
 
-no_child : (p i : ℕ) → child (resized p none) i ≡ null
+pub no_child : (p i : ℕ) → child (resized p none) i ≡ null
 no_child zero i = refl
 no_child (suc p) zero = refl
 no_child (suc p) (suc i) = no_child p i
@@ -99,7 +99,7 @@ opened_open g (plain_list z n k) o = absurd o
 opened_open g (pointer_list ts) o = absurd o
 opened_open g (struct_list w p es) o = absurd o
 
-trim_open : (t : Tree) → IsOpen t → IsOpen (trim t)
+pub trim_open : (t : Tree) → IsOpen t → IsOpen (trim t)
 unfolding trim
 trim_open null o = tt
 trim_open (structure w n k) o = tt

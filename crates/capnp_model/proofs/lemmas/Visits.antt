@@ -234,7 +234,7 @@ few_followed (Ok c ∷ before) last rest k paid w e =
     let more = few_followed before last rest (k - 1 + c) x.0 w.1 x.1 in
     omega arith
 
-tag_fits : (ws : List ℕ) (t : Tag) → tag_in ws ≡ Ok t → t.count * (t.data_words + t.pointers) + 1 ≤ length ws
+pub tag_fits : (ws : List ℕ) (t : Tag) → tag_in ws ≡ Ok t → t.count * (t.data_words + t.pointers) + 1 ≤ length ws
 tag_fits [] t e = absurd cc
 tag_fits (w ∷ ws) t e =
     let a = bind_ok (tag_of (pointer_of w)) _ t e in

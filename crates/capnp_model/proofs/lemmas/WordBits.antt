@@ -11,7 +11,7 @@ use Rattle.capnp_model.proofs.lemmas.Numbers.{number_of_lt, wider}
 
 -- ---- the first word
 
-low_bits : (s k m : ℕ) → k ≤ m → s % 2 ^ m % 2 ^ k ≡ s % 2 ^ k
+pub low_bits : (s k m : ℕ) → k ≤ m → s % 2 ^ m % 2 ^ k ≡ s % 2 ^ k
 low_bits s k m h = let e : (m - k) + k ≡ m = omega arith in subst (λ (z : ℕ). s % 2 ^ z % 2 ^ k ≡ s % 2 ^ k) e (pow.mod-mod-pow s (m - k) k)
 
 -- bits below 64 are those of the lowest 64
@@ -64,7 +64,7 @@ upper_of_low : (s k m : ℕ) → k ≤ m → s % 2 ^ m / 2 ^ k ≡ s / 2 ^ k % 2
 upper_of_low s k m h = let e : (m - k) + k ≡ m = omega arith in subst (λ (z : ℕ). s % 2 ^ z / 2 ^ k ≡ s / 2 ^ k % 2 ^ (m - k)) e (pow.field s (m - k) k)
 
 -- a write goes with taking the lowest m bits
-written_in_low : (at width value s m : ℕ) → value < 2 ^ width → at + width ≤ m → with_bits at width value s % 2 ^ m ≡ with_bits at width value (s % 2 ^ m)
+pub written_in_low : (at width value s m : ℕ) → value < 2 ^ width → at + width ≤ m → with_bits at width value s % 2 ^ m ≡ with_bits at width value (s % 2 ^ m)
 written_in_low at width value s m fits h =
     let k : ℕ = width + at in
     let within : k ≤ m = omega arith in

@@ -45,7 +45,7 @@ one_back read write back ws rest fits =
     let bytes : write ws ++ [] ≡ write ws = append-nil (write ws) in
     ap (λ (vs : List ℕ). read (length vs) (write ws ++ rest)) (sym whole) ∙ ap (λ (bs : List ℕ). read (length (ws ++ [])) (bs ++ rest)) (sym bytes) ∙ back (ws ∷ []) rest (fits, tt) ∙ ap (λ (vs : List ℕ). Ok (vs, rest)) whole
 
-paired_length : (ns : List ℕ) → length (paired ns) ≡ (length ns + 1) / 2
+pub paired_length : (ns : List ℕ) → length (paired ns) ≡ (length ns + 1) / 2
 paired_length [] = omega arith
 paired_length (a ∷ []) = omega arith
 paired_length (a ∷ b ∷ ns) = let rest = paired_length ns in omega arith

@@ -42,7 +42,7 @@ wordless n = record { word_count = 0; cap_count = n }
 abbrev pub ObjectGives : Segments → (Place → Option Tree) → (Place → List Visit) → Object → ReadLimiter → Result MessageSize Error → ReadLimiter → Type 0
 ObjectGives s f v o old r new = SizeGives object_words capability_count (tree_in s f o) (met_in v o) old r new
 
-data_bits_plain : (n : ℕ) → n < 6 → size_bits n ≡ data_bits n
+pub data_bits_plain : (n : ℕ) → n < 6 → size_bits n ≡ data_bits n
 data_bits_plain n h = let t : nat_lt n 6 ≡ true = grind (arith, nat_tests) in rw t refl
 
 module _ (s : Segments) (f : Place → Option Tree) (v : Place → List Visit) (o : Object) (old new : ReadLimiter) where

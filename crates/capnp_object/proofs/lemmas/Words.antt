@@ -27,7 +27,7 @@ segment_past s i e = slice_get-map whole_words s i ∙ ap (option_map whole_word
 
 -- ---- so many words
 
-is_some-provided : {A : Type 0} (x : A) (b : Bool) → is_some (x provided b) ≡ b
+pub is_some-provided : {A : Type 0} (x : A) (b : Bool) → is_some (x provided b) ≡ b
 is_some-provided x true = refl
 is_some-provided x false = refl
 

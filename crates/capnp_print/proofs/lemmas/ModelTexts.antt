@@ -16,14 +16,13 @@ use Rattle.capnp_values.specs.ListSizes.{size_of}
 use Rattle.capnp_values.specs.Sources.{default_pointer}
 use Rattle.capnp_values.specs.Shown.{Shown, a_number, an_enum, a_text, a_blob, a_struct, a_list, a_pointer, a_capability, opened}
 use Rattle.capnp_values.specs.Standing.{IsPointerType, IsReading, IsRecord, Answers, or_empty, PointersAreRead}
-use Rattle.capnp_values.proofs.lemmas.DefaultReadings.{segment_read}
+use Rattle.capnp_values.proofs.lemmas.DefaultReadings.{segment_read, encoded}
 use Rattle.capnp_values.proofs.lemmas.Presence.{there}
 use Rattle.capnp_print.specs.Texts.{as_it_is}
 use Rattle.capnp_print.specs.ShownReadings.{reading_of}
 use Rattle.capnp_print.specs.Printed.{Text, NullTexts, text_in, field_and_rest, mark, printed, items_printed, fields_printed, empty_printed, no_schema, schema_shown, as_shown, bytes_shown, default_shown, text_shown, null_printed, shown_text}
 use Rattle.capnp_print.specs.Models.{unopened, unopened_each, unopened_fields, IsOfNodes, TextsAreModels}
 use Rattle.capnp_print.proofs.lemmas.Children.{within}
-use Rattle.capnp_print.proofs.DefaultRoots.{encoded}
 use Rattle.capnp_print.proofs.lemmas.Models.{marked, list_is, struct_is, item_is, field_is, no_fields_shown, printed_print}
 use Rattle.capnp_print.proofs.lemmas.SoundShapes.{IsNamed, IsDefault, no_default_is, SoundShape, SoundFields, SoundBody, shapes_sound}
 use Rattle.capnp_print.proofs.WholeReadings.{Sound, element_named, behind, there_is, read_whole, of_nodes, wholes}

@@ -5,11 +5,12 @@ use Rattle.capnp_model.specs.Trees.{Tree, null}
 use Rattle.capnp_model.specs.Decoding.{decode}
 use Rattle.capnp_model.specs.Schemas.{width, TypeRecord, type_of, Ty, void, plain, text, blob, untyped, interface, struct, list, Value, no_value, bits, text_bytes, blob_bytes, list_segment, struct_segment, untyped_value, interface_value, FieldKind, slot, group, Field as FieldNode, StructNode, NodeKind, struct_node, enum_node, Node, Shape, shape, Fields, no_fields, field, Body, void_slot, plain_slot, pointer_slot, group_slot, default_or_null}
 use Rattle.capnp_model.specs.Accepted.{find_node, fields_of_kind, slot_body, field_body, fields_from, union_place, no_shape, shape_of_node, shape_in, schema_of, is_default_of, opens_as, is_good_segment, is_good_value, has_good_default, default_reads, IsAccepted}
-use Rattle.capnp_model.proofs.lemmas.KeptRules.{and_left, and_right, found_passes}
+use Rattle.capnp_model.proofs.lemmas.KeptRules.{found_passes}
 use Rattle.capnp_values.specs.Standing.{IsPointerType}
 use Rattle.capnp_values.proofs.lemmas.FieldReadings.{plain_base, plain_type}
 use Rattle.capnp_values.proofs.lemmas.GoodDefaults.{defaults_kept}
-use Rattle.capnp_print.proofs.DefaultRoots.{decoded}
+use Rattle.capnp_model.proofs.lemmas.Tests.{and_left, and_right}
+use Rattle.capnp_values.proofs.lemmas.DefaultReadings.{decoded}
 
 -- A type that nodes can name.
 abbrev pub IsNamed : Ty → Type 0

@@ -5,9 +5,10 @@ use Rattle.std.proofs.lemmas.Bool.Decides.{nat_tests}
 use Rattle.std.specs.Str.{bytes_eq}
 use Rattle.capnp_model.specs.Schemas.{Field, StructNode, NodeKind, struct_node, enum_node, Node, Shape, Fields, no_fields, field}
 use Rattle.capnp_model.specs.Accepted.{find_node, no_shape, field_body, fields_from, on_struct, members_of, are_once, has_good_union, schema_of, IsAccepted}
-use Rattle.capnp_model.proofs.lemmas.KeptRules.{and_left, and_right, and_three, unions_are_good, found_passes}
+use Rattle.capnp_model.proofs.lemmas.KeptRules.{and_three, unions_are_good, found_passes}
 use Rattle.capnp_records.specs.Sets.{struct_found}
 use Rattle.capnp_records.specs.Tables.{is_member_at, place_from, members_from, others_from}
+use Rattle.capnp_model.proofs.lemmas.Tests.{same_number, not_true, both, and_left, and_right, never_false, is_lt}
 use Rattle.capnp_queries.specs.Fields.{field_count, index_of, place_of_name, is_value, place_of_member, member_count, others_at}
 use Rattle.capnp_queries.specs.Names.{place_named}
 use Rattle.capnp_queries.specs.Structs.{IsRecordOf}
@@ -70,10 +71,6 @@ one_new m q (suc n) lt h = by (one_new m q n) (m == n) refl
         let rest = again other h in
         omega (arith, first, rest)
 
-not_true : (b : Bool) → not b ≡ true → b ≡ false
-not_true false h = refl
-not_true true h = absurd (cc h)
-
 nothing : (n : ℕ) → below (λ k. false) n ≡ 0
 unfolding below one_if
 nothing zero = refl
@@ -89,12 +86,8 @@ counted n (m ∷ ms) small once =
     let first = one_new m (λ k. list_any (λ j. j == k) ms) n lt new in
     omega (arith, first, more)
 
-bool_is : (b : Bool) → (b ≡ false → ⊥) → b ≡ true
-bool_is true h = refl
-bool_is false h = absurd (h refl)
-
 all_there : (n : ℕ) (ms : List ℕ) → length ms ≡ n → list_all (λ m. nat_lt m n) ms ≡ true → are_once ms ≡ true → (d : ℕ) → d < n → list_any (λ m. m == d) ms ≡ true
-all_there n ms len small once d lt = bool_is (list_any (λ m. m == d) ms) (λ no. let lacks = one_lacks (λ k. list_any (λ m. m == k) ms) n d lt no in let all = counted n ms small once in omega (arith, lacks, all, len))
+all_there n ms len small once d lt = never_false (list_any (λ m. m == d) ms) (λ no. let lacks = one_lacks (λ k. list_any (λ m. m == k) ms) n d lt no in let all = counted n ms small once in omega (arith, lacks, all, len))
 
 none_above : (n : ℕ) (ms : List ℕ) → list_all (λ m. nat_lt m n) ms ≡ true → (d : ℕ) → n ≤ d → list_any (λ m. m == d) ms ≡ false
 none_above n [] small d le = refl
@@ -155,9 +148,6 @@ pub record UnionKept (s : StructNode) : Type 0 where
   pub small : list_all (λ m. nat_lt m s.discriminant_count) (members_of s) ≡ true
   pub once : are_once (members_of s) ≡ true
 
-same_number : (a b : ℕ) → (a == b) ≡ true → a ≡ b
-same_number a b h = grind arith
-
 pub union_kept : (nodes : List Node) → IsAccepted nodes → (id : ℕ) (s : StructNode) → struct_found nodes id ≡ Some s → UnionKept s
 union_kept nodes accepted id s h =
     let f = struct_is nodes id s h in
@@ -204,20 +194,13 @@ table_at fs d zero k x lt = absurd (omega arith)
 table_at fs d (suc n) zero x lt = let at : d ≡ d + 0 = omega arith in ap (λ j. place_from j 0 fs) at
 table_at fs d (suc n) (suc k) x lt = let at : suc d + k ≡ d + suc k = omega arith in table_at fs (suc d) n k x (omega arith) ∙ ap (λ j. place_from j 0 fs) at
 
-both : (a b : Bool) → a ≡ true → b ≡ true → (a && b) ≡ true
-both true b h k = k
-both false b h k = absurd (cc h)
-
-is_below : (a b : ℕ) → a < b → nat_lt a b ≡ true
-is_below a b h = grind (arith, nat_tests)
-
 pub table_inside : (s : StructNode) → UnionKept s → (d n : ℕ) → d + n ≤ s.discriminant_count → list_all (λ i. nat_lt i (length s.fields)) (members_from s.fields d n) ≡ true
 table_inside s u d zero le = refl
 table_inside s u d (suc n) le =
     let here = placed (λ g. no_shape) s.fields 0 d (member_there s u d (omega (arith, le))) in
     let place = here.place in
     let inside = here.inside in
-    both (nat_lt (place_from d 0 s.fields) (length s.fields)) (list_all (λ i. nat_lt i (length s.fields)) (members_from s.fields (suc d) n)) (is_below (place_from d 0 s.fields) (length s.fields) (omega (arith, place, inside))) (table_inside s u (suc d) n (omega (arith, le)))
+    both (nat_lt (place_from d 0 s.fields) (length s.fields)) (list_all (λ i. nat_lt i (length s.fields)) (members_from s.fields (suc d) n)) (is_lt (place_from d 0 s.fields) (length s.fields) (omega (arith, place, inside))) (table_inside s u (suc d) n (omega (arith, le)))
 
 pub others_same : (groups : ℕ → Shape) (i : ℕ) (fs : List Field) → others_from i fs ≡ others_at i (fields_from groups fs)
 others_same groups i [] = refl
@@ -232,7 +215,7 @@ others_inside i n [] le = refl
 others_inside i n (f ∷ fs) le = by (others_inside (suc i) n fs (omega (arith, le))) f.member
   where
     by : list_all (λ j. nat_lt j n) (others_from (suc i) fs) ≡ true → (o : Option ℕ) → list_all (λ j. nat_lt j n) (elim o as (λ (p : Option ℕ). List ℕ) [ None ↦ i ∷ others_from (suc i) fs | Some m ↦ others_from (suc i) fs ]) ≡ true
-    by again None = both (nat_lt i n) (list_all (λ j. nat_lt j n) (others_from (suc i) fs)) (is_below i n (omega (arith, le))) again
+    by again None = both (nat_lt i n) (list_all (λ j. nat_lt j n) (others_from (suc i) fs)) (is_lt i n (omega (arith, le))) again
     by again (Some m) = again
 
 pub others_short : (i : ℕ) (fs : List Field) → length (others_from i fs) ≤ length fs

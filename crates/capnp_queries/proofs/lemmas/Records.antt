@@ -6,10 +6,12 @@ use Rattle.std.proofs.lemmas.Bool.Decides.{nat_tests}
 use Rattle.capnp_model.specs.Schemas.{TypeRecord, Annotation, Enumerant, FieldKind, slot, group, Field, StructNode, NodeKind, struct_node, enum_node, Node, Shape, shape, Fields, no_fields, field}
 use Rattle.capnp_model.specs.Printing.{fields_in}
 use Rattle.capnp_model.specs.Accepted.{find_node, slot_types, groups_of_field, groups_used, types_in, names_of_kind, annotation_lists, annotations_in, fields_of_kind, enumerants_of_kind, names_its_sort, has_good_ids, is_short, is_group_node, names_a, field_body, fields_from, union_place, no_shape, shape_of_node, shape_in, schema_of, IsAccepted}
-use Rattle.capnp_model.proofs.lemmas.KeptRules.{and_left, and_right, found_passes}
+use Rattle.capnp_model.proofs.lemmas.KeptRules.{found_passes}
 use Rattle.capnp_model.proofs.lemmas.SoundRules.{rules_kept, found_id}
 use Rattle.capnp_records.specs.Sets.{has_struct, struct_in, struct_found, enumerants_in, enumerants_found}
 use Rattle.capnp_records.proofs.lemmas.ListTests.{list_all-flat_map}
+use Rattle.capnp_model.proofs.lemmas.Tests.{both, and_left, and_right}
+use Rattle.capnp_records.proofs.lemmas.FieldPlaces.{length_mapped}
 use Rattle.capnp_queries.specs.Fields.{Entry, field_at, field_count, shape_id, entry_in, names_kind, are_named, are_few, is_named}
 use Rattle.capnp_queries.specs.Structs.{IsRecordOf}
 use Rattle.capnp_queries.proofs.lemmas.Shapes.{shape_fixed}
@@ -27,21 +29,13 @@ entry_from groups [] (suc i) = refl
 entry_from groups (f ∷ fs) zero = refl
 entry_from groups (f ∷ fs) (suc i) = entry_from groups fs i
 
-pub length_map : {A B : Type 0} (f : A → B) (xs : List A) → length (map f xs) ≡ length xs
-length_map f [] = refl
-length_map f (x ∷ xs) = let h = length_map f xs in omega (arith, h)
-
 -- ---- tests of parts
 
 all_map : {A B : Type 0} (p : B → Bool) (f : A → B) (xs : List A) → list_all p (map f xs) ≡ list_all (λ x. p (f x)) xs
 all_map p f [] = refl
 all_map p f (x ∷ xs) = ap (λ b. p (f x) && b) (all_map p f xs)
 
-both : (a b : Bool) → a ≡ true → b ≡ true → (a && b) ≡ true
-both true b h k = k
-both false b h k = absurd (cc h)
-
-all_both : {A : Type 0} (p q : A → Bool) (xs : List A) → list_all p xs ≡ true → list_all q xs ≡ true → list_all (λ x. p x && q x) xs ≡ true
+pub all_both : {A : Type 0} (p q : A → Bool) (xs : List A) → list_all p xs ≡ true → list_all q xs ≡ true → list_all (λ x. p x && q x) xs ≡ true
 all_both p q [] h k = refl
 all_both p q (x ∷ xs) h k =
     both (p x && q x) (list_all (λ y. p y && q y) xs) (both (p x) (q x) (and_left (p x) (list_all p xs) h) (and_left (q x) (list_all q xs) k))
@@ -215,7 +209,7 @@ enumerants_named nodes accepted id es h = by (find_node nodes id) refl h
         let r = rules_kept nodes accepted in
         let short = and_left (nat_le (length (names_of_kind n.kind)) 65535) (list_all are_few (annotation_lists n)) (found_passes is_short nodes id n r.short e) in
         let names : nat_le (length (map (λ (x : Enumerant). x.name) es)) 65535 ≡ true = ap (λ k. nat_le (length (names_of_kind k)) 65535) (sym (q ∙ ap enum_node is)) ∙ short in
-        let long = length_map (λ (x : Enumerant). x.name) es in (
+        let long = length_mapped (λ (x : Enumerant). x.name) es in (
           all_both (λ (x : Enumerant). are_named nodes x.annotations) (λ x. are_few x.annotations) es
               (sym (all_map (are_named nodes) (λ (x : Enumerant). x.annotations) es) ∙ ap (λ xs. list_all (are_named nodes) (map (λ (x : Enumerant). x.annotations) xs)) (sym here) ∙ named)
               (sym (all_map are_few (λ (x : Enumerant). x.annotations) es) ∙ ap (λ xs. list_all are_few (map (λ (x : Enumerant). x.annotations) xs)) (sym here) ∙ few),
@@ -257,7 +251,7 @@ is_group_struct nodes id h = by (find_node nodes id) h
     by (Some n) e = by_kind n.kind e
 
 few_is : {A B : Type 0} (f : A → B) (xs : List A) → nat_lt (length (map f xs)) (2 ^ 29) ≡ true → length xs < 536870912
-few_is f xs h = let same = length_map f xs in grind (arith, nat_tests)
+few_is f xs h = let same = length_mapped f xs in grind (arith, nat_tests)
 
 pub few_annotations : {A : Type 0} (f : A → Annotation) (xs : List A) → are_few (map f xs) ≡ true → length xs < 536870912
 few_annotations f xs h = few_is f xs h

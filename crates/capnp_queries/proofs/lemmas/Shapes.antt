@@ -3,29 +3,16 @@ use Rattle.std.proofs.Common.{◌≡◌, ℕ, zero, suc, ◌+◌, ◌<◌, ◌�
 use Rattle.std.specs.List.{list_all, list_any, flat_map}
 use Rattle.capnp_model.specs.Schemas.{FieldKind, slot, group, Field, StructNode, NodeKind, struct_node, enum_node, Node, Shape, shape, Fields, no_fields, field, Body}
 use Rattle.capnp_model.specs.Accepted.{find_node, groups_of_field, groups_used, types_in, names_its_sort, has_good_ids, is_group_node, names_a, fields_of_kind, field_body, fields_from, union_place, no_shape, shape_of_node, shape_in, schema_of, meets_below, uses_of, fits_in, holder_of, is_good_group, IsAccepted}
-use Rattle.capnp_model.proofs.lemmas.KeptRules.{and_left, and_right, behind, no_break, found_passes}
+use Rattle.capnp_model.proofs.lemmas.KeptRules.{behind, no_break, found_passes}
 use Rattle.capnp_model.proofs.lemmas.SoundRules.{rules_kept, found_id}
 use Rattle.capnp_records.proofs.lemmas.ListTests.{list_any-append}
+use Rattle.capnp_model.proofs.lemmas.Tests.{same_number, number_is, never_true, or_right, and_left, and_right, or_left}
 
 -- ---- tests over lists
 
 or_cases : (a b : Bool) → (a || b) ≡ true → {P : Type 0} → (a ≡ true → P) → (b ≡ true → P) → P
 or_cases true b h l r = l refl
 or_cases false b h l r = r h
-
-or_right : (a b : Bool) → b ≡ true → (a || b) ≡ true
-or_right true b h = refl
-or_right false b h = h
-
-or_left : (a b : Bool) → a ≡ true → (a || b) ≡ true
-or_left true b h = refl
-or_left false b h = absurd (cc h)
-
-same_number : (a b : ℕ) → (a == b) ≡ true → a ≡ b
-same_number a b h = grind arith
-
-number_is : (a : ℕ) → (a == a) ≡ true
-number_is a = grind arith
 
 any_mono : (p q : ℕ → Bool) → ((x : ℕ) → p x ≡ true → q x ≡ true) → (xs : List ℕ) → list_any p xs ≡ true → list_any q xs ≡ true
 any_mono p q h [] e = e
@@ -42,10 +29,6 @@ all_in p g (x ∷ xs) a e = or_cases (x == g) (list_any (λ y. y == g) xs) e (λ
 bool_cases : (b : Bool) → {P : Type 0} → (b ≡ true → P) → (b ≡ false → P) → P
 bool_cases true t f = t refl
 bool_cases false t f = f refl
-
-not_true : (b : Bool) → (b ≡ true → ⊥) → b ≡ false
-not_true true h = absurd (h refl)
-not_true false h = refl
 
 -- ---- nodes whose ids are not among those seen
 
@@ -211,7 +194,7 @@ module _ (nodes : List Node) (accepted : IsAccepted nodes) where
       by None e more = refl
       by (Some n) e more =
           let less = unseen_fewer id seen nodes n e new in
-          kind_same (λ g. shape_in nodes levels g) (λ g. shape_in nodes (suc levels) g) n (λ g u. more g (omega (arith, less, few)) (omega (arith, le)) (not_true (seen_in (id ∷ seen) g) (not_again seen id n e leads (omega (arith, le)) g u)) (leads_on seen id n e leads g u))
+          kind_same (λ g. shape_in nodes levels g) (λ g. shape_in nodes (suc levels) g) n (λ g u. more g (omega (arith, less, few)) (omega (arith, le)) (never_true (seen_in (id ∷ seen) g) (not_again seen id n e leads (omega (arith, le)) g u)) (leads_on seen id n e leads g u))
 
   -- the shape of a node is made of the shapes of its groups
   pub shape_fixed : (id : ℕ) → shape_in nodes (length nodes) id ≡ shape_of_node (λ g. shape_in nodes (length nodes) g) (find_node nodes id)

@@ -4,22 +4,8 @@ use Rattle.std.specs.List.{list_all, list_any}
 use Rattle.capnp_model.specs.Schemas.{Node}
 use Rattle.capnp_model.specs.Accepted.{find_node, on_struct, has_new_id, first_break_from, has_places, IsAccepted}
 use Rattle.capnp_model.proofs.lemmas.KeptRules.{behind, no_break}
+use Rattle.capnp_model.proofs.lemmas.Tests.{number_is, not_true, or_left_false, or_right_false}
 use Rattle.capnp_records.proofs.lemmas.ListTests.{list_any-append}
-
-number_is : (a : ℕ) → (a == a) ≡ true
-number_is a = grind arith
-
-not_true : (b : Bool) → not b ≡ true → b ≡ false
-not_true false h = refl
-not_true true h = absurd (cc h)
-
-or_left : (a b : Bool) → (a || b) ≡ false → a ≡ false
-or_left false b h = refl
-or_left true b h = absurd (cc h)
-
-or_right : (a b : Bool) → (a || b) ≡ false → b ≡ false
-or_right false b h = h
-or_right true b h = absurd (cc h)
 
 -- what is tested at a place, where the record there is known
 pub at_place : {A : Type 0} (f : A → Node) (xs : List A) (k : ℕ) (x : A) (test : Node → Bool) → x ≡ get_or xs k x → (elim (slice_get (map f xs) k) as (λ (o : Option Node). Bool) [ None ↦ false | Some n ↦ test n ]) ≡ true → (slice_get (map f xs) k ≡ Some (f x)) × (test (f x) ≡ true)
@@ -51,8 +37,8 @@ found_first earlier i (m ∷ ns) h (suc k) n e =
     let split = kept_first (has_new_id earlier m) i (first_break_from (λ e n. has_new_id e n) (earlier ++ m ∷ []) (suc i) ns) h in
     let more = found_first (earlier ++ m ∷ []) (suc i) ns split.1 k n e in
     let parts : (list_any (λ p. p.id == n.id) earlier || ((m.id == n.id) || false)) ≡ false = sym (list_any-append (λ p. p.id == n.id) earlier (m ∷ [])) ∙ more.0 in
-    let other : (m.id == n.id) ≡ false = or_left (m.id == n.id) false (or_right (list_any (λ p. p.id == n.id) earlier) ((m.id == n.id) || false) parts) in (
-      or_left (list_any (λ p. p.id == n.id) earlier) ((m.id == n.id) || false) parts,
+    let other : (m.id == n.id) ≡ false = or_left_false (m.id == n.id) false (or_right_false (list_any (λ p. p.id == n.id) earlier) ((m.id == n.id) || false) parts) in (
+      or_left_false (list_any (λ p. p.id == n.id) earlier) ((m.id == n.id) || false) parts,
       ap (λ b. if b then Some m else find_node ns n.id) other ∙ more.1,
     )
 

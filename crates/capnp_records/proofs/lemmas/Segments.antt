@@ -26,7 +26,6 @@ use Rattle.capnp_model.proofs.lemmas.ByteWords.{words_back, bytes_length}
 use Rattle.capnp_model.proofs.lemmas.CanonicalTests.{message_test, test_message}
 use Rattle.capnp_model.proofs.lemmas.CanonicalWords.{canonical_words_are}
 use Rattle.capnp_model.proofs.lemmas.Chaining.{bind_some, provided_some, some_is}
-use Rattle.capnp_model.proofs.lemmas.KeptRules.{and_right}
 use Rattle.capnp_model.proofs.lemmas.ReadFits.{tree_at_fits}
 use Rattle.capnp_model.proofs.lemmas.TrimFits.{Fits-trim}
 use Rattle.capnp_units.specs.declared.errors.Error.{Error}
@@ -44,11 +43,12 @@ use Rattle.capnp_object.specs.Laws.{TreesByLevels, VisitsOfFaults}
 use Rattle.capnp_object.specs.Walks.{Stopped, CannotPass}
 use Rattle.capnp_object.proofs.lemmas.Words.{word_of_eight, whole_words-length}
 use Rattle.capnp_canonical.specs.Standing.{IsSmall, segment_words}
+use Rattle.capnp_model.proofs.lemmas.Tests.{and_false, and_right}
 use Rattle.capnp_records.specs.NodeViews.{type_record_of}
 use Rattle.capnp_records.specs.Segments.{form_of, wants}
 use Rattle.capnp_records.specs.declared.node.TypeRecord.{TypeRecord}
 use Rattle.capnp_records.specs.declared.segment.Wanted.TheVariants.{Of}
-use Rattle.capnp_records.proofs.Stored.{is_list}
+use Rattle.capnp_records.proofs.lemmas.Stored.{is_list}
 
 -- ---- kinds of values
 
@@ -199,10 +199,6 @@ decoded_canonical bytes t few e =
     test_message 64 (segment_of bytes) t d.0 d.1 (ap (λ (x : List ℕ). x ∷ []) (words_back_of ws bytes are d.2))
 
 -- ---- good segments
-
-and_false : (b : Bool) → (b && false) ≡ false
-and_false true = refl
-and_false false = refl
 
 good_by : (test : Tree → Bool) (bytes : List ℕ) (o : Option Tree) → decode bytes ≡ o → is_good_segment test bytes ≡ (nat_lt (length bytes) (8 * 2 ^ 29) && (elim o as (λ (x : Option Tree). Bool) [ None ↦ false | Some t ↦ test t ]))
 good_by test bytes o e = ap (λ (x : Option Tree). nat_lt (length bytes) (8 * 2 ^ 29) && (elim x as (λ (y : Option Tree). Bool) [ None ↦ false | Some t ↦ test t ])) e

@@ -19,28 +19,29 @@ use Rattle.capnp_model.specs.Schemas.{width, TypeRecord, type_of, Ty, void, plai
 use Rattle.capnp_model.specs.Readings.{Reading, inactive, null_pointer, fault, number, text_of, blob_of, list_of, record_as, opaque, Extent, body_of, read, read_child, text_reading}
 use Rattle.capnp_model.specs.Accepted.{default_bits, default_tree, slot_body, field_body, is_default_of, opens_as, is_good_segment}
 use Rattle.capnp_model.proofs.lemmas.Chaining.{bind_some, provided_some}
-use Rattle.capnp_model.proofs.lemmas.KeptRules.{and_right}
 use Rattle.capnp_model.proofs.lemmas.Numbers.{numbers_in-number_of}
 use Rattle.capnp_model.proofs.lemmas.ByteWords.{bytes_length}
 use Rattle.capnp_units.specs.Segments.{words_in}
 use Rattle.capnp_wire.specs.Views.{PointerView, StructView, pointer_field}
 use Rattle.capnp_wire.specs.Reads.{is_null, default_root}
+use Rattle.capnp_model.proofs.lemmas.Paths.{read_child-is}
+use Rattle.capnp_model.proofs.lemmas.Tests.{and_right}
 use Rattle.capnp_values.specs.Sources.{null_default, default_pointer}
 use Rattle.capnp_values.specs.GoodDefaults.{IsGoodDefault}
 use Rattle.capnp_values.specs.Shown.{opened, default_opened, slot_opened, slot_shown, kind_shown}
 use Rattle.capnp_values.specs.Standing.{Leads, Stands, or_empty, or_default, filled, HasGoodDefault, Answers, IsPointerType, PointersAreRead, FieldsAreRead}
 use Rattle.capnp_values.specs.Records.{is_there}
-use Rattle.capnp_values.proofs.lemmas.FieldReadings.{plain_base, plain_type, aligned_by, bits_shown, word_null, null_tree, null_behind, child_read, number_read, pointer_read}
+use Rattle.capnp_values.proofs.lemmas.FieldReadings.{plain_base, plain_type, aligned_by, bits_shown, word_null, null_tree, null_behind, number_read, pointer_read}
 use Rattle.capnp_values.proofs.lemmas.Nulls.{nulls}
 use Rattle.capnp_values.proofs.lemmas.Presence.{there}
 
 -- ---- texts and data
 
-last_is : (bs : List ℕ) → slice_index (bs ++ 0 ∷ []) (length bs) ≡ 0
+pub last_is : (bs : List ℕ) → slice_index (bs ++ 0 ∷ []) (length bs) ≡ 0
 last_is [] = refl
 last_is (b ∷ bs) = last_is bs
 
-text_is : (bs : List ℕ) → text_reading (bs ++ 0 ∷ []) ≡ text_of bs
+pub text_is : (bs : List ℕ) → text_reading (bs ++ 0 ∷ []) ≡ text_of bs
 text_is [] = refl
 text_is (b ∷ bs) =
     let whole : List ℕ = b ∷ (bs ++ 0 ∷ []) in
@@ -50,7 +51,7 @@ text_is (b ∷ bs) =
     ∙ ap (λ (x : ℕ). if x == 0 then text_of (take (suc (length bs)) whole) else fault TextWithoutZeroByte) (last_is (b ∷ bs))
     ∙ ap text_of cut
 
-with_zero : (bs : List ℕ) → AllByRecursion (λ b. b < 2 ^ 8) bs → AllByRecursion (λ b. b < 2 ^ 8) (bs ++ 0 ∷ [])
+pub with_zero : (bs : List ℕ) → AllByRecursion (λ b. b < 2 ^ 8) bs → AllByRecursion (λ b. b < 2 ^ 8) (bs ++ 0 ∷ [])
 with_zero [] h = (omega arith, tt)
 with_zero (b ∷ bs) h = (h.0, with_zero bs h.1)
 
@@ -64,11 +65,11 @@ blob_default s bs h = ap blob_of (numbers_in-number_of 8 bs h)
 
 -- ---- structs and lists
 
-found : (test : Tree → Bool) (o : Option Tree) → (elim o as (λ (x : Option Tree). Bool) [ None ↦ false | Some t ↦ test t ]) ≡ true → (t : Tree) × (o ≡ Some t)
+pub found : (test : Tree → Bool) (o : Option Tree) → (elim o as (λ (x : Option Tree). Bool) [ None ↦ false | Some t ↦ test t ]) ≡ true → (t : Tree) × (o ≡ Some t)
 found test None h = absurd cc
 found test (Some t) h = (t, refl)
 
-decoded : (test : Tree → Bool) (bs : List ℕ) → is_good_segment test bs ≡ true → (t : Tree) × (decode bs ≡ Some t)
+pub decoded : (test : Tree → Bool) (bs : List ℕ) → is_good_segment test bs ≡ true → (t : Tree) × (decode bs ≡ Some t)
 decoded test bs h = found test (decode bs) (and_right (nat_lt (length bs) (8 * 2 ^ 29)) _ h)
 
 -- the words of a default stand in one segment
@@ -77,7 +78,7 @@ record Encoded (bs : List ℕ) (t : Tree) : Type 0 where
   pub words : ℕ
   pub long : length bs ≡ 8 * words
 
-encoded : (bs : List ℕ) (t : Tree) → decode bs ≡ Some t → Encoded bs t
+pub encoded : (bs : List ℕ) (t : Tree) → decode bs ≡ Some t → Encoded bs t
 unfolding decode
 encoded bs t e =
     let a = bind_some (tree_at 64 (words_in_bytes (length bs / 8) bs ∷ []) root) _ t e in
@@ -86,7 +87,7 @@ encoded bs t e =
     let same : bytes_of_words ws ≡ bs = (bytes_eq-Decides (bytes_of_words ws) bs).0 (and_right (not (has_capability a.0)) (bytes_eq (bytes_of_words ws) bs) b.0) in
     record { tree = a.1 ∙ ap (λ (x : Tree). Some x) b.1; words = length ws; long = ap length (sym same) ∙ bytes_length ws }
 
-joined : (n : ℕ) (bs : List ℕ) → length bs ≡ 8 * n → flat_map (λ w. w) (first_chunks 8 n bs) ≡ bs
+pub joined : (n : ℕ) (bs : List ℕ) → length bs ≡ 8 * n → flat_map (λ w. w) (first_chunks 8 n bs) ≡ bs
 joined zero [] h = refl
 joined zero (b ∷ bs) h = absurd (omega arith)
 joined (suc n) bs h =
@@ -231,12 +232,12 @@ module _ (pointers : PointersAreRead) (n : ℕ) (v : StructView) (e : Extent) (s
       by : (b : Bool) → is_null (pointer_field v i) ≡ b → Answers s (if b then default_opened s ty (pointer_field v i) d else opened s ty (pointer_field v i)) (or_default s ty to (read_child s kids i ty))
       by true f =
           let none : child kids i ≡ null = null_behind n (pointer_field v i) (child kids i) (stands.children i) f in
-          let same : or_default s ty to (read_child s kids i ty) ≡ or_empty s ty (read s to ty) = ap (or_default s ty to) (child_read s kids i ty) ∙ null_read s ty to (child kids i) none in
+          let same : or_default s ty to (read_child s kids i ty) ≡ or_empty s ty (read s to ty) = ap (or_default s ty to) (read_child-is s kids i ty) ∙ null_read s ty to (child kids i) none in
           let P : Reading → Type 0 = λ r. Answers s (default_opened s ty (pointer_field v i) d) r in
           subst P (sym same) (default_read pointers s ty (pointer_field v i) d pointer (h none))
       by false f =
           let some : is_null_tree (child kids i) ≡ false = sym (nulls n (pointer_field v i) (child kids i) (stands.children i)) ∙ f in
-          let same : or_default s ty to (read_child s kids i ty) ≡ or_empty s ty (read_child s kids i ty) = ap (or_default s ty to) (child_read s kids i ty) ∙ stays s ty to (read s (child kids i) ty) (there s ty (child kids i) some) ∙ ap (or_empty s ty) (sym (child_read s kids i ty)) in
+          let same : or_default s ty to (read_child s kids i ty) ≡ or_empty s ty (read_child s kids i ty) = ap (or_default s ty to) (read_child-is s kids i ty) ∙ stays s ty to (read s (child kids i) ty) (there s ty (child kids i) some) ∙ ap (or_empty s ty) (sym (read_child-is s kids i ty)) in
           let P : Reading → Type 0 = λ r. Answers s (opened s ty (pointer_field v i)) r in
           subst P (sym same) (pointer_read pointers n v e section kids s stands i ty pointer)
 

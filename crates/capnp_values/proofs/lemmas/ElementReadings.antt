@@ -14,14 +14,13 @@ use Rattle.capnp_model.specs.ActiveMembers.{element_of as reading_of}
 use Rattle.capnp_model.proofs.lemmas.Numbers.{length-numbers_in}
 use Rattle.capnp_wire.specs.Views.{ListView, element_of, element_number}
 use Rattle.capnp_wire.specs.Laws.{ShowsElement, ShowsElements, ShowsList}
+use Rattle.capnp_model.proofs.lemmas.WordBits.{low_bits}
+use Rattle.capnp_model.proofs.lemmas.Tests.{both_true}
 use Rattle.capnp_values.specs.Shown.{element_shown}
 use Rattle.capnp_values.specs.Standing.{IsExtent, Stands, AreItems, or_empty, Answers, PointersAreRead, ElementsAreRead}
 use Rattle.capnp_values.proofs.lemmas.FieldReadings.{plain_base, plain_type, number_read, pointer_read}
 
 -- ---- numbers at the front of elements
-
-low_bits : (x k m : ℕ) → k ≤ m → x % 2 ^ m % 2 ^ k ≡ x % 2 ^ k
-low_bits x k m h = let e : (m - k) + k ≡ m = omega arith in subst (λ (z : ℕ). x % 2 ^ z % 2 ^ k ≡ x % 2 ^ k) e (pow.mod-mod-pow x (m - k) k)
 
 front_bits : (a e w x : ℕ) → nat_le w e ≡ true → bits_at a w x ≡ bits_at 0 w (bits_at a e x)
 front_bits a e w x h =
@@ -32,22 +31,17 @@ front_bits a e w x h =
 number_there : (a e w x section : ℕ) → bits_at a e x ≡ section → nat_le w e ≡ true → (if nat_le w e then bits_at a w x else 0) ≡ bits_at 0 w section
 number_there a e w x section same h = ap (λ b. if b then bits_at a w x else 0) h ∙ front_bits a e w x h ∙ ap (bits_at 0 w) same
 
-both : (a b : Bool) → (a && b) ≡ true → (a ≡ true) × (b ≡ true)
-both true true e = (refl, refl)
-both true false e = absurd cc
-both false b e = absurd cc
-
 -- the widths of plain types
 abbrev IsWidth : ℕ → Type 0
 IsWidth w = (w ≡ 1) ⊎ (w ≡ 8) ⊎ (w ≡ 16) ⊎ (w ≡ 32) ⊎ (w ≡ 64)
 
 -- elements with room for so many bits have them
 room : (w bits k : ℕ) → IsWidth w → have_room bits k (size_of_width w) ≡ true → nat_le w bits ≡ true
-room w bits k (inl e) = subst (λ w. have_room bits k (size_of_width w) ≡ true → nat_le w bits ≡ true) (sym e) (λ h. (both _ _ h).0)
-room w bits k (inr (inl e)) = subst (λ w. have_room bits k (size_of_width w) ≡ true → nat_le w bits ≡ true) (sym e) (λ h. (both _ _ h).0)
-room w bits k (inr (inr (inl e))) = subst (λ w. have_room bits k (size_of_width w) ≡ true → nat_le w bits ≡ true) (sym e) (λ h. (both _ _ h).0)
-room w bits k (inr (inr (inr (inl e)))) = subst (λ w. have_room bits k (size_of_width w) ≡ true → nat_le w bits ≡ true) (sym e) (λ h. (both _ _ h).0)
-room w bits k (inr (inr (inr (inr e)))) = subst (λ w. have_room bits k (size_of_width w) ≡ true → nat_le w bits ≡ true) (sym e) (λ h. (both _ _ h).0)
+room w bits k (inl e) = subst (λ w. have_room bits k (size_of_width w) ≡ true → nat_le w bits ≡ true) (sym e) (λ h. (both_true _ _ h).0)
+room w bits k (inr (inl e)) = subst (λ w. have_room bits k (size_of_width w) ≡ true → nat_le w bits ≡ true) (sym e) (λ h. (both_true _ _ h).0)
+room w bits k (inr (inr (inl e))) = subst (λ w. have_room bits k (size_of_width w) ≡ true → nat_le w bits ≡ true) (sym e) (λ h. (both_true _ _ h).0)
+room w bits k (inr (inr (inr (inl e)))) = subst (λ w. have_room bits k (size_of_width w) ≡ true → nat_le w bits ≡ true) (sym e) (λ h. (both_true _ _ h).0)
+room w bits k (inr (inr (inr (inr e)))) = subst (λ w. have_room bits k (size_of_width w) ≡ true → nat_le w bits ≡ true) (sym e) (λ h. (both_true _ _ h).0)
 
 plain_room : (size w : ℕ) → IsWidth w → (if size == 1 then size_of_width w == 1 else have_room (size_bits size) 0 (size_of_width w)) ≡ true → nat_le w (size_bits size) ≡ true
 plain_room size w wide = by (size == 1) refl
@@ -82,7 +76,7 @@ pointers_have_room : (ty : TypeRecord) (ts : Trees) → is_list_of (pointer_list
 pointers_have_room ty ts h p is = room (width p) 0 1 (width_of ty p is) (accepted_as (pointer_list ts) (type_of ty) p is h)
 
 structs_have_room : (ty : TypeRecord) (words k : ℕ) (es : Elements) → is_list_of (struct_list words k es) (type_of ty) ≡ true → HasRoom (type_of ty) (64 * words)
-structs_have_room ty words k es h p is = room (width p) (64 * words) k (width_of ty p is) (both _ _ (accepted_as (struct_list words k es) (type_of ty) p is h)).1
+structs_have_room ty words k es h p is = room (width p) (64 * words) k (width_of ty p is) (both_true _ _ (accepted_as (struct_list words k es) (type_of ty) p is h)).1
 
 -- ---- what lists read as, by their indices
 

@@ -16,6 +16,7 @@ use Rattle.capnp_model.proofs.lemmas.Chaining.{some_is}
 use Rattle.capnp_wire.specs.Views.{PointerView, StructView, pointer_field}
 use Rattle.capnp_wire.specs.Reads.{is_null_at, is_null}
 use Rattle.capnp_wire.specs.Laws.{reads_behind}
+use Rattle.capnp_model.proofs.lemmas.Paths.{read_child-is}
 use Rattle.capnp_values.specs.Shown.{number_shown, opened}
 use Rattle.capnp_values.specs.Standing.{Leads, Stands, IsExtent, or_empty, Answers, IsPointerType, PointersAreRead, DiscriminantsAreRead}
 
@@ -145,12 +146,6 @@ null_behind n p t leads e = by p.place e leads.tree
 
 -- ---- slots
 
-pub child_read : (s : Schema) (ts : Trees) (i : ℕ) (ty : Ty) → read_child s ts i ty ≡ read s (child ts i) ty
-unfolding read
-child_read s none i ty = refl
-child_read s (t ▸ ts) zero ty = refl
-child_read s (t ▸ ts) (suc i) ty = child_read s ts i ty
-
 pub number_read : (s : Schema) (p : PlainType) (x y : ℕ) → x ≡ y → Answers s (Ok (number_shown s p x)) (number y)
 number_read s bool x y e = ap number (sym e)
 number_read s (int w) x y e = ap number (sym e)
@@ -161,7 +156,7 @@ module _ (pointers : PointersAreRead) (n : ℕ) (v : StructView) (e : Extent) (s
   pub pointer_read : (i : ℕ) (ty : Ty) → IsPointerType ty → Answers s (opened s ty (pointer_field v i)) (or_empty s ty (read_child s kids i ty))
   pointer_read i ty pointer =
       let P : Reading → Type 0 = λ r. Answers s (opened s ty (pointer_field v i)) (or_empty s ty r) in
-      subst P (sym (child_read s kids i ty)) (pointers n (pointer_field v i) (child kids i) s ty pointer (stands.children i))
+      subst P (sym (read_child-is s kids i ty)) (pointers n (pointer_field v i) (child kids i) s ty pointer (stands.children i))
 
 pub discriminants : DiscriminantsAreRead
 discriminants n v e section kids None stands = refl

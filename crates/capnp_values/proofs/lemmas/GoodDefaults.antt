@@ -3,11 +3,12 @@ use Rattle.std.proofs.Common.{◌≡◌, ℕ, zero, suc, Bool, true, Option, Som
 use Rattle.std.specs.List.{list_all}
 use Rattle.capnp_model.specs.Schemas.{FieldKind, slot, group, Field as FieldNode, StructNode, NodeKind, struct_node, enum_node, Node}
 use Rattle.capnp_model.specs.Accepted.{find_node, fields_of_kind, has_good_default, default_reads, IsAccepted}
-use Rattle.capnp_model.proofs.lemmas.KeptRules.{and_left, and_right, behind, no_break, found_passes}
+use Rattle.capnp_model.proofs.lemmas.KeptRules.{behind, no_break, found_passes}
 use Rattle.capnp_records.specs.Sets.{struct_in}
 use Rattle.capnp_queries.specs.Structs.{nodes_around, id_of}
 use Rattle.capnp_queries.specs.Handles.{IsFieldRecord}
 use Rattle.capnp_queries.specs.declared.structs.StructSchema.{StructSchema}
+use Rattle.capnp_model.proofs.lemmas.Tests.{and_left, and_right}
 use Rattle.capnp_values.specs.GoodDefaults.{HasBytes, KeepsDefault}
 use Rattle.capnp_values.specs.Shown.{default_said}
 

@@ -5,13 +5,11 @@ use Rattle.std.proofs.lemmas.Bool.Decides.{nat_tests}
 use Rattle.capnp_model.specs.Schemas.{PlainType, width, Ty, void, plain, text, blob, untyped, interface, struct, list, type_of, Value, no_value, bits, text_bytes, blob_bytes, list_segment, struct_segment, untyped_value, interface_value, FieldKind, slot, group, Field, NodeKind, struct_node, enum_node, Node, Shape, shape, no_fields, plain_slot}
 use Rattle.capnp_model.specs.Printing.{fields_in}
 use Rattle.capnp_model.specs.Accepted.{find_node, fields_of_kind, slot_body, field_body, fields_from, union_place, no_shape, shape_of_node, shape_in, schema_of, same_plain, is_default_of, has_good_default, IsAccepted}
-use Rattle.capnp_model.proofs.lemmas.KeptRules.{and_left, and_right, found_passes}
+use Rattle.capnp_model.proofs.lemmas.KeptRules.{found_passes}
 use Rattle.capnp_model.proofs.lemmas.SoundRules.{rules_kept}
 use Rattle.capnp_queries.specs.Fields.{Entry, field_at}
 use Rattle.capnp_queries.proofs.lemmas.Shapes.{shape_fixed}
-
-lt_from : (m n : ℕ) → nat_lt m n ≡ true → m < n
-lt_from m n h = grind (arith, nat_tests)
+use Rattle.capnp_model.proofs.lemmas.Tests.{lt_is, and_left, and_right}
 
 -- the default of a plain slot is of the slot's width
 slot_fits : (o : ℕ) (ty : Ty) (d : Option Value) (p : PlainType) (at n : ℕ) → is_default_of ty d ≡ true → slot_body o ty d ≡ plain_slot p at n → n < 2 ^ width p
@@ -21,7 +19,7 @@ slot_fits o (plain q) (Some no_value) p at n h e = absurd (cc h)
 slot_fits o (plain q) (Some (bits r m)) p at n h e =
     let same : q ≡ p = cc e in
     let here : m ≡ n = cc e in
-    let few : m < 2 ^ width q = lt_from m (2 ^ width q) (and_right (same_plain q r) (nat_lt m (2 ^ width q)) h) in
+    let few : m < 2 ^ width q = lt_is m (2 ^ width q) (and_right (same_plain q r) (nat_lt m (2 ^ width q)) h) in
     let P : PlainType → Type 0 = λ x. n < 2 ^ width x in
     let Q : ℕ → Type 0 = λ x. x < 2 ^ width q in
     subst P same (subst Q here few)

@@ -9,11 +9,12 @@ use Rattle.capnp_wire.specs.Views.{StructView, pointer_field}
 use Rattle.capnp_queries.specs.Fields.{Entry, field_at, union_in, place_of_member, entry_in}
 use Rattle.capnp_queries.specs.Structs.{nodes_around, schema_around, id_of, shape_of_struct}
 use Rattle.capnp_queries.specs.declared.structs.StructSchema.{StructSchema}
+use Rattle.capnp_model.proofs.lemmas.Paths.{record_is, read_child-is}
 use Rattle.capnp_values.specs.GoodDefaults.{KeepsDefault}
 use Rattle.capnp_values.specs.Shown.{kind_shown, discriminant_shown, is_active_field, is_null_slot}
 use Rattle.capnp_values.specs.Standing.{Stands, HasGoodDefault, filled, Answers, PointersAreRead}
 use Rattle.capnp_values.specs.Records.{reading_at, is_live, is_there, active_place, FieldsOfRecords, MembersOfRecords, ValuesOfRecords}
-use Rattle.capnp_values.proofs.lemmas.FieldReadings.{child_read, discriminants}
+use Rattle.capnp_values.proofs.lemmas.FieldReadings.{discriminants}
 use Rattle.capnp_values.proofs.lemmas.Nulls.{nulls}
 use Rattle.capnp_values.proofs.lemmas.Presence.{there}
 use Rattle.capnp_values.proofs.lemmas.DefaultReadings.{fields}
@@ -50,14 +51,11 @@ discriminant_read sch n v e section kids stands =
 
 -- ---- records
 
-shape_is : (g : Shape) (e : Extent) (section : ℕ) (kids : Children) → shape_record g e section kids ≡ fields_of (fields_in g) (discriminant (union_in g) e section) e section kids
+pub shape_is : (g : Shape) (e : Extent) (section : ℕ) (kids : Children) → shape_record g e section kids ≡ fields_of (fields_in g) (discriminant (union_in g) e section) e section kids
 unfolding shape_record
 shape_is (shape nid w p u fs) e section kids = refl
 
-record_is : (a b : Record) → record_as a ≡ record_as b → a ≡ b
-record_is a b e = cc
-
-field_of_record : (fs : Fields) (i : ℕ) (d : Option ℕ) (e : Extent) (section : ℕ) (kids : Children) (x : Entry) → field_at fs i ≡ Some x
+pub field_of_record : (fs : Fields) (i : ℕ) (d : Option ℕ) (e : Extent) (section : ℕ) (kids : Children) (x : Entry) → field_at fs i ≡ Some x
     → reading_at i (fields_of fs d e section kids) ≡ only_if (is_active x.member d) (body_of x.body e section kids)
 unfolding fields_of
 field_of_record no_fields zero d e section kids x h = absurd cc
@@ -111,14 +109,14 @@ module _ (n : ℕ) (v : StructView) (e : Extent) (section : ℕ) (kids : Trees) 
   unfolding body_of
   body_there (void_slot j) = refl
   body_there (plain_slot p at d) = refl
-  body_there (pointer_slot i ty d) = ap is_there (child_read s kids i ty) ∙ pointer_there s ty (child kids i) ∙ ap not (sym (nulls n (pointer_field v i) (child kids i) (stands.children i)))
+  body_there (pointer_slot i ty d) = ap is_there (read_child-is s kids i ty) ∙ pointer_there s ty (child kids i) ∙ ap not (sym (nulls n (pointer_field v i) (child kids i) (stands.children i)))
   body_there (group_slot g) = refl
 
   body_live : (b : Body) → is_live (body_of b e section (read_child s kids)) ≡ true
   unfolding body_of
   body_live (void_slot j) = refl
   body_live (plain_slot p at d) = refl
-  body_live (pointer_slot i ty d) = ap is_live (child_read s kids i ty) ∙ pointer_live s ty (child kids i)
+  body_live (pointer_slot i ty d) = ap is_live (read_child-is s kids i ty) ∙ pointer_live s ty (child kids i)
   body_live (group_slot g) = refl
 
   none_active : (fs : Fields) → active_place fs (fields_of fs None e section (read_child s kids)) ≡ None

@@ -25,9 +25,8 @@ use Rattle.capnp_footprints.specs.NewObjects.{zero_elements}
 use Rattle.capnp_footprints.specs.Writes.{spliced, with_words}
 use Rattle.capnp_footprints.proofs.lemmas.Cells.{element_of_list, list_of_element}
 use Rattle.capnp_footprints.proofs.lemmas.Detached.{detached_owns, detached_object, detached_fewer}
-use Rattle.capnp_footprints.proofs.lemmas.Kept.{words_length}
 use Rattle.capnp_footprints.proofs.lemmas.Lift.{object_of_pointer, struct_parts}
-use Rattle.capnp_footprints.proofs.lemmas.MovedElements.{zero_count, zero_element}
+use Rattle.capnp_footprints.proofs.lemmas.MovedElements.{zero_element}
 use Rattle.capnp_footprints.proofs.lemmas.Rows.{after_none}
 use Rattle.capnp_footprints.proofs.lemmas.Spans.{words_front}
 use Rattle.capnp_footprints.proofs.lemmas.Splices.{spliced_nothing}
@@ -35,7 +34,9 @@ use Rattle.capnp_footprints.proofs.lemmas.Turns.{elements_here, elements_next, e
 use Rattle.capnp_footprints.proofs.lemmas.Writing.{struct_words}
 use Rattle.capnp_copy.specs.Elements.{HasElement}
 use Rattle.capnp_copy.specs.declared.init.ListPlace.{ListPlace}
-use Rattle.capnp_copy.proofs.lemmas.ElementLaws.{is_plain}
+use Rattle.capnp_footprints.proofs.lemmas.NewKinds.{zero_counted}
+use Rattle.capnp_model.proofs.lemmas.PointerWords.{list_kind_small}
+use Rattle.capnp_model.proofs.lemmas.ReadFits.{words_length}
 use Rattle.capnp_widening.specs.Moves.{pads_of}
 use Rattle.capnp_widening.specs.MovedElements.{least_words, zeros_at, FillsElements, as_structs}
 use Rattle.capnp_widening.proofs.WiderRooms.{found_beside}
@@ -94,7 +95,7 @@ module _ (n : ℕ) (z u w : Segments) (p a b : Place) (q size m d k count j x se
   targets = with_first_elements j (elements_of_plain k (plain_elements size count section)) (zero_elements count k)
 
   few_there : j < element_count (with_first_elements j (elements_of_plain k (plain_elements size count section)) (zero_elements count k))
-  few_there = omega (arith, l, elements_counted j (elements_of_plain k (plain_elements size count section)) (zero_elements count k), zero_count count k)
+  few_there = omega (arith, l, elements_counted j (elements_of_plain k (plain_elements size count section)) (zero_elements count k), zero_counted count k)
 
   pub number_copied : Detached n z w p (plain_list size count section) spare (a_list b 7 m) (struct_list d k (with_first_elements (suc j) (elements_of_plain k (plain_elements size count section)) (zero_elements count k))) × (found_at w p ≡ Ok (record { pads = q; object = a_list a size count }))
   number_copied =
@@ -106,7 +107,7 @@ module _ (n : ℕ) (z u w : Segments) (p a b : Place) (q size m d k count j x se
       let r' : ReplacesObject n u w (a_struct (after (after b 1) (j * (d + k))) d k) (structure d x (resized k none)) = subst (λ (y : Segments). ReplacesObject n u y (a_struct (after (after b 1) (j * (d + k))) d k) (structure d x (resized k none))) (sym now) r in
       let lifted = list_of_element n u w b m d k j x (resized k none) targets few_there own.1 r' in
       let target : with_element targets j x (resized k none) ≡ with_first_elements (suc j) (elements_of_plain k (plain_elements size count section)) (zero_elements count k) =
-      elements_next d j x (resized k none) numbers (zero_elements count k) (omega (arith, l, numbers_count k (size_bits size) count section)) (omega (arith, l, zero_count count k)) (number_at d k (size_bits size) count section j l ∙ ap (λ (y : ℕ). structure d y (resized k none)) (sym (number old))) in
+      elements_next d j x (resized k none) numbers (zero_elements count k) (omega (arith, l, numbers_count k (size_bits size) count section)) (omega (arith, l, zero_counted count k)) (number_at d k (size_bits size) count section j l ∙ ap (λ (y : ℕ). structure d y (resized k none)) (sym (number old))) in
       let h1 = detached_object n z u w p (plain_list size count section) (struct_list d k targets) (struct_list d k (with_element targets j x (resized k none))) spare (a_list b 7 m) h lifted in
       let ex = found_beside n z u w p (record { pads = q; object = a_list a size count }) (plain_list size count section) (struct_list d k targets) (struct_list d k (with_element targets j x (resized k none))) spare (a_list b 7 m) e h lifted in
       (subst (λ (fs : Elements). Detached n z w p (plain_list size count section) spare (a_list b 7 m) (struct_list d k fs)) target h1, ex)
@@ -168,10 +169,10 @@ fills_numbers s u old new some plain claims n7 many lw all = λ n q z p t spare 
     let h1 = subst (λ (x : ℕ). Detached n z s p t spare (a_list (place_view new.start) x new.claimed) (zeros_at new)) n7 h in
     let h2 = subst (λ (x : ℕ). Detached n z s p t spare (a_list (place_view new.start) 7 new.claimed) (struct_list new.data_words new.pointers (zero_elements x new.pointers))) many h1 in
     let own = object_of_pointer n s p (record { pads = q; object = a_list (place_view old.start) (size_number old.size) old.count }) t e' (detached_owns n z s p t _ _ _ h2).0 in
-    let shape = plain_shape n s (place_view old.start) (size_number old.size) old.count t (is_plain (size_number old.size) plain) own in
+    let shape = plain_shape n s (place_view old.start) (size_number old.size) old.count t (list_kind_small (size_number old.size) plain) own in
     let h3 = subst (λ (v : Tree). Detached n z s p v spare (a_list (place_view new.start) 7 new.claimed) (struct_list new.data_words new.pointers (zero_elements old.count new.pointers))) shape.1 h2 in
     let y = all n q z p shape.0 spare e' h3 in
-    let zeros : element_count (zero_elements old.count new.pointers) ≡ old.count = zero_count old.count new.pointers in
+    let zeros : element_count (zero_elements old.count new.pointers) ≡ old.count = zero_counted old.count new.pointers in
     let numbers : Elements = elements_of_plain new.pointers (plain_elements (size_number old.size) old.count shape.0) in
     let done : with_first_elements old.count (elements_of_plain new.pointers (plain_elements (size_number old.size) old.count shape.0)) (zero_elements old.count new.pointers) ≡ elements_of_plain new.pointers (plain_elements (size_number old.size) old.count shape.0) =
     ap (λ (x : ℕ). with_first_elements x numbers (zero_elements old.count new.pointers)) (sym zeros) ∙ elements_done numbers (zero_elements old.count new.pointers) (numbers_count new.pointers (size_bits (size_number old.size)) old.count shape.0 ∙ sym zeros) in

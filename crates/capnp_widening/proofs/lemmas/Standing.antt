@@ -10,7 +10,6 @@ use Rattle.capnp_model.proofs.lemmas.Locality.{word_was}
 use Rattle.capnp_footprints.specs.Writes.{spliced, spliced_in, with_words, segment_end}
 use Rattle.capnp_footprints.proofs.lemmas.Spans.{words_front, words_back}
 use Rattle.capnp_footprints.proofs.lemmas.Rows.{words_grown, after_none}
-use Rattle.capnp_footprints.proofs.lemmas.Kept.{words_length}
 use Rattle.capnp_footprints.proofs.lemmas.Splices.{spliced_length, spliced_nothing, splice_grows}
 use Rattle.capnp_wire.specs.Places.{place_view}
 use Rattle.capnp_object.specs.declared.place.Place as code
@@ -19,16 +18,14 @@ use Rattle.capnp_copy.specs.Rooms.{HasPad, linked, slot_word}
 use Rattle.capnp_copy.specs.declared.room.Room.{Room}
 use Rattle.capnp_copy.specs.declared.room.Room.TheVariants.{Here, Near, Far}
 use Rattle.capnp_footprints.specs.NewObjects.{far_pointer, double_far_pointer}
+use Rattle.capnp_copy.proofs.lemmas.RoomLaws.{some_of, still_some, still_written}
+use Rattle.capnp_copy.proofs.lemmas.Parts.{section_there}
+use Rattle.capnp_copy.proofs.lemmas.ZeroedWords.{spliced_sizes, written_sizes}
+use Rattle.capnp_copy.proofs.lemmas.Ends.{get_short}
+use Rattle.capnp_model.proofs.lemmas.ReadFits.{words_length}
 use Rattle.capnp_widening.specs.Moves.{HasPads, pointed_at, offset_to}
 
 -- ---- what is there
-
-pub some_of : (s : Segments) (p : Place) (n : ℕ) → is_some (words_at s p n) ≡ true → (ws : List ℕ) × (words_at s p n ≡ Some ws)
-some_of s p n e = by_cases (words_at s p n) refl
-  where
-    by_cases : (o : Option (List ℕ)) → words_at s p n ≡ o → (ws : List ℕ) × (words_at s p n ≡ Some ws)
-    by_cases (Some ws) f = (ws, f)
-    by_cases None f = absurd (let g : is_some (words_at s p n) ≡ false = ap is_some f in let h : true ≡ false = sym e ∙ g in cc)
 
 pub one_word : (s : Segments) (p : Place) → is_some (words_at s p 1) ≡ true → (w : ℕ) × (word_at s p ≡ Some w)
 one_word s p e = let x = some_of s p 1 e in one x.0 x.1 (words_length s p 1 x.0 x.1)
@@ -37,48 +34,6 @@ one_word s p e = let x = some_of s p 1 e in one x.0 x.1 (words_length s p 1 x.0 
     one [] f l = absurd (omega (arith, l))
     one (w ∷ []) f l = (w, word_was s p w f)
     one (a ∷ (b ∷ ws)) f l = absurd (omega (arith, l))
-
-pub still_some : (s u : Segments) (p : Place) (n : ℕ) → Grows s u → is_some (words_at s p n) ≡ true → is_some (words_at u p n) ≡ true
-still_some s u p n g e = let x = some_of s p n e in let y = words_grown s u p n x.0 g x.1 in ap is_some y.1
-
-pub sizes_grow : (s u : Segments) → map length u ≡ map length s → Grows s u
-sizes_grow [] u e i xs f = absurd cc
-sizes_grow (ws ∷ s) [] e i xs f = absurd cc
-sizes_grow (ws ∷ s) (vs ∷ u) e zero xs f =
-    let same : length vs ≡ length ws = cc in
-    let is : ws ≡ xs = some_is _ _ f in
-    let long : length ws ≡ length xs = ap length is in
-    (vs, refl, omega (arith, same, long))
-sizes_grow (ws ∷ s) (vs ∷ u) e (suc i) xs f = let rest : map length u ≡ map length s = cc in sizes_grow s u rest i xs f
-
-pub sizes_total : (s u : Segments) → map length u ≡ map length s → total_words u ≡ total_words s
-unfolding total_words
-sizes_total [] [] e = refl
-sizes_total [] (vs ∷ u) e = absurd cc
-sizes_total (ws ∷ s) [] e = absurd cc
-sizes_total (ws ∷ s) (vs ∷ u) e =
-    let same : length vs ≡ length ws = cc in
-    let rest : map length u ≡ map length s = cc in
-    omega (arith, same, sizes_total s u rest)
-
-pub part_there : (s : Segments) (p : Place) (i n w : ℕ) → i + n ≤ w → is_some (words_at s p w) ≡ true → is_some (words_at s (after p i) n) ≡ true
-part_there s p i n w l e =
-    let sum : w ≡ i + (n + (w - i - n)) = omega (arith, l) in
-    let x = some_of s p w e in
-    let all : words_at s p (i + (n + (w - i - n))) ≡ Some x.0 = subst (λ (k : ℕ). words_at s p k ≡ Some x.0) sum x.1 in
-    ap is_some (words_front s (after p i) n (w - i - n) _ (words_back s p i (n + (w - i - n)) x.0 all))
-
-pub still_written : (s : Segments) (q p : Place) (vs : List ℕ) (n : ℕ) → is_some (words_at s p n) ≡ true → is_some (words_at (with_words s q vs) p n) ≡ true
-still_written s q p vs n e = still_some s (with_words s q vs) p n (splice_grows s q vs) e
-
-spliced_sizes : (s : Segments) (i k : ℕ) (vs : List ℕ) → map length (spliced_in s i k vs) ≡ map length s
-spliced_sizes [] i k vs = refl
-spliced_sizes (xs ∷ s) zero k vs = ap (λ (n : ℕ). n ∷ map length s) (spliced_length k vs xs)
-spliced_sizes (xs ∷ s) (suc i) k vs = ap (λ (ns : List ℕ). length xs ∷ ns) (spliced_sizes s i k vs)
-
-pub written_sizes : (s : Segments) (p : Place) (vs : List ℕ) → map length (with_words s p vs) ≡ map length s
-unfolding with_words
-written_sizes s p vs = spliced_sizes s p.segment p.position vs
 
 -- ---- words written behind others
 
@@ -142,35 +97,3 @@ pointed_sizes s p r (Some pad) w = written_sizes (with_words s (place_view pad) 
 
 -- ---- a word and the end of its segment
 
-get_short : (xs : List ℕ) (k : ℕ) → is_some (slice_get xs k) ≡ true → k < length xs
-get_short [] k e = absurd cc
-get_short (x ∷ xs) zero e = omega arith
-get_short (x ∷ xs) (suc k) e = let l = get_short xs k e in omega (arith, l)
-
-pub word_before_end : (s : Segments) (i k : ℕ) → is_some (word_at s (place i k)) ≡ true → k < segment_end s i
-unfolding segment_end
-word_before_end [] i k e = absurd cc
-word_before_end (xs ∷ s) zero k e = get_short xs k e
-word_before_end (xs ∷ s) (suc i) k e = word_before_end s i k e
-
-pub end_within : (s : Segments) (i : ℕ) → segment_end s i ≤ total_words s
-unfolding segment_end total_words
-end_within [] i = omega arith
-end_within (xs ∷ s) zero = omega arith
-end_within (xs ∷ s) (suc i) = let l = end_within s i in omega (arith, l)
-
-pub front_there : (s : Segments) (p : Place) (n w : ℕ) → n ≤ w → is_some (words_at s p w) ≡ true → is_some (words_at s p n) ≡ true
-front_there s p n w l e = subst (λ (q : Place). is_some (words_at s q n) ≡ true) (after_none p) (part_there s p 0 n w (omega (arith, l)) e)
-
-pub has_word : (s : Segments) (p : Place) → is_some (words_at s p 1) ≡ true → is_some (word_at s p) ≡ true
-has_word s p e = ap is_some (one_word s p e).1
-
-pub pad_stays : (u v : Segments) (room : Room) → Grows u v → HasPad u room → HasPad v room
-pad_stays u v Here g h = tt
-pad_stays u v (Near offset) g h = tt
-pad_stays u v (Far pad) g h = still_some u v (place_view pad) 1 g h
-
-pub still_linked : (s : Segments) (p : Place) (room : Room) (w : ℕ) (q : Place) (n : ℕ) → is_some (words_at s q n) ≡ true → is_some (words_at (linked s p room w) q n) ≡ true
-still_linked s p Here w q n e = still_written s p q (slot_word Here w ∷ []) n e
-still_linked s p (Near offset) w q n e = still_written s p q (slot_word (Near offset) w ∷ []) n e
-still_linked s p (Far pad) w q n e = still_written (with_words s (place_view pad) (w ∷ [])) p q (slot_word (Far pad) w ∷ []) n (still_written s (place_view pad) q (w ∷ []) n e)

@@ -22,10 +22,10 @@ use Rattle.capnp_wire.specs.Places.{place_view, placed}
 use Rattle.capnp_footprints.proofs.lemmas.Rows.{after_none}
 use Rattle.capnp_copy.specs.declared.init.ListPlace.{ListPlace}
 use Rattle.capnp_copy.specs.Elements.{HasElements, IsWhole}
+use Rattle.capnp_copy.proofs.lemmas.Parts.{section_there}
 use Rattle.capnp_widening.proofs.lemmas.ObjectsThere.{structs_named}
-use Rattle.capnp_widening.proofs.lemmas.Standing.{front_there, part_there}
 
-at_front : (s : Segments) (p : Place) (n : ℕ) → AreThere s p n → AreThere s (after p 0) n
+pub at_front : (s : Segments) (p : Place) (n : ℕ) → AreThere s p n → AreThere s (after p 0) n
 at_front s p n h = (subst (λ (q : Place). is_some (words_at s q n) ≡ true) (sym (after_none p)) h.0, omega (arith, h.1))
 
 -- a list of numbers
@@ -43,7 +43,7 @@ numbers_whole s start InlineComposite n l h = absurd (omega (arith, l))
 pub pointers_whole : (s : Segments) (start : code.Place) (n : ℕ) → AreThere s (place_view start) n → IsWhole s (record { start = start; size = Pointer; claimed = n; count = n; data_words = 0; pointers = 0 })
 pointers_whole s start n h =
     let zero_words : 0 ≡ words_for (data_bits 6 * n) = omega arith in
-    let front = part_there s (place_view start) 0 0 n (omega arith) h.0 in
+    let front = section_there s (place_view start) 0 0 n (omega arith) h.0 in
     ((subst (λ (w : ℕ). AreThere s (after (place_view start) 0) w) zero_words (front, omega (arith, h.1)), omega (arith, h.1)), (λ six. h), λ seven. absurd (omega (arith, seven)))
 
 -- a list of structs, whose claimed words with the tag are there and hold the elements
@@ -57,7 +57,7 @@ structs_whole s o size h l = (of_number (size_number o.size) seven, (λ six. abs
     of_number z e =
         let many : o.count * (o.data_words + o.pointers) ≡ words_for (64 * (o.data_words + o.pointers) * o.count) = omega arith in
         let near = h.1 in
-        let part = part_there s (place_view o.start) 1 (o.count * (o.data_words + o.pointers)) (1 + o.claimed) (omega (arith, l)) h.0 in
+        let part = section_there s (place_view o.start) 1 (o.count * (o.data_words + o.pointers)) (1 + o.claimed) (omega (arith, l)) h.0 in
         rw e ((subst (λ (n : ℕ). is_some (words_at s (after (place_view o.start) 1) n) ≡ true) many part, omega (arith, near, many, l)), omega (arith, near, l))
 
 -- ---- what an object's words show

@@ -24,6 +24,7 @@ use Rattle.capnp_object.specs.Objects.{plain_size, whole_list, whole, object_at}
 use Rattle.capnp_object.specs.declared.object.Found.{Found}
 use Rattle.capnp_units.specs.Sizes.{size_number}
 use Rattle.std.proofs.lemmas.Bool.Decides.{nat_tests}
+use Rattle.capnp_model.proofs.lemmas.Visits.{tag_fits}
 use Rattle.capnp_wire.specs.Views.{Ground, section_at, list_view}
 use Rattle.capnp_object.specs.Inside.{words_there}
 use Rattle.capnp_wire.specs.Laws.{reads_behind, ShowsElements}
@@ -122,16 +123,6 @@ pub record IsHeld (s : Segments) (p : Place) (words count d k : ℕ) : Type 0 wh
   pub is : words_at s p words ≡ Some there
   pub fits : count * (d + k) ≤ words
 
-tag_fits : (ws : List ℕ) (t : Tag) → tag_in ws ≡ Ok t → t.count * (t.data_words + t.pointers) + 1 ≤ length ws
-tag_fits [] t e = absurd cc
-tag_fits (w ∷ ws) t e =
-    let a = bind_ok (tag_of (pointer_of w)) _ t e in
-    let b = guard_ok (leb (a.0.count * (a.0.data_words + a.0.pointers)) (length ws)) OutOfBounds _ t a.2 in
-    let le : a.0.count * (a.0.data_words + a.0.pointers) ≤ length ws = leb-true _ _ b.0 in
-    let is : a.0 ≡ t = ok_is _ _ b.1 in
-    let here : t.count * (t.data_words + t.pointers) ≤ length ws = subst (λ (u : Tag). u.count * (u.data_words + u.pointers) ≤ length ws) is le in
-    omega arith
-
 -- What an object says of a list of structs.
 abbrev pub Holds : Segments → Object → Type 0
 Holds s object.Null = Unit {0}
@@ -167,7 +158,7 @@ object_holds s (model.a_list p size n) o e =
     let a = bind_ok (ok_or (words_at s p (list_words (list_kind size) size n)) OutOfBounds) _ o e in
     list_holds s p (list_kind size) size n a.0 o (ok_or_some _ _ _ a.1) a.2
 
-words_there_is : (s : Segments) (p : Place) (n : ℕ) (ws : List ℕ) → words_at s p n ≡ Some ws → words_there s p n ≡ ws
+pub words_there_is : (s : Segments) (p : Place) (n : ℕ) (ws : List ℕ) → words_at s p n ≡ Some ws → words_there s p n ≡ ws
 unfolding words_there
 words_there_is s p n ws e = ap (λ (o : Option (List ℕ)). unwrap_or o []) e
 

@@ -20,6 +20,7 @@ use Rattle.std.proofs.lemmas.Grind.{flat_map-append}
 use Rattle.capnp_model.specs.Bytes.{words_in_bytes, bytes_of_words}
 use Rattle.capnp_model.proofs.lemmas.ByteWords.{bytes_length}
 use Rattle.capnp_stream.proofs.lemmas.WordLemmas.{whole_words-of_length, sum-cons, words_in_bytes-length, words_in_bytes-take, words_in_bytes-drop}
+use Rattle.capnp_model.proofs.lemmas.Written.{paired_length}
 
 -- the bytes of a word are that word
 pub word-bytes : (word : ℕ) (bytes : List ℕ) → word < 2 ^ 64 → bytes ≡ to_le_bytes w64 word → whole_words bytes ≡ word ∷ []
@@ -151,11 +152,6 @@ is-segment segments id bytes fit here =
     subst IsSegment (get_or_from_slice_get segments id bytes [] here) (fit.words id [] inside)
 
 -- ---- the length of a message
-
-paired_length : (ns : List ℕ) → length (paired ns) ≡ (length ns + 1) / 2
-paired_length [] = omega arith
-paired_length (a ∷ []) = omega arith
-paired_length (a ∷ b ∷ ns) = let rest = paired_length ns in omega arith
 
 segments_length : (s : Segments) → length (flat_map bytes_of_words s) ≡ 8 * sum (map length s)
 segments_length [] = refl

@@ -1,6 +1,6 @@
 -- Each visit that is paid is one of a walk.
 use Rattle.std.proofs.Common.{arith}
-use Rattle.capnp_canonical.proofs.FewFollowed.{begun_few, stopped_few}
+use Rattle.capnp_canonical.proofs.lemmas.FewFollowed.{begun_few, stopped_few}
 use Rattle.capnp_canonical.proofs.laws.copies_follow_few.Goals as goal
 
 pub returns : goal.returns

@@ -17,12 +17,13 @@ use Rattle.capnp_object.specs.declared.object.Object.TheVariants as object
 use Rattle.capnp_object.specs.Places.{place_view}
 use Rattle.capnp_object.specs.Inside.{section_at, tree_in}
 use Rattle.capnp_object.proofs.lemmas.Walks.{walked_none}
+use Rattle.capnp_object.proofs.lemmas.Measuring.{data_bits_plain}
 use Rattle.capnp_canonical.specs.Writes.{words_view, filled, with_words, with_link}
 use Rattle.capnp_canonical.proofs.Copying.{behind_both, no_room}
 use Rattle.capnp_canonical.proofs.Rooms.{no_room_for_list}
-use Rattle.capnp_canonical.proofs.Putting.{take_words}
+use Rattle.capnp_canonical.proofs.lemmas.Putting.{take_words}
 use Rattle.capnp_canonical.proofs.Objects.{filled_length, list_written}
-use Rattle.capnp_canonical.proofs.Finals.{data_bits_plain, own_at_least}
+use Rattle.capnp_canonical.proofs.Finals.{own_at_least}
 use Rattle.capnp_canonical.proofs.list_copies.write_list.Goals as goal
 
 pub returns-in_err-end : goal.returns-in_err-end

@@ -26,7 +26,7 @@ use Rattle.capnp_canonical.specs.Checks.{TestsObject, TestsElements}
 use Rattle.capnp_canonical.specs.Objects.{IsShort}
 use Rattle.capnp_canonical.proofs.lemmas.Checking.{refused_is, differs_at}
 use Rattle.capnp_canonical.proofs.NearPlaces.{far_differs, near_leads}
-use Rattle.capnp_canonical.proofs.NearStructs.{struct_stands, least_words, least_count, struct_there}
+use Rattle.capnp_canonical.proofs.lemmas.NearStructs.{struct_stands, least_words, least_count, struct_there}
 use Rattle.capnp_canonical.proofs.CheckedRows.{row_begun, row_next, row_differs, row_stopped, row_ended}
 use Rattle.capnp_canonical.proofs.CheckedElements.{elements_begun, elements_next, elements_differ, elements_stopped, elements_ended, plain_elements}
 use Rattle.capnp_canonical.proofs.Parts.{part_there, front_there}

@@ -9,7 +9,7 @@ use Rattle.capnp_model.specs.Pointers.{a_list}
 use Rattle.capnp_units.specs.declared.sizes.ElementSize.{ElementSize}
 use Rattle.capnp_units.specs.Sizes.{size_number}
 use Rattle.capnp_copy.specs.Values.{Becomes, LeadsTo}
-use Rattle.capnp_copy.proofs.BlobValues.{blob_made}
+use Rattle.capnp_copy.proofs.lemmas.BlobValues.{blob_made}
 use Rattle.capnp_footprints.proofs.lemmas.Spans.{grows_then}
 use Rattle.capnp_copy.proofs.lemmas.RoomLaws.{sizes_grow}
 use Rattle.capnp_copy.proofs.lemmas.Taken.{bytes_sizes, takes_so, bounds_so}

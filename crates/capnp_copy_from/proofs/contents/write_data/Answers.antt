@@ -5,7 +5,8 @@ use Rattle.capnp_units.specs.Segments.{words_in}
 use Rattle.capnp_object.specs.Places.{place_view}
 use Rattle.capnp_copy.proofs.lemmas.ZeroedWords.{written_sizes}
 use Rattle.capnp_copy.proofs.lemmas.RoomLaws.{sizes_grow, still_some}
-use Rattle.capnp_copy_from.proofs.TakenContent.{data_written, bytes_sizes}
+use Rattle.capnp_copy.proofs.lemmas.Taken.{bytes_sizes}
+use Rattle.capnp_copy_from.proofs.TakenContent.{data_written}
 use Rattle.capnp_copy_from.proofs.Parts.{part_there}
 use Rattle.capnp_copy_from.proofs.contents.write_data.Goals as goal
 

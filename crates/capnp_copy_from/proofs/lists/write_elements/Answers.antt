@@ -5,8 +5,8 @@ use Rattle.capnp_units.specs.Segments.{words_in}
 use Rattle.capnp_units.specs.Sizes.{size_number, data_bits}
 use Rattle.capnp_object.specs.Places.{place_view}
 use Rattle.capnp_copy.specs.Blobs.{with_bytes}
+use Rattle.capnp_copy.proofs.lemmas.Taken.{bytes_sizes}
 use Rattle.capnp_copy_from.proofs.Listed.{written_elements}
-use Rattle.capnp_copy_from.proofs.TakenContent.{bytes_sizes}
 use Rattle.capnp_copy_from.proofs.lists.write_elements.Goals as goal
 
 pub returns-clause-fills : goal.returns-clause-fills

@@ -1,4 +1,4 @@
-use Rattle.capnp_model.proofs.Size.{tree_at_size}
+use Rattle.capnp_model.proofs.lemmas.Size.{tree_at_size}
 use Rattle.capnp_model.proofs.lemmas.Canonical.{canonical_size}
 use Rattle.capnp_model.proofs.laws.words_within_costs.Goals as goal
 

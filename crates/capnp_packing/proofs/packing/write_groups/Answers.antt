@@ -1,7 +1,7 @@
 use Rattle.std.proofs.Common.{take, rules}
 use Rattle.std.proofs.lemmas.Result.{err_from_is_err_and}
 use Rattle.capnp_stream.specs.Segments.{whole_words}
-use Rattle.capnp_packing.proofs.WriteLemmas.{group-cut, group-refusal, run-cut, run-refusal, group-written}
+use Rattle.capnp_packing.proofs.lemmas.WriteLemmas.{group-cut, group-refusal, run-cut, run-refusal, group-written}
 use Rattle.capnp_packing.proofs.packing.write_groups.Goals as goal
 
 pub returns-in_err-write_all : goal.returns-in_err-write_all

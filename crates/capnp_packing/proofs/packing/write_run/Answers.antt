@@ -4,7 +4,7 @@ use Rattle.std.proofs.KnownBytes.{Appends-nil}
 use Rattle.std.proofs.lemmas.Bool.{eqb-true}
 use Rattle.std.proofs.lemmas.List.{nil_from_length}
 use Rattle.capnp_io.specs.Streams.{RoomFalls}
-use Rattle.capnp_packing.proofs.WriteLemmas.{RoomFalls-nil}
+use Rattle.capnp_writing.proofs.lemmas.WriteLemmas.{RoomFalls-none}
 use Rattle.capnp_packing.proofs.packing.write_run.Goals as goal
 
 pub returns-then-is_empty-clause-ok : goal.returns-then-is_empty-clause-ok
@@ -18,4 +18,4 @@ pub returns-then-is_empty-clause-falls : goal.returns-then-is_empty-clause-falls
 returns-then-is_empty-clause-falls g c =
     let a = g.W.Write.room c.args.out.now in
     let none : length c.args.run.now ≡ 0 = eqb-true (length c.args.run.now) 0 (sym c.is_empty.ensures ∙ c.if-is_empty.true) in
-    subst (λ (n : ℕ). RoomFalls a a n) (sym none) (RoomFalls-nil a)
+    subst (λ (n : ℕ). RoomFalls a a n) (sym none) (RoomFalls-none a)

@@ -2,7 +2,7 @@ use Rattle.std.proofs.Common.{◌≡◌, length, sym, ◌∙◌, arith, rules}
 use Rattle.std.proofs.lemmas.Bool.{eqb-true}
 use Rattle.std.proofs.lemmas.Result.{err_from_is_err_and}
 use Rattle.capnp_packing.proofs.RunLemmas.{no-words}
-use Rattle.capnp_packing.proofs.WriteLemmas.{WritesUpTo-trans, words-cut, words-refusal, words-written}
+use Rattle.capnp_packing.proofs.lemmas.WriteLemmas.{WritesUpTo-trans, words-cut, words-refusal, words-written}
 use Rattle.capnp_packing.proofs.packing.write_words.Goals as goal
 
 pub loop-left-preserved : goal.loop-left-preserved

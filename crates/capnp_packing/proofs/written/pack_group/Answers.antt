@@ -3,7 +3,7 @@ use borrow.Rule.Slice.PartMut.{put_mid}
 use Rattle.capnp_io.proofs.lemmas.Filling.{take-put_mid_more}
 use Rattle.capnp_packing.proofs.UnpackLemmas.{rest-of}
 use Rattle.capnp_packing.proofs.RunLemmas.{words-front}
-use Rattle.capnp_packing.proofs.WriteLemmas.{run-front, packs-head, packs-group}
+use Rattle.capnp_packing.proofs.lemmas.WriteLemmas.{run-front, packs-head, packs-group}
 use Rattle.capnp_packing.proofs.written.pack_group.Goals as goal
 
 pub returns-then-is_empty : goal.returns-then-is_empty

@@ -7,7 +7,7 @@ use Rattle.capnp_stream.specs.Segments.{whole_words}
 use Rattle.capnp_packing.specs.Written.{Packs}
 use Rattle.capnp_packing.specs.declared.runs.Run.TheVariants.{Next}
 use Rattle.capnp_packing.proofs.RunLemmas.{words-front}
-use Rattle.capnp_packing.proofs.WriteLemmas.{packs-head, Spelled-of, Spelled-then, next-longest}
+use Rattle.capnp_packing.proofs.lemmas.WriteLemmas.{packs-head, Spelled-of, Spelled-then, next-longest}
 use Rattle.capnp_packing.proofs.written.pack_groups.Goals as goal
 
 pub loop-buf-preserved-then-tag : goal.loop-buf-preserved-then-tag

@@ -1,5 +1,5 @@
 use Rattle.std.proofs.Common.{◌≡◌, length}
-use Rattle.capnp_packing.proofs.WriteLemmas.{Spelled}
+use Rattle.capnp_packing.proofs.lemmas.WriteLemmas.{Spelled}
 use Rattle.capnp_packing.proofs.written.pack_groups.Given as goal
 
 abbrev pub invariant-loop-buf : goal.invariant-loop-buf

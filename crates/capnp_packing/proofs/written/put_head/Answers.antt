@@ -2,7 +2,7 @@ use Rattle.std.proofs.Common.{◌≡◌, ◌+◌, ℕ, List, [], ◌∷◌, ◌+
 use Rattle.std.proofs.lemmas.List.{take_more_set}
 use borrow.Rule.Slice.PartMut.{put_mid}
 use Rattle.capnp_model.specs.Packing.{nonzero}
-use Rattle.capnp_packing.proofs.WriteLemmas.{head-front, no-count, one-count}
+use Rattle.capnp_packing.proofs.lemmas.WriteLemmas.{head-front, no-count, one-count}
 use Rattle.capnp_packing.proofs.written.put_head.Goals as goal
 
 pub returns-in-First-clause-head : goal.returns-in-First-clause-head

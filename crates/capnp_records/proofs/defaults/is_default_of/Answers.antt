@@ -2,7 +2,7 @@ use Rattle.std.proofs.Common.{◌-◌, option_map, sym, ◌∙◌, ap}
 use Rattle.capnp_model.specs.Schemas.{Ty, base_type, lists_of}
 use Rattle.capnp_model.specs.Accepted.{is_default_of}
 use Rattle.capnp_records.specs.NodeViews.{base_of, value_of}
-use Rattle.capnp_records.proofs.Stored.{is_list}
+use Rattle.capnp_records.proofs.lemmas.Stored.{is_list}
 use Rattle.capnp_records.proofs.defaults.is_default_of.Goals as goal
 
 pub returns-then-ty-gt0 : goal.returns-then-ty-gt0

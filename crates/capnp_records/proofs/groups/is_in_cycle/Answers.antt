@@ -2,7 +2,7 @@ use Rattle.std.proofs.Common.{◌≡◌, length, sym, arith, true}
 use Rattle.capnp_records.specs.NodeViews.{node_of}
 use Rattle.capnp_records.specs.Listed.{listed}
 use Rattle.capnp_records.specs.Uses.{holds_deeper}
-use Rattle.capnp_records.proofs.FieldPlaces.{all_at}
+use Rattle.capnp_records.proofs.lemmas.FieldPlaces.{all_at}
 use Rattle.capnp_records.proofs.Holders.{not_below}
 use Rattle.capnp_records.proofs.groups.is_in_cycle.Goals as goal
 

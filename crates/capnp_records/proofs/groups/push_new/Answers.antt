@@ -1,19 +1,16 @@
 use Rattle.std.proofs.Common.{◌≡◌, ◌∷◌, ◌++◌, [], ℕ, Bool, true, false, not, List, refl, sym, ◌∙◌, subst, ◌==◌}
 use Rattle.std.specs.List.{list_any}
 use Rattle.std.specs.List.Sorted.{IsPermutation}
+use Rattle.capnp_model.proofs.lemmas.Tests.{not_is_false}
 use Rattle.capnp_records.specs.Levels.{PassSame, PassMore}
 use Rattle.capnp_records.proofs.Below.{kept_same, old_passes, new_passes, new_same}
 use Rattle.capnp_records.proofs.groups.push_new.Goals as goal
-
-was_there : (b : Bool) → false ≡ not b → b ≡ true
-was_there true h = refl
-was_there false h = absurd (cc h)
 
 pub returns-then-not-branch : goal.returns-then-not-branch
 returns-then-not-branch c =
     let seen = c.args.seen.now.keys in
     let ids = c.args.ids.now.items in
-    let there : list_any (λ k. c.args.id == k) seen ≡ true = was_there (list_any (λ k. c.args.id == k) seen) (sym c.if-not-branch.true ∙ c.in_ok-insert.ensures.added) in
+    let there : list_any (λ k. c.args.id == k) seen ≡ true = not_is_false (list_any (λ k. c.args.id == k) seen) (sym c.if-not-branch.true ∙ c.in_ok-insert.ensures.added) in
     let unchanged : c.insert.new.self.keys ≡ seen = rw c.if-not-branch.true at c.in_ok-insert.ensures.keys in
     record {
       same = kept_same seen ids c.insert.new.self.keys c.requires unchanged;

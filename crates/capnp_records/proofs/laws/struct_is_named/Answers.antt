@@ -2,14 +2,11 @@
 use Rattle.std.proofs.Common.{◌≡◌, ℕ, Bool, true, false, ◌&&◌, ◌==◌, Option, Some, None, List, slice_get, refl, sym, ◌∙◌, ap, arith}
 use Rattle.capnp_model.specs.Schemas.{Node}
 use Rattle.capnp_model.specs.Accepted.{find_node, is_struct_node, names_a, IsAccepted}
-use Rattle.capnp_model.proofs.lemmas.KeptRules.{and_left, and_right}
+use Rattle.capnp_model.proofs.lemmas.Tests.{same_number, and_left, and_right}
 use Rattle.capnp_records.specs.Sets.{IsStructOf}
 use Rattle.capnp_records.specs.declared.raw.RawBrandedStructSchema.{RawBrandedStructSchema}
 use Rattle.capnp_records.proofs.lemmas.PlainStructs.{place_is_found}
 use Rattle.capnp_records.proofs.laws.struct_is_named.Goals as goal
-
-same_number : (a b : ℕ) → (a == b) ≡ true → a ≡ b
-same_number a b h = grind arith
 
 -- The node that stands at a place where a struct of an id is.
 record Stands (o : Option Node) (id : ℕ) : Type 0 where

@@ -4,6 +4,7 @@ use Rattle.std.specs.Str.{bytes_eq}
 use Rattle.std.specs.List.Sorted.{IsPermutation}
 use Rattle.std.proofs.lemmas.List.{map_more}
 use Rattle.std.proofs.lemmas.List.Sorted.{list_any-IsPermutation}
+use Rattle.capnp_model.proofs.lemmas.Tests.{not_is_false, not_is_true}
 use Rattle.capnp_records.proofs.lemmas.ListTests.{default_any}
 use Rattle.capnp_records.proofs.Forward.{forward, forward_step}
 use Rattle.capnp_records.proofs.DistinctNames.{from_the_front, turned, one_more}
@@ -11,14 +12,6 @@ use Rattle.capnp_records.proofs.names.are_distinct.Goals as goal
 
 text : Bor (List ℕ) → List ℕ
 text s = s.now
-
-was_new : (b : Bool) → true ≡ not b → b ≡ false
-was_new false h = refl
-was_new true h = absurd (cc h)
-
-was_there : (b : Bool) → false ≡ not b → b ≡ true
-was_there true h = refl
-was_there false h = absurd (cc h)
 
 pub loop-name-init : goal.loop-name-init
 loop-name-init c = record {
@@ -35,7 +28,7 @@ loop-name-preserved c =
     let lt = c.loop-name-test.true in
     let is : y ≡ get_or names i y = default_any names i none y lt in
     let done : List (List ℕ) = map (λ s. s.now) (take i names) in
-    let fresh : list_any (λ k. bytes_eq y.now k.now) c.loop-name.seen.keys ≡ false = was_new (list_any (λ k. bytes_eq y.now k.now) c.loop-name.seen.keys) (sym c.if-not-branch.false ∙ c.in_ok-insert.ensures.added) in
+    let fresh : list_any (λ k. bytes_eq y.now k.now) c.loop-name.seen.keys ≡ false = not_is_true (list_any (λ k. bytes_eq y.now k.now) c.loop-name.seen.keys) (sym c.if-not-branch.false ∙ c.in_ok-insert.ensures.added) in
     let apart : list_any (λ d. bytes_eq d y.now) done ≡ false = turned y.now done ∙ sym (c.loop-name.invariant.seen y.now) ∙ fresh in
     let moved : IsPermutation (y ∷ c.loop-name.seen.keys) c.insert.new.self.keys = rw c.if-not-branch.false at c.in_ok-insert.ensures.keys in
     let grown : done ++ y.now ∷ [] ≡ map (λ s. s.now) (take (i + 1) names) = ap (λ z. done ++ z.now ∷ []) is ∙ sym (map_more (λ s. s.now) names i y lt) in
@@ -60,7 +53,7 @@ returns-then-not-branch c =
     let lt = c.loop-name-test.true in
     let is : y ≡ get_or names i y = default_any names i none y lt in
     let done : List (List ℕ) = map (λ s. s.now) (take i names) in
-    let there : list_any (λ k. bytes_eq y.now k.now) c.loop-name.seen.keys ≡ true = was_there (list_any (λ k. bytes_eq y.now k.now) c.loop-name.seen.keys) (sym c.if-not-branch.true ∙ c.in_ok-insert.ensures.added) in
+    let there : list_any (λ k. bytes_eq y.now k.now) c.loop-name.seen.keys ≡ true = not_is_false (list_any (λ k. bytes_eq y.now k.now) c.loop-name.seen.keys) (sym c.if-not-branch.true ∙ c.in_ok-insert.ensures.added) in
     let clashes : list_any (λ d. bytes_eq d y.now) done ≡ true = turned y.now done ∙ sym (c.loop-name.invariant.seen y.now) ∙ there in
     sym (forward_step bytes_eq (λ s. s.now) names i y lt is
     ∙ ap (λ b. not b && forward bytes_eq (map (λ s. s.now) (take (i + 1) names)) (map (λ s. s.now) (drop (i + 1) names))) clashes)

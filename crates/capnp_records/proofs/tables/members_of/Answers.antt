@@ -1,7 +1,7 @@
 use Rattle.std.proofs.Common.{◌≡◌, ◌+◌, ◌∙◌, ap, map, drop, arith}
 use Rattle.capnp_records.specs.NodeViews.{field_of}
 use Rattle.capnp_records.specs.Tables.{place_from}
-use Rattle.capnp_records.proofs.FieldPlaces.{table_is}
+use Rattle.capnp_records.proofs.lemmas.FieldPlaces.{table_is}
 use Rattle.capnp_records.proofs.tables.members_of.Goals as goal
 
 pub returns : goal.returns

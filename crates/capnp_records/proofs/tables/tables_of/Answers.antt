@@ -1,6 +1,6 @@
 use Rattle.capnp_model.specs.Accepted.{is_short}
 use Rattle.capnp_records.specs.NodeViews.{node_of}
-use Rattle.capnp_records.proofs.FieldPlaces.{all_at}
+use Rattle.capnp_records.proofs.lemmas.FieldPlaces.{all_at}
 use Rattle.capnp_records.proofs.tables.tables_of.Goals as goal
 
 pub tables_of_node-requires : goal.tables_of_node-requires

@@ -1,7 +1,7 @@
 use Rattle.std.proofs.Common.{◌≡◌, ◌+◌, ◌/◌, ◌≤◌, ◌++◌, true, length, drop, sym, ap, ◌∙◌, arith, take_at, length-append, length-take-le}
 use Rattle.capnp_model.specs.Messages.{within}
 use Rattle.capnp_stream.specs.Shown.{bytes_in_all}
-use Rattle.capnp_stream.proofs.ShownLemmas.{Lays-copied}
+use Rattle.capnp_stream.proofs.lemmas.ShownLemmas.{Lays-copied}
 use Rattle.capnp_stream.proofs.shown.lay_message.Goals as goal
 
 pub returns : goal.returns

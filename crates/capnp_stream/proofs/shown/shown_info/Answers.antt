@@ -1,7 +1,7 @@
 use Rattle.std.proofs.Common.{◌≡◌, ◌/◌, ◌≤◌, List, ℕ, refl, ap, length, ◌∙◌, arith}
 use Rattle.std.specs.Int.{from_le_bytes, w64}
 use Rattle.capnp_stream.proofs.lemmas.WordLemmas.{from_le_bytes-take}
-use Rattle.capnp_stream.proofs.ShownLemmas.{Describes-one}
+use Rattle.capnp_stream.proofs.lemmas.ShownLemmas.{Describes-one}
 use Rattle.capnp_stream.proofs.shown.shown_info.Goals as goal
 
 pub returns : goal.returns

@@ -1,4 +1,4 @@
-use Rattle.capnp_versions.proofs.TrimmedRelays.{relays-by-words, relays-by-values}
+use Rattle.capnp_versions.proofs.lemmas.TrimmedRelays.{relays-by-words, relays-by-values}
 use Rattle.capnp_versions.proofs.laws.relays_in_a_row.Goals as goal
 
 pub returns : goal.returns

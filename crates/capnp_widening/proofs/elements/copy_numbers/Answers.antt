@@ -5,8 +5,9 @@ use Rattle.capnp_units.specs.Segments.{words_in}
 use Rattle.capnp_units.specs.Sizes.{size_number}
 use Rattle.capnp_wire.specs.Places.{place_view}
 use Rattle.capnp_footprints.specs.Writes.{with_words}
+use Rattle.capnp_copy.proofs.lemmas.ZeroedWords.{written_sizes}
+use Rattle.capnp_copy.proofs.lemmas.Parts.{front_there}
 use Rattle.capnp_widening.specs.MovedElements.{struct_begin}
-use Rattle.capnp_widening.proofs.lemmas.Standing.{front_there, written_sizes}
 use Rattle.capnp_widening.proofs.MovedLists.{struct_there}
 use Rattle.capnp_widening.proofs.lemmas.CopiedNumbers.{NumbersSoFar, numbers_none, numbers_next, one_data_word, plain_bits, fills_numbers}
 use Rattle.capnp_widening.proofs.elements.copy_numbers.Goals as goal

@@ -5,9 +5,12 @@ use Rattle.capnp_units.specs.Segments.{words_in}
 use Rattle.capnp_units.specs.Sizes.{size_number}
 use Rattle.capnp_wire.specs.Places.{place_view}
 use Rattle.capnp_object.specs.declared.place.Place as code
+use Rattle.capnp_copy.proofs.lemmas.RoomLaws.{still_some, sizes_grow}
+use Rattle.capnp_copy.proofs.lemmas.Taken.{same_total}
+use Rattle.capnp_copy.proofs.lemmas.Parts.{section_there}
 use Rattle.capnp_widening.specs.Moves.{HasPads, pads_of, pad_from, MovesValue}
 use Rattle.capnp_widening.specs.MovedElements.{least_pointers, struct_begin}
-use Rattle.capnp_widening.proofs.lemmas.Standing.{still_some, sizes_grow, sizes_total, part_there, pads_stay}
+use Rattle.capnp_widening.proofs.lemmas.Standing.{pads_stay}
 use Rattle.capnp_widening.proofs.MovedRows.{one_pad}
 use Rattle.capnp_widening.proofs.MovedLists.{struct_there, pointers_begin}
 use Rattle.capnp_widening.proofs.SpreadPointers.{PointersSoFar, pointers_none, pointers_next, one_pointer, fills_pointers}
@@ -22,7 +25,7 @@ move_pointer-requires-clause-from g c =
     let s = words_in (g.A.ReaderArena.segments c.args.arena.now) in
     let u = words_in (g.A.ReaderArena.segments c.loop-i.arena) in
     let next : c.loop-i.i < c.args.old.count = search rules in
-    still_some s u (after (place_view c.args.old.start) c.loop-i.i) 1 (sizes_grow s u c.loop-i.invariant.1) (part_there s (place_view c.args.old.start) c.loop-i.i 1 c.args.old.count (omega (arith, next)) c.requires.there.0)
+    still_some s u (after (place_view c.args.old.start) c.loop-i.i) 1 (sizes_grow s u c.loop-i.invariant.1) (section_there s (place_view c.args.old.start) c.loop-i.i 1 c.args.old.count (omega (arith, next)) c.requires.there.0)
 
 pub move_pointer-requires-clause-to : goal.move_pointer-requires-clause-to
 move_pointer-requires-clause-to g c =
@@ -31,7 +34,7 @@ move_pointer-requires-clause-to g c =
     let next : c.loop-i.i < c.args.new.count = let l : c.loop-i.i < c.args.old.count = search rules in omega (arith, l, c.requires.wider.as_many) in
     let here = struct_there s u (place_view c.args.new.start) c.args.new.data_words c.args.new.pointers c.args.new.count c.loop-i.i next c.loop-i.invariant.1 c.requires.wider.there.0 in
     let one = one_pointer (size_number c.args.old.size) c.args.old.pointers c.requires.pointers in
-    let there = part_there u (struct_begin c.args.new c.loop-i.i) c.args.new.data_words 1 (c.args.new.data_words + c.args.new.pointers) (omega (arith, one, c.requires.wider.wide.1)) here in
+    let there = section_there u (struct_begin c.args.new c.loop-i.i) c.args.new.data_words 1 (c.args.new.data_words + c.args.new.pointers) (omega (arith, one, c.requires.wider.wide.1)) here in
     subst (λ (q : Place). is_some (words_at u q 1) ≡ true) (sym (pointers_begin c.args.new c.loop-i.i c.element_of.result c.pointers_of-to.result c.pointers_of-to.ensures c.element_of.ensures.start c.element_of.ensures.size.0)) there
 
 pub move_pointer-requires-clause-pad : goal.move_pointer-requires-clause-pad
@@ -48,7 +51,7 @@ pub move_pointer-requires-clause-few : goal.move_pointer-requires-clause-few
 move_pointer-requires-clause-few g c =
     let s = words_in (g.A.ReaderArena.segments c.args.arena.now) in
     let u = words_in (g.A.ReaderArena.segments c.loop-i.arena) in
-    omega (arith, sizes_total s u c.loop-i.invariant.1, c.requires.few)
+    omega (arith, same_total s u c.loop-i.invariant.1, c.requires.few)
 
 pub loop-i-preserved : goal.loop-i-preserved
 loop-i-preserved g c =

@@ -3,8 +3,11 @@ use Rattle.std.specs.Option.{is_some}
 use Rattle.capnp_model.specs.Segments.{Place, after, words_at}
 use Rattle.capnp_units.specs.Segments.{words_in}
 use Rattle.capnp_wire.specs.Places.{place_view}
+use Rattle.capnp_copy.proofs.lemmas.RoomLaws.{still_some, sizes_grow}
+use Rattle.capnp_copy.proofs.lemmas.Taken.{same_total}
+use Rattle.capnp_copy.proofs.lemmas.Parts.{section_there, front_there}
 use Rattle.capnp_widening.specs.Moves.{MovesRow, pads_of}
-use Rattle.capnp_widening.proofs.lemmas.Standing.{still_some, sizes_grow, sizes_total, part_there, front_there, pads_stay, within_total}
+use Rattle.capnp_widening.proofs.lemmas.Standing.{pads_stay, within_total}
 use Rattle.capnp_widening.proofs.elements.move_element.Goals as goal
 
 pub copy_words-requires-clause-from : goal.copy_words-requires-clause-from
@@ -40,7 +43,7 @@ pub move_pointers-requires-clause-from : goal.move_pointers-requires-clause-from
 move_pointers-requires-clause-from g c =
     let s = words_in (g.A.ReaderArena.segments c.args.arena.now) in
     let x = words_in (g.A.ReaderArena.segments c.copy_words.new.arena) in
-    let a = part_there s (place_view c.args.from.start) c.args.from.data_words c.args.from.pointers (c.args.from.data_words + c.args.from.pointers) (omega arith) c.requires.from in
+    let a = section_there s (place_view c.args.from.start) c.args.from.data_words c.args.from.pointers (c.args.from.data_words + c.args.from.pointers) (omega arith) c.requires.from in
     let b = still_some s x (after (place_view c.args.from.start) c.args.from.data_words) c.args.from.pointers (sizes_grow s x c.copy_words.ensures.sizes) a in
     subst (λ (q : Place). is_some (words_at x q c.args.from.pointers) ≡ true) (sym c.pointers_of-source.ensures) b
 
@@ -48,7 +51,7 @@ pub move_pointers-requires-clause-to : goal.move_pointers-requires-clause-to
 move_pointers-requires-clause-to g c =
     let s = words_in (g.A.ReaderArena.segments c.args.arena.now) in
     let x = words_in (g.A.ReaderArena.segments c.copy_words.new.arena) in
-    let a = part_there s (place_view c.args.to.start) c.args.to.data_words c.args.from.pointers (c.args.to.data_words + c.args.to.pointers) (omega (arith, c.requires.wider.1)) c.requires.to in
+    let a = section_there s (place_view c.args.to.start) c.args.to.data_words c.args.from.pointers (c.args.to.data_words + c.args.to.pointers) (omega (arith, c.requires.wider.1)) c.requires.to in
     let b = still_some s x (after (place_view c.args.to.start) c.args.to.data_words) c.args.from.pointers (sizes_grow s x c.copy_words.ensures.sizes) a in
     subst (λ (q : Place). is_some (words_at x q c.args.from.pointers) ≡ true) (sym c.pointers_of-target.ensures) b
 
@@ -62,7 +65,7 @@ pub move_pointers-requires-clause-few : goal.move_pointers-requires-clause-few
 move_pointers-requires-clause-few g c =
     let s = words_in (g.A.ReaderArena.segments c.args.arena.now) in
     let x = words_in (g.A.ReaderArena.segments c.copy_words.new.arena) in
-    omega (arith, sizes_total s x c.copy_words.ensures.sizes, c.requires.few)
+    omega (arith, same_total s x c.copy_words.ensures.sizes, c.requires.few)
 
 pub move_pointers-requires-clause-near : goal.move_pointers-requires-clause-near
 move_pointers-requires-clause-near g c =

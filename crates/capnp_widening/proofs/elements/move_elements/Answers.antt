@@ -5,8 +5,10 @@ use Rattle.capnp_units.specs.Segments.{words_in}
 use Rattle.capnp_units.specs.Sizes.{size_number}
 use Rattle.capnp_wire.specs.Places.{place_view}
 use Rattle.capnp_object.specs.declared.place.Place as code
+use Rattle.capnp_copy.proofs.lemmas.RoomLaws.{sizes_grow}
+use Rattle.capnp_copy.proofs.lemmas.Taken.{same_total}
 use Rattle.capnp_widening.specs.Moves.{HasPads}
-use Rattle.capnp_widening.proofs.lemmas.Standing.{sizes_grow, sizes_total, pads_stay, within_total}
+use Rattle.capnp_widening.proofs.lemmas.Standing.{pads_stay, within_total}
 use Rattle.capnp_widening.proofs.MovedLists.{ElementsSoFar, elements_none, elements_next, some_pads, struct_there, next_fits}
 use Rattle.capnp_widening.proofs.FilledLists.{fills_structs, struct_words, struct_pointers}
 use Rattle.capnp_widening.proofs.elements.move_elements.Goals as goal
@@ -55,7 +57,7 @@ pub move_element-requires-clause-few : goal.move_element-requires-clause-few
 move_element-requires-clause-few g c =
     let s = words_in (g.A.ReaderArena.segments c.args.arena.now) in
     let u = words_in (g.A.ReaderArena.segments c.loop-i.arena) in
-    omega (arith, sizes_total s u c.loop-i.invariant.1, c.requires.few)
+    omega (arith, same_total s u c.loop-i.invariant.1, c.requires.few)
 
 pub loop-i-preserved : goal.loop-i-preserved
 loop-i-preserved g c =

@@ -2,7 +2,9 @@ use Rattle.std.proofs.Common.{◌≡◌, ◌<◌, ℕ, [], ◌∷◌, length, ma
 use Rattle.capnp_model.specs.Segments.{Segments, after}
 use Rattle.capnp_units.specs.Segments.{words_in}
 use Rattle.capnp_wire.specs.Places.{place_view}
-use Rattle.capnp_widening.proofs.lemmas.Standing.{still_some, sizes_grow, part_there, written_sizes}
+use Rattle.capnp_copy.proofs.lemmas.RoomLaws.{still_some, sizes_grow}
+use Rattle.capnp_copy.proofs.lemmas.Parts.{section_there}
+use Rattle.capnp_copy.proofs.lemmas.ZeroedWords.{written_sizes}
 use Rattle.capnp_widening.proofs.Copied.{CopiedSoFar, copied_none, copied_next, copied_all}
 use Rattle.capnp_widening.proofs.moves.copy_words.Goals as goal
 
@@ -14,7 +16,7 @@ write_word-requires g c =
     let s = words_in (g.A.ReaderArena.segments c.args.arena.now) in
     let u = words_in (g.A.ReaderArena.segments c.loop-i.arena) in
     let next : c.loop-i.i < c.args.count = search rules in
-    still_some s u (after (place_view c.args.to) c.loop-i.i) 1 (sizes_grow s u c.loop-i.invariant.1) (part_there s (place_view c.args.to) c.loop-i.i 1 c.args.count (omega (arith, next)) c.requires.to)
+    still_some s u (after (place_view c.args.to) c.loop-i.i) 1 (sizes_grow s u c.loop-i.invariant.1) (section_there s (place_view c.args.to) c.loop-i.i 1 c.args.count (omega (arith, next)) c.requires.to)
 
 pub loop-i-preserved : goal.loop-i-preserved
 loop-i-preserved g c =

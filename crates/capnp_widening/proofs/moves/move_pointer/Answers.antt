@@ -6,8 +6,10 @@ use Rattle.capnp_units.specs.Segments.{words_in}
 use Rattle.capnp_wire.specs.Places.{place_view}
 use Rattle.capnp_footprints.specs.Writes.{with_words}
 use Rattle.capnp_footprints.proofs.lemmas.Splices.{splice_grows}
+use Rattle.capnp_copy.proofs.lemmas.RoomLaws.{still_written}
+use Rattle.capnp_copy.proofs.lemmas.ZeroedWords.{written_sizes}
 use Rattle.capnp_widening.specs.Moves.{pads_of, pointed_at}
-use Rattle.capnp_widening.proofs.lemmas.Standing.{still_written, written_sizes, within_total, pads_stay, pointed_sizes}
+use Rattle.capnp_widening.proofs.lemmas.Standing.{within_total, pads_stay, pointed_sizes}
 use Rattle.capnp_widening.proofs.MovedPointers.{moved_null, moved_as_it_is, moved_lost, moved_outside, moved_empty, moved_direct, starts_at}
 use Rattle.capnp_widening.proofs.moves.move_pointer.Goals as goal
 

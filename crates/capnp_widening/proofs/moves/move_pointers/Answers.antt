@@ -3,8 +3,11 @@ use Rattle.capnp_model.specs.Segments.{after}
 use Rattle.capnp_units.specs.Segments.{words_in}
 use Rattle.capnp_wire.specs.Places.{place_view}
 use Rattle.capnp_object.specs.declared.place.Place as code
+use Rattle.capnp_copy.proofs.lemmas.RoomLaws.{still_some, sizes_grow}
+use Rattle.capnp_copy.proofs.lemmas.Taken.{same_total}
+use Rattle.capnp_copy.proofs.lemmas.Parts.{section_there}
 use Rattle.capnp_widening.specs.Moves.{HasPads, pads_of, pad_from, MovesValue}
-use Rattle.capnp_widening.proofs.lemmas.Standing.{still_some, sizes_grow, sizes_total, part_there, pads_stay}
+use Rattle.capnp_widening.proofs.lemmas.Standing.{pads_stay}
 use Rattle.capnp_widening.proofs.MovedRows.{RowSoFar, row_none, row_next, row_all, one_pad}
 use Rattle.capnp_widening.proofs.moves.move_pointers.Goals as goal
 
@@ -16,14 +19,14 @@ move_pointer-requires-clause-from g c =
     let s = words_in (g.A.ReaderArena.segments c.args.arena.now) in
     let u = words_in (g.A.ReaderArena.segments c.loop-i.arena) in
     let next : c.loop-i.i < c.args.count = search rules in
-    still_some s u (after (place_view c.args.from) c.loop-i.i) 1 (sizes_grow s u c.loop-i.invariant.1) (part_there s (place_view c.args.from) c.loop-i.i 1 c.args.count (omega (arith, next)) c.requires.from)
+    still_some s u (after (place_view c.args.from) c.loop-i.i) 1 (sizes_grow s u c.loop-i.invariant.1) (section_there s (place_view c.args.from) c.loop-i.i 1 c.args.count (omega (arith, next)) c.requires.from)
 
 pub move_pointer-requires-clause-to : goal.move_pointer-requires-clause-to
 move_pointer-requires-clause-to g c =
     let s = words_in (g.A.ReaderArena.segments c.args.arena.now) in
     let u = words_in (g.A.ReaderArena.segments c.loop-i.arena) in
     let next : c.loop-i.i < c.args.count = search rules in
-    still_some s u (after (place_view c.args.to) c.loop-i.i) 1 (sizes_grow s u c.loop-i.invariant.1) (part_there s (place_view c.args.to) c.loop-i.i 1 c.args.count (omega (arith, next)) c.requires.to)
+    still_some s u (after (place_view c.args.to) c.loop-i.i) 1 (sizes_grow s u c.loop-i.invariant.1) (section_there s (place_view c.args.to) c.loop-i.i 1 c.args.count (omega (arith, next)) c.requires.to)
 
 pub move_pointer-requires-clause-pad : goal.move_pointer-requires-clause-pad
 move_pointer-requires-clause-pad g c =
@@ -36,7 +39,7 @@ pub move_pointer-requires-clause-few : goal.move_pointer-requires-clause-few
 move_pointer-requires-clause-few g c =
     let s = words_in (g.A.ReaderArena.segments c.args.arena.now) in
     let u = words_in (g.A.ReaderArena.segments c.loop-i.arena) in
-    omega (arith, sizes_total s u c.loop-i.invariant.1, c.requires.few)
+    omega (arith, same_total s u c.loop-i.invariant.1, c.requires.few)
 
 pub loop-i-preserved : goal.loop-i-preserved
 loop-i-preserved g c =

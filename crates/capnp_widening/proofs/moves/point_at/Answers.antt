@@ -6,8 +6,10 @@ use Rattle.capnp_wire.specs.Places.{place_view}
 use Rattle.capnp_object.specs.declared.place.Place as code
 use Rattle.capnp_footprints.specs.Writes.{with_words}
 use Rattle.capnp_footprints.specs.NewObjects.{far_pointer, double_far_pointer}
+use Rattle.capnp_copy.proofs.lemmas.Parts.{section_there}
+use Rattle.capnp_copy.proofs.lemmas.RoomLaws.{still_written}
 use Rattle.capnp_widening.specs.Moves.{HasPads, pointed_at}
-use Rattle.capnp_widening.proofs.lemmas.Standing.{still_written, part_there, written_then}
+use Rattle.capnp_widening.proofs.lemmas.Standing.{written_then}
 use Rattle.capnp_widening.proofs.moves.point_at.Goals as goal
 
 pub write_word-requires-in-Some-2 : goal.write_word-requires-in-Some-2
@@ -16,7 +18,7 @@ write_word-requires-in-Some-2 g c =
     let pad = c.in-Some.pad in
     let has : HasPads s (Some c.in-Some.pad) 1 = subst (λ (o : Option code.Place). HasPads s o 1) c.in-Some.is c.requires.pad in
     let two : is_some (words_at s (place_view c.in-Some.pad) 2) ≡ true = has.0 in
-    subst (λ (x : Segments). is_some (words_at x (after (place_view c.in-Some.pad) 1) 1) ≡ true) (sym c.write_word-in-Some.ensures.words) (still_written s (place_view c.in-Some.pad) (after (place_view c.in-Some.pad) 1) _ 1 (part_there s (place_view c.in-Some.pad) 1 1 2 (omega arith) two))
+    subst (λ (x : Segments). is_some (words_at x (after (place_view c.in-Some.pad) 1) 1) ≡ true) (sym c.write_word-in-Some.ensures.words) (still_written s (place_view c.in-Some.pad) (after (place_view c.in-Some.pad) 1) _ 1 (section_there s (place_view c.in-Some.pad) 1 1 2 (omega arith) two))
 
 pub write_word-requires-in-Some-3 : goal.write_word-requires-in-Some-3
 write_word-requires-in-Some-3 g c =

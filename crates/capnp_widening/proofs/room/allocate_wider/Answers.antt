@@ -1,7 +1,7 @@
 use Rattle.std.proofs.Common.{◌≡◌, ap, rules, arith}
 use Rattle.capnp_units.specs.Segments.{words_in}
 use Rattle.capnp_footprints.specs.Writes.{segment_end}
-use Rattle.capnp_widening.proofs.lemmas.Standing.{word_before_end, end_within}
+use Rattle.capnp_copy.proofs.lemmas.Ends.{word_before_end, end_within}
 use Rattle.capnp_widening.proofs.room.allocate_wider.Goals as goal
 
 pub overflow_add-offset : goal.overflow_add-offset

@@ -7,7 +7,7 @@ use Rattle.capnp_widening.specs.WidenedLists.{list_there, WidensList, IsWideList
 use Rattle.capnp_widening.proofs.lemmas.GotStructs.{ok_then, err_then}
 use Rattle.capnp_widening.proofs.KnownLists.{known, leads_unless_null, known_short}
 use Rattle.capnp_widening.proofs.WideLists.{null_stays, wide_list_stays, most_list_widens, null_got, null_of_structs, wide_got, new_got, refused_list, nothing_taken, list_takes, if_ok_then}
-use Rattle.capnp_widening.proofs.Bounds.{on_ok, on_err, list_takes_none, list_takes_most, list_lacks, whole_unless_null}
+use Rattle.capnp_widening.proofs.Bounds.{on_err, list_takes_none, list_takes_most, list_lacks, whole_unless_null}
 use Rattle.capnp_widening.proofs.struct_lists.get_struct_list.Goals.{then-eq-via-then-eq, then-eq-via-else-eq+then-is_wide}
 use Rattle.capnp_widening.proofs.struct_lists.get_struct_list.Goals as goal
 
@@ -89,7 +89,7 @@ returns g c =
       value = ok_then (λ o. WidensList s u p c.max.result c.max-2.result) (λ o. WidensList s u p c.args.size.data_words c.args.size.pointers) (λ o h. most_list_widens s u p old d k c.max.result c.max-2.result leads (known s c.args.slot old found leads) ed ek h) c.widen_list.result c.widen_list.ensures.value;
       list = new_got s u c.args.slot old d k c.max.result c.max-2.result found ed ek c.widen_list.result c.widen_list.ensures.object c.widen_list.ensures.list c.widen_list.ensures.inside;
       taken = if_ok_then (list_takes s free u c.args.slot old d k c.max.result c.max-2.result found ed ek) c.widen_list.result c.widen_list.ensures.taken;
-      bound = on_ok (list_takes_most s u c.args.slot old d k c.max.result c.max-2.result found ed ek) c.widen_list.result c.widen_list.ensures.bound;
+      bound = if_ok_then (list_takes_most s u c.args.slot old d k c.max.result c.max-2.result found ed ek) c.widen_list.result c.widen_list.ensures.bound;
       full = on_err (list_lacks s free c.args.slot.segment (list_there s c.args.slot) old d k c.max.result c.max-2.result found ed ek) c.widen_list.result c.widen_list.ensures.full;
       wide = search rules;
       refused = search rules;

@@ -8,16 +8,19 @@ use Rattle.capnp_units.specs.declared.sizes.ElementSize.TheVariants.{InlineCompo
 use Rattle.capnp_wire.specs.Places.{place_view}
 use Rattle.capnp_footprints.specs.NewObjects.{new_structs, Fits, pointed}
 use Rattle.capnp_footprints.specs.Writes.{with_words}
-use Rattle.capnp_copy.proofs.lemmas.Taken.{linked_sizes, bounds_so}
+use Rattle.capnp_copy.proofs.lemmas.Taken.{linked_sizes, bounds_so, same_total}
 use Rattle.capnp_copy.specs.Allocations.{TakesAtMost}
 use Rattle.capnp_copy.specs.declared.init.ListPlace.{ListPlace}
+use Rattle.capnp_copy.proofs.lemmas.RoomLaws.{still_some, sizes_grow, word_there, pad_stays, still_linked}
+use Rattle.capnp_copy.proofs.lemmas.Parts.{section_there, front_there}
+use Rattle.capnp_copy.proofs.lemmas.ZeroedWords.{written_sizes}
 use Rattle.capnp_widening.proofs.Bounds.{on_err, wider_bounds}
 use Rattle.capnp_widening.proofs.lemmas.WholeLists.{structs_whole}
 use Rattle.capnp_copy.specs.Rooms.{begin_of, linked}
 use Rattle.capnp_copy.specs.Values.{LeadsTo}
 use Rattle.capnp_widening.specs.MovedElements.{least_pointers}
 use Rattle.capnp_widening.specs.Widened.{WiderRoom, TakesNear, NoWiderRoom, GrowthRefused}
-use Rattle.capnp_widening.proofs.lemmas.Standing.{still_some, sizes_grow, sizes_total, written_sizes, part_there, front_there, has_word, pads_stay, pad_stays, still_linked, within_total}
+use Rattle.capnp_widening.proofs.lemmas.Standing.{pads_stay, within_total}
 use Rattle.capnp_widening.proofs.KnownLists.{known, known_trees, known_list}
 use Rattle.capnp_widening.proofs.WiderRooms.{wider_addressed, wider_words, wider_extends, linked_leads}
 use Rattle.capnp_widening.proofs.WidenedLists.{list_widened, some_list, near_so}
@@ -61,7 +64,7 @@ begin_of-requires-clause-room g c =
     let r : WiderRoom s m p segment (1 + c.in_ok-words.words) (2 * (c.args.old.count * least_pointers c.args.old)) room pads = subst (λ (j : ℕ). WiderRoom s m p segment (1 + c.in_ok-words.words) j room pads) c.in_ok-words.ensures.words.1 c.in_ok-room.ensures.ok in
     let w = wider_words s m p segment (1 + words) many room pads (omega arith) r in
     let grows = (wider_extends s m p segment (1 + words) (2 * many) room pads r).0 in
-    wider_addressed s m p segment (1 + words) (2 * many) room pads (has_word s p c.requires.there) r
+    wider_addressed s m p segment (1 + words) (2 * many) room pads (word_there s p c.requires.there) r
 
 pub write_word-requires : goal.write_word-requires
 write_word-requires g c =
@@ -95,7 +98,7 @@ fill_elements-requires-clause-old g c =
     let grows = (wider_extends s m p segment (1 + words) (2 * many) room pads r).0 in
     let x = words_in (g.A.ReaderArena.segments c.write_word.new.self) in
     let tagged : map length x ≡ map length m = ap (λ (v : Segments). map length v) c.write_word.ensures.words ∙ written_sizes m (place_view c.begin_of.result) (c.tag_word.result ∷ []) in
-    known_list s x c.args.old (known s c.args.slot c.args.old c.requires.found c.requires.leads) (λ i xs e. (let first = grows i xs e in let then = sizes_grow m x tagged i first.0 first.1 in (then.0, then.1, omega (arith, first.2, then.2)))) (omega (arith, sizes_total m x tagged, w.few))
+    known_list s x c.args.old (known s c.args.slot c.args.old c.requires.found c.requires.leads) (λ i xs e. (let first = grows i xs e in let then = sizes_grow m x tagged i first.0 first.1 in (then.0, then.1, omega (arith, first.2, then.2)))) (omega (arith, same_total m x tagged, w.few))
 
 pub fill_elements-requires-clause-wider : goal.fill_elements-requires-clause-wider
 fill_elements-requires-clause-wider g c =
@@ -113,7 +116,7 @@ fill_elements-requires-clause-wider g c =
     let grows = (wider_extends s m p segment (1 + words) (2 * many) room pads r).0 in
     let x = words_in (g.A.ReaderArena.segments c.write_word.new.self) in
     let tagged : map length x ≡ map length m = ap (λ (v : Segments). map length v) c.write_word.ensures.words ∙ written_sizes m (place_view c.begin_of.result) (c.tag_word.result ∷ []) in
-    let part = part_there m b 1 words (1 + words) (omega arith) w.words_there in
+    let part = section_there m b 1 words (1 + words) (omega arith) w.words_there in
     let here = still_some m x (after b 1) words (sizes_grow m x tagged) part in
     let there : is_some (words_at x (after (place_view c.begin_of.result) 1) c.in_ok-words.words) ≡ true = subst (λ (q : Place). is_some (words_at x (after q 1) c.in_ok-words.words) ≡ true) (sym c.begin_of.ensures) here in
     let count = c.in_ok-words.ensures.words.0 in
@@ -121,7 +124,7 @@ fill_elements-requires-clause-wider g c =
     record {
       of_structs = refl;
       as_many = refl;
-      there = (subst (λ (n : ℕ). is_some (words_at x (after (place_view c.begin_of.result) 1) n) ≡ true) count there, omega (arith, all, count, sizes_total m x tagged, w.few));
+      there = (subst (λ (n : ℕ). is_some (words_at x (after (place_view c.begin_of.result) 1) n) ≡ true) count there, omega (arith, all, count, same_total m x tagged, w.few));
       wide = c.requires.wider;
     }
 
@@ -159,7 +162,7 @@ fill_elements-requires-clause-few g c =
     let grows = (wider_extends s m p segment (1 + words) (2 * many) room pads r).0 in
     let x = words_in (g.A.ReaderArena.segments c.write_word.new.self) in
     let tagged : map length x ≡ map length m = ap (λ (v : Segments). map length v) c.write_word.ensures.words ∙ written_sizes m (place_view c.begin_of.result) (c.tag_word.result ∷ []) in
-    omega (arith, sizes_total m x tagged, w.few)
+    omega (arith, same_total m x tagged, w.few)
 
 pub link-requires-clause-slot : goal.link-requires-clause-slot
 link-requires-clause-slot g c =
@@ -217,7 +220,7 @@ link-requires-clause-room g c =
     let r : WiderRoom s m p segment (1 + c.in_ok-words.words) (2 * (c.args.old.count * least_pointers c.args.old)) room pads = subst (λ (j : ℕ). WiderRoom s m p segment (1 + c.in_ok-words.words) j room pads) c.in_ok-words.ensures.words.1 c.in_ok-room.ensures.ok in
     let w = wider_words s m p segment (1 + words) many room pads (omega arith) r in
     let grows = (wider_extends s m p segment (1 + words) (2 * many) room pads r).0 in
-    wider_addressed s m p segment (1 + words) (2 * many) room pads (has_word s p c.requires.there) r
+    wider_addressed s m p segment (1 + words) (2 * many) room pads (word_there s p c.requires.there) r
 
 pub returns : goal.returns
 returns g c =
@@ -245,9 +248,9 @@ returns g c =
     let slot_there = still_some m z p 1 (sizes_grow m z sizes) (still_some s m p 1 grows c.requires.there) in
     let count = c.in_ok-words.ensures.words.0 in
     let links_all : u ≡ linked z p room (list_pointer 0 7 (c.args.old.count * (c.args.size.data_words + c.args.size.pointers))) = links ∙ ap (λ (i : ℕ). linked z (place_view c.args.slot) c.in_ok-room.room (list_pointer 0 7 i)) count in
-    let leads = linked_leads s m z p segment (1 + words) (2 * many) room pads (new_structs c.args.old.count c.args.size.data_words c.args.size.pointers) (has_word s p c.requires.there) slot_there (pad_stays m z room (sizes_grow m z sizes) w.pad) (omega arith) r (some_list c.args.old.count c.args.size.data_words c.args.size.pointers) fits in
+    let leads = linked_leads s m z p segment (1 + words) (2 * many) room pads (new_structs c.args.old.count c.args.size.data_words c.args.size.pointers) (word_there s p c.requires.there) slot_there (pad_stays m z room (sizes_grow m z sizes) w.pad) (omega arith) r (some_list c.args.old.count c.args.size.data_words c.args.size.pointers) fits in
     let leads_now : LeadsTo u p (a_list b 7 (c.args.old.count * (c.args.size.data_words + c.args.size.pointers))) = subst (λ (v : Segments). LeadsTo v p (a_list b 7 (c.args.old.count * (c.args.size.data_words + c.args.size.pointers)))) (sym links_all) leads in
-    let part = part_there m b 1 words (1 + words) (omega arith) w.words_there in
+    let part = section_there m b 1 words (1 + words) (omega arith) w.words_there in
     let behind_tag = still_linked z p room c.list_word.result (after b 1) words (still_some m z (after b 1) words (sizes_grow m z sizes) part) in
     let at = ap (λ (q : Place). q.position) c.begin_of.ensures in
     let new : ListPlace = record { start = c.begin_of.result; size = InlineComposite; claimed = c.in_ok-words.words; count = c.args.old.count; data_words = c.args.size.data_words; pointers = c.args.size.pointers } in
@@ -260,7 +263,7 @@ returns g c =
     let taken = near_so s free m u c.args.slot.segment segment (1 + words) same c.in_ok-room.ensures.near in
     let bound = bounds_so s m u (1 + words) (1 + 2 * many) same (wider_bounds s m p segment (1 + words) (2 * many) room pads (omega arith) r) in
     record {
-      value = list_widened s m x y z u p c.args.old (record { start = c.begin_of.result; size = InlineComposite; claimed = c.in_ok-words.words; count = c.args.old.count; data_words = c.args.size.data_words; pointers = c.args.size.pointers }) many segment room pads (has_word s p c.requires.there) c.requires.leads (known_trees s c.args.old (known s c.args.slot c.args.old c.requires.found c.requires.leads)) refl c.begin_of.ensures c.in_ok-words.ensures.words.0 fits r tag c.fill_elements.ensures.fills c.clear.ensures.clears links;
+      value = list_widened s m x y z u p c.args.old (record { start = c.begin_of.result; size = InlineComposite; claimed = c.in_ok-words.words; count = c.args.old.count; data_words = c.args.size.data_words; pointers = c.args.size.pointers }) many segment room pads (word_there s p c.requires.there) c.requires.leads (known_trees s c.args.old (known s c.args.slot c.args.old c.requires.found c.requires.leads)) refl c.begin_of.ensures c.in_ok-words.ensures.words.0 fits r tag c.fill_elements.ensures.fills c.clear.ensures.clears links;
       object = subst (λ (q : Place). LeadsTo u p (a_list q 7 c.in_ok-words.words)) (sym c.begin_of.ensures) (subst (λ (n : ℕ). LeadsTo u p (a_list b 7 n)) (sym count) leads_now);
       list = (refl, refl, refl, refl);
       there = (subst (λ (q : Place). is_some (words_at u (after q 1) (c.args.old.count * (c.args.size.data_words + c.args.size.pointers))) ≡ true) (sym c.begin_of.ensures) (subst (λ (n : ℕ). is_some (words_at u (after b 1) n) ≡ true) count structs_there), omega (arith, within, at, count, w.few));

@@ -8,11 +8,13 @@ use Rattle.capnp_wire.specs.Places.{place_view}
 use Rattle.capnp_footprints.specs.NewObjects.{new_struct}
 use Rattle.capnp_copy.specs.Rooms.{begin_of, linked}
 use Rattle.capnp_copy.specs.Values.{LeadsTo}
+use Rattle.capnp_copy.proofs.lemmas.RoomLaws.{still_some, sizes_grow, word_there, pad_stays, still_linked}
+use Rattle.capnp_copy.proofs.lemmas.Parts.{section_there, front_there}
 use Rattle.capnp_widening.specs.Moves.{CopiesWords, MovesRow, pads_of}
 use Rattle.capnp_widening.specs.Widened.{WiderRoom, TakesNear, NoWiderRoom}
-use Rattle.capnp_widening.proofs.lemmas.Standing.{still_some, sizes_grow, sizes_total, part_there, front_there, has_word, pads_stay, pad_stays, still_linked, within_total}
+use Rattle.capnp_widening.proofs.lemmas.Standing.{pads_stay, within_total}
 use Rattle.capnp_widening.proofs.WiderRooms.{wider_addressed, wider_words, wider_extends, linked_leads}
-use Rattle.capnp_copy.proofs.lemmas.Taken.{linked_sizes, bounds_so}
+use Rattle.capnp_copy.proofs.lemmas.Taken.{linked_sizes, bounds_so, same_total}
 use Rattle.capnp_widening.proofs.Bounds.{wider_bounds}
 use Rattle.capnp_widening.proofs.WidenedLists.{near_so}
 use Rattle.capnp_widening.proofs.WidenedStructs.{struct_widened, some_pointer}
@@ -34,7 +36,7 @@ begin_of-start-requires-clause-room g c =
     let some : 0 < c.args.size.data_words + c.args.size.pointers = c.requires.wider.2 in
     let w = wider_words s m p c.args.old.start.segment (d + k) k0 room pads some r in
     let grows = (wider_extends s m p c.args.old.start.segment (d + k) (2 * k0) room pads r).0 in
-    wider_addressed s m p c.args.old.start.segment (d + k) (2 * k0) room pads (has_word s p c.requires.there) r
+    wider_addressed s m p c.args.old.start.segment (d + k) (2 * k0) room pads (word_there s p c.requires.there) r
 
 pub copy_words-requires-clause-from : goal.copy_words-requires-clause-from
 copy_words-requires-clause-from g c =
@@ -129,7 +131,7 @@ move_pointers-requires-clause-from g c =
     let w = wider_words s m p c.args.old.start.segment (d + k) k0 room pads some r in
     let grows = (wider_extends s m p c.args.old.start.segment (d + k) (2 * k0) room pads r).0 in
     let x = words_in (g.A.ReaderArena.segments c.copy_words.new.arena) in
-    let here = part_there s (place_view c.args.old.start) d0 k0 (d0 + k0) (omega arith) c.requires.inside in
+    let here = section_there s (place_view c.args.old.start) d0 k0 (d0 + k0) (omega arith) c.requires.inside in
     let there = still_some m x (after (place_view c.args.old.start) d0) k0 (sizes_grow m x c.copy_words.ensures.sizes) (still_some s m (after (place_view c.args.old.start) d0) k0 grows here) in
     subst (λ (q : Place). is_some (words_at x q k0) ≡ true) (sym c.pointers_behind-source.ensures) there
 
@@ -150,7 +152,7 @@ move_pointers-requires-clause-to g c =
     let w = wider_words s m p c.args.old.start.segment (d + k) k0 room pads some r in
     let grows = (wider_extends s m p c.args.old.start.segment (d + k) (2 * k0) room pads r).0 in
     let x = words_in (g.A.ReaderArena.segments c.copy_words.new.arena) in
-    let here = part_there m b d k0 (d + k) (omega (arith, c.requires.wider.1)) w.words_there in
+    let here = section_there m b d k0 (d + k) (omega (arith, c.requires.wider.1)) w.words_there in
     let there = still_some m x (after b d) k0 (sizes_grow m x c.copy_words.ensures.sizes) here in
     let at : place_view c.pointers_behind-target.result ≡ after b d = c.pointers_behind-target.ensures ∙ ap (λ (q : Place). after q c.args.size.data_words) c.begin_of-start.ensures in
     subst (λ (q : Place). is_some (words_at x q k0) ≡ true) (sym at) there
@@ -191,7 +193,7 @@ move_pointers-requires-clause-few g c =
     let w = wider_words s m p c.args.old.start.segment (d + k) k0 room pads some r in
     let grows = (wider_extends s m p c.args.old.start.segment (d + k) (2 * k0) room pads r).0 in
     let x = words_in (g.A.ReaderArena.segments c.copy_words.new.arena) in
-    omega (arith, sizes_total m x c.copy_words.ensures.sizes, w.few)
+    omega (arith, same_total m x c.copy_words.ensures.sizes, w.few)
 
 pub move_pointers-requires-clause-near : goal.move_pointers-requires-clause-near
 move_pointers-requires-clause-near g c =
@@ -275,7 +277,7 @@ link-requires-clause-room g c =
     let some : 0 < c.args.size.data_words + c.args.size.pointers = c.requires.wider.2 in
     let w = wider_words s m p c.args.old.start.segment (d + k) k0 room pads some r in
     let grows = (wider_extends s m p c.args.old.start.segment (d + k) (2 * k0) room pads r).0 in
-    wider_addressed s m p c.args.old.start.segment (d + k) (2 * k0) room pads (has_word s p c.requires.there) r
+    wider_addressed s m p c.args.old.start.segment (d + k) (2 * k0) room pads (word_there s p c.requires.there) r
 
 pub returns : goal.returns
 returns g c =
@@ -304,7 +306,7 @@ returns g c =
     let row : MovesRow x y (after a d0) (after b d) k0 (pads_of pads k0) = subst (λ (q : Place). MovesRow x y (after (place_view c.args.old.start) c.args.old.data_words) q c.args.old.pointers (pads_of c.in_ok-room.pads c.args.old.pointers)) at (subst (λ (q : Place). MovesRow x y q (place_view c.pointers_behind-target.result) c.args.old.pointers (pads_of c.in_ok-room.pads c.args.old.pointers)) c.pointers_behind-source.ensures c.move_pointers.ensures.row) in
     let links : u ≡ linked z p room (struct_pointer 0 d k) = c.link.ensures.words ∙ ap (linked z (place_view c.args.slot) c.in_ok-room.room) c.struct_word.ensures.word in
     let slot_there = still_some m z p 1 (sizes_grow m z sizes) (still_some s m p 1 grows c.requires.there) in
-    let leads = linked_leads s m z p c.args.old.start.segment (d + k) (2 * k0) room pads (new_struct d k) (has_word s p c.requires.there) slot_there (pad_stays m z room (sizes_grow m z sizes) w.pad) some r (some_pointer d k some) c.struct_word.ensures.fits in
+    let leads = linked_leads s m z p c.args.old.start.segment (d + k) (2 * k0) room pads (new_struct d k) (word_there s p c.requires.there) slot_there (pad_stays m z room (sizes_grow m z sizes) w.pad) some r (some_pointer d k some) c.struct_word.ensures.fits in
     let l = within_total m b (d + k) w.words_there in
     let segment = c.args.old.start.segment in
     let same : map length u ≡ map length m = ap (λ (v : Segments). map length v) c.link.ensures.words ∙ (linked_sizes z p room c.struct_word.result ∙ sizes) in
@@ -313,7 +315,7 @@ returns g c =
     let position = ap (λ (q : Place). q.position) c.begin_of-start.ensures in
     let taken = near_so s free m u c.args.slot.segment segment c.total.result same c.in_ok-room.ensures.near in
     record {
-      value = struct_widened s m x y z u p a c.requires.found.0 d0 k0 d k c.args.old.start.segment room pads (has_word s p c.requires.there) c.requires.found.1 c.requires.wider.0 c.requires.wider.1 some c.struct_word.ensures.fits r copies row c.clear.ensures.clears links;
+      value = struct_widened s m x y z u p a c.requires.found.0 d0 k0 d k c.args.old.start.segment room pads (word_there s p c.requires.there) c.requires.found.1 c.requires.wider.0 c.requires.wider.1 some c.struct_word.ensures.fits r copies row c.clear.ensures.clears links;
       object = subst (λ (q : Place). LeadsTo u p (a_struct q c.args.size.data_words c.args.size.pointers)) (sym c.begin_of-start.ensures) (subst (λ (v : Segments). LeadsTo v p (a_struct b d k)) (sym links) leads);
       size = (refl, refl);
       there = subst (λ (q : Place). is_some (words_at u q (c.args.size.data_words + c.args.size.pointers)) ≡ true) (sym c.begin_of-start.ensures) (subst (λ (v : Segments). is_some (words_at v b (d + k)) ≡ true) (sym c.link.ensures.words) words_there);

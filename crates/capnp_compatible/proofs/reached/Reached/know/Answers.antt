@@ -3,11 +3,8 @@ use Rattle.std.specs.List.{list_any}
 use Rattle.std.proofs.lemmas.Bool.Decides.{nat_tests}
 use Rattle.capnp_model.specs.Compatible.{same_names}
 use Rattle.capnp_model.specs.Schemas.{Schema}
-use Rattle.capnp_model.proofs.lemmas.KeptRules.{and_left, and_right}
+use Rattle.capnp_model.proofs.lemmas.Tests.{same_number, and_left, and_right}
 use Rattle.capnp_compatible.proofs.reached.Reached.know.Goals as goal
-
-same_number : (a b : ℕ) → (a == b) ≡ true → a ≡ b
-same_number a b h = grind (arith, nat_tests)
 
 known : (o n : Schema) (i j a b : ℕ) (old : Bool) → same_names (o.names_of i) (n.names_of j) ≡ true → (old ≡ true → same_names (o.names_of a) (n.names_of b) ≡ true) → cond (i == a && j == b) true old ≡ true → same_names (o.names_of a) (n.names_of b) ≡ true
 known o n i j a b old h k e = by (i == a && j == b) refl e

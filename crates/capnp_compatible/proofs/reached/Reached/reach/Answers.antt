@@ -1,8 +1,9 @@
 use Rattle.std.proofs.Common.{◌≡◌, ◌==◌, ◌&&◌, ◌||◌, ◌++◌, ◌∷◌, [], true, ap, sym, ◌∙◌}
 use Rattle.std.specs.List.{list_any}
 use Rattle.capnp_model.specs.Compatible.{Pairs, has_pair}
+use Rattle.capnp_model.proofs.lemmas.Tests.{not_is_false}
 use Rattle.capnp_compatible.specs.Pairs.{pairs_of}
-use Rattle.capnp_compatible.proofs.Known.{reached_before, one_more, either, was_there}
+use Rattle.capnp_compatible.proofs.Known.{reached_before, one_more, either}
 use Rattle.capnp_compatible.proofs.reached.Reached.reach.Goals as goal
 
 pub returns-in_ok-push-clause-sound : goal.returns-in_ok-push-clause-sound
@@ -24,5 +25,5 @@ pub returns-else-branch-clause-pairs : goal.returns-else-branch-clause-pairs
 returns-else-branch-clause-pairs c = λ o n s pairs.
     let i = c.args.older in
     let j = c.args.newer in
-    let there : list_any (λ p. i == p.0 && j == p.1) c.args.self.now.seen.keys ≡ true = was_there (list_any (λ p. i == p.0 && j == p.1) c.args.self.now.seen.keys) (sym c.if-branch.false ∙ c.in_ok-insert.ensures.added) in
+    let there : list_any (λ p. i == p.0 && j == p.1) c.args.self.now.seen.keys ≡ true = not_is_false (list_any (λ p. i == p.0 && j == p.1) c.args.self.now.seen.keys) (sym c.if-branch.false ∙ c.in_ok-insert.ensures.added) in
     reached_before pairs (pairs_of c.args.self.now) i j (sym (s.seen i j) ∙ there)

@@ -2,6 +2,7 @@ use Rattle.std.proofs.Common.{◌≡◌, ◌≢◌, ◌==◌, ◌+◌, ℕ, Bool
 use Rattle.std.specs.Prelude.{find}
 use Rattle.std.proofs.lemmas.Bool.Decides.{nat_tests}
 use Rattle.capnp_records.specs.declared.node.AnnotationRecord.{AnnotationRecord}
+use Rattle.capnp_model.proofs.lemmas.Tests.{test_is_false}
 use Rattle.capnp_queries.proofs.lemmas.Records.{rest_from}
 use Rattle.capnp_queries.proofs.annotations.AnnotationList.find.Goals as goal
 
@@ -10,9 +11,6 @@ found id x xs b e = ap (λ t. if t then Some x else find (λ a. a.id == id) xs) 
 
 same : (a b c : ℕ) → a ≡ b → b ≡ c → (a == c) ≡ true
 same a b c e f = grind (arith, nat_tests)
-
-other : (a b : ℕ) → a ≢ b → (a == b) ≡ false
-other a b h = grind (arith, nat_tests)
 
 pub returns-then-get_id-id-clause-annotation : goal.returns-then-get_id-id-clause-annotation
 returns-then-get_id-id-clause-annotation c =
@@ -25,5 +23,5 @@ pub loop-i-preserved : goal.loop-i-preserved
 loop-i-preserved c =
     let x = c.get-annotation.result.proto.now in
     let xs = c.args.self.annotations.now in
-    let here : (x.id == c.args.id) ≡ false = ap (λ k. k == c.args.id) (sym c.get_id.ensures) ∙ other c.get_id.result c.args.id c.if-get_id-id.false in
+    let here : (x.id == c.args.id) ≡ false = ap (λ k. k == c.args.id) (sym c.get_id.ensures) ∙ test_is_false c.get_id.result c.args.id c.if-get_id-id.false in
     sym (found c.args.id x (drop (c.loop-i.i + 1) xs) false here) ∙ ap (find (λ a. a.id == c.args.id)) (sym (rest_from xs c.loop-i.i x c.get-annotation.ensures.annotation)) ∙ c.loop-i.invariant

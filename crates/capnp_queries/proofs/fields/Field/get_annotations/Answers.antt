@@ -1,7 +1,7 @@
 use Rattle.std.proofs.Common.{◌≡◌, ◌<◌, ◌&&◌, ℕ, List, map, length, sym, ◌∙◌, ap, subst}
-use Rattle.capnp_model.proofs.lemmas.KeptRules.{and_right}
 use Rattle.capnp_records.specs.NodeViews.{annotation_of, field_of}
 use Rattle.capnp_records.specs.declared.node.AnnotationRecord.{AnnotationRecord}
+use Rattle.capnp_model.proofs.lemmas.Tests.{and_right}
 use Rattle.capnp_queries.specs.Fields.{names_kind, are_named, are_few}
 use Rattle.capnp_queries.specs.Structs.{nodes_around}
 use Rattle.capnp_queries.proofs.lemmas.Records.{few_annotations}

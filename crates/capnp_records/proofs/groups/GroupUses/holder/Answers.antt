@@ -2,7 +2,7 @@ use Rattle.std.proofs.Common.{◌≡◌, ◌<◌, ℕ, List, Some, map, length, 
 use Rattle.capnp_model.specs.Accepted.{holder_of}
 use Rattle.capnp_records.specs.NodeViews.{node_of}
 use Rattle.capnp_records.specs.declared.node.NodeRecord.{NodeRecord}
-use Rattle.capnp_records.proofs.FieldPlaces.{get_at, length_mapped}
+use Rattle.capnp_records.proofs.lemmas.FieldPlaces.{get_at, length_mapped}
 use Rattle.capnp_records.proofs.Holders.{no_holder, holder_placed, PlacedHolder}
 use Rattle.capnp_records.proofs.groups.GroupUses.holder.Goals as goal
 

@@ -1,6 +1,6 @@
 use Rattle.std.proofs.Common.{map, sym, ◌∙◌}
 use Rattle.capnp_records.specs.NodeViews.{node_of}
-use Rattle.capnp_records.proofs.FieldPlaces.{no_node, node_placed, placed_inside, placed_found}
+use Rattle.capnp_records.proofs.lemmas.FieldPlaces.{no_node, node_placed, placed_inside, placed_found}
 use Rattle.capnp_records.proofs.nodes.Nodes.find.Goals as goal
 
 pub returns-in_default : goal.returns-in_default

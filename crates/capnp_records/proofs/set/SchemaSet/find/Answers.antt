@@ -2,7 +2,7 @@ use Rattle.std.proofs.Common.{◌<◌, ℕ, sym, ◌∙◌, subst}
 use Rattle.capnp_model.proofs.lemmas.SoundRules.{found_id}
 use Rattle.capnp_records.specs.NodeViews.{node_of}
 use Rattle.capnp_records.specs.Sets.{nodes_of}
-use Rattle.capnp_records.proofs.FieldPlaces.{no_node, node_placed, get_at, placed_inside, placed_found}
+use Rattle.capnp_records.proofs.lemmas.FieldPlaces.{no_node, node_placed, get_at, placed_inside, placed_found}
 use Rattle.capnp_records.proofs.set.SchemaSet.find.Goals as goal
 
 pub returns-in_default-clause-missing : goal.returns-in_default-clause-missing

@@ -1,4 +1,4 @@
-use Rattle.capnp_stream.proofs.ShownLemmas.{HoldsMessage-shown}
+use Rattle.capnp_stream.proofs.lemmas.ShownLemmas.{HoldsMessage-shown}
 use Rattle.capnp_stream.proofs.forms.FramedMessageForm.read_shown.Goals as goal
 
 pub returns-clause-message : goal.returns-clause-message

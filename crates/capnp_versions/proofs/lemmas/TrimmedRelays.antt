@@ -24,7 +24,7 @@ use Rattle.capnp_versions.proofs.lemmas.WrittenValues.{has-written, value-fits, 
 use Rattle.capnp_versions.proofs.SufficientSizes.{sizes-suffice}
 use Rattle.capnp_versions.proofs.TrimmedCalls.{edits-append, alike-calls, trimmed_start}
 
-whole_root : (g : Shape) (t : Tree) → IsWhole t → IsWhole (widened_root g t)
+pub whole_root : (g : Shape) (t : Tree) → IsWhole t → IsWhole (widened_root g t)
 whole_root (shape nid w p u fs) null h = (pow_pos (64 * w), whole-resized p none tt)
 whole_root (shape nid w p u fs) (structure x m ts) h = (wider m (64 * x) (64 * max w x) (omega arith) h.0, whole-padded_to p ts h.1)
 whole_root (shape nid w p u fs) (capability i) h = h
@@ -44,7 +44,7 @@ opened_again s id e is h =
       whole' = h;
     }
 
-whole_opened : (s : Schema) (id : ℕ) (t : Tree) → IsWhole t → IsWhole (opened_root s id t)
+pub whole_opened : (s : Schema) (id : ℕ) (t : Tree) → IsWhole t → IsWhole (opened_root s id t)
 unfolding opened_root
 whole_opened s id t h = whole_root (s.shape_of id) (trim t) (whole-trim t h)
 

@@ -13,6 +13,7 @@ use Rattle.capnp_stream.specs.Segments.{AreBytes, whole_words}
 use Rattle.capnp_io.specs.Streams.{AppendsPart, RoomFalls, IsWriteRefusal}
 use Rattle.capnp_io.proofs.lemmas.KnownLemmas.{AppendsPart-more, AppendsPart-next}
 use Rattle.capnp_stream.proofs.lemmas.WordLemmas.{words_in_bytes-take, words_in_bytes-drop, bytes_of_words-back}
+use Rattle.capnp_writing.proofs.lemmas.WriteLemmas.{RoomFalls-none}
 use Rattle.capnp_packing.specs.Runs.{run_view, run_words, run_bytes}
 use Rattle.std.proofs.Common.{◌%◌, ◌⊎◌, inl, inr, set, length-set}
 use Rattle.std.proofs.lemmas.Bool.{ne_eqb}
@@ -221,10 +222,6 @@ RoomFalls-trans (Some x) None c n m p q = absurd p
 RoomFalls-trans (Some x) (Some y) None n m p q = absurd q
 RoomFalls-trans (Some x) (Some y) (Some z) n m p q = omega arith
 
-pub RoomFalls-nil : (a : Option ℕ) → RoomFalls a a 0
-RoomFalls-nil None = refl
-RoomFalls-nil (Some x) = omega arith
-
 pub refusal-more : (grows : Type 0) (room : Option ℕ) (n m : ℕ) (k : ErrorKind) → n ≤ m → IsWriteRefusal grows room n k → IsWriteRefusal grows room m k
 refusal-more grows room n m Device le h = tt
 refusal-more grows room n m OutOfMemory le h = h
@@ -268,7 +265,7 @@ module _ (words left group run : List ℕ) (step : packed_on words ≡ (group ++
     }
 
 pub WritesUpTo-start : (words : List ℕ) (a : Option (List ℕ)) (r : Option ℕ) → WritesUpTo words words a a r r
-WritesUpTo-start words a r = record { part = []; whole = refl; written = Appends-nil a; falls = RoomFalls-nil r }
+WritesUpTo-start words a r = record { part = []; whole = refl; written = Appends-nil a; falls = RoomFalls-none r }
 
 module _ (words mid : List ℕ) (a b c : Option (List ℕ)) (ra rb rc : Option ℕ) (before : WritesUpTo words mid a b ra rb) where
   pub WritesUpTo-trans : (left : List ℕ) → WritesUpTo mid left b c rb rc → WritesUpTo words left a c ra rc

@@ -14,7 +14,6 @@ use Rattle.capnp_model.specs.NamedPaths.{IsOpen}
 use Rattle.capnp_model.specs.CallRuns.{IsGiven, view_of_value}
 use Rattle.capnp_model.specs.Views.{SameAll}
 use Rattle.capnp_model.proofs.lemmas.SoundShapes.{Apart, IsFine}
-use Rattle.capnp_model.proofs.lemmas.KeptRules.{and_right}
 use Rattle.capnp_model.proofs.lemmas.FineShapes.{fine_shape, found}
 use Rattle.capnp_model.proofs.lemmas.Marks.{view_of, same_everywhere, SameAll-trans, read_child-padded_to}
 use Rattle.capnp_model.proofs.lemmas.Paths.{struct-replaced, read_child-with_child, read_child-is, mark_apart, field_apart, unmap, IsMapped, mapped, Opens, open_default, record_is, entry_of-fields_of, nothing_in, still_active, IsThrough, through, to_through, Apart-left, Apart-right}
@@ -28,10 +27,11 @@ use Rattle.capnp_model.proofs.lemmas.ReachedStructs.{IsReached, IsSound, IsSound
 use Rattle.capnp_model.proofs.KindsOfContents.{verb_in_kind}
 use Rattle.capnp_model.proofs.ElementEnds.{element_after, element_content_kinds, element_fits, pointer_put, put_law}
 use Rattle.capnp_model.proofs.FieldEnds.{field_leaf}
+use Rattle.capnp_model.proofs.lemmas.Tests.{and_right}
 
 -- ---- opened pointers
 
-opened_null : (ty : Ty) (t : Tree) → opened_tree ty null t ≡ t
+pub opened_null : (ty : Ty) (t : Tree) → opened_tree ty null t ≡ t
 opened_null ty null = refl
 opened_null ty _ = refl
 

@@ -84,7 +84,7 @@ walk_begins (Ok c ∷ before) last behind (w ∷ ws) paid m e =
     (y.0, y.1, ap (λ (v : Visit). v ∷ ws) m.0 ∙ ap (λ (vs : List Visit). Ok c ∷ vs) y.2)
 
 -- visits that are paid begin with such
-cost_front : (a b : List Visit) (cost : ℕ) → visits_cost (a ++ b) ≡ Some cost → (paid : ℕ) × (visits_cost a ≡ Some paid) × (paid ≤ cost)
+pub cost_front : (a b : List Visit) (cost : ℕ) → visits_cost (a ++ b) ≡ Some cost → (paid : ℕ) × (visits_cost a ≡ Some paid) × (paid ≤ cost)
 cost_front [] b cost e = (0, refl, omega arith)
 cost_front (Err k ∷ a) b cost e = absurd cc
 cost_front (Ok c ∷ a) b cost e =
@@ -95,7 +95,7 @@ cost_front (Ok c ∷ a) b cost e =
     (c + y.0, rw y.1 refl, omega (arith, sum, less))
 
 -- the last of some, with those before it
-last_of : (v : Visit) (vs : List Visit) → (before : List Visit) × (last : Visit) × (v ∷ vs ≡ before ++ last ∷ [])
+pub last_of : (v : Visit) (vs : List Visit) → (before : List Visit) × (last : Visit) × (v ∷ vs ≡ before ++ last ∷ [])
 last_of v [] = ([], v, refl)
 last_of v (w ∷ vs) = let x = last_of w vs in (v ∷ x.0, x.1, ap (λ (ws : List Visit). v ∷ ws) x.2)
 

@@ -4,8 +4,8 @@ use Rattle.std.specs.List.{list_all}
 use Rattle.std.proofs.lemmas.List.{get_or-set_same, get_or-set_other}
 use Rattle.std.proofs.lemmas.Bool.Decides.{nat_tests}
 use Rattle.capnp_model.specs.Schemas.{Field, Node}
-use Rattle.capnp_model.proofs.lemmas.KeptRules.{and_left, and_right}
 use Rattle.capnp_model.specs.Accepted.{find_node}
+use Rattle.capnp_model.proofs.lemmas.Tests.{and_left, and_right}
 use Rattle.capnp_records.specs.NodeViews.{field_of, node_of}
 use Rattle.capnp_records.specs.Tables.{is_member_at, place_from, members_from, others_from, node_place}
 use Rattle.capnp_records.specs.declared.node.FieldRecord.{FieldRecord}

@@ -12,11 +12,11 @@ use Rattle.capnp_footprints.specs.Footprints.{OwnsObject}
 use Rattle.capnp_footprints.specs.Changes.{ReplacesObject}
 use Rattle.capnp_footprints.specs.Writes.{spliced, with_words}
 use Rattle.capnp_footprints.proofs.lemmas.Rows.{after_none}
-use Rattle.capnp_footprints.proofs.lemmas.Kept.{words_length}
 use Rattle.capnp_footprints.proofs.lemmas.Levels.{owned_more}
 use Rattle.capnp_footprints.proofs.lemmas.Lift.{object_of_pointer, pointer_of_object, replaced_owned, replaced_then, object_replaced_owned, object_replaced_then}
 use Rattle.capnp_footprints.proofs.lemmas.Splices.{splice_words, spliced_whole}
 use Rattle.capnp_footprints.proofs.lemmas.Writing.{plain_words}
+use Rattle.capnp_model.proofs.lemmas.ReadFits.{words_length}
 use Rattle.capnp_copy.specs.Blobs.{whole_of, last_of, front_of, with_bytes}
 use Rattle.capnp_copy.specs.Values.{Becomes, LeadsTo}
 use Rattle.capnp_copy.proofs.lemmas.RoomLaws.{some_of}
@@ -31,7 +31,7 @@ front_written n m r count w t vs ws we l there o =
     let all = plain_words n m r 2 count 0 t vs ws refl fits there' o in
     subst (λ (q : Place). ReplacesObject n m (with_words m q vs) (a_list r 2 count) (plain_list 2 count (section_of (spliced 0 vs ws) % 2 ^ (8 * count)))) (after_none r) all
 
-front_there : (m : Segments) (r : Place) (w : ℕ) (vs ws : List ℕ) → length vs ≤ w → words_at m r w ≡ Some ws → words_at (with_words m r vs) r w ≡ Some (spliced 0 vs ws)
+pub front_there : (m : Segments) (r : Place) (w : ℕ) (vs ws : List ℕ) → length vs ≤ w → words_at m r w ≡ Some ws → words_at (with_words m r vs) r w ≡ Some (spliced 0 vs ws)
 front_there m r w vs ws l there =
     let fits : 0 + length vs ≤ w = omega (arith, l) in
     subst (λ (q : Place). words_at (with_words m q vs) r w ≡ Some (spliced 0 vs ws)) (after_none r) (splice_words m r 0 w vs ws fits there)

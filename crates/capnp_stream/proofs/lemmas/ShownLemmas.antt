@@ -13,6 +13,7 @@ use Rattle.capnp_model.specs.Chains.{guard}
 use Rattle.capnp_model.specs.Segments.{Segments}
 use Rattle.capnp_model.specs.Messages.{within, plain_words, flat_words, else_refused, halves, cut, behind_lengths, behind_first, message_at, flat_at}
 use Rattle.capnp_model.proofs.lemmas.Chaining.{ok_then, bind_ok}
+use Rattle.capnp_model.proofs.lemmas.MessagePrefixes.{ok_else_refused}
 use Rattle.capnp_stream.specs.Flat.{table_lengths, table_bytes, frame_segments, Describes}
 use Rattle.capnp_stream.specs.Lent.{HoldsMessage}
 use Rattle.capnp_stream.specs.Shown.{bytes_in_all, Lays}
@@ -22,16 +23,12 @@ use Rattle.capnp_stream.proofs.FlatLemmas.{table-grown, message-in, joined-table
 
 -- ---- what is a message in a slice is one on a stream
 
-else-ok : {A : Type 0} (k : Kind) (r : Result A Kind) (x : A) → else_refused k r ≡ Ok x → r ≡ Ok x
-else-ok k (Ok y) x e = e
-else-ok k (Err d) x e = absurd cc
-
 module _ (limit : Option ℕ) (r : Segments × List ℕ) where
   lengths-plain : (ns b : List ℕ) → behind_lengths flat_words limit ns b ≡ Ok r → behind_lengths plain_words limit ns b ≡ Ok r
   lengths-plain ns b e =
       let g = bind_ok (guard (within (sum ns) limit) kinds.MessageTooLarge) _ r e in
       let t = bind_ok (flat_words (sum ns) b) _ r g.2 in
-      ok_then _ _ g.0 _ g.1 (ok_then (plain_words (sum ns) b) _ t.0 _ (else-ok kinds.MessageEndsPrematurely (plain_words (sum ns) b) t.0 t.1) t.2)
+      ok_then _ _ g.0 _ g.1 (ok_then (plain_words (sum ns) b) _ t.0 _ (ok_else_refused kinds.MessageEndsPrematurely (plain_words (sum ns) b) t.0 t.1) t.2)
 
   first-plain : (w b : List ℕ) → behind_first plain_words flat_words limit w b ≡ Ok r → behind_first plain_words plain_words limit w b ≡ Ok r
   first-plain [] b e = absurd cc
@@ -105,7 +102,7 @@ whole-message limit info text d size kept =
 -- ---- what was shown and then taken
 
 -- a beginning of the bytes that were shown
-shown-taken : (a b c : Option (List ℕ)) (shown : List ℕ) (n : ℕ) → n ≤ length shown → Keeps a b → IfSome a (λ xs. take (length shown) xs ≡ shown) → Drops b c n → Consumes a c (take n shown)
+pub shown-taken : (a b c : Option (List ℕ)) (shown : List ℕ) (n : ℕ) → n ≤ length shown → Keeps a b → IfSome a (λ xs. take (length shown) xs ≡ shown) → Drops b c n → Consumes a c (take n shown)
 shown-taken None b c shown n within kept front gone = tt
 shown-taken (Some x) None c shown n within kept front gone = absurd kept
 shown-taken (Some x) (Some y) None shown n within kept front gone = absurd gone

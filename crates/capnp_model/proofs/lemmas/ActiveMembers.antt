@@ -430,7 +430,7 @@ module _ (s : Schema) (good : (id : ℕ) → IsGood s (s.shape_of id)) (verb : V
     all_stay_at [] ty x y way well h spares led = absurd spares
     all_stay_at (st ∷ path) ty x y way well h spares led = value_stays path (all_stay path) (all_stay_at path) st ty (opened s ty null x) y way (element_open path (all_stay path) (all_stay_at path) ty x way well led) h spares
 
-shape_good : (nodes : List Node) → IsAccepted nodes → (id : ℕ) → IsGood (schema_of nodes) ((schema_of nodes).shape_of id)
+pub shape_good : (nodes : List Node) → IsAccepted nodes → (id : ℕ) → IsGood (schema_of nodes) ((schema_of nodes).shape_of id)
 unfolding schema_of
 shape_good nodes accepted id = good_shape nodes (rules_kept nodes accepted) (length nodes) id
 

@@ -28,7 +28,7 @@ use Rattle.capnp_canonical.proofs.StandingPlaces.{IsThere, struct_where}
 -- ---- pointers to structs
 
 -- only the sizes tell
-same_pointer : (gap a x y : ℕ) (ts us : Trees) → tree_count ts ≡ tree_count us → pointer gap (structure a x ts) ≡ pointer gap (structure a y us)
+pub same_pointer : (gap a x y : ℕ) (ts us : Trees) → tree_count ts ≡ tree_count us → pointer gap (structure a x ts) ≡ pointer gap (structure a y us)
 same_pointer gap (suc a) x y ts us e = ap (struct_pointer gap (suc a)) e
 same_pointer gap zero x y none none e = refl
 same_pointer gap zero x y none (u ▸ us) e = absurd (omega arith)
