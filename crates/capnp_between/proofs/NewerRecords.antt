@@ -31,7 +31,8 @@ use Rattle.capnp_versions.proofs.lemmas.WholeValues.{fits-whole}
 use Rattle.capnp_versions.proofs.lemmas.WrittenValues.{value-fits}
 use Rattle.capnp_model.proofs.lemmas.Tests.{and_left, and_right}
 use Rattle.capnp_versions.proofs.lemmas.TrimmedRelays.{whole_opened}
-use Rattle.capnp_between.specs.Newer.{is_admitted_between, MayRun, record_at, ReadsAsNewer}
+use Rattle.capnp_calls.specs.Roots.{record_at}
+use Rattle.capnp_between.specs.Newer.{is_admitted_between, MayRun, ReadsAsNewer}
 use Rattle.capnp_model.proofs.lemmas.TrimmedKinds.{start_opened_by, record_opened_by}
 
 -- ---- what the laws say

@@ -19,6 +19,7 @@ use Rattle.capnp_calls.specs.Texts.{as_it_is}
 use Rattle.capnp_answers.specs.Bounds.{limits_view}
 use Rattle.capnp_answers.specs.declared.bounds.Bounds.{Bounds}
 use Rattle.capnp_versions.specs.SameReplies.{SameReplies}
+use Rattle.capnp_calls.specs.Roots.{record_at}
 
 -- The newer schema is compatible with the older, from the two roots on.
 abbrev pub AreCompatible : StructSchema → StructSchema → Type 0
@@ -32,10 +33,6 @@ is_admitted_between root newer c = is_admitted (schema_around root) (schema_arou
 pub record MayRun (root newer : StructSchema) (calls : List Call) : Type 0 where
   pub compatible : AreCompatible root newer
   pub admitted : IsTrue (list_all (is_admitted_between root newer) (map call_view calls))
-
--- The record of a struct of this tree.
-abbrev pub record_at : StructSchema → Tree → Record
-record_at root t = record_of (schema_around root) (id_of root) t
 
 -- What is written means a value whose newer record is the one that the newer machine makes of the newer record of the
 -- message's value; the replies to calls other than `get` are those of the newer machine.

@@ -11,7 +11,7 @@ use Rattle.capnp_units.specs.Sizes.{size_number, data_bits}
 use Rattle.capnp_wire.specs.Elements.{step_bits, step_words}
 use Rattle.capnp_wire.specs.Places.{place_view}
 use Rattle.capnp_copy.specs.Elements.{IsWhole}
-use Rattle.capnp_copy.specs.Lists.{words_of}
+use Rattle.capnp_copy.specs.Lists.{words_of_list}
 use Rattle.capnp_copy.specs.declared.init.ListPlace.{ListPlace}
 use Rattle.capnp_footprints.proofs.lemmas.Rows.{after_none}
 use Rattle.capnp_widening.proofs.lemmas.WholeLists.{structs_whole, at_front}
@@ -24,7 +24,7 @@ WholeOf s start z d k n c =
     × (z ≡ 6 → AreThere s (place_view start) n)
     × (z ≡ 7 → AreThere s (place_view start) (1 + c) × (n * (d + k) ≤ c))
 
-whole_by : (s : Segments) (start : code.Place) (z d k n c : ℕ) → z < 7 → AreThere s (place_view start) (words_of z n) → WholeOf s start z d k n c
+whole_by : (s : Segments) (start : code.Place) (z d k n c : ℕ) → z < 7 → AreThere s (place_view start) (words_of_list z n) → WholeOf s start z d k n c
 whole_by s start zero d k n c l h = ((at_front s (place_view start) _ h, omega (arith, h.1)), (λ e. absurd (omega (arith, e))), λ e. absurd (omega (arith, e)))
 whole_by s start (suc zero) d k n c l h = ((at_front s (place_view start) _ h, omega (arith, h.1)), (λ e. absurd (omega (arith, e))), λ e. absurd (omega (arith, e)))
 whole_by s start (suc (suc zero)) d k n c l h = ((at_front s (place_view start) _ h, omega (arith, h.1)), (λ e. absurd (omega (arith, e))), λ e. absurd (omega (arith, e)))
@@ -37,7 +37,7 @@ whole_by s start (suc (suc (suc (suc (suc (suc zero)))))) d k n c l h =
     ((subst (λ (w : ℕ). AreThere s (after (place_view start) 0) w) zero_words (at_front s (place_view start) 0 front), omega (arith, h.1)), (λ e. h), λ e. absurd (omega (arith, e)))
 whole_by s start (suc (suc (suc (suc (suc (suc (suc z))))))) d k n c l h = absurd (omega (arith, l))
 
-pub list_whole : (s : Segments) (o : ListPlace) (size : ElementSize) (n : ℕ) → size_number size < 7 → o.size ≡ size → o.count ≡ n → is_some (words_at s (place_view o.start) (words_of (size_number size) n)) ≡ true → o.start.position + words_of (size_number size) n < 2 ^ 61 → IsWhole s o
+pub list_whole : (s : Segments) (o : ListPlace) (size : ElementSize) (n : ℕ) → size_number size < 7 → o.size ≡ size → o.count ≡ n → is_some (words_at s (place_view o.start) (words_of_list (size_number size) n)) ≡ true → o.start.position + words_of_list (size_number size) n < 2 ^ 61 → IsWhole s o
 list_whole s o size n l es en there near =
     let all = whole_by s o.start (size_number size) o.data_words o.pointers n o.claimed l (there, near) in
     let sized = subst (λ (z : ElementSize). WholeOf s o.start (size_number z) o.data_words o.pointers n o.claimed) (sym es) all in

@@ -22,17 +22,17 @@ use Rattle.capnp_copy.specs.Values.{Becomes, LeadsTo}
 use Rattle.capnp_builders.specs.Gets.{Begins, Gets}
 
 -- The bytes of a list of bytes that an object is, none of null.
-abbrev pub bytes_of : Object → Result (Option BlobPlace) Kind
-bytes_of object.Null = Ok None
-bytes_of (object.List p Byte n) = Ok (Some (record { start = p; count = n }))
-bytes_of (object.List p size n) = Err WrongElementSize
-bytes_of (object.PointerList p n) = Err WrongElementSize
-bytes_of (object.StructList p words n d k) = Err WrongElementSize
-bytes_of _ = Err WrongPointerKind
+abbrev pub blob_of_object : Object → Result (Option BlobPlace) Kind
+blob_of_object object.Null = Ok None
+blob_of_object (object.List p Byte n) = Ok (Some (record { start = p; count = n }))
+blob_of_object (object.List p size n) = Err WrongElementSize
+blob_of_object (object.PointerList p n) = Err WrongElementSize
+blob_of_object (object.StructList p words n d k) = Err WrongElementSize
+blob_of_object _ = Err WrongPointerKind
 
 -- Those of the object that the pointer at a place names, else the kind of the fault.
 abbrev pub bytes_named : Segments → Place → Result (Option BlobPlace) Kind
-bytes_named s p = object_at s p and_then λ f. bytes_of f.object
+bytes_named s p = object_at s p and_then λ f. blob_of_object f.object
 
 -- No bytes, at a place.
 abbrev pub no_bytes : code.Place → BlobPlace

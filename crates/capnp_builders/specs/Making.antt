@@ -17,7 +17,7 @@ use Rattle.capnp_footprints.specs.NewObjects.{new_tree, zero_elements}
 use Rattle.capnp_copy.specs.Allocations.{total_words, NoRoom}
 use Rattle.capnp_copy.specs.Elements.{IsWhole}
 use Rattle.capnp_copy.specs.Inits.{BecomesAt, TakesWhereRoom, TakesWithPad}
-use Rattle.capnp_copy.specs.Lists.{list_at, zeros_of, words_of}
+use Rattle.capnp_copy.specs.Lists.{list_at, zeros_of, words_of_list}
 use Rattle.capnp_copy.specs.States.{state_in}
 pub use Rattle.capnp_copy.specs.States.{ArenaState}
 use Rattle.capnp_copy.specs.Structs.{struct_at}
@@ -70,10 +70,10 @@ MakesStruct old new slot size o =
 -- A list of zeros, or of nulls, is made: where the pointer leads, of this size and count, and it lies whole.
 abbrev pub MakesList : ArenaState → ArenaState → code.Place → ElementSize → ℕ → ListPlace → Type 0
 MakesList old new slot size count o =
-    Makes old new slot (new_tree (zeros_of (size_number size) count)) (words_of (size_number size) count)
+    Makes old new slot (new_tree (zeros_of (size_number size) count)) (words_of_list (size_number size) count)
     × LeadsTo (words_in new.segments) (place_view slot) (list_at o)
     × ((o.size ≡ size) × (o.claimed ≡ count) × (o.count ≡ count))
-    × AreThere (words_in new.segments) (place_view o.start) (words_of (size_number size) count)
+    × AreThere (words_in new.segments) (place_view o.start) (words_of_list (size_number size) count)
     × IsWhole (words_in new.segments) o
 
 -- A list of structs of zeros and nulls is made.
@@ -106,7 +106,7 @@ StructRefused old segment size = WordsRefused old segment (size.data_words + siz
 
 -- No such list is made.
 abbrev pub ElementsRefused : ArenaState → ℕ → ElementSize → ℕ → Error → Type 0
-ElementsRefused old segment size count = ListRefused old segment (2 ^ 29 ≤ count) (words_of (size_number size) count)
+ElementsRefused old segment size count = ListRefused old segment (2 ^ 29 ≤ count) (words_of_list (size_number size) count)
 
 -- No such list of structs is made.
 abbrev pub StructsRefused : ArenaState → ℕ → ℕ → StructSize → Error → Type 0

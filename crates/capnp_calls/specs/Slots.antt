@@ -4,14 +4,6 @@ use Rattle.capnp_model.specs.Schemas.{Ty, Value, text_bytes, blob_bytes, list_se
 use Rattle.capnp_model.specs.Decoding.{decode}
 use Rattle.capnp_model.specs.Accepted.{is_default_of, opens_as, is_good_value}
 
--- The words of a shape's data section.
-abbrev pub words_in : Shape → ℕ
-words_in (shape id words pointers union fs) = words
-
--- The pointers of a shape.
-abbrev pub pointers_in : Shape → ℕ
-pointers_in (shape id words pointers union fs) = pointers
-
 -- A default is one of the type; a segment is null or reads as the type.
 pub record HasGoodDefault (ty : Ty) (default : Option Value) : Type 0 where
   pub is : is_default_of ty default ≡ true

@@ -10,7 +10,7 @@ use Rattle.capnp_model.specs.Chains.{◌>>=◌}
 use Rattle.capnp_model.specs.Segments.{place, word_at, words_at}
 use Rattle.capnp_model.specs.Spelling.{AreWords}
 use Rattle.capnp_units.specs.Segments.{whole_words, words_in}
-use Rattle.capnp_object.specs.Arenas.{bytes_of}
+use Rattle.capnp_object.specs.Arenas.{segment_bytes}
 use Rattle.capnp_object.proofs.lemmas.Words.{segment_there, segment_past, none_there}
 use Rattle.capnp_canonical.specs.Standing.{segment_words}
 
@@ -27,7 +27,7 @@ words_are : (n : ℕ) (bytes : List ℕ) → AreBytes bytes → AreWords (words_
 words_are zero bytes small = tt
 words_are (suc n) bytes small = (word_bound bytes small, words_are n (drop 8 bytes) (dropped 8 bytes small))
 
-module _ (segments : List (List ℕ)) (i : ℕ) (bytes : List ℕ) (is : bytes ≡ bytes_of segments i) where
+module _ (segments : List (List ℕ)) (i : ℕ) (bytes : List ℕ) (is : bytes ≡ segment_bytes segments i) where
   segment_is : (o : Option (List ℕ)) → slice_get (words_in segments) i ≡ o → AreWords (unwrap_or o []) → AreWords (segment_words (words_in segments) i)
   unfolding segment_words
   segment_is o e small = subst AreWords (ap (λ (x : Option (List ℕ)). unwrap_or x []) (sym e)) small

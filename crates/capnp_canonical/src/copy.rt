@@ -3,7 +3,7 @@ ghost use Rattle.std.specs.Prelude.{◌≡◌, ℕ, ◌+◌, ◌*◌, ◌^◌, �
 ghost use Rattle.capnp_model.specs.Segments.{after};
 ghost use Rattle.capnp_units.specs.Segments.{words_in};
 ghost use Rattle.capnp_object.specs.declared.object.Object.TheVariants as seen;
-ghost use Rattle.capnp_object.specs.Arenas.{bytes_of};
+ghost use Rattle.capnp_object.specs.Arenas.{segment_bytes};
 ghost use Rattle.capnp_object.specs.Places.{place_view};
 ghost use Rattle.capnp_object.specs.Objects.{AreThere, IsInside};
 ghost use Rattle.capnp_canonical.specs.Copies.{IsData};
@@ -55,7 +55,7 @@ fn write_at<A: ReaderArena>(
     at: usize,
     used: usize,
 ) -> Result<usize>
-    requires bytes { bytes.now ≡ bytes_of (A.segments arena.now) place.segment }
+    requires bytes { bytes.now ≡ segment_bytes (A.segments arena.now) place.segment }
     requires place { HasPlace (at + 1) used into.old }
     ensures { WritesValue levels (words_in (A.segments arena.now)) (place_view place) at used
         into.old limiter.old result into.new limiter.new }
@@ -174,7 +174,7 @@ fn write_struct<A: ReaderArena>(
     at: usize,
     used: usize,
 ) -> Result<usize>
-    requires bytes { bytes.now ≡ bytes_of (A.segments arena.now) start.segment }
+    requires bytes { bytes.now ≡ segment_bytes (A.segments arena.now) start.segment }
     requires inside { AreThere (words_in (A.segments arena.now)) (place_view start)
         (data_words + pointers) }
     requires place { HasPlace (at + 1) used into.old }
@@ -206,7 +206,7 @@ fn write_structs<A: ReaderArena>(
     at: usize,
     used: usize,
 ) -> Result<usize>
-    requires bytes { bytes.now ≡ bytes_of (A.segments arena.now) start.segment }
+    requires bytes { bytes.now ≡ segment_bytes (A.segments arena.now) start.segment }
     requires inside { AreThere (words_in (A.segments arena.now)) (place_view start) words }
     requires fit { count * (data_words + pointers) ≤ words }
     requires few { count < 2 ^ 30 }
@@ -256,7 +256,7 @@ fn write_row<A: ReaderArena>(
     at: usize,
     used: usize,
 ) -> Result<usize>
-    requires bytes { bytes.now ≡ bytes_of (A.segments arena.now) first.segment }
+    requires bytes { bytes.now ≡ segment_bytes (A.segments arena.now) first.segment }
     requires first { first.position + count < 2 ^ 62 }
     requires place { HasPlace (at + count) used into.old }
     ensures { WritesRow levels (words_in (A.segments arena.now)) (place_view first) count at used
@@ -297,7 +297,7 @@ fn write_element<A: ReaderArena>(
     at: usize,
     used: usize,
 ) -> Result<usize>
-    requires bytes { bytes.now ≡ bytes_of (A.segments arena.now) start.segment }
+    requires bytes { bytes.now ≡ segment_bytes (A.segments arena.now) start.segment }
     requires cut { IsCut (words_in (A.segments arena.now)) (place_view start) cut }
     requires place { HasPlace (at + (cut.kept_words + cut.kept_pointers)) used into.old }
     ensures { WritesElement levels (words_in (A.segments arena.now)) (place_view start) cut at used
@@ -340,7 +340,7 @@ fn write_elements<A: ReaderArena>(
     at: usize,
     used: usize,
 ) -> Result<usize>
-    requires bytes { bytes.now ≡ bytes_of (A.segments arena.now) start.segment }
+    requires bytes { bytes.now ≡ segment_bytes (A.segments arena.now) start.segment }
     requires inside { AreThere (words_in (A.segments arena.now)) (place_view start) words }
     requires fit { count * (cut.data_words + cut.pointers) ≤ words }
     requires sizes { (cut.kept_words ≤ cut.data_words) × (cut.kept_pointers ≤ cut.pointers) }

@@ -5,7 +5,7 @@ ghost use Rattle.capnp_model.specs.Segments.{after};
 ghost use Rattle.capnp_model.specs.Trees.{Trees, structure, tree_count};
 ghost use Rattle.capnp_model.specs.Encoding.{pointer};
 ghost use Rattle.capnp_units.specs.Segments.{words_in};
-ghost use Rattle.capnp_object.specs.Arenas.{bytes_of};
+ghost use Rattle.capnp_object.specs.Arenas.{segment_bytes};
 ghost use Rattle.capnp_object.specs.Places.{place_view};
 ghost use Rattle.capnp_object.specs.Objects.{AreThere};
 ghost use Rattle.capnp_object.specs.Inside.{section_at, words_there};
@@ -35,7 +35,7 @@ pub(crate) fn cut_of<A: ReaderArena>(
     pointers: u16,
     count: u32,
 ) -> Cut
-    requires bytes { bytes.now ≡ bytes_of (A.segments arena.now) start.segment }
+    requires bytes { bytes.now ≡ segment_bytes (A.segments arena.now) start.segment }
     requires inside { AreThere (words_in (A.segments arena.now)) (place_view start)
         (count * (data_words + pointers)) }
     ensures sizes { (result.data_words ≡ data_words) × (result.pointers ≡ pointers)

@@ -3,7 +3,7 @@ ghost use Rattle.std.specs.Prelude.{◌≡◌, Some, None, IfOk, IfSome, MatchRe
 ghost use Rattle.capnp_units.specs.Errors.{kind_of};
 ghost use Rattle.capnp_units.specs.Segments.{words_in};
 ghost use Rattle.capnp_units.specs.Limits.{Spends, Follows};
-ghost use Rattle.capnp_object.specs.Arenas.{bytes_of};
+ghost use Rattle.capnp_object.specs.Arenas.{segment_bytes};
 ghost use Rattle.capnp_object.specs.Places.{place_view};
 ghost use Rattle.capnp_object.specs.Named.{named_view};
 ghost use Rattle.capnp_object.specs.Follow.{FollowsWithin, own_cost};
@@ -89,7 +89,7 @@ pub(crate) fn follow_near_list<A: ReaderArena>(
     place: Place,
     levels: u32,
 ) -> Result<Option<NearList>>
-    requires { bytes.now ≡ bytes_of (A.segments arena.now) place.segment }
+    requires { bytes.now ≡ segment_bytes (A.segments arena.now) place.segment }
     ensures copied { FollowsNear list_object
         (FollowsData levels (words_in (A.segments arena.now)) (place_view place))
         limiter.old result limiter.new }
@@ -122,7 +122,7 @@ pub(crate) fn follow_near_struct<A: ReaderArena>(
     place: Place,
     levels: u32,
 ) -> Result<Option<NearStruct>>
-    requires { bytes.now ≡ bytes_of (A.segments arena.now) place.segment }
+    requires { bytes.now ≡ segment_bytes (A.segments arena.now) place.segment }
     ensures copied { FollowsNear struct_object
         (FollowsData levels (words_in (A.segments arena.now)) (place_view place))
         limiter.old result limiter.new }

@@ -2,7 +2,7 @@
 ghost use Rattle.std.specs.Prelude.{◌≡◌, ℕ, ◌+◌};
 ghost use Rattle.capnp_units.specs.Segments.{words_in};
 ghost use Rattle.capnp_units.specs.declared.limiter.ReadLimiter.{ReadLimiter};
-ghost use Rattle.capnp_object.specs.Arenas.{bytes_of};
+ghost use Rattle.capnp_object.specs.Arenas.{segment_bytes};
 ghost use Rattle.capnp_object.specs.Objects.{IsInside};
 ghost use Rattle.capnp_object.specs.Near.{list_object, IsMeasured};
 ghost use Rattle.capnp_canonical.specs.Objects.{IsShort, WritesObject, HasPlace};
@@ -24,7 +24,7 @@ pub(crate) fn write_list<A: ReaderArena>(
     at: usize,
     used: usize,
 ) -> Result<usize>
-    requires bytes { bytes.now ≡ bytes_of (A.segments arena.now) list.start.segment }
+    requires bytes { bytes.now ≡ segment_bytes (A.segments arena.now) list.start.segment }
     requires inside { IsInside (words_in (A.segments arena.now)) (list_object list) }
     requires measured { IsMeasured list }
     requires short { IsShort (list_object list) }

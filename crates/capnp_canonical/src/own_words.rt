@@ -5,7 +5,7 @@ ghost use Rattle.capnp_model.specs.Segments.{after, word_at};
 ghost use Rattle.capnp_model.specs.Sections.{needed_words};
 ghost use Rattle.capnp_model.specs.Spelling.{AreWords};
 ghost use Rattle.capnp_units.specs.Segments.{words_in};
-ghost use Rattle.capnp_object.specs.Arenas.{bytes_of};
+ghost use Rattle.capnp_object.specs.Arenas.{segment_bytes};
 ghost use Rattle.capnp_object.specs.Places.{place_view};
 ghost use Rattle.capnp_object.specs.Objects.{AreThere};
 ghost use Rattle.capnp_object.specs.Inside.{section_at, words_there};
@@ -31,7 +31,7 @@ pub(crate) fn word_or_zero<A: ReaderArena>(arena: &A, place: Place) -> u64
 /// The same of a place in the segment of these bytes.
 #[inline(always)]
 fn word_or_zero_in<A: ReaderArena>(arena: &A, bytes: &[u8], place: Place) -> u64
-    requires bytes { bytes.now ≡ bytes_of (A.segments arena.now) place.segment }
+    requires bytes { bytes.now ≡ segment_bytes (A.segments arena.now) place.segment }
     ensures word { result ≡ unwrap_or
         (word_at (words_in (A.segments arena.now)) (place_view place)) 0 }
     ensures fits { result < 2 ^ 64 }
@@ -42,7 +42,7 @@ fn word_or_zero_in<A: ReaderArena>(arena: &A, bytes: &[u8], place: Place) -> u64
 /// How many of so many words there are without zeros at the end, and at least so many as were needed before. Only the words behind those are looked at.
 #[inline(always)]
 fn more_needed<A: ReaderArena>(arena: &A, bytes: &[u8], start: Place, count: u16, most: u16) -> u16
-    requires bytes { bytes.now ≡ bytes_of (A.segments arena.now) start.segment }
+    requires bytes { bytes.now ≡ segment_bytes (A.segments arena.now) start.segment }
     requires there { AreThere (words_in (A.segments arena.now)) (place_view start) count }
     requires before { most ≤ count }
     ensures needed { result ≡ max most (needed_words count
@@ -122,7 +122,7 @@ pub(crate) fn most_needed<A: ReaderArena>(
     width: usize,
     count: u32,
 ) -> u16
-    requires bytes { bytes.now ≡ bytes_of (A.segments arena.now) start.segment }
+    requires bytes { bytes.now ≡ segment_bytes (A.segments arena.now) start.segment }
     requires short { width < 2 ^ 17 }
     requires there { (i : ℕ) → i < count
         → AreThere (words_in (A.segments arena.now)) (after (place_view start) (i * width)) words }
@@ -160,7 +160,7 @@ fn are_bytes(bytes: &[u8])
 /// The words of the segment of these bytes are numbers of 64 bits.
 #[inline(always)]
 fn are_words_of<A: ReaderArena>(arena: &A, bytes: &[u8], segment: u32)
-    requires { bytes.now ≡ bytes_of (A.segments arena.now) segment }
+    requires { bytes.now ≡ segment_bytes (A.segments arena.now) segment }
     ensures { AreWords (segment_words (words_in (A.segments arena.now)) segment) }
 {
     are_bytes(bytes);
@@ -177,7 +177,7 @@ pub(crate) fn are_words<A: ReaderArena>(arena: &A, segment: u32)
 /// So many words from a place on, where they are there.
 #[inline(always)]
 fn row_of<'a, A: ReaderArena>(arena: &A, bytes: &'a [u8], start: Place, count: usize) -> &'a [Word]
-    requires bytes { bytes.now ≡ bytes_of (A.segments arena.now) start.segment }
+    requires bytes { bytes.now ≡ segment_bytes (A.segments arena.now) start.segment }
     requires there { AreThere (words_in (A.segments arena.now)) (place_view start) count }
     ensures words { words_view result.now
         ≡ words_there (words_in (A.segments arena.now)) (place_view start) count }
@@ -215,7 +215,7 @@ pub(crate) fn copy_words<A: ReaderArena>(
     into: &mut [Word],
     at: usize,
 )
-    requires bytes { bytes.now ≡ bytes_of (A.segments arena.now) start.segment }
+    requires bytes { bytes.now ≡ segment_bytes (A.segments arena.now) start.segment }
     requires there { AreThere (words_in (A.segments arena.now)) (place_view start) count }
     requires room { at + count ≤ length into.old }
     ensures words { words_view into.new

@@ -25,8 +25,8 @@ abbrev pub HasSlot : Segments → code.Place → Type 0
 HasSlot s p = (is_some (words_at s (place_view p) 1) ≡ true) × (p.position < 2 ^ 61)
 
 -- The words of the message that a handle writes.
-abbrev pub words_of : {A : Type 0} → (A → List (List ℕ)) → PointerBuilder A → Segments
-words_of bytes b = words_in (bytes b.memory.now.arena)
+abbrev pub words_around : {A : Type 0} → (A → List (List ℕ)) → PointerBuilder A → Segments
+words_around bytes b = words_in (bytes b.memory.now.arena)
 
 -- A handle stays where it was.
 abbrev pub StaysThere : {A : Type 0} → PointerBuilder A → PointerBuilder A → Type 0

@@ -4,7 +4,7 @@ ghost use Rattle.capnp_units.specs.Segments.{words_in};
 ghost use Rattle.capnp_wire.specs.Places.{place_view};
 ghost use Rattle.capnp_wire.specs.Views.{seen_struct, seen_list};
 ghost use Rattle.capnp_builders.specs.Copied.{SetsStruct, SetsList};
-ghost use Rattle.capnp_canonical_builders.specs.Scratch.{HasSlot, words_of, StaysThere, level_above, CopiesScratch, ThroughScratch};
+ghost use Rattle.capnp_canonical_builders.specs.Scratch.{HasSlot, words_around, StaysThere, level_above, CopiesScratch, ThroughScratch};
 
 use capnp_builders::pointer_builder::PointerBuilder;
 use capnp_copy::arena::BuilderArena;
@@ -57,14 +57,14 @@ pub fn set_struct_canonical<A: BuilderArena, B: ReaderArena, C: BuilderArena>(
     scratch: &mut PointerBuilder<'_, C>,
     lent: &mut [Word],
 ) -> Result<()>
-    requires slot { HasSlot (words_of A.segments builder.old) builder.old.place }
-    requires scratch { HasSlot (words_of C.segments scratch.old) scratch.old.place }
+    requires slot { HasSlot (words_around A.segments builder.old) builder.old.place }
+    requires scratch { HasSlot (words_around C.segments scratch.old) scratch.old.place }
     ensures same { StaysThere builder.old builder.new }
     ensures scratch { StaysThere scratch.old scratch.new }
-    ensures copy { let d = words_of C.segments scratch.new in
+    ensures copy { let d = words_around C.segments scratch.new in
         let k = place_view scratch.old.place in let v = seen_struct B.segments value.entry in
-        ThroughScratch (SetsStruct v (words_of C.segments scratch.old) d k) (level_above v.levels)
-        d k lent.old lent.new (words_of A.segments builder.old) (words_of A.segments builder.new)
+        ThroughScratch (SetsStruct v (words_around C.segments scratch.old) d k) (level_above v.levels)
+        d k lent.old lent.new (words_around A.segments builder.old) (words_around A.segments builder.new)
         (place_view builder.old.place) limiter.old result limiter.new }
     ensures books { (A.books builder.new.memory.now.arena ≡ A.books builder.old.memory.now.arena)
         × (C.books scratch.new.memory.now.arena ≡ C.books scratch.old.memory.now.arena) }
@@ -91,14 +91,14 @@ pub fn set_list_canonical<A: BuilderArena, B: ReaderArena, C: BuilderArena>(
     scratch: &mut PointerBuilder<'_, C>,
     lent: &mut [Word],
 ) -> Result<()>
-    requires slot { HasSlot (words_of A.segments builder.old) builder.old.place }
-    requires scratch { HasSlot (words_of C.segments scratch.old) scratch.old.place }
+    requires slot { HasSlot (words_around A.segments builder.old) builder.old.place }
+    requires scratch { HasSlot (words_around C.segments scratch.old) scratch.old.place }
     ensures same { StaysThere builder.old builder.new }
     ensures scratch { StaysThere scratch.old scratch.new }
-    ensures copy { let d = words_of C.segments scratch.new in
+    ensures copy { let d = words_around C.segments scratch.new in
         let k = place_view scratch.old.place in let v = seen_list B.segments value.entry in
-        ThroughScratch (SetsList v (words_of C.segments scratch.old) d k) (level_above v.levels)
-        d k lent.old lent.new (words_of A.segments builder.old) (words_of A.segments builder.new)
+        ThroughScratch (SetsList v (words_around C.segments scratch.old) d k) (level_above v.levels)
+        d k lent.old lent.new (words_around A.segments builder.old) (words_around A.segments builder.new)
         (place_view builder.old.place) limiter.old result limiter.new }
     ensures books { (A.books builder.new.memory.now.arena ≡ A.books builder.old.memory.now.arena)
         × (C.books scratch.new.memory.now.arena ≡ C.books scratch.old.memory.now.arena) }

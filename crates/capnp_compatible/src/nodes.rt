@@ -3,7 +3,7 @@
 ghost use Rattle.std.specs.Prelude.{◌≡◌, ℕ, true, Some, map};
 ghost use Rattle.capnp_model.specs.Schemas.{Shape};
 ghost use Rattle.capnp_model.specs.Accepted.{no_shape, union_place, is_group_node, enumerants_of_kind, shape_of_node};
-ghost use Rattle.capnp_records.specs.NodeViews.{enumerant_of, struct_of, kind_of, node_of};
+ghost use Rattle.capnp_records.specs.NodeViews.{enumerant_of, struct_of, node_kind, node_of};
 ghost use Rattle.capnp_compatible.specs.Holders.{shape_by, are_sound, are_sound_in};
 
 use capnp_records::node::{EnumerantRecord, FieldRecord, NodeBody, NodeRecord, StructRecord};
@@ -81,7 +81,7 @@ fn is_group(node: &NodeRecord) -> bool
 }
 
 fn enumerants_of(node: &NodeRecord) -> &[EnumerantRecord]
-    ensures { map enumerant_of result.now ≡ enumerants_of_kind (kind_of node.now.body) }
+    ensures { map enumerant_of result.now ≡ enumerants_of_kind (node_kind node.now.body) }
 {
     match &node.body {
         NodeBody::Struct(_) => &[],

@@ -8,9 +8,9 @@ use Rattle.capnp_model.specs.Trees.{size_bits}
 use Rattle.capnp_model.specs.Encoding.{list_pointer}
 use Rattle.capnp_units.specs.Sizes.{data_bits}
 use Rattle.capnp_footprints.specs.NewObjects.{New, new_list, new_pointers, new_words, new_pointer, new_object, Fits}
-use Rattle.capnp_copy.specs.Lists.{zeros_of, words_of}
+use Rattle.capnp_copy.specs.Lists.{zeros_of, words_of_list}
 
-pub zeros_words : (size count : ℕ) → new_words (zeros_of size count) ≡ replicate (words_of size count) 0
+pub zeros_words : (size count : ℕ) → new_words (zeros_of size count) ≡ replicate (words_of_list size count) 0
 zeros_words size count = by_cases (eqb size 6)
   where
     by_cases : (b : Bool) → new_words (cond b (new_pointers count) (new_list size count)) ≡ replicate (cond b count (words_for (size_bits size * count))) 0

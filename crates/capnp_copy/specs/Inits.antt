@@ -13,7 +13,7 @@ use Rattle.capnp_object.specs.declared.place.Place as code
 use Rattle.capnp_wire.specs.Places.{place_view}
 use Rattle.capnp_footprints.specs.NewObjects.{new_tree, zero_elements}
 use Rattle.capnp_copy.specs.Allocations.{PassesLimit, TakesJust, TakesAtMost, NoRoom}
-use Rattle.capnp_copy.specs.Lists.{list_at, zeros_of, words_of}
+use Rattle.capnp_copy.specs.Lists.{list_at, zeros_of, words_of_list}
 use Rattle.capnp_copy.specs.States.{ArenaState, HasWords}
 use Rattle.capnp_copy.specs.Structs.{struct_at}
 use Rattle.capnp_copy.specs.Values.{Becomes, BecomesZeros, LeadsTo, LeadsToZeros}
@@ -74,13 +74,13 @@ pub record InitsList (old new : ArenaState) (slot : code.Place) (size : ElementS
   pub value : IfOk r (λ o. BecomesAt old new slot (new_tree (zeros_of (size_number size) count)))
   pub object : IfOk r (λ o. LeadsTo (words_in new.segments) (place_view slot) (list_at o))
   pub list : IfOk r (λ o. (o.size ≡ size) × (o.claimed ≡ count) × (o.count ≡ count))
-  pub there : IfOk r (λ o. HasWords new.segments o.start (words_of (size_number size) count))
-  pub near : IfOk r (λ o. o.start.position + words_of (size_number size) count < 2 ^ 61)
-  pub taken : OnOk r (TakesWhereRoom old new slot (words_of (size_number size) count))
-  pub bound : OnOk r (TakesWithPad old new (words_of (size_number size) count))
-  pub full : OnErr r ((2 ^ 29 ≤ count) ⊎ HasNoRoom old slot (words_of (size_number size) count))
+  pub there : IfOk r (λ o. HasWords new.segments o.start (words_of_list (size_number size) count))
+  pub near : IfOk r (λ o. o.start.position + words_of_list (size_number size) count < 2 ^ 61)
+  pub taken : OnOk r (TakesWhereRoom old new slot (words_of_list (size_number size) count))
+  pub bound : OnOk r (TakesWithPad old new (words_of_list (size_number size) count))
+  pub full : OnErr r ((2 ^ 29 ≤ count) ⊎ HasNoRoom old slot (words_of_list (size_number size) count))
   pub refused : OnErr r (new.segments ≡ old.segments)
-  pub kind : IfErr r (λ e. (e.kind ≡ SizeOverflow) ↔ ((2 ^ 29 ≤ count) ⊎ PassesLimit old.segments (words_of (size_number size) count + 1)))
+  pub kind : IfErr r (λ e. (e.kind ≡ SizeOverflow) ↔ ((2 ^ 29 ≤ count) ⊎ PassesLimit old.segments (words_of_list (size_number size) count + 1)))
   pub books : new.books ≡ old.books
   pub grows : OnOk r (Keeps old new)
 

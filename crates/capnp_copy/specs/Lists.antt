@@ -17,5 +17,5 @@ abbrev pub zeros_of : ℕ → ℕ → New
 zeros_of size count = if size == 6 then new_pointers count else new_list size count
 
 -- The words of its elements. (Encoding, "Lists")
-abbrev pub words_of : ℕ → ℕ → ℕ
-words_of size count = if size == 6 then count else words_for (size_bits size * count)
+abbrev pub words_of_list : ℕ → ℕ → ℕ
+words_of_list size count = if size == 6 then count else words_for (size_bits size * count)

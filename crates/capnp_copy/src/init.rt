@@ -6,7 +6,7 @@ ghost use Rattle.capnp_units.specs.Segments.{words_in};
 ghost use Rattle.capnp_units.specs.Sizes.{size_number};
 ghost use Rattle.capnp_wire.specs.Places.{place_view};
 ghost use Rattle.capnp_copy.specs.Inits.{InitsZeros, InitsStruct, InitsList};
-ghost use Rattle.capnp_copy.specs.Lists.{words_of};
+ghost use Rattle.capnp_copy.specs.Lists.{words_of_list};
 ghost use Rattle.capnp_copy.specs.States.{state_in};
 
 use crate::arena::BuilderArena;
@@ -80,7 +80,7 @@ pub fn init_struct<A: BuilderArena>(
 fn words_of(size: ElementSize, count: u32) -> u32
     requires plain { size_number size < 7 }
     requires few { count < 2 ^ 29 }
-    ensures words { result ≡ words_of (size_number size) count }
+    ensures words { result ≡ words_of_list (size_number size) count }
     ensures few { result < 2 ^ 29 }
     ensures small { count < 2 ^ 29 }
 {

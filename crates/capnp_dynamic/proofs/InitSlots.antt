@@ -2,7 +2,7 @@
 use Rattle.std.proofs.Common.{◌≡◌, ◌↔◌, ℕ, zero, suc, ◌+◌, ◌^◌, ◌<◌, ◌≤◌, inl, inr, length, map, Result, Ok, Err, IfErr, OnOk, OnErr, Option, Some, None, refl, sym, ap, subst, ◌∙◌, arith}
 use Rattle.std.specs.Prelude.{option_map}
 use Rattle.capnp_model.specs.Segments.{Segments, after}
-use Rattle.capnp_model.specs.Schemas.{Ty, void, plain, text, blob, untyped, interface, struct, list, Shape, shape, Field as FieldNode, Schema, Body, pointer_slot}
+use Rattle.capnp_model.specs.Schemas.{Ty, void, plain, text, blob, untyped, interface, struct, list, Shape, shape, Field as FieldNode, Schema, Body, pointer_slot, words_of_shape, pointers_of_shape}
 use Rattle.capnp_model.specs.Sizes.{object_words, each_object_words}
 use Rattle.capnp_model.specs.Trees.{Tree, structure, none, resized}
 use Rattle.capnp_model.specs.Calls.{Content, refused_by, object, empty_struct, init}
@@ -22,7 +22,6 @@ use Rattle.capnp_builders.specs.Making.{ArenaState, Makes, WordsRefused}
 use Rattle.capnp_model.proofs.lemmas.Stripping.{count-resized}
 use Rattle.capnp_dynamic.specs.Calls.{edit_of}
 use Rattle.capnp_dynamic.specs.Edits.{Edits, marked}
-use Rattle.capnp_dynamic.specs.Inside.{words_of_shape, pointers_of_shape}
 use Rattle.capnp_dynamic.specs.Inits.{struct_named, no_struct, struct_content, init_content, LeadsFrom, LiesBehind, LiesIn, StructNotMade}
 use Rattle.capnp_dynamic.specs.Puts.{PutsContent, ObjectRefused}
 use Rattle.capnp_dynamic.proofs.lemmas.GroupFields.{body_is}

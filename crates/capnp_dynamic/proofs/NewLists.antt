@@ -16,7 +16,7 @@ use Rattle.capnp_queries.specs.Structs.{schema_around}
 use Rattle.capnp_queries.specs.Handles.{entry_of, IsFieldRecord}
 use Rattle.capnp_queries.specs.declared.fields.Field.{Field}
 use Rattle.capnp_copy.specs.Allocations.{total_words, TakesJust, TakesAtMost, NoRoom}
-use Rattle.capnp_copy.specs.Lists.{zeros_of, words_of}
+use Rattle.capnp_copy.specs.Lists.{zeros_of, words_of_list}
 use Rattle.capnp_copy.specs.Values.{Becomes}
 use Rattle.capnp_wire.specs.Places.{place_view}
 use Rattle.capnp_object.specs.declared.place.Place as code
@@ -32,7 +32,7 @@ use Rattle.capnp_dynamic.proofs.InitSlots.{no_words}
 
 -- ---- their words
 
-zeros_words : (size n : ℕ) → object_words (new_tree (zeros_of size n)) ≡ words_of size n
+zeros_words : (size n : ℕ) → object_words (new_tree (zeros_of size n)) ≡ words_of_list size n
 unfolding object_words
 zeros_words size n = by (size == 6)
   where
@@ -54,7 +54,7 @@ structs_words : (d k n : ℕ) → object_words (struct_list d k (zero_elements n
 unfolding object_words
 structs_words d k n = ap (λ m. 1 + m) (elements_words d k n)
 
-pub list_words : (size n : ℕ) → words_of size n ≡ object_words (new_tree (zeros_of size n))
+pub list_words : (size n : ℕ) → words_of_list size n ≡ object_words (new_tree (zeros_of size n))
 list_words size n = sym (zeros_words size n)
 
 pub struct_list_words : (d k n : ℕ) → 1 + n * (d + k) ≡ object_words (struct_list d k (zero_elements n k))
@@ -80,8 +80,8 @@ long_zeros size n = by (size == 6)
     by true = (λ h. subst (λ m. 2 ^ 29 ≤ m) (sym (count-resized n none)) h, λ h. subst (λ m. 2 ^ 29 ≤ m) (count-resized n none) h)
     by false = (λ h. h, λ h. h)
 
-pub list_refused : (old : ArenaState) (segment size n : ℕ) (e : Error) → ListRefused old segment (2 ^ 29 ≤ n) (words_of size n) e → ObjectRefused old segment (new_tree (zeros_of size n)) e
-list_refused old segment size n e h = let x = long_zeros size n in long_as old segment (words_of size n) (object_words (new_tree (zeros_of size n))) (2 ^ 29 ≤ n) (IsTooLong (new_tree (zeros_of size n))) e x.0 x.1 (list_words size n) h
+pub list_refused : (old : ArenaState) (segment size n : ℕ) (e : Error) → ListRefused old segment (2 ^ 29 ≤ n) (words_of_list size n) e → ObjectRefused old segment (new_tree (zeros_of size n)) e
+list_refused old segment size n e h = let x = long_zeros size n in long_as old segment (words_of_list size n) (object_words (new_tree (zeros_of size n))) (2 ^ 29 ≤ n) (IsTooLong (new_tree (zeros_of size n))) e x.0 x.1 (list_words size n) h
 
 pub structs_refused : (old : ArenaState) (segment n d k : ℕ) (e : Error) → (e.kind ≡ SizeOverflow) ↔ ((2 ^ 29 ≤ n) ⊎ (2 ^ 29 ≤ n * (d + k)) ⊎ (2 ^ 29 ≤ total_words (words_in old.segments) + (n * (d + k) + 2)))
     → (2 ^ 29 ≤ n) ⊎ (2 ^ 29 ≤ n * (d + k)) ⊎ NoRoom (words_in old.segments) old.room segment (1 + n * (d + k)) → ObjectRefused old segment (struct_list d k (zero_elements n k)) e

@@ -3,7 +3,7 @@ use Rattle.std.specs.Prelude.{◌≡◌, ℕ, ◌+◌, ◌^◌, ◌<◌, ◌≤�
 use Rattle.std.specs.Option.{is_some}
 use Rattle.capnp_model.specs.Segments.{Segments, words_at}
 use Rattle.capnp_model.specs.Trees.{Trees, structure}
-use Rattle.capnp_model.specs.Schemas.{Shape}
+use Rattle.capnp_model.specs.Schemas.{Shape, words_of_shape, pointers_of_shape}
 use Rattle.capnp_model.specs.Edits.{Edit, mark, is_kept, edit_if, cleared_body}
 use Rattle.capnp_wire.specs.Places.{place_view}
 use Rattle.capnp_footprints.specs.Footprints.{OwnsObject}
@@ -15,7 +15,6 @@ use Rattle.capnp_queries.specs.Fields.{Entry, union_in}
 use Rattle.capnp_queries.specs.Structs.{shape_of_struct}
 use Rattle.capnp_queries.specs.Handles.{entry_of}
 use Rattle.capnp_queries.specs.declared.fields.Field.{Field}
-use Rattle.capnp_dynamic.specs.Inside.{words_of_shape, pointers_of_shape}
 
 -- The struct's words are there.
 pub record IsThere (s : Segments) (p : StructPlace) : Type 0 where

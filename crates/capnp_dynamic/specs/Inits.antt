@@ -2,7 +2,7 @@
 use Rattle.std.specs.Prelude.{◌≡◌, ℕ, ◌+◌, Bool, true, false, Option, Some, None, Result}
 use Rattle.capnp_model.specs.Kinds.{Kind, TypeMismatch, InitIsOnlyValidForStructAndAnyPointerFields}
 use Rattle.capnp_model.specs.Segments.{Segments, after}
-use Rattle.capnp_model.specs.Schemas.{Ty, void, plain, text, blob, untyped, interface, struct, list, Shape, Schema, Body, void_slot, plain_slot, pointer_slot, group_slot}
+use Rattle.capnp_model.specs.Schemas.{Ty, void, plain, text, blob, untyped, interface, struct, list, Shape, Schema, Body, void_slot, plain_slot, pointer_slot, group_slot, words_of_shape, pointers_of_shape}
 use Rattle.capnp_model.specs.Trees.{Trees, structure}
 use Rattle.capnp_model.specs.Calls.{Content, refused_by, bits_of, object, empty_struct, init}
 use Rattle.capnp_units.specs.declared.errors.Error.{Error}
@@ -21,7 +21,6 @@ use Rattle.capnp_queries.specs.declared.fields.Field.{Field}
 use Rattle.capnp_dynamic.specs.Calls.{edit_of}
 use Rattle.capnp_dynamic.specs.Puts.{PutsContent}
 use Rattle.capnp_dynamic.specs.declared.init.Part.{Part}
-use Rattle.capnp_dynamic.specs.Inside.{words_of_shape, pointers_of_shape}
 
 -- The id of the struct that a type names, if it is a struct's.
 abbrev pub struct_named : Ty → Option ℕ

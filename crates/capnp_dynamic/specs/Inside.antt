@@ -4,14 +4,6 @@ use Rattle.capnp_model.specs.Schemas.{Shape, shape}
 use Rattle.capnp_model.specs.Accepted.{Area, bit_area, pointer_area, areas_of}
 use Rattle.capnp_copy.specs.declared.fields.StructPlace.{StructPlace}
 
--- The words of a shape's data section.
-abbrev pub words_of_shape : Shape → ℕ
-words_of_shape (shape id words pointers union fs) = words
-
--- The pointers of a shape.
-abbrev pub pointers_of_shape : Shape → ℕ
-pointers_of_shape (shape id words pointers union fs) = pointers
-
 -- The areas lie in sections of so many words and pointers.
 abbrev pub LieIn : ℕ → ℕ → List Area → Type 0
 LieIn words pointers [] = Unit {0}

@@ -18,10 +18,6 @@ use Rattle.capnp_copy.specs.declared.fields.StructPlace.{StructPlace}
 use Rattle.capnp_builders.specs.Making.{ArenaState, ListRefused}
 use Rattle.capnp_dynamic.specs.Edits.{Edits}
 
--- What an arena holds, by the members that tell it.
-abbrev pub state_in : {A : Type 0} → (A → List (List ℕ)) → (A → List ℕ) → (A → List (List ℕ)) → A → ArenaState
-state_in segments room books arena = record { segments = segments arena; room = room arena; books = books arena }
-
 -- Whatever data and children the struct has become what the edit makes of them, where one level of pointers may be new, and nothing else changes.
 abbrev pub Deepens : Segments → Segments → StructPlace → Edit → Type 0
 Deepens s u p f =

@@ -8,7 +8,7 @@ ghost use Rattle.capnp_queries.specs.Types.{ty_of};
 ghost use Rattle.capnp_dynamic.specs.Edits.{IsThere};
 ghost use Rattle.capnp_dynamic.specs.Inside.{LieIn};
 ghost use Rattle.capnp_dynamic.specs.Begun.{PutsBegun, TellsField, IsThereIfTold, is_untyped};
-ghost use Rattle.capnp_dynamic.specs.Puts.{state_in};
+ghost use Rattle.capnp_copy.specs.States.{state_in};
 
 use crate::init::{Part, init_slot};
 use crate::slots::clear_field;

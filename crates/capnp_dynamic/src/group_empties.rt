@@ -12,7 +12,7 @@ ghost use Rattle.capnp_records.specs.Sets.{nodes_of};
 ghost use Rattle.capnp_queries.specs.Types.{ty_of, is_type_of};
 ghost use Rattle.capnp_dynamic.specs.NewLists.{tree_of_new, IsMade};
 ghost use Rattle.capnp_dynamic.specs.GroupSets.{PutsValue, is_struct_list};
-ghost use Rattle.capnp_dynamic.specs.Puts.{state_in};
+ghost use Rattle.capnp_copy.specs.States.{state_in};
 
 use crate::initn::{NewList, list_for, put_list};
 use capnp_copy::arena::BuilderArena;

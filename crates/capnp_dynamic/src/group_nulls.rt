@@ -14,7 +14,7 @@ ghost use Rattle.capnp_records.specs.Sets.{nodes_of};
 ghost use Rattle.capnp_queries.specs.Handles.{entry_of};
 ghost use Rattle.capnp_queries.specs.Types.{ty_of, is_type_of};
 ghost use Rattle.capnp_dynamic.specs.GroupSets.{PutsValue, null_tree, IsReadable, IsDefault};
-ghost use Rattle.capnp_dynamic.specs.Puts.{state_in};
+ghost use Rattle.capnp_copy.specs.States.{state_in};
 
 use crate::group_empties::put_empty;
 use crate::roots::{copy_root, default_said, has_null_root, words_of};

@@ -10,10 +10,12 @@ ghost use Rattle.capnp_records.specs.Sets.{nodes_of};
 ghost use Rattle.capnp_queries.specs.Structs.{nodes_around, shape_of_struct, id_of};
 ghost use Rattle.capnp_queries.specs.Handles.{entry_of};
 ghost use Rattle.capnp_queries.specs.Types.{ty_of, is_type_of};
-ghost use Rattle.capnp_dynamic.specs.Inside.{HasFields, words_of_shape, pointers_of_shape};
+ghost use Rattle.capnp_model.specs.Schemas.{words_of_shape, pointers_of_shape};
+ghost use Rattle.capnp_dynamic.specs.Inside.{HasFields};
 ghost use Rattle.capnp_dynamic.specs.Edits.{IsThere, IsWide};
 ghost use Rattle.capnp_dynamic.specs.Inits.{struct_named, no_struct, is_slot, MakesEmptyStruct, LeadsToStruct, PutsNewStruct, LiesInField, StructNotMade};
-ghost use Rattle.capnp_dynamic.specs.Puts.{state_in, BytesGrow};
+ghost use Rattle.capnp_copy.specs.States.{state_in};
+ghost use Rattle.capnp_dynamic.specs.Puts.{BytesGrow};
 
 use crate::slots::{mark, pointer_place};
 use capnp_copy::arena::BuilderArena;

@@ -22,7 +22,8 @@ ghost use Rattle.capnp_dynamic.specs.Inside.{LieIn};
 ghost use Rattle.capnp_dynamic.specs.Edits.{IsThere};
 ghost use Rattle.capnp_dynamic.specs.Calls.{edit_of};
 ghost use Rattle.capnp_dynamic.specs.NewLists.{tree_of_new, IsMade, content_of_list, initn_field, ObjectNotMade};
-ghost use Rattle.capnp_dynamic.specs.Puts.{state_in, BytesGrow, PutsContent};
+ghost use Rattle.capnp_copy.specs.States.{state_in};
+ghost use Rattle.capnp_dynamic.specs.Puts.{BytesGrow, PutsContent};
 
 use crate::init::struct_size;
 use crate::slots::{mark, pointer_place};

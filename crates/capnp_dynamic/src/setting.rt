@@ -18,7 +18,8 @@ ghost use Rattle.capnp_dynamic.specs.Inside.{LieIn};
 ghost use Rattle.capnp_dynamic.specs.Blobs.{bytes_of};
 ghost use Rattle.capnp_dynamic.specs.Edits.{IsThere};
 ghost use Rattle.capnp_dynamic.specs.Given.{plain_given, bits_given, bytes_given, pointer_refusal, set_content, set_edit};
-ghost use Rattle.capnp_dynamic.specs.Puts.{state_in, PutsContent};
+ghost use Rattle.capnp_copy.specs.States.{state_in};
+ghost use Rattle.capnp_dynamic.specs.Puts.{PutsContent};
 
 use crate::slots::{mark, pointer_place, width_of};
 use capnp_copy::arena::BuilderArena;

@@ -6,7 +6,7 @@ use Rattle.capnp_model.specs.Readings.{is_accepted_as}
 use Rattle.capnp_model.specs.Sections.{words_for}
 use Rattle.capnp_model.specs.Segments.{Segments, Place, after, word_at}
 use Rattle.capnp_model.specs.Pointers.{nothing}
-use Rattle.capnp_model.specs.Schemas.{Shape, Schema, struct, lists_of}
+use Rattle.capnp_model.specs.Schemas.{Shape, Schema, struct, lists_of, words_of_shape, pointers_of_shape}
 use Rattle.capnp_model.proofs.lemmas.Chaining.{bind_ok, ok_is, guard_ok}
 use Rattle.capnp_model.proofs.lemmas.Locality.{word_is}
 use Rattle.capnp_object.specs.declared.object.Object.{Object}
@@ -34,7 +34,6 @@ use Rattle.capnp_queries.specs.Types.{ty_of_base}
 use Rattle.capnp_queries.specs.declared.introspect.Base.{Base}
 use Rattle.capnp_values.specs.ListSizes.{size_of}
 use Rattle.capnp_dynamic.specs.Inits.{struct_named}
-use Rattle.capnp_dynamic.specs.Inside.{words_of_shape, pointers_of_shape}
 use Rattle.capnp_dynamic_gets.specs.Structs.{size_of_shape}
 use Rattle.capnp_dynamic_gets.specs.Lists.{sized, ElementsGot, PlaceGot}
 use Rattle.capnp_dynamic_gets.proofs.AcceptedLists.{holds, holds_no_structs, bytewise}

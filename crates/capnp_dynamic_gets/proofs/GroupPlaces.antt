@@ -1,20 +1,18 @@
 -- A group lies in its holder's sections.
 use Rattle.std.proofs.Common.{◌≡◌, Some, option_map, refl, arith}
-use Rattle.capnp_model.specs.Schemas.{Shape, shape, Field as FieldNode, StructNode, group_slot}
+use Rattle.capnp_model.specs.Schemas.{Shape, shape, Field as FieldNode, StructNode, group_slot, words_of_shape, pointers_of_shape}
 use Rattle.capnp_copy.specs.declared.fields.StructPlace.{StructPlace}
 use Rattle.capnp_queries.specs.Structs.{nodes_around, id_of, shape_of_struct, IsRecordOf}
 use Rattle.capnp_queries.specs.Handles.{entry_of, IsFieldRecord}
 use Rattle.capnp_queries.specs.declared.structs.StructSchema.{StructSchema}
 use Rattle.capnp_queries.specs.declared.fields.Field.{Field}
-use Rattle.capnp_calls.specs.Slots.{words_in, pointers_in}
 use Rattle.capnp_calls.proofs.lemmas.GroupSizes.{group_is_field}
-use Rattle.capnp_dynamic.specs.Inside.{words_of_shape, pointers_of_shape}
 use Rattle.capnp_dynamic.specs.Edits.{IsWide}
 
-same_words : (g : Shape) → words_in g ≡ words_of_shape g
+same_words : (g : Shape) → words_of_shape g ≡ words_of_shape g
 same_words (shape id w p u fs) = refl
 
-same_pointers : (g : Shape) → pointers_in g ≡ pointers_of_shape g
+same_pointers : (g : Shape) → pointers_of_shape g ≡ pointers_of_shape g
 same_pointers (shape id w p u fs) = refl
 
 pub group_wide : (p : StructPlace) (f : Field) (r : FieldNode) → IsFieldRecord f.parent f.index r → (n : StructNode) → IsRecordOf (nodes_around f.parent) (id_of f.parent) n

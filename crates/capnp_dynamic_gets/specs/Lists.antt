@@ -1,7 +1,7 @@
 -- Lists that are got to be written, with a default in place of null. (Encoding, "Lists" and "Default Values")
 use Rattle.std.specs.Prelude.{◌≡◌, ℕ, max, true, List, Option, Some, None}
 use Rattle.capnp_model.specs.Segments.{Segments}
-use Rattle.capnp_model.specs.Schemas.{Ty, Shape, Schema}
+use Rattle.capnp_model.specs.Schemas.{Ty, Shape, Schema, words_of_shape, pointers_of_shape}
 use Rattle.capnp_units.specs.declared.errors.Error.{Error}
 use Rattle.capnp_object.specs.declared.place.Place as code
 use Rattle.capnp_copy.specs.declared.init.ListPlace.{ListPlace}
@@ -11,7 +11,6 @@ use Rattle.capnp_model.specs.Accepted.{schema_of}
 use Rattle.capnp_queries.specs.Types.{ty_of, is_type_of}
 use Rattle.capnp_values.specs.ListSizes.{size_of}
 use Rattle.capnp_dynamic.specs.Inits.{struct_named}
-use Rattle.capnp_dynamic.specs.Inside.{words_of_shape, pointers_of_shape}
 use Rattle.capnp_dynamic_lists.specs.Lists.{IsListThere}
 use Rattle.capnp_dynamic_lists.specs.Elements.{Holds, HoldsStructs}
 use Rattle.capnp_dynamic_lists.specs.Readers.{IsBytewise}

@@ -2,7 +2,7 @@
 use Rattle.std.specs.Prelude.{◌≡◌, ◌≢◌, ℕ, suc, ◌<◌, ◌≤◌}
 use Rattle.capnp_model.specs.Segments.{Segments}
 use Rattle.capnp_model.specs.Trees.{Tree, plain_list, pointer_list, struct_list, tree_count, element_count, size_bits}
-use Rattle.capnp_model.specs.Schemas.{Shape}
+use Rattle.capnp_model.specs.Schemas.{Shape, words_of_shape, pointers_of_shape}
 use Rattle.capnp_model.specs.Edits.{Edit, edit_list}
 use Rattle.capnp_units.specs.Sizes.{size_number}
 use Rattle.capnp_footprints.specs.Footprints.{OwnsObject}
@@ -10,7 +10,6 @@ use Rattle.capnp_footprints.specs.Changes.{ReplacesObject}
 use Rattle.capnp_copy.specs.Elements.{IsWhole}
 use Rattle.capnp_copy.specs.Lists.{list_at}
 use Rattle.capnp_copy.specs.declared.init.ListPlace.{ListPlace}
-use Rattle.capnp_dynamic.specs.Inside.{words_of_shape, pointers_of_shape}
 
 -- A list lies whole, and its pointer counts its elements, or the words of its structs.
 pub record IsListThere (s : Segments) (o : ListPlace) : Type 0 where

@@ -6,7 +6,7 @@ ghost use Rattle.capnp_units.specs.Segments.{words_in};
 ghost use Rattle.capnp_object.specs.Places.{seen};
 ghost use Rattle.capnp_queries.specs.Handles.{plain_of};
 ghost use Rattle.capnp_queries.specs.Types.{ty_of};
-ghost use Rattle.capnp_dynamic.specs.Puts.{state_in};
+ghost use Rattle.capnp_copy.specs.States.{state_in};
 ghost use Rattle.capnp_dynamic_lists.specs.Puts.{PutsContent};
 ghost use Rattle.capnp_dynamic_lists.specs.Lists.{IsListThere, HasRoom, EditsElement};
 ghost use Rattle.capnp_dynamic_lists.specs.Elements.{plain_in, Holds, answer_of, single_element, single_edit, flat_element, element_edit};

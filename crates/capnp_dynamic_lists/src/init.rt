@@ -8,7 +8,7 @@ ghost use Rattle.capnp_units.specs.Errors.{kind_of};
 ghost use Rattle.capnp_units.specs.Segments.{words_in};
 ghost use Rattle.capnp_records.specs.Sets.{nodes_of};
 ghost use Rattle.capnp_queries.specs.Types.{ty_of, is_type_of};
-ghost use Rattle.capnp_dynamic.specs.Puts.{state_in};
+ghost use Rattle.capnp_copy.specs.States.{state_in};
 ghost use Rattle.capnp_dynamic_lists.specs.Elements.{Holds, no_new_element};
 ghost use Rattle.capnp_dynamic_lists.specs.Lists.{IsListThere};
 ghost use Rattle.capnp_dynamic_lists.specs.Puts.{PutsContent};

@@ -3,13 +3,12 @@ use Rattle.std.proofs.Common.{◌≡◌, ℕ, List, Option, Some, None, Ok, refl
 use Rattle.std.specs.Bool.{⊤}
 use Rattle.capnp_model.specs.Segments.{Segments, Place}
 use Rattle.capnp_model.specs.Trees.{Tree, null, capability, structure, plain_list, pointer_list, struct_list}
-use Rattle.capnp_model.specs.Schemas.{Ty, void, plain, text, blob, untyped, interface, struct, list, Shape, shape, Schema}
+use Rattle.capnp_model.specs.Schemas.{Ty, void, plain, text, blob, untyped, interface, struct, list, Shape, shape, Schema, words_of_shape, pointers_of_shape}
 use Rattle.capnp_model.specs.Edits.{widened_list, as_list}
 use Rattle.capnp_widening.specs.MovedElements.{as_structs}
 use Rattle.capnp_widening.specs.WidenedLists.{WidensList}
 use Rattle.capnp_builders.specs.Gets.{Begins, Gets}
 use Rattle.capnp_builders.proofs.lemmas.Begun.{Laws, made_then, listed_then}
-use Rattle.capnp_dynamic.specs.Inside.{words_of_shape, pointers_of_shape}
 use Rattle.capnp_dynamic.specs.Inits.{struct_named}
 use Rattle.capnp_edits.specs.Written.{GrowsBehind}
 

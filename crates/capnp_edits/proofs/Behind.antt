@@ -2,7 +2,7 @@
 use Rattle.std.proofs.Common.{◌≡◌, ℕ, ◌+◌, ◌≤◌, true, List, [], ◌∷◌, Option, Some, Result, Ok, Err, OnOk, refl, sym, subst, ap, ◌∙◌, arith}
 use Rattle.capnp_model.specs.Segments.{Segments, Place}
 use Rattle.capnp_model.specs.Trees.{Tree, widened}
-use Rattle.capnp_model.specs.Schemas.{Ty, void, plain, text, blob, untyped, interface, struct, list, Shape, shape}
+use Rattle.capnp_model.specs.Schemas.{Ty, void, plain, text, blob, untyped, interface, struct, list, Shape, shape, words_of_shape, pointers_of_shape}
 use Rattle.capnp_model.specs.Calls.{Step, name, index, Verb}
 use Rattle.capnp_model.specs.Edits.{opened_tree}
 use Rattle.capnp_units.specs.declared.sizes.StructSize.{StructSize}
@@ -12,11 +12,9 @@ use Rattle.capnp_builders.specs.Gets.{StructGot}
 use Rattle.capnp_queries.specs.Structs.{schema_around, shape_of_struct, id_of}
 use Rattle.capnp_queries.specs.declared.structs.StructSchema.{StructSchema}
 use Rattle.capnp_queries.specs.declared.fields.Field.{Field}
-use Rattle.capnp_dynamic.specs.Inside.{words_of_shape, pointers_of_shape}
 use Rattle.capnp_dynamic.specs.Edits.{IsWide}
 use Rattle.capnp_dynamic.specs.Inits.{struct_named}
 use Rattle.capnp_calls.specs.Roots.{starts_with_name}
-use Rattle.capnp_calls.specs.Slots.{words_in, pointers_in}
 use Rattle.capnp_calls.specs.Finding.{IsFieldGroup}
 use Rattle.capnp_calls.specs.Paths.{shape_edit}
 use Rattle.capnp_edits.specs.Written.{WritesValue, HoldsDefault}
@@ -31,10 +29,10 @@ on_ok (Err e) P Q f h = tt
 
 -- ---- groups
 
-same_words : (g : Shape) → words_in g ≡ words_of_shape g
+same_words : (g : Shape) → words_of_shape g ≡ words_of_shape g
 same_words (shape id w p u fs) = refl
 
-same_pointers : (g : Shape) → pointers_in g ≡ pointers_of_shape g
+same_pointers : (g : Shape) → pointers_of_shape g ≡ pointers_of_shape g
 same_pointers (shape id w p u fs) = refl
 
 pub group_wide : (p : StructPlace) (f : Field) (g : StructSchema) → IsFieldGroup f g → IsWide p (shape_of_struct f.parent) → IsWide p (shape_of_struct g)

@@ -3,7 +3,7 @@ ghost use Rattle.std.specs.Prelude.{◌≡◌, true, option_map, IfSome};
 ghost use Rattle.capnp_records.specs.Sets.{nodes_of};
 ghost use Rattle.capnp_queries.specs.Structs.{nodes_around, shape_of_struct, id_of};
 ghost use Rattle.capnp_queries.specs.Types.{ty_of, is_type_of};
-ghost use Rattle.capnp_dynamic.specs.Inside.{words_of_shape, pointers_of_shape};
+ghost use Rattle.capnp_model.specs.Schemas.{words_of_shape, pointers_of_shape};
 ghost use Rattle.capnp_dynamic.specs.Inits.{struct_named};
 
 use capnp_queries::introspect::{Type, TypeVariant};

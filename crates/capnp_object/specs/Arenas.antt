@@ -10,8 +10,8 @@ word_count None = 0
 word_count (Some bytes) = length bytes / 8
 
 -- The bytes of a segment, none where it isn't there.
-abbrev pub bytes_of : List (List ℕ) → ℕ → List ℕ
-bytes_of segments i = unwrap_or (slice_get segments i) []
+abbrev pub segment_bytes : List (List ℕ) → ℕ → List ℕ
+segment_bytes segments i = unwrap_or (slice_get segments i) []
 
 -- The words of so many segments, from the first on.
 abbrev pub words_before : List (List ℕ) → ℕ → ℕ

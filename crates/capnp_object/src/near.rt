@@ -1,7 +1,7 @@
 //! Structs, and lists of plain elements, that are told in one look at their segment.
 ghost use Rattle.std.specs.Prelude.{◌≡◌, ℕ, List, IfSome};
 ghost use Rattle.capnp_units.specs.Segments.{words_in};
-ghost use Rattle.capnp_object.specs.Arenas.{bytes_of};
+ghost use Rattle.capnp_object.specs.Arenas.{segment_bytes};
 ghost use Rattle.capnp_object.specs.Places.{place_view};
 ghost use Rattle.capnp_object.specs.Near.{list_object, struct_object, IsMeasured, IsNear};
 
@@ -30,7 +30,7 @@ pub fn near_list<A: ReaderArena>(arena: &A, place: Place) -> Option<NearList>
 /// The same of a place in the segment of these bytes, which isn't asked for.
 #[inline(always)]
 pub fn near_list_in(bytes: &[u8], place: Place) -> Option<NearList>
-    ensures near { (segments : List (List ℕ)) → bytes.now ≡ bytes_of segments place.segment
+    ensures near { (segments : List (List ℕ)) → bytes.now ≡ segment_bytes segments place.segment
         → IfSome result (λ list.
         IsNear (words_in segments) (place_view place) (list_object list)) }
     ensures measured { IfSome result IsMeasured }
@@ -76,7 +76,7 @@ pub fn near_struct<A: ReaderArena>(arena: &A, place: Place) -> Option<NearStruct
 /// The same of a place in the segment of these bytes, which isn't asked for.
 #[inline(always)]
 pub fn near_struct_in(bytes: &[u8], place: Place) -> Option<NearStruct>
-    ensures near { (segments : List (List ℕ)) → bytes.now ≡ bytes_of segments place.segment
+    ensures near { (segments : List (List ℕ)) → bytes.now ≡ segment_bytes segments place.segment
         → IfSome result (λ near.
         IsNear (words_in segments) (place_view place) (struct_object near)) }
     ensures segment { IfSome result (λ near. near.start.segment ≡ place.segment) }

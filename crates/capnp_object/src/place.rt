@@ -6,7 +6,7 @@ ghost use Rattle.capnp_model.specs.Segments.{place, word_at, words_at};
 ghost use Rattle.capnp_model.specs.Sections.{bits_at};
 ghost use Rattle.capnp_model.specs.Pointers.{begins};
 ghost use Rattle.capnp_units.specs.Segments.{whole_words, words_in};
-ghost use Rattle.capnp_object.specs.Arenas.{bytes_of};
+ghost use Rattle.capnp_object.specs.Arenas.{segment_bytes};
 ghost use Rattle.capnp_object.specs.Places.{place_view, seen};
 
 use crate::arena::ReaderArena;
@@ -53,7 +53,7 @@ pub fn word_at<A: ReaderArena>(arena: &A, place: Place) -> Option<u64>
 /// The bytes of a segment, none where it isn't there.
 #[inline(always)]
 pub fn segment_bytes<A: ReaderArena>(arena: &A, segment: u32) -> &[u8]
-    ensures { result.now ≡ bytes_of (A.segments arena.now) segment }
+    ensures { result.now ≡ segment_bytes (A.segments arena.now) segment }
 {
     match arena.get_segment(segment) {
         Some(bytes) => bytes,

@@ -28,15 +28,15 @@ use Rattle.capnp_program.specs.Arguments.{is_help}
 use Rattle.capnp_program.specs.Asked.{Request, Asked, asked, IsRefused, IsHeldBack, asked_by}
 use Rattle.capnp_program.specs.Lines.{line_of}
 
--- What is seen of the source, the output and the log, and the bytes that the output and the log hold back.
+-- What is seen_of of the source, the output and the log, and the bytes that the output and the log hold back.
 pub record Seen : Type 0 where
   pub streams : Streams
   pub out_held : List ℕ
   pub log_held : List ℕ
 
 -- The same, one after the other.
-abbrev pub seen : Streams → List ℕ → List ℕ → Seen
-seen streams out_held log_held = record { streams = streams; out_held = out_held; log_held = log_held }
+abbrev pub seen_of : Streams → List ℕ → List ℕ → Seen
+seen_of streams out_held log_held = record { streams = streams; out_held = out_held; log_held = log_held }
 
 -- ---- the run
 

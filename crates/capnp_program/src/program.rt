@@ -3,7 +3,7 @@ ghost use Rattle.std.specs.Prelude.{◌≡◌, [], map, string_bytes};
 ghost use Rattle.std.specs.Option.{option_copied};
 ghost use Rattle.capnp_relay.specs.Streams.{sink_seen, streams_of};
 ghost use Rattle.capnp_program.specs.Asked.{request};
-ghost use Rattle.capnp_program.specs.Program.{seen, Told, ToldFault, Ends};
+ghost use Rattle.capnp_program.specs.Program.{seen_of, Told, ToldFault, Ends};
 
 use crate::arguments::asks_for_help;
 use crate::lines::fault_line;
@@ -58,8 +58,8 @@ pub fn program<R: Windowed, W: Flush, L: Flush>(
     ensures ends { let three = streams_of ⟦<R as Read>⟧ ⟦<W as Write>⟧ ⟦<L as Write>⟧ in
         Ends (request (map string_bytes words.now) (option_copied schema.entry)
         (option_copied calls.entry) (option_copied newer.entry)) W.may_grow L.may_grow
-        (seen (three source.old out.old log.old) (W.held out.old) (L.held log.old))
-        (seen (three source.new out.new log.new) (W.held out.new) (L.held log.new))
+        (seen_of (three source.old out.old log.old) (W.held out.old) (L.held log.old))
+        (seen_of (three source.new out.new log.new) (W.held out.new) (L.held log.new))
         result }
     ensures held { result ≡ 0 → (W.held out.new ≡ []) × (L.held log.new ≡ []) }
 {

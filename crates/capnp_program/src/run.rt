@@ -4,7 +4,7 @@ ghost use Rattle.std.specs.Option.{option_copied};
 ghost use Rattle.capnp_relay.specs.Streams.{streams_of};
 ghost use Rattle.capnp_program.specs.Asked.{request, IsHeldBack};
 ghost use Rattle.capnp_program.specs.Settings.{asked_of};
-ghost use Rattle.capnp_program.specs.Program.{seen, Ran, RelaysAll};
+ghost use Rattle.capnp_program.specs.Program.{seen_of, Ran, RelaysAll};
 
 use crate::ahead::BoundedForm;
 use crate::settings::Settings;
@@ -111,8 +111,8 @@ pub(crate) fn relay_all<R: Windowed, W: Flush, L: Flush>(
     ensures run { let three = streams_of ⟦<R as Read>⟧ ⟦<W as Write>⟧ ⟦<L as Write>⟧ in
         RelaysAll (request (map string_bytes words.now) (option_copied schema.entry)
         (option_copied calls.entry) (option_copied newer.entry)) W.may_grow L.may_grow
-        (seen (three source.old out.old log.old) (W.held out.old) (L.held log.old))
-        (seen (three source.new out.new log.new) (W.held out.new) (L.held log.new))
+        (seen_of (three source.old out.old log.old) (W.held out.old) (L.held log.old))
+        (seen_of (three source.new out.new log.new) (W.held out.new) (L.held log.new))
         result }
     ensures held { OnOk result ((W.held out.new ≡ []) × (L.held log.new ≡ [])) }
 {

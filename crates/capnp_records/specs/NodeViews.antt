@@ -100,10 +100,10 @@ struct_of s = record {
 }
 
 -- What a node is.
-abbrev pub kind_of : NodeBody → NodeKind
-kind_of (K.Struct s) = struct_node (struct_of s)
-kind_of (K.Enum v) = enum_node (map enumerant_of v.items)
+abbrev pub node_kind : NodeBody → NodeKind
+node_kind (K.Struct s) = struct_node (struct_of s)
+node_kind (K.Enum v) = enum_node (map enumerant_of v.items)
 
 -- A node.
 abbrev pub node_of : NodeRecord → Node
-node_of n = record { id = n.id; name = string_bytes n.display_name; annotations = map annotation_of n.annotations.items; kind = kind_of n.body }
+node_of n = record { id = n.id; name = string_bytes n.display_name; annotations = map annotation_of n.annotations.items; kind = node_kind n.body }

@@ -3,7 +3,7 @@
 ghost use Rattle.std.specs.Prelude.{◌≡◌, ◌++◌, ◌∷◌, map, IfOk};
 ghost use Rattle.std.specs.List.{flat_map, list_any};
 ghost use Rattle.capnp_model.specs.Accepted.{slot_types, types_in, groups_of_field, groups_used, names_of_kind, annotations_in};
-ghost use Rattle.capnp_records.specs.NodeViews.{type_record_of, annotation_of, kind_of_field, field_of, enumerant_of, kind_of, node_of};
+ghost use Rattle.capnp_records.specs.NodeViews.{type_record_of, annotation_of, kind_of_field, field_of, enumerant_of, node_kind, node_of};
 
 use crate::node::{
     AnnotationRecord, EnumerantRecord, FieldBody, FieldRecord, NodeBody, NodeRecord, TypeRecord,
@@ -147,7 +147,7 @@ fn push_enumerant_names<'a>(
 
 /// The names of a node's fields or enumerants.
 pub(crate) fn names_of(alloc: Global, node: &NodeRecord) -> Result<Vec<&str>, AllocError>
-    ensures { IfOk result (λ v. map (λ s. s.now) v.items ≡ names_of_kind (kind_of node.now.body)) }
+    ensures { IfOk result (λ v. map (λ s. s.now) v.items ≡ names_of_kind (node_kind node.now.body)) }
 {
     let mut names = Vec::new(alloc);
     match &node.body {

@@ -4,7 +4,7 @@ ghost use Rattle.std.specs.Prelude.{◌≡◌, ℕ, ◌≤◌, true, map, length
 ghost use Rattle.std.specs.List.{list_all};
 ghost use Rattle.std.specs.HashMap.{get};
 ghost use Rattle.capnp_model.specs.Accepted.{is_short};
-ghost use Rattle.capnp_records.specs.NodeViews.{field_of, kind_of, node_of};
+ghost use Rattle.capnp_records.specs.NodeViews.{field_of, node_kind, node_of};
 ghost use Rattle.capnp_records.specs.Tables.{members_from, others_from, members_in, others_in, node_place};
 
 use crate::node::{FieldRecord, NO_DISCRIMINANT, NodeBody, NodeRecord};
@@ -51,8 +51,8 @@ fn others_of(alloc: Global, fields: &[FieldRecord]) -> Result<Vec<u16>, AllocErr
 
 fn tables_of_node(alloc: Global, node: &NodeRecord) -> Result<FieldTables, AllocError>
     requires { is_short (node_of node.now) ≡ true }
-    ensures members { IfOk result (λ t. t.members.items ≡ members_in (kind_of node.now.body)) }
-    ensures others { IfOk result (λ t. t.others.items ≡ others_in (kind_of node.now.body)) }
+    ensures members { IfOk result (λ t. t.members.items ≡ members_in (node_kind node.now.body)) }
+    ensures others { IfOk result (λ t. t.others.items ≡ others_in (node_kind node.now.body)) }
 {
     match &node.body {
         NodeBody::Struct(record) => Ok(FieldTables {

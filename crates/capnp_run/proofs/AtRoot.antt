@@ -3,7 +3,7 @@ use Rattle.std.proofs.Common.{◌≡◌, ℕ, suc, ◌^◌, ◌≤◌, ◌<◌, 
 use Rattle.capnp_model.specs.Segments.{Segments, Place, root}
 use Rattle.capnp_model.specs.Pointers.{Found, found_at}
 use Rattle.capnp_model.specs.Trees.{Tree, Trees, structure, widened, depth}
-use Rattle.capnp_model.specs.Schemas.{Shape, shape}
+use Rattle.capnp_model.specs.Schemas.{Shape, shape, words_of_shape, pointers_of_shape}
 use Rattle.capnp_model.specs.Calls.{Call}
 use Rattle.capnp_model.specs.Answers.{Reply, widened_root}
 use Rattle.capnp_wire.specs.Places.{place_view}
@@ -16,7 +16,6 @@ use Rattle.capnp_copy.specs.declared.fields.StructPlace.{StructPlace}
 use Rattle.capnp_widening.specs.Widened.{Widens}
 use Rattle.capnp_queries.specs.Structs.{shape_of_struct}
 use Rattle.capnp_queries.specs.declared.structs.StructSchema.{StructSchema}
-use Rattle.capnp_dynamic.specs.Inside.{words_of_shape, pointers_of_shape}
 use Rattle.capnp_footprints.specs.Totals.{words_of_segments}
 use Rattle.capnp_calls.specs.LongLists.{LongInTurn}
 use Rattle.capnp_run.specs.Runs.{RunsAll, RunsAt, RunsRoot, EndsLongAt, EndsLongRoot}

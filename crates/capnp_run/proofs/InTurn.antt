@@ -20,7 +20,8 @@ use Rattle.capnp_calls.specs.Texts.{as_it_is}
 use Rattle.capnp_calls.specs.LongLists.{PutsLong}
 use Rattle.capnp_run.specs.declared.fault.RunFault.{RunFault}
 use Rattle.capnp_run.specs.declared.fault.RunFault.TheVariants as faults
-use Rattle.capnp_run.specs.Runs.{record_at, AnswersAt, PutsLongAt, EndsLongAt}
+use Rattle.capnp_calls.specs.Roots.{record_at}
+use Rattle.capnp_run.specs.Runs.{AnswersAt, PutsLongAt, EndsLongAt}
 use Rattle.capnp_run.proofs.Levels.{After}
 
 pub edits_more : (root : StructSchema) (before : List Call) (c : Call) (t : Tree) → edits (schema_around root) (id_of root) (before ++ c ∷ []) t ≡ edit (schema_around root) (id_of root) c (edits (schema_around root) (id_of root) before t)

@@ -1,7 +1,7 @@
 -- One call: what was tested is written.
 use Rattle.std.proofs.Common.{◌≡◌, ℕ, ◌≤◌, max, List, [], ◌∷◌, Option, Some, None, refl, ap, sym, ◌∙◌, subst, arith}
 use Rattle.capnp_model.specs.Trees.{Tree, structure, tree_count, padded_to}
-use Rattle.capnp_model.specs.Schemas.{Shape, shape, Schema}
+use Rattle.capnp_model.specs.Schemas.{Shape, shape, Schema, words_of_shape, pointers_of_shape}
 use Rattle.capnp_model.specs.Readings.{Record, record_of, record_by_shape}
 use Rattle.capnp_model.specs.Calls.{Step, name, index, Call}
 use Rattle.capnp_model.specs.Steps.{Outcome, refused, shown, done, step}
@@ -9,12 +9,12 @@ use Rattle.capnp_model.specs.Edits.{Cell, edit_named, edit_field, in_struct, if_
 use Rattle.capnp_model.specs.Answers.{Reply, reply_done, text_reply, reply_of}
 use Rattle.capnp_queries.specs.Structs.{schema_around, id_of, shape_of_struct}
 use Rattle.capnp_queries.specs.declared.structs.StructSchema.{StructSchema}
-use Rattle.capnp_dynamic.specs.Inside.{words_of_shape, pointers_of_shape}
 use Rattle.capnp_calls.specs.Texts.{as_it_is}
 use Rattle.capnp_calls.specs.Sizes.{IsDone}
 use Rattle.capnp_calls.specs.Paths.{shape_outcome, shape_edit}
 use Rattle.capnp_widening.proofs.lemmas.GotStructs.{padded_enough}
-use Rattle.capnp_run.specs.Runs.{record_at, Answers}
+use Rattle.capnp_calls.specs.Roots.{record_at}
+use Rattle.capnp_run.specs.Runs.{Answers}
 
 no_text : (o : Option (List ℕ)) → reply_done ≡ text_reply o → ⊥
 no_text None h = cc h

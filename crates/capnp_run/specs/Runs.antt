@@ -17,10 +17,7 @@ use Rattle.capnp_queries.specs.Structs.{schema_around, shape_of_struct, id_of}
 use Rattle.capnp_queries.specs.declared.structs.StructSchema.{StructSchema}
 use Rattle.capnp_calls.specs.LongLists.{PutsLong, LongInTurn}
 use Rattle.capnp_calls.specs.Texts.{as_it_is}
-
--- The record of a value under a root's schema.
-abbrev pub record_at : StructSchema → Tree → Record
-record_at schema t = record_of (schema_around schema) (id_of schema) t
+use Rattle.capnp_calls.specs.Roots.{record_at}
 
 -- A call has the reply of the record machine at the record of the struct, and its edit.
 pub record Answers (schema : StructSchema) (c : Call) (old new : Tree) (told : Reply) : Type 0 where

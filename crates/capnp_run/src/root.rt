@@ -5,7 +5,7 @@ ghost use Rattle.capnp_model.specs.Segments.{root, words_at};
 ghost use Rattle.capnp_units.specs.Segments.{words_in};
 ghost use Rattle.capnp_copy.specs.Deep.{IsDeep};
 ghost use Rattle.capnp_queries.specs.Structs.{schema_around, shape_of_struct};
-ghost use Rattle.capnp_dynamic.specs.Inside.{words_of_shape, pointers_of_shape};
+ghost use Rattle.capnp_model.specs.Schemas.{words_of_shape, pointers_of_shape};
 ghost use Rattle.capnp_calls.specs.CallViews.{call_view};
 ghost use Rattle.capnp_calls.specs.Replies.{reply_view};
 ghost use Rattle.capnp_calls.specs.Roots.{IsRoot};

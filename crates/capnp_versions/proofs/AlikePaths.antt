@@ -3,7 +3,7 @@ use Rattle.std.proofs.Common.{◌≡◌, ℕ, ◌*◌, ◌^◌, ◌<◌, ◌≤�
 use Rattle.std.proofs.lemmas.Nat.{pow_pos}
 use Rattle.capnp_model.specs.Trees.{Tree, null, capability, structure, plain_list, pointer_list, struct_list, none, child, resized, padded_to, size_bits}
 use Rattle.capnp_model.specs.Trimming.{trim}
-use Rattle.capnp_model.specs.Schemas.{PlainType, Ty, void, plain, text, blob, untyped, interface, struct, list, Shape, shape, Fields, Body, void_slot, plain_slot, pointer_slot, group_slot, Schema, default_or_null}
+use Rattle.capnp_model.specs.Schemas.{PlainType, Ty, void, plain, text, blob, untyped, interface, struct, list, Shape, shape, Fields, Body, void_slot, plain_slot, pointer_slot, group_slot, Schema, default_or_null, words_of_shape}
 use Rattle.capnp_model.specs.Readings.{Children, inactive, number, record_as, no_children, whole_words, shape_record, only_if, body_of, element_as, read, read_child, record_by_shape}
 use Rattle.capnp_model.specs.Printing.{fields_in}
 use Rattle.capnp_model.specs.Calls.{Step, name, index, Verb}
@@ -20,7 +20,7 @@ use Rattle.capnp_versions.proofs.Alike.{Alike, SameCell, Agree, agree-more, agre
 use Rattle.capnp_versions.proofs.SameLists.{IsListLike, list_like, list-like}
 use Rattle.capnp_versions.proofs.SameShapes.{Congruent, no_change, AnyPair}
 use Rattle.capnp_versions.specs.SameReplies.{IsWrite}
-use Rattle.capnp_versions.proofs.SameContents.{shape_words, element_bits, bare_nulls, congruent-field, congruent-element}
+use Rattle.capnp_versions.proofs.SameContents.{element_bits, bare_nulls, congruent-field, congruent-element}
 use Rattle.capnp_versions.proofs.Wrote.{Wrote, wrote-map, field-is-write, element-is-write, group-is-write, WritesField, WritesElement, WritesName, FoundName, found_name, find_name, WritesStruct, into_struct, WritesList, into_list, no-name, no-index, through-pointer, reads-nothing, reads-padded}
 use Rattle.capnp_versions.proofs.WroteLists.{at-plain, at-plain-element, at-child, at-pointer-element, at-element, at-padded-element}
 use Rattle.capnp_versions.proofs.Follows.{SameMark, IsNarrow, HasWords, NameFollows, ValueFollows, PointerFollows, EndFollows, FieldFollows, ElementFollows}
@@ -95,7 +95,7 @@ module _ (o n : Schema) (verb : Verb) (whole : IsWholeVerb verb) where
         let a = named l (64 * w) nid w p nid' w' p' u u' fs fs' follows c d same k k' in
         alike-structure x y _ _ _ _ a.same.sections a.same.kids (a.within (64 * x) (omega arith) small) (a.within (64 * y) (omega arith) small') a.same.whole a.same.whole'
 
-    into_structs : (l : List ℕ) (i j : ℕ) (g g' : Shape) → o.shape_of i ≡ g → n.shape_of j ≡ g' → NameFollows o n verb (FieldFollows o n verb path) l (64 * shape_words g) g g' → shape_words g ≤ shape_words g' → (t t' : Tree) → Alike t t'
+    into_structs : (l : List ℕ) (i j : ℕ) (g g' : Shape) → o.shape_of i ≡ g → n.shape_of j ≡ g' → NameFollows o n verb (FieldFollows o n verb path) l (64 * words_of_shape g) g g' → words_of_shape g ≤ words_of_shape g' → (t t' : Tree) → Alike t t'
         → WritesStruct o verb path l i t → WritesStruct n verb path l j t' → Alike (edit_struct (edit_field o path verb) l g t) (edit_struct (edit_field n path verb) l g' t')
     unfolding record_by_shape trim
     into_structs l i j (shape nid w p u fs) (shape nid' w' p' u' fs') e e' follows le null null a k k' =
@@ -155,13 +155,13 @@ module _ (o n : Schema) (verb : Verb) (whole : IsWholeVerb verb) where
           subst (λ z. Alike (edit_list (edit_element o path verb ty) k z) (edit_list (edit_element n path verb ty') k (as_list n ty' t'))) (sym (not_struct o ty t e))
           (subst (λ z. Alike (edit_list (edit_element o path verb ty) k t) (edit_list (edit_element n path verb ty') k z)) (sym (not_struct n ty' t' (sym (same_sort o n ty ty' r) ∙ e))) (other_lists k t t' e narrow a h h'))
 
-    struct_lists : (i j k : ℕ) (g g' : Shape) → o.shape_of i ≡ g → n.shape_of j ≡ g' → ElementFollows o n verb path (struct i) (struct j) → shape_words g ≤ shape_words g' → (t t' : Tree) → Alike t t'
+    struct_lists : (i j k : ℕ) (g g' : Shape) → o.shape_of i ≡ g → n.shape_of j ≡ g' → ElementFollows o n verb path (struct i) (struct j) → words_of_shape g ≤ words_of_shape g' → (t t' : Tree) → Alike t t'
         → WritesList o verb path k (struct i) t → WritesList n verb path k (struct j) t'
         → Alike (edit_list (edit_element o path verb (struct i)) k (widened_list g t)) (edit_list (edit_element n path verb (struct j)) k (widened_list g' t'))
     struct_lists i j k (shape nid w p u fs) (shape nid' w' p' u' fs') e e' follows le (plain_list z m x) t' a h h' =
         let is : t' ≡ plain_list z m x = plain-like z m x t' a in
         let there : WritesList n verb path k (struct j) (plain_list z m x) = subst (λ y. WritesList n verb path k (struct j) y) is h' in
-        let words : shape_words (o.shape_of i) ≡ w = ap shape_words e in
+        let words : words_of_shape (o.shape_of i) ≡ w = ap words_of_shape e in
         subst (λ y. Alike (edit_list (edit_element o path verb (struct i)) k (widened_list (shape nid w p u fs) (plain_list z m x))) (edit_list (edit_element n path verb (struct j)) k (widened_list (shape nid' w' p' u' fs') y))) (sym is)
         (widened-plain (WritesElement o verb path (struct i)) (WritesElement n verb path (struct j)) (element_bits o (struct i)) (edit_element o path verb (struct i)) (edit_element n path verb (struct j)) (agree (struct i) (struct j) (related_struct tt) follows) k w w' p p' z m x (omega arith) le
         (at-plain-element o verb path (struct i) (size_bits z) p k _ h.1) (at-plain-element n verb path (struct j) (size_bits z) p' k _ there.1))
@@ -169,14 +169,14 @@ module _ (o n : Schema) (verb : Verb) (whole : IsWholeVerb verb) where
       where
         by : (t' : Tree) → IsPointersLike ts t' → WritesList n verb path k (struct j) t' → Alike (edit_list (edit_element o path verb (struct i)) k (widened_list (shape nid w p u fs) (pointer_list ts))) (edit_list (edit_element n path verb (struct j)) k (widened_list (shape nid' w' p' u' fs') t'))
         by t' (pointers_like us s) h' =
-            let words : shape_words (o.shape_of i) ≡ w = ap shape_words e in
+            let words : words_of_shape (o.shape_of i) ≡ w = ap words_of_shape e in
             widened-pointers (WritesElement o verb path (struct i)) (WritesElement n verb path (struct j)) (element_bits o (struct i)) (edit_element o path verb (struct i)) (edit_element n path verb (struct j)) (agree (struct i) (struct j) (related_struct tt) follows) k w w' p p' ts us (omega arith) le s
             (at-pointer-element o verb path (struct i) p k ts h.1) (at-pointer-element n verb path (struct j) p' k us h'.1)
     struct_lists i j k (shape nid w p u fs) (shape nid' w' p' u' fs') e e' follows le (struct_list x y es) t' a h h' = by t' (list-like x y es t' a) h'
       where
         by : (t' : Tree) → IsListLike x es t' → WritesList n verb path k (struct j) t' → Alike (edit_list (edit_element o path verb (struct i)) k (widened_list (shape nid w p u fs) (struct_list x y es))) (edit_list (edit_element n path verb (struct j)) k (widened_list (shape nid' w' p' u' fs') t'))
         by t' (list_like v q es' s c d) h' =
-            let words : shape_words (o.shape_of i) ≡ w = ap shape_words e in
+            let words : words_of_shape (o.shape_of i) ≡ w = ap words_of_shape e in
             widened-structs (WritesElement o verb path (struct i)) (WritesElement n verb path (struct j)) (element_bits o (struct i)) (edit_element o path verb (struct i)) (edit_element n path verb (struct j)) (agree (struct i) (struct j) (related_struct tt) follows) k w w' p p' x y v q es es' (omega arith) le s c d
             (at-padded-element o verb path (struct i) p k es h.1) (at-padded-element n verb path (struct j) p' k es' h'.1)
     struct_lists i j k g g' e e' follows le null t' a h h' = absurd h
@@ -316,9 +316,9 @@ module _ (o n : Schema) (verb : Verb) (whole : IsWholeVerb verb) where
         (subst (λ z. Agree bits c (put_child 0 (edit_value o st (edit_field o path verb) (edit_element o path verb) ty (opened_tree ty null (child c.kids 0))) c) (put_child 0 (edit_value n st (edit_field n path verb) (edit_element n path verb) ty' z) d)) (opened_null ty' (child d.kids 0))
         (at_pointer st bits 0 ty ty' null r tt follows c d s k k'))
 
-    struct_element : (l : List ℕ) (i j : ℕ) (g g' : Shape) → o.shape_of i ≡ g → n.shape_of j ≡ g' → NameFollows o n verb (FieldFollows o n verb path) l (64 * shape_words g) g g' → (c d : Cell) → SameCell c d
+    struct_element : (l : List ℕ) (i j : ℕ) (g g' : Shape) → o.shape_of i ≡ g → n.shape_of j ≡ g' → NameFollows o n verb (FieldFollows o n verb path) l (64 * words_of_shape g) g g' → (c d : Cell) → SameCell c d
         → WritesName o verb path l g c → WritesName n verb path l g' d
-        → Agree (64 * shape_words g) c (elim g as (λ (x : Shape). Cell) [ shape nid w p union fs ↦ edit_named (edit_field o path verb) l union fs c ]) (elim g' as (λ (x : Shape). Cell) [ shape nid w p union fs ↦ edit_named (edit_field n path verb) l union fs d ])
+        → Agree (64 * words_of_shape g) c (elim g as (λ (x : Shape). Cell) [ shape nid w p union fs ↦ edit_named (edit_field o path verb) l union fs c ]) (elim g' as (λ (x : Shape). Cell) [ shape nid w p union fs ↦ edit_named (edit_field n path verb) l union fs d ])
     struct_element l i j (shape nid w p u fs) (shape nid' w' p' u' fs') e e' follows c d s k k' = named l (64 * w) nid w p nid' w' p' u u' fs fs' follows c d s k k'
 
     no_element_name : (s : Schema) (l : List ℕ) (ty : Ty) (c : Cell) → ((id : ℕ) → ty ≡ struct id → ⊥) → WritesElement s verb (name l ∷ path) ty c → ⊥
@@ -365,7 +365,7 @@ module _ (o n : Schema) (verb : Verb) (whole : IsWholeVerb verb) where
     elements_agree (st ∷ path) = through_element_agrees path (fields_agree path) (elements_agree path) st
 
   -- and from the root on
-  pub structs_agree : (path : List Step) (l : List ℕ) (i j : ℕ) → NameFollows o n verb (FieldFollows o n verb path) l (64 * shape_words (o.shape_of i)) (o.shape_of i) (n.shape_of j) → shape_words (o.shape_of i) ≤ shape_words (n.shape_of j)
+  pub structs_agree : (path : List Step) (l : List ℕ) (i j : ℕ) → NameFollows o n verb (FieldFollows o n verb path) l (64 * words_of_shape (o.shape_of i)) (o.shape_of i) (n.shape_of j) → words_of_shape (o.shape_of i) ≤ words_of_shape (n.shape_of j)
       → (t t' : Tree) → Alike t t' → WritesStruct o verb path l i t → WritesStruct n verb path l j t'
       → Alike (edit_struct (edit_field o path verb) l (o.shape_of i) t) (edit_struct (edit_field n path verb) l (n.shape_of j) t')
   structs_agree path l i j follows le t t' a k k' = into_structs path (fields_agree path) (elements_agree path) l i j (o.shape_of i) (n.shape_of j) refl refl follows le t t' a k k'

@@ -4,7 +4,7 @@ use Rattle.std.specs.List.{AllByRecursion}
 use Rattle.std.proofs.lemmas.Nat.{pow_pos}
 use lib.Bits.{bit_xor, xor_lt}
 use Rattle.capnp_model.specs.Trees.{Tree, null, capability, structure, plain_list, pointer_list, struct_list, child, tree_count}
-use Rattle.capnp_model.specs.Schemas.{PlainType, width, Ty, void, plain, text, blob, untyped, interface, struct, list, Shape, shape, Fields, no_fields, field, Body, void_slot, plain_slot, pointer_slot, group_slot, Schema, default_or_null}
+use Rattle.capnp_model.specs.Schemas.{PlainType, width, Ty, void, plain, text, blob, untyped, interface, struct, list, Shape, shape, Fields, no_fields, field, Body, void_slot, plain_slot, pointer_slot, group_slot, Schema, default_or_null, words_of_shape, pointers_of_shape}
 use Rattle.capnp_model.specs.Readings.{discriminant, whole_words, field_bits}
 use Rattle.capnp_model.specs.Calls.{whole_number, truth, enumerant, text_value, blob_value, message, Verb, get, set_to, init, initn, clear, Content, refused_by, bits_of, object, plain_content, struct_content, message_root, slot_content, element_content}
 use Rattle.capnp_model.specs.Groups.{empty_tree, source_tree}
@@ -14,15 +14,15 @@ use Rattle.capnp_model.proofs.lemmas.Bounds.{with_bits_lt}
 use Rattle.capnp_model.proofs.lemmas.Stripping.{count-resized}
 use Rattle.capnp_model.proofs.lemmas.SoundShapes.{FitsSlot}
 use Rattle.capnp_model.proofs.lemmas.FitCalls.{IsGoodSlot, contents_fit}
-use Rattle.capnp_versions.proofs.SameContents.{shape_words, IsWrite}
-use Rattle.capnp_versions.proofs.FittingParts.{Lengths, FitsBy, AllFitBy, SpelledBy, count-with, all-with, all-resized, child-fits, UnionFits, MemberFits, ShapeFits, FieldsFit, BodyFits, pointers_of_shape, SchemaFits}
+use Rattle.capnp_versions.proofs.SameContents.{IsWrite}
+use Rattle.capnp_versions.proofs.FittingParts.{Lengths, FitsBy, AllFitBy, SpelledBy, count-with, all-with, all-resized, child-fits, UnionFits, MemberFits, ShapeFits, FieldsFit, BodyFits, SchemaFits}
 use Rattle.capnp_versions.proofs.FittingContents.{ContentFits, blob-fits, text-fits, root-fits, new-list-fits, slot-content}
 
 -- an element has room for its type
 abbrev pub Room : Schema → ℕ → ℕ → Ty → Type 0
 Room s w q void = Unit {0}
 Room s w q (plain p) = width p ≤ 64 * w
-Room s w q (struct id) = (shape_words (s.shape_of id) ≤ w) × (pointers_of_shape (s.shape_of id) ≤ q)
+Room s w q (struct id) = (words_of_shape (s.shape_of id) ≤ w) × (pointers_of_shape (s.shape_of id) ≤ q)
 Room s w q ty = 0 < q
 
 -- what is put into an element is of its type

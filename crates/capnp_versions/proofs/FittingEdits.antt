@@ -3,7 +3,7 @@ use Rattle.std.proofs.Common.{◌≡◌, ℕ, ◌*◌, ◌≤◌, max, Bool, tru
 use Rattle.std.specs.Str.{bytes_eq}
 use Rattle.std.proofs.lemmas.Nat.{pow_pos}
 use Rattle.capnp_model.specs.Trees.{Tree, null, capability, structure, plain_list, pointer_list, struct_list, none, child, resized, padded_to, plain_elements, size_bits, tree_count}
-use Rattle.capnp_model.specs.Schemas.{Ty, void, plain, text, blob, untyped, interface, struct, list, Shape, shape, Fields, no_fields, field, Body, void_slot, plain_slot, pointer_slot, group_slot, Schema, default_or_null}
+use Rattle.capnp_model.specs.Schemas.{Ty, void, plain, text, blob, untyped, interface, struct, list, Shape, shape, Fields, no_fields, field, Body, void_slot, plain_slot, pointer_slot, group_slot, Schema, default_or_null, words_of_shape, pointers_of_shape}
 use Rattle.capnp_model.specs.Readings.{Reading, Record, record_as, whole_words, only_if, body_of, element_as, read, read_child, record_by_shape, no_children}
 use Rattle.capnp_model.specs.Calls.{Step, name, index, Verb, element_content}
 use Rattle.capnp_model.specs.Steps.{target, target_if, target_of, on_name, step_path, step_field, step_element, through_value, through_field, opened}
@@ -17,8 +17,7 @@ use Rattle.capnp_model.proofs.lemmas.FittingValues.{count-padded_to}
 use Rattle.capnp_versions.proofs.WroteLists.{at-plain-element, at-child, at-pointer-element, at-element, at-padded-element}
 use Rattle.capnp_versions.proofs.Wrote.{Wrote, wrote-map, field-is-write, element-is-write, WritesField, WritesElement, WritesName, FoundName, found_name, find_name, WritesStruct, into_struct, WritesList, into_list, no-name, no-index, through-pointer, reads-padded, reads-nothing}
 use Rattle.capnp_versions.proofs.Within.{AllNarrow}
-use Rattle.capnp_versions.proofs.SameContents.{shape_words}
-use Rattle.capnp_versions.proofs.FittingParts.{Lengths, FitsBy, SpelledBy, all-padded, child-fits, UnionFits, MemberFits, ShapeFits, FieldsFit, BodyFits, pointers_of_shape, StructFits, SchemaFits, shape-wider}
+use Rattle.capnp_versions.proofs.FittingParts.{Lengths, FitsBy, SpelledBy, all-padded, child-fits, UnionFits, MemberFits, ShapeFits, FieldsFit, BodyFits, StructFits, SchemaFits, shape-wider}
 use Rattle.capnp_versions.proofs.FittingContents.{nulls-fit, element-content}
 use Rattle.capnp_versions.proofs.FittingCells.{Good, put-child-keeps, mark-keeps, in-range, field-put, Room, element-ok, element-put}
 use Rattle.capnp_versions.proofs.FittingLists.{count-on-elements, count-on-pointers, widened-list-fits, plain-list-fits, elements-keep, pointers-keep, NoStruct, pointer-room, struct-room}
@@ -82,7 +81,7 @@ module _ (L : Lengths) where
       struct-fits l id t h write = struct-by l (s.shape_of id) (fits id) t h write.open' write.wrote
 
       -- an element of a list of structs of larger sizes
-      wider-room : (id w q : ℕ) → shape_words (s.shape_of id) ≤ w → pointers_of_shape (s.shape_of id) ≤ q → Room s w q (struct id)
+      wider-room : (id w q : ℕ) → words_of_shape (s.shape_of id) ≤ w → pointers_of_shape (s.shape_of id) ≤ q → Room s w q (struct id)
       wider-room id w q a b = (a, b)
 
       structs-by : (k id : ℕ) (g : Shape) → s.shape_of id ≡ g → StructFits L g → (t : Tree) → FitsBy L t → WritesList s verb path k (struct id) t → FitsBy L (edit_list (edit_element s path verb (struct id)) k (widened_list g t))
@@ -183,7 +182,7 @@ module _ (L : Lengths) where
       list-element : (i : ℕ) (ty : Ty) (t : Tree) → AllNarrow ty → FitsBy L t → Wrote (through_value s (index i) (step_field s path verb) (step_element s path verb) (list ty) (opened s (list ty) null (read s t (list ty)))) → FitsBy L (edit_value s (index i) (edit_field s path verb) (edit_element s path verb) (list ty) t)
       list-element i ty t narrow h write = subst (λ z. FitsBy L (edit_value s (index i) (edit_field s path verb) (edit_element s path verb) (list ty) z)) (opened_null (list ty) t) (value-fits (index i) (list ty) null t narrow tt h write)
 
-      named-element : (l : List ℕ) (g : Shape) (w q : ℕ) (c : Cell) → StructFits L g → shape_words g ≤ w → pointers_of_shape g ≤ q → WritesName s verb path l g c → Good L w q c → Good L w q (elim g as (λ x. Cell) [ shape nid x y u fs ↦ edit_named (edit_field s path verb) l u fs c ])
+      named-element : (l : List ℕ) (g : Shape) (w q : ℕ) (c : Cell) → StructFits L g → words_of_shape g ≤ w → pointers_of_shape g ≤ q → WritesName s verb path l g c → Good L w q c → Good L w q (elim g as (λ x. Cell) [ shape nid x y u fs ↦ edit_named (edit_field s path verb) l u fs c ])
       named-element l (shape nid x y u fs) w q c g a b write good = name-keeps l nid x y w q u fs c (shape-wider L x y w q (shape nid x y u fs) a b g.inside) write good
 
       through-element : (st : Step) (ty : Ty) (w q : ℕ) (c : Cell) → AllNarrow ty → Room s w q ty → WritesElement s verb (st ∷ path) ty c → Good L w q c → Good L w q (edit_through_element s st (edit_field s path verb) (edit_element s path verb) ty c)

@@ -1,11 +1,10 @@
 -- Values that fit by parts, and schemas whose slots lie in their sections.
 use Rattle.std.proofs.Common.{length, ◌≡◌, ℕ, zero, suc, ◌+◌, ◌*◌, ◌^◌, ◌<◌, ◌≤◌, max, Option, Some, None, refl, ◌∙◌, ap, arith}
 use Rattle.capnp_model.specs.Trees.{size_bits, element_count, Tree, null, capability, structure, plain_list, pointer_list, struct_list, Trees, none, ◌▸◌, Elements, no_elements, element, child, with_child, resized, padded_to, tree_count}
-use Rattle.capnp_model.specs.Schemas.{width, Shape, shape, Fields, no_fields, field, Body, void_slot, plain_slot, pointer_slot, group_slot, Schema, default_or_null}
+use Rattle.capnp_model.specs.Schemas.{width, Shape, shape, Fields, no_fields, field, Body, void_slot, plain_slot, pointer_slot, group_slot, Schema, default_or_null, words_of_shape, pointers_of_shape}
 use Rattle.capnp_model.specs.Calls.{Verb, set_to, initn, enumerant, text_value, blob_value, message}
 use Rattle.capnp_model.specs.Fits.{Fits, FitEach, FitElements}
 use Rattle.capnp_model.proofs.lemmas.FitCalls.{IsPointer}
-use Rattle.capnp_versions.proofs.SameContents.{shape_words}
 use Rattle.capnp_versions.proofs.Within.{AllNarrow}
 use Rattle.capnp_versions.specs.Fitting.{NumbersFit, AllNumbersFit, ElementNumbersFit, HasShortLists, AllHaveShortLists, ElementsHaveShortLists}
 
@@ -159,13 +158,10 @@ abbrev mutual
   BodyFits L words pointers (pointer_slot i ty d) = (i < pointers) × AllNarrow ty × FitsBy L (default_or_null d) × IsPointer ty
   BodyFits L words pointers (group_slot g) = ShapeFits L words pointers g
 
-abbrev pub pointers_of_shape : Shape → ℕ
-pointers_of_shape (shape nid w p u fs) = p
-
 pub record StructFits (L : Lengths) (g : Shape) : Type 0 where
-  pub words : shape_words g < 2 ^ 16
+  pub words : words_of_shape g < 2 ^ 16
   pub pointers : pointers_of_shape g < 2 ^ 16
-  pub inside : ShapeFits L (shape_words g) (pointers_of_shape g) g
+  pub inside : ShapeFits L (words_of_shape g) (pointers_of_shape g) g
 
 abbrev pub SchemaFits : Lengths → Schema → Type 0
 SchemaFits L s = (id : ℕ) → StructFits L (s.shape_of id)

@@ -4,7 +4,7 @@ use Rattle.std.specs.List.{list_all, list_any, flat_map, AllByRecursion}
 use Rattle.std.proofs.lemmas.Bool.{or_left, or_right}
 use Rattle.std.proofs.lemmas.List.Folds.{list_any-append}
 use Rattle.capnp_model.specs.Trees.{Tree, null, capability, structure, plain_list, pointer_list, struct_list}
-use Rattle.capnp_model.specs.Schemas.{Ty, void, plain, text, blob, untyped, interface, struct, list, type_of, Value, FieldKind, slot, group, Field, StructNode, NodeKind, struct_node, enum_node, Node, Shape, shape, Fields, no_fields, field, Body, void_slot, plain_slot, pointer_slot, group_slot, Schema, default_or_null}
+use Rattle.capnp_model.specs.Schemas.{Ty, void, plain, text, blob, untyped, interface, struct, list, type_of, Value, FieldKind, slot, group, Field, StructNode, NodeKind, struct_node, enum_node, Node, Shape, shape, Fields, no_fields, field, Body, void_slot, plain_slot, pointer_slot, group_slot, Schema, default_or_null, words_of_shape, pointers_of_shape}
 use Rattle.capnp_model.specs.Readings.{Record, record_of, record_by_shape}
 use Rattle.capnp_model.specs.Printing.{fields_in}
 use Rattle.capnp_model.specs.Accepted.{find_node, fields_of_kind, groups_of_field, sizes_of, slot_body, field_body, fields_from, union_place, no_shape, shape_of_node, shape_in, schema_of, is_inside, has_its_place, has_places, on_struct, IsAccepted}
@@ -18,12 +18,11 @@ use Rattle.capnp_model.proofs.lemmas.FineShapes.{IsGoodMember, IsGood, AreGood, 
 use Rattle.capnp_model.proofs.lemmas.SoundRules.{RulesKept, rules_kept, good_shape}
 use Rattle.capnp_model.proofs.lemmas.Tests.{lt_is, and_left, and_right}
 use Rattle.capnp_versions.specs.Fitting.{HasShortLists, IsSpelledVerb, HasSmallSections, HaveSmallSections, AreSpelled}
-use Rattle.capnp_versions.proofs.SameContents.{shape_words}
 use Rattle.capnp_versions.proofs.SameShapes.{UnionWithin}
 use Rattle.capnp_versions.proofs.Holders.{PlacesKept, places_kept, uses, group_fits}
 use Rattle.capnp_versions.proofs.Within.{FitsDefault, IsWithin, AreWithin, BodyWithin, shape-within}
 use Rattle.capnp_versions.proofs.Wrote.{Wrote}
-use Rattle.capnp_versions.proofs.FittingParts.{Lengths, any_lengths, FitsBy, SpelledBy, of-any, numbers-of, fits-by-parts, UnionFits, MemberFits, ShapeFits, FieldsFit, BodyFits, pointers_of_shape, SchemaFits}
+use Rattle.capnp_versions.proofs.FittingParts.{Lengths, any_lengths, FitsBy, SpelledBy, of-any, numbers-of, fits-by-parts, UnionFits, MemberFits, ShapeFits, FieldsFit, BodyFits, SchemaFits}
 use Rattle.capnp_versions.proofs.FittingEdits.{written-fits}
 
 -- ---- pointers
@@ -146,16 +145,16 @@ module _ (L : Lengths) where
         by true more x = let is : m ≡ n = cc in subst (λ (z : Node). HasSmallSections z.kind) is h.0
         by false more x = more x
 
-    node_small : (groups : ℕ → Shape) (o : Option Node) → ((n : Node) → o ≡ Some n → HasSmallSections n.kind) → (shape_words (shape_of_node groups o) < 2 ^ 16) × (pointers_of_shape (shape_of_node groups o) < 2 ^ 16)
+    node_small : (groups : ℕ → Shape) (o : Option Node) → ((n : Node) → o ≡ Some n → HasSmallSections n.kind) → (words_of_shape (shape_of_node groups o) < 2 ^ 16) × (pointers_of_shape (shape_of_node groups o) < 2 ^ 16)
     node_small groups None h = (omega arith, omega arith)
     node_small groups (Some n) h = by n.kind (h n refl)
       where
-        by : (k : NodeKind) → HasSmallSections k → (shape_words (elim k as (λ (x : NodeKind). Shape) [ struct_node s ↦ shape n.id s.words s.pointers (union_place s) (fields_from groups s.fields) | enum_node es ↦ no_shape ]) < 2 ^ 16)
+        by : (k : NodeKind) → HasSmallSections k → (words_of_shape (elim k as (λ (x : NodeKind). Shape) [ struct_node s ↦ shape n.id s.words s.pointers (union_place s) (fields_from groups s.fields) | enum_node es ↦ no_shape ]) < 2 ^ 16)
             × (pointers_of_shape (elim k as (λ (x : NodeKind). Shape) [ struct_node s ↦ shape n.id s.words s.pointers (union_place s) (fields_from groups s.fields) | enum_node es ↦ no_shape ]) < 2 ^ 16)
         by (struct_node s) g = g
         by (enum_node es) g = (omega arith, omega arith)
 
-    shape_small : (levels id : ℕ) → (shape_words (shape_in nodes levels id) < 2 ^ 16) × (pointers_of_shape (shape_in nodes levels id) < 2 ^ 16)
+    shape_small : (levels id : ℕ) → (words_of_shape (shape_in nodes levels id) < 2 ^ 16) × (pointers_of_shape (shape_in nodes levels id) < 2 ^ 16)
     unfolding shape_in
     shape_small zero id = (omega arith, omega arith)
     shape_small (suc levels) id = node_small (λ g. shape_in nodes levels g) (find_node nodes id) (λ n e. found_small nodes small id n e)
@@ -170,8 +169,8 @@ module _ (L : Lengths) where
         record {
           words = sizes.0;
           pointers = sizes.1;
-          inside = both-fit (schema_of nodes) (shape_words g) (pointers_of_shape g) g
-              (shape-within nodes r q (length nodes) id (64 * shape_words g) (omega arith)) (good_shape nodes r (length nodes) id) (shape_pointers nodes r q (length nodes) id (pointers_of_shape g) (omega arith));
+          inside = both-fit (schema_of nodes) (words_of_shape g) (pointers_of_shape g) g
+              (shape-within nodes r q (length nodes) id (64 * words_of_shape g) (omega arith)) (good_shape nodes r (length nodes) id) (shape_pointers nodes r q (length nodes) id (pointers_of_shape g) (omega arith));
         }
 
     written-numbers : (id : ℕ) (path : List Step) (verb : Verb) → SpelledBy L verb → (t : Tree) → FitsBy L t

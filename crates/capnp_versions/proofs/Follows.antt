@@ -1,13 +1,12 @@
 -- What two schemas must have in common along a path, so that a call does the same under both.
 use Rattle.std.proofs.Common.{◌≡◌, ℕ, ◌+◌, ◌*◌, ◌^◌, ◌<◌, ◌≤◌, true, false, ◌&&◌, List, [], ◌∷◌, Option, Some, None}
 use Rattle.capnp_model.specs.Trees.{Tree}
-use Rattle.capnp_model.specs.Schemas.{width, Ty, plain, struct, list, Shape, shape, Body, void_slot, plain_slot, pointer_slot, group_slot, Schema, default_or_null}
+use Rattle.capnp_model.specs.Schemas.{width, Ty, plain, struct, list, Shape, shape, Body, void_slot, plain_slot, pointer_slot, group_slot, Schema, default_or_null, words_of_shape}
 use Rattle.capnp_model.specs.Calls.{Step, name, index, Verb}
 use Rattle.capnp_model.specs.Steps.{target, target_of}
 use Rattle.capnp_model.specs.Admitted.{is_group_write, is_set, is_struct_type}
 use Rattle.capnp_versions.specs.Whole.{IsWhole}
 use Rattle.capnp_versions.proofs.SameShapes.{SameType, SameBody}
-use Rattle.capnp_versions.proofs.SameContents.{shape_words}
 
 -- The same mark of a union in both, or none.
 abbrev pub SameMark : ℕ → Option ℕ → Option ℕ → Option ℕ → Option ℕ → Type 0
@@ -23,7 +22,7 @@ IsNarrow ty = Unit {0}
 module _ (o n : Schema) (verb : Verb) where
   -- the newer struct has no fewer words
   abbrev pub HasWords : Ty → Ty → Type 0
-  HasWords (struct i) (struct j) = shape_words (o.shape_of i) ≤ shape_words (n.shape_of j)
+  HasWords (struct i) (struct j) = words_of_shape (o.shape_of i) ≤ words_of_shape (n.shape_of j)
   HasWords ty ty' = Unit {0}
 
   -- at the field of a name
@@ -33,7 +32,7 @@ module _ (o n : Schema) (verb : Verb) where
 
   -- behind a pointer
   abbrev pub ValueFollows : Step → (ℕ → Body → Body → Type 0) → (Ty → Ty → Type 0) → Ty → Ty → Type 0
-  ValueFollows (name l) F E (struct i) (struct j) = NameFollows F l (64 * shape_words (o.shape_of i)) (o.shape_of i) (n.shape_of j) × HasWords (struct i) (struct j)
+  ValueFollows (name l) F E (struct i) (struct j) = NameFollows F l (64 * words_of_shape (o.shape_of i)) (o.shape_of i) (n.shape_of j) × HasWords (struct i) (struct j)
   ValueFollows (index k) F E (list ty) (list ty') = E ty ty' × HasWords ty ty' × IsNarrow ty
   ValueFollows st F E ty ty' = Unit {0}
 

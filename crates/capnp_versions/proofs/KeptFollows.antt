@@ -4,7 +4,7 @@ use Rattle.std.specs.Str.{bytes_eq}
 use Rattle.std.proofs.lemmas.Slice.Eq.{bytes_eq-Decides}
 use Rattle.capnp_model.specs.Trees.{Tree}
 use Rattle.capnp_model.specs.Encoding.{canonical_words}
-use Rattle.capnp_model.specs.Schemas.{Ty, struct, list, Shape, shape, Fields, no_fields, field, Body, void_slot, plain_slot, pointer_slot, group_slot, Schema, default_or_null}
+use Rattle.capnp_model.specs.Schemas.{Ty, struct, list, Shape, shape, Fields, no_fields, field, Body, void_slot, plain_slot, pointer_slot, group_slot, Schema, default_or_null, words_of_shape}
 use Rattle.capnp_model.specs.Printing.{fields_in}
 use Rattle.capnp_model.specs.Calls.{Step, name, index, Verb}
 use Rattle.capnp_model.specs.Steps.{Target, no_target, target, target_if, target_of}
@@ -17,7 +17,6 @@ use Rattle.capnp_model.proofs.lemmas.FineShapes.{HasUnion, IsGoodMember, IsNewNa
 use Rattle.capnp_model.proofs.lemmas.RoundTrip.{enc_is}
 use Rattle.capnp_model.proofs.lemmas.Tests.{same_number, le_is, and_right, neither}
 use Rattle.capnp_versions.proofs.SameShapes.{UnionWithin, AnyPair, SameShape, same_shape, SameFields, same_none, same_field, SameBody, same_void, same_plain', same_pointer, same_group}
-use Rattle.capnp_versions.proofs.SameContents.{shape_words}
 use Rattle.capnp_versions.proofs.RelatedTypes.{plain_is, related-by}
 use Rattle.capnp_versions.proofs.Follows.{SameMark, HasWords, NameFollows, ValueFollows, PointerFollows, FieldFollows, ElementFollows}
 use Rattle.capnp_versions.proofs.Within.{FitsDefault, AllNarrow, HasMember, IsWithin, AreWithin, BodyWithin}
@@ -171,7 +170,7 @@ module _ (o n : Schema) (pairs : Pairs) where
   not_set true false h = refl
   not_set true true h = absurd (cc h)
 
-  pub words_kept : (g g' : Shape) → keeps o n pairs g g' ≡ true → shape_words g ≤ shape_words g'
+  pub words_kept : (g g' : Shape) → keeps o n pairs g g' ≡ true → words_of_shape g ≤ words_of_shape g'
   unfolding keeps
   words_kept (shape nid w p u fs) (shape nid' w' p' u' fs') h = le_is w w' (and_four (nat_le w w') (nat_le p p') (keeps_union u u') (keeps_fields o n pairs (member_count fs) fs fs') h).0
 
@@ -191,7 +190,7 @@ module _ (o n : Schema) (pairs : Pairs) where
   all_newer bits u (field l m b fs) h k = ((h.0, k.3), all_newer bits u fs h.1 k.4)
 
   module _ (verb : Verb) (closed : (i j : ℕ) → has_pair pairs i j ≡ true → keeps o n pairs (o.shape_of i) (n.shape_of j) ≡ true)
-      (within : (id : ℕ) → IsWithin (64 * shape_words (o.shape_of id)) (o.shape_of id)) (within' : (id : ℕ) → IsWithin (64 * shape_words (n.shape_of id)) (n.shape_of id))
+      (within : (id : ℕ) → IsWithin (64 * words_of_shape (o.shape_of id)) (o.shape_of id)) (within' : (id : ℕ) → IsWithin (64 * words_of_shape (n.shape_of id)) (n.shape_of id))
       (good : (id : ℕ) → IsGood o (o.shape_of id)) (good' : (id : ℕ) → IsGood n (n.shape_of id)) where
     abbrev FieldKept : List Step → Type 0
     FieldKept path =
@@ -218,9 +217,9 @@ module _ (o n : Schema) (pairs : Pairs) where
           (subst (λ z. SameMark bits u m u' z) both.0 (marks_same bits u u' m four.2 x.0 older.0), fields bits bits' b b' both.1 admitted older.1 newer.0 older.2 newer.1)
 
       struct_kept : (l : List ℕ) (i j : ℕ) → has_pair pairs i j ≡ true → into_fields l (fields_in (o.shape_of i)) (fields_in (n.shape_of j)) go ≡ true
-          → NameFollows o n verb (FieldFollows o n verb path) l (64 * shape_words (o.shape_of i)) (o.shape_of i) (n.shape_of j) × HasWords o n verb (struct i) (struct j)
+          → NameFollows o n verb (FieldFollows o n verb path) l (64 * words_of_shape (o.shape_of i)) (o.shape_of i) (n.shape_of j) × HasWords o n verb (struct i) (struct j)
       struct_kept l i j h k =
-          (name_kept l (64 * shape_words (o.shape_of i)) (64 * shape_words (n.shape_of j)) (o.shape_of i) (n.shape_of j) (closed i j h) k (within i) (within' j) (good i) (good' j), words_kept (o.shape_of i) (n.shape_of j) (closed i j h))
+          (name_kept l (64 * words_of_shape (o.shape_of i)) (64 * words_of_shape (n.shape_of j)) (o.shape_of i) (n.shape_of j) (closed i j h) k (within i) (within' j) (good i) (good' j), words_kept (o.shape_of i) (n.shape_of j) (closed i j h))
 
       value_kept : (st : Step) (ty ty' : Ty) → related o n pairs ty ty' ≡ true → into_type o n st ty ty' go ≡ true → AllNarrow ty → ValueFollows o n verb st (FieldFollows o n verb path) (ElementFollows o n verb path) ty ty'
       value_kept (name l) (struct i) (struct j) h k x = struct_kept l i j h k
@@ -281,6 +280,6 @@ module _ (o n : Schema) (pairs : Pairs) where
 
     -- THE LAW
     pub root-kept : (path : List Step) (l : List ℕ) (i j : ℕ) → has_pair pairs i j ≡ true → is_admitted_from o n (name l ∷ path) verb (at_element (struct i) (struct j)) ≡ true
-        → NameFollows o n verb (FieldFollows o n verb path) l (64 * shape_words (o.shape_of i)) (o.shape_of i) (n.shape_of j) × HasWords o n verb (struct i) (struct j)
+        → NameFollows o n verb (FieldFollows o n verb path) l (64 * words_of_shape (o.shape_of i)) (o.shape_of i) (n.shape_of j) × HasWords o n verb (struct i) (struct j)
     unfolding is_admitted_from
     root-kept path l i j h k = struct_kept path (field-kept path) (element-kept path) l i j h k

@@ -2,7 +2,7 @@
 use Rattle.std.proofs.Common.{◌≡◌, ℕ, zero, suc, ◌*◌, ◌==◌, nat_le, Bool, true, false, List, [], ◌∷◌, Option, Some, None, refl, sym, ◌∙◌, ap}
 use Rattle.std.specs.Str.{bytes_eq}
 use Rattle.capnp_model.specs.Trees.{Tree, null}
-use Rattle.capnp_model.specs.Schemas.{PlainType, Ty, void, plain, text, blob, untyped, interface, struct, list, Shape, shape, Fields, no_fields, field, Body, void_slot, plain_slot, pointer_slot, group_slot, Schema, default_or_null}
+use Rattle.capnp_model.specs.Schemas.{PlainType, Ty, void, plain, text, blob, untyped, interface, struct, list, Shape, shape, Fields, no_fields, field, Body, void_slot, plain_slot, pointer_slot, group_slot, Schema, default_or_null, words_of_shape}
 use Rattle.capnp_model.specs.Readings.{Reading, inactive, null_pointer, fault, number, text_of, blob_of, list_of, record_as, opaque, Readings, no_readings, ◌▹◌, Record, no_children, Extent, whole_words, discriminant, is_active, only_if, shape_record, fields_of, body_of, element_as, read}
 use Rattle.capnp_model.specs.Printing.{As, as_type, as_body, as_group, fields_in}
 use Rattle.capnp_model.specs.Projection.{project, project_items, project_fields}
@@ -17,7 +17,6 @@ use Rattle.capnp_model.proofs.lemmas.OlderReading.{SamePlain, Related, related_v
 use Rattle.capnp_model.proofs.lemmas.Paths.{entry_of-fields_of}
 use Rattle.capnp_versions.proofs.SameShapes.{SameShape, SameBody, same_group}
 use Rattle.capnp_versions.specs.SameReplies.{IsWrite}
-use Rattle.capnp_versions.proofs.SameContents.{shape_words}
 use Rattle.capnp_versions.proofs.Within.{FitsDefault, IsWithin, BodyWithin}
 use Rattle.capnp_versions.proofs.SelfFollows.{all-found}
 use Rattle.capnp_versions.proofs.SeenValues.{kids_of, SeenStruct, seen_struct, seen_fault, SeenItem, seen_item, SeenItems, SeenList, seen_list, seen_no_list, opened-struct-seen, opened-list-seen}
@@ -47,7 +46,7 @@ new_if_not_found l (field k m b fs) e = by (bytes_eq k l) refl (new_if_not_found
 -- ---- steps
 
 module _ (o n : Schema) (pairs : Pairs) (verb : Verb) (write : IsWrite verb) (closed : (i j : ℕ) → has_pair pairs i j ≡ true → keeps o n pairs (o.shape_of i) (n.shape_of j) ≡ true)
-    (within : (id : ℕ) → IsWithin (64 * shape_words (o.shape_of id)) (o.shape_of id)) (within' : (id : ℕ) → IsWithin (64 * shape_words (n.shape_of id)) (n.shape_of id))
+    (within : (id : ℕ) → IsWithin (64 * words_of_shape (o.shape_of id)) (o.shape_of id)) (within' : (id : ℕ) → IsWithin (64 * words_of_shape (n.shape_of id)) (n.shape_of id))
     (good : (id : ℕ) → IsGood o (o.shape_of id)) (good' : (id : ℕ) → IsGood n (n.shape_of id)) where
   abbrev R : ℕ → ℕ → Type 0
   R i j = HasPair o n pairs i j
@@ -214,7 +213,7 @@ module _ (o n : Schema) (pairs : Pairs) (verb : Verb) (write : IsWrite verb) (cl
     struct_name l i j d z h k (seen_fault x) = refl
     struct_name l i j d z h k (seen_struct size section f) =
         let r : Record = shape_record (n.shape_of j) size section (kids_of n f) in
-        ap (outcome_map record_as) (name_view l (64 * shape_words (o.shape_of i)) (64 * shape_words (n.shape_of j)) (o.shape_of i) (n.shape_of j) (closed i j h) k (within i) (within' j) (good i) (good' j) size section f)
+        ap (outcome_map record_as) (name_view l (64 * words_of_shape (o.shape_of i)) (64 * words_of_shape (n.shape_of j)) (o.shape_of i) (n.shape_of j) (closed i j h) k (within i) (within' j) (good i) (good' j) size section f)
         ∙ map_both record_as (project_fields o (fields_in (o.shape_of i))) (project o (as_type (struct i) d)) record_as (λ y. refl) (on_name fieldN l (fields_in (n.shape_of j)) r)
 
     items_view : (i : ℕ) (a b : Ty) (rs : Readings) → related o n pairs a b ≡ true → go (at_element a b) ≡ true → SeenItems n b rs
@@ -395,4 +394,4 @@ module _ (o n : Schema) (pairs : Pairs) (verb : Verb) (write : IsWrite verb) (cl
       on_name (step_field o path verb) l (fields_in (o.shape_of i)) (project_fields o (fields_in (o.shape_of i)) r) ≡ outcome_map (project_fields o (fields_in (o.shape_of i))) (on_name (step_field n path verb) l (fields_in (n.shape_of j)) r)
   unfolding is_admitted_from
   root-view path l i j h k size section f =
-      name_view path (field-view path) (element-view' path) l (64 * shape_words (o.shape_of i)) (64 * shape_words (n.shape_of j)) (o.shape_of i) (n.shape_of j) (closed i j h) k (within i) (within' j) (good i) (good' j) size section f
+      name_view path (field-view path) (element-view' path) l (64 * words_of_shape (o.shape_of i)) (64 * words_of_shape (n.shape_of j)) (o.shape_of i) (n.shape_of j) (closed i j h) k (within i) (within' j) (good i) (good' j) size section f

@@ -5,7 +5,7 @@ use Rattle.std.proofs.lemmas.Nat.{pow_pos}
 use lib.Bits.{bit_xor, xor_lt}
 use Rattle.capnp_model.specs.Kinds.{Kind, TypeMismatch, InitnIsOnlyValidForListTextOrDataFields, ExpectedAListOrBlob}
 use Rattle.capnp_model.specs.Trees.{Tree, null, capability, structure, plain_list, pointer_list, struct_list, none, resized}
-use Rattle.capnp_model.specs.Schemas.{PlainType, bool, int, uint, «enum», width, Ty, void, plain, text, blob, untyped, interface, struct, list, Shape, shape, Body, plain_slot, pointer_slot, group_slot, Schema}
+use Rattle.capnp_model.specs.Schemas.{PlainType, bool, int, uint, «enum», width, Ty, void, plain, text, blob, untyped, interface, struct, list, Shape, shape, Body, plain_slot, pointer_slot, group_slot, Schema, words_of_shape}
 use Rattle.capnp_model.specs.Readings.{is_list_of}
 use Rattle.capnp_model.specs.Calls.{CallValue, whole_number, truth, enumerant, text_value, blob_value, message, Verb, get, set_to, init, initn, clear, Content, refused_by, bits_of, object, plain_content, message_root, struct_content, blob_tree, text_tree, value_content, empty_struct, empty_elements, empty_structs, new_list, init_content, initn_content, slot_content, element_content}
 use Rattle.capnp_model.specs.Admitted.{is_set, is_struct_type}
@@ -261,14 +261,10 @@ module _ (o n : Schema) where
   element_same (initn k) ty ty' (related_list {a = a} {b = b} r) w h = initn_same k (list a) (list b) ExpectedAListOrBlob (related_list r)
   element_same clear ty ty' r w h = tt
 
--- the words of a shape
-abbrev pub shape_words : Shape → ℕ
-shape_words (shape nid w p u fs) = w
-
 -- the bits within which an element is written
 abbrev pub element_bits : Schema → Ty → ℕ
 element_bits s (plain p) = width p
-element_bits s (struct id) = 64 * shape_words (s.shape_of id)
+element_bits s (struct id) = 64 * words_of_shape (s.shape_of id)
 element_bits s ty = 0
 
 -- the content fits the element
@@ -322,7 +318,7 @@ module _ (o n : Schema) where
   put_number w p v q ty ty' m k related_blob f s = no_change 0
   put_number w p v q ty ty' m k related_untyped f s = no_change 0
   put_number w p v q ty ty' m k related_interface f s = no_change 0
-  put_number w p v q ty ty' m k (related_struct {i = i} r) f s = no_change (64 * shape_words (o.shape_of i))
+  put_number w p v q ty ty' m k (related_struct {i = i} r) f s = no_change (64 * words_of_shape (o.shape_of i))
   put_number w p v q ty ty' m k (related_list r) f s = no_change 0
 
   put_nothing : (bits w p v q : ℕ) (ty ty' : Ty) (k l : Kind) → Related o n AnyPair ty ty' → Congruent bits (put_in_element w p ty (refused_by k)) (put_in_element v q ty' (refused_by l))

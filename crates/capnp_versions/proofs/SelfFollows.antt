@@ -2,7 +2,7 @@
 use Rattle.std.proofs.Common.{◌≡◌, ℕ, ◌*◌, Bool, true, false, ◌&&◌, List, [], ◌∷◌, Option, Some, None, refl, sym, ◌∙◌, ap, subst, arith}
 use Rattle.std.specs.Str.{bytes_eq}
 use Rattle.capnp_model.specs.Trees.{Tree}
-use Rattle.capnp_model.specs.Schemas.{PlainType, bool, int, uint, «enum», Ty, void, plain, text, blob, untyped, interface, struct, list, Shape, shape, Fields, no_fields, field, Body, void_slot, plain_slot, pointer_slot, group_slot, Schema, default_or_null}
+use Rattle.capnp_model.specs.Schemas.{PlainType, bool, int, uint, «enum», Ty, void, plain, text, blob, untyped, interface, struct, list, Shape, shape, Fields, no_fields, field, Body, void_slot, plain_slot, pointer_slot, group_slot, Schema, default_or_null, words_of_shape}
 use Rattle.capnp_model.specs.Printing.{fields_in}
 use Rattle.capnp_model.specs.Calls.{Step, name, index, Verb}
 use Rattle.capnp_model.specs.Steps.{target, target_if, target_of}
@@ -14,7 +14,6 @@ use Rattle.capnp_versions.specs.Whole.{IsWhole}
 use Rattle.capnp_versions.specs.StructElements.{is_struct_value}
 use Rattle.capnp_versions.proofs.lemmas.WholeValues.{fits-whole}
 use Rattle.capnp_versions.proofs.SameShapes.{UnionWithin, MarkWithin, AnyPair, SameShape, same_shape, SameFields, same_none, same_field, SameBody, same_void, same_plain', same_pointer, same_group}
-use Rattle.capnp_versions.proofs.SameContents.{shape_words}
 use Rattle.capnp_versions.proofs.Follows.{SameMark, IsNarrow, HasWords, NameFollows, ValueFollows, FieldFollows, ElementFollows}
 use Rattle.capnp_versions.proofs.Within.{FitsDefault, AllNarrow, IsWithin, AreWithin, BodyWithin}
 
@@ -92,7 +91,7 @@ module _ (s : Schema) where
   all_sound bits u no_fields v h k = tt
   all_sound bits u (field l m b fs) v h k = ((mark-within bits u m v k.0, h.0, k.3), all_sound bits u fs v h.1 k.4)
 
-  module _ (within : (id : ℕ) → IsWithin (64 * shape_words (s.shape_of id)) (s.shape_of id)) (good : (id : ℕ) → IsGood s (s.shape_of id)) (verb : Verb) where
+  module _ (within : (id : ℕ) → IsWithin (64 * words_of_shape (s.shape_of id)) (s.shape_of id)) (good : (id : ℕ) → IsGood s (s.shape_of id)) (verb : Verb) where
     -- no whole struct element is set there
     abbrev pub SetsNone : List Step → PathEnd → Type 0
     SetsNone path at = (is_set verb && is_struct_value (end_of s path at)) ≡ false
@@ -113,9 +112,9 @@ module _ (s : Schema) where
           (subst (λ z. SameMark bits u m u m × FieldFollows s s verb path bits b z) is (mark_self bits u m sound.0, fields bits b sound.1 sound.2 (none m b e)))
 
     module _ (path : List Step) (fields : FieldSelf path) (elements : ElementSelf path) where
-      struct_self : (l : List ℕ) (id : ℕ) → SetsNone (name l ∷ path) (at_value (struct id)) → NameFollows s s verb (FieldFollows s s verb path) l (64 * shape_words (s.shape_of id)) (s.shape_of id) (s.shape_of id)
+      struct_self : (l : List ℕ) (id : ℕ) → SetsNone (name l ∷ path) (at_value (struct id)) → NameFollows s s verb (FieldFollows s s verb path) l (64 * words_of_shape (s.shape_of id)) (s.shape_of id) (s.shape_of id)
       unfolding end_of
-      struct_self l id none = name_self path fields l (64 * shape_words (s.shape_of id)) (s.shape_of id) (within id) (good id) (λ m b e. ap (λ z. is_set verb && is_struct_value (end_of s path (end_at z))) (sym e) ∙ none)
+      struct_self l id none = name_self path fields l (64 * words_of_shape (s.shape_of id)) (s.shape_of id) (within id) (good id) (λ m b e. ap (λ z. is_set verb && is_struct_value (end_of s path (end_at z))) (sym e) ∙ none)
 
       value_self : (st : Step) (ty : Ty) → AllNarrow ty → SetsNone (st ∷ path) (at_value ty) → ValueFollows s s verb st (FieldFollows s s verb path) (ElementFollows s s verb path) ty ty
       unfolding end_of
@@ -157,5 +156,5 @@ module _ (s : Schema) where
       element-follows (st ∷ path) = λ ty h none. value_self path (field-follows path) (element-follows path) st ty h none
 
     -- THE LAW
-    pub root-follows : (path : List Step) (l : List ℕ) (id : ℕ) → SetsNone (name l ∷ path) (at_value (struct id)) → NameFollows s s verb (FieldFollows s s verb path) l (64 * shape_words (s.shape_of id)) (s.shape_of id) (s.shape_of id)
+    pub root-follows : (path : List Step) (l : List ℕ) (id : ℕ) → SetsNone (name l ∷ path) (at_value (struct id)) → NameFollows s s verb (FieldFollows s s verb path) l (64 * words_of_shape (s.shape_of id)) (s.shape_of id) (s.shape_of id)
     root-follows path l id none = struct_self path (field-follows path) (element-follows path) l id none

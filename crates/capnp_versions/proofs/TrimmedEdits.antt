@@ -2,7 +2,7 @@
 use Rattle.std.proofs.Common.{◌≡◌, ℕ, ◌*◌, ◌≤◌, false, ◌&&◌, List, [], ◌∷◌, refl, sym, ◌∙◌, ap, subst, arith}
 use Rattle.capnp_model.specs.Trees.{Tree}
 use Rattle.capnp_model.specs.Trimming.{trim}
-use Rattle.capnp_model.specs.Schemas.{struct, Node, Schema}
+use Rattle.capnp_model.specs.Schemas.{struct, Node, Schema, words_of_shape}
 use Rattle.capnp_model.specs.Readings.{Record, record_by_shape, record_of}
 use Rattle.capnp_model.specs.Printing.{fields_in}
 use Rattle.capnp_model.specs.Calls.{Step, name, index, Call}
@@ -24,7 +24,6 @@ use Rattle.capnp_versions.specs.Roots.{IsRootInKind}
 use Rattle.capnp_versions.proofs.lemmas.WholeValues.{whole-trim}
 use Rattle.capnp_versions.proofs.Alike.{Alike}
 use Rattle.capnp_versions.proofs.Wrote.{Wrote, wrote-done}
-use Rattle.capnp_versions.proofs.SameContents.{shape_words}
 use Rattle.capnp_versions.proofs.Follows.{NameFollows, FieldFollows}
 use Rattle.capnp_versions.proofs.AlikePaths.{structs_agree}
 use Rattle.capnp_versions.proofs.Within.{accepted-within}
@@ -32,8 +31,8 @@ use Rattle.capnp_versions.proofs.SelfFollows.{root-follows}
 
 -- ---- one call under two schemas
 
-module _ (o n : Schema) (c : Call) (whole : IsWholeVerb c.verb) (i j : ℕ) (words : shape_words (o.shape_of i) ≤ shape_words (n.shape_of j))
-    (follows : (l : List ℕ) (path : List Step) → c.path ≡ name l ∷ path → NameFollows o n c.verb (FieldFollows o n c.verb path) l (64 * shape_words (o.shape_of i)) (o.shape_of i) (n.shape_of j)) where
+module _ (o n : Schema) (c : Call) (whole : IsWholeVerb c.verb) (i j : ℕ) (words : words_of_shape (o.shape_of i) ≤ words_of_shape (n.shape_of j))
+    (follows : (l : List ℕ) (path : List Step) → c.path ≡ name l ∷ path → NameFollows o n c.verb (FieldFollows o n c.verb path) l (64 * words_of_shape (o.shape_of i)) (o.shape_of i) (n.shape_of j)) where
   written : (path : List Step) → c.path ≡ path → (t u : Tree) → Alike t u → IsOpen t → IsOpen u
       → Wrote (step_path o (fields_in (o.shape_of i)) path c.verb (record_by_shape o (o.shape_of i) t)) → Wrote (step_path n (fields_in (n.shape_of j)) path c.verb (record_by_shape n (n.shape_of j) u))
       → Alike (write_path o (o.shape_of i) path c.verb t) (write_path n (n.shape_of j) path c.verb u)

@@ -3,7 +3,7 @@ use Rattle.std.proofs.Common.{◌≡◌, ℕ, ◌*◌, ◌≤◌, true, false, L
 use Rattle.std.specs.List.{AllByRecursion}
 use Rattle.capnp_model.specs.Trees.{Tree, null, structure, child}
 use Rattle.capnp_model.specs.Trimming.{trim}
-use Rattle.capnp_model.specs.Schemas.{struct, Node, Schema}
+use Rattle.capnp_model.specs.Schemas.{struct, Node, Schema, words_of_shape}
 use Rattle.capnp_model.specs.Readings.{Record, whole_words, shape_record, record_by_shape, record_of}
 use Rattle.capnp_model.specs.Printing.{fields_in}
 use Rattle.capnp_model.specs.Calls.{Step, name, index, Verb, get, set_to, init, initn, clear, Call}
@@ -26,7 +26,6 @@ use Rattle.capnp_versions.specs.Whole.{IsWhole, IsWholeVerb}
 use Rattle.capnp_versions.specs.SameReplies.{IsWrite, SameUnlessGet, SameReplies}
 use Rattle.capnp_versions.specs.TwoVersions.{TwoVersions, older, newer, newer_record, older_view, CanEdit, CanStep, CanRun}
 use Rattle.capnp_versions.proofs.Alike.{Alike, alike-self}
-use Rattle.capnp_versions.proofs.SameContents.{shape_words}
 use Rattle.capnp_versions.proofs.Follows.{NameFollows, FieldFollows}
 use Rattle.capnp_versions.proofs.Within.{accepted-within}
 use Rattle.capnp_versions.proofs.TrimmedEdits.{written-alike, left}
@@ -105,12 +104,12 @@ module _ (nodes nodes' : List Node) (accepted : IsAccepted nodes) (accepted' : I
     -- ---- the edits
 
     module _ (whole : IsWholeVerb c.verb) where
-      follows : (l : List ℕ) (path : List Step) → c.path ≡ name l ∷ path → NameFollows o n c.verb (FieldFollows o n c.verb path) l (64 * shape_words (o.shape_of older)) (o.shape_of older) (n.shape_of newer)
+      follows : (l : List ℕ) (path : List Step) → c.path ≡ name l ∷ path → NameFollows o n c.verb (FieldFollows o n c.verb path) l (64 * words_of_shape (o.shape_of older)) (o.shape_of older) (n.shape_of newer)
       follows l path e =
           (root-kept o n compatible.pairs c.verb closed (accepted-within nodes accepted) (accepted-within nodes' accepted') (shape_good nodes accepted) (shape_good nodes' accepted') path l older newer compatible.has_roots
           (ap (λ z. is_admitted_from o n z c.verb (at_element (struct older) (struct newer))) (sym e) ∙ admitted)).0
 
-      words : shape_words (o.shape_of older) ≤ shape_words (n.shape_of newer)
+      words : words_of_shape (o.shape_of older) ≤ words_of_shape (n.shape_of newer)
       words = words_kept o n compatible.pairs (o.shape_of older) (n.shape_of newer) (closed older newer compatible.has_roots)
 
       -- a call that neither carries out

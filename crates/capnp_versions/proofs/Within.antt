@@ -16,7 +16,7 @@ use Rattle.capnp_model.specs.Fits.{Fits}
 use Rattle.capnp_model.specs.Encoding.{canonical_words}
 use Rattle.capnp_model.specs.Bytes.{bytes_of_words, words_in_bytes}
 use Rattle.capnp_model.specs.Decoding.{decode}
-use Rattle.capnp_model.specs.Schemas.{width, Ty, void, plain, text, blob, untyped, interface, struct, list, BaseType, base_type, lists_of, type_of, Value, no_value, bits, text_bytes, blob_bytes, list_segment, struct_segment, untyped_value, interface_value, FieldKind, slot, group, Field, StructNode, NodeKind, struct_node, enum_node, Node, Shape, shape, Fields, no_fields, field, Body, void_slot, plain_slot, pointer_slot, group_slot}
+use Rattle.capnp_model.specs.Schemas.{width, Ty, void, plain, text, blob, untyped, interface, struct, list, BaseType, base_type, lists_of, type_of, Value, no_value, bits, text_bytes, blob_bytes, list_segment, struct_segment, untyped_value, interface_value, FieldKind, slot, group, Field, StructNode, NodeKind, struct_node, enum_node, Node, Shape, shape, Fields, no_fields, field, Body, void_slot, plain_slot, pointer_slot, group_slot, words_of_shape}
 use Rattle.capnp_model.specs.Calls.{text_tree, blob_tree}
 use Rattle.capnp_model.specs.Accepted.{find_node, fields_of_kind, on_struct, groups_of_field, sizes_of, default_tree, slot_body, field_body, fields_from, union_place, no_shape, shape_of_node, shape_in, schema_of, members_of, are_once, has_good_union, is_inside, has_its_place, has_places, is_default_of, has_good_default, opens_as, is_good_segment, is_good_value, default_reads, IsAccepted}
 use Rattle.capnp_model.proofs.lemmas.Chaining.{bind_some, provided_some, some_is}
@@ -31,7 +31,6 @@ use Rattle.capnp_model.proofs.lemmas.KeptRules.{and_three, found_passes}
 use Rattle.capnp_model.proofs.lemmas.SoundRules.{RulesKept, rules_kept}
 use Rattle.capnp_model.proofs.lemmas.Tests.{lt_is, le_is, and_left, and_right}
 use Rattle.capnp_versions.proofs.SameShapes.{UnionWithin}
-use Rattle.capnp_versions.proofs.SameContents.{shape_words}
 use Rattle.capnp_versions.proofs.Holders.{PlacesKept, places_kept, uses, group_fits}
 
 -- ---- what holds of a shape
@@ -227,20 +226,20 @@ module _ (groups : ℕ → Shape) (s : StructNode) (room : ℕ) (le : 64 * s.wor
 -- ---- nodes
 
 module _ (nodes : List Node) (r : RulesKept nodes) (q : PlacesKept nodes) where
-  node_words : (groups : ℕ → Shape) (n : Node) → shape_words (shape_of_node groups (Some n)) ≡ (sizes_of n).0
+  node_words : (groups : ℕ → Shape) (n : Node) → words_of_shape (shape_of_node groups (Some n)) ≡ (sizes_of n).0
   node_words groups n = by n.kind
     where
-      by : (k : NodeKind) → shape_words (elim k as (λ (x : NodeKind). Shape) [ struct_node s ↦ shape n.id s.words s.pointers (union_place s) (fields_from groups s.fields) | enum_node es ↦ no_shape ]) ≡ (elim k as (λ (x : NodeKind). ℕ × ℕ) [ struct_node s ↦ (s.words, s.pointers) | enum_node es ↦ (0, 0) ]).0
+      by : (k : NodeKind) → words_of_shape (elim k as (λ (x : NodeKind). Shape) [ struct_node s ↦ shape n.id s.words s.pointers (union_place s) (fields_from groups s.fields) | enum_node es ↦ no_shape ]) ≡ (elim k as (λ (x : NodeKind). ℕ × ℕ) [ struct_node s ↦ (s.words, s.pointers) | enum_node es ↦ (0, 0) ]).0
       by (struct_node s) = refl
       by (enum_node es) = refl
 
   -- the words of a group's shape
-  words_at : (levels id : ℕ) (n : Node) (g : ℕ) → find_node nodes id ≡ Some n → uses n g ≡ true → shape_words (shape_in nodes levels g) ≤ (sizes_of n).0
+  words_at : (levels id : ℕ) (n : Node) (g : ℕ) → find_node nodes id ≡ Some n → uses n g ≡ true → words_of_shape (shape_in nodes levels g) ≤ (sizes_of n).0
   unfolding shape_in
   words_at zero id n g e k = omega arith
   words_at (suc levels) id n g e k = by (find_node nodes g) refl
     where
-      by : (o : Option Node) → find_node nodes g ≡ o → shape_words (shape_of_node (λ x. shape_in nodes levels x) o) ≤ (sizes_of n).0
+      by : (o : Option Node) → find_node nodes g ≡ o → words_of_shape (shape_of_node (λ x. shape_in nodes levels x) o) ≤ (sizes_of n).0
       by None f = omega arith
       by (Some m) f = subst (λ z. z ≤ (sizes_of n).0) (sym (node_words (λ x. shape_in nodes levels x) m)) (group_fits nodes q r.ids id n g m e k f).0
 
@@ -252,12 +251,12 @@ module _ (nodes : List Node) (r : RulesKept nodes) (q : PlacesKept nodes) where
   struct_within groups room nid (struct_node s) good le u p d x = let both = union_within groups s room le u in (both.0, both.1, fields_within groups s room le s.fields good p d x)
   struct_within groups room nid (enum_node es) good le u p d x = (tt, tt, tt)
 
-  pub shape-within : (levels id room : ℕ) → 64 * shape_words (shape_in nodes levels id) ≤ room → IsWithin room (shape_in nodes levels id)
+  pub shape-within : (levels id room : ℕ) → 64 * words_of_shape (shape_in nodes levels id) ≤ room → IsWithin room (shape_in nodes levels id)
   unfolding shape_in
   shape-within zero id room le = (tt, tt, tt)
   shape-within (suc levels) id room le = by (find_node nodes id) refl (shape-within levels) le
     where
-      by : (o : Option Node) → find_node nodes id ≡ o → ((g b : ℕ) → 64 * shape_words (shape_in nodes levels g) ≤ b → IsWithin b (shape_in nodes levels g)) → 64 * shape_words (shape_of_node (λ g. shape_in nodes levels g) o) ≤ room → IsWithin room (shape_of_node (λ g. shape_in nodes levels g) o)
+      by : (o : Option Node) → find_node nodes id ≡ o → ((g b : ℕ) → 64 * words_of_shape (shape_in nodes levels g) ≤ b → IsWithin b (shape_in nodes levels g)) → 64 * words_of_shape (shape_of_node (λ g. shape_in nodes levels g) o) ≤ room → IsWithin room (shape_of_node (λ g. shape_in nodes levels g) o)
       by None e inner le = (tt, tt, tt)
       by (Some n) e inner le =
           let words : 64 * (sizes_of n).0 ≤ room = subst (λ z. 64 * z ≤ room) (node_words (λ g. shape_in nodes levels g) n) le in
@@ -266,6 +265,6 @@ module _ (nodes : List Node) (r : RulesKept nodes) (q : PlacesKept nodes) where
           (found_passes (λ m. list_all (λ f. has_good_default f.kind) (fields_of_kind m.kind)) nodes id n r.defaults e) (found_passes (λ m. list_all (λ f. default_reads f.kind) (fields_of_kind m.kind)) nodes id n q.reads e)
 
 -- THE LAW: an accepted schema's slots lie within its structs
-pub accepted-within : (nodes : List Node) → IsAccepted nodes → (id : ℕ) → IsWithin (64 * shape_words ((schema_of nodes).shape_of id)) ((schema_of nodes).shape_of id)
+pub accepted-within : (nodes : List Node) → IsAccepted nodes → (id : ℕ) → IsWithin (64 * words_of_shape ((schema_of nodes).shape_of id)) ((schema_of nodes).shape_of id)
 unfolding schema_of
 accepted-within nodes h id = shape-within nodes (rules_kept nodes h) (places_kept nodes h) (length nodes) id _ (omega arith)

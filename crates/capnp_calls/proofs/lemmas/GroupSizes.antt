@@ -3,7 +3,7 @@ use Rattle.std.proofs.Common.{◌≡◌, ℕ, zero, suc, ◌≤◌, true, false,
 use Rattle.std.specs.List.{list_any, flat_map}
 use Rattle.std.proofs.lemmas.List.Folds.{list_any-append}
 use Rattle.std.specs.Prelude.{option_map}
-use Rattle.capnp_model.specs.Schemas.{slot, group, Field as FieldNode, StructNode, FieldKind, NodeKind, struct_node, enum_node, Node, Shape, shape, group_slot, Ty, void, plain, text, blob, untyped, interface, struct, list, type_of, Value}
+use Rattle.capnp_model.specs.Schemas.{slot, group, Field as FieldNode, StructNode, FieldKind, NodeKind, struct_node, enum_node, Node, Shape, shape, group_slot, Ty, void, plain, text, blob, untyped, interface, struct, list, type_of, Value, words_of_shape, pointers_of_shape}
 use Rattle.capnp_model.specs.Accepted.{fields_of_kind, groups_of_field, groups_used, slot_body, field_body, schema_of, sizes_of, IsAccepted}
 use Rattle.capnp_model.proofs.lemmas.ListElements.{HasRoom}
 use Rattle.capnp_model.proofs.lemmas.SoundSizes.{more_rules, group_room}
@@ -13,13 +13,12 @@ use Rattle.capnp_queries.specs.declared.structs.StructSchema.{StructSchema}
 use Rattle.capnp_queries.specs.declared.fields.Field.{Field}
 use Rattle.capnp_queries.proofs.lemmas.Records.{struct_is}
 use Rattle.capnp_model.proofs.lemmas.Tests.{number_is, or_right}
-use Rattle.capnp_calls.specs.Slots.{words_in, pointers_in}
 use Rattle.capnp_calls.specs.Finding.{IsFieldGroup}
 use Rattle.capnp_calls.proofs.lemmas.FieldSlots.{body_is}
 
 -- ---- shapes
 
-sizes_are : (g : Shape) (words pointers : ℕ) → HasRoom g words pointers → (words_in g ≤ words) × (pointers_in g ≤ pointers)
+sizes_are : (g : Shape) (words pointers : ℕ) → HasRoom g words pointers → (words_of_shape g ≤ words) × (pointers_of_shape g ≤ pointers)
 sizes_are (shape id w p u fs) words pointers h = h
 
 -- ---- fields
@@ -75,7 +74,7 @@ group_is_field f r rec n holder g same h = by (group_kind (schema_around f.paren
         let here = sizes_are (shape_of_struct g) n.words n.pointers (subst (λ x. HasRoom x n.words n.pointers) shape_is small) in
         record {
           body = h;
-          words = subst (λ x. words_in (shape_of_struct g) ≤ x) (sym (ap words_in holder.shape)) here.0;
-          pointers = subst (λ x. pointers_in (shape_of_struct g) ≤ x) (sym (ap pointers_in holder.shape)) here.1;
+          words = subst (λ x. words_of_shape (shape_of_struct g) ≤ x) (sym (ap words_of_shape holder.shape)) here.0;
+          pointers = subst (λ x. pointers_of_shape (shape_of_struct g) ≤ x) (sym (ap pointers_of_shape holder.shape)) here.1;
           nodes = same;
         }

@@ -2,7 +2,7 @@
 use Rattle.std.proofs.Common.{◌≡◌, ℕ, zero, suc, ◌+◌, ◌-◌, ◌*◌, ◌/◌, ◌<◌, ◌≤◌, ◌⊎◌, inl, inr, List, [], ◌∷◌, ◌++◌, map, length, Option, Some, None, refl, sym, ap, subst, arith, true, drop}
 use Rattle.std.specs.Option.{is_some}
 use Rattle.capnp_model.specs.Segments.{Segments, Place, after, words_at}
-use Rattle.capnp_model.specs.Schemas.{width, StructNode, Shape, shape, Fields, no_fields, field, Body}
+use Rattle.capnp_model.specs.Schemas.{width, StructNode, Shape, shape, Fields, no_fields, field, Body, words_of_shape, pointers_of_shape}
 use Rattle.capnp_wire.specs.Places.{place_view}
 use Rattle.capnp_copy.specs.Structs.{AreInWord}
 use Rattle.capnp_copy.specs.declared.fields.StructPlace.{StructPlace}
@@ -18,7 +18,7 @@ use Rattle.capnp_queries.specs.declared.slots.PlainType.{PlainType as Plain}
 use Rattle.capnp_queries.specs.declared.slots.PlainType.TheVariants as P
 use Rattle.capnp_queries.specs.declared.structs.StructSchema.{StructSchema}
 use Rattle.capnp_queries.specs.declared.fields.Field.{Field}
-use Rattle.capnp_dynamic.specs.Inside.{words_of_shape, pointers_of_shape, LieIn}
+use Rattle.capnp_dynamic.specs.Inside.{LieIn}
 use Rattle.capnp_dynamic.specs.Edits.{IsThere, IsWide}
 use Rattle.capnp_copy.proofs.lemmas.RoomLaws.{words_stay}
 

@@ -18,7 +18,7 @@ use Rattle.capnp_units.specs.Sizes.{size_number, data_bits}
 use Rattle.capnp_object.specs.declared.place.Place.{Place as Where}
 use Rattle.capnp_object.specs.declared.object.Object.{Object}
 use Rattle.capnp_object.specs.declared.object.Object.TheVariants as object
-use Rattle.capnp_object.specs.Arenas.{bytes_of}
+use Rattle.capnp_object.specs.Arenas.{segment_bytes}
 use Rattle.capnp_object.specs.Places.{place_view}
 use Rattle.capnp_object.specs.Objects.{whole}
 use Rattle.capnp_object.specs.Near.{IsNear}
@@ -35,7 +35,7 @@ begins_where p q offset e = by (nat_lt offset (2 ^ 29)) (leb (2 ^ 30) (p.positio
     by false false e = absurd cc
 
 -- a segment that has a word is there
-pub held : (segments : List (List ℕ)) (i position w : ℕ) (bytes : List ℕ) → bytes ≡ bytes_of segments i → Some w ≡ slice_get (whole_words bytes) position → Some bytes ≡ slice_get segments i
+pub held : (segments : List (List ℕ)) (i position w : ℕ) (bytes : List ℕ) → bytes ≡ segment_bytes segments i → Some w ≡ slice_get (whole_words bytes) position → Some bytes ≡ slice_get segments i
 held segments i position w bytes is word = by (slice_get segments i) is
   where
     by : (o : Option (List ℕ)) → bytes ≡ unwrap_or o [] → Some bytes ≡ o

@@ -16,7 +16,7 @@ use Rattle.capnp_object.specs.declared.object.Object.TheVariants as object
 use Rattle.capnp_units.specs.declared.limiter.ReadLimiter.{ReadLimiter}
 use Rattle.capnp_object.specs.Places.{place_view}
 use Rattle.capnp_object.specs.Near.{list_object, struct_object, IsMeasured, IsNear}
-use Rattle.capnp_object.specs.Arenas.{bytes_of}
+use Rattle.capnp_object.specs.Arenas.{segment_bytes}
 use Rattle.capnp_object.specs.Objects.{IsInside}
 use Rattle.capnp_object.specs.Inside.{tree_in, met_in, section_at, words_there}
 use Rattle.capnp_object.specs.Walks.{Stopped}
@@ -100,7 +100,7 @@ write_at-write_list-requires g t c =
     let followed : FollowsData n s (place_view c.args.place) c.args.limiter.now (Ok (list_object c.in-Some.list)) k = rw c.in-Some.is at c.in_ok-list.ensures.copied in
     let pays = followed.0 in
     let near : IsNear s (place_view c.args.place) (list_object c.in-Some.list) × IsMeasured c.in-Some.list × (c.in-Some.list.start.segment ≡ c.args.place.segment) = rw c.in-Some.is at c.in_ok-list.ensures.near in
-    record { bytes = c.requires.bytes ∙ ap (bytes_of (g.A.ReaderArena.segments c.args.arena.now)) (sym near.2); inside = pays.inside; measured = near.1; short = short_at s (place_view c.args.place) (list_object c.in-Some.list) c.args.limiter.now k pays; place = c.requires.place }
+    record { bytes = c.requires.bytes ∙ ap (segment_bytes (g.A.ReaderArena.segments c.args.arena.now)) (sym near.2); inside = pays.inside; measured = near.1; short = short_at s (place_view c.args.place) (list_object c.in-Some.list) c.args.limiter.now k pays; place = c.requires.place }
 
 pub write_at-write_struct-requires : goal.write_at-write_struct-requires
 write_at-write_struct-requires g t c =
@@ -112,7 +112,7 @@ write_at-write_struct-requires g t c =
     let here : FollowsData n s p c.follow_near_list.new.limiter (Ok (struct_object near)) c.follow_near_struct.new.limiter = rw c.in-Some-2.is at c.in_ok-near.ensures.copied in
     let some = some_left n here.1 in
     let there : IsNear s p (struct_object near) × (near.start.segment ≡ c.args.place.segment) = rw c.in-Some-2.is at c.in_ok-near.ensures.near in
-    λ κs lives. (omega arith, (lives, (c.requires.bytes ∙ ap (bytes_of segments) (sym there.1), (here.0.inside, c.requires.place))))
+    λ κs lives. (omega arith, (lives, (c.requires.bytes ∙ ap (segment_bytes segments) (sym there.1), (here.0.inside, c.requires.place))))
 
 pub write_any-returns-in_err-object : goal.write_any-returns-in_err-object
 write_any-returns-in_err-object g t c =
@@ -152,7 +152,7 @@ pub write_object-write_list-requires : goal.write_object-write_list-requires
 write_object-write_list-requires g t c =
     let s : Segments = words_in (g.A.ReaderArena.segments c.args.arena.now) in
     let is : c.args.object ≡ list_object c.new-list.result = c.in-List.is ∙ sym c.new-list.ensures.object in
-    record { bytes = c.segment_bytes-bytes-in-List.ensures ∙ ap (bytes_of (g.A.ReaderArena.segments c.args.arena.now)) (sym (ap segment_of c.new-list.ensures.object)); inside = subst (IsInside s) is c.requires.inside; measured = c.new-list.ensures.measured; short = subst IsShort is c.requires.short; place = c.requires.place }
+    record { bytes = c.segment_bytes-bytes-in-List.ensures ∙ ap (segment_bytes (g.A.ReaderArena.segments c.args.arena.now)) (sym (ap segment_of c.new-list.ensures.object)); inside = subst (IsInside s) is c.requires.inside; measured = c.new-list.ensures.measured; short = subst IsShort is c.requires.short; place = c.requires.place }
 
 pub write_object-returns-in-StructList : goal.write_object-returns-in-StructList
 write_object-returns-in-StructList g t c =

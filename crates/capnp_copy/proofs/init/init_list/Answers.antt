@@ -7,7 +7,7 @@ use Rattle.capnp_units.specs.Segments.{words_in}
 use Rattle.capnp_units.specs.Sizes.{size_number}
 use Rattle.capnp_wire.specs.Places.{place_view}
 use Rattle.capnp_copy.specs.Allocations.{total_words, TakesJust, TakesAtMost, NoRoom}
-use Rattle.capnp_copy.specs.Lists.{zeros_of, words_of}
+use Rattle.capnp_copy.specs.Lists.{zeros_of, words_of_list}
 use Rattle.capnp_copy.specs.Values.{LeadsTo}
 use Rattle.capnp_copy.proofs.ListWords.{zeros_words, zeros_pointer, zeros_object, zeros_fit}
 use Rattle.capnp_copy.proofs.init.init_list.Goals as goal
@@ -21,7 +21,7 @@ returns g c =
     let size = size_number c.args.size in
     let count = c.args.count in
     let n : ℕ = c.words_of.result in
-    let m : ℕ = words_of size count in
+    let m : ℕ = words_of_list size count in
     let same : n ≡ m = c.words_of.ensures.words in
     let words = zeros_words size count ∙ ap (λ (k : ℕ). replicate {A = ℕ} k 0) (sym same) in
     let fits = zeros_fit size count c.requires.plain (omega (arith, c.words_of.ensures.small)) in
@@ -51,7 +51,7 @@ returns-in_err-start g c =
     let free = g.A.BuilderArena.room c.args.arena.now in
     let p = err_from_is_err_and c.from_residual.result c.from_residual.ensures.1 in
     let n : ℕ = c.words_of.result in
-    let m : ℕ = words_of (size_number c.args.size) c.args.count in
+    let m : ℕ = words_of_list (size_number c.args.size) c.args.count in
     let same : n ≡ m = c.words_of.ensures.words in
     let e = c.in_err-start.ensures in
     let over : 2 ^ 29 ≤ total_words s + (n + 1) → 2 ^ 29 ≤ total_words s + (m + 1) = λ l. omega (arith, l, same) in

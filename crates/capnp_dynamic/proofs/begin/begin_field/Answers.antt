@@ -6,7 +6,7 @@ use Rattle.capnp_copy.proofs.lemmas.RoomLaws.{sizes_grow}
 use Rattle.capnp_queries.specs.Handles.{body_of_place}
 use Rattle.capnp_queries.specs.Types.{ty_of}
 use Rattle.capnp_queries.specs.declared.slots.FieldPlace.TheVariants as F
-use Rattle.capnp_dynamic.specs.Puts.{state_in}
+use Rattle.capnp_copy.specs.States.{state_in}
 use Rattle.capnp_dynamic.proofs.lemmas.Ready.{there_after, areas_inside}
 use Rattle.capnp_dynamic.proofs.lemmas.GroupFields.{group_inside, member_inside}
 use Rattle.capnp_dynamic.proofs.Begun.{group_begun, group_told, null_begun}

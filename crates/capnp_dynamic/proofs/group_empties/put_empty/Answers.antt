@@ -9,7 +9,7 @@ use Rattle.capnp_wire.specs.Places.{place_view}
 use Rattle.capnp_records.specs.Sets.{nodes_of}
 use Rattle.capnp_queries.specs.Types.{ty_of}
 use Rattle.capnp_dynamic.specs.NewLists.{tree_of_new}
-use Rattle.capnp_dynamic.specs.Puts.{state_in}
+use Rattle.capnp_copy.specs.States.{state_in}
 use Rattle.capnp_dynamic.specs.GroupSets.{PutsAny}
 use Rattle.capnp_dynamic.proofs.lemmas.AnyEdits.{puts_becomes}
 use Rattle.capnp_dynamic.proofs.EmptyValues.{no_empty, kept_stands, stands_same}

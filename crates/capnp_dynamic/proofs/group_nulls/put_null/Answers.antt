@@ -9,7 +9,7 @@ use Rattle.capnp_records.specs.NodeViews.{value_of}
 use Rattle.capnp_records.specs.Sets.{nodes_of}
 use Rattle.capnp_records.specs.declared.node.Value.TheVariants as V
 use Rattle.capnp_queries.specs.Types.{ty_of}
-use Rattle.capnp_dynamic.specs.Puts.{state_in}
+use Rattle.capnp_copy.specs.States.{state_in}
 use Rattle.capnp_dynamic.specs.GroupSets.{null_tree}
 use Rattle.capnp_dynamic.proofs.lemmas.NullMembers.{value_said, none_said, plain_said, empty_stands}
 use Rattle.capnp_dynamic.proofs.NullRefusals.{put_as, blob_put}

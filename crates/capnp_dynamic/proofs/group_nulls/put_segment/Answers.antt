@@ -9,7 +9,7 @@ use Rattle.capnp_model.specs.Trees.{null}
 use Rattle.capnp_records.specs.Sets.{nodes_of}
 use Rattle.capnp_copy_from.specs.Defaults.{default_segments}
 use Rattle.capnp_queries.specs.Types.{ty_of}
-use Rattle.capnp_dynamic.specs.Puts.{state_in}
+use Rattle.capnp_copy.specs.States.{state_in}
 use Rattle.capnp_dynamic.proofs.lemmas.NullMembers.{null_root, some_root}
 use Rattle.capnp_dynamic.proofs.NullRefusals.{put_as, copy_not_put}
 use Rattle.capnp_dynamic.proofs.group_nulls.put_segment.Goals as goal

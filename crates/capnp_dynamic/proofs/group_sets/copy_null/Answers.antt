@@ -16,7 +16,7 @@ use Rattle.capnp_queries.specs.Types.{ty_of}
 use Rattle.capnp_copy.proofs.lemmas.RoomLaws.{sizes_grow}
 use Rattle.capnp_footprints.proofs.lemmas.Algebra.{changes_nothing}
 use Rattle.capnp_footprints.proofs.lemmas.Spans.{grows_then}
-use Rattle.capnp_dynamic.specs.Puts.{state_in}
+use Rattle.capnp_copy.specs.States.{state_in}
 use Rattle.capnp_dynamic.specs.GroupRefusals.{NotPut}
 use Rattle.capnp_dynamic.specs.GroupSets.{PutsAny, null_tree, copied_field}
 use Rattle.capnp_dynamic.proofs.Marks.{member_none, member_there}

@@ -13,8 +13,8 @@ use Rattle.capnp_queries.specs.Handles.{body_of_place}
 use Rattle.capnp_queries.specs.Structs.{nodes_around, shape_of_struct, id_of}
 use Rattle.capnp_queries.specs.Types.{ty_of}
 use Rattle.capnp_queries.specs.declared.slots.FieldPlace.TheVariants as F
-use Rattle.capnp_dynamic.specs.Inside.{words_of_shape, pointers_of_shape}
-use Rattle.capnp_dynamic.specs.Puts.{state_in}
+use Rattle.capnp_model.specs.Schemas.{words_of_shape, pointers_of_shape}
+use Rattle.capnp_copy.specs.States.{state_in}
 use Rattle.capnp_dynamic.proofs.lemmas.Ready.{there_after, pointer_there}
 use Rattle.capnp_dynamic.proofs.lemmas.Grown.{same_grows, there_grown}
 use Rattle.capnp_dynamic.proofs.lemmas.GroupFields.{pointer_inside, member_inside}

@@ -2,7 +2,7 @@ use Rattle.std.proofs.Common.{◌+◌}
 use Rattle.capnp_model.specs.Trees.{structure, none, resized}
 use Rattle.capnp_queries.specs.Structs.{shape_of_struct}
 use Rattle.capnp_builders.proofs.lemmas.Makes.{makes_if}
-use Rattle.capnp_dynamic.specs.Puts.{state_in}
+use Rattle.capnp_copy.specs.States.{state_in}
 use Rattle.capnp_dynamic.proofs.InitSlots.{empty_made, not_made}
 use Rattle.capnp_dynamic.proofs.init.put_struct.Goals as goal
 

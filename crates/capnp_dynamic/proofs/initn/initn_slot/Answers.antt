@@ -16,7 +16,7 @@ use Rattle.capnp_queries.specs.Structs.{nodes_around, schema_around}
 use Rattle.capnp_queries.specs.Types.{ty_of}
 use Rattle.capnp_queries.specs.declared.slots.FieldPlace.TheVariants as F
 use Rattle.capnp_dynamic.specs.NewLists.{tree_of_new}
-use Rattle.capnp_dynamic.specs.Puts.{state_in}
+use Rattle.capnp_copy.specs.States.{state_in}
 use Rattle.capnp_dynamic.proofs.lemmas.Ready.{pointer_there}
 use Rattle.capnp_dynamic.proofs.lemmas.Grown.{same_grows}
 use Rattle.capnp_dynamic.proofs.lemmas.GroupFields.{pointer_inside, member_inside}

@@ -1,8 +1,8 @@
 use Rattle.std.proofs.lemmas.Result.{err_from_is_err_and}
 use Rattle.capnp_units.specs.Sizes.{size_number}
 use Rattle.capnp_footprints.specs.NewObjects.{new_tree}
-use Rattle.capnp_copy.specs.Lists.{zeros_of, words_of}
-use Rattle.capnp_dynamic.specs.Puts.{state_in}
+use Rattle.capnp_copy.specs.Lists.{zeros_of, words_of_list}
+use Rattle.capnp_copy.specs.States.{state_in}
 use Rattle.capnp_dynamic.proofs.NewLists.{made_of, list_words, list_refused}
 use Rattle.capnp_dynamic.proofs.initn.put_elements.Goals as goal
 
@@ -19,4 +19,4 @@ returns-clause-made g c =
     let e = c.in_ok-init_list.ensures in
     let size = size_number c.args.size in
     let n = c.args.count in
-    made_of (at c.args.arena.now) (at c.init_list.new.arena) c.args.slot (new_tree (zeros_of size n)) (words_of size n) (list_words size n) e.value e.taken e.bound c.init_list.ensures.books
+    made_of (at c.args.arena.now) (at c.init_list.new.arena) c.args.slot (new_tree (zeros_of size n)) (words_of_list size n) (list_words size n) e.value e.taken e.bound c.init_list.ensures.books

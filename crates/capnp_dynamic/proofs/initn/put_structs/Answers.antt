@@ -2,7 +2,7 @@ use Rattle.std.proofs.Common.{◌+◌, ◌*◌}
 use Rattle.std.proofs.lemmas.Result.{err_from_is_err_and}
 use Rattle.capnp_model.specs.Trees.{struct_list}
 use Rattle.capnp_footprints.specs.NewObjects.{zero_elements}
-use Rattle.capnp_dynamic.specs.Puts.{state_in}
+use Rattle.capnp_copy.specs.States.{state_in}
 use Rattle.capnp_dynamic.proofs.NewLists.{made_of, struct_list_words, structs_refused}
 use Rattle.capnp_dynamic.proofs.initn.put_structs.Goals as goal
 

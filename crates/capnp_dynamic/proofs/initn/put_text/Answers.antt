@@ -3,8 +3,9 @@ use Rattle.std.proofs.lemmas.Result.{err_from_is_err_and}
 use Rattle.capnp_model.specs.Trees.{plain_list}
 use Rattle.capnp_model.specs.Sizes.{object_words}
 use Rattle.capnp_builders.specs.Making.{Makes}
-use Rattle.capnp_copy.specs.Lists.{words_of}
-use Rattle.capnp_dynamic.specs.Puts.{state_in, ObjectRefused}
+use Rattle.capnp_copy.specs.Lists.{words_of_list}
+use Rattle.capnp_copy.specs.States.{state_in}
+use Rattle.capnp_dynamic.specs.Puts.{ObjectRefused}
 use Rattle.capnp_dynamic.proofs.NewLists.{made_of, list_words, list_refused}
 use Rattle.capnp_dynamic.proofs.initn.put_text.Goals as goal
 
@@ -25,4 +26,4 @@ returns-clause-made g c =
     let n = c.args.count + 1 in
     let more : c.args.count + 1 ≡ suc c.args.count = omega arith in
     subst (λ n. Makes old new c.args.slot (plain_list 2 n 0) (object_words (plain_list 2 n 0))) more
-    (made_of (at c.args.arena.now) (at c.init_list.new.arena) c.args.slot (plain_list 2 (c.args.count + 1) 0) (words_of 2 (c.args.count + 1)) (list_words 2 (c.args.count + 1)) e.value e.taken e.bound c.init_list.ensures.books)
+    (made_of (at c.args.arena.now) (at c.init_list.new.arena) c.args.slot (plain_list 2 (c.args.count + 1) 0) (words_of_list 2 (c.args.count + 1)) (list_words 2 (c.args.count + 1)) e.value e.taken e.bound c.init_list.ensures.books)

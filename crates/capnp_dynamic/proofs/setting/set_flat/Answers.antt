@@ -12,7 +12,7 @@ use Rattle.capnp_queries.specs.Handles.{plain_of, body_of_place}
 use Rattle.capnp_queries.specs.Types.{ty_of}
 use Rattle.capnp_queries.specs.declared.slots.FieldPlace.TheVariants as F
 use Rattle.capnp_dynamic.specs.Blobs.{bytes_of}
-use Rattle.capnp_dynamic.specs.Puts.{state_in}
+use Rattle.capnp_copy.specs.States.{state_in}
 use Rattle.capnp_dynamic.proofs.lemmas.Ready.{there_after, data_there, pointer_there}
 use Rattle.capnp_dynamic.proofs.lemmas.Grown.{same_grows}
 use Rattle.capnp_dynamic.proofs.lemmas.GroupFields.{plain_inside, pointer_inside, member_inside}

@@ -2,7 +2,7 @@ use Rattle.std.proofs.Common.{◌+◌, ◌*◌, length}
 use Rattle.capnp_model.specs.Sections.{number_of, words_for}
 use Rattle.capnp_model.specs.Trees.{plain_list}
 use Rattle.capnp_builders.proofs.lemmas.Makes.{makes_if, not_set_if}
-use Rattle.capnp_dynamic.specs.Puts.{state_in}
+use Rattle.capnp_copy.specs.States.{state_in}
 use Rattle.capnp_dynamic.proofs.lemmas.Bytes.{text_made, text_refused}
 use Rattle.capnp_dynamic_lists.proofs.Contents.{blob_made, blob_refused}
 use Rattle.capnp_dynamic_lists.proofs.blobs.put_at.Goals as goal

@@ -5,7 +5,8 @@ use Rattle.capnp_model.specs.Sizes.{object_words}
 use Rattle.std.proofs.Common.{◌*◌, length, arith}
 use Rattle.capnp_units.specs.Segments.{words_in}
 use Rattle.capnp_builders.specs.Making.{Makes, BytesRefused}
-use Rattle.capnp_dynamic.specs.Puts.{state_in, ObjectRefused}
+use Rattle.capnp_copy.specs.States.{state_in}
+use Rattle.capnp_dynamic.specs.Puts.{ObjectRefused}
 use Rattle.capnp_dynamic.proofs.lemmas.SetPointers.{bytes_words}
 use Rattle.capnp_dynamic_lists.specs.Blobs.{bytes_of}
 use Rattle.capnp_dynamic_lists.specs.Puts.{PutsObject}

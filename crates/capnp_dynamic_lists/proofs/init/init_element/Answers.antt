@@ -10,7 +10,8 @@ use Rattle.capnp_records.specs.Sets.{nodes_of}
 use Rattle.capnp_queries.specs.Types.{ty_of}
 use Rattle.capnp_builders.specs.Making.{Makes}
 use Rattle.capnp_dynamic.specs.NewLists.{tree_of_new, content_of_list}
-use Rattle.capnp_dynamic.specs.Puts.{state_in, ObjectRefused}
+use Rattle.capnp_copy.specs.States.{state_in}
+use Rattle.capnp_dynamic.specs.Puts.{ObjectRefused}
 use Rattle.capnp_dynamic_lists.specs.Elements.{no_new_element}
 use Rattle.capnp_dynamic_lists.specs.Puts.{PutsObject, PutsContent}
 use Rattle.capnp_dynamic_lists.proofs.Pointers.{pointer_there}

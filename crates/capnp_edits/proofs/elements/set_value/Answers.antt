@@ -4,7 +4,7 @@ use Rattle.capnp_model.specs.Calls.{set_to}
 use Rattle.capnp_units.specs.Segments.{words_in}
 use Rattle.capnp_queries.specs.Types.{ty_of}
 use Rattle.capnp_calls.specs.CallViews.{slot_value_view}
-use Rattle.capnp_dynamic.specs.Puts.{state_in}
+use Rattle.capnp_copy.specs.States.{state_in}
 use Rattle.capnp_edits.specs.Elements.{WritesElement}
 use Rattle.capnp_edits.proofs.ElementEnds.{text_end, data_end}
 use Rattle.capnp_edits.proofs.elements.set_value.Goals as goal

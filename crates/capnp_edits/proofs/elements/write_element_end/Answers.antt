@@ -5,7 +5,7 @@ use Rattle.capnp_units.specs.Segments.{words_in}
 use Rattle.capnp_records.specs.Sets.{nodes_of}
 use Rattle.capnp_queries.specs.Types.{ty_of}
 use Rattle.capnp_calls.specs.CallViews.{action_view}
-use Rattle.capnp_dynamic.specs.Puts.{state_in}
+use Rattle.capnp_copy.specs.States.{state_in}
 use Rattle.capnp_edits.specs.Elements.{WritesElement}
 use Rattle.capnp_edits.proofs.ElementEnds.{initn_end}
 use Rattle.capnp_edits.proofs.elements.write_element_end.Goals as goal

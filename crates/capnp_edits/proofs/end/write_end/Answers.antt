@@ -8,7 +8,7 @@ use Rattle.capnp_edits.specs.Written.{WritesField}
 use Rattle.capnp_queries.specs.Structs.{schema_around}
 use Rattle.capnp_dynamic.specs.Begun.{begun_field}
 use Rattle.capnp_dynamic.specs.NewLists.{initn_field}
-use Rattle.capnp_dynamic.specs.Puts.{state_in}
+use Rattle.capnp_copy.specs.States.{state_in}
 use Rattle.capnp_edits.proofs.Ends.{edited_end, put_end}
 use Rattle.capnp_copy.proofs.lemmas.RoomLaws.{sizes_grow}
 use Rattle.capnp_edits.proofs.end.write_end.Goals as goal

@@ -8,7 +8,7 @@ use Rattle.capnp_wire.specs.Places.{place_view}
 use Rattle.capnp_records.specs.Sets.{nodes_of}
 use Rattle.capnp_queries.specs.Structs.{id_of}
 use Rattle.capnp_queries.specs.Types.{ty_of}
-use Rattle.capnp_dynamic.specs.Inside.{words_of_shape, pointers_of_shape}
+use Rattle.capnp_model.specs.Schemas.{words_of_shape, pointers_of_shape}
 use Rattle.capnp_builders.proofs.lemmas.Begun.{Laws, made_then}
 use Rattle.capnp_widening.specs.MovedElements.{as_structs}
 use Rattle.capnp_edits.proofs.BegunLists.{structs_value, other_value, gets_grow}

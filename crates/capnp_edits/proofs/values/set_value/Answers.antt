@@ -3,7 +3,7 @@ use Rattle.std.specs.Prelude.{string_bytes}
 use Rattle.capnp_model.specs.Calls.{set_to}
 use Rattle.capnp_records.specs.NodeViews.{field_of}
 use Rattle.capnp_calls.specs.CallViews.{slot_value_view}
-use Rattle.capnp_dynamic.specs.Puts.{state_in}
+use Rattle.capnp_copy.specs.States.{state_in}
 use Rattle.capnp_edits.specs.Written.{WritesField}
 use Rattle.capnp_edits.proofs.Ends.{text_end, data_end}
 use Rattle.capnp_units.specs.Segments.{words_in}

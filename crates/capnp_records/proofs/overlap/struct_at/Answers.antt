@@ -1,5 +1,5 @@
 use Rattle.std.proofs.Common.{map, sym, ap, arith}
-use Rattle.capnp_records.specs.NodeViews.{node_of, kind_of, struct_of, enumerant_of}
+use Rattle.capnp_records.specs.NodeViews.{node_of, node_kind, struct_of, enumerant_of}
 use Rattle.capnp_records.proofs.Overlaps.{no_levels, no_node, no_struct, written}
 use Rattle.capnp_records.proofs.overlap.struct_at.Goals as goal
 
@@ -12,8 +12,8 @@ returns-in_default-clause-missing c = no_node (map node_of c.args.nodes.records.
 pub returns-in-Struct-clause-found : goal.returns-in-Struct-clause-found
 returns-in-Struct-clause-found c =
     let zero_not = c.if-levels-eq0.false in
-    written (map node_of c.args.nodes.records.now) c.args.levels c.args.id (node_of c.in-Some.node.now) (struct_of c.in-Struct.holder) (omega arith) (sym (c.in-Some.ensures)) (ap kind_of c.in-Struct.is)
+    written (map node_of c.args.nodes.records.now) c.args.levels c.args.id (node_of c.in-Some.node.now) (struct_of c.in-Struct.holder) (omega arith) (sym (c.in-Some.ensures)) (ap node_kind c.in-Struct.is)
 
 pub returns-in-Enum-clause-missing : goal.returns-in-Enum-clause-missing
 returns-in-Enum-clause-missing c =
-    no_struct (map node_of c.args.nodes.records.now) c.args.levels c.args.id (node_of c.in-Some.node.now) (sym (c.in-Some.ensures)) (map enumerant_of c.in-Enum.field-0.items) (ap kind_of c.in-Enum.is)
+    no_struct (map node_of c.args.nodes.records.now) c.args.levels c.args.id (node_of c.in-Some.node.now) (sym (c.in-Some.ensures)) (map enumerant_of c.in-Enum.field-0.items) (ap node_kind c.in-Enum.is)

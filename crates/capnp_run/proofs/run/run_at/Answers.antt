@@ -16,7 +16,8 @@ use Rattle.capnp_ways.specs.Ways.{IsWay}
 use Rattle.capnp_run.proofs.CallWays.{way_of_this}
 use Rattle.capnp_run.specs.declared.fault.RunFault.{RunFault}
 use Rattle.capnp_run.specs.declared.fault.RunFault.TheVariants as faults
-use Rattle.capnp_run.specs.Runs.{record_at, PutsLongAt}
+use Rattle.capnp_calls.specs.Roots.{record_at}
+use Rattle.capnp_run.specs.Runs.{PutsLongAt}
 use Rattle.capnp_run.proofs.InTurn.{SoFar, at_first, one_more, none_behind, ends_long, size_kept}
 use Rattle.capnp_run.proofs.run.run_at.Goals as goal
 
