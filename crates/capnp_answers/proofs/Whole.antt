@@ -16,6 +16,7 @@ use Rattle.capnp_calls.specs.Texts.{as_it_is}
 use Rattle.capnp_canonical.specs.Writes.{filled, words_view}
 use Rattle.capnp_footprints.specs.Footprints.{Owns}
 use Rattle.capnp_run.specs.Runs.{EndsLongRoot}
+use Rattle.capnp_model.proofs.lemmas.Lists.{length-take-short}
 use Rattle.capnp_answers.specs.Bounds.{limits_view}
 use Rattle.capnp_answers.specs.declared.bounds.Bounds.{Bounds}
 use Rattle.capnp_answers.specs.Answers.{AnswersRoot, AnswersStruct, AnswersWords, IsAnswered, answer_view, MeansTree, LongFrom, LongFromWords, IsTooLarge}
@@ -34,13 +35,8 @@ view_front zero words = refl
 view_front (suc n) [] = refl
 view_front (suc n) (w ∷ ws) = ap (λ xs. from_le_bytes w64 w ∷ xs) (view_front n ws)
 
-length_front : (n : ℕ) (xs : List ℕ) → length (take n xs) ≤ n
-length_front zero xs = omega arith
-length_front (suc n) [] = omega arith
-length_front (suc n) (x ∷ xs) = let low = length_front n xs in omega (arith, low)
-
 pub length_filled : (count : ℕ) (into : List (List ℕ)) → length (filled count into) ≤ count
-length_filled count into = length_front count (words_view into)
+length_filled count into = length-take-short count (words_view into)
 
 -- how canonical words are owned
 abbrev pub OwnsWords : Type 0

@@ -15,14 +15,15 @@ use Rattle.capnp_units.specs.declared.limiter.ReadLimiter.{ReadLimiter}
 use Rattle.capnp_object.specs.Objects.{AreThere}
 use Rattle.capnp_object.specs.Inside.{words_there}
 use Rattle.capnp_object.specs.Walks.{Stopped}
-use Rattle.capnp_object.proofs.lemmas.Rows.{row_end, each_count, elements_start, element_next, elements_met_next}
+use Rattle.capnp_object.proofs.lemmas.Rows.{row_end, elements_start, element_next, elements_met_next}
+use Rattle.capnp_model.proofs.lemmas.Counts.{each_count, each_element_count}
 use Rattle.capnp_canonical.specs.Standing.{Hold, StandEach, StandElements, IsSmall, HasHead}
 use Rattle.capnp_canonical.specs.Checks.{Agrees, Differs}
 use Rattle.capnp_canonical.proofs.lemmas.Checking.{SoFar, Parts, begun, next, differs, stopped, ended}
 use Rattle.capnp_canonical.proofs.CheckedRows.{head_next, row_begun, row_ended}
 use Rattle.capnp_canonical.proofs.Holding.{hold_none, hold_end, hold_own}
 use Rattle.capnp_canonical.proofs.Parts.{part_there, part_room}
-use Rattle.capnp_canonical.proofs.Rows.{elements_count, part_section}
+use Rattle.capnp_canonical.proofs.Rows.{part_section}
 use Rattle.capnp_canonical.proofs.SameVisits.{or_left, or_right}
 use Rattle.capnp_canonical.proofs.StandingRows.{element_both, element_parts}
 
@@ -70,7 +71,7 @@ module _ (n : ℕ) (s : Segments) (p : Place) (count d k head : ℕ) (l : ReadLi
         omega arith
 
     rest_count : (es : Elements) → elements_from n s p count d k (i + 1) ≡ Some es → element_count (trim_elements es) ≡ count - (i + 1)
-    rest_count es is = count-trim_elements es ∙ elements_count (tree_at n s) (after p ((i + 1) * (d + k))) (drop ((i + 1) * (d + k)) (words_there s p (count * (d + k)))) d k (count - (i + 1)) es is
+    rest_count es is = count-trim_elements es ∙ each_element_count (tree_at n s) (after p ((i + 1) * (d + k))) (drop ((i + 1) * (d + k)) (words_there s p (count * (d + k)))) d k (count - (i + 1)) es is
 
     kids_count : (ts : Trees) → each (tree_at n s) (after (after p (i * (d + k))) d) k ≡ Some ts → tree_count (trim_each ts) ≡ k
     kids_count ts is = count-trim_each ts ∙ each_count (tree_at n s) (after (after p (i * (d + k))) d) k ts is

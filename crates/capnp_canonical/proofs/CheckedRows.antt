@@ -14,7 +14,8 @@ use Rattle.capnp_units.specs.declared.errors.Error.{Error}
 use Rattle.capnp_units.specs.declared.limiter.ReadLimiter.{ReadLimiter}
 use Rattle.capnp_object.specs.Objects.{AreThere}
 use Rattle.capnp_object.specs.Walks.{Stopped}
-use Rattle.capnp_object.proofs.lemmas.Rows.{row_start, row_end, met_next, each_next, each_count}
+use Rattle.capnp_object.proofs.lemmas.Rows.{row_start, row_end, met_next, each_next}
+use Rattle.capnp_model.proofs.lemmas.Counts.{each_count}
 use Rattle.capnp_canonical.specs.Standing.{Stands, StandEach, IsSmall, HasHead}
 use Rattle.capnp_canonical.specs.Checks.{Agrees, Differs}
 use Rattle.capnp_canonical.proofs.lemmas.Checking.{SoFar, Parts, begun, next, differs, stopped, ended}

@@ -13,10 +13,11 @@ use Rattle.capnp_model.proofs.lemmas.TrimFits.{count-trim_elements}
 use Rattle.capnp_object.specs.Objects.{AreThere}
 use Rattle.capnp_object.specs.Inside.{section_at, words_there}
 use Rattle.capnp_object.proofs.lemmas.Rows.{row_end, elements_start, elements_met_next}
+use Rattle.capnp_model.proofs.lemmas.Counts.{each_element_count}
 use Rattle.capnp_canonical.specs.Writes.{filled, with_cells}
 use Rattle.capnp_canonical.specs.Copies.{copy_visits, Written, Unwritten}
 use Rattle.capnp_canonical.proofs.Copying.{SoFar, begun, next, ended, stopped}
-use Rattle.capnp_canonical.proofs.Rows.{element_join, element_parts, elements_count, part_section}
+use Rattle.capnp_canonical.proofs.Rows.{element_join, element_parts, part_section}
 use Rattle.capnp_canonical.proofs.Rooms.{cell_longer, cells_longer}
 use Rattle.capnp_canonical.proofs.Parts.{part_room}
 use Rattle.capnp_canonical.proofs.lemmas.Putting.{cells_all}
@@ -72,7 +73,7 @@ module _ (n : ℕ) (s : Segments) (p : Place) (d k a b count at first : ℕ) (ol
       (from_elements v p d k count) (visits_from n s p d k count i) (from_each v (after here d) k) (visits_from n s p d k count (i + 1)) first old now new l j m used e (elements_met_next p d k i count h v)
       (λ ts es is rest_is. element_join at a b d k i count section (filled used now) ws f p ts es h (omega arith) is rest_is (sym (part_section s p words there.0 (i * (d + k)) d (omega arith)))) (λ xs is. element_parts d k i count ws f p xs h is)
       (λ ts es is rest_is.
-      let count_is : element_count (trim_elements es) ≡ count - (i + 1) = count-trim_elements es ∙ elements_count f (after p ((i + 1) * (d + k))) (drop ((i + 1) * (d + k)) ws) d k (count - (i + 1)) es rest_is in
+      let count_is : element_count (trim_elements es) ≡ count - (i + 1) = count-trim_elements es ∙ each_element_count f (after p ((i + 1) * (d + k))) (drop ((i + 1) * (d + k)) ws) d k (count - (i + 1)) es rest_is in
       let long : length (filled used now) ≤ length (out ts) = cell_longer (at + i * (a + b)) (at + i * (a + b) + (a + b)) a b section (resized b (trim_each ts)) (filled used now) (count-resized b (trim_each ts)) (omega arith) (omega arith) in
       let all : count * (a + b) ≡ (i + 1 + (count - (i + 1))) * (a + b) = ap (λ (c : ℕ). c * (a + b)) (let t : count ≡ i + 1 + (count - (i + 1)) = omega arith in t) in
       let spread : (i + 1 + (count - (i + 1))) * (a + b) ≡ (i + 1) * (a + b) + (count - (i + 1)) * (a + b) = grind arith in

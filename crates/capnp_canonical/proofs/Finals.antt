@@ -24,10 +24,11 @@ use Rattle.capnp_units.specs.Limits.{Spends, Follows}
 use Rattle.capnp_units.specs.Sizes.{data_bits}
 use Rattle.capnp_object.specs.Inside.{section_at, words_there}
 use Rattle.capnp_object.specs.Walks.{Walked}
-use Rattle.capnp_object.proofs.lemmas.Rows.{each_count, nothing_met}
+use Rattle.capnp_object.proofs.lemmas.Rows.{nothing_met}
 use Rattle.capnp_object.proofs.lemmas.Walks.{walked_none, walked_both}
 use Rattle.capnp_object.specs.Objects.{AreThere}
 use Rattle.capnp_model.proofs.lemmas.CanonicalCopies.{free_resized}
+use Rattle.capnp_model.proofs.lemmas.Counts.{each_count, each_element_count}
 use Rattle.capnp_canonical.specs.declared.cuts.Cut.{Cut}
 use Rattle.capnp_canonical.specs.Objects.{IsCut}
 use Rattle.capnp_canonical.specs.Widths.{kept, widest}
@@ -39,7 +40,7 @@ use Rattle.capnp_canonical.proofs.Kept.{widest_at}
 use Rattle.capnp_canonical.proofs.Fronts.{front_words}
 use Rattle.capnp_canonical.proofs.lemmas.Putting.{struct_cell, take_with_words}
 use Rattle.capnp_canonical.proofs.Nulls.{free, free_cost, free_length, nulls_read, each_nulls, met_both, kept_front, kept_zeros}
-use Rattle.capnp_canonical.proofs.Rows.{least_words, least_pointers, elements_count, empty_elements}
+use Rattle.capnp_canonical.proofs.Rows.{least_words, least_pointers, empty_elements}
 use Rattle.capnp_canonical.proofs.Objects.{filled_length, filled_part, filled_put, struct_written, pointers_written, structs_written}
 
 -- a list's words cost no less
@@ -207,7 +208,7 @@ module _ (n : ℕ) (s : Segments) (p : Place) (words count d k d' k' at used end
         struct_list d k es,
         ap (λ (o : Option Elements). o >>= λ us. Some (struct_list d k us)) e,
         (λ clean. clean),
-        structs_written at used count d k d' k' word tag es (filled used old) (filled end mid) (filled_length used old inside) kept_words size (elements_count f p ws d k count es e)
+        structs_written at used count d k d' k' word tag es (filled used old) (filled end mid) (filled_length used old inside) kept_words size (each_element_count f p ws d k count es e)
             (least_words count s p words d k f es there fit e ∙ sym data_is) (least_pointers count n s p ws words d k es there fit e ∙ sym kept_is) pointing tagged,
       ))
       (λ t e. let a = bind_some all _ t e in (a.0, a.1))

@@ -12,6 +12,7 @@ use Rattle.capnp_model.proofs.lemmas.Chaining.{some_is}
 use Rattle.capnp_model.proofs.lemmas.Numbers.{numbers_in-number_of}
 use Rattle.capnp_object.specs.Inside.{section_at, words_there}
 use Rattle.capnp_object.proofs.lemmas.Tags.{words_from, words_are}
+use Rattle.capnp_model.proofs.lemmas.WordsInBytes.{AreWords-take, AreWords-drop}
 use Rattle.capnp_canonical.specs.Standing.{Hold, segment_words}
 use Rattle.capnp_canonical.proofs.Parts.{segment_of, there_is, there_words, there_length, section_is}
 
@@ -65,16 +66,6 @@ hold_end s p xs h =
 
 -- ---- words that are there
 
-taken_are : (n : ℕ) (ws : List ℕ) → AreWords ws → AreWords (take n ws)
-taken_are zero ws h = tt
-taken_are (suc n) [] h = tt
-taken_are (suc n) (w ∷ ws) h = (h.0, taken_are n ws h.1)
-
-dropped_are : (n : ℕ) (ws : List ℕ) → AreWords ws → AreWords (drop n ws)
-dropped_are zero ws h = h
-dropped_are (suc n) [] h = tt
-dropped_are (suc n) (w ∷ ws) h = dropped_are n ws h.1
-
 -- a place that is there lies within its segment
 pub place_within : (s : Segments) (p : Place) (n : ℕ) → is_some (words_at s p n) ≡ true → p.position + n ≤ length (segment_words s p.segment)
 unfolding segment_words
@@ -88,7 +79,7 @@ unfolding segment_words
 there_are_words s p n there small =
     let a = segment_of s p n there in
     let is : unwrap_or (slice_get s p.segment) [] ≡ a.0 = ap (λ (o : Option (List ℕ)). unwrap_or o []) a.1 in
-    subst AreWords (sym (there_words s p n there)) (taken_are n (drop p.position a.0) (dropped_are p.position a.0 (subst AreWords is small)))
+    subst AreWords (sym (there_words s p n there)) (AreWords-take n (drop p.position a.0) (AreWords-drop p.position a.0 (subst AreWords is small)))
 
 -- the words of the section that is there
 pub own_words_are : (s : Segments) (p : Place) (n : ℕ) → is_some (words_at s p n) ≡ true → AreWords (segment_words s p.segment) → words_of n (section_at s p n) ≡ words_there s p n

@@ -24,6 +24,7 @@ use Rattle.capnp_object.specs.Objects.{plain_size, whole_list, whole, object_at}
 use Rattle.capnp_object.proofs.lemmas.Linking.{plain_number}
 use Rattle.capnp_object.proofs.lemmas.Walking.{object_found}
 use Rattle.capnp_model.proofs.lemmas.ReadFits.{list_kind_cases}
+use Rattle.capnp_model.proofs.lemmas.PointerWords.{list_word, struct_word}
 use Rattle.capnp_canonical.specs.Standing.{segment_words, Stands, LeadsTo}
 use Rattle.capnp_canonical.proofs.StandingObjects.{word_small, lead_word}
 
@@ -169,12 +170,6 @@ module _ (p q : Place) (offset : ℕ) (bound : offset < 2 ^ 30) where
 
 -- ---- its word
 
-list_word_of : (w : ℕ) → w < 2 ^ 64 → bits_at 0 2 w ≡ 1 → w ≡ list_pointer (bits_at 2 30 w) (bits_at 32 3 w) (bits_at 35 29 w)
-list_word_of w bound kind = omega arith
-
-struct_word_of : (w : ℕ) → w < 2 ^ 64 → bits_at 0 2 w ≡ 0 → w ≡ struct_pointer (bits_at 2 30 w) (bits_at 32 16 w) (bits_at 48 16 w)
-struct_word_of w bound kind = omega arith
-
 offset_small : (w : ℕ) → bits_at 2 30 w < 2 ^ 30
 offset_small w = omega arith
 
@@ -238,7 +233,7 @@ module _ (s : Segments) (p : Place) (head : ℕ) (whole_words : AreWords (segmen
           let at : (place_view start).position ≡ x.0.position = ap (λ (r : Place). r.position) is.0 in
           let led = onwards (after p 1) x.0 (bits_at 2 30 w) (offset_small w) x.1 (omega arith) in
           let a = at_head x.0 (bits_at 2 30 w) w is.0 led.0 here in
-          let word : w ≡ list_pointer (head - p.position - 1) (size_number z) n = list_word_of w (word_small s p w whole_words there) kind ∙ ap (λ (j : ℕ). list_pointer j size count) (sym a.0) ∙ ap (λ (j : ℕ). list_pointer (head - p.position - 1) j count) (sym is.1) ∙ ap (list_pointer (head - p.position - 1) (size_number z)) (sym is.2) in
+          let word : w ≡ list_pointer (head - p.position - 1) (size_number z) n = list_word w (word_small s p w whole_words there) kind ∙ ap (λ (j : ℕ). list_pointer j size count) (sym a.0) ∙ ap (λ (j : ℕ). list_pointer (head - p.position - 1) j count) (sym is.1) ∙ ap (list_pointer (head - p.position - 1) (size_number z)) (sym is.2) in
           (there ∙ ap (λ (j : ℕ). Some j) word, a.1)
       by (suc (suc k)) kind x = absurd x
 
@@ -273,7 +268,7 @@ module _ (s : Segments) (p : Place) (head : ℕ) (whole_words : AreWords (segmen
               offset = offset;
               small = offset_small w;
               begin = x.1 ∙ ap (λ (r : Place). Ok r) (sym is.0);
-              word = struct_word_of w (word_small s p w whole_words there) kind ∙ ap (λ (j : ℕ). struct_pointer offset j b) (sym is.1) ∙ ap (struct_pointer offset d) (sym is.2);
+              word = struct_word w (word_small s p w whole_words there) kind ∙ ap (λ (j : ℕ). struct_pointer offset j b) (sym is.1) ∙ ap (struct_pointer offset d) (sym is.2);
               narrow = let d_is = is.1 in let k_is = is.2 in (omega arith, omega arith);
             }
         by (suc zero) kind x =

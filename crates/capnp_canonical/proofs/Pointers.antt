@@ -9,7 +9,8 @@ use Rattle.capnp_model.specs.Visits.{Visit}
 use Rattle.capnp_units.specs.declared.errors.Error.{Error}
 use Rattle.capnp_units.specs.declared.limiter.ReadLimiter.{ReadLimiter}
 use Rattle.capnp_model.proofs.lemmas.TrimFits.{count-trim_each}
-use Rattle.capnp_object.proofs.lemmas.Rows.{row_start, row_end, met_next, each_count}
+use Rattle.capnp_object.proofs.lemmas.Rows.{row_start, row_end, met_next}
+use Rattle.capnp_model.proofs.lemmas.Counts.{each_count}
 use Rattle.capnp_canonical.specs.Writes.{filled, with_link, with_links}
 use Rattle.capnp_canonical.specs.Copies.{copy_visits, Written, Unwritten}
 use Rattle.capnp_canonical.proofs.Copying.{SoFar, begun, next, ended, stopped}

@@ -12,7 +12,8 @@ use Rattle.capnp_model.proofs.lemmas.Chaining.{bind_some, some_is}
 use Rattle.capnp_model.proofs.lemmas.TrimFits.{count-trim_each, count-with_pointers, count-trim_elements}
 use Rattle.capnp_model.proofs.lemmas.Stripping.{count-resized}
 use Rattle.capnp_object.specs.Inside.{section_at, words_there}
-use Rattle.capnp_object.proofs.lemmas.Rows.{each_next, element_next, each_count}
+use Rattle.capnp_object.proofs.lemmas.Rows.{each_next, element_next}
+use Rattle.capnp_model.proofs.lemmas.Counts.{each_count, each_element_count}
 use Rattle.capnp_canonical.specs.Widths.{kept, widest}
 use Rattle.capnp_canonical.specs.Writes.{with_link, with_links, with_cells}
 use Rattle.capnp_canonical.proofs.Parts.{there_length, section_is, word_is, part_there, part_is}
@@ -42,13 +43,6 @@ row_parts i n f p us h e =
 
 -- ---- one more element
 
-pub elements_count : (f : Place → Option Tree) (p : Place) (ws : List ℕ) (d k n : ℕ) (es : Elements) → each_element f p ws d k n ≡ Some es → element_count es ≡ n
-elements_count f p ws d k zero es e = ap element_count (sym (some_is no_elements es e))
-elements_count f p ws d k (suc n) es e =
-    let a = bind_some (each f (after p d) k) _ es e in
-    let b = bind_some (each_element f (after p (d + k)) (drop (d + k) ws) d k n) _ es a.2 in
-    ap element_count (sym (some_is _ _ b.2)) ∙ ap suc (elements_count f (after p (d + k)) (drop (d + k) ws) d k n b.0 b.1)
-
 pub element_join : (at d' k' d k i n section : ℕ) (w ws : List ℕ) (f : Place → Option Tree) (p : Place) (ts : Trees) (es : Elements) → i < n → at + n * (d' + k') ≤ length w → each f (after (after p (i * (d + k))) d) k ≡ Some ts
     → each_element f (after p ((i + 1) * (d + k))) (drop ((i + 1) * (d + k)) ws) d k (n - (i + 1)) ≡ Some es → section ≡ section_of (take d (drop (i * (d + k)) ws))
     → (xs : Elements) × (each_element f (after p (i * (d + k))) (drop (i * (d + k)) ws) d k (n - i) ≡ Some xs) × (have_capability ts ≡ false → elements_have_capability es ≡ false → elements_have_capability xs ≡ false)
@@ -59,7 +53,7 @@ element_join at d' k' d k i n section w ws f p ts es h room e g is =
     let rest = with_pointers k' (trim_elements es) in
     let here = at + i * (d' + k') in
     let next : at + (i + 1) * (d' + k') ≡ here + (d' + k') = omega arith in
-    let count : element_count rest ≡ n - (i + 1) = count-with_pointers k' (trim_elements es) ∙ count-trim_elements es ∙ elements_count f (after p ((i + 1) * (d + k))) (drop ((i + 1) * (d + k)) ws) d k (n - (i + 1)) es g in
+    let count : element_count rest ≡ n - (i + 1) = count-with_pointers k' (trim_elements es) ∙ count-trim_elements es ∙ each_element_count f (after p ((i + 1) * (d + k))) (drop ((i + 1) * (d + k)) ws) d k (n - (i + 1)) es g in
     let more : n * (d' + k') ≡ (i + 1 + (n - (i + 1))) * (d' + k') = ap (λ (j : ℕ). j * (d' + k')) (let s : n ≡ i + 1 + (n - (i + 1)) = omega arith in s) in
     let spread : (i + 1 + (n - (i + 1))) * (d' + k') ≡ (i + 1) * (d' + k') + (n - (i + 1)) * (d' + k') = grind arith in
     let rows : element_count rest * (d' + k') ≡ (n - (i + 1)) * (d' + k') = ap (λ (j : ℕ). j * (d' + k')) count in

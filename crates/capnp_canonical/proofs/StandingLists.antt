@@ -26,9 +26,9 @@ use Rattle.capnp_object.specs.declared.object.Object.TheVariants as object
 use Rattle.capnp_object.specs.Places.{place_view}
 use Rattle.capnp_object.specs.Objects.{AreThere}
 use Rattle.capnp_object.specs.Inside.{section_at, words_there}
-use Rattle.capnp_object.proofs.lemmas.Rows.{each_count}
 use Rattle.capnp_object.proofs.lemmas.Walks.{walked_none}
 use Rattle.capnp_object.proofs.lemmas.Measuring.{data_bits_plain}
+use Rattle.capnp_model.proofs.lemmas.Counts.{each_count, each_element_count}
 use Rattle.capnp_canonical.specs.Widths.{kept, widest}
 use Rattle.capnp_canonical.specs.Standing.{Hold, Stands, StandEach, StandElements, segment_words, IsSmall}
 use Rattle.capnp_canonical.specs.Checks.{Tests, TestsObject, TestsRow, TestsElements}
@@ -37,7 +37,7 @@ use Rattle.capnp_canonical.proofs.Holding.{hold_parts, hold_both, hold_at, hold_
 use Rattle.capnp_canonical.proofs.Masks.{last_cut}
 use Rattle.capnp_canonical.proofs.Parts.{there_is, front_there}
 use Rattle.capnp_canonical.proofs.lemmas.Putting.{resized_all}
-use Rattle.capnp_canonical.proofs.Rows.{elements_count, least_words, least_pointers}
+use Rattle.capnp_canonical.proofs.Rows.{least_words, least_pointers}
 use Rattle.capnp_canonical.proofs.StandingObjects.{body_both, body_parts}
 
 -- ---- the bits behind the last element
@@ -196,7 +196,7 @@ module _ (n : ℕ) (s : Segments) (p : Place) (head : ℕ) (start : wire.Place) 
     (least : (es : Elements) → each_element (tree_at n s) (place_view start) (words_there s (place_view start) (c * (d + k))) d k c ≡ Some es → (common_words d (trim_elements es) ≡ d) × (common_pointers (trim_elements es) ≡ k))
     (link : word_at s p ≡ Some (list_pointer (head - p.position - 1) 7 (c * (d + k)))) (tag : word_at s (place p.segment head) ≡ Some (struct_pointer c d k)) where
   elements_full : (es : Elements) → each_element (tree_at n s) (place_view start) (words_there s (place_view start) (c * (d + k))) d k c ≡ Some es → element_count (trim_elements es) ≡ c
-  elements_full es e = count-trim_elements es ∙ elements_count (tree_at n s) (place_view start) (words_there s (place_view start) (c * (d + k))) d k c es e
+  elements_full es e = count-trim_elements es ∙ each_element_count (tree_at n s) (place_view start) (words_there s (place_view start) (c * (d + k))) d k c es e
 
   least_is : (es : Elements) → each_element (tree_at n s) (place_view start) (words_there s (place_view start) (c * (d + k))) d k c ≡ Some es → trim (struct_list d k es) ≡ struct_list d k (trim_elements es)
   unfolding trim
@@ -293,7 +293,7 @@ structs_words s p q head c d k a b end f ws t least e y =
     let xs = with_pointers j es in
     let is = least r.0 r.1 in
     let x : Stands s p head (trim (struct_list d k r.0)) end = subst (λ (u : Tree). Stands s p head (trim u) end) (sym (some_is _ _ r.2)) y in
-    let count : element_count xs ≡ c = count-with_pointers j es ∙ count-trim_elements r.0 ∙ elements_count f q ws d k c r.0 r.1 in
+    let count : element_count xs ≡ c = count-with_pointers j es ∙ count-trim_elements r.0 ∙ each_element_count f q ws d k c r.0 r.1 in
     let first = hold_parts s (place p.segment head) (struct_pointer (element_count xs) i j ∷ []) (cells 0 i j xs ++ element_bodies xs) x.targets in (
       x.link ∙ ap (λ (m : ℕ). Some (list_pointer (head - p.position - 1) 7 (m * (i + j)))) count ∙ ap (λ (m : ℕ). Some (list_pointer (head - p.position - 1) 7 (c * (m + j)))) is.0 ∙ ap (λ (m : ℕ). Some (list_pointer (head - p.position - 1) 7 (c * (a + m)))) is.1,
       word_was s (place p.segment head) _ first.0 ∙ ap (λ (m : ℕ). Some (struct_pointer m i j)) count ∙ ap (λ (m : ℕ). Some (struct_pointer c m j)) is.0 ∙ ap (λ (m : ℕ). Some (struct_pointer c a m)) is.1,

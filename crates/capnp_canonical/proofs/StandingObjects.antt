@@ -25,10 +25,10 @@ use Rattle.capnp_object.specs.declared.object.Object.TheVariants as object
 use Rattle.capnp_object.specs.Places.{place_view}
 use Rattle.capnp_object.specs.Objects.{AreThere}
 use Rattle.capnp_object.specs.Inside.{section_at, words_there}
-use Rattle.capnp_object.proofs.lemmas.Rows.{each_count}
 use Rattle.capnp_object.proofs.lemmas.Walking.{object_found, link_tree}
 use Rattle.capnp_units.specs.declared.errors.Error.{Error}
 use Rattle.capnp_units.specs.declared.limiter.ReadLimiter.{ReadLimiter}
+use Rattle.capnp_model.proofs.lemmas.Counts.{each_count}
 use Rattle.capnp_canonical.specs.Widths.{kept, widest}
 use Rattle.capnp_canonical.specs.Standing.{Hold, Stands, StandEach, segment_words, IsSmall, HasHead, LeadsTo}
 use Rattle.capnp_canonical.specs.Checks.{TestsObject, TestsRow}

@@ -10,9 +10,9 @@ use Rattle.capnp_model.specs.Visits.{visits}
 use Rattle.capnp_model.specs.Trimming.{stripped, trim, trim_each}
 use Rattle.capnp_model.proofs.lemmas.TrimFits.{count-trim_each}
 use Rattle.capnp_object.specs.Inside.{section_at, words_there}
-use Rattle.capnp_object.proofs.lemmas.Rows.{each_count}
 use Rattle.capnp_units.specs.declared.errors.Error.{Error}
 use Rattle.capnp_units.specs.declared.limiter.ReadLimiter.{ReadLimiter}
+use Rattle.capnp_model.proofs.lemmas.Counts.{each_count}
 use Rattle.capnp_canonical.specs.Widths.{kept, widest}
 use Rattle.capnp_canonical.specs.Checks.{TellsRow, TellsStruct}
 use Rattle.capnp_canonical.proofs.lemmas.Checking.{began_none}

@@ -14,12 +14,6 @@ taken_map f zero xs = refl
 taken_map f (suc n) [] = refl
 taken_map f (suc n) (x ∷ xs) = ap (λ ys. f x ∷ ys) (taken_map f n xs)
 
-pub taken_all : {A : Type 0} (xs : List A) (n : ℕ) → length xs ≤ n → take n xs ≡ xs
-taken_all [] zero h = refl
-taken_all [] (suc n) h = refl
-taken_all (x ∷ xs) zero h = absurd (omega arith)
-taken_all (x ∷ xs) (suc n) h = ap (λ ys. x ∷ ys) (taken_all xs n (omega arith))
-
 -- one call more is tested
 pub next_tested : (test : ModelCall → Bool) (f : Call → ModelCall) (xs : List Call) (i : ℕ) (x : Call) (b : Bool) → i < length xs → x ≡ get_or xs i x → list_all test (map f (take i xs)) ≡ true → b ≡ test (f x) → list_all test (map f (take (i + 1) xs)) ≡ b
 next_tested test f xs i x b lt is h e =

@@ -28,11 +28,11 @@ use Rattle.capnp_footprints.proofs.lemmas.Spans.{words_front}
 use Rattle.capnp_footprints.proofs.lemmas.Writing.{plain_words}
 use Rattle.capnp_model.proofs.lemmas.WordBits.{written_in_low}
 use Rattle.capnp_model.proofs.lemmas.ReadFits.{words_length}
+use Rattle.capnp_model.proofs.lemmas.WordsInBytes.{words_in_bytes-zeros}
 use Rattle.capnp_copy.specs.Blobs.{whole_of, front_of}
 use Rattle.capnp_copy.specs.Bytes.{SetsBytes}
 use Rattle.capnp_copy.specs.Memory.{overwritten}
 use Rattle.capnp_copy.proofs.lemmas.BlobNumbers.{front_section, number_fits, number_behind}
-use Rattle.capnp_copy.proofs.ByteWords.{words_of_zeros}
 use Rattle.capnp_copy.proofs.lemmas.ElementLaws.{plain_parts, low_bits, set_plain, no_plain_word, none_written, same_list}
 
 -- ---- bytes that are read
@@ -243,7 +243,7 @@ zeros_set n s p m w section l o =
     let bytes : List ℕ = replicate (8 * w) 0 in
     let long : length bytes ≡ 8 * w = length-replicate (8 * w) 0 in
     let words : length bytes / 8 ≡ w = omega (arith, long) in
-    let are : words_in_bytes (length bytes / 8) bytes ≡ replicate w 0 = ap (λ (k : ℕ). words_in_bytes k bytes) words ∙ words_of_zeros w in
+    let are : words_in_bytes (length bytes / 8) bytes ≡ replicate w 0 = ap (λ (k : ℕ). words_in_bytes k bytes) words ∙ words_in_bytes-zeros w in
     let all = whole_set n s p m 0 section bytes (λ i. zero_small (8 * w) i) refl (omega (arith, long)) l o in
     subst (λ (ws : List ℕ). ReplacesObject n s (with_words s p ws) (a_list p 2 m) (plain_list 2 m (with_bits (8 * 0) (8 * length bytes) (number_of 8 bytes) section))) are
     (subst (λ (q : Place). ReplacesObject n s (with_words s q (words_in_bytes (length bytes / 8) bytes)) (a_list p 2 m) (plain_list 2 m (with_bits (8 * 0) (8 * length bytes) (number_of 8 bytes) section))) (after_none p) all)

@@ -31,16 +31,6 @@ words_append (suc u) w xs ys e =
     let tail : words_in_bytes (u + w) (drop 8 (xs ++ ys)) ≡ words_in_bytes u (drop 8 xs) ++ words_in_bytes w ys = ap (words_in_bytes (u + w)) (drop_append 8 xs ys long) ∙ words_append u w (drop 8 xs) ys (omega (arith, e, length-drop 8 xs)) in
     ap (λ (n : ℕ). words_in_bytes n (xs ++ ys)) sum ∙ ap (λ (x : ℕ). x ∷ words_in_bytes (u + w) (drop 8 (xs ++ ys))) head ∙ ap (λ (zs : List ℕ). from_le_bytes w64 xs ∷ zs) tail
 
-pub words_of_zeros : (w : ℕ) → words_in_bytes w (replicate (8 * w) 0) ≡ replicate w 0
-words_of_zeros zero = refl
-words_of_zeros (suc w) =
-    let e : replicate {A = ℕ} (8 * suc w) 0 ≡ replicate {A = ℕ} (8 + 8 * w) 0 = ap (λ (n : ℕ). replicate {A = ℕ} n 0) (next_eight w) in
-    let f : replicate {A = ℕ} (8 + 8 * w) 0 ≡ 0 ∷ 0 ∷ 0 ∷ 0 ∷ 0 ∷ 0 ∷ 0 ∷ 0 ∷ replicate {A = ℕ} (8 * w) 0 = eight_more (8 * w) in
-    ap (words_in_bytes (suc w)) (e ∙ f) ∙ ap (λ (xs : List ℕ). 0 ∷ xs) (words_of_zeros w)
-  where
-    eight_more : (n : ℕ) → replicate {A = ℕ} (8 + n) 0 ≡ 0 ∷ 0 ∷ 0 ∷ 0 ∷ 0 ∷ 0 ∷ 0 ∷ 0 ∷ replicate {A = ℕ} n 0
-    eight_more n = let e : 8 + n ≡ suc (suc (suc (suc (suc (suc (suc (suc n))))))) = omega arith in ap (λ (k : ℕ). replicate {A = ℕ} k 0) e
-
 -- ---- words written
 
 overwritten_next : (k : ℕ) (from bs : List ℕ) → 8 * suc k + length from ≤ length bs → drop 8 (overwritten (8 * suc k) from bs) ≡ overwritten (8 * k) from (drop 8 bs)

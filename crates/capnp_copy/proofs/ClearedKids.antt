@@ -4,7 +4,6 @@ use Rattle.capnp_model.specs.Segments.{Segments, Place, after, words_at}
 use Rattle.capnp_model.specs.Pointers.{a_struct}
 use Rattle.capnp_model.specs.Trees.{Tree, null, structure, Trees, none, ◌▸◌, tree_count, with_child, resized}
 use Rattle.capnp_model.specs.Traversal.{tree_at}
-use Rattle.capnp_object.proofs.lemmas.Rows.{each_count}
 use Rattle.capnp_footprints.specs.Footprints.{object_footprint, OwnsObject}
 use Rattle.capnp_footprints.specs.Changes.{ReplacesObject}
 use Rattle.capnp_footprints.proofs.lemmas.Algebra.{changes_nothing}

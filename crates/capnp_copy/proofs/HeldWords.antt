@@ -15,10 +15,11 @@ use Rattle.std.proofs.lemmas.Nat.{from_le_bytes-to_le_bytes_8}
 use Rattle.capnp_wire.specs.Arenas.{words_before}
 use Rattle.capnp_object.proofs.lemmas.Words.{whole_words-length, is_some-provided}
 use Rattle.capnp_footprints.specs.Writes.{spliced, spliced_in, with_words, with_zeros, segment_end}
+use Rattle.capnp_model.proofs.lemmas.WordsInBytes.{words_in_bytes-zeros}
 use Rattle.capnp_copy.specs.Memory.{ZeroFrom, overwritten}
 use Rattle.capnp_copy.specs.Allocations.{total_words, total_of, words_used, Allocates}
 use Rattle.capnp_copy.proofs.Zeros.{overwritten_length}
-use Rattle.capnp_copy.proofs.ByteWords.{words_append, words_of_zeros, words_overwritten}
+use Rattle.capnp_copy.proofs.ByteWords.{words_append, words_overwritten}
 
 -- ---- any list
 
@@ -148,12 +149,12 @@ used_more u w bytes l z =
     let split : take (8 * (u + w)) bytes ≡ take (8 * u) bytes ++ replicate (8 * w) 0 = ap (λ (n : ℕ). take n bytes) sum ∙ take-add (8 * u) (8 * w) bytes ∙ ap (λ (xs : List ℕ). take (8 * u) bytes ++ xs) tail in
     let long : length (take (8 * u) bytes) ≡ 8 * u = omega (arith, small, length-take (8 * u) bytes) in
     used_is (u + w) bytes l ∙ ap (words_in_bytes (u + w)) split ∙ words_append u w (take (8 * u) bytes) (replicate (8 * w) 0) long
-    ∙ ap (λ (xs : List ℕ). xs ++ words_in_bytes w (replicate (8 * w) 0)) (sym (used_is u bytes small)) ∙ ap (λ (xs : List ℕ). words_used u bytes ++ xs) (words_of_zeros w)
+    ∙ ap (λ (xs : List ℕ). xs ++ words_in_bytes w (replicate (8 * w) 0)) (sym (used_is u bytes small)) ∙ ap (λ (xs : List ℕ). words_used u bytes ++ xs) (words_in_bytes-zeros w)
 
 pub used_zeros : (u : ℕ) (bytes : List ℕ) → 8 * u ≤ length bytes → bytes ≡ replicate (length bytes) 0 → words_used u bytes ≡ replicate u 0
 used_zeros u bytes l z =
     let e : take (8 * u) bytes ≡ replicate (8 * u) 0 = ap (take (8 * u)) z ∙ take-replicate (8 * u) (length bytes) 0 l in
-    used_is u bytes l ∙ ap (words_in_bytes u) e ∙ words_of_zeros u
+    used_is u bytes l ∙ ap (words_in_bytes u) e ∙ words_in_bytes-zeros u
 
 take_overwritten : (n at : ℕ) (from bs : List ℕ) → at + length from ≤ n → n ≤ length bs → take n (overwritten at from bs) ≡ overwritten at from (take n bs)
 take_overwritten n at from bs l m =
@@ -183,9 +184,6 @@ used_overwritten u k m from bytes e l b =
 pub written_map : {X : Type 0} (f : X → List ℕ) (xs : List X) (i k : ℕ) (vs : List ℕ) (y d : X) → f y ≡ spliced k vs (f (get_or xs i d)) → map f (set xs i y) ≡ with_words (map f xs) (place i k) vs
 unfolding with_words
 written_map f xs i k vs y d e = splice_map f xs i k vs y d e
-
-pub words_of_zero_bytes : (n : ℕ) → words_in_bytes n (replicate (8 * n) 0) ≡ replicate n 0
-words_of_zero_bytes n = words_of_zeros n
 
 pub total_none : {X : Type 0} (f : X → ℕ) (xs : List X) → xs ≡ [] → 0 ≡ total_of f xs
 unfolding total_of

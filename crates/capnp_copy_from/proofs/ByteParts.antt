@@ -9,6 +9,7 @@ use Rattle.capnp_units.specs.Segments.{whole_words, words_in}
 use Rattle.capnp_object.proofs.lemmas.Tags.{words_are}
 use Rattle.capnp_object.proofs.lemmas.Words.{word_of_eight, word_of_front, whole_words-length, segment_there}
 use Rattle.capnp_backing.proofs.lemmas.Bytes.{words_in_bytes-take}
+use Rattle.capnp_model.proofs.lemmas.WordsInBytes.{words_in_bytes-drop}
 
 front_word : (n : ℕ) (bytes : List ℕ) → 8 ≤ n → from_le_bytes w64 (take n bytes) ≡ from_le_bytes w64 bytes
 front_word n bytes h = sym (word_of_eight (take n bytes)) ∙ word_of_front n bytes (take 8 (take n bytes)) h refl
@@ -22,13 +23,6 @@ words_in_front (suc n) bytes =
     ∙ ap (λ (l : List ℕ). from_le_bytes w64 bytes ∷ words_in_bytes n l) (drop-take 8 (8 * n) bytes)
     ∙ ap (λ (ws : List ℕ). from_le_bytes w64 bytes ∷ ws) (words_in_front n (drop 8 bytes)))
 
-words_behind : (n m : ℕ) (bytes : List ℕ) → drop n (words_in_bytes (n + m) bytes) ≡ words_in_bytes m (drop (8 * n) bytes)
-words_behind zero m bytes = let same : zero + m ≡ m = omega arith in rw same refl
-words_behind (suc n) m bytes =
-    let next : suc n + m ≡ suc (n + m) = omega arith in
-    let wide : 8 + 8 * n ≡ 8 * suc n = omega arith in
-    rw next (words_behind n m (drop 8 bytes) ∙ ap (words_in_bytes m) (drop-drop (8 * n) 8 bytes) ∙ ap (λ (k : ℕ). words_in_bytes m (drop k bytes)) wide)
-
 words_of_part : (p n : ℕ) (bytes : List ℕ) → p + n ≤ length bytes / 8 → whole_words (take (8 * n) (drop (8 * p) bytes)) ≡ take n (drop p (whole_words bytes))
 words_of_part p n bytes h =
     let r = length bytes / 8 - p - n in
@@ -37,7 +31,7 @@ words_of_part p n bytes h =
     let long : length part ≡ 8 * n = length-take-le (8 * n) (drop (8 * p) bytes) (omega (arith, length-drop (8 * p) bytes)) in
     let count : length part / 8 ≡ n = omega arith in
     ap (λ (k : ℕ). words_in_bytes k part) count ∙ words_in_front n (drop (8 * p) bytes) ∙ sym (words_in_bytes-take n r (drop (8 * p) bytes))
-    ∙ ap (take n) (sym (words_behind p (n + r) bytes)) ∙ ap (λ (k : ℕ). take n (drop p (words_in_bytes k bytes))) all
+    ∙ ap (take n) (sym (words_in_bytes-drop p (n + r) bytes)) ∙ ap (λ (k : ℕ). take n (drop p (words_in_bytes k bytes))) all
 
 -- the words at a place are those of its bytes
 pub words_there : (s : List (List ℕ)) (i p n : ℕ) (bytes : List ℕ) → Some bytes ≡ slice_get s i → p + n ≤ length bytes / 8 → words_at (words_in s) (place i p) n ≡ Some (whole_words (take (8 * n) (drop (8 * p) bytes)))

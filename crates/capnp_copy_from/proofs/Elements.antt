@@ -25,7 +25,7 @@ use Rattle.capnp_footprints.specs.Footprints.{behind, object_footprint, OwnsObje
 use Rattle.capnp_footprints.specs.Changes.{ReplacesObject}
 use Rattle.capnp_footprints.specs.Writes.{with_words, spliced}
 use Rattle.capnp_footprints.proofs.lemmas.Algebra.{changes_nothing}
-use Rattle.capnp_footprints.proofs.lemmas.Cells.{ElementParts, element_parts, list_of_parts, tag_alike, counted, list_of_element}
+use Rattle.capnp_footprints.proofs.lemmas.Cells.{ElementParts, element_parts, list_of_parts, tag_alike, list_of_element}
 use Rattle.capnp_footprints.proofs.lemmas.Lift.{object_replaced_owned, object_replaced_then}
 use Rattle.capnp_footprints.proofs.lemmas.Rows.{after_none}
 use Rattle.capnp_footprints.proofs.lemmas.Spans.{held, held_is, grows_same, grows_then}
@@ -34,6 +34,7 @@ use Rattle.capnp_footprints.proofs.lemmas.Turns.{structs_here, structs_next, ele
 use Rattle.capnp_footprints.proofs.lemmas.Writing.{wider, changes_inside}
 use Rattle.capnp_footprints.proofs.lemmas.Prepared.{behind_first}
 use Rattle.capnp_model.proofs.lemmas.ReadFits.{words_length}
+use Rattle.capnp_model.proofs.lemmas.Counts.{each_element_count}
 use Rattle.capnp_copy_from.specs.Copies.{TakesFew, Copied, Refused, FillsStruct, LeavesStruct, FillsElements, LeavesElements}
 use Rattle.capnp_copy_from.proofs.Parts.{there_length, part_is}
 use Rattle.capnp_copy_from.proofs.Refusals.{why_later}
@@ -252,7 +253,7 @@ words_at_once : (levels : ℕ) (from : Segments) (p : Place) (ws : List ℕ) (d 
     → Copied (each_element (tree_at levels from) p ws d 0 count) (from_elements (visits levels from) p d 0 count) (FillsElements levels s u r d 0 count) s u l l
 words_at_once levels from p ws d count s u r l fit now =
     let read = plain_elements_read (tree_at levels from) p ws d count in
-    let number : element_count read.0 ≡ count = counted (tree_at levels from) p ws d 0 count read.0 read.1 in
+    let number : element_count read.0 ≡ count = each_element_count (tree_at levels from) p ws d 0 count read.0 read.1 in
     let long : length (take (count * d) ws) ≡ count * (d + 0) = length-take (count * d) ws ∙ omega (arith, fit) ∙ ap (λ (w : ℕ). count * w) (no_more d) in
     let reads : (f : Place → Option Tree) (q : Place) → each_element f q (take (count * d) ws) d 0 (element_count read.0) ≡ Some read.0 = λ f q. ap (λ (c : ℕ). each_element f q (take (count * d) ws) d 0 c) number ∙ front_elements (tree_at levels from) f p q ws d count ∙ read.1 in
     record {

@@ -21,8 +21,9 @@ use Rattle.capnp_footprints.proofs.lemmas.Algebra.{changes_nothing}
 use Rattle.capnp_footprints.proofs.lemmas.Lift.{struct_parts, child_of_struct, struct_of_child, object_replaced_owned, object_replaced_then}
 use Rattle.capnp_footprints.proofs.lemmas.Spans.{grows_same, grows_then}
 use Rattle.capnp_footprints.proofs.lemmas.Rows.{after_none, after_sum}
-use Rattle.capnp_footprints.proofs.lemmas.Turns.{struct_here, struct_next, struct_done, each_counted}
+use Rattle.capnp_footprints.proofs.lemmas.Turns.{struct_here, struct_next, struct_done}
 use Rattle.capnp_canonical.proofs.lemmas.Putting.{resized_all}
+use Rattle.capnp_model.proofs.lemmas.Counts.{each_count}
 use Rattle.capnp_copy_from.specs.Copies.{TakesFew, BecomesCopy, GrowsByZeros, Copied, Refused, FillsRow, LeavesRow}
 use Rattle.capnp_copy_from.proofs.lemmas.Filling.{value_stands}
 use Rattle.capnp_copy_from.proofs.Refusals.{why_later}
@@ -182,7 +183,7 @@ module _ (levels : ℕ) (from : Segments) (p : Place) (k : ℕ) (s : Segments) (
             let slot = child_of_struct n u r d w' i d own (with_first i so.first kids) in_all mine in
             let stands = value_stands n u w (after (after r d) i) (child (with_first i so.first kids) i) slot x.left in
             let next = struct_of_child n u w r d w' i d own (with_first i so.first kids) (child (with_first i so.first kids) i) in_all mine stands in
-            let many = each_counted (tree_at n u) (after r d) w' (with_first i so.first kids) (struct_parts n u r d w' d own (with_first i so.first kids) mine.means).1.kids_are in
+            let many = each_count (tree_at n u) (after r d) w' (with_first i so.first kids) (struct_parts n u r d w' d own (with_first i so.first kids) mine.means).1.kids_are in
             let unchanged = same_child (with_first i so.first kids) i (omega (arith, in_all, many)) in
             object_replaced_then n s u w (a_struct r d w') _ _ now (subst (λ (ts : Trees). ReplacesObject n u w (a_struct r d w') (structure d own ts)) unchanged next)
             );

@@ -18,12 +18,12 @@ use Rattle.capnp_model.proofs.lemmas.RoundTrip.{links_length}
 use Rattle.capnp_model.proofs.lemmas.Canonical.{size-trim}
 use Rattle.capnp_model.proofs.lemmas.ReadFits.{tree_at_fits, words_length}
 use Rattle.capnp_model.proofs.lemmas.Size.{leaf_size}
+use Rattle.capnp_model.proofs.lemmas.Counts.{each_count}
 use Rattle.capnp_footprints.specs.Footprints.{behind, Owns}
 use Rattle.capnp_footprints.specs.Totals.{words_of_segments}
 use Rattle.capnp_footprints.proofs.Counting.{words_of_spans, spans_append, spans_within}
 use Rattle.capnp_footprints.proofs.lemmas.Kept.{tag_fits}
 use Rattle.capnp_footprints.proofs.lemmas.There.{value_full}
-use Rattle.capnp_footprints.proofs.lemmas.Turns.{each_counted}
 
 -- one level: what `f` reads at a pointer has no more words than what `b` covers there
 module _ (s : Segments) (f : Place → Option Tree) (b : Place → List Span) (h : (p : Place) (t : Tree) → f p ≡ Some t → length (body t) ≤ words_of_spans (b p)) where
@@ -46,7 +46,7 @@ module _ (s : Segments) (f : Place → Option Tree) (b : Place → List Span) (h
       let here : length (bodies x.0) ≤ words_of_spans (from_each b (after p d) k) = each_within (after p d) k x.0 x.1 in
       let rest = elements_within (after p (d + k)) (drop (d + k) ws) d k n (before + length (bodies x.0)) y.0 y.1 in
       let sum = spans_append (from_each b (after p d) k) (from_elements b (after p (d + k)) d k n) in
-      let count : tree_count x.0 ≡ k = each_counted f (after p d) k x.0 x.1 in
+      let count : tree_count x.0 ≡ k = each_count f (after p d) k x.0 x.1 in
       subst (λ (us : Elements). (length (cells before d k us) ≡ (suc n) * (d + k)) × (length (element_bodies us) ≤ words_of_spans (from_elements b p d k (suc n)))) (some_is _ _ y.2) (
         (
             let sec = section_of (take d ws) in
@@ -62,7 +62,7 @@ module _ (s : Segments) (f : Place → Option Tree) (b : Place → List Span) (h
   list_within p of_pointers size n ws t w e =
       let x = bind_some (each f p n) _ t e in
       let here : length (bodies x.0) ≤ words_of_spans (from_each b p n) = each_within p n x.0 x.1 in
-      let count : tree_count x.0 ≡ n = each_counted f p n x.0 x.1 in
+      let count : tree_count x.0 ≡ n = each_count f p n x.0 x.1 in
       subst (λ (u : Tree). length (body u) ≤ n + words_of_spans (from_each b p n)) (some_is _ _ x.2) (omega (arith, here, count, links_length x.0 0 0, length-append (links 0 0 x.0) (bodies x.0)))
   list_within p of_structs size n ws t w e =
       let x = bind_found (tag_in ws) _ t e in
@@ -86,7 +86,7 @@ module _ (s : Segments) (f : Place → Option Tree) (b : Place → List Span) (h
       let x = bind_some (words_at s p (d + k)) _ t e in
       let y = bind_some (each f (after p d) k) _ t x.2 in
       let here : length (bodies y.0) ≤ words_of_spans (from_each b (after p d) k) = each_within (after p d) k y.0 y.1 in
-      let count : tree_count y.0 ≡ k = each_counted f (after p d) k y.0 y.1 in
+      let count : tree_count y.0 ≡ k = each_count f (after p d) k y.0 y.1 in
       let sec = section_of (take d x.0) in
       subst (λ (u : Tree). length (body u) ≤ (d + k) + words_of_spans (from_each b (after p d) k)) (some_is _ _ y.2)
       (omega (arith, here, count, length-numbers_in 64 d sec, links_length y.0 0 0, length-append (words_of d sec) (links 0 0 y.0 ++ bodies y.0), length-append (links 0 0 y.0) (bodies y.0)))

@@ -47,3 +47,6 @@ pub mod TrimmedKinds
 pub mod EveryPath
 pub mod ActiveMembers
 pub mod Size
+pub mod WordsInBytes
+pub mod Lists
+pub mod Counts

@@ -10,6 +10,7 @@ use Rattle.capnp_model.specs.Packing as model
 use Rattle.capnp_model.specs.Packing.{spread, run_at, group_at, with_word, unpacked_from}
 use Rattle.capnp_model.proofs.lemmas.Chaining.{ok_then, guard_then}
 use Rattle.std.proofs.Common.{take-take}
+use Rattle.capnp_model.proofs.lemmas.Lists.{length-take-short}
 use Rattle.capnp_packing.specs.Parts.{tagged}
 use Rattle.capnp_packing.specs.Tags.{marks}
 use Rattle.capnp_packing.specs.Runs.{run_view}
@@ -21,11 +22,6 @@ use Rattle.capnp_stream.proofs.lemmas.EarlyLemmas.{early-same, early-then, none-
 use Rattle.capnp_packing.proofs.PartLemmas.{byte-needed}
 
 -- ---- the head of a group
-
-pub length-take-le-any : (n : ℕ) (xs : List ℕ) → length (take n xs) ≤ n
-length-take-le-any zero xs = omega arith
-length-take-le-any (suc n) [] = omega arith
-length-take-le-any (suc n) (x ∷ xs) = let r = length-take-le-any n xs in omega arith
 
 abbrev counted_run : List ℕ → model.Run × List ℕ → Result (ℕ × model.Run × List ℕ) Kind
 counted_run word r = Ok (from_le_bytes w64 word, r.0, r.1)
@@ -89,8 +85,8 @@ early-spread (suc k) t bytes m h = by (t % 2) (mod-lt t (omega arith)) m bytes h
 tagged-needed : (t : ℕ) (bytes : List ℕ) → EachIsNeeded (tagged t) (take (marks 8 t) bytes)
 unfolding tagged
 tagged-needed t bytes n below =
-    let same : take n (take (marks 8 t) bytes) ≡ take n bytes = take-take n (marks 8 t) bytes (omega (arith, below, length-take-le-any (marks 8 t) bytes)) in
-    early-same _ _ (ap (spread 8 t) same) (early-spread 8 t bytes n (omega (arith, below, length-take-le-any (marks 8 t) bytes)))
+    let same : take n (take (marks 8 t) bytes) ≡ take n bytes = take-take n (marks 8 t) bytes (omega (arith, below, length-take-short (marks 8 t) bytes)) in
+    early-same _ _ (ap (spread 8 t) same) (early-spread 8 t bytes n (omega (arith, below, length-take-short (marks 8 t) bytes)))
 
 group-needed : (n tag : ℕ) (marked word tail : List ℕ) → ((more : List ℕ) → tagged tag (marked ++ more) ≡ Ok (word, more)) → EachIsNeeded (tagged tag) marked → EachIsNeeded (run_at n tag) tail → EachIsNeeded (group_at n) (tag ∷ (marked ++ tail))
 unfolding tagged

@@ -14,7 +14,8 @@ use Rattle.capnp_stream.specs.Segments.{whole_words}
 use Rattle.capnp_io.specs.Streams.{ConsumesFewer}
 use Rattle.capnp_io.proofs.lemmas.KnownLemmas.{Consumes-of_kept}
 use Rattle.capnp_stream.proofs.lemmas.EarlyLemmas.{none-needed}
-use Rattle.capnp_stream.proofs.lemmas.WordLemmas.{words_in_bytes-length, whole_words-of_length}
+use Rattle.capnp_stream.proofs.lemmas.WordLemmas.{whole_words-of_length}
+use Rattle.capnp_model.proofs.lemmas.WordsInBytes.{words_in_bytes-length}
 use Rattle.capnp_packing.specs.Parts.{Rule, Leads, Takes, IsFault, Refuses, with_front}
 use Rattle.capnp_packing.specs.Streams.{IsUnpackingKind}
 use Rattle.capnp_packing.specs.Runs.{run_view}

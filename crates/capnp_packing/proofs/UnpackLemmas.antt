@@ -9,8 +9,10 @@ use Rattle.capnp_model.specs.Bytes.{words_in_bytes, taken}
 use Rattle.capnp_model.specs.Packing as model
 use Rattle.capnp_model.specs.Packing.{spread, run_at, group_at, with_word, unpacked_from}
 use Rattle.capnp_model.proofs.lemmas.Chaining.{ok_then}
-use Rattle.capnp_stream.proofs.lemmas.WordLemmas.{from_le_bytes-take, words_in_bytes-take, words_in_bytes-drop}
+use Rattle.capnp_stream.proofs.lemmas.WordLemmas.{from_le_bytes-take, words_in_bytes-take}
 use lib.Seq.{take-add}
+use Rattle.capnp_model.proofs.lemmas.WordsInBytes.{words_in_bytes-zeros, words_in_bytes-drop}
+use Rattle.capnp_model.proofs.lemmas.Lists.{length-take-short}
 use Rattle.capnp_packing.specs.Parts.{with_front}
 use Rattle.capnp_packing.specs.Tags.{marks}
 use Rattle.capnp_packing.specs.Runs.{run_view, IsOver}
@@ -21,7 +23,7 @@ use Rattle.capnp_packing.specs.declared.shown.Step.{Step}
 use Rattle.capnp_stream.specs.Pieces.{EndsEarly, EachIsNeeded}
 use Rattle.capnp_stream.proofs.lemmas.EarlyLemmas.{early-same, early-then, none-needed, needed-joined}
 use Rattle.capnp_packing.proofs.PartLemmas.{early-front, with_front-nil, with_front-more}
-use Rattle.capnp_packing.proofs.HeadLemmas.{length-take-le-any, shown-next, shown-zeros, shown-words}
+use Rattle.capnp_packing.proofs.HeadLemmas.{shown-next, shown-zeros, shown-words}
 
 -- ---- bytes that are too few
 
@@ -60,13 +62,6 @@ Spells-zeros (suc j) n k =
     let rest = Spells-zeros j n k in
     rw (a, b) (record { says = λ more. ap (with_word 0) (rest.says more) ∙ with_front-word 0 (replicate j 0) (unpacked_from n (model.zeros k) more); needed = λ i below. absurd (omega arith) })
 
-pub words-of_zeros : (j : ℕ) → words_in_bytes j (replicate (8 * j) 0) ≡ replicate j 0
-words-of_zeros zero = refl
-words-of_zeros (suc j) =
-    let wide : 8 * suc j ≡ suc (suc (suc (suc (suc (suc (suc (suc (8 * j)))))))) = omega arith in
-    let rest = words-of_zeros j in
-    rw wide (ap (λ (ws : List ℕ). 0 ∷ ws) rest)
-
 taken-front : (bytes more : List ℕ) → 8 ≤ length bytes → taken 8 (bytes ++ more) ≡ Ok (take 8 bytes, drop 8 bytes ++ more)
 taken-front bytes more long =
     let enough : leb 8 (length (bytes ++ more)) ≡ true = le-leb 8 (length (bytes ++ more)) (omega (arith, length-append bytes more)) in
@@ -91,7 +86,7 @@ verbatim-early n k bytes long more h =
 
 verbatim-needed : (n k : ℕ) (bytes : List ℕ) → EachIsNeeded (verbatim_rule n k) (take 8 bytes)
 verbatim-needed n k bytes i below =
-    let short : length (take i (take 8 bytes)) < 8 = omega (arith, below, length-take-le-any 8 bytes, length-take-le-any i (take 8 bytes)) in
+    let short : length (take i (take 8 bytes)) < 8 = omega (arith, below, length-take-short 8 bytes, length-take-short i (take 8 bytes)) in
     early-then (taken 8 (take i (take 8 bytes))) (verbatim_on n k) (taken-short (take i (take 8 bytes)) short)
 
 Spells-verbatim : (j n k : ℕ) (bytes : List ℕ) → length bytes ≡ 8 * j → Spells (j + n) (model.verbatim (j + k)) bytes (words_in_bytes j bytes) n (model.verbatim k)
@@ -137,7 +132,7 @@ module _ (count w : ℕ) (shown buf : List ℕ) (few : w ≤ count) (room : 8 * 
     within = omega arith;
     fits = room;
     whole = omega arith;
-    spells = Spells-as _ _ _ _ _ _ _ _ _ _ _ _ all_words refl (ap model.zeros counts) refl refl (sym (words-of_zeros w) ∙ ap (λ (l : List ℕ). words_in_bytes w l) (sym cleared) ∙ ap (λ (j : ℕ). words_in_bytes j (take (8 * w) buf)) eighth)
+    spells = Spells-as _ _ _ _ _ _ _ _ _ _ _ _ all_words refl (ap model.zeros counts) refl refl (sym (words_in_bytes-zeros w) ∙ ap (λ (l : List ℕ). words_in_bytes w l) (sym cleared) ∙ ap (λ (j : ℕ). words_in_bytes j (take (8 * w) buf)) eighth)
         (Spells-zeros w rest_words (count - w));
   }
 

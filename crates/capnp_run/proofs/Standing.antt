@@ -15,11 +15,11 @@ use Rattle.capnp_units.specs.Segments.{words_in}
 use Rattle.capnp_object.specs.Inside.{section_at}
 use Rattle.capnp_object.proofs.lemmas.Linking.{section_front}
 use Rattle.capnp_footprints.proofs.lemmas.Rows.{child_read}
-use Rattle.capnp_footprints.proofs.lemmas.Turns.{each_counted}
 use Rattle.capnp_canonical.proofs.lemmas.Scanning.{front_small}
 use Rattle.capnp_wire.specs.Views.{struct_at}
 use Rattle.capnp_wire.specs.Laws.{reads_behind}
 use Rattle.capnp_values.specs.Standing.{Stands, IsRecord}
+use Rattle.capnp_model.proofs.lemmas.Counts.{each_count}
 
 abbrev section_in : Tree → ℕ
 section_in (structure w section kids) = section
@@ -49,7 +49,7 @@ module _ (n : ℕ) (s : Segments) (p : Place) (d k section : ℕ) (kids : Trees)
       by : (b : Bool) → nat_lt i k ≡ b → reads_behind (tree_at n s) (if b then Some (after (after p d) i) else None) ≡ Some (child kids i)
       by true h = child_read (tree_at n s) (after p d) (after (after p d) i) k i kids refl (grind (arith, nat_tests)) words.3
       by false h =
-          let count = each_counted (tree_at n s) (after p d) k kids words.3 in
+          let count = each_count (tree_at n s) (after p d) k kids words.3 in
           let past : k ≤ i = grind (arith, nat_tests) in
           ap (λ (t : Tree). Some t) (sym (past_last kids i (omega (arith, count, past))))
 

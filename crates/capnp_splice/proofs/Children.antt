@@ -40,11 +40,6 @@ backs_count none i l = absurd (omega (arith, l))
 backs_count (u ▸ ts) zero l = omega arith
 backs_count (u ▸ ts) (suc i) l = let e = backs_count ts i (omega (arith, l)) in omega arith
 
-pub with_child-count : (ts : Trees) (i : ℕ) (t : Tree) → i < tree_count ts → tree_count (with_child ts i t) ≡ tree_count ts
-with_child-count none i t l = absurd (omega (arith, l))
-with_child-count (u ▸ ts) zero t l = refl
-with_child-count (u ▸ ts) (suc i) t l = ap suc (with_child-count ts i t (omega (arith, l)))
-
 pub child-fits : (ts : Trees) (i : ℕ) → FitEach ts → Fits (child ts i)
 child-fits none i f = tt
 child-fits (u ▸ ts) zero f = f.0

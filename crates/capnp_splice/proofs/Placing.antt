@@ -8,9 +8,10 @@ use Rattle.capnp_model.specs.Edits.{Cell, put_child}
 use Rattle.capnp_model.proofs.lemmas.Numbers.{length-numbers_in}
 use Rattle.capnp_canonical.specs.Writes.{words_view, filled}
 use Rattle.capnp_model.proofs.lemmas.RoundTrip.{links_length}
+use Rattle.capnp_model.proofs.lemmas.Counts.{count-with_child}
 use Rattle.capnp_splice.specs.Cells.{Frame, framed, StandsIn, IsNear}
 use Rattle.capnp_splice.specs.declared.area.Area.{Area}
-use Rattle.capnp_splice.proofs.Children.{fronts, backs, with_child-parts, child-parts, fronts_count, backs_count, with_child-count, child-fits, backs-fit, with_child-fit, around}
+use Rattle.capnp_splice.proofs.Children.{fronts, backs, with_child-parts, child-parts, fronts_count, backs_count, child-fits, backs-fit, with_child-fit, around}
 use Rattle.capnp_splice.proofs.Segmenting.{filled_length, part_is, part_put}
 
 -- ---- the words around a pointer and its target
@@ -115,7 +116,7 @@ moved area f c i t ws count now xs ys a m st l long few short room fit is at siz
       between = st.between;
       spelled = part_put xs ys now a m x (slot_later f c i n) r (slot_later f c i to) room e begins later new same ∙ append_assoc (slot_front d f c i) (p ∷ []) (slot_later f c i to ++ r) ∙ sym (with_slot d f c i t inside);
       section = st.section;
-      pointers = with_child-count c.kids i t inside ∙ st.pointers;
+      pointers = count-with_child c.kids i t inside ∙ st.pointers;
       each = with_child-fit c.kids i t inside st.each fit;
     }
 

@@ -9,11 +9,12 @@ use Rattle.capnp_units.specs.Segments.{whole_words, words_in}
 use Rattle.capnp_model.specs.Bytes.{words_in_bytes}
 use Rattle.capnp_model.specs.Messages.{halves, cut, within}
 use Rattle.capnp_model.specs.Spelling.{CanSpell}
+use Rattle.capnp_model.proofs.lemmas.WordsInBytes.{words_in_bytes-length}
 use Rattle.capnp_stream.specs.Ranges.{AreBytes, ranges_from}
 use Rattle.capnp_stream.specs.Flat.{table_lengths, table_bytes, message_bytes, frame_segments, Describes}
 use Rattle.capnp_stream.specs.Writing.{AreWritable}
 use Rattle.capnp_stream.specs.declared.flat.NoAllocSegmentTableInfo.{NoAllocSegmentTableInfo}
-use Rattle.capnp_stream.proofs.lemmas.WordLemmas.{AreBytes-drop, sum-cons, words_in_bytes-length, cut-of_joined, writable-joined}
+use Rattle.capnp_stream.proofs.lemmas.WordLemmas.{AreBytes-drop, sum-cons, cut-of_joined, writable-joined}
 use Rattle.capnp_stream.proofs.SpellLemmas.{lengths-cut, CanSpell-of_cut}
 use Rattle.capnp_stream.proofs.FlatLemmas.{table-holds}
 use Rattle.capnp_stream.proofs.TableLemmas.{table-short}

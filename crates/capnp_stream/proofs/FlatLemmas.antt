@@ -12,11 +12,12 @@ use Rattle.capnp_model.specs.Segments.{Segments}
 use Rattle.capnp_model.specs.Bytes.{words_in_bytes, taken}
 use Rattle.capnp_model.specs.Messages.{within, plain_words, flat_words, halves, cut, behind_lengths, behind_first, message_by, flat_at}
 use Rattle.capnp_model.proofs.lemmas.Chaining.{ok_then, guard_then}
+use Rattle.capnp_model.proofs.lemmas.WordsInBytes.{words_in_bytes-length}
 use Rattle.capnp_stream.specs.Ranges.{AreBytes, ranges_from, bytes_at}
 use Rattle.capnp_stream.specs.Flat.{table_lengths, table_bytes, frame_segments, Describes}
 use Rattle.capnp_stream.specs.declared.flat.NoAllocSegmentTableInfo.{NoAllocSegmentTableInfo}
 use Rattle.capnp_stream.proofs.lemmas.PieceLemmas.{err_then, guard_err, plain_short}
-use Rattle.capnp_stream.proofs.lemmas.WordLemmas.{AreBytes-drop, from_le_bytes-take, words_in_bytes-take, words_in_bytes-length, whole_words-step, segments-of_ranges, sum-snoc, whole_words-of_length}
+use Rattle.capnp_stream.proofs.lemmas.WordLemmas.{AreBytes-drop, from_le_bytes-take, words_in_bytes-take, whole_words-step, segments-of_ranges, sum-snoc, whole_words-of_length}
 
 -- ---- the halves of a table's words
 

@@ -6,7 +6,8 @@ use Rattle.std.specs.declared.option.Option.{Option}
 use Rattle.capnp_model.specs.Bytes.{words_in_bytes}
 use Rattle.capnp_model.specs.Messages.{cut, within, halves}
 use Rattle.capnp_model.specs.Spelling.{AreWords, AreShort, CanSpell}
-use Rattle.capnp_stream.proofs.lemmas.WordLemmas.{AreBytes, AreBytes-drop, words_in_bytes-length, sum-cons}
+use Rattle.capnp_model.proofs.lemmas.WordsInBytes.{words_in_bytes-length, AreWords-take, AreWords-drop}
+use Rattle.capnp_stream.proofs.lemmas.WordLemmas.{AreBytes, AreBytes-drop, sum-cons}
 
 word-bound : (bytes : List ℕ) → AreBytes bytes → from_le_bytes w64 bytes < 2 ^ 64
 word-bound bytes small = omega (arith, small 0, small 1, small 2, small 3, small 4, small 5, small 6, small 7)
@@ -15,19 +16,9 @@ pub words-are : (n : ℕ) (bytes : List ℕ) → AreBytes bytes → AreWords (wo
 words-are zero bytes small = tt
 words-are (suc n) bytes small = (word-bound bytes small, words-are n (drop 8 bytes) (AreBytes-drop 8 bytes small))
 
-taken-are : (n : ℕ) (ws : List ℕ) → AreWords ws → AreWords (take n ws)
-taken-are zero ws h = tt
-taken-are (suc n) [] h = tt
-taken-are (suc n) (w ∷ ws) h = (h.0, taken-are n ws h.1)
-
-dropped-are : (n : ℕ) (ws : List ℕ) → AreWords ws → AreWords (drop n ws)
-dropped-are zero ws h = h
-dropped-are (suc n) [] h = tt
-dropped-are (suc n) (w ∷ ws) h = dropped-are n ws h.1
-
 cut-are : (ns ws : List ℕ) → AreWords ws → AllByRecursion AreWords (cut ns ws)
 cut-are [] ws h = tt
-cut-are (n ∷ ns) ws h = (taken-are n ws h, cut-are ns (drop n ws) (dropped-are n ws h))
+cut-are (n ∷ ns) ws h = (AreWords-take n ws h, cut-are ns (drop n ws) (AreWords-drop n ws h))
 
 pub length-cut : (ns ws : List ℕ) → length (cut ns ws) ≡ length ns
 length-cut [] ws = refl

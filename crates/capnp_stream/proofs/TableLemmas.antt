@@ -6,12 +6,13 @@ use Rattle.capnp_units.specs.declared.kinds.ErrorKind.TheVariants.{FailedToFillT
 use Rattle.capnp_units.specs.Segments.{whole_words}
 use Rattle.capnp_model.specs.Messages.{Reader, halves}
 use Rattle.capnp_model.specs.Spelling.{AreShort}
+use Rattle.capnp_model.proofs.lemmas.WordsInBytes.{words_in_bytes-length}
 use Rattle.capnp_stream.specs.Ranges.{AreBytes}
 use Rattle.capnp_stream.specs.Pieces.{ReadsFronts, TakesPiece, TakesPieceStart, IsPieceFault, IsPieceKind}
 use Rattle.capnp_stream.specs.Frames.{IsFrameFault, TakesStart, TakesTable, IsFramingKind, IsReadKind, IsCut}
 use Rattle.capnp_stream.specs.Flat.{table_lengths, table_bytes}
 use Rattle.capnp_stream.specs.Lent.{NeedsMore, IsFillKind}
-use Rattle.capnp_stream.proofs.lemmas.WordLemmas.{words_in_bytes-length, from_le_bytes-take}
+use Rattle.capnp_stream.proofs.lemmas.WordLemmas.{from_le_bytes-take}
 use Rattle.capnp_stream.proofs.SpellLemmas.{halves-are, short-taken, short-dropped, words-are, sum-short}
 use Rattle.capnp_stream.proofs.lemmas.PieceLemmas.{IsCut-of_piece}
 use Rattle.capnp_stream.proofs.FlatLemmas.{joined-table, table-holds}

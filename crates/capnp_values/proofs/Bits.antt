@@ -6,10 +6,8 @@ use Rattle.std.proofs.lemmas.Nat.{xor_lt, pow_pos}
 use Rattle.capnp_model.specs.Sections.{bits_at}
 use Rattle.capnp_model.specs.Readings.{field_bits, just_bits}
 use Rattle.capnp_wire.specs.Views.{StructView}
+use Rattle.capnp_model.proofs.lemmas.Bits.{bits_at-lt}
 use Rattle.capnp_values.specs.Sources.{masked_bits}
-
-pub bits_at-lt : (at width section : ℕ) → bits_at at width section < 2 ^ width
-bits_at-lt at width section = mod-lt (section / 2 ^ at) (pow_pos width)
 
 pub either_lt : (b : Bool) (x y : ℕ) → x < 2 ^ y → (if b then x else 0) < 2 ^ y
 either_lt true x y h = h

@@ -4,7 +4,8 @@ use Rattle.capnp_model.specs.Sections.{bits_at}
 use Rattle.capnp_units.specs.Sizes.{size_number}
 use Rattle.capnp_wire.specs.Elements.{step_bits, element_bits}
 use Rattle.capnp_wire.specs.Views.{ListView, element_number}
-use Rattle.capnp_values.proofs.Bits.{either_lt, bits_at-lt}
+use Rattle.capnp_model.proofs.lemmas.Bits.{bits_at-lt}
+use Rattle.capnp_values.proofs.Bits.{either_lt}
 use Rattle.capnp_values.proofs.Named.{named_struct}
 
 -- the number at the front of an element is within its width

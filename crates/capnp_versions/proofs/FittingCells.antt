@@ -14,8 +14,9 @@ use Rattle.capnp_model.proofs.lemmas.Bounds.{with_bits_lt}
 use Rattle.capnp_model.proofs.lemmas.Stripping.{count-resized}
 use Rattle.capnp_model.proofs.lemmas.SoundShapes.{FitsSlot}
 use Rattle.capnp_model.proofs.lemmas.FitCalls.{IsGoodSlot, contents_fit}
+use Rattle.capnp_model.proofs.lemmas.Counts.{count-with_child}
 use Rattle.capnp_versions.proofs.SameContents.{IsWrite}
-use Rattle.capnp_versions.proofs.FittingParts.{Lengths, FitsBy, AllFitBy, SpelledBy, count-with, all-with, all-resized, child-fits, UnionFits, MemberFits, ShapeFits, FieldsFit, BodyFits, SchemaFits}
+use Rattle.capnp_versions.proofs.FittingParts.{Lengths, FitsBy, AllFitBy, SpelledBy, all-with, all-resized, child-fits, UnionFits, MemberFits, ShapeFits, FieldsFit, BodyFits, SchemaFits}
 use Rattle.capnp_versions.proofs.FittingContents.{ContentFits, blob-fits, text-fits, root-fits, new-list-fits, slot-content}
 
 -- an element has room for its type
@@ -143,7 +144,7 @@ module _ (L : Lengths) where
   put-bits-keeps w q at width value small inside c h = (with_bits_lt at width value c.section (64 * w) small inside h.0, h.1, h.2)
 
   pub put-child-keeps : (w q i : ℕ) (t : Tree) → i < q → FitsBy L t → KeepsGood w q (put_child i t)
-  put-child-keeps w q i t less fits c h = let n = h.1 in (h.0, count-with c.kids i t (omega arith) ∙ n, all-with L c.kids i t h.2 fits)
+  put-child-keeps w q i t less fits c h = let n = h.1 in (h.0, count-with_child c.kids i t (omega arith) ∙ n, all-with L c.kids i t h.2 fits)
 
   pub mark-keeps : (w q : ℕ) (u m : Option ℕ) → UnionFits w u → MemberFits m → KeepsGood w q (mark u m)
   mark-keeps w q (Some at) (Some k) h g c good = put-bits-keeps w q at 16 k g h c good

@@ -11,6 +11,7 @@ use Rattle.capnp_model.proofs.lemmas.Numbers.{number_of_lt, wider, length-number
 use Rattle.capnp_model.proofs.lemmas.Stripping.{count-resized}
 use Rattle.capnp_model.proofs.lemmas.Tests.{le_is, and_right}
 use Rattle.capnp_model.proofs.lemmas.FittingValues.{count-padded_to}
+use Rattle.capnp_model.proofs.lemmas.Counts.{count-of-pointers, count-of-plain}
 use Rattle.capnp_versions.proofs.SameLists.{AtElement}
 use Rattle.capnp_versions.proofs.WroteLists.{AtChild}
 use Rattle.capnp_versions.proofs.RelatedTypes.{a-word}
@@ -20,14 +21,6 @@ use Rattle.capnp_versions.proofs.FittingContents.{nulls-fit}
 use Rattle.capnp_versions.proofs.FittingCells.{Good, Room}
 
 -- ---- counts
-
-pub count-of-plain : (p : ℕ) (xs : List ℕ) → element_count (elements_of_plain p xs) ≡ length xs
-count-of-plain p [] = refl
-count-of-plain p (x ∷ xs) = ap suc (count-of-plain p xs)
-
-pub count-of-pointers : (p : ℕ) (ts : Trees) → element_count (elements_of_pointers p ts) ≡ tree_count ts
-count-of-pointers p none = refl
-count-of-pointers p (t ▸ ts) = ap suc (count-of-pointers p ts)
 
 pub count-padded-elements : (p : ℕ) (es : Elements) → element_count (padded_elements p es) ≡ element_count es
 count-padded-elements p no_elements = refl

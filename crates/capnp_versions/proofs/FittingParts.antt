@@ -107,11 +107,6 @@ module _ (L : Lengths) where
 
 -- ---- children
 
-pub count-with : (ts : Trees) (i : ℕ) (t : Tree) → i < tree_count ts → tree_count (with_child ts i t) ≡ tree_count ts
-count-with none i t h = absurd (omega arith)
-count-with (u ▸ ts) zero t h = refl
-count-with (u ▸ ts) (suc i) t h = ap suc (count-with ts i t (omega arith))
-
 module _ (L : Lengths) where
   pub all-with : (ts : Trees) (i : ℕ) (t : Tree) → AllFitBy L ts → FitsBy L t → AllFitBy L (with_child ts i t)
   all-with none zero t h k = (k, tt)

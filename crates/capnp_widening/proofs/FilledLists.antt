@@ -19,10 +19,11 @@ use Rattle.capnp_footprints.specs.NewObjects.{zero_elements}
 use Rattle.capnp_footprints.proofs.lemmas.Cells.{element_parts}
 use Rattle.capnp_footprints.proofs.lemmas.Detached.{detached_owns}
 use Rattle.capnp_footprints.proofs.lemmas.Lift.{object_of_pointer}
-use Rattle.capnp_footprints.proofs.lemmas.Turns.{each_counted, resized_padded, elements_done}
+use Rattle.capnp_footprints.proofs.lemmas.Turns.{resized_padded, elements_done}
 use Rattle.capnp_copy.specs.declared.init.ListPlace.{ListPlace}
 use Rattle.capnp_footprints.proofs.lemmas.NewKinds.{zero_counted}
 use Rattle.capnp_model.proofs.lemmas.TrimFits.{count-with_pointers}
+use Rattle.capnp_model.proofs.lemmas.Counts.{each_count}
 use Rattle.capnp_widening.specs.Moves.{pads_of}
 use Rattle.capnp_widening.specs.MovedElements.{least_words, least_pointers, IsOfList, zeros_at, FillsElements, as_structs}
 use Rattle.capnp_widening.proofs.MovedRows.{none_left}
@@ -42,7 +43,7 @@ each_padded f p ws d k zero j es l e = subst (λ (fs : Elements). with_pointers 
 each_padded f p ws d k (suc c) j es l e =
     let x = bind_some (each f (after p d) k) _ es e in
     let y = bind_some (each_element f (after p (d + k)) (drop (d + k) ws) d k c) _ es x.2 in
-    let count = each_counted f (after p d) k x.0 x.1 in
+    let count = each_count f (after p d) k x.0 x.1 in
     let first = resized_padded j x.0 (omega (arith, count, l)) in
     let rest = each_padded f (after p (d + k)) (drop (d + k) ws) d k c j y.0 l y.1 in
     subst (λ (fs : Elements). with_pointers j fs ≡ padded_elements j fs) (some_is _ _ y.2) (rw (first, rest) refl)

@@ -23,16 +23,13 @@ use Rattle.capnp_footprints.proofs.lemmas.Turns.{first_here, first_next, resized
 use Rattle.capnp_copy.specs.declared.init.ListPlace.{ListPlace}
 use Rattle.capnp_model.proofs.lemmas.TrimmedKinds.{no_child}
 use Rattle.capnp_footprints.proofs.lemmas.NewKinds.{zero_counted}
+use Rattle.capnp_model.proofs.lemmas.Counts.{count-of-pointers}
 use Rattle.capnp_widening.specs.Moves.{MovesValue, pads_of, pad_from}
 use Rattle.capnp_widening.specs.MovedElements.{least_pointers, zeros_at, FillsElements, as_structs}
 use Rattle.capnp_widening.proofs.MovedRows.{pads_left, all_left_first, none_left, led}
 use Rattle.capnp_widening.proofs.MovedLists.{some_taken}
 
 -- ---- trees
-
-pub pointers_count : (k : ℕ) (ts : Trees) → element_count (elements_of_pointers k ts) ≡ tree_count ts
-pointers_count k none = refl
-pointers_count k (t ▸ ts) = ap suc (pointers_count k ts)
 
 pointers_at : (d k j : ℕ) (ts : Trees) → j < tree_count ts → element_at d (elements_of_pointers k ts) j ≡ structure d 0 (padded_to k (child ts j ▸ none))
 pointers_at d k j none l = absurd (omega (arith, l))
@@ -74,7 +71,7 @@ module _ (n : ℕ) (z u w : Segments) (p a b : Place) (q m d k count j : ℕ) (k
       let source : with_child (with_first j none kids) j null ≡ with_first (suc j) none kids = first_next j none kids few in
       let kids_are : with_child (resized k none) 0 (child (with_first j none kids) j) ≡ padded_to k (child kids j ▸ none) = ap (with_child (resized k none) 0) (first_here j none kids) ∙ first_child k (child kids j) lk in
       let target : with_element targets j 0 (with_child (resized k none) 0 (child (with_first j none kids) j)) ≡ with_first_elements (suc j) (elements_of_pointers k kids) (zero_elements count k) =
-      ap (with_element targets j 0) kids_are ∙ elements_next d j 0 (padded_to k (child kids j ▸ none)) (elements_of_pointers k kids) (zero_elements count k) (omega (arith, few, pointers_count k kids)) (omega (arith, l, zero_counted count k)) (pointers_at d k j kids few) in
+      ap (with_element targets j 0) kids_are ∙ elements_next d j 0 (padded_to k (child kids j ▸ none)) (elements_of_pointers k kids) (zero_elements count k) (omega (arith, few, count-of-pointers k kids)) (omega (arith, l, zero_counted count k)) (pointers_at d k j kids few) in
       let y1 = subst (λ (ks : Trees). Detached n z w p (pointer_list ks) spare (a_list b 7 m) (struct_list d k (with_element targets j 0 (with_child (resized k none) 0 (child (with_first j none kids) j))))) source y.0 in
       (subst (λ (fs : Elements). Detached n z w p (pointer_list (with_first (suc j) none kids)) spare (a_list b 7 m) (struct_list d k fs)) target y1, y.1)
 
@@ -129,7 +126,7 @@ fills_pointers s u old new pads e6 claims n7 many lp all = λ n q z p t spare is
     let y1 = none_left n z u p (pointer_list (with_first c none shape.0)) (struct_list d k (with_first_elements c (elements_of_pointers k shape.0) (zero_elements c k))) pads old.count spare (a_list (place_view new.start) 7 new.claimed) y.0 in
     let zeros : element_count (zero_elements old.count new.pointers) ≡ old.count = zero_counted old.count new.pointers in
     let done : with_first_elements old.count (elements_of_pointers new.pointers shape.0) (zero_elements old.count new.pointers) ≡ elements_of_pointers new.pointers shape.0 =
-    ap (λ (x : ℕ). with_first_elements x (elements_of_pointers new.pointers shape.0) (zero_elements old.count new.pointers)) (sym zeros) ∙ elements_done (elements_of_pointers new.pointers shape.0) (zero_elements old.count new.pointers) (pointers_count new.pointers shape.0 ∙ count ∙ sym zeros) in
+    ap (λ (x : ℕ). with_first_elements x (elements_of_pointers new.pointers shape.0) (zero_elements old.count new.pointers)) (sym zeros) ∙ elements_done (elements_of_pointers new.pointers shape.0) (zero_elements old.count new.pointers) (count-of-pointers new.pointers shape.0 ∙ count ∙ sym zeros) in
     let most : new.pointers ≡ max new.pointers 1 = omega (arith, lk) in
     let wide : struct_list new.data_words new.pointers (with_first_elements old.count (elements_of_pointers new.pointers shape.0) (zero_elements old.count new.pointers)) ≡ as_structs new.data_words new.pointers t =
     ap (struct_list new.data_words new.pointers) done ∙ ap (λ (x : ℕ). struct_list new.data_words x (elements_of_pointers new.pointers shape.0)) most ∙ ap (as_structs new.data_words new.pointers) (sym shape.1) in

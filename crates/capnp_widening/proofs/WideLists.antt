@@ -24,12 +24,13 @@ use Rattle.capnp_footprints.specs.Changes.{Replaces}
 use Rattle.capnp_footprints.proofs.lemmas.Cells.{element_parts}
 use Rattle.capnp_footprints.proofs.lemmas.Levels.{owned_more, replaced_by_itself}
 use Rattle.capnp_footprints.proofs.lemmas.Lift.{object_of_pointer}
-use Rattle.capnp_footprints.proofs.lemmas.Turns.{each_counted, list_shape}
+use Rattle.capnp_footprints.proofs.lemmas.Turns.{list_shape}
 use Rattle.capnp_footprints.proofs.lemmas.Zeros.{null_read}
 use Rattle.capnp_copy.specs.declared.init.ListPlace.{ListPlace}
 use Rattle.capnp_copy.specs.Lists.{list_at}
 use Rattle.capnp_copy.specs.Values.{LeadsTo}
 use Rattle.capnp_model.proofs.lemmas.PointerWords.{list_kind_small}
+use Rattle.capnp_model.proofs.lemmas.Counts.{each_count}
 use Rattle.capnp_widening.specs.MovedElements.{least_words, least_pointers, IsOfList, as_structs}
 use Rattle.capnp_widening.specs.Widened.{GrowthRefused, TakesNear}
 use Rattle.capnp_widening.specs.WidenedLists.{list_there, IsWideList, WidensList, words_wanted, HasWideList, StructsGot, ListTakes, ListRefused}
@@ -54,7 +55,7 @@ each_has f p ws d k zero es e = subst (AllHave k) (some_is _ _ e) tt
 each_has f p ws d k (suc c) es e =
     let x = bind_some (each f (after p d) k) _ es e in
     let y = bind_some (each_element f (after p (d + k)) (drop (d + k) ws) d k c) _ es x.2 in
-    subst (AllHave k) (some_is _ _ y.2) (each_counted f (after p d) k x.0 x.1, each_has f (after p (d + k)) (drop (d + k) ws) d k c y.0 y.1)
+    subst (AllHave k) (some_is _ _ y.2) (each_count f (after p d) k x.0 x.1, each_has f (after p (d + k)) (drop (d + k) ws) d k c y.0 y.1)
 
 enough : (k m : ℕ) (es : Elements) → k ≤ m → AllHave m es → padded_elements k es ≡ es
 unfolding AllHave

@@ -19,12 +19,12 @@ use Rattle.capnp_object.specs.declared.object.Found.{Found}
 use Rattle.capnp_object.specs.declared.place.Place as wire
 use Rattle.capnp_object.specs.Places.{place_view}
 use Rattle.capnp_object.specs.Inside.{words_there, tree_in}
+use Rattle.capnp_model.proofs.lemmas.Counts.{each_count}
 use Rattle.capnp_wire.specs.Levels.{level_below}
 use Rattle.capnp_wire.specs.Views.{Ground, section_at, StructView, struct_view, ListView, list_view, element_of}
 use Rattle.capnp_wire.specs.Reads.{read_struct, as_text, read_blob, read_text, read_list, read_elements, list_head}
 use Rattle.capnp_wire.specs.Laws.{bytes_read, reads_behind, ShowsStruct, ShowsList, IsRead, BytesAreRead, StructsAreRead, ListsAreRead}
 use Rattle.std.proofs.lemmas.Bool.Decides.{nat_tests}
-use Rattle.capnp_object.proofs.lemmas.Rows.{each_count}
 use Rattle.capnp_object.proofs.lemmas.LevelLaws.{trees}
 use Rattle.capnp_wire.proofs.lemmas.ListLaws.{numbers_at, numbers_low, each_child, Holds, holds_at, structs_shown}
 

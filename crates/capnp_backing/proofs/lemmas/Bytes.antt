@@ -14,6 +14,7 @@ use Rattle.capnp_units.proofs.lemmas.FirstBytes.{first_eight}
 use Rattle.capnp_object.specs.Inside.{section_at, section_in}
 use Rattle.capnp_object.proofs.lemmas.Words.{whole_words-length, segment_there}
 use Rattle.capnp_object.proofs.lemmas.Tags.{words_are}
+use Rattle.capnp_model.proofs.lemmas.WordsInBytes.{words_in_bytes-drop}
 
 -- Numbers that a byte holds.
 abbrev pub AreBytes : List ℕ → Type 0
@@ -67,14 +68,6 @@ words_in_bytes-take zero m bytes = refl
 words_in_bytes-take (suc n) m bytes =
     let next : suc n + m ≡ suc (n + m) = omega arith in
     rw next (ap (λ (ws : List ℕ). from_le_bytes w64 bytes ∷ ws) (words_in_bytes-take n m (drop 8 bytes)))
-
-words_in_bytes-drop : (n m : ℕ) (bytes : List ℕ) → drop n (words_in_bytes (n + m) bytes) ≡ words_in_bytes m (drop (8 * n) bytes)
-words_in_bytes-drop zero m bytes = let same : zero + m ≡ m = omega arith in rw same refl
-words_in_bytes-drop (suc n) m bytes =
-    let next : suc n + m ≡ suc (n + m) = omega arith in
-    let wide : 8 * n + 8 ≡ 8 * suc n = omega arith in
-    let wide' : 8 + 8 * n ≡ 8 * suc n = omega arith in
-    rw next (words_in_bytes-drop n m (drop 8 bytes) ∙ ap (words_in_bytes m) (drop-drop (8 * n) 8 bytes) ∙ ap (λ (k : ℕ). words_in_bytes m (drop k bytes)) wide')
 
 -- the words at a position of bytes
 words_of_part : (p n : ℕ) (bytes : List ℕ) → p + n ≤ length bytes / 8 → take n (drop p (whole_words bytes)) ≡ words_in_bytes n (drop (8 * p) bytes)

@@ -8,13 +8,8 @@ use Rattle.capnp_model.specs.Trees.{Tree, Trees, none, ◌▸◌, Elements, no_e
 use Rattle.capnp_model.specs.Encoding.{pointer, body, links, bodies, cells, element_bodies}
 use Rattle.capnp_model.proofs.lemmas.Numbers.{length-numbers_in}
 use Rattle.capnp_model.proofs.lemmas.RoundTrip.{links_length}
+use Rattle.capnp_model.proofs.lemmas.Lists.{drop-all}
 use Rattle.capnp_canonical.specs.Writes.{with_words, with_link, with_links, with_cells}
-
-pub none_behind : {A : Type 0} (vs : List A) (i : ℕ) → length vs ≤ i → drop i vs ≡ []
-none_behind [] zero h = refl
-none_behind [] (suc i) h = refl
-none_behind (v ∷ vs) zero h = absurd (omega arith)
-none_behind (v ∷ vs) (suc i) h = none_behind vs i (omega arith)
 
 pub resized_all : (n : ℕ) (ts : Trees) → tree_count ts ≡ n → resized n ts ≡ ts
 resized_all zero none e = refl
@@ -159,7 +154,7 @@ cells_all at end d k out e = ap (λ (xs : List ℕ). take at out ++ xs) (append-
 
 module _ (old grown : List ℕ) (n m : ℕ) (kept : take n grown ≡ old) (long : length grown ≡ n + m) where
   nothing_behind : (end : ℕ) → end ≡ n + m → drop end grown ≡ []
-  nothing_behind end e = none_behind grown end (omega arith)
+  nothing_behind end e = drop-all grown end (omega arith)
 
   no_gap : (end : ℕ) → end ≡ n + m → length grown - end ≡ 0
   no_gap end e = omega arith

@@ -6,6 +6,7 @@ use Rattle.std.proofs.lemmas.Bool.Decides.{nat_tests}
 use lib.Pow as pow
 use Rattle.capnp_model.specs.Sections.{section_of, needed_words}
 use Rattle.capnp_model.proofs.lemmas.Numbers.{section_of_lt, wider}
+use Rattle.capnp_model.proofs.lemmas.Lists.{length-take-short}
 
 -- the words behind a place, and those before it
 pub section_split : (n : ℕ) (ws : List ℕ) → section_of ws ≡ section_of (drop n ws) * 2 ^ (64 * n) + section_of (take n ws)
@@ -19,13 +20,8 @@ section_split (suc n) (x ∷ ws) =
     spread : (a p b c w : ℕ) → (a * p + b) * w + c ≡ a * (p * w) + (b * w + c)
     spread a p b c w = grind arith
 
-take_short : (n : ℕ) (ws : List ℕ) → length (take n ws) ≤ n
-take_short zero ws = omega arith
-take_short (suc n) [] = omega arith
-take_short (suc n) (x ∷ ws) = let rest = take_short n ws in omega arith
-
 pub front_small : (n : ℕ) (ws : List ℕ) → section_of (take n ws) < 2 ^ (64 * n)
-front_small n ws = let short = take_short n ws in wider (section_of (take n ws)) (64 * length (take n ws)) (64 * n) (omega arith) (section_of_lt (take n ws) (length (take n ws)) refl)
+front_small n ws = let short = length-take-short n ws in wider (section_of (take n ws)) (64 * length (take n ws)) (64 * n) (omega arith) (section_of_lt (take n ws) (length (take n ws)) refl)
 
 power_less : (j m s : ℕ) → 2 ^ (64 * j) ≤ s → s < 2 ^ (64 * m) → j < m
 power_less j m s a b = elim (cases_lt j m) [

@@ -99,5 +99,3 @@ masked_back (suc zero) true l = refl
 masked_back (suc zero) false l = refl
 masked_back (suc (suc b)) m l = absurd (omega (arith, l))
 
-pub bits_below : (at width section : ℕ) → bits_at at width section < 2 ^ width
-bits_below at width section = mod-lt (section / 2 ^ at) (pow_pos width)

@@ -12,6 +12,7 @@ use Rattle.capnp_model.specs.Traversal.{Tag, tag_in, each, each_element, tree_of
 use Rattle.capnp_model.specs.Coverage.{Span, span, times_held, from_each, from_elements, covered_tag, covered_object, Keeps}
 use Rattle.capnp_model.proofs.lemmas.Chaining.{bind_some, bind_found, some_is}
 use Rattle.capnp_model.proofs.lemmas.ReadFits.{words_length}
+use Rattle.capnp_model.proofs.lemmas.Counts.{each_element_count}
 use Rattle.capnp_footprints.specs.Footprints.{behind, object_footprint, OwnsObject}
 use Rattle.capnp_footprints.specs.Changes.{Changes, ReplacesObject}
 use Rattle.capnp_footprints.specs.Elements.{element_at, with_element}
@@ -157,13 +158,6 @@ module _ (n : ℕ) (s u : Segments) (r : Place) (d k section : ℕ) (kids : Tree
 
 -- ---- the list
 
-pub counted : (f : Place → Option Tree) (p : Place) (ws : List ℕ) (d k c : ℕ) (es : Elements) → each_element f p ws d k c ≡ Some es → element_count es ≡ c
-counted f p ws d k zero es e = sym (ap element_count (some_is _ _ e))
-counted f p ws d k (suc c) es e =
-    let x = bind_some (each f (after p d) k) _ es e in
-    let y = bind_some (each_element f (after p (d + k)) (drop (d + k) ws) d k c) _ es x.2 in
-    sym (ap element_count (some_is _ _ y.2)) ∙ ap suc (counted f (after p (d + k)) (drop (d + k) ws) d k c y.0 y.1)
-
 pub tag_alike : (ws vs : List ℕ) (t : Tag) → take 1 vs ≡ take 1 ws → length vs ≡ length ws → tag_in ws ≡ Ok t → tag_in vs ≡ Ok t
 tag_alike [] vs t e l f = absurd cc
 tag_alike (w ∷ ws) [] t e l f = absurd cc
@@ -188,7 +182,7 @@ element_parts n s p m d k es e =
     let dw : y.0.data_words ≡ d = cc in
     let kw : y.0.pointers ≡ k = cc in
     let same : z.0 ≡ es = cc in
-    let count : y.0.count ≡ element_count es = sym (counted (tree_at n s) (after p 1) (drop 1 x.0) y.0.data_words y.0.pointers y.0.count z.0 z.1) ∙ ap element_count same in
+    let count : y.0.count ≡ element_count es = sym (each_element_count (tree_at n s) (after p 1) (drop 1 x.0) y.0.data_words y.0.pointers y.0.count z.0 z.1) ∙ ap element_count same in
     let tag : y.0 ≡ record { count = element_count es; data_words = d; pointers = k } = tags y.0 (element_count es) d k count dw kw in
     record {
       words = x.0;

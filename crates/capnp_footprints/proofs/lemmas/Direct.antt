@@ -8,6 +8,7 @@ use Rattle.capnp_model.specs.Segments.{Segments, Place, after, word_at}
 use Rattle.capnp_model.specs.Pointers.{Object, nothing, a_struct, a_list, to_struct, to_list, Found, found_at, found_by, begins, described, pointer_of_kind, pointer_of}
 use Rattle.capnp_model.specs.Encoding.{struct_pointer, list_pointer}
 use Rattle.capnp_model.proofs.lemmas.Chaining.{bind_ok, ok_or_some, some_is, ok_is}
+use Rattle.capnp_model.proofs.lemmas.PointerWords.{list_word, struct_word}
 use Rattle.capnp_footprints.specs.Detached.{IsDirect}
 use Rattle.capnp_footprints.specs.NewObjects.{New, new_struct, new_list, new_pointers, new_structs, new_object, new_pointer, Fits}
 use Rattle.capnp_footprints.proofs.lemmas.Pointing.{not_zero}
@@ -36,12 +37,6 @@ list_as size n l m =
             }
       ]
     ]
-
-struct_word : (w : ℕ) → w < 2 ^ 64 → bits_at 0 2 w ≡ 0 → w ≡ struct_pointer (bits_at 2 30 w) (bits_at 32 16 w) (bits_at 48 16 w)
-struct_word w l k = omega (arith, l, k)
-
-list_word : (w : ℕ) → w < 2 ^ 64 → bits_at 0 2 w ≡ 1 → w ≡ list_pointer (bits_at 2 30 w) (bits_at 32 3 w) (bits_at 35 29 w)
-list_word w l k = omega (arith, l, k)
 
 Leads : Place → ℕ → Found → Type 0
 Leads p w f = (r : Place) × (offset : ℕ) × (x : New) × IsDirect p w f r offset x

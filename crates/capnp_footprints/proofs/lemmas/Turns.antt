@@ -6,11 +6,12 @@ use Rattle.capnp_model.specs.Segments.{Segments, Place, after, words_at}
 use Rattle.capnp_model.specs.Traversal.{tag_in, each, each_element, tree_at, Tag}
 use Rattle.capnp_model.specs.Trees.{Tree, Trees, Elements, null, structure, pointer_list, struct_list, none, ◌▸◌, no_elements, element, tree_count, element_count, with_child, padded_to, resized, child}
 use Rattle.capnp_model.proofs.lemmas.Chaining.{bind_some, bind_found, some_is, ok_is}
+use Rattle.capnp_model.proofs.lemmas.Counts.{each_count, each_element_count}
 use Rattle.capnp_footprints.specs.Changes.{ReplacesObject, Replaces}
 use Rattle.capnp_footprints.specs.Children.{childless, with_first, with_first_elements}
 use Rattle.capnp_footprints.specs.Elements.{element_at, with_element}
 use Rattle.capnp_footprints.specs.Footprints.{OwnsObject, Owns}
-use Rattle.capnp_footprints.proofs.lemmas.Cells.{counted, element_of_list, list_of_element}
+use Rattle.capnp_footprints.proofs.lemmas.Cells.{element_of_list, list_of_element}
 use Rattle.capnp_footprints.proofs.lemmas.Lift.{struct_parts, list_parts, object_replaced_owned, object_replaced_then, child_of_struct, struct_of_child, child_of_list, list_of_child}
 
 -- ---- trees
@@ -49,17 +50,10 @@ resized_padded zero (t ▸ ts) l = absurd (omega (arith, l))
 resized_padded (suc k) none l = ap (λ (vs : Trees). null ▸ vs) (resized_padded k none (omega arith))
 resized_padded (suc k) (t ▸ ts) l = ap (λ (vs : Trees). t ▸ vs) (resized_padded k ts (omega (arith, l)))
 
-pub each_counted : (f : Place → Option Tree) (p : Place) (k : ℕ) (ts : Trees) → each f p k ≡ Some ts → tree_count ts ≡ k
-each_counted f p zero ts e = sym (ap tree_count (some_is _ _ e))
-each_counted f p (suc k) ts e =
-    let x = bind_some (f p) _ ts e in
-    let y = bind_some (each f (after p 1) k) _ ts x.2 in
-    sym (ap tree_count (some_is _ _ y.2)) ∙ ap suc (each_counted f (after p 1) k y.0 y.1)
-
 -- ---- structs
 
 pub struct_counted : (n : ℕ) (s : Segments) (p : Place) (d k w section : ℕ) (kids : Trees) → OwnsObject n s (a_struct p d k) (structure w section kids) → tree_count kids ≡ k
-struct_counted n s p d k w section kids o = each_counted (tree_at n s) (after p d) k kids (struct_parts n s p d k w section kids o.means).1.kids_are
+struct_counted n s p d k w section kids o = each_count (tree_at n s) (after p d) k kids (struct_parts n s p d k w section kids o.means).1.kids_are
 
 pub struct_here : (n : ℕ) (s u : Segments) (p : Place) (d k i w section : ℕ) (ts kids : Trees) → i < k → OwnsObject n s (a_struct p d k) (structure w section kids) → ReplacesObject n s u (a_struct p d k) (structure w section (with_first i ts kids)) → Owns n u (after (after p d) i) (child kids i)
 struct_here n s u p d k i w section ts kids l o r =
@@ -83,7 +77,7 @@ struct_shape n s p d k t o =
 -- ---- lists of pointers
 
 pub list_counted : (n : ℕ) (s : Segments) (p : Place) (k : ℕ) (kids : Trees) → OwnsObject n s (a_list p 6 k) (pointer_list kids) → tree_count kids ≡ k
-list_counted n s p k kids o = each_counted (tree_at n s) p k kids (list_parts n s p k kids o.means).kids_are
+list_counted n s p k kids o = each_count (tree_at n s) p k kids (list_parts n s p k kids o.means).kids_are
 
 pub list_here : (n : ℕ) (s u : Segments) (p : Place) (k i : ℕ) (ts kids : Trees) → i < k → OwnsObject n s (a_list p 6 k) (pointer_list kids) → ReplacesObject n s u (a_list p 6 k) (pointer_list (with_first i ts kids)) → Owns n u (after p i) (child kids i)
 list_here n s u p k i ts kids l o r =
@@ -164,4 +158,4 @@ structs_shape n s p m ws tag t e g o =
     let same : x.0 ≡ ws = some_is _ _ (sym x.1 ∙ e) in
     let is : y.0 ≡ tag = ok_is _ _ (sym y.1 ∙ ap tag_in same ∙ g) in
     let z = bind_some (each_element (tree_at n s) (after p 1) (drop 1 x.0) y.0.data_words y.0.pointers y.0.count) _ t y.2 in
-    (z.0, sym (some_is _ _ z.2) ∙ ap (λ (h : Tag). struct_list h.data_words h.pointers z.0) is, counted (tree_at n s) (after p 1) (drop 1 x.0) y.0.data_words y.0.pointers y.0.count z.0 z.1 ∙ ap (λ (h : Tag). h.count) is)
+    (z.0, sym (some_is _ _ z.2) ∙ ap (λ (h : Tag). struct_list h.data_words h.pointers z.0) is, each_element_count (tree_at n s) (after p 1) (drop 1 x.0) y.0.data_words y.0.pointers y.0.count z.0 z.1 ∙ ap (λ (h : Tag). h.count) is)

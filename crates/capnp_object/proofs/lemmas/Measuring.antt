@@ -20,6 +20,7 @@ use Rattle.capnp_units.specs.Errors.{kind_of}
 use Rattle.capnp_units.specs.Limits.{left_of, IsPassed, Spends, Follows}
 use Rattle.capnp_units.specs.Sizes.{size_number, data_bits}
 use Rattle.capnp_units.proofs.lemmas.Spending.{spends_nothing}
+use Rattle.capnp_model.proofs.lemmas.Counts.{each_count}
 use Rattle.capnp_object.specs.declared.place.Place as wire
 use Rattle.capnp_object.specs.declared.object.Object.{Object}
 use Rattle.capnp_object.specs.declared.object.Object.TheVariants as object
@@ -31,7 +32,7 @@ use Rattle.capnp_object.specs.Inside.{words_there, tree_in, met_in}
 use Rattle.capnp_object.specs.Walks.{Walked, leaf_capabilities, Counts, Stopped, SizeGives}
 use Rattle.capnp_object.proofs.lemmas.Walking.{object_found, within_found, within_unfound, first_visit, link_tree, link_visits, leaf_visited}
 use Rattle.capnp_object.proofs.lemmas.Paying.{spends_later}
-use Rattle.capnp_object.proofs.lemmas.Rows.{each_count, nothing_met, plain_elements_read}
+use Rattle.capnp_object.proofs.lemmas.Rows.{nothing_met, plain_elements_read}
 use Rattle.capnp_object.proofs.lemmas.Walks.{walked_none, walked_one, paid_then, made_of, stopped_first}
 
 -- A size without words and with so many capabilities.

@@ -9,6 +9,7 @@ use Rattle.capnp_model.specs.Traversal.{each, each_element}
 use Rattle.capnp_model.specs.Coverage.{from_each, from_elements}
 use Rattle.capnp_model.specs.Sizes.{object_words, each_object_words, element_object_words, capability_count, each_capability_count, element_capability_count}
 use Rattle.capnp_model.proofs.lemmas.Chaining.{bind_some, some_is}
+use Rattle.capnp_model.proofs.lemmas.Counts.{each_count}
 
 -- ---- pointers in a row
 
@@ -53,13 +54,6 @@ no_element_words d = refl
 pub no_element_capabilities : element_capability_count no_elements ≡ 0
 unfolding capability_count
 no_element_capabilities = refl
-
-pub each_count : (f : Place → Option Tree) (p : Place) (k : ℕ) (ts : Trees) → each f p k ≡ Some ts → tree_count ts ≡ k
-each_count f p zero ts e = ap tree_count (sym (some_is none ts e))
-each_count f p (suc k) ts e =
-    let a = bind_some (f p) _ ts e in
-    let b = bind_some (each f (after p 1) k) _ ts a.2 in
-    ap tree_count (sym (some_is _ _ b.2)) ∙ ap suc (each_count f (after p 1) k b.0 b.1)
 
 -- ---- elements
 

@@ -11,10 +11,7 @@ use Rattle.capnp_model.specs.Bytes.{words_in_bytes}
 use Rattle.capnp_model.specs.Chains.{◌provided◌}
 use Rattle.capnp_model.specs.Segments.{place, words_at}
 use Rattle.capnp_units.specs.Segments.{whole_words, words_in}
-
-words_in_bytes-length : (n : ℕ) (bytes : List ℕ) → length (words_in_bytes n bytes) ≡ n
-words_in_bytes-length zero bytes = refl
-words_in_bytes-length (suc n) bytes = let rest = words_in_bytes-length n (drop 8 bytes) in omega arith
+use Rattle.capnp_model.proofs.lemmas.WordsInBytes.{words_in_bytes-length}
 
 pub whole_words-length : (bytes : List ℕ) → length (whole_words bytes) ≡ length bytes / 8
 whole_words-length bytes = words_in_bytes-length (length bytes / 8) bytes

@@ -12,8 +12,9 @@ use Rattle.capnp_model.specs.Packing.{byte_tag, nonzero, count_byte, longest_run
 use Rattle.capnp_stream.specs.Segments.{AreBytes, whole_words}
 use Rattle.capnp_io.specs.Streams.{AppendsPart, RoomFalls, IsWriteRefusal}
 use Rattle.capnp_io.proofs.lemmas.KnownLemmas.{AppendsPart-more, AppendsPart-next}
-use Rattle.capnp_stream.proofs.lemmas.WordLemmas.{words_in_bytes-take, words_in_bytes-drop, bytes_of_words-back}
+use Rattle.capnp_stream.proofs.lemmas.WordLemmas.{words_in_bytes-take, bytes_of_words-back}
 use Rattle.capnp_writing.proofs.lemmas.WriteLemmas.{RoomFalls-none}
+use Rattle.capnp_model.proofs.lemmas.WordsInBytes.{words_in_bytes-drop}
 use Rattle.capnp_packing.specs.Runs.{run_view, run_words, run_bytes}
 use Rattle.std.proofs.Common.{◌%◌, ◌⊎◌, inl, inr, set, length-set}
 use Rattle.std.proofs.lemmas.Bool.{ne_eqb}

@@ -44,6 +44,7 @@ use Rattle.capnp_object.specs.Walks.{Stopped, CannotPass}
 use Rattle.capnp_object.proofs.lemmas.Words.{word_of_eight, whole_words-length}
 use Rattle.capnp_canonical.specs.Standing.{IsSmall, segment_words}
 use Rattle.capnp_model.proofs.lemmas.Tests.{and_false, and_right}
+use Rattle.capnp_model.proofs.lemmas.Lists.{only_is}
 use Rattle.capnp_records.specs.NodeViews.{type_record_of}
 use Rattle.capnp_records.specs.Segments.{form_of, wants}
 use Rattle.capnp_records.specs.declared.node.TypeRecord.{TypeRecord}
@@ -99,10 +100,6 @@ no_value costs faults n s p t kind at there =
     absurd (cc (sym path ∙ cost))
 
 -- ---- walks without a limit
-
--- the one of a list of one
-one_is : (a b : List ℕ) → a ∷ [] ≡ b ∷ [] → a ≡ b
-one_is a b e = cc
 
 no_cost : (a b : List Visit) (k : Kind) (c : ℕ) → visits_cost (a ++ Err k ∷ b) ≡ Some c → ⊥
 no_cost [] b k c h = absurd (cc h)
@@ -185,7 +182,7 @@ decoded bytes t e =
 canonical_decoded : (bytes : List ℕ) → length bytes % 8 ≡ 0 → AreBytes bytes → is_canonical_message 64 (segment_of bytes) ≡ true → (t : Tree) × (tree_at 64 (segment_of bytes) root ≡ Some t) × (decode bytes ≡ Some t)
 canonical_decoded bytes whole small is =
     let m = message_test 64 (segment_of bytes) is in
-    let words : whole_words bytes ≡ canonical_words (trim m.0) = one_is (whole_words bytes) (canonical_words (trim m.0)) m.3 in
+    let words : whole_words bytes ≡ canonical_words (trim m.0) = only_is (whole_words bytes) (canonical_words (trim m.0)) m.3 in
     let back = words_spell (length bytes / 8) bytes (omega (arith, whole)) small in
     (m.0, m.1, spelled_by bytes m.0 m.1 m.2 (sym (ap bytes_of_words words) ∙ back))
 

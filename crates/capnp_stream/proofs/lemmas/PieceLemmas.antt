@@ -15,11 +15,12 @@ use Rattle.capnp_model.specs.Messages.{Reader, within, plain_words, halves, behi
 use Rattle.capnp_model.proofs.lemmas.Chaining.{ok_is, ok_then, bind_ok}
 use Rattle.capnp_model.proofs.lemmas.ByteWords.{taken_front}
 use Rattle.capnp_io.specs.Streams.{ConsumesFewer, EndsBefore}
+use Rattle.capnp_model.proofs.lemmas.WordsInBytes.{words_in_bytes-length}
 use Rattle.capnp_stream.specs.Pieces.{EachIsNeeded, ReadsFronts, TakesPiece, TakesPieceStart, IsPieceFault}
 use Rattle.capnp_stream.specs.Frames.{IsCut}
 use Rattle.capnp_stream.proofs.lemmas.EarlyLemmas.{EndsEarly-of}
 use Rattle.capnp_stream.specs.Segments.{whole_words}
-use Rattle.capnp_stream.proofs.lemmas.WordLemmas.{AreBytes, whole_words-of_length, words_in_bytes-length, bytes_of_words-back}
+use Rattle.capnp_stream.proofs.lemmas.WordLemmas.{AreBytes, whole_words-of_length, bytes_of_words-back}
 
 -- ---- steps that refuse
 

@@ -12,6 +12,7 @@ use Rattle.capnp_model.specs.Messages.{frame, cut, halves}
 pub use Rattle.capnp_stream.specs.Ranges.{AreBytes}
 use Rattle.capnp_units.specs.Segments.{whole_words, words_in}
 use Rattle.capnp_model.specs.Spelling.{AreShort}
+use Rattle.capnp_model.proofs.lemmas.WordsInBytes.{words_in_bytes-drop, words_in_bytes-length}
 use Rattle.capnp_stream.specs.Writing.{IsSegment, AreWritable}
 use Rattle.capnp_stream.specs.Ranges.{ranges_from, range_lengths, bytes_at}
 
@@ -40,13 +41,6 @@ words_in_bytes-take (suc n) m bytes fits =
     let first : from_le_bytes w64 (take (8 + 8 * n) bytes) ≡ from_le_bytes w64 bytes = from_le_bytes-take (8 + 8 * n) bytes (omega arith) (omega arith) in
     let rest : take n (words_in_bytes (n + m) (drop 8 bytes)) ≡ words_in_bytes n (take (8 * n) (drop 8 bytes)) = words_in_bytes-take n m (drop 8 bytes) (omega (arith, length-drop 8 bytes)) in
     rw (next, wide, drop-take 8 (8 * n) bytes, first, rest) refl
-
-pub words_in_bytes-drop : (n m : ℕ) (bytes : List ℕ) → drop n (words_in_bytes (n + m) bytes) ≡ words_in_bytes m (drop (8 * n) bytes)
-words_in_bytes-drop zero m bytes = let same : zero + m ≡ m = omega arith in rw same refl
-words_in_bytes-drop (suc n) m bytes =
-    let next : suc n + m ≡ suc (n + m) = omega arith in
-    let wide : 8 * suc n ≡ 8 + 8 * n = omega arith in
-    rw (next, wide) (words_in_bytes-drop n m (drop 8 bytes) ∙ ap (words_in_bytes m) (drop-drop (8 * n) 8 bytes))
 
 -- so many bytes hold so many words
 pub whole_words-of_length : (n : ℕ) (bytes : List ℕ) → length bytes ≡ 8 * n → whole_words bytes ≡ words_in_bytes n bytes
@@ -183,10 +177,6 @@ AreBytes-take (suc n) (b ∷ bytes) small (suc i) = AreBytes-take n bytes (λ j.
 
 pub AreBytes-drop : (n : ℕ) (bytes : List ℕ) → AreBytes bytes → AreBytes (drop n bytes)
 AreBytes-drop n bytes small i = rw (get_or-drop n bytes i 0) (small (n + i))
-
-pub words_in_bytes-length : (n : ℕ) (bytes : List ℕ) → length (words_in_bytes n bytes) ≡ n
-words_in_bytes-length zero bytes = refl
-words_in_bytes-length (suc n) bytes = let rest = words_in_bytes-length n (drop 8 bytes) in omega arith
 
 pub bytes_of_words-back : (n : ℕ) (bytes : List ℕ) → length bytes ≡ 8 * n → AreBytes bytes → bytes_of_words (words_in_bytes n bytes) ≡ bytes
 bytes_of_words-back zero bytes long small = sym (nil_from_length bytes (omega arith))

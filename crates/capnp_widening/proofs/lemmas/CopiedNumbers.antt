@@ -37,15 +37,12 @@ use Rattle.capnp_copy.specs.declared.init.ListPlace.{ListPlace}
 use Rattle.capnp_footprints.proofs.lemmas.NewKinds.{zero_counted}
 use Rattle.capnp_model.proofs.lemmas.PointerWords.{list_kind_small}
 use Rattle.capnp_model.proofs.lemmas.ReadFits.{words_length}
+use Rattle.capnp_model.proofs.lemmas.Counts.{count-of-plain}
 use Rattle.capnp_widening.specs.Moves.{pads_of}
 use Rattle.capnp_widening.specs.MovedElements.{least_words, zeros_at, FillsElements, as_structs}
 use Rattle.capnp_widening.proofs.WiderRooms.{found_beside}
 
 -- ---- trees
-
-pub plain_count : (k : ℕ) (xs : List ℕ) → element_count (elements_of_plain k xs) ≡ length xs
-plain_count k [] = refl
-plain_count k (x ∷ xs) = ap suc (plain_count k xs)
 
 plain_at_index : (d k j : ℕ) (xs : List ℕ) → j < length xs → element_at d (elements_of_plain k xs) j ≡ structure d (slice_index xs j) (resized k none)
 plain_at_index d k j [] l = absurd (omega (arith, l))
@@ -53,7 +50,7 @@ plain_at_index d k zero (x ∷ xs) l = refl
 plain_at_index d k (suc j) (x ∷ xs) l = plain_at_index d k j xs (omega (arith, l))
 
 pub numbers_count : (k w count section : ℕ) → element_count (elements_of_plain k (numbers_in w count section)) ≡ count
-numbers_count k w count section = plain_count k (numbers_in w count section) ∙ length-numbers_in w count section
+numbers_count k w count section = count-of-plain k (numbers_in w count section) ∙ length-numbers_in w count section
 
 number_at : (d k w count section j : ℕ) → j < count → element_at d (elements_of_plain k (numbers_in w count section)) j ≡ structure d (bits_at (w * j) w section) (resized k none)
 number_at d k w count section j l = plain_at_index d k j (numbers_in w count section) (omega (arith, l, length-numbers_in w count section)) ∙ ap (λ (x : ℕ). structure d x (resized k none)) (numbers_at w count section j l)

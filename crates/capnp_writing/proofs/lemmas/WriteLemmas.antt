@@ -19,8 +19,9 @@ use Rattle.std.specs.Prelude.{All, replicate}
 use Rattle.std.proofs.lemmas.Grind.{flat_map-append}
 use Rattle.capnp_model.specs.Bytes.{words_in_bytes, bytes_of_words}
 use Rattle.capnp_model.proofs.lemmas.ByteWords.{bytes_length}
-use Rattle.capnp_stream.proofs.lemmas.WordLemmas.{whole_words-of_length, sum-cons, words_in_bytes-length, words_in_bytes-take, words_in_bytes-drop}
+use Rattle.capnp_stream.proofs.lemmas.WordLemmas.{whole_words-of_length, sum-cons, words_in_bytes-take}
 use Rattle.capnp_model.proofs.lemmas.Written.{paired_length}
+use Rattle.capnp_model.proofs.lemmas.WordsInBytes.{words_in_bytes-drop, words_in_bytes-length}
 
 -- the bytes of a word are that word
 pub word-bytes : (word : ℕ) (bytes : List ℕ) → word < 2 ^ 64 → bytes ≡ to_le_bytes w64 word → whole_words bytes ≡ word ∷ []
@@ -115,18 +116,6 @@ each-step write (y ∷ s) (suc id) x here =
 pub each-text : {X : Type 0} (write : X → List ℕ) (s : List X) (id : ℕ) (x : X) → slice_get s id ≡ Some x → (flat_map write (take id s) ++ write x) ++ flat_map write (drop (id + 1) s) ≡ flat_map write s
 each-text write s id x here =
     ap (λ l. l ++ flat_map write (drop (id + 1) s)) (sym (each-step write s id x here)) ∙ sym (flat_map-append write (take (id + 1) s) (drop (id + 1) s)) ∙ ap (flat_map write) (take-append-drop (id + 1) s)
-
-pub take-all : {X : Type 0} (s : List X) (id : ℕ) → length s ≤ id → take id s ≡ s
-take-all [] zero all = refl
-take-all [] (suc id) all = refl
-take-all (x ∷ s) zero all = absurd (omega (arith, all))
-take-all (x ∷ s) (suc id) all = ap (λ l. x ∷ l) (take-all s id (omega (arith, all)))
-
-pub drop-all : {X : Type 0} (s : List X) (id : ℕ) → length s ≤ id → drop id s ≡ []
-drop-all [] zero all = refl
-drop-all [] (suc id) all = refl
-drop-all (x ∷ s) zero all = absurd (omega (arith, all))
-drop-all (x ∷ s) (suc id) all = drop-all s id (omega (arith, all))
 
 -- ---- segments by their numbers
 

@@ -3,12 +3,10 @@ use Rattle.std.specs.Prelude.{IfOk}
 use Rattle.capnp_model.specs.Bytes.{bytes_of_words}
 use Rattle.capnp_units.specs.Segments.{whole_words}
 use Rattle.capnp_canonical.specs.Writes.{words_view}
+use Rattle.capnp_model.proofs.lemmas.Lists.{only_is}
 use Rattle.capnp_call_messages.proofs.message.bytes_of_words.Goals as goal
-
-one : (a b : List ℕ) → a ∷ [] ≡ b ∷ [] → a ≡ b
-one a b e = cc
 
 pub returns : goal.returns
 returns c =
-    let same = ap whole_words c.words_as_bytes.ensures.bytes ∙ one _ (words_view c.args.words.now) c.segments_of_words.ensures in
+    let same = ap whole_words c.words_as_bytes.ensures.bytes ∙ only_is _ (words_view c.args.words.now) c.segments_of_words.ensures in
     subst (λ (ws : List ℕ). IfOk c.copied.result (λ v. v.items ≡ bytes_of_words ws)) same c.copied.ensures

@@ -20,6 +20,7 @@ use Rattle.capnp_object.specs.Arenas.{segment_bytes}
 use Rattle.capnp_object.specs.Objects.{IsInside}
 use Rattle.capnp_object.specs.Inside.{tree_in, met_in, section_at, words_there}
 use Rattle.capnp_object.specs.Walks.{Stopped}
+use Rattle.capnp_model.proofs.lemmas.Counts.{each_count, each_element_count}
 use Rattle.capnp_canonical.specs.Writes.{words_view, with_link, with_links, with_cells}
 use Rattle.capnp_canonical.specs.Widths.{kept}
 use Rattle.capnp_canonical.specs.Copies.{copy_visits, IsData, FollowsData, Writes, Unwritten}
@@ -27,8 +28,7 @@ use Rattle.capnp_canonical.specs.Objects.{IsShort, WritesObject}
 use Rattle.capnp_canonical.proofs.Copying.{unwritten_at, no_room, halts_is}
 use Rattle.capnp_canonical.proofs.lemmas.Faults.{stopped_otherwise}
 use Rattle.capnp_canonical.proofs.Rooms.{no_room_for_struct, no_room_for_pointers, no_room_for_structs}
-use Rattle.capnp_canonical.proofs.Rows.{least_words, least_pointers, elements_count}
-use Rattle.capnp_object.proofs.lemmas.Rows.{each_count}
+use Rattle.capnp_canonical.proofs.Rows.{least_words, least_pointers}
 use Rattle.capnp_canonical.proofs.Steps.{null_put, leaf_at, deep_at, short_at}
 use Rattle.capnp_object.proofs.lemmas.NearObjects.{segment_of}
 use Rattle.capnp_canonical.proofs.NearFollowed.{some_left, untold}
@@ -364,7 +364,7 @@ write_structs-returns-in_err-end g t c = λ most room.
     no_room (tree_in s (tree_at n s) o) has_capability (λ t. with_link c.args.at (trim t)) (met_in (copy_visits n s) o) most c.args.used old l c.from_residual.result e (r.1 ∙ ap (λ (y : Error). Err y) r.2) c.in_err-end.ensures.0 (omega arith)
     (no_room_for_structs c.args.at c.args.used (1 + count * (cut.kept_words + cut.kept_pointers)) old c.requires.place.1 full count d k cut.kept_words cut.kept_pointers (each_element (tree_at n s) p ws d k count) refl
     (λ es is. (
-      elements_count (tree_at n s) p ws d k count es is,
+      each_element_count (tree_at n s) p ws d k count es is,
       least_words count s p c.args.words d k (tree_at n s) es c.requires.inside.0 fit is ∙ sym c.cut_of-cut.ensures.words,
       least_pointers count n s p ws c.args.words d k es c.requires.inside.0 fit is ∙ sym c.cut_of-cut.ensures.pointers,
     )))

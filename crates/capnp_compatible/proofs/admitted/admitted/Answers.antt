@@ -6,9 +6,10 @@ use Rattle.capnp_model.specs.Admitted.{is_admitted}
 use Rattle.capnp_records.specs.Sets.{nodes_of}
 use Rattle.capnp_calls.specs.CallViews.{call_view}
 use Rattle.capnp_calls.specs.declared.call.Call.{Call}
+use Rattle.capnp_model.proofs.lemmas.Lists.{take-all}
 use Rattle.capnp_compatible.specs.Holders.{schema_in}
 use Rattle.capnp_compatible.specs.Ways.{IsFirstRefused}
-use Rattle.capnp_compatible.proofs.FirstRefused.{first_refused, next_tested, taken_all}
+use Rattle.capnp_compatible.proofs.FirstRefused.{first_refused, next_tested}
 use Rattle.capnp_compatible.proofs.admitted.admitted.Goals as goal
 
 pub returns-then-not-branch-clause-answer : goal.returns-then-not-branch-clause-answer
@@ -32,6 +33,6 @@ returns-clause-answer c =
     let v = c.in_ok-versions.versions in
     let i = c.args.older.id in
     let j = c.args.newer.id in
-    let all : list_all (is_admitted (schema_in v.older) (schema_in v.newer) i j) (map call_view c.args.calls.now) ≡ true = ap (λ (xs : List Call). list_all (is_admitted (schema_in v.older) (schema_in v.newer) i j) (map call_view xs)) (sym (taken_all c.args.calls.now c.loop-i.i c.loop-i-test.false)) ∙ c.loop-i.invariant in
+    let all : list_all (is_admitted (schema_in v.older) (schema_in v.newer) i j) (map call_view c.args.calls.now) ≡ true = ap (λ (xs : List Call). list_all (is_admitted (schema_in v.older) (schema_in v.newer) i j) (map call_view xs)) (sym (take-all c.args.calls.now c.loop-i.i c.loop-i-test.false)) ∙ c.loop-i.invariant in
     subst (λ (ns : List Node). list_all (is_admitted (schema_of ns) (schema_of (nodes_of c.args.newer.set.now)) i j) (map call_view c.args.calls.now) ≡ true) c.in_ok-versions.ensures.older
     (subst (λ (ns : List Node). list_all (is_admitted (schema_in v.older) (schema_of ns) i j) (map call_view c.args.calls.now) ≡ true) c.in_ok-versions.ensures.newer all)

@@ -1,9 +1,10 @@
 use Rattle.std.proofs.Common.{◌≡◌, ℕ, ◌*◌, List, replicate, get_or, ap, ◌∙◌, arith}
 use Rattle.std.proofs.lemmas.List.{length-replicate}
 use Rattle.capnp_footprints.specs.Writes.{spliced}
+use Rattle.capnp_model.proofs.lemmas.WordsInBytes.{words_in_bytes-zeros}
 use Rattle.capnp_copy.specs.Memory.{overwritten}
 use Rattle.capnp_copy.specs.Allocations.{words_used}
-use Rattle.capnp_copy.proofs.HeldWords.{written_map, total_set, in_range, in_words, used_length, used_overwritten, words_of_zero_bytes}
+use Rattle.capnp_copy.proofs.HeldWords.{written_map, total_set, in_range, in_words, used_length, used_overwritten}
 use Rattle.capnp_copy.proofs.grown.zero_in_segment.Goals as goal
 
 pub zero-requires : goal.zero-requires
@@ -22,7 +23,7 @@ returns-then-index-all-clause-words g c =
     let inside = in_words (λ h. words_used h.used (g.S.SegmentBytes.bytes h.segment)) c.args.all.now c.args.place.segment c.args.place.position (c.args.count) d c.requires.there in
     let same : words_used new.used (bytes new.segment) ≡ words_used old.used (overwritten (8 * c.args.place.position) (replicate {A = ℕ} (8 * c.args.count) 0) (bytes old.segment)) = ap (λ (bs : List ℕ). words_used new.used bs) c.zero.ensures.bytes ∙ ap (λ (m : ℕ). words_used m (overwritten (8 * c.args.place.position) (replicate {A = ℕ} (8 * c.args.count) 0) (bytes old.segment))) c.zero.ensures.used in
     written_map _ c.args.all.now c.args.place.segment c.args.place.position _ new d
-    (same ∙ used_overwritten old.used c.args.place.position (c.args.count) (replicate {A = ℕ} (8 * c.args.count) 0) (bytes old.segment) (length-replicate {A = ℕ} (8 * c.args.count) 0) (omega (arith, inside, used_length old.used (bytes old.segment) old.inside)) old.inside ∙ ap (λ (ws : List ℕ). spliced c.args.place.position ws (words_used old.used (bytes old.segment))) (words_of_zero_bytes c.args.count))
+    (same ∙ used_overwritten old.used c.args.place.position (c.args.count) (replicate {A = ℕ} (8 * c.args.count) 0) (bytes old.segment) (length-replicate {A = ℕ} (8 * c.args.count) 0) (omega (arith, inside, used_length old.used (bytes old.segment) old.inside)) old.inside ∙ ap (λ (ws : List ℕ). spliced c.args.place.position ws (words_used old.used (bytes old.segment))) (words_in_bytes-zeros c.args.count))
 
 pub returns-then-index-all-clause-total : goal.returns-then-index-all-clause-total
 returns-then-index-all-clause-total g c =

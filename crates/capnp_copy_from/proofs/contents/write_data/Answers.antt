@@ -6,13 +6,10 @@ use Rattle.capnp_object.specs.Places.{place_view}
 use Rattle.capnp_copy.proofs.lemmas.ZeroedWords.{written_sizes}
 use Rattle.capnp_copy.proofs.lemmas.RoomLaws.{sizes_grow, still_some}
 use Rattle.capnp_copy.proofs.lemmas.Taken.{bytes_sizes}
+use Rattle.capnp_model.proofs.lemmas.WordsInBytes.{words_for_bytes}
 use Rattle.capnp_copy_from.proofs.TakenContent.{data_written}
 use Rattle.capnp_copy_from.proofs.Parts.{part_there}
 use Rattle.capnp_copy_from.proofs.contents.write_data.Goals as goal
-
--- in whole words
-whole : (n : ℕ) → (n + 7) / 8 ≡ words_for (8 * n)
-whole n = omega arith
 
 pub zero_words-requires : goal.zero_words-requires
 zero_words-requires g c =
@@ -31,7 +28,7 @@ returns-clause-section g c =
     let r : Place = place_view c.args.object.start in
     let fit = c.requires.fit in
     let w = (length c.args.bytes.now + 7) / 8 in
-    λ n own kids o. data_written n s m u r c.args.object.data_words c.args.object.pointers own ((length c.args.bytes.now + 7) / 8) (c.args.object.data_words - (length c.args.bytes.now + 7) / 8) kids c.args.bytes.now (λ i. let h = c.type_inv.bytes i in omega (arith, h)) (whole (length c.args.bytes.now)) (omega (arith, fit)) c.requires.there c.write_bytes.ensures.words c.zero_words.ensures.words o
+    λ n own kids o. data_written n s m u r c.args.object.data_words c.args.object.pointers own ((length c.args.bytes.now + 7) / 8) (c.args.object.data_words - (length c.args.bytes.now + 7) / 8) kids c.args.bytes.now (λ i. let h = c.type_inv.bytes i in omega (arith, h)) (words_for_bytes (length c.args.bytes.now)) (omega (arith, fit)) c.requires.there c.write_bytes.ensures.words c.zero_words.ensures.words o
 
 pub returns-clause-sizes : goal.returns-clause-sizes
 returns-clause-sizes g c =

@@ -15,6 +15,7 @@ use Rattle.capnp_object.specs.declared.object.Object.TheVariants as object
 use Rattle.capnp_copy.specs.Clearing.{ClearsObject}
 use Rattle.capnp_copy.specs.Rooms.{begin_of, linked}
 use Rattle.capnp_copy.proofs.lemmas.RoomLaws.{sizes_grow, still_some, room_addressed, room_grows, room_pad, pad_stays, room_near}
+use Rattle.capnp_model.proofs.lemmas.WordsInBytes.{words_for_bytes}
 use Rattle.capnp_copy_from.specs.Copies.{Copied, Refused, Fills, ObjectCopied, ObjectRefused, ObjectGives}
 use Rattle.capnp_copy_from.specs.Objects.{copied_words, copied_at, copied_pointer}
 use Rattle.capnp_copy_from.proofs.Allocated.{room_new}
@@ -23,10 +24,6 @@ use Rattle.capnp_copy_from.proofs.Placed.{copied_object, refused_object, no_room
 use Rattle.capnp_copy_from.proofs.SectionBytes.{bytes_grow, section_fills}
 use Rattle.capnp_copy_from.proofs.structs.set_struct.Goals as goal
 
--- in whole words
-whole : (n : ℕ) → (n + 7) / 8 ≡ words_for (8 * n)
-whole n = omega arith
-
 pub returns-in_err-room-clause-copy : goal.returns-in_err-room-clause-copy
 returns-in_err-room-clause-copy g c =
     let from : Segments = words_in (g.B.ReaderArena.segments c.args.source.now) in
@@ -34,7 +31,7 @@ returns-in_err-room-clause-copy g c =
     let u : Segments = words_in (g.A.ReaderArena.segments c.room_for.new.arena) in
     let r = err_from_is_err_and c.from_residual.result c.from_residual.ensures.1 in
     let e = c.in_err-room.field-0.0 in
-    subst (λ (d : ℕ). ObjectGives c.args.levels from (object.Struct c.args.first d c.args.pointers) (each (tree_at c.args.levels from) (place_view c.args.first) c.args.pointers >>= λ ts. Some (structure d (number_of 8 c.args.section.now) ts)) (from_each (visits c.args.levels from) (place_view c.args.first) c.args.pointers) s u (place_view c.args.slot) c.args.limiter.now c.from_residual.result c.args.limiter.now) (whole (length c.args.section.now))
+    subst (λ (d : ℕ). ObjectGives c.args.levels from (object.Struct c.args.first d c.args.pointers) (each (tree_at c.args.levels from) (place_view c.args.first) c.args.pointers >>= λ ts. Some (structure d (number_of 8 c.args.section.now) ts)) (from_each (visits c.args.levels from) (place_view c.args.first) c.args.pointers) s u (place_view c.args.slot) c.args.limiter.now c.from_residual.result c.args.limiter.now) (words_for_bytes (length c.args.section.now))
     (object_refused c.args.levels from (object.Struct c.args.first ((length c.args.section.now + 7) / 8) c.args.pointers) (each (tree_at c.args.levels from) (place_view c.args.first) c.args.pointers >>= λ ts. Some (structure ((length c.args.section.now + 7) / 8) (number_of 8 c.args.section.now) ts)) (from_each (visits c.args.levels from) (place_view c.args.first) c.args.pointers) s u (place_view c.args.slot) c.args.limiter.now c.args.limiter.now c.from_residual.result r.0 e r.1 r.2
     (no_room from s u (object.Struct c.args.first ((length c.args.section.now + 7) / 8) c.args.pointers) (from_each (visits c.args.levels from) (place_view c.args.first) c.args.pointers) c.args.limiter.now e (ap words_in c.in_err-room.ensures.refused) c.in_err-room.ensures.kind))
 
@@ -124,10 +121,10 @@ returns-in-Ok-clause-copy g c =
     let begins : place_view c.begin_of-start.result ≡ begin_of p c.in_ok-room.room = c.begin_of-start.ensures in
     let new = room_new s m p (((length c.args.section.now + 7) / 8) + c.args.pointers) c.in_ok-room.room c.requires.there c.in_ok-room.ensures.ok in
     let zeros = subst (λ (q : Place). words_at m q (((length c.args.section.now + 7) / 8) + c.args.pointers) ≡ Some (replicate (((length c.args.section.now + 7) / 8) + c.args.pointers) 0)) (sym begins) new.zeros in
-    let made = section_fills n from (place_view c.args.first) from (each (tree_at c.args.levels from) (place_view c.args.first) c.args.pointers) (from_each (visits c.args.levels from) (place_view c.args.first) c.args.pointers) c.args.section.now m w u (place_view c.begin_of-start.result) ((length c.args.section.now + 7) / 8) c.args.pointers c.args.limiter.now c.fill_row.new.limiter (Ok tt) (λ i. let h = c.type_inv.section i in omega (arith, h)) (whole (length c.args.section.now)) zeros c.write_bytes.ensures.words c.in-Ok.ensures.copy in
+    let made = section_fills n from (place_view c.args.first) from (each (tree_at c.args.levels from) (place_view c.args.first) c.args.pointers) (from_each (visits c.args.levels from) (place_view c.args.first) c.args.pointers) c.args.section.now m w u (place_view c.begin_of-start.result) ((length c.args.section.now + 7) / 8) c.args.pointers c.args.limiter.now c.fill_row.new.limiter (Ok tt) (λ i. let h = c.type_inv.section i in omega (arith, h)) (words_for_bytes (length c.args.section.now)) zeros c.write_bytes.ensures.words c.in-Ok.ensures.copy in
     let filled = subst (λ (r : Place). Copied (each (tree_at c.args.levels from) (place_view c.args.first) c.args.pointers >>= λ ts. Some (structure ((length c.args.section.now + 7) / 8) (number_of 8 c.args.section.now) ts)) (from_each (visits c.args.levels from) (place_view c.args.first) c.args.pointers) (λ v. (j : ℕ) → n ≤ j → Fills j m u r (copied_words (object.Struct c.args.first ((length c.args.section.now + 7) / 8) c.args.pointers)) (copied_at r (object.Struct c.args.first ((length c.args.section.now + 7) / 8) c.args.pointers)) v) m u c.args.limiter.now c.fill_row.new.limiter) begins made in
     let now : z ≡ linked y p room (copied_pointer (object.Struct c.args.first ((length c.args.section.now + 7) / 8) c.args.pointers)) = c.link.ensures.words ∙ ap (linked y p room) c.pointer_word.ensures.word in
-    subst (λ (d : ℕ). ObjectCopied n (object.Struct c.args.first d c.args.pointers) (each (tree_at c.args.levels from) (place_view c.args.first) c.args.pointers >>= λ ts. Some (structure d (number_of 8 c.args.section.now) ts)) (from_each (visits c.args.levels from) (place_view c.args.first) c.args.pointers) s z p c.args.limiter.now c.fill_row.new.limiter) (whole (length c.args.section.now))
+    subst (λ (d : ℕ). ObjectCopied n (object.Struct c.args.first d c.args.pointers) (each (tree_at c.args.levels from) (place_view c.args.first) c.args.pointers >>= λ ts. Some (structure d (number_of 8 c.args.section.now) ts)) (from_each (visits c.args.levels from) (place_view c.args.first) c.args.pointers) s z p c.args.limiter.now c.fill_row.new.limiter) (words_for_bytes (length c.args.section.now))
     (copied_object n s m u y z p (object.Struct c.args.first ((length c.args.section.now + 7) / 8) c.args.pointers) room (each (tree_at c.args.levels from) (place_view c.args.first) c.args.pointers >>= λ ts. Some (structure ((length c.args.section.now + 7) / 8) (number_of 8 c.args.section.now) ts)) (from_each (visits c.args.levels from) (place_view c.args.first) c.args.pointers) c.args.limiter.now c.fill_row.new.limiter c.requires.there refl c.in_ok-room.ensures.ok (struct_fits c.args.first ((length c.args.section.now + 7) / 8) c.args.pointers c.in_ok-room.ensures.spelled) filled c.clear.ensures.clears c.clear.ensures.sizes now)
 
 pub returns-in-Err-clause-copy : goal.returns-in-Err-clause-copy
@@ -144,8 +141,8 @@ returns-in-Err-clause-copy g c =
     let begins : place_view c.begin_of-start.result ≡ begin_of p c.in_ok-room.room = c.begin_of-start.ensures in
     let new = room_new s m p (((length c.args.section.now + 7) / 8) + c.args.pointers) c.in_ok-room.room c.requires.there c.in_ok-room.ensures.ok in
     let zeros = subst (λ (q : Place). words_at m q (((length c.args.section.now + 7) / 8) + c.args.pointers) ≡ Some (replicate (((length c.args.section.now + 7) / 8) + c.args.pointers) 0)) (sym begins) new.zeros in
-    let made = section_fills n from (place_view c.args.first) from (each (tree_at c.args.levels from) (place_view c.args.first) c.args.pointers) (from_each (visits c.args.levels from) (place_view c.args.first) c.args.pointers) c.args.section.now m w u (place_view c.begin_of-start.result) ((length c.args.section.now + 7) / 8) c.args.pointers c.args.limiter.now c.fill_row.new.limiter (Err e) (λ i. let h = c.type_inv.section i in omega (arith, h)) (whole (length c.args.section.now)) zeros c.write_bytes.ensures.words c.in-Err.ensures.copy in
+    let made = section_fills n from (place_view c.args.first) from (each (tree_at c.args.levels from) (place_view c.args.first) c.args.pointers) (from_each (visits c.args.levels from) (place_view c.args.first) c.args.pointers) c.args.section.now m w u (place_view c.begin_of-start.result) ((length c.args.section.now + 7) / 8) c.args.pointers c.args.limiter.now c.fill_row.new.limiter (Err e) (λ i. let h = c.type_inv.section i in omega (arith, h)) (words_for_bytes (length c.args.section.now)) zeros c.write_bytes.ensures.words c.in-Err.ensures.copy in
     let left = subst (λ (r : Place). Refused from (from_each (visits c.args.levels from) (place_view c.args.first) c.args.pointers) ((t : Tree) × Fills n m u r (copied_words (object.Struct c.args.first ((length c.args.section.now + 7) / 8) c.args.pointers)) (copied_at r (object.Struct c.args.first ((length c.args.section.now + 7) / 8) c.args.pointers)) t) m u c.args.limiter.now e c.fill_row.new.limiter) begins made in
     let clears : ClearsObject u y (copied_at (begin_of p c.in_ok-room.room) (object.Struct c.args.first ((length c.args.section.now + 7) / 8) c.args.pointers)) = subst (λ (r : Place). ClearsObject u y (copied_at r (object.Struct c.args.first ((length c.args.section.now + 7) / 8) c.args.pointers))) begins (subst (ClearsObject u y) c.copy_at.ensures c.clear_object.ensures.clears) in
-    subst (λ (d : ℕ). ObjectRefused from (object.Struct c.args.first d c.args.pointers) (from_each (visits c.args.levels from) (place_view c.args.first) c.args.pointers) s y c.args.limiter.now e c.fill_row.new.limiter) (whole (length c.args.section.now))
+    subst (λ (d : ℕ). ObjectRefused from (object.Struct c.args.first d c.args.pointers) (from_each (visits c.args.levels from) (place_view c.args.first) c.args.pointers) s y c.args.limiter.now e c.fill_row.new.limiter) (words_for_bytes (length c.args.section.now))
     (refused_object n from s m u y p (object.Struct c.args.first ((length c.args.section.now + 7) / 8) c.args.pointers) c.in_ok-room.room (from_each (visits c.args.levels from) (place_view c.args.first) c.args.pointers) c.args.limiter.now c.fill_row.new.limiter e c.requires.there c.in_ok-room.ensures.ok left clears c.clear_object.ensures.sizes)

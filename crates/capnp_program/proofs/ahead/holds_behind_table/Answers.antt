@@ -1,6 +1,6 @@
 use Rattle.std.proofs.Common.{◌≡◌, ◌+◌, ◌/◌, ◌%◌, ◌^◌, length, Ok, subst, ◌∙◌, arith}
 use Rattle.capnp_units.specs.Segments.{whole_words}
-use Rattle.capnp_stream.proofs.lemmas.WordLemmas.{words_in_bytes-length}
+use Rattle.capnp_model.proofs.lemmas.WordsInBytes.{words_in_bytes-length}
 use Rattle.capnp_program.proofs.Tables.{behind_is_told, piece_is_read}
 use Rattle.capnp_program.proofs.ahead.holds_behind_table.Goals as goal
 

@@ -4,10 +4,11 @@ use Rattle.capnp_model.specs.Segments.{Segments}
 use Rattle.capnp_model.specs.Bytes.{words_in_bytes}
 use Rattle.capnp_model.specs.Messages.{cut, within}
 use Rattle.capnp_model.specs.Spelling.{CanSpell}
+use Rattle.capnp_model.proofs.lemmas.WordsInBytes.{words_in_bytes-length}
 use Rattle.capnp_stream.specs.Ranges.{AreBytes}
 use Rattle.capnp_stream.specs.Segments.{whole_words, lengths_of, segments_of}
 use Rattle.capnp_stream.specs.Frames.{TakesMessage, IsCut}
-use Rattle.capnp_stream.proofs.lemmas.WordLemmas.{whole_words-of_length, words_in_bytes-length, cut-of_joined, concat-of_joined, writable-joined}
+use Rattle.capnp_stream.proofs.lemmas.WordLemmas.{whole_words-of_length, cut-of_joined, concat-of_joined, writable-joined}
 use Rattle.capnp_stream.proofs.SpellLemmas.{CanSpell-of_cut}
 use Rattle.capnp_stream.proofs.lemmas.FrameLemmas.{large-part, body-part, message-of_pieces}
 use Rattle.capnp_stream.proofs.ReadLemmas.{table-wanted}

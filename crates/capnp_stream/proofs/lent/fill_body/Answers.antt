@@ -4,9 +4,10 @@ use Rattle.std.proofs.lemmas.List.{length-append}
 use Rattle.std.proofs.lemmas.Result.{on_ok_weaker}
 use Rattle.capnp_model.specs.Messages.{cut}
 use Rattle.capnp_units.specs.Segments.{whole_words, words_in}
+use Rattle.capnp_model.proofs.lemmas.WordsInBytes.{words_in_bytes-length}
 use Rattle.capnp_stream.specs.Pieces.{TakesPiece}
 use Rattle.capnp_stream.specs.Flat.{table_lengths, table_bytes, frame_segments}
-use Rattle.capnp_stream.proofs.lemmas.WordLemmas.{words_in_bytes-length, from_le_bytes-front}
+use Rattle.capnp_stream.proofs.lemmas.WordLemmas.{from_le_bytes-front}
 use Rattle.capnp_stream.proofs.FlatLemmas.{table-front, message-in}
 use Rattle.capnp_stream.proofs.lent.fill_body.Goals as goal
 

@@ -1,7 +1,8 @@
 use Rattle.std.proofs.Common.{arith, ◌≡◌, sum, ap, length, map, take}
 use Rattle.std.proofs.lemmas.List.{length-map}
 use Rattle.capnp_units.specs.Segments.{whole_words, words_in}
-use Rattle.capnp_writing.proofs.lemmas.WriteLemmas.{length-frame, take-all}
+use Rattle.capnp_model.proofs.lemmas.Lists.{take-all}
+use Rattle.capnp_writing.proofs.lemmas.WriteLemmas.{length-frame}
 use Rattle.capnp_writing.proofs.messages.compute_serialized_size_in_words.Goals as goal
 
 pub returns : goal.returns

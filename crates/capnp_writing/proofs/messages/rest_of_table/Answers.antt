@@ -3,7 +3,8 @@ use Rattle.std.proofs.lemmas.List.{length-append, length-map}
 use Rattle.std.specs.Int.{to_le_bytes, w64}
 use Rattle.capnp_model.specs.Messages.{paired}
 use Rattle.capnp_units.specs.Segments.{whole_words, words_in}
-use Rattle.capnp_writing.proofs.lemmas.WriteLemmas.{table-step, drop-all}
+use Rattle.capnp_model.proofs.lemmas.Lists.{drop-all}
+use Rattle.capnp_writing.proofs.lemmas.WriteLemmas.{table-step}
 use Rattle.capnp_writing.proofs.messages.rest_of_table.Goals as goal
 
 pub loop-id-preserved : goal.loop-id-preserved

@@ -5,7 +5,8 @@ use Rattle.std.proofs.lemmas.Option.{slice_get_within}
 use Rattle.std.proofs.lemmas.Result.{err_from_is_err_and}
 use Rattle.capnp_units.specs.Segments.{whole_words, words_in}
 use Rattle.capnp_io.specs.Writes.{sink_seen}
-use Rattle.capnp_writing.proofs.lemmas.WriteLemmas.{segment-there, segment-gone, each-step, each-text, take-all}
+use Rattle.capnp_model.proofs.lemmas.Lists.{take-all}
+use Rattle.capnp_writing.proofs.lemmas.WriteLemmas.{segment-there, segment-gone, each-step, each-text}
 use Rattle.capnp_writing.proofs.WritesLemmas.{writes-text, writes-stop, writes-then}
 use Rattle.capnp_writing.proofs.messages.write_each.Goals as goal
 

@@ -3,7 +3,7 @@ use Rattle.std.proofs.lemmas.Result.{err_from_is_err_and}
 use Rattle.capnp_units.specs.Segments.{whole_words}
 use Rattle.capnp_model.specs.Messages.{spelled}
 use Rattle.capnp_io.specs.Writes.{sink_seen}
-use Rattle.capnp_stream.proofs.lemmas.WordLemmas.{words_in_bytes-length}
+use Rattle.capnp_model.proofs.lemmas.WordsInBytes.{words_in_bytes-length}
 use Rattle.capnp_writing.proofs.lemmas.WriteLemmas.{one-text}
 use Rattle.capnp_writing.proofs.WritesLemmas.{writes-text, writes-stop, writes-then}
 use Rattle.capnp_writing.proofs.messages.write_segment_in.Goals as goal
