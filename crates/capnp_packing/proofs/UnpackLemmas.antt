@@ -252,10 +252,15 @@ Unpacks-then run shown buf tail after s next first rest =
 -- ---- whole groups with their whole runs
 
 -- behind a run that is over a further group comes
-pub over-next : (n : ℕ) (more : List ℕ) → unpacked_from n (model.verbatim 0) more ≡ unpacked_from n model.next more
+over-next : (n : ℕ) (more : List ℕ) → unpacked_from n (model.verbatim 0) more ≡ unpacked_from n model.next more
 unfolding unpacked_from
 over-next zero more = refl
 over-next (suc n) more = refl
+
+over-zeros : (n : ℕ) (more : List ℕ) → unpacked_from n (model.zeros 0) more ≡ unpacked_from n model.next more
+unfolding unpacked_from
+over-zeros zero more = refl
+over-zeros (suc n) more = refl
 
 Spells-next : (n m : ℕ) (r s : model.Run) (p xs : List ℕ) → ((more : List ℕ) → unpacked_from m s more ≡ unpacked_from m model.next more) → Spells n r p xs m s → Spells n r p xs m model.next
 Spells-next n m r s p xs same made = record { says = λ more. made.says more ∙ ap (with_front xs) (same more); needed = made.needed }
@@ -281,7 +286,7 @@ module _ (shown after word : List ℕ) (tag : ℕ) (long : 10 ≤ length shown) 
       let second = unpacks-zeros k k (drop 2 shown) (drop 8 after) (omega arith) (omega (arith, size)) cleared in
       let none : k - k ≡ 0 = omega arith in
       let both = Unpacks-behind run shown after (drop 8 after) after (record { taken = 2; filled = 8; run = Zeros k }) _ first second size refl (joins (8 * k)) in
-      Unpacks-next run shown after 2 (8 + 8 * k) (Zeros (k - k)) (λ n more. ap (λ (j : ℕ). unpacked_from n (model.zeros j) more) none ∙ over-next n more) both
+      Unpacks-next run shown after 2 (8 + 8 * k) (Zeros (k - k)) (λ n more. ap (λ (j : ℕ). unpacked_from n (model.zeros j) more) none ∙ over-zeros n more) both
 
   pub words-unpack : (k : ℕ) → tag ≡ 255 → k ≡ get_or shown 9 0 → 8 * k ≤ length after - 8 → 8 * k ≤ length shown - 10 → take (8 * k) (drop 8 after) ≡ take (8 * k) (drop 10 shown) → Unpacks run shown after (record { taken = 10 + 8 * k; filled = 8 + 8 * k; run = Next })
   words-unpack k is count fits whole copied =
