@@ -8,9 +8,9 @@ use Rattle.capnp_model.specs.Trees.{Tree, null, structure, plain_list, pointer_l
 use Rattle.capnp_model.specs.Trimming.{stripped, common_words, common_pointers, with_pointers, trim, trim_each, trim_elements}
 use Rattle.capnp_model.specs.Encoding.{struct_pointer, list_pointer, pointer, body, cells, element_bodies, canonical_words}
 use Rattle.capnp_model.proofs.lemmas.TrimFits.{count-trim_each, count-with_pointers, count-trim_elements}
-use Rattle.capnp_model.proofs.lemmas.Stripping.{resized-stripped}
+use Rattle.capnp_model.proofs.lemmas.Stripping.{resized-stripped, resized_all}
 use Rattle.capnp_canonical.specs.Writes.{words_view, filled, with_link, with_links, with_cells}
-use Rattle.capnp_canonical.proofs.lemmas.Putting.{resized_all, links_written, cells_written, cells_of_one}
+use Rattle.capnp_canonical.proofs.lemmas.Putting.{links_written, cells_written, cells_of_one}
 
 -- ---- words in use
 

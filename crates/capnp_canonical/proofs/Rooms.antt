@@ -10,12 +10,11 @@ use Rattle.capnp_model.specs.Encoding.{pointer, body, links, bodies, cells, elem
 use Rattle.capnp_model.proofs.lemmas.Chaining.{bind_some, some_is}
 use Rattle.capnp_model.proofs.lemmas.Numbers.{length-numbers_in}
 use Rattle.capnp_model.proofs.lemmas.RoundTrip.{links_length}
-use Rattle.capnp_model.proofs.lemmas.Stripping.{count-resized}
+use Rattle.capnp_model.proofs.lemmas.Stripping.{count-resized, resized_all}
 use Rattle.capnp_model.proofs.lemmas.TrimFits.{count-trim_each, count-trim_elements}
 use Rattle.capnp_canonical.specs.Writes.{filled, with_link, with_links, with_cells}
 use Rattle.capnp_canonical.specs.Copies.{room_of, HasNoRoomFor}
 use Rattle.capnp_canonical.proofs.Objects.{filled_length}
-use Rattle.capnp_canonical.proofs.lemmas.Putting.{resized_all}
 
 -- ---- what is put takes no word away
 

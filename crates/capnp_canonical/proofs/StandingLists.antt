@@ -29,6 +29,7 @@ use Rattle.capnp_object.specs.Inside.{section_at, words_there}
 use Rattle.capnp_object.proofs.lemmas.Walks.{walked_none}
 use Rattle.capnp_object.proofs.lemmas.Measuring.{data_bits_plain}
 use Rattle.capnp_model.proofs.lemmas.Counts.{each_count, each_element_count}
+use Rattle.capnp_model.proofs.lemmas.Stripping.{resized_all}
 use Rattle.capnp_canonical.specs.Widths.{kept, widest}
 use Rattle.capnp_canonical.specs.Standing.{Hold, Stands, StandEach, StandElements, segment_words, IsSmall}
 use Rattle.capnp_canonical.specs.Checks.{Tests, TestsObject, TestsRow, TestsElements}
@@ -36,7 +37,6 @@ use Rattle.capnp_canonical.proofs.lemmas.Checking.{made_of}
 use Rattle.capnp_canonical.proofs.Holding.{hold_parts, hold_both, hold_at, hold_own, own_words_are}
 use Rattle.capnp_canonical.proofs.Masks.{last_cut}
 use Rattle.capnp_canonical.proofs.Parts.{there_is, front_there}
-use Rattle.capnp_canonical.proofs.lemmas.Putting.{resized_all}
 use Rattle.capnp_canonical.proofs.Rows.{least_words, least_pointers}
 use Rattle.capnp_canonical.proofs.StandingObjects.{body_both, body_parts}
 

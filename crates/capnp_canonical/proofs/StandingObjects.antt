@@ -29,6 +29,7 @@ use Rattle.capnp_object.proofs.lemmas.Walking.{object_found, link_tree}
 use Rattle.capnp_units.specs.declared.errors.Error.{Error}
 use Rattle.capnp_units.specs.declared.limiter.ReadLimiter.{ReadLimiter}
 use Rattle.capnp_model.proofs.lemmas.Counts.{each_count}
+use Rattle.capnp_model.proofs.lemmas.Stripping.{resized_all}
 use Rattle.capnp_canonical.specs.Widths.{kept, widest}
 use Rattle.capnp_canonical.specs.Standing.{Hold, Stands, StandEach, segment_words, IsSmall, HasHead, LeadsTo}
 use Rattle.capnp_canonical.specs.Checks.{TestsObject, TestsRow}
@@ -39,7 +40,6 @@ use Rattle.capnp_canonical.proofs.Nulls.{some_read, kept_count}
 use Rattle.capnp_canonical.proofs.Objects.{stripped_front}
 use Rattle.capnp_canonical.proofs.Parts.{front_there, part_there, there_length}
 use Rattle.capnp_canonical.proofs.Parts as parts
-use Rattle.capnp_canonical.proofs.lemmas.Putting.{resized_all}
 use Rattle.capnp_canonical.proofs.StandingPlaces.{IsThere}
 
 -- ---- the pointer's word

@@ -13,11 +13,11 @@ use Rattle.capnp_object.specs.Inside.{section_at, words_there}
 use Rattle.capnp_units.specs.declared.errors.Error.{Error}
 use Rattle.capnp_units.specs.declared.limiter.ReadLimiter.{ReadLimiter}
 use Rattle.capnp_model.proofs.lemmas.Counts.{each_count}
+use Rattle.capnp_model.proofs.lemmas.Stripping.{resized_all}
 use Rattle.capnp_canonical.specs.Widths.{kept, widest}
 use Rattle.capnp_canonical.specs.Checks.{TellsRow, TellsStruct}
 use Rattle.capnp_canonical.proofs.lemmas.Checking.{began_none}
 use Rattle.capnp_canonical.proofs.Objects.{stripped_front}
-use Rattle.capnp_canonical.proofs.lemmas.Putting.{resized_all}
 use Rattle.capnp_canonical.proofs.StandingObjects.{least_struct}
 
 -- the sizes of a struct

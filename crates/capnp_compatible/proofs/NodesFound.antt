@@ -5,8 +5,7 @@ use Rattle.std.specs.Cmp.Derive.{both_true}
 use Rattle.capnp_model.specs.Schemas.{Field, Node}
 use Rattle.capnp_model.specs.Accepted.{find_node, fields_of_kind, enumerants_of_kind, has_good_default, default_reads, is_group_node, names_a, no_shape, shape_of_node, shape_in, schema_of, IsAccepted}
 use Rattle.capnp_model.proofs.lemmas.KeptRules.{behind, no_break, found_passes}
-use Rattle.capnp_model.proofs.lemmas.Tests.{and_left, and_right}
-use Rattle.capnp_queries.proofs.lemmas.Records.{all_both}
+use Rattle.capnp_model.proofs.lemmas.Tests.{and_left, and_right, all_both}
 use Rattle.capnp_compatible.specs.Holders.{are_sound_in}
 
 has_defaults : Node → Bool

@@ -5,12 +5,12 @@ use Rattle.std.proofs.lemmas.List.{length-append, append_assoc, append-nil}
 use Rattle.capnp_model.specs.Segments.{Segments, Place}
 use Rattle.capnp_model.specs.Visits.{Visit, visits, visits_cost}
 use Rattle.capnp_model.proofs.lemmas.Chaining.{bind_some, some_is}
-use Rattle.capnp_model.proofs.lemmas.Visits.{follows_few}
+use Rattle.capnp_model.proofs.lemmas.Visits.{follows_few, cost_front}
 use Rattle.capnp_units.specs.declared.errors.Error.{Error}
 use Rattle.capnp_units.specs.declared.limiter.ReadLimiter.{ReadLimiter}
 use Rattle.capnp_object.specs.Follow.{found_cost}
 use Rattle.capnp_object.specs.Walks.{Walked, Stopped}
-use Rattle.capnp_canonical.proofs.lemmas.FewFollowed.{cost_front, last_of}
+use Rattle.capnp_model.proofs.lemmas.Lists.{last_of}
 use Rattle.capnp_copy_from.specs.Copies.{Unplaced, CopiesValue, FollowsFew}
 
 walked_few : (n : ℕ) (s : Segments) (p : Place) (path rest : List Visit) (old new : ReadLimiter) → visits n s p ≡ path ++ rest → Walked path old new → FollowsFew old new

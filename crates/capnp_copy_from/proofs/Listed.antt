@@ -8,7 +8,6 @@ use Rattle.capnp_model.specs.Sections.{number_of, section_of, words_for, words_o
 use Rattle.capnp_model.specs.Segments.{Segments, Place, after, words_at}
 use Rattle.capnp_model.specs.Pointers.{a_list}
 use Rattle.capnp_model.proofs.lemmas.Numbers.{number_of_lt, section_of-words_of}
-use Rattle.capnp_backing.proofs.lemmas.Bytes.{word_is}
 use Rattle.capnp_copy_from.specs.Copies.{Fills, Copied}
 use Rattle.capnp_copy_from.specs.Objects.{copied_words, copied_at}
 use Rattle.capnp_model.specs.Traversal.{tree_at}
@@ -21,7 +20,7 @@ use Rattle.capnp_copy.proofs.lemmas.RoomLaws.{sizes_grow}
 use Rattle.capnp_copy_from.proofs.Taking.{total_alike, takes_none}
 use Rattle.capnp_copy_from.proofs.Made.{words_fill}
 use Rattle.capnp_footprints.specs.Writes.{spliced, spliced_in, with_words}
-use Rattle.capnp_wire.proofs.lemmas.Bytes.{AreBytes, number_of-drop, number_of-take}
+use Rattle.capnp_wire.proofs.lemmas.Bytes.{AreBytes, word_is, number_of-drop, number_of-take}
 use Rattle.std.proofs.Math.Pow.{mod-mod-pow}
 use Rattle.capnp_units.proofs.lemmas.FirstBytes.{first_eight}
 use Rattle.capnp_units.specs.Segments.{whole_words}

@@ -22,8 +22,8 @@ use Rattle.capnp_footprints.proofs.lemmas.Lift.{struct_parts, child_of_struct, s
 use Rattle.capnp_footprints.proofs.lemmas.Spans.{grows_same, grows_then}
 use Rattle.capnp_footprints.proofs.lemmas.Rows.{after_none, after_sum}
 use Rattle.capnp_footprints.proofs.lemmas.Turns.{struct_here, struct_next, struct_done}
-use Rattle.capnp_canonical.proofs.lemmas.Putting.{resized_all}
 use Rattle.capnp_model.proofs.lemmas.Counts.{each_count}
+use Rattle.capnp_model.proofs.lemmas.Stripping.{resized_all}
 use Rattle.capnp_copy_from.specs.Copies.{TakesFew, BecomesCopy, GrowsByZeros, Copied, Refused, FillsRow, LeavesRow}
 use Rattle.capnp_copy_from.proofs.lemmas.Filling.{value_stands}
 use Rattle.capnp_copy_from.proofs.Refusals.{why_later}

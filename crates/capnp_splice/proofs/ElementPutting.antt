@@ -7,6 +7,7 @@ use Rattle.capnp_model.specs.Fits.{Fits, FitElements}
 use Rattle.capnp_model.specs.Encoding.{pointer, struct_pointer, list_pointer, body, links, bodies, cells, element_bodies}
 use Rattle.capnp_model.specs.Edits.{Cell, put_child}
 use Rattle.capnp_model.proofs.lemmas.Numbers.{length-numbers_in}
+use Rattle.capnp_model.proofs.lemmas.RoundTrip.{links_length}
 use Rattle.capnp_canonical.specs.Writes.{filled}
 use Rattle.capnp_splice.specs.Splices.{PutsBehind, InList}
 use Rattle.capnp_splice.specs.Cells.{Frame, framed, StandsIn, HasPut, IsStructs, MovesElements}
@@ -29,7 +30,7 @@ framed_length d f c =
     let g = length-append f.middle (bodies c.kids ++ f.back) in
     let h = length-append (bodies c.kids) f.back in
     let i = length-numbers_in 64 d c.section in
-    let j = slots.links_length c.kids f.behind f.before in
+    let j = links_length c.kids f.behind f.before in
     omega arith
 
 regrouped : (x w l ce ef r : List ℕ) → x ++ (w ++ (l ++ ((ce ++ ef) ++ r))) ≡ (x ++ (w ++ l)) ++ (ce ++ (ef ++ r))
@@ -65,7 +66,7 @@ front_length area f c ws i p n w k j es st l less fit =
     let b = length-append (slot_later f c i n) (slot_between f c i ++ struct_pointer (element_count es) w k ∷ co) in
     let e = length-append (slot_between f c i) (struct_pointer (element_count es) w k ∷ co) in
     let g = length-append f.middle (bodies (slots.fronts i c.kids)) in
-    let h = slots.links_length (slots.backs i c.kids) f.behind (f.before + length (bodies (slots.fronts i c.kids)) + n) in
+    let h = links_length (slots.backs i c.kids) f.behind (f.before + length (bodies (slots.fronts i c.kids)) + n) in
     let own : length co ≡ j * (w + k) = cells_before-length (suc (element_count (backs j es))) 0 w k (fronts j es) (fronts-fit w k es j fit) ∙ ap (λ (z : ℕ). z * (w + k)) (fronts_count es j less) in
     let place = slot_place area f c ws i st l in
     let between = st.between in
@@ -133,7 +134,7 @@ module _ (put : Put) (way : List Hop) (area inner : Area) (list : Structs) (f : 
       let b = length-append g.front (words_of w new.section ++ links g.behind g.before new.kids) in
       let o = length-append (words_of w new.section) (links g.behind g.before new.kids) in
       let q = length-numbers_in 64 w new.section in
-      let u = slots.links_length new.kids g.behind g.before in
+      let u = links_length new.kids g.behind g.before in
       omega arith) in
       let behind : element_count (backs j es) + (j + 1) ≡ list.count = (let b = backs_count es j inside in omega arith) in
       let shifted : filled now after ≡ x ++ (cells (ef + to) w k (backs j es) ++ r) =
@@ -185,7 +186,7 @@ element_put put way area inner list f c i j p count now xs mid after ys a m st l
     let long : length (slot_front d f c i ++ q ∷ (slot_later f c i n ++ slot_between f c i)) ≡ area.at + area.data_words + i + 1 + slot_gap f c i = (
     let g = length-append (slot_front d f c i) (q ∷ (slot_later f c i n ++ slot_between f c i)) in
     let h = length-append (slot_later f c i n) (slot_between f c i) in
-    let k = slots.links_length (slots.backs i c.kids) f.behind (f.before + length (bodies (slots.fronts i c.kids)) + n) in
+    let k = links_length (slots.backs i c.kids) f.behind (f.before + length (bodies (slots.fronts i c.kids)) + n) in
     let o = length-append f.middle (bodies (slots.fronts i c.kids)) in
     let b = st.between in
     omega arith) in

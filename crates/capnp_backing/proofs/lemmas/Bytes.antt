@@ -14,7 +14,7 @@ use Rattle.capnp_units.proofs.lemmas.FirstBytes.{first_eight}
 use Rattle.capnp_object.specs.Inside.{section_at, section_in}
 use Rattle.capnp_object.proofs.lemmas.Words.{whole_words-length, segment_there}
 use Rattle.capnp_object.proofs.lemmas.Tags.{words_are}
-use Rattle.capnp_model.proofs.lemmas.WordsInBytes.{words_in_bytes-drop}
+use Rattle.capnp_model.proofs.lemmas.WordsInBytes.{words_in_bytes-drop, words_in_bytes-take}
 
 -- Numbers that a byte holds.
 abbrev pub AreBytes : List ℕ → Type 0
@@ -62,12 +62,6 @@ words_are_bits (suc n) bytes long small =
     let first : from_le_bytes w64 bytes % 2 ^ 64 ≡ all % 2 ^ 64 = ap (λ (m : ℕ). m % 2 ^ 64) (word_is bytes (omega arith) small) ∙ mod-mod all (2 ^ 64) in
     ap (λ (m : ℕ). m * 2 ^ 64 + from_le_bytes w64 bytes % 2 ^ 64) rest ∙ ap (λ (m : ℕ). (all / 2 ^ 64 % 2 ^ (64 * n)) * 2 ^ 64 + m) first
     ∙ sym (pow.mod-pow-add all (64 * n) 64) ∙ ap (λ (k : ℕ). all % 2 ^ k) sum
-
-pub words_in_bytes-take : (n m : ℕ) (bytes : List ℕ) → take n (words_in_bytes (n + m) bytes) ≡ words_in_bytes n bytes
-words_in_bytes-take zero m bytes = refl
-words_in_bytes-take (suc n) m bytes =
-    let next : suc n + m ≡ suc (n + m) = omega arith in
-    rw next (ap (λ (ws : List ℕ). from_le_bytes w64 bytes ∷ ws) (words_in_bytes-take n m (drop 8 bytes)))
 
 -- the words at a position of bytes
 words_of_part : (p n : ℕ) (bytes : List ℕ) → p + n ≤ length bytes / 8 → take n (drop p (whole_words bytes)) ≡ words_in_bytes n (drop (8 * p) bytes)

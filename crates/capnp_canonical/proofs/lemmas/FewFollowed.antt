@@ -9,7 +9,8 @@ use Rattle.capnp_model.specs.Traversal.{ListKind, of_bits, of_pointers, of_struc
 use Rattle.capnp_model.specs.Coverage.{from_each, from_elements}
 use Rattle.capnp_model.specs.Visits.{Visit, visits_of, list_visits, object_visits, leaf_visits, visits, visits_cost}
 use Rattle.capnp_model.proofs.lemmas.Chaining.{bind_some, some_is}
-use Rattle.capnp_model.proofs.lemmas.Visits.{follows_few}
+use Rattle.capnp_model.proofs.lemmas.Visits.{follows_few, cost_front}
+use Rattle.capnp_model.proofs.lemmas.Lists.{last_of}
 use Rattle.capnp_canonical.specs.Copies.{unless_capability, copy_visits}
 
 -- As many visits, and those that are paid are the same.
@@ -82,22 +83,6 @@ walk_begins (Ok c ∷ before) last behind (w ∷ ws) paid m e =
     let x = bind_some (visits_cost before) _ paid e in
     let y = walk_begins before last behind ws x.0 m.1 x.1 in
     (y.0, y.1, ap (λ (v : Visit). v ∷ ws) m.0 ∙ ap (λ (vs : List Visit). Ok c ∷ vs) y.2)
-
--- visits that are paid begin with such
-pub cost_front : (a b : List Visit) (cost : ℕ) → visits_cost (a ++ b) ≡ Some cost → (paid : ℕ) × (visits_cost a ≡ Some paid) × (paid ≤ cost)
-cost_front [] b cost e = (0, refl, omega arith)
-cost_front (Err k ∷ a) b cost e = absurd cc
-cost_front (Ok c ∷ a) b cost e =
-    let x = bind_some (visits_cost (a ++ b)) _ cost e in
-    let sum : c + x.0 ≡ cost = some_is _ _ x.2 in
-    let y = cost_front a b x.0 x.1 in
-    let less = y.2 in
-    (c + y.0, rw y.1 refl, omega (arith, sum, less))
-
--- the last of some, with those before it
-pub last_of : (v : Visit) (vs : List Visit) → (before : List Visit) × (last : Visit) × (v ∷ vs ≡ before ++ last ∷ [])
-last_of v [] = ([], v, refl)
-last_of v (w ∷ vs) = let x = last_of w vs in (v ∷ x.0, x.1, ap (λ (ws : List Visit). v ∷ ws) x.2)
 
 pub stopped_few : (n : ℕ) (s : Segments) (p : Place) (before : List Visit) (last : Visit) (behind : List Visit) (paid : ℕ) → copy_visits n s p ≡ before ++ last ∷ behind → visits_cost before ≡ Some paid → length before ≤ paid
 stopped_few n s p before last behind paid is cost =

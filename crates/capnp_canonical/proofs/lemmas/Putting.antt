@@ -11,12 +11,6 @@ use Rattle.capnp_model.proofs.lemmas.RoundTrip.{links_length}
 use Rattle.capnp_model.proofs.lemmas.Lists.{drop-all}
 use Rattle.capnp_canonical.specs.Writes.{with_words, with_link, with_links, with_cells}
 
-pub resized_all : (n : ℕ) (ts : Trees) → tree_count ts ≡ n → resized n ts ≡ ts
-resized_all zero none e = refl
-resized_all zero (t ▸ ts) e = absurd (omega arith)
-resized_all (suc n) none e = absurd (omega arith)
-resized_all (suc n) (t ▸ ts) e = ap (λ (us : Trees). t ▸ us) (resized_all n ts (omega arith))
-
 -- one more pointer
 pub link_step : (at end : ℕ) (t : Tree) (ts : Trees) (out : List ℕ) → at + suc (tree_count ts) ≡ end → end ≤ length out
     → with_links (suc at) end ts (with_link at t out) ≡ with_links at end (t ▸ ts) out

@@ -1,5 +1,6 @@
 -- Fronts and ends of lists.
-use Rattle.std.proofs.Common.{ℕ, zero, suc, ◌≤◌, List, [], ◌∷◌, length, take, arith, ◌≡◌, refl, ap, drop}
+use Rattle.std.proofs.Common.{ℕ, zero, suc, ◌≤◌, List, [], ◌∷◌, length, take, arith, ◌≡◌, refl, ap, drop, ◌+◌, ◌++◌}
+use Rattle.capnp_model.specs.Visits.{Visit}
 
 pub length-take-short : (n : ℕ) (ws : List ℕ) → length (take n ws) ≤ n
 length-take-short zero ws = omega arith
@@ -20,3 +21,7 @@ drop-all (v ∷ vs) (suc i) h = drop-all vs i (omega arith)
 
 pub only_is : (a b : List ℕ) → a ∷ [] ≡ b ∷ [] → a ≡ b
 only_is a b e = cc
+
+pub last_of : (v : Visit) (vs : List Visit) → (before : List Visit) × (last : Visit) × (v ∷ vs ≡ before ++ last ∷ [])
+last_of v [] = ([], v, refl)
+last_of v (w ∷ vs) = let x = last_of w vs in (v ∷ x.0, x.1, ap (λ (ws : List Visit). v ∷ ws) x.2)

@@ -1,10 +1,10 @@
 -- Tests of Bools and numbers, and what follows where they are true.
-use Rattle.std.proofs.Common.{Bool, Option, Some, arith, false, nat_le, nat_lt, not, refl, suc, true, ℕ, ◌&&◌, ◌<◌, ◌==◌, ◌||◌, ◌≡◌, ◌≢◌, ◌≤◌}
+use Rattle.std.proofs.Common.{Bool, List, [], ◌∷◌, Option, Some, arith, false, nat_le, nat_lt, not, refl, suc, true, ℕ, ◌&&◌, ◌<◌, ◌==◌, ◌||◌, ◌≡◌, ◌≢◌, ◌≤◌}
+use Rattle.std.specs.List.{list_all}
 use Rattle.std.proofs.lemmas.Bool.Decides.{nat_tests}
 
 pub same_number : (a b : ℕ) → (a == b) ≡ true → a ≡ b
 same_number a b h = grind arith
-
 
 pub number_is : (a : ℕ) → (a == a) ≡ true
 number_is a = grind arith
@@ -37,7 +37,6 @@ or_assoc false b c = refl
 pub not_is_false : (b : Bool) → false ≡ not b → b ≡ true
 not_is_false true h = refl
 not_is_false false h = absurd (cc h)
-
 
 pub and_false : (b : Bool) → (b && false) ≡ false
 and_false true = refl
@@ -120,3 +119,9 @@ and_swap false b c d = refl
 
 pub is_lt : (a b : ℕ) → a < b → nat_lt a b ≡ true
 is_lt a b h = grind (arith, nat_tests)
+
+pub all_both : {A : Type 0} (p q : A → Bool) (xs : List A) → list_all p xs ≡ true → list_all q xs ≡ true → list_all (λ x. p x && q x) xs ≡ true
+all_both p q [] h k = refl
+all_both p q (x ∷ xs) h k =
+    both (p x && q x) (list_all (λ y. p y && q y) xs) (both (p x) (q x) (and_left (p x) (list_all p xs) h) (and_left (q x) (list_all q xs) k))
+    (all_both p q xs (and_right (p x) (list_all p xs) h) (and_right (q x) (list_all q xs) k))

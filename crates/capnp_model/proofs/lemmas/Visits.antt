@@ -297,3 +297,13 @@ row_follows_few n s p k before last rest paid e c = few_followed before last res
 -- The same from one pointer.
 pub follows_few : (n : ℕ) (s : Segments) (p : Place) (before : List Visit) (last : Visit) (rest : List Visit) (paid : ℕ) → visits n s p ≡ before ++ last ∷ rest → visits_cost before ≡ Some paid → length before ≤ paid
 follows_few n s p before last rest paid e c = let few = few_followed before last rest 1 paid (subst (Within 1) e (visits_within n s p)) c in omega arith
+
+pub cost_front : (a b : List Visit) (cost : ℕ) → visits_cost (a ++ b) ≡ Some cost → (paid : ℕ) × (visits_cost a ≡ Some paid) × (paid ≤ cost)
+cost_front [] b cost e = (0, refl, omega arith)
+cost_front (Err k ∷ a) b cost e = absurd cc
+cost_front (Ok c ∷ a) b cost e =
+    let x = bind_some (visits_cost (a ++ b)) _ cost e in
+    let sum : c + x.0 ≡ cost = some_is _ _ x.2 in
+    let y = cost_front a b x.0 x.1 in
+    let less = y.2 in
+    (c + y.0, rw y.1 refl, omega (arith, sum, less))

@@ -1,6 +1,7 @@
 -- The words of bytes: how many they are, and those in front and behind.
 use Rattle.std.proofs.Common.{◌≡◌, ℕ, zero, suc, ◌-◌, ◌*◌, List, ◌∷◌, replicate, refl, ap, arith, ◌+◌, drop, ◌∙◌, length, [], take, ◌/◌}
 use Rattle.std.proofs.lemmas.List.{drop-drop}
+use Rattle.std.specs.Int.{from_le_bytes, w64}
 use Rattle.capnp_model.specs.Bytes.{words_in_bytes}
 use Rattle.capnp_model.specs.Spelling.{AreWords}
 use Rattle.capnp_model.specs.Sections.{words_for}
@@ -35,3 +36,9 @@ AreWords-drop (suc n) (w ∷ ws) h = AreWords-drop n ws h.1
 
 pub words_for_bytes : (n : ℕ) → (n + 7) / 8 ≡ words_for (8 * n)
 words_for_bytes n = omega arith
+
+pub words_in_bytes-take : (n m : ℕ) (bytes : List ℕ) → take n (words_in_bytes (n + m) bytes) ≡ words_in_bytes n bytes
+words_in_bytes-take zero m bytes = refl
+words_in_bytes-take (suc n) m bytes =
+    let next : suc n + m ≡ suc (n + m) = omega arith in
+    rw next (ap (λ (ws : List ℕ). from_le_bytes w64 bytes ∷ ws) (words_in_bytes-take n m (drop 8 bytes)))

@@ -10,7 +10,7 @@ use Rattle.capnp_model.proofs.lemmas.KeptRules.{found_passes}
 use Rattle.capnp_model.proofs.lemmas.SoundRules.{rules_kept, found_id}
 use Rattle.capnp_records.specs.Sets.{has_struct, struct_in, struct_found, enumerants_in, enumerants_found}
 use Rattle.capnp_records.proofs.lemmas.ListTests.{list_all-flat_map}
-use Rattle.capnp_model.proofs.lemmas.Tests.{both, and_left, and_right}
+use Rattle.capnp_model.proofs.lemmas.Tests.{both, and_left, and_right, all_both}
 use Rattle.capnp_records.proofs.lemmas.FieldPlaces.{length_mapped}
 use Rattle.capnp_queries.specs.Fields.{Entry, field_at, field_count, shape_id, entry_in, names_kind, are_named, are_few, is_named}
 use Rattle.capnp_queries.specs.Structs.{IsRecordOf}
@@ -34,12 +34,6 @@ entry_from groups (f ∷ fs) (suc i) = entry_from groups fs i
 all_map : {A B : Type 0} (p : B → Bool) (f : A → B) (xs : List A) → list_all p (map f xs) ≡ list_all (λ x. p (f x)) xs
 all_map p f [] = refl
 all_map p f (x ∷ xs) = ap (λ b. p (f x) && b) (all_map p f xs)
-
-pub all_both : {A : Type 0} (p q : A → Bool) (xs : List A) → list_all p xs ≡ true → list_all q xs ≡ true → list_all (λ x. p x && q x) xs ≡ true
-all_both p q [] h k = refl
-all_both p q (x ∷ xs) h k =
-    both (p x && q x) (list_all (λ y. p y && q y) xs) (both (p x) (q x) (and_left (p x) (list_all p xs) h) (and_left (q x) (list_all q xs) k))
-    (all_both p q xs (and_right (p x) (list_all p xs) h) (and_right (q x) (list_all q xs) k))
 
 all_mono : {A : Type 0} (p q : A → Bool) → ((x : A) → p x ≡ true → q x ≡ true) → (xs : List A) → list_all p xs ≡ true → list_all q xs ≡ true
 all_mono p q h [] k = refl
