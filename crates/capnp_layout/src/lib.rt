@@ -1,6 +1,18 @@
-//! The layout layer under one name: units and sizes, arenas, and the readers of pointers, structs and lists.
+//! The layout layer under one name: units and sizes, arenas, and the readers and builders of pointers, structs and lists. What a caller's type gives a builder stands in `owned`, as what it gives a reader stands here (`Owned`, `OwnedStruct`).
 #![tactic(auto)]
 
+pub use capnp_builders::data_builder::DataBuilder;
+pub use capnp_builders::element::BuilderElement;
+pub use capnp_builders::list_builder::ListBuilder;
+pub use capnp_builders::owned;
+pub use capnp_builders::owned::FromPointerBuilder;
+pub use capnp_builders::pointer_builder::PointerBuilder;
+pub use capnp_builders::struct_builder::StructBuilder;
+pub use capnp_builders::text_builder::TextBuilder;
+pub use capnp_builders::traits::SetterInput;
+pub use capnp_copy::allocator::{Allocator, SegmentBytes};
+pub use capnp_copy::arena::{BuilderArena, Memory};
+pub use capnp_copy::segments::BuilderArenaImpl;
 pub use capnp_elements::element::PrimitiveElement;
 pub use capnp_units::errors::{Error, Result};
 pub use capnp_units::iter::{IndexMove, ItemIter, ListIndex, ListIter, ShortListIter};

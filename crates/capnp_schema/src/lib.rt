@@ -1,6 +1,9 @@
-//! The schema layer under one name: node records and sets of them, types and schemas, dynamic readers, texts and data, and printed text.
+//! The schema layer under one name: node records and sets of them, types and schemas, dynamic readers and builders, texts and data, and printed text.
 #![tactic(auto)]
 
+pub mod any_pointer;
+pub mod dynamic_list;
+pub mod dynamic_struct;
 pub mod dynamic_value;
 pub mod introspect;
 pub mod schema;
@@ -14,4 +17,4 @@ pub use capnp_records::node::{
 pub use capnp_records::of_set::OfSet;
 pub use capnp_records::set::SchemaSet;
 pub use capnp_text::{data, text};
-pub use capnp_values::{any_pointer, dynamic_list, dynamic_struct, laws};
+pub use capnp_values::laws;
