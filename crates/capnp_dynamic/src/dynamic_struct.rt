@@ -273,6 +273,40 @@ impl<'a, A: BuilderArena> Builder<'a, A> {
         initn_slot(&mut self.memory.arena, place, field, count)
     }
 
+    /// Begins the field of a name, as by `init`. A name that the struct lacks is refused by `FieldNotFound`, and all is as it was.
+    pub fn init_named(&mut self, name: &str) -> Result<Option<Part<'a>>>
+        requires ready { IsReady A.segments self.old }
+        ensures same { self.new.memory.ghost_name ≡ self.old.memory.ghost_name }
+        ensures puts { AnswersNamed self.old.schema name.now (λ f r. Puts A.segments A.room A.books
+            self.old self.new (edit_of f init) (begun_field (schema_around f.parent) (entry_of f)) r
+            × IfOk r (IsBegunBy A.segments self.old self.new f)) result }
+        ensures refused { OnErr result (Stays A.segments self.old self.new) }
+        ensures books { A.books self.new.memory.now.arena ≡ A.books self.old.memory.now.arena }
+        ensures ready { IsReady A.segments self.new }
+    {
+        let place = self.place;
+        let schema = self.schema;
+        let found = schema.get_field_by_name(name)?;
+        begin_field(&mut self.memory.arena, place, found)
+    }
+
+    /// Puts so many zeros into the field of a name, as by `initn`. A name that the struct lacks is refused by `FieldNotFound`, and all is as it was.
+    pub fn initn_named(&mut self, name: &str, count: u32) -> Result<()>
+        requires ready { IsReady A.segments self.old }
+        ensures same { self.new.memory.ghost_name ≡ self.old.memory.ghost_name }
+        ensures puts { AnswersNamed self.old.schema name.now (λ f r. Puts A.segments A.room A.books
+            self.old self.new (edit_of f (initn count))
+            (initn_field (schema_around f.parent) count (entry_of f)) r) result }
+        ensures refused { OnErr result (Stays A.segments self.old self.new) }
+        ensures books { A.books self.new.memory.now.arena ≡ A.books self.old.memory.now.arena }
+        ensures ready { IsReady A.segments self.new }
+    {
+        let place = self.place;
+        let schema = self.schema;
+        let found = schema.get_field_by_name(name)?;
+        initn_slot(&mut self.memory.arena, place, found, count)
+    }
+
     /// The struct to read, under its schema. Its pointers are followed under the arena's nesting limit.
     pub fn reborrow_as_reader(&self) -> dynamic_struct::Reader<'_, A>
         requires ready { IsReady A.segments self.now }

@@ -24,16 +24,9 @@ use Rattle.capnp_wire.specs.Views.{PointerView, arena_root}
 use Rattle.capnp_wire.specs.Reads.{is_null_at, is_null, default_root}
 use Rattle.capnp_values.specs.Sources.{null_default, default_pointer}
 use Rattle.capnp_values.specs.Standing.{NullsAreRead}
-use Rattle.capnp_values.proofs.lemmas.DefaultReadings.{joined, found}
+use Rattle.capnp_values.proofs.lemmas.DefaultReadings.{Encoded, joined}
 use Rattle.capnp_model.proofs.lemmas.Tests.{and_right}
 use Rattle.capnp_print.specs.Defaults.{is_null_segment}
-
--- the words of a default stand in one segment
-pub record Encoded (bs : List ℕ) (t : Tree) : Type 0 where
-  pub tree : tree_at 64 (words_in_bytes (length bs / 8) bs ∷ []) root ≡ Some t
-  pub words : ℕ
-  pub long : length bs ≡ 8 * words
-  pub same : bytes_of_words (canonical_words (trim t)) ≡ bs
 
 -- the root is null where the value is
 root_null : (bs : List ℕ) → is_null_segment bs ≡ is_null (arena_root (bs ∷ []) (pos 64))

@@ -73,10 +73,11 @@ pub decoded : (test : Tree → Bool) (bs : List ℕ) → is_good_segment test bs
 decoded test bs h = found test (decode bs) (and_right (nat_lt (length bs) (8 * 2 ^ 29)) _ h)
 
 -- the words of a default stand in one segment
-record Encoded (bs : List ℕ) (t : Tree) : Type 0 where
+pub record Encoded (bs : List ℕ) (t : Tree) : Type 0 where
   pub tree : tree_at 64 (words_in_bytes (length bs / 8) bs ∷ []) root ≡ Some t
   pub words : ℕ
   pub long : length bs ≡ 8 * words
+  pub same : bytes_of_words (canonical_words (trim t)) ≡ bs
 
 pub encoded : (bs : List ℕ) (t : Tree) → decode bs ≡ Some t → Encoded bs t
 unfolding decode
@@ -85,7 +86,7 @@ encoded bs t e =
     let b = provided_some a.0 t _ a.2 in
     let ws : List ℕ = canonical_words (trim a.0) in
     let same : bytes_of_words ws ≡ bs = (bytes_eq-Decides (bytes_of_words ws) bs).0 (and_right (not (has_capability a.0)) (bytes_eq (bytes_of_words ws) bs) b.0) in
-    record { tree = a.1 ∙ ap (λ (x : Tree). Some x) b.1; words = length ws; long = ap length (sym same) ∙ bytes_length ws }
+    record { tree = a.1 ∙ ap (λ (x : Tree). Some x) b.1; words = length ws; long = ap length (sym same) ∙ bytes_length ws; same = ap (λ (x : Tree). bytes_of_words (canonical_words (trim x))) (sym b.1) ∙ same }
 
 pub joined : (n : ℕ) (bs : List ℕ) → length bs ≡ 8 * n → flat_map (λ w. w) (first_chunks 8 n bs) ≡ bs
 joined zero [] h = refl

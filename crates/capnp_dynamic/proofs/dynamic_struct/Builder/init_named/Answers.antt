@@ -1,0 +1,13 @@
+use Rattle.std.proofs.Common.{inl, refl}
+use Rattle.capnp_units.specs.Segments.{words_in}
+use Rattle.capnp_dynamic.proofs.lemmas.Grown.{there_grown}
+use Rattle.capnp_dynamic.proofs.lemmas.Ready.{field_inside}
+use Rattle.capnp_dynamic.proofs.dynamic_struct.Builder.init_named.Goals as goal
+
+pub begin_field-requires-clause-inside : goal.begin_field-requires-clause-inside
+begin_field-requires-clause-inside g c = field_inside c.args.self.now.place c.args.self.now.schema c.in_ok-found.field c.in_ok-found.ensures.found.parent c.requires.ready.wide
+
+pub returns-clause-ready : goal.returns-clause-ready
+returns-clause-ready g c =
+    let old = c.args.self.now in
+    record { there = there_grown (words_in (g.A.ReaderArena.segments old.memory.now.arena)) (words_in (g.A.ReaderArena.segments c.begin_field.new.arena)) old.place c.begin_field.ensures.grows c.requires.ready.there; wide = c.requires.ready.wide }
