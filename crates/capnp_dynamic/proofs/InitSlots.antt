@@ -2,7 +2,7 @@
 use Rattle.std.proofs.Common.{◌≡◌, ◌↔◌, ℕ, zero, suc, ◌+◌, ◌^◌, ◌<◌, ◌≤◌, inl, inr, length, map, Result, Ok, Err, IfErr, OnOk, OnErr, Option, Some, None, refl, sym, ap, subst, ◌∙◌, arith}
 use Rattle.std.specs.Prelude.{option_map}
 use Rattle.capnp_model.specs.Segments.{Segments, after}
-use Rattle.capnp_model.specs.Schemas.{Ty, void, plain, text, blob, untyped, interface, struct, list, Shape, shape, Field as FieldNode, Schema, Body, pointer_slot, words_of_shape, pointers_of_shape}
+use Rattle.capnp_model.specs.Schemas.{Ty, Shape, shape, Field as FieldNode, Schema, Body, pointer_slot, words_of_shape, pointers_of_shape}
 use Rattle.capnp_model.specs.Sizes.{object_words, each_object_words}
 use Rattle.capnp_model.specs.Trees.{Tree, structure, none, resized}
 use Rattle.capnp_model.specs.Calls.{Content, refused_by, object, empty_struct, init}
@@ -25,6 +25,7 @@ use Rattle.capnp_dynamic.specs.Edits.{Edits, marked}
 use Rattle.capnp_dynamic.specs.Inits.{struct_named, no_struct, struct_content, init_content, LeadsFrom, LiesBehind, LiesIn, StructNotMade}
 use Rattle.capnp_dynamic.specs.Puts.{PutsContent, ObjectRefused}
 use Rattle.capnp_dynamic.proofs.lemmas.GroupFields.{body_is}
+use Rattle.capnp_dynamic.proofs.lemmas.StructTypes.{type_is}
 use Rattle.capnp_dynamic.proofs.Verbs.{child_put as put_child_there, child_refused}
 
 -- ---- the struct of a shape
@@ -64,16 +65,6 @@ refused_as old segment (shape nid w p u fs) e h =
     ((λ z. inr (x.0.0 z), λ z. x.0.1 (elim z [ inl v ↦ absurd v | inr v ↦ v ])), inr x.1)
 
 -- ---- fields of a body
-
-type_is : (ty : Ty) (id : ℕ) → struct_named ty ≡ Some id → ty ≡ struct id
-type_is void id e = absurd (cc e)
-type_is (plain p) id e = absurd (cc e)
-type_is text id e = absurd (cc e)
-type_is blob id e = absurd (cc e)
-type_is untyped id e = absurd (cc e)
-type_is interface id e = absurd (cc e)
-type_is (struct j) id e = cc e
-type_is (list ty) id e = absurd (cc e)
 
 pub some_struct : (s : Schema) (i : ℕ) (ty : Ty) (d : Option Tree) (id : ℕ) → struct_named ty ≡ Some id → struct_content s (pointer_slot i ty d) ≡ object (empty_struct (s.shape_of id))
 some_struct s i ty d id e = ap (λ (o : Option ℕ). elim o as (λ (y : Option ℕ). Content) [ None ↦ refused_by (no_struct ty) | Some n ↦ object (empty_struct (s.shape_of n)) ]) e

@@ -1,5 +1,6 @@
 pub mod lemmas
 mod DataWords
+mod Bytes
 mod Marks
 mod Groups
 mod Cleared

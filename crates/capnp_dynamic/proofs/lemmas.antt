@@ -2,7 +2,7 @@ pub mod Ready
 pub mod Writes
 pub mod Deeper
 pub mod Grown
-pub mod Bytes
+pub mod StructTypes
 pub mod GroupFields
 pub mod SetSlots
 pub mod SetPointers

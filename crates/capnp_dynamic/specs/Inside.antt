@@ -1,8 +1,13 @@
 -- Where the fields of a struct lie in its sections. (Encoding, "Structs")
 use Rattle.std.specs.Prelude.{ℕ, ◌+◌, ◌*◌, ◌<◌, ◌≤◌, List, [], ◌∷◌}
-use Rattle.capnp_model.specs.Schemas.{Shape, shape}
+use Rattle.capnp_model.specs.Schemas.{Shape, words_of_shape, pointers_of_shape}
 use Rattle.capnp_model.specs.Accepted.{Area, bit_area, pointer_area, areas_of}
+use Rattle.capnp_units.specs.declared.sizes.StructSize.{StructSize}
 use Rattle.capnp_copy.specs.declared.fields.StructPlace.{StructPlace}
+
+-- The two sizes of a shape.
+abbrev pub size_of_shape : Shape → StructSize
+size_of_shape g = record { data_words = words_of_shape g; pointers = pointers_of_shape g }
 
 -- The areas lie in sections of so many words and pointers.
 abbrev pub LieIn : ℕ → ℕ → List Area → Type 0

@@ -1,5 +1,7 @@
 pub mod Inside
 pub mod Edits
+pub mod Grown
+pub mod Defaults
 pub mod Calls
 pub mod Given
 pub mod Blobs

@@ -1,7 +1,7 @@
 -- What `set` puts into a slot for any value. (Encoding, "Structs", "Lists", "Blobs")
-use Rattle.std.specs.Prelude.{◌≡◌, ⊤, ℕ, ◌==◌, if◌then◌else◌, Bool, true, false, ◌&&◌, List, Option, Some, None, Result, OnErr}
+use Rattle.std.specs.Prelude.{◌≡◌, ⊤, ℕ, if◌then◌else◌, Bool, true, false, ◌&&◌, List, Option, Some, None, Result, OnErr}
 use Rattle.capnp_model.specs.Kinds.{Kind, TypeMismatch, NotAStruct, SettingDynamicCapabilitiesIsUnsupported}
-use Rattle.capnp_model.specs.Schemas.{Body, void_slot, plain_slot, pointer_slot, group_slot}
+use Rattle.capnp_model.specs.Schemas.{Ty, void, plain, text, blob, untyped, interface, struct, list, Body, void_slot, plain_slot, pointer_slot, group_slot}
 use Rattle.capnp_model.specs.Trees.{Tree}
 use Rattle.capnp_model.specs.Calls.{Content, refused_by, object}
 use Rattle.capnp_model.specs.Coverage.{Grows}
@@ -18,6 +18,7 @@ use Rattle.capnp_queries.specs.Structs.{shape_of_struct, id_of}
 use Rattle.capnp_queries.specs.Handles.{entry_of}
 use Rattle.capnp_queries.specs.declared.fields.Field.{Field}
 use Rattle.capnp_values.specs.Sources.{WithoutLimit, struct_seen}
+use Rattle.capnp_values.specs.Variants.{is_struct_of}
 use Rattle.capnp_values.specs.declared.dynamic_value.Reader.{Reader}
 use Rattle.capnp_values.specs.declared.dynamic_value.Reader.TheVariants as value
 use Rattle.capnp_dynamic.specs.Begun.{is_untyped}
@@ -52,25 +53,36 @@ is_capability (value.List l) = false
 is_capability (value.AnyPointer p) = false
 is_capability (value.Capability c) = true
 
--- The struct that a value is, if it is one of the schema of an id.
-abbrev pub struct_given : {A : Type 0} → (A → List (List ℕ)) → Reader A → ℕ → Option StructView
-struct_given bytes value.Void id = None
-struct_given bytes (value.Bool b) id = None
-struct_given bytes (value.Int8 z) id = None
-struct_given bytes (value.Int16 z) id = None
-struct_given bytes (value.Int32 z) id = None
-struct_given bytes (value.Int64 z) id = None
-struct_given bytes (value.UInt8 n) id = None
-struct_given bytes (value.UInt16 n) id = None
-struct_given bytes (value.UInt32 n) id = None
-struct_given bytes (value.UInt64 n) id = None
-struct_given bytes (value.Enum e) id = None
-struct_given bytes (value.Text t) id = None
-struct_given bytes (value.Data d) id = None
-struct_given bytes (value.Struct r) id = if id_of r.schema == id then Some (struct_seen bytes r.source) else None
-struct_given bytes (value.List l) id = None
-struct_given bytes (value.AnyPointer p) id = None
-struct_given bytes (value.Capability c) id = None
+-- The struct that a value is, if it is one of the schema of the type.
+abbrev pub struct_given : {A : Type 0} → (A → List (List ℕ)) → Reader A → Ty → Option StructView
+struct_given bytes value.Void ty = None
+struct_given bytes (value.Bool b) ty = None
+struct_given bytes (value.Int8 z) ty = None
+struct_given bytes (value.Int16 z) ty = None
+struct_given bytes (value.Int32 z) ty = None
+struct_given bytes (value.Int64 z) ty = None
+struct_given bytes (value.UInt8 n) ty = None
+struct_given bytes (value.UInt16 n) ty = None
+struct_given bytes (value.UInt32 n) ty = None
+struct_given bytes (value.UInt64 n) ty = None
+struct_given bytes (value.Enum e) ty = None
+struct_given bytes (value.Text t) ty = None
+struct_given bytes (value.Data d) ty = None
+struct_given bytes (value.Struct r) ty = if is_struct_of (id_of r.schema) ty then Some (struct_seen bytes r.source) else None
+struct_given bytes (value.List l) ty = None
+struct_given bytes (value.AnyPointer p) ty = None
+struct_given bytes (value.Capability c) ty = None
+
+-- The type is a struct's.
+abbrev pub IsStructType : Ty → Type 0
+IsStructType void = ⊥
+IsStructType (plain p) = ⊥
+IsStructType text = ⊥
+IsStructType blob = ⊥
+IsStructType untyped = ⊥
+IsStructType interface = ⊥
+IsStructType (struct id) = Unit {0}
+IsStructType (list ty) = ⊥
 
 -- Why a group isn't set to a value: it is a struct of another schema, or no struct.
 abbrev pub group_refusal : {A : Type 0} → Reader A → Kind
@@ -99,7 +111,7 @@ made_behind false v b = flat_content v b
 
 -- What is put into a group for a value: the fields of a struct of its schema.
 abbrev pub given_group : {A : Type 0} → (A → List (List ℕ)) → Reader A → ℕ → Given
-given_group bytes v id = elim (struct_given bytes v id) [ Some x ↦ fields x | None ↦ made (refused_by (group_refusal v)) ]
+given_group bytes v id = elim (struct_given bytes v (struct id)) [ Some x ↦ fields x | None ↦ made (refused_by (group_refusal v)) ]
 
 -- What is put into a field for a value: the copy of a struct or of a list, where the slot takes it; else what a value without pointers makes.
 abbrev pub given : {A : Type 0} → (A → List (List ℕ)) → Reader A → Body → Given

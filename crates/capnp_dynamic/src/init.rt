@@ -10,8 +10,7 @@ ghost use Rattle.capnp_records.specs.Sets.{nodes_of};
 ghost use Rattle.capnp_queries.specs.Structs.{nodes_around, shape_of_struct, id_of};
 ghost use Rattle.capnp_queries.specs.Handles.{entry_of};
 ghost use Rattle.capnp_queries.specs.Types.{ty_of, is_type_of};
-ghost use Rattle.capnp_model.specs.Schemas.{words_of_shape, pointers_of_shape};
-ghost use Rattle.capnp_dynamic.specs.Inside.{HasFields};
+ghost use Rattle.capnp_dynamic.specs.Inside.{HasFields, size_of_shape};
 ghost use Rattle.capnp_dynamic.specs.Edits.{IsThere, IsWide};
 ghost use Rattle.capnp_dynamic.specs.Inits.{struct_named, no_struct, is_slot, MakesEmptyStruct, LeadsToStruct, PutsNewStruct, LiesInField, StructNotMade};
 ghost use Rattle.capnp_copy.specs.States.{state_in};
@@ -39,9 +38,8 @@ pub struct Part<'a> {
 }
 
 /// The two sizes of a schema's structs.
-pub(crate) fn struct_size(schema: StructSchema<'_>) -> StructSize
-    ensures words { result.data_words ≡ words_of_shape (shape_of_struct schema.entry) }
-    ensures pointers { result.pointers ≡ pointers_of_shape (shape_of_struct schema.entry) }
+pub fn struct_size(schema: StructSchema<'_>) -> StructSize
+    ensures { result ≡ size_of_shape (shape_of_struct schema.entry) }
 {
     let record = schema.record();
     StructSize {
@@ -51,7 +49,7 @@ pub(crate) fn struct_size(schema: StructSchema<'_>) -> StructSize
 }
 
 /// The schema of the struct that a type of a set names, if it is a struct's.
-fn struct_of_type<'a>(set: &'a SchemaSet, ty: Type) -> Option<StructSchema<'a>>
+pub fn struct_of_type<'a>(set: &'a SchemaSet, ty: Type) -> Option<StructSchema<'a>>
     requires { is_type_of (nodes_of set.now) ty ≡ true }
     ensures named { option_map id_of result ≡ struct_named (ty_of ty) }
     ensures nodes { IfSome result (λ s. nodes_around s ≡ nodes_of set.now) }

@@ -11,6 +11,7 @@ ghost use Rattle.capnp_wire.specs.Places.{place_view};
 ghost use Rattle.capnp_copy_from.specs.Defaults.{default_segments, is_null_at};
 ghost use Rattle.capnp_records.specs.NodeViews.{kind_of_field, value_of};
 ghost use Rattle.capnp_values.specs.Shown.{default_said};
+ghost use Rattle.capnp_dynamic.specs.Defaults.{default_chunks, default_words};
 ghost use Rattle.capnp_dynamic.specs.GroupRefusals.{CopyRefused};
 ghost use Rattle.capnp_dynamic.specs.GroupSets.{PutsAny, HoldsDefault};
 ghost use Rattle.capnp_dynamic.specs.Sources.{Stands};
@@ -36,7 +37,8 @@ pub const ROOT: Place = Place {
 
 /// The words of a segment's bytes, eight bytes each; bytes behind the last whole word are left out.
 pub fn words_of(bytes: &[u8]) -> &[Word]
-    ensures { IsSome (decode bytes.now)
+    ensures words { result.now ≡ default_chunks bytes.now }
+    ensures value { IsSome (decode bytes.now)
         → HoldsDefault result.now (default_or_null (decode bytes.now)) }
 {
     let (words, _) = bytes.as_chunks::<8>();
@@ -51,6 +53,17 @@ pub fn default_said(field: &FieldRecord) -> Option<&Value>
     match &field.body {
         FieldBody::Slot { default, .. } => default.as_ref(),
         FieldBody::Group { .. } => None,
+    }
+}
+
+/// The words of the default of a struct or a list; none where there is no such default.
+pub fn default_words(default: Option<&Value>) -> Option<&[Word]>
+    ensures { option_copied result
+        ≡ default_words (option_map value_of (option_copied default.entry)) }
+{
+    match default {
+        Some(Value::Struct(bytes) | Value::List(bytes)) => Some(words_of(bytes)),
+        _ => None,
     }
 }
 

@@ -1,8 +1,7 @@
 //! Values of any kind, set into slots: structs and lists are copied whole.
-ghost use Rattle.std.specs.Prelude.{ℕ, ◌≡◌, ◌<◌, ◌^◌, ◌&&◌, true, false, option_map, OnSome, OnErr};
+ghost use Rattle.std.specs.Prelude.{◌≡◌, ◌<◌, ◌^◌, ◌&&◌, true, false, option_map, OnSome, OnErr};
 ghost use Rattle.std.specs.Option.{is_some};
 ghost use Rattle.capnp_model.specs.Accepted.{areas_of};
-ghost use Rattle.capnp_model.specs.Schemas.{struct};
 ghost use Rattle.capnp_model.specs.Segments.{words_at};
 ghost use Rattle.capnp_units.specs.Errors.{kind_of};
 ghost use Rattle.capnp_units.specs.Segments.{words_in};
@@ -18,7 +17,7 @@ ghost use Rattle.capnp_dynamic.specs.Edits.{IsThere};
 ghost use Rattle.capnp_dynamic.specs.Given.{is_flat};
 ghost use Rattle.capnp_dynamic.specs.Inside.{LieIn};
 ghost use Rattle.capnp_dynamic.specs.Sources.{source_seen, source_given, SetsSource, PutsSource, EditsWithin, Stands};
-ghost use Rattle.capnp_dynamic.specs.Values.{is_capability, struct_given, group_refusal, value_given, IsPointerSlot, tree_edit, PutsGiven, Leaves};
+ghost use Rattle.capnp_dynamic.specs.Values.{is_capability, struct_given, IsStructType, group_refusal, value_given, IsPointerSlot, tree_edit, PutsGiven, Leaves};
 
 use crate::group_sets::set_group;
 use crate::setting::set_flat;
@@ -167,15 +166,19 @@ fn set_source<A: BuilderArena, B: ReaderArena>(
     Ok(())
 }
 
-/// The struct to which a group is set by a value: one of the group's schema.
-fn struct_for<'a, B: ReaderArena>(ty: Type, value: &Reader<'a, B>) -> Option<StructSource<'a, B>>
-    ensures given { (id : ℕ) → ty_of ty ≡ struct id → option_map (struct_seen B.segments) result
-        ≡ struct_given B.segments value.now id }
+/// The struct that a value is, if the type is of structs of its schema: to such a group is set, and such elements of lists take over its content (`capnp_dynamic_lists`).
+pub fn struct_for<'a, B: ReaderArena>(
+    ty: Type,
+    value: &Reader<'a, B>,
+) -> Option<StructSource<'a, B>>
+    ensures given { option_map (struct_seen B.segments) result
+        ≡ struct_given B.segments value.now (ty_of ty) }
+    ensures structs { OnSome result (IsStructType (ty_of ty)) }
     ensures flat { OnSome result (is_flat value.now ≡ false) }
 {
     match (ty.which(), value) {
         (TypeVariant::Struct(raw), Reader::Struct(value)) => {
-            if value.get_schema().raw().id == raw.id {
+            if raw.id == value.get_schema().raw().id {
                 Some(value.source())
             } else {
                 None

@@ -34,7 +34,7 @@ use Rattle.capnp_queries.specs.Types.{ty_of_base}
 use Rattle.capnp_queries.specs.declared.introspect.Base.{Base}
 use Rattle.capnp_values.specs.ListSizes.{size_of}
 use Rattle.capnp_dynamic.specs.Inits.{struct_named}
-use Rattle.capnp_dynamic_gets.specs.Structs.{size_of_shape}
+use Rattle.capnp_dynamic.specs.Inside.{size_of_shape}
 use Rattle.capnp_dynamic_gets.specs.Lists.{sized, ElementsGot, PlaceGot}
 use Rattle.capnp_dynamic_gets.proofs.AcceptedLists.{holds, holds_no_structs, bytewise}
 

@@ -11,17 +11,18 @@ use Rattle.capnp_footprints.specs.Footprints.{OwnsObject}
 use Rattle.capnp_copy.specs.Lists.{list_at}
 use Rattle.capnp_copy.specs.declared.init.ListPlace.{ListPlace}
 use Rattle.capnp_values.specs.Shown.{number_shown}
-use Rattle.capnp_dynamic_lists.specs.Lists.{IsListOf, HasPointer}
+use Rattle.capnp_dynamic_lists.specs.Lists.{IsListOf, HasPointer, GrowsIn}
 use Rattle.capnp_dynamic_lists.specs.Elements.{Holds}
 use Rattle.capnp_dynamic_lists.specs.Parts.{cell_in, IsPointerOf}
 use Rattle.capnp_dynamic_lists.specs.Places.{IsPointerAt}
 use Rattle.capnp_dynamic_values.specs.Built.{IsPlaced}
 use Rattle.capnp_dynamic_values.specs.declared.placed.Placed.{Placed}
+use Rattle.capnp_dynamic.specs.Grown.{GrowsBehind}
 use Rattle.capnp_dynamic_gets.specs.Plain.{IsPlainType, plain_shown}
 use Rattle.capnp_dynamic_gets.specs.Kinds.{LiesBehind}
 use Rattle.capnp_dynamic_gets.proofs.PlainValues.{plain_there}
-use Rattle.capnp_dynamic_gets.specs.Slots.{GetsValue, GrowsBehind}
-use Rattle.capnp_dynamic_gets.specs.Elements.{IsBehindGot, IsBehindNotGot, GetsElement, GrowsIn}
+use Rattle.capnp_dynamic_gets.specs.Slots.{GetsValue}
+use Rattle.capnp_dynamic_gets.specs.Elements.{IsBehindGot, IsBehindNotGot, GetsElement}
 
 -- behind an element's pointer
 module _ (around : Schema) (l : ListView) (s u : Segments) (o : ListPlace) (i : ℕ) (slot : code.Place) (is : IsPointerAt o i slot) where

@@ -1,7 +1,7 @@
 -- Lists that are got, by the type of their elements.
-use Rattle.std.proofs.Common.{◌≡◌, ℕ, ◌+◌, ◌^◌, ◌<◌, List, Option, Some, None, Result, Ok, Err, IfOk, ap, subst}
+use Rattle.std.proofs.Common.{◌≡◌, ℕ, ◌+◌, ◌^◌, ◌<◌, List, Option, Some, None, Result, Ok, Err, IfOk, sym, subst}
 use Rattle.capnp_model.specs.Segments.{Segments}
-use Rattle.capnp_model.specs.Schemas.{Ty, void, plain, text, blob, untyped, interface, struct, list, Schema}
+use Rattle.capnp_model.specs.Schemas.{Ty, struct, Schema}
 use Rattle.capnp_units.specs.declared.errors.Error.{Error}
 use Rattle.capnp_units.specs.declared.sizes.ElementSize.{ElementSize}
 use Rattle.capnp_units.specs.declared.sizes.StructSize.{StructSize}
@@ -14,19 +14,10 @@ use Rattle.capnp_queries.specs.declared.introspect.«Type».{«Type» as SchemaT
 use Rattle.capnp_queries.specs.declared.structs.StructSchema.{StructSchema}
 use Rattle.capnp_values.specs.ListSizes.{size_of}
 use Rattle.capnp_dynamic.specs.Inits.{struct_named}
-use Rattle.capnp_dynamic_gets.specs.Structs.{size_of_shape}
+use Rattle.capnp_dynamic.specs.Inside.{size_of_shape}
+use Rattle.capnp_dynamic.proofs.lemmas.StructTypes.{type_is}
 use Rattle.capnp_dynamic_gets.specs.Lists.{sized, PlaceGot}
 use Rattle.capnp_dynamic_gets.proofs.FoundLists.{plain_placed, structs_placed}
-
-type_is : (ty : Ty) (id : ℕ) → Some id ≡ struct_named ty → struct id ≡ ty
-type_is void id e = absurd (cc e)
-type_is (plain p) id e = absurd (cc e)
-type_is text id e = absurd (cc e)
-type_is blob id e = absurd (cc e)
-type_is untyped id e = absurd (cc e)
-type_is interface id e = absurd (cc e)
-type_is (struct j) id e = let same : id ≡ j = cc e in ap struct same
-type_is (list ty) id e = absurd (cc e)
 
 module _ (around : Schema) (ty : Ty) (schema : StructSchema) (named : Some (id_of schema) ≡ struct_named ty) (same : schema_around schema ≡ around) (default : Option (List (List ℕ))) (s u : Segments) (slot : code.Place) (size : StructSize) (is : size ≡ size_of_shape (shape_of_struct schema)) where
   pub structs_got : (o : ListPlace) → slot.position + 1 < 2 ^ 61 → StructListGot default s u slot size o → PlaceGot around ty default s u slot (sized (shape_of_struct schema) o)
@@ -34,7 +25,7 @@ module _ (around : Schema) (ty : Ty) (schema : StructSchema) (named : Some (id_o
       let g = shape_of_struct schema in
       let first = structs_placed (schema_around schema) (id_of schema) default s u slot o near (subst (λ z. StructListGot default s u slot z o) is got) in
       let second : PlaceGot around (struct (id_of schema)) default s u slot (sized g o) = subst (λ a. PlaceGot a (struct (id_of schema)) default s u slot (sized g o)) same first in
-      subst (λ t. PlaceGot around t default s u slot (sized g o)) (type_is ty (id_of schema) named) second
+      subst (λ t. PlaceGot around t default s u slot (sized g o)) (sym (type_is ty (id_of schema) (sym named))) second
 
 module _ (around : Schema) (t : SchemaType) (none : struct_named (ty_of t) ≡ None) (default : Option (List (List ℕ))) (s u : Segments) (slot : code.Place) (expected : ElementSize) (is : expected ≡ size_of (ty_of t)) where
   pub others_got : (r : Result ListPlace Error) → slot.position + 1 < 2 ^ 61 → IfOk r (ListGot default s u slot expected) → IfOk r (PlaceGot around (ty_of t) default s u slot)

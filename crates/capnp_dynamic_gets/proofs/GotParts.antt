@@ -9,16 +9,12 @@ use Rattle.capnp_object.specs.declared.place.Place as code
 use Rattle.capnp_wire.specs.Places.{place_view}
 use Rattle.capnp_copy.specs.declared.fields.StructPlace.{StructPlace}
 use Rattle.capnp_copy.specs.declared.init.ListPlace.{ListPlace}
-use Rattle.capnp_builders.specs.Gets.{StructGot, NoStructGot, ListGot, NoListGot, StructListGot, NoStructListGot}
-use Rattle.capnp_dynamic_gets.specs.Slots.{GrowsBehind}
-use Rattle.capnp_dynamic_gets.proofs.Grown.{begin_grows, gets_grow, behind_any}
+use Rattle.capnp_builders.specs.Gets.{StructGot, ListGot, NoListGot, StructListGot, NoStructListGot}
+use Rattle.capnp_dynamic.specs.Grown.{GrowsBehind}
+use Rattle.capnp_dynamic.proofs.lemmas.Grown.{begin_grows, gets_grow}
 
 pub struct_grows : (default : Option (List (List ℕ))) (s u : Segments) (p : Place) (size : StructSize) (o : StructPlace) → StructGot default s u p size o → GrowsBehind s u p
 struct_grows default s u p size o got = gets_grow default s u p _ got.value
-
-pub no_struct_grows : (default : Option (List (List ℕ))) (s u : Segments) (p : Place) (size : StructSize) (e : Error) → NoStructGot default s u p size e → Grows s u
-no_struct_grows default s u p size e (inl b) = begin_grows default s u p (Err e) b
-no_struct_grows default s u p size e (inr b) = begin_grows default s u p (Ok tt) b.0
 
 pub structs_grow : (default : Option (List (List ℕ))) (s u : Segments) (slot : code.Place) (size : StructSize) (o : ListPlace) → StructListGot default s u slot size o → GrowsBehind s u (place_view slot)
 structs_grow default s u slot size o got = gets_grow default s u (place_view slot) _ got.value
@@ -28,6 +24,6 @@ no_structs_grow default s u slot size e (inl b) = begin_grows default s u (place
 no_structs_grow default s u slot size e (inr b) = begin_grows default s u (place_view slot) (Ok tt) b.0
 
 pub others_grow : (default : Option (List (List ℕ))) (s u : Segments) (slot : code.Place) (size : ElementSize) (r : Result ListPlace Error) → IfOk r (ListGot default s u slot size) → IfErr r (NoListGot default s u slot size) → GrowsBehind s u (place_view slot)
-others_grow default s u slot size (Ok o) got h = gets_grow default s u (place_view slot) _ got.value
-others_grow default s u slot size (Err e) got (inl b) = behind_any s u (place_view slot) (begin_grows default s u (place_view slot) (Err e) b)
-others_grow default s u slot size (Err e) got (inr b) = behind_any s u (place_view slot) (begin_grows default s u (place_view slot) (Ok tt) b.0)
+others_grow default s u slot size (Ok o) got h n t own = gets_grow default s u (place_view slot) _ got.value n t own
+others_grow default s u slot size (Err e) got (inl b) n t own = begin_grows default s u (place_view slot) (Err e) b
+others_grow default s u slot size (Err e) got (inr b) n t own = begin_grows default s u (place_view slot) (Ok tt) b.0

@@ -1,8 +1,6 @@
 mod AcceptedLists
 mod FoundLists
 mod BegunBytes
-mod GroupPlaces
-mod Grown
 mod PlainValues
 mod GotParts
 mod GotLists

@@ -1,21 +1,16 @@
 -- Elements of lists that are got to be written. (Encoding, "Lists")
 use Rattle.std.specs.Prelude.{◌≡◌, ℕ, ℤ, List, Some, None, Result, IfOk, IfErr}
-use Rattle.capnp_model.specs.Coverage.{Grows}
 use Rattle.capnp_model.specs.Segments.{Segments}
 use Rattle.capnp_model.specs.Schemas.{Ty, void, plain, text, blob, untyped, interface, struct, list, width, Schema}
-use Rattle.capnp_model.specs.Trees.{Tree}
 use Rattle.capnp_units.specs.declared.errors.Error.{Error}
 use Rattle.capnp_object.specs.declared.place.Place as code
 use Rattle.capnp_units.specs.Segments.{words_in}
 use Rattle.capnp_wire.specs.Views.{ListView, element_number}
 use Rattle.capnp_wire.specs.Views.{list_at as view_at}
 use Rattle.capnp_copy.specs.Elements.{first_element}
-use Rattle.capnp_footprints.specs.Footprints.{OwnsObject}
-use Rattle.capnp_copy.specs.Lists.{list_at}
 use Rattle.capnp_copy.specs.declared.init.ListPlace.{ListPlace}
 use Rattle.capnp_queries.specs.Structs.{schema_around, id_of}
 use Rattle.capnp_values.specs.Shown.{number_shown}
-use Rattle.capnp_dynamic_lists.specs.Lists.{IsListOf}
 use Rattle.capnp_dynamic_lists.specs.Places.{IsStructAt, IsPointerAt}
 use Rattle.capnp_dynamic_values.specs.declared.placed.Placed.{Placed}
 use Rattle.capnp_dynamic_values.specs.declared.placed.Placed.TheVariants as placed
@@ -59,7 +54,3 @@ GetsElement around ty l s u o i r = IfOk r (IsElementGot around ty l s u o i) ×
 abbrev pub GetsElementAt : {A : Type 0} → (A → List (List ℕ)) → (A → ℤ) → Schema → Ty → A → A → ListPlace → ℕ → Result Placed Error → Type 0
 GetsElementAt bytes nesting around ty old new o i r =
     GetsElement around ty (view_at (bytes old) (nesting old) (first_element o) o.size o.count o.data_words o.pointers) (words_in (bytes old)) (words_in (bytes new)) o i r
-
--- Whatever elements the list has: each segment of the message is there later too, and no shorter.
-abbrev pub GrowsIn : Segments → Segments → ListPlace → Type 0
-GrowsIn s u o = (n : ℕ) (t : Tree) → IsListOf o t → OwnsObject n s (list_at o) t → Grows s u

@@ -1,16 +1,12 @@
 -- Fields of structs that are got to be written. (Encoding, "Structs")
 use Rattle.std.specs.Prelude.{◌≡◌, ℕ, Option, Some, Result, IfOk, IfErr}
-use Rattle.capnp_model.specs.Coverage.{Grows}
 use Rattle.capnp_model.specs.Segments.{Segments, after}
 use Rattle.capnp_model.specs.Schemas.{Field as FieldNode, Body, void_slot, plain_slot, pointer_slot, group_slot, width, Value, Schema}
 use Rattle.capnp_model.specs.Accepted.{field_body}
-use Rattle.capnp_model.specs.Trees.{Trees, structure}
 use Rattle.capnp_units.specs.declared.errors.Error.{Error}
 use Rattle.capnp_object.specs.declared.place.Place as code
 use Rattle.capnp_wire.specs.Places.{place_view}
 use Rattle.capnp_wire.specs.Views.{StructView}
-use Rattle.capnp_footprints.specs.Footprints.{OwnsObject}
-use Rattle.capnp_copy.specs.Structs.{struct_at}
 use Rattle.capnp_copy.specs.declared.fields.StructPlace.{StructPlace}
 use Rattle.capnp_queries.specs.Structs.{schema_around, shape_of_struct}
 use Rattle.capnp_queries.specs.Handles.{IsFieldRecord}
@@ -46,7 +42,3 @@ pub record GetsField (v : StructView) (s u : Segments) (p : StructPlace) (f : Fi
   pub is : IsFieldRecord f.parent f.index said
   pub got : IfOk r (IsFieldGot (schema_around f.parent) v s u p (field_body (schema_around f.parent).shape_of said.kind) (default_said said.kind))
   pub refused : IfErr r (IsFieldNotGot (schema_around f.parent) s u p (field_body (schema_around f.parent).shape_of said.kind) (default_said said.kind))
-
--- Whatever struct is owned there: each segment of the message is there later too, and no shorter.
-abbrev pub GrowsAround : Segments → Segments → StructPlace → Type 0
-GrowsAround s u p = (n section : ℕ) (kids : Trees) → OwnsObject n s (struct_at p) (structure p.data_words section kids) → Grows s u

@@ -11,11 +11,11 @@ use Rattle.capnp_model.specs.Accepted.{schema_of}
 use Rattle.capnp_queries.specs.Types.{ty_of, is_type_of}
 use Rattle.capnp_values.specs.ListSizes.{size_of}
 use Rattle.capnp_dynamic.specs.Inits.{struct_named}
+use Rattle.capnp_dynamic.specs.Inside.{size_of_shape}
 use Rattle.capnp_dynamic_lists.specs.Lists.{IsListThere}
 use Rattle.capnp_dynamic_lists.specs.Elements.{Holds, HoldsStructs}
 use Rattle.capnp_dynamic_lists.specs.Readers.{IsBytewise}
 use Rattle.capnp_dynamic_values.specs.declared.placed.ListPart.{ListPart}
-use Rattle.capnp_dynamic_gets.specs.Structs.{size_of_shape}
 
 -- The place of a list of structs, whose empty list of null has the sizes of a shape too.
 abbrev pub sized : Shape → ListPlace → ListPlace

@@ -1,16 +1,14 @@
 -- Values that are got behind pointers, by the pointers' types. (Encoding, "Structs", "Lists", "Blobs" and "Default Values")
-use Rattle.std.specs.Prelude.{◌≡◌, ℕ, Option, Result, IfOk, IfErr}
-use Rattle.capnp_model.specs.Coverage.{Grows}
+use Rattle.std.specs.Prelude.{◌≡◌, Option, Result, IfOk, IfErr}
 use Rattle.capnp_model.specs.Segments.{Segments, Place}
 use Rattle.capnp_model.specs.Schemas.{Ty, void, plain, text, blob, untyped, interface, struct, list, Value, Schema}
-use Rattle.capnp_model.specs.Trees.{Tree}
 use Rattle.capnp_units.specs.declared.errors.Error.{Error}
 use Rattle.capnp_object.specs.declared.place.Place as code
-use Rattle.capnp_footprints.specs.Footprints.{Owns}
 use Rattle.capnp_copy.specs.declared.bytes.BlobPlace.{BlobPlace}
 use Rattle.capnp_queries.specs.Structs.{schema_around, id_of}
 use Rattle.capnp_dynamic.specs.declared.init.Part.{Part}
-use Rattle.capnp_dynamic_values.specs.Defaults.{default_words, default_bytes}
+use Rattle.capnp_dynamic.specs.Defaults.{default_words}
+use Rattle.capnp_dynamic_values.specs.Defaults.{default_bytes}
 use Rattle.capnp_dynamic_values.specs.declared.placed.ListPart.{ListPart}
 use Rattle.capnp_dynamic_values.specs.declared.placed.Placed.{Placed}
 use Rattle.capnp_dynamic_values.specs.declared.placed.Placed.TheVariants as placed
@@ -67,7 +65,3 @@ IsNotGot around (list ty) d s u slot e = NoListPartGot around ty (default_words 
 -- What a get answers, and what it leaves.
 abbrev pub GetsValue : Schema → Ty → Option Value → Segments → Segments → code.Place → Result Placed Error → Type 0
 GetsValue around ty d s u slot r = IfOk r (IsGot around ty d s u slot) × IfErr r (IsNotGot around ty d s u slot)
-
--- Whatever value is owned there: each segment of the message is there later too, and no shorter.
-abbrev pub GrowsBehind : Segments → Segments → Place → Type 0
-GrowsBehind s u p = (n : ℕ) (t : Tree) → Owns n s p t → Grows s u

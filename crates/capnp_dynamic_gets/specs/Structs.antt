@@ -1,20 +1,16 @@
 -- Structs that are got to be written, with a default in place of null. (Encoding, "Structs" and "Default Values")
 use Rattle.std.specs.Prelude.{◌≡◌, ℕ, List, Option}
 use Rattle.capnp_model.specs.Segments.{Segments}
-use Rattle.capnp_model.specs.Schemas.{Shape, words_of_shape, pointers_of_shape}
+use Rattle.capnp_model.specs.Schemas.{Shape}
 use Rattle.capnp_units.specs.declared.errors.Error.{Error}
-use Rattle.capnp_units.specs.declared.sizes.StructSize.{StructSize}
 use Rattle.capnp_object.specs.declared.place.Place as code
 use Rattle.capnp_wire.specs.Places.{place_view}
 use Rattle.capnp_builders.specs.Gets.{StructGot, NoStructGot}
 use Rattle.capnp_queries.specs.Structs.{shape_of_struct}
 use Rattle.capnp_queries.specs.declared.structs.StructSchema.{StructSchema}
+use Rattle.capnp_dynamic.specs.Inside.{size_of_shape}
 use Rattle.capnp_dynamic.specs.Edits.{IsThere, IsWide}
 use Rattle.capnp_dynamic.specs.declared.init.Part.{Part}
-
--- The two sizes of a shape.
-abbrev pub size_of_shape : Shape → StructSize
-size_of_shape g = record { data_words = words_of_shape g; pointers = pointers_of_shape g }
 
 -- A struct is got as one of a schema: it is there, and wide enough.
 pub record PartGot (default : Option (List (List ℕ))) (s u : Segments) (slot : code.Place) (schema : StructSchema) (part : Part) : Type 0 where

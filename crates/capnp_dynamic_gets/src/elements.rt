@@ -8,12 +8,12 @@ ghost use Rattle.capnp_copy.specs.Elements.{first_element};
 ghost use Rattle.capnp_records.specs.Sets.{nodes_of};
 ghost use Rattle.capnp_queries.specs.Types.{ty_of, is_type_of};
 ghost use Rattle.capnp_values.specs.Shown.{number_shown};
-ghost use Rattle.capnp_dynamic_lists.specs.Lists.{IsListThere};
+ghost use Rattle.capnp_dynamic_lists.specs.Lists.{IsListThere, GrowsIn};
 ghost use Rattle.capnp_dynamic_lists.specs.Elements.{Holds, HoldsStructs};
 ghost use Rattle.capnp_dynamic_values.specs.Built.{IsPlaced};
 ghost use Rattle.capnp_dynamic_gets.specs.Kinds.{IsKind};
 ghost use Rattle.capnp_dynamic_gets.specs.Plain.{plain_shown, IsPlainType};
-ghost use Rattle.capnp_dynamic_gets.specs.Elements.{GetsElementAt, GrowsIn};
+ghost use Rattle.capnp_dynamic_gets.specs.Elements.{GetsElementAt};
 
 use crate::plain::plain_of;
 use crate::slots::get_slot;

@@ -1,5 +1,5 @@
 //! Fields of structs, got to be written.
-ghost use Rattle.std.specs.Prelude.{◌≡◌, ℕ, ◌*◌, Some, IfOk, option_map};
+ghost use Rattle.std.specs.Prelude.{◌≡◌, ℕ, Some, IfOk, option_map};
 ghost use Rattle.capnp_model.specs.Schemas.{PlainType, plain_slot, width};
 ghost use Rattle.capnp_units.specs.Segments.{words_in};
 ghost use Rattle.capnp_wire.specs.Places.{place_view};
@@ -10,16 +10,17 @@ ghost use Rattle.capnp_values.specs.Shown.{number_shown};
 ghost use Rattle.capnp_values.specs.Sources.{masked_bits};
 ghost use Rattle.capnp_dynamic.specs.Edits.{IsThere, IsWide};
 ghost use Rattle.capnp_dynamic_values.specs.Built.{IsPlaced};
+ghost use Rattle.capnp_dynamic.specs.Grown.{GrowsAround};
 ghost use Rattle.capnp_dynamic_gets.specs.Plain.{plain_shown};
-ghost use Rattle.capnp_dynamic_gets.specs.Fields.{GetsField, GrowsAround};
+ghost use Rattle.capnp_dynamic_gets.specs.Fields.{GetsField};
 
 use crate::plain::plain_of;
 use crate::slots::get_slot;
 use capnp_copy::arena::{BuilderArena, Memory};
 use capnp_copy::fields::StructPlace;
 use capnp_dynamic::init::Part;
+use capnp_dynamic::roots::default_said;
 use capnp_dynamic::slots::pointer_place;
-use capnp_dynamic_values::default::default_of;
 use capnp_dynamic_values::placed::Placed;
 use capnp_queries::fields::Field;
 use capnp_queries::slots::FieldPlace;
@@ -71,7 +72,7 @@ pub fn get_field<'a, A: BuilderArena>(
         FieldPlace::Plain { .. } => Ok(plain_field(&memory.arena, object, field)),
         FieldPlace::Pointer { index, ty, .. } => {
             let slot = pointer_place(object, index);
-            get_slot(memory, slot, set, ty, default_of(&said.body))
+            get_slot(memory, slot, set, ty, default_said(said))
         }
         FieldPlace::Group { schema } => {
             let place = object;

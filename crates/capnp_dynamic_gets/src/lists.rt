@@ -1,5 +1,5 @@
 //! Lists behind pointers, got to be written.
-ghost use Rattle.std.specs.Prelude.{◌≡◌, ◌+◌, ◌<◌, ◌^◌, true, option_map, option_copied, IfSome, IfOk, IfErr};
+ghost use Rattle.std.specs.Prelude.{◌≡◌, ◌+◌, ◌<◌, ◌^◌, true, option_map, option_copied, IfOk, IfErr};
 ghost use Rattle.capnp_model.specs.Accepted.{schema_of};
 ghost use Rattle.capnp_units.specs.Segments.{words_in};
 ghost use Rattle.capnp_wire.specs.Places.{place_view};
@@ -8,20 +8,19 @@ ghost use Rattle.capnp_records.specs.NodeViews.{value_of};
 ghost use Rattle.capnp_records.specs.Sets.{nodes_of};
 ghost use Rattle.capnp_builders.specs.Gets.{GetsListOrDefault, GetsStructListOrDefault};
 ghost use Rattle.capnp_builders.specs.Making.{state_of};
-ghost use Rattle.capnp_queries.specs.Structs.{nodes_around, shape_of_struct, id_of};
+ghost use Rattle.capnp_queries.specs.Structs.{shape_of_struct};
 ghost use Rattle.capnp_queries.specs.Types.{ty_of, is_type_of};
-ghost use Rattle.capnp_dynamic.specs.Inits.{struct_named};
-ghost use Rattle.capnp_dynamic_values.specs.Defaults.{default_words};
+ghost use Rattle.capnp_dynamic.specs.Defaults.{default_words};
+ghost use Rattle.capnp_dynamic.specs.Grown.{GrowsBehind};
 ghost use Rattle.capnp_dynamic_gets.specs.Lists.{sized, PlaceGot, ListPartGot, NoListPartGot};
-ghost use Rattle.capnp_dynamic_gets.specs.Slots.{GrowsBehind};
 
-use crate::structs::size_of;
 use capnp_builders::pointer_builder::PointerBuilder;
 use capnp_copy::arena::{BuilderArena, Memory};
 use capnp_copy::init::ListPlace;
-use capnp_dynamic_values::default::default_words;
+use capnp_dynamic::init::{struct_of_type, struct_size};
+use capnp_dynamic::roots::default_words;
 use capnp_dynamic_values::placed::ListPart;
-use capnp_queries::introspect::{Type, TypeVariant};
+use capnp_queries::introspect::Type;
 use capnp_queries::structs::StructSchema;
 use capnp_records::node::Value;
 use capnp_records::set::SchemaSet;
@@ -76,23 +75,11 @@ fn struct_list_here<A: BuilderArena>(
     }
 }
 
-/// The schema of the struct that a type of a set names, if it is a struct's.
-fn struct_of_type<'a>(set: &'a SchemaSet, ty: Type) -> Option<StructSchema<'a>>
-    requires { is_type_of (nodes_of set.now) ty ≡ true }
-    ensures named { option_map id_of result ≡ struct_named (ty_of ty) }
-    ensures nodes { IfSome result (λ s. nodes_around s ≡ nodes_of set.now) }
-{
-    match ty.which() {
-        TypeVariant::Struct(raw) => Some(StructSchema::new(set, raw)),
-        _ => None,
-    }
-}
-
 /// The place of a list of structs, whose empty list of null has its schema's sizes too.
 fn sized(list: ListPlace, schema: StructSchema<'_>) -> ListPlace
     ensures { result ≡ sized (shape_of_struct schema.entry) list }
 {
-    let size = size_of(schema);
+    let size = struct_size(schema);
     ListPlace {
         data_words: list.data_words.max(size.data_words),
         pointers: list.pointers.max(size.pointers),
@@ -123,7 +110,7 @@ fn place_of<A: BuilderArena>(
 {
     match struct_of_type(set, element_type) {
         Some(schema) => {
-            let list = struct_list_here(memory, slot, size_of(schema), default)?;
+            let list = struct_list_here(memory, slot, struct_size(schema), default)?;
             Ok(sized(list, schema))
         }
         None => list_here(memory, slot, element_size(element_type), default),

@@ -8,7 +8,8 @@ ghost use Rattle.capnp_records.specs.NodeViews.{value_of};
 ghost use Rattle.capnp_records.specs.Sets.{nodes_of};
 ghost use Rattle.capnp_queries.specs.Types.{ty_of, is_type_of};
 ghost use Rattle.capnp_dynamic_values.specs.Built.{IsPlaced};
-ghost use Rattle.capnp_dynamic_gets.specs.Slots.{GetsValue, GrowsBehind};
+ghost use Rattle.capnp_dynamic.specs.Grown.{GrowsBehind};
+ghost use Rattle.capnp_dynamic_gets.specs.Slots.{GetsValue};
 
 use crate::blobs::{data_slot, text_slot};
 use crate::lists::list_slot;

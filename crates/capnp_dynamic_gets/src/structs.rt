@@ -5,30 +5,18 @@ ghost use Rattle.capnp_wire.specs.Places.{place_view};
 ghost use Rattle.capnp_copy.specs.States.{HasWords};
 ghost use Rattle.capnp_records.specs.NodeViews.{value_of};
 ghost use Rattle.capnp_queries.specs.Structs.{shape_of_struct};
-ghost use Rattle.capnp_dynamic_values.specs.Defaults.{default_words};
-ghost use Rattle.capnp_dynamic_gets.specs.Structs.{size_of_shape, PartGot, NoPartGot};
-ghost use Rattle.capnp_dynamic_gets.specs.Slots.{GrowsBehind};
+ghost use Rattle.capnp_dynamic.specs.Defaults.{default_words};
+ghost use Rattle.capnp_dynamic.specs.Grown.{GrowsBehind};
+ghost use Rattle.capnp_dynamic_gets.specs.Structs.{PartGot, NoPartGot};
 
 use capnp_builders::gets::struct_or_default;
 use capnp_copy::arena::BuilderArena;
-use capnp_dynamic::init::Part;
-use capnp_dynamic_values::default::default_words;
+use capnp_dynamic::init::{Part, struct_size};
+use capnp_dynamic::roots::default_words;
 use capnp_queries::structs::StructSchema;
 use capnp_records::node::Value;
 use capnp_units::errors::Result;
-use capnp_units::sizes::StructSize;
 use capnp_wire::place::Place;
-
-/// The two sizes of a schema's structs.
-pub(crate) fn size_of(schema: StructSchema<'_>) -> StructSize
-    ensures { result ≡ size_of_shape (shape_of_struct schema.entry) }
-{
-    let record = schema.record();
-    StructSize {
-        data_words: record.data_word_count,
-        pointers: record.pointer_count,
-    }
-}
 
 /// The struct that the pointer at a place names, with at least its schema's sizes. A null pointer gets the default, where there is one, else a struct of zeros and nulls; a narrower struct is widened.
 ///
@@ -52,6 +40,6 @@ pub fn struct_slot<'a, A: BuilderArena>(
         (place_view slot) }
     ensures books { A.books arena.new ≡ A.books arena.old }
 {
-    let place = struct_or_default(arena, slot, size_of(schema), default_words(default))?;
+    let place = struct_or_default(arena, slot, struct_size(schema), default_words(default))?;
     Ok(Part { place, schema })
 }

@@ -25,13 +25,13 @@ use Rattle.capnp_builders.specs.Copied.{TakesOver}
 use Rattle.capnp_values.specs.Sources.{WithoutLimit}
 use Rattle.capnp_values.specs.declared.dynamic_value.Reader.{Reader}
 use Rattle.capnp_dynamic.specs.Sources.{SourceView, SetsSource, PutsSource}
-use Rattle.capnp_dynamic.specs.Values.{is_capability}
+use Rattle.capnp_dynamic.specs.Values.{is_capability, struct_given, IsStructType}
 use Rattle.capnp_dynamic.proofs.lemmas.Sources.{walk_map, walk_to, same_words, source_put, source_refused}
 use Rattle.capnp_dynamic_lists.specs.Elements.{Holds, HoldsStructs, flat_element, element_edit}
 use Rattle.capnp_dynamic_lists.specs.Lists.{IsListThere, HasPointer}
 use Rattle.capnp_dynamic_lists.specs.Parts.{cell_in}
 use Rattle.capnp_dynamic_lists.specs.Places.{IsStructAt, IsPointerAt}
-use Rattle.capnp_dynamic_lists.specs.Values.{Given, made, copied, taken, struct_given, list_given, are_capabilities, made_element, element_given, ElementWithin, content_edit, part_edit, TakesPart, TakesFields, TakesStruct, Leaves, PutsGiven, AreStructs, IsStructType, IsListType}
+use Rattle.capnp_dynamic_lists.specs.Values.{Given, made, copied, taken, list_given, are_capabilities, made_element, element_given, ElementWithin, content_edit, part_edit, TakesPart, TakesFields, TakesStruct, Leaves, PutsGiven, AreStructs, IsListType}
 use Rattle.capnp_dynamic_lists.proofs.Parts.{struct_part}
 use Rattle.capnp_dynamic_lists.proofs.Pointers.{pointer_parts}
 

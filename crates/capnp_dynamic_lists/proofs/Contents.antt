@@ -1,8 +1,7 @@
 -- What is put into an element, by its value and its type.
-use Rattle.std.proofs.Common.{◌≡◌, ℕ, ◌*◌, ◌<◌, List, length, map, Result, Ok, Err, OnOk, OnErr, IfErr, Option, Some, None, refl, ap, sym, subst, ◌∙◌}
+use Rattle.std.proofs.Common.{◌≡◌, ℕ, ◌<◌, List, length, map, Result, Ok, Err, OnOk, OnErr, IfErr, Option, Some, None, refl, ap, sym, subst, ◌∙◌}
 use Rattle.std.specs.Prelude.{⊤}
 use Rattle.capnp_model.specs.Coverage.{Grows}
-use Rattle.capnp_model.specs.Sections.{words_for}
 use Rattle.capnp_model.specs.Sizes.{object_words}
 use Rattle.capnp_model.specs.Trees.{Tree}
 use Rattle.capnp_model.specs.Kinds.{TypeMismatch}
@@ -15,27 +14,16 @@ use Rattle.capnp_object.specs.Places.{seen}
 use Rattle.capnp_object.specs.declared.place.Place as code
 use Rattle.capnp_copy.specs.Allocations.{TakesJust, TakesAtMost}
 use Rattle.capnp_copy.specs.declared.init.ListPlace.{ListPlace}
-use Rattle.capnp_builders.specs.Making.{ArenaState, Makes, Stays, BytesRefused, BytesNotSet}
+use Rattle.capnp_builders.specs.Making.{ArenaState, Makes, Stays, BytesRefused}
 use Rattle.capnp_values.specs.declared.dynamic_value.Reader.{Reader}
 use Rattle.capnp_dynamic.specs.Given.{plain_given, bits_given}
 use Rattle.capnp_dynamic.specs.Puts.{ObjectRefused}
 use Rattle.capnp_dynamic.proofs.lemmas.Grown.{same_grows}
-use Rattle.capnp_dynamic_lists.specs.Blobs.{bytes_of}
-use Rattle.capnp_dynamic_lists.specs.declared.blobs.Blob.{Blob}
 use Rattle.capnp_dynamic_lists.specs.Lists.{HasPointer, IsListThere, EditsElement}
 use Rattle.capnp_dynamic_lists.specs.Places.{IsPointerAt}
 use Rattle.capnp_dynamic_lists.specs.Elements.{Holds, answer_of, single_element, single_edit, blob_given, flat_element, element_edit}
 use Rattle.capnp_dynamic_lists.specs.Puts.{PutsObject, PutsContent}
 use Rattle.capnp_dynamic_lists.proofs.Pointers.{pointer_put}
-
--- ---- a text or data that is made
-
-module _ {X : Type 0} (old new : ArenaState) (r : Result X Error) where
-  pub blob_made : (slot : code.Place) (b x : Blob) → b ≡ x → OnOk r (Makes old new slot (blob_tree (bytes_of x)) (words_for (8 * length (bytes_of x)))) → OnOk r (Makes old new slot (blob_tree (bytes_of b)) (words_for (8 * length (bytes_of b))))
-  blob_made slot b x e h = subst (λ y. OnOk r (Makes old new slot (blob_tree (bytes_of y)) (words_for (8 * length (bytes_of y))))) (sym e) h
-
-  pub blob_refused : (segment : ℕ) (b x : Blob) → b ≡ x → IfErr r (BytesNotSet old new segment (length (bytes_of x))) → IfErr r (BytesNotSet old new segment (length (bytes_of b)))
-  blob_refused segment b x e h = subst (λ y. IfErr r (BytesNotSet old new segment (length (bytes_of y)))) (sym e) h
 
 -- an object behind the pointer of an element
 module _ (old new : ArenaState) (o : ListPlace) (slot : code.Place) (i : ℕ) (same : slot.segment ≡ o.start.segment) where

@@ -2,7 +2,6 @@ pub mod Lists
 pub mod Places
 pub mod Parts
 pub mod Elements
-pub mod Blobs
 pub mod Puts
 pub mod Values
 pub mod Builders

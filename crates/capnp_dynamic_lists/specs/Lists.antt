@@ -1,5 +1,6 @@
 -- Lists that are written where they lie. (Encoding, "Lists")
 use Rattle.std.specs.Prelude.{◌≡◌, ◌≢◌, ℕ, suc, ◌<◌, ◌≤◌}
+use Rattle.capnp_model.specs.Coverage.{Grows}
 use Rattle.capnp_model.specs.Segments.{Segments}
 use Rattle.capnp_model.specs.Trees.{Tree, plain_list, pointer_list, struct_list, tree_count, element_count, size_bits}
 use Rattle.capnp_model.specs.Schemas.{Shape, words_of_shape, pointers_of_shape}
@@ -46,3 +47,7 @@ EditsElement s u o f k = (n : ℕ) (t : Tree) → IsListOf o t → OwnsObject n 
 -- The same, where one level of pointers may be new.
 abbrev pub DeepensElement : Segments → Segments → ListPlace → (ℕ → ℕ → Edit) → ℕ → Type 0
 DeepensElement s u o f k = (n : ℕ) (t : Tree) → IsListOf o t → OwnsObject n s (list_at o) t → ReplacesObject (suc n) s u (list_at o) (edit_list f k t)
+
+-- Whatever elements the list has: each segment of the message is there later too, and no shorter.
+abbrev pub GrowsIn : Segments → Segments → ListPlace → Type 0
+GrowsIn s u o = (n : ℕ) (t : Tree) → IsListOf o t → OwnsObject n s (list_at o) t → Grows s u

@@ -1,5 +1,5 @@
 -- What `set` puts into an element for any value. (Encoding, "Lists", "Structs", "Blobs")
-use Rattle.std.specs.Prelude.{◌≡◌, ⊤, ℕ, ◌≤◌, ◌==◌, min, if◌then◌else◌, Bool, true, false, ◌&&◌, List, Option, Some, None, MatchOption, Result, OnErr}
+use Rattle.std.specs.Prelude.{◌≡◌, ⊤, ℕ, ◌≤◌, min, Bool, true, false, ◌&&◌, List, Option, Some, None, MatchOption, Result, OnErr}
 use Rattle.capnp_model.specs.Kinds.{ListCapabilityNotSupported}
 use Rattle.capnp_model.specs.Segments.{Segments}
 use Rattle.capnp_model.specs.Schemas.{Ty, void, plain, text, blob, untyped, interface, struct, list}
@@ -23,12 +23,11 @@ use Rattle.capnp_copy_from.specs.Copies.{StructSource, CopyGives, GrowsByZeros}
 use Rattle.capnp_copy_from.specs.Contents.{fitting}
 use Rattle.capnp_builders.specs.Making.{ArenaState}
 use Rattle.capnp_builders.specs.Copied.{Walk, Charged, WithoutLevels, IsSourceOf}
-use Rattle.capnp_queries.specs.Structs.{id_of}
-use Rattle.capnp_values.specs.Sources.{WithoutLimit, struct_seen}
+use Rattle.capnp_values.specs.Sources.{WithoutLimit}
 use Rattle.capnp_values.specs.declared.dynamic_value.Reader.{Reader}
 use Rattle.capnp_values.specs.declared.dynamic_value.Reader.TheVariants as value
 use Rattle.capnp_dynamic.specs.Sources.{SourceView, source_given, PutsSource}
-use Rattle.capnp_dynamic.specs.Values.{is_capability}
+use Rattle.capnp_dynamic.specs.Values.{is_capability, struct_given}
 use Rattle.capnp_dynamic_lists.specs.Lists.{IsListOf}
 use Rattle.capnp_dynamic_lists.specs.Elements.{flat_element}
 use Rattle.capnp_dynamic_lists.specs.Puts.{PutsContent}
@@ -38,37 +37,6 @@ pub data Given : Type 0 where
   made : Content → Given
   copied : SourceView → Given
   taken : StructView → Given
-
--- The type is that of the struct of an id.
-abbrev pub is_struct_of : Ty → ℕ → Bool
-is_struct_of void i = false
-is_struct_of (plain p) i = false
-is_struct_of text i = false
-is_struct_of blob i = false
-is_struct_of untyped i = false
-is_struct_of interface i = false
-is_struct_of (struct id) i = i == id
-is_struct_of (list ty) i = false
-
--- The struct whose content an element of the type takes over: one of the type's own schema.
-abbrev pub struct_given : {A : Type 0} → (A → List (List ℕ)) → Reader A → Ty → Option StructView
-struct_given bytes value.Void ty = None
-struct_given bytes (value.Bool b) ty = None
-struct_given bytes (value.Int8 z) ty = None
-struct_given bytes (value.Int16 z) ty = None
-struct_given bytes (value.Int32 z) ty = None
-struct_given bytes (value.Int64 z) ty = None
-struct_given bytes (value.UInt8 n) ty = None
-struct_given bytes (value.UInt16 n) ty = None
-struct_given bytes (value.UInt32 n) ty = None
-struct_given bytes (value.UInt64 n) ty = None
-struct_given bytes (value.Enum e) ty = None
-struct_given bytes (value.Text t) ty = None
-struct_given bytes (value.Data d) ty = None
-struct_given bytes (value.Struct r) ty = if is_struct_of ty (id_of r.schema) then Some (struct_seen bytes r.source) else None
-struct_given bytes (value.List l) ty = None
-struct_given bytes (value.AnyPointer p) ty = None
-struct_given bytes (value.Capability c) ty = None
 
 -- The list that is copied into an element of the type: any, into one of lists.
 abbrev pub list_given : {A : Type 0} → (A → List (List ℕ)) → Reader A → Ty → Option SourceView
@@ -168,17 +136,6 @@ AreStructs o untyped = Unit {0}
 AreStructs o interface = Unit {0}
 AreStructs o (struct id) = size_number o.size ≡ 7
 AreStructs o (list ty) = Unit {0}
-
--- The type is a struct's.
-abbrev pub IsStructType : Ty → Type 0
-IsStructType void = ⊥
-IsStructType (plain p) = ⊥
-IsStructType text = ⊥
-IsStructType blob = ⊥
-IsStructType untyped = ⊥
-IsStructType interface = ⊥
-IsStructType (struct id) = Unit {0}
-IsStructType (list ty) = ⊥
 
 -- The type is a list's.
 abbrev pub IsListType : Ty → Type 0

@@ -1,37 +1,26 @@
 //! Texts and data behind the pointers of elements of lists that are built, over places.
-ghost use Rattle.std.specs.Prelude.{◌≡◌, ◌*◌, ◌<◌, ◌^◌, true, length, option_map, IfErr, OnOk, OnErr};
-ghost use Rattle.std.specs.Option.{is_some};
+ghost use Rattle.std.specs.Prelude.{◌≡◌, ◌<◌, option_map, IfErr, OnOk, OnErr};
 ghost use Rattle.capnp_model.specs.Calls.{blob_tree};
 ghost use Rattle.capnp_model.specs.Coverage.{Grows};
 ghost use Rattle.capnp_model.specs.Edits.{put_child};
-ghost use Rattle.capnp_model.specs.Sections.{words_for};
-ghost use Rattle.capnp_model.specs.Segments.{words_at};
 ghost use Rattle.capnp_model.specs.Sizes.{object_words};
 ghost use Rattle.capnp_units.specs.Segments.{words_in};
-ghost use Rattle.capnp_wire.specs.Places.{place_view};
-ghost use Rattle.capnp_builders.specs.Making.{Makes, BytesNotSet};
 ghost use Rattle.capnp_queries.specs.Types.{ty_of};
+ghost use Rattle.capnp_dynamic.specs.Blobs.{bytes_of};
 ghost use Rattle.capnp_copy.specs.States.{state_in};
 ghost use Rattle.capnp_dynamic.specs.Puts.{ObjectRefused};
-ghost use Rattle.capnp_dynamic_lists.specs.Blobs.{bytes_of};
 ghost use Rattle.capnp_dynamic_lists.specs.Elements.{blob_given};
 ghost use Rattle.capnp_dynamic_lists.specs.Lists.{IsListThere, HasPointer};
 ghost use Rattle.capnp_dynamic_lists.specs.Puts.{PutsObject};
 
 use crate::places::element_pointer;
 use capnp_copy::arena::BuilderArena;
-use capnp_copy::blobs::{set_data, set_text};
 use capnp_copy::init::ListPlace;
+use capnp_dynamic::setting;
+use capnp_dynamic::setting::Blob;
 use capnp_queries::introspect::{Type, TypeVariant};
 use capnp_units::errors::Result;
 use capnp_values::dynamic_value::Reader;
-use capnp_wire::place::Place;
-
-/// A text or data.
-pub(crate) enum Blob<'a> {
-    Text(&'a [u8]),
-    Data(&'a [u8]),
-}
 
 /// The text or the data that a value is, if elements of the type are such.
 pub(crate) fn blob_for<'a, B>(ty: Type, value: &Reader<'a, B>) -> Option<Blob<'a>>
@@ -41,26 +30,6 @@ pub(crate) fn blob_for<'a, B>(ty: Type, value: &Reader<'a, B>) -> Option<Blob<'a
         (TypeVariant::Text, Reader::Text(text)) => Some(Blob::Text(text.as_bytes())),
         (TypeVariant::Data, Reader::Data(data)) => Some(Blob::Data(data)),
         _ => None,
-    }
-}
-
-/// Puts a text or data in place of the value of the pointer at a place, which is cleared.
-fn put_at<A: BuilderArena>(arena: &mut A, slot: Place, blob: Blob<'_>) -> Result<()>
-    requires there { is_some (words_at (words_in (A.segments arena.old)) (place_view slot) 1)
-        ≡ true }
-    requires near { slot.position < 2 ^ 61 }
-    ensures made { let at = state_in A.segments A.room A.books in OnOk result
-        (Makes (at arena.old) (at arena.new) slot (blob_tree (bytes_of blob.entry))
-        (words_for (8 * length (bytes_of blob.entry)))) }
-    ensures refused { let at = state_in A.segments A.room A.books in IfErr result
-        (BytesNotSet (at arena.old) (at arena.new) slot.segment (length (bytes_of blob.entry))) }
-    ensures grows { OnOk result
-        (Grows (words_in (A.segments arena.old)) (words_in (A.segments arena.new))) }
-    ensures books { A.books arena.new ≡ A.books arena.old }
-{
-    match blob {
-        Blob::Text(text) => set_text(arena, slot, text),
-        Blob::Data(data) => set_data(arena, slot, data),
     }
 }
 
@@ -85,5 +54,5 @@ pub(crate) fn put_blob<A: BuilderArena>(
     ensures books { A.books arena.new ≡ A.books arena.old }
 {
     let slot = element_pointer(list, index);
-    put_at(arena, slot, blob)
+    setting::put_blob(arena, slot, blob)
 }

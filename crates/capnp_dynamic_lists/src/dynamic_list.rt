@@ -1,5 +1,5 @@
 //! Lists whose elements' type is known at run time, to write.
-ghost use Rattle.std.specs.Prelude.{◌≡◌, ◌↔◌, ◌==◌, ◌<◌, ◌≤◌, [], true, None, Err, IfOk, OnErr};
+ghost use Rattle.std.specs.Prelude.{◌≡◌, ◌↔◌, ◌==◌, ◌<◌, [], true, None, Err, IfOk, OnErr};
 ghost use Rattle.capnp_model.specs.Accepted.{schema_of};
 ghost use Rattle.capnp_model.specs.Calls.{initn, element_content};
 ghost use Rattle.capnp_model.specs.Edits.{edit_element};
@@ -12,16 +12,17 @@ ghost use Rattle.capnp_dynamic.specs.Edits.{IsThere, IsWide};
 ghost use Rattle.capnp_dynamic.specs.Given.{is_flat};
 ghost use Rattle.capnp_dynamic.specs.Inits.{struct_named};
 ghost use Rattle.capnp_dynamic.specs.Puts.{answered};
-ghost use Rattle.capnp_dynamic_lists.specs.Lists.{IsListThere, HasRoom, HasPointer, HasSizes};
+ghost use Rattle.capnp_dynamic_lists.specs.Lists.{IsListThere};
 ghost use Rattle.capnp_dynamic_lists.specs.Elements.{Holds, HoldsStructs, element_edit};
 ghost use Rattle.capnp_copy.specs.Elements.{first_element};
 ghost use Rattle.capnp_wire.specs.Views.{list_at};
 ghost use Rattle.capnp_values.specs.Sources.{list_seen};
 ghost use Rattle.capnp_dynamic_lists.specs.Readers.{IsBytewise, list_of};
 ghost use Rattle.capnp_dynamic_lists.specs.Builders.{IsReady, IsPartAt, Stays, KeepsWords, Puts, Sets};
-ghost use Rattle.capnp_dynamic_lists.specs.Values.{struct_given, element_given};
+ghost use Rattle.capnp_dynamic.specs.Values.{struct_given};
+ghost use Rattle.capnp_dynamic_lists.specs.Values.{element_given};
 
-use crate::elements::plain_type;
+use crate::holding;
 use crate::init::init_element;
 use crate::laws::elements_as_structs;
 use crate::places::element_struct;
@@ -32,53 +33,15 @@ use capnp_copy::elements::first_element;
 use capnp_copy::init::ListPlace;
 use capnp_dynamic::dynamic_struct;
 use capnp_dynamic::init::Part;
-use capnp_dynamic::slots::width_of;
 use capnp_queries::introspect::{Type, TypeVariant};
 use capnp_queries::structs::StructSchema;
 use capnp_records::set::SchemaSet;
 use capnp_units::errors::{Error, Result};
 use capnp_units::kinds::ErrorKind;
-use capnp_units::sizes::{ElementSize, data_bits_per_element};
 use capnp_values::dynamic_list::Reader;
 use capnp_values::dynamic_value;
 use capnp_wire::arena::ReaderArena;
 use capnp_wire::list::ListReader;
-
-/// Whether each element has so many bits at its front.
-fn has_room(place: ListPlace, width: u32) -> bool
-    requires { width ≤ 64 }
-    ensures { (result ≡ true) ↔ HasRoom place width }
-{
-    match place.size {
-        ElementSize::InlineComposite => place.data_words > 0,
-        ElementSize::Pointer => false,
-        size => width <= data_bits_per_element(size),
-    }
-}
-
-/// Whether each element has a pointer.
-fn has_pointer(place: ListPlace) -> bool
-    ensures { (result ≡ true) ↔ HasPointer place }
-{
-    match place.size {
-        ElementSize::InlineComposite => place.pointers > 0,
-        ElementSize::Pointer => true,
-        _ => false,
-    }
-}
-
-/// Whether the elements are structs of at least a schema's two sizes.
-fn has_sizes(place: ListPlace, schema: StructSchema<'_>) -> bool
-    ensures { (result ≡ true) ↔ HasSizes place (shape_of_struct schema.entry) }
-{
-    let record = schema.record();
-    match place.size {
-        ElementSize::InlineComposite => {
-            record.data_word_count <= place.data_words && record.pointer_count <= place.pointers
-        }
-        _ => false,
-    }
-}
 
 /// Whether the elements of a list are there under their type, as its builder asks: plain ones with the bits of their type, structs with their schema's two sizes, all others with their pointers.
 pub fn holds<A: BuilderArena>(
@@ -90,19 +53,7 @@ pub fn holds<A: BuilderArena>(
     ensures { (result ≡ true) ↔ (Holds builder.now.place (ty_of element_type)
         × HoldsStructs (schema_of (nodes_of set.now)) builder.now.place (ty_of element_type)) }
 {
-    let place = builder.place;
-    if let Some(plain) = plain_type(element_type) {
-        return has_room(place, width_of(plain));
-    }
-    match element_type.which() {
-        TypeVariant::Struct(raw) => has_sizes(place, StructSchema::new(set, raw)),
-        TypeVariant::Text
-        | TypeVariant::Data
-        | TypeVariant::AnyPointer
-        | TypeVariant::Capability
-        | TypeVariant::List(_) => has_pointer(place),
-        _ => true,
-    }
+    holding::holds(builder.place, set, element_type)
 }
 
 /// The list at a place, to read under its elements' type.

@@ -28,7 +28,7 @@ use capnp_units::sizes::ElementSize;
 use capnp_values::dynamic_value::Reader;
 
 /// The plain type that a type is, if it is one.
-pub(crate) fn plain_type(ty: Type) -> Option<PlainType>
+pub fn plain_type(ty: Type) -> Option<PlainType>
     ensures { option_map plain_of result ≡ plain_in (ty_of ty) }
 {
     match ty.which() {
@@ -46,8 +46,14 @@ pub(crate) fn plain_type(ty: Type) -> Option<PlainType>
     }
 }
 
-/// Writes a number into the bits at the front of an element.
-fn set_front<A: BuilderArena>(arena: &mut A, list: ListPlace, index: u32, width: u32, value: u64)
+/// Writes a number into the bits at the front of an element. The index is one of the list's, whose elements have so many bits; the number fits them.
+pub fn set_front<A: BuilderArena>(
+    arena: &mut A,
+    list: ListPlace,
+    index: u32,
+    width: u32,
+    value: u64,
+)
     requires there { IsListThere (words_in (A.segments arena.old)) list }
     requires index { index < list.count }
     requires room { HasRoom list width }

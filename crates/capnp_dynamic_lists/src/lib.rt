@@ -4,6 +4,7 @@
 mod blobs;
 pub mod dynamic_list;
 pub mod elements;
+pub mod holding;
 pub mod init;
 pub mod laws;
 pub mod places;

@@ -13,10 +13,10 @@ ghost use Rattle.capnp_values.specs.Sources.{WithoutLimit, struct_seen};
 ghost use Rattle.capnp_dynamic.specs.Edits.{IsThere};
 ghost use Rattle.capnp_dynamic.specs.Given.{is_flat};
 ghost use Rattle.capnp_dynamic.specs.Sources.{source_seen, PutsSource};
-ghost use Rattle.capnp_dynamic.specs.Values.{is_capability};
+ghost use Rattle.capnp_dynamic.specs.Values.{is_capability, struct_given};
 ghost use Rattle.capnp_dynamic_lists.specs.Elements.{Holds, element_edit};
 ghost use Rattle.capnp_dynamic_lists.specs.Lists.{IsListThere, HasPointer};
-ghost use Rattle.capnp_dynamic_lists.specs.Values.{struct_given, list_given, are_capabilities, element_given, ElementWithin, TakesStruct, AreStructs, IsStructType, IsListType, Leaves, PutsGiven};
+ghost use Rattle.capnp_dynamic_lists.specs.Values.{list_given, are_capabilities, element_given, ElementWithin, TakesStruct, AreStructs, IsListType, Leaves, PutsGiven};
 
 use crate::elements::set_flat;
 use crate::places::{element_pointer, element_struct};
@@ -24,7 +24,7 @@ use capnp_builders::struct_builder::StructBuilder;
 use capnp_copy::arena::{BuilderArena, Memory};
 use capnp_copy::fields::StructPlace;
 use capnp_copy::init::ListPlace;
-use capnp_dynamic::values::{Source, put_source};
+use capnp_dynamic::values::{Source, put_source, struct_for};
 use capnp_queries::introspect::{Type, TypeVariant};
 use capnp_units::errors::{Error, Result};
 use capnp_units::kinds::ErrorKind;
@@ -33,25 +33,6 @@ use capnp_values::dynamic_value::Reader;
 use capnp_values::source::StructSource;
 use capnp_wire::arena::ReaderArena;
 use capnp_wire::structs::StructReader;
-
-/// The struct that a value is, if elements of the type take over its content: one of their own schema.
-fn struct_for<'a, B: ReaderArena>(ty: Type, value: &Reader<'a, B>) -> Option<StructSource<'a, B>>
-    ensures given { option_map (struct_seen B.segments) result
-        ≡ struct_given B.segments value.now (ty_of ty) }
-    ensures structs { OnSome result (IsStructType (ty_of ty)) }
-    ensures flat { OnSome result (is_flat value.now ≡ false) }
-{
-    match (ty.which(), value) {
-        (TypeVariant::Struct(raw), Reader::Struct(value)) => {
-            if value.get_schema().raw().id == raw.id {
-                Some(value.source())
-            } else {
-                None
-            }
-        }
-        _ => None,
-    }
-}
 
 /// The list that a value is, if elements of the type are lists.
 fn list_for<'a, B: ReaderArena>(ty: Type, value: &Reader<'a, B>) -> Option<Source<'a, B>>

@@ -20,7 +20,8 @@ use Rattle.capnp_copy.proofs.lemmas.RoomLaws.{sizes_grow}
 use Rattle.capnp_copy_from.specs.Copies.{CopiesValue}
 use Rattle.capnp_builders.specs.Copied.{Charged, WithoutLevels, BecomesNull, CopiesPointer}
 use Rattle.capnp_values.specs.Sources.{WithoutLimit}
-use Rattle.capnp_dynamic_values.proofs.Stood.{stood}
+use Rattle.capnp_dynamic.proofs.lemmas.Grown.{same_grows}
+use Rattle.capnp_dynamic.proofs.lemmas.Sources.{same_words}
 
 value_grows : (n : ℕ) (from : Segments) (q : Place) (s u : Segments) (p : Place) (old : ReadLimiter) (r : Result ⊤ Error) (new : ReadLimiter) → CopiesValue n from q s u p old r new → Grows s u
 value_grows n from q s u p old (Ok x) new h = h.grows
@@ -32,7 +33,7 @@ at_place (Some q) true n from s u p old r new h = value_grows n from q s u p old
 at_place (Some q) false n from s u p old r new h = value_grows n from q s u p h.0 r h.1 h.3
 
 at_levels : (o : Option ℕ) (place : Option Place) (paid : Bool) (from s u : Segments) (p : Place) (old : ReadLimiter) (r : Result ⊤ Error) (new : ReadLimiter) → MatchOption o (WithoutLevels s u old r new) (λ n. MatchOption place (BecomesNull s u p old r new) (λ q. Charged paid (CopiesValue n from q s u p) old r new)) → Grows s u
-at_levels None place paid from s u p old r new h = stood s u h.1
+at_levels None place paid from s u p old r new h = same_words s u h.1
 at_levels (Some n) place paid from s u p old r new h = at_place place paid n from s u p old r new h
 
 pub copied_grows : (v : PointerView) (s u : Segments) (p : Place) (r : Result ⊤ Error) → WithoutLimit (CopiesPointer v s u p) r → Grows s u
@@ -41,7 +42,7 @@ copied_grows v s u p r h = at_levels v.levels v.place v.basis.paid v.basis.segme
 -- a list of bytes that is put, or refused
 pub bytes_grow : {X : Type 0} (a b : List (List ℕ)) (r : Result X Error) → OnOk r (Grows (words_in a) (words_in b)) → OnErr r (b ≡ a) → Grows (words_in a) (words_in b)
 bytes_grow a b (Ok x) g h = g
-bytes_grow a b (Err e) g h = stood (words_in a) (words_in b) (ap words_in h)
+bytes_grow a b (Err e) g h = same_grows a b h
 
 -- what is put, or why not
 pub bytes_put : (a b : List (List ℕ)) (slot : code.Place) (count section : ℕ) (r : Result ⊤ Error) → IfOk r (λ o. Becomes (words_in a) (words_in b) (place_view slot) (plain_list 2 count section)) → IfErr r (λ e. (e.kind ≡ SizeOverflow) ↔ IsTooLong count (total_words (words_in a))) → OnErr r (b ≡ a) → PutsBytes count section (words_in a) (words_in b) slot r

@@ -1,2 +1,1 @@
-mod Stood
 mod InputGrowth

@@ -1,6 +1,5 @@
 -- Defaults that are written in place of null. (Encoding, "Default Values")
-use Rattle.std.specs.Prelude.{◌≡◌, ◌↔◌, ℕ, ◌+◌, ◌/◌, Bool, true, false, List, length, Option, Some, None}
-use Rattle.std.specs.Simd.{first_chunks}
+use Rattle.std.specs.Prelude.{◌≡◌, ◌↔◌, ℕ, ◌+◌, Bool, true, false, length, Option, Some, None}
 use Rattle.capnp_model.specs.Sections.{number_of}
 use Rattle.capnp_model.specs.Segments.{Segments, Place}
 use Rattle.capnp_model.specs.Schemas.{Value, no_value, bits, text_bytes, blob_bytes, list_segment, struct_segment, untyped_value, interface_value}
@@ -11,22 +10,6 @@ use Rattle.capnp_copy.specs.Allocations.{total_words}
 use Rattle.capnp_copy.specs.Values.{Becomes}
 use Rattle.capnp_copy_from.specs.Defaults.{is_null_at}
 use Rattle.capnp_builders.specs.Inputs.{IsTooLong}
-
--- The words of a default's bytes.
-abbrev pub default_chunks : List ℕ → List (List ℕ)
-default_chunks bytes = first_chunks 8 (length bytes / 8) bytes
-
--- The words of the default of a struct or a list, if there is one.
-abbrev pub default_words : Option Value → Option (List (List ℕ))
-default_words None = None
-default_words (Some no_value) = None
-default_words (Some (bits p n)) = None
-default_words (Some (text_bytes bytes)) = None
-default_words (Some (blob_bytes bytes)) = None
-default_words (Some (list_segment bytes)) = Some (default_chunks bytes)
-default_words (Some (struct_segment bytes)) = Some (default_chunks bytes)
-default_words (Some untyped_value) = None
-default_words (Some interface_value) = None
 
 -- A list of bytes: how many, and their number.
 pub record ByteList : Type 0 where

@@ -5,48 +5,18 @@ ghost use Rattle.capnp_model.specs.Coverage.{Grows};
 ghost use Rattle.capnp_model.specs.Segments.{words_at};
 ghost use Rattle.capnp_units.specs.Segments.{words_in};
 ghost use Rattle.capnp_wire.specs.Places.{place_view};
-ghost use Rattle.capnp_records.specs.NodeViews.{kind_of_field, value_of};
-ghost use Rattle.capnp_values.specs.Shown.{default_said};
+ghost use Rattle.capnp_records.specs.NodeViews.{value_of};
 ghost use Rattle.capnp_copy_from.specs.Defaults.{is_null_at};
 ghost use Rattle.capnp_builders.specs.Gets.{Begins};
-ghost use Rattle.capnp_dynamic_values.specs.Defaults.{default_chunks, default_words, default_bytes, BytesBegin, BytesNotBegun};
+ghost use Rattle.capnp_dynamic_values.specs.Defaults.{default_bytes, BytesBegin, BytesNotBegun};
 
 use capnp_copy::arena::BuilderArena;
 use capnp_copy::blobs::{set_data, set_text};
 use capnp_copy_from::defaults::write_default;
-use capnp_records::node::{FieldBody, Value};
+use capnp_records::node::Value;
 use capnp_units::errors::Result;
 use capnp_units::sizes::Word;
 use capnp_wire::place::{Place, word_at};
-
-/// The default that a slot's record says.
-pub fn default_of(body: &FieldBody) -> Option<&Value>
-    ensures { option_map value_of (option_copied result) ≡ default_said (kind_of_field body.now) }
-{
-    match body {
-        FieldBody::Slot { default, .. } => default.as_ref(),
-        FieldBody::Group { .. } => None,
-    }
-}
-
-/// The words of a default's bytes.
-fn words_of(bytes: &[u8]) -> &[Word]
-    ensures { result.now ≡ default_chunks bytes.now }
-{
-    let (words, _) = bytes.as_chunks::<8>();
-    words
-}
-
-/// The words of the default of a struct or a list, if there is one.
-pub fn default_words(default: Option<&Value>) -> Option<&[Word]>
-    ensures { option_copied result
-        ≡ default_words (option_map value_of (option_copied default.entry)) }
-{
-    match default {
-        Some(Value::Struct(bytes) | Value::List(bytes)) => Some(words_of(bytes)),
-        _ => None,
-    }
-}
 
 /// Whether the pointer at a place is null, or not there.
 fn is_null<A: BuilderArena>(arena: &A, slot: Place) -> bool

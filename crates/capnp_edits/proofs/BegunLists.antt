@@ -10,7 +10,6 @@ use Rattle.capnp_widening.specs.WidenedLists.{WidensList}
 use Rattle.capnp_builders.specs.Gets.{Begins, Gets}
 use Rattle.capnp_builders.proofs.lemmas.Begun.{Laws, made_then, listed_then}
 use Rattle.capnp_dynamic.specs.Inits.{struct_named}
-use Rattle.capnp_edits.specs.Written.{GrowsBehind}
 
 shaped : (g : Shape) (d k : ℕ) → d ≡ words_of_shape g → k ≡ pointers_of_shape g → (t : Tree) → as_structs d k t ≡ widened_list g t
 shaped (shape nid w p u fs) d k ed ek null = refl
@@ -50,6 +49,3 @@ module _ (l : Laws) (default : Option (List (List ℕ))) (s m : Segments) (p : P
 
   pub other_value : struct_named ty ≡ None → Gets default s m p (as_list around ty)
   other_value e = subst (λ (f : Tree → Tree). Gets default s m p f) (λ j t. as_it_is around ty e t j) (listed_then l default s m p x b)
-
-pub gets_grow : (default : Option (List (List ℕ))) (s u : Segments) (p : Place) (f : Tree → Tree) → Gets default s u p f → GrowsBehind s u p
-gets_grow default s u p f h n t own = (h n t own).2.changes.grows

@@ -1,8 +1,8 @@
--- The struct behind a pointer, and the group in a struct: a call written there is written at the pointer, and at the field.
-use Rattle.std.proofs.Common.{◌≡◌, ℕ, ◌+◌, ◌≤◌, true, List, [], ◌∷◌, Option, Some, Result, Ok, Err, OnOk, refl, sym, subst, ap, ◌∙◌, arith}
+-- The struct behind a pointer: a call written there is written at the pointer.
+use Rattle.std.proofs.Common.{◌≡◌, ℕ, ◌+◌, ◌≤◌, true, List, [], ◌∷◌, Option, Result, Ok, Err, OnOk, sym, subst, ap, ◌∙◌}
 use Rattle.capnp_model.specs.Segments.{Segments, Place}
 use Rattle.capnp_model.specs.Trees.{Tree, widened}
-use Rattle.capnp_model.specs.Schemas.{Ty, void, plain, text, blob, untyped, interface, struct, list, Shape, shape, words_of_shape, pointers_of_shape}
+use Rattle.capnp_model.specs.Schemas.{struct, words_of_shape, pointers_of_shape}
 use Rattle.capnp_model.specs.Calls.{Step, name, index, Verb}
 use Rattle.capnp_model.specs.Edits.{opened_tree}
 use Rattle.capnp_units.specs.declared.sizes.StructSize.{StructSize}
@@ -11,11 +11,8 @@ use Rattle.capnp_copy.specs.declared.fields.StructPlace.{StructPlace}
 use Rattle.capnp_builders.specs.Gets.{StructGot}
 use Rattle.capnp_queries.specs.Structs.{schema_around, shape_of_struct, id_of}
 use Rattle.capnp_queries.specs.declared.structs.StructSchema.{StructSchema}
-use Rattle.capnp_queries.specs.declared.fields.Field.{Field}
 use Rattle.capnp_dynamic.specs.Edits.{IsWide}
-use Rattle.capnp_dynamic.specs.Inits.{struct_named}
 use Rattle.capnp_calls.specs.Roots.{starts_with_name}
-use Rattle.capnp_calls.specs.Finding.{IsFieldGroup}
 use Rattle.capnp_calls.specs.Paths.{shape_edit}
 use Rattle.capnp_edits.specs.Written.{WritesValue, HoldsDefault}
 use Rattle.capnp_edits.specs.Elements.{IsDoneWithin, WritesWithin}
@@ -26,38 +23,6 @@ use Rattle.capnp_edits.proofs.lemmas.Outcomes.{whole_within, struct_done, struct
 pub on_ok : {X E : Type 0} (r : Result X E) (P Q : Type 0) → (P → Q) → OnOk r P → OnOk r Q
 on_ok (Ok x) P Q f h = f h
 on_ok (Err e) P Q f h = tt
-
--- ---- groups
-
-same_words : (g : Shape) → words_of_shape g ≡ words_of_shape g
-same_words (shape id w p u fs) = refl
-
-same_pointers : (g : Shape) → pointers_of_shape g ≡ pointers_of_shape g
-same_pointers (shape id w p u fs) = refl
-
-pub group_wide : (p : StructPlace) (f : Field) (g : StructSchema) → IsFieldGroup f g → IsWide p (shape_of_struct f.parent) → IsWide p (shape_of_struct g)
-group_wide p f g is wide =
-    let a = same_words (shape_of_struct g) in
-    let b = same_words (shape_of_struct f.parent) in
-    let d = same_pointers (shape_of_struct g) in
-    let e = same_pointers (shape_of_struct f.parent) in
-    let words = is.words in
-    let pointers = is.pointers in
-    let more = wide.words in
-    let others = wide.pointers in
-    record { words = omega (arith, a, b, words, more); pointers = omega (arith, d, e, pointers, others) }
-
--- ---- pointers
-
-pub type_is : (ty : Ty) (id : ℕ) → struct_named ty ≡ Some id → ty ≡ struct id
-type_is void id e = absurd (cc e)
-type_is (plain p) id e = absurd (cc e)
-type_is text id e = absurd (cc e)
-type_is blob id e = absurd (cc e)
-type_is untyped id e = absurd (cc e)
-type_is interface id e = absurd (cc e)
-type_is (struct j) id e = cc e
-type_is (list ty) id e = absurd (cc e)
 
 module _ (s u v : Segments) (p : Place) (schema : StructSchema) (default : Option (List (List ℕ))) (size : StructSize) (o : StructPlace) (words : size.data_words ≡ words_of_shape (shape_of_struct schema)) (pointers : size.pointers ≡ pointers_of_shape (shape_of_struct schema)) (got : StructGot default s u p size o) (d : Tree) (holds : HoldsDefault default d) (verb : Verb) where
   pub struct_written : (path : List Step) → starts_with_name path ≡ true → WritesWithin u v o schema path verb → WritesValue s v p (schema_around schema) (struct (id_of schema)) d path verb

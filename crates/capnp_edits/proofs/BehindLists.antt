@@ -15,8 +15,10 @@ use Rattle.capnp_footprints.proofs.lemmas.Levels.{owned_more, replaced_more}
 use Rattle.capnp_footprints.proofs.lemmas.Spans.{grows_then}
 use Rattle.capnp_copy.specs.Lists.{list_at}
 use Rattle.capnp_copy.specs.declared.init.ListPlace.{ListPlace}
-use Rattle.capnp_edits.specs.Written.{WritesValue, HoldsDefault, GrowsBehind}
-use Rattle.capnp_edits.specs.Elements.{ListBehind, WritesElement, GrowsIn}
+use Rattle.capnp_dynamic.specs.Grown.{GrowsBehind}
+use Rattle.capnp_dynamic_lists.specs.Lists.{GrowsIn}
+use Rattle.capnp_edits.specs.Written.{WritesValue, HoldsDefault}
+use Rattle.capnp_edits.specs.Elements.{ListBehind, WritesElement}
 use Rattle.capnp_edits.proofs.Begun.{begun_opened}
 use Rattle.capnp_edits.proofs.ListSteps.{element_done}
 

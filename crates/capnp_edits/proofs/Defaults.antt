@@ -1,8 +1,9 @@
--- The default that a node says of a pointer to a struct or a list is a segment, and the one of the field.
-use Rattle.std.proofs.Common.{◌≡◌, ℕ, true, List, Option, Some, None, refl, sym, subst, ◌∙◌}
+-- The words of the default that a node says of a pointer to a struct or a list hold the field's.
+use Rattle.std.proofs.Common.{◌≡◌, ℕ, true, Option, Some, None, refl, sym, subst, ◌∙◌}
 use Rattle.std.specs.Prelude.{option_map}
 use Rattle.capnp_model.specs.Trees.{Tree}
 use Rattle.capnp_model.specs.Schemas.{Ty, void, plain, text, blob, untyped, interface, struct, list, pointer_slot, default_or_null, Value, no_value, bits, text_bytes, blob_bytes, list_segment, struct_segment, untyped_value, interface_value, FieldKind, slot, group, Field as FieldNode, StructNode}
+use Rattle.capnp_model.specs.Decoding.{decode}
 use Rattle.capnp_model.specs.Accepted.{default_tree, is_default_of, opens_as, is_good_value}
 use Rattle.capnp_queries.specs.Structs.{nodes_around, id_of, IsRecordOf}
 use Rattle.capnp_queries.specs.Handles.{entry_of, IsFieldRecord}
@@ -13,7 +14,9 @@ use Rattle.capnp_calls.proofs.lemmas.FieldSlots.{kind_of_pointer, body_of_pointe
 use Rattle.capnp_records.proofs.lemmas.Segments.{segment_found}
 use Rattle.capnp_calls.proofs.lemmas.ReadableSteps.{struct_default_found}
 use Rattle.capnp_values.specs.Shown.{default_said}
-use Rattle.capnp_edits.specs.Written.{HoldsDefault, IsDefault, has_inside}
+use Rattle.capnp_dynamic.specs.Defaults.{default_words}
+use Rattle.capnp_dynamic.proofs.lemmas.NullMembers.{words_hold, some_tree}
+use Rattle.capnp_edits.specs.Written.{HoldsDefault, has_inside}
 
 -- the default of a list can be read
 list_default_found : (ty : Ty) (d : Option Value) → HasGoodDefault (list ty) d → IsSegment d
@@ -45,14 +48,26 @@ said_in : (k : FieldKind) → default_said k ≡ default_in k
 said_in (slot offset ty d) = refl
 said_in (group id) = refl
 
-module _ (f : Field) (r : FieldNode) (rec : IsFieldRecord f.parent f.index r) (n : StructNode) (holder : IsRecordOf (nodes_around f.parent) (id_of f.parent) n) (i : ℕ) (ty : Ty) (d : Option Tree) (body : option_map (λ e. e.body) (entry_of f) ≡ Some (pointer_slot i ty d)) where
-  pub default_is : (v : Option Value) → v ≡ default_said r.kind → IsDefault ty d v
-  default_is v said =
-      let kind = kind_of_pointer f r rec n holder i ty d body in
-      let same : Some (pointer_slot i ty (default_tree (default_in r.kind))) ≡ Some (pointer_slot i ty d) = sym (body_of_pointer f r rec n holder i ty d body) ∙ body in
-      let tree : default_tree (default_in r.kind) ≡ d = cc same in
-      subst (IsDefault ty d) (sym (said ∙ said_in r.kind)) (record { good = record { is = kind.default; reads = kind.good }; value = tree })
+-- a segment's words hold its value
+segment_held : (d : Option Value) → IsSegment d → HoldsDefault (default_words d) (default_or_null (default_tree d))
+segment_held None h = refl
+segment_held (Some no_value) h = refl
+segment_held (Some (bits q n)) h = refl
+segment_held (Some (text_bytes bs)) h = absurd h
+segment_held (Some (blob_bytes bs)) h = absurd h
+segment_held (Some (list_segment bs)) h = words_hold bs (default_or_null (decode bs)) (some_tree (decode bs) h)
+segment_held (Some (struct_segment bs)) h = words_hold bs (default_or_null (decode bs)) (some_tree (decode bs) h)
+segment_held (Some untyped_value) h = refl
+segment_held (Some interface_value) h = refl
 
--- what its words hold
-pub words_said : (ty : Ty) (d : Option Tree) (v : Option Value) → IsDefault ty d v → has_inside ty ≡ true → (ws : Option (List (List ℕ))) → (IsSegment v → HoldsDefault ws (default_or_null (default_tree v))) → HoldsDefault ws (default_or_null d)
-words_said ty d v h inside ws holds = subst (λ x. HoldsDefault ws (default_or_null x)) h.value (holds (default_found ty v inside h.good))
+-- the words that a node says hold the field's default
+module _ (f : Field) (r : FieldNode) (rec : IsFieldRecord f.parent f.index r) (n : StructNode) (holder : IsRecordOf (nodes_around f.parent) (id_of f.parent) n) (i : ℕ) (ty : Ty) (d : Option Tree) (body : option_map (λ e. e.body) (entry_of f) ≡ Some (pointer_slot i ty d)) where
+  pub default_held : (v : Option Value) → v ≡ default_said r.kind → has_inside ty ≡ true → HoldsDefault (default_words v) (default_or_null d)
+  default_held v said inside =
+      let kind = kind_of_pointer f r rec n holder i ty d body in
+      let own = default_in r.kind in
+      let same : Some (pointer_slot i ty (default_tree own)) ≡ Some (pointer_slot i ty d) = sym (body_of_pointer f r rec n holder i ty d body) ∙ body in
+      let tree : default_tree own ≡ d = cc same in
+      let good : HasGoodDefault ty own = record { is = kind.default; reads = kind.good } in
+      let held : HoldsDefault (default_words own) (default_or_null d) = subst (λ (t : Option Tree). HoldsDefault (default_words own) (default_or_null t)) tree (segment_held own (default_found ty own inside good)) in
+      subst (λ (x : Option Value). HoldsDefault (default_words x) (default_or_null d)) (sym (said ∙ said_in r.kind)) held

@@ -20,14 +20,15 @@ use Rattle.capnp_queries.specs.Fields.{union_in}
 use Rattle.capnp_queries.specs.Structs.{schema_around, shape_of_struct, id_of}
 use Rattle.capnp_queries.specs.declared.structs.StructSchema.{StructSchema}
 use Rattle.capnp_dynamic.specs.Edits.{IsWide}
-use Rattle.capnp_dynamic_lists.specs.Lists.{IsListOf, HasSizes}
+use Rattle.capnp_dynamic_lists.specs.Lists.{IsListOf, HasSizes, GrowsIn}
 use Rattle.capnp_dynamic_lists.specs.Places.{IsStructAt}
 use Rattle.capnp_dynamic_lists.specs.Parts.{cell_in, IsStructOf, IsPointerOf, on_child}
 use Rattle.capnp_calls.specs.Sizes.{IsDone}
 use Rattle.capnp_calls.specs.Paths.{shape_edit}
 use Rattle.capnp_model.proofs.lemmas.Paths.{read_child-is}
-use Rattle.capnp_edits.specs.Written.{WritesValue, value_outcome, value_edit, GrowsAround, GrowsBehind}
-use Rattle.capnp_edits.specs.Elements.{IsDoneWithin, WritesWithin, IsElementDone, WritesElement, GrowsIn}
+use Rattle.capnp_dynamic.specs.Grown.{GrowsAround, GrowsBehind}
+use Rattle.capnp_edits.specs.Written.{WritesValue, value_outcome, value_edit}
+use Rattle.capnp_edits.specs.Elements.{IsDoneWithin, WritesWithin, IsElementDone, WritesElement}
 use Rattle.capnp_edits.proofs.Begun.{null_opened}
 use Rattle.capnp_edits.proofs.lemmas.Outcomes.{unmapped}
 

@@ -24,6 +24,7 @@ use Rattle.capnp_queries.specs.Handles.{entry_of}
 use Rattle.capnp_queries.specs.declared.fields.Field.{Field}
 use Rattle.capnp_copy.specs.declared.fields.StructPlace.{StructPlace}
 use Rattle.capnp_dynamic.specs.GroupSets.{IsSource, WritesAsFar, entry_writes, copied_field}
+use Rattle.capnp_dynamic.proofs.lemmas.GroupFields.{some_same}
 use Rattle.capnp_dynamic.proofs.lemmas.FieldWrites.{group_writes_are}
 use Rattle.capnp_edits.specs.Written.{WritesField, IsDoneAt, edit_at}
 use Rattle.capnp_edits.proofs.Lifting.{cell, edits_alike}
@@ -79,9 +80,6 @@ root_behind law p s left place segs level t tree f found v read =
 abbrev pub SetsByWrites : Type 0
 SetsByWrites = (s : Schema) (union member : Option ℕ) (g : Shape) (words : ℕ) (from c : Cell) → edit_field s [] (set_to (message (structure words from.section from.kids))) union member (group_slot g) c ≡ after_writes (group_writes s g (mark union member) from) c
 
-same_some : {A : Type 0} {x y : A} → ◌≡◌ {A = Option A} (Some x) (Some y) → x ≡ y
-same_some h = cc h
-
 module _ (law : SetsByWrites) (from : Cell) (t : Tree) (words : ℕ) (is : message_root t ≡ structure words from.section from.kids) where
   -- null counts as the empty struct
   rooted : (s : Schema) (union member : Option ℕ) (g : Shape) (c : Cell) → edit_field s [] (set_to (message t)) union member (group_slot g) c ≡ edit_field s [] (set_to (message (structure words from.section from.kids))) union member (group_slot g) c
@@ -95,7 +93,7 @@ module _ (law : SetsByWrites) (from : Cell) (t : Tree) (words : ℕ) (is : messa
 
   entry_set : (f : Field) (g : Shape) (o : Option Entry) → option_map (λ e. e.body) o ≡ Some (group_slot g) → (c : Cell) → after_writes (entry_writes (schema_around f.parent) (union_in (shape_of_struct f.parent)) o from) c ≡ edit_at f [] (set_to (message t)) o c
   entry_set f g None body c = absurd (cc body)
-  entry_set f g (Some e) body c = by_writes (schema_around f.parent) (union_in (shape_of_struct f.parent)) g e (same_some body) c
+  entry_set f g (Some e) body c = by_writes (schema_around f.parent) (union_in (shape_of_struct f.parent)) g e (some_same body) c
 
   pub group_set : (f : Field) (g : Shape) → option_map (λ e. e.body) (entry_of f) ≡ Some (group_slot g) → (s u : Segments) (p : StructPlace) (r : Result ⊤ Error) → WritesAsFar s u p (copied_field f from) r → OnOk r (WritesField s u p f [] (set_to (message t)))
   group_set f g body s u p (Ok x) h =

@@ -20,7 +20,7 @@ use Rattle.capnp_copy.specs.declared.fields.StructPlace.{StructPlace}
 use Rattle.capnp_copy_from.specs.Copies.{StructSource}
 use Rattle.capnp_copy_from.specs.Contents.{CopiesContent, TakesContent}
 use Rattle.capnp_dynamic.proofs.lemmas.Deeper.{object_owned_more}
-use Rattle.capnp_edits.specs.Written.{GrowsAround}
+use Rattle.capnp_dynamic.specs.Grown.{GrowsAround}
 use Rattle.capnp_edits.specs.Elements.{TakesTree}
 
 -- ---- what the root holds

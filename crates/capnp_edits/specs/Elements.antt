@@ -1,12 +1,11 @@
 -- Calls along paths through lists, written where the lists and their elements lie. (Encoding, "Lists")
-use Rattle.std.specs.Prelude.{◌≡◌, ℕ, ◌+◌, ◌*◌, ◌%◌, ◌^◌, ◌<◌, List, ◌∷◌, Option, Some, None}
+use Rattle.std.specs.Prelude.{ℕ, ◌+◌, ◌*◌, ◌%◌, ◌^◌, ◌<◌, List, Option, Some, None}
 use Rattle.capnp_model.specs.Segments.{Segments}
 use Rattle.capnp_model.specs.Trees.{Tree, Trees, structure, resized}
-use Rattle.capnp_model.specs.Coverage.{Grows}
 use Rattle.capnp_model.specs.Schemas.{Ty, Shape, Schema}
 use Rattle.capnp_model.specs.Readings.{Extent, shape_record, read_child, body_of, element_as}
 use Rattle.capnp_model.specs.Printing.{fields_in}
-use Rattle.capnp_model.specs.Calls.{Step, index, Verb}
+use Rattle.capnp_model.specs.Calls.{Step, Verb}
 use Rattle.capnp_model.specs.Steps.{step_path, step_field, step_element}
 use Rattle.capnp_model.specs.Edits.{Cell, as_list, edit_list, edit_element}
 use Rattle.capnp_object.specs.declared.place.Place as code
@@ -61,10 +60,6 @@ WritesElement s u o around ty k path verb =
     (n : ℕ) (t : Tree) → IsListOf o t → OwnsObject n s (list_at o) t → IsElementDone around ty path verb (cell_in t k)
     → (more : ℕ) × ReplacesObject (n + more) s u (list_at o) (edit_list (edit_element around path verb ty) k t)
 
--- Whatever elements it has: each segment of the message is there later too, and no shorter.
-abbrev pub GrowsIn : Segments → Segments → ListPlace → Type 0
-GrowsIn s u o = (n : ℕ) (t : Tree) → IsListOf o t → OwnsObject n s (list_at o) t → Grows s u
-
 -- ---- lists that are got
 
 -- A list is there, and whatever value it has, its place tells of.
@@ -86,10 +81,3 @@ TakesTree s u p (structure w section kids) =
     (n own : ℕ) (old : Trees) → OwnsObject n s (struct_at p) (structure p.data_words own old)
     → ReplacesObject (n + 65) s u (struct_at p) (structure p.data_words (section % 2 ^ (64 * p.data_words)) (resized p.pointers kids))
 TakesTree s u p t = Unit {0}
-
--- ---- paths
-
--- A path begins with an index before others, or with none.
-abbrev pub BeginsWithIndex : List Step → Option (ℕ × List Step) → Type 0
-BeginsWithIndex path None = Unit {0}
-BeginsWithIndex path (Some p) = path ≡ index p.0 ∷ p.1

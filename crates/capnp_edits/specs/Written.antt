@@ -3,9 +3,7 @@ use Rattle.std.specs.Prelude.{◌≡◌, ℕ, ◌+◌, Bool, true, false, List, 
 use Rattle.capnp_model.specs.Kinds.{WrongStep}
 use Rattle.capnp_model.specs.Segments.{Segments, Place}
 use Rattle.capnp_model.specs.Trees.{Tree, null, Trees, structure}
-use Rattle.capnp_model.specs.Coverage.{Grows}
-use Rattle.capnp_model.specs.Schemas.{Ty, void, plain, text, blob, untyped, interface, struct, list, Value, Shape, group_slot, Schema}
-use Rattle.capnp_model.specs.Accepted.{default_tree}
+use Rattle.capnp_model.specs.Schemas.{Ty, void, plain, text, blob, untyped, interface, struct, list, Shape, group_slot, Schema}
 use Rattle.capnp_model.specs.Readings.{Reading, read}
 use Rattle.capnp_model.specs.Calls.{Step, Verb}
 use Rattle.capnp_model.specs.Steps.{Outcome, refused, opened, through_value, step_field, step_element}
@@ -21,7 +19,6 @@ use Rattle.capnp_queries.specs.declared.structs.StructSchema.{StructSchema}
 use Rattle.capnp_queries.specs.declared.fields.Field.{Field}
 use Rattle.capnp_dynamic.specs.GroupSets as dynamic
 use Rattle.capnp_calls.specs.Sizes.{IsDone}
-use Rattle.capnp_calls.specs.Slots.{HasGoodDefault}
 use Rattle.capnp_calls.specs.Paths.{field_outcome, shape_outcome, shape_edit}
 
 -- Whatever data and children the struct has for which the test holds: they become what the edit makes of them, where some levels of pointers may be new, and nothing else changes.
@@ -29,14 +26,6 @@ abbrev pub EditsWhere : (Cell → Type 0) → Segments → Segments → StructPl
 EditsWhere Holds s u p f =
     (n section : ℕ) (kids : Trees) → OwnsObject n s (struct_at p) (structure p.data_words section kids) → Holds (record { section = section; kids = kids })
     → let d = f (record { section = section; kids = kids }) in (more : ℕ) × ReplacesObject (n + more) s u (struct_at p) (structure p.data_words d.section d.kids)
-
--- Whatever struct is owned there: each segment of the message is there later too, and no shorter.
-abbrev pub GrowsAround : Segments → Segments → StructPlace → Type 0
-GrowsAround s u p = (n section : ℕ) (kids : Trees) → OwnsObject n s (struct_at p) (structure p.data_words section kids) → Grows s u
-
--- Whatever value is owned there, the same.
-abbrev pub GrowsBehind : Segments → Segments → Place → Type 0
-GrowsBehind s u p = (n : ℕ) (t : Tree) → Owns n s p t → Grows s u
 
 -- ---- at a struct or a group
 
@@ -86,11 +75,6 @@ WritesValue s u p around ty d path verb =
 abbrev pub HoldsDefault : Option (List (List ℕ)) → Tree → Type 0
 HoldsDefault None d = d ≡ null
 HoldsDefault (Some words) d = dynamic.HoldsDefault words d
-
--- The default that a node says of a pointer of the type is a good one, and has this value, if there is one.
-pub record IsDefault (ty : Ty) (d : Option Tree) (said : Option Value) : Type 0 where
-  pub good : HasGoodDefault ty said
-  pub value : default_tree said ≡ d
 
 -- A path can go on inside a value of the type.
 abbrev pub has_inside : Ty → Bool

@@ -7,7 +7,7 @@ ghost use Rattle.capnp_model.specs.Trees.{Tree};
 ghost use Rattle.capnp_units.specs.Segments.{words_in};
 ghost use Rattle.capnp_copy_from.specs.Defaults.{default_segments};
 ghost use Rattle.capnp_dynamic.specs.Edits.{IsThere};
-ghost use Rattle.capnp_edits.specs.Written.{GrowsAround};
+ghost use Rattle.capnp_dynamic.specs.Grown.{GrowsAround};
 ghost use Rattle.capnp_edits.specs.Elements.{TakesTree};
 
 use capnp_copy::arena::BuilderArena;

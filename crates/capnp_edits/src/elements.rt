@@ -1,9 +1,8 @@
 //! Calls written at the elements of lists where their paths end.
-ghost use Rattle.std.specs.Prelude.{ℕ, ◌≡◌, ◌<◌, ◌^◌, true, [], length, map, OnOk};
+ghost use Rattle.std.specs.Prelude.{ℕ, ◌≡◌, ◌<◌, true, [], OnOk};
 ghost use Rattle.capnp_model.specs.Accepted.{schema_of};
 ghost use Rattle.capnp_model.specs.Calls.{set_to, message};
 ghost use Rattle.capnp_model.specs.Coverage.{Grows};
-ghost use Rattle.capnp_model.specs.Edits.{put_bits};
 ghost use Rattle.capnp_model.specs.Schemas.{Schema, struct};
 ghost use Rattle.capnp_units.specs.Segments.{words_in};
 ghost use Rattle.capnp_units.specs.Sizes.{size_number};
@@ -11,23 +10,20 @@ ghost use Rattle.capnp_records.specs.Sets.{nodes_of};
 ghost use Rattle.capnp_call_messages.specs.Messages.{tree_of_message};
 ghost use Rattle.capnp_queries.specs.Types.{ty_of, is_type_of};
 ghost use Rattle.capnp_calls.specs.CallViews.{action_view, slot_value_view};
-ghost use Rattle.capnp_dynamic_lists.specs.Lists.{IsListThere, HasRoom, EditsElement};
+ghost use Rattle.capnp_dynamic_lists.specs.Lists.{IsListThere, GrowsIn};
 ghost use Rattle.capnp_dynamic_lists.specs.Elements.{Holds, HoldsStructs};
-ghost use Rattle.capnp_edits.specs.Elements.{WritesElement, GrowsIn};
+ghost use Rattle.capnp_edits.specs.Elements.{WritesElement};
 
 use crate::contents::copy_content;
-use crate::lists::plain_type;
 use crate::messages::put_message;
 use crate::values::bits_for;
 use capnp_call_messages::message::MessageValue;
 use capnp_calls::{Action, SlotValue};
 use capnp_copy::arena::BuilderArena;
-use capnp_copy::elements::set_element;
-use capnp_copy::fields::set_bits;
 use capnp_copy::init::ListPlace;
 use capnp_dynamic::roots::words_of;
 use capnp_dynamic::slots::width_of;
-use capnp_dynamic_lists::elements::set_flat;
+use capnp_dynamic_lists::elements::{plain_type, set_flat, set_front};
 use capnp_dynamic_lists::init::init_element;
 use capnp_dynamic_lists::laws::{elements_as_pointers, elements_as_structs};
 use capnp_dynamic_lists::places::{element_pointer, element_struct};
@@ -36,31 +32,8 @@ use capnp_records::set::SchemaSet;
 use capnp_text::text;
 use capnp_units::errors::{Error, Result};
 use capnp_units::kinds::ErrorKind;
-use capnp_units::sizes::ElementSize;
 use capnp_values::dynamic_value::Reader;
 use capnp_wire::arena::NullArena;
-
-/// Writes a number into the bits at the front of an element.
-fn set_front<A: BuilderArena>(arena: &mut A, list: ListPlace, index: u32, width: u32, value: u64)
-    requires there { IsListThere (words_in (A.segments arena.old)) list }
-    requires index { index < list.count }
-    requires room { HasRoom list width }
-    requires some { 0 < width }
-    requires fits { value < 2 ^ width }
-    ensures edits { EditsElement (words_in (A.segments arena.old)) (words_in (A.segments arena.new))
-        list (λ words pointers. put_bits 0 width value) index }
-    ensures sizes { map length (words_in (A.segments arena.new))
-        ≡ map length (words_in (A.segments arena.old)) }
-    ensures books { A.books arena.new ≡ A.books arena.old }
-{
-    elements_as_structs();
-    match list.size {
-        ElementSize::InlineComposite => {
-            set_bits(arena, element_struct(list, index), 0, width, value);
-        }
-        _ => set_element(arena, list, index, width, value),
-    }
-}
 
 /// Sets an element to a plain value of its type, or a Void one to any. Other elements, and values out of range, are refused with `TypeMismatch`.
 fn set_plain<A: BuilderArena>(

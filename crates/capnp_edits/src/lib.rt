@@ -7,7 +7,5 @@ mod elements;
 mod end;
 mod lists;
 mod messages;
-mod names;
 pub mod path;
-mod schemas;
 pub mod values;

@@ -8,7 +8,6 @@ ghost use Rattle.capnp_queries.specs.Handles.{plain_of};
 ghost use Rattle.capnp_queries.specs.Structs.{shape_of_struct};
 ghost use Rattle.capnp_calls.specs.CallViews.{slot_value_view};
 ghost use Rattle.capnp_calls.specs.Contents.{bits_content};
-ghost use Rattle.capnp_calls.specs.Actions.{is_in_range};
 ghost use Rattle.capnp_dynamic.specs.Edits.{IsThere, IsWide};
 ghost use Rattle.capnp_edits.specs.Written.{WritesField};
 

@@ -1,7 +1,7 @@
 //! Paths by way of structs and of elements of lists of structs.
 ghost use Rattle.std.specs.Prelude.{◌≡◌, ◌<◌, ◌≤◌, [], ◌∷◌, map, length, IfOk, IfErr, IfSome};
 ghost use Rattle.capnp_units.specs.declared.kinds.ErrorKind.{ErrorKind};
-ghost use Rattle.capnp_model.specs.Calls.{name, index, value_content, object};
+ghost use Rattle.capnp_model.specs.Calls.{name, value_content, object};
 ghost use Rattle.capnp_queries.specs.Handles.{entry_of};
 ghost use Rattle.capnp_queries.specs.Structs.{nodes_around, schema_around, fields_of_struct, id_of};
 ghost use Rattle.capnp_queries.specs.Types.{ty_of};
@@ -18,6 +18,7 @@ use capnp_queries::structs::StructSchema;
 use capnp_splice::blob::Blob;
 use capnp_splice::splice::{Hop, Put, Splice};
 use capnp_units::errors::Result;
+use capnp_ways::steps::{first_index, first_name};
 use std::alloc::Global;
 
 /// The text or data that a slot of a type is set to by a value; none where the type is neither, the value isn't of it, or it is too long. `OutOfMemory`: the memory for its words was refused.
@@ -83,30 +84,6 @@ struct Onward<'a, 'p> {
     schema: StructSchema<'a>,
     /// The rest of the path.
     rest: &'p [Step],
-}
-
-/// The name with which a path begins, and the steps behind it; none where it doesn't begin with a name.
-fn first_name(path: &[Step]) -> Option<(&str, &[Step])>
-    ensures split { IfSome result (λ p.
-        map step_view path.now ≡ name p.0.now ∷ map step_view p.1.now) }
-    ensures shorter { IfSome result (λ p. length p.1.now < length path.now) }
-{
-    match path {
-        [Step::Name(name), rest @ ..] => Some((name.as_str(), rest)),
-        _ => None,
-    }
-}
-
-/// The index with which a path begins, and the steps behind it; none where it doesn't begin with an index.
-fn first_index(path: &[Step]) -> Option<(u32, &[Step])>
-    ensures split { IfSome result (λ p.
-        map step_view path.now ≡ index p.0 ∷ map step_view p.1.now) }
-    ensures shorter { IfSome result (λ p. length p.1.now < length path.now) }
-{
-    match path {
-        [Step::Index(index), rest @ ..] => Some((*index, rest)),
-        _ => None,
-    }
 }
 
 /// The struct behind a field, or the element of a list of structs with whose index a path begins; none where the field is a union's member, or is of another type.

@@ -1,5 +1,6 @@
 mod Records
 mod Sorts
+mod Numbers
 mod Steps
 mod Endings
 mod Typed

@@ -15,6 +15,7 @@ use Rattle.capnp_values.specs.Shown.{Shown, a_number, an_enum, a_text, a_blob, a
 use Rattle.capnp_values.specs.Standing.{IsReading, Answers, or_default, filled}
 use Rattle.capnp_replies.specs.Parts.{IsSlot}
 use Rattle.capnp_replies.specs.Faults.{refused_if, refusal_of}
+use Rattle.capnp_replies.proofs.Records.{entry_same}
 
 abbrev is_fault : Reading → Bool
 is_fault inactive = false
@@ -198,9 +199,6 @@ module _ (s : Schema) (members : Bool) (x : Reading) (live : is_live x ≡ true)
   kind_fault (slot o ty d) is h = slot_fault o (type_of ty) d h
   kind_fault (group id) is h = absurd is
 
-same_entry : (o : Option Entry) (x y : Entry) → o ≡ Some x → o ≡ Some y → x ≡ y
-same_entry o x y e f = cc
-
 same_ty : (o : Option Entry) (e : Entry) (ty : Ty) → o ≡ Some e → option_map (λ x. type_of_body x.body) o ≡ Some ty → ty ≡ type_of_body e.body
 same_ty o e ty at there = let both : ◌≡◌ {A = Option Ty} (Some (type_of_body e.body)) (Some ty) = ap (option_map (λ (x : Entry). type_of_body x.body)) (sym at) ∙ there in cc
 
@@ -212,7 +210,7 @@ seen_err view (Err e) = refl
 pub slot_refused : (s : Schema) (said : FieldKind) (members : Bool) (x : Reading) (q : Result Shown Kind) (there : Bool) (ty : Ty) (o : Option Entry) (e whole : Entry) (told : Option Kind) → o ≡ Some e → o ≡ Some whole → whole.body ≡ field_body s.shape_of said
     → option_map (λ y. type_of_body y.body) o ≡ Some ty → there ≡ is_there x → is_live x ≡ true → Answers s q (filled s (field_body s.shape_of said) x) → IsSlot e.body → told ≡ refusal_of ty members there (is_err q) → told ≡ body_fault members e.body x
 slot_refused s said members x q there ty o e whole told at at' body type has live shows is h =
-    let b : e.body ≡ field_body s.shape_of said = ap (λ (y : Entry). y.body) (same_entry o e whole at at') ∙ body in
+    let b : e.body ≡ field_body s.shape_of said = ap (λ (y : Entry). y.body) (entry_same o e whole at at') ∙ body in
     let t : ty ≡ type_of_body (field_body s.shape_of said) = same_ty o e ty at type ∙ ap type_of_body b in
     h ∙ ap (λ (y : Ty). refusal_of y members there (is_err q)) t ∙ ap (λ (y : Bool). refusal_of (type_of_body (field_body s.shape_of said)) members y (is_err q)) has
     ∙ kind_fault s members x live q said (subst IsSlot b is) shows ∙ ap (λ (y : Body). body_fault members y x) (sym b)

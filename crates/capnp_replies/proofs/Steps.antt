@@ -24,7 +24,8 @@ use Rattle.capnp_calls.specs.Texts.{as_it_is}
 use Rattle.capnp_calls.specs.Roots.{starts_with_name}
 use Rattle.capnp_calls.proofs.lemmas.OneStep.{reply_of-map}
 use Rattle.capnp_calls.proofs.lemmas.NamedFields.{not_found}
-use Rattle.capnp_replies.specs.Parts.{record_reply, items_reply, RepliesAtStruct, RepliesAtList, RepliesBehind, OfField, IsFieldReply, starts_with_index}
+use Rattle.capnp_ways.specs.Steps.{starts_with_index}
+use Rattle.capnp_replies.specs.Parts.{record_reply, items_reply, RepliesAtStruct, RepliesAtList, RepliesBehind, OfField, IsFieldReply}
 use Rattle.capnp_replies.proofs.Records.{record_is, shape_is, field_of_record, not_live}
 use Rattle.capnp_replies.proofs.Sorts.{IsSorted, slot_sorted}
 

@@ -1,5 +1,5 @@
 -- What the rest of a path replies at a part of a struct that is read. (Encoding, "Structs" and "Lists")
-use Rattle.std.specs.Prelude.{ℕ, ◌≡◌, Bool, true, false, Option, Some, None, option_map, List, ◌∷◌, ⊤}
+use Rattle.std.specs.Prelude.{ℕ, ◌≡◌, Bool, Option, Some, None, option_map, List, ◌∷◌, ⊤}
 use Rattle.capnp_model.specs.Kinds.{WrongStep}
 use Rattle.capnp_model.specs.Printing.{fields_in}
 use Rattle.capnp_model.specs.Schemas.{Ty, Body, void_slot, plain_slot, pointer_slot, group_slot, Fields, Shape, Schema}
@@ -66,16 +66,6 @@ RepliesAtElement s ty l i path verb answer = (rs : Readings) → AreItems s ty l
 -- It is told whether the reading is live: of no union member, or of the active one.
 abbrev pub IsLive : Bool → Schema → Body → Reading → Type 0
 IsLive answer s body r = answer ≡ is_live r
-
--- The first step is an index.
-abbrev pub starts_with_index : List Step → Bool
-starts_with_index (index i ∷ path) = true
-starts_with_index path = false
-
--- A path begins with an index before others, or with none.
-abbrev pub BeginsAt : List Step → Option (ℕ × List Step) → Type 0
-BeginsAt path None = starts_with_index path ≡ false
-BeginsAt path (Some p) = path ≡ index p.0 ∷ p.1
 
 -- The same of a field, whatever the reading.
 abbrev pub OfBody : Field → (Schema → Body → Reading → Type 0) → Type 0

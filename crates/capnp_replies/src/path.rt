@@ -1,5 +1,5 @@
 //! Replies along the path of a call.
-ghost use Rattle.std.specs.Prelude.{◌≡◌, ◌<◌, IfOk, IfErr, IfSome, length, map, option_map};
+ghost use Rattle.std.specs.Prelude.{◌≡◌, ◌<◌, IfOk, IfErr, map};
 ghost use Rattle.capnp_units.specs.declared.kinds.ErrorKind.{ErrorKind};
 ghost use Rattle.capnp_records.specs.Sets.{nodes_of};
 ghost use Rattle.capnp_model.specs.Accepted.{schema_of};
@@ -10,7 +10,7 @@ ghost use Rattle.capnp_values.specs.Sources.{struct_seen, list_seen};
 ghost use Rattle.capnp_calls.specs.CallViews.{step_view, action_view};
 ghost use Rattle.capnp_calls.specs.Replies.{reply_view};
 ghost use Rattle.capnp_ways.specs.Ways.{IsWay};
-ghost use Rattle.capnp_replies.specs.Parts.{IsWayIn, BeginsAt, RepliesBehind, RepliesAtStruct, RepliesAtList, RepliesAtElement, OfField, IsFieldReply};
+ghost use Rattle.capnp_replies.specs.Parts.{IsWayIn, RepliesBehind, RepliesAtStruct, RepliesAtList, RepliesAtElement, OfField, IsFieldReply};
 
 use crate::active::is_active;
 use crate::ends::{element_end, field_end};
@@ -22,23 +22,10 @@ use capnp_units::kinds::ErrorKind;
 use capnp_values::laws::{elements_are_read, records_are_read};
 use capnp_values::{dynamic_list, dynamic_struct, dynamic_value};
 use capnp_ways::find::{find_field, rest_of_way};
-use capnp_ways::steps::first_name;
+use capnp_ways::steps::{first_index, first_name};
 use capnp_ways::ways::FoundField;
 use capnp_wire::arena::ReaderArena;
 use std::alloc::Global;
-
-/// The index with which a path begins, and the steps behind it; none where it doesn't begin with an index.
-fn first_index(path: &[Step]) -> Option<(u32, &[Step])>
-    ensures split { BeginsAt (map step_view path.now)
-        (option_map (λ p. (p.0, map step_view p.1.now)) result) }
-    ensures shorter { IfSome result (λ p. length p.1.now < length path.now) }
-{
-    match path {
-        [Step::Index(index), rest @ ..] => Some((*index, rest)),
-        [Step::Name(_), ..] => None,
-        [] => None,
-    }
-}
 
 /// What is replied along a path at a struct or a group.
 #[cycle(path)]

@@ -1,7 +1,7 @@
 //! What values are refused by in slots and elements.
 ghost use Rattle.std.specs.Prelude.{◌≡◌, ◌≤◌, ◌<◌};
 ghost use Rattle.capnp_model.specs.Schemas.{bool, int, uint, «enum», text, blob, untyped, struct, list};
-ghost use Rattle.capnp_model.specs.Calls.{whole_number, plain_content, value_content};
+ghost use Rattle.capnp_model.specs.Calls.{plain_content, value_content};
 ghost use Rattle.capnp_queries.specs.Types.{ty_of};
 ghost use Rattle.capnp_calls.specs.CallViews.{slot_value_view};
 ghost use Rattle.capnp_calls.specs.Replies.{reply_view, content_reply};
@@ -9,6 +9,7 @@ ghost use Rattle.capnp_replies.specs.Writes.{taken};
 
 use crate::messages::{is_list, is_struct};
 use capnp_calls::SlotValue;
+use capnp_calls::number::{signed_bits, unsigned_bits};
 use capnp_calls::reply::Reply;
 use capnp_queries::introspect::{Type, TypeVariant};
 use capnp_units::kinds::ErrorKind;
@@ -24,28 +25,6 @@ fn matching(fits: bool) -> Reply
     }
 }
 
-/// Whether a number is from 0 to 2^width - 1.
-fn is_unsigned(number: i128, width: u32) -> bool
-    requires { width ≤ 64 }
-    ensures { taken result ≡ content_reply (plain_content (uint width) (whole_number number)) }
-{
-    number >= 0 && number < (1i128 << width)
-}
-
-/// Whether a number is from -2^(width - 1) to 2^(width - 1) - 1.
-fn is_signed(number: i128, width: u32) -> bool
-    requires some { 0 < width }
-    requires most { width ≤ 64 }
-    ensures { taken result ≡ content_reply (plain_content (int width) (whole_number number)) }
-{
-    let half = 1i128 << (width - 1);
-    if number < 0 {
-        -(number + 1) < half
-    } else {
-        number < half
-    }
-}
-
 /// Whether a value is a number without a sign of so many bits.
 fn fits_unsigned(value: &SlotValue, width: u32) -> bool
     requires { width ≤ 64 }
@@ -53,7 +32,7 @@ fn fits_unsigned(value: &SlotValue, width: u32) -> bool
         ≡ content_reply (plain_content (uint width) (slot_value_view value.now)) }
 {
     match value {
-        SlotValue::Number(number) => is_unsigned(*number, width),
+        SlotValue::Number(number) => unsigned_bits(*number, width).is_some(),
         SlotValue::Bool(_)
         | SlotValue::Enum(_)
         | SlotValue::Text(_)
@@ -69,7 +48,7 @@ fn fits_signed(value: &SlotValue, width: u32) -> bool
     ensures { taken result ≡ content_reply (plain_content (int width) (slot_value_view value.now)) }
 {
     match value {
-        SlotValue::Number(number) => is_signed(*number, width),
+        SlotValue::Number(number) => signed_bits(*number, width).is_some(),
         SlotValue::Bool(_)
         | SlotValue::Enum(_)
         | SlotValue::Text(_)

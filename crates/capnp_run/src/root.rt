@@ -4,8 +4,7 @@ ghost use Rattle.std.specs.Option.{is_some};
 ghost use Rattle.capnp_model.specs.Segments.{root, words_at};
 ghost use Rattle.capnp_units.specs.Segments.{words_in};
 ghost use Rattle.capnp_copy.specs.Deep.{IsDeep};
-ghost use Rattle.capnp_queries.specs.Structs.{schema_around, shape_of_struct};
-ghost use Rattle.capnp_model.specs.Schemas.{words_of_shape, pointers_of_shape};
+ghost use Rattle.capnp_queries.specs.Structs.{schema_around};
 ghost use Rattle.capnp_calls.specs.CallViews.{call_view};
 ghost use Rattle.capnp_calls.specs.Replies.{reply_view};
 ghost use Rattle.capnp_calls.specs.Roots.{IsRoot};
@@ -18,32 +17,14 @@ use crate::run::run_at;
 use capnp_calls::Call;
 use capnp_calls::reply::Reply;
 use capnp_copy::arena::BuilderArena;
+use capnp_dynamic::init::struct_size;
+use capnp_dynamic::roots::ROOT;
 use capnp_footprints::laws::{changes_of_values, objects_of_pointers};
 use capnp_footprints::laws_of_depths::{changes_with_fewer_levels, depths_of_owned_values};
 use capnp_queries::structs::StructSchema;
-use capnp_units::sizes::StructSize;
 use capnp_ways::ways::Ways;
 use capnp_widening::structs::get_struct;
-use capnp_wire::place::Place;
 use std::alloc::Global;
-
-/// Where the root pointer of a message stands.
-const ROOT: Place = Place {
-    segment: 0,
-    position: 0,
-};
-
-/// The two sizes of a schema's structs.
-fn struct_size(schema: StructSchema<'_>) -> StructSize
-    ensures words { result.data_words ≡ words_of_shape (shape_of_struct schema.entry) }
-    ensures pointers { result.pointers ≡ pointers_of_shape (shape_of_struct schema.entry) }
-{
-    let record = schema.record();
-    StructSize {
-        data_words: record.data_word_count,
-        pointers: record.pointer_count,
-    }
-}
 
 /// Answers calls in turn at the root of a message, as `run_at` does: the root is got as a struct of at least its schema's two sizes, a null one as the empty struct.
 ///

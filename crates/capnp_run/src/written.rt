@@ -11,6 +11,7 @@ ghost use Rattle.capnp_run.specs.Written.{HasWords};
 use capnp_canonical::check::is_canonical_message;
 use capnp_canonical::copy::write_canonical;
 use capnp_canonical::laws::copies_as_walks;
+use capnp_dynamic::roots::ROOT;
 use capnp_footprints::laws_of_canonical_words::lengths_of_canonical_words;
 use capnp_model::laws::{
     canonical_tests, values_as_a_relation, values_on_walks, values_that_are_read,
@@ -18,13 +19,6 @@ use capnp_model::laws::{
 use capnp_units::limiter::ReadLimiter;
 use capnp_units::sizes::Word;
 use capnp_wire::arena::ReaderArena;
-use capnp_wire::place::Place;
-
-/// Where the root pointer of a message stands.
-const ROOT: Place = Place {
-    segment: 0,
-    position: 0,
-};
 
 /// Where the canonical words of a message's value are.
 #[derive(Clone, Copy, Debug, PartialEq, Eq)]

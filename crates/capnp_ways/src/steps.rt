@@ -1,8 +1,8 @@
 //! The steps with which paths begin.
-ghost use Rattle.std.specs.Prelude.{◌≡◌, ◌∷◌, ◌<◌, ℕ, IfSome, option_map, length, map};
-ghost use Rattle.capnp_model.specs.Calls.{index};
+ghost use Rattle.std.specs.Prelude.{◌≡◌, ◌<◌, IfSome, option_map, length, map};
 ghost use Rattle.capnp_calls.specs.CallViews.{step_view};
-ghost use Rattle.capnp_calls.specs.Roots.{BeginsWith};
+ghost use Rattle.capnp_calls.specs.Roots.{starts_with_name, BeginsWith};
+ghost use Rattle.capnp_ways.specs.Steps.{BeginsWithIndex};
 
 use capnp_calls::Step;
 
@@ -19,14 +19,22 @@ pub fn first_name(path: &[Step]) -> Option<(&str, &[Step])>
     }
 }
 
-/// The steps behind the index with which a path begins; none where it doesn't begin with an index.
-pub(crate) fn behind_index(path: &[Step]) -> Option<&[Step]>
-    ensures split { IfSome result (λ rest. (i : ℕ)
-        × (map step_view path.now ≡ index i ∷ map step_view rest.now)) }
-    ensures shorter { IfSome result (λ rest. length rest.now < length path.now) }
+/// Whether a path begins with a name.
+pub fn begins_with_name(path: &[Step]) -> bool
+    ensures { result ≡ starts_with_name (map step_view path.now) }
+{
+    first_name(path).is_some()
+}
+
+/// The index with which a path begins, and the steps behind it; none where it doesn't begin with an index.
+pub fn first_index(path: &[Step]) -> Option<(u32, &[Step])>
+    ensures split { BeginsWithIndex (map step_view path.now)
+        (option_map (λ p. (p.0, map step_view p.1.now)) result) }
+    ensures shorter { IfSome result (λ p. length p.1.now < length path.now) }
 {
     match path {
-        [Step::Index(_), rest @ ..] => Some(rest),
-        _ => None,
+        [Step::Index(index), rest @ ..] => Some((*index, rest)),
+        [Step::Name(_), ..] => None,
+        [] => None,
     }
 }

@@ -8,7 +8,7 @@ ghost use Rattle.capnp_queries.specs.Types.{is_type_of};
 ghost use Rattle.capnp_calls.specs.CallViews.{step_view};
 ghost use Rattle.capnp_ways.specs.Ways.{IsWay, AddsWay};
 
-use crate::steps::{behind_index, first_name};
+use crate::steps::{first_index, first_name};
 use capnp_calls::{Call, Step};
 use capnp_queries::fields::Field;
 use capnp_queries::introspect::{Type, TypeVariant};
@@ -122,8 +122,8 @@ fn note_value(way: &mut Vec<FoundField>, set: &SchemaSet, ty: Type, path: &[Step
 {
     match ty.which() {
         TypeVariant::Struct(raw) => note_struct(way, StructSchema::new(set, raw), path),
-        TypeVariant::List(element) => match behind_index(path) {
-            Some(rest) => note_value(way, set, element, rest),
+        TypeVariant::List(element) => match first_index(path) {
+            Some((_index, rest)) => note_value(way, set, element, rest),
             None => Ok(()),
         },
         _ => Ok(()),

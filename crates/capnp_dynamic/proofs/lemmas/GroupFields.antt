@@ -44,7 +44,7 @@ module _ (p : StructPlace) (f : FieldPlace) where
 
 -- ---- what a record says of its field
 
-some_same : {A : Type 0} {x y : A} → ◌≡◌ {A = Option A} (Some x) (Some y) → x ≡ y
+pub some_same : {A : Type 0} {x y : A} → ◌≡◌ {A = Option A} (Some x) (Some y) → x ≡ y
 some_same h = cc h
 
 module _ (f : Field) (r : FieldNode) (is : IsFieldRecord f.parent f.index r) (b : Body) (same : option_map (λ e. e.body) (entry_of f) ≡ Some b) where
@@ -62,6 +62,11 @@ module _ (f : Field) (r : FieldNode) (is : IsFieldRecord f.parent f.index r) (b 
 
   pub kept_cleared : (s u : Segments) (p : StructPlace) → is_kept r.member ≡ true → Edits s u p (cleared_body b) → Edits s u p (cleared_entry (entry_of f))
   kept_cleared s u p k h = clears_kept s u p (entry_of f) the_entry is.entry k (edits_alike s u p (cleared_body b) (cleared_body the_entry.body) (ap cleared_body (sym body_is)) h)
+
+-- the pointer of a field's slot
+pub slot_inside : (f : Field) (r : FieldNode) → IsFieldRecord f.parent f.index r → (p : StructPlace) (i : ℕ) (ty : SchemaType) (d : Option (Bor Value)) → option_map (λ e. e.body) (entry_of f) ≡ Some (body_of_place (F.Pointer i ty d))
+    → LieIn p.data_words p.pointers (areas_of (shape_of_struct f.parent)) → i < p.pointers
+slot_inside f r is p i ty d body h = pointer_inside p (F.Pointer i ty d) i ty d refl (member_inside f r is (body_of_place (F.Pointer i ty d)) body p.data_words p.pointers h)
 
 pub other_left : (f : Field) (r : FieldNode) → IsFieldRecord f.parent f.index r → (s : Segments) (p : StructPlace) → is_kept r.member ≡ false → Edits s s p (cleared_entry (entry_of f))
 other_left f r is s p k = leaves_other s p (entry_of f) (entry_in (schema_around f.parent) r) is.entry k

@@ -20,27 +20,30 @@ use Rattle.capnp_queries.specs.declared.structs.StructSchema.{StructSchema}
 use Rattle.capnp_queries.specs.declared.fields.Field.{Field}
 use Rattle.capnp_dynamic.specs.Inside.{LieIn}
 use Rattle.capnp_dynamic.specs.Edits.{IsThere, IsWide}
-use Rattle.capnp_copy.proofs.lemmas.RoomLaws.{words_stay}
-
-some_there : (s : Segments) (p : Place) (n : ℕ) → is_some (words_at s p n) ≡ true → (ws : List ℕ) × (words_at s p n ≡ Some ws)
-some_there s p n h = by (words_at s p n) refl h
-  where
-    by : (o : Option (List ℕ)) → words_at s p n ≡ o → is_some o ≡ true → (ws : List ℕ) × (words_at s p n ≡ Some ws)
-    by None e k = absurd (cc k)
-    by (Some ws) e k = (ws, e)
+use Rattle.capnp_copy.proofs.lemmas.RoomLaws.{some_of, words_stay}
 
 -- the data words
 pub data_there : (s : Segments) (p : Place) (d k : ℕ) → is_some (words_at s p (d + k)) ≡ true → is_some (words_at s p d) ≡ true
-data_there s p d k h = let x = some_there s p (d + k) h in ap is_some (words_front s p d k x.0 x.1)
+data_there s p d k h = let x = some_of s p (d + k) h in ap is_some (words_front s p d k x.0 x.1)
 
 -- a pointer's word
-pub pointer_there : (s : Segments) (p : Place) (d k i : ℕ) → i < k → is_some (words_at s p (d + k)) ≡ true → is_some (words_at s (after (after p d) i) 1) ≡ true
+pointer_there : (s : Segments) (p : Place) (d k i : ℕ) → i < k → is_some (words_at s p (d + k)) ≡ true → is_some (words_at s (after (after p d) i) 1) ≡ true
 pointer_there s p d k i l h =
-    let x = some_there s p (d + k) h in
+    let x = some_of s p (d + k) h in
     let back = words_back s p d k x.0 x.1 in
     let e : k ≡ i + (1 + (k - i - 1)) = omega (arith, l) in
     let y = words_back s (after p d) i (1 + (k - i - 1)) (drop d x.0) (subst (λ (n : ℕ). words_at s (after p d) n ≡ Some (drop d x.0)) e back) in
     ap is_some (words_front s (after (after p d) i) 1 (k - i - 1) (drop i (drop d x.0)) y)
+
+pub slot_there : (s : Segments) (p : StructPlace) (i : ℕ) (q : Place) → i < p.pointers → q ≡ after (after (place_view p.start) p.data_words) i → IsThere s p → is_some (words_at s q 1) ≡ true
+slot_there s p i q l e there = subst (λ (x : Place). is_some (words_at s x 1) ≡ true) (sym e) (pointer_there s (place_view p.start) p.data_words p.pointers i l there.words)
+
+-- wide enough for a shape, it is so for a smaller one
+pub wide_within : (p : StructPlace) (g h : Shape) → words_of_shape g ≤ words_of_shape h → pointers_of_shape g ≤ pointers_of_shape h → IsWide p h → IsWide p g
+wide_within p g h words pointers wide =
+    let more = wide.words in
+    let others = wide.pointers in
+    record { words = omega (arith, words, more); pointers = omega (arith, pointers, others) }
 
 -- a number that lies in one of its words
 pub in_word : (p : StructPlace) (at width : ℕ) (more : List Area) → 0 < width → at + width ≤ at / 64 * 64 + 64 → LieIn p.data_words p.pointers (bit_area at width ∷ more) → AreInWord p at width

@@ -20,7 +20,7 @@ returns-then-has_null_root g c =
     let around = schema_of (nodes_of c.args.set.now) in
     let ty = ty_of c.args.ty in
     let d = default_or_null (decode c.args.bytes.now) in
-    let same = null_root around ty d c.words_of-words.result.now (c.words_of-words.ensures c.requires.reads) (sym c.has_null_root.ensures ∙ c.if-has_null_root.true) in
+    let same = null_root around ty d c.words_of-words.result.now (c.words_of-words.ensures.value c.requires.reads) (sym c.has_null_root.ensures ∙ c.if-has_null_root.true) in
     put_as (at c.args.arena.now) (at c.put_empty.new.arena) c.args.slot (empty_tree around ty) (source_tree around ty d null) c.put_empty.result same c.put_empty.ensures
 
 pub returns : goal.returns
@@ -33,7 +33,7 @@ returns g c =
     let d = default_or_null (decode c.args.bytes.now) in
     let ws = c.words_of-words.result.now in
     let from = default_segments ws in
-    let holds = c.words_of-words.ensures c.requires.reads in
+    let holds = c.words_of-words.ensures.value c.requires.reads in
     let same = some_root around ty d ws holds (sym c.has_null_root.ensures ∙ c.if-has_null_root.false) in
     let e = c.copy_root.ensures in
     let why = copy_not_put old new c.args.slot.segment ws d (cost_at 64 from root) holds (c.values_on_walks.ensures.cost 64 from root d holds) c.copy_root.result e.why in

@@ -16,7 +16,7 @@ use Rattle.capnp_dynamic.specs.GroupSets.{copied_fields}
 use Rattle.capnp_dynamic.proofs.lemmas.Ready.{there_after, data_there}
 use Rattle.capnp_dynamic.proofs.lemmas.Grown.{there_grown}
 use Rattle.capnp_dynamic.proofs.Groups.{shape_depth, body_depth, depth_of_fields, depth_of_group}
-use Rattle.capnp_dynamic.proofs.lemmas.GroupFields.{plain_inside, pointer_inside, group_inside, member_inside, member_depth}
+use Rattle.capnp_dynamic.proofs.lemmas.GroupFields.{slot_inside, plain_inside, group_inside, member_inside, member_depth}
 use Rattle.capnp_dynamic.proofs.lemmas.AnyEdits.{far_then, far_more, far_err}
 use Rattle.capnp_dynamic.proofs.SourceReadings.{null_child}
 use Rattle.capnp_dynamic.proofs.CopiedFields.{void_field, plain_field, group_field, in_turn, out_of_turn, front_begins, front_goes, front_ends, front_stops}
@@ -42,9 +42,7 @@ copy_field-set_bits-requires-clause-inside g t c =
 pub copy_field-copy_null-requires-clause-inside : goal.copy_field-copy_null-requires-clause-inside
 copy_field-copy_null-requires-clause-inside g t c =
     let p = c.args.object in
-    let b = F.Pointer c.in-Pointer.index c.in-Pointer.ty c.in-Pointer.default in
-    let inside = member_inside c.args.field (field_of c.get_proto-said.result.now) c.get_proto-said.ensures (body_of_place b) c.in-Pointer.ensures.body p.data_words p.pointers c.requires.inside in
-    (c.requires.inside, pointer_inside p b c.in-Pointer.index c.in-Pointer.ty c.in-Pointer.default refl inside)
+    (c.requires.inside, slot_inside c.args.field (field_of c.get_proto-said.result.now) c.get_proto-said.ensures p c.in-Pointer.index c.in-Pointer.ty c.in-Pointer.default c.in-Pointer.ensures.body c.requires.inside)
 
 pub copy_field-copy_null-requires-clause-slot : goal.copy_field-copy_null-requires-clause-slot
 copy_field-copy_null-requires-clause-slot g t c = ((default_tree (option_map value_of (option_copied c.in-Pointer.default)), c.in-Pointer.ensures.body), c.in-Pointer.ensures.of_set)
@@ -52,9 +50,7 @@ copy_field-copy_null-requires-clause-slot g t c = ((default_tree (option_map val
 pub copy_field-copy_some-requires-clause-inside : goal.copy_field-copy_some-requires-clause-inside
 copy_field-copy_some-requires-clause-inside g t c =
     let p = c.args.object in
-    let b = F.Pointer c.in-Pointer.index c.in-Pointer.ty c.in-Pointer.default in
-    let inside = member_inside c.args.field (field_of c.get_proto-said.result.now) c.get_proto-said.ensures (body_of_place b) c.in-Pointer.ensures.body p.data_words p.pointers c.requires.inside in
-    (c.requires.inside, pointer_inside p b c.in-Pointer.index c.in-Pointer.ty c.in-Pointer.default refl inside)
+    (c.requires.inside, slot_inside c.args.field (field_of c.get_proto-said.result.now) c.get_proto-said.ensures p c.in-Pointer.index c.in-Pointer.ty c.in-Pointer.default c.in-Pointer.ensures.body c.requires.inside)
 
 pub copy_field-copy_some-requires-clause-slot : goal.copy_field-copy_some-requires-clause-slot
 copy_field-copy_some-requires-clause-slot g t c = (default_tree (option_map value_of (option_copied c.in-Pointer.default)), c.in-Pointer.ensures.body)

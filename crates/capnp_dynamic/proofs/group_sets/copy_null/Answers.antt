@@ -1,12 +1,10 @@
 -- A null pointer that is left, refused, or put as what it counts as and then marked.
-use Rattle.std.proofs.Common.{◌≡◌, true, refl, sym, ap, subst, ◌∙◌}
+use Rattle.std.proofs.Common.{true, refl, sym, ap, subst, ◌∙◌}
 use Rattle.std.proofs.lemmas.Result.{err_from_is_err_and}
 use Rattle.std.specs.Prelude.{option_map, option_copied}
-use Rattle.std.specs.Option.{is_some}
 use Rattle.capnp_model.specs.Accepted.{schema_of}
 use Rattle.capnp_model.specs.Groups.{source_tree}
 use Rattle.capnp_model.specs.Schemas.{pointer_slot, default_or_null}
-use Rattle.capnp_model.specs.Segments.{words_at}
 use Rattle.capnp_model.specs.Trees.{null}
 use Rattle.capnp_units.specs.Segments.{words_in}
 use Rattle.capnp_wire.specs.Places.{place_view}
@@ -20,7 +18,7 @@ use Rattle.capnp_copy.specs.States.{state_in}
 use Rattle.capnp_dynamic.specs.GroupRefusals.{NotPut}
 use Rattle.capnp_dynamic.specs.GroupSets.{PutsAny, null_tree, copied_field}
 use Rattle.capnp_dynamic.proofs.Marks.{member_none, member_there}
-use Rattle.capnp_dynamic.proofs.lemmas.Ready.{pointer_there}
+use Rattle.capnp_dynamic.proofs.lemmas.Ready.{slot_there}
 use Rattle.capnp_dynamic.proofs.lemmas.Grown.{there_grown}
 use Rattle.capnp_dynamic.proofs.lemmas.AnyEdits.{far_refused, far_err}
 use Rattle.capnp_dynamic.proofs.CopiedFields.{null_field, member_field}
@@ -46,7 +44,7 @@ pub put_null-requires-clause-there : goal.put_null-requires-clause-there
 put_null-requires-clause-there g c =
     let p = c.args.object in
     let s = words_in (g.A.ReaderArena.segments c.args.arena.now) in
-    subst (λ q. is_some (words_at s q 1) ≡ true) (sym c.pointer_place-slot.ensures.place) (pointer_there s (place_view p.start) p.data_words p.pointers c.args.index c.requires.inside.1 c.requires.there.words)
+    slot_there s p c.args.index (place_view c.pointer_place-slot.result) c.requires.inside.1 c.pointer_place-slot.ensures.place c.requires.there
 
 pub put_null-requires-clause-readable : goal.put_null-requires-clause-readable
 put_null-requires-clause-readable g c =

@@ -1,9 +1,7 @@
 -- A pointer that is refused, or copied and then marked.
-use Rattle.std.proofs.Common.{◌≡◌, true, Err, inl, inr, refl, sym, subst}
+use Rattle.std.proofs.Common.{Err, inl, inr, refl, sym, subst}
 use Rattle.std.proofs.lemmas.Result.{err_from_is_err_and}
-use Rattle.std.specs.Option.{is_some}
 use Rattle.capnp_model.specs.Schemas.{pointer_slot}
-use Rattle.capnp_model.specs.Segments.{words_at}
 use Rattle.capnp_units.specs.Segments.{words_in}
 use Rattle.capnp_wire.specs.Places.{place_view}
 use Rattle.capnp_records.specs.NodeViews.{field_of}
@@ -12,7 +10,7 @@ use Rattle.capnp_copy.proofs.lemmas.RoomLaws.{sizes_grow}
 use Rattle.capnp_footprints.proofs.lemmas.Algebra.{changes_nothing}
 use Rattle.capnp_footprints.proofs.lemmas.Spans.{grows_then}
 use Rattle.capnp_dynamic.specs.GroupSets.{copied_field}
-use Rattle.capnp_dynamic.proofs.lemmas.Ready.{pointer_there}
+use Rattle.capnp_dynamic.proofs.lemmas.Ready.{slot_there}
 use Rattle.capnp_dynamic.proofs.lemmas.Grown.{there_grown}
 use Rattle.capnp_dynamic.proofs.lemmas.AnyEdits.{far_refused, far_err}
 use Rattle.capnp_dynamic.proofs.CopiedFields.{pointer_field}
@@ -37,7 +35,7 @@ pub copy_child-requires-clause-there : goal.copy_child-requires-clause-there
 copy_child-requires-clause-there g c =
     let p = c.args.object in
     let s = words_in (g.A.ReaderArena.segments c.args.arena.now) in
-    subst (λ q. is_some (words_at s q 1) ≡ true) (sym c.pointer_place.ensures.place) (pointer_there s (place_view p.start) p.data_words p.pointers c.args.index c.requires.inside.1 c.requires.there.words)
+    slot_there s p c.args.index (place_view c.pointer_place.result) c.requires.inside.1 c.pointer_place.ensures.place c.requires.there
 
 pub mark-requires-clause-there : goal.mark-requires-clause-there
 mark-requires-clause-there g c =

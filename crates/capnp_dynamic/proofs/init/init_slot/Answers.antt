@@ -1,23 +1,20 @@
-use Rattle.std.proofs.Common.{◌≡◌, ◌+◌, true, refl, sym, ap, subst, ◌∙◌}
-use Rattle.std.specs.Option.{is_some}
+use Rattle.std.proofs.Common.{◌≡◌, ◌+◌, sym, ap, ◌∙◌}
 use Rattle.std.proofs.lemmas.Result.{err_from_is_err_and}
 use Rattle.capnp_model.specs.Accepted.{schema_of}
 use Rattle.capnp_model.specs.Calls.{empty_struct}
-use Rattle.capnp_model.specs.Segments.{words_at}
 use Rattle.capnp_units.specs.Segments.{words_in}
 use Rattle.capnp_records.specs.NodeViews.{field_of}
 use Rattle.capnp_footprints.proofs.lemmas.Spans.{grows_then}
 use Rattle.capnp_wire.specs.Places.{place_view}
 use Rattle.capnp_copy.proofs.lemmas.RoomLaws.{sizes_grow}
-use Rattle.capnp_queries.specs.Handles.{body_of_place}
 use Rattle.capnp_queries.specs.Structs.{nodes_around, shape_of_struct, id_of}
 use Rattle.capnp_queries.specs.Types.{ty_of}
 use Rattle.capnp_queries.specs.declared.slots.FieldPlace.TheVariants as F
 use Rattle.capnp_model.specs.Schemas.{words_of_shape, pointers_of_shape}
 use Rattle.capnp_copy.specs.States.{state_in}
-use Rattle.capnp_dynamic.proofs.lemmas.Ready.{there_after, pointer_there}
+use Rattle.capnp_dynamic.proofs.lemmas.Ready.{there_after, slot_there}
 use Rattle.capnp_dynamic.proofs.lemmas.Grown.{same_grows, there_grown}
-use Rattle.capnp_dynamic.proofs.lemmas.GroupFields.{pointer_inside, member_inside}
+use Rattle.capnp_dynamic.proofs.lemmas.GroupFields.{slot_inside}
 use Rattle.capnp_dynamic.proofs.lemmas.SetPointers.{object_made}
 use Rattle.capnp_dynamic.proofs.DataWords.{leads_from}
 use Rattle.capnp_dynamic.proofs.InitSlots.{empty_words, inits, lies, refuses}
@@ -26,18 +23,14 @@ use Rattle.capnp_dynamic.proofs.init.init_slot.Goals as goal
 pub pointer_place-requires-clause-inside : goal.pointer_place-requires-clause-inside
 pointer_place-requires-clause-inside g c =
     let p = c.args.object in
-    let b = F.Pointer c.in-Pointer.index c.in-Pointer.ty c.in-Pointer.default in
-    let inside = member_inside c.args.field (field_of c.get_proto-said.result.now) c.get_proto-said.ensures (body_of_place b) c.in-Pointer.ensures.body p.data_words p.pointers c.requires.inside in
-    pointer_inside p b c.in-Pointer.index c.in-Pointer.ty c.in-Pointer.default refl inside
+    slot_inside c.args.field (field_of c.get_proto-said.result.now) c.get_proto-said.ensures p c.in-Pointer.index c.in-Pointer.ty c.in-Pointer.default c.in-Pointer.ensures.body c.requires.inside
 
 pub put_struct-requires-clause-there : goal.put_struct-requires-clause-there
 put_struct-requires-clause-there g c =
     let p = c.args.object in
-    let b = F.Pointer c.in-Pointer.index c.in-Pointer.ty c.in-Pointer.default in
-    let inside = member_inside c.args.field (field_of c.get_proto-said.result.now) c.get_proto-said.ensures (body_of_place b) c.in-Pointer.ensures.body p.data_words p.pointers c.requires.inside in
-    let l = pointer_inside p b c.in-Pointer.index c.in-Pointer.ty c.in-Pointer.default refl inside in
+    let l = slot_inside c.args.field (field_of c.get_proto-said.result.now) c.get_proto-said.ensures p c.in-Pointer.index c.in-Pointer.ty c.in-Pointer.default c.in-Pointer.ensures.body c.requires.inside in
     let s = words_in (g.A.ReaderArena.segments c.args.arena.now) in
-    subst (λ q. is_some (words_at s q 1) ≡ true) (sym c.pointer_place.ensures.place) (pointer_there s (place_view p.start) p.data_words p.pointers c.in-Pointer.index l c.requires.there.words)
+    slot_there s p c.in-Pointer.index (place_view c.pointer_place.result) l c.pointer_place.ensures.place c.requires.there
 
 pub mark-requires-clause-there : goal.mark-requires-clause-there
 mark-requires-clause-there g c =
@@ -61,9 +54,7 @@ pub returns-in_ok-place-in-Pointer-clause-puts : goal.returns-in_ok-place-in-Poi
 returns-in_ok-place-in-Pointer-clause-puts g c =
     let at = state_in g.A.ReaderArena.segments g.A.BuilderArena.room g.A.BuilderArena.books in
     let p = c.args.object in
-    let b = F.Pointer c.in-Pointer.index c.in-Pointer.ty c.in-Pointer.default in
-    let inside = member_inside c.args.field (field_of c.get_proto-said.result.now) c.get_proto-said.ensures (body_of_place b) c.in-Pointer.ensures.body p.data_words p.pointers c.requires.inside in
-    let l = pointer_inside p b c.in-Pointer.index c.in-Pointer.ty c.in-Pointer.default refl inside in
+    let l = slot_inside c.args.field (field_of c.get_proto-said.result.now) c.get_proto-said.ensures p c.in-Pointer.index c.in-Pointer.ty c.in-Pointer.default c.in-Pointer.ensures.body c.requires.inside in
     let schema = c.in-Some.schema in
     let nodes : nodes_around schema ≡ nodes_around c.args.field.parent = c.in-Some.ensures.nodes ∙ c.set.ensures ∙ ap nodes_around c.parent.ensures in
     let shape_is = ap (λ ns. (schema_of ns).shape_of (id_of schema)) nodes in
@@ -77,9 +68,7 @@ returns-in_ok-place-in-Pointer-clause-lies g c =
     let m = words_in (g.A.ReaderArena.segments c.put_struct.new.arena) in
     let u = words_in (g.A.ReaderArena.segments c.mark.new.arena) in
     let p = c.args.object in
-    let b = F.Pointer c.in-Pointer.index c.in-Pointer.ty c.in-Pointer.default in
-    let inside = member_inside c.args.field (field_of c.get_proto-said.result.now) c.get_proto-said.ensures (body_of_place b) c.in-Pointer.ensures.body p.data_words p.pointers c.requires.inside in
-    let l = pointer_inside p b c.in-Pointer.index c.in-Pointer.ty c.in-Pointer.default refl inside in
+    let l = slot_inside c.args.field (field_of c.get_proto-said.result.now) c.get_proto-said.ensures p c.in-Pointer.index c.in-Pointer.ty c.in-Pointer.default c.in-Pointer.ensures.body c.requires.inside in
     let schema = c.in-Some.schema in
     let nodes : nodes_around schema ≡ nodes_around c.args.field.parent = c.in-Some.ensures.nodes ∙ c.set.ensures ∙ ap nodes_around c.parent.ensures in
     let shape_is = ap (λ ns. (schema_of ns).shape_of (id_of schema)) nodes in

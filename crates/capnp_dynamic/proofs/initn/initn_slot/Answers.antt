@@ -1,25 +1,22 @@
-use Rattle.std.proofs.Common.{◌≡◌, true, refl, sym, ap, subst, ◌∙◌}
+use Rattle.std.proofs.Common.{◌≡◌, refl, ap, ◌∙◌}
 use Rattle.std.specs.Prelude.{⊤}
-use Rattle.std.specs.Option.{is_some}
 use Rattle.std.proofs.lemmas.Result.{err_from_is_err_and}
 use Rattle.capnp_model.specs.Accepted.{schema_of}
 use Rattle.capnp_model.specs.Calls.{object, initn, initn_content}
 use Rattle.capnp_model.specs.Kinds.{InitnIsOnlyValidForListTextOrDataFields}
-use Rattle.capnp_model.specs.Segments.{words_at}
 use Rattle.capnp_model.specs.Sizes.{object_words}
 use Rattle.capnp_units.specs.Segments.{words_in}
 use Rattle.capnp_records.specs.NodeViews.{field_of}
 use Rattle.capnp_records.specs.Sets.{nodes_of}
 use Rattle.capnp_wire.specs.Places.{place_view}
-use Rattle.capnp_queries.specs.Handles.{body_of_place}
 use Rattle.capnp_queries.specs.Structs.{nodes_around, schema_around}
 use Rattle.capnp_queries.specs.Types.{ty_of}
 use Rattle.capnp_queries.specs.declared.slots.FieldPlace.TheVariants as F
 use Rattle.capnp_dynamic.specs.NewLists.{tree_of_new}
 use Rattle.capnp_copy.specs.States.{state_in}
-use Rattle.capnp_dynamic.proofs.lemmas.Ready.{pointer_there}
+use Rattle.capnp_dynamic.proofs.lemmas.Ready.{slot_there}
 use Rattle.capnp_dynamic.proofs.lemmas.Grown.{same_grows}
-use Rattle.capnp_dynamic.proofs.lemmas.GroupFields.{pointer_inside, member_inside}
+use Rattle.capnp_dynamic.proofs.lemmas.GroupFields.{slot_inside}
 use Rattle.capnp_dynamic.proofs.Verbs.{child_put, child_refused}
 use Rattle.capnp_dynamic.proofs.NewLists.{initn_as, list_put}
 use Rattle.capnp_dynamic.proofs.initn.initn_slot.Goals as goal
@@ -27,18 +24,14 @@ use Rattle.capnp_dynamic.proofs.initn.initn_slot.Goals as goal
 pub pointer_place-requires-clause-inside : goal.pointer_place-requires-clause-inside
 pointer_place-requires-clause-inside g c =
     let p = c.args.object in
-    let b = F.Pointer c.in-Pointer.index c.in-Pointer.ty c.in-Pointer.default in
-    let inside = member_inside c.args.field (field_of c.get_proto-said.result.now) c.get_proto-said.ensures (body_of_place b) c.in-Pointer.ensures.body p.data_words p.pointers c.requires.inside in
-    pointer_inside p b c.in-Pointer.index c.in-Pointer.ty c.in-Pointer.default refl inside
+    slot_inside c.args.field (field_of c.get_proto-said.result.now) c.get_proto-said.ensures p c.in-Pointer.index c.in-Pointer.ty c.in-Pointer.default c.in-Pointer.ensures.body c.requires.inside
 
 pub put_list-requires-clause-there : goal.put_list-requires-clause-there
 put_list-requires-clause-there g c =
     let p = c.args.object in
-    let b = F.Pointer c.in-Pointer.index c.in-Pointer.ty c.in-Pointer.default in
-    let inside = member_inside c.args.field (field_of c.get_proto-said.result.now) c.get_proto-said.ensures (body_of_place b) c.in-Pointer.ensures.body p.data_words p.pointers c.requires.inside in
-    let l = pointer_inside p b c.in-Pointer.index c.in-Pointer.ty c.in-Pointer.default refl inside in
+    let l = slot_inside c.args.field (field_of c.get_proto-said.result.now) c.get_proto-said.ensures p c.in-Pointer.index c.in-Pointer.ty c.in-Pointer.default c.in-Pointer.ensures.body c.requires.inside in
     let s = words_in (g.A.ReaderArena.segments c.args.arena.now) in
-    subst (λ q. is_some (words_at s q 1) ≡ true) (sym c.pointer_place.ensures.place) (pointer_there s (place_view p.start) p.data_words p.pointers c.in-Pointer.index l c.requires.there.words)
+    slot_there s p c.in-Pointer.index (place_view c.pointer_place.result) l c.pointer_place.ensures.place c.requires.there
 
 pub returns-in_err-put_list-in-Pointer-clause-puts : goal.returns-in_err-put_list-in-Pointer-clause-puts
 returns-in_err-put_list-in-Pointer-clause-puts g c =
@@ -65,9 +58,7 @@ returns-in_ok-put_list-in-Pointer-clause-puts g c =
     let f = c.args.field in
     let p = c.args.object in
     let n = c.args.count in
-    let b = F.Pointer c.in-Pointer.index c.in-Pointer.ty c.in-Pointer.default in
-    let inside = member_inside c.args.field (field_of c.get_proto-said.result.now) c.get_proto-said.ensures (body_of_place b) c.in-Pointer.ensures.body p.data_words p.pointers c.requires.inside in
-    let l = pointer_inside p b c.in-Pointer.index c.in-Pointer.ty c.in-Pointer.default refl inside in
+    let l = slot_inside c.args.field (field_of c.get_proto-said.result.now) c.get_proto-said.ensures p c.in-Pointer.index c.in-Pointer.ty c.in-Pointer.default c.in-Pointer.ensures.body c.requires.inside in
     let ty = ty_of c.in-Pointer.ty in
     let t = tree_of_new c.in-Some.list n in
     let nodes : nodes_of c.set.result.now ≡ nodes_around f.parent = c.set.ensures ∙ ap nodes_around c.parent.ensures in

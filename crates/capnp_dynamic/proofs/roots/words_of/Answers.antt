@@ -5,7 +5,7 @@ use Rattle.capnp_dynamic.specs.GroupSets.{HoldsDefault}
 use Rattle.capnp_dynamic.proofs.lemmas.NullMembers.{words_hold, some_tree}
 use Rattle.capnp_dynamic.proofs.roots.words_of.Goals as goal
 
-pub returns : goal.returns
-returns c decoded =
+pub returns-clause-value : goal.returns-clause-value
+returns-clause-value c decoded =
     let t = default_or_null (decode c.args.bytes.now) in
     subst (λ (ws : List (List ℕ)). HoldsDefault ws t) (sym c.as_chunks.ensures.front) (words_hold c.args.bytes.now t (some_tree (decode c.args.bytes.now) decoded))

@@ -3,7 +3,7 @@ use Rattle.capnp_model.specs.Sections.{number_of, words_for}
 use Rattle.capnp_model.specs.Trees.{plain_list}
 use Rattle.capnp_builders.proofs.lemmas.Makes.{makes_if, not_set_if}
 use Rattle.capnp_copy.specs.States.{state_in}
-use Rattle.capnp_dynamic.proofs.lemmas.Bytes.{text_made, text_refused, blob_made, blob_refused}
+use Rattle.capnp_dynamic.proofs.Bytes.{text_made, text_refused, blob_made, blob_refused}
 use Rattle.capnp_dynamic.proofs.setting.put_blob.Goals as goal
 
 pub returns-in-Text-clause-made : goal.returns-in-Text-clause-made

@@ -1,8 +1,6 @@
-use Rattle.std.proofs.Common.{◌≡◌, ◌*◌, true, sym, refl, subst, ◌∙◌}
-use Rattle.std.specs.Option.{is_some}
+use Rattle.std.proofs.Common.{◌*◌, sym, refl, ◌∙◌}
 use Rattle.std.proofs.lemmas.Result.{err_from_is_err_and}
 use Rattle.capnp_model.specs.Schemas.{width, void_slot}
-use Rattle.capnp_model.specs.Segments.{words_at}
 use Rattle.capnp_units.specs.Segments.{words_in}
 use Rattle.capnp_records.specs.NodeViews.{field_of}
 use Rattle.capnp_footprints.proofs.lemmas.Spans.{grows_then}
@@ -13,9 +11,9 @@ use Rattle.capnp_queries.specs.Types.{ty_of}
 use Rattle.capnp_queries.specs.declared.slots.FieldPlace.TheVariants as F
 use Rattle.capnp_dynamic.specs.Blobs.{bytes_of}
 use Rattle.capnp_copy.specs.States.{state_in}
-use Rattle.capnp_dynamic.proofs.lemmas.Ready.{there_after, data_there, pointer_there}
+use Rattle.capnp_dynamic.proofs.lemmas.Ready.{there_after, data_there, slot_there}
 use Rattle.capnp_dynamic.proofs.lemmas.Grown.{same_grows}
-use Rattle.capnp_dynamic.proofs.lemmas.GroupFields.{plain_inside, pointer_inside, member_inside}
+use Rattle.capnp_dynamic.proofs.lemmas.GroupFields.{slot_inside, plain_inside, member_inside}
 use Rattle.capnp_dynamic.proofs.lemmas.SetSlots.{fits_slot, sets_bits, sets_plain}
 use Rattle.capnp_dynamic.proofs.lemmas.SetPointers.{sets_bytes, refuses_bytes}
 use Rattle.capnp_dynamic.proofs.setting.set_flat.Goals as goal
@@ -41,18 +39,14 @@ set_bits-requires-clause-fits g c =
 pub pointer_place-requires-clause-inside : goal.pointer_place-requires-clause-inside
 pointer_place-requires-clause-inside g c =
     let p = c.args.object in
-    let b = F.Pointer c.in-Pointer.index c.in-Pointer.ty c.in-Pointer.default in
-    let inside = member_inside c.args.field (field_of c.get_proto-said.result.now) c.get_proto-said.ensures (body_of_place b) c.in-Pointer.ensures.body p.data_words p.pointers c.requires.inside in
-    pointer_inside p b c.in-Pointer.index c.in-Pointer.ty c.in-Pointer.default refl inside
+    slot_inside c.args.field (field_of c.get_proto-said.result.now) c.get_proto-said.ensures p c.in-Pointer.index c.in-Pointer.ty c.in-Pointer.default c.in-Pointer.ensures.body c.requires.inside
 
 pub put_blob-requires-clause-there : goal.put_blob-requires-clause-there
 put_blob-requires-clause-there g c =
     let p = c.args.object in
-    let b = F.Pointer c.in-Pointer.index c.in-Pointer.ty c.in-Pointer.default in
-    let inside = member_inside c.args.field (field_of c.get_proto-said.result.now) c.get_proto-said.ensures (body_of_place b) c.in-Pointer.ensures.body p.data_words p.pointers c.requires.inside in
-    let l = pointer_inside p b c.in-Pointer.index c.in-Pointer.ty c.in-Pointer.default refl inside in
+    let l = slot_inside c.args.field (field_of c.get_proto-said.result.now) c.get_proto-said.ensures p c.in-Pointer.index c.in-Pointer.ty c.in-Pointer.default c.in-Pointer.ensures.body c.requires.inside in
     let s = words_in (g.A.ReaderArena.segments c.args.arena.now) in
-    subst (λ q. is_some (words_at s q 1) ≡ true) (sym c.pointer_place.ensures.place) (pointer_there s (place_view p.start) p.data_words p.pointers c.in-Pointer.index l c.requires.there.words)
+    slot_there s p c.in-Pointer.index (place_view c.pointer_place.result) l c.pointer_place.ensures.place c.requires.there
 
 pub returns-in-Void-clause-puts : goal.returns-in-Void-clause-puts
 returns-in-Void-clause-puts g c =
@@ -79,9 +73,7 @@ pub returns-in_ok-put_blob-in-Pointer-clause-puts : goal.returns-in_ok-put_blob-
 returns-in_ok-put_blob-in-Pointer-clause-puts g c =
     let at = state_in g.A.ReaderArena.segments g.A.BuilderArena.room g.A.BuilderArena.books in
     let p = c.args.object in
-    let b = F.Pointer c.in-Pointer.index c.in-Pointer.ty c.in-Pointer.default in
-    let inside = member_inside c.args.field (field_of c.get_proto-said.result.now) c.get_proto-said.ensures (body_of_place b) c.in-Pointer.ensures.body p.data_words p.pointers c.requires.inside in
-    let l = pointer_inside p b c.in-Pointer.index c.in-Pointer.ty c.in-Pointer.default refl inside in
+    let l = slot_inside c.args.field (field_of c.get_proto-said.result.now) c.get_proto-said.ensures p c.in-Pointer.index c.in-Pointer.ty c.in-Pointer.default c.in-Pointer.ensures.body c.requires.inside in
     sets_bytes c.args.value.now c.args.field (field_of c.get_proto-said.result.now) c.get_proto-said.ensures c.in-Pointer.index (ty_of c.in-Pointer.ty) _ c.in-Pointer.ensures.body (bytes_of c.in-Some-blob_for.blob) (sym c.in-Some-blob_for.ensures)
     (at c.args.arena.now) (at c.put_blob.new.arena) (at c.mark-in-Pointer.new.arena) p c.pointer_place.result c.pointer_place.ensures.place l c.in_ok-put_blob-in-Pointer.ensures.made c.mark-in-Pointer.ensures.edits c.mark-in-Pointer.ensures.sizes
 

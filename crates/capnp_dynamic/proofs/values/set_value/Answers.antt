@@ -1,8 +1,8 @@
 -- A copy, a refusal, or what a value without pointers makes.
-use Rattle.std.proofs.Common.{false, Err, refl, sym, ap, ◌∙◌}
+use Rattle.std.proofs.Common.{false, Err, sym, ap, ◌∙◌}
 use Rattle.std.specs.Prelude.{option_map}
 use Rattle.capnp_model.specs.Calls.{refused_by}
-use Rattle.capnp_model.specs.Schemas.{group_slot}
+use Rattle.capnp_model.specs.Schemas.{struct, group_slot}
 use Rattle.capnp_units.specs.Errors.{kind_of}
 use Rattle.capnp_units.specs.Segments.{words_in}
 use Rattle.capnp_records.specs.NodeViews.{field_of}
@@ -12,22 +12,20 @@ use Rattle.capnp_builders.specs.Making.{state_of}
 use Rattle.capnp_values.specs.Sources.{struct_seen}
 use Rattle.capnp_queries.specs.Fields.{shape_id}
 use Rattle.capnp_queries.specs.Structs.{shape_of_struct}
-use Rattle.capnp_queries.specs.Handles.{entry_of, body_of_place}
+use Rattle.capnp_queries.specs.Handles.{entry_of}
 use Rattle.capnp_queries.specs.Types.{ty_of}
 use Rattle.capnp_queries.specs.declared.slots.FieldPlace.TheVariants as F
 use Rattle.capnp_dynamic.specs.Sources.{source_seen, source_given}
 use Rattle.capnp_dynamic.specs.Values.{made, fields, struct_given, group_refusal, value_given}
 use Rattle.capnp_dynamic.proofs.AnyValues.{leaves_of, leaves_group, fields_given, group_refused, group_type, given_puts, none_given, told, flat_behind, flat_elsewhere, flat_puts}
-use Rattle.capnp_dynamic.proofs.lemmas.GroupFields.{pointer_inside, member_inside}
+use Rattle.capnp_dynamic.proofs.lemmas.GroupFields.{slot_inside}
 use Rattle.capnp_dynamic.proofs.lemmas.Sources.{words_stand}
 use Rattle.capnp_dynamic.proofs.values.set_value.Goals as goal
 
 pub set_source-requires-clause-index : goal.set_source-requires-clause-index
 set_source-requires-clause-index g c =
     let p = c.args.object in
-    let b = F.Pointer c.in-Pointer.index c.in-Pointer.ty c.in-Pointer.default in
-    let inside = member_inside c.args.field (field_of c.get_proto-said.result.now) c.get_proto-said.ensures (body_of_place b) c.in-Pointer.ensures.body p.data_words p.pointers c.requires.inside in
-    pointer_inside p b c.in-Pointer.index c.in-Pointer.ty c.in-Pointer.default refl inside
+    slot_inside c.args.field (field_of c.get_proto-said.result.now) c.get_proto-said.ensures p c.in-Pointer.index c.in-Pointer.ty c.in-Pointer.default c.in-Pointer.ensures.body c.requires.inside
 
 pub returns-in-Some-clause-leaves : goal.returns-in-Some-clause-leaves
 returns-in-Some-clause-leaves g c =
@@ -76,7 +74,7 @@ returns-in_default-struct_for-clause-puts g c =
     let f = c.args.field in
     let own = shape_of_struct c.in-Group.schema in
     let ty = group_type (entry_of f) (group_slot own) (ty_of c.get_type.result) c.in-Group.ensures.body c.get_type.ensures.ty in
-    let none = none_given (struct_seen bytes) c.struct_for.result (struct_given bytes v (shape_id own)) (c.struct_for.ensures.given (shape_id own) ty) c.in_default-struct_for.is in
+    let none = none_given (struct_seen bytes) c.struct_for.result (struct_given bytes v (struct (shape_id own))) (c.struct_for.ensures.given ∙ ap (struct_given bytes v) ty) c.in_default-struct_for.is in
     given_puts bytes v (at c.args.memory.now) (at c.args.memory.now) c.args.object f (made (refused_by (group_refusal v))) (Err c.from-in_default-struct_for.result)
     (group_refused bytes v (entry_of f) own c.in-Group.ensures.body none) (ap (λ k. Err k) (ap kind_of c.from-in_default-struct_for.ensures ∙ c.group_refusal.ensures))
 
@@ -94,7 +92,7 @@ returns-in-Some-struct_for-clause-puts g c =
     let own = shape_of_struct c.in-Group.schema in
     let x = struct_seen bytes c.in-Some-struct_for.source in
     let ty = group_type (entry_of f) (group_slot own) (ty_of c.get_type.result) c.in-Group.ensures.body c.get_type.ensures.ty in
-    let some = sym (c.struct_for.ensures.given (shape_id own) ty) ∙ ap (option_map (struct_seen bytes)) c.in-Some-struct_for.is in
+    let some = sym (c.struct_for.ensures.given ∙ ap (struct_given bytes v) ty) ∙ ap (option_map (struct_seen bytes)) c.in-Some-struct_for.is in
     given_puts bytes v (at c.args.memory.now) (at (record { arena = c.set_group.new.arena })) c.args.object f (fields x) c.set_group.result
     (fields_given bytes v (entry_of f) own x c.in-Group.ensures.body some) c.set_group.ensures.sets
 
@@ -108,5 +106,5 @@ returns-in-Some-struct_for-clause-leaves g c =
     let s = words_in (g.A.ReaderArena.segments c.args.memory.now.arena) in
     let u = words_in (g.A.ReaderArena.segments c.set_group.new.arena) in
     let ty = group_type (entry_of f) (group_slot own) (ty_of c.get_type.result) c.in-Group.ensures.body c.get_type.ensures.ty in
-    let some = sym (c.struct_for.ensures.given (shape_id own) ty) ∙ ap (option_map (struct_seen bytes)) c.in-Some-struct_for.is in
+    let some = sym (c.struct_for.ensures.given ∙ ap (struct_given bytes v) ty) ∙ ap (option_map (struct_seen bytes)) c.in-Some-struct_for.is in
     leaves_group (value_given bytes v (entry_of f)) x s u c.set_group.result (fields_given bytes v (entry_of f) own x c.in-Group.ensures.body some) c.set_group.ensures.grows

@@ -1,45 +1,35 @@
-use Rattle.std.proofs.Common.{◌≡◌, ◌+◌, ◌*◌, true, refl, sym, ap, subst, arith}
-use Rattle.std.specs.Option.{is_some}
+use Rattle.std.proofs.Common.{◌≡◌, ◌+◌, ◌*◌, ap, subst, arith}
 use Rattle.capnp_model.specs.Schemas.{width}
-use Rattle.capnp_model.specs.Segments.{Place, words_at}
+use Rattle.capnp_model.specs.Segments.{Place}
 use Rattle.capnp_units.specs.Segments.{words_in}
 use Rattle.capnp_wire.specs.Places.{place_view}
 use Rattle.capnp_records.specs.NodeViews.{field_of, struct_of}
-use Rattle.capnp_queries.specs.Structs.{nodes_around, id_of, IsRecordOf}
-use Rattle.capnp_queries.specs.Handles.{body_of_place, plain_of}
+use Rattle.capnp_queries.specs.Structs.{nodes_around, id_of, shape_of_struct, IsRecordOf}
+use Rattle.capnp_queries.specs.Handles.{plain_of}
 use Rattle.capnp_queries.specs.declared.slots.FieldPlace.TheVariants as F
-use Rattle.capnp_dynamic.proofs.lemmas.Ready.{areas_inside, pointer_there}
-use Rattle.capnp_dynamic.proofs.lemmas.GroupFields.{pointer_inside, member_inside}
-use Rattle.capnp_dynamic_gets.proofs.Grown.{child_grows}
-use Rattle.capnp_dynamic_gets.proofs.GroupPlaces.{group_wide}
+use Rattle.capnp_calls.proofs.lemmas.GroupSizes.{group_is_field}
+use Rattle.capnp_dynamic.proofs.lemmas.Ready.{areas_inside, slot_there, wide_within}
+use Rattle.capnp_dynamic.proofs.lemmas.GroupFields.{slot_inside}
+use Rattle.capnp_dynamic.proofs.lemmas.Grown.{child_grows}
 use Rattle.capnp_dynamic_gets.proofs.PlainValues.{plain_there}
 use Rattle.capnp_dynamic_gets.proofs.fields.get_field.Goals as goal
 
 pub pointer_place-slot-requires-clause-inside : goal.pointer_place-slot-requires-clause-inside
 pointer_place-slot-requires-clause-inside g c =
     let p = c.args.object in
-    let b = F.Pointer c.in-Pointer.index c.in-Pointer.ty c.in-Pointer.default in
-    let areas = areas_inside c.args.field.parent p c.requires.wide in
-    let inside = member_inside c.args.field (field_of c.get_proto-said.result.now) c.get_proto-said.ensures (body_of_place b) c.in-Pointer.ensures.body p.data_words p.pointers areas in
-    pointer_inside p b c.in-Pointer.index c.in-Pointer.ty c.in-Pointer.default refl inside
+    slot_inside c.args.field (field_of c.get_proto-said.result.now) c.get_proto-said.ensures p c.in-Pointer.index c.in-Pointer.ty c.in-Pointer.default c.in-Pointer.ensures.body (areas_inside c.args.field.parent p c.requires.wide)
 
 pub get_slot-requires-clause-there : goal.get_slot-requires-clause-there
 get_slot-requires-clause-there g c =
     let p = c.args.object in
-    let b = F.Pointer c.in-Pointer.index c.in-Pointer.ty c.in-Pointer.default in
-    let areas = areas_inside c.args.field.parent p c.requires.wide in
-    let inside = member_inside c.args.field (field_of c.get_proto-said.result.now) c.get_proto-said.ensures (body_of_place b) c.in-Pointer.ensures.body p.data_words p.pointers areas in
-    let l = pointer_inside p b c.in-Pointer.index c.in-Pointer.ty c.in-Pointer.default refl inside in
+    let l = slot_inside c.args.field (field_of c.get_proto-said.result.now) c.get_proto-said.ensures p c.in-Pointer.index c.in-Pointer.ty c.in-Pointer.default c.in-Pointer.ensures.body (areas_inside c.args.field.parent p c.requires.wide) in
     let s = words_in (g.A.ReaderArena.segments c.args.memory.now.arena) in
-    subst (λ q. is_some (words_at s q 1) ≡ true) (sym c.pointer_place-slot.ensures.place) (pointer_there s (place_view p.start) p.data_words p.pointers c.in-Pointer.index l c.requires.there.words)
+    slot_there s p c.in-Pointer.index (place_view c.pointer_place-slot.result) l c.pointer_place-slot.ensures.place c.requires.there
 
 pub get_slot-requires-clause-near : goal.get_slot-requires-clause-near
 get_slot-requires-clause-near g c =
     let p = c.args.object in
-    let b = F.Pointer c.in-Pointer.index c.in-Pointer.ty c.in-Pointer.default in
-    let areas = areas_inside c.args.field.parent p c.requires.wide in
-    let inside = member_inside c.args.field (field_of c.get_proto-said.result.now) c.get_proto-said.ensures (body_of_place b) c.in-Pointer.ensures.body p.data_words p.pointers areas in
-    let l = pointer_inside p b c.in-Pointer.index c.in-Pointer.ty c.in-Pointer.default refl inside in
+    let l = slot_inside c.args.field (field_of c.get_proto-said.result.now) c.get_proto-said.ensures p c.in-Pointer.index c.in-Pointer.ty c.in-Pointer.default c.in-Pointer.ensures.body (areas_inside c.args.field.parent p c.requires.wide) in
     let e : c.pointer_place-slot.result.position ≡ p.start.position + p.data_words + c.in-Pointer.index = ap (λ (q : Place). q.position) c.pointer_place-slot.ensures.place in
     let near = c.requires.there.near in
     omega (arith, e, l, near)
@@ -52,10 +42,7 @@ returns-in-Plain-clause-there g c =
 pub returns-in-Pointer-clause-grows : goal.returns-in-Pointer-clause-grows
 returns-in-Pointer-clause-grows g c =
     let p = c.args.object in
-    let b = F.Pointer c.in-Pointer.index c.in-Pointer.ty c.in-Pointer.default in
-    let areas = areas_inside c.args.field.parent p c.requires.wide in
-    let inside = member_inside c.args.field (field_of c.get_proto-said.result.now) c.get_proto-said.ensures (body_of_place b) c.in-Pointer.ensures.body p.data_words p.pointers areas in
-    let l = pointer_inside p b c.in-Pointer.index c.in-Pointer.ty c.in-Pointer.default refl inside in
+    let l = slot_inside c.args.field (field_of c.get_proto-said.result.now) c.get_proto-said.ensures p c.in-Pointer.index c.in-Pointer.ty c.in-Pointer.default c.in-Pointer.ensures.body (areas_inside c.args.field.parent p c.requires.wide) in
     child_grows (words_in (g.A.ReaderArena.segments c.args.memory.now.arena)) (words_in (g.A.ReaderArena.segments c.get_slot.new.memory.arena)) p c.in-Pointer.index (place_view c.pointer_place-slot.result) l c.pointer_place-slot.ensures.place c.get_slot.ensures.grows
 
 pub returns-in-Group-clause-there : goal.returns-in-Group-clause-there
@@ -63,4 +50,5 @@ returns-in-Group-clause-there g c =
     let f = c.args.field in
     let n = struct_of c.record-holder.result.now in
     let holder = subst (λ p. IsRecordOf (nodes_around p) (id_of p) n) c.parent.ensures c.record-holder.ensures in
-    (c.requires.there, group_wide c.args.object f (field_of c.get_proto-said.result.now) c.get_proto-said.ensures n holder c.in-Group.schema c.in-Group.ensures.of_set c.in-Group.ensures.body c.requires.wide)
+    let is = group_is_field f (field_of c.get_proto-said.result.now) c.get_proto-said.ensures n holder c.in-Group.schema c.in-Group.ensures.of_set c.in-Group.ensures.body in
+    (c.requires.there, wide_within c.args.object (shape_of_struct c.in-Group.schema) (shape_of_struct f.parent) is.words is.pointers c.requires.wide)

@@ -13,7 +13,7 @@ use Rattle.capnp_dynamic_gets.proofs.lists.place_of.Goals as goal
 
 pub returns-in_err-list-in-Some-clause-grows : goal.returns-in_err-list-in-Some-clause-grows
 returns-in_err-list-in-Some-clause-grows g c = λ n t own.
-    no_structs_grow (option_copied c.args.default) (words_in (g.A.ReaderArena.segments c.args.memory.now.arena)) (words_in (g.A.ReaderArena.segments c.struct_list_here.new.memory.arena)) c.args.slot c.size_of.result c.in_err-list-in-Some.field-0.0 c.in_err-list-in-Some.ensures.refused
+    no_structs_grow (option_copied c.args.default) (words_in (g.A.ReaderArena.segments c.args.memory.now.arena)) (words_in (g.A.ReaderArena.segments c.struct_list_here.new.memory.arena)) c.args.slot c.struct_size.result c.in_err-list-in-Some.field-0.0 c.in_err-list-in-Some.ensures.refused
 
 pub returns-in_ok-list-in-Some-clause-got : goal.returns-in_ok-list-in-Some-clause-got
 returns-in_ok-list-in-Some-clause-got g c =
@@ -22,12 +22,12 @@ returns-in_ok-list-in-Some-clause-got g c =
     let around = schema_of (nodes_of c.args.set.now) in
     let ty = ty_of c.args.element_type in
     let d = option_copied c.args.default in
-    let got = structs_got around ty c.in-Some.schema c.in-Some.ensures.named (ap schema_of c.in-Some.ensures.nodes) d s u c.args.slot c.size_of.result c.size_of.ensures c.in_ok-list-in-Some.list c.requires.near c.in_ok-list-in-Some.ensures.got in
+    let got = structs_got around ty c.in-Some.schema c.in-Some.ensures.named (ap schema_of c.in-Some.ensures.nodes) d s u c.args.slot c.struct_size.result c.struct_size.ensures c.in_ok-list-in-Some.list c.requires.near c.in_ok-list-in-Some.ensures.got in
     subst (PlaceGot around ty d s u c.args.slot) (sym c.sized.ensures) got
 
 pub returns-in_ok-list-in-Some-clause-grows : goal.returns-in_ok-list-in-Some-clause-grows
 returns-in_ok-list-in-Some-clause-grows g c =
-    structs_grow (option_copied c.args.default) (words_in (g.A.ReaderArena.segments c.args.memory.now.arena)) (words_in (g.A.ReaderArena.segments c.struct_list_here.new.memory.arena)) c.args.slot c.size_of.result c.in_ok-list-in-Some.list c.in_ok-list-in-Some.ensures.got
+    structs_grow (option_copied c.args.default) (words_in (g.A.ReaderArena.segments c.args.memory.now.arena)) (words_in (g.A.ReaderArena.segments c.struct_list_here.new.memory.arena)) c.args.slot c.struct_size.result c.in_ok-list-in-Some.list c.in_ok-list-in-Some.ensures.got
 
 pub returns-in-None-clause-got : goal.returns-in-None-clause-got
 returns-in-None-clause-got g c =

@@ -4,8 +4,8 @@ use Rattle.std.specs.Option.{option_map}
 use Rattle.capnp_units.specs.Segments.{words_in}
 use Rattle.capnp_copy.proofs.lemmas.RoomLaws.{sizes_grow}
 use Rattle.capnp_queries.specs.Types.{ty_of}
+use Rattle.capnp_dynamic.specs.Blobs.{bytes_of}
 use Rattle.capnp_copy.specs.States.{state_in}
-use Rattle.capnp_dynamic_lists.specs.Blobs.{bytes_of}
 use Rattle.capnp_dynamic_lists.proofs.Contents.{has_pointer, puts_blob, puts_single}
 use Rattle.capnp_dynamic_lists.proofs.elements.set_flat.Goals as goal
 

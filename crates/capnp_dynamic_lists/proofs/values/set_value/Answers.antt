@@ -4,7 +4,7 @@ use Rattle.capnp_footprints.proofs.lemmas.Algebra.{changes_nothing}
 use Rattle.capnp_footprints.proofs.lemmas.Spans.{grows_same}
 use Rattle.capnp_queries.specs.Types.{ty_of}
 use Rattle.capnp_dynamic.proofs.lemmas.Sources.{flat_stands}
-use Rattle.capnp_dynamic_lists.specs.Values.{struct_given}
+use Rattle.capnp_dynamic.specs.Values.{struct_given}
 use Rattle.capnp_dynamic_lists.proofs.AnyValues.{pointers_of, leaves}
 use Rattle.capnp_dynamic_lists.proofs.values.set_value.Goals as goal
 

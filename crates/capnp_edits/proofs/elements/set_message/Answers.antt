@@ -41,7 +41,7 @@ returns-in-Struct-clause-writes g c around =
     let p = c.element_struct.result in
     let ws = c.words_of.result.now in
     let t = tree_of_message c.args.value.now in
-    let holds = subst (λ bs. IsSome (decode bs) → HoldsDefault ws (default_or_null (decode bs))) c.segment.ensures c.words_of.ensures c.args.value.now.readable in
+    let holds = subst (λ bs. IsSome (decode bs) → HoldsDefault ws (default_or_null (decode bs))) c.segment.ensures c.words_of.ensures.value c.args.value.now.readable in
     let ty : struct c.in-Struct.field-0.id ≡ ty_of c.args.ty = ap ty_of_variant (sym c.in-Struct.is) ∙ c.which.ensures.ty in
     struct_set s u o k p (λ n x is own. c.elements_as_structs.ensures.parts n s o k p x c.requires.index c.element_struct.ensures is own) around (ty_of c.args.ty) c.in-Struct.field-0.id t ty c.copy_content.result (c.copy_content.ensures.takes t holds)
 

@@ -4,6 +4,7 @@ use Rattle.capnp_model.specs.Accepted.{schema_of}
 use Rattle.capnp_model.specs.Coverage.{Grows}
 use Rattle.capnp_model.specs.Segments.{Segments}
 use Rattle.capnp_units.specs.Segments.{words_in}
+use Rattle.capnp_units.specs.declared.sizes.StructSize.{StructSize}
 use Rattle.capnp_wire.specs.Places.{place_view}
 use Rattle.capnp_records.specs.Sets.{nodes_of}
 use Rattle.capnp_queries.specs.Structs.{id_of}
@@ -11,8 +12,8 @@ use Rattle.capnp_queries.specs.Types.{ty_of}
 use Rattle.capnp_model.specs.Schemas.{words_of_shape, pointers_of_shape}
 use Rattle.capnp_builders.proofs.lemmas.Begun.{Laws, made_then}
 use Rattle.capnp_widening.specs.MovedElements.{as_structs}
-use Rattle.capnp_edits.proofs.BegunLists.{structs_value, other_value, gets_grow}
-use Rattle.capnp_edits.proofs.GrownPaths.{begin_grows}
+use Rattle.capnp_dynamic.proofs.lemmas.Grown.{begin_grows, gets_grow}
+use Rattle.capnp_edits.proofs.BegunLists.{structs_value, other_value}
 use Rattle.capnp_edits.proofs.lists.begin_list.Goals as goal
 
 pub returns-in_err-get_struct_list-in-Some-clause-grows : goal.returns-in_err-get_struct_list-in-Some-clause-grows
@@ -36,7 +37,7 @@ returns-in_ok-get_struct_list-in-Some-clause-value g c =
     } in
     let id = id_of c.in-Some.schema in
     structs_value laws (option_copied c.args.default) s m (place_view c.args.slot) tt c.in_ok-begin.ensures.begins (schema_of (nodes_of c.args.set.now)) (ty_of c.args.ty) u id c.struct_size.result.data_words c.struct_size.result.pointers (sym c.in-Some.ensures.named)
-    (c.struct_size.ensures.words ∙ ap (λ ns. words_of_shape ((schema_of ns).shape_of id)) c.in-Some.ensures.nodes) (c.struct_size.ensures.pointers ∙ ap (λ ns. pointers_of_shape ((schema_of ns).shape_of id)) c.in-Some.ensures.nodes) c.in_ok-get_struct_list-in-Some.ensures.value
+    (ap (λ (x : StructSize). x.data_words) c.struct_size.ensures ∙ ap (λ ns. words_of_shape ((schema_of ns).shape_of id)) c.in-Some.ensures.nodes) (ap (λ (x : StructSize). x.pointers) c.struct_size.ensures ∙ ap (λ ns. pointers_of_shape ((schema_of ns).shape_of id)) c.in-Some.ensures.nodes) c.in_ok-get_struct_list-in-Some.ensures.value
 
 pub returns-in_ok-get_struct_list-in-Some-clause-grows : goal.returns-in_ok-get_struct_list-in-Some-clause-grows
 returns-in_ok-get_struct_list-in-Some-clause-grows g c = λ n t own. (

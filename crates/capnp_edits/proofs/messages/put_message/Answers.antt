@@ -15,7 +15,7 @@ pub returns-then-has_null_root-clause-puts : goal.returns-then-has_null_root-cla
 returns-then-has_null_root-clause-puts g c =
     let ws = c.words_of-words.result.now in
     let t = tree_of_message c.args.message.now in
-    let holds = subst (λ bs. IsSome (decode bs) → HoldsDefault ws (default_or_null (decode bs))) c.segment.ensures c.words_of-words.ensures c.args.message.now.readable in
+    let holds = subst (λ bs. IsSome (decode bs) → HoldsDefault ws (default_or_null (decode bs))) c.segment.ensures c.words_of-words.ensures.value c.args.message.now.readable in
     let empty : is_null_at (default_segments ws) root ≡ true = sym c.has_null_root.ensures ∙ c.if-has_null_root.true in
     emptied (default_segments ws) (words_in (g.A.ReaderArena.segments c.args.arena.now)) (words_in (g.A.ReaderArena.segments c.init_struct.new.arena)) (place_view c.args.slot) t holds empty c.in_ok-init_struct.ensures.value
 
@@ -23,6 +23,6 @@ pub returns-clause-puts : goal.returns-clause-puts
 returns-clause-puts g c =
     let ws = c.words_of-words.result.now in
     let t = tree_of_message c.args.message.now in
-    let holds = subst (λ bs. IsSome (decode bs) → HoldsDefault ws (default_or_null (decode bs))) c.segment.ensures c.words_of-words.ensures c.args.message.now.readable in
+    let holds = subst (λ bs. IsSome (decode bs) → HoldsDefault ws (default_or_null (decode bs))) c.segment.ensures c.words_of-words.ensures.value c.args.message.now.readable in
     let some : is_null_at (default_segments ws) root ≡ false = sym c.has_null_root.ensures ∙ c.if-has_null_root.false in
     root_put (default_segments ws) (words_in (g.A.ReaderArena.segments c.args.arena.now)) (words_in (g.A.ReaderArena.segments c.copy_root.new.arena)) (place_view c.args.slot) c.copy_root.result t holds some (c.copy_root.ensures.puts t holds)

@@ -19,7 +19,7 @@ pub returns-clause-writes : goal.returns-clause-writes
 returns-clause-writes g c =
     let t = tree_of_message c.args.value.now in
     let ws = c.words_of.result.now in
-    let holds = subst (λ bs. IsSome (decode bs) → HoldsDefault ws (default_or_null (decode bs))) c.segment.ensures c.words_of.ensures c.args.value.now.readable in
+    let holds = subst (λ bs. IsSome (decode bs) → HoldsDefault ws (default_or_null (decode bs))) c.segment.ensures c.words_of.ensures.value c.args.value.now.readable in
     let gives = c.in_ok-root.ensures in
     let segments = ap (λ (x : PointerView). x.basis.segments) c.at.ensures ∙ ap (λ (x : Ground). x.segments) c.default_backing-backing.ensures in
     let level = ap (λ (x : PointerView). level_below x.levels) c.at.ensures in

@@ -1,22 +1,19 @@
-use Rattle.std.proofs.Common.{◌≡◌, true, refl, sym, subst, ◌∙◌}
+use Rattle.std.proofs.Common.{◌≡◌, true, refl, sym, ◌∙◌}
 use Rattle.std.specs.Prelude.{option_map, option_copied}
-use Rattle.std.specs.Option.{is_some}
 use Rattle.capnp_model.specs.Accepted.{default_tree}
 use Rattle.capnp_model.specs.Schemas.{void_slot}
-use Rattle.capnp_model.specs.Segments.{words_at}
 use Rattle.capnp_model.specs.Calls.{set_to, message}
 use Rattle.capnp_units.specs.Segments.{words_in}
 use Rattle.capnp_wire.specs.Places.{place_view}
 use Rattle.capnp_records.specs.NodeViews.{field_of, value_of}
 use Rattle.capnp_call_messages.specs.Messages.{tree_of_message}
 use Rattle.capnp_queries.specs.Structs.{shape_of_struct}
-use Rattle.capnp_queries.specs.Handles.{body_of_place}
 use Rattle.capnp_queries.specs.Types.{ty_of}
 use Rattle.capnp_queries.specs.declared.slots.FieldPlace.TheVariants as F
 use Rattle.capnp_calls.proofs.lemmas.OneStep.{is_void}
-use Rattle.capnp_dynamic.proofs.lemmas.Ready.{areas_inside, pointer_there}
+use Rattle.capnp_dynamic.proofs.lemmas.Ready.{areas_inside, slot_there}
 use Rattle.capnp_dynamic.proofs.lemmas.Grown.{there_grown}
-use Rattle.capnp_dynamic.proofs.lemmas.GroupFields.{pointer_inside, member_inside}
+use Rattle.capnp_dynamic.proofs.lemmas.GroupFields.{slot_inside}
 use Rattle.capnp_edits.specs.Written.{takes_message}
 use Rattle.capnp_edits.proofs.Ends.{bits_end}
 use Rattle.capnp_edits.proofs.SetMessages.{message_end}
@@ -35,20 +32,14 @@ mark-requires-in-Pointer-clause-there g c =
 pub pointer_place-requires-clause-inside : goal.pointer_place-requires-clause-inside
 pointer_place-requires-clause-inside g c =
     let p = c.args.object in
-    let b = F.Pointer c.in-Pointer.index c.in-Pointer.ty c.in-Pointer.default in
-    let areas = areas_inside c.args.field.parent p c.requires.wide in
-    let inside = member_inside c.args.field (field_of c.get_proto-said.result.now) c.get_proto-said.ensures (body_of_place b) c.in-Pointer.ensures.body p.data_words p.pointers areas in
-    pointer_inside p b c.in-Pointer.index c.in-Pointer.ty c.in-Pointer.default refl inside
+    slot_inside c.args.field (field_of c.get_proto-said.result.now) c.get_proto-said.ensures p c.in-Pointer.index c.in-Pointer.ty c.in-Pointer.default c.in-Pointer.ensures.body (areas_inside c.args.field.parent p c.requires.wide)
 
 pub put_message-requires-clause-there : goal.put_message-requires-clause-there
 put_message-requires-clause-there g c =
     let p = c.args.object in
-    let b = F.Pointer c.in-Pointer.index c.in-Pointer.ty c.in-Pointer.default in
-    let areas = areas_inside c.args.field.parent p c.requires.wide in
-    let inside = member_inside c.args.field (field_of c.get_proto-said.result.now) c.get_proto-said.ensures (body_of_place b) c.in-Pointer.ensures.body p.data_words p.pointers areas in
-    let l = pointer_inside p b c.in-Pointer.index c.in-Pointer.ty c.in-Pointer.default refl inside in
+    let l = slot_inside c.args.field (field_of c.get_proto-said.result.now) c.get_proto-said.ensures p c.in-Pointer.index c.in-Pointer.ty c.in-Pointer.default c.in-Pointer.ensures.body (areas_inside c.args.field.parent p c.requires.wide) in
     let s = words_in (g.A.ReaderArena.segments c.args.arena.now) in
-    subst (λ q. is_some (words_at s q 1) ≡ true) (sym c.pointer_place.ensures.place) (pointer_there s (place_view p.start) p.data_words p.pointers c.in-Pointer.index l c.requires.there.words)
+    slot_there s p c.in-Pointer.index (place_view c.pointer_place.result) l c.pointer_place.ensures.place c.requires.there
 
 pub returns-in-Void-clause-writes : goal.returns-in-Void-clause-writes
 returns-in-Void-clause-writes g c =
@@ -63,10 +54,7 @@ returns-in_ok-put_message-in-Pointer-clause-writes g c =
     let s = words_in (g.A.ReaderArena.segments c.args.arena.now) in
     let m = words_in (g.A.ReaderArena.segments c.put_message.new.arena) in
     let u = words_in (g.A.ReaderArena.segments c.mark-in-Pointer.new.arena) in
-    let b = F.Pointer c.in-Pointer.index c.in-Pointer.ty c.in-Pointer.default in
-    let areas = areas_inside f.parent p c.requires.wide in
-    let inside = member_inside f (field_of c.get_proto-said.result.now) c.get_proto-said.ensures (body_of_place b) c.in-Pointer.ensures.body p.data_words p.pointers areas in
-    let l = pointer_inside p b c.in-Pointer.index c.in-Pointer.ty c.in-Pointer.default refl inside in
+    let l = slot_inside f (field_of c.get_proto-said.result.now) c.get_proto-said.ensures p c.in-Pointer.index c.in-Pointer.ty c.in-Pointer.default c.in-Pointer.ensures.body (areas_inside f.parent p c.requires.wide) in
     let takes : takes_message (ty_of c.in-Pointer.ty) ≡ true = sym c.takes_message.ensures ∙ c.if-not-takes_message.false in
     message_end f (field_of c.get_proto-said.result.now) c.get_proto-said.ensures c.in-Pointer.index (ty_of c.in-Pointer.ty) (default_tree (option_map value_of (option_copied c.in-Pointer.default))) c.in-Pointer.ensures.body takes (tree_of_message c.args.value.now) s m u p (place_view c.pointer_place.result)
     l c.pointer_place.ensures.place c.in_ok-put_message-in-Pointer.ensures.puts c.mark-in-Pointer.ensures.edits

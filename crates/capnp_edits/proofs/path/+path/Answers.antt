@@ -1,34 +1,33 @@
 use Rattle.std.proofs.Common.{rules, ◌≡◌, ◌≢◌, ◌<◌, true, [], ◌∷◌, refl, sym, ap, subst, ◌∙◌}
 use Rattle.std.specs.Prelude.{map, option_map, option_copied, OnOk}
-use Rattle.std.specs.Option.{is_some}
-use Rattle.capnp_model.specs.Segments.{words_at}
 use Rattle.capnp_model.specs.Schemas.{struct, list, default_or_null}
 use Rattle.capnp_model.specs.Trees.{null}
 use Rattle.capnp_model.specs.Accepted.{schema_of, default_tree}
 use Rattle.capnp_model.specs.Calls.{name}
 use Rattle.capnp_units.specs.Segments.{words_in}
+use Rattle.capnp_units.specs.declared.sizes.StructSize.{StructSize}
 use Rattle.capnp_wire.specs.Places.{place_view}
 use Rattle.capnp_records.specs.NodeViews.{field_of, struct_of, value_of}
 use Rattle.capnp_records.specs.Sets.{nodes_of}
-use Rattle.capnp_queries.specs.Structs.{nodes_around, schema_around, id_of, IsRecordOf}
-use Rattle.capnp_queries.specs.Handles.{body_of_place}
+use Rattle.capnp_queries.specs.Structs.{nodes_around, schema_around, shape_of_struct, id_of, IsRecordOf}
 use Rattle.capnp_queries.specs.Types.{ty_of, ty_of_variant, is_type_of}
 use Rattle.capnp_queries.specs.declared.slots.FieldPlace.TheVariants as F
 use Rattle.capnp_calls.specs.CallViews.{step_view, action_view}
 use Rattle.capnp_calls.proofs.lemmas.GroupSizes.{group_is_field}
 use Rattle.capnp_calls.proofs.lemmas.PathAnswers.{none_is, some_is}
-use Rattle.capnp_dynamic.proofs.lemmas.Ready.{areas_inside, pointer_there}
-use Rattle.capnp_dynamic.proofs.lemmas.GroupFields.{pointer_inside, member_inside}
+use Rattle.capnp_dynamic.proofs.lemmas.Ready.{areas_inside, slot_there, wide_within}
+use Rattle.capnp_dynamic.proofs.lemmas.GroupFields.{slot_inside}
 use Rattle.capnp_dynamic_lists.specs.Lists.{HasPointer}
 use Rattle.capnp_dynamic_lists.specs.Elements.{Holds}
 use Rattle.capnp_ways.specs.Ways.{IsWay}
 use Rattle.capnp_edits.specs.Written.{WritesField, WritesValue}
 use Rattle.capnp_edits.specs.Elements.{WritesWithin, WritesFieldWithin, WritesElement}
 use Rattle.capnp_edits.proofs.lemmas.Outcomes.{by_name, by_group, by_pointer, end_within}
-use Rattle.capnp_edits.proofs.Behind.{on_ok, group_wide, struct_written}
+use Rattle.capnp_edits.proofs.Behind.{on_ok, struct_written}
 use Rattle.capnp_edits.proofs.BehindLists.{list_written, list_grows}
 use Rattle.capnp_edits.proofs.ElementSteps.{element_written, element_grows, value_written, value_grows}
-use Rattle.capnp_edits.proofs.GrownPaths.{refused_grows, got_grows, child_grows}
+use Rattle.capnp_dynamic.proofs.lemmas.Grown.{no_struct_grows, child_grows}
+use Rattle.capnp_edits.proofs.GrownPaths.{got_grows}
 use Rattle.capnp_edits.proofs.path.+path.Goals as goal
 
 -- ---- write_steps
@@ -66,27 +65,21 @@ write_behind-write_steps-requires g t c κs within =
     let n = struct_of c.record-holder.result.now in
     let holder = subst (λ p. IsRecordOf (nodes_around p) (id_of p) n) c.parent.ensures c.record-holder.ensures in
     let is = group_is_field f (field_of c.get_proto-said.result.now) c.get_proto-said.ensures n holder c.in-Group.schema c.in-Group.ensures.of_set c.in-Group.ensures.body in
-    let wide = group_wide c.args.object f c.in-Group.schema is c.requires.wide in
+    let wide = wide_within c.args.object (shape_of_struct c.in-Group.schema) (shape_of_struct f.parent) is.words is.pointers c.requires.wide in
     let way : IsWay (schema_around c.in-Group.schema) (map step_view c.args.rest.now) c.args.way.now = subst (λ ns. IsWay (schema_of ns) (map step_view c.args.rest.now) c.args.way.now) (sym c.in-Group.ensures.of_set) c.requires.way in
     search rules
 
 pub write_behind-pointer_place-slot-requires-clause-inside : goal.write_behind-pointer_place-slot-requires-clause-inside
 write_behind-pointer_place-slot-requires-clause-inside g t c =
     let p = c.args.object in
-    let b = F.Pointer c.in-Pointer.index c.in-Pointer.ty c.in-Pointer.default in
-    let areas = areas_inside c.args.field.parent p c.requires.wide in
-    let inside = member_inside c.args.field (field_of c.get_proto-said.result.now) c.get_proto-said.ensures (body_of_place b) c.in-Pointer.ensures.body p.data_words p.pointers areas in
-    pointer_inside p b c.in-Pointer.index c.in-Pointer.ty c.in-Pointer.default refl inside
+    slot_inside c.args.field (field_of c.get_proto-said.result.now) c.get_proto-said.ensures p c.in-Pointer.index c.in-Pointer.ty c.in-Pointer.default c.in-Pointer.ensures.body (areas_inside c.args.field.parent p c.requires.wide)
 
 pub write_behind-write_value-requires : goal.write_behind-write_value-requires
 write_behind-write_value-requires g t c κs within =
     let p = c.args.object in
-    let b = F.Pointer c.in-Pointer.index c.in-Pointer.ty c.in-Pointer.default in
-    let areas = areas_inside c.args.field.parent p c.requires.wide in
-    let inside = member_inside c.args.field (field_of c.get_proto-said.result.now) c.get_proto-said.ensures (body_of_place b) c.in-Pointer.ensures.body p.data_words p.pointers areas in
-    let l = pointer_inside p b c.in-Pointer.index c.in-Pointer.ty c.in-Pointer.default refl inside in
+    let l = slot_inside c.args.field (field_of c.get_proto-said.result.now) c.get_proto-said.ensures p c.in-Pointer.index c.in-Pointer.ty c.in-Pointer.default c.in-Pointer.ensures.body (areas_inside c.args.field.parent p c.requires.wide) in
     let s = words_in (g.A.ReaderArena.segments c.args.arena.now) in
-    let there = subst (λ q. is_some (words_at s q 1) ≡ true) (sym c.pointer_place-slot.ensures.place) (pointer_there s (place_view p.start) p.data_words p.pointers c.in-Pointer.index l c.requires.there.words) in
+    let there = slot_there s p c.in-Pointer.index (place_view c.pointer_place-slot.result) l c.pointer_place-slot.ensures.place c.requires.there in
     let nodes = c.set-set.ensures ∙ ap nodes_around c.parent-in-Pointer.ensures in
     let known : is_type_of (nodes_of c.set-set.result.now) c.in-Pointer.ty ≡ true = ap (λ ns. is_type_of ns c.in-Pointer.ty) nodes ∙ c.in-Pointer.ensures.of_set in
     let way : IsWay (schema_of (nodes_of c.set-set.result.now)) (map step_view c.args.rest.now) c.args.way.now = subst (λ ns. IsWay (schema_of ns) (map step_view c.args.rest.now) c.args.way.now) (sym nodes) c.requires.way in
@@ -112,10 +105,7 @@ write_behind-returns-in-Pointer-clause-writes g t c =
     let i = c.in-Pointer.index in
     let ty = ty_of c.in-Pointer.ty in
     let d = default_tree (option_map value_of (option_copied c.in-Pointer.default)) in
-    let b = F.Pointer i c.in-Pointer.ty c.in-Pointer.default in
-    let areas = areas_inside f.parent p c.requires.wide in
-    let inside = member_inside f (field_of c.get_proto-said.result.now) c.get_proto-said.ensures (body_of_place b) c.in-Pointer.ensures.body p.data_words p.pointers areas in
-    let l = pointer_inside p b i c.in-Pointer.ty c.in-Pointer.default refl inside in
+    let l = slot_inside f (field_of c.get_proto-said.result.now) c.get_proto-said.ensures p i c.in-Pointer.ty c.in-Pointer.default c.in-Pointer.ensures.body (areas_inside f.parent p c.requires.wide) in
     let nodes = c.set-set.ensures ∙ ap nodes_around c.parent-in-Pointer.ensures in
     let slot = place_view c.pointer_place-slot.result in
     let written = c.write_value.ensures.writes (default_or_null d) (c.default_of.ensures i ty d c.in-Pointer.ensures.body) in
@@ -129,10 +119,7 @@ write_behind-returns-in-Pointer-clause-grows g t c =
     let f = c.args.field in
     let s = words_in (g.A.ReaderArena.segments c.args.arena.now) in
     let u = words_in (g.A.ReaderArena.segments c.write_value.new.arena) in
-    let b = F.Pointer c.in-Pointer.index c.in-Pointer.ty c.in-Pointer.default in
-    let areas = areas_inside f.parent p c.requires.wide in
-    let inside = member_inside f (field_of c.get_proto-said.result.now) c.get_proto-said.ensures (body_of_place b) c.in-Pointer.ensures.body p.data_words p.pointers areas in
-    let l = pointer_inside p b c.in-Pointer.index c.in-Pointer.ty c.in-Pointer.default refl inside in
+    let l = slot_inside f (field_of c.get_proto-said.result.now) c.get_proto-said.ensures p c.in-Pointer.index c.in-Pointer.ty c.in-Pointer.default c.in-Pointer.ensures.body (areas_inside f.parent p c.requires.wide) in
     child_grows s u p c.in-Pointer.index (place_view c.pointer_place-slot.result) l c.pointer_place-slot.ensures.place c.write_value.ensures.grows
 
 -- ---- write_struct
@@ -145,12 +132,12 @@ write_struct-returns-clause-writes g t c = λ d holds. (
     let path = map step_view c.args.path.now in
     let v = action_view c.args.action.now in
     on_ok c.write_steps.result (WritesWithin u w c.in_ok-inner.inner c.args.schema path v) (WritesValue s w (place_view c.args.slot) (schema_around c.args.schema) (struct (id_of c.args.schema)) d path v)
-    (struct_written s u w (place_view c.args.slot) c.args.schema (option_copied c.args.default) c.struct_size.result c.in_ok-inner.inner c.struct_size.ensures.words c.struct_size.ensures.pointers c.in_ok-inner.ensures.got d holds v path c.requires.named) c.write_steps.ensures.writes
+    (struct_written s u w (place_view c.args.slot) c.args.schema (option_copied c.args.default) c.struct_size.result c.in_ok-inner.inner (ap (λ (x : StructSize). x.data_words) c.struct_size.ensures) (ap (λ (x : StructSize). x.pointers) c.struct_size.ensures) c.in_ok-inner.ensures.got d holds v path c.requires.named) c.write_steps.ensures.writes
     )
 
 pub write_struct-returns-in_err-inner-clause-grows : goal.write_struct-returns-in_err-inner-clause-grows
 write_struct-returns-in_err-inner-clause-grows g t c = λ n v own.
-    refused_grows (option_copied c.args.default) (words_in (g.A.ReaderArena.segments c.args.arena.now)) (words_in (g.A.ReaderArena.segments c.struct_or_default.new.arena)) (place_view c.args.slot) c.struct_size.result c.in_err-inner.field-0.0 c.in_err-inner.ensures.refused
+    no_struct_grows (option_copied c.args.default) (words_in (g.A.ReaderArena.segments c.args.arena.now)) (words_in (g.A.ReaderArena.segments c.struct_or_default.new.arena)) (place_view c.args.slot) c.struct_size.result c.in_err-inner.field-0.0 c.in_err-inner.ensures.refused
 
 pub write_struct-returns-clause-grows : goal.write_struct-returns-clause-grows
 write_struct-returns-clause-grows g t c =
