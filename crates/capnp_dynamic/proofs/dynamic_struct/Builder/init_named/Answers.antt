@@ -5,7 +5,7 @@ use Rattle.capnp_dynamic.proofs.lemmas.Ready.{field_inside}
 use Rattle.capnp_dynamic.proofs.dynamic_struct.Builder.init_named.Goals as goal
 
 pub begin_field-requires-clause-inside : goal.begin_field-requires-clause-inside
-begin_field-requires-clause-inside g c = field_inside c.args.self.now.place c.args.self.now.schema c.in_ok-found.field c.in_ok-found.ensures.found.parent c.requires.ready.wide
+begin_field-requires-clause-inside g c = field_inside c.args.self.now.place c.args.self.now.schema c.in_ok-found.found c.in_ok-found.ensures.found.parent c.requires.ready.wide
 
 pub returns-clause-ready : goal.returns-clause-ready
 returns-clause-ready g c =

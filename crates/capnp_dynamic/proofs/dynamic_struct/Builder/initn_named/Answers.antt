@@ -5,7 +5,7 @@ use Rattle.capnp_dynamic.proofs.lemmas.Ready.{field_inside}
 use Rattle.capnp_dynamic.proofs.dynamic_struct.Builder.initn_named.Goals as goal
 
 pub initn_slot-requires-clause-inside : goal.initn_slot-requires-clause-inside
-initn_slot-requires-clause-inside g c = field_inside c.args.self.now.place c.args.self.now.schema c.in_ok-found.field c.in_ok-found.ensures.found.parent c.requires.ready.wide
+initn_slot-requires-clause-inside g c = field_inside c.args.self.now.place c.args.self.now.schema c.in_ok-found.found c.in_ok-found.ensures.found.parent c.requires.ready.wide
 
 pub returns-clause-ready : goal.returns-clause-ready
 returns-clause-ready g c =
