@@ -1,4 +1,5 @@
-use Rattle.std.proofs.Common.{inl, refl}
+use Rattle.std.proofs.Common.{Result, Ok, Err, inl, refl}
+use Rattle.std.specs.Prelude.{IfOk}
 use Rattle.capnp_units.specs.Segments.{words_in}
 use Rattle.capnp_dynamic.proofs.lemmas.Grown.{there_grown}
 use Rattle.capnp_dynamic.proofs.lemmas.Ready.{field_inside}
@@ -11,3 +12,13 @@ pub returns-clause-ready : goal.returns-clause-ready
 returns-clause-ready g c =
     let old = c.args.self.now in
     record { there = there_grown (words_in (g.A.ReaderArena.segments old.memory.now.arena)) (words_in (g.A.ReaderArena.segments c.begin_field.new.arena)) old.place c.begin_field.ensures.grows c.requires.ready.there; wide = c.requires.ready.wide }
+
+both_told : {X E : Type 0} {P Q R : X → Type 0} (r : Result X E) → ((x : X) → P x → Q x → R x) → IfOk r P → IfOk r Q → IfOk r R
+both_told (Ok x) f p q = f x p q
+both_told (Err e) f p q = tt
+
+pub returns-clause-puts : goal.returns-clause-puts
+returns-clause-puts g c =
+    inl (c.in_ok-found.found, c.in_ok-found.ensures.found,
+    (record { same = refl; place = refl; schema = refl; puts = c.begin_field.ensures.puts },
+    both_told c.begin_field.result (λ part tells there. record { tells = tells; there = there }) c.begin_field.ensures.tells c.begin_field.ensures.there))
