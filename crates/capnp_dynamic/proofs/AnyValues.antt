@@ -22,13 +22,13 @@ use Rattle.capnp_queries.specs.declared.slots.FieldPlace.{FieldPlace}
 use Rattle.capnp_queries.specs.declared.slots.FieldPlace.TheVariants as F
 use Rattle.capnp_records.specs.declared.node.Value.{Value}
 use Rattle.capnp_values.specs.declared.dynamic_value.Reader.{Reader}
+use Rattle.capnp_model.proofs.lemmas.Tests.{same_some}
 use Rattle.capnp_dynamic.specs.Edits.{marked_in}
 use Rattle.capnp_dynamic.specs.Given.{flat_content, set_content, set_entry, set_edit}
 use Rattle.capnp_dynamic.specs.Puts.{PutsContent}
 use Rattle.capnp_dynamic.specs.Sources.{SourceView, source_given, Stands}
 use Rattle.capnp_dynamic.specs.Begun.{is_untyped}
 use Rattle.capnp_dynamic.specs.Values.{Given, made, copied, fields, is_capability, struct_given, group_refusal, sets_no_group, Leaves, made_behind, given, value_given, IsPointerBody, IsPointerSlot, entry_edit, content_edit, PutsGiven}
-use Rattle.capnp_dynamic.proofs.lemmas.GroupFields.{some_same}
 use Rattle.capnp_dynamic.proofs.lemmas.SetPointers.{marked_last}
 
 -- ---- a copy behind a pointer
@@ -50,7 +50,7 @@ field_put f i h t c = entry_put (union_in (shape_of_struct f.parent)) (entry_of 
 
 pub pointer_is : (o : Option Entry) (i : ℕ) (ty : Ty) (d : Option Tree) → option_map (λ e. e.body) o ≡ Some (pointer_slot i ty d) → IsPointerSlot i o
 pointer_is None i ty d h = absurd (cc h)
-pointer_is (Some e) i ty d h = subst (λ b. IsPointerBody i b) (sym (some_same h)) refl
+pointer_is (Some e) i ty d h = subst (λ b. IsPointerBody i b) (sym (same_some h)) refl
 
 pub none_given : {X Y : Type 0} (f : X → Y) (r : Option X) (o : Option Y) → option_map f r ≡ o → r ≡ None → o ≡ None
 none_given f r o e h = sym e ∙ ap (option_map f) h
@@ -61,11 +61,11 @@ told a b truth e h = sym e ∙ h
 module _ {A : Type 0} (bytes : A → List (List ℕ)) (v : Reader A) where
   given_is : (o : Option Entry) (b : Body) → option_map (λ e. e.body) o ≡ Some b → value_given bytes v o ≡ given bytes v b
   given_is None b h = absurd (cc h)
-  given_is (Some e) b h = ap (given bytes v) (some_same h)
+  given_is (Some e) b h = ap (given bytes v) (same_some h)
 
   set_is : (o : Option Entry) (b : Body) → option_map (λ e. e.body) o ≡ Some b → set_content v o ≡ flat_content v b
   set_is None b h = absurd (cc h)
-  set_is (Some e) b h = ap (flat_content v) (some_same h)
+  set_is (Some e) b h = ap (flat_content v) (same_some h)
 
   pub copy_given : (o : Option Entry) (i : ℕ) (ty : Ty) (d : Option Tree) (x : SourceView) → option_map (λ e. e.body) o ≡ Some (pointer_slot i ty d) → source_given bytes v ty ≡ Some x → value_given bytes v o ≡ copied x
   copy_given o i ty d x h e =
@@ -122,7 +122,7 @@ module _ {A : Type 0} (bytes : A → List (List ℕ)) (v : Reader A) where
 -- the type of a group's field
 pub group_type : (o : Option Entry) (b : Body) (t : Ty) → option_map (λ e. e.body) o ≡ Some b → option_map (λ e. type_of_body e.body) o ≡ Some t → t ≡ type_of_body b
 group_type None b t h k = absurd (cc h)
-group_type (Some e) b t h k = sym (some_same k) ∙ ap type_of_body (some_same h)
+group_type (Some e) b t h k = sym (same_some k) ∙ ap type_of_body (same_some h)
 
 -- ---- what is there later
 

@@ -20,8 +20,9 @@ use Rattle.capnp_queries.specs.Handles.{entry_of}
 use Rattle.capnp_queries.specs.declared.structs.StructSchema.{StructSchema}
 use Rattle.capnp_queries.specs.declared.fields.Field.{Field}
 use Rattle.capnp_values.specs.Shown.{opened, default_opened, slot_opened, slot_shown, kind_shown, ShowsField}
+use Rattle.capnp_model.proofs.lemmas.Tests.{same_some}
 use Rattle.capnp_dynamic.specs.GroupRefusals.{CopyRefused, ChildRefused, SomeRefused, NullBodyRefused, NullEntryRefused, PointerRefused, FieldsRefused, BodyRefused, EntryRefused, FieldRefused}
-use Rattle.capnp_dynamic.proofs.lemmas.GroupFields.{some_same, body_is}
+use Rattle.capnp_dynamic.proofs.lemmas.GroupFields.{body_is}
 
 -- ---- copies
 
@@ -77,13 +78,13 @@ pub null_refused : (s : Schema) (v : StructView) (u : Segments) (o : Option Entr
 null_refused s v u None i ty d body is r h = absurd (cc body)
 null_refused s v u (Some x) i ty d body is (Ok y) h = tt
 null_refused s v u (Some x) i ty d body is (Err e) h =
-    let same = some_same body in
+    let same = same_some body in
     subst (λ (y : Body). BodyRefused s y v u e) (sym same) (pointer_body s v i ty d true u e is (subst (λ (y : Body). NullBodyRefused s y u e) same h))
 
 pub some_refused : (s : Schema) (v : StructView) (u : Segments) (o : Option Entry) (i : ℕ) (ty : Ty) (d : Option Tree) → option_map (λ e. e.body) o ≡ Some (pointer_slot i ty d) → is_null (pointer_field v i) ≡ false → (r : Result ⊤ Error) → IfErr r (SomeRefused s v i ty u) → IfErr r (EntryRefused s o v u)
 some_refused s v u None i ty d body is r h = absurd (cc body)
 some_refused s v u (Some x) i ty d body is (Ok y) h = tt
-some_refused s v u (Some x) i ty d body is (Err e) h = subst (λ (y : Body). BodyRefused s y v u e) (sym (some_same body)) (pointer_body s v i ty d false u e is h)
+some_refused s v u (Some x) i ty d body is (Err e) h = subst (λ (y : Body). BodyRefused s y v u e) (sym (same_some body)) (pointer_body s v i ty d false u e is h)
 
 group_body : (s : Schema) (g : Shape) (v : StructView) (u : Segments) (e : Error) → FieldsRefused s (fields_in g) v u e → BodyRefused s (group_slot g) v u e
 unfolding FieldsRefused
@@ -92,7 +93,7 @@ group_body s (shape nid w p un fs) v u e h = h
 group_entry : (s : Schema) (g : Shape) (v : StructView) (u : Segments) (o : Option Entry) → option_map (λ e. e.body) o ≡ Some (group_slot g) → (r : Result ⊤ Error) → IfErr r (FieldsRefused s (fields_in g) v u) → IfErr r (EntryRefused s o v u)
 group_entry s g v u None body r h = absurd (cc body)
 group_entry s g v u (Some x) body (Ok y) h = tt
-group_entry s g v u (Some x) body (Err e) h = subst (λ (y : Body). BodyRefused s y v u e) (sym (some_same body)) (group_body s g v u e h)
+group_entry s g v u (Some x) body (Err e) h = subst (λ (y : Body). BodyRefused s y v u e) (sym (same_some body)) (group_body s g v u e h)
 
 pub group_isnt_set : (f : Field) (g : StructSchema) (v : StructView) (u : Segments) → option_map (λ e. e.body) (entry_of f) ≡ Some (group_slot (shape_of_struct g)) → nodes_around g ≡ nodes_around f.parent → (r : Result ⊤ Error) → IfErr r (FieldsRefused (schema_around g) (fields_of_struct g) v u) → IfErr r (FieldRefused f v u)
 group_isnt_set f g v u body nodes r h = group_entry (schema_around f.parent) (shape_of_struct g) v u (entry_of f) body r (subst (λ ns. IfErr r (FieldsRefused (schema_of ns) (fields_of_struct g) v u)) nodes h)
@@ -103,7 +104,7 @@ at_field : (s : Schema) (fs : Fields) (i : ℕ) (x : Entry) (v : StructView) (u 
 unfolding FieldsRefused
 at_field s no_fields zero x v u e h k = absurd (cc h)
 at_field s no_fields (suc i) x v u e h k = absurd (cc h)
-at_field s (field n m b fs) zero x v u e h k = inl (subst (λ (y : Entry). BodyRefused s y.body v u e) (sym (some_same h)) k)
+at_field s (field n m b fs) zero x v u e h k = inl (subst (λ (y : Entry). BodyRefused s y.body v u e) (sym (same_some h)) k)
 at_field s (field n m b fs) (suc i) x v u e h k = inr (at_field s fs i x v u e h k)
 
 by_entry : (s : Schema) (fs : Fields) (i : ℕ) (o : Option Entry) (v : StructView) (u : Segments) (e : Error) → field_at fs i ≡ o → EntryRefused s o v u e → FieldsRefused s fs v u e

@@ -29,10 +29,11 @@ use Rattle.capnp_queries.specs.Structs.{schema_around}
 use Rattle.capnp_queries.specs.Types.{is_pointer}
 use Rattle.capnp_queries.specs.Handles.{entry_of, IsFieldRecord}
 use Rattle.capnp_queries.specs.declared.fields.Field.{Field}
+use Rattle.capnp_model.proofs.lemmas.Tests.{same_some}
 use Rattle.capnp_dynamic.specs.NewLists.{ObjectNotMade}
 use Rattle.capnp_dynamic.specs.GroupRefusals.{type_tested, CopyRefused, CopyUnplaced, NotPut, ValueUnplaced, NullRefused, NullBodyRefused, NullEntryRefused, NullFieldRefused}
 use Rattle.capnp_dynamic.specs.GroupSets.{PutsValue}
-use Rattle.capnp_dynamic.proofs.lemmas.GroupFields.{some_same, body_is}
+use Rattle.capnp_dynamic.proofs.lemmas.GroupFields.{body_is}
 use Rattle.capnp_dynamic.proofs.EmptyValues.{made_puts, list_stands}
 
 -- ---- copies of values that can be read
@@ -133,7 +134,7 @@ counts_some s ty (struct_list w p es) b k h = absurd (cc h)
 
 in_slot : (s : Schema) (o : Option Entry) (i : ℕ) (ty : Ty) (d : Option Tree) (u : Segments) (e : Error) → option_map (λ e. e.body) o ≡ Some (pointer_slot i ty d) → NullRefused s ty d u e → NullEntryRefused s o u e
 in_slot s None i ty d u e body h = absurd (cc body)
-in_slot s (Some x) i ty d u e body h = subst (λ (y : Body). NullBodyRefused s y u e) (sym (some_same body)) h
+in_slot s (Some x) i ty d u e body h = subst (λ (y : Body). NullBodyRefused s y u e) (sym (same_some body)) h
 
 unplaced : (old new : ArenaState) (segment : ℕ) (t : Tree) (e : Error) → (t ≡ null → ⊥) → NotPut old new segment t e → ValueUnplaced (words_in new.segments) t e
 unplaced old new segment t e some (inl x) = absurd (some x.0)

@@ -70,9 +70,6 @@ module _ (v : StructView) (from : Cell) (is : IsSource v from) (bytes : List ℕ
   pub eight_read : (o : ℕ) → field_bits (just_bits v.bits) v.section (8 * (8 * o)) 64 ≡ field_bits whole_words from.section (64 * o) 64
   eight_read o = let e : 8 * (8 * o) ≡ 64 * o = omega arith in number_read (8 * (8 * o)) 64 (λ d l. omega (arith, l)) ∙ ap (λ z. field_bits whole_words from.section z 64) e
 
-pub bits_below : (at w section : ℕ) → bits_at at w section < 2 ^ w
-bits_below at w section = mod-lt (section / 2 ^ at) (pow_pos w)
-
 -- ---- truth values
 
 pub one_bit : (a x : ℕ) (b : Bool) → b ≡ (x == 1) → b ≡ true → x ≡ a → 1 ≡ a

@@ -17,14 +17,8 @@ use Rattle.capnp_dynamic.specs.Inits.{struct_named}
 use Rattle.capnp_dynamic_lists.specs.Lists.{HasRoom, HasPointer}
 use Rattle.capnp_dynamic_lists.specs.Elements.{Holds, HoldsStructs}
 use Rattle.capnp_dynamic_lists.specs.Readers.{IsBytewise}
-use Rattle.capnp_model.proofs.lemmas.Tests.{and_left, and_right}
+use Rattle.capnp_model.proofs.lemmas.Tests.{and_left, and_right, same_number, le_is}
 use Rattle.capnp_dynamic_gets.specs.Plain.{IsPlainType}
-
-at_most : (a b : ℕ) → nat_le a b ≡ true → a ≤ b
-at_most a b h = grind (arith, nat_tests)
-
-equal : (a b : ℕ) → (a == b) ≡ true → a ≡ b
-equal a b h = grind arith
 
 -- ---- what elements of a size have
 
@@ -40,7 +34,7 @@ struct_room : (o : ListPlace) (w : ℕ) → size_number o.size ≡ 7 → 0 < o.d
 struct_room o w e l b = record { plain = λ other. absurd (other e); structs = λ seven. (l, b) }
 
 some_words : (w d k : ℕ) → 0 < w → (nat_le w (64 * d) && nat_le 0 k) ≡ true → 0 < d
-some_words w d k some h = let l = at_most w (64 * d) (and_left (nat_le w (64 * d)) (nat_le 0 k) h) in omega (arith, l, some)
+some_words w d k some h = let l = le_is w (64 * d) (and_left (nat_le w (64 * d)) (nat_le 0 k) h) in omega (arith, l, some)
 
 bit_room : (o : ListPlace) (size : ElementSize) → o.size ≡ size → is_accepted_as 1 (list_head size o.data_words o.pointers) ≡ true → HasRoom o 1
 bit_room o Void e h = absurd (cc h)
@@ -102,7 +96,7 @@ pointer_room o EightBytes e h = absurd (cc h)
 pointer_room o Pointer e h = record { pointers = λ other. ap size_number e; structs = λ seven. absurd (let n : size_number o.size ≡ 6 = ap size_number e in omega (arith, n, seven)) }
 pointer_room o InlineComposite e h =
     let n : size_number o.size ≡ 7 = ap size_number e in
-    let l = at_most 1 o.pointers (and_right (nat_le 0 (64 * o.data_words)) (nat_le 1 o.pointers) h) in
+    let l = le_is 1 o.pointers (and_right (nat_le 0 (64 * o.data_words)) (nat_le 1 o.pointers) h) in
     record { pointers = λ other. absurd (other n); structs = λ seven. omega (arith, l) }
 
 -- ---- by the type of the elements
@@ -147,7 +141,7 @@ module _ (o : ListPlace) where
   -- bits are accepted only as bits
   bits_as_bits : (e : ℕ) (size : ElementSize) → size_number size ≡ 1 → is_accepted_as e (list_head size o.data_words o.pointers) ≡ true → e ≡ 1
   bits_as_bits e Void n h = absurd (cc n)
-  bits_as_bits e Bit n h = equal e 1 h
+  bits_as_bits e Bit n h = same_number e 1 h
   bits_as_bits e Byte n h = absurd (cc n)
   bits_as_bits e TwoBytes n h = absurd (cc n)
   bits_as_bits e FourBytes n h = absurd (cc n)

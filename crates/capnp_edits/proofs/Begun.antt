@@ -9,6 +9,7 @@ use Rattle.capnp_model.proofs.lemmas.Chaining.{some_is}
 use Rattle.capnp_copy_from.specs.Defaults.{default_segments, is_null_at}
 use Rattle.capnp_builders.specs.Gets.{in_place, begun}
 use Rattle.capnp_dynamic.proofs.lemmas.NullMembers.{null_at, null_value}
+use Rattle.capnp_model.proofs.lemmas.EveryPath.{opened_null}
 use Rattle.capnp_edits.specs.Written.{HoldsDefault}
 
 -- ---- the value to begin with
@@ -21,25 +22,17 @@ same_opened ty d (plain_list size k x) h = refl
 same_opened ty d (pointer_list ts) h = refl
 same_opened ty d (struct_list w p es) h = refl
 
-pub null_opened : (ty : Ty) (t : Tree) → opened_tree ty null t ≡ t
-null_opened ty null = refl
-null_opened ty (capability i) = refl
-null_opened ty (structure w x ts) = refl
-null_opened ty (plain_list size k x) = refl
-null_opened ty (pointer_list ts) = refl
-null_opened ty (struct_list w p es) = refl
-
 module _ (ty : Ty) (n : ℕ) (s : Segments) (p : Place) (t : Tree) (read : tree_at n s p ≡ Some t) (d v : Tree) where
   by_words : (f : Segments) (a b : Bool) → is_null_at s p ≡ a → is_null_at f root ≡ b → tree_at 64 f root ≡ Some d → in_place a b f t ≡ Some v → v ≡ opened_tree ty d t
   by_words f false b ea eb h e = some_is v t (sym e) ∙ sym (same_opened ty d t (λ z. (let no : true ≡ false = sym (null_at n s p (read ∙ ap (λ x. Some x) z)) ∙ ea in cc)))
   by_words f true true ea eb h e =
       let none : t ≡ null = null_value n s p t read ea in
       let empty : d ≡ null = null_value 64 f root d h eb in
-      some_is v t (sym e) ∙ sym (null_opened ty t) ∙ ap (λ x. opened_tree ty x t) (sym empty)
+      some_is v t (sym e) ∙ sym (opened_null ty t) ∙ ap (λ x. opened_tree ty x t) (sym empty)
   by_words f true false ea eb h e =
       let none : t ≡ null = null_value n s p t read ea in
       some_is v d (sym e ∙ h) ∙ ap (λ x. opened_tree ty d x) (sym none)
 
   pub begun_opened : (default : Option (List (List ℕ))) → HoldsDefault default d → begun default s p t ≡ Some v → v ≡ opened_tree ty d t
-  begun_opened None h e = some_is v t (sym e) ∙ sym (null_opened ty t) ∙ ap (λ x. opened_tree ty x t) (sym h)
+  begun_opened None h e = some_is v t (sym e) ∙ sym (opened_null ty t) ∙ ap (λ x. opened_tree ty x t) (sym h)
   begun_opened (Some words) h e = by_words (default_segments words) (is_null_at s p) (is_null_at (default_segments words) root) refl refl h e

@@ -27,9 +27,9 @@ use Rattle.capnp_calls.specs.Sizes.{IsDone}
 use Rattle.capnp_calls.specs.Paths.{shape_edit}
 use Rattle.capnp_model.proofs.lemmas.Paths.{read_child-is}
 use Rattle.capnp_dynamic.specs.Grown.{GrowsAround, GrowsBehind}
+use Rattle.capnp_model.proofs.lemmas.EveryPath.{opened_null}
 use Rattle.capnp_edits.specs.Written.{WritesValue, value_outcome, value_edit}
 use Rattle.capnp_edits.specs.Elements.{IsDoneWithin, WritesWithin, IsElementDone, WritesElement}
-use Rattle.capnp_edits.proofs.Begun.{null_opened}
 use Rattle.capnp_edits.proofs.lemmas.Outcomes.{unmapped}
 
 -- ---- an element that is a struct
@@ -88,8 +88,8 @@ value_within s e (st ∷ rest) verb c some h =
 value_edits : (s : Schema) (e : Ty) (path : List Step) (verb : Verb) → path ≢ [] → (words pointers : ℕ) (c : Cell) → on_child (value_edit s (list e) null path verb) words pointers c ≡ edit_element s path verb (list e) words pointers c
 unfolding edit_element
 value_edits s e [] verb some words pointers c = absurd (some refl)
-value_edits s e (name n ∷ rest) verb some words pointers c = ap (λ x. put_child 0 (edit_value s (name n) (edit_field s rest verb) (edit_element s rest verb) (list e) x) c) (null_opened (list e) (child c.kids 0))
-value_edits s e (index j ∷ rest) verb some words pointers c = ap (λ x. put_child 0 (edit_value s (index j) (edit_field s rest verb) (edit_element s rest verb) (list e) x) c) (null_opened (list e) (child c.kids 0))
+value_edits s e (name n ∷ rest) verb some words pointers c = ap (λ x. put_child 0 (edit_value s (name n) (edit_field s rest verb) (edit_element s rest verb) (list e) x) c) (opened_null (list e) (child c.kids 0))
+value_edits s e (index j ∷ rest) verb some words pointers c = ap (λ x. put_child 0 (edit_value s (index j) (edit_field s rest verb) (edit_element s rest verb) (list e) x) c) (opened_null (list e) (child c.kids 0))
 
 module _ (s u : Segments) (o : ListPlace) (k : ℕ) (q : code.Place) (parts : (n : ℕ) (t : Tree) → IsListOf o t → OwnsObject n s (list_at o) t → IsPointerOf n s o k q t) where
   pub value_written : (around : Schema) (e : Ty) (path : List Step) (verb : Verb) → path ≢ [] → WritesValue s u (place_view q) around (list e) null path verb → WritesElement s u o around (list e) k path verb

@@ -24,8 +24,8 @@ use Rattle.capnp_queries.specs.Handles.{entry_of}
 use Rattle.capnp_queries.specs.declared.fields.Field.{Field}
 use Rattle.capnp_copy.specs.declared.fields.StructPlace.{StructPlace}
 use Rattle.capnp_dynamic.specs.GroupSets.{IsSource, WritesAsFar, entry_writes, copied_field}
-use Rattle.capnp_dynamic.proofs.lemmas.GroupFields.{some_same}
 use Rattle.capnp_dynamic.proofs.lemmas.FieldWrites.{group_writes_are}
+use Rattle.capnp_model.proofs.lemmas.Tests.{same_some}
 use Rattle.capnp_edits.specs.Written.{WritesField, IsDoneAt, edit_at}
 use Rattle.capnp_edits.proofs.Lifting.{cell, edits_alike}
 
@@ -93,7 +93,7 @@ module _ (law : SetsByWrites) (from : Cell) (t : Tree) (words : ℕ) (is : messa
 
   entry_set : (f : Field) (g : Shape) (o : Option Entry) → option_map (λ e. e.body) o ≡ Some (group_slot g) → (c : Cell) → after_writes (entry_writes (schema_around f.parent) (union_in (shape_of_struct f.parent)) o from) c ≡ edit_at f [] (set_to (message t)) o c
   entry_set f g None body c = absurd (cc body)
-  entry_set f g (Some e) body c = by_writes (schema_around f.parent) (union_in (shape_of_struct f.parent)) g e (some_same body) c
+  entry_set f g (Some e) body c = by_writes (schema_around f.parent) (union_in (shape_of_struct f.parent)) g e (same_some body) c
 
   pub group_set : (f : Field) (g : Shape) → option_map (λ e. e.body) (entry_of f) ≡ Some (group_slot g) → (s u : Segments) (p : StructPlace) (r : Result ⊤ Error) → WritesAsFar s u p (copied_field f from) r → OnOk r (WritesField s u p f [] (set_to (message t)))
   group_set f g body s u p (Ok x) h =

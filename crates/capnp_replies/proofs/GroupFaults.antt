@@ -19,8 +19,10 @@ use Rattle.capnp_queries.specs.declared.structs.StructSchema.{StructSchema}
 use Rattle.capnp_queries.specs.declared.fields.Field.{Field}
 use Rattle.capnp_values.specs.Records.{reading_at, is_live}
 use Rattle.capnp_values.specs.Standing.{IsRecord}
+use Rattle.capnp_values.proofs.lemmas.RecordReadings.{shape_is, field_of_record, only_live}
+use Rattle.capnp_model.proofs.lemmas.Paths.{record_is}
 use Rattle.capnp_replies.specs.Faults.{OfRecord, OfEntry, entry_fault}
-use Rattle.capnp_replies.proofs.Records.{record_is, shape_is, field_of_record, not_live}
+use Rattle.capnp_replies.proofs.Records.{not_live}
 
 -- ---- whose turn it is
 
@@ -165,10 +167,6 @@ first_turn g r k h = both_turns g r (Some k) (fields_fault false (fields_in g) r
 
 -- ---- a field that is a group
 
-live_only : (a : Bool) (x : Reading) → is_live (only_if a x) ≡ true → only_if a x ≡ x
-live_only true x h = refl
-live_only false x h = absurd cc
-
 record_of_group : (g : Shape) (b : Body) (rec : Record) (x : Reading) → b ≡ group_slot g → x ≡ record_as rec → group_fault g rec ≡ body_fault true b x × (group_fault g rec ≡ body_fault false b x)
 unfolding group_fault
 record_of_group g b rec x is as' =
@@ -200,6 +198,6 @@ inner_fault f inner v members told e r body around h at rec live =
     let same = record_is r (shape_record root rec.extent rec.section kids) rec.is ∙ shape_is root rec.extent rec.section kids in
     let reads : reading_at f.index r ≡ only_if (is_active e.member d) whole = ap (reading_at f.index) same ∙ field_of_record (fields_in root) f.index d rec.extent rec.section kids e at in
     let rr = shape_record g rec.extent rec.section kids in
-    let x : reading_at f.index r ≡ record_as rr = reads ∙ live_only (is_active e.member d) whole (ap is_live (sym reads) ∙ live) ∙ group_body g e.body is s v root r rec in
+    let x : reading_at f.index r ≡ record_as rr = reads ∙ only_live (is_active e.member d) whole (ap is_live (sym reads) ∙ live) ∙ group_body g e.body is s v root r rec in
     let there : IsRecord s g v (record_as rr) = record { levels = rec.levels; extent = rec.extent; section = rec.section; kids = rec.kids; stands = rec.stands; is = refl } in
     h rr (subst (λ (z : Schema). IsRecord z g v (record_as rr)) (sym (ap schema_of around)) there) ∙ same_fault members g e.body rr (reading_at f.index r) is x

@@ -19,8 +19,8 @@ use Rattle.capnp_values.specs.Standing.{IsRecord, AreItems, Answers, or_empty, E
 use Rattle.capnp_values.proofs.lemmas.ElementReadings.{item_count, elements_stand}
 use Rattle.capnp_calls.specs.Texts.{as_it_is}
 use Rattle.capnp_calls.proofs.lemmas.OneStep.{reply_of-map}
+use Rattle.capnp_print.proofs.lemmas.PrintedFields.{entry_same}
 use Rattle.capnp_replies.specs.Parts.{items_reply, RepliesBehind, IsFieldReply}
-use Rattle.capnp_replies.proofs.Records.{entry_same}
 use Rattle.capnp_replies.proofs.Sorts.{element_sorted}
 use Rattle.capnp_replies.proofs.Steps.{RepliesThrough, kind_through, inactive_through, element_through}
 

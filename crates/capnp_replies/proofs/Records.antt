@@ -16,14 +16,10 @@ use Rattle.capnp_values.specs.Records.{reading_at, is_live}
 use Rattle.capnp_values.specs.Shown.{discriminant_shown, active_index}
 use Rattle.capnp_print.proofs.lemmas.Shows.{none_active, value_active}
 use Rattle.capnp_values.specs.Standing.{Stands, IsRecord, DiscriminantsAreRead}
-use Rattle.capnp_values.proofs.lemmas.RecordReadings.{union_counted, pointer_live}
-use Rattle.capnp_model.proofs.lemmas.Paths.{read_child-is}
+use Rattle.capnp_values.proofs.lemmas.RecordReadings.{union_counted, pointer_live, counted, shape_is, field_of_record}
+use Rattle.capnp_model.proofs.lemmas.Paths.{read_child-is, record_is}
 
 -- ---- the discriminant
-
-counted : (nodes : List Node) (id : ℕ) → (o : Option ℕ) × (union_in ((schema_of nodes).shape_of id) ≡ option_map (λ n. 16 * n) o)
-unfolding schema_of
-counted nodes id = union_counted nodes (length nodes) id
 
 pub discriminant_read : DiscriminantsAreRead → (sch : StructSchema) (n : ℕ) (v : StructView) (e : Extent) (section : ℕ) (kids : Trees) → Stands n v e section kids → discriminant_shown sch v ≡ discriminant (union_in (shape_of_struct sch)) e section
 discriminant_read law sch n v e section kids stands =
@@ -42,24 +38,6 @@ record_in (text_of bs) = no_more
 record_in (blob_of bs) = no_more
 record_in (list_of rs) = no_more
 record_in (opaque t) = no_more
-
-pub record_is : (a b : Record) → record_as a ≡ record_as b → a ≡ b
-unfolding record_in
-record_is a b e = ap record_in e
-
-pub shape_is : (g : Shape) (e : Extent) (section : ℕ) (kids : Children) → shape_record g e section kids ≡ fields_of (fields_in g) (discriminant (union_in g) e section) e section kids
-unfolding shape_record
-shape_is (shape nid w p u fs) e section kids = refl
-
-pub field_of_record : (fs : Fields) (i : ℕ) (d : Option ℕ) (e : Extent) (section : ℕ) (kids : Children) (x : Entry) → field_at fs i ≡ Some x
-    → reading_at i (fields_of fs d e section kids) ≡ only_if (is_active x.member d) (body_of x.body e section kids)
-unfolding fields_of
-field_of_record no_fields zero d e section kids x h = absurd cc
-field_of_record no_fields (suc i) d e section kids x h = absurd cc
-field_of_record (field n m b fs) zero d e section kids x h =
-    let is : ◌≡◌ {A = Entry} (record { name = n; member = m; body = b }) x = cc in
-    ap (λ (y : Entry). only_if (is_active y.member d) (body_of y.body e section kids)) is
-field_of_record (field n m b fs) (suc i) d e section kids x h = field_of_record fs i d e section kids x h
 
 body_live : (s : Schema) (kids : Trees) (b : Body) (e : Extent) (section : ℕ) → is_live (body_of b e section (read_child s kids)) ≡ true
 unfolding body_of
@@ -96,10 +74,6 @@ not_live (blob_of bytes) h = absurd cc
 not_live (list_of rs) h = absurd cc
 not_live (record_as r) h = absurd cc
 not_live (opaque t) h = absurd cc
-
--- an entry that is named twice
-pub entry_same : (o : Option Entry) (x y : Entry) → o ≡ Some x → o ≡ Some y → x ≡ y
-entry_same o x y e f = cc
 
 -- a member's value, as a node says it
 pub member_said : (n : ℕ) → (n ≡ 65535 → ⊥) → (if n == 65535 then None else Some n) ≡ Some n

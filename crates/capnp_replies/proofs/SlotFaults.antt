@@ -13,9 +13,9 @@ use Rattle.capnp_queries.specs.Fields.{Entry, type_of_body}
 use Rattle.capnp_values.specs.Records.{is_live, is_there}
 use Rattle.capnp_values.specs.Shown.{Shown, a_number, an_enum, a_text, a_blob, a_struct, a_list, a_pointer, a_capability}
 use Rattle.capnp_values.specs.Standing.{IsReading, Answers, or_default, filled}
+use Rattle.capnp_print.proofs.lemmas.PrintedFields.{entry_same}
 use Rattle.capnp_replies.specs.Parts.{IsSlot}
 use Rattle.capnp_replies.specs.Faults.{refused_if, refusal_of}
-use Rattle.capnp_replies.proofs.Records.{entry_same}
 
 abbrev is_fault : Reading → Bool
 is_fault inactive = false

@@ -10,7 +10,7 @@ use Rattle.capnp_model.specs.Printing.{fields_in}
 use Rattle.capnp_model.specs.Calls.{Step, name, index, Verb}
 use Rattle.capnp_model.specs.Steps.{Outcome, Target, target, target_if, target_of, entry_of as reading_named, replaced, at_target, on_name, on_index, or_empty, opened, through_value, through_field, step_field, step_element}
 use Rattle.capnp_model.specs.Answers.{Reply, reply_of, reply_refused}
-use Rattle.capnp_model.proofs.lemmas.Paths.{entry_of-fields_of}
+use Rattle.capnp_model.proofs.lemmas.Paths.{entry_of-fields_of, record_is}
 use Rattle.capnp_wire.specs.Views.{StructView}
 use Rattle.capnp_queries.specs.Fields.{Entry, field_at, place_of_name, union_in}
 use Rattle.capnp_queries.specs.Structs.{schema_around, shape_of_struct, fields_of_struct}
@@ -25,8 +25,9 @@ use Rattle.capnp_calls.specs.Roots.{starts_with_name}
 use Rattle.capnp_calls.proofs.lemmas.OneStep.{reply_of-map}
 use Rattle.capnp_calls.proofs.lemmas.NamedFields.{not_found}
 use Rattle.capnp_ways.specs.Steps.{starts_with_index}
+use Rattle.capnp_values.proofs.lemmas.RecordReadings.{shape_is, field_of_record}
 use Rattle.capnp_replies.specs.Parts.{record_reply, items_reply, RepliesAtStruct, RepliesAtList, RepliesBehind, OfField, IsFieldReply}
-use Rattle.capnp_replies.proofs.Records.{record_is, shape_is, field_of_record, not_live}
+use Rattle.capnp_replies.proofs.Records.{not_live}
 use Rattle.capnp_replies.proofs.Sorts.{IsSorted, slot_sorted}
 
 -- ---- a field by its name

@@ -17,6 +17,7 @@ use Rattle.capnp_object.specs.Walks.{Stopped, CannotPass}
 use Rattle.capnp_canonical.specs.Copies.{copy_visits, room_of, Unwritten}
 use Rattle.capnp_footprints.specs.Footprints.{Owns}
 use Rattle.capnp_footprints.specs.Totals.{words_of_segments}
+use Rattle.capnp_canonical.proofs.lemmas.Limited.{no_cost}
 
 -- what the laws of the model say
 pub record ModelLaws : Type 0 where
@@ -30,11 +31,6 @@ pub record ModelLaws : Type 0 where
 -- how long canonical words are
 abbrev pub Lengths : Type 0
 Lengths = (n : ℕ) (s : Segments) (p : Place) (t : Tree) → Owns n s p t → length (canonical_words (trim t)) ≤ words_of_segments s
-
-no_cost : (a b : List Visit) (k : _) (c : ℕ) → visits_cost (a ++ Err k ∷ b) ≡ Some c → ⊥
-no_cost [] b k c h = absurd cc
-no_cost (Err kind ∷ a) b k c h = absurd cc
-no_cost (Ok n ∷ a) b k c h = let x = bind_some (visits_cost (a ++ Err k ∷ b)) _ c h in no_cost a b k x.0 x.1
 
 module _ (laws : ModelLaws) (s : Segments) where
   same_tree : (n m : ℕ) (t u : Tree) → tree_at n s root ≡ Some t → tree_at m s root ≡ Some u → u ≡ t

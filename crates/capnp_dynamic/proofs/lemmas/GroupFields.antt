@@ -7,6 +7,7 @@ use Rattle.capnp_copy.specs.Structs.{SetsBits}
 use Rattle.capnp_records.specs.NodeViews.{member_of}
 use Rattle.capnp_queries.specs.Fields.{Entry, field_at, field_count, entry_in, union_in}
 use Rattle.capnp_queries.specs.declared.fields.Field.{Field}
+use Rattle.capnp_model.proofs.lemmas.Tests.{same_some}
 use Rattle.capnp_dynamic.specs.Edits.{Edits, cleared_entry}
 use Rattle.capnp_dynamic.proofs.lemmas.Writes.{edits_then, edits_alike, edits_same}
 use Rattle.capnp_dynamic.proofs.Marks.{member_there}
@@ -44,15 +45,12 @@ module _ (p : StructPlace) (f : FieldPlace) where
 
 -- ---- what a record says of its field
 
-pub some_same : {A : Type 0} {x y : A} → ◌≡◌ {A = Option A} (Some x) (Some y) → x ≡ y
-some_same h = cc h
-
 module _ (f : Field) (r : FieldNode) (is : IsFieldRecord f.parent f.index r) (b : Body) (same : option_map (λ e. e.body) (entry_of f) ≡ Some b) where
   abbrev pub the_entry : Entry
   the_entry = entry_in (schema_around f.parent) r
 
   pub body_is : the_entry.body ≡ b
-  body_is = some_same (sym (ap (option_map (λ e. e.body)) is.entry) ∙ same)
+  body_is = same_some (sym (ap (option_map (λ e. e.body)) is.entry) ∙ same)
 
   pub member_depth : body_depth b ≤ fields_depth (fields_of_struct f.parent)
   member_depth = subst (λ x. body_depth x ≤ fields_depth (fields_of_struct f.parent)) body_is (entry_depth (fields_of_struct f.parent) f.index the_entry is.entry)

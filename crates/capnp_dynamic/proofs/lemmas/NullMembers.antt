@@ -35,8 +35,9 @@ use Rattle.capnp_queries.specs.Structs.{nodes_around, schema_around, id_of}
 use Rattle.capnp_queries.specs.Handles.{entry_of, IsFieldRecord}
 use Rattle.capnp_queries.specs.declared.fields.Field.{Field}
 use Rattle.capnp_values.specs.Shown.{default_said}
-use Rattle.capnp_values.proofs.lemmas.GoodDefaults.{defaults_kept}
+use Rattle.capnp_values.proofs.lemmas.GoodDefaults.{defaults_kept, passes}
 use Rattle.capnp_model.proofs.lemmas.Tests.{and_left, and_right}
+use Rattle.capnp_values.proofs.lemmas.DefaultReadings.{joined}
 use Rattle.capnp_dynamic.specs.GroupSets.{HoldsDefault, IsReadable, IsDefault}
 use Rattle.capnp_dynamic.proofs.lemmas.GroupFields.{body_is}
 
@@ -69,13 +70,6 @@ pub null_value : (n : ℕ) (s : Segments) (p : Place) (t : Tree) → tree_at n s
 null_value n s p t e h = some_is t null (sym e ∙ null_read n s p (zero_there (word_at s p) t h (read_there n s p t e)))
 
 -- ---- the words of a default's bytes
-
-joined : (n : ℕ) (bs : List ℕ) → length bs ≡ 8 * n → flat_map (λ w. w) (first_chunks 8 n bs) ≡ bs
-joined zero [] h = refl
-joined zero (b ∷ bs) h = absurd (omega arith)
-joined (suc n) bs h =
-    let less : length (drop 8 bs) ≡ 8 * n = omega (arith, length-drop 8 bs) in
-    ap (λ (x : List ℕ). take 8 bs ++ x) (joined n (drop 8 bs) less) ∙ take-append-drop 8 bs
 
 pub words_hold : (bs : List ℕ) (t : Tree) → decode bs ≡ Some t → HoldsDefault (first_chunks 8 (length bs / 8) bs) t
 unfolding decode
@@ -148,30 +142,6 @@ module _ (around : Schema) (ty : Ty) where
       some_stands around ty d some
 
 -- ---- the default that a node says is the field's, and can be read
-
-field_passes : (test : FieldNode → Bool) (fs : List FieldNode) (i : ℕ) (f : FieldNode) → list_all test fs ≡ true → slice_get fs i ≡ Some f → test f ≡ true
-field_passes test [] zero f h e = absurd cc
-field_passes test [] (suc i) f h e = absurd cc
-field_passes test (g ∷ fs) zero f h e = let is : g ≡ f = cc in ap test (sym is) ∙ and_left (test g) (list_all test fs) h
-field_passes test (g ∷ fs) (suc i) f h e = field_passes test fs i f (and_right (test g) (list_all test fs) h) e
-
-abbrev fields_said : Option StructNode → List FieldNode
-fields_said o = elim o as (λ (p : Option StructNode). List FieldNode) [ None ↦ [] | Some n ↦ n.fields ]
-
-kind_passes : (test : FieldNode → Bool) (k : NodeKind) (i : ℕ) (f : FieldNode) → list_all test (fields_of_kind k) ≡ true → slice_get (fields_said (struct_in k)) i ≡ Some f → test f ≡ true
-kind_passes test (struct_node s) i f h e = field_passes test s.fields i f h e
-kind_passes test (enum_node es) zero f h e = absurd cc
-kind_passes test (enum_node es) (suc i) f h e = absurd cc
-
--- what the fields of each node pass, a field of a struct does
-passes : (test : FieldNode → Bool) (nodes : List Node) (id i : ℕ) (f : FieldNode) → list_all (λ n. list_all test (fields_of_kind n.kind)) nodes ≡ true
-    → slice_get (fields_said (elim (find_node nodes id) as (λ (x : Option Node). Option StructNode) [ None ↦ None | Some n ↦ struct_in n.kind ])) i ≡ Some f → test f ≡ true
-passes test nodes id i f h e = by (find_node nodes id) i refl e
-  where
-    by : (o : Option Node) (j : ℕ) → find_node nodes id ≡ o → slice_get (fields_said (elim o as (λ (x : Option Node). Option StructNode) [ None ↦ None | Some n ↦ struct_in n.kind ])) j ≡ Some f → test f ≡ true
-    by None zero k g = absurd cc
-    by None (suc j) k g = absurd cc
-    by (Some n) j k g = kind_passes test n.kind j f (found_passes (λ m. list_all test (fields_of_kind m.kind)) nodes id n h k) g
 
 readable : (test : Tree → Bool) (d : Option Value) → is_good_value test d ≡ true → IsReadable d
 readable test None h = tt

@@ -15,7 +15,7 @@ use Rattle.capnp_print.specs.ShownReadings.{left_of}
 use Rattle.capnp_print.specs.Members.{AreActive, field_shown}
 use Rattle.capnp_print.proofs.lemmas.Shows.{Read, shown_member, shown_first, shown_other}
 
-entry_same : (o : Option Entry) (x y : Entry) → o ≡ Some x → o ≡ Some y → x ≡ y
+pub entry_same : (o : Option Entry) (x y : Entry) → o ≡ Some x → o ≡ Some y → x ≡ y
 entry_same o x y e f = cc
 
 has_shown : (s : Schema) (v : StructView) (d : Option ℕ) (e : Entry) → (e.member ≡ None) ⊎ (e.member ≡ Some 0) → (is_active_field d (Some e.member) && not (is_null_slot v (Some e.body))) ≡ field_shown s v d e

@@ -35,22 +35,22 @@ defaults_kept nodes h =
       reads = no_break (λ n. list_all (λ f. default_reads f.kind) (fields_of_kind n.kind)) [] 0 nodes l.0;
     }
 
-field_passes : (test : FieldNode → Bool) (fs : List FieldNode) (i : ℕ) (f : FieldNode) → list_all test fs ≡ true → slice_get fs i ≡ Some f → test f ≡ true
+pub field_passes : (test : FieldNode → Bool) (fs : List FieldNode) (i : ℕ) (f : FieldNode) → list_all test fs ≡ true → slice_get fs i ≡ Some f → test f ≡ true
 field_passes test [] zero f h e = absurd cc
 field_passes test [] (suc i) f h e = absurd cc
 field_passes test (g ∷ fs) zero f h e = let is : g ≡ f = cc in ap test (sym is) ∙ and_left (test g) (list_all test fs) h
 field_passes test (g ∷ fs) (suc i) f h e = field_passes test fs i f (and_right (test g) (list_all test fs) h) e
 
-abbrev fields_said : Option StructNode → List FieldNode
+abbrev pub fields_said : Option StructNode → List FieldNode
 fields_said o = elim o as (λ (p : Option StructNode). List FieldNode) [ None ↦ [] | Some n ↦ n.fields ]
 
-kind_passes : (test : FieldNode → Bool) (k : NodeKind) (i : ℕ) (f : FieldNode) → list_all test (fields_of_kind k) ≡ true → slice_get (fields_said (struct_in k)) i ≡ Some f → test f ≡ true
+pub kind_passes : (test : FieldNode → Bool) (k : NodeKind) (i : ℕ) (f : FieldNode) → list_all test (fields_of_kind k) ≡ true → slice_get (fields_said (struct_in k)) i ≡ Some f → test f ≡ true
 kind_passes test (struct_node s) i f h e = field_passes test s.fields i f h e
 kind_passes test (enum_node es) zero f h e = absurd cc
 kind_passes test (enum_node es) (suc i) f h e = absurd cc
 
 -- what the fields of each node pass, a field of a struct does
-passes : (test : FieldNode → Bool) (nodes : List Node) (id i : ℕ) (f : FieldNode) → list_all (λ n. list_all test (fields_of_kind n.kind)) nodes ≡ true
+pub passes : (test : FieldNode → Bool) (nodes : List Node) (id i : ℕ) (f : FieldNode) → list_all (λ n. list_all test (fields_of_kind n.kind)) nodes ≡ true
     → slice_get (fields_said (elim (find_node nodes id) as (λ (x : Option Node). Option StructNode) [ None ↦ None | Some n ↦ struct_in n.kind ])) i ≡ Some f → test f ≡ true
 passes test nodes id i f h e = by (find_node nodes id) i refl e
   where

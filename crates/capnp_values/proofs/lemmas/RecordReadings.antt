@@ -40,7 +40,7 @@ union_counted nodes (suc levels) id = by (find_node nodes id)
     by (Some n) = of_kind n n.kind
 
 -- the place of a union's discriminant is counted in 16 bits
-counted : (nodes : List Node) (id : ℕ) → (o : Option ℕ) × (union_in ((schema_of nodes).shape_of id) ≡ option_map (λ n. 16 * n) o)
+pub counted : (nodes : List Node) (id : ℕ) → (o : Option ℕ) × (union_in ((schema_of nodes).shape_of id) ≡ option_map (λ n. 16 * n) o)
 unfolding schema_of
 counted nodes id = union_counted nodes (length nodes) id
 
@@ -100,7 +100,7 @@ only_there : (a : Bool) (r : Reading) → is_there (only_if a r) ≡ (a && is_th
 only_there true r = refl
 only_there false r = refl
 
-only_live : (a : Bool) (r : Reading) → is_live (only_if a r) ≡ true → only_if a r ≡ r
+pub only_live : (a : Bool) (r : Reading) → is_live (only_if a r) ≡ true → only_if a r ≡ r
 only_live true r h = refl
 only_live false r h = absurd cc
 

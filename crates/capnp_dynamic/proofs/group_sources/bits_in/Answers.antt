@@ -4,7 +4,8 @@ use Rattle.capnp_model.specs.Readings.{field_bits, just_bits}
 use Rattle.capnp_model.specs.Schemas.{width}
 use Rattle.capnp_wire.specs.Views.{seen_struct}
 use Rattle.capnp_queries.specs.Handles.{plain_of}
-use Rattle.capnp_dynamic.proofs.SourceReadings.{bit_read, byte_read, two_read, four_read, eight_read, bits_below, one_bit, no_bit}
+use Rattle.capnp_model.proofs.lemmas.Bits.{bits_at-lt}
+use Rattle.capnp_dynamic.proofs.SourceReadings.{bit_read, byte_read, two_read, four_read, eight_read, one_bit, no_bit}
 use Rattle.capnp_dynamic.proofs.group_sources.bits_in.Goals as goal
 
 pub returns-then-get_bool_field-clause-bits : goal.returns-then-get_bool_field-clause-bits
@@ -19,7 +20,7 @@ returns-else-get_bool_field-clause-bits g c from is =
     let v = seen_struct g.B.ReaderArena.segments c.args.source.now in
     let w : width (plain_of c.args.ty) ≡ 1 = search rules in
     let read = bit_read v from is c.section-section.result.now c.section-section.ensures.section c.section-section.ensures.bits c.args.offset in
-    no_bit (bits_at (1 * c.args.offset) 1 from.section) (field_bits (just_bits v.bits) v.section c.args.offset 1) c.get_bool_field.result c.get_bool_field.ensures c.if-get_bool_field.false read (bits_below (1 * c.args.offset) 1 from.section) ∙ ap (λ (k : ℕ). bits_at (k * c.args.offset) k from.section) (sym w)
+    no_bit (bits_at (1 * c.args.offset) 1 from.section) (field_bits (just_bits v.bits) v.section c.args.offset 1) c.get_bool_field.result c.get_bool_field.ensures c.if-get_bool_field.false read (bits_at-lt (1 * c.args.offset) 1 from.section) ∙ ap (λ (k : ℕ). bits_at (k * c.args.offset) k from.section) (sym w)
 
 pub returns-in-Int8-clause-bits : goal.returns-in-Int8-clause-bits
 returns-in-Int8-clause-bits g c from is =

@@ -6,8 +6,8 @@ use Rattle.capnp_queries.specs.Structs.{schema_around}
 use Rattle.capnp_queries.specs.Handles.{entry_of}
 use Rattle.capnp_values.specs.Sources.{struct_seen}
 use Rattle.capnp_values.specs.Shown.{discriminant_shown}
-use Rattle.capnp_print.proofs.lemmas.PrintedFields.{none_said}
-use Rattle.capnp_replies.proofs.Records.{live_is, entry_same, member_said, nothing_active, value_shown}
+use Rattle.capnp_print.proofs.lemmas.PrintedFields.{none_said, entry_same}
+use Rattle.capnp_replies.proofs.Records.{live_is, member_said, nothing_active, value_shown}
 use Rattle.capnp_replies.proofs.active.is_active.Goals as goal
 
 pub returns-then-member : goal.returns-then-member
