@@ -5,6 +5,7 @@ ghost use Rattle.capnp_dynamic_values.specs.Built.{IsReady};
 use crate::messages::{Told, finish, new_memory, opened, put_words};
 use crate::schemas::schemas;
 use crate::tests::schema_of;
+use crate::value_tests::ITEMS;
 use capnp_builders::owned::OwnedStruct;
 use capnp_builders::struct_builder::StructBuilder;
 use capnp_copy::arena::{BuilderArena, Memory};
@@ -147,14 +148,14 @@ impl<'a, A: BuilderArena> OwnBuilder<'a, A> {
     }
 }
 
-/// Whether a struct is of the type of P; then its number is set.
+/// Sets the number of a struct that is of the type of P.
 fn set_as_own<A: BuilderArena>(inner: dynamic_struct::Builder<'_, A>) -> Result<Told> {
     if !fits_struct::<Own<1>, A>(&inner) {
-        return Ok(Told::Bool(false));
+        return Ok(Told::Other);
     }
     let own = downcast_struct::<A, Own<1>>(inner);
     own.set(7)?;
-    Ok(Told::Bool(true))
+    Ok(Told::Own)
 }
 
 /// Writes the field of a name, as a caller's type if that is asked.
@@ -212,6 +213,9 @@ fn values_are_written_where_they_lie(rt: HostRuntime) -> std::result::Result<(),
         assert!(rt; was == told, "at {name}");
         assert!(rt; bytes.as_slice() == after.as_slice(), "at {name}");
     }
+    let (told, bytes) = run(alloc, &set, 7, &ITEMS, (2, "items", false))?;
+    assert!(rt; told == Told::List(2));
+    assert!(rt; bytes.as_slice() == ITEMS.as_slice());
     let (told, bytes) = run(alloc, &set, 5, &HI, (7, "p", false))?;
     assert!(rt; told == Told::Untyped(2));
     let expected = [
@@ -232,14 +236,14 @@ fn structs_are_written_as_callers_types(rt: HostRuntime) -> std::result::Result<
         0, 0, 0, 0, 0, 0, 1, 0, 0, 0, 0, 0, 1, 0, 1, 0, 7, 0, 0, 0, 0, 0, 0, 0, 0, 0, 0, 0, 0, 0,
         0, 0,
     ];
-    for (as_own, told) in [(false, Told::Struct(2, 1, 1)), (true, Told::Bool(true))] {
+    for (as_own, told) in [(false, Told::Struct(2, 1, 1)), (true, Told::Own)] {
         let (was, bytes) = run(alloc, &set, 4, &null, (8, "child", as_own))?;
         assert!(rt; was == told, "own: {as_own}");
         assert!(rt; bytes.as_slice() == seven.as_slice(), "own: {as_own}");
     }
     let group = [0, 0, 0, 0, 1, 0, 0, 0, 1, 0, 2, 0, 3, 0, 0, 0];
     let (told, bytes) = run(alloc, &set, 2, &group, (5, "g", true))?;
-    assert!(rt; told == Told::Bool(false));
+    assert!(rt; told == Told::Other);
     assert!(rt; bytes.as_slice() == group.as_slice());
     Ok(())
 }

@@ -28,6 +28,8 @@ pub(crate) enum Told {
     List(u32),
     /// The pointer's position.
     Untyped(usize),
+    /// A struct of a caller's type.
+    Own,
     Other,
     Refused(ErrorKind),
 }
