@@ -6,6 +6,7 @@ use crate::lent_tests::{lent, written};
 use crate::messages::{Told, finish, new_memory, put_words};
 use crate::schemas::{schemas, schemas_of_gets};
 use crate::tests::schema_of;
+use crate::value_tests::ITEMS;
 use capnp_copy::arena::{BuilderArena, Memory};
 use capnp_dynamic_gets::dynamic_list::{get, value};
 use capnp_dynamic_values::dynamic_value::Builder;
@@ -81,15 +82,12 @@ fn run(
 fn struct_elements_lie_in_their_list(rt: HostRuntime) -> std::result::Result<(), Fail> {
     let alloc = rt.alloc();
     let set = schemas(alloc)?;
-    let mut message = vec![in alloc;
-        0, 0, 0, 0, 0, 0, 1, 0, 1, 0, 0, 0, 0x27, 0, 0, 0, 8, 0, 0, 0, 1, 0, 1, 0,
-    ]?;
-    message.resize(56, 0)?;
-    let (told, bytes) = run(alloc, &set, 7, &message, (2, "items", 2))?;
+    let (told, bytes) = run(alloc, &set, 7, &ITEMS, (2, "items", 2))?;
     assert!(rt; told.as_slice() == &[Told::Struct(3, 1, 1), Told::Struct(5, 1, 1)][..]);
-    message[24] = 1;
-    message[40] = 2;
-    assert!(rt; bytes.as_slice() == message.as_slice());
+    let mut expected = ITEMS;
+    expected[24] = 1;
+    expected[40] = 2;
+    assert!(rt; bytes.as_slice() == expected.as_slice());
     Ok(())
 }
 
@@ -137,17 +135,20 @@ fn texts_are_got_behind_pointers(rt: HostRuntime) -> std::result::Result<(), Fai
 fn each_of_many_elements_is_written(rt: HostRuntime) -> std::result::Result<(), Fail> {
     let alloc = rt.alloc();
     let set = schemas(alloc)?;
-    let mut message = vec![in alloc;
+    let front = [
         0, 0, 0, 0, 0, 0, 1, 0, 1, 0, 0, 0, 0xc7, 0x12, 0, 0, 0xb0, 4, 0, 0, 1, 0, 1, 0,
-    ]?;
+    ];
+    let mut message = Vec::from_slice(alloc, &front)?;
     message.resize(4824, 0)?;
     let (told, bytes) = run(alloc, &set, 603, &message, (2, "items", 300))?;
     let mut places = Vec::new(alloc);
-    for (index, element) in message[24..].chunks_exact_mut(16).enumerate() {
-        places.push(Told::Struct(3 + 2 * index, 1, 1))?;
-        element[..2].copy_from_slice(&(index as u16 + 1).to_le_bytes());
+    let mut expected = Vec::from_slice(alloc, &front)?;
+    for index in 0..300u16 {
+        places.push(Told::Struct(3 + 2 * usize::from(index), 1, 1))?;
+        expected.extend_from_slice(&(index + 1).to_le_bytes())?;
+        expected.extend_from_slice(&[0; 14])?;
     }
     assert!(rt; told.as_slice() == places.as_slice());
-    assert!(rt; bytes.as_slice() == message.as_slice());
+    assert!(rt; bytes.as_slice() == expected.as_slice());
     Ok(())
 }
