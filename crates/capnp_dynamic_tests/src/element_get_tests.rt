@@ -1,15 +1,21 @@
 //! Elements of lists that are got and lent to be written, and all words of the messages in which they lie.
-ghost use Rattle.std.specs.Prelude.{◌≡◌, IfOk};
-ghost use Rattle.capnp_dynamic_values.specs.Built.{IsReady};
+ghost use Rattle.std.specs.Prelude.{◌≡◌, ◌<◌, IfOk};
+ghost use Rattle.capnp_units.specs.Segments.{words_in};
+ghost use Rattle.capnp_dynamic_lists.specs.Builders.{IsReady};
+ghost use Rattle.capnp_dynamic_values.specs.Built.{IsListPlaced};
 
-use crate::lent_tests::{lent, written};
-use crate::messages::{Told, finish, new_memory, put_words};
+use crate::lent_tests::{Holder, field_of, write};
+use crate::messages::{Told, finish, new_memory, put_words, told};
 use crate::schemas::{schemas, schemas_of_gets};
 use crate::tests::schema_of;
 use crate::value_tests::ITEMS;
+use capnp_builders::list_builder::ListBuilder;
 use capnp_copy::arena::{BuilderArena, Memory};
-use capnp_dynamic_gets::dynamic_list::{get, value};
-use capnp_dynamic_values::dynamic_value::Builder;
+use capnp_dynamic_gets::dynamic_list::get;
+use capnp_dynamic_gets::elements::get_element;
+use capnp_dynamic_lists::dynamic_list::Builder;
+use capnp_dynamic_values::placed::{ListPart, Placed};
+use capnp_queries::fields::Field;
 use capnp_queries::structs::StructSchema;
 use capnp_records::set::SchemaSet;
 use capnp_units::errors::{Error, Result};
@@ -17,23 +23,67 @@ use capnp_units::kinds::ErrorKind;
 use std::alloc::Global;
 use std::test::Fail;
 
-/// An element of the list that is the field of a name of the struct behind the root pointer's word, to write.
-fn element<'a, A: BuilderArena>(
-    memory: &'a mut Memory<A>,
-    schema: StructSchema<'a>,
-    name: &str,
-    index: u32,
-) -> Result<Builder<'a, A>>
-    ensures { IfOk result (IsReady A.segments) }
+/// A list that is there, to write.
+fn list_at<'a, A: BuilderArena>(memory: &'a mut Memory<A>, list: ListPart<'a>) -> Builder<'a, A>
+    requires { IsListPlaced (words_in (A.segments memory.old.arena)) list }
+    ensures same { result.memory.ghost_name ≡ memory.entry.ghost_name }
+    ensures now { result.memory.now ≡ memory.old }
+    ensures place { result.place ≡ list.place }
+    ensures ready { IsReady A.segments result }
 {
-    let Builder::List(mut list) = lent(memory, schema, name)? else {
-        return Err(Error::from(ErrorKind::ExpectedAListOrBlob));
-    };
-    if index >= list.len() {
+    let ListPart {
+        place,
+        set,
+        element_type,
+    } = list;
+    Builder::new(ListBuilder { memory, place }, set, element_type)
+}
+
+/// The list that is a field.
+fn list_of<'a, A: BuilderArena>(memory: &mut Memory<A>, field: Field<'a>) -> Result<ListPart<'a>>
+    ensures { IfOk result (IsListPlaced (words_in (A.segments memory.new.arena))) }
+{
+    match field_of(memory, field)? {
+        Placed::List(list) => Ok(list),
+        _ => Err(Error::from(ErrorKind::ExpectedAListOrBlob)),
+    }
+}
+
+/// Gets an element of a list, and tells it.
+fn element_told<A: BuilderArena>(
+    memory: &mut Memory<A>,
+    list: ListPart<'_>,
+    index: u32,
+) -> Result<Told>
+    requires { IsListPlaced (words_in (A.segments memory.old.arena)) list }
+{
+    if index >= list.place.count {
         return Err(Error::from(ErrorKind::OutOfBounds));
     }
-    let placed = get(&mut list, index)?;
-    Ok(value(list, placed))
+    let mut builder = list_at(memory, list);
+    let placed = get(&mut builder, index)?;
+    Ok(told(placed))
+}
+
+/// Gets an element of the list that is a field, and writes it where it is got again.
+fn written<A: BuilderArena>(
+    memory: &mut Memory<A>,
+    field: Field<'_>,
+    index: u32,
+    number: u16,
+) -> Result<Told> {
+    let list = list_of(memory, field)?;
+    let first = element_told(memory, list, index)?;
+    let list = list_of(memory, field)?;
+    if index >= list.place.count {
+        return Err(Error::from(ErrorKind::OutOfBounds));
+    }
+    let placed = get_element(memory, list.place, list.set, list.element_type, index)?;
+    let told = write(memory, Holder::List(list), placed, number)?;
+    if told != first {
+        return Err(Error::from(ErrorKind::TypeMismatch));
+    }
+    Ok(told)
 }
 
 /// Writes each of so many elements, and what they were. A number is one more than the element's index.
@@ -45,15 +95,13 @@ fn all_written<A: BuilderArena>(
     count: u16,
 ) -> Result<Vec<Told>> {
     let mut all = Vec::new(alloc);
+    let field = schema.get_field_by_name(name)?;
     for index in 0..count {
-        let done = match element(memory, schema, name, u32::from(index)) {
-            Ok(value) => written(value, index.wrapping_add(1)),
-            Err(error) => Err(error),
+        let told = match written(memory, field, u32::from(index), index.wrapping_add(1)) {
+            Ok(told) => told,
+            Err(error) => Told::Refused(error.kind),
         };
-        match done {
-            Ok(told) => all.push(told)?,
-            Err(error) => all.push(Told::Refused(error.kind))?,
-        }
+        all.push(told)?;
     }
     Ok(all)
 }

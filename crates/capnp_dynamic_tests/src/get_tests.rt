@@ -1,14 +1,15 @@
 //! Fields of structs that are got to be written, and all words of the messages in which they lie.
-ghost use Rattle.capnp_dynamic.specs.Builders.{words_around};
-ghost use Rattle.capnp_dynamic_values.specs.Built.{IsPlaced};
-
-use crate::messages::{Told, finish, new_memory, opened, put_words};
+use crate::messages::{
+    Told, builder_at, finish, is_there, new_memory, put_words, root_place, told,
+};
 use crate::schemas::{schemas, schemas_of_gets};
 use crate::tests::schema_of;
 use capnp_copy::arena::{BuilderArena, Memory};
-use capnp_dynamic::dynamic_struct::Builder;
-use capnp_dynamic_gets::dynamic_struct::get_named;
+use capnp_copy::fields::StructPlace;
+use capnp_dynamic::init::Part;
+use capnp_dynamic_gets::dynamic_struct::{get, get_named};
 use capnp_dynamic_values::placed::Placed;
+use capnp_queries::fields::Field;
 use capnp_queries::structs::StructSchema;
 use capnp_records::set::SchemaSet;
 use capnp_units::errors::{Error, Result};
@@ -21,52 +22,67 @@ use std::test::Fail;
 /// A field to get under the schema of an id. If it is a struct or a group, a field of it is set then.
 type Get<'a> = (u64, &'a str, Option<(&'a str, u16)>);
 
-/// What is told by a value that was got.
-fn told(placed: Placed<'_>) -> Told {
-    match placed {
-        Placed::Bool(value) => Told::Bool(value),
-        Placed::UInt16(number) => Told::Number(number),
-        Placed::Text(place) => Told::Text(place.count),
-        Placed::Data(place) => Told::Data(place.count),
-        Placed::Struct(part) => {
-            let place = part.place;
-            Told::Struct(place.start.position, place.data_words, place.pointers)
-        }
-        Placed::List(part) => Told::List(part.place.count),
-        Placed::AnyPointer(place) => Told::Untyped(place.position),
-        _ => Told::Other,
+/// Gets a field by its name.
+fn named<A: BuilderArena>(
+    memory: &mut Memory<A>,
+    place: StructPlace,
+    schema: StructSchema<'_>,
+    name: &str,
+) -> Result<Told> {
+    if !is_there(memory, place, schema) {
+        return Err(Error::from(ErrorKind::OutOfBounds));
+    }
+    let mut builder = builder_at(memory, place, schema);
+    let placed = get_named(&mut builder, name)?;
+    Ok(told(placed))
+}
+
+/// Gets a field that is a struct or a group.
+fn part_of<'a, A: BuilderArena>(
+    memory: &mut Memory<A>,
+    place: StructPlace,
+    field: Field<'a>,
+) -> Result<Part<'a>> {
+    let schema = field.parent();
+    if !is_there(memory, place, schema) {
+        return Err(Error::from(ErrorKind::OutOfBounds));
+    }
+    let mut builder = builder_at(memory, place, schema);
+    match get(&mut builder, field)? {
+        Placed::Struct(part) => Ok(part),
+        _ => Err(Error::from(ErrorKind::NotAStruct)),
     }
 }
 
-/// Sets a field of a struct or a group that was got.
-fn set_in<'a, A: BuilderArena>(
-    mut builder: Builder<'a, A>,
-    placed: Placed<'a>,
+/// Sets the field of a name of a struct to a number.
+fn set_number<A: BuilderArena>(
+    memory: &mut Memory<A>,
+    place: StructPlace,
+    schema: StructSchema<'_>,
     name: &str,
     number: u16,
-) -> Result<()>
-    requires { IsPlaced (words_around A.segments builder) placed }
-{
-    let Placed::Struct(part) = placed else {
-        return Err(Error::from(ErrorKind::NotAStruct));
-    };
-    let mut inner = builder.part(part);
-    inner.set_named(name, Reader::<NullArena>::UInt16(number))
+) -> Result<()> {
+    if !is_there(memory, place, schema) {
+        return Err(Error::from(ErrorKind::OutOfBounds));
+    }
+    let mut builder = builder_at(memory, place, schema);
+    builder.set_named(name, Reader::<NullArena>::UInt16(number))
 }
 
-/// Gets a field by its name.
+/// Gets a field by its name. A struct or a group is then got again, and a field of it set.
 fn got<A: BuilderArena>(
     memory: &mut Memory<A>,
     schema: StructSchema<'_>,
     name: &str,
     then: Option<(&str, u16)>,
 ) -> Result<Told> {
-    let mut builder = opened(memory, schema)?;
-    let placed = get_named(&mut builder, name)?;
+    let place = root_place(schema);
+    let told = named(memory, place, schema, name)?;
     if let Some((inner, number)) = then {
-        set_in(builder, placed, inner, number)?;
+        let part = part_of(memory, place, schema.get_field_by_name(name)?)?;
+        set_number(memory, part.place, part.schema, inner, number)?;
     }
-    Ok(told(placed))
+    Ok(told)
 }
 
 /// What each of some gets tells.

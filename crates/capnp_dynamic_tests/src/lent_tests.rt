@@ -1,18 +1,35 @@
 //! Values that were got, lent to be written, also as callers' types, and all words of the messages in which they lie.
-ghost use Rattle.std.specs.Prelude.{◌≡◌, IfOk};
-ghost use Rattle.capnp_dynamic_values.specs.Built.{IsReady};
+ghost use Rattle.std.specs.Prelude.{◌≡◌, ◌<◌, ◌^◌, true, IfOk};
+ghost use Rattle.std.specs.Option.{is_some};
+ghost use Rattle.capnp_model.specs.Schemas.{struct};
+ghost use Rattle.capnp_units.specs.Segments.{words_in};
+ghost use Rattle.capnp_dynamic.specs.Builders.{IsReady as IsStructReady};
+ghost use Rattle.capnp_dynamic_values.specs.Built.{IsPlaced, IsReady};
+ghost use Rattle.capnp_dynamic_values.specs.Untyped.{IsReady as IsPointerReady};
+ghost use Rattle.capnp_dynamic_values.specs.Variants.{data_in, struct_in, text_in, untyped_in};
 
-use crate::messages::{Told, finish, new_memory, opened, put_words};
+use crate::messages::{
+    Told, builder_at, finish, is_there, new_memory, put_words, root_place, told,
+};
 use crate::schemas::schemas;
 use crate::tests::schema_of;
 use crate::value_tests::ITEMS;
+use capnp_builders::data_builder::DataBuilder;
 use capnp_builders::owned::OwnedStruct;
 use capnp_builders::struct_builder::StructBuilder;
+use capnp_builders::text_builder::TextBuilder;
 use capnp_copy::arena::{BuilderArena, Memory};
+use capnp_copy::fields::StructPlace;
 use capnp_dynamic::dynamic_struct;
-use capnp_dynamic_gets::dynamic_struct::{get, value};
+use capnp_dynamic::init::Part;
+use capnp_dynamic_gets as dynamic_gets;
+use capnp_dynamic_gets::dynamic_struct::get;
+use capnp_dynamic_lists::dynamic_list;
+use capnp_dynamic_values::any_pointer;
 use capnp_dynamic_values::callers::{downcast_struct, fits_struct};
 use capnp_dynamic_values::dynamic_value::Builder;
+use capnp_dynamic_values::placed::{ListPart, Placed};
+use capnp_queries::fields::Field;
 use capnp_queries::introspect::{Introspect, Type, TypeVariant};
 use capnp_queries::structs::StructSchema;
 use capnp_records::raw::RawBrandedStructSchema;
@@ -29,51 +46,246 @@ use capnp_wire::traits::{HasStructSize, IntoInternalStructReader};
 use std::alloc::Global;
 use std::test::Fail;
 
-/// The field of a name of the struct behind the root pointer's word, to write.
-pub(crate) fn lent<'a, A: BuilderArena>(
-    memory: &'a mut Memory<A>,
-    schema: StructSchema<'a>,
-    name: &str,
-) -> Result<Builder<'a, A>>
-    ensures ready { IfOk result (IsReady A.segments) }
-{
-    let field = schema.get_field_by_name(name)?;
-    let mut builder = opened(memory, schema)?;
-    let placed = get(&mut builder, field)?;
-    Ok(value(builder, placed))
+/// Where a value that was got lies: in a struct or a group, or in a list.
+#[derive(Clone, Copy)]
+pub(crate) enum Holder<'a> {
+    Struct(Part<'a>),
+    List(ListPart<'a>),
 }
 
-/// Writes a value: a number into field a of a struct, "ye" into a text or data that has room for it, "hi" behind an untyped pointer, and what it was.
-pub(crate) fn written<A: BuilderArena>(value: Builder<'_, A>, number: u16) -> Result<Told>
-    requires { IsReady A.segments value }
+/// A field that is got, and where.
+pub(crate) fn field_of<'a, A: BuilderArena>(
+    memory: &mut Memory<A>,
+    field: Field<'a>,
+) -> Result<Placed<'a>>
+    ensures { IfOk result (IsPlaced (words_in (A.segments memory.new.arena))) }
 {
-    match value {
-        Builder::Bool(value) => Ok(Told::Bool(value)),
-        Builder::UInt16(number) => Ok(Told::Number(number)),
-        Builder::Struct(mut inner) => {
-            inner.set_named("a", Reader::<NullArena>::UInt16(number))?;
-            let place = inner.place;
-            Ok(Told::Struct(place.start.position, place.data_words, place.pointers))
-        }
-        Builder::Text(mut text) => {
-            if text.len() >= 2 {
-                text.write(0, b"ye");
-            }
-            Ok(Told::Text(text.place.count))
-        }
-        Builder::Data(mut data) => {
-            if data.len() >= 2 {
-                data.write(0, b"ye");
-            }
-            Ok(Told::Data(data.place.count))
-        }
-        Builder::List(list) => Ok(Told::List(list.len())),
-        Builder::AnyPointer(mut pointer) => {
-            pointer.set_as::<text::Owned, &str>("hi")?;
-            Ok(Told::Untyped(pointer.place.position))
-        }
-        _ => Ok(Told::Other),
+    let schema = field.parent();
+    let place = root_place(schema);
+    if !is_there(memory, place, schema) {
+        return Err(Error::from(ErrorKind::OutOfBounds));
     }
+    let mut builder = builder_at(memory, place, schema);
+    get(&mut builder, field)
+}
+
+/// What was got, lent.
+fn lent<'a, A: BuilderArena>(
+    memory: &'a mut Memory<A>,
+    holder: Holder<'a>,
+    placed: Placed<'a>,
+) -> Builder<'a, A>
+    requires { IsPlaced (words_in (A.segments memory.old.arena)) placed }
+    ensures ready { IsReady A.segments result }
+{
+    match holder {
+        Holder::Struct(Part { place, schema }) => {
+            let builder = dynamic_struct::Builder {
+                memory,
+                place,
+                schema,
+            };
+            dynamic_gets::dynamic_struct::value(builder, placed)
+        }
+        Holder::List(
+            ListPart {
+                place,
+                set,
+                element_type,
+            },
+        ) => {
+            let builder = dynamic_list::Builder {
+                memory,
+                place,
+                set,
+                element_type,
+            };
+            dynamic_gets::dynamic_list::value(builder, placed)
+        }
+    }
+}
+
+/// The struct that a value is.
+fn struct_of<'a, A: BuilderArena>(value: Builder<'a, A>) -> dynamic_struct::Builder<'a, A>
+    requires is { is_some (struct_in value) ≡ true }
+    requires ready { IsReady A.segments value }
+    ensures ready { IsStructReady A.segments result }
+{
+    let Builder::Struct(inner) = value else {
+        unreachable!()
+    };
+    inner
+}
+
+/// The text that a value is.
+fn text_of<'a, A: BuilderArena>(value: Builder<'a, A>) -> TextBuilder<'a, A>
+    requires is { is_some (text_in value) ≡ true }
+    requires ready { IsReady A.segments value }
+    ensures near { result.place.start.position < 2 ^ 61 }
+{
+    let Builder::Text(inner) = value else {
+        unreachable!()
+    };
+    inner
+}
+
+/// The data that a value is.
+fn data_of<'a, A: BuilderArena>(value: Builder<'a, A>) -> DataBuilder<'a, A>
+    requires is { is_some (data_in value) ≡ true }
+    requires ready { IsReady A.segments value }
+    ensures near { result.place.start.position < 2 ^ 61 }
+{
+    let Builder::Data(inner) = value else {
+        unreachable!()
+    };
+    inner
+}
+
+/// The untyped pointer that a value is.
+fn untyped_of<'a, A: BuilderArena>(value: Builder<'a, A>) -> any_pointer::Builder<'a, A>
+    requires is { is_some (untyped_in value) ≡ true }
+    requires ready { IsReady A.segments value }
+    ensures ready { IsPointerReady A.segments result }
+{
+    let Builder::AnyPointer(inner) = value else {
+        unreachable!()
+    };
+    inner
+}
+
+/// Whether a value is a struct.
+fn is_struct<A: BuilderArena>(value: &Builder<'_, A>) -> bool
+    ensures { result ≡ is_some (struct_in value.now) }
+{
+    matches!(value, Builder::Struct(_))
+}
+
+/// Whether a value is a text.
+fn is_text<A: BuilderArena>(value: &Builder<'_, A>) -> bool
+    ensures { result ≡ is_some (text_in value.now) }
+{
+    matches!(value, Builder::Text(_))
+}
+
+/// Whether a value is data.
+fn is_data<A: BuilderArena>(value: &Builder<'_, A>) -> bool
+    ensures { result ≡ is_some (data_in value.now) }
+{
+    matches!(value, Builder::Data(_))
+}
+
+/// Whether a value is an untyped pointer.
+fn is_untyped<A: BuilderArena>(value: &Builder<'_, A>) -> bool
+    ensures { result ≡ is_some (untyped_in value.now) }
+{
+    matches!(value, Builder::AnyPointer(_))
+}
+
+/// Sets field a of a struct.
+fn write_struct<A: BuilderArena>(
+    memory: &mut Memory<A>,
+    holder: Holder<'_>,
+    placed: Placed<'_>,
+    number: u16,
+) -> Result<()>
+    requires { IsPlaced (words_in (A.segments memory.old.arena)) placed }
+{
+    let value = lent(memory, holder, placed);
+    if !is_struct(&value) {
+        return Err(Error::from(ErrorKind::NotAStruct));
+    }
+    let mut inner = struct_of(value);
+    inner.set_named("a", Reader::<NullArena>::UInt16(number))
+}
+
+/// Sets the first number of a struct that is of the type of P.
+fn write_own<A: BuilderArena>(
+    memory: &mut Memory<A>,
+    holder: Holder<'_>,
+    placed: Placed<'_>,
+) -> Result<Told>
+    requires { IsPlaced (words_in (A.segments memory.old.arena)) placed }
+{
+    let value = lent(memory, holder, placed);
+    if !is_struct(&value) {
+        return Err(Error::from(ErrorKind::NotAStruct));
+    }
+    let inner = struct_of(value);
+    if !fits_struct::<Own<1>, A>(&inner) {
+        return Ok(Told::Other);
+    }
+    let own = downcast_struct::<A, Own<1>>(inner);
+    let OwnBuilder { memory, place } = own;
+    let mut fields = StructBuilder { memory, place };
+    let words = place.data_words as usize;
+    if words == 0 || !has_words(&fields.memory.arena, place.start, words) {
+        return Err(Error::from(ErrorKind::OutOfBounds));
+    }
+    fields.set_data_field::<u16>(0, 7);
+    Ok(Told::Own)
+}
+
+/// Writes "ye" into a text that has room for it.
+fn write_text<A: BuilderArena>(memory: &mut Memory<A>, holder: Holder<'_>, placed: Placed<'_>)
+    requires { IsPlaced (words_in (A.segments memory.old.arena)) placed }
+{
+    let value = lent(memory, holder, placed);
+    if !is_text(&value) {
+        return;
+    }
+    let mut text = text_of(value);
+    if text.len() >= 2 {
+        text.write(0, b"ye");
+    }
+}
+
+/// The same of data.
+fn write_data<A: BuilderArena>(memory: &mut Memory<A>, holder: Holder<'_>, placed: Placed<'_>)
+    requires { IsPlaced (words_in (A.segments memory.old.arena)) placed }
+{
+    let value = lent(memory, holder, placed);
+    if !is_data(&value) {
+        return;
+    }
+    let mut data = data_of(value);
+    if data.len() >= 2 {
+        data.write(0, b"ye");
+    }
+}
+
+/// Puts "hi" behind an untyped pointer.
+fn write_untyped<A: BuilderArena>(
+    memory: &mut Memory<A>,
+    holder: Holder<'_>,
+    placed: Placed<'_>,
+) -> Result<()>
+    requires { IsPlaced (words_in (A.segments memory.old.arena)) placed }
+{
+    let value = lent(memory, holder, placed);
+    if !is_untyped(&value) {
+        return Ok(());
+    }
+    let mut pointer = untyped_of(value);
+    pointer.set_as::<text::Owned, &str>("hi")
+}
+
+/// Writes what was got where it lies: a number into field a of a struct, "ye" into a text or data that has room for it, and "hi" behind an untyped pointer.
+pub(crate) fn write<A: BuilderArena>(
+    memory: &mut Memory<A>,
+    holder: Holder<'_>,
+    placed: Placed<'_>,
+    number: u16,
+) -> Result<Told>
+    requires { IsPlaced (words_in (A.segments memory.old.arena)) placed }
+{
+    match placed {
+        Placed::Struct(_) => write_struct(memory, holder, placed, number)?,
+        Placed::Text(_) => write_text(memory, holder, placed),
+        Placed::Data(_) => write_data(memory, holder, placed),
+        Placed::AnyPointer(_) => write_untyped(memory, holder, placed)?,
+        _ => {}
+    }
+    Ok(told(placed))
 }
 
 /// The type of the structs of an id.
@@ -117,7 +329,10 @@ impl<'a, A: ReaderArena> IntoInternalStructReader<'a, A> for OwnReader<'a, A> {
 
 /// Such a struct to write.
 #[derive(Drop)]
-struct OwnBuilder<'a, A>(StructBuilder<'a, A>);
+struct OwnBuilder<'a, A> {
+    memory: &'a mut Memory<A>,
+    place: StructPlace,
+}
 
 impl<'a, A: BuilderArena> HasStructSize for OwnBuilder<'a, A> {
     const STRUCT_SIZE: StructSize = StructSize {
@@ -127,35 +342,12 @@ impl<'a, A: BuilderArena> HasStructSize for OwnBuilder<'a, A> {
 }
 
 impl<'a, A: BuilderArena> From<StructBuilder<'a, A>> for OwnBuilder<'a, A> {
-    ghost from_gives = { λ s r. r.0 ≡ s };
+    ghost from_gives = { λ s r. (r.memory ≡ s.memory) × (r.place ≡ s.place) };
 
     fn from(builder: StructBuilder<'a, A>) -> OwnBuilder<'a, A> {
-        OwnBuilder(builder)
+        let StructBuilder { memory, place } = builder;
+        OwnBuilder { memory, place }
     }
-}
-
-impl<'a, A: BuilderArena> OwnBuilder<'a, A> {
-    /// Sets the first number.
-    fn set(self, number: u16) -> Result<()> {
-        let mut fields = self.0;
-        let place = fields.place;
-        let words = place.data_words as usize;
-        if words == 0 || !has_words(&fields.memory.arena, place.start, words) {
-            return Err(Error::from(ErrorKind::OutOfBounds));
-        }
-        fields.set_data_field::<u16>(0, number);
-        Ok(())
-    }
-}
-
-/// Sets the number of a struct that is of the type of P.
-fn set_as_own<A: BuilderArena>(inner: dynamic_struct::Builder<'_, A>) -> Result<Told> {
-    if !fits_struct::<Own<1>, A>(&inner) {
-        return Ok(Told::Other);
-    }
-    let own = downcast_struct::<A, Own<1>>(inner);
-    own.set(7)?;
-    Ok(Told::Own)
 }
 
 /// Writes the field of a name, as a caller's type if that is asked.
@@ -165,10 +357,13 @@ fn written_in<A: BuilderArena>(
     name: &str,
     as_own: bool,
 ) -> Result<Told> {
-    match lent(memory, schema, name)? {
-        Builder::Struct(inner) if as_own => set_as_own(inner),
-        value => written(value, 7),
+    let place = root_place(schema);
+    let placed = field_of(memory, schema.get_field_by_name(name)?)?;
+    let holder = Holder::Struct(Part { place, schema });
+    if as_own {
+        return write_own(memory, holder, placed);
     }
+    write(memory, holder, placed, 7)
 }
 
 /// What a field of a message is told to be that is written in a segment of so many words, and the message then.

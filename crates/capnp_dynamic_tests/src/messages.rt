@@ -1,5 +1,8 @@
 //! Messages whose words are given, in one segment, and what is told of their fields.
-ghost use Rattle.std.specs.Prelude.{◌≡◌, IfOk};
+ghost use Rattle.std.specs.Prelude.{◌≡◌, true};
+ghost use Rattle.capnp_units.specs.Segments.{words_in};
+ghost use Rattle.capnp_queries.specs.Structs.{shape_of_struct};
+ghost use Rattle.capnp_dynamic.specs.Edits.{IsThere, IsWide};
 ghost use Rattle.capnp_dynamic.specs.Builders.{IsReady};
 
 use crate::tests::{ROOT, Single, first_of, is_wide};
@@ -8,6 +11,7 @@ use capnp_copy::arena::{BuilderArena, Memory};
 use capnp_copy::fields::StructPlace;
 use capnp_copy::segments::BuilderArenaImpl;
 use capnp_dynamic::dynamic_struct::Builder;
+use capnp_dynamic_values::placed::Placed;
 use capnp_queries::structs::StructSchema;
 use capnp_units::errors::{Error, Result};
 use capnp_units::kinds::ErrorKind;
@@ -34,6 +38,23 @@ pub(crate) enum Told {
     Refused(ErrorKind),
 }
 
+/// What is told by a value that was got.
+pub(crate) fn told(placed: Placed<'_>) -> Told {
+    match placed {
+        Placed::Bool(value) => Told::Bool(value),
+        Placed::UInt16(number) => Told::Number(number),
+        Placed::Text(place) => Told::Text(place.count),
+        Placed::Data(place) => Told::Data(place.count),
+        Placed::Struct(part) => {
+            let place = part.place;
+            Told::Struct(place.start.position, place.data_words, place.pointers)
+        }
+        Placed::List(part) => Told::List(part.place.count),
+        Placed::AnyPointer(place) => Told::Untyped(place.position),
+        _ => Told::Other,
+    }
+}
+
 /// Puts words at the front of the first segment.
 pub(crate) fn put_words<A: BuilderArena>(memory: &mut Memory<A>, message: &[u8]) -> Result<()> {
     let words = message.len() / 8;
@@ -48,32 +69,50 @@ pub(crate) fn put_words<A: BuilderArena>(memory: &mut Memory<A>, message: &[u8])
     Ok(())
 }
 
-/// The struct behind the root pointer's word, to write under a schema.
-pub(crate) fn opened<'a, A: BuilderArena>(
-    memory: &'a mut Memory<A>,
-    schema: StructSchema<'a>,
-) -> Result<Builder<'a, A>>
-    ensures schema { IfOk result (λ o. o.schema ≡ schema.entry) }
-    ensures ready { IfOk result (IsReady A.segments) }
-{
+/// Where the struct behind the root pointer's word lies, with a schema's two sizes.
+pub(crate) fn root_place(schema: StructSchema<'_>) -> StructPlace {
     let record = schema.record();
-    let start = Place {
-        segment: 0,
-        position: 1,
-    };
-    let place = StructPlace {
-        start,
+    StructPlace {
+        start: Place {
+            segment: 0,
+            position: 1,
+        },
         data_words: record.data_word_count,
         pointers: record.pointer_count,
-    };
+    }
+}
+
+/// Whether a struct is there, with at least its schema's two sizes.
+pub(crate) fn is_there<A: BuilderArena>(
+    memory: &mut Memory<A>,
+    place: StructPlace,
+    schema: StructSchema<'_>,
+) -> bool
+    ensures stays { memory.new ≡ memory.old }
+    ensures there { result ≡ true → IsThere (words_in (A.segments memory.old.arena)) place }
+    ensures wide { result ≡ true → IsWide place (shape_of_struct schema.entry) }
+{
     let words = place.data_words as usize + place.pointers as usize;
-    if !has_words(&memory.arena, start, words) {
-        return Err(Error::from(ErrorKind::OutOfBounds));
+    if !has_words(&memory.arena, place.start, words) {
+        return false;
     }
-    if !is_wide(memory, place, schema) {
-        return Err(Error::from(ErrorKind::NotAStruct));
-    }
-    Ok(Builder::new(StructBuilder { memory, place }, schema))
+    is_wide(memory, place, schema)
+}
+
+/// A struct that is there, to write under its schema.
+pub(crate) fn builder_at<'a, A: BuilderArena>(
+    memory: &'a mut Memory<A>,
+    place: StructPlace,
+    schema: StructSchema<'a>,
+) -> Builder<'a, A>
+    requires there { IsThere (words_in (A.segments memory.old.arena)) place }
+    requires wide { IsWide place (shape_of_struct schema) }
+    ensures same { result.memory.ghost_name ≡ memory.entry.ghost_name }
+    ensures now { result.memory.now ≡ memory.old }
+    ensures schema { result.schema ≡ schema.entry }
+    ensures ready { IsReady A.segments result }
+{
+    Builder::new(StructBuilder { memory, place }, schema)
 }
 
 /// The used bytes of the first segment of an arena that ends.
