@@ -5,7 +5,7 @@ ghost use Rattle.capnp_dynamic_lists.specs.Builders.{IsReady};
 ghost use Rattle.capnp_dynamic_values.specs.Built.{IsListPlaced};
 
 use crate::lent_tests::{Holder, field_of, write};
-use crate::messages::{Told, finish, new_memory, put_words, told};
+use crate::messages::{Told, finish, new_memory, put_words, seen};
 use crate::schemas::{schemas, schemas_of_gets};
 use crate::tests::schema_of;
 use crate::value_tests::ITEMS;
@@ -28,7 +28,7 @@ fn list_at<'a, A: BuilderArena>(memory: &'a mut Memory<A>, list: ListPart<'a>) -
     requires { IsListPlaced (words_in (A.segments memory.old.arena)) list }
     ensures same { result.memory.ghost_name ≡ memory.entry.ghost_name }
     ensures now { result.memory.now ≡ memory.old }
-    ensures place { result.place ≡ list.place }
+    ensures place { result.place ≡ list.entry.place }
     ensures ready { IsReady A.segments result }
 {
     let ListPart {
@@ -62,7 +62,7 @@ fn element_told<A: BuilderArena>(
     }
     let mut builder = list_at(memory, list);
     let placed = get(&mut builder, index)?;
-    Ok(told(placed))
+    Ok(seen(placed))
 }
 
 /// Gets an element of the list that is a field, and writes it where it is got again.

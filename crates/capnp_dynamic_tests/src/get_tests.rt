@@ -1,6 +1,6 @@
 //! Fields of structs that are got to be written, and all words of the messages in which they lie.
 use crate::messages::{
-    Told, builder_at, finish, is_there, new_memory, put_words, root_place, told,
+    Told, builder_at, finish, is_there, new_memory, put_words, root_place, seen,
 };
 use crate::schemas::{schemas, schemas_of_gets};
 use crate::tests::schema_of;
@@ -34,7 +34,7 @@ fn named<A: BuilderArena>(
     }
     let mut builder = builder_at(memory, place, schema);
     let placed = get_named(&mut builder, name)?;
-    Ok(told(placed))
+    Ok(seen(placed))
 }
 
 /// Gets a field that is a struct or a group.

@@ -1,7 +1,6 @@
 //! Values that were got, lent to be written, also as callers' types, and all words of the messages in which they lie.
 ghost use Rattle.std.specs.Prelude.{◌≡◌, ◌<◌, ◌^◌, true, IfOk};
 ghost use Rattle.std.specs.Option.{is_some};
-ghost use Rattle.capnp_model.specs.Schemas.{struct};
 ghost use Rattle.capnp_units.specs.Segments.{words_in};
 ghost use Rattle.capnp_dynamic.specs.Builders.{IsReady as IsStructReady};
 ghost use Rattle.capnp_dynamic_values.specs.Built.{IsPlaced, IsReady};
@@ -9,20 +8,18 @@ ghost use Rattle.capnp_dynamic_values.specs.Untyped.{IsReady as IsPointerReady};
 ghost use Rattle.capnp_dynamic_values.specs.Variants.{data_in, struct_in, text_in, untyped_in};
 
 use crate::messages::{
-    Told, builder_at, finish, is_there, new_memory, put_words, root_place, told,
+    Told, builder_at, finish, is_there, new_memory, put_words, root_place, seen,
 };
+use crate::own_type::{Own, OwnBuilder};
 use crate::schemas::schemas;
 use crate::tests::schema_of;
 use crate::value_tests::ITEMS;
 use capnp_builders::data_builder::DataBuilder;
-use capnp_builders::owned::OwnedStruct;
 use capnp_builders::struct_builder::StructBuilder;
 use capnp_builders::text_builder::TextBuilder;
 use capnp_copy::arena::{BuilderArena, Memory};
-use capnp_copy::fields::StructPlace;
 use capnp_dynamic::dynamic_struct;
 use capnp_dynamic::init::Part;
-use capnp_dynamic_gets as dynamic_gets;
 use capnp_dynamic_gets::dynamic_struct::get;
 use capnp_dynamic_lists::dynamic_list;
 use capnp_dynamic_values::any_pointer;
@@ -30,19 +27,14 @@ use capnp_dynamic_values::callers::{downcast_struct, fits_struct};
 use capnp_dynamic_values::dynamic_value::Builder;
 use capnp_dynamic_values::placed::{ListPart, Placed};
 use capnp_queries::fields::Field;
-use capnp_queries::introspect::{Introspect, Type, TypeVariant};
 use capnp_queries::structs::StructSchema;
-use capnp_records::raw::RawBrandedStructSchema;
 use capnp_records::set::SchemaSet;
 use capnp_text::text;
 use capnp_units::errors::{Error, Result};
 use capnp_units::kinds::ErrorKind;
-use capnp_units::sizes::StructSize;
 use capnp_values::dynamic_value::Reader;
-use capnp_wire::arena::{NullArena, ReaderArena};
+use capnp_wire::arena::NullArena;
 use capnp_wire::place::has_words;
-use capnp_wire::structs::StructReader;
-use capnp_wire::traits::{HasStructSize, IntoInternalStructReader};
 use std::alloc::Global;
 use std::test::Fail;
 
@@ -85,7 +77,7 @@ fn lent<'a, A: BuilderArena>(
                 place,
                 schema,
             };
-            dynamic_gets::dynamic_struct::value(builder, placed)
+            capnp_dynamic_gets::dynamic_struct::value(builder, placed)
         }
         Holder::List(
             ListPart {
@@ -100,7 +92,7 @@ fn lent<'a, A: BuilderArena>(
                 set,
                 element_type,
             };
-            dynamic_gets::dynamic_list::value(builder, placed)
+            capnp_dynamic_gets::dynamic_list::value(builder, placed)
         }
     }
 }
@@ -285,69 +277,7 @@ pub(crate) fn write<A: BuilderArena>(
         Placed::AnyPointer(_) => write_untyped(memory, holder, placed)?,
         _ => {}
     }
-    Ok(told(placed))
-}
-
-/// The type of the structs of an id.
-struct Own<const ID: u64>;
-
-impl<const ID: u64> Introspect for Own<ID> {
-    ghost ty = { struct ID };
-
-    fn introspect() -> Type {
-        Type::from(TypeVariant::Struct(RawBrandedStructSchema::new(0, ID)))
-    }
-}
-
-impl<'a, A: BuilderArena + 'a, const ID: u64> OwnedStruct<'a, A> for Own<ID> {
-    type Reader = OwnReader<'a, A>;
-
-    type Builder = OwnBuilder<'a, A>;
-}
-
-/// Such a struct to read.
-#[derive(Drop)]
-struct OwnReader<'a, A>(StructReader<'a, A>);
-
-impl<'a, A: ReaderArena> From<StructReader<'a, A>> for OwnReader<'a, A> {
-    ghost from_gives = { λ s r. r.0 ≡ s };
-
-    fn from(reader: StructReader<'a, A>) -> OwnReader<'a, A> {
-        OwnReader(reader)
-    }
-}
-
-impl<'a, A: ReaderArena> IntoInternalStructReader<'a, A> for OwnReader<'a, A> {
-    ghost inner_struct = { λ n. n.0 };
-
-    ghost made = { λ s r same. same };
-
-    fn into_internal_struct_reader(self) -> StructReader<'a, A> {
-        self.0
-    }
-}
-
-/// Such a struct to write.
-#[derive(Drop)]
-struct OwnBuilder<'a, A> {
-    memory: &'a mut Memory<A>,
-    place: StructPlace,
-}
-
-impl<'a, A: BuilderArena> HasStructSize for OwnBuilder<'a, A> {
-    const STRUCT_SIZE: StructSize = StructSize {
-        data_words: 1,
-        pointers: 1,
-    };
-}
-
-impl<'a, A: BuilderArena> From<StructBuilder<'a, A>> for OwnBuilder<'a, A> {
-    ghost from_gives = { λ s r. (r.memory ≡ s.memory) × (r.place ≡ s.place) };
-
-    fn from(builder: StructBuilder<'a, A>) -> OwnBuilder<'a, A> {
-        let StructBuilder { memory, place } = builder;
-        OwnBuilder { memory, place }
-    }
+    Ok(seen(placed))
 }
 
 /// Writes the field of a name, as a caller's type if that is asked.

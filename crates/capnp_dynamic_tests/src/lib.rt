@@ -14,6 +14,8 @@ mod list_tests;
 #[cfg(test)]
 mod messages;
 #[cfg(test)]
+mod own_type;
+#[cfg(test)]
 mod schemas;
 #[cfg(test)]
 mod tests;

@@ -39,7 +39,7 @@ pub(crate) enum Told {
 }
 
 /// What is told by a value that was got.
-pub(crate) fn told(placed: Placed<'_>) -> Told {
+pub(crate) fn seen(placed: Placed<'_>) -> Told {
     match placed {
         Placed::Bool(value) => Told::Bool(value),
         Placed::UInt16(number) => Told::Number(number),
