@@ -1,13 +1,25 @@
-//! Streams for tests: a source that shows one byte at a time, and a sink that has an end.
+//! What tests share: the bytes of words, a source that shows one byte at a time, and a sink that has an end.
 #![tactic(auto)]
 
-ghost use Rattle.std.specs.Prelude.{◌≡◌, ◌≤◌, length};
+ghost use Rattle.std.specs.Prelude.{◌≡◌, ◌≤◌, length, IfOk};
+ghost use Rattle.capnp_model.specs.Bytes.{bytes_of_words};
 ghost use Rattle.capnp_units.specs.declared.kinds.ErrorKind.{ErrorKind};
 
 use capnp_io::traits::{BufRead, Read, Write};
 use capnp_units::errors::{Error, Result};
 use capnp_units::kinds::ErrorKind;
-use std::alloc::Global;
+use std::alloc::{AllocError, Global};
+
+/// The bytes of words, the lowest byte of each first.
+pub fn bytes_of(alloc: Global, words: &[u64]) -> std::result::Result<Vec<u8>, AllocError>
+    ensures { IfOk result (λ v. v.items ≡ bytes_of_words words.now) }
+{
+    let mut bytes = Vec::new(alloc);
+    for word in words {
+        bytes.extend_from_slice(&word.to_le_bytes())?;
+    }
+    Ok(bytes)
+}
 
 /// A source that shows one byte at a time, and fails after some. It doesn't tell its bytes.
 #[derive(Drop)]

@@ -7,6 +7,7 @@ use crate::builders::get_tests::words_of;
 use capnp_allocators::heap::HeapAllocator;
 use capnp_copy::arena::{BuilderArena, Memory};
 use capnp_copy::segments::BuilderArenaImpl;
+use capnp_test_streams::bytes_of;
 use capnp_units::errors::{Error, Result};
 use capnp_units::kinds::ErrorKind;
 use capnp_units::sizes::ElementSize;
@@ -40,15 +41,6 @@ fn called(alloc: Global, first: Call<'_>, then: Call<'_>) -> Result<Outcome> {
         words: words?,
         reads_hi,
     })
-}
-
-/// The bytes of words, the lowest byte of each first.
-fn bytes_of(alloc: Global, words: &[u64]) -> Result<Vec<u8>> {
-    let mut bytes = Vec::new(alloc);
-    for word in words {
-        bytes.extend_from_slice(&word.to_le_bytes())?;
-    }
-    Ok(bytes)
 }
 
 /// The root of a message of such words, copied in canonical form.

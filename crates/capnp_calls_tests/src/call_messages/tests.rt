@@ -1,17 +1,9 @@
 //! Messages whose values are taken, and bytes that are not.
 
 use capnp_call_messages::message::MessageValue;
+use capnp_test_streams::bytes_of;
 use std::alloc::{AllocError, Global};
 use std::test::Fail;
-
-/// The bytes of words.
-fn bytes_of(alloc: Global, words: &[u64]) -> Result<Vec<u8>, AllocError> {
-    let mut bytes = Vec::new(alloc);
-    for word in words {
-        bytes.extend_from_slice(&word.to_le_bytes())?;
-    }
-    Ok(bytes)
-}
 
 /// Whether the words are a message with a value.
 fn is_taken(alloc: Global, words: &[u64]) -> Result<bool, AllocError> {

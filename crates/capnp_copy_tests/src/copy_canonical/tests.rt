@@ -1,11 +1,12 @@
 //! Canonical copies of worked messages, as they lie afterwards.
 ghost use Rattle.std.specs.Prelude.{◌≡◌};
 
-use crate::copy_from::tests::{ROOT, Slabs, bytes_of, words_of};
+use crate::copy_from::tests::{ROOT, Slabs, words_of};
 use capnp_copy::arena::BuilderArena;
 use capnp_copy::blobs::set_data;
 use capnp_copy::segments::BuilderArenaImpl;
 use capnp_copy_canonical::copy::copy_canonical_from;
+use capnp_test_streams::bytes_of;
 use capnp_units::errors::{Error, Result as Answer};
 use capnp_units::kinds::ErrorKind;
 use capnp_units::limiter::ReadLimiter;

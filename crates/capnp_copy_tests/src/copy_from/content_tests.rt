@@ -1,11 +1,12 @@
 //! Structs that take over the content of others, as they lie afterwards.
 ghost use Rattle.std.specs.Prelude.{◌≡◌};
 
-use crate::copy_from::tests::{Outcome, ROOT, Slabs, bytes_of, expect_segments, words_of};
+use crate::copy_from::tests::{Outcome, ROOT, Slabs, expect_segments, words_of};
 use capnp_copy::arena::BuilderArena;
 use capnp_copy::fields::StructPlace;
 use capnp_copy::segments::BuilderArenaImpl;
 use capnp_copy_from::contents::copy_content_from;
+use capnp_test_streams::bytes_of;
 use capnp_units::errors::{Error, Result as Answer};
 use capnp_units::kinds::ErrorKind;
 use capnp_units::limiter::ReadLimiter;

@@ -1,9 +1,9 @@
 //! Structs and lists that were read before, as they are copied.
 
 use crate::copy_from::tests::{
-    NARROW, Setting, WIDE, WITH_TEXT, What, bytes_of, copied, expect_copy, expect_refused,
-    expect_segments,
+    NARROW, Setting, WIDE, WITH_TEXT, What, copied, expect_copy, expect_refused, expect_segments,
 };
+use capnp_test_streams::bytes_of;
 use capnp_units::kinds::ErrorKind;
 use std::test::Fail;
 

@@ -1,9 +1,9 @@
 //! What copies cost, and what is left where they are refused.
 
 use crate::copy_from::tests::{
-    NARROW, Setting, WIDE, WITH_TEXT, bytes_of, copied, expect_copy, expect_refused,
-    expect_segments,
+    NARROW, Setting, WIDE, WITH_TEXT, copied, expect_copy, expect_refused, expect_segments,
 };
+use capnp_test_streams::bytes_of;
 use capnp_units::kinds::ErrorKind;
 use std::test::Fail;
 

@@ -10,6 +10,7 @@ use capnp_copy_from::copy::{copy_from, copy_object};
 use capnp_copy_from::lists::ListSource;
 use capnp_copy_from::structs::set_struct;
 use capnp_object::follow::follow_within;
+use capnp_test_streams::bytes_of;
 use capnp_units::errors::{Error, Result as Answer};
 use capnp_units::kinds::ErrorKind;
 use capnp_units::limiter::ReadLimiter;
@@ -105,15 +106,6 @@ pub(crate) struct Outcome {
     pub(crate) granted: u64,
     pub(crate) followed: u64,
     pub(crate) segments: Vec<Vec<u64>>,
-}
-
-/// The bytes of words, the lowest byte of each first.
-pub(crate) fn bytes_of(alloc: Global, words: &[u64]) -> Result<Vec<u8>, AllocError> {
-    let mut bytes = Vec::new(alloc);
-    for word in words {
-        bytes.extend_from_slice(&word.to_le_bytes())?;
-    }
-    Ok(bytes)
 }
 
 /// The words of a segment.

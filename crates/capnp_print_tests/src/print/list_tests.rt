@@ -3,6 +3,7 @@
 use crate::print::tests::{indented, node, number, of, plain, slot};
 use capnp_records::node::{BaseType, EnumerantRecord, NodeBody, NodeRecord, TypeRecord};
 use capnp_records::set::SchemaSet;
+use capnp_test_streams::bytes_of;
 use std::alloc::{AllocError, Global};
 use std::test::Fail;
 
@@ -37,15 +38,6 @@ fn holder(alloc: Global, list_count: u32, base: BaseType) -> Result<SchemaSet, F
         node(alloc, 5, false, (0, 0, 0), Vec::new(alloc))?,
     ]?;
     Ok(SchemaSet::new(nodes).ok().ok_or("accepted")?)
-}
-
-/// The bytes of words.
-pub(crate) fn bytes_of(alloc: Global, words: &[u64]) -> Result<Vec<u8>, AllocError> {
-    let mut bytes = Vec::new(alloc);
-    for word in words {
-        bytes.extend_from_slice(&word.to_le_bytes())?;
-    }
-    Ok(bytes)
 }
 
 /// The root of the messages: a struct of one pointer.

@@ -1,10 +1,10 @@
 //! Texts of values of each type, and of unions of pointers.
 
-use crate::print::list_tests::bytes_of;
 use crate::print::tests::{Arena, field, indented, node, number, of, plain, slot};
 use capnp_print::stringify::print;
 use capnp_records::node::{BaseType, FieldBody, FieldRecord, NO_DISCRIMINANT, Value};
 use capnp_records::set::SchemaSet;
+use capnp_test_streams::bytes_of;
 use capnp_text::text;
 use capnp_values::dynamic_value::{Capability, Reader};
 use std::alloc::{AllocError, Global};

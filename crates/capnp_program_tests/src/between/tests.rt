@@ -11,6 +11,7 @@ use capnp_records::node::{
 use capnp_records::set::SchemaSet;
 use capnp_relay::ends::{Counts, Fault, RelayFault};
 use capnp_relay::options::{Form, ReaderOptions, RelayOptions};
+use capnp_test_streams::bytes_of;
 use capnp_units::kinds::ErrorKind;
 use std::alloc::{AllocError, Global};
 use std::test::Fail;
@@ -60,15 +61,6 @@ fn set_of(alloc: Global, names: &[&str], default: u64) -> Result<SchemaSet, Fail
 fn set_to_seven(alloc: Global, name: &str) -> Result<Call, Fail> {
     let path = vec![in alloc; Step::Name(String::from_str(alloc, name)?)]?;
     Ok(Call::new(alloc, path, Verb::Set, Some(CallValue::Number(7)))?)
-}
-
-/// The bytes of words.
-fn bytes_of(alloc: Global, words: &[u64]) -> Result<Vec<u8>, AllocError> {
-    let mut bytes = Vec::new(alloc);
-    for word in words {
-        bytes.extend_from_slice(&word.to_le_bytes())?;
-    }
-    Ok(bytes)
 }
 
 /// What a run left.

@@ -8,8 +8,9 @@ use capnp_queries::structs::StructSchema;
 use capnp_relay::ends::{Counts, Fault, RelayFault};
 use capnp_relay::options::{Form, ReaderOptions, RelayOptions};
 use capnp_relay::relay::relay;
+use capnp_test_streams::bytes_of;
 use capnp_units::kinds::ErrorKind;
-use std::alloc::{AllocError, Global};
+use std::alloc::Global;
 use std::test::Fail;
 
 /// The header of a frame of one segment of one word, two words, three words.
@@ -31,14 +32,6 @@ struct Relayed {
     out: Vec<u8>,
     log: Vec<u8>,
     ended: Result<Counts, RelayFault>,
-}
-
-fn bytes_of(alloc: Global, words: &[u64]) -> Result<Vec<u8>, AllocError> {
-    let mut bytes = Vec::new(alloc);
-    for word in words {
-        bytes.extend_from_slice(&word.to_le_bytes())?;
-    }
-    Ok(bytes)
 }
 
 fn call(

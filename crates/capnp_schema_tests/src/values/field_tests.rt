@@ -1,11 +1,12 @@
 //! Fields of each type by their bits and defaults, groups and their members, and reads at the last level.
 
-use crate::values::list_tests::{bytes_of, colours, number};
+use crate::values::list_tests::{colours, number};
 use crate::values::tests::{Arena, node, of, root, slot};
 use capnp_records::node::{
     BaseType, FieldBody, FieldRecord, NO_DISCRIMINANT, NodeBody, NodeRecord, TypeRecord, Value,
 };
 use capnp_records::set::SchemaSet;
+use capnp_test_streams::bytes_of;
 use capnp_units::kinds::ErrorKind;
 use capnp_values::dynamic_struct;
 use capnp_values::dynamic_value::Reader;

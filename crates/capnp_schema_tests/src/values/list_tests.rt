@@ -6,6 +6,7 @@ use capnp_records::node::{
     BaseType, EnumerantRecord, NO_DISCRIMINANT, NodeBody, NodeRecord, TypeRecord, Value,
 };
 use capnp_records::set::SchemaSet;
+use capnp_test_streams::bytes_of;
 use capnp_text::{data, text};
 use capnp_units::kinds::ErrorKind;
 use capnp_values::downcast::DowncastReader;
@@ -80,15 +81,6 @@ pub(crate) fn holders(alloc: Global) -> Result<SchemaSet, Fail> {
 }
 
 // ---- values
-
-/// The bytes of words.
-pub(crate) fn bytes_of(alloc: Global, words: &[u64]) -> Result<Vec<u8>, AllocError> {
-    let mut bytes = Vec::new(alloc);
-    for word in words {
-        bytes.extend_from_slice(&word.to_le_bytes())?;
-    }
-    Ok(bytes)
-}
 
 /// Bytes as one number, the first as the highest.
 fn folded(bytes: &[u8]) -> i128 {

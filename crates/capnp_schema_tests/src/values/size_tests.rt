@@ -1,7 +1,8 @@
 //! Lists of each size, read as lists of other types.
 
-use crate::values::list_tests::{ROOT, bytes_of, holders, list, told};
+use crate::values::list_tests::{ROOT, holders, list, told};
 use capnp_records::set::SchemaSet;
+use capnp_test_streams::bytes_of;
 use capnp_units::kinds::ErrorKind;
 use capnp_wire::arena::ReaderArenaImpl;
 use std::alloc::Global;

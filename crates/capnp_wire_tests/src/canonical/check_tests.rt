@@ -3,6 +3,7 @@
 use capnp_canonical::check::{are_canonical, is_canonical, is_canonical_message};
 use capnp_object::arena::ReaderArenaImpl;
 use capnp_object::place::Place;
+use capnp_test_streams::bytes_of;
 use capnp_units::errors::Result as Answer;
 use capnp_units::kinds::ErrorKind;
 use capnp_units::limiter::ReadLimiter;
@@ -16,15 +17,6 @@ fn bytes_in(alloc: Global, words: &[Word]) -> Result<Vec<u8>, AllocError> {
     let mut bytes = Vec::new(alloc);
     for word in words {
         bytes.extend_from_slice(word)?;
-    }
-    Ok(bytes)
-}
-
-/// The bytes of words, the lowest byte of each first.
-fn bytes_of(alloc: Global, words: &[u64]) -> Result<Vec<u8>, AllocError> {
-    let mut bytes = Vec::new(alloc);
-    for word in words {
-        bytes.extend_from_slice(&word.to_le_bytes())?;
     }
     Ok(bytes)
 }

@@ -2,8 +2,9 @@
 ghost use Rattle.std.specs.Prelude.{◌<◌};
 
 use super::written::{
-    Limits, WIDE, bytes_in, bytes_of, copied, expect_refused, expect_words, expect_written,
+    Limits, WIDE, bytes_in, copied, expect_refused, expect_words, expect_written,
 };
+use capnp_test_streams::bytes_of;
 use capnp_units::kinds::ErrorKind;
 use std::alloc::Global;
 use std::process::Abort;

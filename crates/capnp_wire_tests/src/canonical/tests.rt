@@ -1,6 +1,7 @@
 //! Worked messages, and the canonical words of their values.
 
-use super::written::{Limits, WIDE, bytes_in, bytes_of, copied, expect_words, expect_written};
+use super::written::{Limits, WIDE, bytes_in, copied, expect_words, expect_written};
+use capnp_test_streams::bytes_of;
 use capnp_units::kinds::ErrorKind;
 use std::test::Fail;
 

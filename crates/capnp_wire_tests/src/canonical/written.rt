@@ -3,6 +3,7 @@
 use capnp_canonical::copy::write_canonical;
 use capnp_object::arena::ReaderArenaImpl;
 use capnp_object::place::Place;
+use capnp_test_streams::bytes_of;
 use capnp_units::errors::Result as Answer;
 use capnp_units::kinds::ErrorKind;
 use capnp_units::limiter::ReadLimiter;
@@ -31,15 +32,6 @@ pub(super) const WIDE: Limits = Limits {
     levels: 64,
     room: 1001,
 };
-
-/// The bytes of words, the lowest byte of each first.
-pub(super) fn bytes_of(alloc: Global, words: &[u64]) -> Result<Vec<u8>, AllocError> {
-    let mut bytes = Vec::new(alloc);
-    for word in words {
-        bytes.extend_from_slice(&word.to_le_bytes())?;
-    }
-    Ok(bytes)
-}
 
 /// The bytes of words that are told by their bytes.
 pub(super) fn bytes_in(alloc: Global, words: &[Word]) -> Result<Vec<u8>, AllocError> {
