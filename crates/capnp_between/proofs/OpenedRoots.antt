@@ -9,4 +9,3 @@ use Rattle.capnp_model.proofs.lemmas.Numbers.{wider}
 use Rattle.capnp_versions.specs.Whole.{IsWhole}
 use Rattle.capnp_versions.proofs.lemmas.WholeValues.{whole-trim, whole-resized, whole-padded_to}
 use Rattle.capnp_versions.proofs.lemmas.TrimmedRelays.{whole_root}
-

@@ -63,9 +63,10 @@ pub fn set_struct_canonical<A: BuilderArena, B: ReaderArena, C: BuilderArena>(
     ensures scratch { StaysThere scratch.old scratch.new }
     ensures copy { let d = words_around C.segments scratch.new in
         let k = place_view scratch.old.place in let v = seen_struct B.segments value.entry in
-        ThroughScratch (SetsStruct v (words_around C.segments scratch.old) d k) (level_above v.levels)
-        d k lent.old lent.new (words_around A.segments builder.old) (words_around A.segments builder.new)
-        (place_view builder.old.place) limiter.old result limiter.new }
+        ThroughScratch (SetsStruct v (words_around C.segments scratch.old) d k)
+        (level_above v.levels) d k lent.old lent.new (words_around A.segments builder.old)
+        (words_around A.segments builder.new) (place_view builder.old.place) limiter.old result
+        limiter.new }
     ensures books { (A.books builder.new.memory.now.arena ≡ A.books builder.old.memory.now.arena)
         × (C.books scratch.new.memory.now.arena ≡ C.books scratch.old.memory.now.arena) }
 {
@@ -97,9 +98,10 @@ pub fn set_list_canonical<A: BuilderArena, B: ReaderArena, C: BuilderArena>(
     ensures scratch { StaysThere scratch.old scratch.new }
     ensures copy { let d = words_around C.segments scratch.new in
         let k = place_view scratch.old.place in let v = seen_list B.segments value.entry in
-        ThroughScratch (SetsList v (words_around C.segments scratch.old) d k) (level_above v.levels)
-        d k lent.old lent.new (words_around A.segments builder.old) (words_around A.segments builder.new)
-        (place_view builder.old.place) limiter.old result limiter.new }
+        ThroughScratch (SetsList v (words_around C.segments scratch.old) d k)
+        (level_above v.levels) d k lent.old lent.new (words_around A.segments builder.old)
+        (words_around A.segments builder.new) (place_view builder.old.place) limiter.old result
+        limiter.new }
     ensures books { (A.books builder.new.memory.now.arena ≡ A.books builder.old.memory.now.arena)
         × (C.books scratch.new.memory.now.arena ≡ C.books scratch.old.memory.now.arena) }
 {

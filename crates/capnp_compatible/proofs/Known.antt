@@ -48,4 +48,3 @@ one_more (p ∷ more) i j a b = ap (λ c. (p.0 == a && p.1 == b) || c) (one_more
 pub either : (b c : Bool) → cond b true c ≡ (b || c)
 either true c = refl
 either false c = refl
-

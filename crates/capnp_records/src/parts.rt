@@ -147,7 +147,8 @@ fn push_enumerant_names<'a>(
 
 /// The names of a node's fields or enumerants.
 pub(crate) fn names_of(alloc: Global, node: &NodeRecord) -> Result<Vec<&str>, AllocError>
-    ensures { IfOk result (λ v. map (λ s. s.now) v.items ≡ names_of_kind (node_kind node.now.body)) }
+    ensures { IfOk result
+        (λ v. map (λ s. s.now) v.items ≡ names_of_kind (node_kind node.now.body)) }
 {
     let mut names = Vec::new(alloc);
     match &node.body {

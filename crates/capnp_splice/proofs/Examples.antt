@@ -66,4 +66,3 @@ null_stays = refl
 
 pub empty_struct_stays : shifted 4 0xffff_fffc ≡ 0xffff_fffc
 empty_struct_stays = refl
-

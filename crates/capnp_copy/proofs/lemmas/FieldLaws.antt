@@ -98,4 +98,3 @@ masked_back zero false l = refl
 masked_back (suc zero) true l = refl
 masked_back (suc zero) false l = refl
 masked_back (suc (suc b)) m l = absurd (omega (arith, l))
-

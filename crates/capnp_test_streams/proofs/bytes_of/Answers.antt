@@ -11,5 +11,5 @@ loop-word-preserved c =
     let i = c.loop-word.word-index in
     let next = take-suc words i 0 (omega (arith, c.loop-word-test.true)) in
     let one : bytes_of_words (take (suc i) words) ≡ bytes_of_words (take i words) ++ to_le_bytes w64 (get_or words i 0) =
-      ap bytes_of_words next ∙ flat_map-append (to_le_bytes w64) (take i words) (get_or words i 0 ∷ []) ∙ ap (λ (x : List ℕ). bytes_of_words (take i words) ++ x) (append-nil (to_le_bytes w64 (get_or words i 0))) in
+    ap bytes_of_words next ∙ flat_map-append (to_le_bytes w64) (take i words) (get_or words i 0 ∷ []) ∙ ap (λ (x : List ℕ). bytes_of_words (take i words) ++ x) (append-nil (to_le_bytes w64 (get_or words i 0))) in
     search rules

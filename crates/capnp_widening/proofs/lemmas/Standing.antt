@@ -96,4 +96,3 @@ pointed_sizes s p r None w = written_sizes s p ((w + 4 * offset_to p r) ∷ [])
 pointed_sizes s p r (Some pad) w = written_sizes (with_words s (place_view pad) (far_pointer r ∷ (w ∷ []))) p (double_far_pointer (place_view pad) ∷ []) ∙ written_sizes s (place_view pad) (far_pointer r ∷ (w ∷ []))
 
 -- ---- a word and the end of its segment
-

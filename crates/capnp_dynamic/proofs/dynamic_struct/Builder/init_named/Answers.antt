@@ -19,6 +19,11 @@ both_told (Err e) f p q = tt
 
 pub returns-clause-puts : goal.returns-clause-puts
 returns-clause-puts g c =
-    inl (c.in_ok-found.found, c.in_ok-found.ensures.found,
-    (record { same = refl; place = refl; schema = refl; puts = c.begin_field.ensures.puts },
-    both_told c.begin_field.result (λ part tells there. record { tells = tells; there = there }) c.begin_field.ensures.tells c.begin_field.ensures.there))
+    inl (
+      c.in_ok-found.found,
+      c.in_ok-found.ensures.found,
+      (
+        record { same = refl; place = refl; schema = refl; puts = c.begin_field.ensures.puts },
+        both_told c.begin_field.result (λ part tells there. record { tells = tells; there = there }) c.begin_field.ensures.tells c.begin_field.ensures.there,
+      ),
+    )
