@@ -65,14 +65,14 @@ shown v (pointer_list ts) h = absurd h
 shown v (struct_list w p es) h = absurd h
 
 pub root_cell : StructsAreRead → (g : Ground) (levels left : Option ℕ) → level_below levels ≡ Ok left → (f : Found) (t : Tree) (v : StructView) → object_at g.segments root ≡ Ok f → tree_at 64 g.segments root ≡ Some t → read_struct g levels f.object ≡ Ok v → RootCell v t
-root_cell law g levels left level f t v found tree read =
+root_cell are_read g levels left level f t v found tree read =
     let here : IsRead 63 root f t g levels = record { found = found; tree = tree; below = left; level = level } in
-    let shows : ShowsStruct (tree_at 63 g.segments) v t = (law 63 root f t g levels here).0 v read in
+    let shows : ShowsStruct (tree_at 63 g.segments) v t = (are_read 63 root f t g levels here).0 v read in
     shown v t (subst (λ (x : Ground). ShowsStruct (tree_at 63 x.segments) v t) (sym (basis_is g levels f.object v read)) shows)
 
 pub root_behind : StructsAreRead → (p : PointerView) (s : Segments) (left : Option ℕ) → p.place ≡ Some root → p.basis.segments ≡ s → level_below p.levels ≡ Ok left → (t : Tree) → tree_at 64 s root ≡ Some t → (f : Found) → object_behind p ≡ Ok f → (v : StructView) → read_struct p.basis p.levels f.object ≡ Ok v → RootCell v t
-root_behind law p s left place segs level t tree f found v read =
-    root_cell law p.basis p.levels left level f t v (ap (found_behind p.basis.segments) (sym place) ∙ found) (subst (λ x. tree_at 64 x root ≡ Some t) (sym segs) tree) read
+root_behind are_read p s left place segs level t tree f found v read =
+    root_cell are_read p.basis p.levels left level f t v (ap (found_behind p.basis.segments) (sym place) ∙ found) (subst (λ x. tree_at 64 x root ≡ Some t) (sym segs) tree) read
 
 -- ---- a group that is set to it
 

@@ -64,19 +64,19 @@ module _ (s : Schema) (id : ℕ) where
   no_struct (struct_list w p es) kind e = refl
 
   struct_answer : PointersAreRead → (p : PointerView) (t : Tree) (q : Result StructView Kind) → Leads 64 p t → q ≡ struct_at p → Answers s (q and_then λ v. Ok (a_struct s (s.shape_of id) v)) (or_empty s (struct id) (read s t (struct id)))
-  struct_answer law p t q leads e =
-      subst (λ (x : Result StructView Kind). Answers s (x and_then λ v. Ok (a_struct s (s.shape_of id) v)) (or_empty s (struct id) (read s t (struct id)))) (sym e) (law 64 p t s (struct id) tt leads)
+  struct_answer are_read p t q leads e =
+      subst (λ (x : Result StructView Kind). Answers s (x and_then λ v. Ok (a_struct s (s.shape_of id) v)) (or_empty s (struct id) (read s t (struct id)))) (sym e) (are_read 64 p t s (struct id) tt leads)
 
 any : Schema
 any = schema_of []
 
 -- what is got is the value's struct
 pub struct_is : PointersAreRead → (p : PointerView) (t : Tree) (v : StructView) → Leads 64 p t → Ok v ≡ struct_at p → IsStructOf t (Some v)
-struct_is law p t v leads e = ((struct_read any 0 v t (struct_answer any 0 law p t (Ok v) leads e).1).0, λ s id. (struct_read s id v t (struct_answer s id law p t (Ok v) leads e).1).1)
+struct_is are_read p t v leads e = ((struct_read any 0 v t (struct_answer any 0 are_read p t (Ok v) leads e).1).0, λ s id. (struct_read s id v t (struct_answer s id are_read p t (Ok v) leads e).1).1)
 
 -- what is refused is none
 pub struct_refused : PointersAreRead → (p : PointerView) (t : Tree) (kind : Kind) → Leads 64 p t → Err kind ≡ struct_at p → IsStructOf t None
-struct_refused law p t kind leads e = no_struct any 0 t kind (struct_answer any 0 law p t (Err kind) leads e)
+struct_refused are_read p t kind leads e = no_struct any 0 t kind (struct_answer any 0 are_read p t (Err kind) leads e)
 
 pub struct_taken : {X : Type 0} (view : X → StructView) (t : Tree) (id : ℕ) (o : Option X) → IsStructOf t (option_map view o) → taken (is_some o) ≡ content_reply (value_content (message t) (struct id))
 struct_taken view t id (Some x) h = ap content_reply (sym h.0)
@@ -154,12 +154,12 @@ module _ (s : Schema) (ty : Ty) where
   no_list (struct_list w p es) kind e = unlisted (is_list_of (struct_list w p es) ty) _ kind e
 
   list_answer : PointersAreRead → (p : PointerView) (t : Tree) (q : Result ListView Kind) → Leads 64 p t → q ≡ list_at (size_of ty) p → Answers s (q and_then λ l. Ok (a_list s ty l)) (or_empty s (list ty) (read s t (list ty)))
-  list_answer law p t q leads e =
-      subst (λ (x : Result ListView Kind). Answers s (x and_then λ l. Ok (a_list s ty l)) (or_empty s (list ty) (read s t (list ty)))) (sym e) (law 64 p t s (list ty) tt leads)
+  list_answer are_read p t q leads e =
+      subst (λ (x : Result ListView Kind). Answers s (x and_then λ l. Ok (a_list s ty l)) (or_empty s (list ty) (read s t (list ty)))) (sym e) (are_read 64 p t s (list ty) tt leads)
 
 -- null is no list
 pub null_list : NullsAreRead → (p : PointerView) (t : Tree) (ty : Ty) → Leads 64 p t → pointer_is_null p ≡ true → false ≡ is_list_of t ty
-null_list law p t ty leads none = by t (sym (law 64 p t leads) ∙ none)
+null_list are_read p t ty leads none = by t (sym (are_read 64 p t leads) ∙ none)
   where
     by : (t : Tree) → is_null t ≡ true → false ≡ is_list_of t ty
     by null e = refl
@@ -172,12 +172,12 @@ null_list law p t ty leads none = by t (sym (law 64 p t leads) ∙ none)
 module _ (ty : Ty) (size : ElementSize) (same : size_number size ≡ expected_size ty) where
   -- what is got is a list of the type
   pub list_is : PointersAreRead → NullsAreRead → (p : PointerView) (t : Tree) (l : ListView) → Leads 64 p t → pointer_is_null p ≡ false → Ok l ≡ list_at size p → true ≡ is_list_of t ty
-  list_is law nulls p t l leads some e =
-      list_read any ty t l (sym (nulls 64 p t leads) ∙ some) (list_answer any ty law p t (Ok l) leads (e ∙ ap (λ (x : ElementSize). list_at x p) (asked size ty same))).1
+  list_is are_read nulls p t l leads some e =
+      list_read any ty t l (sym (nulls 64 p t leads) ∙ some) (list_answer any ty are_read p t (Ok l) leads (e ∙ ap (λ (x : ElementSize). list_at x p) (asked size ty same))).1
 
   -- what is refused is none
   pub list_refused : PointersAreRead → (p : PointerView) (t : Tree) (kind : Kind) → Leads 64 p t → Err kind ≡ list_at size p → false ≡ is_list_of t ty
-  list_refused law p t kind leads e = no_list any ty t kind (list_answer any ty law p t (Err kind) leads (e ∙ ap (λ (x : ElementSize). list_at x p) (asked size ty same)))
+  list_refused are_read p t kind leads e = no_list any ty t kind (list_answer any ty are_read p t (Err kind) leads (e ∙ ap (λ (x : ElementSize). list_at x p) (asked size ty same)))
 
 pub list_taken : (b : Bool) (t : Tree) → taken b ≡ content_reply (if b then object t else refused_by TypeMismatch)
 list_taken true t = refl

@@ -26,5 +26,5 @@ returns g c =
     let l = seen_list g.A.ReaderArena.segments c.args.self.now in
     let size = size_number l.size in
     c.get_bool_field.ensures
-    ∙ ap (λ (s : StructView). eqb (field_bits (just_bits s.bits) s.section 0 1) 1) c.get_struct_element.ensures
+    ∙ ap (λ (s : StructView). eqb (field_bits (just_bits s.bits) (s.section) 0 1) 1) c.get_struct_element.ensures
     ∙ ap (λ (n : ℕ). eqb n 1) (element_field 0 (step_bits size l.data_words l.pointers * c.args.index) (element_bits size l.data_words) 1 l.section refl)
