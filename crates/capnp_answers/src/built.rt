@@ -18,7 +18,7 @@ ghost use Rattle.capnp_answers.specs.Answers.{AnswersRoot, AnswersWords, LongFro
 ghost use Rattle.capnp_canonical.specs.Writes.{filled};
 
 use crate::answer::{MessageAnswer, Reason, Want};
-use crate::reading::{ROOT, make_room};
+use crate::reading::make_room;
 use capnp_calls::Call;
 use capnp_canonical::copy::write_canonical;
 use capnp_copy::allocator::Allocator;
@@ -31,6 +31,7 @@ use capnp_model::laws::{
     trimmed_values, values_as_a_relation, values_on_walks, values_that_are_read,
     words_mean_their_value,
 };
+use capnp_object::place::ROOT;
 use capnp_object::size::size_at;
 use capnp_queries::structs::StructSchema;
 use capnp_run::root::run_root;

@@ -19,13 +19,7 @@ use capnp_units::kinds::ErrorKind;
 use capnp_units::limiter::ReadLimiter;
 use capnp_units::sizes::Word;
 use capnp_wire::arena::ReaderArena;
-use capnp_wire::place::Place;
-
-/// Where the root pointer of a message stands.
-pub(crate) const ROOT: Place = Place {
-    segment: 0,
-    position: 0,
-};
+use capnp_wire::place::ROOT;
 
 /// A message has fewer words than this.
 const MESSAGE_WORDS: usize = 0x2000_0000;

@@ -8,7 +8,7 @@ use capnp_canonical::copy::write_canonical;
 use capnp_canonical::laws::copies_as_walks;
 use capnp_model::laws::values_on_walks;
 use capnp_object::arena::ReaderArena;
-use capnp_object::place::Place;
+use capnp_object::place::ROOT;
 use capnp_units::errors::Error;
 use capnp_units::kinds::ErrorKind;
 use capnp_units::limiter::ReadLimiter;
@@ -20,12 +20,6 @@ pub(crate) const MOST_WORDS: usize = 8_388_608;
 
 /// How many levels of pointers a message may have.
 pub(crate) const MOST_LEVELS: u32 = 64;
-
-/// Where the root pointer of a message stands.
-const ROOT: Place = Place {
-    segment: 0,
-    position: 0,
-};
 
 /// Writes the canonical words of a message's value to the front of a slice, and answers how many they are; none where it has no value within the limits, or one with a capability.
 ///

@@ -5,12 +5,12 @@ ghost use Rattle.capnp_object.specs.Places.{place_view};
 ghost use Rattle.capnp_object.specs.Objects.{AreThere};
 ghost use Rattle.capnp_canonical.specs.Checks.{TellsValue, TellsRow, TellsStruct, TellsMessage};
 
-use crate::heads::{ROOT, is_behind, move_on};
+use crate::heads::{is_behind, move_on};
 use crate::own_words::{are_words, is_least};
 use crate::value_ends::{row_end, value_end};
 use capnp_object::arena::ReaderArena;
 use capnp_object::follow::follow_within;
-use capnp_object::place::{Place, has_words};
+use capnp_object::place::{Place, ROOT, has_words};
 use capnp_units::errors::Result;
 use capnp_units::limiter::ReadLimiter;
 use capnp_units::sizes::StructSize;

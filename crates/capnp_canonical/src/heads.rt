@@ -8,12 +8,6 @@ ghost use Rattle.capnp_canonical.specs.Checks.{IsBehind};
 use capnp_object::arena::ReaderArena;
 use capnp_object::place::{Place, has_words};
 
-/// Where the root pointer of a message stands.
-pub(crate) const ROOT: Place = Place {
-    segment: 0,
-    position: 0,
-};
-
 /// Where a struct of so many words stands whose pointer is at a place: from the head on, or at its pointer where it has none.
 #[inline(always)]
 pub(crate) fn struct_start(place: Place, words: usize, head: usize) -> usize

@@ -19,13 +19,7 @@ use capnp_units::limiter::ReadLimiter;
 use capnp_units::sizes::Word;
 use capnp_wire::arena::{NullArena, ReaderArena};
 use capnp_wire::backing::{Backing, default_backing};
-use capnp_wire::place::Place;
-
-/// Where the root pointer of a message stands.
-const ROOT: Place = Place {
-    segment: 0,
-    position: 0,
-};
+use capnp_wire::place::{Place, ROOT};
 
 /// Puts a copy of the value of a pointer in a source in place of the value of the pointer at a place, which is cleared: the trimmed tree, as a canonical message has it. A value with a capability is refused.
 ///

@@ -24,16 +24,10 @@ use capnp_units::limiter::ReadLimiter;
 use capnp_units::sizes::Word;
 use capnp_wire::arena::NullArena;
 use capnp_wire::backing::{Backing, default_backing};
-use capnp_wire::place::{Place, word_at};
+use capnp_wire::place::{Place, ROOT, word_at};
 
 /// How deep the value of a root may be nested.
 const MOST_LEVELS: u32 = 64;
-
-/// Where the root is.
-pub const ROOT: Place = Place {
-    segment: 0,
-    position: 0,
-};
 
 /// The words of a segment's bytes, eight bytes each; bytes behind the last whole word are left out.
 pub fn words_of(bytes: &[u8]) -> &[Word]

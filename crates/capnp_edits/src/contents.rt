@@ -13,7 +13,6 @@ ghost use Rattle.capnp_edits.specs.Elements.{TakesTree};
 use capnp_copy::arena::BuilderArena;
 use capnp_copy::fields::StructPlace;
 use capnp_copy_from::contents::copy_content_from;
-use capnp_dynamic::roots::ROOT;
 use capnp_object::object::{Object, object_at};
 use capnp_units::errors::{Error, Result};
 use capnp_units::kinds::ErrorKind;
@@ -21,7 +20,7 @@ use capnp_units::limiter::ReadLimiter;
 use capnp_units::sizes::Word;
 use capnp_wire::arena::NullArena;
 use capnp_wire::backing::{Backing, default_backing};
-use capnp_wire::place::Place;
+use capnp_wire::place::{Place, ROOT};
 
 /// How deep the children of the value of a message may be nested.
 const INNER_LEVELS: u32 = 63;

@@ -22,7 +22,7 @@ use capnp_copy::arena::BuilderArena;
 use capnp_copy::fields::StructPlace;
 use capnp_copy::init::init_struct;
 use capnp_dynamic::group_sets;
-use capnp_dynamic::roots::{ROOT, copy_root, has_null_root, words_of};
+use capnp_dynamic::roots::{copy_root, has_null_root, words_of};
 use capnp_dynamic::slots::{mark, pointer_place};
 use capnp_model::laws_of_edits::groups_set_by_writes;
 use capnp_queries::fields::Field;
@@ -36,7 +36,7 @@ use capnp_values::source::StructSource;
 use capnp_wire::arena::{NullArena, ReaderArena};
 use capnp_wire::backing::{Backing, default_backing};
 use capnp_wire::laws::gets_are_readings;
-use capnp_wire::place::Place;
+use capnp_wire::place::{Place, ROOT};
 use capnp_wire::pointer::PointerReader;
 use capnp_wire::structs::StructReader;
 

@@ -10,7 +10,7 @@ use crate::options::ReaderOptions;
 use crate::reader::Reader;
 use capnp_canonical::check::is_canonical_message;
 use capnp_canonical::copy::write_canonical;
-use capnp_object::place::Place;
+use capnp_object::place::ROOT;
 use capnp_object::size::size_at;
 use capnp_units::errors::{Error, Result};
 use capnp_units::kinds::ErrorKind;
@@ -20,12 +20,6 @@ use capnp_units::sizes::Word;
 use capnp_wire::arena::ReaderArena;
 use capnp_wire::levels::levels_of;
 use std::alloc::Global;
-
-/// Where the root pointer of a message stands.
-pub(crate) const ROOT: Place = Place {
-    segment: 0,
-    position: 0,
-};
 
 /// The most words of a message.
 const MOST_WORDS: u64 = 0x1fff_ffff;

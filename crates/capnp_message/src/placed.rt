@@ -15,7 +15,6 @@ ghost use Rattle.capnp_message.specs.Built.{rooted, words_held, place_held, loan
 ghost use Rattle.capnp_message.specs.Placed.{root_slot, StructPlaced, StructIsTooLarge, StructFound, NoStructFound, NoRootFound};
 
 use crate::builder::Builder;
-use crate::canonical::ROOT;
 use crate::roots::begin;
 use crate::typed_builder::TypedBuilder;
 use capnp_builders::gets::struct_or_default;
@@ -27,7 +26,7 @@ pub use capnp_copy::fields::StructPlace;
 use capnp_copy::init::init_struct;
 use capnp_units::errors::Result;
 pub use capnp_units::sizes::StructSize;
-use capnp_wire::place::Place;
+use capnp_wire::place::{Place, ROOT};
 
 /// A handle that knows where its value lies and holds no memory, so that its calls take the memory of the message. One over a struct is a `PlacedStruct`.
 pub trait Placed: Sized {

@@ -18,7 +18,6 @@ ghost use Rattle.capnp_message.specs.Placed.{root_slot};
 ghost use Rattle.capnp_message.specs.Roots.{ReadsRoot};
 
 use crate::builder::Builder;
-use crate::canonical::ROOT;
 use crate::options::ReaderOptions;
 use crate::reader::Reader;
 use capnp_builders::pointer_builder::PointerBuilder;
@@ -29,7 +28,7 @@ use capnp_copy::segments::BuilderArenaImpl;
 use capnp_units::errors::{Error, Result};
 use capnp_units::kinds::ErrorKind;
 use capnp_units::limiter::ReadLimiter;
-use capnp_wire::place::has_words;
+use capnp_wire::place::{ROOT, has_words};
 use capnp_wire::pointer::PointerReader;
 use capnp_wire::traits::FromPointerReader;
 

@@ -11,7 +11,6 @@ ghost use Rattle.capnp_message.specs.Built.{words_held, place_held, loans_held, 
 ghost use Rattle.capnp_message.specs.Canonical.{ReplacesRoot, SetsCanonical};
 
 use crate::builder::Builder;
-use crate::canonical::ROOT;
 use crate::options::DEFAULT_READER_OPTIONS;
 use crate::reader::{Reader, SegmentArray};
 use capnp_copy::allocator::{Allocator, SegmentBytes};
@@ -25,7 +24,7 @@ use capnp_units::kinds::ErrorKind;
 use capnp_units::limiter::ReadLimiter;
 use capnp_units::segments::ReaderSegments;
 use capnp_units::sizes::{Word, words_as_bytes};
-use capnp_wire::place::{Place, has_words};
+use capnp_wire::place::{Place, ROOT, has_words};
 use std::alloc::Global;
 
 /// The most words that a message may have.

@@ -31,6 +31,12 @@ pub struct Place {
     pub position: usize,
 }
 
+/// Where the root pointer of a message stands.
+pub const ROOT: Place = Place {
+    segment: 0,
+    position: 0,
+};
+
 /// The word at a position in words of bytes, where they have it whole.
 #[inline(always)]
 pub fn word_in(bytes: &[u8], position: usize) -> Option<u64>

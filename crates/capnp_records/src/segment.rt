@@ -19,7 +19,7 @@ use capnp_model::laws::values_on_walks;
 use capnp_object::arena::{ReaderArena, ReaderArenaImpl};
 use capnp_object::laws::values_by_levels;
 use capnp_object::object::{Object, object_at};
-use capnp_object::place::Place;
+use capnp_object::place::ROOT;
 use capnp_units::limiter::ReadLimiter;
 
 /// The most levels of a value that stands in a node record.
@@ -27,12 +27,6 @@ const MOST_LEVELS: u32 = 64;
 
 /// Under so many bytes are fewer than 2^29 words.
 const TOO_MANY_BYTES: usize = 0x1_0000_0000;
-
-/// Where the root pointer of a segment stands.
-const ROOT: Place = Place {
-    segment: 0,
-    position: 0,
-};
 
 /// What is asked of a value.
 #[derive(Clone, Copy)]

@@ -17,15 +17,9 @@ use capnp_units::limiter::ReadLimiter;
 use capnp_values::laws::{nulls_are_read, pointers_are_read};
 use capnp_wire::arena::{NullArena, ReaderArena};
 use capnp_wire::backing::Backing;
-use capnp_wire::place::Place;
+use capnp_wire::place::ROOT;
 use capnp_wire::pointer::PointerReader;
 use capnp_wire::structs::StructReader;
-
-/// Where the root of a message is.
-const ROOT: Place = Place {
-    segment: 0,
-    position: 0,
-};
 
 /// The words of a message's value, to be read where they lie.
 pub(crate) fn kept<'a>(value: &'a MessageValue) -> Backing<'a, NullArena>

@@ -11,11 +11,11 @@ ghost use Rattle.capnp_run.specs.Written.{HasWords};
 use capnp_canonical::check::is_canonical_message;
 use capnp_canonical::copy::write_canonical;
 use capnp_canonical::laws::copies_as_walks;
-use capnp_dynamic::roots::ROOT;
 use capnp_footprints::laws_of_canonical_words::lengths_of_canonical_words;
 use capnp_model::laws::{
     canonical_tests, values_as_a_relation, values_on_walks, values_that_are_read,
 };
+use capnp_object::place::ROOT;
 use capnp_units::limiter::ReadLimiter;
 use capnp_units::sizes::Word;
 use capnp_wire::arena::ReaderArena;

@@ -10,17 +10,11 @@ use capnp_canonical::laws::{copies_as_walks, segments_of_words};
 use capnp_message::message::ReaderOptions;
 use capnp_model::laws::{sizes_of_values, values_on_walks};
 use capnp_object::arena::ReaderArena;
-use capnp_object::place::Place;
+use capnp_object::place::ROOT;
 use capnp_object::size::size_at;
 use capnp_units::segments::ReaderSegments;
 use capnp_units::sizes::{SegmentId, Word, words_as_bytes};
 use std::alloc::Global;
-
-/// The place of the root pointer.
-const ROOT: Place = Place {
-    segment: 0,
-    position: 0,
-};
 
 /// The most words that a message has room for.
 const MOST: u64 = (1 << 29) - 1;
