@@ -15,7 +15,7 @@ use Rattle.capnp_units.specs.declared.limiter.ReadLimiter.{ReadLimiter}
 use Rattle.capnp_queries.specs.Structs.{schema_around, shape_of_struct, id_of}
 use Rattle.capnp_queries.specs.declared.structs.StructSchema.{StructSchema}
 use Rattle.capnp_calls.specs.Replies.{reply_view}
-use Rattle.capnp_calls.specs.Texts.{as_it_is}
+use Rattle.capnp_model.specs.Printing.{as_it_is}
 use Rattle.capnp_calls.specs.declared.reply.Reply.{Reply}
 use Rattle.capnp_canonical.specs.Copies.{copy_visits, Written}
 use Rattle.capnp_canonical.specs.Writes.{filled}

@@ -16,6 +16,7 @@ use Rattle.capnp_copy.specs.declared.init.ListPlace.{ListPlace}
 use Rattle.capnp_footprints.proofs.lemmas.Rows.{after_none}
 use Rattle.capnp_widening.proofs.lemmas.WholeLists.{structs_whole, at_front}
 use Rattle.capnp_copy.proofs.lemmas.Parts.{front_there}
+use Rattle.capnp_units.proofs.lemmas.Sizes.{composite_by_number}
 
 -- what a list that lies whole is, by the number of its size
 abbrev WholeOf : Segments → code.Place → ℕ → ℕ → ℕ → ℕ → ℕ → Type 0
@@ -43,17 +44,7 @@ list_whole s o size n l es en there near =
     let sized = subst (λ (z : ElementSize). WholeOf s o.start (size_number z) o.data_words o.pointers n o.claimed) (sym es) all in
     subst (λ (m : ℕ). WholeOf s o.start (size_number o.size) o.data_words o.pointers m o.claimed) (sym en) sized
 
-of_structs : (z : ElementSize) → size_number z ≡ 7 → z ≡ InlineComposite
-of_structs Void e = absurd (omega (arith, e))
-of_structs Bit e = absurd (omega (arith, e))
-of_structs Byte e = absurd (omega (arith, e))
-of_structs TwoBytes e = absurd (omega (arith, e))
-of_structs FourBytes e = absurd (omega (arith, e))
-of_structs EightBytes e = absurd (omega (arith, e))
-of_structs Pointer e = absurd (omega (arith, e))
-of_structs InlineComposite e = refl
-
 pub struct_list_whole : (s : Segments) (o : ListPlace) (n d k : ℕ) → size_number o.size ≡ 7 → o.claimed ≡ n * (d + k) → o.count ≡ n → o.data_words ≡ d → o.pointers ≡ k → is_some (words_at s (place_view o.start) (1 + o.claimed)) ≡ true → o.start.position + (1 + o.claimed) < 2 ^ 61 → IsWhole s o
 struct_list_whole s o n d k seven ec en ed ek there near =
     let many : o.count * (o.data_words + o.pointers) ≡ o.claimed = ap (λ (m : ℕ). m * (o.data_words + o.pointers)) en ∙ ap (λ (w : ℕ). n * (w + o.pointers)) ed ∙ ap (λ (w : ℕ). n * (d + w)) ek ∙ sym ec in
-    structs_whole s o (of_structs o.size seven) (there, near) (omega (arith, many))
+    structs_whole s o (composite_by_number o.size seven) (there, near) (omega (arith, many))

@@ -1,6 +1,5 @@
 pub mod Actions
 pub mod CallViews
-pub mod Texts
 pub mod Contents
 pub mod Slots
 pub mod Finding

@@ -19,7 +19,7 @@ use Rattle.capnp_units.specs.Errors.{kind_of}
 use Rattle.capnp_units.proofs.lemmas.Spending.{spends_nothing}
 use Rattle.capnp_object.specs.declared.object.Object.{Object}
 use Rattle.capnp_object.specs.Objects.{whole_list, whole}
-use Rattle.capnp_object.specs.Follow.{own_cost, KeepsBudget, is_within}
+use Rattle.capnp_object.specs.Follow.{own_cost, KeepsBudget, levels_suffice}
 use Rattle.capnp_object.specs.Inside.{met_in}
 use Rattle.capnp_object.proofs.lemmas.Linking.{IsPlain, IsSized, visits_whole}
 use Rattle.capnp_object.proofs.lemmas.Walks.{stopped_first}
@@ -123,7 +123,7 @@ stops_at_fault n s p old new r x e a b kept follow is =
 
 -- An object that so many levels suffice for, and that is no capability.
 abbrev IsFollowed : ℕ → Object → Type 0
-IsFollowed n o = (is_within n o ≡ true) × IsData o
+IsFollowed n o = (levels_suffice n o ≡ true) × IsData o
 
 some_level : (n : ℕ) → nat_lt 0 (suc n) ≡ true
 some_level n = grind (arith, nat_tests)
@@ -133,7 +133,7 @@ list_followed p of_bits size c ws n o e = subst (IsFollowed (suc n)) (ok_is _ _ 
 list_followed p of_pointers size c ws n o e = subst (IsFollowed (suc n)) (ok_is _ _ e) (some_level n, tt)
 list_followed p of_structs size c ws n o e = let a = bind_ok (tag_in ws) _ o e in subst (IsFollowed (suc n)) (ok_is _ _ a.2) (some_level n, tt)
 
-pub followed : (s : Segments) (m : model.Object) (n : ℕ) (o : Object) → fault_of n m ≡ None → whole s m ≡ Ok o → (is_within n o ≡ true) × IsData o
+pub followed : (s : Segments) (m : model.Object) (n : ℕ) (o : Object) → fault_of n m ≡ None → whole s m ≡ Ok o → (levels_suffice n o ≡ true) × IsData o
 followed s model.nothing n o h e = subst (IsFollowed n) (ok_is _ _ e) (refl, tt)
 followed s (model.a_capability i) n o h e = absurd cc
 followed s (model.a_struct p d k) zero o h e = absurd cc

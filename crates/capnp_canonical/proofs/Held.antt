@@ -5,7 +5,7 @@ use Rattle.std.specs.List.{slice_get}
 use Rattle.std.specs.Option.{is_some}
 use Rattle.std.specs.Int.{from_le_bytes, w64}
 use Rattle.std.proofs.lemmas.List.{get_or-drop}
-use Rattle.capnp_model.specs.Bytes.{words_in_bytes}
+use Rattle.capnp_model.specs.Bytes.{words_in_bytes, AreBytes}
 use Rattle.capnp_model.specs.Chains.{◌>>=◌}
 use Rattle.capnp_model.specs.Segments.{place, word_at, words_at}
 use Rattle.capnp_model.specs.Spelling.{AreWords}
@@ -13,19 +13,11 @@ use Rattle.capnp_units.specs.Segments.{whole_words, words_in}
 use Rattle.capnp_object.specs.Arenas.{segment_bytes}
 use Rattle.capnp_object.proofs.lemmas.Words.{segment_there, segment_past, none_there}
 use Rattle.capnp_canonical.specs.Standing.{segment_words}
-
-abbrev AreBytes : List ℕ → Type 0
-AreBytes bytes = (i : ℕ) → slice_index bytes i < 256
-
-word_bound : (bytes : List ℕ) → AreBytes bytes → from_le_bytes w64 bytes < 2 ^ 64
-word_bound bytes small = omega (arith, small 0, small 1, small 2, small 3, small 4, small 5, small 6, small 7)
-
-dropped : (n : ℕ) (bytes : List ℕ) → AreBytes bytes → AreBytes (drop n bytes)
-dropped n bytes small i = rw (get_or-drop n bytes i 0) (small (n + i))
+use Rattle.capnp_model.proofs.lemmas.ByteLists.{word_bound, bytes_behind}
 
 words_are : (n : ℕ) (bytes : List ℕ) → AreBytes bytes → AreWords (words_in_bytes n bytes)
 words_are zero bytes small = tt
-words_are (suc n) bytes small = (word_bound bytes small, words_are n (drop 8 bytes) (dropped 8 bytes small))
+words_are (suc n) bytes small = (word_bound bytes small, words_are n (drop 8 bytes) (bytes_behind 8 bytes small))
 
 module _ (segments : List (List ℕ)) (i : ℕ) (bytes : List ℕ) (is : bytes ≡ segment_bytes segments i) where
   segment_is : (o : Option (List ℕ)) → slice_get (words_in segments) i ≡ o → AreWords (unwrap_or o []) → AreWords (segment_words (words_in segments) i)

@@ -11,7 +11,7 @@ use Rattle.capnp_units.specs.Limits.{left_of, followed_of, IsPassed, Spends, Fol
 use Rattle.capnp_units.proofs.lemmas.Spending.{spends_nothing}
 use Rattle.capnp_object.specs.declared.object.Object.{Object}
 use Rattle.capnp_object.specs.Near.{IsNear}
-use Rattle.capnp_object.specs.Follow.{own_cost, KeepsBudget, Pays, suffice_for, is_within, object_within, FollowsWithin}
+use Rattle.capnp_object.specs.Follow.{own_cost, KeepsBudget, Pays, suffice_for, object_within, FollowsWithin, levels_suffice}
 use Rattle.capnp_object.proofs.lemmas.Walks.{stopped_first}
 use Rattle.capnp_object.proofs.lemmas.Walking.{object_found, exact_within}
 use Rattle.capnp_object.proofs.lemmas.Paying.{same_left, spends_later, pays_later}
@@ -31,7 +31,7 @@ suffices n (model.a_capability i) h = refl
 suffices n (model.a_struct p d k) h = some_level n h
 suffices n (model.a_list p size c) h = some_level n h
 
-module _ (n : ℕ) (s : Segments) (p : Place) (o : Object) (some : 0 < n) (within : is_within n o ≡ true) (clean : IsData o) (near : IsNear s p o) where
+module _ (n : ℕ) (s : Segments) (p : Place) (o : Object) (some : 0 < n) (within : levels_suffice n o ≡ true) (clean : IsData o) (near : IsNear s p o) where
   near_within : object_within n s p ≡ Ok (record { pads = 0; object = o })
   near_within =
       let g = object_found s p (record { pads = 0; object = o }) near.0 in

@@ -15,6 +15,7 @@ use Rattle.capnp_model.specs.Trimming.{after_stripping, stripped, trim, trim_eac
 use Rattle.capnp_model.proofs.lemmas.Chaining.{bind_some, bind_ok, bind_found, some_is, ok_is}
 use Rattle.capnp_canonical.specs.Widths.{keeps, kept}
 use Rattle.capnp_canonical.specs.Copies.{copy_visits}
+use Rattle.capnp_model.proofs.lemmas.TrimTwice.{null_trimmed}
 
 -- ---- a word of zeros
 
@@ -171,15 +172,6 @@ pub kept_zeros : (ws : List ℕ) (i : ℕ) → kept ws ≤ i → i < length ws �
 kept_zeros [] i h l = absurd (omega arith)
 kept_zeros (w ∷ ws) zero h l = (kept_null w (kept ws) (omega arith)).0
 kept_zeros (w ∷ ws) (suc i) h l = kept_zeros ws i (kept_before w (kept ws) i h) (omega arith)
-
-null_trimmed : (t : Tree) → is_null (trim t) ≡ is_null t
-unfolding trim
-null_trimmed null = refl
-null_trimmed (capability i) = refl
-null_trimmed (structure w n ts) = refl
-null_trimmed (plain_list z n m) = refl
-null_trimmed (pointer_list ts) = refl
-null_trimmed (struct_list d k es) = refl
 
 count_null : (ts : Trees) (n : ℕ) → tree_count ts ≡ n → tree_count (after_stripping null ts) ≡ keeps 0 n
 count_null none n e = let z : 0 ≡ n = e in ap (keeps 0) z

@@ -14,7 +14,7 @@ use Rattle.capnp_units.specs.declared.limiter.ReadLimiter.{ReadLimiter}
 use Rattle.capnp_object.specs.declared.object.Object.{Object}
 use Rattle.capnp_object.specs.declared.object.Object.TheVariants as object
 use Rattle.capnp_object.specs.Objects.{whole}
-use Rattle.capnp_object.specs.Follow.{own_cost, suffice_for, is_within, Pays}
+use Rattle.capnp_object.specs.Follow.{own_cost, suffice_for, Pays, levels_suffice}
 use Rattle.capnp_object.specs.Inside.{tree_in, met_in}
 use Rattle.capnp_object.proofs.lemmas.Walking.{object_found, link_tree, link_visits, leaf_visited}
 use Rattle.capnp_object.proofs.lemmas.Walks.{walked_none, walked_one}
@@ -45,10 +45,10 @@ no_trees p = None
 abbrev pub no_visits : Place → List Visit
 no_visits p = []
 
-pub leaf_object : (s : Segments) (m : model.Object) (o : Object) → whole s m ≡ Ok o → is_within 0 o ≡ true → (leaf_of m ≡ tree_in s no_trees o) × (suffice_for 0 m ≡ true) × (met_in no_visits o ≡ [])
+pub leaf_object : (s : Segments) (m : model.Object) (o : Object) → whole s m ≡ Ok o → levels_suffice 0 o ≡ true → (leaf_of m ≡ tree_in s no_trees o) × (suffice_for 0 m ≡ true) × (met_in no_visits o ≡ [])
 leaf_object s model.nothing o e h = (ap (tree_in s no_trees) (ok_is _ _ e), refl, sym (ap (met_in no_visits) (ok_is _ _ e)))
 leaf_object s (model.a_capability i) o e h = (ap (tree_in s no_trees) (ok_is _ _ e), refl, sym (ap (met_in no_visits) (ok_is _ _ e)))
-leaf_object s (model.a_struct p d k) o e h = let a = bind_ok (ok_or (words_at s p (d + k)) OutOfBounds) _ o e in absurd (no_levels _ h (ap (is_within 0) (sym (ok_is _ _ a.2))))
+leaf_object s (model.a_struct p d k) o e h = let a = bind_ok (ok_or (words_at s p (d + k)) OutOfBounds) _ o e in absurd (no_levels _ h (ap (levels_suffice 0) (sym (ok_is _ _ a.2))))
 leaf_object s (model.a_list p size c) o e h = let a = bind_ok (ok_or (words_at s p (list_words (list_kind size) size c)) OutOfBounds) _ o e in absurd (no_levels _ h (list_followed p (list_kind size) size c a.0 o a.2))
 
 leaf_read : (s : Segments) (p : Place) (g : model.Found) → model.found_at s p ≡ Ok g → tree_at 0 s p ≡ leaf_of g.object
@@ -56,10 +56,10 @@ unfolding tree_at
 leaf_read s p g e = rw e refl
 
 module _ (n : ℕ) (s : Segments) (p : Place) (head : ℕ) (o : Object) (l k m : ReadLimiter) (r : Result (Option ℕ) Error) (pay : Pays s p l o k) where
-  leaf_tests : n ≡ 0 → is_within n o ≡ true → Tests (tree_in s no_trees o) has_capability (λ t. Stands s p head (trim t)) (IsSmall s p) (met_in no_visits o) k r m → TestsValue n s p head l r m
+  leaf_tests : n ≡ 0 → levels_suffice n o ≡ true → Tests (tree_in s no_trees o) has_capability (λ t. Stands s p head (trim t)) (IsSmall s p) (met_in no_visits o) k r m → TestsValue n s p head l r m
   leaf_tests z within x =
       let found = object_found s p (record { pads = pay.pads; object = o }) pay.is in
-      let leaf = leaf_object s found.0.object o found.2 (subst (λ (j : ℕ). is_within j o ≡ true) z within) in
+      let leaf = leaf_object s found.0.object o found.2 (subst (λ (j : ℕ). levels_suffice j o ≡ true) z within) in
       let cost : ℕ = pay.pads + own_cost o in
       let path : visits 0 s p ≡ Ok cost ∷ met_in no_visits o = leaf_visited s p found.0 found.1 o found.2 leaf.1 ∙ ap (λ (j : ℕ). Ok (j + own_cost o) ∷ []) found.3 ∙ ap (λ (vs : List Visit). Ok cost ∷ vs) (sym leaf.2) in
       let tree : tree_at 0 s p ≡ tree_in s no_trees o = leaf_read s p found.0 found.1 ∙ leaf.0 in
@@ -85,16 +85,16 @@ module _ (n : ℕ) (s : Segments) (p : Place) (head : ℕ) (o : Object) (l k m :
       subst (λ (j : ℕ). TestsValue j s p head l r m) (sym z) two
 
 -- null where no level is left, and a capability
-pub null_leaf : (n : ℕ) (s : Segments) (p : Place) (head : ℕ) (o : Object) (l k : ReadLimiter) → Pays s p l o k → n ≡ 0 → is_within n o ≡ true → o ≡ object.Null → HasHead s p 1 head → TestsValue n s p head l (Ok (Some head)) k
+pub null_leaf : (n : ℕ) (s : Segments) (p : Place) (head : ℕ) (o : Object) (l k : ReadLimiter) → Pays s p l o k → n ≡ 0 → levels_suffice n o ≡ true → o ≡ object.Null → HasHead s p 1 head → TestsValue n s p head l (Ok (Some head)) k
 null_leaf n s p head o l k pay z within is given =
     leaf_tests n s p head o l k k (Ok (Some head)) pay z within
     (subst (λ (x : Object). Tests (tree_in s no_trees x) has_capability (λ t. Stands s p head (trim t)) (IsSmall s p) (met_in no_visits x) k (Ok (Some head)) k) (sym is)
     (null_tests s p head k (subst (LeadsTo s p) is (pay.pads, pay.is)) given))
 
-pub other_leaf : (n : ℕ) (s : Segments) (p : Place) (head : ℕ) (o : Object) (l k : ReadLimiter) → Pays s p l o k → n ≡ 0 → is_within n o ≡ true → (o ≡ object.Null → ⊥) → TestsValue n s p head l (Ok None) k
-other_leaf n s p head o l k pay z within some = leaf_tests n s p head o l k k (Ok None) pay z within (by o (subst (λ (j : ℕ). is_within j o ≡ true) z within) some)
+pub other_leaf : (n : ℕ) (s : Segments) (p : Place) (head : ℕ) (o : Object) (l k : ReadLimiter) → Pays s p l o k → n ≡ 0 → levels_suffice n o ≡ true → (o ≡ object.Null → ⊥) → TestsValue n s p head l (Ok None) k
+other_leaf n s p head o l k pay z within some = leaf_tests n s p head o l k k (Ok None) pay z within (by o (subst (λ (j : ℕ). levels_suffice j o ≡ true) z within) some)
   where
-    by : (x : Object) → is_within 0 x ≡ true → (x ≡ object.Null → ⊥) → Tests (tree_in s no_trees x) has_capability (λ t. Stands s p head (trim t)) (IsSmall s p) (met_in no_visits x) k (Ok None) k
+    by : (x : Object) → levels_suffice 0 x ≡ true → (x ≡ object.Null → ⊥) → Tests (tree_in s no_trees x) has_capability (λ t. Stands s p head (trim t)) (IsSmall s p) (met_in no_visits x) k (Ok None) k
     by object.Null w h = absurd (h refl)
     by (object.Capability i) w h = capability_tests s p head i k
     by (object.Struct q d c) w h = absurd (no_levels _ w refl)

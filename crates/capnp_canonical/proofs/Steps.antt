@@ -20,7 +20,7 @@ use Rattle.capnp_units.specs.declared.limiter.ReadLimiter.{ReadLimiter}
 use Rattle.capnp_object.specs.declared.object.Object.{Object}
 use Rattle.capnp_object.specs.declared.object.Object.TheVariants as object
 use Rattle.capnp_object.specs.Objects.{whole_list, whole}
-use Rattle.capnp_object.specs.Follow.{own_cost, Pays, is_within}
+use Rattle.capnp_object.specs.Follow.{own_cost, Pays, levels_suffice}
 use Rattle.capnp_object.specs.Inside.{tree_in, met_in}
 use Rattle.capnp_object.proofs.lemmas.Walking.{object_found, link_tree}
 use Rattle.capnp_object.proofs.lemmas.Walks.{walked_none, walked_one}
@@ -33,19 +33,19 @@ use Rattle.capnp_canonical.proofs.Objects.{null_written}
 
 -- ---- what was followed
 
-pub list_followed : (p : Place) (kind : ListKind) (size c : ℕ) (ws : List ℕ) (o : Object) → whole_list p kind size c ws ≡ Ok o → is_within 0 o ≡ nat_lt 0 0
-list_followed p of_bits size c ws o e = ap (is_within 0) (sym (ok_is _ _ e))
-list_followed p of_pointers size c ws o e = ap (is_within 0) (sym (ok_is _ _ e))
-list_followed p of_structs size c ws o e = let a = bind_ok (tag_in ws) _ o e in ap (is_within 0) (sym (ok_is _ _ a.2))
+pub list_followed : (p : Place) (kind : ListKind) (size c : ℕ) (ws : List ℕ) (o : Object) → whole_list p kind size c ws ≡ Ok o → levels_suffice 0 o ≡ nat_lt 0 0
+list_followed p of_bits size c ws o e = ap (levels_suffice 0) (sym (ok_is _ _ e))
+list_followed p of_pointers size c ws o e = ap (levels_suffice 0) (sym (ok_is _ _ e))
+list_followed p of_structs size c ws o e = let a = bind_ok (tag_in ws) _ o e in ap (levels_suffice 0) (sym (ok_is _ _ a.2))
 
 pub no_levels : (b : Bool) → b ≡ true → b ≡ nat_lt 0 0 → ⊥
 no_levels b h e = let t : nat_lt 0 0 ≡ true = sym e ∙ h in grind (arith, nat_tests)
 
-pub no_fault : (s : Segments) (m : model.Object) (n : ℕ) (o : Object) → whole s m ≡ Ok o → is_within n o ≡ true → IsData o → fault_of n m ≡ None
+pub no_fault : (s : Segments) (m : model.Object) (n : ℕ) (o : Object) → whole s m ≡ Ok o → levels_suffice n o ≡ true → IsData o → fault_of n m ≡ None
 no_fault s model.nothing n o e h d = refl
 no_fault s (model.a_capability i) n o e h d = absurd (subst IsData (sym (ok_is _ _ e)) d)
 no_fault s (model.a_struct p w k) (suc n) o e h d = refl
-no_fault s (model.a_struct p w k) zero o e h d = let a = bind_ok (ok_or (words_at s p (w + k)) OutOfBounds) _ o e in absurd (no_levels _ h (ap (is_within 0) (sym (ok_is _ _ a.2))))
+no_fault s (model.a_struct p w k) zero o e h d = let a = bind_ok (ok_or (words_at s p (w + k)) OutOfBounds) _ o e in absurd (no_levels _ h (ap (levels_suffice 0) (sym (ok_is _ _ a.2))))
 no_fault s (model.a_list p size c) (suc n) o e h d = refl
 no_fault s (model.a_list p size c) zero o e h d = let a = bind_ok (ok_or (words_at s p (list_words (list_kind size) size c)) OutOfBounds) _ o e in absurd (no_levels _ h (list_followed p (list_kind size) size c a.0 o a.2))
 
@@ -87,7 +87,7 @@ module _ (n : ℕ) (s : Segments) (p : Place) (at used : ℕ) (o : Object) (old 
   one_cost : (c : ℕ) → visits_cost (Ok c ∷ []) ≡ Some c
   one_cost c = let z : c + 0 ≡ c = omega arith in ap Some z
 
-  pub leaf_at : n ≡ 0 → Pays s p l o k → is_within n o ≡ true → IsData o → HasPlace (at + 1) used old → words_view new ≡ set (words_view old) at 0 → Behind (at + 1) old new
+  pub leaf_at : n ≡ 0 → Pays s p l o k → levels_suffice n o ≡ true → IsData o → HasPlace (at + 1) used old → words_view new ≡ set (words_view old) at 0 → Behind (at + 1) old new
       → Writes (tree_at n s p) has_capability (λ t. with_link at (trim t)) (copy_visits n s p) used used old l (Ok used) new k
   leaf_at z pay within is place words behind =
       let found = object_found s p (record { pads = pay.pads; object = o }) pay.is in
@@ -105,7 +105,7 @@ module _ (n : ℕ) (s : Segments) (p : Place) (at used : ℕ) (o : Object) (old 
       subst (λ (vs : List Visit). Writes (tree_at 0 s p) has_capability (λ t. with_link at (trim t)) vs used used old l (Ok used) new k) (sym path) one in
       subst (λ (j : ℕ). Writes (tree_at j s p) has_capability (λ t. with_link at (trim t)) (copy_visits j s p) used used old l (Ok used) new k) (sym z) two
 
-  pub deep_at : (i : ℕ) (r : Result ℕ Error) → n ≡ suc i → Pays s p l o k → is_within n o ≡ true → IsData o → WritesObject s i o at used old k r new m
+  pub deep_at : (i : ℕ) (r : Result ℕ Error) → n ≡ suc i → Pays s p l o k → levels_suffice n o ≡ true → IsData o → WritesObject s i o at used old k r new m
       → Writes (tree_at n s p) has_capability (λ t. with_link at (trim t)) (copy_visits n s p) used used old l r new m
   deep_at i r z pay within is h =
       let found = object_found s p (record { pads = pay.pads; object = o }) pay.is in

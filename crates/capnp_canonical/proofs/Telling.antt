@@ -20,7 +20,7 @@ use Rattle.capnp_units.specs.declared.limiter.ReadLimiter.{ReadLimiter}
 use Rattle.capnp_object.specs.declared.place.Place as wire
 use Rattle.capnp_object.specs.declared.object.Object.{Object}
 use Rattle.capnp_object.specs.Places.{place_view}
-use Rattle.capnp_object.specs.Follow.{own_cost, is_within, Pays}
+use Rattle.capnp_object.specs.Follow.{own_cost, Pays, levels_suffice}
 use Rattle.capnp_object.specs.Inside.{met_in}
 use Rattle.capnp_object.proofs.lemmas.Tags.{words_from, words_are}
 use Rattle.capnp_object.proofs.lemmas.Walking.{object_found, link_visits, leaf_visited}
@@ -57,7 +57,7 @@ none_left true end x y h = h
 none_left false end x y h = (h.0, ap place_view h.1)
 
 -- the first pointer was followed
-pub first_began : (n : ℕ) (s : Segments) (p : Place) (o : Object) (l k : ReadLimiter) → Pays s p l o k → is_within n o ≡ true → Began (visits n s p) l k
+pub first_began : (n : ℕ) (s : Segments) (p : Place) (o : Object) (l k : ReadLimiter) → Pays s p l o k → levels_suffice n o ≡ true → Began (visits n s p) l k
 first_began zero s p o l k pay within =
     let found = object_found s p (record { pads = pay.pads; object = o }) pay.is in
     let leaf = leaf_object s found.0.object o found.2 within in

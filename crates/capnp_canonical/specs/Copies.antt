@@ -10,7 +10,7 @@ use Rattle.capnp_units.specs.declared.limiter.ReadLimiter.{ReadLimiter}
 use Rattle.capnp_units.specs.Limits.{Spends}
 use Rattle.capnp_object.specs.declared.object.Object.{Object as Seen}
 use Rattle.capnp_object.specs.declared.object.Object.TheVariants as seen
-use Rattle.capnp_object.specs.Follow.{Pays, is_within}
+use Rattle.capnp_object.specs.Follow.{Pays, levels_suffice}
 use Rattle.capnp_object.specs.Walks.{Walked, Stopped}
 use Rattle.capnp_canonical.specs.Writes.{filled}
 
@@ -40,7 +40,7 @@ IsData _ = Unit {0}
 
 -- A pointer was followed to an object that so many levels suffice for and that is no capability, and it was paid for; or the walk stops there.
 abbrev pub FollowsData : ℕ → Segments → Place → ReadLimiter → Result Seen Error → ReadLimiter → Type 0
-FollowsData n s p old (Ok o) new = Pays s p old o new × (is_within n o ≡ true) × IsData o
+FollowsData n s p old (Ok o) new = Pays s p old o new × (levels_suffice n o ≡ true) × IsData o
 FollowsData n s p old (Err e) new = Stopped (copy_visits n s p) old e new
 
 -- A near object that is told was followed in this way; where none is told nothing was followed.

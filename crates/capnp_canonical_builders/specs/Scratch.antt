@@ -15,7 +15,7 @@ use Rattle.capnp_wire.specs.Views.{StructView, ListView}
 use Rattle.capnp_copy_from.specs.Copies.{BecomesCopy, StructSource}
 use Rattle.capnp_copy_from.specs.Lists.{listed_tree}
 use Rattle.capnp_copy_from.specs.declared.lists.ListSource.{ListSource}
-use Rattle.capnp_copy_canonical.specs.Canonical.{IsFree}
+use Rattle.capnp_units.specs.Limits.{IsFree}
 use Rattle.capnp_builders.specs.declared.pointer_builder.PointerBuilder.{PointerBuilder}
 use Rattle.capnp_builders.specs.Copied.{Walk, IsSourceOf, IsListOf}
 use Rattle.capnp_canonical_builders.specs.Copied.{CopiesThrough}

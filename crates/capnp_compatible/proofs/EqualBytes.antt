@@ -1,5 +1,5 @@
 -- Texts, data and segments are equal where the canonical words of their values are.
-use Rattle.std.proofs.Common.{◌≡◌, ℕ, ◌+◌, ◌-◌, ◌*◌, ◌/◌, ◌%◌, ◌^◌, ◌<◌, ◌≤◌, Bool, true, false, not, ◌&&◌, Option, Some, None, List, [], ◌∷◌, ◌++◌, length, refl, sym, ◌∙◌, ap, subst, arith}
+use Rattle.std.proofs.Common.{◌≡◌, ℕ, zero, suc, ◌+◌, ◌-◌, ◌*◌, ◌/◌, ◌%◌, ◌^◌, ◌<◌, ◌≤◌, Bool, true, false, not, ◌&&◌, Option, Some, None, List, [], ◌∷◌, ◌++◌, length, refl, sym, ◌∙◌, ap, subst, arith}
 use Rattle.std.specs.Str.{bytes_eq}
 use Rattle.std.specs.Prelude.{cond}
 use Rattle.std.proofs.lemmas.Slice.Eq.{bytes_eq-Decides}
@@ -11,12 +11,11 @@ use Rattle.capnp_model.specs.Trees.{Tree, plain_list, has_capability, depth}
 use Rattle.capnp_model.specs.Trimming.{trim}
 use Rattle.capnp_model.specs.Traversal.{tree_at}
 use Rattle.capnp_model.specs.Encoding.{canonical_words}
-use Rattle.capnp_model.specs.Bytes.{bytes_of_words, words_in_bytes}
+use Rattle.capnp_model.specs.Bytes.{AreBytes, bytes_of_words, words_in_bytes}
 use Rattle.capnp_model.specs.Fits.{Fits}
 use Rattle.capnp_model.specs.Calls.{text_tree, blob_tree}
 use Rattle.capnp_model.specs.Decoding.{decode}
 use Rattle.capnp_model.proofs.lemmas.Tests.{and_right}
-use Rattle.capnp_compatible.specs.Defaults.{AreBytes}
 use Rattle.capnp_model.proofs.lemmas.Numbers.{length-numbers_in}
 use Rattle.capnp_model.proofs.lemmas.FittingValues.{bytes_fit}
 use Rattle.capnp_model.proofs.lemmas.RoundTrip.{enc_means, enc_is}
@@ -35,8 +34,8 @@ same_number [] [] h k l e = refl
 same_number [] (y ∷ ys) h k l e = absurd (omega arith)
 same_number (x ∷ xs) [] h k l e = absurd (omega arith)
 same_number (x ∷ xs) (y ∷ ys) h k l e =
-    let parts = same_front (number_of 8 xs) (number_of 8 ys) x y h.0 k.0 e in
-    let rest : xs ≡ ys = same_number xs ys h.1 k.1 (omega arith) parts.1 in
+    let parts = same_front (number_of 8 xs) (number_of 8 ys) x y (h 0) (k 0) e in
+    let rest : xs ≡ ys = same_number xs ys (λ i. h (suc i)) (λ i. k (suc i)) (omega arith) parts.1 in
     ap (λ z. z ∷ xs) parts.0 ∙ ap (λ zs. y ∷ zs) rest
 
 size_of : Tree → ℕ
@@ -72,8 +71,10 @@ pub data_equal : (xs ys : List ℕ) → AreBytes xs → AreBytes ys → length x
 data_equal xs ys h k a b = same_tests (canonical_words (blob_tree xs)) (canonical_words (blob_tree ys)) xs ys (same_data xs ys h k a b) (ap (λ bs. canonical_words (blob_tree bs)))
 
 with_zero : (bs : List ℕ) → AreBytes bs → AreBytes (bs ++ 0 ∷ [])
-with_zero [] h = (omega arith, tt)
-with_zero (b ∷ bs) h = (h.0, with_zero bs h.1)
+with_zero [] h zero = omega arith
+with_zero [] h (suc i) = omega arith
+with_zero (b ∷ bs) h zero = h zero
+with_zero (b ∷ bs) h (suc i) = with_zero bs (λ j. h (suc j)) i
 
 same_before_zero : (xs ys : List ℕ) → xs ++ 0 ∷ [] ≡ ys ++ 0 ∷ [] → xs ≡ ys
 same_before_zero [] [] e = refl

@@ -1,7 +1,7 @@
 -- What decides whether the defaults of related types are equal.
-use Rattle.std.specs.Prelude.{ℕ, ◌<◌, Bool, true, false, ◌&&◌, ◌==◌, Option, Some, None, List}
-use Rattle.std.specs.List.{AllByRecursion}
+use Rattle.std.specs.Prelude.{ℕ, Bool, true, false, ◌&&◌, ◌==◌, Option, Some, None, List}
 use Rattle.std.specs.Str.{bytes_eq}
+use Rattle.capnp_model.specs.Bytes.{AreBytes}
 use Rattle.capnp_model.specs.Schemas.{Value, text_bytes, blob_bytes, list_segment, struct_segment}
 use Rattle.capnp_model.specs.Accepted.{default_bits}
 
@@ -22,10 +22,6 @@ same_bytes _ _ = false
 -- Equal values of defaults.
 abbrev pub same_value : Option Value → Option Value → Bool
 same_value d e = default_bits d == default_bits e && same_bytes (default_bytes d) (default_bytes e)
-
--- Numbers that bytes hold.
-abbrev pub AreBytes : List ℕ → Type 0
-AreBytes bs = AllByRecursion (λ b. b < 256) bs
 
 -- Numbers that bytes hold, if there are any.
 abbrev pub AllBytes : Option (List ℕ) → Type 0

@@ -3,7 +3,8 @@
 ghost use Rattle.std.specs.Prelude.{◌≡◌, Some, option_map, option_copied};
 ghost use Rattle.capnp_model.specs.Accepted.{default_bits};
 ghost use Rattle.capnp_records.specs.NodeViews.{value_of};
-ghost use Rattle.capnp_compatible.specs.Defaults.{AreBytes, AllBytes, default_bytes, same_bytes, same_value};
+ghost use Rattle.capnp_model.specs.Bytes.{AreBytes};
+ghost use Rattle.capnp_compatible.specs.Defaults.{AllBytes, default_bytes, same_bytes, same_value};
 
 use capnp_records::node::Value;
 

@@ -6,7 +6,7 @@ use Rattle.std.proofs.Math.Pow.{pow_mono}
 use Rattle.std.proofs.lemmas.List.{take_all, take_rest, length-take-le, length-drop, length-replicate, take-replicate, drop-replicate}
 use Rattle.std.proofs.lemmas.Nat.{pow_pos, pow-add, mod-pow-add, shr-shr, div-add-mod'}
 use lib.Pow as pow
-use Rattle.capnp_model.specs.Bytes.{words_in_bytes}
+use Rattle.capnp_model.specs.Bytes.{words_in_bytes, AreBytes}
 use Rattle.capnp_model.specs.Sections.{numbers_in, number_of, section_of, words_for, bits_at, with_bits}
 use Rattle.capnp_model.specs.Segments.{Segments, Place, after, word_at, words_at}
 use Rattle.capnp_model.specs.Pointers.{a_list}
@@ -17,7 +17,7 @@ use Rattle.capnp_object.specs.declared.place.Place as code
 use Rattle.capnp_object.proofs.lemmas.Words.{whole_words-length}
 use Rattle.capnp_wire.specs.Places.{place_view}
 use Rattle.capnp_wire.specs.Views.{section_in, section_at}
-use Rattle.capnp_wire.proofs.lemmas.Bytes.{AreBytes, number_of-take, number_of-drop}
+use Rattle.capnp_wire.proofs.lemmas.Bytes.{number_of-take, number_of-drop}
 use Rattle.capnp_wire.proofs.lemmas.ListLaws.{numbers_low}
 use Rattle.capnp_footprints.specs.Changes.{ReplacesObject}
 use Rattle.capnp_footprints.specs.Footprints.{OwnsObject}

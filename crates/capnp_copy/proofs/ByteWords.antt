@@ -3,7 +3,7 @@ use Rattle.std.proofs.Common.{◌≡◌, ℕ, zero, suc, ◌+◌, ◌*◌, ◌�
 use Rattle.std.specs.Int.{from_le_bytes, w64}
 use Rattle.std.proofs.lemmas.List.{length-take, length-drop, drop-drop, drop-take, take-take, take-append-le}
 use Rattle.capnp_model.specs.Bytes.{words_in_bytes}
-use Rattle.capnp_object.proofs.lemmas.Words.{word_of_eight}
+use Rattle.capnp_model.proofs.lemmas.ByteLists.{word_of_eight}
 use Rattle.capnp_footprints.specs.Writes.{spliced}
 use Rattle.capnp_copy.specs.Memory.{overwritten}
 

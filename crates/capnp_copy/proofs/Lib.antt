@@ -2,6 +2,7 @@ pub mod lemmas
 mod Zeros
 mod ByteWords
 mod HeldWords
+mod Changed
 mod Shifts
 mod ClearedKids
 mod ClearedElements

@@ -12,12 +12,13 @@ use Rattle.capnp_model.proofs.lemmas.Chaining.{bind_some, some_is}
 use Rattle.capnp_units.specs.declared.errors.Error.{Error}
 use Rattle.capnp_units.specs.declared.kinds.ErrorKind.{ErrorKind}
 use Rattle.capnp_units.specs.declared.limiter.ReadLimiter.{ReadLimiter}
-use Rattle.capnp_units.specs.Limits.{less, left_of, granted_of}
+use Rattle.capnp_units.specs.Limits.{less, left_of, granted_of, IsFree}
 use Rattle.capnp_object.specs.Walks.{Walked, Stopped, CannotPass}
 use Rattle.capnp_footprints.proofs.lemmas.Algebra.{changes_nothing}
 use Rattle.capnp_canonical.specs.Copies.{copy_visits, Halted, Written, Filled, room_of}
 use Rattle.capnp_copy_from.specs.Copies.{BecomesCopy, CopiesValue, FollowsFew, Unplaced}
-use Rattle.capnp_copy_canonical.specs.Canonical.{IsRead, IsFree, canonical_message, CopiesCanonical, HasNoRoom}
+use Rattle.capnp_copy_canonical.specs.Canonical.{IsRead, canonical_message, CopiesCanonical, HasNoRoom}
+use Rattle.capnp_object.proofs.lemmas.Walks.{free_left, unstopped}
 
 -- ---- what is written
 
@@ -44,20 +45,6 @@ pub halted : (n : ℕ) (from : Segments) (q : Place) (lent : List (List ℕ)) (s
 halted n from q lent s p old e into new r d is same h =
     subst (λ (y : Result ⊤ Error). CopiesCanonical n from q lent s s p old y new) (sym (is ∙ ap (λ (y : Error). Err y) same)) (record { left = changes_nothing s (λ q. 0); why = inl (refl, h.why) })
 
--- a walk without faults and without a limit isn't stopped
-passes : (before : List Visit) (last : Visit) (behind : List Visit) (cost paid : ℕ) (why : ErrorKind) → visits_cost (before ++ last ∷ behind) ≡ Some cost → CannotPass None paid last why → ⊥
-passes [] (Ok words) behind cost paid why e x = x.1
-passes [] (Err kind) behind cost paid why e x = absurd cc
-passes (Err kind ∷ before) last behind cost paid why e x = absurd cc
-passes (Ok words ∷ before) last behind cost paid why e x =
-    let y = bind_some (visits_cost (before ++ last ∷ behind)) _ cost e in
-    passes before last behind y.0 paid why y.1 x
-
-unstopped : (path : List Visit) (cost : ℕ) (start stop : ReadLimiter) (e : Error) → visits_cost path ≡ Some cost → IsFree start → Stopped path start e stop → ⊥
-unstopped path cost start stop e is free x =
-    let none : left_of start ≡ None = ap (λ (o : Option ℕ). less o (granted_of start)) free.endless in
-    passes x.before x.last x.behind cost x.paid e.kind (ap visits_cost (sym x.path_is) ∙ is) (subst (λ (o : Option ℕ). CannotPass o x.paid x.last e.kind) none x.why)
-
 pub copied : (n : ℕ) (from : Segments) (q : Place) (lent : List (List ℕ)) (s u : Segments) (p : Place) (old new start stop : ReadLimiter) (r : Result ⊤ Error) (t : Tree) (cost : ℕ) → IsRead n from q t old new → tree_at n (canonical_message t) root ≡ Some (trim t) → visits_cost (visits n (canonical_message t) root) ≡ Some cost → IsFree start
     → CopiesValue n (canonical_message t) root s u p start r stop → CopiesCanonical n from q lent s u p old r new
 copied n from q lent s u p old new start stop (Ok x) t cost read means costs free g =
@@ -71,5 +58,5 @@ copied n from q lent s u p old new start stop (Ok x) t cost read means costs fre
 copied n from q lent s u p old new start stop (Err e) t cost read means costs free g = record { left = g.left; why = inr (by g.why) }
   where
     by : Stopped (visits n (canonical_message t) root) start e stop ⊎ Unplaced (canonical_message t) (visits n (canonical_message t) root) u start e stop → HasNoRoom n from q s u old e new
-    by (inl x) = absurd (unstopped (visits n (canonical_message t) root) cost start stop e costs free x)
+    by (inl x) = absurd (unstopped (visits n (canonical_message t) root) cost start stop e costs (free_left start free) x)
     by (inr x) = record { value = t; read = read; start = start; end = stop; free = free; unplaced = x; takes = g.takes }

@@ -9,7 +9,7 @@ use Rattle.capnp_model.specs.Visits.{visits}
 use Rattle.capnp_model.specs.Encoding.{canonical_words}
 use Rattle.capnp_units.specs.declared.errors.Error.{Error}
 use Rattle.capnp_units.specs.declared.limiter.ReadLimiter.{ReadLimiter}
-use Rattle.capnp_units.specs.Limits.{Spends, limit_of, granted_of}
+use Rattle.capnp_units.specs.Limits.{Spends, IsFree}
 use Rattle.capnp_object.specs.Walks.{Walked, Stopped}
 use Rattle.capnp_canonical.specs.Copies.{copy_visits, Behind, Filled, room_of}
 use Rattle.capnp_copy_from.specs.Copies.{BecomesCopy, GrowsByZeros, TakesFew, Unplaced}
@@ -23,11 +23,6 @@ pub record IsRead (n : ℕ) (from : Segments) (q : Place) (t : Tree) (old new : 
 -- The message of a value's canonical words.
 abbrev pub canonical_message : Tree → Segments
 canonical_message t = canonical_words (trim t) ∷ []
-
--- A count of words from none on, under no limit.
-pub record IsFree (start : ReadLimiter) : Type 0 where
-  pub endless : limit_of start ≡ None
-  pub unused : granted_of start ≡ 0
 
 -- No more words were allocated than twice those that a walk over the canonical message costs.
 pub record TakesCopy (n : ℕ) (t : Tree) (s u : Segments) : Type 0 where

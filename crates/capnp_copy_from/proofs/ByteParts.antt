@@ -7,7 +7,8 @@ use Rattle.capnp_model.specs.Bytes.{words_in_bytes}
 use Rattle.capnp_model.specs.Segments.{place, words_at}
 use Rattle.capnp_units.specs.Segments.{whole_words, words_in}
 use Rattle.capnp_object.proofs.lemmas.Tags.{words_are}
-use Rattle.capnp_object.proofs.lemmas.Words.{word_of_eight, word_of_front, whole_words-length, segment_there}
+use Rattle.capnp_model.proofs.lemmas.ByteLists.{word_of_eight}
+use Rattle.capnp_object.proofs.lemmas.Words.{word_of_front, whole_words-length, segment_there}
 use Rattle.capnp_model.proofs.lemmas.WordsInBytes.{words_in_bytes-drop, words_in_bytes-take}
 
 front_word : (n : ℕ) (bytes : List ℕ) → 8 ≤ n → from_le_bytes w64 (take n bytes) ≡ from_le_bytes w64 bytes

@@ -16,7 +16,7 @@ use Rattle.capnp_units.specs.declared.limiter.ReadLimiter.{ReadLimiter}
 use Rattle.capnp_object.specs.declared.object.Object.{Object}
 use Rattle.capnp_object.specs.declared.object.Object.TheVariants as object
 use Rattle.capnp_object.specs.Objects.{whole_list, whole}
-use Rattle.capnp_object.specs.Follow.{own_cost, suffice_for, is_within, Pays, FollowsWithin}
+use Rattle.capnp_object.specs.Follow.{own_cost, suffice_for, Pays, FollowsWithin, levels_suffice}
 use Rattle.capnp_object.specs.Inside.{tree_in, met_in}
 use Rattle.capnp_object.specs.Walks.{Walked, Stopped}
 use Rattle.capnp_object.proofs.lemmas.LevelLaws.{trees, visited}
@@ -37,7 +37,7 @@ paid_walk s p old new o x = walked_one (x.pads + own_cost o) old new x.spends x.
 
 -- ---- where no level is left
 
-leaf_read : (s : Segments) (p : Place) (g : model.Found) (m : model.Object) (o : Object) → model.found_at s p ≡ Ok g → g.object ≡ m → whole s m ≡ Ok o → is_within 0 o ≡ true → (tree_at 0 s p ≡ Some (leaf_value o)) × (suffice_for 0 m ≡ true) × (is_leaf o ≡ true)
+leaf_read : (s : Segments) (p : Place) (g : model.Found) (m : model.Object) (o : Object) → model.found_at s p ≡ Ok g → g.object ≡ m → whole s m ≡ Ok o → levels_suffice 0 o ≡ true → (tree_at 0 s p ≡ Some (leaf_value o)) × (suffice_for 0 m ≡ true) × (is_leaf o ≡ true)
 unfolding tree_at
 leaf_read s p g model.nothing o e f w h = let is = ok_is _ _ w in (rw (e, f) (ap (λ (x : Object). Some (leaf_value x)) is), refl, ap is_leaf (sym is))
 leaf_read s p g (model.a_capability i) o e f w h = let is = ok_is _ _ w in (rw (e, f) (ap (λ (x : Object). Some (leaf_value x)) is), refl, ap is_leaf (sym is))
@@ -45,26 +45,26 @@ leaf_read s p g (model.a_struct q d k) o e f w h =
     let a = bind_ok (ok_or (words_at s q (d + k)) OutOfBounds) _ o w in
     absurd (no_leaf (object.Struct (record { segment = q.segment; position = q.position }) d k) o (ok_is _ _ a.2) h refl)
   where
-    no_leaf : (x y : Object) → x ≡ y → is_within 0 y ≡ true → is_within 0 x ≡ nat_lt 0 0 → ⊥
-    no_leaf x y i j l = let t : nat_lt 0 0 ≡ true = sym l ∙ ap (is_within 0) i ∙ j in grind (arith, nat_tests)
+    no_leaf : (x y : Object) → x ≡ y → levels_suffice 0 y ≡ true → levels_suffice 0 x ≡ nat_lt 0 0 → ⊥
+    no_leaf x y i j l = let t : nat_lt 0 0 ≡ true = sym l ∙ ap (levels_suffice 0) i ∙ j in grind (arith, nat_tests)
 leaf_read s p g (model.a_list q size n) o e f w h =
     let a = bind_ok (ok_or (words_at s q (list_words (list_kind size) size n)) OutOfBounds) _ o w in
     absurd (by (list_kind size) a.0 a.2)
   where
-    no_leaf : (x : Object) → x ≡ o → is_within 0 x ≡ nat_lt 0 0 → ⊥
-    no_leaf x i l = let t : nat_lt 0 0 ≡ true = sym l ∙ ap (is_within 0) i ∙ h in grind (arith, nat_tests)
+    no_leaf : (x : Object) → x ≡ o → levels_suffice 0 x ≡ nat_lt 0 0 → ⊥
+    no_leaf x i l = let t : nat_lt 0 0 ≡ true = sym l ∙ ap (levels_suffice 0) i ∙ h in grind (arith, nat_tests)
 
     by : (kind : ListKind) (ws : List ℕ) → whole_list q kind size n ws ≡ Ok o → ⊥
     by of_bits ws e = no_leaf _ (ok_is _ _ e) refl
     by of_pointers ws e = no_leaf _ (ok_is _ _ e) refl
     by of_structs ws e = let b = bind_ok (tag_in ws) _ o e in no_leaf _ (ok_is _ _ b.2) refl
 
-pub leaf_there : (n : ℕ) (s : Segments) (p : Place) (o : Object) (old new : ReadLimiter) → n ≡ 0 → Pays s p old o new → is_within n o ≡ true → is_leaf o ≡ true
+pub leaf_there : (n : ℕ) (s : Segments) (p : Place) (o : Object) (old new : ReadLimiter) → n ≡ 0 → Pays s p old o new → levels_suffice n o ≡ true → is_leaf o ≡ true
 leaf_there n s p o old new z x h =
     let g = object_found s p (record { pads = x.pads; object = o }) x.is in
-    (leaf_read s p g.0 g.0.object o g.1 refl g.2 (subst (λ (m : ℕ). is_within m o ≡ true) z h)).2
+    (leaf_read s p g.0 g.0.object o g.1 refl g.2 (subst (λ (m : ℕ). levels_suffice m o ≡ true) z h)).2
 
-pub leaf_copied : (n : ℕ) (from : Segments) (p : Place) (o : Object) (old new : ReadLimiter) (s u : Segments) (r : Place) → n ≡ 0 → Pays from p old o new → is_within n o ≡ true → BecomesCopy 0 s u r (leaf_value o) → Grows s u → total_words u ≡ total_words s
+pub leaf_copied : (n : ℕ) (from : Segments) (p : Place) (o : Object) (old new : ReadLimiter) (s u : Segments) (r : Place) → n ≡ 0 → Pays from p old o new → levels_suffice n o ≡ true → BecomesCopy 0 s u r (leaf_value o) → Grows s u → total_words u ≡ total_words s
     → Copied (tree_at n from p) (visits n from p) (BecomesCopy n s u r) s u old new
 leaf_copied n from p o old new s u r z x h b grows same =
     subst (λ (m : ℕ). Copied (tree_at m from p) (visits m from p) (BecomesCopy m s u r) s u old new) (sym z) at_zero
@@ -72,7 +72,7 @@ leaf_copied n from p o old new s u r z x h b grows same =
     at_zero : Copied (tree_at 0 from p) (visits 0 from p) (BecomesCopy 0 s u r) s u old new
     at_zero =
         let g = object_found from p (record { pads = x.pads; object = o }) x.is in
-        let l = leaf_read from p g.0 g.0.object o g.1 refl g.2 (subst (λ (m : ℕ). is_within m o ≡ true) z h) in
+        let l = leaf_read from p g.0 g.0.object o g.1 refl g.2 (subst (λ (m : ℕ). levels_suffice m o ≡ true) z h) in
         let one : visits 0 from p ≡ Ok (x.pads + own_cost o) ∷ [] = leaf_visited from p g.0 g.1 o g.2 l.1 ∙ ap (λ (k : ℕ). Ok (k + own_cost o) ∷ []) g.3 in
         record {
           value = leaf_value o;

@@ -3,7 +3,7 @@ use Rattle.std.proofs.Common.{◌≡◌, ℕ, zero, suc, ◌+◌, ◌-◌, ◌*�
 use Rattle.std.specs.Int.{from_le_bytes, w64}
 use Rattle.std.proofs.lemmas.Bool.{ltb-true, ltb-false}
 use Rattle.std.proofs.lemmas.List.{length-append, length-drop, get_or-drop}
-use Rattle.capnp_model.specs.Bytes.{words_in_bytes}
+use Rattle.capnp_model.specs.Bytes.{words_in_bytes, AreBytes}
 use Rattle.capnp_model.specs.Sections.{number_of, section_of, words_for, words_of}
 use Rattle.capnp_model.specs.Segments.{Segments, Place, after, words_at}
 use Rattle.capnp_model.specs.Pointers.{a_list}
@@ -20,7 +20,7 @@ use Rattle.capnp_copy.proofs.lemmas.RoomLaws.{sizes_grow}
 use Rattle.capnp_copy_from.proofs.Taking.{total_alike, takes_none}
 use Rattle.capnp_copy_from.proofs.Made.{words_fill}
 use Rattle.capnp_footprints.specs.Writes.{spliced, spliced_in, with_words}
-use Rattle.capnp_wire.proofs.lemmas.Bytes.{AreBytes, word_is, number_of-drop, number_of-take}
+use Rattle.capnp_wire.proofs.lemmas.Bytes.{word_is, number_of-drop, number_of-take}
 use Rattle.std.proofs.Math.Pow.{mod-mod-pow}
 use Rattle.capnp_units.proofs.lemmas.FirstBytes.{first_eight}
 use Rattle.capnp_units.specs.Segments.{whole_words}

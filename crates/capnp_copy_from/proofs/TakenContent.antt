@@ -3,7 +3,7 @@ use Rattle.std.proofs.Common.{◌≡◌, ℕ, zero, suc, ◌+◌, ◌*◌, ◌%�
 use Rattle.std.specs.Option.{is_some}
 use Rattle.std.proofs.lemmas.Bool.{ltb-true, ltb-false}
 use Rattle.std.proofs.lemmas.List.{length-append, length-replicate}
-use Rattle.capnp_model.specs.Bytes.{words_in_bytes}
+use Rattle.capnp_model.specs.Bytes.{words_in_bytes, AreBytes}
 use Rattle.capnp_model.specs.Sections.{number_of, section_of, words_for}
 use Rattle.capnp_model.specs.Segments.{Segments, Place, after, words_at}
 use Rattle.capnp_model.specs.Pointers.{a_struct}
@@ -15,7 +15,7 @@ use Rattle.capnp_model.proofs.lemmas.SectionElements.{section_of-zeros}
 use Rattle.capnp_units.specs.declared.errors.Error.{Error}
 use Rattle.capnp_units.specs.declared.limiter.ReadLimiter.{ReadLimiter}
 use Rattle.capnp_wire.specs.Places.{place_view}
-use Rattle.capnp_wire.proofs.lemmas.Bytes.{AreBytes, number_of-take}
+use Rattle.capnp_wire.proofs.lemmas.Bytes.{number_of-take}
 use Rattle.capnp_footprints.specs.Children.{with_first}
 use Rattle.capnp_footprints.specs.Footprints.{OwnsObject, object_footprint}
 use Rattle.capnp_footprints.specs.Changes.{Replaces, ReplacesObject}

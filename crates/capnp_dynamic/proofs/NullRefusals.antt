@@ -35,19 +35,9 @@ use Rattle.capnp_dynamic.specs.GroupRefusals.{type_tested, CopyRefused, CopyUnpl
 use Rattle.capnp_dynamic.specs.GroupSets.{PutsValue}
 use Rattle.capnp_dynamic.proofs.lemmas.GroupFields.{body_is}
 use Rattle.capnp_dynamic.proofs.EmptyValues.{made_puts, list_stands}
+use Rattle.capnp_object.proofs.lemmas.Walks.{unstopped}
 
 -- ---- copies of values that can be read
-
-passes : (before : List Visit) (last : Visit) (behind : List Visit) (cost paid : ℕ) (why : ErrorKind) → visits_cost (before ++ last ∷ behind) ≡ Some cost → CannotPass None paid last why → ⊥
-passes [] (Ok words) behind cost paid why e x = x.1
-passes [] (Err kind) behind cost paid why e x = absurd cc
-passes (Err kind ∷ before) last behind cost paid why e x = absurd cc
-passes (Ok words ∷ before) last behind cost paid why e x =
-    let y = bind_some (visits_cost (before ++ last ∷ behind)) _ cost e in
-    passes before last behind y.0 paid why y.1 x
-
-unstopped : (path : List Visit) (cost : ℕ) (old new : ReadLimiter) (e : Error) → visits_cost path ≡ Some cost → left_of old ≡ None → Stopped path old e new → ⊥
-unstopped path cost old new e is none x = passes x.before x.last x.behind cost x.paid e.kind (ap visits_cost (sym x.path_is) ∙ is) (subst (λ (o : Option ℕ). CannotPass o x.paid x.last e.kind) none x.why)
 
 -- the copy of a value that can be read is refused for want of room alone
 copy_unplaced : (ws : List (List ℕ)) (t : Tree) (cost : ℕ) (u : Segments) (e : Error) → tree_at 64 (default_segments ws) root ≡ Some t → visits_cost (visits 64 (default_segments ws) root) ≡ Some cost → CopyRefused 64 (default_segments ws) root u e → CopyUnplaced u t e

@@ -33,6 +33,7 @@ use Rattle.capnp_builders.specs.Gets.{list_named}
 use Rattle.capnp_dynamic_lists.specs.Lists.{IsListOf}
 use Rattle.capnp_model.proofs.lemmas.PointerWords.{list_kind_small}
 use Rattle.capnp_edits.specs.Elements.{IsListFound}
+use Rattle.capnp_copy.proofs.lemmas.Making.{null_found}
 
 -- what the place of a list tells
 record Told (s : Segments) (o : ListPlace) : Type 0 where
@@ -128,9 +129,6 @@ told s slot expected o e leads =
     by_size s slot expected o x.0.object o.size refl is_whole x.2
 
 -- ---- null has no element
-
-null_found : (s : Segments) (p : Place) → word_at s p ≡ Some 0 → LeadsTo s p nothing
-null_found s p e = (0, rw e refl)
 
 null_count : (s : Segments) (slot : code.Place) (expected : ElementSize) (o : ListPlace) (f : Found) → object_at s (place_view slot) ≡ Ok f → list_in slot expected f.object ≡ Ok o → LeadsTo s (place_view slot) nothing → o.count ≡ 0
 null_count s slot expected o f there e leads =

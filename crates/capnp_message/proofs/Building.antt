@@ -16,7 +16,7 @@ use Rattle.capnp_model.specs.Trees.{Tree}
 use Rattle.capnp_units.specs.declared.errors.Error.{Error}
 use Rattle.capnp_units.specs.declared.kinds.ErrorKind.TheVariants.{SizeOverflow}
 use Rattle.capnp_units.specs.declared.limiter.ReadLimiter.{ReadLimiter}
-use Rattle.capnp_object.proofs.lemmas.Words.{word_of_eight}
+use Rattle.capnp_model.proofs.lemmas.ByteLists.{word_of_eight}
 use Rattle.capnp_canonical.specs.Writes.{words_view}
 use Rattle.capnp_footprints.specs.Writes.{spliced, with_words, with_zeros, segment_end}
 use Rattle.capnp_footprints.proofs.lemmas.Splices.{spliced_whole}
@@ -28,13 +28,14 @@ use Rattle.capnp_model.specs.Trimming.{trim}
 use Rattle.capnp_model.specs.Visits.{Visit, visits, visits_cost}
 use Rattle.capnp_model.proofs.lemmas.Chaining.{bind_some, some_is}
 use Rattle.capnp_units.specs.declared.kinds.ErrorKind.{ErrorKind}
-use Rattle.capnp_units.specs.Limits.{less, left_of, granted_of}
+use Rattle.capnp_units.specs.Limits.{less, left_of, granted_of, IsFree}
 use Rattle.capnp_object.specs.Walks.{CannotPass, Stopped}
 use Rattle.capnp_copy_from.specs.Copies.{BecomesCopy, CopiesValue, Unplaced}
 use Rattle.capnp_copy_from.proofs.lemmas.Filling.{value_stands}
-use Rattle.capnp_message.specs.Canonical.{GivesCanonical, IsFree, HasNoRoot, CopiesWords, ReplacesRoot, IsReplaced, HasNoRoom, SetsCanonical}
+use Rattle.capnp_message.specs.Canonical.{GivesCanonical, HasNoRoot, CopiesWords, ReplacesRoot, IsReplaced, HasNoRoom, SetsCanonical}
 use Rattle.capnp_units.specs.Segments.{words_in}
 use Rattle.capnp_message.specs.Built.{rooted, used_words}
+use Rattle.capnp_object.proofs.lemmas.Walks.{free_left, unstopped}
 
 pub on_ok : {X Y : Type 0} (r : Result X Y) {P Q : Type 0} → OnOk r P → (P → Q) → OnOk r Q
 on_ok (Ok x) p f = f p
@@ -124,20 +125,6 @@ set_first o limit s (first ∷ rest) u old new v ws r none g is done refused kin
 
 -- ---- words that are copied
 
--- a walk without faults and without a limit isn't stopped
-passes : (before : List Visit) (last : Visit) (behind : List Visit) (cost paid : ℕ) (why : ErrorKind) → visits_cost (before ++ last ∷ behind) ≡ Some cost → CannotPass None paid last why → ⊥
-passes [] (Ok words) behind cost paid why e x = x.1
-passes [] (Err kind) behind cost paid why e x = absurd cc
-passes (Err kind ∷ before) last behind cost paid why e x = absurd cc
-passes (Ok words ∷ before) last behind cost paid why e x =
-    let y = bind_some (visits_cost (before ++ last ∷ behind)) _ cost e in
-    passes before last behind y.0 paid why y.1 x
-
-unstopped : (path : List Visit) (cost : ℕ) (start stop : ReadLimiter) (e : Error) → visits_cost path ≡ Some cost → IsFree start → Stopped path start e stop → ⊥
-unstopped path cost start stop e is free x =
-    let none : left_of start ≡ None = ap (λ (o : Option ℕ). less o (granted_of start)) free.0 in
-    passes x.before x.last x.behind cost x.paid e.kind (ap visits_cost (sym x.path_is) ∙ is) (subst (λ (o : Option ℕ). CannotPass o x.paid x.last e.kind) none x.why)
-
 -- what is made of words that mean a value
 made : (n : ℕ) (words : List ℕ) (t u : Segments) (x : ⊤) (v : Tree) → tree_at n (words ∷ []) root ≡ Some v → CopiesWords n words t u (Ok x) → IsReplaced n v words t u
 made n words t u x v read c =
@@ -157,7 +144,7 @@ full : (n : ℕ) (words : List ℕ) (t u : Segments) (e : Error) → (cost : ℕ
 full n words t u e costs c = by c.copies.why
   where
     by : Stopped (visits n (words ∷ []) root) c.start e c.end ⊎ Unplaced (words ∷ []) (visits n (words ∷ []) root) u c.start e c.end → HasNoRoom n words t u e
-    by (inl x) = absurd (unstopped (visits n (words ∷ []) root) costs.0 c.start c.end e costs.1 c.free x)
+    by (inl x) = absurd (unstopped (visits n (words ∷ []) root) costs.0 c.start c.end e costs.1 (free_left c.start c.free) x)
     by (inr x) = record {
       start = c.start;
       end = c.end;

@@ -12,7 +12,6 @@ use Rattle.capnp_model.specs.Visits.{Visit, visits, visits_cost}
 use Rattle.capnp_units.specs.declared.errors.Error.{Error}
 use Rattle.capnp_units.specs.declared.kinds.ErrorKind.TheVariants.{NestingLimitExceeded, OutOfBounds, OutOfMemory, BufferNotLargeEnough, SizeOverflow}
 use Rattle.capnp_units.specs.declared.limiter.ReadLimiter.{ReadLimiter}
-use Rattle.capnp_units.specs.Limits.{limit_of, granted_of}
 use Rattle.capnp_object.specs.Walks.{Walked, Stopped}
 use Rattle.capnp_canonical.specs.Checks.{TellsMessage}
 use Rattle.capnp_canonical.specs.Copies.{copy_visits}
@@ -20,6 +19,7 @@ use Rattle.capnp_canonical.specs.Writes.{words_view}
 use Rattle.capnp_footprints.specs.Footprints.{Owns}
 use Rattle.capnp_footprints.specs.Changes.{Replaces}
 use Rattle.capnp_copy_from.specs.Copies.{BecomesCopy, CopiesValue, GrowsByZeros, TakesFew, Unplaced}
+use Rattle.capnp_units.specs.Limits.{IsFree}
 
 -- Nothing has levels, so that every value is refused, at no cost.
 abbrev pub IsWithoutLevels : {X : Type 0} → ReadLimiter → Result X Error → ReadLimiter → Type 0
@@ -68,10 +68,6 @@ abbrev pub GivesCanonical : Option ℕ → Option ℕ → Segments → ReadLimit
 GivesCanonical None limit s old result new = IsWithoutLevels old result new
 GivesCanonical (Some n) limit s old (Ok words) new = Canonicalized n s old (words_view words.items) new
 GivesCanonical (Some n) limit s old (Err e) new = Stopped (copy_visits n s root) old e new ⊎ IsTooLong (copy_visits n s root) (most_cost limit) old e new ⊎ IsWithoutMemory old e new
-
--- A count of words from none on, under no limit.
-abbrev pub IsFree : ReadLimiter → Type 0
-IsFree start = (limit_of start ≡ None) × (granted_of start ≡ 0)
 
 -- There is no word for the root pointer, and nothing was allocated.
 abbrev pub HasNoRoot : Segments → Segments → Error → Type 0

@@ -48,5 +48,6 @@ pub mod EveryPath
 pub mod ActiveMembers
 pub mod Size
 pub mod WordsInBytes
+pub mod ByteLists
 pub mod Lists
 pub mod Counts

@@ -27,6 +27,10 @@ joined sep [] = []
 joined sep (x ∷ []) = x
 joined sep (x ∷ y ∷ ys) = x ++ sep ++ joined sep (y ∷ ys)
 
+-- What stands between the quotes of a text past ASCII, as replies and printed values have it: its ASCII characters as in any text, the others as they are.
+abbrev pub as_it_is : List ℕ → List ℕ
+as_it_is bs = flat_map escaped bs
+
 -- A text; `quoted` is what stands between the quotes of one past ASCII, which is left open.
 abbrev pub text_text : (List ℕ → List ℕ) → List ℕ → List ℕ
 text_text quoted bs =

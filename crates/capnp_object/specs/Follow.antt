@@ -57,10 +57,10 @@ suffice_for n (model.a_capability i) = true
 suffice_for n _ = nat_lt 0 n
 
 -- The same of an object whose words are there.
-abbrev pub is_within : ℕ → Object → Bool
-is_within n object.Null = true
-is_within n (object.Capability i) = true
-is_within n _ = nat_lt 0 n
+abbrev pub levels_suffice : ℕ → Object → Bool
+levels_suffice n object.Null = true
+levels_suffice n (object.Capability i) = true
+levels_suffice n _ = nat_lt 0 n
 
 -- What the pointer at a place names where so many levels are left, else the kind of its fault; the levels are asked before the object's words.
 unfoldable pub object_within : ℕ → Segments → Place → Result Found Kind
@@ -68,5 +68,5 @@ object_within n s p = model.found_at s p and_then λ f. guard (suffice_for n f.o
 
 -- A pointer was followed to an object that so many levels suffice for, and it was paid for; or it is refused by the kind of the one fault there, or just where its own cost passes what is left.
 abbrev pub FollowsWithin : ℕ → Segments → Place → ReadLimiter → Result Object Error → ReadLimiter → Type 0
-FollowsWithin n s p old (Ok o) new = Pays s p old o new × (is_within n o ≡ true)
+FollowsWithin n s p old (Ok o) new = Pays s p old o new × (levels_suffice n o ≡ true)
 FollowsWithin n s p old (Err e) new = KeepsBudget old new × Follows old new 1 × IsRefused (object_within n s p) old e

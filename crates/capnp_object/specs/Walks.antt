@@ -36,7 +36,7 @@ pub record Stopped (path : List Visit) (old : ReadLimiter) (e : Error) (new : Re
   pub why : CannotPass (left_of old) paid last e.kind
 
 -- Words and capabilities are counted; each count stops at the greatest number of its type.
-pub record Counts (words capabilities : ℕ) (size : MessageSize) : Type 0 where
+pub record SizeCounts (words capabilities : ℕ) (size : MessageSize) : Type 0 where
   pub words_is : size.word_count ≡ min words (2 ^ 64 - 1)
   pub capabilities_is : size.cap_count ≡ min capabilities (2 ^ 32 - 1)
 
@@ -47,5 +47,5 @@ leaf_capabilities _ = 0
 
 -- The size of something that is read, if it can be: its words and capabilities are counted, and the visits on the way were made, or as far as they could be.
 abbrev pub SizeGives : {X : Type 0} → (X → ℕ) → (X → ℕ) → Option X → List Visit → ReadLimiter → Result MessageSize Error → ReadLimiter → Type 0
-SizeGives {X = X} words capabilities there path old (Ok size) new = (x : X) × (there ≡ Some x) × Counts (words x) (capabilities x) size × Walked path old new
+SizeGives {X = X} words capabilities there path old (Ok size) new = (x : X) × (there ≡ Some x) × SizeCounts (words x) (capabilities x) size × Walked path old new
 SizeGives words capabilities there path old (Err e) new = Stopped path old e new

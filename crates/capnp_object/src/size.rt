@@ -11,7 +11,7 @@ ghost use Rattle.capnp_object.specs.Places.{place_view};
 ghost use Rattle.capnp_object.specs.Objects.{IsInside};
 ghost use Rattle.capnp_object.specs.Follow.{FollowsWithin};
 ghost use Rattle.capnp_object.specs.Inside.{tree_in, met_in};
-ghost use Rattle.capnp_object.specs.Walks.{leaf_capabilities, Counts, SizeGives};
+ghost use Rattle.capnp_object.specs.Walks.{leaf_capabilities, SizeGives, SizeCounts};
 
 use crate::arena::ReaderArena;
 use crate::follow::follow_within;
@@ -35,7 +35,7 @@ const CAPABILITY: MessageSize = MessageSize {
 
 /// A size with more words.
 pub fn with_words(size: MessageSize, words: u64) -> MessageSize
-    ensures { (w c : ℕ) → Counts w c size → Counts (w + words) c result }
+    ensures { (w c : ℕ) → SizeCounts w c size → SizeCounts (w + words) c result }
 {
     MessageSize {
         word_count: size.word_count.saturating_add(words),
@@ -45,7 +45,7 @@ pub fn with_words(size: MessageSize, words: u64) -> MessageSize
 
 /// Two sizes together.
 fn plus(a: MessageSize, b: MessageSize) -> MessageSize
-    ensures { (w c v e : ℕ) → Counts w c a → Counts v e b → Counts (w + v) (c + e) result }
+    ensures { (w c v e : ℕ) → SizeCounts w c a → SizeCounts v e b → SizeCounts (w + v) (c + e) result }
 {
     MessageSize {
         word_count: a.word_count.saturating_add(b.word_count),
@@ -55,7 +55,7 @@ fn plus(a: MessageSize, b: MessageSize) -> MessageSize
 
 /// The size of what takes no level: null, or a capability.
 fn size_of_leaf(object: Object) -> MessageSize
-    ensures { Counts 0 (leaf_capabilities object) result }
+    ensures { SizeCounts 0 (leaf_capabilities object) result }
 {
     match object {
         Object::Capability { .. } => CAPABILITY,

@@ -5,9 +5,9 @@ use Rattle.std.proofs.lemmas.Bool.{cond_both}
 use Rattle.std.proofs.lemmas.List.{take_more}
 use Rattle.std.proofs.lemmas.Nat.{le_bytes_8, pow_pos}
 use mir.Val.{bool_byte}
-use Rattle.capnp_model.specs.Bytes.{words_in_bytes}
+use Rattle.capnp_model.specs.Bytes.{words_in_bytes, AreBytes}
 use Rattle.capnp_model.specs.Packing.{byte_tag, nonzero, zero_bytes, run_of}
-use Rattle.capnp_stream.specs.Segments.{AreBytes, whole_words}
+use Rattle.capnp_stream.specs.Segments.{whole_words}
 use Rattle.capnp_stream.proofs.lemmas.WordLemmas.{whole_words-step}
 
 -- ---- the bytes of a word

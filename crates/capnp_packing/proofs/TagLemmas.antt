@@ -10,7 +10,7 @@ use Rattle.std.specs.Int.{w8, w64, from_le_bytes, to_le_bytes}
 use Rattle.std.specs.Simd.Lanes.{mask_l, top, zip2}
 use Rattle.std.proofs.lemmas.Simd.{bitmask_splat}
 use Rattle.std.proofs.lemmas.List.{length-map, map-append}
-use Rattle.capnp_stream.specs.Segments.{AreBytes}
+use Rattle.capnp_model.specs.Bytes.{AreBytes}
 use Rattle.capnp_packing.proofs.RunLemmas.{bytes-again}
 use Rattle.capnp_model.specs.Kinds.{Kind}
 use Rattle.std.proofs.lemmas.List.{get_or_past}

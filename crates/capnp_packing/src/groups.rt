@@ -1,7 +1,8 @@
 //! The runs behind written groups.
 ghost use Rattle.std.specs.Prelude.{◌≡◌, ◌*◌, ◌≤◌, length};
 ghost use Rattle.capnp_model.specs.Packing.{is_zero, is_dense, run_of, longest_run};
-ghost use Rattle.capnp_stream.specs.Segments.{AreBytes, whole_words};
+ghost use Rattle.capnp_model.specs.Bytes.{AreBytes};
+ghost use Rattle.capnp_stream.specs.Segments.{whole_words};
 ghost use Rattle.capnp_packing.specs.Runs.{run_view, run_words};
 
 use crate::runs::Run;

@@ -3,7 +3,7 @@ use Rattle.std.proofs.Common.{◌≡◌, ℕ, Option, Some, None, List, [], ◌�
 use Rattle.std.specs.Prelude.{IfOk, IfSome}
 use Rattle.capnp_model.specs.Schemas.{Node}
 use Rattle.capnp_model.specs.Accepted.{schema_of}
-use Rattle.capnp_model.specs.Printing.{fields_in}
+use Rattle.capnp_model.specs.Printing.{fields_in, as_it_is}
 use Rattle.capnp_model.specs.Calls.{Step, name, Verb, set_to, CallValue, Call}
 use Rattle.capnp_model.specs.Steps.{target}
 use Rattle.capnp_queries.specs.Fields.{Entry, field_at}
@@ -11,7 +11,6 @@ use Rattle.capnp_queries.specs.Structs.{nodes_around, schema_around, fields_of_s
 use Rattle.capnp_queries.specs.Handles.{entry_of}
 use Rattle.capnp_queries.specs.declared.structs.StructSchema.{StructSchema}
 use Rattle.capnp_queries.specs.declared.fields.Field.{Field}
-use Rattle.capnp_calls.specs.Texts.{as_it_is}
 use Rattle.capnp_edits.proofs.lemmas.Outcomes.{found_at}
 use Rattle.capnp_splice.specs.declared.splice.Hop.{Hop}
 use Rattle.capnp_splice.specs.declared.splice.Put.{Put}

@@ -13,7 +13,7 @@ use Rattle.capnp_queries.specs.Structs.{schema_around, shape_of_struct, fields_o
 use Rattle.capnp_queries.specs.Handles.{entry_of}
 use Rattle.capnp_queries.specs.declared.structs.StructSchema.{StructSchema}
 use Rattle.capnp_queries.specs.declared.fields.Field.{Field}
-use Rattle.capnp_calls.specs.Texts.{as_it_is}
+use Rattle.capnp_model.specs.Printing.{as_it_is}
 use Rattle.capnp_edits.proofs.lemmas.Outcomes.{found_at}
 use Rattle.capnp_plain.specs.PlainSets.{IsPlain, ArePlain}
 use Rattle.capnp_splice.specs.DataWords.{put_set}

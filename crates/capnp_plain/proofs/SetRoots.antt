@@ -13,7 +13,7 @@ use Rattle.capnp_model.specs.Edits.{edit}
 use Rattle.capnp_model.proofs.lemmas.Widening.{trim-widened}
 use Rattle.capnp_queries.specs.Structs.{schema_around, shape_of_struct, id_of}
 use Rattle.capnp_queries.specs.declared.structs.StructSchema.{StructSchema}
-use Rattle.capnp_calls.specs.Texts.{as_it_is}
+use Rattle.capnp_model.specs.Printing.{as_it_is}
 use Rattle.capnp_plain.specs.PlainSets.{ArePlain, after_calls, SetsWords}
 use Rattle.capnp_plain.proofs.SplicedKids.{depths_padded}
 use Rattle.capnp_splice.specs.DataWords.{put_set, put_sets, AreWordsAfter}

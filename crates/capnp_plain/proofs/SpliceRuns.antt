@@ -11,7 +11,7 @@ use Rattle.capnp_model.specs.Edits.{edit}
 use Rattle.capnp_model.proofs.lemmas.Widening.{trim-widened}
 use Rattle.capnp_queries.specs.Structs.{schema_around, shape_of_struct, id_of}
 use Rattle.capnp_queries.specs.declared.structs.StructSchema.{StructSchema}
-use Rattle.capnp_calls.specs.Texts.{as_it_is}
+use Rattle.capnp_model.specs.Printing.{as_it_is}
 use Rattle.capnp_splice.specs.Splices.{IsSpliced, HasSpliced}
 use Rattle.capnp_splice.specs.declared.splice.Splice.{Splice}
 use Rattle.capnp_plain.specs.PlainSets.{SetsWords}

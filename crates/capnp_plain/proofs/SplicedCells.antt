@@ -15,7 +15,8 @@ use Rattle.capnp_splice.specs.DataWords.{put_set}
 use Rattle.capnp_splice.specs.Splices.{PutsNumber}
 use Rattle.capnp_splice.specs.declared.plain.PlainSet.{PlainSet}
 use Rattle.capnp_splice.proofs.lemmas.DataWords.{put_lt}
-use Rattle.capnp_plain.proofs.SplicedKids.{child_same, child_fits, null_trimmed, count_put, bare_count_put, depths_put}
+use Rattle.capnp_plain.proofs.SplicedKids.{child_same, child_fits, count_put, bare_count_put, depths_put}
+use Rattle.capnp_model.proofs.lemmas.TrimTwice.{null_trimmed}
 
 -- A trimmed cell, of so many words, and the whole one.
 pub record IsCut (words : ℕ) (cut old : Cell) : Type 0 where

@@ -16,15 +16,6 @@ child_fits none i f = tt
 child_fits (t ▸ ts) zero f = f.0
 child_fits (t ▸ ts) (suc i) f = child_fits ts i f.1
 
-pub null_trimmed : (t : Tree) → is_null (trim t) ≡ is_null t
-unfolding trim
-null_trimmed null = refl
-null_trimmed (capability i) = refl
-null_trimmed (structure w n k) = refl
-null_trimmed (plain_list s count k) = refl
-null_trimmed (pointer_list k) = refl
-null_trimmed (struct_list w p k) = refl
-
 -- ---- how many there are, and how deep they are
 
 pub count_put : (ts : Trees) (i : ℕ) (t : Tree) → is_null (child ts i) ≡ false → tree_count (with_child ts i t) ≡ tree_count ts

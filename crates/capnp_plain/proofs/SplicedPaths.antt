@@ -20,10 +20,10 @@ use Rattle.capnp_splice.specs.declared.splice.Put.{Put}
 use Rattle.capnp_splice.specs.declared.splice.Put.TheVariants as puts
 use Rattle.capnp_plain.specs.PlainFields.{PutsNumber}
 use Rattle.capnp_plain.specs.Ways.{IsPutOf, Finds, LeadsTo}
-use Rattle.capnp_plain.proofs.SplicedKids.{null_trimmed}
 use Rattle.capnp_plain.proofs.SplicedCells.{Follows, IsEditOf, Makes, IsChangeOf, number_is, child_is}
 use Rattle.capnp_plain.proofs.SplicedStructs.{struct_is}
 use Rattle.capnp_plain.proofs.SplicedLists.{list_is}
+use Rattle.capnp_model.proofs.lemmas.TrimTwice.{null_trimmed}
 
 -- Edits that do the same.
 edits_alike : (puts : ℕ → Cell → Cell → Type 0) (f g : Edit) → ((c : Cell) → f c ≡ g c) → IsEditOf puts f → IsEditOf puts g

@@ -10,7 +10,7 @@ use Rattle.capnp_model.specs.Edits.{edit}
 use Rattle.capnp_model.specs.Answers.{reply_of, reply_done}
 use Rattle.capnp_queries.specs.Structs.{schema_around, id_of}
 use Rattle.capnp_queries.specs.declared.structs.StructSchema.{StructSchema}
-use Rattle.capnp_calls.specs.Texts.{as_it_is}
+use Rattle.capnp_model.specs.Printing.{as_it_is}
 use Rattle.capnp_splice.specs.Splices.{IsSpliced, room_of}
 use Rattle.capnp_splice.specs.declared.splice.Splice.{Splice}
 

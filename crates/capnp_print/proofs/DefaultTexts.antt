@@ -12,7 +12,7 @@ use Rattle.capnp_model.specs.Decoding.{decode}
 use Rattle.capnp_model.specs.Calls.{text_tree, blob_tree}
 use Rattle.capnp_model.specs.Schemas.{Ty, void, plain, text, blob, untyped, interface, struct, list, type_of, Value, no_value, bits, text_bytes, blob_bytes, list_segment, struct_segment, untyped_value, interface_value, FieldKind, slot, group, pointer_slot, Schema, default_or_null}
 use Rattle.capnp_model.specs.Readings.{null_pointer, fault, text_of, blob_of, body_of, read, text_reading}
-use Rattle.capnp_model.specs.Printing.{Style, as_type, as_body}
+use Rattle.capnp_model.specs.Printing.{Style, as_type, as_body, as_it_is}
 use Rattle.capnp_model.specs.Accepted.{slot_body, field_body, default_tree, is_good_segment, opens_as}
 use Rattle.capnp_model.proofs.lemmas.Numbers.{numbers_in-number_of}
 use Rattle.capnp_wire.specs.Views.{PointerView, StructView, pointer_field}
@@ -22,7 +22,6 @@ use Rattle.capnp_values.specs.Sources.{default_pointer, null_default}
 use Rattle.capnp_values.specs.Standing.{IsPointerType, NullsAreRead}
 use Rattle.capnp_values.specs.Shown.{Shown, opened, segment_opened, default_opened, slot_opened, slot_shown, kind_shown, is_null_slot}
 use Rattle.capnp_values.proofs.lemmas.DefaultReadings.{last_is, text_is, with_zero, decoded, encoded}
-use Rattle.capnp_print.specs.Texts.{as_it_is}
 use Rattle.capnp_print.specs.ShownReadings.{read_or_fault, reading_within, left_of}
 use Rattle.capnp_print.specs.Defaults.{is_null_segment, is_entered, enters}
 use Rattle.capnp_print.specs.Printed.{printed, empty_printed, bytes_shown, default_shown, text_shown, null_printed}

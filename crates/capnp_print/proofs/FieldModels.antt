@@ -2,7 +2,7 @@
 use Rattle.std.proofs.Common.{◌≡◌, ℕ, zero, suc, Option, Some, refl, ap, sym, ◌∙◌, subst}
 use Rattle.capnp_model.specs.Schemas.{Fields, no_fields, field, Shape, shape}
 use Rattle.capnp_model.specs.Readings.{Record, no_more, entry, record_as, Extent, just_bits, Children, discriminant, is_active, only_if, body_of, fields_of, shape_record}
-use Rattle.capnp_model.specs.Printing.{as_body, fields_in}
+use Rattle.capnp_model.specs.Printing.{as_body, fields_in, as_it_is}
 use Rattle.capnp_queries.specs.Fields.{Entry, field_at, union_in}
 use Rattle.capnp_queries.specs.Structs.{nodes_around, schema_around, shape_of_struct, fields_of_struct, id_of}
 use Rattle.capnp_queries.specs.declared.structs.StructSchema.{StructSchema}
@@ -12,7 +12,6 @@ use Rattle.capnp_values.specs.Shown.{a_struct, discriminant_shown}
 use Rattle.capnp_values.specs.Standing.{IsRecord, PointersAreRead}
 use Rattle.capnp_model.proofs.lemmas.Paths.{record_is}
 use Rattle.capnp_values.proofs.lemmas.RecordReadings.{shape_is, field_of_record}
-use Rattle.capnp_print.specs.Texts.{as_it_is}
 use Rattle.capnp_print.specs.ShownReadings.{record_read, children_read, reading_within, left_of}
 use Rattle.capnp_print.specs.Members.{field_read}
 use Rattle.capnp_print.specs.Models.{unopened, unopened_fields, FieldsAreModels}

@@ -4,13 +4,12 @@ use Rattle.capnp_model.specs.Kinds.{Kind}
 use Rattle.capnp_model.specs.Trees.{null}
 use Rattle.capnp_model.specs.Schemas.{Ty, void, plain, text, blob, untyped, interface, struct, list, TypeRecord, type_of, Value, FieldKind, slot, group, Body, pointer_slot, Schema, default_or_null}
 use Rattle.capnp_model.specs.Readings.{null_pointer, body_of}
-use Rattle.capnp_model.specs.Printing.{Style, as_type, as_body}
+use Rattle.capnp_model.specs.Printing.{Style, as_type, as_body, as_it_is}
 use Rattle.capnp_model.specs.Accepted.{slot_body, field_body, default_tree}
 use Rattle.capnp_wire.specs.Views.{PointerView, StructView, pointer_field}
 use Rattle.capnp_wire.specs.Reads.{is_null}
 use Rattle.capnp_values.specs.Shown.{Shown, a_number, a_struct, opened, default_opened, slot_opened, slot_shown, kind_shown, is_null_slot}
 use Rattle.capnp_values.specs.Standing.{IsPointerType}
-use Rattle.capnp_print.specs.Texts.{as_it_is}
 use Rattle.capnp_print.specs.ShownReadings.{read_or_fault, reading_within, left_of}
 use Rattle.capnp_print.specs.Printed.{printed, null_printed}
 use Rattle.capnp_print.proofs.lemmas.Children.{within, number_shown_text}

@@ -9,7 +9,7 @@ use Rattle.capnp_model.specs.Pointers as model
 use Rattle.capnp_model.specs.Trees.{Tree, null, is_null as is_null_tree}
 use Rattle.capnp_model.specs.Schemas.{Ty, void, plain, text, blob, untyped, interface, struct, list, Schema}
 use Rattle.capnp_model.specs.Readings.{record_as, list_of}
-use Rattle.capnp_model.specs.Printing.{Style, as_type, as_group, fields_in}
+use Rattle.capnp_model.specs.Printing.{Style, as_type, as_group, fields_in, as_it_is}
 use Rattle.capnp_object.specs.declared.object.Object.TheVariants as object
 use Rattle.capnp_object.specs.declared.object.Found.{Found}
 use Rattle.capnp_object.specs.Objects.{object_at, whole}
@@ -18,7 +18,6 @@ use Rattle.capnp_wire.specs.Reads.{is_null_at, is_null, found_behind, empty_stru
 use Rattle.capnp_values.specs.ListSizes.{size_of}
 use Rattle.capnp_values.specs.Shown.{Shown, a_number, a_text, a_blob, a_struct, a_list, a_pointer, a_capability, opened}
 use Rattle.capnp_values.specs.Standing.{IsPointerType}
-use Rattle.capnp_print.specs.Texts.{as_it_is}
 use Rattle.capnp_print.specs.ShownReadings.{levels_of}
 use Rattle.capnp_print.specs.Printed.{Text, struct_between, printed, empty_printed, text_shown, default_shown, null_printed, shown_text}
 use Rattle.capnp_print.proofs.Empties.{empty_same}

@@ -5,7 +5,7 @@ use Rattle.std.proofs.Math.Nat.{mul-suc}
 use Rattle.std.proofs.lemmas.Result.{err_from_is_err_and}
 use Rattle.capnp_model.specs.Kinds.{InactiveMember}
 use Rattle.capnp_model.specs.Readings.{is_active, only_if}
-use Rattle.capnp_model.specs.Printing.{Style, as_body}
+use Rattle.capnp_model.specs.Printing.{Style, as_body, as_it_is}
 use Rattle.capnp_units.specs.declared.errors.Error.{Error}
 use Rattle.capnp_units.specs.Errors.{kind_of}
 use Rattle.capnp_queries.specs.Fields.{Entry, entry_in}
@@ -17,7 +17,6 @@ use Rattle.capnp_wire.specs.Views.{StructView}
 use Rattle.capnp_values.specs.Standing.{NullsAreRead}
 use Rattle.capnp_values.specs.Shown.{Shown, a_struct, discriminant_shown}
 use Rattle.capnp_print.specs.declared.fields.Opened.{Opened}
-use Rattle.capnp_print.specs.Texts.{as_it_is}
 use Rattle.capnp_print.specs.Printed.{printed, null_printed, shown_text}
 use Rattle.capnp_print.specs.Parts.{member_text, IsActive, IsPrinted, enters_there, counted, ShowsMember, OpensMember}
 use Rattle.capnp_print.specs.ShownReadings.{left_of}

@@ -6,8 +6,7 @@ use Rattle.capnp_model.specs.Kinds.{TextWithoutZeroByte, NestingLimitExceeded}
 use Rattle.capnp_model.specs.Trees.{null, structure, none}
 use Rattle.capnp_model.specs.Schemas.{uint, plain, text, struct, list, shape, no_fields, field, plain_slot, pointer_slot, Fields}
 use Rattle.capnp_model.specs.Readings.{null_pointer, fault, number, text_of, list_of, record_as, inactive, no_readings, ◌▹◌, Record, no_more, entry}
-use Rattle.capnp_model.specs.Printing.{Style, on_one_line, indented, as_group, as_type}
-use Rattle.capnp_print.specs.Texts.{as_it_is}
+use Rattle.capnp_model.specs.Printing.{Style, on_one_line, indented, as_group, as_type, as_it_is}
 use Rattle.capnp_print.specs.Printed.{Text, no_schema, printed, null_printed}
 
 -- a number and a text

@@ -5,8 +5,8 @@ use Rattle.std.specs.Prelude.{map, decimal, nat_lt}
 use Rattle.std.specs.List.{flat_map, list_all}
 use Rattle.std.specs.Str.{is_utf8, IsUtf8}
 use Rattle.std.proofs.lemmas.Str.{is_utf8-from_IsUtf8, IsUtf8-from_is_utf8}
-use Rattle.capnp_model.specs.Printing.{escaped, joined, text_text}
-use Rattle.capnp_print.specs.Texts.{as_it_is, number_list}
+use Rattle.capnp_model.specs.Printing.{escaped, joined, text_text, as_it_is}
+use Rattle.capnp_print.specs.Texts.{number_list}
 
 -- a number with a comma and a blank in front
 abbrev pub with_comma : ℕ → List ℕ

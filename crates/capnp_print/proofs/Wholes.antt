@@ -6,7 +6,7 @@ use Rattle.capnp_model.specs.Kinds.{Kind, NestingLimitExceeded}
 use Rattle.capnp_model.specs.Chains.{◌and_then◌}
 use Rattle.capnp_model.specs.Schemas.{Ty, Field as FieldNode, Schema, Fields, no_fields, field}
 use Rattle.capnp_model.specs.Readings.{just_bits, is_active, only_if}
-use Rattle.capnp_model.specs.Printing.{Style, inner, closing, as_group, as_body, is_shown}
+use Rattle.capnp_model.specs.Printing.{Style, inner, closing, as_group, as_body, is_shown, as_it_is}
 use Rattle.capnp_model.specs.Accepted.{field_body}
 use Rattle.capnp_queries.specs.Fields.{Entry, entry_in, field_at, field_count, union_in}
 use Rattle.capnp_queries.specs.Structs.{schema_around, shape_of_struct, fields_of_struct}
@@ -17,7 +17,6 @@ use Rattle.capnp_wire.specs.Views.{StructView, ListView}
 use Rattle.capnp_values.specs.GoodDefaults.{KeepsDefault}
 use Rattle.capnp_values.specs.Standing.{NullsAreRead}
 use Rattle.capnp_values.specs.Shown.{Shown, a_struct, a_list, kind_shown, discriminant_shown, is_null_slot, element_shown}
-use Rattle.capnp_print.specs.Texts.{as_it_is}
 use Rattle.capnp_print.specs.ShownReadings.{children_read, elements_read, reading_within, left_of}
 use Rattle.capnp_print.specs.Defaults.{enters}
 use Rattle.capnp_print.specs.Members.{field_read, field_shown}

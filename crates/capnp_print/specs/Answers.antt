@@ -1,11 +1,10 @@
 -- What calls answer that append a text.
 use Rattle.std.specs.Prelude.{ℕ, ◌≡◌, ◌⊎◌, Bool, true, false, List, ◌++◌, Option, Some, Result, Ok, Err}
-use Rattle.capnp_model.specs.Printing.{Style, on_one_line, indented, print}
+use Rattle.capnp_model.specs.Printing.{Style, on_one_line, indented, print, as_it_is}
 use Rattle.capnp_units.specs.declared.errors.Error.{Error}
 use Rattle.capnp_units.specs.declared.kinds.ErrorKind.TheVariants.{OutOfMemory}
 use Rattle.capnp_units.specs.Errors.{kind_of}
 use Rattle.capnp_values.specs.Shown.{Shown}
-use Rattle.capnp_print.specs.Texts.{as_it_is}
 use Rattle.capnp_print.specs.ShownReadings.{reading_of}
 use Rattle.capnp_print.specs.Printed.{Text, text_in, null_printed, schema_shown, as_shown, shown_text}
 

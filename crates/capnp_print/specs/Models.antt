@@ -5,7 +5,7 @@ use Rattle.capnp_model.specs.Trees.{null}
 use Rattle.capnp_model.specs.Schemas.{TypeRecord, type_of, Node}
 use Rattle.capnp_model.specs.Accepted.{schema_of, IsAccepted}
 use Rattle.capnp_model.specs.Readings.{Reading, inactive, null_pointer, fault, number, text_of, blob_of, list_of, record_as, opaque, Readings, no_readings, ◌▹◌, Record, no_more, entry}
-use Rattle.capnp_model.specs.Printing.{Style, as_body, print, nulls_as}
+use Rattle.capnp_model.specs.Printing.{Style, as_body, print, nulls_as, as_it_is}
 use Rattle.capnp_queries.specs.Fields.{Entry, field_at}
 use Rattle.capnp_queries.specs.Structs.{schema_around, shape_of_struct, fields_of_struct}
 use Rattle.capnp_queries.specs.declared.structs.StructSchema.{StructSchema}
@@ -13,7 +13,6 @@ use Rattle.capnp_wire.specs.Views.{StructView}
 use Rattle.capnp_values.specs.Records.{reading_at}
 use Rattle.capnp_values.specs.Shown.{Shown, a_number, an_enum, a_text, a_blob, a_struct, a_list, a_pointer, a_capability}
 use Rattle.capnp_values.specs.Standing.{IsReading, IsRecord}
-use Rattle.capnp_print.specs.Texts.{as_it_is}
 use Rattle.capnp_print.specs.ShownReadings.{reading_of}
 use Rattle.capnp_print.specs.Printed.{text_in, schema_shown, as_shown, shown_text}
 use Rattle.capnp_print.specs.Answers.{IsTextOf}

@@ -4,7 +4,7 @@ use Rattle.capnp_model.specs.Trees.{null}
 use Rattle.capnp_model.specs.Schemas.{Ty, FieldKind, Field as FieldNode, Schema}
 use Rattle.capnp_model.specs.Readings.{is_active}
 use Rattle.capnp_model.specs.Accepted.{field_body}
-use Rattle.capnp_model.specs.Printing.{Style, as_type, as_body}
+use Rattle.capnp_model.specs.Printing.{Style, as_type, as_body, as_it_is}
 use Rattle.capnp_queries.specs.Fields.{Entry}
 use Rattle.capnp_queries.specs.Structs.{schema_around, shape_of_struct, fields_of_struct}
 use Rattle.capnp_queries.specs.Handles.{entry_of, IsFieldRecord}
@@ -16,7 +16,6 @@ use Rattle.capnp_units.specs.Errors.{kind_of}
 use Rattle.capnp_values.specs.GoodDefaults.{KeepsDefault}
 use Rattle.capnp_values.specs.Shown.{Shown, shown, kind_shown, discriminant_shown, is_null_slot}
 use Rattle.capnp_print.specs.declared.fields.Opened.{Opened}
-use Rattle.capnp_print.specs.Texts.{as_it_is}
 use Rattle.capnp_print.specs.ShownReadings.{record_read, elements_read, reading_within, left_of}
 use Rattle.capnp_print.specs.Printed.{Text, printed, items_printed, fields_printed, null_printed}
 use Rattle.capnp_print.specs.Defaults.{enters}

@@ -8,10 +8,9 @@ use Rattle.capnp_model.specs.Encoding.{canonical_words}
 use Rattle.capnp_model.specs.Bytes.{bytes_of_words}
 use Rattle.capnp_model.specs.Schemas.{«enum», Ty, void, plain, text, blob, untyped, interface, struct, list, shape, Fields, no_fields, field, Schema}
 use Rattle.capnp_model.specs.Readings.{Reading, inactive, null_pointer, fault, number, text_of, blob_of, list_of, record_as, opaque, Readings, no_readings, ◌▹◌, Record, no_more, entry, whole_words, no_children, shape_record, read}
-use Rattle.capnp_model.specs.Printing.{text_text, blob_text, number_text, opaque_text, Style, inner, opening, between, closing, As, as_type, as_group, as_body, type_of_as, default_of_as, element_type, shape_as, is_shown}
+use Rattle.capnp_model.specs.Printing.{text_text, blob_text, number_text, opaque_text, Style, inner, opening, between, closing, As, as_type, as_group, as_body, type_of_as, default_of_as, element_type, shape_as, is_shown, as_it_is}
 use Rattle.capnp_values.specs.Shown.{Shown, a_number, an_enum, a_text, a_blob, a_struct, a_list, a_pointer, a_capability, opened}
 use Rattle.capnp_values.specs.Sources.{default_pointer, null_default}
-use Rattle.capnp_print.specs.Texts.{as_it_is}
 use Rattle.capnp_print.specs.ShownReadings.{reading_of}
 
 -- A text, or the kind of a fault.

@@ -1,9 +1,8 @@
 -- The texts of values that hold no others.
 use Rattle.std.specs.Prelude.{ℕ, List, []}
 use Rattle.capnp_model.specs.Schemas.{plain, «enum», untyped, interface}
-use Rattle.capnp_model.specs.Printing.{text_text, blob_text, number_text, opaque_text}
+use Rattle.capnp_model.specs.Printing.{text_text, blob_text, number_text, opaque_text, as_it_is}
 use Rattle.capnp_values.specs.Shown.{Shown, a_number, an_enum, a_text, a_blob, a_struct, a_list, a_pointer, a_capability}
-use Rattle.capnp_print.specs.Texts.{as_it_is}
 use Rattle.capnp_print.specs.Printed.{no_schema}
 
 -- The text of a single value, nothing of a struct or a list.

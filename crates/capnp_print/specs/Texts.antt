@@ -1,13 +1,8 @@
 -- The texts of single values.
 use Rattle.std.specs.Prelude.{ℕ, ◌-◌, ◌^◌, nat_lt, if◌then◌else◌, Bool, true, false, List, ◌++◌, codes, decimal, map}
-use Rattle.std.specs.List.{flat_map}
 use Rattle.capnp_print.specs.declared.single.Indent.{Indent}
 use Rattle.capnp_print.specs.declared.single.Indent.TheVariants as indent
-use Rattle.capnp_model.specs.Printing.{escaped, joined, Style, on_one_line, indented}
-
--- What stands between the quotes of a text past ASCII: its ASCII characters as in any text, the others as they are.
-abbrev pub as_it_is : List ℕ → List ℕ
-as_it_is bs = flat_map escaped bs
+use Rattle.capnp_model.specs.Printing.{joined, Style, on_one_line, indented}
 
 -- Bytes in decimal, with a comma and a blank between each two.
 unfoldable pub number_list : List ℕ → List ℕ

@@ -5,8 +5,8 @@
 ghost use Rattle.std.specs.Prelude.{◌≡◌, ◌+◌, ◌++◌, ◌*◌, ◌^◌, ◌<◌, ◌≤◌, [], ◌∷◌, false, OnOk, codes, decimal, replicate};
 ghost use Rattle.std.specs.Fmt.{digits};
 ghost use Rattle.std.specs.List.{flat_map};
-ghost use Rattle.capnp_model.specs.Printing.{escaped, text_text, hex_byte, blob_text, line_at, opening, between, closing};
-ghost use Rattle.capnp_print.specs.Texts.{as_it_is, number_list, bool_text, signed_text, style_of};
+ghost use Rattle.capnp_model.specs.Printing.{escaped, text_text, hex_byte, blob_text, line_at, opening, between, closing, as_it_is};
+ghost use Rattle.capnp_print.specs.Texts.{number_list, bool_text, signed_text, style_of};
 
 use itoa::Buffer;
 use std::alloc::AllocError;

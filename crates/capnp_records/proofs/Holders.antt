@@ -20,7 +20,7 @@ abbrev pub is_place : ℕ → Option ℕ → Bool
 is_place p None = false
 is_place p (Some k) = k == p
 
-pub first_at : (i j id : ℕ) (xs : List NodeRecord) (x : NodeRecord) → j < length xs → x ≡ get_or xs j x → x.id ≡ id → is_place (i + j) (node_place id i (map node_of xs)) ≡ not (list_any (λ n. n.id == id) (map node_of (take j xs)))
+first_at : (i j id : ℕ) (xs : List NodeRecord) (x : NodeRecord) → j < length xs → x ≡ get_or xs j x → x.id ≡ id → is_place (i + j) (node_place id i (map node_of xs)) ≡ not (list_any (λ n. n.id == id) (map node_of (take j xs)))
 first_at i j id [] x lt e is = absurd (omega arith)
 first_at i zero id (y ∷ ys) x lt e is =
     let own : y.id ≡ id = ap (λ (z : NodeRecord). z.id) (sym e) ∙ is in
@@ -33,6 +33,13 @@ first_at i (suc j) id (y ∷ ys) x lt e is = by (y.id == id) (first_at (suc i) j
         → is_place (i + suc j) (if b then Some i else node_place id (suc i) (map node_of ys)) ≡ not (b || list_any (λ n. n.id == id) (map node_of (take j ys)))
     by true h = let other : (i == i + suc j) ≡ false = grind (arith, nat_tests) in other
     by false h = let next : i + suc j ≡ suc i + j = omega arith in ap (λ p. is_place p (node_place id (suc i) (map node_of ys))) next ∙ h
+
+-- what was found of an id is the place of its node, or another
+pub is_first_at : (place id : ℕ) (ns : List NodeRecord) (x : NodeRecord) (found : Option ℕ) → place < length ns → x ≡ get_or ns place x → x.id ≡ id → found ≡ node_place id 0 (map node_of ns)
+    → is_place place found ≡ not (list_any (λ n. n.id == id) (map node_of (take place ns)))
+is_first_at place id ns x found lt e is there =
+    let from : place ≡ 0 + place = omega arith in
+    ap (is_place place) there ∙ ap (λ p. is_place p (node_place id 0 (map node_of ns))) from ∙ first_at 0 place id ns x lt e is
 
 -- ---- the first holder of a group
 

@@ -9,3 +9,4 @@ mod Below
 mod FoundNodes
 mod FieldTables
 mod Holders
+mod OneMore

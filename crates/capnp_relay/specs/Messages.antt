@@ -10,7 +10,7 @@ use Rattle.capnp_model.specs.InKindCalls.{IsInKind}
 use Rattle.capnp_model.specs.Answers.{Answer, written, value_within, IsAnswer}
 use Rattle.capnp_queries.specs.Structs.{schema_around, id_of}
 use Rattle.capnp_queries.specs.declared.structs.StructSchema.{StructSchema}
-use Rattle.capnp_calls.specs.Texts.{as_it_is}
+use Rattle.capnp_model.specs.Printing.{as_it_is}
 use Rattle.capnp_answers.specs.Answers.{MeansAfter}
 use Rattle.capnp_answers.specs.Bounds.{limits_view}
 use Rattle.capnp_answers.specs.declared.bounds.Bounds.{Bounds}

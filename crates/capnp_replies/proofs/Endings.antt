@@ -10,7 +10,7 @@ use Rattle.capnp_queries.specs.Handles.{body_of_place}
 use Rattle.capnp_queries.specs.declared.structs.StructSchema.{StructSchema}
 use Rattle.capnp_queries.specs.declared.slots.FieldPlace.{FieldPlace}
 use Rattle.capnp_queries.specs.declared.slots.FieldPlace.TheVariants as place
-use Rattle.capnp_calls.specs.Texts.{as_it_is}
+use Rattle.capnp_model.specs.Printing.{as_it_is}
 use Rattle.capnp_calls.specs.Replies.{content_reply}
 use Rattle.capnp_replies.specs.Parts.{IsSlot}
 use Rattle.capnp_replies.specs.Writes.{type_content, is_get}

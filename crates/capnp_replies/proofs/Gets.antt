@@ -6,7 +6,7 @@ use Rattle.capnp_model.specs.Schemas.{Ty, TypeRecord, type_of, Node, Body, Schem
 use Rattle.capnp_model.specs.Accepted.{schema_of, IsAccepted}
 use Rattle.capnp_model.specs.Readings.{Reading, inactive, null_pointer, fault, number, text_of, blob_of, list_of, record_as, opaque, Readings, no_readings, ◌▹◌, Record}
 use Rattle.capnp_model.specs.ActiveMembers.{element_of as reading_of}
-use Rattle.capnp_model.specs.Printing.{on_one_line, print, nulls_as, As, as_type, as_body}
+use Rattle.capnp_model.specs.Printing.{on_one_line, print, nulls_as, As, as_type, as_body, as_it_is}
 use Rattle.capnp_model.specs.Calls.{get}
 use Rattle.capnp_model.specs.Steps.{shown, got, step_field, step_element}
 use Rattle.capnp_model.specs.Answers.{reply_of, reply_refused, text_reply}
@@ -21,7 +21,6 @@ use Rattle.capnp_queries.specs.declared.fields.Field.{Field}
 use Rattle.capnp_values.specs.Records.{reading_at, is_live}
 use Rattle.capnp_values.specs.Shown.{Shown, a_number, an_enum, a_text, a_blob, a_struct, a_list, a_pointer, a_capability, element_shown}
 use Rattle.capnp_values.specs.Standing.{IsRecord, AreItems, Answers, or_empty, PointersAreRead}
-use Rattle.capnp_print.specs.Texts.{as_it_is}
 use Rattle.capnp_print.specs.Models.{unopened, unopened_each, WholesAreRead, FieldsAreModels}
 use Rattle.capnp_print.specs.Parts.{member_text}
 use Rattle.capnp_print.specs.ShownReadings.{element_read, elements_read, reading_within, left_of, reading_of as whole_reading}
@@ -32,7 +31,6 @@ use Rattle.capnp_print.proofs.lemmas.ElementTexts.{text_or_fault, element_text}
 use Rattle.capnp_print.proofs.lemmas.Models.{printed_print}
 use Rattle.capnp_print.proofs.lemmas.ModelTexts.{whole_model}
 use Rattle.capnp_print.proofs.lemmas.SoundShapes.{no_default_is, shapes_sound}
-use Rattle.capnp_calls.specs.Texts.{as_it_is as as_replied}
 use Rattle.capnp_calls.specs.Replies.{reply_view}
 use Rattle.capnp_calls.specs.declared.reply.Reply.{Reply as Own}
 use Rattle.capnp_calls.specs.declared.reply.Reply.TheVariants as reply
@@ -57,13 +55,13 @@ live_got how (opaque t) h = refl
 -- a member that isn't active
 pub inactive_got : (s : Schema) (body : Body) (x : Reading) → is_live x ≡ false → IsFieldReply [] get (reply_refused InactiveMember) s body x
 unfolding step_field
-inactive_got s body x live = ap (λ z. reply_of s as_replied (got (as_body body) z)) (sym (not_live x live))
+inactive_got s body x live = ap (λ z. reply_of s as_it_is (got (as_body body) z)) (sym (not_live x live))
 
 -- a text that the model has is replied, else a refusal
-told_got : (s : Schema) (how : As) (x : Reading) (t : Text) (answer : Own) → is_live x ≡ true → text_in t ≡ print s as_it_is (nulls_as s as_it_is 64) on_one_line how x → IsTold t answer → reply_view answer ≡ reply_of s as_replied (got how x)
-told_got s how x t (reply.Text bytes) live model h = ap text_reply (sym (ap text_in h) ∙ model) ∙ ap (reply_of s as_replied) (sym (live_got how x live))
+told_got : (s : Schema) (how : As) (x : Reading) (t : Text) (answer : Own) → is_live x ≡ true → text_in t ≡ print s as_it_is (nulls_as s as_it_is 64) on_one_line how x → IsTold t answer → reply_view answer ≡ reply_of s as_it_is (got how x)
+told_got s how x t (reply.Text bytes) live model h = ap text_reply (sym (ap text_in h) ∙ model) ∙ ap (reply_of s as_it_is) (sym (live_got how x live))
 told_got s how x t (reply.Refused kind) live model h =
-    ap (λ (k : ErrorKind). reply_refused (kind_of k)) h.0 ∙ ap text_reply (sym (ap text_in h.1.1) ∙ model) ∙ ap (reply_of s as_replied) (sym (live_got how x live))
+    ap (λ (k : ErrorKind). reply_refused (kind_of k)) h.0 ∙ ap text_reply (sym (ap text_in h.1.1) ∙ model) ∙ ap (reply_of s as_it_is) (sym (live_got how x live))
 told_got s how x t reply.Done live model h = absurd h
 
 -- ---- a field
@@ -137,12 +135,12 @@ module _ (wholes : WholesAreRead) (pointers : PointersAreRead) (nodes : List Nod
       printed_print z as_it_is (null_printed z as_it_is 64) (λ st ty d. text_in (null_printed z as_it_is 64 st ty d)) (λ st ty d. refl) on_one_line (as_shown x) (whole_reading x) ∙ h
 
   reply_got : (q : Result Shown Kind) → Answers s q (or_empty s ty (reading_of i rs)) → (o : Option (List ℕ)) → o ≡ print s as_it_is (nulls_as s as_it_is 64) on_one_line (as_type ty null) (reading_of i rs)
-      → text_reply o ≡ reply_of s as_replied (step_element s [] get ty (reading_of i rs))
+      → text_reply o ≡ reply_of s as_it_is (step_element s [] get ty (reading_of i rs))
   unfolding step_element
-  reply_got q answers o e = ap text_reply e ∙ ap (reply_of s as_replied) (sym (live_got (as_type ty null) (reading_of i rs) (live_answer q (reading_of i rs) answers)))
+  reply_got q answers o e = ap text_reply e ∙ ap (reply_of s as_it_is) (sym (live_got (as_type ty null) (reading_of i rs) (live_answer q (reading_of i rs) answers)))
 
   -- the reply at what an element shows
-  pub element_got : (x : Shown) (answer : Own) → Ok x ≡ element_shown s ty l i → Answers s (element_shown s ty l i) (or_empty s ty (reading_of i rs)) → IsTextReply x answer → reply_view answer ≡ reply_of s as_replied (step_element s [] get ty (reading_of i rs))
+  pub element_got : (x : Shown) (answer : Own) → Ok x ≡ element_shown s ty l i → Answers s (element_shown s ty l i) (or_empty s ty (reading_of i rs)) → IsTextReply x answer → reply_view answer ≡ reply_of s as_it_is (step_element s [] get ty (reading_of i rs))
   element_got x (reply.Text bytes) shows answers h =
       reply_got (element_shown s ty l i) answers (Some bytes.items) (sym (told x bytes.items h) ∙ sym (printed_told x (reply.Text bytes) shows h) ∙ element_model)
   element_got x (reply.Refused kind) shows answers h =
@@ -150,5 +148,5 @@ module _ (wholes : WholesAreRead) (pointers : PointersAreRead) (nodes : List Nod
   element_got x reply.Done shows answers h = absurd h
 
   -- a fault in its place
-  pub element_refused : (kind : Kind) → Err kind ≡ element_shown s ty l i → Answers s (element_shown s ty l i) (or_empty s ty (reading_of i rs)) → text_reply None ≡ reply_of s as_replied (step_element s [] get ty (reading_of i rs))
+  pub element_refused : (kind : Kind) → Err kind ≡ element_shown s ty l i → Answers s (element_shown s ty l i) (or_empty s ty (reading_of i rs)) → text_reply None ≡ reply_of s as_it_is (step_element s [] get ty (reading_of i rs))
   element_refused kind shows answers = reply_got (element_shown s ty l i) answers None (ap (λ (q : Result Shown Kind). text_in (text_or_fault 64 on_one_line q)) shows ∙ element_model)

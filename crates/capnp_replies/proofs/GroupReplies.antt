@@ -8,7 +8,7 @@ use Rattle.capnp_model.specs.Calls.{object, message, message_root, struct_conten
 use Rattle.capnp_model.specs.Groups.{group_fault}
 use Rattle.capnp_model.specs.Steps.{copied_or_refused, set_group, set_group_from}
 use Rattle.capnp_model.specs.Answers.{Reply, reply_done, reply_refused, reply_of}
-use Rattle.capnp_calls.specs.Texts.{as_it_is}
+use Rattle.capnp_model.specs.Printing.{as_it_is}
 
 abbrev pub fault_reply : Option Kind → Reply
 fault_reply None = reply_done

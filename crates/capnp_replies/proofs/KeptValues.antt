@@ -27,6 +27,7 @@ use Rattle.capnp_values.specs.Standing.{Leads, IsRecord, AreItems, or_empty, Ans
 use Rattle.capnp_calls.specs.Replies.{content_reply}
 use Rattle.capnp_replies.specs.Messages.{LeadsTo, IsStructOf}
 use Rattle.capnp_replies.specs.Writes.{taken}
+use Rattle.capnp_values.proofs.lemmas.AskedSizes.{size_asked}
 
 -- ---- the words that are kept
 
@@ -104,23 +105,6 @@ size_back FourBytes = refl
 size_back EightBytes = refl
 size_back Pointer = refl
 size_back InlineComposite = refl
-
-size_asked : (ty : Ty) → size_number (size_of ty) ≡ expected_size ty
-size_asked void = refl
-size_asked (plain p) = by (width p == 1) (width p == 8) (width p == 16) (width p == 32)
-  where
-    by : (a b c d : Bool) → size_number (if a then Bit else (if b then Byte else (if c then TwoBytes else (if d then FourBytes else EightBytes)))) ≡ (if a then 1 else (if b then 2 else (if c then 3 else (if d then 4 else 5))))
-    by true b c d = refl
-    by false true c d = refl
-    by false false true d = refl
-    by false false false true = refl
-    by false false false false = refl
-size_asked text = refl
-size_asked blob = refl
-size_asked untyped = refl
-size_asked interface = refl
-size_asked (struct id) = refl
-size_asked (list ty) = refl
 
 -- a size is that of the type by its number
 pub asked : (a : ElementSize) (ty : Ty) → size_number a ≡ expected_size ty → a ≡ size_of ty

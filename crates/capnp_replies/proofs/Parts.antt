@@ -17,7 +17,7 @@ use Rattle.capnp_values.specs.Records.{reading_at, is_live, FieldsOfRecords}
 use Rattle.capnp_values.specs.Shown.{Shown, kind_shown, element_shown}
 use Rattle.capnp_values.specs.Standing.{IsRecord, AreItems, Answers, or_empty, ElementsAreRead}
 use Rattle.capnp_values.proofs.lemmas.ElementReadings.{item_count, elements_stand}
-use Rattle.capnp_calls.specs.Texts.{as_it_is}
+use Rattle.capnp_model.specs.Printing.{as_it_is}
 use Rattle.capnp_calls.proofs.lemmas.OneStep.{reply_of-map}
 use Rattle.capnp_print.proofs.lemmas.PrintedFields.{entry_same}
 use Rattle.capnp_replies.specs.Parts.{items_reply, RepliesBehind, IsFieldReply}

@@ -8,7 +8,7 @@ use Rattle.capnp_wire.specs.Views.{StructView}
 use Rattle.capnp_queries.specs.Structs.{schema_around, shape_of_struct, fields_of_struct, id_of}
 use Rattle.capnp_queries.specs.declared.structs.StructSchema.{StructSchema}
 use Rattle.capnp_values.specs.Standing.{IsRecord}
-use Rattle.capnp_calls.specs.Texts.{as_it_is}
+use Rattle.capnp_model.specs.Printing.{as_it_is}
 use Rattle.capnp_replies.specs.Parts.{record_reply, RepliesAtStruct}
 
 pub whole_reply : (root : StructSchema) (v : StructView) (call : Call) (path : List Step) (verb : Verb) (answer : Reply) → path ≡ call.path → verb ≡ call.verb → RepliesAtStruct (schema_around root) (shape_of_struct root) v path verb answer

@@ -6,7 +6,7 @@ use Rattle.capnp_model.specs.Trees.{Tree, null}
 use Rattle.capnp_model.specs.Schemas.{PlainType, width, bool, int, uint, «enum», Ty, void, plain, text, blob, untyped, interface, struct, list, type_of, Value, FieldKind, slot, group, Shape, Fields, no_fields, field, Body, void_slot, plain_slot, pointer_slot, group_slot, Schema, default_or_null}
 use Rattle.capnp_model.specs.Accepted.{field_body, slot_body, default_tree, default_bits}
 use Rattle.capnp_model.specs.Readings.{Reading, inactive, null_pointer, fault, number, text_of, blob_of, list_of, record_as, opaque, Readings, Record, discriminant, shape_record, read, read_child}
-use Rattle.capnp_model.specs.Printing.{fields_in}
+use Rattle.capnp_model.specs.Printing.{fields_in, as_it_is}
 use Rattle.capnp_model.specs.Calls.{Step, name, index, Verb}
 use Rattle.capnp_model.specs.Steps.{Outcome, Target, target, target_if, target_of, entry_of as reading_named, replaced, at_target, on_name, on_index, or_empty, opened, through_value, through_field, step_field, step_element}
 use Rattle.capnp_model.specs.Answers.{Reply, reply_of, reply_refused}
@@ -20,7 +20,6 @@ use Rattle.capnp_values.specs.Records.{reading_at, is_live}
 use Rattle.capnp_values.specs.Sources.{masked_bits}
 use Rattle.capnp_values.specs.Shown.{Shown, a_number, an_enum, a_text, a_blob, a_struct, a_list, a_pointer, a_capability, number_shown, slot_shown, kind_shown}
 use Rattle.capnp_values.specs.Standing.{IsRecord, AreItems, IsReading, Answers, filled, or_default, or_empty as or_empty_value}
-use Rattle.capnp_calls.specs.Texts.{as_it_is}
 use Rattle.capnp_calls.specs.Roots.{starts_with_name}
 use Rattle.capnp_calls.proofs.lemmas.OneStep.{reply_of-map}
 use Rattle.capnp_calls.proofs.lemmas.NamedFields.{not_found}

@@ -1,7 +1,7 @@
 -- What the rest of a path replies at a part of a struct that is read. (Encoding, "Structs" and "Lists")
 use Rattle.std.specs.Prelude.{ℕ, ◌≡◌, Bool, Option, Some, None, option_map, List, ◌∷◌, ⊤}
 use Rattle.capnp_model.specs.Kinds.{WrongStep}
-use Rattle.capnp_model.specs.Printing.{fields_in}
+use Rattle.capnp_model.specs.Printing.{fields_in, as_it_is}
 use Rattle.capnp_model.specs.Schemas.{Ty, Body, void_slot, plain_slot, pointer_slot, group_slot, Fields, Shape, Schema}
 use Rattle.capnp_model.specs.Readings.{Reading, list_of, Readings, record_as, Record}
 use Rattle.capnp_model.specs.Calls.{Step, index, Verb}
@@ -17,7 +17,6 @@ use Rattle.capnp_values.specs.Records.{reading_at, is_live}
 use Rattle.capnp_values.specs.Shown.{Shown, a_number, an_enum, a_text, a_blob, a_struct, a_list, a_pointer, a_capability}
 use Rattle.capnp_values.specs.Standing.{IsRecord, AreItems}
 use Rattle.capnp_model.specs.ActiveMembers.{element_of as reading_of}
-use Rattle.capnp_calls.specs.Texts.{as_it_is}
 use Rattle.capnp_ways.specs.Ways.{IsWay}
 use Rattle.capnp_ways.specs.declared.ways.FoundField.{FoundField}
 

@@ -8,7 +8,7 @@ use Rattle.capnp_queries.specs.Structs.{schema_around, shape_of_struct, id_of}
 use Rattle.capnp_values.specs.Sources.{struct_seen}
 use Rattle.capnp_values.specs.Standing.{IsRecord}
 use Rattle.capnp_values.specs.declared.dynamic_struct.Reader.{Reader as DynamicStruct}
-use Rattle.capnp_calls.specs.Texts.{as_it_is}
+use Rattle.capnp_model.specs.Printing.{as_it_is}
 
 -- At a struct that is read, the reply is that of the record machine at the struct's record.
 abbrev pub RepliesTo : {A : Type 0} → (A → List (List ℕ)) → DynamicStruct A → Call → Reply → Type 0

@@ -9,7 +9,7 @@ ghost use Rattle.capnp_queries.specs.Structs.{schema_around, shape_of_struct};
 ghost use Rattle.capnp_call_messages.specs.Messages.{tree_of_message};
 ghost use Rattle.capnp_calls.specs.CallViews.{slot_value_view, action_view};
 ghost use Rattle.capnp_calls.specs.Replies.{reply_view};
-ghost use Rattle.capnp_calls.specs.Texts.{as_it_is};
+ghost use Rattle.capnp_model.specs.Printing.{as_it_is};
 ghost use Rattle.capnp_replies.specs.Writes.{is_get};
 
 use crate::faults::group_fault;

@@ -16,7 +16,7 @@ use Rattle.capnp_copy.specs.Structs.{struct_at}
 use Rattle.capnp_copy.specs.declared.fields.StructPlace.{StructPlace}
 use Rattle.capnp_queries.specs.Structs.{schema_around, id_of}
 use Rattle.capnp_queries.specs.declared.structs.StructSchema.{StructSchema}
-use Rattle.capnp_calls.specs.Texts.{as_it_is}
+use Rattle.capnp_model.specs.Printing.{as_it_is}
 use Rattle.capnp_calls.specs.LongLists.{PutsLong}
 use Rattle.capnp_run.specs.declared.fault.RunFault.{RunFault}
 use Rattle.capnp_run.specs.declared.fault.RunFault.TheVariants as faults

@@ -9,7 +9,7 @@ use Rattle.capnp_model.specs.Edits.{Cell, edit_named, edit_field, in_struct, if_
 use Rattle.capnp_model.specs.Answers.{Reply, reply_done, text_reply, reply_of}
 use Rattle.capnp_queries.specs.Structs.{schema_around, id_of, shape_of_struct}
 use Rattle.capnp_queries.specs.declared.structs.StructSchema.{StructSchema}
-use Rattle.capnp_calls.specs.Texts.{as_it_is}
+use Rattle.capnp_model.specs.Printing.{as_it_is}
 use Rattle.capnp_calls.specs.Sizes.{IsDone}
 use Rattle.capnp_calls.specs.Paths.{shape_outcome, shape_edit}
 use Rattle.capnp_widening.proofs.lemmas.GotStructs.{padded_enough}

@@ -21,7 +21,7 @@ use Rattle.capnp_dynamic.specs.Edits.{IsWide}
 use Rattle.capnp_calls.specs.declared.reply.Reply.{Reply as Own}
 use Rattle.capnp_calls.specs.declared.reply.Reply.TheVariants as reply
 use Rattle.capnp_values.specs.Standing.{IsRecord}
-use Rattle.capnp_calls.specs.Texts.{as_it_is}
+use Rattle.capnp_model.specs.Printing.{as_it_is}
 use Rattle.capnp_calls.specs.Replies.{reply_view}
 use Rattle.capnp_calls.specs.LongLists.{content_put}
 use Rattle.capnp_calls.specs.Sizes.{IsDone, content_len}

@@ -16,7 +16,7 @@ use Rattle.capnp_copy.specs.declared.fields.StructPlace.{StructPlace}
 use Rattle.capnp_queries.specs.Structs.{schema_around, shape_of_struct, id_of}
 use Rattle.capnp_queries.specs.declared.structs.StructSchema.{StructSchema}
 use Rattle.capnp_calls.specs.LongLists.{PutsLong, LongInTurn}
-use Rattle.capnp_calls.specs.Texts.{as_it_is}
+use Rattle.capnp_model.specs.Printing.{as_it_is}
 use Rattle.capnp_calls.specs.Roots.{record_at}
 
 -- A call has the reply of the record machine at the record of the struct, and its edit.

@@ -17,7 +17,7 @@ ghost use Rattle.capnp_calls.specs.Replies.{reply_view};
 ghost use Rattle.capnp_calls.specs.LongLists.{content_put};
 ghost use Rattle.capnp_calls.specs.Sizes.{content_len};
 ghost use Rattle.capnp_calls.specs.Roots.{IsRoot};
-ghost use Rattle.capnp_calls.specs.Texts.{as_it_is};
+ghost use Rattle.capnp_model.specs.Printing.{as_it_is};
 ghost use Rattle.capnp_ways.specs.Ways.{IsWay, AreWays};
 ghost use Rattle.capnp_run.specs.declared.fault.RunFault.{RunFault};
 ghost use Rattle.capnp_run.specs.Runs.{TestsAt, AnswersAt, PutsLongAt, RunsAt, EndsLongAt};

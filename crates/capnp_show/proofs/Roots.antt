@@ -10,7 +10,7 @@ use Rattle.capnp_model.specs.Trees.{Tree, null, capability, structure, plain_lis
 use Rattle.capnp_model.specs.Traversal.{tree_at}
 use Rattle.capnp_model.specs.Schemas.{struct, Schema}
 use Rattle.capnp_model.specs.Readings.{Reading, fault, record_as, record_of, read}
-use Rattle.capnp_model.specs.Printing.{Style, on_one_line, print, nulls_as, as_group, record_text}
+use Rattle.capnp_model.specs.Printing.{Style, on_one_line, print, nulls_as, as_group, record_text, as_it_is}
 use Rattle.capnp_model.proofs.lemmas.Chaining.{bind_found, bind_ok, ok_is}
 use Rattle.capnp_units.specs.Errors.{kind_of}
 use Rattle.capnp_units.specs.Segments.{words_in}
@@ -26,7 +26,6 @@ use Rattle.capnp_queries.specs.declared.structs.StructSchema.{StructSchema}
 use Rattle.capnp_values.specs.Shown.{Shown, a_struct, opened}
 use Rattle.capnp_values.specs.Standing.{Leads, IsRecord, or_empty, IsReading, Answers, PointersAreRead}
 use Rattle.capnp_values.specs.Records.{ValuesOfRecords}
-use Rattle.capnp_print.specs.Texts.{as_it_is}
 use Rattle.capnp_print.specs.Printed.{shown_text}
 use Rattle.capnp_print.specs.Answers.{IsTextOf, IsRefused, Prints}
 use Rattle.capnp_print.specs.Models.{TextsAreModels}

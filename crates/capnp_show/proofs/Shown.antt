@@ -14,7 +14,7 @@ use Rattle.capnp_model.proofs.lemmas.Chaining.{bind_some, provided_some}
 use Rattle.capnp_message.specs.declared.options.ReaderOptions.{ReaderOptions}
 use Rattle.capnp_queries.specs.Structs.{schema_around, id_of}
 use Rattle.capnp_queries.specs.declared.structs.StructSchema.{StructSchema}
-use Rattle.capnp_print.specs.Texts.{as_it_is}
+use Rattle.capnp_model.specs.Printing.{as_it_is}
 use Rattle.capnp_show.specs.Showing.{NotShown, not_framed, no_value, no_struct, no_text, first_message, value_shown, message_shown}
 use Rattle.capnp_show.specs.Copied.{value_to, IsCopy, IsNoCopy}
 use Rattle.capnp_show.specs.Printed.{root_shown, HasRoot, NoTextOf}

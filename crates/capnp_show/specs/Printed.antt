@@ -6,7 +6,7 @@ use Rattle.capnp_model.specs.Trees.{Tree}
 use Rattle.capnp_model.specs.Traversal.{tree_at}
 use Rattle.capnp_queries.specs.Structs.{schema_around, id_of}
 use Rattle.capnp_queries.specs.declared.structs.StructSchema.{StructSchema}
-use Rattle.capnp_print.specs.Texts.{as_it_is}
+use Rattle.capnp_model.specs.Printing.{as_it_is}
 use Rattle.capnp_show.specs.Showing.{NotShown, no_struct, no_text, record_shown}
 use Rattle.capnp_show.specs.declared.show.ShowFault.{ShowFault}
 use Rattle.capnp_show.specs.declared.show.ShowFault.TheVariants as fault

@@ -6,15 +6,16 @@ use Rattle.std.proofs.lemmas.List.{drop-drop, length-map}
 use Rattle.std.proofs.lemmas.Option.{slice_get-map, slice_get_past}
 use Rattle.std.specs.declared.option.Option.{Option}
 use Rattle.capnp_units.specs.Segments.{whole_words, words_in}
-use Rattle.capnp_model.specs.Bytes.{words_in_bytes}
+use Rattle.capnp_model.specs.Bytes.{words_in_bytes, AreBytes}
 use Rattle.capnp_model.specs.Messages.{halves, cut, within}
 use Rattle.capnp_model.specs.Spelling.{CanSpell}
 use Rattle.capnp_model.proofs.lemmas.WordsInBytes.{words_in_bytes-length}
-use Rattle.capnp_stream.specs.Ranges.{AreBytes, ranges_from}
+use Rattle.capnp_stream.specs.Ranges.{ranges_from}
 use Rattle.capnp_stream.specs.Flat.{table_lengths, table_bytes, message_bytes, frame_segments, Describes}
 use Rattle.capnp_stream.specs.Writing.{AreWritable}
 use Rattle.capnp_stream.specs.declared.flat.NoAllocSegmentTableInfo.{NoAllocSegmentTableInfo}
-use Rattle.capnp_stream.proofs.lemmas.WordLemmas.{AreBytes-drop, sum-cons, cut-of_joined, writable-joined}
+use Rattle.capnp_model.proofs.lemmas.ByteLists.{bytes_behind}
+use Rattle.capnp_stream.proofs.lemmas.WordLemmas.{sum-cons, cut-of_joined, writable-joined}
 use Rattle.capnp_stream.proofs.SpellLemmas.{lengths-cut, CanSpell-of_cut}
 use Rattle.capnp_stream.proofs.FlatLemmas.{table-holds}
 use Rattle.capnp_stream.proofs.TableLemmas.{table-short}
@@ -116,7 +117,7 @@ module _ (info : NoAllocSegmentTableInfo) (bytes : List ℕ) (d : Describes info
     unfolding lengths behind
     described-spells limit kept =
         subst (CanSpell limit) (sym parts)
-        (CanSpell-of_cut limit lengths behind (omega (arith, count, d.count)) (omega (arith, count, d.few)) (table-short info.segments_count bytes small) kept (AreBytes-drop (table_bytes info.segments_count) bytes small))
+        (CanSpell-of_cut limit lengths behind (omega (arith, count, d.count)) (omega (arith, count, d.few)) (table-short info.segments_count bytes small) kept (bytes_behind (table_bytes info.segments_count) bytes small))
 
     pub described-writable : AreWritable (frame_segments info.segments_count bytes)
     unfolding lengths behind

@@ -9,15 +9,16 @@ use Rattle.capnp_units.specs.Segments.{whole_words, words_in}
 use Rattle.capnp_model.specs.Kinds as kinds
 use Rattle.capnp_model.specs.Kinds.{Kind}
 use Rattle.capnp_model.specs.Segments.{Segments}
-use Rattle.capnp_model.specs.Bytes.{words_in_bytes, taken}
+use Rattle.capnp_model.specs.Bytes.{words_in_bytes, taken, AreBytes}
 use Rattle.capnp_model.specs.Messages.{within, plain_words, flat_words, halves, cut, behind_lengths, behind_first, message_by, flat_at}
 use Rattle.capnp_model.proofs.lemmas.Chaining.{ok_then, guard_then}
 use Rattle.capnp_model.proofs.lemmas.WordsInBytes.{words_in_bytes-length}
-use Rattle.capnp_stream.specs.Ranges.{AreBytes, ranges_from, bytes_at}
+use Rattle.capnp_stream.specs.Ranges.{ranges_from, bytes_at}
 use Rattle.capnp_stream.specs.Flat.{table_lengths, table_bytes, frame_segments, Describes}
 use Rattle.capnp_stream.specs.declared.flat.NoAllocSegmentTableInfo.{NoAllocSegmentTableInfo}
 use Rattle.capnp_stream.proofs.lemmas.PieceLemmas.{err_then, guard_err, plain_short}
-use Rattle.capnp_stream.proofs.lemmas.WordLemmas.{AreBytes-drop, from_le_bytes-take, words_in_bytes-take, whole_words-step, segments-of_ranges, sum-snoc, whole_words-of_length}
+use Rattle.capnp_model.proofs.lemmas.ByteLists.{bytes_behind}
+use Rattle.capnp_stream.proofs.lemmas.WordLemmas.{from_le_bytes-take, words_in_bytes-take, whole_words-step, segments-of_ranges, sum-snoc, whole_words-of_length}
 
 -- ---- the halves of a table's words
 
@@ -101,7 +102,7 @@ length-by zero bytes id even small fits =
     let is : word ≡ f (drop at bytes) = from_le_bytes-take 8 (drop (8 * ((id + 1) / 2)) bytes) (omega arith) (omega (arith, length-drop (8 * ((id + 1) / 2)) bytes)) ∙ ap (λ (k : ℕ). f (drop k bytes)) there in
     let b : (k m : ℕ) → at + k ≡ m → get_or (drop at bytes) k 0 ≡ get_or bytes m 0 = λ k m e. get_or-drop at bytes k 0 ∙ ap (λ j. get_or bytes j 0) e in
     let half = even-length bytes id word even fits refl in
-    let first = AreBytes-drop at bytes small in
+    let first = bytes_behind at bytes small in
     omega (arith, half, is, b 4 (at + 4) refl, b 5 (at + 4 + 1) (omega arith), b 6 (at + 4 + 2) (omega arith), b 7 (at + 4 + 3) (omega arith), first 0, first 1, first 2, first 3)
 length-by (suc r) bytes id odd small fits =
     let at = 4 * id + 4 in
@@ -111,7 +112,7 @@ length-by (suc r) bytes id odd small fits =
     let is : word ≡ f (drop at bytes) = from_le_bytes-take 8 (drop (8 * ((id + 1) / 2)) bytes) (omega arith) (omega (arith, length-drop (8 * ((id + 1) / 2)) bytes)) ∙ ap (λ (k : ℕ). f (drop k bytes)) there in
     let b : (k m : ℕ) → at + k ≡ m → get_or (drop at bytes) k 0 ≡ get_or bytes m 0 = λ k m e. get_or-drop at bytes k 0 ∙ ap (λ j. get_or bytes j 0) e in
     let half = odd-length bytes id word (omega (arith, odd)) fits refl in
-    let first = AreBytes-drop at bytes small in
+    let first = bytes_behind at bytes small in
     omega (arith, half, is, b 0 at (omega arith), b 1 (at + 1) refl, b 2 (at + 2) refl, b 3 (at + 3) refl, first 0, first 1, first 2, first 3)
 
 pub length-at : (bytes : List ℕ) (id : ℕ) → AreBytes bytes → table_bytes (id + 1) ≤ length bytes

@@ -4,3 +4,4 @@ mod FlatLemmas
 mod TableLemmas
 mod ReadLemmas
 mod BufferLemmas
+mod RefusalLemmas

@@ -6,13 +6,16 @@ use Rattle.std.specs.Io.KnownBytes.{Keeps, IsAtEnd}
 use Rattle.std.proofs.KnownBytes.{Keeps-trans, Consumes-kept}
 use Rattle.capnp_units.specs.declared.errors.Error.{Error}
 use Rattle.capnp_units.specs.declared.kinds.ErrorKind.{ErrorKind}
-use Rattle.capnp_units.specs.declared.kinds.ErrorKind.TheVariants.{OutOfMemory, PrematureEndOfFile, Device}
+use Rattle.capnp_units.specs.declared.kinds.ErrorKind.TheVariants.{OutOfMemory, BufferNotLargeEnough, PrematureEndOfFile, Device}
+use Rattle.capnp_units.specs.Segments.{words_in}
 use Rattle.capnp_model.specs.Messages.{Reader}
 use Rattle.capnp_io.specs.Counting.{KindCounts}
 use Rattle.capnp_stream.specs.Pieces.{ReadsFronts}
-use Rattle.capnp_stream.specs.Frames.{IsFrameFault, TakesStart, TakesWholePieces, TakesTable, IsFramingKind, IsReadKind, IsCut}
+use Rattle.capnp_stream.specs.Frames.{IsFrameFault, TakesMessage, TakesStart, TakesWholePieces, TakesTable, IsFramingKind, IsReadKind, IsCut}
 use Rattle.capnp_stream.specs.Reading.{TriesReading, ReadsMessage}
-use Rattle.capnp_stream.specs.Lent.{IsFillKind, HasLonger}
+use Rattle.capnp_stream.specs.Lent.{IsFillKind, NeedsMore, HasLonger}
+use Rattle.capnp_stream.specs.Buffers.{found_segments}
+use Rattle.capnp_stream.specs.declared.buffers.NoAllocBufferSegments.{NoAllocBufferSegments}
 use Rattle.capnp_stream.specs.Filling.{TriesFilling, FillsMessage}
 use Rattle.capnp_stream.specs.Flat.{table_bytes}
 use Rattle.capnp_stream.specs.Kept.{WantsForLonger}
@@ -199,7 +202,89 @@ module _ {T : Type 0} {g : Ghosts T ℕ} (read : Reader) (fronts : ReadsFronts r
     count = let same : KindCounts PrematureEndOfFile m n = count in subst (λ k. KindCounts k m n) (sym end) same;
   }
 
+-- some byte was left
+module _ {T : Type 0} {g : Ghosts T ℕ} (read : Reader) (faults : ErrorKind → Type 0) (limit : Option ℕ) (size : ℕ) (a b c : Option (List ℕ)) (l m n : ℕ)
+    (kept : Keeps a b) (same : m ≡ l) (look : Bool) (at : IfSome a (λ xs. IsTrue look ↔ (xs ≡ []))) (unseen : look ≡ false) where
+  -- the message was refused
+  module _ (e : Error) (refused : IsFramingKind e.kind → IfSome b (λ xs. IsFrameFault read limit xs e.kind)) (short : e.kind ≡ BufferNotLargeEnough → IfSome b (NeedsMore read limit size))
+      (kind : IsFillKind faults e.kind) (part : TakesStart read limit b c) (room : e.kind ≡ BufferNotLargeEnough → TakesWholePieces read limit b c) (count : KindCounts e.kind m n) where
+    pub tries-filling-refused : TriesFilling {T = T} {g = g} read faults limit size (record { remaining = a; failures = l }) (Err e) (record { remaining = c; failures = n })
+    tries-filling-refused = record {
+      message = tt;
+      none = tt;
+      refused = λ framing. fault-of_kept read limit a b e.kind look at unseen kept (refused framing);
+      short = λ w. IfSome-of_kept a b (NeedsMore read limit size) kept (short w);
+      begun = λ w. some-seen a look at unseen;
+      kind = kind;
+      part = TakesStart-of_kept read limit a b c kept part;
+      room = λ w. pieces-of_kept read limit a b c kept (room w);
+      count = subst (λ k. KindCounts e.kind k n) same count;
+    }
+
+    pub fills-refused : FillsMessage {T = T} {g = g} read faults limit size (record { remaining = a; failures = l }) (Err e) (record { remaining = c; failures = n })
+    fills-refused = record {
+      message = tt;
+      no_byte = λ end. let no : IsFillKind faults PrematureEndOfFile = subst (IsFillKind faults) end kind in absurd no;
+      refused = λ framing. fault-of_kept read limit a b e.kind look at unseen kept (refused framing);
+      short = λ w. IfSome-of_kept a b (NeedsMore read limit size) kept (short w);
+      begun = λ w. some-seen a look at unseen;
+      kind = λ _. kind;
+      part = TakesStart-of_kept read limit a b c kept part;
+      room = λ w. pieces-of_kept read limit a b c kept (room w);
+      count = subst (λ k. KindCounts e.kind k n) same count;
+    }
+
+  -- it was read, and has these segments
+  module _ (s : NoAllocBufferSegments T g) (segments : List (List ℕ)) (is : found_segments s ≡ segments) (taken : TakesMessage read limit b c (words_in segments)) (count : n ≡ m) where
+    found : TakesMessage read limit a c (words_in (found_segments s))
+    found =
+        let Of : List (List ℕ) → Type 0 = λ l. TakesMessage read limit a c (words_in l) in
+        subst Of (sym is) (TakesMessage-of_kept read limit a b c (words_in segments) kept taken)
+
+    pub tries-filling-read : TriesFilling {T = T} {g = g} read faults limit size (record { remaining = a; failures = l }) (Ok (Some s)) (record { remaining = c; failures = n })
+    tries-filling-read = record {
+      message = found;
+      none = tt;
+      refused = tt;
+      short = tt;
+      begun = tt;
+      kind = tt;
+      part = tt;
+      room = tt;
+      count = count ∙ same;
+    }
+
 -- a look that finds no byte
 pub at-end : (a : Option (List ℕ)) (look : Bool) → IfSome a (λ xs. IsTrue look ↔ (xs ≡ [])) → look ≡ true → IsAtEnd a
 at-end None look at seen = tt
 at-end (Some x) look at seen = at.0 seen
+
+-- no byte was left, which is no refusal
+module _ (read : Reader) (faults : ErrorKind → Type 0) (limit : Option ℕ) (a b : Option (List ℕ)) (m n : ℕ) (end : IsAtEnd a) (kept : Keeps a b) (count : n ≡ m) where
+  pub tries-none : {M : Type 0} {bytes : M → List (List ℕ)} {Holds : M → Type 0} → TriesReading {M = M} bytes Holds read faults limit (record { remaining = a; failures = m }) (Ok None) (record { remaining = b; failures = n })
+  tries-none = record {
+    message = tt;
+    kept = tt;
+    joined = tt;
+    writable = tt;
+    none = (end, kept);
+    refused = tt;
+    kind = tt;
+    part = tt;
+    wanted = tt;
+    begun = tt;
+    count = count;
+  }
+
+  pub tries-filling-none : {T : Type 0} {g : Ghosts T ℕ} (size : ℕ) → TriesFilling {T = T} {g = g} read faults limit size (record { remaining = a; failures = m }) (Ok None) (record { remaining = b; failures = n })
+  tries-filling-none size = record {
+    message = tt;
+    none = (end, kept);
+    refused = tt;
+    short = tt;
+    begun = tt;
+    kind = tt;
+    part = tt;
+    room = tt;
+    count = count;
+  }

@@ -3,18 +3,19 @@ use Rattle.std.proofs.Common.{◌≡◌, ℕ, zero, suc, ◌*◌, ◌^◌, ◌�
 use Rattle.std.specs.List.{AllByRecursion}
 use Rattle.std.specs.Int.{from_le_bytes, w64}
 use Rattle.std.specs.declared.option.Option.{Option}
-use Rattle.capnp_model.specs.Bytes.{words_in_bytes}
+use Rattle.capnp_model.specs.Bytes.{words_in_bytes, AreBytes}
 use Rattle.capnp_model.specs.Messages.{cut, within, halves}
 use Rattle.capnp_model.specs.Spelling.{AreWords, AreShort, CanSpell}
 use Rattle.capnp_model.proofs.lemmas.WordsInBytes.{words_in_bytes-length, AreWords-take, AreWords-drop}
-use Rattle.capnp_stream.proofs.lemmas.WordLemmas.{AreBytes, AreBytes-drop, sum-cons}
+use Rattle.capnp_model.proofs.lemmas.ByteLists.{bytes_behind}
+use Rattle.capnp_stream.proofs.lemmas.WordLemmas.{sum-cons}
 
 word-bound : (bytes : List ℕ) → AreBytes bytes → from_le_bytes w64 bytes < 2 ^ 64
 word-bound bytes small = omega (arith, small 0, small 1, small 2, small 3, small 4, small 5, small 6, small 7)
 
 pub words-are : (n : ℕ) (bytes : List ℕ) → AreBytes bytes → AreWords (words_in_bytes n bytes)
 words-are zero bytes small = tt
-words-are (suc n) bytes small = (word-bound bytes small, words-are n (drop 8 bytes) (AreBytes-drop 8 bytes small))
+words-are (suc n) bytes small = (word-bound bytes small, words-are n (drop 8 bytes) (bytes_behind 8 bytes small))
 
 cut-are : (ns ws : List ℕ) → AreWords ws → AllByRecursion AreWords (cut ns ws)
 cut-are [] ws h = tt

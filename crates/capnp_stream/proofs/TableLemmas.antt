@@ -7,7 +7,7 @@ use Rattle.capnp_units.specs.Segments.{whole_words}
 use Rattle.capnp_model.specs.Messages.{Reader, halves}
 use Rattle.capnp_model.specs.Spelling.{AreShort}
 use Rattle.capnp_model.proofs.lemmas.WordsInBytes.{words_in_bytes-length}
-use Rattle.capnp_stream.specs.Ranges.{AreBytes}
+use Rattle.capnp_model.specs.Bytes.{AreBytes}
 use Rattle.capnp_stream.specs.Pieces.{ReadsFronts, TakesPiece, TakesPieceStart, IsPieceFault, IsPieceKind}
 use Rattle.capnp_stream.specs.Frames.{IsFrameFault, TakesStart, TakesTable, IsFramingKind, IsReadKind, IsCut}
 use Rattle.capnp_stream.specs.Flat.{table_lengths, table_bytes}
@@ -69,6 +69,23 @@ module _ (read : Reader) (fronts : ReadsFronts read) (limit : Option ℕ) (n : �
         ∙ ap (λ (k : ℕ). take (m + 1) (word / 2 ^ 32 ∷ halves (whole_words (take (8 * k) behind)))) (sym half) in
         let count : length others ≡ (m + 1) / 2 = words_in_bytes-length (length (take (8 * (n / 2)) behind) / 8) (take (8 * (n / 2)) behind) ∙ omega (arith, length-take-le (8 * (n / 2)) behind room, half) in
         TakesTable-of_lengths read fronts limit a c _ _ lengths (table-of_pieces read fronts limit word a b first below c others count second)
+
+-- a buffer whose first word stayed counts as many segments
+pub word-kept : (old new : List ℕ) → length new ≡ length old → 8 ≤ length old → take 8 new ≡ take 8 old → from_le_bytes w64 new ≡ from_le_bytes w64 old
+word-kept old new same there kept =
+    let f : List ℕ → ℕ = from_le_bytes w64 in
+    sym (from_le_bytes-take 8 new (omega arith) (omega (arith, same, there))) ∙ ap f kept ∙ from_le_bytes-take 8 old (omega arith) there
+
+-- the count of a first word that isn't too large
+pub few-segments : (word : ℕ) → word % 2 ^ 32 + 1 < 512 → (0 < word % 2 ^ 32 + 1) × (word % 2 ^ 32 + 1 ≤ 511)
+few-segments word below = (omega arith, omega (arith, below))
+
+-- each table has a word, and room in a buffer for the longest
+pub any-front : (n : ℕ) → 8 ≤ table_bytes n
+any-front n = omega arith
+
+pub any-room : (n size : ℕ) → n ≤ 511 → 2048 ≤ size → table_bytes n ≤ size
+any-room n size few there = omega (arith, few, there)
 
 -- the lengths of a table are numbers of half a word
 pub table-short : (n : ℕ) (bytes : List ℕ) → AreBytes bytes → AreShort (table_lengths n bytes)

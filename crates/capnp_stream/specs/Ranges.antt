@@ -1,10 +1,6 @@
 -- Where segments lie in a buffer. (Encoding, "Serialization Over a Stream")
 use Rattle.std.specs.Prelude.{ℕ, ◌<◌, ◌+◌, ◌-◌, ◌*◌, List, [], ◌∷◌, map, slice_index, slice_range}
 
--- Numbers that a byte holds.
-abbrev pub AreBytes : List ℕ → Type 0
-AreBytes bytes = (i : ℕ) → slice_index bytes i < 256
-
 -- Where segments of these lengths lie, one after the other from a word on.
 abbrev pub ranges_from : ℕ → List ℕ → List (ℕ × ℕ)
 ranges_from at [] = []

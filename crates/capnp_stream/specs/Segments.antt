@@ -1,7 +1,6 @@
 -- What a clause reads of the segments of a message. (Encoding, "Serialization Over a Stream")
 use Rattle.std.specs.Prelude.{ℕ, List, vec_capacity}
 pub use Rattle.capnp_units.specs.Segments.{whole_words, words_in}
-pub use Rattle.capnp_stream.specs.Ranges.{AreBytes}
 use Rattle.capnp_model.specs.Segments.{Segments}
 use Rattle.capnp_stream.specs.Ranges.{range_lengths, bytes_at}
 use Rattle.capnp_stream.specs.declared.segments.SegmentLengthsBuilder.{SegmentLengthsBuilder}

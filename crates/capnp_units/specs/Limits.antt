@@ -23,6 +23,11 @@ left_of l = less l.limit l.granted
 abbrev pub followed_of : ReadLimiter → ℕ
 followed_of l = l.followed
 
+-- A count of words from none on, under no limit.
+pub record IsFree (start : ReadLimiter) : Type 0 where
+  pub endless : limit_of start ≡ None
+  pub unused : granted_of start ≡ 0
+
 -- So many words may be granted where this many are left.
 abbrev pub Allows : Option ℕ → ℕ → Type 0
 Allows None words = ⊤

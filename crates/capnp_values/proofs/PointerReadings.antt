@@ -32,6 +32,7 @@ use Rattle.capnp_wire.specs.Laws.{bytes_read, reads_behind, ShowsStruct, ShowsLi
 use Rattle.capnp_values.specs.Shown.{a_text, a_blob, a_struct, a_list, opened}
 use Rattle.capnp_values.specs.ListSizes.{size_of}
 use Rattle.capnp_values.specs.Standing.{Leads, IsRecord, AreItems, or_empty, Answers, PointersAreRead}
+use Rattle.capnp_values.proofs.lemmas.AskedSizes.{size_asked}
 
 -- ---- objects that are there
 
@@ -218,24 +219,6 @@ list_left g l expected (object.List p size n) v e = elements_left g l expected _
 list_left g l expected (object.PointerList p n) v e = elements_left g l expected _ Pointer 0 0 v (λ x. refl) (λ x. refl) e
 list_left g l expected (object.StructList p w n d k) v e = elements_left g l expected _ InlineComposite d k v (λ x. refl) (λ x. refl) e
 list_left g l expected (object.Capability i) v e = absurd cc
-
--- lists are asked for with the size that they are written with
-size_asked : (ty : Ty) → size_number (size_of ty) ≡ expected_size ty
-size_asked void = refl
-size_asked (plain p) = by (width p == 1) (width p == 8) (width p == 16) (width p == 32)
-  where
-    by : (a b c d : Bool) → size_number (if a then Bit else (if b then Byte else (if c then TwoBytes else (if d then FourBytes else EightBytes)))) ≡ (if a then 1 else (if b then 2 else (if c then 3 else (if d then 4 else 5))))
-    by true b c d = refl
-    by false true c d = refl
-    by false false true d = refl
-    by false false false true = refl
-    by false false false false = refl
-size_asked text = refl
-size_asked blob = refl
-size_asked untyped = refl
-size_asked interface = refl
-size_asked (struct id) = refl
-size_asked (list ty) = refl
 
 -- a list that was read is one for the model
 abbrev IsListOf : Schema → Ty → Tree → Type 0

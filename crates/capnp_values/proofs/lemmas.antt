@@ -7,3 +7,4 @@ pub mod PlainDefaults
 pub mod Presence
 pub mod RecordReadings
 pub mod Unlimited
+pub mod AskedSizes

@@ -41,6 +41,7 @@ use Rattle.capnp_widening.proofs.FilledLists.{struct_words, struct_pointers, str
 use Rattle.capnp_widening.proofs.SpreadPointers.{one_pointer}
 use Rattle.capnp_widening.proofs.lemmas.CopiedNumbers.{plain_shape, one_data_word}
 use Rattle.capnp_widening.proofs.KnownLists.{Known, plain_known, pointers_known, structs_known, known_trees}
+use Rattle.capnp_copy.proofs.lemmas.Making.{null_found}
 
 -- ---- elements that are padded
 
@@ -187,10 +188,6 @@ refused_list s slot old d k d' k' e there some narrow ed ek r =
     let r1 = subst (λ (x : ℕ). GrowthRefused s (words_wanted old x k') e) ed r in
     let r2 = subst (λ (x : ℕ). GrowthRefused s (words_wanted old (max d (least_words old)) x) e) ek r1 in
     subst (λ (x : Result ListPlace Kind). ListRefused s (place_view slot) x d k e) (sym there) (some, narrow, r2)
-
--- a null pointer leads to nothing
-null_found : (s : Segments) (p : Place) → word_at s p ≡ Some 0 → LeadsTo s p nothing
-null_found s p e = (0, rw e refl)
 
 -- the list of a null pointer is one of structs, and empty
 null_in : (s : Segments) (slot : code.Place) (o : ListPlace) (f : Found) → object_at s (place_view slot) ≡ Ok f → list_in slot InlineComposite f.object ≡ Ok o → word_at s (place_view slot) ≡ Some 0 → (o.size ≡ InlineComposite) × (o.count ≡ 0)

@@ -1,10 +1,11 @@
 -- Numbers in sections of bytes.
-use Rattle.std.proofs.Common.{◌≡◌, ℕ, suc, ◌+◌, ◌-◌, ◌*◌, ◌/◌, ◌%◌, ◌^◌, ◌<◌, List, ◌∷◌, length, get_or, take, drop, ap, sym, ◌∙◌, arith, drop-cons}
+use Rattle.std.proofs.Common.{◌≡◌, ℕ, suc, ◌+◌, ◌-◌, ◌*◌, ◌/◌, ◌%◌, ◌^◌, ◌<◌, nat_le, if◌then◌else◌, Bool, true, false, bit_xor, List, ◌∷◌, length, get_or, take, drop, ap, sym, ◌∙◌, arith, drop-cons}
 use Rattle.std.proofs.lemmas.List.{take_all, length-drop}
 use Rattle.std.proofs.lemmas.Nat.{pow_pos}
 use Rattle.std.proofs.Math.Nat.{mod-lt, mod-eq_of_lt}
 use lib.Pow as pow
 use Rattle.capnp_model.specs.Sections.{bits_at, number_of}
+use Rattle.capnp_model.specs.Readings.{field_bits, just_bits}
 use Rattle.capnp_wire.proofs.lemmas.Bytes.{number_of-drop}
 use Rattle.capnp_wire.proofs.Elements.{bits_of_low}
 
@@ -36,3 +37,18 @@ bit_is i bytes h =
 -- the number at the front of what is behind
 pub front_bits : (n at width : ℕ) → bits_at 0 width (n / 2 ^ at) ≡ bits_at at width n
 front_bits n at width = let one : n / 2 ^ at / 2 ^ 0 ≡ n / 2 ^ at = omega arith in ap (λ (m : ℕ). m % 2 ^ width) one
+
+-- ---- masks
+
+field_small : (all section at w : ℕ) → field_bits (just_bits all) section at w < 2 ^ w
+field_small all section at w = by (nat_le (at + w) all)
+  where
+    by : (b : Bool) → (if b then bits_at at w section else 0) < 2 ^ w
+    by true = mod-lt (section / 2 ^ at) (pow_pos w)
+    by false = pow_pos w
+
+-- The bits of a field that is read are those of the section, so that a mask is laid over those.
+pub field_masked : {T : Type 0} (bits : T → ℕ) (from : ℕ → T) (w at all section m : ℕ) (field r : T) → ((n : ℕ) → n < 2 ^ w → bits (from n) ≡ n) → field ≡ from (field_bits (just_bits all) section at w)
+    → r ≡ from (bit_xor (bits field) m) → r ≡ from (bit_xor (field_bits (just_bits all) section at w) m)
+field_masked {T = T} bits from w at all section m field r same is_field is =
+    is ∙ ap (λ (x : T). from (bit_xor (bits x) m)) is_field ∙ ap (λ (n : ℕ). from (bit_xor n m)) (same _ (field_small all section at w))

@@ -1,17 +1,29 @@
 -- What gets of pointers answer.
 use Rattle.std.proofs.Common.{◌≡◌, ℕ, ◌&&◌, not, Bool, true, false, eqb, Option, Some, None, Result, Ok, Err, refl, ap, sym, ◌∙◌, subst, inl, inr}
+use Rattle.std.specs.Option.{option_eq}
 use Rattle.std.proofs.lemmas.Bool.{eqb-true}
-use Rattle.capnp_model.specs.Chains.{passes}
+use Rattle.capnp_model.specs.Kinds.{Kind}
+use Rattle.capnp_model.specs.Chains.{◌and_then◌, passes}
 use Rattle.capnp_model.specs.Segments.{Segments, Place, word_at}
 use Rattle.capnp_units.specs.declared.errors.Error.{Error}
 use Rattle.capnp_units.specs.declared.limiter.ReadLimiter.{ReadLimiter}
+use Rattle.capnp_object.specs.declared.place.Place as wire
 use Rattle.capnp_object.specs.declared.object.Object.{Object}
 use Rattle.capnp_object.specs.declared.object.Object.TheVariants as object
 use Rattle.capnp_object.specs.declared.object.Found.{Found}
+use Rattle.capnp_object.specs.Places.{seen, place_view}
 use Rattle.capnp_object.specs.Objects.{object_at}
 use Rattle.capnp_object.specs.Follow.{FollowGives, found_cost}
-use Rattle.capnp_wire.specs.Views.{PointerView}
+use Rattle.capnp_wire.specs.Views.{PointerView, place_seen}
 use Rattle.capnp_wire.specs.Reads.{is_null_at, is_null, found_behind, object_behind, is_charged, PaysFor, PaysNothing, IsTooDear, GetGives}
+
+zero_tested : (w : Option ℕ) → option_eq eqb w (Some 0) ≡ passes (λ n. eqb n 0) w
+zero_tested None = refl
+zero_tested (Some n) = refl
+
+-- Whether a pointer is null is told by whether the word at its place is zero.
+pub null_tested : (s : Segments) (o : Option wire.Place) (p : wire.Place) (w : Option ℕ) (b : Bool) → o ≡ Some p → w ≡ word_at s (place_view p) → b ≡ option_eq eqb w (Some 0) → b ≡ is_null_at s (place_seen o)
+null_tested s o p w b here word told = told ∙ zero_tested w ∙ ap (passes (λ n. eqb n 0)) word ∙ sym (ap (λ (x : Option wire.Place). is_null_at s (place_seen x)) here)
 
 -- What null is found as.
 abbrev pub nothing_found : Found
@@ -65,3 +77,37 @@ module _ (p : PointerView) (q : Place) (here : p.place ≡ Some q) where
   read_freely f l e h =
       let free : is_charged p ≡ false = uncharged_default p.basis.paid (is_null p) e in
       (f, behind ∙ h, subst (λ (b : Bool). PaysFor b l l (found_cost f)) (sym free) refl, refl)
+
+-- ---- what is read of what was given
+
+module _ {X Y W : Type 0} (view : X → W) (read : Object → Result Y Kind) (more : Y → Result W Kind) (p : PointerView) (old new : ReadLimiter) where
+  -- What is answered is read of what was given.
+  pub read_on : (y : Y) (r : Result X Error) → more y ≡ seen view r → GetGives (λ (z : Y). z) read p old (Ok y) new → GetGives view (λ o. read o and_then more) p old r new
+  read_on y (Ok x) e g = (g.0, g.1, g.2, ap (λ (z : Result Y Kind). z and_then more) g.3 ∙ e)
+  read_on y (Err d) e g = inr (inr (g.0, g.1, g.2, ap (λ (z : Result Y Kind). z and_then more) g.3 ∙ e))
+
+  stays : (d : Error) → GetGives (λ (z : Y). z) read p old (Err d) new → GetGives view (λ o. read o and_then more) p old (Err d) new
+  stays d g = elim g [
+    | inl fault ↦ inl fault
+    | inr later ↦ elim later [
+      | inl dear ↦ inr (inl dear)
+      | inr unread ↦ inr (inr (unread.0, unread.1, unread.2, ap (λ (z : Result Y Kind). z and_then more) unread.3))
+    ]
+  ]
+
+  -- A refusal stays.
+  pub refused_on : (d e : Error) (r : Result X Error) → r ≡ Err e → e ≡ d → GetGives (λ (z : Y). z) read p old (Err d) new → GetGives view (λ o. read o and_then more) p old r new
+  refused_on d e r a b g = subst (λ (q : Result X Error). GetGives view (λ o. read o and_then more) p old q new) (sym (a ∙ ap (λ (x : Error). Err x) b)) (stays d g)
+
+module _ {X W : Type 0} (view : X → W) (more : Object → Result W Kind) (p : PointerView) (old new : ReadLimiter) where
+  -- What is answered is read of the object that was reached.
+  pub read_of : (o : Object) (r : Result X Error) → more o ≡ seen view r → GetGives (λ (z : Object). z) (λ z. Ok z) p old (Ok o) new → GetGives view more p old r new
+  read_of o r e g = read_on {Y = Object} view (λ z. Ok z) more p old new o r e g
+
+  -- Where none was reached it is refused alike.
+  pub refused_of : (d e : Error) (r : Result X Error) → r ≡ Err e → e ≡ d → GetGives (λ (z : Object). z) (λ z. Ok z) p old (Err d) new → GetGives view more p old r new
+  refused_of d e r a b g = refused_on {Y = Object} view (λ z. Ok z) more p old new d e r a b g
+
+-- A get of what is read in place of a pointer.
+pub read_instead : {X W : Type 0} (view : X → W) (read : PointerView → Object → Result W Kind) (p q : PointerView) (old new : ReadLimiter) (r : Result X Error) → p ≡ q → GetGives view (read p) p old r new → GetGives view (read q) q old r new
+read_instead view read p q old new r e g = subst (λ (x : PointerView). GetGives view (read x) x old r new) e g

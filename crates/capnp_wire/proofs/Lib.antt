@@ -1,5 +1,8 @@
 pub mod lemmas
 mod Gets
+mod Passing
+mod Objects
+mod Sorts
 mod Elements
 mod Fields
 mod Sizing

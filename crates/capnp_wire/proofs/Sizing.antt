@@ -12,7 +12,7 @@ use Rattle.capnp_units.specs.declared.errors.Error.{Error}
 use Rattle.capnp_units.specs.declared.limiter.ReadLimiter.{ReadLimiter}
 use Rattle.capnp_units.specs.declared.sizes.MessageSize.{MessageSize}
 use Rattle.capnp_units.specs.Limits.{less, limit_of, granted_of, left_of, IsPassed}
-use Rattle.capnp_object.specs.Walks.{Counts, SizeGives}
+use Rattle.capnp_object.specs.Walks.{SizeGives, SizeCounts}
 use Rattle.capnp_object.proofs.lemmas.Walks.{walked_none, first_fault}
 use Rattle.capnp_object.proofs.lemmas.Measuring.{wordless, nothing_counted}
 use Rattle.capnp_wire.specs.Views.{PointerView, StructView}
@@ -44,16 +44,16 @@ null_size p n l e f =
     let s = p.basis.segments in
     value_size p n l l (Ok (wordless 0)) e (subst (λ (o : Option Place). SizeOn p.basis.paid object_words capability_count (tree_behind n s o) (visits_behind n s o) l (Ok (wordless 0)) l) (sym f) (size_nothing p.basis.paid l))
 
-sized_more : {X : Type 0} (paid : Bool) (words caps : X → ℕ) (there : Option X) (path : List Visit) (more : ℕ) (old new : ReadLimiter) (size size' : MessageSize) → ((w c : ℕ) → Counts w c size → Counts (w + more) c size')
+sized_more : {X : Type 0} (paid : Bool) (words caps : X → ℕ) (there : Option X) (path : List Visit) (more : ℕ) (old new : ReadLimiter) (size size' : MessageSize) → ((w c : ℕ) → SizeCounts w c size → SizeCounts (w + more) c size')
     → SizeOn paid words caps there path old (Ok size) new → SizeOn paid (λ x. words x + more) caps there path old (Ok size') new
 sized_more true words caps there path more old new size size' h g = (g.0, g.1, h (words g.0) (caps g.0) g.2, g.3)
 sized_more false words caps there path more old new size size' h g = (g.0, g.1, h (words g.0) (caps g.0) g.2, g.3)
 
-pub struct_size : (v : StructView) (n more : ℕ) (old new : ReadLimiter) (size size' : MessageSize) → v.levels ≡ Some n → more ≡ words_for v.bits + v.pointers → ((w c : ℕ) → Counts w c size → Counts (w + more) c size')
+pub struct_size : (v : StructView) (n more : ℕ) (old new : ReadLimiter) (size size' : MessageSize) → v.levels ≡ Some n → more ≡ words_for v.bits + v.pointers → ((w c : ℕ) → SizeCounts w c size → SizeCounts (w + more) c size')
     → SizeOn v.basis.paid each_object_words each_capability_count (each (tree_at n v.basis.segments) v.first v.pointers) (from_each (visits n v.basis.segments) v.first v.pointers) old (Ok size) new → StructSizeOf v old (Ok size') new
 struct_size v n more old new size size' e m h g =
     let s = v.basis.segments in
-    let count : (w c : ℕ) → Counts w c size → Counts (w + (words_for v.bits + v.pointers)) c size' = λ w c k. subst (λ (x : ℕ). Counts (w + x) c size') m (h w c k) in
+    let count : (w c : ℕ) → SizeCounts w c size → SizeCounts (w + (words_for v.bits + v.pointers)) c size' = λ w c k. subst (λ (x : ℕ). SizeCounts (w + x) c size') m (h w c k) in
     let here = sized_more v.basis.paid each_object_words each_capability_count (each (tree_at n s) v.first v.pointers) (from_each (visits n s) v.first v.pointers) (words_for v.bits + v.pointers) old new size size' count g in
     subst (λ (o : Option ℕ). MatchOption o (NoLevels old (Ok size') new)
     (λ m. SizeOn v.basis.paid (λ ts. each_object_words ts + (words_for v.bits + v.pointers)) each_capability_count (each (tree_at m s) v.first v.pointers) (from_each (visits m s) v.first v.pointers) old (Ok size') new)) (sym e) here

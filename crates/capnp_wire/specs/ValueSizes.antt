@@ -13,13 +13,13 @@ use Rattle.capnp_units.specs.declared.kinds.ErrorKind.TheVariants.{NestingLimitE
 use Rattle.capnp_units.specs.declared.limiter.ReadLimiter.{ReadLimiter}
 use Rattle.capnp_units.specs.declared.sizes.MessageSize.{MessageSize}
 use Rattle.capnp_units.specs.Errors.{kind_of}
-use Rattle.capnp_object.specs.Walks.{Counts, SizeGives}
+use Rattle.capnp_object.specs.Walks.{SizeGives, SizeCounts}
 use Rattle.capnp_wire.specs.Views.{PointerView, StructView}
 
 -- The same where what is followed may cost nothing: then nothing is paid, and a refusal is for the first fault.
 abbrev pub SizeOn : {X : Type 0} → Bool → (X → ℕ) → (X → ℕ) → Option X → List Visit → ReadLimiter → Result MessageSize Error → ReadLimiter → Type 0
 SizeOn true words capabilities there path old r new = SizeGives words capabilities there path old r new
-SizeOn {X = X} false words capabilities there path old (Ok size) new = (x : X) × (there ≡ Some x) × Counts (words x) (capabilities x) size × (new ≡ old)
+SizeOn {X = X} false words capabilities there path old (Ok size) new = (x : X) × (there ≡ Some x) × SizeCounts (words x) (capabilities x) size × (new ≡ old)
 SizeOn false words capabilities there path old (Err e) new = (more : List Kind) × (faults_among path ≡ kind_of e.kind ∷ more) × (new ≡ old)
 
 -- Nothing has levels, so that every value is refused.

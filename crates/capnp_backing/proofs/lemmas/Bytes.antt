@@ -6,7 +6,7 @@ use Rattle.std.proofs.lemmas.Nat.{pow_pos}
 use Rattle.std.proofs.lemmas.List.{drop-drop, length-drop, get_or-drop}
 use Rattle.std.proofs.Math.Nat.{mod-lt, mod-mod}
 use lib.Pow as pow
-use Rattle.capnp_model.specs.Bytes.{words_in_bytes}
+use Rattle.capnp_model.specs.Bytes.{words_in_bytes, AreBytes}
 use Rattle.capnp_model.specs.Sections.{number_of, section_of}
 use Rattle.capnp_model.specs.Segments.{place}
 use Rattle.capnp_units.specs.Segments.{whole_words, words_in}
@@ -15,13 +15,7 @@ use Rattle.capnp_object.specs.Inside.{section_at, section_in}
 use Rattle.capnp_object.proofs.lemmas.Words.{whole_words-length, segment_there}
 use Rattle.capnp_object.proofs.lemmas.Tags.{words_are}
 use Rattle.capnp_model.proofs.lemmas.WordsInBytes.{words_in_bytes-drop, words_in_bytes-take}
-
--- Numbers that a byte holds.
-abbrev pub AreBytes : List ℕ → Type 0
-AreBytes bytes = (i : ℕ) → get_or bytes i 0 < 256
-
-AreBytes-drop : (n : ℕ) (bytes : List ℕ) → AreBytes bytes → AreBytes (drop n bytes)
-AreBytes-drop n bytes small i = rw (get_or-drop n bytes i 0) (small (n + i))
+use Rattle.capnp_model.proofs.lemmas.ByteLists.{bytes_behind}
 
 -- ---- parts of a number
 
@@ -58,7 +52,7 @@ words_are_bits (suc n) bytes long small =
     let all : ℕ = number_of 8 bytes in
     let eight : 8 * 8 ≡ 64 = refl in
     let rest : section_of (words_in_bytes n (drop 8 bytes)) ≡ all / 2 ^ 64 % 2 ^ (64 * n) =
-    words_are_bits n (drop 8 bytes) (omega (arith, length-drop 8 bytes)) (AreBytes-drop 8 bytes small) ∙ ap (λ (m : ℕ). m % 2 ^ (64 * n)) (number_of-drop 8 8 bytes) in
+    words_are_bits n (drop 8 bytes) (omega (arith, length-drop 8 bytes)) (bytes_behind 8 bytes small) ∙ ap (λ (m : ℕ). m % 2 ^ (64 * n)) (number_of-drop 8 8 bytes) in
     let first : from_le_bytes w64 bytes % 2 ^ 64 ≡ all % 2 ^ 64 = ap (λ (m : ℕ). m % 2 ^ 64) (word_is bytes (omega arith) small) ∙ mod-mod all (2 ^ 64) in
     ap (λ (m : ℕ). m * 2 ^ 64 + from_le_bytes w64 bytes % 2 ^ 64) rest ∙ ap (λ (m : ℕ). (all / 2 ^ 64 % 2 ^ (64 * n)) * 2 ^ 64 + m) first
     ∙ sym (pow.mod-pow-add all (64 * n) 64) ∙ ap (λ (k : ℕ). all % 2 ^ k) sum
@@ -75,7 +69,7 @@ pub section_of_part : (p n : ℕ) (bytes : List ℕ) → AreBytes bytes → p + 
 section_of_part p n bytes small h =
     let bits : 8 * (8 * n) ≡ 64 * n = omega arith in
     number_of-take 8 (8 * n) (drop (8 * p) bytes) ∙ ap (λ (k : ℕ). number_of 8 (drop (8 * p) bytes) % 2 ^ k) bits
-    ∙ sym (words_are_bits n (drop (8 * p) bytes) (omega (arith, length-drop (8 * p) bytes)) (AreBytes-drop (8 * p) bytes small)) ∙ ap section_of (sym (words_of_part p n bytes h))
+    ∙ sym (words_are_bits n (drop (8 * p) bytes) (omega (arith, length-drop (8 * p) bytes)) (bytes_behind (8 * p) bytes small)) ∙ ap section_of (sym (words_of_part p n bytes h))
 
 pub section_there : (s : List (List ℕ)) (i p n : ℕ) (bytes : List ℕ) → Some bytes ≡ slice_get s i → p + n ≤ length bytes / 8 → section_of (take n (drop p (whole_words bytes))) ≡ section_at (words_in s) (place i p) n
 unfolding section_at

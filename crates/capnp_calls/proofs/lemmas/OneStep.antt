@@ -4,7 +4,7 @@ use Rattle.capnp_model.specs.Trees.{Tree}
 use Rattle.capnp_model.specs.Schemas.{PlainType, Ty, Body, plain_slot, pointer_slot, void_slot, Schema}
 use Rattle.capnp_model.specs.Steps.{Outcome, refused, shown, done, outcome_map}
 use Rattle.capnp_model.specs.Answers.{reply_of}
-use Rattle.capnp_calls.specs.Texts.{as_it_is}
+use Rattle.capnp_model.specs.Printing.{as_it_is}
 
 pub reply_of-map : {A B : Type 0} (s : Schema) (f : A → B) (o : Outcome A) → reply_of s as_it_is (outcome_map f o) ≡ reply_of s as_it_is o
 reply_of-map s f (refused k) = refl

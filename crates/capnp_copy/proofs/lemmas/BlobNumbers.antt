@@ -3,13 +3,13 @@ use Rattle.std.proofs.Common.{◌≡◌, ℕ, zero, suc, ◌+◌, ◌-◌, ◌*�
 use Rattle.std.proofs.lemmas.List.{length-take, length-drop, take-append-drop}
 use Rattle.std.proofs.Math.Pow.{pow_mono}
 use Rattle.std.proofs.Math.Nat.{mod-eq_of_lt, div-eq_of_lt, zero-div, div-add-mod}
-use Rattle.capnp_model.specs.Bytes.{words_in_bytes}
+use Rattle.capnp_model.specs.Bytes.{words_in_bytes, AreBytes}
 use Rattle.capnp_model.specs.Sections.{bits_at, number_of, section_of, with_bits}
 use Rattle.capnp_model.proofs.lemmas.Numbers.{number_of_lt}
 use Rattle.capnp_model.proofs.lemmas.SectionElements.{number_of-more}
 use Rattle.capnp_units.specs.Segments.{whole_words}
 use Rattle.capnp_object.proofs.lemmas.Words.{whole_words-length}
-use Rattle.capnp_wire.proofs.lemmas.Bytes.{AreBytes, number_of-drop, number_of-take, section_of_part}
+use Rattle.capnp_wire.proofs.lemmas.Bytes.{number_of-drop, number_of-take, section_of_part}
 use Rattle.capnp_footprints.specs.Writes.{spliced}
 use Rattle.capnp_copy.specs.Memory.{overwritten}
 use Rattle.capnp_copy.specs.Blobs.{whole_of, last_of, front_of}

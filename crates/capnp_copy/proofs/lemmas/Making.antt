@@ -3,7 +3,7 @@ use Rattle.std.proofs.Common.{◌≡◌, ◌≢◌, ℕ, zero, suc, ◌+◌, ◌
 use Rattle.std.specs.Option.{is_some}
 use Rattle.std.proofs.lemmas.List.{length-replicate}
 use Rattle.capnp_model.specs.Segments.{Segments, Place, place, after, word_at, words_at}
-use Rattle.capnp_model.specs.Pointers.{found_at}
+use Rattle.capnp_model.specs.Pointers.{found_at, nothing}
 use Rattle.capnp_model.specs.Trees.{Tree, null}
 use Rattle.capnp_model.specs.Coverage.{Grows}
 use Rattle.capnp_model.specs.Encoding.{struct_pointer, list_pointer}
@@ -129,3 +129,7 @@ leads s m u p k (Far pad) x e r g ws fits =
     let named : IsNamed (place_view pad) = record { segment_fits = r.2; position_fits = (let h = end_within s pad.segment in omega (arith, h, a.end, a.few)) } in
     let padded = some_word u (place_view pad) (word_there u (place_view pad) (pad_stays m u (Far pad) g (room_pad s m p k (Far pad) r))) in
     (1, far_leads u p (place_view pad) v.0 padded.0 x v.1 padded.1 (beyond s p (place_view pad) (word_there s p e) a.end) named fits)
+
+-- A null pointer leads to nothing.
+pub null_found : (s : Segments) (p : Place) → word_at s p ≡ Some 0 → LeadsTo s p nothing
+null_found s p e = (0, rw e refl)

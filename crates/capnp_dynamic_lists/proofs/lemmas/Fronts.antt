@@ -119,17 +119,6 @@ plain_put v (list ty) p n w e given width_is = absurd cc
 pub void_put : {A : Type 0} (v : Reader A) (ty : Ty) → void ≡ ty → (λ words pointers c. c) ≡ single_edit v ty
 void_put v ty e = ap (λ y. single_edit v y) e
 
--- the number of structs is theirs alone
-pub of_structs : (z : ElementSize) → size_number z ≡ 7 → z ≡ InlineComposite
-of_structs Void e = absurd (omega (arith, e))
-of_structs Bit e = absurd (omega (arith, e))
-of_structs Byte e = absurd (omega (arith, e))
-of_structs TwoBytes e = absurd (omega (arith, e))
-of_structs FourBytes e = absurd (omega (arith, e))
-of_structs EightBytes e = absurd (omega (arith, e))
-of_structs Pointer e = absurd (omega (arith, e))
-of_structs InlineComposite e = refl
-
 -- ---- what is there stays
 
 there_grown : (s u : Segments) (p : Place) (n : ℕ) → Grows s u → AreThere s p n → AreThere u p n

@@ -1,7 +1,7 @@
 -- Trimming twice is trimming once.
 use Rattle.std.proofs.Common.{◌≡◌, ℕ, zero, suc, ◌*◌, ◌^◌, ◌≤◌, max, Bool, true, false, nat_lt, if◌then◌else◌, refl, ap, ◌∙◌, arith}
 use Rattle.capnp_model.specs.Sections.{needed_words}
-use Rattle.capnp_model.specs.Trees.{Tree, null, capability, structure, plain_list, pointer_list, struct_list, Trees, none, ◌▸◌, Elements, no_elements, element, tree_count, resized}
+use Rattle.capnp_model.specs.Trees.{Tree, null, capability, structure, plain_list, pointer_list, struct_list, Trees, none, ◌▸◌, Elements, no_elements, element, tree_count, resized, is_null}
 use Rattle.capnp_model.specs.Trimming.{after_stripping, stripped, common_words, common_pointers, with_pointers, least_list, trim, trim_each, trim_elements}
 use Rattle.capnp_model.proofs.lemmas.Numbers.{needed_words_le}
 use Rattle.capnp_model.proofs.lemmas.Stripping.{stripped-stripped, stripped-resized, resized-resized}
@@ -116,3 +116,13 @@ mutual
   pub trim_elements-again : (es : Elements) → trim_elements (trim_elements es) ≡ trim_elements es
   trim_elements-again no_elements = refl
   trim_elements-again (element n ts es) = ap (λ us. element n us (trim_elements (trim_elements es))) (trim_each-again ts) ∙ ap (element n (trim_each ts)) (trim_elements-again es)
+
+-- Trimming leaves null alone null.
+pub null_trimmed : (t : Tree) → is_null (trim t) ≡ is_null t
+unfolding trim
+null_trimmed null = refl
+null_trimmed (capability i) = refl
+null_trimmed (structure w n ts) = refl
+null_trimmed (plain_list z n m) = refl
+null_trimmed (pointer_list ts) = refl
+null_trimmed (struct_list d k es) = refl

@@ -26,10 +26,10 @@ use Rattle.capnp_object.specs.declared.object.Object.{Object}
 use Rattle.capnp_object.specs.declared.object.Object.TheVariants as object
 use Rattle.capnp_object.specs.Places.{place_view}
 use Rattle.capnp_object.specs.Objects.{whole_list, whole}
-use Rattle.capnp_object.specs.Follow.{own_cost, found_cost, suffice_for, is_within, Pays, IsRefused, object_within, FollowsWithin}
+use Rattle.capnp_object.specs.Follow.{own_cost, found_cost, suffice_for, Pays, IsRefused, object_within, FollowsWithin, levels_suffice}
 use Rattle.capnp_object.specs.Inside.{section_at}
 use Rattle.capnp_object.specs.Inside.{words_there, tree_in, met_in}
-use Rattle.capnp_object.specs.Walks.{Walked, leaf_capabilities, Counts, Stopped, SizeGives}
+use Rattle.capnp_object.specs.Walks.{Walked, leaf_capabilities, Stopped, SizeGives, SizeCounts}
 use Rattle.capnp_object.proofs.lemmas.Walking.{object_found, within_found, within_unfound, first_visit, link_tree, link_visits, leaf_visited}
 use Rattle.capnp_object.proofs.lemmas.Paying.{spends_later}
 use Rattle.capnp_object.proofs.lemmas.Rows.{nothing_met, plain_elements_read}
@@ -55,7 +55,7 @@ module _ (s : Segments) (f : Place → Option Tree) (v : Place → List Visit) (
   unfolding object_words capability_count
   capability_in i e = subst (λ (x : Object). ObjectGives s f v x old (Ok (wordless 1)) old) (sym e) (capability i, refl, record { words_is = refl; capabilities_is = refl }, walked_none old)
 
-  pub list_in : (p : wire.Place) (size : ElementSize) (n k : ℕ) (counted : MessageSize) → o ≡ object.List p size n → size_number size < 6 → k ≡ words_for (data_bits (size_number size) * n) → ((w c : ℕ) → Counts w c (wordless 0) → Counts (w + k) c counted)
+  pub list_in : (p : wire.Place) (size : ElementSize) (n k : ℕ) (counted : MessageSize) → o ≡ object.List p size n → size_number size < 6 → k ≡ words_for (data_bits (size_number size) * n) → ((w c : ℕ) → SizeCounts w c (wordless 0) → SizeCounts (w + k) c counted)
       → ObjectGives s f v o old (Ok counted) old
   unfolding object_words capability_count
   list_in p size n k counted e plain is count =
@@ -65,9 +65,9 @@ module _ (s : Segments) (f : Place → Option Tree) (v : Place → List Visit) (
       let c = count 0 0 (record { words_is = refl; capabilities_is = refl }) in
       let all = plain_list (size_number size) n (section_at s (place_view p) (words_for bits) % 2 ^ bits) in
       subst (λ (x : Object). ObjectGives s f v x old (Ok counted) old) (sym e)
-      (all, refl, subst (λ (w : ℕ). Counts w 0 counted) words c, walked_none old)
+      (all, refl, subst (λ (w : ℕ). SizeCounts w 0 counted) words c, walked_none old)
 
-  pub struct_in : (p : wire.Place) (d k : ℕ) (size counted : MessageSize) → o ≡ object.Struct p d k → ((w c : ℕ) → Counts w c size → Counts (w + (d + k)) c counted)
+  pub struct_in : (p : wire.Place) (d k : ℕ) (size counted : MessageSize) → o ≡ object.Struct p d k → ((w c : ℕ) → SizeCounts w c size → SizeCounts (w + (d + k)) c counted)
       → SizeGives each_object_words each_capability_count (each f (after (place_view p) d) k) (from_each v (after (place_view p) d) k) old (Ok size) new → ObjectGives s f v o old (Ok counted) new
   unfolding object_words capability_count
   struct_in p d k size counted e count r =
@@ -75,7 +75,7 @@ module _ (s : Segments) (f : Place → Option Tree) (v : Place → List Visit) (
       (made_of each_object_words each_capability_count object_words capability_count (each f (after (place_view p) d) k) (λ ts. structure d (section_at s (place_view p) d) ts) (from_each v (after (place_view p) d) k) (d + k) old new size counted
       (λ ts is. let n = each_count f (after (place_view p) d) k ts is in omega arith) (λ ts. refl) count r)
 
-  pub pointers_in : (p : wire.Place) (n : ℕ) (size counted : MessageSize) → o ≡ object.PointerList p n → ((w c : ℕ) → Counts w c size → Counts (w + n) c counted)
+  pub pointers_in : (p : wire.Place) (n : ℕ) (size counted : MessageSize) → o ≡ object.PointerList p n → ((w c : ℕ) → SizeCounts w c size → SizeCounts (w + n) c counted)
       → SizeGives each_object_words each_capability_count (each f (place_view p) n) (from_each v (place_view p) n) old (Ok size) new → ObjectGives s f v o old (Ok counted) new
   unfolding object_words capability_count
   pointers_in p n size counted e count r =
@@ -83,7 +83,7 @@ module _ (s : Segments) (f : Place → Option Tree) (v : Place → List Visit) (
       (made_of each_object_words each_capability_count object_words capability_count (each f (place_view p) n) (λ ts. pointer_list ts) (from_each v (place_view p) n) n old new size counted
       (λ ts is. let c = each_count f (place_view p) n ts is in omega arith) (λ ts. refl) count r)
 
-  pub structs_in : (p : wire.Place) (words n d k : ℕ) (size counted : MessageSize) → o ≡ object.StructList p words n d k → ((w c : ℕ) → Counts w c size → Counts (w + 1) c counted)
+  pub structs_in : (p : wire.Place) (words n d k : ℕ) (size counted : MessageSize) → o ≡ object.StructList p words n d k → ((w c : ℕ) → SizeCounts w c size → SizeCounts (w + 1) c counted)
       → SizeGives (element_object_words d) element_capability_count (each_element f (place_view p) (words_there s (place_view p) words) d k n) (from_elements v (place_view p) d k n) old (Ok size) new → ObjectGives s f v o old (Ok counted) new
   unfolding object_words capability_count
   structs_in p words n d k size counted e count r =
@@ -101,7 +101,7 @@ module _ (s : Segments) (f : Place → Option Tree) (v : Place → List Visit) (
 abbrev pub ValueGives : ℕ → Segments → Place → ReadLimiter → Result MessageSize Error → ReadLimiter → Type 0
 ValueGives n s p old r new = SizeGives object_words capability_count (tree_at n s p) (visits n s p) old r new
 
-leaf_tree : (s : Segments) (p : Place) (g : model.Found) (m : model.Object) (o : Object) → model.found_at s p ≡ Ok g → g.object ≡ m → whole s m ≡ Ok o → is_within 0 o ≡ true
+leaf_tree : (s : Segments) (p : Place) (g : model.Found) (m : model.Object) (o : Object) → model.found_at s p ≡ Ok g → g.object ≡ m → whole s m ≡ Ok o → levels_suffice 0 o ≡ true
     → (t : Tree) × (tree_at 0 s p ≡ Some t) × (object_words t ≡ 0) × (capability_count t ≡ leaf_capabilities o) × (suffice_for 0 m ≡ true)
 unfolding tree_at object_words capability_count
 leaf_tree s p g model.nothing o e f w h = let is = ok_is _ _ w in (null, rw (e, f) refl, refl, ap leaf_capabilities is, refl)
@@ -110,30 +110,30 @@ leaf_tree s p g (model.a_struct q d k) o e f w h =
     let a = bind_ok (ok_or (words_at s q (d + k)) OutOfBounds) _ o w in
     absurd (no_leaf (object.Struct (record { segment = q.segment; position = q.position }) d k) o (ok_is _ _ a.2) h refl)
   where
-    no_leaf : (x y : Object) → x ≡ y → is_within 0 y ≡ true → is_within 0 x ≡ nat_lt 0 0 → ⊥
-    no_leaf x y i j l = let t : nat_lt 0 0 ≡ true = sym l ∙ ap (is_within 0) i ∙ j in grind (arith, nat_tests)
+    no_leaf : (x y : Object) → x ≡ y → levels_suffice 0 y ≡ true → levels_suffice 0 x ≡ nat_lt 0 0 → ⊥
+    no_leaf x y i j l = let t : nat_lt 0 0 ≡ true = sym l ∙ ap (levels_suffice 0) i ∙ j in grind (arith, nat_tests)
 leaf_tree s p g (model.a_list q size n) o e f w h =
     let a = bind_ok (ok_or (words_at s q (list_words (list_kind size) size n)) OutOfBounds) _ o w in
     absurd (by (list_kind size) a.0 a.2)
   where
-    no_leaf : (x : Object) → x ≡ o → is_within 0 x ≡ nat_lt 0 0 → ⊥
-    no_leaf x i l = let t : nat_lt 0 0 ≡ true = sym l ∙ ap (is_within 0) i ∙ h in grind (arith, nat_tests)
+    no_leaf : (x : Object) → x ≡ o → levels_suffice 0 x ≡ nat_lt 0 0 → ⊥
+    no_leaf x i l = let t : nat_lt 0 0 ≡ true = sym l ∙ ap (levels_suffice 0) i ∙ h in grind (arith, nat_tests)
 
     by : (kind : ListKind) (ws : List ℕ) → whole_list q kind size n ws ≡ Ok o → ⊥
     by of_bits ws j = no_leaf _ (ok_is _ _ j) refl
     by of_pointers ws j = no_leaf _ (ok_is _ _ j) refl
     by of_structs ws j = let b = bind_ok (tag_in ws) _ o j in no_leaf _ (ok_is _ _ b.2) refl
 
-pub leaf_at : (n : ℕ) (s : Segments) (p : Place) (o : Object) (old new : ReadLimiter) (size : MessageSize) → n ≡ 0 → Pays s p old o new → is_within n o ≡ true → Counts 0 (leaf_capabilities o) size → ValueGives n s p old (Ok size) new
+pub leaf_at : (n : ℕ) (s : Segments) (p : Place) (o : Object) (old new : ReadLimiter) (size : MessageSize) → n ≡ 0 → Pays s p old o new → levels_suffice n o ≡ true → SizeCounts 0 (leaf_capabilities o) size → ValueGives n s p old (Ok size) new
 leaf_at n s p o old new size z pay within count =
     let found = object_found s p (record { pads = pay.pads; object = o }) pay.is in
-    let none : is_within 0 o ≡ true = subst (λ (k : ℕ). is_within k o ≡ true) z within in
+    let none : levels_suffice 0 o ≡ true = subst (λ (k : ℕ). levels_suffice k o ≡ true) z within in
     let t = leaf_tree s p found.0 found.0.object o found.1 refl found.2 none in
     let here : visits 0 s p ≡ Ok (pay.pads + own_cost o) ∷ [] = leaf_visited s p found.0 found.1 o found.2 t.4 ∙ ap (λ (k : ℕ). Ok (k + own_cost o) ∷ []) found.3 in
     let first : Walked (visits 0 s p) old new = subst (λ (vs : List Visit). Walked vs old new) (sym here) (walked_one (pay.pads + own_cost o) old new pay.spends pay.follows) in
     let tw = t.2 in
     let tc = t.3 in
-    let counts : Counts (object_words t.0) (capability_count t.0) size = record { words_is = let a = count.words_is in omega arith; capabilities_is = let a = count.capabilities_is in omega arith } in
+    let counts : SizeCounts (object_words t.0) (capability_count t.0) size = record { words_is = let a = count.words_is in omega arith; capabilities_is = let a = count.capabilities_is in omega arith } in
     subst (λ (k : ℕ). ValueGives k s p old (Ok size) new) (sym z) (t.0, t.1, counts, first)
 
 pub deep_at : (n m : ℕ) (s : Segments) (p : Place) (o : Object) (old mid new : ReadLimiter) (r : Result MessageSize Error) → n ≡ suc m → Pays s p old o mid → ObjectGives s (tree_at m s) (visits m s) o mid r new → ValueGives n s p old r new
@@ -166,26 +166,26 @@ unfollowed_at n s p old new r d e is same h =
     subst (λ (x : Result MessageSize Error). ValueGives n s p old x new) (sym (is ∙ ap (λ (x : Error). Err x) same)) (stops_at n s p old new e (spends_later old new new 0 h.0 (spends_nothing new)) h.1 h.2)
 
 -- elements without pointers aren't walked
-pub plain_in : (f : Place → Option Tree) (v : Place → List Visit) (p : Place) (ws : List ℕ) (d k n words : ℕ) (l : ReadLimiter) (counted : MessageSize) → k ≡ 0 → words ≡ n * d → ((w c : ℕ) → Counts w c (wordless 0) → Counts (w + words) c counted)
+pub plain_in : (f : Place → Option Tree) (v : Place → List Visit) (p : Place) (ws : List ℕ) (d k n words : ℕ) (l : ReadLimiter) (counted : MessageSize) → k ≡ 0 → words ≡ n * d → ((w c : ℕ) → SizeCounts w c (wordless 0) → SizeCounts (w + words) c counted)
     → SizeGives (element_object_words d) element_capability_count (each_element f p ws d k n) (from_elements v p d k n) l (Ok counted) l
 plain_in f v p ws d k n words l counted none is count =
     let es = plain_elements_read f p ws d n in
     let sum = es.2 in
     let c = count 0 0 (record { words_is = refl; capabilities_is = refl }) in
     let all : 0 + words ≡ element_object_words d es.0 = omega arith in
-    let counts : Counts (element_object_words d es.0) (element_capability_count es.0) counted = subst (λ (m : ℕ). Counts (element_object_words d es.0) m counted) (sym es.3) (subst (λ (w : ℕ). Counts w 0 counted) all c) in
+    let counts : SizeCounts (element_object_words d es.0) (element_capability_count es.0) counted = subst (λ (m : ℕ). SizeCounts (element_object_words d es.0) m counted) (sym es.3) (subst (λ (w : ℕ). SizeCounts w 0 counted) all c) in
     let walked : Walked (from_elements v p d 0 n) l l = subst (λ (vs : List Visit). Walked vs l l) (sym (nothing_met v p d n)) (walked_none l) in
     subst (λ (m : ℕ). SizeGives (element_object_words d) element_capability_count (each_element f p ws d m n) (from_elements v p d m n) l (Ok counted) l) (sym none) (es.0, es.1, counts, walked)
 
 -- ---- sums
 
-pub nothing_more : (w v c : ℕ) (size : MessageSize) → Counts (w + v) c size → Counts (w + (v + 0)) c size
+pub nothing_more : (w v c : ℕ) (size : MessageSize) → SizeCounts (w + v) c size → SizeCounts (w + (v + 0)) c size
 nothing_more w v c size k = record { words_is = let x = k.words_is in omega arith; capabilities_is = k.capabilities_is }
 
-pub width_more : (w v m n c : ℕ) (size : MessageSize) → m ≡ n → Counts (w + (v + m)) c size → Counts (w + (v + n)) c size
+pub width_more : (w v m n c : ℕ) (size : MessageSize) → m ≡ n → SizeCounts (w + (v + m)) c size → SizeCounts (w + (v + n)) c size
 width_more w v m n c size e k = record { words_is = let x = k.words_is in omega arith; capabilities_is = k.capabilities_is }
 
-pub nothing_counted : Counts 0 0 (wordless 0)
+pub nothing_counted : SizeCounts 0 0 (wordless 0)
 nothing_counted = record { words_is = refl; capabilities_is = refl }
 
 pub refused_is : {X : Type 0} (words caps : X → ℕ) (there : Option X) (path : List Visit) (old new : ReadLimiter) (r : Result MessageSize Error) (x e : Error) → r ≡ Err x → x ≡ e → Stopped path old e new → SizeGives words caps there path old r new

@@ -15,7 +15,7 @@ use Rattle.capnp_model.proofs.lemmas.ReadFits.{tree_at_fits}
 use Rattle.capnp_object.specs.declared.object.Object.{Object}
 use Rattle.capnp_object.specs.declared.object.Found.{Found}
 use Rattle.capnp_object.specs.Objects.{whole_list, whole, object_at}
-use Rattle.capnp_object.specs.Follow.{own_cost, suffice_for, is_within, object_within}
+use Rattle.capnp_object.specs.Follow.{own_cost, suffice_for, object_within, levels_suffice}
 use Rattle.capnp_object.specs.Inside.{tree_in, cost_in, met_in}
 use Rattle.capnp_object.proofs.lemmas.Linking.{IsPlain, IsSized, tree_whole, cost_whole, visits_whole}
 
@@ -63,15 +63,15 @@ leaf_is s pads (model.a_capability i) o h e = let none : pads ≡ pads + 0 = ome
 leaf_is s pads (model.a_struct p d n) o h e = absurd (grind (arith, nat_tests))
 leaf_is s pads (model.a_list p size n) o h e = absurd (grind (arith, nat_tests))
 
-list_within : (p : Place) (kind : ListKind) (size c : ℕ) (ws : List ℕ) (n : ℕ) (o : Object) → nat_lt 0 n ≡ true → whole_list p kind size c ws ≡ Ok o → is_within n o ≡ true
-list_within p of_bits size c ws n o h e = ap (is_within n) (sym (ok_is _ _ e)) ∙ h
-list_within p of_pointers size c ws n o h e = ap (is_within n) (sym (ok_is _ _ e)) ∙ h
-list_within p of_structs size c ws n o h e = let a = bind_ok (tag_in ws) _ o e in ap (is_within n) (sym (ok_is _ _ a.2)) ∙ h
+list_within : (p : Place) (kind : ListKind) (size c : ℕ) (ws : List ℕ) (n : ℕ) (o : Object) → nat_lt 0 n ≡ true → whole_list p kind size c ws ≡ Ok o → levels_suffice n o ≡ true
+list_within p of_bits size c ws n o h e = ap (levels_suffice n) (sym (ok_is _ _ e)) ∙ h
+list_within p of_pointers size c ws n o h e = ap (levels_suffice n) (sym (ok_is _ _ e)) ∙ h
+list_within p of_structs size c ws n o h e = let a = bind_ok (tag_in ws) _ o e in ap (levels_suffice n) (sym (ok_is _ _ a.2)) ∙ h
 
-pub still_within : (s : Segments) (m : model.Object) (n : ℕ) (o : Object) → suffice_for n m ≡ true → whole s m ≡ Ok o → is_within n o ≡ true
-still_within s model.nothing n o h e = ap (is_within n) (sym (ok_is _ _ e))
-still_within s (model.a_capability i) n o h e = ap (is_within n) (sym (ok_is _ _ e))
-still_within s (model.a_struct p d k) n o h e = let a = bind_ok (ok_or (words_at s p (d + k)) OutOfBounds) _ o e in ap (is_within n) (sym (ok_is _ _ a.2)) ∙ h
+pub still_within : (s : Segments) (m : model.Object) (n : ℕ) (o : Object) → suffice_for n m ≡ true → whole s m ≡ Ok o → levels_suffice n o ≡ true
+still_within s model.nothing n o h e = ap (levels_suffice n) (sym (ok_is _ _ e))
+still_within s (model.a_capability i) n o h e = ap (levels_suffice n) (sym (ok_is _ _ e))
+still_within s (model.a_struct p d k) n o h e = let a = bind_ok (ok_or (words_at s p (d + k)) OutOfBounds) _ o e in ap (levels_suffice n) (sym (ok_is _ _ a.2)) ∙ h
 still_within s (model.a_list p size c) n o h e = let a = bind_ok (ok_or (words_at s p (list_words (list_kind size) size c)) OutOfBounds) _ o e in list_within p (list_kind size) size c a.0 n o h a.2
 
 -- ---- at a place

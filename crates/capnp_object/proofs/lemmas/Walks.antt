@@ -1,18 +1,19 @@
 -- Walks one after the other, and the sizes of what they read.
-use Rattle.std.proofs.Common.{◌≡◌, ℕ, ◌+◌, List, [], ◌∷◌, ◌++◌, length, Option, Some, Result, Ok, Err, refl, ap, sym, ◌∙◌, subst, arith}
+use Rattle.std.proofs.Common.{◌≡◌, ℕ, ◌+◌, List, [], ◌∷◌, ◌++◌, length, Option, Some, Result, Ok, Err, refl, ap, sym, ◌∙◌, subst, arith, None}
 use Rattle.std.proofs.lemmas.List.{length-append, append_assoc, append-nil}
 use Rattle.capnp_model.specs.Kinds.{Kind}
 use Rattle.capnp_model.specs.Chains.{◌>>=◌}
-use Rattle.capnp_model.specs.Visits.{Visit, faults_among}
+use Rattle.capnp_model.specs.Visits.{Visit, faults_among, visits_cost}
 use Rattle.capnp_model.proofs.lemmas.Visits.{cost_together, faults_of_paid, faults_together}
 use Rattle.capnp_units.specs.declared.errors.Error.{Error}
 use Rattle.capnp_units.specs.declared.kinds.ErrorKind.{ErrorKind}
 use Rattle.capnp_units.specs.declared.limiter.ReadLimiter.{ReadLimiter}
 use Rattle.capnp_units.specs.declared.sizes.MessageSize.{MessageSize}
 use Rattle.capnp_units.specs.Errors.{kind_of}
-use Rattle.capnp_units.specs.Limits.{left_of, IsPassed, Spends, Follows}
+use Rattle.capnp_units.specs.Limits.{left_of, IsPassed, Spends, Follows, IsFree, less, granted_of}
 use Rattle.capnp_units.proofs.lemmas.Spending.{spends_nothing, spends_both, passed_after, follows_none, follows_both}
-use Rattle.capnp_object.specs.Walks.{Walked, CannotPass, Stopped, Counts, SizeGives}
+use Rattle.capnp_object.specs.Walks.{Walked, CannotPass, Stopped, SizeGives, SizeCounts}
+use Rattle.capnp_model.proofs.lemmas.Chaining.{bind_some}
 
 pub walked_none : (l : ReadLimiter) → Walked [] l l
 walked_none l = record { cost = 0; cost_is = refl; spends = spends_nothing l; follows = follows_none l }
@@ -77,7 +78,7 @@ paid_then words caps there first path old mid new (Err e) w g = stopped_later fi
 -- ---- something made of what was read
 
 pub made_of : {X Y : Type 0} (words caps : X → ℕ) (words' caps' : Y → ℕ) (there : Option X) (make : X → Y) (path : List Visit) (more : ℕ) (old new : ReadLimiter) (size size' : MessageSize)
-    → ((x : X) → there ≡ Some x → words' (make x) ≡ words x + more) → ((x : X) → caps' (make x) ≡ caps x) → ((w c : ℕ) → Counts w c size → Counts (w + more) c size')
+    → ((x : X) → there ≡ Some x → words' (make x) ≡ words x + more) → ((x : X) → caps' (make x) ≡ caps x) → ((w c : ℕ) → SizeCounts w c size → SizeCounts (w + more) c size')
     → SizeGives words caps there path old (Ok size) new → SizeGives words' caps' (there >>= λ x. Some (make x)) path old (Ok size') new
 made_of words caps words' caps' there make path more old new size size' w c count g =
     let k = count (words g.0) (caps g.0) g.2 in
@@ -92,12 +93,12 @@ pub record SoFar {X : Type 0} (words caps : X → ℕ) (whole rest : Option X) (
   pub some_words : ℕ
   pub some_caps : ℕ
   pub done : List Visit
-  pub counts : Counts some_words some_caps size
+  pub counts : SizeCounts some_words some_caps size
   pub walked : Walked done old new
   pub path_is : path ≡ done ++ left
   pub read : (x : X) → rest ≡ Some x → (y : X) × (whole ≡ Some y) × (words y ≡ some_words + words x) × (caps y ≡ some_caps + caps x)
 
-pub begun : {X : Type 0} (words caps : X → ℕ) (whole rest : Option X) (path left : List Visit) (l : ReadLimiter) (size : MessageSize) → Counts 0 0 size → rest ≡ whole → left ≡ path → SoFar words caps whole rest path left l l size
+pub begun : {X : Type 0} (words caps : X → ℕ) (whole rest : Option X) (path left : List Visit) (l : ReadLimiter) (size : MessageSize) → SizeCounts 0 0 size → rest ≡ whole → left ≡ path → SoFar words caps whole rest path left l l size
 begun words caps whole rest path left l size k e f = record { some_words = 0; some_caps = 0; done = []; counts = k; walked = walked_none l; path_is = sym f; read = λ x is. (x, sym e ∙ is, omega arith, omega arith) }
 
 pub ended : {X : Type 0} (words caps : X → ℕ) (whole rest : Option X) (path left : List Visit) (old new : ReadLimiter) (size : MessageSize) (x : X) → rest ≡ Some x → words x ≡ 0 → caps x ≡ 0 → left ≡ []
@@ -111,7 +112,7 @@ ended words caps whole rest path left old new size x e w c l f =
 
 pub next : {X Y : Type 0} (words caps : X → ℕ) (words' caps' : Y → ℕ) (whole rest rest' : Option X) (item : Option Y) (path left left' own : List Visit) (more : ℕ) (old mid new : ReadLimiter) (size one size' : MessageSize)
     → ((x : Y) (y : X) → item ≡ Some x → rest' ≡ Some y → (z : X) × (rest ≡ Some z) × (words z ≡ (words' x + more) + words y) × (caps z ≡ caps' x + caps y))
-    → left ≡ own ++ left' → ((w c v e : ℕ) → Counts w c size → Counts v e one → Counts (w + (v + more)) (c + e) size')
+    → left ≡ own ++ left' → ((w c v e : ℕ) → SizeCounts w c size → SizeCounts v e one → SizeCounts (w + (v + more)) (c + e) size')
     → SizeGives words' caps' item own mid (Ok one) new → SoFar words caps whole rest path left old mid size → SoFar words caps whole rest' path left' old new size'
 next words caps words' caps' whole rest rest' item path left left' own more old mid new size one size' join l count g f = record {
   some_words = f.some_words + (words' g.0 + more);
@@ -133,3 +134,22 @@ next words caps words' caps' whole rest rest' item path left left' own more old 
 pub stopped : {X : Type 0} (words caps : X → ℕ) (whole rest : Option X) (path left own more : List Visit) (old mid new : ReadLimiter) (size : MessageSize) (e : Error) → left ≡ own ++ more → Stopped own mid e new
     → SoFar words caps whole rest path left old mid size → Stopped path old e new
 stopped words caps whole rest path left own more old mid new size e l x f = stopped_later f.done own path more old mid new e (f.path_is ∙ ap (λ (vs : List Visit). f.done ++ vs) l) f.walked x
+
+-- ---- walks that nothing stops
+
+never_passes : (before : List Visit) (last : Visit) (behind : List Visit) (cost paid : ℕ) (why : ErrorKind) → visits_cost (before ++ last ∷ behind) ≡ Some cost → CannotPass None paid last why → ⊥
+never_passes [] (Ok words) behind cost paid why e x = x.1
+never_passes [] (Err kind) behind cost paid why e x = absurd cc
+never_passes (Err kind ∷ before) last behind cost paid why e x = absurd cc
+never_passes (Ok words ∷ before) last behind cost paid why e x =
+    let y = bind_some (visits_cost (before ++ last ∷ behind)) _ cost e in
+    never_passes before last behind y.0 paid why y.1 x
+
+-- A count under no limit has no end.
+pub free_left : (start : ReadLimiter) → IsFree start → left_of start ≡ None
+free_left start free = ap (λ (o : Option ℕ). less o (granted_of start)) free.endless
+
+-- A walk without faults and without a limit isn't stopped.
+pub unstopped : (path : List Visit) (cost : ℕ) (old new : ReadLimiter) (e : Error) → visits_cost path ≡ Some cost → left_of old ≡ None → Stopped path old e new → ⊥
+unstopped path cost old new e is none x =
+    never_passes x.before x.last x.behind cost x.paid e.kind (ap visits_cost (sym x.path_is) ∙ is) (subst (λ (o : Option ℕ). CannotPass o x.paid x.last e.kind) none x.why)

@@ -12,6 +12,7 @@ use Rattle.capnp_model.specs.Chains.{◌provided◌}
 use Rattle.capnp_model.specs.Segments.{place, words_at}
 use Rattle.capnp_units.specs.Segments.{whole_words, words_in}
 use Rattle.capnp_model.proofs.lemmas.WordsInBytes.{words_in_bytes-length}
+use Rattle.capnp_model.proofs.lemmas.ByteLists.{word_of_eight}
 
 pub whole_words-length : (bytes : List ℕ) → length (whole_words bytes) ≡ length bytes / 8
 whole_words-length bytes = words_in_bytes-length (length bytes / 8) bytes
@@ -37,19 +38,6 @@ pub no_words : (s : List (List ℕ)) (i k n : ℕ) → None ≡ slice_get s i �
 no_words s i k n e = let past = segment_past s i e in rw past refl
 
 -- ---- the bytes of a word
-
--- a word is that of its first eight bytes
-pub word_of_eight : (bytes : List ℕ) → from_le_bytes w64 (take 8 bytes) ≡ from_le_bytes w64 bytes
-word_of_eight bytes =
-    let at0 = get_or-take 8 bytes 0 0 (omega arith) in
-    let at1 = get_or-take 8 bytes 1 0 (omega arith) in
-    let at2 = get_or-take 8 bytes 2 0 (omega arith) in
-    let at3 = get_or-take 8 bytes 3 0 (omega arith) in
-    let at4 = get_or-take 8 bytes 4 0 (omega arith) in
-    let at5 = get_or-take 8 bytes 5 0 (omega arith) in
-    let at6 = get_or-take 8 bytes 6 0 (omega arith) in
-    let at7 = get_or-take 8 bytes 7 0 (omega arith) in
-    omega arith
 
 pub word_of_front : (n : ℕ) (bytes first : List ℕ) → 8 ≤ n → first ≡ take 8 (take n bytes) → from_le_bytes w64 first ≡ from_le_bytes w64 bytes
 word_of_front n bytes first h e = let f : List ℕ → ℕ = from_le_bytes w64 in ap f (e ∙ take-take 8 n bytes h) ∙ word_of_eight bytes

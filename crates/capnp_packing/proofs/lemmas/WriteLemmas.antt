@@ -6,13 +6,14 @@ use Rattle.std.specs.Io.KnownBytes.{Appends}
 use Rattle.std.proofs.KnownBytes.{Appends-nil, Appends-trans}
 use Rattle.capnp_units.specs.declared.kinds.ErrorKind.{ErrorKind}
 use Rattle.capnp_units.specs.declared.kinds.ErrorKind.TheVariants.{OutOfMemory, BufferNotLargeEnough, Device}
-use Rattle.capnp_model.specs.Bytes.{bytes_of_words, words_in_bytes}
+use Rattle.capnp_model.specs.Bytes.{bytes_of_words, words_in_bytes, AreBytes}
 use Rattle.capnp_model.specs.Packing as model
 use Rattle.capnp_model.specs.Packing.{byte_tag, nonzero, count_byte, longest_run, packed_from, packed}
-use Rattle.capnp_stream.specs.Segments.{AreBytes, whole_words}
+use Rattle.capnp_stream.specs.Segments.{whole_words}
 use Rattle.capnp_io.specs.Streams.{AppendsPart, RoomFalls, IsWriteRefusal}
 use Rattle.capnp_io.proofs.lemmas.KnownLemmas.{AppendsPart-more, AppendsPart-next}
-use Rattle.capnp_stream.proofs.lemmas.WordLemmas.{words_in_bytes-take, bytes_of_words-back}
+use Rattle.capnp_model.proofs.lemmas.ByteLists.{words_spell, bytes_in_front}
+use Rattle.capnp_stream.proofs.lemmas.WordLemmas.{words_in_bytes-take}
 use Rattle.capnp_writing.proofs.lemmas.WriteLemmas.{RoomFalls-none}
 use Rattle.capnp_model.proofs.lemmas.WordsInBytes.{words_in_bytes-drop}
 use Rattle.capnp_packing.specs.Runs.{run_view, run_words, run_bytes}
@@ -44,12 +45,6 @@ from_first : (ws : List ℕ) → packed_from model.first ws ≡ packed_from mode
 from_first [] = refl
 from_first (w ∷ ws) = refl
 
-AreBytes-take : (n : ℕ) (bytes : List ℕ) → AreBytes bytes → AreBytes (take n bytes)
-AreBytes-take zero bytes small i = omega arith
-AreBytes-take (suc n) [] small i = omega arith
-AreBytes-take (suc n) (b ∷ bytes) small zero = small zero
-AreBytes-take (suc n) (b ∷ bytes) small (suc i) = AreBytes-take n bytes (λ j. small (suc j)) i
-
 module _ (k : ℕ) (bytes : List ℕ) (fits : 8 * k ≤ length bytes) where
   behind_words : ℕ
   behind_words = length bytes / 8 - k
@@ -69,7 +64,7 @@ module _ (k : ℕ) (bytes : List ℕ) (fits : 8 * k ≤ length bytes) where
       let all : length bytes / 8 ≡ k + m = omega arith in
       let front : take k (whole_words bytes) ≡ words_in_bytes k (take (8 * k) bytes) =
       ap (λ (n : ℕ). take k (words_in_bytes n bytes)) all ∙ words_in_bytes-take k m bytes (omega arith) in
-      ap bytes_of_words front ∙ bytes_of_words-back k (take (8 * k) bytes) (length-take-le (8 * k) bytes fits) (AreBytes-take (8 * k) bytes small)
+      ap bytes_of_words front ∙ words_spell k (take (8 * k) bytes) (length-take-le (8 * k) bytes fits) (bytes_in_front (8 * k) bytes small)
 
 over_run : (run : Run) (bytes : List ℕ) → 8 * run_words run ≤ length bytes → AreBytes bytes → packed_from (run_view run) (whole_words bytes) ≡ run_bytes run bytes ++ packed_from model.next (whole_words (drop (8 * run_words run) bytes))
 over_run First bytes fits small = from_first (whole_words bytes)

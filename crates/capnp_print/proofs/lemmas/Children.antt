@@ -6,7 +6,7 @@ use Rattle.capnp_model.specs.Chains.{◌and_then◌}
 use Rattle.capnp_model.specs.Trees.{Tree, null}
 use Rattle.capnp_model.specs.Schemas.{PlainType, bool, int, uint, «enum», Ty, void, plain, text, blob, untyped, interface, struct, list, Shape, Schema}
 use Rattle.capnp_model.specs.Readings.{Reading, null_pointer, fault, record_as, list_of, no_readings, whole_words, just_bits, no_children, shape_record, is_accepted_as}
-use Rattle.capnp_model.specs.Printing.{number_text, Style, as_type, as_group}
+use Rattle.capnp_model.specs.Printing.{number_text, Style, as_type, as_group, as_it_is}
 use Rattle.capnp_model.proofs.lemmas.Chaining.{bind_ok, ok_is, guard_ok}
 use Rattle.capnp_units.specs.declared.sizes.ElementSize.{ElementSize}
 use Rattle.capnp_units.specs.declared.sizes.ElementSize.TheVariants.{Pointer, InlineComposite}
@@ -21,7 +21,6 @@ use Rattle.capnp_values.specs.ListSizes.{size_of}
 use Rattle.capnp_values.specs.Sources.{read_behind}
 use Rattle.capnp_values.specs.Shown.{Shown, a_text, a_blob, a_struct, a_list, a_pointer, a_capability, number_shown, opened}
 use Rattle.capnp_values.specs.Standing.{IsPointerType}
-use Rattle.capnp_print.specs.Texts.{as_it_is}
 use Rattle.capnp_print.specs.ShownReadings.{children_read, record_read, elements_read, reading_by, reading_within, left_of, levels_of, reading_of}
 use Rattle.capnp_print.specs.Printed.{printed, null_printed, shown_text}
 use Rattle.capnp_print.proofs.Empties.{same_record, just_none, no_bits}

@@ -4,12 +4,11 @@ use Rattle.capnp_model.specs.Kinds.{Kind}
 use Rattle.capnp_model.specs.Trees.{Tree, null, is_null as is_null_tree}
 use Rattle.capnp_model.specs.Schemas.{Ty, void, plain, text, blob, untyped, interface, struct, list, Schema}
 use Rattle.capnp_model.specs.Readings.{null_pointer}
-use Rattle.capnp_model.specs.Printing.{Style, as_type}
+use Rattle.capnp_model.specs.Printing.{Style, as_type, as_it_is}
 use Rattle.capnp_wire.specs.Views.{PointerView, ListView, pointer_field, element_of}
 use Rattle.capnp_wire.specs.Reads.{is_null}
 use Rattle.capnp_values.specs.Shown.{Shown, a_struct, opened, element_shown}
 use Rattle.capnp_values.specs.Standing.{IsPointerType}
-use Rattle.capnp_print.specs.Texts.{as_it_is}
 use Rattle.capnp_print.specs.ShownReadings.{read_or_fault, pointer_reading, element_read, reading_within, left_of}
 use Rattle.capnp_print.specs.Printed.{Text, printed, null_printed, shown_text}
 use Rattle.capnp_print.proofs.lemmas.Children.{within, number_shown_text, child_text}

@@ -9,7 +9,7 @@ use Rattle.capnp_model.specs.Bytes.{bytes_of_words}
 use Rattle.capnp_model.specs.Decoding.{decode}
 use Rattle.capnp_model.specs.Schemas.{Ty, void, plain, text, blob, untyped, interface, struct, list, Shape, shape, Fields, no_fields, field, Body, void_slot, plain_slot, pointer_slot, group_slot, Schema, Node, default_or_null}
 use Rattle.capnp_model.specs.Readings.{Reading, inactive, null_pointer, fault, number, text_of, blob_of, list_of, record_as, opaque, Readings, no_readings, ◌▹◌, Record, no_more, entry, read, text_reading}
-use Rattle.capnp_model.specs.Printing.{Style, inner, As, as_type, as_group, as_body, type_of_as, default_of_as, element_type, shape_as, is_shown, Nulls, print, print_items, print_fields, empty_text, nulls_as}
+use Rattle.capnp_model.specs.Printing.{Style, inner, As, as_type, as_group, as_body, type_of_as, default_of_as, element_type, shape_as, is_shown, Nulls, print, print_items, print_fields, empty_text, nulls_as, as_it_is}
 use Rattle.capnp_model.specs.Accepted.{is_good_segment, schema_of, IsAccepted}
 use Rattle.capnp_wire.specs.Reads.{read_struct, read_list}
 use Rattle.capnp_values.specs.ListSizes.{size_of}
@@ -18,7 +18,6 @@ use Rattle.capnp_values.specs.Shown.{Shown, a_number, an_enum, a_text, a_blob, a
 use Rattle.capnp_values.specs.Standing.{IsPointerType, IsReading, IsRecord, Answers, or_empty, PointersAreRead}
 use Rattle.capnp_values.proofs.lemmas.DefaultReadings.{segment_read, encoded}
 use Rattle.capnp_values.proofs.lemmas.Presence.{there}
-use Rattle.capnp_print.specs.Texts.{as_it_is}
 use Rattle.capnp_print.specs.ShownReadings.{reading_of}
 use Rattle.capnp_print.specs.Printed.{Text, NullTexts, text_in, field_and_rest, mark, printed, items_printed, fields_printed, empty_printed, no_schema, schema_shown, as_shown, bytes_shown, default_shown, text_shown, null_printed, shown_text}
 use Rattle.capnp_print.specs.Models.{unopened, unopened_each, unopened_fields, IsOfNodes, TextsAreModels}

@@ -15,7 +15,7 @@ use Rattle.capnp_model.specs.Trimming.{trim}
 use Rattle.capnp_model.specs.Traversal.{tree_at, cost_at, each, each_element}
 use Rattle.capnp_model.specs.Encoding.{canonical_words}
 use Rattle.capnp_model.specs.Canonical.{is_canonical_message}
-use Rattle.capnp_model.specs.Bytes.{bytes_of_words, words_in_bytes}
+use Rattle.capnp_model.specs.Bytes.{bytes_of_words, words_in_bytes, AreBytes}
 use Rattle.capnp_model.specs.Spelling.{AreWords}
 use Rattle.capnp_model.specs.Decoding.{decode}
 use Rattle.capnp_model.specs.Visits.{Visit, visits, visits_cost}
@@ -41,7 +41,8 @@ use Rattle.capnp_object.specs.Objects.{object_at}
 use Rattle.capnp_object.specs.Inside.{tree_in, section_at, words_there}
 use Rattle.capnp_object.specs.Laws.{TreesByLevels, VisitsOfFaults}
 use Rattle.capnp_object.specs.Walks.{Stopped, CannotPass}
-use Rattle.capnp_object.proofs.lemmas.Words.{word_of_eight, whole_words-length}
+use Rattle.capnp_model.proofs.lemmas.ByteLists.{word_of_eight, words_spell}
+use Rattle.capnp_object.proofs.lemmas.Words.{whole_words-length}
 use Rattle.capnp_canonical.specs.Standing.{IsSmall, segment_words}
 use Rattle.capnp_model.proofs.lemmas.Tests.{and_false, and_right}
 use Rattle.capnp_model.proofs.lemmas.Lists.{only_is}
@@ -121,25 +122,6 @@ stopped_not costs n s l m e free stop = by (is_canonical_message n s) refl
     by true is = let t = message_test n s is in absurd (here t.0 t.1 stop.last refl stop.why)
 
 -- ---- bytes of whole words
-
-abbrev pub AreBytes : List ℕ → Type 0
-AreBytes bytes = (i : ℕ) → slice_index bytes i < 256
-
-bytes_in_front : (n : ℕ) (bytes : List ℕ) → AreBytes bytes → AreBytes (take n bytes)
-bytes_in_front zero bytes small i = omega arith
-bytes_in_front (suc n) [] small i = omega arith
-bytes_in_front (suc n) (b ∷ bytes) small zero = small zero
-bytes_in_front (suc n) (b ∷ bytes) small (suc i) = bytes_in_front n bytes (λ j. small (suc j)) i
-
-bytes_behind : (n : ℕ) (bytes : List ℕ) → AreBytes bytes → AreBytes (drop n bytes)
-bytes_behind n bytes small i = rw (get_or-drop n bytes i 0) (small (n + i))
-
-words_spell : (n : ℕ) (bytes : List ℕ) → length bytes ≡ 8 * n → AreBytes bytes → bytes_of_words (words_in_bytes n bytes) ≡ bytes
-words_spell zero bytes long small = sym (nil_from_length bytes (omega arith))
-words_spell (suc n) bytes long small =
-    let first : to_le_bytes w64 (from_le_bytes w64 bytes) ≡ take 8 bytes = le_bytes_8 (take 8 bytes) (from_le_bytes w64 bytes) (length-take-le 8 bytes (omega arith)) (bytes_in_front 8 bytes small) (sym (word_of_eight bytes)) in
-    let rest = words_spell n (drop 8 bytes) (omega (arith, length-drop 8 bytes)) (bytes_behind 8 bytes small) in
-    ap (λ l. l ++ bytes_of_words (words_in_bytes n (drop 8 bytes))) first ∙ ap (λ l. take 8 bytes ++ l) rest ∙ take-append-drop 8 bytes
 
 -- the words of bytes are those that spell them
 words_back_of : (ws bytes : List ℕ) → AreWords ws → bytes_of_words ws ≡ bytes → words_in_bytes (length bytes / 8) bytes ≡ ws

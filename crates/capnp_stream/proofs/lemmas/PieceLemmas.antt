@@ -10,7 +10,7 @@ use Rattle.capnp_model.specs.Kinds as kinds
 use Rattle.capnp_model.specs.Kinds.{Kind}
 use Rattle.capnp_model.specs.Chains.{◌and_then◌, guard}
 use Rattle.capnp_model.specs.Segments.{Segments}
-use Rattle.capnp_model.specs.Bytes.{words_in_bytes, bytes_of_words, taken}
+use Rattle.capnp_model.specs.Bytes.{words_in_bytes, bytes_of_words, taken, AreBytes}
 use Rattle.capnp_model.specs.Messages.{Reader, within, plain_words, halves, behind_lengths, behind_first, message_at}
 use Rattle.capnp_model.proofs.lemmas.Chaining.{ok_is, ok_then, bind_ok}
 use Rattle.capnp_model.proofs.lemmas.ByteWords.{taken_front}
@@ -20,7 +20,8 @@ use Rattle.capnp_stream.specs.Pieces.{EachIsNeeded, ReadsFronts, TakesPiece, Tak
 use Rattle.capnp_stream.specs.Frames.{IsCut}
 use Rattle.capnp_stream.proofs.lemmas.EarlyLemmas.{EndsEarly-of}
 use Rattle.capnp_stream.specs.Segments.{whole_words}
-use Rattle.capnp_stream.proofs.lemmas.WordLemmas.{AreBytes, whole_words-of_length, bytes_of_words-back}
+use Rattle.capnp_model.proofs.lemmas.ByteLists.{words_spell}
+use Rattle.capnp_stream.proofs.lemmas.WordLemmas.{whole_words-of_length}
 
 -- ---- steps that refuse
 
@@ -76,7 +77,7 @@ module _ (n : ℕ) (a b : Option (List ℕ)) (refuses : ErrorKind → Type 0) (d
 
 -- the bytes of the words that a buffer holds are the buffer's
 pub plain-bytes : (buf : List ℕ) → length buf % 8 ≡ 0 → AreBytes buf → bytes_of_words (whole_words buf) ≡ buf
-plain-bytes buf whole small = bytes_of_words-back (length buf / 8) buf (omega arith) small
+plain-bytes buf whole small = words_spell (length buf / 8) buf (omega arith) small
 
 -- ---- pieces in any form
 

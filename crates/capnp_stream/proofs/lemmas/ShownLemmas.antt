@@ -1,5 +1,5 @@
 -- Messages of which a source shows every byte.
-use Rattle.std.proofs.Common.{◌≡◌, ℕ, ◌+◌, ◌*◌, ◌/◌, ◌%◌, ◌^◌, ◌<◌, ◌≤◌, ltb, List, [], ◌∷◌, ◌++◌, true, None, Some, IfSome, Result, Ok, Err, refl, sym, ap, ◌∙◌, arith, length, take, drop, sum, length-drop, length-take-le, take-append-drop, take-take}
+use Rattle.std.proofs.Common.{◌≡◌, ℕ, ◌+◌, ◌*◌, ◌/◌, ◌%◌, ◌^◌, ◌<◌, ◌≤◌, ltb, List, [], ◌∷◌, ◌++◌, true, None, Some, IfSome, Result, Ok, refl, sym, ap, ◌∙◌, arith, length, take, drop, sum, length-drop, length-take-le, take-append-drop, take-take}
 use Rattle.std.proofs.lemmas.List.{nil_from_length}
 use Rattle.std.proofs.Math.Seq.{take-add}
 use Rattle.std.specs.Int.{from_le_bytes, w64}
@@ -11,7 +11,7 @@ use Rattle.capnp_model.specs.Kinds as kinds
 use Rattle.capnp_model.specs.Kinds.{Kind}
 use Rattle.capnp_model.specs.Chains.{guard}
 use Rattle.capnp_model.specs.Segments.{Segments}
-use Rattle.capnp_model.specs.Messages.{within, plain_words, flat_words, else_refused, halves, cut, behind_lengths, behind_first, message_at, flat_at}
+use Rattle.capnp_model.specs.Messages.{within, plain_words, flat_words, halves, cut, behind_lengths, behind_first, message_at, flat_at}
 use Rattle.capnp_model.proofs.lemmas.Chaining.{ok_then, bind_ok}
 use Rattle.capnp_model.proofs.lemmas.MessagePrefixes.{ok_else_refused}
 use Rattle.capnp_stream.specs.Flat.{table_lengths, table_bytes, frame_segments, Describes}

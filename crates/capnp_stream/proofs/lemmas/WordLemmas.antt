@@ -7,14 +7,14 @@ use Rattle.std.proofs.lemmas.Nat.{le_bytes_8}
 use Rattle.std.proofs.lemmas.List.{drop-take, drop-drop, get_or-drop, nil_from_length, map-append, length-append}
 use Rattle.std.proofs.lemmas.List.Elements.{All-cons, All-nil}
 use Rattle.std.proofs.lemmas.List.Sums.{sum_by-cons}
-use Rattle.capnp_model.specs.Bytes.{words_in_bytes, bytes_of_words}
+use Rattle.capnp_model.specs.Bytes.{AreBytes, words_in_bytes, bytes_of_words}
 use Rattle.capnp_model.specs.Messages.{frame, cut, halves}
-pub use Rattle.capnp_stream.specs.Ranges.{AreBytes}
 use Rattle.capnp_units.specs.Segments.{whole_words, words_in}
 use Rattle.capnp_model.specs.Spelling.{AreShort}
 use Rattle.capnp_model.proofs.lemmas.WordsInBytes.{words_in_bytes-drop, words_in_bytes-length}
 use Rattle.capnp_stream.specs.Writing.{IsSegment, AreWritable}
 use Rattle.capnp_stream.specs.Ranges.{ranges_from, range_lengths, bytes_at}
+use Rattle.capnp_model.proofs.lemmas.ByteLists.{words_spell}
 
 -- what follows eight bytes changes nothing of their word
 pub from_le_bytes-front : (a b : List ℕ) → 8 ≤ length a → from_le_bytes w64 (a ++ b) ≡ from_le_bytes w64 a
@@ -169,27 +169,10 @@ lengths-step lengths once twice bytes behind word all long left reads one two be
 
 -- ---- words that were read of bytes, written as bytes
 
-AreBytes-take : (n : ℕ) (bytes : List ℕ) → AreBytes bytes → AreBytes (take n bytes)
-AreBytes-take zero bytes small i = omega arith
-AreBytes-take (suc n) [] small i = omega arith
-AreBytes-take (suc n) (b ∷ bytes) small zero = small zero
-AreBytes-take (suc n) (b ∷ bytes) small (suc i) = AreBytes-take n bytes (λ j. small (suc j)) i
-
-pub AreBytes-drop : (n : ℕ) (bytes : List ℕ) → AreBytes bytes → AreBytes (drop n bytes)
-AreBytes-drop n bytes small i = rw (get_or-drop n bytes i 0) (small (n + i))
-
-pub bytes_of_words-back : (n : ℕ) (bytes : List ℕ) → length bytes ≡ 8 * n → AreBytes bytes → bytes_of_words (words_in_bytes n bytes) ≡ bytes
-bytes_of_words-back zero bytes long small = sym (nil_from_length bytes (omega arith))
-bytes_of_words-back (suc n) bytes long small =
-    let wide : 8 ≤ length bytes = omega arith in
-    let first : to_le_bytes w64 (from_le_bytes w64 bytes) ≡ take 8 bytes = le_bytes_8 (take 8 bytes) (from_le_bytes w64 bytes) (length-take-le 8 bytes wide) (AreBytes-take 8 bytes small) (sym (from_le_bytes-take 8 bytes (omega arith) wide)) in
-    let rest : bytes_of_words (words_in_bytes n (drop 8 bytes)) ≡ drop 8 bytes = bytes_of_words-back n (drop 8 bytes) (omega (arith, length-drop 8 bytes)) (AreBytes-drop 8 bytes small) in
-    ap (λ l. l ++ bytes_of_words (words_in_bytes n (drop 8 bytes))) first ∙ ap (λ l. take 8 bytes ++ l) rest ∙ take-append-drop 8 bytes
-
 pub frame-bytes : (bytes : List ℕ) → length bytes % 8 ≡ 0 → AreBytes bytes → frame (whole_words bytes ∷ []) ≡ to_le_bytes w64 (length bytes / 8 * 2 ^ 32) ++ bytes
 frame-bytes bytes whole small =
     let n = length bytes / 8 in
-    let words : bytes_of_words (whole_words bytes) ≡ bytes = bytes_of_words-back n bytes (omega arith) small in
+    let words : bytes_of_words (whole_words bytes) ≡ bytes = words_spell n bytes (omega arith) small in
     let first : 0 + 2 ^ 32 * length (whole_words bytes) ≡ n * 2 ^ 32 = omega (arith, words_in_bytes-length n bytes) in
     rw (first, words) (ap (λ l. l ++ (bytes ++ [])) (append-nil (to_le_bytes w64 (n * 2 ^ 32))) ∙ ap (λ l. to_le_bytes w64 (n * 2 ^ 32) ++ l) (append-nil bytes))
 

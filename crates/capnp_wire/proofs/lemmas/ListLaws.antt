@@ -1,5 +1,5 @@
 -- Lists as they are read, and their trees.
-use Rattle.std.proofs.Common.{◌≡◌, ℕ, zero, suc, ◌+◌, ◌-◌, ◌*◌, ◌/◌, ◌%◌, ◌^◌, ◌<◌, ◌≤◌, leb, nat_lt, eqb, Bool, true, false, if◌then◌else◌, refl, List, [], ◌∷◌, length, take, drop, Option, Some, None, Ok, ap, sym, ◌∙◌, subst, arith}
+use Rattle.std.proofs.Common.{◌≡◌, ℕ, zero, suc, ◌+◌, ◌-◌, ◌*◌, ◌/◌, ◌%◌, ◌^◌, ◌<◌, ◌≤◌, nat_lt, eqb, Bool, true, false, if◌then◌else◌, refl, List, [], ◌∷◌, take, drop, Option, Some, None, Ok, ap, sym, ◌∙◌, subst, arith}
 use Rattle.std.specs.Prelude.{slice_index, unwrap_or}
 use Rattle.std.proofs.lemmas.List.{take-take, drop-take, drop-drop}
 use Rattle.std.proofs.Math.Nat.{mul-le-mul_left}
@@ -10,10 +10,9 @@ use Rattle.capnp_model.specs.Trees.{Tree, Trees, none, child, Elements}
 use Rattle.capnp_model.specs.Kinds.{OutOfBounds}
 use Rattle.capnp_model.specs.Pointers as model
 use Rattle.capnp_model.specs.Pointers.{pointer_of}
-use Rattle.capnp_model.specs.Traversal.{Tag, tag_of, tag_in, ListKind, of_bits, of_pointers, of_structs, list_kind, list_words, each, each_element}
+use Rattle.capnp_model.specs.Traversal.{tag_in, ListKind, of_bits, of_pointers, of_structs, list_kind, list_words, each, each_element}
 use Rattle.std.specs.Option.{ok_or}
-use Rattle.std.proofs.lemmas.Bool.{leb-true}
-use Rattle.capnp_model.proofs.lemmas.Chaining.{bind_some, some_is, bind_ok, ok_is, ok_or_some, guard_ok}
+use Rattle.capnp_model.proofs.lemmas.Chaining.{bind_some, some_is, bind_ok, ok_is, ok_or_some}
 use Rattle.capnp_model.proofs.lemmas.ReadFits.{words_length}
 use Rattle.capnp_object.specs.declared.object.Object.{Object}
 use Rattle.capnp_units.specs.declared.sizes.ElementSize.{ElementSize}

@@ -5,8 +5,9 @@ use Rattle.capnp_model.specs.Edits.{put_bits}
 use Rattle.capnp_units.specs.Segments.{words_in}
 use Rattle.capnp_wire.specs.Places.{place_view}
 use Rattle.capnp_copy.proofs.lemmas.Parts.{front_there}
-use Rattle.capnp_dynamic_lists.proofs.lemmas.Fronts.{plain_front, of_structs}
+use Rattle.capnp_dynamic_lists.proofs.lemmas.Fronts.{plain_front}
 use Rattle.capnp_dynamic_lists.proofs.elements.set_front.Goals as goal
+use Rattle.capnp_units.proofs.lemmas.Sizes.{composite_by_number}
 
 pub set_bits-requires : goal.set_bits-requires
 set_bits-requires g c =
@@ -37,7 +38,7 @@ returns-in_default g c =
     let s : Segments = words_in (g.A.ReaderArena.segments c.args.arena.now) in
     let u : Segments = words_in (g.A.ReaderArena.segments c.set_element.new.arena) in
     let o = c.args.list in
-    let room = c.requires.room.plain (λ e. c.in_default.not-InlineComposite (of_structs o.size e)) in
+    let room = c.requires.room.plain (λ e. c.in_default.not-InlineComposite (composite_by_number o.size e)) in
     let few = room.0 in
     record {
       edits = plain_front s u o c.args.index c.args.width c.args.value room.0 room.1 c.requires.fits c.requires.index (c.requires.there.counted (omega (arith, few))) c.set_element.ensures.sets;

@@ -14,4 +14,4 @@ returns-clause-copy g c =
     let one = one_segment bytes.result.now c.args.words.now bytes.ensures.bytes bytes.ensures.len c.told-words in
     let array = ap (λ (a : SegmentArray). words_in (map (λ b. b.now) a.segments.now)) c.new-source.ensures.segments in
     let slice = ap (λ (bs : List (Bor (List ℕ))). words_in (map (λ b. b.now) bs)) c.new.ensures in
-    copied_root c.args.levels _ _ _ (words_view c.args.words.now) _ _ _ (array ∙ slice ∙ one) (c.new-unlimited.ensures.limit, c.new-unlimited.ensures.granted) c.copy_from.ensures.copy
+    copied_root c.args.levels _ _ _ (words_view c.args.words.now) _ _ _ (array ∙ slice ∙ one) (record { endless = c.new-unlimited.ensures.limit; unused = c.new-unlimited.ensures.granted }) c.copy_from.ensures.copy

@@ -7,7 +7,8 @@ use Rattle.capnp_queries.specs.Types.{ty_of}
 use Rattle.capnp_queries.specs.Structs.{schema_around, shape_of_struct, fields_of_struct}
 use Rattle.capnp_values.specs.Sources.{struct_seen, list_seen}
 use Rattle.capnp_values.specs.Shown.{a_struct, a_list, shown, discriminant_shown}
-use Rattle.capnp_print.specs.Texts.{as_it_is, style_of}
+use Rattle.capnp_model.specs.Printing.{as_it_is}
+use Rattle.capnp_print.specs.Texts.{style_of}
 use Rattle.capnp_print.specs.ShownReadings.{children_read, reading_within, left_of}
 use Rattle.capnp_print.specs.Printed.{null_printed}
 use Rattle.capnp_print.specs.Parts.{fields_text, elements_text}

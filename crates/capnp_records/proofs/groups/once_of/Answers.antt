@@ -1,6 +1,9 @@
-use Rattle.std.proofs.Common.{◌≡◌, ℕ, Bool, true, false, not, nat_eq, Option, Some, None, get_or, option_copied, refl, sym, ◌∙◌, ap, Bor}
+use Rattle.std.proofs.Common.{◌≡◌, ◌==◌, ℕ, Bool, true, false, not, nat_eq, Option, Some, None, get_or, option_copied, refl, sym, ◌∙◌, ap, Bor}
 use Rattle.std.specs.HashMap.{get}
+use Rattle.std.specs.List.{count_by}
 use Rattle.std.specs.Option.{is_some}
+use Rattle.std.proofs.lemmas.List.{take_all}
+use Rattle.capnp_records.specs.Uses.{once_in}
 use Rattle.capnp_records.proofs.lemmas.ListTests.{default_any}
 use Rattle.capnp_records.proofs.Holders.{once_more}
 use Rattle.capnp_records.proofs.groups.once_of.Goals as goal
@@ -24,3 +27,6 @@ loop-group-preserved c =
     ∙ ap not (sym (there c.get.result))
     ∙ ap (λ o. not (is_some o)) c.get.ensures.value in
     once_more (get nat_eq c.loop-group.once) (get nat_eq c.insert.new.self) gs i x is_new c.loop-group-test.true (default_any gs i 0 x c.loop-group-test.true) c.loop-group.invariant is c.in_ok-insert.ensures.updates.0
+
+pub returns : goal.returns
+returns c = λ id. c.loop-group.invariant id ∙ ap (λ gs. once_in (count_by (λ g. g == id) gs)) (take_all c.loop-group.group-index c.args.groups.now c.loop-group-test.false)

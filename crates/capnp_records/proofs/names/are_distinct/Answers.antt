@@ -1,6 +1,7 @@
-use Rattle.std.proofs.Common.{◌≡◌, ◌+◌, ◌&&◌, ◌||◌, ◌++◌, ◌∷◌, [], ℕ, Bool, true, false, not, List, Bor, map, take, drop, get_or, sym, ◌∙◌, ap, refl}
+use Rattle.std.proofs.Common.{◌≡◌, ◌+◌, ◌&&◌, ◌||◌, ◌++◌, ◌∷◌, [], ℕ, Bool, true, false, not, List, Bor, map, take, drop, get_or, sym, ◌∙◌, ap, refl, subst}
 use Rattle.std.specs.List.{list_any}
 use Rattle.std.specs.Str.{bytes_eq}
+use Rattle.std.specs.HashSet.{PutsKey}
 use Rattle.std.specs.List.Sorted.{IsPermutation}
 use Rattle.std.proofs.lemmas.List.{map_more}
 use Rattle.std.proofs.lemmas.List.Sorted.{list_any-IsPermutation}
@@ -30,7 +31,7 @@ loop-name-preserved c =
     let done : List (List ℕ) = map (λ s. s.now) (take i names) in
     let fresh : list_any (λ k. bytes_eq y.now k.now) c.loop-name.seen.keys ≡ false = not_is_true (list_any (λ k. bytes_eq y.now k.now) c.loop-name.seen.keys) (sym c.if-not-branch.false ∙ c.in_ok-insert.ensures.added) in
     let apart : list_any (λ d. bytes_eq d y.now) done ≡ false = turned y.now done ∙ sym (c.loop-name.invariant.seen y.now) ∙ fresh in
-    let moved : IsPermutation (y ∷ c.loop-name.seen.keys) c.insert.new.self.keys = rw c.if-not-branch.false at c.in_ok-insert.ensures.keys in
+    let moved : IsPermutation (y ∷ c.loop-name.seen.keys) c.insert.new.self.keys = subst (PutsKey c.loop-name.seen c.insert.new.self y) c.if-not-branch.false c.in_ok-insert.ensures.keys in
     let grown : done ++ y.now ∷ [] ≡ map (λ s. s.now) (take (i + 1) names) = ap (λ z. done ++ z.now ∷ []) is ∙ sym (map_more (λ s. s.now) names i y lt) in
     record {
       decides =

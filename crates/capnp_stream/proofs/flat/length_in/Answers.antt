@@ -1,5 +1,5 @@
 use Rattle.std.proofs.Common.{◌≡◌, ◌+◌, ◌*◌, ◌∙◌, get_or, rules}
-use Rattle.capnp_stream.specs.Ranges.{AreBytes}
+use Rattle.capnp_model.specs.Bytes.{AreBytes}
 use Rattle.capnp_stream.proofs.FlatLemmas.{length-at}
 use Rattle.capnp_stream.proofs.flat.length_in.Goals as goal
 

@@ -1,6 +1,6 @@
 use Rattle.std.proofs.Common.{refl}
 use Rattle.std.proofs.lemmas.Result.{err_from_is_err_and}
-use Rattle.capnp_stream.proofs.ReadLemmas.{fills-failed, fills-none, at-end}
+use Rattle.capnp_stream.proofs.ReadLemmas.{fills-failed, fills-none, fills-refused, at-end}
 use Rattle.capnp_stream.proofs.lent.read_message_no_alloc_in.Goals as goal
 
 pub returns-in_err-is_at_end : goal.returns-in_err-is_at_end
@@ -13,3 +13,10 @@ pub returns-then-branch : goal.returns-then-branch
 returns-then-branch g c =
     let r = c.in_ok-is_at_end.ensures in
     rw c.from.ensures (fills-none g.F.MessageForm.reader g.met.F.MessageForm.fronts g.F.MessageForm.faults c.args.limit _ _ _ _ _ _ r.kept refl (at-end _ _ r.at c.if-branch.true) r.count)
+
+pub returns-in_err-info : goal.returns-in_err-info
+returns-in_err-info g c =
+    let p = err_from_is_err_and c.from_residual-in_err-info.result c.from_residual-in_err-info.ensures.1 in
+    let look = c.in_ok-is_at_end.ensures in
+    let r = c.in_err-info.ensures in
+    rw (p.1, p.2) (fills-refused g.F.MessageForm.reader g.F.MessageForm.faults c.args.limit _ _ _ _ _ _ _ look.kept look.count _ look.at c.if-branch.false _ r.refused r.short r.kind r.part r.room r.failures)

@@ -1,7 +1,7 @@
-use Rattle.std.proofs.Common.{inr, true, false, ◌≡◌, ◌≤◌, ◌+◌, ◌*◌, ◌/◌, ◌%◌, ◌^◌, ◌++◌, arith, length, sum, refl, sym, ap, subst, List, ℕ, ◌∙◌}
+use Rattle.std.proofs.Common.{inl, inr, true, false, ◌≡◌, ◌≤◌, ◌+◌, ◌*◌, ◌/◌, ◌%◌, ◌^◌, ◌++◌, arith, length, sum, refl, sym, ap, subst, List, ℕ, ◌∙◌}
 use Rattle.std.specs.Int.{from_le_bytes, w64}
 use Rattle.std.specs.Vec.{with_items}
-use Rattle.std.proofs.lemmas.List.{length-append, with_items_is}
+use Rattle.std.proofs.lemmas.List.{with_items_is}
 use Rattle.std.proofs.lemmas.Result.{err_from_is_err_and}
 use Rattle.capnp_units.specs.Segments.{words_in}
 use Rattle.capnp_model.specs.Messages.{within}
@@ -11,74 +11,102 @@ use Rattle.capnp_stream.specs.Lent.{HoldsMessage}
 use Rattle.capnp_stream.specs.declared.flat.NoAllocSegmentTableInfo.{NoAllocSegmentTableInfo}
 use Rattle.capnp_stream.proofs.lemmas.WordLemmas.{from_le_bytes-front}
 use Rattle.capnp_stream.proofs.FlatLemmas.{table-holds, table-grown}
+use Rattle.capnp_stream.proofs.TableLemmas.{read-kind}
+use Rattle.capnp_stream.proofs.RefusalLemmas.{wants-none, piece-wants-none, unread, memory-faultless, memory-kind, memory-counts, grown-front, refilled, no-shorter, between, counts-behind}
 use Rattle.capnp_stream.proofs.lemmas.FrameLemmas.{no-part, large-part, large-fault, table-part, table-longer, body-fault, body-part, message-of_body}
 use Rattle.capnp_stream.proofs.kept.MessageBuffer.fill.Goals as goal
 
-pub returns-in_err-grow_to-clause-part : goal.returns-in_err-grow_to-clause-part
-returns-in_err-grow_to-clause-part g c =
+pub returns-in_err-grow_to : goal.returns-in_err-grow_to
+returns-in_err-grow_to g c =
     let p = err_from_is_err_and c.from_residual.result c.from_residual.ensures.1 in
-    rw p.1 (no-part g.F.MessageForm.reader g.met.F.MessageForm.fronts c.args.limit _)
+    let refusal = c.in_err-grow_to.ensures.refusal in
+    let kind = c.in_err-grow_to.field-0.0.kind in
+    rw (p.1, p.2) (record {
+      message = tt;
+      refused = λ framing. absurd (memory-faultless kind refusal.0 framing);
+      kind = memory-kind kind refusal.0 g.F.MessageForm.faults;
+      part = no-part g.F.MessageForm.reader g.met.F.MessageForm.fronts c.args.limit _;
+      wanted = λ _. inl (unread _);
+      longer = λ _. inl refusal.1;
+      grown = (grown-front c.args.self.now.bytes.items c.grow_to.new.self.bytes.items c.in_err-grow_to.ensures.front, tt);
+      failures = memory-counts kind refusal.0 _ _ refl;
+    })
 
-pub returns-then-not-is_within-clause-refused : goal.returns-then-not-is_within-clause-refused
-returns-then-not-is_within-clause-refused g c =
+pub returns-in_err-count : goal.returns-in_err-count
+returns-in_err-count g c =
+    let p = err_from_is_err_and c.from_residual-in_err-count.result c.from_residual-in_err-count.ensures.1 in
+    let r = c.in_err-count.ensures in
+    let kind = c.in_err-count.field-0.0.kind in
+    let front = grown-front c.args.self.now.bytes.items c.grow_to.new.self.bytes.items c.in_ok-grow_to.ensures.front in
+    let kept-len = refilled c.grow_to.new.self.bytes c.deref_mut.result.now c.fill_any_table.new.buffer c.fill_any_table.auto.buffer c.deref_mut.ensures.len c.deref_mut.ensures.value in
+    let longer = no-shorter _ _ _ front kept-len in
+    rw (p.1, p.2) (record {
+      message = tt;
+      refused = r.refused;
+      kind = r.read_kind;
+      part = r.part;
+      wanted = λ want. absurd (wants-none g.F.MessageForm.faults kind r.fill_kind want);
+      longer = λ want. absurd (wants-none g.F.MessageForm.faults kind r.fill_kind want);
+      grown = (longer, tt);
+      failures = r.failures;
+    })
+
+pub returns-then-not-is_within : goal.returns-then-not-is_within
+returns-then-not-is_within g c =
     let n = c.in_ok-count.count in
     let read = c.fill_any_table.new.buffer in
-    let held : (with_items c.grow_to.new.self.bytes read).items ≡ read = with_items_is c.grow_to.new.self.bytes read (omega arith) in
+    let sized = c.fill_any_table.auto.buffer ∙ c.deref_mut.ensures.len in
+    let held : (with_items c.grow_to.new.self.bytes read).items ≡ read = with_items_is c.grow_to.new.self.bytes read sized in
     let ns = table_lengths n read in
     let total : c.words_before-total.result ≡ sum ns = c.words_before-total.ensures.total ∙ ap (λ l. sum (table_lengths n l)) (c.deref.ensures.value ∙ held) in
     let large : within (sum ns) c.args.limit ≡ false = ap (λ m. within m c.args.limit) (sym total) ∙ sym c.is_within.ensures ∙ c.if-not-is_within.true in
-    rw c.from.ensures (λ _. large-fault g.F.MessageForm.reader g.met.F.MessageForm.fronts c.args.limit ns _ _ c.in_ok-count.ensures.table large)
+    let front = grown-front c.args.self.now.bytes.items c.grow_to.new.self.bytes.items c.in_ok-grow_to.ensures.front in
+    let kept-len = refilled c.grow_to.new.self.bytes c.deref_mut.result.now c.fill_any_table.new.buffer c.fill_any_table.auto.buffer c.deref_mut.ensures.len c.deref_mut.ensures.value in
+    let longer = no-shorter _ _ _ front kept-len in
+    rw c.from.ensures (record {
+      message = tt;
+      refused = λ _. large-fault g.F.MessageForm.reader g.met.F.MessageForm.fronts c.args.limit ns _ _ c.in_ok-count.ensures.table large;
+      kind = tt;
+      part = large-part g.F.MessageForm.reader g.met.F.MessageForm.fronts c.args.limit ns _ _ c.in_ok-count.ensures.table large;
+      wanted = λ want. absurd cc;
+      longer = λ want. absurd cc;
+      grown = (longer, tt);
+      failures = c.in_ok-count.ensures.failures;
+    })
 
-pub returns-then-not-is_within-clause-part : goal.returns-then-not-is_within-clause-part
-returns-then-not-is_within-clause-part g c =
-    let n = c.in_ok-count.count in
-    let read = c.fill_any_table.new.buffer in
-    let held : (with_items c.grow_to.new.self.bytes read).items ≡ read = with_items_is c.grow_to.new.self.bytes read (omega arith) in
-    let ns = table_lengths n read in
-    let total : c.words_before-total.result ≡ sum ns = c.words_before-total.ensures.total ∙ ap (λ l. sum (table_lengths n l)) (c.deref.ensures.value ∙ held) in
-    let large : within (sum ns) c.args.limit ≡ false = ap (λ m. within m c.args.limit) (sym total) ∙ sym c.is_within.ensures ∙ c.if-not-is_within.true in
-    large-part g.F.MessageForm.reader g.met.F.MessageForm.fronts c.args.limit ns _ _ c.in_ok-count.ensures.table large
-
-pub returns-in_err-grow_to-2-clause-part : goal.returns-in_err-grow_to-2-clause-part
-returns-in_err-grow_to-2-clause-part g c =
+pub returns-in_err-grow_to-2 : goal.returns-in_err-grow_to-2
+returns-in_err-grow_to-2 g c =
     let p = err_from_is_err_and c.from_residual-in_err-grow_to-2.result c.from_residual-in_err-grow_to-2.ensures.1 in
+    let refusal = c.in_err-grow_to-2.ensures.refusal in
+    let kind = c.in_err-grow_to-2.field-0.0.kind in
     let n = c.in_ok-count.count in
     let read = c.fill_any_table.new.buffer in
-    let held : (with_items c.grow_to.new.self.bytes read).items ≡ read = with_items_is c.grow_to.new.self.bytes read (omega arith) in
-    let ns = table_lengths n read in
-    let total : c.words_before-total.result ≡ sum ns = c.words_before-total.ensures.total ∙ ap (λ l. sum (table_lengths n l)) (c.deref.ensures.value ∙ held) in
-    let kept : within (sum ns) c.args.limit ≡ true = ap (λ m. within m c.args.limit) (sym total) ∙ sym c.is_within.ensures ∙ c.if-not-is_within.false in
-    let size = ap length held in
-    rw p.1 (table-part g.F.MessageForm.reader g.met.F.MessageForm.fronts c.args.limit ns _ _ c.in_ok-count.ensures.table kept (omega (arith, total, size, c.in_err-grow_to-2.ensures.refusal.1, c.in_ok-grow_to.ensures.room, c.in_ok-count.ensures.few.1)))
-
-pub returns-in_err-grow_to-2-clause-wanted : goal.returns-in_err-grow_to-2-clause-wanted
-returns-in_err-grow_to-2-clause-wanted g c =
-    let p = err_from_is_err_and c.from_residual-in_err-grow_to-2.result c.from_residual-in_err-grow_to-2.ensures.1 in
-    let n = c.in_ok-count.count in
-    let read = c.fill_any_table.new.buffer in
-    let held : (with_items c.grow_to.new.self.bytes read).items ≡ read = with_items_is c.grow_to.new.self.bytes read (omega arith) in
-    let ns = table_lengths n read in
-    rw (p.1, p.2) (λ _. inr (inr (ns, c.in_ok-count.ensures.table)))
-
-pub returns-in_err-grow_to-2-clause-longer : goal.returns-in_err-grow_to-2-clause-longer
-returns-in_err-grow_to-2-clause-longer g c =
-    let p = err_from_is_err_and c.from_residual-in_err-grow_to-2.result c.from_residual-in_err-grow_to-2.ensures.1 in
-    let n = c.in_ok-count.count in
-    let read = c.fill_any_table.new.buffer in
-    let held : (with_items c.grow_to.new.self.bytes read).items ≡ read = with_items_is c.grow_to.new.self.bytes read (omega arith) in
+    let sized = c.fill_any_table.auto.buffer ∙ c.deref_mut.ensures.len in
+    let held : (with_items c.grow_to.new.self.bytes read).items ≡ read = with_items_is c.grow_to.new.self.bytes read sized in
     let ns = table_lengths n read in
     let total : c.words_before-total.result ≡ sum ns = c.words_before-total.ensures.total ∙ ap (λ l. sum (table_lengths n l)) (c.deref.ensures.value ∙ held) in
     let kept : within (sum ns) c.args.limit ≡ true = ap (λ m. within m c.args.limit) (sym total) ∙ sym c.is_within.ensures ∙ c.if-not-is_within.false in
+    let front = grown-front c.args.self.now.bytes.items c.grow_to.new.self.bytes.items c.in_ok-grow_to.ensures.front in
+    let kept-len = refilled c.grow_to.new.self.bytes c.deref_mut.result.now c.fill_any_table.new.buffer c.fill_any_table.auto.buffer c.deref_mut.ensures.len c.deref_mut.ensures.value in
+    let longer = no-shorter _ _ _ front kept-len in
     let size = ap length held in
-    let before = ap length c.in_ok-grow_to.ensures.front.1 ∙ length-append c.args.self.now.bytes.items c.in_ok-grow_to.ensures.front.0 in
-    let long : table_bytes (length ns) ≡ table_bytes n = ap table_bytes (table-holds n read (omega (arith, c.in_ok-grow_to.ensures.room, c.in_ok-count.ensures.few.1))) in
-    rw (p.1, p.2) (λ _. inr (table-longer g.F.MessageForm.reader g.met.F.MessageForm.fronts c.args.limit ns _ _ c.in_ok-count.ensures.table (length c.args.self.now.bytes.items) kept (omega (arith, total, size, before, long, c.in_err-grow_to-2.ensures.refusal.1))))
+    let long : table_bytes (length ns) ≡ table_bytes n = ap table_bytes (table-holds n read (omega (arith, size, c.deref_mut.ensures.len, c.in_ok-grow_to.ensures.room, c.in_ok-count.ensures.few.1))) in
+    rw (p.1, p.2) (record {
+      message = tt;
+      refused = λ framing. absurd (memory-faultless kind refusal.0 framing);
+      kind = memory-kind kind refusal.0 g.F.MessageForm.faults;
+      part = table-part g.F.MessageForm.reader g.met.F.MessageForm.fronts c.args.limit ns _ _ c.in_ok-count.ensures.table kept (omega (arith, total, kept-len, refusal.1, c.in_ok-grow_to.ensures.room, c.in_ok-count.ensures.few.1));
+      wanted = λ _. inr (inr (ns, c.in_ok-count.ensures.table));
+      longer = λ _. inr (table-longer g.F.MessageForm.reader g.met.F.MessageForm.fronts c.args.limit ns _ _ c.in_ok-count.ensures.table (length c.args.self.now.bytes.items) kept (omega (arith, total, longer, long, refusal.1)));
+      grown = (between _ _ _ longer (grown-front _ c.grow_to-2.new.self.bytes.items c.in_err-grow_to-2.ensures.front), tt);
+      failures = memory-counts kind refusal.0 _ _ c.in_ok-count.ensures.failures;
+    })
 
 pub fill_body-requires : goal.fill_body-requires
 fill_body-requires g c =
     let n = c.in_ok-count.count in
     let read = c.fill_any_table.new.buffer in
-    let held : (with_items c.grow_to.new.self.bytes read).items ≡ read = with_items_is c.grow_to.new.self.bytes read (omega arith) in
+    let held : (with_items c.grow_to.new.self.bytes read).items ≡ read = with_items_is c.grow_to.new.self.bytes read (c.fill_any_table.auto.buffer ∙ c.deref_mut.ensures.len) in
     let ns = table_lengths n read in
     let total : c.words_before-total.result ≡ sum ns = c.words_before-total.ensures.total ∙ ap (λ l. sum (table_lengths n l)) (c.deref.ensures.value ∙ held) in
     let more = c.in_ok-grow_to-2.ensures.front.0 in
@@ -96,47 +124,58 @@ fill_body-requires g c =
       fits = omega (arith, c.in_ok-grow_to-2.ensures.room, ap length c.deref_mut-2.ensures.value);
     }
 
-pub returns-in_err-fill_body-clause-refused : goal.returns-in_err-fill_body-clause-refused
-returns-in_err-fill_body-clause-refused g c =
-    let n = c.in_ok-count.count in
-    let read = c.fill_any_table.new.buffer in
-    let held : (with_items c.grow_to.new.self.bytes read).items ≡ read = with_items_is c.grow_to.new.self.bytes read (omega arith) in
-    let ns = table_lengths n read in
-    let total : c.words_before-total.result ≡ sum ns = c.words_before-total.ensures.total ∙ ap (λ l. sum (table_lengths n l)) (c.deref.ensures.value ∙ held) in
-    let kept : within (sum ns) c.args.limit ≡ true = ap (λ m. within m c.args.limit) (sym total) ∙ sym c.is_within.ensures ∙ c.if-not-is_within.false in
+pub returns-in_err-fill_body : goal.returns-in_err-fill_body
+returns-in_err-fill_body g c =
     let p = err_from_is_err_and c.from_residual-in_err-fill_body.result c.from_residual-in_err-fill_body.ensures.1 in
-    let size : 8 * c.words_before-total.result / 8 ≡ sum ns = omega (arith, total) in
-    let Cut : ℕ → Type 0 = λ m. IsCut g.F.MessageForm.reader m (g.R.Read.remaining c.fill_any_table.new.source) (g.R.Read.remaining c.fill_body.new.source) c.in_err-fill_body.field-0.0.kind in
-    rw (p.1, p.2) (body-fault g.F.MessageForm.reader g.met.F.MessageForm.fronts c.args.limit ns _ _ c.in_ok-count.ensures.table kept _ _ (subst Cut size c.in_err-fill_body.ensures.cut))
-
-pub returns-in_err-fill_body-clause-part : goal.returns-in_err-fill_body-clause-part
-returns-in_err-fill_body-clause-part g c =
+    let r = c.in_err-fill_body.ensures in
+    let kind = c.in_err-fill_body.field-0.0.kind in
     let n = c.in_ok-count.count in
     let read = c.fill_any_table.new.buffer in
-    let held : (with_items c.grow_to.new.self.bytes read).items ≡ read = with_items_is c.grow_to.new.self.bytes read (omega arith) in
+    let sized = c.fill_any_table.auto.buffer ∙ c.deref_mut.ensures.len in
+    let held : (with_items c.grow_to.new.self.bytes read).items ≡ read = with_items_is c.grow_to.new.self.bytes read sized in
     let ns = table_lengths n read in
     let total : c.words_before-total.result ≡ sum ns = c.words_before-total.ensures.total ∙ ap (λ l. sum (table_lengths n l)) (c.deref.ensures.value ∙ held) in
     let kept : within (sum ns) c.args.limit ≡ true = ap (λ m. within m c.args.limit) (sym total) ∙ sym c.is_within.ensures ∙ c.if-not-is_within.false in
-    let p = err_from_is_err_and c.from_residual-in_err-fill_body.result c.from_residual-in_err-fill_body.ensures.1 in
+    let front = grown-front c.args.self.now.bytes.items c.grow_to.new.self.bytes.items c.in_ok-grow_to.ensures.front in
+    let kept-len = refilled c.grow_to.new.self.bytes c.deref_mut.result.now c.fill_any_table.new.buffer c.fill_any_table.auto.buffer c.deref_mut.ensures.len c.deref_mut.ensures.value in
+    let longer = no-shorter _ _ _ front kept-len in
+    let grown-again = between _ _ _ longer (grown-front _ c.grow_to-2.new.self.bytes.items c.in_ok-grow_to-2.ensures.front) in
+    let kept-again = refilled c.grow_to-2.new.self.bytes c.deref_mut-2.result.now c.fill_body.new.buffer c.fill_body.auto.buffer c.deref_mut-2.ensures.len c.deref_mut-2.ensures.value in
     let size : 8 * c.words_before-total.result / 8 ≡ sum ns = omega (arith, total) in
-    let Cut : ℕ → Type 0 = λ m. IsCut g.F.MessageForm.reader m (g.R.Read.remaining c.fill_any_table.new.source) (g.R.Read.remaining c.fill_body.new.source) c.in_err-fill_body.field-0.0.kind in
-    rw p.1 (body-part g.F.MessageForm.reader g.met.F.MessageForm.fronts c.args.limit ns _ _ c.in_ok-count.ensures.table kept _ _ (subst Cut size c.in_err-fill_body.ensures.cut))
+    let Cut : ℕ → Type 0 = λ m. IsCut g.F.MessageForm.reader m (g.R.Read.remaining c.fill_any_table.new.source) (g.R.Read.remaining c.fill_body.new.source) kind in
+    let cut = subst Cut size r.cut in
+    rw (p.1, p.2) (record {
+      message = tt;
+      refused = body-fault g.F.MessageForm.reader g.met.F.MessageForm.fronts c.args.limit ns _ _ c.in_ok-count.ensures.table kept _ _ cut;
+      kind = read-kind g.F.MessageForm.faults kind r.own;
+      part = body-part g.F.MessageForm.reader g.met.F.MessageForm.fronts c.args.limit ns _ _ c.in_ok-count.ensures.table kept _ _ cut;
+      wanted = λ want. absurd (piece-wants-none g.F.MessageForm.faults kind r.own want);
+      longer = λ want. absurd (piece-wants-none g.F.MessageForm.faults kind r.own want);
+      grown = (no-shorter _ _ _ grown-again kept-again, tt);
+      failures = counts-behind kind _ _ _ c.in_ok-count.ensures.failures r.failures;
+    })
 
-pub returns-clause-message : goal.returns-clause-message
-returns-clause-message g c =
+pub returns : goal.returns
+returns g c =
     let n = c.in_ok-count.count in
     let read = c.fill_any_table.new.buffer in
-    let held : (with_items c.grow_to.new.self.bytes read).items ≡ read = with_items_is c.grow_to.new.self.bytes read (omega arith) in
+    let sized = c.fill_any_table.auto.buffer ∙ c.deref_mut.ensures.len in
+    let held : (with_items c.grow_to.new.self.bytes read).items ≡ read = with_items_is c.grow_to.new.self.bytes read sized in
     let ns = table_lengths n read in
     let total : c.words_before-total.result ≡ sum ns = c.words_before-total.ensures.total ∙ ap (λ l. sum (table_lengths n l)) (c.deref.ensures.value ∙ held) in
     let kept : within (sum ns) c.args.limit ≡ true = ap (λ m. within m c.args.limit) (sym total) ∙ sym c.is_within.ensures ∙ c.if-not-is_within.false in
+    let front = grown-front c.args.self.now.bytes.items c.grow_to.new.self.bytes.items c.in_ok-grow_to.ensures.front in
+    let kept-len = refilled c.grow_to.new.self.bytes c.deref_mut.result.now c.fill_any_table.new.buffer c.fill_any_table.auto.buffer c.deref_mut.ensures.len c.deref_mut.ensures.value in
+    let longer = no-shorter _ _ _ front kept-len in
+    let grown-again = between _ _ _ longer (grown-front _ c.grow_to-2.new.self.bytes.items c.in_ok-grow_to-2.ensures.front) in
+    let kept-again = refilled c.grow_to-2.new.self.bytes c.deref_mut-2.result.now c.fill_body.new.buffer c.fill_body.auto.buffer c.deref_mut-2.ensures.len c.deref_mut-2.ensures.value in
     let more = c.in_ok-grow_to-2.ensures.front.0 in
     let whole = c.deref_mut-2.result.now in
     let grown : whole ≡ read ++ more = c.deref_mut-2.ensures.value ∙ c.in_ok-grow_to-2.ensures.front.1 ∙ ap (λ l. l ++ more) held in
-    let room : table_bytes n ≤ length read = omega (arith, c.in_ok-grow_to.ensures.room, c.in_ok-count.ensures.few.1) in
+    let room : table_bytes n ≤ length read = omega (arith, sized, c.deref_mut.ensures.len, ap length held, c.in_ok-grow_to.ensures.room, c.in_ok-count.ensures.few.1) in
     let same : table_lengths n whole ≡ ns = ap (table_lengths n) grown ∙ table-grown n read more room in
     let bytes = c.fill_body.new.buffer in
-    let now : (with_items c.grow_to-2.new.self.bytes bytes).items ≡ bytes = with_items_is c.grow_to-2.new.self.bytes bytes (omega arith) in
+    let now : (with_items c.grow_to-2.new.self.bytes bytes).items ≡ bytes = with_items_is c.grow_to-2.new.self.bytes bytes (c.fill_body.auto.buffer ∙ c.deref_mut-2.ensures.len) in
     let done = c.in_ok-fill_body.ensures in
     let Body : List ℕ → Type 0 = λ l. TakesBody g.F.MessageForm.reader (g.R.Read.remaining c.fill_any_table.new.source) (g.R.Read.remaining c.fill_body.new.source) l (words_in (frame_segments n bytes)) in
     let info : NoAllocSegmentTableInfo = record { segments_count = n; segment_table_length_bytes = table_bytes n; total_segments_length_bytes = 8 * c.words_before-total.result } in
@@ -146,4 +185,15 @@ returns-clause-message g c =
       taken = message-of_body g.F.MessageForm.reader g.met.F.MessageForm.fronts c.args.limit ns _ _ c.in_ok-count.ensures.table kept _ _ (subst Body same done.body);
       kept = ap (λ l. within (sum l) c.args.limit) (done.table ∙ same) ∙ kept;
     } in
-    subst Of (sym now) holds
+    let table-room = no-shorter _ _ _ c.in_ok-grow_to.ensures.room kept-len in
+    let still = grown-front _ c.grow_to-2.new.self.bytes.items c.in_ok-grow_to-2.ensures.front in
+    record {
+      message = subst Of (sym now) holds;
+      refused = tt;
+      kind = tt;
+      part = tt;
+      wanted = tt;
+      longer = tt;
+      grown = (no-shorter _ _ _ grown-again kept-again, no-shorter _ _ _ (between _ _ _ table-room still) kept-again);
+      failures = c.in_ok-fill_body.ensures.failures ∙ c.in_ok-count.ensures.failures;
+    }

@@ -1,7 +1,7 @@
 use Rattle.std.proofs.Common.{Some, subst}
 use Rattle.std.proofs.lemmas.Result.{err_from_is_err_and}
 use Rattle.std.specs.declared.option.Option.{Option}
-use Rattle.capnp_stream.specs.Ranges.{AreBytes}
+use Rattle.capnp_model.specs.Bytes.{AreBytes}
 use Rattle.capnp_stream.specs.Shown.{TakesShown}
 use Rattle.capnp_stream.specs.declared.flat.NoAllocSegmentTableInfo.{NoAllocSegmentTableInfo}
 use Rattle.capnp_stream.proofs.BufferLemmas.{described-spells, described-writable}
