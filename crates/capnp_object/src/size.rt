@@ -45,7 +45,8 @@ pub fn with_words(size: MessageSize, words: u64) -> MessageSize
 
 /// Two sizes together.
 fn plus(a: MessageSize, b: MessageSize) -> MessageSize
-    ensures { (w c v e : ℕ) → SizeCounts w c a → SizeCounts v e b → SizeCounts (w + v) (c + e) result }
+    ensures { (w c v e : ℕ) → SizeCounts w c a → SizeCounts v e b
+        → SizeCounts (w + v) (c + e) result }
 {
     MessageSize {
         word_count: a.word_count.saturating_add(b.word_count),
